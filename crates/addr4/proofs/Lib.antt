@@ -1,0 +1,6 @@
+pub mod BlockLemmas
+pub mod PrefixOrder
+pub mod HalfLemmas
+pub mod RankLemmas
+pub mod NumberLemmas
+pub mod PartLemmas

@@ -1,0 +1,5 @@
+pub mod Blocks
+pub mod Prefixes
+pub mod Halves
+pub mod Places
+pub mod Texts

@@ -1,0 +1,125 @@
+//! Texts of IPv4's addresses and prefixes.
+
+ghost use Rattle.std.specs.Prelude.{◌≡◌, ◌++◌, [], ◌∷◌, OnOk};
+ghost use Rattle.std.specs.Result.{result_ok};
+ghost use Rattle.std.specs.Fmt.{decimal};
+ghost use Rattle.addr4.specs.Texts.{addr_of, addr_text, dotted, number_below, prefix_of, prefix_text};
+
+use crate::addr::Addr;
+use crate::memory::Memory;
+use crate::numbers::{push_number, read_number_below};
+use crate::parts::first_part;
+use crate::prefix::Prefix;
+use std::alloc::Global;
+
+/// A text that is no address.
+#[derive(Clone, Copy, Debug, PartialEq, Eq, thiserror::Error)]
+#[error("not an address")]
+pub struct BadAddr;
+
+/// A text that is no prefix.
+#[derive(Clone, Copy, Debug, PartialEq, Eq, thiserror::Error)]
+#[error("not a prefix")]
+pub struct BadPrefix;
+
+fn read_octet(text: &[u8]) -> Option<u8>
+    ensures { result ≡ number_below 256 text.now }
+{
+    let number = read_number_below(text, 256)?;
+    Some(number as u8)
+}
+
+/// Reads an address: four octets (each `0` to `255`, without a leading zero) with dots between them. Another text is
+/// refused.
+pub fn read_addr(text: &[u8]) -> Result<Addr, BadAddr>
+    ensures { result_ok result ≡ addr_of text.now }
+{
+    read_octets(text).ok_or(BadAddr)
+}
+
+#[tactic(auto, using(crate::proofs::PartLemmas::no_fifth_part), unfolding(crate::specs::Texts::addr_of))]
+fn read_octets(text: &[u8]) -> Option<Addr>
+    ensures { result ≡ addr_of text.now }
+{
+    let (first, rest) = first_part(text, b'.');
+    let (second, rest) = first_part(rest?, b'.');
+    let (third, rest) = first_part(rest?, b'.');
+    let (fourth, more) = first_part(rest?, b'.');
+    if let Some(_more) = more {
+        return None;
+    }
+    let a = read_octet(first)?;
+    let b = read_octet(second)?;
+    let c = read_octet(third)?;
+    let d = read_octet(fourth)?;
+    Some(Addr::new(u32::from_be_bytes([a, b, c, d])))
+}
+
+/// Appends four octets with dots between them.
+fn push_octets(alloc: Global, out: &mut Vec<u8>, a: u8, b: u8, c: u8, d: u8) -> Result<(), Memory>
+    ensures { OnOk result (out.new.items ≡ out.old.items ++ dotted (a ∷ b ∷ c ∷ d ∷ [])) }
+{
+    push_octet(alloc, out, a)?;
+    push_octet(alloc, out, b)?;
+    push_octet(alloc, out, c)?;
+    push_number(alloc, out, u64::from(d))?;
+    Ok(())
+}
+
+/// Appends an octet and a dot.
+fn push_octet(alloc: Global, out: &mut Vec<u8>, octet: u8) -> Result<(), Memory>
+    ensures { OnOk result (out.new.items ≡ out.old.items ++ (decimal octet ++ 46 ∷ [])) }
+{
+    push_number(alloc, out, u64::from(octet))?;
+    out.push(b'.')?;
+    Ok(())
+}
+
+/// Appends the text of an address. For want of memory some front of it may have been appended.
+#[tactic(auto, unfolding(crate::specs::Texts::addr_text))]
+pub fn push_addr(alloc: Global, out: &mut Vec<u8>, addr: Addr) -> Result<(), Memory>
+    ensures { OnOk result (out.new.items ≡ out.old.items ++ addr_text addr) }
+{
+    let number = addr.number();
+    push_octets(
+        alloc,
+        out,
+        (number / 0x100_0000 % 256) as u8,
+        (number / 0x1_0000 % 256) as u8,
+        (number / 0x100 % 256) as u8,
+        (number % 256) as u8,
+    )
+}
+
+/// Reads a prefix: an address, a slash, a length to 32 without a leading zero. Bits beyond the length are masked away.
+/// Another text is refused.
+pub fn read_prefix(text: &[u8]) -> Result<Prefix, BadPrefix>
+    ensures { result_ok result ≡ prefix_of 32 text.now }
+{
+    read_length(text).ok_or(BadPrefix)
+}
+
+#[tactic(auto, using(crate::proofs::PartLemmas::no_third_part), unfolding(crate::specs::Texts::prefix_of))]
+fn read_length(text: &[u8]) -> Option<Prefix>
+    ensures { result ≡ prefix_of 32 text.now }
+{
+    let (addr, rest) = first_part(text, b'/');
+    let (length, more) = first_part(rest?, b'/');
+    if let Some(_more) = more {
+        return None;
+    }
+    let addr = read_addr(addr).ok()?;
+    let length = read_number_below(length, 33)?;
+    Prefix::new(addr, length as u8)
+}
+
+/// Appends the text of a prefix. For want of memory some front of it may have been appended.
+#[tactic(auto, unfolding(crate::specs::Texts::prefix_text))]
+pub fn push_prefix(alloc: Global, out: &mut Vec<u8>, p: Prefix) -> Result<(), Memory>
+    ensures { OnOk result (out.new.items ≡ out.old.items ++ prefix_text p) }
+{
+    push_addr(alloc, out, p.address())?;
+    out.push(b'/')?;
+    push_number(alloc, out, u64::from(p.length()))?;
+    Ok(())
+}

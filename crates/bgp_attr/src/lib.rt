@@ -1,0 +1,22 @@
+//! What is kept of a BGP route: its attributes, and who sent it.
+//!
+//! [`Attrs`] is what an UPDATE says of a route (RFC 4271, section 4.3 and 5), as far as this speaker keeps it: unrecognized
+//! optional non-transitive attributes are gone by then. [`SharedAttrs`] lends the same attributes to all routes of one
+//! UPDATE. [`Route`] is a row behind the incoming filter. [`Speaker`], [`Neighbour`] and [`Profile`] are the words of the
+//! configuration. Contracts see a path as its list of segments and octets as a list of numbers, so that two values are
+//! equal exactly where everything in them is.
+#![tactic(auto)]
+
+mod attrs;
+mod octets;
+mod path;
+mod route;
+mod speaker;
+mod unrecognized;
+
+pub use attrs::{Aggregator, Attrs, Origin, SharedAttrs};
+pub use octets::Octets;
+pub use path::{AsPath, Numbers, Segment, SegmentKind};
+pub use route::Route;
+pub use speaker::{Neighbour, Profile, Speaker};
+pub use unrecognized::{Unrecognized, UnrecognizedAttrs};

@@ -1,0 +1,20 @@
+//! A route behind the incoming filter.
+
+use crate::attrs::SharedAttrs;
+use crate::speaker::Neighbour;
+
+/// A route behind the incoming filter: what the decision compares (RFC 4271, section 9.1).
+#[derive(Drop)]
+pub struct Route {
+    pub attrs: SharedAttrs,
+    /// The degree of preference.
+    pub pref: u32,
+    /// The MULTI_EXIT_DISC that counts here, which rules may have set.
+    pub med: Option<u32>,
+    /// How often more than once the local AS is put in front of the path, 0 to 16.
+    pub prepend: u8,
+    /// The interior metric of the next hop; none where it isn't known yet.
+    pub igp: Option<u32>,
+    /// The peer that the route came from; none for a local route.
+    pub from: Option<Neighbour>,
+}

@@ -1,0 +1,74 @@
+//! Attributes that this speaker doesn't recognize, and passes on.
+
+ghost use Rattle.std.specs.Prelude.{◌≡◌, ◌↔◌, IsTrue};
+
+use crate::octets::Octets;
+use std::marker::Model;
+
+/// An unrecognized optional transitive attribute (RFC 4271, section 5).
+#[derive(Drop)]
+pub struct Unrecognized {
+    /// The attribute type code.
+    pub kind: u8,
+    pub value: Octets,
+}
+
+impl Unrecognized {
+    /// Whether type and value are equal.
+    pub fn same(&self, other: &Unrecognized) -> bool
+        ensures { IsTrue result ↔ (self.now ≡ other.now) }
+    {
+        self.kind == other.kind && self.value.same(&other.value)
+    }
+}
+
+/// Unrecognized attributes in a row; a route has them by ascending type.
+#[derive(Drop)]
+pub struct UnrecognizedAttrs {
+    items: Vec<Unrecognized>,
+}
+
+impl Model for UnrecognizedAttrs {
+    ghost use Rattle.std.specs.Prelude.{List};
+    ghost use Rattle.bgp_attr.specs.declared.unrecognized.Unrecognized.{Unrecognized};
+
+    ghost Value = { List Unrecognized };
+
+    ghost view = { λ u. u.items.items };
+}
+
+impl UnrecognizedAttrs {
+    /// Takes no memory.
+    pub fn from_vec(items: Vec<Unrecognized>) -> UnrecognizedAttrs
+        ensures { result ≡ items.items }
+    {
+        UnrecognizedAttrs { items }
+    }
+
+    pub fn as_slice(&self) -> &[Unrecognized]
+        ensures { result.now ≡ self.now }
+    {
+        self.items.as_slice()
+    }
+
+    /// Whether the attributes are the same, in the same order.
+    pub fn same(&self, other: &UnrecognizedAttrs) -> bool
+        ensures { IsTrue result ↔ (self.now ≡ other.now) }
+    {
+        same_items(self.items.as_slice(), other.items.as_slice())
+    }
+}
+
+fn same_items(left: &[Unrecognized], right: &[Unrecognized]) -> bool
+    ensures { IsTrue result ↔ (left.now ≡ right.now) }
+{
+    if left.len() != right.len() {
+        return false;
+    }
+    for (i, item) in left.iter().enumerate() {
+        if !item.same(&right[i]) {
+            return false;
+        }
+    }
+    true
+}
