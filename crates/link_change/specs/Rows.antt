@@ -1,0 +1,33 @@
+-- What stands on a link, and where a walk goes.
+use Rattle.std.specs.Prelude.{◌≡◌, Bool, true, false, cond, Option, Some, None, is_some}
+use Rattle.std.specs.Ordering.{eq_by_cmp}
+use Rattle.addr4.specs.Prefixes.{Network, prefix_cmp, ComesBefore}
+use Rattle.addr4.specs.Places.{IsBeyond}
+
+-- the map of a link: the row at each prefix, or none
+abbrev pub Rows : Type 0 → Type 0
+Rows V = Network → Option V
+
+abbrev pub no_rows : {V : Type 0} → Rows V
+no_rows q = None
+
+-- the rows with this one at the prefix
+abbrev pub with_row : {V : Type 0} → Rows V → Network → Option V → Rows V
+with_row rows p row q = cond (eq_by_cmp prefix_cmp q p) row (rows q)
+
+-- prefixes that a walk goes to
+abbrev pub Candidates : Type 0
+Candidates = Network → Bool
+
+-- the answer is the least candidate beyond the place
+abbrev pub IsNextCandidate : Candidates → Option Network → Option Network → Type 0
+IsNextCandidate candidates after None = (q : Network) → IsBeyond after q → candidates q ≡ false
+IsNextCandidate candidates after (Some p) = IsBeyond after p × (candidates p ≡ true) × ((q : Network) → IsBeyond after q → ComesBefore q p → candidates q ≡ false)
+
+-- every row stands at a candidate
+abbrev pub CoversRows : {V : Type 0} → Candidates → Rows V → Type 0
+CoversRows candidates rows = (q : Network) → candidates q ≡ false → rows q ≡ None
+
+-- the prefixes that have rows
+abbrev pub with_rows : {V : Type 0} → Rows V → Candidates
+with_rows rows q = is_some (rows q)

@@ -1,0 +1,29 @@
+//! A link as the stage below sees it.
+
+ghost use Rattle.std.specs.Prelude.{◌≡◌, IfOk, Option, Bool};
+ghost use Rattle.addr4.specs.Prefixes.{Network};
+ghost use Rattle.addr4.specs.Places.{key_of};
+ghost use Rattle.link_change.specs.Rows.{Rows, Candidates, IsNextCandidate, CoversRows};
+
+use addr4::{Memory, Place, Prefix};
+
+/// A link as the stage below sees it.
+pub trait Upstream {
+    /// What stands at a prefix.
+    type Row;
+
+    /// The rows that stand on the link.
+    ghost rows: { Self → Rows Self.Row };
+
+    /// The prefixes that a walk goes to; some may have no row.
+    ghost candidates: { Self → Candidates };
+
+    /// The row of a prefix.
+    fn asked(&self, p: &Prefix) -> Result<Option<Self::Row>, Memory>
+        ensures { IfOk result (λ row. row ≡ rows self.now p.now) };
+
+    /// The least candidate beyond a place. Every row stands at a candidate.
+    fn next_candidate(&self, after: &Place) -> Option<Prefix>
+        ensures next { IsNextCandidate (candidates self.now) (key_of after.now) result }
+        ensures covers { CoversRows (candidates self.now) (rows self.now) };
+}
