@@ -9,3 +9,4 @@ pub mod FrameLaws
 pub mod External
 pub mod RouteLaws
 pub mod MessageLaws
+pub mod SpellingLemmas

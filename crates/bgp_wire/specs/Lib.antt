@@ -6,3 +6,4 @@ pub mod Attributes
 pub mod Routes
 pub mod Updates
 pub mod Grammar
+pub mod Spelling
