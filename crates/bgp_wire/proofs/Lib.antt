@@ -1,0 +1,12 @@
+pub mod TestLemmas
+pub mod ResultLemmas
+pub mod ItemLaws
+pub mod PrefixLaws
+pub mod PathLaws
+pub mod AttributeLoops
+pub mod AttributeLaws
+pub mod FrameLaws
+pub mod External
+pub mod RouteLaws
+pub mod MessageLaws
+pub mod SpellingLemmas

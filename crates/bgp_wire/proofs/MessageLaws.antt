@@ -1,0 +1,178 @@
+-- Exactly one of message and fault is there.
+use Rattle.std.proofs.Common.{◌≡◌, ◌⊎◌, ℕ, Bool, true, false, cond, not, ◌||◌, List, [], ◌∷◌, ◌++◌, Option, Some, None, Result, Ok, Err, refl, sym, ap, subst, ◌∙◌, inl, inr}
+use Rattle.std.specs.List.{list_any}
+use Rattle.addr4.specs.Prefixes.{Network}
+use Rattle.bgp_attr.specs.declared.attrs.Attrs.{Attrs}
+use Rattle.bgp_attr.specs.declared.speaker.Profile.{Profile}
+use Rattle.bgp_wire.specs.declared.notice.Notice.{Notice}
+use Rattle.bgp_wire.specs.declared.message.Update.{Update}
+use Rattle.bgp_wire.specs.declared.message.Message.{Message}
+use Rattle.bgp_wire.specs.declared.message.Message.TheVariants as messages
+use Rattle.bgp_wire.specs.Faults.{notice, err_of}
+use Rattle.bgp_wire.specs.Attributes.{Attribute, kept_by}
+use Rattle.bgp_wire.specs.Routes.{AreAttrs}
+use Rattle.bgp_wire.specs.Updates.{Reading, Content, update, keepalive, notification, opening, has_kind, missing, lack, lacks, content_at, fault}
+use Rattle.bgp_wire.specs.Grammar.{IsReading, Holds, without, AreAttrsFor, IsWithdraw, IsPlain, IsUpdateBy, Reads, Answers, OneAnswer}
+use Rattle.bgp_wire.proofs.TestLemmas.{or_false_right}
+use Rattle.bgp_wire.proofs.ResultLemmas.{same_ok, not_both}
+use Rattle.bgp_wire.proofs.RouteLaws.{HasAll, attrs_made, one_attrs}
+use Rattle.bgp_wire.proofs.FrameLaws.{content_takes, content_again}
+use Rattle.bgp_wire.proofs.External.{one_fault}
+
+never : (p : Profile) (kind : ℕ) → lack p (Some kind) ≡ Ok false → ⊥
+never p kind e = by_test p.revised e
+  where
+    by_test : (b : Bool) → cond b (Ok true) (Err (notice 3 3 (kind ∷ []))) ≡ Ok false → ⊥
+    by_test true e = absurd (cc)
+    by_test false e = absurd (not_both _ false e)
+
+-- an announcement that lacks nothing
+has_all : (p : Profile) (kept : List Attribute) → lack p (missing kept) ≡ Ok false → HasAll kept
+has_all p kept e = by_tests (has_kind 1 kept) (has_kind 2 kept) (has_kind 3 kept) refl refl refl e
+  where
+    by_tests : (a b c : Bool) → has_kind 1 kept ≡ a → has_kind 2 kept ≡ b → has_kind 3 kept ≡ c → lack p (cond (not a) (Some 1) (cond (not b) (Some 2) (cond (not c) (Some 3) None))) ≡ Ok false → HasAll kept
+    by_tests true true true f g h e = record { origin = f; path = g; next_hop = h }
+    by_tests false b c f g h e = absurd (never p 1 e)
+    by_tests true false c f g h e = absurd (never p 2 e)
+    by_tests true true false f g h e = absurd (never p 3 e)
+
+made_for : (p : Profile) (external : Bool) (bytes : List ℕ) (r : Reading) (is : IsReading p external bytes r) → is.lacking ≡ false → (ps : List Network) → lacks p ps r.kept ≡ Ok is.lacking → (attrs : Option Attrs) × AreAttrsFor p.as4 external r.kept ps attrs
+made_for p external bytes r is none [] complete = (None, refl)
+made_for p external bytes r is none (n ∷ ps) complete =
+    let has : HasAll (kept_by is.steps is.runs).0 = subst HasAll is.kept (has_all p r.kept (complete ∙ ap (λ b. Ok b) none)) in
+    let made = attrs_made p external is.attributes is.steps is.runs is.are has in
+    (Some made.0, subst (λ kept. AreAttrs p.as4 external kept made.0) (sym is.kept) made.1)
+
+-- an UPDATE is there
+update_made : (p : Profile) (external : Bool) (bytes : List ℕ) (r : Reading) → IsReading p external bytes r → (u : Update) × IsUpdateBy p.as4 external r r.withdraw u
+update_made p external bytes r is = by_test r.withdraw refl
+  where
+    by_test : (b : Bool) → r.withdraw ≡ b → (u : Update) × IsUpdateBy p.as4 external r b u
+    by_test true e = (record { withdrawn = without r.announced r.withdrawn ++ r.announced; announced = []; attrs = None }, record { withdrawn = refl; announced = refl; attrs = refl })
+    by_test false e =
+        let made = made_for p external bytes r is (or_false_right (kept_by is.steps is.runs).1 is.lacking (sym is.withdraw ∙ e)) r.announced is.complete in
+        (record { withdrawn = r.withdrawn; announced = r.announced; attrs = made.0 }, record { withdrawn = refl; announced = refl; attrs = made.1 })
+
+one_attrs_for : (as4 external : Bool) (kept : List Attribute) (ps : List Network) (a b : Option Attrs) → AreAttrsFor as4 external kept ps a → AreAttrsFor as4 external kept ps b → a ≡ b
+one_attrs_for as4 external kept [] a b f g = f ∙ sym g
+one_attrs_for as4 external kept (n ∷ ps) None b f g = absurd f
+one_attrs_for as4 external kept (n ∷ ps) (Some a) None f g = absurd g
+one_attrs_for as4 external kept (n ∷ ps) (Some a) (Some b) f g = ap (λ x. Some x) (one_attrs as4 external kept a b f g)
+
+-- and it is one alone
+pub one_update : (as4 external : Bool) (r : Reading) (withdraw : Bool) (u v : Update) → IsUpdateBy as4 external r withdraw u → IsUpdateBy as4 external r withdraw v → u ≡ v
+one_update as4 external r true u v f g = λ i. record { withdrawn = (f.withdrawn ∙ sym g.withdrawn) i; announced = (f.announced ∙ sym g.announced) i; attrs = (f.attrs ∙ sym g.attrs) i }
+one_update as4 external r false u v f g =
+    let attrs = one_attrs_for as4 external r.kept r.announced u.attrs v.attrs f.attrs g.attrs in
+    λ i. record { withdrawn = (f.withdrawn ∙ sym g.withdrawn) i; announced = (f.announced ∙ sym g.announced) i; attrs = attrs i }
+
+-- ---- messages
+
+-- the message by what the octets hold
+abbrev pub IsMessageBy : Profile → Bool → Content → Message → Type 0
+IsMessageBy p external (update r) (messages.Update u) = IsUpdateBy p.as4 external r r.withdraw u
+IsMessageBy p external keepalive messages.Keepalive = Unit {0}
+IsMessageBy p external notification messages.Notification = Unit {0}
+IsMessageBy p external opening messages.Skip = Unit {0}
+IsMessageBy p external c m = ⊥
+
+pub by_content : (p : Profile) (external : Bool) (bytes : List ℕ) (m : Message) → Reads p external bytes m → (c : Content) × Holds p external bytes c × IsMessageBy p external c m
+by_content p external bytes (messages.Update u) reads = (update reads.0, reads.1, reads.2)
+by_content p external bytes messages.Keepalive reads = (keepalive, reads, tt)
+by_content p external bytes messages.Notification reads = (notification, reads, tt)
+by_content p external bytes messages.Skip reads = (opening, reads, tt)
+by_content p external bytes (messages.Notify n) reads = absurd reads
+
+pub from_content : (p : Profile) (external : Bool) (bytes : List ℕ) (c : Content) (m : Message) → Holds p external bytes c → IsMessageBy p external c m → Reads p external bytes m
+from_content p external bytes (update r) (messages.Update u) holds is = (r, holds, is)
+from_content p external bytes keepalive messages.Keepalive holds is = holds
+from_content p external bytes notification messages.Notification holds is = holds
+from_content p external bytes opening messages.Skip holds is = holds
+from_content p external bytes (update r) messages.Keepalive holds is = absurd is
+from_content p external bytes (update r) messages.Notification holds is = absurd is
+from_content p external bytes (update r) messages.Skip holds is = absurd is
+from_content p external bytes (update r) (messages.Notify n) holds is = absurd is
+from_content p external bytes keepalive (messages.Update u) holds is = absurd is
+from_content p external bytes keepalive messages.Notification holds is = absurd is
+from_content p external bytes keepalive messages.Skip holds is = absurd is
+from_content p external bytes keepalive (messages.Notify n) holds is = absurd is
+from_content p external bytes notification (messages.Update u) holds is = absurd is
+from_content p external bytes notification messages.Keepalive holds is = absurd is
+from_content p external bytes notification messages.Skip holds is = absurd is
+from_content p external bytes notification (messages.Notify n) holds is = absurd is
+from_content p external bytes opening (messages.Update u) holds is = absurd is
+from_content p external bytes opening messages.Keepalive holds is = absurd is
+from_content p external bytes opening messages.Notification holds is = absurd is
+from_content p external bytes opening (messages.Notify n) holds is = absurd is
+
+message_made : (p : Profile) (external : Bool) (bytes : List ℕ) (c : Content) → Holds p external bytes c → (m : Message) × IsMessageBy p external c m
+message_made p external bytes (update r) holds = let u = update_made p external bytes r holds in (messages.Update u.0, u.1)
+message_made p external bytes keepalive holds = (messages.Keepalive, tt)
+message_made p external bytes notification holds = (messages.Notification, tt)
+message_made p external bytes opening holds = (messages.Skip, tt)
+
+pub one_message_by : (p : Profile) (external : Bool) (c : Content) (m n : Message) → IsMessageBy p external c m → IsMessageBy p external c n → m ≡ n
+one_message_by p external (update r) (messages.Update u) (messages.Update v) f g = ap (λ u. messages.Update u) (one_update p.as4 external r r.withdraw u v f g)
+one_message_by p external (update r) (messages.Update u) messages.Keepalive f g = absurd g
+one_message_by p external (update r) (messages.Update u) messages.Notification f g = absurd g
+one_message_by p external (update r) (messages.Update u) messages.Skip f g = absurd g
+one_message_by p external (update r) (messages.Update u) (messages.Notify n) f g = absurd g
+one_message_by p external (update r) messages.Keepalive n f g = absurd f
+one_message_by p external (update r) messages.Notification n f g = absurd f
+one_message_by p external (update r) messages.Skip n f g = absurd f
+one_message_by p external (update r) (messages.Notify m) n f g = absurd f
+one_message_by p external keepalive m n f g = keepalive_is m f ∙ sym (keepalive_is n g)
+  where
+    keepalive_is : (m : Message) → IsMessageBy p external keepalive m → m ≡ messages.Keepalive
+    keepalive_is messages.Keepalive h = refl
+    keepalive_is (messages.Update u) h = absurd h
+    keepalive_is messages.Notification h = absurd h
+    keepalive_is messages.Skip h = absurd h
+    keepalive_is (messages.Notify n) h = absurd h
+one_message_by p external notification m n f g = notification_is m f ∙ sym (notification_is n g)
+  where
+    notification_is : (m : Message) → IsMessageBy p external notification m → m ≡ messages.Notification
+    notification_is messages.Notification h = refl
+    notification_is (messages.Update u) h = absurd h
+    notification_is messages.Keepalive h = absurd h
+    notification_is messages.Skip h = absurd h
+    notification_is (messages.Notify n) h = absurd h
+one_message_by p external opening m n f g = opening_is m f ∙ sym (opening_is n g)
+  where
+    opening_is : (m : Message) → IsMessageBy p external opening m → m ≡ messages.Skip
+    opening_is messages.Skip h = refl
+    opening_is (messages.Update u) h = absurd h
+    opening_is messages.Keepalive h = absurd h
+    opening_is messages.Notification h = absurd h
+    opening_is (messages.Notify n) h = absurd h
+
+-- octets are one message at most
+pub one_message : (p : Profile) (external : Bool) (bytes : List ℕ) (m n : Message) → Reads p external bytes m → Reads p external bytes n → m ≡ n
+one_message p external bytes m n f g =
+    let c = by_content p external bytes m f in
+    let d = by_content p external bytes n g in
+    let same : d.0 ≡ c.0 = same_ok d.0 c.0 (sym (content_again p external bytes d.0 d.1) ∙ content_again p external bytes c.0 c.1) in
+    one_message_by p external c.0 m n c.2 (subst (λ c. IsMessageBy p external c n) same d.2)
+
+-- octets with a fault are no message
+pub no_message : (p : Profile) (external : Bool) (bytes : List ℕ) (n : Notice) (m : Message) → fault p bytes ≡ Some n → Reads p external bytes m → ⊥
+no_message p external bytes n m e reads =
+    let c = by_content p external bytes m reads in
+    differ (sym (sym (one_fault p external bytes) ∙ ap err_of (content_again p external bytes c.0 c.1)) ∙ e)
+  where
+    differ : ◌≡◌ {A = Option Notice} None (Some n) → ⊥
+    differ e = absurd (cc)
+
+-- exactly one of message and fault is there
+pub one_answer : (p : Profile) (external : Bool) (bytes : List ℕ) → OneAnswer p external bytes
+one_answer p external bytes = by_answer (content_at p external bytes) refl
+  where
+    by_answer : (r : Result Content Notice) → content_at p external bytes ≡ r → OneAnswer p external bytes
+    by_answer (Ok c) e =
+        let holds = content_takes p external bytes c e in
+        let m = message_made p external bytes c holds in
+        let reads = from_content p external bytes c m.0 holds m.1 in
+        inl (sym (one_fault p external bytes) ∙ ap err_of e, (m.0, reads, λ other also. one_message p external bytes m.0 other reads also))
+    by_answer (Err n) e =
+        let f = sym (one_fault p external bytes) ∙ ap err_of e in
+        inr (n, f, λ m reads. no_message p external bytes n m f reads)

@@ -1,0 +1,96 @@
+-- What messages are, by cases on their octets (RFC 4271, section 4).
+use Rattle.std.specs.Prelude.{◌≡◌, ◌⊎◌, ℕ, ◌+◌, ◌*◌, ◌≤◌, ◌||◌, List, [], ◌∷◌, ◌++◌, length, replicate, filter, Option, Some, None, Ok, Bool, true, false, not}
+use Rattle.std.specs.List.{list_any}
+use Rattle.addr4.specs.Prefixes.{Network, same_prefix}
+use Rattle.bgp_attr.specs.declared.attrs.Attrs.{Attrs}
+use Rattle.bgp_attr.specs.declared.speaker.Profile.{Profile}
+use Rattle.bgp_wire.specs.declared.notice.Notice.{Notice}
+use Rattle.bgp_wire.specs.declared.message.Update.{Update}
+use Rattle.bgp_wire.specs.declared.message.Message.{Message}
+use Rattle.bgp_wire.specs.declared.message.Message.TheVariants as messages
+use Rattle.bgp_wire.specs.declared.attributes.Verdict.{Verdict}
+use Rattle.bgp_wire.specs.Prefixes.{ArePrefixes}
+use Rattle.bgp_wire.specs.Attributes.{Attribute, AreAttributes, kept_by}
+use Rattle.bgp_wire.specs.Routes.{AreAttrs}
+use Rattle.bgp_wire.specs.Updates.{Reading, Content, update, keepalive, notification, opening, lacks, fault}
+
+-- a marker of ones, the length of the whole, a type, and a body
+pub record IsFrame (bytes : List ℕ) (kind : ℕ) (body : List ℕ) : Type 0 where
+  pub high : ℕ
+  pub low : ℕ
+  pub parts : bytes ≡ replicate 16 255 ++ high ∷ low ∷ kind ∷ body
+  pub size : high * 256 + low ≡ length bytes
+  pub top : length bytes ≤ 4096
+
+-- the fields of an UPDATE and what they hold
+pub record IsReading (p : Profile) (external : Bool) (bytes : List ℕ) (r : Reading) : Type 0 where
+  pub withdrawn : List ℕ
+  pub attributes : List ℕ
+  pub announced : List ℕ
+  pub first_high : ℕ
+  pub first_low : ℕ
+  pub second_high : ℕ
+  pub second_low : ℕ
+  pub frame : IsFrame bytes 2 (first_high ∷ first_low ∷ (withdrawn ++ (second_high ∷ second_low ∷ (attributes ++ announced))))
+  pub withdrawn_size : first_high * 256 + first_low ≡ length withdrawn
+  pub attributes_size : second_high * 256 + second_low ≡ length attributes
+  pub withdraws : ArePrefixes withdrawn r.withdrawn
+  pub announces : ArePrefixes announced r.announced
+  pub steps : List (Attribute × Verdict)
+  pub runs : Bool
+  pub lacking : Bool
+  pub are : AreAttributes p external [] attributes steps runs
+  pub kept : r.kept ≡ (kept_by steps runs).0
+  pub complete : lacks p r.announced r.kept ≡ Ok lacking
+  pub withdraw : r.withdraw ≡ ((kept_by steps runs).1 || lacking)
+
+-- what the octets hold, by cases on the whole
+abbrev pub Holds : Profile → Bool → List ℕ → Content → Type 0
+Holds p external bytes (update r) = IsReading p external bytes r
+Holds p external bytes keepalive = IsFrame bytes 4 []
+Holds p external bytes notification = (body : List ℕ) × IsFrame bytes 3 body × (2 ≤ length body)
+Holds p external bytes opening = (body : List ℕ) × IsFrame bytes 1 body × (10 ≤ length body)
+
+-- the prefixes that aren't among the others
+abbrev pub without : List Network → List Network → List Network
+without others ps = filter (λ p. not (list_any (same_prefix p) others)) ps
+
+-- attributes are there exactly where a prefix is announced
+abbrev pub AreAttrsFor : Bool → Bool → List Attribute → List Network → Option Attrs → Type 0
+AreAttrsFor as4 external kept [] attrs = attrs ≡ None
+AreAttrsFor as4 external kept (p ∷ ps) None = ⊥
+AreAttrsFor as4 external kept (p ∷ ps) (Some attrs) = AreAttrs as4 external kept attrs
+
+-- an UPDATE by what it holds. One that is a withdraw announces nothing, and all its prefixes are withdrawn (RFC 7606, section 2)
+pub record IsWithdraw (r : Reading) (u : Update) : Type 0 where
+  pub withdrawn : u.withdrawn ≡ without r.announced r.withdrawn ++ r.announced
+  pub announced : u.announced ≡ []
+  pub attrs : u.attrs ≡ None
+
+pub record IsPlain (as4 external : Bool) (r : Reading) (u : Update) : Type 0 where
+  pub withdrawn : u.withdrawn ≡ r.withdrawn
+  pub announced : u.announced ≡ r.announced
+  pub attrs : AreAttrsFor as4 external r.kept r.announced u.attrs
+
+abbrev pub IsUpdateBy : Bool → Bool → Reading → Bool → Update → Type 0
+IsUpdateBy as4 external r true u = IsWithdraw r u
+IsUpdateBy as4 external r false u = IsPlain as4 external r u
+
+-- the message that octets are. A fault is none
+abbrev pub Reads : Profile → Bool → List ℕ → Message → Type 0
+Reads p external bytes (messages.Update u) = (r : Reading) × IsReading p external bytes r × IsUpdateBy p.as4 external r r.withdraw u
+Reads p external bytes messages.Keepalive = Holds p external bytes keepalive
+Reads p external bytes messages.Notification = Holds p external bytes notification
+Reads p external bytes messages.Skip = Holds p external bytes opening
+Reads p external bytes (messages.Notify n) = ⊥
+
+-- what is answered to octets: the message that they are, or their first fault
+abbrev pub Answers : Profile → Bool → List ℕ → Message → Type 0
+Answers p external bytes (messages.Notify n) = fault p bytes ≡ Some n
+Answers p external bytes message = Reads p external bytes message
+
+-- one message and no fault, or a fault and no message
+abbrev pub OneAnswer : Profile → Bool → List ℕ → Type 0
+OneAnswer p external bytes =
+    ((fault p bytes ≡ None) × ((m : Message) × Reads p external bytes m × ((other : Message) → Reads p external bytes other → m ≡ other)))
+    ⊎ ((n : Notice) × (fault p bytes ≡ Some n) × ((m : Message) → Reads p external bytes m → ⊥))

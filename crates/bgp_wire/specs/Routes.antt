@@ -1,0 +1,56 @@
+-- What the kept attributes say of a route.
+use Rattle.std.specs.Prelude.{◌≡◌, ℕ, zero, suc, ◌≤◌, List, [], ◌∷◌, find, drop, slice_index, IsSomeAnd, Option, Some, None, is_some, option_map, Bool, true, false, nat_lt, ◌==◌, ◌||◌, if◌then◌else◌}
+use Rattle.byteorder.specs.Endian.{big_number}
+use Rattle.bgp_attr.specs.declared.attrs.Aggregator.{Aggregator}
+use Rattle.bgp_attr.specs.declared.attrs.Attrs.{Attrs}
+use Rattle.bgp_attr.specs.declared.attrs.Origin.{Origin}
+use Rattle.bgp_attr.specs.declared.attrs.Origin.TheVariants.{Igp, Egp, Incomplete}
+use Rattle.bgp_attr.specs.declared.unrecognized.Unrecognized.{Unrecognized}
+use Rattle.bgp_wire.specs.Paths.{width_of, IsPath}
+use Rattle.bgp_wire.specs.Attributes.{Attribute, is_partial}
+
+-- the kept attribute of a type
+abbrev pub kept_of : ℕ → List Attribute → Option Attribute
+kept_of kind kept = find (λ a. a.kind == kind) kept
+
+abbrev pub number_of : ℕ → List Attribute → Option ℕ
+number_of kind kept = option_map (λ a. big_number 4 a.value) (kept_of kind kept)
+
+abbrev pub code_of_origin : Origin → ℕ
+code_of_origin Igp = 0
+code_of_origin Egp = 1
+code_of_origin Incomplete = 2
+
+-- an AS number and an address
+abbrev pub aggregator_of : Bool → Attribute → Aggregator
+aggregator_of as4 a = record { asn = big_number (width_of as4) a.value; addr = big_number 4 (drop (width_of as4) a.value); partial = is_partial a }
+
+-- the recognized types are 1 to 7
+abbrev pub is_unrecognized : ℕ → Bool
+is_unrecognized kind = kind == 0 || nat_lt 7 kind
+
+-- types from n on, each above the one before
+abbrev pub AscendsFrom : ℕ → List Unrecognized → Type 0
+AscendsFrom n [] = Unit {0}
+AscendsFrom n (u ∷ us) = (n ≤ u.kind) × AscendsFrom (suc u.kind) us
+
+-- the value that stands under a type
+abbrev pub value_of : ℕ → List Unrecognized → Option (List ℕ)
+value_of kind [] = None
+value_of kind (u ∷ us) = if u.kind == kind then Some u.value else value_of kind us
+
+-- the unrecognized attributes that are kept, by ascending type
+pub record AreUnrecognized (kept : List Attribute) (us : List Unrecognized) : Type 0 where
+  pub order : AscendsFrom 0 us
+  pub values : (kind : ℕ) → value_of kind us ≡ (if is_unrecognized kind then option_map (λ a. a.value) (kept_of kind kept) else None)
+
+-- ORIGIN, AS_PATH and NEXT_HOP are there; the others may be, LOCAL_PREF only from an internal peer
+pub record AreAttrs (as4 external : Bool) (kept : List Attribute) (attrs : Attrs) : Type 0 where
+  pub origin : option_map (λ a. slice_index a.value 0) (kept_of 1 kept) ≡ Some (code_of_origin attrs.origin)
+  pub path : IsSomeAnd (kept_of 2 kept) (λ a. IsPath (width_of as4) a.value attrs.path)
+  pub next_hop : number_of 3 kept ≡ Some attrs.next_hop
+  pub med : attrs.med ≡ number_of 4 kept
+  pub local_pref : attrs.local_pref ≡ (if external then None else number_of 5 kept)
+  pub atomic : attrs.atomic ≡ is_some (kept_of 6 kept)
+  pub aggregator : attrs.aggregator ≡ option_map (aggregator_of as4) (kept_of 7 kept)
+  pub unrecognized : AreUnrecognized kept attrs.unrecognized

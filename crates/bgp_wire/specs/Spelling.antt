@@ -1,0 +1,128 @@
+-- The octets that are sent: of all that read alike, one spelling (RFC 4271, sections 4.1, 4.3, 4.5 and 5).
+use Rattle.std.specs.Prelude.{◌≡◌, ℕ, ◌+◌, ◌≤◌, ◌<◌, ◌^◌, List, [], ◌∷◌, ◌++◌, length, take, map, filter, replicate, All, Option, Some, None, Bool, true, false, nat_lt, ◌==◌, if◌then◌else◌}
+use Rattle.std.specs.List.{flat_map}
+use Rattle.std.specs.Option.{ForSome}
+use mathlib.Core.Bool.{beq}
+use Rattle.byteorder.specs.Endian.{big_bytes}
+use Rattle.addr4.specs.Prefixes.{Network}
+use Rattle.bgp_attr.specs.declared.attrs.Aggregator.{Aggregator}
+use Rattle.bgp_attr.specs.declared.attrs.Attrs.{Attrs}
+use Rattle.bgp_attr.specs.declared.path.Segment.{Segment}
+use Rattle.bgp_attr.specs.declared.unrecognized.Unrecognized.{Unrecognized}
+use Rattle.bgp_wire.specs.declared.message.Update.{Update}
+use Rattle.bgp_wire.specs.Prefixes.{octets_for}
+use Rattle.bgp_wire.specs.Paths.{width_of, code_of}
+use Rattle.bgp_wire.specs.Attributes.{Attribute}
+use Rattle.bgp_wire.specs.Routes.{code_of_origin}
+
+-- a length in bits, and the fewest octets that hold so many
+abbrev pub prefix_octets : Network → List ℕ
+prefix_octets p = p.length ∷ take (octets_for p.length) (big_bytes 4 p.address)
+
+-- a type, a count, and the AS numbers
+abbrev pub segment_octets : ℕ → Segment → List ℕ
+segment_octets width s = code_of s.kind ∷ length s.numbers ∷ flat_map (big_bytes width) s.numbers
+
+abbrev pub path_octets : ℕ → List Segment → List ℕ
+path_octets width path = flat_map (segment_octets width) path
+
+-- ---- attributes
+
+-- a length of two octets is used exactly above 255
+abbrev pub is_long : List ℕ → Bool
+is_long value = nat_lt 255 (length value)
+
+abbrev pub spelled_octets : Bool → ℕ → ℕ → List ℕ → List ℕ
+spelled_octets false flags kind value = flags ∷ kind ∷ length value ∷ value
+spelled_octets true flags kind value = (flags + 16) ∷ kind ∷ big_bytes 2 (length value) ++ value
+
+-- an attribute by its flags but for the one of the length, its type and its value
+abbrev pub spelled : ℕ → ℕ → List ℕ → Attribute
+spelled flags kind value = record {
+  flags = if is_long value then flags + 16 else flags;
+  kind = kind;
+  value = value;
+  octets = spelled_octets (is_long value) flags kind value;
+}
+
+abbrev pub optional : {A : Type 0} → (A → Attribute) → Option A → List Attribute
+optional f None = []
+optional f (Some x) = f x ∷ []
+
+-- an AS number and an address
+abbrev pub aggregator_value : Bool → Aggregator → List ℕ
+aggregator_value as4 g = big_bytes (width_of as4) g.asn ++ big_bytes 4 g.addr
+
+abbrev pub aggregator_flags : Bool → ℕ
+aggregator_flags partial = if partial then 224 else 192
+
+-- whether a type stands before ORIGIN
+abbrev pub comes_first : Unrecognized → Bool
+comes_first u = u.kind == 0
+
+-- the unrecognized ones that stand before ORIGIN, or the others
+abbrev pub unrecognized_attributes : Bool → List Unrecognized → List Attribute
+unrecognized_attributes first us = map (λ u. spelled 224 u.kind u.value) (filter (λ u. beq (comes_first u) first) us)
+
+-- ORIGIN, AS_PATH and NEXT_HOP
+abbrev pub mandatory_attributes : Bool → Attrs → List Attribute
+mandatory_attributes as4 a =
+    spelled 64 1 (code_of_origin a.origin ∷ []) ∷ spelled 64 2 (path_octets (width_of as4) a.path) ∷ spelled 64 3 (big_bytes 4 a.next_hop) ∷ []
+
+-- MULTI_EXIT_DISC, LOCAL_PREF, ATOMIC_AGGREGATE and AGGREGATOR, if they are there
+abbrev pub further_attributes : Bool → Attrs → List Attribute
+further_attributes as4 a =
+    optional (λ n. spelled 128 4 (big_bytes 4 n)) a.med
+    ++ optional (λ n. spelled 64 5 (big_bytes 4 n)) a.local_pref
+    ++ (if a.atomic then spelled 64 6 [] ∷ [] else [])
+    ++ optional (λ g. spelled (aggregator_flags g.partial) 7 (aggregator_value as4 g)) a.aggregator
+
+-- all by ascending type
+abbrev pub sent_attributes : Bool → Attrs → List Attribute
+sent_attributes as4 a =
+    unrecognized_attributes true a.unrecognized
+    ++ mandatory_attributes as4 a
+    ++ further_attributes as4 a
+    ++ unrecognized_attributes false a.unrecognized
+
+abbrev pub octets_of : List Attribute → List ℕ
+octets_of attributes = flat_map (λ a. a.octets) attributes
+
+-- ---- messages
+
+-- a marker of ones, the length of the whole, a type, and a body
+abbrev pub framed : ℕ → List ℕ → List ℕ
+framed kind body = replicate 16 255 ++ big_bytes 2 (19 + length body) ++ kind ∷ body
+
+-- the three fields of an UPDATE, each of the first two behind its length
+abbrev pub fields_octets : List ℕ → List ℕ → List ℕ → List ℕ
+fields_octets withdrawn attributes announced = big_bytes 2 (length withdrawn) ++ withdrawn ++ big_bytes 2 (length attributes) ++ attributes ++ announced
+
+abbrev pub attrs_octets : Bool → Option Attrs → List ℕ
+attrs_octets as4 None = []
+attrs_octets as4 (Some a) = octets_of (sent_attributes as4 a)
+
+abbrev pub prefixes_octets : List Network → List ℕ
+prefixes_octets ps = flat_map prefix_octets ps
+
+abbrev pub update_octets : Bool → Update → List ℕ
+update_octets as4 u = framed 2 (fields_octets (prefixes_octets u.withdrawn) (attrs_octets as4 u.attrs) (prefixes_octets u.announced))
+
+abbrev pub notification_octets : ℕ → ℕ → List ℕ → List ℕ
+notification_octets code subcode octets = framed 3 (code ∷ subcode ∷ octets)
+
+-- ---- what the fields hold
+
+-- an AS number has its octets
+abbrev pub FitsWidth : Bool → ℕ → Type 0
+FitsWidth as4 asn = as4 ≡ false → asn < 65536
+
+-- a segment's count has its octet, and each AS number its octets
+pub record FitsSegment (as4 : Bool) (s : Segment) : Type 0 where
+  pub some : 0 < length s.numbers
+  pub few : length s.numbers ≤ 255
+  pub numbers : All (FitsWidth as4) s.numbers
+
+pub record FitsAttrs (as4 : Bool) (a : Attrs) : Type 0 where
+  pub path : All (FitsSegment as4) a.path
+  pub aggregator : ForSome a.aggregator (λ g. FitsWidth as4 g.asn)

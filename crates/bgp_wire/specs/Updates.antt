@@ -1,0 +1,110 @@
+-- Whole messages, with the first fault (RFC 4271, sections 4.1, 4.3, 6.1 and 6.3).
+use Rattle.std.specs.Prelude.{ℕ, ◌+◌, ◌*◌, List, [], ◌∷◌, length, take, drop, slice_index, Option, Some, None, Result, Ok, Err, Bool, true, false, nat_lt, ◌==◌, ◌||◌, not, if◌then◌else◌}
+use Rattle.std.specs.List.{list_any, list_all}
+use Rattle.addr4.specs.Prefixes.{Network}
+use Rattle.bgp_attr.specs.declared.speaker.Profile.{Profile}
+use Rattle.bgp_wire.specs.declared.notice.Notice.{Notice}
+use Rattle.bgp_wire.specs.Faults.{notice, err_of, ◌>>=◌}
+use Rattle.bgp_wire.specs.Prefixes.{prefixes_at}
+use Rattle.bgp_wire.specs.Attributes.{Attribute, attributes_at}
+
+-- two octets as a number
+abbrev pub number_at : List ℕ → ℕ → ℕ
+number_at bytes i = slice_index bytes i * 256 + slice_index bytes (i + 1)
+
+abbrev pub is_marked : List ℕ → Bool
+is_marked bytes = list_all (λ b. b == 255) (take 16 bytes)
+
+abbrev pub length_field : List ℕ → List ℕ
+length_field bytes = take 2 (drop 16 bytes)
+
+-- whether a message of a type has fewer octets than it must, or of a KEEPALIVE any more
+abbrev pub has_wrong_length : ℕ → ℕ → Bool
+has_wrong_length kind size =
+    if kind == 1 then nat_lt size 29
+    else if kind == 2 then nat_lt size 23
+    else if kind == 3 then nat_lt size 21
+    else not (size == 19)
+
+-- the type of a message
+unfoldable pub header_at : List ℕ → Result ℕ Notice
+header_at bytes =
+    if nat_lt (length bytes) 19 then Err (notice 1 2 [])
+    else if not (is_marked bytes) then Err (notice 1 1 [])
+    else if nat_lt (number_at bytes 16) 19 || nat_lt 4096 (number_at bytes 16) || not (number_at bytes 16 == length bytes) then Err (notice 1 2 (length_field bytes))
+    else if slice_index bytes 18 == 0 || nat_lt 4 (slice_index bytes 18) then Err (notice 1 3 (take 1 (drop 18 bytes)))
+    else if has_wrong_length (slice_index bytes 18) (length bytes) then Err (notice 1 2 (length_field bytes))
+    else Ok (slice_index bytes 18)
+
+-- the three fields of an UPDATE
+pub record Fields : Type 0 where
+  pub withdrawn : List ℕ
+  pub attributes : List ℕ
+  pub announced : List ℕ
+
+unfoldable pub fields_at : List ℕ → Result Fields Notice
+fields_at bytes =
+    if nat_lt (length bytes) (number_at bytes 19 + 23) then Err (notice 3 1 [])
+    else if nat_lt (length bytes) (number_at bytes 19 + number_at bytes (21 + number_at bytes 19) + 23) then Err (notice 3 1 [])
+    else Ok (record {
+      withdrawn = take (number_at bytes 19) (drop 21 bytes);
+      attributes = take (number_at bytes (21 + number_at bytes 19)) (drop (23 + number_at bytes 19) bytes);
+      announced = drop (23 + number_at bytes 19 + number_at bytes (21 + number_at bytes 19)) bytes;
+    })
+
+abbrev pub has_kind : ℕ → List Attribute → Bool
+has_kind kind kept = list_any (λ a. a.kind == kind) kept
+
+-- the lowest type that an announcement lacks: ORIGIN, AS_PATH or NEXT_HOP
+abbrev pub missing : List Attribute → Option ℕ
+missing kept =
+    if not (has_kind 1 kept) then Some 1
+    else if not (has_kind 2 kept) then Some 2
+    else if not (has_kind 3 kept) then Some 3
+    else None
+
+-- what an UPDATE holds: its prefixes, the attributes that are kept, and whether it is a withdraw
+pub record Reading : Type 0 where
+  pub withdrawn : List Network
+  pub announced : List Network
+  pub kept : List Attribute
+  pub withdraw : Bool
+
+abbrev pub lack : Profile → Option ℕ → Result Bool Notice
+lack p None = Ok false
+lack p (Some kind) = if p.revised then Ok true else Err (notice 3 3 (kind ∷ []))
+
+abbrev pub lacks : Profile → List Network → List Attribute → Result Bool Notice
+lacks p [] kept = Ok false
+lacks p (n ∷ ns) kept = lack p (missing kept)
+
+unfoldable pub reading_at : Profile → Bool → List ℕ → Result Reading Notice
+reading_at p external bytes = do
+  fields ← fields_at bytes
+  withdrawn ← prefixes_at fields.withdrawn
+  kept ← attributes_at p external [] fields.attributes
+  announced ← prefixes_at fields.announced
+  lacking ← lacks p announced kept.0
+  Ok (record { withdrawn = withdrawn; announced = announced; kept = kept.0; withdraw = kept.1 || lacking })
+
+-- what a message holds
+pub data Content : Type 0 where
+  update : Reading → Content
+  keepalive : Content
+  notification : Content
+  opening : Content
+
+abbrev pub content_for : Profile → Bool → List ℕ → ℕ → Result Content Notice
+content_for p external bytes kind =
+    if kind == 1 then Ok opening
+    else if kind == 3 then Ok notification
+    else if kind == 4 then Ok keepalive
+    else reading_at p external bytes >>= λ r. Ok (update r)
+
+-- what octets hold, or their first fault
+unfoldable pub content_at : Profile → Bool → List ℕ → Result Content Notice
+content_at p external bytes = header_at bytes >>= λ kind. content_for p external bytes kind
+
+-- the first fault of a message, or none; it is the same from an internal and an external peer
+abbrev pub fault : Profile → List ℕ → Option Notice
+fault p bytes = err_of (content_at p false bytes)

@@ -1,0 +1,17 @@
+//! What holds of all octets.
+
+ghost use Rattle.std.specs.Prelude.{◌≡◌, Bool, List, ℕ};
+ghost use Rattle.bgp_attr.specs.declared.speaker.Profile.{Profile};
+ghost use Rattle.bgp_wire.specs.Faults.{err_of};
+ghost use Rattle.bgp_wire.specs.Updates.{content_at, fault};
+ghost use Rattle.bgp_wire.specs.Grammar.{OneAnswer};
+
+/// Each list of octets is one message, or has a first fault, and not both.
+pub fn one_of_message_and_fault()
+    ensures { (p : Profile) (external : Bool) (bytes : List ℕ) → OneAnswer p external bytes }
+{}
+
+/// The first fault is the same from an internal and an external peer.
+pub fn one_fault_for_both()
+    ensures { (p : Profile) (external : Bool) (bytes : List ℕ) → err_of (content_at p external bytes) ≡ fault p bytes }
+{}

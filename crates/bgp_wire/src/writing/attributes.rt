@@ -1,0 +1,189 @@
+//! Path attributes that are written (RFC 4271, sections 4.3 and 5).
+
+ghost use Rattle.std.specs.Prelude.{◌≡◌, ◌<◌, ◌+◌, ◌++◌, ◌∷◌, [], OnOk, IfOk, All, if◌then◌else◌};
+ghost use Rattle.std.specs.Option.{ForSome};
+ghost use Rattle.byteorder.specs.Endian.{big_bytes};
+ghost use Rattle.bgp_wire.specs.Paths.{width_of};
+ghost use Rattle.bgp_wire.specs.Routes.{code_of_origin};
+ghost use Rattle.bgp_wire.specs.Spelling.{FitsWidth, FitsSegment, FitsAttrs, segment_octets, path_octets, spelled, optional, aggregator_value, aggregator_flags, unrecognized_attributes, mandatory_attributes, further_attributes, sent_attributes, octets_of};
+
+use crate::writing::numbers::{push_asn, push_u16, push_u32};
+use addr4::Memory;
+use bgp_attr::{Aggregator, AsPath, Attrs, Origin, Segment, SegmentKind, Unrecognized};
+
+const WELL_KNOWN: u8 = 0x40;
+
+const OPTIONAL: u8 = 0x80;
+
+const OPTIONAL_TRANSITIVE: u8 = 0xc0;
+
+const PARTIAL: u8 = 0x20;
+
+const EXTENDED_LENGTH: u8 = 0x10;
+
+const ORIGIN: u8 = 1;
+
+const AS_PATH: u8 = 2;
+
+const NEXT_HOP: u8 = 3;
+
+const MULTI_EXIT_DISC: u8 = 4;
+
+const LOCAL_PREF: u8 = 5;
+
+const ATOMIC_AGGREGATE: u8 = 6;
+
+const AGGREGATOR: u8 = 7;
+
+/// A route's attributes by ascending type.
+pub(crate) fn push_attrs(out: &mut Vec<u8>, as4: bool, attrs: &Attrs) -> Result<(), Memory>
+    requires { FitsAttrs as4 attrs.now }
+    ensures { OnOk result (out.new.items ≡ out.old.items ++ octets_of (sent_attributes as4 attrs.now)) }
+{
+    push_unrecognized(out, true, attrs.unrecognized.as_slice())?;
+    push_mandatory(out, as4, attrs)?;
+    push_further(out, as4, attrs)?;
+    push_unrecognized(out, false, attrs.unrecognized.as_slice())?;
+    Ok(())
+}
+
+/// ORIGIN, AS_PATH and NEXT_HOP.
+fn push_mandatory(out: &mut Vec<u8>, as4: bool, attrs: &Attrs) -> Result<(), Memory>
+    requires { FitsAttrs as4 attrs.now }
+    ensures { OnOk result (out.new.items ≡ out.old.items ++ octets_of (mandatory_attributes as4 attrs.now)) }
+{
+    push_origin(out, attrs.origin)?;
+    push_path(out, as4, &attrs.path)?;
+    push_number(out, WELL_KNOWN, NEXT_HOP, Some(attrs.next_hop.number()))?;
+    Ok(())
+}
+
+/// MULTI_EXIT_DISC, LOCAL_PREF, ATOMIC_AGGREGATE and AGGREGATOR, if they are there.
+fn push_further(out: &mut Vec<u8>, as4: bool, attrs: &Attrs) -> Result<(), Memory>
+    requires { FitsAttrs as4 attrs.now }
+    ensures { OnOk result (out.new.items ≡ out.old.items ++ octets_of (further_attributes as4 attrs.now)) }
+{
+    push_number(out, OPTIONAL, MULTI_EXIT_DISC, attrs.med)?;
+    push_number(out, WELL_KNOWN, LOCAL_PREF, attrs.local_pref)?;
+    push_atomic(out, attrs.atomic)?;
+    push_aggregator(out, as4, attrs.aggregator)?;
+    Ok(())
+}
+
+/// One attribute. Its length field has two octets exactly where the value has more than 255.
+fn push_attribute(out: &mut Vec<u8>, flags: u8, kind: u8, value: &[u8]) -> Result<(), Memory>
+    requires { flags < 240 }
+    ensures { OnOk result (out.new.items ≡ out.old.items ++ (spelled flags kind value.now).octets) }
+{
+    if value.len() > 255 {
+        out.extend_from_slice(&[flags + EXTENDED_LENGTH, kind])?;
+        // An attribute of 65,536 octets and more is in no message: its UPDATE is too long.
+        push_u16(out, (value.len() % 65536) as u16)?;
+    } else {
+        out.extend_from_slice(&[flags, kind, value.len() as u8])?;
+    }
+    out.extend_from_slice(value)?;
+    Ok(())
+}
+
+fn push_origin(out: &mut Vec<u8>, origin: Origin) -> Result<(), Memory>
+    ensures { OnOk result (out.new.items ≡ out.old.items ++ (spelled 64 1 (code_of_origin origin ∷ [])).octets) }
+{
+    let code = match origin {
+        Origin::Igp => 0,
+        Origin::Egp => 1,
+        Origin::Incomplete => 2,
+    };
+    push_attribute(out, WELL_KNOWN, ORIGIN, &[code])
+}
+
+fn push_path(out: &mut Vec<u8>, as4: bool, path: &AsPath) -> Result<(), Memory>
+    requires { All (FitsSegment as4) path.now }
+    ensures { OnOk result (out.new.items ≡ out.old.items ++ (spelled 64 2 (path_octets (width_of as4) path.now)).octets) }
+{
+    let mut value = Vec::new(*out.allocator());
+    for segment in path.as_slice() {
+        push_segment(&mut value, as4, segment)?;
+    }
+    push_attribute(out, WELL_KNOWN, AS_PATH, value.as_slice())
+}
+
+fn push_segment(out: &mut Vec<u8>, as4: bool, segment: &Segment) -> Result<(), Memory>
+    requires { FitsSegment as4 segment.now }
+    ensures { OnOk result (out.new.items ≡ out.old.items ++ segment_octets (width_of as4) segment.now) }
+{
+    let code = match segment.kind {
+        SegmentKind::Set => 1,
+        SegmentKind::Sequence => 2,
+    };
+    let numbers = segment.numbers.as_slice();
+    out.push(code)?;
+    out.push(numbers.len() as u8)?;
+    for asn in numbers {
+        push_asn(out, as4, *asn)?;
+    }
+    Ok(())
+}
+
+/// An attribute of four octets, if it is there.
+fn push_number(out: &mut Vec<u8>, flags: u8, kind: u8, number: Option<u32>) -> Result<(), Memory>
+    requires { flags < 240 }
+    ensures { OnOk result (out.new.items ≡ out.old.items ++ octets_of (optional (λ n. spelled flags kind (big_bytes 4 n)) number)) }
+{
+    let Some(number) = number else {
+        return Ok(());
+    };
+    let mut value = Vec::new(*out.allocator());
+    push_u32(&mut value, number)?;
+    push_attribute(out, flags, kind, value.as_slice())
+}
+
+fn push_atomic(out: &mut Vec<u8>, atomic: bool) -> Result<(), Memory>
+    ensures { OnOk result (out.new.items ≡ out.old.items ++ octets_of (if atomic then spelled 64 6 [] ∷ [] else [])) }
+{
+    if atomic {
+        push_attribute(out, WELL_KNOWN, ATOMIC_AGGREGATE, &[])
+    } else {
+        Ok(())
+    }
+}
+
+fn push_aggregator(
+    out: &mut Vec<u8>,
+    as4: bool,
+    aggregator: Option<Aggregator>,
+) -> Result<(), Memory>
+    requires { ForSome aggregator (λ g. FitsWidth as4 g.asn) }
+    ensures { OnOk result (out.new.items ≡ out.old.items ++ octets_of (optional (λ g. spelled (aggregator_flags g.partial) 7 (aggregator_value as4 g)) aggregator)) }
+{
+    let Some(aggregator) = aggregator else {
+        return Ok(());
+    };
+    let flags = if aggregator.partial {
+        OPTIONAL_TRANSITIVE + PARTIAL
+    } else {
+        OPTIONAL_TRANSITIVE
+    };
+    let mut value = Vec::new(*out.allocator());
+    push_asn(&mut value, as4, aggregator.asn)?;
+    push_u32(&mut value, aggregator.addr.number())?;
+    push_attribute(out, flags, AGGREGATOR, value.as_slice())
+}
+
+/// Those unrecognized attributes whose type stands before ORIGIN, or the others. They have passed a speaker that doesn't
+/// recognize them, so the partial flag is set.
+fn push_unrecognized(out: &mut Vec<u8>, first: bool, items: &[Unrecognized]) -> Result<(), Memory>
+    ensures { OnOk result (out.new.items ≡ out.old.items ++ octets_of (unrecognized_attributes first items.now)) }
+{
+    for item in items {
+        if (item.kind < ORIGIN) == first {
+            push_attribute(
+                out,
+                OPTIONAL_TRANSITIVE + PARTIAL,
+                item.kind,
+                item.value.as_slice(),
+            )?;
+        }
+    }
+    Ok(())
+}
