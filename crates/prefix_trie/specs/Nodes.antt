@@ -14,6 +14,7 @@ module _ {V : Type 0} where
     pub found : get nodes key ≡ Some node
     pub prefix : node.prefix ≡ p
 
+module _ {V W : Type 0} where
   -- each key has a node
-  abbrev pub HasNodes : Slab (Node V) → FinMap prefix_cmp V → Type 0
+  abbrev pub HasNodes : Slab (Node V) → FinMap prefix_cmp W → Type 0
   HasNodes nodes rows = (p : Network) → HasKey rows p → HasNode nodes p
