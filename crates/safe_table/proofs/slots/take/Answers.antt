@@ -1,0 +1,6 @@
+use Rattle.std.proofs.Common.{◌∙◌}
+use Rattle.safe_table.proofs.Maps.{remove-insert}
+use Rattle.safe_table.proofs.slots.take.Goals as goal
+
+pub returns-then-readers-eq0-clause-goes : goal.returns-then-readers-eq0-clause-goes
+returns-then-readers-eq0-clause-goes g c = λ s found nobody. c.remove.ensures.rows ∙ remove-insert c.args.trie.now.rows c.args.prefix _

@@ -1,0 +1,126 @@
+//! The calls of a table on its trie of slots.
+
+ghost use Rattle.std.specs.Prelude.{◌≡◌, ◌↔◌, ◌+◌, ◌-◌, ◌<◌, ◌^◌, IsTrue, IsOk, OnOk, OnErr, IfOk, IfSome, option_map, Some, None, true, false};
+ghost use Rattle.std.specs.FinMap as map;
+ghost use Rattle.prefix_trie.specs.Contents.{HasKey};
+ghost use Rattle.addr4.specs.Places.{key_of, IsNextRow};
+ghost use Rattle.safe_table.specs.Tables.{live_rows, live_value, readers_of, Leaves, MatchPlace};
+ghost use Rattle.safe_table.specs.Slots.{Slot};
+
+use crate::slot::Slot;
+use addr4::{Memory, Place, Prefix};
+use prefix_trie::Trie;
+
+// One more iterator stands at a prefix.
+pub(crate) fn enter<V>(trie: &mut Trie<Slot<V>>, prefix: Prefix)
+    requires has { HasKey trie.old.rows prefix }
+    requires fits { (s : Slot V) → map.get trie.old.rows prefix ≡ Some s → s.readers + 1 < 2 ^ 32 }
+    ensures { (s : Slot V) → map.get trie.old.rows prefix ≡ Some s → trie.new.rows ≡ map.insert trie.old.rows prefix (record s { readers = s.readers + 1 }) }
+{
+    let slot = trie.value_mut(prefix);
+    slot.enter();
+}
+
+// One iterator less stands at a prefix. The last one takes what was removed along.
+pub(crate) fn leave<V: Drop>(trie: &mut Trie<Slot<V>>, prefix: Prefix)
+    requires has { HasKey trie.old.rows prefix }
+    requires stands { (s : Slot V) → map.get trie.old.rows prefix ≡ Some s → 0 < s.readers }
+    ensures { (s : Slot V) → map.get trie.old.rows prefix ≡ Some s → Leaves trie.old.rows trie.new.rows prefix s }
+{
+    let slot = trie.value_mut(prefix);
+    slot.leave();
+    if slot.readers() == 0 && !slot.has_row() {
+        trie.remove(prefix);
+    }
+}
+
+pub(crate) fn leave_place<V: Drop>(trie: &mut Trie<Slot<V>>, place: Place)
+    requires { MatchPlace place (Unit {0}) (λ p. HasKey trie.old.rows p × ((s : Slot V) → map.get trie.old.rows p ≡ Some s → 0 < s.readers)) }
+    ensures { MatchPlace place (trie.new.rows ≡ trie.old.rows) (λ p. (s : Slot V) → map.get trie.old.rows p ≡ Some s → Leaves trie.old.rows trie.new.rows p s) }
+{
+    match place {
+        Place::Before => {}
+        Place::At(prefix) => leave(trie, prefix),
+    }
+}
+
+// The first prefix beyond a place that has a row.
+pub(crate) fn first_live<V>(trie: &Trie<Slot<V>>, after: Place) -> Option<Prefix>
+    ensures { IsNextRow (map.get (live_rows trie.now.rows)) (key_of after) result }
+{
+    let mut row = match next_slot(trie, after) {
+        None => return None,
+        Some(row) => row,
+    };
+    'rows: while !row.1 {
+        row.0.known();
+        row = match next_slot(trie, Place::At(row.0)) {
+            None => return None,
+            Some(next) => next,
+        };
+    }
+    Some(row.0)
+}
+
+// The first prefix beyond a place where something stands, and whether it has a row.
+fn next_slot<V>(trie: &Trie<Slot<V>>, after: Place) -> Option<(Prefix, bool)>
+    ensures prefix { IsNextRow (map.get trie.now.rows) (key_of after) (option_map (λ row. row.0) result) }
+    ensures live { IfSome result (λ row. IsTrue row.1 ↔ HasKey (live_rows trie.now.rows) row.0) }
+{
+    match trie.next_row(after) {
+        None => None,
+        Some(row) => Some((row.0, row.1.has_row())),
+    }
+}
+
+// Whether one row more can be counted, if the prefix has none yet.
+pub(crate) fn fits<V>(trie: &Trie<Slot<V>>, count: usize, prefix: Prefix) -> bool
+    ensures fits { result ≡ true → live_value (map.get trie.now.rows prefix) ≡ None → count + 1 < 2 ^ 64 }
+    ensures none { result ≡ false → live_value (map.get trie.now.rows prefix) ≡ None }
+{
+    if count < usize::MAX {
+        return true;
+    }
+    match trie.get(prefix) {
+        None => false,
+        Some(slot) => slot.has_row(),
+    }
+}
+
+// Puts a row at a prefix, where iterators stay.
+pub(crate) fn put<V: Drop>(
+    trie: &mut Trie<Slot<V>>,
+    prefix: Prefix,
+    value: V,
+) -> Result<Option<V>, Memory>
+    ensures ok { OnOk result (trie.new.rows ≡ map.insert trie.old.rows prefix (record { value = Some value; readers = readers_of (map.get trie.old.rows prefix) })) }
+    ensures before { IfOk result (λ before. before ≡ live_value (map.get trie.old.rows prefix)) }
+    ensures err { OnErr result (trie.new.rows ≡ trie.old.rows) }
+    ensures succeeds { HasKey trie.old.rows prefix → IsOk result }
+{
+    if let Some(slot) = trie.get_mut(prefix) {
+        return Ok(slot.put(value));
+    }
+    match trie.insert(prefix, Slot::new(value)) {
+        Ok(_) => Ok(None),
+        Err(_) => Err(Memory),
+    }
+}
+
+// Takes the row at a prefix, where iterators stay.
+pub(crate) fn take<V: Drop>(trie: &mut Trie<Slot<V>>, prefix: Prefix) -> Option<V>
+    ensures before { result ≡ live_value (map.get trie.old.rows prefix) }
+    ensures absent { map.get trie.old.rows prefix ≡ None → trie.new.rows ≡ trie.old.rows }
+    ensures goes { (s : Slot V) → map.get trie.old.rows prefix ≡ Some s → s.readers ≡ 0 → trie.new.rows ≡ map.remove trie.old.rows prefix }
+    ensures stays { (s : Slot V) → map.get trie.old.rows prefix ≡ Some s → 0 < s.readers → trie.new.rows ≡ map.insert trie.old.rows prefix (record s { value = None }) }
+{
+    let slot = match trie.get_mut(prefix) {
+        None => return None,
+        Some(slot) => slot,
+    };
+    let before = slot.take();
+    if slot.readers() == 0 {
+        trie.remove(prefix);
+    }
+    before
+}
