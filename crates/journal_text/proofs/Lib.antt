@@ -1,0 +1,3 @@
+pub mod LinkLemmas
+pub mod WalkLemmas
+pub mod LineLemmas

@@ -1,0 +1,4 @@
+pub mod LinkNames
+pub mod Walk
+pub mod Lines
+pub mod Pages
