@@ -1,0 +1,9 @@
+pub mod Width
+pub mod Trees
+pub mod Shape
+pub mod Search
+pub mod Contents
+pub mod View
+pub mod Nodes
+pub mod Lent
+pub mod Links
