@@ -1,6 +1,6 @@
 //! The attributes of a route.
 
-ghost use Rattle.std.specs.Prelude.{◌≡◌, ◌↔◌, IsTrue, IfOk};
+ghost use Rattle.std.specs.Prelude.{◌≡◌, IfOk};
 
 use crate::path::AsPath;
 use crate::unrecognized::UnrecognizedAttrs;
@@ -43,11 +43,23 @@ pub struct Attrs {
     pub unrecognized: UnrecognizedAttrs,
 }
 
-impl Attrs {
-    /// Whether all of both is equal.
-    pub fn same(&self, other: &Attrs) -> bool
-        ensures { IsTrue result ↔ (self.now ≡ other.now) }
-    {
+impl Row for Attrs {
+    fn copy(&self) -> Result<Attrs, Memory> {
+        let path = self.path.copy()?;
+        let unrecognized = self.unrecognized.copy()?;
+        Ok(Attrs {
+            origin: self.origin,
+            path,
+            next_hop: self.next_hop,
+            med: self.med,
+            local_pref: self.local_pref,
+            atomic: self.atomic,
+            aggregator: self.aggregator,
+            unrecognized,
+        })
+    }
+
+    fn same(&self, other: &Attrs) -> bool {
         self.origin == other.origin
             && self.next_hop == other.next_hop
             && self.med == other.med

@@ -5,6 +5,11 @@
 //! UPDATE. [`Route`] is a row behind the incoming filter. [`Speaker`], [`Neighbour`] and [`Profile`] are the words of the
 //! configuration. Contracts see a path as its list of segments and octets as a list of numbers, so that two values are
 //! equal exactly where everything in them is.
+//!
+//! An [`AsPath`] answers what the decision and the filters ask of it (its hops, its first AS, whether it has an AS), and
+//! gives the path that is sent to an external peer. Attributes and routes are rows of tables and links ([`addr4::Row`]):
+//! they are copied, a route by sharing its attributes, and compared as a whole. `bgp_wire` reads and writes the
+//! attributes of messages, the stages above pass routes on.
 #![tactic(auto)]
 
 mod attrs;
@@ -12,6 +17,8 @@ mod octets;
 mod path;
 mod route;
 mod speaker;
+#[cfg(test)]
+mod tests;
 mod unrecognized;
 
 pub use attrs::{Aggregator, Attrs, Origin, SharedAttrs};

@@ -1,7 +1,9 @@
 //! Octets in a row.
 
-ghost use Rattle.std.specs.Prelude.{◌≡◌, ◌↔◌, IsTrue};
+ghost use Rattle.std.specs.Prelude.{◌≡◌, []};
 
+use addr4::{Memory, Row};
+use std::alloc::Global;
 use std::marker::Model;
 
 /// Octets in a row.
@@ -19,6 +21,15 @@ impl Model for Octets {
 }
 
 impl Octets {
+    /// No octet; takes no memory.
+    pub fn new(alloc: Global) -> Octets
+        ensures { result ≡ [] }
+    {
+        Octets {
+            items: Vec::new(alloc),
+        }
+    }
+
     /// Takes no memory.
     pub fn from_vec(items: Vec<u8>) -> Octets
         ensures { result ≡ items.items }
@@ -31,11 +42,15 @@ impl Octets {
     {
         self.items.as_slice()
     }
+}
 
-    /// Whether the octets are the same, in the same order.
-    pub fn same(&self, other: &Octets) -> bool
-        ensures { IsTrue result ↔ (self.now ≡ other.now) }
-    {
+impl Row for Octets {
+    fn copy(&self) -> Result<Octets, Memory> {
+        let items = Vec::from_slice(*self.items.allocator(), self.items.as_slice())?;
+        Ok(Octets { items })
+    }
+
+    fn same(&self, other: &Octets) -> bool {
         self.items.as_slice() == other.items.as_slice()
     }
 }

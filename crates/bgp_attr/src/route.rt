@@ -2,6 +2,7 @@
 
 use crate::attrs::SharedAttrs;
 use crate::speaker::Neighbour;
+use addr4::{Memory, Row};
 
 /// A route behind the incoming filter: what the decision compares (RFC 4271, section 9.1).
 #[derive(Drop)]
@@ -17,4 +18,28 @@ pub struct Route {
     pub igp: Option<u32>,
     /// The peer that the route came from; none for a local route.
     pub from: Option<Neighbour>,
+}
+
+impl Row for Route {
+    /// Takes no memory: the attributes are shared.
+    fn copy(&self) -> Result<Route, Memory> {
+        let attrs = self.attrs.copy()?;
+        Ok(Route {
+            attrs,
+            pref: self.pref,
+            med: self.med,
+            prepend: self.prepend,
+            igp: self.igp,
+            from: self.from,
+        })
+    }
+
+    fn same(&self, other: &Route) -> bool {
+        self.pref == other.pref
+            && self.med == other.med
+            && self.prepend == other.prepend
+            && self.igp == other.igp
+            && self.from == other.from
+            && self.attrs.same(&other.attrs)
+    }
 }

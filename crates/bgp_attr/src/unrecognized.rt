@@ -1,8 +1,10 @@
 //! Attributes that this speaker doesn't recognize, and passes on.
 
-ghost use Rattle.std.specs.Prelude.{◌≡◌, ◌↔◌, IsTrue};
+ghost use Rattle.std.specs.Prelude.{◌≡◌, ◌↔◌, [], IsTrue};
 
 use crate::octets::Octets;
+use addr4::{Memory, Row};
+use std::alloc::Global;
 use std::marker::Model;
 
 /// An unrecognized optional transitive attribute (RFC 4271, section 5).
@@ -13,11 +15,16 @@ pub struct Unrecognized {
     pub value: Octets,
 }
 
-impl Unrecognized {
-    /// Whether type and value are equal.
-    pub fn same(&self, other: &Unrecognized) -> bool
-        ensures { IsTrue result ↔ (self.now ≡ other.now) }
-    {
+impl Row for Unrecognized {
+    fn copy(&self) -> Result<Unrecognized, Memory> {
+        let value = self.value.copy()?;
+        Ok(Unrecognized {
+            kind: self.kind,
+            value,
+        })
+    }
+
+    fn same(&self, other: &Unrecognized) -> bool {
         self.kind == other.kind && self.value.same(&other.value)
     }
 }
@@ -38,6 +45,15 @@ impl Model for UnrecognizedAttrs {
 }
 
 impl UnrecognizedAttrs {
+    /// No attribute; takes no memory.
+    pub fn new(alloc: Global) -> UnrecognizedAttrs
+        ensures { result ≡ [] }
+    {
+        UnrecognizedAttrs {
+            items: Vec::new(alloc),
+        }
+    }
+
     /// Takes no memory.
     pub fn from_vec(items: Vec<Unrecognized>) -> UnrecognizedAttrs
         ensures { result ≡ items.items }
@@ -50,11 +66,18 @@ impl UnrecognizedAttrs {
     {
         self.items.as_slice()
     }
+}
 
-    /// Whether the attributes are the same, in the same order.
-    pub fn same(&self, other: &UnrecognizedAttrs) -> bool
-        ensures { IsTrue result ↔ (self.now ≡ other.now) }
-    {
+impl Row for UnrecognizedAttrs {
+    fn copy(&self) -> Result<UnrecognizedAttrs, Memory> {
+        let mut items = Vec::with_capacity(*self.items.allocator(), self.items.len())?;
+        for item in &self.items {
+            items.push(item.copy()?)?;
+        }
+        Ok(UnrecognizedAttrs { items })
+    }
+
+    fn same(&self, other: &UnrecognizedAttrs) -> bool {
         same_items(self.items.as_slice(), other.items.as_slice())
     }
 }
