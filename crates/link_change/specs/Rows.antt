@@ -1,6 +1,8 @@
 -- What stands on a link, and where a walk goes.
-use Rattle.std.specs.Prelude.{◌≡◌, Bool, true, false, cond, Option, Some, None, is_some}
+use Rattle.std.specs.Prelude.{◌≡◌, ◌==◌, ◌||◌, Bool, true, false, cond, Option, Some, None, is_some}
 use Rattle.std.specs.Ordering.{eq_by_cmp}
+use Rattle.std.specs.FinMap as map
+use Rattle.std.specs.FinMap.{FinMap}
 use Rattle.addr4.specs.Prefixes.{Network, prefix_cmp, ComesBefore}
 use Rattle.addr4.specs.Places.{IsBeyond}
 
@@ -31,3 +33,15 @@ CoversRows candidates rows = (q : Network) → candidates q ≡ false → rows q
 -- the prefixes that have rows
 abbrev pub with_rows : {V : Type 0} → Rows V → Candidates
 with_rows rows q = is_some (rows q)
+
+-- those of both
+abbrev pub together : Candidates → Candidates → Candidates
+together a b q = a q || b q
+
+-- the next of both together, where these are the next of each
+abbrev pub IsNextOfBoth : Option Network → Option Network → Option Network → Type 0
+IsNextOfBoth first second result = (a b : Candidates) (after : Option Network) → IsNextCandidate a after first → IsNextCandidate b after second → IsNextCandidate (together a b) after result
+
+-- the table has no row
+abbrev pub is_empty_map : {V : Type 0} → FinMap prefix_cmp V → Bool
+is_empty_map m = map.len m == 0

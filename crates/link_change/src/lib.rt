@@ -13,4 +13,7 @@ mod upstream;
 
 pub use change::{Change, apply};
 pub use turn::Turn;
-pub use upstream::Upstream;
+pub use upstream::{Upstream, nearer};
+
+#[cfg(test)]
+mod tests;

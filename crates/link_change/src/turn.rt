@@ -1,5 +1,8 @@
 //! What a turn of background work came to.
 
+ghost use Rattle.std.specs.Prelude.{◌≡◌};
+ghost use Rattle.link_change.specs.Turns.{taken_turn};
+
 use crate::change::Change;
 
 /// One turn of a task.
@@ -11,4 +14,16 @@ pub enum Turn<R> {
     Quiet,
     /// A turn was taken, and this change came out on the last link.
     Sent(Change<R>),
+}
+
+impl<R> Turn<R> {
+    /// The turn that was taken and came to this on the last link.
+    pub fn taken(sent: Option<Change<R>>) -> Turn<R>
+        ensures { result ≡ taken_turn sent }
+    {
+        match sent {
+            Some(change) => Turn::Sent(change),
+            None => Turn::Quiet,
+        }
+    }
 }

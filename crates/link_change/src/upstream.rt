@@ -3,9 +3,10 @@
 ghost use Rattle.std.specs.Prelude.{◌≡◌, IfOk, Option, Bool};
 ghost use Rattle.addr4.specs.Prefixes.{Network};
 ghost use Rattle.addr4.specs.Places.{key_of};
-ghost use Rattle.link_change.specs.Rows.{Rows, Candidates, IsNextCandidate, CoversRows};
+ghost use Rattle.link_change.specs.Rows.{Rows, Candidates, IsNextCandidate, IsNextOfBoth, CoversRows};
 
 use addr4::{Memory, Place, Prefix};
+use std::cmp::Ordering;
 
 /// A link as the stage below sees it.
 pub trait Upstream {
@@ -26,4 +27,20 @@ pub trait Upstream {
     fn next_candidate(&self, after: &Place) -> Option<Prefix>
         ensures next { IsNextCandidate (candidates self.now) (key_of after.now) result }
         ensures covers { CoversRows (candidates self.now) (rows self.now) };
+}
+
+/// The lesser of the next candidates of two links beyond one place: the next candidate of both together.
+pub fn nearer(first: Option<Prefix>, second: Option<Prefix>) -> Option<Prefix>
+    ensures { IsNextOfBoth first second result }
+{
+    match first {
+        None => second,
+        Some(a) => match second {
+            None => Some(a),
+            Some(b) => match a.cmp(&b) {
+                Ordering::Greater => Some(b),
+                _ => Some(a),
+            },
+        },
+    }
 }
