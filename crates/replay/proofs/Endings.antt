@@ -1,14 +1,17 @@
 -- How a run ends.
-use Rattle.std.proofs.Common.{◌≡◌, ℕ, ◌<◌, Bool, true, false, List, [], ◌++◌, Option, Some, None, refl, sym, ap, ◌∙◌, inl, inr, subst, take, length, append_assoc}
+use Rattle.std.proofs.Common.{◌≡◌, ◌≢◌, ◌⊎◌, ⊎_elim, IfSome, ℕ, ◌<◌, Bool, true, false, List, [], ◌++◌, Option, Some, None, refl, sym, ap, ◌∙◌, inl, inr, subst, take, length, append_assoc}
 use Rattle.std.proofs.lemmas.List.{append-nil}
 use Rattle.std.proofs.Math.Seq.{take-append_seam, take-length}
 use Rattle.std.specs.List.{flat_map}
 use Rattle.std.specs.Io.KnownBytes.{Appends, Consumes, IsAtEnd, Keeps}
-use Rattle.replay.specs.Live.{Live}
-use Rattle.replay.specs.Output.{ended, lines_of, IsOutput, IsRefusedOutput, IsOutputOfFront, IsOutputOfEnded, IsFrontOfOutput}
+use Rattle.replay.specs.declared.status.Status.{Status}
+use Rattle.replay.specs.declared.status.Status.TheVariants as statuses
+use Rattle.replay.specs.Live.{Live, nothing_live}
+use Rattle.replay.specs.Output.{ended, lines_of, IsOutput, IsRefusedOutput, IsOutputOfFront, IsOutputOfEnded, IsFrontOfOutput, verdict, status_of}
 use Rattle.replay.specs.Stream.{HasStepped, GoesOn, IsFrontAt}
 use Rattle.replay.specs.Headline.{Took, Progress, ReadsAndWrites}
 use Rattle.replay.proofs.Cuts.{lines_done}
+use Rattle.replay.proofs.Runs.{verdict_accepted}
 use Rattle.replay.proofs.Known.{appends_nothing, consumes_nothing, consumes_then, consumes_kept}
 
 -- however the text goes on behind what was read
@@ -97,3 +100,38 @@ pub read_nothing : (a b c : Option (List ℕ)) (read buf : List ℕ) (count : �
 read_nothing a b c read buf count none p q =
     let q' : Consumes b c [] = subst (λ (n : ℕ). Consumes b c (take n buf)) none q in
     subst (λ (r : List ℕ). Consumes a c r) (append-nil read) (consumes_then a b c read [] p q')
+
+-- what holds of the whole text that was read
+pub of_all : (left0 left : Option (List ℕ)) (read : List ℕ) (P : List ℕ → Type 0) → Consumes left0 left read → IsAtEnd left → P read → IfSome left0 P
+of_all None left read P c e h = tt
+of_all (Some text) None read P c e h = absurd c
+of_all (Some text) (Some more) read P c e h = subst P (sym (c ∙ (ap (λ t. read ++ t) e ∙ append-nil read))) h
+
+-- what holds however the text goes on behind what was read
+pub of_read : (left0 left : Option (List ℕ)) (read : List ℕ) (P : List ℕ → Type 0) → Consumes left0 left read → ((more : List ℕ) → P (read ++ more)) → IfSome left0 P
+of_read None left read P c h = tt
+of_read (Some text) None read P c h = absurd c
+of_read (Some text) (Some more) read P c h = subst P (sym c) (h more)
+
+accepted_status : (text bytes : List ℕ) → IsOutput (lines_of text) bytes → statuses.Ok ≡ status_of (verdict text)
+accepted_status text bytes o = ap status_of (sym (verdict_accepted 1 nothing_live o.end (lines_of text) o.out o.run))
+
+pub refused_status : (text bytes : List ℕ) → IsRefusedOutput text bytes → statuses.Refused ≡ status_of (verdict text)
+refused_status text bytes o = ap status_of (sym o.refused)
+
+-- the end of the text, by its last line
+pub ended_status : (status : Status) (text written : List ℕ) → (status ≡ statuses.Ok → (more : List ℕ) × IsOutput (lines_of text) (written ++ more)) → (status ≡ statuses.Refused → (more : List ℕ) × IsRefusedOutput text (written ++ more)) → (status ≡ statuses.Ok) ⊎ (status ≡ statuses.Refused) → status ≡ status_of (verdict text)
+ended_status status text written f g = ⊎_elim (λ is. is ∙ accepted_status text _ (f is).1) (λ is. is ∙ refused_status text _ (g is).1)
+
+by_cases : (status asked : Status) → status ≢ statuses.Usage → status ≢ statuses.ReadFault → status ≢ statuses.WriteFault → ((status ≡ statuses.Ok) ⊎ (status ≡ statuses.Refused) → status ≡ asked) → (status ≡ asked) ⊎ (status ≡ statuses.Memory)
+by_cases statuses.Ok asked u r w d = inl (d (inl refl))
+by_cases statuses.Refused asked u r w d = inl (d (inr refl))
+by_cases statuses.Memory asked u r w d = inr refl
+by_cases statuses.Usage asked u r w d = absurd (u refl)
+by_cases statuses.ReadFault asked u r w d = absurd (r refl)
+by_cases statuses.WriteFault asked u r w d = absurd (w refl)
+
+-- no other status is possible where nothing failed
+pub text_decides : (status : Status) (left : Option (List ℕ)) → status ≢ statuses.Usage → status ≢ statuses.ReadFault → status ≢ statuses.WriteFault → ((status ≡ statuses.Ok) ⊎ (status ≡ statuses.Refused) → IfSome left (λ text. status ≡ status_of (verdict text))) → IfSome left (λ text. (status ≡ status_of (verdict text)) ⊎ (status ≡ statuses.Memory))
+text_decides status None u r w d = tt
+text_decides status (Some text) u r w d = by_cases status (status_of (verdict text)) u r w d

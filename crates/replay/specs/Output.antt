@@ -8,6 +8,8 @@ use Rattle.bgp_attr.specs.declared.speaker.Neighbour.{Neighbour}
 use Rattle.replay.specs.declared.event.Event.{Event}
 use Rattle.replay.specs.declared.event.Event.TheVariants.{Local, Peer, Up, Bgp, Idle, Show}
 use Rattle.replay.specs.declared.event.Code.{Code}
+use Rattle.replay.specs.declared.status.Status.{Status}
+use Rattle.replay.specs.declared.status.Status.TheVariants as statuses
 use Rattle.replay.specs.declared.line.Link.{Link}
 use Rattle.replay.specs.declared.line.Link.TheVariants.{In}
 use Rattle.replay.specs.declared.line.Entry.TheVariants.{Begins, Changes}
@@ -88,6 +90,11 @@ verdict_from n live (line ∷ lines) = refused_or n (judge n live line) (λ e. v
 -- the first refused line of a text and its code; none where the text is accepted
 abbrev pub verdict : List ℕ → Option (ℕ × Code)
 verdict text = verdict_from 1 nothing_live (lines_of text)
+
+-- the status that a verdict asks for
+abbrev pub status_of : Option (ℕ × Code) → Status
+status_of None = statuses.Ok
+status_of (Some refusal) = statuses.Refused
 
 -- The output for a text with a refused line: an allowed one for the lines before it, and then that it is refused.
 pub record IsRefusedOutput (text bytes : List ℕ) : Type 0 where

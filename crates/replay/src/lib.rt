@@ -24,12 +24,12 @@ mod status;
 mod stream;
 mod texts;
 
-ghost use Rattle.std.specs.Prelude.{◌≡◌, ◌≢◌, ◌++◌, ◌≤◌, ◌⊎◌, ℕ, List, map, true, false};
+ghost use Rattle.std.specs.Prelude.{◌≡◌, ◌≢◌, ◌++◌, ◌≤◌, ◌⊎◌, ℕ, List, map, true, false, IfSome};
 ghost use Rattle.std.specs.String.{string_bytes};
 ghost use Rattle.std.specs.Io.KnownBytes.{Appends, IsAtEnd};
 ghost use Rattle.edge_io.specs.Causes.{Rose};
 ghost use Rattle.replay.specs.Commands.{is_run, usage_line};
-ghost use Rattle.replay.specs.Output.{IsOutput, IsRefusedOutput, IsOutputOfFront, IsOutputOfEnded, IsFrontOfOutput, lines_of};
+ghost use Rattle.replay.specs.Output.{IsOutput, IsRefusedOutput, IsOutputOfFront, IsOutputOfEnded, IsFrontOfOutput, lines_of, verdict, status_of};
 ghost use Rattle.replay.specs.Headline.{Took, Writes, ReadsAndWrites, IsFrontOf};
 
 use crate::journal::Journal;
@@ -52,6 +52,7 @@ fn run<S: Source, K: Sink>(alloc: Global, source: &mut S, sink: &mut K) -> Statu
     ensures front { result ≡ Status.WriteFault → Took (S.left source.old) (K.taken sink.old) (K.taken sink.new) IsFrontOfOutput }
     ensures read_fault { result ≡ Status.ReadFault → Rose (S.faults source.old) (S.faults source.new) }
     ensures write_fault { result ≡ Status.WriteFault → Rose (K.faults sink.old) (K.faults sink.new) }
+    ensures by_text { (result ≡ Status.Ok) ⊎ (result ≡ Status.Refused) → IfSome (S.left source.old) (λ text. result ≡ status_of (verdict text)) }
     ensures no_usage { result ≢ Status.Usage }
 {
     let mut stream = Stream::new(alloc);
@@ -96,6 +97,12 @@ pub fn replay<S: Source, K: Sink>(
 
     // A line was refused, and the sink took an allowed output of the lines before it, and then that it was refused.
     ensures refused { result ≡ Status.Refused → Took (S.left source.old) (K.taken sink.old) (K.taken sink.new) IsRefusedOutput }
+
+    // The text alone decides between these two; and it decides alone where the words are a command, no count of faults
+    // rose and there was memory.
+    ensures by_text { (result ≡ Status.Ok) ⊎ (result ≡ Status.Refused) → IfSome (S.left source.old) (λ text. result ≡ status_of (verdict text)) }
+    ensures complete { is_run (map string_bytes words.now) ≡ true → ¬ Rose (S.faults source.old) (S.faults source.new) → ¬ Rose (K.faults sink.old) (K.faults sink.new) →
+        IfSome (S.left source.old) (λ text. (result ≡ status_of (verdict text)) ⊎ (result ≡ Status.Memory)) }
 
     // The words are no command, and the usage line was written.
     ensures usage { result ≡ Status.Usage → Appends (K.taken sink.old) (K.taken sink.new) usage_line }

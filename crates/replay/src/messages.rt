@@ -46,7 +46,7 @@ pub fn is_host(addr: Addr) -> bool
 fn numbers(alloc: Global, bytes: &[u8]) -> Result<Numbers, Stop>
     ensures { Answers (λ x. x) result (Some (numbers_of bytes.now)) }
 {
-    let mut items = Vec::new(alloc);
+    let mut items = Vec::with_capacity(alloc, bytes.len() / 2)?;
     let mut rest = bytes;
     while let [high, low, more @ ..] = rest {
         items.push(u32::from(*high) * 256 + u32::from(*low))?;
@@ -75,7 +75,8 @@ fn segment(alloc: Global, bytes: &[u8]) -> Result<(Segment, &[u8]), Stop>
 fn path(alloc: Global, bytes: &[u8]) -> Result<AsPath, Stop>
     ensures { Answers (λ x. x) result (path_of bytes.now) }
 {
-    let mut segments = Vec::new(alloc);
+    // Most paths have one segment, and a path is kept as long as its route lives.
+    let mut segments = Vec::with_capacity(alloc, bytes.len().min(1))?;
     let mut rest = bytes;
     while !rest.is_empty() {
         match segment(alloc, rest) {
@@ -150,7 +151,7 @@ fn prefix(bytes: &[u8]) -> Result<(Prefix, &[u8]), Stop>
 fn prefixes(alloc: Global, bytes: &[u8]) -> Result<Prefixes, Stop>
     ensures { Answers (λ x. x) result (prefixes_of bytes.now) }
 {
-    let mut found = Vec::new(alloc);
+    let mut found = Vec::with_capacity(alloc, bytes.len() / 4)?;
     let mut rest = bytes;
     while !rest.is_empty() {
         match prefix(rest) {

@@ -1,7 +1,8 @@
-use Rattle.std.proofs.Common.{arith, refl, ap, take, ◌++◌, Some}
+use Rattle.std.proofs.Common.{arith, refl, ap, ◌∙◌, ⊎_elim, take, ◌++◌, Some}
 use Rattle.replay.specs.Output.{IsOutput, IsRefusedOutput, IsFrontOfOutput, lines_of}
 use Rattle.replay.proofs.Known.{appends_then, consumes_then}
-use Rattle.replay.proofs.Endings.{took_read, took_all, took_front, took_ended, read_nothing}
+use Rattle.replay.specs.declared.status.Status.TheVariants as statuses
+use Rattle.replay.proofs.Endings.{took_read, took_all, took_front, took_ended, read_nothing, of_all, of_read, ended_status, refused_status}
 use Rattle.replay.proofs.run.Goals as goal
 
 pub returns-then-count-eq0-clause-ok : goal.returns-then-count-eq0-clause-ok
@@ -73,3 +74,18 @@ reading-preserved g c =
       source_later = omega (arith, c.reading.invariant.source_later, c.in-Ok.ensures.cause.later);
       sink_later = omega (arith, c.reading.invariant.sink_later, c.in_default-turn.ensures.later);
     }
+
+pub returns-then-count-eq0-clause-by_text : goal.returns-then-count-eq0-clause-by_text
+returns-then-count-eq0-clause-by_text g c = λ is.
+    let p = c.reading.invariant.progress in
+    let bytes = c.in-Ok.ensures.bytes in
+    of_all _ _ p.read _ (read_nothing _ _ _ p.read _ _ c.if-count-eq0.true p.consumed bytes.0) (bytes.1 c.if-count-eq0.true (omega arith))
+    (ended_status c.finish.result p.read p.written (λ ok. let w = c.finish.ensures.ok ok p.read p.written p.stepped in (w.0, w.2)) (λ no'. let w = c.finish.ensures.refused no' p.read p.written p.stepped in (w.0, w.2)) is)
+
+pub returns-in-Some-clause-by_text : goal.returns-in-Some-clause-by_text
+returns-in-Some-clause-by_text g c = ⊎_elim
+    (λ ok. absurd (c.in-Some.ensures.no_other.0 (ap Some ok)))
+    (λ is.
+        let p = c.reading.invariant.progress in
+        let w = c.in-Some.ensures.refused (ap Some is) p.read p.written p.stepped in
+        of_read _ _ (p.read ++ take c.in-Ok.count c.read.new.buf) _ (consumes_then _ _ _ _ _ p.consumed c.in-Ok.ensures.bytes.0) (λ more. is ∙ refused_status _ _ (w.2 more)))
