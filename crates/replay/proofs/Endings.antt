@@ -49,11 +49,17 @@ took_front left0 left now taken0 taken taken' number live pending piece p c same
 
 -- a read that failed
 pub took_ended : (left0 left now taken0 taken : Option (List ℕ)) (number : ℕ) (live : Live) (pending : List ℕ) → length pending < 16386 → Progress left0 left taken0 taken number live pending → Keeps left now → ReadsAndWrites left0 now taken0 taken IsOutputOfEnded
-took_ended left0 left now taken0 taken number live pending short p same = (p.read, p.written, consumes_kept left0 left now p.read p.consumed same, p.appended, record {
-  lines = p.stepped.done;
-  ended = record { part = pending; whole = p.stepped.text; each = p.stepped.each; last = p.stepped.part; short = short };
-  output = record { out = p.stepped.out; end = live; run = p.stepped.run; lawful = p.stepped.lawful; text = p.stepped.written };
-})
+took_ended left0 left now taken0 taken number live pending short p same = (
+  p.read,
+  p.written,
+  consumes_kept left0 left now p.read p.consumed same,
+  p.appended,
+  record {
+    lines = p.stepped.done;
+    ended = record { part = pending; whole = p.stepped.text; each = p.stepped.each; last = p.stepped.part; short = short };
+    output = record { out = p.stepped.out; end = live; run = p.stepped.run; lawful = p.stepped.lawful; text = p.stepped.written };
+  },
+)
 
 -- a front of what was to be written for lines that were stepped, or refused
 pub written_front : (accepted : Bool) (read taken : List ℕ) (piece before now more rest : List ℕ) (old new : ℕ × Live × List ℕ) → GoesOn accepted old piece before now new → HasStepped read old.0 old.1 old.2 (taken ++ before) → now ≡ more ++ rest → IsFrontAt (read ++ piece) (taken ++ more)

@@ -86,6 +86,6 @@ pub returns-in-Some-clause-by_text : goal.returns-in-Some-clause-by_text
 returns-in-Some-clause-by_text g c = ⊎_elim
     (λ ok. absurd (c.in-Some.ensures.no_other.0 (ap Some ok)))
     (λ is.
-        let p = c.reading.invariant.progress in
-        let w = c.in-Some.ensures.refused (ap Some is) p.read p.written p.stepped in
-        of_read _ _ (p.read ++ take c.in-Ok.count c.read.new.buf) _ (consumes_then _ _ _ _ _ p.consumed c.in-Ok.ensures.bytes.0) (λ more. is ∙ refused_status _ _ (w.2 more)))
+    let p = c.reading.invariant.progress in
+    let w = c.in-Some.ensures.refused (ap Some is) p.read p.written p.stepped in
+    of_read _ _ (p.read ++ take c.in-Ok.count c.read.new.buf) _ (consumes_then _ _ _ _ _ p.consumed c.in-Ok.ensures.bytes.0) (λ more. is ∙ refused_status _ _ (w.2 more)))
