@@ -19,13 +19,13 @@ pub announced_row : (old : Rows Attrs) (a : Attrs) (p : Network) → is_reserved
 announced_row old a p outside = ap (λ b. cond b old (with_row old p a)) outside
 
 -- the route that stands, announced again
-pub announces_same : (old : Rows Attrs) (a : Attrs) (p : Network) (out : List ℕ) → is_reserved p ≡ false → AreInOrder old → row_at old p ≡ Some a → Announces old a p out out old
-announces_same old a p out outside order at =
-    let same : announced old a p ≡ old = announced_row old a p outside ∙ with_row_same p a old order at in
+pub announces_same : (old : Rows Attrs) (a : Attrs) (p : Network) (out : List ℕ) (new : Rows Attrs) → is_reserved p ≡ false → AreInOrder old → row_at old p ≡ Some a → new ≡ with_row old p a → Announces old a p out out new
+announces_same old a p out new outside order at routes =
+    let row = announced_row old a p outside in
     record {
       lines = [];
-      routes = sym same;
-      fall = λ peer. record { at = tt; once = omega arith; walk = ap (links_of (Some peer)) same };
+      routes = routes ∙ sym row;
+      fall = λ peer. record { at = tt; once = omega arith; walk = ap (links_of (Some peer)) (row ∙ with_row_same p a old order at) };
       written = sym (append-nil out);
     }
 

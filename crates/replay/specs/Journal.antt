@@ -1,4 +1,4 @@
--- The journal: links that begin and change, and what each entry asks of the maps before it (NSDI 2005, section 5.1).
+-- The journal: links that begin and change, and what each entry asks of the maps before it (NSDI 2005, "Designing Extensible IP Router Software", section 5).
 use Rattle.std.specs.Prelude.{◌≡◌, ◌≢◌, Bool, ◌==◌, if◌then◌else◌, List, [], ◌∷◌, Option, Some, None}
 use Rattle.bgp_attr.specs.declared.attrs.Attrs.{Attrs}
 use Rattle.replay.specs.declared.line.Link.{Link}

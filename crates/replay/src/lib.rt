@@ -108,6 +108,7 @@ pub fn replay<S: Source, K: Sink>(
     ensures usage { result ≡ Status.Usage → Appends (K.taken sink.old) (K.taken sink.new) usage_line }
     ensures command { is_run (map string_bytes words.now) ≡ true → result ≢ Status.Usage }
     ensures no_command { is_run (map string_bytes words.now) ≡ false → (result ≡ Status.Usage) ⊎ (result ≡ Status.WriteFault) }
+    ensures unread { is_run (map string_bytes words.now) ≡ false → source.new ≡ source.old }
 
     // A read failed, and the sink took an allowed output of the lines that had ended in what was read.
     ensures read_fault { result ≡ Status.ReadFault → Rose (S.faults source.old) (S.faults source.new) }

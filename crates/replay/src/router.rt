@@ -1,7 +1,6 @@
 //! The state of the router, and what an event does to it.
 
 ghost use Rattle.std.specs.Prelude.{◌≡◌, ◌++◌, ◌<◌, ◌≤◌, ◌^◌, ◌↔◌, List, OnOk, IfOk, Option, Some, None, length, IsTrue, IsSome, true};
-ghost use Rattle.std.specs.Option.{option_copied};
 ghost use Rattle.addr4.specs.Prefixes.{Covers};
 ghost use Rattle.replay.specs.declared.line.Line.TheVariants as lines;
 ghost use Rattle.replay.specs.declared.line.Entry.TheVariants as entries;
@@ -55,19 +54,9 @@ fn is_reserved(p: Prefix) -> bool
     }
 }
 
-/// The row that stands, if any.
-fn copied(row: Option<&SharedAttrs>) -> Result<Option<SharedAttrs>, Memory>
-    ensures { IfOk result (λ copy. copy ≡ option_copied row.entry) }
-{
-    match row {
-        Some(attrs) => Ok(Some(attrs.copy()?)),
-        None => Ok(None),
-    }
-}
-
-/// Whether the row that stands, if any, has these attributes.
-fn is_same(row: Option<&SharedAttrs>, attrs: &SharedAttrs) -> bool
-    ensures { IsTrue result ↔ (option_copied row.entry ≡ Some attrs.now) }
+/// Whether a row stands, with these attributes.
+fn is_same(row: &Option<SharedAttrs>, attrs: &SharedAttrs) -> bool
+    ensures { IsTrue result ↔ (row.now ≡ Some attrs.now) }
 {
     match row {
         Some(row) => row.same(attrs),
@@ -88,19 +77,17 @@ fn announce(
     if is_reserved(prefix) {
         return Ok(());
     }
-    let row = routes.get(prefix);
-    if is_same(row, attrs) {
+    let before = routes.insert(prefix, attrs.copy()?)?;
+    if is_same(&before, attrs) {
         return Ok(());
     }
-    let before = copied(row)?;
-    let after = attrs.copy()?;
+    let after = Some(attrs.copy()?);
     journal.push_line(&Line::Journal(Entry::Changes(Change {
         link: IN,
         prefix,
         before,
-        after: Some(after),
+        after,
     })))?;
-    routes.insert(prefix, attrs.copy()?)?;
     Ok(())
 }
 

@@ -1,7 +1,6 @@
 //! The live routes of a peer.
 
-ghost use Rattle.std.specs.Prelude.{◌≡◌, ◌++◌, List, [], length, OnOk, OnErr, Option};
-ghost use Rattle.std.specs.Option.{option_copied};
+ghost use Rattle.std.specs.Prelude.{◌≡◌, ◌++◌, List, [], length, OnOk, IfOk, Option};
 ghost use Rattle.std.specs.List.{flat_map};
 ghost use Rattle.replay.specs.declared.line.Line.TheVariants as lines;
 ghost use Rattle.replay.specs.Rows.{row_at, with_row, AreInOrder};
@@ -45,20 +44,15 @@ impl Routes {
         self.map.len()
     }
 
-    pub fn get(&self, p: Prefix) -> Option<&SharedAttrs>
-        ensures value { option_copied result ≡ row_at self.now p }
-        ensures order { AreInOrder self.now }
+    /// Puts a row at a prefix, and answers the one that stood there.
+    pub fn insert(&mut self, p: Prefix, attrs: SharedAttrs) -> Result<Option<SharedAttrs>, Memory>
+        ensures old { IfOk result (λ old. old ≡ row_at self.old p) }
+        ensures new { OnOk result (self.new ≡ with_row self.old p attrs) }
+        ensures order { AreInOrder self.old }
     {
         let _count = self.map.len();
-        self.map.get(&p)
-    }
-
-    pub fn insert(&mut self, p: Prefix, attrs: SharedAttrs) -> Result<(), Memory>
-        ensures ok { OnOk result (self.new ≡ with_row self.old p attrs) }
-        ensures err { OnErr result (self.new ≡ self.old) }
-    {
-        self.map.insert(p, attrs)?;
-        Ok(())
+        let old = self.map.insert(p, attrs)?;
+        Ok(old)
     }
 
     /// Appends a line for each row, in order of prefix.
