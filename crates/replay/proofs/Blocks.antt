@@ -36,7 +36,7 @@ pub steps_idle : (live : Live) (out middle now : List ℕ) → middle ≡ out ++
 steps_idle live out middle now e f = record {
   lines = Bound (bound live) ∷ IdleLine 0 ∷ [];
   state = refl;
-  block = (0, omega arith, refl);
+  block = refl;
   written = f ∙ (ap (λ t. t ++ line_text (IdleLine 0)) e ∙ (append_assoc out (line_text (Bound (bound live))) (line_text (IdleLine 0)) ∙ ap (λ t. out ++ t) (text_of_two (Bound (bound live)) (IdleLine 0))));
 }
 

@@ -71,7 +71,7 @@ block_walk live (Peer k) lines r ok b =
     rw b (links_at (after live (Peer k)), begins live.peer (neighbour_of live.speaker k) live.routes none (r.empty none), refl)
 block_walk live Up lines r ok b = rw b refl
 block_walk live (Bgp u) lines r ok b = falls_walk live.peer live.routes u.attrs u.announced lines b
-block_walk live Idle lines r ok b = rw b.2 refl
+block_walk live Idle lines r ok b = rw b refl
 block_walk live Show lines r ok b = rw (b, no_entries (In 1) live.routes (length live.routes)) refl
 
 -- one more line

@@ -48,8 +48,8 @@ Block live (Local s) lines = lines ≡ []
 Block live (Peer s) lines = lines ≡ Journal (Begins (In 1)) ∷ []
 Block live Up lines = lines ≡ []
 Block live (Bgp u) lines = Falls live.peer live.routes u.attrs u.announced lines
--- the turns are announced, and are no more than announced
-Block live Idle lines = (turns : ℕ) × (turns ≤ bound live) × (lines ≡ Bound (bound live) ∷ IdleLine turns ∷ [])
+-- there is no task yet, so no turn is taken
+Block live Idle lines = lines ≡ Bound (bound live) ∷ IdleLine 0 ∷ []
 Block live Show lines = lines ≡ shown (In 1) live.routes
 
 -- Lines from number n on are accepted, and this is written, from one live state to another. The journal of each event

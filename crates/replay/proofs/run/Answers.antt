@@ -1,8 +1,7 @@
 use Rattle.std.proofs.Common.{arith, refl, ap, ◌∙◌, ⊎_elim, take, ◌++◌, Some}
 use Rattle.replay.specs.Output.{IsOutput, IsRefusedOutput, IsFrontOfOutput, lines_of}
 use Rattle.replay.proofs.Known.{appends_then, consumes_then}
-use Rattle.replay.specs.declared.status.Status.TheVariants as statuses
-use Rattle.replay.proofs.Endings.{took_read, took_all, took_front, took_ended, read_nothing, of_all, of_read, ended_status, refused_status}
+use Rattle.replay.proofs.Endings.{took_read, took_all, took_front, read_nothing, of_all, of_read, ended_status, refused_status}
 use Rattle.replay.proofs.run.Goals as goal
 
 pub returns-then-count-eq0-clause-ok : goal.returns-then-count-eq0-clause-ok

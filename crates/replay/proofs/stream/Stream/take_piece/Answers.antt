@@ -1,8 +1,7 @@
-use Rattle.std.proofs.Common.{◌≡◌, ◌∷◌, ◌++◌, [], List, ℕ, Bool, option_map, subst, ap, ◌∙◌}
-use Rattle.std.proofs.lemmas.List.{append-nil}
-use Rattle.replay.specs.Stream.{GoesOn, HasTaken, after_part}
+use Rattle.std.proofs.Common.{◌≡◌, ◌∷◌, ◌++◌, [], Bool, option_map, subst, ap}
+use Rattle.replay.specs.Stream.{GoesOn, after_part}
 use Rattle.replay.specs.Streams.{state}
-use Rattle.replay.proofs.GoingOn.{taken_more, taken_refused, taken_all, nearer_all}
+use Rattle.replay.proofs.GoingOn.{taken_more, taken_refused}
 use Rattle.replay.proofs.stream.Stream.take_piece.Goals as goal
 
 pub returns-then-not-branch-clause-goes_on : goal.returns-then-not-branch-clause-goes_on
