@@ -1,0 +1,13 @@
+pub mod Readers
+pub mod Words
+pub mod Joins
+pub mod Order
+pub mod Changed
+pub mod Blocks
+pub mod Lines
+pub mod Runs
+pub mod Cuts
+pub mod Pieces
+pub mod GoingOn
+pub mod Known
+pub mod Endings

@@ -1,0 +1,43 @@
+//! The replay program: the words of its command line, standard input and standard output.
+//!
+//! All that it does is the call of [`replay`]; here are the two adapters that make a source of standard input and a sink
+//! of standard output, and the exit status of each answer. Nothing is written to standard error.
+#![tactic(auto)]
+
+mod streams;
+
+use crate::streams::{Reading, Writing};
+use replay::{Status, replay};
+use std::env;
+use std::process::ExitCode;
+
+/// The exit status of an answer.
+fn code(status: Status) -> u8 {
+    match status {
+        Status::Ok => 0,
+        Status::Usage => 2,
+        Status::Refused => 3,
+        Status::ReadFault => 4,
+        Status::WriteFault => 5,
+        Status::Memory => 6,
+    }
+}
+
+fn main(rt: HostRuntime) -> ExitCode {
+    let alloc = rt.alloc();
+    let mut words = Vec::new(alloc);
+    if let Ok(args) = env::args(&rt) {
+        for word in args {
+            if words.push(word).is_err() {
+                return ExitCode::from(code(Status::Memory));
+            }
+        }
+    }
+    let mut source = Reading::new(rt.stdin());
+    let mut sink = Writing::new(rt.stdout());
+    let status = replay(alloc, words.as_slice(), &mut source, &mut sink);
+    ExitCode::from(code(status))
+}
+
+#[cfg(test)]
+mod tests;
