@@ -10,3 +10,7 @@ pub mod External
 pub mod RouteLaws
 pub mod MessageLaws
 pub mod SpellingLemmas
+pub mod SpelledNumbers
+pub mod SpelledAttributes
+pub mod SpelledRoutes
+pub mod SpelledMessages

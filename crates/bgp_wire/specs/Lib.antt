@@ -7,3 +7,4 @@ pub mod Routes
 pub mod Updates
 pub mod Grammar
 pub mod Spelling
+pub mod Readable
