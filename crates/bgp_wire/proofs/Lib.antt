@@ -14,3 +14,5 @@ pub mod SpelledNumbers
 pub mod SpelledAttributes
 pub mod SpelledRoutes
 pub mod SpelledMessages
+pub mod ReadableLaws
+pub mod LengthLaws

@@ -186,7 +186,7 @@ not_recognized kind k is some most = elim (unrecognized_kind kind is) [
   | inr above ↦ unequal kind k (λ e. absurd (omega arith))
 ]
 
-no_rule : (as4 : Bool) (kind : ℕ) → is_unrecognized kind ≡ true → rule_of as4 kind ≡ None
+pub no_rule : (as4 : Bool) (kind : ℕ) → is_unrecognized kind ≡ true → rule_of as4 kind ≡ None
 unfolding rule_of
 no_rule as4 kind is = rw (
   not_recognized kind 1 is (omega arith) (omega arith),

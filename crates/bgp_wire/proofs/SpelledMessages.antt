@@ -81,7 +81,7 @@ withdrawal_is_read p external n is =
 octets-append : (xs ys : List Attribute) → octets_of (xs ++ ys) ≡ octets_of xs ++ octets_of ys
 octets-append xs ys = flat_map-append (λ (a : Attribute). a.octets) xs ys
 
-length-octets-append : (xs ys : List Attribute) → length (octets_of (xs ++ ys)) ≡ length (octets_of xs) + length (octets_of ys)
+pub length-octets-append : (xs ys : List Attribute) → length (octets_of (xs ++ ys)) ≡ length (octets_of xs) + length (octets_of ys)
 length-octets-append xs ys = ap length (octets-append xs ys) ∙ length-append (octets_of xs) (octets_of ys)
 
 pub length-spelled : (long : Bool) (flags kind : ℕ) (value : List ℕ) → length (spelled_octets long flags kind value) ≡ cond long 4 3 + length value
@@ -114,7 +114,7 @@ unrecognized_fit n (u ∷ us) lt = by_test (eqb u.kind 0) lt (λ lt. unrecognize
         let f = front (unrecognized_attributes false us) in
         all_cons (λ (u : Unrecognized). length u.value < n) u us (omega (arith, f, lt)) (later (omega (arith, f, lt)))
 
-path_within : (as4 : Bool) (a : Attrs) → length (path_octets (width_of as4) a.path) ≤ length (octets_of (mandatory_attributes as4 a))
+pub path_within : (as4 : Bool) (a : Attrs) → length (path_octets (width_of as4) a.path) ≤ length (octets_of (mandatory_attributes as4 a))
 path_within as4 a =
     let o = spelled 64 1 (code_of_origin a.origin ∷ []) in
     let s = spelled 64 2 (path_octets (width_of as4) a.path) in
