@@ -16,3 +16,4 @@ pub mod SpelledRoutes
 pub mod SpelledMessages
 pub mod ReadableLaws
 pub mod LengthLaws
+pub mod SaidAgain

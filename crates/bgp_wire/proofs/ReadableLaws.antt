@@ -48,11 +48,11 @@ pub every_append : {A : Type 0} (P : A → Type 0) (xs ys : List A) → Every P 
 every_append P [] ys first later = later
 every_append P (x ∷ xs) ys first later = (first.0, every_append P xs ys first.1 later)
 
-every_front : {A : Type 0} (P : A → Type 0) (xs ys : List A) → Every P (xs ++ ys) → Every P xs
+pub every_front : {A : Type 0} (P : A → Type 0) (xs ys : List A) → Every P (xs ++ ys) → Every P xs
 every_front P [] ys every = tt
 every_front P (x ∷ xs) ys every = (every.0, every_front P xs ys every.1)
 
-every_back : {A : Type 0} (P : A → Type 0) (xs ys : List A) → Every P (xs ++ ys) → Every P ys
+pub every_back : {A : Type 0} (P : A → Type 0) (xs ys : List A) → Every P (xs ++ ys) → Every P ys
 every_back P [] ys every = every
 every_back P (x ∷ xs) ys every = every_back P xs ys every.1
 

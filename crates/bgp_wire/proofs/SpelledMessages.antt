@@ -26,7 +26,7 @@ use Rattle.bgp_wire.proofs.SpelledRoutes.{attrs_are, has_mandatory}
 two_back : (n : ℕ) → n < 65536 → n / 256 % 256 * 256 + n % 256 ≡ n
 two_back n lt = omega arith
 
-length-framed : (kind : ℕ) (body : List ℕ) → length (framed kind body) ≡ 19 + length body
+pub length-framed : (kind : ℕ) (body : List ℕ) → length (framed kind body) ≡ 19 + length body
 length-framed kind body = omega arith
 
 framed_is : (kind : ℕ) (body : List ℕ) → length (framed kind body) ≤ 4096 → IsFrame (framed kind body) kind body
@@ -37,7 +37,7 @@ framed_is kind body top =
 fields_parts : (w a n : List ℕ) → fields_octets w a n ≡ (length w / 256 % 256) ∷ (length w % 256) ∷ (w ++ ((length a / 256 % 256) ∷ (length a % 256) ∷ (a ++ n)))
 fields_parts w a n = simp append_assoc
 
-length-fields : (w a n : List ℕ) → length (fields_octets w a n) ≡ 4 + length w + length a + length n
+pub length-fields : (w a n : List ℕ) → length (fields_octets w a n) ≡ 4 + length w + length a + length n
 length-fields w a n = omega (arith, ap length (fields_parts w a n), length-append w ((length a / 256 % 256) ∷ (length a % 256) ∷ (a ++ n)), length-append a n)
 
 fields_frame : (w a n : List ℕ) → length (framed 2 (fields_octets w a n)) ≤ 4096

@@ -1,5 +1,5 @@
 -- What can be said in an UPDATE so that a peer reads it as it was said.
-use Rattle.std.specs.Prelude.{◌≡◌, ℕ, ◌<◌, ◌≤◌, ◌/◌, ◌^◌, List, [], ◌∷◌, length, All, Some, None, Bool, true, false}
+use Rattle.std.specs.Prelude.{◌≡◌, ℕ, ◌+◌, ◌<◌, ◌≤◌, ◌/◌, ◌^◌, List, [], ◌∷◌, length, All, Some, None, Bool, true, false}
 use Rattle.std.specs.Option.{ForSome}
 use Rattle.addr4.specs.Prefixes.{Network, IsMasked}
 use Rattle.bgp_attr.specs.declared.attrs.Attrs.{Attrs}
@@ -43,3 +43,17 @@ withdrawal n = record { withdrawn = n ∷ []; announced = []; attrs = None }
 -- one prefix is announced
 abbrev pub announcement : Network → Attrs → Update
 announcement n a = record { withdrawn = []; announced = n ∷ []; attrs = Some a }
+
+-- an UPDATE that says only what a peer reads as it is said
+pub record IsReadableUpdate (p : Profile) (external : Bool) (u : Update) : Type 0 where
+  pub withdrawn : All IsNetwork u.withdrawn
+  pub announced : All IsNetwork u.announced
+  pub attrs : ForSome u.attrs (IsReadable p external)
+
+-- octets, as numbers
+abbrev pub AreOctets : List ℕ → Type 0
+AreOctets bytes = All (λ b. b < 256) bytes
+
+-- one prefix in all is withdrawn or announced
+abbrev pub HasOnePrefix : Update → Type 0
+HasOnePrefix u = length u.withdrawn + length u.announced ≡ 1

@@ -6,7 +6,10 @@ ghost use Rattle.byteorder.specs.Endian.{big_bytes};
 ghost use Rattle.bgp_wire.specs.Spelling.{FitsAttrs, fields_octets, framed, notification_octets, prefixes_octets, attrs_octets, update_octets};
 
 mod attributes;
+mod laws;
 mod numbers;
+
+pub use laws::{announcements_are_read, what_was_read_is_readable, what_was_read_is_written_and_read_again, withdrawals_are_read};
 
 use crate::message::{Prefixes, Update};
 use crate::writing::attributes::push_attrs;
