@@ -17,3 +17,4 @@ pub mod SpelledMessages
 pub mod ReadableLaws
 pub mod LengthLaws
 pub mod SaidAgain
+pub mod Prepended

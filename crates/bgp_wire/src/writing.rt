@@ -9,7 +9,7 @@ mod attributes;
 mod laws;
 mod numbers;
 
-pub use laws::{announcements_are_read, what_was_read_is_readable, what_was_read_is_written_and_read_again, withdrawals_are_read};
+pub use laws::{announcements_are_read, prepended_paths_are_readable, what_is_readable_fits, what_was_read_is_readable, what_was_read_is_written_and_read_again, withdrawals_are_read};
 
 use crate::message::{Prefixes, Update};
 use crate::writing::attributes::push_attrs;
