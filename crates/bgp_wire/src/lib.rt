@@ -5,6 +5,9 @@ mod attributes;
 mod laws;
 mod message;
 mod notice;
+mod numbers;
+mod path;
+mod prefixes;
 
 pub use laws::{one_fault_for_both, one_of_message_and_fault};
 pub use message::{Message, Prefixes, Update};
