@@ -9,3 +9,5 @@ pub mod FrameLaws
 pub mod External
 pub mod RouteLaws
 pub mod MessageLaws
+pub mod FoundLaws
+pub mod GatherLaws

@@ -2,6 +2,7 @@
 #![tactic(auto)]
 
 mod attributes;
+mod found;
 mod laws;
 mod message;
 mod notice;
