@@ -9,6 +9,8 @@ pub mod FrameLaws
 pub mod External
 pub mod RouteLaws
 pub mod MessageLaws
+pub mod FoundLaws
+pub mod GatherLaws
 pub mod SpellingLemmas
 pub mod SpelledNumbers
 pub mod SpelledAttributes

@@ -53,7 +53,7 @@ Holds p external bytes opening = (body : List ℕ) × IsFrame bytes 1 body × (1
 
 -- the prefixes that aren't among the others
 abbrev pub without : List Network → List Network → List Network
-without others ps = filter (λ p. not (list_any (same_prefix p) others)) ps
+without others ps = filter (λ p. not (list_any (λ other. same_prefix other p) others)) ps
 
 -- attributes are there exactly where a prefix is announced
 abbrev pub AreAttrsFor : Bool → Bool → List Attribute → List Network → Option Attrs → Type 0

@@ -2,9 +2,13 @@
 #![tactic(auto)]
 
 mod attributes;
+mod found;
 mod laws;
 mod message;
 mod notice;
+mod numbers;
+mod path;
+mod prefixes;
 mod writing;
 
 pub use laws::{one_fault_for_both, one_of_message_and_fault};
