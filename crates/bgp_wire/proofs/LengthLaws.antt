@@ -227,10 +227,10 @@ sent_no_longer p external bytes steps runs attrs are octets is =
         let P = IsNoLonger (kept_by steps runs).0 in
         every_append P _ _
         (every_append P _ _
-         (every_append P _ _
-          (every_optional P (λ n. spelled 128 4 (big_bytes 4 n)) attrs.med (λ n e. four 4 128 n true false refl (sym is.med ∙ e)))
-          (every_optional P (λ n. spelled 64 5 (big_bytes 4 n)) attrs.local_pref (λ n e. four 5 64 n false true refl (local_pref external (number_of 5 (kept_by steps runs).0) n (sym is.local_pref ∙ e)))))
-         (every_if P (spelled 64 6 []) attrs.atomic atomic))
+        (every_append P _ _
+        (every_optional P (λ n. spelled 128 4 (big_bytes 4 n)) attrs.med (λ n e. four 4 128 n true false refl (sym is.med ∙ e)))
+        (every_optional P (λ n. spelled 64 5 (big_bytes 4 n)) attrs.local_pref (λ n e. four 5 64 n false true refl (local_pref external (number_of 5 (kept_by steps runs).0) n (sym is.local_pref ∙ e)))))
+        (every_if P (spelled 64 6 []) attrs.atomic atomic))
         (every_optional P (λ g. spelled (aggregator_flags g.partial) 7 (aggregator_value p.as4 g)) attrs.aggregator aggregator)
 
 value_within : (long : Bool) (n : ℕ) → n ≤ cond long 4 3 + n
@@ -247,8 +247,8 @@ lengths_fit p external bytes steps runs attrs are octets is fits =
     record {
       path = omega (arith, length-path p.as4 s.0.value attrs.path s.2, path, value_within (is_long s.0.value) (length s.0.value));
       unrecognized = every_all (λ (u : Unrecognized). length u.value < 65536) attrs.unrecognized (each_type (λ (u : Unrecognized). length u.value < 65536) 0 attrs.unrecognized is.unrecognized.order (λ u e.
-        let k = unrecognized_held p external bytes steps runs are octets attrs.unrecognized is.unrecognized u.kind u.value e in
-        omega (arith, weight_within u.kind kept k.1.0 k.1.1, value_within (is_long k.1.0.value) (length k.1.0.value), ap length k.1.2, whole, fits)));
+          let k = unrecognized_held p external bytes steps runs are octets attrs.unrecognized is.unrecognized u.kind u.value e in
+          omega (arith, weight_within u.kind kept k.1.0 k.1.1, value_within (is_long k.1.0.value) (length k.1.0.value), ap length k.1.2, whole, fits)));
     }
 
 -- the attributes that are sent are no longer than those that were read

@@ -289,10 +289,10 @@ sound_further : (p : Profile) (external : Bool) (a : Attrs) → IsReadable p ext
 sound_further p external a is =
     sound_append p external 4 7 8 _ _
     (sound_append p external 4 6 7 _ _
-     (sound_append p external 4 5 6 _ _
-      (sound_optional p external 4 (λ n. spelled 128 4 (big_bytes 4 n)) a.med (λ n e. (refl, sound_med p external n)))
-      (sound_optional p external 5 (λ n. spelled 64 5 (big_bytes 4 n)) a.local_pref (λ n e. (refl, sound_local_pref p external n (is.local_pref n e).0))))
-     (sound_if p external 6 (spelled 64 6 []) a.atomic refl (sound_atomic p external)))
+    (sound_append p external 4 5 6 _ _
+    (sound_optional p external 4 (λ n. spelled 128 4 (big_bytes 4 n)) a.med (λ n e. (refl, sound_med p external n)))
+    (sound_optional p external 5 (λ n. spelled 64 5 (big_bytes 4 n)) a.local_pref (λ n e. (refl, sound_local_pref p external n (is.local_pref n e).0))))
+    (sound_if p external 6 (spelled 64 6 []) a.atomic refl (sound_atomic p external)))
     (sound_optional p external 7 (λ g. spelled (aggregator_flags g.partial) 7 (aggregator_value p.as4 g)) a.aggregator (λ g e. (refl, sound_aggregator p external g)))
 
 pub sound_sent : (p : Profile) (external : Bool) (a : Attrs) → IsReadable p external a → FitLengths p.as4 a → (end : ℕ) × AreSound p external 0 end (sent_attributes p.as4 a)
@@ -302,12 +302,11 @@ sound_sent p external a is fit =
       omega arith,
       sound_origin p external a.origin,
       (omega arith, sound_path p external a.path is.path fit.path, (omega arith, sound_next_hop p external a.next_hop is.next_hop, omega arith)),
-    ) in
-    (
+    ) in (
       others.0,
       sound_append p external 0 8 others.0 _ _
-      (sound_append p external 0 4 8 _ _ (sound_append p external 0 1 4 _ _ (sound_first p external a.unrecognized is.order is.types fit.unrecognized) mandatory) (sound_further p external a is))
-      others.1,
+          (sound_append p external 0 4 8 _ _ (sound_append p external 0 1 4 _ _ (sound_first p external a.unrecognized is.order is.types fit.unrecognized) mandatory) (sound_further p external a is))
+          others.1,
     )
 
 -- ---- they are read one after the other

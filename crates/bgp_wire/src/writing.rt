@@ -8,14 +8,18 @@ ghost use Rattle.bgp_wire.specs.Spelling.{FitsAttrs, fields_octets, framed, noti
 mod attributes;
 mod laws;
 mod numbers;
-
-pub use laws::{announcements_are_read, prepended_paths_are_readable, what_is_readable_fits, what_was_read_is_readable, what_was_read_is_written_and_read_again, withdrawals_are_read};
+#[cfg(test)]
+mod tests;
 
 use crate::message::{Prefixes, Update};
 use crate::writing::attributes::push_attrs;
 use crate::writing::numbers::{push_prefix, push_u16};
 use addr4::Memory;
 use bgp_attr::{Attrs, Profile};
+pub use laws::{
+    announcements_are_read, prepended_paths_are_readable, what_is_readable_fits,
+    what_was_read_is_readable, what_was_read_is_written_and_read_again, withdrawals_are_read,
+};
 use std::alloc::Global;
 
 /// The most octets that a message has (RFC 4271, section 4.1).

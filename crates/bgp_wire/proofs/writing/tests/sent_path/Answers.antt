@@ -1,0 +1,4 @@
+use Rattle.bgp_wire.proofs.writing.tests.sent_path.Goals as goal
+
+pub returns : goal.returns
+returns c = ?
