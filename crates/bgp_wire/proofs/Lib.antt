@@ -11,3 +11,4 @@ pub mod RouteLaws
 pub mod MessageLaws
 pub mod FoundLaws
 pub mod GatherLaws
+pub mod ReadingLaws

@@ -4,6 +4,6 @@ pub mod Prefixes
 pub mod Paths
 pub mod Attributes
 pub mod Routes
-pub mod Found
 pub mod Updates
 pub mod Grammar
+pub mod Found
