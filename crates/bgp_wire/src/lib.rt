@@ -16,3 +16,6 @@ pub use laws::{one_fault_for_both, one_of_message_and_fault};
 pub use message::{Message, Prefixes, Update};
 pub use notice::Notice;
 pub use reading::read_message;
+
+#[cfg(test)]
+mod tests;
