@@ -11,6 +11,7 @@ pub mod RouteLaws
 pub mod MessageLaws
 pub mod FoundLaws
 pub mod GatherLaws
+pub mod ReadingLaws
 pub mod SpellingLemmas
 pub mod SpelledNumbers
 pub mod SpelledAttributes

@@ -279,7 +279,7 @@ unrecognized_made p external seen bytes ((b, Keep) ∷ steps) runs are =
 value_faults : (as4 : Bool) (a : Attribute) (kind : ℕ) → a.kind ≡ kind → value_fault as4 a ≡ value_fault as4 (record a { kind = kind })
 value_faults as4 a kind is = ap (λ k. value_fault as4 (record a { kind = k })) is
 
-origin_below : (a : Attribute) (as4 : Bool) → a.kind ≡ 1 → value_fault as4 a ≡ None → get_or a.value 0 0 ≤ 2
+pub origin_below : (a : Attribute) (as4 : Bool) → a.kind ≡ 1 → value_fault as4 a ≡ None → get_or a.value 0 0 ≤ 2
 unfolding value_fault
 origin_below a as4 is none = by_test (ltb 2 (get_or a.value 0 0)) refl (sym (value_faults as4 a 1 is) ∙ none)
   where
@@ -293,7 +293,7 @@ origin_at (suc zero) le = (Egp, refl)
 origin_at (suc (suc zero)) le = (Incomplete, refl)
 origin_at (suc (suc (suc n))) le = absurd (omega arith)
 
-path_good : (a : Attribute) (as4 : Bool) → a.kind ≡ 2 → value_fault as4 a ≡ None → (path : List Segment) × (path_at (width_of as4) a.value ≡ Ok path)
+pub path_good : (a : Attribute) (as4 : Bool) → a.kind ≡ 2 → value_fault as4 a ≡ None → (path : List Segment) × (path_at (width_of as4) a.value ≡ Ok path)
 unfolding value_fault
 path_good a as4 is none = by_path (path_at (width_of as4) a.value) refl (sym (value_faults as4 a 2 is) ∙ none)
   where
@@ -302,14 +302,14 @@ path_good a as4 is none = by_path (path_at (width_of as4) a.value) refl (sym (va
     by_path (Err n) e none = absurd (not_some n (sym none))
 
 -- a recognized type that is kept is good
-good_of : (p : Profile) (external : Bool) (a : Attribute) (r : TypeRule) → IsKept p external a → rule_of p.as4 a.kind ≡ Some r → IsGood p.as4 r a
+pub good_of : (p : Profile) (external : Bool) (a : Attribute) (r : TypeRule) → IsKept p external a → rule_of p.as4 a.kind ≡ Some r → IsGood p.as4 r a
 good_of p external a r kept e = recognized_is_good p external a r (ap (judge_by p external a) (sym e) ∙ kept)
 
-rule_at_1 : (as4 : Bool) (kind : ℕ) → kind ≡ 1 → rule_of as4 kind ≡ Some (record { optional = false; transitive = true; size = Some 1 })
+pub rule_at_1 : (as4 : Bool) (kind : ℕ) → kind ≡ 1 → rule_of as4 kind ≡ Some (record { optional = false; transitive = true; size = Some 1 })
 unfolding rule_of
 rule_at_1 as4 kind e = ap (rule_of as4) e
 
-rule_at_2 : (as4 : Bool) (kind : ℕ) → kind ≡ 2 → rule_of as4 kind ≡ Some (record { optional = false; transitive = true; size = None })
+pub rule_at_2 : (as4 : Bool) (kind : ℕ) → kind ≡ 2 → rule_of as4 kind ≡ Some (record { optional = false; transitive = true; size = None })
 unfolding rule_of
 rule_at_2 as4 kind e = ap (rule_of as4) e
 
@@ -322,7 +322,7 @@ has_kept kind (a ∷ kept) e = by_test (eqb a.kind kind) refl e (λ e. has_kept 
     by_test true is e later = (a, ap (λ b. cond b (Some a) (kept_of kind kept)) is)
     by_test false is e later = let l = later e in (l.0, ap (λ b. cond b (Some a) (kept_of kind kept)) is ∙ l.1)
 
-some_and : (o : Option Attribute) (a : Attribute) (P : Attribute → Type 0) → o ≡ Some a → P a → IsSomeAnd o P
+pub some_and : (o : Option Attribute) (a : Attribute) (P : Attribute → Type 0) → o ≡ Some a → P a → IsSomeAnd o P
 some_and o a P e h = subst (λ o. IsSomeAnd o P) (sym e) h
 
 -- ORIGIN, AS_PATH and NEXT_HOP are kept

@@ -1,10 +1,13 @@
 -- What is gathered of the attributes, from left to right.
-use Rattle.std.specs.Prelude.{◌≡◌, ℕ, List, [], ◌∷◌, ◌++◌, slice_index, slice_index_or, Option, Some, None, is_some, option_map, option_and_then, Result, Ok, Err, Bool, true, false, nat_lt, ◌==◌, ◌||◌, if◌then◌else◌}
+use Rattle.std.specs.Prelude.{◌≡◌, ℕ, List, [], ◌∷◌, ◌++◌, slice_index, slice_index_or, Option, Some, None, is_some, option_map, option_and_then, Result, Ok, Err, Bool, true, false, nat_lt, ◌==◌, ◌||◌, not, if◌then◌else◌}
 use Rattle.std.specs.List.{list_any}
 use Rattle.std.specs.Result.{result_ok}
 use Rattle.byteorder.specs.Endian.{big_number}
+use Rattle.addr4.specs.Prefixes.{Network}
+use Rattle.bgp_attr.specs.declared.attrs.Attrs.{Attrs}
 use Rattle.bgp_attr.specs.declared.attrs.Origin.{Origin}
 use Rattle.bgp_attr.specs.declared.attrs.Origin.TheVariants.{Igp, Egp, Incomplete}
+use Rattle.bgp_attr.specs.declared.path.Segment.{Segment}
 use Rattle.bgp_attr.specs.declared.speaker.Profile.{Profile}
 use Rattle.bgp_attr.specs.declared.unrecognized.Unrecognized.{Unrecognized}
 use Rattle.bgp_wire.specs.declared.attributes.Verdict.{Verdict}
@@ -12,12 +15,15 @@ use Rattle.bgp_wire.specs.declared.attributes.Verdict.TheVariants.{Keep, Discard
 use Rattle.bgp_wire.specs.declared.found.Found.{Found}
 use Rattle.bgp_wire.specs.declared.found.Gathered.{Gathered}
 use Rattle.bgp_wire.specs.declared.found.TypeSet.{TypeSet}
+use Rattle.bgp_wire.specs.declared.message.Update.{Update}
 use Rattle.bgp_wire.specs.declared.notice.Notice.{Notice}
 use Rattle.bgp_wire.specs.declared.notice.Refusal.{Refusal}
 use Rattle.bgp_wire.specs.Faults.{Fails}
 use Rattle.bgp_wire.specs.Paths.{width_of, path_at}
 use Rattle.bgp_wire.specs.Attributes.{Attribute, Kept, judgement, attributes_at}
 use Rattle.bgp_wire.specs.Routes.{kept_of, number_of, aggregator_of, AreUnrecognized}
+use Rattle.bgp_wire.specs.Updates.{lack}
+use Rattle.bgp_wire.specs.Grammar.{without}
 
 -- an attribute among those of ascending type
 abbrev pub placed : Unrecognized → List Unrecognized → List Unrecognized
@@ -95,3 +101,41 @@ RefusesOne p external a old e = (seen : List ℕ) (kept : Kept) → IsGathered p
 abbrev pub IsGatheredTo : Profile → Bool → List ℕ → Result Gathered Refusal → Type 0
 IsGatheredTo p external bytes (Ok g) = (kept : Kept) × (attributes_at p external [] bytes ≡ Ok kept) × Gathers p.as4 kept.0 g.found × (g.withdraw ≡ kept.1)
 IsGatheredTo p external bytes (Err e) = Fails e (attributes_at p external [] bytes)
+
+-- the lowest of ORIGIN, AS_PATH and NEXT_HOP that wasn't found
+abbrev pub missing_from : Found → Option ℕ
+missing_from found =
+    if not (is_some found.origin) then Some 1
+    else if not (is_some found.path) then Some 2
+    else if not (is_some found.next_hop) then Some 3
+    else None
+
+abbrev pub lacks_from : Profile → List Network → Found → Result Bool Notice
+lacks_from p [] found = Ok false
+lacks_from p (n ∷ ns) found = lack p (missing_from found)
+
+-- the attributes of a route, where ORIGIN, AS_PATH and NEXT_HOP were found
+abbrev pub attrs_by : Bool → Found → Option Origin → Option (List Segment) → Option ℕ → Option Attrs
+attrs_by external found (Some origin) (Some path) (Some next_hop) = Some (record {
+  origin = origin;
+  path = path;
+  next_hop = next_hop;
+  med = found.med;
+  local_pref = if external then None else found.local_pref;
+  atomic = found.atomic;
+  aggregator = found.aggregator;
+  unrecognized = found.unrecognized;
+})
+attrs_by external found origin path next_hop = None
+
+abbrev pub attrs_from : Bool → Found → Option Attrs
+attrs_from external found = attrs_by external found found.origin found.path found.next_hop
+
+abbrev pub attrs_for : Bool → Found → List Network → Option Attrs
+attrs_for external found [] = None
+attrs_for external found (n ∷ ns) = attrs_from external found
+
+-- the UPDATE of these prefixes and of what was found
+abbrev pub update_of : Bool → Bool → List Network → List Network → Found → Update
+update_of external true withdrawn announced found = record { withdrawn = without announced withdrawn ++ announced; announced = []; attrs = None }
+update_of external false withdrawn announced found = record { withdrawn = withdrawn; announced = announced; attrs = attrs_for external found announced }

@@ -4,8 +4,8 @@ pub mod Prefixes
 pub mod Paths
 pub mod Attributes
 pub mod Routes
-pub mod Found
 pub mod Updates
 pub mod Grammar
+pub mod Found
 pub mod Spelling
 pub mod Readable

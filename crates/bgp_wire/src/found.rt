@@ -87,7 +87,7 @@ impl Ascending {
         Ok(())
     }
 
-    fn into_attrs(self) -> UnrecognizedAttrs
+    pub(crate) fn into_attrs(self) -> UnrecognizedAttrs
         ensures { result ≡ self }
     {
         UnrecognizedAttrs::from_vec(self.items)
