@@ -49,7 +49,7 @@ two_octets : (as4 : Bool) (n : ℕ) → n < 256 ^ width_of as4 → FitsWidth as4
 two_octets true n lt e = absurd (cc)
 two_octets false n lt e = omega arith
 
-segment_fits : (as4 : Bool) (s : Segment) → IsReadableSegment as4 s → FitsSegment as4 s
+pub segment_fits : (as4 : Bool) (s : Segment) → IsReadableSegment as4 s → FitsSegment as4 s
 segment_fits as4 s is = record { some = is.some; few = is.few; numbers = λ k d lt. two_octets as4 _ (is.numbers k d lt) }
 
 pub readable_fits : (p : Profile) (external : Bool) (a : Attrs) → IsReadable p external a → FitsAttrs p.as4 a

@@ -1,5 +1,5 @@
 -- What a peer said in an UPDATE of one prefix is said again in the one spelling, and is read as it was.
-use Rattle.std.proofs.Common.{◌≡◌, ℕ, zero, suc, ◌+◌, ◌*◌, ◌≤◌, ◌<◌, Bool, true, false, List, [], ◌∷◌, ◌++◌, length, take, Option, Some, None, refl, sym, ap, subst, ◌∙◌, arith}
+use Rattle.std.proofs.Common.{◌≡◌, ℕ, zero, suc, ◌+◌, ◌*◌, ◌≤◌, ◌<◌, Bool, true, false, List, [], ◌∷◌, ◌++◌, length, take, get_or, Option, Some, None, refl, sym, ap, subst, ◌∙◌, Fits, w8, arith}
 use Rattle.std.specs.Prelude.{All, replicate}
 use Rattle.std.specs.Option.{ForSome}
 use Rattle.std.proofs.lemmas.List.{length-append, length-take}
@@ -8,14 +8,15 @@ use Rattle.addr4.specs.Prefixes.{Network, same_prefix}
 use Rattle.bgp_attr.specs.declared.attrs.Attrs.{Attrs}
 use Rattle.bgp_attr.specs.declared.speaker.Profile.{Profile}
 use Rattle.bgp_wire.specs.declared.message.Update.{Update}
+use Rattle.bgp_wire.specs.declared.message.Message.{Message}
 use Rattle.bgp_wire.specs.declared.message.Message.TheVariants as messages
 use Rattle.bgp_wire.specs.Prefixes.{octets_for, IsPrefix, ArePrefixes}
 use Rattle.bgp_wire.specs.Attributes.{Attribute, AreAttributes, kept_by}
 use Rattle.bgp_wire.specs.Routes.{AreAttrs}
 use Rattle.bgp_wire.specs.Updates.{Reading}
-use Rattle.bgp_wire.specs.Grammar.{IsReading, AreAttrsFor, IsWithdraw, IsPlain, IsUpdateBy, without, Reads}
+use Rattle.bgp_wire.specs.Grammar.{IsReading, AreAttrsFor, IsWithdraw, IsPlain, IsUpdateBy, without, Reads, Answers}
 use Rattle.bgp_wire.specs.Spelling.{sent_attributes, octets_of, prefixes_octets, prefix_octets, fields_octets, framed, update_octets}
-use Rattle.bgp_wire.specs.Readable.{IsNetwork, IsReadable, IsReadableUpdate, AreOctets, HasOnePrefix, withdrawal, announcement}
+use Rattle.bgp_wire.specs.Readable.{IsNetwork, IsReadable, IsReadableUpdate, IsReadableMessage, AreOctets, HasOnePrefix, withdrawal, announcement}
 use Rattle.bgp_wire.proofs.SpelledMessages.{length-framed, length-fields, withdrawal_is_read, announcement_is_read}
 use Rattle.bgp_wire.proofs.ReadableLaws.{Every, every_all, all_every, every_append, every_back, every_front, every_filter, Octets, networks_read, attrs_read}
 use Rattle.bgp_wire.proofs.LengthLaws.{attributes_no_longer}
@@ -77,6 +78,21 @@ readable_by p external bytes r is octets false u by =
 
 pub read_is_readable : (p : Profile) (external : Bool) (bytes : List ℕ) (u : Update) → AreOctets bytes → Reads p external bytes (messages.Update u) → IsReadableUpdate p external u
 read_is_readable p external bytes u octets reads = readable_by p external bytes reads.0 reads.1 (all_every (λ b. b < 256) bytes octets) reads.0.withdraw u reads.2
+
+each_octet : (bytes : List ℕ) → ((i : ℕ) → Fits w8 (get_or bytes i 0)) → Octets bytes
+each_octet [] each = tt
+each_octet (b ∷ bytes) each = (omega (arith, each 0), each_octet bytes (λ i. each (suc i)))
+
+-- what a slice of octets holds are octets
+pub are_octets : (bytes : List ℕ) → ((i : ℕ) → Fits w8 (get_or bytes i 0)) → AreOctets bytes
+are_octets bytes each = every_all (λ b. b < 256) bytes (each_octet bytes each)
+
+pub answer_is_readable : (p : Profile) (external : Bool) (bytes : List ℕ) (m : Message) → AreOctets bytes → Answers p external bytes m → IsReadableMessage p external m
+answer_is_readable p external bytes (messages.Update u) octets answers = read_is_readable p external bytes u octets answers
+answer_is_readable p external bytes messages.Keepalive octets answers = tt
+answer_is_readable p external bytes messages.Notification octets answers = tt
+answer_is_readable p external bytes messages.Skip octets answers = tt
+answer_is_readable p external bytes (messages.Notify n) octets answers = tt
 
 -- ---- said again
 

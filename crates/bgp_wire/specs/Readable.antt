@@ -6,6 +6,8 @@ use Rattle.bgp_attr.specs.declared.attrs.Attrs.{Attrs}
 use Rattle.bgp_attr.specs.declared.path.Segment.{Segment}
 use Rattle.bgp_attr.specs.declared.speaker.Profile.{Profile}
 use Rattle.bgp_wire.specs.declared.message.Update.{Update}
+use Rattle.bgp_wire.specs.declared.message.Message.{Message}
+use Rattle.bgp_wire.specs.declared.message.Message.TheVariants as messages
 use Rattle.bgp_wire.specs.Paths.{width_of}
 use Rattle.bgp_wire.specs.Attributes.{is_no_host, is_old_form}
 use Rattle.bgp_wire.specs.Routes.{is_unrecognized, AscendsFrom}
@@ -49,6 +51,13 @@ pub record IsReadableUpdate (p : Profile) (external : Bool) (u : Update) : Type 
   pub withdrawn : All IsNetwork u.withdrawn
   pub announced : All IsNetwork u.announced
   pub attrs : ForSome u.attrs (IsReadable p external)
+
+abbrev pub IsReadableMessage : Profile → Bool → Message → Type 0
+IsReadableMessage p external (messages.Update u) = IsReadableUpdate p external u
+IsReadableMessage p external messages.Keepalive = Unit {0}
+IsReadableMessage p external messages.Notification = Unit {0}
+IsReadableMessage p external messages.Skip = Unit {0}
+IsReadableMessage p external (messages.Notify n) = Unit {0}
 
 -- octets, as numbers
 abbrev pub AreOctets : List ℕ → Type 0

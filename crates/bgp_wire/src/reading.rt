@@ -6,6 +6,7 @@ ghost use Rattle.bgp_wire.specs.Faults.{Gives};
 ghost use Rattle.bgp_wire.specs.Found.{missing_from, lacks_from, attrs_from, update_of};
 ghost use Rattle.bgp_wire.specs.Updates.{reading_at, content_at};
 ghost use Rattle.bgp_wire.specs.Grammar.{without, GivesUpdate, GivesMessage, Answers};
+ghost use Rattle.bgp_wire.specs.Readable.{IsReadableMessage};
 
 use crate::found::{Found, read_attributes};
 use crate::header::{read_fields, read_header};
@@ -191,6 +192,8 @@ pub fn read_message(
 ) -> Result<Message, Memory>
     // The answer is the message that the octets are, or the first fault.
     ensures answer { IfOk result (λ m. Answers profile external bytes.now m) }
+    // What it says of routes can be said again.
+    ensures readable { IfOk result (IsReadableMessage profile external) }
     // There is no other.
     ensures only { (m : Answer) → Answers profile external bytes.now m → IfOk result (λ answer. answer ≡ m) }
 {
