@@ -38,7 +38,7 @@ pub fn write_update(
 ) -> Result<Option<Vec<u8>>, Memory>
     requires one { length update.now.withdrawn + length update.now.announced ≡ 1 }
     requires fits { ForSome update.now.attrs (FitsAttrs profile.as4) }
-    ensures { IfOk result (λ written. MatchOption written (4096 < length (update_octets profile.as4 update.now)) (λ v. (length (update_octets profile.as4 update.now) ≤ 4096) × (v.items ≡ update_octets profile.as4 update.now))) }
+    ensures { let octets = update_octets profile.as4 update.now in IfOk result (λ written. MatchOption written (4096 < length octets) (λ v. (length octets ≤ 4096) × (v.items ≡ octets))) }
 {
     let withdrawn = write_prefixes(alloc, &update.withdrawn)?;
     let attributes = write_attrs(alloc, profile.as4, &update.attrs)?;
