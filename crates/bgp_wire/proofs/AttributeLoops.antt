@@ -10,6 +10,7 @@ use Rattle.bgp_wire.specs.declared.attributes.Verdict.{Verdict}
 use Rattle.bgp_wire.specs.declared.attributes.Verdict.TheVariants.{Keep, Discard, Withdraw}
 use Rattle.bgp_wire.specs.declared.notice.Notice.{Notice}
 use Rattle.bgp_wire.specs.Faults.{notice, Fails, Refuses, ◌>>=◌}
+use Rattle.bgp_wire.specs.Found.{added}
 use Rattle.bgp_wire.specs.Attributes.{Attribute, Kept, size_at, cut, attribute_at, judgement, with_verdict, attributes_step, attributes_within, attributes_at}
 
 -- what was kept before, and what still is
@@ -75,12 +76,6 @@ attributes_end p external seen [] e = refl
 attributes_end p external seen (b ∷ bytes) e = absurd (omega arith)
 
 -- ---- the loop
-
--- an attribute at the end of what is kept so far
-abbrev pub added : Verdict → Attribute → Kept → Kept
-added Keep a k = (k.0 ++ a ∷ [], k.1)
-added Discard a k = k
-added Withdraw a k = (k.0, true)
 
 or_false : (b : Bool) → (b || false) ≡ b
 or_false true = refl

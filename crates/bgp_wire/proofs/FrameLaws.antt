@@ -221,7 +221,7 @@ same_kind b n m e t = eqb-true n m (e ∙ t)
 short_of : (kind k len : ℕ) → kind ≡ k → has_wrong_length kind len ≡ false → has_wrong_length k len ≡ false
 short_of kind k len e s = subst (λ n. has_wrong_length n len ≡ false) e s
 
-only_two : (kind : ℕ) → 0 < kind → kind < 5 → eqb kind 1 ≡ false → eqb kind 3 ≡ false → eqb kind 4 ≡ false → kind ≡ 2
+pub only_two : (kind : ℕ) → 0 < kind → kind < 5 → eqb kind 1 ≡ false → eqb kind 3 ≡ false → eqb kind 4 ≡ false → kind ≡ 2
 only_two kind some few a b c = omega (arith, eqb-false _ _ a, eqb-false _ _ b, eqb-false _ _ c)
 
 pub content_takes : (p : Profile) (external : Bool) (bytes : List ℕ) (c : Content) → content_at p external bytes ≡ Ok c → Holds p external bytes c

@@ -9,4 +9,15 @@ pub mod FrameLaws
 pub mod External
 pub mod RouteLaws
 pub mod MessageLaws
+pub mod FoundLaws
+pub mod GatherLaws
+pub mod ReadingLaws
 pub mod SpellingLemmas
+pub mod SpelledNumbers
+pub mod SpelledAttributes
+pub mod SpelledRoutes
+pub mod SpelledMessages
+pub mod ReadableLaws
+pub mod LengthLaws
+pub mod SaidAgain
+pub mod Prepended

@@ -1,5 +1,5 @@
 -- Exactly one of message and fault is there.
-use Rattle.std.proofs.Common.{◌≡◌, ◌⊎◌, ℕ, Bool, true, false, cond, not, ◌||◌, List, [], ◌∷◌, ◌++◌, Option, Some, None, Result, Ok, Err, refl, sym, ap, subst, ◌∙◌, inl, inr}
+use Rattle.std.proofs.Common.{◌≡◌, ◌⊎◌, ℕ, Bool, true, false, cond, eqb, not, ◌||◌, List, [], ◌∷◌, ◌++◌, Option, Some, None, Result, Ok, Err, refl, sym, ap, subst, ◌∙◌, inl, inr}
 use Rattle.std.specs.List.{list_any}
 use Rattle.addr4.specs.Prefixes.{Network}
 use Rattle.bgp_attr.specs.declared.attrs.Attrs.{Attrs}
@@ -8,11 +8,11 @@ use Rattle.bgp_wire.specs.declared.notice.Notice.{Notice}
 use Rattle.bgp_wire.specs.declared.message.Update.{Update}
 use Rattle.bgp_wire.specs.declared.message.Message.{Message}
 use Rattle.bgp_wire.specs.declared.message.Message.TheVariants as messages
-use Rattle.bgp_wire.specs.Faults.{notice, err_of}
+use Rattle.bgp_wire.specs.Faults.{notice, err_of, ◌>>=◌}
 use Rattle.bgp_wire.specs.Attributes.{Attribute, kept_by}
 use Rattle.bgp_wire.specs.Routes.{AreAttrs}
-use Rattle.bgp_wire.specs.Updates.{Reading, Content, update, keepalive, notification, opening, has_kind, missing, lack, lacks, content_at, fault}
-use Rattle.bgp_wire.specs.Grammar.{IsReading, Holds, without, AreAttrsFor, IsWithdraw, IsPlain, IsUpdateBy, Reads, Answers, OneAnswer}
+use Rattle.bgp_wire.specs.Updates.{Reading, Content, update, keepalive, notification, opening, has_kind, missing, lack, lacks, header_at, reading_at, content_for, content_at, fault}
+use Rattle.bgp_wire.specs.Grammar.{IsReading, Holds, without, AreAttrsFor, IsWithdraw, IsPlain, IsUpdateBy, IsMessageBy, GivesUpdate, GivesMessage, Reads, Answers, OneAnswer}
 use Rattle.bgp_wire.proofs.TestLemmas.{or_false_right}
 use Rattle.bgp_wire.proofs.ResultLemmas.{same_ok, not_both}
 use Rattle.bgp_wire.proofs.RouteLaws.{HasAll, attrs_made, one_attrs}
@@ -27,7 +27,7 @@ never p kind e = by_test p.revised e
     by_test false e = absurd (not_both _ false e)
 
 -- an announcement that lacks nothing
-has_all : (p : Profile) (kept : List Attribute) → lack p (missing kept) ≡ Ok false → HasAll kept
+pub has_all : (p : Profile) (kept : List Attribute) → lack p (missing kept) ≡ Ok false → HasAll kept
 has_all p kept e = by_tests (has_kind 1 kept) (has_kind 2 kept) (has_kind 3 kept) refl refl refl e
   where
     by_tests : (a b c : Bool) → has_kind 1 kept ≡ a → has_kind 2 kept ≡ b → has_kind 3 kept ≡ c → lack p (cond (not a) (Some 1) (cond (not b) (Some 2) (cond (not c) (Some 3) None))) ≡ Ok false → HasAll kept
@@ -67,14 +67,6 @@ one_update as4 external r false u v f g =
     λ i. record { withdrawn = (f.withdrawn ∙ sym g.withdrawn) i; announced = (f.announced ∙ sym g.announced) i; attrs = attrs i }
 
 -- ---- messages
-
--- the message by what the octets hold
-abbrev pub IsMessageBy : Profile → Bool → Content → Message → Type 0
-IsMessageBy p external (update r) (messages.Update u) = IsUpdateBy p.as4 external r r.withdraw u
-IsMessageBy p external keepalive messages.Keepalive = Unit {0}
-IsMessageBy p external notification messages.Notification = Unit {0}
-IsMessageBy p external opening messages.Skip = Unit {0}
-IsMessageBy p external c m = ⊥
 
 pub by_content : (p : Profile) (external : Bool) (bytes : List ℕ) (m : Message) → Reads p external bytes m → (c : Content) × Holds p external bytes c × IsMessageBy p external c m
 by_content p external bytes (messages.Update u) reads = (update reads.0, reads.1, reads.2)
@@ -176,3 +168,51 @@ one_answer p external bytes = by_answer (content_at p external bytes) refl
     by_answer (Err n) e =
         let f = sym (one_fault p external bytes) ∙ ap err_of e in
         inr (n, f, λ m reads. no_message p external bytes n m f reads)
+
+-- ---- what the code answers
+no_fault_is : {A : Type 0} (x : A) (n : Notice) → err_of (Ok x) ≡ Some n → ⊥
+no_fault_is x n e = absurd (cc)
+
+same_notice : (n m : Notice) → ◌≡◌ {A = Option Notice} (Some n) (Some m) → n ≡ m
+same_notice n m e = cc
+
+answers_from : (p : Profile) (external : Bool) (bytes : List ℕ) (m : Message) → Reads p external bytes m → Answers p external bytes m
+answers_from p external bytes (messages.Update u) reads = reads
+answers_from p external bytes messages.Keepalive reads = reads
+answers_from p external bytes messages.Notification reads = reads
+answers_from p external bytes messages.Skip reads = reads
+answers_from p external bytes (messages.Notify n) reads = absurd reads
+
+pub answers_message : (p : Profile) (external : Bool) (bytes : List ℕ) (m : Message) → GivesMessage p external (Ok m) (content_at p external bytes) → Answers p external bytes m
+answers_message p external bytes m given = answers_from p external bytes m (from_content p external bytes given.0 m (content_takes p external bytes given.0 given.1) given.2)
+
+pub only_message : (p : Profile) (external : Bool) (bytes : List ℕ) (m : Message) → GivesMessage p external (Ok m) (content_at p external bytes) → (other : Message) → Answers p external bytes other → m ≡ other
+only_message p external bytes m given other answers = by_other other answers
+  where
+    reads : Reads p external bytes m
+    reads = from_content p external bytes given.0 m (content_takes p external bytes given.0 given.1) given.2
+
+    by_other : (other : Message) → Answers p external bytes other → m ≡ other
+    by_other (messages.Update u) answers = one_message p external bytes m (messages.Update u) reads answers
+    by_other messages.Keepalive answers = one_message p external bytes m messages.Keepalive reads answers
+    by_other messages.Notification answers = one_message p external bytes m messages.Notification reads answers
+    by_other messages.Skip answers = one_message p external bytes m messages.Skip reads answers
+    by_other (messages.Notify n) answers = absurd (no_fault_is given.0 n (sym (ap err_of given.1) ∙ one_fault p external bytes ∙ answers))
+
+pub answers_fault : (p : Profile) (external : Bool) (bytes : List ℕ) (n : Notice) → content_at p external bytes ≡ Err n → fault p bytes ≡ Some n
+answers_fault p external bytes n e = sym (one_fault p external bytes) ∙ ap err_of e
+
+pub only_fault : (p : Profile) (external : Bool) (bytes : List ℕ) (n : Notice) → content_at p external bytes ≡ Err n → (other : Message) → Answers p external bytes other → messages.Notify n ≡ other
+only_fault p external bytes n e (messages.Notify m) answers = ap (λ n. messages.Notify n) (same_notice n m (sym (answers_fault p external bytes n e) ∙ answers))
+only_fault p external bytes n e (messages.Update u) answers = absurd (no_message p external bytes n (messages.Update u) (answers_fault p external bytes n e) answers)
+only_fault p external bytes n e messages.Keepalive answers = absurd (no_message p external bytes n messages.Keepalive (answers_fault p external bytes n e) answers)
+only_fault p external bytes n e messages.Notification answers = absurd (no_message p external bytes n messages.Notification (answers_fault p external bytes n e) answers)
+only_fault p external bytes n e messages.Skip answers = absurd (no_message p external bytes n messages.Skip (answers_fault p external bytes n e) answers)
+
+-- an UPDATE is a message
+pub update_content : (p : Profile) (external : Bool) (bytes : List ℕ) (kind : ℕ) (u : Update) → header_at bytes ≡ Ok kind → eqb kind 1 ≡ false → eqb kind 3 ≡ false → eqb kind 4 ≡ false
+    → GivesUpdate p external (Ok u) (reading_at p external bytes) → GivesMessage p external (Ok (messages.Update u)) (content_at p external bytes)
+unfolding content_at
+update_content p external bytes kind u header not_1 not_3 not_4 given =
+    let r = given.0 in
+    (update r, ap (λ h. h >>= λ kind. content_for p external bytes kind) header ∙ (λ i. cond (not_1 i) (Ok opening) (cond (not_3 i) (Ok notification) (cond (not_4 i) (Ok keepalive) (given.1 i >>= λ r. Ok (update r))))), given.2)

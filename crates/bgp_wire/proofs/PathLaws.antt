@@ -1,6 +1,6 @@
 -- Paths: what is read is in the grammar, and what is in the grammar is read.
-use Rattle.std.proofs.Common.{◌≡◌, ℕ, zero, suc, ◌+◌, ◌*◌, ◌≤◌, ◌<◌, Bool, true, false, cond, eqb, ltb, ◌||◌, List, [], ◌∷◌, ◌++◌, length, take, drop, Option, Some, None, Result, Ok, Err, refl, sym, ap, subst, ◌∙◌, arith}
-use Rattle.std.proofs.lemmas.List.{length-take, length-drop, length-append, take-append-drop, take_at, drop_at, drop-append-le}
+use Rattle.std.proofs.Common.{◌≡◌, ℕ, zero, suc, ◌+◌, ◌-◌, ◌*◌, ◌≤◌, ◌<◌, Bool, true, false, cond, eqb, ltb, ◌||◌, List, [], ◌∷◌, ◌++◌, length, take, drop, Option, Some, None, Result, Ok, Err, refl, sym, ap, subst, ◌∙◌, append_assoc, arith}
+use Rattle.std.proofs.lemmas.List.{length-take, length-drop, length-append, append-nil, take-append-drop, take_at, drop_at, drop-append-le}
 use Rattle.std.proofs.lemmas.Bool.{ltb-false, le-ltb, eqb-true, eq-eqb}
 use Rattle.byteorder.specs.Endian.{big_number}
 use Rattle.byteorder.specs.Numbers.{big_from-append}
@@ -22,6 +22,38 @@ numbers_front width (suc count) front rest le =
     let later : drop width (front ++ rest) ≡ drop width front ++ rest = drop-append-le width front rest here in
     let enough : count * width ≤ length (drop width front) = omega (arith, whole, length-drop width front) in
     λ i. big_from-append width front rest here i ∷ (ap (numbers_at width count) later ∙ numbers_front width count (drop width front) rest enough) i
+
+-- ---- a loop that reads numbers
+pub record IsReadTo (width count done : ℕ) (front rest octets : List ℕ) : Type 0 where
+  pub so_far : front ++ numbers_at width (count - done) rest ≡ numbers_at width count octets
+  pub enough : (count - done) * width ≤ length rest
+
+pub read_more : (width count done : ℕ) (front rest octets : List ℕ) → done < count → IsReadTo width count done front rest octets → IsReadTo width count (suc done) (front ++ big_number width rest ∷ []) (drop width rest) octets
+read_more width count done front rest octets lt is =
+    let left : count - done ≡ suc (count - suc done) = omega arith in
+    let whole : suc (count - suc done) * width ≡ (count - suc done) * width + width = omega arith in
+    let enough : suc (count - suc done) * width ≤ length rest = subst (λ n. n * width ≤ length rest) left is.enough in
+    record {
+      so_far = append_assoc front (big_number width rest ∷ []) (numbers_at width (count - suc done) (drop width rest)) ∙ ap (λ n. front ++ numbers_at width n rest) (sym left) ∙ is.so_far;
+      enough = omega (arith, whole, length-drop width rest, enough);
+    }
+
+pub room_for : (width count done : ℕ) (front rest octets : List ℕ) → done < count → IsReadTo width count done front rest octets → width ≤ length rest
+room_for width count done front rest octets lt is =
+    let left : count - done ≡ suc (count - suc done) = omega arith in
+    let whole : suc (count - suc done) * width ≡ (count - suc done) * width + width = omega arith in
+    let enough : suc (count - suc done) * width ≤ length rest = subst (λ n. n * width ≤ length rest) left is.enough in
+    omega (arith, whole, enough)
+
+pub read_all : (width count : ℕ) (front rest octets : List ℕ) → IsReadTo width count count front rest octets → front ≡ numbers_at width count octets
+read_all width count front rest octets is =
+    let none : count - count ≡ 0 = omega arith in
+    sym (append-nil front) ∙ ap (λ n. front ++ numbers_at width n rest) (sym none) ∙ is.so_far
+
+pub begin_reading : (width count : ℕ) (octets : List ℕ) → count * width ≤ length octets → IsReadTo width count 0 [] octets octets
+begin_reading width count octets le =
+    let all : count - 0 ≡ count = omega arith in
+    record { so_far = ap (λ n. numbers_at width n octets) all; enough = subst (λ n. n * width ≤ length octets) (sym all) le }
 
 length-numbers_at : (width count : ℕ) (octets : List ℕ) → length (numbers_at width count octets) ≡ count
 length-numbers_at width zero octets = refl

@@ -1,8 +1,9 @@
 -- What the kept attributes say of a route is there, and is one alone.
 use Rattle.std.proofs.Common.{◌≡◌, ◌⊎◌, ℕ, zero, suc, ◌+◌, ◌*◌, ◌≤◌, ◌<◌, Bool, true, false, cond, eqb, ltb, not, ◌||◌, ◌&&◌, List, [], ◌∷◌, ◌++◌, length, drop, get_or, Option, Some, None, Result, Ok, Err, refl, sym, ap, subst, ◌∙◌, inl, inr, arith}
-use Rattle.std.specs.Prelude.{find, is_some, option_map, IsSomeAnd}
-use Rattle.std.specs.List.{list_any}
+use Rattle.std.specs.Prelude.{find, is_some, option_map, IsSomeAnd, insert, position, unwrap_or}
+use Rattle.std.specs.List.{list_any, position_or_len}
 use Rattle.std.proofs.lemmas.Bool.{ltb-false, ltb-true, le-ltb, eqb-true, eqb-false, eq-eqb, cases_lt}
+use Rattle.std.proofs.lemmas.List.Sums.{prefix_len-le-length}
 use Rattle.byteorder.specs.Endian.{big_number}
 use Rattle.bgp_attr.specs.declared.attrs.Attrs.{Attrs}
 use Rattle.bgp_attr.specs.declared.attrs.Origin.{Origin}
@@ -18,11 +19,12 @@ use Rattle.bgp_wire.specs.Faults.{notice, err_of}
 use Rattle.bgp_wire.specs.Paths.{width_of, IsPath, path_at}
 use Rattle.bgp_wire.specs.Attributes.{Attribute, rule_of, is_optional, has_wrong_flags, has_wrong_size, milder, value_fault, judge_value, judge_recognized, judge_by, judgement, AreAttributes, kept_by}
 use Rattle.bgp_wire.specs.Routes.{kept_of, number_of, code_of_origin, aggregator_of, is_unrecognized, AscendsFrom, value_of, AreUnrecognized, AreAttrs}
+use Rattle.bgp_wire.specs.Found.{placed}
 use Rattle.bgp_wire.proofs.TestLemmas.{or_false_left, or_false_right, not_false, unequal}
 use Rattle.bgp_wire.proofs.ResultLemmas.{same_ok, guard_ok, not_both}
 use Rattle.bgp_wire.proofs.PathLaws.{path_takes, path_again}
 
-some_same : {A : Type 0} (x y : A) → ◌≡◌ {A = Option A} (Some x) (Some y) → x ≡ y
+pub some_same : {A : Type 0} (x y : A) → ◌≡◌ {A = Option A} (Some x) (Some y) → x ≡ y
 some_same x y e = cc
 
 not_some : {A : Type 0} (x : A) → ◌≡◌ {A = Option A} None (Some x) → ⊥
@@ -68,13 +70,32 @@ one_order n m (u ∷ us) (v ∷ vs) a b same = elim (cases_lt u.kind v.kind) [
       | false ↦ λ is. sym (past_first kind u us is) ∙ same kind ∙ past_first kind v vs (ap (λ k. eqb k kind) (sym kinds) ∙ is)
     ] refl
 
--- an attribute at its place
-pub placed : Unrecognized → List Unrecognized → List Unrecognized
-placed u [] = u ∷ []
-placed u (v ∷ vs) = cond (ltb u.kind v.kind) (u ∷ v ∷ vs) (v ∷ placed u vs)
+insert_end : (us : List Unrecognized) (u : Unrecognized) → insert us (length us) u ≡ us ++ u ∷ []
+insert_end [] u = refl
+insert_end (v ∷ us) u = ap (λ ws. v ∷ ws) (insert_end us u)
+
+-- the place of the first above it, or the end
+placed_above : (u : Unrecognized) (us : List Unrecognized) → insert us (position_or_len (λ v. ltb u.kind v.kind) us) u ≡ placed u us
+placed_above u [] = refl
+placed_above u (v ∷ vs) = by_test (ltb u.kind v.kind) refl (placed_above u vs)
+  where
+    by_test : (b : Bool) → ltb u.kind v.kind ≡ b → insert vs (position_or_len (λ v. ltb u.kind v.kind) vs) u ≡ placed u vs → insert (v ∷ vs) (cond (not (ltb u.kind v.kind)) (1 + position_or_len (λ v. ltb u.kind v.kind) vs) 0) u ≡ cond (ltb u.kind v.kind) (u ∷ v ∷ vs) (v ∷ placed u vs)
+    by_test true is later = ap (λ b. insert (v ∷ vs) (cond (not b) (1 + position_or_len (λ v. ltb u.kind v.kind) vs) 0) u) is ∙ sym (ap (λ b. cond b (u ∷ v ∷ vs) (v ∷ placed u vs)) is)
+    by_test false is later =
+        let next : 1 + position_or_len (λ v. ltb u.kind v.kind) vs ≡ suc (position_or_len (λ v. ltb u.kind v.kind) vs) = omega arith in
+        ap (λ b. insert (v ∷ vs) (cond (not b) (1 + position_or_len (λ v. ltb u.kind v.kind) vs) 0) u) is ∙ ap (λ n. insert (v ∷ vs) n u) next ∙ ap (λ ws. v ∷ ws) later ∙ sym (ap (λ b. cond b (u ∷ v ∷ vs) (v ∷ placed u vs)) is)
+
+pub placed_at : (u : Unrecognized) (us : List Unrecognized) → insert us (unwrap_or (position (λ v. ltb u.kind v.kind) us) (length us)) u ≡ placed u us
+placed_at u us = by_test (ltb at (length us)) refl
+  where
+    at : ℕ
+    at = position_or_len (λ v. ltb u.kind v.kind) us
+
+    by_test : (b : Bool) → ltb at (length us) ≡ b → insert us (unwrap_or (cond b (Some at) None) (length us)) u ≡ placed u us
+    by_test true is = placed_above u us
+    by_test false is = let same : length us ≡ at = omega (arith, ltb-false _ _ is, prefix_len-le-length (λ v. not (ltb u.kind v.kind)) us) in ap (λ n. insert us n u) same ∙ placed_above u us
 
 pub placed_ascends : (n : ℕ) (u : Unrecognized) (us : List Unrecognized) → AscendsFrom n us → n ≤ u.kind → value_of u.kind us ≡ None → AscendsFrom n (placed u us)
-unfolding placed
 placed_ascends n u [] order le new = (le, tt)
 placed_ascends n u (v ∷ vs) order le new = elim (ltb u.kind v.kind) as (λ b. ltb u.kind v.kind ≡ b → AscendsFrom n (cond b (u ∷ v ∷ vs) (v ∷ placed u vs))) [
   | true ↦ λ less. (le, (omega (arith, ltb-true _ _ less), order.1))
@@ -86,7 +107,6 @@ placed_ascends n u (v ∷ vs) order le new = elim (ltb u.kind v.kind) as (λ b. 
 ] refl
 
 pub placed_value : (kind : ℕ) (u : Unrecognized) (us : List Unrecognized) → value_of u.kind us ≡ None → value_of kind (placed u us) ≡ cond (eqb u.kind kind) (Some u.value) (value_of kind us)
-unfolding placed
 placed_value kind u [] new = refl
 placed_value kind u (v ∷ vs) new = elim (ltb u.kind v.kind) as (λ b. value_of kind (cond b (u ∷ v ∷ vs) (v ∷ placed u vs)) ≡ cond (eqb u.kind kind) (Some u.value) (value_of kind (v ∷ vs))) [
   | true ↦ refl
@@ -259,7 +279,7 @@ unrecognized_made p external seen bytes ((b, Keep) ∷ steps) runs are =
 value_faults : (as4 : Bool) (a : Attribute) (kind : ℕ) → a.kind ≡ kind → value_fault as4 a ≡ value_fault as4 (record a { kind = kind })
 value_faults as4 a kind is = ap (λ k. value_fault as4 (record a { kind = k })) is
 
-origin_below : (a : Attribute) (as4 : Bool) → a.kind ≡ 1 → value_fault as4 a ≡ None → get_or a.value 0 0 ≤ 2
+pub origin_below : (a : Attribute) (as4 : Bool) → a.kind ≡ 1 → value_fault as4 a ≡ None → get_or a.value 0 0 ≤ 2
 unfolding value_fault
 origin_below a as4 is none = by_test (ltb 2 (get_or a.value 0 0)) refl (sym (value_faults as4 a 1 is) ∙ none)
   where
@@ -273,7 +293,7 @@ origin_at (suc zero) le = (Egp, refl)
 origin_at (suc (suc zero)) le = (Incomplete, refl)
 origin_at (suc (suc (suc n))) le = absurd (omega arith)
 
-path_good : (a : Attribute) (as4 : Bool) → a.kind ≡ 2 → value_fault as4 a ≡ None → (path : List Segment) × (path_at (width_of as4) a.value ≡ Ok path)
+pub path_good : (a : Attribute) (as4 : Bool) → a.kind ≡ 2 → value_fault as4 a ≡ None → (path : List Segment) × (path_at (width_of as4) a.value ≡ Ok path)
 unfolding value_fault
 path_good a as4 is none = by_path (path_at (width_of as4) a.value) refl (sym (value_faults as4 a 2 is) ∙ none)
   where
@@ -282,14 +302,14 @@ path_good a as4 is none = by_path (path_at (width_of as4) a.value) refl (sym (va
     by_path (Err n) e none = absurd (not_some n (sym none))
 
 -- a recognized type that is kept is good
-good_of : (p : Profile) (external : Bool) (a : Attribute) (r : TypeRule) → IsKept p external a → rule_of p.as4 a.kind ≡ Some r → IsGood p.as4 r a
+pub good_of : (p : Profile) (external : Bool) (a : Attribute) (r : TypeRule) → IsKept p external a → rule_of p.as4 a.kind ≡ Some r → IsGood p.as4 r a
 good_of p external a r kept e = recognized_is_good p external a r (ap (judge_by p external a) (sym e) ∙ kept)
 
-rule_at_1 : (as4 : Bool) (kind : ℕ) → kind ≡ 1 → rule_of as4 kind ≡ Some (record { optional = false; transitive = true; size = Some 1 })
+pub rule_at_1 : (as4 : Bool) (kind : ℕ) → kind ≡ 1 → rule_of as4 kind ≡ Some (record { optional = false; transitive = true; size = Some 1 })
 unfolding rule_of
 rule_at_1 as4 kind e = ap (rule_of as4) e
 
-rule_at_2 : (as4 : Bool) (kind : ℕ) → kind ≡ 2 → rule_of as4 kind ≡ Some (record { optional = false; transitive = true; size = None })
+pub rule_at_2 : (as4 : Bool) (kind : ℕ) → kind ≡ 2 → rule_of as4 kind ≡ Some (record { optional = false; transitive = true; size = None })
 unfolding rule_of
 rule_at_2 as4 kind e = ap (rule_of as4) e
 
@@ -302,7 +322,7 @@ has_kept kind (a ∷ kept) e = by_test (eqb a.kind kind) refl e (λ e. has_kept 
     by_test true is e later = (a, ap (λ b. cond b (Some a) (kept_of kind kept)) is)
     by_test false is e later = let l = later e in (l.0, ap (λ b. cond b (Some a) (kept_of kind kept)) is ∙ l.1)
 
-some_and : (o : Option Attribute) (a : Attribute) (P : Attribute → Type 0) → o ≡ Some a → P a → IsSomeAnd o P
+pub some_and : (o : Option Attribute) (a : Attribute) (P : Attribute → Type 0) → o ≡ Some a → P a → IsSomeAnd o P
 some_and o a P e h = subst (λ o. IsSomeAnd o P) (sym e) h
 
 -- ORIGIN, AS_PATH and NEXT_HOP are kept

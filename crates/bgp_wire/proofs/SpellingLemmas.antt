@@ -9,7 +9,7 @@ use Rattle.bgp_wire.specs.Spelling.{prefix_octets, prefixes_octets}
 short_prefix : (p : Network) → length (take (octets_for p.length) (big_bytes 4 p.address)) ≤ 4
 short_prefix p = omega (arith, length-take (octets_for p.length) (big_bytes 4 p.address))
 
-alone : (p : Network) → length (prefix_octets p ++ []) ≤ 5
+pub alone : (p : Network) → length (prefix_octets p ++ []) ≤ 5
 alone p = omega (arith, length-append (prefix_octets p) [], short_prefix p)
 
 -- the octets of one prefix in two fields

@@ -3,6 +3,7 @@ use Rattle.std.specs.Prelude.{◌≡◌, ◌⊎◌, ℕ, zero, suc, ◌+◌, ◌
 use Rattle.std.specs.List.{list_any}
 use mathlib.Core.Bool.{beq}
 use Rattle.bgp_attr.specs.declared.speaker.Profile.{Profile}
+use Rattle.bgp_wire.specs.declared.attributes.RawAttribute.{RawAttribute}
 use Rattle.bgp_wire.specs.declared.attributes.TypeRule.{TypeRule}
 use Rattle.bgp_wire.specs.declared.attributes.Verdict.{Verdict}
 use Rattle.bgp_wire.specs.declared.attributes.Verdict.TheVariants.{Keep, Discard, Withdraw}
@@ -16,6 +17,9 @@ pub record Attribute : Type 0 where
   pub kind : ℕ
   pub value : List ℕ
   pub octets : List ℕ
+
+abbrev pub attribute_of : RawAttribute → Attribute
+attribute_of raw = record { flags = raw.flags; kind = raw.kind; value = raw.value.now; octets = raw.octets.now }
 
 abbrev pub is_optional : Attribute → Bool
 is_optional a = a.flags / 128 % 2 == 1

@@ -1,14 +1,16 @@
 -- What messages are, by cases on their octets (RFC 4271, section 4).
-use Rattle.std.specs.Prelude.{◌≡◌, ◌⊎◌, ℕ, ◌+◌, ◌*◌, ◌≤◌, ◌||◌, List, [], ◌∷◌, ◌++◌, length, replicate, filter, Option, Some, None, Ok, Bool, true, false, not}
+use Rattle.std.specs.Prelude.{◌≡◌, ◌⊎◌, ℕ, ◌+◌, ◌*◌, ◌≤◌, ◌||◌, List, [], ◌∷◌, ◌++◌, length, replicate, filter, Option, Some, None, Result, Ok, Err, Bool, true, false, not}
 use Rattle.std.specs.List.{list_any}
 use Rattle.addr4.specs.Prefixes.{Network, same_prefix}
 use Rattle.bgp_attr.specs.declared.attrs.Attrs.{Attrs}
 use Rattle.bgp_attr.specs.declared.speaker.Profile.{Profile}
 use Rattle.bgp_wire.specs.declared.notice.Notice.{Notice}
+use Rattle.bgp_wire.specs.declared.notice.Refusal.{Refusal}
 use Rattle.bgp_wire.specs.declared.message.Update.{Update}
 use Rattle.bgp_wire.specs.declared.message.Message.{Message}
 use Rattle.bgp_wire.specs.declared.message.Message.TheVariants as messages
 use Rattle.bgp_wire.specs.declared.attributes.Verdict.{Verdict}
+use Rattle.bgp_wire.specs.Faults.{Fails}
 use Rattle.bgp_wire.specs.Prefixes.{ArePrefixes}
 use Rattle.bgp_wire.specs.Attributes.{Attribute, AreAttributes, kept_by}
 use Rattle.bgp_wire.specs.Routes.{AreAttrs}
@@ -53,7 +55,7 @@ Holds p external bytes opening = (body : List ℕ) × IsFrame bytes 1 body × (1
 
 -- the prefixes that aren't among the others
 abbrev pub without : List Network → List Network → List Network
-without others ps = filter (λ p. not (list_any (same_prefix p) others)) ps
+without others ps = filter (λ p. not (list_any (λ other. same_prefix other p) others)) ps
 
 -- attributes are there exactly where a prefix is announced
 abbrev pub AreAttrsFor : Bool → Bool → List Attribute → List Network → Option Attrs → Type 0
@@ -75,6 +77,24 @@ pub record IsPlain (as4 external : Bool) (r : Reading) (u : Update) : Type 0 whe
 abbrev pub IsUpdateBy : Bool → Bool → Reading → Bool → Update → Type 0
 IsUpdateBy as4 external r true u = IsWithdraw r u
 IsUpdateBy as4 external r false u = IsPlain as4 external r u
+
+-- an UPDATE was read, or its first fault
+abbrev pub GivesUpdate : Profile → Bool → Result Update Refusal → Result Reading Notice → Type 0
+GivesUpdate p external (Ok u) read = (r : Reading) × (read ≡ Ok r) × IsUpdateBy p.as4 external r r.withdraw u
+GivesUpdate p external (Err e) read = Fails e read
+
+-- the message by what the octets hold
+abbrev pub IsMessageBy : Profile → Bool → Content → Message → Type 0
+IsMessageBy p external (update r) (messages.Update u) = IsUpdateBy p.as4 external r r.withdraw u
+IsMessageBy p external keepalive messages.Keepalive = Unit {0}
+IsMessageBy p external notification messages.Notification = Unit {0}
+IsMessageBy p external opening messages.Skip = Unit {0}
+IsMessageBy p external content message = ⊥
+
+-- a message was read, or its first fault
+abbrev pub GivesMessage : Profile → Bool → Result Message Refusal → Result Content Notice → Type 0
+GivesMessage p external (Ok m) read = (content : Content) × (read ≡ Ok content) × IsMessageBy p external content m
+GivesMessage p external (Err e) read = Fails e read
 
 -- the message that octets are. A fault is none
 abbrev pub Reads : Profile → Bool → List ℕ → Message → Type 0

@@ -6,4 +6,6 @@ pub mod Attributes
 pub mod Routes
 pub mod Updates
 pub mod Grammar
+pub mod Found
 pub mod Spelling
+pub mod Readable

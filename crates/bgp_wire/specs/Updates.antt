@@ -3,6 +3,7 @@ use Rattle.std.specs.Prelude.{ℕ, ◌+◌, ◌*◌, List, [], ◌∷◌, length
 use Rattle.std.specs.List.{list_any, list_all}
 use Rattle.addr4.specs.Prefixes.{Network}
 use Rattle.bgp_attr.specs.declared.speaker.Profile.{Profile}
+use Rattle.bgp_wire.specs.declared.header.UpdateFields.{UpdateFields}
 use Rattle.bgp_wire.specs.declared.notice.Notice.{Notice}
 use Rattle.bgp_wire.specs.Faults.{notice, err_of, ◌>>=◌}
 use Rattle.bgp_wire.specs.Prefixes.{prefixes_at}
@@ -41,6 +42,9 @@ pub record Fields : Type 0 where
   pub withdrawn : List ℕ
   pub attributes : List ℕ
   pub announced : List ℕ
+
+abbrev pub fields_of : UpdateFields → Fields
+fields_of fields = record { withdrawn = fields.withdrawn.now; attributes = fields.attributes.now; announced = fields.announced.now }
 
 unfoldable pub fields_at : List ℕ → Result Fields Notice
 fields_at bytes =

@@ -1,4 +1,74 @@
-//! Path attributes.
+//! Attributes as they come, and what is asked of them.
+
+ghost use Rattle.std.specs.Prelude.{◌≡◌, ◌^◌, ◌<◌, IfSome, option_map, slice_index};
+ghost use Rattle.bgp_wire.specs.Faults.{Gives, notice};
+ghost use Rattle.bgp_wire.specs.Attributes.{attribute_of, has_wrong_flags, has_wrong_size, is_old_form, judge_unrecognized, is_no_host, attribute_at, milder, rule, rule_of, size_at};
+
+use crate::notice::{Refusal, refused};
+use bgp_attr::Profile;
+use std::alloc::Global;
+
+/// An attribute as it came (RFC 4271, section 4.3).
+#[derive(Clone, Copy)]
+pub(crate) struct RawAttribute<'a> {
+    pub(crate) flags: u8,
+    /// The attribute type code.
+    pub(crate) kind: u8,
+    pub(crate) value: &'a [u8],
+    /// All octets, from the flags to the end of the value.
+    pub(crate) octets: &'a [u8],
+}
+
+/// The length field of the first attribute, and how many octets stand before its value.
+#[tactic(auto, unfolding(crate::specs::Attributes::size_at))]
+fn size_at(bytes: &[u8]) -> Option<(usize, usize)>
+    ensures value { result ≡ size_at bytes.now }
+    ensures small { IfSome result (λ x. (x.0 < 2 ^ 16) × (2 < x.1) × (x.1 < 5)) }
+{
+    match bytes {
+        [] => None,
+        [_] => None,
+        [_, _] => None,
+        [flags, _, high] => {
+            if *flags / 16 % 2 == 1 {
+                None
+            } else {
+                Some((usize::from(*high), 3))
+            }
+        }
+        [flags, _, high, low, ..] => {
+            if *flags / 16 % 2 == 1 {
+                Some((usize::from(*high) * 256 + usize::from(*low), 4))
+            } else {
+                Some((usize::from(*high), 3))
+            }
+        }
+    }
+}
+
+/// The first attribute, and what follows it; none where it runs beyond the end.
+pub(crate) fn read_attribute(bytes: &[u8]) -> Option<(RawAttribute<'_>, &[u8])>
+    ensures { option_map (λ x. (attribute_of x.0, x.1.now)) result ≡ attribute_at bytes.now }
+{
+    let (size, header) = match size_at(bytes) {
+        None => return None,
+        Some(found) => found,
+    };
+    if bytes.len() < header + size {
+        return None;
+    }
+    let (octets, rest) = bytes.split_at(header + size);
+    let value = &octets[header..];
+    Some((
+        RawAttribute {
+            flags: bytes[0],
+            kind: bytes[1],
+            value,
+            octets,
+        },
+        rest,
+    ))
+}
 
 /// What is asked of a recognized type.
 #[derive(Clone, Copy)]
@@ -17,4 +87,121 @@ pub(crate) enum Verdict {
     Discard,
     /// The whole UPDATE withdraws its prefixes (RFC 7606, section 2).
     Withdraw,
+}
+
+impl Verdict {
+    ghost use Rattle.bgp_wire.specs.Found.{is_withdraw};
+
+    pub(crate) fn is_withdraw(self) -> bool
+        ensures { result ≡ is_withdraw self }
+    {
+        match self {
+            Verdict::Keep | Verdict::Discard => false,
+            Verdict::Withdraw => true,
+        }
+    }
+}
+
+fn rule(optional: bool, transitive: bool, size: Option<usize>) -> Option<TypeRule>
+    ensures { result ≡ rule optional transitive size }
+{
+    Some(TypeRule {
+        optional,
+        transitive,
+        size,
+    })
+}
+
+/// The recognized types: ORIGIN, AS_PATH, NEXT_HOP, MULTI_EXIT_DISC, LOCAL_PREF, ATOMIC_AGGREGATE and AGGREGATOR (RFC 4271,
+/// section 5).
+#[tactic(auto, unfolding(crate::specs::Attributes::rule_of))]
+pub(crate) fn rule_of(as4: bool, kind: u8) -> Option<TypeRule>
+    ensures { result ≡ rule_of as4 kind }
+{
+    if kind == 1 {
+        rule(false, true, Some(1))
+    } else if kind == 2 {
+        rule(false, true, None)
+    } else if kind == 3 {
+        rule(false, true, Some(4))
+    } else if kind == 4 {
+        rule(true, false, Some(4))
+    } else if kind == 5 {
+        rule(false, true, Some(4))
+    } else if kind == 6 {
+        rule(false, true, Some(0))
+    } else if kind == 7 {
+        rule(true, true, Some(if as4 { 8 } else { 6 }))
+    } else {
+        None
+    }
+}
+
+/// A fault, or something milder where errors are handled in the revised manner.
+pub(crate) fn milder(
+    alloc: Global,
+    profile: Profile,
+    mild: Verdict,
+    code: u8,
+    subcode: u8,
+    octets: &[u8],
+) -> Result<Verdict, Refusal>
+    ensures { Gives (λ v. v) result (milder profile mild (notice code subcode octets.now)) }
+{
+    if profile.revised {
+        Ok(mild)
+    } else {
+        Err(refused(alloc, code, subcode, octets))
+    }
+}
+
+pub(crate) fn has_wrong_flags(rule: TypeRule, raw: &RawAttribute) -> bool
+    ensures { result ≡ has_wrong_flags rule (attribute_of raw.now) }
+{
+    let optional = raw.flags / 128 % 2 == 1;
+    let transitive = raw.flags / 64 % 2 == 1;
+    optional != rule.optional || transitive != rule.transitive
+}
+
+pub(crate) fn has_wrong_size(rule: TypeRule, value: &[u8]) -> bool
+    ensures { result ≡ has_wrong_size rule.size value.now }
+{
+    match rule.size {
+        None => false,
+        Some(size) => value.len() != size,
+    }
+}
+
+/// AS4_PATH and AS4_AGGREGATOR among speakers that use four octets (RFC 6793, section 4.1).
+fn is_old_form(profile: Profile, kind: u8) -> bool
+    ensures { result ≡ is_old_form profile kind }
+{
+    profile.as4 && (kind == 17 || kind == 18)
+}
+
+/// What becomes of an unrecognized attribute (RFC 4271, section 5).
+pub(crate) fn judge_unrecognized(
+    alloc: Global,
+    profile: Profile,
+    raw: &RawAttribute,
+) -> Result<Verdict, Refusal>
+    ensures { Gives (λ v. v) result (judge_unrecognized profile (attribute_of raw.now)) }
+{
+    let optional = raw.flags / 128 % 2 == 1;
+    if !optional {
+        return Err(refused(alloc, 3, 2, raw.octets));
+    }
+    let transitive = raw.flags / 64 % 2 == 1;
+    if transitive && !is_old_form(profile, raw.kind) {
+        Ok(Verdict::Keep)
+    } else {
+        Ok(Verdict::Discard)
+    }
+}
+
+/// A first octet that no address of a host has.
+pub(crate) fn is_no_host(first: u8) -> bool
+    ensures { result ≡ is_no_host first }
+{
+    first == 0 || first == 127 || first >= 224
 }

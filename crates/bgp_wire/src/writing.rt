@@ -6,13 +6,20 @@ ghost use Rattle.byteorder.specs.Endian.{big_bytes};
 ghost use Rattle.bgp_wire.specs.Spelling.{FitsAttrs, fields_octets, framed, notification_octets, prefixes_octets, attrs_octets, update_octets};
 
 mod attributes;
+mod laws;
 mod numbers;
+#[cfg(test)]
+mod tests;
 
 use crate::message::{Prefixes, Update};
 use crate::writing::attributes::push_attrs;
 use crate::writing::numbers::{push_prefix, push_u16};
 use addr4::Memory;
 use bgp_attr::{Attrs, Profile};
+pub use laws::{
+    announcements_are_read, prepended_paths_are_readable, what_is_readable_fits,
+    what_was_read_is_readable, what_was_read_is_written_and_read_again, withdrawals_are_read,
+};
 use std::alloc::Global;
 
 /// The most octets that a message has (RFC 4271, section 4.1).
@@ -31,7 +38,7 @@ pub fn write_update(
 ) -> Result<Option<Vec<u8>>, Memory>
     requires one { length update.now.withdrawn + length update.now.announced ≡ 1 }
     requires fits { ForSome update.now.attrs (FitsAttrs profile.as4) }
-    ensures { IfOk result (λ written. MatchOption written (4096 < length (update_octets profile.as4 update.now)) (λ v. (length (update_octets profile.as4 update.now) ≤ 4096) × (v.items ≡ update_octets profile.as4 update.now))) }
+    ensures { let octets = update_octets profile.as4 update.now in IfOk result (λ written. MatchOption written (4096 < length octets) (λ v. (length octets ≤ 4096) × (v.items ≡ octets))) }
 {
     let withdrawn = write_prefixes(alloc, &update.withdrawn)?;
     let attributes = write_attrs(alloc, profile.as4, &update.attrs)?;

@@ -1,0 +1,269 @@
+-- What a peer said can be said again.
+use Rattle.std.proofs.Common.{◌≡◌, ◌⊎◌, ℕ, zero, suc, ◌+◌, ◌-◌, ◌*◌, ◌/◌, ◌%◌, ◌^◌, ◌≤◌, ◌<◌, Bool, true, false, cond, eqb, not, ◌&&◌, List, [], ◌∷◌, ◌++◌, length, drop, get_or, Option, Some, None, Result, Ok, Err, refl, sym, ap, subst, ◌∙◌, inl, inr, arith}
+use Rattle.std.specs.Prelude.{All, filter, option_map, slice_index, slice_index_or, IsSomeAnd}
+use Rattle.std.specs.Option.{ForSome}
+use Rattle.std.proofs.lemmas.Bool.{eqb-true, eqb-false, eq-eqb}
+use Rattle.std.proofs.Math.Nat.{mul-mod_right}
+use Rattle.byteorder.specs.Endian.{big_number}
+use Rattle.byteorder.specs.Numbers.{big_from-lt}
+use Rattle.addr4.specs.Blocks.{size_of_length, masked_to}
+use Rattle.addr4.specs.Prefixes.{Network, IsMasked}
+use Rattle.addr4.proofs.BlockLemmas.{size_pos}
+use Rattle.bgp_attr.specs.declared.attrs.Aggregator.{Aggregator}
+use Rattle.bgp_attr.specs.declared.attrs.Attrs.{Attrs}
+use Rattle.bgp_attr.specs.declared.path.Segment.{Segment}
+use Rattle.bgp_attr.specs.declared.speaker.Profile.{Profile}
+use Rattle.bgp_attr.specs.declared.unrecognized.Unrecognized.{Unrecognized}
+use Rattle.bgp_wire.specs.declared.attributes.TypeRule.{TypeRule}
+use Rattle.bgp_wire.specs.declared.attributes.Verdict.{Verdict}
+use Rattle.bgp_wire.specs.declared.attributes.Verdict.TheVariants.{Keep, Discard, Withdraw}
+use Rattle.bgp_wire.specs.Faults.{notice}
+use Rattle.bgp_wire.specs.Items.{AreItems}
+use Rattle.bgp_wire.specs.Prefixes.{masked, IsPrefix, ArePrefixes}
+use Rattle.bgp_wire.specs.Paths.{width_of, numbers_at, IsSegment, IsPath}
+use Rattle.bgp_wire.specs.Attributes.{Attribute, IsAttribute, AreAttributes, kept_by, rule_of, has_wrong_size, is_no_host, is_optional, is_transitive, is_old_form, value_fault, judge_by}
+use Rattle.bgp_wire.specs.Routes.{kept_of, number_of, aggregator_of, is_unrecognized, AscendsFrom, value_of, AreUnrecognized, AreAttrs}
+use Rattle.bgp_wire.specs.Readable.{IsNetwork, IsReadableSegment, IsHost, IsReadable}
+use Rattle.bgp_wire.proofs.TestLemmas.{not_false, unequal}
+use Rattle.bgp_wire.proofs.RouteLaws.{IsKept, IsKeptOf, IsGood, kept_are, recognized_is_good, value_below, past_first}
+use Rattle.bgp_wire.proofs.SpelledAttributes.{GoodType, no_rule}
+
+-- ---- lists
+
+-- by recursion
+abbrev pub Every : {A : Type 0} → (A → Type 0) → List A → Type 0
+Every P [] = Unit {0}
+Every P (x ∷ xs) = P x × Every P xs
+
+pub every_all : {A : Type 0} (P : A → Type 0) (xs : List A) → Every P xs → All P xs
+every_all P [] every k d lt = absurd (omega arith)
+every_all P (x ∷ xs) every zero d lt = every.0
+every_all P (x ∷ xs) every (suc k) d lt = every_all P xs every.1 k d (omega arith)
+
+pub all_every : {A : Type 0} (P : A → Type 0) (xs : List A) → All P xs → Every P xs
+all_every P [] all = tt
+all_every P (x ∷ xs) all = (all 0 x (omega arith), all_every P xs (λ k d lt. all (suc k) d (omega arith)))
+
+pub every_append : {A : Type 0} (P : A → Type 0) (xs ys : List A) → Every P xs → Every P ys → Every P (xs ++ ys)
+every_append P [] ys first later = later
+every_append P (x ∷ xs) ys first later = (first.0, every_append P xs ys first.1 later)
+
+pub every_front : {A : Type 0} (P : A → Type 0) (xs ys : List A) → Every P (xs ++ ys) → Every P xs
+every_front P [] ys every = tt
+every_front P (x ∷ xs) ys every = (every.0, every_front P xs ys every.1)
+
+pub every_back : {A : Type 0} (P : A → Type 0) (xs ys : List A) → Every P (xs ++ ys) → Every P ys
+every_back P [] ys every = every
+every_back P (x ∷ xs) ys every = every_back P xs ys every.1
+
+pub every_filter : {A : Type 0} (P : A → Type 0) (test : A → Bool) (xs : List A) → Every P xs → Every P (filter test xs)
+every_filter P test [] every = tt
+every_filter P test (x ∷ xs) every = elim (test x) as (λ b. Every P (cond b (x ∷ filter test xs) (filter test xs))) [
+  | true ↦ (every.0, every_filter P test xs every.1)
+  | false ↦ every_filter P test xs every.1
+]
+
+-- octets
+abbrev pub Octets : List ℕ → Type 0
+Octets xs = Every (λ n. n < 256) xs
+
+octet_at : (xs : List ℕ) → Octets xs → (k : ℕ) → slice_index xs k < 256
+octet_at [] octets k = omega arith
+octet_at (x ∷ xs) octets zero = octets.0
+octet_at (x ∷ xs) octets (suc k) = octet_at xs octets.1 k
+
+octets_drop : (n : ℕ) (xs : List ℕ) → Octets xs → Octets (drop n xs)
+octets_drop zero xs octets = octets
+octets_drop (suc n) [] octets = tt
+octets_drop (suc n) (x ∷ xs) octets = octets_drop n xs octets.1
+
+number_fits : (n : ℕ) (xs : List ℕ) → Octets xs → big_number n xs < 256 ^ n
+number_fits n xs octets = big_from-lt 0 n xs (octet_at xs octets)
+
+-- ---- prefixes
+
+masked_multiple : (x s : ℕ) → 0 < s → (x - x % s) % s ≡ 0
+masked_multiple x s some = let e : x - x % s ≡ s * (x / s) = omega arith in ap (λ n. n % s) e ∙ mul-mod_right s (x / s)
+
+network_read : (octets : List ℕ) (p : Network) → Octets octets → IsPrefix octets p → IsNetwork p
+network_read octets p are is =
+    let bits : Octets is.bits = (subst Octets is.spelled are).1 in
+    let fits = number_fits 4 is.bits bits in
+    let address : p.address ≡ masked_to 32 (big_number 4 is.bits) p.length = ap (λ (q : Network). q.address) is.value in
+    record {
+      masked = (is.short, ap (λ n. n % size_of_length 32 p.length) address ∙ masked_multiple (big_number 4 is.bits) (size_of_length 32 p.length) (size_pos 32 p.length));
+      fits = omega (arith, address, fits);
+    }
+
+pub networks_read : (bytes : List ℕ) (ps : List Network) → Octets bytes → ArePrefixes bytes ps → Every IsNetwork ps
+networks_read bytes [] octets are = tt
+networks_read bytes (p ∷ ps) octets are =
+    let parts = subst Octets are.2 octets in
+    (network_read are.0 p (every_front (λ n. n < 256) are.0 are.1 parts) are.3, networks_read are.1 ps (every_back (λ n. n < 256) are.0 are.1 parts) are.4)
+
+-- ---- paths
+
+numbers_fit : (width count : ℕ) (octets : List ℕ) → Octets octets → Every (λ n. n < 256 ^ width) (numbers_at width count octets)
+numbers_fit width zero octets are = tt
+numbers_fit width (suc count) octets are = (number_fits width octets are, numbers_fit width count (drop width octets) (octets_drop width octets are))
+
+segment_read : (as4 : Bool) (octets : List ℕ) (s : Segment) → Octets octets → IsSegment (width_of as4) octets s → IsReadableSegment as4 s
+segment_read as4 octets s are is =
+    let parts = subst Octets is.spelled are in
+    let numbers = numbers_fit (width_of as4) (length s.numbers) is.numbers parts.1.1 in
+    record { some = is.some; few = omega (arith, parts.1.0); numbers = every_all (λ n. n < 256 ^ width_of as4) s.numbers (subst (Every (λ n. n < 256 ^ width_of as4)) (sym is.value) numbers) }
+
+path_read : (as4 : Bool) (bytes : List ℕ) (path : List Segment) → Octets bytes → IsPath (width_of as4) bytes path → Every (IsReadableSegment as4) path
+path_read as4 bytes [] octets are = tt
+path_read as4 bytes (s ∷ path) octets are =
+    let parts = subst Octets are.2 octets in
+    (segment_read as4 are.0 s (every_front (λ n. n < 256) are.0 are.1 parts) are.3, path_read as4 are.1 path (every_back (λ n. n < 256) are.0 are.1 parts) are.4)
+
+-- ---- attributes
+
+some_same : {A : Type 0} (x y : A) → ◌≡◌ {A = Option A} (Some x) (Some y) → x ≡ y
+some_same x y e = cc
+
+not_some : {A : Type 0} (x : A) → ◌≡◌ {A = Option A} None (Some x) → ⊥
+not_some x e = absurd (cc)
+
+-- what is known of an attribute that is kept
+pub record IsHeld (p : Profile) (external : Bool) (kind : ℕ) (a : Attribute) : Type 0 where
+  pub is : IsAttribute a
+  pub octets : Octets a.octets
+  pub same : a.kind ≡ kind
+  pub kept : IsKept p external a
+
+value_octets : (a : Attribute) → IsAttribute a → Octets a.octets → Octets a.value
+value_octets a is octets = elim is [
+  | inl short ↦ (subst Octets short.spelled octets).1.1.1
+  | inr long ↦ (subst Octets long.spelled octets).1.1.1.1
+]
+
+stands : (p : Profile) (external : Bool) (seen bytes : List ℕ) (steps : List (Attribute × Verdict)) (runs : Bool) → AreAttributes p external seen bytes steps runs → Octets bytes
+    → (kind : ℕ) (a : Attribute) → kept_of kind (kept_by steps runs).0 ≡ Some a → IsAttribute a × Octets a.octets
+stands p external seen bytes [] runs are octets kind a found = absurd (not_some a found)
+stands p external seen bytes ((b, Discard) ∷ steps) runs are octets kind a found =
+    stands p external (seen ++ b.kind ∷ []) are.0 steps runs are.4 (every_back (λ n. n < 256) b.octets are.0 (subst Octets are.1 octets)) kind a found
+stands p external seen bytes ((b, Withdraw) ∷ steps) runs are octets kind a found =
+    stands p external (seen ++ b.kind ∷ []) are.0 steps runs are.4 (every_back (λ n. n < 256) b.octets are.0 (subst Octets are.1 octets)) kind a found
+stands p external seen bytes ((b, Keep) ∷ steps) runs are octets kind a found =
+    by_test (eqb b.kind kind) found (stands p external (seen ++ b.kind ∷ []) are.0 steps runs are.4 (every_back (λ n. n < 256) b.octets are.0 (subst Octets are.1 octets)) kind a)
+  where
+    by_test : (t : Bool) → cond t (Some b) (kept_of kind (kept_by steps runs).0) ≡ Some a → (kept_of kind (kept_by steps runs).0 ≡ Some a → IsAttribute a × Octets a.octets) → IsAttribute a × Octets a.octets
+    by_test true e later = subst (λ (x : Attribute). IsAttribute x × Octets x.octets) (some_same b a e) (are.2, every_front (λ n. n < 256) b.octets are.0 (subst Octets are.1 octets))
+    by_test false e later = later e
+
+pub held : (p : Profile) (external : Bool) (bytes : List ℕ) (steps : List (Attribute × Verdict)) (runs : Bool) → AreAttributes p external [] bytes steps runs → Octets bytes
+    → (kind : ℕ) (a : Attribute) → kept_of kind (kept_by steps runs).0 ≡ Some a → IsHeld p external kind a
+held p external bytes steps runs are octets kind a found =
+    let s = stands p external [] bytes steps runs are octets kind a found in
+    let k = kept_are p external [] bytes steps runs are kind a found in
+    record { is = s.0; octets = s.1; same = k.is; kept = k.kept }
+
+pub good : (p : Profile) (external : Bool) (kind : ℕ) (a : Attribute) (r : TypeRule) → rule_of p.as4 kind ≡ Some r → IsHeld p external kind a → IsGood p.as4 r a
+good p external kind a r ruled held = recognized_is_good p external a r (ap (judge_by p external a) (sym (ap (rule_of p.as4) held.same ∙ ruled)) ∙ held.kept)
+
+pub right_size : (as4 : Bool) (r : TypeRule) (a : Attribute) (n : ℕ) → r.size ≡ Some n → IsGood as4 r a → length a.value ≡ n
+right_size as4 r a n e good = eqb-true _ _ (not_false _ (ap (λ s. has_wrong_size s a.value) (sym e) ∙ good.size))
+
+-- what an attribute that is there was read from
+pub found_from : {B : Type 0} (f : Attribute → B) (o : Option Attribute) (x : B) → option_map f o ≡ Some x → (a : Attribute) × (o ≡ Some a) × (f a ≡ x)
+found_from f None x e = absurd (not_some x e)
+found_from f (Some a) x e = (a, refl, some_same (f a) x e)
+
+host_read : (p : Profile) (external : Bool) (a : Attribute) (n : ℕ) → IsHeld p external 3 a → big_number 4 a.value ≡ n → IsHost n
+unfolding rule_of value_fault
+host_read p external a n held e =
+    let octets = value_octets a held.is held.octets in
+    let fits = number_fits 4 a.value octets in
+    let fault : value_fault p.as4 a ≡ None = (good p external 3 a (record { optional = false; transitive = true; size = Some 4 }) refl held).value in
+    let at : value_fault p.as4 a ≡ cond (is_no_host (slice_index a.value 0)) (Some (notice 3 8 a.octets)) None = ap (λ k. value_fault p.as4 (record a { kind = k })) held.same in
+    let first : big_number 4 a.value / 2 ^ 24 ≡ slice_index a.value 0 = omega (arith, octet_at a.value octets 0, octet_at a.value octets 1, octet_at a.value octets 2, octet_at a.value octets 3) in
+    record { fits = omega (arith, fits, e); first = ap (λ n. is_no_host (n / 2 ^ 24)) (sym e) ∙ ap is_no_host first ∙ by_test (is_no_host (slice_index a.value 0)) (sym at ∙ fault) }
+  where
+    by_test : (b : Bool) → cond b (Some (notice 3 8 a.octets)) None ≡ None → b ≡ false
+    by_test true e = absurd (not_some (notice 3 8 a.octets) (sym e))
+    by_test false e = refl
+
+-- ---- unrecognized attributes
+
+pub each_type : (P : Unrecognized → Type 0) (n : ℕ) (us : List Unrecognized) → AscendsFrom n us → ((u : Unrecognized) → value_of u.kind us ≡ Some u.value → P u) → Every P us
+each_type P n [] order told = tt
+each_type P n (u ∷ us) order told = (
+  told u (ap (λ b. cond b (Some u.value) (value_of u.kind us)) (eq-eqb u.kind u.kind refl)),
+  each_type P (suc u.kind) us order.1 (λ v e. told v (ap (λ b. cond b (Some u.value) (value_of v.kind us)) (apart v.kind v.value e) ∙ e)),
+)
+  where
+    apart : (kind : ℕ) (value : List ℕ) → value_of kind us ≡ Some value → eqb u.kind kind ≡ false
+    apart kind value e = unequal u.kind kind (λ same. not_some value (sym (value_below (suc u.kind) kind us order.1 (omega arith)) ∙ e))
+
+good_type : (p : Profile) (external : Bool) (kind : ℕ) (a : Attribute) → is_unrecognized kind ≡ true → IsHeld p external kind a → is_old_form p kind ≡ false
+good_type p external kind a unknown held =
+    let judged = ap (judge_by p external a) (sym (no_rule p.as4 a.kind (ap is_unrecognized held.same ∙ unknown))) ∙ held.kept in
+    ap (is_old_form p) (sym held.same) ∙ by_tests (is_optional a) (is_transitive a) (is_old_form p a.kind) judged
+  where
+    by_tests : (o t old : Bool) → cond (not o) (Err (notice 3 2 a.octets)) (cond (t && not old) (Ok Keep) (Ok Discard)) ≡ Ok Keep → old ≡ false
+    by_tests true true false e = refl
+    by_tests true true true e = absurd (cc)
+    by_tests true false old e = absurd (cc)
+    by_tests false t old e = absurd (cc)
+
+-- the type of an attribute that stands in a route is one of the kept ones
+pub unrecognized_held : (p : Profile) (external : Bool) (bytes : List ℕ) (steps : List (Attribute × Verdict)) (runs : Bool) → AreAttributes p external [] bytes steps runs → Octets bytes → (us : List Unrecognized) → AreUnrecognized (kept_by steps runs).0 us
+    → (kind : ℕ) (value : List ℕ) → value_of kind us ≡ Some value → (is_unrecognized kind ≡ true) × ((a : Attribute) × (kept_of kind (kept_by steps runs).0 ≡ Some a) × (a.value ≡ value))
+unrecognized_held p external bytes steps runs are octets us is kind value e = by_test (is_unrecognized kind) refl (sym (is.values kind) ∙ e)
+  where
+    by_test : (b : Bool) → is_unrecognized kind ≡ b → cond b (option_map (λ a. a.value) (kept_of kind (kept_by steps runs).0)) None ≡ Some value
+        → (is_unrecognized kind ≡ true) × ((a : Attribute) × (kept_of kind (kept_by steps runs).0 ≡ Some a) × (a.value ≡ value))
+    by_test true unknown e = (unknown, found_from (λ (a : Attribute). a.value) (kept_of kind (kept_by steps runs).0) value e)
+    by_test false known e = absurd (not_some value e)
+
+-- ---- all of a route
+
+pub some_in : (o : Option Attribute) (P : Attribute → Type 0) → IsSomeAnd o P → (a : Attribute) × (o ≡ Some a) × P a
+some_in None P is = absurd is
+some_in (Some a) P is = (a, refl, is)
+
+from_internal : (external : Bool) (o : Option ℕ) (n : ℕ) → cond external None o ≡ Some n → (external ≡ false) × (o ≡ Some n)
+from_internal true o n e = absurd (not_some n e)
+from_internal false o n e = (refl, e)
+
+pub attrs_read : (p : Profile) (external : Bool) (bytes : List ℕ) (steps : List (Attribute × Verdict)) (runs : Bool) (attrs : Attrs) → AreAttributes p external [] bytes steps runs → Octets bytes → AreAttrs p.as4 external (kept_by steps runs).0 attrs
+    → IsReadable p external attrs
+attrs_read p external bytes steps runs attrs are octets is = record {
+  path =
+      let s = some_in (kept_of 2 kept) (λ a. IsPath (width_of p.as4) a.value attrs.path) is.path in
+      every_all (IsReadableSegment p.as4) attrs.path (path_read p.as4 s.0.value attrs.path (value 2 s.0 s.1) s.2);
+  next_hop = let h = found_from (λ (a : Attribute). big_number 4 a.value) (kept_of 3 kept) attrs.next_hop is.next_hop in host_read p external h.0 attrs.next_hop (at 3 h.0 h.1) h.2;
+  med = λ n e. number 4 n (sym is.med ∙ e);
+  local_pref = λ n e. let l = from_internal external (number_of 5 kept) n (sym is.local_pref ∙ e) in (l.0, number 5 n l.1);
+  aggregator = λ g e. aggregator g (sym is.aggregator ∙ e);
+  order = is.unrecognized.order;
+  types = every_all (GoodType p) attrs.unrecognized (each_type (GoodType p) 0 attrs.unrecognized is.unrecognized.order (λ u e.
+      let k = unrecognized_held p external bytes steps runs are octets attrs.unrecognized is.unrecognized u.kind u.value e in
+      (k.0, good_type p external u.kind k.1.0 k.0 (at u.kind k.1.0 k.1.1))));
+}
+  where
+    kept : List Attribute
+    kept = (kept_by steps runs).0
+
+    at : (kind : ℕ) (a : Attribute) → kept_of kind (kept_by steps runs).0 ≡ Some a → IsHeld p external kind a
+    at kind a e = held p external bytes steps runs are octets kind a e
+
+    value : (kind : ℕ) (a : Attribute) → kept_of kind (kept_by steps runs).0 ≡ Some a → Octets a.value
+    value kind a e = let h = held p external bytes steps runs are octets kind a e in value_octets a h.is h.octets
+
+    number : (kind n : ℕ) → number_of kind (kept_by steps runs).0 ≡ Some n → n < 2 ^ 32
+    number kind n e =
+        let a = found_from (λ (a : Attribute). big_number 4 a.value) (kept_of kind (kept_by steps runs).0) n e in
+        let h = held p external bytes steps runs are octets kind a.0 a.1 in
+        omega (arith, number_fits 4 a.0.value (value_octets a.0 h.is h.octets), a.2)
+
+    aggregator : (g : Aggregator) → option_map (aggregator_of p.as4) (kept_of 7 (kept_by steps runs).0) ≡ Some g → (g.asn < 256 ^ width_of p.as4) × (g.addr < 2 ^ 32)
+    aggregator g e =
+        let a = found_from (aggregator_of p.as4) (kept_of 7 (kept_by steps runs).0) g e in
+        let h = held p external bytes steps runs are octets 7 a.0 a.1 in
+        let octets = value_octets a.0 h.is h.octets in
+        subst (λ (g : Aggregator). (g.asn < 256 ^ width_of p.as4) × (g.addr < 2 ^ 32)) a.2
+        (number_fits (width_of p.as4) a.0.value octets, number_fits 4 (drop (width_of p.as4) a.0.value) (octets_drop (width_of p.as4) a.0.value octets))

@@ -1,0 +1,349 @@
+//! What attributes say, gathered from left to right.
+
+ghost use Rattle.std.specs.Prelude.{◌≡◌, ◌+◌, ◌≤◌, length, true, false, Bool, [], IfOk, IfErr, IfSome, position, OnOk, OnErr, insert, unwrap_or, slice_index, IsTrue, nat_lt, ◌<◌, ◌&&◌, ℕ, ◌==◌, ◌||◌};
+ghost use Rattle.bgp_wire.specs.Faults.{Gives, notice};
+ghost use Rattle.bgp_wire.specs.Paths.{width_of};
+ghost use Rattle.bgp_wire.specs.Attributes.{attribute_of, judge_value, judge_unrecognized, judge_recognized, judge_by, judgement, rule_of, value_fault};
+ghost use Rattle.bgp_wire.specs.Routes.{aggregator_of};
+ghost use Rattle.bgp_wire.specs.Found.{has_type, placed, origin_of, found_with, Takes, Gathers, IsGathered, GathersOne, RefusesOne, IsGatheredTo};
+
+use crate::attributes::{
+    RawAttribute, TypeRule, Verdict, has_wrong_flags, has_wrong_size, is_no_host,
+    judge_unrecognized, milder, read_attribute, rule_of,
+};
+use crate::notice::{Refusal, refused};
+use crate::numbers::{as_number, four_octets, width};
+use crate::path::read_path;
+use addr4::Addr;
+use bgp_attr::{Aggregator, AsPath, Octets, Origin, Profile, Unrecognized, UnrecognizedAttrs};
+use std::alloc::Global;
+use std::marker::Model;
+
+/// Types of attributes.
+#[derive(Drop)]
+pub(crate) struct TypeSet {
+    has: [bool; 256],
+}
+
+impl TypeSet {
+    fn new() -> TypeSet
+        ensures { (kind : ℕ) → has_type result kind ≡ false }
+    {
+        TypeSet { has: [false; 256] }
+    }
+
+    fn has(&self, kind: u8) -> bool
+        ensures { result ≡ has_type self.now kind }
+    {
+        self.has[usize::from(kind)]
+    }
+
+    fn add(&mut self, kind: u8)
+        ensures { (k : ℕ) → has_type self.new k ≡ (has_type self.old k || (kind == k)) }
+    {
+        self.has[usize::from(kind)] = true;
+    }
+}
+
+/// Unrecognized attributes, by ascending type.
+#[derive(Drop)]
+pub(crate) struct Ascending {
+    items: Vec<Unrecognized>,
+}
+
+impl Model for Ascending {
+    ghost use Rattle.std.specs.Prelude.{List};
+    ghost use Rattle.bgp_attr.specs.declared.unrecognized.Unrecognized.{Unrecognized};
+
+    ghost Value = { List Unrecognized };
+
+    ghost view = { λ a. a.items.items };
+}
+
+/// The place of the first attribute above a type.
+fn first_above(items: &[Unrecognized], kind: u8) -> Option<usize>
+    ensures place { result ≡ position (λ other. nat_lt kind other.kind) items.now }
+    ensures within { IfSome result (λ at. at < length items.now) }
+{
+    items.iter().position(|other| kind < other.kind)
+}
+
+impl Ascending {
+    fn new(alloc: Global) -> Ascending
+        ensures { result ≡ [] }
+    {
+        Ascending {
+            items: Vec::new(alloc),
+        }
+    }
+
+    fn place(&mut self, item: Unrecognized) -> Result<(), Refusal>
+        ensures ok { OnOk result (self.new ≡ placed item self.old) }
+        ensures err { IfErr result (λ e. e ≡ Refusal.Memory) }
+    {
+        let end = self.items.len();
+        let at = first_above(self.items.as_slice(), item.kind).unwrap_or(end);
+        self.items.insert(at, item)?;
+        Ok(())
+    }
+
+    pub(crate) fn into_attrs(self) -> UnrecognizedAttrs
+        ensures { result ≡ self }
+    {
+        UnrecognizedAttrs::from_vec(self.items)
+    }
+}
+
+/// What was found so far; nothing of a type stands for no attribute of that type.
+#[derive(Drop)]
+pub(crate) struct Found {
+    pub(crate) origin: Option<Origin>,
+    pub(crate) path: Option<AsPath>,
+    pub(crate) next_hop: Option<Addr>,
+    pub(crate) med: Option<u32>,
+    pub(crate) local_pref: Option<u32>,
+    pub(crate) atomic: bool,
+    pub(crate) aggregator: Option<Aggregator>,
+    pub(crate) unrecognized: Ascending,
+}
+
+/// What was gathered so far.
+#[derive(Drop)]
+pub(crate) struct Gathered {
+    seen: TypeSet,
+    pub(crate) found: Found,
+    /// Whether the UPDATE is a withdraw (RFC 7606, section 2).
+    pub(crate) withdraw: bool,
+}
+
+fn origin_of(code: u8) -> Origin
+    ensures { result ≡ origin_of code }
+{
+    if code == 0 {
+        Origin::Igp
+    } else if code == 1 {
+        Origin::Egp
+    } else {
+        Origin::Incomplete
+    }
+}
+
+fn first_octet(octets: &[u8]) -> u8
+    ensures { result ≡ slice_index octets.now 0 }
+{
+    octets.first().copied().unwrap_or(0)
+}
+
+fn aggregator_of(as4: bool, raw: &RawAttribute) -> Aggregator
+    requires { width_of as4 ≤ length raw.now.value.now }
+    ensures { result ≡ aggregator_of as4 (attribute_of raw.now) }
+{
+    Aggregator {
+        asn: as_number(as4, raw.value),
+        addr: Addr::new(four_octets(&raw.value[width(as4)..])),
+        partial: raw.flags / 32 % 2 == 1,
+    }
+}
+
+impl Found {
+    fn new(alloc: Global) -> Found
+        ensures { (as4 : Bool) → Gathers as4 [] result }
+    {
+        Found {
+            origin: None,
+            path: None,
+            next_hop: None,
+            med: None,
+            local_pref: None,
+            atomic: false,
+            aggregator: None,
+            unrecognized: Ascending::new(alloc),
+        }
+    }
+
+    #[tactic(auto, unfolding(crate::specs::Attributes::value_fault, crate::specs::Found::found_with))]
+    fn take_path(
+        &mut self,
+        alloc: Global,
+        profile: Profile,
+        raw: &RawAttribute,
+    ) -> Result<Verdict, Refusal>
+        requires { raw.now.kind ≡ 2 }
+        ensures { Takes profile.as4 (attribute_of raw.now) self.old self.new result (judge_value profile (value_fault profile.as4 (attribute_of raw.now))) }
+    {
+        match read_path(alloc, profile.as4, raw.value) {
+            Ok(path) => {
+                self.path = Some(path);
+                Ok(Verdict::Keep)
+            }
+            Err(Refusal::Fault(_)) if profile.revised => Ok(Verdict::Withdraw),
+            Err(refusal) => Err(refusal),
+        }
+    }
+
+    /// Takes an attribute of a recognized type, whose flags and length are right, by its value (RFC 4271, section 6.3).
+    #[tactic(auto, unfolding(crate::specs::Attributes::value_fault, crate::specs::Found::found_with))]
+    fn take_value(
+        &mut self,
+        alloc: Global,
+        profile: Profile,
+        raw: &RawAttribute,
+    ) -> Result<Verdict, Refusal>
+        requires recognized { IsTrue (nat_lt 0 raw.now.kind && nat_lt raw.now.kind 8) }
+        requires aggregator { raw.now.kind ≡ 7 → width_of profile.as4 ≤ length raw.now.value.now }
+        ensures { Takes profile.as4 (attribute_of raw.now) self.old self.new result (judge_value profile (value_fault profile.as4 (attribute_of raw.now))) }
+    {
+        if raw.kind == 1 {
+            let code = first_octet(raw.value);
+            if code > 2 {
+                return milder(alloc, profile, Verdict::Withdraw, 3, 6, raw.octets);
+            }
+            self.origin = Some(origin_of(code));
+        } else if raw.kind == 2 {
+            return self.take_path(alloc, profile, raw);
+        } else if raw.kind == 3 {
+            if is_no_host(first_octet(raw.value)) {
+                return milder(alloc, profile, Verdict::Withdraw, 3, 8, raw.octets);
+            }
+            self.next_hop = Some(Addr::new(four_octets(raw.value)));
+        } else if raw.kind == 4 {
+            self.med = Some(four_octets(raw.value));
+        } else if raw.kind == 5 {
+            self.local_pref = Some(four_octets(raw.value));
+        } else if raw.kind == 6 {
+            self.atomic = true;
+        } else {
+            self.aggregator = Some(aggregator_of(profile.as4, raw));
+        }
+        Ok(Verdict::Keep)
+    }
+
+    /// Takes an attribute of a recognized type (RFC 4271, section 6.3).
+    fn take_recognized(
+        &mut self,
+        alloc: Global,
+        profile: Profile,
+        external: bool,
+        raw: &RawAttribute,
+        rule: TypeRule,
+    ) -> Result<Verdict, Refusal>
+        requires { rule_of profile.as4 raw.now.kind ≡ Some rule }
+        ensures { Takes profile.as4 (attribute_of raw.now) self.old self.new result (judge_recognized profile external (attribute_of raw.now) rule) }
+    {
+        if profile.revised && external && raw.kind == 5 {
+            return Ok(Verdict::Discard);
+        }
+        if has_wrong_flags(rule, raw) {
+            return milder(alloc, profile, Verdict::Withdraw, 3, 4, raw.octets);
+        }
+        if has_wrong_size(rule, raw.value) {
+            let mild = if raw.kind == 6 || raw.kind == 7 {
+                Verdict::Discard
+            } else {
+                Verdict::Withdraw
+            };
+            return milder(alloc, profile, mild, 3, 5, raw.octets);
+        }
+        self.take_value(alloc, profile, raw)
+    }
+
+    /// Takes an attribute of an unrecognized type.
+    fn take_unrecognized(
+        &mut self,
+        alloc: Global,
+        profile: Profile,
+        raw: &RawAttribute,
+    ) -> Result<Verdict, Refusal>
+        requires { rule_of profile.as4 raw.now.kind ≡ None }
+        ensures { Takes profile.as4 (attribute_of raw.now) self.old self.new result (judge_unrecognized profile (attribute_of raw.now)) }
+    {
+        match judge_unrecognized(alloc, profile, raw)? {
+            Verdict::Keep => {
+                let value = Octets::from_vec(Vec::from_slice(alloc, raw.value)?);
+                self.unrecognized.place(Unrecognized {
+                    kind: raw.kind,
+                    value,
+                })?;
+                Ok(Verdict::Keep)
+            }
+            verdict => Ok(verdict),
+        }
+    }
+
+    fn take(
+        &mut self,
+        alloc: Global,
+        profile: Profile,
+        external: bool,
+        raw: &RawAttribute,
+    ) -> Result<Verdict, Refusal>
+        ensures { Takes profile.as4 (attribute_of raw.now) self.old self.new result (judge_by profile external (attribute_of raw.now) (rule_of profile.as4 raw.now.kind)) }
+    {
+        match rule_of(profile.as4, raw.kind) {
+            Some(rule) => self.take_recognized(alloc, profile, external, raw, rule),
+            None => self.take_unrecognized(alloc, profile, raw),
+        }
+    }
+}
+
+impl Gathered {
+    fn new(alloc: Global) -> Gathered
+        ensures { (as4 : Bool) → IsGathered as4 [] ([], false) result }
+    {
+        Gathered {
+            seen: TypeSet::new(),
+            found: Found::new(alloc),
+            withdraw: false,
+        }
+    }
+
+    /// Judges an attribute, and gathers what it says where it is kept.
+    #[tactic(auto, unfolding(crate::specs::Attributes::judgement))]
+    fn take(
+        &mut self,
+        alloc: Global,
+        profile: Profile,
+        external: bool,
+        raw: &RawAttribute,
+    ) -> Result<(), Refusal>
+        ensures ok { OnOk result (GathersOne profile external (attribute_of raw.now) self.old self.new) }
+        ensures err { IfErr result (λ e. RefusesOne profile external (attribute_of raw.now) self.old e) }
+    {
+        if self.seen.has(raw.kind) {
+            milder(alloc, profile, Verdict::Discard, 3, 1, &[])?;
+            return Ok(());
+        }
+        let verdict = self.found.take(alloc, profile, external, raw)?;
+        self.withdraw |= verdict.is_withdraw();
+        self.seen.add(raw.kind);
+        Ok(())
+    }
+}
+
+/// The attributes of an UPDATE, from left to right (RFC 4271, section 6.3).
+pub(crate) fn read_attributes(
+    alloc: Global,
+    profile: Profile,
+    external: bool,
+    bytes: &[u8],
+) -> Result<Gathered, Refusal>
+    ensures { IsGatheredTo profile external bytes.now result }
+{
+    let mut gathered = Gathered::new(alloc);
+    let mut rest = bytes;
+    'attributes: while !rest.is_empty() {
+        let (raw, after) = match read_attribute(rest) {
+            None => {
+                if profile.revised {
+                    gathered.withdraw = true;
+                    return Ok(gathered);
+                }
+                return Err(refused(alloc, 3, 1, &[]));
+            }
+            Some(found) => found,
+        };
+        gathered.take(alloc, profile, external, &raw)?;
+        rest = after;
+    }
+    Ok(gathered)
+}

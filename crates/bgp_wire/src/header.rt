@@ -1,0 +1,87 @@
+//! The header of a message, and the fields of an UPDATE.
+
+ghost use Rattle.std.specs.Prelude.{◌≡◌, ◌+◌, ◌<◌, ◌≤◌, length, false, IfOk};
+ghost use Rattle.bgp_wire.specs.Faults.{Gives};
+ghost use Rattle.bgp_wire.specs.Updates.{fields_at, fields_of, has_wrong_length, header_at, is_marked};
+
+use crate::notice::{Refusal, refused};
+use crate::numbers::number_at;
+use std::alloc::Global;
+
+fn is_marked(bytes: &[u8]) -> bool
+    requires { 16 ≤ length bytes.now }
+    ensures { result ≡ is_marked bytes.now }
+{
+    bytes[..16].iter().all(|octet| *octet == 255)
+}
+
+/// Whether a message of a type has fewer octets than it must, or of a KEEPALIVE any more.
+fn has_wrong_length(kind: u8, size: usize) -> bool
+    ensures value { result ≡ has_wrong_length kind size }
+    ensures update { result ≡ false → kind ≡ 2 → 23 ≤ size }
+{
+    if kind == 1 {
+        size < 29
+    } else if kind == 2 {
+        size < 23
+    } else if kind == 3 {
+        size < 21
+    } else {
+        size != 19
+    }
+}
+
+/// The type of a message whose header has no fault (RFC 4271, section 6.1).
+#[tactic(auto, unfolding(crate::specs::Updates::header_at))]
+pub(crate) fn read_header(alloc: Global, bytes: &[u8]) -> Result<u8, Refusal>
+    ensures gives { Gives (λ kind. kind) result (header_at bytes.now) }
+    ensures kinds { IfOk result (λ kind. (0 < kind) × (kind < 5)) }
+    ensures update { IfOk result (λ kind. kind ≡ 2 → 23 ≤ length bytes.now) }
+{
+    if bytes.len() < 19 {
+        return Err(refused(alloc, 1, 2, &[]));
+    }
+    if !is_marked(bytes) {
+        return Err(refused(alloc, 1, 1, &[]));
+    }
+    let size = number_at(bytes, 16);
+    if size < 19 || size > 4096 || size != bytes.len() {
+        return Err(refused(alloc, 1, 2, &bytes[16..18]));
+    }
+    let kind = bytes[18];
+    if kind == 0 || kind > 4 {
+        return Err(refused(alloc, 1, 3, &bytes[18..19]));
+    }
+    if has_wrong_length(kind, bytes.len()) {
+        return Err(refused(alloc, 1, 2, &bytes[16..18]));
+    }
+    Ok(kind)
+}
+
+/// The three fields of an UPDATE (RFC 4271, section 4.3).
+#[derive(Clone, Copy)]
+pub(crate) struct UpdateFields<'a> {
+    pub(crate) withdrawn: &'a [u8],
+    pub(crate) attributes: &'a [u8],
+    pub(crate) announced: &'a [u8],
+}
+
+#[tactic(auto, unfolding(crate::specs::Updates::fields_at))]
+pub(crate) fn read_fields(alloc: Global, bytes: &[u8]) -> Result<UpdateFields<'_>, Refusal>
+    requires { 23 ≤ length bytes.now }
+    ensures { Gives fields_of result (fields_at bytes.now) }
+{
+    let withdrawn_size = number_at(bytes, 19);
+    if bytes.len() < withdrawn_size + 23 {
+        return Err(refused(alloc, 3, 1, &[]));
+    }
+    let attributes_size = number_at(bytes, 21 + withdrawn_size);
+    if bytes.len() < withdrawn_size + attributes_size + 23 {
+        return Err(refused(alloc, 3, 1, &[]));
+    }
+    Ok(UpdateFields {
+        withdrawn: &bytes[21..21 + withdrawn_size],
+        attributes: &bytes[23 + withdrawn_size..23 + withdrawn_size + attributes_size],
+        announced: &bytes[23 + withdrawn_size + attributes_size..],
+    })
+}

@@ -1,0 +1,205 @@
+//! Reading whole messages.
+
+ghost use Rattle.std.specs.Prelude.{◌≡◌, ◌≤◌, ◌++◌, length, IfOk, Bool};
+ghost use Rattle.bgp_wire.specs.declared.message.Message.{Message as Answer};
+ghost use Rattle.bgp_wire.specs.Faults.{Gives};
+ghost use Rattle.bgp_wire.specs.Found.{missing_from, lacks_from, attrs_from, update_of};
+ghost use Rattle.bgp_wire.specs.Updates.{reading_at, content_at};
+ghost use Rattle.bgp_wire.specs.Grammar.{without, GivesUpdate, GivesMessage, Answers};
+ghost use Rattle.bgp_wire.specs.Readable.{IsReadableMessage};
+
+use crate::found::{Found, read_attributes};
+use crate::header::{read_fields, read_header};
+use crate::message::{Message, Prefixes, Update};
+use crate::notice::{Refusal, refused};
+use crate::prefixes::read_prefixes;
+use addr4::{Memory, Prefix};
+use bgp_attr::{Attrs, Profile};
+use std::alloc::{AllocError, Global};
+
+/// The lowest type that an announcement lacks: ORIGIN, AS_PATH or NEXT_HOP.
+fn missing(found: &Found) -> Option<u8>
+    ensures { result ≡ missing_from found.now }
+{
+    if !found.origin.is_some() {
+        Some(1)
+    } else if !found.path.is_some() {
+        Some(2)
+    } else if !found.next_hop.is_some() {
+        Some(3)
+    } else {
+        None
+    }
+}
+
+/// Whether an announcement lacks an attribute, which makes it a withdraw in the revised manner.
+fn lacks(
+    alloc: Global,
+    profile: Profile,
+    announced: &[Prefix],
+    found: &Found,
+) -> Result<bool, Refusal>
+    ensures { Gives (λ lacking. lacking) result (lacks_from profile announced.now found.now) }
+{
+    if announced.is_empty() {
+        return Ok(false);
+    }
+    match missing(found) {
+        None => Ok(false),
+        Some(kind) => {
+            if profile.revised {
+                Ok(true)
+            } else {
+                Err(refused(alloc, 3, 3, &[kind]))
+            }
+        }
+    }
+}
+
+/// The attributes of a route, where ORIGIN, AS_PATH and NEXT_HOP were found.
+fn into_attrs(found: Found, external: bool) -> Option<Attrs>
+    ensures { result ≡ attrs_from external found }
+{
+    let Found {
+        origin,
+        path,
+        next_hop,
+        med,
+        local_pref,
+        atomic,
+        aggregator,
+        unrecognized,
+    } = found;
+    match (origin, path, next_hop) {
+        (Some(origin), Some(path), Some(next_hop)) => Some(Attrs {
+            origin,
+            path,
+            next_hop,
+            med,
+            local_pref: if external { None } else { local_pref },
+            atomic,
+            aggregator,
+            unrecognized: unrecognized.into_attrs(),
+        }),
+        _ => None,
+    }
+}
+
+/// Removes the prefixes that are among the others.
+fn remove_all(prefixes: &mut Vec<Prefix>, others: &[Prefix])
+    ensures { prefixes.new.items ≡ without others.now prefixes.old.items }
+{
+    prefixes.retain(|prefix| !others.contains(prefix));
+}
+
+/// The prefixes that aren't among the others, and then these.
+fn withdraw_all(withdrawn: Vec<Prefix>, announced: Vec<Prefix>) -> Result<Vec<Prefix>, AllocError>
+    ensures { IfOk result (λ all. all.items ≡ without announced.items withdrawn.items ++ announced.items) }
+{
+    let mut all = withdrawn;
+    let mut announced = announced;
+    remove_all(&mut all, announced.as_slice());
+    all.append(&mut announced)?;
+    Ok(all)
+}
+
+fn update_of(
+    alloc: Global,
+    external: bool,
+    withdraw: bool,
+    withdrawn: Vec<Prefix>,
+    announced: Vec<Prefix>,
+    found: Found,
+) -> Result<Update, AllocError>
+    ensures { IfOk result (λ update. update ≡ update_of external withdraw withdrawn.items announced.items found) }
+{
+    if withdraw {
+        return Ok(Update {
+            withdrawn: Prefixes::from_vec(withdraw_all(withdrawn, announced)?),
+            announced: Prefixes::from_vec(Vec::new(alloc)),
+            attrs: None,
+        });
+    }
+    let attrs = if announced.is_empty() {
+        None
+    } else {
+        into_attrs(found, external)
+    };
+    Ok(Update {
+        withdrawn: Prefixes::from_vec(withdrawn),
+        announced: Prefixes::from_vec(announced),
+        attrs,
+    })
+}
+
+/// An UPDATE (RFC 4271, sections 4.3 and 6.3).
+fn read_update(
+    alloc: Global,
+    profile: Profile,
+    external: bool,
+    bytes: &[u8],
+) -> Result<Update, Refusal>
+    requires { 23 ≤ length bytes.now }
+    ensures { GivesUpdate profile external result (reading_at profile external bytes.now) }
+{
+    let fields = read_fields(alloc, bytes)?;
+    let withdrawn = read_prefixes(alloc, fields.withdrawn)?;
+    let gathered = read_attributes(alloc, profile, external, fields.attributes)?;
+    let announced = read_prefixes(alloc, fields.announced)?;
+    let lacking = lacks(alloc, profile, announced.as_slice(), &gathered.found)?;
+    let withdraw = gathered.withdraw | lacking;
+    let update = update_of(
+        alloc,
+        external,
+        withdraw,
+        withdrawn,
+        announced,
+        gathered.found,
+    )?;
+    Ok(update)
+}
+
+#[tactic(auto, unfolding(crate::specs::Updates::content_at))]
+fn read_content(
+    alloc: Global,
+    profile: Profile,
+    external: bool,
+    bytes: &[u8],
+) -> Result<Message, Refusal>
+    ensures { GivesMessage profile external result (content_at profile external bytes.now) }
+{
+    let kind = read_header(alloc, bytes)?;
+    if kind == 1 {
+        return Ok(Message::Skip);
+    }
+    if kind == 3 {
+        return Ok(Message::Notification);
+    }
+    if kind == 4 {
+        return Ok(Message::Keepalive);
+    }
+    let update = read_update(alloc, profile, external, bytes)?;
+    Ok(Message::Update(update))
+}
+
+/// Reads a message (RFC 4271, sections 4 and 6). `external` says whether the peer is one of another AS, whose LOCAL_PREF
+/// doesn't count. Octets with a fault are answered by [`Message::Notify`].
+pub fn read_message(
+    alloc: Global,
+    profile: Profile,
+    bytes: &[u8],
+    external: bool,
+) -> Result<Message, Memory>
+    // The answer is the message that the octets are, or the first fault.
+    ensures answer { IfOk result (λ m. Answers profile external bytes.now m) }
+    // What it says of routes can be said again.
+    ensures readable { IfOk result (IsReadableMessage profile external) }
+    // There is no other.
+    ensures only { (m : Answer) → Answers profile external bytes.now m → IfOk result (λ answer. answer ≡ m) }
+{
+    match read_content(alloc, profile, external, bytes) {
+        Ok(message) => Ok(message),
+        Err(Refusal::Fault(notice)) => Ok(Message::Notify(notice)),
+        Err(Refusal::Memory) => Err(Memory),
+    }
+}
