@@ -1,27 +1,22 @@
 -- What is gathered is what the kept attributes say.
-use Rattle.std.proofs.Common.{◌≡◌, ℕ, zero, suc, ◌+◌, ◌*◌, ◌≤◌, ◌<◌, Bool, true, false, cond, eqb, ltb, not, ◌||◌, ◌&&◌, List, [], ◌∷◌, ◌++◌, length, get_or, Option, Some, None, Result, Ok, Err, refl, sym, ap, subst, ◌∙◌, arith}
-use Rattle.std.specs.Prelude.{replicate, find, is_some, option_map, option_and_then, IsTrue}
+use Rattle.std.proofs.Common.{◌≡◌, ℕ, zero, suc, ◌≤◌, Bool, true, false, cond, eqb, ltb, ◌||◌, ◌&&◌, List, [], ◌∷◌, ◌++◌, length, get_or, Option, Some, None, Ok, refl, sym, ap, subst, ◌∙◌, arith}
+use Rattle.std.specs.Prelude.{replicate, is_some, option_map, option_and_then, IsTrue}
 use Rattle.std.specs.List.{list_any}
 use Rattle.std.specs.Option.{option_or}
 use Rattle.std.specs.Result.{result_ok}
-use Rattle.std.proofs.lemmas.Bool.{eqb-true, eqb-false, ltb-false, ltb-true, lt-ltb, le-ltb, eq-eqb}
+use Rattle.std.proofs.lemmas.Bool.{eqb-true, eqb-false, ltb-false, lt-ltb, le-ltb}
 use Rattle.std.proofs.lemmas.List.Folds.{find-append}
 use Rattle.byteorder.specs.Endian.{big_number}
 use Rattle.bgp_attr.specs.declared.speaker.Profile.{Profile}
-use Rattle.bgp_attr.specs.declared.unrecognized.Unrecognized.{Unrecognized}
 use Rattle.bgp_wire.specs.declared.attributes.TypeRule.{TypeRule}
 use Rattle.bgp_wire.specs.declared.attributes.Verdict.{Verdict}
 use Rattle.bgp_wire.specs.declared.attributes.Verdict.TheVariants.{Keep, Discard, Withdraw}
 use Rattle.bgp_wire.specs.declared.found.Found.{Found}
 use Rattle.bgp_wire.specs.declared.found.Gathered.{Gathered}
-use Rattle.bgp_wire.specs.declared.found.TypeSet.{TypeSet}
-use Rattle.bgp_wire.specs.declared.notice.Notice.{Notice}
-use Rattle.bgp_wire.specs.declared.notice.Refusal.{Refusal}
-use Rattle.bgp_wire.specs.declared.notice.Refusal.TheVariants as refusals
-use Rattle.bgp_wire.specs.Faults.{notice, Fails}
+use Rattle.bgp_wire.specs.Faults.{notice}
 use Rattle.bgp_wire.specs.Paths.{width_of, path_at}
 use Rattle.bgp_wire.specs.Attributes.{Attribute, Kept, rule_of, has_wrong_size, milder, judge_by, judgement}
-use Rattle.bgp_wire.specs.Routes.{kept_of, number_of, aggregator_of, is_unrecognized, AreUnrecognized}
+use Rattle.bgp_wire.specs.Routes.{kept_of, aggregator_of, is_unrecognized}
 use Rattle.bgp_wire.specs.Found.{placed, origin_of, found_with, after, is_withdraw, Gathers, has_type, IsGathered, added}
 use Rattle.bgp_wire.proofs.TestLemmas.{unequal, not_false, or_false_left, or_false_right}
 use Rattle.bgp_wire.proofs.RouteLaws.{some_same, HasOneMore, recognized_more, unrecognized_more}

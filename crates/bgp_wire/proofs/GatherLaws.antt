@@ -1,13 +1,12 @@
 -- A loop that gathers attributes.
-use Rattle.std.proofs.Common.{◌≡◌, ℕ, ◌<◌, Bool, true, false, cond, ◌||◌, List, [], ◌∷◌, ◌++◌, length, Option, Some, None, Result, Ok, Err, refl, sym, ap, subst, ◌∙◌}
+use Rattle.std.proofs.Common.{◌≡◌, ℕ, ◌<◌, Bool, true, false, List, [], ◌∷◌, ◌++◌, length, Some, None, Result, Ok, Err, refl}
 use Rattle.bgp_attr.specs.declared.speaker.Profile.{Profile}
-use Rattle.bgp_wire.specs.declared.attributes.Verdict.{Verdict}
 use Rattle.bgp_wire.specs.declared.found.Gathered.{Gathered}
 use Rattle.bgp_wire.specs.declared.notice.Notice.{Notice}
 use Rattle.bgp_wire.specs.declared.notice.Refusal.{Refusal}
 use Rattle.bgp_wire.specs.Faults.{notice, Fails, Refuses}
 use Rattle.bgp_wire.specs.Attributes.{Attribute, Kept, attribute_at, attributes_at}
-use Rattle.bgp_wire.specs.Found.{added, Gathers, IsGathered, GathersOne, RefusesOne, IsGatheredTo}
+use Rattle.bgp_wire.specs.Found.{added, IsGathered, GathersOne, RefusesOne, IsGatheredTo}
 use Rattle.bgp_wire.proofs.AttributeLoops.{with_kept, goes_on, refuses, runs_out, withdrawn_out, refused_out, ends}
 
 -- what was gathered, and what is still to be

@@ -1,6 +1,5 @@
 -- Exactly one of message and fault is there.
-use Rattle.std.proofs.Common.{◌≡◌, ◌⊎◌, ℕ, Bool, true, false, cond, eqb, not, ◌||◌, List, [], ◌∷◌, ◌++◌, Option, Some, None, Result, Ok, Err, refl, sym, ap, subst, ◌∙◌, inl, inr}
-use Rattle.std.specs.List.{list_any}
+use Rattle.std.proofs.Common.{◌≡◌, ℕ, Bool, true, false, cond, eqb, not, List, [], ◌∷◌, ◌++◌, Option, Some, None, Result, Ok, Err, refl, sym, ap, subst, ◌∙◌, inl, inr}
 use Rattle.addr4.specs.Prefixes.{Network}
 use Rattle.bgp_attr.specs.declared.attrs.Attrs.{Attrs}
 use Rattle.bgp_attr.specs.declared.speaker.Profile.{Profile}
@@ -12,7 +11,7 @@ use Rattle.bgp_wire.specs.Faults.{notice, err_of, ◌>>=◌}
 use Rattle.bgp_wire.specs.Attributes.{Attribute, kept_by}
 use Rattle.bgp_wire.specs.Routes.{AreAttrs}
 use Rattle.bgp_wire.specs.Updates.{Reading, Content, update, keepalive, notification, opening, has_kind, missing, lack, lacks, header_at, reading_at, content_for, content_at, fault}
-use Rattle.bgp_wire.specs.Grammar.{IsReading, Holds, without, AreAttrsFor, IsWithdraw, IsPlain, IsUpdateBy, IsMessageBy, GivesUpdate, GivesMessage, Reads, Answers, OneAnswer}
+use Rattle.bgp_wire.specs.Grammar.{IsReading, Holds, without, AreAttrsFor, IsUpdateBy, IsMessageBy, GivesUpdate, GivesMessage, Reads, Answers, OneAnswer}
 use Rattle.bgp_wire.proofs.TestLemmas.{or_false_right}
 use Rattle.bgp_wire.proofs.ResultLemmas.{same_ok, not_both}
 use Rattle.bgp_wire.proofs.RouteLaws.{HasAll, attrs_made, one_attrs}

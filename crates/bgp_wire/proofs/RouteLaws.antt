@@ -1,8 +1,8 @@
 -- What the kept attributes say of a route is there, and is one alone.
-use Rattle.std.proofs.Common.{◌≡◌, ◌⊎◌, ℕ, zero, suc, ◌+◌, ◌*◌, ◌≤◌, ◌<◌, Bool, true, false, cond, eqb, ltb, not, ◌||◌, ◌&&◌, List, [], ◌∷◌, ◌++◌, length, drop, get_or, Option, Some, None, Result, Ok, Err, refl, sym, ap, subst, ◌∙◌, inl, inr, arith}
-use Rattle.std.specs.Prelude.{find, is_some, option_map, IsSomeAnd, insert, position, unwrap_or}
+use Rattle.std.proofs.Common.{◌≡◌, ℕ, zero, suc, ◌+◌, ◌≤◌, ◌<◌, Bool, true, false, cond, eqb, ltb, not, ◌||◌, ◌&&◌, List, [], ◌∷◌, ◌++◌, length, get_or, Option, Some, None, Result, Ok, Err, refl, sym, ap, subst, ◌∙◌, inl, inr, arith}
+use Rattle.std.specs.Prelude.{is_some, option_map, IsSomeAnd, insert, position, unwrap_or}
 use Rattle.std.specs.List.{list_any, position_or_len}
-use Rattle.std.proofs.lemmas.Bool.{ltb-false, ltb-true, le-ltb, eqb-true, eqb-false, eq-eqb, cases_lt}
+use Rattle.std.proofs.lemmas.Bool.{ltb-false, ltb-true, eqb-true, eqb-false, eq-eqb, cases_lt}
 use Rattle.std.proofs.lemmas.List.Sums.{prefix_len-le-length}
 use Rattle.byteorder.specs.Endian.{big_number}
 use Rattle.bgp_attr.specs.declared.attrs.Attrs.{Attrs}
@@ -17,11 +17,11 @@ use Rattle.bgp_wire.specs.declared.attributes.Verdict.TheVariants.{Keep, Discard
 use Rattle.bgp_wire.specs.declared.notice.Notice.{Notice}
 use Rattle.bgp_wire.specs.Faults.{notice, err_of}
 use Rattle.bgp_wire.specs.Paths.{width_of, IsPath, path_at}
-use Rattle.bgp_wire.specs.Attributes.{Attribute, rule_of, is_optional, has_wrong_flags, has_wrong_size, milder, value_fault, judge_value, judge_recognized, judge_by, judgement, AreAttributes, kept_by}
+use Rattle.bgp_wire.specs.Attributes.{Attribute, rule_of, has_wrong_flags, has_wrong_size, milder, value_fault, judge_value, judge_recognized, judge_by, judgement, AreAttributes, kept_by}
 use Rattle.bgp_wire.specs.Routes.{kept_of, number_of, code_of_origin, aggregator_of, is_unrecognized, AscendsFrom, value_of, AreUnrecognized, AreAttrs}
 use Rattle.bgp_wire.specs.Found.{placed}
-use Rattle.bgp_wire.proofs.TestLemmas.{or_false_left, or_false_right, not_false, unequal}
-use Rattle.bgp_wire.proofs.ResultLemmas.{same_ok, guard_ok, not_both}
+use Rattle.bgp_wire.proofs.TestLemmas.{or_false_left, or_false_right, unequal}
+use Rattle.bgp_wire.proofs.ResultLemmas.{same_ok, not_both}
 use Rattle.bgp_wire.proofs.PathLaws.{path_takes, path_again}
 
 pub some_same : {A : Type 0} (x y : A) → ◌≡◌ {A = Option A} (Some x) (Some y) → x ≡ y

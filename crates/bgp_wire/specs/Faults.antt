@@ -1,8 +1,39 @@
 -- What is read, or the first fault.
 use Rattle.std.specs.Prelude.{◌≡◌, ℕ, List, Option, Some, None, Result, Ok, Err}
+use Rattle.bgp_wire.specs.declared.notice.FaultKind.{FaultKind}
+use Rattle.bgp_wire.specs.declared.notice.FaultKind.TheVariants.{NotSynchronized, BadMessageLength, BadMessageType, MalformedAttributes, UnrecognizedWellKnown, MissingWellKnown, BadFlags, BadLength, BadOrigin, BadNextHop, BadNetwork, MalformedPath}
 use Rattle.bgp_wire.specs.declared.notice.Notice.{Notice}
 use Rattle.bgp_wire.specs.declared.notice.Refusal.{Refusal}
 use Rattle.bgp_wire.specs.declared.notice.Refusal.TheVariants as refusals
+
+-- the faults by code and subcode (RFC 4271, section 4.5): those of headers, and those of UPDATEs
+abbrev pub code_of : FaultKind → ℕ
+code_of NotSynchronized = 1
+code_of BadMessageLength = 1
+code_of BadMessageType = 1
+code_of MalformedAttributes = 3
+code_of UnrecognizedWellKnown = 3
+code_of MissingWellKnown = 3
+code_of BadFlags = 3
+code_of BadLength = 3
+code_of BadOrigin = 3
+code_of BadNextHop = 3
+code_of BadNetwork = 3
+code_of MalformedPath = 3
+
+abbrev pub subcode_of : FaultKind → ℕ
+subcode_of NotSynchronized = 1
+subcode_of BadMessageLength = 2
+subcode_of BadMessageType = 3
+subcode_of MalformedAttributes = 1
+subcode_of UnrecognizedWellKnown = 2
+subcode_of MissingWellKnown = 3
+subcode_of BadFlags = 4
+subcode_of BadLength = 5
+subcode_of BadOrigin = 6
+subcode_of BadNextHop = 8
+subcode_of BadNetwork = 10
+subcode_of MalformedPath = 11
 
 -- a fault: code, subcode and data of the NOTIFICATION that answers it
 abbrev pub notice : ℕ → ℕ → List ℕ → Notice

@@ -1,5 +1,5 @@
 -- What the kept attributes say of a route.
-use Rattle.std.specs.Prelude.{◌≡◌, ℕ, zero, suc, ◌≤◌, List, [], ◌∷◌, find, drop, slice_index, IsSomeAnd, Option, Some, None, is_some, option_map, Bool, true, false, nat_lt, ◌==◌, ◌||◌, if◌then◌else◌}
+use Rattle.std.specs.Prelude.{◌≡◌, ℕ, suc, ◌≤◌, List, [], ◌∷◌, find, drop, slice_index, IsSomeAnd, Option, Some, None, is_some, option_map, Bool, nat_lt, ◌==◌, ◌||◌, if◌then◌else◌}
 use Rattle.byteorder.specs.Endian.{big_number}
 use Rattle.bgp_attr.specs.declared.attrs.Aggregator.{Aggregator}
 use Rattle.bgp_attr.specs.declared.attrs.Attrs.{Attrs}

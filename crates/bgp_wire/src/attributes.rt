@@ -1,12 +1,30 @@
 //! Attributes as they come, and what is asked of them.
 
 ghost use Rattle.std.specs.Prelude.{◌≡◌, ◌^◌, ◌<◌, IfSome, option_map, slice_index};
-ghost use Rattle.bgp_wire.specs.Faults.{Gives, notice};
+ghost use Rattle.bgp_wire.specs.Faults.{Gives, notice, code_of, subcode_of};
 ghost use Rattle.bgp_wire.specs.Attributes.{attribute_of, has_wrong_flags, has_wrong_size, is_old_form, judge_unrecognized, is_no_host, attribute_at, milder, rule, rule_of, size_at};
 
-use crate::notice::{Refusal, refused};
+use crate::notice::{FaultKind, Refusal, refused};
 use bgp_attr::Profile;
 use std::alloc::Global;
+
+pub(crate) const ORIGIN: u8 = 1;
+
+pub(crate) const AS_PATH: u8 = 2;
+
+pub(crate) const NEXT_HOP: u8 = 3;
+
+pub(crate) const MULTI_EXIT_DISC: u8 = 4;
+
+pub(crate) const LOCAL_PREF: u8 = 5;
+
+pub(crate) const ATOMIC_AGGREGATE: u8 = 6;
+
+pub(crate) const AGGREGATOR: u8 = 7;
+
+const AS4_PATH: u8 = 17;
+
+const AS4_AGGREGATOR: u8 = 18;
 
 /// An attribute as it came (RFC 4271, section 4.3).
 #[derive(Clone, Copy)]
@@ -112,28 +130,20 @@ fn rule(optional: bool, transitive: bool, size: Option<usize>) -> Option<TypeRul
     })
 }
 
-/// The recognized types: ORIGIN, AS_PATH, NEXT_HOP, MULTI_EXIT_DISC, LOCAL_PREF, ATOMIC_AGGREGATE and AGGREGATOR (RFC 4271,
-/// section 5).
+/// The recognized types (RFC 4271, section 5).
 #[tactic(auto, unfolding(crate::specs::Attributes::rule_of))]
 pub(crate) fn rule_of(as4: bool, kind: u8) -> Option<TypeRule>
     ensures { result ≡ rule_of as4 kind }
 {
-    if kind == 1 {
-        rule(false, true, Some(1))
-    } else if kind == 2 {
-        rule(false, true, None)
-    } else if kind == 3 {
-        rule(false, true, Some(4))
-    } else if kind == 4 {
-        rule(true, false, Some(4))
-    } else if kind == 5 {
-        rule(false, true, Some(4))
-    } else if kind == 6 {
-        rule(false, true, Some(0))
-    } else if kind == 7 {
-        rule(true, true, Some(if as4 { 8 } else { 6 }))
-    } else {
-        None
+    match kind {
+        ORIGIN => rule(false, true, Some(1)),
+        AS_PATH => rule(false, true, None),
+        NEXT_HOP => rule(false, true, Some(4)),
+        MULTI_EXIT_DISC => rule(true, false, Some(4)),
+        LOCAL_PREF => rule(false, true, Some(4)),
+        ATOMIC_AGGREGATE => rule(false, true, Some(0)),
+        AGGREGATOR => rule(true, true, Some(if as4 { 8 } else { 6 })),
+        _ => None,
     }
 }
 
@@ -142,16 +152,15 @@ pub(crate) fn milder(
     alloc: Global,
     profile: Profile,
     mild: Verdict,
-    code: u8,
-    subcode: u8,
+    kind: FaultKind,
     octets: &[u8],
 ) -> Result<Verdict, Refusal>
-    ensures { Gives (λ v. v) result (milder profile mild (notice code subcode octets.now)) }
+    ensures { Gives (λ v. v) result (milder profile mild (notice (code_of kind) (subcode_of kind) octets.now)) }
 {
     if profile.revised {
         Ok(mild)
     } else {
-        Err(refused(alloc, code, subcode, octets))
+        Err(refused(alloc, kind, octets))
     }
 }
 
@@ -176,7 +185,7 @@ pub(crate) fn has_wrong_size(rule: TypeRule, value: &[u8]) -> bool
 fn is_old_form(profile: Profile, kind: u8) -> bool
     ensures { result ≡ is_old_form profile kind }
 {
-    profile.as4 && (kind == 17 || kind == 18)
+    profile.as4 && (kind == AS4_PATH || kind == AS4_AGGREGATOR)
 }
 
 /// What becomes of an unrecognized attribute (RFC 4271, section 5).
@@ -189,7 +198,7 @@ pub(crate) fn judge_unrecognized(
 {
     let optional = raw.flags / 128 % 2 == 1;
     if !optional {
-        return Err(refused(alloc, 3, 2, raw.octets));
+        return Err(refused(alloc, FaultKind::UnrecognizedWellKnown, raw.octets));
     }
     let transitive = raw.flags / 64 % 2 == 1;
     if transitive && !is_old_form(profile, raw.kind) {

@@ -8,10 +8,11 @@ ghost use Rattle.bgp_wire.specs.Routes.{aggregator_of};
 ghost use Rattle.bgp_wire.specs.Found.{has_type, placed, origin_of, found_with, Takes, Gathers, IsGathered, GathersOne, RefusesOne, IsGatheredTo};
 
 use crate::attributes::{
+    AGGREGATOR, AS_PATH, ATOMIC_AGGREGATE, LOCAL_PREF, MULTI_EXIT_DISC, NEXT_HOP, ORIGIN,
     RawAttribute, TypeRule, Verdict, has_wrong_flags, has_wrong_size, is_no_host,
     judge_unrecognized, milder, read_attribute, rule_of,
 };
-use crate::notice::{Refusal, refused};
+use crate::notice::{FaultKind, Refusal, refused};
 use crate::numbers::{as_number, four_octets, width};
 use crate::path::read_path;
 use addr4::Addr;
@@ -193,24 +194,36 @@ impl Found {
         requires aggregator { raw.now.kind ≡ 7 → width_of profile.as4 ≤ length raw.now.value.now }
         ensures { Takes profile.as4 (attribute_of raw.now) self.old self.new result (judge_value profile (value_fault profile.as4 (attribute_of raw.now))) }
     {
-        if raw.kind == 1 {
+        if raw.kind == ORIGIN {
             let code = first_octet(raw.value);
             if code > 2 {
-                return milder(alloc, profile, Verdict::Withdraw, 3, 6, raw.octets);
+                return milder(
+                    alloc,
+                    profile,
+                    Verdict::Withdraw,
+                    FaultKind::BadOrigin,
+                    raw.octets,
+                );
             }
             self.origin = Some(origin_of(code));
-        } else if raw.kind == 2 {
+        } else if raw.kind == AS_PATH {
             return self.take_path(alloc, profile, raw);
-        } else if raw.kind == 3 {
+        } else if raw.kind == NEXT_HOP {
             if is_no_host(first_octet(raw.value)) {
-                return milder(alloc, profile, Verdict::Withdraw, 3, 8, raw.octets);
+                return milder(
+                    alloc,
+                    profile,
+                    Verdict::Withdraw,
+                    FaultKind::BadNextHop,
+                    raw.octets,
+                );
             }
             self.next_hop = Some(Addr::new(four_octets(raw.value)));
-        } else if raw.kind == 4 {
+        } else if raw.kind == MULTI_EXIT_DISC {
             self.med = Some(four_octets(raw.value));
-        } else if raw.kind == 5 {
+        } else if raw.kind == LOCAL_PREF {
             self.local_pref = Some(four_octets(raw.value));
-        } else if raw.kind == 6 {
+        } else if raw.kind == ATOMIC_AGGREGATE {
             self.atomic = true;
         } else {
             self.aggregator = Some(aggregator_of(profile.as4, raw));
@@ -230,19 +243,25 @@ impl Found {
         requires { rule_of profile.as4 raw.now.kind ≡ Some rule }
         ensures { Takes profile.as4 (attribute_of raw.now) self.old self.new result (judge_recognized profile external (attribute_of raw.now) rule) }
     {
-        if profile.revised && external && raw.kind == 5 {
+        if profile.revised && external && raw.kind == LOCAL_PREF {
             return Ok(Verdict::Discard);
         }
         if has_wrong_flags(rule, raw) {
-            return milder(alloc, profile, Verdict::Withdraw, 3, 4, raw.octets);
+            return milder(
+                alloc,
+                profile,
+                Verdict::Withdraw,
+                FaultKind::BadFlags,
+                raw.octets,
+            );
         }
         if has_wrong_size(rule, raw.value) {
-            let mild = if raw.kind == 6 || raw.kind == 7 {
+            let mild = if raw.kind == ATOMIC_AGGREGATE || raw.kind == AGGREGATOR {
                 Verdict::Discard
             } else {
                 Verdict::Withdraw
             };
-            return milder(alloc, profile, mild, 3, 5, raw.octets);
+            return milder(alloc, profile, mild, FaultKind::BadLength, raw.octets);
         }
         self.take_value(alloc, profile, raw)
     }
@@ -310,7 +329,13 @@ impl Gathered {
         ensures err { IfErr result (λ e. RefusesOne profile external (attribute_of raw.now) self.old e) }
     {
         if self.seen.has(raw.kind) {
-            milder(alloc, profile, Verdict::Discard, 3, 1, &[])?;
+            milder(
+                alloc,
+                profile,
+                Verdict::Discard,
+                FaultKind::MalformedAttributes,
+                &[],
+            )?;
             return Ok(());
         }
         let verdict = self.found.take(alloc, profile, external, raw)?;
@@ -338,7 +363,7 @@ pub(crate) fn read_attributes(
                     gathered.withdraw = true;
                     return Ok(gathered);
                 }
-                return Err(refused(alloc, 3, 1, &[]));
+                return Err(refused(alloc, FaultKind::MalformedAttributes, &[]));
             }
             Some(found) => found,
         };

@@ -4,10 +4,22 @@ ghost use Rattle.std.specs.Prelude.{◌≡◌, ◌+◌, ◌<◌, ◌≤◌, leng
 ghost use Rattle.bgp_wire.specs.Faults.{Gives};
 ghost use Rattle.bgp_wire.specs.Updates.{fields_at, fields_of, has_wrong_length, header_at, is_marked};
 
-use crate::notice::{Refusal, refused};
+use crate::notice::{FaultKind, Refusal, refused};
 use crate::numbers::number_at;
 use std::alloc::Global;
 
+pub(crate) const OPEN: u8 = 1;
+
+const UPDATE: u8 = 2;
+
+pub(crate) const NOTIFICATION: u8 = 3;
+
+pub(crate) const KEEPALIVE: u8 = 4;
+
+/// The longest message, in octets.
+const LONGEST: usize = 4096;
+
+/// Whether the first 16 octets are all ones.
 fn is_marked(bytes: &[u8]) -> bool
     requires { 16 ≤ length bytes.now }
     ensures { result ≡ is_marked bytes.now }
@@ -20,11 +32,11 @@ fn has_wrong_length(kind: u8, size: usize) -> bool
     ensures value { result ≡ has_wrong_length kind size }
     ensures update { result ≡ false → kind ≡ 2 → 23 ≤ size }
 {
-    if kind == 1 {
+    if kind == OPEN {
         size < 29
-    } else if kind == 2 {
+    } else if kind == UPDATE {
         size < 23
-    } else if kind == 3 {
+    } else if kind == NOTIFICATION {
         size < 21
     } else {
         size != 19
@@ -39,21 +51,21 @@ pub(crate) fn read_header(alloc: Global, bytes: &[u8]) -> Result<u8, Refusal>
     ensures update { IfOk result (λ kind. kind ≡ 2 → 23 ≤ length bytes.now) }
 {
     if bytes.len() < 19 {
-        return Err(refused(alloc, 1, 2, &[]));
+        return Err(refused(alloc, FaultKind::BadMessageLength, &[]));
     }
     if !is_marked(bytes) {
-        return Err(refused(alloc, 1, 1, &[]));
+        return Err(refused(alloc, FaultKind::NotSynchronized, &[]));
     }
     let size = number_at(bytes, 16);
-    if size < 19 || size > 4096 || size != bytes.len() {
-        return Err(refused(alloc, 1, 2, &bytes[16..18]));
+    if size < 19 || size > LONGEST || size != bytes.len() {
+        return Err(refused(alloc, FaultKind::BadMessageLength, &bytes[16..18]));
     }
     let kind = bytes[18];
-    if kind == 0 || kind > 4 {
-        return Err(refused(alloc, 1, 3, &bytes[18..19]));
+    if kind < OPEN || kind > KEEPALIVE {
+        return Err(refused(alloc, FaultKind::BadMessageType, &bytes[18..19]));
     }
     if has_wrong_length(kind, bytes.len()) {
-        return Err(refused(alloc, 1, 2, &bytes[16..18]));
+        return Err(refused(alloc, FaultKind::BadMessageLength, &bytes[16..18]));
     }
     Ok(kind)
 }
@@ -73,11 +85,11 @@ pub(crate) fn read_fields(alloc: Global, bytes: &[u8]) -> Result<UpdateFields<'_
 {
     let withdrawn_size = number_at(bytes, 19);
     if bytes.len() < withdrawn_size + 23 {
-        return Err(refused(alloc, 3, 1, &[]));
+        return Err(refused(alloc, FaultKind::MalformedAttributes, &[]));
     }
     let attributes_size = number_at(bytes, 21 + withdrawn_size);
     if bytes.len() < withdrawn_size + attributes_size + 23 {
-        return Err(refused(alloc, 3, 1, &[]));
+        return Err(refused(alloc, FaultKind::MalformedAttributes, &[]));
     }
     Ok(UpdateFields {
         withdrawn: &bytes[21..21 + withdrawn_size],

@@ -1,4 +1,14 @@
-//! BGP messages as octets.
+//! BGP messages as octets (RFC 4271; AS numbers of four octets by RFC 6793).
+//!
+//! [`read_message`] answers what octets are: an UPDATE, a KEEPALIVE, a NOTIFICATION, an OPEN (skipped), or the NOTIFICATION
+//! that answers their first fault. What octets are is said in `specs/`: the grammar by cases on the whole octets
+//! (`Reads`, over frames, fields, prefixes, segments and attributes), and the first fault in the order in which octets are
+//! judged (`fault`). [`one_of_message_and_fault`] says that each list of octets has exactly one of both.
+//!
+//! An [`Update`] has its prefixes as the octets have them, in order and masked. A prefix may be withdrawn and announced in one
+//! UPDATE, and class D and E prefixes are announced like others: what that does to the routes is the reader's matter.
+//! Attributes are judged and gathered from left to right in one pass, and memory is taken for what is kept alone. With
+//! `revised` an UPDATE whose attributes have a fault is a withdraw, in the manner of RFC 7606.
 #![tactic(auto)]
 
 mod attributes;

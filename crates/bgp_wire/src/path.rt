@@ -4,18 +4,22 @@ ghost use Rattle.std.specs.Prelude.{◌≡◌, ◌*◌, ◌≤◌, length, IfOk}
 ghost use Rattle.bgp_wire.specs.Faults.{Gives};
 ghost use Rattle.bgp_wire.specs.Paths.{width_of, kind_of, numbers_at, segment_of, segment_at, path_at};
 
-use crate::notice::{Refusal, refused};
+use crate::notice::{FaultKind, Refusal, refused};
 use crate::numbers::{as_number, width};
 use bgp_attr::{AsPath, Numbers, Segment, SegmentKind};
 use std::alloc::{AllocError, Global};
+
+const AS_SET: u8 = 1;
+
+const AS_SEQUENCE: u8 = 2;
 
 /// The kind of a segment by its type (RFC 4271, section 4.3).
 fn kind_of(code: u8) -> Option<SegmentKind>
     ensures { result ≡ kind_of code }
 {
-    if code == 1 {
+    if code == AS_SET {
         Some(SegmentKind::Set)
-    } else if code == 2 {
+    } else if code == AS_SEQUENCE {
         Some(SegmentKind::Sequence)
     } else {
         None
@@ -43,8 +47,8 @@ fn read_segment(alloc: Global, as4: bool, bytes: &[u8]) -> Result<(Segment, &[u8
     ensures { Gives (λ x. (x.0, x.1.now)) result (segment_at (width_of as4) bytes.now) }
 {
     match bytes {
-        [] => Err(refused(alloc, 3, 11, &[])),
-        [_] => Err(refused(alloc, 3, 11, &[])),
+        [] => Err(refused(alloc, FaultKind::MalformedPath, &[])),
+        [_] => Err(refused(alloc, FaultKind::MalformedPath, &[])),
         [code, count, rest @ ..] => read_segment_of(alloc, as4, *code, *count, rest),
     }
 }
@@ -60,11 +64,11 @@ fn read_segment_of(
     ensures { Gives (λ x. (x.0, x.1.now)) result (segment_of (width_of as4) count rest.now (kind_of code)) }
 {
     let Some(kind) = kind_of(code) else {
-        return Err(refused(alloc, 3, 11, &[]));
+        return Err(refused(alloc, FaultKind::MalformedPath, &[]));
     };
     let size = usize::from(count) * width(as4);
     if count == 0 || rest.len() < size {
-        return Err(refused(alloc, 3, 11, &[]));
+        return Err(refused(alloc, FaultKind::MalformedPath, &[]));
     }
     let numbers = read_numbers(alloc, as4, count, rest)?;
     Ok((Segment { kind, numbers }, &rest[size..]))

@@ -4,7 +4,7 @@ ghost use Rattle.std.specs.Prelude.{◌≡◌, ◌≤◌, OnOk};
 ghost use Rattle.bgp_wire.specs.Faults.{Gives};
 ghost use Rattle.bgp_wire.specs.Prefixes.{masked, octets_for, prefix_at, prefixes_at};
 
-use crate::notice::{Refusal, refused};
+use crate::notice::{FaultKind, Refusal, refused};
 use crate::numbers::four_octets;
 use addr4::{Addr, Prefix};
 use std::alloc::Global;
@@ -30,15 +30,15 @@ fn read_prefix(alloc: Global, bytes: &[u8]) -> Result<(Prefix, &[u8]), Refusal>
     ensures { Gives (λ x. (x.0, x.1.now)) result (prefix_at bytes.now) }
 {
     let Some((first, rest)) = bytes.split_first() else {
-        return Err(refused(alloc, 3, 10, &[]));
+        return Err(refused(alloc, FaultKind::BadNetwork, &[]));
     };
     let bits = *first;
     if bits > 32 {
-        return Err(refused(alloc, 3, 10, &[]));
+        return Err(refused(alloc, FaultKind::BadNetwork, &[]));
     }
     let size = octets_for(bits);
     if rest.len() < size {
-        return Err(refused(alloc, 3, 10, &[]));
+        return Err(refused(alloc, FaultKind::BadNetwork, &[]));
     }
     let (front, rest) = rest.split_at(size);
     Ok((masked(front, bits), rest))

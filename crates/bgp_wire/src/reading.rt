@@ -8,10 +8,11 @@ ghost use Rattle.bgp_wire.specs.Updates.{reading_at, content_at};
 ghost use Rattle.bgp_wire.specs.Grammar.{without, GivesUpdate, GivesMessage, Answers};
 ghost use Rattle.bgp_wire.specs.Readable.{IsReadableMessage};
 
+use crate::attributes::{AS_PATH, NEXT_HOP, ORIGIN};
 use crate::found::{Found, read_attributes};
-use crate::header::{read_fields, read_header};
+use crate::header::{KEEPALIVE, NOTIFICATION, OPEN, read_fields, read_header};
 use crate::message::{Message, Prefixes, Update};
-use crate::notice::{Refusal, refused};
+use crate::notice::{FaultKind, Refusal, refused};
 use crate::prefixes::read_prefixes;
 use addr4::{Memory, Prefix};
 use bgp_attr::{Attrs, Profile};
@@ -22,11 +23,11 @@ fn missing(found: &Found) -> Option<u8>
     ensures { result ≡ missing_from found.now }
 {
     if !found.origin.is_some() {
-        Some(1)
+        Some(ORIGIN)
     } else if !found.path.is_some() {
-        Some(2)
+        Some(AS_PATH)
     } else if !found.next_hop.is_some() {
-        Some(3)
+        Some(NEXT_HOP)
     } else {
         None
     }
@@ -50,7 +51,7 @@ fn lacks(
             if profile.revised {
                 Ok(true)
             } else {
-                Err(refused(alloc, 3, 3, &[kind]))
+                Err(refused(alloc, FaultKind::MissingWellKnown, &[kind]))
             }
         }
     }
@@ -169,13 +170,13 @@ fn read_content(
     ensures { GivesMessage profile external result (content_at profile external bytes.now) }
 {
     let kind = read_header(alloc, bytes)?;
-    if kind == 1 {
+    if kind == OPEN {
         return Ok(Message::Skip);
     }
-    if kind == 3 {
+    if kind == NOTIFICATION {
         return Ok(Message::Notification);
     }
-    if kind == 4 {
+    if kind == KEEPALIVE {
         return Ok(Message::Keepalive);
     }
     let update = read_update(alloc, profile, external, bytes)?;

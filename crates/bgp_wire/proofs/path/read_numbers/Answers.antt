@@ -1,4 +1,4 @@
-use Rattle.std.proofs.Common.{◌≡◌, ℕ, List, ◌++◌, ◌∷◌, [], ◌+◌, ◌∙◌, ap, suc, drop, add-one, arith}
+use Rattle.std.proofs.Common.{◌≡◌, ℕ, ◌++◌, ◌∷◌, [], ◌+◌, ◌∙◌, ap, suc, drop, add-one}
 use Rattle.bgp_wire.specs.Paths.{width_of}
 use Rattle.bgp_wire.proofs.PathLaws.{begin_reading, read_more}
 use Rattle.bgp_wire.proofs.path.read_numbers.Goals as goal

@@ -1,4 +1,4 @@
-use Rattle.std.proofs.Common.{◌≡◌, ◌<◌, length}
+use Rattle.std.proofs.Common.{◌<◌, length}
 use Rattle.std.proofs.lemmas.Result.{err_from_is_err_and}
 use Rattle.bgp_wire.specs.Paths.{width_of, segment_at, path_at}
 use Rattle.bgp_wire.proofs.ItemLaws.{goes_on, ends, breaks, items_break, items_step, items_end}
