@@ -1,9 +1,8 @@
 -- What is written of what a peer said isn't longer than what it said.
-use Rattle.std.proofs.Common.{◌≡◌, ◌⊎◌, ℕ, zero, suc, ◌+◌, ◌*◌, ◌^◌, ◌≤◌, ◌<◌, Bool, true, false, cond, eqb, ltb, not, ◌&&◌, map, get_or, List, [], ◌∷◌, ◌++◌, length, drop, Option, Some, None, Ok, refl, sym, ap, subst, ◌∙◌, inl, inr, arith}
-use Rattle.std.specs.Prelude.{All, filter, option_map, is_some}
-use Rattle.std.specs.List.{flat_map}
+use Rattle.std.proofs.Common.{◌≡◌, ℕ, suc, ◌+◌, ◌≤◌, ◌<◌, Bool, true, false, cond, eqb, ltb, map, get_or, List, [], ◌∷◌, ◌++◌, length, Option, Some, None, refl, sym, ap, subst, ◌∙◌, inl, inr, arith}
+use Rattle.std.specs.Prelude.{filter, is_some}
 use Rattle.std.specs.Option.{option_map_or}
-use Rattle.std.proofs.lemmas.Bool.{ltb-false, ltb-true, le-ltb, eqb-true, eqb-false, eq-eqb}
+use Rattle.std.proofs.lemmas.Bool.{le-ltb, eqb-true}
 use Rattle.std.proofs.lemmas.List.{length-append}
 use mathlib.Core.Bool.{beq}
 use Rattle.byteorder.specs.Endian.{big_number, big_bytes}
@@ -16,16 +15,16 @@ use Rattle.bgp_attr.specs.declared.unrecognized.Unrecognized.{Unrecognized}
 use Rattle.bgp_wire.specs.declared.attributes.TypeRule.{TypeRule}
 use Rattle.bgp_wire.specs.declared.attributes.Verdict.{Verdict}
 use Rattle.bgp_wire.specs.declared.attributes.Verdict.TheVariants.{Keep, Discard, Withdraw}
-use Rattle.bgp_wire.specs.Paths.{width_of, IsSegment, IsPath}
+use Rattle.bgp_wire.specs.Paths.{width_of, IsPath}
 use Rattle.bgp_wire.specs.Attributes.{Attribute, IsAttribute, AreAttributes, kept_by, rule_of}
-use Rattle.bgp_wire.specs.Routes.{kept_of, number_of, code_of_origin, aggregator_of, is_unrecognized, value_of, AreAttrs}
-use Rattle.bgp_wire.specs.Spelling.{segment_octets, path_octets, is_long, spelled_octets, spelled, optional, aggregator_value, aggregator_flags, comes_first, unrecognized_attributes, mandatory_attributes, further_attributes, sent_attributes, octets_of}
+use Rattle.bgp_wire.specs.Routes.{kept_of, number_of, code_of_origin, aggregator_of, AreAttrs}
+use Rattle.bgp_wire.specs.Spelling.{segment_octets, path_octets, is_long, spelled, optional, aggregator_value, aggregator_flags, comes_first, unrecognized_attributes, mandatory_attributes, further_attributes, sent_attributes, octets_of}
 use Rattle.bgp_wire.specs.Readable.{IsReadable}
 use Rattle.bgp_wire.proofs.TestLemmas.{unequal}
 use Rattle.bgp_wire.proofs.SpelledNumbers.{length-numbers}
-use Rattle.bgp_wire.proofs.SpelledAttributes.{AreSound, FitLengths, GoodType, sound_sent}
-use Rattle.bgp_wire.proofs.SpelledMessages.{length-spelled, length-octets-append, path_within}
-use Rattle.bgp_wire.proofs.ReadableLaws.{Every, every_all, every_append, Octets, IsHeld, held, good, right_size, found_from, some_in, each_type, unrecognized_held}
+use Rattle.bgp_wire.proofs.SpelledAttributes.{AreSound, FitLengths, sound_sent}
+use Rattle.bgp_wire.proofs.SpelledMessages.{length-spelled}
+use Rattle.bgp_wire.proofs.ReadableLaws.{Every, every_all, every_append, Octets, held, good, right_size, found_from, some_in, each_type, unrecognized_held}
 
 -- the fewest octets that an attribute has
 abbrev pub least : Attribute → ℕ

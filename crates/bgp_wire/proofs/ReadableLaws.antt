@@ -1,13 +1,12 @@
 -- What a peer said can be said again.
-use Rattle.std.proofs.Common.{◌≡◌, ◌⊎◌, ℕ, zero, suc, ◌+◌, ◌-◌, ◌*◌, ◌/◌, ◌%◌, ◌^◌, ◌≤◌, ◌<◌, Bool, true, false, cond, eqb, not, ◌&&◌, List, [], ◌∷◌, ◌++◌, length, drop, get_or, Option, Some, None, Result, Ok, Err, refl, sym, ap, subst, ◌∙◌, inl, inr, arith}
-use Rattle.std.specs.Prelude.{All, filter, option_map, slice_index, slice_index_or, IsSomeAnd}
-use Rattle.std.specs.Option.{ForSome}
-use Rattle.std.proofs.lemmas.Bool.{eqb-true, eqb-false, eq-eqb}
+use Rattle.std.proofs.Common.{◌≡◌, ℕ, zero, suc, ◌-◌, ◌*◌, ◌/◌, ◌%◌, ◌^◌, ◌<◌, Bool, true, false, cond, eqb, not, ◌&&◌, List, [], ◌∷◌, ◌++◌, length, drop, Option, Some, None, Ok, Err, refl, sym, ap, subst, ◌∙◌, inl, inr, arith}
+use Rattle.std.specs.Prelude.{All, filter, option_map, slice_index, IsSomeAnd}
+use Rattle.std.proofs.lemmas.Bool.{eqb-true, eq-eqb}
 use Rattle.std.proofs.Math.Nat.{mul-mod_right}
 use Rattle.byteorder.specs.Endian.{big_number}
 use Rattle.byteorder.specs.Numbers.{big_from-lt}
 use Rattle.addr4.specs.Blocks.{size_of_length, masked_to}
-use Rattle.addr4.specs.Prefixes.{Network, IsMasked}
+use Rattle.addr4.specs.Prefixes.{Network}
 use Rattle.addr4.proofs.BlockLemmas.{size_pos}
 use Rattle.bgp_attr.specs.declared.attrs.Aggregator.{Aggregator}
 use Rattle.bgp_attr.specs.declared.attrs.Attrs.{Attrs}
@@ -18,14 +17,13 @@ use Rattle.bgp_wire.specs.declared.attributes.TypeRule.{TypeRule}
 use Rattle.bgp_wire.specs.declared.attributes.Verdict.{Verdict}
 use Rattle.bgp_wire.specs.declared.attributes.Verdict.TheVariants.{Keep, Discard, Withdraw}
 use Rattle.bgp_wire.specs.Faults.{notice}
-use Rattle.bgp_wire.specs.Items.{AreItems}
-use Rattle.bgp_wire.specs.Prefixes.{masked, IsPrefix, ArePrefixes}
+use Rattle.bgp_wire.specs.Prefixes.{IsPrefix, ArePrefixes}
 use Rattle.bgp_wire.specs.Paths.{width_of, numbers_at, IsSegment, IsPath}
 use Rattle.bgp_wire.specs.Attributes.{Attribute, IsAttribute, AreAttributes, kept_by, rule_of, has_wrong_size, is_no_host, is_optional, is_transitive, is_old_form, value_fault, judge_by}
 use Rattle.bgp_wire.specs.Routes.{kept_of, number_of, aggregator_of, is_unrecognized, AscendsFrom, value_of, AreUnrecognized, AreAttrs}
 use Rattle.bgp_wire.specs.Readable.{IsNetwork, IsReadableSegment, IsHost, IsReadable}
 use Rattle.bgp_wire.proofs.TestLemmas.{not_false, unequal}
-use Rattle.bgp_wire.proofs.RouteLaws.{IsKept, IsKeptOf, IsGood, kept_are, recognized_is_good, value_below, past_first}
+use Rattle.bgp_wire.proofs.RouteLaws.{IsKept, IsGood, kept_are, recognized_is_good, value_below}
 use Rattle.bgp_wire.proofs.SpelledAttributes.{GoodType, no_rule}
 
 -- ---- lists

@@ -1,10 +1,9 @@
 -- What is written of attributes is judged good, and stands by ascending type.
-use Rattle.std.proofs.Common.{◌≡◌, ◌⊎◌, ℕ, zero, suc, ◌+◌, ◌*◌, ◌/◌, ◌%◌, ◌^◌, ◌≤◌, ◌<◌, Bool, true, false, cond, eqb, ltb, not, ◌||◌, ◌&&◌, List, [], ◌∷◌, ◌++◌, length, drop, map, get_or, Option, Some, None, Result, Ok, Err, refl, sym, ap, subst, ◌∙◌, inl, inr, arith}
+use Rattle.std.proofs.Common.{◌≡◌, ◌⊎◌, ℕ, suc, ◌+◌, ◌*◌, ◌/◌, ◌%◌, ◌^◌, ◌≤◌, ◌<◌, Bool, true, false, cond, eqb, ltb, not, ◌||◌, ◌&&◌, List, [], ◌∷◌, ◌++◌, length, map, Option, Some, None, Ok, Err, refl, sym, ap, subst, ◌∙◌, inl, inr, arith}
 use Rattle.std.specs.Prelude.{All, filter}
-use Rattle.std.specs.List.{flat_map, list_any}
-use Rattle.std.specs.Option.{ForSome}
+use Rattle.std.specs.List.{list_any}
 use Rattle.std.proofs.lemmas.List.{length-append}
-use Rattle.std.proofs.lemmas.Bool.{ltb-false, ltb-true, eqb-true, eqb-false, eq-eqb}
+use Rattle.std.proofs.lemmas.Bool.{ltb-true, eqb-true, eqb-false, eq-eqb}
 use mathlib.Core.Bool.{beq}
 use Rattle.byteorder.specs.Endian.{big_bytes}
 use Rattle.byteorder.specs.Numbers.{length-bytes_high_first}
@@ -19,8 +18,8 @@ use Rattle.bgp_wire.specs.declared.attributes.TypeRule.{TypeRule}
 use Rattle.bgp_wire.specs.declared.attributes.Verdict.{Verdict}
 use Rattle.bgp_wire.specs.declared.attributes.Verdict.TheVariants.{Keep, Discard, Withdraw}
 use Rattle.bgp_wire.specs.Faults.{notice, err_of}
-use Rattle.bgp_wire.specs.Paths.{width_of, path_at}
-use Rattle.bgp_wire.specs.Attributes.{Attribute, is_optional, is_transitive, is_extended, IsShort, IsExtended, IsAttribute, rule_of, milder, is_no_host, is_old_form, value_fault, judge_value, has_wrong_size, has_wrong_flags, judge_recognized, judge_by, judgement, judge_unrecognized, AreAttributes, kept_by}
+use Rattle.bgp_wire.specs.Paths.{width_of}
+use Rattle.bgp_wire.specs.Attributes.{Attribute, is_extended, IsAttribute, rule_of, milder, is_no_host, is_old_form, value_fault, judge_value, has_wrong_size, has_wrong_flags, judge_by, judgement, AreAttributes, kept_by}
 use Rattle.bgp_wire.specs.Routes.{code_of_origin, is_unrecognized, AscendsFrom}
 use Rattle.bgp_wire.specs.Spelling.{path_octets, is_long, spelled_octets, spelled, optional, aggregator_value, aggregator_flags, comes_first, unrecognized_attributes, mandatory_attributes, further_attributes, sent_attributes, octets_of}
 use Rattle.bgp_wire.specs.Readable.{IsReadableSegment, IsHost, IsReadable}

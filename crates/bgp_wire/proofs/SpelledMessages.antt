@@ -1,7 +1,6 @@
 -- What is written of an UPDATE is read as it was.
-use Rattle.std.proofs.Common.{◌≡◌, ℕ, zero, suc, ◌+◌, ◌*◌, ◌/◌, ◌%◌, ◌≤◌, ◌<◌, Bool, true, false, cond, eqb, ◌||◌, map, List, [], ◌∷◌, ◌++◌, length, Option, Some, None, Ok, Err, refl, sym, ap, subst, ◌∙◌, append_assoc, arith}
-use Rattle.std.specs.Prelude.{All, filter, replicate}
-use Rattle.std.specs.List.{flat_map}
+use Rattle.std.proofs.Common.{◌≡◌, ℕ, zero, suc, ◌+◌, ◌*◌, ◌/◌, ◌%◌, ◌≤◌, ◌<◌, Bool, true, false, cond, eqb, ◌||◌, map, List, [], ◌∷◌, ◌++◌, length, Ok, refl, sym, ap, subst, ◌∙◌, append_assoc, arith}
+use Rattle.std.specs.Prelude.{All, filter}
 use Rattle.std.proofs.lemmas.List.{length-append}
 use Rattle.std.proofs.lemmas.Grind.{flat_map-append}
 use mathlib.Core.Bool.{beq}
@@ -12,11 +11,11 @@ use Rattle.bgp_attr.specs.declared.speaker.Profile.{Profile}
 use Rattle.bgp_attr.specs.declared.unrecognized.Unrecognized.{Unrecognized}
 use Rattle.bgp_wire.specs.declared.message.Message.TheVariants as messages
 use Rattle.bgp_wire.specs.Paths.{width_of}
-use Rattle.bgp_wire.specs.Attributes.{Attribute, kept_by}
+use Rattle.bgp_wire.specs.Attributes.{Attribute}
 use Rattle.bgp_wire.specs.Routes.{code_of_origin}
-use Rattle.bgp_wire.specs.Updates.{Reading, has_kind, missing, lack, lacks}
+use Rattle.bgp_wire.specs.Updates.{has_kind, missing, lack}
 use Rattle.bgp_wire.specs.Grammar.{IsFrame, IsReading, Reads}
-use Rattle.bgp_wire.specs.Spelling.{path_octets, spelled, is_long, spelled_octets, comes_first, unrecognized_attributes, mandatory_attributes, further_attributes, sent_attributes, octets_of, prefixes_octets, fields_octets, framed, attrs_octets, update_octets}
+use Rattle.bgp_wire.specs.Spelling.{path_octets, spelled, is_long, spelled_octets, comes_first, unrecognized_attributes, mandatory_attributes, further_attributes, sent_attributes, octets_of, prefixes_octets, fields_octets, framed, update_octets}
 use Rattle.bgp_wire.specs.Readable.{IsNetwork, IsReadable, withdrawal, announcement}
 use Rattle.bgp_wire.proofs.SpellingLemmas.{alone}
 use Rattle.bgp_wire.proofs.SpelledNumbers.{spelled_prefixes}

@@ -1,16 +1,16 @@
 -- What is written of numbers, prefixes and paths is read as it was.
-use Rattle.std.proofs.Common.{◌≡◌, ℕ, zero, suc, ◌+◌, ◌-◌, ◌*◌, ◌/◌, ◌%◌, ◌^◌, ◌≤◌, ◌<◌, Bool, true, false, cond, List, [], ◌∷◌, ◌++◌, length, take, drop, get_or, Ok, refl, sym, ap, subst, ◌∙◌, arith}
-use Rattle.std.specs.Prelude.{All, slice_index_or}
+use Rattle.std.proofs.Common.{◌≡◌, ℕ, zero, suc, ◌-◌, ◌*◌, ◌/◌, ◌%◌, ◌^◌, ◌≤◌, ◌<◌, Bool, List, [], ◌∷◌, ◌++◌, length, take, drop, refl, sym, ap, subst, ◌∙◌, arith}
+use Rattle.std.specs.Prelude.{All}
 use Rattle.std.specs.List.{flat_map}
-use Rattle.std.proofs.lemmas.List.{length-take, length-append, append-nil, drop_at}
+use Rattle.std.proofs.lemmas.List.{length-take, length-append, drop_at}
 use Rattle.byteorder.specs.Endian.{big_number, big_bytes}
 use Rattle.byteorder.specs.Numbers.{big_number-reads_back, length-bytes_high_first}
 use Rattle.addr4.specs.Blocks.{size_of_length, masked_to}
 use Rattle.addr4.specs.Prefixes.{Network, IsMasked}
 use Rattle.addr4.proofs.BlockLemmas.{finer, size_splits, size_pos}
 use Rattle.bgp_attr.specs.declared.path.Segment.{Segment}
-use Rattle.bgp_wire.specs.Prefixes.{octets_for, masked, IsPrefix, ArePrefixes}
-use Rattle.bgp_wire.specs.Paths.{width_of, code_of, numbers_at, IsSegment, IsPath}
+use Rattle.bgp_wire.specs.Prefixes.{octets_for, IsPrefix, ArePrefixes}
+use Rattle.bgp_wire.specs.Paths.{width_of, numbers_at, IsSegment, IsPath}
 use Rattle.bgp_wire.specs.Spelling.{prefix_octets, prefixes_octets, segment_octets, path_octets}
 use Rattle.bgp_wire.specs.Readable.{IsNetwork, IsReadableSegment}
 

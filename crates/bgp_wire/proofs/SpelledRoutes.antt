@@ -1,10 +1,8 @@
 -- What is written of a route's attributes says of the route what they are.
-use Rattle.std.proofs.Common.{◌≡◌, ◌⊎◌, ℕ, zero, suc, ◌+◌, ◌*◌, ◌/◌, ◌%◌, ◌^◌, ◌≤◌, ◌<◌, Bool, true, false, cond, eqb, ltb, not, ◌||◌, ◌&&◌, List, [], ◌∷◌, ◌++◌, length, drop, map, get_or, Option, Some, None, Ok, Err, refl, sym, ap, subst, ◌∙◌, inl, inr, arith}
-use Rattle.std.specs.Prelude.{All, filter, find, is_some, option_map, IsSomeAnd}
-use Rattle.std.specs.List.{list_any}
+use Rattle.std.proofs.Common.{◌≡◌, ℕ, ◌+◌, ◌/◌, ◌%◌, ◌^◌, ◌<◌, Bool, true, false, cond, eqb, ◌||◌, List, [], ◌∷◌, ◌++◌, drop, map, get_or, Option, Some, None, refl, sym, ap, subst, ◌∙◌}
+use Rattle.std.specs.Prelude.{All, filter, is_some, option_map, IsSomeAnd}
 use Rattle.std.specs.Option.{ForSome}
-use Rattle.std.proofs.lemmas.Bool.{ltb-false, ltb-true, eqb-true, eqb-false, eq-eqb}
-use Rattle.std.proofs.lemmas.List.{append-nil, drop_at}
+use Rattle.std.proofs.lemmas.List.{drop_at}
 use mathlib.Core.Bool.{beq}
 use Rattle.byteorder.specs.Endian.{big_number, big_bytes}
 use Rattle.byteorder.specs.Numbers.{big_number-reads_back, length-bytes_high_first}
@@ -13,8 +11,8 @@ use Rattle.bgp_attr.specs.declared.attrs.Attrs.{Attrs}
 use Rattle.bgp_attr.specs.declared.speaker.Profile.{Profile}
 use Rattle.bgp_attr.specs.declared.unrecognized.Unrecognized.{Unrecognized}
 use Rattle.bgp_wire.specs.Paths.{width_of, IsPath}
-use Rattle.bgp_wire.specs.Attributes.{Attribute, is_partial}
-use Rattle.bgp_wire.specs.Routes.{kept_of, number_of, code_of_origin, aggregator_of, is_unrecognized, value_of, AreUnrecognized, AreAttrs}
+use Rattle.bgp_wire.specs.Attributes.{Attribute}
+use Rattle.bgp_wire.specs.Routes.{kept_of, code_of_origin, aggregator_of, is_unrecognized, value_of, AreUnrecognized, AreAttrs}
 use Rattle.bgp_wire.specs.Updates.{has_kind}
 use Rattle.bgp_wire.specs.Spelling.{path_octets, is_long, spelled, optional, aggregator_value, aggregator_flags, comes_first, unrecognized_attributes, mandatory_attributes, further_attributes, sent_attributes}
 use Rattle.bgp_wire.specs.Readable.{IsReadable}

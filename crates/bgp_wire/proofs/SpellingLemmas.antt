@@ -1,5 +1,5 @@
 -- The octets that are sent, piece by piece.
-use Rattle.std.proofs.Common.{◌≡◌, ℕ, ◌+◌, ◌≤◌, List, [], ◌∷◌, ◌++◌, length, take, arith}
+use Rattle.std.proofs.Common.{◌≡◌, ◌+◌, ◌≤◌, List, [], ◌∷◌, ◌++◌, length, take, arith}
 use Rattle.std.proofs.lemmas.List.{length-take, length-append}
 use Rattle.byteorder.specs.Endian.{big_bytes}
 use Rattle.addr4.specs.Prefixes.{Network}

@@ -10,14 +10,14 @@ use std::alloc::Global;
 
 pub(crate) const OPEN: u8 = 1;
 
-const UPDATE: u8 = 2;
+pub(crate) const UPDATE: u8 = 2;
 
 pub(crate) const NOTIFICATION: u8 = 3;
 
 pub(crate) const KEEPALIVE: u8 = 4;
 
 /// The longest message, in octets.
-const LONGEST: usize = 4096;
+pub(crate) const LONGEST: usize = 4096;
 
 /// Whether the first 16 octets are all ones.
 fn is_marked(bytes: &[u8]) -> bool

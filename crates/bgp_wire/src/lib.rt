@@ -9,6 +9,11 @@
 //! UPDATE, and class D and E prefixes are announced like others: what that does to the routes is the reader's matter.
 //! Attributes are judged and gathered from left to right in one pass, and memory is taken for what is kept alone. With
 //! `revised` an UPDATE whose attributes have a fault is a withdraw, in the manner of RFC 7606.
+//!
+//! [`write_update`] and [`write_notification`] give the one spelling of a message (`update_octets`, `notification_octets`).
+//! What a peer can read as it is said is said in `specs/Readable`: all that [`read_message`] answers is so, and an UPDATE of
+//! one prefix that is so, and fits into a message, is read from its spelling as it was
+//! ([`what_was_read_is_written_and_read_again`], [`announcements_are_read`], [`withdrawals_are_read`]).
 #![tactic(auto)]
 
 mod attributes;

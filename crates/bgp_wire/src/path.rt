@@ -9,9 +9,9 @@ use crate::numbers::{as_number, width};
 use bgp_attr::{AsPath, Numbers, Segment, SegmentKind};
 use std::alloc::{AllocError, Global};
 
-const AS_SET: u8 = 1;
+pub(crate) const AS_SET: u8 = 1;
 
-const AS_SEQUENCE: u8 = 2;
+pub(crate) const AS_SEQUENCE: u8 = 2;
 
 /// The kind of a segment by its type (RFC 4271, section 4.3).
 fn kind_of(code: u8) -> Option<SegmentKind>

@@ -11,6 +11,7 @@ mod numbers;
 #[cfg(test)]
 mod tests;
 
+use crate::header::{LONGEST, NOTIFICATION, UPDATE};
 use crate::message::{Prefixes, Update};
 use crate::writing::attributes::push_attrs;
 use crate::writing::numbers::{push_prefix, push_u16};
@@ -21,9 +22,6 @@ pub use laws::{
     what_was_read_is_readable, what_was_read_is_written_and_read_again, withdrawals_are_read,
 };
 use std::alloc::Global;
-
-/// The most octets that a message has (RFC 4271, section 4.1).
-const MOST: usize = 4096;
 
 /// The octets of a header.
 const HEADER: usize = 19;
@@ -63,7 +61,7 @@ pub fn write_notification(
 {
     let size = HEADER + 2 + octets.len();
     let mut out = Vec::with_capacity(alloc, size)?;
-    push_header(&mut out, size as u16, 3)?;
+    push_header(&mut out, size as u16, NOTIFICATION)?;
     out.push(code)?;
     out.push(subcode)?;
     out.extend_from_slice(octets)?;
@@ -102,12 +100,12 @@ fn write_fields(
     ensures { let octets = framed 2 (fields_octets withdrawn.now attributes.now announced.now) in IfOk result (λ written. MatchOption written (4096 < length octets) (λ v. (length octets ≤ 4096) × (v.items ≡ octets))) }
 {
     let others = HEADER + 4 + withdrawn.len() + announced.len();
-    if attributes.len() > MOST - others {
+    if attributes.len() > LONGEST - others {
         return Ok(None);
     }
     let size = others + attributes.len();
     let mut out = Vec::with_capacity(alloc, size)?;
-    push_header(&mut out, size as u16, 2)?;
+    push_header(&mut out, size as u16, UPDATE)?;
     push_u16(&mut out, withdrawn.len() as u16)?;
     out.extend_from_slice(withdrawn)?;
     push_u16(&mut out, attributes.len() as u16)?;

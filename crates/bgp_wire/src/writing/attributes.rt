@@ -7,6 +7,10 @@ ghost use Rattle.bgp_wire.specs.Paths.{width_of};
 ghost use Rattle.bgp_wire.specs.Routes.{code_of_origin};
 ghost use Rattle.bgp_wire.specs.Spelling.{FitsWidth, FitsSegment, FitsAttrs, segment_octets, path_octets, spelled, optional, aggregator_value, aggregator_flags, unrecognized_attributes, mandatory_attributes, further_attributes, sent_attributes, octets_of};
 
+use crate::attributes::{
+    AGGREGATOR, AS_PATH, ATOMIC_AGGREGATE, LOCAL_PREF, MULTI_EXIT_DISC, NEXT_HOP, ORIGIN,
+};
+use crate::path::{AS_SEQUENCE, AS_SET};
 use crate::writing::numbers::{push_asn, push_u16, push_u32};
 use addr4::Memory;
 use bgp_attr::{Aggregator, AsPath, Attrs, Origin, Segment, SegmentKind, Unrecognized};
@@ -20,20 +24,6 @@ const OPTIONAL_TRANSITIVE: u8 = 0xc0;
 const PARTIAL: u8 = 0x20;
 
 const EXTENDED_LENGTH: u8 = 0x10;
-
-const ORIGIN: u8 = 1;
-
-const AS_PATH: u8 = 2;
-
-const NEXT_HOP: u8 = 3;
-
-const MULTI_EXIT_DISC: u8 = 4;
-
-const LOCAL_PREF: u8 = 5;
-
-const ATOMIC_AGGREGATE: u8 = 6;
-
-const AGGREGATOR: u8 = 7;
 
 /// A route's attributes by ascending type.
 pub(crate) fn push_attrs(out: &mut Vec<u8>, as4: bool, attrs: &Attrs) -> Result<(), Memory>
@@ -113,8 +103,8 @@ fn push_segment(out: &mut Vec<u8>, as4: bool, segment: &Segment) -> Result<(), M
     ensures { OnOk result (out.new.items ≡ out.old.items ++ segment_octets (width_of as4) segment.now) }
 {
     let code = match segment.kind {
-        SegmentKind::Set => 1,
-        SegmentKind::Sequence => 2,
+        SegmentKind::Set => AS_SET,
+        SegmentKind::Sequence => AS_SEQUENCE,
     };
     let numbers = segment.numbers.as_slice();
     out.push(code)?;
