@@ -13,7 +13,7 @@ use Rattle.addr4.proofs.PrefixOrder.{prefixes_total, exact_prefixes, itself, one
 use Rattle.addr4.proofs.RankLemmas.{another, before_is, further, one_first}
 use Rattle.prefix_trie.specs.Contents.{HasKey}
 use Rattle.safe_table.specs.Slots.{Slot}
-use Rattle.safe_table.specs.Tables.{MatchPlace, standing, live_value, readers_of, with_live, live_from, live_rows, IsKept, IsSound, Leaves}
+use Rattle.safe_table.specs.Fields.{MatchPlace, standing, live_value, readers_of, with_live, live_from, live_rows, IsKept, IsSound, Leaves}
 use Rattle.safe_table.proofs.Maps.{get-insert_same, get-insert_other, get-remove_same, get-remove_other, value_of_has}
 use Rattle.safe_table.proofs.Standing.{moved_by, standing_below, some_stand, stand}
 

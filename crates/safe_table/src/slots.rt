@@ -4,7 +4,7 @@ ghost use Rattle.std.specs.Prelude.{◌≡◌, ◌↔◌, ◌+◌, ◌-◌, ◌<
 ghost use Rattle.std.specs.FinMap as map;
 ghost use Rattle.prefix_trie.specs.Contents.{HasKey};
 ghost use Rattle.addr4.specs.Places.{key_of, IsNextRow};
-ghost use Rattle.safe_table.specs.Tables.{live_rows, live_value, readers_of, Leaves, MatchPlace};
+ghost use Rattle.safe_table.specs.Fields.{live_rows, live_value, readers_of, Leaves, MatchPlace};
 ghost use Rattle.safe_table.specs.Slots.{Slot};
 
 use crate::slot::Slot;

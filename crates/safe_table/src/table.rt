@@ -32,7 +32,8 @@ pub struct Table<V> {
 }
 
 impl<V> Model for Table<V> {
-    ghost use Rattle.safe_table.specs.Tables.{Rows, rows_code, live_rows, iterators_of, IsSound};
+    ghost use Rattle.safe_table.specs.Fields.{live_rows, iterators_of, IsSound};
+    ghost use Rattle.safe_table.specs.Tables.{Rows, rows_code};
 
     ghost Value = { Rows V };
 
