@@ -2,3 +2,4 @@ pub mod Slots
 pub mod Kept
 pub mod Fields
 pub mod Tables
+pub mod Lent
