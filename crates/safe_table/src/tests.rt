@@ -85,7 +85,10 @@ fn calls_of_a_table(rt: HostRuntime) -> Result<(), Fail> {
     assert_eq!(rt; table.get(two).copied(), Some(3));
     assert_eq!(rt; table.next_after(Place::Before), Some(one));
     assert_eq!(rt; table.next_after(Place::At(two)), None);
-    assert_eq!(rt; table.pop_first(), Some((one, 1)));
+    if let Some(row) = table.get_mut(one) {
+        *row = 4;
+    }
+    assert_eq!(rt; table.pop_first(), Some((one, 4)));
     assert_eq!(rt; table.remove(one), None);
     assert_eq!(rt; table.pop_first(), Some((two, 3)));
     assert_eq!(rt; table.pop_first(), None);

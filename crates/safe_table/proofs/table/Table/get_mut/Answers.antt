@@ -1,7 +1,6 @@
-use Rattle.std.proofs.Common.{◌≡◌, ◌∙◌, true, is_some, IsSome, sym, ap, inl, inr}
+use Rattle.std.proofs.Common.{◌∙◌, is_some, sym, ap, inl, inr}
 use Rattle.std.specs.FinMap as map
-use Rattle.prefix_trie.specs.Contents.{HasKey}
-use Rattle.safe_table.specs.Fields.{live_value, live_rows}
+use Rattle.safe_table.specs.Fields.{live_value}
 use Rattle.safe_table.specs.Tables.{Rows}
 use Rattle.safe_table.proofs.Keeping.{get-live, has_live, sound_set, rows_set}
 use Rattle.safe_table.proofs.Maps.{none_of}
