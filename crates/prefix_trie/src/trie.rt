@@ -59,8 +59,10 @@ impl<V> Trie<V> {
         ensures room { OnOk result (count ≤ self.new.spare) }
         ensures rows { self.new.rows ≡ self.old.rows }
         ensures spare { self.old.spare ≤ self.new.spare }
+        ensures succeeds { count ≤ self.old.spare → IsOk result }
     {
         // An insert makes two nodes at most.
+        let _capacity = self.nodes.capacity();
         match count.checked_mul(2) {
             None => Err(Memory),
             Some(nodes) => self.nodes.reserve(nodes).map_err(Memory::from),

@@ -52,6 +52,7 @@ pub(crate) fn set_value<V>(nodes: &mut Slab<Node<V>>, key: usize, value: V) -> O
     nodes[key].value.replace(value)
 }
 
+// Most links stay as they are, and are not written.
 fn set_left<V>(nodes: &mut Slab<Node<V>>, key: usize, link: Option<usize>)
     requires has { ContainsKey nodes.old key }
     requires fits { Fits link }
@@ -59,6 +60,10 @@ fn set_left<V>(nodes: &mut Slab<Node<V>>, key: usize, link: Option<usize>)
     ensures len { slab_len nodes.new ≡ slab_len nodes.old }
     ensures updates { (n : Node V) → get nodes.old key ≡ Some n → Updates nodes.old nodes.new key (Some (record n { left = link })) }
 {
+    let node = &nodes[key];
+    if node.left.key() == link {
+        return;
+    }
     nodes[key].left = Link::new(link);
 }
 
@@ -69,6 +74,10 @@ fn set_right<V>(nodes: &mut Slab<Node<V>>, key: usize, link: Option<usize>)
     ensures len { slab_len nodes.new ≡ slab_len nodes.old }
     ensures updates { (n : Node V) → get nodes.old key ≡ Some n → Updates nodes.old nodes.new key (Some (record n { right = link })) }
 {
+    let node = &nodes[key];
+    if node.right.key() == link {
+        return;
+    }
     nodes[key].right = Link::new(link);
 }
 

@@ -13,7 +13,8 @@ use Rattle.addr4.proofs.PrefixOrder.{prefixes_total, exact_prefixes, itself, one
 use Rattle.addr4.proofs.RankLemmas.{another, before_is, further, one_first}
 use Rattle.prefix_trie.specs.Contents.{HasKey}
 use Rattle.safe_table.specs.Slots.{Slot}
-use Rattle.safe_table.specs.Tables.{MatchPlace, standing, live_value, readers_of, with_live, live_from, live_rows, IsKept, IsSound, Leaves}
+use Rattle.safe_table.specs.Tables.{Rows}
+use Rattle.safe_table.specs.Fields.{iterators_of, MatchPlace, standing, live_value, readers_of, with_live, live_from, live_rows, IsKept, IsSound, Leaves}
 use Rattle.safe_table.proofs.Maps.{get-insert_same, get-insert_other, get-remove_same, get-remove_other, value_of_has}
 use Rattle.safe_table.proofs.Standing.{moved_by, standing_below, some_stand, stand}
 
@@ -176,6 +177,16 @@ module _ {V : Type 0} where
 
   pub rows_put : (m n : FinMap prefix_cmp (Slot V)) (p : Network) (v : V) → n ≡ map.insert m p (record { value = Some v; readers = readers_of (map.get m p) }) → live_rows n ≡ map.insert (live_rows m) p v
   rows_put m n p v e = ap live_rows e ∙ live-insert m p _
+
+  -- a row is written where it stands
+  pub sound_set : (m : FinMap prefix_cmp (Slot V)) (places : List (Option Place)) (count : ℕ) (p : Network) (s : Slot V) (v : V) → IsSound m places count → map.get m p ≡ Some s → is_some (live_value (map.get m p)) ≡ true
+      → IsSound (map.insert m p (record { value = Some v; readers = s.readers })) places count
+  sound_set m places count p s v sound found is =
+      subst (λ k. IsSound (map.insert m p (record { value = Some v; readers = s.readers })) places k) (ap (λ b. cond b count (count + 1)) is)
+      (sound_put m _ places count p v (live_value (map.get m p)) sound (ap (λ k. map.insert m p (record { value = Some v; readers = k })) (sym (ap readers_of found))) refl)
+
+  pub rows_set : (m : FinMap prefix_cmp (Slot V)) (places : List (Option Place)) (p : Network) (k : ℕ) (v : V) → ◌≡◌ {A = Rows V} (record { rows = live_rows (map.insert m p (record { value = Some v; readers = k })); iterators = iterators_of places }) (record { rows = map.insert (live_rows m) p v; iterators = iterators_of places })
+  rows_set m places p k v = ap (λ (r : FinMap prefix_cmp V). record { rows = r; iterators = iterators_of places }) (live-insert m p _)
 
   -- a row is taken
   pub record Taken (m n : FinMap prefix_cmp (Slot V)) (p : Network) : Type 0 where

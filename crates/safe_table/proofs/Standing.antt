@@ -11,7 +11,7 @@ use Rattle.slab.specs.Slab.{Slab, get, slab_len, with_value, Updates, entries_fr
 use Rattle.addr4.specs.Prefixes.{Network, prefix_cmp}
 use Rattle.addr4.specs.declared.place.Place.{Place}
 use Rattle.addr4.specs.declared.place.Place.TheVariants.{Before, At}
-use Rattle.safe_table.specs.Tables.{stands_at, standing, iterators_of}
+use Rattle.safe_table.specs.Fields.{stands_at, standing, iterators_of}
 
 abbrev pub stand : Network → Option Place → ℕ
 stand p x = cond (stands_at p x) 1 0

@@ -1,7 +1,9 @@
 //! What a table keeps at a prefix.
 
-ghost use Rattle.std.specs.Prelude.{◌≡◌, ◌+◌, ◌-◌, ◌<◌, ◌^◌, is_some, Some, None};
+ghost use Rattle.std.specs.Prelude.{◌≡◌, ◌+◌, ◌-◌, ◌<◌, ◌^◌, is_some, IsSome, Some, None};
 ghost use Rattle.std.specs.Option.{option_copied};
+ghost use Rattle.std.specs.Borrow.{sem};
+ghost use Rattle.safe_table.specs.Kept.{slot_of};
 
 use std::marker::Model;
 use std::mem::{self, size_of};
@@ -35,7 +37,25 @@ impl<V> Model for Slot<V> {
     ghost view = { λ s. slot_of s.kept };
 }
 
+impl<V> Kept<V> {
+    ghost use Rattle.safe_table.specs.Lent.{lends_kept};
+
+    // Lends the row.
+    fn row_mut(&mut self) -> &mut V
+        requires { IsSome (slot_of self.old).value }
+        ensures* writes_back { sem 𝓛 (lends_kept V.row self.entry result) }
+        ensures value { (slot_of self.old).value ≡ Some result.now }
+    {
+        match self {
+            Kept::Row { readers: _, row } => row,
+            Kept::Removed { readers: _ } => unreachable!(),
+        }
+    }
+}
+
 impl<V> Slot<V> {
+    ghost use Rattle.safe_table.specs.Lent.{lends_slot};
+
     pub(crate) fn new(row: V) -> Slot<V>
         ensures { result ≡ record { value = Some row; readers = 0 } }
     {
@@ -94,6 +114,15 @@ impl<V> Slot<V> {
             Kept::Row { readers, row: _ } => *readers -= 1,
             Kept::Removed { readers } => *readers -= 1,
         }
+    }
+
+    // Lends the row.
+    pub(crate) fn row_mut(&mut self) -> &mut V
+        requires { IsSome self.old.value }
+        ensures* writes_back { sem 𝓛 (lends_slot V.row self.entry result) }
+        ensures value { self.old.value ≡ Some result.now }
+    {
+        self.kept.row_mut()
     }
 
     // Puts a row, and answers the one before.

@@ -1,10 +1,10 @@
 //! The calls of a table on its trie of slots.
 
-ghost use Rattle.std.specs.Prelude.{◌≡◌, ◌↔◌, ◌+◌, ◌-◌, ◌<◌, ◌^◌, IsTrue, IsOk, OnOk, OnErr, IfOk, IfSome, option_map, Some, None, true, false};
+ghost use Rattle.std.specs.Prelude.{◌≡◌, ◌↔◌, ◌+◌, ◌-◌, ◌<◌, ◌^◌, IsTrue, IsOk, OnOk, OnErr, IfOk, IfSome, option_map, is_some, Some, None, true, false};
 ghost use Rattle.std.specs.FinMap as map;
 ghost use Rattle.prefix_trie.specs.Contents.{HasKey};
 ghost use Rattle.addr4.specs.Places.{key_of, IsNextRow};
-ghost use Rattle.safe_table.specs.Tables.{live_rows, live_value, readers_of, Leaves, MatchPlace};
+ghost use Rattle.safe_table.specs.Fields.{live_rows, live_value, readers_of, Leaves, MatchPlace};
 ghost use Rattle.safe_table.specs.Slots.{Slot};
 
 use crate::slot::Slot;
@@ -73,6 +73,16 @@ fn next_slot<V>(trie: &Trie<Slot<V>>, after: Place) -> Option<(Prefix, bool)>
     }
 }
 
+// Whether there is a row at a prefix.
+pub(crate) fn has_row<V>(trie: &Trie<Slot<V>>, prefix: Prefix) -> bool
+    ensures { result ≡ is_some (live_value (map.get trie.now.rows prefix)) }
+{
+    match trie.get(prefix) {
+        None => false,
+        Some(slot) => slot.has_row(),
+    }
+}
+
 // Whether one row more can be counted, if the prefix has none yet.
 pub(crate) fn fits<V>(trie: &Trie<Slot<V>>, count: usize, prefix: Prefix) -> bool
     ensures fits { result ≡ true → live_value (map.get trie.now.rows prefix) ≡ None → count + 1 < 2 ^ 64 }
@@ -81,10 +91,7 @@ pub(crate) fn fits<V>(trie: &Trie<Slot<V>>, count: usize, prefix: Prefix) -> boo
     if count < usize::MAX {
         return true;
     }
-    match trie.get(prefix) {
-        None => false,
-        Some(slot) => slot.has_row(),
-    }
+    has_row(trie, prefix)
 }
 
 // Puts a row at a prefix, where iterators stay.

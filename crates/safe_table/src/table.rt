@@ -1,7 +1,8 @@
 //! Tables.
 
 ghost use Rattle.std.specs.Prelude.{◌≡◌, ◌↔◌, ◌+◌, ◌-◌, ◌<◌, ◌≤◌, ◌^◌, if◌then◌else◌, true, false, IsTrue, IsOk, OnOk, OnErr, IfOk, IfSome, IsSome, MatchOption, option_map, Some, None};
-ghost use Rattle.std.specs.Option.{option_copied};
+ghost use Rattle.std.specs.Option.{option_copied, option_copied_mut};
+ghost use Rattle.std.specs.Borrow.{sem};
 ghost use Rattle.std.specs.FinMap as map;
 ghost use Rattle.addr4.specs.Places.{key_of, IsNextRow};
 ghost use Rattle.addr4.specs.declared.place.Place.TheVariants.{Before, At};
@@ -32,7 +33,8 @@ pub struct Table<V> {
 }
 
 impl<V> Model for Table<V> {
-    ghost use Rattle.safe_table.specs.Tables.{Rows, rows_code, live_rows, iterators_of, IsSound};
+    ghost use Rattle.safe_table.specs.Fields.{live_rows, iterators_of, IsSound};
+    ghost use Rattle.safe_table.specs.Tables.{Rows, rows_code};
 
     ghost Value = { Rows V };
 
@@ -63,6 +65,8 @@ fn without_row(known: bool, count: usize) -> usize
 }
 
 impl<V: Drop> Table<V> {
+    ghost use Rattle.safe_table.specs.Lent.{lends_get};
+
     /// An empty table without iterators. Takes no memory.
     pub fn new(alloc: Global) -> Self
         ensures rows { result.rows ≡ map.empty }
@@ -97,6 +101,17 @@ impl<V: Drop> Table<V> {
             None => None,
             Some(slot) => slot.row(),
         }
+    }
+
+    /// Lends the row at a prefix, to be changed in place.
+    pub fn get_mut(&mut self, prefix: Prefix) -> Option<&mut V>
+        ensures* writes_back { sem 𝓛 (lends_get V.row self.entry prefix result) }
+        ensures value { option_copied_mut result ≡ map.get self.old.rows prefix }
+    {
+        if !slots::has_row(&self.trie, prefix) {
+            return None;
+        }
+        Some(self.trie.value_mut(prefix).row_mut())
     }
 
     /// The first prefix beyond a place that has a row, by address and then length.

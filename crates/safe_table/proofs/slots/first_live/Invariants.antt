@@ -2,7 +2,7 @@ use Rattle.std.proofs.Common.{IsTrue, ◌↔◌, ◌-◌, ◌*◌, ◌^◌}
 use Rattle.addr4.specs.Places.{key_of, rank}
 use Rattle.prefix_trie.specs.Width.{width}
 use Rattle.prefix_trie.specs.Contents.{HasKey}
-use Rattle.safe_table.specs.Tables.{live_rows}
+use Rattle.safe_table.specs.Fields.{live_rows}
 use Rattle.safe_table.proofs.Keeping.{Reaches}
 use Rattle.safe_table.proofs.slots.first_live.Given as goal
 

@@ -1,6 +1,6 @@
 use Rattle.std.proofs.Common.{◌∙◌, sym, ap}
 use Rattle.std.specs.FinMap as map
-use Rattle.safe_table.specs.Tables.{live_value}
+use Rattle.safe_table.specs.Fields.{live_value}
 use Rattle.safe_table.proofs.Keeping.{get-live}
 use Rattle.safe_table.proofs.table.Table.get.Goals as goal
 

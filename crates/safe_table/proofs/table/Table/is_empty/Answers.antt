@@ -1,7 +1,7 @@
 use Rattle.std.proofs.Common.{◌≡◌, ◌∙◌, sym, ap, arith}
 use Rattle.std.proofs.lemmas.Bool.Decides.{nat_tests}
 use Rattle.std.specs.FinMap.{empty_of_len}
-use Rattle.safe_table.specs.Tables.{live_rows}
+use Rattle.safe_table.specs.Fields.{live_rows}
 use Rattle.safe_table.proofs.Keeping.{len_of_empty}
 use Rattle.safe_table.proofs.table.Table.is_empty.Goals as goal
 

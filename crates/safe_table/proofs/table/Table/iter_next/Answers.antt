@@ -2,7 +2,7 @@ use Rattle.std.proofs.Common.{◌∙◌, Some, None, IsSome, refl, sym, ap, subs
 use Rattle.std.specs.FinMap as map
 use Rattle.addr4.specs.Places.{key_of, IsNextRow}
 use Rattle.addr4.specs.declared.place.Place.TheVariants.{At}
-use Rattle.safe_table.specs.Tables.{iterators_of}
+use Rattle.safe_table.specs.Fields.{iterators_of}
 use Rattle.safe_table.proofs.Standing.{count_kept, live_set, get-iterators, iterators_insert, kept_place}
 use Rattle.safe_table.proofs.Keeping.{has_live, readers_fit}
 use Rattle.safe_table.proofs.Keeping.{gone_on, ready_to_leave}

@@ -1,5 +1,5 @@
 use Rattle.std.proofs.Common.{◌∙◌, ap}
-use Rattle.safe_table.specs.Tables.{live_rows}
+use Rattle.safe_table.specs.Fields.{live_rows}
 use Rattle.safe_table.proofs.Keeping.{live_nothing, rows_nothing}
 use Rattle.safe_table.proofs.table.Table.new.Goals as goal
 

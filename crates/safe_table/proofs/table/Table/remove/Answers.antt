@@ -1,6 +1,6 @@
 use Rattle.std.proofs.Common.{◌-◌, ◌∙◌, cond, sym, ap, subst}
 use Rattle.std.specs.FinMap as map
-use Rattle.safe_table.specs.Tables.{IsSound}
+use Rattle.safe_table.specs.Fields.{IsSound}
 use Rattle.safe_table.proofs.Keeping.{get-live, sound_taken, rows_taken, counted_row}
 use Rattle.safe_table.proofs.Keeping.{Taken}
 use Rattle.safe_table.proofs.table.Table.remove.Goals as goal

@@ -1,0 +1,101 @@
+//! Measures the tables: the same work on a trie, on a table and on an ordered map.
+//!
+//! Words: `trie`, `table` or `map`; the number of prefixes; how many of the steps are done: 1 puts, 2 gets, 3 longest
+//! matches (of a table: gets again), 4 a walk over all rows during which others are removed, before and behind, 5 removals. It
+//! prints a checksum, the same for a trie and a map. `bench/tables.py` runs it and measures.
+#![tactic(auto)]
+
+mod stores;
+
+use addr4::{Addr, Memory, Prefix};
+use anyhow::Context;
+use prefix_trie::Trie;
+use safe_table::Table;
+use std::collections::BTreeMap;
+use std::env;
+use stores::Store;
+
+// The number at an index of a fixed sequence without a pattern.
+fn mixed(index: u64) -> u64 {
+    let spread = index.wrapping_add(1).wrapping_mul(0x9e37_79b9_7f4a_7c15);
+    let folded = (spread ^ (spread >> 30)).wrapping_mul(0xbf58_476d_1ce4_e5b9);
+    folded ^ (folded >> 27)
+}
+
+// The prefix at an index, of a length from 8 to 24.
+fn prefix_at(index: u64) -> Option<Prefix> {
+    let number = mixed(index);
+    Prefix::new(Addr::new((number >> 32) as u32), 8 + (number % 17) as u8)
+}
+
+fn put_all<S: Store>(store: &mut S, count: u64) -> Result<(), Memory> {
+    for index in 0..count {
+        if let Some(prefix) = prefix_at(index) {
+            store.put(prefix, index)?;
+        }
+    }
+    Ok(())
+}
+
+fn get_all<S: Store>(store: &S, count: u64) -> u64 {
+    let mut sum = 0u64;
+    for index in 0..count {
+        if let Some(prefix) = prefix_at(index) {
+            sum = sum.wrapping_add(store.at(prefix));
+        }
+    }
+    sum
+}
+
+fn match_all<S: Store>(store: &S, count: u64) -> u64 {
+    let mut sum = 0u64;
+    for index in 0..count {
+        let number = mixed(index.wrapping_add(count));
+        sum = sum.wrapping_add(store.matched(Addr::new((number >> 32) as u32)));
+    }
+    sum
+}
+
+fn take_all<S: Store>(store: &mut S, count: u64) -> u64 {
+    let mut sum = 0u64;
+    for index in 0..count {
+        if let Some(prefix) = prefix_at(index) {
+            sum = sum.wrapping_add(store.take(prefix));
+        }
+    }
+    sum
+}
+
+fn run<S: Store>(store: &mut S, count: u64, steps: u64) -> Result<u64, Memory> {
+    put_all(store, count)?;
+    let mut sum = 0u64;
+    if steps >= 2 {
+        sum = sum.wrapping_add(get_all(store, count));
+    }
+    if steps >= 3 {
+        sum = sum.wrapping_add(match_all(store, count));
+    }
+    if steps >= 4 {
+        sum = sum.wrapping_add(store.walk(count)?);
+    }
+    if steps >= 5 {
+        sum = sum.wrapping_add(take_all(store, count));
+    }
+    Ok(sum)
+}
+
+fn main(rt: HostRuntime) -> anyhow::Result<()> {
+    let mut words = env::args(&rt)?;
+    let _program = words.next();
+    let kind = words.next().context("no kind")?;
+    let count = words.next().context("no count")?.parse::<u64>()?;
+    let steps = words.next().context("no steps")?.parse::<u64>()?;
+    let sum = match kind.as_str() {
+        "trie" => run(&mut Trie::new(rt.alloc()), count, steps),
+        "table" => run(&mut Table::new(rt.alloc()), count, steps),
+        _ => run(&mut BTreeMap::new(rt.alloc()), count, steps),
+    };
+    let sum = sum.ok().context("no memory")?;
+    println!(rt; "{sum}")?;
+    Ok(())
+}
