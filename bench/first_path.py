@@ -8,9 +8,10 @@ each, mostly of length 24, with AS paths of 2 to 6 numbers. The command's output
 time of the process; memory is its peak resident set. With --write the event file is only written to FILE.
 """
 import random
-import subprocess
 import sys
 import tempfile
+
+import measure
 
 MARKER = b'\xff' * 16
 
@@ -38,26 +39,6 @@ def events(lines):
     return '\n'.join(out + ['']).encode()
 
 
-# Peak memory counts what a process had before it became the command, so a small one starts it.
-STARTER = """
-import os, sys
-pid = os.fork()
-if pid == 0:
-    os.dup2(os.open(os.devnull, os.O_WRONLY), 1)
-    os.execvp(sys.argv[1], sys.argv[1:])
-_, status, used = os.wait4(pid, 0)
-print(used.ru_utime + used.ru_stime, used.ru_maxrss / 1024, os.waitstatus_to_exitcode(status))
-"""
-
-
-def measure(file, command):
-    """CPU seconds, peak memory in MiB and status of one run."""
-    file.seek(0)
-    starter = [sys.executable, '-S', '-E', '-I', '-c', STARTER]
-    said = subprocess.run(starter + command, stdin=file, stdout=subprocess.PIPE, check=True).stdout.split()
-    return float(said[0]), float(said[1]), int(said[2])
-
-
 def main(words):
     options = {'lines': '40000', 'runs': '3', 'write': ''}
     while words and words[0].startswith('--'):
@@ -71,12 +52,7 @@ def main(words):
     with tempfile.TemporaryFile() as file:
         file.write(text)
         file.flush()
-        seen = []
-        for _ in range(int(options['runs'])):
-            seen.append(measure(file, words))
-            print('run: cpu %.2f s, memory %.1f MiB, status %d' % seen[-1])
-    seen.sort()
-    print('%s lines: median cpu %.2f s, peak memory %.1f MiB' % (options['lines'], seen[len(seen) // 2][0], max(m for _, m, _ in seen)))
+        measure.report('%s lines' % options['lines'], file, words, int(options['runs']))
 
 
 if __name__ == '__main__':

@@ -1,27 +1,32 @@
-"""Runs a command and tells its CPU seconds and peak memory."""
-import os
+"""CPU seconds and peak memory of a command."""
+import subprocess
+import sys
+
+# Peak memory counts what a process had before it became the command, so a small one starts it.
+STARTER = """
+import os, sys
+pid = os.fork()
+if pid == 0:
+    os.dup2(os.open(os.devnull, os.O_WRONLY), 1)
+    os.execvp(sys.argv[1], sys.argv[1:])
+_, status, used = os.wait4(pid, 0)
+print(used.ru_utime + used.ru_stime, used.ru_maxrss / 1024, os.waitstatus_to_exitcode(status))
+"""
 
 
-def run(words, stdin=None, quiet=True):
-    """(user and system seconds, peak resident MiB, exit status) of a command, whose output is thrown away."""
-    pid = os.fork()
-    if pid == 0:
-        if stdin is not None:
-            os.dup2(stdin.fileno(), 0)
-        if quiet:
-            os.dup2(os.open(os.devnull, os.O_WRONLY), 1)
-        os.execvp(words[0], words)
-    _, status, used = os.wait4(pid, 0)
-    return used.ru_utime + used.ru_stime, used.ru_maxrss / 1024, os.waitstatus_to_exitcode(status)
+def measure(file, command):
+    """User and system seconds, peak resident MiB and status of one run, whose output is thrown away."""
+    file.seek(0)
+    starter = [sys.executable, '-S', '-E', '-I', '-c', STARTER]
+    said = subprocess.run(starter + command, stdin=file, stdout=subprocess.PIPE, check=True).stdout.split()
+    return float(said[0]), float(said[1]), int(said[2])
 
 
-def report(name, words, stdin=None, runs=3):
-    """Prints the median of some runs."""
+def report(name, file, command, runs=3):
+    """Prints each run, and then the median of the seconds and the most memory."""
     seen = []
     for _ in range(runs):
-        if stdin is not None:
-            stdin.seek(0)
-        seen.append(run(words, stdin))
+        seen.append(measure(file, command))
+        print('run: cpu %.2f s, memory %.1f MiB, status %d' % seen[-1])
     seen.sort()
-    seconds, _, status = seen[len(seen) // 2]
-    print('%-28s cpu %.2f s  memory %.0f MiB  status %d' % (name, seconds, max(m for _, m, _ in seen), status))
+    print('%s: median cpu %.2f s, peak memory %.1f MiB' % (name, seen[len(seen) // 2][0], max(m for _, m, _ in seen)))

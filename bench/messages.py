@@ -32,11 +32,11 @@ def main(words):
     count = int(words[0]) if words else 200000
     program = words[1] if len(words) > 1 else PROGRAM
     r = random.Random(7)
-    with tempfile.TemporaryFile('w+') as events:
+    with tempfile.TemporaryFile() as events:
         for _ in range(count):
-            events.write('bgp 1 %s\n' % message(r).hex())
+            events.write(b'bgp 1 %s\n' % message(r).hex().encode())
         events.flush()
-        measure.report('%d messages' % count, [program], events)
+        measure.report('%d messages' % count, events, [program])
 
 
 if __name__ == '__main__':
