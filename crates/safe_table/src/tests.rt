@@ -31,6 +31,14 @@ fn row_after(trie: &Trie<Addr>, prefix: Prefix) -> Option<Prefix> {
     }
 }
 
+fn write(trie: &mut Trie<Addr>, prefix: Prefix, value: Addr) -> bool {
+    if trie.get(prefix).is_none() {
+        return false;
+    }
+    *trie.value_mut(prefix) = value;
+    true
+}
+
 #[test]
 fn an_iterator_meets_what_is_there_now(rt: HostRuntime) -> Result<(), Fail> {
     let one = at(0x0a01_0000, 16)?;
@@ -115,7 +123,9 @@ fn calls_of_a_trie(rt: HostRuntime) -> Result<(), Fail> {
     if let Some(value) = trie.get_mut(six) {
         *value = Addr::new(7);
     }
+    assert!(rt; write(&mut trie, ten, Addr::new(11)));
     assert_eq!(rt; trie.remove(six), Some(Addr::new(7)));
+    assert_eq!(rt; trie.get(ten).copied(), Some(Addr::new(11)));
     assert_eq!(rt; trie.nodes().len(), 2);
     Ok(())
 }
