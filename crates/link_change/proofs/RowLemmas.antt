@@ -1,7 +1,8 @@
 -- Rows with one row set, the rows of a table, and where a walk goes.
-use Rattle.std.proofs.Common.{◌≡◌, Bool, true, false, cond, ◌||◌, Option, Some, None, is_some, refl, sym, ap, ◌∙◌}
+use Rattle.std.proofs.Common.{ℕ, nat_eq, IsTrue, ◌↔◌, arith, ◌≡◌, Bool, true, false, cond, ◌||◌, Option, Some, None, is_some, refl, sym, ap, ◌∙◌}
+use Rattle.std.proofs.lemmas.Bool.Decides.{nat_tests}
 use Rattle.std.specs.FinMap as map
-use Rattle.std.specs.FinMap.{FinMap, same_map, get-insert, get-remove, get-empty}
+use Rattle.std.specs.FinMap.{FinMap, same_map, empty_of_len, len-empty, get-insert, get-remove, get-empty}
 use Rattle.addr4.specs.Prefixes.{Network, prefix_cmp}
 use Rattle.addr4.specs.Places.{IsNextRow}
 use Rattle.addr4.proofs.PrefixOrder.{prefixes_total, exact_prefixes, by_prefix, itself}
@@ -32,6 +33,17 @@ module _ {V : Type 0} where
   -- to take out a row that isn't there changes nothing
   pub remove_absent : (m : FinMap prefix_cmp V) (p : Network) → map.get m p ≡ None → map.remove m p ≡ m
   remove_absent m p none = same_map prefixes_total exact_prefixes _ _ (λ q. ap (λ (r : Rows V). r q) (rows_removed m p ∙ with_row_same (map.get m) p None none))
+
+  -- to put the row that is there changes nothing
+  pub insert_present : (m : FinMap prefix_cmp V) (p : Network) (v : V) → map.get m p ≡ Some v → map.insert m p v ≡ m
+  insert_present m p v at = same_map prefixes_total exact_prefixes _ _ (λ q. ap (λ (r : Rows V). r q) (rows_inserted m p v ∙ with_row_same (map.get m) p (Some v) at))
+
+  -- a table whose rows count to none is the empty one
+  pub counted_empty : (m : FinMap prefix_cmp V) (count : ℕ) → count ≡ map.len m → IsTrue (nat_eq count 0) ↔ (m ≡ map.empty)
+  counted_empty m count counts = (
+    λ is. empty_of_len m (let zero_len : map.len m ≡ 0 = grind (arith, nat_tests) in zero_len),
+    λ e. let zero_len : count ≡ 0 = counts ∙ ap map.len e ∙ len-empty prefix_cmp V in grind (arith, nat_tests),
+  )
 
   -- a table with no row anywhere is the empty one
   pub empty_of_rows : (m : FinMap prefix_cmp V) → ((q : Network) → map.get m q ≡ None) → m ≡ map.empty

@@ -40,7 +40,9 @@ together a b q = a q || b q
 
 -- the next of both together, where these are the next of each
 abbrev pub IsNextOfBoth : Option Network → Option Network → Option Network → Type 0
-IsNextOfBoth first second result = (a b : Candidates) (after : Option Network) → IsNextCandidate a after first → IsNextCandidate b after second → IsNextCandidate (together a b) after result
+IsNextOfBoth first second result =
+    (a b : Candidates) (after : Option Network) → IsNextCandidate a after first → IsNextCandidate b after second
+    → IsNextCandidate (together a b) after result
 
 -- the table has no row
 abbrev pub is_empty_map : {V : Type 0} → FinMap prefix_cmp V → Bool

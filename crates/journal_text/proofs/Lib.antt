@@ -1,3 +1,0 @@
-pub mod LinkLemmas
-pub mod WalkLemmas
-pub mod LineLemmas

@@ -1,4 +1,0 @@
-pub mod LinkNames
-pub mod Walk
-pub mod Lines
-pub mod Pages
