@@ -1,0 +1,4 @@
+pub mod Links
+pub mod Walk
+pub mod Texts
+pub mod Journals

@@ -1,0 +1,92 @@
+//! The output, line by line.
+
+ghost use Rattle.std.specs.Prelude.{◌≡◌, ◌++◌, ◌∷◌, [], OnOk, IfOk};
+ghost use Rattle.journal_text.specs.declared.line.Line.{Line};
+ghost use Rattle.journal_text.specs.declared.line.Line.TheVariants as lines;
+ghost use Rattle.journal_text.specs.declared.value.Value.TheVariants as values;
+ghost use Rattle.link_change.specs.declared.change.Change.{Change};
+ghost use Rattle.journal_text.specs.Walk.{change_entries};
+ghost use Rattle.journal_text.specs.Journals.{with_lines, with_entries, attrs_change};
+
+use crate::entry::Entry;
+use crate::line::Line;
+use crate::link::Link;
+use crate::value::Value;
+use addr4::{Memory, Prefix, Row};
+use bgp_attr::SharedAttrs;
+use link_change::Change;
+use std::alloc::Global;
+use std::marker::Model;
+
+/// The lines that the router gives, and their text as it is made. Where the output is quiet, the journal's own lines give
+/// no text.
+#[derive(Drop)]
+pub struct Journal {
+    alloc: Global,
+    text: Vec<u8>,
+    pending: Vec<Line>,
+    quiet: bool,
+}
+
+impl Model for Journal {
+    ghost use Rattle.journal_text.specs.Journals.{Journaled, journaled_code};
+    ghost use Rattle.journal_text.specs.contracts.line.Line as line_row;
+
+    ghost Value = { Journaled };
+
+    ghost coded = { journaled_code line_row.the_row.coded };
+
+    ghost view = { λ j. record { text = j.text.items; pending = j.pending.items; quiet = j.quiet } };
+}
+
+impl Journal {
+    /// No line yet; takes no memory.
+    pub fn new(alloc: Global, quiet: bool) -> Journal
+        ensures { result ≡ record { text = []; pending = []; quiet = quiet } }
+    {
+        Journal {
+            alloc,
+            text: Vec::new(alloc),
+            pending: Vec::new(alloc),
+            quiet,
+        }
+    }
+
+    /// Appends a line.
+    pub fn push_line(&mut self, line: Line) -> Result<(), Memory>
+        ensures { OnOk result (self.new ≡ with_lines self.old (line ∷ [])) }
+    {
+        self.pending.push(line)?;
+        Ok(())
+    }
+
+    /// Appends an entry of the journal.
+    pub fn push_entry(&mut self, entry: Entry<Value>) -> Result<(), Memory>
+        ensures { OnOk result (self.new ≡ with_entries self.old (entry ∷ [])) }
+    {
+        self.push_line(Line::Journal(entry))
+    }
+
+    /// Appends the entry of a change on a link: an add, a delete or a replacement; none where no row was or is.
+    pub fn push_change(&mut self, link: Link, change: &Change<SharedAttrs>) -> Result<(), Memory>
+        ensures { OnOk result (self.new ≡ with_entries self.old (attrs_change link change.now)) }
+    {
+        let p = change.prefix;
+        match (&change.before, &change.after) {
+            (None, Some(new)) => self.push_entry(Entry::Add(link, p, attrs_value(new)?)),
+            (Some(old), None) => self.push_entry(Entry::Delete(link, p, attrs_value(old)?)),
+            (Some(old), Some(new)) => {
+                let old = attrs_value(old)?;
+                self.push_entry(Entry::Replace(link, p, old, attrs_value(new)?))
+            }
+            (None, None) => Ok(()),
+        }
+    }
+}
+
+// The value of shared attributes.
+fn attrs_value(attrs: &SharedAttrs) -> Result<Value, Memory>
+    ensures { IfOk result (λ value. value ≡ values.Attrs attrs.now) }
+{
+    Ok(Value::Attrs(attrs.copy()?))
+}

@@ -1,0 +1,21 @@
+//! The output: its links, entries and lines, and their texts.
+//!
+//! A [`Link`] stands between two stages, a [`Task`] is a stage's work. What goes over a link is told by an [`Entry`]: a
+//! link begins or ends, a row of it changes, a lookup is answered. A [`Line`] is an entry or one of the other lines of the
+//! output. The stages push typed lines to a [`Journal`], which makes their text when it is flushed.
+//!
+//! In `specs/` stands what it means that a journal obeys the two consistency rules: its entries are walked with one map of
+//! rows for each live link ([`Walk`](specs/Walk.antt)). Text formats stand here and nowhere else.
+#![tactic(auto)]
+
+mod entry;
+mod journal;
+mod line;
+mod link;
+mod value;
+
+pub use entry::Entry;
+pub use journal::Journal;
+pub use line::{Code, Line};
+pub use link::{Link, Task};
+pub use value::Value;

@@ -1,0 +1,48 @@
+//! The lines of the output.
+
+use crate::entry::Entry;
+use crate::link::Link;
+use crate::value::Value;
+use addr4::Prefix;
+use bgp_attr::Octets;
+
+/// Why a line of the event file is refused.
+#[derive(Clone, Copy, Debug, PartialEq, Eq)]
+pub enum Code {
+    /// The line is too long, or has a byte that isn't printable ASCII.
+    E1,
+    /// The grammar has no such line.
+    E2,
+    /// Something is declared twice.
+    E3,
+    /// The event stands before `local`.
+    E4,
+    /// The peer isn't declared.
+    E5,
+    /// A limit is passed.
+    E6,
+}
+
+/// A line of the output.
+#[derive(Drop)]
+pub enum Line {
+    Journal(Entry<Value>),
+    /// `note K HEX`: a NOTIFICATION is sent to the peer.
+    Note(u32, Octets),
+    /// `row LINK PREFIX VALUE`: a row of a link that is shown.
+    Row(Link, Prefix, Value),
+    /// `rows LINK COUNT`: how many rows a link has that was shown.
+    Rows(Link, u128),
+    /// `work M`: how many turns `work` took.
+    Work(u128),
+    /// `bound B`: how many turns `idle` takes at most.
+    Bound(u128),
+    /// `idle M`: how many turns `idle` took.
+    Idle(u128),
+    /// `ignored`: the event changes nothing.
+    Ignored,
+    /// `absent`: the link isn't live.
+    Absent,
+    /// `refused LINE CODE`: the line of this number is refused.
+    Refused(u64, Code),
+}

@@ -1,0 +1,66 @@
+//! The names of links and tasks.
+
+ghost use Rattle.std.specs.Prelude.{◌≡◌};
+ghost use Rattle.journal_text.specs.Links.{same_link};
+
+use rib_route::Proto;
+
+/// A link between two stages. K and J are peers' numbers, S is the number of a session, N of a protocol's loss; all count
+/// from 1.
+#[derive(Clone, Copy, Debug, PartialEq, Eq)]
+pub enum Link {
+    /// `in.K`: into the incoming filter of a peer.
+    In(u32),
+    /// `peer.K.S`: into the deletion stage of a peer's lost session.
+    Peer(u32, u32),
+    /// `filt.K`: out of the incoming filter.
+    Filt(u32),
+    /// `res.K`: out of the next-hop resolver.
+    Res(u32),
+    /// `org.PROTO`: the interior routes of a protocol.
+    Org(Proto),
+    /// `org.PROTO.N`: into the deletion stage of a protocol's loss.
+    Lost(Proto, u32),
+    /// `low`: the connected and the static routes.
+    Low,
+    /// `dyn`: the routes of ospf and rip.
+    Dyn,
+    /// `int`: all interior routes.
+    Int,
+    /// `red`: what is redistributed into BGP.
+    Red,
+    /// `best`: what the decision chose.
+    Best,
+    /// `read.rib`: what the forwarding side has read of `best`.
+    ReadRib,
+    /// `ebgp`: the best routes from external peers.
+    Ebgp,
+    /// `ibgp`: the best routes from internal peers.
+    Ibgp,
+    /// `ext`: both.
+    Ext,
+    /// `fib`: the forwarding table.
+    Fib,
+    /// `read.J.S`: what a session of a peer has read of `best`.
+    Read(u32, u32),
+    /// `outf.J.S`: out of the outgoing filter.
+    Outf(u32, u32),
+    /// `adv.J.S`: what was advertised to the peer.
+    Adv(u32, u32),
+}
+
+impl Link {
+    /// Whether this is the other link.
+    pub fn is(self, other: Link) -> bool
+        ensures { result ≡ same_link self other }
+    {
+        self == other
+    }
+}
+
+/// Work that a stage has, done in turns.
+#[derive(Clone, Copy, Debug, PartialEq, Eq)]
+pub enum Task {
+    /// `del.K.S`: the deletes of a peer's lost session.
+    Del(u32, u32),
+}
