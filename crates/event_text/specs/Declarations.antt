@@ -1,0 +1,113 @@
+-- What was declared so far, and which events may stand there.
+use Rattle.std.specs.Prelude.{◌≡◌, ℕ, ◌+◌, ◌==◌, nat_le, nat_lt, Bool, true, false, not, ◌&&◌, ◌||◌, if◌then◌else◌, List, [], ◌∷◌, ◌++◌, map, Option, Some, None, is_none, refl}
+use Rattle.std.specs.Coded.{Coded, code_by, coded×, coded_option, coded_list}
+use Rattle.bgp_attr.specs.declared.speaker.Speaker.{Speaker}
+use Rattle.bgp_attr.specs.declared.speaker.Neighbour.{Neighbour}
+use Rattle.journal_text.specs.declared.link.Link.{Link}
+use Rattle.journal_text.specs.Links.{owner_of}
+use Rattle.journal_text.specs.declared.link.Task.{Task}
+use Rattle.journal_text.specs.declared.link.Task.TheVariants.{Del}
+use Rattle.journal_text.specs.declared.line.Code.{Code}
+use Rattle.journal_text.specs.declared.line.Code.TheVariants.{E3, E4, E5, E6}
+use Rattle.event_text.specs.declared.event.Event.{Event}
+use Rattle.event_text.specs.declared.event.Event.TheVariants.{Nothing, Local, Peer, Up, Down, Bgp, Idle, Work, Ask, Show}
+use Rattle.event_text.specs.declared.declared.DeclaredPeer.{DeclaredPeer}
+
+pub record Declaration : Type 0 where
+  pub speaker : Option Speaker
+  pub peers : List DeclaredPeer
+
+abbrev pub declaration_code : Coded Speaker → Coded DeclaredPeer → Coded Declaration
+declaration_code s p =
+    code_by (Option Speaker × List DeclaredPeer) (coded× (coded_option s) (coded_list p))
+    (λ d. (d.speaker, d.peers)) (λ q. record { speaker = q.0; peers = q.1 }) (λ _. refl)
+
+abbrev pub no_declaration : Declaration
+no_declaration = record { speaker = None; peers = [] }
+
+-- the peer of this number
+abbrev pub peer_at : ℕ → List DeclaredPeer → Option DeclaredPeer
+peer_at k [] = None
+peer_at k (p ∷ ps) = if p.words.number == k then Some p else peer_at k ps
+
+-- the address is one of a peer
+abbrev pub has_addr : ℕ → List DeclaredPeer → Bool
+has_addr addr [] = false
+has_addr addr (p ∷ ps) = p.words.addr == addr || has_addr addr ps
+
+-- Of what may not be declared twice: the peer's number, its address among the peers', its address as the local one.
+abbrev pub is_taken : Speaker → List DeclaredPeer → ℕ → Speaker → Bool
+is_taken local peers k words = not (is_none (peer_at k peers)) || (has_addr words.addr peers || local.addr == words.addr)
+
+-- a peer that is declared may have a new session, unless it is up: then nothing happens
+abbrev pub session_refusal : Option DeclaredPeer → Option Code
+session_refusal None = Some E5
+session_refusal (Some p) = if not p.up && p.session == 65535 then Some E6 else None
+
+abbrev pub undeclared : Option DeclaredPeer → Option Code
+undeclared None = Some E5
+undeclared (Some p) = None
+
+-- where `local` was declared
+abbrev pub refusal_by : Speaker → List DeclaredPeer → Event → Option Code
+refusal_by local peers Nothing = None
+refusal_by local peers (Local words) = Some E3
+refusal_by local peers (Peer k words) = if is_taken local peers k words then Some E3 else if nat_le k 64 then None else Some E6
+refusal_by local peers (Up k) = session_refusal (peer_at k peers)
+refusal_by local peers (Down k) = undeclared (peer_at k peers)
+refusal_by local peers (Bgp k octets) = undeclared (peer_at k peers)
+refusal_by local peers Idle = None
+refusal_by local peers (Work (Del k s) n) = undeclared (peer_at k peers)
+refusal_by local peers (Ask link p) = undeclared (peer_at (owner_of link) peers)
+refusal_by local peers (Show link) = undeclared (peer_at (owner_of link) peers)
+
+-- before `local`
+abbrev pub refusal_first : Event → Option Code
+refusal_first Nothing = None
+refusal_first (Local words) = None
+refusal_first (Peer k words) = Some E4
+refusal_first (Up k) = Some E4
+refusal_first (Down k) = Some E4
+refusal_first (Bgp k octets) = Some E4
+refusal_first Idle = Some E4
+refusal_first (Work task n) = Some E4
+refusal_first (Ask link p) = Some E4
+refusal_first (Show link) = Some E4
+
+-- why an event may not stand here; none where it may
+abbrev pub refusal_at : Option Speaker → List DeclaredPeer → Event → Option Code
+refusal_at None peers event = refusal_first event
+refusal_at (Some local) peers event = refusal_by local peers event
+
+unfoldable pub refusal : Declaration → Event → Option Code
+refusal d event = refusal_at d.speaker d.peers event
+
+-- the words of a peer, which is internal where its AS is the local one
+abbrev pub is_internal : Option Speaker → ℕ → Bool
+is_internal None asn = false
+is_internal (Some local) asn = local.asn == asn
+
+abbrev pub words_of : Option Speaker → ℕ → Speaker → Neighbour
+words_of local k s = record { number = k; asn = s.asn; id = s.id; addr = s.addr; internal = is_internal local s.asn }
+
+-- after `local`
+abbrev pub with_speaker : Declaration → Speaker → Declaration
+with_speaker d s = record { speaker = Some s; peers = d.peers }
+
+-- after `peer`
+abbrev pub with_peer : Declaration → ℕ → Speaker → Declaration
+with_peer d k s = record { speaker = d.speaker; peers = d.peers ++ record { words = words_of d.speaker k s; session = 0; up = false } ∷ [] }
+
+-- a peer's next session begins
+abbrev pub begun_at : ℕ → DeclaredPeer → DeclaredPeer
+begun_at k p = if p.words.number == k then record { words = p.words; session = p.session + 1; up = true } else p
+
+-- its session ends
+abbrev pub ended_at : ℕ → DeclaredPeer → DeclaredPeer
+ended_at k p = if p.words.number == k then record { words = p.words; session = p.session; up = false } else p
+
+abbrev pub with_session : Declaration → ℕ → Declaration
+with_session d k = record { speaker = d.speaker; peers = map (begun_at k) d.peers }
+
+abbrev pub without_session : Declaration → ℕ → Declaration
+without_session d k = record { speaker = d.speaker; peers = map (ended_at k) d.peers }
