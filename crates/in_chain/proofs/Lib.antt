@@ -1,0 +1,5 @@
+mod LinkLemmas
+mod WalkLemmas
+mod RowLemmas
+mod FallLemmas
+mod PartLemmas
