@@ -3,3 +3,4 @@ mod WalkLemmas
 mod RowLemmas
 mod FallLemmas
 mod PartLemmas
+mod WorkLemmas

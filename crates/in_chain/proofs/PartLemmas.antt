@@ -4,15 +4,18 @@ use Rattle.std.specs.FinMap as map
 use Rattle.std.specs.FinMap.{FinMap}
 use Rattle.addr4.specs.Prefixes.{Network, prefix_cmp}
 use Rattle.bgp_attr.specs.declared.attrs.Attrs.{Attrs}
-use Rattle.link_change.specs.Rows.{Rows}
+use Rattle.link_change.specs.Rows.{Rows, no_rows}
+use Rattle.link_change.proofs.RowLemmas.{empty_rows}
 use Rattle.link_change.specs.Changes.{IsSent}
 use Rattle.link_change.specs.declared.change.Change.{Change}
 use Rattle.deletion_stage.specs.Lost.{Lost}
 use Rattle.deletion_stage.specs.Covering.{covered, AreApart}
+use Rattle.deletion_stage.proofs.CoverLemmas.{covered_nothing, nothing_covers}
 use Rattle.journal_text.specs.declared.link.Link.{Link}
 use Rattle.journal_text.specs.declared.link.Link.TheVariants.{In, Peer}
 use Rattle.journal_text.specs.declared.value.Value.{Value}
 use Rattle.journal_text.specs.declared.entry.Entry.{Entry}
+use Rattle.journal_text.specs.declared.entry.Entry.TheVariants.{Begin, Weld}
 use Rattle.journal_text.specs.Links.{same_link, rank_of}
 use Rattle.journal_text.specs.Journals.{Journaled, with_entries, Adds}
 use Rattle.journal_text.specs.Walk.{Links, with_link, Leads}
@@ -71,6 +74,17 @@ pub top_falls : (k : ℕ) (out : Link) (live live' : Table) (p : Network) (sent 
 top_falls k out live live' p sent before now is now_is =
     (sent_entries out sent, now_is, record { leads = λ others clear. leads_sent others out (map.get live) (map.get live') p sent is; down = goes_out out (map.get live) (map.get live') p sent is })
 
+-- what a stage sends of its own
+pub own_falls : (out : Link) (d d' : Lost Attrs) (c : Chained) (change : Change Attrs) → d'.number ≡ d.number → IsSent (in_rows (lowered d c)) (in_rows (lowered d' c)) change.prefix (Some change)
+    → FallsOver out (lowered d c) (lowered d' c) change.prefix (out ∷ []) (Some change) (sent_entries out (Some change))
+own_falls out d d' c change same is = record {
+  leads = λ others clear.
+      let own = leads_sent (links_over others c.number (Peer c.number d.number) c.live c.deletions) out (in_rows (lowered d c)) (in_rows (lowered d' c)) change.prefix (Some change) is in
+      let P : ℕ → Type 0 = λ n. Leads (links_over others c.number out c.live (d ∷ c.deletions)) (sent_entries out (Some change)) (Below others out (in_rows (lowered d' c)) c.number (Peer c.number n) c.live c.deletions) in
+      subst P (sym same) own;
+  down = goes_out out (in_rows (lowered d c)) (in_rows (lowered d' c)) change.prefix (Some change) is;
+}
+
 -- the entries of the stages above, and then what this stage sends
 pub passes_down : (out : Link) (d d' : Lost Attrs) (c c' : Chained) (before mid now : Journaled) (p : Network) (way : List Link) (change : Change Attrs) (sent : Option (Change Attrs))
     → IsSound out (lowered d c) → IsSound (Peer c.number d.number) c' → d'.number ≡ d.number → c'.number ≡ c.number
@@ -118,3 +132,76 @@ sound_after out d d' c c' sound sound' same apart =
     let low = sound.rising.0 in
     let P : ℕ → Type 0 = λ n. IsRisingFrom (n + 1) c'.deletions in
     record { rising = (omega (arith, low, same), subst P (sym same) sound'.rising); apart = (apart, sound'.apart) }
+
+-- ---- splices
+
+-- the links above the one out of a part
+abbrev LinksAbove : Links Value → ℕ → Table → List (Lost Attrs) → Links Value
+LinksAbove others k live [] = others
+LinksAbove others k live (d ∷ ds) = links_over others k (Peer k d.number) live ds
+
+links_split : (others : Links Value) (k : ℕ) (out : Link) (live : Table) (ds : List (Lost Attrs)) → links_over others k out live ds ≡ with_link (LinksAbove others k live ds) out (Some (attrs_rows (rows_below live ds)))
+links_split others k out live [] = refl
+links_split others k out live (d ∷ ds) = refl
+
+-- a link below those of a part is none of them
+lower_link : (others : Links Value) (k : ℕ) (link out : Link) (live : Table) (ds : List (Lost Attrs)) → rank_of link < rank_of out → IsRisingFrom (rank_of out) ds → links_over others k out live ds link ≡ others link
+lower_link others k link out live [] h rising = with_link_apart others out link (Some (attrs_rows (map.get live))) (λ e. below_apart link out h (sym e))
+lower_link others k link out live (d ∷ ds) h rising =
+    let step = rising.0 in
+    with_link_apart (links_over others k (Peer k d.number) live ds) out link (Some (attrs_rows (rows_below live (d ∷ ds)))) (λ e. below_apart link out h (sym e))
+    ∙ lower_link others k link (Peer k d.number) live ds (omega (arith, step, h)) rising.1
+
+above_clear : (others : Links Value) (k : ℕ) (out : Link) (live : Table) (ds : List (Lost Attrs)) → IsRisingFrom (rank_of out) ds → others out ≡ None → LinksAbove others k live ds out ≡ None
+above_clear others k out live [] rising none = none
+above_clear others k out live (d ∷ ds) rising none = let step = rising.0 in lower_link others k out (Peer k d.number) live ds (omega (arith, step)) rising.1 ∙ none
+
+pub rising_lower : (low high : ℕ) (ds : List (Lost Attrs)) → low ≤ high → IsRisingFrom high ds → IsRisingFrom low ds
+rising_lower low high [] h rising = tt
+rising_lower low high (d ∷ ds) h rising = let step = rising.0 in (omega (arith, h, step), rising.1)
+
+-- the link of a lost session begins, between the top and its deletion stage
+pub begins : (k : ℕ) (out : Link) (session : ℕ) (live : Table) → rank_of out ≤ session
+    → LeadsOver out (record { number = k; live = live; deletions = [] }) (Begin (Peer k session) ∷ []) (record { number = k; live = map.empty; deletions = record { number = session; rows = live } ∷ [] })
+begins k out session live h others clear =
+    let apart : (out ≡ Peer k session) → ⊥ = below_apart out (Peer k session) (omega (arith, h)) in
+    let none : attrs_rows (map.get {R = prefix_cmp} (map.empty {X = Attrs})) ≡ no_rows = ap attrs_rows empty_rows in
+    let bare : covered (map.get live) (map.get {R = prefix_cmp} (map.empty {X = Attrs})) ≡ map.get live = ap (covered (map.get live)) empty_rows ∙ covered_nothing (map.get live) in
+    record {
+      lawful = (with_link_apart others out (Peer k session) (Some (attrs_rows (map.get live))) apart ∙ clear session (omega (arith, h)), tt);
+      ends = with_link_swap others out (Peer k session) (Some (attrs_rows (map.get live))) (Some no_rows) (same_link-no out (Peer k session) apart)
+          ∙ ap (λ (r : Rows Value). with_link (with_link others (Peer k session) (Some r)) out (Some (attrs_rows (map.get live)))) (sym none)
+          ∙ ap (λ (r : Rows Attrs). with_link (with_link others (Peer k session) (Some (attrs_rows (map.get {R = prefix_cmp} (map.empty {X = Attrs}))))) out (Some (attrs_rows r))) (sym bare);
+    }
+
+-- the link between an empty deletion stage and the stage above it is welded into the one below
+pub welds : (out : Link) (d : Lost Attrs) (c : Chained) → IsSound out (lowered d c) → d.rows ≡ map.empty → LeadsOver out (lowered d c) (Weld (Peer c.number d.number) out ∷ []) c
+welds out d c sound none others clear =
+    let k = c.number in
+    let link = Peer k d.number in
+    let low = sound.rising.0 in
+    let apart : (out ≡ link) → ⊥ = below_apart out link (omega (arith, low)) in
+    let rows = in_rows c in
+    let above = links_over others k link c.live c.deletions in
+    let bare = above_clear others k link c.live c.deletions sound.rising.1 (clear d.number (omega (arith, low))) in
+    let below = nothing_covers d.rows rows none in
+    let own : above link ≡ Some (attrs_rows rows) = ap (λ (l : Links Value). l link) (links_split others k link c.live c.deletions) ∙ with_link_here (LinksAbove others k c.live c.deletions) link (Some (attrs_rows rows)) in
+    let x : Option (Rows Value) = Some (attrs_rows (covered (map.get d.rows) rows)) in
+    record {
+      lawful = (
+        (
+          λ e. apart (sym e),
+          (
+            attrs_rows rows,
+            with_link_apart above out link x apart ∙ own,
+            with_link_here above out x ∙ ap (λ (r : Rows Attrs). Some (attrs_rows r)) below,
+          ),
+        ),
+        tt,
+      );
+      ends = with_link_swap above out link x None (same_link-no out link apart)
+          ∙ ap (λ (l : Links Value). with_link (with_link l link None) out x) (links_split others k link c.live c.deletions)
+          ∙ ap (λ (l : Links Value). with_link l out x) (with_link_twice (LinksAbove others k c.live c.deletions) link (Some (attrs_rows rows)) None ∙ with_link_same (LinksAbove others k c.live c.deletions) link None bare)
+          ∙ ap (λ (r : Rows Attrs). with_link (LinksAbove others k c.live c.deletions) out (Some (attrs_rows r))) below
+          ∙ sym (links_split others k out c.live c.deletions);
+    }

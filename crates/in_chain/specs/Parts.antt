@@ -1,9 +1,10 @@
 -- What holds of a part of a chain: a stage with all that is above it, and the link `out` below it.
-use Rattle.std.specs.Prelude.{◌≡◌, ℕ, ◌+◌, ◌<◌, ◌≤◌, List, [], ◌∷◌, Option, Some, None, IfSome}
+use Rattle.std.specs.Prelude.{cond, ◌≡◌, ℕ, ◌+◌, ◌<◌, ◌≤◌, List, [], ◌∷◌, Option, Some, None, IfSome}
 use Rattle.std.specs.FinMap as map
 use Rattle.std.specs.FinMap.{FinMap}
 use Rattle.addr4.specs.Prefixes.{Network, prefix_cmp}
 use Rattle.bgp_attr.specs.declared.attrs.Attrs.{Attrs}
+use Rattle.link_change.specs.Rows.{is_empty_map}
 use Rattle.link_change.specs.Changes.{IsSent}
 use Rattle.link_change.specs.declared.change.Change.{Change}
 use Rattle.link_change.specs.declared.turn.Turn.{Turn}
@@ -77,3 +78,11 @@ abbrev pub IsTakenOver : Link → Chained → Chained → ℕ → Journaled → 
 IsTakenOver out old new session before now Nothing = (table_of session old.deletions ≡ None) × ((new ≡ old) × (now ≡ before))
 IsTakenOver out old new session before now Quiet = Adds (SweepsOver out old new session None) before now
 IsTakenOver out old new session before now (Sent change) = Adds (SweepsOver out old new session (Some change)) before now
+
+-- the lowest empty table is gone
+abbrev pub filled : List (Lost Attrs) → List (Lost Attrs)
+filled [] = []
+filled (d ∷ ds) = cond (is_empty_map d.rows) ds (d ∷ filled ds)
+
+abbrev pub filled_once : Chained → Chained
+filled_once c = record { number = c.number; live = c.live; deletions = filled c.deletions }
