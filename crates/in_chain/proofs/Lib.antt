@@ -4,3 +4,4 @@ mod RowLemmas
 mod FallLemmas
 mod PartLemmas
 mod WorkLemmas
+mod WholeLemmas

@@ -144,6 +144,9 @@ links_split : (others : Links Value) (k : ℕ) (out : Link) (live : Table) (ds :
 links_split others k out live [] = refl
 links_split others k out live (d ∷ ds) = refl
 
+pub own_link : (others : Links Value) (k : ℕ) (out : Link) (live : Table) (ds : List (Lost Attrs)) → links_over others k out live ds out ≡ Some (attrs_rows (rows_below live ds))
+own_link others k out live ds = ap (λ (l : Links Value). l out) (links_split others k out live ds) ∙ with_link_here (LinksAbove others k live ds) out (Some (attrs_rows (rows_below live ds)))
+
 -- a link below those of a part is none of them
 lower_link : (others : Links Value) (k : ℕ) (link out : Link) (live : Table) (ds : List (Lost Attrs)) → rank_of link < rank_of out → IsRisingFrom (rank_of out) ds → links_over others k out live ds link ≡ others link
 lower_link others k link out live [] h rising = with_link_apart others out link (Some (attrs_rows (map.get live))) (λ e. below_apart link out h (sym e))
@@ -185,7 +188,7 @@ welds out d c sound none others clear =
     let above = links_over others k link c.live c.deletions in
     let bare = above_clear others k link c.live c.deletions sound.rising.1 (clear d.number (omega (arith, low))) in
     let below = nothing_covers d.rows rows none in
-    let own : above link ≡ Some (attrs_rows rows) = ap (λ (l : Links Value). l link) (links_split others k link c.live c.deletions) ∙ with_link_here (LinksAbove others k c.live c.deletions) link (Some (attrs_rows rows)) in
+    let own : above link ≡ Some (attrs_rows rows) = own_link others k link c.live c.deletions in
     let x : Option (Rows Value) = Some (attrs_rows (covered (map.get d.rows) rows)) in
     record {
       lawful = (

@@ -2,6 +2,7 @@
 #![tactic(auto)]
 
 mod chain;
+mod lookup;
 mod splice;
 mod stage;
 
