@@ -5,3 +5,4 @@ mod FallLemmas
 mod PartLemmas
 mod WorkLemmas
 mod WholeLemmas
+mod CountLemmas
