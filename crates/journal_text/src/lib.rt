@@ -12,6 +12,8 @@ mod entry;
 mod journal;
 mod line;
 mod link;
+mod names;
+mod texts;
 mod value;
 
 pub use entry::Entry;
