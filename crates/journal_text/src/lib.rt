@@ -11,6 +11,7 @@
 mod entry;
 mod journal;
 mod line;
+mod lines;
 mod link;
 mod names;
 mod texts;
