@@ -1,6 +1,6 @@
 //! The output, line by line.
 
-ghost use Rattle.std.specs.Prelude.{◌≡◌, ◌++◌, ◌∷◌, [], OnOk, IfOk};
+ghost use Rattle.std.specs.Prelude.{◌≡◌, ◌++◌, ◌∷◌, [], OnOk, OnErr, IfOk};
 ghost use Rattle.journal_text.specs.declared.line.Line.{Line};
 ghost use Rattle.journal_text.specs.declared.line.Line.TheVariants as lines;
 ghost use Rattle.journal_text.specs.declared.value.Value.TheVariants as values;
@@ -84,9 +84,11 @@ impl Journal {
         }
     }
 
-    /// Makes the text of the lines that have none yet. For want of memory some front of that text may have been made.
+    /// Makes the text of the lines that have none yet. For want of memory some front of that
+    /// text may have been made, and all of these lines stay.
     pub fn flush(&mut self) -> Result<(), Memory>
-        ensures { OnOk result (self.new ≡ flushed self.old) }
+        ensures ok { OnOk result (self.new ≡ flushed self.old) }
+        ensures memory { OnErr result ((self.new.pending ≡ self.old.pending) × (self.new.quiet ≡ self.old.quiet)) }
     {
         push_lines(self.alloc, &mut self.text, self.quiet, &self.pending)?;
         self.pending.clear();

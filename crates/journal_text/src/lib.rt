@@ -10,6 +10,7 @@
 
 mod entry;
 mod journal;
+mod laws;
 mod line;
 mod lines;
 mod link;
@@ -19,6 +20,7 @@ mod value;
 
 pub use entry::Entry;
 pub use journal::Journal;
+pub use laws::{changes_lead, journals_join, links_are_set_in_either_order, same_links};
 pub use line::{Code, Line};
 pub use link::{Link, Task};
 pub use value::Value;

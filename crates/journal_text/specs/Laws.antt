@@ -1,0 +1,33 @@
+-- Laws of links and walks, for the crates above.
+use Rattle.std.specs.Prelude.{◌≡◌, true, false, Option, Some}
+use Rattle.addr4.specs.Prefixes.{Network}
+use Rattle.bgp_attr.specs.declared.attrs.Attrs.{Attrs}
+use Rattle.link_change.specs.Rows.{Rows}
+use Rattle.link_change.specs.Changes.{IsSent}
+use Rattle.link_change.specs.declared.change.Change.{Change}
+use Rattle.journal_text.specs.Links.{same_link}
+use Rattle.journal_text.specs.Walk.{Links, with_link, Leads}
+use Rattle.journal_text.specs.Journals.{attrs_rows, attrs_change}
+use Rattle.journal_text.specs.declared.link.Link.{Link}
+use Rattle.journal_text.specs.declared.value.Value.{Value}
+
+-- A link is itself.
+abbrev pub EachLinkIsItself : Type 0
+EachLinkIsItself = (a : Link) → same_link a a ≡ true
+
+-- Links that are the same by kind, owner and number are equal.
+abbrev pub SameLinksAreEqual : Type 0
+SameLinksAreEqual = (a b : Link) → same_link a b ≡ true → a ≡ b
+
+-- Two links may be set in either order.
+abbrev pub LinksAreSetInEitherOrder : Type 0 → Type 0
+LinksAreSetInEitherOrder V =
+    (links : Links V) (a b : Link) (x y : Option (Rows V)) → same_link a b ≡ false
+    → with_link (with_link links a x) b y ≡ with_link (with_link links b y) a x
+
+-- The entry of a change that is lawful on a live link's attributes leads on, and that link's rows alone become the new ones.
+abbrev pub ChangesLead : Type 0
+ChangesLead =
+    (links : Links Value) (link : Link) (old new : Rows Attrs) (p : Network) (change : Change Attrs)
+    → links link ≡ Some (attrs_rows old) → IsSent old new p (Some change)
+    → Leads links (attrs_change link change) (with_link links link (Some (attrs_rows new)))

@@ -1,0 +1,26 @@
+//! Laws of links and walks, for the proofs of the crates above. Each is a function that does nothing, whose contract is
+//! the law.
+
+ghost use Rattle.journal_text.specs.Walk.{LeadsOn};
+ghost use Rattle.journal_text.specs.Laws.{ChangesLead, EachLinkIsItself, LinksAreSetInEitherOrder, SameLinksAreEqual};
+
+/// Each link is itself, and links that are the same are equal.
+pub fn same_links()
+    ensures itself { EachLinkIsItself }
+    ensures equal { SameLinksAreEqual }
+{}
+
+/// Of two links either may be set first.
+pub fn links_are_set_in_either_order<V>()
+    ensures { LinksAreSetInEitherOrder V }
+{}
+
+/// Walks that lead one from the other may be put together.
+pub fn journals_join<V>()
+    ensures { LeadsOn V }
+{}
+
+/// The entry of a lawful change of attributes leads on (NSDI 2005, section 5.1).
+pub fn changes_lead()
+    ensures { ChangesLead }
+{}
