@@ -1,3 +1,4 @@
 pub mod Joins
 pub mod LinkLemmas
 pub mod WalkLemmas
+pub mod NameLemmas

@@ -3,3 +3,4 @@ pub mod Walk
 pub mod Texts
 pub mod Journals
 pub mod Laws
+pub mod Names

@@ -15,6 +15,7 @@ mod line;
 mod lines;
 mod link;
 mod names;
+mod reading;
 mod texts;
 mod value;
 
