@@ -2,3 +2,4 @@ pub mod Joins
 pub mod LinkLemmas
 pub mod WalkLemmas
 pub mod NameLemmas
+pub mod ReadBack

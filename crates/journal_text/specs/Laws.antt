@@ -6,6 +6,8 @@ use Rattle.link_change.specs.Rows.{Rows}
 use Rattle.link_change.specs.Changes.{IsSent}
 use Rattle.link_change.specs.declared.change.Change.{Change}
 use Rattle.journal_text.specs.Links.{same_link}
+use Rattle.journal_text.specs.Names.{IsNamed, link_of}
+use Rattle.journal_text.specs.Texts.{link_text}
 use Rattle.journal_text.specs.Walk.{Links, with_link, Leads}
 use Rattle.journal_text.specs.Journals.{attrs_rows, attrs_change}
 use Rattle.journal_text.specs.declared.link.Link.{Link}
@@ -31,3 +33,7 @@ ChangesLead =
     (links : Links Value) (link : Link) (old new : Rows Attrs) (p : Network) (change : Change Attrs)
     → links link ≡ Some (attrs_rows old) → IsSent old new p (Some change)
     → Leads links (attrs_change link change) (with_link links link (Some (attrs_rows new)))
+
+-- The name of a link is read back, where its numbers can stand in a name.
+abbrev pub LinksReadBack : Type 0
+LinksReadBack = (link : Link) → IsNamed link → link_of (link_text link) ≡ Some link

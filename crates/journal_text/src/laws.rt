@@ -2,7 +2,7 @@
 //! the law.
 
 ghost use Rattle.journal_text.specs.Walk.{LeadsOn};
-ghost use Rattle.journal_text.specs.Laws.{ChangesLead, EachLinkIsItself, LinksAreSetInEitherOrder, SameLinksAreEqual};
+ghost use Rattle.journal_text.specs.Laws.{ChangesLead, EachLinkIsItself, LinksAreSetInEitherOrder, LinksReadBack, SameLinksAreEqual};
 
 /// Each link is itself, and links that are the same are equal.
 pub fn same_links()
@@ -23,4 +23,9 @@ pub fn journals_join<V>()
 /// The entry of a lawful change of attributes leads on (NSDI 2005, section 5.1).
 pub fn changes_lead()
     ensures { ChangesLead }
+{}
+
+/// The name of a link is read back: no two links have one name.
+pub fn link_names_are_read_back()
+    ensures { LinksReadBack }
 {}

@@ -21,7 +21,7 @@ mod value;
 
 pub use entry::Entry;
 pub use journal::Journal;
-pub use laws::{changes_lead, journals_join, links_are_set_in_either_order, same_links};
+pub use laws::{changes_lead, journals_join, link_names_are_read_back, links_are_set_in_either_order, same_links};
 pub use line::{Code, Line};
 pub use link::{Link, Task};
 pub use value::Value;
