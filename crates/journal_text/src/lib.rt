@@ -25,3 +25,6 @@ pub use laws::{changes_lead, journals_join, link_names_are_read_back, links_are_
 pub use line::{Code, Line};
 pub use link::{Link, Task};
 pub use value::Value;
+
+#[cfg(test)]
+mod tests;
