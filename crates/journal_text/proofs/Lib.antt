@@ -3,3 +3,5 @@ pub mod LinkLemmas
 pub mod WalkLemmas
 pub mod NameLemmas
 pub mod ReadBack
+pub mod JournalLemmas
+pub mod ReadNames

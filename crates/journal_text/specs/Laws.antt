@@ -1,5 +1,5 @@
 -- Laws of links and walks, for the crates above.
-use Rattle.std.specs.Prelude.{◌≡◌, true, false, Option, Some}
+use Rattle.std.specs.Prelude.{◌≡◌, ℕ, true, false, List, ◌++◌, Option, Some}
 use Rattle.addr4.specs.Prefixes.{Network}
 use Rattle.bgp_attr.specs.declared.attrs.Attrs.{Attrs}
 use Rattle.link_change.specs.Rows.{Rows}
@@ -7,10 +7,11 @@ use Rattle.link_change.specs.Changes.{IsSent}
 use Rattle.link_change.specs.declared.change.Change.{Change}
 use Rattle.journal_text.specs.Links.{same_link}
 use Rattle.journal_text.specs.Names.{IsNamed, link_of}
-use Rattle.journal_text.specs.Texts.{link_text}
+use Rattle.journal_text.specs.Texts.{link_text, entries_of}
 use Rattle.journal_text.specs.Walk.{Links, with_link, Leads}
-use Rattle.journal_text.specs.Journals.{attrs_rows, attrs_change}
+use Rattle.journal_text.specs.Journals.{Journaled, attrs_rows, attrs_change, with_entries}
 use Rattle.journal_text.specs.declared.link.Link.{Link}
+use Rattle.journal_text.specs.declared.entry.Entry.{Entry}
 use Rattle.journal_text.specs.declared.value.Value.{Value}
 
 -- A link is itself.
@@ -37,3 +38,15 @@ ChangesLead =
 -- The name of a link is read back, where its numbers can stand in a name.
 abbrev pub LinksReadBack : Type 0
 LinksReadBack = (link : Link) → IsNamed link → link_of (link_text link) ≡ Some link
+
+-- Entries that are appended one after another are appended as one.
+abbrev pub EntriesJoin : Type 0
+EntriesJoin = (j : Journaled) (a b : List (Entry Value)) → with_entries (with_entries j a) b ≡ with_entries j (a ++ b)
+
+-- The entries among a journal's lines grow by those that are appended.
+abbrev pub EntriesGrow : Type 0
+EntriesGrow = (j : Journaled) (a : List (Entry Value)) → entries_of (with_entries j a).pending ≡ entries_of j.pending ++ a
+
+-- A name that is read has numbers that can stand in a name.
+abbrev pub ReadLinksAreNamed : Type 0
+ReadLinksAreNamed = (text : List ℕ) (link : Link) → link_of text ≡ Some link → IsNamed link

@@ -2,7 +2,7 @@
 //! the law.
 
 ghost use Rattle.journal_text.specs.Walk.{LeadsOn};
-ghost use Rattle.journal_text.specs.Laws.{ChangesLead, EachLinkIsItself, LinksAreSetInEitherOrder, LinksReadBack, SameLinksAreEqual};
+ghost use Rattle.journal_text.specs.Laws.{ChangesLead, EachLinkIsItself, LinksAreSetInEitherOrder, EntriesGrow, EntriesJoin, LinksReadBack, ReadLinksAreNamed, SameLinksAreEqual};
 
 /// Each link is itself, and links that are the same are equal.
 pub fn same_links()
@@ -25,7 +25,18 @@ pub fn changes_lead()
     ensures { ChangesLead }
 {}
 
-/// The name of a link is read back: no two links have one name.
+/// The name of a link whose numbers are from 1 and below 2^32 is read back, so no two of them have one name.
 pub fn link_names_are_read_back()
     ensures { LinksReadBack }
+{}
+
+/// The numbers in a name that is read are from 1 and below 2^32.
+pub fn read_links_are_named()
+    ensures { ReadLinksAreNamed }
+{}
+
+/// A journal has the entries that were appended to it, in their order.
+pub fn entries_are_appended()
+    ensures join { EntriesJoin }
+    ensures grow { EntriesGrow }
 {}

@@ -19,12 +19,7 @@ fn push_dot_number(alloc: Global, out: &mut Vec<u8>, number: u32) -> Result<(), 
 }
 
 /// A word and a number.
-fn push_numbered(
-    alloc: Global,
-    out: &mut Vec<u8>,
-    word: &[u8],
-    number: u32,
-) -> Result<(), Memory>
+fn push_numbered(alloc: Global, out: &mut Vec<u8>, word: &[u8], number: u32) -> Result<(), Memory>
     ensures { OnOk result (out.new.items ≡ out.old.items ++ (word.now ++ dot_number number)) }
 {
     push_text(out, word)?;

@@ -11,10 +11,12 @@ use std::alloc::Global;
 use std::test::Fail;
 
 /// The journal's own lines.
-const ENTRIES: &str = "b in.1\ni read.1.1 best\n+ in.1 10.1.0.0/16 o0,p(65001),n192.0.2.1\n= in.1 10.1.0.0/16 o0,p(65001),n192.0.2.1 o1,p(65001),n192.0.2.1\n- in.1 10.1.0.0/16 o1,p(65001),n192.0.2.1\n? in.1 10.1.0.0/16 -\nw peer.1.1 in.1\ne read.1.1\n";
+const ENTRIES: &str =
+    "b in.1\ni read.1.1 best\n+ in.1 10.1.0.0/16 o0,p(65001),n192.0.2.1\n= in.1 10.1.0.0/16 o0,p(65001),n192.0.2.1 o1,p(65001),n192.0.2.1\n- in.1 10.1.0.0/16 o1,p(65001),n192.0.2.1\n? in.1 10.1.0.0/16 -\nw peer.1.1 in.1\ne read.1.1\n";
 
 /// The other lines.
-const OTHERS: &str = "note 1 ffff\nrow in.1 10.1.0.0/16 o0,p(65001),n192.0.2.1\nrows in.1 1\nwork 1\nbound 51\nidle 2\nignored\nabsent\nrefused 2 E5\n";
+const OTHERS: &str =
+    "note 1 ffff\nrow in.1 10.1.0.0/16 o0,p(65001),n192.0.2.1\nrows in.1 1\nwork 1\nbound 51\nidle 2\nignored\nabsent\nrefused 2 E5\n";
 
 fn prefix() -> Result<Prefix, Fail> {
     Ok(read_prefix(b"10.1.0.0/16").ok().ok_or("no prefix")?)
