@@ -1,3 +1,4 @@
 pub mod Lookups
 pub mod Sessions
 pub mod WordLemmas
+pub mod WellFormedLemmas
