@@ -2,3 +2,4 @@ pub mod Lookups
 pub mod Sessions
 pub mod WordLemmas
 pub mod WellFormedLemmas
+pub mod DeclarationLemmas
