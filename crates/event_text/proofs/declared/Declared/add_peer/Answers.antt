@@ -1,4 +1,4 @@
-use Rattle.std.proofs.Common.{◌≡◌, ◌++◌, ◌∷◌, [], false, ◌≤◌, None, Fits, w8, arith, subst, sym, ap, ◌∙◌}
+use Rattle.std.proofs.Common.{◌≡◌, ◌++◌, ◌∷◌, [], false, ◌≤◌, None, arith, subst, sym, ap, ◌∙◌}
 use Rattle.event_text.specs.declared.event.Event.TheVariants as events
 use Rattle.event_text.specs.Declarations.{refusal, IsCounted, words_of, IsDeclaration, IsDeclaredBy}
 use Rattle.event_text.proofs.Sessions.{addable, counted_push}
