@@ -19,6 +19,7 @@ use std::marker::Model;
 /// A peer that was declared.
 #[derive(Clone, Copy, Debug, PartialEq, Eq)]
 pub struct DeclaredPeer {
+    /// The words of `peer`.
     pub words: Neighbour,
     /// The number of its last session; 0 where there was none.
     pub session: u32,
@@ -59,6 +60,7 @@ impl Declared {
         }
     }
 
+    /// The words of `local`, if it was declared.
     pub fn speaker(&self) -> Option<Speaker>
         ensures { result ≡ self.now.speaker }
     {
