@@ -27,7 +27,7 @@ no_fault external octets m one reads =
 of_type : (external : Bool) (octets : List ℕ) (kind : ℕ) (body : List ℕ) (m : Message) → EachAnswers → Reads plain external octets m → IsFrame octets kind body → (kind == 3) ≡ ends_session octets
 of_type external octets kind body m one reads is =
     sym (ap (λ b. b || get_or octets 18 0 == 3) (no_fault external octets m (one plain external octets) reads)
-         ∙ ap (λ k. k == 3) (type_at octets kind body is))
+    ∙ ap (λ k. k == 3) (type_at octets kind body is))
 
 pub ends : EachAnswers → SessionsEnd
 ends one p octets (messages.Update u) says = of_type (not p.words.internal) octets 2 _ (messages.Update u) one says says.1.frame

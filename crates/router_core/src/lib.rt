@@ -3,6 +3,7 @@
 
 mod laws;
 mod router;
+mod updates;
 
 pub use laws::{declarations_follow, sessions_end};
 pub use router::{Core, Done, Idle, Phase};
