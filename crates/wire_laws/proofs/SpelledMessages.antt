@@ -18,9 +18,9 @@ use Rattle.bgp_wire.specs.Grammar.{IsFrame, IsReading, Reads}
 use Rattle.bgp_wire.specs.Spelling.{path_octets, spelled, is_long, spelled_octets, comes_first, unrecognized_attributes, mandatory_attributes, further_attributes, sent_attributes, octets_of, prefixes_octets, fields_octets, framed, update_octets}
 use Rattle.bgp_wire.specs.Readable.{IsNetwork, IsReadable, withdrawal, announcement}
 use Rattle.bgp_wire.proofs.SpellingLemmas.{alone}
-use Rattle.bgp_wire.proofs.SpelledNumbers.{spelled_prefixes}
-use Rattle.bgp_wire.proofs.SpelledAttributes.{FitLengths, all_kept, sound_sent, sound_are, all_are_kept}
-use Rattle.bgp_wire.proofs.SpelledRoutes.{attrs_are, has_mandatory}
+use Rattle.wire_laws.proofs.SpelledNumbers.{spelled_prefixes}
+use Rattle.wire_laws.proofs.SpelledAttributes.{FitLengths, all_kept, sound_sent, sound_are, all_are_kept}
+use Rattle.wire_laws.proofs.SpelledRoutes.{attrs_are, has_mandatory}
 
 two_back : (n : ℕ) → n < 65536 → n / 256 % 256 * 256 + n % 256 ≡ n
 two_back n lt = omega arith

@@ -26,7 +26,8 @@ use Rattle.bgp_wire.specs.Readable.{IsReadableSegment, IsHost, IsReadable}
 use Rattle.bgp_wire.proofs.TestLemmas.{unequal, or_false_left, or_false_right}
 use Rattle.bgp_wire.proofs.PathLaws.{path_again}
 use Rattle.bgp_wire.proofs.RouteLaws.{IsKept, IsGood}
-use Rattle.bgp_wire.proofs.SpelledNumbers.{all_first, all_later, spelled_path}
+use Rattle.wire_laws.proofs.SpelledNumbers.{all_first, all_later, spelled_path}
+use Rattle.bgp_wire.proofs.TypeLaws.{GoodType, unrecognized_kind, no_rule}
 
 -- ---- one attribute
 
@@ -171,32 +172,6 @@ sound_aggregator p external g =
     let size = aggregator_size p.as4 (length (aggregator_value p.as4 g)) whole in
     sound_aggregator_value p external g.partial (aggregator_value p.as4 g) size.0 size.1
 
--- an unrecognized type is 0, or above 7
-pub unrecognized_kind : (kind : ℕ) → is_unrecognized kind ≡ true → (kind ≡ 0) ⊎ (8 ≤ kind)
-unrecognized_kind kind is = by_zero (eqb kind 0) refl is
-  where
-    by_zero : (b : Bool) → eqb kind 0 ≡ b → (b || ltb 7 kind) ≡ true → (kind ≡ 0) ⊎ (8 ≤ kind)
-    by_zero true e is = inl (eqb-true _ _ e)
-    by_zero false e is = inr (omega (arith, ltb-true _ _ is))
-
-not_recognized : (kind k : ℕ) → is_unrecognized kind ≡ true → 0 < k → k ≤ 7 → eqb kind k ≡ false
-not_recognized kind k is some most = elim (unrecognized_kind kind is) [
-  | inl zero_kind ↦ unequal kind k (λ e. absurd (omega arith))
-  | inr above ↦ unequal kind k (λ e. absurd (omega arith))
-]
-
-pub no_rule : (as4 : Bool) (kind : ℕ) → is_unrecognized kind ≡ true → rule_of as4 kind ≡ None
-unfolding rule_of
-no_rule as4 kind is = rw (
-  not_recognized kind 1 is (omega arith) (omega arith),
-  not_recognized kind 2 is (omega arith) (omega arith),
-  not_recognized kind 3 is (omega arith) (omega arith),
-  not_recognized kind 4 is (omega arith) (omega arith),
-  not_recognized kind 5 is (omega arith) (omega arith),
-  not_recognized kind 6 is (omega arith) (omega arith),
-  not_recognized kind 7 is (omega arith) (omega arith),
-) refl
-
 sound_unrecognized : (p : Profile) (external : Bool) (u : Unrecognized) → is_unrecognized u.kind ≡ true → is_old_form p u.kind ≡ false → Fits16 u.value → IsSound p external (spelled 224 u.kind u.value)
 sound_unrecognized p external u unknown recent fits = record {
   is = spelled_is 224 u.kind u.value refl refl fits;
@@ -236,9 +211,6 @@ none_first n [] order = refl
 none_first n (u ∷ us) order =
     ap (λ b. map (λ (u : Unrecognized). spelled 224 u.kind u.value) (cond (beq b true) (u ∷ filter (λ u. beq (comes_first u) true) us) (filter (λ u. beq (comes_first u) true) us))) (unequal u.kind 0 (λ e. absurd (omega (arith, order.0))))
     ∙ none_first u.kind us order.1
-
-abbrev pub GoodType : Profile → Unrecognized → Type 0
-GoodType p u = (is_unrecognized u.kind ≡ true) × (is_old_form p u.kind ≡ false)
 
 abbrev pub AllFit16 : List Unrecognized → Type 0
 AllFit16 us = All (λ (u : Unrecognized). length u.value < 65536) us

@@ -21,9 +21,9 @@ use Rattle.bgp_wire.specs.Routes.{kept_of, number_of, code_of_origin, aggregator
 use Rattle.bgp_wire.specs.Spelling.{segment_octets, path_octets, is_long, spelled, optional, aggregator_value, aggregator_flags, comes_first, unrecognized_attributes, mandatory_attributes, further_attributes, sent_attributes, octets_of}
 use Rattle.bgp_wire.specs.Readable.{IsReadable}
 use Rattle.bgp_wire.proofs.TestLemmas.{unequal}
-use Rattle.bgp_wire.proofs.SpelledNumbers.{length-numbers}
-use Rattle.bgp_wire.proofs.SpelledAttributes.{AreSound, FitLengths, sound_sent}
-use Rattle.bgp_wire.proofs.SpelledMessages.{length-spelled}
+use Rattle.wire_laws.proofs.SpelledNumbers.{length-numbers}
+use Rattle.wire_laws.proofs.SpelledAttributes.{AreSound, FitLengths, sound_sent}
+use Rattle.wire_laws.proofs.SpelledMessages.{length-spelled}
 use Rattle.bgp_wire.proofs.ReadableLaws.{Every, every_all, every_append, Octets, held, good, right_size, found_from, some_in, each_type, unrecognized_held}
 
 -- the fewest octets that an attribute has

@@ -1,4 +1,10 @@
-//! What holds of all that is written.
+//! Laws of BGP messages: what is written is read as it was.
+//!
+//! What octets are, and the one spelling of a message, is said in the `specs/` of `bgp_wire`. An UPDATE of one prefix that a
+//! peer can read (`IsReadable`), and that fits into a message, is read from its spelling as it was
+//! ([`what_was_read_is_written_and_read_again`], [`announcements_are_read`], [`withdrawals_are_read`]). A path stays such as can
+//! be read where an AS is put in front.
+#![tactic(auto)]
 
 ghost use Rattle.std.specs.Prelude.{◌<◌, ◌≤◌, ◌^◌, All, Bool, List, ℕ, length};
 ghost use Rattle.addr4.specs.Prefixes.{Network};

@@ -17,8 +17,8 @@ use Rattle.bgp_wire.specs.Updates.{has_kind}
 use Rattle.bgp_wire.specs.Spelling.{path_octets, is_long, spelled, optional, aggregator_value, aggregator_flags, comes_first, unrecognized_attributes, mandatory_attributes, further_attributes, sent_attributes}
 use Rattle.bgp_wire.specs.Readable.{IsReadable}
 use Rattle.bgp_wire.proofs.TestLemmas.{unequal}
-use Rattle.bgp_wire.proofs.SpelledNumbers.{all_first, all_later, spelled_path}
-use Rattle.bgp_wire.proofs.SpelledAttributes.{GoodType}
+use Rattle.wire_laws.proofs.SpelledNumbers.{all_first, all_later, spelled_path}
+use Rattle.bgp_wire.proofs.TypeLaws.{GoodType}
 
 -- the first that is there
 abbrev pub first_some : {A : Type 0} → Option A → Option A → Option A
