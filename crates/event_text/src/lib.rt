@@ -6,6 +6,12 @@
 
 mod declared;
 mod event;
+mod grammar;
+mod words;
 
 pub use declared::{Declared, DeclaredPeer, admit};
 pub use event::Event;
+pub use grammar::parse;
+
+#[cfg(test)]
+mod tests;

@@ -1,0 +1,6 @@
+pub mod Moments
+pub mod Lives
+pub mod Stands
+pub mod Turns
+pub mod Blocks
+pub mod Laws

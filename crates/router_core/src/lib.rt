@@ -1,0 +1,9 @@
+//! The router: events and turns of background work, and the lines that they give.
+#![tactic(auto)]
+
+mod laws;
+mod router;
+mod updates;
+
+pub use laws::{declarations_follow, sessions_end};
+pub use router::{Core, Done, Idle, Phase};
