@@ -1,0 +1,3 @@
+pub mod MapLemmas
+pub mod EntryLemmas
+pub mod KeyLemmas

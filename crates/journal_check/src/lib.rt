@@ -1,0 +1,6 @@
+//! The judge of a printed journal.
+#![tactic(auto)]
+
+mod links;
+mod rows;
+mod text;
