@@ -3,4 +3,5 @@
 
 mod links;
 mod rows;
+mod steps;
 mod text;

@@ -1,13 +1,16 @@
 //! The live links with their rows.
 
-ghost use Rattle.std.specs.Prelude.{◌≡◌, OnOk};
+ghost use Rattle.std.specs.Prelude.{◌≡◌, ◌↔◌, IsTrue, IsSome, Some, None, OnOk};
 ghost use Rattle.std.specs.Option.{option_copied};
 ghost use Rattle.std.specs.FinMap as map;
-ghost use Rattle.journal_check.specs.Maps.{key_of};
+ghost use Rattle.journal_check.specs.Maps.{key_of, links_of};
+ghost use Rattle.link_change.specs.Rows.{no_rows};
+ghost use Rattle.journal_text.specs.Walk.{HasRow, HaveSameRows, with_link};
 ghost use Rattle.journal_text.specs.Links.{proto_number};
 
 use crate::rows::TextRows;
-use addr4::Memory;
+use crate::text::Text;
+use addr4::{Memory, Prefix, Row};
 use journal_text::Link;
 use rib_route::Proto;
 use std::alloc::Global;
@@ -74,6 +77,7 @@ fn key_of(link: Link) -> Key
 /// The live links with their rows.
 #[derive(Drop)]
 pub(crate) struct LiveLinks {
+    alloc: Global,
     maps: BTreeMap<Key, TextRows>,
 }
 
@@ -94,6 +98,7 @@ impl LiveLinks {
         ensures { result ≡ map.empty }
     {
         LiveLinks {
+            alloc,
             maps: BTreeMap::new(alloc),
         }
     }
@@ -103,6 +108,51 @@ impl LiveLinks {
         ensures { option_copied result ≡ map.get self.now (key_of link) }
     {
         self.maps.get(&key_of(link))
+    }
+
+    /// Whether a link is live.
+    pub(crate) fn is_live(&self, link: Link) -> bool
+        ensures { IsTrue result ↔ IsSome (links_of self.now link) }
+    {
+        self.get(link).is_some()
+    }
+
+    /// Whether a link isn't live.
+    pub(crate) fn is_free(&self, link: Link) -> bool
+        ensures { IsTrue result ↔ (links_of self.now link ≡ None) }
+    {
+        self.get(link).is_none()
+    }
+
+    /// Whether a link is live and has this row at a prefix.
+    pub(crate) fn has_row(&self, link: Link, p: Prefix, row: Option<&Text>) -> bool
+        ensures { IsTrue result ↔ HasRow (links_of self.now) link p (option_copied row.entry) }
+    {
+        match self.get(link) {
+            None => false,
+            Some(rows) => rows.has(p, row),
+        }
+    }
+
+    /// Whether both links are live and have the same rows.
+    pub(crate) fn have_same_rows(&self, upper: Link, lower: Link) -> bool
+        ensures { IsTrue result ↔ HaveSameRows (links_of self.now) upper lower }
+    {
+        match self.get(upper) {
+            None => false,
+            Some(first) => match self.get(lower) {
+                None => false,
+                Some(second) => first.same(second),
+            },
+        }
+    }
+
+    /// The link begins, without rows.
+    pub(crate) fn begin(&mut self, link: Link) -> Result<(), Memory>
+        ensures { OnOk result (links_of self.new ≡ with_link (links_of self.old) link (Some no_rows)) }
+    {
+        self.put(link, TextRows::new(self.alloc))?;
+        Ok(())
     }
 
     /// The link is live from now on, with these rows.
