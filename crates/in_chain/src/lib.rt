@@ -1,13 +1,6 @@
-// A library with one function.
+//! A peer's incoming chain: the live routes, and below them the deletion stages of lost sessions, spliced in and out at run time.
 #![tactic(auto)]
 
-ghost use Rattle.std.specs.Prelude.{◌≡◌};
-ghost use Rattle.in_chain.specs.Echo.{echo_of};
+mod chain;
 
-// The `ensures` clause is the contract: what `echo` returns is `echo_of` of its argument, a definition
-// in `specs/Echo.antt`, which a caller's clause can cite too.
-pub fn echo(x: usize) -> usize
-    ensures { result ≡ echo_of x }
-{
-    x
-}
+pub use chain::Chain;

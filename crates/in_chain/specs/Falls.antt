@@ -1,0 +1,56 @@
+-- What one change causes: messages at one prefix, down the links of the chain.
+use Rattle.std.specs.Prelude.{◌≡◌, ℕ, ◌==◌, if◌then◌else◌, List, [], ◌∷◌, ◌++◌, Option, Some, None}
+use Rattle.addr4.specs.Prefixes.{Network}
+use Rattle.bgp_attr.specs.declared.attrs.Attrs.{Attrs}
+use Rattle.link_change.specs.declared.change.Change.{Change}
+use Rattle.deletion_stage.specs.Lost.{Lost}
+use Rattle.journal_text.specs.declared.link.Link.{Link}
+use Rattle.journal_text.specs.declared.link.Link.TheVariants.{In, Peer}
+use Rattle.journal_text.specs.declared.value.Value.{Value}
+use Rattle.journal_text.specs.declared.entry.Entry.{Entry}
+use Rattle.journal_text.specs.declared.entry.Entry.TheVariants.{Begin, Inherit, Add, Delete, Replace, Asked, Weld, End}
+use Rattle.journal_text.specs.Walk.{Links, Leads}
+use Rattle.in_chain.specs.Chains.{Chained, beside}
+
+-- the entry is a change at the prefix of the link
+abbrev pub IsChangeOn : Link → Network → Entry Value → Type 0
+IsChangeOn link p (Add l q new) = (l ≡ link) × (q ≡ p)
+IsChangeOn link p (Delete l q old) = (l ≡ link) × (q ≡ p)
+IsChangeOn link p (Replace l q old new) = (l ≡ link) × (q ≡ p)
+IsChangeOn link p other = ⊥
+
+-- one change at the prefix on each of these links, in their order
+abbrev pub IsWhole : Network → List Link → List (Entry Value) → Type 0
+IsWhole p [] [] = Unit {0}
+IsWhole p (link ∷ links) (e ∷ es) = IsChangeOn link p e × IsWhole p links es
+IsWhole p links entries = ⊥
+
+-- the same on the first of these links alone, and not on the last
+abbrev pub IsCut : Network → List Link → List (Entry Value) → Type 0
+IsCut p [] entries = ⊥
+IsCut p (link ∷ links) [] = Unit {0}
+IsCut p (link ∷ links) (e ∷ es) = IsChangeOn link p e × IsCut p links es
+
+-- The messages go down this way, and where a change comes out at its end, all of it.
+abbrev pub GoesDown : Network → List Link → Option (Change Attrs) → List (Entry Value) → Type 0
+GoesDown p way None entries = IsCut p way entries
+GoesDown p way (Some change) entries = (change.prefix ≡ p) × IsWhole p way entries
+
+-- from the live routes down to the link `out`, past these lost tables
+abbrev pub way_down : ℕ → Link → List (Lost Attrs) → List Link
+way_down k out [] = out ∷ []
+way_down k out (d ∷ ds) = way_down k (Peer k d.number) ds ++ out ∷ []
+
+-- from the stage of a session down to the link `out`
+abbrev pub way_from : ℕ → ℕ → Link → List (Lost Attrs) → List Link
+way_from k session out [] = []
+way_from k session out (d ∷ ds) = if d.number == session then out ∷ [] else way_from k session (Peer k d.number) ds ++ out ∷ []
+
+-- Whatever other links there are, the entries lead by the rules of the journal from the chain's old links to its new ones.
+abbrev pub LeadsChain : Chained → List (Entry Value) → Chained → Type 0
+LeadsChain old entries new = (others : Links Value) → Leads (beside others old) entries (beside others new)
+
+-- a fall at a prefix down this way
+pub record Falls (old new : Chained) (p : Network) (way : List Link) (sent : Option (Change Attrs)) (entries : List (Entry Value)) : Type 0 where
+  pub leads : LeadsChain old entries new
+  pub down : GoesDown p way sent entries
