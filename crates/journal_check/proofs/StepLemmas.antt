@@ -15,7 +15,6 @@ use Rattle.journal_text.specs.Walk.{Links, no_links, with_link, with_row_on}
 use Rattle.journal_text.specs.declared.link.Link.{Link}
 use Rattle.journal_check.specs.Maps.{key_of, key_cmp, LinkMap, RowMap, links_of}
 use Rattle.journal_check.proofs.KeyLemmas.{keys_total}
-use Rattle.journal_check.proofs.LinkNames.{link_decides}
 
 tie_then : (a b : Ordering) → is_eq (ordering_then a b) ≡ (is_eq a && is_eq b)
 tie_then Less b = refl

@@ -2,6 +2,7 @@
 #![tactic(auto)]
 
 mod links;
+mod reading;
 mod rows;
 mod steps;
 mod text;
