@@ -4,3 +4,4 @@ pub mod KeyLemmas
 pub mod StepLemmas
 pub mod DemandLemmas
 pub mod WordLemmas
+pub mod JudgeLemmas

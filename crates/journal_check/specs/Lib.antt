@@ -1,2 +1,4 @@
 pub mod Maps
 pub mod Readings
+pub mod Judged
+pub mod Walked
