@@ -34,7 +34,7 @@ pub same_on : (m : LinkMap) (upper lower : Link) (a b : RowMap) → Some a ≡ m
 same_on m upper lower a b here there = (
   λ e. (map.get a, live_as m upper (Some a) here, live_as m lower (Some b) there ∙ ap (λ r. Some (map.get r)) (sym e)),
   λ h.
-    let first = same_some (map.get a) h.0 (sym (live_as m upper (Some a) here) ∙ h.1) in
-    let second = same_some (map.get b) h.0 (sym (live_as m lower (Some b) there) ∙ h.2) in
-    same_map prefixes_total exact_prefixes a b (λ q. ap (λ (r : Rows (List ℕ)). r q) (first ∙ sym second)),
+      let first = same_some (map.get a) h.0 (sym (live_as m upper (Some a) here) ∙ h.1) in
+      let second = same_some (map.get b) h.0 (sym (live_as m lower (Some b) there) ∙ h.2) in
+      same_map prefixes_total exact_prefixes a b (λ q. ap (λ (r : Rows (List ℕ)). r q) (first ∙ sym second)),
 )

@@ -17,3 +17,6 @@ mod walk;
 
 pub use checked::Checked;
 pub use walk::Walk;
+
+#[cfg(test)]
+mod tests;
