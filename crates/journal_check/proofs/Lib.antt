@@ -5,3 +5,6 @@ pub mod StepLemmas
 pub mod DemandLemmas
 pub mod WordLemmas
 pub mod JudgeLemmas
+pub mod InkLemmas
+pub mod PrefixBack
+pub mod LineBack

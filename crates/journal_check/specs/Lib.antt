@@ -2,3 +2,4 @@ pub mod Maps
 pub mod Readings
 pub mod Judged
 pub mod Walked
+pub mod Laws

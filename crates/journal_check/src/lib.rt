@@ -8,6 +8,7 @@
 #![tactic(auto)]
 
 mod checked;
+mod laws;
 mod links;
 mod reading;
 mod rows;
@@ -16,6 +17,7 @@ mod text;
 mod walk;
 
 pub use checked::Checked;
+pub use laws::printed_lines_are_read_back;
 pub use walk::Walk;
 
 #[cfg(test)]
