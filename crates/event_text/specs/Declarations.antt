@@ -1,5 +1,5 @@
 -- What was declared so far, and which events may stand there.
-use Rattle.std.specs.Prelude.{◌≡◌, ℕ, ◌+◌, ◌==◌, nat_le, nat_lt, Bool, true, false, not, ◌&&◌, ◌||◌, if◌then◌else◌, List, [], ◌∷◌, ◌++◌, map, Option, Some, None, is_none, refl}
+use Rattle.std.specs.Prelude.{◌≡◌, ℕ, ◌+◌, ◌≤◌, ◌==◌, nat_le, nat_lt, Bool, true, false, not, ◌&&◌, ◌||◌, if◌then◌else◌, List, [], ◌∷◌, ◌++◌, map, Option, Some, None, is_none, refl}
 use Rattle.std.specs.Coded.{Coded, code_by, coded×, coded_option, coded_list}
 use Rattle.bgp_attr.specs.declared.speaker.Speaker.{Speaker}
 use Rattle.bgp_attr.specs.declared.speaker.Neighbour.{Neighbour}
@@ -29,6 +29,11 @@ no_declaration = record { speaker = None; peers = [] }
 abbrev pub peer_at : ℕ → List DeclaredPeer → Option DeclaredPeer
 peer_at k [] = None
 peer_at k (p ∷ ps) = if p.words.number == k then Some p else peer_at k ps
+
+-- each number stands once, and no session is beyond the last
+abbrev pub IsCounted : List DeclaredPeer → Type 0
+IsCounted [] = Unit {0}
+IsCounted (p ∷ ps) = (p.session ≤ 65535) × (peer_at p.words.number ps ≡ None) × IsCounted ps
 
 -- the address is one of a peer
 abbrev pub has_addr : ℕ → List DeclaredPeer → Bool
@@ -98,9 +103,9 @@ with_speaker d s = record { speaker = Some s; peers = d.peers }
 abbrev pub with_peer : Declaration → ℕ → Speaker → Declaration
 with_peer d k s = record { speaker = d.speaker; peers = d.peers ++ record { words = words_of d.speaker k s; session = 0; up = false } ∷ [] }
 
--- a peer's next session begins
+-- a peer's next session begins, unless one is up
 abbrev pub begun_at : ℕ → DeclaredPeer → DeclaredPeer
-begun_at k p = if p.words.number == k then record { words = p.words; session = p.session + 1; up = true } else p
+begun_at k p = if p.words.number == k && not p.up then record { words = p.words; session = p.session + 1; up = true } else p
 
 -- its session ends
 abbrev pub ended_at : ℕ → DeclaredPeer → DeclaredPeer

@@ -1,1 +1,3 @@
 pub mod Declarations
+pub mod Words
+pub mod Events

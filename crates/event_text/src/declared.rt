@@ -1,14 +1,17 @@
 //! What was declared so far.
 
-ghost use Rattle.std.specs.Prelude.{◌≡◌, ◌==◌, Option, Some, None, OnOk, OnErr};
+ghost use Rattle.std.specs.Prelude.{◌≡◌, ◌==◌, ◌≤◌, map, Option, Some, None, OnOk, OnErr};
+ghost use Rattle.std.specs.List.{All};
 ghost use Rattle.event_text.specs.declared.event.Event.{Event};
 ghost use Rattle.event_text.specs.declared.event.Event.TheVariants as events;
-ghost use Rattle.event_text.specs.Declarations.{no_declaration, refusal, peer_at, with_speaker, with_peer, with_session, without_session};
+ghost use Rattle.event_text.specs.Declarations.{no_declaration, refusal, peer_at, with_speaker, with_peer, with_session, without_session, IsCounted, begun_at, ended_at, has_addr, is_taken, is_internal, session_refusal, undeclared, refusal_by, refusal_first};
+ghost use Rattle.journal_text.specs.Links.{owner_of, proto_number};
 
 use crate::event::Event;
-use addr4::Memory;
+use addr4::{Addr, Memory};
 use bgp_attr::{Neighbour, Speaker};
-use journal_text::Code;
+use journal_text::{Code, Link, Task};
+use rib_route::Proto;
 use std::alloc::Global;
 use std::marker::Model;
 
@@ -30,7 +33,7 @@ pub struct Declared {
 }
 
 impl Model for Declared {
-    ghost use Rattle.event_text.specs.Declarations.{Declaration, declaration_code};
+    ghost use Rattle.event_text.specs.Declarations.{Declaration, declaration_code, IsCounted};
     ghost use Rattle.event_text.specs.contracts.declared.DeclaredPeer as peer_row;
     ghost use Rattle.bgp_attr.specs.contracts.speaker.Speaker as speaker_row;
 
@@ -39,6 +42,8 @@ impl Model for Declared {
     ghost coded = { declaration_code speaker_row.the_row.coded peer_row.the_row.coded };
 
     ghost view = { λ d. record { speaker = d.speaker; peers = d.peers.items } };
+
+    ghost invariant = { λ d. IsCounted d.peers.items };
 }
 
 impl Declared {
@@ -69,7 +74,7 @@ impl Declared {
     pub fn peer(&self, number: u32) -> Option<DeclaredPeer>
         ensures { result ≡ peer_at number self.now.peers }
     {
-        None
+        peer_of(self.peers.as_slice(), number)
     }
 
     /// `local` was declared. Takes no memory.
@@ -85,27 +90,206 @@ impl Declared {
         ensures ok { OnOk result (self.new ≡ with_peer self.old number words) }
         ensures memory { OnErr result (self.new ≡ self.old) }
     {
-        Err(Memory)
+        let internal = is_internal(self.speaker, words.asn);
+        self.peers.push(DeclaredPeer {
+            words: Neighbour {
+                number: number as u8,
+                asn: words.asn,
+                id: words.id,
+                addr: words.addr,
+                internal,
+            },
+            session: 0,
+            up: false,
+        })?;
+        Ok(())
     }
 
-    /// A peer's next session begins. Takes no memory.
+    /// A peer's next session begins, unless one is up. Takes no memory.
     pub fn begin_session(&mut self, number: u32)
         requires { refusal self.old (events.Up number) ≡ None }
         ensures { self.new ≡ with_session self.old number }
     {
+        begin_at(self.peers.as_mut_slice(), number);
     }
 
     /// A peer's session ends. Takes no memory.
     pub fn end_session(&mut self, number: u32)
         ensures { self.new ≡ without_session self.old number }
     {
+        end_at(self.peers.as_mut_slice(), number);
+    }
+}
+
+/// The peer of this number, if any.
+fn peer_of(peers: &[DeclaredPeer], number: u32) -> Option<DeclaredPeer>
+    ensures { result ≡ peer_at number peers.now }
+{
+    peers
+        .iter()
+        .find(|peer| u32::from(peer.words.number) == number)
+        .copied()
+}
+
+/// Whether a peer has the address.
+fn has_addr(peers: &[DeclaredPeer], addr: Addr) -> bool
+    ensures { result ≡ has_addr addr peers.now }
+{
+    peers.iter().any(|peer| peer.words.addr == addr)
+}
+
+/// Whether a peer of this AS is internal.
+fn is_internal(speaker: Option<Speaker>, asn: u32) -> bool
+    ensures { result ≡ is_internal speaker asn }
+{
+    match speaker {
+        Some(local) => local.asn == asn,
+        None => false,
+    }
+}
+
+/// The next session of each down peer of this number begins.
+fn begin_at(peers: &mut [DeclaredPeer], number: u32)
+    requires { All (λ p. p.session ≤ 65535) peers.old }
+    ensures { peers.new ≡ map (begun_at number) peers.old }
+{
+    for peer in peers.iter_mut() {
+        begin_if(peer, number);
+    }
+}
+
+fn begin_if(peer: &mut DeclaredPeer, number: u32)
+    requires { peer.old.session ≤ 65535 }
+    ensures { peer.new ≡ begun_at number peer.old }
+{
+    if u32::from(peer.words.number) == number && !peer.up {
+        peer.session += 1;
+        peer.up = true;
+    }
+}
+
+/// The session of each peer of this number ends.
+fn end_at(peers: &mut [DeclaredPeer], number: u32)
+    ensures { peers.new ≡ map (ended_at number) peers.old }
+{
+    for peer in peers.iter_mut() {
+        end_if(peer, number);
+    }
+}
+
+fn end_if(peer: &mut DeclaredPeer, number: u32)
+    ensures { peer.new ≡ ended_at number peer.old }
+{
+    if u32::from(peer.words.number) == number {
+        peer.up = false;
+    }
+}
+
+/// Whether something of this peer is declared already.
+fn is_taken(local: Speaker, peers: &[DeclaredPeer], number: u32, words: Speaker) -> bool
+    ensures { result ≡ is_taken local peers.now number words }
+{
+    peer_of(peers, number).is_some() || has_addr(peers, words.addr) || local.addr == words.addr
+}
+
+/// Why a peer may have no further session.
+fn session_refusal(peer: Option<DeclaredPeer>) -> Option<Code>
+    ensures { result ≡ session_refusal peer }
+{
+    match peer {
+        None => Some(Code::E5),
+        Some(peer) if !peer.up && peer.session == 65535 => Some(Code::E6),
+        Some(_peer) => None,
+    }
+}
+
+/// E5 where the peer isn't declared.
+fn undeclared(peer: Option<DeclaredPeer>) -> Option<Code>
+    ensures { result ≡ undeclared peer }
+{
+    match peer {
+        None => Some(Code::E5),
+        Some(_peer) => None,
+    }
+}
+
+/// Why a peer may not be declared.
+fn peer_refusal(local: Speaker, peers: &[DeclaredPeer], number: u32, words: Speaker) -> Option<Code>
+    ensures { result ≡ refusal_by local peers.now (events.Peer number words) }
+{
+    if is_taken(local, peers, number, words) {
+        return Some(Code::E3);
+    }
+    if number <= 64 { None } else { Some(Code::E6) }
+}
+
+/// Whose link it is.
+fn owner(link: Link) -> u32
+    ensures { result ≡ owner_of link }
+{
+    match link {
+        Link::In(k) | Link::Peer(k, _) | Link::Filt(k) | Link::Res(k) => k,
+        Link::Org(proto) | Link::Lost(proto, _) => proto_number(proto),
+        Link::Read(j, _) | Link::Outf(j, _) | Link::Adv(j, _) => j,
+        Link::Low
+        | Link::Dyn
+        | Link::Int
+        | Link::Red
+        | Link::Best
+        | Link::ReadRib
+        | Link::Ebgp
+        | Link::Ibgp
+        | Link::Ext
+        | Link::Fib => 0,
+    }
+}
+
+fn proto_number(proto: Proto) -> u32
+    ensures { result ≡ proto_number proto }
+{
+    match proto {
+        Proto::Connected => 0,
+        Proto::Static => 1,
+        Proto::Ospf => 2,
+        Proto::Rip => 3,
+    }
+}
+
+/// Why the event may not stand before `local`.
+fn refusal_first(event: &Event) -> Option<Code>
+    ensures { result ≡ refusal_first event.now }
+{
+    match event {
+        Event::Nothing | Event::Local(_) => None,
+        _ => Some(Code::E4),
+    }
+}
+
+/// Why the event may not stand after `local`.
+fn refusal_by(local: Speaker, peers: &[DeclaredPeer], event: &Event) -> Option<Code>
+    ensures { result ≡ refusal_by local peers.now event.now }
+{
+    match event {
+        Event::Nothing | Event::Idle => None,
+        Event::Local(_) => Some(Code::E3),
+        Event::Peer(number, words) => peer_refusal(local, peers, *number, *words),
+        Event::Up(number) => session_refusal(peer_of(peers, *number)),
+        Event::Down(number) => undeclared(peer_of(peers, *number)),
+        Event::Bgp(number, _) => undeclared(peer_of(peers, *number)),
+        Event::Work(Task::Del(number, _), _) => undeclared(peer_of(peers, *number)),
+        Event::Ask(link, _) => undeclared(peer_of(peers, owner(*link))),
+        Event::Show(link) => undeclared(peer_of(peers, owner(*link))),
     }
 }
 
 /// Why the event may not stand here: before `local` (E4), declared twice (E3), of an undeclared peer (E5), past a limit (E6).
 /// None where it may.
+#[tactic(auto, unfolding(crate::specs::Declarations::refusal))]
 pub fn admit(event: &Event, declared: &Declared) -> Option<Code>
     ensures { result ≡ refusal declared.now event.now }
 {
-    None
+    match declared.speaker {
+        None => refusal_first(event),
+        Some(local) => refusal_by(local, declared.peers.as_slice(), event),
+    }
 }

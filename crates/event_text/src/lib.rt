@@ -6,6 +6,9 @@
 
 mod declared;
 mod event;
+mod grammar;
+mod words;
 
 pub use declared::{Declared, DeclaredPeer, admit};
 pub use event::Event;
+pub use grammar::parse;

@@ -1,7 +1,8 @@
 -- What contracts see of a journal.
-use Rattle.std.specs.Prelude.{◌≡◌, ℕ, Bool, List, [], ◌∷◌, ◌++◌, map, option_map, refl}
+use Rattle.std.specs.Prelude.{◌≡◌, ℕ, Bool, List, [], ◌++◌, map, option_map, refl}
 use Rattle.std.specs.Coded.{Coded, code_by, coded×, coded_ℕ, coded_bool, coded_list}
 use Rattle.bgp_attr.specs.declared.attrs.Attrs.{Attrs}
+use Rattle.link_change.specs.Rows.{Rows}
 use Rattle.link_change.specs.declared.change.Change.{Change}
 use Rattle.journal_text.specs.Walk.{change_entries}
 use Rattle.journal_text.specs.Texts.{text_of}
@@ -42,3 +43,7 @@ Adds P old new = (entries : List (Entry Value)) × (new ≡ with_entries old ent
 -- the entry of a change of attributes on a link
 abbrev pub attrs_change : Link → Change Attrs → List (Entry Value)
 attrs_change link change = change_entries link change.prefix (option_map (λ a. values.Attrs a) change.before) (option_map (λ a. values.Attrs a) change.after)
+
+-- rows of attributes, as values
+abbrev pub attrs_rows : Rows Attrs → Rows Value
+attrs_rows rows q = option_map (λ a. values.Attrs a) (rows q)

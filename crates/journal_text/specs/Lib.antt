@@ -2,3 +2,5 @@ pub mod Links
 pub mod Walk
 pub mod Texts
 pub mod Journals
+pub mod Laws
+pub mod Names

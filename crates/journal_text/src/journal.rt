@@ -1,15 +1,16 @@
 //! The output, line by line.
 
-ghost use Rattle.std.specs.Prelude.{◌≡◌, ◌++◌, ◌∷◌, [], OnOk, IfOk};
+ghost use Rattle.std.specs.Prelude.{◌≡◌, ◌++◌, ◌∷◌, [], OnOk, OnErr, IfOk};
 ghost use Rattle.journal_text.specs.declared.line.Line.{Line};
 ghost use Rattle.journal_text.specs.declared.line.Line.TheVariants as lines;
 ghost use Rattle.journal_text.specs.declared.value.Value.TheVariants as values;
 ghost use Rattle.link_change.specs.declared.change.Change.{Change};
 ghost use Rattle.journal_text.specs.Walk.{change_entries};
-ghost use Rattle.journal_text.specs.Journals.{with_lines, with_entries, attrs_change};
+ghost use Rattle.journal_text.specs.Journals.{with_lines, with_entries, attrs_change, flushed};
 
 use crate::entry::Entry;
 use crate::line::Line;
+use crate::lines::push_lines;
 use crate::link::Link;
 use crate::value::Value;
 use addr4::{Memory, Prefix, Row};
@@ -81,6 +82,31 @@ impl Journal {
             }
             (None, None) => Ok(()),
         }
+    }
+
+    /// Makes the text of the lines that have none yet. For want of memory some front of that
+    /// text may have been made, and all of these lines stay.
+    pub fn flush(&mut self) -> Result<(), Memory>
+        ensures ok { OnOk result (self.new ≡ flushed self.old) }
+        ensures memory { OnErr result ((self.new.pending ≡ self.old.pending) × (self.new.quiet ≡ self.old.quiet)) }
+    {
+        push_lines(self.alloc, &mut self.text, self.quiet, &self.pending)?;
+        self.pending.clear();
+        Ok(())
+    }
+
+    /// The text of the lines that were flushed; those pushed since the last [`flush`](Journal::flush) aren't in it.
+    pub fn text(&self) -> &[u8]
+        ensures { result.now ≡ self.now.text }
+    {
+        self.text.as_slice()
+    }
+
+    /// Drops the text, and keeps its memory for the next one. Lines that weren't flushed stay.
+    pub fn clear(&mut self)
+        ensures { self.new ≡ record { text = []; pending = self.old.pending; quiet = self.old.quiet } }
+    {
+        self.text.clear();
     }
 }
 

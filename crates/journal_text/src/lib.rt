@@ -10,12 +10,24 @@
 
 mod entry;
 mod journal;
+mod laws;
 mod line;
+mod lines;
 mod link;
+mod names;
+mod reading;
+mod texts;
 mod value;
 
 pub use entry::Entry;
 pub use journal::Journal;
+pub use laws::{
+    changes_lead, entries_are_appended, journals_join, link_names_are_read_back,
+    links_are_set_in_either_order, read_links_are_named, same_links,
+};
 pub use line::{Code, Line};
 pub use link::{Link, Task};
 pub use value::Value;
+
+#[cfg(test)]
+mod tests;

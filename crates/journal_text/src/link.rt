@@ -2,7 +2,9 @@
 
 ghost use Rattle.std.specs.Prelude.{◌≡◌};
 ghost use Rattle.journal_text.specs.Links.{same_link};
+ghost use Rattle.journal_text.specs.Names.{link_of, task_of};
 
+use crate::reading::{read_link, read_task};
 use rib_route::Proto;
 
 /// A link between two stages. K and J are peers' numbers, S is the number of a session, N of a protocol's loss; all count
@@ -56,6 +58,14 @@ impl Link {
     {
         self == other
     }
+
+    /// The link of a name, its numbers from 1 and below 2^32, without a leading zero. None where the text is no link's
+    /// name.
+    pub fn read(text: &[u8]) -> Option<Link>
+        ensures { result ≡ link_of text.now }
+    {
+        read_link(text)
+    }
 }
 
 /// Work that a stage has, done in turns.
@@ -63,4 +73,13 @@ impl Link {
 pub enum Task {
     /// `del.K.S`: the deletes of a peer's lost session.
     Del(u32, u32),
+}
+
+impl Task {
+    /// The task of a name, its numbers as those of links. None where the text is no task's name.
+    pub fn read(text: &[u8]) -> Option<Task>
+        ensures { result ≡ task_of text.now }
+    {
+        read_task(text)
+    }
 }

@@ -1,0 +1,88 @@
+-- The event language, and which line is refused.
+use Rattle.std.specs.Prelude.{ℕ, if◌then◌else◌, ◌||◌, ◌==◌, List, [], ◌∷◌, length, Option, Some, None, Result, Ok, Err, codes, nat_eq}
+use Rattle.std.specs.Str.{bytes_eq}
+use Rattle.std.specs.List.{starts_with}
+use Rattle.addr4.specs.Texts.{number_of, prefix_of}
+use Rattle.journal_text.specs.declared.line.Code.{Code}
+use Rattle.journal_text.specs.declared.line.Code.TheVariants.{E1, E2}
+use Rattle.event_text.specs.declared.event.Event.{Event}
+use Rattle.event_text.specs.declared.event.Event.TheVariants.{Nothing, Local, Peer, Up, Down, Bgp, Idle, Work, Ask, Show}
+use Rattle.event_text.specs.Words.{◌>>=◌, is_clean, words, from_one, speaker_of, octets_of, link_of, task_of}
+
+-- what follows `local`
+unfoldable pub local_of : List (List ℕ) → Option Event
+local_of ws = speaker_of ws >>= λ s. Some (Local s)
+
+-- what follows `peer`
+unfoldable pub peer_of : List (List ℕ) → Option Event
+peer_of [] = None
+peer_of (k ∷ ws) = do
+  n ← from_one k
+  s ← speaker_of ws
+  Some (Peer n s)
+
+-- the one word is a peer's number, as behind `up` and `down`
+unfoldable pub one_number : List (List ℕ) → Option ℕ
+one_number (k ∷ []) = from_one k
+one_number other = None
+
+-- what follows `bgp`
+unfoldable pub bgp_of : List (List ℕ) → Option Event
+bgp_of (k ∷ digits ∷ []) = do
+  n ← from_one k
+  octets ← octets_of digits
+  Some (Bgp n octets)
+bgp_of other = None
+
+-- what follows `work`
+unfoldable pub work_of : List (List ℕ) → Option Event
+work_of (task ∷ turns ∷ []) = do
+  t ← task_of task
+  n ← number_of turns
+  Some (Work t n)
+work_of other = None
+
+-- what follows `ask`
+unfoldable pub ask_of : List (List ℕ) → Option Event
+ask_of (link ∷ p ∷ []) = do
+  l ← link_of link
+  n ← prefix_of 32 p
+  Some (Ask l n)
+ask_of other = None
+
+-- what follows `show`
+unfoldable pub show_of : List (List ℕ) → Option Event
+show_of (link ∷ []) = link_of link >>= λ l. Some (Show l)
+show_of other = None
+
+-- an event but for `local`, `peer` and `bgp`, by its first word and the others
+unfoldable pub plain_event : List ℕ → List (List ℕ) → Option Event
+plain_event w ws =
+    if bytes_eq w (codes "up") then (one_number ws >>= λ k. Some (Up k))
+    else if bytes_eq w (codes "down") then (one_number ws >>= λ k. Some (Down k))
+    else if bytes_eq w (codes "idle") then (if length ws == 0 then Some Idle else None)
+    else if bytes_eq w (codes "work") then work_of ws
+    else if bytes_eq w (codes "ask") then ask_of ws
+    else if bytes_eq w (codes "show") then show_of ws
+    else None
+
+-- an event by its first word and the others
+unfoldable pub named_event : List ℕ → List (List ℕ) → Option Event
+named_event w ws =
+    if bytes_eq w (codes "local") then local_of ws
+    else if bytes_eq w (codes "peer") then peer_of ws
+    else if bytes_eq w (codes "bgp") then bgp_of ws
+    else plain_event w ws
+
+-- a line without words, a comment, or an event
+unfoldable pub event_of : List (List ℕ) → Option Event
+event_of [] = Some Nothing
+event_of (w ∷ ws) = if starts_with nat_eq w (codes "#") then Some Nothing else named_event w ws
+
+abbrev pub in_grammar : Option Event → Result Event Code
+in_grammar None = Err E2
+in_grammar (Some event) = Ok event
+
+-- what a line says, or the code with which it is refused
+unfoldable pub read_event : List ℕ → Result Event Code
+read_event line = if is_clean line then in_grammar (event_of (words line)) else Err E1

@@ -1,0 +1,187 @@
+//! Reading a line of the event language.
+
+ghost use Rattle.std.specs.Prelude.{◌≡◌, option_map, Option, Some, None, IfOk, MatchOption, ◌==◌};
+ghost use Rattle.event_text.specs.Words.{words};
+ghost use Rattle.event_text.specs.Events.{local_of, peer_of, one_number, bgp_of, work_of, ask_of, show_of, plain_event, named_event, event_of, read_event};
+ghost use Rattle.event_text.specs.declared.event.Event.TheVariants as events;
+
+use crate::event::Event;
+use crate::words::{first_word, from_one, is_clean, is_end, link, octets, speaker, task};
+use addr4::{Memory, read_number, read_prefix};
+use journal_text::Code;
+use std::alloc::Global;
+
+/// What a line says, without its end of line; or the code with which it is refused. E1 where it has more than 16,384 bytes
+/// or a byte that isn't printable ASCII (32 to 126), E2 where the grammar has no such line. Words stand between spaces, one
+/// or more; spaces may also stand at the start and the end. Memory is taken for the octets of `bgp` only.
+#[tactic(auto, unfolding(crate::specs::Events::read_event))]
+pub fn parse(alloc: Global, line: &[u8]) -> Result<Result<Event, Code>, Memory>
+    ensures { IfOk result (λ event. event ≡ read_event line.now) }
+{
+    if !is_clean(line) {
+        return Ok(Err(Code::E1));
+    }
+    match event(alloc, line)? {
+        Some(event) => Ok(Ok(event)),
+        None => Ok(Err(Code::E2)),
+    }
+}
+
+/// A line without words, a comment, or an event.
+#[tactic(auto, unfolding(crate::specs::Events::event_of))]
+fn event(alloc: Global, line: &[u8]) -> Result<Option<Event>, Memory>
+    ensures { IfOk result (λ event. event ≡ event_of (words line.now)) }
+{
+    let Some((word, rest)) = first_word(line) else {
+        return Ok(Some(Event::Nothing));
+    };
+    if word.starts_with(b"#") {
+        return Ok(Some(Event::Nothing));
+    }
+    named_event(alloc, word, rest)
+}
+
+/// An event by its first word and the others.
+#[tactic(auto, unfolding(crate::specs::Events::named_event))]
+fn named_event(alloc: Global, word: &[u8], rest: &[u8]) -> Result<Option<Event>, Memory>
+    ensures { IfOk result (λ event. event ≡ named_event word.now (words rest.now)) }
+{
+    if word == b"local".as_slice() {
+        return Ok(local(rest));
+    }
+    if word == b"peer".as_slice() {
+        return Ok(peer(rest));
+    }
+    if word == b"bgp".as_slice() {
+        return bgp(alloc, rest);
+    }
+    Ok(plain_event(word, rest))
+}
+
+/// What follows `local`.
+#[tactic(auto, unfolding(crate::specs::Events::local_of))]
+fn local(rest: &[u8]) -> Option<Event>
+    ensures { result ≡ local_of (words rest.now) }
+{
+    let words = speaker(rest)?;
+    Some(Event::Local(words))
+}
+
+/// What follows `peer`.
+#[tactic(auto, unfolding(crate::specs::Events::peer_of))]
+fn peer(rest: &[u8]) -> Option<Event>
+    ensures { result ≡ peer_of (words rest.now) }
+{
+    let (number, rest) = first_word(rest)?;
+    let number = from_one(number)?;
+    let words = speaker(rest)?;
+    Some(Event::Peer(number, words))
+}
+
+/// What follows `bgp`.
+#[tactic(auto, using(crate::proofs::WordLemmas::no_word_behind_octets), unfolding(crate::specs::Events::bgp_of))]
+fn bgp(alloc: Global, rest: &[u8]) -> Result<Option<Event>, Memory>
+    ensures { IfOk result (λ event. event ≡ bgp_of (words rest.now)) }
+{
+    let Some((number, rest)) = first_word(rest) else {
+        return Ok(None);
+    };
+    let Some((digits, rest)) = first_word(rest) else {
+        return Ok(None);
+    };
+    if !is_end(rest) {
+        return Ok(None);
+    }
+    let Some(number) = from_one(number) else {
+        return Ok(None);
+    };
+    match octets(alloc, digits)? {
+        Some(octets) => Ok(Some(Event::Bgp(number, octets))),
+        None => Ok(None),
+    }
+}
+
+/// The events `up`, `down`, `idle`, `work`, `ask` and `show`.
+#[tactic(auto, unfolding(crate::specs::Events::plain_event))]
+fn plain_event(word: &[u8], rest: &[u8]) -> Option<Event>
+    ensures { result ≡ plain_event word.now (words rest.now) }
+{
+    if word == b"up".as_slice() {
+        return Some(Event::Up(one_number(rest)?));
+    }
+    if word == b"down".as_slice() {
+        return Some(Event::Down(one_number(rest)?));
+    }
+    if word == b"idle".as_slice() {
+        return if is_end(rest) {
+            Some(Event::Idle)
+        } else {
+            None
+        };
+    }
+    if word == b"work".as_slice() {
+        return work(rest);
+    }
+    if word == b"ask".as_slice() {
+        return ask(rest);
+    }
+    if word == b"show".as_slice() {
+        return show(rest);
+    }
+    None
+}
+
+/// The one word is a peer's number.
+#[tactic(auto, using(crate::proofs::WordLemmas::no_word_behind_number), unfolding(crate::specs::Events::one_number))]
+fn one_number(rest: &[u8]) -> Option<u32>
+    ensures { result ≡ one_number (words rest.now) }
+{
+    let (number, rest) = first_word(rest)?;
+    if !is_end(rest) {
+        return None;
+    }
+    from_one(number)
+}
+
+/// What follows `work`.
+#[tactic(auto, using(crate::proofs::WordLemmas::no_word_behind_turns), unfolding(crate::specs::Events::work_of))]
+fn work(rest: &[u8]) -> Option<Event>
+    ensures { result ≡ work_of (words rest.now) }
+{
+    let (name, rest) = first_word(rest)?;
+    let (turns, rest) = first_word(rest)?;
+    if !is_end(rest) {
+        return None;
+    }
+    let task = task(name)?;
+    let turns = read_number(turns)?;
+    Some(Event::Work(task, turns))
+}
+
+/// What follows `ask`.
+#[tactic(auto, using(crate::proofs::WordLemmas::no_word_behind_prefix), unfolding(crate::specs::Events::ask_of))]
+fn ask(rest: &[u8]) -> Option<Event>
+    ensures { result ≡ ask_of (words rest.now) }
+{
+    let (name, rest) = first_word(rest)?;
+    let (prefix, rest) = first_word(rest)?;
+    if !is_end(rest) {
+        return None;
+    }
+    let link = link(name)?;
+    let prefix = read_prefix(prefix).ok()?;
+    Some(Event::Ask(link, prefix))
+}
+
+/// What follows `show`.
+#[tactic(auto, using(crate::proofs::WordLemmas::no_word_behind_link), unfolding(crate::specs::Events::show_of))]
+fn show(rest: &[u8]) -> Option<Event>
+    ensures { result ≡ show_of (words rest.now) }
+{
+    let (name, rest) = first_word(rest)?;
+    if !is_end(rest) {
+        return None;
+    }
+    let link = link(name)?;
+    Some(Event::Show(link))
+}

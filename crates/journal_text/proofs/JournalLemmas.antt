@@ -1,0 +1,49 @@
+-- Journals that grow, and the text and the entries of what they hold.
+use Rattle.std.proofs.Common.{◌≡◌, ℕ, Bool, true, List, [], ◌∷◌, ◌++◌, map, refl, sym, ap, ◌∙◌, append_assoc}
+use Rattle.std.proofs.lemmas.List.{append-nil}
+use Rattle.journal_text.specs.declared.entry.Entry.{Entry}
+use Rattle.journal_text.specs.declared.line.Line.{Line}
+use Rattle.journal_text.specs.declared.line.Line.TheVariants as lines
+use Rattle.journal_text.specs.declared.value.Value.{Value}
+use Rattle.journal_text.specs.Texts.{text_of, shown, entries_of, entry_list}
+use Rattle.journal_text.specs.Journals.{Journaled, with_lines, with_entries}
+
+abbrev pub as_lines : List (Entry Value) → List Line
+as_lines entries = map (λ e. lines.Journal e) entries
+
+as_lines_append : (a b : List (Entry Value)) → as_lines (a ++ b) ≡ as_lines a ++ as_lines b
+as_lines_append [] b = refl
+as_lines_append (e ∷ a) b = ap (λ (t : List Line). lines.Journal e ∷ t) (as_lines_append a b)
+
+abbrev with_pending : Journaled → List Line → Journaled
+with_pending j pending = record { text = j.text; pending = pending; quiet = j.quiet }
+
+pub with_lines_append : (j : Journaled) (a b : List Line) → with_lines (with_lines j a) b ≡ with_lines j (a ++ b)
+with_lines_append j a b = ap (with_pending j) (append_assoc j.pending a b)
+
+pub with_entries_append : (j : Journaled) (a b : List (Entry Value)) → with_entries (with_entries j a) b ≡ with_entries j (a ++ b)
+with_entries_append j a b = with_lines_append j (as_lines a) (as_lines b) ∙ ap (with_lines j) (sym (as_lines_append a b))
+
+pub with_entries_none : (j : Journaled) → with_entries j [] ≡ j
+with_entries_none j = ap (with_pending j) (append-nil j.pending)
+
+pub text_of_append : (quiet : Bool) (a b : List Line) → text_of quiet (a ++ b) ≡ text_of quiet a ++ text_of quiet b
+text_of_append quiet [] b = refl
+text_of_append quiet (line ∷ a) b = ap (λ (t : List ℕ). shown quiet line ++ t) (text_of_append quiet a b) ∙ sym (append_assoc (shown quiet line) (text_of quiet a) (text_of quiet b))
+
+pub entries_of_append : (a b : List Line) → entries_of (a ++ b) ≡ entries_of a ++ entries_of b
+entries_of_append [] b = refl
+entries_of_append (line ∷ a) b = ap (λ (t : List (Entry Value)). entry_list line ++ t) (entries_of_append a b) ∙ sym (append_assoc (entry_list line) (entries_of a) (entries_of b))
+
+-- the entries of lines that are entries
+pub entries_of_entries : (entries : List (Entry Value)) → entries_of (as_lines entries) ≡ entries
+entries_of_entries [] = refl
+entries_of_entries (e ∷ entries) = ap (λ (t : List (Entry Value)). e ∷ t) (entries_of_entries entries)
+
+-- a quiet journal prints nothing of its entries
+pub quiet_entries : (entries : List (Entry Value)) → text_of true (as_lines entries) ≡ []
+quiet_entries [] = refl
+quiet_entries (e ∷ entries) = quiet_entries entries
+
+pub entries_of_grown : (j : Journaled) (a : List (Entry Value)) → entries_of (with_entries j a).pending ≡ entries_of j.pending ++ a
+entries_of_grown j a = entries_of_append j.pending (as_lines a) ∙ ap (λ (t : List (Entry Value)). entries_of j.pending ++ t) (entries_of_entries a)

@@ -1,0 +1,7 @@
+pub mod Joins
+pub mod LinkLemmas
+pub mod WalkLemmas
+pub mod NameLemmas
+pub mod ReadBack
+pub mod JournalLemmas
+pub mod ReadNames

@@ -1,0 +1,230 @@
+//! The texts of lines.
+
+ghost use Rattle.std.specs.Prelude.{◌≡◌, ◌++◌, ◌∷◌, [], OnOk, codes};
+ghost use Rattle.std.specs.Fmt.{decimal};
+ghost use Rattle.hex.specs.Hex.{encode_lower};
+ghost use Rattle.addr4.specs.Texts.{prefix_text};
+ghost use Rattle.journal_text.specs.Texts.{answer_text, code_text, entry_words, is_entry, line_text, link_text, text_of, value_text, words_line};
+
+use crate::entry::Entry;
+use crate::line::{Code, Line};
+use crate::link::Link;
+use crate::names::push_link;
+use crate::texts::{push_answer, push_text, push_value, push_wide};
+use crate::value::Value;
+use addr4::{Memory, Prefix, push_number, push_prefix};
+use std::alloc::Global;
+
+/// A word, a space, and a link.
+fn push_named(out: &mut Vec<u8>, word: &[u8], link: Link) -> Result<(), Memory>
+    ensures { OnOk result (out.new.items ≡ out.old.items ++ (word.now ++ 32 ∷ link_text link)) }
+{
+    push_text(out, word)?;
+    out.push(b' ')?;
+    push_link(out, link)
+}
+
+/// A word and a link: `b LINK`, `e LINK`.
+fn push_one(out: &mut Vec<u8>, word: &[u8], link: Link) -> Result<(), Memory>
+    ensures { OnOk result (out.new.items ≡ out.old.items ++ words_line (word.now ∷ link_text link ∷ [])) }
+{
+    push_named(out, word, link)?;
+    out.push(b'\n')?;
+    Ok(())
+}
+
+/// A word and two links: `i LINK FROM`, `w UPPER LOWER`.
+fn push_both(out: &mut Vec<u8>, word: &[u8], link: Link, other: Link) -> Result<(), Memory>
+    ensures { OnOk result (out.new.items ≡ out.old.items ++ words_line (word.now ∷ link_text link ∷ link_text other ∷ [])) }
+{
+    push_named(out, word, link)?;
+    out.push(b' ')?;
+    push_link(out, other)?;
+    out.push(b'\n')?;
+    Ok(())
+}
+
+/// A word, a link and a prefix, with a space after each.
+fn push_head(out: &mut Vec<u8>, word: &[u8], link: Link, prefix: Prefix) -> Result<(), Memory>
+    ensures { OnOk result (out.new.items ≡ out.old.items ++ (word.now ++ 32 ∷ link_text link ++ 32 ∷ prefix_text prefix ++ 32 ∷ [])) }
+{
+    push_named(out, word, link)?;
+    out.push(b' ')?;
+    push_prefix(out, prefix)?;
+    out.push(b' ')?;
+    Ok(())
+}
+
+/// A word, a link, a prefix and a value: `+ LINK PREFIX NEW`, `- LINK PREFIX OLD`, `row LINK PREFIX VALUE`.
+fn push_row(
+    alloc: Global,
+    out: &mut Vec<u8>,
+    word: &[u8],
+    link: Link,
+    prefix: Prefix,
+    value: &Value,
+) -> Result<(), Memory>
+    ensures { OnOk result (out.new.items ≡ out.old.items ++ words_line (word.now ∷ link_text link ∷ prefix_text prefix ∷ value_text value.now ∷ [])) }
+{
+    push_head(out, word, link, prefix)?;
+    push_value(alloc, out, value)?;
+    out.push(b'\n')?;
+    Ok(())
+}
+
+/// `= LINK PREFIX OLD NEW`
+fn push_replace(
+    alloc: Global,
+    out: &mut Vec<u8>,
+    link: Link,
+    prefix: Prefix,
+    old: &Value,
+    new: &Value,
+) -> Result<(), Memory>
+    ensures { OnOk result (out.new.items ≡ out.old.items ++ words_line (codes "=" ∷ link_text link ∷ prefix_text prefix ∷ value_text old.now ∷ value_text new.now ∷ [])) }
+{
+    push_head(out, b"=", link, prefix)?;
+    push_value(alloc, out, old)?;
+    out.push(b' ')?;
+    push_value(alloc, out, new)?;
+    out.push(b'\n')?;
+    Ok(())
+}
+
+/// `? LINK PREFIX VALUE`
+fn push_asked(
+    alloc: Global,
+    out: &mut Vec<u8>,
+    link: Link,
+    prefix: Prefix,
+    row: &Option<Value>,
+) -> Result<(), Memory>
+    ensures { OnOk result (out.new.items ≡ out.old.items ++ words_line (codes "?" ∷ link_text link ∷ prefix_text prefix ∷ answer_text row.now ∷ [])) }
+{
+    push_head(out, b"?", link, prefix)?;
+    push_answer(alloc, out, row)?;
+    out.push(b'\n')?;
+    Ok(())
+}
+
+#[tactic(auto, unfolding(crate::specs::Texts::entry_words))]
+fn push_entry(alloc: Global, out: &mut Vec<u8>, entry: &Entry<Value>) -> Result<(), Memory>
+    ensures { OnOk result (out.new.items ≡ out.old.items ++ words_line (entry_words entry.now)) }
+{
+    match entry {
+        Entry::Begin(link) => push_one(out, b"b", *link),
+        Entry::Inherit(link, from) => push_both(out, b"i", *link, *from),
+        Entry::Add(link, prefix, new) => push_row(alloc, out, b"+", *link, *prefix, new),
+        Entry::Delete(link, prefix, old) => push_row(alloc, out, b"-", *link, *prefix, old),
+        Entry::Replace(link, prefix, old, new) => {
+            push_replace(alloc, out, *link, *prefix, old, new)
+        }
+        Entry::Asked(link, prefix, row) => push_asked(alloc, out, *link, *prefix, row),
+        Entry::Weld(upper, lower) => push_both(out, b"w", *upper, *lower),
+        Entry::End(link) => push_one(out, b"e", *link),
+    }
+}
+
+/// A word and a count: `work M`, `bound B`, `idle M`.
+fn push_count(alloc: Global, out: &mut Vec<u8>, word: &[u8], count: u128) -> Result<(), Memory>
+    ensures { OnOk result (out.new.items ≡ out.old.items ++ words_line (word.now ∷ decimal count ∷ [])) }
+{
+    push_text(out, word)?;
+    out.push(b' ')?;
+    push_wide(alloc, out, count)?;
+    out.push(b'\n')?;
+    Ok(())
+}
+
+/// `note K HEX`
+fn push_note(alloc: Global, out: &mut Vec<u8>, peer: u32, octets: &[u8]) -> Result<(), Memory>
+    ensures { OnOk result (out.new.items ≡ out.old.items ++ words_line (codes "note" ∷ decimal peer ∷ encode_lower octets.now ∷ [])) }
+{
+    push_text(out, b"note ")?;
+    push_number(out, u64::from(peer))?;
+    out.push(b' ')?;
+    let digits = hex::encode(alloc, octets)?;
+    push_text(out, digits.as_bytes())?;
+    out.push(b'\n')?;
+    Ok(())
+}
+
+/// `rows LINK COUNT`
+fn push_rows(alloc: Global, out: &mut Vec<u8>, link: Link, count: u128) -> Result<(), Memory>
+    ensures { OnOk result (out.new.items ≡ out.old.items ++ words_line (codes "rows" ∷ link_text link ∷ decimal count ∷ [])) }
+{
+    push_named(out, b"rows", link)?;
+    out.push(b' ')?;
+    push_wide(alloc, out, count)?;
+    out.push(b'\n')?;
+    Ok(())
+}
+
+/// The word of a code.
+fn code_word(code: Code) -> &'static [u8]
+    ensures { result.now ≡ code_text code }
+{
+    match code {
+        Code::E1 => b"E1",
+        Code::E2 => b"E2",
+        Code::E3 => b"E3",
+        Code::E4 => b"E4",
+        Code::E5 => b"E5",
+        Code::E6 => b"E6",
+    }
+}
+
+/// `refused LINE CODE`
+fn push_refused(out: &mut Vec<u8>, number: u64, code: Code) -> Result<(), Memory>
+    ensures { OnOk result (out.new.items ≡ out.old.items ++ words_line (codes "refused" ∷ decimal number ∷ code_text code ∷ [])) }
+{
+    push_text(out, b"refused ")?;
+    push_number(out, number)?;
+    out.push(b' ')?;
+    push_text(out, code_word(code))?;
+    out.push(b'\n')?;
+    Ok(())
+}
+
+/// The words of a line, and LF.
+#[tactic(auto, unfolding(crate::specs::Texts::line_text))]
+fn push_line(alloc: Global, out: &mut Vec<u8>, line: &Line) -> Result<(), Memory>
+    ensures { OnOk result (out.new.items ≡ out.old.items ++ line_text line.now) }
+{
+    match line {
+        Line::Journal(entry) => push_entry(alloc, out, entry),
+        Line::Note(peer, octets) => push_note(alloc, out, *peer, octets.as_slice()),
+        Line::Row(link, prefix, value) => push_row(alloc, out, b"row", *link, *prefix, value),
+        Line::Rows(link, count) => push_rows(alloc, out, *link, *count),
+        Line::Work(turns) => push_count(alloc, out, b"work", *turns),
+        Line::Bound(turns) => push_count(alloc, out, b"bound", *turns),
+        Line::Idle(turns) => push_count(alloc, out, b"idle", *turns),
+        Line::Ignored => push_text(out, b"ignored\n"),
+        Line::Absent => push_text(out, b"absent\n"),
+        Line::Refused(number, code) => push_refused(out, *number, *code),
+    }
+}
+
+/// Whether a line is one of the journal.
+fn is_entry(line: &Line) -> bool
+    ensures { result ≡ is_entry line.now }
+{
+    matches!(line, Line::Journal(_))
+}
+
+/// The texts of lines, one after another; where it is quiet none of the journal's own.
+pub(crate) fn push_lines(
+    alloc: Global,
+    out: &mut Vec<u8>,
+    quiet: bool,
+    lines: &[Line],
+) -> Result<(), Memory>
+    ensures { OnOk result (out.new.items ≡ out.old.items ++ text_of quiet lines.now) }
+{
+    for line in lines {
+        if !(quiet && is_entry(line)) {
+            push_line(alloc, out, line)?;
+        }
+    }
+    Ok(())
+}

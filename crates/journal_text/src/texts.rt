@@ -1,0 +1,208 @@
+//! The texts of values.
+
+ghost use Rattle.std.specs.Prelude.{◌≡◌, ◌++◌, ◌∷◌, [], List, OnOk, Option, Some, None, codes, map, cond, length};
+ghost use Rattle.std.specs.List.{flat_map};
+ghost use Rattle.std.specs.Fmt.{decimal};
+ghost use Rattle.addr4.specs.Texts.{dotted};
+ghost use Rattle.journal_text.specs.Texts.{origin_number, segment_text, path_text, lettered, aggregator_text, unrecognized_text, required_text, optional_text, attrs_text, value_text, answer_text};
+
+use crate::value::Value;
+use addr4::{Memory, push_addr, push_number};
+use bgp_attr::{Aggregator, Attrs, Origin, Segment, SegmentKind, Unrecognized};
+use std::alloc::Global;
+
+/// Appends a text.
+pub(crate) fn push_text(out: &mut Vec<u8>, text: &[u8]) -> Result<(), Memory>
+    ensures { OnOk result (out.new.items ≡ out.old.items ++ text.now) }
+{
+    out.extend_from_slice(text)?;
+    Ok(())
+}
+
+/// The decimal digits of a large number.
+pub(crate) fn push_wide(alloc: Global, out: &mut Vec<u8>, number: u128) -> Result<(), Memory>
+    ensures { OnOk result (out.new.items ≡ out.old.items ++ decimal number) }
+{
+    let text = number.to_string(alloc)?;
+    out.extend_from_slice(text.as_bytes())?;
+    Ok(())
+}
+
+fn origin_number(origin: Origin) -> u64
+    ensures { result ≡ origin_number origin }
+{
+    match origin {
+        Origin::Igp => 0,
+        Origin::Egp => 1,
+        Origin::Incomplete => 2,
+    }
+}
+
+/// Numbers with dots between them.
+fn push_dotted(out: &mut Vec<u8>, numbers: &[u32]) -> Result<(), Memory>
+    ensures { OnOk result (out.new.items ≡ out.old.items ++ dotted numbers.now) }
+{
+    for (i, number) in numbers.iter().enumerate() {
+        if i > 0 {
+            out.push(b'.')?;
+        }
+        push_number(out, u64::from(*number))?;
+    }
+    Ok(())
+}
+
+#[tactic(auto, unfolding(crate::specs::Texts::segment_text))]
+fn push_segment(out: &mut Vec<u8>, segment: &Segment) -> Result<(), Memory>
+    ensures { OnOk result (out.new.items ≡ out.old.items ++ segment_text segment.now) }
+{
+    match segment.kind {
+        SegmentKind::Sequence => {
+            out.push(b'(')?;
+            push_dotted(out, segment.numbers.as_slice())?;
+            out.push(b')')?;
+        }
+        SegmentKind::Set => {
+            out.push(b'{')?;
+            push_dotted(out, segment.numbers.as_slice())?;
+            out.push(b'}')?;
+        }
+    }
+    Ok(())
+}
+
+#[tactic(auto, unfolding(crate::specs::Texts::path_text))]
+fn push_path(out: &mut Vec<u8>, path: &[Segment]) -> Result<(), Memory>
+    ensures { OnOk result (out.new.items ≡ out.old.items ++ path_text path.now) }
+{
+    for segment in path {
+        push_segment(out, segment)?;
+    }
+    Ok(())
+}
+
+/// A comma, a letter and a number, where there is one.
+fn push_lettered(out: &mut Vec<u8>, letter: u8, number: Option<u32>) -> Result<(), Memory>
+    ensures { OnOk result (out.new.items ≡ out.old.items ++ lettered letter number) }
+{
+    if let Some(number) = number {
+        out.push(b',')?;
+        out.push(letter)?;
+        push_number(out, u64::from(number))?;
+    }
+    Ok(())
+}
+
+#[tactic(auto, unfolding(crate::specs::Texts::aggregator_text))]
+fn push_aggregator(out: &mut Vec<u8>, aggregator: Option<Aggregator>) -> Result<(), Memory>
+    ensures { OnOk result (out.new.items ≡ out.old.items ++ aggregator_text aggregator) }
+{
+    if let Some(aggregator) = aggregator {
+        push_text(out, b",g")?;
+        push_number(out, u64::from(aggregator.asn))?;
+        out.push(b'/')?;
+        push_addr(out, aggregator.addr)?;
+        if aggregator.partial {
+            out.push(b'!')?;
+        }
+    }
+    Ok(())
+}
+
+#[tactic(auto, unfolding(crate::specs::Texts::unrecognized_text))]
+fn push_unrecognized(
+    alloc: Global,
+    out: &mut Vec<u8>,
+    attribute: &Unrecognized,
+) -> Result<(), Memory>
+    ensures { OnOk result (out.new.items ≡ out.old.items ++ unrecognized_text attribute.now) }
+{
+    push_text(out, b",x")?;
+    push_number(out, u64::from(attribute.kind))?;
+    out.push(b':')?;
+    let digits = hex::encode(alloc, attribute.value.as_slice())?;
+    push_text(out, digits.as_bytes())?;
+    Ok(())
+}
+
+/// The unrecognized attributes, one after another.
+fn push_unrecognized_all(
+    alloc: Global,
+    out: &mut Vec<u8>,
+    attributes: &[Unrecognized],
+) -> Result<(), Memory>
+    ensures { OnOk result (out.new.items ≡ out.old.items ++ flat_map unrecognized_text attributes.now) }
+{
+    for attribute in attributes {
+        push_unrecognized(alloc, out, attribute)?;
+    }
+    Ok(())
+}
+
+/// Origin, path and next hop.
+#[tactic(auto, unfolding(crate::specs::Texts::required_text))]
+fn push_required(out: &mut Vec<u8>, attrs: &Attrs) -> Result<(), Memory>
+    ensures { OnOk result (out.new.items ≡ out.old.items ++ required_text attrs.now) }
+{
+    push_text(out, b"o")?;
+    push_number(out, origin_number(attrs.origin))?;
+    push_text(out, b",p")?;
+    push_path(out, attrs.path.as_slice())?;
+    push_text(out, b",n")?;
+    push_addr(out, attrs.next_hop)?;
+    Ok(())
+}
+
+/// `,a`, where it is there.
+fn push_atomic(out: &mut Vec<u8>, atomic: bool) -> Result<(), Memory>
+    ensures { OnOk result (out.new.items ≡ out.old.items ++ cond atomic (codes ",a") []) }
+{
+    if atomic {
+        push_text(out, b",a")?;
+    }
+    Ok(())
+}
+
+#[tactic(auto, unfolding(crate::specs::Texts::optional_text))]
+fn push_optional(out: &mut Vec<u8>, attrs: &Attrs) -> Result<(), Memory>
+    ensures { OnOk result (out.new.items ≡ out.old.items ++ optional_text attrs.now) }
+{
+    push_lettered(out, b'm', attrs.med)?;
+    push_lettered(out, b'l', attrs.local_pref)?;
+    push_atomic(out, attrs.atomic)?;
+    push_aggregator(out, attrs.aggregator)?;
+    Ok(())
+}
+
+/// The attributes, parted by commas.
+#[tactic(auto, unfolding(crate::specs::Texts::attrs_text))]
+fn push_attrs(alloc: Global, out: &mut Vec<u8>, attrs: &Attrs) -> Result<(), Memory>
+    ensures { OnOk result (out.new.items ≡ out.old.items ++ attrs_text attrs.now) }
+{
+    push_required(out, attrs)?;
+    push_optional(out, attrs)?;
+    push_unrecognized_all(alloc, out, attrs.unrecognized.as_slice())?;
+    Ok(())
+}
+
+/// The text of a value.
+pub(crate) fn push_value(alloc: Global, out: &mut Vec<u8>, value: &Value) -> Result<(), Memory>
+    ensures { OnOk result (out.new.items ≡ out.old.items ++ value_text value.now) }
+{
+    match value {
+        Value::Attrs(attrs) => push_attrs(alloc, out, attrs.attrs()),
+    }
+}
+
+/// The text of a value, or `-` for none.
+pub(crate) fn push_answer(
+    alloc: Global,
+    out: &mut Vec<u8>,
+    row: &Option<Value>,
+) -> Result<(), Memory>
+    ensures { OnOk result (out.new.items ≡ out.old.items ++ answer_text row.now) }
+{
+    match row {
+        Some(value) => push_value(alloc, out, value),
+        None => push_text(out, b"-"),
+    }
+}

@@ -1,0 +1,145 @@
+-- What each event does, and the lines that it gives.
+use Rattle.std.specs.Prelude.{◌≡◌, ℕ, ◌+◌, ◌≤◌, ◌⊎◌, Bool, true, false, List, [], ◌∷◌, ◌++◌, map, length, Contains, Option, Some, None, IsSome}
+use Rattle.std.specs.List.{AllByRecursion}
+use Rattle.std.specs.List.Sorted.{IsStrictlySortedBy}
+use Rattle.addr4.specs.Prefixes.{Network, prefix_cmp}
+use Rattle.bgp_attr.specs.declared.speaker.Speaker.{Speaker}
+use Rattle.link_change.specs.Rows.{Rows}
+use Rattle.bgp_wire.specs.declared.message.Message.{Message}
+use Rattle.bgp_wire.specs.declared.message.Message.TheVariants as messages
+use Rattle.bgp_wire.specs.Spelling.{notification_octets}
+use Rattle.journal_text.specs.declared.link.Link.{Link}
+use Rattle.journal_text.specs.declared.link.Link.TheVariants.{In}
+use Rattle.journal_text.specs.declared.link.Task.{Task}
+use Rattle.journal_text.specs.declared.value.Value.{Value}
+use Rattle.journal_text.specs.declared.entry.Entry.TheVariants as entries
+use Rattle.journal_text.specs.declared.line.Line.{Line}
+use Rattle.journal_text.specs.declared.line.Line.TheVariants as lines
+use Rattle.journal_text.specs.Walk.{Leads}
+use Rattle.journal_text.specs.Texts.{entries_of}
+use Rattle.event_text.specs.declared.event.Event.{Event}
+use Rattle.event_text.specs.declared.event.Event.TheVariants.{Nothing, Local, Peer, Up, Down, Bgp, Idle, Work, Ask, Show}
+use Rattle.event_text.specs.declared.declared.DeclaredPeer.{DeclaredPeer}
+use Rattle.event_text.specs.Declarations.{peer_at, with_speaker, with_peer, with_session, without_session}
+use Rattle.in_chain.specs.Chains.{Chained}
+use Rattle.in_chain.specs.Steps.{new_chain, lost, loss_entries, overdue_of}
+use Rattle.router_core.specs.Moments.{Moment, chain_at, insert_chain, with_chain, router_links, bound_of}
+use Rattle.router_core.specs.Lives.{LiveAfter, live_state, changes_of, Says}
+use Rattle.router_core.specs.Stands.{IsSettled}
+use Rattle.router_core.specs.Turns.{journal_lines, FeedsAll, Turns, Drains, DrainsAll, deletion_tasks, has_work}
+
+-- exactly this is said, this is the moment after it, and no turn was taken
+abbrev pub Just : List Line → Moment → List Line → ℕ → Moment → Type 0
+Just these then said turns m' = (said ≡ these) × (turns ≡ 0) × (m' ≡ then)
+
+abbrev pub declared_speaker : Moment → Speaker → Moment
+declared_speaker m words = record { declared = with_speaker m.declared words; chains = m.chains }
+
+abbrev pub declared_peer : Moment → ℕ → Speaker → Moment
+declared_peer m k words = record { declared = with_peer m.declared k words; chains = insert_chain (new_chain k) m.chains }
+
+abbrev pub begun : Moment → ℕ → Moment
+begun m k = record { declared = with_session m.declared k; chains = m.chains }
+
+abbrev pub ended : Moment → ℕ → Moment
+ended m k = record { declared = without_session m.declared k; chains = m.chains }
+
+-- the stage that has to go first runs to its end, if there is one
+abbrev pub RunsFirst : Option Task → Moment → List Line → Moment → Type 0
+RunsFirst None m said m' = (said ≡ []) × (m' ≡ m)
+RunsFirst (Some task) m said m' = (turns : ℕ) × Drains task m said turns m'
+
+-- Session s of peer k is lost: where 16 deletion stages stand and the routes to be lost are some, the oldest stage runs to its
+-- end first; then the routes go to a stage of their own.
+pub record Loses (k s : ℕ) (m : Moment) (said : List Line) (m' : Moment) : Type 0 where
+  pub before : Chained
+  pub at : chain_at k m.chains ≡ Some before
+  pub first : List Line
+  pub room : Moment
+  pub runs : RunsFirst (overdue_of before) m first room
+  pub chain : Chained
+  pub there : chain_at k room.chains ≡ Some chain
+  pub lines : said ≡ first ++ journal_lines (loss_entries s chain)
+  pub after : m' ≡ ended (with_chain room (lost s chain)) k
+
+-- a NOTIFICATION is sent, and the session is lost
+abbrev pub Notifies : ℕ → ℕ → List ℕ → Moment → List Line → Moment → Type 0
+Notifies k s octets m said m' = (rest : List Line) × (said ≡ lines.Note k octets ∷ rest) × Loses k s m rest m'
+
+-- a message came from a peer that is up
+abbrev pub Hears : ℕ → DeclaredPeer → Moment → Message → List Line → Moment → Type 0
+Hears k p m (messages.Update u) said m' = FeedsAll k (changes_of u) m said m'
+Hears k p m messages.Keepalive said m' = (said ≡ []) × (m' ≡ m)
+Hears k p m messages.Skip said m' = (said ≡ []) × (m' ≡ m)
+Hears k p m messages.Notification said m' = Loses k p.session m said m'
+Hears k p m (messages.Notify n) said m' = Notifies k p.session (notification_octets n.code n.subcode n.octets) m said m'
+
+-- by whether the peer is up
+abbrev pub BeginsIf : Bool → Moment → ℕ → List Line → ℕ → Moment → Type 0
+BeginsIf true m k said turns m' = Just (lines.Ignored ∷ []) m said turns m'
+BeginsIf false m k said turns m' = Just [] (begun m k) said turns m'
+
+abbrev pub EndsIf : Bool → Moment → ℕ → DeclaredPeer → List Line → ℕ → Moment → Type 0
+EndsIf false m k p said turns m' = Just (lines.Ignored ∷ []) m said turns m'
+EndsIf true m k p said turns m' = (turns ≡ 0) × Loses k p.session m said m'
+
+abbrev pub HearsIf : Bool → Moment → ℕ → DeclaredPeer → List ℕ → List Line → ℕ → Moment → Type 0
+HearsIf false m k p octets said turns m' = Just (lines.Ignored ∷ []) m said turns m'
+HearsIf true m k p octets said turns m' = (turns ≡ 0) × ((message : Message) × Says p octets message × Hears k p m message said m')
+
+-- the answer of a lookup
+abbrev pub answer_lines : Link → Network → Option (Rows Value) → List Line
+answer_lines link p None = lines.Absent ∷ []
+answer_lines link p (Some rows) = lines.Journal (entries.Asked link p (rows p)) ∷ []
+
+-- all rows of a link, by prefix
+pub record AreRows (rows : Rows Value) (listed : List (Network × Value)) : Type 0 where
+  pub order : IsStrictlySortedBy prefix_cmp (map (λ r. r.0) listed)
+  pub each : AllByRecursion (λ r. rows r.0 ≡ Some r.1) listed
+  pub all : (q : Network) → IsSome (rows q) → Contains (map (λ r. r.0) listed) q
+
+abbrev pub Shows : Link → Option (Rows Value) → List Line → Type 0
+Shows link None said = said ≡ lines.Absent ∷ []
+Shows link (Some rows) said =
+    (listed : List (Network × Value)) × AreRows rows listed
+    × (said ≡ map (λ r. lines.Row link r.0 r.1) listed ++ lines.Rows link (length listed) ∷ [])
+
+-- so many turns, at most n, and fewer only where the task then has no work
+pub record Works (task : Task) (n : ℕ) (m : Moment) (said : List Line) (turns : ℕ) (m' : Moment) : Type 0 where
+  pub inner : List Line
+  pub taken : Turns turns task m inner m'
+  pub most : turns ≤ n
+  pub ended : (turns ≡ n) ⊎ (has_work task m' ≡ false)
+  pub lines : said ≡ inner ++ lines.Work turns ∷ []
+
+-- every task runs to its end, within the number of turns that is announced
+pub record Idles (m : Moment) (said : List Line) (turns : ℕ) (m' : Moment) : Type 0 where
+  pub inner : List Line
+  pub drains : DrainsAll (deletion_tasks m) m inner turns m'
+  pub lines : said ≡ lines.Bound (bound_of m) ∷ (inner ++ lines.Idle turns ∷ [])
+  pub within : turns ≤ bound_of m
+  pub settled : IsSettled m'
+
+-- what a declared peer's event does
+abbrev pub ByPeer : (DeclaredPeer → Type 0) → Option DeclaredPeer → Type 0
+ByPeer P None = ⊥
+ByPeer P (Some p) = P p
+
+abbrev pub IsBlock : Moment → Event → List Line → ℕ → Moment → Type 0
+IsBlock m Nothing said turns m' = Just [] m said turns m'
+IsBlock m (Local words) said turns m' = Just [] (declared_speaker m words) said turns m'
+IsBlock m (Peer k words) said turns m' = Just (lines.Journal (entries.Begin (In k)) ∷ []) (declared_peer m k words) said turns m'
+IsBlock m (Up k) said turns m' = ByPeer (λ p. BeginsIf p.up m k said turns m') (peer_at k m.declared.peers)
+IsBlock m (Down k) said turns m' = ByPeer (λ p. EndsIf p.up m k p said turns m') (peer_at k m.declared.peers)
+IsBlock m (Bgp k octets) said turns m' = ByPeer (λ p. HearsIf p.up m k p octets said turns m') (peer_at k m.declared.peers)
+IsBlock m Idle said turns m' = Idles m said turns m'
+IsBlock m (Work task n) said turns m' = Works task n m said turns m'
+IsBlock m (Ask link p) said turns m' = Just (answer_lines link p (router_links m link)) m said turns m'
+IsBlock m (Show link) said turns m' = (turns ≡ 0) × (m' ≡ m) × Shows link (router_links m link) said
+
+-- An event was stepped: its lines are as its block says, its entries obey the rules of the journal and lead from the links
+-- before it to those after it, and the live state is what the events alone make of it.
+pub record Acts (m : Moment) (event : Event) (turns : ℕ) (m' : Moment) (said : List Line) : Type 0 where
+  pub block : IsBlock m event said turns m'
+  pub leads : Leads (router_links m) (entries_of said) (router_links m')
+  pub live : LiveAfter (live_state m) event (live_state m')

@@ -1,0 +1,5 @@
+pub mod Moments
+pub mod Lives
+pub mod Stands
+pub mod Turns
+pub mod Blocks

@@ -1,0 +1,111 @@
+-- The live state: what the events alone make of the declarations, the sessions and each peer's live routes, whatever work was
+-- done or not.
+use Rattle.std.specs.Prelude.{◌≡◌, ℕ, ◌==◌, nat_lt, Bool, true, false, not, if◌then◌else◌, List, [], ◌∷◌, ◌++◌, map, filter, Option, Some, None}
+use Rattle.std.specs.List.{list_any}
+use Rattle.std.specs.FinMap as tables
+use Rattle.std.specs.FinMap.{FinMap}
+use Rattle.addr4.specs.Prefixes.{Network, prefix_cmp, same_prefix}
+use Rattle.bgp_attr.specs.declared.attrs.Attrs.{Attrs}
+use Rattle.bgp_attr.specs.declared.speaker.Profile.{Profile}
+use Rattle.bgp_wire.specs.declared.message.Update.{Update}
+use Rattle.bgp_wire.specs.declared.message.Message.{Message}
+use Rattle.bgp_wire.specs.declared.message.Message.TheVariants as messages
+use Rattle.bgp_wire.specs.Grammar.{without, Answers}
+use Rattle.event_text.specs.declared.event.Event.{Event}
+use Rattle.event_text.specs.declared.event.Event.TheVariants.{Nothing, Local, Peer, Up, Down, Bgp, Idle, Work, Ask, Show}
+use Rattle.event_text.specs.declared.declared.DeclaredPeer.{DeclaredPeer}
+use Rattle.event_text.specs.Declarations.{Declaration, no_declaration, peer_at, with_speaker, with_peer, with_session, without_session}
+use Rattle.in_chain.specs.Chains.{Chained}
+use Rattle.in_chain.specs.Steps.{live_after}
+use Rattle.router_core.specs.Moments.{Moment, chain_at}
+
+abbrev pub Routes : Type 0
+Routes = FinMap prefix_cmp Attrs
+
+pub record LiveState : Type 0 where
+  pub declared : Declaration
+  pub routes : ℕ → Routes
+
+abbrev pub first_live : LiveState
+first_live = record { declared = no_declaration; routes = λ k. tables.empty }
+
+-- 224.0.0.0 is where the addresses of no host begin
+abbrev pub is_host_prefix : Network → Bool
+is_host_prefix p = nat_lt p.address 3758096384
+
+-- an announced prefix with its attributes
+abbrev pub announced_with : Option Attrs → Network → Network × Option Attrs
+announced_with attrs p = (p, attrs)
+
+abbrev pub withdrawn_from : Network → Network × Option Attrs
+withdrawn_from p = (p, None)
+
+-- What an UPDATE does, prefix by prefix (RFC 4271, section 3.1): first it withdraws the withdrawn prefixes that it doesn't
+-- announce, then it announces those of hosts (none covered by 224.0.0.0/3).
+abbrev pub changes_of : Update → List (Network × Option Attrs)
+changes_of u = map withdrawn_from (without u.announced u.withdrawn) ++ map (announced_with u.attrs) (filter is_host_prefix u.announced)
+
+abbrev pub routes_after : Routes → List (Network × Option Attrs) → Routes
+routes_after routes [] = routes
+routes_after routes (c ∷ cs) = routes_after (live_after routes c.0 c.1) cs
+
+-- the routes of one peer become these
+abbrev pub with_routes : (ℕ → Routes) → ℕ → Routes → ℕ → Routes
+with_routes all k routes j = if j == k then routes else all j
+
+-- a session ends, and its routes with it
+abbrev pub ended : LiveState → ℕ → LiveState
+ended l k = record { declared = without_session l.declared k; routes = with_routes l.routes k tables.empty }
+
+-- a message came from a peer that is up
+abbrev pub heard : LiveState → ℕ → Message → LiveState
+heard l k (messages.Update u) = record { declared = l.declared; routes = with_routes l.routes k (routes_after (l.routes k) (changes_of u)) }
+heard l k messages.Keepalive = l
+heard l k messages.Skip = l
+heard l k messages.Notification = ended l k
+heard l k (messages.Notify n) = ended l k
+
+-- AS numbers have two octets, and errors are handled by RFC 4271, section 6.3
+abbrev pub plain : Profile
+plain = record { as4 = false; revised = false }
+
+-- what octets from a peer say
+abbrev pub Says : DeclaredPeer → List ℕ → Message → Type 0
+Says p octets message = Answers plain (not p.words.internal) octets message
+
+abbrev pub HearsIfUp : LiveState → ℕ → DeclaredPeer → List ℕ → Bool → LiveState → Type 0
+HearsIfUp l k p octets false l' = l' ≡ l
+HearsIfUp l k p octets true l' = (message : Message) × Says p octets message × (l' ≡ heard l k message)
+
+abbrev pub HearsFrom : LiveState → ℕ → Option DeclaredPeer → List ℕ → LiveState → Type 0
+HearsFrom l k None octets l' = ⊥
+HearsFrom l k (Some p) octets l' = HearsIfUp l k p octets p.up l'
+
+abbrev pub begun_if_down : LiveState → ℕ → Option DeclaredPeer → LiveState
+begun_if_down l k None = l
+begun_if_down l k (Some p) = if p.up then l else record { declared = with_session l.declared k; routes = l.routes }
+
+abbrev pub ended_if_up : LiveState → ℕ → Option DeclaredPeer → LiveState
+ended_if_up l k None = l
+ended_if_up l k (Some p) = if p.up then ended l k else l
+
+-- the live state after an event
+abbrev pub LiveAfter : LiveState → Event → LiveState → Type 0
+LiveAfter l Nothing l' = l' ≡ l
+LiveAfter l (Local words) l' = l' ≡ record { declared = with_speaker l.declared words; routes = l.routes }
+LiveAfter l (Peer k words) l' = l' ≡ record { declared = with_peer l.declared k words; routes = l.routes }
+LiveAfter l (Up k) l' = l' ≡ begun_if_down l k (peer_at k l.declared.peers)
+LiveAfter l (Down k) l' = l' ≡ ended_if_up l k (peer_at k l.declared.peers)
+LiveAfter l (Bgp k octets) l' = HearsFrom l k (peer_at k l.declared.peers) octets l'
+LiveAfter l Idle l' = l' ≡ l
+LiveAfter l (Work task n) l' = l' ≡ l
+LiveAfter l (Ask link p) l' = l' ≡ l
+LiveAfter l (Show link) l' = l' ≡ l
+
+-- what is live in a chain
+abbrev pub routes_of : Option Chained → Routes
+routes_of None = tables.empty
+routes_of (Some c) = c.live
+
+abbrev pub live_state : Moment → LiveState
+live_state m = record { declared = m.declared; routes = λ k. routes_of (chain_at k m.chains) }

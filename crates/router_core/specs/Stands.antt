@@ -1,0 +1,45 @@
+-- What holds between two steps.
+use Rattle.std.specs.Prelude.{◌≡◌, ℕ, ◌≤◌, ◌<◌, length, Bool, true, false, List, [], ◌∷◌, Option, Some, None}
+use Rattle.std.specs.List.{AllByRecursion}
+use Rattle.std.specs.FinMap as tables
+use Rattle.event_text.specs.declared.declared.DeclaredPeer.{DeclaredPeer}
+use Rattle.event_text.specs.Declarations.{peer_at}
+use Rattle.in_chain.specs.Chains.{Chained, IsChain, NoneEmpty}
+use Rattle.router_core.specs.Moments.{Moment, chain_at}
+
+-- a session was lost before this one: before the present one where the peer is up
+abbrev pub IsEarlier : DeclaredPeer → Bool → ℕ → Type 0
+IsEarlier p true session = session < p.session
+IsEarlier p false session = session ≤ p.session
+
+abbrev pub IsSilent : Bool → Chained → Type 0
+IsSilent true c = Unit {0}
+IsSilent false c = c.live ≡ tables.empty
+
+-- A peer and its chain: its lost tables are apart from each other and from the live routes, none is empty, at most 16 stand,
+-- each of an earlier session; where the peer is down nothing is live.
+pub record PeerStands (p : DeclaredPeer) (c : Chained) : Type 0 where
+  pub chain : IsChain c
+  pub full : NoneEmpty c.deletions
+  pub few : length c.deletions ≤ 16
+  pub earlier : AllByRecursion (λ d. IsEarlier p p.up d.number) c.deletions
+  pub silent : IsSilent p.up c
+
+-- exactly the declared peers have chains
+abbrev pub StandsAt : Option DeclaredPeer → Option Chained → Type 0
+StandsAt None None = Unit {0}
+StandsAt (Some p) (Some c) = PeerStands p c
+StandsAt p c = ⊥
+
+-- the chains stand by ascending number
+abbrev pub AreInOrder : List Chained → Type 0
+AreInOrder [] = Unit {0}
+AreInOrder (c ∷ cs) = AllByRecursion (λ d. c.number < d.number) cs × AreInOrder cs
+
+pub record Stands (m : Moment) : Type 0 where
+  pub order : AreInOrder m.chains
+  pub peers : (k : ℕ) → StandsAt (peer_at k m.declared.peers) (chain_at k m.chains)
+
+-- no deletion stage stands, so `in.K` of each peer has exactly its live routes
+abbrev pub IsSettled : Moment → Type 0
+IsSettled m = AllByRecursion (λ c. c.deletions ≡ []) m.chains

@@ -1,0 +1,109 @@
+//! The router's state.
+
+ghost use Rattle.std.specs.Prelude.{◌≡◌, ◌≤◌, ◌+◌, ◌<◌, ℕ, true, false, OnOk, OnErr, IfOk, IsErr, Some};
+ghost use Rattle.journal_text.specs.declared.line.Line.{Line};
+ghost use Rattle.journal_text.specs.Walk.{Leads};
+ghost use Rattle.event_text.specs.declared.event.Event.TheVariants as events;
+ghost use Rattle.event_text.specs.Declarations.{refusal};
+ghost use Rattle.router_core.specs.Moments.{first_moment, chain_at, Gives};
+ghost use Rattle.router_core.specs.Stands.{Stands};
+ghost use Rattle.router_core.specs.Turns.{has_work};
+ghost use Rattle.router_core.specs.Blocks.{Acts};
+
+use addr4::Memory;
+use event_text::{Declared, Event};
+use in_chain::Chain;
+use journal_text::{Journal, Link, Task};
+use std::alloc::Global;
+use std::marker::Model;
+
+/// What a turn of a task came to.
+#[derive(Clone, Copy, Debug, PartialEq, Eq)]
+pub enum Done {
+    /// The task has no work.
+    Nothing,
+    Taken,
+}
+
+/// What an idle announced, and what it took.
+#[derive(Clone, Copy, Debug, PartialEq, Eq)]
+pub struct Idle {
+    pub bound: u128,
+    pub turns: u128,
+}
+
+/// The phases of an idle, in their order.
+#[derive(Clone, Copy, Debug, PartialEq, Eq)]
+pub enum Phase {
+    /// The deletion stages of lost sessions.
+    Del,
+}
+
+#[derive(Drop)]
+pub struct Core {
+    declared: Declared,
+    chains: Vec<Chain>,
+    events: u64,
+    failed: bool,
+}
+
+impl Model for Core {
+    ghost use Rattle.router_core.specs.Moments.{Cored, cored_code};
+    ghost use Rattle.event_text.specs.Declarations.{declaration_code};
+    ghost use Rattle.event_text.specs.contracts.declared.DeclaredPeer as peer_row;
+    ghost use Rattle.bgp_attr.specs.contracts.speaker.Speaker as speaker_row;
+    ghost use Rattle.bgp_attr.specs.contracts.attrs.Attrs as attrs_row;
+    ghost use Rattle.in_chain.specs.Chains.{chained_code};
+
+    ghost Value = { Cored };
+
+    ghost coded = { cored_code (declaration_code speaker_row.the_row.coded peer_row.the_row.coded) (chained_code attrs_row.the_row.coded) };
+
+    ghost view = { λ c. record { moment = record { declared = c.declared; chains = c.chains.items }; events = c.events; failed = c.failed } };
+}
+
+impl Core {
+    /// Nothing is declared, and no link is live. Takes no memory.
+    pub fn new(alloc: Global) -> Core
+        ensures value { result ≡ record { moment = first_moment; events = 0; failed = false } }
+        ensures stands { Stands result.moment }
+    {
+        Core {
+            declared: Declared::new(alloc),
+            chains: Vec::new(alloc),
+            events: 0,
+            failed: false,
+        }
+    }
+
+    /// What was declared.
+    pub fn declared(&self) -> &Declared
+        ensures { result.now ≡ self.now.moment.declared }
+    {
+        &self.declared
+    }
+
+    /// How many events were stepped.
+    pub fn events(&self) -> u64
+        ensures { result ≡ self.now.events }
+    {
+        self.events
+    }
+
+    /// Steps an event: its lines go into the text of the journal. Answers how many turns `work` or `idle` took, and 0 for
+    /// other events. After want of memory the core answers nothing else.
+    pub fn step(&mut self, event: Event, journal: &mut Journal) -> Result<u128, Memory>
+        requires admitted { refusal self.old.moment.declared event ≡ None }
+        requires few { self.old.events < 4294967295 }
+        requires stands { self.old.failed ≡ false → Stands self.old.moment }
+        ensures acts { IfOk result (λ turns. Gives (Acts self.old.moment event turns self.new.moment) journal.old journal.new) }
+        ensures stands { OnOk result (Stands self.new.moment) }
+        ensures events { OnOk result (self.new.events ≡ self.old.events + 1) }
+        ensures good { OnOk result (self.new.failed ≡ false) }
+        ensures memory { OnErr result (self.new.failed ≡ true) }
+        ensures stays { self.old.failed ≡ true → IsErr result }
+    {
+        self.failed = true;
+        Err(Memory)
+    }
+}
