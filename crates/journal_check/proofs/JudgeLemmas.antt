@@ -6,8 +6,8 @@ use Rattle.std.specs.FinMap as map
 use Rattle.journal_text.specs.Walk.{Links, Demands, IsLawful, after, fold_links, no_links}
 use Rattle.journal_check.specs.Maps.{links_of}
 use Rattle.journal_check.specs.Readings.{TextEntry, reading_of}
-use Rattle.journal_check.specs.Judged.{rule_of, entries_in, joined, each_read, entries_read, IsReached, IsBrokenAt, IsNotAJournalAt, IsLawfulJournal, IsChecked}
-use Rattle.journal_check.specs.Walked.{Walked, IsKept, IsAfter, Judges, Takes, Steps}
+use Rattle.journal_check.specs.Judged.{rule_of, entries_in, joined, each_read, entries_read, IsReached, IsLawfulJournal, IsChecked}
+use Rattle.journal_check.specs.Walked.{Walked, IsAfter, Takes, Steps}
 use Rattle.journal_check.specs.declared.reading.Reading.{Reading}
 use Rattle.journal_check.specs.declared.reading.Reading.TheVariants.{Skipped, Read, NotALine}
 use Rattle.journal_check.specs.declared.checked.Checked.{Checked}
@@ -16,10 +16,10 @@ use Rattle.journal_check.proofs.StepLemmas.{links_begin}
 
 -- ---- entries of lines
 
-same_entries : (es fs : List TextEntry) → Some es ≡ Some fs → es ≡ fs
+pub same_entries : (es fs : List TextEntry) → Some es ≡ Some fs → es ≡ fs
 same_entries es fs e = cc
 
-parts_of : (a b : Option (List TextEntry)) (es : List TextEntry) → joined a b ≡ Some es → (xs : List TextEntry) × (ys : List TextEntry) × (a ≡ Some xs) × (b ≡ Some ys) × (xs ++ ys ≡ es)
+pub parts_of : (a b : Option (List TextEntry)) (es : List TextEntry) → joined a b ≡ Some es → (xs : List TextEntry) × (ys : List TextEntry) × (a ≡ Some xs) × (b ≡ Some ys) × (xs ++ ys ≡ es)
 parts_of None b es e = absurd (cc)
 parts_of (Some xs) None es e = absurd (cc)
 parts_of (Some xs) (Some ys) es e = (xs, ys, refl, refl, same_entries (xs ++ ys) es e)
@@ -36,7 +36,7 @@ chosen : {A : Type 0} (b : Bool) (r : Option A) (x : A) → cond b r None ≡ So
 chosen true r x e = (refl, e)
 chosen false r x e = absurd (cc)
 
-entries_few : (lines : List (List ℕ)) (es : List TextEntry) → entries_read lines ≡ Some es → (nat_lt (length lines) 4294967296 ≡ true) × (each_read lines ≡ Some es)
+pub entries_few : (lines : List (List ℕ)) (es : List TextEntry) → entries_read lines ≡ Some es → (nat_lt (length lines) 4294967296 ≡ true) × (each_read lines ≡ Some es)
 unfolding entries_read
 entries_few lines es reads = chosen (nat_lt (length lines) 4294967296) (each_read lines) es reads
 

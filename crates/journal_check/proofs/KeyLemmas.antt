@@ -1,19 +1,13 @@
 -- The keys of links.
-use Rattle.std.proofs.Common.{◌≡◌, ℕ, ◌&&◌, Bool, true, false, cond, nat_eq, Option, Some, None, option_map, refl, sym, ap, ◌∙◌}
+use Rattle.std.proofs.Common.{ℕ, ap}
 use Rattle.std.specs.Ordering.{nat_cmp, ordering_then}
 use Rattle.std.specs.declared.cmp.Ordering.{Ordering}
-use Rattle.std.specs.declared.cmp.Ordering.TheVariants.{Less, Equal, Greater}
 use Rattle.std.specs.Cmp.{IsTotalOrder, nat_cmp_total}
-use Rattle.std.specs.FinMap as map
-use Rattle.std.specs.FinMap.{IsAntisymmetric, get-insert, get-remove, get-empty}
+use Rattle.std.specs.FinMap.{IsAntisymmetric}
 use Rattle.std.proofs.lemmas.Cmp.{on_total, then_total}
 use Rattle.std.proofs.lemmas.Map.Lookups.{exact_pairs, exact_unsigned}
-use Rattle.link_change.proofs.RowLemmas.{same_function}
-use Rattle.journal_text.specs.Links.{same_link}
-use Rattle.journal_text.specs.Walk.{Links, no_links, with_link}
-use Rattle.journal_text.specs.declared.link.Link.{Link}
 use Rattle.journal_check.specs.declared.links.Key.{Key}
-use Rattle.journal_check.specs.Maps.{key_of, key_cmp, LinkMap, RowMap, links_of}
+use Rattle.journal_check.specs.Maps.{key_cmp}
 
 pub keys_total : IsTotalOrder key_cmp
 keys_total = then_total (on_total (λ (k : Key). k.kind) nat_cmp_total) (then_total (on_total (λ (k : Key). k.owner) nat_cmp_total) (on_total (λ (k : Key). k.number) nat_cmp_total))

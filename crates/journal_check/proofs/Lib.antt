@@ -8,3 +8,4 @@ pub mod JudgeLemmas
 pub mod InkLemmas
 pub mod PrefixBack
 pub mod LineBack
+pub mod OneAnswer

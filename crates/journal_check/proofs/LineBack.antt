@@ -1,5 +1,5 @@
 -- A printed line is read back.
-use Rattle.std.proofs.Common.{◌≡◌, ℕ, ◌+◌, ◌^◌, ◌<◌, ◌≤◌, ◌&&◌, Bool, true, false, cond, nat_le, nat_eq, ◌||◌, List, [], ◌∷◌, ◌++◌, length, Option, Some, None, option_map, refl, sym, ap, subst, ◌∙◌, arith, codes}
+use Rattle.std.proofs.Common.{◌≡◌, ℕ, ◌≤◌, ◌&&◌, Bool, true, false, cond, nat_le, nat_eq, ◌||◌, List, [], ◌∷◌, ◌++◌, length, Option, Some, None, option_map, refl, sym, ap, ◌∙◌, arith, codes}
 use Rattle.std.proofs.lemmas.Bool.Decides.{nat_tests}
 use Rattle.std.proofs.lemmas.List.{append_cancel_right}
 use Rattle.std.specs.List.{AllByRecursion, list_all, join_with_byte, flat_map}
@@ -34,7 +34,7 @@ use Rattle.journal_text.proofs.ReadBack.{link_back}
 use Rattle.journal_check.specs.declared.reading.Reading.{Reading}
 use Rattle.journal_check.specs.declared.reading.Reading.TheVariants.{Skipped, Read, NotALine}
 use Rattle.journal_check.specs.Readings.{TextEntry, ◌>>=◌, is_clean, printed_prefix, value_of, answer_of, entry_of_two, entry_on_two, entry_of_three, entry_on_row, entry_of_four, entry_of_five, entry_from, is_skipped, read_or_not, reading_from, reading_of}
-use Rattle.journal_check.specs.Laws.{IsPrefix, AreOctets, IsNumberIfAny, HasNumbers, HasNumber, HasOctets, HasRanges, IsValue, IsAnswer, IsEntry, IsLine, texts_of, said, PrintedLinesAreReadBack}
+use Rattle.journal_check.specs.Laws.{IsPrefix, IsNumberIfAny, HasNumbers, HasNumber, HasOctets, HasRanges, IsValue, IsAnswer, IsEntry, IsLine, texts_of, said, PrintedLinesAreReadBack}
 use Rattle.journal_check.proofs.InkLemmas.{IsInk, AreInk, all_append, all_flat, inky, ink_by, ink_decimal, ink_wide, ink_dotted, ink_hex, printable, words_parted, line_passes}
 use Rattle.journal_check.proofs.PrefixBack.{ink_addr, ink_prefix, printed_back}
 

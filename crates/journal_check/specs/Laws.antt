@@ -1,4 +1,4 @@
--- Printed lines are read back.
+-- Laws of the judge: printed lines are read back, and there is one answer.
 use Rattle.std.specs.Prelude.{◌≡◌, ℕ, ◌^◌, ◌<◌, ◌≤◌, List, [], ◌∷◌, ◌++◌, length, Option, Some, None, option_map}
 use Rattle.std.specs.List.{AllByRecursion}
 use Rattle.addr4.specs.Prefixes.{Network, IsMasked}
@@ -15,6 +15,8 @@ use Rattle.journal_text.specs.declared.entry.Entry.TheVariants.{Begin, Inherit, 
 use Rattle.journal_text.specs.declared.line.Line.{Line}
 use Rattle.journal_text.specs.declared.line.Line.TheVariants.{Journal, Note, Row, Rows, Work, Bound, Idle, Ignored, Absent, Refused}
 use Rattle.journal_check.specs.Readings.{TextEntry, reading_of}
+use Rattle.journal_check.specs.Judged.{IsChecked}
+use Rattle.journal_check.specs.declared.checked.Checked.{Checked}
 use Rattle.journal_check.specs.declared.reading.Reading.{Reading}
 use Rattle.journal_check.specs.declared.reading.Reading.TheVariants.{Skipped, Read}
 
@@ -108,3 +110,7 @@ said (Refused number code) = Skipped
 -- A line that the program prints, of at most 65,536 bytes without its LF, is read as what it says.
 abbrev pub PrintedLinesAreReadBack : Type 0
 PrintedLinesAreReadBack = (line : Line) (text : List ℕ) → IsLine line → line_text line ≡ text ++ 10 ∷ [] → length text ≤ 65536 → reading_of text ≡ said line
+
+-- One thing alone is to be said of the lines of a journal.
+abbrev pub OneAnswer : Type 0
+OneAnswer = (lines : List (List ℕ)) (a b : Checked) → IsChecked lines a → IsChecked lines b → a ≡ b

@@ -59,7 +59,7 @@ fn as_printed(alloc: Global, word: &[u8], p: Prefix) -> Result<Option<Prefix>, M
     ensures { IfOk result (λ r. r ≡ as_printed word.now p) }
 {
     let mut text = Vec::new(alloc);
-    push_prefix(alloc, &mut text, p)?;
+    push_prefix(&mut text, p)?;
     if word == text.as_slice() {
         Ok(Some(p))
     } else {

@@ -1,7 +1,7 @@
-use Rattle.std.proofs.Common.{ap, sym, ◌∙◌}
+use Rattle.std.proofs.Common.{ap, ◌∙◌}
 use Rattle.std.specs.FinMap as map
 use Rattle.addr4.proofs.PrefixOrder.{prefixes_total, exact_prefixes}
-use Rattle.journal_check.proofs.MapLemmas.{map_read, map_removed}
+use Rattle.journal_check.proofs.MapLemmas.{map_removed}
 use Rattle.journal_check.proofs.rows.TextRows.take.Goals as goal
 
 pub returns : goal.returns

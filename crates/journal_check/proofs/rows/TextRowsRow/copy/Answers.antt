@@ -1,5 +1,5 @@
-use Rattle.std.proofs.Common.{◌≡◌, map, rules, ap, sym, ◌∙◌}
-use Rattle.std.specs.FinMap.{insert, empty, from_entries}
+use Rattle.std.proofs.Common.{◌≡◌, map, rules, ap, ◌∙◌}
+use Rattle.std.specs.FinMap.{empty}
 use Rattle.std.specs.Map.Iter.{deref_pair}
 use Rattle.std.proofs.lemmas.Map.Iter.{iter_end}
 use Rattle.std.proofs.lemmas.List.{map-append}

@@ -1,6 +1,5 @@
-use Rattle.std.proofs.Common.{◌≡◌, sym, ap, subst, ◌∙◌, ◌++◌, ◌∷◌, []}
+use Rattle.std.proofs.Common.{sym, ap, subst, ◌∙◌, ◌++◌, ◌∷◌, []}
 use Rattle.journal_check.specs.Walked.{Walked, IsAfter}
-use Rattle.journal_check.specs.declared.checked.Checked.TheVariants.{Lawful}
 use Rattle.journal_check.proofs.JudgeLemmas.{after_step, after_decided}
 use Rattle.journal_check.proofs.walk.Walk.check.Goals as goal
 use Rattle.journal_check.proofs.walk.Walk.check.Goals.{in-Lawful+in_ok-step-in-Lawful, in-Broken, in-NotAJournal}
