@@ -16,3 +16,4 @@ pub mod SpellingLemmas
 pub mod TypeLaws
 pub mod ReadableLaws
 pub mod ReadableMessages
+pub mod JudgedTypes

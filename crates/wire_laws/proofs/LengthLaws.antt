@@ -12,9 +12,7 @@ use Rattle.bgp_attr.specs.declared.attrs.Attrs.{Attrs}
 use Rattle.bgp_attr.specs.declared.path.Segment.{Segment}
 use Rattle.bgp_attr.specs.declared.speaker.Profile.{Profile}
 use Rattle.bgp_attr.specs.declared.unrecognized.Unrecognized.{Unrecognized}
-use Rattle.bgp_wire.specs.declared.attributes.TypeRule.{TypeRule}
-use Rattle.bgp_wire.specs.declared.attributes.Verdict.{Verdict}
-use Rattle.bgp_wire.specs.declared.attributes.Verdict.TheVariants.{Keep, Discard, Withdraw}
+use Rattle.bgp_wire.proofs.JudgedTypes.{TypeRule, Verdict, each_verdict}
 use Rattle.bgp_wire.specs.Paths.{width_of, IsPath}
 use Rattle.bgp_wire.specs.Attributes.{Attribute, IsAttribute, AreAttributes, kept_by, rule_of}
 use Rattle.bgp_wire.specs.Routes.{kept_of, number_of, code_of_origin, aggregator_of, AreAttrs}
@@ -107,12 +105,8 @@ total_read p external seen bytes [] runs are octets = omega arith
 total_read p external seen bytes ((b, v) ∷ steps) runs are octets =
     let parts = every_octet b.octets are.0 (subst Octets are.1 octets) in
     let later = total_read p external (seen ++ b.kind ∷ []) are.0 steps runs are.4 parts.1 in
-    by_verdict v (omega (arith, least_read b are.2 parts.0, later, ap length are.1, length-append b.octets are.0))
-  where
-    by_verdict : (v : Verdict) → least b + total (kept_by steps runs).0 ≤ length bytes → total (kept_by ((b, v) ∷ steps) runs).0 ≤ length bytes
-    by_verdict Keep le = le
-    by_verdict Discard le = omega arith
-    by_verdict Withdraw le = omega arith
+    let all : least b + total (kept_by steps runs).0 ≤ length bytes = omega (arith, least_read b are.2 parts.0, later, ap length are.1, length-append b.octets are.0) in
+    each_verdict (λ v. total (kept_by ((b, v) ∷ steps) runs).0 ≤ length bytes) all (omega arith) (omega arith) v
 
 -- ---- what is sent has the lengths of what was read
 

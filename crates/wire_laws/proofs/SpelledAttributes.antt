@@ -14,9 +14,7 @@ use Rattle.bgp_attr.specs.declared.attrs.Origin.TheVariants.{Igp, Egp, Incomplet
 use Rattle.bgp_attr.specs.declared.path.Segment.{Segment}
 use Rattle.bgp_attr.specs.declared.speaker.Profile.{Profile}
 use Rattle.bgp_attr.specs.declared.unrecognized.Unrecognized.{Unrecognized}
-use Rattle.bgp_wire.specs.declared.attributes.TypeRule.{TypeRule}
-use Rattle.bgp_wire.specs.declared.attributes.Verdict.{Verdict}
-use Rattle.bgp_wire.specs.declared.attributes.Verdict.TheVariants.{Keep, Discard, Withdraw}
+use Rattle.bgp_wire.proofs.JudgedTypes.{TypeRule, Verdict, keep, discard, withdraw}
 use Rattle.bgp_wire.specs.Faults.{notice, err_of}
 use Rattle.bgp_wire.specs.Paths.{width_of}
 use Rattle.bgp_wire.specs.Attributes.{Attribute, is_extended, IsAttribute, rule_of, milder, is_no_host, is_old_form, value_fault, judge_value, has_wrong_size, has_wrong_flags, judge_by, judgement, AreAttributes, kept_by}
@@ -53,9 +51,9 @@ spelled_is flags kind value short long fits = by_length flags kind value (is_lon
 good_is_kept : (p : Profile) (external : Bool) (a : Attribute) (r : TypeRule) → rule_of p.as4 a.kind ≡ Some r → (p.revised && (external && eqb a.kind 5)) ≡ false → IsGood p.as4 r a → IsKept p external a
 good_is_kept p external a r ruled plain good =
     ap (judge_by p external a) ruled
-    ∙ ap (λ b. cond b (Ok Discard) (cond (has_wrong_flags r a) (milder p Withdraw (notice 3 4 a.octets)) (cond (has_wrong_size r.size a.value) (milder p (cond (eqb a.kind 6 || eqb a.kind 7) Discard Withdraw) (notice 3 5 a.octets)) (judge_value p (value_fault p.as4 a))))) plain
-    ∙ ap (λ b. cond b (milder p Withdraw (notice 3 4 a.octets)) (cond (has_wrong_size r.size a.value) (milder p (cond (eqb a.kind 6 || eqb a.kind 7) Discard Withdraw) (notice 3 5 a.octets)) (judge_value p (value_fault p.as4 a)))) good.flags
-    ∙ ap (λ b. cond b (milder p (cond (eqb a.kind 6 || eqb a.kind 7) Discard Withdraw) (notice 3 5 a.octets)) (judge_value p (value_fault p.as4 a))) good.size
+    ∙ ap (λ b. cond b (Ok discard) (cond (has_wrong_flags r a) (milder p withdraw (notice 3 4 a.octets)) (cond (has_wrong_size r.size a.value) (milder p (cond (eqb a.kind 6 || eqb a.kind 7) discard withdraw) (notice 3 5 a.octets)) (judge_value p (value_fault p.as4 a))))) plain
+    ∙ ap (λ b. cond b (milder p withdraw (notice 3 4 a.octets)) (cond (has_wrong_size r.size a.value) (milder p (cond (eqb a.kind 6 || eqb a.kind 7) discard withdraw) (notice 3 5 a.octets)) (judge_value p (value_fault p.as4 a)))) good.flags
+    ∙ ap (λ b. cond b (milder p (cond (eqb a.kind 6 || eqb a.kind 7) discard withdraw) (notice 3 5 a.octets)) (judge_value p (value_fault p.as4 a))) good.size
     ∙ ap (judge_value p) good.value
 
 flags_right : (flags kind : ℕ) (value octets : List ℕ) (long : Bool) (r : TypeRule)
@@ -178,9 +176,9 @@ sound_unrecognized p external u unknown recent fits = record {
   kept = ap (judge_by p external (spelled 224 u.kind u.value)) (no_rule p.as4 u.kind unknown) ∙ judged (is_long u.value) (is_old_form p u.kind) recent;
 }
   where
-    judged : (long old : Bool) → old ≡ false → cond (not (eqb (cond long 240 224 / 128 % 2) 1)) (Err (notice 3 2 (spelled_octets (is_long u.value) 224 u.kind u.value))) (cond (eqb (cond long 240 224 / 64 % 2) 1 && not old) (Ok Keep) (Ok Discard)) ≡ Ok Keep
-    judged true old e = ap (λ b. cond (not b) (Ok Keep) (Ok Discard)) e
-    judged false old e = ap (λ b. cond (not b) (Ok Keep) (Ok Discard)) e
+    judged : (long old : Bool) → old ≡ false → cond (not (eqb (cond long 240 224 / 128 % 2) 1)) (Err (notice 3 2 (spelled_octets (is_long u.value) 224 u.kind u.value))) (cond (eqb (cond long 240 224 / 64 % 2) 1 && not old) (Ok keep) (Ok discard)) ≡ Ok keep
+    judged true old e = ap (λ b. cond (not b) (Ok keep) (Ok discard)) e
+    judged false old e = ap (λ b. cond (not b) (Ok keep) (Ok discard)) e
 
 -- ---- all that are sent
 
@@ -295,12 +293,12 @@ still_behind : (n m : ℕ) (seen : List ℕ) → IsBehind n seen → n ≤ m →
 still_behind n m seen behind le kind above =
     any_append kind seen (m ∷ []) (behind kind (omega arith)) (ap (λ b. b || false) (unequal m kind (λ e. absurd (omega arith))))
 
-judged : (p : Profile) (external : Bool) (seen : List ℕ) (a : Attribute) → list_any (λ k. eqb k a.kind) seen ≡ false → IsKept p external a → judgement p external seen a ≡ Ok Keep
+judged : (p : Profile) (external : Bool) (seen : List ℕ) (a : Attribute) → list_any (λ k. eqb k a.kind) seen ≡ false → IsKept p external a → judgement p external seen a ≡ Ok keep
 unfolding judgement
-judged p external seen a new kept = ap (λ b. cond b (milder p Discard (notice 3 1 [])) (judge_by p external a (rule_of p.as4 a.kind))) new ∙ kept
+judged p external seen a new kept = ap (λ b. cond b (milder p discard (notice 3 1 [])) (judge_by p external a (rule_of p.as4 a.kind))) new ∙ kept
 
 abbrev pub all_kept : List Attribute → List (Attribute × Verdict)
-all_kept xs = map (λ a. (a, Keep)) xs
+all_kept xs = map (λ a. (a, keep)) xs
 
 pub sound_are : (p : Profile) (external : Bool) (from end : ℕ) (seen : List ℕ) (xs : List Attribute) → IsBehind from seen → AreSound p external from end xs → AreAttributes p external seen (octets_of xs) (all_kept xs) false
 sound_are p external from end seen [] behind sound = refl
