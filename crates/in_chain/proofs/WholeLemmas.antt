@@ -21,11 +21,11 @@ use Rattle.journal_text.specs.declared.link.Task.{Task}
 use Rattle.journal_text.specs.declared.value.Value.{Value}
 use Rattle.journal_text.specs.declared.entry.Entry.{Entry}
 use Rattle.journal_text.specs.Links.{same_link, rank_of}
-use Rattle.journal_text.specs.Journals.{Journaled, Adds}
+use Rattle.journal_text.specs.Journals.{attrs_rows, Journaled, Adds}
 use Rattle.journal_text.specs.Walk.{Links, with_link, Leads}
 use Rattle.journal_text.proofs.WalkLemmas.{with_link_apart}
 use Rattle.in_chain.proofs.PartLemmas.{own_link}
-use Rattle.in_chain.specs.Chains.{Chained, rows_below, rows_above, in_rows, attrs_rows, is_named, links_of, beside, AreRising, IsChain}
+use Rattle.in_chain.specs.Chains.{Chained, rows_below, rows_above, in_rows, is_named, links_of, beside, AreRising, IsChain}
 use Rattle.in_chain.specs.Falls.{LeadsChain, Falls}
 use Rattle.in_chain.specs.Steps.{Sweeps, IsTaken, IsSwept, IsIdle, session_of}
 use Rattle.in_chain.specs.Stages.{chained_of, live_of, deletions_of, rows_of, above_of}

@@ -14,7 +14,7 @@ use Rattle.journal_text.specs.declared.link.Link.{Link}
 use Rattle.journal_text.specs.declared.link.Link.TheVariants.{In, Peer}
 use Rattle.journal_text.specs.declared.value.Value.{Value}
 use Rattle.journal_text.specs.Walk.{Links}
-pub use Rattle.journal_text.specs.Journals.{attrs_rows}
+use Rattle.journal_text.specs.Journals.{attrs_rows}
 
 -- the peer's number, its live routes, and the lost tables, the lowest first: that of the earliest session
 pub record Chained : Type 0 where
