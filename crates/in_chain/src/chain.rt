@@ -16,8 +16,8 @@ ghost use Rattle.in_chain.specs.Stages.{chained_of, rows_of};
 ghost use Rattle.in_chain.specs.Falls.{Falls, LeadsChain, way_down};
 ghost use Rattle.in_chain.specs.Steps.{new_chain, fed, lost, loss_entries, welded, weld_entries, oldest_of, overdue_of, session_of, IsTaken};
 
-use addr4::{Memory, Place, Prefix};
 use crate::stage::Stage;
+use addr4::{Memory, Place, Prefix};
 use bgp_attr::SharedAttrs;
 use journal_text::{Journal, Link, Task, Value};
 use link_change::{Change, Turn};
