@@ -1,8 +1,8 @@
 -- How many rows tables have together, where no prefix has a row in two of them.
-use Rattle.std.proofs.Common.{◌≡◌, ◌≢◌, ℕ, ◌+◌, ◌-◌, Bool, true, false, cond, zero, suc, List, [], ◌∷◌, length, Option, Some, None, IsSome, is_some, refl, sym, ap, subst, ◌∙◌, arith}
+use Rattle.std.proofs.Common.{◌≡◌, ℕ, ◌+◌, ◌-◌, cond, zero, suc, List, [], ◌∷◌, length, Some, None, is_some, refl, sym, ap, subst, ◌∙◌, arith}
 use Rattle.std.specs.Ordering.{eq_by_cmp}
 use Rattle.std.specs.FinMap as tables
-use Rattle.std.specs.FinMap.{FinMap, get-entries, len-entries, len-insert, len-remove, empty_of_len, len-empty, find}
+use Rattle.std.specs.FinMap.{FinMap, get-entries, len-entries, len-insert, len-remove, empty_of_len, find}
 use Rattle.addr4.specs.Prefixes.{Network, prefix_cmp}
 use Rattle.addr4.proofs.PrefixOrder.{prefixes_total, by_prefix, itself}
 use Rattle.bgp_attr.specs.declared.attrs.Attrs.{Attrs}
@@ -53,8 +53,7 @@ both (suc n) t m is apart =
     let gone : tables.get (tables.remove t p) p ≡ None = ap (λ (r : Rows Attrs). r p) (rows_removed t p) ∙ with_row_here (tables.get t) p None in
     let none : tables.get rest.0 p ≡ None = ap (λ (r : Rows Attrs). r p) rest.1 ∙ ap (λ o. row_over o (tables.get m p)) gone ∙ apart p (ap is_some found.1) in
     let more = one_more rest.0 p row none in
-    let count = rest.2 in
-    (
+    let count = rest.2 in (
       tables.insert rest.0 p row,
       rows_inserted rest.0 p row ∙ ap (λ (r : Rows Attrs). with_row r p (Some row)) rest.1 ∙ put_back t (tables.get m) p row found.1,
       omega (arith, more, count),

@@ -1,5 +1,3 @@
-mod LinkLemmas
-mod WalkLemmas
 mod RowLemmas
 mod FallLemmas
 mod PartLemmas

@@ -12,17 +12,17 @@ use Rattle.deletion_stage.specs.Lost.{Lost}
 use Rattle.deletion_stage.specs.Covering.{covered, AreApart}
 use Rattle.deletion_stage.proofs.CoverLemmas.{covered_nothing, nothing_covers}
 use Rattle.journal_text.specs.declared.link.Link.{Link}
-use Rattle.journal_text.specs.declared.link.Link.TheVariants.{In, Peer}
+use Rattle.journal_text.specs.declared.link.Link.TheVariants.{Peer}
 use Rattle.journal_text.specs.declared.value.Value.{Value}
 use Rattle.journal_text.specs.declared.entry.Entry.{Entry}
 use Rattle.journal_text.specs.declared.entry.Entry.TheVariants.{Begin, Weld}
-use Rattle.journal_text.specs.Links.{same_link, rank_of}
-use Rattle.journal_text.specs.Journals.{Journaled, with_entries, Adds}
+use Rattle.journal_text.specs.Links.{rank_of}
+use Rattle.journal_text.specs.Journals.{attrs_rows, Journaled, with_entries, Adds}
 use Rattle.journal_text.specs.Walk.{Links, with_link, Leads}
-use Rattle.in_chain.proofs.LinkLemmas.{same_link-no}
-use Rattle.in_chain.proofs.WalkLemmas.{with_link_here, with_link_apart, with_link_same, with_link_swap, with_link_twice, leads_nowhere, leads_append, change_leads}
+use Rattle.journal_text.proofs.LinkLemmas.{same_link-no}
+use Rattle.journal_text.proofs.WalkLemmas.{with_link_here, with_link_apart, with_link_same, with_link_swap, with_link_twice, leads_nowhere, leads_append, change_leads}
 use Rattle.in_chain.proofs.FallLemmas.{and_then, goes_on, goes_out, goes_no_further}
-use Rattle.in_chain.specs.Chains.{Chained, rows_below, in_rows, attrs_rows, AreAllApart}
+use Rattle.in_chain.specs.Chains.{Chained, rows_below, in_rows}
 use Rattle.in_chain.specs.Falls.{way_down}
 use Rattle.in_chain.specs.Parts.{links_over, lowered, IsRisingFrom, IsSound, IsClearAbove, LeadsOver, FallsOver, sent_entries}
 

@@ -1,18 +1,17 @@
 -- The rows below lost tables, after changes above.
-use Rattle.std.proofs.Common.{◌≡◌, ◌≢◌, ◌||◌, ℕ, Bool, true, false, cond, List, [], ◌∷◌, Option, Some, None, IsSome, is_some, refl, sym, ap, subst, ◌∙◌}
-use Rattle.std.specs.Prelude.{map}
+use Rattle.std.proofs.Common.{◌≡◌, ◌≢◌, ◌||◌, true, false, List, [], ◌∷◌, Option, Some, None, IsSome, is_some, refl, sym, ap, subst, ◌∙◌}
 use Rattle.std.specs.FinMap as tables
 use Rattle.std.specs.FinMap.{FinMap}
 use Rattle.addr4.specs.Prefixes.{Network, prefix_cmp}
 use Rattle.bgp_attr.specs.declared.attrs.Attrs.{Attrs}
-use Rattle.link_change.specs.Rows.{Rows, with_row, with_rows, together, Candidates, IsNextCandidate}
+use Rattle.link_change.specs.Rows.{Rows, with_rows, together, Candidates, IsNextCandidate}
 use Rattle.link_change.specs.Changes.{IsSent}
 use Rattle.link_change.specs.declared.change.Change.{Change}
 use Rattle.link_change.proofs.RowLemmas.{remove_absent, rows_inserted, same_function, with_row_here}
 use Rattle.deletion_stage.specs.Lost.{Lost}
 use Rattle.deletion_stage.specs.Covering.{row_over, covered, AreApart}
 use Rattle.in_chain.specs.Chains.{Chained, rows_below, in_rows}
-use Rattle.in_chain.specs.Steps.{fed, live_after, deletions_after, without}
+use Rattle.in_chain.specs.Steps.{fed, without}
 use Rattle.in_chain.specs.Parts.{lowered}
 
 abbrev Table : Type 0

@@ -1,5 +1,5 @@
 -- A whole chain, and its links beside those of others.
-use Rattle.std.proofs.Common.{◌≡◌, ◌≢◌, ℕ, ◌<◌, ◌≤◌, ◌+◌, ◌==◌, Bool, true, false, cond, List, [], ◌∷◌, Option, Some, None, refl, sym, ap, subst, ◌∙◌, arith}
+use Rattle.std.proofs.Common.{◌≡◌, ℕ, ◌<◌, ◌+◌, ◌==◌, true, false, cond, List, [], ◌∷◌, Option, Some, None, refl, sym, ap, subst, ◌∙◌, arith}
 use Rattle.std.proofs.lemmas.Bool.{eq-eqb}
 use Rattle.std.proofs.lemmas.Bool.Decides.{nat_tests}
 use Rattle.std.specs.Option.{option_map}
@@ -8,7 +8,6 @@ use Rattle.std.specs.FinMap as map
 use Rattle.std.specs.FinMap.{FinMap}
 use Rattle.addr4.specs.Prefixes.{Network, prefix_cmp}
 use Rattle.bgp_attr.specs.declared.attrs.Attrs.{Attrs}
-use Rattle.link_change.specs.Rows.{Rows}
 use Rattle.link_change.specs.declared.change.Change.{Change}
 use Rattle.link_change.specs.declared.turn.Turn.{Turn}
 use Rattle.link_change.specs.declared.turn.Turn.TheVariants.{Nothing, Quiet, Sent}
@@ -20,12 +19,12 @@ use Rattle.journal_text.specs.declared.link.Link.TheVariants as names
 use Rattle.journal_text.specs.declared.link.Task.{Task}
 use Rattle.journal_text.specs.declared.value.Value.{Value}
 use Rattle.journal_text.specs.declared.entry.Entry.{Entry}
-use Rattle.journal_text.specs.Links.{same_link, rank_of}
-use Rattle.journal_text.specs.Journals.{Journaled, Adds}
-use Rattle.journal_text.specs.Walk.{Links, with_link, Leads}
-use Rattle.in_chain.proofs.WalkLemmas.{with_link_apart}
+use Rattle.journal_text.specs.Links.{rank_of}
+use Rattle.journal_text.specs.Journals.{attrs_rows, Journaled, Adds}
+use Rattle.journal_text.specs.Walk.{Links, Leads}
+use Rattle.journal_text.proofs.WalkLemmas.{with_link_apart}
 use Rattle.in_chain.proofs.PartLemmas.{own_link}
-use Rattle.in_chain.specs.Chains.{Chained, rows_below, rows_above, in_rows, attrs_rows, is_named, links_of, beside, AreRising, IsChain}
+use Rattle.in_chain.specs.Chains.{Chained, rows_below, rows_above, in_rows, is_named, links_of, beside, AreRising, IsChain}
 use Rattle.in_chain.specs.Falls.{LeadsChain, Falls}
 use Rattle.in_chain.specs.Steps.{Sweeps, IsTaken, IsSwept, IsIdle, session_of}
 use Rattle.in_chain.specs.Stages.{chained_of, live_of, deletions_of, rows_of, above_of}
@@ -151,8 +150,7 @@ falls_chain old new p way sent before now same (entries, now_is, fall) = (entrie
 
 sweeps_chain : (old new : Chained) (session : ℕ) (sent : Option (Change Attrs)) (before now : Journaled) → Adds (SweepsOver (In old.number) old new session sent) before now → Adds (Sweeps old new session sent) before now
 sweeps_chain old new session sent before now (entries, now_is, s) =
-    let same : new.number ≡ old.number = ap (λ (x : Chained). x.number) s.after in
-    (
+    let same : new.number ≡ old.number = ap (λ (x : Chained). x.number) s.after in (
       entries,
       now_is,
       record {

@@ -1,9 +1,8 @@
 -- The lost tables after losses, welds and turns.
-use Rattle.std.proofs.Common.{◌≡◌, ◌≢◌, ℕ, ◌<◌, ◌≤◌, ◌+◌, ◌==◌, ◌++◌, Bool, true, false, cond, not, List, [], ◌∷◌, Option, Some, None, IsSome, is_some, IfSome, refl, sym, ap, subst, ◌∙◌, arith, inl, inr, ◌⊎◌}
+use Rattle.std.proofs.Common.{◌≡◌, ◌≢◌, ℕ, ◌<◌, ◌≤◌, ◌+◌, ◌==◌, ◌++◌, Bool, true, false, cond, not, List, [], ◌∷◌, Option, Some, None, IsSome, is_some, IfSome, refl, sym, ap, subst, ◌∙◌, arith, inl, inr}
 use Rattle.std.specs.Prelude.{map, filter}
 use Rattle.std.proofs.lemmas.Bool.{eq-eqb}
 use Rattle.std.proofs.lemmas.Bool.Decides.{nat_tests}
-use Rattle.std.specs.List.{AllByRecursion}
 use Rattle.std.specs.FinMap as tables
 use Rattle.std.specs.FinMap.{FinMap, len-empty}
 use Rattle.addr4.specs.Prefixes.{Network, prefix_cmp}
@@ -17,12 +16,10 @@ use Rattle.link_change.specs.Turns.{taken_turn}
 use Rattle.link_change.proofs.RowLemmas.{empty_rows}
 use Rattle.deletion_stage.proofs.CoverLemmas.{covered_nothing}
 use Rattle.deletion_stage.specs.Lost.{Lost}
-use Rattle.deletion_stage.specs.Covering.{row_over, covered, AreApart, DeletesOn, IsLeastRow}
+use Rattle.deletion_stage.specs.Covering.{row_over, covered, DeletesOn, IsLeastRow}
 use Rattle.journal_text.specs.Links.{rank_of}
 use Rattle.journal_text.specs.declared.link.Link.{Link}
 use Rattle.journal_text.specs.declared.link.Link.TheVariants.{Peer}
-use Rattle.journal_text.specs.declared.value.Value.{Value}
-use Rattle.journal_text.specs.declared.entry.Entry.{Entry}
 use Rattle.journal_text.specs.declared.entry.Entry.TheVariants.{Begin, Weld}
 use Rattle.journal_text.specs.Journals.{Journaled, with_entries, Adds}
 use Rattle.in_chain.specs.Chains.{Chained, rows_below, in_rows, NoneEmpty, OneEmptyAtMost, AreAllApart}
@@ -106,8 +103,7 @@ own_sweeps out session d after c change before now same sound numbers rows least
     let rest = swept_above session change.prefix (d.number + 1) c.deletions (omega (arith, same)) sound.rising.1 in
     let sent = (law (in_rows c) sound.apart.0).0 in
     let P : List Link → Type 0 = λ way. FallsOver out (lowered d c) (lowered after c) change.prefix way (Some change) (sent_entries out (Some change)) in
-    let way : way_from c.number session out (d ∷ c.deletions) ≡ out ∷ [] = ap (λ (b : Bool). cond b (out ∷ []) (way_from c.number session (Peer c.number d.number) c.deletions ++ out ∷ [])) here in
-    (
+    let way : way_from c.number session out (d ∷ c.deletions) ≡ out ∷ [] = ap (λ (b : Bool). cond b (out ∷ []) (way_from c.number session (Peer c.number d.number) c.deletions ++ out ∷ [])) here in (
       sent_entries out (Some change),
       now_is,
       record {
@@ -202,8 +198,7 @@ sweeps_quietly out session d c new before now other sound sound' (entries, now_i
     let way = way_from c.number session (Peer c.number d.number) c.deletions in
     let passed = passes_quietly out d c new before now s.prefix way sound sound' s.rows (entries, now_is, s.fall) in
     let P : List Link → Type 0 = λ w. FallsOver out (lowered d c) (lowered d new) s.prefix w None passed.0 in
-    let is : way_from c.number session out (d ∷ c.deletions) ≡ way ++ out ∷ [] = ap (λ (b : Bool). cond b (out ∷ []) (way ++ out ∷ [])) there in
-    (
+    let is : way_from c.number session out (d ∷ c.deletions) ≡ way ++ out ∷ [] = ap (λ (b : Bool). cond b (out ∷ []) (way ++ out ∷ [])) there in (
       passed.0,
       passed.1,
       record {
@@ -234,8 +229,7 @@ sweeps_on out session d after c new change sent before mid now other sound sound
     let P : List Link → Type 0 = λ w. FallsOver out (lowered d c) (lowered after new) s.prefix w sent passed.0 in
     let is : way_from c.number session out (d ∷ c.deletions) ≡ way ++ out ∷ [] = ap (λ (b : Bool). cond b (out ∷ []) (way ++ out ∷ [])) there in
     let none = not_held d.rows (in_rows c) (in_rows new) s.prefix change sound.apart.0 s.rows (λ before_none. s.rows.1.1 (s.gone ∙ sym before_none)) in
-    let same : after ≡ d = same_lost d after change.prefix numbers rows none in
-    (
+    let same : after ≡ d = same_lost d after change.prefix numbers rows none in (
       passed.0,
       passed.1,
       record {

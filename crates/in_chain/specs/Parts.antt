@@ -17,8 +17,8 @@ use Rattle.journal_text.specs.declared.link.Link.TheVariants.{Peer}
 use Rattle.journal_text.specs.declared.value.Value.{Value}
 use Rattle.journal_text.specs.declared.entry.Entry.{Entry}
 use Rattle.journal_text.specs.Walk.{Links, with_link, Leads}
-use Rattle.journal_text.specs.Journals.{Journaled, Adds, attrs_change}
-use Rattle.in_chain.specs.Chains.{Chained, rows_below, in_rows, attrs_rows, AreAllApart}
+use Rattle.journal_text.specs.Journals.{attrs_rows, Journaled, Adds, attrs_change}
+use Rattle.in_chain.specs.Chains.{Chained, rows_below, in_rows, AreAllApart}
 use Rattle.in_chain.specs.Falls.{GoesDown, way_from}
 use Rattle.in_chain.specs.Steps.{table_of, swept}
 

@@ -10,14 +10,14 @@ ghost use Rattle.link_change.specs.declared.turn.Turn.TheVariants as turns;
 ghost use Rattle.journal_text.specs.declared.link.Link.TheVariants as names;
 ghost use Rattle.journal_text.specs.declared.value.Value.{Value};
 ghost use Rattle.journal_text.specs.Walk.{HasRow};
-ghost use Rattle.journal_text.specs.Journals.{Adds, with_entries};
-ghost use Rattle.in_chain.specs.Chains.{links_of, in_rows, attrs_rows, IsChain, NoneEmpty, OneEmptyAtMost, row_count};
+ghost use Rattle.journal_text.specs.Journals.{attrs_rows, Adds, with_entries};
+ghost use Rattle.in_chain.specs.Chains.{links_of, in_rows, IsChain, NoneEmpty, OneEmptyAtMost, row_count};
 ghost use Rattle.in_chain.specs.Stages.{chained_of, rows_of};
 ghost use Rattle.in_chain.specs.Falls.{Falls, LeadsChain, way_down};
 ghost use Rattle.in_chain.specs.Steps.{new_chain, fed, lost, loss_entries, welded, weld_entries, oldest_of, overdue_of, session_of, IsTaken};
 
-use addr4::{Memory, Place, Prefix};
 use crate::stage::Stage;
+use addr4::{Memory, Place, Prefix};
 use bgp_attr::SharedAttrs;
 use journal_text::{Journal, Link, Task, Value};
 use link_change::{Change, Turn};

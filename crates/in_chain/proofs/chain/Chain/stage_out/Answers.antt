@@ -1,6 +1,6 @@
 use Rattle.std.proofs.Common.{ap, ◌∙◌}
 use Rattle.std.specs.Option.{option_map}
-use Rattle.in_chain.specs.Chains.{attrs_rows}
+use Rattle.journal_text.specs.Journals.{attrs_rows}
 use Rattle.in_chain.specs.Stages.{rows_of}
 use Rattle.in_chain.specs.declared.stage.Stage.{Stage}
 use Rattle.in_chain.proofs.WholeLemmas.{out_at}

@@ -1,9 +1,7 @@
-use Rattle.std.proofs.Common.{ap, refl}
-use Rattle.std.specs.FinMap as map
-use Rattle.deletion_stage.specs.Covering.{covered}
+use Rattle.std.proofs.Common.{refl}
 use Rattle.journal_text.specs.declared.link.Link.TheVariants.{Peer}
 use Rattle.in_chain.specs.Falls.{way_down}
-use Rattle.in_chain.specs.Stages.{rows_of, chained_of, live_of, deletions_of}
+use Rattle.in_chain.specs.Stages.{rows_of, chained_of, deletions_of}
 use Rattle.in_chain.proofs.RowLemmas.{fed_kept, fed_taken}
 use Rattle.in_chain.proofs.PartLemmas.{top_falls, passes_down, passes_quietly, sound_after}
 use Rattle.in_chain.proofs.stage.Stage.+feed.Goals as goal

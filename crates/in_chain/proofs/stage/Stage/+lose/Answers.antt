@@ -1,8 +1,5 @@
 use Rattle.std.proofs.Common.{ap, sym, subst, ◌∙◌}
-use Rattle.std.specs.FinMap as map
 use Rattle.link_change.proofs.RowLemmas.{empty_rows}
-use Rattle.deletion_stage.specs.Covering.{covered}
-use Rattle.deletion_stage.proofs.CoverLemmas.{covered_nothing}
 use Rattle.in_chain.specs.Steps.{loss_entries}
 use Rattle.in_chain.specs.Stages.{chained_of}
 use Rattle.in_chain.specs.Parts.{LeadsOver, lowered}
@@ -35,6 +32,6 @@ returns-in_ok-lose-in-Deletion-clause-leads t c =
     let leads = rw c.number.ensures at above.leads in
     let sound_above = rw c.number.ensures at above.sound in
     let passed = leads_quietly c.args.out c.in-Deletion.deletion (chained_of c.args.owner c.deref_mut.result.now) (chained_of c.args.owner c.lose.new.self)
-        (loss_entries c.args.session (chained_of c.args.owner c.deref_mut.result.now)) sound sound_above above.rows leads in
+    (loss_entries c.args.session (chained_of c.args.owner c.deref_mut.result.now)) sound sound_above above.rows leads in
     let P : Stage → Type 0 = λ s. LeadsOver c.args.out (lowered c.in-Deletion.deletion (chained_of c.args.owner s)) (loss_entries c.args.session (chained_of c.args.owner s)) (lowered c.in-Deletion.deletion (chained_of c.args.owner c.lose.new.self)) in
     rw c.in-Deletion.is (subst P c.deref_mut.ensures.value passed)

@@ -1,5 +1,4 @@
-use Rattle.std.proofs.Common.{◌∷◌, ap, sym, subst, ◌∙◌, arith, rules}
-use Rattle.std.specs.FinMap as map
+use Rattle.std.proofs.Common.{◌∷◌, sym, subst, ◌∙◌, arith}
 use Rattle.deletion_stage.proofs.CoverLemmas.{nothing_covers}
 use Rattle.journal_text.specs.Links.{rank_of}
 use Rattle.journal_text.specs.declared.link.Link.TheVariants.{Peer}
@@ -20,7 +19,7 @@ returns-then-not-is_empty-clause-leads t c =
     let old = chained_of c.args.owner c.deref_mut.result.now in
     let new = chained_of c.args.owner c.weld.new.self in
     let passed = weld_passes c.args.out c.in-Deletion.deletion old new (sym c.is_empty.ensures.test ∙ c.if-not-is_empty.true)
-        (leads_quietly c.args.out c.in-Deletion.deletion old new (weld_entries c.args.owner (Peer c.args.owner c.in-Deletion.deletion.number) (deletions_of c.deref_mut.result.now)) sound sound_above above.rows leads) in
+    (leads_quietly c.args.out c.in-Deletion.deletion old new (weld_entries c.args.owner (Peer c.args.owner c.in-Deletion.deletion.number) (deletions_of c.deref_mut.result.now)) sound sound_above above.rows leads) in
     let P : Stage → Type 0 = λ s. LeadsOver c.args.out (lowered c.in-Deletion.deletion (chained_of c.args.owner s)) (weld_entries c.args.owner c.args.out (c.in-Deletion.deletion ∷ deletions_of s)) (lowered c.in-Deletion.deletion new) in
     rw c.in-Deletion.is (subst P c.deref_mut.ensures.value passed)
 
