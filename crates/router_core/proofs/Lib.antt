@@ -1,2 +1,4 @@
+mod ChainLookups
 mod SessionLemmas
+mod ShownRows
 mod UpdateLemmas

@@ -4,3 +4,4 @@ pub mod Stands
 pub mod Turns
 pub mod Blocks
 pub mod Laws
+pub mod Lookups

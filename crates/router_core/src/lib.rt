@@ -2,6 +2,7 @@
 #![tactic(auto)]
 
 mod laws;
+mod lookups;
 mod router;
 mod updates;
 
