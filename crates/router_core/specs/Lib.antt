@@ -3,3 +3,4 @@ pub mod Lives
 pub mod Stands
 pub mod Turns
 pub mod Blocks
+pub mod Works
