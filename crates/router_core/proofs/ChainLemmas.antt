@@ -87,7 +87,7 @@ pub none_below : (k n : ℕ) (cs : List Chained) → k ≡ n → AllByRecursion 
 none_below k n [] same all = refl
 none_below k n (d ∷ ds) same all = chain_past k d ds (other_by d.number k (λ e. let lt : n < d.number = all.0 in omega arith)) ∙ none_below k n ds same all.1
 
-put_none : (c' : Chained) (n : ℕ) (cs : List Chained) → c'.number ≡ n → AllByRecursion (λ d. n < d.number) cs → put_chain c' cs ≡ cs
+pub put_none : (c' : Chained) (n : ℕ) (cs : List Chained) → c'.number ≡ n → AllByRecursion (λ d. n < d.number) cs → put_chain c' cs ≡ cs
 put_none c' n [] same all = refl
 put_none c' n (d ∷ ds) same all = both (put_one_past c' d (other_by d.number c'.number (λ e. let lt : n < d.number = all.0 in omega arith))) (put_none c' n ds same all.1)
 

@@ -1,2 +1,5 @@
 pub mod ChainLemmas
 pub mod LinkLemmas
+pub mod WorkLemmas
+pub mod RowCounts
+pub mod StandLemmas

@@ -1,10 +1,12 @@
 -- What the router's own calls make of chains and moments, with what they keep.
-use Rattle.std.specs.Prelude.{◌≡◌, ℕ, ◌+◌, ◌≤◌, ◌<◌, ◌⊎◌, length, Bool, true, false, List, [], ◌∷◌, ◌++◌, Option, Some, None}
+use Rattle.std.specs.Prelude.{◌≡◌, ℕ, ◌+◌, ◌≤◌, ◌<◌, ◌⊎◌, length, slice_index_or, Bool, true, false, List, [], ◌∷◌, ◌++◌, Option, Some, None}
 use Rattle.std.specs.List.{AllByRecursion}
 use Rattle.addr4.specs.Prefixes.{Network}
 use Rattle.bgp_attr.specs.declared.attrs.Attrs.{Attrs}
 use Rattle.link_change.specs.Changes.{IsSent}
 use Rattle.link_change.specs.declared.change.Change.{Change}
+use Rattle.link_change.specs.declared.turn.Turn.{Turn}
+use Rattle.link_change.specs.declared.turn.Turn.TheVariants as turns
 use Rattle.journal_text.specs.declared.link.Link.TheVariants.{In}
 use Rattle.journal_text.specs.declared.link.Task.{Task}
 use Rattle.journal_text.specs.declared.value.Value.{Value}
@@ -60,3 +62,51 @@ pub record DeletesChain (s : ℕ) (c c' : Chained) (said : List Line) : Type 0 w
 abbrev pub TurnsChain : ℕ → Chained → Chained → Journaled → Journaled → Done → Type 0
 TurnsChain s c c' before now Nothing = (table_of s c.deletions ≡ None) × ((c' ≡ c) × (now ≡ before))
 TurnsChain s c c' before now Taken = Pushes (DeletesChain s c c') before now
+
+abbrev pub is_nothing : {R : Type 0} → Turn R → Bool
+is_nothing turns.Nothing = true
+is_nothing turns.Quiet = false
+is_nothing (turns.Sent change) = false
+
+-- where the chain of a number stands
+abbrev pub IsPlace : ℕ → List Chained → Option ℕ → Type 0
+IsPlace k cs None = chain_at k cs ≡ None
+IsPlace k cs (Some i) = (i < length cs) × ((x : Chained) → chain_at k cs ≡ Some (slice_index_or cs i x))
+
+-- the chain of this number may take a step
+abbrev pub IsSoundAt : ℕ → List Chained → Type 0
+IsSoundAt k cs = (c : Chained) → chain_at k cs ≡ Some c → IsChain c × NoneEmpty c.deletions
+
+-- the chain of this number took a step, and nothing else changed
+abbrev pub Steps : (Chained → Chained → List Line → Type 0) → ℕ → List Chained → List Chained → Journaled → Journaled → Type 0
+Steps P k cs cs' before now = (c c' : Chained) × (chain_at k cs ≡ Some c) × (cs' ≡ put_chain c' cs) × Pushes (P c c') before now
+
+-- what a turn of the stage of session s of peer k came to
+abbrev pub TurnsAt : ℕ → ℕ → List Chained → List Chained → Journaled → Journaled → Done → Type 0
+TurnsAt k s cs cs' before now Nothing = (has_table s (chain_at k cs) ≡ false) × (cs' ≡ cs) × (now ≡ before)
+TurnsAt k s cs cs' before now Taken = Steps (DeletesChain s) k cs cs' before now
+
+-- Background work: by the rules of the journal, and what is live stays.
+pub record IsWork (m : Moment) (said : List Line) (m' : Moment) : Type 0 where
+  pub leads : Leads (router_links m) (entries_of said) (router_links m')
+  pub live : live_state m' ≡ live_state m
+  pub stands : Stands m'
+
+-- one turn of a task, with one row less
+pub record IsUnit (task : Task) (m m' : Moment) (said : List Line) : Type 0 where
+  pub turn : IsTurn task m said m'
+  pub work : IsWork m said m'
+  pub fewer : rows_in m'.chains + 1 ≡ rows_in m.chains
+
+-- what a turn of a task came to; where there is no work, nothing changes
+abbrev pub Comes : Task → Moment → Moment → Journaled → Journaled → Done → Type 0
+Comes task m m' before now Nothing = (has_work task m ≡ false) × (m' ≡ m) × (now ≡ before)
+Comes task m m' before now Taken = Gives (IsUnit task m m') before now
+
+-- so many turns of a task, at most n, and fewer only where it then has no work
+pub record AreTurns (task : Task) (n : ℕ) (m : Moment) (turns : ℕ) (m' : Moment) (said : List Line) : Type 0 where
+  pub taken : Turns turns task m said m'
+  pub work : IsWork m said m'
+  pub fewer : rows_in m'.chains + turns ≡ rows_in m.chains
+  pub most : turns ≤ n
+  pub ended : (turns ≡ n) ⊎ (has_work task m' ≡ false)
