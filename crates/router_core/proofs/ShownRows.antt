@@ -20,7 +20,8 @@ use Rattle.journal_text.specs.declared.line.Line.TheVariants as lines
 use Rattle.journal_text.specs.Walk.{Links}
 use Rattle.journal_text.specs.Journals.{Journaled, with_lines}
 use Rattle.router_core.specs.Blocks.{AreRows, Shows}
-use Rattle.router_core.specs.Lookups.{IsRowOf, IsCountOf, Pushes}
+use Rattle.router_core.specs.Lookups.{IsRowOf, IsCountOf}
+use Rattle.router_core.specs.Works.{Pushes}
 
 -- a prefix lies beyond the place, or is listed
 abbrev IsAhead : Option Network → List (Network × Value) → Network → Type 0

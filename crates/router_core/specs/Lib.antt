@@ -5,3 +5,4 @@ pub mod Turns
 pub mod Blocks
 pub mod Laws
 pub mod Lookups
+pub mod Works

@@ -4,10 +4,8 @@ use Rattle.addr4.specs.Prefixes.{Network}
 use Rattle.link_change.specs.Rows.{Rows}
 use Rattle.journal_text.specs.declared.link.Link.{Link}
 use Rattle.journal_text.specs.declared.value.Value.{Value}
-use Rattle.journal_text.specs.declared.line.Line.{Line}
 use Rattle.journal_text.specs.Links.{owner_of}
 use Rattle.journal_text.specs.Walk.{Links}
-use Rattle.journal_text.specs.Journals.{Journaled, with_lines}
 use Rattle.in_chain.specs.Chains.{Chained}
 use Rattle.router_core.specs.Moments.{chain_at, links_by}
 use Rattle.router_core.specs.Blocks.{AreRows}
@@ -23,10 +21,6 @@ HasSomeRow links link p = (rows : Rows Value) × (links link ≡ Some rows) × I
 -- the row at the prefix of the link
 abbrev pub IsRowOf : Links Value → Link → Network → Value → Type 0
 IsRowOf links link p value = (rows : Rows Value) × (links link ≡ Some rows) × (rows p ≡ Some value)
-
--- these lines were appended, and this is said of them
-abbrev pub Pushes : (List Line → Type 0) → Journaled → Journaled → Type 0
-Pushes P before now = (said : List Line) × (now ≡ with_lines before said) × P said
 
 -- how many rows there are, or none where the link isn't live
 abbrev pub IsCountOf : Option (Rows Value) → Option ℕ → Type 0

@@ -3,7 +3,9 @@
 
 mod laws;
 mod lookups;
+mod network;
 mod router;
+mod turns;
 mod updates;
 
 pub use laws::{declarations_follow, sessions_end};

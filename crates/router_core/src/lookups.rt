@@ -8,7 +8,8 @@ ghost use Rattle.journal_text.specs.Journals.{with_lines};
 ghost use Rattle.in_chain.specs.Chains.{links_of};
 ghost use Rattle.router_core.specs.Moments.{chain_at, links_by};
 ghost use Rattle.router_core.specs.Blocks.{answer_lines, Shows};
-ghost use Rattle.router_core.specs.Lookups.{links_among, HasSomeRow, IsRowOf, Pushes, IsCountOf};
+ghost use Rattle.router_core.specs.Lookups.{links_among, HasSomeRow, IsRowOf, IsCountOf};
+ghost use Rattle.router_core.specs.Works.{Pushes};
 
 use addr4::{Memory, Place, Prefix};
 use in_chain::Chain;
