@@ -6,3 +6,4 @@ pub mod Blocks
 pub mod Laws
 pub mod Lookups
 pub mod Works
+pub mod Peers

@@ -4,6 +4,7 @@
 mod laws;
 mod lookups;
 mod network;
+mod peers;
 mod router;
 mod turns;
 mod updates;
