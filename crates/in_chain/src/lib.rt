@@ -2,5 +2,8 @@
 #![tactic(auto)]
 
 mod chain;
+mod splice;
+mod stage;
 
 pub use chain::Chain;
+pub use stage::Stage;

@@ -1,0 +1,6 @@
+mod LinkLemmas
+mod WalkLemmas
+mod RowLemmas
+mod FallLemmas
+mod PartLemmas
+mod WorkLemmas

@@ -1,0 +1,110 @@
+-- Links that are set, walks one after the other, and the entry of one change.
+use Rattle.std.proofs.Common.{◌≡◌, Bool, true, false, cond, List, [], ◌∷◌, ◌++◌, Option, Some, None, refl, sym, ap, subst, ◌∙◌}
+use Rattle.std.specs.Option.{option_map}
+use Rattle.addr4.specs.Prefixes.{Network, prefix_cmp}
+use Rattle.std.specs.Ordering.{eq_by_cmp}
+use Rattle.bgp_attr.specs.declared.attrs.Attrs.{Attrs}
+use Rattle.link_change.specs.Rows.{Rows, with_row}
+use Rattle.link_change.specs.Changes.{IsSent}
+use Rattle.link_change.specs.declared.change.Change.{Change}
+use Rattle.link_change.proofs.RowLemmas.{same_function}
+use Rattle.journal_text.specs.declared.link.Link.{Link}
+use Rattle.journal_text.specs.declared.entry.Entry.{Entry}
+use Rattle.journal_text.specs.declared.value.Value.{Value}
+use Rattle.journal_text.specs.declared.value.Value.TheVariants as values
+use Rattle.journal_text.specs.Links.{same_link}
+use Rattle.journal_text.specs.Walk.{Links, with_link, after, IsLawful, fold_links, Leads, change_entries}
+use Rattle.journal_text.specs.Journals.{attrs_change}
+use Rattle.in_chain.specs.Chains.{attrs_rows}
+use Rattle.in_chain.proofs.LinkLemmas.{same_link-refl, same_link-yes, same_link-no}
+
+swap_cond : {A : Type 0} (p r : Bool) (x y z : A) → (p ≡ true → r ≡ true → ⊥) → cond r y (cond p x z) ≡ cond p x (cond r y z)
+swap_cond true true x y z h = absurd (h refl refl)
+swap_cond true false x y z h = refl
+swap_cond false true x y z h = refl
+swap_cond false false x y z h = refl
+
+never_both : (a b q : Link) → same_link a b ≡ false → same_link q a ≡ true → same_link q b ≡ true → ⊥
+never_both a b q apart qa qb =
+    let a_is_b : a ≡ b = sym (same_link-yes q a qa) ∙ same_link-yes q b qb in
+    let yes : same_link a b ≡ true = subst (λ (l : Link). same_link a l ≡ true) a_is_b (same_link-refl a) in
+    let contra : true ≡ false = sym yes ∙ apart in
+    cc
+
+module _ {V : Type 0} where
+  -- two links may be set in either order
+  pub with_link_swap : (links : Links V) (a b : Link) (x y : Option (Rows V)) → same_link a b ≡ false → with_link (with_link links a x) b y ≡ with_link (with_link links b y) a x
+  with_link_swap links a b x y apart = same_function _ _ (λ q. swap_cond (same_link q a) (same_link q b) x y (links q) (never_both a b q apart))
+
+  pub with_link_here : (links : Links V) (link : Link) (rows : Option (Rows V)) → with_link links link rows link ≡ rows
+  with_link_here links link rows = ap (λ b. cond b rows (links link)) (same_link-refl link)
+
+  pub with_link_apart : (links : Links V) (link q : Link) (rows : Option (Rows V)) → (link ≡ q → ⊥) → with_link links link rows q ≡ links q
+  with_link_apart links link q rows apart = ap (λ b. cond b rows (links q)) (same_link-no q link (λ e. apart (sym e)))
+
+  -- to set what is there changes nothing
+  pub with_link_same : (links : Links V) (link : Link) (rows : Option (Rows V)) → links link ≡ rows → with_link links link rows ≡ links
+  with_link_same links link rows is = same_function _ _ (λ q.
+      elim (same_link q link) as (λ b. same_link q link ≡ b → cond b rows (links q) ≡ links q) [
+        | true ↦ λ e. sym is ∙ ap links (sym (same_link-yes q link e))
+        | false ↦ λ _. refl
+      ] refl)
+
+  pub with_link_twice : (links : Links V) (link : Link) (x y : Option (Rows V)) → with_link (with_link links link x) link y ≡ with_link links link y
+  with_link_twice links link x y = same_function _ _ (λ q. elim (same_link q link) as (λ b. cond b y (cond b x (links q)) ≡ cond b y (links q)) [ true ↦ refl | false ↦ refl ])
+
+  pub leads_nowhere : (a b : Links V) → a ≡ b → Leads a [] b
+  leads_nowhere a b is = record { lawful = tt; ends = is }
+
+  lawful_append : (a : Links V) (xs ys : List (Entry V)) → IsLawful a xs → IsLawful (fold_links a xs) ys → IsLawful a (xs ++ ys)
+  lawful_append a [] ys p q = q
+  lawful_append a (x ∷ xs) ys p q = (p.0, lawful_append (after a x) xs ys p.1 q)
+
+  fold_append : (a : Links V) (xs ys : List (Entry V)) → fold_links a (xs ++ ys) ≡ fold_links (fold_links a xs) ys
+  fold_append a [] ys = refl
+  fold_append a (x ∷ xs) ys = fold_append (after a x) xs ys
+
+  pub leads_append : (a b c : Links V) (xs ys : List (Entry V)) → Leads a xs b → Leads b ys c → Leads a (xs ++ ys) c
+  leads_append a b c xs ys p q = record {
+    lawful = lawful_append a xs ys p.lawful (subst (λ (l : Links V). IsLawful l ys) (sym p.ends) q.lawful);
+    ends = fold_append a xs ys ∙ ap (λ (l : Links V). fold_links l ys) p.ends ∙ q.ends;
+  }
+
+  -- a change that is lawful on a live link
+  pub leads_change : (links : Links V) (link : Link) (rows : Rows V) (p : Network) (old new : Option V) → links link ≡ Some rows → rows p ≡ old → (new ≡ old → ⊥)
+      → Leads links (change_entries link p old new) (with_link links link (Some (with_row rows p new)))
+  leads_change links link rows p None None live at differ = absurd (differ refl)
+  leads_change links link rows p None (Some new) live at differ = record {
+    lawful = ((rows, live, at), tt);
+    ends = ap (λ (o : Option (Rows V)). with_link links link (option_map (λ rows. with_row rows p (Some new)) o)) live;
+  }
+  leads_change links link rows p (Some old) None live at differ = record {
+    lawful = ((rows, live, at), tt);
+    ends = ap (λ (o : Option (Rows V)). with_link links link (option_map (λ rows. with_row rows p None) o)) live;
+  }
+  leads_change links link rows p (Some old) (Some new) live at differ = record {
+    lawful = (((rows, live, at), λ same. differ (ap Some (sym same))), tt);
+    ends = ap (λ (o : Option (Rows V)). with_link links link (option_map (λ rows. with_row rows p (Some new)) o)) live;
+  }
+
+-- the value of a row of attributes, and back
+abbrev as_value : Option Attrs → Option Value
+as_value row = option_map (λ a. values.Attrs a) row
+
+one_value : (a b : Option Attrs) → as_value a ≡ as_value b → a ≡ b
+one_value None None e = refl
+one_value None (Some b) e = cc
+one_value (Some a) None e = cc
+one_value (Some a) (Some b) e = cc
+
+pub attrs_rows_set : (rows : Rows Attrs) (p : Network) (row : Option Attrs) → attrs_rows (with_row rows p row) ≡ with_row (attrs_rows rows) p (as_value row)
+attrs_rows_set rows p row = same_function _ _ (λ q.
+    elim (eq_by_cmp prefix_cmp q p) as (λ b. as_value (cond b row (rows q)) ≡ cond b (as_value row) (as_value (rows q))) [ true ↦ refl | false ↦ refl ])
+
+pub change_leads : (links : Links Value) (link : Link) (old new : Rows Attrs) (p : Network) (change : Change Attrs) → links link ≡ Some (attrs_rows old) → IsSent old new p (Some change)
+    → Leads links (attrs_change link change) (with_link links link (Some (attrs_rows new)))
+change_leads links link old new p change live sent =
+    let at : attrs_rows old change.prefix ≡ as_value change.before = ap as_value sent.1.0 in
+    let lead = leads_change links link (attrs_rows old) change.prefix (as_value change.before) (as_value change.after) live at (λ e. sent.1.1 (one_value change.after change.before e)) in
+    let is : with_row (attrs_rows old) change.prefix (as_value change.after) ≡ attrs_rows new = sym (attrs_rows_set old change.prefix change.after) ∙ ap attrs_rows (sym sent.2) in
+    subst (λ (rows : Rows Value). Leads links (attrs_change link change) (with_link links link (Some rows))) is lead
