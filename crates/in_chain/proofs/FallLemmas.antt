@@ -15,34 +15,14 @@ use Rattle.journal_text.specs.declared.line.Line.{Line}
 use Rattle.journal_text.specs.declared.line.Line.TheVariants as lines
 use Rattle.journal_text.specs.Journals.{Journaled, with_entries}
 use Rattle.journal_text.specs.Walk.{change_entries}
+use Rattle.journal_text.proofs.JournalLemmas.{with_entries_append}
 use Rattle.in_chain.specs.Falls.{IsWhole, IsCut, GoesDown}
 use Rattle.in_chain.specs.Parts.{sent_entries}
 
--- ---- journals
-
-append_none : {A : Type 0} (xs : List A) → xs ++ [] ≡ xs
-append_none [] = refl
-append_none (x ∷ xs) = ap (λ l. x ∷ l) (append_none xs)
-
-pub with_nothing : (j : Journaled) → j ≡ with_entries j []
-with_nothing j = ap (λ (l : List Line). record { text = j.text; pending = l; quiet = j.quiet }) (sym (append_none j.pending))
-
-map_append : {A B : Type 0} (f : A → B) (xs ys : List A) → map f (xs ++ ys) ≡ map f xs ++ map f ys
-map_append f [] ys = refl
-map_append f (x ∷ xs) ys = ap (λ l. f x ∷ l) (map_append f xs ys)
-
-pub with_both : (j : Journaled) (xs ys : List (Entry Value)) → with_entries (with_entries j xs) ys ≡ with_entries j (xs ++ ys)
-with_both j xs ys =
-    let as_line = λ (e : Entry Value). lines.Journal e in
-    ap (λ (l : List Line). record { text = j.text; pending = l; quiet = j.quiet }) (append_assoc j.pending (map as_line xs) (map as_line ys) ∙ ap (λ (l : List Line). j.pending ++ l) (sym (map_append as_line xs ys)))
-
 pub and_then : (j mid now : Journaled) (xs ys : List (Entry Value)) → mid ≡ with_entries j xs → now ≡ with_entries mid ys → now ≡ with_entries j (xs ++ ys)
-and_then j mid now xs ys first second = second ∙ ap (λ (m : Journaled). with_entries m ys) first ∙ with_both j xs ys
+and_then j mid now xs ys first second = second ∙ ap (λ (m : Journaled). with_entries m ys) first ∙ with_entries_append j xs ys
 
 -- ---- the way down
-
-value_of : Option Attrs → Option Value
-value_of row = option_map (λ a. values.Attrs a) row
 
 one_entry : (out : Link) (at p : Network) (before after : Option Attrs) → at ≡ p → (after ≡ before → ⊥) → IsWhole p (out ∷ []) (change_entries out at (option_map (λ a. values.Attrs a) before) (option_map (λ a. values.Attrs a) after))
 one_entry out at p None None e differ = absurd (differ refl)

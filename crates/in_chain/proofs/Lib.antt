@@ -1,6 +1,6 @@
-mod LinkLemmas
-mod WalkLemmas
 mod RowLemmas
 mod FallLemmas
 mod PartLemmas
 mod WorkLemmas
+mod WholeLemmas
+mod CountLemmas

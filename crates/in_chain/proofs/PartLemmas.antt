@@ -19,8 +19,8 @@ use Rattle.journal_text.specs.declared.entry.Entry.TheVariants.{Begin, Weld}
 use Rattle.journal_text.specs.Links.{same_link, rank_of}
 use Rattle.journal_text.specs.Journals.{Journaled, with_entries, Adds}
 use Rattle.journal_text.specs.Walk.{Links, with_link, Leads}
-use Rattle.in_chain.proofs.LinkLemmas.{same_link-no}
-use Rattle.in_chain.proofs.WalkLemmas.{with_link_here, with_link_apart, with_link_same, with_link_swap, with_link_twice, leads_nowhere, leads_append, change_leads}
+use Rattle.journal_text.proofs.LinkLemmas.{same_link-no}
+use Rattle.journal_text.proofs.WalkLemmas.{with_link_here, with_link_apart, with_link_same, with_link_swap, with_link_twice, leads_nowhere, leads_append, change_leads}
 use Rattle.in_chain.proofs.FallLemmas.{and_then, goes_on, goes_out, goes_no_further}
 use Rattle.in_chain.specs.Chains.{Chained, rows_below, in_rows, attrs_rows, AreAllApart}
 use Rattle.in_chain.specs.Falls.{way_down}
@@ -144,6 +144,9 @@ links_split : (others : Links Value) (k : ℕ) (out : Link) (live : Table) (ds :
 links_split others k out live [] = refl
 links_split others k out live (d ∷ ds) = refl
 
+pub own_link : (others : Links Value) (k : ℕ) (out : Link) (live : Table) (ds : List (Lost Attrs)) → links_over others k out live ds out ≡ Some (attrs_rows (rows_below live ds))
+own_link others k out live ds = ap (λ (l : Links Value). l out) (links_split others k out live ds) ∙ with_link_here (LinksAbove others k live ds) out (Some (attrs_rows (rows_below live ds)))
+
 -- a link below those of a part is none of them
 lower_link : (others : Links Value) (k : ℕ) (link out : Link) (live : Table) (ds : List (Lost Attrs)) → rank_of link < rank_of out → IsRisingFrom (rank_of out) ds → links_over others k out live ds link ≡ others link
 lower_link others k link out live [] h rising = with_link_apart others out link (Some (attrs_rows (map.get live))) (λ e. below_apart link out h (sym e))
@@ -185,7 +188,7 @@ welds out d c sound none others clear =
     let above = links_over others k link c.live c.deletions in
     let bare = above_clear others k link c.live c.deletions sound.rising.1 (clear d.number (omega (arith, low))) in
     let below = nothing_covers d.rows rows none in
-    let own : above link ≡ Some (attrs_rows rows) = ap (λ (l : Links Value). l link) (links_split others k link c.live c.deletions) ∙ with_link_here (LinksAbove others k c.live c.deletions) link (Some (attrs_rows rows)) in
+    let own : above link ≡ Some (attrs_rows rows) = own_link others k link c.live c.deletions in
     let x : Option (Rows Value) = Some (attrs_rows (covered (map.get d.rows) rows)) in
     record {
       lawful = (

@@ -1,16 +1,16 @@
 -- The rows below lost tables, after changes above.
-use Rattle.std.proofs.Common.{◌≡◌, ◌≢◌, ℕ, Bool, true, false, cond, List, [], ◌∷◌, Option, Some, None, IsSome, is_some, refl, sym, ap, subst, ◌∙◌}
+use Rattle.std.proofs.Common.{◌≡◌, ◌≢◌, ◌||◌, ℕ, Bool, true, false, cond, List, [], ◌∷◌, Option, Some, None, IsSome, is_some, refl, sym, ap, subst, ◌∙◌}
 use Rattle.std.specs.Prelude.{map}
 use Rattle.std.specs.FinMap as tables
 use Rattle.std.specs.FinMap.{FinMap}
 use Rattle.addr4.specs.Prefixes.{Network, prefix_cmp}
 use Rattle.bgp_attr.specs.declared.attrs.Attrs.{Attrs}
-use Rattle.link_change.specs.Rows.{Rows, with_row}
+use Rattle.link_change.specs.Rows.{Rows, with_row, with_rows, together, Candidates, IsNextCandidate}
 use Rattle.link_change.specs.Changes.{IsSent}
 use Rattle.link_change.specs.declared.change.Change.{Change}
-use Rattle.link_change.proofs.RowLemmas.{remove_absent, rows_inserted, with_row_here}
+use Rattle.link_change.proofs.RowLemmas.{remove_absent, rows_inserted, same_function, with_row_here}
 use Rattle.deletion_stage.specs.Lost.{Lost}
-use Rattle.deletion_stage.specs.Covering.{row_over, AreApart}
+use Rattle.deletion_stage.specs.Covering.{row_over, covered, AreApart}
 use Rattle.in_chain.specs.Chains.{Chained, rows_below, in_rows}
 use Rattle.in_chain.specs.Steps.{fed, live_after, deletions_after, without}
 use Rattle.in_chain.specs.Parts.{lowered}
@@ -66,3 +66,12 @@ fed_taken p (Some a) d after c new change apart numbers rows sent new_row is =
     let kept : after.rows ≡ tables.remove d.rows p = rows ∙ ap (tables.remove d.rows) sent.0 in
     let e : after ≡ without p d = λ i. record { number = numbers i; rows = kept i } in
     ap (lowered after) is ∙ ap (λ (x : Lost Attrs). lowered x (fed c p (Some a))) e
+
+some_over : (t o : Option Attrs) → (is_some t || is_some o) ≡ is_some (row_over t o)
+some_over None o = refl
+some_over (Some v) o = refl
+
+-- a walk below goes where one of the table or one above goes
+pub next_below : (table upper : Rows Attrs) (after result : Option Network) → IsNextCandidate (together (with_rows table) (with_rows upper)) after result → IsNextCandidate (with_rows (covered table upper)) after result
+next_below table upper after result next =
+    subst (λ (cs : Candidates). IsNextCandidate cs after result) (same_function _ _ (λ q. some_over (table q) (upper q))) next

@@ -11,6 +11,8 @@ use Rattle.bgp_attr.specs.declared.attrs.Attrs.{Attrs}
 use Rattle.link_change.specs.Rows.{Rows, is_empty_map}
 use Rattle.link_change.specs.Changes.{IsSent}
 use Rattle.link_change.specs.declared.change.Change.{Change}
+use Rattle.link_change.specs.declared.turn.Turn.{Turn}
+use Rattle.link_change.specs.declared.turn.Turn.TheVariants.{Nothing, Quiet, Sent}
 use Rattle.link_change.specs.Turns.{taken_turn}
 use Rattle.link_change.proofs.RowLemmas.{empty_rows}
 use Rattle.deletion_stage.proofs.CoverLemmas.{covered_nothing}
@@ -284,3 +286,10 @@ pub weld_passes : (out : Link) (d : Lost Attrs) (c new : Chained) → is_empty_m
 weld_passes out d c new full leads =
     let P : Bool → Type 0 = λ b. LeadsOver out (lowered d c) (cond b (Weld (Peer c.number d.number) out ∷ []) (weld_entries c.number (Peer c.number d.number) c.deletions)) (lowered d new) in
     subst P (sym full) leads
+
+pub one_after : (out : Link) (old new : Chained) (session : ℕ) (before now : Journaled) (turn : Turn Attrs) → IsTakenOver out old new session before now turn → IsSound out old → NoneEmpty old.deletions → OneEmptyAtMost new.deletions
+one_after out old new session before now Nothing taken sound full = subst (λ (x : Chained). OneEmptyAtMost x.deletions) (sym taken.1.0) (none_is_one old.deletions full)
+one_after out old new session before now Quiet taken sound full =
+    subst (λ (x : Chained). OneEmptyAtMost x.deletions) (sym taken.2.after) (one_swept session taken.2.prefix (rank_of out) old.deletions sound.rising full)
+one_after out old new session before now (Sent change) taken sound full =
+    subst (λ (x : Chained). OneEmptyAtMost x.deletions) (sym taken.2.after) (one_swept session taken.2.prefix (rank_of out) old.deletions sound.rising full)
