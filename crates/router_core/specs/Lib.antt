@@ -4,3 +4,6 @@ pub mod Stands
 pub mod Turns
 pub mod Blocks
 pub mod Laws
+pub mod Lookups
+pub mod Works
+pub mod Peers

@@ -14,6 +14,11 @@ pub record Moment : Type 0 where
   pub declared : Declaration
   pub chains : List Chained
 
+abbrev pub moment_code : Coded Declaration → Coded Chained → Coded Moment
+moment_code d c =
+    code_by (Declaration × List Chained) (coded× d (coded_list c))
+    (λ a. (a.declared, a.chains)) (λ p. record { declared = p.0; chains = p.1 }) (λ _. refl)
+
 -- the moment, how many events were stepped, and whether memory ran out
 pub record Cored : Type 0 where
   pub moment : Moment

@@ -2,7 +2,11 @@
 #![tactic(auto)]
 
 mod laws;
+mod lookups;
+mod network;
+mod peers;
 mod router;
+mod turns;
 mod updates;
 
 pub use laws::{declarations_follow, sessions_end};
