@@ -7,3 +7,4 @@ pub mod PlaceLemmas
 pub mod UnitLemmas
 pub mod TurnLemmas
 pub mod TaskLemmas
+pub mod DrainLemmas

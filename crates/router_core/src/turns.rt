@@ -5,7 +5,9 @@ ghost use Rattle.in_chain.specs.Chains.{IsChain, NoneEmpty};
 ghost use Rattle.journal_text.specs.declared.link.Task.TheVariants as tasks;
 ghost use Rattle.router_core.specs.Moments.{chain_at, Gives};
 ghost use Rattle.router_core.specs.Stands.{AreInOrder, Stands};
-ghost use Rattle.router_core.specs.Works.{TurnsChain, FeedsChain, Pushes, is_nothing, IsPlace, IsSoundAt, TurnsAt, Comes, AreTurns, HasDrained};
+ghost use Rattle.router_core.specs.Works.{TurnsChain, FeedsChain, Pushes, is_nothing, IsPlace, IsSoundAt, TurnsAt, Comes, AreTurns, HasDrained, HaveDrained, first_task};
+ghost use Rattle.router_core.specs.Turns.{chain_tasks, deletion_tasks};
+ghost use Rattle.std.specs.List.{flat_map};
 
 use crate::network::Network;
 use crate::router::Done;
@@ -138,4 +140,40 @@ impl Network {
         let turns = self.turns(task, rows, journal)?;
         Ok(turns)
     }
+
+    /// Turns of every deletion stage, each to its end: by peer, and the earliest session first.
+    pub(crate) fn drain_all(&mut self, journal: &mut Journal) -> Result<u128, Memory>
+        requires { Stands self.old }
+        ensures { IfOk result (λ turns. Gives (HaveDrained self.old turns self.new) journal.old journal.new) }
+    {
+        let rows = self.rows()?;
+        journal.flush()?;
+        let mut turns = 0;
+        while let Some(task) = self.first() {
+            match self.turn(task, journal)? {
+                Done::Nothing => unreachable!(),
+                Done::Taken => turns += 1,
+            }
+        }
+        Ok(turns)
+    }
+
+    /// The first task that has work.
+    fn first(&self) -> Option<Task>
+        ensures { result ≡ first_task (deletion_tasks self.now) }
+    {
+        first_oldest(self.chains.as_slice())
+    }
+}
+
+/// The oldest stage of the first chain that has one.
+fn first_oldest(chains: &[Chain]) -> Option<Task>
+    ensures { result ≡ first_task (flat_map chain_tasks chains.now) }
+{
+    for chain in chains {
+        if let Some(task) = chain.oldest() {
+            return Some(task);
+        }
+    }
+    None
 }
