@@ -1,15 +1,16 @@
 -- Links that are set, walks one after the other, and the entry of one change.
-use Rattle.std.proofs.Common.{◌≡◌, Bool, true, false, cond, List, [], ◌∷◌, ◌++◌, Option, Some, None, refl, sym, ap, subst, ◌∙◌}
+use Rattle.std.proofs.Common.{◌≡◌, Bool, true, false, cond, List, [], ◌∷◌, ◌++◌, Option, Some, None, IsSome, refl, sym, ap, subst, ◌∙◌}
 use Rattle.std.specs.Option.{option_map}
 use Rattle.addr4.specs.Prefixes.{Network, prefix_cmp}
 use Rattle.std.specs.Ordering.{eq_by_cmp}
 use Rattle.bgp_attr.specs.declared.attrs.Attrs.{Attrs}
-use Rattle.link_change.specs.Rows.{Rows, with_row}
+use Rattle.link_change.specs.Rows.{Rows, no_rows, with_row}
 use Rattle.link_change.specs.Changes.{IsSent}
 use Rattle.link_change.specs.declared.change.Change.{Change}
 use Rattle.link_change.proofs.RowLemmas.{same_function}
 use Rattle.journal_text.specs.declared.link.Link.{Link}
 use Rattle.journal_text.specs.declared.entry.Entry.{Entry}
+use Rattle.journal_text.specs.declared.entry.Entry.TheVariants.{Begin, Inherit, Asked, Weld, End}
 use Rattle.journal_text.specs.declared.value.Value.{Value}
 use Rattle.journal_text.specs.declared.value.Value.TheVariants as values
 use Rattle.journal_text.specs.Links.{same_link}
@@ -85,6 +86,25 @@ module _ {V : Type 0} where
     lawful = (((rows, live, at), λ same. differ (ap Some (sym same))), tt);
     ends = ap (λ (o : Option (Rows V)). with_link links link (option_map (λ rows. with_row rows p (Some new)) o)) live;
   }
+
+  pub leads_begin : (links : Links V) (link : Link) → links link ≡ None → Leads links (Begin link ∷ []) (with_link links link (Some no_rows))
+  leads_begin links link free = record { lawful = (free, tt); ends = refl }
+
+  pub leads_inherit : (links : Links V) (link from : Link) (rows : Rows V) → links link ≡ None → links from ≡ Some rows → Leads links (Inherit link from ∷ []) (with_link links link (Some rows))
+  leads_inherit links link from rows free live = record {
+    lawful = ((free, subst (λ (o : Option (Rows V)). IsSome o) (sym live) refl), tt);
+    ends = ap (with_link links link) live;
+  }
+
+  -- a lookup changes nothing
+  pub leads_asked : (links : Links V) (link : Link) (rows : Rows V) (p : Network) (row : Option V) → links link ≡ Some rows → rows p ≡ row → Leads links (Asked link p row ∷ []) links
+  leads_asked links link rows p row live at = record { lawful = ((rows, live, at), tt); ends = refl }
+
+  pub leads_weld : (links : Links V) (upper lower : Link) (rows : Rows V) → (upper ≡ lower → ⊥) → links upper ≡ Some rows → links lower ≡ Some rows → Leads links (Weld upper lower ∷ []) (with_link links upper None)
+  leads_weld links upper lower rows apart above below = record { lawful = ((apart, (rows, above, below)), tt); ends = refl }
+
+  pub leads_end : (links : Links V) (link : Link) (rows : Rows V) → links link ≡ Some rows → Leads links (End link ∷ []) (with_link links link None)
+  leads_end links link rows live = record { lawful = (subst (λ (o : Option (Rows V)). IsSome o) (sym live) refl, tt); ends = refl }
 
 -- the value of a row of attributes, and back
 abbrev as_value : Option Attrs → Option Value

@@ -1,3 +1,7 @@
+mod ChainLookups
+mod SessionLemmas
+mod ShownRows
+mod UpdateLemmas
 pub mod ChainLemmas
 pub mod LinkLemmas
 pub mod WorkLemmas
