@@ -7,3 +7,8 @@ pub mod LinkLemmas
 pub mod WorkLemmas
 pub mod RowCounts
 pub mod StandLemmas
+pub mod PlaceLemmas
+pub mod UnitLemmas
+pub mod TurnLemmas
+pub mod TaskLemmas
+pub mod DrainLemmas

@@ -24,7 +24,7 @@ use Rattle.router_core.specs.declared.router.Done.{Done}
 use Rattle.router_core.specs.declared.router.Done.TheVariants.{Nothing, Taken}
 use Rattle.router_core.specs.Moments.{Moment, chain_at, put_chain, router_links, rows_in, Gives}
 use Rattle.router_core.specs.Lives.{live_state}
-use Rattle.router_core.specs.Stands.{Stands}
+use Rattle.router_core.specs.Stands.{Stands, IsSettled}
 use Rattle.router_core.specs.Turns.{fall_lines, FeedsAll, IsTurn, Turns, Drains, DrainsAll, has_table, has_work, deletion_tasks}
 
 -- these lines were pushed, and this is said of them
@@ -103,10 +103,31 @@ abbrev pub Comes : Task → Moment → Moment → Journaled → Journaled → Do
 Comes task m m' before now Nothing = (has_work task m ≡ false) × (m' ≡ m) × (now ≡ before)
 Comes task m m' before now Taken = Gives (IsUnit task m m') before now
 
--- so many turns of a task, at most n, and fewer only where it then has no work
-pub record AreTurns (task : Task) (n : ℕ) (m : Moment) (turns : ℕ) (m' : Moment) (said : List Line) : Type 0 where
+-- so many turns of a task, each with one row less
+pub record HaveRun (task : Task) (m : Moment) (turns : ℕ) (m' : Moment) (said : List Line) : Type 0 where
   pub taken : Turns turns task m said m'
   pub work : IsWork m said m'
   pub fewer : rows_in m'.chains + turns ≡ rows_in m.chains
+
+-- at most n turns of a task, and fewer only where it then has no work
+pub record AreTurns (task : Task) (n : ℕ) (m : Moment) (turns : ℕ) (m' : Moment) (said : List Line) : Type 0 where
+  pub run : HaveRun task m turns m' said
   pub most : turns ≤ n
   pub ended : (turns ≡ n) ⊎ (has_work task m' ≡ false)
+
+-- a task has run to its end
+pub record HasDrained (task : Task) (m : Moment) (turns : ℕ) (m' : Moment) (said : List Line) : Type 0 where
+  pub run : HaveRun task m turns m' said
+  pub ended : has_work task m' ≡ false
+
+-- every deletion stage has run to its end
+pub record HaveDrained (m : Moment) (turns : ℕ) (m' : Moment) (said : List Line) : Type 0 where
+  pub drains : DrainsAll (deletion_tasks m) m said turns m'
+  pub work : IsWork m said m'
+  pub fewer : rows_in m'.chains + turns ≡ rows_in m.chains
+  pub settled : IsSettled m'
+
+-- the first of some tasks
+abbrev pub first_task : List Task → Option Task
+first_task [] = None
+first_task (task ∷ tasks) = Some task
