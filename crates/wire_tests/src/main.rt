@@ -15,39 +15,56 @@ mod written;
 use crate::octets::octets_of;
 use crate::texts::push_message;
 use crate::written::push_written;
+use addr4::Memory;
 use anyhow::Context;
 use bgp_attr::Profile;
 use bgp_wire::read_message;
 use std::alloc::Global;
 use std::io::{BufRead, BufReader};
 
-/// Whether the octets get the answer that is wanted.
-fn is_right(alloc: Global, flags: &str, octets: &[u8], wanted: &str) -> anyhow::Result<bool> {
+/// The answer to octets, in words or as what is sent.
+fn push_answer(out: &mut Vec<u8>, flags: &str, octets: &[u8]) -> Result<(), Memory> {
     let profile = Profile {
         as4: flags.contains('4'),
         revised: flags.contains('r'),
     };
-    let mut out = Vec::new(alloc);
-    let wide = flags.contains('W');
-    if wide || flags.contains('w') {
-        push_written(&mut out, profile, octets, flags.contains('x'), wide)
-            .ok()
-            .context("no memory")?;
-        return Ok(out.as_slice() == octets_of(alloc, wanted)?.as_slice());
+    let external = flags.contains('x');
+    let message = read_message(*out.allocator(), profile, octets, external)?;
+    if is_sent(flags) {
+        push_written(out, profile, external, &message, flags.contains('W'))
+    } else {
+        push_message(out, &message)
     }
-    let message = read_message(alloc, profile, octets, flags.contains('x'))
+}
+
+/// Whether the answer is what is sent.
+fn is_sent(flags: &str) -> bool {
+    flags.contains('w') || flags.contains('W')
+}
+
+fn wanted_answer(alloc: Global, flags: &str, wanted: &str) -> anyhow::Result<Vec<u8>> {
+    if is_sent(flags) {
+        octets_of(alloc, wanted)
+    } else {
+        Ok(Vec::from_slice(alloc, wanted.as_bytes())?)
+    }
+}
+
+/// Whether octets get the answer that is wanted.
+fn is_right(alloc: Global, flags: &str, words: &str, wanted: &str) -> anyhow::Result<bool> {
+    let octets = octets_of(alloc, words)?;
+    let mut out = Vec::new(alloc);
+    push_answer(&mut out, flags, octets.as_slice())
         .ok()
         .context("no memory")?;
-    push_message(&mut out, &message).ok().context("no memory")?;
-    Ok(out.as_slice() == wanted.as_bytes())
+    Ok(out.as_slice() == wanted_answer(alloc, flags, wanted)?.as_slice())
 }
 
 /// Whether a row gets the answer that it wants.
 fn row_is_right(alloc: Global, row: &str) -> anyhow::Result<bool> {
     let (input, wanted) = row.split_once(" = ").context("no answer")?;
     let (flags, words) = input.split_once(' ').context("no octets")?;
-    let octets = octets_of(alloc, words)?;
-    is_right(alloc, flags, octets.as_slice(), wanted)
+    is_right(alloc, flags, words, wanted)
 }
 
 fn main(rt: HostRuntime) -> anyhow::Result<()> {

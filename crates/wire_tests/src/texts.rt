@@ -1,8 +1,8 @@
 //! Messages in words.
 
 use addr4::{Memory, Prefix, push_addr, push_number, push_prefix};
-use bgp_attr::{Attrs, Origin, Segment, SegmentKind, Unrecognized};
-use bgp_wire::Message;
+use bgp_attr::{Aggregator, Attrs, Origin, Segment, SegmentKind, Unrecognized};
+use bgp_wire::{Message, Notice, Update};
 
 fn push_text(out: &mut Vec<u8>, text: &str) -> Result<(), Memory> {
     out.extend_from_slice(text.as_bytes())?;
@@ -72,49 +72,69 @@ fn push_unrecognized(out: &mut Vec<u8>, items: &[Unrecognized]) -> Result<(), Me
     Ok(())
 }
 
-fn push_attrs(out: &mut Vec<u8>, attrs: &Attrs) -> Result<(), Memory> {
-    let origin = match attrs.origin {
-        Origin::Igp => " o0,p",
-        Origin::Egp => " o1,p",
-        Origin::Incomplete => " o2,p",
-    };
-    push_text(out, origin)?;
-    for segment in attrs.path.as_slice() {
+fn push_path(out: &mut Vec<u8>, path: &[Segment]) -> Result<(), Memory> {
+    push_text(out, ",p")?;
+    for segment in path {
         push_segment(out, segment)?;
     }
-    push_text(out, ",n")?;
-    push_addr(out, attrs.next_hop)?;
-    push_option(out, ",m", attrs.med)?;
-    push_option(out, ",l", attrs.local_pref)?;
-    push_text(out, if attrs.atomic { ",a" } else { "" })?;
-    if let Some(aggregator) = attrs.aggregator {
+    Ok(())
+}
+
+fn push_aggregator(out: &mut Vec<u8>, aggregator: Option<Aggregator>) -> Result<(), Memory> {
+    if let Some(aggregator) = aggregator {
         push_option(out, ",g", Some(aggregator.asn))?;
         push_text(out, "/")?;
         push_addr(out, aggregator.addr)?;
         push_text(out, if aggregator.partial { "!" } else { "" })?;
     }
+    Ok(())
+}
+
+/// ORIGIN, AS_PATH and NEXT_HOP.
+fn push_mandatory(out: &mut Vec<u8>, attrs: &Attrs) -> Result<(), Memory> {
+    let origin = match attrs.origin {
+        Origin::Igp => " o0",
+        Origin::Egp => " o1",
+        Origin::Incomplete => " o2",
+    };
+    push_text(out, origin)?;
+    push_path(out, attrs.path.as_slice())?;
+    push_text(out, ",n")?;
+    push_addr(out, attrs.next_hop)
+}
+
+fn push_attrs(out: &mut Vec<u8>, attrs: &Attrs) -> Result<(), Memory> {
+    push_mandatory(out, attrs)?;
+    push_option(out, ",m", attrs.med)?;
+    push_option(out, ",l", attrs.local_pref)?;
+    push_text(out, if attrs.atomic { ",a" } else { "" })?;
+    push_aggregator(out, attrs.aggregator)?;
     push_unrecognized(out, attrs.unrecognized.as_slice())
+}
+
+fn push_update(out: &mut Vec<u8>, update: &Update) -> Result<(), Memory> {
+    push_text(out, "update")?;
+    push_prefixes(out, " -", update.withdrawn.as_slice())?;
+    push_prefixes(out, " +", update.announced.as_slice())?;
+    match &update.attrs {
+        Some(attrs) => push_attrs(out, attrs),
+        None => Ok(()),
+    }
+}
+
+fn push_notice(out: &mut Vec<u8>, notice: &Notice) -> Result<(), Memory> {
+    push_text(out, "notify ")?;
+    push_hex(out, &[notice.code, notice.subcode])?;
+    push_hex(out, notice.octets.as_slice())
 }
 
 /// What a message says, in words.
 pub(crate) fn push_message(out: &mut Vec<u8>, message: &Message) -> Result<(), Memory> {
     match message {
-        Message::Update(update) => {
-            push_text(out, "update")?;
-            push_prefixes(out, " -", update.withdrawn.as_slice())?;
-            push_prefixes(out, " +", update.announced.as_slice())?;
-            match &update.attrs {
-                Some(attrs) => push_attrs(out, attrs),
-                None => Ok(()),
-            }
-        }
+        Message::Update(update) => push_update(out, update),
         Message::Keepalive => push_text(out, "keepalive"),
         Message::Notification => push_text(out, "notification"),
         Message::Skip => push_text(out, "skip"),
-        Message::Notify(notice) => {
-            push_text(out, "notify ")?;
-            push_hex(out, &[notice.code, notice.subcode])?;
-            push_hex(out, notice.octets.as_slice())
-        }
+        Message::Notify(notice) => push_notice(out, notice),
     }
 }

@@ -1,10 +1,10 @@
 //! What was read, as it is sent.
 
-ghost use Rattle.bgp_wire.specs.Readable.{IsReadableUpdate};
+ghost use Rattle.bgp_wire.specs.Readable.{IsReadableUpdate, IsReadableMessage};
 
 use addr4::Memory;
 use bgp_attr::Profile;
-use bgp_wire::{Message, Notice, Update, read_message, write_notification, write_update};
+use bgp_wire::{Message, Notice, Update, write_notification, write_update};
 use wire_laws::what_is_readable_fits;
 
 /// An UPDATE of one prefix as it is sent; no octets where it is too long, or has more or fewer prefixes.
@@ -54,13 +54,15 @@ fn push_notice(out: &mut Vec<u8>, notice: &Notice) -> Result<(), Memory> {
 pub(crate) fn push_written(
     out: &mut Vec<u8>,
     profile: Profile,
-    octets: &[u8],
     external: bool,
+    message: &Message,
     wide: bool,
-) -> Result<(), Memory> {
-    match read_message(*out.allocator(), profile, octets, external)? {
-        Message::Update(update) => push_update(out, profile, external, &update, wide),
-        Message::Notify(notice) => push_notice(out, &notice),
+) -> Result<(), Memory>
+    requires { IsReadableMessage profile external message.now }
+{
+    match message {
+        Message::Update(update) => push_update(out, profile, external, update, wide),
+        Message::Notify(notice) => push_notice(out, notice),
         _ => Ok(()),
     }
 }
