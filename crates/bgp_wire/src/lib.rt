@@ -32,6 +32,3 @@ pub use message::{Message, Prefixes, Update};
 pub use notice::Notice;
 pub use reading::read_message;
 pub use writing::{write_notification, write_update};
-
-#[cfg(test)]
-mod tests;

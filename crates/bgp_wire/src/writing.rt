@@ -7,8 +7,6 @@ ghost use Rattle.bgp_wire.specs.Spelling.{FitsAttrs, fields_octets, framed, noti
 
 mod attributes;
 mod numbers;
-#[cfg(test)]
-mod tests;
 
 use crate::header::{LONGEST, NOTIFICATION, UPDATE};
 use crate::message::{Prefixes, Update};
