@@ -1,23 +1,21 @@
 -- What a peer said in an UPDATE of one prefix is said again in the one spelling, and is read as it was.
-use Rattle.std.proofs.Common.{◌≡◌, ℕ, suc, ◌+◌, ◌≤◌, ◌<◌, Bool, true, false, List, [], ◌∷◌, ◌++◌, length, get_or, Option, Some, None, refl, sym, ap, subst, ◌∙◌, Fits, w8, arith}
-use Rattle.std.specs.Prelude.{All, replicate}
-use Rattle.std.specs.Option.{ForSome}
+use Rattle.std.proofs.Common.{◌≡◌, ℕ, ◌+◌, ◌≤◌, ◌<◌, Bool, true, false, List, [], ◌∷◌, length, Option, Some, None, refl, sym, ap, subst, arith}
+use Rattle.std.specs.Prelude.{All}
 use Rattle.std.proofs.lemmas.List.{length-append, length-take}
 use Rattle.byteorder.specs.Endian.{big_bytes}
 use Rattle.addr4.specs.Prefixes.{Network}
 use Rattle.bgp_attr.specs.declared.attrs.Attrs.{Attrs}
 use Rattle.bgp_attr.specs.declared.speaker.Profile.{Profile}
 use Rattle.bgp_wire.specs.declared.message.Update.{Update}
-use Rattle.bgp_wire.specs.declared.message.Message.{Message}
 use Rattle.bgp_wire.specs.declared.message.Message.TheVariants as messages
 use Rattle.bgp_wire.specs.Prefixes.{octets_for, ArePrefixes}
 use Rattle.bgp_wire.specs.Routes.{AreAttrs}
 use Rattle.bgp_wire.specs.Updates.{Reading}
-use Rattle.bgp_wire.specs.Grammar.{IsReading, AreAttrsFor, IsUpdateBy, without, Reads, Answers}
+use Rattle.bgp_wire.specs.Grammar.{IsReading, AreAttrsFor, IsUpdateBy, Reads}
 use Rattle.bgp_wire.specs.Spelling.{sent_attributes, octets_of, prefixes_octets, prefix_octets, fields_octets, framed, update_octets}
-use Rattle.bgp_wire.specs.Readable.{IsNetwork, IsReadable, IsReadableUpdate, IsReadableMessage, AreOctets, HasOnePrefix, announcement}
+use Rattle.bgp_wire.specs.Readable.{IsNetwork, IsReadable, IsReadableUpdate, AreOctets, HasOnePrefix, announcement}
 use Rattle.wire_laws.proofs.SpelledMessages.{length-framed, length-fields, withdrawal_is_read, announcement_is_read}
-use Rattle.bgp_wire.proofs.ReadableLaws.{Every, every_all, all_every, every_append, every_back, every_front, every_filter, Octets, networks_read, attrs_read}
+use Rattle.bgp_wire.proofs.ReadableLaws.{all_every, Octets}
 use Rattle.wire_laws.proofs.LengthLaws.{attributes_no_longer}
 use Rattle.bgp_wire.proofs.ReadableMessages.{field_octets, read_is_readable}
 
