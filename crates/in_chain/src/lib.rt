@@ -10,3 +10,6 @@ mod stage;
 pub use chain::Chain;
 pub use laws::rows_are_counted;
 pub use stage::Stage;
+
+#[cfg(test)]
+mod tests;
