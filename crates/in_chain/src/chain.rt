@@ -1,4 +1,4 @@
-//! The chain of one peer.
+//! The chain of one peer, as the crates above see it.
 
 ghost use Rattle.std.specs.Prelude.{◌≡◌, ◌<◌, IfOk, OnOk, IsTrue, is_some, IsSome, Option, Some, None};
 ghost use Rattle.std.specs.Option.{option_copied, option_map};
@@ -63,7 +63,8 @@ fn session_of(number: u32, task: Task) -> Option<u32>
 }
 
 impl Chain {
-    /// A chain without routes and without deletion stages.
+    /// A chain without routes and without deletion stages, for the peer of this number, from 1. Takes no memory now;
+    /// what the stages hold later comes from `alloc`.
     pub fn new(alloc: Global, number: u32) -> Result<Chain, Memory>
         ensures { IfOk result (λ chain. chain ≡ new_chain number) }
     {
@@ -81,14 +82,16 @@ impl Chain {
         self.number
     }
 
-    /// The lowest stage, which holds all others.
+    /// The lowest stage, which holds all others; the link out of it is `in.K`.
     pub fn lowest(&self) -> &Stage
         ensures { chained_of self.now.number result.now ≡ self.now }
     {
         &self.lowest
     }
 
-    /// A route is announced (`new` is some), or withdrawn. Answers the change on `in.K`: None exactly where its map stays the same.
+    /// A route is announced (`new` is some), or withdrawn (RFC 4271, section 3.1), by the present session. Answers the change
+    /// on `in.K`: None exactly where its map stays the same. An announcement takes its prefix out of the lost tables, and
+    /// may so empty one: weld then. Memory comes only for want of memory.
     pub fn feed(
         &mut self,
         p: Prefix,
@@ -108,7 +111,8 @@ impl Chain {
         Ok(sent)
     }
 
-    /// The stage that has to run to its end before a session may be lost.
+    /// The task that has to run to its end before a session may be lost: that of the stage that stands longest, where 16
+    /// stand and a route is live. So no chain has more than 16 deletion stages.
     pub fn overdue(&self) -> Option<Task>
         ensures { result ≡ overdue_of self.now }
     {
@@ -118,7 +122,7 @@ impl Chain {
         self.oldest()
     }
 
-    /// The deletion stage that stands longest.
+    /// The task of the deletion stage that stands longest, the lowest; None where none stands.
     pub fn oldest(&self) -> Option<Task>
         ensures { result ≡ oldest_of self.now.number self.now.deletions }
     {
@@ -128,7 +132,8 @@ impl Chain {
         }
     }
 
-    /// The session of this number is lost.
+    /// The session of this number is lost: its routes, if there are any, go to a deletion stage directly below the top, and
+    /// the link `peer.K.S` above it begins. The map of `in.K` stays the same.
     pub fn lose(&mut self, session: u32, journal: &mut Journal) -> Result<(), Memory>
         requires chain { IsChain self.old }
         requires full { NoneEmpty self.old.deletions }
@@ -146,7 +151,7 @@ impl Chain {
         Ok(())
     }
 
-    /// Takes out the stage that a fall emptied, if any.
+    /// Takes out the stage that a feed or a turn emptied, if there is one: the link above it is welded into the one below.
     pub fn weld(&mut self, journal: &mut Journal) -> Result<(), Memory>
         requires chain { IsChain self.old }
         requires one_empty { OneEmptyAtMost self.old.deletions }
@@ -162,7 +167,9 @@ impl Chain {
         Ok(())
     }
 
-    /// One turn of a deletion stage. Nothing exactly where the chain has no such stage.
+    /// One turn of the deletion stage of a task, `del.K.S`: its least row, by address and then length, goes, and its delete
+    /// goes down. Nothing exactly where the chain has no such stage; Quiet where no change comes out on `in.K`. A turn may
+    /// empty the stage: weld then.
     pub fn unit(&mut self, task: Task, journal: &mut Journal) -> Result<Turn<SharedAttrs>, Memory>
         requires chain { IsChain self.old }
         requires full { NoneEmpty self.old.deletions }
@@ -199,14 +206,14 @@ impl Chain {
         }
     }
 
-    /// Whether the link is one of the chain's.
+    /// Whether the link is one of the chain's: `in.K`, or `peer.K.S` above the deletion stage of session S.
     pub fn live(&self, link: Link) -> bool
         ensures { result ≡ is_some (links_of self.now link) }
     {
         self.stage_out(link).is_some()
     }
 
-    /// The row at a prefix of a link of the chain.
+    /// The row at a prefix of a link of the chain; None where it has none. Memory where the row can't be copied.
     pub fn asked(&self, link: Link, p: Prefix) -> Result<Option<Value>, Memory>
         requires { IsSome (links_of self.now link) }
         ensures { IfOk result (HasRow (links_of self.now) link p) }

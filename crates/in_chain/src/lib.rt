@@ -1,4 +1,18 @@
-//! A peer's incoming chain: the live routes, and below them the deletion stages of lost sessions, spliced in and out at run time.
+//! A peer's incoming chain: the live routes of the present session, and below them a deletion stage for each lost session
+//! whose routes aren't deleted yet (NSDI 2005, section 5.1.2).
+//!
+//! A [`Chain`] is its lowest [`Stage`]; each deletion stage holds the stage above it in a box, and the routes of the
+//! present session stand at the top. The link out of the lowest stage is `in.K`, K being the peer's number; the link
+//! above the deletion stage of session S is `peer.K.S`. When a session is lost, its whole table goes into a new stage
+//! directly below the top, in one step whatever its size, and the new link begins. When a table is empty, its stage is
+//! taken out, and the link above it is welded into the one below.
+//!
+//! What is proved of every call: whatever other links there are, its entries lead by the journal's two consistency rules
+//! from the maps of the chain's old links to those of its new ones; a change goes down, link by link, as far as it isn't
+//! silent; no prefix has a row both in a lost table and above it. Nothing is kept twice: the map of a link is computed
+//! from the tables above it, and lookups walk the chain upward. A call costs one table operation for each stage.
+//!
+//! For want of memory a call may stop half way. The chain may then only be dropped: nothing is said of it.
 #![tactic(auto)]
 
 mod chain;
@@ -10,3 +24,6 @@ mod stage;
 pub use chain::Chain;
 pub use laws::rows_are_counted;
 pub use stage::Stage;
+
+#[cfg(test)]
+mod tests;
