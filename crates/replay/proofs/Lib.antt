@@ -6,3 +6,4 @@ pub mod Steps
 pub mod Pieces
 pub mod GoingOn
 pub mod Endings
+pub mod WordLemmas

@@ -4,3 +4,4 @@ pub mod Output
 pub mod Stream
 pub mod Streams
 pub mod Headline
+pub mod Commands

@@ -6,6 +6,8 @@ mod run;
 mod status;
 mod stepping;
 mod stream;
+mod words;
 
 pub use run::run_events;
 pub use status::Status;
+pub use words::{Command, read_command};
