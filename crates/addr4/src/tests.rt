@@ -8,7 +8,7 @@ use std::test::Fail;
 fn printed(alloc: Global, text: &str) -> Result<String, Fail> {
     let mut out = Vec::new(alloc);
     match read_prefix(text.as_bytes()) {
-        Ok(p) => push_prefix(alloc, &mut out, p).ok().ok_or("memory")?,
+        Ok(p) => push_prefix(&mut out, p).ok().ok_or("memory")?,
         Err(_) => out.push(b'-')?,
     }
     Ok(String::from_utf8(out).ok().ok_or("text")?)
@@ -45,7 +45,7 @@ fn addresses_are_read_and_printed(rt: HostRuntime) -> Result<(), Fail> {
     let addr = read_addr(b"192.0.2.254").ok().ok_or("no address")?;
     assert_eq!(rt; addr, Addr::new(0xc000_02fe));
     let mut out = Vec::new(alloc);
-    push_addr(alloc, &mut out, addr).ok().ok_or("memory")?;
+    push_addr(&mut out, addr).ok().ok_or("memory")?;
     assert_eq!(rt; out.as_slice(), b"192.0.2.254".as_slice());
     Ok(())
 }

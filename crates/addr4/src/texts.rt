@@ -10,7 +10,6 @@ use crate::memory::Memory;
 use crate::numbers::{push_number, read_number_below};
 use crate::parts::first_part;
 use crate::prefix::Prefix;
-use std::alloc::Global;
 
 /// A text that is no address.
 #[derive(Clone, Copy, Debug, PartialEq, Eq, thiserror::Error)]
@@ -56,33 +55,32 @@ fn read_octets(text: &[u8]) -> Option<Addr>
 }
 
 /// Appends four octets with dots between them.
-fn push_octets(alloc: Global, out: &mut Vec<u8>, a: u8, b: u8, c: u8, d: u8) -> Result<(), Memory>
+fn push_octets(out: &mut Vec<u8>, a: u8, b: u8, c: u8, d: u8) -> Result<(), Memory>
     ensures { OnOk result (out.new.items ≡ out.old.items ++ dotted (a ∷ b ∷ c ∷ d ∷ [])) }
 {
-    push_octet(alloc, out, a)?;
-    push_octet(alloc, out, b)?;
-    push_octet(alloc, out, c)?;
-    push_number(alloc, out, u64::from(d))?;
+    push_octet(out, a)?;
+    push_octet(out, b)?;
+    push_octet(out, c)?;
+    push_number(out, u64::from(d))?;
     Ok(())
 }
 
 /// Appends an octet and a dot.
-fn push_octet(alloc: Global, out: &mut Vec<u8>, octet: u8) -> Result<(), Memory>
+fn push_octet(out: &mut Vec<u8>, octet: u8) -> Result<(), Memory>
     ensures { OnOk result (out.new.items ≡ out.old.items ++ (decimal octet ++ 46 ∷ [])) }
 {
-    push_number(alloc, out, u64::from(octet))?;
+    push_number(out, u64::from(octet))?;
     out.push(b'.')?;
     Ok(())
 }
 
 /// Appends the text of an address. For want of memory some front of it may have been appended.
 #[tactic(auto, unfolding(crate::specs::Texts::addr_text))]
-pub fn push_addr(alloc: Global, out: &mut Vec<u8>, addr: Addr) -> Result<(), Memory>
+pub fn push_addr(out: &mut Vec<u8>, addr: Addr) -> Result<(), Memory>
     ensures { OnOk result (out.new.items ≡ out.old.items ++ addr_text addr) }
 {
     let number = addr.number();
     push_octets(
-        alloc,
         out,
         (number / 0x100_0000 % 256) as u8,
         (number / 0x1_0000 % 256) as u8,
@@ -115,11 +113,11 @@ fn read_length(text: &[u8]) -> Option<Prefix>
 
 /// Appends the text of a prefix. For want of memory some front of it may have been appended.
 #[tactic(auto, unfolding(crate::specs::Texts::prefix_text))]
-pub fn push_prefix(alloc: Global, out: &mut Vec<u8>, p: Prefix) -> Result<(), Memory>
+pub fn push_prefix(out: &mut Vec<u8>, p: Prefix) -> Result<(), Memory>
     ensures { OnOk result (out.new.items ≡ out.old.items ++ prefix_text p) }
 {
-    push_addr(alloc, out, p.address())?;
+    push_addr(out, p.address())?;
     out.push(b'/')?;
-    push_number(alloc, out, u64::from(p.length()))?;
+    push_number(out, u64::from(p.length()))?;
     Ok(())
 }

@@ -13,11 +13,7 @@ pub mod FoundLaws
 pub mod GatherLaws
 pub mod ReadingLaws
 pub mod SpellingLemmas
-pub mod SpelledNumbers
-pub mod SpelledAttributes
-pub mod SpelledRoutes
-pub mod SpelledMessages
+pub mod TypeLaws
 pub mod ReadableLaws
-pub mod LengthLaws
-pub mod SaidAgain
-pub mod Prepended
+pub mod ReadableMessages
+pub mod JudgedTypes

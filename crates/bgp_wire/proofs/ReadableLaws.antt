@@ -24,7 +24,7 @@ use Rattle.bgp_wire.specs.Routes.{kept_of, number_of, aggregator_of, is_unrecogn
 use Rattle.bgp_wire.specs.Readable.{IsNetwork, IsReadableSegment, IsHost, IsReadable}
 use Rattle.bgp_wire.proofs.TestLemmas.{not_false, unequal}
 use Rattle.bgp_wire.proofs.RouteLaws.{IsKept, IsGood, kept_are, recognized_is_good, value_below}
-use Rattle.bgp_wire.proofs.SpelledAttributes.{GoodType, no_rule}
+use Rattle.bgp_wire.proofs.TypeLaws.{GoodType, no_rule}
 
 -- ---- lists
 

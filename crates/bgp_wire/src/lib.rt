@@ -11,9 +11,8 @@
 //! `revised` an UPDATE whose attributes have a fault is a withdraw, in the manner of RFC 7606.
 //!
 //! [`write_update`] and [`write_notification`] give the one spelling of a message (`update_octets`, `notification_octets`).
-//! What a peer can read as it is said is said in `specs/Readable`: all that [`read_message`] answers is so, and an UPDATE of
-//! one prefix that is so, and fits into a message, is read from its spelling as it was
-//! ([`what_was_read_is_written_and_read_again`], [`announcements_are_read`], [`withdrawals_are_read`]).
+//! What a peer can read as it is said is said in `specs/Readable`: all that [`read_message`] answers is so. That what is
+//! written is read as it was, the crate `wire_laws` says.
 #![tactic(auto)]
 
 mod attributes;
@@ -32,11 +31,4 @@ pub use laws::{one_fault_for_both, one_of_message_and_fault};
 pub use message::{Message, Prefixes, Update};
 pub use notice::Notice;
 pub use reading::read_message;
-pub use writing::{
-    announcements_are_read, prepended_paths_are_readable, what_is_readable_fits,
-    what_was_read_is_readable, what_was_read_is_written_and_read_again, withdrawals_are_read,
-    write_notification, write_update,
-};
-
-#[cfg(test)]
-mod tests;
+pub use writing::{write_notification, write_update};

@@ -1,6 +1,9 @@
 //! Reading whole messages.
 
-ghost use Rattle.std.specs.Prelude.{◌≡◌, ◌≤◌, ◌++◌, length, IfOk, Bool};
+ghost use Rattle.std.specs.Prelude.{◌≡◌, ◌≤◌, ◌++◌, length, filter, not, IfOk, Bool};
+ghost use Rattle.std.specs.BTreeSet.{contains};
+ghost use Rattle.std.specs.List.{list_any};
+ghost use Rattle.addr4.specs.Prefixes.{Network, prefix_cmp, same_prefix};
 ghost use Rattle.bgp_wire.specs.declared.message.Message.{Message as Answer};
 ghost use Rattle.bgp_wire.specs.Faults.{Gives};
 ghost use Rattle.bgp_wire.specs.Found.{missing_from, lacks_from, attrs_from, update_of};
@@ -17,6 +20,7 @@ use crate::prefixes::read_prefixes;
 use addr4::{Memory, Prefix};
 use bgp_attr::{Attrs, Profile};
 use std::alloc::{AllocError, Global};
+use std::collections::BTreeSet;
 
 /// The lowest type that an announcement lacks: ORIGIN, AS_PATH or NEXT_HOP.
 fn missing(found: &Found) -> Option<u8>
@@ -86,20 +90,32 @@ fn into_attrs(found: Found, external: bool) -> Option<Attrs>
     }
 }
 
-/// Removes the prefixes that are among the others.
-fn remove_all(prefixes: &mut Vec<Prefix>, others: &[Prefix])
-    ensures { prefixes.new.items ≡ without others.now prefixes.old.items }
+/// The prefixes as a set.
+fn set_of(alloc: Global, prefixes: &[Prefix]) -> Result<BTreeSet<Prefix>, AllocError>
+    ensures { IfOk result (λ set. (p : Network) → contains prefix_cmp set p ≡ list_any (λ other. same_prefix other p) prefixes.now) }
+{
+    prefixes.iter().copied().collect(alloc)
+}
+
+/// Removes the prefixes that are in the set.
+fn remove_all(prefixes: &mut Vec<Prefix>, others: &BTreeSet<Prefix>)
+    ensures { prefixes.new.items ≡ filter (λ p. not (contains prefix_cmp others.now p)) prefixes.old.items }
 {
     prefixes.retain(|prefix| !others.contains(prefix));
 }
 
 /// The prefixes that aren't among the others, and then these.
-fn withdraw_all(withdrawn: Vec<Prefix>, announced: Vec<Prefix>) -> Result<Vec<Prefix>, AllocError>
+fn withdraw_all(
+    alloc: Global,
+    withdrawn: Vec<Prefix>,
+    announced: Vec<Prefix>,
+) -> Result<Vec<Prefix>, AllocError>
     ensures { IfOk result (λ all. all.items ≡ without announced.items withdrawn.items ++ announced.items) }
 {
     let mut all = withdrawn;
     let mut announced = announced;
-    remove_all(&mut all, announced.as_slice());
+    let others = set_of(alloc, announced.as_slice())?;
+    remove_all(&mut all, &others);
     all.append(&mut announced)?;
     Ok(all)
 }
@@ -116,7 +132,7 @@ fn update_of(
 {
     if withdraw {
         return Ok(Update {
-            withdrawn: Prefixes::from_vec(withdraw_all(withdrawn, announced)?),
+            withdrawn: Prefixes::from_vec(withdraw_all(alloc, withdrawn, announced)?),
             announced: Prefixes::from_vec(Vec::new(alloc)),
             attrs: None,
         });

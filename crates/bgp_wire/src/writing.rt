@@ -6,10 +6,7 @@ ghost use Rattle.byteorder.specs.Endian.{big_bytes};
 ghost use Rattle.bgp_wire.specs.Spelling.{FitsAttrs, fields_octets, framed, notification_octets, prefixes_octets, attrs_octets, update_octets};
 
 mod attributes;
-mod laws;
 mod numbers;
-#[cfg(test)]
-mod tests;
 
 use crate::header::{LONGEST, NOTIFICATION, UPDATE};
 use crate::message::{Prefixes, Update};
@@ -17,10 +14,6 @@ use crate::writing::attributes::push_attrs;
 use crate::writing::numbers::{push_prefix, push_u16};
 use addr4::Memory;
 use bgp_attr::{Attrs, Profile};
-pub use laws::{
-    announcements_are_read, prepended_paths_are_readable, what_is_readable_fits,
-    what_was_read_is_readable, what_was_read_is_written_and_read_again, withdrawals_are_read,
-};
 use std::alloc::Global;
 
 /// The octets of a header.

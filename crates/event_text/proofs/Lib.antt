@@ -1,3 +1,5 @@
 pub mod Lookups
 pub mod Sessions
 pub mod WordLemmas
+pub mod WellFormedLemmas
+pub mod DeclarationLemmas

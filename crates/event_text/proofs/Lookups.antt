@@ -1,5 +1,5 @@
 -- Lookups among the peers.
-use Rattle.std.proofs.Common.{◌≡◌, ℕ, Bool, ◌||◌, List, [], ◌∷◌, Option, Some, None, nat_eq, cond, refl, ap}
+use Rattle.std.proofs.Common.{◌≡◌, ℕ, ◌||◌, List, [], ◌∷◌, Some, nat_eq, cond, refl, ap}
 use Rattle.std.specs.List.{find, list_any}
 use Rattle.event_text.specs.declared.declared.DeclaredPeer.{DeclaredPeer}
 use Rattle.event_text.specs.Declarations.{peer_at, has_addr}

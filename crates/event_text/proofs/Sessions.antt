@@ -1,15 +1,13 @@
 -- Sessions of the peers.
-use Rattle.std.proofs.Common.{◌≡◌, ℕ, ◌+◌, ◌≤◌, ◌<◌, Bool, true, false, not, ◌&&◌, ◌||◌, List, [], ◌∷◌, ◌++◌, map, Option, Some, None, is_none, nat_eq, nat_le, cond, refl, ap, sym, subst, ◌∙◌, arith, length, get_or, take, drop, zero, suc}
+use Rattle.std.proofs.Common.{◌≡◌, ℕ, ◌+◌, ◌≤◌, ◌<◌, Bool, true, false, not, ◌&&◌, ◌||◌, List, [], ◌∷◌, ◌++◌, map, Option, Some, None, is_none, nat_eq, nat_le, cond, refl, ap, subst, ◌∙◌, arith, length, take, drop, zero, suc}
 use Rattle.std.proofs.lemmas.Grind.{common_steps}
 use Rattle.std.proofs.lemmas.Bool.Decides.{nat_tests}
 use Rattle.std.specs.List.{All}
 use Rattle.bgp_attr.specs.declared.speaker.Speaker.{Speaker}
-use Rattle.journal_text.specs.declared.line.Code.{Code}
-use Rattle.journal_text.specs.declared.line.Code.TheVariants.{E3, E5, E6}
-use Rattle.event_text.specs.declared.event.Event.{Event}
+use Rattle.journal_text.specs.declared.line.Code.TheVariants.{E3, E6}
 use Rattle.event_text.specs.declared.event.Event.TheVariants as events
 use Rattle.event_text.specs.declared.declared.DeclaredPeer.{DeclaredPeer}
-use Rattle.event_text.specs.Declarations.{Declaration, peer_at, has_addr, is_taken, refusal, refusal_at, refusal_by, IsCounted, begun_at, ended_at, session_refusal}
+use Rattle.event_text.specs.Declarations.{peer_at, has_addr, is_taken, refusal, refusal_by, IsCounted, begun_at, ended_at, session_refusal}
 
 pub All-from_counted : (ps : List DeclaredPeer) → IsCounted ps → All (λ p. p.session ≤ 65535) ps
 All-from_counted [] counted k d below = absurd (omega arith)

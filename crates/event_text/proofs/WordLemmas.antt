@@ -1,11 +1,8 @@
 -- Words: the first of a text, and too many.
-use Rattle.std.proofs.Common.{◌≡◌, ℕ, ◌+◌, ◌<◌, Bool, true, false, List, [], ◌∷◌, ◌++◌, length, Option, Some, None, cond, nat_eq, refl, sym, ap, ◌∙◌, arith}
-use Rattle.std.proofs.lemmas.Bool.Decides.{nat_tests}
+use Rattle.std.proofs.Common.{◌≡◌, ℕ, ◌<◌, false, List, [], ◌∷◌, length, None, nat_eq, refl, arith}
 use Rattle.std.proofs.lemmas.List.Splits.{length-slice_split}
-use Rattle.addr4.specs.Texts.{parts, parts_after}
-use Rattle.journal_text.specs.declared.link.Link.{Link}
-use Rattle.journal_text.specs.declared.link.Task.{Task}
-use Rattle.event_text.specs.Words.{words, words_among, is_word, speaker_of, link_from, task_from}
+use Rattle.addr4.specs.Texts.{parts}
+use Rattle.event_text.specs.Words.{words, speaker_of, link_from, task_from}
 use Rattle.event_text.specs.Events.{one_number, bgp_of, work_of, ask_of, show_of}
 
 -- ---- too many words

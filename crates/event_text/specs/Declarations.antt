@@ -1,17 +1,16 @@
 -- What was declared so far, and which events may stand there.
-use Rattle.std.specs.Prelude.{◌≡◌, ℕ, ◌+◌, ◌≤◌, ◌==◌, nat_le, nat_lt, Bool, true, false, not, ◌&&◌, ◌||◌, if◌then◌else◌, List, [], ◌∷◌, ◌++◌, map, Option, Some, None, is_none, refl}
+use Rattle.std.specs.Prelude.{◌≡◌, ℕ, ◌+◌, ◌≤◌, ◌<◌, ◌==◌, nat_le, Bool, true, false, not, ◌&&◌, ◌||◌, if◌then◌else◌, List, [], ◌∷◌, ◌++◌, map, Option, Some, None, is_none, refl}
 use Rattle.std.specs.Coded.{Coded, code_by, coded×, coded_option, coded_list}
 use Rattle.bgp_attr.specs.declared.speaker.Speaker.{Speaker}
 use Rattle.bgp_attr.specs.declared.speaker.Neighbour.{Neighbour}
-use Rattle.journal_text.specs.declared.link.Link.{Link}
 use Rattle.journal_text.specs.Links.{owner_of}
-use Rattle.journal_text.specs.declared.link.Task.{Task}
 use Rattle.journal_text.specs.declared.link.Task.TheVariants.{Del}
 use Rattle.journal_text.specs.declared.line.Code.{Code}
 use Rattle.journal_text.specs.declared.line.Code.TheVariants.{E3, E4, E5, E6}
 use Rattle.event_text.specs.declared.event.Event.{Event}
 use Rattle.event_text.specs.declared.event.Event.TheVariants.{Nothing, Local, Peer, Up, Down, Bgp, Idle, Work, Ask, Show}
 use Rattle.event_text.specs.declared.declared.DeclaredPeer.{DeclaredPeer}
+use Rattle.event_text.specs.WellFormed.{IsSpeaker}
 
 pub record Declaration : Type 0 where
   pub speaker : Option Speaker
@@ -116,3 +115,42 @@ with_session d k = record { speaker = d.speaker; peers = map (begun_at k) d.peer
 
 abbrev pub without_session : Declaration → ℕ → Declaration
 without_session d k = record { speaker = d.speaker; peers = map (ended_at k) d.peers }
+
+-- the words of a peer, where `local` has these
+pub record ArePeerWords (local : Speaker) (w : Neighbour) : Type 0 where
+  pub least : 0 < w.number
+  pub most : w.number ≤ 64
+  pub speaker : IsSpeaker (record { asn = w.asn; id = w.id; addr = w.addr })
+  pub internal : w.internal ≡ (local.asn == w.asn)
+  pub foreign : (local.addr == w.addr) ≡ false
+
+-- a peer that was declared after `local`; its session counts from 1
+pub record IsPeerOf (local : Speaker) (p : DeclaredPeer) : Type 0 where
+  pub words : ArePeerWords local p.words
+  pub begun : p.up ≡ true → 0 < p.session
+
+abbrev pub ArePeersOf : Speaker → List DeclaredPeer → Type 0
+ArePeersOf local [] = Unit {0}
+ArePeersOf local (p ∷ ps) = IsPeerOf local p × ArePeersOf local ps
+
+-- no two peers have the same address
+abbrev pub HaveOwnAddrs : List DeclaredPeer → Type 0
+HaveOwnAddrs [] = Unit {0}
+HaveOwnAddrs (p ∷ ps) = (has_addr p.words.addr ps ≡ false) × HaveOwnAddrs ps
+
+-- What was declared since `local`. Numbers are from 1 to 64, each once; addresses stand once, none is the local one;
+-- sessions are at most 65535, and one that is up is at least the first.
+pub record AreDeclared (local : Speaker) (peers : List DeclaredPeer) : Type 0 where
+  pub speaker : IsSpeaker local
+  pub each : ArePeersOf local peers
+  pub counted : IsCounted peers
+  pub addrs : HaveOwnAddrs peers
+
+-- peers stand only where `local` does
+abbrev pub IsDeclaredBy : Option Speaker → List DeclaredPeer → Type 0
+IsDeclaredBy None peers = peers ≡ []
+IsDeclaredBy (Some local) peers = AreDeclared local peers
+
+-- what events can have declared
+abbrev pub IsDeclaration : Declaration → Type 0
+IsDeclaration d = IsDeclaredBy d.speaker d.peers

@@ -1,5 +1,5 @@
 -- The event language, and which line is refused.
-use Rattle.std.specs.Prelude.{ℕ, if◌then◌else◌, ◌||◌, ◌==◌, List, [], ◌∷◌, length, Option, Some, None, Result, Ok, Err, codes, nat_eq}
+use Rattle.std.specs.Prelude.{ℕ, if◌then◌else◌, ◌==◌, List, [], ◌∷◌, length, Option, Some, None, Result, Ok, Err, codes, nat_eq}
 use Rattle.std.specs.Str.{bytes_eq}
 use Rattle.std.specs.List.{starts_with}
 use Rattle.addr4.specs.Texts.{number_of, prefix_of}

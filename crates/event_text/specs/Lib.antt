@@ -1,3 +1,4 @@
 pub mod Declarations
 pub mod Words
 pub mod Events
+pub mod WellFormed

@@ -4,7 +4,8 @@ ghost use Rattle.std.specs.Prelude.{◌≡◌, ◌==◌, ◌≤◌, map, Option,
 ghost use Rattle.std.specs.List.{All};
 ghost use Rattle.event_text.specs.declared.event.Event.{Event};
 ghost use Rattle.event_text.specs.declared.event.Event.TheVariants as events;
-ghost use Rattle.event_text.specs.Declarations.{no_declaration, refusal, peer_at, with_speaker, with_peer, with_session, without_session, IsCounted, begun_at, ended_at, has_addr, is_taken, is_internal, session_refusal, undeclared, refusal_by, refusal_first};
+ghost use Rattle.event_text.specs.Declarations.{no_declaration, refusal, peer_at, with_speaker, with_peer, with_session, without_session, IsDeclaration, IsCounted, begun_at, ended_at, has_addr, is_taken, is_internal, session_refusal, undeclared, refusal_by, refusal_first};
+ghost use Rattle.event_text.specs.WellFormed.{IsWellFormed};
 ghost use Rattle.journal_text.specs.Links.{owner_of, proto_number};
 
 use crate::event::Event;
@@ -18,6 +19,7 @@ use std::marker::Model;
 /// A peer that was declared.
 #[derive(Clone, Copy, Debug, PartialEq, Eq)]
 pub struct DeclaredPeer {
+    /// The words of `peer`.
     pub words: Neighbour,
     /// The number of its last session; 0 where there was none.
     pub session: u32,
@@ -49,7 +51,8 @@ impl Model for Declared {
 impl Declared {
     /// Nothing was declared. Takes no memory.
     pub fn new(alloc: Global) -> Declared
-        ensures { result ≡ no_declaration }
+        ensures value { result ≡ no_declaration }
+        ensures declared { IsDeclaration result }
     {
         Declared {
             speaker: None,
@@ -57,6 +60,7 @@ impl Declared {
         }
     }
 
+    /// The words of `local`, if it was declared.
     pub fn speaker(&self) -> Option<Speaker>
         ensures { result ≡ self.now.speaker }
     {
@@ -79,7 +83,8 @@ impl Declared {
 
     /// `local` was declared. Takes no memory.
     pub fn set_speaker(&mut self, words: Speaker)
-        ensures { self.new ≡ with_speaker self.old words }
+        ensures value { self.new ≡ with_speaker self.old words }
+        ensures kept { IsDeclaration self.old → refusal self.old (events.Local words) ≡ None → IsWellFormed (events.Local words) → IsDeclaration self.new }
     {
         self.speaker = Some(words);
     }
@@ -89,6 +94,7 @@ impl Declared {
         requires { refusal self.old (events.Peer number words) ≡ None }
         ensures ok { OnOk result (self.new ≡ with_peer self.old number words) }
         ensures memory { OnErr result (self.new ≡ self.old) }
+        ensures kept { IsDeclaration self.old → IsWellFormed (events.Peer number words) → IsDeclaration self.new }
     {
         let internal = is_internal(self.speaker, words.asn);
         self.peers.push(DeclaredPeer {
@@ -108,14 +114,16 @@ impl Declared {
     /// A peer's next session begins, unless one is up. Takes no memory.
     pub fn begin_session(&mut self, number: u32)
         requires { refusal self.old (events.Up number) ≡ None }
-        ensures { self.new ≡ with_session self.old number }
+        ensures value { self.new ≡ with_session self.old number }
+        ensures kept { IsDeclaration self.old → IsDeclaration self.new }
     {
         begin_at(self.peers.as_mut_slice(), number);
     }
 
     /// A peer's session ends. Takes no memory.
     pub fn end_session(&mut self, number: u32)
-        ensures { self.new ≡ without_session self.old number }
+        ensures value { self.new ≡ without_session self.old number }
+        ensures kept { IsDeclaration self.old → IsDeclaration self.new }
     {
         end_at(self.peers.as_mut_slice(), number);
     }

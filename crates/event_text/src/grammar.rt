@@ -1,9 +1,9 @@
 //! Reading a line of the event language.
 
-ghost use Rattle.std.specs.Prelude.{◌≡◌, option_map, Option, Some, None, IfOk, MatchOption, ◌==◌};
+ghost use Rattle.std.specs.Prelude.{◌≡◌, IfOk};
 ghost use Rattle.event_text.specs.Words.{words};
 ghost use Rattle.event_text.specs.Events.{local_of, peer_of, one_number, bgp_of, work_of, ask_of, show_of, plain_event, named_event, event_of, read_event};
-ghost use Rattle.event_text.specs.declared.event.Event.TheVariants as events;
+ghost use Rattle.event_text.specs.WellFormed.{IsWellFormed};
 
 use crate::event::Event;
 use crate::words::{first_word, from_one, is_clean, is_end, link, octets, speaker, task};
@@ -16,7 +16,8 @@ use std::alloc::Global;
 /// or more; spaces may also stand at the start and the end. Memory is taken for the octets of `bgp` only.
 #[tactic(auto, unfolding(crate::specs::Events::read_event))]
 pub fn parse(alloc: Global, line: &[u8]) -> Result<Result<Event, Code>, Memory>
-    ensures { IfOk result (λ event. event ≡ read_event line.now) }
+    ensures value { IfOk result (λ event. event ≡ read_event line.now) }
+    ensures words { IfOk result (λ event. IfOk event IsWellFormed) }
 {
     if !is_clean(line) {
         return Ok(Err(Code::E1));

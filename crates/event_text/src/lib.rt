@@ -12,3 +12,6 @@ mod words;
 pub use declared::{Declared, DeclaredPeer, admit};
 pub use event::Event;
 pub use grammar::parse;
+
+#[cfg(test)]
+mod tests;

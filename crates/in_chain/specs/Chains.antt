@@ -13,8 +13,8 @@ use Rattle.deletion_stage.specs.Covering.{covered, AreApart}
 use Rattle.journal_text.specs.declared.link.Link.{Link}
 use Rattle.journal_text.specs.declared.link.Link.TheVariants.{In, Peer}
 use Rattle.journal_text.specs.declared.value.Value.{Value}
-use Rattle.journal_text.specs.declared.value.Value.TheVariants as values
 use Rattle.journal_text.specs.Walk.{Links}
+use Rattle.journal_text.specs.Journals.{attrs_rows}
 
 -- the peer's number, its live routes, and the lost tables, the lowest first: that of the earliest session
 pub record Chained : Type 0 where
@@ -40,10 +40,6 @@ rows_above live session (d ∷ ds) = if d.number == session then Some (rows_belo
 -- the rows of `in.K`
 abbrev pub in_rows : Chained → Rows Attrs
 in_rows c = rows_below c.live c.deletions
-
--- rows of attributes as values of the journal
-abbrev pub attrs_rows : Rows Attrs → Rows Value
-attrs_rows rows q = option_map (λ a. values.Attrs a) (rows q)
 
 -- the link is named as one of the chain's: `in.K`, or `peer.K.S` of any session
 abbrev pub is_named : ℕ → Link → Bool

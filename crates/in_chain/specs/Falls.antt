@@ -5,10 +5,10 @@ use Rattle.bgp_attr.specs.declared.attrs.Attrs.{Attrs}
 use Rattle.link_change.specs.declared.change.Change.{Change}
 use Rattle.deletion_stage.specs.Lost.{Lost}
 use Rattle.journal_text.specs.declared.link.Link.{Link}
-use Rattle.journal_text.specs.declared.link.Link.TheVariants.{In, Peer}
+use Rattle.journal_text.specs.declared.link.Link.TheVariants.{Peer}
 use Rattle.journal_text.specs.declared.value.Value.{Value}
 use Rattle.journal_text.specs.declared.entry.Entry.{Entry}
-use Rattle.journal_text.specs.declared.entry.Entry.TheVariants.{Begin, Inherit, Add, Delete, Replace, Asked, Weld, End}
+use Rattle.journal_text.specs.declared.entry.Entry.TheVariants.{Add, Delete, Replace}
 use Rattle.journal_text.specs.Walk.{Links, Leads}
 use Rattle.in_chain.specs.Chains.{Chained, beside}
 

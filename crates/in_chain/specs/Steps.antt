@@ -1,10 +1,10 @@
 -- What each call makes of a chain, and the entries that it writes.
-use Rattle.std.specs.Prelude.{◌≡◌, ℕ, ◌==◌, ◌||◌, nat_lt, length, not, Bool, if◌then◌else◌, cond, List, [], ◌∷◌, ◌++◌, map, filter, Option, Some, None, option_map, is_none, IsNone}
+use Rattle.std.specs.Prelude.{◌≡◌, ℕ, ◌==◌, ◌||◌, nat_lt, length, not, if◌then◌else◌, cond, List, [], ◌∷◌, ◌++◌, map, filter, Option, Some, None}
 use Rattle.std.specs.FinMap as tables
 use Rattle.std.specs.FinMap.{FinMap}
 use Rattle.addr4.specs.Prefixes.{Network, prefix_cmp}
 use Rattle.bgp_attr.specs.declared.attrs.Attrs.{Attrs}
-use Rattle.link_change.specs.Rows.{Rows, is_empty_map}
+use Rattle.link_change.specs.Rows.{is_empty_map}
 use Rattle.link_change.specs.Changes.{IsSent}
 use Rattle.link_change.specs.declared.change.Change.{Change}
 use Rattle.link_change.specs.declared.turn.Turn.{Turn}
@@ -20,7 +20,7 @@ use Rattle.journal_text.specs.declared.entry.Entry.{Entry}
 use Rattle.journal_text.specs.declared.entry.Entry.TheVariants.{Begin, Weld}
 use Rattle.in_chain.specs.Chains.{Chained, in_rows}
 use Rattle.journal_text.specs.Journals.{Journaled, Adds}
-use Rattle.in_chain.specs.Falls.{LeadsChain, Falls, way_down, way_from}
+use Rattle.in_chain.specs.Falls.{Falls, way_from}
 
 abbrev pub new_chain : ℕ → Chained
 new_chain number = record { number = number; live = tables.empty; deletions = [] }
@@ -43,8 +43,11 @@ fed c p row = record { number = c.number; live = live_after c.live p row; deleti
 
 -- a session is lost: its routes go to a stage of their own, if there are any
 abbrev pub lost : ℕ → Chained → Chained
-lost session c = record { number = c.number; live = tables.empty
-                        ; deletions = cond (is_empty_map c.live) c.deletions (c.deletions ++ record { number = session; rows = c.live } ∷ []) }
+lost session c = record {
+  number = c.number;
+  live = tables.empty;
+  deletions = cond (is_empty_map c.live) c.deletions (c.deletions ++ record { number = session; rows = c.live } ∷ []);
+}
 
 abbrev pub loss_entries : ℕ → Chained → List (Entry Value)
 loss_entries session c = cond (is_empty_map c.live) [] (Begin (Peer c.number session) ∷ [])

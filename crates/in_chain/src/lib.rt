@@ -2,5 +2,11 @@
 #![tactic(auto)]
 
 mod chain;
+mod laws;
+mod lookup;
+mod splice;
+mod stage;
 
 pub use chain::Chain;
+pub use laws::rows_are_counted;
+pub use stage::Stage;

@@ -16,53 +16,41 @@ use addr4::{Memory, Prefix, push_number, push_prefix};
 use std::alloc::Global;
 
 /// A word, a space, and a link.
-fn push_named(alloc: Global, out: &mut Vec<u8>, word: &[u8], link: Link) -> Result<(), Memory>
+fn push_named(out: &mut Vec<u8>, word: &[u8], link: Link) -> Result<(), Memory>
     ensures { OnOk result (out.new.items ≡ out.old.items ++ (word.now ++ 32 ∷ link_text link)) }
 {
     push_text(out, word)?;
     out.push(b' ')?;
-    push_link(alloc, out, link)
+    push_link(out, link)
 }
 
 /// A word and a link: `b LINK`, `e LINK`.
-fn push_one(alloc: Global, out: &mut Vec<u8>, word: &[u8], link: Link) -> Result<(), Memory>
+fn push_one(out: &mut Vec<u8>, word: &[u8], link: Link) -> Result<(), Memory>
     ensures { OnOk result (out.new.items ≡ out.old.items ++ words_line (word.now ∷ link_text link ∷ [])) }
 {
-    push_named(alloc, out, word, link)?;
+    push_named(out, word, link)?;
     out.push(b'\n')?;
     Ok(())
 }
 
 /// A word and two links: `i LINK FROM`, `w UPPER LOWER`.
-fn push_both(
-    alloc: Global,
-    out: &mut Vec<u8>,
-    word: &[u8],
-    link: Link,
-    other: Link,
-) -> Result<(), Memory>
+fn push_both(out: &mut Vec<u8>, word: &[u8], link: Link, other: Link) -> Result<(), Memory>
     ensures { OnOk result (out.new.items ≡ out.old.items ++ words_line (word.now ∷ link_text link ∷ link_text other ∷ [])) }
 {
-    push_named(alloc, out, word, link)?;
+    push_named(out, word, link)?;
     out.push(b' ')?;
-    push_link(alloc, out, other)?;
+    push_link(out, other)?;
     out.push(b'\n')?;
     Ok(())
 }
 
 /// A word, a link and a prefix, with a space after each.
-fn push_head(
-    alloc: Global,
-    out: &mut Vec<u8>,
-    word: &[u8],
-    link: Link,
-    prefix: Prefix,
-) -> Result<(), Memory>
+fn push_head(out: &mut Vec<u8>, word: &[u8], link: Link, prefix: Prefix) -> Result<(), Memory>
     ensures { OnOk result (out.new.items ≡ out.old.items ++ (word.now ++ 32 ∷ link_text link ++ 32 ∷ prefix_text prefix ++ 32 ∷ [])) }
 {
-    push_named(alloc, out, word, link)?;
+    push_named(out, word, link)?;
     out.push(b' ')?;
-    push_prefix(alloc, out, prefix)?;
+    push_prefix(out, prefix)?;
     out.push(b' ')?;
     Ok(())
 }
@@ -78,7 +66,7 @@ fn push_row(
 ) -> Result<(), Memory>
     ensures { OnOk result (out.new.items ≡ out.old.items ++ words_line (word.now ∷ link_text link ∷ prefix_text prefix ∷ value_text value.now ∷ [])) }
 {
-    push_head(alloc, out, word, link, prefix)?;
+    push_head(out, word, link, prefix)?;
     push_value(alloc, out, value)?;
     out.push(b'\n')?;
     Ok(())
@@ -95,7 +83,7 @@ fn push_replace(
 ) -> Result<(), Memory>
     ensures { OnOk result (out.new.items ≡ out.old.items ++ words_line (codes "=" ∷ link_text link ∷ prefix_text prefix ∷ value_text old.now ∷ value_text new.now ∷ [])) }
 {
-    push_head(alloc, out, b"=", link, prefix)?;
+    push_head(out, b"=", link, prefix)?;
     push_value(alloc, out, old)?;
     out.push(b' ')?;
     push_value(alloc, out, new)?;
@@ -113,7 +101,7 @@ fn push_asked(
 ) -> Result<(), Memory>
     ensures { OnOk result (out.new.items ≡ out.old.items ++ words_line (codes "?" ∷ link_text link ∷ prefix_text prefix ∷ answer_text row.now ∷ [])) }
 {
-    push_head(alloc, out, b"?", link, prefix)?;
+    push_head(out, b"?", link, prefix)?;
     push_answer(alloc, out, row)?;
     out.push(b'\n')?;
     Ok(())
@@ -124,16 +112,16 @@ fn push_entry(alloc: Global, out: &mut Vec<u8>, entry: &Entry<Value>) -> Result<
     ensures { OnOk result (out.new.items ≡ out.old.items ++ words_line (entry_words entry.now)) }
 {
     match entry {
-        Entry::Begin(link) => push_one(alloc, out, b"b", *link),
-        Entry::Inherit(link, from) => push_both(alloc, out, b"i", *link, *from),
+        Entry::Begin(link) => push_one(out, b"b", *link),
+        Entry::Inherit(link, from) => push_both(out, b"i", *link, *from),
         Entry::Add(link, prefix, new) => push_row(alloc, out, b"+", *link, *prefix, new),
         Entry::Delete(link, prefix, old) => push_row(alloc, out, b"-", *link, *prefix, old),
         Entry::Replace(link, prefix, old, new) => {
             push_replace(alloc, out, *link, *prefix, old, new)
         }
         Entry::Asked(link, prefix, row) => push_asked(alloc, out, *link, *prefix, row),
-        Entry::Weld(upper, lower) => push_both(alloc, out, b"w", *upper, *lower),
-        Entry::End(link) => push_one(alloc, out, b"e", *link),
+        Entry::Weld(upper, lower) => push_both(out, b"w", *upper, *lower),
+        Entry::End(link) => push_one(out, b"e", *link),
     }
 }
 
@@ -153,7 +141,7 @@ fn push_note(alloc: Global, out: &mut Vec<u8>, peer: u32, octets: &[u8]) -> Resu
     ensures { OnOk result (out.new.items ≡ out.old.items ++ words_line (codes "note" ∷ decimal peer ∷ encode_lower octets.now ∷ [])) }
 {
     push_text(out, b"note ")?;
-    push_number(alloc, out, u64::from(peer))?;
+    push_number(out, u64::from(peer))?;
     out.push(b' ')?;
     let digits = hex::encode(alloc, octets)?;
     push_text(out, digits.as_bytes())?;
@@ -165,7 +153,7 @@ fn push_note(alloc: Global, out: &mut Vec<u8>, peer: u32, octets: &[u8]) -> Resu
 fn push_rows(alloc: Global, out: &mut Vec<u8>, link: Link, count: u128) -> Result<(), Memory>
     ensures { OnOk result (out.new.items ≡ out.old.items ++ words_line (codes "rows" ∷ link_text link ∷ decimal count ∷ [])) }
 {
-    push_named(alloc, out, b"rows", link)?;
+    push_named(out, b"rows", link)?;
     out.push(b' ')?;
     push_wide(alloc, out, count)?;
     out.push(b'\n')?;
@@ -187,11 +175,11 @@ fn code_word(code: Code) -> &'static [u8]
 }
 
 /// `refused LINE CODE`
-fn push_refused(alloc: Global, out: &mut Vec<u8>, number: u64, code: Code) -> Result<(), Memory>
+fn push_refused(out: &mut Vec<u8>, number: u64, code: Code) -> Result<(), Memory>
     ensures { OnOk result (out.new.items ≡ out.old.items ++ words_line (codes "refused" ∷ decimal number ∷ code_text code ∷ [])) }
 {
     push_text(out, b"refused ")?;
-    push_number(alloc, out, number)?;
+    push_number(out, number)?;
     out.push(b' ')?;
     push_text(out, code_word(code))?;
     out.push(b'\n')?;
@@ -213,7 +201,7 @@ fn push_line(alloc: Global, out: &mut Vec<u8>, line: &Line) -> Result<(), Memory
         Line::Idle(turns) => push_count(alloc, out, b"idle", *turns),
         Line::Ignored => push_text(out, b"ignored\n"),
         Line::Absent => push_text(out, b"absent\n"),
-        Line::Refused(number, code) => push_refused(alloc, out, *number, *code),
+        Line::Refused(number, code) => push_refused(out, *number, *code),
     }
 }
 

@@ -7,37 +7,30 @@ use crate::link::Link;
 use crate::texts::push_text;
 use addr4::{Memory, push_number};
 use rib_route::Proto;
-use std::alloc::Global;
 
 /// A dot and a number.
-fn push_dot_number(alloc: Global, out: &mut Vec<u8>, number: u32) -> Result<(), Memory>
+fn push_dot_number(out: &mut Vec<u8>, number: u32) -> Result<(), Memory>
     ensures { OnOk result (out.new.items ≡ out.old.items ++ dot_number number) }
 {
     out.push(b'.')?;
-    push_number(alloc, out, u64::from(number))?;
+    push_number(out, u64::from(number))?;
     Ok(())
 }
 
 /// A word and a number.
-fn push_numbered(alloc: Global, out: &mut Vec<u8>, word: &[u8], number: u32) -> Result<(), Memory>
+fn push_numbered(out: &mut Vec<u8>, word: &[u8], number: u32) -> Result<(), Memory>
     ensures { OnOk result (out.new.items ≡ out.old.items ++ (word.now ++ dot_number number)) }
 {
     push_text(out, word)?;
-    push_dot_number(alloc, out, number)
+    push_dot_number(out, number)
 }
 
 /// A word and two numbers: a peer's and a session's.
-fn push_session(
-    alloc: Global,
-    out: &mut Vec<u8>,
-    word: &[u8],
-    peer: u32,
-    session: u32,
-) -> Result<(), Memory>
+fn push_session(out: &mut Vec<u8>, word: &[u8], peer: u32, session: u32) -> Result<(), Memory>
     ensures { OnOk result (out.new.items ≡ out.old.items ++ (word.now ++ dot_number peer ++ dot_number session)) }
 {
-    push_numbered(alloc, out, word, peer)?;
-    push_dot_number(alloc, out, session)
+    push_numbered(out, word, peer)?;
+    push_dot_number(out, session)
 }
 
 /// The word of a protocol.
@@ -61,25 +54,25 @@ fn push_origin(out: &mut Vec<u8>, proto: Proto) -> Result<(), Memory>
 }
 
 /// `org.PROTO.N`
-fn push_lost(alloc: Global, out: &mut Vec<u8>, proto: Proto, loss: u32) -> Result<(), Memory>
+fn push_lost(out: &mut Vec<u8>, proto: Proto, loss: u32) -> Result<(), Memory>
     ensures { OnOk result (out.new.items ≡ out.old.items ++ (codes "org." ++ proto_text proto ++ dot_number loss)) }
 {
     push_origin(out, proto)?;
-    push_dot_number(alloc, out, loss)
+    push_dot_number(out, loss)
 }
 
 /// The name of a link.
 #[tactic(auto, unfolding(crate::specs::Texts::link_text))]
-pub(crate) fn push_link(alloc: Global, out: &mut Vec<u8>, link: Link) -> Result<(), Memory>
+pub(crate) fn push_link(out: &mut Vec<u8>, link: Link) -> Result<(), Memory>
     ensures { OnOk result (out.new.items ≡ out.old.items ++ link_text link) }
 {
     match link {
-        Link::In(peer) => push_numbered(alloc, out, b"in", peer),
-        Link::Peer(peer, session) => push_session(alloc, out, b"peer", peer, session),
-        Link::Filt(peer) => push_numbered(alloc, out, b"filt", peer),
-        Link::Res(peer) => push_numbered(alloc, out, b"res", peer),
+        Link::In(peer) => push_numbered(out, b"in", peer),
+        Link::Peer(peer, session) => push_session(out, b"peer", peer, session),
+        Link::Filt(peer) => push_numbered(out, b"filt", peer),
+        Link::Res(peer) => push_numbered(out, b"res", peer),
         Link::Org(proto) => push_origin(out, proto),
-        Link::Lost(proto, loss) => push_lost(alloc, out, proto, loss),
+        Link::Lost(proto, loss) => push_lost(out, proto, loss),
         Link::Low => push_text(out, b"low"),
         Link::Dyn => push_text(out, b"dyn"),
         Link::Int => push_text(out, b"int"),
@@ -90,8 +83,8 @@ pub(crate) fn push_link(alloc: Global, out: &mut Vec<u8>, link: Link) -> Result<
         Link::Ibgp => push_text(out, b"ibgp"),
         Link::Ext => push_text(out, b"ext"),
         Link::Fib => push_text(out, b"fib"),
-        Link::Read(peer, session) => push_session(alloc, out, b"read", peer, session),
-        Link::Outf(peer, session) => push_session(alloc, out, b"outf", peer, session),
-        Link::Adv(peer, session) => push_session(alloc, out, b"adv", peer, session),
+        Link::Read(peer, session) => push_session(out, b"read", peer, session),
+        Link::Outf(peer, session) => push_session(out, b"outf", peer, session),
+        Link::Adv(peer, session) => push_session(out, b"adv", peer, session),
     }
 }

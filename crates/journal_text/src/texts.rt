@@ -39,31 +39,31 @@ fn origin_number(origin: Origin) -> u64
 }
 
 /// Numbers with dots between them.
-fn push_dotted(alloc: Global, out: &mut Vec<u8>, numbers: &[u32]) -> Result<(), Memory>
+fn push_dotted(out: &mut Vec<u8>, numbers: &[u32]) -> Result<(), Memory>
     ensures { OnOk result (out.new.items ≡ out.old.items ++ dotted numbers.now) }
 {
     for (i, number) in numbers.iter().enumerate() {
         if i > 0 {
             out.push(b'.')?;
         }
-        push_number(alloc, out, u64::from(*number))?;
+        push_number(out, u64::from(*number))?;
     }
     Ok(())
 }
 
 #[tactic(auto, unfolding(crate::specs::Texts::segment_text))]
-fn push_segment(alloc: Global, out: &mut Vec<u8>, segment: &Segment) -> Result<(), Memory>
+fn push_segment(out: &mut Vec<u8>, segment: &Segment) -> Result<(), Memory>
     ensures { OnOk result (out.new.items ≡ out.old.items ++ segment_text segment.now) }
 {
     match segment.kind {
         SegmentKind::Sequence => {
             out.push(b'(')?;
-            push_dotted(alloc, out, segment.numbers.as_slice())?;
+            push_dotted(out, segment.numbers.as_slice())?;
             out.push(b')')?;
         }
         SegmentKind::Set => {
             out.push(b'{')?;
-            push_dotted(alloc, out, segment.numbers.as_slice())?;
+            push_dotted(out, segment.numbers.as_slice())?;
             out.push(b'}')?;
         }
     }
@@ -71,45 +71,36 @@ fn push_segment(alloc: Global, out: &mut Vec<u8>, segment: &Segment) -> Result<(
 }
 
 #[tactic(auto, unfolding(crate::specs::Texts::path_text))]
-fn push_path(alloc: Global, out: &mut Vec<u8>, path: &[Segment]) -> Result<(), Memory>
+fn push_path(out: &mut Vec<u8>, path: &[Segment]) -> Result<(), Memory>
     ensures { OnOk result (out.new.items ≡ out.old.items ++ path_text path.now) }
 {
     for segment in path {
-        push_segment(alloc, out, segment)?;
+        push_segment(out, segment)?;
     }
     Ok(())
 }
 
 /// A comma, a letter and a number, where there is one.
-fn push_lettered(
-    alloc: Global,
-    out: &mut Vec<u8>,
-    letter: u8,
-    number: Option<u32>,
-) -> Result<(), Memory>
+fn push_lettered(out: &mut Vec<u8>, letter: u8, number: Option<u32>) -> Result<(), Memory>
     ensures { OnOk result (out.new.items ≡ out.old.items ++ lettered letter number) }
 {
     if let Some(number) = number {
         out.push(b',')?;
         out.push(letter)?;
-        push_number(alloc, out, u64::from(number))?;
+        push_number(out, u64::from(number))?;
     }
     Ok(())
 }
 
 #[tactic(auto, unfolding(crate::specs::Texts::aggregator_text))]
-fn push_aggregator(
-    alloc: Global,
-    out: &mut Vec<u8>,
-    aggregator: Option<Aggregator>,
-) -> Result<(), Memory>
+fn push_aggregator(out: &mut Vec<u8>, aggregator: Option<Aggregator>) -> Result<(), Memory>
     ensures { OnOk result (out.new.items ≡ out.old.items ++ aggregator_text aggregator) }
 {
     if let Some(aggregator) = aggregator {
         push_text(out, b",g")?;
-        push_number(alloc, out, u64::from(aggregator.asn))?;
+        push_number(out, u64::from(aggregator.asn))?;
         out.push(b'/')?;
-        push_addr(alloc, out, aggregator.addr)?;
+        push_addr(out, aggregator.addr)?;
         if aggregator.partial {
             out.push(b'!')?;
         }
@@ -126,7 +117,7 @@ fn push_unrecognized(
     ensures { OnOk result (out.new.items ≡ out.old.items ++ unrecognized_text attribute.now) }
 {
     push_text(out, b",x")?;
-    push_number(alloc, out, u64::from(attribute.kind))?;
+    push_number(out, u64::from(attribute.kind))?;
     out.push(b':')?;
     let digits = hex::encode(alloc, attribute.value.as_slice())?;
     push_text(out, digits.as_bytes())?;
@@ -149,15 +140,15 @@ fn push_unrecognized_all(
 
 /// Origin, path and next hop.
 #[tactic(auto, unfolding(crate::specs::Texts::required_text))]
-fn push_required(alloc: Global, out: &mut Vec<u8>, attrs: &Attrs) -> Result<(), Memory>
+fn push_required(out: &mut Vec<u8>, attrs: &Attrs) -> Result<(), Memory>
     ensures { OnOk result (out.new.items ≡ out.old.items ++ required_text attrs.now) }
 {
     push_text(out, b"o")?;
-    push_number(alloc, out, origin_number(attrs.origin))?;
+    push_number(out, origin_number(attrs.origin))?;
     push_text(out, b",p")?;
-    push_path(alloc, out, attrs.path.as_slice())?;
+    push_path(out, attrs.path.as_slice())?;
     push_text(out, b",n")?;
-    push_addr(alloc, out, attrs.next_hop)?;
+    push_addr(out, attrs.next_hop)?;
     Ok(())
 }
 
@@ -172,13 +163,13 @@ fn push_atomic(out: &mut Vec<u8>, atomic: bool) -> Result<(), Memory>
 }
 
 #[tactic(auto, unfolding(crate::specs::Texts::optional_text))]
-fn push_optional(alloc: Global, out: &mut Vec<u8>, attrs: &Attrs) -> Result<(), Memory>
+fn push_optional(out: &mut Vec<u8>, attrs: &Attrs) -> Result<(), Memory>
     ensures { OnOk result (out.new.items ≡ out.old.items ++ optional_text attrs.now) }
 {
-    push_lettered(alloc, out, b'm', attrs.med)?;
-    push_lettered(alloc, out, b'l', attrs.local_pref)?;
+    push_lettered(out, b'm', attrs.med)?;
+    push_lettered(out, b'l', attrs.local_pref)?;
     push_atomic(out, attrs.atomic)?;
-    push_aggregator(alloc, out, attrs.aggregator)?;
+    push_aggregator(out, attrs.aggregator)?;
     Ok(())
 }
 
@@ -187,8 +178,8 @@ fn push_optional(alloc: Global, out: &mut Vec<u8>, attrs: &Attrs) -> Result<(), 
 fn push_attrs(alloc: Global, out: &mut Vec<u8>, attrs: &Attrs) -> Result<(), Memory>
     ensures { OnOk result (out.new.items ≡ out.old.items ++ attrs_text attrs.now) }
 {
-    push_required(alloc, out, attrs)?;
-    push_optional(alloc, out, attrs)?;
+    push_required(out, attrs)?;
+    push_optional(out, attrs)?;
     push_unrecognized_all(alloc, out, attrs.unrecognized.as_slice())?;
     Ok(())
 }

@@ -3,3 +3,7 @@ pub mod Lives
 pub mod Stands
 pub mod Turns
 pub mod Blocks
+pub mod Laws
+pub mod Lookups
+pub mod Works
+pub mod Peers

@@ -1,15 +1,15 @@
 -- The live state: what the events alone make of the declarations, the sessions and each peer's live routes, whatever work was
 -- done or not.
-use Rattle.std.specs.Prelude.{◌≡◌, ℕ, ◌==◌, nat_lt, Bool, true, false, not, if◌then◌else◌, List, [], ◌∷◌, ◌++◌, map, filter, Option, Some, None}
-use Rattle.std.specs.List.{list_any}
+use Rattle.std.specs.Prelude.{◌≡◌, ℕ, ◌==◌, ◌&&◌, ◌||◌, nat_lt, Bool, true, false, not, if◌then◌else◌, List, [], ◌∷◌, ◌++◌, map, filter, slice_index, Option, Some, None, is_some}
 use Rattle.std.specs.FinMap as tables
 use Rattle.std.specs.FinMap.{FinMap}
-use Rattle.addr4.specs.Prefixes.{Network, prefix_cmp, same_prefix}
+use Rattle.addr4.specs.Prefixes.{Network, prefix_cmp}
 use Rattle.bgp_attr.specs.declared.attrs.Attrs.{Attrs}
 use Rattle.bgp_attr.specs.declared.speaker.Profile.{Profile}
 use Rattle.bgp_wire.specs.declared.message.Update.{Update}
 use Rattle.bgp_wire.specs.declared.message.Message.{Message}
 use Rattle.bgp_wire.specs.declared.message.Message.TheVariants as messages
+use Rattle.bgp_wire.specs.Updates.{fault}
 use Rattle.bgp_wire.specs.Grammar.{without, Answers}
 use Rattle.event_text.specs.declared.event.Event.{Event}
 use Rattle.event_text.specs.declared.event.Event.TheVariants.{Nothing, Local, Peer, Up, Down, Bgp, Idle, Work, Ask, Show}
@@ -109,3 +109,43 @@ routes_of (Some c) = c.live
 
 abbrev pub live_state : Moment → LiveState
 live_state m = record { declared = m.declared; routes = λ k. routes_of (chain_at k m.chains) }
+
+-- whether a message ends the session
+abbrev pub is_ending : Message → Bool
+is_ending (messages.Update u) = false
+is_ending messages.Keepalive = false
+is_ending messages.Skip = false
+is_ending messages.Notification = true
+is_ending (messages.Notify n) = true
+
+-- whether octets end the session: they have a fault, or their type is that of a NOTIFICATION
+abbrev pub ends_session : List ℕ → Bool
+ends_session octets = is_some (fault plain octets) || slice_index octets 18 == 3
+
+-- the declarations where the session of a peer begins, unless one is up
+abbrev pub declared_up : Declaration → ℕ → Option DeclaredPeer → Declaration
+declared_up d k None = d
+declared_up d k (Some p) = if p.up then d else with_session d k
+
+-- and where it ends, if one is up
+abbrev pub declared_down : Declaration → ℕ → Option DeclaredPeer → Declaration
+declared_down d k None = d
+declared_down d k (Some p) = if p.up then without_session d k else d
+
+-- and where octets came from the peer
+abbrev pub declared_heard : Declaration → ℕ → List ℕ → Option DeclaredPeer → Declaration
+declared_heard d k octets None = d
+declared_heard d k octets (Some p) = if p.up && ends_session octets then without_session d k else d
+
+-- the declarations after an event
+abbrev pub declared_after : Declaration → Event → Declaration
+declared_after d Nothing = d
+declared_after d (Local words) = with_speaker d words
+declared_after d (Peer k words) = with_peer d k words
+declared_after d (Up k) = declared_up d k (peer_at k d.peers)
+declared_after d (Down k) = declared_down d k (peer_at k d.peers)
+declared_after d (Bgp k octets) = declared_heard d k octets (peer_at k d.peers)
+declared_after d Idle = d
+declared_after d (Work task n) = d
+declared_after d (Ask link p) = d
+declared_after d (Show link) = d

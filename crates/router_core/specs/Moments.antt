@@ -1,8 +1,6 @@
 -- What contracts see of the router between two steps.
-use Rattle.std.specs.Prelude.{◌≡◌, ℕ, ◌+◌, ◌*◌, ◌==◌, nat_lt, length, Bool, true, false, if◌then◌else◌, List, [], ◌∷◌, ◌++◌, map, Option, Some, None, refl}
+use Rattle.std.specs.Prelude.{◌≡◌, ℕ, ◌+◌, ◌*◌, ◌==◌, nat_lt, length, Bool, if◌then◌else◌, List, [], ◌∷◌, map, Option, Some, None, refl}
 use Rattle.std.specs.Coded.{Coded, code_by, coded×, coded_ℕ, coded_bool, coded_list}
-use Rattle.bgp_attr.specs.declared.attrs.Attrs.{Attrs}
-use Rattle.journal_text.specs.declared.link.Link.{Link}
 use Rattle.journal_text.specs.declared.value.Value.{Value}
 use Rattle.journal_text.specs.declared.line.Line.{Line}
 use Rattle.journal_text.specs.Links.{owner_of}
@@ -15,6 +13,11 @@ use Rattle.in_chain.specs.Chains.{Chained, links_of, row_count}
 pub record Moment : Type 0 where
   pub declared : Declaration
   pub chains : List Chained
+
+abbrev pub moment_code : Coded Declaration → Coded Chained → Coded Moment
+moment_code d c =
+    code_by (Declaration × List Chained) (coded× d (coded_list c))
+    (λ a. (a.declared, a.chains)) (λ p. record { declared = p.0; chains = p.1 }) (λ _. refl)
 
 -- the moment, how many events were stepped, and whether memory ran out
 pub record Cored : Type 0 where

@@ -1,6 +1,13 @@
 //! The router: events and turns of background work, and the lines that they give.
 #![tactic(auto)]
 
+mod laws;
+mod lookups;
+mod network;
+mod peers;
 mod router;
+mod turns;
+mod updates;
 
+pub use laws::{declarations_follow, sessions_end};
 pub use router::{Core, Done, Idle, Phase};

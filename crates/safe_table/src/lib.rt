@@ -6,8 +6,9 @@
 //! alone and is gone with the last of them; such a slot is no row of the table.
 //!
 //! So rows may be put and removed between any two steps of an iterator, also the row that it stands at, and the next step
-//! still finds its place by one descent: it goes to the least row beyond the place that is there now. A row put behind an
-//! iterator isn't met, one beyond it is.
+//! still finds its place: it goes to the least row beyond the place that is there now. A row put behind an iterator isn't
+//! met, one beyond it is. A step is three descents, and one more for each slot on its way that is there for another
+//! iterator alone.
 //!
 //! Incoming tables of peers, deletion stages, caches and the origins of the forwarding side stand on it.
 #![tactic(auto)]

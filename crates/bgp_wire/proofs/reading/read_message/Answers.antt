@@ -2,7 +2,7 @@ use Rattle.std.proofs.Common.{subst}
 use Rattle.bgp_wire.specs.Faults.{Fails}
 use Rattle.bgp_wire.specs.Updates.{content_at}
 use Rattle.bgp_wire.proofs.MessageLaws.{answers_message, only_message, answers_fault, only_fault}
-use Rattle.bgp_wire.proofs.SaidAgain.{are_octets, answer_is_readable}
+use Rattle.bgp_wire.proofs.ReadableMessages.{are_octets, answer_is_readable}
 use Rattle.bgp_wire.proofs.reading.read_message.Goals as goal
 
 pub returns-in-Ok-clause-answer : goal.returns-in-Ok-clause-answer

@@ -1,7 +1,8 @@
 use Rattle.std.proofs.Common.{◌≡◌, None, subst, sym, ◌∙◌, ap, map, arith}
 use Rattle.event_text.specs.declared.event.Event.TheVariants as events
-use Rattle.event_text.specs.Declarations.{refusal, IsCounted, begun_at}
+use Rattle.event_text.specs.Declarations.{refusal, IsCounted, begun_at, IsDeclaration, IsDeclaredBy}
 use Rattle.event_text.proofs.Sessions.{All-from_counted, counted_begun, refilled}
+use Rattle.event_text.proofs.DeclarationLemmas.{session_kept}
 use Rattle.event_text.proofs.declared.Declared.begin_session.Goals as goal
 
 pub begin_at-requires : goal.begin_at-requires
@@ -12,3 +13,11 @@ invariant_of-self c =
     let refused = subst (λ d. refusal d (events.Up c.args.number) ≡ None) (sym c.self.view_is) c.requires in
     let e = refilled c.self.inside.peers.len c.begin_at.new.peers c.self.inside.peers.items (omega (arith, c.self.inside.peers.ok.0)) (sym c.self.inside.peers.ok.0) ∙ c.begin_at.ensures ∙ ap (map (begun_at c.args.number)) c.as_mut_slice.ensures.value in
     subst IsCounted (sym e) (counted_begun c.self.inside.speaker c.self.inside.peers.items c.args.number c.self.invariant refused)
+
+pub returns-clause-kept : goal.returns-clause-kept
+returns-clause-kept c =
+    λ declared.
+    let refused = subst (λ d. refusal d (events.Up c.args.number) ≡ None) (sym c.self.view_is) c.requires in
+    let e = refilled c.self.inside.peers.len c.begin_at.new.peers c.self.inside.peers.items (omega (arith, c.self.inside.peers.ok.0)) (sym c.self.inside.peers.ok.0) ∙ c.begin_at.ensures ∙ ap (map (begun_at c.args.number)) c.as_mut_slice.ensures.value in
+    let before = subst IsDeclaration (sym c.self.view_is) declared in
+    subst (IsDeclaredBy c.self.inside.speaker) (sym e) (session_kept (record { speaker = c.self.inside.speaker; peers = c.self.inside.peers.items }) c.args.number before refused)

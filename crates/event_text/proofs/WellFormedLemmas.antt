@@ -1,0 +1,204 @@
+-- Each event that is read is well-formed.
+use Rattle.std.proofs.Common.{◌≡◌, ℕ, ◌+◌, ◌-◌, ◌*◌, ◌/◌, ◌%◌, ◌^◌, ◌<◌, Bool, true, false, not, ◌||◌, List, [], ◌∷◌, length, Option, Some, None, Result, Ok, Err, cond, nat_eq, nat_lt, refl, ap, ◌∙◌, subst, arith, IfSome, codes}
+use Rattle.std.proofs.lemmas.Bool.Decides.{nat_tests}
+use Rattle.std.proofs.lemmas.List.{get_or_default}
+use Rattle.std.proofs.lemmas.Nat.{div-add-mod', mod-mul-add, pow_pos}
+use Rattle.std.specs.List.{All, starts_with}
+use Rattle.std.specs.Result.{result_ok}
+use Rattle.std.specs.Str.{bytes_eq}
+use Rattle.std.specs.Str.Parse.{digits_value}
+use Rattle.hex.specs.Hex.{decode_of}
+use Rattle.hex.specs.declared.FromHexError.{FromHexError}
+use Rattle.hex.proofs.HexLemmas.{decode_of-ok}
+use Rattle.addr4.specs.Blocks.{size_of_length}
+use Rattle.addr4.specs.Texts.{is_numeral, value_below, number_below, number_of, addr_of, addr_from_parts, addr_from_octets, network_of, prefix_from_parts, prefix_of, parts}
+use Rattle.journal_text.specs.declared.link.Link.TheVariants as links
+use Rattle.journal_text.specs.declared.link.Task.TheVariants as tasks
+use Rattle.event_text.specs.declared.event.Event.TheVariants as events
+use Rattle.event_text.specs.Words.{◌>>=◌, from_one, two_from_one, is_host, speaker_of, octets_of, link_from, link_of, task_from, task_of}
+use Rattle.event_text.specs.Events.{local_of, peer_of, one_number, bgp_of, work_of, ask_of, show_of, plain_event, named_event, event_of}
+use Rattle.event_text.specs.WellFormed.{IsNumber, IsSpeaker, IsMessage, IsPrefix, IsPeerLink, IsTask, IsWellFormed}
+
+-- ---- steps that may fail
+and_then : {A B : Type 0} (o : Option A) (f : A → Option B) (P : A → Type 0) (Q : B → Type 0) → IfSome o P → ((x : A) → P x → IfSome (f x) Q) → IfSome (o >>= f) Q
+and_then None f P Q h then = tt
+and_then (Some x) f P Q h then = then x h
+
+either : {A : Type 0} (b : Bool) (x y : Option A) (P : A → Type 0) → IfSome x P → IfSome y P → IfSome (cond b x y) P
+either true x y P hx hy = hx
+either false x y P hx hy = hy
+
+told : {A : Type 0} (b : Bool) (x y : Option A) (P : A → Type 0) → (b ≡ true → IfSome x P) → (b ≡ false → IfSome y P) → IfSome (cond b x y) P
+told true x y P hx hy = hx refl
+told false x y P hx hy = hy refl
+
+-- ---- words
+below : (bound : ℕ) (text : List ℕ) → IfSome (number_below bound text) (λ n. n < bound)
+unfolding number_below
+below bound text = either (is_numeral text) (value_below bound text) None (λ n. n < bound) (told (nat_lt (digits_value 10 text) bound) _ None (λ n. n < bound) (λ lt. grind (arith, nat_tests)) (λ _. tt)) tt
+
+from_one_ok : (word : List ℕ) → IfSome (from_one word) IsNumber
+unfolding from_one
+from_one_ok word =
+    and_then (number_of word) _ (λ n. n < 2 ^ 32) IsNumber (below (2 ^ 32) word) (λ n fits. told (nat_eq n 0) None (Some n) IsNumber (λ _. tt) (λ other. record { least = grind (arith, nat_tests); fits = fits }))
+
+two_ok : (k s : List ℕ) → IfSome (two_from_one k s) (λ n. IsNumber n.0 × IsNumber n.1)
+unfolding two_from_one
+two_ok k s =
+    and_then (from_one k) _ IsNumber (λ n. IsNumber n.0 × IsNumber n.1) (from_one_ok k) (λ a ha. and_then (from_one s) _ IsNumber (λ n. IsNumber n.0 × IsNumber n.1) (from_one_ok s) (λ b hb. (ha, hb)))
+
+four_fit : (a b c d : Option ℕ) → IfSome a (λ n. n < 256) → IfSome b (λ n. n < 256) → IfSome c (λ n. n < 256) → IfSome d (λ n. n < 256) → IfSome (addr_from_octets a b c d) (λ n. n < 2 ^ 32)
+four_fit None b c d ha hb hc hd = tt
+four_fit (Some a) None c d ha hb hc hd = tt
+four_fit (Some a) (Some b) None d ha hb hc hd = tt
+four_fit (Some a) (Some b) (Some c) None ha hb hc hd = tt
+four_fit (Some a) (Some b) (Some c) (Some d) ha hb hc hd = omega arith
+
+parts_fit : (ps : List (List ℕ)) → IfSome (addr_from_parts ps) (λ n. n < 2 ^ 32)
+parts_fit [] = tt
+parts_fit (a ∷ []) = tt
+parts_fit (a ∷ b ∷ []) = tt
+parts_fit (a ∷ b ∷ c ∷ []) = tt
+parts_fit (a ∷ b ∷ c ∷ d ∷ []) = four_fit (number_below 256 a) (number_below 256 b) (number_below 256 c) (number_below 256 d) (below 256 a) (below 256 b) (below 256 c) (below 256 d)
+parts_fit (a ∷ b ∷ c ∷ d ∷ e ∷ more) = tt
+
+addr_fits : (text : List ℕ) → IfSome (addr_of text) (λ n. n < 2 ^ 32)
+unfolding addr_of
+addr_fits text = parts_fit (parts 46 text)
+
+speaker_told : (a i h : ℕ) → a < 65536 → i < 2 ^ 32 → h < 2 ^ 32 → (x y z : Bool) → nat_eq a 0 ≡ x → nat_eq i 0 ≡ y → is_host h ≡ z → IfSome (cond (x || y || not z) None (Some (record { asn = a; id = i; addr = h }))) IsSpeaker
+speaker_told a i h fa fi fh true y z ea ei eh = tt
+speaker_told a i h fa fi fh false true z ea ei eh = tt
+speaker_told a i h fa fi fh false false false ea ei eh = tt
+speaker_told a i h fa fi fh false false true ea ei eh =
+    record { asn_least = grind (arith, nat_tests); asn_most = omega arith; id_least = grind (arith, nat_tests); id_fits = fi; host = eh; addr_fits = fh }
+
+pub speaker_ok : (ws : List (List ℕ)) → IfSome (speaker_of ws) IsSpeaker
+unfolding speaker_of
+speaker_ok [] = tt
+speaker_ok (asn ∷ []) = tt
+speaker_ok (asn ∷ id ∷ []) = tt
+speaker_ok (asn ∷ id ∷ addr ∷ []) =
+    and_then (number_below 65536 asn) _ (λ n. n < 65536) IsSpeaker (below 65536 asn) (λ a fa.
+    and_then (addr_of id) _ (λ n. n < 2 ^ 32) IsSpeaker (addr_fits id) (λ i fi.
+    and_then (addr_of addr) _ (λ n. n < 2 ^ 32) IsSpeaker (addr_fits addr) (λ h fh.
+    speaker_told a i h fa fi fh (nat_eq a 0) (nat_eq i 0) (is_host h) refl refl refl)))
+speaker_ok (asn ∷ id ∷ addr ∷ x ∷ more) = tt
+
+decoded : (digits : List ℕ) (r : Result (List ℕ) FromHexError) → decode_of digits ≡ r → IfSome (result_ok r) (λ bytes. All (λ b. b < 256) bytes)
+decoded digits (Err e) is = tt
+decoded digits (Ok bytes) is = λ k d lt. subst (λ b. b < 256) (get_or_default bytes k 0 d lt) ((decode_of-ok digits bytes is).3 k)
+
+octets_ok : (digits : List ℕ) → IfSome (octets_of digits) IsMessage
+unfolding octets_of
+octets_ok digits =
+    and_then (result_ok (decode_of digits)) _ (λ bytes. All (λ b. b < 256) bytes) IsMessage (decoded digits (decode_of digits) refl) (λ bytes all.
+    told (nat_eq (length bytes) 0) None (Some bytes) IsMessage (λ _. tt) (λ other. record { some = grind (arith, nat_tests); bytes = all }))
+
+masked_again : (a s : ℕ) → 0 < s → (a - a % s) % s ≡ 0
+masked_again a s pos =
+    let e : a - a % s ≡ a / s * s + 0 = omega (arith, div-add-mod' a s) in
+    ap (λ n. n % s) e ∙ mod-mul-add (a / s) s 0 pos
+
+network_ok : (a l : Option ℕ) → IfSome a (λ n. n < 2 ^ 32) → IfSome l (λ n. n < 33) → IfSome (network_of 32 a l) IsPrefix
+network_ok None l ha hl = tt
+network_ok (Some a) None ha hl = tt
+network_ok (Some a) (Some l) ha hl = record { masked = (omega arith, masked_again a (size_of_length 32 l) (pow_pos (32 - l))); fits = omega arith }
+
+prefix_parts_ok : (ps : List (List ℕ)) → IfSome (prefix_from_parts 32 ps) IsPrefix
+prefix_parts_ok [] = tt
+prefix_parts_ok (a ∷ []) = tt
+prefix_parts_ok (a ∷ l ∷ []) = network_ok (addr_of a) (number_below 33 l) (addr_fits a) (below 33 l)
+prefix_parts_ok (a ∷ l ∷ x ∷ more) = tt
+
+prefix_ok : (text : List ℕ) → IfSome (prefix_of 32 text) IsPrefix
+unfolding prefix_of
+prefix_ok text = prefix_parts_ok (parts 47 text)
+
+link_parts_ok : (ps : List (List ℕ)) → IfSome (link_from ps) IsPeerLink
+link_parts_ok [] = tt
+link_parts_ok (a ∷ []) = tt
+link_parts_ok (a ∷ k ∷ []) = either (bytes_eq a (codes "in")) (from_one k >>= λ n. Some (links.In n)) None IsPeerLink (and_then (from_one k) _ IsNumber IsPeerLink (from_one_ok k) (λ n h. h)) tt
+link_parts_ok (a ∷ k ∷ s ∷ []) = either (bytes_eq a (codes "peer")) (two_from_one k s >>= λ n. Some (links.Peer n.0 n.1)) None IsPeerLink (and_then (two_from_one k s) _ (λ n. IsNumber n.0 × IsNumber n.1) IsPeerLink (two_ok k s) (λ n h. h)) tt
+link_parts_ok (a ∷ k ∷ s ∷ x ∷ more) = tt
+
+link_ok : (word : List ℕ) → IfSome (link_of word) IsPeerLink
+unfolding link_of
+link_ok word = link_parts_ok (parts 46 word)
+
+task_parts_ok : (ps : List (List ℕ)) → IfSome (task_from ps) IsTask
+task_parts_ok [] = tt
+task_parts_ok (a ∷ []) = tt
+task_parts_ok (a ∷ k ∷ []) = tt
+task_parts_ok (a ∷ k ∷ s ∷ []) = either (bytes_eq a (codes "del")) (two_from_one k s >>= λ n. Some (tasks.Del n.0 n.1)) None IsTask (and_then (two_from_one k s) _ (λ n. IsNumber n.0 × IsNumber n.1) IsTask (two_ok k s) (λ n h. h)) tt
+task_parts_ok (a ∷ k ∷ s ∷ x ∷ more) = tt
+
+task_ok : (word : List ℕ) → IfSome (task_of word) IsTask
+unfolding task_of
+task_ok word = task_parts_ok (parts 46 word)
+
+-- ---- lines
+local_ok : (ws : List (List ℕ)) → IfSome (local_of ws) IsWellFormed
+unfolding local_of
+local_ok ws = and_then (speaker_of ws) _ IsSpeaker IsWellFormed (speaker_ok ws) (λ s h. h)
+
+peer_ok : (ws : List (List ℕ)) → IfSome (peer_of ws) IsWellFormed
+unfolding peer_of
+peer_ok [] = tt
+peer_ok (k ∷ ws) = and_then (from_one k) _ IsNumber IsWellFormed (from_one_ok k) (λ n hn. and_then (speaker_of ws) _ IsSpeaker IsWellFormed (speaker_ok ws) (λ s hs. (hn, hs)))
+
+one_number_ok : (ws : List (List ℕ)) → IfSome (one_number ws) IsNumber
+unfolding one_number
+one_number_ok [] = tt
+one_number_ok (k ∷ []) = from_one_ok k
+one_number_ok (k ∷ x ∷ more) = tt
+
+bgp_ok : (ws : List (List ℕ)) → IfSome (bgp_of ws) IsWellFormed
+unfolding bgp_of
+bgp_ok [] = tt
+bgp_ok (k ∷ []) = tt
+bgp_ok (k ∷ digits ∷ []) = and_then (from_one k) _ IsNumber IsWellFormed (from_one_ok k) (λ n hn. and_then (octets_of digits) _ IsMessage IsWellFormed (octets_ok digits) (λ octets ho. (hn, ho)))
+bgp_ok (k ∷ digits ∷ x ∷ more) = tt
+
+work_ok : (ws : List (List ℕ)) → IfSome (work_of ws) IsWellFormed
+unfolding work_of
+work_ok [] = tt
+work_ok (task ∷ []) = tt
+work_ok (task ∷ turns ∷ []) = and_then (task_of task) _ IsTask IsWellFormed (task_ok task) (λ t ht. and_then (number_of turns) _ (λ n. n < 2 ^ 32) IsWellFormed (below (2 ^ 32) turns) (λ n hn. (ht, hn)))
+work_ok (task ∷ turns ∷ x ∷ more) = tt
+
+ask_ok : (ws : List (List ℕ)) → IfSome (ask_of ws) IsWellFormed
+unfolding ask_of
+ask_ok [] = tt
+ask_ok (link ∷ []) = tt
+ask_ok (link ∷ p ∷ []) = and_then (link_of link) _ IsPeerLink IsWellFormed (link_ok link) (λ l hl. and_then (prefix_of 32 p) _ IsPrefix IsWellFormed (prefix_ok p) (λ n hn. (hl, hn)))
+ask_ok (link ∷ p ∷ x ∷ more) = tt
+
+show_ok : (ws : List (List ℕ)) → IfSome (show_of ws) IsWellFormed
+unfolding show_of
+show_ok [] = tt
+show_ok (link ∷ []) = and_then (link_of link) _ IsPeerLink IsWellFormed (link_ok link) (λ l hl. hl)
+show_ok (link ∷ x ∷ more) = tt
+
+plain_ok : (w : List ℕ) (ws : List (List ℕ)) → IfSome (plain_event w ws) IsWellFormed
+unfolding plain_event
+plain_ok w ws =
+    either (bytes_eq w (codes "up")) _ _ IsWellFormed (and_then (one_number ws) _ IsNumber IsWellFormed (one_number_ok ws) (λ k h. h))
+    (either (bytes_eq w (codes "down")) _ _ IsWellFormed (and_then (one_number ws) _ IsNumber IsWellFormed (one_number_ok ws) (λ k h. h))
+    (either (bytes_eq w (codes "idle")) _ _ IsWellFormed (either (nat_eq (length ws) 0) (Some events.Idle) None IsWellFormed tt tt)
+    (either (bytes_eq w (codes "work")) _ _ IsWellFormed (work_ok ws)
+    (either (bytes_eq w (codes "ask")) _ _ IsWellFormed (ask_ok ws)
+    (either (bytes_eq w (codes "show")) _ None IsWellFormed (show_ok ws) tt)))))
+
+named_ok : (w : List ℕ) (ws : List (List ℕ)) → IfSome (named_event w ws) IsWellFormed
+unfolding named_event
+named_ok w ws =
+    either (bytes_eq w (codes "local")) _ _ IsWellFormed (local_ok ws)
+    (either (bytes_eq w (codes "peer")) _ _ IsWellFormed (peer_ok ws)
+    (either (bytes_eq w (codes "bgp")) _ _ IsWellFormed (bgp_ok ws) (plain_ok w ws)))
+
+-- the event of a line's words is well-formed
+pub event_ok : (ws : List (List ℕ)) → IfSome (event_of ws) IsWellFormed
+unfolding event_of
+event_ok [] = tt
+event_ok (w ∷ ws) = either (starts_with nat_eq w (codes "#")) (Some events.Nothing) (named_event w ws) IsWellFormed tt (named_ok w ws)

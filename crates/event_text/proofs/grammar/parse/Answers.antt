@@ -1,0 +1,8 @@
+use Rattle.std.proofs.Common.{IfSome, subst, sym, ◌∙◌}
+use Rattle.event_text.specs.Words.{words}
+use Rattle.event_text.specs.WellFormed.{IsWellFormed}
+use Rattle.event_text.proofs.WellFormedLemmas.{event_ok}
+use Rattle.event_text.proofs.grammar.parse.Goals as goal
+
+pub returns-in-Some-clause-words : goal.returns-in-Some-clause-words
+returns-in-Some-clause-words c = subst (λ o. IfSome o IsWellFormed) (sym c.in_ok-event.ensures ∙ c.in-Some.is) (event_ok (words c.args.line.now))

@@ -1,0 +1,74 @@
+-- What holds of each event that was read.
+use Rattle.std.specs.Prelude.{◌≡◌, ℕ, ◌^◌, ◌<◌, ◌≤◌, List, length, true}
+use Rattle.std.specs.List.{All}
+use Rattle.addr4.specs.Prefixes.{Network, IsMasked}
+use Rattle.bgp_attr.specs.declared.speaker.Speaker.{Speaker}
+use Rattle.journal_text.specs.declared.link.Link.{Link}
+use Rattle.journal_text.specs.declared.link.Link.TheVariants.{In, Peer, Filt, Res, Org, Lost, Low, Dyn, Int, Red, Best, ReadRib, Ebgp, Ibgp, Ext, Fib, Read, Outf, Adv}
+use Rattle.journal_text.specs.declared.link.Task.{Task}
+use Rattle.journal_text.specs.declared.link.Task.TheVariants.{Del}
+use Rattle.event_text.specs.declared.event.Event.{Event}
+use Rattle.event_text.specs.declared.event.Event.TheVariants as events
+use Rattle.event_text.specs.Words.{is_host}
+
+-- a number from 1 of 32 bits
+pub record IsNumber (n : ℕ) : Type 0 where
+  pub least : 0 < n
+  pub fits : n < 2 ^ 32
+
+-- an AS number from 1 to 65535, an ID other than 0.0.0.0, and the address of a host
+pub record IsSpeaker (s : Speaker) : Type 0 where
+  pub asn_least : 0 < s.asn
+  pub asn_most : s.asn ≤ 65535
+  pub id_least : 0 < s.id
+  pub id_fits : s.id < 2 ^ 32
+  pub host : is_host s.addr ≡ true
+  pub addr_fits : s.addr < 2 ^ 32
+
+-- at least one octet
+pub record IsMessage (octets : List ℕ) : Type 0 where
+  pub some : 0 < length octets
+  pub bytes : All (λ b. b < 256) octets
+
+-- a prefix of IPv4
+pub record IsPrefix (p : Network) : Type 0 where
+  pub masked : IsMasked 32 p
+  pub fits : p.address < 2 ^ 32
+
+-- `in.K` or `peer.K.S`
+abbrev pub IsPeerLink : Link → Type 0
+IsPeerLink (In k) = IsNumber k
+IsPeerLink (Peer k s) = IsNumber k × IsNumber s
+IsPeerLink (Filt k) = ⊥
+IsPeerLink (Res k) = ⊥
+IsPeerLink (Org proto) = ⊥
+IsPeerLink (Lost proto n) = ⊥
+IsPeerLink Low = ⊥
+IsPeerLink Dyn = ⊥
+IsPeerLink Int = ⊥
+IsPeerLink Red = ⊥
+IsPeerLink Best = ⊥
+IsPeerLink ReadRib = ⊥
+IsPeerLink Ebgp = ⊥
+IsPeerLink Ibgp = ⊥
+IsPeerLink Ext = ⊥
+IsPeerLink Fib = ⊥
+IsPeerLink (Read j s) = ⊥
+IsPeerLink (Outf j s) = ⊥
+IsPeerLink (Adv j s) = ⊥
+
+abbrev pub IsTask : Task → Type 0
+IsTask (Del k s) = IsNumber k × IsNumber s
+
+-- its numbers, words, octets, prefix, link and task are what the grammar says
+abbrev pub IsWellFormed : Event → Type 0
+IsWellFormed events.Nothing = Unit {0}
+IsWellFormed (events.Local words) = IsSpeaker words
+IsWellFormed (events.Peer k words) = IsNumber k × IsSpeaker words
+IsWellFormed (events.Up k) = IsNumber k
+IsWellFormed (events.Down k) = IsNumber k
+IsWellFormed (events.Bgp k octets) = IsNumber k × IsMessage octets
+IsWellFormed events.Idle = Unit {0}
+IsWellFormed (events.Work task n) = IsTask task × (n < 2 ^ 32)
+IsWellFormed (events.Ask link p) = IsPeerLink link × IsPrefix p
+IsWellFormed (events.Show link) = IsPeerLink link

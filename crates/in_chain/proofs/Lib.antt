@@ -1,0 +1,6 @@
+mod RowLemmas
+mod FallLemmas
+mod PartLemmas
+mod WorkLemmas
+mod WholeLemmas
+mod CountLemmas

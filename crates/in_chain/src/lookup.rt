@@ -1,0 +1,95 @@
+//! Lookups, which walk the chain upward: of rows, of stages, and of counts.
+
+ghost use Rattle.std.specs.Prelude.{◌≡◌, ◌≤◌, ◌+◌, ◌*◌, ℕ, IfOk, length, nat_lt};
+ghost use Rattle.std.specs.Option.{option_copied};
+ghost use Rattle.std.specs.FinMap as map;
+ghost use Rattle.addr4.specs.Places.{key_of};
+ghost use Rattle.link_change.specs.Rows.{IsNextCandidate, with_rows, is_empty_map};
+ghost use Rattle.in_chain.specs.Chains.{lost_count};
+ghost use Rattle.in_chain.specs.Stages.{above_of, deletions_of, live_of, rows_of};
+
+use crate::stage::Stage;
+use addr4::{Memory, Place, Prefix, Row};
+use bgp_attr::SharedAttrs;
+use link_change::nearer;
+
+impl Stage {
+    /// The row at a prefix of the link out of this stage.
+    pub(crate) fn asked(&self, p: Prefix) -> Result<Option<SharedAttrs>, Memory>
+        ensures { IfOk result (λ row. row ≡ rows_of self.now p) }
+    {
+        match self {
+            Stage::PeerIn(peer_in) => Ok(peer_in.asked(p)?),
+            Stage::Deletion(deletion, upper) => match deletion.held(p) {
+                Some(row) => Ok(Some(row.copy()?)),
+                None => Ok(upper.asked(p)?),
+            },
+        }
+    }
+
+    /// The least prefix beyond a place that has a row on the link out of this stage.
+    pub(crate) fn next_candidate(&self, after: &Place) -> Option<Prefix>
+        ensures { IsNextCandidate (with_rows (rows_of self.now)) (key_of after.now) result }
+    {
+        match self {
+            Stage::PeerIn(peer_in) => peer_in.next_candidate(*after),
+            Stage::Deletion(deletion, upper) => {
+                let above = upper.next_candidate(after);
+                nearer(deletion.next_held(*after), above)
+            }
+        }
+    }
+
+    /// The stage above that of a session.
+    pub(crate) fn above(&self, session: u32) -> Option<&Stage>
+        ensures { option_copied result ≡ above_of session self.now }
+    {
+        match self {
+            Stage::PeerIn(_) => None,
+            Stage::Deletion(deletion, upper) => {
+                if deletion.number() == session {
+                    return Some(&**upper);
+                }
+                upper.above(session)
+            }
+        }
+    }
+
+    /// Whether fewer deletion stages stand.
+    pub(crate) fn stands_below(&self, count: u32) -> bool
+        ensures { result ≡ nat_lt (length (deletions_of self.now)) count }
+    {
+        if count == 0 {
+            return false;
+        }
+        match self {
+            Stage::PeerIn(_) => true,
+            Stage::Deletion(_, upper) => upper.stands_below(count - 1),
+        }
+    }
+
+    /// Whether no route is live.
+    pub(crate) fn has_no_live(&self) -> bool
+        ensures { result ≡ is_empty_map (live_of self.now) }
+    {
+        match self {
+            Stage::PeerIn(peer_in) => peer_in.is_empty(),
+            Stage::Deletion(_, upper) => upper.has_no_live(),
+        }
+    }
+
+    /// How many rows the stages have together.
+    pub(crate) fn count(&self) -> u128
+        requires { length (deletions_of self.now) ≤ 16 }
+        ensures rows { result ≡ map.len (live_of self.now) + lost_count (deletions_of self.now) }
+        ensures bound { result ≤ (length (deletions_of self.now) + 1) * 18446744073709551616 }
+    {
+        match self {
+            Stage::PeerIn(peer_in) => peer_in.len() as u128,
+            Stage::Deletion(deletion, upper) => {
+                let above = upper.count();
+                above + deletion.len() as u128
+            }
+        }
+    }
+}

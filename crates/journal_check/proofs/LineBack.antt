@@ -1,0 +1,306 @@
+-- A printed line is read back.
+use Rattle.std.proofs.Common.{◌≡◌, ℕ, ◌≤◌, ◌&&◌, Bool, true, false, cond, nat_le, nat_eq, ◌||◌, List, [], ◌∷◌, ◌++◌, length, Option, Some, None, option_map, refl, sym, ap, ◌∙◌, arith, codes}
+use Rattle.std.proofs.lemmas.Bool.Decides.{nat_tests}
+use Rattle.std.proofs.lemmas.List.{append_cancel_right}
+use Rattle.std.specs.List.{AllByRecursion, list_all, join_with_byte, flat_map}
+use Rattle.std.specs.Fmt.{decimal}
+use Rattle.std.specs.Str.{bytes_eq}
+use Rattle.hex.specs.Hex.{encode_lower}
+use Rattle.addr4.specs.Prefixes.{Network}
+use Rattle.addr4.specs.Texts.{parts, prefix_text, addr_text, dotted}
+use Rattle.bgp_attr.specs.declared.path.SegmentKind.{SegmentKind}
+use Rattle.bgp_attr.specs.declared.path.SegmentKind.TheVariants.{Set, Sequence}
+use Rattle.bgp_attr.specs.declared.path.Segment.{Segment}
+use Rattle.bgp_attr.specs.declared.attrs.Origin.{Origin}
+use Rattle.bgp_attr.specs.declared.attrs.Origin.TheVariants.{Igp, Egp, Incomplete}
+use Rattle.bgp_attr.specs.declared.attrs.Aggregator.{Aggregator}
+use Rattle.bgp_attr.specs.declared.unrecognized.Unrecognized.{Unrecognized}
+use Rattle.bgp_attr.specs.declared.attrs.Attrs.{Attrs}
+use Rattle.rib_route.specs.declared.Proto.{Proto}
+use Rattle.rib_route.specs.declared.Proto.TheVariants.{Connected, Static, Ospf, Rip}
+use Rattle.journal_text.specs.Names.{IsNameNumber, IsNamed, link_of}
+use Rattle.journal_text.specs.Texts.{origin_number, bracketed, segment_text, path_text, lettered, aggregator_text, unrecognized_text, required_text, optional_text, attrs_text, value_text, proto_text, dot_number, link_text, words_line, answer_text, entry_words, code_text, line_words, line_text}
+use Rattle.journal_text.specs.declared.link.Link.{Link}
+use Rattle.journal_text.specs.declared.link.Link.TheVariants.{In, Peer, Filt, Res, Org, Lost, Low, Dyn, Int, Red, Best, ReadRib, Ebgp, Ibgp, Ext, Fib, Read as ReadLink, Outf, Adv}
+use Rattle.journal_text.specs.declared.value.Value.{Value}
+use Rattle.journal_text.specs.declared.value.Value.TheVariants as values
+use Rattle.journal_text.specs.declared.entry.Entry.{Entry}
+use Rattle.journal_text.specs.declared.entry.Entry.TheVariants.{Begin, Inherit, Add, Delete, Replace, Asked, Weld, End}
+use Rattle.journal_text.specs.declared.line.Code.{Code}
+use Rattle.journal_text.specs.declared.line.Code.TheVariants.{E1, E2, E3, E4, E5, E6}
+use Rattle.journal_text.specs.declared.line.Line.{Line}
+use Rattle.journal_text.specs.declared.line.Line.TheVariants.{Journal, Note, Row, Rows, Work, Bound, Idle, Ignored, Absent, Refused}
+use Rattle.journal_text.proofs.ReadBack.{link_back}
+use Rattle.journal_check.specs.declared.reading.Reading.{Reading}
+use Rattle.journal_check.specs.declared.reading.Reading.TheVariants.{Skipped, Read, NotALine}
+use Rattle.journal_check.specs.Readings.{TextEntry, ◌>>=◌, is_clean, printed_prefix, value_of, answer_of, entry_of_two, entry_on_two, entry_of_three, entry_on_row, entry_of_four, entry_of_five, entry_from, is_skipped, read_or_not, reading_from, reading_of}
+use Rattle.journal_check.specs.Laws.{IsPrefix, IsNumberIfAny, HasNumbers, HasNumber, HasOctets, HasRanges, IsValue, IsAnswer, IsEntry, IsLine, texts_of, said, PrintedLinesAreReadBack}
+use Rattle.journal_check.proofs.InkLemmas.{IsInk, AreInk, all_append, all_flat, inky, ink_by, ink_decimal, ink_wide, ink_dotted, ink_hex, printable, words_parted, line_passes}
+use Rattle.journal_check.proofs.PrefixBack.{ink_addr, ink_prefix, printed_back}
+
+-- ---- the words have no space
+
+both : (xs ys : List ℕ) → AreInk xs → AreInk ys → AreInk (xs ++ ys)
+both xs ys g h = all_append IsInk xs ys g h
+
+ink : (b : ℕ) → (nat_le 33 b && nat_le b 126) ≡ true → (rest : List ℕ) → AreInk rest → AreInk (b ∷ rest)
+ink b e rest h = both (b ∷ []) rest (ink_by (b ∷ []) (ap (λ t. t && true) e)) h
+
+dot_ink : (n : ℕ) → IsNameNumber n → AreInk (dot_number n)
+dot_ink n h = ink 46 refl (decimal n) (ink_decimal n (omega (arith, h)))
+
+one_number : (word : List ℕ) (n : ℕ) → AreInk word → IsNameNumber n → AreInk (word ++ dot_number n)
+one_number word n w h = both word (dot_number n) w (dot_ink n h)
+
+two_numbers : (word : List ℕ) (k s : ℕ) → AreInk word → IsNameNumber k × IsNameNumber s → AreInk (word ++ dot_number k ++ dot_number s)
+two_numbers word k s w h = both (word ++ dot_number k) (dot_number s) (one_number word k w h.0) (dot_ink s h.1)
+
+proto_ink : (proto : Proto) → AreInk (codes "org." ++ proto_text proto)
+proto_ink Connected = ink_by (codes "org." ++ proto_text Connected) refl
+proto_ink Static = ink_by (codes "org." ++ proto_text Static) refl
+proto_ink Ospf = ink_by (codes "org." ++ proto_text Ospf) refl
+proto_ink Rip = ink_by (codes "org." ++ proto_text Rip) refl
+
+link_ink : (link : Link) → IsNamed link → AreInk (link_text link)
+unfolding link_text
+link_ink (In k) h = one_number (codes "in") k (ink_by (codes "in") refl) h
+link_ink (Peer k s) h = two_numbers (codes "peer") k s (ink_by (codes "peer") refl) h
+link_ink (Filt k) h = one_number (codes "filt") k (ink_by (codes "filt") refl) h
+link_ink (Res k) h = one_number (codes "res") k (ink_by (codes "res") refl) h
+link_ink (Org proto) h = proto_ink proto
+link_ink (Lost proto n) h = one_number (codes "org." ++ proto_text proto) n (proto_ink proto) h
+link_ink Low h = ink_by (codes "low") refl
+link_ink Dyn h = ink_by (codes "dyn") refl
+link_ink Int h = ink_by (codes "int") refl
+link_ink Red h = ink_by (codes "red") refl
+link_ink Best h = ink_by (codes "best") refl
+link_ink ReadRib h = ink_by (codes "read.rib") refl
+link_ink Ebgp h = ink_by (codes "ebgp") refl
+link_ink Ibgp h = ink_by (codes "ibgp") refl
+link_ink Ext h = ink_by (codes "ext") refl
+link_ink Fib h = ink_by (codes "fib") refl
+link_ink (ReadLink j s) h = two_numbers (codes "read") j s (ink_by (codes "read") refl) h
+link_ink (Outf j s) h = two_numbers (codes "outf") j s (ink_by (codes "outf") refl) h
+link_ink (Adv j s) h = two_numbers (codes "adv") j s (ink_by (codes "adv") refl) h
+
+bracket_ink : (kind : SegmentKind) (text : List ℕ) → AreInk text → AreInk (bracketed kind text)
+bracket_ink Sequence text h = both (40 ∷ text) (41 ∷ []) (ink 40 refl text h) (ink_by (41 ∷ []) refl)
+bracket_ink Set text h = both (123 ∷ text) (125 ∷ []) (ink 123 refl text h) (ink_by (125 ∷ []) refl)
+
+segment_ink : (s : Segment) → HasNumbers s → AreInk (segment_text s)
+unfolding segment_text
+segment_ink s h = bracket_ink s.kind (dotted s.numbers) (ink_dotted s.numbers h)
+
+path_ink : (path : List Segment) → AllByRecursion HasNumbers path → AreInk (path_text path)
+unfolding path_text
+path_ink path h = all_flat HasNumbers IsInk segment_text segment_ink path h
+
+lettered_ink : (letter : ℕ) (n : Option ℕ) → (nat_le 33 letter && nat_le letter 126) ≡ true → IsNumberIfAny n → AreInk (lettered letter n)
+lettered_ink letter None e h = tt
+lettered_ink letter (Some n) e h = ink 44 refl (letter ∷ decimal n) (ink letter e (decimal n) (ink_decimal n (omega arith)))
+
+partial_ink : (partial : Bool) → AreInk (cond partial (33 ∷ []) [])
+partial_ink true = ink_by (33 ∷ []) refl
+partial_ink false = tt
+
+aggregator_ink : (g : Option Aggregator) → HasNumber g → AreInk (aggregator_text g)
+unfolding aggregator_text
+aggregator_ink None h = tt
+aggregator_ink (Some g) h =
+    both (44 ∷ 103 ∷ decimal g.asn ++ 47 ∷ addr_text g.addr) (cond g.partial (33 ∷ []) [])
+    (both (44 ∷ 103 ∷ decimal g.asn) (47 ∷ addr_text g.addr) (ink 44 refl (103 ∷ decimal g.asn) (ink 103 refl (decimal g.asn) (ink_decimal g.asn (omega arith)))) (ink 47 refl (addr_text g.addr) (ink_addr g.addr)))
+    (partial_ink g.partial)
+
+unrecognized_ink : (u : Unrecognized) → HasOctets u → AreInk (unrecognized_text u)
+unfolding unrecognized_text
+unrecognized_ink u h =
+    let small = h.0 in
+    both (44 ∷ 120 ∷ decimal u.kind) (58 ∷ encode_lower u.value) (ink 44 refl (120 ∷ decimal u.kind) (ink 120 refl (decimal u.kind) (ink_decimal u.kind (omega arith)))) (ink 58 refl (encode_lower u.value) (ink_hex u.value h.1))
+
+origin_ink : (origin : Origin) → AreInk (decimal (origin_number origin))
+origin_ink Igp = ink_decimal 0 (omega arith)
+origin_ink Egp = ink_decimal 1 (omega arith)
+origin_ink Incomplete = ink_decimal 2 (omega arith)
+
+required_ink : (a : Attrs) → HasRanges a → AreInk (required_text a)
+unfolding required_text
+required_ink a h =
+    let origin = both (codes "o") (decimal (origin_number a.origin)) (ink_by (codes "o") refl) (origin_ink a.origin) in
+    let comma = both (codes "o" ++ decimal (origin_number a.origin)) (codes ",p") origin (ink_by (codes ",p") refl) in
+    let path = both (codes "o" ++ decimal (origin_number a.origin) ++ codes ",p") (path_text a.path) comma (path_ink a.path h.path) in
+    let next = both (codes "o" ++ decimal (origin_number a.origin) ++ codes ",p" ++ path_text a.path) (codes ",n") path (ink_by (codes ",n") refl) in
+    both (codes "o" ++ decimal (origin_number a.origin) ++ codes ",p" ++ path_text a.path ++ codes ",n") (addr_text a.next_hop) next (ink_addr a.next_hop)
+
+atomic_ink : (atomic : Bool) → AreInk (cond atomic (codes ",a") [])
+atomic_ink true = ink_by (codes ",a") refl
+atomic_ink false = tt
+
+optional_ink : (a : Attrs) → HasRanges a → AreInk (optional_text a)
+unfolding optional_text
+optional_ink a h =
+    both (lettered 109 a.med ++ lettered 108 a.local_pref ++ cond a.atomic (codes ",a") []) (aggregator_text a.aggregator)
+    (both (lettered 109 a.med ++ lettered 108 a.local_pref) (cond a.atomic (codes ",a") [])
+    (both (lettered 109 a.med) (lettered 108 a.local_pref) (lettered_ink 109 a.med refl h.med) (lettered_ink 108 a.local_pref refl h.local_pref)) (atomic_ink a.atomic))
+    (aggregator_ink a.aggregator h.aggregator)
+
+attrs_ink : (a : Attrs) → HasRanges a → AreInk (attrs_text a)
+unfolding attrs_text
+attrs_ink a h =
+    both (required_text a ++ optional_text a) (flat_map unrecognized_text a.unrecognized)
+    (both (required_text a) (optional_text a) (required_ink a h) (optional_ink a h)) (all_flat HasOctets IsInk unrecognized_text unrecognized_ink a.unrecognized h.unrecognized)
+
+value_ink : (value : Value) → IsValue value → AreInk (value_text value)
+value_ink (values.Attrs a) h = attrs_ink a h
+
+answer_ink : (row : Option Value) → IsAnswer row → AreInk (answer_text row)
+answer_ink None h = ink_by (codes "-") refl
+answer_ink (Some value) h = value_ink value h
+
+-- ---- values are read back
+
+attrs_first : (a : Attrs) → (rest : List ℕ) × (attrs_text a ≡ 111 ∷ rest)
+unfolding attrs_text required_text
+attrs_first a = (_, refl)
+
+value_first : (value : Value) → (rest : List ℕ) × (value_text value ≡ 111 ∷ rest)
+value_first (values.Attrs a) = attrs_first a
+
+value_by : (rest : List ℕ) → value_of (111 ∷ rest) ≡ Some (111 ∷ rest)
+unfolding value_of
+value_by rest =
+    let some : nat_eq (length (111 ∷ rest)) 0 ≡ false = grind (arith, nat_tests) in
+    ap (λ b. cond (b || bytes_eq (111 ∷ rest) (codes "-")) None (Some (111 ∷ rest))) some
+
+value_back : (value : Value) → value_of (value_text value) ≡ Some (value_text value)
+value_back value = let f = value_first value in ap value_of f.1 ∙ (value_by f.0 ∙ ap Some (sym f.1))
+
+answer_by : (rest : List ℕ) → answer_of (111 ∷ rest) ≡ option_map (λ text. Some text) (value_of (111 ∷ rest))
+unfolding answer_of
+answer_by rest = refl
+
+answer_back : (row : Option Value) → answer_of (answer_text row) ≡ Some (option_map value_text row)
+unfolding answer_of
+answer_back None = refl
+answer_back (Some value) =
+    let f = value_first value in
+    ap answer_of f.1 ∙ (answer_by f.0 ∙ (ap (option_map (λ text. Some text)) (value_by f.0) ∙ ap (λ text. Some (Some text)) (sym f.1)))
+
+-- ---- entries are read back
+
+on_two : (c a b : List ℕ) (link other : Link) → link_of a ≡ Some link → link_of b ≡ Some other → entry_of_three c a b ≡ entry_on_two c link other
+unfolding entry_of_three
+on_two c a b link other first second = ap (λ (o : Option Link). o >>= λ l. link_of b >>= λ m. entry_on_two c l m) first ∙ ap (λ (o : Option Link). o >>= λ m. entry_on_two c link m) second
+
+on_row : (c a b v : List ℕ) (link : Link) (p : Network) → link_of a ≡ Some link → printed_prefix b ≡ Some p → entry_of_four c a b v ≡ entry_on_row c link p v
+unfolding entry_of_four
+on_row c a b v link p first second = ap (λ (o : Option Link). o >>= λ l. printed_prefix b >>= λ q. entry_on_row c l q v) first ∙ ap (λ (o : Option Network). o >>= λ q. entry_on_row c link q v) second
+
+on_both : (a b v w old new : List ℕ) (link : Link) (p : Network) → link_of a ≡ Some link → printed_prefix b ≡ Some p → value_of v ≡ Some old → value_of w ≡ Some new → entry_of_five (codes "=") a b v w ≡ Some (Replace link p old new)
+unfolding entry_of_five
+on_both a b v w old new link p first second third fourth =
+    ap (λ (o : Option Link). o >>= λ l. printed_prefix b >>= λ q. value_of v >>= λ x. value_of w >>= λ y. Some (Replace l q x y)) first
+    ∙ (ap (λ (o : Option Network). o >>= λ q. value_of v >>= λ x. value_of w >>= λ y. Some (Replace link q x y)) second
+    ∙ (ap (λ (o : Option (List ℕ)). o >>= λ x. value_of w >>= λ y. Some (Replace link p x y)) third
+    ∙ ap (λ (o : Option (List ℕ)). o >>= λ y. Some (Replace link p old y)) fourth))
+
+entry_back : (entry : Entry Value) → IsEntry entry → entry_from (entry_words entry) ≡ Some (texts_of entry)
+unfolding entry_words entry_from entry_of_two entry_on_two entry_on_row
+entry_back (Begin link) h = ap (option_map (λ l. Begin l)) (link_back link h)
+entry_back (Inherit link from) h = on_two (codes "i") (link_text link) (link_text from) link from (link_back link h.0) (link_back from h.1)
+entry_back (Add link p new) h = on_row (codes "+") (link_text link) (prefix_text p) (value_text new) link p (link_back link h.0) (printed_back p h.1) ∙ ap (option_map (λ v. Add link p v)) (value_back new)
+entry_back (Delete link p old) h = on_row (codes "-") (link_text link) (prefix_text p) (value_text old) link p (link_back link h.0) (printed_back p h.1) ∙ ap (option_map (λ v. Delete link p v)) (value_back old)
+entry_back (Replace link p old new) h =
+    on_both (link_text link) (prefix_text p) (value_text old) (value_text new) (value_text old) (value_text new) link p (link_back link h.0) (printed_back p h.1) (value_back old) (value_back new)
+entry_back (Asked link p row) h = on_row (codes "?") (link_text link) (prefix_text p) (answer_text row) link p (link_back link h.0) (printed_back p h.1) ∙ ap (option_map (λ r. Asked link p r)) (answer_back row)
+entry_back (Weld upper lower) h = on_two (codes "w") (link_text upper) (link_text lower) upper lower (link_back upper h.0) (link_back lower h.1)
+entry_back (End link) h = ap (option_map (λ l. End l)) (link_back link h)
+
+-- ---- lines
+
+-- a first word, and others
+record HasWords (words : List (List ℕ)) (reading : Reading) : Type 0 where
+  first : List ℕ
+  others : List (List ℕ)
+  parted : words ≡ first ∷ others
+  inked : AllByRecursion AreInk (first ∷ others)
+  reads : reading_from (first ∷ others) ≡ reading
+
+clean_by : (text : List ℕ) → length text ≤ 65536 → list_all printable text ≡ true → is_clean text ≡ true
+unfolding is_clean
+clean_by text short passes = let few : nat_le (length text) 65536 ≡ true = grind (arith, nat_tests) in (λ i. few i && passes i)
+
+read_by : (text : List ℕ) → is_clean text ≡ true → reading_of text ≡ reading_from (parts 32 text)
+unfolding reading_of
+read_by text clean = ap (λ b. cond b (reading_from (parts 32 text)) NotALine) clean
+
+words_read : (text : List ℕ) (words : List (List ℕ)) (reading : Reading) → HasWords words reading → words_line words ≡ text ++ 10 ∷ [] → length text ≤ 65536 → reading_of text ≡ reading
+words_read text words reading h is short =
+    let same : text ≡ join_with_byte 32 (h.first ∷ h.others) = sym (append_cancel_right (join_with_byte 32 words) text (10 ∷ []) is) ∙ ap (join_with_byte 32) h.parted in
+    let passes : list_all printable text ≡ true = ap (list_all printable) same ∙ line_passes h.first h.others h.inked in
+    read_by text (clean_by text short passes) ∙ (ap (λ t. reading_from (parts 32 t)) same ∙ (ap reading_from (words_parted h.first h.others h.inked) ∙ h.reads))
+
+-- the words of an entry
+has_entry : (first : List ℕ) (others : List (List ℕ)) (entry : TextEntry) → list_all inky first ≡ true → is_skipped first ≡ false → AllByRecursion AreInk others → entry_from (first ∷ others) ≡ Some entry → HasWords (first ∷ others) (Read entry)
+has_entry first others entry word not_skipped inked is = record {
+  first = first;
+  others = others;
+  parted = refl;
+  inked = (ink_by first word, inked);
+  reads = ap (λ b. cond b Skipped (read_or_not (entry_from (first ∷ others)))) not_skipped ∙ ap read_or_not is;
+}
+
+-- the words of a line that is skipped
+has_skipped : (first : List ℕ) (others : List (List ℕ)) → list_all inky first ≡ true → is_skipped first ≡ true → AllByRecursion AreInk others → HasWords (first ∷ others) Skipped
+has_skipped first others word skipped inked = record {
+  first = first;
+  others = others;
+  parted = refl;
+  inked = (ink_by first word, inked);
+  reads = ap (λ b. cond b Skipped (read_or_not (entry_from (first ∷ others)))) skipped;
+}
+
+row_ink : (link : Link) (p : Network) (value : Value) → IsNamed link × IsPrefix p × IsValue value → AllByRecursion AreInk (link_text link ∷ prefix_text p ∷ value_text value ∷ [])
+row_ink link p value h = (link_ink link h.0, (ink_prefix p h.1, (value_ink value h.2, tt)))
+
+links_ink : (link other : Link) → IsNamed link × IsNamed other → AllByRecursion AreInk (link_text link ∷ link_text other ∷ [])
+links_ink link other h = (link_ink link h.0, (link_ink other h.1, tt))
+
+entry_has : (entry : Entry Value) → IsEntry entry → HasWords (entry_words entry) (Read (texts_of entry))
+unfolding entry_words is_skipped
+entry_has (Begin link) h = has_entry (codes "b") (link_text link ∷ []) (Begin link) refl refl (link_ink link h, tt) (entry_back (Begin link) h)
+entry_has (Inherit link from) h = has_entry (codes "i") (link_text link ∷ link_text from ∷ []) (Inherit link from) refl refl (links_ink link from h) (entry_back (Inherit link from) h)
+entry_has (Add link p new) h = has_entry (codes "+") (link_text link ∷ prefix_text p ∷ value_text new ∷ []) (Add link p (value_text new)) refl refl (row_ink link p new h) (entry_back (Add link p new) h)
+entry_has (Delete link p old) h = has_entry (codes "-") (link_text link ∷ prefix_text p ∷ value_text old ∷ []) (Delete link p (value_text old)) refl refl (row_ink link p old h) (entry_back (Delete link p old) h)
+entry_has (Replace link p old new) h =
+    has_entry (codes "=") (link_text link ∷ prefix_text p ∷ value_text old ∷ value_text new ∷ []) (Replace link p (value_text old) (value_text new)) refl refl
+    (link_ink link h.0, (ink_prefix p h.1, (value_ink old h.2, (value_ink new h.3, tt)))) (entry_back (Replace link p old new) h)
+entry_has (Asked link p row) h =
+    has_entry (codes "?") (link_text link ∷ prefix_text p ∷ answer_text row ∷ []) (Asked link p (option_map value_text row)) refl refl
+    (link_ink link h.0, (ink_prefix p h.1, (answer_ink row h.2, tt))) (entry_back (Asked link p row) h)
+entry_has (Weld upper lower) h = has_entry (codes "w") (link_text upper ∷ link_text lower ∷ []) (Weld upper lower) refl refl (links_ink upper lower h) (entry_back (Weld upper lower) h)
+entry_has (End link) h = has_entry (codes "e") (link_text link ∷ []) (End link) refl refl (link_ink link h, tt) (entry_back (End link) h)
+
+code_ink : (code : Code) → AreInk (code_text code)
+code_ink E1 = ink_by (code_text E1) refl
+code_ink E2 = ink_by (code_text E2) refl
+code_ink E3 = ink_by (code_text E3) refl
+code_ink E4 = ink_by (code_text E4) refl
+code_ink E5 = ink_by (code_text E5) refl
+code_ink E6 = ink_by (code_text E6) refl
+
+line_has : (line : Line) → IsLine line → HasWords (line_words line) (said line)
+unfolding is_skipped
+line_has (Journal entry) h = entry_has entry h
+line_has (Note k octets) h = let small = h.0 in has_skipped (codes "note") (decimal k ∷ encode_lower octets ∷ []) refl refl (ink_decimal k (omega arith), (ink_hex octets h.1, tt))
+line_has (Row link p value) h = has_skipped (codes "row") (link_text link ∷ prefix_text p ∷ value_text value ∷ []) refl refl (row_ink link p value h)
+line_has (Rows link count) h = has_skipped (codes "rows") (link_text link ∷ decimal count ∷ []) refl refl (link_ink link h.0, (ink_wide count h.1, tt))
+line_has (Work turns) h = has_skipped (codes "work") (decimal turns ∷ []) refl refl (ink_wide turns h, tt)
+line_has (Bound turns) h = has_skipped (codes "bound") (decimal turns ∷ []) refl refl (ink_wide turns h, tt)
+line_has (Idle turns) h = has_skipped (codes "idle") (decimal turns ∷ []) refl refl (ink_wide turns h, tt)
+line_has Ignored h = has_skipped (codes "ignored") [] refl refl tt
+line_has Absent h = has_skipped (codes "absent") [] refl refl tt
+line_has (Refused number code) h = has_skipped (codes "refused") (decimal number ∷ code_text code ∷ []) refl refl (ink_decimal number h, (code_ink code, tt))
+
+pub lines_back : PrintedLinesAreReadBack
+unfolding line_text
+lines_back line text h is short = words_read text (line_words line) (said line) (line_has line h) is short

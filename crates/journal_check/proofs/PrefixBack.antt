@@ -1,0 +1,140 @@
+-- A prefix is read back from its text.
+use Rattle.std.proofs.Common.{◌≡◌, ℕ, zero, suc, ◌/◌, ◌%◌, ◌^◌, ◌<◌, ◌≤◌, ◌&&◌, ◌||◌, not, Bool, true, false, cond, nat_eq, List, [], ◌∷◌, length, get_or, Option, Some, None, refl, sym, ap, ◌∙◌, arith}
+use Rattle.std.proofs.lemmas.Bool.Decides.{nat_tests}
+use Rattle.std.proofs.lemmas.Nat.{mod_below, from_be_bytes-to_be_bytes_4}
+use Rattle.std.specs.Char.{is_ascii_digit}
+use Rattle.std.specs.Int.{w32, to_be_bytes, from_be_bytes}
+use Rattle.std.specs.List.{AllByRecursion, list_all}
+use Rattle.std.specs.Fmt.{decimal}
+use Rattle.std.specs.Str.Parse.{digits_value}
+use Rattle.std.proofs.lemmas.Fmt.{decimal_is_IsNumeral, first_decimal, decimal_digit}
+use Rattle.std.proofs.lemmas.Slice.Eq.{bytes_eq-Decides}
+use Rattle.addr4.specs.Blocks.{masked_to}
+use Rattle.addr4.specs.Prefixes.{Network}
+use Rattle.addr4.specs.Texts.{is_numeral, value_below, number_below, parts, addr_from_octets, addr_from_parts, addr_of, dotted, addr_text, network_of, prefix_from_parts, prefix_of, prefix_text}
+use Rattle.addr4.proofs.NumberLemmas.{value_small}
+use Rattle.journal_check.specs.Laws.{IsPrefix}
+use Rattle.journal_check.specs.Readings.{◌>>=◌, as_printed, printed_prefix}
+use Rattle.journal_check.proofs.InkLemmas.{AreInk, IsInk, all_append, decimal_are, dotted_are, ink_dotted, ink_decimal, apart_then, apart_alone}
+
+-- ---- numbers
+
+digit_passes : (c : ℕ) → 48 ≤ c → c ≤ 57 → is_ascii_digit c ≡ true
+digit_passes c low high = grind (arith, nat_tests)
+
+and_yes : (a b : Bool) → a ≡ true → b ≡ true → (a && b) ≡ true
+and_yes a b ha hb = cc
+
+all_digits : (cs : List ℕ) → AllByRecursion (λ c. is_ascii_digit c ≡ true) cs → list_all is_ascii_digit cs ≡ true
+all_digits [] h = refl
+all_digits (c ∷ cs) h = and_yes (is_ascii_digit c) (list_all is_ascii_digit cs) h.0 (all_digits cs h.1)
+
+numeral_by : (a b c d : Bool) → a ≡ false → c ≡ false → d ≡ true → (not a && (b || not c) && d) ≡ true
+numeral_by true b c d ha hc hd = absurd (cc)
+numeral_by false b true d ha hc hd = absurd (cc)
+numeral_by false true false d ha hc hd = hd
+numeral_by false false false d ha hc hd = hd
+
+numeral_above : (n : ℕ) → 0 < n → n < 2 ^ 64 → is_numeral (decimal n) ≡ true
+numeral_above n some wide =
+    let text = decimal n in
+    let numeral = decimal_is_IsNumeral n wide in
+    let long = numeral.0.0 in
+    let first = first_decimal n some wide in
+    let not_empty : nat_eq (length text) 0 ≡ false = grind (arith, nat_tests) in
+    let not_zero : nat_eq (get_or text 0 0) 48 ≡ false = grind (arith, nat_tests) in
+    numeral_by (nat_eq (length text) 0) (nat_eq (length text) 1) (nat_eq (get_or text 0 0) 48) (list_all is_ascii_digit text) not_empty not_zero (all_digits text (decimal_are (λ c. is_ascii_digit c ≡ true) digit_passes n wide))
+
+numeral_of : (n : ℕ) → n < 2 ^ 64 → is_numeral (decimal n) ≡ true
+numeral_of zero wide = ap is_numeral (decimal_digit 0 (omega arith))
+numeral_of (suc n) wide = numeral_above (suc n) (omega arith) wide
+
+pub number_back : (bound n : ℕ) → n < bound → n < 2 ^ 64 → number_below bound (decimal n) ≡ Some n
+unfolding number_below
+number_back bound n below wide =
+    let numeral = decimal_is_IsNumeral n wide in
+    let value = numeral.1 in
+    let small : digits_value 10 (decimal n) < bound = omega arith in
+    ap (λ b. cond b (value_below bound (decimal n)) None) (numeral_of n wide) ∙ (sym (value_small bound (decimal n) small) ∙ ap Some value)
+
+-- ---- addresses
+
+low_octet : (n : ℕ) → n % 256 < 256
+low_octet n = mod_below n 256 (omega arith)
+
+not_dot : (c : ℕ) → 48 ≤ c → c ≤ 57 → nat_eq c 46 ≡ false
+not_dot c low high = grind (arith, nat_tests)
+
+not_slash : (c : ℕ) → 48 ≤ c → c ≤ 57 → nat_eq c 47 ≡ false
+not_slash c low high = grind (arith, nat_tests)
+
+dotless : (n : ℕ) → n < 256 → AllByRecursion (λ c. nat_eq c 46 ≡ false) (decimal n)
+dotless n small = decimal_are (λ c. nat_eq c 46 ≡ false) not_dot n (omega arith)
+
+octets_parted : (a b c d : ℕ) → a < 256 → b < 256 → c < 256 → d < 256 → parts 46 (dotted (a ∷ b ∷ c ∷ d ∷ [])) ≡ decimal a ∷ decimal b ∷ decimal c ∷ decimal d ∷ []
+octets_parted a b c d ha hb hc hd =
+    apart_then 46 (decimal a) (dotted (b ∷ c ∷ d ∷ [])) refl (dotless a ha)
+    ∙ ap (λ ps. decimal a ∷ ps) (apart_then 46 (decimal b) (dotted (c ∷ d ∷ [])) refl (dotless b hb)
+    ∙ ap (λ ps. decimal b ∷ ps) (apart_then 46 (decimal c) (dotted (d ∷ [])) refl (dotless c hc)
+    ∙ ap (λ ps. decimal c ∷ ps) (apart_alone 46 (decimal d) (dotless d hd))))
+
+octet_back : (n : ℕ) → n < 256 → number_below 256 (decimal n) ≡ Some n
+octet_back n small = number_back 256 n small (omega arith)
+
+octets_back : (a b c d : ℕ) → a < 256 → b < 256 → c < 256 → d < 256 → addr_from_parts (decimal a ∷ decimal b ∷ decimal c ∷ decimal d ∷ []) ≡ Some (from_be_bytes w32 (a ∷ b ∷ c ∷ d ∷ []))
+octets_back a b c d ha hb hc hd = λ i. addr_from_octets (octet_back a ha i) (octet_back b hb i) (octet_back c hc i) (octet_back d hd i)
+
+pub addr_back : (a : ℕ) → a < 2 ^ 32 → addr_of (addr_text a) ≡ Some a
+unfolding addr_of addr_text
+addr_back a small =
+    let first = low_octet (a / 16777216) in
+    let second = low_octet (a / 65536) in
+    let third = low_octet (a / 256) in
+    let fourth = low_octet a in
+    ap addr_from_parts (octets_parted (a / 16777216 % 256) (a / 65536 % 256) (a / 256 % 256) (a % 256) first second third fourth)
+    ∙ (octets_back (a / 16777216 % 256) (a / 65536 % 256) (a / 256 % 256) (a % 256) first second third fourth
+    ∙ ap Some (from_be_bytes-to_be_bytes_4 a small))
+
+number_octet : (n : ℕ) → n % 256 < 2 ^ 32
+number_octet n = let small = low_octet n in omega arith
+
+octets_are : (a : ℕ) → AllByRecursion (λ n. n < 2 ^ 32) (to_be_bytes w32 a)
+octets_are a = (number_octet (a / 16777216), (number_octet (a / 65536), (number_octet (a / 256), (number_octet a, tt))))
+
+pub ink_addr : (a : ℕ) → AreInk (addr_text a)
+unfolding addr_text
+ink_addr a = ink_dotted (to_be_bytes w32 a) (octets_are a)
+
+slashless : (a : ℕ) → AllByRecursion (λ c. nat_eq c 47 ≡ false) (addr_text a)
+unfolding addr_text
+slashless a = dotted_are (λ c. nat_eq c 47 ≡ false) not_slash refl (to_be_bytes w32 a) (octets_are a)
+
+-- ---- prefixes
+
+slashless_length : (n : ℕ) → n ≤ 32 → AllByRecursion (λ c. nat_eq c 47 ≡ false) (decimal n)
+slashless_length n small = decimal_are (λ c. nat_eq c 47 ≡ false) not_slash n (omega arith)
+
+pub ink_prefix : (p : Network) → IsPrefix p → AreInk (prefix_text p)
+unfolding prefix_text
+ink_prefix p h =
+    let short = h.0.0 in
+    all_append IsInk (addr_text p.address) (47 ∷ decimal p.length) (ink_addr p.address) ((omega arith, omega arith), ink_decimal p.length (omega arith))
+
+masked_itself : (p : Network) → IsPrefix p → masked_to 32 p.address p.length ≡ p.address
+masked_itself p h = let rest = h.0.1 in omega arith
+
+prefix_back : (p : Network) → IsPrefix p → prefix_of 32 (prefix_text p) ≡ Some p
+unfolding prefix_of prefix_text
+prefix_back p h =
+    let short = h.0.0 in
+    ap (prefix_from_parts 32) (apart_then 47 (addr_text p.address) (decimal p.length) refl (slashless p.address) ∙ ap (λ ps. addr_text p.address ∷ ps) (apart_alone 47 (decimal p.length) (slashless_length p.length short)))
+    ∙ ((λ i. network_of 32 (addr_back p.address h.1 i) (number_back 33 p.length (omega arith) (omega arith) i))
+    ∙ ap (λ (a : ℕ). Some (record { address = a; length = p.length })) (masked_itself p h))
+
+as_itself : (p : Network) → as_printed (prefix_text p) p ≡ Some p
+unfolding as_printed
+as_itself p = ap (λ b. cond b (Some p) None) ((bytes_eq-Decides (prefix_text p) (prefix_text p)).1 refl)
+
+pub printed_back : (p : Network) → IsPrefix p → printed_prefix (prefix_text p) ≡ Some p
+unfolding printed_prefix
+printed_back p h = ap (λ (o : Option Network). o >>= λ q. as_printed (prefix_text p) q) (prefix_back p h) ∙ as_itself p

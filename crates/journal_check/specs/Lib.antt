@@ -1,0 +1,5 @@
+pub mod Maps
+pub mod Readings
+pub mod Judged
+pub mod Walked
+pub mod Laws

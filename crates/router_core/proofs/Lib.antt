@@ -1,0 +1,14 @@
+mod ChainLookups
+mod SessionLemmas
+mod ShownRows
+mod UpdateLemmas
+pub mod ChainLemmas
+pub mod LinkLemmas
+pub mod WorkLemmas
+pub mod RowCounts
+pub mod StandLemmas
+pub mod PlaceLemmas
+pub mod UnitLemmas
+pub mod TurnLemmas
+pub mod TaskLemmas
+pub mod DrainLemmas

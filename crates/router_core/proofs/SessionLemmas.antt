@@ -1,0 +1,83 @@
+-- Which octets end a session, and which declarations an event leaves.
+use Rattle.std.proofs.Common.{◌≡◌, ℕ, ◌==◌, ◌||◌, ◌&&◌, Bool, true, false, cond, not, List, get_or, Option, Some, None, is_some, refl, ap, sym, ◌∙◌, inl, inr}
+use Rattle.bgp_attr.specs.declared.speaker.Profile.{Profile}
+use Rattle.bgp_wire.specs.declared.message.Message.{Message}
+use Rattle.bgp_wire.specs.declared.message.Message.TheVariants as messages
+use Rattle.bgp_wire.specs.Updates.{fault}
+use Rattle.bgp_wire.specs.Grammar.{IsFrame, Reads, OneAnswer}
+use Rattle.event_text.specs.declared.event.Event.TheVariants.{Nothing, Local, Peer, Up, Down, Bgp, Idle, Work, Ask, Show}
+use Rattle.event_text.specs.declared.declared.DeclaredPeer.{DeclaredPeer}
+use Rattle.event_text.specs.Declarations.{peer_at, with_session, without_session}
+use Rattle.router_core.specs.Lives.{LiveState, HearsIfUp, HearsFrom, plain, heard, is_ending, ends_session, ended, begun_if_down, ended_if_up, declared_up, declared_down, declared_heard}
+use Rattle.router_core.specs.Laws.{SessionsEnd, DeclarationsFollow}
+
+-- one of message and fault, for all octets
+abbrev pub EachAnswers : Type 0
+EachAnswers = (p : Profile) (external : Bool) (octets : List ℕ) → OneAnswer p external octets
+
+-- the type of a message stands behind the marker and the length
+type_at : (octets : List ℕ) (kind : ℕ) (body : List ℕ) → IsFrame octets kind body → get_or octets 18 0 ≡ kind
+type_at octets kind body is = ap (λ o. get_or o 18 0) is.parts
+
+no_fault : (external : Bool) (octets : List ℕ) (m : Message) → OneAnswer plain external octets → Reads plain external octets m → is_some (fault plain octets) ≡ false
+no_fault external octets m one reads =
+    elim one as (λ _. is_some (fault plain octets) ≡ false) [ inl w ↦ ap is_some w.0 | inr w ↦ absurd (w.2 m reads) ]
+
+-- octets that are a message of this type
+of_type : (external : Bool) (octets : List ℕ) (kind : ℕ) (body : List ℕ) (m : Message) → EachAnswers → Reads plain external octets m → IsFrame octets kind body → (kind == 3) ≡ ends_session octets
+of_type external octets kind body m one reads is =
+    sym (ap (λ b. b || get_or octets 18 0 == 3) (no_fault external octets m (one plain external octets) reads)
+    ∙ ap (λ k. k == 3) (type_at octets kind body is))
+
+pub ends : EachAnswers → SessionsEnd
+ends one p octets (messages.Update u) says = of_type (not p.words.internal) octets 2 _ (messages.Update u) one says says.1.frame
+ends one p octets messages.Keepalive says = of_type (not p.words.internal) octets 4 _ messages.Keepalive one says says
+ends one p octets messages.Skip says = of_type (not p.words.internal) octets 1 _ messages.Skip one says says.1
+ends one p octets messages.Notification says = of_type (not p.words.internal) octets 3 _ messages.Notification one says says.1
+ends one p octets (messages.Notify n) says = sym (ap (λ f. is_some f || get_or octets 18 0 == 3) says)
+
+-- ---- what events leave
+up_follows : (l : LiveState) (k : ℕ) (o : Option DeclaredPeer) → (begun_if_down l k o).declared ≡ declared_up l.declared k o
+up_follows l k None = refl
+up_follows l k (Some p) = by_up p.up
+  where
+    by_up : (up : Bool) → (cond up l (record { declared = with_session l.declared k; routes = l.routes })).declared ≡ cond up l.declared (with_session l.declared k)
+    by_up true = refl
+    by_up false = refl
+
+down_follows : (l : LiveState) (k : ℕ) (o : Option DeclaredPeer) → (ended_if_up l k o).declared ≡ declared_down l.declared k o
+down_follows l k None = refl
+down_follows l k (Some p) = by_up p.up
+  where
+    by_up : (up : Bool) → (cond up (ended l k) l).declared ≡ cond up (without_session l.declared k) l.declared
+    by_up true = refl
+    by_up false = refl
+
+heard_leaves : (l : LiveState) (k : ℕ) (m : Message) → (heard l k m).declared ≡ cond (is_ending m) (without_session l.declared k) l.declared
+heard_leaves l k (messages.Update u) = refl
+heard_leaves l k messages.Keepalive = refl
+heard_leaves l k messages.Skip = refl
+heard_leaves l k messages.Notification = refl
+heard_leaves l k (messages.Notify n) = refl
+
+heard_by : (l : LiveState) (k : ℕ) (p : DeclaredPeer) (octets : List ℕ) (up : Bool) (l' : LiveState) → SessionsEnd → HearsIfUp l k p octets up l' → l'.declared ≡ cond (up && ends_session octets) (without_session l.declared k) l.declared
+heard_by l k p octets false l' law hears = ap (λ s. s.declared) hears
+heard_by l k p octets true l' law hears =
+    ap (λ s. s.declared) hears.2 ∙ heard_leaves l k hears.0
+    ∙ ap (λ b. cond b (without_session l.declared k) l.declared) (law p octets hears.0 hears.1)
+
+heard_follows : (l : LiveState) (k : ℕ) (o : Option DeclaredPeer) (octets : List ℕ) (l' : LiveState) → SessionsEnd → HearsFrom l k o octets l' → l'.declared ≡ declared_heard l.declared k octets o
+heard_follows l k None octets l' law hears = absurd hears
+heard_follows l k (Some p) octets l' law hears = heard_by l k p octets p.up l' law hears
+
+pub follows : SessionsEnd → DeclarationsFollow
+follows law l Nothing l' after = ap (λ s. s.declared) after
+follows law l (Local words) l' after = ap (λ s. s.declared) after
+follows law l (Peer k words) l' after = ap (λ s. s.declared) after
+follows law l (Up k) l' after = ap (λ s. s.declared) after ∙ up_follows l k (peer_at k l.declared.peers)
+follows law l (Down k) l' after = ap (λ s. s.declared) after ∙ down_follows l k (peer_at k l.declared.peers)
+follows law l (Bgp k octets) l' after = heard_follows l k (peer_at k l.declared.peers) octets l' law after
+follows law l Idle l' after = ap (λ s. s.declared) after
+follows law l (Work task n) l' after = ap (λ s. s.declared) after
+follows law l (Ask link p) l' after = ap (λ s. s.declared) after
+follows law l (Show link) l' after = ap (λ s. s.declared) after

@@ -1,0 +1,133 @@
+-- What the router's own calls make of chains and moments, with what they keep.
+use Rattle.std.specs.Prelude.{◌≡◌, ℕ, ◌+◌, ◌≤◌, ◌<◌, ◌⊎◌, length, slice_index_or, Bool, true, false, List, [], ◌∷◌, ◌++◌, Option, Some, None}
+use Rattle.std.specs.List.{AllByRecursion}
+use Rattle.addr4.specs.Prefixes.{Network}
+use Rattle.bgp_attr.specs.declared.attrs.Attrs.{Attrs}
+use Rattle.link_change.specs.Changes.{IsSent}
+use Rattle.link_change.specs.declared.change.Change.{Change}
+use Rattle.link_change.specs.declared.turn.Turn.{Turn}
+use Rattle.link_change.specs.declared.turn.Turn.TheVariants as turns
+use Rattle.journal_text.specs.declared.link.Link.TheVariants.{In}
+use Rattle.journal_text.specs.declared.link.Task.{Task}
+use Rattle.journal_text.specs.declared.value.Value.{Value}
+use Rattle.journal_text.specs.declared.entry.Entry.{Entry}
+use Rattle.journal_text.specs.declared.line.Line.{Line}
+use Rattle.journal_text.specs.Walk.{Leads}
+use Rattle.journal_text.specs.Texts.{entries_of}
+use Rattle.journal_text.specs.Journals.{Journaled, with_lines}
+use Rattle.event_text.specs.declared.declared.DeclaredPeer.{DeclaredPeer}
+use Rattle.event_text.specs.Declarations.{peer_at}
+use Rattle.in_chain.specs.Chains.{Chained, in_rows, IsChain, NoneEmpty}
+use Rattle.in_chain.specs.Falls.{Falls, LeadsChain, way_down}
+use Rattle.in_chain.specs.Steps.{fed, welded, table_of, Sweeps}
+use Rattle.router_core.specs.declared.router.Done.{Done}
+use Rattle.router_core.specs.declared.router.Done.TheVariants.{Nothing, Taken}
+use Rattle.router_core.specs.Moments.{Moment, chain_at, put_chain, router_links, rows_in, Gives}
+use Rattle.router_core.specs.Lives.{live_state}
+use Rattle.router_core.specs.Stands.{Stands, IsSettled}
+use Rattle.router_core.specs.Turns.{fall_lines, FeedsAll, IsTurn, Turns, Drains, DrainsAll, has_table, has_work, deletion_tasks}
+
+-- these lines were pushed, and this is said of them
+abbrev pub Pushes : (List Line → Type 0) → Journaled → Journaled → Type 0
+Pushes P before now = (lines : List Line) × (now ≡ with_lines before lines) × P lines
+
+-- what any work on a chain keeps
+pub record StepsChain (c : Chained) (said : List Line) (c' : Chained) : Type 0 where
+  pub number : c'.number ≡ c.number
+  pub leads : LeadsChain c (entries_of said) c'
+  pub chain : IsChain c'
+  pub full : NoneEmpty c'.deletions
+
+-- one prefix is announced or withdrawn in a chain
+pub record FeedsChain (p : Network) (row : Option Attrs) (c c' : Chained) (said : List Line) : Type 0 where
+  pub sent : Option (Change Attrs)
+  pub entries : List (Entry Value)
+  pub falls : Falls c (fed c p row) p (way_down c.number (In c.number) c.deletions) sent entries
+  pub rows : IsSent (in_rows c) (in_rows (fed c p row)) p sent
+  pub lines : said ≡ fall_lines (fed c p row) entries
+  pub after : c' ≡ welded (fed c p row)
+  pub step : StepsChain c said c'
+
+-- one turn of the stage of a session in its chain
+pub record DeletesChain (s : ℕ) (c c' : Chained) (said : List Line) : Type 0 where
+  pub less : Chained
+  pub sent : Option (Change Attrs)
+  pub entries : List (Entry Value)
+  pub sweeps : Sweeps c less s sent entries
+  pub lines : said ≡ fall_lines less entries
+  pub after : c' ≡ welded less
+  pub step : StepsChain c said c'
+
+-- what a turn in a chain came to
+abbrev pub TurnsChain : ℕ → Chained → Chained → Journaled → Journaled → Done → Type 0
+TurnsChain s c c' before now Nothing = (table_of s c.deletions ≡ None) × ((c' ≡ c) × (now ≡ before))
+TurnsChain s c c' before now Taken = Pushes (DeletesChain s c c') before now
+
+abbrev pub is_nothing : {R : Type 0} → Turn R → Bool
+is_nothing turns.Nothing = true
+is_nothing turns.Quiet = false
+is_nothing (turns.Sent change) = false
+
+-- where the chain of a number stands
+abbrev pub IsPlace : ℕ → List Chained → Option ℕ → Type 0
+IsPlace k cs None = chain_at k cs ≡ None
+IsPlace k cs (Some i) = (i < length cs) × ((x : Chained) → chain_at k cs ≡ Some (slice_index_or cs i x))
+
+-- the chain of this number may take a step
+abbrev pub IsSoundAt : ℕ → List Chained → Type 0
+IsSoundAt k cs = (c : Chained) → chain_at k cs ≡ Some c → IsChain c × NoneEmpty c.deletions
+
+-- the chain of this number took a step, and nothing else changed
+abbrev pub Steps : (Chained → Chained → List Line → Type 0) → ℕ → List Chained → List Chained → Journaled → Journaled → Type 0
+Steps P k cs cs' before now = (c c' : Chained) × (chain_at k cs ≡ Some c) × (cs' ≡ put_chain c' cs) × Pushes (P c c') before now
+
+-- what a turn of the stage of session s of peer k came to
+abbrev pub TurnsAt : ℕ → ℕ → List Chained → List Chained → Journaled → Journaled → Done → Type 0
+TurnsAt k s cs cs' before now Nothing = (has_table s (chain_at k cs) ≡ false) × (cs' ≡ cs) × (now ≡ before)
+TurnsAt k s cs cs' before now Taken = Steps (DeletesChain s) k cs cs' before now
+
+-- Background work: by the rules of the journal, and what is live stays.
+pub record IsWork (m : Moment) (said : List Line) (m' : Moment) : Type 0 where
+  pub leads : Leads (router_links m) (entries_of said) (router_links m')
+  pub live : live_state m' ≡ live_state m
+  pub stands : Stands m'
+
+-- one turn of a task, with one row less
+pub record IsUnit (task : Task) (m m' : Moment) (said : List Line) : Type 0 where
+  pub turn : IsTurn task m said m'
+  pub work : IsWork m said m'
+  pub fewer : rows_in m'.chains + 1 ≡ rows_in m.chains
+
+-- what a turn of a task came to; where there is no work, nothing changes
+abbrev pub Comes : Task → Moment → Moment → Journaled → Journaled → Done → Type 0
+Comes task m m' before now Nothing = (has_work task m ≡ false) × (m' ≡ m) × (now ≡ before)
+Comes task m m' before now Taken = Gives (IsUnit task m m') before now
+
+-- so many turns of a task, each with one row less
+pub record HaveRun (task : Task) (m : Moment) (turns : ℕ) (m' : Moment) (said : List Line) : Type 0 where
+  pub taken : Turns turns task m said m'
+  pub work : IsWork m said m'
+  pub fewer : rows_in m'.chains + turns ≡ rows_in m.chains
+
+-- at most n turns of a task, and fewer only where it then has no work
+pub record AreTurns (task : Task) (n : ℕ) (m : Moment) (turns : ℕ) (m' : Moment) (said : List Line) : Type 0 where
+  pub run : HaveRun task m turns m' said
+  pub most : turns ≤ n
+  pub ended : (turns ≡ n) ⊎ (has_work task m' ≡ false)
+
+-- a task has run to its end
+pub record HasDrained (task : Task) (m : Moment) (turns : ℕ) (m' : Moment) (said : List Line) : Type 0 where
+  pub run : HaveRun task m turns m' said
+  pub ended : has_work task m' ≡ false
+
+-- every deletion stage has run to its end
+pub record HaveDrained (m : Moment) (turns : ℕ) (m' : Moment) (said : List Line) : Type 0 where
+  pub drains : DrainsAll (deletion_tasks m) m said turns m'
+  pub work : IsWork m said m'
+  pub fewer : rows_in m'.chains + turns ≡ rows_in m.chains
+  pub settled : IsSettled m'
+
+-- the first of some tasks
+abbrev pub first_task : List Task → Option Task
+first_task [] = None
+first_task (task ∷ tasks) = Some task

@@ -1,0 +1,143 @@
+//! Declarations, sessions that begin, and what octets of a peer say.
+
+ghost use Rattle.std.specs.Prelude.{◌≡◌, ◌≤◌, [], length, not, OnOk, IfOk, IsSome, Some, None};
+ghost use Rattle.event_text.specs.declared.event.Event.TheVariants as events;
+ghost use Rattle.event_text.specs.Declarations.{peer_at, refusal};
+ghost use Rattle.router_core.specs.Moments.{chain_at, insert_chain, router_links};
+ghost use Rattle.router_core.specs.Lives.{Says};
+ghost use Rattle.router_core.specs.Stands.{Stands};
+ghost use Rattle.router_core.specs.Blocks.{Acts};
+ghost use Rattle.router_core.specs.Lookups.{IsCountOf};
+ghost use Rattle.router_core.specs.Peers.{is_up, place_in};
+ghost use Rattle.router_core.specs.Works.{Pushes};
+
+use crate::lookups;
+use crate::network::Network;
+use addr4::{Memory, Prefix};
+use bgp_attr::{Profile, Speaker};
+use bgp_wire::{Message, read_message};
+use event_text::DeclaredPeer;
+use in_chain::Chain;
+use journal_text::{Entry, Journal, Line, Link};
+use std::alloc::Global;
+
+/// AS numbers have two octets, and errors are handled by RFC 4271, section 6.3.
+const PLAIN: Profile = Profile {
+    as4: false,
+    revised: false,
+};
+
+impl Network {
+    /// `local` was declared. Takes no memory.
+    pub(crate) fn declare_speaker(&mut self, words: Speaker)
+        requires { Stands self.old }
+        ensures acts { Acts self.old (events.Local words) 0 self.new [] }
+        ensures stands { Stands self.new }
+    {
+        self.declared.set_speaker(words);
+    }
+
+    /// `peer` was declared: its chain begins, without routes.
+    pub(crate) fn declare_peer(
+        &mut self,
+        number: u32,
+        words: Speaker,
+        journal: &mut Journal,
+    ) -> Result<(), Memory>
+        requires admitted { refusal self.old.declared (events.Peer number words) ≡ None }
+        requires stands { Stands self.old }
+        ensures acts { OnOk result (Pushes (Acts self.old (events.Peer number words) 0 self.new) journal.old journal.new) }
+        ensures stands { OnOk result (Stands self.new) }
+    {
+        let chain = Chain::new(self.alloc, number)?;
+        insert_chain(&mut self.chains, chain)?;
+        self.declared.add_peer(number, words)?;
+        journal.push_line(Line::Journal(Entry::Begin(Link::In(number))))
+    }
+
+    /// A peer's session begins; `ignored` where one is up.
+    pub(crate) fn begin_session(
+        &mut self,
+        number: u32,
+        journal: &mut Journal,
+    ) -> Result<(), Memory>
+        requires admitted { refusal self.old.declared (events.Up number) ≡ None }
+        requires stands { Stands self.old }
+        ensures acts { OnOk result (Pushes (Acts self.old (events.Up number) 0 self.new) journal.old journal.new) }
+        ensures stands { OnOk result (Stands self.new) }
+    {
+        if self.is_up(number) {
+            return journal.push_line(Line::Ignored);
+        }
+        self.declared.begin_session(number);
+        Ok(())
+    }
+
+    /// Whether the peer is up.
+    pub(crate) fn is_up(&self, number: u32) -> bool
+        ensures { result ≡ is_up (peer_at number self.now.declared.peers) }
+    {
+        match self.declared.peer(number) {
+            Some(peer) => peer.up,
+            None => false,
+        }
+    }
+
+    /// The chain of a declared peer.
+    pub(crate) fn chain(&self, number: u32) -> &Chain
+        requires { IsSome (chain_at number self.now.chains) }
+        ensures { Some result.now ≡ chain_at number self.now.chains }
+    {
+        lookups::chain_of(self.chains.as_slice(), number).unwrap()
+    }
+
+    /// A row is asked for.
+    pub(crate) fn ask(&self, link: Link, p: Prefix, journal: &mut Journal) -> Result<(), Memory>
+        ensures { OnOk result (Pushes (Acts self.now (events.Ask link p) 0 self.now) journal.old journal.new) }
+    {
+        lookups::ask(self.chains.as_slice(), link, p, journal)
+    }
+
+    /// All rows of a link are asked for.
+    pub(crate) fn show(&self, link: Link, journal: &mut Journal) -> Result<(), Memory>
+        ensures { OnOk result (Pushes (Acts self.now (events.Show link) 0 self.now) journal.old journal.new) }
+    {
+        lookups::show(self.chains.as_slice(), link, journal)
+    }
+
+    /// How many rows a link has; None where it isn't live.
+    pub(crate) fn count(&self, link: Link) -> Option<u128>
+        ensures { IsCountOf (router_links self.now link) result }
+    {
+        lookups::count(self.chains.as_slice(), link)
+    }
+}
+
+/// A chain goes before the first of a greater number.
+fn insert_chain(chains: &mut Vec<Chain>, chain: Chain) -> Result<(), Memory>
+    ensures { OnOk result (chains.new.items ≡ insert_chain chain chains.old.items) }
+{
+    let at = place_in(chains.as_slice(), chain.number());
+    chains.insert(at, chain)?;
+    Ok(())
+}
+
+/// Where a chain of this number goes.
+fn place_in(chains: &[Chain], number: u32) -> usize
+    ensures place { result ≡ place_in number chains.now }
+    ensures within { result ≤ length chains.now }
+{
+    for (i, chain) in chains.iter().enumerate() {
+        if number < chain.number() {
+            return i;
+        }
+    }
+    chains.len()
+}
+
+/// What octets of a peer say (RFC 4271, section 4), or the fault that they have.
+pub(crate) fn said(alloc: Global, peer: &DeclaredPeer, octets: &[u8]) -> Result<Message, Memory>
+    ensures { IfOk result (Says peer.now octets.now) }
+{
+    read_message(alloc, PLAIN, octets, !peer.words.internal)
+}

@@ -1,0 +1,259 @@
+-- What is written of what a peer said isn't longer than what it said.
+use Rattle.std.proofs.Common.{◌≡◌, ℕ, suc, ◌+◌, ◌≤◌, ◌<◌, Bool, true, false, cond, eqb, ltb, map, get_or, List, [], ◌∷◌, ◌++◌, length, Option, Some, None, refl, sym, ap, subst, ◌∙◌, inl, inr, arith}
+use Rattle.std.specs.Prelude.{filter, is_some}
+use Rattle.std.specs.Option.{option_map_or}
+use Rattle.std.proofs.lemmas.Bool.{le-ltb, eqb-true}
+use Rattle.std.proofs.lemmas.List.{length-append}
+use mathlib.Core.Bool.{beq}
+use Rattle.byteorder.specs.Endian.{big_number, big_bytes}
+use Rattle.byteorder.specs.Numbers.{length-bytes_high_first}
+use Rattle.bgp_attr.specs.declared.attrs.Aggregator.{Aggregator}
+use Rattle.bgp_attr.specs.declared.attrs.Attrs.{Attrs}
+use Rattle.bgp_attr.specs.declared.path.Segment.{Segment}
+use Rattle.bgp_attr.specs.declared.speaker.Profile.{Profile}
+use Rattle.bgp_attr.specs.declared.unrecognized.Unrecognized.{Unrecognized}
+use Rattle.bgp_wire.proofs.JudgedTypes.{TypeRule, Verdict, each_verdict}
+use Rattle.bgp_wire.specs.Paths.{width_of, IsPath}
+use Rattle.bgp_wire.specs.Attributes.{Attribute, IsAttribute, AreAttributes, kept_by, rule_of}
+use Rattle.bgp_wire.specs.Routes.{kept_of, number_of, code_of_origin, aggregator_of, AreAttrs}
+use Rattle.bgp_wire.specs.Spelling.{segment_octets, path_octets, is_long, spelled, optional, aggregator_value, aggregator_flags, comes_first, unrecognized_attributes, mandatory_attributes, further_attributes, sent_attributes, octets_of}
+use Rattle.bgp_wire.specs.Readable.{IsReadable}
+use Rattle.bgp_wire.proofs.TestLemmas.{unequal}
+use Rattle.wire_laws.proofs.SpelledNumbers.{length-numbers}
+use Rattle.wire_laws.proofs.SpelledAttributes.{AreSound, FitLengths, sound_sent}
+use Rattle.wire_laws.proofs.SpelledMessages.{length-spelled}
+use Rattle.bgp_wire.proofs.ReadableLaws.{Every, every_all, every_append, Octets, held, good, right_size, found_from, some_in, each_type, unrecognized_held}
+
+-- the fewest octets that an attribute has
+abbrev pub least : Attribute → ℕ
+least a = cond (is_long a.value) 4 3 + length a.value
+
+abbrev pub total : List Attribute → ℕ
+total [] = 0
+total (a ∷ rest) = least a + total rest
+
+-- of the attribute of a type, if there is one
+abbrev pub weight : ℕ → List Attribute → ℕ
+weight kind kept = option_map_or least (kept_of kind kept) 0
+
+abbrev pub weights : List Attribute → List Attribute → ℕ
+weights [] kept = 0
+weights (x ∷ xs) kept = weight x.kind kept + weights xs kept
+
+-- types that ascend
+abbrev pub Ascend : ℕ → List Attribute → Type 0
+Ascend n [] = Unit {0}
+Ascend n (x ∷ xs) = (n ≤ x.kind) × Ascend (suc x.kind) xs
+
+ascends : (p : Profile) (external : Bool) (from end : ℕ) (xs : List Attribute) → AreSound p external from end xs → Ascend from xs
+ascends p external from end [] sound = tt
+ascends p external from end (x ∷ xs) sound = (sound.0, ascends p external (suc x.kind) end xs sound.2)
+
+-- later types have the weights that they had
+same_weights : (n : ℕ) (xs : List Attribute) (b : Attribute) (kept : List Attribute) → Ascend n xs → b.kind < n → weights xs (b ∷ kept) ≡ weights xs kept
+same_weights n [] b kept order lt = refl
+same_weights n (x ∷ xs) b kept order lt =
+    let apart : eqb b.kind x.kind ≡ false = unequal b.kind x.kind (λ e. absurd (omega (arith, order.0))) in
+    let here : weight x.kind (b ∷ kept) ≡ weight x.kind kept = ap (λ t. option_map_or least (cond t (Some b) (kept_of x.kind kept)) 0) apart in
+    omega (arith, here, same_weights (suc x.kind) xs b kept order.1 (omega (arith, order.0)))
+
+one_more : (n : ℕ) (xs : List Attribute) (b : Attribute) (kept : List Attribute) → Ascend n xs → weights xs (b ∷ kept) ≤ least b + weights xs kept
+one_more n [] b kept order = omega arith
+one_more n (x ∷ xs) b kept order = by_test (eqb b.kind x.kind) refl (one_more (suc x.kind) xs b kept order.1)
+  where
+    by_test : (t : Bool) → eqb b.kind x.kind ≡ t → weights xs (b ∷ kept) ≤ least b + weights xs kept → option_map_or least (cond t (Some b) (kept_of x.kind kept)) 0 + weights xs (b ∷ kept) ≤ least b + (weight x.kind kept + weights xs kept)
+    by_test true is later = omega (arith, same_weights (suc x.kind) xs b kept order.1 (omega (arith, eqb-true _ _ is)))
+    by_test false is later = omega arith
+
+no_weights : (xs : List Attribute) → weights xs [] ≡ 0
+no_weights [] = refl
+no_weights (x ∷ xs) = omega (arith, no_weights xs)
+
+within_total : (n : ℕ) (xs kept : List Attribute) → Ascend n xs → weights xs kept ≤ total kept
+within_total n xs [] order = omega (arith, no_weights xs)
+within_total n xs (b ∷ kept) order = omega (arith, one_more n xs b kept order, within_total n xs kept order)
+
+weight_within : (kind : ℕ) (kept : List Attribute) (a : Attribute) → kept_of kind kept ≡ Some a → least a ≤ total kept
+weight_within kind [] a e = absurd (cc)
+weight_within kind (b ∷ kept) a e = by_test (eqb b.kind kind) e (weight_within kind kept a)
+  where
+    by_test : (t : Bool) → cond t (Some b) (kept_of kind kept) ≡ Some a → (kept_of kind kept ≡ Some a → least a ≤ total kept) → least a ≤ least b + total kept
+    by_test true e later = let same : b ≡ a = cc in omega (arith, ap least same)
+    by_test false e later = omega (arith, later e)
+
+-- ---- what was read has at least the fewest octets
+
+least_read : (a : Attribute) → IsAttribute a → Octets a.octets → least a ≤ length a.octets
+least_read a is octets = elim is [
+  | inl short ↦
+      let few : length a.value < 256 = (subst Octets short.spelled octets).1.1.0 in
+      let plain : is_long a.value ≡ false = le-ltb _ _ (omega arith) in
+      omega (arith, ap length short.spelled, ap (λ b. cond b 4 3 + length a.value) plain)
+  | inr long ↦ omega (arith, ap length long.spelled, at_most (is_long a.value))
+]
+  where
+    at_most : (b : Bool) → cond b 4 3 ≤ 4
+    at_most true = omega arith
+    at_most false = omega arith
+
+every_octet : (xs ys : List ℕ) → Octets (xs ++ ys) → Octets xs × Octets ys
+every_octet [] ys octets = (tt, octets)
+every_octet (x ∷ xs) ys octets = let later = every_octet xs ys octets.1 in ((octets.0, later.0), later.1)
+
+total_read : (p : Profile) (external : Bool) (seen bytes : List ℕ) (steps : List (Attribute × Verdict)) (runs : Bool) → AreAttributes p external seen bytes steps runs → Octets bytes → total (kept_by steps runs).0 ≤ length bytes
+total_read p external seen bytes [] runs are octets = omega arith
+total_read p external seen bytes ((b, v) ∷ steps) runs are octets =
+    let parts = every_octet b.octets are.0 (subst Octets are.1 octets) in
+    let later = total_read p external (seen ++ b.kind ∷ []) are.0 steps runs are.4 parts.1 in
+    let all : least b + total (kept_by steps runs).0 ≤ length bytes = omega (arith, least_read b are.2 parts.0, later, ap length are.1, length-append b.octets are.0) in
+    each_verdict (λ v. total (kept_by ((b, v) ∷ steps) runs).0 ≤ length bytes) all (omega arith) (omega arith) v
+
+-- ---- what is sent has the lengths of what was read
+
+-- it has at most the octets of the kept one of its type
+abbrev pub IsNoLonger : List Attribute → Attribute → Type 0
+IsNoLonger kept x = length x.octets ≤ weight x.kind kept
+
+no_longer : (xs kept : List Attribute) → Every (IsNoLonger kept) xs → length (octets_of xs) ≤ weights xs kept
+no_longer [] kept every = omega arith
+no_longer (x ∷ xs) kept every = omega (arith, length-append x.octets (octets_of xs), every.0, no_longer xs kept every.1)
+
+by_value : (kept : List Attribute) (flags kind : ℕ) (value : List ℕ) (a : Attribute) → kept_of kind kept ≡ Some a → length a.value ≡ length value → IsNoLonger kept (spelled flags kind value)
+by_value kept flags kind value a found same =
+    let weighs : weight kind kept ≡ least a = ap (λ o. option_map_or least o 0) found in
+    let alike : least a ≡ cond (is_long value) 4 3 + length value = ap (λ n. cond (ltb 255 n) 4 3 + n) same in
+    omega (arith, weighs, alike, length-spelled (is_long value) flags kind value)
+
+every_optional : {A : Type 0} (P : Attribute → Type 0) (f : A → Attribute) (o : Option A) → ((x : A) → o ≡ Some x → P (f x)) → Every P (optional f o)
+every_optional P f None each = tt
+every_optional P f (Some x) each = (each x refl, tt)
+
+every_if : (P : Attribute → Type 0) (a : Attribute) (b : Bool) → (b ≡ true → P a) → Every P (cond b (a ∷ []) [])
+every_if P a true each = (each refl, tt)
+every_if P a false each = tt
+
+length-path : (as4 : Bool) (bytes : List ℕ) (path : List Segment) → IsPath (width_of as4) bytes path → length bytes ≡ length (path_octets (width_of as4) path)
+length-path as4 bytes [] is = ap length is
+length-path as4 bytes (s ∷ path) is =
+    let width = width_of as4 in
+    let here : length is.0 ≡ length (segment_octets width s) = omega (arith, ap length is.3.spelled, is.3.size, length-numbers width s.numbers) in
+    omega (arith, here, ap length is.2, length-append is.0 is.1, length-append (segment_octets width s) (path_octets width path), length-path as4 is.1 path is.4)
+
+unrecognized_no_longer : (first : Bool) (kept : List Attribute) (us : List Unrecognized) → Every (λ (u : Unrecognized). IsNoLonger kept (spelled 224 u.kind u.value)) us → Every (IsNoLonger kept) (unrecognized_attributes first us)
+unrecognized_no_longer first kept [] every = tt
+unrecognized_no_longer first kept (u ∷ us) every = by_test (beq (comes_first u) first) (unrecognized_no_longer first kept us every.1)
+  where
+    by_test : (b : Bool) → Every (IsNoLonger kept) (unrecognized_attributes first us) → Every (IsNoLonger kept) (map (λ (u : Unrecognized). spelled 224 u.kind u.value) (cond b (u ∷ filter (λ u. beq (comes_first u) first) us) (filter (λ u. beq (comes_first u) first) us)))
+    by_test true later = (every.0, later)
+    by_test false later = later
+
+sent_no_longer : (p : Profile) (external : Bool) (bytes : List ℕ) (steps : List (Attribute × Verdict)) (runs : Bool) (attrs : Attrs) → AreAttributes p external [] bytes steps runs → Octets bytes → AreAttrs p.as4 external (kept_by steps runs).0 attrs
+    → Every (IsNoLonger (kept_by steps runs).0) (sent_attributes p.as4 attrs)
+unfolding rule_of
+sent_no_longer p external bytes steps runs attrs are octets is =
+    let P = IsNoLonger kept in
+    let u = unrecognized_attributes true attrs.unrecognized in
+    let m = mandatory_attributes p.as4 attrs in
+    let f = further_attributes p.as4 attrs in
+    let v = unrecognized_attributes false attrs.unrecognized in
+    every_append P ((u ++ m) ++ f) v
+    (every_append P (u ++ m) f (every_append P u m (unrecognized_no_longer true kept attrs.unrecognized unrecognized) (origin, (path, (next_hop, tt)))) further)
+    (unrecognized_no_longer false kept attrs.unrecognized unrecognized)
+  where
+    kept : List Attribute
+    kept = (kept_by steps runs).0
+
+    sized : (kind n : ℕ) (optional transitive : Bool) → rule_of p.as4 kind ≡ Some (record { optional = optional; transitive = transitive; size = Some n }) → (a : Attribute) → kept_of kind (kept_by steps runs).0 ≡ Some a → length a.value ≡ n
+    sized kind n optional transitive ruled a e =
+        let r : TypeRule = record { optional = optional; transitive = transitive; size = Some n } in
+        right_size p.as4 r a n refl (good p external kind a r ruled (held p external bytes steps runs are octets kind a e))
+
+    four : (kind flags n : ℕ) (optional transitive : Bool) → rule_of p.as4 kind ≡ Some (record { optional = optional; transitive = transitive; size = Some 4 }) → number_of kind (kept_by steps runs).0 ≡ Some n
+        → IsNoLonger (kept_by steps runs).0 (spelled flags kind (big_bytes 4 n))
+    four kind flags n optional transitive ruled e =
+        let a = found_from (λ (a : Attribute). big_number 4 a.value) (kept_of kind (kept_by steps runs).0) n e in
+        by_value (kept_by steps runs).0 flags kind (big_bytes 4 n) a.0 a.1 (sized kind 4 optional transitive ruled a.0 a.1)
+
+    origin : IsNoLonger (kept_by steps runs).0 (spelled 64 1 (code_of_origin attrs.origin ∷ []))
+    origin =
+        let a = found_from (λ (a : Attribute). get_or a.value 0 0) (kept_of 1 (kept_by steps runs).0) (code_of_origin attrs.origin) is.origin in
+        by_value (kept_by steps runs).0 64 1 (code_of_origin attrs.origin ∷ []) a.0 a.1 (sized 1 1 false true refl a.0 a.1)
+
+    path : IsNoLonger (kept_by steps runs).0 (spelled 64 2 (path_octets (width_of p.as4) attrs.path))
+    path =
+        let a = some_in (kept_of 2 (kept_by steps runs).0) (λ a. IsPath (width_of p.as4) a.value attrs.path) is.path in
+        by_value (kept_by steps runs).0 64 2 (path_octets (width_of p.as4) attrs.path) a.0 a.1 (length-path p.as4 a.0.value attrs.path a.2)
+
+    next_hop : IsNoLonger (kept_by steps runs).0 (spelled 64 3 (big_bytes 4 attrs.next_hop))
+    next_hop = four 3 64 attrs.next_hop false true refl is.next_hop
+
+    local_pref : (b : Bool) (o : Option ℕ) (n : ℕ) → cond b None o ≡ Some n → o ≡ Some n
+    local_pref true o n e = absurd (cc)
+    local_pref false o n e = e
+
+    atomic : attrs.atomic ≡ true → IsNoLonger (kept_by steps runs).0 (spelled 64 6 [])
+    atomic e = there (kept_of 6 (kept_by steps runs).0) refl (sym is.atomic ∙ e)
+      where
+        there : (o : Option Attribute) → kept_of 6 (kept_by steps runs).0 ≡ o → is_some o ≡ true → IsNoLonger (kept_by steps runs).0 (spelled 64 6 [])
+        there None at e = absurd (cc)
+        there (Some a) at e = by_value (kept_by steps runs).0 64 6 [] a at (sized 6 0 false true refl a at)
+
+    aggregator : (g : Aggregator) → attrs.aggregator ≡ Some g → IsNoLonger (kept_by steps runs).0 (spelled (aggregator_flags g.partial) 7 (aggregator_value p.as4 g))
+    aggregator g e =
+        let a = found_from (aggregator_of p.as4) (kept_of 7 (kept_by steps runs).0) g (sym is.aggregator ∙ e) in
+        let size = sized 7 (cond p.as4 8 6) true true refl a.0 a.1 in
+        let front = big_bytes (width_of p.as4) g.asn in
+        let whole : length (aggregator_value p.as4 g) ≡ width_of p.as4 + 4 = omega (arith, length-append front (big_bytes 4 g.addr), length-bytes_high_first (width_of p.as4) g.asn) in
+        by_value (kept_by steps runs).0 (aggregator_flags g.partial) 7 (aggregator_value p.as4 g) a.0 a.1 (size ∙ widths p.as4 ∙ sym whole)
+      where
+        widths : (b : Bool) → cond b 8 6 ≡ width_of b + 4
+        widths true = refl
+        widths false = refl
+
+    unrecognized : Every (λ (u : Unrecognized). IsNoLonger (kept_by steps runs).0 (spelled 224 u.kind u.value)) attrs.unrecognized
+    unrecognized = each_type (λ (u : Unrecognized). IsNoLonger (kept_by steps runs).0 (spelled 224 u.kind u.value)) 0 attrs.unrecognized is.unrecognized.order (λ u e.
+        let k = unrecognized_held p external bytes steps runs are octets attrs.unrecognized is.unrecognized u.kind u.value e in
+        by_value (kept_by steps runs).0 224 u.kind u.value k.1.0 k.1.1 (ap length k.1.2))
+
+    further : Every (IsNoLonger (kept_by steps runs).0) (further_attributes p.as4 attrs)
+    further =
+        let P = IsNoLonger (kept_by steps runs).0 in
+        every_append P _ _
+        (every_append P _ _
+        (every_append P _ _
+        (every_optional P (λ n. spelled 128 4 (big_bytes 4 n)) attrs.med (λ n e. four 4 128 n true false refl (sym is.med ∙ e)))
+        (every_optional P (λ n. spelled 64 5 (big_bytes 4 n)) attrs.local_pref (λ n e. four 5 64 n false true refl (local_pref external (number_of 5 (kept_by steps runs).0) n (sym is.local_pref ∙ e)))))
+        (every_if P (spelled 64 6 []) attrs.atomic atomic))
+        (every_optional P (λ g. spelled (aggregator_flags g.partial) 7 (aggregator_value p.as4 g)) attrs.aggregator aggregator)
+
+value_within : (long : Bool) (n : ℕ) → n ≤ cond long 4 3 + n
+value_within long n = omega arith
+
+-- what was read fits the fields of the lengths
+lengths_fit : (p : Profile) (external : Bool) (bytes : List ℕ) (steps : List (Attribute × Verdict)) (runs : Bool) (attrs : Attrs) → AreAttributes p external [] bytes steps runs → Octets bytes → AreAttrs p.as4 external (kept_by steps runs).0 attrs
+    → length bytes < 65536 → FitLengths p.as4 attrs
+lengths_fit p external bytes steps runs attrs are octets is fits =
+    let kept = (kept_by steps runs).0 in
+    let whole = total_read p external [] bytes steps runs are octets in
+    let s = some_in (kept_of 2 kept) (λ a. IsPath (width_of p.as4) a.value attrs.path) is.path in
+    let path = weight_within 2 kept s.0 s.1 in
+    record {
+      path = omega (arith, length-path p.as4 s.0.value attrs.path s.2, path, value_within (is_long s.0.value) (length s.0.value));
+      unrecognized = every_all (λ (u : Unrecognized). length u.value < 65536) attrs.unrecognized (each_type (λ (u : Unrecognized). length u.value < 65536) 0 attrs.unrecognized is.unrecognized.order (λ u e.
+          let k = unrecognized_held p external bytes steps runs are octets attrs.unrecognized is.unrecognized u.kind u.value e in
+          omega (arith, weight_within u.kind kept k.1.0 k.1.1, value_within (is_long k.1.0.value) (length k.1.0.value), ap length k.1.2, whole, fits)));
+    }
+
+-- the attributes that are sent are no longer than those that were read
+pub attributes_no_longer : (p : Profile) (external : Bool) (bytes : List ℕ) (steps : List (Attribute × Verdict)) (runs : Bool) (attrs : Attrs) → AreAttributes p external [] bytes steps runs → Octets bytes → AreAttrs p.as4 external (kept_by steps runs).0 attrs
+    → IsReadable p external attrs → length bytes < 65536 → length (octets_of (sent_attributes p.as4 attrs)) ≤ length bytes
+attributes_no_longer p external bytes steps runs attrs are octets is readable fits =
+    let kept = (kept_by steps runs).0 in
+    let sent = sent_attributes p.as4 attrs in
+    let sound = sound_sent p external attrs readable (lengths_fit p external bytes steps runs attrs are octets is fits) in
+    omega (
+      arith,
+      no_longer sent kept (sent_no_longer p external bytes steps runs attrs are octets is),
+      within_total 0 sent kept (ascends p external 0 sound.0 sent sound.1),
+      total_read p external [] bytes steps runs are octets,
+    )

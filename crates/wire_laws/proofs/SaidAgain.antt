@@ -1,0 +1,77 @@
+-- What a peer said in an UPDATE of one prefix is said again in the one spelling, and is read as it was.
+use Rattle.std.proofs.Common.{◌≡◌, ℕ, suc, ◌+◌, ◌≤◌, ◌<◌, Bool, true, false, List, [], ◌∷◌, ◌++◌, length, get_or, Option, Some, None, refl, sym, ap, subst, ◌∙◌, Fits, w8, arith}
+use Rattle.std.specs.Prelude.{All, replicate}
+use Rattle.std.specs.Option.{ForSome}
+use Rattle.std.proofs.lemmas.List.{length-append, length-take}
+use Rattle.byteorder.specs.Endian.{big_bytes}
+use Rattle.addr4.specs.Prefixes.{Network}
+use Rattle.bgp_attr.specs.declared.attrs.Attrs.{Attrs}
+use Rattle.bgp_attr.specs.declared.speaker.Profile.{Profile}
+use Rattle.bgp_wire.specs.declared.message.Update.{Update}
+use Rattle.bgp_wire.specs.declared.message.Message.{Message}
+use Rattle.bgp_wire.specs.declared.message.Message.TheVariants as messages
+use Rattle.bgp_wire.specs.Prefixes.{octets_for, ArePrefixes}
+use Rattle.bgp_wire.specs.Routes.{AreAttrs}
+use Rattle.bgp_wire.specs.Updates.{Reading}
+use Rattle.bgp_wire.specs.Grammar.{IsReading, AreAttrsFor, IsUpdateBy, without, Reads, Answers}
+use Rattle.bgp_wire.specs.Spelling.{sent_attributes, octets_of, prefixes_octets, prefix_octets, fields_octets, framed, update_octets}
+use Rattle.bgp_wire.specs.Readable.{IsNetwork, IsReadable, IsReadableUpdate, IsReadableMessage, AreOctets, HasOnePrefix, announcement}
+use Rattle.wire_laws.proofs.SpelledMessages.{length-framed, length-fields, withdrawal_is_read, announcement_is_read}
+use Rattle.bgp_wire.proofs.ReadableLaws.{Every, every_all, all_every, every_append, every_back, every_front, every_filter, Octets, networks_read, attrs_read}
+use Rattle.wire_laws.proofs.LengthLaws.{attributes_no_longer}
+use Rattle.bgp_wire.proofs.ReadableMessages.{field_octets, read_is_readable}
+
+-- an announcement's octets, by the attributes'
+announced_length : (n : Network) (octets : List ℕ) → n.length ≤ 32 → length (framed 2 (fields_octets [] octets (prefixes_octets (n ∷ [])))) ≡ 24 + length octets + octets_for n.length
+announced_length n octets short =
+    omega (
+      arith,
+      length-framed 2 (fields_octets [] octets (prefixes_octets (n ∷ []))),
+      length-fields [] octets (prefixes_octets (n ∷ [])),
+      length-append (prefix_octets n) [],
+      length-take (octets_for n.length) (big_bytes 4 n.address),
+    )
+
+one_announced : (bytes : List ℕ) (n : Network) → ArePrefixes bytes (n ∷ []) → (length bytes ≡ 1 + octets_for n.length) × (n.length ≤ 32)
+one_announced bytes n are = (omega (arith, ap length are.2, length-append are.0 are.1, ap length are.3.spelled, are.3.fewest, ap length are.4), are.3.short)
+
+announced_again : (p : Profile) (external : Bool) (bytes : List ℕ) (r : Reading) (is : IsReading p external bytes r) → Octets bytes → (n : Network) (a : Attrs) → IsNetwork n → IsReadable p external a → ArePrefixes is.announced (n ∷ []) → AreAttrs p.as4 external r.kept a
+    → Reads p external (update_octets p.as4 (announcement n a)) (messages.Update (announcement n a))
+announced_again p external bytes r is octets n a network readable prefix are =
+    let f = field_octets p external bytes r is octets in
+    let one = one_announced is.announced n prefix in
+    let shorter = attributes_no_longer p external is.attributes is.steps is.runs a is.are f.attributes (subst (λ kept. AreAttrs p.as4 external kept a) is.kept are) readable (omega (arith, f.whole, is.frame.top)) in
+    announcement_is_read p external n a network readable
+    (omega (arith, announced_length n (octets_of (sent_attributes p.as4 a)) one.1, shorter, one.0, f.whole, is.frame.top))
+
+-- by the lists of prefixes
+withdrawn_again : (p : Profile) (external : Bool) (ws ns : List Network) (attrs : Option Attrs) → ns ≡ [] → attrs ≡ None → All IsNetwork ws → length ws + length ns ≡ 1
+    → Reads p external (update_octets p.as4 (record { withdrawn = ws; announced = ns; attrs = attrs })) (messages.Update (record { withdrawn = ws; announced = ns; attrs = attrs }))
+withdrawn_again p external [] [] attrs none nothing networks one = absurd (omega arith)
+withdrawn_again p external ws (n ∷ ns) attrs none nothing networks one = absurd (omega (arith, ap length none))
+withdrawn_again p external (w ∷ v ∷ ws) [] attrs none nothing networks one = absurd (omega arith)
+withdrawn_again p external (w ∷ []) [] (Some a) none nothing networks one = absurd (cc)
+withdrawn_again p external (w ∷ []) [] None none nothing networks one = withdrawal_is_read p external w (networks 0 w (omega arith))
+
+plain_again : (p : Profile) (external : Bool) (bytes : List ℕ) (r : Reading) (is : IsReading p external bytes r) → Octets bytes → (ws ns : List Network) (attrs : Option Attrs)
+    → ArePrefixes is.announced ns → AreAttrsFor p.as4 external r.kept ns attrs → IsReadableUpdate p external (record { withdrawn = ws; announced = ns; attrs = attrs }) → length ws + length ns ≡ 1
+    → Reads p external (update_octets p.as4 (record { withdrawn = ws; announced = ns; attrs = attrs })) (messages.Update (record { withdrawn = ws; announced = ns; attrs = attrs }))
+plain_again p external bytes r is octets ws [] attrs prefixes are readable one = withdrawn_again p external ws [] attrs refl are readable.withdrawn one
+plain_again p external bytes r is octets [] (n ∷ []) None prefixes are readable one = absurd are
+plain_again p external bytes r is octets [] (n ∷ []) (Some a) prefixes are readable one =
+    announced_again p external bytes r is octets n a (readable.announced 0 n (omega arith)) (readable.attrs a refl) prefixes are
+plain_again p external bytes r is octets ws (n ∷ m ∷ ns) attrs prefixes are readable one = absurd (omega arith)
+plain_again p external bytes r is octets (w ∷ ws) (n ∷ []) attrs prefixes are readable one = absurd (omega arith)
+
+again_by : (p : Profile) (external : Bool) (bytes : List ℕ) (r : Reading) (is : IsReading p external bytes r) → Octets bytes → (withdraw : Bool) (u : Update) → IsUpdateBy p.as4 external r withdraw u → IsReadableUpdate p external u → HasOnePrefix u
+    → Reads p external (update_octets p.as4 u) (messages.Update u)
+again_by p external bytes r is octets true u by readable one = withdrawn_again p external u.withdrawn u.announced u.attrs by.announced by.attrs readable.withdrawn one
+again_by p external bytes r is octets false u by readable one =
+    plain_again p external bytes r is octets u.withdrawn u.announced u.attrs
+    (subst (ArePrefixes is.announced) (sym by.announced) is.announces)
+    (subst (λ ns. AreAttrsFor p.as4 external r.kept ns u.attrs) (sym by.announced) by.attrs)
+    readable one
+
+pub said_again : (p : Profile) (external : Bool) (bytes : List ℕ) (u : Update) → AreOctets bytes → Reads p external bytes (messages.Update u) → HasOnePrefix u → Reads p external (update_octets p.as4 u) (messages.Update u)
+said_again p external bytes u octets reads one =
+    again_by p external bytes reads.0 reads.1 (all_every (λ b. b < 256) bytes octets) reads.0.withdraw u reads.2 (read_is_readable p external bytes u octets reads) one

@@ -1,0 +1,51 @@
+//! Laws of BGP messages: what is written is read as it was.
+//!
+//! What octets are, and the one spelling of a message, is said in the `specs/` of `bgp_wire`. An UPDATE of one prefix that a
+//! peer can read (`IsReadable`), and that fits into a message, is read from its spelling as it was
+//! ([`what_was_read_is_written_and_read_again`], [`announcements_are_read`], [`withdrawals_are_read`]). A path stays such as can
+//! be read where an AS is put in front.
+#![tactic(auto)]
+
+ghost use Rattle.std.specs.Prelude.{◌<◌, ◌≤◌, ◌^◌, All, Bool, List, ℕ, length};
+ghost use Rattle.addr4.specs.Prefixes.{Network};
+ghost use Rattle.bgp_attr.specs.declared.attrs.Attrs.{Attrs};
+ghost use Rattle.bgp_attr.specs.declared.speaker.Profile.{Profile};
+ghost use Rattle.bgp_wire.specs.declared.message.Update.{Update};
+ghost use Rattle.bgp_wire.specs.declared.message.Message.TheVariants as messages;
+ghost use Rattle.bgp_wire.specs.Grammar.{Reads};
+ghost use Rattle.bgp_attr.specs.declared.path.Segment.{Segment};
+ghost use Rattle.bgp_attr.specs.Paths.{times_in_front};
+ghost use Rattle.bgp_wire.specs.Paths.{width_of};
+ghost use Rattle.bgp_wire.specs.Spelling.{FitsAttrs, update_octets};
+ghost use Rattle.bgp_wire.specs.Readable.{IsNetwork, IsReadableSegment, IsReadable, IsReadableUpdate, AreOctets, HasOnePrefix, withdrawal, announcement};
+
+/// What a peer said in an UPDATE of one prefix, a peer that is as external reads in its one spelling as it was said: the
+/// spelling has at most 4,096 octets too.
+pub fn what_was_read_is_written_and_read_again()
+    ensures { (p : Profile) (external : Bool) (bytes : List ℕ) (u : Update) → AreOctets bytes → Reads p external bytes (messages.Update u) → HasOnePrefix u → Reads p external (update_octets p.as4 u) (messages.Update u) }
+{}
+
+/// What a peer said in an UPDATE is such that it can be said again.
+pub fn what_was_read_is_readable()
+    ensures { (p : Profile) (external : Bool) (bytes : List ℕ) (u : Update) → AreOctets bytes → Reads p external bytes (messages.Update u) → IsReadableUpdate p external u }
+{}
+
+/// Each withdrawal of one prefix is read as it is written.
+pub fn withdrawals_are_read()
+    ensures { (p : Profile) (external : Bool) (n : Network) → IsNetwork n → Reads p external (update_octets p.as4 (withdrawal n)) (messages.Update (withdrawal n)) }
+{}
+
+/// Each announcement of one prefix that isn't too long is read as it is written.
+pub fn announcements_are_read()
+    ensures { (p : Profile) (external : Bool) (n : Network) (a : Attrs) → IsNetwork n → IsReadable p external a → length (update_octets p.as4 (announcement n a)) ≤ 4096 → Reads p external (update_octets p.as4 (announcement n a)) (messages.Update (announcement n a)) }
+{}
+
+/// What a peer can read can be written.
+pub fn what_is_readable_fits()
+    ensures { (p : Profile) (external : Bool) (a : Attrs) → IsReadable p external a → FitsAttrs p.as4 a }
+{}
+
+/// A path stays readable where an AS is put in front.
+pub fn prepended_paths_are_readable()
+    ensures { (as4 : Bool) (n asn : ℕ) (path : List Segment) → asn < 256 ^ width_of as4 → All (IsReadableSegment as4) path → All (IsReadableSegment as4) (times_in_front n asn path) }
+{}

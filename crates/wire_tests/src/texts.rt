@@ -1,0 +1,140 @@
+//! Messages in words.
+
+use addr4::{Memory, Prefix, push_addr, push_number, push_prefix};
+use bgp_attr::{Aggregator, Attrs, Origin, Segment, SegmentKind, Unrecognized};
+use bgp_wire::{Message, Notice, Update};
+
+fn push_text(out: &mut Vec<u8>, text: &str) -> Result<(), Memory> {
+    out.extend_from_slice(text.as_bytes())?;
+    Ok(())
+}
+
+fn push_hex(out: &mut Vec<u8>, octets: &[u8]) -> Result<(), Memory> {
+    let text = hex::encode(*out.allocator(), octets)?;
+    push_text(out, text.as_str())
+}
+
+fn push_prefixes(out: &mut Vec<u8>, sign: &str, prefixes: &[Prefix]) -> Result<(), Memory> {
+    for prefix in prefixes {
+        push_text(out, sign)?;
+        push_prefix(out, *prefix)?;
+    }
+    Ok(())
+}
+
+fn push_numbers(out: &mut Vec<u8>, numbers: &[u32]) -> Result<(), Memory> {
+    for (i, number) in numbers.iter().enumerate() {
+        push_text(out, if i > 0 { "." } else { "" })?;
+        push_number(out, u64::from(*number))?;
+    }
+    Ok(())
+}
+
+/// `{..}` for a set, `(..)` for a sequence; of more than four numbers how many there are, and the first.
+fn push_segment(out: &mut Vec<u8>, segment: &Segment) -> Result<(), Memory> {
+    let (open, close) = match segment.kind {
+        SegmentKind::Set => ("{", "}"),
+        SegmentKind::Sequence => ("(", ")"),
+    };
+    let numbers = segment.numbers.as_slice();
+    push_text(out, open)?;
+    if numbers.len() > 4 {
+        push_number(out, numbers.len() as u64)?;
+        push_text(out, "*")?;
+        push_numbers(out, &numbers[..1])?;
+    } else {
+        push_numbers(out, numbers)?;
+    }
+    push_text(out, close)
+}
+
+fn push_option(out: &mut Vec<u8>, name: &str, number: Option<u32>) -> Result<(), Memory> {
+    if let Some(number) = number {
+        push_text(out, name)?;
+        push_number(out, u64::from(number))?;
+    }
+    Ok(())
+}
+
+fn push_unrecognized(out: &mut Vec<u8>, items: &[Unrecognized]) -> Result<(), Memory> {
+    for item in items {
+        push_option(out, ",x", Some(u32::from(item.kind)))?;
+        push_text(out, ":")?;
+        let value = item.value.as_slice();
+        if value.len() > 8 {
+            push_number(out, value.len() as u64)?;
+            push_text(out, "*")?;
+            push_hex(out, &value[..1])?;
+        } else {
+            push_hex(out, value)?;
+        }
+    }
+    Ok(())
+}
+
+fn push_path(out: &mut Vec<u8>, path: &[Segment]) -> Result<(), Memory> {
+    push_text(out, ",p")?;
+    for segment in path {
+        push_segment(out, segment)?;
+    }
+    Ok(())
+}
+
+fn push_aggregator(out: &mut Vec<u8>, aggregator: Option<Aggregator>) -> Result<(), Memory> {
+    if let Some(aggregator) = aggregator {
+        push_option(out, ",g", Some(aggregator.asn))?;
+        push_text(out, "/")?;
+        push_addr(out, aggregator.addr)?;
+        push_text(out, if aggregator.partial { "!" } else { "" })?;
+    }
+    Ok(())
+}
+
+/// ORIGIN, AS_PATH and NEXT_HOP.
+fn push_mandatory(out: &mut Vec<u8>, attrs: &Attrs) -> Result<(), Memory> {
+    let origin = match attrs.origin {
+        Origin::Igp => " o0",
+        Origin::Egp => " o1",
+        Origin::Incomplete => " o2",
+    };
+    push_text(out, origin)?;
+    push_path(out, attrs.path.as_slice())?;
+    push_text(out, ",n")?;
+    push_addr(out, attrs.next_hop)
+}
+
+fn push_attrs(out: &mut Vec<u8>, attrs: &Attrs) -> Result<(), Memory> {
+    push_mandatory(out, attrs)?;
+    push_option(out, ",m", attrs.med)?;
+    push_option(out, ",l", attrs.local_pref)?;
+    push_text(out, if attrs.atomic { ",a" } else { "" })?;
+    push_aggregator(out, attrs.aggregator)?;
+    push_unrecognized(out, attrs.unrecognized.as_slice())
+}
+
+fn push_update(out: &mut Vec<u8>, update: &Update) -> Result<(), Memory> {
+    push_text(out, "update")?;
+    push_prefixes(out, " -", update.withdrawn.as_slice())?;
+    push_prefixes(out, " +", update.announced.as_slice())?;
+    match &update.attrs {
+        Some(attrs) => push_attrs(out, attrs),
+        None => Ok(()),
+    }
+}
+
+fn push_notice(out: &mut Vec<u8>, notice: &Notice) -> Result<(), Memory> {
+    push_text(out, "notify ")?;
+    push_hex(out, &[notice.code, notice.subcode])?;
+    push_hex(out, notice.octets.as_slice())
+}
+
+/// What a message says, in words.
+pub(crate) fn push_message(out: &mut Vec<u8>, message: &Message) -> Result<(), Memory> {
+    match message {
+        Message::Update(update) => push_update(out, update),
+        Message::Keepalive => push_text(out, "keepalive"),
+        Message::Notification => push_text(out, "notification"),
+        Message::Skip => push_text(out, "skip"),
+        Message::Notify(notice) => push_notice(out, notice),
+    }
+}
