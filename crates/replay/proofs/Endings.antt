@@ -2,16 +2,17 @@
 use Rattle.std.proofs.Common.{◌≡◌, ◌≢◌, ◌⊎◌, ⊎_elim, IfSome, ℕ, ◌<◌, Bool, true, false, List, [], ◌++◌, Option, Some, None, refl, sym, ap, ◌∙◌, inl, inr, subst, take, length, append_assoc}
 use Rattle.std.proofs.lemmas.List.{append-nil}
 use Rattle.std.proofs.Math.Seq.{take-append_seam, take-length}
-use Rattle.std.specs.List.{flat_map}
 use Rattle.std.specs.Io.KnownBytes.{Appends, Consumes, IsAtEnd, Keeps}
 use Rattle.replay.specs.declared.status.Status.{Status}
 use Rattle.replay.specs.declared.status.Status.TheVariants as statuses
-use Rattle.replay.specs.Live.{Live, nothing_live}
-use Rattle.replay.specs.Output.{ended, lines_of, IsOutput, IsRefusedOutput, IsOutputOfFront, IsOutputOfEnded, IsFrontOfOutput, verdict, status_of}
+use Rattle.router_core.specs.Moments.{Moment, first_moment}
+use Rattle.replay.specs.Lines.{lines_of, lines_in}
+use Rattle.replay.specs.Judging.{verdict, status_of}
+use Rattle.replay.specs.Output.{IsOutput, IsRefusedOutput, IsOutputOfFront, IsOutputOfEnded, IsFrontOfOutput}
 use Rattle.replay.specs.Stream.{HasStepped, GoesOn, IsFrontAt}
 use Rattle.replay.specs.Headline.{Took, Progress, ReadsAndWrites}
-use Rattle.replay.proofs.Cuts.{lines_done}
 use Rattle.replay.proofs.Runs.{verdict_accepted}
+use Rattle.replay.proofs.Pieces.{lines_behind}
 use Rattle.replay.proofs.Known.{appends_nothing, consumes_nothing, consumes_then, consumes_kept}
 
 -- however the text goes on behind what was read
@@ -31,45 +32,44 @@ took_all (Some text) (Some more) (Some before) None read bytes P c e a h = absur
 took_all (Some text) (Some more) (Some before) (Some after) read bytes P c e a h = (bytes, a, subst (λ (t : List ℕ). P t bytes) (sym (c ∙ (ap (λ t. read ++ t) e ∙ append-nil read))) h)
 
 -- what was stepped is an allowed output of some first lines, however the text goes on
-pub stepped_front : (read : List ℕ) (number : ℕ) (live : Live) (pending output : List ℕ) → HasStepped read number live pending output → (more : List ℕ) → IsOutputOfFront (read ++ more) output
-stepped_front read number live pending output s more =
-    let lines : lines_of (read ++ more) ≡ s.done ++ lines_of (pending ++ more) = ap (λ t. lines_of (t ++ more)) s.text ∙ (ap lines_of (append_assoc (flat_map ended s.done) pending more) ∙ lines_done s.done (pending ++ more) s.each) in
-    let front : take (length s.done) (lines_of (read ++ more)) ≡ s.done = ap (take (length s.done)) lines ∙ take-append_seam s.done (lines_of (pending ++ more)) in
+pub stepped_front : (quiet : Bool) (read : List ℕ) (number : ℕ) (m : Moment) (pending output : List ℕ) → HasStepped quiet read number m pending output → (more : List ℕ) → IsOutputOfFront quiet (read ++ more) output
+stepped_front quiet read number m pending output s more =
+    let front : take (length (lines_in s.done)) (lines_of (read ++ more)) ≡ lines_in s.done = ap (take (length (lines_in s.done))) (lines_behind read s.done pending more s.cut) ∙ take-append_seam (lines_in s.done) (lines_of (pending ++ more)) in
     record {
-      count = length s.done;
-      output = subst (λ (ls : List (List ℕ)). IsOutput ls output) (sym front) (record { out = s.out; end = live; run = s.run; lawful = s.lawful; text = s.written });
+      count = length (lines_in s.done);
+      output = subst (λ (ls : List (List ℕ)). IsOutput quiet ls output) (sym front) (record { out = s.out; end = m; run = s.run; lawful = s.lawful; stands = s.stands; text = s.written });
     }
 
 -- no memory for a piece that was read
-pub took_front : (left0 left now taken0 taken taken' : Option (List ℕ)) (number : ℕ) (live : Live) (pending piece : List ℕ) → Progress left0 left taken0 taken number live pending → Consumes left now piece → taken' ≡ taken → Took left0 taken0 taken' IsOutputOfFront
-took_front left0 left now taken0 taken taken' number live pending piece p c same =
-    subst (λ (t : Option (List ℕ)). Took left0 taken0 t IsOutputOfFront) (sym same)
-    (took_read left0 now taken0 taken (p.read ++ piece) p.written IsOutputOfFront (consumes_then left0 left now p.read piece p.consumed c) p.appended
-    (λ more. subst (λ (t : List ℕ). IsOutputOfFront t p.written) (sym (append_assoc p.read piece more)) (stepped_front p.read number live pending p.written p.stepped (piece ++ more))))
+pub took_front : (quiet : Bool) (left0 left now taken0 taken taken' : Option (List ℕ)) (number : ℕ) (m : Moment) (pending piece : List ℕ) → Progress quiet left0 left taken0 taken number m pending → Consumes left now piece → taken' ≡ taken → Took left0 taken0 taken' (IsOutputOfFront quiet)
+took_front quiet left0 left now taken0 taken taken' number m pending piece p c same =
+    subst (λ (t : Option (List ℕ)). Took left0 taken0 t (IsOutputOfFront quiet)) (sym same)
+    (took_read left0 now taken0 taken (p.read ++ piece) p.written (IsOutputOfFront quiet) (consumes_then left0 left now p.read piece p.consumed c) p.appended
+    (λ more. subst (λ (t : List ℕ). IsOutputOfFront quiet t p.written) (sym (append_assoc p.read piece more)) (stepped_front quiet p.read number m pending p.written p.stepped (piece ++ more))))
 
 -- a read that failed
-pub took_ended : (left0 left now taken0 taken : Option (List ℕ)) (number : ℕ) (live : Live) (pending : List ℕ) → length pending < 16386 → Progress left0 left taken0 taken number live pending → Keeps left now → ReadsAndWrites left0 now taken0 taken IsOutputOfEnded
-took_ended left0 left now taken0 taken number live pending short p same = (
+pub took_ended : (quiet : Bool) (left0 left now taken0 taken : Option (List ℕ)) (number : ℕ) (m : Moment) (pending : List ℕ) → length pending < 16386 → Progress quiet left0 left taken0 taken number m pending → Keeps left now → ReadsAndWrites left0 now taken0 taken (IsOutputOfEnded quiet)
+took_ended quiet left0 left now taken0 taken number m pending short p same = (
   p.read,
   p.written,
   consumes_kept left0 left now p.read p.consumed same,
   p.appended,
   record {
-    lines = p.stepped.done;
-    ended = record { part = pending; whole = p.stepped.text; each = p.stepped.each; last = p.stepped.part; short = short };
-    output = record { out = p.stepped.out; end = live; run = p.stepped.run; lawful = p.stepped.lawful; text = p.stepped.written };
+    lines = lines_in p.stepped.done;
+    ended = record { done = p.stepped.done; pending = pending; cut = p.stepped.cut; short = short; same = refl };
+    output = record { out = p.stepped.out; end = m; run = p.stepped.run; lawful = p.stepped.lawful; stands = p.stepped.stands; text = p.stepped.written };
   },
 )
 
 -- a front of what was to be written for lines that were stepped, or refused
-pub written_front : (accepted : Bool) (read taken : List ℕ) (piece before now more rest : List ℕ) (old new : ℕ × Live × List ℕ) → GoesOn accepted old piece before now new → HasStepped read old.0 old.1 old.2 (taken ++ before) → now ≡ more ++ rest → IsFrontAt (read ++ piece) (taken ++ more)
-written_front true read taken piece before now more rest old new f s e = λ later. record {
+pub written_front : (quiet accepted : Bool) (read taken : List ℕ) (piece before now more rest : List ℕ) (old new : ℕ × Moment × List ℕ) → GoesOn quiet accepted old piece before now new → HasStepped quiet read old.0 old.1 old.2 (taken ++ before) → now ≡ more ++ rest → IsFrontAt quiet (read ++ piece) (taken ++ more)
+written_front quiet true read taken piece before now more rest old new f s e = λ later. record {
   whole = taken ++ now;
   rest = rest;
   front = ap (λ t. taken ++ t) e ∙ sym (append_assoc taken more rest);
-  allowed = inl (stepped_front (read ++ piece) new.0 new.1 new.2 (taken ++ now) (f read taken s) later);
+  allowed = inl (stepped_front quiet (read ++ piece) new.0 new.1 new.2 (taken ++ now) (f read taken s) later);
 }
-written_front false read taken piece before now more rest old new f s e = λ later. record {
+written_front quiet false read taken piece before now more rest old new f s e = λ later. record {
   whole = taken ++ now;
   rest = rest;
   front = ap (λ t. taken ++ t) e ∙ sym (append_assoc taken more rest);
@@ -77,16 +77,16 @@ written_front false read taken piece before now more rest old new f s e = λ lat
 }
 
 -- a front of what was to be written for the whole text
-front_output : (text taken more rest out : List ℕ) → IsOutput (lines_of text) (taken ++ out) → out ≡ more ++ rest → IsFrontOfOutput text (taken ++ more)
-front_output text taken more rest out s e = record {
+front_output : (quiet : Bool) (text taken more rest out : List ℕ) → IsOutput quiet (lines_of text) (taken ++ out) → out ≡ more ++ rest → IsFrontOfOutput quiet text (taken ++ more)
+front_output quiet text taken more rest out s e = record {
   whole = taken ++ out;
   rest = rest;
   front = ap (λ t. taken ++ t) e ∙ sym (append_assoc taken more rest);
-  allowed = inl (record { count = length (lines_of text); output = subst (λ (ls : List (List ℕ)). IsOutput ls (taken ++ out)) (sym (take-length (lines_of text))) s });
+  allowed = inl (record { count = length (lines_of text); output = subst (λ (ls : List (List ℕ)). IsOutput quiet ls (taken ++ out)) (sym (take-length (lines_of text))) s });
 }
 
-front_refused : (text taken more rest out : List ℕ) → IsRefusedOutput text (taken ++ out) → out ≡ more ++ rest → IsFrontOfOutput text (taken ++ more)
-front_refused text taken more rest out s e = record {
+front_refused : (quiet : Bool) (text taken more rest out : List ℕ) → IsRefusedOutput quiet text (taken ++ out) → out ≡ more ++ rest → IsFrontOfOutput quiet text (taken ++ more)
+front_refused quiet text taken more rest out s e = record {
   whole = taken ++ out;
   rest = rest;
   front = ap (λ t. taken ++ t) e ∙ sym (append_assoc taken more rest);
@@ -94,12 +94,12 @@ front_refused text taken more rest out s e = record {
 }
 
 -- the same, by whether the last line was accepted
-pub ended_front : (accepted : Bool) (text taken more rest out : List ℕ) → (accepted ≡ true → IsOutput (lines_of text) (taken ++ out)) → (accepted ≡ false → IsRefusedOutput text (taken ++ out)) → out ≡ more ++ rest → IsFrontOfOutput text (taken ++ more)
-ended_front true text taken more rest out f g e = front_output text taken more rest out (f refl) e
-ended_front false text taken more rest out f g e = front_refused text taken more rest out (g refl) e
+pub ended_front : (quiet accepted : Bool) (text taken more rest out : List ℕ) → (accepted ≡ true → IsOutput quiet (lines_of text) (taken ++ out)) → (accepted ≡ false → IsRefusedOutput quiet text (taken ++ out)) → out ≡ more ++ rest → IsFrontOfOutput quiet text (taken ++ more)
+ended_front quiet true text taken more rest out f g e = front_output quiet text taken more rest out (f refl) e
+ended_front quiet false text taken more rest out f g e = front_refused quiet text taken more rest out (g refl) e
 
-pub no_progress : (left taken : Option (List ℕ)) (number : ℕ) (live : Live) (pending : List ℕ) → HasStepped [] number live pending [] → Progress left left taken taken number live pending
-no_progress left taken number live pending s = record { read = []; written = []; consumed = consumes_nothing left; appended = appends_nothing taken; stepped = s }
+pub no_progress : (quiet : Bool) (left taken : Option (List ℕ)) (number : ℕ) (m : Moment) (pending : List ℕ) → HasStepped quiet [] number m pending [] → Progress quiet left left taken taken number m pending
+no_progress quiet left taken number m pending s = record { read = []; written = []; consumed = consumes_nothing left; appended = appends_nothing taken; stepped = s }
 
 -- the read that met the end of the input
 pub read_nothing : (a b c : Option (List ℕ)) (read buf : List ℕ) (count : ℕ) → count ≡ 0 → Consumes a b read → Consumes b c (take count buf) → Consumes a c read
@@ -119,25 +119,30 @@ of_read None left read P c h = tt
 of_read (Some text) None read P c h = absurd c
 of_read (Some text) (Some more) read P c h = subst P (sym c) (h more)
 
-accepted_status : (text bytes : List ℕ) → IsOutput (lines_of text) bytes → statuses.Ok ≡ status_of (verdict text)
-accepted_status text bytes o = ap status_of (sym (verdict_accepted 1 nothing_live o.end (lines_of text) o.out o.run))
+accepted_status : (quiet : Bool) (text bytes : List ℕ) → IsOutput quiet (lines_of text) bytes → statuses.Ok ≡ status_of (verdict text)
+accepted_status quiet text bytes o = ap status_of (sym (verdict_accepted 1 first_moment o.end (lines_of text) o.out o.run))
 
-pub refused_status : (text bytes : List ℕ) → IsRefusedOutput text bytes → statuses.Refused ≡ status_of (verdict text)
-refused_status text bytes o = ap status_of (sym o.refused)
+pub refused_status : (quiet : Bool) (text bytes : List ℕ) → IsRefusedOutput quiet text bytes → statuses.Refused ≡ status_of (verdict text)
+refused_status quiet text bytes o = ap status_of (sym o.refused)
 
 -- the end of the text, by its last line
-pub ended_status : (status : Status) (text written : List ℕ) → (status ≡ statuses.Ok → (more : List ℕ) × IsOutput (lines_of text) (written ++ more)) → (status ≡ statuses.Refused → (more : List ℕ) × IsRefusedOutput text (written ++ more)) → (status ≡ statuses.Ok) ⊎ (status ≡ statuses.Refused) → status ≡ status_of (verdict text)
-ended_status status text written f g = ⊎_elim (λ is. is ∙ accepted_status text _ (f is).1) (λ is. is ∙ refused_status text _ (g is).1)
+pub ended_status : (quiet : Bool) (status : Status) (text written : List ℕ) → (status ≡ statuses.Ok → (more : List ℕ) × IsOutput quiet (lines_of text) (written ++ more)) → (status ≡ statuses.Refused → (more : List ℕ) × IsRefusedOutput quiet text (written ++ more)) → (status ≡ statuses.Ok) ⊎ (status ≡ statuses.Refused) → status ≡ status_of (verdict text)
+ended_status quiet status text written f g = ⊎_elim (λ is. is ∙ accepted_status quiet text _ (f is).1) (λ is. is ∙ refused_status quiet text _ (g is).1)
 
-by_cases : (status asked : Status) → status ≢ statuses.Usage → status ≢ statuses.ReadFault → status ≢ statuses.WriteFault → ((status ≡ statuses.Ok) ⊎ (status ≡ statuses.Refused) → status ≡ asked) → (status ≡ asked) ⊎ (status ≡ statuses.Memory)
-by_cases statuses.Ok asked u r w d = inl (d (inl refl))
-by_cases statuses.Refused asked u r w d = inl (d (inr refl))
-by_cases statuses.Memory asked u r w d = inr refl
-by_cases statuses.Usage asked u r w d = absurd (u refl)
-by_cases statuses.ReadFault asked u r w d = absurd (r refl)
-by_cases statuses.WriteFault asked u r w d = absurd (w refl)
+by_cases : (status asked : Status) → status ≢ statuses.Broken → status ≢ statuses.Usage → status ≢ statuses.ReadFault → status ≢ statuses.WriteFault → ((status ≡ statuses.Ok) ⊎ (status ≡ statuses.Refused) → status ≡ asked) → (status ≡ asked) ⊎ (status ≡ statuses.Memory)
+by_cases statuses.Ok asked b u r w d = inl (d (inl refl))
+by_cases statuses.Refused asked b u r w d = inl (d (inr refl))
+by_cases statuses.Memory asked b u r w d = inr refl
+by_cases statuses.Broken asked b u r w d = absurd (b refl)
+by_cases statuses.Usage asked b u r w d = absurd (u refl)
+by_cases statuses.ReadFault asked b u r w d = absurd (r refl)
+by_cases statuses.WriteFault asked b u r w d = absurd (w refl)
 
 -- no other status is possible where nothing failed
-pub text_decides : (status : Status) (left : Option (List ℕ)) → status ≢ statuses.Usage → status ≢ statuses.ReadFault → status ≢ statuses.WriteFault → ((status ≡ statuses.Ok) ⊎ (status ≡ statuses.Refused) → IfSome left (λ text. status ≡ status_of (verdict text))) → IfSome left (λ text. (status ≡ status_of (verdict text)) ⊎ (status ≡ statuses.Memory))
-text_decides status None u r w d = tt
-text_decides status (Some text) u r w d = by_cases status (status_of (verdict text)) u r w d
+pub text_decides : (status : Status) (left : Option (List ℕ)) → status ≢ statuses.Broken → status ≢ statuses.Usage → status ≢ statuses.ReadFault → status ≢ statuses.WriteFault → ((status ≡ statuses.Ok) ⊎ (status ≡ statuses.Refused) → IfSome left (λ text. status ≡ status_of (verdict text))) → IfSome left (λ text. (status ≡ status_of (verdict text)) ⊎ (status ≡ statuses.Memory))
+text_decides status None b u r w d = tt
+text_decides status (Some text) b u r w d = by_cases status (status_of (verdict text)) b u r w d
+
+-- the same, by what is known of the journal
+pub stepped_as : (quiet other : Bool) (read : List ℕ) (number : ℕ) (m : Moment) (pending output : List ℕ) → other ≡ quiet → HasStepped quiet read number m pending output → HasStepped other read number m pending output
+stepped_as quiet other read number m pending output e s = subst (λ (q : Bool). HasStepped q read number m pending output) (sym e) s

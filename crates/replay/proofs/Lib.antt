@@ -1,13 +1,9 @@
-pub mod Readers
-pub mod Words
-pub mod Joins
-pub mod Order
-pub mod Changed
-pub mod Blocks
+pub mod Known
 pub mod Lines
-pub mod Runs
 pub mod Cuts
+pub mod Runs
+pub mod Steps
 pub mod Pieces
 pub mod GoingOn
-pub mod Known
 pub mod Endings
+pub mod WordLemmas

@@ -1,7 +1,7 @@
 -- What a run of the program says of its source and its sink.
-use Rattle.std.specs.Prelude.{◌≡◌, ℕ, List, ◌++◌, Option, Some, None, ⊤}
+use Rattle.std.specs.Prelude.{◌≡◌, ℕ, Bool, List, ◌++◌, Option, Some, None, ⊤}
 use Rattle.std.specs.Io.KnownBytes.{Appends, Consumes}
-use Rattle.replay.specs.Live.{Live}
+use Rattle.router_core.specs.Moments.{Moment}
 use Rattle.replay.specs.Stream.{HasStepped}
 
 -- Of the source's text and of what the sink took this holds, where both tell their bytes.
@@ -24,9 +24,9 @@ abbrev pub IsFrontOf : List ℕ → List ℕ → Type 0
 IsFrontOf whole bytes = (rest : List ℕ) × (whole ≡ bytes ++ rest)
 
 -- what was read of a source, and what a sink took, up to now
-pub record Progress (left0 left taken0 taken : Option (List ℕ)) (number : ℕ) (live : Live) (pending : List ℕ) : Type 0 where
+pub record Progress (quiet : Bool) (left0 left taken0 taken : Option (List ℕ)) (number : ℕ) (m : Moment) (pending : List ℕ) : Type 0 where
   pub read : List ℕ
   pub written : List ℕ
   pub consumed : Consumes left0 left read
   pub appended : Appends taken0 taken written
-  pub stepped : HasStepped read number live pending written
+  pub stepped : HasStepped quiet read number m pending written

@@ -1,12 +1,6 @@
-pub mod Rows
-pub mod Journal
-pub mod Live
-pub mod Texts
-pub mod Reading
-pub mod Messages
-pub mod Events
+pub mod Lines
+pub mod Judging
 pub mod Output
-pub mod Steps
 pub mod Stream
 pub mod Streams
 pub mod Headline

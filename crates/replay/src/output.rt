@@ -1,17 +1,19 @@
 //! Writing what a stream gives.
 
-ghost use Rattle.std.specs.Prelude.{◌≡◌, ◌++◌, ◌≤◌, ◌<◌, ℕ, ◌≢◌, List, OnOk, OnErr, true, false, Option, Some, None, length};
+ghost use Rattle.std.specs.Prelude.{◌≡◌, ◌++◌, ◌≤◌, ◌<◌, ℕ, ◌≢◌, List, [], OnOk, OnErr, IfOk, true, false, Option, Some, None, length};
 ghost use Rattle.std.specs.Io.KnownBytes.{Appends};
 ghost use Rattle.edge_io.specs.Causes.{Rose, HasCause};
-ghost use Rattle.replay.specs.Stream.{HasStepped, IsRefusedAt, IsFrontAt, IsNearer};
+ghost use Rattle.replay.specs.Stream.{HasStepped, GoesOn, IsRefusedAt, IsFrontAt, IsNearer, IsReady};
 ghost use Rattle.replay.specs.Streams.{state};
-ghost use Rattle.replay.specs.Output.{IsOutput, IsRefusedOutput, IsFrontOfOutput, lines_of};
+ghost use Rattle.replay.specs.Lines.{lines_of};
+ghost use Rattle.replay.specs.Output.{IsOutput, IsRefusedOutput, IsFrontOfOutput};
 ghost use Rattle.replay.specs.Headline.{Writes, IsFrontOf};
 
-use crate::journal::Journal;
 use crate::status::Status;
 use crate::stream::Stream;
+use addr4::Memory;
 use edge_io::{Failed, Sink};
+use journal_text::Journal;
 
 /// Writes all of a text.
 pub fn write_all<K: Sink>(sink: &mut K, text: &[u8]) -> Result<(), Failed>
@@ -26,6 +28,38 @@ pub fn write_all<K: Sink>(sink: &mut K, text: &[u8]) -> Result<(), Failed>
     Ok(())
 }
 
+/// Steps a piece of the text: the journal then has the text of its output alone. Answers whether the text so far is
+/// accepted.
+fn step_piece(stream: &mut Stream, piece: &[u8], journal: &mut Journal) -> Result<bool, Memory>
+    requires ready { IsReady stream.old.number stream.old.core }
+    requires empty { journal.old.pending ≡ [] }
+    ensures goes_on { IfOk result (λ accepted. GoesOn journal.old.quiet accepted (state stream.old) piece.now [] journal.new.text (state stream.new)) }
+    ensures progress { IfOk result (λ accepted. accepted ≡ true → IsNearer (length piece.now) (state stream.old) (state stream.new)) }
+    ensures ready { IfOk result (λ accepted. accepted ≡ true → IsReady stream.new.number stream.new.core) }
+    ensures empty { OnOk result (journal.new.pending ≡ []) }
+    ensures quiet { OnOk result (journal.new.quiet ≡ journal.old.quiet) }
+{
+    journal.clear();
+    let accepted = stream.take_piece(piece, journal)?;
+    journal.flush()?;
+    Ok(accepted)
+}
+
+/// Steps the last line: the journal then has the text of its output alone. Answers whether the text is accepted.
+fn step_last(stream: &mut Stream, journal: &mut Journal) -> Result<bool, Memory>
+    requires ready { IsReady stream.old.number stream.old.core }
+    requires empty { journal.old.pending ≡ [] }
+    ensures accepted { IfOk result (λ accepted. accepted ≡ true → (read written : List ℕ) →
+        HasStepped journal.old.quiet read stream.old.number stream.old.core.moment stream.old.pending.items written → IsOutput journal.old.quiet (lines_of read) (written ++ journal.new.text)) }
+    ensures refused { IfOk result (λ accepted. accepted ≡ false → (read written : List ℕ) →
+        HasStepped journal.old.quiet read stream.old.number stream.old.core.moment stream.old.pending.items written → IsRefusedOutput journal.old.quiet read (written ++ journal.new.text)) }
+{
+    journal.clear();
+    let accepted = stream.finish(journal)?;
+    journal.flush()?;
+    Ok(accepted)
+}
+
 /// Steps a piece of the text, and writes the output of its lines. None means that the run goes on.
 pub fn turn<K: Sink>(
     stream: &mut Stream,
@@ -33,20 +67,24 @@ pub fn turn<K: Sink>(
     journal: &mut Journal,
     sink: &mut K,
 ) -> Option<Status>
-    ensures goes_on { result ≡ None → (read written : List ℕ) → HasStepped read stream.old.number stream.old.core stream.old.pending.items written →
-        Writes (K.taken sink.old) (K.taken sink.new) (λ more. HasStepped (read ++ piece.now) stream.new.number stream.new.core stream.new.pending.items (written ++ more)) }
+    requires ready { IsReady stream.old.number stream.old.core }
+    requires empty { journal.old.pending ≡ [] }
+    ensures goes_on { result ≡ None → (read written : List ℕ) → HasStepped journal.old.quiet read stream.old.number stream.old.core.moment stream.old.pending.items written →
+        Writes (K.taken sink.old) (K.taken sink.new) (λ more. HasStepped journal.old.quiet (read ++ piece.now) stream.new.number stream.new.core.moment stream.new.pending.items (written ++ more)) }
     ensures nearer { result ≡ None → IsNearer (length piece.now) (state stream.old) (state stream.new) }
-    ensures refused { result ≡ Some Status.Refused → (read written : List ℕ) → HasStepped read stream.old.number stream.old.core stream.old.pending.items written →
-        Writes (K.taken sink.old) (K.taken sink.new) (λ more. IsRefusedAt (read ++ piece.now) (written ++ more)) }
+    ensures ready { result ≡ None → IsReady stream.new.number stream.new.core }
+    ensures empty { result ≡ None → journal.new.pending ≡ [] }
+    ensures quiet { result ≡ None → journal.new.quiet ≡ journal.old.quiet }
+    ensures refused { result ≡ Some Status.Refused → (read written : List ℕ) → HasStepped journal.old.quiet read stream.old.number stream.old.core.moment stream.old.pending.items written →
+        Writes (K.taken sink.old) (K.taken sink.new) (λ more. IsRefusedAt journal.old.quiet (read ++ piece.now) (written ++ more)) }
     ensures memory { result ≡ Some Status.Memory → K.taken sink.new ≡ K.taken sink.old }
-    ensures front { result ≡ Some Status.WriteFault → (read written : List ℕ) → HasStepped read stream.old.number stream.old.core stream.old.pending.items written →
-        Writes (K.taken sink.old) (K.taken sink.new) (λ more. IsFrontAt (read ++ piece.now) (written ++ more)) }
+    ensures front { result ≡ Some Status.WriteFault → (read written : List ℕ) → HasStepped journal.old.quiet read stream.old.number stream.old.core.moment stream.old.pending.items written →
+        Writes (K.taken sink.old) (K.taken sink.new) (λ more. IsFrontAt journal.old.quiet (read ++ piece.now) (written ++ more)) }
     ensures write_fault { result ≡ Some Status.WriteFault → Rose (K.faults sink.old) (K.faults sink.new) }
     ensures later { K.faults sink.old ≤ K.faults sink.new }
-    ensures no_other { (result ≢ Some Status.Ok) × (result ≢ Some Status.Usage) × (result ≢ Some Status.ReadFault) }
+    ensures no_other { (result ≢ Some Status.Ok) × (result ≢ Some Status.Broken) × (result ≢ Some Status.Usage) × (result ≢ Some Status.ReadFault) }
 {
-    journal.clear();
-    let Ok(accepted) = stream.take_piece(piece, journal) else {
+    let Ok(accepted) = step_piece(stream, piece, journal) else {
         return Some(Status::Memory);
     };
     if write_all(sink, journal.text()).is_err() {
@@ -61,19 +99,20 @@ pub fn turn<K: Sink>(
 
 /// Steps the last line, and writes its output.
 pub fn finish<K: Sink>(stream: &mut Stream, journal: &mut Journal, sink: &mut K) -> Status
-    ensures ok { result ≡ Status.Ok → (read written : List ℕ) → HasStepped read stream.old.number stream.old.core stream.old.pending.items written →
-        Writes (K.taken sink.old) (K.taken sink.new) (λ more. IsOutput (lines_of read) (written ++ more)) }
-    ensures refused { result ≡ Status.Refused → (read written : List ℕ) → HasStepped read stream.old.number stream.old.core stream.old.pending.items written →
-        Writes (K.taken sink.old) (K.taken sink.new) (λ more. IsRefusedOutput read (written ++ more)) }
+    requires ready { IsReady stream.old.number stream.old.core }
+    requires empty { journal.old.pending ≡ [] }
+    ensures ok { result ≡ Status.Ok → (read written : List ℕ) → HasStepped journal.old.quiet read stream.old.number stream.old.core.moment stream.old.pending.items written →
+        Writes (K.taken sink.old) (K.taken sink.new) (λ more. IsOutput journal.old.quiet (lines_of read) (written ++ more)) }
+    ensures refused { result ≡ Status.Refused → (read written : List ℕ) → HasStepped journal.old.quiet read stream.old.number stream.old.core.moment stream.old.pending.items written →
+        Writes (K.taken sink.old) (K.taken sink.new) (λ more. IsRefusedOutput journal.old.quiet read (written ++ more)) }
     ensures memory { result ≡ Status.Memory → K.taken sink.new ≡ K.taken sink.old }
-    ensures front { result ≡ Status.WriteFault → (read written : List ℕ) → HasStepped read stream.old.number stream.old.core stream.old.pending.items written →
-        Writes (K.taken sink.old) (K.taken sink.new) (λ more. IsFrontOfOutput read (written ++ more)) }
+    ensures front { result ≡ Status.WriteFault → (read written : List ℕ) → HasStepped journal.old.quiet read stream.old.number stream.old.core.moment stream.old.pending.items written →
+        Writes (K.taken sink.old) (K.taken sink.new) (λ more. IsFrontOfOutput journal.old.quiet read (written ++ more)) }
     ensures write_fault { result ≡ Status.WriteFault → Rose (K.faults sink.old) (K.faults sink.new) }
     ensures later { K.faults sink.old ≤ K.faults sink.new }
-    ensures no_other { (result ≢ Status.Usage) × (result ≢ Status.ReadFault) }
+    ensures no_other { (result ≢ Status.Broken) × (result ≢ Status.Usage) × (result ≢ Status.ReadFault) }
 {
-    journal.clear();
-    let Ok(accepted) = stream.finish(journal) else {
+    let Ok(accepted) = step_last(stream, journal) else {
         return Status::Memory;
     };
     if write_all(sink, journal.text()).is_err() {

@@ -1,78 +1,37 @@
 //! Text that comes in pieces, stepped line by line.
 
-ghost use Rattle.std.specs.Prelude.{◌≡◌, ◌++◌, ◌∷◌, [], ◌<◌, ◌≤◌, ◌+◌, ◌^◌, ◌⊎◌, List, ℕ, Option, Some, None, option_map, IfOk, length, true, false};
-ghost use Rattle.replay.specs.Events.{judge};
-ghost use Rattle.replay.specs.Output.{IsPart, IsOutput, IsRefusedOutput, lines_of};
-ghost use Rattle.replay.specs.Stream.{StepsLine, RefusesLine, GoesOn, IsNearer, HasStepped, after_part};
+ghost use Rattle.std.specs.Prelude.{◌≡◌, ◌++◌, ◌∷◌, [], ◌<◌, ◌≤◌, ◌+◌, ◌^◌, ◌⊎◌, List, ℕ, Option, Some, None, option_map, IfOk, OnOk, length, true, false};
+ghost use Rattle.std.specs.Str.Lines.{strip_carriage_return};
+ghost use Rattle.replay.specs.Lines.{IsPart, lines_of, after_part};
+ghost use Rattle.replay.specs.Output.{IsOutput, IsRefusedOutput};
+ghost use Rattle.replay.specs.Stream.{IsReady, GoesOn, IsNearer, HasStepped, made};
 
-use crate::event::{Code, Event, Stop};
-use crate::journal::Journal;
-use crate::line::Line;
-use crate::parse::{event, is_clean};
-use crate::router::Core;
+use crate::stepping::step_line;
 use addr4::{Memory, first_part};
+use journal_text::{Code, Journal, Line};
+use router_core::Core;
 use std::alloc::Global;
 
-/// So many bytes without an LF may be part of a line; with one more the line is refused.
+/// So many bytes without an LF may be part of a line, which may end with CR LF; with one more the line is refused.
 const LONGEST_PART: usize = 16385;
 
-/// What may be said of a line.
-#[tactic(auto, unfolding(crate::specs::Events::judge))]
-fn judge(
-    alloc: Global,
-    core: &Core,
-    number: u64,
-    line: &[u8],
-) -> Result<Result<Event, Code>, Memory>
-    ensures { IfOk result (λ answer. answer ≡ judge number core.now line.now) }
-{
-    if !is_clean(line) {
-        return Ok(Err(Code::E1));
-    }
-    let event = match event(alloc, line) {
-        Ok(event) => event,
-        Err(Stop::Refused) => return Ok(Err(Code::E2)),
-        Err(Stop::Memory) => return Err(Memory),
-    };
-    if !core.admits(&event) {
-        return Ok(Err(Code::E2));
-    }
-    if number == 1 << 32 {
-        return Ok(Err(Code::E6));
-    }
-    Ok(Ok(event))
-}
-
-/// Steps a line, or writes that it is refused. Answers whether it was accepted.
-#[tactic(auto, using(crate::proofs::Lines::accepted_is_admitted))]
-fn step_line(
-    alloc: Global,
-    core: &mut Core,
-    number: u64,
-    line: &[u8],
-    journal: &mut Journal,
-) -> Result<bool, Memory>
-    ensures accepted { IfOk result (λ accepted. accepted ≡ true → StepsLine number core.old line.now journal.old journal.new core.new) }
-    ensures refused { IfOk result (λ accepted. accepted ≡ false → RefusesLine number core.old line.now journal.old journal.new) }
-{
-    match judge(alloc, core, number, line)? {
-        Ok(event) => {
-            core.step(event, journal)?;
-            Ok(true)
-        }
-        Err(code) => {
-            journal.push_line(&Line::Refused(number, code))?;
-            Ok(false)
-        }
-    }
-}
-
 /// The part before the first LF, and what follows that LF.
-fn first_line(text: &[u8]) -> (&[u8], Option<&[u8]>)
+pub fn first_line(text: &[u8]) -> (&[u8], Option<&[u8]>)
     ensures whole { text.now ≡ result.0.now ++ after_part (option_map (λ r. r.now) result.1) }
     ensures part { IsPart result.0.now }
 {
     first_part(text, b'\n')
+}
+
+/// The line without the one CR at its end, if there is one.
+pub fn without_return(line: &[u8]) -> &[u8]
+    ensures { result.now ≡ strip_carriage_return line.now }
+{
+    match line.len() {
+        0 => line,
+        len if line[len - 1] == b'\r' => &line[..len - 1],
+        _ => line,
+    }
 }
 
 /// Reads text in pieces, and steps each line as soon as it is whole.
@@ -91,8 +50,9 @@ pub struct Stream {
 impl Stream {
     ghost use Rattle.replay.specs.Streams.{state};
 
-    pub fn new(alloc: Global) -> Stream
-        ensures { HasStepped [] result.number result.core result.pending.items [] }
+    pub fn new(alloc: Global, quiet: bool) -> Stream
+        ensures stepped { HasStepped quiet [] result.number result.core.moment result.pending.items [] }
+        ensures ready { IsReady result.number result.core }
     {
         Stream {
             alloc,
@@ -104,12 +64,15 @@ impl Stream {
 
     /// Takes what follows of the line that has begun. Answers whether the text so far is accepted.
     fn take_part(&mut self, part: &[u8], journal: &mut Journal) -> Result<bool, Memory>
-        requires { IsPart part.now }
-        ensures goes_on { IfOk result (λ accepted. GoesOn accepted (state self.old) part.now journal.old journal.new (state self.new)) }
+        requires part { IsPart part.now }
+        requires ready { IsReady self.old.number self.old.core }
+        ensures goes_on { IfOk result (λ accepted. GoesOn journal.old.quiet accepted (state self.old) part.now (made journal.old) (made journal.new) (state self.new)) }
         ensures progress { IfOk result (λ accepted. accepted ≡ true → IsNearer (length part.now) (state self.old) (state self.new)) }
+        ensures ready { OnOk result (IsReady self.new.number self.new.core) }
+        ensures quiet { OnOk result (journal.new.quiet ≡ journal.old.quiet) }
     {
         if part.len() > LONGEST_PART - self.pending.len() {
-            journal.push_line(&Line::Refused(self.number, Code::E1))?;
+            journal.push_line(Line::Refused(self.number, Code::E1))?;
             return Ok(false);
         }
         self.pending.extend_from_slice(part)?;
@@ -118,16 +81,14 @@ impl Stream {
 
     /// Takes the end of a line. Answers whether the line is accepted.
     fn take_end(&mut self, journal: &mut Journal) -> Result<bool, Memory>
-        ensures goes_on { IfOk result (λ accepted. GoesOn accepted (state self.old) (10 ∷ []) journal.old journal.new (state self.new)) }
+        requires { IsReady self.old.number self.old.core }
+        ensures goes_on { IfOk result (λ accepted. GoesOn journal.old.quiet accepted (state self.old) (10 ∷ []) (made journal.old) (made journal.new) (state self.new)) }
         ensures progress { IfOk result (λ accepted. accepted ≡ true → IsNearer 1 (state self.old) (state self.new)) }
+        ensures ready { IfOk result (λ accepted. accepted ≡ true → IsReady self.new.number self.new.core) }
+        ensures quiet { OnOk result (journal.new.quiet ≡ journal.old.quiet) }
     {
-        if !step_line(
-            self.alloc,
-            &mut self.core,
-            self.number,
-            self.pending.as_slice(),
-            journal,
-        )? {
+        let line = without_return(self.pending.as_slice());
+        if !step_line(self.alloc, &mut self.core, self.number, line, journal)? {
             return Ok(false);
         }
         self.pending.clear();
@@ -138,8 +99,11 @@ impl Stream {
     /// Takes a piece of the text. Answers whether the text so far is accepted; nothing is taken after a line
     /// that is refused.
     pub fn take_piece(&mut self, piece: &[u8], journal: &mut Journal) -> Result<bool, Memory>
-        ensures goes_on { IfOk result (λ accepted. GoesOn accepted (state self.old) piece.now journal.old journal.new (state self.new)) }
+        requires { IsReady self.old.number self.old.core }
+        ensures goes_on { IfOk result (λ accepted. GoesOn journal.old.quiet accepted (state self.old) piece.now (made journal.old) (made journal.new) (state self.new)) }
         ensures progress { IfOk result (λ accepted. accepted ≡ true → IsNearer (length piece.now) (state self.old) (state self.new)) }
+        ensures ready { IfOk result (λ accepted. accepted ≡ true → IsReady self.new.number self.new.core) }
+        ensures quiet { OnOk result (journal.new.quiet ≡ journal.old.quiet) }
     {
         let mut rest = piece;
         loop {
@@ -159,21 +123,18 @@ impl Stream {
 
     /// Takes the end of the text. Answers whether the text is accepted.
     pub fn finish(&mut self, journal: &mut Journal) -> Result<bool, Memory>
+        requires { IsReady self.old.number self.old.core }
         ensures accepted { IfOk result (λ accepted. accepted ≡ true → (read taken : List ℕ) →
-            HasStepped read self.old.number self.old.core self.old.pending.items (taken ++ journal.old) → IsOutput (lines_of read) (taken ++ journal.new)) }
+            HasStepped journal.old.quiet read self.old.number self.old.core.moment self.old.pending.items (taken ++ made journal.old) → IsOutput journal.old.quiet (lines_of read) (taken ++ made journal.new)) }
         ensures refused { IfOk result (λ accepted. accepted ≡ false → (read taken : List ℕ) →
-            HasStepped read self.old.number self.old.core self.old.pending.items (taken ++ journal.old) → IsRefusedOutput read (taken ++ journal.new)) }
+            HasStepped journal.old.quiet read self.old.number self.old.core.moment self.old.pending.items (taken ++ made journal.old) → IsRefusedOutput journal.old.quiet read (taken ++ made journal.new)) }
+        ensures quiet { OnOk result (journal.new.quiet ≡ journal.old.quiet) }
     {
         if self.pending.is_empty() {
             return Ok(true);
         }
-        let accepted = step_line(
-            self.alloc,
-            &mut self.core,
-            self.number,
-            self.pending.as_slice(),
-            journal,
-        )?;
+        let line = self.pending.as_slice();
+        let accepted = step_line(self.alloc, &mut self.core, self.number, line, journal)?;
         Ok(accepted)
     }
 }

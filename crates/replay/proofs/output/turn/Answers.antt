@@ -1,6 +1,6 @@
 use Rattle.std.proofs.Common.{List, ℕ, [], sym, ◌∙◌, subst}
 use Rattle.std.proofs.lemmas.List.{append-nil}
-use Rattle.replay.specs.Stream.{HasStepped, GoesOn}
+use Rattle.replay.specs.Stream.{HasStepped}
 use Rattle.replay.specs.Streams.{state}
 use Rattle.replay.proofs.Known.{of_failed}
 use Rattle.replay.proofs.Endings.{written_front}
@@ -9,5 +9,4 @@ use Rattle.replay.proofs.output.turn.Goals as goal
 pub returns-then-is_err-clause-front : goal.returns-then-is_err-clause-front
 returns-then-is_err-clause-front g c = λ is read written was.
     let w = of_failed c.write_all.result _ (sym c.if-is_err.ensures.value) c.write_all.ensures.front in
-    let piece = subst (λ (t : List ℕ). GoesOn c.in-Ok.accepted (state c.args.stream.now) c.args.piece.now t c.take_piece.new.journal (state c.take_piece.new.self)) c.clear.ensures c.in-Ok.ensures.goes_on in
-    (w.0, w.1, written_front c.in-Ok.accepted read written c.args.piece.now [] c.take_piece.new.journal w.0 w.2.0 (state c.args.stream.now) (state c.take_piece.new.self) piece (subst (λ (t : List ℕ). HasStepped read c.args.stream.now.number c.args.stream.now.core c.args.stream.now.pending.items t) (sym (append-nil written)) was) (sym c.text.ensures ∙ w.2.1))
+    (w.0, w.1, written_front c.args.journal.now.quiet c.in-Ok.accepted read written c.args.piece.now [] c.step_piece.new.journal.text w.0 w.2.0 (state c.args.stream.now) (state c.step_piece.new.stream) c.in-Ok.ensures.goes_on (subst (λ (t : List ℕ). HasStepped c.args.journal.now.quiet read c.args.stream.now.number c.args.stream.now.core.moment c.args.stream.now.pending.items t) (sym (append-nil written)) was) (sym c.text.ensures ∙ w.2.1))

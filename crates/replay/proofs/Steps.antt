@@ -1,0 +1,52 @@
+-- Lines that were stepped, and the text of a journal.
+use Rattle.std.proofs.Common.{◌≡◌, ℕ, Bool, true, false, List, ◌∷◌, ◌++◌, [], Ok, sym, ap, ◌∙◌, append_assoc}
+use Rattle.std.proofs.lemmas.List.{append-nil}
+use Rattle.std.proofs.lemmas.List.Concat.{flat_map-append}
+use Rattle.journal_text.specs.declared.line.Code.{Code}
+use Rattle.journal_text.specs.declared.line.Line.{Line}
+use Rattle.journal_text.specs.declared.line.Line.TheVariants.{Refused}
+use Rattle.journal_text.specs.declared.value.Value.{Value}
+use Rattle.journal_text.specs.Journals.{Journaled, with_lines, flushed}
+use Rattle.journal_text.specs.Texts.{line_text, shown, text_of, entries_of}
+use Rattle.journal_text.specs.Walk.{LeadsOn, no_links}
+use Rattle.event_text.specs.declared.event.Event.{Event}
+use Rattle.router_core.specs.Moments.{Moment, Gives, router_links}
+use Rattle.router_core.specs.Stands.{Stands}
+use Rattle.router_core.specs.Lives.{live_state}
+use Rattle.router_core.specs.Laws.{DeclarationsFollow}
+use Rattle.router_core.specs.Blocks.{Acts}
+use Rattle.replay.specs.Judging.{judge}
+use Rattle.replay.specs.Stream.{StepsLine, made}
+
+-- a journal with more lines
+pub made_more : (j : Journaled) (lines : List Line) → made (with_lines j lines) ≡ made j ++ text_of j.quiet lines
+made_more j lines = ap (λ t. j.text ++ t) (flat_map-append (shown j.quiet) j.pending lines) ∙ sym (append_assoc j.text (text_of j.quiet j.pending) (text_of j.quiet lines))
+
+-- to make the text changes nothing of it
+pub made_flushed : (j : Journaled) → made (flushed j) ≡ made j
+made_flushed j = append-nil (made j)
+
+-- that a line is refused is said in quiet, too
+refused_text : (quiet : Bool) (n : ℕ) (code : Code) → text_of quiet (Refused n code ∷ []) ≡ line_text (Refused n code)
+refused_text true n code = append-nil _
+refused_text false n code = append-nil _
+
+-- a line was refused
+pub made_refused : (j : Journaled) (n : ℕ) (code : Code) → made (with_lines j (Refused n code ∷ [])) ≡ made j ++ line_text (Refused n code)
+made_refused j n code = made_more j (Refused n code ∷ []) ∙ ap (λ t. made j ++ t) (refused_text j.quiet n code)
+
+-- a line's event was stepped
+pub steps_line : (n : ℕ) (old new : Moment) (line : List ℕ) (event : Event) (turns : ℕ) (before now : Journaled) → judge n old.declared line ≡ Ok event → Gives (Acts old event turns new) before now → Stands new → DeclarationsFollow → LeadsOn Value → StepsLine before.quiet n old line (made before) (made now) new
+steps_line n old new line event turns before now accepted gives stands follow join = record {
+  said = gives.0;
+  step = record {
+    event = event;
+    turns = turns;
+    accepted = accepted;
+    acts = gives.2;
+    declared = follow (live_state old) event (live_state new) gives.2.live;
+  };
+  leads = λ earlier lawful. join no_links (router_links old) (router_links new) earlier (entries_of gives.0) lawful gives.2.leads;
+  stands = stands;
+  written = ap made gives.1 ∙ (made_flushed (with_lines before gives.0) ∙ made_more before gives.0);
+}

@@ -1,0 +1,53 @@
+//! The command `run`.
+
+ghost use Rattle.std.specs.Prelude.{◌≡◌, ◌≢◌, ◌≤◌, ◌+◌, ◌⊎◌, ℕ, List, IfSome};
+ghost use Rattle.std.specs.Io.KnownBytes.{IsAtEnd};
+ghost use Rattle.edge_io.specs.Causes.{Rose};
+ghost use Rattle.replay.specs.Lines.{lines_of};
+ghost use Rattle.replay.specs.Judging.{verdict, status_of};
+ghost use Rattle.replay.specs.Output.{IsOutput, IsRefusedOutput, IsOutputOfFront, IsOutputOfEnded, IsFrontOfOutput};
+ghost use Rattle.replay.specs.Headline.{Took, ReadsAndWrites};
+
+use crate::output::{finish, turn};
+use crate::status::Status;
+use crate::stream::Stream;
+use edge_io::{Sink, Source};
+use journal_text::Journal;
+use std::alloc::Global;
+
+/// How many bytes are read at once.
+pub const READ_SIZE: usize = 65536;
+
+/// Steps the events of the source, and writes their output. Where it is quiet, the journal's own lines aren't written.
+pub fn run_events<S: Source, K: Sink>(
+    alloc: Global,
+    quiet: bool,
+    source: &mut S,
+    sink: &mut K,
+) -> Status
+    ensures ok { result ≡ Status.Ok → Took (S.left source.old) (K.taken sink.old) (K.taken sink.new) (λ text bytes. IsOutput quiet (lines_of text) bytes) }
+    ensures all_read { result ≡ Status.Ok → IsAtEnd (S.left source.new) }
+    ensures refused { result ≡ Status.Refused → Took (S.left source.old) (K.taken sink.old) (K.taken sink.new) (IsRefusedOutput quiet) }
+    ensures so_far { result ≡ Status.ReadFault → ReadsAndWrites (S.left source.old) (S.left source.new) (K.taken sink.old) (K.taken sink.new) (IsOutputOfEnded quiet) }
+    ensures memory { result ≡ Status.Memory → Took (S.left source.old) (K.taken sink.old) (K.taken sink.new) (IsOutputOfFront quiet) }
+    ensures front { result ≡ Status.WriteFault → Took (S.left source.old) (K.taken sink.old) (K.taken sink.new) (IsFrontOfOutput quiet) }
+    ensures read_fault { result ≡ Status.ReadFault → Rose (S.faults source.old) (S.faults source.new) }
+    ensures write_fault { result ≡ Status.WriteFault → Rose (K.faults sink.old) (K.faults sink.new) }
+    ensures by_text { (result ≡ Status.Ok) ⊎ (result ≡ Status.Refused) → IfSome (S.left source.old) (λ text. result ≡ status_of (verdict text)) }
+    ensures no_other { (result ≢ Status.Broken) × (result ≢ Status.Usage) }
+{
+    let mut stream = Stream::new(alloc, quiet);
+    let mut journal = Journal::new(alloc, quiet);
+    let mut buf = [0u8; READ_SIZE];
+    'reading: loop {
+        let Ok(count) = source.read(&mut buf) else {
+            return Status::ReadFault;
+        };
+        if count == 0 {
+            return finish(&mut stream, &mut journal, sink);
+        }
+        if let Some(status) = turn(&mut stream, &buf[..count], &mut journal, sink) {
+            return status;
+        }
+    }
+}

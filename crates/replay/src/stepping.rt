@@ -1,0 +1,66 @@
+//! Stepping a line.
+
+ghost use Rattle.std.specs.Prelude.{◌≡◌, ◌+◌, true, false, IfOk, OnOk};
+ghost use Rattle.replay.specs.Judging.{judge};
+ghost use Rattle.replay.specs.Stream.{IsReady, StepsLine, RefusesLine, made};
+
+use addr4::Memory;
+use event_text::{Event, admit, parse};
+use journal_text::{Code, Journal, Line, Value, journals_join};
+use router_core::{Core, declarations_follow};
+use std::alloc::Global;
+
+/// The number of the line that is refused whatever it holds: 2^32 - 1 events are the most.
+const LAST_LINE: u64 = 4_294_967_296;
+
+/// What may be said of a line.
+#[tactic(auto, unfolding(crate::specs::Judging::judge))]
+fn judge(
+    alloc: Global,
+    core: &Core,
+    number: u64,
+    line: &[u8],
+) -> Result<Result<Event, Code>, Memory>
+    ensures { IfOk result (λ answer. answer ≡ judge number core.now.moment.declared line.now) }
+{
+    let event = match parse(alloc, line)? {
+        Ok(event) => event,
+        Err(code) => return Ok(Err(code)),
+    };
+    if let Some(code) = admit(&event, core.declared()) {
+        return Ok(Err(code));
+    }
+    if number == LAST_LINE {
+        return Ok(Err(Code::E6));
+    }
+    Ok(Ok(event))
+}
+
+/// Steps a line, or writes that it is refused. Answers whether it was accepted.
+#[tactic(auto, using(crate::proofs::Lines::accepted_is_admitted, crate::proofs::Lines::accepted_in_time))]
+pub fn step_line(
+    alloc: Global,
+    core: &mut Core,
+    number: u64,
+    line: &[u8],
+    journal: &mut Journal,
+) -> Result<bool, Memory>
+    requires { IsReady number core.old }
+    ensures accepted { IfOk result (λ accepted. accepted ≡ true → StepsLine journal.old.quiet number core.old.moment line.now (made journal.old) (made journal.new) core.new.moment) }
+    ensures ready { IfOk result (λ accepted. accepted ≡ true → IsReady (number + 1) core.new) }
+    ensures refused { IfOk result (λ accepted. accepted ≡ false → RefusesLine number core.old.moment line.now (made journal.old) (made journal.new)) }
+    ensures quiet { OnOk result (journal.new.quiet ≡ journal.old.quiet) }
+{
+    match judge(alloc, core, number, line)? {
+        Ok(event) => {
+            core.step(event, journal)?;
+            declarations_follow();
+            journals_join::<Value>();
+            Ok(true)
+        }
+        Err(code) => {
+            journal.push_line(Line::Refused(number, code))?;
+            Ok(false)
+        }
+    }
+}
