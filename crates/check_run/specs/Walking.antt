@@ -1,5 +1,6 @@
 -- Text that comes in pieces, walked line by line.
-use Rattle.std.specs.Prelude.{◌≡◌, ◌⊎◌, ℕ, ◌+◌, ◌<◌, List, ◌++◌, length}
+use Rattle.std.specs.Prelude.{◌≡◌, ◌⊎◌, ℕ, ◌+◌, ◌<◌, List, ◌++◌, length, Option}
+use Rattle.std.specs.Io.KnownBytes.{Consumes}
 use Rattle.journal_check.specs.Judged.{IsChecked}
 use Rattle.journal_check.specs.Walked.{Walked, IsAfter}
 use Rattle.journal_check.specs.declared.checked.Checked.{Checked}
@@ -31,3 +32,16 @@ GoesOn stopped old piece new = (read : List ℕ) → HasWalked read old → (mor
 -- The lines or the bytes that may still come are fewer: lines ended, or so many bytes of one came.
 abbrev pub IsNearer : ℕ → Stage → Stage → Type 0
 IsNearer count old new = (old.walk.number < new.walk.number) ⊎ ((new.walk.number ≡ old.walk.number) × (length new.pending ≡ length old.pending + count))
+
+-- A front of the piece was taken, and the rest is left.
+pub record HasTaken (old : Stage) (piece rest : List ℕ) (now : Stage) : Type 0 where
+  pub front : List ℕ
+  pub split : piece ≡ front ++ rest
+  pub goes_on : GoesOn Lawful old front now
+  pub nearer : IsNearer (length front) old now
+
+-- what was read of a source up to now, and was walked
+pub record Progress (left0 left : Option (List ℕ)) (now : Stage) : Type 0 where
+  pub read : List ℕ
+  pub consumed : Consumes left0 left read
+  pub walked : HasWalked read now

@@ -43,7 +43,8 @@ impl Checking {
     {
         self.pending.extend_from_slice(part)?;
         if self.pending.len() > LONGEST_PART {
-            return self.walk.check(self.pending.as_slice());
+            let checked = self.walk.check(self.pending.as_slice())?;
+            return Ok(checked);
         }
         Ok(Checked::Lawful)
     }
@@ -71,9 +72,11 @@ impl Checking {
         loop {
             let (part, next) = first_line(rest);
             let Some(next) = next else {
-                return self.begin(part);
+                let checked = self.begin(part)?;
+                return Ok(checked);
             };
-            match self.end(part)? {
+            let ended = self.end(part)?;
+            match ended {
                 Checked::Lawful => rest = next,
                 stopped => return Ok(stopped),
             }
@@ -87,6 +90,7 @@ impl Checking {
         if self.pending.is_empty() {
             return Ok(Checked::Lawful);
         }
-        self.walk.check(self.pending.as_slice())
+        let checked = self.walk.check(self.pending.as_slice())?;
+        Ok(checked)
     }
 }

@@ -37,15 +37,17 @@ pub(crate) fn judge<S: Source>(alloc: Global, source: &mut S) -> Result<Checked,
             return Err(Stop::ReadFault);
         };
         if count == 0 {
-            return match checking.finish() {
-                Ok(checked) => Ok(checked),
-                Err(_) => Err(Stop::Memory),
+            let Ok(checked) = checking.finish() else {
+                return Err(Stop::Memory);
             };
+            return Ok(checked);
         }
-        match checking.take(&buf[..count]) {
-            Ok(Checked::Lawful) => {}
-            Ok(stopped) => return Ok(stopped),
-            Err(_) => return Err(Stop::Memory),
+        let Ok(checked) = checking.take(&buf[..count]) else {
+            return Err(Stop::Memory);
+        };
+        match checked {
+            Checked::Lawful => {}
+            stopped => return Ok(stopped),
         }
     }
 }
