@@ -3,4 +3,4 @@ pub mod Cuts
 pub mod Pieces
 pub mod Walks
 pub mod GoingOn
-pub mod Endings
+pub mod Readings

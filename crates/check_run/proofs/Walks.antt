@@ -159,9 +159,9 @@ line_decides checked old new part decided other takes is read was more =
     let line = strip_carriage_return pending in
     let lines = lines_in was.done in
     let e : lines_of ((read ++ (part ++ 10 ∷ [])) ++ more) ≡ (lines ++ line ∷ []) ++ lines_of more =
-        ap (λ t. lines_of (t ++ more)) (sym (append_assoc read part (10 ∷ [])))
-        ∙ (lines_then (read ++ part) was.done pending more (cut_part_more read was.done old.pending part other was.cut)
-        ∙ sym (append_assoc lines (line ∷ []) (lines_of more))) in
+    ap (λ t. lines_of (t ++ more)) (sym (append_assoc read part (10 ∷ [])))
+    ∙ (lines_then (read ++ part) was.done pending more (cut_part_more read was.done old.pending part other was.cut)
+    ∙ sym (append_assoc lines (line ∷ []) (lines_of more))) in
     subst (λ (ls : List (List ℕ)). IsChecked ls checked) (sym e)
     (checked_still (lines ++ line ∷ []) (lines_of more) checked decided (said_of (lines ++ line ∷ []) new.walk checked (takes lines was.after) is))
 

@@ -1,6 +1,6 @@
 use Rattle.std.proofs.Common.{◌≡◌, ◌<◌, ◌≤◌, take, length, arith, length-take, subst}
 use Rattle.check_run.specs.Stages.{stage}
-use Rattle.check_run.proofs.Endings.{progress_more, comes_nearer, judged_all, judged_early}
+use Rattle.check_run.proofs.Readings.{progress_more, comes_nearer, judged_all, judged_early}
 use Rattle.check_run.proofs.judging.judge.Goals as goal
 
 pub returns-then-count-eq0-clause-judged : goal.returns-then-count-eq0-clause-judged

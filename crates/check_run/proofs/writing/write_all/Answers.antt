@@ -15,7 +15,7 @@ loop-at-preserved g c =
     record {
       taken = rw (take-add at count text) (appends_then _ _ _ _ _ c.loop-at.invariant.taken (subst (λ (xs : List ℕ). Appends (g.K.Sink.taken c.loop-at.sink) (g.K.Sink.taken c.write.new.self) (take count xs)) whole c.in_ok-at.ensures.bytes));
       later = omega (arith, c.loop-at.invariant.later, c.write.ensures.cause.later);
-      within = omega (arith, bound, whole, ap length whole, length-drop {A = ℕ});
+      within = omega (arith, bound, ap length whole, length-drop {A = ℕ});
     }
 
 pub returns-in_err-at-clause-front : goal.returns-in_err-at-clause-front

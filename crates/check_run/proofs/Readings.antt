@@ -1,4 +1,4 @@
--- How a run ends.
+-- The text of a source, read in pieces.
 use Rattle.std.proofs.Common.{◌≡◌, ◌⊎◌, ⊎_elim, IfSome, ℕ, ◌+◌, ◌-◌, ◌*◌, ◌<◌, ◌^◌, List, [], ◌++◌, Option, Some, None, refl, sym, ap, ◌∙◌, inl, inr, subst, take, length, arith}
 use Rattle.std.proofs.lemmas.List.{append-nil}
 use Rattle.std.specs.Io.KnownBytes.{Appends, Consumes, IsAtEnd}
@@ -64,36 +64,3 @@ pub judged_early : (checked : Checked) (left0 left next : Option (List ℕ)) (ol
 judged_early Lawful left0 left next old new piece not_lawful p c g = absurd (not_lawful refl)
 judged_early (Broken n rule) left0 left next old new piece not_lawful p c g = decided (Broken n rule) left0 left next old piece p c g
 judged_early (NotAJournal n) left0 left next old new piece not_lawful p c g = decided (NotAJournal n) left0 left next old piece p c g
-
--- ---- what was written
-
-took_by : (left0 before now : Option (List ℕ)) (bytes : List ℕ) (Q : List ℕ → Type 0) (P : List ℕ → List ℕ → Type 0) → IfSome left0 Q → Appends before now bytes → ((text : List ℕ) → Q text → P text bytes) → Took left0 before now P
-took_by None before now bytes Q P q a f = tt
-took_by (Some text) None now bytes Q P q a f = tt
-took_by (Some text) (Some before) None bytes Q P q a f = absurd a
-took_by (Some text) (Some before) (Some now) bytes Q P q a f = (bytes, a, f text q)
-
-pub took_answer : (left0 before now : Option (List ℕ)) (checked : Checked) (ending : Ending) → IfSome left0 (λ text. IsChecked (lines_of text) checked) → (ending ≡ ending_of checked) × Appends before now (answer_text checked) → Took left0 before now (λ text bytes. Judges text bytes ending)
-took_answer left0 before now checked ending is w =
-    took_by left0 before now (answer_text checked) (λ text. IsChecked (lines_of text) checked) (λ text bytes. Judges text bytes ending) is w.1
-    (λ text said. record { checked = checked; is = said; written = refl; ends = w.0 })
-
-pub took_front : (left0 before now : Option (List ℕ)) (checked : Checked) → IfSome left0 (λ text. IsChecked (lines_of text) checked) → Writes before now (IsFrontOf (answer_text checked)) → Took left0 before now IsFrontOfAnswer
-took_front left0 before now checked is w =
-    took_by left0 before now w.0 (λ text. IsChecked (lines_of text) checked) IsFrontOfAnswer is w.1
-    (λ text said. record { checked = checked; is = said; front = w.2 })
-
--- how a run ends where nothing failed
-pub by_causes : (ending : Ending) (A B : Type 0) → (ending ≡ endings.ReadFault → A) → (ending ≡ endings.WriteFault → B) → (A → ⊥) → (B → ⊥) → IsAnswer ending ⊎ (ending ≡ endings.Memory)
-by_causes endings.Lawful A B f g a b = inl tt
-by_causes endings.Broken A B f g a b = inl tt
-by_causes endings.Refused A B f g a b = inl tt
-by_causes endings.ReadFault A B f g a b = absurd (a (f refl))
-by_causes endings.WriteFault A B f g a b = absurd (b (g refl))
-by_causes endings.Memory A B f g a b = inr refl
-
--- only a text that is lawful gives this ending
-pub lawful_by : (checked : Checked) (ending : Ending) → (IsAnswer ending → ending ≡ ending_of checked) → ending ≡ endings.Lawful → checked ≡ Lawful
-lawful_by Lawful ending f is = refl
-lawful_by (Broken n rule) ending f is = absurd (let e = f (subst IsAnswer (sym is) tt) in cc)
-lawful_by (NotAJournal n) ending f is = absurd (let e = f (subst IsAnswer (sym is) tt) in cc)
