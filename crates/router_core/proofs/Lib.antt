@@ -12,3 +12,5 @@ pub mod UnitLemmas
 pub mod TurnLemmas
 pub mod TaskLemmas
 pub mod DrainLemmas
+pub mod FeedLemmas
+pub mod LossLemmas

@@ -6,6 +6,7 @@ mod lookups;
 mod network;
 mod peers;
 mod router;
+mod sessions;
 mod turns;
 mod updates;
 
