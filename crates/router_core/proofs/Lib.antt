@@ -1,4 +1,5 @@
 mod ChainLookups
+mod PeerLemmas
 mod SessionLemmas
 mod ShownRows
 mod UpdateLemmas
