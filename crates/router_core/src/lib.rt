@@ -11,3 +11,6 @@ mod updates;
 
 pub use laws::{declarations_follow, sessions_end};
 pub use router::{Core, Done, Idle, Phase};
+
+#[cfg(test)]
+mod tests;
