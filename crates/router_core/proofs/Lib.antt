@@ -1,4 +1,5 @@
 mod ChainLookups
+mod PeerLemmas
 mod SessionLemmas
 mod ShownRows
 mod UpdateLemmas
@@ -14,3 +15,4 @@ pub mod TaskLemmas
 pub mod DrainLemmas
 pub mod FeedLemmas
 pub mod LossLemmas
+pub mod StepLemmas

@@ -1,6 +1,5 @@
 -- What the router's own calls make of chains and moments, with what they keep.
-use Rattle.std.specs.Prelude.{◌≡◌, ℕ, ◌+◌, ◌≤◌, ◌<◌, ◌⊎◌, length, slice_index_or, Bool, true, false, List, [], ◌∷◌, ◌++◌, Option, Some, None}
-use Rattle.std.specs.List.{AllByRecursion}
+use Rattle.std.specs.Prelude.{◌≡◌, ℕ, ◌+◌, ◌≤◌, ◌<◌, ◌⊎◌, length, slice_index_or, Bool, true, false, List, Option, Some, None}
 use Rattle.addr4.specs.Prefixes.{Network}
 use Rattle.bgp_attr.specs.declared.attrs.Attrs.{Attrs}
 use Rattle.link_change.specs.Changes.{IsSent}
@@ -22,11 +21,14 @@ use Rattle.in_chain.specs.Falls.{Falls, LeadsChain, way_down}
 use Rattle.in_chain.specs.Steps.{fed, welded, lost, loss_entries, overdue_of, table_of, Sweeps}
 use Rattle.router_core.specs.declared.router.Done.{Done}
 use Rattle.router_core.specs.declared.router.Done.TheVariants.{Nothing, Taken}
-use Rattle.router_core.specs.Moments.{Moment, chain_at, put_chain, with_chain, router_links, rows_in, Gives}
-use Rattle.router_core.specs.Lives.{LiveState, live_state, with_routes, routes_after, ended}
+use Rattle.router_core.specs.Moments.{Moment, chain_at, put_chain, with_chain, router_links, rows_in, bound_of, Gives}
+use Rattle.router_core.specs.Lives.{LiveState, live_state, with_routes, routes_after, heard, ended}
 use Rattle.router_core.specs.Stands.{Stands, IsSettled}
 use Rattle.router_core.specs.Turns.{journal_lines, fall_lines, FeedsAll, IsTurn, Turns, Drains, DrainsAll, has_table, has_work, deletion_tasks}
-use Rattle.router_core.specs.Blocks.{RunsFirst, Loses, ended as ended_moment}
+use Rattle.router_core.specs.Blocks.{RunsFirst, Loses, Hears, Idles, Acts, ended as ended_moment}
+use Rattle.router_core.specs.declared.router.Idle.{Idle}
+use Rattle.event_text.specs.declared.event.Event.{Event}
+use Rattle.bgp_wire.specs.declared.message.Message.{Message}
 
 -- these lines were pushed, and this is said of them
 abbrev pub Pushes : (List Line → Type 0) → Journaled → Journaled → Type 0
@@ -191,4 +193,22 @@ pub record Ends (k s : ℕ) (m m' : Moment) (said : List Line) : Type 0 where
   pub after : m' ≡ ended_moment (with_chain m (lost s chain)) k
   pub leads : Leads (router_links m) (entries_of said) (router_links m')
   pub live : live_state m' ≡ ended (live_state m) k
+  pub stands : Stands m'
+
+-- an idle was answered by its bound and its turns
+pub record HasIdled (m : Moment) (idle : Idle) (m' : Moment) (said : List Line) : Type 0 where
+  pub idles : Idles m said idle.turns m'
+  pub bound : idle.bound ≡ bound_of m
+  pub work : IsWork m said m'
+
+-- an event was stepped, and what stands then
+pub record HasStepped (m : Moment) (event : Event) (turns : ℕ) (m' : Moment) (said : List Line) : Type 0 where
+  pub acts : Acts m event turns m' said
+  pub stands : Stands m'
+
+-- a message from peer k, which is up, was heard
+pub record HasHeard (k : ℕ) (p : DeclaredPeer) (m : Moment) (message : Message) (m' : Moment) (said : List Line) : Type 0 where
+  pub hears : Hears k p m message said m'
+  pub leads : Leads (router_links m) (entries_of said) (router_links m')
+  pub live : live_state m' ≡ heard (live_state m) k message
   pub stands : Stands m'

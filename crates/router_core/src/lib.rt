@@ -7,8 +7,12 @@ mod network;
 mod peers;
 mod router;
 mod sessions;
+mod steps;
 mod turns;
 mod updates;
 
 pub use laws::{declarations_follow, sessions_end};
 pub use router::{Core, Done, Idle, Phase};
+
+#[cfg(test)]
+mod tests;

@@ -56,11 +56,7 @@ impl Network {
     }
 
     /// A peer's session begins; `ignored` where one is up.
-    pub(crate) fn begin_session(
-        &mut self,
-        number: u32,
-        journal: &mut Journal,
-    ) -> Result<(), Memory>
+    pub(crate) fn begin_session(&mut self, number: u32, journal: &mut Journal) -> Result<(), Memory>
         requires admitted { refusal self.old.declared (events.Up number) ≡ None }
         requires stands { Stands self.old }
         ensures acts { OnOk result (Pushes (Acts self.old (events.Up number) 0 self.new) journal.old journal.new) }
