@@ -24,11 +24,13 @@ use Rattle.event_text.specs.declared.event.Event.TheVariants.{Nothing, Down, Bgp
 use Rattle.event_text.specs.declared.declared.DeclaredPeer.{DeclaredPeer}
 use Rattle.event_text.specs.Declarations.{Declaration, peer_at, refusal, refusal_at, undeclared}
 use Rattle.router_core.specs.declared.router.Idle.{Idle as Idled}
+use Rattle.router_core.specs.declared.router.Done.{Done}
+use Rattle.router_core.specs.declared.router.Done.TheVariants as done
 use Rattle.router_core.specs.Moments.{Moment, rows_in, router_links, bound_of, Gives}
 use Rattle.router_core.specs.Lives.{LiveState, live_state, changes_of, Says, HearsFrom, HearsIfUp, ended_if_up, heard, ended}
 use Rattle.router_core.specs.Stands.{Stands}
 use Rattle.router_core.specs.Blocks.{ByPeer, EndsIf, HearsIf, Hears, Notifies, Idles, Works, Acts}
-use Rattle.router_core.specs.Works.{Pushes, IsWork, AreTurns, HaveDrained, HaveFed, HasLost, HasHeard, HasIdled, HasStepped, IsSession}
+use Rattle.router_core.specs.Works.{Pushes, Comes, IsWork, AreTurns, HaveDrained, HaveFed, HasLost, HasHeard, HasIdled, HasStepped, IsSession}
 use Rattle.router_core.proofs.TurnLemmas.{flushed_join, flushed_none, leads_join}
 
 -- ---- a declared peer
@@ -196,3 +198,11 @@ worked m m' task most turns before j j2 now g last is = (
 
 pub nothing_stepped : (m : Moment) (before now : Journaled) → Stands m → now ≡ flushed before → Gives (HasStepped m Nothing 0 m) before now
 nothing_stepped m before now stands is = ([], is ∙ flushed_none before, record { acts = record { block = (refl, refl, refl); leads = same_links m; live = refl }; stands = stands })
+
+-- ---- what the router's calls say
+pub acts_of : (m : Moment) (event : Event) (turns : ℕ) (m' : Moment) (before now : Journaled) → Gives (HasStepped m event turns m') before now → Gives (Acts m event turns m') before now
+acts_of m event turns m' before now g = (g.0, g.1, g.2.acts)
+
+pub comes_stands : (task : Task) (m m' : Moment) (before now : Journaled) (done : Done) → Stands m → Comes task m m' before now done → Stands m'
+comes_stands task m m' before now done.Nothing stands c = subst Stands (sym c.1) stands
+comes_stands task m m' before now done.Taken stands c = c.2.work.stands

@@ -10,6 +10,7 @@ ghost use Rattle.router_core.specs.Stands.{Stands};
 ghost use Rattle.router_core.specs.Turns.{has_work};
 ghost use Rattle.router_core.specs.Blocks.{Acts};
 ghost use Rattle.router_core.specs.Lookups.{IsCountOf};
+ghost use Rattle.router_core.specs.Works.{Comes, HaveDrained, HasIdled};
 
 use crate::network::Network;
 use addr4::Memory;
@@ -118,7 +119,73 @@ impl Core {
         ensures memory { OnErr result (self.new.failed ≡ true) }
         ensures stays { self.old.failed ≡ true → IsErr result }
     {
+        if self.failed {
+            return Err(Memory);
+        }
         self.failed = true;
-        Err(Memory)
+        let turns = self.network.step(event, journal)?;
+        self.events += 1;
+        self.failed = false;
+        Ok(turns)
+    }
+
+    /// One turn of a task, and the text of its lines. [`Done::Nothing`] comes exactly where the task has no work; then
+    /// nothing changes. What is live stays.
+    pub fn unit(&mut self, task: Task, journal: &mut Journal) -> Result<Done, Memory>
+        requires stands { self.old.failed ≡ false → Stands self.old.moment }
+        ensures comes { IfOk result (Comes task self.old.moment self.new.moment journal.old journal.new) }
+        ensures stands { OnOk result (Stands self.new.moment) }
+        ensures events { OnOk result (self.new.events ≡ self.old.events) }
+        ensures good { OnOk result (self.new.failed ≡ false) }
+        ensures memory { OnErr result (self.new.failed ≡ true) }
+        ensures stays { self.old.failed ≡ true → IsErr result }
+    {
+        if self.failed {
+            return Err(Memory);
+        }
+        self.failed = true;
+        let done = self.network.turn(task, journal)?;
+        self.failed = false;
+        Ok(done)
+    }
+
+    /// A phase of an idle: each of its tasks runs to its end. Answers how many turns that took.
+    pub fn drain(&mut self, phase: Phase, journal: &mut Journal) -> Result<u128, Memory>
+        requires stands { self.old.failed ≡ false → Stands self.old.moment }
+        ensures drained { IfOk result (λ turns. Gives (HaveDrained self.old.moment turns self.new.moment) journal.old journal.new) }
+        ensures stands { OnOk result (Stands self.new.moment) }
+        ensures events { OnOk result (self.new.events ≡ self.old.events) }
+        ensures good { OnOk result (self.new.failed ≡ false) }
+        ensures memory { OnErr result (self.new.failed ≡ true) }
+        ensures stays { self.old.failed ≡ true → IsErr result }
+    {
+        if self.failed {
+            return Err(Memory);
+        }
+        self.failed = true;
+        let turns = match phase {
+            Phase::Del => self.network.drain_all(journal)?,
+        };
+        self.failed = false;
+        Ok(turns)
+    }
+
+    /// Every task runs to its end, within the number of turns that is announced first. Answers both.
+    pub fn idle(&mut self, journal: &mut Journal) -> Result<Idle, Memory>
+        requires stands { self.old.failed ≡ false → Stands self.old.moment }
+        ensures idled { IfOk result (λ idle. Gives (HasIdled self.old.moment idle self.new.moment) journal.old journal.new) }
+        ensures stands { OnOk result (Stands self.new.moment) }
+        ensures events { OnOk result (self.new.events ≡ self.old.events) }
+        ensures good { OnOk result (self.new.failed ≡ false) }
+        ensures memory { OnErr result (self.new.failed ≡ true) }
+        ensures stays { self.old.failed ≡ true → IsErr result }
+    {
+        if self.failed {
+            return Err(Memory);
+        }
+        self.failed = true;
+        let idle = self.network.idle(journal)?;
+        self.failed = false;
+        Ok(idle)
     }
 }
