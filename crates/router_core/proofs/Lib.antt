@@ -9,3 +9,11 @@ pub mod LinkLemmas
 pub mod WorkLemmas
 pub mod RowCounts
 pub mod StandLemmas
+pub mod PlaceLemmas
+pub mod UnitLemmas
+pub mod TurnLemmas
+pub mod TaskLemmas
+pub mod DrainLemmas
+pub mod FeedLemmas
+pub mod LossLemmas
+pub mod StepLemmas

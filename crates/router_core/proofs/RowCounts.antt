@@ -15,7 +15,7 @@ use Rattle.router_core.specs.Moments.{chain_at, put_one, put_chain, rows_in}
 use Rattle.router_core.specs.Stands.{AreInOrder}
 use Rattle.router_core.proofs.ChainLemmas.{equal_by, same_by, other_by, number_at, chain_here, chain_past, put_one_here, put_one_past, put_none}
 
-abbrev is_full : Lost Attrs → Bool
+abbrev pub is_full : Lost Attrs → Bool
 is_full d = not (is_empty_map d.rows)
 
 pub one_row_less : (t : FinMap prefix_cmp Attrs) (p : Network) (a : Attrs) → tables.get t p ≡ Some a → tables.len (tables.remove t p) + 1 ≡ tables.len t

@@ -6,6 +6,8 @@ mod lookups;
 mod network;
 mod peers;
 mod router;
+mod sessions;
+mod steps;
 mod turns;
 mod updates;
 

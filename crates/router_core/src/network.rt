@@ -1,8 +1,9 @@
 //! What was declared, and the peers' chains.
 
-ghost use Rattle.std.specs.Prelude.{◌≡◌};
-ghost use Rattle.router_core.specs.Moments.{first_moment};
+ghost use Rattle.std.specs.Prelude.{◌≡◌, ◌+◌, ◌*◌, IfOk};
+ghost use Rattle.router_core.specs.Moments.{first_moment, rows_in, bound_of};
 
+use addr4::Memory;
 use event_text::Declared;
 use in_chain::Chain;
 use std::alloc::Global;
@@ -42,4 +43,53 @@ impl Network {
             chains: Vec::new(alloc),
         }
     }
+
+    /// How many rows all `in.K` have.
+    pub(crate) fn rows(&self) -> Result<u128, Memory>
+        ensures { IfOk result (λ rows. rows ≡ rows_in self.now.chains) }
+    {
+        let rows = count_rows(self.chains.as_slice())?;
+        Ok(rows)
+    }
+
+    /// How many turns an idle takes at most.
+    pub(crate) fn bound(&self) -> Result<u128, Memory>
+        ensures { IfOk result (λ bound. bound ≡ bound_of self.now) }
+    {
+        let peers = plus(self.declared.peers().len() as u128, 2)?;
+        let rows = count_rows(self.chains.as_slice())?;
+        let bound = times(peers, plus(times(9, rows)?, 6)?)?;
+        Ok(bound)
+    }
+}
+
+/// The sum, which counts rows: no memory has so many that a u128 doesn't count them.
+fn plus(a: u128, b: u128) -> Result<u128, Memory>
+    ensures { IfOk result (λ sum. sum ≡ a + b) }
+{
+    match a.checked_add(b) {
+        Some(sum) => Ok(sum),
+        None => Err(Memory),
+    }
+}
+
+/// The product, likewise.
+fn times(a: u128, b: u128) -> Result<u128, Memory>
+    ensures { IfOk result (λ product. product ≡ a * b) }
+{
+    match a.checked_mul(b) {
+        Some(product) => Ok(product),
+        None => Err(Memory),
+    }
+}
+
+/// How many rows these chains have together.
+fn count_rows(chains: &[Chain]) -> Result<u128, Memory>
+    ensures { IfOk result (λ rows. rows ≡ rows_in chains.now) }
+{
+    let mut rows = 0;
+    for chain in chains {
+        rows = plus(rows, chain.rows())?;
+    }
+    Ok(rows)
 }

@@ -1,0 +1,211 @@
+-- The tasks of the deletion stages, and what a turn of the first makes of them.
+use Rattle.std.proofs.Common.{◌≡◌, ℕ, ◌+◌, ◌<◌, ◌⊎◌, inl, inr, Bool, true, false, not, cond, List, [], ◌∷◌, ◌++◌, map, Option, Some, None, is_some, nat_eq, refl, sym, ap, subst, ◌∙◌, arith, append_assoc, zero, suc}
+use Rattle.std.proofs.lemmas.List.{append-nil}
+use Rattle.std.specs.List.{AllByRecursion, flat_map, filter}
+use Rattle.std.specs.FinMap as tables
+use Rattle.std.specs.FinMap.{FinMap}
+use Rattle.addr4.specs.Prefixes.{Network, prefix_cmp}
+use Rattle.bgp_attr.specs.declared.attrs.Attrs.{Attrs}
+use Rattle.link_change.specs.Rows.{is_empty_map}
+use Rattle.deletion_stage.specs.Lost.{Lost}
+use Rattle.journal_text.specs.declared.link.Task.{Task}
+use Rattle.journal_text.specs.declared.link.Task.TheVariants.{Del}
+use Rattle.journal_text.specs.declared.line.Line.{Line}
+use Rattle.in_chain.specs.Chains.{Chained, AreRising, NoneEmpty}
+use Rattle.in_chain.specs.Steps.{without, swept_one, swept, welded, table_of, oldest_of}
+use Rattle.router_core.specs.Moments.{Moment, chain_at, put_one, put_chain, with_chain}
+use Rattle.router_core.specs.Stands.{AreInOrder, Stands, IsSettled}
+use Rattle.router_core.specs.Turns.{IsTurn, Turns, Drains, DrainsAll, Deletes, chain_tasks, deletion_tasks, has_table, has_work}
+use Rattle.router_core.specs.Works.{first_task}
+use Rattle.router_core.proofs.ChainLemmas.{equal_by, same_by, other_by, number_at, chain_here, chain_past, put_one_here, put_one_past, put_none, none_below, chain_at_put_same}
+use Rattle.router_core.proofs.RowCounts.{is_full, later_stay}
+use Rattle.router_core.proofs.StandLemmas.{sound_at}
+
+abbrev tasks_of : List Chained → List Task
+tasks_of cs = flat_map chain_tasks cs
+
+-- The first task is the lowest stage's of this chain, and stages and chains behind it have the others.
+record Heads (cs : List Chained) (k s : ℕ) (rest : List Task) : Type 0 where
+  chain : Chained
+  at : chain_at k cs ≡ Some chain
+  lowest : Lost Attrs
+  above : List (Lost Attrs)
+  stages : chain.deletions ≡ lowest ∷ above
+  session : lowest.number ≡ s
+  others : List Task
+  rest_is : rest ≡ map (λ d. Del k d.number) above ++ others
+  puts : (c' : Chained) → c'.number ≡ k → tasks_of (put_chain c' cs) ≡ chain_tasks c' ++ others
+
+same_del : (a b c d : ℕ) (xs ys : List Task) → (Del a b ∷ xs) ≡ (Del c d ∷ ys) → (a ≡ c) × (b ≡ d) × (xs ≡ ys)
+same_del a b c d xs ys e = (cc, cc, cc)
+
+both : {A : Type 0} {x y : A} {xs ys : List A} → x ≡ y → xs ≡ ys → (x ∷ xs) ≡ (y ∷ ys)
+both p q i = p i ∷ q i
+
+tasks_by : (d : Chained) (ds : List Chained) (x : List (Lost Attrs)) → d.deletions ≡ x → tasks_of (d ∷ ds) ≡ map (λ e. Del d.number e.number) x ++ tasks_of ds
+tasks_by d ds x is = ap (λ (l : List (Lost Attrs)). map (λ e. Del d.number e.number) l ++ tasks_of ds) is
+
+heads : (cs : List Chained) (k s : ℕ) (rest : List Task) → AreInOrder cs → tasks_of cs ≡ Del k s ∷ rest → Heads cs k s rest
+heads [] k s rest order e = absurd (cc)
+heads (d ∷ ds) k s rest order e = by_stages d.deletions refl (λ there. heads ds k s rest order.1 there)
+  where
+    past : Heads ds k s rest → nat_eq d.number k ≡ false
+    past h = other_by d.number k (λ same. let none : chain_at k ds ≡ None = none_below k d.number ds (sym same) order.0 in let at = h.at in absurd (cc))
+
+    skip : d.deletions ≡ [] → Heads ds k s rest → Heads (d ∷ ds) k s rest
+    skip none h = record {
+      chain = h.chain;
+      at = chain_past k d ds (past h) ∙ h.at;
+      lowest = h.lowest;
+      above = h.above;
+      stages = h.stages;
+      session = h.session;
+      others = h.others;
+      rest_is = h.rest_is;
+      puts = λ c' number. ap (λ (x : Chained). tasks_of (x ∷ put_chain c' ds)) (put_one_past c' d (ap (nat_eq d.number) number ∙ past h)) ∙ tasks_by d (put_chain c' ds) [] none ∙ h.puts c' number;
+    }
+
+    here : (x : Lost Attrs) (xs : List (Lost Attrs)) → d.deletions ≡ x ∷ xs → Heads (d ∷ ds) k s rest
+    here x xs is =
+        let same = same_del d.number x.number k s (map (λ e. Del d.number e.number) xs ++ tasks_of ds) rest (sym (tasks_by d ds (x ∷ xs) is) ∙ e) in
+        record {
+          chain = d;
+          at = chain_here k d ds (same_by d.number k same.0);
+          lowest = x;
+          above = xs;
+          stages = is;
+          session = same.1;
+          others = tasks_of ds;
+          rest_is = sym same.2 ∙ ap (λ (n : ℕ). map (λ e. Del n e.number) xs ++ tasks_of ds) same.0;
+          puts = λ c' number. ap tasks_of (both (put_one_here c' d (same_by d.number c'.number (same.0 ∙ sym number))) (put_none c' d.number ds (number ∙ sym same.0) order.0));
+        }
+
+    by_stages : (x : List (Lost Attrs)) → d.deletions ≡ x → (tasks_of ds ≡ Del k s ∷ rest → Heads ds k s rest) → Heads (d ∷ ds) k s rest
+    by_stages [] is there = skip is (there (sym (tasks_by d ds [] is) ∙ e))
+    by_stages (x ∷ xs) is there = here x xs is
+
+-- ---- the first task has work
+table_here : (s : ℕ) (d : Lost Attrs) (ds : List (Lost Attrs)) → d.number ≡ s → table_of s (d ∷ ds) ≡ Some d.rows
+table_here s d ds same = ap (λ (b : Bool). cond b (Some d.rows) (table_of s ds)) (same_by d.number s same)
+
+heads_work : (m : Moment) (k s : ℕ) (rest : List Task) → Heads m.chains k s rest → has_work (Del k s) m ≡ true
+heads_work m k s rest h = ap (has_table s) h.at ∙ ap (λ (ds : List (Lost Attrs)). is_some (table_of s ds)) h.stages ∙ ap (λ (t : Option (FinMap prefix_cmp Attrs)). is_some t) (table_here s h.lowest h.above h.session)
+
+pub first_has_work : (m : Moment) (task : Task) (rest : List Task) → Stands m → deletion_tasks m ≡ task ∷ rest → has_work task m ≡ true
+first_has_work m (Del k s) rest stands e = heads_work m k s rest (heads m.chains k s rest stands.order e)
+
+-- ---- a turn of the first task
+full_stay : (ds : List (Lost Attrs)) → NoneEmpty ds → filter is_full ds ≡ ds
+full_stay [] full = refl
+full_stay (d ∷ ds) full = ap (λ (b : Bool). cond (not b) (d ∷ filter is_full ds) (filter is_full ds)) full.0 ∙ ap (λ (l : List (Lost Attrs)). d ∷ l) (full_stay ds full.1)
+
+none_later : (s : ℕ) (ds : List (Lost Attrs)) → AllByRecursion (λ later. s < later.number) ds → table_of s ds ≡ None
+none_later s [] all = refl
+none_later s (d ∷ ds) all = ap (λ (b : Bool). cond b (Some d.rows) (table_of s ds)) (other_by d.number s (λ same. let lt : s < d.number = all.0 in omega arith)) ∙ none_later s ds all.1
+
+swept_head : (s : ℕ) (p : Network) (d : Lost Attrs) (ds : List (Lost Attrs)) → d.number ≡ s → AllByRecursion (λ later. s < later.number) ds → NoneEmpty ds
+    → filter is_full (map (swept_one s p) (d ∷ ds)) ≡ cond (is_full (without p d)) (without p d ∷ ds) ds
+swept_head s p d ds same later full =
+    let first : swept_one s p d ≡ without p d = ap (λ (b : Bool). cond b (without p d) d) (same_by d.number s same) in
+    ap (filter is_full) (both first (later_stay s p ds later)) ∙ ap (λ (l : List (Lost Attrs)). cond (is_full (without p d)) (without p d ∷ l) l) (full_stay ds full)
+
+-- the task is still the first, or it has no work left
+abbrev pub Follows : Moment → Task → List Task → Type 0
+Follows m task rest = (deletion_tasks m ≡ task ∷ rest) ⊎ ((deletion_tasks m ≡ rest) × (has_work task m ≡ false))
+
+one_chain : (a b : Chained) → Some a ≡ Some b → a ≡ b
+one_chain a b e = cc
+
+pub first_turn : (m m' : Moment) (task : Task) (rest : List Task) (said : List Line) → Stands m → deletion_tasks m ≡ task ∷ rest → IsTurn task m said m' → Follows m' task rest
+first_turn m m' (Del k s) rest said stands e t = subst (λ (x : Moment). Follows x (Del k s) rest) (sym (t.after ∙ ap (λ (x : Chained). with_chain m (welded x)) (t.sweeps.after ∙ ap (swept s t.sweeps.prefix) same))) by_full
+  where
+    h : Heads m.chains k s rest
+    h = heads m.chains k s rest stands.order e
+
+    same : t.chain ≡ h.chain
+    same = one_chain t.chain h.chain (sym t.at ∙ h.at)
+
+    c' : Chained
+    c' = welded (swept s t.sweeps.prefix h.chain)
+
+    number : c'.number ≡ k
+    number = number_at k m.chains h.chain h.at
+
+    later : AllByRecursion (λ x. s < x.number) h.above
+    later = subst (λ (n : ℕ). AllByRecursion (λ x. n < x.number) h.above) h.session (subst AreRising h.stages (sound_at m stands k h.chain h.at).0.rising).0
+
+    full : NoneEmpty h.above
+    full = (subst NoneEmpty h.stages (sound_at m stands k h.chain h.at).1).1
+
+    stages : c'.deletions ≡ cond (is_full (without t.sweeps.prefix h.lowest)) (without t.sweeps.prefix h.lowest ∷ h.above) h.above
+    stages = ap (λ (l : List (Lost Attrs)). filter is_full (map (swept_one s t.sweeps.prefix) l)) h.stages ∙ swept_head s t.sweeps.prefix h.lowest h.above h.session later full
+
+    tasks : (x : List (Lost Attrs)) → c'.deletions ≡ x → deletion_tasks (with_chain m c') ≡ map (λ d. Del k d.number) x ++ h.others
+    tasks x is = h.puts c' number ∙ ap (λ (l : List (Lost Attrs)). map (λ d. Del c'.number d.number) l ++ h.others) is ∙ ap (λ (n : ℕ). map (λ d. Del n d.number) x ++ h.others) number
+
+    by_test : (b : Bool) → is_full (without t.sweeps.prefix h.lowest) ≡ b → Follows (with_chain m c') (Del k s) rest
+    by_test true is =
+        let stays : c'.deletions ≡ without t.sweeps.prefix h.lowest ∷ h.above = stages ∙ ap (λ (b : Bool). cond b (without t.sweeps.prefix h.lowest ∷ h.above) h.above) is in
+        inl (tasks (without t.sweeps.prefix h.lowest ∷ h.above) stays ∙ both (ap (Del k) h.session) (sym h.rest_is))
+    by_test false is =
+        let gone : c'.deletions ≡ h.above = stages ∙ ap (λ (b : Bool). cond b (without t.sweeps.prefix h.lowest ∷ h.above) h.above) is in
+        inr (
+          tasks h.above gone ∙ sym h.rest_is,
+          ap (has_table s) (chain_at_put_same k m.chains h.chain c' h.at number) ∙ ap (λ (l : List (Lost Attrs)). is_some (table_of s l)) gone
+          ∙ ap (λ (o : Option (FinMap prefix_cmp Attrs)). is_some o) (none_later s h.above later),
+        )
+
+    by_full : Follows (with_chain m c') (Del k s) rest
+    by_full = by_test (is_full (without t.sweeps.prefix h.lowest)) refl
+
+-- ---- all tasks, one turn after the other
+pub drains_more : (m between m' : Moment) (task : Task) (rest : List Task) (xs ys : List Line) (n : ℕ) → IsTurn task m xs between → Follows between task rest
+    → DrainsAll (deletion_tasks between) between ys n m' → DrainsAll (task ∷ rest) m (xs ++ ys) (suc n) m'
+drains_more m between m' task rest xs ys n turn (inl same) d = by_drains (subst (λ (ts : List Task). DrainsAll ts between ys n m') same d)
+  where
+    by_drains : DrainsAll (task ∷ rest) between ys n m' → DrainsAll (task ∷ rest) m (xs ++ ys) (suc n) m'
+    by_drains d = (
+      xs ++ d.0, d.1, suc d.2, d.3, d.4,
+      ((xs, d.0, between, turn, d.5.0, refl), d.5.1),
+      d.6,
+      ap (λ (l : List Line). xs ++ l) d.7 ∙ sym (append_assoc xs d.0 d.1),
+      (let e : n ≡ d.2 + d.3 = d.8 in omega arith),
+    )
+drains_more m between m' task rest xs ys n turn (inr ended) d =
+    (xs, ys, suc zero, n, between, ((xs, [], between, turn, (refl, refl), sym (append-nil xs)), ended.1), subst (λ (ts : List Task). DrainsAll ts between ys n m') ended.0 d, refl, omega arith)
+
+-- ---- no task is left
+left_nothing : (xs ys : List Task) → xs ++ ys ≡ [] → (xs ≡ []) × (ys ≡ [])
+left_nothing [] ys e = (refl, e)
+left_nothing (x ∷ xs) ys e = absurd (cc)
+
+no_stages : (k : ℕ) (ds : List (Lost Attrs)) → map (λ d. Del k d.number) ds ≡ [] → ds ≡ []
+no_stages k [] e = refl
+no_stages k (d ∷ ds) e = absurd (cc)
+
+none_stand : (cs : List Chained) → tasks_of cs ≡ [] → AllByRecursion (λ c. c.deletions ≡ []) cs
+none_stand [] e = tt
+none_stand (c ∷ cs) e = let parts = left_nothing (chain_tasks c) (tasks_of cs) e in (no_stages c.number c.deletions parts.0, none_stand cs parts.1)
+
+pub settled : (m : Moment) → deletion_tasks m ≡ [] → IsSettled m
+settled m e = none_stand m.chains e
+
+pub no_first : (tasks : List Task) → first_task tasks ≡ None → tasks ≡ []
+no_first [] e = refl
+no_first (task ∷ tasks) e = absurd (cc)
+
+pub is_first : (tasks : List Task) (task : Task) → first_task tasks ≡ Some task → (rest : List Task) × (tasks ≡ task ∷ rest)
+is_first [] task e = absurd (cc)
+is_first (t ∷ tasks) task e = let same : t ≡ task = cc in (tasks, both same refl)
+
+-- the first task is the oldest of the first chain that has one
+abbrev or_else : Option Task → Option Task → Option Task
+or_else (Some task) other = Some task
+or_else None other = other
+
+pub first_of : (c : Chained) (cs : List Chained) → first_task (tasks_of (c ∷ cs)) ≡ or_else (oldest_of c.number c.deletions) (first_task (tasks_of cs))
+first_of c cs = by_stages c.deletions refl
+  where
+    by_stages : (x : List (Lost Attrs)) → c.deletions ≡ x → first_task (tasks_of (c ∷ cs)) ≡ or_else (oldest_of c.number c.deletions) (first_task (tasks_of cs))
+    by_stages [] is = ap first_task (tasks_by c cs [] is) ∙ sym (ap (λ (ds : List (Lost Attrs)). or_else (oldest_of c.number ds) (first_task (tasks_of cs))) is)
+    by_stages (x ∷ xs) is = ap first_task (tasks_by c cs (x ∷ xs) is) ∙ sym (ap (λ (ds : List (Lost Attrs)). or_else (oldest_of c.number ds) (first_task (tasks_of cs))) is)

@@ -1,0 +1,6 @@
+use Rattle.std.proofs.Common.{ℕ, ◌≤◌}
+use Rattle.router_core.proofs.TurnLemmas.{HaveGiven}
+use Rattle.router_core.proofs.network.Network.turns.Given as goal
+
+abbrev pub invariant-loop-taken : goal.invariant-loop-taken
+invariant-loop-taken l = HaveGiven l.task l.taken l.fn.self l.self l.fn.journal l.journal
