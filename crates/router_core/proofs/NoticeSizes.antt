@@ -7,6 +7,11 @@ use Rattle.std.proofs.lemmas.Bool.Decides.{nat_tests}
 use Rattle.addr4.specs.Prefixes.{Network}
 use Rattle.bgp_attr.specs.declared.speaker.Profile.{Profile}
 use Rattle.bgp_wire.specs.declared.notice.Notice.{Notice}
+use Rattle.bgp_wire.specs.declared.message.Message.{Message}
+use Rattle.bgp_wire.specs.declared.message.Message.TheVariants as messages
+use Rattle.bgp_wire.specs.Grammar.{Answers}
+use Rattle.router_core.specs.Lives.{plain}
+use Rattle.router_core.specs.Peers.{HasShortNotice}
 use Rattle.bgp_wire.specs.Faults.{notice, ◌>>=◌, err_of}
 use Rattle.bgp_wire.specs.Items.{items_within}
 use Rattle.bgp_wire.specs.Prefixes.{prefix_at, prefixes_at, octets_for, masked}
@@ -258,3 +263,10 @@ fault_low p bytes =
 
 pub notice_fits : (p : Profile) (bytes : List ℕ) (n : Notice) → fault p bytes ≡ Some n → length n.octets ≤ 4075
 notice_fits p bytes n e = let low : length n.octets ≤ 4073 = subst (LowFault 4073) e (fault_low p bytes) in omega arith
+
+pub message_fits : (external : Bool) (bytes : List ℕ) (m : Message) → Answers plain external bytes m → HasShortNotice m
+message_fits external bytes (messages.Notify n) answers = notice_fits plain bytes n answers
+message_fits external bytes (messages.Update u) answers = tt
+message_fits external bytes messages.Keepalive answers = tt
+message_fits external bytes messages.Skip answers = tt
+message_fits external bytes messages.Notification answers = tt
