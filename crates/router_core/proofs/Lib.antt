@@ -1,4 +1,5 @@
 mod ChainLookups
+mod NoticeSizes
 mod PeerLemmas
 mod SessionLemmas
 mod ShownRows

@@ -11,7 +11,7 @@ mod steps;
 mod turns;
 mod updates;
 
-pub use laws::{declarations_follow, sessions_end};
+pub use laws::{declarations_follow, notices_fit, sessions_end};
 pub use router::{Core, Done, Idle, Phase};
 
 #[cfg(test)]

@@ -8,7 +8,7 @@ ghost use Rattle.router_core.specs.Lives.{Says};
 ghost use Rattle.router_core.specs.Stands.{Stands};
 ghost use Rattle.router_core.specs.Blocks.{Acts};
 ghost use Rattle.router_core.specs.Lookups.{IsCountOf};
-ghost use Rattle.router_core.specs.Peers.{is_up, place_in};
+ghost use Rattle.router_core.specs.Peers.{is_up, place_in, HasShortNotice};
 ghost use Rattle.router_core.specs.Works.{Pushes};
 
 use crate::lookups;
@@ -133,7 +133,8 @@ fn place_in(chains: &[Chain], number: u32) -> usize
 
 /// What octets of a peer say (RFC 4271, section 4), or the fault that they have.
 pub(crate) fn said(alloc: Global, peer: &DeclaredPeer, octets: &[u8]) -> Result<Message, Memory>
-    ensures { IfOk result (Says peer.now octets.now) }
+    ensures says { IfOk result (Says peer.now octets.now) }
+    ensures fits { IfOk result HasShortNotice }
 {
     read_message(alloc, PLAIN, octets, !peer.words.internal)
 }
