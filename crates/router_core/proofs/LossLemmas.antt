@@ -192,7 +192,7 @@ ends_one k s m c c' said stands up free at f =
     let session : peer.0.session ≡ s = ap (λ (q : DeclaredPeer). q.session) same ∙ up.3 in
     let number : c'.number ≡ k = f.step.number ∙ number_at k m.chains c at in
     let here : PeerStands (down peer.0) c' = subst (λ (x : Chained). PeerStands (down peer.0) x) (sym f.is)
-        (lost_stands peer.0 s c is_up session peer.2 free (subst IsChain f.is f.step.chain) (subst (λ (x : Chained). NoneEmpty x.deletions) f.is f.step.full)) in
+    (lost_stands peer.0 s c is_up session peer.2 free (subst IsChain f.is f.step.chain) (subst (λ (x : Chained). NoneEmpty x.deletions) f.is f.step.full)) in
     let at_now : StandsAt (peer_at k (map (ended_at k) m.declared.peers)) (Some c') = subst (λ (o : Option DeclaredPeer). StandsAt o (Some c')) (sym (ended_same k m.declared.peers peer.0 peer.1)) here in
     record {
       chain = c;
@@ -232,7 +232,7 @@ short_filter s p (d ∷ ds) t there gone = by_test (nat_eq d.number s) refl (is_
         → length (filter is_full (map (swept_one s p) (d ∷ ds))) < length (d ∷ ds)
     by_test true e true f rest =
         let has : table_of s (filter is_full (map (swept_one s p) (d ∷ ds))) ≡ Some (swept_one s p d).rows = ap (table_of s) (list_is true f)
-            ∙ ap (λ (b : Bool). cond b (Some (swept_one s p d).rows) (table_of s (filter is_full (map (swept_one s p) ds)))) (ap (λ (n : ℕ). nat_eq n s) number ∙ e) in
+        ∙ ap (λ (b : Bool). cond b (Some (swept_one s p d).rows) (table_of s (filter is_full (map (swept_one s p) ds)))) (ap (λ (n : ℕ). nat_eq n s) number ∙ e) in
         let contra : Some (swept_one s p d).rows ≡ None = sym has ∙ gone in
         absurd (cc)
     by_test true e false f rest =
@@ -241,7 +241,7 @@ short_filter s p (d ∷ ds) t there gone = by_test (nat_eq d.number s) refl (is_
         omega arith
     by_test false e true f rest =
         let skip : table_of s (filter is_full (map (swept_one s p) (d ∷ ds))) ≡ table_of s (filter is_full (map (swept_one s p) ds)) = ap (table_of s) (list_is true f)
-            ∙ ap (λ (b : Bool). cond b (Some (swept_one s p d).rows) (table_of s (filter is_full (map (swept_one s p) ds)))) (ap (λ (n : ℕ). nat_eq n s) number ∙ e) in
+        ∙ ap (λ (b : Bool). cond b (Some (swept_one s p d).rows) (table_of s (filter is_full (map (swept_one s p) ds)))) (ap (λ (n : ℕ). nat_eq n s) number ∙ e) in
         let r = rest (sym (ap (λ (b : Bool). cond b (Some d.rows) (table_of s ds)) e) ∙ there) (sym skip ∙ gone) in
         let n : length (filter is_full (map (swept_one s p) (d ∷ ds))) ≡ suc (length (filter is_full (map (swept_one s p) ds))) = ap length (list_is true f) in
         omega arith

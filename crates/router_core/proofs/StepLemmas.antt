@@ -164,7 +164,7 @@ pub idled : (m m' : Moment) (bound turns : ℕ) (before j j2 j3 now : Journaled)
 idled m m' bound turns before j j2 j3 now same first g last is = (
   lines.Bound bound ∷ (g.0 ++ lines.Idle turns ∷ []),
   is ∙ ap flushed last ∙ ap (λ (x : Journaled). flushed (with_lines x (lines.Idle turns ∷ []))) g.1 ∙ flushed_join j g.0 (lines.Idle turns ∷ [])
-  ∙ ap (λ (x : Journaled). flushed (with_lines x (g.0 ++ lines.Idle turns ∷ []))) first ∙ ap flushed (with_lines_append before (lines.Bound bound ∷ []) (g.0 ++ lines.Idle turns ∷ [])),
+      ∙ ap (λ (x : Journaled). flushed (with_lines x (g.0 ++ lines.Idle turns ∷ []))) first ∙ ap flushed (with_lines_append before (lines.Bound bound ∷ []) (g.0 ++ lines.Idle turns ∷ [])),
   record {
     idles = record {
       inner = g.0;

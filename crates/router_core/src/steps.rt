@@ -1,11 +1,12 @@
 //! What each event does.
 
-ghost use Rattle.std.specs.Prelude.{◌≡◌, OnOk, IfOk, IsSome, Some, None, true};
+ghost use Rattle.std.specs.Prelude.{◌≡◌, ◌≤◌, length, OnOk, IfOk, IsSome, Some, None, true};
 ghost use Rattle.event_text.specs.declared.event.Event.TheVariants as events;
 ghost use Rattle.event_text.specs.Declarations.{peer_at, refusal};
 ghost use Rattle.bgp_wire.specs.Spelling.{notification_octets};
 ghost use Rattle.router_core.specs.Moments.{Gives};
 ghost use Rattle.router_core.specs.Lives.{Says};
+ghost use Rattle.router_core.specs.Peers.{HasShortNotice};
 ghost use Rattle.router_core.specs.Stands.{Stands};
 ghost use Rattle.router_core.specs.Works.{HasStepped, HasIdled, HasHeard, IsSession};
 
@@ -19,9 +20,6 @@ use bgp_wire::{Message, Notice, write_notification};
 use event_text::{DeclaredPeer, Event};
 use journal_text::{Journal, Line, Task};
 use std::alloc::Global;
-
-/// How many octets of data a NOTIFICATION has at most (RFC 4271, sections 4.1 and 4.5).
-const MOST_DATA: usize = 4075;
 
 impl Network {
     /// Steps an event, and makes the text of its lines. Answers how many turns `work` or `idle` took.
@@ -127,6 +125,7 @@ impl Network {
         requires stands { Stands self.old }
         requires there { peer_at number self.old.declared.peers ≡ Some peer }
         requires up { peer.up ≡ true }
+        requires short { HasShortNotice message }
         ensures { OnOk result (Gives (HasHeard number peer self.old message self.new) journal.old journal.new) }
     {
         match message {
@@ -182,13 +181,11 @@ impl Network {
     }
 }
 
-/// The octets of the NOTIFICATION that answers a fault. Its data is a part of a message, and so is short enough.
+/// The octets of the NOTIFICATION that answers a fault (RFC 4271, section 4.5).
 fn spelled(alloc: Global, notice: Notice) -> Result<Octets, Memory>
+    requires { length notice.octets ≤ 4075 }
     ensures { IfOk result (λ octets. octets ≡ notification_octets notice.code notice.subcode notice.octets) }
 {
-    if notice.octets.as_slice().len() > MOST_DATA {
-        return Err(Memory);
-    }
     let octets = write_notification(alloc, notice.code, notice.subcode, notice.octets.as_slice())?;
     Ok(Octets::from_vec(octets))
 }

@@ -78,12 +78,7 @@ impl Network {
         }
     }
 
-    fn turn_del(
-        &mut self,
-        number: u32,
-        session: u32,
-        journal: &mut Journal,
-    ) -> Result<Done, Memory>
+    fn turn_del(&mut self, number: u32, session: u32, journal: &mut Journal) -> Result<Done, Memory>
         requires { Stands self.old }
         ensures { IfOk result (Comes (tasks.Del number session) self.old self.new journal.old journal.new) }
     {

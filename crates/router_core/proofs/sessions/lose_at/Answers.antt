@@ -17,4 +17,4 @@ returns c =
     loses_placed c.args.number c.args.session c.args.chains.now.items c.in-Some.i c.index_mut.result.now c.lose.new.self c.args.journal.now c.lose.new.journal
     c.requires.order place c.index_mut.ensures.value
     (loses_chain c.args.session c.index_mut.result.now c.lose.new.self c.args.journal.now c.lose.new.journal c.in_ok-lose.ensures.after c.in_ok-lose.ensures.lines c.in_ok-lose.ensures.leads
-     c.in_ok-lose.ensures.chain c.in_ok-lose.ensures.full)
+    c.in_ok-lose.ensures.chain c.in_ok-lose.ensures.full)

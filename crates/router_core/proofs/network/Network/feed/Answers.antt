@@ -11,4 +11,4 @@ loop-change-preserved c =
     let more = take_pair c.args.changes.now c.loop-change.change-index c.change-item.result c.in_ok-row.row c.loop-change-test.true c.change-item.is c.in_ok-row.ensures in
     subst (λ (xs : List (Network × Option Attrs)). Pushes (HaveFed c.args.number xs c.args.self.now c.feed_one.new.self) c.args.journal.now c.feed_one.new.journal) (sym more)
     (pushed_more c.args.number (take c.loop-change.change-index c.args.changes.now) (c.change-item.result.0, c.in_ok-row.row) c.args.self.now c.loop-change.self c.feed_one.new.self
-     c.args.journal.now c.loop-change.journal c.feed_one.new.journal c.loop-change.invariant c.in_ok-feed_one.ensures)
+    c.args.journal.now c.loop-change.journal c.feed_one.new.journal c.loop-change.invariant c.in_ok-feed_one.ensures)
