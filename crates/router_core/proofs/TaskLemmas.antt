@@ -152,7 +152,7 @@ first_turn m m' (Del k s) rest said stands e t = subst (λ (x : Moment). Follows
         inr (
           tasks h.above gone ∙ sym h.rest_is,
           ap (has_table s) (chain_at_put_same k m.chains h.chain c' h.at number) ∙ ap (λ (l : List (Lost Attrs)). is_some (table_of s l)) gone
-          ∙ ap (λ (o : Option (FinMap prefix_cmp Attrs)). is_some o) (none_later s h.above later),
+              ∙ ap (λ (o : Option (FinMap prefix_cmp Attrs)). is_some o) (none_later s h.above later),
         )
 
     by_full : Follows (with_chain m c') (Del k s) rest
@@ -165,7 +165,11 @@ drains_more m between m' task rest xs ys n turn (inl same) d = by_drains (subst 
   where
     by_drains : DrainsAll (task ∷ rest) between ys n m' → DrainsAll (task ∷ rest) m (xs ++ ys) (suc n) m'
     by_drains d = (
-      xs ++ d.0, d.1, suc d.2, d.3, d.4,
+      xs ++ d.0,
+      d.1,
+      suc d.2,
+      d.3,
+      d.4,
       ((xs, d.0, between, turn, d.5.0, refl), d.5.1),
       d.6,
       ap (λ (l : List Line). xs ++ l) d.7 ∙ sym (append_assoc xs d.0 d.1),

@@ -69,7 +69,7 @@ unit_done k s m c c' said stands at d =
     let same : c'.live ≡ c.live = ap (λ (x : Chained). x.live) is in
     let deletes : Deletes k s m said (with_chain m c') = record { chain = c; at = at; less = d.less; sent = d.sent; entries = d.entries; sweeps = d.sweeps; lines = d.lines; after = ap (with_chain m) d.after } in
     let here : PeerStands p.0 c' = peer_left p.0 c c' (swept_one s d.sweeps.prefix) is_full (swept_number s d.sweeps.prefix) (ap (λ (x : Chained). x.deletions) is) d.step.chain d.step.full
-        (silent_as p.0.up c c' same p.2.silent) p.2 in
+    (silent_as p.0.up c c' same p.2.silent) p.2 in
     record {
       turn = deletes;
       work = record {

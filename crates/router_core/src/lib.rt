@@ -6,8 +6,13 @@ mod lookups;
 mod network;
 mod peers;
 mod router;
+mod sessions;
+mod steps;
 mod turns;
 mod updates;
 
-pub use laws::{declarations_follow, sessions_end};
+pub use laws::{declarations_follow, notices_fit, sessions_end};
 pub use router::{Core, Done, Idle, Phase};
+
+#[cfg(test)]
+mod tests;
