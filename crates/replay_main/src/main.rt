@@ -15,6 +15,7 @@ use std::process::ExitCode;
 fn code(status: Status) -> u8 {
     match status {
         Status::Ok => 0,
+        Status::Broken => 1,
         Status::Usage => 2,
         Status::Refused => 3,
         Status::ReadFault => 4,
