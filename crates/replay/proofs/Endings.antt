@@ -3,17 +3,21 @@ use Rattle.std.proofs.Common.{◌≡◌, ◌≢◌, ◌⊎◌, ⊎_elim, IfSome,
 use Rattle.std.proofs.lemmas.List.{append-nil}
 use Rattle.std.proofs.Math.Seq.{take-append_seam, take-length}
 use Rattle.std.specs.Io.KnownBytes.{Appends, Consumes, IsAtEnd, Keeps}
+use Rattle.replay.specs.declared.words.Command.{Command}
+use Rattle.replay.specs.declared.words.Command.TheVariants.{Run, Check}
+use Rattle.replay.specs.Answers.{HasFirst}
 use Rattle.replay.specs.declared.status.Status.{Status}
 use Rattle.replay.specs.declared.status.Status.TheVariants as statuses
 use Rattle.router_core.specs.Moments.{Moment, first_moment}
-use Rattle.replay.specs.Lines.{lines_of, lines_in}
+use Rattle.check_run.specs.Lines.{lines_of, lines_in}
 use Rattle.replay.specs.Judging.{verdict, status_of}
 use Rattle.replay.specs.Output.{IsOutput, IsRefusedOutput, IsOutputOfFront, IsOutputOfEnded, IsFrontOfOutput}
 use Rattle.replay.specs.Stream.{HasStepped, GoesOn, IsFrontAt}
-use Rattle.replay.specs.Headline.{Took, Progress, ReadsAndWrites}
+use Rattle.check_run.specs.Runs.{Took, ReadsAndWrites}
+use Rattle.replay.specs.Headline.{Progress}
 use Rattle.replay.proofs.Runs.{verdict_accepted}
-use Rattle.replay.proofs.Pieces.{lines_behind}
-use Rattle.replay.proofs.Known.{appends_nothing, consumes_nothing, consumes_then, consumes_kept}
+use Rattle.check_run.proofs.Pieces.{lines_behind}
+use Rattle.check_run.proofs.Known.{appends_nothing, consumes_nothing, consumes_then, consumes_kept}
 
 -- however the text goes on behind what was read
 pub took_read : (left0 left taken0 taken : Option (List ℕ)) (read bytes : List ℕ) (P : List ℕ → List ℕ → Type 0) → Consumes left0 left read → Appends taken0 taken bytes → ((more : List ℕ) → P (read ++ more) bytes) → Took left0 taken0 taken P
@@ -146,3 +150,28 @@ text_decides status (Some text) b u r w d = by_cases status (status_of (verdict 
 -- the same, by what is known of the journal
 pub stepped_as : (quiet other : Bool) (read : List ℕ) (number : ℕ) (m : Moment) (pending output : List ℕ) → other ≡ quiet → HasStepped quiet read number m pending output → HasStepped other read number m pending output
 stepped_as quiet other read number m pending output e s = subst (λ (q : Bool). HasStepped q read number m pending output) (sym e) s
+
+-- no line was stepped
+first_output : (quiet : Bool) (text : List ℕ) → IsOutputOfFront quiet text []
+first_output quiet text = record {
+  count = 0;
+  output = record {
+    out = [];
+    end = first_moment;
+    run = (refl, refl);
+    lawful = record { lawful = tt; ends = refl };
+    stands = record { order = tt; peers = λ k. tt };
+    text = refl;
+  };
+}
+
+took_first : (quiet : Bool) (left taken : Option (List ℕ)) → Took left taken taken (IsOutputOfFront quiet)
+took_first quiet None taken = tt
+took_first quiet (Some text) None = tt
+took_first quiet (Some text) (Some before) = ([], sym (append-nil before), first_output quiet text)
+
+-- there was no memory for the words
+pub no_words : (command : Option Command) (left taken : Option (List ℕ)) → HasFirst command left taken taken
+no_words (Some (Run quiet)) left taken = took_first quiet left taken
+no_words (Some Check) left taken = refl
+no_words None left taken = refl

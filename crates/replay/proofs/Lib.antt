@@ -1,6 +1,4 @@
-pub mod Known
 pub mod Lines
-pub mod Cuts
 pub mod Runs
 pub mod Steps
 pub mod Pieces

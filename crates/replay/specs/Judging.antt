@@ -8,7 +8,7 @@ use Rattle.event_text.specs.Declarations.{Declaration, no_declaration, refusal}
 use Rattle.router_core.specs.Lives.{declared_after}
 use Rattle.replay.specs.declared.status.Status.{Status}
 use Rattle.replay.specs.declared.status.Status.TheVariants as statuses
-use Rattle.replay.specs.Lines.{lines_of}
+use Rattle.check_run.specs.Lines.{lines_of}
 
 -- an event in line n, by why it may not stand there
 abbrev pub placed : ℕ → Option Code → Event → Result Event Code

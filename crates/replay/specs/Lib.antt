@@ -1,7 +1,7 @@
-pub mod Lines
 pub mod Judging
 pub mod Output
 pub mod Stream
 pub mod Streams
 pub mod Headline
 pub mod Commands
+pub mod Answers

@@ -11,7 +11,7 @@ use Rattle.router_core.specs.Stands.{Stands}
 use Rattle.router_core.specs.Lives.{declared_after}
 use Rattle.router_core.specs.Blocks.{Acts}
 use Rattle.replay.specs.Judging.{judge, verdict}
-use Rattle.replay.specs.Lines.{AreEnded, lines_of}
+use Rattle.check_run.specs.Lines.{AreEnded, lines_of}
 
 -- Line n is accepted, and its event acts as it is defined to: this is said, and leads from one moment to the next.
 pub record Step (n : ℕ) (m : Moment) (line : List ℕ) (said : List Line) (next : Moment) : Type 0 where

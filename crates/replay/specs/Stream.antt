@@ -11,7 +11,7 @@ use Rattle.journal_text.specs.Walk.{Leads, no_links}
 use Rattle.router_core.specs.Moments.{Moment, Cored, first_moment, router_links}
 use Rattle.router_core.specs.Stands.{Stands}
 use Rattle.replay.specs.Judging.{judge}
-use Rattle.replay.specs.Lines.{IsCut, lines_in}
+use Rattle.check_run.specs.Lines.{IsCut, lines_in}
 use Rattle.replay.specs.Output.{Step, Run, IsRefusedOutput, IsFrontOfOutput}
 
 -- a router that may step line n: memory never ran out, its state is sound, and it has stepped the lines before

@@ -1,6 +1,17 @@
-//! Replays a file of events of a BGP router, and writes what happens to its routes.
+//! Replays a file of events of a BGP router, and writes what happens to its routes; or judges what was written.
+//!
+//! [`replay`] is all that the program does: it reads the words of the command line, reads events from a source, steps
+//! them one after another, and writes their output to a sink (`run`); or it judges the journal that the source is (`check`).
+//! The parts are private: `words` reads the command line, `stepping` steps one line in the router of the crate router_core,
+//! `stream` takes text that comes in pieces line by line, and `output` writes what a piece gave before the next one is read.
+//!
+//! Whatever the source gives, and however it cuts its bytes, the output is an allowed one for the whole lines that were
+//! read: the journal in it obeys the rules of consistency on every link, the live state is what the events alone make of
+//! it, and after each `idle`, within the number of turns that it announced, no deletion stage stands and the link `in.K` of
+//! each peer has exactly the live routes.
 #![tactic(auto)]
 
+mod commands;
 mod output;
 mod run;
 mod status;
@@ -8,6 +19,66 @@ mod stepping;
 mod stream;
 mod words;
 
-pub use run::run_events;
+ghost use Rattle.std.specs.Prelude.{◌≡◌, ◌≢◌, ◌⊎◌, ℕ, List, map, None};
+ghost use Rattle.std.specs.String.{string_bytes};
+ghost use Rattle.std.specs.Io.KnownBytes.{Appends, IsAtEnd};
+ghost use Rattle.edge_io.specs.Causes.{Rose};
+ghost use Rattle.check_run.specs.Runs.{Took};
+ghost use Rattle.replay.specs.Commands.{command_of, usage_line};
+ghost use Rattle.replay.specs.Answers.{IsDone, IsRefused, IsBroken, HasSoFar, HasFirst, HasFront, IsByText, IsUnfailing};
+
+use crate::commands::obey;
+use crate::words::read_command;
+use edge_io::{Sink, Source};
 pub use status::Status;
-pub use words::{Command, read_command};
+use std::alloc::Global;
+
+/// All that the program does: reads the words, and does what they ask for.
+///
+/// What the words ask for is told by the definition of the command: `run`, `run --quiet` or `check`. All other words, and those
+/// that ask for help, are answered by the usage line. `run` steps all whole lines of what was read and writes their output
+/// before the next read; `check` reads all that it needs, and then writes one line. The first failure ends it.
+pub fn replay<S: Source, K: Sink>(
+    alloc: Global,
+    words: &[String],
+    source: &mut S,
+    sink: &mut K,
+) -> Status
+    // Every line of the text was accepted, all of it was read, and the sink took exactly an allowed output; or the text is a
+    // lawful journal.
+    ensures ok { result ≡ Status.Ok → Took (S.left source.old) (K.taken sink.old) (K.taken sink.new) (IsDone (command_of (map string_bytes words.now))) }
+    ensures all_read { result ≡ Status.Ok → IsAtEnd (S.left source.new) }
+
+    // A line was refused, and the sink took an allowed output of the lines before it, and then that it was refused; or the
+    // line is none of a journal.
+    ensures refused { result ≡ Status.Refused → Took (S.left source.old) (K.taken sink.old) (K.taken sink.new) (IsRefused (command_of (map string_bytes words.now))) }
+
+    // The journal breaks a rule, and the sink took which, and where.
+    ensures broken { result ≡ Status.Broken → Took (S.left source.old) (K.taken sink.old) (K.taken sink.new) (IsBroken (command_of (map string_bytes words.now))) }
+
+    // Of `run` the text alone decides between 0 and 3; and it decides alone where no count of faults rose and there was memory.
+    ensures by_text { (result ≡ Status.Ok) ⊎ (result ≡ Status.Refused) → IsByText (command_of (map string_bytes words.now)) (S.left source.old) result }
+    ensures complete { ¬ Rose (S.faults source.old) (S.faults source.new) → ¬ Rose (K.faults sink.old) (K.faults sink.new) → IsUnfailing (command_of (map string_bytes words.now)) (S.left source.old) result }
+
+    // The words are no command, and the usage line was written.
+    ensures usage { result ≡ Status.Usage → Appends (K.taken sink.old) (K.taken sink.new) usage_line }
+    ensures command { command_of (map string_bytes words.now) ≢ None → result ≢ Status.Usage }
+    ensures no_command { command_of (map string_bytes words.now) ≡ None → (result ≡ Status.Usage) ⊎ (result ≡ Status.WriteFault) ⊎ (result ≡ Status.Memory) }
+    ensures unread { command_of (map string_bytes words.now) ≡ None → source.new ≡ source.old }
+
+    // A read failed, and the sink took an allowed output of the lines that had ended in what was read; nothing of a check.
+    ensures read_fault { result ≡ Status.ReadFault → Rose (S.faults source.old) (S.faults source.new) }
+    ensures so_far { result ≡ Status.ReadFault → HasSoFar (command_of (map string_bytes words.now)) (S.left source.old) (S.left source.new) (K.taken sink.old) (K.taken sink.new) }
+
+    // There was no memory, and the sink took an allowed output of some first lines; nothing of a check.
+    ensures memory { result ≡ Status.Memory → HasFirst (command_of (map string_bytes words.now)) (S.left source.old) (K.taken sink.old) (K.taken sink.new) }
+
+    // A write failed, and the sink took a front of what may be written.
+    ensures write_fault { result ≡ Status.WriteFault → Rose (K.faults sink.old) (K.faults sink.new) }
+    ensures front { result ≡ Status.WriteFault → HasFront (command_of (map string_bytes words.now)) (S.left source.old) (K.taken sink.old) (K.taken sink.new) }
+{
+    let Ok(command) = read_command(alloc, words) else {
+        return Status::Memory;
+    };
+    obey(alloc, command, source, sink)
+}

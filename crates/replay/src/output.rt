@@ -1,32 +1,19 @@
 //! Writing what a stream gives.
 
 ghost use Rattle.std.specs.Prelude.{◌≡◌, ◌++◌, ◌≤◌, ◌<◌, ℕ, ◌≢◌, List, [], OnOk, OnErr, IfOk, true, false, Option, Some, None, length};
-ghost use Rattle.std.specs.Io.KnownBytes.{Appends};
-ghost use Rattle.edge_io.specs.Causes.{Rose, HasCause};
+ghost use Rattle.edge_io.specs.Causes.{Rose};
 ghost use Rattle.replay.specs.Stream.{HasStepped, GoesOn, IsRefusedAt, IsFrontAt, IsNearer, IsReady};
 ghost use Rattle.replay.specs.Streams.{state};
-ghost use Rattle.replay.specs.Lines.{lines_of};
+ghost use Rattle.check_run.specs.Lines.{lines_of};
 ghost use Rattle.replay.specs.Output.{IsOutput, IsRefusedOutput, IsFrontOfOutput};
-ghost use Rattle.replay.specs.Headline.{Writes, IsFrontOf};
+ghost use Rattle.check_run.specs.Runs.{Writes, IsFrontOf};
 
 use crate::status::Status;
 use crate::stream::Stream;
 use addr4::Memory;
-use edge_io::{Failed, Sink};
+use check_run::write_all;
+use edge_io::Sink;
 use journal_text::Journal;
-
-/// Writes all of a text.
-pub fn write_all<K: Sink>(sink: &mut K, text: &[u8]) -> Result<(), Failed>
-    ensures all { OnOk result (Appends (K.taken sink.old) (K.taken sink.new) text.now) }
-    ensures front { OnErr result (Writes (K.taken sink.old) (K.taken sink.new) (IsFrontOf text.now)) }
-    ensures cause { HasCause (K.faults sink.old) (K.faults sink.new) result }
-{
-    let mut at = 0;
-    while at < text.len() {
-        at += sink.write(&text[at..])?;
-    }
-    Ok(())
-}
 
 /// Steps a piece of the text: the journal then has the text of its output alone. Answers whether the text so far is
 /// accepted.

@@ -3,10 +3,10 @@
 ghost use Rattle.std.specs.Prelude.{◌≡◌, ◌≢◌, ◌≤◌, ◌+◌, ◌⊎◌, ℕ, List, IfSome};
 ghost use Rattle.std.specs.Io.KnownBytes.{IsAtEnd};
 ghost use Rattle.edge_io.specs.Causes.{Rose};
-ghost use Rattle.replay.specs.Lines.{lines_of};
+ghost use Rattle.check_run.specs.Lines.{lines_of};
 ghost use Rattle.replay.specs.Judging.{verdict, status_of};
 ghost use Rattle.replay.specs.Output.{IsOutput, IsRefusedOutput, IsOutputOfFront, IsOutputOfEnded, IsFrontOfOutput};
-ghost use Rattle.replay.specs.Headline.{Took, ReadsAndWrites};
+ghost use Rattle.check_run.specs.Runs.{Took, ReadsAndWrites};
 
 use crate::output::{finish, turn};
 use crate::status::Status;

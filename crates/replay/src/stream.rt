@@ -1,38 +1,19 @@
 //! Text that comes in pieces, stepped line by line.
 
-ghost use Rattle.std.specs.Prelude.{◌≡◌, ◌++◌, ◌∷◌, [], ◌<◌, ◌≤◌, ◌+◌, ◌^◌, ◌⊎◌, List, ℕ, Option, Some, None, option_map, IfOk, OnOk, length, true, false};
-ghost use Rattle.std.specs.Str.Lines.{strip_carriage_return};
-ghost use Rattle.replay.specs.Lines.{IsPart, lines_of, after_part};
+ghost use Rattle.std.specs.Prelude.{◌≡◌, ◌++◌, ◌∷◌, [], ◌<◌, ◌≤◌, ◌+◌, ◌^◌, ◌⊎◌, List, ℕ, IfOk, OnOk, length, true, false};
+ghost use Rattle.check_run.specs.Lines.{IsPart, lines_of};
 ghost use Rattle.replay.specs.Output.{IsOutput, IsRefusedOutput};
 ghost use Rattle.replay.specs.Stream.{IsReady, GoesOn, IsNearer, HasStepped, made};
 
 use crate::stepping::step_line;
-use addr4::{Memory, first_part};
+use addr4::Memory;
+use check_run::{first_line, without_return};
 use journal_text::{Code, Journal, Line};
 use router_core::Core;
 use std::alloc::Global;
 
 /// So many bytes without an LF may be part of a line, which may end with CR LF; with one more the line is refused.
 const LONGEST_PART: usize = 16385;
-
-/// The part before the first LF, and what follows that LF.
-pub fn first_line(text: &[u8]) -> (&[u8], Option<&[u8]>)
-    ensures whole { text.now ≡ result.0.now ++ after_part (option_map (λ r. r.now) result.1) }
-    ensures part { IsPart result.0.now }
-{
-    first_part(text, b'\n')
-}
-
-/// The line without the one CR at its end, if there is one.
-pub fn without_return(line: &[u8]) -> &[u8]
-    ensures { result.now ≡ strip_carriage_return line.now }
-{
-    match line.len() {
-        0 => line,
-        len if line[len - 1] == b'\r' => &line[..len - 1],
-        _ => line,
-    }
-}
 
 /// Reads text in pieces, and steps each line as soon as it is whole.
 #[derive(Drop)]

@@ -1,5 +1,5 @@
 use Rattle.std.proofs.Common.{sym, ◌∙◌}
-use Rattle.replay.proofs.Known.{of_failed}
+use Rattle.check_run.proofs.Known.{of_failed}
 use Rattle.replay.proofs.Endings.{ended_front}
 use Rattle.replay.proofs.output.finish.Goals as goal
 

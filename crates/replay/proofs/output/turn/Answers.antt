@@ -2,7 +2,7 @@ use Rattle.std.proofs.Common.{List, ℕ, [], sym, ◌∙◌, subst}
 use Rattle.std.proofs.lemmas.List.{append-nil}
 use Rattle.replay.specs.Stream.{HasStepped}
 use Rattle.replay.specs.Streams.{state}
-use Rattle.replay.proofs.Known.{of_failed}
+use Rattle.check_run.proofs.Known.{of_failed}
 use Rattle.replay.proofs.Endings.{written_front}
 use Rattle.replay.proofs.output.turn.Goals as goal
 

@@ -1,8 +1,8 @@
 use Rattle.std.proofs.Common.{Bool, List, ℕ, arith, refl, ap, sym, subst, ◌∙◌, ⊎_elim, take, ◌++◌, Some}
-use Rattle.replay.specs.Lines.{lines_of}
+use Rattle.check_run.specs.Lines.{lines_of}
 use Rattle.replay.specs.Output.{IsOutput, IsRefusedOutput, IsFrontOfOutput}
 use Rattle.replay.specs.Stream.{HasStepped, IsRefusedAt, IsFrontAt}
-use Rattle.replay.proofs.Known.{appends_then, consumes_then}
+use Rattle.check_run.proofs.Known.{appends_then, consumes_then}
 use Rattle.replay.proofs.Endings.{took_read, took_all, took_front, read_nothing, of_all, of_read, ended_status, refused_status, stepped_as}
 use Rattle.replay.proofs.run.run_events.Goals as goal
 

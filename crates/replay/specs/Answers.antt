@@ -1,0 +1,63 @@
+-- What the program reads and writes, by its command.
+use Rattle.std.specs.Prelude.{◌≡◌, ◌⊎◌, ℕ, Bool, List, Option, Some, None, IfSome, ⊤}
+use Rattle.check_run.specs.declared.ending.Ending.TheVariants as endings
+use Rattle.check_run.specs.Lines.{lines_of}
+use Rattle.check_run.specs.Runs.{Took, Writes, ReadsAndWrites, IsFrontOf}
+use Rattle.check_run.specs.Answers.{Judges, IsFrontOfAnswer}
+use Rattle.replay.specs.declared.status.Status.{Status}
+use Rattle.replay.specs.declared.status.Status.TheVariants as statuses
+use Rattle.replay.specs.declared.words.Command.{Command}
+use Rattle.replay.specs.declared.words.Command.TheVariants.{Run, Check}
+use Rattle.replay.specs.Commands.{usage_line}
+use Rattle.replay.specs.Judging.{verdict, status_of}
+use Rattle.replay.specs.Output.{IsOutput, IsRefusedOutput, IsOutputOfFront, IsOutputOfEnded, IsFrontOfOutput}
+
+-- What is written where status 0 answers: an allowed output for all lines of the text; or that the text is a lawful journal.
+abbrev pub IsDone : Option Command → List ℕ → List ℕ → Type 0
+IsDone (Some (Run quiet)) text bytes = IsOutput quiet (lines_of text) bytes
+IsDone (Some Check) text bytes = Judges text bytes endings.Lawful
+IsDone None text bytes = ⊥
+
+-- What is written where a line is refused: an allowed output for the lines before it, and that it is refused; or that the
+-- line is none of a journal.
+abbrev pub IsRefused : Option Command → List ℕ → List ℕ → Type 0
+IsRefused (Some (Run quiet)) text bytes = IsRefusedOutput quiet text bytes
+IsRefused (Some Check) text bytes = Judges text bytes endings.Refused
+IsRefused None text bytes = ⊥
+
+-- what is written where a journal breaks a rule
+abbrev pub IsBroken : Option Command → List ℕ → List ℕ → Type 0
+IsBroken (Some (Run quiet)) text bytes = ⊥
+IsBroken (Some Check) text bytes = Judges text bytes endings.Broken
+IsBroken None text bytes = ⊥
+
+-- What was read and written where a read failed: an allowed output of the lines that had ended in what was read; nothing of
+-- a check.
+abbrev pub HasSoFar : Option Command → Option (List ℕ) → Option (List ℕ) → Option (List ℕ) → Option (List ℕ) → Type 0
+HasSoFar (Some (Run quiet)) left0 left taken0 taken = ReadsAndWrites left0 left taken0 taken (IsOutputOfEnded quiet)
+HasSoFar (Some Check) left0 left taken0 taken = taken ≡ taken0
+HasSoFar None left0 left taken0 taken = ⊥
+
+-- what was written where there was no memory: an allowed output of some first lines; else nothing
+abbrev pub HasFirst : Option Command → Option (List ℕ) → Option (List ℕ) → Option (List ℕ) → Type 0
+HasFirst (Some (Run quiet)) left0 taken0 taken = Took left0 taken0 taken (IsOutputOfFront quiet)
+HasFirst (Some Check) left0 taken0 taken = taken ≡ taken0
+HasFirst None left0 taken0 taken = taken ≡ taken0
+
+-- what was written where a write failed: a front of what may be written
+abbrev pub HasFront : Option Command → Option (List ℕ) → Option (List ℕ) → Option (List ℕ) → Type 0
+HasFront (Some (Run quiet)) left0 taken0 taken = Took left0 taken0 taken (IsFrontOfOutput quiet)
+HasFront (Some Check) left0 taken0 taken = Took left0 taken0 taken IsFrontOfAnswer
+HasFront None left0 taken0 taken = Writes taken0 taken (IsFrontOf usage_line)
+
+-- where `run` answers 0 or 3, the text alone decides which
+abbrev pub IsByText : Option Command → Option (List ℕ) → Status → Type 0
+IsByText (Some (Run quiet)) left0 status = IfSome left0 (λ text. status ≡ status_of (verdict text))
+IsByText (Some Check) left0 status = ⊤
+IsByText None left0 status = ⊤
+
+-- the answers of a command where no read and no write failed
+abbrev pub IsUnfailing : Option Command → Option (List ℕ) → Status → Type 0
+IsUnfailing (Some (Run quiet)) left0 status = IfSome left0 (λ text. (status ≡ status_of (verdict text)) ⊎ (status ≡ statuses.Memory))
+IsUnfailing (Some Check) left0 status = (status ≡ statuses.Ok) ⊎ (status ≡ statuses.Broken) ⊎ (status ≡ statuses.Refused) ⊎ (status ≡ statuses.Memory)
+IsUnfailing None left0 status = (status ≡ statuses.Usage) ⊎ (status ≡ statuses.Memory)
