@@ -19,7 +19,8 @@ use Rattle.event_text.specs.declared.event.Event.TheVariants as events
 use Rattle.event_text.specs.declared.declared.DeclaredPeer.{DeclaredPeer}
 use Rattle.event_text.specs.Declarations.{Declaration, peer_at, words_of, with_peer, with_session, begun_at, refusal, refusal_at, session_refusal}
 use Rattle.event_text.proofs.Sessions.{addable, missed, KeepsWords, begun_words}
-use Rattle.in_chain.specs.Chains.{Chained, attrs_rows, in_rows, links_of}
+use Rattle.in_chain.specs.Chains.{Chained, in_rows, links_of}
+use Rattle.journal_text.specs.Journals.{attrs_rows}
 use Rattle.in_chain.specs.Steps.{new_chain}
 use Rattle.router_core.specs.Moments.{Moment, chain_at, insert_chain, links_by, router_links}
 use Rattle.router_core.specs.Lives.{live_state, routes_of, begun_if_down}
