@@ -1,6 +1,5 @@
 -- What each event comes to.
-use Rattle.std.proofs.Common.{◌≡◌, ℕ, ◌+◌, ◌*◌, ◌<◌, ◌≤◌, Bool, true, false, cond, List, [], ◌∷◌, ◌++◌, Option, Some, None, length, refl, sym, ap, subst, ◌∙◌, arith, append_assoc}
-use Rattle.std.proofs.lemmas.List.{append-nil}
+use Rattle.std.proofs.Common.{◌≡◌, ℕ, ◌+◌, ◌*◌, ◌≤◌, Bool, true, false, cond, List, [], ◌∷◌, ◌++◌, Option, Some, None, length, refl, sym, ap, subst, ◌∙◌, arith}
 use Rattle.addr4.specs.Prefixes.{Network}
 use Rattle.bgp_attr.specs.declared.attrs.Attrs.{Attrs}
 use Rattle.bgp_attr.specs.declared.speaker.Speaker.{Speaker}
@@ -10,12 +9,9 @@ use Rattle.bgp_wire.specs.declared.message.Update.{Update}
 use Rattle.bgp_wire.specs.declared.notice.Notice.{Notice}
 use Rattle.bgp_wire.specs.Spelling.{notification_octets}
 use Rattle.journal_text.specs.declared.link.Task.{Task}
-use Rattle.journal_text.specs.declared.entry.Entry.{Entry}
-use Rattle.journal_text.specs.declared.value.Value.{Value}
 use Rattle.journal_text.specs.declared.line.Line.{Line}
 use Rattle.journal_text.specs.declared.line.Line.TheVariants as lines
 use Rattle.journal_text.specs.Journals.{Journaled, with_lines, flushed}
-use Rattle.journal_text.specs.Texts.{entries_of}
 use Rattle.journal_text.specs.Walk.{Leads}
 use Rattle.journal_text.proofs.JournalLemmas.{with_lines_append}
 use Rattle.journal_text.proofs.WalkLemmas.{leads_nowhere}
@@ -27,10 +23,10 @@ use Rattle.router_core.specs.declared.router.Idle.{Idle as Idled}
 use Rattle.router_core.specs.declared.router.Done.{Done}
 use Rattle.router_core.specs.declared.router.Done.TheVariants as done
 use Rattle.router_core.specs.Moments.{Moment, rows_in, router_links, bound_of, Gives}
-use Rattle.router_core.specs.Lives.{LiveState, live_state, changes_of, Says, HearsFrom, HearsIfUp, ended_if_up, heard, ended}
+use Rattle.router_core.specs.Lives.{live_state, changes_of, Says, HearsFrom, HearsIfUp, ended_if_up, ended}
 use Rattle.router_core.specs.Stands.{Stands}
-use Rattle.router_core.specs.Blocks.{ByPeer, EndsIf, HearsIf, Hears, Notifies, Idles, Works, Acts}
-use Rattle.router_core.specs.Works.{Pushes, Comes, IsWork, AreTurns, HaveDrained, HaveFed, HasLost, HasHeard, HasIdled, HasStepped, IsSession}
+use Rattle.router_core.specs.Blocks.{ByPeer, EndsIf, HearsIf, Acts}
+use Rattle.router_core.specs.Works.{Pushes, Comes, AreTurns, HaveDrained, HaveFed, HasLost, HasHeard, HasIdled, HasStepped}
 use Rattle.router_core.proofs.TurnLemmas.{flushed_join, flushed_none, leads_join}
 
 -- ---- a declared peer
