@@ -1,23 +1,21 @@
 -- The prefixes of an UPDATE, one after the other.
-use Rattle.std.proofs.Common.{◌≡◌, ℕ, ◌+◌, ◌<◌, ◌≤◌, Bool, true, false, not, cond, List, [], ◌∷◌, ◌++◌, map, Option, Some, None, get_or, length, take, refl, sym, ap, subst, ◌∙◌, append_assoc}
+use Rattle.std.proofs.Common.{◌≡◌, ℕ, ◌+◌, ◌<◌, Bool, true, false, cond, List, [], ◌∷◌, ◌++◌, map, Option, Some, None, get_or, length, take, refl, sym, ap, subst, ◌∙◌, append_assoc}
 use Rattle.std.proofs.Math.ListN.{set}
 use Rattle.std.proofs.lemmas.List.{append-nil, take_more}
 use Rattle.std.specs.List.{filter}
 use Rattle.addr4.specs.Prefixes.{Network}
 use Rattle.bgp_attr.specs.declared.attrs.Attrs.{Attrs}
-use Rattle.link_change.specs.Rows.{is_empty_map}
 use Rattle.deletion_stage.specs.Lost.{Lost}
 use Rattle.journal_text.specs.declared.line.Line.{Line}
 use Rattle.journal_text.specs.Journals.{Journaled, with_lines}
 use Rattle.journal_text.specs.Texts.{entries_of}
-use Rattle.journal_text.specs.Walk.{Leads}
 use Rattle.journal_text.proofs.JournalLemmas.{with_lines_append, with_entries_none}
 use Rattle.journal_text.proofs.WalkLemmas.{leads_nowhere}
 use Rattle.event_text.specs.declared.declared.DeclaredPeer.{DeclaredPeer}
 use Rattle.event_text.specs.Declarations.{peer_at}
-use Rattle.in_chain.specs.Chains.{Chained, NoneEmpty, IsChain}
-use Rattle.in_chain.specs.Steps.{without, fed, welded, live_after, deletions_after}
-use Rattle.router_core.specs.Moments.{Moment, chain_at, put_chain, with_chain, router_links}
+use Rattle.in_chain.specs.Chains.{Chained}
+use Rattle.in_chain.specs.Steps.{without, live_after, deletions_after}
+use Rattle.router_core.specs.Moments.{Moment, chain_at, with_chain, router_links}
 use Rattle.router_core.specs.Lives.{LiveState, Routes, live_state, with_routes, routes_after}
 use Rattle.router_core.specs.Stands.{AreInOrder, IsSilent, PeerStands, Stands}
 use Rattle.router_core.specs.Turns.{Feeds, FeedsAll}
@@ -25,7 +23,7 @@ use Rattle.router_core.specs.Works.{FeedsChain, Pushes, Steps, IsPlace, IsUpAt, 
 use Rattle.router_core.proofs.ChainLemmas.{number_at, same_by}
 use Rattle.router_core.proofs.LinkLemmas.{leads_router}
 use Rattle.router_core.proofs.RowCounts.{is_full}
-use Rattle.router_core.proofs.StandLemmas.{peer_of, chain_there, stands_with, live_with, routes_there, routes_same, routes_twice}
+use Rattle.router_core.proofs.StandLemmas.{peer_of, stands_with, live_with, routes_there, routes_same, routes_twice}
 use Rattle.router_core.proofs.UnitLemmas.{peer_left}
 use Rattle.router_core.proofs.TurnLemmas.{leads_join}
 use Rattle.router_core.proofs.PlaceLemmas.{at_place, set_at_place}

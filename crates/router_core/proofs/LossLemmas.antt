@@ -1,9 +1,8 @@
 -- The loss of a session.
-use Rattle.std.proofs.Common.{◌≡◌, ℕ, ◌+◌, ◌<◌, ◌≤◌, Bool, true, false, not, ◌||◌, cond, List, [], ◌∷◌, ◌++◌, map, Option, Some, None, is_some, nat_eq, nat_lt, get_or, length, refl, sym, ap, subst, ◌∙◌, arith, length-append, zero, suc}
+use Rattle.std.proofs.Common.{◌≡◌, ℕ, ◌+◌, ◌<◌, ◌≤◌, Bool, true, false, ◌||◌, cond, List, [], ◌∷◌, ◌++◌, map, Option, Some, None, is_some, nat_eq, nat_lt, get_or, length, refl, sym, ap, subst, ◌∙◌, arith, length-append, zero, suc}
 use Rattle.std.proofs.Math.ListN.{set}
 use Rattle.std.proofs.lemmas.Bool.Decides.{nat_tests}
 use Rattle.std.specs.List.{AllByRecursion, filter}
-use Rattle.std.specs.FinMap as tables
 use Rattle.std.specs.FinMap.{FinMap}
 use Rattle.addr4.specs.Prefixes.{Network, prefix_cmp}
 use Rattle.bgp_attr.specs.declared.attrs.Attrs.{Attrs}
@@ -22,14 +21,14 @@ use Rattle.event_text.specs.declared.declared.DeclaredPeer.{DeclaredPeer}
 use Rattle.event_text.specs.Declarations.{Declaration, peer_at, ended_at, without_session}
 use Rattle.in_chain.specs.Chains.{Chained, beside, IsChain, NoneEmpty}
 use Rattle.in_chain.specs.Falls.{LeadsChain}
-use Rattle.in_chain.specs.Steps.{without, swept_one, swept, welded, table_of, lost, loss_entries, overdue_of, oldest_of}
-use Rattle.router_core.specs.Moments.{Moment, chain_at, put_chain, with_chain, router_links, Gives}
+use Rattle.in_chain.specs.Steps.{swept_one, swept, welded, table_of, lost, loss_entries, overdue_of, oldest_of}
+use Rattle.router_core.specs.Moments.{Moment, chain_at, put_chain, with_chain, Gives}
 use Rattle.router_core.specs.Lives.{LiveState, Routes, live_state, with_routes, ended}
 use Rattle.router_core.specs.Stands.{AreInOrder, IsEarlier, PeerStands, StandsAt, Stands}
-use Rattle.router_core.specs.Turns.{IsTurn, Turns, has_table, journal_lines}
-use Rattle.router_core.specs.Blocks.{Loses, RunsFirst}
-use Rattle.router_core.specs.Works.{Pushes, Steps, StepsChain, IsPlace, IsWork, HasDrained, MayLose, LosesChain, HasRoom, IsSession, HasLost, Ends}
-use Rattle.router_core.proofs.ChainLemmas.{equal_by, same_by, other_by, number_at, chain_at_put_same}
+use Rattle.router_core.specs.Turns.{Turns, has_table, journal_lines}
+use Rattle.router_core.specs.Blocks.{RunsFirst}
+use Rattle.router_core.specs.Works.{Pushes, Steps, IsPlace, HasDrained, MayLose, LosesChain, HasRoom, IsSession, HasLost, Ends}
+use Rattle.router_core.proofs.ChainLemmas.{equal_by, same_by, number_at, chain_at_put_same}
 use Rattle.router_core.proofs.LinkLemmas.{leads_router}
 use Rattle.router_core.proofs.RowCounts.{is_full}
 use Rattle.router_core.proofs.StandLemmas.{peer_of, chain_there, stands_put, live_with, few_left}

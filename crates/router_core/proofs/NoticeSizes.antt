@@ -1,5 +1,5 @@
 -- The data of the NOTIFICATION that answers a fault fits into a message.
-use Rattle.std.proofs.Common.{◌≡◌, ℕ, zero, suc, ◌+◌, ◌-◌, ◌*◌, ◌≤◌, Bool, true, false, not, ◌&&◌, ◌||◌, cond, List, [], ◌∷◌, ◌++◌, length, take, drop, get_or, Option, Some, None, Result, Ok, Err, nat_eq, nat_lt, refl, sym, ap, subst, ◌∙◌, arith}
+use Rattle.std.proofs.Common.{◌≡◌, ℕ, zero, suc, ◌+◌, ◌-◌, ◌≤◌, Bool, true, false, not, ◌&&◌, ◌||◌, cond, List, [], ◌∷◌, ◌++◌, length, take, drop, get_or, Option, Some, None, Result, Ok, Err, nat_eq, nat_lt, refl, sym, subst, arith}
 use Rattle.std.specs.Prelude.{option_and_then}
 use Rattle.std.specs.List.{list_any}
 use Rattle.std.proofs.lemmas.List.{length-take, length-drop}
@@ -14,10 +14,10 @@ use Rattle.router_core.specs.Lives.{plain}
 use Rattle.router_core.specs.Peers.{HasShortNotice}
 use Rattle.bgp_wire.specs.Faults.{notice, ◌>>=◌, err_of}
 use Rattle.bgp_wire.specs.Items.{items_within}
-use Rattle.bgp_wire.specs.Prefixes.{prefix_at, prefixes_at, octets_for, masked}
+use Rattle.bgp_wire.specs.Prefixes.{prefix_at, octets_for, masked}
 use Rattle.bgp_wire.specs.Paths.{segment_at, segment_of, kind_of, path_at, width_of}
-use Rattle.bgp_wire.specs.Attributes.{Attribute, Kept, is_no_host, milder, judge_unrecognized, value_fault, judge_value, has_wrong_size, has_wrong_flags, judge_recognized, judge_by, rule_of, judgement, with_verdict, size_at, cut, attribute_at, attributes_step, attributes_within, attributes_at}
-use Rattle.bgp_wire.specs.Updates.{Fields, Reading, Content, header_at, fields_at, lack, lacks, missing, reading_at, content_for, content_at, fault, update, number_at, is_marked, has_wrong_length, length_field}
+use Rattle.bgp_wire.specs.Attributes.{Attribute, Kept, is_no_host, judge_unrecognized, value_fault, judge_value, has_wrong_size, has_wrong_flags, judge_recognized, judge_by, rule_of, judgement, with_verdict, size_at, cut, attribute_at, attributes_step, attributes_within}
+use Rattle.bgp_wire.specs.Updates.{Fields, header_at, fields_at, lack, lacks, missing, reading_at, content_for, content_at, fault, update, number_at, is_marked, has_wrong_length, length_field}
 
 -- a fault has at most so many octets of data
 abbrev pub LowFault : ℕ → Option Notice → Type 0

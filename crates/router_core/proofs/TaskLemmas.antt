@@ -2,22 +2,20 @@
 use Rattle.std.proofs.Common.{◌≡◌, ℕ, ◌+◌, ◌<◌, ◌⊎◌, inl, inr, Bool, true, false, not, cond, List, [], ◌∷◌, ◌++◌, map, Option, Some, None, is_some, nat_eq, refl, sym, ap, subst, ◌∙◌, arith, append_assoc, zero, suc}
 use Rattle.std.proofs.lemmas.List.{append-nil}
 use Rattle.std.specs.List.{AllByRecursion, flat_map, filter}
-use Rattle.std.specs.FinMap as tables
 use Rattle.std.specs.FinMap.{FinMap}
 use Rattle.addr4.specs.Prefixes.{Network, prefix_cmp}
 use Rattle.bgp_attr.specs.declared.attrs.Attrs.{Attrs}
-use Rattle.link_change.specs.Rows.{is_empty_map}
 use Rattle.deletion_stage.specs.Lost.{Lost}
 use Rattle.journal_text.specs.declared.link.Task.{Task}
 use Rattle.journal_text.specs.declared.link.Task.TheVariants.{Del}
 use Rattle.journal_text.specs.declared.line.Line.{Line}
 use Rattle.in_chain.specs.Chains.{Chained, AreRising, NoneEmpty}
 use Rattle.in_chain.specs.Steps.{without, swept_one, swept, welded, table_of, oldest_of}
-use Rattle.router_core.specs.Moments.{Moment, chain_at, put_one, put_chain, with_chain}
+use Rattle.router_core.specs.Moments.{Moment, chain_at, put_chain, with_chain}
 use Rattle.router_core.specs.Stands.{AreInOrder, Stands, IsSettled}
-use Rattle.router_core.specs.Turns.{IsTurn, Turns, Drains, DrainsAll, Deletes, chain_tasks, deletion_tasks, has_table, has_work}
+use Rattle.router_core.specs.Turns.{IsTurn, DrainsAll, chain_tasks, deletion_tasks, has_table, has_work}
 use Rattle.router_core.specs.Works.{first_task}
-use Rattle.router_core.proofs.ChainLemmas.{equal_by, same_by, other_by, number_at, chain_here, chain_past, put_one_here, put_one_past, put_none, none_below, chain_at_put_same}
+use Rattle.router_core.proofs.ChainLemmas.{same_by, other_by, number_at, chain_here, chain_past, put_one_here, put_one_past, put_none, none_below, chain_at_put_same}
 use Rattle.router_core.proofs.RowCounts.{is_full, later_stay}
 use Rattle.router_core.proofs.StandLemmas.{sound_at}
 

@@ -25,7 +25,7 @@ use Rattle.router_core.specs.declared.router.Done.TheVariants.{Nothing, Taken}
 use Rattle.router_core.specs.Moments.{Moment, chain_at, put_chain, with_chain, router_links, rows_in, bound_of, Gives}
 use Rattle.router_core.specs.Lives.{LiveState, live_state, with_routes, routes_after, heard, ended}
 use Rattle.router_core.specs.Stands.{Stands, IsSettled}
-use Rattle.router_core.specs.Turns.{journal_lines, fall_lines, FeedsAll, IsTurn, Turns, Drains, DrainsAll, has_table, has_work, deletion_tasks}
+use Rattle.router_core.specs.Turns.{journal_lines, fall_lines, FeedsAll, IsTurn, Turns, DrainsAll, has_table, has_work, deletion_tasks}
 use Rattle.router_core.specs.Blocks.{RunsFirst, Loses, Hears, Idles, Acts, ended as ended_moment}
 use Rattle.router_core.specs.declared.router.Idle.{Idle}
 use Rattle.event_text.specs.declared.event.Event.{Event}

@@ -14,11 +14,11 @@ use crate::network::Network;
 use crate::peers::said;
 use crate::router::Idle;
 use crate::updates::changes;
-use addr4::Memory;
-use bgp_attr::Octets;
+use addr4::{Memory, Prefix};
+use bgp_attr::{Octets, Speaker};
 use bgp_wire::{Message, Notice, write_notification};
 use event_text::{DeclaredPeer, Event};
-use journal_text::{Journal, Line, Task};
+use journal_text::{Journal, Line, Link, Task};
 use std::alloc::Global;
 
 impl Network {
@@ -29,59 +29,88 @@ impl Network {
         ensures { IfOk result (λ turns. Gives (HasStepped self.old event turns self.new) journal.old journal.new) }
     {
         match event {
-            Event::Nothing => {
-                journal.flush()?;
-                return Ok(0);
-            }
-            Event::Local(words) => {
-                self.declare_speaker(words);
-                journal.flush()?;
-                return Ok(0);
-            }
-            Event::Peer(number, words) => {
-                self.declare_peer(number, words, journal)?;
-                journal.flush()?;
-                return Ok(0);
-            }
-            Event::Up(number) => {
-                self.begin_session(number, journal)?;
-                journal.flush()?;
-                return Ok(0);
-            }
-            Event::Down(number) => {
-                self.down(number, journal)?;
-                return Ok(0);
-            }
-            Event::Bgp(number, octets) => {
-                self.message(number, octets.as_slice(), journal)?;
-                return Ok(0);
-            }
-            Event::Idle => {
-                let idle = self.idle(journal)?;
-                return Ok(idle.turns);
-            }
-            Event::Work(task, most) => {
-                let turns = self.work(task, most, journal)?;
-                return Ok(turns);
-            }
-            Event::Ask(link, p) => {
-                self.ask(link, p, journal)?;
-                journal.flush()?;
-                return Ok(0);
-            }
-            Event::Show(link) => {
-                self.show(link, journal)?;
-                journal.flush()?;
-                return Ok(0);
-            }
+            Event::Nothing => self.nothing(journal),
+            Event::Local(words) => self.local(words, journal),
+            Event::Peer(number, words) => self.peer(number, words, journal),
+            Event::Up(number) => self.up(number, journal),
+            Event::Down(number) => self.down(number, journal),
+            Event::Bgp(number, octets) => self.message(number, octets, journal),
+            Event::Idle => self.idle_turns(journal),
+            Event::Work(task, most) => self.work(task, most, journal),
+            Event::Ask(link, p) => self.look_up(link, p, journal),
+            Event::Show(link) => self.list(link, journal),
         }
+    }
+
+    /// A line without words changes nothing.
+    fn nothing(&mut self, journal: &mut Journal) -> Result<u128, Memory>
+        requires { Stands self.old }
+        ensures { IfOk result (λ turns. Gives (HasStepped self.old events.Nothing turns self.new) journal.old journal.new) }
+    {
+        journal.flush()?;
+        Ok(0)
+    }
+
+    fn local(&mut self, words: Speaker, journal: &mut Journal) -> Result<u128, Memory>
+        requires { Stands self.old }
+        ensures { IfOk result (λ turns. Gives (HasStepped self.old (events.Local words) turns self.new) journal.old journal.new) }
+    {
+        self.declare_speaker(words);
+        journal.flush()?;
+        Ok(0)
+    }
+
+    fn peer(&mut self, number: u32, words: Speaker, journal: &mut Journal) -> Result<u128, Memory>
+        requires admitted { refusal self.old.declared (events.Peer number words) ≡ None }
+        requires stands { Stands self.old }
+        ensures { IfOk result (λ turns. Gives (HasStepped self.old (events.Peer number words) turns self.new) journal.old journal.new) }
+    {
+        self.declare_peer(number, words, journal)?;
+        journal.flush()?;
+        Ok(0)
+    }
+
+    fn up(&mut self, number: u32, journal: &mut Journal) -> Result<u128, Memory>
+        requires admitted { refusal self.old.declared (events.Up number) ≡ None }
+        requires stands { Stands self.old }
+        ensures { IfOk result (λ turns. Gives (HasStepped self.old (events.Up number) turns self.new) journal.old journal.new) }
+    {
+        self.begin_session(number, journal)?;
+        journal.flush()?;
+        Ok(0)
+    }
+
+    fn look_up(&mut self, link: Link, p: Prefix, journal: &mut Journal) -> Result<u128, Memory>
+        requires { Stands self.old }
+        ensures { IfOk result (λ turns. Gives (HasStepped self.old (events.Ask link p) turns self.new) journal.old journal.new) }
+    {
+        self.ask(link, p, journal)?;
+        journal.flush()?;
+        Ok(0)
+    }
+
+    fn list(&mut self, link: Link, journal: &mut Journal) -> Result<u128, Memory>
+        requires { Stands self.old }
+        ensures { IfOk result (λ turns. Gives (HasStepped self.old (events.Show link) turns self.new) journal.old journal.new) }
+    {
+        self.show(link, journal)?;
+        journal.flush()?;
+        Ok(0)
+    }
+
+    fn idle_turns(&mut self, journal: &mut Journal) -> Result<u128, Memory>
+        requires { Stands self.old }
+        ensures { IfOk result (λ turns. Gives (HasStepped self.old events.Idle turns self.new) journal.old journal.new) }
+    {
+        let idle = self.idle(journal)?;
+        Ok(idle.turns)
     }
 
     /// A peer's session ends; `ignored` where none is up.
-    fn down(&mut self, number: u32, journal: &mut Journal) -> Result<(), Memory>
+    fn down(&mut self, number: u32, journal: &mut Journal) -> Result<u128, Memory>
         requires admitted { refusal self.old.declared (events.Down number) ≡ None }
         requires stands { Stands self.old }
-        ensures { OnOk result (Gives (HasStepped self.old (events.Down number) 0 self.new) journal.old journal.new) }
+        ensures { IfOk result (λ turns. Gives (HasStepped self.old (events.Down number) turns self.new) journal.old journal.new) }
     {
         let Some(peer) = self.declared.peer(number) else {
             unreachable!()
@@ -89,17 +118,22 @@ impl Network {
         if !peer.up {
             journal.push_line(Line::Ignored)?;
             journal.flush()?;
-            return Ok(());
+            return Ok(0);
         }
         self.lose(number, peer.session, journal)?;
-        Ok(())
+        Ok(0)
     }
 
     /// A message came from a peer; `ignored` where it is down.
-    fn message(&mut self, number: u32, octets: &[u8], journal: &mut Journal) -> Result<(), Memory>
-        requires admitted { refusal self.old.declared (events.Bgp number octets.now) ≡ None }
+    fn message(
+        &mut self,
+        number: u32,
+        octets: Octets,
+        journal: &mut Journal,
+    ) -> Result<u128, Memory>
+        requires admitted { refusal self.old.declared (events.Bgp number octets) ≡ None }
         requires stands { Stands self.old }
-        ensures { OnOk result (Gives (HasStepped self.old (events.Bgp number octets.now) 0 self.new) journal.old journal.new) }
+        ensures { IfOk result (λ turns. Gives (HasStepped self.old (events.Bgp number octets) turns self.new) journal.old journal.new) }
     {
         let Some(peer) = self.declared.peer(number) else {
             unreachable!()
@@ -107,11 +141,11 @@ impl Network {
         if !peer.up {
             journal.push_line(Line::Ignored)?;
             journal.flush()?;
-            return Ok(());
+            return Ok(0);
         }
-        let message = said(self.alloc, &peer, octets)?;
+        let message = said(self.alloc, &peer, octets.as_slice())?;
         self.hear(number, peer, message, journal)?;
-        Ok(())
+        Ok(0)
     }
 
     /// What a message from a peer that is up does.

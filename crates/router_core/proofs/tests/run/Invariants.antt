@@ -1,4 +1,3 @@
-use Rattle.std.proofs.Common.{◌≡◌}
 use Rattle.router_core.specs.Stands.{Stands}
 use Rattle.router_core.proofs.tests.run.Given as goal
 

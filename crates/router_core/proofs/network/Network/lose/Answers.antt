@@ -1,4 +1,4 @@
-use Rattle.router_core.proofs.LossLemmas.{lost_all, session_there, room_session}
+use Rattle.router_core.proofs.LossLemmas.{lost_all}
 use Rattle.router_core.proofs.network.Network.lose.Goals as goal
 
 pub returns : goal.returns

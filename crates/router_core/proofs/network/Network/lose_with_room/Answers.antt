@@ -1,4 +1,4 @@
-use Rattle.std.proofs.Common.{◌≡◌, List, Some, None, subst, sym}
+use Rattle.std.proofs.Common.{◌≡◌, Some, None, subst, sym}
 use Rattle.event_text.specs.Declarations.{Declaration}
 use Rattle.in_chain.specs.Chains.{Chained}
 use Rattle.in_chain.specs.Steps.{overdue_of}

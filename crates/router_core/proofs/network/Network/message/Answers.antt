@@ -6,5 +6,5 @@ use Rattle.router_core.proofs.network.Network.message.Goals as goal
 
 pub unreachable-requires : goal.unreachable-requires
 unreachable-requires c =
-    bgp_there c.args.self.now.declared c.args.number c.args.octets.now c.requires.admitted
+    bgp_there c.args.self.now.declared c.args.number c.args.octets c.requires.admitted
     (subst (λ (m : Moment). peer_at c.args.number m.declared.peers ≡ None) c.self.view_is (sym c.in_default.ensures))
