@@ -1,14 +1,13 @@
 -- Every deletion stage to its end.
-use Rattle.std.proofs.Common.{◌≡◌, ℕ, ◌+◌, ◌<◌, false, List, [], ◌∷◌, ◌++◌, Some, None, refl, sym, ap, subst, ◌∙◌, arith, append_assoc, suc}
+use Rattle.std.proofs.Common.{◌≡◌, ℕ, ◌+◌, false, List, [], ◌∷◌, ◌++◌, Some, None, refl, sym, ap, subst, ◌∙◌, arith, append_assoc, suc}
 use Rattle.std.proofs.lemmas.List.{append-nil}
 use Rattle.journal_text.specs.declared.link.Task.{Task}
 use Rattle.journal_text.specs.declared.line.Line.{Line}
 use Rattle.journal_text.specs.Journals.{Journaled, with_lines, flushed}
 use Rattle.router_core.specs.Moments.{Moment, rows_in, Gives}
-use Rattle.router_core.specs.Stands.{Stands}
 use Rattle.router_core.specs.Turns.{DrainsAll, deletion_tasks, has_work}
 use Rattle.router_core.specs.Works.{IsWork, IsUnit, HaveDrained, first_task}
-use Rattle.router_core.proofs.TurnLemmas.{flushed_join, flushed_none, work_none, work_join}
+use Rattle.router_core.proofs.TurnLemmas.{flushed_join, work_join}
 use Rattle.router_core.proofs.TaskLemmas.{first_has_work, first_turn, drains_more, settled, no_first, is_first}
 
 -- whatever drains the tasks that are left, drains all from the start
@@ -19,17 +18,6 @@ pub record HaveGone (m : Moment) (turns : ℕ) (now : Moment) (said : List Line)
 
 abbrev pub HaveGivenAll : Moment → ℕ → Moment → Journaled → Journaled → Type 0
 HaveGivenAll m turns now before j = Gives (HaveGone m turns now) before j
-
-pub all_none : (m : Moment) (before now : Journaled) → Stands m → now ≡ flushed before → HaveGivenAll m 0 m before now
-all_none m before now stands is = (
-  [],
-  is ∙ flushed_none before,
-  record {
-    goes_on = λ ys n m' d. subst (λ (k : ℕ). DrainsAll (deletion_tasks m) m ys k m') (let e : n ≡ 0 + n = omega arith in e) d;
-    work = work_none m stands;
-    fewer = omega arith;
-  },
-)
 
 pub all_more : (m at now : Moment) (task : Task) (turns : ℕ) (before j j' : Journaled) → HaveGivenAll m turns at before j → first_task (deletion_tasks at) ≡ Some task
     → Gives (IsUnit task at now) j j' → HaveGivenAll m (turns + 1) now before j'
@@ -74,7 +62,3 @@ all_taken m at now task turns before j j' g first none =
     let works = first_has_work at task f.0 g.2.work.stands f.1 in
     let idle = none.0 in
     cc
-
--- a turn has a row to take, so their number stays below that of the rows
-pub all_below : (m at now : Moment) (task : Task) (turns rows : ℕ) (before j j' : Journaled) → HaveGivenAll m turns at before j → rows ≡ rows_in m.chains → Gives (IsUnit task at now) j j' → turns < rows
-all_below m at now task turns rows before j j' g count u = let a = g.2.fewer in let b = u.2.fewer in omega arith

@@ -9,10 +9,9 @@ use Rattle.deletion_stage.specs.Lost.{Lost}
 use Rattle.journal_text.specs.declared.line.Line.{Line}
 use Rattle.journal_text.specs.Journals.{Journaled, with_lines}
 use Rattle.journal_text.specs.Texts.{entries_of}
-use Rattle.journal_text.proofs.JournalLemmas.{with_lines_append, with_entries_none}
+use Rattle.journal_text.proofs.JournalLemmas.{with_lines_append}
 use Rattle.journal_text.proofs.WalkLemmas.{leads_nowhere}
 use Rattle.event_text.specs.declared.declared.DeclaredPeer.{DeclaredPeer}
-use Rattle.event_text.specs.Declarations.{peer_at}
 use Rattle.in_chain.specs.Chains.{Chained}
 use Rattle.in_chain.specs.Steps.{without, live_after, deletions_after}
 use Rattle.router_core.specs.Moments.{Moment, chain_at, with_chain, router_links}
@@ -123,12 +122,6 @@ module _ (k : ℕ) where
     live = g.live ∙ ap (λ (l : LiveState). live_fed l k ys) f.live ∙ live_join (live_state m) xs ys;
     stands = g.stands;
   }
-
-  pub up_stays : (xs : List (Network × Option Attrs)) (m m' : Moment) (said : List Line) → HaveFed k xs m m' said → IsUpAt k m → IsUpAt k m'
-  up_stays xs m m' said f up = (up.0, ap (λ (l : LiveState). peer_at k l.declared.peers) f.live ∙ up.1, up.2)
-
-  pub pushed_none : (m : Moment) (before : Journaled) → Stands m → Pushes (HaveFed k [] m m) before before
-  pushed_none m before stands = ([], sym (with_entries_none before), fed_none m stands)
 
   pub pushed_more : (xs : List (Network × Option Attrs)) (x : Network × Option Attrs) (m between m' : Moment) (before j now : Journaled) → Pushes (HaveFed k xs m between) before j
       → Pushes (HaveFed k (x ∷ []) between m') j now → Pushes (HaveFed k (xs ++ x ∷ []) m m') before now

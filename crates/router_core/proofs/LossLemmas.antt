@@ -27,11 +27,11 @@ use Rattle.router_core.specs.Lives.{LiveState, Routes, live_state, with_routes, 
 use Rattle.router_core.specs.Stands.{AreInOrder, IsEarlier, PeerStands, StandsAt, Stands}
 use Rattle.router_core.specs.Turns.{Turns, has_table, journal_lines}
 use Rattle.router_core.specs.Blocks.{RunsFirst}
-use Rattle.router_core.specs.Works.{Pushes, Steps, IsPlace, HasDrained, MayLose, LosesChain, HasRoom, IsSession, HasLost, Ends}
+use Rattle.router_core.specs.Works.{Pushes, Steps, IsPlace, HasDrained, LosesChain, HasRoom, IsSession, HasLost, Ends}
 use Rattle.router_core.proofs.ChainLemmas.{equal_by, same_by, number_at, chain_at_put_same}
 use Rattle.router_core.proofs.LinkLemmas.{leads_router}
 use Rattle.router_core.proofs.RowCounts.{is_full}
-use Rattle.router_core.proofs.StandLemmas.{peer_of, chain_there, stands_put, live_with, few_left}
+use Rattle.router_core.proofs.StandLemmas.{peer_of, stands_put, live_with, few_left}
 use Rattle.router_core.proofs.TurnLemmas.{flushed_join, flushed_none, leads_join, work_none}
 use Rattle.router_core.proofs.UnitLemmas.{swept_number}
 use Rattle.router_core.proofs.PlaceLemmas.{at_place, set_at_place}
@@ -161,22 +161,6 @@ lost_stands p s c up session stands room chain full = record {
         let m : length (c.deletions ++ record { number = s; rows = c.live } ∷ []) ≡ length c.deletions + 1 = length-append c.deletions (record { number = s; rows = c.live } ∷ []) in
         let was = room_of c room e in
         (omega arith, subst (λ (ds : List (Lost Attrs)). AllByRecursion (λ d. d.number ≤ p.session) ds) (sym is) (low_push p.session c.deletions (record { number = s; rows = c.live }) low (omega arith)))
-
-pub may_lose : (k s : ℕ) (m : Moment) → Stands m → IsSession k s m → ((c : Chained) → chain_at k m.chains ≡ Some c → overdue_of c ≡ None) → (c : Chained) → chain_at k m.chains ≡ Some c → MayLose s c
-may_lose k s m stands up free c at =
-    let p = peer_of m stands k c at in
-    let same : p.0 ≡ up.0 = one_peer p.0 up.0 (sym p.1 ∙ up.1) in
-    let is_up : p.0.up ≡ true = ap (λ (q : DeclaredPeer). q.up) same ∙ up.2 in
-    let session : p.0.session ≡ s = ap (λ (q : DeclaredPeer). q.session) same ∙ up.3 in
-    record {
-      chain = p.2.chain;
-      full = p.2.full;
-      room = free c at;
-      later = subst (λ (n : ℕ). AllByRecursion (λ d. d.number < n) c.deletions) session (up_as p.0 p.0.up c.deletions is_up p.2.earlier);
-    }
-
-pub session_there : (k s : ℕ) (m : Moment) → Stands m → IsSession k s m → is_some (chain_at k m.chains) ≡ true
-session_there k s m stands up = let c = chain_there m stands k up.0 up.1 in ap (λ (o : Option Chained). is_some o) c.1
 
 abbrev moment_by : Declaration → List Chained → Moment
 moment_by d cs = record { declared = d; chains = cs }
@@ -349,9 +333,6 @@ room_there k m c before now stands at over is = (
     free = λ c' at'. ap overdue_of (one_chain c' c (sym at' ∙ sym at)) ∙ sym over;
   },
 )
-
-pub room_session : (k s : ℕ) (m room : Moment) (said : List Line) → HasRoom k m room said → IsSession k s m → IsSession k s room
-room_session k s m room said r up = (up.0, ap (λ (l : LiveState). peer_at k l.declared.peers) r.work.live ∙ up.1, up.2, up.3)
 
 pub lost_all : (k s : ℕ) (m room m' : Moment) (before j j' now : Journaled) → Gives (HasRoom k m room) before j → Pushes (Ends k s room m') j j' → now ≡ flushed j' → Gives (HasLost k s m m') before now
 lost_all k s m room m' before j j' now r e is = (

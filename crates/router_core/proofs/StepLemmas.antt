@@ -1,33 +1,18 @@
 -- What each event comes to.
-use Rattle.std.proofs.Common.{◌≡◌, ℕ, ◌+◌, ◌*◌, ◌≤◌, Bool, true, false, cond, List, [], ◌∷◌, ◌++◌, Option, Some, None, length, refl, sym, ap, subst, ◌∙◌, arith}
-use Rattle.addr4.specs.Prefixes.{Network}
-use Rattle.bgp_attr.specs.declared.attrs.Attrs.{Attrs}
+use Rattle.std.proofs.Common.{◌≡◌, ℕ, ◌+◌, ◌*◌, ◌≤◌, List, [], ◌∷◌, ◌++◌, Option, Some, None, length, refl, ap, ◌∙◌, arith}
 use Rattle.bgp_attr.specs.declared.speaker.Speaker.{Speaker}
-use Rattle.bgp_wire.specs.declared.message.Message.{Message}
-use Rattle.bgp_wire.specs.declared.message.Message.TheVariants as messages
-use Rattle.bgp_wire.specs.declared.message.Update.{Update}
-use Rattle.bgp_wire.specs.declared.notice.Notice.{Notice}
-use Rattle.bgp_wire.specs.Spelling.{notification_octets}
 use Rattle.journal_text.specs.declared.link.Task.{Task}
-use Rattle.journal_text.specs.declared.line.Line.{Line}
 use Rattle.journal_text.specs.declared.line.Line.TheVariants as lines
 use Rattle.journal_text.specs.Journals.{Journaled, with_lines, flushed}
 use Rattle.journal_text.specs.Walk.{Leads}
 use Rattle.journal_text.proofs.JournalLemmas.{with_lines_append}
 use Rattle.journal_text.proofs.WalkLemmas.{leads_nowhere}
-use Rattle.event_text.specs.declared.event.Event.{Event}
-use Rattle.event_text.specs.declared.event.Event.TheVariants.{Nothing, Down, Bgp, Idle, Work}
+use Rattle.event_text.specs.declared.event.Event.TheVariants.{Down, Bgp, Work}
 use Rattle.event_text.specs.declared.declared.DeclaredPeer.{DeclaredPeer}
 use Rattle.event_text.specs.Declarations.{Declaration, peer_at, refusal, refusal_at, undeclared}
-use Rattle.router_core.specs.declared.router.Idle.{Idle as Idled}
-use Rattle.router_core.specs.declared.router.Done.{Done}
-use Rattle.router_core.specs.declared.router.Done.TheVariants as done
 use Rattle.router_core.specs.Moments.{Moment, rows_in, router_links, bound_of, Gives}
-use Rattle.router_core.specs.Lives.{live_state, changes_of, Says, HearsFrom, HearsIfUp, ended_if_up, ended}
-use Rattle.router_core.specs.Stands.{Stands}
-use Rattle.router_core.specs.Blocks.{ByPeer, EndsIf, HearsIf, Acts}
-use Rattle.router_core.specs.Works.{Pushes, Comes, AreTurns, HaveDrained, HaveFed, HasLost, HasHeard, HasIdled, HasStepped}
-use Rattle.router_core.proofs.TurnLemmas.{flushed_join, flushed_none, leads_join}
+use Rattle.router_core.specs.Works.{AreTurns, HaveDrained, HasIdled, HasStepped}
+use Rattle.router_core.proofs.TurnLemmas.{flushed_join, leads_join}
 
 -- ---- a declared peer
 there_by : (o : Option DeclaredPeer) → undeclared o ≡ None → (p : DeclaredPeer) × (o ≡ Some p)

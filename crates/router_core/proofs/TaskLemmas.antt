@@ -10,7 +10,7 @@ use Rattle.journal_text.specs.declared.link.Task.{Task}
 use Rattle.journal_text.specs.declared.link.Task.TheVariants.{Del}
 use Rattle.journal_text.specs.declared.line.Line.{Line}
 use Rattle.in_chain.specs.Chains.{Chained, AreRising, NoneEmpty}
-use Rattle.in_chain.specs.Steps.{without, swept_one, swept, welded, table_of, oldest_of}
+use Rattle.in_chain.specs.Steps.{without, swept_one, swept, welded, table_of}
 use Rattle.router_core.specs.Moments.{Moment, chain_at, put_chain, with_chain}
 use Rattle.router_core.specs.Stands.{AreInOrder, Stands, IsSettled}
 use Rattle.router_core.specs.Turns.{IsTurn, DrainsAll, chain_tasks, deletion_tasks, has_table, has_work}
@@ -199,15 +199,3 @@ no_first (task ∷ tasks) e = absurd (cc)
 pub is_first : (tasks : List Task) (task : Task) → first_task tasks ≡ Some task → (rest : List Task) × (tasks ≡ task ∷ rest)
 is_first [] task e = absurd (cc)
 is_first (t ∷ tasks) task e = let same : t ≡ task = cc in (tasks, both same refl)
-
--- the first task is the oldest of the first chain that has one
-abbrev or_else : Option Task → Option Task → Option Task
-or_else (Some task) other = Some task
-or_else None other = other
-
-pub first_of : (c : Chained) (cs : List Chained) → first_task (tasks_of (c ∷ cs)) ≡ or_else (oldest_of c.number c.deletions) (first_task (tasks_of cs))
-first_of c cs = by_stages c.deletions refl
-  where
-    by_stages : (x : List (Lost Attrs)) → c.deletions ≡ x → first_task (tasks_of (c ∷ cs)) ≡ or_else (oldest_of c.number c.deletions) (first_task (tasks_of cs))
-    by_stages [] is = ap first_task (tasks_by c cs [] is) ∙ sym (ap (λ (ds : List (Lost Attrs)). or_else (oldest_of c.number ds) (first_task (tasks_of cs))) is)
-    by_stages (x ∷ xs) is = ap first_task (tasks_by c cs (x ∷ xs) is) ∙ sym (ap (λ (ds : List (Lost Attrs)). or_else (oldest_of c.number ds) (first_task (tasks_of cs))) is)

@@ -74,28 +74,10 @@ run_more task n m between m' xs ys r u =
 abbrev pub HaveGiven : Task → ℕ → Moment → Moment → Journaled → Journaled → Type 0
 HaveGiven task n m m' before now = Gives (HaveRun task m n m') before now
 
-pub given_none : (task : Task) (m : Moment) (before now : Journaled) → Stands m → now ≡ flushed before → HaveGiven task 0 m m before now
-given_none task m before now stands is = ([], is ∙ flushed_none before, run_none task m stands)
-
 pub given_more : (task : Task) (n : ℕ) (m between m' : Moment) (before j now : Journaled) → HaveGiven task n m between before j → Gives (IsUnit task between m') j now
     → HaveGiven task (n + 1) m m' before now
 given_more task n m between m' before j now g u =
     (g.0 ++ u.0, u.1 ∙ ap (λ (x : Journaled). flushed (with_lines x u.0)) g.1 ∙ flushed_join before g.0 u.0, run_more task n m between m' g.0 u.0 g.2 u.2)
-
-pub given_stands : (task : Task) (n : ℕ) (m m' : Moment) (before now : Journaled) → HaveGiven task n m m' before now → Stands m'
-given_stands task n m m' before now g = g.2.work.stands
-
-pub turns_ended : (task : Task) (most n : ℕ) (m between m' : Moment) (before j now : Journaled) → HaveGiven task n m between before j → n ≤ most
-    → (has_work task between ≡ false) × (m' ≡ between) × (now ≡ j) → Gives (AreTurns task most m n m') before now
-turns_ended task most n m between m' before j now g below none = (
-  g.0,
-  none.2 ∙ g.1,
-  subst (λ (x : Moment). AreTurns task most m n x g.0) (sym none.1) (record { run = g.2; most = below; ended = inr none.0 }),
-)
-
-pub turns_all : (task : Task) (most n : ℕ) (m m' : Moment) (before now : Journaled) → HaveGiven task n m m' before now → n ≡ most → Gives (AreTurns task most m most m') before now
-turns_all task most n m m' before now g all =
-    subst (λ (k : ℕ). Gives (AreTurns task most m k m') before now) all (g.0, g.1, record { run = g.2; most = omega arith; ended = inl all })
 
 -- ---- a task to its end
 none_there : (s : ℕ) (ds : List (Lost Attrs)) → NoneEmpty ds → lost_count ds ≡ 0 → table_of s ds ≡ None
