@@ -1,16 +1,12 @@
 -- The text of a source, read in pieces.
-use Rattle.std.proofs.Common.{◌≡◌, ◌⊎◌, ⊎_elim, IfSome, ℕ, ◌+◌, ◌-◌, ◌*◌, ◌<◌, ◌^◌, List, [], ◌++◌, Option, Some, None, refl, sym, ap, ◌∙◌, inl, inr, subst, take, length, arith}
+use Rattle.std.proofs.Common.{◌≡◌, ⊎_elim, IfSome, ℕ, ◌+◌, ◌-◌, ◌*◌, ◌<◌, ◌^◌, List, [], ◌++◌, Option, Some, None, refl, sym, ap, ◌∙◌, subst, take, length, arith}
 use Rattle.std.proofs.lemmas.List.{append-nil}
-use Rattle.std.specs.Io.KnownBytes.{Appends, Consumes, IsAtEnd}
+use Rattle.std.specs.Io.KnownBytes.{Consumes, IsAtEnd}
 use Rattle.journal_check.specs.Judged.{IsChecked}
 use Rattle.journal_check.specs.declared.checked.Checked.{Checked}
 use Rattle.journal_check.specs.declared.checked.Checked.TheVariants.{Lawful, Broken, NotAJournal}
-use Rattle.check_run.specs.declared.ending.Ending.{Ending}
-use Rattle.check_run.specs.declared.ending.Ending.TheVariants as endings
 use Rattle.check_run.specs.Lines.{lines_of}
-use Rattle.check_run.specs.Runs.{Took, Writes, IsFrontOf}
 use Rattle.check_run.specs.Walking.{Stage, HasWalked, GoesOn, IsNearer, Progress}
-use Rattle.check_run.specs.Answers.{IsAnswer, Judges, IsFrontOfAnswer, answer_text, ending_of}
 use Rattle.check_run.proofs.Known.{consumes_nothing, consumes_then}
 use Rattle.check_run.proofs.Walks.{few_lines}
 

@@ -1,6 +1,6 @@
 -- Lines that are walked, and what is said of them.
-use Rattle.std.proofs.Common.{◌≡◌, ◌≢◌, ℕ, ◌+◌, ◌<◌, nat_lt, leb, Bool, true, false, List, [], ◌∷◌, ◌++◌, length, Some, refl, sym, ap, ◌∙◌, inl, arith, subst, append_assoc, length-append}
-use Rattle.std.proofs.lemmas.List.{append-nil, map-append}
+use Rattle.std.proofs.Common.{◌≡◌, ◌≢◌, ℕ, ◌+◌, ◌<◌, nat_lt, leb, true, false, List, [], ◌∷◌, ◌++◌, length, Some, refl, sym, ap, ◌∙◌, inl, arith, subst, append_assoc, length-append}
+use Rattle.std.proofs.lemmas.List.{map-append}
 use Rattle.std.proofs.lemmas.Bool.Decides.{nat_tests}
 use Rattle.std.specs.Str.Lines.{strip_carriage_return}
 use Rattle.journal_check.specs.Judged.{entries_read, IsReached, IsLawfulJournal, IsNotAJournalAt, IsChecked}
@@ -11,7 +11,7 @@ use Rattle.journal_check.specs.declared.checked.Checked.TheVariants.{Lawful, Bro
 use Rattle.journal_check.proofs.JudgeLemmas.{entries_few}
 use Rattle.journal_check.proofs.OneAnswer.{one_answer}
 use Rattle.check_run.specs.Lines.{IsPart, IsCut, lines_of, lines_in}
-use Rattle.check_run.specs.Walking.{Stage, HasWalked, IsReady, GoesOn, IsNearer}
+use Rattle.check_run.specs.Walking.{Stage, HasWalked, IsReady, GoesOn}
 use Rattle.check_run.proofs.Cuts.{goes_into}
 use Rattle.check_run.proofs.Pieces.{cut_nothing, cut_part_more, cut_line_more, lines_behind, lines_then, pending_is_last, all_ended}
 

@@ -1,10 +1,10 @@
 -- The chains of peers, by number.
-use Rattle.std.proofs.Common.{◌≡◌, ℕ, ◌+◌, ◌<◌, Bool, true, false, cond, List, [], ◌∷◌, map, Option, Some, None, nat_eq, length, get_or, refl, sym, ap, subst, ◌∙◌, arith, zero, suc}
+use Rattle.std.proofs.Common.{◌≡◌, ℕ, ◌<◌, Bool, true, false, cond, List, [], ◌∷◌, Some, None, nat_eq, length, get_or, refl, sym, ap, subst, ◌∙◌, arith, zero, suc}
 use Rattle.std.proofs.Math.ListN.{set}
 use Rattle.std.proofs.lemmas.Bool.Decides.{nat_tests}
 use Rattle.std.specs.List.{AllByRecursion}
 use Rattle.in_chain.specs.Chains.{Chained}
-use Rattle.router_core.specs.Moments.{Moment, chain_at, put_one, put_chain, with_chain}
+use Rattle.router_core.specs.Moments.{chain_at, put_one, put_chain}
 use Rattle.router_core.specs.Stands.{AreInOrder}
 
 pub equal_by : (m n : ℕ) → nat_eq m n ≡ true → m ≡ n

@@ -1,5 +1,5 @@
 -- Every deletion stage to its end.
-use Rattle.std.proofs.Common.{◌≡◌, ℕ, ◌+◌, ◌<◌, ◌≤◌, false, List, [], ◌∷◌, ◌++◌, Option, Some, None, refl, sym, ap, subst, ◌∙◌, arith, append_assoc, suc}
+use Rattle.std.proofs.Common.{◌≡◌, ℕ, ◌+◌, ◌<◌, false, List, [], ◌∷◌, ◌++◌, Some, None, refl, sym, ap, subst, ◌∙◌, arith, append_assoc, suc}
 use Rattle.std.proofs.lemmas.List.{append-nil}
 use Rattle.journal_text.specs.declared.link.Task.{Task}
 use Rattle.journal_text.specs.declared.line.Line.{Line}
@@ -35,8 +35,7 @@ pub all_more : (m at now : Moment) (task : Task) (turns : ℕ) (before j j' : Jo
     → Gives (IsUnit task at now) j j' → HaveGivenAll m (turns + 1) now before j'
 all_more m at now task turns before j j' g first u =
     let f = is_first (deletion_tasks at) task first in
-    let follows = first_turn at now task f.0 u.0 g.2.work.stands f.1 u.2.turn in
-    (
+    let follows = first_turn at now task f.0 u.0 g.2.work.stands f.1 u.2.turn in (
       g.0 ++ u.0,
       u.1 ∙ ap (λ (x : Journaled). flushed (with_lines x u.0)) g.1 ∙ flushed_join before g.0 u.0,
       record {
@@ -56,8 +55,7 @@ all_done m now turns before j g none =
     let empty = no_first (deletion_tasks now) none in
     let stays : DrainsAll (deletion_tasks now) now [] 0 now = subst (λ (ts : List Task). DrainsAll ts now [] 0 now) (sym empty) (refl, refl, refl) in
     let all = g.2.goes_on [] 0 now stays in
-    let same : turns + 0 ≡ turns = omega arith in
-    (
+    let same : turns + 0 ≡ turns = omega arith in (
       g.0,
       g.1,
       record {

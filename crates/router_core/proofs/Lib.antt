@@ -1,4 +1,6 @@
 mod ChainLookups
+mod NoticeSizes
+mod PeerLemmas
 mod SessionLemmas
 mod ShownRows
 mod UpdateLemmas
@@ -12,3 +14,6 @@ pub mod UnitLemmas
 pub mod TurnLemmas
 pub mod TaskLemmas
 pub mod DrainLemmas
+pub mod FeedLemmas
+pub mod LossLemmas
+pub mod StepLemmas

@@ -1,13 +1,12 @@
 -- From the links of one chain to those of the router.
-use Rattle.std.proofs.Common.{◌≡◌, ℕ, Bool, true, false, cond, List, [], ◌∷◌, ◌++◌, Option, Some, None, nat_eq, refl, sym, ap, subst, ◌∙◌}
+use Rattle.std.proofs.Common.{◌≡◌, ℕ, Bool, true, false, cond, List, Option, Some, None, nat_eq, refl, sym, ap, subst, ◌∙◌}
 use Rattle.journal_text.specs.declared.link.Link.{Link}
 use Rattle.journal_text.specs.declared.link.Link.TheVariants.{In, Peer, Filt, Res, Org, Lost, Low, Dyn, Int, Red, Best, ReadRib, Ebgp, Ibgp, Ext, Fib, Read, Outf, Adv}
 use Rattle.journal_text.specs.declared.entry.Entry.{Entry}
 use Rattle.journal_text.specs.declared.value.Value.{Value}
 use Rattle.journal_text.specs.Links.{owner_of}
 use Rattle.journal_text.specs.Walk.{Links, Leads}
-use Rattle.link_change.specs.Rows.{Rows}
-use Rattle.in_chain.specs.Chains.{Chained, links_of, is_named, beside}
+use Rattle.in_chain.specs.Chains.{Chained, links_of, beside}
 use Rattle.in_chain.specs.Falls.{LeadsChain}
 use Rattle.router_core.specs.Moments.{Moment, chain_at, put_chain, with_chain, links_by, router_links}
 use Rattle.router_core.proofs.ChainLemmas.{equal_by, number_at, chain_at_put_same, chain_at_put_other}

@@ -1,19 +1,19 @@
 -- A turn takes one row.
-use Rattle.std.proofs.Common.{◌≡◌, ℕ, ◌+◌, ◌-◌, ◌≤◌, ◌<◌, Bool, true, false, not, cond, List, [], ◌∷◌, map, Option, Some, None, is_some, nat_eq, refl, sym, ap, subst, ◌∙◌, arith, length}
+use Rattle.std.proofs.Common.{◌≡◌, ℕ, ◌+◌, ◌-◌, ◌<◌, Bool, true, false, not, cond, List, [], ◌∷◌, map, Option, Some, None, is_some, nat_eq, refl, sym, ap, subst, ◌∙◌, arith}
 use Rattle.std.proofs.lemmas.Bool.Decides.{nat_tests}
 use Rattle.std.specs.List.{AllByRecursion, filter}
 use Rattle.std.specs.FinMap as tables
-use Rattle.std.specs.FinMap.{FinMap, len-remove, len-empty, empty_of_len, get-empty, contains_key}
+use Rattle.std.specs.FinMap.{FinMap, len-remove, empty_of_len, get-empty}
 use Rattle.addr4.specs.Prefixes.{Network, prefix_cmp}
 use Rattle.addr4.proofs.PrefixOrder.{prefixes_total}
 use Rattle.bgp_attr.specs.declared.attrs.Attrs.{Attrs}
 use Rattle.link_change.specs.Rows.{is_empty_map}
 use Rattle.deletion_stage.specs.Lost.{Lost}
 use Rattle.in_chain.specs.Chains.{Chained, AreRising, lost_count, row_count}
-use Rattle.in_chain.specs.Steps.{without, swept_one, swept, welded, table_of}
+use Rattle.in_chain.specs.Steps.{without, swept_one, table_of}
 use Rattle.router_core.specs.Moments.{chain_at, put_one, put_chain, rows_in}
 use Rattle.router_core.specs.Stands.{AreInOrder}
-use Rattle.router_core.proofs.ChainLemmas.{equal_by, same_by, other_by, number_at, chain_here, chain_past, put_one_here, put_one_past, put_none}
+use Rattle.router_core.proofs.ChainLemmas.{equal_by, same_by, chain_here, chain_past, put_one_here, put_one_past, put_none}
 
 abbrev pub is_full : Lost Attrs → Bool
 is_full d = not (is_empty_map d.rows)

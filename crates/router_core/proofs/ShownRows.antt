@@ -17,10 +17,15 @@ use Rattle.journal_text.specs.declared.value.Value.{Value}
 use Rattle.journal_text.specs.declared.link.Link.{Link}
 use Rattle.journal_text.specs.declared.line.Line.{Line}
 use Rattle.journal_text.specs.declared.line.Line.TheVariants as lines
-use Rattle.journal_text.specs.Walk.{Links}
+use Rattle.journal_text.specs.declared.entry.Entry.{Entry}
+use Rattle.journal_text.specs.Walk.{Links, Leads}
+use Rattle.journal_text.specs.Texts.{entries_of}
+use Rattle.event_text.specs.declared.event.Event.TheVariants as events
+use Rattle.in_chain.specs.Chains.{Chained}
+use Rattle.router_core.specs.Moments.{Moment, router_links}
 use Rattle.journal_text.specs.Journals.{Journaled, with_lines}
-use Rattle.router_core.specs.Blocks.{AreRows, Shows}
-use Rattle.router_core.specs.Lookups.{IsRowOf, IsCountOf}
+use Rattle.router_core.specs.Blocks.{AreRows, Shows, Acts}
+use Rattle.router_core.specs.Lookups.{links_among, IsRowOf, IsCountOf}
 use Rattle.router_core.specs.Works.{Pushes}
 
 -- a prefix lies beyond the place, or is listed
@@ -170,3 +175,21 @@ rows_end j now new link (Some rows) place n listed live next done count shown la
   last ∙ ap (λ m. with_lines now (lines.Rows link m ∷ [])) count ∙ ap (λ s. with_lines s (lines.Rows link (length listed) ∷ [])) done ∙ with_more j (row_lines link listed) (lines.Rows link (length listed) ∷ []),
   (listed, all_shown rows place listed (next rows refl) (shown rows refl), refl),
 )
+
+-- ---- a show as an event
+no_entries : (link : Link) (listed : List (Network × Value)) (n : ℕ) → entries_of (row_lines link listed ++ lines.Rows link n ∷ []) ≡ []
+no_entries link [] n = refl
+no_entries link (r ∷ rs) n = no_entries link rs n
+
+shows_no_entries : (link : Link) (of : Option (Rows Value)) (said : List Line) → Shows link of said → entries_of said ≡ []
+shows_no_entries link None said shows = ap entries_of shows
+shows_no_entries link (Some rows) said shows = ap entries_of shows.2 ∙ no_entries link shows.0 (length shows.0)
+
+pub show_acts : (m : Moment) (chains : List Chained) (link : Link) (said : List Line) → chains ≡ m.chains → Shows link (links_among chains link) said → Acts m (events.Show link) 0 m said
+show_acts m chains link said same shows =
+    let here : Shows link (router_links m link) said = subst (λ (cs : List Chained). Shows link (links_among cs link) said) same shows in
+    record {
+      block = (refl, refl, here);
+      leads = subst (λ (es : List (Entry Value)). Leads (router_links m) es (router_links m)) (sym (shows_no_entries link (router_links m link) said here)) (record { lawful = tt; ends = refl });
+      live = refl;
+    }

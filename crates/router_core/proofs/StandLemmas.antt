@@ -1,19 +1,16 @@
 -- What stands after a step of one chain, and what is live then.
-use Rattle.std.proofs.Common.{◌≡◌, ℕ, ◌+◌, ◌≤◌, ◌<◌, Bool, true, false, not, cond, List, [], ◌∷◌, ◌++◌, map, Option, Some, None, nat_eq, refl, sym, ap, subst, ◌∙◌, arith, length}
-use Rattle.std.proofs.lemmas.Bool.Decides.{nat_tests}
+use Rattle.std.proofs.Common.{◌≡◌, ℕ, ◌≤◌, Bool, true, false, cond, List, [], ◌∷◌, map, Option, Some, None, nat_eq, refl, sym, ap, subst, ◌∙◌, arith, length}
 use Rattle.std.specs.List.{AllByRecursion, filter}
-use Rattle.std.specs.FinMap as tables
 use Rattle.bgp_attr.specs.declared.attrs.Attrs.{Attrs}
-use Rattle.link_change.specs.Rows.{is_empty_map}
 use Rattle.deletion_stage.specs.Lost.{Lost}
 use Rattle.event_text.specs.declared.declared.DeclaredPeer.{DeclaredPeer}
 use Rattle.event_text.specs.Declarations.{Declaration, peer_at}
-use Rattle.in_chain.specs.Chains.{Chained, IsChain, NoneEmpty}
+use Rattle.in_chain.specs.Chains.{Chained}
 use Rattle.router_core.specs.Moments.{Moment, chain_at, put_chain, with_chain}
 use Rattle.router_core.specs.Lives.{LiveState, Routes, live_state, routes_of, with_routes}
-use Rattle.router_core.specs.Stands.{IsEarlier, IsSilent, PeerStands, StandsAt, Stands}
+use Rattle.router_core.specs.Stands.{IsEarlier, PeerStands, StandsAt, Stands}
 use Rattle.router_core.specs.Works.{IsSoundAt}
-use Rattle.router_core.proofs.ChainLemmas.{equal_by, same_by, chain_at_put_same, chain_at_put_other, in_order_put}
+use Rattle.router_core.proofs.ChainLemmas.{equal_by, chain_at_put_same, chain_at_put_other, in_order_put}
 
 -- ---- one peer and its chain
 pub stands_there : (k : ℕ) (m : Moment) (c : Chained) (o : Option DeclaredPeer) → StandsAt o (Some c) → (p : DeclaredPeer) × (o ≡ Some p) × PeerStands p c

@@ -2,22 +2,20 @@
 use Rattle.std.proofs.Common.{◌≡◌, ℕ, ◌+◌, ◌<◌, ◌⊎◌, inl, inr, Bool, true, false, not, cond, List, [], ◌∷◌, ◌++◌, map, Option, Some, None, is_some, nat_eq, refl, sym, ap, subst, ◌∙◌, arith, append_assoc, zero, suc}
 use Rattle.std.proofs.lemmas.List.{append-nil}
 use Rattle.std.specs.List.{AllByRecursion, flat_map, filter}
-use Rattle.std.specs.FinMap as tables
 use Rattle.std.specs.FinMap.{FinMap}
 use Rattle.addr4.specs.Prefixes.{Network, prefix_cmp}
 use Rattle.bgp_attr.specs.declared.attrs.Attrs.{Attrs}
-use Rattle.link_change.specs.Rows.{is_empty_map}
 use Rattle.deletion_stage.specs.Lost.{Lost}
 use Rattle.journal_text.specs.declared.link.Task.{Task}
 use Rattle.journal_text.specs.declared.link.Task.TheVariants.{Del}
 use Rattle.journal_text.specs.declared.line.Line.{Line}
 use Rattle.in_chain.specs.Chains.{Chained, AreRising, NoneEmpty}
 use Rattle.in_chain.specs.Steps.{without, swept_one, swept, welded, table_of, oldest_of}
-use Rattle.router_core.specs.Moments.{Moment, chain_at, put_one, put_chain, with_chain}
+use Rattle.router_core.specs.Moments.{Moment, chain_at, put_chain, with_chain}
 use Rattle.router_core.specs.Stands.{AreInOrder, Stands, IsSettled}
-use Rattle.router_core.specs.Turns.{IsTurn, Turns, Drains, DrainsAll, Deletes, chain_tasks, deletion_tasks, has_table, has_work}
+use Rattle.router_core.specs.Turns.{IsTurn, DrainsAll, chain_tasks, deletion_tasks, has_table, has_work}
 use Rattle.router_core.specs.Works.{first_task}
-use Rattle.router_core.proofs.ChainLemmas.{equal_by, same_by, other_by, number_at, chain_here, chain_past, put_one_here, put_one_past, put_none, none_below, chain_at_put_same}
+use Rattle.router_core.proofs.ChainLemmas.{same_by, other_by, number_at, chain_here, chain_past, put_one_here, put_one_past, put_none, none_below, chain_at_put_same}
 use Rattle.router_core.proofs.RowCounts.{is_full, later_stay}
 use Rattle.router_core.proofs.StandLemmas.{sound_at}
 
@@ -152,7 +150,7 @@ first_turn m m' (Del k s) rest said stands e t = subst (λ (x : Moment). Follows
         inr (
           tasks h.above gone ∙ sym h.rest_is,
           ap (has_table s) (chain_at_put_same k m.chains h.chain c' h.at number) ∙ ap (λ (l : List (Lost Attrs)). is_some (table_of s l)) gone
-          ∙ ap (λ (o : Option (FinMap prefix_cmp Attrs)). is_some o) (none_later s h.above later),
+              ∙ ap (λ (o : Option (FinMap prefix_cmp Attrs)). is_some o) (none_later s h.above later),
         )
 
     by_full : Follows (with_chain m c') (Del k s) rest
@@ -165,7 +163,11 @@ drains_more m between m' task rest xs ys n turn (inl same) d = by_drains (subst 
   where
     by_drains : DrainsAll (task ∷ rest) between ys n m' → DrainsAll (task ∷ rest) m (xs ++ ys) (suc n) m'
     by_drains d = (
-      xs ++ d.0, d.1, suc d.2, d.3, d.4,
+      xs ++ d.0,
+      d.1,
+      suc d.2,
+      d.3,
+      d.4,
       ((xs, d.0, between, turn, d.5.0, refl), d.5.1),
       d.6,
       ap (λ (l : List Line). xs ++ l) d.7 ∙ sym (append_assoc xs d.0 d.1),

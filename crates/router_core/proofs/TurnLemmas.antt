@@ -1,5 +1,5 @@
 -- Turns one after the other, and the journal that they leave.
-use Rattle.std.proofs.Common.{◌≡◌, ℕ, ◌+◌, ◌≤◌, ◌<◌, ◌⊎◌, inl, inr, Bool, true, false, not, cond, List, [], ◌∷◌, ◌++◌, Option, Some, None, is_some, nat_eq, refl, sym, ap, subst, ◌∙◌, arith, append_assoc, zero, suc}
+use Rattle.std.proofs.Common.{◌≡◌, ℕ, ◌+◌, ◌≤◌, ◌⊎◌, inl, inr, Bool, true, false, List, [], ◌∷◌, ◌++◌, Option, Some, None, is_some, nat_eq, refl, sym, ap, subst, ◌∙◌, arith, append_assoc, zero, suc}
 use Rattle.std.proofs.lemmas.Bool.Decides.{nat_tests}
 use Rattle.std.proofs.lemmas.List.{append-nil}
 use Rattle.std.specs.FinMap as tables
@@ -16,7 +16,7 @@ use Rattle.journal_text.specs.declared.line.Line.{Line}
 use Rattle.journal_text.specs.Journals.{Journaled, with_lines, flushed}
 use Rattle.journal_text.specs.Texts.{text_of, entries_of}
 use Rattle.journal_text.specs.Walk.{Leads}
-use Rattle.journal_text.proofs.JournalLemmas.{with_lines_append, text_of_append, entries_of_append}
+use Rattle.journal_text.proofs.JournalLemmas.{text_of_append, entries_of_append}
 use Rattle.journal_text.proofs.WalkLemmas.{leads_append, leads_nowhere}
 use Rattle.in_chain.specs.Chains.{Chained, NoneEmpty, lost_count, row_count}
 use Rattle.in_chain.specs.Steps.{table_of}
@@ -24,7 +24,7 @@ use Rattle.router_core.specs.Moments.{Moment, chain_at, rows_in, router_links, G
 use Rattle.router_core.specs.Stands.{Stands}
 use Rattle.router_core.specs.Turns.{IsTurn, Turns, has_table, has_work}
 use Rattle.router_core.specs.Works.{IsWork, IsUnit, HaveRun, AreTurns, HasDrained}
-use Rattle.router_core.proofs.ChainLemmas.{equal_by, chain_here, chain_past}
+use Rattle.router_core.proofs.ChainLemmas.{chain_here, chain_past}
 use Rattle.router_core.proofs.StandLemmas.{sound_at}
 
 -- ---- the journal
@@ -34,7 +34,7 @@ text_with j text = record { text = text; pending = []; quiet = j.quiet }
 pub flushed_join : (j : Journaled) (a b : List Line) → flushed (with_lines (flushed (with_lines j a)) b) ≡ flushed (with_lines j (a ++ b))
 flushed_join j a b = ap (text_with j)
     (append_assoc j.text (text_of j.quiet (j.pending ++ a)) (text_of j.quiet b) ∙ ap (λ (t : List ℕ). j.text ++ t) (sym (text_of_append j.quiet (j.pending ++ a) b))
-     ∙ ap (λ (ls : List Line). j.text ++ text_of j.quiet ls) (append_assoc j.pending a b))
+    ∙ ap (λ (ls : List Line). j.text ++ text_of j.quiet ls) (append_assoc j.pending a b))
 
 pub flushed_none : (j : Journaled) → flushed j ≡ flushed (with_lines j [])
 flushed_none j = ap (λ (ls : List Line). text_with j (j.text ++ text_of j.quiet ls)) (sym (append-nil j.pending))

@@ -1,25 +1,22 @@
 -- One turn of the router.
-use Rattle.std.proofs.Common.{◌≡◌, ℕ, ◌+◌, ◌≤◌, ◌<◌, Bool, true, false, not, cond, List, [], ◌∷◌, ◌++◌, map, Option, Some, None, is_some, nat_eq, refl, sym, ap, subst, ◌∙◌, arith, length}
+use Rattle.std.proofs.Common.{◌≡◌, ℕ, ◌+◌, Bool, true, false, cond, List, map, Some, nat_eq, refl, sym, ap, subst, ◌∙◌, arith, length}
 use Rattle.std.specs.List.{AllByRecursion, filter}
-use Rattle.std.specs.FinMap as tables
-use Rattle.std.specs.FinMap.{FinMap}
-use Rattle.addr4.specs.Prefixes.{Network, prefix_cmp}
+use Rattle.addr4.specs.Prefixes.{Network}
 use Rattle.bgp_attr.specs.declared.attrs.Attrs.{Attrs}
-use Rattle.link_change.specs.Rows.{is_empty_map}
 use Rattle.deletion_stage.specs.Lost.{Lost}
 use Rattle.journal_text.specs.declared.link.Task.TheVariants.{Del}
 use Rattle.journal_text.specs.declared.line.Line.{Line}
 use Rattle.journal_text.specs.Texts.{entries_of}
-use Rattle.journal_text.specs.Journals.{Journaled, with_lines, flushed}
+use Rattle.journal_text.specs.Journals.{Journaled, flushed}
 use Rattle.event_text.specs.declared.declared.DeclaredPeer.{DeclaredPeer}
-use Rattle.in_chain.specs.Chains.{Chained, IsChain, NoneEmpty, lost_count, row_count}
-use Rattle.in_chain.specs.Steps.{without, swept_one, swept, welded, table_of}
-use Rattle.router_core.specs.declared.router.Done.TheVariants.{Nothing, Taken}
-use Rattle.router_core.specs.Moments.{Moment, chain_at, put_chain, with_chain}
+use Rattle.in_chain.specs.Chains.{Chained, IsChain, NoneEmpty, row_count}
+use Rattle.in_chain.specs.Steps.{without, swept_one, swept, welded}
+use Rattle.router_core.specs.declared.router.Done.TheVariants.{Taken}
+use Rattle.router_core.specs.Moments.{Moment, chain_at, with_chain}
 use Rattle.router_core.specs.Stands.{IsEarlier, IsSilent, PeerStands, Stands}
-use Rattle.router_core.specs.Turns.{Deletes, has_table}
-use Rattle.router_core.specs.Works.{DeletesChain, IsUnit, IsWork, Steps, Comes, TurnsAt}
-use Rattle.router_core.proofs.ChainLemmas.{equal_by, number_at}
+use Rattle.router_core.specs.Turns.{Deletes}
+use Rattle.router_core.specs.Works.{DeletesChain, IsUnit, Comes, TurnsAt}
+use Rattle.router_core.proofs.ChainLemmas.{number_at}
 use Rattle.router_core.proofs.LinkLemmas.{leads_router}
 use Rattle.router_core.proofs.RowCounts.{is_full, count_filtered, count_swept, rows_put}
 use Rattle.router_core.proofs.StandLemmas.{peer_of, stands_with, earlier_left, few_left, live_same}
@@ -69,7 +66,7 @@ unit_done k s m c c' said stands at d =
     let same : c'.live ≡ c.live = ap (λ (x : Chained). x.live) is in
     let deletes : Deletes k s m said (with_chain m c') = record { chain = c; at = at; less = d.less; sent = d.sent; entries = d.entries; sweeps = d.sweeps; lines = d.lines; after = ap (with_chain m) d.after } in
     let here : PeerStands p.0 c' = peer_left p.0 c c' (swept_one s d.sweeps.prefix) is_full (swept_number s d.sweeps.prefix) (ap (λ (x : Chained). x.deletions) is) d.step.chain d.step.full
-        (silent_as p.0.up c c' same p.2.silent) p.2 in
+    (silent_as p.0.up c c' same p.2.silent) p.2 in
     record {
       turn = deletes;
       work = record {

@@ -1,5 +1,5 @@
 -- A fall in a chain and the weld behind it, as one step.
-use Rattle.std.proofs.Common.{◌≡◌, ℕ, Bool, true, false, cond, List, [], ◌∷◌, ◌++◌, Option, Some, None, nat_eq, refl, sym, ap, subst, ◌∙◌}
+use Rattle.std.proofs.Common.{◌≡◌, ℕ, true, false, cond, List, ◌++◌, Option, Some, None, refl, sym, ap, subst, ◌∙◌}
 use Rattle.addr4.specs.Prefixes.{Network}
 use Rattle.bgp_attr.specs.declared.attrs.Attrs.{Attrs}
 use Rattle.link_change.specs.Changes.{IsSent}
@@ -10,15 +10,13 @@ use Rattle.journal_text.specs.declared.link.Link.TheVariants.{In}
 use Rattle.journal_text.specs.declared.link.Task.TheVariants.{Del}
 use Rattle.journal_text.specs.declared.entry.Entry.{Entry}
 use Rattle.journal_text.specs.declared.value.Value.{Value}
-use Rattle.journal_text.specs.declared.line.Line.{Line}
 use Rattle.journal_text.specs.Journals.{Journaled, with_lines, with_entries, Adds}
-use Rattle.journal_text.specs.Texts.{entries_of}
 use Rattle.journal_text.specs.Walk.{Leads}
 use Rattle.journal_text.proofs.JournalLemmas.{with_entries_append, entries_of_entries}
 use Rattle.journal_text.proofs.WalkLemmas.{leads_append}
 use Rattle.in_chain.specs.Chains.{Chained, in_rows, beside, IsChain, NoneEmpty}
 use Rattle.in_chain.specs.Falls.{Falls, LeadsChain, way_down}
-use Rattle.in_chain.specs.Steps.{fed, welded, weld_entries, table_of, Sweeps, session_of, IsIdle, IsSwept, IsTaken}
+use Rattle.in_chain.specs.Steps.{fed, welded, weld_entries, Sweeps, session_of, IsIdle, IsSwept, IsTaken}
 use Rattle.router_core.specs.declared.router.Done.TheVariants.{Nothing, Taken}
 use Rattle.router_core.specs.Turns.{journal_lines}
 use Rattle.router_core.specs.Works.{Pushes, StepsChain, FeedsChain, DeletesChain, TurnsChain, is_nothing}

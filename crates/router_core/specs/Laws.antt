@@ -1,6 +1,9 @@
 -- Laws of events, for the crates above.
-use Rattle.std.specs.Prelude.{◌≡◌, ℕ, List}
+use Rattle.std.specs.Prelude.{◌≡◌, ℕ, ◌≤◌, List, length, Some}
+use Rattle.bgp_attr.specs.declared.speaker.Profile.{Profile}
+use Rattle.bgp_wire.specs.declared.notice.Notice.{Notice}
 use Rattle.bgp_wire.specs.declared.message.Message.{Message}
+use Rattle.bgp_wire.specs.Updates.{fault}
 use Rattle.event_text.specs.declared.event.Event.{Event}
 use Rattle.event_text.specs.declared.declared.DeclaredPeer.{DeclaredPeer}
 use Rattle.router_core.specs.Lives.{LiveState, LiveAfter, Says, is_ending, ends_session, declared_after}
@@ -12,3 +15,7 @@ SessionsEnd = (p : DeclaredPeer) (octets : List ℕ) (message : Message) → Say
 -- The declarations after an event are told by those before it.
 abbrev pub DeclarationsFollow : Type 0
 DeclarationsFollow = (l : LiveState) (event : Event) (l' : LiveState) → LiveAfter l event l' → l'.declared ≡ declared_after l.declared event
+
+-- The data of a fault's NOTIFICATION has at most the 4,075 octets that fit into a message.
+abbrev pub NoticesFit : Type 0
+NoticesFit = (p : Profile) (octets : List ℕ) (n : Notice) → fault p octets ≡ Some n → length n.octets ≤ 4075

@@ -1,5 +1,7 @@
 -- Peers and their chains, where they stand.
-use Rattle.std.specs.Prelude.{ℕ, ◌+◌, nat_lt, Bool, false, if◌then◌else◌, List, [], ◌∷◌, Option, Some, None}
+use Rattle.std.specs.Prelude.{ℕ, ◌+◌, ◌≤◌, length, nat_lt, Bool, false, if◌then◌else◌, List, [], ◌∷◌, Option, Some, None}
+use Rattle.bgp_wire.specs.declared.message.Message.{Message}
+use Rattle.bgp_wire.specs.declared.message.Message.TheVariants as messages
 use Rattle.event_text.specs.declared.declared.DeclaredPeer.{DeclaredPeer}
 use Rattle.in_chain.specs.Chains.{Chained}
 
@@ -12,3 +14,11 @@ place_in k (c ∷ cs) = if nat_lt k c.number then 0 else place_in k cs + 1
 abbrev pub is_up : Option DeclaredPeer → Bool
 is_up None = false
 is_up (Some p) = p.up
+
+-- the data of a fault's NOTIFICATION fits into a message
+abbrev pub HasShortNotice : Message → Type 0
+HasShortNotice (messages.Notify n) = length n.octets ≤ 4075
+HasShortNotice (messages.Update u) = Unit {0}
+HasShortNotice messages.Keepalive = Unit {0}
+HasShortNotice messages.Skip = Unit {0}
+HasShortNotice messages.Notification = Unit {0}

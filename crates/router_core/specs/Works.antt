@@ -1,5 +1,5 @@
 -- What the router's own calls make of chains and moments, with what they keep.
-use Rattle.std.specs.Prelude.{◌≡◌, ℕ, ◌+◌, ◌≤◌, ◌<◌, ◌⊎◌, length, slice_index_or, Bool, true, false, List, [], ◌∷◌, ◌++◌, Option, Some, None}
+use Rattle.std.specs.Prelude.{◌≡◌, ℕ, ◌+◌, ◌≤◌, ◌<◌, ◌⊎◌, length, slice_index_or, Bool, true, false, List, [], ◌∷◌, Option, Some, None}
 use Rattle.std.specs.List.{AllByRecursion}
 use Rattle.addr4.specs.Prefixes.{Network}
 use Rattle.bgp_attr.specs.declared.attrs.Attrs.{Attrs}
@@ -19,13 +19,17 @@ use Rattle.event_text.specs.declared.declared.DeclaredPeer.{DeclaredPeer}
 use Rattle.event_text.specs.Declarations.{peer_at}
 use Rattle.in_chain.specs.Chains.{Chained, in_rows, IsChain, NoneEmpty}
 use Rattle.in_chain.specs.Falls.{Falls, LeadsChain, way_down}
-use Rattle.in_chain.specs.Steps.{fed, welded, table_of, Sweeps}
+use Rattle.in_chain.specs.Steps.{fed, welded, lost, loss_entries, overdue_of, table_of, Sweeps}
 use Rattle.router_core.specs.declared.router.Done.{Done}
 use Rattle.router_core.specs.declared.router.Done.TheVariants.{Nothing, Taken}
-use Rattle.router_core.specs.Moments.{Moment, chain_at, put_chain, router_links, rows_in, Gives}
-use Rattle.router_core.specs.Lives.{live_state}
+use Rattle.router_core.specs.Moments.{Moment, chain_at, put_chain, with_chain, router_links, rows_in, bound_of, Gives}
+use Rattle.router_core.specs.Lives.{LiveState, live_state, with_routes, routes_after, heard, ended}
 use Rattle.router_core.specs.Stands.{Stands, IsSettled}
-use Rattle.router_core.specs.Turns.{fall_lines, FeedsAll, IsTurn, Turns, Drains, DrainsAll, has_table, has_work, deletion_tasks}
+use Rattle.router_core.specs.Turns.{journal_lines, fall_lines, FeedsAll, IsTurn, Turns, DrainsAll, has_table, has_work, deletion_tasks}
+use Rattle.router_core.specs.Blocks.{RunsFirst, Loses, Hears, Idles, Acts, ended as ended_moment}
+use Rattle.router_core.specs.declared.router.Idle.{Idle}
+use Rattle.event_text.specs.declared.event.Event.{Event}
+use Rattle.bgp_wire.specs.declared.message.Message.{Message}
 
 -- these lines were pushed, and this is said of them
 abbrev pub Pushes : (List Line → Type 0) → Journaled → Journaled → Type 0
@@ -131,3 +135,81 @@ pub record HaveDrained (m : Moment) (turns : ℕ) (m' : Moment) (said : List Lin
 abbrev pub first_task : List Task → Option Task
 first_task [] = None
 first_task (task ∷ tasks) = Some task
+
+-- the peer is up
+abbrev pub IsUpAt : ℕ → Moment → Type 0
+IsUpAt k m = (p : DeclaredPeer) × (peer_at k m.declared.peers ≡ Some p) × (p.up ≡ true)
+
+-- the live state where these changes were made to a peer's routes
+abbrev pub live_fed : LiveState → ℕ → List (Network × Option Attrs) → LiveState
+live_fed l k changes = record { declared = l.declared; routes = with_routes l.routes k (routes_after (l.routes k) changes) }
+
+-- The prefixes of an UPDATE from peer k were announced and withdrawn, one after the other.
+pub record HaveFed (k : ℕ) (changes : List (Network × Option Attrs)) (m m' : Moment) (said : List Line) : Type 0 where
+  pub feeds : FeedsAll k changes m said m'
+  pub leads : Leads (router_links m) (entries_of said) (router_links m')
+  pub live : live_state m' ≡ live_fed (live_state m) k changes
+  pub stands : Stands m'
+
+-- a session of this number may be lost in a chain
+pub record MayLose (s : ℕ) (c : Chained) : Type 0 where
+  pub chain : IsChain c
+  pub full : NoneEmpty c.deletions
+  pub room : overdue_of c ≡ None
+  pub later : AllByRecursion (λ d. d.number < s) c.deletions
+
+abbrev pub MayLoseAt : ℕ → ℕ → List Chained → Type 0
+MayLoseAt k s cs = (c : Chained) → chain_at k cs ≡ Some c → MayLose s c
+
+-- a session is lost in a chain
+pub record LosesChain (s : ℕ) (c c' : Chained) (said : List Line) : Type 0 where
+  pub is : c' ≡ lost s c
+  pub lines : said ≡ journal_lines (loss_entries s c)
+  pub step : StepsChain c said c'
+
+-- There is room for the loss of a session in the chain of peer k.
+pub record HasRoom (k : ℕ) (m room : Moment) (said : List Line) : Type 0 where
+  pub before : Chained
+  pub at : chain_at k m.chains ≡ Some before
+  pub runs : RunsFirst (overdue_of before) m said room
+  pub work : IsWork m said room
+  pub free : (c : Chained) → chain_at k room.chains ≡ Some c → overdue_of c ≡ None
+
+-- session s of the peer is up
+abbrev pub IsSession : ℕ → ℕ → Moment → Type 0
+IsSession k s m = (p : DeclaredPeer) × (peer_at k m.declared.peers ≡ Some p) × (p.up ≡ true) × (p.session ≡ s)
+
+-- session s of peer k was lost
+pub record HasLost (k s : ℕ) (m m' : Moment) (said : List Line) : Type 0 where
+  pub loses : Loses k s m said m'
+  pub leads : Leads (router_links m) (entries_of said) (router_links m')
+  pub live : live_state m' ≡ ended (live_state m) k
+  pub stands : Stands m'
+
+-- the loss alone, where there is room
+pub record Ends (k s : ℕ) (m m' : Moment) (said : List Line) : Type 0 where
+  pub chain : Chained
+  pub there : chain_at k m.chains ≡ Some chain
+  pub lines : said ≡ journal_lines (loss_entries s chain)
+  pub after : m' ≡ ended_moment (with_chain m (lost s chain)) k
+  pub leads : Leads (router_links m) (entries_of said) (router_links m')
+  pub live : live_state m' ≡ ended (live_state m) k
+  pub stands : Stands m'
+
+-- an idle was answered by its bound and its turns
+pub record HasIdled (m : Moment) (idle : Idle) (m' : Moment) (said : List Line) : Type 0 where
+  pub idles : Idles m said idle.turns m'
+  pub bound : idle.bound ≡ bound_of m
+  pub work : IsWork m said m'
+
+-- an event was stepped, and what stands then
+pub record HasStepped (m : Moment) (event : Event) (turns : ℕ) (m' : Moment) (said : List Line) : Type 0 where
+  pub acts : Acts m event turns m' said
+  pub stands : Stands m'
+
+-- a message from peer k, which is up, was heard
+pub record HasHeard (k : ℕ) (p : DeclaredPeer) (m : Moment) (message : Message) (m' : Moment) (said : List Line) : Type 0 where
+  pub hears : Hears k p m message said m'
+  pub leads : Leads (router_links m) (entries_of said) (router_links m')
+  pub live : live_state m' ≡ heard (live_state m) k message
+  pub stands : Stands m'

@@ -1,6 +1,6 @@
 //! Laws of events, for the proofs of the crates above. Each is a function that does nothing, whose contract is the law.
 
-ghost use Rattle.router_core.specs.Laws.{SessionsEnd, DeclarationsFollow};
+ghost use Rattle.router_core.specs.Laws.{SessionsEnd, DeclarationsFollow, NoticesFit};
 
 use bgp_wire::one_of_message_and_fault;
 
@@ -17,3 +17,8 @@ pub fn declarations_follow()
 {
     sessions_end();
 }
+
+/// The data of the NOTIFICATION that answers a fault fits into a message.
+pub fn notices_fit()
+    ensures { NoticesFit }
+{}

@@ -1,4 +1,17 @@
 //! The router: events and turns of background work, and the lines that they give.
+//!
+//! A [`Core`] has what was declared and a chain of stages for each peer. [`Core::step`] steps an event, and its lines go into
+//! the text of a journal; it asks that the event may stand there, as `event_text` judges. [`Core::unit`], [`Core::drain`]
+//! and [`Core::idle`] do background work alone: one turn of a task, a phase of an idle, all of it. [`Core::chain`] and
+//! [`Core::count`] look at what is there. Each turn's lines are made into text at once, so that a long idle holds few lines.
+//!
+//! What contracts see is in `specs/`: the declarations and the chains ([`Moments`](specs/Moments.antt)), what holds between
+//! two steps (`Stands`), what each event does and the lines that it gives (`Blocks`), and what the events alone make of the
+//! live routes, whatever work was done or not (`Lives`). Every step obeys the two consistency rules of a journal (NSDI 2005,
+//! section 5.1) on all links together, and after an idle no deletion stage stands (`IsSettled`), so that `in.K` has exactly
+//! the live routes. An idle takes no more turns than it announces.
+//!
+//! For want of memory a call answers `Memory`, and from then on each further call does: what was half done is never seen.
 #![tactic(auto)]
 
 mod laws;
@@ -6,8 +19,13 @@ mod lookups;
 mod network;
 mod peers;
 mod router;
+mod sessions;
+mod steps;
 mod turns;
 mod updates;
 
-pub use laws::{declarations_follow, sessions_end};
+pub use laws::{declarations_follow, notices_fit, sessions_end};
 pub use router::{Core, Done, Idle, Phase};
+
+#[cfg(test)]
+mod tests;

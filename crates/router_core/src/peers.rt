@@ -8,7 +8,7 @@ ghost use Rattle.router_core.specs.Lives.{Says};
 ghost use Rattle.router_core.specs.Stands.{Stands};
 ghost use Rattle.router_core.specs.Blocks.{Acts};
 ghost use Rattle.router_core.specs.Lookups.{IsCountOf};
-ghost use Rattle.router_core.specs.Peers.{is_up, place_in};
+ghost use Rattle.router_core.specs.Peers.{is_up, place_in, HasShortNotice};
 ghost use Rattle.router_core.specs.Works.{Pushes};
 
 use crate::lookups;
@@ -56,11 +56,7 @@ impl Network {
     }
 
     /// A peer's session begins; `ignored` where one is up.
-    pub(crate) fn begin_session(
-        &mut self,
-        number: u32,
-        journal: &mut Journal,
-    ) -> Result<(), Memory>
+    pub(crate) fn begin_session(&mut self, number: u32, journal: &mut Journal) -> Result<(), Memory>
         requires admitted { refusal self.old.declared (events.Up number) ≡ None }
         requires stands { Stands self.old }
         ensures acts { OnOk result (Pushes (Acts self.old (events.Up number) 0 self.new) journal.old journal.new) }
@@ -137,7 +133,8 @@ fn place_in(chains: &[Chain], number: u32) -> usize
 
 /// What octets of a peer say (RFC 4271, section 4), or the fault that they have.
 pub(crate) fn said(alloc: Global, peer: &DeclaredPeer, octets: &[u8]) -> Result<Message, Memory>
-    ensures { IfOk result (Says peer.now octets.now) }
+    ensures says { IfOk result (Says peer.now octets.now) }
+    ensures fits { IfOk result HasShortNotice }
 {
     read_message(alloc, PLAIN, octets, !peer.words.internal)
 }

@@ -1,15 +1,18 @@
 //! The router's state.
 
-ghost use Rattle.std.specs.Prelude.{◌≡◌, ◌≤◌, ◌+◌, ◌<◌, ℕ, true, false, OnOk, OnErr, IfOk, IsErr, Some};
+ghost use Rattle.std.specs.Prelude.{◌≡◌, ◌≤◌, ◌+◌, ◌<◌, ℕ, true, false, OnOk, OnErr, IfOk, IsErr, IsSome, Some};
 ghost use Rattle.journal_text.specs.declared.line.Line.{Line};
 ghost use Rattle.journal_text.specs.Walk.{Leads};
 ghost use Rattle.event_text.specs.declared.event.Event.TheVariants as events;
 ghost use Rattle.event_text.specs.Declarations.{refusal};
-ghost use Rattle.router_core.specs.Moments.{first_moment, chain_at, Gives};
+ghost use Rattle.router_core.specs.Moments.{first_moment, chain_at, router_links, Gives};
 ghost use Rattle.router_core.specs.Stands.{Stands};
 ghost use Rattle.router_core.specs.Turns.{has_work};
 ghost use Rattle.router_core.specs.Blocks.{Acts};
+ghost use Rattle.router_core.specs.Lookups.{IsCountOf};
+ghost use Rattle.router_core.specs.Works.{Comes, HaveDrained, HasIdled};
 
+use crate::network::Network;
 use addr4::Memory;
 use event_text::{Declared, Event};
 use in_chain::Chain;
@@ -41,8 +44,7 @@ pub enum Phase {
 
 #[derive(Drop)]
 pub struct Core {
-    declared: Declared,
-    chains: Vec<Chain>,
+    network: Network,
     events: u64,
     failed: bool,
 }
@@ -59,7 +61,7 @@ impl Model for Core {
 
     ghost coded = { cored_code (declaration_code speaker_row.the_row.coded peer_row.the_row.coded) (chained_code attrs_row.the_row.coded) };
 
-    ghost view = { λ c. record { moment = record { declared = c.declared; chains = c.chains.items }; events = c.events; failed = c.failed } };
+    ghost view = { λ c. record { moment = c.network; events = c.events; failed = c.failed } };
 }
 
 impl Core {
@@ -69,8 +71,7 @@ impl Core {
         ensures stands { Stands result.moment }
     {
         Core {
-            declared: Declared::new(alloc),
-            chains: Vec::new(alloc),
+            network: Network::new(alloc),
             events: 0,
             failed: false,
         }
@@ -80,7 +81,7 @@ impl Core {
     pub fn declared(&self) -> &Declared
         ensures { result.now ≡ self.now.moment.declared }
     {
-        &self.declared
+        &self.network.declared
     }
 
     /// How many events were stepped.
@@ -88,6 +89,21 @@ impl Core {
         ensures { result ≡ self.now.events }
     {
         self.events
+    }
+
+    /// The chain of a declared peer.
+    pub fn chain(&self, number: u32) -> &Chain
+        requires { IsSome (chain_at number self.now.moment.chains) }
+        ensures { Some result.now ≡ chain_at number self.now.moment.chains }
+    {
+        self.network.chain(number)
+    }
+
+    /// How many rows a link has; None exactly where it isn't live. Takes no memory.
+    pub fn count(&self, link: Link) -> Option<u128>
+        ensures { IsCountOf (router_links self.now.moment link) result }
+    {
+        self.network.count(link)
     }
 
     /// Steps an event: its lines go into the text of the journal. Answers how many turns `work` or `idle` took, and 0 for
@@ -103,7 +119,73 @@ impl Core {
         ensures memory { OnErr result (self.new.failed ≡ true) }
         ensures stays { self.old.failed ≡ true → IsErr result }
     {
+        if self.failed {
+            return Err(Memory);
+        }
         self.failed = true;
-        Err(Memory)
+        let turns = self.network.step(event, journal)?;
+        self.events += 1;
+        self.failed = false;
+        Ok(turns)
+    }
+
+    /// One turn of a task, and the text of its lines. [`Done::Nothing`] comes exactly where the task has no work; then
+    /// nothing changes. What is live stays.
+    pub fn unit(&mut self, task: Task, journal: &mut Journal) -> Result<Done, Memory>
+        requires stands { self.old.failed ≡ false → Stands self.old.moment }
+        ensures comes { IfOk result (Comes task self.old.moment self.new.moment journal.old journal.new) }
+        ensures stands { OnOk result (Stands self.new.moment) }
+        ensures events { OnOk result (self.new.events ≡ self.old.events) }
+        ensures good { OnOk result (self.new.failed ≡ false) }
+        ensures memory { OnErr result (self.new.failed ≡ true) }
+        ensures stays { self.old.failed ≡ true → IsErr result }
+    {
+        if self.failed {
+            return Err(Memory);
+        }
+        self.failed = true;
+        let done = self.network.turn(task, journal)?;
+        self.failed = false;
+        Ok(done)
+    }
+
+    /// A phase of an idle: each of its tasks runs to its end. Answers how many turns that took.
+    pub fn drain(&mut self, phase: Phase, journal: &mut Journal) -> Result<u128, Memory>
+        requires stands { self.old.failed ≡ false → Stands self.old.moment }
+        ensures drained { IfOk result (λ turns. Gives (HaveDrained self.old.moment turns self.new.moment) journal.old journal.new) }
+        ensures stands { OnOk result (Stands self.new.moment) }
+        ensures events { OnOk result (self.new.events ≡ self.old.events) }
+        ensures good { OnOk result (self.new.failed ≡ false) }
+        ensures memory { OnErr result (self.new.failed ≡ true) }
+        ensures stays { self.old.failed ≡ true → IsErr result }
+    {
+        if self.failed {
+            return Err(Memory);
+        }
+        self.failed = true;
+        let turns = match phase {
+            Phase::Del => self.network.drain_all(journal)?,
+        };
+        self.failed = false;
+        Ok(turns)
+    }
+
+    /// Every task runs to its end, within the number of turns that is announced first. Answers both.
+    pub fn idle(&mut self, journal: &mut Journal) -> Result<Idle, Memory>
+        requires stands { self.old.failed ≡ false → Stands self.old.moment }
+        ensures idled { IfOk result (λ idle. Gives (HasIdled self.old.moment idle self.new.moment) journal.old journal.new) }
+        ensures stands { OnOk result (Stands self.new.moment) }
+        ensures events { OnOk result (self.new.events ≡ self.old.events) }
+        ensures good { OnOk result (self.new.failed ≡ false) }
+        ensures memory { OnErr result (self.new.failed ≡ true) }
+        ensures stays { self.old.failed ≡ true → IsErr result }
+    {
+        if self.failed {
+            return Err(Memory);
+        }
+        self.failed = true;
+        let idle = self.network.idle(journal)?;
+        self.failed = false;
+        Ok(idle)
     }
 }

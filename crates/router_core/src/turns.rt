@@ -5,13 +5,13 @@ ghost use Rattle.in_chain.specs.Chains.{IsChain, NoneEmpty};
 ghost use Rattle.journal_text.specs.declared.link.Task.TheVariants as tasks;
 ghost use Rattle.router_core.specs.Moments.{chain_at, Gives};
 ghost use Rattle.router_core.specs.Stands.{AreInOrder, Stands};
-ghost use Rattle.router_core.specs.Works.{TurnsChain, FeedsChain, Pushes, is_nothing, IsPlace, IsSoundAt, TurnsAt, Comes, AreTurns, HasDrained, HaveDrained, first_task};
+ghost use Rattle.router_core.specs.Works.{TurnsChain, is_nothing, IsPlace, IsSoundAt, TurnsAt, Comes, AreTurns, HasDrained, HaveDrained, first_task};
 ghost use Rattle.router_core.specs.Turns.{chain_tasks, deletion_tasks};
 ghost use Rattle.std.specs.List.{flat_map};
 
 use crate::network::Network;
 use crate::router::Done;
-use addr4::{Memory, Prefix};
+use addr4::Memory;
 use bgp_attr::SharedAttrs;
 use in_chain::Chain;
 use journal_text::{Journal, Task};
@@ -42,24 +42,8 @@ fn turn_chain(chain: &mut Chain, session: u32, journal: &mut Journal) -> Result<
     Ok(Done::Taken)
 }
 
-/// One prefix is announced or withdrawn in a chain.
-fn feed_chain(
-    chain: &mut Chain,
-    prefix: Prefix,
-    row: Option<SharedAttrs>,
-    journal: &mut Journal,
-) -> Result<(), Memory>
-    requires sound { IsChain chain.old }
-    requires full { NoneEmpty chain.old.deletions }
-    ensures { OnOk result (Pushes (FeedsChain prefix row chain.old chain.new) journal.old journal.new) }
-{
-    chain.feed(prefix, row, journal)?;
-    chain.weld(journal)?;
-    Ok(())
-}
-
 /// Where the chain of this number stands.
-fn place(chains: &[Chain], number: u32) -> Option<usize>
+pub(crate) fn place(chains: &[Chain], number: u32) -> Option<usize>
     ensures { IsPlace number chains.now result }
 {
     chains.iter().position(|chain| chain.number() == number)
@@ -94,12 +78,7 @@ impl Network {
         }
     }
 
-    fn turn_del(
-        &mut self,
-        number: u32,
-        session: u32,
-        journal: &mut Journal,
-    ) -> Result<Done, Memory>
+    fn turn_del(&mut self, number: u32, session: u32, journal: &mut Journal) -> Result<Done, Memory>
         requires { Stands self.old }
         ensures { IfOk result (Comes (tasks.Del number session) self.old self.new journal.old journal.new) }
     {

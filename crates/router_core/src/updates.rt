@@ -46,7 +46,7 @@ fn shared(alloc: Global, attrs: Option<Attrs>) -> Result<Option<SharedAttrs>, Me
 }
 
 /// The same attributes once more. Takes no memory.
-fn again(attrs: &Option<SharedAttrs>) -> Result<Option<SharedAttrs>, Memory>
+pub(crate) fn again(attrs: &Option<SharedAttrs>) -> Result<Option<SharedAttrs>, Memory>
     ensures { IfOk result (λ again. again ≡ attrs.now) }
 {
     match attrs {

@@ -1,4 +1,4 @@
-use Rattle.std.proofs.Common.{◌≡◌, ◌<◌, ◌≤◌, take, length, arith, length-take, subst}
+use Rattle.std.proofs.Common.{◌<◌, take, length, arith}
 use Rattle.check_run.specs.Stages.{stage}
 use Rattle.check_run.proofs.Readings.{progress_more, comes_nearer, judged_all, judged_early}
 use Rattle.check_run.proofs.judging.judge.Goals as goal

@@ -1,4 +1,4 @@
-use Rattle.std.proofs.Common.{◌≡◌, List, Some, subst}
+use Rattle.std.proofs.Common.{List, Some, subst}
 use Rattle.in_chain.specs.Chains.{Chained}
 use Rattle.router_core.specs.Works.{IsPlace}
 use Rattle.router_core.proofs.PlaceLemmas.{turns_placed}

@@ -1,4 +1,4 @@
-use Rattle.std.proofs.Common.{◌≡◌, ap, subst, sym}
+use Rattle.std.proofs.Common.{subst}
 use Rattle.journal_text.specs.declared.link.Task.TheVariants.{Del}
 use Rattle.in_chain.specs.Steps.{IsTaken}
 use Rattle.router_core.proofs.WorkLemmas.{rests_chain, sweeps_chain}

@@ -1,4 +1,4 @@
-use Rattle.std.proofs.Common.{◌≡◌, ◌<◌, ◌++◌, ◌∙◌, ap, sym, subst, length, arith, inr, refl, length-append, List, ℕ}
+use Rattle.std.proofs.Common.{◌<◌, ◌++◌, ◌∙◌, ap, sym, subst, length, arith, inr, refl, length-append, List, ℕ}
 use Rattle.check_run.specs.Stages.{stage}
 use Rattle.check_run.proofs.Walks.{TakesLine, begins_short, begins_long, long_is_not_lawful}
 use Rattle.check_run.proofs.checking.Checking.begin.Goals as goal

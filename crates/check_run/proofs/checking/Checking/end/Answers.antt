@@ -1,4 +1,4 @@
-use Rattle.std.proofs.Common.{◌≡◌, ◌+◌, ◌++◌, ◌∙◌, ap, sym, subst, arith, inl, List, ℕ}
+use Rattle.std.proofs.Common.{◌≡◌, ◌+◌, ◌∙◌, ap, sym, subst, arith, inl, List, ℕ}
 use Rattle.std.specs.Str.Lines.{strip_carriage_return}
 use Rattle.check_run.specs.Stages.{stage}
 use Rattle.check_run.proofs.Walks.{TakesLine, ends, line_counts}

@@ -1,4 +1,3 @@
-use Rattle.std.proofs.Common.{◌≡◌}
 use Rattle.check_run.proofs.Walks.{walked_nothing}
 use Rattle.check_run.proofs.checking.Checking.new.Goals as goal
 

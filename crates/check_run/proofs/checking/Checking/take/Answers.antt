@@ -1,9 +1,7 @@
-use Rattle.std.proofs.Common.{◌≡◌, ◌∷◌, ◌++◌, ◌+◌, ◌∙◌, ℕ, [], length, option_map, ap, sym, subst, append_assoc, length-append}
+use Rattle.std.proofs.Common.{◌∷◌, ◌++◌, ◌∙◌, [], option_map, ap, sym, append_assoc}
 use Rattle.check_run.specs.Lines.{after_part}
 use Rattle.check_run.specs.Stages.{stage}
-use Rattle.check_run.specs.Walking.{IsNearer, GoesOn}
 use Rattle.check_run.proofs.GoingOn.{taken_line, taken_decided, taken_last, nearer_last, still_ready}
-use Rattle.journal_check.specs.declared.checked.Checked.{Checked}
 use Rattle.check_run.proofs.checking.Checking.take.Goals as goal
 
 pub begin-requires-clause-ready : goal.begin-requires-clause-ready

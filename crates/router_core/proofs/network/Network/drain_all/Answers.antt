@@ -1,4 +1,4 @@
-use Rattle.std.proofs.Common.{◌≡◌, sym, subst}
+use Rattle.std.proofs.Common.{sym, subst}
 use Rattle.router_core.specs.declared.router.Done.{Done}
 use Rattle.router_core.specs.Works.{Comes}
 use Rattle.router_core.proofs.DrainLemmas.{all_more, all_done, all_taken}

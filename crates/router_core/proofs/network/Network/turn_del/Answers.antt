@@ -1,4 +1,4 @@
-use Rattle.std.proofs.Common.{◌≡◌, subst, sym}
+use Rattle.std.proofs.Common.{subst, sym}
 use Rattle.journal_text.specs.declared.link.Task.TheVariants.{Del}
 use Rattle.router_core.specs.declared.router.Done.{Done}
 use Rattle.router_core.specs.declared.router.Done.TheVariants.{Taken}
@@ -15,5 +15,5 @@ returns c =
     let stands : Stands old = subst Stands (sym c.self.view_is) c.requires in
     subst (λ (m : Moment). Comes (Del c.args.number c.args.session) m new c.args.journal.now c.flush.new.self Taken) c.self.view_is
     (comes_taken c.args.number c.args.session old c.turn_at.new.chains.items c.args.journal.now c.turn_at.new.journal c.flush.new.self stands
-     (subst (λ (d : Done). TurnsAt c.args.number c.args.session c.self.inside.chains.items c.turn_at.new.chains.items c.args.journal.now c.turn_at.new.journal d) c.in-Taken.is c.in_ok-turn_at.ensures)
-     c.in_ok-flush.ensures.ok)
+    (subst (λ (d : Done). TurnsAt c.args.number c.args.session c.self.inside.chains.items c.turn_at.new.chains.items c.args.journal.now c.turn_at.new.journal d) c.in-Taken.is c.in_ok-turn_at.ensures)
+    c.in_ok-flush.ensures.ok)

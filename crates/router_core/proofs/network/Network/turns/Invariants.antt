@@ -1,4 +1,3 @@
-use Rattle.std.proofs.Common.{ℕ, ◌≤◌}
 use Rattle.router_core.proofs.TurnLemmas.{HaveGiven}
 use Rattle.router_core.proofs.network.Network.turns.Given as goal
 

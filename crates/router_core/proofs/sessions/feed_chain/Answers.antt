@@ -1,5 +1,5 @@
 use Rattle.router_core.proofs.WorkLemmas.{feeds_chain}
-use Rattle.router_core.proofs.turns.feed_chain.Goals as goal
+use Rattle.router_core.proofs.sessions.feed_chain.Goals as goal
 
 pub returns : goal.returns
 returns c =

@@ -1,0 +1,376 @@
+-- The loss of a session.
+use Rattle.std.proofs.Common.{◌≡◌, ℕ, ◌+◌, ◌<◌, ◌≤◌, Bool, true, false, ◌||◌, cond, List, [], ◌∷◌, ◌++◌, map, Option, Some, None, is_some, nat_eq, nat_lt, get_or, length, refl, sym, ap, subst, ◌∙◌, arith, length-append, zero, suc}
+use Rattle.std.proofs.Math.ListN.{set}
+use Rattle.std.proofs.lemmas.Bool.Decides.{nat_tests}
+use Rattle.std.specs.List.{AllByRecursion, filter}
+use Rattle.std.specs.FinMap.{FinMap}
+use Rattle.addr4.specs.Prefixes.{Network, prefix_cmp}
+use Rattle.bgp_attr.specs.declared.attrs.Attrs.{Attrs}
+use Rattle.link_change.specs.Rows.{is_empty_map}
+use Rattle.deletion_stage.specs.Lost.{Lost}
+use Rattle.journal_text.specs.declared.link.Task.{Task}
+use Rattle.journal_text.specs.declared.link.Task.TheVariants.{Del}
+use Rattle.journal_text.specs.declared.entry.Entry.{Entry}
+use Rattle.journal_text.specs.declared.value.Value.{Value}
+use Rattle.journal_text.specs.declared.line.Line.{Line}
+use Rattle.journal_text.specs.Journals.{Journaled, with_lines, with_entries, flushed}
+use Rattle.journal_text.specs.Texts.{entries_of}
+use Rattle.journal_text.specs.Walk.{Leads}
+use Rattle.journal_text.proofs.JournalLemmas.{entries_of_entries}
+use Rattle.event_text.specs.declared.declared.DeclaredPeer.{DeclaredPeer}
+use Rattle.event_text.specs.Declarations.{Declaration, peer_at, ended_at, without_session}
+use Rattle.in_chain.specs.Chains.{Chained, beside, IsChain, NoneEmpty}
+use Rattle.in_chain.specs.Falls.{LeadsChain}
+use Rattle.in_chain.specs.Steps.{swept_one, swept, welded, table_of, lost, loss_entries, overdue_of, oldest_of}
+use Rattle.router_core.specs.Moments.{Moment, chain_at, put_chain, with_chain, Gives}
+use Rattle.router_core.specs.Lives.{LiveState, Routes, live_state, with_routes, ended}
+use Rattle.router_core.specs.Stands.{AreInOrder, IsEarlier, PeerStands, StandsAt, Stands}
+use Rattle.router_core.specs.Turns.{Turns, has_table, journal_lines}
+use Rattle.router_core.specs.Blocks.{RunsFirst}
+use Rattle.router_core.specs.Works.{Pushes, Steps, IsPlace, HasDrained, MayLose, LosesChain, HasRoom, IsSession, HasLost, Ends}
+use Rattle.router_core.proofs.ChainLemmas.{equal_by, same_by, number_at, chain_at_put_same}
+use Rattle.router_core.proofs.LinkLemmas.{leads_router}
+use Rattle.router_core.proofs.RowCounts.{is_full}
+use Rattle.router_core.proofs.StandLemmas.{peer_of, chain_there, stands_put, live_with, few_left}
+use Rattle.router_core.proofs.TurnLemmas.{flushed_join, flushed_none, leads_join, work_none}
+use Rattle.router_core.proofs.UnitLemmas.{swept_number}
+use Rattle.router_core.proofs.PlaceLemmas.{at_place, set_at_place}
+
+-- ---- in a chain
+pub loses_chain : (s : ℕ) (c c' : Chained) (before now : Journaled) → c' ≡ lost s c → now ≡ with_entries before (loss_entries s c) → LeadsChain c (loss_entries s c) c' → IsChain c' → NoneEmpty c'.deletions
+    → Pushes (LosesChain s c c') before now
+loses_chain s c c' before now is lines leads chain full = (
+  journal_lines (loss_entries s c),
+  lines,
+  record {
+    is = is;
+    lines = refl;
+    step = record {
+      number = ap (λ (x : Chained). x.number) is;
+      leads = λ others. subst (λ (es : List (Entry Value)). Leads (beside others c) es (beside others c')) (sym (entries_of_entries (loss_entries s c))) (leads others);
+      chain = chain;
+      full = full;
+    };
+  },
+)
+
+pub loses_placed : (k s : ℕ) (cs : List Chained) (i : ℕ) (c c' : Chained) (before now : Journaled) → AreInOrder cs → IsPlace k cs (Some i) → c ≡ get_or cs i c
+    → Pushes (LosesChain s c c') before now → Steps (LosesChain s) k cs (set cs i c') before now
+loses_placed k s cs i c c' before now order place is f = (c, c', at_place k cs i c place is, set_at_place cs i c c' order place.0 is f.2.step.number, f)
+
+-- ---- the peers
+abbrev down : DeclaredPeer → DeclaredPeer
+down p = record { words = p.words; session = p.session; up = false }
+
+ended_words : (k : ℕ) (p : DeclaredPeer) → (ended_at k p).words ≡ p.words
+ended_words k p = by_test (nat_eq p.words.number k)
+  where
+    by_test : (b : Bool) → (cond b (down p) p).words ≡ p.words
+    by_test true = refl
+    by_test false = refl
+
+peer_here : (k : ℕ) (p : DeclaredPeer) (ps : List DeclaredPeer) → nat_eq p.words.number k ≡ true → peer_at k (p ∷ ps) ≡ Some p
+peer_here k p ps e = ap (λ (b : Bool). cond b (Some p) (peer_at k ps)) e
+
+peer_past : (k : ℕ) (p : DeclaredPeer) (ps : List DeclaredPeer) → nat_eq p.words.number k ≡ false → peer_at k (p ∷ ps) ≡ peer_at k ps
+peer_past k p ps e = ap (λ (b : Bool). cond b (Some p) (peer_at k ps)) e
+
+one_peer : (p q : DeclaredPeer) → Some p ≡ Some q → p ≡ q
+one_peer p q e = cc
+
+ended_same : (k : ℕ) (ps : List DeclaredPeer) (p : DeclaredPeer) → peer_at k ps ≡ Some p → peer_at k (map (ended_at k) ps) ≡ Some (down p)
+ended_same k [] p at = absurd (cc)
+ended_same k (q ∷ qs) p at = by_test (nat_eq q.words.number k) refl (ended_same k qs p)
+  where
+    number : (b : Bool) → nat_eq q.words.number k ≡ b → nat_eq (ended_at k q).words.number k ≡ b
+    number b e = ap (λ w. nat_eq w.number k) (ended_words k q) ∙ e
+
+    by_test : (b : Bool) → nat_eq q.words.number k ≡ b → (peer_at k qs ≡ Some p → peer_at k (map (ended_at k) qs) ≡ Some (down p)) → peer_at k (map (ended_at k) (q ∷ qs)) ≡ Some (down p)
+    by_test true e rest =
+        let same : q ≡ p = one_peer q p (sym (peer_here k q qs e) ∙ at) in
+        let is : ended_at k q ≡ down q = ap (λ (b : Bool). cond b (down q) q) e in
+        peer_here k (ended_at k q) (map (ended_at k) qs) (number true e) ∙ ap Some is ∙ ap (λ (x : DeclaredPeer). Some (down x)) same
+    by_test false e rest = peer_past k (ended_at k q) (map (ended_at k) qs) (number false e) ∙ rest (sym (peer_past k q qs e) ∙ at)
+
+ended_other : (k j : ℕ) (ps : List DeclaredPeer) → nat_eq j k ≡ false → peer_at j (map (ended_at k) ps) ≡ peer_at j ps
+ended_other k j [] other = refl
+ended_other k j (q ∷ qs) other = by_test (nat_eq q.words.number j) refl (ended_other k j qs other)
+  where
+    number : (b : Bool) → nat_eq q.words.number j ≡ b → nat_eq (ended_at k q).words.number j ≡ b
+    number b e = ap (λ w. nat_eq w.number j) (ended_words k q) ∙ e
+
+    by_test : (b : Bool) → nat_eq q.words.number j ≡ b → peer_at j (map (ended_at k) qs) ≡ peer_at j qs → peer_at j (map (ended_at k) (q ∷ qs)) ≡ peer_at j (q ∷ qs)
+    by_test true e rest =
+        let same : q.words.number ≡ j = equal_by q.words.number j e in
+        let is : ended_at k q ≡ q = ap (λ (b : Bool). cond b (down q) q) (ap (λ (n : ℕ). nat_eq n k) same ∙ other) in
+        peer_here j (ended_at k q) (map (ended_at k) qs) (number true e) ∙ ap Some is ∙ sym (peer_here j q qs e)
+    by_test false e rest = peer_past j (ended_at k q) (map (ended_at k) qs) (number false e) ∙ rest ∙ sym (peer_past j q qs e)
+
+-- ---- what stands after the loss
+low_of : (p : DeclaredPeer) (ds : List (Lost Attrs)) → AllByRecursion (λ d. IsEarlier p true d.number) ds → AllByRecursion (λ d. d.number ≤ p.session) ds
+low_of p [] all = tt
+low_of p (d ∷ ds) all = (let lt : d.number < p.session = all.0 in omega arith, low_of p ds all.1)
+
+low_push : (n : ℕ) (ds : List (Lost Attrs)) (x : Lost Attrs) → AllByRecursion (λ d. d.number ≤ n) ds → x.number ≤ n → AllByRecursion (λ d. d.number ≤ n) (ds ++ x ∷ [])
+low_push n [] x all low = (low, tt)
+low_push n (d ∷ ds) x all low = (all.0, low_push n ds x all.1 low)
+
+pub up_as : (p : DeclaredPeer) (up : Bool) (ds : List (Lost Attrs)) → up ≡ true → AllByRecursion (λ d. IsEarlier p up d.number) ds → AllByRecursion (λ d. IsEarlier p true d.number) ds
+up_as p true ds e all = all
+up_as p false ds e all = absurd (cc)
+
+none_of : (b : Bool) (o : Option Task) → cond b None o ≡ None → (task : Task) → o ≡ Some task → b ≡ true
+none_of true o e task some = refl
+none_of false o e task some = let s = some in absurd (cc)
+
+room_of : (c : Chained) → overdue_of c ≡ None → is_empty_map c.live ≡ false → length c.deletions < 16
+room_of c none full = by_stages c.deletions refl
+  where
+    by_stages : (x : List (Lost Attrs)) → c.deletions ≡ x → length c.deletions < 16
+    by_stages [] is = let e : length c.deletions ≡ 0 = ap length is in omega arith
+    by_stages (d ∷ ds) is =
+        let b = none_of (nat_lt (length c.deletions) 16 || is_empty_map c.live) (oldest_of c.number c.deletions) none (Del c.number d.number) (ap (oldest_of c.number) is) in
+        let only : nat_lt (length c.deletions) 16 ≡ true = left_of (nat_lt (length c.deletions) 16) (is_empty_map c.live) b full in
+        grind (arith, nat_tests)
+      where
+        left_of : (a b : Bool) → (a || b) ≡ true → b ≡ false → a ≡ true
+        left_of true b e f = refl
+        left_of false b e f = absurd (cc)
+
+lost_stands : (p : DeclaredPeer) (s : ℕ) (c : Chained) → p.up ≡ true → p.session ≡ s → PeerStands p c → overdue_of c ≡ None → IsChain (lost s c) → NoneEmpty (lost s c).deletions → PeerStands (down p) (lost s c)
+lost_stands p s c up session stands room chain full = record {
+  chain = chain;
+  full = full;
+  few = (by_test (is_empty_map c.live) refl).0;
+  earlier = (by_test (is_empty_map c.live) refl).1;
+  silent = refl;
+}
+  where
+    low : AllByRecursion (λ d. d.number ≤ p.session) c.deletions
+    low = low_of p c.deletions (up_as p p.up c.deletions up stands.earlier)
+
+    by_test : (b : Bool) → is_empty_map c.live ≡ b → (length (lost s c).deletions ≤ 16) × AllByRecursion (λ d. d.number ≤ p.session) (lost s c).deletions
+    by_test true e =
+        let is : (lost s c).deletions ≡ c.deletions = ap (λ (b : Bool). cond b c.deletions (c.deletions ++ record { number = s; rows = c.live } ∷ [])) e in
+        let n : length (lost s c).deletions ≡ length c.deletions = ap length is in
+        let was = stands.few in
+        (omega arith, subst (λ (ds : List (Lost Attrs)). AllByRecursion (λ d. d.number ≤ p.session) ds) (sym is) low)
+    by_test false e =
+        let is : (lost s c).deletions ≡ c.deletions ++ record { number = s; rows = c.live } ∷ [] = ap (λ (b : Bool). cond b c.deletions (c.deletions ++ record { number = s; rows = c.live } ∷ [])) e in
+        let n : length (lost s c).deletions ≡ length (c.deletions ++ record { number = s; rows = c.live } ∷ []) = ap length is in
+        let m : length (c.deletions ++ record { number = s; rows = c.live } ∷ []) ≡ length c.deletions + 1 = length-append c.deletions (record { number = s; rows = c.live } ∷ []) in
+        let was = room_of c room e in
+        (omega arith, subst (λ (ds : List (Lost Attrs)). AllByRecursion (λ d. d.number ≤ p.session) ds) (sym is) (low_push p.session c.deletions (record { number = s; rows = c.live }) low (omega arith)))
+
+pub may_lose : (k s : ℕ) (m : Moment) → Stands m → IsSession k s m → ((c : Chained) → chain_at k m.chains ≡ Some c → overdue_of c ≡ None) → (c : Chained) → chain_at k m.chains ≡ Some c → MayLose s c
+may_lose k s m stands up free c at =
+    let p = peer_of m stands k c at in
+    let same : p.0 ≡ up.0 = one_peer p.0 up.0 (sym p.1 ∙ up.1) in
+    let is_up : p.0.up ≡ true = ap (λ (q : DeclaredPeer). q.up) same ∙ up.2 in
+    let session : p.0.session ≡ s = ap (λ (q : DeclaredPeer). q.session) same ∙ up.3 in
+    record {
+      chain = p.2.chain;
+      full = p.2.full;
+      room = free c at;
+      later = subst (λ (n : ℕ). AllByRecursion (λ d. d.number < n) c.deletions) session (up_as p.0 p.0.up c.deletions is_up p.2.earlier);
+    }
+
+pub session_there : (k s : ℕ) (m : Moment) → Stands m → IsSession k s m → is_some (chain_at k m.chains) ≡ true
+session_there k s m stands up = let c = chain_there m stands k up.0 up.1 in ap (λ (o : Option Chained). is_some o) c.1
+
+abbrev moment_by : Declaration → List Chained → Moment
+moment_by d cs = record { declared = d; chains = cs }
+
+-- the loss in a peer's chain is one of the router
+pub ends_one : (k s : ℕ) (m : Moment) (c c' : Chained) (said : List Line) → Stands m → IsSession k s m → overdue_of c ≡ None → chain_at k m.chains ≡ Some c → LosesChain s c c' said
+    → Ends k s m (moment_by (without_session m.declared k) (put_chain c' m.chains)) said
+ends_one k s m c c' said stands up free at f =
+    let peer = peer_of m stands k c at in
+    let same : peer.0 ≡ up.0 = one_peer peer.0 up.0 (sym peer.1 ∙ up.1) in
+    let is_up : peer.0.up ≡ true = ap (λ (q : DeclaredPeer). q.up) same ∙ up.2 in
+    let session : peer.0.session ≡ s = ap (λ (q : DeclaredPeer). q.session) same ∙ up.3 in
+    let number : c'.number ≡ k = f.step.number ∙ number_at k m.chains c at in
+    let here : PeerStands (down peer.0) c' = subst (λ (x : Chained). PeerStands (down peer.0) x) (sym f.is)
+    (lost_stands peer.0 s c is_up session peer.2 free (subst IsChain f.is f.step.chain) (subst (λ (x : Chained). NoneEmpty x.deletions) f.is f.step.full)) in
+    let at_now : StandsAt (peer_at k (map (ended_at k) m.declared.peers)) (Some c') = subst (λ (o : Option DeclaredPeer). StandsAt o (Some c')) (sym (ended_same k m.declared.peers peer.0 peer.1)) here in
+    record {
+      chain = c;
+      there = at;
+      lines = f.lines;
+      after = ap (λ (x : Chained). moment_by (without_session m.declared k) (put_chain x m.chains)) f.is;
+      leads = leads_router m k c at c' number (entries_of said) f.step.leads;
+      live = live_with m (without_session m.declared k) k c c' at number ∙ ap (λ r. the_state (with_routes (live_state m).routes k r)) (ap (λ (x : Chained). x.live) f.is);
+      stands = stands_put m (without_session m.declared k) k c c' stands at number (λ j e. ended_other k j m.declared.peers e) at_now;
+    }
+  where
+    the_state : (ℕ → Routes) → LiveState
+    the_state routes = record { declared = without_session m.declared k; routes = routes }
+
+pub one_ended : (k s : ℕ) (m : Moment) (cs : List Chained) (before now : Journaled) → Stands m → IsSession k s m → ((c : Chained) → chain_at k m.chains ≡ Some c → overdue_of c ≡ None)
+    → Steps (LosesChain s) k m.chains cs before now → Pushes (Ends k s m (moment_by (without_session m.declared k) cs)) before now
+one_ended k s m cs before now stands up free t =
+    (t.4.0, t.4.1, subst (λ (x : List Chained). Ends k s m (moment_by (without_session m.declared k) x) t.4.0) (sym t.3) (ends_one k s m t.0 t.1 t.4.0 stands up (free t.0 t.2) t.2 t.4.2))
+
+-- ---- room
+short_filter : (s : ℕ) (p : Network) (ds : List (Lost Attrs)) (t : FinMap prefix_cmp Attrs) → table_of s ds ≡ Some t → table_of s (filter is_full (map (swept_one s p) ds)) ≡ None
+    → length (filter is_full (map (swept_one s p) ds)) < length ds
+short_filter s p [] t there gone = absurd (cc)
+short_filter s p (d ∷ ds) t there gone = by_test (nat_eq d.number s) refl (is_full (swept_one s p d)) refl (short_filter s p ds t)
+  where
+    below : length (filter is_full (map (swept_one s p) ds)) ≤ length ds
+    below = few_left (swept_one s p) is_full ds
+
+    number : (swept_one s p d).number ≡ d.number
+    number = swept_number s p d
+
+    list_is : (b : Bool) → is_full (swept_one s p d) ≡ b → filter is_full (map (swept_one s p) (d ∷ ds)) ≡ cond b (swept_one s p d ∷ filter is_full (map (swept_one s p) ds)) (filter is_full (map (swept_one s p) ds))
+    list_is b f = ap (λ (x : Bool). cond x (swept_one s p d ∷ filter is_full (map (swept_one s p) ds)) (filter is_full (map (swept_one s p) ds))) f
+
+    by_test : (b : Bool) → nat_eq d.number s ≡ b → (f : Bool) → is_full (swept_one s p d) ≡ f
+        → (table_of s ds ≡ Some t → table_of s (filter is_full (map (swept_one s p) ds)) ≡ None → length (filter is_full (map (swept_one s p) ds)) < length ds)
+        → length (filter is_full (map (swept_one s p) (d ∷ ds))) < length (d ∷ ds)
+    by_test true e true f rest =
+        let has : table_of s (filter is_full (map (swept_one s p) (d ∷ ds))) ≡ Some (swept_one s p d).rows = ap (table_of s) (list_is true f)
+        ∙ ap (λ (b : Bool). cond b (Some (swept_one s p d).rows) (table_of s (filter is_full (map (swept_one s p) ds)))) (ap (λ (n : ℕ). nat_eq n s) number ∙ e) in
+        let contra : Some (swept_one s p d).rows ≡ None = sym has ∙ gone in
+        absurd (cc)
+    by_test true e false f rest =
+        let n : length (filter is_full (map (swept_one s p) (d ∷ ds))) ≡ length (filter is_full (map (swept_one s p) ds)) = ap length (list_is false f) in
+        let b = below in
+        omega arith
+    by_test false e true f rest =
+        let skip : table_of s (filter is_full (map (swept_one s p) (d ∷ ds))) ≡ table_of s (filter is_full (map (swept_one s p) ds)) = ap (table_of s) (list_is true f)
+        ∙ ap (λ (b : Bool). cond b (Some (swept_one s p d).rows) (table_of s (filter is_full (map (swept_one s p) ds)))) (ap (λ (n : ℕ). nat_eq n s) number ∙ e) in
+        let r = rest (sym (ap (λ (b : Bool). cond b (Some d.rows) (table_of s ds)) e) ∙ there) (sym skip ∙ gone) in
+        let n : length (filter is_full (map (swept_one s p) (d ∷ ds))) ≡ suc (length (filter is_full (map (swept_one s p) ds))) = ap length (list_is true f) in
+        omega arith
+    by_test false e false f rest =
+        let r = rest (sym (ap (λ (b : Bool). cond b (Some d.rows) (table_of s ds)) e) ∙ there) (ap (table_of s) (sym (list_is false f)) ∙ gone) in
+        let n : length (filter is_full (map (swept_one s p) (d ∷ ds))) ≡ length (filter is_full (map (swept_one s p) ds)) = ap length (list_is false f) in
+        omega arith
+
+-- the stages of a chain after turns of one of them: fewer, where that one has gone
+record Shorter (k s : ℕ) (c : Chained) (m' : Moment) : Type 0 where
+  chain : Chained
+  at : chain_at k m'.chains ≡ Some chain
+  short : length chain.deletions ≤ length c.deletions
+  gone : (t : FinMap prefix_cmp Attrs) → table_of s c.deletions ≡ Some t → table_of s chain.deletions ≡ None → length chain.deletions < length c.deletions
+
+one_chain : (a b : Chained) → Some a ≡ Some b → a ≡ b
+one_chain a b e = cc
+
+turns_shorter : (n k s : ℕ) (m : Moment) (c : Chained) (said : List Line) (m' : Moment) → chain_at k m.chains ≡ Some c → Turns n (Del k s) m said m' → Shorter k s c m'
+turns_shorter zero k s m c said m' at t = record {
+  chain = c;
+  at = ap (λ (x : Moment). chain_at k x.chains) t.1 ∙ at;
+  short = omega arith;
+  gone = λ table there none. let contra : Some table ≡ None = sym there ∙ none in absurd (cc);
+}
+turns_shorter (suc n) k s m c said m' at t = by_rest (turns_shorter n k s t.2 c1 t.1 m' at1 t.4)
+  where
+    p : Network
+    p = t.3.sweeps.prefix
+
+    c1 : Chained
+    c1 = welded (swept s p c)
+
+    same : t.3.chain ≡ c
+    same = one_chain t.3.chain c (sym t.3.at ∙ at)
+
+    is : t.2 ≡ with_chain m c1
+    is = t.3.after ∙ ap (λ (x : Chained). with_chain m (welded x)) (t.3.sweeps.after ∙ ap (swept s p) same)
+
+    at1 : chain_at k t.2.chains ≡ Some c1
+    at1 = ap (λ (x : Moment). chain_at k x.chains) is ∙ chain_at_put_same k m.chains c c1 at (number_at k m.chains c at)
+
+    by_rest : Shorter k s c1 m' → Shorter k s c m'
+    by_rest r = record {
+      chain = r.chain;
+      at = r.at;
+      short = let a = r.short in let b = few_left (swept_one s p) is_full c.deletions in omega arith;
+      gone = λ table there none. by_table table there none (table_of s c1.deletions) refl;
+    }
+      where
+        by_table : (table : FinMap prefix_cmp Attrs) → table_of s c.deletions ≡ Some table → table_of s r.chain.deletions ≡ None → (o : Option (FinMap prefix_cmp Attrs)) → table_of s c1.deletions ≡ o
+            → length r.chain.deletions < length c.deletions
+        by_table table there none (Some x) e = let a = r.gone x e none in let b = few_left (swept_one s p) is_full c.deletions in omega arith
+        by_table table there none None e = let a = r.short in let b = short_filter s p c.deletions table there e in omega arith
+
+stage_of : (b : Bool) (k : ℕ) (ds : List (Lost Attrs)) (task : Task) → cond b None (oldest_of k ds) ≡ Some task → (d : Lost Attrs) × (rest : List (Lost Attrs)) × (ds ≡ d ∷ rest) × (task ≡ Del k d.number)
+stage_of true k ds task e = absurd (cc)
+stage_of false k [] task e = absurd (cc)
+stage_of false k (d ∷ ds) task e = (d, ds, refl, cc)
+
+free_of : (c : Chained) → length c.deletions < 16 → overdue_of c ≡ None
+free_of c below = let few : nat_lt (length c.deletions) 16 ≡ true = grind (arith, nat_tests) in ap (λ (b : Bool). cond (b || is_empty_map c.live) None (oldest_of c.number c.deletions)) few
+
+no_table : (o : Option (FinMap prefix_cmp Attrs)) → is_some o ≡ false → o ≡ None
+no_table None e = refl
+no_table (Some t) e = absurd (cc)
+
+drained_free : (k : ℕ) (m room : Moment) (c : Chained) (task : Task) (n : ℕ) (said : List Line) → Stands m → chain_at k m.chains ≡ Some c → overdue_of c ≡ Some task → HasDrained task m n room said
+    → (c' : Chained) → chain_at k room.chains ≡ Some c' → overdue_of c' ≡ None
+drained_free k m room c task n said stands at over d c' at' =
+    let stage = stage_of (nat_lt (length c.deletions) 16 || is_empty_map c.live) c.number c.deletions task over in
+    let is : task ≡ Del k stage.0.number = stage.3 ∙ ap (λ (j : ℕ). Del j stage.0.number) (number_at k m.chains c at) in
+    let drained : HasDrained (Del k stage.0.number) m n room said = subst (λ (t : Task). HasDrained t m n room said) is d in
+    let r = turns_shorter n k stage.0.number m c said room at drained.run.taken in
+    let same : r.chain ≡ c' = one_chain r.chain c' (sym r.at ∙ at') in
+    let there : table_of stage.0.number c.deletions ≡ Some stage.0.rows = ap (table_of stage.0.number) stage.2 ∙ ap (λ (b : Bool). cond b (Some stage.0.rows) (table_of stage.0.number stage.1)) (same_by stage.0.number stage.0.number refl) in
+    let none : table_of stage.0.number r.chain.deletions ≡ None = no_table (table_of stage.0.number r.chain.deletions) (sym (ap (has_table stage.0.number) r.at) ∙ drained.ended) in
+    let less = r.gone stage.0.rows there none in
+    let few = (peer_of m stands k c at).2.few in
+    let len : length r.chain.deletions ≡ length c'.deletions = ap (λ (x : Chained). length x.deletions) same in
+    free_of c' (omega arith)
+
+pub room_drained : (k : ℕ) (m room : Moment) (c : Chained) (task : Task) (n : ℕ) (before now : Journaled) → Stands m → Some c ≡ chain_at k m.chains → Some task ≡ overdue_of c
+    → Gives (HasDrained task m n room) before now → Gives (HasRoom k m room) before now
+room_drained k m room c task n before now stands at over g = (
+  g.0,
+  g.1,
+  record {
+    before = c;
+    at = sym at;
+    runs = subst (λ (o : Option Task). RunsFirst o m g.0 room) over (n, (g.2.run.taken, g.2.ended));
+    work = g.2.run.work;
+    free = drained_free k m room c task n g.0 stands (sym at) (sym over) g.2;
+  },
+)
+
+pub room_there : (k : ℕ) (m : Moment) (c : Chained) (before now : Journaled) → Stands m → Some c ≡ chain_at k m.chains → None ≡ overdue_of c → now ≡ flushed before → Gives (HasRoom k m m) before now
+room_there k m c before now stands at over is = (
+  [],
+  is ∙ flushed_none before,
+  record {
+    before = c;
+    at = sym at;
+    runs = subst (λ (o : Option Task). RunsFirst o m [] m) over (refl, refl);
+    work = work_none m stands;
+    free = λ c' at'. ap overdue_of (one_chain c' c (sym at' ∙ sym at)) ∙ sym over;
+  },
+)
+
+pub room_session : (k s : ℕ) (m room : Moment) (said : List Line) → HasRoom k m room said → IsSession k s m → IsSession k s room
+room_session k s m room said r up = (up.0, ap (λ (l : LiveState). peer_at k l.declared.peers) r.work.live ∙ up.1, up.2, up.3)
+
+pub lost_all : (k s : ℕ) (m room m' : Moment) (before j j' now : Journaled) → Gives (HasRoom k m room) before j → Pushes (Ends k s room m') j j' → now ≡ flushed j' → Gives (HasLost k s m m') before now
+lost_all k s m room m' before j j' now r e is = (
+  r.0 ++ e.0,
+  is ∙ ap flushed e.1 ∙ ap (λ (x : Journaled). flushed (with_lines x e.0)) r.1 ∙ flushed_join before r.0 e.0,
+  record {
+    loses = record {
+      before = r.2.before;
+      at = r.2.at;
+      first = r.0;
+      room = room;
+      runs = r.2.runs;
+      chain = e.2.chain;
+      there = e.2.there;
+      lines = ap (λ (ls : List Line). r.0 ++ ls) e.2.lines;
+      after = e.2.after;
+    };
+    leads = leads_join m room m' r.0 e.0 r.2.work.leads e.2.leads;
+    live = e.2.live ∙ ap (λ (l : LiveState). ended l k) r.2.work.live;
+    stands = e.2.stands;
+  },
+)

@@ -1,0 +1,6 @@
+use Rattle.std.proofs.Common.{take}
+use Rattle.router_core.specs.Works.{Pushes, HaveFed}
+use Rattle.router_core.proofs.network.Network.feed.Given as goal
+
+abbrev pub invariant-loop-change : goal.invariant-loop-change
+invariant-loop-change l = Pushes (HaveFed l.number (take l.change-index l.changes) l.fn.self l.self) l.fn.journal l.journal

@@ -1,0 +1,225 @@
+//! What each event does.
+
+ghost use Rattle.std.specs.Prelude.{◌≡◌, ◌≤◌, length, OnOk, IfOk, IsSome, Some, None, true};
+ghost use Rattle.event_text.specs.declared.event.Event.TheVariants as events;
+ghost use Rattle.event_text.specs.Declarations.{peer_at, refusal};
+ghost use Rattle.bgp_wire.specs.Spelling.{notification_octets};
+ghost use Rattle.router_core.specs.Moments.{Gives};
+ghost use Rattle.router_core.specs.Lives.{Says};
+ghost use Rattle.router_core.specs.Peers.{HasShortNotice};
+ghost use Rattle.router_core.specs.Stands.{Stands};
+ghost use Rattle.router_core.specs.Works.{HasStepped, HasIdled, HasHeard, IsSession};
+
+use crate::network::Network;
+use crate::peers::said;
+use crate::router::Idle;
+use crate::updates::changes;
+use addr4::{Memory, Prefix};
+use bgp_attr::{Octets, Speaker};
+use bgp_wire::{Message, Notice, write_notification};
+use event_text::{DeclaredPeer, Event};
+use journal_text::{Journal, Line, Link, Task};
+use std::alloc::Global;
+
+impl Network {
+    /// Steps an event, and makes the text of its lines. Answers how many turns `work` or `idle` took.
+    pub(crate) fn step(&mut self, event: Event, journal: &mut Journal) -> Result<u128, Memory>
+        requires admitted { refusal self.old.declared event ≡ None }
+        requires stands { Stands self.old }
+        ensures { IfOk result (λ turns. Gives (HasStepped self.old event turns self.new) journal.old journal.new) }
+    {
+        match event {
+            Event::Nothing => self.nothing(journal),
+            Event::Local(words) => self.local(words, journal),
+            Event::Peer(number, words) => self.peer(number, words, journal),
+            Event::Up(number) => self.up(number, journal),
+            Event::Down(number) => self.down(number, journal),
+            Event::Bgp(number, octets) => self.message(number, octets, journal),
+            Event::Idle => self.idle_turns(journal),
+            Event::Work(task, most) => self.work(task, most, journal),
+            Event::Ask(link, p) => self.look_up(link, p, journal),
+            Event::Show(link) => self.list(link, journal),
+        }
+    }
+
+    /// A line without words changes nothing.
+    fn nothing(&mut self, journal: &mut Journal) -> Result<u128, Memory>
+        requires { Stands self.old }
+        ensures { IfOk result (λ turns. Gives (HasStepped self.old events.Nothing turns self.new) journal.old journal.new) }
+    {
+        journal.flush()?;
+        Ok(0)
+    }
+
+    fn local(&mut self, words: Speaker, journal: &mut Journal) -> Result<u128, Memory>
+        requires { Stands self.old }
+        ensures { IfOk result (λ turns. Gives (HasStepped self.old (events.Local words) turns self.new) journal.old journal.new) }
+    {
+        self.declare_speaker(words);
+        journal.flush()?;
+        Ok(0)
+    }
+
+    fn peer(&mut self, number: u32, words: Speaker, journal: &mut Journal) -> Result<u128, Memory>
+        requires admitted { refusal self.old.declared (events.Peer number words) ≡ None }
+        requires stands { Stands self.old }
+        ensures { IfOk result (λ turns. Gives (HasStepped self.old (events.Peer number words) turns self.new) journal.old journal.new) }
+    {
+        self.declare_peer(number, words, journal)?;
+        journal.flush()?;
+        Ok(0)
+    }
+
+    fn up(&mut self, number: u32, journal: &mut Journal) -> Result<u128, Memory>
+        requires admitted { refusal self.old.declared (events.Up number) ≡ None }
+        requires stands { Stands self.old }
+        ensures { IfOk result (λ turns. Gives (HasStepped self.old (events.Up number) turns self.new) journal.old journal.new) }
+    {
+        self.begin_session(number, journal)?;
+        journal.flush()?;
+        Ok(0)
+    }
+
+    fn look_up(&mut self, link: Link, p: Prefix, journal: &mut Journal) -> Result<u128, Memory>
+        requires { Stands self.old }
+        ensures { IfOk result (λ turns. Gives (HasStepped self.old (events.Ask link p) turns self.new) journal.old journal.new) }
+    {
+        self.ask(link, p, journal)?;
+        journal.flush()?;
+        Ok(0)
+    }
+
+    fn list(&mut self, link: Link, journal: &mut Journal) -> Result<u128, Memory>
+        requires { Stands self.old }
+        ensures { IfOk result (λ turns. Gives (HasStepped self.old (events.Show link) turns self.new) journal.old journal.new) }
+    {
+        self.show(link, journal)?;
+        journal.flush()?;
+        Ok(0)
+    }
+
+    fn idle_turns(&mut self, journal: &mut Journal) -> Result<u128, Memory>
+        requires { Stands self.old }
+        ensures { IfOk result (λ turns. Gives (HasStepped self.old events.Idle turns self.new) journal.old journal.new) }
+    {
+        let idle = self.idle(journal)?;
+        Ok(idle.turns)
+    }
+
+    /// A peer's session ends; `ignored` where none is up.
+    fn down(&mut self, number: u32, journal: &mut Journal) -> Result<u128, Memory>
+        requires admitted { refusal self.old.declared (events.Down number) ≡ None }
+        requires stands { Stands self.old }
+        ensures { IfOk result (λ turns. Gives (HasStepped self.old (events.Down number) turns self.new) journal.old journal.new) }
+    {
+        let Some(peer) = self.declared.peer(number) else {
+            unreachable!()
+        };
+        if !peer.up {
+            journal.push_line(Line::Ignored)?;
+            journal.flush()?;
+            return Ok(0);
+        }
+        self.lose(number, peer.session, journal)?;
+        Ok(0)
+    }
+
+    /// A message came from a peer; `ignored` where it is down.
+    fn message(
+        &mut self,
+        number: u32,
+        octets: Octets,
+        journal: &mut Journal,
+    ) -> Result<u128, Memory>
+        requires admitted { refusal self.old.declared (events.Bgp number octets) ≡ None }
+        requires stands { Stands self.old }
+        ensures { IfOk result (λ turns. Gives (HasStepped self.old (events.Bgp number octets) turns self.new) journal.old journal.new) }
+    {
+        let Some(peer) = self.declared.peer(number) else {
+            unreachable!()
+        };
+        if !peer.up {
+            journal.push_line(Line::Ignored)?;
+            journal.flush()?;
+            return Ok(0);
+        }
+        let message = said(self.alloc, &peer, octets.as_slice())?;
+        self.hear(number, peer, message, journal)?;
+        Ok(0)
+    }
+
+    /// What a message from a peer that is up does.
+    fn hear(
+        &mut self,
+        number: u32,
+        peer: DeclaredPeer,
+        message: Message,
+        journal: &mut Journal,
+    ) -> Result<(), Memory>
+        requires stands { Stands self.old }
+        requires there { peer_at number self.old.declared.peers ≡ Some peer }
+        requires up { peer.up ≡ true }
+        requires short { HasShortNotice message }
+        ensures { OnOk result (Gives (HasHeard number peer self.old message self.new) journal.old journal.new) }
+    {
+        match message {
+            Message::Update(update) => {
+                let changes = changes(self.alloc, update)?;
+                self.feed(number, changes.as_slice(), journal)?;
+                journal.flush()?;
+                Ok(())
+            }
+            Message::Keepalive => {
+                journal.flush()?;
+                Ok(())
+            }
+            Message::Skip => {
+                journal.flush()?;
+                Ok(())
+            }
+            Message::Notification => {
+                self.lose(number, peer.session, journal)?;
+                Ok(())
+            }
+            Message::Notify(notice) => {
+                let octets = spelled(self.alloc, notice)?;
+                journal.push_line(Line::Note(number, octets))?;
+                self.lose(number, peer.session, journal)?;
+                Ok(())
+            }
+        }
+    }
+
+    /// Every deletion stage runs to its end.
+    pub(crate) fn idle(&mut self, journal: &mut Journal) -> Result<Idle, Memory>
+        requires { Stands self.old }
+        ensures { IfOk result (λ idle. Gives (HasIdled self.old idle self.new) journal.old journal.new) }
+    {
+        let bound = self.bound()?;
+        journal.push_line(Line::Bound(bound))?;
+        let turns = self.drain_all(journal)?;
+        journal.push_line(Line::Idle(turns))?;
+        journal.flush()?;
+        Ok(Idle { bound, turns })
+    }
+
+    /// Some turns of a task, and the line that counts them.
+    fn work(&mut self, task: Task, most: u32, journal: &mut Journal) -> Result<u128, Memory>
+        requires { Stands self.old }
+        ensures { IfOk result (λ turns. Gives (HasStepped self.old (events.Work task most) turns self.new) journal.old journal.new) }
+    {
+        let turns = self.turns(task, u128::from(most), journal)?;
+        journal.push_line(Line::Work(turns))?;
+        journal.flush()?;
+        Ok(turns)
+    }
+}
+
+/// The octets of the NOTIFICATION that answers a fault (RFC 4271, section 4.5).
+fn spelled(alloc: Global, notice: Notice) -> Result<Octets, Memory>
+    requires { length notice.octets ≤ 4075 }
+    ensures { IfOk result (λ octets. octets ≡ notification_octets notice.code notice.subcode notice.octets) }
+{
+    let octets = write_notification(alloc, notice.code, notice.subcode, notice.octets.as_slice())?;
+    Ok(Octets::from_vec(octets))
+}

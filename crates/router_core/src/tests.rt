@@ -1,0 +1,132 @@
+//! Event files and what they give, line by line.
+
+ghost use Rattle.std.specs.Prelude.{◌≡◌, OnOk, false};
+ghost use Rattle.router_core.specs.Stands.{Stands};
+
+use crate::Core;
+use event_text::{admit, parse};
+use journal_text::{Journal, Link};
+use std::alloc::Global;
+use std::test::Fail;
+
+/// A route comes, and nothing is left to be done.
+const SETTLED: &str = "\
+local 65000 192.0.2.254 192.0.2.254\n\
+peer 1 65001 192.0.2.1 192.0.2.1\n\
+up 1\n\
+bgp 1 ffffffffffffffffffffffffffffffff002c0200000012400101004002040201fde9400304c0000201100a01\n\
+idle\n\
+show in.1\n";
+
+const SETTLED_GIVES: &str = "\
+b in.1\n\
++ in.1 10.1.0.0/16 o0,p(65001),n192.0.2.1\n\
+bound 45\n\
+idle 0\n\
+row in.1 10.1.0.0/16 o0,p(65001),n192.0.2.1\n\
+rows in.1 1\n";
+
+/// A peer returns while the routes of its lost session are being deleted.
+const RETURNING: &str = "\
+local 65000 192.0.2.254 192.0.2.254\n\
+peer 1 65001 192.0.2.1 192.0.2.1\n\
+up 1\n\
+bgp 1 ffffffffffffffffffffffffffffffff00320200000012400101004002040201fde9400304c0000201100a01100a02100a03\n\
+down 1\n\
+up 1\n\
+bgp 1 ffffffffffffffffffffffffffffffff002c0200000012400101014002040201fde9400304c0000201100a02\n\
+work del.1.1 1\n\
+ask in.1 10.1.0.0/16\n\
+ask in.1 10.2.0.0/16\n\
+ask in.1 10.3.0.0/16\n\
+work del.1.1 9\n\
+show peer.1.1\n";
+
+const RETURNING_GIVES: &str = "\
+b in.1\n\
++ in.1 10.1.0.0/16 o0,p(65001),n192.0.2.1\n\
++ in.1 10.2.0.0/16 o0,p(65001),n192.0.2.1\n\
++ in.1 10.3.0.0/16 o0,p(65001),n192.0.2.1\n\
+b peer.1.1\n\
++ peer.1.1 10.2.0.0/16 o1,p(65001),n192.0.2.1\n\
+= in.1 10.2.0.0/16 o0,p(65001),n192.0.2.1 o1,p(65001),n192.0.2.1\n\
+- in.1 10.1.0.0/16 o0,p(65001),n192.0.2.1\n\
+work 1\n\
+? in.1 10.1.0.0/16 -\n\
+? in.1 10.2.0.0/16 o1,p(65001),n192.0.2.1\n\
+? in.1 10.3.0.0/16 o0,p(65001),n192.0.2.1\n\
+- in.1 10.3.0.0/16 o0,p(65001),n192.0.2.1\n\
+w peer.1.1 in.1\n\
+work 1\n\
+absent\n";
+
+/// A prefix is withdrawn and announced in one UPDATE; then a message is cut short, and the peer is down.
+const CUT: &str = "\
+local 65000 192.0.2.254 192.0.2.254\n\
+peer 1 65001 192.0.2.1 192.0.2.1\n\
+up 1\n\
+bgp 1 ffffffffffffffffffffffffffffffff002f020003100a010012400101004002040201fde9400304c0000201100a01\n\
+down 1\n\
+idle\n\
+up 1\n\
+bgp 1 ffffffffffffffffffffffffffffffff002c0200000012400101004002040201fde9400304c0000201100a\n\
+down 1\n";
+
+const CUT_GIVES: &str = "\
+b in.1\n\
++ in.1 10.1.0.0/16 o0,p(65001),n192.0.2.1\n\
+b peer.1.1\n\
+bound 45\n\
+- in.1 10.1.0.0/16 o0,p(65001),n192.0.2.1\n\
+w peer.1.1 in.1\n\
+idle 1\n\
+note 1 ffffffffffffffffffffffffffffffff0017030102002c\n\
+ignored\n";
+
+/// Steps the event of a line.
+fn step_line(alloc: Global, core: &mut Core, line: &[u8], journal: &mut Journal) -> Result<(), Fail>
+    requires { Stands core.old.moment }
+    ensures { OnOk result (Stands core.new.moment) }
+{
+    let event = parse(alloc, line)?.ok().ok_or("the line is refused")?;
+    if admit(&event, core.declared()).is_some() || core.events() > 1000 {
+        return Err(Fail::from("the event is refused"));
+    }
+    core.step(event, journal)?;
+    Ok(())
+}
+
+/// Steps the lines one after the other.
+fn run(alloc: Global, script: &str, core: &mut Core, journal: &mut Journal) -> Result<(), Fail>
+    requires { Stands core.old.moment }
+{
+    for line in script.as_bytes().split(|byte| *byte == b'\n') {
+        step_line(alloc, core, line, journal)?;
+    }
+    Ok(())
+}
+
+#[test]
+fn scripts_give_their_lines(rt: HostRuntime) -> Result<(), Fail> {
+    for (script, gives) in [
+        (SETTLED, SETTLED_GIVES),
+        (RETURNING, RETURNING_GIVES),
+        (CUT, CUT_GIVES),
+    ] {
+        let mut core = Core::new(rt.alloc());
+        let mut journal = Journal::new(rt.alloc(), false);
+        run(rt.alloc(), script, &mut core, &mut journal)?;
+        assert_eq!(rt; journal.text(), gives.as_bytes());
+    }
+    Ok(())
+}
+
+#[test]
+fn rows_are_counted(rt: HostRuntime) -> Result<(), Fail> {
+    let mut core = Core::new(rt.alloc());
+    let mut journal = Journal::new(rt.alloc(), true);
+    run(rt.alloc(), SETTLED, &mut core, &mut journal)?;
+    assert_eq!(rt; core.count(Link::In(1)), Some(1));
+    assert_eq!(rt; core.count(Link::In(2)), None);
+    Ok(())
+}
