@@ -1,5 +1,5 @@
 -- What the program reads and writes, by its command.
-use Rattle.std.specs.Prelude.{◌≡◌, ◌⊎◌, ℕ, Bool, List, Option, Some, None, IfSome, ⊤}
+use Rattle.std.specs.Prelude.{◌≡◌, ◌⊎◌, ℕ, List, Option, Some, None, IfSome, ⊤}
 use Rattle.check_run.specs.declared.ending.Ending.TheVariants as endings
 use Rattle.check_run.specs.Lines.{lines_of}
 use Rattle.check_run.specs.Runs.{Took, Writes, ReadsAndWrites, IsFrontOf}

@@ -82,3 +82,6 @@ pub fn replay<S: Source, K: Sink>(
     };
     obey(alloc, command, source, sink)
 }
+
+#[cfg(test)]
+mod tests;

@@ -1,4 +1,4 @@
-use Rattle.std.proofs.Common.{Bool, List, ℕ, arith, refl, ap, sym, subst, ◌∙◌, ⊎_elim, take, ◌++◌, Some}
+use Rattle.std.proofs.Common.{Bool, arith, refl, ap, subst, ◌∙◌, ⊎_elim, take, ◌++◌, Some}
 use Rattle.check_run.specs.Lines.{lines_of}
 use Rattle.replay.specs.Output.{IsOutput, IsRefusedOutput, IsFrontOfOutput}
 use Rattle.replay.specs.Stream.{HasStepped, IsRefusedAt, IsFrontAt}

@@ -1,6 +1,5 @@
 use Rattle.std.proofs.Common.{◌≡◌, ◌∷◌, ◌++◌, ◌∙◌, [], true, false, option_map, ap}
 use Rattle.check_run.specs.Lines.{after_part}
-use Rattle.replay.specs.Stream.{made}
 use Rattle.replay.specs.Streams.{state}
 use Rattle.replay.proofs.GoingOn.{taken_more, taken_refused, as_known}
 use Rattle.replay.proofs.stream.Stream.take_piece.Goals as goal
