@@ -44,6 +44,12 @@ pub record Judges (text bytes : List ℕ) (ending : Ending) : Type 0 where
   pub written : bytes ≡ answer_text checked
   pub ends : ending ≡ ending_of checked
 
+-- what is to be said of the text gives this ending
+pub record Ends (text : List ℕ) (ending : Ending) : Type 0 where
+  pub checked : Checked
+  pub is : IsChecked (lines_of text) checked
+  pub gives : ending ≡ ending_of checked
+
 -- a front of the line that says what is to be said of the text
 pub record IsFrontOfAnswer (text bytes : List ℕ) : Type 0 where
   pub checked : Checked

@@ -1,10 +1,10 @@
 //! The command `check`.
 
-ghost use Rattle.std.specs.Prelude.{◌≡◌, ◌⊎◌};
+ghost use Rattle.std.specs.Prelude.{◌≡◌, ◌⊎◌, IfSome};
 ghost use Rattle.std.specs.Io.KnownBytes.{IsAtEnd};
 ghost use Rattle.edge_io.specs.Causes.{Rose};
 ghost use Rattle.check_run.specs.Runs.{Took};
-ghost use Rattle.check_run.specs.Answers.{IsAnswer, Judges, IsFrontOfAnswer};
+ghost use Rattle.check_run.specs.Answers.{IsAnswer, Judges, Ends, IsFrontOfAnswer};
 
 use crate::answer::answer;
 use crate::ending::Ending;
@@ -18,6 +18,7 @@ use std::alloc::Global;
 /// read behind a line that isn't lawful. A line of which 65,538 bytes hold no LF is none of a journal, however it goes on.
 pub fn check<S: Source, K: Sink>(alloc: Global, source: &mut S, sink: &mut K) -> Ending
     ensures answer { IsAnswer result → Took (S.left source.old) (K.taken sink.old) (K.taken sink.new) (λ text bytes. Judges text bytes result) }
+    ensures by_text { IsAnswer result → IfSome (S.left source.old) (λ text. Ends text result) }
     ensures all_read { result ≡ Ending.Lawful → IsAtEnd (S.left source.new) }
     ensures read_fault { result ≡ Ending.ReadFault → Rose (S.faults source.old) (S.faults source.new) }
     ensures nothing { (result ≡ Ending.ReadFault) ⊎ (result ≡ Ending.Memory) → K.taken sink.new ≡ K.taken sink.old }

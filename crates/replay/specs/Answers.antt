@@ -1,9 +1,10 @@
 -- What the program reads and writes, by its command.
 use Rattle.std.specs.Prelude.{◌≡◌, ◌⊎◌, ℕ, List, Option, Some, None, IfSome, ⊤}
+use Rattle.check_run.specs.declared.ending.Ending.{Ending}
 use Rattle.check_run.specs.declared.ending.Ending.TheVariants as endings
 use Rattle.check_run.specs.Lines.{lines_of}
 use Rattle.check_run.specs.Runs.{Took, Writes, ReadsAndWrites, IsFrontOf}
-use Rattle.check_run.specs.Answers.{Judges, IsFrontOfAnswer}
+use Rattle.check_run.specs.Answers.{Judges, Ends, IsFrontOfAnswer}
 use Rattle.replay.specs.declared.status.Status.{Status}
 use Rattle.replay.specs.declared.status.Status.TheVariants as statuses
 use Rattle.replay.specs.declared.words.Command.{Command}
@@ -50,14 +51,29 @@ HasFront (Some (Run quiet)) left0 taken0 taken = Took left0 taken0 taken (IsFron
 HasFront (Some Check) left0 taken0 taken = Took left0 taken0 taken IsFrontOfAnswer
 HasFront None left0 taken0 taken = Writes taken0 taken (IsFrontOf usage_line)
 
--- where `run` answers 0 or 3, the text alone decides which
+-- the status of each ending of a check
+abbrev pub status_for : Ending → Status
+status_for endings.Lawful = statuses.Ok
+status_for endings.Broken = statuses.Broken
+status_for endings.Refused = statuses.Refused
+status_for endings.ReadFault = statuses.ReadFault
+status_for endings.WriteFault = statuses.WriteFault
+status_for endings.Memory = statuses.Memory
+
+-- what is to be said of the text as a journal gives this status
+pub record IsJudged (text : List ℕ) (status : Status) : Type 0 where
+  pub ending : Ending
+  pub ends : Ends text ending
+  pub gives : status ≡ status_for ending
+
+-- where the answer is 0, 1 or 3, the text alone decides which
 abbrev pub IsByText : Option Command → Option (List ℕ) → Status → Type 0
 IsByText (Some (Run quiet)) left0 status = IfSome left0 (λ text. status ≡ status_of (verdict text))
-IsByText (Some Check) left0 status = ⊤
+IsByText (Some Check) left0 status = IfSome left0 (λ text. IsJudged text status)
 IsByText None left0 status = ⊤
 
 -- the answers of a command where no read and no write failed
 abbrev pub IsUnfailing : Option Command → Option (List ℕ) → Status → Type 0
 IsUnfailing (Some (Run quiet)) left0 status = IfSome left0 (λ text. (status ≡ status_of (verdict text)) ⊎ (status ≡ statuses.Memory))
-IsUnfailing (Some Check) left0 status = (status ≡ statuses.Ok) ⊎ (status ≡ statuses.Broken) ⊎ (status ≡ statuses.Refused) ⊎ (status ≡ statuses.Memory)
+IsUnfailing (Some Check) left0 status = IfSome left0 (λ text. IsJudged text status ⊎ (status ≡ statuses.Memory))
 IsUnfailing None left0 status = (status ≡ statuses.Usage) ⊎ (status ≡ statuses.Memory)

@@ -34,6 +34,7 @@ fn check_journal<S: Source, K: Sink>(alloc: Global, source: &mut S, sink: &mut K
     ensures all_read { result ≡ Status.Ok → IsAtEnd (S.left source.new) }
     ensures refused { result ≡ Status.Refused → Took (S.left source.old) (K.taken sink.old) (K.taken sink.new) (IsRefused (Some commands.Check)) }
     ensures broken { result ≡ Status.Broken → Took (S.left source.old) (K.taken sink.old) (K.taken sink.new) (IsBroken (Some commands.Check)) }
+    ensures by_text { (result ≡ Status.Ok) ⊎ (result ≡ Status.Broken) ⊎ (result ≡ Status.Refused) → IsByText (Some commands.Check) (S.left source.old) result }
     ensures so_far { result ≡ Status.ReadFault → K.taken sink.new ≡ K.taken sink.old }
     ensures memory { result ≡ Status.Memory → K.taken sink.new ≡ K.taken sink.old }
     ensures front { result ≡ Status.WriteFault → HasFront (Some commands.Check) (S.left source.old) (K.taken sink.old) (K.taken sink.new) }
@@ -62,7 +63,7 @@ pub fn obey<S: Source, K: Sink>(
     ensures all_read { result ≡ Status.Ok → IsAtEnd (S.left source.new) }
     ensures refused { result ≡ Status.Refused → Took (S.left source.old) (K.taken sink.old) (K.taken sink.new) (IsRefused command) }
     ensures broken { result ≡ Status.Broken → Took (S.left source.old) (K.taken sink.old) (K.taken sink.new) (IsBroken command) }
-    ensures by_text { (result ≡ Status.Ok) ⊎ (result ≡ Status.Refused) → IsByText command (S.left source.old) result }
+    ensures by_text { (result ≡ Status.Ok) ⊎ (result ≡ Status.Broken) ⊎ (result ≡ Status.Refused) → IsByText command (S.left source.old) result }
     ensures complete { ¬ Rose (S.faults source.old) (S.faults source.new) → ¬ Rose (K.faults sink.old) (K.faults sink.new) → IsUnfailing command (S.left source.old) result }
     ensures so_far { result ≡ Status.ReadFault → HasSoFar command (S.left source.old) (S.left source.new) (K.taken sink.old) (K.taken sink.new) }
     ensures memory { result ≡ Status.Memory → HasFirst command (S.left source.old) (K.taken sink.old) (K.taken sink.new) }

@@ -56,8 +56,8 @@ pub fn replay<S: Source, K: Sink>(
     // The journal breaks a rule, and the sink took which, and where.
     ensures broken { result ≡ Status.Broken → Took (S.left source.old) (K.taken sink.old) (K.taken sink.new) (IsBroken (command_of (map string_bytes words.now))) }
 
-    // Of `run` the text alone decides between 0 and 3; and it decides alone where no count of faults rose and there was memory.
-    ensures by_text { (result ≡ Status.Ok) ⊎ (result ≡ Status.Refused) → IsByText (command_of (map string_bytes words.now)) (S.left source.old) result }
+    // The text alone decides between 0, 1 and 3; and it decides alone where no count of faults rose and there was memory.
+    ensures by_text { (result ≡ Status.Ok) ⊎ (result ≡ Status.Broken) ⊎ (result ≡ Status.Refused) → IsByText (command_of (map string_bytes words.now)) (S.left source.old) result }
     ensures complete { ¬ Rose (S.faults source.old) (S.faults source.new) → ¬ Rose (K.faults sink.old) (K.faults sink.new) → IsUnfailing (command_of (map string_bytes words.now)) (S.left source.old) result }
 
     // The words are no command, and the usage line was written.
