@@ -5,3 +5,4 @@ pub mod Pieces
 pub mod GoingOn
 pub mod Endings
 pub mod WordLemmas
+mod SettledLinks
