@@ -1,0 +1,37 @@
+//! Laws of a function that is changed in the background, for the proofs of the crates above. Each is a function that does
+//! nothing, whose contract is the law.
+
+ghost use Rattle.pass_core.specs.Laws.{HoldsEverywhere, HoldsBeyond, HoldsBehind, StepSetsBehind, StepKeepsBeyond, StepKeepsBehind, EditKeeps, FinishSets, FinishKeepsBehind, EditIsPresent, StepKeepsPresent, FinishKeepsPresent};
+
+/// At each prefix one function holds: the one in force, or up to the place of a walk the new one.
+pub fn one_function_holds<F>()
+    ensures everywhere { HoldsEverywhere F }
+    ensures beyond { HoldsBeyond F }
+    ensures behind { HoldsBehind F }
+{}
+
+/// A step to a prefix changes what holds at the prefixes that lie beyond the old place and not beyond that prefix, and at
+/// no other.
+pub fn a_step_sets_what_it_passes<F>()
+    ensures sets { StepSetsBehind F }
+    ensures keeps_beyond { StepKeepsBeyond F }
+    ensures keeps_behind { StepKeepsBehind F }
+{}
+
+/// An edit changes what holds at no prefix.
+pub fn an_edit_changes_nothing<F>()
+    ensures { EditKeeps F }
+{}
+
+/// The end of a walk changes what holds beyond its place alone; there the new function holds from then on.
+pub fn the_end_sets_the_rest<F>()
+    ensures sets { FinishSets F }
+    ensures keeps_behind { FinishKeepsBehind F }
+{}
+
+/// The function of an edit is the latest, until the next edit.
+pub fn the_latest_is_the_edited<F>()
+    ensures edit { EditIsPresent F }
+    ensures step { StepKeepsPresent F }
+    ensures finish { FinishKeepsPresent F }
+{}

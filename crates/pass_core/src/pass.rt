@@ -1,0 +1,166 @@
+//! Functions that are changed in the background.
+
+ghost use Rattle.std.specs.Prelude.{◌≡◌, is_some, IsSome, IfSome, Some, None};
+ghost use Rattle.addr4.specs.Places.{key_of, IsBeyond};
+ghost use Rattle.pass_core.specs.Passed.{is_beyond, function_at, present, edited, stepped, finished, begun, latest_of};
+ghost use Rattle.pass_core.specs.Walks.{walked, walk_of};
+
+use addr4::{Place, Prefix};
+use std::marker::Model;
+
+/// A function, as of a filter, that is changed in the background. Contracts see the function in force and the walk that is
+/// on, if any, with its place and the function that waits for its end. No call takes memory.
+#[derive(Drop)]
+pub struct Pass<F> {
+    in_force: F,
+    walk: Option<Walk<F>>,
+}
+
+// A walk over the prefixes. What waits is part of it, so nothing can wait without a walk.
+#[derive(Drop)]
+struct Walk<F> {
+    next: F,
+    place: Place,
+    waiting: Option<F>,
+}
+
+impl<F> Model for Pass<F> {
+    ghost use Rattle.pass_core.specs.Passed.{Passed, passed_code};
+    ghost use Rattle.pass_core.specs.Walks.{walk_of};
+
+    ghost Value = { Passed F };
+
+    ghost coded = { passed_code F.code };
+
+    ghost view = { λ p. record { in_force = p.in_force; walk = walk_of p.walk } };
+}
+
+// Whether the prefix lies beyond the place.
+fn is_beyond(place: Place, prefix: Prefix) -> bool
+    ensures { result ≡ is_beyond (key_of place) prefix }
+{
+    match place {
+        Place::Before => true,
+        Place::At(last) => last < prefix,
+    }
+}
+
+// A walk that stands before all prefixes.
+fn begun<F>(next: F) -> Walk<F>
+    ensures { walked result ≡ begun next }
+{
+    Walk {
+        next,
+        place: Place::Before,
+        waiting: None,
+    }
+}
+
+impl<F> Walk<F> {
+    // The function that waits, or else the new one.
+    fn latest(&self) -> &F
+        ensures { result.now ≡ latest_of self.now.next self.now.waiting }
+    {
+        match &self.waiting {
+            None => &self.next,
+            Some(waiting) => waiting,
+        }
+    }
+}
+
+impl<F: Drop> Pass<F> {
+    /// The function is in force everywhere, and no walk is on.
+    pub fn new(first: F) -> Pass<F>
+        ensures { result ≡ record { in_force = first; walk = None } }
+    {
+        Pass {
+            in_force: first,
+            walk: None,
+        }
+    }
+
+    /// Begins a walk that is to bring the function into force. During a walk the function waits for its end, in place of one
+    /// that waited before.
+    pub fn edit(&mut self, function: F)
+        ensures { self.new ≡ edited self.old function }
+    {
+        match &mut self.walk {
+            None => self.walk = Some(begun(function)),
+            Some(walk) => walk.waiting = Some(function),
+        }
+    }
+
+    /// The one function that holds at a prefix: up to the place of a walk, that prefix included, the new one, beyond it the
+    /// one in force.
+    pub fn at(&self, prefix: Prefix) -> &F
+        ensures { result.now ≡ function_at self.now prefix }
+    {
+        match &self.walk {
+            None => &self.in_force,
+            Some(walk) => {
+                if is_beyond(walk.place, prefix) {
+                    return &self.in_force;
+                }
+                &walk.next
+            }
+        }
+    }
+
+    /// The function of the latest edit: the one that waits, or else the new one of the walk, or else the one in force.
+    pub fn present(&self) -> &F
+        ensures { result.now ≡ present self.now }
+    {
+        match &self.walk {
+            None => &self.in_force,
+            Some(walk) => walk.latest(),
+        }
+    }
+
+    /// Whether a walk is on.
+    pub fn busy(&self) -> bool
+        ensures { result ≡ is_some self.now.walk }
+    {
+        self.walk.is_some()
+    }
+
+    /// How far the walk has come. To be asked while a walk is on.
+    pub fn place(&self) -> Place
+        requires { IsSome self.now.walk }
+        ensures { IfSome self.now.walk (λ walk. key_of result ≡ walk.place) }
+    {
+        match &self.walk {
+            None => unreachable!(),
+            Some(walk) => walk.place,
+        }
+    }
+
+    /// The walk goes on to a prefix beyond its place: there, and at all that lie between, the new function holds from now
+    /// on. To be called while a walk is on.
+    pub fn step_to(&mut self, prefix: Prefix)
+        requires busy { IsSome self.old.walk }
+        requires beyond { IfSome self.old.walk (λ walk. IsBeyond walk.place prefix) }
+        ensures { self.new ≡ stepped self.old prefix }
+    {
+        match &mut self.walk {
+            None => unreachable!(),
+            Some(walk) => walk.place = Place::At(prefix),
+        }
+    }
+
+    /// Ends the walk: its function is in force everywhere, and one that waits begins a walk of its own. To be called while a
+    /// walk is on.
+    pub fn finish(&mut self)
+        requires { IsSome self.old.walk }
+        ensures { self.new ≡ finished self.old }
+    {
+        match self.walk.take() {
+            None => unreachable!(),
+            Some(walk) => {
+                self.in_force = walk.next;
+                if let Some(waiting) = walk.waiting {
+                    self.walk = Some(begun(waiting));
+                }
+            }
+        }
+    }
+}
