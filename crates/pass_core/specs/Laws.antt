@@ -1,5 +1,5 @@
 -- Laws of a function that is changed in the background, for the crates above.
-use Rattle.std.specs.Prelude.{◌≡◌, Option, Some, None}
+use Rattle.std.specs.Prelude.{◌≡◌, Some, None}
 use Rattle.addr4.specs.Prefixes.{Network}
 use Rattle.addr4.specs.Places.{IsBeyond}
 use Rattle.pass_core.specs.Passed.{Passed, Walked, function_at, present, edited, stepped, finished}

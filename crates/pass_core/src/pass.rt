@@ -1,9 +1,9 @@
 //! Functions that are changed in the background.
 
-ghost use Rattle.std.specs.Prelude.{◌≡◌, is_some, IsSome, IfSome, Some, None};
+ghost use Rattle.std.specs.Prelude.{◌≡◌, is_some, IsSome, IfSome};
 ghost use Rattle.addr4.specs.Places.{key_of, IsBeyond};
 ghost use Rattle.pass_core.specs.Passed.{is_beyond, function_at, present, edited, stepped, finished, begun, latest_of};
-ghost use Rattle.pass_core.specs.Walks.{walked, walk_of};
+ghost use Rattle.pass_core.specs.Walks.{walked};
 
 use addr4::{Place, Prefix};
 use std::marker::Model;
