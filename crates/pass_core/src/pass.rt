@@ -156,8 +156,13 @@ impl<F: Drop> Pass<F> {
         match self.walk.take() {
             None => unreachable!(),
             Some(walk) => {
-                self.in_force = walk.next;
-                if let Some(waiting) = walk.waiting {
+                let Walk {
+                    next,
+                    place: _,
+                    waiting,
+                } = walk;
+                self.in_force = next;
+                if let Some(waiting) = waiting {
                     self.walk = Some(begun(waiting));
                 }
             }
