@@ -13,3 +13,6 @@ mod words;
 pub use grammar::{BadRule, read_rules};
 pub use judging::judge;
 pub use rule::{Action, Actions, Condition, Rule, Rules, Verdict};
+
+#[cfg(test)]
+mod tests;
