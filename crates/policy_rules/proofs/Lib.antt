@@ -1,2 +1,3 @@
 pub mod GrammarLemmas
 pub mod PassLemmas
+pub mod KeptLemmas

@@ -29,6 +29,12 @@ done (Prepend n) r = record r { prepend = n }
 abbrev pub acted : List Action → Route → Route
 acted actions r = fold (λ r a. done a r) r actions
 
+-- the attributes, the interior metric and the peer are the same
+pub record KeepsSource (r after : Route) : Type 0 where
+  pub attrs : after.attrs ≡ r.attrs
+  pub igp : after.igp ≡ r.igp
+  pub from : after.from ≡ r.from
+
 -- a rule passes a route on: its condition doesn't hold, or it does its actions and its verdict is `next`
 abbrev pub PassesOn : Network → Rule → Route → Route → Type 0
 PassesOn p rule r after =

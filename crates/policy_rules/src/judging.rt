@@ -1,7 +1,7 @@
 //! The first rule that decides.
 
-ghost use Rattle.std.specs.Prelude.{◌≡◌, ◌↔◌, IsTrue};
-ghost use Rattle.policy_rules.specs.Judged.{Holds, Judged, Outcome, done, acted};
+ghost use Rattle.std.specs.Prelude.{◌≡◌, ◌↔◌, IsTrue, IfSome};
+ghost use Rattle.policy_rules.specs.Judged.{Holds, Judged, KeepsSource, Outcome, done, acted};
 
 use crate::rule::{Action, Condition, Rule, Rules, Verdict};
 use addr4::Prefix;
@@ -9,10 +9,11 @@ use bgp_attr::Route;
 
 /// Lets a route of a prefix pass along the rules. A rule whose condition doesn't hold passes the route on; so does one
 /// whose verdict is `next`, after its actions. The first other rule decides: `accept` does its actions and accepts, `reject`
-/// rejects. After the last rule the route is accepted as it then is. None exactly where a rule rejects. Attributes,
-/// interior metric and origin of the route stay. Takes no memory.
+/// rejects. After the last rule the route is accepted as it then is. None exactly where a rule rejects. The route's
+/// attributes, its interior metric and its peer stay. Takes no memory.
 pub fn judge(rules: &Rules, prefix: Prefix, route: Route) -> Option<Route>
-    ensures { Judged rules.now prefix route result }
+    ensures judged { Judged rules.now prefix route result }
+    ensures kept { IfSome result (KeepsSource route) }
 {
     let mut route = route;
     for rule in rules.as_slice() {
