@@ -1,5 +1,5 @@
 -- What rules never change in a route.
-use Rattle.std.proofs.Common.{◌≡◌, List, [], ◌∷◌, Option, Some, IfSome, refl, sym, ◌∙◌, subst, inl, inr}
+use Rattle.std.proofs.Common.{List, [], ◌∷◌, Option, IfSome, refl, sym, ◌∙◌, subst, inl, inr}
 use Rattle.addr4.specs.Prefixes.{Network}
 use Rattle.bgp_attr.specs.declared.route.Route.{Route}
 use Rattle.policy_rules.specs.declared.rule.Action.{Action}
@@ -50,7 +50,7 @@ ending_keeps :
 ending_keeps p [] r between result h kept = subst (λ o. IfSome o (KeepsSource r)) (sym h) kept
 ending_keeps p (rule ∷ more) r between result h kept =
     verdict_keeps rule.verdict r (acted rule.actions between) result h.1
-      (both r between (acted rule.actions between) kept (acted_keeps rule.actions between))
+    (both r between (acted rule.actions between) kept (acted_keeps rule.actions between))
 
 pub judged_keeps :
     (p : Network) (rules : List Rule) (r : Route) (result : Option Route) →

@@ -21,7 +21,7 @@ pub one_more_at :
     AllPassOn p (take i rules) r between → PassesOn p rule between after → AllPassOn p (take (i + 1) rules) r after
 one_more_at p rules i rule r between after below is pass one =
     subst (λ x. AllPassOn p x r after) (sym (take_more rules i rule below ∙ ap (λ (x : Rule). take i rules ++ x ∷ []) (sym is)))
-      (one_more p (take i rules) rule r between after pass one)
+    (one_more p (take i rules) rule r between after pass one)
 
 pub accepts :
     (p : Network) (rule : Rule) (more : List Rule) (r after : Route) →
@@ -44,7 +44,7 @@ decided p items rules i rule r between result same below is passed ended =
       between = between;
       all = sym (take-append-drop i items) ∙ ap (λ x. take i items ++ x) (drop-cons items i rule below ∙ ap (λ (x : Rule). x ∷ drop (suc i) items) (sym is));
       pass = passed;
-      ends = ended
+      ends = ended;
     })
 
 pub passed_by_all :
@@ -57,5 +57,5 @@ passed_by_all p items rules i r between same end passed =
       between = between;
       all = sym (append-nil (take i items) ∙ take_all i items end);
       pass = passed;
-      ends = refl
+      ends = refl;
     })

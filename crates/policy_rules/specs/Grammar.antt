@@ -53,9 +53,9 @@ unfoldable mutual
   behind as4 c actions [] = None
   behind as4 c actions (w ∷ ws) =
       at_verdict (verdict_of w)
-        (λ v. in_front (record { condition = c; actions = actions; verdict = v }) (rules_of as4 ws))
-        (if bytes_eq w (codes "nomed") then behind as4 c (actions ++ NoMed ∷ []) ws
-         else behind_setting as4 c actions w ws)
+      (λ v. in_front (record { condition = c; actions = actions; verdict = v }) (rules_of as4 ws))
+      (if bytes_eq w (codes "nomed") then behind as4 c (actions ++ NoMed ∷ []) ws
+      else behind_setting as4 c actions w ws)
 
   -- behind the first word of an action of two words
   pub behind_setting : Bool → Condition → List Action → List ℕ → List (List ℕ) → Option (List Rule)

@@ -1,5 +1,5 @@
 -- The first rule that decides.
-use Rattle.std.specs.Prelude.{◌≡◌, ℕ, ◌≤◌, ◌⊎◌, List, [], ◌∷◌, ◌++◌, Option, Some, None, fold}
+use Rattle.std.specs.Prelude.{◌≡◌, ◌≤◌, ◌⊎◌, List, [], ◌∷◌, ◌++◌, Option, Some, None, fold}
 use Rattle.addr4.specs.Prefixes.{Network, Covers}
 use Rattle.bgp_attr.specs.Paths.{HasAs}
 use Rattle.bgp_attr.specs.declared.route.Route.{Route}

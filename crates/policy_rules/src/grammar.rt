@@ -21,7 +21,11 @@ pub struct BadRule;
 /// Reads a list of rules, perhaps empty, in words parted by spaces, one or more; spaces may also stand at the start and the
 /// end. The profile tells which numbers an AS may have. `BadRule` exactly where the text isn't in the grammar.
 #[tactic(auto, using(crate::proofs::GrammarLemmas::none_in_front, crate::proofs::GrammarLemmas::one_more_in_front, crate::proofs::GrammarLemmas::all_in_front_of_none), unfolding(crate::specs::Grammar::rules_of))]
-pub fn read_rules(alloc: Global, profile: Profile, text: &[u8]) -> Result<Result<Rules, BadRule>, Memory>
+pub fn read_rules(
+    alloc: Global,
+    profile: Profile,
+    text: &[u8],
+) -> Result<Result<Rules, BadRule>, Memory>
     ensures { IfOk result (λ rules. result_ok rules ≡ rules_of profile.as4 (words text.now)) }
 {
     let mut rules = Vec::new(alloc);
@@ -68,7 +72,14 @@ fn rule_behind<'a>(
     while let Some((word, more)) = first_word(rest) {
         if let Some(verdict) = verdict_of(word) {
             let actions = Actions::from_vec(actions);
-            return Ok(Some((Rule { condition, actions, verdict }, more)));
+            return Ok(Some((
+                Rule {
+                    condition,
+                    actions,
+                    verdict,
+                },
+                more,
+            )));
         }
         let Some((action, behind)) = action(word, more) else {
             return Ok(None);

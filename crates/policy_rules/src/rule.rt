@@ -13,11 +13,7 @@ pub enum Condition {
     /// `any`: all.
     Any,
     /// `PREFIX ge N le N`: those whose prefix lies in this one, with a length from the least to the most, 0 to 32.
-    Within {
-        prefix: Prefix,
-        least: u8,
-        most: u8,
-    },
+    Within { prefix: Prefix, least: u8, most: u8 },
     /// `path AS`: those with this AS number in some segment of the AS path.
     Path(u32),
     /// `origin N`: those with this ORIGIN.

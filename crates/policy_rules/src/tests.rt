@@ -2,7 +2,10 @@
 
 use super::*;
 use addr4::{Addr, Memory, read_prefix};
-use bgp_attr::{AsPath, Attrs, Numbers, Origin, Profile, Route, Segment, SegmentKind, SharedAttrs, UnrecognizedAttrs};
+use bgp_attr::{
+    AsPath, Attrs, Numbers, Origin, Profile, Route, Segment, SegmentKind, SharedAttrs,
+    UnrecognizedAttrs,
+};
 use std::alloc::Global;
 use std::test::Fail;
 
@@ -94,12 +97,18 @@ fn route(alloc: Global) -> Result<Route, Memory> {
 }
 
 /// What the rules make of that route at a prefix: its preference, its metric and how often the AS is put in front.
-fn judged(alloc: Global, rules: &str, prefix: &str) -> Result<Option<(u32, Option<u32>, u8)>, Fail> {
+fn judged(
+    alloc: Global,
+    rules: &str,
+    prefix: &str,
+) -> Result<Option<(u32, Option<u32>, u8)>, Fail> {
     let profile = Profile {
         as4: false,
         revised: false,
     };
-    let rules = read_rules(alloc, profile, rules.as_bytes())?.ok().ok_or("no rules")?;
+    let rules = read_rules(alloc, profile, rules.as_bytes())?
+        .ok()
+        .ok_or("no rules")?;
     let prefix = read_prefix(prefix.as_bytes()).ok().ok_or("no prefix")?;
     match judge(&rules, prefix, route(alloc)?) {
         Some(route) => Ok(Some((route.pref, route.med, route.prepend))),
@@ -114,13 +123,25 @@ fn routes_are_judged(rt: HostRuntime) -> Result<(), Fail> {
     let range = "10.1.2.3/8 ge 16 le 24 reject";
     let table = [
         ("", "10.1.0.0/16", same),
-        ("any pref 200 accept any reject", "10.1.0.0/16", Some((200, Some(10), 0))),
+        (
+            "any pref 200 accept any reject",
+            "10.1.0.0/16",
+            Some((200, Some(10), 0)),
+        ),
         ("any pref 200 next any reject", "10.1.0.0/16", None),
         ("any pref 200 reject any accept", "10.1.0.0/16", None),
         ("any pref 200 next", "10.1.0.0/16", Some((200, Some(10), 0))),
-        ("path 0 nomed prepend 3 accept any reject", "10.1.0.0/16", Some((100, None, 3))),
+        (
+            "path 0 nomed prepend 3 accept any reject",
+            "10.1.0.0/16",
+            Some((100, None, 3)),
+        ),
         ("path 65002 reject", "10.1.0.0/16", same),
-        ("origin 0 med 7 med 8 next", "10.1.0.0/16", Some((100, Some(8), 0))),
+        (
+            "origin 0 med 7 med 8 next",
+            "10.1.0.0/16",
+            Some((100, Some(8), 0)),
+        ),
         ("origin 1 reject", "10.1.0.0/16", same),
         (range, "10.0.0.0/15", same),
         (range, "10.0.0.0/16", None),

@@ -1,4 +1,4 @@
-use Rattle.std.proofs.Common.{◌≡◌, ◌++◌, length}
+use Rattle.std.proofs.Common.{◌≡◌, length}
 use Rattle.policy_rules.specs.Words.{words}
 use Rattle.policy_rules.specs.Grammar.{rules_of, all_in_front}
 use Rattle.policy_rules.proofs.grammar.read_rules.Given as goal
