@@ -1,6 +1,6 @@
 //! The words of a text, and what single words say.
 
-ghost use Rattle.std.specs.Prelude.{◌≡◌, ◌∷◌, ◌<◌, [], MatchOption};
+ghost use Rattle.std.specs.Prelude.{◌≡◌, ◌∷◌, [], MatchOption};
 ghost use Rattle.addr4.specs.Texts.{parts, parts_after};
 ghost use Rattle.policy_rules.specs.Words.{words, words_among, asn_bound, origin_of, setting_of, verdict_of, within_of};
 
