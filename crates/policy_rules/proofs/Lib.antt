@@ -1,0 +1,4 @@
+pub mod GrammarLemmas
+pub mod PassLemmas
+pub mod KeptLemmas
+pub mod OneResult

@@ -1,0 +1,11 @@
+-- What holds of judging as a whole.
+use Rattle.std.specs.Prelude.{◌≡◌, List, Option}
+use Rattle.addr4.specs.Prefixes.{Network}
+use Rattle.bgp_attr.specs.declared.route.Route.{Route}
+use Rattle.policy_rules.specs.declared.rule.Rule.{Rule}
+use Rattle.policy_rules.specs.Judged.{Judged}
+
+-- rules judge a route in one way alone
+abbrev pub OneResult : Type 0
+OneResult =
+    (rules : List Rule) (p : Network) (r : Route) (a b : Option Route) → Judged rules p r a → Judged rules p r b → a ≡ b

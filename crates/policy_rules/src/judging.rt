@@ -1,0 +1,75 @@
+//! The first rule that decides.
+
+ghost use Rattle.std.specs.Prelude.{◌≡◌, ◌↔◌, IsTrue, IfSome};
+ghost use Rattle.policy_rules.specs.Judged.{Holds, Judged, KeepsSource, Outcome, done, acted};
+
+use crate::rule::{Action, Condition, Rule, Rules, Verdict};
+use addr4::Prefix;
+use bgp_attr::Route;
+
+/// Lets a route of a prefix pass along the rules. A rule whose condition doesn't hold passes the route on; so does one
+/// whose verdict is `next`, after its actions. The first other rule decides: `accept` does its actions and accepts, `reject`
+/// rejects. After the last rule the route is accepted as it then is. None exactly where a rule rejects. The route's
+/// attributes, its interior metric and its peer stay. Takes no memory.
+pub fn judge(rules: &Rules, prefix: Prefix, route: Route) -> Option<Route>
+    ensures judged { Judged rules.now prefix route result }
+    ensures kept { IfSome result (KeepsSource route) }
+{
+    let mut route = route;
+    for rule in rules.as_slice() {
+        match outcome(rule, prefix, &mut route) {
+            Verdict::Accept => return Some(route),
+            Verdict::Reject => return None,
+            Verdict::Next => {}
+        }
+    }
+    Some(route)
+}
+
+/// What one rule does: `Next` where it passes the route on.
+fn outcome(rule: &Rule, prefix: Prefix, route: &mut Route) -> Verdict
+    ensures { Outcome result rule.now prefix route.old route.new }
+{
+    if !holds(rule.condition, prefix, route) {
+        return Verdict::Next;
+    }
+    act(rule.actions.as_slice(), route);
+    rule.verdict
+}
+
+/// Whether a condition holds of a route of this prefix.
+fn holds(condition: Condition, prefix: Prefix, route: &Route) -> bool
+    ensures { IsTrue result ↔ Holds condition prefix route.now }
+{
+    match condition {
+        Condition::Any => true,
+        Condition::Within {
+            prefix: outer,
+            least,
+            most,
+        } => outer.covers(prefix) && least <= prefix.length() && prefix.length() <= most,
+        Condition::Path(asn) => route.attrs.attrs().path.has(asn),
+        Condition::Origin(origin) => route.attrs.attrs().origin == origin,
+    }
+}
+
+/// Does actions, in order.
+fn act(actions: &[Action], route: &mut Route)
+    ensures { route.new ≡ acted actions.now route.old }
+{
+    for action in actions {
+        set(*action, route);
+    }
+}
+
+/// Does one action.
+fn set(action: Action, route: &mut Route)
+    ensures { route.new ≡ done action route.old }
+{
+    match action {
+        Action::Pref(number) => route.pref = number,
+        Action::Med(number) => route.med = Some(number),
+        Action::NoMed => route.med = None,
+        Action::Prepend(times) => route.prepend = times,
+    }
+}

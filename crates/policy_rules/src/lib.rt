@@ -1,0 +1,21 @@
+//! Filter rules: their grammar, and the first rule that decides.
+//!
+//! [`read_rules`] reads a list of [`Rule`]s. Each has a [`Condition`] on a route, [`Actions`] and a [`Verdict`]. [`judge`]
+//! lets a route pass along the list: it is accepted, perhaps with another preference, metric or number of AS numbers to put
+//! in front, or rejected. [`there_is_one_result`] says that its contract leaves one answer alone. Such rules are a speaker's
+//! import and export policies (RFC 4271, section 9.1).
+#![tactic(auto)]
+
+mod grammar;
+mod judging;
+mod laws;
+mod rule;
+mod words;
+
+pub use grammar::{BadRule, read_rules};
+pub use judging::judge;
+pub use laws::there_is_one_result;
+pub use rule::{Action, Actions, Condition, Rule, Rules, Verdict};
+
+#[cfg(test)]
+mod tests;
