@@ -1,4 +1,5 @@
 pub mod Words
 pub mod Grammar
 pub mod Judged
+pub mod Verdicts
 pub mod Laws

@@ -2,6 +2,7 @@
 
 ghost use Rattle.std.specs.Prelude.{◌≡◌, ◌↔◌, IsTrue, IfSome};
 ghost use Rattle.policy_rules.specs.Judged.{Holds, Judged, KeepsSource, Outcome, done, acted};
+ghost use Rattle.policy_rules.specs.Verdicts.{judged_by};
 
 use crate::rule::{Action, Condition, Rule, Rules, Verdict};
 use addr4::Prefix;
@@ -13,6 +14,7 @@ use bgp_attr::Route;
 /// attributes, its interior metric and its peer stay. Takes no memory.
 pub fn judge(rules: &Rules, prefix: Prefix, route: Route) -> Option<Route>
     ensures judged { Judged rules.now prefix route result }
+    ensures value { result ≡ judged_by rules.now prefix route }
     ensures kept { IfSome result (KeepsSource route) }
 {
     let mut route = route;

@@ -1,0 +1,166 @@
+//! The incoming filter.
+
+ghost use Rattle.std.specs.Prelude.{◌≡◌, IfOk, [], None, is_some};
+ghost use Rattle.addr4.specs.Places.{key_of};
+ghost use Rattle.link_change.specs.Rows.{IsNextCandidate, CoversRows};
+ghost use Rattle.pass_core.specs.Passed.{edited, present};
+ghost use Rattle.filter_bank.specs.Filtered.{passed_rows, FiltersOn};
+ghost use Rattle.filter_bank.specs.Walks.{IsWalked};
+
+use crate::filtering::filtered;
+use addr4::{Memory, Place, Prefix, Row};
+use bgp_attr::{Neighbour, Route, SharedAttrs, Speaker};
+use link_change::{Change, Turn, Upstream};
+use pass_core::Pass;
+use policy_rules::Rules;
+use std::alloc::Global;
+use std::marker::Model;
+
+/// The incoming filter of a peer. Contracts see the rules in force and the walk that is on, if any.
+#[derive(Drop)]
+pub struct FilterBank {
+    pass: Pass<Rules>,
+}
+
+impl Model for FilterBank {
+    ghost use Rattle.std.specs.Prelude.{List};
+    ghost use Rattle.pass_core.specs.Passed.{Passed};
+    ghost use Rattle.policy_rules.specs.declared.rule.Rule.{Rule};
+
+    ghost Value = { Passed (List Rule) };
+
+    ghost view = { λ f. f.pass };
+}
+
+// Whether both rows are none, or both some and equal.
+fn is_same(before: &Option<Route>, after: &Option<Route>) -> bool
+    ensures { IsTrue result ↔ (before.now ≡ after.now) }
+{
+    match (before, after) {
+        (None, None) => true,
+        (Some(before), Some(after)) => before.same(after),
+        _ => false,
+    }
+}
+
+// The change of a row, where it is one.
+fn change_of(prefix: Prefix, before: Option<Route>, after: Option<Route>) -> Option<Change<Route>>
+{
+    if is_same(&before, &after) {
+        return None;
+    }
+    Some(Change {
+        prefix,
+        before,
+        after,
+    })
+}
+
+impl FilterBank {
+    /// The filter without rules. Takes no memory.
+    pub fn new(alloc: Global) -> FilterBank
+        ensures { result ≡ record { in_force = []; walk = None } }
+    {
+        FilterBank {
+            pass: Pass::new(Rules::new(alloc)),
+        }
+    }
+
+    /// New rules: a walk begins that brings them into force; where one is on, they wait for its end, in place of others
+    /// that waited. Nothing changes at once. Takes no memory.
+    pub fn edit(&mut self, rules: Rules)
+        ensures { self.new ≡ edited self.old rules }
+    {
+        self.pass.edit(rules);
+    }
+
+    /// Whether a walk is on.
+    pub fn busy(&self) -> bool
+        ensures { result ≡ is_some self.now.walk }
+    {
+        self.pass.busy()
+    }
+
+    /// The rules of the latest edit.
+    pub fn rules(&self) -> &Rules
+        ensures { result.now ≡ present self.now }
+    {
+        self.pass.present()
+    }
+
+    /// A change from above, as it goes on below: by the rules that hold at its prefix. None exactly where the row below stays
+    /// the same. Takes no memory.
+    pub fn take_in(
+        &self,
+        change: Change<SharedAttrs>,
+        me: &Speaker,
+        peer: &Neighbour,
+    ) -> Option<Change<Route>>
+        ensures { FiltersOn me.now peer.now self.now change result }
+    {
+        let rules = self.pass.at(change.prefix);
+        let before = filtered(me, peer, rules, change.prefix, change.before);
+        let after = filtered(me, peer, rules, change.prefix, change.after);
+        change_of(change.prefix, before, after)
+    }
+
+    /// One turn of the walk: it goes to the least candidate of the link above that lies beyond its place, and sends the
+    /// change there, if there is one. The turn that finds no candidate ends the walk; rules that waited then begin a walk of
+    /// their own. Nothing exactly where no walk is on. Memory only for want of memory: then nothing changes.
+    pub fn unit<U: Upstream<Row = SharedAttrs>>(
+        &mut self,
+        upper: &U,
+        me: &Speaker,
+        peer: &Neighbour,
+    ) -> Result<Turn<Route>, Memory>
+        ensures taken { IfOk result (IsWalked me.now peer.now (U.candidates upper.now) (U.rows upper.now) self.old self.new) }
+        ensures memory { OnErr result (self.new ≡ self.old) }
+    {
+        if !self.pass.busy() {
+            return Ok(Turn::Nothing);
+        }
+        let Some(prefix) = upper.next_candidate(&self.pass.place()) else {
+            self.pass.finish();
+            return Ok(Turn::Quiet);
+        };
+        let row = upper.asked(&prefix)?;
+        let again = copied(&row)?;
+        let before = filtered(me, peer, self.pass.at(prefix), prefix, row);
+        self.pass.step_to(prefix);
+        let after = filtered(me, peer, self.pass.at(prefix), prefix, again);
+        Ok(Turn::taken(change_of(prefix, before, after)))
+    }
+
+    /// The row at a prefix of the link below.
+    pub fn asked<U: Upstream<Row = SharedAttrs>>(
+        &self,
+        upper: &U,
+        prefix: Prefix,
+        me: &Speaker,
+        peer: &Neighbour,
+    ) -> Result<Option<Route>, Memory>
+        ensures { IfOk result (λ row. row ≡ passed_rows me.now peer.now self.now (U.rows upper.now) prefix) }
+    {
+        let row = upper.asked(&prefix)?;
+        Ok(filtered(me, peer, self.pass.at(prefix), prefix, row))
+    }
+
+    /// The least candidate of the link below beyond a place: those of the link above, of which some may have no row below.
+    /// Every row below stands at one.
+    pub fn next_candidate<U: Upstream<Row = SharedAttrs>>(&self, upper: &U, after: Place) -> Option<Prefix>
+        ensures next { IsNextCandidate (U.candidates upper.now) (key_of after) result }
+        ensures covers { (me : Speaker) (peer : Neighbour) → CoversRows (U.candidates upper.now) (passed_rows me peer self.now (U.rows upper.now)) }
+    {
+        upper.next_candidate(&after)
+    }
+}
+
+// The same row once more. Takes no memory.
+fn copied(row: &Option<SharedAttrs>) -> Result<Option<SharedAttrs>, Memory>
+    ensures { IfOk result (λ copied. copied ≡ row.now) }
+{
+    match row {
+        Some(attrs) => Ok(Some(attrs.copy()?)),
+        None => Ok(None),
+    }
+}
