@@ -1,14 +1,14 @@
 -- What was declared so far, and which events may stand there.
-use Rattle.std.specs.Prelude.{◌≡◌, ℕ, ◌+◌, ◌≤◌, ◌<◌, ◌==◌, nat_le, Bool, true, false, not, ◌&&◌, ◌||◌, if◌then◌else◌, List, [], ◌∷◌, ◌++◌, map, Option, Some, None, is_none, refl}
+use Rattle.std.specs.Prelude.{◌≡◌, ℕ, ◌+◌, ◌≤◌, ◌<◌, ◌==◌, nat_le, Bool, true, false, not, ◌&&◌, ◌||◌, if◌then◌else◌, List, [], ◌∷◌, ◌++◌, length, map, Option, Some, None, is_none, refl}
 use Rattle.std.specs.Coded.{Coded, code_by, coded×, coded_option, coded_list}
 use Rattle.bgp_attr.specs.declared.speaker.Speaker.{Speaker}
 use Rattle.bgp_attr.specs.declared.speaker.Neighbour.{Neighbour}
 use Rattle.journal_text.specs.Links.{owner_of}
-use Rattle.journal_text.specs.declared.link.Task.TheVariants.{Del}
+use Rattle.journal_text.specs.declared.link.Task.TheVariants.{Del, Fin}
 use Rattle.journal_text.specs.declared.line.Code.{Code}
 use Rattle.journal_text.specs.declared.line.Code.TheVariants.{E3, E4, E5, E6}
 use Rattle.event_text.specs.declared.event.Event.{Event}
-use Rattle.event_text.specs.declared.event.Event.TheVariants.{Nothing, Local, Peer, Up, Down, Bgp, Idle, Work, Ask, Show}
+use Rattle.event_text.specs.declared.event.Event.TheVariants.{Nothing, Local, Peer, Up, Down, Bgp, FilterIn, Idle, Work, Ask, Show}
 use Rattle.event_text.specs.declared.declared.DeclaredPeer.{DeclaredPeer}
 use Rattle.event_text.specs.WellFormed.{IsSpeaker}
 
@@ -52,6 +52,11 @@ abbrev pub undeclared : Option DeclaredPeer → Option Code
 undeclared None = Some E5
 undeclared (Some p) = None
 
+-- a declared peer may have so many rules
+abbrev pub rules_refusal : ℕ → Option DeclaredPeer → Option Code
+rules_refusal count None = Some E5
+rules_refusal count (Some p) = if nat_le count 64 then None else Some E6
+
 -- where `local` was declared
 abbrev pub refusal_by : Speaker → List DeclaredPeer → Event → Option Code
 refusal_by local peers Nothing = None
@@ -60,8 +65,10 @@ refusal_by local peers (Peer k words) = if is_taken local peers k words then Som
 refusal_by local peers (Up k) = session_refusal (peer_at k peers)
 refusal_by local peers (Down k) = undeclared (peer_at k peers)
 refusal_by local peers (Bgp k octets) = undeclared (peer_at k peers)
+refusal_by local peers (FilterIn k rules) = rules_refusal (length rules) (peer_at k peers)
 refusal_by local peers Idle = None
 refusal_by local peers (Work (Del k s) n) = undeclared (peer_at k peers)
+refusal_by local peers (Work (Fin k) n) = undeclared (peer_at k peers)
 refusal_by local peers (Ask link p) = undeclared (peer_at (owner_of link) peers)
 refusal_by local peers (Show link) = undeclared (peer_at (owner_of link) peers)
 
@@ -73,6 +80,7 @@ refusal_first (Peer k words) = Some E4
 refusal_first (Up k) = Some E4
 refusal_first (Down k) = Some E4
 refusal_first (Bgp k octets) = Some E4
+refusal_first (FilterIn k rules) = Some E4
 refusal_first Idle = Some E4
 refusal_first (Work task n) = Some E4
 refusal_first (Ask link p) = Some E4

@@ -1,12 +1,13 @@
 -- The event language, and which line is refused.
-use Rattle.std.specs.Prelude.{ℕ, if◌then◌else◌, ◌==◌, List, [], ◌∷◌, length, Option, Some, None, Result, Ok, Err, codes, nat_eq}
+use Rattle.std.specs.Prelude.{ℕ, false, if◌then◌else◌, ◌==◌, List, [], ◌∷◌, length, Option, Some, None, Result, Ok, Err, codes, nat_eq}
 use Rattle.std.specs.Str.{bytes_eq}
 use Rattle.std.specs.List.{starts_with}
 use Rattle.addr4.specs.Texts.{number_of, prefix_of}
 use Rattle.journal_text.specs.declared.line.Code.{Code}
 use Rattle.journal_text.specs.declared.line.Code.TheVariants.{E1, E2}
+use Rattle.policy_rules.specs.Grammar.{rules_of}
 use Rattle.event_text.specs.declared.event.Event.{Event}
-use Rattle.event_text.specs.declared.event.Event.TheVariants.{Nothing, Local, Peer, Up, Down, Bgp, Idle, Work, Ask, Show}
+use Rattle.event_text.specs.declared.event.Event.TheVariants.{Nothing, Local, Peer, Up, Down, Bgp, FilterIn, Idle, Work, Ask, Show}
 use Rattle.event_text.specs.Words.{◌>>=◌, is_clean, words, from_one, speaker_of, octets_of, link_of, task_of}
 
 -- what follows `local`
@@ -34,6 +35,17 @@ bgp_of (k ∷ digits ∷ []) = do
   Some (Bgp n octets)
 bgp_of other = None
 
+-- what follows `filter`: the word `in`, a peer's number, and rules, perhaps none
+unfoldable pub filter_of : List (List ℕ) → Option Event
+filter_of (side ∷ k ∷ ws) =
+    if bytes_eq side (codes "in")
+    then (do
+      n ← from_one k
+      rules ← rules_of false ws
+      Some (FilterIn n rules))
+    else None
+filter_of other = None
+
 -- what follows `work`
 unfoldable pub work_of : List (List ℕ) → Option Event
 work_of (task ∷ turns ∷ []) = do
@@ -55,7 +67,7 @@ unfoldable pub show_of : List (List ℕ) → Option Event
 show_of (link ∷ []) = link_of link >>= λ l. Some (Show l)
 show_of other = None
 
--- an event but for `local`, `peer` and `bgp`, by its first word and the others
+-- an event but for `local`, `peer`, `bgp` and `filter`, by its first word and the others
 unfoldable pub plain_event : List ℕ → List (List ℕ) → Option Event
 plain_event w ws =
     if bytes_eq w (codes "up") then (one_number ws >>= λ k. Some (Up k))
@@ -72,6 +84,7 @@ named_event w ws =
     if bytes_eq w (codes "local") then local_of ws
     else if bytes_eq w (codes "peer") then peer_of ws
     else if bytes_eq w (codes "bgp") then bgp_of ws
+    else if bytes_eq w (codes "filter") then filter_of ws
     else plain_event w ws
 
 -- a line without words, a comment, or an event

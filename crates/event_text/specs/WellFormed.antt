@@ -1,12 +1,13 @@
 -- What holds of each event that was read.
-use Rattle.std.specs.Prelude.{◌≡◌, ℕ, ◌^◌, ◌<◌, ◌≤◌, List, length, true}
+use Rattle.std.specs.Prelude.{◌≡◌, ℕ, ◌^◌, ◌<◌, ◌≤◌, List, length, true, false}
 use Rattle.std.specs.List.{All}
 use Rattle.addr4.specs.Prefixes.{Network, IsMasked}
 use Rattle.bgp_attr.specs.declared.speaker.Speaker.{Speaker}
 use Rattle.journal_text.specs.declared.link.Link.{Link}
 use Rattle.journal_text.specs.declared.link.Link.TheVariants.{In, Peer, Filt, Res, Org, Lost, Low, Dyn, Int, Red, Best, ReadRib, Ebgp, Ibgp, Ext, Fib, Read, Outf, Adv}
 use Rattle.journal_text.specs.declared.link.Task.{Task}
-use Rattle.journal_text.specs.declared.link.Task.TheVariants.{Del}
+use Rattle.journal_text.specs.declared.link.Task.TheVariants.{Del, Fin}
+use Rattle.policy_rules.specs.Ranges.{AreRules}
 use Rattle.event_text.specs.declared.event.Event.{Event}
 use Rattle.event_text.specs.declared.event.Event.TheVariants as events
 use Rattle.event_text.specs.Words.{is_host}
@@ -35,11 +36,11 @@ pub record IsPrefix (p : Network) : Type 0 where
   pub masked : IsMasked 32 p
   pub fits : p.address < 2 ^ 32
 
--- `in.K` or `peer.K.S`
+-- `in.K`, `peer.K.S` or `filt.K`
 abbrev pub IsPeerLink : Link → Type 0
 IsPeerLink (In k) = IsNumber k
 IsPeerLink (Peer k s) = IsNumber k × IsNumber s
-IsPeerLink (Filt k) = ⊥
+IsPeerLink (Filt k) = IsNumber k
 IsPeerLink (Res k) = ⊥
 IsPeerLink (Org proto) = ⊥
 IsPeerLink (Lost proto n) = ⊥
@@ -59,6 +60,7 @@ IsPeerLink (Adv j s) = ⊥
 
 abbrev pub IsTask : Task → Type 0
 IsTask (Del k s) = IsNumber k × IsNumber s
+IsTask (Fin k) = IsNumber k
 
 -- its numbers, words, octets, prefix, link and task are what the grammar says
 abbrev pub IsWellFormed : Event → Type 0
@@ -68,6 +70,7 @@ IsWellFormed (events.Peer k words) = IsNumber k × IsSpeaker words
 IsWellFormed (events.Up k) = IsNumber k
 IsWellFormed (events.Down k) = IsNumber k
 IsWellFormed (events.Bgp k octets) = IsNumber k × IsMessage octets
+IsWellFormed (events.FilterIn k rules) = IsNumber k × AreRules false rules
 IsWellFormed events.Idle = Unit {0}
 IsWellFormed (events.Work task n) = IsTask task × (n < 2 ^ 32)
 IsWellFormed (events.Ask link p) = IsPeerLink link × IsPrefix p

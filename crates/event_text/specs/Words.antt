@@ -7,9 +7,9 @@ use Rattle.hex.specs.Hex.{decode_of}
 use Rattle.addr4.specs.Texts.{number_of, number_below, addr_of, parts}
 use Rattle.bgp_attr.specs.declared.speaker.Speaker.{Speaker}
 use Rattle.journal_text.specs.declared.link.Link.{Link}
-use Rattle.journal_text.specs.declared.link.Link.TheVariants.{In, Peer}
+use Rattle.journal_text.specs.declared.link.Link.TheVariants.{In, Peer, Filt}
 use Rattle.journal_text.specs.declared.link.Task.{Task}
-use Rattle.journal_text.specs.declared.link.Task.TheVariants.{Del}
+use Rattle.journal_text.specs.declared.link.Task.TheVariants.{Del, Fin}
 
 infixl 10 ◌>>=◌
 abbrev pub ◌>>=◌ : {A B : Type 0} → Option A → (A → Option B) → Option B
@@ -63,17 +63,23 @@ octets_of digits = do
   octets ← result_ok (decode_of digits)
   if length octets == 0 then None else Some octets
 
--- `in.K` or `peer.K.S`
+-- `in.K` or `filt.K`
+abbrev pub link_named : List ℕ → ℕ → Option Link
+link_named name n =
+    if bytes_eq name (codes "in") then Some (In n) else if bytes_eq name (codes "filt") then Some (Filt n) else None
+
+-- `in.K`, `filt.K` or `peer.K.S`
 abbrev pub link_from : List (List ℕ) → Option Link
-link_from (name ∷ k ∷ []) = if bytes_eq name (codes "in") then (from_one k >>= λ n. Some (In n)) else None
+link_from (name ∷ k ∷ []) = from_one k >>= link_named name
 link_from (name ∷ k ∷ s ∷ []) = if bytes_eq name (codes "peer") then (two_from_one k s >>= λ n. Some (Peer n.0 n.1)) else None
 link_from other = None
 
 unfoldable pub link_of : List ℕ → Option Link
 link_of word = link_from (parts 46 word)
 
--- `del.K.S`
+-- `del.K.S` or `fin.K`
 abbrev pub task_from : List (List ℕ) → Option Task
+task_from (name ∷ k ∷ []) = if bytes_eq name (codes "fin") then (from_one k >>= λ n. Some (Fin n)) else None
 task_from (name ∷ k ∷ s ∷ []) = if bytes_eq name (codes "del") then (two_from_one k s >>= λ n. Some (Del n.0 n.1)) else None
 task_from other = None
 

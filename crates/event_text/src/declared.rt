@@ -4,7 +4,7 @@ ghost use Rattle.std.specs.Prelude.{◌≡◌, ◌==◌, ◌≤◌, map, Option,
 ghost use Rattle.std.specs.List.{All};
 ghost use Rattle.event_text.specs.declared.event.Event.{Event};
 ghost use Rattle.event_text.specs.declared.event.Event.TheVariants as events;
-ghost use Rattle.event_text.specs.Declarations.{no_declaration, refusal, peer_at, with_speaker, with_peer, with_session, without_session, IsDeclaration, IsCounted, begun_at, ended_at, has_addr, is_taken, is_internal, session_refusal, undeclared, refusal_by, refusal_first};
+ghost use Rattle.event_text.specs.Declarations.{no_declaration, refusal, peer_at, with_speaker, with_peer, with_session, without_session, IsDeclaration, IsCounted, begun_at, ended_at, has_addr, is_taken, is_internal, session_refusal, rules_refusal, undeclared, refusal_by, refusal_first};
 ghost use Rattle.event_text.specs.WellFormed.{IsWellFormed};
 ghost use Rattle.journal_text.specs.Links.{owner_of, proto_number};
 
@@ -221,6 +221,17 @@ fn undeclared(peer: Option<DeclaredPeer>) -> Option<Code>
     }
 }
 
+/// Why a peer's filter may not have so many rules.
+fn rules_refusal(count: usize, peer: Option<DeclaredPeer>) -> Option<Code>
+    ensures { result ≡ rules_refusal count peer }
+{
+    match peer {
+        None => Some(Code::E5),
+        Some(_peer) if count > 64 => Some(Code::E6),
+        Some(_peer) => None,
+    }
+}
+
 /// Why a peer may not be declared.
 fn peer_refusal(local: Speaker, peers: &[DeclaredPeer], number: u32, words: Speaker) -> Option<Code>
     ensures { result ≡ refusal_by local peers.now (events.Peer number words) }
@@ -284,7 +295,9 @@ fn refusal_by(local: Speaker, peers: &[DeclaredPeer], event: &Event) -> Option<C
         Event::Up(number) => session_refusal(peer_of(peers, *number)),
         Event::Down(number) => undeclared(peer_of(peers, *number)),
         Event::Bgp(number, _) => undeclared(peer_of(peers, *number)),
+        Event::FilterIn(number, rules) => rules_refusal(rules.len(), peer_of(peers, *number)),
         Event::Work(Task::Del(number, _), _) => undeclared(peer_of(peers, *number)),
+        Event::Work(Task::Fin(number), _) => undeclared(peer_of(peers, *number)),
         Event::Ask(link, _) => undeclared(peer_of(peers, owner(*link))),
         Event::Show(link) => undeclared(peer_of(peers, owner(*link))),
     }

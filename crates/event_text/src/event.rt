@@ -3,6 +3,7 @@
 use addr4::Prefix;
 use bgp_attr::{Octets, Speaker};
 use journal_text::{Link, Task};
+use policy_rules::Rules;
 
 /// One event of an event file. K is a peer's number, from 1.
 #[derive(Drop)]
@@ -19,6 +20,8 @@ pub enum Event {
     Down(u32),
     /// `bgp K HEX`: one whole message came from the peer.
     Bgp(u32, Octets),
+    /// `filter in K RULES`: the peer's incoming filter has these rules from now on.
+    FilterIn(u32, Rules),
     /// `idle`
     Idle,
     /// `work TASK N`

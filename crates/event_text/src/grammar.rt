@@ -2,14 +2,22 @@
 
 ghost use Rattle.std.specs.Prelude.{◌≡◌, IfOk};
 ghost use Rattle.event_text.specs.Words.{words};
-ghost use Rattle.event_text.specs.Events.{local_of, peer_of, one_number, bgp_of, work_of, ask_of, show_of, plain_event, named_event, event_of, read_event};
+ghost use Rattle.event_text.specs.Events.{local_of, peer_of, one_number, bgp_of, filter_of, work_of, ask_of, show_of, plain_event, named_event, event_of, read_event};
 ghost use Rattle.event_text.specs.WellFormed.{IsWellFormed};
 
 use crate::event::Event;
 use crate::words::{first_word, from_one, is_clean, is_end, link, octets, speaker, task};
 use addr4::{Memory, read_number, read_prefix};
+use bgp_attr::Profile;
 use journal_text::Code;
+use policy_rules::read_rules;
 use std::alloc::Global;
+
+/// AS numbers have two octets, and errors are handled by RFC 4271, section 6.3.
+const TWO_OCTETS: Profile = Profile {
+    as4: false,
+    revised: false,
+};
 
 /// What a line says, without its end of line; or the code with which it is refused. E1 where it has more than 16,384 bytes
 /// or a byte that isn't printable ASCII (32 to 126), E2 where the grammar has no such line. Words stand between spaces, one
@@ -56,6 +64,9 @@ fn named_event(alloc: Global, word: &[u8], rest: &[u8]) -> Result<Option<Event>,
     if word == b"bgp".as_slice() {
         return bgp(alloc, rest);
     }
+    if word == b"filter".as_slice() {
+        return filter(alloc, rest);
+    }
     Ok(plain_event(word, rest))
 }
 
@@ -99,6 +110,29 @@ fn bgp(alloc: Global, rest: &[u8]) -> Result<Option<Event>, Memory>
     match octets(alloc, digits)? {
         Some(octets) => Ok(Some(Event::Bgp(number, octets))),
         None => Ok(None),
+    }
+}
+
+/// What follows `filter`.
+#[tactic(auto, unfolding(crate::specs::Events::filter_of))]
+fn filter(alloc: Global, rest: &[u8]) -> Result<Option<Event>, Memory>
+    ensures { IfOk result (λ event. event ≡ filter_of (words rest.now)) }
+{
+    let Some((side, rest)) = first_word(rest) else {
+        return Ok(None);
+    };
+    let Some((number, rest)) = first_word(rest) else {
+        return Ok(None);
+    };
+    if side != b"in".as_slice() {
+        return Ok(None);
+    }
+    let Some(number) = from_one(number) else {
+        return Ok(None);
+    };
+    match read_rules(alloc, TWO_OCTETS, rest)? {
+        Ok(rules) => Ok(Some(Event::FilterIn(number, rules))),
+        Err(_) => Ok(None),
     }
 }
 

@@ -110,7 +110,20 @@ pub fn octets(alloc: Global, digits: &[u8]) -> Result<Option<Octets>, Memory>
     }
 }
 
-/// The link `in.K` or `peer.K.S`.
+/// The link `in.K` or `filt.K`.
+fn link_named(name: &[u8], peer: u32) -> Option<Link>
+    ensures { result ≡ link_named name.now peer }
+{
+    if name == b"in".as_slice() {
+        return Some(Link::In(peer));
+    }
+    if name == b"filt".as_slice() {
+        return Some(Link::Filt(peer));
+    }
+    None
+}
+
+/// The link `in.K`, `filt.K` or `peer.K.S`.
 #[tactic(auto, using(crate::proofs::WordLemmas::no_fourth_in_link), unfolding(crate::specs::Words::link_of))]
 pub fn link(word: &[u8]) -> Option<Link>
     ensures { result ≡ link_of word.now }
@@ -118,10 +131,7 @@ pub fn link(word: &[u8]) -> Option<Link>
     let (name, rest) = first_part(word, b'.');
     let (peer, rest) = first_part(rest?, b'.');
     let Some(rest) = rest else {
-        if name == b"in".as_slice() {
-            return Some(Link::In(from_one(peer)?));
-        }
-        return None;
+        return link_named(name, from_one(peer)?);
     };
     let (session, more) = first_part(rest, b'.');
     if let Some(_more) = more {
@@ -134,14 +144,20 @@ pub fn link(word: &[u8]) -> Option<Link>
     None
 }
 
-/// The task `del.K.S`.
+/// The task `fin.K` or `del.K.S`.
 #[tactic(auto, using(crate::proofs::WordLemmas::no_fourth_in_task), unfolding(crate::specs::Words::task_of))]
 pub fn task(word: &[u8]) -> Option<Task>
     ensures { result ≡ task_of word.now }
 {
     let (name, rest) = first_part(word, b'.');
     let (peer, rest) = first_part(rest?, b'.');
-    let (session, more) = first_part(rest?, b'.');
+    let Some(rest) = rest else {
+        if name == b"fin".as_slice() {
+            return Some(Task::Fin(from_one(peer)?));
+        }
+        return None;
+    };
+    let (session, more) = first_part(rest, b'.');
     if let Some(_more) = more {
         return None;
     }
