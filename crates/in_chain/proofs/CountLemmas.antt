@@ -11,7 +11,7 @@ use Rattle.link_change.proofs.RowLemmas.{same_function, rows_inserted, rows_remo
 use Rattle.deletion_stage.specs.Lost.{Lost}
 use Rattle.deletion_stage.specs.Covering.{row_over, covered, AreApart}
 use Rattle.deletion_stage.proofs.CoverLemmas.{nothing_covers, apart_delete}
-use Rattle.in_chain.specs.Chains.{rows_below, AreAllApart, lost_count}
+use Rattle.in_chain.specs.Incomings.{rows_below, AreAllApart, lost_count}
 use Rattle.in_chain.specs.Laws.{Counts}
 
 abbrev Table : Type 0

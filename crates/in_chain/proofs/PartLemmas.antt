@@ -22,7 +22,7 @@ use Rattle.journal_text.specs.Walk.{Links, with_link, Leads}
 use Rattle.journal_text.proofs.LinkLemmas.{same_link-no}
 use Rattle.journal_text.proofs.WalkLemmas.{with_link_here, with_link_apart, with_link_same, with_link_swap, with_link_twice, leads_nowhere, leads_append, change_leads}
 use Rattle.in_chain.proofs.FallLemmas.{and_then, goes_on, goes_out, goes_no_further}
-use Rattle.in_chain.specs.Chains.{Chained, rows_below, in_rows}
+use Rattle.in_chain.specs.Incomings.{Incoming, rows_below, in_rows}
 use Rattle.in_chain.specs.Falls.{way_down}
 use Rattle.in_chain.specs.Parts.{links_over, lowered, IsRisingFrom, IsSound, IsClearAbove, LeadsOver, FallsOver, sent_entries}
 
@@ -75,7 +75,7 @@ top_falls k out live live' p sent before now is now_is =
     (sent_entries out sent, now_is, record { leads = λ others clear. leads_sent others out (map.get live) (map.get live') p sent is; down = goes_out out (map.get live) (map.get live') p sent is })
 
 -- what a stage sends of its own
-pub own_falls : (out : Link) (d d' : Lost Attrs) (c : Chained) (change : Change Attrs) → d'.number ≡ d.number → IsSent (in_rows (lowered d c)) (in_rows (lowered d' c)) change.prefix (Some change)
+pub own_falls : (out : Link) (d d' : Lost Attrs) (c : Incoming) (change : Change Attrs) → d'.number ≡ d.number → IsSent (in_rows (lowered d c)) (in_rows (lowered d' c)) change.prefix (Some change)
     → FallsOver out (lowered d c) (lowered d' c) change.prefix (out ∷ []) (Some change) (sent_entries out (Some change))
 own_falls out d d' c change same is = record {
   leads = λ others clear.
@@ -86,7 +86,7 @@ own_falls out d d' c change same is = record {
 }
 
 -- the entries of the stages above, and then what this stage sends
-pub passes_down : (out : Link) (d d' : Lost Attrs) (c c' : Chained) (before mid now : Journaled) (p : Network) (way : List Link) (change : Change Attrs) (sent : Option (Change Attrs))
+pub passes_down : (out : Link) (d d' : Lost Attrs) (c c' : Incoming) (before mid now : Journaled) (p : Network) (way : List Link) (change : Change Attrs) (sent : Option (Change Attrs))
     → IsSound out (lowered d c) → IsSound (Peer c.number d.number) c' → d'.number ≡ d.number → c'.number ≡ c.number
     → Adds (FallsOver (Peer c.number d.number) c c' p way (Some change)) before mid
     → IsSent (in_rows (lowered d c)) (in_rows (lowered d' c')) p sent → now ≡ with_entries mid (sent_entries out sent)
@@ -107,7 +107,7 @@ passes_down out d d' c c' before mid now p way change sent sound sound' same_d s
 )
 
 -- entries of the stages above, where the rows below stay the same
-pub leads_quietly : (out : Link) (d : Lost Attrs) (c c' : Chained) (entries : List (Entry Value))
+pub leads_quietly : (out : Link) (d : Lost Attrs) (c c' : Incoming) (entries : List (Entry Value))
     → IsSound out (lowered d c) → IsSound (Peer c.number d.number) c' → in_rows c' ≡ in_rows c
     → LeadsOver (Peer c.number d.number) c entries c' → LeadsOver out (lowered d c) entries (lowered d c')
 leads_quietly out d c c' entries sound sound' same leads others clear =
@@ -117,7 +117,7 @@ leads_quietly out d c c' entries sound sound' same leads others clear =
     let P : Rows Attrs → Type 0 = λ r. Leads (links_over others k out c.live (d ∷ c.deletions)) entries (Below others out (covered (map.get d.rows) r) k (Peer k d.number) c'.live c'.deletions) in
     subst P (sym same) framed
 
-pub passes_quietly : (out : Link) (d : Lost Attrs) (c c' : Chained) (before now : Journaled) (p : Network) (way : List Link)
+pub passes_quietly : (out : Link) (d : Lost Attrs) (c c' : Incoming) (before now : Journaled) (p : Network) (way : List Link)
     → IsSound out (lowered d c) → IsSound (Peer c.number d.number) c' → in_rows c' ≡ in_rows c
     → Adds (FallsOver (Peer c.number d.number) c c' p way None) before now
     → Adds (FallsOver out (lowered d c) (lowered d c') p (way ++ out ∷ []) None) before now
@@ -127,7 +127,7 @@ passes_quietly out d c c' before now p way sound sound' same (entries, now_is, f
   record { leads = leads_quietly out d c c' entries sound sound' same fall.leads; down = goes_no_further p way out entries fall.down },
 )
 
-pub sound_after : (out : Link) (d d' : Lost Attrs) (c c' : Chained) → IsSound out (lowered d c) → IsSound (Peer c.number d.number) c' → d'.number ≡ d.number → AreApart (map.get d'.rows) (in_rows c') → IsSound out (lowered d' c')
+pub sound_after : (out : Link) (d d' : Lost Attrs) (c c' : Incoming) → IsSound out (lowered d c) → IsSound (Peer c.number d.number) c' → d'.number ≡ d.number → AreApart (map.get d'.rows) (in_rows c') → IsSound out (lowered d' c')
 sound_after out d d' c c' sound sound' same apart =
     let low = sound.rising.0 in
     let P : ℕ → Type 0 = λ n. IsRisingFrom (n + 1) c'.deletions in
@@ -178,7 +178,7 @@ begins k out session live h others clear =
     }
 
 -- the link between an empty deletion stage and the stage above it is welded into the one below
-pub welds : (out : Link) (d : Lost Attrs) (c : Chained) → IsSound out (lowered d c) → d.rows ≡ map.empty → LeadsOver out (lowered d c) (Weld (Peer c.number d.number) out ∷ []) c
+pub welds : (out : Link) (d : Lost Attrs) (c : Incoming) → IsSound out (lowered d c) → d.rows ≡ map.empty → LeadsOver out (lowered d c) (Weld (Peer c.number d.number) out ∷ []) c
 welds out d c sound none others clear =
     let k = c.number in
     let link = Peer k d.number in

@@ -10,8 +10,8 @@ use Rattle.link_change.specs.declared.change.Change.{Change}
 use Rattle.link_change.proofs.RowLemmas.{remove_absent, rows_inserted, same_function, with_row_here}
 use Rattle.deletion_stage.specs.Lost.{Lost}
 use Rattle.deletion_stage.specs.Covering.{row_over, covered, AreApart}
-use Rattle.in_chain.specs.Chains.{Chained, rows_below, in_rows}
-use Rattle.in_chain.specs.Steps.{fed, without}
+use Rattle.in_chain.specs.Incomings.{Incoming, rows_below, in_rows}
+use Rattle.in_chain.specs.IncomingSteps.{fed_incoming, without}
 use Rattle.in_chain.specs.Parts.{lowered}
 
 abbrev Table : Type 0
@@ -46,25 +46,25 @@ pub same_lost : (d new : Lost Attrs) (p : Network) → new.number ≡ d.number �
 same_lost d new p numbers rows none = let kept : new.rows ≡ d.rows = rows ∙ remove_absent d.rows p none in λ i. record { number = numbers i; rows = kept i }
 
 -- a feed that sends nothing into a deletion stage takes nothing from its table
-pub fed_kept : (p : Network) (row : Option Attrs) (d : Lost Attrs) (c new : Chained) → AreApart (tables.get d.rows) (in_rows c) → new ≡ fed c p row → in_rows new ≡ in_rows c → lowered d new ≡ fed (lowered d c) p row
+pub fed_kept : (p : Network) (row : Option Attrs) (d : Lost Attrs) (c new : Incoming) → AreApart (tables.get d.rows) (in_rows c) → new ≡ fed_incoming c p row → in_rows new ≡ in_rows c → lowered d new ≡ fed_incoming (lowered d c) p row
 fed_kept p None d c new apart is same = ap (lowered d) is
 fed_kept p (Some a) d c new apart is same =
-    let live : tables.get new.live p ≡ Some a = ap (λ (x : Chained). tables.get x.live p) is ∙ ap (λ (r : Rows Attrs). r p) (rows_inserted c.live p a) ∙ with_row_here (tables.get c.live) p (Some a) in
+    let live : tables.get new.live p ≡ Some a = ap (λ (x : Incoming). tables.get x.live p) is ∙ ap (λ (r : Rows Attrs). r p) (rows_inserted c.live p a) ∙ with_row_here (tables.get c.live) p (Some a) in
     let there : IsSome (in_rows c p) = ap is_some (ap (λ (r : Rows Attrs). r p) (sym same)) ∙ shown new.live new.deletions p (ap is_some live) in
     let none = absent_below d.rows (in_rows c) p apart there in
-    ap (lowered d) is ∙ ap (λ (x : Lost Attrs). lowered x (fed c p (Some a))) (sym (same_lost d (without p d) p refl refl none))
+    ap (lowered d) is ∙ ap (λ (x : Lost Attrs). lowered x (fed_incoming c p (Some a))) (sym (same_lost d (without p d) p refl refl none))
 
 -- a change goes through a deletion stage
-pub fed_taken : (p : Network) (row : Option Attrs) (d after : Lost Attrs) (c new : Chained) (change : Change Attrs) → AreApart (tables.get d.rows) (in_rows c)
-    → after.number ≡ d.number → after.rows ≡ tables.remove d.rows change.prefix → IsSent (in_rows c) (in_rows new) p (Some change) → change.after ≡ row → new ≡ fed c p row
-    → lowered after new ≡ fed (lowered d c) p row
+pub fed_taken : (p : Network) (row : Option Attrs) (d after : Lost Attrs) (c new : Incoming) (change : Change Attrs) → AreApart (tables.get d.rows) (in_rows c)
+    → after.number ≡ d.number → after.rows ≡ tables.remove d.rows change.prefix → IsSent (in_rows c) (in_rows new) p (Some change) → change.after ≡ row → new ≡ fed_incoming c p row
+    → lowered after new ≡ fed_incoming (lowered d c) p row
 fed_taken p None d after c new change apart numbers rows sent new_row is =
     let none = not_held d.rows (in_rows c) (in_rows new) p change apart sent (λ none. sent.1.1 (new_row ∙ sym none)) in
-    ap (lowered after) is ∙ ap (λ (x : Lost Attrs). lowered x (fed c p None)) (same_lost d after change.prefix numbers rows none)
+    ap (lowered after) is ∙ ap (λ (x : Lost Attrs). lowered x (fed_incoming c p None)) (same_lost d after change.prefix numbers rows none)
 fed_taken p (Some a) d after c new change apart numbers rows sent new_row is =
     let kept : after.rows ≡ tables.remove d.rows p = rows ∙ ap (tables.remove d.rows) sent.0 in
     let e : after ≡ without p d = λ i. record { number = numbers i; rows = kept i } in
-    ap (lowered after) is ∙ ap (λ (x : Lost Attrs). lowered x (fed c p (Some a))) e
+    ap (lowered after) is ∙ ap (λ (x : Lost Attrs). lowered x (fed_incoming c p (Some a))) e
 
 some_over : (t o : Option Attrs) → (is_some t || is_some o) ≡ is_some (row_over t o)
 some_over None o = refl

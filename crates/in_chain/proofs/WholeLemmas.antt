@@ -24,10 +24,10 @@ use Rattle.journal_text.specs.Journals.{attrs_rows, Journaled, Adds}
 use Rattle.journal_text.specs.Walk.{Links, Leads}
 use Rattle.journal_text.proofs.WalkLemmas.{with_link_apart}
 use Rattle.in_chain.proofs.PartLemmas.{own_link}
-use Rattle.in_chain.specs.Chains.{Chained, rows_below, rows_above, in_rows, is_named, links_of, beside, AreRising, IsChain}
-use Rattle.in_chain.specs.Falls.{LeadsChain, Falls}
-use Rattle.in_chain.specs.Steps.{Sweeps, IsTaken, IsSwept, IsIdle, session_of}
-use Rattle.in_chain.specs.Stages.{chained_of, live_of, deletions_of, rows_of, above_of}
+use Rattle.in_chain.specs.Incomings.{Incoming, rows_below, rows_above, in_rows, is_incoming, incoming_links, beside_incoming, AreRising, IsIncoming}
+use Rattle.in_chain.specs.Falls.{LeadsIncoming, FallsIncoming}
+use Rattle.in_chain.specs.IncomingSteps.{SweepsIncoming, IsTakenIncoming, IsSweptIncoming, IsIdleIncoming, session_of}
+use Rattle.in_chain.specs.Stages.{incoming_of, live_of, deletions_of, rows_of, above_of}
 use Rattle.in_chain.specs.declared.stage.Stage.{Stage, PeerIn, Deletion'}
 use Rattle.in_chain.specs.Parts.{links_over, IsRisingFrom, IsSound, LeadsOver, FallsOver, SweepsOver, IsTakenOver}
 
@@ -52,23 +52,23 @@ are_rising : (low : ℕ) (ds : List (Lost Attrs)) → IsRisingFrom low ds → Ar
 are_rising low [] rising = tt
 are_rising low (d ∷ ds) rising = (later_all (d.number + 1) d.number ds (omega arith) rising.1, are_rising (d.number + 1) ds rising.1)
 
-pub sound_of_chain : (c : Chained) → IsChain c → IsSound (In c.number) c
+pub sound_of_chain : (c : Incoming) → IsIncoming c → IsSound (In c.number) c
 sound_of_chain c chain = record { rising = rising_chain c.deletions chain.rising; apart = chain.apart }
 
-pub chain_of_sound : (out : Link) (c : Chained) → IsSound out c → IsChain c
+pub chain_of_sound : (out : Link) (c : Incoming) → IsSound out c → IsIncoming c
 chain_of_sound out c sound = record { apart = sound.apart; rising = are_rising (rank_of out) c.deletions sound.rising }
 
 -- ---- links beside those of others
 
 -- the others, without the names of this chain
 abbrev cleared : ℕ → Links Value → Links Value
-cleared k others link = cond (is_named k link) None (others link)
+cleared k others link = cond (is_incoming k link) None (others link)
 
-not_named : (others : Links Value) (k : ℕ) (out : Link) (live : Table) (ds : List (Lost Attrs)) (link : Link) → is_named k out ≡ true → is_named k link ≡ false → links_over others k out live ds link ≡ others link
+not_named : (others : Links Value) (k : ℕ) (out : Link) (live : Table) (ds : List (Lost Attrs)) (link : Link) → is_incoming k out ≡ true → is_incoming k link ≡ false → links_over others k out live ds link ≡ others link
 not_named others k out live [] link named other =
-    with_link_apart others out link (Some (attrs_rows (map.get live))) (λ e. let clash : true ≡ false = sym named ∙ ap (is_named k) e ∙ other in cc)
+    with_link_apart others out link (Some (attrs_rows (map.get live))) (λ e. let clash : true ≡ false = sym named ∙ ap (is_incoming k) e ∙ other in cc)
 not_named others k out live (d ∷ ds) link named other =
-    with_link_apart (links_over others k (Peer k d.number) live ds) out link (Some (attrs_rows (rows_below live (d ∷ ds)))) (λ e. let clash : true ≡ false = sym named ∙ ap (is_named k) e ∙ other in cc)
+    with_link_apart (links_over others k (Peer k d.number) live ds) out link (Some (attrs_rows (rows_below live (d ∷ ds)))) (λ e. let clash : true ≡ false = sym named ∙ ap (is_incoming k) e ∙ other in cc)
     ∙ not_named others k (Peer k d.number) live ds link (eq-eqb k k refl) other
 
 -- the link of a session, above those links that aren't it
@@ -92,13 +92,13 @@ above_rows session (Deletion' d at upper) =
       | false ↦ above_rows session upper
     ]
 
-pub out_at : (number k session : ℕ) (stage : Stage) → k ≡ number → option_map (λ s. attrs_rows (rows_of s)) (above_of session stage) ≡ links_of (chained_of number stage) (Peer k session)
+pub out_at : (number k session : ℕ) (stage : Stage) → k ≡ number → option_map (λ s. attrs_rows (rows_of s)) (above_of session stage) ≡ incoming_links (incoming_of number stage) (Peer k session)
 out_at number k session stage same =
     above_rows session stage ∙ ap (λ b. cond b (option_map attrs_rows (rows_above (live_of stage) session (deletions_of stage))) None) (sym (eq-eqb k number same))
 
 -- ---- what is named
 
-on_named : (others : Links Value) (c : Chained) (link : Link) → is_named c.number link ≡ true → links_over (cleared c.number others) c.number (In c.number) c.live c.deletions link ≡ links_of c link
+on_named : (others : Links Value) (c : Incoming) (link : Link) → is_incoming c.number link ≡ true → links_over (cleared c.number others) c.number (In c.number) c.live c.deletions link ≡ incoming_links c link
 on_named others c (In k) named =
     let same : k ≡ c.number = grind (arith, nat_tests) in
     ap (λ n. links_over (cleared c.number others) c.number (In c.number) c.live c.deletions (In n)) same ∙ own_link (cleared c.number others) c.number (In c.number) c.live c.deletions
@@ -127,30 +127,30 @@ on_named others c (Read j s) named = absurd (let e : false ≡ true = named in c
 on_named others c (Outf j s) named = absurd (let e : false ≡ true = named in cc)
 on_named others c (Adv j s) named = absurd (let e : false ≡ true = named in cc)
 
-beside_is : (others : Links Value) (c : Chained) → links_over (cleared c.number others) c.number (In c.number) c.live c.deletions ≡ beside others c
+beside_is : (others : Links Value) (c : Incoming) → links_over (cleared c.number others) c.number (In c.number) c.live c.deletions ≡ beside_incoming others c
 beside_is others c = same_function _ _ (λ link.
-    elim (is_named c.number link) as (λ b. is_named c.number link ≡ b → links_over (cleared c.number others) c.number (In c.number) c.live c.deletions link ≡ cond b (links_of c link) (others link)) [
+    elim (is_incoming c.number link) as (λ b. is_incoming c.number link ≡ b → links_over (cleared c.number others) c.number (In c.number) c.live c.deletions link ≡ cond b (incoming_links c link) (others link)) [
       | true ↦ λ e. on_named others c link e
       | false ↦ λ e. not_named (cleared c.number others) c.number (In c.number) c.live c.deletions link (eq-eqb c.number c.number refl) e ∙ ap (λ b. cond b None (others link)) e
     ] refl)
 
-pub leads_chain : (old new : Chained) (entries : List (Entry Value)) → new.number ≡ old.number → LeadsOver (In old.number) old entries new → LeadsChain old entries new
+pub leads_chain : (old new : Incoming) (entries : List (Entry Value)) → new.number ≡ old.number → LeadsOver (In old.number) old entries new → LeadsIncoming old entries new
 leads_chain old new entries same leads others =
     let lead = leads (cleared old.number others) (λ session _. ap (λ b. cond b None (others (Peer old.number session))) (eq-eqb old.number old.number refl)) in
-    let new_is : links_over (cleared old.number others) old.number (In old.number) new.live new.deletions ≡ beside others new = ap (λ n. links_over (cleared n others) n (In n) new.live new.deletions) (sym same) ∙ beside_is others new in
+    let new_is : links_over (cleared old.number others) old.number (In old.number) new.live new.deletions ≡ beside_incoming others new = ap (λ n. links_over (cleared n others) n (In n) new.live new.deletions) (sym same) ∙ beside_is others new in
     let P : Links Value → Type 0 = λ l. Leads l entries (links_over (cleared old.number others) old.number (In old.number) new.live new.deletions) in
-    let Q : Links Value → Type 0 = λ l. Leads (beside others old) entries l in
+    let Q : Links Value → Type 0 = λ l. Leads (beside_incoming others old) entries l in
     subst Q new_is (subst P (beside_is others old) lead)
 
-pub falls_chain : (old new : Chained) (p : Network) (way : List Link) (sent : Option (Change Attrs)) (before now : Journaled) → new.number ≡ old.number
-    → Adds (FallsOver (In old.number) old new p way sent) before now → Adds (Falls old new p way sent) before now
+pub falls_chain : (old new : Incoming) (p : Network) (way : List Link) (sent : Option (Change Attrs)) (before now : Journaled) → new.number ≡ old.number
+    → Adds (FallsOver (In old.number) old new p way sent) before now → Adds (FallsIncoming old new p way sent) before now
 falls_chain old new p way sent before now same (entries, now_is, fall) = (entries, now_is, record { leads = leads_chain old new entries same fall.leads; down = fall.down })
 
 -- ---- turns
 
-sweeps_chain : (old new : Chained) (session : ℕ) (sent : Option (Change Attrs)) (before now : Journaled) → Adds (SweepsOver (In old.number) old new session sent) before now → Adds (Sweeps old new session sent) before now
+sweeps_chain : (old new : Incoming) (session : ℕ) (sent : Option (Change Attrs)) (before now : Journaled) → Adds (SweepsOver (In old.number) old new session sent) before now → Adds (SweepsIncoming old new session sent) before now
 sweeps_chain old new session sent before now (entries, now_is, s) =
-    let same : new.number ≡ old.number = ap (λ (x : Chained). x.number) s.after in (
+    let same : new.number ≡ old.number = ap (λ (x : Incoming). x.number) s.after in (
       entries,
       now_is,
       record {
@@ -165,7 +165,7 @@ sweeps_chain old new session sent before now (entries, now_is, s) =
       },
     )
 
-pub taken_chain : (old new : Chained) (task : Task) (session : ℕ) (before now : Journaled) (turn : Turn Attrs) → session_of old.number task ≡ Some session → IsTakenOver (In old.number) old new session before now turn → IsTaken old new task before now turn
-taken_chain old new task session before now Nothing is taken = (subst (IsIdle old) (sym is) taken.0, taken.1)
-taken_chain old new task session before now Quiet is taken = subst (λ o. IsSwept old new o None before now) (sym is) (sweeps_chain old new session None before now taken)
-taken_chain old new task session before now (Sent change) is taken = subst (λ o. IsSwept old new o (Some change) before now) (sym is) (sweeps_chain old new session (Some change) before now taken)
+pub taken_chain : (old new : Incoming) (task : Task) (session : ℕ) (before now : Journaled) (turn : Turn Attrs) → session_of old.number task ≡ Some session → IsTakenOver (In old.number) old new session before now turn → IsTakenIncoming old new task before now turn
+taken_chain old new task session before now Nothing is taken = (subst (IsIdleIncoming old) (sym is) taken.0, taken.1)
+taken_chain old new task session before now Quiet is taken = subst (λ o. IsSweptIncoming old new o None before now) (sym is) (sweeps_chain old new session None before now taken)
+taken_chain old new task session before now (Sent change) is taken = subst (λ o. IsSweptIncoming old new o (Some change) before now) (sym is) (sweeps_chain old new session (Some change) before now taken)

@@ -22,9 +22,9 @@ use Rattle.journal_text.specs.declared.link.Link.{Link}
 use Rattle.journal_text.specs.declared.link.Link.TheVariants.{Peer}
 use Rattle.journal_text.specs.declared.entry.Entry.TheVariants.{Begin, Weld}
 use Rattle.journal_text.specs.Journals.{Journaled, with_entries, Adds}
-use Rattle.in_chain.specs.Chains.{Chained, rows_below, in_rows, NoneEmpty, OneEmptyAtMost, AreAllApart}
+use Rattle.in_chain.specs.Incomings.{Incoming, rows_below, in_rows, NoneEmpty, OneEmptyAtMost, AreAllApart}
 use Rattle.in_chain.specs.Falls.{way_from}
-use Rattle.in_chain.specs.Steps.{new_chain, lost, loss_entries, welded, weld_entries, without, deletions_after, table_of, swept, swept_one}
+use Rattle.in_chain.specs.IncomingSteps.{new_incoming, lost_incoming, loss_entries, welded_incoming, weld_entries, without, deletions_after, table_of, swept_incoming, swept_one}
 use Rattle.in_chain.specs.Parts.{lowered, IsRisingFrom, IsSound, LeadsOver, FallsOver, SweepsOver, IsTakenOver, sent_entries, filled, filled_once}
 use Rattle.in_chain.proofs.RowLemmas.{not_held, same_lost}
 use Rattle.in_chain.proofs.PartLemmas.{passes_down, passes_quietly, own_falls, begins, welds}
@@ -62,7 +62,7 @@ filled_all (d ∷ ds) one =
       | false ↦ λ full. ap (λ l. d ∷ l) (filled_all ds (one_above d ds one))
     ] refl
 
-pub welded_once : (c : Chained) → OneEmptyAtMost c.deletions → filled_once c ≡ welded c
+pub welded_once : (c : Incoming) → OneEmptyAtMost c.deletions → filled_once c ≡ welded_incoming c
 welded_once c one = ap (λ (l : List (Lost Attrs)). record { number = c.number; live = c.live; deletions = l }) (filled_all c.deletions one)
 
 -- ---- turns
@@ -91,7 +91,7 @@ row_there None is = absurd (let e : false ≡ true = is in cc)
 row_there (Some row) is = (row, refl)
 
 -- the stage's own turn
-pub own_sweeps : (out : Link) (session : ℕ) (d after : Lost Attrs) (c : Chained) (change : Change Attrs) (before now : Journaled) → d.number ≡ session → IsSound out (lowered d c)
+pub own_sweeps : (out : Link) (session : ℕ) (d after : Lost Attrs) (c : Incoming) (change : Change Attrs) (before now : Journaled) → d.number ≡ session → IsSound out (lowered d c)
     → after.number ≡ d.number → after.rows ≡ tables.remove d.rows change.prefix → IsLeastRow (tables.get d.rows) change.prefix change.before → change.after ≡ None → DeletesOn d.rows after.rows change
     → now ≡ with_entries before (sent_entries out (Some change))
     → Adds (SweepsOver out (lowered d c) (lowered after c) session (Some change)) before now
@@ -177,7 +177,7 @@ none_appended [] ys h k = k
 none_appended (x ∷ xs) ys h k = (h.0, none_appended xs ys h.1 k)
 
 -- a loss makes none
-pub none_lost : (session : ℕ) (c : Chained) → NoneEmpty c.deletions → NoneEmpty (lost session c).deletions
+pub none_lost : (session : ℕ) (c : Incoming) → NoneEmpty c.deletions → NoneEmpty (lost_incoming session c).deletions
 none_lost session c full =
     elim (is_empty_map c.live) as (λ b. is_empty_map c.live ≡ b → NoneEmpty (cond b c.deletions (c.deletions ++ record { number = session; rows = c.live } ∷ []))) [
       | true ↦ λ _. full
@@ -191,7 +191,7 @@ gone_too None change afters gone = tt
 gone_too (Some next) change afters gone = afters ∙ gone
 
 -- one that sent nothing into this stage
-pub sweeps_quietly : (out : Link) (session : ℕ) (d : Lost Attrs) (c new : Chained) (before now : Journaled) → d.number ≢ session → IsSound out (lowered d c) → IsSound (Peer c.number d.number) new
+pub sweeps_quietly : (out : Link) (session : ℕ) (d : Lost Attrs) (c new : Incoming) (before now : Journaled) → d.number ≢ session → IsSound out (lowered d c) → IsSound (Peer c.number d.number) new
     → Adds (SweepsOver (Peer c.number d.number) c new session None) before now → Adds (SweepsOver out (lowered d c) (lowered d new) session None) before now
 sweeps_quietly out session d c new before now other sound sound' (entries, now_is, s) =
     let there = other_number d.number session other in
@@ -207,7 +207,7 @@ sweeps_quietly out session d c new before now other sound sound' (entries, now_i
         table = s.table;
         stands = ap (λ (b : Bool). cond b (Some d.rows) (table_of session c.deletions)) there ∙ s.stands;
         least = s.least;
-        after = ap (lowered d) s.after ∙ ap (λ (x : Lost Attrs). lowered x (swept session s.prefix c)) (sym (swept_other session s.prefix d other));
+        after = ap (lowered d) s.after ∙ ap (λ (x : Lost Attrs). lowered x (swept_incoming session s.prefix c)) (sym (swept_other session s.prefix d other));
         fall = subst P (sym is) passed.2;
         rows = ap (λ (r : Rows Attrs). covered (tables.get d.rows) r) s.rows;
         gone = tt;
@@ -215,7 +215,7 @@ sweeps_quietly out session d c new before now other sound sound' (entries, now_i
     )
 
 -- one whose change this stage passes
-pub sweeps_on : (out : Link) (session : ℕ) (d after : Lost Attrs) (c new : Chained) (change : Change Attrs) (sent : Option (Change Attrs)) (before mid now : Journaled) → d.number ≢ session
+pub sweeps_on : (out : Link) (session : ℕ) (d after : Lost Attrs) (c new : Incoming) (change : Change Attrs) (sent : Option (Change Attrs)) (before mid now : Journaled) → d.number ≢ session
     → IsSound out (lowered d c) → IsSound (Peer c.number d.number) new → after.number ≡ d.number → after.rows ≡ tables.remove d.rows change.prefix
     → ((p : Network) → IsSent (in_rows c) (in_rows new) p (Some change) → IsSent (in_rows (lowered d c)) (in_rows (lowered after new)) p sent)
     → IfSome sent (λ next. next.after ≡ change.after)
@@ -225,7 +225,7 @@ sweeps_on out session d after c new change sent before mid now other sound sound
     let there = other_number d.number session other in
     let way = way_from c.number session (Peer c.number d.number) c.deletions in
     let is_sent = law s.prefix s.rows in
-    let passed = passes_down out d after c new before mid now s.prefix way change sent sound sound' numbers (ap (λ (x : Chained). x.number) s.after) (entries, mid_is, s.fall) is_sent now_is in
+    let passed = passes_down out d after c new before mid now s.prefix way change sent sound sound' numbers (ap (λ (x : Incoming). x.number) s.after) (entries, mid_is, s.fall) is_sent now_is in
     let P : List Link → Type 0 = λ w. FallsOver out (lowered d c) (lowered after new) s.prefix w sent passed.0 in
     let is : way_from c.number session out (d ∷ c.deletions) ≡ way ++ out ∷ [] = ap (λ (b : Bool). cond b (out ∷ []) (way ++ out ∷ [])) there in
     let none = not_held d.rows (in_rows c) (in_rows new) s.prefix change sound.apart.0 s.rows (λ before_none. s.rows.1.1 (s.gone ∙ sym before_none)) in
@@ -238,14 +238,14 @@ sweeps_on out session d after c new change sent before mid now other sound sound
         table = s.table;
         stands = ap (λ (b : Bool). cond b (Some d.rows) (table_of session c.deletions)) there ∙ s.stands;
         least = s.least;
-        after = ap (lowered after) s.after ∙ ap (λ (x : Lost Attrs). lowered x (swept session s.prefix c)) (same ∙ sym (swept_other session s.prefix d other));
+        after = ap (lowered after) s.after ∙ ap (λ (x : Lost Attrs). lowered x (swept_incoming session s.prefix c)) (same ∙ sym (swept_other session s.prefix d other));
         fall = subst P (sym is) passed.2;
         rows = is_sent;
         gone = gone_too sent change afters s.gone;
       },
     )
 
-pub taken_over : (out : Link) (old new : Chained) (session : ℕ) (sent : Option (Change Attrs)) (before now : Journaled) → Adds (SweepsOver out old new session sent) before now → IsTakenOver out old new session before now (taken_turn sent)
+pub taken_over : (out : Link) (old new : Incoming) (session : ℕ) (sent : Option (Change Attrs)) (before now : Journaled) → Adds (SweepsOver out old new session sent) before now → IsTakenOver out old new session before now (taken_turn sent)
 taken_over out old new session None before now adds = adds
 taken_over out old new session (Some change) before now adds = adds
 
@@ -256,34 +256,34 @@ not_empty d full none =
     cc
 
 -- a stage begins with the live routes, and the top anew
-pub begins_if : (k : ℕ) (out : Link) (session : ℕ) (live : Table) (d : Lost Attrs) (top : Chained) → d ≡ record { number = session; rows = live } → top ≡ new_chain k → is_empty_map live ≡ false → rank_of out ≤ session
+pub begins_if : (k : ℕ) (out : Link) (session : ℕ) (live : Table) (d : Lost Attrs) (top : Incoming) → d ≡ record { number = session; rows = live } → top ≡ new_incoming k → is_empty_map live ≡ false → rank_of out ≤ session
     → LeadsOver out (record { number = k; live = live; deletions = [] }) (loss_entries session (record { number = k; live = live; deletions = [] })) (lowered d top)
 begins_if k out session live d top is fresh full h =
     let P : Bool → Type 0 = λ b. LeadsOver out (record { number = k; live = live; deletions = [] }) (cond b [] (Begin (Peer k session) ∷ [])) (lowered d top) in
     let Q : Lost Attrs → Type 0 = λ x. LeadsOver out (record { number = k; live = live; deletions = [] }) (Begin (Peer k session) ∷ []) (lowered x top) in
-    let S : Chained → Type 0 = λ x. LeadsOver out (record { number = k; live = live; deletions = [] }) (Begin (Peer k session) ∷ []) (lowered (record { number = session; rows = live }) x) in
+    let S : Incoming → Type 0 = λ x. LeadsOver out (record { number = k; live = live; deletions = [] }) (Begin (Peer k session) ∷ []) (lowered (record { number = session; rows = live }) x) in
     subst P (sym full) (subst Q (sym is) (subst S (sym fresh) (begins k out session live h)))
 
-pub begun_rows : (k session : ℕ) (live : Table) (d : Lost Attrs) (top : Chained) → d ≡ record { number = session; rows = live } → top ≡ new_chain k → in_rows (lowered d top) ≡ tables.get live
+pub begun_rows : (k session : ℕ) (live : Table) (d : Lost Attrs) (top : Incoming) → d ≡ record { number = session; rows = live } → top ≡ new_incoming k → in_rows (lowered d top) ≡ tables.get live
 begun_rows k session live d top is fresh =
-    ap (λ (x : Lost Attrs). in_rows (lowered x top)) is ∙ ap (λ (x : Chained). in_rows (lowered (record { number = session; rows = live }) x)) fresh
+    ap (λ (x : Lost Attrs). in_rows (lowered x top)) is ∙ ap (λ (x : Incoming). in_rows (lowered (record { number = session; rows = live }) x)) fresh
     ∙ ap (covered (tables.get live)) empty_rows ∙ covered_nothing (tables.get live)
 
-pub welds_if : (out : Link) (d : Lost Attrs) (c : Chained) → IsSound out (lowered d c) → is_empty_map d.rows ≡ true → d.rows ≡ tables.empty → LeadsOver out (lowered d c) (weld_entries c.number out (d ∷ c.deletions)) c
+pub welds_if : (out : Link) (d : Lost Attrs) (c : Incoming) → IsSound out (lowered d c) → is_empty_map d.rows ≡ true → d.rows ≡ tables.empty → LeadsOver out (lowered d c) (weld_entries c.number out (d ∷ c.deletions)) c
 welds_if out d c sound empty none =
     let rest = weld_entries c.number (Peer c.number d.number) c.deletions in
     let P : Bool → Type 0 = λ b. LeadsOver out (lowered d c) (cond b (Weld (Peer c.number d.number) out ∷ []) rest) c in
     subst P (sym empty) (welds out d c sound none)
 
-pub weld_passes : (out : Link) (d : Lost Attrs) (c new : Chained) → is_empty_map d.rows ≡ false → LeadsOver out (lowered d c) (weld_entries c.number (Peer c.number d.number) c.deletions) (lowered d new)
+pub weld_passes : (out : Link) (d : Lost Attrs) (c new : Incoming) → is_empty_map d.rows ≡ false → LeadsOver out (lowered d c) (weld_entries c.number (Peer c.number d.number) c.deletions) (lowered d new)
     → LeadsOver out (lowered d c) (weld_entries c.number out (d ∷ c.deletions)) (lowered d new)
 weld_passes out d c new full leads =
     let P : Bool → Type 0 = λ b. LeadsOver out (lowered d c) (cond b (Weld (Peer c.number d.number) out ∷ []) (weld_entries c.number (Peer c.number d.number) c.deletions)) (lowered d new) in
     subst P (sym full) leads
 
-pub one_after : (out : Link) (old new : Chained) (session : ℕ) (before now : Journaled) (turn : Turn Attrs) → IsTakenOver out old new session before now turn → IsSound out old → NoneEmpty old.deletions → OneEmptyAtMost new.deletions
-one_after out old new session before now Nothing taken sound full = subst (λ (x : Chained). OneEmptyAtMost x.deletions) (sym taken.1.0) (none_is_one old.deletions full)
+pub one_after : (out : Link) (old new : Incoming) (session : ℕ) (before now : Journaled) (turn : Turn Attrs) → IsTakenOver out old new session before now turn → IsSound out old → NoneEmpty old.deletions → OneEmptyAtMost new.deletions
+one_after out old new session before now Nothing taken sound full = subst (λ (x : Incoming). OneEmptyAtMost x.deletions) (sym taken.1.0) (none_is_one old.deletions full)
 one_after out old new session before now Quiet taken sound full =
-    subst (λ (x : Chained). OneEmptyAtMost x.deletions) (sym taken.2.after) (one_swept session taken.2.prefix (rank_of out) old.deletions sound.rising full)
+    subst (λ (x : Incoming). OneEmptyAtMost x.deletions) (sym taken.2.after) (one_swept session taken.2.prefix (rank_of out) old.deletions sound.rising full)
 one_after out old new session before now (Sent change) taken sound full =
-    subst (λ (x : Chained). OneEmptyAtMost x.deletions) (sym taken.2.after) (one_swept session taken.2.prefix (rank_of out) old.deletions sound.rising full)
+    subst (λ (x : Incoming). OneEmptyAtMost x.deletions) (sym taken.2.after) (one_swept session taken.2.prefix (rank_of out) old.deletions sound.rising full)

@@ -1,90 +1,106 @@
--- What contracts see of a peer's incoming chain: the live routes of the present session, and below them the tables of lost
--- sessions whose deletes weren't sent yet (NSDI 2005, section 5.1.2).
-use Rattle.std.specs.Prelude.{◌≡◌, ℕ, ◌+◌, ◌==◌, ◌<◌, cond, Bool, false, if◌then◌else◌, List, [], ◌∷◌, ◌⊎◌, Option, Some, None, option_map, refl}
-use Rattle.std.specs.List.{AllByRecursion}
-use Rattle.std.specs.Coded.{Coded, code_by, coded×, coded_ℕ, coded_list}
+-- What contracts see of a peer's chain: the stages whose links carry attributes, and below them the incoming filter.
+use Rattle.std.specs.Prelude.{◌≡◌, ℕ, ◌+◌, ◌==◌, cond, Bool, false, is_some, length, List, Option, Some, None, refl}
+use Rattle.std.specs.List.{filter}
+use Rattle.std.specs.Coded.{Coded, code_by, coded×}
 use Rattle.std.specs.FinMap as map
 use Rattle.std.specs.FinMap.{FinMap}
-use Rattle.addr4.specs.Prefixes.{prefix_cmp, network_code}
+use Rattle.addr4.specs.Prefixes.{Network, prefix_cmp}
 use Rattle.bgp_attr.specs.declared.attrs.Attrs.{Attrs}
-use Rattle.link_change.specs.Rows.{Rows, is_empty_map}
-use Rattle.deletion_stage.specs.Lost.{Lost, lost_code}
-use Rattle.deletion_stage.specs.Covering.{covered, AreApart}
+use Rattle.bgp_attr.specs.declared.route.Route.{Route}
+use Rattle.bgp_attr.specs.declared.speaker.Speaker.{Speaker}
+use Rattle.bgp_attr.specs.declared.speaker.Neighbour.{Neighbour}
+use Rattle.link_change.specs.Rows.{Rows, Candidates}
+use Rattle.deletion_stage.specs.Lost.{Lost}
+use Rattle.policy_rules.specs.declared.rule.Rule.{Rule}
+use Rattle.pass_core.specs.Passed.{Passed, Walked, is_beyond}
+use Rattle.filter_bank.specs.Filtered.{passed_rows}
 use Rattle.journal_text.specs.declared.link.Link.{Link}
-use Rattle.journal_text.specs.declared.link.Link.TheVariants.{In, Peer}
+use Rattle.journal_text.specs.declared.link.Link.TheVariants.{In, Peer, Filt}
 use Rattle.journal_text.specs.declared.value.Value.{Value}
 use Rattle.journal_text.specs.Walk.{Links}
-use Rattle.journal_text.specs.Journals.{attrs_rows}
+use Rattle.journal_text.specs.Journals.{route_rows}
+use Rattle.in_chain.specs.Incomings.{Incoming, in_rows, incoming_links, IsIncoming, NoneEmpty, OneEmptyAtMost, incoming_count}
 
--- the peer's number, its live routes, and the lost tables, the lowest first: that of the earliest session
+-- the live routes and the lost tables; the words of this speaker and of the peer; the rules of the incoming filter
 pub record Chained : Type 0 where
-  pub number : ℕ
-  pub live : FinMap prefix_cmp Attrs
-  pub deletions : List (Lost Attrs)
+  pub incoming : Incoming
+  pub me : Speaker
+  pub peer : Neighbour
+  pub filter : Passed (List Rule)
 
-abbrev pub chained_code : Coded Attrs → Coded Chained
-chained_code c =
-    code_by (ℕ × (FinMap prefix_cmp Attrs × List (Lost Attrs))) (coded× coded_ℕ (coded× (map.code network_code c) (coded_list (lost_code c))))
-    (λ a. (a.number, (a.live, a.deletions))) (λ p. record { number = p.0; live = p.1.0; deletions = p.1.1 }) (λ _. refl)
+abbrev pub chained_code : Coded Incoming → Coded Speaker → Coded Neighbour → Coded (Passed (List Rule)) → Coded Chained
+chained_code i s n f =
+    code_by ((Incoming × Speaker) × (Neighbour × Passed (List Rule))) (coded× (coded× i s) (coded× n f))
+    (λ a. ((a.incoming, a.me), (a.peer, a.filter))) (λ p. record { incoming = p.0.0; me = p.0.1; peer = p.1.0; filter = p.1.1 }) (λ _. refl)
 
--- the rows of the link below these lost tables
-abbrev pub rows_below : FinMap prefix_cmp Attrs → List (Lost Attrs) → Rows Attrs
-rows_below live [] = map.get live
-rows_below live (d ∷ ds) = covered (map.get d.rows) (rows_below live ds)
+-- the rows of `filt.K`
+abbrev pub filt_rows : Chained → Rows Route
+filt_rows c = passed_rows c.me c.peer c.filter (in_rows c.incoming)
 
--- the rows of the link into the stage of a session
-abbrev pub rows_above : FinMap prefix_cmp Attrs → ℕ → List (Lost Attrs) → Option (Rows Attrs)
-rows_above live session [] = None
-rows_above live session (d ∷ ds) = if d.number == session then Some (rows_below live ds) else rows_above live session ds
-
--- the rows of `in.K`
-abbrev pub in_rows : Chained → Rows Attrs
-in_rows c = rows_below c.live c.deletions
-
--- the link is named as one of the chain's: `in.K`, or `peer.K.S` of any session
+-- the link is named as one of the chain's: `filt.K`, `in.K`, or `peer.K.S` of any session
 abbrev pub is_named : ℕ → Link → Bool
 is_named number (In k) = k == number
 is_named number (Peer k s) = k == number
+is_named number (Filt k) = k == number
 is_named number other = false
 
--- the links of the chain: `in.K`, and `peer.K.S` into the stage of each lost session
+-- the links of the chain: `filt.K`, `in.K`, and `peer.K.S` into the stage of each lost session
 abbrev pub links_of : Chained → Links Value
-links_of c (In k) = cond (k == c.number) (Some (attrs_rows (in_rows c))) None
-links_of c (Peer k s) = cond (k == c.number) (option_map attrs_rows (rows_above c.live s c.deletions)) None
+links_of c (Filt k) = cond (k == c.incoming.number) (Some (route_rows (filt_rows c))) None
+links_of c (In k) = incoming_links c.incoming (In k)
+links_of c (Peer k s) = incoming_links c.incoming (Peer k s)
 links_of c other = None
 
 -- the chain's links beside those of the other parts of the router
 abbrev pub beside : Links Value → Chained → Links Value
-beside others c link = cond (is_named c.number link) (links_of c link) (others link)
+beside others c link = cond (is_named c.incoming.number link) (links_of c link) (others link)
 
--- each lost table is apart from the rows above it
-abbrev pub AreAllApart : FinMap prefix_cmp Attrs → List (Lost Attrs) → Type 0
-AreAllApart live [] = Unit {0}
-AreAllApart live (d ∷ ds) = AreApart (map.get d.rows) (rows_below live ds) × AreAllApart live ds
+-- the link whose rows are the candidates of a link: of `filt.K` that is `in.K`
+abbrev pub upper_of : Link → Link
+upper_of (Filt k) = In k
+upper_of (In k) = In k
+upper_of (Peer k s) = Peer k s
+upper_of other = other
 
--- each session is later than those of the tables below it
-abbrev pub AreRising : List (Lost Attrs) → Type 0
-AreRising [] = Unit {0}
-AreRising (d ∷ ds) = AllByRecursion (λ later. d.number < later.number) ds × AreRising ds
+abbrev pub candidates_in : Option (Rows Value) → Candidates
+candidates_in None q = false
+candidates_in (Some rows) q = is_some (rows q)
+
+-- where walks and lists of a link's rows go
+abbrev pub candidates_of : Chained → Link → Candidates
+candidates_of c link = candidates_in (incoming_links c.incoming (upper_of link))
 
 -- what holds of a chain between two calls
-pub record IsChain (c : Chained) : Type 0 where
-  pub apart : AreAllApart c.live c.deletions
-  pub rising : AreRising c.deletions
+abbrev pub IsChain : Chained → Type 0
+IsChain c = IsIncoming c.incoming
 
--- no lost table is empty
-abbrev pub NoneEmpty : List (Lost Attrs) → Type 0
-NoneEmpty ds = AllByRecursion (λ d. is_empty_map d.rows ≡ false) ds
-
--- at most one lost table is empty
-abbrev pub OneEmptyAtMost : List (Lost Attrs) → Type 0
-OneEmptyAtMost [] = Unit {0}
-OneEmptyAtMost (d ∷ ds) = (NoneEmpty ds) ⊎ ((is_empty_map d.rows ≡ false) × OneEmptyAtMost ds)
-
--- how many rows the chain has
-abbrev pub lost_count : List (Lost Attrs) → ℕ
-lost_count [] = 0
-lost_count (d ∷ ds) = map.len d.rows + lost_count ds
-
+-- how many rows `in.K` has
 abbrev pub row_count : Chained → ℕ
-row_count c = map.len c.live + lost_count c.deletions
+row_count c = incoming_count c.incoming
+
+-- ---- how many turns are left
+
+-- how many rows of a table lie beyond a place
+abbrev pub count_beyond : Option Network → FinMap prefix_cmp Attrs → ℕ
+count_beyond place t = length (filter (λ e. is_beyond place e.0) (map.entries t))
+
+abbrev pub lost_beyond : Option Network → List (Lost Attrs) → ℕ
+lost_beyond place [] = 0
+lost_beyond place (d ∷ ds) = count_beyond place d.rows + lost_beyond place ds
+
+-- how many rows of `in.K` lie beyond a place
+abbrev pub left_beyond : Option Network → Incoming → ℕ
+left_beyond place c = count_beyond place c.live + lost_beyond place c.deletions
+
+abbrev pub waiting_turns : ℕ → Option (List Rule) → ℕ
+waiting_turns rows None = 0
+waiting_turns rows (Some rules) = rows + 1
+
+abbrev pub walk_turns : Incoming → Option (Walked (List Rule)) → ℕ
+walk_turns c None = 0
+walk_turns c (Some w) = left_beyond w.place c + 1 + waiting_turns (incoming_count c) w.waiting
+
+-- how many turns the walk of the filter takes: one for each row of `in.K` beyond its place and one that ends it, and a whole walk
+-- more where rules wait
+abbrev pub turns_left : Chained → ℕ
+turns_left c = walk_turns c.incoming c.filter.walk

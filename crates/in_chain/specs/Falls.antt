@@ -2,14 +2,16 @@
 use Rattle.std.specs.Prelude.{◌≡◌, ℕ, ◌==◌, if◌then◌else◌, List, [], ◌∷◌, ◌++◌, Option, Some, None}
 use Rattle.addr4.specs.Prefixes.{Network}
 use Rattle.bgp_attr.specs.declared.attrs.Attrs.{Attrs}
+use Rattle.bgp_attr.specs.declared.route.Route.{Route}
 use Rattle.link_change.specs.declared.change.Change.{Change}
 use Rattle.deletion_stage.specs.Lost.{Lost}
 use Rattle.journal_text.specs.declared.link.Link.{Link}
-use Rattle.journal_text.specs.declared.link.Link.TheVariants.{Peer}
+use Rattle.journal_text.specs.declared.link.Link.TheVariants.{In, Peer, Filt}
 use Rattle.journal_text.specs.declared.value.Value.{Value}
 use Rattle.journal_text.specs.declared.entry.Entry.{Entry}
 use Rattle.journal_text.specs.declared.entry.Entry.TheVariants.{Add, Delete, Replace}
 use Rattle.journal_text.specs.Walk.{Links, Leads}
+use Rattle.in_chain.specs.Incomings.{Incoming, beside_incoming}
 use Rattle.in_chain.specs.Chains.{Chained, beside}
 
 -- the entry is a change at the prefix of the link
@@ -32,7 +34,7 @@ IsCut p (link ∷ links) [] = Unit {0}
 IsCut p (link ∷ links) (e ∷ es) = IsChangeOn link p e × IsCut p links es
 
 -- The messages go down this way, and where a change comes out at its end, all of it.
-abbrev pub GoesDown : Network → List Link → Option (Change Attrs) → List (Entry Value) → Type 0
+abbrev pub GoesDown : {R : Type 0} → Network → List Link → Option (Change R) → List (Entry Value) → Type 0
 GoesDown p way None entries = IsCut p way entries
 GoesDown p way (Some change) entries = (change.prefix ≡ p) × IsWhole p way entries
 
@@ -46,11 +48,29 @@ abbrev pub way_from : ℕ → ℕ → Link → List (Lost Attrs) → List Link
 way_from k session out [] = []
 way_from k session out (d ∷ ds) = if d.number == session then out ∷ [] else way_from k session (Peer k d.number) ds ++ out ∷ []
 
+-- Whatever other links there are, the entries lead by the rules of the journal from the old links of the upper part to its new
+-- ones.
+abbrev pub LeadsIncoming : Incoming → List (Entry Value) → Incoming → Type 0
+LeadsIncoming old entries new = (others : Links Value) → Leads (beside_incoming others old) entries (beside_incoming others new)
+
+-- a fall at a prefix down this way, in the upper part
+pub record FallsIncoming (old new : Incoming) (p : Network) (way : List Link) (sent : Option (Change Attrs)) (entries : List (Entry Value)) : Type 0 where
+  pub leads : LeadsIncoming old entries new
+  pub down : GoesDown p way sent entries
+
+-- from the live routes of a chain down to `filt.K`
+abbrev pub way_of_feed : Incoming → List Link
+way_of_feed c = way_down c.number (In c.number) c.deletions ++ Filt c.number ∷ []
+
+-- from the stage of a session down to `filt.K`
+abbrev pub way_of_sweep : ℕ → Incoming → List Link
+way_of_sweep session c = way_from c.number session (In c.number) c.deletions ++ Filt c.number ∷ []
+
 -- Whatever other links there are, the entries lead by the rules of the journal from the chain's old links to its new ones.
 abbrev pub LeadsChain : Chained → List (Entry Value) → Chained → Type 0
 LeadsChain old entries new = (others : Links Value) → Leads (beside others old) entries (beside others new)
 
 -- a fall at a prefix down this way
-pub record Falls (old new : Chained) (p : Network) (way : List Link) (sent : Option (Change Attrs)) (entries : List (Entry Value)) : Type 0 where
+pub record Falls (old new : Chained) (p : Network) (way : List Link) (sent : Option (Change Route)) (entries : List (Entry Value)) : Type 0 where
   pub leads : LeadsChain old entries new
   pub down : GoesDown p way sent entries

@@ -1,11 +1,12 @@
 -- Laws of chains, for the crates above.
-use Rattle.std.specs.Prelude.{◌≡◌, ℕ}
+use Rattle.std.specs.Prelude.{◌≡◌, ℕ, ◌+◌, ◌*◌, ◌<◌, ◌≤◌, is_some, true, false}
 use Rattle.std.specs.FinMap as map
 use Rattle.std.specs.FinMap.{FinMap}
 use Rattle.addr4.specs.Prefixes.{prefix_cmp}
 use Rattle.bgp_attr.specs.declared.attrs.Attrs.{Attrs}
 use Rattle.link_change.specs.Rows.{Rows}
-use Rattle.in_chain.specs.Chains.{Chained, IsChain, in_rows, row_count}
+use Rattle.in_chain.specs.Chains.{Chained, row_count, turns_left}
+use Rattle.in_chain.specs.Incomings.{Incoming, IsIncoming, in_rows, incoming_count}
 
 -- the rows are those of a finite map with so many entries
 abbrev pub Counts : Rows Attrs → ℕ → Type 0
@@ -13,4 +14,12 @@ Counts rows n = (m : FinMap prefix_cmp Attrs) × (map.get m ≡ rows) × (map.le
 
 -- The tables of a chain have together as many rows as `in.K`.
 abbrev pub RowsAreCounted : Type 0
-RowsAreCounted = (c : Chained) → IsChain c → Counts (in_rows c) (row_count c)
+RowsAreCounted = (c : Incoming) → IsIncoming c → Counts (in_rows c) (incoming_count c)
+
+-- A filter's walk, and that of rules which wait, take together at most two turns more than twice the rows of `in.K`.
+abbrev pub TurnsAreBounded : Type 0
+TurnsAreBounded = (c : Chained) → turns_left c ≤ 2 * (row_count c + 1)
+
+-- No turn is left where no walk is on, and some where one is.
+abbrev pub TurnsAreLeft : Type 0
+TurnsAreLeft = (c : Chained) → (is_some c.filter.walk ≡ true → 0 < turns_left c) × (is_some c.filter.walk ≡ false → turns_left c ≡ 0)

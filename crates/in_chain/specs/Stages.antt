@@ -5,7 +5,7 @@ use Rattle.addr4.specs.Prefixes.{prefix_cmp}
 use Rattle.bgp_attr.specs.declared.attrs.Attrs.{Attrs}
 use Rattle.link_change.specs.Rows.{Rows}
 use Rattle.deletion_stage.specs.Lost.{Lost}
-use Rattle.in_chain.specs.Chains.{Chained, rows_below}
+use Rattle.in_chain.specs.Incomings.{Incoming, rows_below}
 use Rattle.in_chain.specs.declared.stage.Stage.{Stage, PeerIn, Deletion'}
 
 -- the live routes, at the top
@@ -18,8 +18,8 @@ abbrev pub deletions_of : Stage → List (Lost Attrs)
 deletions_of (PeerIn live) = []
 deletions_of (Deletion' d at upper) = d ∷ deletions_of upper
 
-abbrev pub chained_of : ℕ → Stage → Chained
-chained_of k stage = record { number = k; live = live_of stage; deletions = deletions_of stage }
+abbrev pub incoming_of : ℕ → Stage → Incoming
+incoming_of k stage = record { number = k; live = live_of stage; deletions = deletions_of stage }
 
 -- the rows of the link out of a stage
 abbrev pub rows_of : Stage → Rows Attrs

@@ -1,112 +1,96 @@
 -- What each call makes of a chain, and the entries that it writes.
-use Rattle.std.specs.Prelude.{◌≡◌, ℕ, ◌==◌, ◌||◌, nat_lt, length, not, if◌then◌else◌, cond, List, [], ◌∷◌, ◌++◌, map, filter, Option, Some, None}
+use Rattle.std.specs.Prelude.{◌≡◌, ℕ, ◌<◌, ◌==◌, ◌&&◌, Bool, false, is_some, List, [], Option, Some, None}
 use Rattle.std.specs.FinMap as tables
 use Rattle.std.specs.FinMap.{FinMap}
 use Rattle.addr4.specs.Prefixes.{Network, prefix_cmp}
 use Rattle.bgp_attr.specs.declared.attrs.Attrs.{Attrs}
-use Rattle.link_change.specs.Rows.{is_empty_map}
+use Rattle.bgp_attr.specs.declared.route.Route.{Route}
+use Rattle.bgp_attr.specs.declared.speaker.Speaker.{Speaker}
+use Rattle.bgp_attr.specs.declared.speaker.Neighbour.{Neighbour}
+use Rattle.link_change.specs.Rows.{with_rows}
 use Rattle.link_change.specs.Changes.{IsSent}
 use Rattle.link_change.specs.declared.change.Change.{Change}
 use Rattle.link_change.specs.declared.turn.Turn.{Turn}
 use Rattle.link_change.specs.declared.turn.Turn.TheVariants.{Nothing, Quiet, Sent}
-use Rattle.deletion_stage.specs.Lost.{Lost}
 use Rattle.deletion_stage.specs.Covering.{IsLeastRow}
+use Rattle.policy_rules.specs.declared.rule.Rule.{Rule}
+use Rattle.pass_core.specs.Passed.{edited}
+use Rattle.filter_bank.specs.Walks.{Walks}
 use Rattle.journal_text.specs.declared.link.Link.{Link}
-use Rattle.journal_text.specs.declared.link.Link.TheVariants.{In, Peer}
+use Rattle.journal_text.specs.declared.link.Link.TheVariants.{Filt}
 use Rattle.journal_text.specs.declared.link.Task.{Task}
-use Rattle.journal_text.specs.declared.link.Task.TheVariants.{Del}
+use Rattle.journal_text.specs.declared.link.Task.TheVariants.{Del, Fin}
 use Rattle.journal_text.specs.declared.value.Value.{Value}
 use Rattle.journal_text.specs.declared.entry.Entry.{Entry}
-use Rattle.journal_text.specs.declared.entry.Entry.TheVariants.{Begin, Weld}
-use Rattle.in_chain.specs.Chains.{Chained, in_rows}
-use Rattle.journal_text.specs.Journals.{Journaled, Adds}
-use Rattle.in_chain.specs.Falls.{Falls, way_from}
+use Rattle.journal_text.specs.Journals.{Journaled, Adds, route_change}
+use Rattle.in_chain.specs.Incomings.{in_rows}
+use Rattle.in_chain.specs.IncomingSteps.{new_incoming, fed_incoming, lost_incoming, welded_incoming, swept_incoming, table_of}
+use Rattle.in_chain.specs.Chains.{Chained, filt_rows, turns_left}
+use Rattle.in_chain.specs.Falls.{Falls, LeadsChain, way_of_sweep}
 
-abbrev pub new_chain : ℕ → Chained
-new_chain number = record { number = number; live = tables.empty; deletions = [] }
-
--- the live routes after an announcement, or a withdrawal
-abbrev pub live_after : FinMap prefix_cmp Attrs → Network → Option Attrs → FinMap prefix_cmp Attrs
-live_after live p None = tables.remove live p
-live_after live p (Some attrs) = tables.insert live p attrs
-
-abbrev pub without : Network → Lost Attrs → Lost Attrs
-without p d = record { number = d.number; rows = tables.remove d.rows p }
-
--- an announcement takes its prefix out of the lost tables
-abbrev pub deletions_after : List (Lost Attrs) → Network → Option Attrs → List (Lost Attrs)
-deletions_after ds p None = ds
-deletions_after ds p (Some attrs) = map (without p) ds
+-- no route, no deletion stage, and no rule
+abbrev pub new_chain : Speaker → Neighbour → Chained
+new_chain me peer = record {
+  incoming = new_incoming peer.number;
+  me = me;
+  peer = peer;
+  filter = record { in_force = []; walk = None };
+}
 
 abbrev pub fed : Chained → Network → Option Attrs → Chained
-fed c p row = record { number = c.number; live = live_after c.live p row; deletions = deletions_after c.deletions p row }
+fed c p row = record { incoming = fed_incoming c.incoming p row; me = c.me; peer = c.peer; filter = c.filter }
 
 -- a session is lost: its routes go to a stage of their own, if there are any
 abbrev pub lost : ℕ → Chained → Chained
-lost session c = record {
-  number = c.number;
-  live = tables.empty;
-  deletions = cond (is_empty_map c.live) c.deletions (c.deletions ++ record { number = session; rows = c.live } ∷ []);
-}
-
-abbrev pub loss_entries : ℕ → Chained → List (Entry Value)
-loss_entries session c = cond (is_empty_map c.live) [] (Begin (Peer c.number session) ∷ [])
+lost session c = record { incoming = lost_incoming session c.incoming; me = c.me; peer = c.peer; filter = c.filter }
 
 -- an empty stage goes
 abbrev pub welded : Chained → Chained
-welded c = record { number = c.number; live = c.live; deletions = filter (λ d. not (is_empty_map d.rows)) c.deletions }
-
--- the upper link of the lowest empty stage is welded into its lower one
-abbrev pub weld_entries : ℕ → Link → List (Lost Attrs) → List (Entry Value)
-weld_entries k out [] = []
-weld_entries k out (d ∷ ds) = cond (is_empty_map d.rows) (Weld (Peer k d.number) out ∷ []) (weld_entries k (Peer k d.number) ds)
-
--- the lost table of a session
-abbrev pub table_of : ℕ → List (Lost Attrs) → Option (FinMap prefix_cmp Attrs)
-table_of session [] = None
-table_of session (d ∷ ds) = if d.number == session then Some d.rows else table_of session ds
-
--- the row at a prefix leaves the lost table of a session
-abbrev pub swept_one : ℕ → Network → Lost Attrs → Lost Attrs
-swept_one session p d = if d.number == session then without p d else d
+welded c = record { incoming = welded_incoming c.incoming; me = c.me; peer = c.peer; filter = c.filter }
 
 abbrev pub swept : ℕ → Network → Chained → Chained
-swept session p c = record { number = c.number; live = c.live; deletions = map (swept_one session p) c.deletions }
+swept session p c = record { incoming = swept_incoming session p c.incoming; me = c.me; peer = c.peer; filter = c.filter }
+
+-- the filter has new rules, which hold nowhere yet
+abbrev pub refiltered : List Rule → Chained → Chained
+refiltered rules c = record { incoming = c.incoming; me = c.me; peer = c.peer; filter = edited c.filter rules }
 
 -- A turn of the stage of a session: its least row goes, and the messages of that go down.
-pub record Sweeps (old new : Chained) (session : ℕ) (sent : Option (Change Attrs)) (entries : List (Entry Value)) : Type 0 where
+pub record Sweeps (old new : Chained) (session : ℕ) (sent : Option (Change Route)) (entries : List (Entry Value)) : Type 0 where
   pub prefix : Network
   pub row : Attrs
   pub table : FinMap prefix_cmp Attrs
-  pub stands : table_of session old.deletions ≡ Some table
+  pub stands : table_of session old.incoming.deletions ≡ Some table
   pub least : IsLeastRow (tables.get table) prefix (Some row)
   pub after : new ≡ swept session prefix old
-  pub fall : Falls old new prefix (way_from old.number session (In old.number) old.deletions) sent entries
-  pub rows : IsSent (in_rows old) (in_rows new) prefix sent
+  pub fall : Falls old new prefix (way_of_sweep session old.incoming) sent entries
+  pub rows : IsSent (filt_rows old) (filt_rows new) prefix sent
 
--- the stage that stands longest
-abbrev pub oldest_of : ℕ → List (Lost Attrs) → Option Task
-oldest_of k [] = None
-oldest_of k (d ∷ ds) = Some (Del k d.number)
+-- the entry of what the filter sends
+abbrev pub filter_entries : ℕ → Option (Change Route) → List (Entry Value)
+filter_entries k None = []
+filter_entries k (Some change) = route_change (Filt k) change
 
--- the stage that has to go before another one may come: where 16 stand, and the table to be lost isn't empty
-abbrev pub overdue_of : Chained → Option Task
-overdue_of c = cond (nat_lt (length c.deletions) 16 || is_empty_map c.live) None (oldest_of c.number c.deletions)
+-- A turn of the filter's walk over the rows of `in.K`: nothing else changes, and fewer turns are left.
+pub record Rewalks (old new : Chained) (sent : Option (Change Route)) (entries : List (Entry Value)) : Type 0 where
+  pub walks : Walks old.me old.peer (with_rows (in_rows old.incoming)) (in_rows old.incoming) old.filter new.filter sent
+  pub after : new ≡ record { incoming = old.incoming; me = old.me; peer = old.peer; filter = new.filter }
+  pub lines : entries ≡ filter_entries old.incoming.number sent
+  pub leads : LeadsChain old entries new
+  pub fewer : turns_left new < turns_left old
 
--- what a task says of a chain: the session whose stage it is, if the task is the chain's
-abbrev pub session_of : ℕ → Task → Option ℕ
-session_of number (Del k s) = cond (k == number) (Some s) None
+-- whether a task is one of the chain's and has work
+abbrev pub has_turn : Chained → Task → Bool
+has_turn c (Del k s) = k == c.incoming.number && is_some (table_of s c.incoming.deletions)
+has_turn c (Fin k) = k == c.incoming.number && is_some c.filter.walk
+
+-- a turn of a task of the chain
+abbrev pub Turned : Chained → Chained → Task → Option (Change Route) → List (Entry Value) → Type 0
+Turned old new (Del k s) sent entries = (k ≡ old.incoming.number) × Sweeps old new s sent entries
+Turned old new (Fin k) sent entries = (k ≡ old.incoming.number) × Rewalks old new sent entries
 
 -- What a turn that came to this made of the chain and of the journal.
-abbrev pub IsSwept : Chained → Chained → Option ℕ → Option (Change Attrs) → Journaled → Journaled → Type 0
-IsSwept old new None sent before now = ⊥
-IsSwept old new (Some session) sent before now = Adds (Sweeps old new session sent) before now
-
-abbrev pub IsIdle : Chained → Option ℕ → Type 0
-IsIdle c None = Unit {0}
-IsIdle c (Some session) = table_of session c.deletions ≡ None
-
-abbrev pub IsTaken : Chained → Chained → Task → Journaled → Journaled → Turn Attrs → Type 0
-IsTaken old new task before now Nothing = IsIdle old (session_of old.number task) × ((new ≡ old) × (now ≡ before))
-IsTaken old new task before now Quiet = IsSwept old new (session_of old.number task) None before now
-IsTaken old new task before now (Sent change) = IsSwept old new (session_of old.number task) (Some change) before now
+abbrev pub IsTaken : Chained → Chained → Task → Journaled → Journaled → Turn Route → Type 0
+IsTaken old new task before now Nothing = (has_turn old task ≡ false) × ((new ≡ old) × (now ≡ before))
+IsTaken old new task before now Quiet = Adds (Turned old new task None) before now
+IsTaken old new task before now (Sent change) = Adds (Turned old new task (Some change)) before now

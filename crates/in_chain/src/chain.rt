@@ -1,216 +1,268 @@
 //! The chain of one peer, as the crates above see it.
 
 ghost use Rattle.std.specs.Prelude.{◌≡◌, ◌<◌, IfOk, OnOk, IsTrue, is_some, IsSome, Option, Some, None};
-ghost use Rattle.std.specs.Option.{option_copied, option_map};
 ghost use Rattle.std.specs.List.{AllByRecursion};
 ghost use Rattle.addr4.specs.Places.{key_of};
-ghost use Rattle.link_change.specs.Rows.{Rows, IsNextCandidate, with_rows, is_empty_map};
+ghost use Rattle.link_change.specs.Rows.{Rows, IsNextCandidate, CoversRows};
 ghost use Rattle.link_change.specs.Changes.{IsSent};
-ghost use Rattle.link_change.specs.declared.turn.Turn.TheVariants as turns;
 ghost use Rattle.journal_text.specs.declared.link.Link.TheVariants as names;
+ghost use Rattle.journal_text.specs.declared.link.Task.TheVariants as tasks;
 ghost use Rattle.journal_text.specs.declared.value.Value.{Value};
 ghost use Rattle.journal_text.specs.Walk.{HasRow};
-ghost use Rattle.journal_text.specs.Journals.{attrs_rows, Adds, with_entries};
-ghost use Rattle.in_chain.specs.Chains.{links_of, in_rows, IsChain, NoneEmpty, OneEmptyAtMost, row_count};
-ghost use Rattle.in_chain.specs.Stages.{chained_of, rows_of};
-ghost use Rattle.in_chain.specs.Falls.{Falls, LeadsChain, way_down};
-ghost use Rattle.in_chain.specs.Steps.{new_chain, fed, lost, loss_entries, welded, weld_entries, oldest_of, overdue_of, session_of, IsTaken};
+ghost use Rattle.journal_text.specs.Journals.{Adds, with_entries, route_rows};
+ghost use Rattle.in_chain.specs.Incomings.{NoneEmpty, OneEmptyAtMost};
+ghost use Rattle.in_chain.specs.Chains.{links_of, filt_rows, candidates_of, IsChain, row_count};
+ghost use Rattle.in_chain.specs.Stages.{incoming_of};
+ghost use Rattle.in_chain.specs.Falls.{Falls, LeadsChain, way_of_feed};
+ghost use Rattle.in_chain.specs.IncomingSteps.{loss_entries, weld_entries, oldest_of, overdue_of};
+ghost use Rattle.in_chain.specs.Steps.{new_chain, fed, lost, welded, refiltered, filter_entries, IsTaken};
 
+use crate::incoming::Incoming;
 use crate::stage::Stage;
 use addr4::{Memory, Place, Prefix};
-use bgp_attr::SharedAttrs;
+use bgp_attr::{Neighbour, Route, SharedAttrs, Speaker};
+use filter_bank::FilterBank;
 use journal_text::{Journal, Link, Task, Value};
 use link_change::{Change, Turn};
-use peer_in::PeerIn;
+use policy_rules::Rules;
 use std::alloc::Global;
 use std::marker::Model;
 
-/// A peer's incoming chain. Contracts see the peer's number, the live routes and the lost tables.
+/// A peer's chain. Contracts see the live routes and the lost tables, the words of this speaker and of the peer, and the
+/// rules of the incoming filter.
 #[derive(Drop)]
 pub struct Chain {
-    alloc: Global,
-    number: u32,
-    lowest: Stage,
+    me: Speaker,
+    peer: Neighbour,
+    incoming: Incoming,
+    filter: FilterBank,
 }
 
 impl Model for Chain {
-    ghost use Rattle.std.specs.Prelude.{◌≤◌, length};
+    ghost use Rattle.std.specs.Coded.{coded_list};
+    ghost use Rattle.in_chain.specs.Incomings.{incoming_code};
     ghost use Rattle.in_chain.specs.Chains.{Chained, chained_code};
-    ghost use Rattle.in_chain.specs.Stages.{chained_of, deletions_of};
+    ghost use Rattle.pass_core.specs.Passed.{passed_code};
     ghost use Rattle.bgp_attr.specs.contracts.attrs.Attrs as attrs_row;
+    ghost use Rattle.bgp_attr.specs.contracts.speaker.Speaker as speaker_row;
+    ghost use Rattle.bgp_attr.specs.contracts.speaker.Neighbour as neighbour_row;
+    ghost use Rattle.policy_rules.specs.contracts.rule.Rule as rule_row;
 
     ghost Value = { Chained };
 
-    ghost coded = { chained_code attrs_row.the_row.coded };
+    ghost coded = { chained_code (incoming_code attrs_row.the_row.coded) speaker_row.the_row.coded neighbour_row.the_row.coded (passed_code (coded_list rule_row.the_row.coded)) };
 
-    ghost view = { λ c. chained_of c.number c.lowest };
-
-    ghost invariant = { λ c. length (deletions_of c.lowest) ≤ 16 };
+    ghost view = { λ c. record { incoming = c.incoming; me = c.me; peer = c.peer; filter = c.filter } };
 }
 
-// The session whose deletion stage the task is, if it is one of this chain.
-fn session_of(number: u32, task: Task) -> Option<u32>
-    ensures { result ≡ session_of number task }
+// Writes the line of what the filter sends, if it sends something.
+fn send_route(
+    journal: &mut Journal,
+    number: u32,
+    sent: &Option<Change<Route>>,
+) -> Result<(), Memory>
+    ensures { OnOk result (journal.new ≡ with_entries journal.old (filter_entries number sent.now)) }
 {
-    match task {
-        Task::Del(owner, session) => {
-            if owner == number {
-                return Some(session);
-            }
-            None
-        }
+    match sent {
+        Some(change) => journal.push_route_change(Link::Filt(number), change),
+        None => Ok(()),
     }
 }
 
 impl Chain {
-    /// A chain without routes and without deletion stages, for the peer of this number, from 1. Takes no memory now;
+    /// A chain without routes, deletion stages and rules, by the words of this speaker and of the peer. Takes no memory now;
     /// what the stages hold later comes from `alloc`.
-    pub fn new(alloc: Global, number: u32) -> Result<Chain, Memory>
-        ensures { IfOk result (λ chain. chain ≡ new_chain number) }
+    pub fn new(alloc: Global, me: Speaker, peer: Neighbour) -> Result<Chain, Memory>
+        ensures { IfOk result (λ chain. chain ≡ new_chain me peer) }
     {
+        let incoming = Incoming::new(alloc, u32::from(peer.number))?;
         Ok(Chain {
-            alloc,
-            number,
-            lowest: Stage::PeerIn(PeerIn::new(alloc)),
+            me,
+            peer,
+            incoming,
+            filter: FilterBank::new(alloc),
         })
     }
 
     /// The peer's number.
     pub fn number(&self) -> u32
-        ensures { result ≡ self.now.number }
+        ensures { result ≡ self.now.incoming.number }
     {
-        self.number
+        self.incoming.number()
     }
 
-    /// The lowest stage, which holds all others; the link out of it is `in.K`.
+    /// The lowest stage whose links carry attributes; it holds all others of them. The link out of it is `in.K`, into the
+    /// filter.
     pub fn lowest(&self) -> &Stage
-        ensures { chained_of self.now.number result.now ≡ self.now }
+        ensures { incoming_of self.now.incoming.number result.now ≡ self.now.incoming }
     {
-        &self.lowest
+        self.incoming.lowest()
+    }
+
+    /// The incoming filter, between `in.K` and `filt.K`.
+    pub fn filter(&self) -> &FilterBank
+        ensures { result.now ≡ self.now.filter }
+    {
+        &self.filter
     }
 
     /// A route is announced (`new` is some), or withdrawn (RFC 4271, section 3.1), by the present session. Answers the change
-    /// on `in.K`: None exactly where its map stays the same. An announcement takes its prefix out of the lost tables, and
+    /// on `filt.K`: None exactly where its map stays the same. An announcement takes its prefix out of the lost tables, and
     /// may so empty one: weld then. Memory comes only for want of memory.
     pub fn feed(
         &mut self,
         p: Prefix,
         new: Option<SharedAttrs>,
         journal: &mut Journal,
-    ) -> Result<Option<Change<SharedAttrs>>, Memory>
+    ) -> Result<Option<Change<Route>>, Memory>
         requires chain { IsChain self.old }
-        requires full { NoneEmpty self.old.deletions }
-        ensures sent { IfOk result (IsSent (in_rows self.old) (in_rows self.new) p) }
+        requires full { NoneEmpty self.old.incoming.deletions }
+        ensures sent { IfOk result (IsSent (filt_rows self.old) (filt_rows self.new) p) }
         ensures after { OnOk result (self.new ≡ fed self.old p new) }
-        ensures lines { IfOk result (λ sent. Adds (Falls self.old self.new p (way_down self.old.number (names.In self.old.number) self.old.deletions) sent) journal.old journal.new) }
+        ensures lines { IfOk result (λ sent. Adds (Falls self.old self.new p (way_of_feed self.old.incoming) sent) journal.old journal.new) }
         ensures chain { OnOk result (IsChain self.new) }
-        ensures one_empty { OnOk result (OneEmptyAtMost self.new.deletions) }
+        ensures one_empty { OnOk result (OneEmptyAtMost self.new.incoming.deletions) }
     {
-        let link = Link::In(self.number);
-        let sent = self.lowest.feed(self.number, link, p, new, journal)?;
+        let Some(change) = self.incoming.feed(p, new, journal)? else {
+            return Ok(None);
+        };
+        let sent = self.filter.take_in(change, &self.me, &self.peer);
+        send_route(journal, self.incoming.number(), &sent)?;
         Ok(sent)
     }
 
     /// The task that has to run to its end before a session may be lost: that of the stage that stands longest, where 16
     /// stand and a route is live. So no chain has more than 16 deletion stages.
     pub fn overdue(&self) -> Option<Task>
-        ensures { result ≡ overdue_of self.now }
+        ensures { result ≡ overdue_of self.now.incoming }
     {
-        if self.lowest.stands_below(16) || self.lowest.has_no_live() {
-            return None;
-        }
-        self.oldest()
+        self.incoming.overdue()
     }
 
     /// The task of the deletion stage that stands longest, the lowest; None where none stands.
     pub fn oldest(&self) -> Option<Task>
-        ensures { result ≡ oldest_of self.now.number self.now.deletions }
+        ensures { result ≡ oldest_of self.now.incoming.number self.now.incoming.deletions }
     {
-        match &self.lowest {
-            Stage::PeerIn(_) => None,
-            Stage::Deletion(deletion, _) => Some(Task::Del(self.number, deletion.number())),
-        }
+        self.incoming.oldest()
     }
 
     /// The session of this number is lost: its routes, if there are any, go to a deletion stage directly below the top, and
-    /// the link `peer.K.S` above it begins. The map of `in.K` stays the same.
+    /// the link `peer.K.S` above it begins. The maps of `in.K` and `filt.K` stay the same.
     pub fn lose(&mut self, session: u32, journal: &mut Journal) -> Result<(), Memory>
         requires chain { IsChain self.old }
-        requires full { NoneEmpty self.old.deletions }
-        requires room { overdue_of self.old ≡ None }
-        requires later { AllByRecursion (λ d. d.number < session) self.old.deletions }
+        requires full { NoneEmpty self.old.incoming.deletions }
+        requires room { overdue_of self.old.incoming ≡ None }
+        requires later { AllByRecursion (λ d. d.number < session) self.old.incoming.deletions }
         ensures after { OnOk result (self.new ≡ lost session self.old) }
-        ensures lines { OnOk result (journal.new ≡ with_entries journal.old (loss_entries session self.old)) }
-        ensures leads { OnOk result (LeadsChain self.old (loss_entries session self.old) self.new) }
+        ensures lines { OnOk result (journal.new ≡ with_entries journal.old (loss_entries session self.old.incoming)) }
+        ensures leads { OnOk result (LeadsChain self.old (loss_entries session self.old.incoming) self.new) }
+        ensures rows { OnOk result (filt_rows self.new ≡ filt_rows self.old) }
         ensures chain { OnOk result (IsChain self.new) }
-        ensures full { OnOk result (NoneEmpty self.new.deletions) }
+        ensures full { OnOk result (NoneEmpty self.new.incoming.deletions) }
     {
-        let link = Link::In(self.number);
-        self.lowest
-            .lose(self.alloc, self.number, link, session, journal)?;
+        self.incoming.lose(session, journal)?;
         Ok(())
     }
 
     /// Takes out the stage that a feed or a turn emptied, if there is one: the link above it is welded into the one below.
     pub fn weld(&mut self, journal: &mut Journal) -> Result<(), Memory>
         requires chain { IsChain self.old }
-        requires one_empty { OneEmptyAtMost self.old.deletions }
+        requires one_empty { OneEmptyAtMost self.old.incoming.deletions }
         ensures after { OnOk result (self.new ≡ welded self.old) }
-        ensures lines { OnOk result (journal.new ≡ with_entries journal.old (weld_entries self.old.number (names.In self.old.number) self.old.deletions)) }
-        ensures leads { OnOk result (LeadsChain self.old (weld_entries self.old.number (names.In self.old.number) self.old.deletions) self.new) }
-        ensures rows { OnOk result (in_rows self.new ≡ in_rows self.old) }
+        ensures lines { OnOk result (journal.new ≡ with_entries journal.old (weld_entries self.old.incoming.number (names.In self.old.incoming.number) self.old.incoming.deletions)) }
+        ensures leads { OnOk result (LeadsChain self.old (weld_entries self.old.incoming.number (names.In self.old.incoming.number) self.old.incoming.deletions) self.new) }
+        ensures rows { OnOk result (filt_rows self.new ≡ filt_rows self.old) }
         ensures chain { OnOk result (IsChain self.new) }
-        ensures full { OnOk result (NoneEmpty self.new.deletions) }
+        ensures full { OnOk result (NoneEmpty self.new.incoming.deletions) }
     {
-        let link = Link::In(self.number);
-        self.lowest.weld(self.alloc, self.number, link, journal)?;
+        self.incoming.weld(journal)?;
         Ok(())
     }
 
-    /// One turn of the deletion stage of a task, `del.K.S`: its least row, by address and then length, goes, and its delete
-    /// goes down. Nothing exactly where the chain has no such stage; Quiet where no change comes out on `in.K`. A turn may
-    /// empty the stage: weld then.
-    pub fn unit(&mut self, task: Task, journal: &mut Journal) -> Result<Turn<SharedAttrs>, Memory>
-        requires chain { IsChain self.old }
-        requires full { NoneEmpty self.old.deletions }
-        ensures taken { IfOk result (IsTaken self.old self.new task journal.old journal.new) }
-        ensures chain { OnOk result (IsChain self.new) }
-        ensures one_empty { OnOk result (OneEmptyAtMost self.new.deletions) }
+    /// New rules for the incoming filter. They hold nowhere at first: the task `fin.K` brings them into force. Takes no memory.
+    pub fn edit(&mut self, rules: Rules)
+        ensures after { self.new ≡ refiltered rules self.old }
+        ensures rows { filt_rows self.new ≡ filt_rows self.old }
+        ensures links { links_of self.new ≡ links_of self.old }
     {
-        let Some(session) = session_of(self.number, task) else {
-            return Ok(Turn::Nothing);
-        };
-        let link = Link::In(self.number);
-        let turn = self.lowest.unit(self.number, link, session, journal)?;
-        Ok(turn)
+        self.filter.edit(rules);
     }
 
-    // The stage whose link out is this one.
-    fn stage_out(&self, link: Link) -> Option<&Stage>
-        ensures { option_map (λ s. attrs_rows (rows_of s)) (option_copied result) ≡ links_of self.now link }
+    /// One turn of a task. Of `del.K.S`: the least row of that stage, by address and then length, goes, and its delete goes
+    /// down; a turn may empty the stage: weld then. Of `fin.K`: the walk of the filter goes to the next prefix of `in.K`, or
+    /// ends. Nothing exactly where the task isn't one of the chain's or has no work; Quiet where no change comes out on
+    /// `filt.K`.
+    pub fn unit(&mut self, task: Task, journal: &mut Journal) -> Result<Turn<Route>, Memory>
+        requires chain { IsChain self.old }
+        requires full { NoneEmpty self.old.incoming.deletions }
+        ensures taken { IfOk result (IsTaken self.old self.new task journal.old journal.new) }
+        ensures chain { OnOk result (IsChain self.new) }
+        ensures one_empty { OnOk result (OneEmptyAtMost self.new.incoming.deletions) }
     {
-        match link {
-            Link::In(number) => {
-                if number == self.number {
-                    return Some(&self.lowest);
+        match task {
+            Task::Del(number, session) => {
+                if number != self.incoming.number() {
+                    return Ok(Turn::Nothing);
                 }
-                None
+                self.sweep(session, journal)
             }
-            Link::Peer(number, session) => {
-                if number == self.number {
-                    return self.lowest.above(session);
+            Task::Fin(number) => {
+                if number != self.incoming.number() {
+                    return Ok(Turn::Nothing);
                 }
-                None
+                self.walk(journal)
             }
-            _ => None,
         }
     }
 
-    /// Whether the link is one of the chain's: `in.K`, or `peer.K.S` above the deletion stage of session S.
+    // One turn of the stage of a session.
+    fn sweep(&mut self, session: u32, journal: &mut Journal) -> Result<Turn<Route>, Memory>
+        requires chain { IsChain self.old }
+        requires full { NoneEmpty self.old.incoming.deletions }
+        ensures taken { IfOk result (IsTaken self.old self.new (tasks.Del self.old.incoming.number session) journal.old journal.new) }
+        ensures chain { OnOk result (IsChain self.new) }
+        ensures one_empty { OnOk result (OneEmptyAtMost self.new.incoming.deletions) }
+    {
+        let task = Task::Del(self.incoming.number(), session);
+        match self.incoming.unit(task, journal)? {
+            Turn::Nothing => Ok(Turn::Nothing),
+            Turn::Quiet => Ok(Turn::Quiet),
+            Turn::Sent(change) => {
+                let sent = self.filter.take_in(change, &self.me, &self.peer);
+                send_route(journal, self.incoming.number(), &sent)?;
+                Ok(Turn::taken(sent))
+            }
+        }
+    }
+
+    // One turn of the filter's walk.
+    fn walk(&mut self, journal: &mut Journal) -> Result<Turn<Route>, Memory>
+        requires chain { IsChain self.old }
+        requires full { NoneEmpty self.old.incoming.deletions }
+        ensures taken { IfOk result (IsTaken self.old self.new (tasks.Fin self.old.incoming.number) journal.old journal.new) }
+        ensures incoming { OnOk result (self.new.incoming ≡ self.old.incoming) }
+    {
+        match self
+            .filter
+            .unit(self.incoming.lowest(), &self.me, &self.peer)?
+        {
+            Turn::Nothing => Ok(Turn::Nothing),
+            Turn::Quiet => Ok(Turn::Quiet),
+            Turn::Sent(change) => {
+                journal.push_route_change(Link::Filt(self.incoming.number()), &change)?;
+                Ok(Turn::Sent(change))
+            }
+        }
+    }
+
+    /// Whether the link is one of the chain's: `filt.K`, `in.K`, or `peer.K.S` above the deletion stage of session S.
     pub fn live(&self, link: Link) -> bool
         ensures { result ≡ is_some (links_of self.now link) }
     {
-        self.stage_out(link).is_some()
+        match link {
+            Link::Filt(number) => number == self.incoming.number(),
+            _ => self.incoming.live(link),
+        }
     }
 
     /// The row at a prefix of a link of the chain; None where it has none. Memory where the row can't be copied.
@@ -218,30 +270,49 @@ impl Chain {
         requires { IsSome (links_of self.now link) }
         ensures { IfOk result (HasRow (links_of self.now) link p) }
     {
-        let Some(stage) = self.stage_out(link) else {
-            unreachable!();
-        };
-        match stage.asked(p)? {
-            Some(attrs) => Ok(Some(Value::Attrs(attrs))),
+        match link {
+            Link::Filt(_) => self.filtered(p),
+            _ => self.incoming.asked(link, p),
+        }
+    }
+
+    // The row of `filt.K` at a prefix.
+    fn filtered(&self, p: Prefix) -> Result<Option<Value>, Memory>
+        ensures { IfOk result (λ row. row ≡ route_rows (filt_rows self.now) p) }
+    {
+        let route = self
+            .filter
+            .asked(self.incoming.lowest(), p, &self.me, &self.peer)?;
+        match route {
+            Some(route) => Ok(Some(Value::Route(route))),
             None => Ok(None),
         }
     }
 
-    /// The least prefix beyond a place that has a row on a link of the chain.
+    /// The least candidate of a link of the chain that lies beyond a place: of `in.K` and `peer.K.S` its rows, of `filt.K` the
+    /// rows of `in.K`, some of which may have none on `filt.K`.
     pub fn next_candidate(&self, link: Link, after: Place) -> Option<Prefix>
         requires { IsSome (links_of self.now link) }
-        ensures { (rows : Rows Value) → links_of self.now link ≡ Some rows → IsNextCandidate (with_rows rows) (key_of after) result }
+        ensures next { IsNextCandidate (candidates_of self.now link) (key_of after) result }
+        ensures covers { (rows : Rows Value) → links_of self.now link ≡ Some rows → CoversRows (candidates_of self.now link) rows }
     {
-        let Some(stage) = self.stage_out(link) else {
-            unreachable!();
-        };
-        stage.next_candidate(&after)
+        match link {
+            Link::Filt(number) => self.incoming.next_candidate(Link::In(number), after),
+            _ => self.incoming.next_candidate(link, after),
+        }
+    }
+
+    /// Whether the filter's walk is on.
+    pub fn busy(&self) -> bool
+        ensures { result ≡ is_some self.now.filter.walk }
+    {
+        self.filter.busy()
     }
 
     /// How many rows `in.K` has.
     pub fn rows(&self) -> u128
         ensures { result ≡ row_count self.now }
     {
-        self.lowest.count()
+        self.incoming.rows()
     }
 }

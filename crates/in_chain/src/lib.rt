@@ -16,6 +16,7 @@
 #![tactic(auto)]
 
 mod chain;
+mod incoming;
 mod laws;
 mod lookup;
 mod splice;

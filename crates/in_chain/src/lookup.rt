@@ -5,7 +5,7 @@ ghost use Rattle.std.specs.Option.{option_copied};
 ghost use Rattle.std.specs.FinMap as map;
 ghost use Rattle.addr4.specs.Places.{key_of};
 ghost use Rattle.link_change.specs.Rows.{IsNextCandidate, with_rows, is_empty_map};
-ghost use Rattle.in_chain.specs.Chains.{lost_count};
+ghost use Rattle.in_chain.specs.Incomings.{lost_count};
 ghost use Rattle.in_chain.specs.Stages.{above_of, deletions_of, live_of, rows_of};
 
 use crate::stage::Stage;

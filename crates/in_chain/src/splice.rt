@@ -4,7 +4,7 @@ ghost use Rattle.std.specs.Prelude.{◌≡◌, IfOk, OnOk, IfSome};
 ghost use Rattle.std.specs.FinMap as map;
 ghost use Rattle.link_change.specs.Changes.{IsSent};
 ghost use Rattle.journal_text.specs.Journals.{with_entries};
-ghost use Rattle.in_chain.specs.Steps.{live_after};
+ghost use Rattle.in_chain.specs.IncomingSteps.{live_after};
 ghost use Rattle.in_chain.specs.Stages.{stage_above};
 ghost use Rattle.in_chain.specs.Parts.{sent_entries};
 

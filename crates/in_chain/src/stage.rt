@@ -8,10 +8,10 @@ ghost use Rattle.std.specs.List.{AllByRecursion};
 ghost use Rattle.link_change.specs.Changes.{IsSent};
 ghost use Rattle.journal_text.specs.Links.{rank_of};
 ghost use Rattle.journal_text.specs.Journals.{Adds, with_entries};
-ghost use Rattle.in_chain.specs.Chains.{NoneEmpty};
+ghost use Rattle.in_chain.specs.Incomings.{NoneEmpty};
 ghost use Rattle.in_chain.specs.Falls.{way_down};
-ghost use Rattle.in_chain.specs.Steps.{fed, lost, loss_entries, weld_entries};
-ghost use Rattle.in_chain.specs.Stages.{chained_of, deletions_of, rows_of};
+ghost use Rattle.in_chain.specs.IncomingSteps.{fed_incoming, lost_incoming, loss_entries, weld_entries};
+ghost use Rattle.in_chain.specs.Stages.{incoming_of, deletions_of, rows_of};
 ghost use Rattle.in_chain.specs.Parts.{IsSound, FallsOver, LeadsOver, IsTakenOver, filled_once};
 
 use crate::splice::{fresh_top, send, set_live, splice_out};
@@ -42,12 +42,12 @@ impl Stage {
         new: Option<SharedAttrs>,
         journal: &mut Journal,
     ) -> Result<Option<Change<SharedAttrs>>, Memory>
-        requires { IsSound out (chained_of owner self.old) }
+        requires { IsSound out (incoming_of owner self.old) }
         ensures sent { IfOk result (IsSent (rows_of self.old) (rows_of self.new) p) }
-        ensures after { OnOk result (chained_of owner self.new ≡ fed (chained_of owner self.old) p new) }
+        ensures after { OnOk result (incoming_of owner self.new ≡ fed_incoming (incoming_of owner self.old) p new) }
         ensures new_row { IfOk result (λ sent. IfSome sent (λ change. change.after ≡ new)) }
-        ensures lines { IfOk result (λ sent. Adds (FallsOver out (chained_of owner self.old) (chained_of owner self.new) p (way_down owner out (deletions_of self.old)) sent) journal.old journal.new) }
-        ensures sound { OnOk result (IsSound out (chained_of owner self.new)) }
+        ensures lines { IfOk result (λ sent. Adds (FallsOver out (incoming_of owner self.old) (incoming_of owner self.new) p (way_down owner out (deletions_of self.old)) sent) journal.old journal.new) }
+        ensures sound { OnOk result (IsSound out (incoming_of owner self.new)) }
         ensures count { length (deletions_of self.new) ≡ length (deletions_of self.old) }
     {
         match self {
@@ -77,14 +77,14 @@ impl Stage {
         session: u32,
         journal: &mut Journal,
     ) -> Result<(), Memory>
-        requires sound { IsSound out (chained_of owner self.old) }
+        requires sound { IsSound out (incoming_of owner self.old) }
         requires above { rank_of out ≤ session }
         requires later { AllByRecursion (λ d. d.number < session) (deletions_of self.old) }
-        ensures after { OnOk result (chained_of owner self.new ≡ lost session (chained_of owner self.old)) }
-        ensures lines { OnOk result (journal.new ≡ with_entries journal.old (loss_entries session (chained_of owner self.old))) }
-        ensures leads { OnOk result (LeadsOver out (chained_of owner self.old) (loss_entries session (chained_of owner self.old)) (chained_of owner self.new)) }
+        ensures after { OnOk result (incoming_of owner self.new ≡ lost_incoming session (incoming_of owner self.old)) }
+        ensures lines { OnOk result (journal.new ≡ with_entries journal.old (loss_entries session (incoming_of owner self.old))) }
+        ensures leads { OnOk result (LeadsOver out (incoming_of owner self.old) (loss_entries session (incoming_of owner self.old)) (incoming_of owner self.new)) }
         ensures rows { OnOk result (rows_of self.new ≡ rows_of self.old) }
-        ensures sound { OnOk result (IsSound out (chained_of owner self.new)) }
+        ensures sound { OnOk result (IsSound out (incoming_of owner self.new)) }
         ensures memory { OnErr result (deletions_of self.new ≡ deletions_of self.old) }
     {
         match self {
@@ -114,12 +114,12 @@ impl Stage {
         out: Link,
         journal: &mut Journal,
     ) -> Result<(), Memory>
-        requires sound { IsSound out (chained_of owner self.old) }
-        ensures after { OnOk result (chained_of owner self.new ≡ filled_once (chained_of owner self.old)) }
+        requires sound { IsSound out (incoming_of owner self.old) }
+        ensures after { OnOk result (incoming_of owner self.new ≡ filled_once (incoming_of owner self.old)) }
         ensures lines { OnOk result (journal.new ≡ with_entries journal.old (weld_entries owner out (deletions_of self.old))) }
-        ensures leads { OnOk result (LeadsOver out (chained_of owner self.old) (weld_entries owner out (deletions_of self.old)) (chained_of owner self.new)) }
+        ensures leads { OnOk result (LeadsOver out (incoming_of owner self.old) (weld_entries owner out (deletions_of self.old)) (incoming_of owner self.new)) }
         ensures rows { OnOk result (rows_of self.new ≡ rows_of self.old) }
-        ensures sound { OnOk result (IsSound out (chained_of owner self.new)) }
+        ensures sound { OnOk result (IsSound out (incoming_of owner self.new)) }
         ensures count { length (deletions_of self.new) ≤ length (deletions_of self.old) }
     {
         match self {
@@ -145,10 +145,10 @@ impl Stage {
         session: u32,
         journal: &mut Journal,
     ) -> Result<Turn<SharedAttrs>, Memory>
-        requires sound { IsSound out (chained_of owner self.old) }
+        requires sound { IsSound out (incoming_of owner self.old) }
         requires full { NoneEmpty (deletions_of self.old) }
-        ensures taken { IfOk result (IsTakenOver out (chained_of owner self.old) (chained_of owner self.new) session journal.old journal.new) }
-        ensures sound { OnOk result (IsSound out (chained_of owner self.new)) }
+        ensures taken { IfOk result (IsTakenOver out (incoming_of owner self.old) (incoming_of owner self.new) session journal.old journal.new) }
+        ensures sound { OnOk result (IsSound out (incoming_of owner self.new)) }
         ensures count { length (deletions_of self.new) ≡ length (deletions_of self.old) }
     {
         match self {

@@ -1,7 +1,7 @@
 use Rattle.std.proofs.Common.{refl}
 use Rattle.journal_text.specs.declared.link.Link.TheVariants.{Peer}
 use Rattle.in_chain.specs.Falls.{way_down}
-use Rattle.in_chain.specs.Stages.{rows_of, chained_of, deletions_of}
+use Rattle.in_chain.specs.Stages.{rows_of, incoming_of, deletions_of}
 use Rattle.in_chain.proofs.RowLemmas.{fed_kept, fed_taken}
 use Rattle.in_chain.proofs.PartLemmas.{top_falls, passes_down, passes_quietly, sound_after}
 use Rattle.in_chain.proofs.stage.Stage.+feed.Goals as goal
@@ -19,7 +19,7 @@ returns-in_default-clause-after t c =
     let above = c.in_ok-change-in-Deletion.ensures in
     let same = rw c.in_default.is at above.sent in
     rw (c.in-Deletion.is, ← c.deref_mut.ensures.value)
-    (fed_kept c.args.p c.args.new c.in-Deletion.deletion (chained_of c.args.owner c.deref_mut.result.now) (chained_of c.args.owner c.feed.new.self) sound.apart.0 above.after same)
+    (fed_kept c.args.p c.args.new c.in-Deletion.deletion (incoming_of c.args.owner c.deref_mut.result.now) (incoming_of c.args.owner c.feed.new.self) sound.apart.0 above.after same)
 
 pub returns-in_default-clause-lines : goal.returns-in_default-clause-lines
 returns-in_default-clause-lines t c =
@@ -29,7 +29,7 @@ returns-in_default-clause-lines t c =
     let lines = rw (c.in_default.is, c.number.ensures) at above.lines in
     let sound_above = rw c.number.ensures at above.sound in
     rw (c.in-Deletion.is, ← c.deref_mut.ensures.value)
-    (passes_quietly c.args.out c.in-Deletion.deletion (chained_of c.args.owner c.deref_mut.result.now) (chained_of c.args.owner c.feed.new.self) c.args.journal.now c.feed.new.journal c.args.p
+    (passes_quietly c.args.out c.in-Deletion.deletion (incoming_of c.args.owner c.deref_mut.result.now) (incoming_of c.args.owner c.feed.new.self) c.args.journal.now c.feed.new.journal c.args.p
     (way_down c.args.owner (Peer c.args.owner c.in-Deletion.deletion.number) (deletions_of c.deref_mut.result.now)) sound sound_above same lines)
 
 -- ---- a change passes
@@ -47,7 +47,7 @@ returns-in_ok-send-in-Deletion-clause-after t c =
     let change = rw c.in-Some.is at above.sent in
     let new_row = rw c.in-Some.is at above.new_row in
     rw (c.in-Deletion.is, ← c.deref_mut.ensures.value)
-    (fed_taken c.args.p c.args.new c.in-Deletion.deletion c.take_in-sent.new.self (chained_of c.args.owner c.deref_mut.result.now) (chained_of c.args.owner c.feed.new.self) c.in-Some.change
+    (fed_taken c.args.p c.args.new c.in-Deletion.deletion c.take_in-sent.new.self (incoming_of c.args.owner c.deref_mut.result.now) (incoming_of c.args.owner c.feed.new.self) c.in-Some.change
     sound.apart.0 c.take_in-sent.ensures.number c.take_in-sent.ensures.rows change new_row above.after)
 
 pub returns-in_ok-send-in-Deletion-clause-lines : goal.returns-in_ok-send-in-Deletion-clause-lines
@@ -58,7 +58,7 @@ returns-in_ok-send-in-Deletion-clause-lines t c =
     let lines = rw (c.in-Some.is, c.number.ensures) at above.lines in
     let sound_above = rw c.number.ensures at above.sound in
     rw (c.in-Deletion.is, ← c.deref_mut.ensures.value)
-    (passes_down c.args.out c.in-Deletion.deletion c.take_in-sent.new.self (chained_of c.args.owner c.deref_mut.result.now) (chained_of c.args.owner c.feed.new.self)
+    (passes_down c.args.out c.in-Deletion.deletion c.take_in-sent.new.self (incoming_of c.args.owner c.deref_mut.result.now) (incoming_of c.args.owner c.feed.new.self)
     c.args.journal.now c.feed.new.journal c.send-in-Deletion.new.journal c.args.p (way_down c.args.owner (Peer c.args.owner c.in-Deletion.deletion.number) (deletions_of c.deref_mut.result.now))
     c.in-Some.change c.take_in-sent.result sound sound_above c.take_in-sent.ensures.number refl lines
     (c.take_in-sent.ensures.law (rows_of c.deref_mut.result.now) (rows_of c.feed.new.self) c.args.p change) c.in_ok-send-in-Deletion.ensures)
@@ -69,5 +69,5 @@ returns-in_ok-send-in-Deletion-clause-sound t c =
     let above = c.in_ok-change-in-Deletion.ensures in
     let change = rw c.in-Some.is at above.sent in
     let sound_above = rw c.number.ensures at above.sound in
-    sound_after c.args.out c.in-Deletion.deletion c.take_in-sent.new.self (chained_of c.args.owner c.deref_mut.result.now) (chained_of c.args.owner c.feed.new.self) sound sound_above c.take_in-sent.ensures.number
+    sound_after c.args.out c.in-Deletion.deletion c.take_in-sent.new.self (incoming_of c.args.owner c.deref_mut.result.now) (incoming_of c.args.owner c.feed.new.self) sound sound_above c.take_in-sent.ensures.number
     (c.take_in-sent.ensures.apart (rows_of c.deref_mut.result.now) (rows_of c.feed.new.self) c.args.p change sound.apart.0)

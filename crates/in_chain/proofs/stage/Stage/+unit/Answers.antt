@@ -1,5 +1,5 @@
 use Rattle.std.proofs.Common.{sym, ◌∙◌}
-use Rattle.in_chain.specs.Stages.{chained_of, rows_of}
+use Rattle.in_chain.specs.Stages.{incoming_of, rows_of}
 use Rattle.in_chain.proofs.PartLemmas.{sound_after}
 use Rattle.in_chain.proofs.WorkLemmas.{not_empty, own_sweeps, sweeps_on, sweeps_quietly, taken_over}
 use Rattle.in_chain.proofs.stage.Stage.+unit.Goals as goal
@@ -16,14 +16,14 @@ returns-then-number-session-clause-taken t c =
     let sound = rw c.in-Deletion.is at c.requires.sound in
     let own = c.in-Some.ensures in
     rw c.in-Deletion.is
-    (own_sweeps c.args.out c.args.session c.in-Deletion.deletion c.unit.new.self (chained_of c.args.owner c.in-Deletion.upper.value) c.in-Some.change c.args.journal.now c.push_change.new.self
+    (own_sweeps c.args.out c.args.session c.in-Deletion.deletion c.unit.new.self (incoming_of c.args.owner c.in-Deletion.upper.value) c.in-Some.change c.args.journal.now c.push_change.new.self
     (sym c.number.ensures ∙ c.if-number-session.true) sound own.number own.rows own.least own.after own.law c.in_ok-push_change-in-Deletion.ensures)
 
 pub returns-then-number-session-clause-sound : goal.returns-then-number-session-clause-sound
 returns-then-number-session-clause-sound t c =
     let sound = rw c.in-Deletion.is at c.requires.sound in
     let own = c.in-Some.ensures in
-    let upper = chained_of c.args.owner c.in-Deletion.upper.value in
+    let upper = incoming_of c.args.owner c.in-Deletion.upper.value in
     sound_after c.args.out c.in-Deletion.deletion c.unit.new.self upper upper sound (record { rising = sound.rising.1; apart = sound.apart.1 }) own.number
     (own.law (rows_of c.in-Deletion.upper.value) sound.apart.0).1
 
@@ -36,7 +36,7 @@ returns-in-Quiet-clause-taken t c =
     let sound_above = rw c.number-in-Deletion.ensures at above.sound in
     let taken = rw (c.in-Quiet.is, c.number-in-Deletion.ensures) at above.taken in
     rw (c.in-Deletion.is, ← c.deref_mut.ensures.value)
-    (sweeps_quietly c.args.out c.args.session c.in-Deletion.deletion (chained_of c.args.owner c.deref_mut.result.now) (chained_of c.args.owner c.unit-in-Deletion.new.self) c.args.journal.now c.unit-in-Deletion.new.journal
+    (sweeps_quietly c.args.out c.args.session c.in-Deletion.deletion (incoming_of c.args.owner c.deref_mut.result.now) (incoming_of c.args.owner c.unit-in-Deletion.new.self) c.args.journal.now c.unit-in-Deletion.new.journal
     (λ e. c.if-number-session.false (c.number.ensures ∙ e)) sound sound_above taken)
 
 pub returns-in_ok-send-in-Sent-clause-taken : goal.returns-in_ok-send-in-Sent-clause-taken
@@ -45,8 +45,8 @@ returns-in_ok-send-in-Sent-clause-taken t c =
     let above = c.in_ok-unit-in-Deletion.ensures in
     let sound_above = rw c.number-in-Deletion.ensures at above.sound in
     let taken = rw (c.in-Sent.is, c.number-in-Deletion.ensures) at above.taken in
-    let old = chained_of c.args.owner c.deref_mut.result.now in
-    let new = chained_of c.args.owner c.unit-in-Deletion.new.self in
+    let old = incoming_of c.args.owner c.deref_mut.result.now in
+    let new = incoming_of c.args.owner c.unit-in-Deletion.new.self in
     rw (c.taken.ensures, c.in-Deletion.is, ← c.deref_mut.ensures.value)
     (taken_over c.args.out _ _ c.args.session c.take_in-sent.result c.args.journal.now c.send.new.journal
     (sweeps_on c.args.out c.args.session c.in-Deletion.deletion c.take_in-sent.new.self old new c.in-Sent.change c.take_in-sent.result c.args.journal.now c.unit-in-Deletion.new.journal c.send.new.journal
@@ -59,5 +59,5 @@ returns-in_ok-send-in-Sent-clause-sound t c =
     let above = c.in_ok-unit-in-Deletion.ensures in
     let sound_above = rw c.number-in-Deletion.ensures at above.sound in
     let taken = rw c.in-Sent.is at above.taken in
-    sound_after c.args.out c.in-Deletion.deletion c.take_in-sent.new.self (chained_of c.args.owner c.deref_mut.result.now) (chained_of c.args.owner c.unit-in-Deletion.new.self) sound sound_above c.take_in-sent.ensures.number
+    sound_after c.args.out c.in-Deletion.deletion c.take_in-sent.new.self (incoming_of c.args.owner c.deref_mut.result.now) (incoming_of c.args.owner c.unit-in-Deletion.new.self) sound sound_above c.take_in-sent.ensures.number
     (c.take_in-sent.ensures.apart (rows_of c.deref_mut.result.now) (rows_of c.unit-in-Deletion.new.self) taken.2.prefix taken.2.rows sound.apart.0)

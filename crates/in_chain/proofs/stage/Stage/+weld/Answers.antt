@@ -2,8 +2,8 @@ use Rattle.std.proofs.Common.{◌∷◌, sym, subst, ◌∙◌, arith}
 use Rattle.deletion_stage.proofs.CoverLemmas.{nothing_covers}
 use Rattle.journal_text.specs.Links.{rank_of}
 use Rattle.journal_text.specs.declared.link.Link.TheVariants.{Peer}
-use Rattle.in_chain.specs.Steps.{weld_entries}
-use Rattle.in_chain.specs.Stages.{chained_of, deletions_of, rows_of}
+use Rattle.in_chain.specs.IncomingSteps.{weld_entries}
+use Rattle.in_chain.specs.Stages.{incoming_of, deletions_of, rows_of}
 use Rattle.in_chain.specs.Parts.{LeadsOver, lowered}
 use Rattle.in_chain.specs.declared.stage.Stage.{Stage}
 use Rattle.in_chain.proofs.PartLemmas.{leads_quietly, rising_lower}
@@ -16,18 +16,18 @@ returns-then-not-is_empty-clause-leads t c =
     let above = c.in_ok-weld-in-Deletion.ensures in
     let leads = rw c.number.ensures at above.leads in
     let sound_above = rw c.number.ensures at above.sound in
-    let old = chained_of c.args.owner c.deref_mut.result.now in
-    let new = chained_of c.args.owner c.weld.new.self in
+    let old = incoming_of c.args.owner c.deref_mut.result.now in
+    let new = incoming_of c.args.owner c.weld.new.self in
     let passed = weld_passes c.args.out c.in-Deletion.deletion old new (sym c.is_empty.ensures.test ∙ c.if-not-is_empty.true)
     (leads_quietly c.args.out c.in-Deletion.deletion old new (weld_entries c.args.owner (Peer c.args.owner c.in-Deletion.deletion.number) (deletions_of c.deref_mut.result.now)) sound sound_above above.rows leads) in
-    let P : Stage → Type 0 = λ s. LeadsOver c.args.out (lowered c.in-Deletion.deletion (chained_of c.args.owner s)) (weld_entries c.args.owner c.args.out (c.in-Deletion.deletion ∷ deletions_of s)) (lowered c.in-Deletion.deletion new) in
+    let P : Stage → Type 0 = λ s. LeadsOver c.args.out (lowered c.in-Deletion.deletion (incoming_of c.args.owner s)) (weld_entries c.args.owner c.args.out (c.in-Deletion.deletion ∷ deletions_of s)) (lowered c.in-Deletion.deletion new) in
     rw c.in-Deletion.is (subst P c.deref_mut.ensures.value passed)
 
 pub returns-in_ok-push_entry-in-Deletion-clause-leads : goal.returns-in_ok-push_entry-in-Deletion-clause-leads
 returns-in_ok-push_entry-in-Deletion-clause-leads t c =
     let sound = rw c.in-Deletion.is at c.requires.sound in
     rw (c.splice_out.ensures, c.in-Deletion.is)
-    (welds_if c.args.out c.in-Deletion.deletion (chained_of c.args.owner c.in-Deletion.upper.value) sound (sym c.is_empty.ensures.test ∙ c.if-not-is_empty.false) (c.is_empty.ensures.empty.0 c.if-not-is_empty.false))
+    (welds_if c.args.out c.in-Deletion.deletion (incoming_of c.args.owner c.in-Deletion.upper.value) sound (sym c.is_empty.ensures.test ∙ c.if-not-is_empty.false) (c.is_empty.ensures.empty.0 c.if-not-is_empty.false))
 
 pub returns-in_ok-push_entry-in-Deletion-clause-rows : goal.returns-in_ok-push_entry-in-Deletion-clause-rows
 returns-in_ok-push_entry-in-Deletion-clause-rows t c =

@@ -1,5 +1,5 @@
 use Rattle.std.proofs.Common.{sym}
-use Rattle.in_chain.specs.Stages.{chained_of}
+use Rattle.in_chain.specs.Stages.{incoming_of}
 use Rattle.in_chain.proofs.WorkLemmas.{none_is_one, one_after}
 use Rattle.in_chain.proofs.WholeLemmas.{chain_of_sound, sound_of_chain, taken_chain}
 use Rattle.in_chain.proofs.chain.Chain.unit.Goals as goal
@@ -8,12 +8,12 @@ pub returns-in_default-clause-one_empty : goal.returns-in_default-clause-one_emp
 returns-in_default-clause-one_empty c = none_is_one _ c.requires.full
 
 pub unit-requires-clause-sound : goal.unit-requires-clause-sound
-unit-requires-clause-sound c = sound_of_chain (chained_of c.self.inside.number c.self.inside.lowest) (rw (← c.self.view_is) at c.requires.chain)
+unit-requires-clause-sound c = sound_of_chain (incoming_of c.self.inside.number c.self.inside.lowest) (rw (← c.self.view_is) at c.requires.chain)
 
 pub returns-clause-taken : goal.returns-clause-taken
 returns-clause-taken c =
     rw (← c.self.view_is)
-    (taken_chain (chained_of c.self.inside.number c.self.inside.lowest) (chained_of c.self.inside.number c.unit.new.self) c.args.task c.in-Some.session c.args.journal.now c.unit.new.journal c.in_ok-turn.turn
+    (taken_chain (incoming_of c.self.inside.number c.self.inside.lowest) (incoming_of c.self.inside.number c.unit.new.self) c.args.task c.in-Some.session c.args.journal.now c.unit.new.journal c.in_ok-turn.turn
     (sym c.in-Some.ensures) c.in_ok-turn.ensures.taken)
 
 pub returns-clause-chain : goal.returns-clause-chain
@@ -23,5 +23,5 @@ pub returns-clause-one_empty : goal.returns-clause-one_empty
 returns-clause-one_empty c =
     let chain = rw (← c.self.view_is) at c.requires.chain in
     let full = rw (← c.self.view_is) at c.requires.full in
-    let old = chained_of c.self.inside.number c.self.inside.lowest in
-    one_after _ old (chained_of c.self.inside.number c.unit.new.self) c.in-Some.session c.args.journal.now c.unit.new.journal c.in_ok-turn.turn c.in_ok-turn.ensures.taken (sound_of_chain old chain) full
+    let old = incoming_of c.self.inside.number c.self.inside.lowest in
+    one_after _ old (incoming_of c.self.inside.number c.unit.new.self) c.in-Some.session c.args.journal.now c.unit.new.journal c.in_ok-turn.turn c.in_ok-turn.ensures.taken (sound_of_chain old chain) full
