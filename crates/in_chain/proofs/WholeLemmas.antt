@@ -26,7 +26,7 @@ use Rattle.journal_text.proofs.WalkLemmas.{with_link_apart}
 use Rattle.in_chain.proofs.PartLemmas.{own_link}
 use Rattle.in_chain.specs.Incomings.{Incoming, rows_below, rows_above, in_rows, is_incoming, incoming_links, beside_incoming, AreRising, IsIncoming}
 use Rattle.in_chain.specs.Falls.{LeadsIncoming, FallsIncoming}
-use Rattle.in_chain.specs.IncomingSteps.{SweepsIncoming, IsTakenIncoming, IsSweptIncoming, IsIdleIncoming, session_of}
+use Rattle.in_chain.specs.IncomingSteps.{SweepsIncoming, IsTakenIncoming}
 use Rattle.in_chain.specs.Stages.{incoming_of, live_of, deletions_of, rows_of, above_of}
 use Rattle.in_chain.specs.declared.stage.Stage.{Stage, PeerIn, Deletion'}
 use Rattle.in_chain.specs.Parts.{links_over, IsRisingFrom, IsSound, LeadsOver, FallsOver, SweepsOver, IsTakenOver}
@@ -165,7 +165,7 @@ sweeps_chain old new session sent before now (entries, now_is, s) =
       },
     )
 
-pub taken_chain : (old new : Incoming) (task : Task) (session : ℕ) (before now : Journaled) (turn : Turn Attrs) → session_of old.number task ≡ Some session → IsTakenOver (In old.number) old new session before now turn → IsTakenIncoming old new task before now turn
-taken_chain old new task session before now Nothing is taken = (subst (IsIdleIncoming old) (sym is) taken.0, taken.1)
-taken_chain old new task session before now Quiet is taken = subst (λ o. IsSweptIncoming old new o None before now) (sym is) (sweeps_chain old new session None before now taken)
-taken_chain old new task session before now (Sent change) is taken = subst (λ o. IsSweptIncoming old new o (Some change) before now) (sym is) (sweeps_chain old new session (Some change) before now taken)
+pub taken_chain : (old new : Incoming) (session : ℕ) (before now : Journaled) (turn : Turn Attrs) → IsTakenOver (In old.number) old new session before now turn → IsTakenIncoming old new session before now turn
+taken_chain old new session before now Nothing taken = taken
+taken_chain old new session before now Quiet taken = sweeps_chain old new session None before now taken
+taken_chain old new session before now (Sent change) taken = sweeps_chain old new session (Some change) before now taken

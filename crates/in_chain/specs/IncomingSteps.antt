@@ -93,20 +93,8 @@ oldest_of k (d ∷ ds) = Some (Del k d.number)
 abbrev pub overdue_of : Incoming → Option Task
 overdue_of c = cond (nat_lt (length c.deletions) 16 || is_empty_map c.live) None (oldest_of c.number c.deletions)
 
--- what a task says of a chain: the session whose stage it is, if the task is the chain's
-abbrev pub session_of : ℕ → Task → Option ℕ
-session_of number (Del k s) = cond (k == number) (Some s) None
-
--- What a turn that came to this made of the chain and of the journal.
-abbrev pub IsSweptIncoming : Incoming → Incoming → Option ℕ → Option (Change Attrs) → Journaled → Journaled → Type 0
-IsSweptIncoming old new None sent before now = ⊥
-IsSweptIncoming old new (Some session) sent before now = Adds (SweepsIncoming old new session sent) before now
-
-abbrev pub IsIdleIncoming : Incoming → Option ℕ → Type 0
-IsIdleIncoming c None = Unit {0}
-IsIdleIncoming c (Some session) = table_of session c.deletions ≡ None
-
-abbrev pub IsTakenIncoming : Incoming → Incoming → Task → Journaled → Journaled → Turn Attrs → Type 0
-IsTakenIncoming old new task before now Nothing = IsIdleIncoming old (session_of old.number task) × ((new ≡ old) × (now ≡ before))
-IsTakenIncoming old new task before now Quiet = IsSweptIncoming old new (session_of old.number task) None before now
-IsTakenIncoming old new task before now (Sent change) = IsSweptIncoming old new (session_of old.number task) (Some change) before now
+-- What a turn of the stage of a session came to; where no such stage stands, nothing.
+abbrev pub IsTakenIncoming : Incoming → Incoming → ℕ → Journaled → Journaled → Turn Attrs → Type 0
+IsTakenIncoming old new session before now Nothing = (table_of session old.deletions ≡ None) × ((new ≡ old) × (now ≡ before))
+IsTakenIncoming old new session before now Quiet = Adds (SweepsIncoming old new session None) before now
+IsTakenIncoming old new session before now (Sent change) = Adds (SweepsIncoming old new session (Some change)) before now

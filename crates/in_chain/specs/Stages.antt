@@ -3,7 +3,7 @@ use Rattle.std.specs.Prelude.{ℕ, ◌==◌, if◌then◌else◌, List, [], ◌�
 use Rattle.std.specs.FinMap.{FinMap}
 use Rattle.addr4.specs.Prefixes.{prefix_cmp}
 use Rattle.bgp_attr.specs.declared.attrs.Attrs.{Attrs}
-use Rattle.link_change.specs.Rows.{Rows}
+use Rattle.link_change.specs.Rows.{Rows, Candidates, with_rows}
 use Rattle.deletion_stage.specs.Lost.{Lost}
 use Rattle.in_chain.specs.Incomings.{Incoming, rows_below}
 use Rattle.in_chain.specs.declared.stage.Stage.{Stage, PeerIn, Deletion'}
@@ -24,6 +24,10 @@ incoming_of k stage = record { number = k; live = live_of stage; deletions = del
 -- the rows of the link out of a stage
 abbrev pub rows_of : Stage → Rows Attrs
 rows_of stage = rows_below (live_of stage) (deletions_of stage)
+
+-- where a walk over the link out of a stage goes: to its rows
+abbrev pub stage_candidates : Stage → Candidates
+stage_candidates stage = with_rows (rows_of stage)
 
 -- the stage above that of a session, if there is one
 abbrev pub above_of : ℕ → Stage → Option Stage

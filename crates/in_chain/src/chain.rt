@@ -223,8 +223,7 @@ impl Chain {
         ensures chain { OnOk result (IsChain self.new) }
         ensures one_empty { OnOk result (OneEmptyAtMost self.new.incoming.deletions) }
     {
-        let task = Task::Del(self.incoming.number(), session);
-        match self.incoming.unit(task, journal)? {
+        match self.incoming.unit(session, journal)? {
             Turn::Nothing => Ok(Turn::Nothing),
             Turn::Quiet => Ok(Turn::Quiet),
             Turn::Sent(change) => {

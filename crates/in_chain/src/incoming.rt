@@ -14,7 +14,7 @@ ghost use Rattle.journal_text.specs.Journals.{attrs_rows, Adds, with_entries};
 ghost use Rattle.in_chain.specs.Incomings.{incoming_links, in_rows, IsIncoming, NoneEmpty, OneEmptyAtMost, incoming_count};
 ghost use Rattle.in_chain.specs.Stages.{incoming_of, rows_of};
 ghost use Rattle.in_chain.specs.Falls.{FallsIncoming, LeadsIncoming, way_down};
-ghost use Rattle.in_chain.specs.IncomingSteps.{new_incoming, fed_incoming, lost_incoming, loss_entries, welded_incoming, weld_entries, oldest_of, overdue_of, session_of, IsTakenIncoming};
+ghost use Rattle.in_chain.specs.IncomingSteps.{new_incoming, fed_incoming, lost_incoming, loss_entries, welded_incoming, weld_entries, oldest_of, overdue_of, IsTakenIncoming};
 
 use crate::stage::Stage;
 use addr4::{Memory, Place, Prefix};
@@ -46,20 +46,6 @@ impl Model for Incoming {
     ghost view = { λ c. incoming_of c.number c.lowest };
 
     ghost invariant = { λ c. length (deletions_of c.lowest) ≤ 16 };
-}
-
-// The session whose deletion stage the task is, if it is one of this chain.
-fn session_of(number: u32, task: Task) -> Option<u32>
-    ensures { result ≡ session_of number task }
-{
-    match task {
-        Task::Del(owner, session) => {
-            if owner == number {
-                return Some(session);
-            }
-            None
-        }
-    }
 }
 
 impl Incoming {
@@ -167,19 +153,20 @@ impl Incoming {
         Ok(())
     }
 
-    /// One turn of the deletion stage of a task, `del.K.S`: its least row, by address and then length, goes, and its delete
-    /// goes down. Nothing exactly where the chain has no such stage; Quiet where no change comes out on `in.K`. A turn may
-    /// empty the stage: weld then.
-    pub fn unit(&mut self, task: Task, journal: &mut Journal) -> Result<Turn<SharedAttrs>, Memory>
+    /// One turn of the deletion stage of a session: its least row, by address and then length, goes, and its delete goes
+    /// down. Nothing exactly where no such stage stands; Quiet where no change comes out on `in.K`. A turn may empty the
+    /// stage: weld then.
+    pub fn unit(
+        &mut self,
+        session: u32,
+        journal: &mut Journal,
+    ) -> Result<Turn<SharedAttrs>, Memory>
         requires chain { IsIncoming self.old }
         requires full { NoneEmpty self.old.deletions }
-        ensures taken { IfOk result (IsTakenIncoming self.old self.new task journal.old journal.new) }
+        ensures taken { IfOk result (IsTakenIncoming self.old self.new session journal.old journal.new) }
         ensures chain { OnOk result (IsIncoming self.new) }
         ensures one_empty { OnOk result (OneEmptyAtMost self.new.deletions) }
     {
-        let Some(session) = session_of(self.number, task) else {
-            return Ok(Turn::Nothing);
-        };
         let link = Link::In(self.number);
         let turn = self.lowest.unit(self.number, link, session, journal)?;
         Ok(turn)

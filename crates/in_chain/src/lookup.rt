@@ -6,12 +6,12 @@ ghost use Rattle.std.specs.FinMap as map;
 ghost use Rattle.addr4.specs.Places.{key_of};
 ghost use Rattle.link_change.specs.Rows.{IsNextCandidate, with_rows, is_empty_map};
 ghost use Rattle.in_chain.specs.Incomings.{lost_count};
-ghost use Rattle.in_chain.specs.Stages.{above_of, deletions_of, live_of, rows_of};
+ghost use Rattle.in_chain.specs.Stages.{above_of, deletions_of, live_of, rows_of, stage_candidates};
 
 use crate::stage::Stage;
 use addr4::{Memory, Place, Prefix, Row};
 use bgp_attr::SharedAttrs;
-use link_change::nearer;
+use link_change::{Upstream, nearer};
 
 impl Stage {
     /// The row at a prefix of the link out of this stage.
@@ -91,5 +91,21 @@ impl Stage {
                 above + deletion.len() as u128
             }
         }
+    }
+}
+
+impl Upstream for Stage {
+    type Row = SharedAttrs;
+
+    ghost rows = { rows_of };
+
+    ghost candidates = { stage_candidates };
+
+    fn asked(&self, p: &Prefix) -> Result<Option<SharedAttrs>, Memory> {
+        Stage::asked(self, *p)
+    }
+
+    fn next_candidate(&self, after: &Place) -> Option<Prefix> {
+        Stage::next_candidate(self, after)
     }
 }
