@@ -3,7 +3,7 @@ use Rattle.in_chain.specs.Incomings.{Incoming, OneEmptyAtMost}
 use Rattle.in_chain.specs.Stages.{incoming_of, deletions_of, live_of}
 use Rattle.in_chain.proofs.WorkLemmas.{one_fed}
 use Rattle.in_chain.proofs.WholeLemmas.{chain_of_sound, falls_chain, sound_of_chain}
-use Rattle.in_chain.proofs.chain.Chain.feed.Goals as goal
+use Rattle.in_chain.proofs.incoming.Incoming.feed.Goals as goal
 
 pub feed-requires : goal.feed-requires
 feed-requires c = sound_of_chain (incoming_of c.self.inside.number c.self.inside.lowest) (rw (← c.self.view_is) at c.requires.chain)

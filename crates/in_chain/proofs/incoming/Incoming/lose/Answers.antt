@@ -1,7 +1,7 @@
 use Rattle.std.proofs.Common.{refl}
 use Rattle.in_chain.specs.Stages.{incoming_of}
 use Rattle.in_chain.proofs.WholeLemmas.{chain_of_sound, leads_chain, sound_of_chain}
-use Rattle.in_chain.proofs.chain.Chain.lose.Goals as goal
+use Rattle.in_chain.proofs.incoming.Incoming.lose.Goals as goal
 
 pub lose-requires-clause-sound : goal.lose-requires-clause-sound
 lose-requires-clause-sound c = sound_of_chain (incoming_of c.self.inside.number c.self.inside.lowest) (rw (← c.self.view_is) at c.requires.chain)

@@ -4,7 +4,7 @@ use Rattle.journal_text.specs.Journals.{attrs_rows}
 use Rattle.in_chain.specs.Stages.{rows_of}
 use Rattle.in_chain.specs.declared.stage.Stage.{Stage}
 use Rattle.in_chain.proofs.WholeLemmas.{out_at}
-use Rattle.in_chain.proofs.chain.Chain.stage_out.Goals as goal
+use Rattle.in_chain.proofs.incoming.Incoming.stage_out.Goals as goal
 
 pub returns-then-number-self-2 : goal.returns-then-number-self-2
 returns-then-number-self-2 c =

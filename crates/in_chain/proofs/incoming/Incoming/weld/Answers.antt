@@ -3,7 +3,7 @@ use Rattle.in_chain.specs.Incomings.{Incoming, NoneEmpty}
 use Rattle.in_chain.specs.Stages.{incoming_of, deletions_of}
 use Rattle.in_chain.proofs.WorkLemmas.{none_welded, welded_once}
 use Rattle.in_chain.proofs.WholeLemmas.{chain_of_sound, leads_chain, sound_of_chain}
-use Rattle.in_chain.proofs.chain.Chain.weld.Goals as goal
+use Rattle.in_chain.proofs.incoming.Incoming.weld.Goals as goal
 
 pub weld-requires : goal.weld-requires
 weld-requires c = record { sound = sound_of_chain (incoming_of c.self.inside.number c.self.inside.lowest) (rw (← c.self.view_is) at c.requires.chain) }
