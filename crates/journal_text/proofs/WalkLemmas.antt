@@ -4,6 +4,7 @@ use Rattle.std.specs.Option.{option_map}
 use Rattle.addr4.specs.Prefixes.{Network, prefix_cmp}
 use Rattle.std.specs.Ordering.{eq_by_cmp}
 use Rattle.bgp_attr.specs.declared.attrs.Attrs.{Attrs}
+use Rattle.bgp_attr.specs.declared.route.Route.{Route}
 use Rattle.link_change.specs.Rows.{Rows, no_rows, with_row}
 use Rattle.link_change.specs.Changes.{IsSent}
 use Rattle.link_change.specs.declared.change.Change.{Change}
@@ -15,7 +16,7 @@ use Rattle.journal_text.specs.declared.value.Value.{Value}
 use Rattle.journal_text.specs.declared.value.Value.TheVariants as values
 use Rattle.journal_text.specs.Links.{same_link}
 use Rattle.journal_text.specs.Walk.{Links, with_link, after, IsLawful, fold_links, Leads, change_entries}
-use Rattle.journal_text.specs.Journals.{attrs_rows, attrs_change}
+use Rattle.journal_text.specs.Journals.{attrs_rows, attrs_change, route_rows, route_change}
 use Rattle.journal_text.proofs.LinkLemmas.{same_link-refl, same_link-yes, same_link-no}
 
 swap_cond : {A : Type 0} (p r : Bool) (x y z : A) → (p ≡ true → r ≡ true → ⊥) → cond r y (cond p x z) ≡ cond p x (cond r y z)
@@ -106,24 +107,39 @@ module _ {V : Type 0} where
   pub leads_end : (links : Links V) (link : Link) (rows : Rows V) → links link ≡ Some rows → Leads links (End link ∷ []) (with_link links link None)
   leads_end links link rows live = record { lawful = (subst (λ (o : Option (Rows V)). IsSome o) (sym live) refl, tt); ends = refl }
 
--- the value of a row of attributes, and back
-abbrev as_value : Option Attrs → Option Value
-as_value row = option_map (λ a. values.Attrs a) row
+-- rows of one type as values, where no two rows have one value
+module _ {R : Type 0} (value : R → Value) (one : (a b : R) → value a ≡ value b → a ≡ b) where
+  abbrev as_values : Rows R → Rows Value
+  as_values rows q = option_map value (rows q)
 
-one_value : (a b : Option Attrs) → as_value a ≡ as_value b → a ≡ b
-one_value None None e = refl
-one_value None (Some b) e = cc
-one_value (Some a) None e = cc
-one_value (Some a) (Some b) e = cc
+  one_value : (a b : Option R) → option_map value a ≡ option_map value b → a ≡ b
+  one_value None None e = refl
+  one_value None (Some b) e = cc
+  one_value (Some a) None e = cc
+  one_value (Some a) (Some b) e = let same : value a ≡ value b = cc in ap Some (one a b same)
 
-pub attrs_rows_set : (rows : Rows Attrs) (p : Network) (row : Option Attrs) → attrs_rows (with_row rows p row) ≡ with_row (attrs_rows rows) p (as_value row)
-attrs_rows_set rows p row = same_function _ _ (λ q.
-    elim (eq_by_cmp prefix_cmp q p) as (λ b. as_value (cond b row (rows q)) ≡ cond b (as_value row) (as_value (rows q))) [ true ↦ refl | false ↦ refl ])
+  values_set : (rows : Rows R) (p : Network) (row : Option R) → as_values (with_row rows p row) ≡ with_row (as_values rows) p (option_map value row)
+  values_set rows p row = same_function _ _ (λ q.
+      elim (eq_by_cmp prefix_cmp q p) as (λ b. option_map value (cond b row (rows q)) ≡ cond b (option_map value row) (option_map value (rows q))) [ true ↦ refl | false ↦ refl ])
+
+  values_lead : (links : Links Value) (link : Link) (old new : Rows R) (p : Network) (change : Change R) → links link ≡ Some (as_values old) → IsSent old new p (Some change)
+      → Leads links (change_entries link change.prefix (option_map value change.before) (option_map value change.after)) (with_link links link (Some (as_values new)))
+  values_lead links link old new p change live sent =
+      let at : as_values old change.prefix ≡ option_map value change.before = ap (option_map value) sent.1.0 in
+      let lead = leads_change links link (as_values old) change.prefix (option_map value change.before) (option_map value change.after) live at (λ e. sent.1.1 (one_value change.after change.before e)) in
+      let is : with_row (as_values old) change.prefix (option_map value change.after) ≡ as_values new = sym (values_set old change.prefix change.after) ∙ ap as_values (sym sent.2) in
+      subst (λ (rows : Rows Value). Leads links (change_entries link change.prefix (option_map value change.before) (option_map value change.after)) (with_link links link (Some rows))) is lead
+
+one_of_attrs : (a b : Attrs) → values.Attrs a ≡ values.Attrs b → a ≡ b
+one_of_attrs a b e = cc
+
+one_of_route : (a b : Route) → values.Route a ≡ values.Route b → a ≡ b
+one_of_route a b e = cc
 
 pub change_leads : (links : Links Value) (link : Link) (old new : Rows Attrs) (p : Network) (change : Change Attrs) → links link ≡ Some (attrs_rows old) → IsSent old new p (Some change)
     → Leads links (attrs_change link change) (with_link links link (Some (attrs_rows new)))
-change_leads links link old new p change live sent =
-    let at : attrs_rows old change.prefix ≡ as_value change.before = ap as_value sent.1.0 in
-    let lead = leads_change links link (attrs_rows old) change.prefix (as_value change.before) (as_value change.after) live at (λ e. sent.1.1 (one_value change.after change.before e)) in
-    let is : with_row (attrs_rows old) change.prefix (as_value change.after) ≡ attrs_rows new = sym (attrs_rows_set old change.prefix change.after) ∙ ap attrs_rows (sym sent.2) in
-    subst (λ (rows : Rows Value). Leads links (attrs_change link change) (with_link links link (Some rows))) is lead
+change_leads = values_lead (λ a. values.Attrs a) one_of_attrs
+
+pub route_change_leads : (links : Links Value) (link : Link) (old new : Rows Route) (p : Network) (change : Change Route) → links link ≡ Some (route_rows old) → IsSent old new p (Some change)
+    → Leads links (route_change link change) (with_link links link (Some (route_rows new)))
+route_change_leads = values_lead (λ r. values.Route r) one_of_route

@@ -2,6 +2,7 @@
 use Rattle.std.specs.Prelude.{◌≡◌, ℕ, Bool, List, [], ◌++◌, map, option_map, refl}
 use Rattle.std.specs.Coded.{Coded, code_by, coded×, coded_ℕ, coded_bool, coded_list}
 use Rattle.bgp_attr.specs.declared.attrs.Attrs.{Attrs}
+use Rattle.bgp_attr.specs.declared.route.Route.{Route}
 use Rattle.link_change.specs.Rows.{Rows}
 use Rattle.link_change.specs.declared.change.Change.{Change}
 use Rattle.journal_text.specs.Walk.{change_entries}
@@ -47,3 +48,11 @@ attrs_change link change = change_entries link change.prefix (option_map (λ a. 
 -- rows of attributes, as values
 abbrev pub attrs_rows : Rows Attrs → Rows Value
 attrs_rows rows q = option_map (λ a. values.Attrs a) (rows q)
+
+-- the entry of a change of routes on a link
+abbrev pub route_change : Link → Change Route → List (Entry Value)
+route_change link change = change_entries link change.prefix (option_map (λ r. values.Route r) change.before) (option_map (λ r. values.Route r) change.after)
+
+-- rows of routes, as values
+abbrev pub route_rows : Rows Route → Rows Value
+route_rows rows q = option_map (λ r. values.Route r) (rows q)

@@ -2,6 +2,7 @@
 use Rattle.std.specs.Prelude.{◌≡◌, ℕ, true, false, List, ◌++◌, Option, Some}
 use Rattle.addr4.specs.Prefixes.{Network}
 use Rattle.bgp_attr.specs.declared.attrs.Attrs.{Attrs}
+use Rattle.bgp_attr.specs.declared.route.Route.{Route}
 use Rattle.link_change.specs.Rows.{Rows}
 use Rattle.link_change.specs.Changes.{IsSent}
 use Rattle.link_change.specs.declared.change.Change.{Change}
@@ -9,7 +10,7 @@ use Rattle.journal_text.specs.Links.{same_link}
 use Rattle.journal_text.specs.Names.{IsNamed, link_of}
 use Rattle.journal_text.specs.Texts.{link_text, entries_of}
 use Rattle.journal_text.specs.Walk.{Links, with_link, Leads}
-use Rattle.journal_text.specs.Journals.{Journaled, attrs_rows, attrs_change, with_entries}
+use Rattle.journal_text.specs.Journals.{Journaled, attrs_rows, attrs_change, route_rows, route_change, with_entries}
 use Rattle.journal_text.specs.declared.link.Link.{Link}
 use Rattle.journal_text.specs.declared.entry.Entry.{Entry}
 use Rattle.journal_text.specs.declared.value.Value.{Value}
@@ -34,6 +35,13 @@ ChangesLead =
     (links : Links Value) (link : Link) (old new : Rows Attrs) (p : Network) (change : Change Attrs)
     → links link ≡ Some (attrs_rows old) → IsSent old new p (Some change)
     → Leads links (attrs_change link change) (with_link links link (Some (attrs_rows new)))
+
+-- The same of a change of routes.
+abbrev pub RouteChangesLead : Type 0
+RouteChangesLead =
+    (links : Links Value) (link : Link) (old new : Rows Route) (p : Network) (change : Change Route)
+    → links link ≡ Some (route_rows old) → IsSent old new p (Some change)
+    → Leads links (route_change link change) (with_link links link (Some (route_rows new)))
 
 -- The name of a link is read back, where its numbers can stand in a name.
 abbrev pub LinksReadBack : Type 0

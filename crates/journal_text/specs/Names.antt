@@ -8,7 +8,7 @@ use Rattle.rib_route.specs.declared.Proto.TheVariants.{Connected, Static, Ospf, 
 use Rattle.journal_text.specs.declared.link.Link.{Link}
 use Rattle.journal_text.specs.declared.link.Link.TheVariants.{In, Peer, Filt, Res, Org, Lost, Low, Dyn, Int, Red, Best, ReadRib, Ebgp, Ibgp, Ext, Fib, Read, Outf, Adv}
 use Rattle.journal_text.specs.declared.link.Task.{Task}
-use Rattle.journal_text.specs.declared.link.Task.TheVariants.{Del}
+use Rattle.journal_text.specs.declared.link.Task.TheVariants.{Del, Fin}
 
 -- the number, if it is not 0
 abbrev pub from_one : ℕ → Option ℕ
@@ -92,8 +92,17 @@ link_from_parts other = None
 abbrev pub link_of : List ℕ → Option Link
 link_of text = link_from_parts (parts 46 text)
 
+-- two words: `fin` and a peer's number
+unfoldable pub task_of_two : List ℕ → List ℕ → Option Task
+task_of_two w a = if bytes_eq w (codes "fin") then option_map (λ k. Fin k) (name_number a) else None
+
+-- three words: `del`, a peer's number and a session's
+unfoldable pub task_of_three : List ℕ → List ℕ → List ℕ → Option Task
+task_of_three w a b = if bytes_eq w (codes "del") then with_both (λ k s. Some (Del k s)) (name_number a) (name_number b) else None
+
 unfoldable pub task_from_parts : List (List ℕ) → Option Task
-task_from_parts (w ∷ a ∷ b ∷ []) = if bytes_eq w (codes "del") then with_both (λ k s. Some (Del k s)) (name_number a) (name_number b) else None
+task_from_parts (w ∷ a ∷ []) = task_of_two w a
+task_from_parts (w ∷ a ∷ b ∷ []) = task_of_three w a b
 task_from_parts other = None
 
 -- the task of a name, and none where it is no task's

@@ -14,6 +14,8 @@ use Rattle.bgp_attr.specs.declared.attrs.Origin.TheVariants.{Igp, Egp, Incomplet
 use Rattle.bgp_attr.specs.declared.attrs.Aggregator.{Aggregator}
 use Rattle.bgp_attr.specs.declared.unrecognized.Unrecognized.{Unrecognized}
 use Rattle.bgp_attr.specs.declared.attrs.Attrs.{Attrs}
+use Rattle.bgp_attr.specs.declared.speaker.Neighbour.{Neighbour}
+use Rattle.bgp_attr.specs.declared.route.Route.{Route}
 use Rattle.journal_text.specs.declared.link.Link.{Link}
 use Rattle.journal_text.specs.declared.link.Link.TheVariants.{In, Peer, Filt, Res, Org, Lost, Low, Dyn, Int, Red, Best, ReadRib, Ebgp, Ibgp, Ext, Fib, Read, Outf, Adv}
 use Rattle.journal_text.specs.declared.value.Value.{Value}
@@ -67,8 +69,28 @@ optional_text a = lettered 109 a.med ++ lettered 108 a.local_pref ++ cond a.atom
 unfoldable pub attrs_text : Attrs → List ℕ
 attrs_text a = required_text a ++ optional_text a ++ flat_map unrecognized_text a.unrecognized
 
+-- the number of the peer that a route came from, and 0 of a local route
+abbrev pub sender_number : Option Neighbour → ℕ
+sender_number None = 0
+sender_number (Some peer) = peer.number
+
+-- a number and a colon
+abbrev pub field_text : ℕ → List ℕ
+field_text n = decimal n ++ 58 ∷ []
+
+-- a number, or `-` where there is none, and a colon
+abbrev pub known_text : Option ℕ → List ℕ
+known_text None = codes "-:"
+known_text (Some n) = field_text n
+
+-- peer, preference, MED that counts, how often more the local AS is put in front, interior metric, each with a colon; and
+-- the attributes
+unfoldable pub route_text : Route → List ℕ
+route_text r = field_text (sender_number r.from) ++ field_text r.pref ++ known_text r.med ++ field_text r.prepend ++ known_text r.igp ++ attrs_text r.attrs
+
 abbrev pub value_text : Value → List ℕ
 value_text (values.Attrs a) = attrs_text a
+value_text (values.Route r) = route_text r
 
 abbrev pub proto_text : Proto → List ℕ
 proto_text Connected = codes "connected"

@@ -1,12 +1,12 @@
 //! The output, line by line.
 
-ghost use Rattle.std.specs.Prelude.{◌≡◌, ◌++◌, ◌∷◌, [], OnOk, OnErr, IfOk};
+ghost use Rattle.std.specs.Prelude.{◌≡◌, ◌++◌, ◌∷◌, [], OnOk, OnErr, IfOk, option_map};
 ghost use Rattle.journal_text.specs.declared.line.Line.{Line};
 ghost use Rattle.journal_text.specs.declared.line.Line.TheVariants as lines;
 ghost use Rattle.journal_text.specs.declared.value.Value.TheVariants as values;
 ghost use Rattle.link_change.specs.declared.change.Change.{Change};
 ghost use Rattle.journal_text.specs.Walk.{change_entries};
-ghost use Rattle.journal_text.specs.Journals.{with_lines, with_entries, attrs_change, flushed};
+ghost use Rattle.journal_text.specs.Journals.{with_lines, with_entries, attrs_change, route_change, flushed};
 
 use crate::entry::Entry;
 use crate::line::Line;
@@ -14,7 +14,7 @@ use crate::lines::push_lines;
 use crate::link::Link;
 use crate::value::Value;
 use addr4::{Memory, Prefix, Row};
-use bgp_attr::SharedAttrs;
+use bgp_attr::{Route, SharedAttrs};
 use link_change::Change;
 use std::alloc::Global;
 use std::marker::Model;
@@ -68,18 +68,38 @@ impl Journal {
         self.push_line(Line::Journal(entry))
     }
 
-    /// Appends the entry of a change on a link: an add, a delete or a replacement; none where no row was or is.
+    /// Appends the entry of a change of attributes on a link: an add, a delete or a replacement; none where no row was or is.
     pub fn push_change(&mut self, link: Link, change: &Change<SharedAttrs>) -> Result<(), Memory>
         ensures { OnOk result (self.new ≡ with_entries self.old (attrs_change link change.now)) }
     {
-        let p = change.prefix;
-        match (&change.before, &change.after) {
-            (None, Some(new)) => self.push_entry(Entry::Add(link, p, attrs_value(new)?)),
-            (Some(old), None) => self.push_entry(Entry::Delete(link, p, attrs_value(old)?)),
-            (Some(old), Some(new)) => {
-                let old = attrs_value(old)?;
-                self.push_entry(Entry::Replace(link, p, old, attrs_value(new)?))
-            }
+        let before = attrs_value(&change.before)?;
+        let after = attrs_value(&change.after)?;
+        self.push_values(link, change.prefix, before, after)
+    }
+
+    /// Appends the entry of a change of routes on a link, as [`push_change`](Journal::push_change) does of attributes.
+    pub fn push_route_change(&mut self, link: Link, change: &Change<Route>) -> Result<(), Memory>
+        ensures { OnOk result (self.new ≡ with_entries self.old (route_change link change.now)) }
+    {
+        let before = route_value(&change.before)?;
+        let after = route_value(&change.after)?;
+        self.push_values(link, change.prefix, before, after)
+    }
+
+    // Appends the entry of a change of values.
+    fn push_values(
+        &mut self,
+        link: Link,
+        prefix: Prefix,
+        before: Option<Value>,
+        after: Option<Value>,
+    ) -> Result<(), Memory>
+        ensures { OnOk result (self.new ≡ with_entries self.old (change_entries link prefix before after)) }
+    {
+        match (before, after) {
+            (None, Some(new)) => self.push_entry(Entry::Add(link, prefix, new)),
+            (Some(old), None) => self.push_entry(Entry::Delete(link, prefix, old)),
+            (Some(old), Some(new)) => self.push_entry(Entry::Replace(link, prefix, old, new)),
             (None, None) => Ok(()),
         }
     }
@@ -110,9 +130,22 @@ impl Journal {
     }
 }
 
-// The value of shared attributes.
-fn attrs_value(attrs: &SharedAttrs) -> Result<Value, Memory>
-    ensures { IfOk result (λ value. value ≡ values.Attrs attrs.now) }
+// The value of attributes, if there are any.
+fn attrs_value(row: &Option<SharedAttrs>) -> Result<Option<Value>, Memory>
+    ensures { IfOk result (λ value. value ≡ option_map (λ a. values.Attrs a) row.now) }
 {
-    Ok(Value::Attrs(attrs.copy()?))
+    match row {
+        Some(attrs) => Ok(Some(Value::Attrs(attrs.copy()?))),
+        None => Ok(None),
+    }
+}
+
+// The value of a route, if there is one.
+fn route_value(row: &Option<Route>) -> Result<Option<Value>, Memory>
+    ensures { IfOk result (λ value. value ≡ option_map (λ r. values.Route r) row.now) }
+{
+    match row {
+        Some(route) => Ok(Some(Value::Route(route.copy()?))),
+        None => Ok(None),
+    }
 }

@@ -2,7 +2,7 @@
 //! the law.
 
 ghost use Rattle.journal_text.specs.Walk.{LeadsOn};
-ghost use Rattle.journal_text.specs.Laws.{ChangesLead, EachLinkIsItself, LinksAreSetInEitherOrder, EntriesGrow, EntriesJoin, LinksReadBack, ReadLinksAreNamed, SameLinksAreEqual};
+ghost use Rattle.journal_text.specs.Laws.{ChangesLead, EachLinkIsItself, LinksAreSetInEitherOrder, EntriesGrow, EntriesJoin, LinksReadBack, ReadLinksAreNamed, RouteChangesLead, SameLinksAreEqual};
 
 /// Each link is itself, and links that are the same are equal.
 pub fn same_links()
@@ -23,6 +23,11 @@ pub fn journals_join<V>()
 /// The entry of a lawful change of attributes leads on (NSDI 2005, section 5.1).
 pub fn changes_lead()
     ensures { ChangesLead }
+{}
+
+/// The entry of a lawful change of routes leads on.
+pub fn route_changes_lead()
+    ensures { RouteChangesLead }
 {}
 
 /// The name of a link whose numbers are from 1 and below 2^32 is read back, so no two of them have one name.

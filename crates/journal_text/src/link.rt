@@ -73,6 +73,8 @@ impl Link {
 pub enum Task {
     /// `del.K.S`: the deletes of a peer's lost session.
     Del(u32, u32),
+    /// `fin.K`: the walk of a peer's incoming filter.
+    Fin(u32),
 }
 
 impl Task {

@@ -1,7 +1,7 @@
 //! Reading the names of links and tasks.
 
 ghost use Rattle.std.specs.Prelude.{◌≡◌};
-ghost use Rattle.journal_text.specs.Names.{inner_link, link_of, link_of_three, link_of_two, name_number, peer_link, plain_link, proto_of, session_link, task_of};
+ghost use Rattle.journal_text.specs.Names.{inner_link, link_of, link_of_three, link_of_two, name_number, peer_link, plain_link, proto_of, session_link, task_of, task_of_three, task_of_two};
 
 use crate::link::{Link, Task};
 use addr4::{first_part, read_number};
@@ -161,6 +161,31 @@ pub(crate) fn read_link(text: &[u8]) -> Option<Link>
     link_of_three(word, part, last)
 }
 
+/// `fin.K`.
+#[tactic(auto, unfolding(crate::specs::Names::task_of_two))]
+fn task_of_two(word: &[u8], part: &[u8]) -> Option<Task>
+    ensures { result ≡ task_of_two word.now part.now }
+{
+    if word != b"fin".as_slice() {
+        return None;
+    }
+    let peer = name_number(part)?;
+    Some(Task::Fin(peer))
+}
+
+/// `del.K.S`.
+#[tactic(auto, unfolding(crate::specs::Names::task_of_three))]
+fn task_of_three(word: &[u8], part: &[u8], last: &[u8]) -> Option<Task>
+    ensures { result ≡ task_of_three word.now part.now last.now }
+{
+    if word != b"del".as_slice() {
+        return None;
+    }
+    let peer = name_number(part)?;
+    let session = name_number(last)?;
+    Some(Task::Del(peer, session))
+}
+
 /// The task of a name.
 #[tactic(auto, using(crate::proofs::NameLemmas::no_fourth_task_word), unfolding(crate::specs::Names::task_from_parts))]
 pub(crate) fn read_task(text: &[u8]) -> Option<Task>
@@ -168,14 +193,12 @@ pub(crate) fn read_task(text: &[u8]) -> Option<Task>
 {
     let (word, rest) = first_part(text, b'.');
     let (part, rest) = first_part(rest?, b'.');
-    let (last, more) = first_part(rest?, b'.');
+    let Some(rest) = rest else {
+        return task_of_two(word, part);
+    };
+    let (last, more) = first_part(rest, b'.');
     if let Some(_more) = more {
         return None;
     }
-    if word != b"del".as_slice() {
-        return None;
-    }
-    let peer = name_number(part)?;
-    let session = name_number(last)?;
-    Some(Task::Del(peer, session))
+    task_of_three(word, part, last)
 }

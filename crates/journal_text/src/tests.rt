@@ -3,7 +3,8 @@
 use crate::{Code, Entry, Journal, Line, Link, Task, Value};
 use addr4::{Addr, Prefix, Row, read_prefix};
 use bgp_attr::{
-    AsPath, Attrs, Numbers, Octets, Origin, Segment, SegmentKind, SharedAttrs, UnrecognizedAttrs,
+    AsPath, Attrs, Neighbour, Numbers, Octets, Origin, Route, Segment, SegmentKind, SharedAttrs,
+    UnrecognizedAttrs,
 };
 use link_change::Change;
 use rib_route::Proto;
@@ -12,7 +13,7 @@ use std::test::Fail;
 
 /// The journal's own lines.
 const ENTRIES: &str =
-    "b in.1\ni read.1.1 best\n+ in.1 10.1.0.0/16 o0,p(65001),n192.0.2.1\n= in.1 10.1.0.0/16 o0,p(65001),n192.0.2.1 o1,p(65001),n192.0.2.1\n- in.1 10.1.0.0/16 o1,p(65001),n192.0.2.1\n? in.1 10.1.0.0/16 -\nw peer.1.1 in.1\ne read.1.1\n";
+    "b in.1\ni read.1.1 best\n+ in.1 10.1.0.0/16 o0,p(65001),n192.0.2.1\n= in.1 10.1.0.0/16 o0,p(65001),n192.0.2.1 o1,p(65001),n192.0.2.1\n- in.1 10.1.0.0/16 o1,p(65001),n192.0.2.1\n? in.1 10.1.0.0/16 -\nw peer.1.1 in.1\ne read.1.1\n= filt.1 10.1.0.0/16 1:100:-:0:-:o0,p(65001),n192.0.2.1 0:200:7:2:10:o0,p(65001),n192.0.2.1\n";
 
 /// The other lines.
 const OTHERS: &str =
@@ -71,7 +72,40 @@ fn push_entries(alloc: Global, journal: &mut Journal) -> Result<(), Fail> {
     journal.push_entry(Entry::Asked(link, prefix, None))?;
     journal.push_entry(Entry::Weld(Link::Peer(1, 1), link))?;
     journal.push_entry(Entry::End(session))?;
+    journal.push_route_change(Link::Filt(1), &route_change(alloc)?)?;
     Ok(())
+}
+
+/// A peer's route becomes a local one, with every number set.
+fn route_change(alloc: Global) -> Result<Change<Route>, Fail> {
+    let peer = Neighbour {
+        number: 1,
+        asn: 65001,
+        id: Addr::new(0xc000_0201),
+        addr: Addr::new(0xc000_0201),
+        internal: false,
+    };
+    let before = Route {
+        attrs: attrs(alloc, Origin::Igp)?,
+        pref: 100,
+        med: None,
+        prepend: 0,
+        igp: None,
+        from: Some(peer),
+    };
+    let after = Route {
+        attrs: attrs(alloc, Origin::Igp)?,
+        pref: 200,
+        med: Some(7),
+        prepend: 2,
+        igp: Some(10),
+        from: None,
+    };
+    Ok(Change {
+        prefix: prefix()?,
+        before: Some(before),
+        after: Some(after),
+    })
 }
 
 fn push_others(alloc: Global, journal: &mut Journal) -> Result<(), Fail> {
@@ -144,4 +178,6 @@ fn names_of_links_are_read(rt: HostRuntime) {
     assert_eq!(rt; Task::read(b"del.2.1"), Some(Task::Del(2, 1)));
     assert_eq!(rt; Task::read(b"del.2"), None);
     assert_eq!(rt; Task::read(b"del.0.1"), None);
+    assert_eq!(rt; Task::read(b"fin.1"), Some(Task::Fin(1)));
+    assert_eq!(rt; Task::read(b"fin.1.1"), None);
 }

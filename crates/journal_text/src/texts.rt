@@ -4,11 +4,11 @@ ghost use Rattle.std.specs.Prelude.{◌≡◌, ◌++◌, ◌∷◌, [], List, On
 ghost use Rattle.std.specs.List.{flat_map};
 ghost use Rattle.std.specs.Fmt.{decimal};
 ghost use Rattle.addr4.specs.Texts.{dotted};
-ghost use Rattle.journal_text.specs.Texts.{origin_number, segment_text, path_text, lettered, aggregator_text, unrecognized_text, required_text, optional_text, attrs_text, value_text, answer_text};
+ghost use Rattle.journal_text.specs.Texts.{origin_number, segment_text, path_text, lettered, aggregator_text, unrecognized_text, required_text, optional_text, attrs_text, sender_number, field_text, known_text, route_text, value_text, answer_text};
 
 use crate::value::Value;
 use addr4::{Memory, push_addr, push_number};
-use bgp_attr::{Aggregator, Attrs, Origin, Segment, SegmentKind, Unrecognized};
+use bgp_attr::{Aggregator, Attrs, Neighbour, Origin, Route, Segment, SegmentKind, Unrecognized};
 use std::alloc::Global;
 
 /// Appends a text.
@@ -184,12 +184,54 @@ fn push_attrs(alloc: Global, out: &mut Vec<u8>, attrs: &Attrs) -> Result<(), Mem
     Ok(())
 }
 
+fn sender_number(from: Option<Neighbour>) -> u32
+    ensures { result ≡ sender_number from }
+{
+    match from {
+        Some(peer) => u32::from(peer.number),
+        None => 0,
+    }
+}
+
+/// A number and a colon.
+fn push_field(out: &mut Vec<u8>, number: u32) -> Result<(), Memory>
+    ensures { OnOk result (out.new.items ≡ out.old.items ++ field_text number) }
+{
+    push_number(out, u64::from(number))?;
+    out.push(b':')?;
+    Ok(())
+}
+
+/// A number, or `-` for none, and a colon.
+fn push_known(out: &mut Vec<u8>, number: Option<u32>) -> Result<(), Memory>
+    ensures { OnOk result (out.new.items ≡ out.old.items ++ known_text number) }
+{
+    match number {
+        Some(number) => push_field(out, number),
+        None => push_text(out, b"-:"),
+    }
+}
+
+/// What the decision compares, each with a colon, and the attributes.
+#[tactic(auto, unfolding(crate::specs::Texts::route_text))]
+fn push_route(alloc: Global, out: &mut Vec<u8>, route: &Route) -> Result<(), Memory>
+    ensures { OnOk result (out.new.items ≡ out.old.items ++ route_text route.now) }
+{
+    push_field(out, sender_number(route.from))?;
+    push_field(out, route.pref)?;
+    push_known(out, route.med)?;
+    push_field(out, u32::from(route.prepend))?;
+    push_known(out, route.igp)?;
+    push_attrs(alloc, out, route.attrs.attrs())
+}
+
 /// The text of a value.
 pub(crate) fn push_value(alloc: Global, out: &mut Vec<u8>, value: &Value) -> Result<(), Memory>
     ensures { OnOk result (out.new.items ≡ out.old.items ++ value_text value.now) }
 {
     match value {
         Value::Attrs(attrs) => push_attrs(alloc, out, attrs.attrs()),
+        Value::Route(route) => push_route(alloc, out, route),
     }
 }
 
