@@ -15,8 +15,11 @@ use Rattle.addr4.specs.Texts.{is_numeral, value_below, number_below, number_of, 
 use Rattle.journal_text.specs.declared.link.Link.TheVariants as links
 use Rattle.journal_text.specs.declared.link.Task.TheVariants as tasks
 use Rattle.event_text.specs.declared.event.Event.TheVariants as events
-use Rattle.event_text.specs.Words.{◌>>=◌, from_one, two_from_one, is_host, speaker_of, octets_of, link_from, link_of, task_from, task_of}
-use Rattle.event_text.specs.Events.{local_of, peer_of, one_number, bgp_of, work_of, ask_of, show_of, plain_event, named_event, event_of}
+use Rattle.policy_rules.specs.Words.{◌>>=◌}
+use Rattle.policy_rules.specs.Ranges.{AreRules}
+use Rattle.policy_rules.specs.Grammar.{rules_of}
+use Rattle.event_text.specs.Words.{from_one, two_from_one, is_host, speaker_of, octets_of, link_named, link_from, link_of, task_from, task_of}
+use Rattle.event_text.specs.Events.{local_of, peer_of, one_number, bgp_of, filter_of, work_of, ask_of, show_of, plain_event, named_event, event_of}
 use Rattle.event_text.specs.WellFormed.{IsNumber, IsSpeaker, IsMessage, IsPrefix, IsPeerLink, IsTask, IsWellFormed}
 
 -- ---- steps that may fail
@@ -115,10 +118,15 @@ prefix_ok : (text : List ℕ) → IfSome (prefix_of 32 text) IsPrefix
 unfolding prefix_of
 prefix_ok text = prefix_parts_ok (parts 47 text)
 
+link_named_ok : (name : List ℕ) (n : ℕ) → IsNumber n → IfSome (link_named name n) IsPeerLink
+link_named_ok name n h =
+    either (bytes_eq name (codes "in")) (Some (links.In n)) _ IsPeerLink h
+    (either (bytes_eq name (codes "filt")) (Some (links.Filt n)) None IsPeerLink h tt)
+
 link_parts_ok : (ps : List (List ℕ)) → IfSome (link_from ps) IsPeerLink
 link_parts_ok [] = tt
 link_parts_ok (a ∷ []) = tt
-link_parts_ok (a ∷ k ∷ []) = either (bytes_eq a (codes "in")) (from_one k >>= λ n. Some (links.In n)) None IsPeerLink (and_then (from_one k) _ IsNumber IsPeerLink (from_one_ok k) (λ n h. h)) tt
+link_parts_ok (a ∷ k ∷ []) = and_then (from_one k) (link_named a) IsNumber IsPeerLink (from_one_ok k) (λ n h. link_named_ok a n h)
 link_parts_ok (a ∷ k ∷ s ∷ []) = either (bytes_eq a (codes "peer")) (two_from_one k s >>= λ n. Some (links.Peer n.0 n.1)) None IsPeerLink (and_then (two_from_one k s) _ (λ n. IsNumber n.0 × IsNumber n.1) IsPeerLink (two_ok k s) (λ n h. h)) tt
 link_parts_ok (a ∷ k ∷ s ∷ x ∷ more) = tt
 
@@ -129,7 +137,7 @@ link_ok word = link_parts_ok (parts 46 word)
 task_parts_ok : (ps : List (List ℕ)) → IfSome (task_from ps) IsTask
 task_parts_ok [] = tt
 task_parts_ok (a ∷ []) = tt
-task_parts_ok (a ∷ k ∷ []) = tt
+task_parts_ok (a ∷ k ∷ []) = either (bytes_eq a (codes "fin")) (from_one k >>= λ n. Some (tasks.Fin n)) None IsTask (and_then (from_one k) _ IsNumber IsTask (from_one_ok k) (λ n h. h)) tt
 task_parts_ok (a ∷ k ∷ s ∷ []) = either (bytes_eq a (codes "del")) (two_from_one k s >>= λ n. Some (tasks.Del n.0 n.1)) None IsTask (and_then (two_from_one k s) _ (λ n. IsNumber n.0 × IsNumber n.1) IsTask (two_ok k s) (λ n h. h)) tt
 task_parts_ok (a ∷ k ∷ s ∷ x ∷ more) = tt
 
@@ -159,6 +167,18 @@ bgp_ok [] = tt
 bgp_ok (k ∷ []) = tt
 bgp_ok (k ∷ digits ∷ []) = and_then (from_one k) _ IsNumber IsWellFormed (from_one_ok k) (λ n hn. and_then (octets_of digits) _ IsMessage IsWellFormed (octets_ok digits) (λ octets ho. (hn, ho)))
 bgp_ok (k ∷ digits ∷ x ∷ more) = tt
+
+rules_ok : (ws : List (List ℕ)) → IfSome (rules_of false ws) (AreRules false)
+rules_ok ws = ?
+
+filter_ok : (ws : List (List ℕ)) → IfSome (filter_of ws) IsWellFormed
+unfolding filter_of
+filter_ok [] = tt
+filter_ok (side ∷ []) = tt
+filter_ok (side ∷ k ∷ ws) =
+    either (bytes_eq side (codes "in")) _ None IsWellFormed
+    (and_then (from_one k) _ IsNumber IsWellFormed (from_one_ok k) (λ n hn. and_then (rules_of false ws) _ (AreRules false) IsWellFormed (rules_ok ws) (λ rules hr. (hn, hr))))
+    tt
 
 work_ok : (ws : List (List ℕ)) → IfSome (work_of ws) IsWellFormed
 unfolding work_of
@@ -195,7 +215,8 @@ unfolding named_event
 named_ok w ws =
     either (bytes_eq w (codes "local")) _ _ IsWellFormed (local_ok ws)
     (either (bytes_eq w (codes "peer")) _ _ IsWellFormed (peer_ok ws)
-    (either (bytes_eq w (codes "bgp")) _ _ IsWellFormed (bgp_ok ws) (plain_ok w ws)))
+    (either (bytes_eq w (codes "bgp")) _ _ IsWellFormed (bgp_ok ws)
+    (either (bytes_eq w (codes "filter")) _ _ IsWellFormed (filter_ok ws) (plain_ok w ws))))
 
 -- the event of a line's words is well-formed
 pub event_ok : (ws : List (List ℕ)) → IfSome (event_of ws) IsWellFormed
