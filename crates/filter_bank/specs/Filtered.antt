@@ -1,5 +1,5 @@
 -- The incoming filter of a peer (RFC 4271, sections 5.1.3 and 9.1.1): the route that a peer's attributes make, where it is accepted.
-use Rattle.std.specs.Prelude.{ℕ, ◌==◌, ◌||◌, cond, Bool, true, false, List, Option, Some, None}
+use Rattle.std.specs.Prelude.{◌≡◌, ◌≢◌, ℕ, ◌==◌, ◌||◌, cond, Bool, true, false, List, Option, Some, None}
 use Rattle.addr4.specs.Prefixes.{Network}
 use Rattle.bgp_attr.specs.declared.attrs.Attrs.{Attrs}
 use Rattle.bgp_attr.specs.declared.route.Route.{Route}
@@ -46,6 +46,12 @@ filtered_rows me peer rules upper q = filtered me peer rules q (upper q)
 -- the rows of the link below: at each prefix by the rules that hold there
 abbrev pub passed_rows : Speaker → Neighbour → Passed (List Rule) → Rows Attrs → Rows Route
 passed_rows me peer pass upper q = filtered me peer (function_at pass q) q (upper q)
+
+-- the change of one row: none exactly where it stays the same
+abbrev pub IsChangeOf : {R : Type 0} → Network → Option R → Option R → Option (Change R) → Type 0
+IsChangeOf p before after None = after ≡ before
+IsChangeOf p before after (Some change) =
+    (change.prefix ≡ p) × (change.before ≡ before) × (change.after ≡ after) × (after ≢ before)
 
 -- where the change that comes in leads from the rows above to new ones, what goes out leads from the rows below to the new ones there
 abbrev pub FiltersOn : Speaker → Neighbour → Passed (List Rule) → Change Attrs → Option (Change Route) → Type 0

@@ -1,10 +1,12 @@
 //! The incoming filter.
 
-ghost use Rattle.std.specs.Prelude.{◌≡◌, IfOk, [], None, is_some};
+ghost use Rattle.std.specs.Prelude.{◌≡◌, ◌↔◌, IfOk, OnErr, IsTrue, [], None, is_some};
 ghost use Rattle.addr4.specs.Places.{key_of};
+ghost use Rattle.bgp_attr.specs.declared.speaker.Speaker.{Speaker};
+ghost use Rattle.bgp_attr.specs.declared.speaker.Neighbour.{Neighbour};
 ghost use Rattle.link_change.specs.Rows.{IsNextCandidate, CoversRows};
 ghost use Rattle.pass_core.specs.Passed.{edited, present};
-ghost use Rattle.filter_bank.specs.Filtered.{passed_rows, FiltersOn};
+ghost use Rattle.filter_bank.specs.Filtered.{passed_rows, FiltersOn, IsChangeOf};
 ghost use Rattle.filter_bank.specs.Walks.{IsWalked};
 
 use crate::filtering::filtered;
@@ -43,8 +45,9 @@ fn is_same(before: &Option<Route>, after: &Option<Route>) -> bool
     }
 }
 
-// The change of a row, where it is one.
+// The change of a row. None exactly where it stays the same.
 fn change_of(prefix: Prefix, before: Option<Route>, after: Option<Route>) -> Option<Change<Route>>
+    ensures { IsChangeOf prefix before after result }
 {
     if is_same(&before, &after) {
         return None;
@@ -147,7 +150,11 @@ impl FilterBank {
 
     /// The least candidate of the link below beyond a place: those of the link above, of which some may have no row below.
     /// Every row below stands at one.
-    pub fn next_candidate<U: Upstream<Row = SharedAttrs>>(&self, upper: &U, after: Place) -> Option<Prefix>
+    pub fn next_candidate<U: Upstream<Row = SharedAttrs>>(
+        &self,
+        upper: &U,
+        after: Place,
+    ) -> Option<Prefix>
         ensures next { IsNextCandidate (U.candidates upper.now) (key_of after) result }
         ensures covers { (me : Speaker) (peer : Neighbour) → CoversRows (U.candidates upper.now) (passed_rows me peer self.now (U.rows upper.now)) }
     {

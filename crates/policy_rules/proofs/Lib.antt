@@ -2,3 +2,4 @@ pub mod GrammarLemmas
 pub mod PassLemmas
 pub mod KeptLemmas
 pub mod OneResult
+pub mod VerdictLemmas

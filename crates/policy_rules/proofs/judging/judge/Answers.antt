@@ -2,6 +2,7 @@ use Rattle.std.proofs.Common.{suc, drop, Some, None, subst}
 use Rattle.policy_rules.specs.Judged.{Outcome}
 use Rattle.policy_rules.proofs.PassLemmas.{one_more_at, accepts, rejects, decided, passed_by_all}
 use Rattle.policy_rules.proofs.KeptLemmas.{judged_keeps}
+use Rattle.policy_rules.proofs.VerdictLemmas.{judged_so}
 use Rattle.policy_rules.proofs.judging.judge.Goals as goal
 
 pub returns-in-Accept-clause-judged : goal.returns-in-Accept-clause-judged
@@ -38,3 +39,15 @@ returns-in-Accept-clause-kept c =
 pub returns-clause-kept : goal.returns-clause-kept
 returns-clause-kept c =
     judged_keeps c.args.prefix c.args.rules.now c.args.route (Some c.loop-rule.route) (returns-clause-judged c)
+
+pub returns-in-Accept-clause-value : goal.returns-in-Accept-clause-value
+returns-in-Accept-clause-value c =
+    judged_so c.args.rules.now c.args.prefix c.args.route (Some c.outcome.new.route) (returns-in-Accept-clause-judged c)
+
+pub returns-in-Reject-clause-value : goal.returns-in-Reject-clause-value
+returns-in-Reject-clause-value c =
+    judged_so c.args.rules.now c.args.prefix c.args.route None (returns-in-Reject-clause-judged c)
+
+pub returns-clause-value : goal.returns-clause-value
+returns-clause-value c =
+    judged_so c.args.rules.now c.args.prefix c.args.route (Some c.loop-rule.route) (returns-clause-judged c)
