@@ -6,6 +6,7 @@ ghost use Rattle.policy_rules.specs.declared.rule.Action.{Action};
 ghost use Rattle.policy_rules.specs.declared.rule.Condition.{Condition};
 ghost use Rattle.policy_rules.specs.Words.{words};
 ghost use Rattle.policy_rules.specs.Grammar.{rules_of, behind, behind_prefix, at_action, in_front};
+ghost use Rattle.policy_rules.specs.Ranges.{AreRules};
 
 use crate::rule::{Action, Actions, Condition, Rule, Rules};
 use crate::words::{asn_bound, first_word, origin_of, setting_of, verdict_of, within_of};
@@ -26,7 +27,8 @@ pub fn read_rules(
     profile: Profile,
     text: &[u8],
 ) -> Result<Result<Rules, BadRule>, Memory>
-    ensures { IfOk result (λ rules. result_ok rules ≡ rules_of profile.as4 (words text.now)) }
+    ensures value { IfOk result (λ rules. result_ok rules ≡ rules_of profile.as4 (words text.now)) }
+    ensures ranges { IfOk result (λ rules. IfOk rules (AreRules profile.as4)) }
 {
     let mut rules = Vec::new(alloc);
     let mut rest = text;
