@@ -1,0 +1,44 @@
+-- Laws of incoming filters, for the crates above.
+use Rattle.std.specs.Prelude.{◌≡◌, List, Some, None}
+use Rattle.addr4.specs.Prefixes.{Network}
+use Rattle.bgp_attr.specs.declared.attrs.Attrs.{Attrs}
+use Rattle.bgp_attr.specs.declared.route.Route.{Route}
+use Rattle.bgp_attr.specs.declared.speaker.Speaker.{Speaker}
+use Rattle.bgp_attr.specs.declared.speaker.Neighbour.{Neighbour}
+use Rattle.link_change.specs.Rows.{Rows, Candidates}
+use Rattle.link_change.specs.Turns.{IsTurned}
+use Rattle.link_change.specs.declared.turn.Turn.{Turn}
+use Rattle.policy_rules.specs.declared.rule.Rule.{Rule}
+use Rattle.pass_core.specs.Passed.{Passed, present, edited}
+use Rattle.filter_bank.specs.Filtered.{filtered, filtered_rows, passed_rows}
+use Rattle.filter_bank.specs.Walks.{IsWalked}
+
+-- Without a walk the rows below are what the rules of the latest edit make of the rows above.
+abbrev pub ExactWithoutAWalk : Type 0
+ExactWithoutAWalk =
+    (me : Speaker) (peer : Neighbour) (pass : Passed (List Rule)) (upper : Rows Attrs) → pass.walk ≡ None
+    → passed_rows me peer pass upper ≡ filtered_rows me peer (present pass) upper
+
+-- An edit changes no row below.
+abbrev pub EditKeepsRows : Type 0
+EditKeepsRows =
+    (me : Speaker) (peer : Neighbour) (pass : Passed (List Rule)) (rules : List Rule) (upper : Rows Attrs)
+    → passed_rows me peer (edited pass rules) upper ≡ passed_rows me peer pass upper
+
+-- What a turn of the walk sends leads from the rows below before it to those after it.
+abbrev pub WalkLeads : Type 0
+WalkLeads =
+    (me : Speaker) (peer : Neighbour) (candidates : Candidates) (upper : Rows Attrs) (old new : Passed (List Rule)) (turn : Turn Route)
+    → IsWalked me peer candidates upper old new turn → IsTurned (passed_rows me peer old upper) (passed_rows me peer new upper) turn
+
+-- a route with these attributes from the peer, whose interior metric isn't known yet
+pub record IsRouteOf (peer : Neighbour) (attrs : Attrs) (r : Route) : Type 0 where
+  pub same_attrs : r.attrs ≡ attrs
+  pub from_peer : r.from ≡ Some peer
+  pub no_metric : r.igp ≡ None
+
+-- Whatever the rules, a row below has the attributes of the row above.
+abbrev pub FilteredKeepsAttrs : Type 0
+FilteredKeepsAttrs =
+    (me : Speaker) (peer : Neighbour) (rules : List Rule) (p : Network) (attrs : Attrs) (r : Route)
+    → filtered me peer rules p (Some attrs) ≡ Some r → IsRouteOf peer attrs r
