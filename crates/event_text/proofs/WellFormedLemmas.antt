@@ -15,11 +15,16 @@ use Rattle.event_text.specs.declared.event.Event.TheVariants as events
 use Rattle.policy_rules.specs.Words.{◌>>=◌}
 use Rattle.policy_rules.specs.Ranges.{AreRules}
 use Rattle.policy_rules.specs.Grammar.{rules_of}
-use Rattle.policy_rules.proofs.RangeLemmas.{and_then, either, told, below, addr_fits, IsInRange, prefix_in_range, rules_in_range}
-use Rattle.addr4.specs.Prefixes.{Network}
+use Rattle.policy_rules.proofs.RangeLemmas.{and_then, either, below, addr_fits, prefix_ok, rules_ok}
+use Rattle.addr4.specs.Prefixes.{Network, IsMasked}
 use Rattle.event_text.specs.Words.{from_one, two_from_one, is_host, speaker_of, octets_of, link_named, link_from, link_of, task_from, task_of}
 use Rattle.event_text.specs.Events.{local_of, peer_of, one_number, bgp_of, filter_of, work_of, ask_of, show_of, plain_event, named_event, event_of}
 use Rattle.event_text.specs.WellFormed.{IsNumber, IsSpeaker, IsMessage, IsPrefix, IsPeerLink, IsTask, IsWellFormed}
+
+-- ---- steps that may fail
+told : {A : Type 0} (b : Bool) (x y : Option A) (P : A → Type 0) → (b ≡ true → IfSome x P) → (b ≡ false → IfSome y P) → IfSome (cond b x y) P
+told true x y P hx hy = hx refl
+told false x y P hx hy = hy refl
 
 -- ---- words
 from_one_ok : (word : List ℕ) → IfSome (from_one word) IsNumber
@@ -61,10 +66,10 @@ octets_ok digits =
     and_then (result_ok (decode_of digits)) _ (λ bytes. All (λ b. b < 256) bytes) IsMessage (decoded digits (decode_of digits) refl) (λ bytes all.
     told (nat_eq (length bytes) 0) None (Some bytes) IsMessage (λ _. tt) (λ other. record { some = grind (arith, nat_tests); bytes = all }))
 
-prefix_ok : (text : List ℕ) → IfSome (prefix_of 32 text) IsPrefix
-prefix_ok text = as_record (prefix_of 32 text) (prefix_in_range text)
+is_prefix : (text : List ℕ) → IfSome (prefix_of 32 text) IsPrefix
+is_prefix text = as_record (prefix_of 32 text) (prefix_ok text)
   where
-    as_record : (o : Option Network) → IfSome o IsInRange → IfSome o IsPrefix
+    as_record : (o : Option Network) → IfSome o (λ p. IsMasked 32 p × (p.address < 2 ^ 32)) → IfSome o IsPrefix
     as_record None h = tt
     as_record (Some p) h = record { masked = h.0; fits = h.1 }
 
@@ -124,7 +129,7 @@ filter_ok [] = tt
 filter_ok (side ∷ []) = tt
 filter_ok (side ∷ k ∷ ws) =
     either (bytes_eq side (codes "in")) _ None IsWellFormed
-    (and_then (from_one k) _ IsNumber IsWellFormed (from_one_ok k) (λ n hn. and_then (rules_of false ws) _ (AreRules false) IsWellFormed (rules_in_range false ws) (λ rules hr. (hn, hr))))
+    (and_then (from_one k) _ IsNumber IsWellFormed (from_one_ok k) (λ n hn. and_then (rules_of false ws) _ (AreRules false) IsWellFormed (rules_ok false ws) (λ rules hr. (hn, hr))))
     tt
 
 work_ok : (ws : List (List ℕ)) → IfSome (work_of ws) IsWellFormed
@@ -138,7 +143,7 @@ ask_ok : (ws : List (List ℕ)) → IfSome (ask_of ws) IsWellFormed
 unfolding ask_of
 ask_ok [] = tt
 ask_ok (link ∷ []) = tt
-ask_ok (link ∷ p ∷ []) = and_then (link_of link) _ IsPeerLink IsWellFormed (link_ok link) (λ l hl. and_then (prefix_of 32 p) _ IsPrefix IsWellFormed (prefix_ok p) (λ n hn. (hl, hn)))
+ask_ok (link ∷ p ∷ []) = and_then (link_of link) _ IsPeerLink IsWellFormed (link_ok link) (λ l hl. and_then (prefix_of 32 p) _ IsPrefix IsWellFormed (is_prefix p) (λ n hn. (hl, hn)))
 ask_ok (link ∷ p ∷ x ∷ more) = tt
 
 show_ok : (ws : List (List ℕ)) → IfSome (show_of ws) IsWellFormed
