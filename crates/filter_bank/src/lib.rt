@@ -17,3 +17,6 @@ pub use filter::FilterBank;
 pub use laws::{
     a_filter_keeps_attributes, a_walk_leads, an_edit_keeps_the_rows, exact_without_a_walk,
 };
+
+#[cfg(test)]
+mod tests;
