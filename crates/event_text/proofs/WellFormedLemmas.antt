@@ -1,42 +1,32 @@
 -- Each event that is read is well-formed.
-use Rattle.std.proofs.Common.{◌≡◌, ℕ, ◌+◌, ◌-◌, ◌*◌, ◌/◌, ◌%◌, ◌^◌, ◌<◌, Bool, true, false, not, ◌||◌, List, [], ◌∷◌, length, Option, Some, None, Result, Ok, Err, cond, nat_eq, nat_lt, refl, ap, ◌∙◌, subst, arith, IfSome, codes}
+use Rattle.std.proofs.Common.{◌≡◌, ℕ, ◌^◌, ◌<◌, Bool, true, false, not, ◌||◌, List, [], ◌∷◌, length, Option, Some, None, Result, Ok, Err, cond, nat_eq, refl, subst, arith, IfSome, codes}
 use Rattle.std.proofs.lemmas.Bool.Decides.{nat_tests}
 use Rattle.std.proofs.lemmas.List.{get_or_default}
-use Rattle.std.proofs.lemmas.Nat.{div-add-mod', mod-mul-add, pow_pos}
 use Rattle.std.specs.List.{All, starts_with}
 use Rattle.std.specs.Result.{result_ok}
 use Rattle.std.specs.Str.{bytes_eq}
-use Rattle.std.specs.Str.Parse.{digits_value}
 use Rattle.hex.specs.Hex.{decode_of}
 use Rattle.hex.specs.declared.FromHexError.{FromHexError}
 use Rattle.hex.proofs.HexLemmas.{decode_of-ok}
-use Rattle.addr4.specs.Blocks.{size_of_length}
-use Rattle.addr4.specs.Texts.{is_numeral, value_below, number_below, number_of, addr_of, addr_from_parts, addr_from_octets, network_of, prefix_from_parts, prefix_of, parts}
+use Rattle.addr4.specs.Texts.{number_below, number_of, addr_of, prefix_of, parts}
 use Rattle.journal_text.specs.declared.link.Link.TheVariants as links
 use Rattle.journal_text.specs.declared.link.Task.TheVariants as tasks
 use Rattle.event_text.specs.declared.event.Event.TheVariants as events
-use Rattle.event_text.specs.Words.{◌>>=◌, from_one, two_from_one, is_host, speaker_of, octets_of, link_from, link_of, task_from, task_of}
-use Rattle.event_text.specs.Events.{local_of, peer_of, one_number, bgp_of, work_of, ask_of, show_of, plain_event, named_event, event_of}
+use Rattle.policy_rules.specs.Words.{◌>>=◌}
+use Rattle.policy_rules.specs.Ranges.{AreRules}
+use Rattle.policy_rules.specs.Grammar.{rules_of}
+use Rattle.policy_rules.proofs.RangeLemmas.{and_then, either, below, addr_fits, prefix_ok, rules_ok}
+use Rattle.addr4.specs.Prefixes.{Network, IsMasked}
+use Rattle.event_text.specs.Words.{from_one, two_from_one, is_host, speaker_of, octets_of, link_named, link_from, link_of, task_from, task_of}
+use Rattle.event_text.specs.Events.{local_of, peer_of, one_number, bgp_of, filter_of, work_of, ask_of, show_of, plain_event, named_event, event_of}
 use Rattle.event_text.specs.WellFormed.{IsNumber, IsSpeaker, IsMessage, IsPrefix, IsPeerLink, IsTask, IsWellFormed}
 
 -- ---- steps that may fail
-and_then : {A B : Type 0} (o : Option A) (f : A → Option B) (P : A → Type 0) (Q : B → Type 0) → IfSome o P → ((x : A) → P x → IfSome (f x) Q) → IfSome (o >>= f) Q
-and_then None f P Q h then = tt
-and_then (Some x) f P Q h then = then x h
-
-either : {A : Type 0} (b : Bool) (x y : Option A) (P : A → Type 0) → IfSome x P → IfSome y P → IfSome (cond b x y) P
-either true x y P hx hy = hx
-either false x y P hx hy = hy
-
 told : {A : Type 0} (b : Bool) (x y : Option A) (P : A → Type 0) → (b ≡ true → IfSome x P) → (b ≡ false → IfSome y P) → IfSome (cond b x y) P
 told true x y P hx hy = hx refl
 told false x y P hx hy = hy refl
 
 -- ---- words
-below : (bound : ℕ) (text : List ℕ) → IfSome (number_below bound text) (λ n. n < bound)
-unfolding number_below
-below bound text = either (is_numeral text) (value_below bound text) None (λ n. n < bound) (told (nat_lt (digits_value 10 text) bound) _ None (λ n. n < bound) (λ lt. grind (arith, nat_tests)) (λ _. tt)) tt
-
 from_one_ok : (word : List ℕ) → IfSome (from_one word) IsNumber
 unfolding from_one
 from_one_ok word =
@@ -46,25 +36,6 @@ two_ok : (k s : List ℕ) → IfSome (two_from_one k s) (λ n. IsNumber n.0 × I
 unfolding two_from_one
 two_ok k s =
     and_then (from_one k) _ IsNumber (λ n. IsNumber n.0 × IsNumber n.1) (from_one_ok k) (λ a ha. and_then (from_one s) _ IsNumber (λ n. IsNumber n.0 × IsNumber n.1) (from_one_ok s) (λ b hb. (ha, hb)))
-
-four_fit : (a b c d : Option ℕ) → IfSome a (λ n. n < 256) → IfSome b (λ n. n < 256) → IfSome c (λ n. n < 256) → IfSome d (λ n. n < 256) → IfSome (addr_from_octets a b c d) (λ n. n < 2 ^ 32)
-four_fit None b c d ha hb hc hd = tt
-four_fit (Some a) None c d ha hb hc hd = tt
-four_fit (Some a) (Some b) None d ha hb hc hd = tt
-four_fit (Some a) (Some b) (Some c) None ha hb hc hd = tt
-four_fit (Some a) (Some b) (Some c) (Some d) ha hb hc hd = omega arith
-
-parts_fit : (ps : List (List ℕ)) → IfSome (addr_from_parts ps) (λ n. n < 2 ^ 32)
-parts_fit [] = tt
-parts_fit (a ∷ []) = tt
-parts_fit (a ∷ b ∷ []) = tt
-parts_fit (a ∷ b ∷ c ∷ []) = tt
-parts_fit (a ∷ b ∷ c ∷ d ∷ []) = four_fit (number_below 256 a) (number_below 256 b) (number_below 256 c) (number_below 256 d) (below 256 a) (below 256 b) (below 256 c) (below 256 d)
-parts_fit (a ∷ b ∷ c ∷ d ∷ e ∷ more) = tt
-
-addr_fits : (text : List ℕ) → IfSome (addr_of text) (λ n. n < 2 ^ 32)
-unfolding addr_of
-addr_fits text = parts_fit (parts 46 text)
 
 speaker_told : (a i h : ℕ) → a < 65536 → i < 2 ^ 32 → h < 2 ^ 32 → (x y z : Bool) → nat_eq a 0 ≡ x → nat_eq i 0 ≡ y → is_host h ≡ z → IfSome (cond (x || y || not z) None (Some (record { asn = a; id = i; addr = h }))) IsSpeaker
 speaker_told a i h fa fi fh true y z ea ei eh = tt
@@ -95,30 +66,22 @@ octets_ok digits =
     and_then (result_ok (decode_of digits)) _ (λ bytes. All (λ b. b < 256) bytes) IsMessage (decoded digits (decode_of digits) refl) (λ bytes all.
     told (nat_eq (length bytes) 0) None (Some bytes) IsMessage (λ _. tt) (λ other. record { some = grind (arith, nat_tests); bytes = all }))
 
-masked_again : (a s : ℕ) → 0 < s → (a - a % s) % s ≡ 0
-masked_again a s pos =
-    let e : a - a % s ≡ a / s * s + 0 = omega (arith, div-add-mod' a s) in
-    ap (λ n. n % s) e ∙ mod-mul-add (a / s) s 0 pos
+is_prefix : (text : List ℕ) → IfSome (prefix_of 32 text) IsPrefix
+is_prefix text = as_record (prefix_of 32 text) (prefix_ok text)
+  where
+    as_record : (o : Option Network) → IfSome o (λ p. IsMasked 32 p × (p.address < 2 ^ 32)) → IfSome o IsPrefix
+    as_record None h = tt
+    as_record (Some p) h = record { masked = h.0; fits = h.1 }
 
-network_ok : (a l : Option ℕ) → IfSome a (λ n. n < 2 ^ 32) → IfSome l (λ n. n < 33) → IfSome (network_of 32 a l) IsPrefix
-network_ok None l ha hl = tt
-network_ok (Some a) None ha hl = tt
-network_ok (Some a) (Some l) ha hl = record { masked = (omega arith, masked_again a (size_of_length 32 l) (pow_pos (32 - l))); fits = omega arith }
-
-prefix_parts_ok : (ps : List (List ℕ)) → IfSome (prefix_from_parts 32 ps) IsPrefix
-prefix_parts_ok [] = tt
-prefix_parts_ok (a ∷ []) = tt
-prefix_parts_ok (a ∷ l ∷ []) = network_ok (addr_of a) (number_below 33 l) (addr_fits a) (below 33 l)
-prefix_parts_ok (a ∷ l ∷ x ∷ more) = tt
-
-prefix_ok : (text : List ℕ) → IfSome (prefix_of 32 text) IsPrefix
-unfolding prefix_of
-prefix_ok text = prefix_parts_ok (parts 47 text)
+link_named_ok : (name : List ℕ) (n : ℕ) → IsNumber n → IfSome (link_named name n) IsPeerLink
+link_named_ok name n h =
+    either (bytes_eq name (codes "in")) (Some (links.In n)) _ IsPeerLink h
+    (either (bytes_eq name (codes "filt")) (Some (links.Filt n)) None IsPeerLink h tt)
 
 link_parts_ok : (ps : List (List ℕ)) → IfSome (link_from ps) IsPeerLink
 link_parts_ok [] = tt
 link_parts_ok (a ∷ []) = tt
-link_parts_ok (a ∷ k ∷ []) = either (bytes_eq a (codes "in")) (from_one k >>= λ n. Some (links.In n)) None IsPeerLink (and_then (from_one k) _ IsNumber IsPeerLink (from_one_ok k) (λ n h. h)) tt
+link_parts_ok (a ∷ k ∷ []) = and_then (from_one k) (link_named a) IsNumber IsPeerLink (from_one_ok k) (λ n h. link_named_ok a n h)
 link_parts_ok (a ∷ k ∷ s ∷ []) = either (bytes_eq a (codes "peer")) (two_from_one k s >>= λ n. Some (links.Peer n.0 n.1)) None IsPeerLink (and_then (two_from_one k s) _ (λ n. IsNumber n.0 × IsNumber n.1) IsPeerLink (two_ok k s) (λ n h. h)) tt
 link_parts_ok (a ∷ k ∷ s ∷ x ∷ more) = tt
 
@@ -129,7 +92,7 @@ link_ok word = link_parts_ok (parts 46 word)
 task_parts_ok : (ps : List (List ℕ)) → IfSome (task_from ps) IsTask
 task_parts_ok [] = tt
 task_parts_ok (a ∷ []) = tt
-task_parts_ok (a ∷ k ∷ []) = tt
+task_parts_ok (a ∷ k ∷ []) = either (bytes_eq a (codes "fin")) (from_one k >>= λ n. Some (tasks.Fin n)) None IsTask (and_then (from_one k) _ IsNumber IsTask (from_one_ok k) (λ n h. h)) tt
 task_parts_ok (a ∷ k ∷ s ∷ []) = either (bytes_eq a (codes "del")) (two_from_one k s >>= λ n. Some (tasks.Del n.0 n.1)) None IsTask (and_then (two_from_one k s) _ (λ n. IsNumber n.0 × IsNumber n.1) IsTask (two_ok k s) (λ n h. h)) tt
 task_parts_ok (a ∷ k ∷ s ∷ x ∷ more) = tt
 
@@ -160,6 +123,15 @@ bgp_ok (k ∷ []) = tt
 bgp_ok (k ∷ digits ∷ []) = and_then (from_one k) _ IsNumber IsWellFormed (from_one_ok k) (λ n hn. and_then (octets_of digits) _ IsMessage IsWellFormed (octets_ok digits) (λ octets ho. (hn, ho)))
 bgp_ok (k ∷ digits ∷ x ∷ more) = tt
 
+filter_ok : (ws : List (List ℕ)) → IfSome (filter_of ws) IsWellFormed
+unfolding filter_of
+filter_ok [] = tt
+filter_ok (side ∷ []) = tt
+filter_ok (side ∷ k ∷ ws) =
+    either (bytes_eq side (codes "in")) _ None IsWellFormed
+    (and_then (from_one k) _ IsNumber IsWellFormed (from_one_ok k) (λ n hn. and_then (rules_of false ws) _ (AreRules false) IsWellFormed (rules_ok false ws) (λ rules hr. (hn, hr))))
+    tt
+
 work_ok : (ws : List (List ℕ)) → IfSome (work_of ws) IsWellFormed
 unfolding work_of
 work_ok [] = tt
@@ -171,7 +143,7 @@ ask_ok : (ws : List (List ℕ)) → IfSome (ask_of ws) IsWellFormed
 unfolding ask_of
 ask_ok [] = tt
 ask_ok (link ∷ []) = tt
-ask_ok (link ∷ p ∷ []) = and_then (link_of link) _ IsPeerLink IsWellFormed (link_ok link) (λ l hl. and_then (prefix_of 32 p) _ IsPrefix IsWellFormed (prefix_ok p) (λ n hn. (hl, hn)))
+ask_ok (link ∷ p ∷ []) = and_then (link_of link) _ IsPeerLink IsWellFormed (link_ok link) (λ l hl. and_then (prefix_of 32 p) _ IsPrefix IsWellFormed (is_prefix p) (λ n hn. (hl, hn)))
 ask_ok (link ∷ p ∷ x ∷ more) = tt
 
 show_ok : (ws : List (List ℕ)) → IfSome (show_of ws) IsWellFormed
@@ -195,7 +167,8 @@ unfolding named_event
 named_ok w ws =
     either (bytes_eq w (codes "local")) _ _ IsWellFormed (local_ok ws)
     (either (bytes_eq w (codes "peer")) _ _ IsWellFormed (peer_ok ws)
-    (either (bytes_eq w (codes "bgp")) _ _ IsWellFormed (bgp_ok ws) (plain_ok w ws)))
+    (either (bytes_eq w (codes "bgp")) _ _ IsWellFormed (bgp_ok ws)
+    (either (bytes_eq w (codes "filter")) _ _ IsWellFormed (filter_ok ws) (plain_ok w ws))))
 
 -- the event of a line's words is well-formed
 pub event_ok : (ws : List (List ℕ)) → IfSome (event_of ws) IsWellFormed

@@ -1,8 +1,9 @@
--- Words: the first of a text, and too many.
+-- Too many words, and too many parts of one.
 use Rattle.std.proofs.Common.{◌≡◌, ℕ, ◌<◌, false, List, [], ◌∷◌, length, None, nat_eq, refl, arith}
 use Rattle.std.proofs.lemmas.List.Splits.{length-slice_split}
 use Rattle.addr4.specs.Texts.{parts}
-use Rattle.event_text.specs.Words.{words, speaker_of, link_from, task_from}
+use Rattle.policy_rules.specs.Words.{words}
+use Rattle.event_text.specs.Words.{speaker_of, link_from, task_from}
 use Rattle.event_text.specs.Events.{one_number, bgp_of, work_of, ask_of, show_of}
 
 -- ---- too many words

@@ -5,10 +5,11 @@ use Rattle.std.specs.List.{starts_with}
 use Rattle.addr4.specs.Texts.{number_of, prefix_of}
 use Rattle.journal_text.specs.declared.line.Code.{Code}
 use Rattle.journal_text.specs.declared.line.Code.TheVariants.{E1, E2}
+use Rattle.policy_rules.specs.Words.{◌>>=◌, words}
 use Rattle.policy_rules.specs.Grammar.{rules_of}
 use Rattle.event_text.specs.declared.event.Event.{Event}
 use Rattle.event_text.specs.declared.event.Event.TheVariants.{Nothing, Local, Peer, Up, Down, Bgp, FilterIn, Idle, Work, Ask, Show}
-use Rattle.event_text.specs.Words.{◌>>=◌, is_clean, words, from_one, speaker_of, octets_of, link_of, task_of}
+use Rattle.event_text.specs.Words.{is_clean, from_one, speaker_of, octets_of, link_of, task_of}
 
 -- what follows `local`
 unfoldable pub local_of : List (List ℕ) → Option Event

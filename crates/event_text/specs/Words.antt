@@ -1,8 +1,8 @@
--- The words of a line, and what single words say.
+-- What single words of a line say.
 use Rattle.std.specs.Prelude.{ℕ, Bool, not, ◌&&◌, ◌||◌, if◌then◌else◌, List, [], ◌∷◌, length, nat_le, ◌==◌, ◌/◌, Option, Some, None, codes}
 use Rattle.std.specs.Result.{result_ok}
 use Rattle.std.specs.Str.{bytes_eq}
-use Rattle.std.specs.List.{filter, list_all}
+use Rattle.std.specs.List.{list_all}
 use Rattle.hex.specs.Hex.{decode_of}
 use Rattle.addr4.specs.Texts.{number_of, number_below, addr_of, parts}
 use Rattle.bgp_attr.specs.declared.speaker.Speaker.{Speaker}
@@ -10,26 +10,11 @@ use Rattle.journal_text.specs.declared.link.Link.{Link}
 use Rattle.journal_text.specs.declared.link.Link.TheVariants.{In, Peer, Filt}
 use Rattle.journal_text.specs.declared.link.Task.{Task}
 use Rattle.journal_text.specs.declared.link.Task.TheVariants.{Del, Fin}
-
-infixl 10 ◌>>=◌
-abbrev pub ◌>>=◌ : {A B : Type 0} → Option A → (A → Option B) → Option B
-(Some x) >>= f = f x
-None >>= f = None
+use Rattle.policy_rules.specs.Words.{◌>>=◌}
 
 -- at most 16,384 bytes, all from 32 to 126
 unfoldable pub is_clean : List ℕ → Bool
 is_clean line = nat_le (length line) 16384 && list_all (λ b. nat_le 32 b && nat_le b 126) line
-
-abbrev pub is_word : List ℕ → Bool
-is_word part = not (length part == 0)
-
--- the words among parts
-abbrev pub words_among : List (List ℕ) → List (List ℕ)
-words_among pieces = filter is_word pieces
-
--- what stands between spaces
-unfoldable pub words : List ℕ → List (List ℕ)
-words line = words_among (parts 32 line)
 
 -- a number from 1
 unfoldable pub from_one : List ℕ → Option ℕ

@@ -1,16 +1,16 @@
 //! Reading a line of the event language.
 
 ghost use Rattle.std.specs.Prelude.{◌≡◌, IfOk};
-ghost use Rattle.event_text.specs.Words.{words};
+ghost use Rattle.policy_rules.specs.Words.{words};
 ghost use Rattle.event_text.specs.Events.{local_of, peer_of, one_number, bgp_of, filter_of, work_of, ask_of, show_of, plain_event, named_event, event_of, read_event};
 ghost use Rattle.event_text.specs.WellFormed.{IsWellFormed};
 
 use crate::event::Event;
-use crate::words::{first_word, from_one, is_clean, is_end, link, octets, speaker, task};
+use crate::words::{from_one, is_clean, is_end, link, octets, speaker, task};
 use addr4::{Memory, read_number, read_prefix};
 use bgp_attr::Profile;
 use journal_text::Code;
-use policy_rules::read_rules;
+use policy_rules::{first_word, read_rules};
 use std::alloc::Global;
 
 /// AS numbers have two octets, and errors are handled by RFC 4271, section 6.3.
@@ -21,7 +21,7 @@ const TWO_OCTETS: Profile = Profile {
 
 /// What a line says, without its end of line; or the code with which it is refused. E1 where it has more than 16,384 bytes
 /// or a byte that isn't printable ASCII (32 to 126), E2 where the grammar has no such line. Words stand between spaces, one
-/// or more; spaces may also stand at the start and the end. Memory is taken for the octets of `bgp` only.
+/// or more; spaces may also stand at the start and the end. Memory is taken for the octets of `bgp` and the rules of `filter` only.
 #[tactic(auto, unfolding(crate::specs::Events::read_event))]
 pub fn parse(alloc: Global, line: &[u8]) -> Result<Result<Event, Code>, Memory>
     ensures value { IfOk result (λ event. event ≡ read_event line.now) }

@@ -2,7 +2,7 @@
 
 use super::*;
 use addr4::Memory;
-use journal_text::{Code, Task};
+use journal_text::Code;
 use std::alloc::Global;
 use std::test::Fail;
 
@@ -29,8 +29,9 @@ fn shown(alloc: Global, answer: &Result<Event, Code>) -> Result<String, Fail> {
         Event::Up(k) => format!(in alloc; "up {k}")?,
         Event::Down(k) => format!(in alloc; "down {k}")?,
         Event::Bgp(k, octets) => format!(in alloc; "bgp {k} {:?}", octets.as_slice())?,
+        Event::FilterIn(k, rules) => format!(in alloc; "filter {k} {}", rules.len())?,
         Event::Idle => format!(in alloc; "idle")?,
-        Event::Work(Task::Del(k, s), n) => format!(in alloc; "work {k} {s} {n}")?,
+        Event::Work(task, n) => format!(in alloc; "work {task:?} {n}")?,
         Event::Ask(link, p) => format!(in alloc;
             "ask {link:?} {:08x} {}",
             p.address().number(),
@@ -75,12 +76,24 @@ fn lines_say(rt: HostRuntime) -> Result<(), Fail> {
         ("bgp 1", "E2"),
         ("bgp 1 fff", "E2"),
         ("bgp 1 0g", "E2"),
+        ("filter in 1", "filter 1 0"),
+        ("filter in 1 any pref 200 accept", "filter 1 1"),
+        ("filter in 2 path 65535 reject any accept", "filter 2 2"),
+        ("filter in 1 path 65536 reject", "E2"),
+        ("filter in 0 any accept", "E2"),
+        ("filter out 1 any accept", "E2"),
+        ("filter in 1 any pref", "E2"),
+        ("filter in", "E2"),
         ("idle", "idle"),
         ("idle 1", "E2"),
-        ("work del.1.2 0", "work 1 2 0"),
+        ("work del.1.2 0", "work Del(1, 2) 0"),
         ("work del.1 0", "E2"),
+        ("work fin.1 3", "work Fin(1) 3"),
+        ("work fin.0 3", "E2"),
         ("ask in.1 192.0.2.77/24", "ask In(1) c0000200 24"),
         ("ask in.1 192.0.2.0/33", "E2"),
+        ("ask filt.1 10.1.0.0/16", "ask Filt(1) 0a010000 16"),
+        ("show filt.1", "show Filt(1)"),
         ("show peer.3.4", "show Peer(3, 4)"),
         ("show peer.3.4.5", "E2"),
         ("show best", "E2"),
@@ -131,6 +144,7 @@ fn events_are_refused_in_order(rt: HostRuntime) -> Result<(), Fail> {
     let table = [
         ("peer 65 65001 192.0.2.1 192.0.2.1", Some(Code::E4)),
         ("up 300", Some(Code::E4)),
+        ("filter in 1 any accept", Some(Code::E4)),
         ("idle", Some(Code::E4)),
         ("# local", None),
         ("local 65000 192.0.2.254 192.0.2.254", None),
@@ -144,10 +158,27 @@ fn events_are_refused_in_order(rt: HostRuntime) -> Result<(), Fail> {
         ("up 300", Some(Code::E5)),
         ("bgp 2 ff", Some(Code::E5)),
         ("show peer.2.1", Some(Code::E5)),
+        ("work fin.2 1", Some(Code::E5)),
+        ("ask filt.2 10.1.0.0/16", Some(Code::E5)),
+        ("filter in 2", Some(Code::E5)),
         ("down 64", None),
     ];
     for (line, want) in table {
         assert!(rt; refused(alloc, line, &mut declared)? == want, "at {line}");
+    }
+    for (peer, count, want) in [
+        (1, 64, None),
+        (1, 65, Some(Code::E6)),
+        (2, 65, Some(Code::E5)),
+    ] {
+        let mut line = format!(in alloc; "filter in {peer}")?;
+        for _ in 0..count {
+            line.push_str(" any accept")?;
+        }
+        assert!(rt;
+            refused(alloc, line.as_str(), &mut declared)? == want,
+            "at {line}"
+        );
     }
     for _ in 0..65535 {
         assert!(rt; refused(alloc, "down 1", &mut declared)?.is_none());

@@ -1,14 +1,15 @@
-//! The words of a line, and what single words say.
+//! What single words of a line say.
 
-ghost use Rattle.std.specs.Prelude.{◌≡◌, ◌∷◌, [], ◌^◌, ◌<◌, ◌&&◌, ◌==◌, nat_le, length, option_map, Option, Some, None, MatchOption, IfOk};
+ghost use Rattle.std.specs.Prelude.{◌≡◌, ◌&&◌, ◌==◌, nat_le, length, option_map, IfOk};
 ghost use Rattle.std.specs.List.{list_all};
-ghost use Rattle.addr4.specs.Texts.{parts, parts_after};
-ghost use Rattle.event_text.specs.Words.{is_clean, is_word, words, words_among, from_one, two_from_one, is_host, speaker_of, octets_of, link_of, task_of};
+ghost use Rattle.policy_rules.specs.Words.{words};
+ghost use Rattle.event_text.specs.Words.{is_clean, from_one, two_from_one, is_host, speaker_of, octets_of, link_named, link_of, task_of};
 
 use addr4::{Addr, Memory, first_part, read_addr, read_number, read_number_below};
 use bgp_attr::{Octets, Speaker};
 use hex::FromHexError;
 use journal_text::{Link, Task};
+use policy_rules::first_word;
 use std::alloc::Global;
 
 /// At most 16,384 bytes, all printable ASCII.
@@ -23,21 +24,6 @@ fn all_printable(line: &[u8]) -> bool
     ensures { result ≡ list_all (λ b. nat_le 32 b && nat_le b 126) line.now }
 {
     line.iter().all(|byte| 32 <= *byte && *byte <= 126)
-}
-
-/// The first word, and what follows it. None where there is no word.
-#[tactic(auto, unfolding(crate::specs::Words::words))]
-pub fn first_word(text: &[u8]) -> Option<(&[u8], &[u8])>
-    ensures { MatchOption result (words text.now ≡ []) (λ w. words text.now ≡ w.0.now ∷ words w.1.now) }
-{
-    let (mut word, mut rest) = first_part(text, b' ');
-    while word.is_empty() {
-        (word, rest) = first_part(rest?, b' ');
-    }
-    match rest {
-        Some(rest) => Some((word, rest)),
-        None => Some((word, &[])),
-    }
 }
 
 /// Whether there is no word.

@@ -1,10 +1,12 @@
 -- A printed line is read back.
-use Rattle.std.proofs.Common.{◌≡◌, ℕ, ◌≤◌, ◌&&◌, Bool, true, false, cond, nat_le, nat_eq, ◌||◌, List, [], ◌∷◌, ◌++◌, length, Option, Some, None, option_map, refl, sym, ap, ◌∙◌, arith, codes}
+use Rattle.std.proofs.Common.{◌≡◌, ℕ, ◌^◌, ◌<◌, ◌≤◌, ◌&&◌, Bool, true, false, cond, nat_le, nat_eq, ◌||◌, List, [], ◌∷◌, ◌++◌, length, Option, Some, None, option_map, refl, sym, ap, ◌∙◌, arith, codes}
 use Rattle.std.proofs.lemmas.Bool.Decides.{nat_tests}
 use Rattle.std.proofs.lemmas.List.{append_cancel_right}
 use Rattle.std.specs.List.{AllByRecursion, list_all, join_with_byte, flat_map}
 use Rattle.std.specs.Fmt.{decimal}
 use Rattle.std.specs.Str.{bytes_eq}
+use Rattle.std.specs.Str.Parse.{AllDigits}
+use Rattle.std.proofs.lemmas.Fmt.{decimal_is_IsNumeral}
 use Rattle.hex.specs.Hex.{encode_lower}
 use Rattle.addr4.specs.Prefixes.{Network}
 use Rattle.addr4.specs.Texts.{parts, prefix_text, addr_text, dotted}
@@ -16,10 +18,11 @@ use Rattle.bgp_attr.specs.declared.attrs.Origin.TheVariants.{Igp, Egp, Incomplet
 use Rattle.bgp_attr.specs.declared.attrs.Aggregator.{Aggregator}
 use Rattle.bgp_attr.specs.declared.unrecognized.Unrecognized.{Unrecognized}
 use Rattle.bgp_attr.specs.declared.attrs.Attrs.{Attrs}
+use Rattle.bgp_attr.specs.declared.route.Route.{Route}
 use Rattle.rib_route.specs.declared.Proto.{Proto}
 use Rattle.rib_route.specs.declared.Proto.TheVariants.{Connected, Static, Ospf, Rip}
 use Rattle.journal_text.specs.Names.{IsNameNumber, IsNamed, link_of}
-use Rattle.journal_text.specs.Texts.{origin_number, bracketed, segment_text, path_text, lettered, aggregator_text, unrecognized_text, required_text, optional_text, attrs_text, value_text, proto_text, dot_number, link_text, words_line, answer_text, entry_words, code_text, line_words, line_text}
+use Rattle.journal_text.specs.Texts.{origin_number, bracketed, segment_text, path_text, lettered, aggregator_text, unrecognized_text, required_text, optional_text, attrs_text, sender_number, field_text, known_text, route_text, value_text, proto_text, dot_number, link_text, words_line, answer_text, entry_words, code_text, line_words, line_text}
 use Rattle.journal_text.specs.declared.link.Link.{Link}
 use Rattle.journal_text.specs.declared.link.Link.TheVariants.{In, Peer, Filt, Res, Org, Lost, Low, Dyn, Int, Red, Best, ReadRib, Ebgp, Ibgp, Ext, Fib, Read as ReadLink, Outf, Adv}
 use Rattle.journal_text.specs.declared.value.Value.{Value}
@@ -34,8 +37,8 @@ use Rattle.journal_text.proofs.ReadBack.{link_back}
 use Rattle.journal_check.specs.declared.reading.Reading.{Reading}
 use Rattle.journal_check.specs.declared.reading.Reading.TheVariants.{Skipped, Read, NotALine}
 use Rattle.journal_check.specs.Readings.{TextEntry, ◌>>=◌, is_clean, printed_prefix, value_of, answer_of, entry_of_two, entry_on_two, entry_of_three, entry_on_row, entry_of_four, entry_of_five, entry_from, is_skipped, read_or_not, reading_from, reading_of}
-use Rattle.journal_check.specs.Laws.{IsPrefix, IsNumberIfAny, HasNumbers, HasNumber, HasOctets, HasRanges, IsValue, IsAnswer, IsEntry, IsLine, texts_of, said, PrintedLinesAreReadBack}
-use Rattle.journal_check.proofs.InkLemmas.{IsInk, AreInk, all_append, all_flat, inky, ink_by, ink_decimal, ink_wide, ink_dotted, ink_hex, printable, words_parted, line_passes}
+use Rattle.journal_check.specs.Laws.{IsPrefix, IsNumberIfAny, HasNumbers, HasNumber, HasOctets, HasRanges, HasRouteRanges, IsValue, IsAnswer, IsEntry, IsLine, texts_of, said, PrintedLinesAreReadBack}
+use Rattle.journal_check.proofs.InkLemmas.{IsInk, AreInk, digit_range, all_append, all_flat, inky, ink_by, ink_decimal, ink_wide, ink_dotted, ink_hex, printable, words_parted, line_passes}
 use Rattle.journal_check.proofs.PrefixBack.{ink_addr, ink_prefix, printed_back}
 
 -- ---- the words have no space
@@ -149,8 +152,28 @@ attrs_ink a h =
     both (required_text a ++ optional_text a) (flat_map unrecognized_text a.unrecognized)
     (both (required_text a) (optional_text a) (required_ink a h) (optional_ink a h)) (all_flat HasOctets IsInk unrecognized_text unrecognized_ink a.unrecognized h.unrecognized)
 
+field_ink : (n : ℕ) → n < 2 ^ 32 → AreInk (field_text n)
+field_ink n small = both (decimal n) (58 ∷ []) (ink_decimal n (omega arith)) (ink_by (58 ∷ []) refl)
+
+known_ink : (n : Option ℕ) → IsNumberIfAny n → AreInk (known_text n)
+known_ink None h = ink_by (codes "-:") refl
+known_ink (Some n) h = field_ink n h
+
+route_ink : (r : Route) → HasRouteRanges r → AreInk (route_text r)
+unfolding route_text
+route_ink r h =
+    let number = h.from in
+    let times = h.prepend in
+    let sender = field_ink (sender_number r.from) (omega (arith, number)) in
+    let pref = both (field_text (sender_number r.from)) (field_text r.pref) sender (field_ink r.pref h.pref) in
+    let med = both (field_text (sender_number r.from) ++ field_text r.pref) (known_text r.med) pref (known_ink r.med h.med) in
+    let prepend = both (field_text (sender_number r.from) ++ field_text r.pref ++ known_text r.med) (field_text r.prepend) med (field_ink r.prepend (omega (arith, times))) in
+    let igp = both (field_text (sender_number r.from) ++ field_text r.pref ++ known_text r.med ++ field_text r.prepend) (known_text r.igp) prepend (known_ink r.igp h.igp) in
+    both (field_text (sender_number r.from) ++ field_text r.pref ++ known_text r.med ++ field_text r.prepend ++ known_text r.igp) (attrs_text r.attrs) igp (attrs_ink r.attrs h.attrs)
+
 value_ink : (value : Value) → IsValue value → AreInk (value_text value)
 value_ink (values.Attrs a) h = attrs_ink a h
+value_ink (values.Route r) h = route_ink r h
 
 answer_ink : (row : Option Value) → IsAnswer row → AreInk (answer_text row)
 answer_ink None h = ink_by (codes "-") refl
@@ -158,32 +181,65 @@ answer_ink (Some value) h = value_ink value h
 
 -- ---- values are read back
 
-attrs_first : (a : Attrs) → (rest : List ℕ) × (attrs_text a ≡ 111 ∷ rest)
+-- a first byte, which isn't `-`, and others
+record Begins (text : List ℕ) : Type 0 where
+  first : ℕ
+  others : List ℕ
+  parted : text ≡ first ∷ others
+  no_dash : nat_eq first 45 ≡ false
+
+digits_begin : (cs : List ℕ) → 0 < length cs → AllDigits 10 cs → Begins cs
+digits_begin [] some all = absurd (omega arith)
+digits_begin (c ∷ cs) some all = let low = (digit_range c cs all).0 in record { first = c; others = cs; parted = refl; no_dash = grind (arith, nat_tests) }
+
+decimal_begins : (n : ℕ) → n < 2 ^ 64 → Begins (decimal n)
+decimal_begins n small = let numeral = decimal_is_IsNumeral n small in digits_begin (decimal n) numeral.0.0 numeral.0.1
+
+front_begins : (text more : List ℕ) → Begins text → Begins (text ++ more)
+front_begins text more b = record { first = b.first; others = b.others ++ more; parted = ap (λ t. t ++ more) b.parted; no_dash = b.no_dash }
+
+attrs_begin : (a : Attrs) → Begins (attrs_text a)
 unfolding attrs_text required_text
-attrs_first a = (_, refl)
+attrs_begin a = record { first = 111; others = _; parted = refl; no_dash = refl }
 
-value_first : (value : Value) → (rest : List ℕ) × (value_text value ≡ 111 ∷ rest)
-value_first (values.Attrs a) = attrs_first a
+route_begins : (r : Route) → HasRouteRanges r → Begins (route_text r)
+unfolding route_text
+route_begins r h =
+    let number = h.from in
+    let sender = front_begins (decimal (sender_number r.from)) (58 ∷ []) (decimal_begins (sender_number r.from) (omega (arith, number))) in
+    let pref = front_begins (field_text (sender_number r.from)) (field_text r.pref) sender in
+    let med = front_begins (field_text (sender_number r.from) ++ field_text r.pref) (known_text r.med) pref in
+    let prepend = front_begins (field_text (sender_number r.from) ++ field_text r.pref ++ known_text r.med) (field_text r.prepend) med in
+    let igp = front_begins (field_text (sender_number r.from) ++ field_text r.pref ++ known_text r.med ++ field_text r.prepend) (known_text r.igp) prepend in
+    front_begins (field_text (sender_number r.from) ++ field_text r.pref ++ known_text r.med ++ field_text r.prepend ++ known_text r.igp) (attrs_text r.attrs) igp
 
-value_by : (rest : List ℕ) → value_of (111 ∷ rest) ≡ Some (111 ∷ rest)
+value_begins : (value : Value) → IsValue value → Begins (value_text value)
+value_begins (values.Attrs a) h = attrs_begin a
+value_begins (values.Route r) h = route_begins r h
+
+not_dash : (first : ℕ) (rest : List ℕ) → nat_eq first 45 ≡ false → bytes_eq (first ∷ rest) (codes "-") ≡ false
+not_dash first rest e = ap (λ b. b && bytes_eq rest []) e
+
+value_by : (first : ℕ) (rest : List ℕ) → nat_eq first 45 ≡ false → value_of (first ∷ rest) ≡ Some (first ∷ rest)
 unfolding value_of
-value_by rest =
-    let some : nat_eq (length (111 ∷ rest)) 0 ≡ false = grind (arith, nat_tests) in
-    ap (λ b. cond (b || bytes_eq (111 ∷ rest) (codes "-")) None (Some (111 ∷ rest))) some
+value_by first rest e =
+    let some : nat_eq (length (first ∷ rest)) 0 ≡ false = grind (arith, nat_tests) in
+    let dash = not_dash first rest e in
+    λ i. cond (some i || dash i) None (Some (first ∷ rest))
 
-value_back : (value : Value) → value_of (value_text value) ≡ Some (value_text value)
-value_back value = let f = value_first value in ap value_of f.1 ∙ (value_by f.0 ∙ ap Some (sym f.1))
+value_back : (value : Value) → IsValue value → value_of (value_text value) ≡ Some (value_text value)
+value_back value h = let b = value_begins value h in ap value_of b.parted ∙ (value_by b.first b.others b.no_dash ∙ ap Some (sym b.parted))
 
-answer_by : (rest : List ℕ) → answer_of (111 ∷ rest) ≡ option_map (λ text. Some text) (value_of (111 ∷ rest))
+answer_by : (first : ℕ) (rest : List ℕ) → nat_eq first 45 ≡ false → answer_of (first ∷ rest) ≡ option_map (λ text. Some text) (value_of (first ∷ rest))
 unfolding answer_of
-answer_by rest = refl
+answer_by first rest e = ap (λ b. cond b (Some None) (option_map (λ text. Some text) (value_of (first ∷ rest)))) (not_dash first rest e)
 
-answer_back : (row : Option Value) → answer_of (answer_text row) ≡ Some (option_map value_text row)
+answer_back : (row : Option Value) → IsAnswer row → answer_of (answer_text row) ≡ Some (option_map value_text row)
 unfolding answer_of
-answer_back None = refl
-answer_back (Some value) =
-    let f = value_first value in
-    ap answer_of f.1 ∙ (answer_by f.0 ∙ (ap (option_map (λ text. Some text)) (value_by f.0) ∙ ap (λ text. Some (Some text)) (sym f.1)))
+answer_back None h = refl
+answer_back (Some value) h =
+    let b = value_begins value h in
+    ap answer_of b.parted ∙ (answer_by b.first b.others b.no_dash ∙ (ap (option_map (λ text. Some text)) (value_by b.first b.others b.no_dash) ∙ ap (λ text. Some (Some text)) (sym b.parted)))
 
 -- ---- entries are read back
 
@@ -207,11 +263,11 @@ entry_back : (entry : Entry Value) → IsEntry entry → entry_from (entry_words
 unfolding entry_words entry_from entry_of_two entry_on_two entry_on_row
 entry_back (Begin link) h = ap (option_map (λ l. Begin l)) (link_back link h)
 entry_back (Inherit link from) h = on_two (codes "i") (link_text link) (link_text from) link from (link_back link h.0) (link_back from h.1)
-entry_back (Add link p new) h = on_row (codes "+") (link_text link) (prefix_text p) (value_text new) link p (link_back link h.0) (printed_back p h.1) ∙ ap (option_map (λ v. Add link p v)) (value_back new)
-entry_back (Delete link p old) h = on_row (codes "-") (link_text link) (prefix_text p) (value_text old) link p (link_back link h.0) (printed_back p h.1) ∙ ap (option_map (λ v. Delete link p v)) (value_back old)
+entry_back (Add link p new) h = on_row (codes "+") (link_text link) (prefix_text p) (value_text new) link p (link_back link h.0) (printed_back p h.1) ∙ ap (option_map (λ v. Add link p v)) (value_back new h.2)
+entry_back (Delete link p old) h = on_row (codes "-") (link_text link) (prefix_text p) (value_text old) link p (link_back link h.0) (printed_back p h.1) ∙ ap (option_map (λ v. Delete link p v)) (value_back old h.2)
 entry_back (Replace link p old new) h =
-    on_both (link_text link) (prefix_text p) (value_text old) (value_text new) (value_text old) (value_text new) link p (link_back link h.0) (printed_back p h.1) (value_back old) (value_back new)
-entry_back (Asked link p row) h = on_row (codes "?") (link_text link) (prefix_text p) (answer_text row) link p (link_back link h.0) (printed_back p h.1) ∙ ap (option_map (λ r. Asked link p r)) (answer_back row)
+    on_both (link_text link) (prefix_text p) (value_text old) (value_text new) (value_text old) (value_text new) link p (link_back link h.0) (printed_back p h.1) (value_back old h.2) (value_back new h.3)
+entry_back (Asked link p row) h = on_row (codes "?") (link_text link) (prefix_text p) (answer_text row) link p (link_back link h.0) (printed_back p h.1) ∙ ap (option_map (λ r. Asked link p r)) (answer_back row h.2)
 entry_back (Weld upper lower) h = on_two (codes "w") (link_text upper) (link_text lower) upper lower (link_back upper h.0) (link_back lower h.1)
 entry_back (End link) h = ap (option_map (λ l. End l)) (link_back link h)
 

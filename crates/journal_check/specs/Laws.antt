@@ -6,8 +6,9 @@ use Rattle.bgp_attr.specs.declared.path.Segment.{Segment}
 use Rattle.bgp_attr.specs.declared.attrs.Aggregator.{Aggregator}
 use Rattle.bgp_attr.specs.declared.unrecognized.Unrecognized.{Unrecognized}
 use Rattle.bgp_attr.specs.declared.attrs.Attrs.{Attrs}
+use Rattle.bgp_attr.specs.declared.route.Route.{Route}
 use Rattle.journal_text.specs.Names.{IsNamed}
-use Rattle.journal_text.specs.Texts.{value_text, line_text}
+use Rattle.journal_text.specs.Texts.{sender_number, value_text, line_text}
 use Rattle.journal_text.specs.declared.value.Value.{Value}
 use Rattle.journal_text.specs.declared.value.Value.TheVariants as values
 use Rattle.journal_text.specs.declared.entry.Entry.{Entry}
@@ -50,8 +51,17 @@ pub record HasRanges (a : Attrs) : Type 0 where
   pub aggregator : HasNumber a.aggregator
   pub unrecognized : AllByRecursion HasOctets a.unrecognized
 
+pub record HasRouteRanges (r : Route) : Type 0 where
+  pub attrs : HasRanges r.attrs
+  pub pref : r.pref < 2 ^ 32
+  pub med : IsNumberIfAny r.med
+  pub prepend : r.prepend < 2 ^ 8
+  pub igp : IsNumberIfAny r.igp
+  pub from : sender_number r.from < 2 ^ 8
+
 abbrev pub IsValue : Value → Type 0
 IsValue (values.Attrs a) = HasRanges a
+IsValue (values.Route r) = HasRouteRanges r
 
 abbrev pub IsAnswer : Option Value → Type 0
 IsAnswer None = Unit {0}

@@ -1,4 +1,5 @@
 pub mod GrammarLemmas
+pub mod RangeLemmas
 pub mod PassLemmas
 pub mod KeptLemmas
 pub mod OneResult

@@ -5,6 +5,7 @@ ghost use Rattle.std.specs.Result.{result_ok};
 ghost use Rattle.policy_rules.specs.declared.rule.Action.{Action};
 ghost use Rattle.policy_rules.specs.declared.rule.Condition.{Condition};
 ghost use Rattle.policy_rules.specs.Words.{words};
+ghost use Rattle.policy_rules.specs.Ranges.{AreRules};
 ghost use Rattle.policy_rules.specs.Grammar.{rules_of, behind, behind_prefix, at_action, in_front};
 
 use crate::rule::{Action, Actions, Condition, Rule, Rules};
@@ -19,14 +20,16 @@ use std::alloc::Global;
 pub struct BadRule;
 
 /// Reads a list of rules, perhaps empty, in words parted by spaces, one or more; spaces may also stand at the start and the
-/// end. The profile tells which numbers an AS may have. `BadRule` exactly where the text isn't in the grammar.
+/// end. The profile tells which numbers an AS may have. `BadRule` exactly where the text isn't in the grammar. What was read
+/// is in range: lengths to 32, numbers of 32 bits, `prepend` to 16.
 #[tactic(auto, using(crate::proofs::GrammarLemmas::none_in_front, crate::proofs::GrammarLemmas::one_more_in_front, crate::proofs::GrammarLemmas::all_in_front_of_none), unfolding(crate::specs::Grammar::rules_of))]
 pub fn read_rules(
     alloc: Global,
     profile: Profile,
     text: &[u8],
 ) -> Result<Result<Rules, BadRule>, Memory>
-    ensures { IfOk result (λ rules. result_ok rules ≡ rules_of profile.as4 (words text.now)) }
+    ensures value { IfOk result (λ rules. result_ok rules ≡ rules_of profile.as4 (words text.now)) }
+    ensures ranges { IfOk result (λ read. IfOk read (λ rules. AreRules profile.as4 rules)) }
 {
     let mut rules = Vec::new(alloc);
     let mut rest = text;

@@ -9,7 +9,7 @@ use Rattle.bgp_wire.specs.declared.message.Message.{Message}
 use Rattle.bgp_wire.specs.declared.message.Message.TheVariants as messages
 use Rattle.bgp_wire.specs.Spelling.{notification_octets}
 use Rattle.journal_text.specs.declared.link.Link.{Link}
-use Rattle.journal_text.specs.declared.link.Link.TheVariants.{In}
+use Rattle.journal_text.specs.declared.link.Link.TheVariants.{In, Filt}
 use Rattle.journal_text.specs.declared.link.Task.{Task}
 use Rattle.journal_text.specs.declared.value.Value.{Value}
 use Rattle.journal_text.specs.declared.entry.Entry.TheVariants as entries
@@ -18,15 +18,18 @@ use Rattle.journal_text.specs.declared.line.Line.TheVariants as lines
 use Rattle.journal_text.specs.Walk.{Leads}
 use Rattle.journal_text.specs.Texts.{entries_of}
 use Rattle.event_text.specs.declared.event.Event.{Event}
-use Rattle.event_text.specs.declared.event.Event.TheVariants.{Nothing, Local, Peer, Up, Down, Bgp, Idle, Work, Ask, Show}
+use Rattle.event_text.specs.declared.event.Event.TheVariants.{Nothing, Local, Peer, Up, Down, Bgp, FilterIn, Idle, Work, Ask, Show}
 use Rattle.event_text.specs.declared.declared.DeclaredPeer.{DeclaredPeer}
-use Rattle.event_text.specs.Declarations.{peer_at, with_speaker, with_peer, with_session, without_session}
+use Rattle.policy_rules.specs.declared.rule.Rule.{Rule}
+use Rattle.event_text.specs.Declarations.{peer_at, words_of, with_speaker, with_peer, with_session, without_session}
 use Rattle.in_chain.specs.Chains.{Chained}
-use Rattle.in_chain.specs.Steps.{new_chain, lost, loss_entries, overdue_of}
+use Rattle.in_chain.specs.IncomingSteps.{loss_entries, overdue_of}
+use Rattle.in_chain.specs.Steps.{new_chain, lost, refiltered}
 use Rattle.router_core.specs.Moments.{Moment, chain_at, insert_chain, with_chain, router_links, bound_of}
 use Rattle.router_core.specs.Lives.{LiveAfter, live_state, changes_of, Says}
 use Rattle.router_core.specs.Stands.{IsSettled}
-use Rattle.router_core.specs.Turns.{journal_lines, FeedsAll, Turns, Drains, DrainsAll, deletion_tasks, has_work}
+use Rattle.router_core.specs.Scratch.{IsExact}
+use Rattle.router_core.specs.Turns.{journal_lines, FeedsAll, Turns, Drains, DrainsAll, idle_tasks, has_work}
 
 -- exactly this is said, this is the moment after it, and no turn was taken
 abbrev pub Just : List Line → Moment → List Line → ℕ → Moment → Type 0
@@ -35,8 +38,20 @@ Just these then said turns m' = (said ≡ these) × (turns ≡ 0) × (m' ≡ the
 abbrev pub declared_speaker : Moment → Speaker → Moment
 declared_speaker m words = record { declared = with_speaker m.declared words; chains = m.chains }
 
-abbrev pub declared_peer : Moment → ℕ → Speaker → Moment
-declared_peer m k words = record { declared = with_peer m.declared k words; chains = insert_chain (new_chain k) m.chains }
+abbrev pub declared_peer : Moment → Speaker → ℕ → Speaker → Moment
+declared_peer m me k words =
+    record { declared = with_peer m.declared k words; chains = insert_chain (new_chain me (words_of m.declared.speaker k words)) m.chains }
+
+-- where `local` was declared, the links of a new peer begin
+abbrev pub Declares : Moment → Option Speaker → ℕ → Speaker → List Line → ℕ → Moment → Type 0
+Declares m None k words said turns m' = ⊥
+Declares m (Some me) k words said turns m' =
+    Just (lines.Journal (entries.Begin (In k)) ∷ lines.Journal (entries.Begin (Filt k)) ∷ []) (declared_peer m me k words) said turns m'
+
+-- the incoming filter of peer k has these rules from now on; they hold nowhere yet
+abbrev pub Refilters : ℕ → List Rule → Moment → List Line → ℕ → Moment → Type 0
+Refilters k rules m said turns m' =
+    (chain : Chained) × (chain_at k m.chains ≡ Some chain) × Just [] (with_chain m (refiltered rules chain)) said turns m'
 
 abbrev pub begun : Moment → ℕ → Moment
 begun m k = record { declared = with_session m.declared k; chains = m.chains }
@@ -56,10 +71,10 @@ pub record Loses (k s : ℕ) (m : Moment) (said : List Line) (m' : Moment) : Typ
   pub at : chain_at k m.chains ≡ Some before
   pub first : List Line
   pub room : Moment
-  pub runs : RunsFirst (overdue_of before) m first room
+  pub runs : RunsFirst (overdue_of before.incoming) m first room
   pub chain : Chained
   pub there : chain_at k room.chains ≡ Some chain
-  pub lines : said ≡ first ++ journal_lines (loss_entries s chain)
+  pub lines : said ≡ first ++ journal_lines (loss_entries s chain.incoming)
   pub after : m' ≡ ended (with_chain room (lost s chain)) k
 
 -- a NOTIFICATION is sent, and the session is lost
@@ -112,13 +127,14 @@ pub record Works (task : Task) (n : ℕ) (m : Moment) (said : List Line) (turns 
   pub ended : (turns ≡ n) ⊎ (has_work task m' ≡ false)
   pub lines : said ≡ inner ++ lines.Work turns ∷ []
 
--- every task runs to its end, within the number of turns that is announced
+-- every task runs to its end, within the number of turns that is announced; then all links are what the live state alone asks for
 pub record Idles (m : Moment) (said : List Line) (turns : ℕ) (m' : Moment) : Type 0 where
   pub inner : List Line
-  pub drains : DrainsAll (deletion_tasks m) m inner turns m'
+  pub drains : DrainsAll (idle_tasks m) m inner turns m'
   pub lines : said ≡ lines.Bound (bound_of m) ∷ (inner ++ lines.Idle turns ∷ [])
   pub within : turns ≤ bound_of m
   pub settled : IsSettled m'
+  pub exact : IsExact m'
 
 -- what a declared peer's event does
 abbrev pub ByPeer : (DeclaredPeer → Type 0) → Option DeclaredPeer → Type 0
@@ -128,10 +144,11 @@ ByPeer P (Some p) = P p
 abbrev pub IsBlock : Moment → Event → List Line → ℕ → Moment → Type 0
 IsBlock m Nothing said turns m' = Just [] m said turns m'
 IsBlock m (Local words) said turns m' = Just [] (declared_speaker m words) said turns m'
-IsBlock m (Peer k words) said turns m' = Just (lines.Journal (entries.Begin (In k)) ∷ []) (declared_peer m k words) said turns m'
+IsBlock m (Peer k words) said turns m' = Declares m m.declared.speaker k words said turns m'
 IsBlock m (Up k) said turns m' = ByPeer (λ p. BeginsIf p.up m k said turns m') (peer_at k m.declared.peers)
 IsBlock m (Down k) said turns m' = ByPeer (λ p. EndsIf p.up m k p said turns m') (peer_at k m.declared.peers)
 IsBlock m (Bgp k octets) said turns m' = ByPeer (λ p. HearsIf p.up m k p octets said turns m') (peer_at k m.declared.peers)
+IsBlock m (FilterIn k rules) said turns m' = Refilters k rules m said turns m'
 IsBlock m Idle said turns m' = Idles m said turns m'
 IsBlock m (Work task n) said turns m' = Works task n m said turns m'
 IsBlock m (Ask link p) said turns m' = Just (answer_lines link p (router_links m link)) m said turns m'

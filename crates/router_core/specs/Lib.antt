@@ -1,6 +1,7 @@
 pub mod Moments
 pub mod Lives
 pub mod Stands
+pub mod Scratch
 pub mod Turns
 pub mod Blocks
 pub mod Laws

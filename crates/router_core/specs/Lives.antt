@@ -1,5 +1,5 @@
--- The live state: what the events alone make of the declarations, the sessions and each peer's live routes, whatever work was
--- done or not.
+-- The live state: what the events alone make of the declarations, the sessions, each peer's live routes and its rules, whatever
+-- work was done or not.
 use Rattle.std.specs.Prelude.{◌≡◌, ℕ, ◌==◌, ◌&&◌, ◌||◌, nat_lt, Bool, true, false, not, if◌then◌else◌, List, [], ◌∷◌, ◌++◌, map, filter, slice_index, Option, Some, None, is_some}
 use Rattle.std.specs.FinMap as tables
 use Rattle.std.specs.FinMap.{FinMap}
@@ -12,11 +12,13 @@ use Rattle.bgp_wire.specs.declared.message.Message.TheVariants as messages
 use Rattle.bgp_wire.specs.Updates.{fault}
 use Rattle.bgp_wire.specs.Grammar.{without, Answers}
 use Rattle.event_text.specs.declared.event.Event.{Event}
-use Rattle.event_text.specs.declared.event.Event.TheVariants.{Nothing, Local, Peer, Up, Down, Bgp, Idle, Work, Ask, Show}
+use Rattle.event_text.specs.declared.event.Event.TheVariants.{Nothing, Local, Peer, Up, Down, Bgp, FilterIn, Idle, Work, Ask, Show}
 use Rattle.event_text.specs.declared.declared.DeclaredPeer.{DeclaredPeer}
 use Rattle.event_text.specs.Declarations.{Declaration, no_declaration, peer_at, with_speaker, with_peer, with_session, without_session}
+use Rattle.policy_rules.specs.declared.rule.Rule.{Rule}
+use Rattle.pass_core.specs.Passed.{present}
 use Rattle.in_chain.specs.Chains.{Chained}
-use Rattle.in_chain.specs.Steps.{live_after}
+use Rattle.in_chain.specs.IncomingSteps.{live_after}
 use Rattle.router_core.specs.Moments.{Moment, chain_at}
 
 abbrev pub Routes : Type 0
@@ -25,9 +27,11 @@ Routes = FinMap prefix_cmp Attrs
 pub record LiveState : Type 0 where
   pub declared : Declaration
   pub routes : ℕ → Routes
+  -- of the incoming filters
+  pub rules : ℕ → List Rule
 
 abbrev pub first_live : LiveState
-first_live = record { declared = no_declaration; routes = λ k. tables.empty }
+first_live = record { declared = no_declaration; routes = λ k. tables.empty; rules = λ k. [] }
 
 -- 224.0.0.0 is where the addresses of no host begin
 abbrev pub is_host_prefix : Network → Bool
@@ -55,15 +59,19 @@ with_routes all k routes j = if j == k then routes else all j
 
 -- a session ends, and its routes with it
 abbrev pub ended : LiveState → ℕ → LiveState
-ended l k = record { declared = without_session l.declared k; routes = with_routes l.routes k tables.empty }
+ended l k = record { declared = without_session l.declared k; routes = with_routes l.routes k tables.empty; rules = l.rules }
 
 -- a message came from a peer that is up
 abbrev pub heard : LiveState → ℕ → Message → LiveState
-heard l k (messages.Update u) = record { declared = l.declared; routes = with_routes l.routes k (routes_after (l.routes k) (changes_of u)) }
+heard l k (messages.Update u) = record { declared = l.declared; routes = with_routes l.routes k (routes_after (l.routes k) (changes_of u)); rules = l.rules }
 heard l k messages.Keepalive = l
 heard l k messages.Skip = l
 heard l k messages.Notification = ended l k
 heard l k (messages.Notify n) = ended l k
+
+-- the rules of one peer become these
+abbrev pub with_rules : (ℕ → List Rule) → ℕ → List Rule → ℕ → List Rule
+with_rules all k rules j = if j == k then rules else all j
 
 -- AS numbers have two octets, and errors are handled by RFC 4271, section 6.3
 abbrev pub plain : Profile
@@ -83,7 +91,7 @@ HearsFrom l k (Some p) octets l' = HearsIfUp l k p octets p.up l'
 
 abbrev pub begun_if_down : LiveState → ℕ → Option DeclaredPeer → LiveState
 begun_if_down l k None = l
-begun_if_down l k (Some p) = if p.up then l else record { declared = with_session l.declared k; routes = l.routes }
+begun_if_down l k (Some p) = if p.up then l else record { declared = with_session l.declared k; routes = l.routes; rules = l.rules }
 
 abbrev pub ended_if_up : LiveState → ℕ → Option DeclaredPeer → LiveState
 ended_if_up l k None = l
@@ -92,11 +100,12 @@ ended_if_up l k (Some p) = if p.up then ended l k else l
 -- the live state after an event
 abbrev pub LiveAfter : LiveState → Event → LiveState → Type 0
 LiveAfter l Nothing l' = l' ≡ l
-LiveAfter l (Local words) l' = l' ≡ record { declared = with_speaker l.declared words; routes = l.routes }
-LiveAfter l (Peer k words) l' = l' ≡ record { declared = with_peer l.declared k words; routes = l.routes }
+LiveAfter l (Local words) l' = l' ≡ record { declared = with_speaker l.declared words; routes = l.routes; rules = l.rules }
+LiveAfter l (Peer k words) l' = l' ≡ record { declared = with_peer l.declared k words; routes = l.routes; rules = l.rules }
 LiveAfter l (Up k) l' = l' ≡ begun_if_down l k (peer_at k l.declared.peers)
 LiveAfter l (Down k) l' = l' ≡ ended_if_up l k (peer_at k l.declared.peers)
 LiveAfter l (Bgp k octets) l' = HearsFrom l k (peer_at k l.declared.peers) octets l'
+LiveAfter l (FilterIn k rules) l' = l' ≡ record { declared = l.declared; routes = l.routes; rules = with_rules l.rules k rules }
 LiveAfter l Idle l' = l' ≡ l
 LiveAfter l (Work task n) l' = l' ≡ l
 LiveAfter l (Ask link p) l' = l' ≡ l
@@ -105,10 +114,15 @@ LiveAfter l (Show link) l' = l' ≡ l
 -- what is live in a chain
 abbrev pub routes_of : Option Chained → Routes
 routes_of None = tables.empty
-routes_of (Some c) = c.live
+routes_of (Some c) = c.incoming.live
+
+-- the latest rules of a chain's filter
+abbrev pub rules_of : Option Chained → List Rule
+rules_of None = []
+rules_of (Some c) = present c.filter
 
 abbrev pub live_state : Moment → LiveState
-live_state m = record { declared = m.declared; routes = λ k. routes_of (chain_at k m.chains) }
+live_state m = record { declared = m.declared; routes = λ k. routes_of (chain_at k m.chains); rules = λ k. rules_of (chain_at k m.chains) }
 
 -- whether a message ends the session
 abbrev pub is_ending : Message → Bool
@@ -145,6 +159,7 @@ declared_after d (Peer k words) = with_peer d k words
 declared_after d (Up k) = declared_up d k (peer_at k d.peers)
 declared_after d (Down k) = declared_down d k (peer_at k d.peers)
 declared_after d (Bgp k octets) = declared_heard d k octets (peer_at k d.peers)
+declared_after d (FilterIn k rules) = d
 declared_after d Idle = d
 declared_after d (Work task n) = d
 declared_after d (Ask link p) = d

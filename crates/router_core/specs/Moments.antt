@@ -7,7 +7,7 @@ use Rattle.journal_text.specs.Links.{owner_of}
 use Rattle.journal_text.specs.Walk.{Links}
 use Rattle.journal_text.specs.Journals.{Journaled, with_lines, flushed}
 use Rattle.event_text.specs.Declarations.{Declaration, no_declaration}
-use Rattle.in_chain.specs.Chains.{Chained, links_of, row_count}
+use Rattle.in_chain.specs.Chains.{Chained, links_of, row_count, turns_left}
 
 -- what was declared, and each peer's chain, by ascending number
 pub record Moment : Type 0 where
@@ -37,11 +37,11 @@ first_moment = record { declared = no_declaration; chains = [] }
 -- the chain of a peer
 abbrev pub chain_at : ℕ → List Chained → Option Chained
 chain_at k [] = None
-chain_at k (c ∷ cs) = if c.number == k then Some c else chain_at k cs
+chain_at k (c ∷ cs) = if c.incoming.number == k then Some c else chain_at k cs
 
 -- this chain in the place of the one of its number
 abbrev pub put_one : Chained → Chained → Chained
-put_one c d = if d.number == c.number then c else d
+put_one c d = if d.incoming.number == c.incoming.number then c else d
 
 abbrev pub put_chain : Chained → List Chained → List Chained
 put_chain c cs = map (put_one c) cs
@@ -49,7 +49,7 @@ put_chain c cs = map (put_one c) cs
 -- one chain more, before the first of a greater number
 abbrev pub insert_chain : Chained → List Chained → List Chained
 insert_chain c [] = c ∷ []
-insert_chain c (d ∷ ds) = if nat_lt c.number d.number then c ∷ d ∷ ds else d ∷ insert_chain c ds
+insert_chain c (d ∷ ds) = if nat_lt c.incoming.number d.incoming.number then c ∷ d ∷ ds else d ∷ insert_chain c ds
 
 abbrev pub with_chain : Moment → Chained → Moment
 with_chain m c = record { declared = m.declared; chains = put_chain c m.chains }
@@ -66,6 +66,11 @@ router_links m link = links_by (chain_at (owner_of link) m.chains) link
 abbrev pub rows_in : List Chained → ℕ
 rows_in [] = 0
 rows_in (c ∷ cs) = row_count c + rows_in cs
+
+-- how many turns the walks of all filters take
+abbrev pub left_in : List Chained → ℕ
+left_in [] = 0
+left_in (c ∷ cs) = turns_left c + left_in cs
 
 -- how many turns an idle takes at most
 abbrev pub bound_of : Moment → ℕ

@@ -4,7 +4,8 @@ use Rattle.std.specs.List.{AllByRecursion}
 use Rattle.std.specs.FinMap as tables
 use Rattle.event_text.specs.declared.declared.DeclaredPeer.{DeclaredPeer}
 use Rattle.event_text.specs.Declarations.{peer_at}
-use Rattle.in_chain.specs.Chains.{Chained, IsChain, NoneEmpty}
+use Rattle.in_chain.specs.Incomings.{NoneEmpty}
+use Rattle.in_chain.specs.Chains.{Chained, IsChain}
 use Rattle.router_core.specs.Moments.{Moment, chain_at}
 
 -- a session was lost before this one: before the present one where the peer is up
@@ -14,15 +15,16 @@ IsEarlier p false session = session ≤ p.session
 
 abbrev pub IsSilent : Bool → Chained → Type 0
 IsSilent true c = Unit {0}
-IsSilent false c = c.live ≡ tables.empty
+IsSilent false c = c.incoming.live ≡ tables.empty
 
--- A peer and its chain: its lost tables are apart from each other and from the live routes, none is empty, at most 16 stand,
--- each of an earlier session; where the peer is down nothing is live.
+-- A peer and its chain, which has the peer's words: its lost tables are apart from each other and from the live routes, none is
+-- empty, at most 16 stand, each of an earlier session; where the peer is down nothing is live.
 pub record PeerStands (p : DeclaredPeer) (c : Chained) : Type 0 where
+  pub words : c.peer ≡ p.words
   pub chain : IsChain c
-  pub full : NoneEmpty c.deletions
-  pub few : length c.deletions ≤ 16
-  pub earlier : AllByRecursion (λ d. IsEarlier p p.up d.number) c.deletions
+  pub full : NoneEmpty c.incoming.deletions
+  pub few : length c.incoming.deletions ≤ 16
+  pub earlier : AllByRecursion (λ d. IsEarlier p p.up d.number) c.incoming.deletions
   pub silent : IsSilent p.up c
 
 -- exactly the declared peers have chains
@@ -34,12 +36,20 @@ StandsAt p c = ⊥
 -- the chains stand by ascending number
 abbrev pub AreInOrder : List Chained → Type 0
 AreInOrder [] = Unit {0}
-AreInOrder (c ∷ cs) = AllByRecursion (λ d. c.number < d.number) cs × AreInOrder cs
+AreInOrder (c ∷ cs) = AllByRecursion (λ d. c.incoming.number < d.incoming.number) cs × AreInOrder cs
 
+-- The chains have the words of this speaker; there are as many as peers.
 pub record Stands (m : Moment) : Type 0 where
   pub order : AreInOrder m.chains
   pub peers : (k : ℕ) → StandsAt (peer_at k m.declared.peers) (chain_at k m.chains)
+  pub speaker : AllByRecursion (λ c. m.declared.speaker ≡ Some c.me) m.chains
+  pub count : length m.chains ≡ length m.declared.peers
 
--- no deletion stage stands, so `in.K` of each peer has exactly its live routes
+-- no deletion stage stands in the chain, and no walk is on
+pub record ChainIsSettled (c : Chained) : Type 0 where
+  pub deletions : c.incoming.deletions ≡ []
+  pub walk : c.filter.walk ≡ None
+
+-- No task has work.
 abbrev pub IsSettled : Moment → Type 0
-IsSettled m = AllByRecursion (λ c. c.deletions ≡ []) m.chains
+IsSettled m = AllByRecursion ChainIsSettled m.chains

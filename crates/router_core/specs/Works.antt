@@ -3,12 +3,14 @@ use Rattle.std.specs.Prelude.{◌≡◌, ℕ, ◌+◌, ◌≤◌, ◌<◌, ◌�
 use Rattle.std.specs.List.{AllByRecursion}
 use Rattle.addr4.specs.Prefixes.{Network}
 use Rattle.bgp_attr.specs.declared.attrs.Attrs.{Attrs}
+use Rattle.bgp_attr.specs.declared.route.Route.{Route}
 use Rattle.link_change.specs.Changes.{IsSent}
 use Rattle.link_change.specs.declared.change.Change.{Change}
 use Rattle.link_change.specs.declared.turn.Turn.{Turn}
 use Rattle.link_change.specs.declared.turn.Turn.TheVariants as turns
 use Rattle.journal_text.specs.declared.link.Link.TheVariants.{In}
 use Rattle.journal_text.specs.declared.link.Task.{Task}
+use Rattle.journal_text.specs.declared.link.Task.TheVariants as tasks
 use Rattle.journal_text.specs.declared.value.Value.{Value}
 use Rattle.journal_text.specs.declared.entry.Entry.{Entry}
 use Rattle.journal_text.specs.declared.line.Line.{Line}
@@ -17,15 +19,19 @@ use Rattle.journal_text.specs.Texts.{entries_of}
 use Rattle.journal_text.specs.Journals.{Journaled, with_lines}
 use Rattle.event_text.specs.declared.declared.DeclaredPeer.{DeclaredPeer}
 use Rattle.event_text.specs.Declarations.{peer_at}
-use Rattle.in_chain.specs.Chains.{Chained, in_rows, IsChain, NoneEmpty}
-use Rattle.in_chain.specs.Falls.{Falls, LeadsChain, way_down}
-use Rattle.in_chain.specs.Steps.{fed, welded, lost, loss_entries, overdue_of, table_of, Sweeps}
+use Rattle.in_chain.specs.Incomings.{NoneEmpty}
+use Rattle.in_chain.specs.Chains.{Chained, filt_rows, IsChain, row_count, turns_left}
+use Rattle.in_chain.specs.Falls.{Falls, LeadsChain, way_of_feed}
+use Rattle.in_chain.specs.IncomingSteps.{loss_entries, overdue_of}
+use Rattle.in_chain.specs.Steps.{fed, welded, lost, has_turn, Turned}
 use Rattle.router_core.specs.declared.router.Done.{Done}
 use Rattle.router_core.specs.declared.router.Done.TheVariants.{Nothing, Taken}
-use Rattle.router_core.specs.Moments.{Moment, chain_at, put_chain, with_chain, router_links, rows_in, bound_of, Gives}
+use Rattle.router_core.specs.Moments.{Moment, chain_at, put_chain, with_chain, router_links, rows_in, left_in, bound_of, Gives}
 use Rattle.router_core.specs.Lives.{LiveState, live_state, with_routes, routes_after, heard, ended}
 use Rattle.router_core.specs.Stands.{Stands, IsSettled}
-use Rattle.router_core.specs.Turns.{journal_lines, fall_lines, FeedsAll, IsTurn, Turns, DrainsAll, has_table, has_work, deletion_tasks}
+use Rattle.router_core.specs.Scratch.{IsExact}
+use Rattle.router_core.specs.declared.router.Phase.{Phase}
+use Rattle.router_core.specs.Turns.{journal_lines, fall_lines, FeedsAll, peer_of, IsTurn, Turns, DrainsAll, has_turn_in, has_work, phase_tasks, phase_bound, IsOver, idle_tasks}
 use Rattle.router_core.specs.Blocks.{RunsFirst, Loses, Hears, Idles, Acts, ended as ended_moment}
 use Rattle.router_core.specs.declared.router.Idle.{Idle}
 use Rattle.event_text.specs.declared.event.Event.{Event}
@@ -37,35 +43,47 @@ Pushes P before now = (lines : List Line) × (now ≡ with_lines before lines) �
 
 -- what any work on a chain keeps
 pub record StepsChain (c : Chained) (said : List Line) (c' : Chained) : Type 0 where
-  pub number : c'.number ≡ c.number
+  pub number : c'.incoming.number ≡ c.incoming.number
+  pub words : (c'.me ≡ c.me) × (c'.peer ≡ c.peer)
   pub leads : LeadsChain c (entries_of said) c'
   pub chain : IsChain c'
-  pub full : NoneEmpty c'.deletions
+  pub full : NoneEmpty c'.incoming.deletions
 
 -- one prefix is announced or withdrawn in a chain
 pub record FeedsChain (p : Network) (row : Option Attrs) (c c' : Chained) (said : List Line) : Type 0 where
-  pub sent : Option (Change Attrs)
+  pub sent : Option (Change Route)
   pub entries : List (Entry Value)
-  pub falls : Falls c (fed c p row) p (way_down c.number (In c.number) c.deletions) sent entries
-  pub rows : IsSent (in_rows c) (in_rows (fed c p row)) p sent
+  pub falls : Falls c (fed c p row) p (way_of_feed c.incoming) sent entries
+  pub rows : IsSent (filt_rows c) (filt_rows (fed c p row)) p sent
   pub lines : said ≡ fall_lines (fed c p row) entries
   pub after : c' ≡ welded (fed c p row)
   pub step : StepsChain c said c'
 
--- one turn of the stage of a session in its chain
-pub record DeletesChain (s : ℕ) (c c' : Chained) (said : List Line) : Type 0 where
-  pub less : Chained
-  pub sent : Option (Change Attrs)
+-- so many turns of a task bring its end so much nearer: fewer rows stand, or fewer turns of the walks are left
+abbrev pub Nears : Task → ℕ → Moment → Moment → Type 0
+Nears (tasks.Del k s) n m m' = rows_in m'.chains + n ≡ rows_in m.chains
+Nears (tasks.Fin k) n m m' = (rows_in m'.chains ≡ rows_in m.chains) × (left_in m'.chains + n ≤ left_in m.chains)
+
+-- the same of one turn, in the chain
+abbrev pub NearsChain : Task → Chained → Chained → Type 0
+NearsChain (tasks.Del k s) c c' = row_count c' + 1 ≡ row_count c
+NearsChain (tasks.Fin k) c c' = (row_count c' ≡ row_count c) × (turns_left c' < turns_left c)
+
+-- one turn of a task in its chain
+pub record TakesChain (task : Task) (c c' : Chained) (said : List Line) : Type 0 where
+  pub turned_chain : Chained
+  pub sent : Option (Change Route)
   pub entries : List (Entry Value)
-  pub sweeps : Sweeps c less s sent entries
-  pub lines : said ≡ fall_lines less entries
-  pub after : c' ≡ welded less
+  pub turned : Turned c turned_chain task sent entries
+  pub lines : said ≡ fall_lines turned_chain entries
+  pub after : c' ≡ welded turned_chain
   pub step : StepsChain c said c'
+  pub nearer : NearsChain task c c'
 
 -- what a turn in a chain came to
-abbrev pub TurnsChain : ℕ → Chained → Chained → Journaled → Journaled → Done → Type 0
-TurnsChain s c c' before now Nothing = (table_of s c.deletions ≡ None) × ((c' ≡ c) × (now ≡ before))
-TurnsChain s c c' before now Taken = Pushes (DeletesChain s c c') before now
+abbrev pub TurnsChain : Task → Chained → Chained → Journaled → Journaled → Done → Type 0
+TurnsChain task c c' before now Nothing = (has_turn c task ≡ false) × ((c' ≡ c) × (now ≡ before))
+TurnsChain task c c' before now Taken = Pushes (TakesChain task c c') before now
 
 abbrev pub is_nothing : {R : Type 0} → Turn R → Bool
 is_nothing turns.Nothing = true
@@ -79,16 +97,16 @@ IsPlace k cs (Some i) = (i < length cs) × ((x : Chained) → chain_at k cs ≡ 
 
 -- the chain of this number may take a step
 abbrev pub IsSoundAt : ℕ → List Chained → Type 0
-IsSoundAt k cs = (c : Chained) → chain_at k cs ≡ Some c → IsChain c × NoneEmpty c.deletions
+IsSoundAt k cs = (c : Chained) → chain_at k cs ≡ Some c → IsChain c × NoneEmpty c.incoming.deletions
 
 -- the chain of this number took a step, and nothing else changed
 abbrev pub Steps : (Chained → Chained → List Line → Type 0) → ℕ → List Chained → List Chained → Journaled → Journaled → Type 0
 Steps P k cs cs' before now = (c c' : Chained) × (chain_at k cs ≡ Some c) × (cs' ≡ put_chain c' cs) × Pushes (P c c') before now
 
--- what a turn of the stage of session s of peer k came to
-abbrev pub TurnsAt : ℕ → ℕ → List Chained → List Chained → Journaled → Journaled → Done → Type 0
-TurnsAt k s cs cs' before now Nothing = (has_table s (chain_at k cs) ≡ false) × (cs' ≡ cs) × (now ≡ before)
-TurnsAt k s cs cs' before now Taken = Steps (DeletesChain s) k cs cs' before now
+-- what a turn of a task came to, among the chains
+abbrev pub TurnsAt : Task → List Chained → List Chained → Journaled → Journaled → Done → Type 0
+TurnsAt task cs cs' before now Nothing = (has_turn_in task (chain_at (peer_of task) cs) ≡ false) × (cs' ≡ cs) × (now ≡ before)
+TurnsAt task cs cs' before now Taken = Steps (TakesChain task) (peer_of task) cs cs' before now
 
 -- Background work: by the rules of the journal, and what is live stays.
 pub record IsWork (m : Moment) (said : List Line) (m' : Moment) : Type 0 where
@@ -96,22 +114,22 @@ pub record IsWork (m : Moment) (said : List Line) (m' : Moment) : Type 0 where
   pub live : live_state m' ≡ live_state m
   pub stands : Stands m'
 
--- one turn of a task, with one row less
+-- one turn of a task
 pub record IsUnit (task : Task) (m m' : Moment) (said : List Line) : Type 0 where
   pub turn : IsTurn task m said m'
   pub work : IsWork m said m'
-  pub fewer : rows_in m'.chains + 1 ≡ rows_in m.chains
+  pub nearer : Nears task 1 m m'
 
 -- what a turn of a task came to; where there is no work, nothing changes
 abbrev pub Comes : Task → Moment → Moment → Journaled → Journaled → Done → Type 0
 Comes task m m' before now Nothing = (has_work task m ≡ false) × (m' ≡ m) × (now ≡ before)
 Comes task m m' before now Taken = Gives (IsUnit task m m') before now
 
--- so many turns of a task, each with one row less
+-- so many turns of a task
 pub record HaveRun (task : Task) (m : Moment) (turns : ℕ) (m' : Moment) (said : List Line) : Type 0 where
   pub taken : Turns turns task m said m'
   pub work : IsWork m said m'
-  pub fewer : rows_in m'.chains + turns ≡ rows_in m.chains
+  pub nearer : Nears task turns m m'
 
 -- at most n turns of a task, and fewer only where it then has no work
 pub record AreTurns (task : Task) (n : ℕ) (m : Moment) (turns : ℕ) (m' : Moment) (said : List Line) : Type 0 where
@@ -124,12 +142,23 @@ pub record HasDrained (task : Task) (m : Moment) (turns : ℕ) (m' : Moment) (sa
   pub run : HaveRun task m turns m' said
   pub ended : has_work task m' ≡ false
 
--- every deletion stage has run to its end
-pub record HaveDrained (m : Moment) (turns : ℕ) (m' : Moment) (said : List Line) : Type 0 where
-  pub drains : DrainsAll (deletion_tasks m) m said turns m'
+-- A phase of an idle: each of its tasks has run to its end. It leaves no more rows than there were, begins no walk and no
+-- deletion stage.
+pub record HaveDrained (phase : Phase) (m : Moment) (turns : ℕ) (m' : Moment) (said : List Line) : Type 0 where
+  pub drains : DrainsAll (phase_tasks phase m) m said turns m'
   pub work : IsWork m said m'
-  pub fewer : rows_in m'.chains + turns ≡ rows_in m.chains
+  pub most : turns ≤ phase_bound phase m
+  pub over : IsOver phase m'
+  pub rows : rows_in m'.chains ≤ rows_in m.chains
+  pub keeps : (earlier : Phase) → IsOver earlier m → IsOver earlier m'
+
+-- every task has run to its end
+pub record AllHaveDrained (m : Moment) (turns : ℕ) (m' : Moment) (said : List Line) : Type 0 where
+  pub drains : DrainsAll (idle_tasks m) m said turns m'
+  pub work : IsWork m said m'
+  pub most : turns ≤ bound_of m
   pub settled : IsSettled m'
+  pub exact : IsExact m'
 
 -- the first of some tasks
 abbrev pub first_task : List Task → Option Task
@@ -142,7 +171,7 @@ IsUpAt k m = (p : DeclaredPeer) × (peer_at k m.declared.peers ≡ Some p) × (p
 
 -- the live state where these changes were made to a peer's routes
 abbrev pub live_fed : LiveState → ℕ → List (Network × Option Attrs) → LiveState
-live_fed l k changes = record { declared = l.declared; routes = with_routes l.routes k (routes_after (l.routes k) changes) }
+live_fed l k changes = record { declared = l.declared; routes = with_routes l.routes k (routes_after (l.routes k) changes); rules = l.rules }
 
 -- The prefixes of an UPDATE from peer k were announced and withdrawn, one after the other.
 pub record HaveFed (k : ℕ) (changes : List (Network × Option Attrs)) (m m' : Moment) (said : List Line) : Type 0 where
@@ -154,9 +183,9 @@ pub record HaveFed (k : ℕ) (changes : List (Network × Option Attrs)) (m m' : 
 -- a session of this number may be lost in a chain
 pub record MayLose (s : ℕ) (c : Chained) : Type 0 where
   pub chain : IsChain c
-  pub full : NoneEmpty c.deletions
-  pub room : overdue_of c ≡ None
-  pub later : AllByRecursion (λ d. d.number < s) c.deletions
+  pub full : NoneEmpty c.incoming.deletions
+  pub room : overdue_of c.incoming ≡ None
+  pub later : AllByRecursion (λ d. d.number < s) c.incoming.deletions
 
 abbrev pub MayLoseAt : ℕ → ℕ → List Chained → Type 0
 MayLoseAt k s cs = (c : Chained) → chain_at k cs ≡ Some c → MayLose s c
@@ -164,16 +193,16 @@ MayLoseAt k s cs = (c : Chained) → chain_at k cs ≡ Some c → MayLose s c
 -- a session is lost in a chain
 pub record LosesChain (s : ℕ) (c c' : Chained) (said : List Line) : Type 0 where
   pub is : c' ≡ lost s c
-  pub lines : said ≡ journal_lines (loss_entries s c)
+  pub lines : said ≡ journal_lines (loss_entries s c.incoming)
   pub step : StepsChain c said c'
 
 -- There is room for the loss of a session in the chain of peer k.
 pub record HasRoom (k : ℕ) (m room : Moment) (said : List Line) : Type 0 where
   pub before : Chained
   pub at : chain_at k m.chains ≡ Some before
-  pub runs : RunsFirst (overdue_of before) m said room
+  pub runs : RunsFirst (overdue_of before.incoming) m said room
   pub work : IsWork m said room
-  pub free : (c : Chained) → chain_at k room.chains ≡ Some c → overdue_of c ≡ None
+  pub free : (c : Chained) → chain_at k room.chains ≡ Some c → overdue_of c.incoming ≡ None
 
 -- session s of the peer is up
 abbrev pub IsSession : ℕ → ℕ → Moment → Type 0
@@ -190,7 +219,7 @@ pub record HasLost (k s : ℕ) (m m' : Moment) (said : List Line) : Type 0 where
 pub record Ends (k s : ℕ) (m m' : Moment) (said : List Line) : Type 0 where
   pub chain : Chained
   pub there : chain_at k m.chains ≡ Some chain
-  pub lines : said ≡ journal_lines (loss_entries s chain)
+  pub lines : said ≡ journal_lines (loss_entries s chain.incoming)
   pub after : m' ≡ ended_moment (with_chain m (lost s chain)) k
   pub leads : Leads (router_links m) (entries_of said) (router_links m')
   pub live : live_state m' ≡ ended (live_state m) k

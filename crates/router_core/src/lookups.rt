@@ -27,7 +27,7 @@ fn chain_for(chains: &[Chain], link: Link) -> Option<&Chain>
     ensures { links_by (option_copied result) link ≡ links_among chains.now link }
 {
     match link {
-        Link::In(k) | Link::Peer(k, _) => chain_of(chains, k),
+        Link::In(k) | Link::Peer(k, _) | Link::Filt(k) => chain_of(chains, k),
         _ => None,
     }
 }

@@ -1,7 +1,9 @@
 //! What was declared, and the peers' chains.
 
 ghost use Rattle.std.specs.Prelude.{◌≡◌, ◌+◌, ◌*◌, IfOk};
+ghost use Rattle.router_core.specs.declared.router.Phase.TheVariants as phases;
 ghost use Rattle.router_core.specs.Moments.{first_moment, rows_in, bound_of};
+ghost use Rattle.router_core.specs.Turns.{phase_bound};
 
 use addr4::Memory;
 use event_text::Declared;
@@ -23,11 +25,16 @@ impl Model for Network {
     ghost use Rattle.event_text.specs.contracts.declared.DeclaredPeer as peer_row;
     ghost use Rattle.bgp_attr.specs.contracts.speaker.Speaker as speaker_row;
     ghost use Rattle.bgp_attr.specs.contracts.attrs.Attrs as attrs_row;
+    ghost use Rattle.std.specs.Coded.{coded_list};
+    ghost use Rattle.bgp_attr.specs.contracts.speaker.Neighbour as neighbour_row;
+    ghost use Rattle.policy_rules.specs.contracts.rule.Rule as rule_row;
+    ghost use Rattle.pass_core.specs.Passed.{passed_code};
+    ghost use Rattle.in_chain.specs.Incomings.{incoming_code};
     ghost use Rattle.in_chain.specs.Chains.{chained_code};
 
     ghost Value = { Moment };
 
-    ghost coded = { moment_code (declaration_code speaker_row.the_row.coded peer_row.the_row.coded) (chained_code attrs_row.the_row.coded) };
+    ghost coded = { moment_code (declaration_code speaker_row.the_row.coded peer_row.the_row.coded) (chained_code (incoming_code attrs_row.the_row.coded) speaker_row.the_row.coded neighbour_row.the_row.coded (passed_code (coded_list rule_row.the_row.coded))) };
 
     ghost view = { λ n. record { declared = n.declared; chains = n.chains.items } };
 }
@@ -50,6 +57,15 @@ impl Network {
     {
         let rows = count_rows(self.chains.as_slice())?;
         Ok(rows)
+    }
+
+    /// How many turns the walks of all filters take at most: two for each row of `in.K` and two for each peer.
+    pub(crate) fn walk_bound(&self) -> Result<u128, Memory>
+        ensures { IfOk result (λ bound. bound ≡ phase_bound phases.Fin self.now) }
+    {
+        let rows = count_rows(self.chains.as_slice())?;
+        let bound = times(2, plus(rows, self.chains.len() as u128)?)?;
+        Ok(bound)
     }
 
     /// How many turns an idle takes at most.

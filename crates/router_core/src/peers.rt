@@ -3,9 +3,11 @@
 ghost use Rattle.std.specs.Prelude.{◌≡◌, ◌≤◌, [], length, not, OnOk, IfOk, IsSome, Some, None};
 ghost use Rattle.event_text.specs.declared.event.Event.TheVariants as events;
 ghost use Rattle.event_text.specs.Declarations.{peer_at, refusal};
-ghost use Rattle.router_core.specs.Moments.{chain_at, insert_chain, router_links};
+ghost use Rattle.in_chain.specs.Chains.{Chained};
+ghost use Rattle.in_chain.specs.Steps.{refiltered};
+ghost use Rattle.router_core.specs.Moments.{chain_at, insert_chain, put_chain, router_links};
 ghost use Rattle.router_core.specs.Lives.{Says};
-ghost use Rattle.router_core.specs.Stands.{Stands};
+ghost use Rattle.router_core.specs.Stands.{AreInOrder, Stands};
 ghost use Rattle.router_core.specs.Blocks.{Acts};
 ghost use Rattle.router_core.specs.Lookups.{IsCountOf};
 ghost use Rattle.router_core.specs.Peers.{is_up, place_in, HasShortNotice};
@@ -13,12 +15,14 @@ ghost use Rattle.router_core.specs.Works.{Pushes};
 
 use crate::lookups;
 use crate::network::Network;
+use crate::turns::place;
 use addr4::{Memory, Prefix};
 use bgp_attr::{Profile, Speaker};
 use bgp_wire::{Message, read_message};
 use event_text::DeclaredPeer;
 use in_chain::Chain;
 use journal_text::{Entry, Journal, Line, Link};
+use policy_rules::Rules;
 use std::alloc::Global;
 
 /// AS numbers have two octets, and errors are handled by RFC 4271, section 6.3.
@@ -30,14 +34,15 @@ const PLAIN: Profile = Profile {
 impl Network {
     /// `local` was declared. Takes no memory.
     pub(crate) fn declare_speaker(&mut self, words: Speaker)
-        requires { Stands self.old }
+        requires admitted { refusal self.old.declared (events.Local words) ≡ None }
+        requires stands { Stands self.old }
         ensures acts { Acts self.old (events.Local words) 0 self.new [] }
         ensures stands { Stands self.new }
     {
         self.declared.set_speaker(words);
     }
 
-    /// `peer` was declared: its chain begins, without routes.
+    /// `peer` was declared: its chain begins, without routes and rules.
     pub(crate) fn declare_peer(
         &mut self,
         number: u32,
@@ -49,10 +54,17 @@ impl Network {
         ensures acts { OnOk result (Pushes (Acts self.old (events.Peer number words) 0 self.new) journal.old journal.new) }
         ensures stands { OnOk result (Stands self.new) }
     {
-        let chain = Chain::new(self.alloc, number)?;
-        insert_chain(&mut self.chains, chain)?;
+        let Some(me) = self.declared.speaker() else {
+            unreachable!()
+        };
         self.declared.add_peer(number, words)?;
-        journal.push_line(Line::Journal(Entry::Begin(Link::In(number))))
+        let Some(peer) = self.declared.peer(number) else {
+            unreachable!()
+        };
+        let chain = Chain::new(self.alloc, me, peer.words)?;
+        insert_chain(&mut self.chains, chain)?;
+        journal.push_line(Line::Journal(Entry::Begin(Link::In(number))))?;
+        journal.push_line(Line::Journal(Entry::Begin(Link::Filt(number))))
     }
 
     /// A peer's session begins; `ignored` where one is up.
@@ -67,6 +79,16 @@ impl Network {
         }
         self.declared.begin_session(number);
         Ok(())
+    }
+
+    /// A peer's incoming filter has new rules. Takes no memory.
+    pub(crate) fn edit_incoming(&mut self, number: u32, rules: Rules)
+        requires admitted { refusal self.old.declared (events.FilterIn number rules) ≡ None }
+        requires stands { Stands self.old }
+        ensures acts { Acts self.old (events.FilterIn number rules) 0 self.new [] }
+        ensures stands { Stands self.new }
+    {
+        edit_at(&mut self.chains, number, rules);
     }
 
     /// Whether the peer is up.
@@ -107,6 +129,18 @@ impl Network {
     {
         lookups::count(self.chains.as_slice(), link)
     }
+}
+
+/// The chain of a peer has new rules.
+fn edit_at(chains: &mut Vec<Chain>, number: u32, rules: Rules)
+    requires order { AreInOrder chains.old.items }
+    requires there { IsSome (chain_at number chains.old.items) }
+    ensures { (c : Chained) → chain_at number chains.old.items ≡ Some c → chains.new.items ≡ put_chain (refiltered rules c) chains.old.items }
+{
+    let Some(i) = place(chains.as_slice(), number) else {
+        unreachable!()
+    };
+    chains[i].edit(rules);
 }
 
 /// A chain goes before the first of a greater number.

@@ -40,6 +40,8 @@ pub struct Idle {
 pub enum Phase {
     /// The deletion stages of lost sessions.
     Del,
+    /// The walks of the incoming filters.
+    Fin,
 }
 
 #[derive(Drop)]
@@ -55,11 +57,16 @@ impl Model for Core {
     ghost use Rattle.event_text.specs.contracts.declared.DeclaredPeer as peer_row;
     ghost use Rattle.bgp_attr.specs.contracts.speaker.Speaker as speaker_row;
     ghost use Rattle.bgp_attr.specs.contracts.attrs.Attrs as attrs_row;
+    ghost use Rattle.std.specs.Coded.{coded_list};
+    ghost use Rattle.bgp_attr.specs.contracts.speaker.Neighbour as neighbour_row;
+    ghost use Rattle.policy_rules.specs.contracts.rule.Rule as rule_row;
+    ghost use Rattle.pass_core.specs.Passed.{passed_code};
+    ghost use Rattle.in_chain.specs.Incomings.{incoming_code};
     ghost use Rattle.in_chain.specs.Chains.{chained_code};
 
     ghost Value = { Cored };
 
-    ghost coded = { cored_code (declaration_code speaker_row.the_row.coded peer_row.the_row.coded) (chained_code attrs_row.the_row.coded) };
+    ghost coded = { cored_code (declaration_code speaker_row.the_row.coded peer_row.the_row.coded) (chained_code (incoming_code attrs_row.the_row.coded) speaker_row.the_row.coded neighbour_row.the_row.coded (passed_code (coded_list rule_row.the_row.coded))) };
 
     ghost view = { λ c. record { moment = c.network; events = c.events; failed = c.failed } };
 }
@@ -149,10 +156,11 @@ impl Core {
         Ok(done)
     }
 
-    /// A phase of an idle: each of its tasks runs to its end. Answers how many turns that took.
+    /// A phase of an idle: each of its tasks runs to its end. Answers how many turns that took: of the deletion stages at
+    /// most as many as there are rows, of the walks at most two for each row and two for each peer.
     pub fn drain(&mut self, phase: Phase, journal: &mut Journal) -> Result<u128, Memory>
         requires stands { self.old.failed ≡ false → Stands self.old.moment }
-        ensures drained { IfOk result (λ turns. Gives (HaveDrained self.old.moment turns self.new.moment) journal.old journal.new) }
+        ensures drained { IfOk result (λ turns. Gives (HaveDrained phase self.old.moment turns self.new.moment) journal.old journal.new) }
         ensures stands { OnOk result (Stands self.new.moment) }
         ensures events { OnOk result (self.new.events ≡ self.old.events) }
         ensures good { OnOk result (self.new.failed ≡ false) }
@@ -163,9 +171,7 @@ impl Core {
             return Err(Memory);
         }
         self.failed = true;
-        let turns = match phase {
-            Phase::Del => self.network.drain_all(journal)?,
-        };
+        let turns = self.network.drain(phase, journal)?;
         self.failed = false;
         Ok(turns)
     }

@@ -4,8 +4,9 @@ ghost use Rattle.std.specs.Prelude.{◌≡◌, [], ◌∷◌, OnOk, IfOk, IsSome
 ghost use Rattle.router_core.specs.Moments.{chain_at, Gives};
 ghost use Rattle.router_core.specs.Stands.{AreInOrder, Stands};
 ghost use Rattle.router_core.specs.Works.{FeedsChain, LosesChain, Pushes, Steps, IsSoundAt, IsUpAt, IsSession, MayLoseAt, HaveFed, HasLost, HasRoom, Ends};
-ghost use Rattle.in_chain.specs.Chains.{Chained, IsChain, NoneEmpty};
-ghost use Rattle.in_chain.specs.Steps.{overdue_of};
+ghost use Rattle.in_chain.specs.Incomings.{NoneEmpty};
+ghost use Rattle.in_chain.specs.Chains.{Chained, IsChain};
+ghost use Rattle.in_chain.specs.IncomingSteps.{overdue_of};
 
 use crate::network::Network;
 use crate::turns::place;
@@ -93,7 +94,7 @@ impl Network {
     ) -> Result<(), Memory>
         requires stands { Stands self.old }
         requires up { IsSession number session self.old }
-        requires free { (c : Chained) → chain_at number self.old.chains ≡ Some c → overdue_of c ≡ None }
+        requires free { (c : Chained) → chain_at number self.old.chains ≡ Some c → overdue_of c.incoming ≡ None }
         ensures { OnOk result (Pushes (Ends number session self.old self.new) journal.old journal.new) }
     {
         lose_at(&mut self.chains, number, session, journal)?;
@@ -149,7 +150,7 @@ fn feed_chain(
     journal: &mut Journal,
 ) -> Result<(), Memory>
     requires sound { IsChain chain.old }
-    requires full { NoneEmpty chain.old.deletions }
+    requires full { NoneEmpty chain.old.incoming.deletions }
     ensures { OnOk result (Pushes (FeedsChain prefix row chain.old chain.new) journal.old journal.new) }
 {
     chain.feed(prefix, row, journal)?;

@@ -19,6 +19,7 @@ use bgp_attr::{Octets, Speaker};
 use bgp_wire::{Message, Notice, write_notification};
 use event_text::{DeclaredPeer, Event};
 use journal_text::{Journal, Line, Link, Task};
+use policy_rules::Rules;
 use std::alloc::Global;
 
 impl Network {
@@ -35,6 +36,7 @@ impl Network {
             Event::Up(number) => self.up(number, journal),
             Event::Down(number) => self.down(number, journal),
             Event::Bgp(number, octets) => self.message(number, octets, journal),
+            Event::FilterIn(number, rules) => self.filter_in(number, rules, journal),
             Event::Idle => self.idle_turns(journal),
             Event::Work(task, most) => self.work(task, most, journal),
             Event::Ask(link, p) => self.look_up(link, p, journal),
@@ -52,7 +54,8 @@ impl Network {
     }
 
     fn local(&mut self, words: Speaker, journal: &mut Journal) -> Result<u128, Memory>
-        requires { Stands self.old }
+        requires admitted { refusal self.old.declared (events.Local words) ≡ None }
+        requires stands { Stands self.old }
         ensures { IfOk result (λ turns. Gives (HasStepped self.old (events.Local words) turns self.new) journal.old journal.new) }
     {
         self.declare_speaker(words);
@@ -76,6 +79,21 @@ impl Network {
         ensures { IfOk result (λ turns. Gives (HasStepped self.old (events.Up number) turns self.new) journal.old journal.new) }
     {
         self.begin_session(number, journal)?;
+        journal.flush()?;
+        Ok(0)
+    }
+
+    fn filter_in(
+        &mut self,
+        number: u32,
+        rules: Rules,
+        journal: &mut Journal,
+    ) -> Result<u128, Memory>
+        requires admitted { refusal self.old.declared (events.FilterIn number rules) ≡ None }
+        requires stands { Stands self.old }
+        ensures { IfOk result (λ turns. Gives (HasStepped self.old (events.FilterIn number rules) turns self.new) journal.old journal.new) }
+    {
+        self.edit_incoming(number, rules);
         journal.flush()?;
         Ok(0)
     }
@@ -190,7 +208,7 @@ impl Network {
         }
     }
 
-    /// Every deletion stage runs to its end.
+    /// Every task runs to its end.
     pub(crate) fn idle(&mut self, journal: &mut Journal) -> Result<Idle, Memory>
         requires { Stands self.old }
         ensures { IfOk result (λ idle. Gives (HasIdled self.old idle self.new) journal.old journal.new) }

@@ -1,23 +1,24 @@
 //! Turns of background work.
 
 ghost use Rattle.std.specs.Prelude.{◌≡◌, IfOk, OnOk};
-ghost use Rattle.in_chain.specs.Chains.{IsChain, NoneEmpty};
-ghost use Rattle.journal_text.specs.declared.link.Task.TheVariants as tasks;
+ghost use Rattle.in_chain.specs.Incomings.{NoneEmpty};
+ghost use Rattle.in_chain.specs.Chains.{IsChain};
+ghost use Rattle.router_core.specs.declared.router.Phase.TheVariants as phases;
 ghost use Rattle.router_core.specs.Moments.{chain_at, Gives};
 ghost use Rattle.router_core.specs.Stands.{AreInOrder, Stands};
-ghost use Rattle.router_core.specs.Works.{TurnsChain, is_nothing, IsPlace, IsSoundAt, TurnsAt, Comes, AreTurns, HasDrained, HaveDrained, first_task};
-ghost use Rattle.router_core.specs.Turns.{chain_tasks, deletion_tasks};
+ghost use Rattle.router_core.specs.Works.{TurnsChain, is_nothing, IsPlace, IsSoundAt, TurnsAt, Comes, AreTurns, HasDrained, HaveDrained, AllHaveDrained, first_task};
+ghost use Rattle.router_core.specs.Turns.{peer_of, chain_tasks, deletion_tasks};
 ghost use Rattle.std.specs.List.{flat_map};
 
 use crate::network::Network;
-use crate::router::Done;
+use crate::router::{Done, Phase};
 use addr4::Memory;
-use bgp_attr::SharedAttrs;
+use bgp_attr::Route;
 use in_chain::Chain;
 use journal_text::{Journal, Task};
 use link_change::Turn;
 
-fn is_nothing(turn: &Turn<SharedAttrs>) -> bool
+fn is_nothing(turn: &Turn<Route>) -> bool
     ensures { result ≡ is_nothing turn.now }
 {
     match turn {
@@ -27,13 +28,12 @@ fn is_nothing(turn: &Turn<SharedAttrs>) -> bool
     }
 }
 
-/// One turn of the deletion stage of a session, in its chain.
-fn turn_chain(chain: &mut Chain, session: u32, journal: &mut Journal) -> Result<Done, Memory>
+/// One turn of a task, in its chain.
+fn turn_chain(chain: &mut Chain, task: Task, journal: &mut Journal) -> Result<Done, Memory>
     requires sound { IsChain chain.old }
-    requires full { NoneEmpty chain.old.deletions }
-    ensures { IfOk result (TurnsChain session chain.old chain.new journal.old journal.new) }
+    requires full { NoneEmpty chain.old.incoming.deletions }
+    ensures { IfOk result (TurnsChain task chain.old chain.new journal.old journal.new) }
 {
-    let task = Task::Del(chain.number(), session);
     let turn = chain.unit(task, journal)?;
     if is_nothing(&turn) {
         return Ok(Done::Nothing);
@@ -49,21 +49,26 @@ pub(crate) fn place(chains: &[Chain], number: u32) -> Option<usize>
     chains.iter().position(|chain| chain.number() == number)
 }
 
-/// One turn of the deletion stage of a session of a peer.
-fn turn_at(
-    chains: &mut Vec<Chain>,
-    number: u32,
-    session: u32,
-    journal: &mut Journal,
-) -> Result<Done, Memory>
-    requires order { AreInOrder chains.old.items }
-    requires sound { IsSoundAt number chains.old.items }
-    ensures { IfOk result (TurnsAt number session chains.old.items chains.new.items journal.old journal.new) }
+/// The peer whose task it is.
+fn peer_of(task: Task) -> u32
+    ensures { result ≡ peer_of task }
 {
-    let Some(i) = place(chains.as_slice(), number) else {
+    match task {
+        Task::Del(number, _) => number,
+        Task::Fin(number) => number,
+    }
+}
+
+/// One turn of a task, among the chains.
+fn turn_at(chains: &mut Vec<Chain>, task: Task, journal: &mut Journal) -> Result<Done, Memory>
+    requires order { AreInOrder chains.old.items }
+    requires sound { IsSoundAt (peer_of task) chains.old.items }
+    ensures { IfOk result (TurnsAt task chains.old.items chains.new.items journal.old journal.new) }
+{
+    let Some(i) = place(chains.as_slice(), peer_of(task)) else {
         return Ok(Done::Nothing);
     };
-    let done = turn_chain(&mut chains[i], session, journal)?;
+    let done = turn_chain(&mut chains[i], task, journal)?;
     Ok(done)
 }
 
@@ -73,16 +78,7 @@ impl Network {
         requires { Stands self.old }
         ensures { IfOk result (Comes task self.old self.new journal.old journal.new) }
     {
-        match task {
-            Task::Del(number, session) => self.turn_del(number, session, journal),
-        }
-    }
-
-    fn turn_del(&mut self, number: u32, session: u32, journal: &mut Journal) -> Result<Done, Memory>
-        requires { Stands self.old }
-        ensures { IfOk result (Comes (tasks.Del number session) self.old self.new journal.old journal.new) }
-    {
-        match turn_at(&mut self.chains, number, session, journal)? {
+        match turn_at(&mut self.chains, task, journal)? {
             Done::Nothing => return Ok(Done::Nothing),
             Done::Taken => {}
         }
@@ -115,15 +111,53 @@ impl Network {
         requires { Stands self.old }
         ensures { IfOk result (λ turns. Gives (HasDrained task self.old turns self.new) journal.old journal.new) }
     {
-        let rows = self.rows()?;
-        let turns = self.turns(task, rows, journal)?;
+        let most = match task {
+            Task::Del(_, _) => self.rows()?,
+            Task::Fin(_) => self.walk_bound()?,
+        };
+        let turns = self.turns(task, most, journal)?;
         Ok(turns)
     }
 
-    /// Turns of every deletion stage, each to its end: by peer, and the earliest session first.
+    /// Turns of every task, each to its end, phase after phase.
     pub(crate) fn drain_all(&mut self, journal: &mut Journal) -> Result<u128, Memory>
         requires { Stands self.old }
-        ensures { IfOk result (λ turns. Gives (HaveDrained self.old turns self.new) journal.old journal.new) }
+        ensures { IfOk result (λ turns. Gives (AllHaveDrained self.old turns self.new) journal.old journal.new) }
+    {
+        let deletions = self.drain(Phase::Del, journal)?;
+        let walks = self.drain(Phase::Fin, journal)?;
+        Ok(deletions + walks)
+    }
+
+    /// Turns of every task of a phase, each to its end.
+    pub(crate) fn drain(&mut self, phase: Phase, journal: &mut Journal) -> Result<u128, Memory>
+        requires { Stands self.old }
+        ensures { IfOk result (λ turns. Gives (HaveDrained phase self.old turns self.new) journal.old journal.new) }
+    {
+        match phase {
+            Phase::Del => self.drain_deletions(journal),
+            Phase::Fin => self.drain_walks(journal),
+        }
+    }
+
+    /// The walks of the filters, each to its end: by peer.
+    fn drain_walks(&mut self, journal: &mut Journal) -> Result<u128, Memory>
+        requires { Stands self.old }
+        ensures { IfOk result (λ turns. Gives (HaveDrained phases.Fin self.old turns self.new) journal.old journal.new) }
+    {
+        journal.flush()?;
+        let mut turns = 0;
+        for i in 0..self.chains.len() {
+            let task = Task::Fin(self.chains[i].number());
+            turns += self.drain_task(task, journal)?;
+        }
+        Ok(turns)
+    }
+
+    /// The deletion stages, each to its end: by peer, and the earliest session first.
+    fn drain_deletions(&mut self, journal: &mut Journal) -> Result<u128, Memory>
+        requires { Stands self.old }
+        ensures { IfOk result (λ turns. Gives (HaveDrained phases.Del self.old turns self.new) journal.old journal.new) }
     {
         let rows = self.rows()?;
         journal.flush()?;

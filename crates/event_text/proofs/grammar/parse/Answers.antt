@@ -1,5 +1,5 @@
 use Rattle.std.proofs.Common.{IfSome, subst, sym, ◌∙◌}
-use Rattle.event_text.specs.Words.{words}
+use Rattle.policy_rules.specs.Words.{words}
 use Rattle.event_text.specs.WellFormed.{IsWellFormed}
 use Rattle.event_text.proofs.WellFormedLemmas.{event_ok}
 use Rattle.event_text.proofs.grammar.parse.Goals as goal
