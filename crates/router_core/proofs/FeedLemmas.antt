@@ -13,7 +13,7 @@ use Rattle.journal_text.proofs.JournalLemmas.{with_lines_append}
 use Rattle.journal_text.proofs.WalkLemmas.{leads_nowhere}
 use Rattle.event_text.specs.declared.declared.DeclaredPeer.{DeclaredPeer}
 use Rattle.in_chain.specs.Chains.{Chained}
-use Rattle.in_chain.specs.Steps.{without, live_after, deletions_after}
+use Rattle.in_chain.specs.IncomingSteps.{without, live_after, deletions_after}
 use Rattle.router_core.specs.Moments.{Moment, chain_at, with_chain, router_links}
 use Rattle.router_core.specs.Lives.{LiveState, Routes, live_state, with_routes, routes_after}
 use Rattle.router_core.specs.Stands.{AreInOrder, IsSilent, PeerStands, Stands}
@@ -64,11 +64,11 @@ pub fed_one : (k : ℕ) (p : Network) (row : Option Attrs) (m : Moment) (c c' : 
     → HaveFed k ((p, row) ∷ []) m (with_chain m c') said
 fed_one k p row m c c' said stands up at f =
     let peer = peer_of m stands k c at in
-    let number : c'.number ≡ k = f.step.number ∙ number_at k m.chains c at in
+    let number : c'.incoming.number ≡ k = f.step.number ∙ number_at k m.chains c at in
     let is_up : peer.0.up ≡ true = ap (λ (q : DeclaredPeer). q.up) (same_peer peer.0 up.0 (sym peer.1 ∙ up.1)) ∙ up.2 in
-    let tables : c'.deletions ≡ filter is_full (map (thinned p row) c.deletions) = ap (λ (x : Chained). x.deletions) f.after ∙ ap (filter is_full) (thinned_all p row c.deletions) in
+    let tables : c'.incoming.deletions ≡ filter is_full (map (thinned p row) c.incoming.deletions) = ap (λ (x : Chained). x.incoming.deletions) f.after ∙ ap (filter is_full) (thinned_all p row c.incoming.deletions) in
     let here : PeerStands peer.0 c' = peer_left peer.0 c c' (thinned p row) is_full (thinned_number p row) tables f.step.chain f.step.full (silent_up peer.0.up c' is_up) peer.2 in
-    let live : c'.live ≡ live_after c.live p row = ap (λ (x : Chained). x.live) f.after in
+    let live : c'.incoming.live ≡ live_after c.incoming.live p row = ap (λ (x : Chained). x.incoming.live) f.after in
     let feeds : Feeds k (p, row) m said (with_chain m c') = record { chain = c; at = at; sent = f.sent; entries = f.entries; falls = f.falls; rows = f.rows; lines = f.lines; after = ap (with_chain m) f.after } in
     record {
       feeds = (said, [], with_chain m c', feeds, (refl, refl), sym (append-nil said));

@@ -19,7 +19,8 @@ use Rattle.event_text.specs.declared.event.Event.TheVariants as events
 use Rattle.event_text.specs.declared.declared.DeclaredPeer.{DeclaredPeer}
 use Rattle.event_text.specs.Declarations.{Declaration, peer_at, words_of, with_peer, with_session, begun_at, refusal, refusal_at, session_refusal}
 use Rattle.event_text.proofs.Sessions.{addable, missed, KeepsWords, begun_words}
-use Rattle.in_chain.specs.Chains.{Chained, in_rows, links_of}
+use Rattle.in_chain.specs.Incomings.{in_rows}
+use Rattle.in_chain.specs.Chains.{Chained, links_of}
 use Rattle.journal_text.specs.Journals.{attrs_rows}
 use Rattle.in_chain.specs.Steps.{new_chain}
 use Rattle.router_core.specs.Moments.{Moment, chain_at, insert_chain, links_by, router_links}
@@ -41,56 +42,56 @@ chain_missed true c o e = absurd (cc)
 chain_missed false c o e = (refl, e)
 
 -- a chain that is inserted at its place
-pub inserted : (c : Chained) (cs : List Chained) → insert cs (place_in c.number cs) c ≡ insert_chain c cs
+pub inserted : (c : Chained) (cs : List Chained) → insert cs (place_in c.incoming.number cs) c ≡ insert_chain c cs
 inserted c [] = refl
-inserted c (d ∷ ds) = by_test (nat_lt c.number d.number) (inserted c ds)
+inserted c (d ∷ ds) = by_test (nat_lt c.incoming.number d.incoming.number) (inserted c ds)
   where
-    by_test : (b : Bool) → insert ds (place_in c.number ds) c ≡ insert_chain c ds → insert (d ∷ ds) (cond b 0 (place_in c.number ds + 1)) c ≡ cond b (c ∷ d ∷ ds) (d ∷ insert_chain c ds)
+    by_test : (b : Bool) → insert ds (place_in c.incoming.number ds) c ≡ insert_chain c ds → insert (d ∷ ds) (cond b 0 (place_in c.incoming.number ds + 1)) c ≡ cond b (c ∷ d ∷ ds) (d ∷ insert_chain c ds)
     by_test true rest = refl
-    by_test false rest = ap (λ n. take n (d ∷ ds) ++ c ∷ drop n (d ∷ ds)) (add-one (place_in c.number ds)) ∙ ap (λ l. d ∷ l) rest
+    by_test false rest = ap (λ n. take n (d ∷ ds) ++ c ∷ drop n (d ∷ ds)) (add-one (place_in c.incoming.number ds)) ∙ ap (λ l. d ∷ l) rest
 
-pub chain_at_insert_here : (k : ℕ) (c : Chained) (cs : List Chained) → chain_at k cs ≡ None → c.number ≡ k → chain_at k (insert_chain c cs) ≡ Some c
-chain_at_insert_here k c [] none same = chain_here k c [] (same_by c.number k same)
+pub chain_at_insert_here : (k : ℕ) (c : Chained) (cs : List Chained) → chain_at k cs ≡ None → c.incoming.number ≡ k → chain_at k (insert_chain c cs) ≡ Some c
+chain_at_insert_here k c [] none same = chain_here k c [] (same_by c.incoming.number k same)
 chain_at_insert_here k c (d ∷ ds) none same =
-    let past = chain_missed (nat_eq d.number k) d (chain_at k ds) none in
-    by_test (nat_lt c.number d.number) (chain_past k d (insert_chain c ds) past.0 ∙ chain_at_insert_here k c ds past.1 same)
+    let past = chain_missed (nat_eq d.incoming.number k) d (chain_at k ds) none in
+    by_test (nat_lt c.incoming.number d.incoming.number) (chain_past k d (insert_chain c ds) past.0 ∙ chain_at_insert_here k c ds past.1 same)
   where
     by_test : (b : Bool) → chain_at k (d ∷ insert_chain c ds) ≡ Some c → chain_at k (cond b (c ∷ d ∷ ds) (d ∷ insert_chain c ds)) ≡ Some c
-    by_test true rest = chain_here k c (d ∷ ds) (same_by c.number k same)
+    by_test true rest = chain_here k c (d ∷ ds) (same_by c.incoming.number k same)
     by_test false rest = rest
 
-pub chain_at_insert_other : (j : ℕ) (c : Chained) (cs : List Chained) → nat_eq c.number j ≡ false → chain_at j (insert_chain c cs) ≡ chain_at j cs
+pub chain_at_insert_other : (j : ℕ) (c : Chained) (cs : List Chained) → nat_eq c.incoming.number j ≡ false → chain_at j (insert_chain c cs) ≡ chain_at j cs
 chain_at_insert_other j c [] other = chain_past j c [] other
 chain_at_insert_other j c (d ∷ ds) other =
-    by_test (nat_lt c.number d.number) (ap (λ o. cond (nat_eq d.number j) (Some d) o) (chain_at_insert_other j c ds other))
+    by_test (nat_lt c.incoming.number d.incoming.number) (ap (λ o. cond (nat_eq d.incoming.number j) (Some d) o) (chain_at_insert_other j c ds other))
   where
     by_test : (b : Bool) → chain_at j (d ∷ insert_chain c ds) ≡ chain_at j (d ∷ ds) → chain_at j (cond b (c ∷ d ∷ ds) (d ∷ insert_chain c ds)) ≡ chain_at j (d ∷ ds)
     by_test true rest = chain_past j c (d ∷ ds) other
     by_test false rest = rest
 
-below_insert : (n : ℕ) (c : Chained) (cs : List Chained) → n < c.number → AllByRecursion (λ d. n < d.number) cs → AllByRecursion (λ d. n < d.number) (insert_chain c cs)
+below_insert : (n : ℕ) (c : Chained) (cs : List Chained) → n < c.incoming.number → AllByRecursion (λ d. n < d.incoming.number) cs → AllByRecursion (λ d. n < d.incoming.number) (insert_chain c cs)
 below_insert n c [] lt all = (lt, tt)
-below_insert n c (d ∷ ds) lt all = by_test (nat_lt c.number d.number) (below_insert n c ds lt all.1)
+below_insert n c (d ∷ ds) lt all = by_test (nat_lt c.incoming.number d.incoming.number) (below_insert n c ds lt all.1)
   where
-    by_test : (b : Bool) → AllByRecursion (λ d. n < d.number) (insert_chain c ds) → AllByRecursion (λ d. n < d.number) (cond b (c ∷ d ∷ ds) (d ∷ insert_chain c ds))
+    by_test : (b : Bool) → AllByRecursion (λ d. n < d.incoming.number) (insert_chain c ds) → AllByRecursion (λ d. n < d.incoming.number) (cond b (c ∷ d ∷ ds) (d ∷ insert_chain c ds))
     by_test true rest = (lt, all)
     by_test false rest = (all.0, rest)
 
-below_all : (m n : ℕ) (cs : List Chained) → m < n → AllByRecursion (λ d. n < d.number) cs → AllByRecursion (λ d. m < d.number) cs
+below_all : (m n : ℕ) (cs : List Chained) → m < n → AllByRecursion (λ d. n < d.incoming.number) cs → AllByRecursion (λ d. m < d.incoming.number) cs
 below_all m n [] lt all = tt
-below_all m n (d ∷ ds) lt all = (let above : n < d.number = all.0 in omega arith, below_all m n ds lt all.1)
+below_all m n (d ∷ ds) lt all = (let above : n < d.incoming.number = all.0 in omega arith, below_all m n ds lt all.1)
 
-pub in_order_insert : (c : Chained) (cs : List Chained) → AreInOrder cs → chain_at c.number cs ≡ None → AreInOrder (insert_chain c cs)
+pub in_order_insert : (c : Chained) (cs : List Chained) → AreInOrder cs → chain_at c.incoming.number cs ≡ None → AreInOrder (insert_chain c cs)
 in_order_insert c [] order none = (tt, tt)
 in_order_insert c (d ∷ ds) order none =
-    let past = chain_missed (nat_eq d.number c.number) d (chain_at c.number ds) none in
-    by_test (nat_lt c.number d.number) refl past.0 (in_order_insert c ds order.1 past.1)
+    let past = chain_missed (nat_eq d.incoming.number c.incoming.number) d (chain_at c.incoming.number ds) none in
+    by_test (nat_lt c.incoming.number d.incoming.number) refl past.0 (in_order_insert c ds order.1 past.1)
   where
-    by_test : (b : Bool) → nat_lt c.number d.number ≡ b → nat_eq d.number c.number ≡ false → AreInOrder (insert_chain c ds) → AreInOrder (cond b (c ∷ d ∷ ds) (d ∷ insert_chain c ds))
-    by_test true e other rest = let lt = below_by c.number d.number e in ((lt, below_all c.number d.number ds lt order.0), order)
-    by_test false e other rest = (below_insert d.number c ds (beyond e other) order.0, rest)
+    by_test : (b : Bool) → nat_lt c.incoming.number d.incoming.number ≡ b → nat_eq d.incoming.number c.incoming.number ≡ false → AreInOrder (insert_chain c ds) → AreInOrder (cond b (c ∷ d ∷ ds) (d ∷ insert_chain c ds))
+    by_test true e other rest = let lt = below_by c.incoming.number d.incoming.number e in ((lt, below_all c.incoming.number d.incoming.number ds lt order.0), order)
+    by_test false e other rest = (below_insert d.incoming.number c ds (beyond e other) order.0, rest)
       where
-        beyond : nat_lt c.number d.number ≡ false → nat_eq d.number c.number ≡ false → d.number < c.number
+        beyond : nat_lt c.incoming.number d.incoming.number ≡ false → nat_eq d.incoming.number c.incoming.number ≡ false → d.incoming.number < c.incoming.number
         beyond e other = grind (arith, nat_tests)
 
 -- ---- a peer more
@@ -249,7 +250,7 @@ begun_peer k p c stands = by_test (nat_eq p.words.number k && not p.up) refl
       chain = stands.chain;
       full = stands.full;
       few = stands.few;
-      earlier = later p c.deletions (subst (λ (u : Bool). AllByRecursion (λ d. IsEarlier p u d.number) c.deletions) (is_down (nat_eq p.words.number k) p.up e) stands.earlier);
+      earlier = later p c.incoming.deletions (subst (λ (u : Bool). AllByRecursion (λ d. IsEarlier p u d.number) c.incoming.deletions) (is_down (nat_eq p.words.number k) p.up e) stands.earlier);
       silent = tt;
     }
     by_test false e = stands

@@ -9,8 +9,9 @@ use Rattle.addr4.proofs.PrefixOrder.{prefixes_total}
 use Rattle.bgp_attr.specs.declared.attrs.Attrs.{Attrs}
 use Rattle.link_change.specs.Rows.{is_empty_map}
 use Rattle.deletion_stage.specs.Lost.{Lost}
-use Rattle.in_chain.specs.Chains.{Chained, AreRising, lost_count, row_count}
-use Rattle.in_chain.specs.Steps.{without, swept_one, table_of}
+use Rattle.in_chain.specs.Incomings.{AreRising, lost_count}
+use Rattle.in_chain.specs.Chains.{Chained, row_count}
+use Rattle.in_chain.specs.IncomingSteps.{without, swept_one, table_of}
 use Rattle.router_core.specs.Moments.{chain_at, put_one, put_chain, rows_in}
 use Rattle.router_core.specs.Stands.{AreInOrder}
 use Rattle.router_core.proofs.ChainLemmas.{equal_by, same_by, chain_here, chain_past, put_one_here, put_one_past, put_none}
@@ -78,22 +79,22 @@ count_swept s p a t (d ∷ ds) rising there at = by_test (nat_eq d.number s) ref
         omega arith
 
 -- ---- chains
-pub rows_put : (k : ℕ) (cs : List Chained) (c c' : Chained) → AreInOrder cs → chain_at k cs ≡ Some c → c'.number ≡ k → row_count c' + 1 ≡ row_count c → rows_in (put_chain c' cs) + 1 ≡ rows_in cs
+pub rows_put : (k : ℕ) (cs : List Chained) (c c' : Chained) → AreInOrder cs → chain_at k cs ≡ Some c → c'.incoming.number ≡ k → row_count c' + 1 ≡ row_count c → rows_in (put_chain c' cs) + 1 ≡ rows_in cs
 rows_put k [] c c' order at same less = absurd (cc)
-rows_put k (d ∷ ds) c c' order at same less = by_test (nat_eq d.number k) refl (λ e. rows_put k ds c c' order.1 e same less)
+rows_put k (d ∷ ds) c c' order at same less = by_test (nat_eq d.incoming.number k) refl (λ e. rows_put k ds c c' order.1 e same less)
   where
     is_one : (x y : Chained) → Some x ≡ Some y → x ≡ y
     is_one x y e = cc
 
-    by_test : (b : Bool) → nat_eq d.number k ≡ b → (chain_at k ds ≡ Some c → rows_in (put_chain c' ds) + 1 ≡ rows_in ds) → rows_in (put_chain c' (d ∷ ds)) + 1 ≡ rows_in (d ∷ ds)
+    by_test : (b : Bool) → nat_eq d.incoming.number k ≡ b → (chain_at k ds ≡ Some c → rows_in (put_chain c' ds) + 1 ≡ rows_in ds) → rows_in (put_chain c' (d ∷ ds)) + 1 ≡ rows_in (d ∷ ds)
     by_test true e rest =
-        let number : d.number ≡ k = equal_by d.number k e in
+        let number : d.incoming.number ≡ k = equal_by d.incoming.number k e in
         let is : d ≡ c = is_one d c (sym (chain_here k d ds e) ∙ at) in
         let count : row_count d ≡ row_count c = ap row_count is in
-        let here : row_count (put_one c' d) ≡ row_count c' = ap row_count (put_one_here c' d (same_by d.number c'.number (number ∙ sym same))) in
-        let stay : rows_in (put_chain c' ds) ≡ rows_in ds = ap rows_in (put_none c' d.number ds (same ∙ sym number) order.0) in
+        let here : row_count (put_one c' d) ≡ row_count c' = ap row_count (put_one_here c' d (same_by d.incoming.number c'.incoming.number (number ∙ sym same))) in
+        let stay : rows_in (put_chain c' ds) ≡ rows_in ds = ap rows_in (put_none c' d.incoming.number ds (same ∙ sym number) order.0) in
         omega arith
     by_test false e rest =
         let r = rest (sym (chain_past k d ds e) ∙ at) in
-        let here : row_count (put_one c' d) ≡ row_count d = ap row_count (put_one_past c' d (ap (nat_eq d.number) same ∙ e)) in
+        let here : row_count (put_one c' d) ≡ row_count d = ap row_count (put_one_past c' d (ap (nat_eq d.incoming.number) same ∙ e)) in
         omega arith

@@ -31,7 +31,7 @@ pub chain_there : (m : Moment) → Stands m → (k : ℕ) (p : DeclaredPeer) →
 chain_there m stands k p at = chain_of (chain_at k m.chains) p (subst (λ (o : Option DeclaredPeer). StandsAt o (chain_at k m.chains)) at (stands.peers k))
 
 -- ---- all peers
-pub stands_put : (m : Moment) (now : Declaration) (k : ℕ) (c c' : Chained) → Stands m → chain_at k m.chains ≡ Some c → c'.number ≡ k
+pub stands_put : (m : Moment) (now : Declaration) (k : ℕ) (c c' : Chained) → Stands m → chain_at k m.chains ≡ Some c → c'.incoming.number ≡ k
     → ((j : ℕ) → nat_eq j k ≡ false → peer_at j now.peers ≡ peer_at j m.declared.peers)
     → StandsAt (peer_at k now.peers) (Some c') → Stands (record { declared = now; chains = put_chain c' m.chains })
 stands_put m now k c c' stands at number others here = record { order = in_order_put c' m.chains stands.order; peers = λ j. by_test j (nat_eq j k) refl }
@@ -44,7 +44,7 @@ stands_put m now k c c' stands at number others here = record { order = in_order
         subst (λ (o : Option Chained). StandsAt (peer_at j now.peers) o) (sym (chain_at_put_other j m.chains c' (ap (nat_eq j) number ∙ e)))
         (subst (λ (o : Option DeclaredPeer). StandsAt o (chain_at j m.chains)) (sym (others j e)) (stands.peers j))
 
-pub stands_with : (m : Moment) (k : ℕ) (c c' : Chained) (p : DeclaredPeer) → Stands m → chain_at k m.chains ≡ Some c → c'.number ≡ k → peer_at k m.declared.peers ≡ Some p → PeerStands p c'
+pub stands_with : (m : Moment) (k : ℕ) (c c' : Chained) (p : DeclaredPeer) → Stands m → chain_at k m.chains ≡ Some c → c'.incoming.number ≡ k → peer_at k m.declared.peers ≡ Some p → PeerStands p c'
     → Stands (with_chain m c')
 stands_with m k c c' p stands at number peer here = stands_put m m.declared k c c' stands at number (λ j e. refl) (subst (λ (o : Option DeclaredPeer). StandsAt o (Some c')) (sym peer) here)
 
@@ -83,24 +83,24 @@ pub few_left : (f : Lost Attrs → Lost Attrs) (g : Lost Attrs → Bool) (ds : L
 few_left f g ds = let a = few_filter g (map f ds) in let b = few_map f ds in omega arith
 
 -- ---- what is live
-pub live_put : (m : Moment) (k : ℕ) (c c' : Chained) → chain_at k m.chains ≡ Some c → c'.number ≡ k → (j : ℕ) → routes_of (chain_at j (put_chain c' m.chains)) ≡ with_routes (live_state m).routes k c'.live j
+pub live_put : (m : Moment) (k : ℕ) (c c' : Chained) → chain_at k m.chains ≡ Some c → c'.incoming.number ≡ k → (j : ℕ) → routes_of (chain_at j (put_chain c' m.chains)) ≡ with_routes (live_state m).routes k c'.incoming.live j
 live_put m k c c' at number j = by_test (nat_eq j k) refl
   where
-    by_test : (b : Bool) → nat_eq j k ≡ b → routes_of (chain_at j (put_chain c' m.chains)) ≡ with_routes (live_state m).routes k c'.live j
+    by_test : (b : Bool) → nat_eq j k ≡ b → routes_of (chain_at j (put_chain c' m.chains)) ≡ with_routes (live_state m).routes k c'.incoming.live j
     by_test true e =
         ap (λ (n : ℕ). routes_of (chain_at n (put_chain c' m.chains))) (equal_by j k e) ∙ ap routes_of (chain_at_put_same k m.chains c c' at number)
-        ∙ sym (ap (λ (b : Bool). cond b c'.live ((live_state m).routes j)) e)
-    by_test false e = ap routes_of (chain_at_put_other j m.chains c' (ap (nat_eq j) number ∙ e)) ∙ sym (ap (λ (b : Bool). cond b c'.live ((live_state m).routes j)) e)
+        ∙ sym (ap (λ (b : Bool). cond b c'.incoming.live ((live_state m).routes j)) e)
+    by_test false e = ap routes_of (chain_at_put_other j m.chains c' (ap (nat_eq j) number ∙ e)) ∙ sym (ap (λ (b : Bool). cond b c'.incoming.live ((live_state m).routes j)) e)
 
 abbrev live_by : Declaration → (ℕ → Routes) → LiveState
 live_by d routes = record { declared = d; routes = routes }
 
 -- the live state after a step of one chain
-pub live_with : (m : Moment) (now : Declaration) (k : ℕ) (c c' : Chained) → chain_at k m.chains ≡ Some c → c'.number ≡ k
-    → live_state (record { declared = now; chains = put_chain c' m.chains }) ≡ record { declared = now; routes = with_routes (live_state m).routes k c'.live }
+pub live_with : (m : Moment) (now : Declaration) (k : ℕ) (c c' : Chained) → chain_at k m.chains ≡ Some c → c'.incoming.number ≡ k
+    → live_state (record { declared = now; chains = put_chain c' m.chains }) ≡ record { declared = now; routes = with_routes (live_state m).routes k c'.incoming.live }
 live_with m now k c c' at number = ap (live_by now) (λ i j. live_put m k c c' at number j i)
 
-pub routes_there : (m : Moment) (k : ℕ) (c : Chained) → chain_at k m.chains ≡ Some c → (live_state m).routes k ≡ c.live
+pub routes_there : (m : Moment) (k : ℕ) (c : Chained) → chain_at k m.chains ≡ Some c → (live_state m).routes k ≡ c.incoming.live
 routes_there m k c at = ap routes_of at
 
 -- routes that are set to what they are, and routes that are set twice
@@ -118,6 +118,6 @@ routes_twice all k a b i j = by_test (nat_eq j k) i
     by_test true = refl
     by_test false = refl
 
-pub live_same : (m : Moment) (k : ℕ) (c c' : Chained) → chain_at k m.chains ≡ Some c → c'.number ≡ k → c'.live ≡ c.live → live_state (with_chain m c') ≡ live_state m
+pub live_same : (m : Moment) (k : ℕ) (c c' : Chained) → chain_at k m.chains ≡ Some c → c'.incoming.number ≡ k → c'.incoming.live ≡ c.incoming.live → live_state (with_chain m c') ≡ live_state m
 live_same m k c c' at number same =
-    live_with m m.declared k c c' at number ∙ ap (live_by m.declared) (routes_same (live_state m).routes k c'.live (routes_there m k c at ∙ sym same))
+    live_with m m.declared k c c' at number ∙ ap (live_by m.declared) (routes_same (live_state m).routes k c'.incoming.live (routes_there m k c at ∙ sym same))
