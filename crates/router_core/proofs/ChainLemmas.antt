@@ -1,5 +1,5 @@
 -- The chains of peers, by number.
-use Rattle.std.proofs.Common.{◌≡◌, ℕ, ◌<◌, Bool, true, false, cond, List, [], ◌∷◌, Some, None, nat_eq, length, get_or, refl, sym, ap, subst, ◌∙◌, arith, zero, suc}
+use Rattle.std.proofs.Common.{◌≡◌, ℕ, ◌<◌, Bool, true, false, cond, List, [], ◌∷◌, Option, Some, None, nat_eq, length, get_or, refl, sym, ap, subst, ◌∙◌, arith, zero, suc}
 use Rattle.std.proofs.Math.ListN.{set}
 use Rattle.std.proofs.lemmas.Bool.Decides.{nat_tests}
 use Rattle.std.specs.List.{AllByRecursion}
@@ -101,3 +101,35 @@ pub set_is_put : (cs : List Chained) (i : ℕ) (c' x : Chained) → AreInOrder c
 set_is_put [] i c' x order below same = absurd (omega arith)
 set_is_put (d ∷ ds) zero c' x order below same = both (sym (put_one_here c' d (same_by d.incoming.number c'.incoming.number (sym same)))) (sym (put_none c' d.incoming.number ds same order.0))
 set_is_put (d ∷ ds) (suc i) c' x order below same = both (sym (put_one_past c' d (other_by d.incoming.number c'.incoming.number (λ e. let lt : d.incoming.number < (get_or ds i x).incoming.number = above d.incoming.number ds i x order.0 (omega (arith, below)) in omega arith)))) (set_is_put ds i c' x order.1 (omega (arith, below)) same)
+
+-- ---- what holds of all chains
+pub all_at : (P : Chained → Type 0) (k : ℕ) (cs : List Chained) (c : Chained) → AllByRecursion P cs → chain_at k cs ≡ Some c → P c
+all_at P k [] c all at = absurd (cc)
+all_at P k (d ∷ ds) c all at = by_test (nat_eq d.incoming.number k) refl (all_at P k ds c all.1)
+  where
+    by_test : (b : Bool) → nat_eq d.incoming.number k ≡ b → (chain_at k ds ≡ Some c → P c) → P c
+    by_test true e rest = subst P (one_of d c (sym (chain_here k d ds e) ∙ at)) all.0
+    by_test false e rest = rest (sym (chain_past k d ds e) ∙ at)
+
+pub all_put : (P : Chained → Type 0) (c' : Chained) (cs : List Chained) → AllByRecursion P cs → P c' → AllByRecursion P (put_chain c' cs)
+all_put P c' [] all one = tt
+all_put P c' (d ∷ ds) all one = (by_test (nat_eq d.incoming.number c'.incoming.number), all_put P c' ds all.1 one)
+  where
+    by_test : (b : Bool) → P (cond b c' d)
+    by_test true = one
+    by_test false = all.0
+
+pub put_length : (c' : Chained) (cs : List Chained) → length (put_chain c' cs) ≡ length cs
+put_length c' [] = refl
+put_length c' (d ∷ ds) = ap suc (put_length c' ds)
+
+-- what is seen of each chain, where one was put
+pub put_at : {A : Type 0} (f : Option Chained → A) (k : ℕ) (cs : List Chained) (c c' : Chained) → chain_at k cs ≡ Some c → c'.incoming.number ≡ k → (j : ℕ)
+    → f (chain_at j (put_chain c' cs)) ≡ cond (nat_eq j k) (f (Some c')) (f (chain_at j cs))
+put_at f k cs c c' at number j = by_test (nat_eq j k) refl
+  where
+    by_test : (b : Bool) → nat_eq j k ≡ b → f (chain_at j (put_chain c' cs)) ≡ cond (nat_eq j k) (f (Some c')) (f (chain_at j cs))
+    by_test true e =
+        ap (λ (n : ℕ). f (chain_at n (put_chain c' cs))) (equal_by j k e) ∙ ap f (chain_at_put_same k cs c c' at number)
+        ∙ sym (ap (λ (b : Bool). cond b (f (Some c')) (f (chain_at j cs))) e)
+    by_test false e = ap f (chain_at_put_other j cs c' (ap (nat_eq j) number ∙ e)) ∙ sym (ap (λ (b : Bool). cond b (f (Some c')) (f (chain_at j cs))) e)

@@ -2,6 +2,7 @@
 use Rattle.std.proofs.Common.{◌≡◌, ℕ, true, false, cond, List, ◌++◌, Option, Some, None, refl, sym, ap, subst, ◌∙◌}
 use Rattle.addr4.specs.Prefixes.{Network}
 use Rattle.bgp_attr.specs.declared.attrs.Attrs.{Attrs}
+use Rattle.bgp_attr.specs.declared.route.Route.{Route}
 use Rattle.link_change.specs.Changes.{IsSent}
 use Rattle.link_change.specs.declared.change.Change.{Change}
 use Rattle.link_change.specs.declared.turn.Turn.{Turn}
@@ -14,9 +15,9 @@ use Rattle.journal_text.specs.Journals.{Journaled, with_lines, with_entries, Add
 use Rattle.journal_text.specs.Walk.{Leads}
 use Rattle.journal_text.proofs.JournalLemmas.{with_entries_append, entries_of_entries}
 use Rattle.journal_text.proofs.WalkLemmas.{leads_append}
-use Rattle.in_chain.specs.Incomings.{in_rows, NoneEmpty}
-use Rattle.in_chain.specs.Chains.{Chained, beside, IsChain}
-use Rattle.in_chain.specs.Falls.{Falls, LeadsChain, way_down}
+use Rattle.in_chain.specs.Incomings.{NoneEmpty}
+use Rattle.in_chain.specs.Chains.{Chained, filt_rows, beside, IsChain}
+use Rattle.in_chain.specs.Falls.{Falls, LeadsChain, way_of_feed}
 use Rattle.in_chain.specs.IncomingSteps.{weld_entries}
 use Rattle.in_chain.specs.Steps.{fed, welded, Sweeps, session_of, IsIdle, IsSwept, IsTaken}
 use Rattle.router_core.specs.declared.router.Done.TheVariants.{Nothing, Taken}
@@ -32,37 +33,38 @@ pub record Welds (less c' : Chained) (j now : Journaled) : Type 0 where
   pub chain : IsChain c'
   pub full : NoneEmpty c'.incoming.deletions
 
-abbrev fall_entries : Chained → List (Entry Value) → List (Entry Value)
+abbrev pub fall_entries : Chained → List (Entry Value) → List (Entry Value)
 fall_entries less entries = entries ++ weld_entries less.incoming.number (In less.incoming.number) less.incoming.deletions
 
-fall_step : (c less c' : Chained) (entries : List (Entry Value)) (j now : Journaled) → less.incoming.number ≡ c.incoming.number → LeadsChain c entries less → Welds less c' j now
+pub fall_step : (c less c' : Chained) (entries : List (Entry Value)) (j now : Journaled) → less.incoming.number ≡ c.incoming.number → (less.me ≡ c.me) × (less.peer ≡ c.peer) → LeadsChain c entries less → Welds less c' j now
     → StepsChain c (journal_lines (fall_entries less entries)) c'
-fall_step c less c' entries j now number leads w = record {
+fall_step c less c' entries j now number words leads w = record {
   number = ap (λ (x : Chained). x.incoming.number) w.after ∙ number;
+  words = (ap (λ (x : Chained). x.me) w.after ∙ words.0, ap (λ (x : Chained). x.peer) w.after ∙ words.1);
   leads = λ others. subst (λ (es : List (Entry Value)). Leads (beside others c) es (beside others c')) (sym (entries_of_entries (fall_entries less entries)))
       (leads_append (beside others c) (beside others less) (beside others c') entries (weld_entries less.incoming.number (In less.incoming.number) less.incoming.deletions) (leads others) (w.leads others));
   chain = w.chain;
   full = w.full;
 }
 
-fall_pushed : (less c' : Chained) (entries : List (Entry Value)) (before j now : Journaled) → j ≡ with_entries before entries → Welds less c' j now
+pub fall_pushed : (less c' : Chained) (entries : List (Entry Value)) (before j now : Journaled) → j ≡ with_entries before entries → Welds less c' j now
     → now ≡ with_lines before (journal_lines (fall_entries less entries))
 fall_pushed less c' entries before j now pushed w =
     w.lines ∙ ap (λ (x : Journaled). with_entries x (weld_entries less.incoming.number (In less.incoming.number) less.incoming.deletions)) pushed
     ∙ with_entries_append before entries (weld_entries less.incoming.number (In less.incoming.number) less.incoming.deletions)
 
-pub feeds_chain : (p : Network) (row : Option Attrs) (c less c' : Chained) (sent : Option (Change Attrs)) (before j now : Journaled)
-    → IsSent (in_rows c) (in_rows less) p sent → less ≡ fed c p row
-    → Adds (Falls c less p (way_down c.incoming.number (In c.incoming.number) c.incoming.deletions) sent) before j
+pub feeds_chain : (p : Network) (row : Option Attrs) (c less c' : Chained) (sent : Option (Change Route)) (before j now : Journaled)
+    → IsSent (filt_rows c) (filt_rows less) p sent → less ≡ fed c p row
+    → Adds (Falls c less p (way_of_feed c.incoming) sent) before j
     → Welds less c' j now → Pushes (FeedsChain p row c c') before now
 feeds_chain p row c less c' sent before j now rows is adds w =
-    let step = fall_step c less c' adds.0 j now (ap (λ (x : Chained). x.incoming.number) is) adds.2.leads w in
+    let step = fall_step c less c' adds.0 j now (ap (λ (x : Chained). x.incoming.number) is) (ap (λ (x : Chained). x.me) is, ap (λ (x : Chained). x.peer) is) adds.2.leads w in
     let said = journal_lines (fall_entries less adds.0) in
     let feeds : FeedsChain p row c c' said = record {
       sent = sent;
       entries = adds.0;
-      falls = subst (λ (x : Chained). Falls c x p (way_down c.incoming.number (In c.incoming.number) c.incoming.deletions) sent adds.0) is adds.2;
-      rows = subst (λ (x : Chained). IsSent (in_rows c) (in_rows x) p sent) is rows;
+      falls = subst (λ (x : Chained). Falls c x p (way_of_feed c.incoming) sent adds.0) is adds.2;
+      rows = subst (λ (x : Chained). IsSent (filt_rows c) (filt_rows x) p sent) is rows;
       lines = ap (λ (x : Chained). journal_lines (fall_entries x adds.0)) is;
       after = w.after ∙ ap welded is;
       step = step;
