@@ -12,7 +12,7 @@ use Rattle.router_core.specs.Moments.{Moment, chain_at, put_chain, with_chain, l
 use Rattle.router_core.proofs.ChainLemmas.{equal_by, number_at, chain_at_put_same, chain_at_put_other}
 
 -- a link that no chain has
-none_by : (link : Link) → ((c : Chained) → links_of c link ≡ None) → (o : Option Chained) → links_by o link ≡ None
+pub none_by : (link : Link) → ((c : Chained) → links_of c link ≡ None) → (o : Option Chained) → links_by o link ≡ None
 none_by link none None = refl
 none_by link none (Some c) = none c
 
@@ -31,7 +31,7 @@ module _ (m : Moment) (k : ℕ) (c : Chained) (at : chain_at k m.chains ≡ Some
       each : (link : Link) → beside (router_links m) c link ≡ router_links m link
       each (In j) = old_at (In j) j refl (nat_eq j c.incoming.number) refl
       each (Peer j s) = old_at (Peer j s) j refl (nat_eq j c.incoming.number) refl
-      each (Filt j) = refl
+      each (Filt j) = old_at (Filt j) j refl (nat_eq j c.incoming.number) refl
       each (Res j) = refl
       each (Org p) = refl
       each (Lost p n) = refl
@@ -66,7 +66,7 @@ module _ (m : Moment) (k : ℕ) (c : Chained) (at : chain_at k m.chains ≡ Some
         each : (link : Link) → beside (router_links m) c' link ≡ router_links (with_chain m c') link
         each (In j) = new_at (In j) j (nat_eq j c'.incoming.number) refl
         each (Peer j s) = new_at (Peer j s) j (nat_eq j c'.incoming.number) refl
-        each (Filt j) = none (Filt j) (λ d. refl)
+        each (Filt j) = new_at (Filt j) j (nat_eq j c'.incoming.number) refl
         each (Res j) = none (Res j) (λ d. refl)
         each (Org p) = none (Org p) (λ d. refl)
         each (Lost p n) = none (Lost p n) (λ d. refl)

@@ -19,6 +19,7 @@ use Rattle.journal_text.specs.Walk.{Leads}
 use Rattle.journal_text.proofs.JournalLemmas.{entries_of_entries}
 use Rattle.event_text.specs.declared.declared.DeclaredPeer.{DeclaredPeer}
 use Rattle.event_text.specs.Declarations.{Declaration, peer_at, ended_at, without_session}
+use Rattle.pass_core.specs.Passed.{present}
 use Rattle.in_chain.specs.Incomings.{NoneEmpty}
 use Rattle.in_chain.specs.Chains.{Chained, beside, IsChain}
 use Rattle.in_chain.specs.Falls.{LeadsChain}
@@ -33,7 +34,7 @@ use Rattle.router_core.specs.Works.{Pushes, Steps, IsPlace, HasDrained, LosesCha
 use Rattle.router_core.proofs.ChainLemmas.{equal_by, same_by, number_at, chain_at_put_same}
 use Rattle.router_core.proofs.LinkLemmas.{leads_router}
 use Rattle.router_core.proofs.RowCounts.{is_full}
-use Rattle.router_core.proofs.StandLemmas.{peer_of, stands_put, live_with, few_left}
+use Rattle.router_core.proofs.StandLemmas.{peer_of, KeepsOthers, stands_put, live_routed, few_left}
 use Rattle.router_core.proofs.TurnLemmas.{flushed_join, flushed_none, leads_join, work_none}
 use Rattle.router_core.proofs.UnitLemmas.{swept_number}
 use Rattle.router_core.proofs.PlaceLemmas.{at_place, set_at_place}
@@ -49,6 +50,7 @@ loses_chain s c c' before now is lines leads chain full = (
     lines = refl;
     step = record {
       number = ap (λ (x : Chained). x.incoming.number) is;
+      words = (ap (λ (x : Chained). x.me) is, ap (λ (x : Chained). x.peer) is);
       leads = λ others. subst (λ (es : List (Entry Value)). Leads (beside others c) es (beside others c')) (sym (entries_of_entries (loss_entries s c.incoming))) (leads others);
       chain = chain;
       full = full;
@@ -108,6 +110,10 @@ ended_other k j (q ∷ qs) other = by_test (nat_eq q.words.number j) refl (ended
         peer_here j (ended_at k q) (map (ended_at k) qs) (number true e) ∙ ap Some is ∙ sym (peer_here j q qs e)
     by_test false e rest = peer_past j (ended_at k q) (map (ended_at k) qs) (number false e) ∙ rest ∙ sym (peer_past j q qs e)
 
+ended_length : (k : ℕ) (ps : List DeclaredPeer) → length (map (ended_at k) ps) ≡ length ps
+ended_length k [] = refl
+ended_length k (p ∷ ps) = ap suc (ended_length k ps)
+
 -- ---- what stands after the loss
 low_of : (p : DeclaredPeer) (ds : List (Lost Attrs)) → AllByRecursion (λ d. IsEarlier p true d.number) ds → AllByRecursion (λ d. d.number ≤ p.session) ds
 low_of p [] all = tt
@@ -141,6 +147,7 @@ room_of c none full = by_stages c.incoming.deletions refl
 
 lost_stands : (p : DeclaredPeer) (s : ℕ) (c : Chained) → p.up ≡ true → p.session ≡ s → PeerStands p c → overdue_of c.incoming ≡ None → IsChain (lost s c) → NoneEmpty (lost s c).incoming.deletions → PeerStands (down p) (lost s c)
 lost_stands p s c up session stands room chain full = record {
+  words = stands.words;
   chain = chain;
   full = full;
   few = (by_test (is_empty_map c.incoming.live) refl).0;
@@ -185,12 +192,15 @@ ends_one k s m c c' said stands up free at f =
       lines = f.lines;
       after = ap (λ (x : Chained). moment_by (without_session m.declared k) (put_chain x m.chains)) f.is;
       leads = leads_router m k c at c' number (entries_of said) f.step.leads;
-      live = live_with m (without_session m.declared k) k c c' at number ∙ ap (λ r. the_state (with_routes (live_state m).routes k r)) (ap (λ (x : Chained). x.incoming.live) f.is);
-      stands = stands_put m (without_session m.declared k) k c c' stands at number (λ j e. ended_other k j m.declared.peers e) at_now;
+      live = live_routed m (without_session m.declared k) k c c' at number (ap (λ (x : Chained). present x.filter) f.is) ∙ ap (λ r. the_state (with_routes (live_state m).routes k r)) (ap (λ (x : Chained). x.incoming.live) f.is);
+      stands = stands_put m (without_session m.declared k) k c c' stands at number f.step.words.0 keeps at_now;
     }
   where
     the_state : (ℕ → Routes) → LiveState
-    the_state routes = record { declared = without_session m.declared k; routes = routes }
+    the_state routes = record { declared = without_session m.declared k; routes = routes; rules = (live_state m).rules }
+
+    keeps : KeepsOthers k m.declared (without_session m.declared k)
+    keeps = record { speaker = refl; count = ended_length k m.declared.peers; others = λ j e. ended_other k j m.declared.peers e }
 
 pub one_ended : (k s : ℕ) (m : Moment) (cs : List Chained) (before now : Journaled) → Stands m → IsSession k s m → ((c : Chained) → chain_at k m.chains ≡ Some c → overdue_of c.incoming ≡ None)
     → Steps (LosesChain s) k m.chains cs before now → Pushes (Ends k s m (moment_by (without_session m.declared k) cs)) before now
