@@ -129,8 +129,8 @@ chains_more c [] = refl
 chains_more c (d ∷ ds) = by_test (nat_lt c.incoming.number d.incoming.number) (chains_more c ds)
   where
     by_test : (b : Bool) → length (insert_chain c ds) ≡ length ds + 1 → length (cond b (c ∷ d ∷ ds) (d ∷ insert_chain c ds)) ≡ length (d ∷ ds) + 1
-    by_test true rest = refl
-    by_test false rest = ap suc rest
+    by_test true rest = omega arith
+    by_test false rest = omega arith
 
 all_more : (P : Chained → Type 0) (c : Chained) (cs : List Chained) → AllByRecursion P cs → P c → AllByRecursion P (insert_chain c cs)
 all_more P c [] all one = (one, tt)
@@ -245,7 +245,7 @@ module _ (m : Moment) (me : Speaker) (k : ℕ) (words : Speaker) (is_local : m.d
 
   declared_leads : Leads (router_links m) (Begin (In k) ∷ Begin (Filt k) ∷ []) (router_links (declared_peer m me k words))
   declared_leads = record {
-    lawful = (ap (λ (o : Option Chained). links_by o (In k)) no_chain_yet, ap (λ (o : Option Chained). links_by o (Filt k)) no_chain_yet, tt);
+    lawful = (ap (λ (o : Option Chained). links_by o (In k)) no_chain_yet, (ap (λ (o : Option Chained). links_by o (Filt k)) no_chain_yet, tt));
     ends = declared_links;
   }
 
@@ -452,7 +452,7 @@ same_links m k rules c at links =
 
 pub edited_acts : (m : Moment) (k : ℕ) (rules : List Rule) (cs : List Chained) → Edits k rules m.chains cs → Acts m (events.FilterIn k rules) 0 (moment_by m.declared cs) []
 edited_acts m k rules cs e = subst (λ (x : List Chained). Acts m (events.FilterIn k rules) 0 (moment_by m.declared x) []) (sym e.2) (record {
-  block = (e.0, e.1, refl, refl, refl);
+  block = (e.0, e.1, (refl, refl, refl));
   leads = leads_nowhere (router_links m) (router_links (with_chain m (refiltered rules e.0))) (same_links m k rules e.0 e.1 e.3);
   live = live_edited m k e.0 (refiltered rules e.0) e.1 (number_at k m.chains e.0 e.1) refl
       ∙ ap (λ (r : List Rule). live_by m (with_rules (live_state m).rules k r)) (present_edited e.0.filter.in_force e.0.filter.walk rules);
