@@ -1,18 +1,16 @@
 -- Where the chain of a number stands.
-use Rattle.std.proofs.Common.{◌≡◌, ℕ, ◌+◌, ◌<◌, ◌≤◌, Bool, true, false, not, cond, ltb, is_some, List, [], ◌∷◌, Option, Some, None, nat_eq, length, get_or, refl, sym, ap, subst, ◌∙◌, arith, suc}
+use Rattle.std.proofs.Common.{◌≡◌, ℕ, ◌+◌, ◌<◌, ◌≤◌, Bool, true, false, not, cond, ltb, List, [], ◌∷◌, Option, Some, None, nat_eq, length, get_or, refl, sym, ap, subst, ◌∙◌, arith, suc}
 use Rattle.std.proofs.lemmas.Bool.Decides.{nat_tests}
 use Rattle.std.specs.List.{position_or_len}
 use Rattle.in_chain.specs.Chains.{Chained}
 use Rattle.router_core.specs.Moments.{chain_at, put_chain}
 use Rattle.router_core.specs.Works.{IsPlace, TurnsChain, TurnsAt}
-use Rattle.router_core.specs.Turns.{has_table}
+use Rattle.router_core.specs.Turns.{peer_of, has_turn_in}
 use Rattle.router_core.specs.Stands.{AreInOrder}
 use Rattle.router_core.specs.declared.router.Done.{Done}
 use Rattle.router_core.specs.declared.router.Done.TheVariants.{Nothing, Taken}
 use Rattle.router_core.proofs.ChainLemmas.{chain_here, chain_past, set_is_put}
-use Rattle.std.specs.FinMap.{FinMap}
-use Rattle.addr4.specs.Prefixes.{prefix_cmp}
-use Rattle.bgp_attr.specs.declared.attrs.Attrs.{Attrs}
+use Rattle.journal_text.specs.declared.link.Task.{Task}
 use Rattle.journal_text.specs.Journals.{Journaled}
 use Rattle.std.proofs.Math.ListN.{set}
 use Rattle.std.proofs.lemmas.List.{set-get_or}
@@ -62,12 +60,9 @@ at_place k cs i c place is = place.1 c ∙ ap Some (sym is)
 pub set_at_place : (cs : List Chained) (i : ℕ) (c c' : Chained) → AreInOrder cs → i < length cs → c ≡ get_or cs i c → c'.incoming.number ≡ c.incoming.number → set cs i c' ≡ put_chain c' cs
 set_at_place cs i c c' order below is number = set_is_put cs i c' c order below (number ∙ ap (λ (x : Chained). x.incoming.number) is)
 
-pub turns_placed : (k s : ℕ) (cs : List Chained) (i : ℕ) (c c' : Chained) (before now : Journaled) (done : Done) → AreInOrder cs → IsPlace k cs (Some i) → c ≡ get_or cs i c
-    → TurnsChain s c c' before now done → TurnsAt k s cs (set cs i c') before now done
-turns_placed k s cs i c c' before now Nothing order place is t = (
-  ap (has_table s) (at_place k cs i c place is) ∙ ap (λ (o : Option (FinMap prefix_cmp Attrs)). is_some o) t.0,
-  ap (set cs i) (t.1.0 ∙ is) ∙ set-get_or cs i c,
-  t.1.1,
-)
-turns_placed k s cs i c c' before now Taken order place is t =
-    (c, c', at_place k cs i c place is, set_at_place cs i c c' order place.0 is t.2.step.number, t)
+pub turns_placed : (task : Task) (cs : List Chained) (i : ℕ) (c c' : Chained) (before now : Journaled) (done : Done) → AreInOrder cs → IsPlace (peer_of task) cs (Some i) → c ≡ get_or cs i c
+    → TurnsChain task c c' before now done → TurnsAt task cs (set cs i c') before now done
+turns_placed task cs i c c' before now Nothing order place is t =
+    (ap (has_turn_in task) (at_place (peer_of task) cs i c place is) ∙ t.0, ap (set cs i) (t.1.0 ∙ is) ∙ set-get_or cs i c, t.1.1)
+turns_placed task cs i c c' before now Taken order place is t =
+    (c, c', at_place (peer_of task) cs i c place is, set_at_place cs i c c' order place.0 is t.2.step.number, t)
