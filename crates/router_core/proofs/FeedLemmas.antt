@@ -12,8 +12,9 @@ use Rattle.journal_text.specs.Texts.{entries_of}
 use Rattle.journal_text.proofs.JournalLemmas.{with_lines_append}
 use Rattle.journal_text.proofs.WalkLemmas.{leads_nowhere}
 use Rattle.event_text.specs.declared.declared.DeclaredPeer.{DeclaredPeer}
+use Rattle.pass_core.specs.Passed.{present}
 use Rattle.in_chain.specs.Chains.{Chained}
-use Rattle.in_chain.specs.Steps.{without, live_after, deletions_after}
+use Rattle.in_chain.specs.IncomingSteps.{without, live_after, deletions_after}
 use Rattle.router_core.specs.Moments.{Moment, chain_at, with_chain, router_links}
 use Rattle.router_core.specs.Lives.{LiveState, Routes, live_state, with_routes, routes_after}
 use Rattle.router_core.specs.Stands.{AreInOrder, IsSilent, PeerStands, Stands}
@@ -22,8 +23,7 @@ use Rattle.router_core.specs.Works.{FeedsChain, Pushes, Steps, IsPlace, IsUpAt, 
 use Rattle.router_core.proofs.ChainLemmas.{number_at, same_by}
 use Rattle.router_core.proofs.LinkLemmas.{leads_router}
 use Rattle.router_core.proofs.RowCounts.{is_full}
-use Rattle.router_core.proofs.StandLemmas.{peer_of, stands_with, live_with, routes_there, routes_same, routes_twice}
-use Rattle.router_core.proofs.UnitLemmas.{peer_left}
+use Rattle.router_core.proofs.StandLemmas.{peer_of, stands_with, live_routed, routes_there, routes_same, routes_twice, peer_left}
 use Rattle.router_core.proofs.TurnLemmas.{leads_join}
 use Rattle.router_core.proofs.PlaceLemmas.{at_place, set_at_place}
 
@@ -57,25 +57,25 @@ same_peer : (p q : DeclaredPeer) → Some p ≡ Some q → p ≡ q
 same_peer p q e = cc
 
 abbrev live_by : Moment → (ℕ → Routes) → LiveState
-live_by m routes = record { declared = m.declared; routes = routes }
+live_by m routes = record { declared = m.declared; routes = routes; rules = (live_state m).rules }
 
 -- a feed of a peer's chain is one of the router
 pub fed_one : (k : ℕ) (p : Network) (row : Option Attrs) (m : Moment) (c c' : Chained) (said : List Line) → Stands m → IsUpAt k m → chain_at k m.chains ≡ Some c → FeedsChain p row c c' said
     → HaveFed k ((p, row) ∷ []) m (with_chain m c') said
 fed_one k p row m c c' said stands up at f =
     let peer = peer_of m stands k c at in
-    let number : c'.number ≡ k = f.step.number ∙ number_at k m.chains c at in
+    let number : c'.incoming.number ≡ k = f.step.number ∙ number_at k m.chains c at in
     let is_up : peer.0.up ≡ true = ap (λ (q : DeclaredPeer). q.up) (same_peer peer.0 up.0 (sym peer.1 ∙ up.1)) ∙ up.2 in
-    let tables : c'.deletions ≡ filter is_full (map (thinned p row) c.deletions) = ap (λ (x : Chained). x.deletions) f.after ∙ ap (filter is_full) (thinned_all p row c.deletions) in
-    let here : PeerStands peer.0 c' = peer_left peer.0 c c' (thinned p row) is_full (thinned_number p row) tables f.step.chain f.step.full (silent_up peer.0.up c' is_up) peer.2 in
-    let live : c'.live ≡ live_after c.live p row = ap (λ (x : Chained). x.live) f.after in
+    let tables : c'.incoming.deletions ≡ filter is_full (map (thinned p row) c.incoming.deletions) = ap (λ (x : Chained). x.incoming.deletions) f.after ∙ ap (filter is_full) (thinned_all p row c.incoming.deletions) in
+    let here : PeerStands peer.0 c' = peer_left peer.0 c c' (thinned p row) is_full (thinned_number p row) tables f.step.words.1 f.step.chain f.step.full (silent_up peer.0.up c' is_up) peer.2 in
+    let live : c'.incoming.live ≡ live_after c.incoming.live p row = ap (λ (x : Chained). x.incoming.live) f.after in
     let feeds : Feeds k (p, row) m said (with_chain m c') = record { chain = c; at = at; sent = f.sent; entries = f.entries; falls = f.falls; rows = f.rows; lines = f.lines; after = ap (with_chain m) f.after } in
     record {
       feeds = (said, [], with_chain m c', feeds, (refl, refl), sym (append-nil said));
       leads = leads_router m k c at c' number (entries_of said) f.step.leads;
-      live = live_with m m.declared k c c' at number
+      live = live_routed m m.declared k c c' at number (ap (λ (x : Chained). present x.filter) f.after)
           ∙ ap (λ (r : Routes). live_by m (with_routes (live_state m).routes k r)) (live ∙ ap (λ (r : Routes). live_after r p row) (sym (routes_there m k c at)));
-      stands = stands_with m k c c' peer.0 stands at number peer.1 here;
+      stands = stands_with m k c c' peer.0 stands at number f.step.words.0 peer.1 here;
     }
 
 pub one_fed : (k : ℕ) (p : Network) (row : Option Attrs) (m : Moment) (cs : List Chained) (before now : Journaled) → Stands m → IsUpAt k m → Steps (FeedsChain p row) k m.chains cs before now
@@ -105,7 +105,7 @@ module _ (k : ℕ) where
       ∙ ap (λ (r : Routes). the_state (with_routes l.routes k r)) (sym (routes_join xs ys (l.routes k)))
     where
       the_state : (ℕ → Routes) → LiveState
-      the_state routes = record { declared = l.declared; routes = routes }
+      the_state routes = record { declared = l.declared; routes = routes; rules = l.rules }
 
   pub fed_none : (m : Moment) → Stands m → HaveFed k [] m m []
   fed_none m stands = record {

@@ -9,6 +9,7 @@ pub mod LinkLemmas
 pub mod WorkLemmas
 pub mod RowCounts
 pub mod StandLemmas
+pub mod ScratchLemmas
 pub mod PlaceLemmas
 pub mod UnitLemmas
 pub mod TurnLemmas

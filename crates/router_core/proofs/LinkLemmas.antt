@@ -12,16 +12,16 @@ use Rattle.router_core.specs.Moments.{Moment, chain_at, put_chain, with_chain, l
 use Rattle.router_core.proofs.ChainLemmas.{equal_by, number_at, chain_at_put_same, chain_at_put_other}
 
 -- a link that no chain has
-none_by : (link : Link) → ((c : Chained) → links_of c link ≡ None) → (o : Option Chained) → links_by o link ≡ None
+pub none_by : (link : Link) → ((c : Chained) → links_of c link ≡ None) → (o : Option Chained) → links_by o link ≡ None
 none_by link none None = refl
 none_by link none (Some c) = none c
 
-both_none : (link : Link) → ((c : Chained) → links_of c link ≡ None) → (o p : Option Chained) → links_by o link ≡ links_by p link
+pub both_none : (link : Link) → ((c : Chained) → links_of c link ≡ None) → (o p : Option Chained) → links_by o link ≡ links_by p link
 both_none link none o p = none_by link none o ∙ sym (none_by link none p)
 
 module _ (m : Moment) (k : ℕ) (c : Chained) (at : chain_at k m.chains ≡ Some c) where
-  old_at : (link : Link) (j : ℕ) → owner_of link ≡ j → (b : Bool) → nat_eq j c.number ≡ b → cond b (links_of c link) (links_by (chain_at j m.chains) link) ≡ links_by (chain_at j m.chains) link
-  old_at link j owner true e = ap (λ (o : Option Chained). links_by o link) (sym at ∙ ap (λ (n : ℕ). chain_at n m.chains) (sym (number_at k m.chains c at) ∙ sym (equal_by j c.number e)))
+  old_at : (link : Link) (j : ℕ) → owner_of link ≡ j → (b : Bool) → nat_eq j c.incoming.number ≡ b → cond b (links_of c link) (links_by (chain_at j m.chains) link) ≡ links_by (chain_at j m.chains) link
+  old_at link j owner true e = ap (λ (o : Option Chained). links_by o link) (sym at ∙ ap (λ (n : ℕ). chain_at n m.chains) (sym (number_at k m.chains c at) ∙ sym (equal_by j c.incoming.number e)))
   old_at link j owner false e = refl
 
   -- a chain's links stand among the router's
@@ -29,9 +29,9 @@ module _ (m : Moment) (k : ℕ) (c : Chained) (at : chain_at k m.chains ≡ Some
   beside_old i link = each link i
     where
       each : (link : Link) → beside (router_links m) c link ≡ router_links m link
-      each (In j) = old_at (In j) j refl (nat_eq j c.number) refl
-      each (Peer j s) = old_at (Peer j s) j refl (nat_eq j c.number) refl
-      each (Filt j) = refl
+      each (In j) = old_at (In j) j refl (nat_eq j c.incoming.number) refl
+      each (Peer j s) = old_at (Peer j s) j refl (nat_eq j c.incoming.number) refl
+      each (Filt j) = old_at (Filt j) j refl (nat_eq j c.incoming.number) refl
       each (Res j) = refl
       each (Org p) = refl
       each (Lost p n) = refl
@@ -49,10 +49,10 @@ module _ (m : Moment) (k : ℕ) (c : Chained) (at : chain_at k m.chains ≡ Some
       each (Outf j s) = refl
       each (Adv j s) = refl
 
-  module _ (c' : Chained) (same : c'.number ≡ k) where
-    new_at : (link : Link) (j : ℕ) → (b : Bool) → nat_eq j c'.number ≡ b → cond b (links_of c' link) (links_by (chain_at j m.chains) link) ≡ links_by (chain_at j (put_chain c' m.chains)) link
+  module _ (c' : Chained) (same : c'.incoming.number ≡ k) where
+    new_at : (link : Link) (j : ℕ) → (b : Bool) → nat_eq j c'.incoming.number ≡ b → cond b (links_of c' link) (links_by (chain_at j m.chains) link) ≡ links_by (chain_at j (put_chain c' m.chains)) link
     new_at link j true e =
-        let here : chain_at j (put_chain c' m.chains) ≡ Some c' = subst (λ (n : ℕ). chain_at n (put_chain c' m.chains) ≡ Some c') (sym (equal_by j c'.number e ∙ same)) (chain_at_put_same k m.chains c c' at same) in
+        let here : chain_at j (put_chain c' m.chains) ≡ Some c' = subst (λ (n : ℕ). chain_at n (put_chain c' m.chains) ≡ Some c') (sym (equal_by j c'.incoming.number e ∙ same)) (chain_at_put_same k m.chains c c' at same) in
         ap (λ (o : Option Chained). links_by o link) (sym here)
     new_at link j false e = ap (λ (o : Option Chained). links_by o link) (sym (chain_at_put_other j m.chains c' e))
 
@@ -64,9 +64,9 @@ module _ (m : Moment) (k : ℕ) (c : Chained) (at : chain_at k m.chains ≡ Some
         none link lacks = both_none link lacks (chain_at (owner_of link) m.chains) (chain_at (owner_of link) (put_chain c' m.chains))
 
         each : (link : Link) → beside (router_links m) c' link ≡ router_links (with_chain m c') link
-        each (In j) = new_at (In j) j (nat_eq j c'.number) refl
-        each (Peer j s) = new_at (Peer j s) j (nat_eq j c'.number) refl
-        each (Filt j) = none (Filt j) (λ d. refl)
+        each (In j) = new_at (In j) j (nat_eq j c'.incoming.number) refl
+        each (Peer j s) = new_at (Peer j s) j (nat_eq j c'.incoming.number) refl
+        each (Filt j) = new_at (Filt j) j (nat_eq j c'.incoming.number) refl
         each (Res j) = none (Res j) (λ d. refl)
         each (Org p) = none (Org p) (λ d. refl)
         each (Lost p n) = none (Lost p n) (λ d. refl)

@@ -19,9 +19,12 @@ use Rattle.journal_text.specs.Walk.{Leads}
 use Rattle.journal_text.proofs.JournalLemmas.{entries_of_entries}
 use Rattle.event_text.specs.declared.declared.DeclaredPeer.{DeclaredPeer}
 use Rattle.event_text.specs.Declarations.{Declaration, peer_at, ended_at, without_session}
-use Rattle.in_chain.specs.Chains.{Chained, beside, IsChain, NoneEmpty}
+use Rattle.pass_core.specs.Passed.{present}
+use Rattle.in_chain.specs.Incomings.{NoneEmpty}
+use Rattle.in_chain.specs.Chains.{Chained, beside, IsChain}
 use Rattle.in_chain.specs.Falls.{LeadsChain}
-use Rattle.in_chain.specs.Steps.{swept_one, swept, welded, table_of, lost, loss_entries, overdue_of, oldest_of}
+use Rattle.in_chain.specs.IncomingSteps.{swept_one, table_of, loss_entries, overdue_of, oldest_of}
+use Rattle.in_chain.specs.Steps.{swept, welded, lost}
 use Rattle.router_core.specs.Moments.{Moment, chain_at, put_chain, with_chain, Gives}
 use Rattle.router_core.specs.Lives.{LiveState, Routes, live_state, with_routes, ended}
 use Rattle.router_core.specs.Stands.{AreInOrder, IsEarlier, PeerStands, StandsAt, Stands}
@@ -31,23 +34,24 @@ use Rattle.router_core.specs.Works.{Pushes, Steps, IsPlace, HasDrained, LosesCha
 use Rattle.router_core.proofs.ChainLemmas.{equal_by, same_by, number_at, chain_at_put_same}
 use Rattle.router_core.proofs.LinkLemmas.{leads_router}
 use Rattle.router_core.proofs.RowCounts.{is_full}
-use Rattle.router_core.proofs.StandLemmas.{peer_of, stands_put, live_with, few_left}
+use Rattle.router_core.proofs.StandLemmas.{peer_of, KeepsOthers, stands_put, live_routed, few_left}
 use Rattle.router_core.proofs.TurnLemmas.{flushed_join, flushed_none, leads_join, work_none}
 use Rattle.router_core.proofs.UnitLemmas.{swept_number}
 use Rattle.router_core.proofs.PlaceLemmas.{at_place, set_at_place}
 
 -- ---- in a chain
-pub loses_chain : (s : ℕ) (c c' : Chained) (before now : Journaled) → c' ≡ lost s c → now ≡ with_entries before (loss_entries s c) → LeadsChain c (loss_entries s c) c' → IsChain c' → NoneEmpty c'.deletions
+pub loses_chain : (s : ℕ) (c c' : Chained) (before now : Journaled) → c' ≡ lost s c → now ≡ with_entries before (loss_entries s c.incoming) → LeadsChain c (loss_entries s c.incoming) c' → IsChain c' → NoneEmpty c'.incoming.deletions
     → Pushes (LosesChain s c c') before now
 loses_chain s c c' before now is lines leads chain full = (
-  journal_lines (loss_entries s c),
+  journal_lines (loss_entries s c.incoming),
   lines,
   record {
     is = is;
     lines = refl;
     step = record {
-      number = ap (λ (x : Chained). x.number) is;
-      leads = λ others. subst (λ (es : List (Entry Value)). Leads (beside others c) es (beside others c')) (sym (entries_of_entries (loss_entries s c))) (leads others);
+      number = ap (λ (x : Chained). x.incoming.number) is;
+      words = (ap (λ (x : Chained). x.me) is, ap (λ (x : Chained). x.peer) is);
+      leads = λ others. subst (λ (es : List (Entry Value)). Leads (beside others c) es (beside others c')) (sym (entries_of_entries (loss_entries s c.incoming))) (leads others);
       chain = chain;
       full = full;
     };
@@ -106,6 +110,10 @@ ended_other k j (q ∷ qs) other = by_test (nat_eq q.words.number j) refl (ended
         peer_here j (ended_at k q) (map (ended_at k) qs) (number true e) ∙ ap Some is ∙ sym (peer_here j q qs e)
     by_test false e rest = peer_past j (ended_at k q) (map (ended_at k) qs) (number false e) ∙ rest ∙ sym (peer_past j q qs e)
 
+ended_length : (k : ℕ) (ps : List DeclaredPeer) → length (map (ended_at k) ps) ≡ length ps
+ended_length k [] = refl
+ended_length k (p ∷ ps) = ap suc (ended_length k ps)
+
 -- ---- what stands after the loss
 low_of : (p : DeclaredPeer) (ds : List (Lost Attrs)) → AllByRecursion (λ d. IsEarlier p true d.number) ds → AllByRecursion (λ d. d.number ≤ p.session) ds
 low_of p [] all = tt
@@ -123,59 +131,60 @@ none_of : (b : Bool) (o : Option Task) → cond b None o ≡ None → (task : Ta
 none_of true o e task some = refl
 none_of false o e task some = let s = some in absurd (cc)
 
-room_of : (c : Chained) → overdue_of c ≡ None → is_empty_map c.live ≡ false → length c.deletions < 16
-room_of c none full = by_stages c.deletions refl
+room_of : (c : Chained) → overdue_of c.incoming ≡ None → is_empty_map c.incoming.live ≡ false → length c.incoming.deletions < 16
+room_of c none full = by_stages c.incoming.deletions refl
   where
-    by_stages : (x : List (Lost Attrs)) → c.deletions ≡ x → length c.deletions < 16
-    by_stages [] is = let e : length c.deletions ≡ 0 = ap length is in omega arith
+    by_stages : (x : List (Lost Attrs)) → c.incoming.deletions ≡ x → length c.incoming.deletions < 16
+    by_stages [] is = let e : length c.incoming.deletions ≡ 0 = ap length is in omega arith
     by_stages (d ∷ ds) is =
-        let b = none_of (nat_lt (length c.deletions) 16 || is_empty_map c.live) (oldest_of c.number c.deletions) none (Del c.number d.number) (ap (oldest_of c.number) is) in
-        let only : nat_lt (length c.deletions) 16 ≡ true = left_of (nat_lt (length c.deletions) 16) (is_empty_map c.live) b full in
+        let b = none_of (nat_lt (length c.incoming.deletions) 16 || is_empty_map c.incoming.live) (oldest_of c.incoming.number c.incoming.deletions) none (Del c.incoming.number d.number) (ap (oldest_of c.incoming.number) is) in
+        let only : nat_lt (length c.incoming.deletions) 16 ≡ true = left_of (nat_lt (length c.incoming.deletions) 16) (is_empty_map c.incoming.live) b full in
         grind (arith, nat_tests)
       where
         left_of : (a b : Bool) → (a || b) ≡ true → b ≡ false → a ≡ true
         left_of true b e f = refl
         left_of false b e f = absurd (cc)
 
-lost_stands : (p : DeclaredPeer) (s : ℕ) (c : Chained) → p.up ≡ true → p.session ≡ s → PeerStands p c → overdue_of c ≡ None → IsChain (lost s c) → NoneEmpty (lost s c).deletions → PeerStands (down p) (lost s c)
+lost_stands : (p : DeclaredPeer) (s : ℕ) (c : Chained) → p.up ≡ true → p.session ≡ s → PeerStands p c → overdue_of c.incoming ≡ None → IsChain (lost s c) → NoneEmpty (lost s c).incoming.deletions → PeerStands (down p) (lost s c)
 lost_stands p s c up session stands room chain full = record {
+  words = stands.words;
   chain = chain;
   full = full;
-  few = (by_test (is_empty_map c.live) refl).0;
-  earlier = (by_test (is_empty_map c.live) refl).1;
+  few = (by_test (is_empty_map c.incoming.live) refl).0;
+  earlier = (by_test (is_empty_map c.incoming.live) refl).1;
   silent = refl;
 }
   where
-    low : AllByRecursion (λ d. d.number ≤ p.session) c.deletions
-    low = low_of p c.deletions (up_as p p.up c.deletions up stands.earlier)
+    low : AllByRecursion (λ d. d.number ≤ p.session) c.incoming.deletions
+    low = low_of p c.incoming.deletions (up_as p p.up c.incoming.deletions up stands.earlier)
 
-    by_test : (b : Bool) → is_empty_map c.live ≡ b → (length (lost s c).deletions ≤ 16) × AllByRecursion (λ d. d.number ≤ p.session) (lost s c).deletions
+    by_test : (b : Bool) → is_empty_map c.incoming.live ≡ b → (length (lost s c).incoming.deletions ≤ 16) × AllByRecursion (λ d. d.number ≤ p.session) (lost s c).incoming.deletions
     by_test true e =
-        let is : (lost s c).deletions ≡ c.deletions = ap (λ (b : Bool). cond b c.deletions (c.deletions ++ record { number = s; rows = c.live } ∷ [])) e in
-        let n : length (lost s c).deletions ≡ length c.deletions = ap length is in
+        let is : (lost s c).incoming.deletions ≡ c.incoming.deletions = ap (λ (b : Bool). cond b c.incoming.deletions (c.incoming.deletions ++ record { number = s; rows = c.incoming.live } ∷ [])) e in
+        let n : length (lost s c).incoming.deletions ≡ length c.incoming.deletions = ap length is in
         let was = stands.few in
         (omega arith, subst (λ (ds : List (Lost Attrs)). AllByRecursion (λ d. d.number ≤ p.session) ds) (sym is) low)
     by_test false e =
-        let is : (lost s c).deletions ≡ c.deletions ++ record { number = s; rows = c.live } ∷ [] = ap (λ (b : Bool). cond b c.deletions (c.deletions ++ record { number = s; rows = c.live } ∷ [])) e in
-        let n : length (lost s c).deletions ≡ length (c.deletions ++ record { number = s; rows = c.live } ∷ []) = ap length is in
-        let m : length (c.deletions ++ record { number = s; rows = c.live } ∷ []) ≡ length c.deletions + 1 = length-append c.deletions (record { number = s; rows = c.live } ∷ []) in
+        let is : (lost s c).incoming.deletions ≡ c.incoming.deletions ++ record { number = s; rows = c.incoming.live } ∷ [] = ap (λ (b : Bool). cond b c.incoming.deletions (c.incoming.deletions ++ record { number = s; rows = c.incoming.live } ∷ [])) e in
+        let n : length (lost s c).incoming.deletions ≡ length (c.incoming.deletions ++ record { number = s; rows = c.incoming.live } ∷ []) = ap length is in
+        let m : length (c.incoming.deletions ++ record { number = s; rows = c.incoming.live } ∷ []) ≡ length c.incoming.deletions + 1 = length-append c.incoming.deletions (record { number = s; rows = c.incoming.live } ∷ []) in
         let was = room_of c room e in
-        (omega arith, subst (λ (ds : List (Lost Attrs)). AllByRecursion (λ d. d.number ≤ p.session) ds) (sym is) (low_push p.session c.deletions (record { number = s; rows = c.live }) low (omega arith)))
+        (omega arith, subst (λ (ds : List (Lost Attrs)). AllByRecursion (λ d. d.number ≤ p.session) ds) (sym is) (low_push p.session c.incoming.deletions (record { number = s; rows = c.incoming.live }) low (omega arith)))
 
 abbrev moment_by : Declaration → List Chained → Moment
 moment_by d cs = record { declared = d; chains = cs }
 
 -- the loss in a peer's chain is one of the router
-pub ends_one : (k s : ℕ) (m : Moment) (c c' : Chained) (said : List Line) → Stands m → IsSession k s m → overdue_of c ≡ None → chain_at k m.chains ≡ Some c → LosesChain s c c' said
+pub ends_one : (k s : ℕ) (m : Moment) (c c' : Chained) (said : List Line) → Stands m → IsSession k s m → overdue_of c.incoming ≡ None → chain_at k m.chains ≡ Some c → LosesChain s c c' said
     → Ends k s m (moment_by (without_session m.declared k) (put_chain c' m.chains)) said
 ends_one k s m c c' said stands up free at f =
     let peer = peer_of m stands k c at in
     let same : peer.0 ≡ up.0 = one_peer peer.0 up.0 (sym peer.1 ∙ up.1) in
     let is_up : peer.0.up ≡ true = ap (λ (q : DeclaredPeer). q.up) same ∙ up.2 in
     let session : peer.0.session ≡ s = ap (λ (q : DeclaredPeer). q.session) same ∙ up.3 in
-    let number : c'.number ≡ k = f.step.number ∙ number_at k m.chains c at in
+    let number : c'.incoming.number ≡ k = f.step.number ∙ number_at k m.chains c at in
     let here : PeerStands (down peer.0) c' = subst (λ (x : Chained). PeerStands (down peer.0) x) (sym f.is)
-    (lost_stands peer.0 s c is_up session peer.2 free (subst IsChain f.is f.step.chain) (subst (λ (x : Chained). NoneEmpty x.deletions) f.is f.step.full)) in
+    (lost_stands peer.0 s c is_up session peer.2 free (subst IsChain f.is f.step.chain) (subst (λ (x : Chained). NoneEmpty x.incoming.deletions) f.is f.step.full)) in
     let at_now : StandsAt (peer_at k (map (ended_at k) m.declared.peers)) (Some c') = subst (λ (o : Option DeclaredPeer). StandsAt o (Some c')) (sym (ended_same k m.declared.peers peer.0 peer.1)) here in
     record {
       chain = c;
@@ -183,14 +192,17 @@ ends_one k s m c c' said stands up free at f =
       lines = f.lines;
       after = ap (λ (x : Chained). moment_by (without_session m.declared k) (put_chain x m.chains)) f.is;
       leads = leads_router m k c at c' number (entries_of said) f.step.leads;
-      live = live_with m (without_session m.declared k) k c c' at number ∙ ap (λ r. the_state (with_routes (live_state m).routes k r)) (ap (λ (x : Chained). x.live) f.is);
-      stands = stands_put m (without_session m.declared k) k c c' stands at number (λ j e. ended_other k j m.declared.peers e) at_now;
+      live = live_routed m (without_session m.declared k) k c c' at number (ap (λ (x : Chained). present x.filter) f.is) ∙ ap (λ r. the_state (with_routes (live_state m).routes k r)) (ap (λ (x : Chained). x.incoming.live) f.is);
+      stands = stands_put m (without_session m.declared k) k c c' stands at number f.step.words.0 keeps at_now;
     }
   where
     the_state : (ℕ → Routes) → LiveState
-    the_state routes = record { declared = without_session m.declared k; routes = routes }
+    the_state routes = record { declared = without_session m.declared k; routes = routes; rules = (live_state m).rules }
 
-pub one_ended : (k s : ℕ) (m : Moment) (cs : List Chained) (before now : Journaled) → Stands m → IsSession k s m → ((c : Chained) → chain_at k m.chains ≡ Some c → overdue_of c ≡ None)
+    keeps : KeepsOthers k m.declared (without_session m.declared k)
+    keeps = record { speaker = refl; count = ended_length k m.declared.peers; others = λ j e. ended_other k j m.declared.peers e }
+
+pub one_ended : (k s : ℕ) (m : Moment) (cs : List Chained) (before now : Journaled) → Stands m → IsSession k s m → ((c : Chained) → chain_at k m.chains ≡ Some c → overdue_of c.incoming ≡ None)
     → Steps (LosesChain s) k m.chains cs before now → Pushes (Ends k s m (moment_by (without_session m.declared k) cs)) before now
 one_ended k s m cs before now stands up free t =
     (t.4.0, t.4.1, subst (λ (x : List Chained). Ends k s m (moment_by (without_session m.declared k) x) t.4.0) (sym t.3) (ends_one k s m t.0 t.1 t.4.0 stands up (free t.0 t.2) t.2 t.4.2))
@@ -237,8 +249,8 @@ short_filter s p (d ∷ ds) t there gone = by_test (nat_eq d.number s) refl (is_
 record Shorter (k s : ℕ) (c : Chained) (m' : Moment) : Type 0 where
   chain : Chained
   at : chain_at k m'.chains ≡ Some chain
-  short : length chain.deletions ≤ length c.deletions
-  gone : (t : FinMap prefix_cmp Attrs) → table_of s c.deletions ≡ Some t → table_of s chain.deletions ≡ None → length chain.deletions < length c.deletions
+  short : length chain.incoming.deletions ≤ length c.incoming.deletions
+  gone : (t : FinMap prefix_cmp Attrs) → table_of s c.incoming.deletions ≡ Some t → table_of s chain.incoming.deletions ≡ None → length chain.incoming.deletions < length c.incoming.deletions
 
 one_chain : (a b : Chained) → Some a ≡ Some b → a ≡ b
 one_chain a b e = cc
@@ -271,43 +283,43 @@ turns_shorter (suc n) k s m c said m' at t = by_rest (turns_shorter n k s t.2 c1
     by_rest r = record {
       chain = r.chain;
       at = r.at;
-      short = let a = r.short in let b = few_left (swept_one s p) is_full c.deletions in omega arith;
-      gone = λ table there none. by_table table there none (table_of s c1.deletions) refl;
+      short = let a = r.short in let b = few_left (swept_one s p) is_full c.incoming.deletions in omega arith;
+      gone = λ table there none. by_table table there none (table_of s c1.incoming.deletions) refl;
     }
       where
-        by_table : (table : FinMap prefix_cmp Attrs) → table_of s c.deletions ≡ Some table → table_of s r.chain.deletions ≡ None → (o : Option (FinMap prefix_cmp Attrs)) → table_of s c1.deletions ≡ o
-            → length r.chain.deletions < length c.deletions
-        by_table table there none (Some x) e = let a = r.gone x e none in let b = few_left (swept_one s p) is_full c.deletions in omega arith
-        by_table table there none None e = let a = r.short in let b = short_filter s p c.deletions table there e in omega arith
+        by_table : (table : FinMap prefix_cmp Attrs) → table_of s c.incoming.deletions ≡ Some table → table_of s r.chain.incoming.deletions ≡ None → (o : Option (FinMap prefix_cmp Attrs)) → table_of s c1.incoming.deletions ≡ o
+            → length r.chain.incoming.deletions < length c.incoming.deletions
+        by_table table there none (Some x) e = let a = r.gone x e none in let b = few_left (swept_one s p) is_full c.incoming.deletions in omega arith
+        by_table table there none None e = let a = r.short in let b = short_filter s p c.incoming.deletions table there e in omega arith
 
 stage_of : (b : Bool) (k : ℕ) (ds : List (Lost Attrs)) (task : Task) → cond b None (oldest_of k ds) ≡ Some task → (d : Lost Attrs) × (rest : List (Lost Attrs)) × (ds ≡ d ∷ rest) × (task ≡ Del k d.number)
 stage_of true k ds task e = absurd (cc)
 stage_of false k [] task e = absurd (cc)
 stage_of false k (d ∷ ds) task e = (d, ds, refl, cc)
 
-free_of : (c : Chained) → length c.deletions < 16 → overdue_of c ≡ None
-free_of c below = let few : nat_lt (length c.deletions) 16 ≡ true = grind (arith, nat_tests) in ap (λ (b : Bool). cond (b || is_empty_map c.live) None (oldest_of c.number c.deletions)) few
+free_of : (c : Chained) → length c.incoming.deletions < 16 → overdue_of c.incoming ≡ None
+free_of c below = let few : nat_lt (length c.incoming.deletions) 16 ≡ true = grind (arith, nat_tests) in ap (λ (b : Bool). cond (b || is_empty_map c.incoming.live) None (oldest_of c.incoming.number c.incoming.deletions)) few
 
 no_table : (o : Option (FinMap prefix_cmp Attrs)) → is_some o ≡ false → o ≡ None
 no_table None e = refl
 no_table (Some t) e = absurd (cc)
 
-drained_free : (k : ℕ) (m room : Moment) (c : Chained) (task : Task) (n : ℕ) (said : List Line) → Stands m → chain_at k m.chains ≡ Some c → overdue_of c ≡ Some task → HasDrained task m n room said
-    → (c' : Chained) → chain_at k room.chains ≡ Some c' → overdue_of c' ≡ None
+drained_free : (k : ℕ) (m room : Moment) (c : Chained) (task : Task) (n : ℕ) (said : List Line) → Stands m → chain_at k m.chains ≡ Some c → overdue_of c.incoming ≡ Some task → HasDrained task m n room said
+    → (c' : Chained) → chain_at k room.chains ≡ Some c' → overdue_of c'.incoming ≡ None
 drained_free k m room c task n said stands at over d c' at' =
-    let stage = stage_of (nat_lt (length c.deletions) 16 || is_empty_map c.live) c.number c.deletions task over in
+    let stage = stage_of (nat_lt (length c.incoming.deletions) 16 || is_empty_map c.incoming.live) c.incoming.number c.incoming.deletions task over in
     let is : task ≡ Del k stage.0.number = stage.3 ∙ ap (λ (j : ℕ). Del j stage.0.number) (number_at k m.chains c at) in
     let drained : HasDrained (Del k stage.0.number) m n room said = subst (λ (t : Task). HasDrained t m n room said) is d in
     let r = turns_shorter n k stage.0.number m c said room at drained.run.taken in
     let same : r.chain ≡ c' = one_chain r.chain c' (sym r.at ∙ at') in
-    let there : table_of stage.0.number c.deletions ≡ Some stage.0.rows = ap (table_of stage.0.number) stage.2 ∙ ap (λ (b : Bool). cond b (Some stage.0.rows) (table_of stage.0.number stage.1)) (same_by stage.0.number stage.0.number refl) in
-    let none : table_of stage.0.number r.chain.deletions ≡ None = no_table (table_of stage.0.number r.chain.deletions) (sym (ap (has_table stage.0.number) r.at) ∙ drained.ended) in
+    let there : table_of stage.0.number c.incoming.deletions ≡ Some stage.0.rows = ap (table_of stage.0.number) stage.2 ∙ ap (λ (b : Bool). cond b (Some stage.0.rows) (table_of stage.0.number stage.1)) (same_by stage.0.number stage.0.number refl) in
+    let none : table_of stage.0.number r.chain.incoming.deletions ≡ None = no_table (table_of stage.0.number r.chain.incoming.deletions) (sym (ap (has_table stage.0.number) r.at) ∙ drained.ended) in
     let less = r.gone stage.0.rows there none in
     let few = (peer_of m stands k c at).2.few in
-    let len : length r.chain.deletions ≡ length c'.deletions = ap (λ (x : Chained). length x.deletions) same in
+    let len : length r.chain.incoming.deletions ≡ length c'.incoming.deletions = ap (λ (x : Chained). length x.incoming.deletions) same in
     free_of c' (omega arith)
 
-pub room_drained : (k : ℕ) (m room : Moment) (c : Chained) (task : Task) (n : ℕ) (before now : Journaled) → Stands m → Some c ≡ chain_at k m.chains → Some task ≡ overdue_of c
+pub room_drained : (k : ℕ) (m room : Moment) (c : Chained) (task : Task) (n : ℕ) (before now : Journaled) → Stands m → Some c ≡ chain_at k m.chains → Some task ≡ overdue_of c.incoming
     → Gives (HasDrained task m n room) before now → Gives (HasRoom k m room) before now
 room_drained k m room c task n before now stands at over g = (
   g.0,
@@ -321,7 +333,7 @@ room_drained k m room c task n before now stands at over g = (
   },
 )
 
-pub room_there : (k : ℕ) (m : Moment) (c : Chained) (before now : Journaled) → Stands m → Some c ≡ chain_at k m.chains → None ≡ overdue_of c → now ≡ flushed before → Gives (HasRoom k m m) before now
+pub room_there : (k : ℕ) (m : Moment) (c : Chained) (before now : Journaled) → Stands m → Some c ≡ chain_at k m.chains → None ≡ overdue_of c.incoming → now ≡ flushed before → Gives (HasRoom k m m) before now
 room_there k m c before now stands at over is = (
   [],
   is ∙ flushed_none before,
@@ -330,7 +342,7 @@ room_there k m c before now stands at over is = (
     at = sym at;
     runs = subst (λ (o : Option Task). RunsFirst o m [] m) over (refl, refl);
     work = work_none m stands;
-    free = λ c' at'. ap overdue_of (one_chain c' c (sym at' ∙ sym at)) ∙ sym over;
+    free = λ c' at'. ap (λ (x : Chained). overdue_of x.incoming) (one_chain c' c (sym at' ∙ sym at)) ∙ sym over;
   },
 )
 

@@ -2,15 +2,19 @@
 use Rattle.std.proofs.Common.{◌≡◌, ℕ, ◌≤◌, Bool, true, false, cond, List, [], ◌∷◌, map, Option, Some, None, nat_eq, refl, sym, ap, subst, ◌∙◌, arith, length}
 use Rattle.std.specs.List.{AllByRecursion, filter}
 use Rattle.bgp_attr.specs.declared.attrs.Attrs.{Attrs}
+use Rattle.bgp_attr.specs.declared.speaker.Speaker.{Speaker}
 use Rattle.deletion_stage.specs.Lost.{Lost}
 use Rattle.event_text.specs.declared.declared.DeclaredPeer.{DeclaredPeer}
 use Rattle.event_text.specs.Declarations.{Declaration, peer_at}
-use Rattle.in_chain.specs.Chains.{Chained}
+use Rattle.policy_rules.specs.declared.rule.Rule.{Rule}
+use Rattle.pass_core.specs.Passed.{present}
+use Rattle.in_chain.specs.Incomings.{NoneEmpty}
+use Rattle.in_chain.specs.Chains.{Chained, IsChain}
 use Rattle.router_core.specs.Moments.{Moment, chain_at, put_chain, with_chain}
-use Rattle.router_core.specs.Lives.{LiveState, Routes, live_state, routes_of, with_routes}
-use Rattle.router_core.specs.Stands.{IsEarlier, PeerStands, StandsAt, Stands}
+use Rattle.router_core.specs.Lives.{LiveState, Routes, live_state, routes_of, rules_of, with_routes, with_rules}
+use Rattle.router_core.specs.Stands.{IsEarlier, IsSilent, PeerStands, StandsAt, Stands}
 use Rattle.router_core.specs.Works.{IsSoundAt}
-use Rattle.router_core.proofs.ChainLemmas.{equal_by, chain_at_put_same, chain_at_put_other, in_order_put}
+use Rattle.router_core.proofs.ChainLemmas.{equal_by, chain_at_put_same, chain_at_put_other, in_order_put, all_at, all_put, put_length, put_at}
 
 -- ---- one peer and its chain
 pub stands_there : (k : ℕ) (m : Moment) (c : Chained) (o : Option DeclaredPeer) → StandsAt o (Some c) → (p : DeclaredPeer) × (o ≡ Some p) × PeerStands p c
@@ -31,10 +35,24 @@ pub chain_there : (m : Moment) → Stands m → (k : ℕ) (p : DeclaredPeer) →
 chain_there m stands k p at = chain_of (chain_at k m.chains) p (subst (λ (o : Option DeclaredPeer). StandsAt o (chain_at k m.chains)) at (stands.peers k))
 
 -- ---- all peers
-pub stands_put : (m : Moment) (now : Declaration) (k : ℕ) (c c' : Chained) → Stands m → chain_at k m.chains ≡ Some c → c'.number ≡ k
-    → ((j : ℕ) → nat_eq j k ≡ false → peer_at j now.peers ≡ peer_at j m.declared.peers)
-    → StandsAt (peer_at k now.peers) (Some c') → Stands (record { declared = now; chains = put_chain c' m.chains })
-stands_put m now k c c' stands at number others here = record { order = in_order_put c' m.chains stands.order; peers = λ j. by_test j (nat_eq j k) refl }
+pub speaker_at : (m : Moment) → Stands m → (k : ℕ) (c : Chained) → chain_at k m.chains ≡ Some c → m.declared.speaker ≡ Some c.me
+speaker_at m stands k c at = all_at (λ d. m.declared.speaker ≡ Some d.me) k m.chains c stands.speaker at
+
+-- the same speaker, as many peers, and the others' sessions as they were
+pub record KeepsOthers (k : ℕ) (before now : Declaration) : Type 0 where
+  pub speaker : now.speaker ≡ before.speaker
+  pub count : length now.peers ≡ length before.peers
+  pub others : (j : ℕ) → nat_eq j k ≡ false → peer_at j now.peers ≡ peer_at j before.peers
+
+pub stands_put : (m : Moment) (now : Declaration) (k : ℕ) (c c' : Chained) → Stands m → chain_at k m.chains ≡ Some c → c'.incoming.number ≡ k → c'.me ≡ c.me
+    → KeepsOthers k m.declared now → StandsAt (peer_at k now.peers) (Some c') → Stands (record { declared = now; chains = put_chain c' m.chains })
+stands_put m now k c c' stands at number me keeps here = record {
+  order = in_order_put c' m.chains stands.order;
+  peers = λ j. by_test j (nat_eq j k) refl;
+  speaker = subst (λ (s : Option Speaker). AllByRecursion (λ d. s ≡ Some d.me) (put_chain c' m.chains)) (sym keeps.speaker)
+      (all_put (λ d. m.declared.speaker ≡ Some d.me) c' m.chains stands.speaker (speaker_at m stands k c at ∙ ap Some (sym me)));
+  count = put_length c' m.chains ∙ stands.count ∙ sym keeps.count;
+}
   where
     by_test : (j : ℕ) (b : Bool) → nat_eq j k ≡ b → StandsAt (peer_at j now.peers) (chain_at j (put_chain c' m.chains))
     by_test j true e =
@@ -42,11 +60,12 @@ stands_put m now k c c' stands at number others here = record { order = in_order
         subst (λ (n : ℕ). StandsAt (peer_at n now.peers) (chain_at n (put_chain c' m.chains))) (sym (equal_by j k e)) there
     by_test j false e =
         subst (λ (o : Option Chained). StandsAt (peer_at j now.peers) o) (sym (chain_at_put_other j m.chains c' (ap (nat_eq j) number ∙ e)))
-        (subst (λ (o : Option DeclaredPeer). StandsAt o (chain_at j m.chains)) (sym (others j e)) (stands.peers j))
+        (subst (λ (o : Option DeclaredPeer). StandsAt o (chain_at j m.chains)) (sym (keeps.others j e)) (stands.peers j))
 
-pub stands_with : (m : Moment) (k : ℕ) (c c' : Chained) (p : DeclaredPeer) → Stands m → chain_at k m.chains ≡ Some c → c'.number ≡ k → peer_at k m.declared.peers ≡ Some p → PeerStands p c'
-    → Stands (with_chain m c')
-stands_with m k c c' p stands at number peer here = stands_put m m.declared k c c' stands at number (λ j e. refl) (subst (λ (o : Option DeclaredPeer). StandsAt o (Some c')) (sym peer) here)
+pub stands_with : (m : Moment) (k : ℕ) (c c' : Chained) (p : DeclaredPeer) → Stands m → chain_at k m.chains ≡ Some c → c'.incoming.number ≡ k → c'.me ≡ c.me → peer_at k m.declared.peers ≡ Some p
+    → PeerStands p c' → Stands (with_chain m c')
+stands_with m k c c' p stands at number me peer here =
+    stands_put m m.declared k c c' stands at number me (record { speaker = refl; count = refl; others = λ j e. refl }) (subst (λ (o : Option DeclaredPeer). StandsAt o (Some c')) (sym peer) here)
 
 -- ---- the tables that a step leaves
 module _ (p : DeclaredPeer) (up : Bool) where
@@ -82,35 +101,49 @@ few_map f (d ∷ ds) = let e = few_map f ds in omega arith
 pub few_left : (f : Lost Attrs → Lost Attrs) (g : Lost Attrs → Bool) (ds : List (Lost Attrs)) → length (filter g (map f ds)) ≤ length ds
 few_left f g ds = let a = few_filter g (map f ds) in let b = few_map f ds in omega arith
 
--- ---- what is live
-pub live_put : (m : Moment) (k : ℕ) (c c' : Chained) → chain_at k m.chains ≡ Some c → c'.number ≡ k → (j : ℕ) → routes_of (chain_at j (put_chain c' m.chains)) ≡ with_routes (live_state m).routes k c'.live j
-live_put m k c c' at number j = by_test (nat_eq j k) refl
-  where
-    by_test : (b : Bool) → nat_eq j k ≡ b → routes_of (chain_at j (put_chain c' m.chains)) ≡ with_routes (live_state m).routes k c'.live j
-    by_test true e =
-        ap (λ (n : ℕ). routes_of (chain_at n (put_chain c' m.chains))) (equal_by j k e) ∙ ap routes_of (chain_at_put_same k m.chains c c' at number)
-        ∙ sym (ap (λ (b : Bool). cond b c'.live ((live_state m).routes j)) e)
-    by_test false e = ap routes_of (chain_at_put_other j m.chains c' (ap (nat_eq j) number ∙ e)) ∙ sym (ap (λ (b : Bool). cond b c'.live ((live_state m).routes j)) e)
+-- what is left of a chain's tables stands as they stood
+pub peer_left : (p : DeclaredPeer) (c c' : Chained) (f : Lost Attrs → Lost Attrs) (g : Lost Attrs → Bool) → ((d : Lost Attrs) → (f d).number ≡ d.number)
+    → c'.incoming.deletions ≡ filter g (map f c.incoming.deletions) → c'.peer ≡ c.peer → IsChain c' → NoneEmpty c'.incoming.deletions → IsSilent p.up c' → PeerStands p c → PeerStands p c'
+peer_left p c c' f g keeps is words chain full silent stands = record {
+  words = words ∙ stands.words;
+  chain = chain;
+  full = full;
+  few = let few = few_left f g c.incoming.deletions in let was = stands.few in let e : length c'.incoming.deletions ≡ length (filter g (map f c.incoming.deletions)) = ap length is in omega arith;
+  earlier = subst (λ ds. AllByRecursion (λ d. IsEarlier p p.up d.number) ds) (sym is) (earlier_left p p.up f g keeps c.incoming.deletions stands.earlier);
+  silent = silent;
+}
 
-abbrev live_by : Declaration → (ℕ → Routes) → LiveState
-live_by d routes = record { declared = d; routes = routes }
+-- ---- what is live
+abbrev live_by : Declaration → (ℕ → Routes) → (ℕ → List Rule) → LiveState
+live_by d routes rules = record { declared = d; routes = routes; rules = rules }
 
 -- the live state after a step of one chain
-pub live_with : (m : Moment) (now : Declaration) (k : ℕ) (c c' : Chained) → chain_at k m.chains ≡ Some c → c'.number ≡ k
-    → live_state (record { declared = now; chains = put_chain c' m.chains }) ≡ record { declared = now; routes = with_routes (live_state m).routes k c'.live }
-live_with m now k c c' at number = ap (live_by now) (λ i j. live_put m k c c' at number j i)
+pub live_with : (m : Moment) (now : Declaration) (k : ℕ) (c c' : Chained) → chain_at k m.chains ≡ Some c → c'.incoming.number ≡ k
+    → live_state (record { declared = now; chains = put_chain c' m.chains })
+    ≡ record { declared = now; routes = with_routes (live_state m).routes k c'.incoming.live; rules = with_rules (live_state m).rules k (present c'.filter) }
+live_with m now k c c' at number i = live_by now (λ j. put_at routes_of k m.chains c c' at number j i) (λ j. put_at rules_of k m.chains c c' at number j i)
 
-pub routes_there : (m : Moment) (k : ℕ) (c : Chained) → chain_at k m.chains ≡ Some c → (live_state m).routes k ≡ c.live
+pub routes_there : (m : Moment) (k : ℕ) (c : Chained) → chain_at k m.chains ≡ Some c → (live_state m).routes k ≡ c.incoming.live
 routes_there m k c at = ap routes_of at
 
--- routes that are set to what they are, and routes that are set twice
-pub routes_same : (all : ℕ → Routes) (k : ℕ) (routes : Routes) → all k ≡ routes → with_routes all k routes ≡ all
-routes_same all k routes is i j = by_test (nat_eq j k) refl i
+pub rules_there : (m : Moment) (k : ℕ) (c : Chained) → chain_at k m.chains ≡ Some c → (live_state m).rules k ≡ present c.filter
+rules_there m k c at = ap rules_of at
+
+-- what is set to what it is
+same_at : {A : Type 0} (all : ℕ → A) (k : ℕ) (one : A) → all k ≡ one → (j : ℕ) → cond (nat_eq j k) one (all j) ≡ all j
+same_at all k one is j = by_test (nat_eq j k) refl
   where
-    by_test : (b : Bool) → nat_eq j k ≡ b → cond b routes (all j) ≡ all j
+    by_test : (b : Bool) → nat_eq j k ≡ b → cond b one (all j) ≡ all j
     by_test true e = sym is ∙ ap all (sym (equal_by j k e))
     by_test false e = refl
 
+pub routes_same : (all : ℕ → Routes) (k : ℕ) (routes : Routes) → all k ≡ routes → with_routes all k routes ≡ all
+routes_same all k routes is i j = same_at all k routes is j i
+
+pub rules_same : (all : ℕ → List Rule) (k : ℕ) (rules : List Rule) → all k ≡ rules → with_rules all k rules ≡ all
+rules_same all k rules is i j = same_at all k rules is j i
+
+-- routes that are set twice
 pub routes_twice : (all : ℕ → Routes) (k : ℕ) (a b : Routes) → with_routes (with_routes all k a) k b ≡ with_routes all k b
 routes_twice all k a b i j = by_test (nat_eq j k) i
   where
@@ -118,6 +151,23 @@ routes_twice all k a b i j = by_test (nat_eq j k) i
     by_test true = refl
     by_test false = refl
 
-pub live_same : (m : Moment) (k : ℕ) (c c' : Chained) → chain_at k m.chains ≡ Some c → c'.number ≡ k → c'.live ≡ c.live → live_state (with_chain m c') ≡ live_state m
-live_same m k c c' at number same =
-    live_with m m.declared k c c' at number ∙ ap (live_by m.declared) (routes_same (live_state m).routes k c'.live (routes_there m k c at ∙ sym same))
+-- where the rules stay
+pub live_routed : (m : Moment) (now : Declaration) (k : ℕ) (c c' : Chained) → chain_at k m.chains ≡ Some c → c'.incoming.number ≡ k → present c'.filter ≡ present c.filter
+    → live_state (record { declared = now; chains = put_chain c' m.chains }) ≡ record { declared = now; routes = with_routes (live_state m).routes k c'.incoming.live; rules = (live_state m).rules }
+live_routed m now k c c' at number same =
+    live_with m now k c c' at number
+    ∙ ap (live_by now (with_routes (live_state m).routes k c'.incoming.live)) (rules_same (live_state m).rules k (present c'.filter) (rules_there m k c at ∙ sym same))
+
+-- where the routes stay
+pub live_edited : (m : Moment) (k : ℕ) (c c' : Chained) → chain_at k m.chains ≡ Some c → c'.incoming.number ≡ k → c'.incoming.live ≡ c.incoming.live
+    → live_state (with_chain m c') ≡ record { declared = m.declared; routes = (live_state m).routes; rules = with_rules (live_state m).rules k (present c'.filter) }
+live_edited m k c c' at number same =
+    live_with m m.declared k c c' at number
+    ∙ ap (λ (r : ℕ → Routes). live_by m.declared r (with_rules (live_state m).rules k (present c'.filter))) (routes_same (live_state m).routes k c'.incoming.live (routes_there m k c at ∙ sym same))
+
+-- where both stay
+pub live_same : (m : Moment) (k : ℕ) (c c' : Chained) → chain_at k m.chains ≡ Some c → c'.incoming.number ≡ k → c'.incoming.live ≡ c.incoming.live → present c'.filter ≡ present c.filter
+    → live_state (with_chain m c') ≡ live_state m
+live_same m k c c' at number same kept =
+    live_routed m m.declared k c c' at number kept
+    ∙ ap (λ (r : ℕ → Routes). live_by m.declared r (live_state m).rules) (routes_same (live_state m).routes k c'.incoming.live (routes_there m k c at ∙ sym same))

@@ -9,8 +9,10 @@ use Rattle.deletion_stage.specs.Lost.{Lost}
 use Rattle.journal_text.specs.declared.link.Task.{Task}
 use Rattle.journal_text.specs.declared.link.Task.TheVariants.{Del}
 use Rattle.journal_text.specs.declared.line.Line.{Line}
-use Rattle.in_chain.specs.Chains.{Chained, AreRising, NoneEmpty}
-use Rattle.in_chain.specs.Steps.{without, swept_one, swept, welded, table_of}
+use Rattle.in_chain.specs.Incomings.{AreRising, NoneEmpty}
+use Rattle.in_chain.specs.Chains.{Chained}
+use Rattle.in_chain.specs.IncomingSteps.{without, swept_one, table_of}
+use Rattle.in_chain.specs.Steps.{swept, welded}
 use Rattle.router_core.specs.Moments.{Moment, chain_at, put_chain, with_chain}
 use Rattle.router_core.specs.Stands.{AreInOrder, Stands, IsSettled}
 use Rattle.router_core.specs.Turns.{IsTurn, DrainsAll, chain_tasks, deletion_tasks, has_table, has_work}
@@ -28,11 +30,11 @@ record Heads (cs : List Chained) (k s : ℕ) (rest : List Task) : Type 0 where
   at : chain_at k cs ≡ Some chain
   lowest : Lost Attrs
   above : List (Lost Attrs)
-  stages : chain.deletions ≡ lowest ∷ above
+  stages : chain.incoming.deletions ≡ lowest ∷ above
   session : lowest.number ≡ s
   others : List Task
   rest_is : rest ≡ map (λ d. Del k d.number) above ++ others
-  puts : (c' : Chained) → c'.number ≡ k → tasks_of (put_chain c' cs) ≡ chain_tasks c' ++ others
+  puts : (c' : Chained) → c'.incoming.number ≡ k → tasks_of (put_chain c' cs) ≡ chain_tasks c' ++ others
 
 same_del : (a b c d : ℕ) (xs ys : List Task) → (Del a b ∷ xs) ≡ (Del c d ∷ ys) → (a ≡ c) × (b ≡ d) × (xs ≡ ys)
 same_del a b c d xs ys e = (cc, cc, cc)
@@ -40,17 +42,17 @@ same_del a b c d xs ys e = (cc, cc, cc)
 both : {A : Type 0} {x y : A} {xs ys : List A} → x ≡ y → xs ≡ ys → (x ∷ xs) ≡ (y ∷ ys)
 both p q i = p i ∷ q i
 
-tasks_by : (d : Chained) (ds : List Chained) (x : List (Lost Attrs)) → d.deletions ≡ x → tasks_of (d ∷ ds) ≡ map (λ e. Del d.number e.number) x ++ tasks_of ds
-tasks_by d ds x is = ap (λ (l : List (Lost Attrs)). map (λ e. Del d.number e.number) l ++ tasks_of ds) is
+tasks_by : (d : Chained) (ds : List Chained) (x : List (Lost Attrs)) → d.incoming.deletions ≡ x → tasks_of (d ∷ ds) ≡ map (λ e. Del d.incoming.number e.number) x ++ tasks_of ds
+tasks_by d ds x is = ap (λ (l : List (Lost Attrs)). map (λ e. Del d.incoming.number e.number) l ++ tasks_of ds) is
 
 heads : (cs : List Chained) (k s : ℕ) (rest : List Task) → AreInOrder cs → tasks_of cs ≡ Del k s ∷ rest → Heads cs k s rest
 heads [] k s rest order e = absurd (cc)
-heads (d ∷ ds) k s rest order e = by_stages d.deletions refl (λ there. heads ds k s rest order.1 there)
+heads (d ∷ ds) k s rest order e = by_stages d.incoming.deletions refl (λ there. heads ds k s rest order.1 there)
   where
-    past : Heads ds k s rest → nat_eq d.number k ≡ false
-    past h = other_by d.number k (λ same. let none : chain_at k ds ≡ None = none_below k d.number ds (sym same) order.0 in let at = h.at in absurd (cc))
+    past : Heads ds k s rest → nat_eq d.incoming.number k ≡ false
+    past h = other_by d.incoming.number k (λ same. let none : chain_at k ds ≡ None = none_below k d.incoming.number ds (sym same) order.0 in let at = h.at in absurd (cc))
 
-    skip : d.deletions ≡ [] → Heads ds k s rest → Heads (d ∷ ds) k s rest
+    skip : d.incoming.deletions ≡ [] → Heads ds k s rest → Heads (d ∷ ds) k s rest
     skip none h = record {
       chain = h.chain;
       at = chain_past k d ds (past h) ∙ h.at;
@@ -60,25 +62,25 @@ heads (d ∷ ds) k s rest order e = by_stages d.deletions refl (λ there. heads 
       session = h.session;
       others = h.others;
       rest_is = h.rest_is;
-      puts = λ c' number. ap (λ (x : Chained). tasks_of (x ∷ put_chain c' ds)) (put_one_past c' d (ap (nat_eq d.number) number ∙ past h)) ∙ tasks_by d (put_chain c' ds) [] none ∙ h.puts c' number;
+      puts = λ c' number. ap (λ (x : Chained). tasks_of (x ∷ put_chain c' ds)) (put_one_past c' d (ap (nat_eq d.incoming.number) number ∙ past h)) ∙ tasks_by d (put_chain c' ds) [] none ∙ h.puts c' number;
     }
 
-    here : (x : Lost Attrs) (xs : List (Lost Attrs)) → d.deletions ≡ x ∷ xs → Heads (d ∷ ds) k s rest
+    here : (x : Lost Attrs) (xs : List (Lost Attrs)) → d.incoming.deletions ≡ x ∷ xs → Heads (d ∷ ds) k s rest
     here x xs is =
-        let same = same_del d.number x.number k s (map (λ e. Del d.number e.number) xs ++ tasks_of ds) rest (sym (tasks_by d ds (x ∷ xs) is) ∙ e) in
+        let same = same_del d.incoming.number x.number k s (map (λ e. Del d.incoming.number e.number) xs ++ tasks_of ds) rest (sym (tasks_by d ds (x ∷ xs) is) ∙ e) in
         record {
           chain = d;
-          at = chain_here k d ds (same_by d.number k same.0);
+          at = chain_here k d ds (same_by d.incoming.number k same.0);
           lowest = x;
           above = xs;
           stages = is;
           session = same.1;
           others = tasks_of ds;
           rest_is = sym same.2 ∙ ap (λ (n : ℕ). map (λ e. Del n e.number) xs ++ tasks_of ds) same.0;
-          puts = λ c' number. ap tasks_of (both (put_one_here c' d (same_by d.number c'.number (same.0 ∙ sym number))) (put_none c' d.number ds (number ∙ sym same.0) order.0));
+          puts = λ c' number. ap tasks_of (both (put_one_here c' d (same_by d.incoming.number c'.incoming.number (same.0 ∙ sym number))) (put_none c' d.incoming.number ds (number ∙ sym same.0) order.0));
         }
 
-    by_stages : (x : List (Lost Attrs)) → d.deletions ≡ x → (tasks_of ds ≡ Del k s ∷ rest → Heads ds k s rest) → Heads (d ∷ ds) k s rest
+    by_stages : (x : List (Lost Attrs)) → d.incoming.deletions ≡ x → (tasks_of ds ≡ Del k s ∷ rest → Heads ds k s rest) → Heads (d ∷ ds) k s rest
     by_stages [] is there = skip is (there (sym (tasks_by d ds [] is) ∙ e))
     by_stages (x ∷ xs) is there = here x xs is
 
@@ -126,7 +128,7 @@ first_turn m m' (Del k s) rest said stands e t = subst (λ (x : Moment). Follows
     c' : Chained
     c' = welded (swept s t.sweeps.prefix h.chain)
 
-    number : c'.number ≡ k
+    number : c'.incoming.number ≡ k
     number = number_at k m.chains h.chain h.at
 
     later : AllByRecursion (λ x. s < x.number) h.above
@@ -135,18 +137,18 @@ first_turn m m' (Del k s) rest said stands e t = subst (λ (x : Moment). Follows
     full : NoneEmpty h.above
     full = (subst NoneEmpty h.stages (sound_at m stands k h.chain h.at).1).1
 
-    stages : c'.deletions ≡ cond (is_full (without t.sweeps.prefix h.lowest)) (without t.sweeps.prefix h.lowest ∷ h.above) h.above
+    stages : c'.incoming.deletions ≡ cond (is_full (without t.sweeps.prefix h.lowest)) (without t.sweeps.prefix h.lowest ∷ h.above) h.above
     stages = ap (λ (l : List (Lost Attrs)). filter is_full (map (swept_one s t.sweeps.prefix) l)) h.stages ∙ swept_head s t.sweeps.prefix h.lowest h.above h.session later full
 
-    tasks : (x : List (Lost Attrs)) → c'.deletions ≡ x → deletion_tasks (with_chain m c') ≡ map (λ d. Del k d.number) x ++ h.others
-    tasks x is = h.puts c' number ∙ ap (λ (l : List (Lost Attrs)). map (λ d. Del c'.number d.number) l ++ h.others) is ∙ ap (λ (n : ℕ). map (λ d. Del n d.number) x ++ h.others) number
+    tasks : (x : List (Lost Attrs)) → c'.incoming.deletions ≡ x → deletion_tasks (with_chain m c') ≡ map (λ d. Del k d.number) x ++ h.others
+    tasks x is = h.puts c' number ∙ ap (λ (l : List (Lost Attrs)). map (λ d. Del c'.incoming.number d.number) l ++ h.others) is ∙ ap (λ (n : ℕ). map (λ d. Del n d.number) x ++ h.others) number
 
     by_test : (b : Bool) → is_full (without t.sweeps.prefix h.lowest) ≡ b → Follows (with_chain m c') (Del k s) rest
     by_test true is =
-        let stays : c'.deletions ≡ without t.sweeps.prefix h.lowest ∷ h.above = stages ∙ ap (λ (b : Bool). cond b (without t.sweeps.prefix h.lowest ∷ h.above) h.above) is in
+        let stays : c'.incoming.deletions ≡ without t.sweeps.prefix h.lowest ∷ h.above = stages ∙ ap (λ (b : Bool). cond b (without t.sweeps.prefix h.lowest ∷ h.above) h.above) is in
         inl (tasks (without t.sweeps.prefix h.lowest ∷ h.above) stays ∙ both (ap (Del k) h.session) (sym h.rest_is))
     by_test false is =
-        let gone : c'.deletions ≡ h.above = stages ∙ ap (λ (b : Bool). cond b (without t.sweeps.prefix h.lowest ∷ h.above) h.above) is in
+        let gone : c'.incoming.deletions ≡ h.above = stages ∙ ap (λ (b : Bool). cond b (without t.sweeps.prefix h.lowest ∷ h.above) h.above) is in
         inr (
           tasks h.above gone ∙ sym h.rest_is,
           ap (has_table s) (chain_at_put_same k m.chains h.chain c' h.at number) ∙ ap (λ (l : List (Lost Attrs)). is_some (table_of s l)) gone
@@ -185,9 +187,9 @@ no_stages : (k : ℕ) (ds : List (Lost Attrs)) → map (λ d. Del k d.number) ds
 no_stages k [] e = refl
 no_stages k (d ∷ ds) e = absurd (cc)
 
-none_stand : (cs : List Chained) → tasks_of cs ≡ [] → AllByRecursion (λ c. c.deletions ≡ []) cs
+none_stand : (cs : List Chained) → tasks_of cs ≡ [] → AllByRecursion (λ c. c.incoming.deletions ≡ []) cs
 none_stand [] e = tt
-none_stand (c ∷ cs) e = let parts = left_nothing (chain_tasks c) (tasks_of cs) e in (no_stages c.number c.deletions parts.0, none_stand cs parts.1)
+none_stand (c ∷ cs) e = let parts = left_nothing (chain_tasks c) (tasks_of cs) e in (no_stages c.incoming.number c.incoming.deletions parts.0, none_stand cs parts.1)
 
 pub settled : (m : Moment) → deletion_tasks m ≡ [] → IsSettled m
 settled m e = none_stand m.chains e

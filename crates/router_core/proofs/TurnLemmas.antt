@@ -18,8 +18,9 @@ use Rattle.journal_text.specs.Texts.{text_of, entries_of}
 use Rattle.journal_text.specs.Walk.{Leads}
 use Rattle.journal_text.proofs.JournalLemmas.{text_of_append, entries_of_append}
 use Rattle.journal_text.proofs.WalkLemmas.{leads_append, leads_nowhere}
-use Rattle.in_chain.specs.Chains.{Chained, NoneEmpty, lost_count, row_count}
-use Rattle.in_chain.specs.Steps.{table_of}
+use Rattle.in_chain.specs.Incomings.{NoneEmpty, lost_count}
+use Rattle.in_chain.specs.Chains.{Chained, row_count}
+use Rattle.in_chain.specs.IncomingSteps.{table_of}
 use Rattle.router_core.specs.Moments.{Moment, chain_at, rows_in, router_links, Gives}
 use Rattle.router_core.specs.Stands.{Stands}
 use Rattle.router_core.specs.Turns.{IsTurn, Turns, has_table, has_work}
@@ -89,12 +90,12 @@ none_there s (d ∷ ds) full none =
 
 rows_at : (k : ℕ) (cs : List Chained) (c : Chained) → chain_at k cs ≡ Some c → row_count c ≤ rows_in cs
 rows_at k [] c at = absurd (cc)
-rows_at k (d ∷ ds) c at = by_test (nat_eq d.number k) refl (rows_at k ds c)
+rows_at k (d ∷ ds) c at = by_test (nat_eq d.incoming.number k) refl (rows_at k ds c)
   where
     is_one : (x y : Chained) → Some x ≡ Some y → x ≡ y
     is_one x y e = cc
 
-    by_test : (b : Bool) → nat_eq d.number k ≡ b → (chain_at k ds ≡ Some c → row_count c ≤ rows_in ds) → row_count c ≤ rows_in (d ∷ ds)
+    by_test : (b : Bool) → nat_eq d.incoming.number k ≡ b → (chain_at k ds ≡ Some c → row_count c ≤ rows_in ds) → row_count c ≤ rows_in (d ∷ ds)
     by_test true e rest = let same : row_count d ≡ row_count c = ap row_count (is_one d c (sym (chain_here k d ds e) ∙ at)) in omega arith
     by_test false e rest = let r = rest (sym (chain_past k d ds e) ∙ at) in omega arith
 
@@ -105,8 +106,8 @@ no_rows_no_work (Del k s) m stands none = by_chain (chain_at k m.chains) refl
     by_chain None at = ap (has_table s) at
     by_chain (Some c) at =
         let below = rows_at k m.chains c at in
-        let empty : lost_count c.deletions ≡ 0 = omega arith in
-        ap (has_table s) at ∙ ap (λ (t : Option (FinMap prefix_cmp Attrs)). is_some t) (none_there s c.deletions (sound_at m stands k c at).1 empty)
+        let empty : lost_count c.incoming.deletions ≡ 0 = omega arith in
+        ap (has_table s) at ∙ ap (λ (t : Option (FinMap prefix_cmp Attrs)). is_some t) (none_there s c.incoming.deletions (sound_at m stands k c at).1 empty)
 
 pub drained : (task : Task) (rows n : ℕ) (m m' : Moment) (before now : Journaled) → rows ≡ rows_in m.chains → Gives (AreTurns task rows m n m') before now → Gives (HasDrained task m n m') before now
 drained task rows n m m' before now count g = (g.0, g.1, record { run = g.2.run; ended = by_end g.2.ended })

@@ -1,36 +1,36 @@
 -- One turn of the router.
-use Rattle.std.proofs.Common.{◌≡◌, ℕ, ◌+◌, Bool, true, false, cond, List, map, Some, nat_eq, refl, sym, ap, subst, ◌∙◌, arith, length}
+use Rattle.std.proofs.Common.{◌≡◌, ℕ, ◌+◌, ◌≤◌, ◌<◌, Bool, true, false, cond, List, map, Option, Some, None, nat_eq, refl, sym, ap, subst, ◌∙◌, arith, length}
 use Rattle.std.specs.List.{AllByRecursion, filter}
 use Rattle.addr4.specs.Prefixes.{Network}
 use Rattle.bgp_attr.specs.declared.attrs.Attrs.{Attrs}
+use Rattle.bgp_attr.specs.declared.route.Route.{Route}
+use Rattle.link_change.specs.declared.change.Change.{Change}
 use Rattle.deletion_stage.specs.Lost.{Lost}
-use Rattle.journal_text.specs.declared.link.Task.TheVariants.{Del}
+use Rattle.policy_rules.specs.declared.rule.Rule.{Rule}
+use Rattle.pass_core.specs.Passed.{Passed, Walked, present, latest_of, present_of, stepped, walk_of_waiting, finished, after_walk}
+use Rattle.filter_bank.specs.Walks.{walked_on}
+use Rattle.journal_text.specs.declared.link.Task.{Task}
+use Rattle.journal_text.specs.declared.link.Task.TheVariants.{Del, Fin}
+use Rattle.journal_text.specs.declared.entry.Entry.{Entry}
+use Rattle.journal_text.specs.declared.value.Value.{Value}
 use Rattle.journal_text.specs.declared.line.Line.{Line}
 use Rattle.journal_text.specs.Texts.{entries_of}
 use Rattle.journal_text.specs.Journals.{Journaled, flushed}
 use Rattle.event_text.specs.declared.declared.DeclaredPeer.{DeclaredPeer}
-use Rattle.in_chain.specs.Chains.{Chained, IsChain, NoneEmpty, row_count}
-use Rattle.in_chain.specs.Steps.{without, swept_one, swept, welded}
+use Rattle.in_chain.specs.Incomings.{NoneEmpty}
+use Rattle.in_chain.specs.Chains.{Chained, IsChain, row_count, turns_left}
+use Rattle.in_chain.specs.IncomingSteps.{without, swept_one}
+use Rattle.in_chain.specs.Steps.{swept, welded, Turned, Rewalks}
 use Rattle.router_core.specs.declared.router.Done.TheVariants.{Taken}
-use Rattle.router_core.specs.Moments.{Moment, chain_at, with_chain}
-use Rattle.router_core.specs.Stands.{IsEarlier, IsSilent, PeerStands, Stands}
-use Rattle.router_core.specs.Turns.{Deletes}
-use Rattle.router_core.specs.Works.{DeletesChain, IsUnit, Comes, TurnsAt}
+use Rattle.router_core.specs.Moments.{Moment, chain_at, put_chain, with_chain, rows_in, left_in}
+use Rattle.router_core.specs.Stands.{IsEarlier, IsSilent, AreInOrder, PeerStands, Stands}
+use Rattle.router_core.specs.Turns.{peer_of, IsTurn}
+use Rattle.router_core.specs.Works.{NearsChain, Nears, TakesChain, IsUnit, Comes, TurnsAt}
 use Rattle.router_core.proofs.ChainLemmas.{number_at}
 use Rattle.router_core.proofs.LinkLemmas.{leads_router}
-use Rattle.router_core.proofs.RowCounts.{is_full, count_filtered, count_swept, rows_put}
-use Rattle.router_core.proofs.StandLemmas.{peer_of, stands_with, earlier_left, few_left, live_same}
-
--- what is left of a chain's tables stands as they stood
-pub peer_left : (p : DeclaredPeer) (c c' : Chained) (f : Lost Attrs → Lost Attrs) (g : Lost Attrs → Bool) → ((d : Lost Attrs) → (f d).number ≡ d.number)
-    → c'.deletions ≡ filter g (map f c.deletions) → IsChain c' → NoneEmpty c'.deletions → IsSilent p.up c' → PeerStands p c → PeerStands p c'
-peer_left p c c' f g keeps is chain full silent stands = record {
-  chain = chain;
-  full = full;
-  few = let few = few_left f g c.deletions in let was = stands.few in let e : length c'.deletions ≡ length (filter g (map f c.deletions)) = ap length is in omega arith;
-  earlier = subst (λ ds. AllByRecursion (λ d. IsEarlier p p.up d.number) ds) (sym is) (earlier_left p p.up f g keeps c.deletions stands.earlier);
-  silent = silent;
-}
+use Rattle.router_core.proofs.RowCounts.{is_full, rows_are_sum, turns_are_sum, sum_put}
+use Rattle.router_core.proofs.StandLemmas.{peer_of as peer_at_chain, peer_left, stands_with, live_same}
+use Rattle.router_core.proofs.WorkLemmas.{walk_stays}
 
 pub swept_number : (s : ℕ) (p : Network) (d : Lost Attrs) → (swept_one s p d).number ≡ d.number
 swept_number s p d = by_test (nat_eq d.number s)
@@ -39,46 +39,96 @@ swept_number s p d = by_test (nat_eq d.number s)
     by_test true = refl
     by_test false = refl
 
-silent_as : (up : Bool) (c c' : Chained) → c'.live ≡ c.live → IsSilent up c → IsSilent up c'
+silent_as : (up : Bool) (c c' : Chained) → c'.incoming.live ≡ c.incoming.live → IsSilent up c → IsSilent up c'
 silent_as true c c' same silent = tt
 silent_as false c c' same silent = same ∙ silent
 
--- the chain that a turn leaves
-abbrev left : ℕ → Network → Chained → Chained
-left s p c = welded (swept s p c)
+-- ---- the rules of the latest edit stay
+module _ {F : Type 0} where
+  waiting_is_present : (next : F) (waiting : Option F) → present (record { in_force = next; walk = walk_of_waiting waiting }) ≡ latest_of next waiting
+  waiting_is_present next None = refl
+  waiting_is_present next (Some f) = refl
 
-left_is : (s : ℕ) (c c' : Chained) (said : List Line) (d : DeletesChain s c c' said) → c' ≡ left s d.sweeps.prefix c
-left_is s c c' said d = d.after ∙ ap welded d.sweeps.after
+  finish_keeps : (in_force : F) (walk : Option (Walked F)) → present (after_walk in_force walk) ≡ present_of in_force walk
+  finish_keeps in_force None = refl
+  finish_keeps in_force (Some w) = waiting_is_present w.next w.waiting
 
-left_rows : (s : ℕ) (c c' : Chained) (said : List Line) → IsChain c → DeletesChain s c c' said → row_count c' + 1 ≡ row_count c
-left_rows s c c' said chain d =
-    let is : row_count c' ≡ row_count (left s d.sweeps.prefix c) = ap row_count (left_is s c c' said d) in
-    let filtered = count_filtered (map (swept_one s d.sweeps.prefix) c.deletions) in
-    let less = count_swept s d.sweeps.prefix d.sweeps.row d.sweeps.table c.deletions chain.rising d.sweeps.stands d.sweeps.least.0 in
-    omega arith
+  step_keeps : (in_force : F) (walk : Option (Walked F)) (p : Network) → present (stepped (record { in_force = in_force; walk = walk }) p) ≡ present_of in_force walk
+  step_keeps in_force None p = refl
+  step_keeps in_force (Some w) p = refl
 
--- a turn in a peer's chain is one of the router
-pub unit_done : (k s : ℕ) (m : Moment) (c c' : Chained) (said : List Line) → Stands m → chain_at k m.chains ≡ Some c → DeletesChain s c c' said → IsUnit (Del k s) m (with_chain m c') said
-unit_done k s m c c' said stands at d =
-    let p = peer_of m stands k c at in
-    let is = left_is s c c' said d in
-    let number : c'.number ≡ k = d.step.number ∙ number_at k m.chains c at in
-    let same : c'.live ≡ c.live = ap (λ (x : Chained). x.live) is in
-    let deletes : Deletes k s m said (with_chain m c') = record { chain = c; at = at; less = d.less; sent = d.sent; entries = d.entries; sweeps = d.sweeps; lines = d.lines; after = ap (with_chain m) d.after } in
-    let here : PeerStands p.0 c' = peer_left p.0 c c' (swept_one s d.sweeps.prefix) is_full (swept_number s d.sweeps.prefix) (ap (λ (x : Chained). x.deletions) is) d.step.chain d.step.full
-    (silent_as p.0.up c c' same p.2.silent) p.2 in
+walked_keeps : (next : Option Network) (s : Passed (List Rule)) → present (walked_on next s) ≡ present s
+walked_keeps None s = finish_keeps s.in_force s.walk
+walked_keeps (Some p) s = step_keeps s.in_force s.walk p
+
+-- ---- a turn of the chain
+-- what a turn and the weld behind it keep
+record Leaves (c c' : Chained) : Type 0 where
+  live : c'.incoming.live ≡ c.incoming.live
+  rules : present c'.filter ≡ present c.filter
+  stands : (p : DeclaredPeer) → c'.peer ≡ c.peer → IsChain c' → NoneEmpty c'.incoming.deletions → PeerStands p c → PeerStands p c'
+
+sweep_leaves : (s : ℕ) (p : Network) (c c' : Chained) → c' ≡ welded (swept s p c) → Leaves c c'
+sweep_leaves s p c c' is = record {
+  live = ap (λ (x : Chained). x.incoming.live) is;
+  rules = ap (λ (x : Chained). present x.filter) is;
+  stands = λ peer words chain full stands.
+      peer_left peer c c' (swept_one s p) is_full (swept_number s p) (ap (λ (x : Chained). x.incoming.deletions) is) words chain full
+      (silent_as peer.up c c' (ap (λ (x : Chained). x.incoming.live) is) stands.silent) stands;
+}
+
+walk_leaves : (c less c' : Chained) (sent : Option (Change Route)) (entries : List (Entry Value)) → Rewalks c less sent entries → NoneEmpty c.incoming.deletions → c' ≡ welded less → Leaves c c'
+walk_leaves c less c' sent entries w full after =
+    let is : c' ≡ less = after ∙ walk_stays c less sent entries w full in
+    let incoming : c'.incoming ≡ c.incoming = ap (λ (x : Chained). x.incoming) (is ∙ w.after) in
     record {
-      turn = deletes;
-      work = record {
-        leads = leads_router m k c at c' number (entries_of said) d.step.leads;
-        live = live_same m k c c' at number same;
-        stands = stands_with m k c c' p.0 stands at number p.1 here;
+      live = ap (λ x. x.live) incoming;
+      rules = ap (λ (x : Chained). present x.filter) is ∙ ap (λ (x : Passed (List Rule)). present x) w.walks.after ∙ walked_keeps w.walks.next c.filter;
+      stands = λ peer words chain full stands. record {
+        words = words ∙ stands.words;
+        chain = chain;
+        full = full;
+        few = subst (λ x. length x.deletions ≤ 16) (sym incoming) stands.few;
+        earlier = subst (λ x. AllByRecursion (λ d. IsEarlier peer peer.up d.number) x.deletions) (sym incoming) stands.earlier;
+        silent = silent_as peer.up c c' (ap (λ x. x.live) incoming) stands.silent;
       };
-      fewer = rows_put k m.chains c c' stands.order at number (left_rows s c c' said p.2.chain d);
     }
 
-pub comes_taken : (k s : ℕ) (m : Moment) (cs : List Chained) (before j now : Journaled) → Stands m → TurnsAt k s m.chains cs before j Taken → now ≡ flushed j
-    → Comes (Del k s) m (record { declared = m.declared; chains = cs }) before now Taken
-comes_taken k s m cs before j now stands t is =
-    let unit = unit_done k s m t.0 t.1 t.4.0 stands t.2 t.4.2 in
-    (t.4.0, is ∙ ap flushed t.4.1, subst (λ (x : List Chained). IsUnit (Del k s) m (record { declared = m.declared; chains = x }) t.4.0) (sym t.3) unit)
+turn_leaves : (task : Task) (c less c' : Chained) (sent : Option (Change Route)) (entries : List (Entry Value)) → Turned c less task sent entries → NoneEmpty c.incoming.deletions → c' ≡ welded less
+    → Leaves c c'
+turn_leaves (Del k s) c less c' sent entries t full after = sweep_leaves s t.1.prefix c c' (after ∙ ap welded t.1.after)
+turn_leaves (Fin k) c less c' sent entries t full after = walk_leaves c less c' sent entries t.1 full after
+
+-- ---- a turn of the router
+nears_by : (task : Task) (k : ℕ) (m : Moment) (c c' : Chained) → AreInOrder m.chains → chain_at k m.chains ≡ Some c → c'.incoming.number ≡ k → NearsChain task c c' → Nears task 1 m (with_chain m c')
+nears_by (Del n s) k m c c' order at number nearer = let rows = sum_put row_count rows_in rows_are_sum k m.chains c c' order at number in omega (arith, rows, nearer)
+nears_by (Fin n) k m c c' order at number nearer =
+    let rows = sum_put row_count rows_in rows_are_sum k m.chains c c' order at number in
+    let left = sum_put turns_left left_in turns_are_sum k m.chains c c' order at number in
+    let fewer = nearer.1 in
+    ((let same = nearer.0 in omega (arith, rows, same)), omega (arith, left, fewer))
+
+-- a turn in a peer's chain is one of the router
+pub unit_done : (task : Task) (m : Moment) (c c' : Chained) (said : List Line) → Stands m → chain_at (peer_of task) m.chains ≡ Some c → TakesChain task c c' said → IsUnit task m (with_chain m c') said
+unit_done task m c c' said stands at t =
+    let k = peer_of task in
+    let p = peer_at_chain m stands k c at in
+    let number : c'.incoming.number ≡ k = t.step.number ∙ number_at k m.chains c at in
+    let leaves = turn_leaves task c t.turned_chain c' t.sent t.entries t.turned p.2.full t.after in
+    let turn : IsTurn task m said (with_chain m c') =
+    record { chain = c; at = at; turned_chain = t.turned_chain; sent = t.sent; entries = t.entries; turned = t.turned; lines = t.lines; after = ap (with_chain m) t.after } in
+    record {
+      turn = turn;
+      work = record {
+        leads = leads_router m k c at c' number (entries_of said) t.step.leads;
+        live = live_same m k c c' at number leaves.live leaves.rules;
+        stands = stands_with m k c c' p.0 stands at number t.step.words.0 p.1 (leaves.stands p.0 t.step.words.1 t.step.chain t.step.full p.2);
+      };
+      nearer = nears_by task k m c c' stands.order at number t.nearer;
+    }
+
+pub comes_taken : (task : Task) (m : Moment) (cs : List Chained) (before j now : Journaled) → Stands m → TurnsAt task m.chains cs before j Taken → now ≡ flushed j
+    → Comes task m (record { declared = m.declared; chains = cs }) before now Taken
+comes_taken task m cs before j now stands t is =
+    let unit = unit_done task m t.0 t.1 t.4.0 stands t.2 t.4.2 in
+    (t.4.0, is ∙ ap flushed t.4.1, subst (λ (x : List Chained). IsUnit task m (record { declared = m.declared; chains = x }) t.4.0) (sym t.3) unit)

@@ -6,5 +6,5 @@ use Rattle.router_core.proofs.peers.insert_chain.Goals as goal
 
 pub returns : goal.returns
 returns c =
-    let place : c.place_in-at.result ≡ place_in c.args.chain.number c.args.chains.now.items = cc in
+    let place : c.place_in-at.result ≡ place_in c.args.chain.incoming.number c.args.chains.now.items = cc in
     c.in_ok-insert.ensures.items ∙ ap (λ n. insert c.args.chains.now.items n c.args.chain) place ∙ inserted c.args.chain c.args.chains.now.items

@@ -1,19 +1,19 @@
-use Rattle.std.proofs.Common.{subst, sym}
-use Rattle.journal_text.specs.declared.link.Task.TheVariants.{Del}
+use Rattle.std.proofs.Common.{List, subst, sym}
+use Rattle.in_chain.specs.Chains.{Chained}
 use Rattle.router_core.specs.declared.router.Done.{Done}
 use Rattle.router_core.specs.declared.router.Done.TheVariants.{Taken}
 use Rattle.router_core.specs.Moments.{Moment}
 use Rattle.router_core.specs.Stands.{Stands}
 use Rattle.router_core.specs.Works.{Comes, TurnsAt}
 use Rattle.router_core.proofs.UnitLemmas.{comes_taken}
-use Rattle.router_core.proofs.network.Network.turn_del.Goals as goal
+use Rattle.router_core.proofs.network.Network.turn.Goals as goal
 
 pub returns : goal.returns
 returns c =
     let old : Moment = record { declared = c.self.inside.declared; chains = c.self.inside.chains.items } in
     let new : Moment = record { declared = c.self.inside.declared; chains = c.turn_at.new.chains.items } in
     let stands : Stands old = subst Stands (sym c.self.view_is) c.requires in
-    subst (λ (m : Moment). Comes (Del c.args.number c.args.session) m new c.args.journal.now c.flush.new.self Taken) c.self.view_is
-    (comes_taken c.args.number c.args.session old c.turn_at.new.chains.items c.args.journal.now c.turn_at.new.journal c.flush.new.self stands
-    (subst (λ (d : Done). TurnsAt c.args.number c.args.session c.self.inside.chains.items c.turn_at.new.chains.items c.args.journal.now c.turn_at.new.journal d) c.in-Taken.is c.in_ok-turn_at.ensures)
+    subst (λ (m : Moment). Comes c.args.task m new c.args.journal.now c.flush.new.self Taken) c.self.view_is
+    (comes_taken c.args.task old c.turn_at.new.chains.items c.args.journal.now c.turn_at.new.journal c.flush.new.self stands
+    (subst (λ (d : Done). TurnsAt c.args.task c.self.inside.chains.items c.turn_at.new.chains.items c.args.journal.now c.turn_at.new.journal d) c.in-Taken.is c.in_ok-turn_at.ensures)
     c.in_ok-flush.ensures.ok)
