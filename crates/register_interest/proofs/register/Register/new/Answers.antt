@@ -1,0 +1,8 @@
+use Rattle.std.proofs.Common.{sym, subst}
+use Rattle.register_interest.specs.Interests.{Interests}
+use Rattle.register_interest.specs.Registers.{AllStand}
+use Rattle.register_interest.proofs.RegisterLemmas.{none_stand}
+use Rattle.register_interest.proofs.register.Register.new.Goals as goal
+
+pub invariant_of-result : goal.invariant_of-result
+invariant_of-result g c = rw c.new-2.ensures (none_stand c.new.result.rows)
