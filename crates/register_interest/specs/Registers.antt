@@ -1,12 +1,12 @@
 -- A register: the interior rows, and the match of each interest.
-use Rattle.std.specs.Prelude.{◌≡◌, ℕ, ◌<◌, Option, Some, None, refl}
+use Rattle.std.specs.Prelude.{◌≡◌, ℕ, Option, Some, None, refl}
 use Rattle.std.specs.Coded.{Coded, code_by, coded×, coded_option}
 use Rattle.std.specs.FinMap as map
 use Rattle.addr4.specs.Prefixes.{Network, prefix_cmp, network_code, Holds}
 use Rattle.prefix_trie.specs.Width.{width}
 use Rattle.register_interest.specs.Covers.{longest, Stands}
 use Rattle.register_interest.specs.declared.interests.Interest.{Interest}
-use Rattle.register_interest.specs.Interests.{Interests, interest_code, interest_cmp, IsProper}
+use Rattle.register_interest.specs.Interests.{Interests, interest_code, IsProper}
 
 pub record Registry (R : Type 0) : Type 0 where
   pub rows : map.FinMap prefix_cmp R

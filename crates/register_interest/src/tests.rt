@@ -30,8 +30,9 @@ fn routes(alloc: Global) -> Result<Register<Metric>, Fail> {
         ("128.16.128.0/17", 17),
         ("128.16.192.0/18", 19),
     ] {
+        let route = prefix(text)?;
         register
-            .changed(alloc, prefix(text)?, Some(Metric(metric)))
+            .changed(alloc, route, Some(Metric(metric)))
             .ok()
             .ok_or("memory")?;
     }
@@ -49,25 +50,26 @@ fn the_largest_subnets_are_answered(rt: HostRuntime) -> Result<(), Fail> {
         ("9.9.9.9", "-", "0.0.0.0/1"),
     ] {
         let address = read_addr(address.as_bytes()).ok().ok_or("address")?;
-        let answer = register.query(1, address).ok().ok_or("memory")?;
-        match answer.0 {
+        let (row, held) = register.query(1, address).ok().ok_or("memory")?;
+        match row {
             None => assert_eq!(rt; found, "-"),
             Some(row) => assert_eq!(rt; row.prefix, prefix(found)?),
         }
-        assert_eq!(rt; answer.1, prefix(subnet)?);
-        assert_eq!(rt; register.peek(address).1, prefix(subnet)?);
+        assert_eq!(rt; held, prefix(subnet)?);
     }
+    let longer = prefix("128.16.80.0/20")?;
     let reached = register
-        .changed(alloc, prefix("128.16.80.0/20")?, Some(Metric(20)))
+        .changed(alloc, longer, Some(Metric(20)))
         .ok()
         .ok_or("memory")?;
-    assert_eq!(rt; reached.len(), 1);
-    assert_eq!(rt; reached[0].subnet, prefix("128.16.64.0/18")?);
+    let subnet = prefix("128.16.64.0/18")?;
+    assert_eq!(rt;
+        reached.as_slice(),
+        [Interest { subnet, client: 1 }].as_slice()
+    );
     register.forget(1, prefix("0.0.0.0/1")?);
-    let rest = register
-        .changed(alloc, prefix("0.0.0.0/0")?, None)
-        .ok()
-        .ok_or("memory")?;
+    let all = prefix("0.0.0.0/0")?;
+    let rest = register.changed(alloc, all, None).ok().ok_or("memory")?;
     assert_eq!(rt; rest.len(), 0);
     Ok(())
 }
@@ -75,8 +77,8 @@ fn the_largest_subnets_are_answered(rt: HostRuntime) -> Result<(), Fail> {
 #[test]
 fn an_empty_register_answers_all(rt: HostRuntime) -> Result<(), Fail> {
     let register: Register<Metric> = Register::new(rt.alloc());
-    let answer = register.peek(read_addr(b"10.0.0.1").ok().ok_or("address")?);
-    assert_eq!(rt; answer.0.is_none(), true);
-    assert_eq!(rt; answer.1, prefix("0.0.0.0/0")?);
+    let (row, subnet) = register.peek(read_addr(b"10.0.0.1").ok().ok_or("address")?);
+    assert_eq!(rt; row.is_none(), true);
+    assert_eq!(rt; subnet, prefix("0.0.0.0/0")?);
     Ok(())
 }

@@ -1,4 +1,4 @@
-use Rattle.std.proofs.Common.{◌≡◌, []}
+use Rattle.std.proofs.Common.{[]}
 use Rattle.std.specs.FinMap as map
 use Rattle.prefix_trie.specs.Width.{width}
 use Rattle.register_interest.specs.Interests.{Appends}

@@ -1,6 +1,3 @@
-use Rattle.std.proofs.Common.{sym, subst}
-use Rattle.register_interest.specs.Interests.{Interests}
-use Rattle.register_interest.specs.Registers.{AllStand}
 use Rattle.register_interest.proofs.RegisterLemmas.{none_stand}
 use Rattle.register_interest.proofs.register.Register.new.Goals as goal
 
