@@ -2,10 +2,9 @@
 
 ghost use Rattle.std.specs.Prelude.{◌≡◌, OnOk, OnErr, IfOk};
 ghost use Rattle.std.specs.FinMap as map;
-ghost use Rattle.addr4.specs.Prefixes.{IsMasked, Holds};
 ghost use Rattle.prefix_trie.specs.Width.{width};
-ghost use Rattle.register_interest.specs.Covers.{longest, matched, IsFree, IsSubnet, IsCover, IsHit, Stands};
-ghost use Rattle.register_interest.specs.Interests.{AreReached, IsProper, without};
+ghost use Rattle.register_interest.specs.Covers.{matched, IsCover};
+ghost use Rattle.register_interest.specs.Interests.{AreReached, without};
 ghost use Rattle.register_interest.specs.Matches.{match_of, lent_match};
 ghost use Rattle.register_interest.specs.Registers.{AllStand, KeepsAnswers, put_row};
 

@@ -2,7 +2,6 @@
 
 ghost use Rattle.std.specs.Prelude.{◌≡◌, ◌≤◌, ◌↔◌, IsTrue};
 ghost use Rattle.std.specs.FinMap as map;
-ghost use Rattle.addr4.specs.Prefixes.{IsMasked, Holds};
 ghost use Rattle.prefix_trie.specs.Width.{width};
 ghost use Rattle.register_interest.specs.Covers.{block, longest, matched, IsFree, IsSubnet};
 ghost use Rattle.register_interest.specs.Matches.{lent_match};
