@@ -1,0 +1,6 @@
+pub mod Covers
+pub mod Search
+pub mod Interests
+pub mod Registers
+pub mod Matches
+pub mod Laws
