@@ -1,11 +1,12 @@
 #!/usr/bin/env python3
 """CPU seconds and peak memory of a command over one peer's whole table, median of some runs.
 
-    full_table.py [--prefixes 200000] [--runs 3] [--down] [--write FILE] CMD...      e.g. full_table.py PROGRAM run --quiet
+    full_table.py [--prefixes 200000] [--runs 3] [--edit] [--down] [--write FILE] CMD...      e.g. full_table.py PROGRAM run --quiet
 
 The event file, on the command's standard input: peer 1 announces so many different prefixes, about five an UPDATE, with
 lengths as in a real table and AS paths of 2 to 6 numbers that begin with its AS; one route in ten has a MED, one in fifty an
-AGGREGATOR, one in three an unrecognized attribute. Then comes `idle`. With --down the session is lost and everything is
+AGGREGATOR, one in three an unrecognized attribute. Then comes `idle`. With --edit the peer's incoming filter gets a rule that changes every
+route, and `idle` walks over all of them. With --down the session is lost and everything is
 deleted again. With --write the event file is only written to FILE.
 """
 import random
@@ -62,22 +63,25 @@ def updates(count):
         yield MARKER + (19 + len(body)).to_bytes(2, 'big') + b'\2' + body
 
 
-def events(count, down):
+def events(count, edit, down):
     out = ['local 65000 192.0.2.254 192.0.2.254', 'peer 1 65001 192.0.2.1 192.0.2.1', 'peer 2 65002 192.0.2.2 192.0.2.2', 'up 1', 'up 2']
     out += ['bgp 1 ' + message.hex() for message in updates(count)]
-    out += ['idle'] + ['down 1', 'idle'] * down
+    out += ['idle'] + ['filter in 1 any pref 200 accept', 'idle'] * edit + ['down 1', 'idle'] * down
     return '\n'.join(out + ['']).encode()
 
 
 def main(words):
-    options, down = {'prefixes': '200000', 'runs': '3', 'write': ''}, False
+    options = {'prefixes': '200000', 'runs': '3', 'write': ''}
+    edit = down = False
     while words and words[0].startswith('--'):
         name = words.pop(0)[2:]
         if name == 'down':
             down = True
+        elif name == 'edit':
+            edit = True
         else:
             options[name] = words.pop(0)
-    text = events(int(options['prefixes']), down)
+    text = events(int(options['prefixes']), edit, down)
     if options['write']:
         with open(options['write'], 'wb') as out:
             out.write(text)
@@ -85,7 +89,7 @@ def main(words):
     with tempfile.TemporaryFile() as file:
         file.write(text)
         file.flush()
-        measure.report('%s prefixes%s' % (options['prefixes'], ', lost' * down), file, words, int(options['runs']))
+        measure.report('%s prefixes%s%s' % (options['prefixes'], ', edited' * edit, ', lost' * down), file, words, int(options['runs']))
 
 
 if __name__ == '__main__':

@@ -53,8 +53,8 @@ kept : (own : Bool) (judged : Option Route) (first r : Route) → IfSome judged 
 kept true judged first r h e = absurd (let f : cond true None judged ≡ Some r = e in cc)
 kept false judged first r h e = subst (λ o. IfSome o (KeepsSource first)) e h
 
-pub a_filter_keeps_attributes : FilteredKeepsAttrs
-a_filter_keeps_attributes me peer rules p attrs r e =
+pub filtered_keeps_attrs : FilteredKeepsAttrs
+filtered_keeps_attrs me peer rules p attrs r e =
     let first = first_route peer attrs in
     let same =
     kept (is_own me attrs) (judged_by rules p first) first r

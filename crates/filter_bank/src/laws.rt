@@ -19,6 +19,6 @@ pub fn a_walk_leads()
 {}
 
 /// Whatever the rules, a row below has the attributes of the row above, is from the peer, and has no interior metric yet.
-pub fn a_filter_keeps_attributes()
+pub fn filtered_keeps_attrs()
     ensures { FilteredKeepsAttrs }
 {}

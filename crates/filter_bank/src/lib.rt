@@ -14,9 +14,7 @@ mod filtering;
 mod laws;
 
 pub use filter::FilterBank;
-pub use laws::{
-    a_filter_keeps_attributes, a_walk_leads, an_edit_keeps_the_rows, exact_without_a_walk,
-};
+pub use laws::{a_walk_leads, an_edit_keeps_the_rows, exact_without_a_walk, filtered_keeps_attrs};
 
 #[cfg(test)]
 mod tests;

@@ -16,7 +16,7 @@ use Rattle.router_core.specs.Lives.{live_state}
 use Rattle.router_core.specs.Laws.{DeclarationsFollow}
 use Rattle.router_core.specs.Blocks.{Acts}
 use Rattle.replay.specs.Judging.{judge}
-use Rattle.replay.proofs.SettledLinks.{idle_live}
+use Rattle.replay.proofs.SettledLinks.{idle_exact}
 use Rattle.replay.specs.Stream.{StepsLine, made}
 
 -- a journal with more lines
@@ -46,7 +46,7 @@ steps_line n old new line event turns before now accepted gives stands follow jo
     accepted = accepted;
     acts = gives.2;
     declared = follow (live_state old) event (live_state new) gives.2.live;
-    idle = idle_live old event gives.0 turns new gives.2.block;
+    idle = idle_exact old event gives.0 turns new gives.2.block;
   };
   leads = λ earlier lawful. join no_links (router_links old) (router_links new) earlier (entries_of gives.0) lawful gives.2.leads;
   stands = stands;

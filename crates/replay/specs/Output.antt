@@ -1,26 +1,19 @@
 -- What a run writes.
 use Rattle.std.specs.Prelude.{◌≡◌, ℕ, ◌+◌, ◌-◌, ◌⊎◌, Bool, List, [], ◌∷◌, ◌++◌, take, Some, Ok}
-use Rattle.std.specs.FinMap as tables
 use Rattle.journal_text.specs.declared.line.Code.{Code}
 use Rattle.journal_text.specs.declared.line.Line.{Line}
 use Rattle.journal_text.specs.declared.line.Line.TheVariants.{Refused}
 use Rattle.journal_text.specs.Texts.{line_text, text_of, entries_of}
 use Rattle.journal_text.specs.Walk.{Leads, no_links}
-use Rattle.journal_text.specs.declared.link.Link.TheVariants.{In}
-use Rattle.journal_text.specs.Journals.{attrs_rows}
 use Rattle.event_text.specs.declared.event.Event.{Event}
 use Rattle.event_text.specs.declared.event.Event.TheVariants.{Idle}
-use Rattle.in_chain.specs.Chains.{Chained}
-use Rattle.router_core.specs.Moments.{Moment, first_moment, router_links, chain_at}
+use Rattle.router_core.specs.Moments.{Moment, first_moment, router_links}
 use Rattle.router_core.specs.Stands.{Stands}
-use Rattle.router_core.specs.Lives.{declared_after, live_state}
+use Rattle.router_core.specs.Lives.{declared_after}
+use Rattle.router_core.specs.Scratch.{IsExact}
 use Rattle.router_core.specs.Blocks.{Acts}
 use Rattle.replay.specs.Judging.{judge, verdict}
 use Rattle.check_run.specs.Lines.{AreEnded, lines_of}
-
--- `in.K` of each peer has exactly the peer's live routes
-abbrev pub LinksAreLive : Moment → Type 0
-LinksAreLive m = (k : ℕ) (c : Chained) → chain_at k m.chains ≡ Some c → router_links m (In k) ≡ Some (attrs_rows (tables.get ((live_state m).routes k)))
 
 -- Line n is accepted, and its event acts as it is defined to: this is said, and leads from one moment to the next.
 pub record Step (n : ℕ) (m : Moment) (line : List ℕ) (said : List Line) (next : Moment) : Type 0 where
@@ -29,8 +22,8 @@ pub record Step (n : ℕ) (m : Moment) (line : List ℕ) (said : List Line) (nex
   pub accepted : judge n m.declared line ≡ Ok event
   pub acts : Acts m event turns next said
   pub declared : next.declared ≡ declared_after m.declared event
-  -- after each idle the links are what the events alone make of them
-  pub idle : event ≡ Idle → LinksAreLive next
+  -- after each idle every link is what the live state alone asks for
+  pub idle : event ≡ Idle → IsExact next
 
 -- Lines from number n on are accepted and stepped, and this is said, from one moment to another.
 abbrev pub Run : ℕ → Moment → List (List ℕ) → List Line → Moment → Type 0

@@ -16,7 +16,7 @@ pub none_by : (link : Link) → ((c : Chained) → links_of c link ≡ None) →
 none_by link none None = refl
 none_by link none (Some c) = none c
 
-both_none : (link : Link) → ((c : Chained) → links_of c link ≡ None) → (o p : Option Chained) → links_by o link ≡ links_by p link
+pub both_none : (link : Link) → ((c : Chained) → links_of c link ≡ None) → (o p : Option Chained) → links_by o link ≡ links_by p link
 both_none link none o p = none_by link none o ∙ sym (none_by link none p)
 
 module _ (m : Moment) (k : ℕ) (c : Chained) (at : chain_at k m.chains ≡ Some c) where

@@ -1,5 +1,7 @@
 -- A peer that is declared, and one whose session begins.
-use Rattle.std.proofs.Common.{◌≡◌, ℕ, ◌+◌, ◌≤◌, ◌<◌, Bool, true, false, not, ◌&&◌, cond, List, [], ◌∷◌, ◌++◌, map, take, drop, Option, Some, None, nat_eq, nat_lt, refl, sym, ap, subst, ◌∙◌, add-one, arith}
+use Rattle.std.proofs.Common.{◌≡◌, ℕ, ◌+◌, ◌≤◌, ◌<◌, Bool, true, false, not, ◌&&◌, cond, List, [], ◌∷◌, ◌++◌, map, take, drop, length, get_or, Option, Some, None, nat_eq, nat_lt, refl, sym, ap, subst, ◌∙◌, add-one, arith, suc}
+use Rattle.std.proofs.Math.ListN.{set}
+use Rattle.std.proofs.lemmas.List.{length_push}
 use Rattle.std.specs.Prelude.{option_map}
 use Rattle.std.specs.List.{AllByRecursion, insert}
 use Rattle.std.proofs.lemmas.Bool.Decides.{nat_tests}
@@ -14,21 +16,29 @@ use Rattle.journal_text.specs.declared.entry.Entry.TheVariants.{Begin}
 use Rattle.journal_text.specs.declared.value.Value.{Value}
 use Rattle.journal_text.specs.declared.line.Line.TheVariants as lines
 use Rattle.journal_text.specs.Links.{owner_of}
-use Rattle.journal_text.specs.Walk.{Leads, with_link}
+use Rattle.journal_text.specs.Walk.{Links, Leads, with_link}
 use Rattle.event_text.specs.declared.event.Event.TheVariants as events
 use Rattle.event_text.specs.declared.declared.DeclaredPeer.{DeclaredPeer}
-use Rattle.event_text.specs.Declarations.{Declaration, peer_at, words_of, with_peer, with_session, begun_at, refusal, refusal_at, session_refusal}
+use Rattle.event_text.specs.Declarations.{Declaration, peer_at, words_of, with_peer, with_session, begun_at, refusal, refusal_at, rules_refusal, session_refusal}
 use Rattle.event_text.proofs.Sessions.{addable, missed, KeepsWords, begun_words}
+use Rattle.policy_rules.specs.declared.rule.Rule.{Rule}
+use Rattle.pass_core.specs.Passed.{Walked, present, edited}
+use Rattle.filter_bank.specs.Filtered.{filtered_rows}
 use Rattle.in_chain.specs.Incomings.{in_rows}
-use Rattle.in_chain.specs.Chains.{Chained, links_of}
-use Rattle.journal_text.specs.Journals.{attrs_rows}
-use Rattle.in_chain.specs.Steps.{new_chain}
-use Rattle.router_core.specs.Moments.{Moment, chain_at, insert_chain, links_by, router_links}
-use Rattle.router_core.specs.Lives.{live_state, routes_of, begun_if_down}
-use Rattle.router_core.specs.Stands.{IsEarlier, PeerStands, StandsAt, AreInOrder, Stands}
-use Rattle.router_core.specs.Blocks.{Acts, ByPeer, BeginsIf, declared_peer, begun}
-use Rattle.router_core.specs.Peers.{place_in, is_up}
-use Rattle.router_core.proofs.ChainLemmas.{equal_by, same_by, other_by, chain_here, chain_past}
+use Rattle.in_chain.specs.Chains.{Chained, filt_rows, links_of, is_named}
+use Rattle.journal_text.specs.Journals.{attrs_rows, route_rows}
+use Rattle.journal_text.proofs.WalkLemmas.{leads_nowhere}
+use Rattle.in_chain.specs.Steps.{new_chain, refiltered}
+use Rattle.router_core.specs.Moments.{Moment, chain_at, put_chain, with_chain, insert_chain, links_by, router_links}
+use Rattle.router_core.specs.Lives.{LiveState, live_state, routes_of, rules_of, with_rules, begun_if_down}
+use Rattle.router_core.specs.Stands.{IsEarlier, IsSilent, PeerStands, StandsAt, AreInOrder, Stands}
+use Rattle.router_core.specs.Blocks.{Acts, ByPeer, BeginsIf, Declares, declared_speaker, declared_peer, begun}
+use Rattle.router_core.specs.Peers.{place_in, is_up, Edits}
+use Rattle.router_core.specs.Works.{IsPlace}
+use Rattle.router_core.proofs.ChainLemmas.{equal_by, same_by, other_by, chain_here, chain_past, number_at}
+use Rattle.router_core.proofs.LinkLemmas.{both_none, beside_old, beside_new}
+use Rattle.router_core.proofs.StandLemmas.{peer_of, stands_with, live_edited}
+use Rattle.router_core.proofs.PlaceLemmas.{at_place, set_at_place}
 
 -- ---- a chain more
 below_by : (m n : ℕ) → nat_lt m n ≡ true → m < n
@@ -114,53 +124,84 @@ no_chain None None stands none = refl
 no_chain None (Some c) stands none = absurd stands
 no_chain (Some p) c stands none = absurd (cc)
 
-module _ (m : Moment) (k : ℕ) (words : Speaker) (stands : Stands m) (absent : peer_at k m.declared.peers ≡ None) where
+chains_more : (c : Chained) (cs : List Chained) → length (insert_chain c cs) ≡ length cs + 1
+chains_more c [] = refl
+chains_more c (d ∷ ds) = by_test (nat_lt c.incoming.number d.incoming.number) (chains_more c ds)
+  where
+    by_test : (b : Bool) → length (insert_chain c ds) ≡ length ds + 1 → length (cond b (c ∷ d ∷ ds) (d ∷ insert_chain c ds)) ≡ length (d ∷ ds) + 1
+    by_test true rest = omega arith
+    by_test false rest = omega arith
+
+all_more : (P : Chained → Type 0) (c : Chained) (cs : List Chained) → AllByRecursion P cs → P c → AllByRecursion P (insert_chain c cs)
+all_more P c [] all one = (one, tt)
+all_more P c (d ∷ ds) all one = by_test (nat_lt c.incoming.number d.incoming.number) (all_more P c ds all.1 one)
+  where
+    by_test : (b : Bool) → AllByRecursion P (insert_chain c ds) → AllByRecursion P (cond b (c ∷ d ∷ ds) (d ∷ insert_chain c ds))
+    by_test true rest = (one, all)
+    by_test false rest = (all.0, rest)
+
+module _ (m : Moment) (me : Speaker) (k : ℕ) (words : Speaker) (is_local : m.declared.speaker ≡ Some me) (stands : Stands m) (absent : peer_at k m.declared.peers ≡ None) where
+  abbrev fresh : Chained
+  fresh = new_chain me (words_of m.declared.speaker k words)
+
+  abbrev chains_then : List Chained
+  chains_then = insert_chain fresh m.chains
+
   no_chain_yet : chain_at k m.chains ≡ None
   no_chain_yet = no_chain (peer_at k m.declared.peers) (chain_at k m.chains) (stands.peers k) absent
 
-  new_stands : StandsAt (Some (new_peer m k words)) (Some (new_chain k))
-  new_stands = record { chain = record { apart = tt; rising = tt }; full = tt; few = omega arith; earlier = tt; silent = refl }
+  there_at : (j : ℕ) → nat_eq k j ≡ true → chain_at j chains_then ≡ Some fresh
+  there_at j e = subst (λ (n : ℕ). chain_at n chains_then ≡ Some fresh) (equal_by k j e) (chain_at_insert_here k fresh m.chains no_chain_yet refl)
 
-  pub declared_stands : Stands (declared_peer m k words)
-  declared_stands = record { order = in_order_insert (new_chain k) m.chains stands.order no_chain_yet; peers = λ j. by_test j (nat_eq k j) refl }
+  none_at : (j : ℕ) → nat_eq k j ≡ true → chain_at j m.chains ≡ None
+  none_at j e = subst (λ (n : ℕ). chain_at n m.chains ≡ None) (equal_by k j e) no_chain_yet
+
+  new_stands : StandsAt (Some (new_peer m k words)) (Some fresh)
+  new_stands = record { words = refl; chain = record { apart = tt; rising = tt }; full = tt; few = omega arith; earlier = tt; silent = refl }
+
+  pub declared_stands : Stands (declared_peer m me k words)
+  declared_stands = record {
+    order = in_order_insert fresh m.chains stands.order no_chain_yet;
+    peers = λ j. by_test j (nat_eq k j) refl;
+    speaker = all_more (λ c. m.declared.speaker ≡ Some c.me) fresh m.chains stands.speaker is_local;
+    count = chains_more fresh m.chains ∙ ap (λ (n : ℕ). n + 1) stands.count ∙ sym (length_push m.declared.peers (new_peer m k words));
+  }
     where
-      by_test : (j : ℕ) (b : Bool) → nat_eq k j ≡ b → StandsAt (peer_at j (with_peer m.declared k words).peers) (chain_at j (insert_chain (new_chain k) m.chains))
+      by_test : (j : ℕ) (b : Bool) → nat_eq k j ≡ b → StandsAt (peer_at j (with_peer m.declared k words).peers) (chain_at j chains_then)
       by_test j true e =
           let is : k ≡ j = equal_by k j e in
           let p : peer_at k (with_peer m.declared k words).peers ≡ Some (new_peer m k words) = peer_at_push_here k m.declared.peers (new_peer m k words) absent refl in
-          let c : chain_at k (insert_chain (new_chain k) m.chains) ≡ Some (new_chain k) = chain_at_insert_here k (new_chain k) m.chains no_chain_yet refl in
-          subst (λ (n : ℕ). StandsAt (peer_at n (with_peer m.declared k words).peers) (chain_at n (insert_chain (new_chain k) m.chains))) is
-          (subst (λ (o : Option DeclaredPeer). StandsAt o (chain_at k (insert_chain (new_chain k) m.chains))) (sym p)
+          let c : chain_at k chains_then ≡ Some fresh = chain_at_insert_here k fresh m.chains no_chain_yet refl in
+          subst (λ (n : ℕ). StandsAt (peer_at n (with_peer m.declared k words).peers) (chain_at n chains_then)) is
+          (subst (λ (o : Option DeclaredPeer). StandsAt o (chain_at k chains_then)) (sym p)
           (subst (λ (o : Option Chained). StandsAt (Some (new_peer m k words)) o) (sym c) new_stands))
       by_test j false e =
           let p : peer_at j (with_peer m.declared k words).peers ≡ peer_at j m.declared.peers = peer_at_push_other j m.declared.peers (new_peer m k words) e in
-          let c : chain_at j (insert_chain (new_chain k) m.chains) ≡ chain_at j m.chains = chain_at_insert_other j (new_chain k) m.chains e in
-          subst (λ (o : Option DeclaredPeer). StandsAt o (chain_at j (insert_chain (new_chain k) m.chains))) (sym p)
+          let c : chain_at j chains_then ≡ chain_at j m.chains = chain_at_insert_other j fresh m.chains e in
+          subst (λ (o : Option DeclaredPeer). StandsAt o (chain_at j chains_then)) (sym p)
           (subst (λ (o : Option Chained). StandsAt (peer_at j m.declared.peers) o) (sym c) (stands.peers j))
 
-  -- ---- the new link
-  new_rows : ◌≡◌ {A = Option (Rows Value)} (Some (attrs_rows (in_rows (new_chain k)))) (Some no_rows)
-  new_rows = ap (λ (rows : Rows Attrs). Some (attrs_rows rows)) (empty_rows {V = Attrs})
+  -- ---- the new links
+  new_in : ◌≡◌ {A = Option (Rows Value)} (Some (attrs_rows (in_rows fresh.incoming))) (Some no_rows)
+  new_in = ap (λ (rows : Rows Attrs). Some (attrs_rows rows)) (empty_rows {V = Attrs})
 
-  abbrev chains_then : List Chained
-  chains_then = insert_chain (new_chain k) m.chains
+  new_filt : ◌≡◌ {A = Option (Rows Value)} (Some (route_rows (filt_rows fresh))) (Some no_rows)
+  new_filt = ap (λ (rows : Rows Attrs). Some (route_rows (filtered_rows fresh.me fresh.peer [] rows))) (empty_rows {V = Attrs})
 
-  there_at : (j : ℕ) → nat_eq k j ≡ true → chain_at j chains_then ≡ Some (new_chain k)
-  there_at j e = subst (λ (n : ℕ). chain_at n chains_then ≡ Some (new_chain k)) (equal_by k j e) (chain_at_insert_here k (new_chain k) m.chains no_chain_yet refl)
-
-  in_link : (j : ℕ) → with_link (router_links m) (In k) (Some no_rows) (In j) ≡ links_by (chain_at j chains_then) (In j)
-  in_link j = by_test (nat_eq k j) refl
+  -- a link that begins without rows
+  begins : (j : ℕ) (link : Link) (own : Rows Value) → ((b : Bool) → nat_eq j k ≡ b → links_of fresh link ≡ cond b (Some own) None) → ◌≡◌ {A = Option (Rows Value)} (Some own) (Some no_rows)
+      → cond (nat_eq j k && true) (Some no_rows) (links_by (chain_at j m.chains) link) ≡ links_by (chain_at j chains_then) link
+  begins j link own has empty = by_test (nat_eq k j) refl
     where
-      by_test : (b : Bool) → nat_eq k j ≡ b → with_link (router_links m) (In k) (Some no_rows) (In j) ≡ links_by (chain_at j chains_then) (In j)
+      by_test : (b : Bool) → nat_eq k j ≡ b → cond (nat_eq j k && true) (Some no_rows) (links_by (chain_at j m.chains) link) ≡ links_by (chain_at j chains_then) link
       by_test true e =
           let f : nat_eq j k ≡ true = same_by j k (sym (equal_by k j e)) in
-          ap (λ (b : Bool). cond (b && true) (Some no_rows) (links_by (chain_at j m.chains) (In j))) f
-          ∙ sym new_rows ∙ sym (ap (λ (b : Bool). cond b (Some (attrs_rows (in_rows (new_chain k)))) None) f)
-          ∙ ap (λ (o : Option Chained). links_by o (In j)) (sym (there_at j e))
+          ap (λ (b : Bool). cond (b && true) (Some no_rows) (links_by (chain_at j m.chains) link)) f
+          ∙ sym empty ∙ sym (has true f) ∙ ap (λ (o : Option Chained). links_by o link) (sym (there_at j e))
       by_test false e =
           let f : nat_eq j k ≡ false = other_by j k (λ same. let t : true ≡ false = sym (same_by k j (sym same)) ∙ e in cc) in
-          ap (λ (b : Bool). cond (b && true) (Some no_rows) (links_by (chain_at j m.chains) (In j))) f
-          ∙ ap (λ (o : Option Chained). links_by o (In j)) (sym (chain_at_insert_other j (new_chain k) m.chains e))
+          ap (λ (b : Bool). cond (b && true) (Some no_rows) (links_by (chain_at j m.chains) link)) f
+          ∙ ap (λ (o : Option Chained). links_by o link) (sym (chain_at_insert_other j fresh m.chains e))
 
   peer_link : (j s : ℕ) → links_by (chain_at j m.chains) (Peer j s) ≡ links_by (chain_at j chains_then) (Peer j s)
   peer_link j s = by_test (nat_eq k j) refl
@@ -168,27 +209,23 @@ module _ (m : Moment) (k : ℕ) (words : Speaker) (stands : Stands m) (absent : 
       by_test : (b : Bool) → nat_eq k j ≡ b → links_by (chain_at j m.chains) (Peer j s) ≡ links_by (chain_at j chains_then) (Peer j s)
       by_test true e =
           let f : nat_eq j k ≡ true = same_by j k (sym (equal_by k j e)) in
-          ap (λ (n : ℕ). links_by (chain_at n m.chains) (Peer j s)) (sym (equal_by k j e)) ∙ ap (λ (o : Option Chained). links_by o (Peer j s)) no_chain_yet
+          ap (λ (o : Option Chained). links_by o (Peer j s)) (none_at j e)
           ∙ sym (ap (λ (b : Bool). cond b None None) f) ∙ ap (λ (o : Option Chained). links_by o (Peer j s)) (sym (there_at j e))
-      by_test false e = ap (λ (o : Option Chained). links_by o (Peer j s)) (sym (chain_at_insert_other j (new_chain k) m.chains e))
+      by_test false e = ap (λ (o : Option Chained). links_by o (Peer j s)) (sym (chain_at_insert_other j fresh m.chains e))
 
-  no_link : (link : Link) → ((c : Chained) → links_of c link ≡ None) → (o p : Option Chained) → links_by o link ≡ links_by p link
-  no_link link none o p = of o ∙ sym (of p)
-    where
-      of : (o : Option Chained) → links_by o link ≡ None
-      of None = refl
-      of (Some c) = none c
+  abbrev links_then : Links Value
+  links_then = with_link (with_link (router_links m) (In k) (Some no_rows)) (Filt k) (Some no_rows)
 
-  declared_links : with_link (router_links m) (In k) (Some no_rows) ≡ router_links (declared_peer m k words)
+  declared_links : links_then ≡ router_links (declared_peer m me k words)
   declared_links i link = each link i
     where
       none : (link : Link) → ((c : Chained) → links_of c link ≡ None) → links_by (chain_at (owner_of link) m.chains) link ≡ links_by (chain_at (owner_of link) chains_then) link
-      none link lacks = no_link link lacks (chain_at (owner_of link) m.chains) (chain_at (owner_of link) chains_then)
+      none link lacks = both_none link lacks (chain_at (owner_of link) m.chains) (chain_at (owner_of link) chains_then)
 
-      each : (link : Link) → with_link (router_links m) (In k) (Some no_rows) link ≡ router_links (declared_peer m k words) link
-      each (In j) = in_link j
+      each : (link : Link) → links_then link ≡ router_links (declared_peer m me k words) link
+      each (In j) = begins j (In j) (attrs_rows (in_rows fresh.incoming)) (λ b e. ap (λ (b : Bool). cond b (Some (attrs_rows (in_rows fresh.incoming))) None) e) new_in
       each (Peer j s) = peer_link j s
-      each (Filt j) = none (Filt j) (λ c. refl)
+      each (Filt j) = begins j (Filt j) (route_rows (filt_rows fresh)) (λ b e. ap (λ (b : Bool). cond b (Some (route_rows (filt_rows fresh))) None) e) new_filt
       each (Res j) = none (Res j) (λ c. refl)
       each (Org p) = none (Org p) (λ c. refl)
       each (LostOf p n) = none (LostOf p n) (λ c. refl)
@@ -206,22 +243,25 @@ module _ (m : Moment) (k : ℕ) (words : Speaker) (stands : Stands m) (absent : 
       each (Outf j s) = none (Outf j s) (λ c. refl)
       each (Adv j s) = none (Adv j s) (λ c. refl)
 
-  declared_leads : Leads (router_links m) (Begin (In k) ∷ []) (router_links (declared_peer m k words))
-  declared_leads = record { lawful = (ap (λ (o : Option Chained). links_by o (In k)) no_chain_yet, tt); ends = declared_links }
+  declared_leads : Leads (router_links m) (Begin (In k) ∷ Begin (Filt k) ∷ []) (router_links (declared_peer m me k words))
+  declared_leads = record {
+    lawful = (ap (λ (o : Option Chained). links_by o (In k)) no_chain_yet, (ap (λ (o : Option Chained). links_by o (Filt k)) no_chain_yet, tt));
+    ends = declared_links;
+  }
 
-  -- ---- the live routes stay
-  routes_stay : (j : ℕ) → routes_of (chain_at j chains_then) ≡ routes_of (chain_at j m.chains)
-  routes_stay j = by_test (nat_eq k j) refl
+  -- ---- live routes and rules stay
+  stays : {A : Type 0} (f : Option Chained → A) → f (Some fresh) ≡ f None → (j : ℕ) → f (chain_at j chains_then) ≡ f (chain_at j m.chains)
+  stays f same j = by_test (nat_eq k j) refl
     where
-      by_test : (b : Bool) → nat_eq k j ≡ b → routes_of (chain_at j chains_then) ≡ routes_of (chain_at j m.chains)
-      by_test true e = ap routes_of (there_at j e) ∙ sym (ap (λ (n : ℕ). routes_of (chain_at n m.chains)) (sym (equal_by k j e)) ∙ ap routes_of no_chain_yet)
-      by_test false e = ap routes_of (chain_at_insert_other j (new_chain k) m.chains e)
+      by_test : (b : Bool) → nat_eq k j ≡ b → f (chain_at j chains_then) ≡ f (chain_at j m.chains)
+      by_test true e = ap f (there_at j e) ∙ same ∙ sym (ap f (none_at j e))
+      by_test false e = ap f (chain_at_insert_other j fresh m.chains e)
 
-  pub peer_acts : Acts m (events.Peer k words) 0 (declared_peer m k words) (lines.Journal (Begin (In k)) ∷ [])
+  pub peer_acts : Acts m (events.Peer k words) 0 (declared_peer m me k words) (lines.Journal (Begin (In k)) ∷ lines.Journal (Begin (Filt k)) ∷ [])
   peer_acts = record {
-    block = (refl, refl, refl);
+    block = subst (λ (s : Option Speaker). Declares m s k words (lines.Journal (Begin (In k)) ∷ lines.Journal (Begin (Filt k)) ∷ []) 0 (declared_peer m me k words)) (sym is_local) (refl, refl, refl);
     leads = declared_leads;
-    live = λ i. record { declared = with_peer m.declared k words; routes = λ j. routes_stay j i };
+    live = λ i. record { declared = with_peer m.declared k words; routes = λ j. stays routes_of refl j i; rules = λ j. stays rules_of refl j i };
   }
 
 -- ---- a session begins
@@ -247,6 +287,7 @@ begun_peer k p c stands = by_test (nat_eq p.words.number k && not p.up) refl
   where
     by_test : (b : Bool) → (nat_eq p.words.number k && not p.up) ≡ b → PeerStands (cond b (record { words = p.words; session = p.session + 1; up = true }) p) c
     by_test true e = record {
+      words = stands.words;
       chain = stands.chain;
       full = stands.full;
       few = stands.few;
@@ -261,9 +302,15 @@ begun_one k None (Some c) stands = absurd stands
 begun_one k (Some p) None stands = absurd stands
 begun_one k (Some p) (Some c) stands = begun_peer k p c stands
 
+begun_length : (k : ℕ) (ps : List DeclaredPeer) → length (map (begun_at k) ps) ≡ length ps
+begun_length k [] = refl
+begun_length k (p ∷ ps) = ap suc (begun_length k ps)
+
 pub begun_stands : (m : Moment) (k : ℕ) → Stands m → Stands (begun m k)
 begun_stands m k stands = record {
   order = stands.order;
+  speaker = stands.speaker;
+  count = stands.count ∙ sym (begun_length k m.declared.peers);
   peers = λ j. subst (λ (o : Option DeclaredPeer). StandsAt o (chain_at j m.chains)) (sym (peer_at_map (begun_at k) (begun_words k) j m.declared.peers)) (begun_one k (peer_at j m.declared.peers) (chain_at j m.chains) (stands.peers j));
 }
 
@@ -309,13 +356,122 @@ ignored_acts m k up = record {
 abbrev moment_by : Declaration → List Chained → Moment
 moment_by d cs = record { declared = d; chains = cs }
 
-pub declared_is : (m : Moment) (k : ℕ) (words : Speaker) (before after : Declaration) (c : Chained) (cs cs' : List Chained) → moment_by before cs ≡ m → c ≡ new_chain k → cs' ≡ insert_chain c cs → after ≡ with_peer before k words → moment_by after cs' ≡ declared_peer m k words
-declared_is m k words before after c cs cs' view new inserted added =
-    ap (λ (d : Declaration). moment_by d cs') added ∙ ap (moment_by (with_peer before k words)) (inserted ∙ ap (λ (x : Chained). insert_chain x cs) new)
-    ∙ ap (λ (n : Moment). declared_peer n k words) view
+-- the peer that was declared, by its words
+pub new_peer_at : (d : Declaration) (k : ℕ) (words : Speaker) → peer_at k d.peers ≡ None → peer_at k (with_peer d k words).peers ≡ Some (record { words = words_of d.speaker k words; session = 0; up = false })
+new_peer_at d k words absent = peer_at_push_here k d.peers (record { words = words_of d.speaker k words; session = 0; up = false }) absent refl
+
+one_peer : (p q : DeclaredPeer) → Some p ≡ Some q → p ≡ q
+one_peer p q e = cc
+
+pub declared_is : (m : Moment) (me : Speaker) (k : ℕ) (words : Speaker) (before after : Declaration) (p : DeclaredPeer) (c : Chained) (cs cs' : List Chained) → moment_by before cs ≡ m → peer_at k before.peers ≡ None
+    → after ≡ with_peer before k words → Some p ≡ peer_at k after.peers → c ≡ new_chain me p.words → cs' ≡ insert_chain c cs → moment_by after cs' ≡ declared_peer m me k words
+declared_is m me k words before after p c cs cs' view absent added there new inserted =
+    let q : DeclaredPeer = record { words = words_of before.speaker k words; session = 0; up = false } in
+    let is : p ≡ q = one_peer p q (there ∙ ap (λ (d : Declaration). peer_at k d.peers) added ∙ new_peer_at before k words absent) in
+    ap (λ (d : Declaration). moment_by d cs') added ∙ ap (moment_by (with_peer before k words)) (inserted ∙ ap (λ (x : Chained). insert_chain x cs) (new ∙ ap (λ (x : DeclaredPeer). new_chain me x.words) is))
+    ∙ ap (λ (n : Moment). declared_peer n me k words) view
+
+-- the peer that was just declared is there
+pub not_added : (before after : Declaration) (k : ℕ) (words : Speaker) → peer_at k before.peers ≡ None → after ≡ with_peer before k words → None ≡ peer_at k after.peers → ⊥
+not_added before after k words absent added none =
+    let there : peer_at k after.peers ≡ Some (record { words = words_of before.speaker k words; session = 0; up = false }) = ap (λ (d : Declaration). peer_at k d.peers) added ∙ new_peer_at before k words absent in
+    cc
 
 pub begun_is : (m : Moment) (k : ℕ) (before after : Declaration) (cs : List Chained) → moment_by before cs ≡ m → after ≡ with_session before k → moment_by after cs ≡ begun m k
 begun_is m k before after cs view began = ap (λ (d : Declaration). moment_by d cs) began ∙ ap (λ (n : Moment). begun n k) view
 
 pub peer_absent : (d : Declaration) (k : ℕ) (words : Speaker) → refusal d (events.Peer k words) ≡ None → peer_at k d.peers ≡ None
 peer_absent d k words e = (addable d.speaker d.peers k words e).1
+
+-- ---- `local`
+local_first : (d : Declaration) (words : Speaker) → refusal d (events.Local words) ≡ None → d.speaker ≡ None
+unfolding refusal
+local_first d words e = by_speaker d.speaker e
+  where
+    by_speaker : (s : Option Speaker) → refusal_at s d.peers (events.Local words) ≡ None → s ≡ None
+    by_speaker None e = refl
+    by_speaker (Some me) e = absurd (cc)
+
+pub peer_after : (d : Declaration) (k : ℕ) (words : Speaker) → refusal d (events.Peer k words) ≡ None → None ≡ d.speaker → ⊥
+unfolding refusal
+peer_after d k words e none = by_speaker d.speaker e none
+  where
+    by_speaker : (s : Option Speaker) → refusal_at s d.peers (events.Peer k words) ≡ None → None ≡ s → ⊥
+    by_speaker None e none = absurd (cc)
+    by_speaker (Some me) e none = absurd (cc)
+
+-- no chain stands before it
+no_chains : (s t : Option Speaker) (cs : List Chained) → s ≡ None → AllByRecursion (λ c. s ≡ Some c.me) cs → AllByRecursion (λ c. t ≡ Some c.me) cs
+no_chains s t [] none all = tt
+no_chains s t (c ∷ cs) none all = let one : s ≡ Some c.me = all.0 in absurd (cc)
+
+pub speaker_stands : (m : Moment) (words : Speaker) → refusal m.declared (events.Local words) ≡ None → Stands m → Stands (declared_speaker m words)
+speaker_stands m words admitted stands = record {
+  order = stands.order;
+  peers = stands.peers;
+  speaker = no_chains m.declared.speaker (Some words) m.chains (local_first m.declared words admitted) stands.speaker;
+  count = stands.count;
+}
+
+-- ---- new rules
+pub rules_there : (d : Declaration) (k : ℕ) (rules : List Rule) → refusal d (events.FilterIn k rules) ≡ None → (p : DeclaredPeer) × (peer_at k d.peers ≡ Some p)
+unfolding refusal
+rules_there d k rules e = by_speaker d.speaker e
+  where
+    by_peer : (o : Option DeclaredPeer) → rules_refusal (length rules) o ≡ None → (p : DeclaredPeer) × (o ≡ Some p)
+    by_peer None e = absurd (cc)
+    by_peer (Some p) e = (p, refl)
+
+    by_speaker : (s : Option Speaker) → refusal_at s d.peers (events.FilterIn k rules) ≡ None → (p : DeclaredPeer) × (peer_at k d.peers ≡ Some p)
+    by_speaker None e = absurd (cc)
+    by_speaker (Some me) e = by_peer (peer_at k d.peers) e
+
+present_edited : (in_force : List Rule) (walk : Option (Walked (List Rule))) (rules : List Rule) → present (edited (record { in_force = in_force; walk = walk }) rules) ≡ rules
+present_edited in_force None rules = refl
+present_edited in_force (Some w) rules = refl
+
+silent_edited : (up : Bool) (c : Chained) (rules : List Rule) → IsSilent up c → IsSilent up (refiltered rules c)
+silent_edited true c rules silent = tt
+silent_edited false c rules silent = silent
+
+-- the chain with new rules stands for the peer
+edited_peer : (p : DeclaredPeer) (c : Chained) (rules : List Rule) → PeerStands p c → PeerStands p (refiltered rules c)
+edited_peer p c rules stands = record {
+  words = stands.words;
+  chain = stands.chain;
+  full = stands.full;
+  few = stands.few;
+  earlier = stands.earlier;
+  silent = silent_edited p.up c rules stands.silent;
+}
+
+same_links : (m : Moment) (k : ℕ) (rules : List Rule) (c : Chained) → chain_at k m.chains ≡ Some c → links_of (refiltered rules c) ≡ links_of c → router_links m ≡ router_links (with_chain m (refiltered rules c))
+same_links m k rules c at links =
+    sym (beside_old m k c at) ∙ ap (λ (own : Links Value). λ (link : Link). cond (is_named c.incoming.number link) (own link) (router_links m link)) (sym links)
+    ∙ beside_new m k c at (refiltered rules c) (number_at k m.chains c at)
+
+pub edited_acts : (m : Moment) (k : ℕ) (rules : List Rule) (cs : List Chained) → Edits k rules m.chains cs → Acts m (events.FilterIn k rules) 0 (moment_by m.declared cs) []
+edited_acts m k rules cs e = subst (λ (x : List Chained). Acts m (events.FilterIn k rules) 0 (moment_by m.declared x) []) (sym e.2) (record {
+  block = (e.0, e.1, (refl, refl, refl));
+  leads = leads_nowhere (router_links m) (router_links (with_chain m (refiltered rules e.0))) (same_links m k rules e.0 e.1 e.3);
+  live = live_edited m k e.0 (refiltered rules e.0) e.1 (number_at k m.chains e.0 e.1) refl
+      ∙ ap (λ (r : List Rule). live_by m (with_rules (live_state m).rules k r)) (present_edited e.0.filter.in_force e.0.filter.walk rules);
+})
+  where
+    live_by : Moment → (ℕ → List Rule) → LiveState
+    live_by m rules = record { declared = m.declared; routes = (live_state m).routes; rules = rules }
+
+pub edited_stands : (m : Moment) (k : ℕ) (rules : List Rule) (cs : List Chained) → Stands m → Edits k rules m.chains cs → Stands (moment_by m.declared cs)
+edited_stands m k rules cs stands e =
+    let p = peer_of m stands k e.0 e.1 in
+    subst (λ (x : List Chained). Stands (moment_by m.declared x)) (sym e.2)
+    (stands_with m k e.0 (refiltered rules e.0) p.0 stands e.1 (number_at k m.chains e.0 e.1) refl p.1 (edited_peer p.0 e.0 rules p.2))
+
+pub edits_placed : (k : ℕ) (rules : List Rule) (cs : List Chained) (i : ℕ) (c c' : Chained) → AreInOrder cs → IsPlace k cs (Some i) → c ≡ get_or cs i c → c' ≡ refiltered rules c → links_of c' ≡ links_of c
+    → Edits k rules cs (set cs i c')
+edits_placed k rules cs i c c' order place is after links = (
+  c,
+  at_place k cs i c place is,
+  set_at_place cs i c c' order place.0 is (ap (λ (x : Chained). x.incoming.number) after) ∙ ap (λ (x : Chained). put_chain x cs) after,
+  subst (λ (x : Chained). links_of x ≡ links_of c) after links,
+)

@@ -1,31 +1,31 @@
 -- The rows of a link, one after the other.
-use Rattle.std.proofs.Common.{◌≡◌, ◌⊎◌, ℕ, ◌+◌, ◌^◌, ◌<◌, ◌≤◌, false, List, [], ◌∷◌, ◌++◌, map, length, Option, Some, None, is_some, refl, sym, ap, subst, ◌∙◌, inl, inr, append-nil, append_assoc, arith}
+use Rattle.std.proofs.Common.{◌≡◌, ◌⊎◌, ℕ, ◌+◌, ◌^◌, ◌<◌, ◌≤◌, false, List, [], ◌∷◌, ◌++◌, map, length, Option, Some, None, is_some, refl, sym, ap, subst, ◌∙◌, inl, inr, append-nil, append_assoc, length-append, arith}
 use Rattle.std.specs.Prelude.{IsSome, Contains}
 use Rattle.std.specs.List.{AllByRecursion}
 use Rattle.std.specs.List.Sorted.{IsStrictlySortedBy}
 use Rattle.std.specs.Ordering.{ordering_reverse}
 use Rattle.std.specs.declared.cmp.Ordering.{Ordering}
 use Rattle.std.specs.declared.cmp.Ordering.TheVariants.{Less, Equal, Greater}
-use Rattle.std.proofs.lemmas.List.{map-append, length_push}
+use Rattle.std.proofs.lemmas.List.{map-append}
 use Rattle.std.proofs.lemmas.List.Elements.{Contains-push, Contains-append_left}
 use Rattle.addr4.specs.Prefixes.{Network, prefix_cmp, ComesBefore}
 use Rattle.addr4.specs.Places.{IsBeyond, IsShort, beyond}
 use Rattle.addr4.proofs.PrefixOrder.{prefixes_total, exact_prefixes}
 use Rattle.addr4.proofs.RankLemmas.{rank_beyond, further}
-use Rattle.link_change.specs.Rows.{Rows, IsNextCandidate, with_rows}
+use Rattle.link_change.specs.Rows.{Rows, Candidates, IsNextCandidate, CoversRows}
 use Rattle.journal_text.specs.declared.value.Value.{Value}
 use Rattle.journal_text.specs.declared.link.Link.{Link}
 use Rattle.journal_text.specs.declared.line.Line.{Line}
 use Rattle.journal_text.specs.declared.line.Line.TheVariants as lines
 use Rattle.journal_text.specs.declared.entry.Entry.{Entry}
-use Rattle.journal_text.specs.Walk.{Links, Leads}
+use Rattle.journal_text.specs.Walk.{Links, Leads, HasRow}
 use Rattle.journal_text.specs.Texts.{entries_of}
 use Rattle.event_text.specs.declared.event.Event.TheVariants as events
 use Rattle.in_chain.specs.Chains.{Chained}
 use Rattle.router_core.specs.Moments.{Moment, router_links}
 use Rattle.journal_text.specs.Journals.{Journaled, with_lines}
 use Rattle.router_core.specs.Blocks.{AreRows, Shows, Acts}
-use Rattle.router_core.specs.Lookups.{links_among, IsRowOf, IsCountOf}
+use Rattle.router_core.specs.Lookups.{links_among, listed_at, row_lines, Counts, ShowsRow, IsCountOf}
 use Rattle.router_core.specs.Works.{Pushes}
 
 -- a prefix lies beyond the place, or is listed
@@ -59,37 +59,64 @@ sorted_push (k ∷ ks) p sorted before = (all_push (λ q. prefix_cmp k q ≡ Les
 prefixes_push : (listed : List (Network × Value)) (p : Network) (v : Value) → map (λ r. r.0) (listed ++ (p, v) ∷ []) ≡ map (λ r. r.0) listed ++ p ∷ []
 prefixes_push listed p v = map-append (λ r. r.0) listed ((p, v) ∷ [])
 
--- one row more, at the next prefix that has one
-pub one_shown : (rows : Rows Value) (place : Option Network) (listed : List (Network × Value)) (p : Network) (v : Value) → IsNextCandidate (with_rows rows) place (Some p) → rows p ≡ Some v → IsShown rows place listed → IsShown rows (Some p) (listed ++ (p, v) ∷ [])
-one_shown rows place listed p v next row is = record {
-  order = subst (IsStrictlySortedBy prefix_cmp) push (sorted_push ks p is.order (is.before p next.0));
-  before = λ q beyond. subst (AllByRecursion (λ k. ComesBefore k q)) push (all_push (λ k. ComesBefore k q) ks p (is.before q (further place p q next.0 beyond)) beyond);
-  each = all_push (λ r. rows r.0 ≡ Some r.1) listed (p, v) is.each row;
-  rest = λ q some. by_rest q some (is.rest q some);
-}
-  where
-    ks : List Network
-    ks = map (λ r. r.0) listed
+module _ (candidates : Candidates) (rows : Rows Value) (covers : CoversRows candidates rows) where
+  -- one row more, at the next candidate
+  one_shown : (place : Option Network) (listed : List (Network × Value)) (p : Network) (v : Value) → IsNextCandidate candidates place (Some p) → rows p ≡ Some v → IsShown rows place listed
+      → IsShown rows (Some p) (listed ++ (p, v) ∷ [])
+  one_shown place listed p v next row is = record {
+    order = subst (IsStrictlySortedBy prefix_cmp) push (sorted_push ks p is.order (is.before p next.0));
+    before = λ q beyond. subst (AllByRecursion (λ k. ComesBefore k q)) push (all_push (λ k. ComesBefore k q) ks p (is.before q (further place p q next.0 beyond)) beyond);
+    each = all_push (λ r. rows r.0 ≡ Some r.1) listed (p, v) is.each row;
+    rest = λ q some. by_rest q some (is.rest q some);
+  }
+    where
+      ks : List Network
+      ks = map (λ r. r.0) listed
 
-    push : ks ++ p ∷ [] ≡ map (λ r. r.0) (listed ++ (p, v) ∷ [])
-    push = sym (prefixes_push listed p v)
+      push : ks ++ p ∷ [] ≡ map (λ r. r.0) (listed ++ (p, v) ∷ [])
+      push = sym (prefixes_push listed p v)
 
-    by_order : (q : Network) (o : Ordering) → prefix_cmp q p ≡ o → IsSome (rows q) → IsBeyond place q → IsAhead (Some p) (listed ++ (p, v) ∷ []) q
-    by_order q Less e some beyond = let none : is_some (rows q) ≡ false = next.2 q beyond e in absurd (cc)
-    by_order q Equal e some beyond = inr (subst (λ ks. Contains ks q) push (subst (λ k. Contains (ks ++ k ∷ []) q) (exact_prefixes q p e) (Contains-push ks q)))
-    by_order q Greater e some beyond = inl (prefixes_total.antisymm p q ∙ ap ordering_reverse e)
+      by_order : (q : Network) (o : Ordering) → prefix_cmp q p ≡ o → IsSome (rows q) → IsBeyond place q → IsAhead (Some p) (listed ++ (p, v) ∷ []) q
+      by_order q Less e some beyond = let none : rows q ≡ None = covers q (next.2 q beyond e) in absurd (cc)
+      by_order q Equal e some beyond = inr (subst (λ ks. Contains ks q) push (subst (λ k. Contains (ks ++ k ∷ []) q) (exact_prefixes q p e) (Contains-push ks q)))
+      by_order q Greater e some beyond = inl (prefixes_total.antisymm p q ∙ ap ordering_reverse e)
 
-    by_rest : (q : Network) → IsSome (rows q) → IsBeyond place q ⊎ Contains ks q → IsAhead (Some p) (listed ++ (p, v) ∷ []) q
-    by_rest q some (inl beyond) = by_order q (prefix_cmp q p) refl some beyond
-    by_rest q some (inr there) = inr (subst (λ ks. Contains ks q) push (Contains-append_left ks (p ∷ []) q there))
+      by_rest : (q : Network) → IsSome (rows q) → IsBeyond place q ⊎ Contains ks q → IsAhead (Some p) (listed ++ (p, v) ∷ []) q
+      by_rest q some (inl beyond) = by_order q (prefix_cmp q p) refl some beyond
+      by_rest q some (inr there) = inr (subst (λ ks. Contains ks q) push (Contains-append_left ks (p ∷ []) q there))
 
--- where no prefix is left, these are all rows
-pub all_shown : (rows : Rows Value) (place : Option Network) (listed : List (Network × Value)) → IsNextCandidate (with_rows rows) place None → IsShown rows place listed → AreRows rows listed
-all_shown rows place listed none is = record { order = is.order; each = is.each; all = λ q some. by_rest q some (is.rest q some) }
-  where
-    by_rest : (q : Network) → IsSome (rows q) → IsBeyond place q ⊎ Contains (map (λ r. r.0) listed) q → Contains (map (λ r. r.0) listed) q
-    by_rest q some (inl beyond) = let no : is_some (rows q) ≡ false = none q beyond in absurd (cc)
-    by_rest q some (inr there) = there
+  -- none more, where the next candidate has no row
+  none_more : (place : Option Network) (listed : List (Network × Value)) (p : Network) → IsNextCandidate candidates place (Some p) → rows p ≡ None → IsShown rows place listed
+      → IsShown rows (Some p) listed
+  none_more place listed p next none is = record {
+    order = is.order;
+    before = λ q beyond. is.before q (further place p q next.0 beyond);
+    each = is.each;
+    rest = λ q some. by_rest q some (is.rest q some);
+  }
+    where
+      by_order : (q : Network) (o : Ordering) → prefix_cmp q p ≡ o → IsSome (rows q) → IsBeyond place q → IsAhead (Some p) listed q
+      by_order q Less e some beyond = let none : rows q ≡ None = covers q (next.2 q beyond e) in absurd (cc)
+      by_order q Equal e some beyond = let here : rows q ≡ None = ap rows (exact_prefixes q p e) ∙ none in absurd (cc)
+      by_order q Greater e some beyond = inl (prefixes_total.antisymm p q ∙ ap ordering_reverse e)
+
+      by_rest : (q : Network) → IsSome (rows q) → IsBeyond place q ⊎ Contains (map (λ r. r.0) listed) q → IsAhead (Some p) listed q
+      by_rest q some (inl beyond) = by_order q (prefix_cmp q p) refl some beyond
+      by_rest q some (inr there) = inr there
+
+  -- the next candidate, whether it has a row or not
+  pub next_shown : (place : Option Network) (listed : List (Network × Value)) (p : Network) (row : Option Value) → IsNextCandidate candidates place (Some p) → rows p ≡ row → IsShown rows place listed
+      → IsShown rows (Some p) (listed ++ listed_at p row)
+  next_shown place listed p None next here is = subst (IsShown rows (Some p)) (sym (append-nil listed)) (none_more place listed p next here is)
+  next_shown place listed p (Some v) next here is = one_shown place listed p v next here is
+
+  -- where no candidate is left, these are all rows
+  pub all_shown : (place : Option Network) (listed : List (Network × Value)) → IsNextCandidate candidates place None → IsShown rows place listed → AreRows rows listed
+  all_shown place listed none is = record { order = is.order; each = is.each; all = λ q some. by_rest q some (is.rest q some) }
+    where
+      by_rest : (q : Network) → IsSome (rows q) → IsBeyond place q ⊎ Contains (map (λ r. r.0) listed) q → Contains (map (λ r. r.0) listed) q
+      by_rest q some (inl beyond) = let no : rows q ≡ None = covers q (none q beyond) in absurd (cc)
+      by_rest q some (inr there) = there
 
 -- ---- how far a walk goes
 -- a prefix of IPv4, if any
@@ -109,53 +136,49 @@ pub place_rises : (place : Option Network) (p : Network) → IsPlaced place → 
 place_rises place p is further = let le = rank_beyond place p (short_place place is) further in omega arith
 
 -- ---- a link that is live, and its walk
-pub some_is : {A : Type 0} (o : Option A) → IsSome o → (x : A) × (o ≡ Some x)
-some_is None some = absurd (cc)
-some_is (Some x) some = (x, refl)
+one_rows : (a b : Rows Value) → Some a ≡ Some b → a ≡ b
+one_rows a b e = cc
 
--- what is next on a link, whatever its rows
-abbrev pub IsNextOn : Option (Rows Value) → Option Network → Option Network → Type 0
-IsNextOn link place next = (rows : Rows Value) → link ≡ Some rows → IsNextCandidate (with_rows rows) place next
+-- the row of a link, at its only map of rows
+row_here : (links : Links Value) (link : Link) (p : Network) (row : Option Value) (rows : Rows Value) → HasRow links link p row → links link ≡ Some rows → rows p ≡ row
+row_here links link p row rows has is = ap (λ (f : Rows Value). f p) (one_rows rows has.0 (sym is ∙ has.1)) ∙ has.2
 
-pub next_beyond : (link : Option (Rows Value)) (place : Option Network) (p : Network) → IsSome link → IsNextOn link place (Some p) → IsBeyond place p
-next_beyond link place p live next = let rows = some_is link live in (next rows.0 rows.1).0
+length_at : (p : Network) (row : Option Value) (listed : List (Network × Value)) (m n : ℕ) → m ≡ length listed → n ≡ length (listed_at p row) → m + n ≡ length (listed ++ listed_at p row)
+length_at p row listed m n e f = let l = length-append listed (listed_at p row) in omega arith
 
--- so many rows were passed
-abbrev pub IsCounted : Option (Rows Value) → Option Network → ℕ → Type 0
-IsCounted link place n = (rows : Rows Value) → link ≡ Some rows → (listed : List (Network × Value)) × (n ≡ length listed) × IsShown rows place listed
-
-pub none_counted : (link : Option (Rows Value)) → IsCounted link None 0
-none_counted link rows is = ([], refl, none_shown rows)
-
-pub one_counted : (link : Option (Rows Value)) (place : Option Network) (p : Network) (n : ℕ) → IsNextOn link place (Some p) → IsCounted link place n → IsCounted link (Some p) (n + 1)
-one_counted link place p n next counted rows is =
-    let before = counted rows is in
-    let nearest = next rows is in
-    let value = some_is (rows p) nearest.1 in
-    let l = length_push before.0 (p, value.0) in
-    (before.0 ++ (p, value.0) ∷ [], omega (arith, l, before.1), one_shown rows place before.0 p value.0 nearest value.1 before.2)
-
-pub all_counted : (link : Option (Rows Value)) (place : Option Network) (n : ℕ) → IsSome link → IsNextOn link place None → IsCounted link place n → IsCountOf link (Some n)
-all_counted None place n live next counted = absurd (cc)
-all_counted (Some rows) place n live next counted =
-    let all = counted rows refl in
-    (all.0, all_shown rows place all.0 (next rows refl) all.2, all.1)
+-- candidates at which all rows of a link stand
+abbrev pub CoversLink : Candidates → Option (Rows Value) → Type 0
+CoversLink candidates link = (rows : Rows Value) → link ≡ Some rows → CoversRows candidates rows
 
 -- these rows were passed
 abbrev pub AreShown : Option (Rows Value) → Option Network → List (Network × Value) → Type 0
 AreShown link place listed = (rows : Rows Value) → link ≡ Some rows → IsShown rows place listed
 
-pub value_shown : (links : Links Value) (link : Link) (place : Option Network) (p : Network) (v : Value) (listed : List (Network × Value)) → IsNextOn (links link) place (Some p) → IsRowOf links link p v → AreShown (links link) place listed → AreShown (links link) (Some p) (listed ++ (p, v) ∷ [])
-value_shown links link place p v listed next row shown rows is =
-    let one : row.0 ≡ rows = same_rows row.0 rows (sym row.1 ∙ is) in
-    one_shown rows place listed p v (next rows is) (ap (λ f. f p) (sym one) ∙ row.2) (shown rows is)
-  where
-    same_rows : (a b : Rows Value) → Some a ≡ Some b → a ≡ b
-    same_rows a b e = cc
+-- so many rows were passed
+abbrev pub IsCounted : Option (Rows Value) → Option Network → ℕ → Type 0
+IsCounted link place n = (listed : List (Network × Value)) × (n ≡ length listed) × AreShown link place listed
 
--- the lines of rows
-abbrev pub row_lines : Link → List (Network × Value) → List Line
-row_lines link listed = map (λ r. lines.Row link r.0 r.1) listed
+pub none_counted : (link : Option (Rows Value)) → IsCounted link None 0
+none_counted link = ([], refl, λ rows is. none_shown rows)
+
+pub row_shown : (candidates : Candidates) (links : Links Value) (link : Link) (place : Option Network) (p : Network) (row : Option Value) (listed : List (Network × Value))
+    → IsNextCandidate candidates place (Some p) → CoversLink candidates (links link) → HasRow links link p row → AreShown (links link) place listed → AreShown (links link) (Some p) (listed ++ listed_at p row)
+row_shown candidates links link place p row listed next covers has shown rows is =
+    next_shown candidates rows (covers rows is) place listed p row next (row_here links link p row rows has is) (shown rows is)
+
+pub one_counted : (candidates : Candidates) (links : Links Value) (link : Link) (place : Option Network) (p : Network) (m n : ℕ)
+    → IsNextCandidate candidates place (Some p) → CoversLink candidates (links link) → Counts links link p n → IsCounted (links link) place m → IsCounted (links link) (Some p) (m + n)
+one_counted candidates links link place p m n next covers counts before = (
+  before.0 ++ listed_at p counts.0,
+  length_at p counts.0 before.0 m n before.1 counts.2,
+  row_shown candidates links link place p counts.0 before.0 next covers counts.1 before.2,
+)
+
+pub all_counted : (candidates : Candidates) (link : Option (Rows Value)) (place : Option Network) (n : ℕ) → IsSome link → IsNextCandidate candidates place None → CoversLink candidates link
+    → IsCounted link place n → IsCountOf link (Some n)
+all_counted candidates None place n live next covers counted = absurd (cc)
+all_counted candidates (Some rows) place n live next covers counted =
+    (counted.0, all_shown candidates rows (covers rows refl) place counted.0 next (counted.2 rows refl), counted.1)
 
 pub with_none : (j : Journaled) → j ≡ with_lines j []
 with_none j = ap (λ pending. record { text = j.text; pending = pending; quiet = j.quiet }) (sym (append-nil j.pending))
@@ -163,17 +186,32 @@ with_none j = ap (λ pending. record { text = j.text; pending = pending; quiet =
 pub with_more : (j : Journaled) (a b : List Line) → with_lines (with_lines j a) b ≡ with_lines j (a ++ b)
 with_more j a b = ap (λ pending. record { text = j.text; pending = pending; quiet = j.quiet }) (append_assoc j.pending a b)
 
-pub row_added : (j now new : Journaled) (link : Link) (listed : List (Network × Value)) (p : Network) (v : Value) → now ≡ with_lines j (row_lines link listed) → new ≡ with_lines now (lines.Row link p v ∷ []) → new ≡ with_lines j (row_lines link (listed ++ (p, v) ∷ []))
-row_added j now new link listed p v done one =
-    one ∙ ap (λ n. with_lines n (lines.Row link p v ∷ [])) done ∙ with_more j (row_lines link listed) (lines.Row link p v ∷ [])
-    ∙ ap (with_lines j) (sym (map-append (λ r. lines.Row link r.0 r.1) listed ((p, v) ∷ [])))
+-- so many rows were passed, and their lines pushed
+abbrev pub AreGiven : Link → Option (Rows Value) → Option Network → ℕ → Journaled → Journaled → Type 0
+AreGiven link of place n before now = (listed : List (Network × Value)) × (now ≡ with_lines before (row_lines link listed)) × (n ≡ length listed) × AreShown of place listed
 
-pub rows_end : (j now new : Journaled) (link : Link) (of : Option (Rows Value)) (place : Option Network) (n : ℕ) (listed : List (Network × Value)) → IsSome of → IsNextOn of place None → now ≡ with_lines j (row_lines link listed) → n ≡ length listed → AreShown of place listed → new ≡ with_lines now (lines.Rows link n ∷ []) → Pushes (Shows link of) j new
-rows_end j now new link None place n listed live next done count shown last = absurd (cc)
-rows_end j now new link (Some rows) place n listed live next done count shown last = (
-  row_lines link listed ++ lines.Rows link (length listed) ∷ [],
-  last ∙ ap (λ m. with_lines now (lines.Rows link m ∷ [])) count ∙ ap (λ s. with_lines s (lines.Rows link (length listed) ∷ [])) done ∙ with_more j (row_lines link listed) (lines.Rows link (length listed) ∷ []),
-  (listed, all_shown rows place listed (next rows refl) (shown rows refl), refl),
+pub none_given : (link : Link) (of : Option (Rows Value)) (j : Journaled) → AreGiven link of None 0 j j
+none_given link of j = ([], with_none j, refl, λ rows is. none_shown rows)
+
+pub one_given : (candidates : Candidates) (links : Links Value) (link : Link) (place : Option Network) (p : Network) (m n : ℕ) (before j now : Journaled)
+    → IsNextCandidate candidates place (Some p) → CoversLink candidates (links link) → ShowsRow links link p j now n → AreGiven link (links link) place m before j
+    → AreGiven link (links link) (Some p) (m + n) before now
+one_given candidates links link place p m n before j now next covers row given = (
+  given.0 ++ listed_at p row.0,
+  row.3 ∙ ap (λ (x : Journaled). with_lines x (row_lines link (listed_at p row.0))) given.1 ∙ with_more before (row_lines link given.0) (row_lines link (listed_at p row.0))
+      ∙ ap (with_lines before) (sym (map-append (λ r. lines.Row link r.0 r.1) given.0 (listed_at p row.0))),
+  length_at p row.0 given.0 m n given.2 row.2,
+  row_shown candidates links link place p row.0 given.0 next covers row.1 given.3,
+)
+
+pub rows_end : (candidates : Candidates) (link : Link) (of : Option (Rows Value)) (place : Option Network) (n : ℕ) (before j now : Journaled) → IsSome of → IsNextCandidate candidates place None
+    → CoversLink candidates of → AreGiven link of place n before j → now ≡ with_lines j (lines.Rows link n ∷ []) → Pushes (Shows link of) before now
+rows_end candidates link None place n before j now live next covers given last = absurd (cc)
+rows_end candidates link (Some rows) place n before j now live next covers given last = (
+  row_lines link given.0 ++ lines.Rows link (length given.0) ∷ [],
+  last ∙ ap (λ m. with_lines j (lines.Rows link m ∷ [])) given.2 ∙ ap (λ s. with_lines s (lines.Rows link (length given.0) ∷ [])) given.1
+      ∙ with_more before (row_lines link given.0) (lines.Rows link (length given.0) ∷ []),
+  (given.0, all_shown candidates rows (covers rows refl) place given.0 next (given.3 rows refl), refl),
 )
 
 -- ---- a show as an event

@@ -1,11 +1,14 @@
 -- Lookups, over the chains alone.
-use Rattle.std.specs.Prelude.{◌≡◌, ℕ, length, List, Option, Some, None, IsSome}
+use Rattle.std.specs.Prelude.{◌≡◌, ℕ, length, List, [], ◌∷◌, map, Option, Some, None}
 use Rattle.addr4.specs.Prefixes.{Network}
 use Rattle.link_change.specs.Rows.{Rows}
 use Rattle.journal_text.specs.declared.link.Link.{Link}
 use Rattle.journal_text.specs.declared.value.Value.{Value}
 use Rattle.journal_text.specs.Links.{owner_of}
-use Rattle.journal_text.specs.Walk.{Links}
+use Rattle.journal_text.specs.declared.line.Line.{Line}
+use Rattle.journal_text.specs.declared.line.Line.TheVariants as lines
+use Rattle.journal_text.specs.Walk.{Links, HasRow}
+use Rattle.journal_text.specs.Journals.{Journaled, with_lines}
 use Rattle.in_chain.specs.Chains.{Chained}
 use Rattle.router_core.specs.Moments.{chain_at, links_by}
 use Rattle.router_core.specs.Blocks.{AreRows}
@@ -14,13 +17,23 @@ use Rattle.router_core.specs.Blocks.{AreRows}
 abbrev pub links_among : List Chained → Links Value
 links_among chains link = links_by (chain_at (owner_of link) chains) link
 
--- the link is live, and has a row at the prefix
-abbrev pub HasSomeRow : Links Value → Link → Network → Type 0
-HasSomeRow links link p = (rows : Rows Value) × (links link ≡ Some rows) × IsSome (rows p)
+-- the row at a prefix, if there is one
+abbrev pub listed_at : Network → Option Value → List (Network × Value)
+listed_at p None = []
+listed_at p (Some value) = (p, value) ∷ []
 
--- the row at the prefix of the link
-abbrev pub IsRowOf : Links Value → Link → Network → Value → Type 0
-IsRowOf links link p value = (rows : Rows Value) × (links link ≡ Some rows) × (rows p ≡ Some value)
+-- the lines of rows
+abbrev pub row_lines : Link → List (Network × Value) → List Line
+row_lines link listed = map (λ r. lines.Row link r.0 r.1) listed
+
+-- how many rows stand at the prefix of the link: one or none
+abbrev pub Counts : Links Value → Link → Network → ℕ → Type 0
+Counts links link p n = (row : Option Value) × HasRow links link p row × (n ≡ length (listed_at p row))
+
+-- the same, and its line was pushed, if there is one
+abbrev pub ShowsRow : Links Value → Link → Network → Journaled → Journaled → ℕ → Type 0
+ShowsRow links link p before now n =
+    (row : Option Value) × HasRow links link p row × (n ≡ length (listed_at p row)) × (now ≡ with_lines before (row_lines link (listed_at p row)))
 
 -- how many rows there are, or none where the link isn't live
 abbrev pub IsCountOf : Option (Rows Value) → Option ℕ → Type 0

@@ -1,14 +1,12 @@
 //! Lookups: the answer at one prefix of a link, and all rows of a link.
 
-ghost use Rattle.std.specs.Prelude.{◌≡◌, [], ◌∷◌, OnOk, IfOk, IsSome, MatchOption, Some, None};
+ghost use Rattle.std.specs.Prelude.{◌≡◌, ◌≤◌, OnOk, IfOk, IsSome, MatchOption, Some, None};
 ghost use Rattle.std.specs.Option.{option_copied};
-ghost use Rattle.journal_text.specs.declared.line.Line.TheVariants as lines;
-ghost use Rattle.journal_text.specs.declared.value.Value.{Value};
 ghost use Rattle.journal_text.specs.Journals.{with_lines};
 ghost use Rattle.in_chain.specs.Chains.{links_of};
 ghost use Rattle.router_core.specs.Moments.{chain_at, links_by};
 ghost use Rattle.router_core.specs.Blocks.{answer_lines, Shows};
-ghost use Rattle.router_core.specs.Lookups.{links_among, HasSomeRow, IsRowOf, IsCountOf};
+ghost use Rattle.router_core.specs.Lookups.{links_among, Counts, ShowsRow, IsCountOf};
 ghost use Rattle.router_core.specs.Works.{Pushes};
 
 use addr4::{Memory, Place, Prefix};
@@ -79,43 +77,62 @@ fn show_rows(chain: &Chain, link: Link, journal: &mut Journal) -> Result<(), Mem
     let mut place = Place::Before;
     'rows: while let Some(p) = chain.next_candidate(link, place) {
         p.known();
-        show_row(chain, link, p, journal)?;
-        count += 1;
+        let shown = show_row(chain, link, p, journal)?;
+        count += shown;
         place = Place::At(p);
     }
     journal.push_line(Line::Rows(link, count))
 }
 
-/// The row at a prefix that has one.
-fn show_row(chain: &Chain, link: Link, p: Prefix, journal: &mut Journal) -> Result<(), Memory>
-    requires { HasSomeRow (links_of chain.now) link p }
-    ensures { OnOk result ((value : Value) × IsRowOf (links_of chain.now) link p value × (journal.new ≡ with_lines journal.old (lines.Row link p value ∷ []))) }
+/// The row at a prefix, if there is one; answers how many there are.
+fn show_row(chain: &Chain, link: Link, p: Prefix, journal: &mut Journal) -> Result<u128, Memory>
+    requires { IsSome (links_of chain.now link) }
+    ensures shows { IfOk result (ShowsRow (links_of chain.now) link p journal.old journal.new) }
+    ensures few { IfOk result (λ count. count ≤ 1) }
 {
-    let value = chain.asked(link, p)?.unwrap();
-    journal.push_line(Line::Row(link, p, value))
+    match chain.asked(link, p)? {
+        None => Ok(0),
+        Some(value) => {
+            journal.push_line(Line::Row(link, p, value))?;
+            Ok(1)
+        }
+    }
 }
 
-/// How many rows a link has; None where it isn't live. Takes no memory.
-pub(crate) fn count(chains: &[Chain], link: Link) -> Option<u128>
-    ensures { IsCountOf (links_among chains.now link) result }
+/// How many rows a link has; None where it isn't live.
+pub(crate) fn count(chains: &[Chain], link: Link) -> Result<Option<u128>, Memory>
+    ensures { IfOk result (IsCountOf (links_among chains.now link)) }
 {
     match chain_with(chains, link) {
-        None => None,
-        Some(chain) => Some(count_rows(chain, link)),
+        None => Ok(None),
+        Some(chain) => Ok(Some(count_rows(chain, link)?)),
     }
 }
 
 /// How many rows a live link has.
-fn count_rows(chain: &Chain, link: Link) -> u128
+fn count_rows(chain: &Chain, link: Link) -> Result<u128, Memory>
     requires { IsSome (links_of chain.now link) }
-    ensures { IsCountOf (links_of chain.now link) (Some result) }
+    ensures { IfOk result (λ count. IsCountOf (links_of chain.now link) (Some count)) }
 {
     let mut count: u128 = 0;
     let mut place = Place::Before;
     'rows: while let Some(p) = chain.next_candidate(link, place) {
         p.known();
-        count += 1;
+        let held = count_row(chain, link, p)?;
+        count += held;
         place = Place::At(p);
     }
-    count
+    Ok(count)
+}
+
+/// How many rows stand at a prefix: one or none.
+fn count_row(chain: &Chain, link: Link, p: Prefix) -> Result<u128, Memory>
+    requires { IsSome (links_of chain.now link) }
+    ensures counts { IfOk result (Counts (links_of chain.now) link p) }
+    ensures few { IfOk result (λ count. count ≤ 1) }
+{
+    match chain.asked(link, p)? {
+        None => Ok(0),
+        Some(_) => Ok(1),
+    }
 }

@@ -3,14 +3,12 @@
 ghost use Rattle.std.specs.Prelude.{◌≡◌, ◌≤◌, [], length, not, OnOk, IfOk, IsSome, Some, None};
 ghost use Rattle.event_text.specs.declared.event.Event.TheVariants as events;
 ghost use Rattle.event_text.specs.Declarations.{peer_at, refusal};
-ghost use Rattle.in_chain.specs.Chains.{Chained};
-ghost use Rattle.in_chain.specs.Steps.{refiltered};
-ghost use Rattle.router_core.specs.Moments.{chain_at, insert_chain, put_chain, router_links};
+ghost use Rattle.router_core.specs.Moments.{chain_at, insert_chain, router_links};
 ghost use Rattle.router_core.specs.Lives.{Says};
 ghost use Rattle.router_core.specs.Stands.{AreInOrder, Stands};
 ghost use Rattle.router_core.specs.Blocks.{Acts};
 ghost use Rattle.router_core.specs.Lookups.{IsCountOf};
-ghost use Rattle.router_core.specs.Peers.{is_up, place_in, HasShortNotice};
+ghost use Rattle.router_core.specs.Peers.{is_up, place_in, Edits, HasShortNotice};
 ghost use Rattle.router_core.specs.Works.{Pushes};
 
 use crate::lookups;
@@ -124,8 +122,8 @@ impl Network {
     }
 
     /// How many rows a link has; None where it isn't live.
-    pub(crate) fn count(&self, link: Link) -> Option<u128>
-        ensures { IsCountOf (router_links self.now link) result }
+    pub(crate) fn count(&self, link: Link) -> Result<Option<u128>, Memory>
+        ensures { IfOk result (IsCountOf (router_links self.now link)) }
     {
         lookups::count(self.chains.as_slice(), link)
     }
@@ -135,7 +133,7 @@ impl Network {
 fn edit_at(chains: &mut Vec<Chain>, number: u32, rules: Rules)
     requires order { AreInOrder chains.old.items }
     requires there { IsSome (chain_at number chains.old.items) }
-    ensures { (c : Chained) → chain_at number chains.old.items ≡ Some c → chains.new.items ≡ put_chain (refiltered rules c) chains.old.items }
+    ensures { Edits number rules chains.old.items chains.new.items }
 {
     let Some(i) = place(chains.as_slice(), number) else {
         unreachable!()

@@ -106,9 +106,9 @@ impl Core {
         self.network.chain(number)
     }
 
-    /// How many rows a link has; None exactly where it isn't live. Takes no memory.
-    pub fn count(&self, link: Link) -> Option<u128>
-        ensures { IsCountOf (router_links self.now.moment link) result }
+    /// How many rows a link has; None exactly where it isn't live. Memory for want of memory: each row of `filt.K` is judged.
+    pub fn count(&self, link: Link) -> Result<Option<u128>, Memory>
+        ensures { IfOk result (IsCountOf (router_links self.now.moment link)) }
     {
         self.network.count(link)
     }

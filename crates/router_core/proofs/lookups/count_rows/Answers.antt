@@ -1,7 +1,7 @@
 use Rattle.std.proofs.Common.{arith}
 use Rattle.addr4.specs.Places.{key_of}
-use Rattle.in_chain.specs.Chains.{links_of}
-use Rattle.router_core.proofs.ShownRows.{none_counted, one_counted, next_beyond, place_rises}
+use Rattle.in_chain.specs.Chains.{links_of, candidates_of}
+use Rattle.router_core.proofs.ShownRows.{none_counted, one_counted, all_counted, place_rises}
 use Rattle.router_core.proofs.lookups.count_rows.Goals as goal
 
 pub rows-init : goal.rows-init
@@ -10,10 +10,15 @@ rows-init c = record { placed = tt; few = omega arith; shown = none_counted (lin
 pub rows-preserved : goal.rows-preserved
 rows-preserved c =
     let place = key_of c.rows.place in
-    let link = links_of c.args.chain.now c.args.link in
-    let rises = place_rises place c.in-Some.p c.rows.invariant.placed (next_beyond link place c.in-Some.p c.requires c.in-Some.ensures) in
+    let p = c.in-Some.p in
+    let rises = place_rises place p c.rows.invariant.placed c.in-Some.ensures.next.0 in
     record {
       placed = (c.known.ensures.masked.0, c.known.ensures.fits);
-      few = omega (arith, rises, c.rows.invariant.few);
-      shown = one_counted link place c.in-Some.p c.rows.count c.in-Some.ensures c.rows.invariant.shown;
+      few = omega (arith, rises, c.rows.invariant.few, c.in_ok-held.ensures.few);
+      shown = one_counted (candidates_of c.args.chain.now c.args.link) (links_of c.args.chain.now) c.args.link place p c.rows.count c.in_ok-held.held c.in-Some.ensures.next c.in-Some.ensures.covers
+          c.in_ok-held.ensures.counts c.rows.invariant.shown;
     }
+
+pub returns : goal.returns
+returns c =
+    all_counted (candidates_of c.args.chain.now c.args.link) (links_of c.args.chain.now c.args.link) (key_of c.rows.place) c.rows.count c.requires c.in_default.ensures.next c.in_default.ensures.covers c.rows.invariant.shown
