@@ -14,6 +14,7 @@ pub mod PlaceLemmas
 pub mod UnitLemmas
 pub mod TurnLemmas
 pub mod TaskLemmas
+pub mod KeepLemmas
 pub mod DrainLemmas
 pub mod FeedLemmas
 pub mod LossLemmas
