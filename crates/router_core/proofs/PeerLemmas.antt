@@ -2,7 +2,7 @@
 use Rattle.std.proofs.Common.{◌≡◌, ℕ, ◌+◌, ◌≤◌, ◌<◌, Bool, true, false, not, ◌&&◌, cond, List, [], ◌∷◌, ◌++◌, map, take, drop, length, get_or, Option, Some, None, nat_eq, nat_lt, refl, sym, ap, subst, ◌∙◌, add-one, arith, suc}
 use Rattle.std.proofs.Math.ListN.{set}
 use Rattle.std.proofs.lemmas.List.{length_push}
-use Rattle.std.specs.Prelude.{option_map}
+use Rattle.std.specs.Prelude.{option_map, IsSome, is_some}
 use Rattle.std.specs.List.{AllByRecursion, insert}
 use Rattle.std.proofs.lemmas.Bool.Decides.{nat_tests}
 use Rattle.bgp_attr.specs.declared.attrs.Attrs.{Attrs}
@@ -37,7 +37,7 @@ use Rattle.router_core.specs.Peers.{place_in, is_up, Edits}
 use Rattle.router_core.specs.Works.{IsPlace}
 use Rattle.router_core.proofs.ChainLemmas.{equal_by, same_by, other_by, chain_here, chain_past, number_at}
 use Rattle.router_core.proofs.LinkLemmas.{both_none, beside_old, beside_new}
-use Rattle.router_core.proofs.StandLemmas.{peer_of, stands_with, live_edited}
+use Rattle.router_core.proofs.StandLemmas.{peer_of, chain_there, stands_with, live_edited}
 use Rattle.router_core.proofs.PlaceLemmas.{at_place, set_at_place}
 
 -- ---- a chain more
@@ -475,3 +475,9 @@ edits_placed k rules cs i c c' order place is after links = (
   set_at_place cs i c c' order place.0 is (ap (λ (x : Chained). x.incoming.number) after) ∙ ap (λ (x : Chained). put_chain x cs) after,
   subst (λ (x : Chained). links_of x ≡ links_of c) after links,
 )
+
+pub chain_for_rules : (m : Moment) (k : ℕ) (rules : List Rule) → refusal m.declared (events.FilterIn k rules) ≡ None → Stands m → IsSome (chain_at k m.chains)
+chain_for_rules m k rules admitted stands =
+    let p = rules_there m.declared k rules admitted in
+    let c = chain_there m stands k p.0 p.1 in
+    ap is_some c.1
