@@ -17,5 +17,6 @@ pub mod TaskLemmas
 pub mod KeepLemmas
 pub mod DrainLemmas
 pub mod FeedLemmas
+pub mod RoomLemmas
 pub mod LossLemmas
 pub mod StepLemmas
