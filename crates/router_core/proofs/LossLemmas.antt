@@ -28,7 +28,7 @@ use Rattle.in_chain.specs.Steps.{swept, welded, lost}
 use Rattle.router_core.specs.Moments.{Moment, chain_at, put_chain, with_chain, Gives}
 use Rattle.router_core.specs.Lives.{LiveState, Routes, live_state, with_routes, ended}
 use Rattle.router_core.specs.Stands.{AreInOrder, IsEarlier, PeerStands, StandsAt, Stands}
-use Rattle.router_core.specs.Turns.{Turns, has_table, journal_lines}
+use Rattle.router_core.specs.Turns.{journal_lines}
 use Rattle.router_core.specs.Blocks.{RunsFirst}
 use Rattle.router_core.specs.Works.{Pushes, Steps, IsPlace, HasDrained, LosesChain, HasRoom, IsSession, HasLost, Ends}
 use Rattle.router_core.proofs.ChainLemmas.{equal_by, same_by, number_at, chain_at_put_same}
