@@ -4,3 +4,5 @@ mod PartLemmas
 mod WorkLemmas
 mod WholeLemmas
 mod CountLemmas
+mod TurnLemmas
+mod FilterLemmas

@@ -21,7 +21,7 @@ use Rattle.journal_text.specs.Journals.{attrs_rows, Journaled, with_entries, Add
 use Rattle.journal_text.specs.Walk.{Links, with_link, Leads}
 use Rattle.journal_text.proofs.LinkLemmas.{same_link-no}
 use Rattle.journal_text.proofs.WalkLemmas.{with_link_here, with_link_apart, with_link_same, with_link_swap, with_link_twice, leads_nowhere, leads_append, change_leads}
-use Rattle.in_chain.proofs.FallLemmas.{and_then, goes_on, goes_out, goes_no_further}
+use Rattle.in_chain.proofs.FallLemmas.{and_then, cut_before, goes_on, goes_out}
 use Rattle.in_chain.specs.Incomings.{Incoming, rows_below, in_rows}
 use Rattle.in_chain.specs.Falls.{way_down}
 use Rattle.in_chain.specs.Parts.{links_over, lowered, IsRisingFrom, IsSound, IsClearAbove, LeadsOver, FallsOver, sent_entries}
@@ -102,7 +102,7 @@ passes_down out d d' c c' before mid now p way change sent sound sound' same_d s
         let own = leads_sent (links_over others k (Peer k d.number) c'.live c'.deletions) out (in_rows (lowered d c)) (in_rows (lowered d' c')) p sent is in
         let P : ℕ → Type 0 = λ n. Leads (links_over others k out c.live (d ∷ c.deletions)) (entries ++ sent_entries out sent) (Below others out (in_rows (lowered d' c')) k (Peer k n) c'.live c'.deletions) in
         subst P (sym same_d) (leads_append _ _ _ entries (sent_entries out sent) framed own);
-    down = goes_on p way out change entries (in_rows (lowered d c)) (in_rows (lowered d' c')) sent fall.down is;
+    down = goes_on p way out change entries (sent_entries out sent) sent fall.down (goes_out out (in_rows (lowered d c)) (in_rows (lowered d' c')) p sent is);
   },
 )
 
@@ -124,7 +124,7 @@ pub passes_quietly : (out : Link) (d : Lost Attrs) (c c' : Incoming) (before now
 passes_quietly out d c c' before now p way sound sound' same (entries, now_is, fall) = (
   entries,
   now_is,
-  record { leads = leads_quietly out d c c' entries sound sound' same fall.leads; down = goes_no_further p way out entries fall.down },
+  record { leads = leads_quietly out d c c' entries sound sound' same fall.leads; down = cut_before p way out entries fall.down },
 )
 
 pub sound_after : (out : Link) (d d' : Lost Attrs) (c c' : Incoming) → IsSound out (lowered d c) → IsSound (Peer c.number d.number) c' → d'.number ≡ d.number → AreApart (map.get d'.rows) (in_rows c') → IsSound out (lowered d' c')

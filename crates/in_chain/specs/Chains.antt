@@ -1,6 +1,5 @@
 -- What contracts see of a peer's chain: the stages whose links carry attributes, and below them the incoming filter.
-use Rattle.std.specs.Prelude.{◌≡◌, ℕ, ◌+◌, ◌==◌, cond, Bool, false, is_some, length, List, Option, Some, None, refl}
-use Rattle.std.specs.List.{filter}
+use Rattle.std.specs.Prelude.{ℕ, ◌+◌, ◌==◌, cond, Bool, false, is_some, length, filter, List, [], ◌∷◌, Option, Some, None, refl}
 use Rattle.std.specs.Coded.{Coded, code_by, coded×}
 use Rattle.std.specs.FinMap as map
 use Rattle.std.specs.FinMap.{FinMap}
@@ -19,7 +18,7 @@ use Rattle.journal_text.specs.declared.link.Link.TheVariants.{In, Peer, Filt}
 use Rattle.journal_text.specs.declared.value.Value.{Value}
 use Rattle.journal_text.specs.Walk.{Links}
 use Rattle.journal_text.specs.Journals.{route_rows}
-use Rattle.in_chain.specs.Incomings.{Incoming, in_rows, incoming_links, IsIncoming, NoneEmpty, OneEmptyAtMost, incoming_count}
+use Rattle.in_chain.specs.Incomings.{Incoming, in_rows, incoming_links, IsIncoming, incoming_count}
 
 -- the live routes and the lost tables; the words of this speaker and of the peer; the rules of the incoming filter
 pub record Chained : Type 0 where

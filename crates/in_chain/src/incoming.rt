@@ -128,6 +128,7 @@ impl Incoming {
         ensures after { OnOk result (self.new ≡ lost_incoming session self.old) }
         ensures lines { OnOk result (journal.new ≡ with_entries journal.old (loss_entries session self.old)) }
         ensures leads { OnOk result (LeadsIncoming self.old (loss_entries session self.old) self.new) }
+        ensures rows { OnOk result (in_rows self.new ≡ in_rows self.old) }
         ensures chain { OnOk result (IsIncoming self.new) }
         ensures full { OnOk result (NoneEmpty self.new.deletions) }
     {
@@ -156,11 +157,7 @@ impl Incoming {
     /// One turn of the deletion stage of a session: its least row, by address and then length, goes, and its delete goes
     /// down. Nothing exactly where no such stage stands; Quiet where no change comes out on `in.K`. A turn may empty the
     /// stage: weld then.
-    pub fn unit(
-        &mut self,
-        session: u32,
-        journal: &mut Journal,
-    ) -> Result<Turn<SharedAttrs>, Memory>
+    pub fn unit(&mut self, session: u32, journal: &mut Journal) -> Result<Turn<SharedAttrs>, Memory>
         requires chain { IsIncoming self.old }
         requires full { NoneEmpty self.old.deletions }
         ensures taken { IfOk result (IsTakenIncoming self.old self.new session journal.old journal.new) }

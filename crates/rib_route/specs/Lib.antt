@@ -1,0 +1,2 @@
+pub mod Ifaces
+pub mod Distances

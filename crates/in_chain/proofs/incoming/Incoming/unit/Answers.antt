@@ -1,5 +1,5 @@
 use Rattle.in_chain.specs.Stages.{incoming_of}
-use Rattle.in_chain.proofs.WorkLemmas.{none_is_one, one_after}
+use Rattle.in_chain.proofs.WorkLemmas.{one_after}
 use Rattle.in_chain.proofs.WholeLemmas.{chain_of_sound, sound_of_chain, taken_chain}
 use Rattle.in_chain.proofs.incoming.Incoming.unit.Goals as goal
 

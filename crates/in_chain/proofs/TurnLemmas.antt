@@ -1,0 +1,187 @@
+-- How many turns a walk has left.
+use Rattle.std.proofs.Common.{◌≡◌, ℕ, ◌<◌, ◌≤◌, ◌+◌, ◌*◌, Bool, true, false, cond, List, [], ◌∷◌, length, Option, Some, None, IsSome, is_some, refl, sym, ap, subst, ◌∙◌, arith}
+use Rattle.std.specs.Prelude.{filter}
+use Rattle.std.specs.Ordering.{eq_by_cmp, is_lt, is_eq}
+use Rattle.std.specs.declared.cmp.Ordering.{Ordering}
+use Rattle.std.specs.declared.cmp.Ordering.TheVariants.{Less, Equal, Greater}
+use Rattle.std.specs.FinMap as tables
+use Rattle.std.specs.FinMap.{FinMap, get-entries, len-entries, find}
+use Rattle.addr4.specs.Prefixes.{Network, prefix_cmp}
+use Rattle.addr4.specs.Places.{IsBeyond}
+use Rattle.addr4.proofs.PrefixOrder.{prefixes_total, one_prefix, itself}
+use Rattle.bgp_attr.specs.declared.attrs.Attrs.{Attrs}
+use Rattle.link_change.specs.Rows.{IsNextCandidate, with_rows}
+use Rattle.deletion_stage.specs.Lost.{Lost}
+use Rattle.deletion_stage.specs.Covering.{row_over}
+use Rattle.policy_rules.specs.declared.rule.Rule.{Rule}
+use Rattle.pass_core.specs.Passed.{Passed, Walked, is_beyond, walk_of_waiting, walk_stepped, after_walk}
+use Rattle.filter_bank.specs.Walks.{walked_on}
+use Rattle.in_chain.specs.Incomings.{Incoming, rows_below, in_rows, lost_count, incoming_count}
+use Rattle.in_chain.specs.Chains.{count_beyond, lost_beyond, left_beyond, waiting_turns, walk_turns}
+use Rattle.in_chain.specs.Laws.{TurnsAreBounded, TurnsAreLeft}
+
+abbrev Table : Type 0
+Table = FinMap prefix_cmp Attrs
+
+abbrev Row : Type 0
+Row = Network × Attrs
+
+-- ---- lists of rows, by tests of which one asks for more
+
+no_more_so : (a b : Bool) (e : Row) (xs ys : List Row) → (a ≡ true → b ≡ true) → length xs ≤ length ys → length (cond a (e ∷ xs) xs) ≤ length (cond b (e ∷ ys) ys)
+no_more_so true true e xs ys h k = omega (arith, k)
+no_more_so true false e xs ys h k = absurd (let clash : false ≡ true = h refl in cc)
+no_more_so false true e xs ys h k = omega (arith, k)
+no_more_so false false e xs ys h k = k
+
+fewer_so : (a b : Bool) (e : Row) (xs ys : List Row) → (a ≡ true → b ≡ true) → length xs < length ys → length (cond a (e ∷ xs) xs) < length (cond b (e ∷ ys) ys)
+fewer_so true true e xs ys h k = omega (arith, k)
+fewer_so true false e xs ys h k = absurd (let clash : false ≡ true = h refl in cc)
+fewer_so false true e xs ys h k = omega (arith, k)
+fewer_so false false e xs ys h k = k
+
+fewer_here : (a b : Bool) (e : Row) (xs ys : List Row) → a ≡ false → b ≡ true → length xs ≤ length ys → length (cond a (e ∷ xs) xs) < length (cond b (e ∷ ys) ys)
+fewer_here true b e xs ys h is k = absurd (cc)
+fewer_here false true e xs ys h is k = omega (arith, k)
+fewer_here false false e xs ys h is k = absurd (let clash : false ≡ true = is in cc)
+
+module _ (few many : Network → Bool) (fewer : (q : Network) → few q ≡ true → many q ≡ true) where
+  no_more : (es : List Row) → length (filter (λ e. few e.0) es) ≤ length (filter (λ e. many e.0) es)
+  no_more [] = omega arith
+  no_more (e ∷ es) = no_more_so (few e.0) (many e.0) e (filter (λ r. few r.0) es) (filter (λ r. many r.0) es) (fewer e.0) (no_more es)
+
+  -- where one of them is of the more and not of the fewer, the fewer are fewer
+  fewer_by_one : (p : Network) (es : List Row) → few p ≡ false → many p ≡ true → IsSome (find prefix_cmp p es) → length (filter (λ e. few e.0) es) < length (filter (λ e. many e.0) es)
+  fewer_by_one p [] out is there = absurd (let clash : false ≡ true = there in cc)
+  fewer_by_one p (e ∷ es) out is there =
+      elim (eq_by_cmp prefix_cmp p e.0) as (λ b. eq_by_cmp prefix_cmp p e.0 ≡ b → IsSome (cond b (Some e.1) (find prefix_cmp p es)) → length (filter (λ r. few r.0) (e ∷ es)) < length (filter (λ r. many r.0) (e ∷ es))) [
+        | true ↦ λ here _.
+            let same : p ≡ e.0 = one_prefix p e.0 here in
+            fewer_here (few e.0) (many e.0) e (filter (λ r. few r.0) es) (filter (λ r. many r.0) es) (ap few (sym same) ∙ out) (ap many (sym same) ∙ is) (no_more es)
+        | false ↦ λ _ rest. fewer_so (few e.0) (many e.0) e (filter (λ r. few r.0) es) (filter (λ r. many r.0) es) (fewer e.0) (fewer_by_one p es out is rest)
+      ] refl there
+
+-- ---- rows beyond a place
+
+less_of : (o : Ordering) → is_lt o ≡ true → o ≡ Less
+less_of Less e = refl
+less_of Equal e = cc
+less_of Greater e = cc
+
+not_less : (o : Ordering) → is_eq o ≡ true → is_lt o ≡ false
+not_less Less e = cc
+not_less Equal e = refl
+not_less Greater e = refl
+
+-- what lies beyond a prefix beyond the place lies beyond the place
+further : (place : Option Network) (p q : Network) → IsBeyond place p → is_beyond (Some p) q ≡ true → is_beyond place q ≡ true
+further None p q h e = refl
+further (Some l) p q h e = ap is_lt (prefixes_total.trans l p q h (less_of (prefix_cmp p q) e))
+
+beyond_so : (place : Option Network) (q : Network) → IsBeyond place q → is_beyond place q ≡ true
+beyond_so None q h = refl
+beyond_so (Some p) q h = ap is_lt h
+
+not_beyond : (p : Network) → is_beyond (Some p) p ≡ false
+not_beyond p = not_less (prefix_cmp p p) (itself p)
+
+-- a place that moves on leaves no more rows beyond it
+no_more_beyond : (place : Option Network) (p : Network) (t : Table) → IsBeyond place p → count_beyond (Some p) t ≤ count_beyond place t
+no_more_beyond place p t h = no_more (is_beyond (Some p)) (is_beyond place) (λ q. further place p q h) (tables.entries t)
+
+no_more_lost : (place : Option Network) (p : Network) (ds : List (Lost Attrs)) → IsBeyond place p → lost_beyond (Some p) ds ≤ lost_beyond place ds
+no_more_lost place p [] h = omega arith
+no_more_lost place p (d ∷ ds) h =
+    let first = no_more_beyond place p d.rows h in
+    let rest = no_more_lost place p ds h in
+    omega (arith, first, rest)
+
+-- and fewer, where it moves to a row
+fewer_beyond : (place : Option Network) (p : Network) (t : Table) → IsBeyond place p → IsSome (tables.get t p) → count_beyond (Some p) t < count_beyond place t
+fewer_beyond place p t h there =
+    fewer_by_one (is_beyond (Some p)) (is_beyond place) (λ q. further place p q h) p (tables.entries t) (not_beyond p) (beyond_so place p h) (ap is_some (sym (get-entries t p)) ∙ there)
+
+fewer_left : (place : Option Network) (p : Network) (live : Table) (ds : List (Lost Attrs)) → IsBeyond place p → IsSome (rows_below live ds p)
+    → count_beyond (Some p) live + lost_beyond (Some p) ds < count_beyond place live + lost_beyond place ds
+fewer_left place p live [] h there = let step = fewer_beyond place p live h there in omega (arith, step)
+fewer_left place p live (d ∷ ds) h there =
+    elim (tables.get d.rows p) as (λ o. tables.get d.rows p ≡ o → IsSome (row_over o (rows_below live ds p)) → count_beyond (Some p) live + lost_beyond (Some p) (d ∷ ds) < count_beyond place live + lost_beyond place (d ∷ ds)) [
+      | None ↦ λ _ above.
+          let first = no_more_beyond place p d.rows h in
+          let rest = fewer_left place p live ds h above in
+          omega (arith, first, rest)
+      | Some row ↦ λ e _.
+          let first = fewer_beyond place p d.rows h (ap is_some e) in
+          let rest = no_more_lost place p ds h in
+          let top = no_more_beyond place p live h in
+          omega (arith, first, rest, top)
+    ] refl there
+
+-- ---- no more rows lie beyond a place than there are
+
+some_of_all : (test : Row → Bool) (es : List Row) → length (filter test es) ≤ length es
+some_of_all test [] = omega arith
+some_of_all test (e ∷ es) =
+    let rest = some_of_all test es in
+    elim (test e) as (λ b. length (cond b (e ∷ filter test es) (filter test es)) ≤ length (e ∷ es)) [ true ↦ omega (arith, rest) | false ↦ omega (arith, rest) ]
+
+of_table : (place : Option Network) (t : Table) → count_beyond place t ≤ tables.len t
+of_table place t =
+    let some = some_of_all (λ e. is_beyond place e.0) (tables.entries t) in
+    let all = len-entries t in
+    omega (arith, some, all)
+
+of_lost : (place : Option Network) (ds : List (Lost Attrs)) → lost_beyond place ds ≤ lost_count ds
+of_lost place [] = omega arith
+of_lost place (d ∷ ds) =
+    let first = of_table place d.rows in
+    let rest = of_lost place ds in
+    omega (arith, first, rest)
+
+of_all : (place : Option Network) (c : Incoming) → left_beyond place c ≤ incoming_count c
+of_all place c =
+    let first = of_table place c.live in
+    let rest = of_lost place c.deletions in
+    omega (arith, first, rest)
+
+-- ---- turns
+
+-- the turn that ends a walk
+ended_turns : (c : Incoming) (place : Option Network) (waiting : Option (List Rule)) → walk_turns c (walk_of_waiting waiting) < left_beyond place c + 1 + waiting_turns (incoming_count c) waiting
+ended_turns c place None = omega arith
+ended_turns c place (Some rules) = let all = of_all None c in omega (arith, all)
+
+pub fewer_turns : (c : Incoming) (s new : Passed (List Rule)) (w : Walked (List Rule)) (next : Option Network) → s.walk ≡ Some w → new ≡ walked_on next s → IsNextCandidate (with_rows (in_rows c)) w.place next
+    → walk_turns c new.walk < walk_turns c s.walk
+fewer_turns c s new w None on is least =
+    let P : Passed (List Rule) → Type 0 = λ n. walk_turns c n.walk < walk_turns c s.walk in
+    let Q : Option (Walked (List Rule)) → Type 0 = λ o. walk_turns c (after_walk s.in_force o).walk < walk_turns c o in
+    subst P (sym is) (subst Q (sym on) (ended_turns c w.place w.waiting))
+fewer_turns c s new w (Some p) on is least =
+    let P : Passed (List Rule) → Type 0 = λ n. walk_turns c n.walk < walk_turns c s.walk in
+    let Q : Option (Walked (List Rule)) → Type 0 = λ o. walk_turns c (walk_stepped o p) < walk_turns c o in
+    let step = fewer_left w.place p c.live c.deletions least.0 least.1 in
+    subst P (sym is) (subst Q (sym on) (omega (arith, step)))
+
+-- ---- laws
+
+waiting_bounded : (rows : ℕ) (waiting : Option (List Rule)) → waiting_turns rows waiting ≤ rows + 1
+waiting_bounded rows None = omega arith
+waiting_bounded rows (Some rules) = omega arith
+
+walk_bounded : (c : Incoming) (walk : Option (Walked (List Rule))) → walk_turns c walk ≤ 2 * (incoming_count c + 1)
+walk_bounded c None = omega arith
+walk_bounded c (Some w) =
+    let left = of_all w.place c in
+    let more = waiting_bounded (incoming_count c) w.waiting in
+    omega (arith, left, more)
+
+pub turns_are_bounded : TurnsAreBounded
+turns_are_bounded c = walk_bounded c.incoming c.filter.walk
+
+walk_left : (c : Incoming) (walk : Option (Walked (List Rule))) → (is_some walk ≡ true → 0 < walk_turns c walk) × (is_some walk ≡ false → walk_turns c walk ≡ 0)
+walk_left c None = (λ e. absurd (let clash : false ≡ true = e in cc), λ _. refl)
+walk_left c (Some w) = (λ _. omega arith, λ e. absurd (let clash : true ≡ false = e in cc))
+
+pub turns_are_left : TurnsAreLeft
+turns_are_left c = walk_left c.incoming c.filter.walk

@@ -1,0 +1,97 @@
+//! Merges.
+
+ghost use Rattle.std.specs.Prelude.{◌≡◌, ◌↔◌, IsTrue, IfOk};
+ghost use Rattle.addr4.specs.Places.{key_of};
+ghost use Rattle.link_change.specs.Rows.{IsNextCandidate, CoversRows, together};
+ghost use Rattle.rib_merge.specs.Merging.{row_of_both, row_on, merged, MergesOn};
+
+use crate::ranked::Ranked;
+use addr4::{Memory, Place, Prefix, Row};
+use link_change::{Change, Upstream, nearer};
+
+/// One of the two links above a merge.
+#[derive(Clone, Copy, Debug, PartialEq, Eq)]
+pub enum Side {
+    Left,
+    Right,
+}
+
+/// The row of lesser distance; the left one where both distances are equal.
+pub fn preferred<R: Ranked>(left: Option<R>, right: Option<R>) -> Option<R>
+    ensures { result ≡ row_of_both R.distance left right }
+{
+    match (left, right) {
+        (None, other) => other,
+        (Some(a), None) => Some(a),
+        (Some(a), Some(b)) => {
+            if b.distance() < a.distance() {
+                return Some(b);
+            }
+            Some(a)
+        }
+    }
+}
+
+// The merged row where one side has this row, and the other side that one.
+fn beside<R: Ranked>(side: Side, own: Option<R>, other: Option<R>) -> Option<R>
+    ensures { result ≡ row_on R.distance side own other }
+{
+    match side {
+        Side::Left => preferred(own, other),
+        Side::Right => preferred(other, own),
+    }
+}
+
+fn same_rows<R: Row>(a: &Option<R>, b: &Option<R>) -> bool
+    ensures { IsTrue result ↔ (a.now ≡ b.now) }
+{
+    match (a, b) {
+        (None, None) => true,
+        (Some(x), Some(y)) => x.same(y),
+        _ => false,
+    }
+}
+
+/// A change on one side, as it goes on below, where the other side has this row at its prefix. None comes exactly where the
+/// merged rows stay the same. Takes no memory.
+pub fn take_in<R: Ranked>(side: Side, change: Change<R>, other: Option<R>) -> Option<Change<R>>
+    ensures { MergesOn R.distance side change other result }
+{
+    let before = beside(side, change.before, other);
+    let after = beside(side, change.after, other);
+    if same_rows(&after, &before) {
+        return None;
+    }
+    Some(Change {
+        prefix: change.prefix,
+        before,
+        after,
+    })
+}
+
+/// The row on the link below.
+pub fn asked<R: Ranked, L: Upstream<Row = R>, U: Upstream<Row = R>>(
+    left: &L,
+    right: &U,
+    prefix: Prefix,
+) -> Result<Option<R>, Memory>
+    ensures { IfOk result (λ row. row ≡ merged R.distance (L.rows left.now) (U.rows right.now) prefix) }
+{
+    let first = left.asked(&prefix)?;
+    let second = right.asked(&prefix)?;
+    Ok(preferred(first, second))
+}
+
+/// The least candidate of the link below beyond a place: the nearer one of both sides. Every row below stands at one.
+pub fn next_candidate<R: Ranked, L: Upstream<Row = R>, U: Upstream<Row = R>>(
+    left: &L,
+    right: &U,
+    after: Place,
+) -> Option<Prefix>
+    ensures next { IsNextCandidate (together (L.candidates left.now) (U.candidates right.now)) (key_of after) result }
+    ensures covers { CoversRows (together (L.candidates left.now) (U.candidates right.now)) (merged R.distance (L.rows left.now) (U.rows right.now)) }
+{
+    let first = left.next_candidate(&after);
+    let second = right.next_candidate(&after);
+    nearer(first, second)
+}

@@ -1,0 +1,68 @@
+//! Interior, external and forwarding rows.
+
+use crate::Proto;
+use crate::iface::Iface;
+use crate::protocol::FibProto;
+use addr4::{Addr, Memory, Row};
+
+/// A route of an interior protocol.
+#[derive(Clone, Copy, Debug, PartialEq, Eq)]
+pub struct Interior {
+    pub proto: Proto,
+    /// The router that the route goes over; none where it is direct.
+    pub gateway: Option<Addr>,
+    pub iface: Iface,
+    /// What the route costs, in the protocol's own measure.
+    pub metric: u32,
+}
+
+/// A route of BGP that won the decision.
+#[derive(Clone, Copy, Debug, PartialEq, Eq)]
+pub struct External {
+    /// Whether the peer that sent it is an internal one.
+    pub internal: bool,
+    /// The NEXT_HOP (RFC 4271, section 5.1.3), which need not lie on a subnet of this router.
+    pub next_hop: Addr,
+}
+
+/// What is forwarded by.
+#[derive(Clone, Copy, Debug, PartialEq, Eq)]
+pub struct FibRow {
+    pub proto: FibProto,
+    /// The router that packets are sent to; none where their destination is reached directly.
+    pub gateway: Option<Addr>,
+    pub iface: Iface,
+}
+
+impl Row for Interior {
+    fn copy(&self) -> Result<Interior, Memory> {
+        Ok(*self)
+    }
+
+    fn same(&self, other: &Interior) -> bool {
+        self.proto == other.proto
+            && self.gateway == other.gateway
+            && self.iface == other.iface
+            && self.metric == other.metric
+    }
+}
+
+impl Row for External {
+    fn copy(&self) -> Result<External, Memory> {
+        Ok(*self)
+    }
+
+    fn same(&self, other: &External) -> bool {
+        self == other
+    }
+}
+
+impl Row for FibRow {
+    fn copy(&self) -> Result<FibRow, Memory> {
+        Ok(*self)
+    }
+
+    fn same(&self, other: &FibRow) -> bool {
+        self.proto == other.proto && self.gateway == other.gateway && self.iface == other.iface
+    }
+}
