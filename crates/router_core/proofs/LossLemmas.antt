@@ -1,10 +1,8 @@
 -- The loss of a session.
-use Rattle.std.proofs.Common.{◌≡◌, ℕ, ◌+◌, ◌<◌, ◌≤◌, Bool, true, false, ◌||◌, cond, List, [], ◌∷◌, ◌++◌, map, Option, Some, None, is_some, nat_eq, nat_lt, get_or, length, refl, sym, ap, subst, ◌∙◌, arith, length-append, zero, suc}
+use Rattle.std.proofs.Common.{◌≡◌, ℕ, ◌+◌, ◌<◌, ◌≤◌, Bool, true, false, ◌||◌, cond, List, [], ◌∷◌, ◌++◌, map, Option, Some, None, nat_eq, nat_lt, get_or, length, refl, sym, ap, subst, ◌∙◌, arith, length-append, suc}
 use Rattle.std.proofs.Math.ListN.{set}
 use Rattle.std.proofs.lemmas.Bool.Decides.{nat_tests}
 use Rattle.std.specs.List.{AllByRecursion, filter}
-use Rattle.std.specs.FinMap.{FinMap}
-use Rattle.addr4.specs.Prefixes.{Network, prefix_cmp}
 use Rattle.bgp_attr.specs.declared.attrs.Attrs.{Attrs}
 use Rattle.link_change.specs.Rows.{is_empty_map}
 use Rattle.deletion_stage.specs.Lost.{Lost}
@@ -23,20 +21,17 @@ use Rattle.pass_core.specs.Passed.{present}
 use Rattle.in_chain.specs.Incomings.{NoneEmpty}
 use Rattle.in_chain.specs.Chains.{Chained, beside, IsChain}
 use Rattle.in_chain.specs.Falls.{LeadsChain}
-use Rattle.in_chain.specs.IncomingSteps.{swept_one, table_of, loss_entries, overdue_of, oldest_of}
-use Rattle.in_chain.specs.Steps.{swept, welded, lost}
-use Rattle.router_core.specs.Moments.{Moment, chain_at, put_chain, with_chain, Gives}
+use Rattle.in_chain.specs.IncomingSteps.{loss_entries, overdue_of, oldest_of}
+use Rattle.in_chain.specs.Steps.{lost}
+use Rattle.router_core.specs.Moments.{Moment, chain_at, put_chain, Gives}
 use Rattle.router_core.specs.Lives.{LiveState, Routes, live_state, with_routes, ended}
 use Rattle.router_core.specs.Stands.{AreInOrder, IsEarlier, PeerStands, StandsAt, Stands}
 use Rattle.router_core.specs.Turns.{journal_lines}
-use Rattle.router_core.specs.Blocks.{RunsFirst}
-use Rattle.router_core.specs.Works.{Pushes, Steps, IsPlace, HasDrained, LosesChain, HasRoom, IsSession, HasLost, Ends}
-use Rattle.router_core.proofs.ChainLemmas.{equal_by, same_by, number_at, chain_at_put_same}
+use Rattle.router_core.specs.Works.{Pushes, Steps, IsPlace, LosesChain, HasRoom, IsSession, HasLost, Ends}
+use Rattle.router_core.proofs.ChainLemmas.{equal_by, number_at}
 use Rattle.router_core.proofs.LinkLemmas.{leads_router}
-use Rattle.router_core.proofs.RowCounts.{is_full}
-use Rattle.router_core.proofs.StandLemmas.{peer_of, KeepsOthers, stands_put, live_routed, few_left}
-use Rattle.router_core.proofs.TurnLemmas.{flushed_join, flushed_none, leads_join, work_none}
-use Rattle.router_core.proofs.UnitLemmas.{swept_number}
+use Rattle.router_core.proofs.StandLemmas.{peer_of, KeepsOthers, stands_put, live_routed}
+use Rattle.router_core.proofs.TurnLemmas.{flushed_join, leads_join}
 use Rattle.router_core.proofs.PlaceLemmas.{at_place, set_at_place}
 
 -- ---- in a chain

@@ -167,4 +167,3 @@ room_there k m c before now stands at over is = (
     free = λ c' at'. ap (λ (x : Chained). overdue_of x.incoming) (one_chain c' c (sym at' ∙ sym at)) ∙ sym over;
   },
 )
-
