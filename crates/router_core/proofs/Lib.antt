@@ -14,7 +14,9 @@ pub mod PlaceLemmas
 pub mod UnitLemmas
 pub mod TurnLemmas
 pub mod TaskLemmas
+pub mod KeepLemmas
 pub mod DrainLemmas
 pub mod FeedLemmas
+pub mod RoomLemmas
 pub mod LossLemmas
 pub mod StepLemmas

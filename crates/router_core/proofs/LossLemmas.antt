@@ -1,10 +1,8 @@
 -- The loss of a session.
-use Rattle.std.proofs.Common.{◌≡◌, ℕ, ◌+◌, ◌<◌, ◌≤◌, Bool, true, false, ◌||◌, cond, List, [], ◌∷◌, ◌++◌, map, Option, Some, None, is_some, nat_eq, nat_lt, get_or, length, refl, sym, ap, subst, ◌∙◌, arith, length-append, zero, suc}
+use Rattle.std.proofs.Common.{◌≡◌, ℕ, ◌+◌, ◌<◌, ◌≤◌, Bool, true, false, ◌||◌, cond, List, [], ◌∷◌, ◌++◌, map, Option, Some, None, nat_eq, nat_lt, get_or, length, refl, sym, ap, subst, ◌∙◌, arith, length-append, suc}
 use Rattle.std.proofs.Math.ListN.{set}
 use Rattle.std.proofs.lemmas.Bool.Decides.{nat_tests}
 use Rattle.std.specs.List.{AllByRecursion, filter}
-use Rattle.std.specs.FinMap.{FinMap}
-use Rattle.addr4.specs.Prefixes.{Network, prefix_cmp}
 use Rattle.bgp_attr.specs.declared.attrs.Attrs.{Attrs}
 use Rattle.link_change.specs.Rows.{is_empty_map}
 use Rattle.deletion_stage.specs.Lost.{Lost}
@@ -23,20 +21,17 @@ use Rattle.pass_core.specs.Passed.{present}
 use Rattle.in_chain.specs.Incomings.{NoneEmpty}
 use Rattle.in_chain.specs.Chains.{Chained, beside, IsChain}
 use Rattle.in_chain.specs.Falls.{LeadsChain}
-use Rattle.in_chain.specs.IncomingSteps.{swept_one, table_of, loss_entries, overdue_of, oldest_of}
-use Rattle.in_chain.specs.Steps.{swept, welded, lost}
-use Rattle.router_core.specs.Moments.{Moment, chain_at, put_chain, with_chain, Gives}
+use Rattle.in_chain.specs.IncomingSteps.{loss_entries, overdue_of, oldest_of}
+use Rattle.in_chain.specs.Steps.{lost}
+use Rattle.router_core.specs.Moments.{Moment, chain_at, put_chain, Gives}
 use Rattle.router_core.specs.Lives.{LiveState, Routes, live_state, with_routes, ended}
 use Rattle.router_core.specs.Stands.{AreInOrder, IsEarlier, PeerStands, StandsAt, Stands}
-use Rattle.router_core.specs.Turns.{Turns, has_table, journal_lines}
-use Rattle.router_core.specs.Blocks.{RunsFirst}
-use Rattle.router_core.specs.Works.{Pushes, Steps, IsPlace, HasDrained, LosesChain, HasRoom, IsSession, HasLost, Ends}
-use Rattle.router_core.proofs.ChainLemmas.{equal_by, same_by, number_at, chain_at_put_same}
+use Rattle.router_core.specs.Turns.{journal_lines}
+use Rattle.router_core.specs.Works.{Pushes, Steps, IsPlace, LosesChain, HasRoom, IsSession, HasLost, Ends}
+use Rattle.router_core.proofs.ChainLemmas.{equal_by, number_at}
 use Rattle.router_core.proofs.LinkLemmas.{leads_router}
-use Rattle.router_core.proofs.RowCounts.{is_full}
-use Rattle.router_core.proofs.StandLemmas.{peer_of, KeepsOthers, stands_put, live_routed, few_left}
-use Rattle.router_core.proofs.TurnLemmas.{flushed_join, flushed_none, leads_join, work_none}
-use Rattle.router_core.proofs.UnitLemmas.{swept_number}
+use Rattle.router_core.proofs.StandLemmas.{peer_of, KeepsOthers, stands_put, live_routed}
+use Rattle.router_core.proofs.TurnLemmas.{flushed_join, leads_join}
 use Rattle.router_core.proofs.PlaceLemmas.{at_place, set_at_place}
 
 -- ---- in a chain
@@ -207,145 +202,7 @@ pub one_ended : (k s : ℕ) (m : Moment) (cs : List Chained) (before now : Journ
 one_ended k s m cs before now stands up free t =
     (t.4.0, t.4.1, subst (λ (x : List Chained). Ends k s m (moment_by (without_session m.declared k) x) t.4.0) (sym t.3) (ends_one k s m t.0 t.1 t.4.0 stands up (free t.0 t.2) t.2 t.4.2))
 
--- ---- room
-short_filter : (s : ℕ) (p : Network) (ds : List (Lost Attrs)) (t : FinMap prefix_cmp Attrs) → table_of s ds ≡ Some t → table_of s (filter is_full (map (swept_one s p) ds)) ≡ None
-    → length (filter is_full (map (swept_one s p) ds)) < length ds
-short_filter s p [] t there gone = absurd (cc)
-short_filter s p (d ∷ ds) t there gone = by_test (nat_eq d.number s) refl (is_full (swept_one s p d)) refl (short_filter s p ds t)
-  where
-    below : length (filter is_full (map (swept_one s p) ds)) ≤ length ds
-    below = few_left (swept_one s p) is_full ds
-
-    number : (swept_one s p d).number ≡ d.number
-    number = swept_number s p d
-
-    list_is : (b : Bool) → is_full (swept_one s p d) ≡ b → filter is_full (map (swept_one s p) (d ∷ ds)) ≡ cond b (swept_one s p d ∷ filter is_full (map (swept_one s p) ds)) (filter is_full (map (swept_one s p) ds))
-    list_is b f = ap (λ (x : Bool). cond x (swept_one s p d ∷ filter is_full (map (swept_one s p) ds)) (filter is_full (map (swept_one s p) ds))) f
-
-    by_test : (b : Bool) → nat_eq d.number s ≡ b → (f : Bool) → is_full (swept_one s p d) ≡ f
-        → (table_of s ds ≡ Some t → table_of s (filter is_full (map (swept_one s p) ds)) ≡ None → length (filter is_full (map (swept_one s p) ds)) < length ds)
-        → length (filter is_full (map (swept_one s p) (d ∷ ds))) < length (d ∷ ds)
-    by_test true e true f rest =
-        let has : table_of s (filter is_full (map (swept_one s p) (d ∷ ds))) ≡ Some (swept_one s p d).rows = ap (table_of s) (list_is true f)
-        ∙ ap (λ (b : Bool). cond b (Some (swept_one s p d).rows) (table_of s (filter is_full (map (swept_one s p) ds)))) (ap (λ (n : ℕ). nat_eq n s) number ∙ e) in
-        let contra : Some (swept_one s p d).rows ≡ None = sym has ∙ gone in
-        absurd (cc)
-    by_test true e false f rest =
-        let n : length (filter is_full (map (swept_one s p) (d ∷ ds))) ≡ length (filter is_full (map (swept_one s p) ds)) = ap length (list_is false f) in
-        let b = below in
-        omega arith
-    by_test false e true f rest =
-        let skip : table_of s (filter is_full (map (swept_one s p) (d ∷ ds))) ≡ table_of s (filter is_full (map (swept_one s p) ds)) = ap (table_of s) (list_is true f)
-        ∙ ap (λ (b : Bool). cond b (Some (swept_one s p d).rows) (table_of s (filter is_full (map (swept_one s p) ds)))) (ap (λ (n : ℕ). nat_eq n s) number ∙ e) in
-        let r = rest (sym (ap (λ (b : Bool). cond b (Some d.rows) (table_of s ds)) e) ∙ there) (sym skip ∙ gone) in
-        let n : length (filter is_full (map (swept_one s p) (d ∷ ds))) ≡ suc (length (filter is_full (map (swept_one s p) ds))) = ap length (list_is true f) in
-        omega arith
-    by_test false e false f rest =
-        let r = rest (sym (ap (λ (b : Bool). cond b (Some d.rows) (table_of s ds)) e) ∙ there) (ap (table_of s) (sym (list_is false f)) ∙ gone) in
-        let n : length (filter is_full (map (swept_one s p) (d ∷ ds))) ≡ length (filter is_full (map (swept_one s p) ds)) = ap length (list_is false f) in
-        omega arith
-
--- the stages of a chain after turns of one of them: fewer, where that one has gone
-record Shorter (k s : ℕ) (c : Chained) (m' : Moment) : Type 0 where
-  chain : Chained
-  at : chain_at k m'.chains ≡ Some chain
-  short : length chain.incoming.deletions ≤ length c.incoming.deletions
-  gone : (t : FinMap prefix_cmp Attrs) → table_of s c.incoming.deletions ≡ Some t → table_of s chain.incoming.deletions ≡ None → length chain.incoming.deletions < length c.incoming.deletions
-
-one_chain : (a b : Chained) → Some a ≡ Some b → a ≡ b
-one_chain a b e = cc
-
-turns_shorter : (n k s : ℕ) (m : Moment) (c : Chained) (said : List Line) (m' : Moment) → chain_at k m.chains ≡ Some c → Turns n (Del k s) m said m' → Shorter k s c m'
-turns_shorter zero k s m c said m' at t = record {
-  chain = c;
-  at = ap (λ (x : Moment). chain_at k x.chains) t.1 ∙ at;
-  short = omega arith;
-  gone = λ table there none. let contra : Some table ≡ None = sym there ∙ none in absurd (cc);
-}
-turns_shorter (suc n) k s m c said m' at t = by_rest (turns_shorter n k s t.2 c1 t.1 m' at1 t.4)
-  where
-    p : Network
-    p = t.3.sweeps.prefix
-
-    c1 : Chained
-    c1 = welded (swept s p c)
-
-    same : t.3.chain ≡ c
-    same = one_chain t.3.chain c (sym t.3.at ∙ at)
-
-    is : t.2 ≡ with_chain m c1
-    is = t.3.after ∙ ap (λ (x : Chained). with_chain m (welded x)) (t.3.sweeps.after ∙ ap (swept s p) same)
-
-    at1 : chain_at k t.2.chains ≡ Some c1
-    at1 = ap (λ (x : Moment). chain_at k x.chains) is ∙ chain_at_put_same k m.chains c c1 at (number_at k m.chains c at)
-
-    by_rest : Shorter k s c1 m' → Shorter k s c m'
-    by_rest r = record {
-      chain = r.chain;
-      at = r.at;
-      short = let a = r.short in let b = few_left (swept_one s p) is_full c.incoming.deletions in omega arith;
-      gone = λ table there none. by_table table there none (table_of s c1.incoming.deletions) refl;
-    }
-      where
-        by_table : (table : FinMap prefix_cmp Attrs) → table_of s c.incoming.deletions ≡ Some table → table_of s r.chain.incoming.deletions ≡ None → (o : Option (FinMap prefix_cmp Attrs)) → table_of s c1.incoming.deletions ≡ o
-            → length r.chain.incoming.deletions < length c.incoming.deletions
-        by_table table there none (Some x) e = let a = r.gone x e none in let b = few_left (swept_one s p) is_full c.incoming.deletions in omega arith
-        by_table table there none None e = let a = r.short in let b = short_filter s p c.incoming.deletions table there e in omega arith
-
-stage_of : (b : Bool) (k : ℕ) (ds : List (Lost Attrs)) (task : Task) → cond b None (oldest_of k ds) ≡ Some task → (d : Lost Attrs) × (rest : List (Lost Attrs)) × (ds ≡ d ∷ rest) × (task ≡ Del k d.number)
-stage_of true k ds task e = absurd (cc)
-stage_of false k [] task e = absurd (cc)
-stage_of false k (d ∷ ds) task e = (d, ds, refl, cc)
-
-free_of : (c : Chained) → length c.incoming.deletions < 16 → overdue_of c.incoming ≡ None
-free_of c below = let few : nat_lt (length c.incoming.deletions) 16 ≡ true = grind (arith, nat_tests) in ap (λ (b : Bool). cond (b || is_empty_map c.incoming.live) None (oldest_of c.incoming.number c.incoming.deletions)) few
-
-no_table : (o : Option (FinMap prefix_cmp Attrs)) → is_some o ≡ false → o ≡ None
-no_table None e = refl
-no_table (Some t) e = absurd (cc)
-
-drained_free : (k : ℕ) (m room : Moment) (c : Chained) (task : Task) (n : ℕ) (said : List Line) → Stands m → chain_at k m.chains ≡ Some c → overdue_of c.incoming ≡ Some task → HasDrained task m n room said
-    → (c' : Chained) → chain_at k room.chains ≡ Some c' → overdue_of c'.incoming ≡ None
-drained_free k m room c task n said stands at over d c' at' =
-    let stage = stage_of (nat_lt (length c.incoming.deletions) 16 || is_empty_map c.incoming.live) c.incoming.number c.incoming.deletions task over in
-    let is : task ≡ Del k stage.0.number = stage.3 ∙ ap (λ (j : ℕ). Del j stage.0.number) (number_at k m.chains c at) in
-    let drained : HasDrained (Del k stage.0.number) m n room said = subst (λ (t : Task). HasDrained t m n room said) is d in
-    let r = turns_shorter n k stage.0.number m c said room at drained.run.taken in
-    let same : r.chain ≡ c' = one_chain r.chain c' (sym r.at ∙ at') in
-    let there : table_of stage.0.number c.incoming.deletions ≡ Some stage.0.rows = ap (table_of stage.0.number) stage.2 ∙ ap (λ (b : Bool). cond b (Some stage.0.rows) (table_of stage.0.number stage.1)) (same_by stage.0.number stage.0.number refl) in
-    let none : table_of stage.0.number r.chain.incoming.deletions ≡ None = no_table (table_of stage.0.number r.chain.incoming.deletions) (sym (ap (has_table stage.0.number) r.at) ∙ drained.ended) in
-    let less = r.gone stage.0.rows there none in
-    let few = (peer_of m stands k c at).2.few in
-    let len : length r.chain.incoming.deletions ≡ length c'.incoming.deletions = ap (λ (x : Chained). length x.incoming.deletions) same in
-    free_of c' (omega arith)
-
-pub room_drained : (k : ℕ) (m room : Moment) (c : Chained) (task : Task) (n : ℕ) (before now : Journaled) → Stands m → Some c ≡ chain_at k m.chains → Some task ≡ overdue_of c.incoming
-    → Gives (HasDrained task m n room) before now → Gives (HasRoom k m room) before now
-room_drained k m room c task n before now stands at over g = (
-  g.0,
-  g.1,
-  record {
-    before = c;
-    at = sym at;
-    runs = subst (λ (o : Option Task). RunsFirst o m g.0 room) over (n, (g.2.run.taken, g.2.ended));
-    work = g.2.run.work;
-    free = drained_free k m room c task n g.0 stands (sym at) (sym over) g.2;
-  },
-)
-
-pub room_there : (k : ℕ) (m : Moment) (c : Chained) (before now : Journaled) → Stands m → Some c ≡ chain_at k m.chains → None ≡ overdue_of c.incoming → now ≡ flushed before → Gives (HasRoom k m m) before now
-room_there k m c before now stands at over is = (
-  [],
-  is ∙ flushed_none before,
-  record {
-    before = c;
-    at = sym at;
-    runs = subst (λ (o : Option Task). RunsFirst o m [] m) over (refl, refl);
-    work = work_none m stands;
-    free = λ c' at'. ap (λ (x : Chained). overdue_of x.incoming) (one_chain c' c (sym at' ∙ sym at)) ∙ sym over;
-  },
-)
-
+-- ---- both
 pub lost_all : (k s : ℕ) (m room m' : Moment) (before j j' now : Journaled) → Gives (HasRoom k m room) before j → Pushes (Ends k s room m') j j' → now ≡ flushed j' → Gives (HasLost k s m m') before now
 lost_all k s m room m' before j j' now r e is = (
   r.0 ++ e.0,

@@ -2,7 +2,7 @@
 use Rattle.std.proofs.Common.{◌≡◌, ℕ, ◌+◌, ◌≤◌, ◌<◌, Bool, true, false, not, ◌&&◌, cond, List, [], ◌∷◌, ◌++◌, map, take, drop, length, get_or, Option, Some, None, nat_eq, nat_lt, refl, sym, ap, subst, ◌∙◌, add-one, arith, suc}
 use Rattle.std.proofs.Math.ListN.{set}
 use Rattle.std.proofs.lemmas.List.{length_push}
-use Rattle.std.specs.Prelude.{option_map}
+use Rattle.std.specs.Prelude.{option_map, IsSome, is_some}
 use Rattle.std.specs.List.{AllByRecursion, insert}
 use Rattle.std.proofs.lemmas.Bool.Decides.{nat_tests}
 use Rattle.bgp_attr.specs.declared.attrs.Attrs.{Attrs}
@@ -37,7 +37,7 @@ use Rattle.router_core.specs.Peers.{place_in, is_up, Edits}
 use Rattle.router_core.specs.Works.{IsPlace}
 use Rattle.router_core.proofs.ChainLemmas.{equal_by, same_by, other_by, chain_here, chain_past, number_at}
 use Rattle.router_core.proofs.LinkLemmas.{both_none, beside_old, beside_new}
-use Rattle.router_core.proofs.StandLemmas.{peer_of, stands_with, live_edited}
+use Rattle.router_core.proofs.StandLemmas.{one_peer, peer_of, chain_there, stands_with, live_edited}
 use Rattle.router_core.proofs.PlaceLemmas.{at_place, set_at_place}
 
 -- ---- a chain more
@@ -360,9 +360,6 @@ moment_by d cs = record { declared = d; chains = cs }
 pub new_peer_at : (d : Declaration) (k : ℕ) (words : Speaker) → peer_at k d.peers ≡ None → peer_at k (with_peer d k words).peers ≡ Some (record { words = words_of d.speaker k words; session = 0; up = false })
 new_peer_at d k words absent = peer_at_push_here k d.peers (record { words = words_of d.speaker k words; session = 0; up = false }) absent refl
 
-one_peer : (p q : DeclaredPeer) → Some p ≡ Some q → p ≡ q
-one_peer p q e = cc
-
 pub declared_is : (m : Moment) (me : Speaker) (k : ℕ) (words : Speaker) (before after : Declaration) (p : DeclaredPeer) (c : Chained) (cs cs' : List Chained) → moment_by before cs ≡ m → peer_at k before.peers ≡ None
     → after ≡ with_peer before k words → Some p ≡ peer_at k after.peers → c ≡ new_chain me p.words → cs' ≡ insert_chain c cs → moment_by after cs' ≡ declared_peer m me k words
 declared_is m me k words before after p c cs cs' view absent added there new inserted =
@@ -475,3 +472,9 @@ edits_placed k rules cs i c c' order place is after links = (
   set_at_place cs i c c' order place.0 is (ap (λ (x : Chained). x.incoming.number) after) ∙ ap (λ (x : Chained). put_chain x cs) after,
   subst (λ (x : Chained). links_of x ≡ links_of c) after links,
 )
+
+pub chain_for_rules : (m : Moment) (k : ℕ) (rules : List Rule) → refusal m.declared (events.FilterIn k rules) ≡ None → Stands m → IsSome (chain_at k m.chains)
+chain_for_rules m k rules admitted stands =
+    let p = rules_there m.declared k rules admitted in
+    let c = chain_there m stands k p.0 p.1 in
+    ap is_some c.1

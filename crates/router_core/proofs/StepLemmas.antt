@@ -1,5 +1,5 @@
 -- What each event comes to.
-use Rattle.std.proofs.Common.{◌≡◌, ℕ, ◌+◌, ◌*◌, ◌≤◌, List, [], ◌∷◌, ◌++◌, Option, Some, None, length, refl, ap, ◌∙◌, arith}
+use Rattle.std.proofs.Common.{◌≡◌, ℕ, List, [], ◌∷◌, ◌++◌, Option, Some, None, refl, ap, ◌∙◌}
 use Rattle.bgp_attr.specs.declared.speaker.Speaker.{Speaker}
 use Rattle.journal_text.specs.declared.link.Task.{Task}
 use Rattle.journal_text.specs.declared.line.Line.TheVariants as lines
@@ -10,8 +10,8 @@ use Rattle.journal_text.proofs.WalkLemmas.{leads_nowhere}
 use Rattle.event_text.specs.declared.event.Event.TheVariants.{Down, Bgp, Work}
 use Rattle.event_text.specs.declared.declared.DeclaredPeer.{DeclaredPeer}
 use Rattle.event_text.specs.Declarations.{Declaration, peer_at, refusal, refusal_at, undeclared}
-use Rattle.router_core.specs.Moments.{Moment, rows_in, router_links, bound_of, Gives}
-use Rattle.router_core.specs.Works.{AreTurns, HaveDrained, HasIdled, HasStepped}
+use Rattle.router_core.specs.Moments.{Moment, router_links, bound_of, Gives}
+use Rattle.router_core.specs.Works.{AreTurns, AllHaveDrained, HasIdled, HasStepped}
 use Rattle.router_core.proofs.TurnLemmas.{flushed_join, leads_join}
 
 -- ---- a declared peer
@@ -39,10 +39,7 @@ same_links : (m : Moment) → Leads (router_links m) [] (router_links m)
 same_links m = leads_nowhere (router_links m) (router_links m) refl
 
 -- ---- `idle` and `work`
-within_bound : (rows left turns peers : ℕ) → left + turns ≡ rows → turns ≤ (peers + 2) * (9 * rows + 6)
-within_bound rows left turns peers e = grind arith
-
-pub idled : (m m' : Moment) (bound turns : ℕ) (before j j2 j3 now : Journaled) → bound ≡ bound_of m → j ≡ with_lines before (lines.Bound bound ∷ []) → Gives (HaveDrained m turns m') j j2
+pub idled : (m m' : Moment) (bound turns : ℕ) (before j j2 j3 now : Journaled) → bound ≡ bound_of m → j ≡ with_lines before (lines.Bound bound ∷ []) → Gives (AllHaveDrained m turns m') j j2
     → j3 ≡ with_lines j2 (lines.Idle turns ∷ []) → now ≡ flushed j3 → Gives (HasIdled m (record { bound = bound; turns = turns }) m') before now
 idled m m' bound turns before j j2 j3 now same first g last is = (
   lines.Bound bound ∷ (g.0 ++ lines.Idle turns ∷ []),
@@ -53,8 +50,9 @@ idled m m' bound turns before j j2 j3 now same first g last is = (
       inner = g.0;
       drains = g.2.drains;
       lines = ap (λ (b : ℕ). lines.Bound b ∷ (g.0 ++ lines.Idle turns ∷ [])) same;
-      within = within_bound (rows_in m.chains) (rows_in m'.chains) turns (length m.declared.peers) g.2.fewer;
+      within = g.2.most;
       settled = g.2.settled;
+      exact = g.2.exact;
     };
     bound = same;
     work = record { leads = leads_join m m' m' g.0 (lines.Idle turns ∷ []) g.2.work.leads (same_links m'); live = g.2.work.live; stands = g.2.work.stands };

@@ -1,5 +1,5 @@
 -- The tasks of the deletion stages, and what a turn of the first makes of them.
-use Rattle.std.proofs.Common.{◌≡◌, ℕ, ◌+◌, ◌<◌, ◌⊎◌, inl, inr, Bool, true, false, not, cond, List, [], ◌∷◌, ◌++◌, map, Option, Some, None, is_some, nat_eq, refl, sym, ap, subst, ◌∙◌, arith, append_assoc, zero, suc}
+use Rattle.std.proofs.Common.{◌≡◌, ℕ, ◌+◌, ◌<◌, ◌⊎◌, inl, inr, ◌&&◌, Bool, true, false, cond, List, [], ◌∷◌, ◌++◌, map, Option, Some, None, is_some, nat_eq, refl, sym, ap, subst, ◌∙◌, arith, append_assoc, zero, suc}
 use Rattle.std.proofs.lemmas.List.{append-nil}
 use Rattle.std.specs.List.{AllByRecursion, flat_map, filter}
 use Rattle.std.specs.FinMap.{FinMap}
@@ -12,14 +12,16 @@ use Rattle.journal_text.specs.declared.line.Line.{Line}
 use Rattle.in_chain.specs.Incomings.{AreRising, NoneEmpty}
 use Rattle.in_chain.specs.Chains.{Chained}
 use Rattle.in_chain.specs.IncomingSteps.{without, swept_one, table_of}
-use Rattle.in_chain.specs.Steps.{swept, welded}
-use Rattle.router_core.specs.Moments.{Moment, chain_at, put_chain, with_chain}
-use Rattle.router_core.specs.Stands.{AreInOrder, Stands, IsSettled}
-use Rattle.router_core.specs.Turns.{IsTurn, DrainsAll, chain_tasks, deletion_tasks, has_table, has_work}
-use Rattle.router_core.specs.Works.{first_task}
+use Rattle.in_chain.specs.Steps.{swept, welded, Sweeps}
+use Rattle.router_core.specs.declared.router.Phase.TheVariants as phases
+use Rattle.router_core.specs.Moments.{Moment, chain_at, put_chain, with_chain, rows_in}
+use Rattle.router_core.specs.Stands.{AreInOrder, Stands}
+use Rattle.router_core.specs.Turns.{IsTurn, DrainsAll, IsOver, chain_tasks, deletion_tasks, has_turn_in, has_work}
+use Rattle.router_core.specs.Works.{Nears, first_task}
 use Rattle.router_core.proofs.ChainLemmas.{same_by, other_by, number_at, chain_here, chain_past, put_one_here, put_one_past, put_none, none_below, chain_at_put_same}
-use Rattle.router_core.proofs.RowCounts.{is_full, later_stay}
+use Rattle.router_core.proofs.RowCounts.{is_full, later_stay, full_stay}
 use Rattle.router_core.proofs.StandLemmas.{sound_at}
+use Rattle.router_core.proofs.TurnLemmas.{and_false}
 
 abbrev tasks_of : List Chained → List Task
 tasks_of cs = flat_map chain_tasks cs
@@ -89,16 +91,33 @@ table_here : (s : ℕ) (d : Lost Attrs) (ds : List (Lost Attrs)) → d.number �
 table_here s d ds same = ap (λ (b : Bool). cond b (Some d.rows) (table_of s ds)) (same_by d.number s same)
 
 heads_work : (m : Moment) (k s : ℕ) (rest : List Task) → Heads m.chains k s rest → has_work (Del k s) m ≡ true
-heads_work m k s rest h = ap (has_table s) h.at ∙ ap (λ (ds : List (Lost Attrs)). is_some (table_of s ds)) h.stages ∙ ap (λ (t : Option (FinMap prefix_cmp Attrs)). is_some t) (table_here s h.lowest h.above h.session)
+heads_work m k s rest h =
+    let table : is_some (table_of s h.chain.incoming.deletions) ≡ true = ap (λ (ds : List (Lost Attrs)). is_some (table_of s ds)) h.stages
+    ∙ ap (λ (t : Option (FinMap prefix_cmp Attrs)). is_some t) (table_here s h.lowest h.above h.session) in
+    let own : nat_eq k h.chain.incoming.number ≡ true = same_by k h.chain.incoming.number (sym (number_at k m.chains h.chain h.at)) in
+    ap (has_turn_in (Del k s)) h.at ∙ ap (λ (b : Bool). b && is_some (table_of s h.chain.incoming.deletions)) own ∙ table
+
+-- the deletion stages have no other tasks
+first_is_stage : (cs : List Chained) (task : Task) (rest : List Task) → tasks_of cs ≡ task ∷ rest → (k s : ℕ) × (task ≡ Del k s)
+first_is_stage [] task rest e = absurd (cc)
+first_is_stage (d ∷ ds) task rest e = by_stages d.incoming.deletions refl (first_is_stage ds task rest)
+  where
+    by_stages : (x : List (Lost Attrs)) → d.incoming.deletions ≡ x → (tasks_of ds ≡ task ∷ rest → (k s : ℕ) × (task ≡ Del k s)) → (k s : ℕ) × (task ≡ Del k s)
+    by_stages [] is there = there (sym (tasks_by d ds [] is) ∙ e)
+    by_stages (x ∷ xs) is there =
+        let both_are : (Del d.incoming.number x.number ∷ (map (λ e. Del d.incoming.number e.number) xs ++ tasks_of ds)) ≡ task ∷ rest = sym (tasks_by d ds (x ∷ xs) is) ∙ e in
+        (d.incoming.number, x.number, (cc))
 
 pub first_has_work : (m : Moment) (task : Task) (rest : List Task) → Stands m → deletion_tasks m ≡ task ∷ rest → has_work task m ≡ true
-first_has_work m (Del k s) rest stands e = heads_work m k s rest (heads m.chains k s rest stands.order e)
+first_has_work m task rest stands e =
+    let is = first_is_stage m.chains task rest e in
+    let head : deletion_tasks m ≡ Del is.0 is.1 ∷ rest = e ∙ ap (λ (t : Task). t ∷ rest) is.2 in
+    ap (λ (t : Task). has_work t m) is.2 ∙ heads_work m is.0 is.1 rest (heads m.chains is.0 is.1 rest stands.order head)
+
+pub nears_rows : (m m' : Moment) (task : Task) (rest : List Task) (n : ℕ) → deletion_tasks m ≡ task ∷ rest → Nears task n m m' → rows_in m'.chains + n ≡ rows_in m.chains
+nears_rows m m' task rest n e nears = let is = first_is_stage m.chains task rest e in subst (λ (t : Task). Nears t n m m') is.2 nears
 
 -- ---- a turn of the first task
-full_stay : (ds : List (Lost Attrs)) → NoneEmpty ds → filter is_full ds ≡ ds
-full_stay [] full = refl
-full_stay (d ∷ ds) full = ap (λ (b : Bool). cond (not b) (d ∷ filter is_full ds) (filter is_full ds)) full.0 ∙ ap (λ (l : List (Lost Attrs)). d ∷ l) (full_stay ds full.1)
-
 none_later : (s : ℕ) (ds : List (Lost Attrs)) → AllByRecursion (λ later. s < later.number) ds → table_of s ds ≡ None
 none_later s [] all = refl
 none_later s (d ∷ ds) all = ap (λ (b : Bool). cond b (Some d.rows) (table_of s ds)) (other_by d.number s (λ same. let lt : s < d.number = all.0 in omega arith)) ∙ none_later s ds all.1
@@ -116,9 +135,12 @@ Follows m task rest = (deletion_tasks m ≡ task ∷ rest) ⊎ ((deletion_tasks 
 one_chain : (a b : Chained) → Some a ≡ Some b → a ≡ b
 one_chain a b e = cc
 
-pub first_turn : (m m' : Moment) (task : Task) (rest : List Task) (said : List Line) → Stands m → deletion_tasks m ≡ task ∷ rest → IsTurn task m said m' → Follows m' task rest
-first_turn m m' (Del k s) rest said stands e t = subst (λ (x : Moment). Follows x (Del k s) rest) (sym (t.after ∙ ap (λ (x : Chained). with_chain m (welded x)) (t.sweeps.after ∙ ap (swept s t.sweeps.prefix) same))) by_full
+stage_turn : (m m' : Moment) (k s : ℕ) (rest : List Task) (said : List Line) → Stands m → deletion_tasks m ≡ Del k s ∷ rest → IsTurn (Del k s) m said m' → Follows m' (Del k s) rest
+stage_turn m m' k s rest said stands e t = subst (λ (x : Moment). Follows x (Del k s) rest) (sym (t.after ∙ ap (λ (x : Chained). with_chain m (welded x)) (sweeps.after ∙ ap (swept s sweeps.prefix) same))) by_full
   where
+    sweeps : Sweeps t.chain t.turned_chain s t.sent t.entries
+    sweeps = t.turned.1
+
     h : Heads m.chains k s rest
     h = heads m.chains k s rest stands.order e
 
@@ -126,7 +148,7 @@ first_turn m m' (Del k s) rest said stands e t = subst (λ (x : Moment). Follows
     same = one_chain t.chain h.chain (sym t.at ∙ h.at)
 
     c' : Chained
-    c' = welded (swept s t.sweeps.prefix h.chain)
+    c' = welded (swept s sweeps.prefix h.chain)
 
     number : c'.incoming.number ≡ k
     number = number_at k m.chains h.chain h.at
@@ -137,26 +159,37 @@ first_turn m m' (Del k s) rest said stands e t = subst (λ (x : Moment). Follows
     full : NoneEmpty h.above
     full = (subst NoneEmpty h.stages (sound_at m stands k h.chain h.at).1).1
 
-    stages : c'.incoming.deletions ≡ cond (is_full (without t.sweeps.prefix h.lowest)) (without t.sweeps.prefix h.lowest ∷ h.above) h.above
-    stages = ap (λ (l : List (Lost Attrs)). filter is_full (map (swept_one s t.sweeps.prefix) l)) h.stages ∙ swept_head s t.sweeps.prefix h.lowest h.above h.session later full
+    less : Lost Attrs
+    less = without sweeps.prefix h.lowest
+
+    stages : c'.incoming.deletions ≡ cond (is_full less) (less ∷ h.above) h.above
+    stages = ap (λ (l : List (Lost Attrs)). filter is_full (map (swept_one s sweeps.prefix) l)) h.stages ∙ swept_head s sweeps.prefix h.lowest h.above h.session later full
 
     tasks : (x : List (Lost Attrs)) → c'.incoming.deletions ≡ x → deletion_tasks (with_chain m c') ≡ map (λ d. Del k d.number) x ++ h.others
     tasks x is = h.puts c' number ∙ ap (λ (l : List (Lost Attrs)). map (λ d. Del c'.incoming.number d.number) l ++ h.others) is ∙ ap (λ (n : ℕ). map (λ d. Del n d.number) x ++ h.others) number
 
-    by_test : (b : Bool) → is_full (without t.sweeps.prefix h.lowest) ≡ b → Follows (with_chain m c') (Del k s) rest
+    ended : c'.incoming.deletions ≡ h.above → has_work (Del k s) (with_chain m c') ≡ false
+    ended gone =
+        let none : is_some (table_of s c'.incoming.deletions) ≡ false = ap (λ (l : List (Lost Attrs)). is_some (table_of s l)) gone
+        ∙ ap (λ (o : Option (FinMap prefix_cmp Attrs)). is_some o) (none_later s h.above later) in
+        ap (has_turn_in (Del k s)) (chain_at_put_same k m.chains h.chain c' h.at number) ∙ and_false (nat_eq k c'.incoming.number) (is_some (table_of s c'.incoming.deletions)) none
+
+    by_test : (b : Bool) → is_full less ≡ b → Follows (with_chain m c') (Del k s) rest
     by_test true is =
-        let stays : c'.incoming.deletions ≡ without t.sweeps.prefix h.lowest ∷ h.above = stages ∙ ap (λ (b : Bool). cond b (without t.sweeps.prefix h.lowest ∷ h.above) h.above) is in
-        inl (tasks (without t.sweeps.prefix h.lowest ∷ h.above) stays ∙ both (ap (Del k) h.session) (sym h.rest_is))
+        let stays : c'.incoming.deletions ≡ less ∷ h.above = stages ∙ ap (λ (b : Bool). cond b (less ∷ h.above) h.above) is in
+        inl (tasks (less ∷ h.above) stays ∙ both (ap (Del k) h.session) (sym h.rest_is))
     by_test false is =
-        let gone : c'.incoming.deletions ≡ h.above = stages ∙ ap (λ (b : Bool). cond b (without t.sweeps.prefix h.lowest ∷ h.above) h.above) is in
-        inr (
-          tasks h.above gone ∙ sym h.rest_is,
-          ap (has_table s) (chain_at_put_same k m.chains h.chain c' h.at number) ∙ ap (λ (l : List (Lost Attrs)). is_some (table_of s l)) gone
-              ∙ ap (λ (o : Option (FinMap prefix_cmp Attrs)). is_some o) (none_later s h.above later),
-        )
+        let gone : c'.incoming.deletions ≡ h.above = stages ∙ ap (λ (b : Bool). cond b (less ∷ h.above) h.above) is in
+        inr (tasks h.above gone ∙ sym h.rest_is, ended gone)
 
     by_full : Follows (with_chain m c') (Del k s) rest
-    by_full = by_test (is_full (without t.sweeps.prefix h.lowest)) refl
+    by_full = by_test (is_full less) refl
+
+pub first_turn : (m m' : Moment) (task : Task) (rest : List Task) (said : List Line) → Stands m → deletion_tasks m ≡ task ∷ rest → IsTurn task m said m' → Follows m' task rest
+first_turn m m' task rest said stands e t =
+    let is = first_is_stage m.chains task rest e in
+    subst (λ (x : Task). Follows m' x rest) (sym is.2)
+    (stage_turn m m' is.0 is.1 rest said stands (e ∙ ap (λ (x : Task). x ∷ rest) is.2) (subst (λ (x : Task). IsTurn x m said m') is.2 t))
 
 -- ---- all tasks, one turn after the other
 pub drains_more : (m between m' : Moment) (task : Task) (rest : List Task) (xs ys : List Line) (n : ℕ) → IsTurn task m xs between → Follows between task rest
@@ -191,8 +224,8 @@ none_stand : (cs : List Chained) → tasks_of cs ≡ [] → AllByRecursion (λ c
 none_stand [] e = tt
 none_stand (c ∷ cs) e = let parts = left_nothing (chain_tasks c) (tasks_of cs) e in (no_stages c.incoming.number c.incoming.deletions parts.0, none_stand cs parts.1)
 
-pub settled : (m : Moment) → deletion_tasks m ≡ [] → IsSettled m
-settled m e = none_stand m.chains e
+pub no_stage : (m : Moment) → deletion_tasks m ≡ [] → IsOver phases.Del m
+no_stage m e = none_stand m.chains e
 
 pub no_first : (tasks : List Task) → first_task tasks ≡ None → tasks ≡ []
 no_first [] e = refl

@@ -1,5 +1,5 @@
 -- Turns one after the other, and the journal that they leave.
-use Rattle.std.proofs.Common.{◌≡◌, ℕ, ◌+◌, ◌≤◌, ◌⊎◌, inl, inr, Bool, true, false, List, [], ◌∷◌, ◌++◌, Option, Some, None, is_some, nat_eq, refl, sym, ap, subst, ◌∙◌, arith, append_assoc, zero, suc}
+use Rattle.std.proofs.Common.{◌≡◌, ℕ, ◌+◌, ◌*◌, ◌<◌, ◌≤◌, ◌&&◌, ◌⊎◌, inl, inr, Bool, true, false, List, [], ◌∷◌, ◌++◌, length, Option, Some, None, is_some, nat_eq, refl, sym, ap, subst, ◌∙◌, arith, append_assoc, zero, suc}
 use Rattle.std.proofs.lemmas.Bool.Decides.{nat_tests}
 use Rattle.std.proofs.lemmas.List.{append-nil}
 use Rattle.std.specs.FinMap as tables
@@ -9,7 +9,7 @@ use Rattle.bgp_attr.specs.declared.attrs.Attrs.{Attrs}
 use Rattle.link_change.specs.Rows.{is_empty_map}
 use Rattle.deletion_stage.specs.Lost.{Lost}
 use Rattle.journal_text.specs.declared.link.Task.{Task}
-use Rattle.journal_text.specs.declared.link.Task.TheVariants.{Del}
+use Rattle.journal_text.specs.declared.link.Task.TheVariants.{Del, Fin}
 use Rattle.journal_text.specs.declared.entry.Entry.{Entry}
 use Rattle.journal_text.specs.declared.value.Value.{Value}
 use Rattle.journal_text.specs.declared.line.Line.{Line}
@@ -19,13 +19,14 @@ use Rattle.journal_text.specs.Walk.{Leads}
 use Rattle.journal_text.proofs.JournalLemmas.{text_of_append, entries_of_append}
 use Rattle.journal_text.proofs.WalkLemmas.{leads_append, leads_nowhere}
 use Rattle.in_chain.specs.Incomings.{NoneEmpty, lost_count}
-use Rattle.in_chain.specs.Chains.{Chained, row_count}
+use Rattle.in_chain.specs.Chains.{Chained, row_count, turns_left}
+use Rattle.in_chain.specs.Laws.{TurnsAreBounded, TurnsAreLeft}
 use Rattle.in_chain.specs.IncomingSteps.{table_of}
-use Rattle.router_core.specs.Moments.{Moment, chain_at, rows_in, router_links, Gives}
+use Rattle.router_core.specs.Moments.{Moment, chain_at, rows_in, left_in, router_links, Gives}
 use Rattle.router_core.specs.Stands.{Stands}
-use Rattle.router_core.specs.Turns.{IsTurn, Turns, has_table, has_work}
-use Rattle.router_core.specs.Works.{IsWork, IsUnit, HaveRun, AreTurns, HasDrained}
-use Rattle.router_core.proofs.ChainLemmas.{chain_here, chain_past}
+use Rattle.router_core.specs.Turns.{IsTurn, Turns, has_turn_in, has_work}
+use Rattle.router_core.specs.Works.{Nears, IsWork, IsUnit, HaveRun, AreTurns, HasDrained}
+use Rattle.router_core.proofs.RowCounts.{rows_are_sum, turns_are_sum, sum_at, left_below}
 use Rattle.router_core.proofs.StandLemmas.{sound_at}
 
 -- ---- the journal
@@ -60,8 +61,17 @@ turns_more zero task m between m' xs ys none turn =
 turns_more (suc n) task m between m' xs ys t turn =
     (t.0, t.1 ++ ys, t.2, t.3, turns_more n task t.2 between m' t.1 ys t.4 turn, ap (λ (l : List Line). l ++ ys) t.5 ∙ append_assoc t.0 t.1 ys)
 
+-- so many turns and so many more
+nears_none : (task : Task) (m : Moment) → Nears task 0 m m
+nears_none (Del k s) m = omega arith
+nears_none (Fin k) m = (refl, omega arith)
+
+nears_more : (task : Task) (n : ℕ) (a b c : Moment) → Nears task n a b → Nears task 1 b c → Nears task (n + 1) a c
+nears_more (Del k s) n a b c p q = omega (arith, p, q)
+nears_more (Fin k) n a b c p q = (q.0 ∙ p.0, (let x = p.1 in let y = q.1 in omega (arith, x, y)))
+
 pub run_none : (task : Task) (m : Moment) → Stands m → HaveRun task m 0 m []
-run_none task m stands = record { taken = (refl, refl); work = work_none m stands; fewer = omega arith }
+run_none task m stands = record { taken = (refl, refl); work = work_none m stands; nearer = nears_none task m }
 
 pub run_more : (task : Task) (n : ℕ) (m between m' : Moment) (xs ys : List Line) → HaveRun task m n between xs → IsUnit task between m' ys → HaveRun task m (n + 1) m' (xs ++ ys)
 run_more task n m between m' xs ys r u =
@@ -69,7 +79,7 @@ run_more task n m between m' xs ys r u =
     record {
       taken = subst (λ (k : ℕ). Turns k task m (xs ++ ys) m') one (turns_more n task m between m' xs ys r.taken u.turn);
       work = work_join m between m' xs ys r.work u.work;
-      fewer = let a = r.fewer in let b = u.fewer in omega arith;
+      nearer = nears_more task n m between m' r.nearer u.nearer;
     }
 
 abbrev pub HaveGiven : Task → ℕ → Moment → Moment → Journaled → Journaled → Type 0
@@ -88,30 +98,55 @@ none_there s (d ∷ ds) full none =
     let zero_len : tables.len d.rows ≡ 0 = omega arith in
     absurd (let contra : is_empty_map d.rows ≡ true = grind (arith, nat_tests) in cc)
 
-rows_at : (k : ℕ) (cs : List Chained) (c : Chained) → chain_at k cs ≡ Some c → row_count c ≤ rows_in cs
-rows_at k [] c at = absurd (cc)
-rows_at k (d ∷ ds) c at = by_test (nat_eq d.incoming.number k) refl (rows_at k ds c)
-  where
-    is_one : (x y : Chained) → Some x ≡ Some y → x ≡ y
-    is_one x y e = cc
+pub and_false : (a b : Bool) → b ≡ false → (a && b) ≡ false
+and_false true b e = e
+and_false false b e = refl
 
-    by_test : (b : Bool) → nat_eq d.incoming.number k ≡ b → (chain_at k ds ≡ Some c → row_count c ≤ rows_in ds) → row_count c ≤ rows_in (d ∷ ds)
-    by_test true e rest = let same : row_count d ≡ row_count c = ap row_count (is_one d c (sym (chain_here k d ds e) ∙ at)) in omega arith
-    by_test false e rest = let r = rest (sym (chain_past k d ds e) ∙ at) in omega arith
-
-no_rows_no_work : (task : Task) (m : Moment) → Stands m → rows_in m.chains ≡ 0 → has_work task m ≡ false
-no_rows_no_work (Del k s) m stands none = by_chain (chain_at k m.chains) refl
+no_rows_no_work : (k s : ℕ) (m : Moment) → Stands m → rows_in m.chains ≡ 0 → has_work (Del k s) m ≡ false
+no_rows_no_work k s m stands none = by_chain (chain_at k m.chains) refl
   where
-    by_chain : (o : Option Chained) → chain_at k m.chains ≡ o → has_table s (chain_at k m.chains) ≡ false
-    by_chain None at = ap (has_table s) at
+    by_chain : (o : Option Chained) → chain_at k m.chains ≡ o → has_turn_in (Del k s) (chain_at k m.chains) ≡ false
+    by_chain None at = ap (has_turn_in (Del k s)) at
     by_chain (Some c) at =
-        let below = rows_at k m.chains c at in
-        let empty : lost_count c.incoming.deletions ≡ 0 = omega arith in
-        ap (has_table s) at ∙ ap (λ (t : Option (FinMap prefix_cmp Attrs)). is_some t) (none_there s c.incoming.deletions (sound_at m stands k c at).1 empty)
+        let below = sum_at row_count rows_in rows_are_sum k m.chains c at in
+        let empty : lost_count c.incoming.deletions ≡ 0 = omega (arith, below, none) in
+        let gone = ap (λ (t : Option (FinMap prefix_cmp Attrs)). is_some t) (none_there s c.incoming.deletions (sound_at m stands k c at).1 empty) in
+        ap (has_turn_in (Del k s)) at ∙ and_false (nat_eq k c.incoming.number) (is_some (table_of s c.incoming.deletions)) gone
 
-pub drained : (task : Task) (rows n : ℕ) (m m' : Moment) (before now : Journaled) → rows ≡ rows_in m.chains → Gives (AreTurns task rows m n m') before now → Gives (HasDrained task m n m') before now
-drained task rows n m m' before now count g = (g.0, g.1, record { run = g.2.run; ended = by_end g.2.ended })
+-- where no turn of a walk is left, none is on
+off_by : (c : Chained) (on : Bool) → is_some c.filter.walk ≡ on → TurnsAreLeft → turns_left c ≡ 0 → is_some c.filter.walk ≡ false
+off_by c true is law none = absurd (let some : 0 < turns_left c = (law c).0 is in omega (arith, some, none))
+off_by c false is law none = is
+
+no_turns_no_work : TurnsAreLeft → (k : ℕ) (m : Moment) → left_in m.chains ≡ 0 → has_work (Fin k) m ≡ false
+no_turns_no_work law k m none = by_chain (chain_at k m.chains) refl
   where
-    by_end : (n ≡ rows) ⊎ (has_work task m' ≡ false) → has_work task m' ≡ false
-    by_end (inl all) = no_rows_no_work task m' g.2.run.work.stands (let f = g.2.run.fewer in omega arith)
+    by_chain : (o : Option Chained) → chain_at k m.chains ≡ o → has_turn_in (Fin k) (chain_at k m.chains) ≡ false
+    by_chain None at = ap (has_turn_in (Fin k)) at
+    by_chain (Some c) at =
+        let below = sum_at turns_left left_in turns_are_sum k m.chains c at in
+        let no_turn : turns_left c ≡ 0 = omega (arith, below, none) in
+        ap (has_turn_in (Fin k)) at ∙ and_false (nat_eq k c.incoming.number) (is_some c.filter.walk) (off_by c (is_some c.filter.walk) refl law no_turn)
+
+drained_by : (task : Task) (most n : ℕ) (m m' : Moment) (before now : Journaled) → ((said : List Line) → HaveRun task m most m' said → has_work task m' ≡ false) → Gives (AreTurns task most m n m') before now
+    → Gives (HasDrained task m n m') before now
+drained_by task most n m m' before now ends g = (g.0, g.1, record { run = g.2.run; ended = by_end g.2.ended })
+  where
+    by_end : (n ≡ most) ⊎ (has_work task m' ≡ false) → has_work task m' ≡ false
+    by_end (inl all) = ends g.0 (subst (λ (k : ℕ). HaveRun task m k m' g.0) all g.2.run)
     by_end (inr none) = none
+
+pub stage_drained : (task : Task) (k s rows n : ℕ) (m m' : Moment) (before now : Journaled) → task ≡ Del k s → rows ≡ rows_in m.chains → Gives (AreTurns task rows m n m') before now
+    → Gives (HasDrained task m n m') before now
+stage_drained task k s rows n m m' before now is count =
+    drained_by task rows n m m' before now (λ said r.
+    let f : Nears (Del k s) rows m m' = subst (λ (t : Task). Nears t rows m m') is r.nearer in
+    ap (λ (t : Task). has_work t m') is ∙ no_rows_no_work k s m' r.work.stands (omega (arith, f, count)))
+
+pub walk_drained : TurnsAreBounded → TurnsAreLeft → (task : Task) (k bound n : ℕ) (m m' : Moment) (before now : Journaled) → task ≡ Fin k → bound ≡ 2 * (rows_in m.chains + length m.chains)
+    → Gives (AreTurns task bound m n m') before now → Gives (HasDrained task m n m') before now
+walk_drained bounded left task k bound n m m' before now is most =
+    drained_by task bound n m m' before now (λ said r.
+    let f = (subst (λ (t : Task). Nears t bound m m') is r.nearer).1 in
+    let b = left_below bounded m.chains in
+    ap (λ (t : Task). has_work t m') is ∙ no_turns_no_work left k m' (omega (arith, f, b, most)))

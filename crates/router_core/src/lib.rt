@@ -7,9 +7,10 @@
 //!
 //! What contracts see is in `specs/`: the declarations and the chains ([`Moments`](specs/Moments.antt)), what holds between
 //! two steps (`Stands`), what each event does and the lines that it gives (`Blocks`), and what the events alone make of the
-//! live routes, whatever work was done or not (`Lives`). Every step obeys the two consistency rules of a journal (NSDI 2005,
-//! section 5.1) on all links together, and after an idle no deletion stage stands (`IsSettled`), so that `in.K` has exactly
-//! the live routes. An idle takes no more turns than it announces.
+//! live routes and of the filters' rules, whatever work was done or not (`Lives`). Every step obeys the two consistency rules
+//! of a journal (NSDI 2005, section 5.1) on all links together. After an idle no deletion stage stands and no walk is on
+//! (`IsSettled`), and each link is what the live state alone asks for (`Scratch`): `in.K` has exactly the live routes, and
+//! `filt.K` what the latest rules make of them. An idle takes no more turns than it announces.
 //!
 //! For want of memory a call answers `Memory`, and from then on each further call does: what was half done is never seen.
 #![tactic(auto)]

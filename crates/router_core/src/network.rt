@@ -80,7 +80,7 @@ impl Network {
 }
 
 /// The sum, which counts rows: no memory has so many that a u128 doesn't count them.
-fn plus(a: u128, b: u128) -> Result<u128, Memory>
+pub(crate) fn plus(a: u128, b: u128) -> Result<u128, Memory>
     ensures { IfOk result (λ sum. sum ≡ a + b) }
 {
     match a.checked_add(b) {

@@ -20,7 +20,9 @@ show in.1\n";
 
 const SETTLED_GIVES: &str = "\
 b in.1\n\
+b filt.1\n\
 + in.1 10.1.0.0/16 o0,p(65001),n192.0.2.1\n\
++ filt.1 10.1.0.0/16 1:100:-:0:-:o0,p(65001),n192.0.2.1\n\
 bound 45\n\
 idle 0\n\
 row in.1 10.1.0.0/16 o0,p(65001),n192.0.2.1\n\
@@ -44,18 +46,25 @@ show peer.1.1\n";
 
 const RETURNING_GIVES: &str = "\
 b in.1\n\
+b filt.1\n\
 + in.1 10.1.0.0/16 o0,p(65001),n192.0.2.1\n\
++ filt.1 10.1.0.0/16 1:100:-:0:-:o0,p(65001),n192.0.2.1\n\
 + in.1 10.2.0.0/16 o0,p(65001),n192.0.2.1\n\
++ filt.1 10.2.0.0/16 1:100:-:0:-:o0,p(65001),n192.0.2.1\n\
 + in.1 10.3.0.0/16 o0,p(65001),n192.0.2.1\n\
++ filt.1 10.3.0.0/16 1:100:-:0:-:o0,p(65001),n192.0.2.1\n\
 b peer.1.1\n\
 + peer.1.1 10.2.0.0/16 o1,p(65001),n192.0.2.1\n\
 = in.1 10.2.0.0/16 o0,p(65001),n192.0.2.1 o1,p(65001),n192.0.2.1\n\
+= filt.1 10.2.0.0/16 1:100:-:0:-:o0,p(65001),n192.0.2.1 1:100:-:0:-:o1,p(65001),n192.0.2.1\n\
 - in.1 10.1.0.0/16 o0,p(65001),n192.0.2.1\n\
+- filt.1 10.1.0.0/16 1:100:-:0:-:o0,p(65001),n192.0.2.1\n\
 work 1\n\
 ? in.1 10.1.0.0/16 -\n\
 ? in.1 10.2.0.0/16 o1,p(65001),n192.0.2.1\n\
 ? in.1 10.3.0.0/16 o0,p(65001),n192.0.2.1\n\
 - in.1 10.3.0.0/16 o0,p(65001),n192.0.2.1\n\
+- filt.1 10.3.0.0/16 1:100:-:0:-:o0,p(65001),n192.0.2.1\n\
 w peer.1.1 in.1\n\
 work 1\n\
 absent\n";
@@ -74,14 +83,51 @@ down 1\n";
 
 const CUT_GIVES: &str = "\
 b in.1\n\
+b filt.1\n\
 + in.1 10.1.0.0/16 o0,p(65001),n192.0.2.1\n\
++ filt.1 10.1.0.0/16 1:100:-:0:-:o0,p(65001),n192.0.2.1\n\
 b peer.1.1\n\
 bound 45\n\
 - in.1 10.1.0.0/16 o0,p(65001),n192.0.2.1\n\
+- filt.1 10.1.0.0/16 1:100:-:0:-:o0,p(65001),n192.0.2.1\n\
 w peer.1.1 in.1\n\
 idle 1\n\
 note 1 ffffffffffffffffffffffffffffffff0017030102002c\n\
 ignored\n";
+
+/// An incoming filter is edited while the walk of an earlier edit is on: each route goes by each of the two that have walks.
+const FILTERED: &str = "\
+local 65000 192.0.2.254 192.0.2.254\n\
+peer 1 65001 192.0.2.1 192.0.2.1\n\
+up 1\n\
+bgp 1 ffffffffffffffffffffffffffffffff00320200000012400101004002040201fde9400304c0000201100a01100a02100a03\n\
+filter in 1 any pref 200 accept\n\
+work fin.1 1\n\
+filter in 1 any reject\n\
+filter in 1 any pref 300 accept\n\
+ask filt.1 10.1.0.0/16\n\
+ask filt.1 10.2.0.0/16\n\
+work fin.1 9\n";
+
+const FILTERED_GIVES: &str = "\
+b in.1\n\
+b filt.1\n\
++ in.1 10.1.0.0/16 o0,p(65001),n192.0.2.1\n\
++ filt.1 10.1.0.0/16 1:100:-:0:-:o0,p(65001),n192.0.2.1\n\
++ in.1 10.2.0.0/16 o0,p(65001),n192.0.2.1\n\
++ filt.1 10.2.0.0/16 1:100:-:0:-:o0,p(65001),n192.0.2.1\n\
++ in.1 10.3.0.0/16 o0,p(65001),n192.0.2.1\n\
++ filt.1 10.3.0.0/16 1:100:-:0:-:o0,p(65001),n192.0.2.1\n\
+= filt.1 10.1.0.0/16 1:100:-:0:-:o0,p(65001),n192.0.2.1 1:200:-:0:-:o0,p(65001),n192.0.2.1\n\
+work 1\n\
+? filt.1 10.1.0.0/16 1:200:-:0:-:o0,p(65001),n192.0.2.1\n\
+? filt.1 10.2.0.0/16 1:100:-:0:-:o0,p(65001),n192.0.2.1\n\
+= filt.1 10.2.0.0/16 1:100:-:0:-:o0,p(65001),n192.0.2.1 1:200:-:0:-:o0,p(65001),n192.0.2.1\n\
+= filt.1 10.3.0.0/16 1:100:-:0:-:o0,p(65001),n192.0.2.1 1:200:-:0:-:o0,p(65001),n192.0.2.1\n\
+= filt.1 10.1.0.0/16 1:200:-:0:-:o0,p(65001),n192.0.2.1 1:300:-:0:-:o0,p(65001),n192.0.2.1\n\
+= filt.1 10.2.0.0/16 1:200:-:0:-:o0,p(65001),n192.0.2.1 1:300:-:0:-:o0,p(65001),n192.0.2.1\n\
+= filt.1 10.3.0.0/16 1:200:-:0:-:o0,p(65001),n192.0.2.1 1:300:-:0:-:o0,p(65001),n192.0.2.1\n\
+work 7\n";
 
 /// Steps the event of a line.
 fn step_line(alloc: Global, core: &mut Core, line: &[u8], journal: &mut Journal) -> Result<(), Fail>
@@ -112,6 +158,7 @@ fn scripts_give_their_lines(rt: HostRuntime) -> Result<(), Fail> {
         (SETTLED, SETTLED_GIVES),
         (RETURNING, RETURNING_GIVES),
         (CUT, CUT_GIVES),
+        (FILTERED, FILTERED_GIVES),
     ] {
         let mut core = Core::new(rt.alloc());
         let mut journal = Journal::new(rt.alloc(), false);
@@ -126,7 +173,9 @@ fn rows_are_counted(rt: HostRuntime) -> Result<(), Fail> {
     let mut core = Core::new(rt.alloc());
     let mut journal = Journal::new(rt.alloc(), true);
     run(rt.alloc(), SETTLED, &mut core, &mut journal)?;
-    assert_eq!(rt; core.count(Link::In(1)), Some(1));
-    assert_eq!(rt; core.count(Link::In(2)), None);
+    let live = core.count(Link::Filt(1))?;
+    let absent = core.count(Link::In(2))?;
+    assert_eq!(rt; live, Some(1));
+    assert_eq!(rt; absent, None);
     Ok(())
 }

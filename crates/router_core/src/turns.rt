@@ -10,11 +10,11 @@ ghost use Rattle.router_core.specs.Works.{TurnsChain, is_nothing, IsPlace, IsSou
 ghost use Rattle.router_core.specs.Turns.{peer_of, chain_tasks, deletion_tasks};
 ghost use Rattle.std.specs.List.{flat_map};
 
-use crate::network::Network;
+use crate::network::{Network, plus};
 use crate::router::{Done, Phase};
 use addr4::Memory;
 use bgp_attr::Route;
-use in_chain::Chain;
+use in_chain::{Chain, turns_are_bounded};
 use journal_text::{Journal, Task};
 use link_change::Turn;
 
@@ -111,12 +111,19 @@ impl Network {
         requires { Stands self.old }
         ensures { IfOk result (λ turns. Gives (HasDrained task self.old turns self.new) journal.old journal.new) }
     {
-        let most = match task {
-            Task::Del(_, _) => self.rows()?,
-            Task::Fin(_) => self.walk_bound()?,
-        };
-        let turns = self.turns(task, most, journal)?;
-        Ok(turns)
+        match task {
+            Task::Del(_, _) => {
+                let rows = self.rows()?;
+                let turns = self.turns(task, rows, journal)?;
+                Ok(turns)
+            }
+            Task::Fin(_) => {
+                turns_are_bounded();
+                let bound = self.walk_bound()?;
+                let turns = self.turns(task, bound, journal)?;
+                Ok(turns)
+            }
+        }
     }
 
     /// Turns of every task, each to its end, phase after phase.
@@ -126,7 +133,8 @@ impl Network {
     {
         let deletions = self.drain(Phase::Del, journal)?;
         let walks = self.drain(Phase::Fin, journal)?;
-        Ok(deletions + walks)
+        let turns = plus(deletions, walks)?;
+        Ok(turns)
     }
 
     /// Turns of every task of a phase, each to its end.
@@ -145,11 +153,12 @@ impl Network {
         requires { Stands self.old }
         ensures { IfOk result (λ turns. Gives (HaveDrained phases.Fin self.old turns self.new) journal.old journal.new) }
     {
+        turns_are_bounded();
         journal.flush()?;
         let mut turns = 0;
         for i in 0..self.chains.len() {
             let task = Task::Fin(self.chains[i].number());
-            turns += self.drain_task(task, journal)?;
+            turns = plus(turns, self.drain_task(task, journal)?)?;
         }
         Ok(turns)
     }

@@ -1,8 +1,9 @@
-use Rattle.std.proofs.Common.{sym, subst}
+use Rattle.std.proofs.Common.{◌≡◌, ℕ, ◌+◌, ◌<◌, ◌≤◌, sym, subst, arith}
 use Rattle.router_core.specs.declared.router.Done.{Done}
+use Rattle.router_core.specs.Moments.{rows_in}
 use Rattle.router_core.specs.Works.{Comes}
-use Rattle.router_core.proofs.DrainLemmas.{all_more, all_done, all_taken}
-use Rattle.router_core.proofs.network.Network.drain_all.Goals as goal
+use Rattle.router_core.proofs.DrainLemmas.{all_more, all_done, all_taken, row_taken, turns_fit}
+use Rattle.router_core.proofs.network.Network.drain_deletions.Goals as goal
 
 pub unreachable-requires : goal.unreachable-requires
 unreachable-requires c =
@@ -16,3 +17,16 @@ loop-task-preserved c =
 
 pub returns : goal.returns
 returns c = all_done c.args.self.now c.loop-task.self c.loop-task.turns c.args.journal.now c.loop-task.journal c.loop-task.invariant (sym c.in_default.ensures)
+
+pub overflow_add-turns : goal.overflow_add-turns
+overflow_add-turns c =
+    let fits : c.loop-task.turns + 1 ≤ rows_in c.args.self.now.chains =
+    turns_fit c.args.self.now c.loop-task.self c.turn.new.self c.in-Some.task c.loop-task.turns c.args.journal.now c.loop-task.journal c.turn.new.journal c.loop-task.invariant (sym c.in-Some.ensures)
+    (subst (λ (d : Done). Comes c.in-Some.task c.loop-task.self c.turn.new.self c.loop-task.journal c.turn.new.journal d) c.in-Taken.is c.in_ok-turn.ensures) in
+    let rows : c.in_ok-rows.rows ≡ rows_in c.args.self.now.chains = c.in_ok-rows.ensures in
+    omega (arith, fits, rows)
+
+pub loop-task-smaller : goal.loop-task-smaller
+loop-task-smaller c =
+    row_taken c.loop-task.self c.turn.new.self c.in-Some.task c.loop-task.journal c.turn.new.journal (sym c.in-Some.ensures)
+    (subst (λ (d : Done). Comes c.in-Some.task c.loop-task.self c.turn.new.self c.loop-task.journal c.turn.new.journal d) c.in-Taken.is c.in_ok-turn.ensures)

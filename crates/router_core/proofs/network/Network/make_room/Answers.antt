@@ -1,4 +1,4 @@
-use Rattle.router_core.proofs.LossLemmas.{room_drained, room_there}
+use Rattle.router_core.proofs.RoomLemmas.{room_drained, room_there}
 use Rattle.router_core.proofs.network.Network.make_room.Goals as goal
 
 pub returns-in_ok-drain_task-in-Some : goal.returns-in_ok-drain_task-in-Some
