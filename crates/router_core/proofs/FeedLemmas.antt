@@ -23,7 +23,7 @@ use Rattle.router_core.specs.Works.{FeedsChain, Pushes, Steps, IsPlace, IsUpAt, 
 use Rattle.router_core.proofs.ChainLemmas.{number_at, same_by}
 use Rattle.router_core.proofs.LinkLemmas.{leads_router}
 use Rattle.router_core.proofs.RowCounts.{is_full}
-use Rattle.router_core.proofs.StandLemmas.{peer_of, stands_with, live_routed, routes_there, routes_same, routes_twice, peer_left}
+use Rattle.router_core.proofs.StandLemmas.{one_peer, peer_of, stands_with, live_routed, routes_there, routes_same, routes_twice, peer_left}
 use Rattle.router_core.proofs.TurnLemmas.{leads_join}
 use Rattle.router_core.proofs.PlaceLemmas.{at_place, set_at_place}
 
@@ -53,9 +53,6 @@ silent_up : (up : Bool) (c : Chained) → up ≡ true → IsSilent up c
 silent_up true c is = tt
 silent_up false c is = absurd (cc)
 
-same_peer : (p q : DeclaredPeer) → Some p ≡ Some q → p ≡ q
-same_peer p q e = cc
-
 abbrev live_by : Moment → (ℕ → Routes) → LiveState
 live_by m routes = record { declared = m.declared; routes = routes; rules = (live_state m).rules }
 
@@ -65,7 +62,7 @@ pub fed_one : (k : ℕ) (p : Network) (row : Option Attrs) (m : Moment) (c c' : 
 fed_one k p row m c c' said stands up at f =
     let peer = peer_of m stands k c at in
     let number : c'.incoming.number ≡ k = f.step.number ∙ number_at k m.chains c at in
-    let is_up : peer.0.up ≡ true = ap (λ (q : DeclaredPeer). q.up) (same_peer peer.0 up.0 (sym peer.1 ∙ up.1)) ∙ up.2 in
+    let is_up : peer.0.up ≡ true = ap (λ (q : DeclaredPeer). q.up) (one_peer peer.0 up.0 (sym peer.1 ∙ up.1)) ∙ up.2 in
     let tables : c'.incoming.deletions ≡ filter is_full (map (thinned p row) c.incoming.deletions) = ap (λ (x : Chained). x.incoming.deletions) f.after ∙ ap (filter is_full) (thinned_all p row c.incoming.deletions) in
     let here : PeerStands peer.0 c' = peer_left peer.0 c c' (thinned p row) is_full (thinned_number p row) tables f.step.words.1 f.step.chain f.step.full (silent_up peer.0.up c' is_up) peer.2 in
     let live : c'.incoming.live ≡ live_after c.incoming.live p row = ap (λ (x : Chained). x.incoming.live) f.after in

@@ -37,7 +37,7 @@ use Rattle.router_core.specs.Peers.{place_in, is_up, Edits}
 use Rattle.router_core.specs.Works.{IsPlace}
 use Rattle.router_core.proofs.ChainLemmas.{equal_by, same_by, other_by, chain_here, chain_past, number_at}
 use Rattle.router_core.proofs.LinkLemmas.{both_none, beside_old, beside_new}
-use Rattle.router_core.proofs.StandLemmas.{peer_of, chain_there, stands_with, live_edited}
+use Rattle.router_core.proofs.StandLemmas.{one_peer, peer_of, chain_there, stands_with, live_edited}
 use Rattle.router_core.proofs.PlaceLemmas.{at_place, set_at_place}
 
 -- ---- a chain more
@@ -359,9 +359,6 @@ moment_by d cs = record { declared = d; chains = cs }
 -- the peer that was declared, by its words
 pub new_peer_at : (d : Declaration) (k : ℕ) (words : Speaker) → peer_at k d.peers ≡ None → peer_at k (with_peer d k words).peers ≡ Some (record { words = words_of d.speaker k words; session = 0; up = false })
 new_peer_at d k words absent = peer_at_push_here k d.peers (record { words = words_of d.speaker k words; session = 0; up = false }) absent refl
-
-one_peer : (p q : DeclaredPeer) → Some p ≡ Some q → p ≡ q
-one_peer p q e = cc
 
 pub declared_is : (m : Moment) (me : Speaker) (k : ℕ) (words : Speaker) (before after : Declaration) (p : DeclaredPeer) (c : Chained) (cs cs' : List Chained) → moment_by before cs ≡ m → peer_at k before.peers ≡ None
     → after ≡ with_peer before k words → Some p ≡ peer_at k after.peers → c ≡ new_chain me p.words → cs' ≡ insert_chain c cs → moment_by after cs' ≡ declared_peer m me k words

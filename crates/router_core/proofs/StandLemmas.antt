@@ -17,6 +17,9 @@ use Rattle.router_core.specs.Works.{IsSoundAt}
 use Rattle.router_core.proofs.ChainLemmas.{equal_by, chain_at_put_same, chain_at_put_other, in_order_put, all_at, all_put, put_length, put_at}
 
 -- ---- one peer and its chain
+pub one_peer : (p q : DeclaredPeer) → Some p ≡ Some q → p ≡ q
+one_peer p q e = cc
+
 pub stands_there : (k : ℕ) (m : Moment) (c : Chained) (o : Option DeclaredPeer) → StandsAt o (Some c) → (p : DeclaredPeer) × (o ≡ Some p) × PeerStands p c
 stands_there k m c None stands = absurd stands
 stands_there k m c (Some p) stands = (p, refl, stands)
