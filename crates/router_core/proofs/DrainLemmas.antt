@@ -1,5 +1,5 @@
 -- Every task of a phase to its end, and every task of an idle.
-use Rattle.std.proofs.Common.{◌≡◌, ℕ, ◌+◌, ◌*◌, ◌<◌, ◌≤◌, false, List, [], ◌∷◌, ◌++◌, length, drop, get_or, map, Option, Some, None, refl, sym, ap, subst, ◌∙◌, arith, append_assoc, zero, suc}
+use Rattle.std.proofs.Common.{◌≡◌, ℕ, ◌+◌, ◌*◌, ◌<◌, ◌≤◌, false, List, [], ◌∷◌, ◌++◌, length, drop, get_or, map, Some, None, refl, sym, ap, subst, ◌∙◌, arith, append_assoc, zero, suc}
 use Rattle.std.proofs.lemmas.List.{append-nil}
 use Rattle.journal_text.specs.declared.link.Task.{Task}
 use Rattle.journal_text.specs.declared.link.Task.TheVariants.{Fin}
@@ -10,7 +10,7 @@ use Rattle.in_chain.specs.Laws.{TurnsAreBounded}
 use Rattle.router_core.specs.declared.router.Phase.TheVariants as phases
 use Rattle.router_core.specs.Moments.{Moment, rows_in, left_in, Gives}
 use Rattle.router_core.specs.Stands.{Stands, ChainIsSettled, IsSettled}
-use Rattle.router_core.specs.Turns.{DrainsAll, deletion_tasks, filter_tasks, IsOver, has_work}
+use Rattle.router_core.specs.Turns.{DrainsAll, deletion_tasks, filter_tasks, has_work}
 use Rattle.router_core.specs.Works.{IsWork, IsUnit, HasDrained, HaveDrained, AllHaveDrained, first_task}
 use Rattle.router_core.proofs.RowCounts.{left_below}
 use Rattle.router_core.proofs.TurnLemmas.{flushed_join, flushed_none, work_none, work_join}

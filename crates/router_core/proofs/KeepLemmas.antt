@@ -1,12 +1,8 @@
 -- What turns leave as it was: the numbers of chains, a phase that is over, and a walk that has ended.
-use Rattle.std.proofs.Common.{◌≡◌, ℕ, ◌+◌, ◌<◌, ◌&&◌, Bool, true, false, not, List, [], ◌∷◌, map, Option, Some, None, is_some, nat_eq, refl, sym, ap, subst, ◌∙◌, arith, zero, suc}
+use Rattle.std.proofs.Common.{◌≡◌, ℕ, ◌<◌, ◌&&◌, Bool, true, false, List, [], ◌∷◌, map, Option, Some, None, is_some, nat_eq, refl, sym, ap, subst, ◌∙◌, arith, zero, suc}
 use Rattle.std.specs.List.{AllByRecursion, filter}
-use Rattle.std.specs.FinMap.{FinMap}
-use Rattle.addr4.specs.Prefixes.{prefix_cmp}
-use Rattle.bgp_attr.specs.declared.attrs.Attrs.{Attrs}
 use Rattle.bgp_attr.specs.declared.route.Route.{Route}
 use Rattle.link_change.specs.declared.change.Change.{Change}
-use Rattle.deletion_stage.specs.Lost.{Lost}
 use Rattle.policy_rules.specs.declared.rule.Rule.{Rule}
 use Rattle.pass_core.specs.Passed.{Walked}
 use Rattle.journal_text.specs.declared.link.Task.{Task}

@@ -1,13 +1,13 @@
 -- One turn of the router.
-use Rattle.std.proofs.Common.{◌≡◌, ℕ, ◌+◌, ◌≤◌, ◌<◌, Bool, true, false, cond, List, map, Option, Some, None, nat_eq, refl, sym, ap, subst, ◌∙◌, arith, length}
-use Rattle.std.specs.List.{AllByRecursion, filter}
+use Rattle.std.proofs.Common.{◌≡◌, ℕ, ◌≤◌, Bool, true, false, cond, List, Option, Some, None, nat_eq, refl, sym, ap, subst, ◌∙◌, arith, length}
+use Rattle.std.specs.List.{AllByRecursion}
 use Rattle.addr4.specs.Prefixes.{Network}
 use Rattle.bgp_attr.specs.declared.attrs.Attrs.{Attrs}
 use Rattle.bgp_attr.specs.declared.route.Route.{Route}
 use Rattle.link_change.specs.declared.change.Change.{Change}
 use Rattle.deletion_stage.specs.Lost.{Lost}
 use Rattle.policy_rules.specs.declared.rule.Rule.{Rule}
-use Rattle.pass_core.specs.Passed.{Passed, Walked, present, latest_of, present_of, stepped, walk_of_waiting, finished, after_walk}
+use Rattle.pass_core.specs.Passed.{Passed, Walked, present, latest_of, present_of, stepped, walk_of_waiting, after_walk}
 use Rattle.filter_bank.specs.Walks.{walked_on}
 use Rattle.journal_text.specs.declared.link.Task.{Task}
 use Rattle.journal_text.specs.declared.link.Task.TheVariants.{Del, Fin}
@@ -22,7 +22,7 @@ use Rattle.in_chain.specs.Chains.{Chained, IsChain, row_count, turns_left}
 use Rattle.in_chain.specs.IncomingSteps.{without, swept_one}
 use Rattle.in_chain.specs.Steps.{swept, welded, Turned, Rewalks}
 use Rattle.router_core.specs.declared.router.Done.TheVariants.{Taken}
-use Rattle.router_core.specs.Moments.{Moment, chain_at, put_chain, with_chain, rows_in, left_in}
+use Rattle.router_core.specs.Moments.{Moment, chain_at, with_chain, rows_in, left_in}
 use Rattle.router_core.specs.Stands.{IsEarlier, IsSilent, AreInOrder, PeerStands, Stands}
 use Rattle.router_core.specs.Turns.{peer_of, IsTurn}
 use Rattle.router_core.specs.Works.{NearsChain, Nears, TakesChain, IsUnit, Comes, TurnsAt}

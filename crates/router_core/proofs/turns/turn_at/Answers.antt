@@ -1,6 +1,5 @@
 use Rattle.std.proofs.Common.{ℕ, List, Some, subst}
 use Rattle.in_chain.specs.Chains.{Chained}
-use Rattle.router_core.specs.Turns.{peer_of}
 use Rattle.router_core.specs.Works.{IsPlace}
 use Rattle.router_core.proofs.PlaceLemmas.{turns_placed}
 use Rattle.router_core.proofs.turns.turn_at.Goals as goal

@@ -1,4 +1,4 @@
-use Rattle.std.proofs.Common.{◌≡◌, ℕ, ◌+◌, ◌<◌, ◌≤◌, sym, subst, arith}
+use Rattle.std.proofs.Common.{◌≡◌, ◌+◌, ◌≤◌, sym, subst, arith}
 use Rattle.router_core.specs.declared.router.Done.{Done}
 use Rattle.router_core.specs.Moments.{rows_in}
 use Rattle.router_core.specs.Works.{Comes}

@@ -1,6 +1,5 @@
 use Rattle.std.proofs.Common.{◌≡◌, ℕ, ◌+◌, ◌<◌, ◌≤◌, length, get_or, sym, ap, subst, ◌∙◌, arith, rules}
 use Rattle.journal_text.specs.declared.link.Task.TheVariants.{Fin}
-use Rattle.in_chain.specs.Chains.{Chained}
 use Rattle.router_core.specs.Moments.{Moment, Gives}
 use Rattle.router_core.specs.Works.{HasDrained}
 use Rattle.router_core.proofs.DrainLemmas.{HaveGivenWalks, walk_more, walks_done}
