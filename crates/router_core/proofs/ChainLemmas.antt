@@ -16,10 +16,10 @@ same_by m n e = grind (arith, nat_tests)
 pub other_by : (m n : ℕ) → (m ≡ n → ⊥) → nat_eq m n ≡ false
 other_by m n e = grind (arith, nat_tests)
 
-both : {x y : Chained} {xs ys : List Chained} → x ≡ y → xs ≡ ys → (x ∷ xs) ≡ (y ∷ ys)
+pub both : {A : Type 0} {x y : A} {xs ys : List A} → x ≡ y → xs ≡ ys → (x ∷ xs) ≡ (y ∷ ys)
 both p q i = p i ∷ q i
 
-one_of : (c d : Chained) → Some c ≡ Some d → c ≡ d
+pub one_of : {A : Type 0} (c d : A) → Some c ≡ Some d → c ≡ d
 one_of c d e = cc
 
 -- ---- the chain of a number

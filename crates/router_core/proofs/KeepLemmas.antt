@@ -18,8 +18,9 @@ use Rattle.router_core.specs.declared.router.Phase.TheVariants as phases
 use Rattle.router_core.specs.Moments.{Moment, chain_at, put_chain, with_chain}
 use Rattle.router_core.specs.Stands.{AreInOrder}
 use Rattle.router_core.specs.Turns.{peer_of, IsTurn, Turns, DrainsAll, filter_tasks, has_turn_in, has_work, IsOver}
-use Rattle.router_core.proofs.ChainLemmas.{equal_by, same_by, other_by, number_at, chain_here, chain_past, chain_at_put_same, chain_at_put_other, put_one_number, all_at, all_put}
+use Rattle.router_core.proofs.ChainLemmas.{equal_by, same_by, other_by, both, number_at, chain_here, chain_past, chain_at_put_same, chain_at_put_other, put_one_number, all_at, all_put}
 use Rattle.router_core.proofs.RowCounts.{is_full}
+use Rattle.router_core.proofs.WorkLemmas.{turn_stays}
 
 -- ---- what each turn keeps, all turns keep
 module _ (P : Moment → Type 0) (step : (task : Task) (m m' : Moment) (said : List Line) → IsTurn task m said m' → P m → P m') where
@@ -32,9 +33,6 @@ module _ (P : Moment → Type 0) (step : (task : Task) (m m' : Moment) (said : L
   kept_by_drains (task ∷ tasks) m m' said n d p = kept_by_drains tasks d.4 m' d.1 d.3 d.6 (kept_by_turns d.2 task m d.4 d.0 d.5.0 p)
 
 -- ---- the numbers of chains
-both : {x y : Task} {xs ys : List Task} → x ≡ y → xs ≡ ys → (x ∷ xs) ≡ (y ∷ ys)
-both p q i = p i ∷ q i
-
 numbers_put : (c' : Chained) (cs : List Chained) → map (λ c. Fin c.incoming.number) (put_chain c' cs) ≡ map (λ c. Fin c.incoming.number) cs
 numbers_put c' [] = refl
 numbers_put c' (d ∷ ds) = both (ap Fin (put_one_number c' d)) (numbers_put c' ds)
@@ -89,15 +87,11 @@ rest_stays j task m m' said t rests = ap (has_work (Fin j)) t.after ∙ by_test 
     c' : Chained
     c' = welded t.turned_chain
 
-    turned_number : (task : Task) (c c' : Chained) (sent : Option (Change Route)) (entries : List (Entry Value)) → Turned c c' task sent entries → c'.incoming.number ≡ c.incoming.number
-    turned_number (Del k s) c c' sent entries t = ap (λ (x : Chained). x.incoming.number) t.1.after
-    turned_number (Fin k) c c' sent entries t = ap (λ (x : Chained). x.incoming.number) t.1.after
-
     own : t.chain.incoming.number ≡ k
     own = number_at k m.chains t.chain t.at
 
     number : c'.incoming.number ≡ k
-    number = turned_number task t.chain t.turned_chain t.sent t.entries t.turned ∙ own
+    number = (turn_stays task t.chain t.turned_chain t.sent t.entries t.turned).number ∙ own
 
     by_test : (b : Bool) → nat_eq j k ≡ b → has_work (Fin j) (with_chain m c') ≡ false
     by_test true e =

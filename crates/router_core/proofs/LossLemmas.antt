@@ -2,7 +2,7 @@
 use Rattle.std.proofs.Common.{◌≡◌, ℕ, ◌+◌, ◌<◌, ◌≤◌, Bool, true, false, ◌||◌, cond, List, [], ◌∷◌, ◌++◌, map, Option, Some, None, nat_eq, nat_lt, get_or, length, refl, sym, ap, subst, ◌∙◌, arith, length-append, suc}
 use Rattle.std.proofs.Math.ListN.{set}
 use Rattle.std.proofs.lemmas.Bool.Decides.{nat_tests}
-use Rattle.std.specs.List.{AllByRecursion, filter}
+use Rattle.std.specs.List.{AllByRecursion}
 use Rattle.bgp_attr.specs.declared.attrs.Attrs.{Attrs}
 use Rattle.link_change.specs.Rows.{is_empty_map}
 use Rattle.deletion_stage.specs.Lost.{Lost}
@@ -30,7 +30,7 @@ use Rattle.router_core.specs.Turns.{journal_lines}
 use Rattle.router_core.specs.Works.{Pushes, Steps, IsPlace, LosesChain, HasRoom, IsSession, HasLost, Ends}
 use Rattle.router_core.proofs.ChainLemmas.{equal_by, number_at}
 use Rattle.router_core.proofs.LinkLemmas.{leads_router}
-use Rattle.router_core.proofs.StandLemmas.{peer_of, KeepsOthers, stands_put, live_routed}
+use Rattle.router_core.proofs.StandLemmas.{one_peer, peer_of, KeepsOthers, stands_put, live_routed}
 use Rattle.router_core.proofs.TurnLemmas.{flushed_join, leads_join}
 use Rattle.router_core.proofs.PlaceLemmas.{at_place, set_at_place}
 
@@ -73,9 +73,6 @@ peer_here k p ps e = ap (λ (b : Bool). cond b (Some p) (peer_at k ps)) e
 
 peer_past : (k : ℕ) (p : DeclaredPeer) (ps : List DeclaredPeer) → nat_eq p.words.number k ≡ false → peer_at k (p ∷ ps) ≡ peer_at k ps
 peer_past k p ps e = ap (λ (b : Bool). cond b (Some p) (peer_at k ps)) e
-
-one_peer : (p q : DeclaredPeer) → Some p ≡ Some q → p ≡ q
-one_peer p q e = cc
 
 ended_same : (k : ℕ) (ps : List DeclaredPeer) (p : DeclaredPeer) → peer_at k ps ≡ Some p → peer_at k (map (ended_at k) ps) ≡ Some (down p)
 ended_same k [] p at = absurd (cc)

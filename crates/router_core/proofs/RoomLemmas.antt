@@ -19,7 +19,7 @@ use Rattle.router_core.specs.Stands.{Stands}
 use Rattle.router_core.specs.Turns.{Turns, has_turn_in}
 use Rattle.router_core.specs.Blocks.{RunsFirst}
 use Rattle.router_core.specs.Works.{HasDrained, HasRoom}
-use Rattle.router_core.proofs.ChainLemmas.{same_by, number_at, chain_at_put_same}
+use Rattle.router_core.proofs.ChainLemmas.{same_by, one_of, number_at, chain_at_put_same}
 use Rattle.router_core.proofs.RowCounts.{is_full}
 use Rattle.router_core.proofs.StandLemmas.{peer_of, few_left}
 use Rattle.router_core.proofs.TurnLemmas.{flushed_none, work_none}
@@ -69,9 +69,6 @@ record Shorter (k s : ℕ) (c : Chained) (m' : Moment) : Type 0 where
   short : length chain.incoming.deletions ≤ length c.incoming.deletions
   gone : (t : FinMap prefix_cmp Attrs) → table_of s c.incoming.deletions ≡ Some t → table_of s chain.incoming.deletions ≡ None → length chain.incoming.deletions < length c.incoming.deletions
 
-one_chain : (a b : Chained) → Some a ≡ Some b → a ≡ b
-one_chain a b e = cc
-
 turns_shorter : (n k s : ℕ) (m : Moment) (c : Chained) (said : List Line) (m' : Moment) → chain_at k m.chains ≡ Some c → Turns n (Del k s) m said m' → Shorter k s c m'
 turns_shorter zero k s m c said m' at t = record {
   chain = c;
@@ -91,7 +88,7 @@ turns_shorter (suc n) k s m c said m' at t = by_rest (turns_shorter n k s t.2 c1
     c1 = welded (swept s p c)
 
     same : t.3.chain ≡ c
-    same = one_chain t.3.chain c (sym t.3.at ∙ at)
+    same = one_of t.3.chain c (sym t.3.at ∙ at)
 
     is : t.2 ≡ with_chain m c1
     is = t.3.after ∙ ap (λ (x : Chained). with_chain m (welded x)) (sweeps.after ∙ ap (swept s p) same)
@@ -131,7 +128,7 @@ drained_free k m room c task n said stands at over d c' at' =
     let is : task ≡ Del k stage.0.number = stage.3 ∙ ap (λ (j : ℕ). Del j stage.0.number) (number_at k m.chains c at) in
     let drained : HasDrained (Del k stage.0.number) m n room said = subst (λ (t : Task). HasDrained t m n room said) is d in
     let r = turns_shorter n k stage.0.number m c said room at drained.run.taken in
-    let same : r.chain ≡ c' = one_chain r.chain c' (sym r.at ∙ at') in
+    let same : r.chain ≡ c' = one_of r.chain c' (sym r.at ∙ at') in
     let there : table_of stage.0.number c.incoming.deletions ≡ Some stage.0.rows = ap (table_of stage.0.number) stage.2 ∙ ap (λ (b : Bool). cond b (Some stage.0.rows) (table_of stage.0.number stage.1)) (same_by stage.0.number stage.0.number refl) in
     let own : nat_eq k r.chain.incoming.number ≡ true = same_by k r.chain.incoming.number (sym (number_at k room.chains r.chain r.at)) in
     let none : table_of stage.0.number r.chain.incoming.deletions ≡ None = no_table (table_of stage.0.number r.chain.incoming.deletions)
@@ -164,6 +161,6 @@ room_there k m c before now stands at over is = (
     at = sym at;
     runs = subst (λ (o : Option Task). RunsFirst o m [] m) over (refl, refl);
     work = work_none m stands;
-    free = λ c' at'. ap (λ (x : Chained). overdue_of x.incoming) (one_chain c' c (sym at' ∙ sym at)) ∙ sym over;
+    free = λ c' at'. ap (λ (x : Chained). overdue_of x.incoming) (one_of c' c (sym at' ∙ sym at)) ∙ sym over;
   },
 )

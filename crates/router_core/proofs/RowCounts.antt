@@ -16,7 +16,7 @@ use Rattle.in_chain.specs.Steps.{swept, welded}
 use Rattle.in_chain.specs.Laws.{TurnsAreBounded}
 use Rattle.router_core.specs.Moments.{chain_at, put_one, put_chain, rows_in, left_in}
 use Rattle.router_core.specs.Stands.{AreInOrder}
-use Rattle.router_core.proofs.ChainLemmas.{equal_by, same_by, chain_here, chain_past, put_one_here, put_one_past, put_none}
+use Rattle.router_core.proofs.ChainLemmas.{equal_by, same_by, both, one_of, chain_here, chain_past, put_one_here, put_one_past, put_none}
 
 abbrev pub is_full : Lost Attrs → Bool
 is_full d = not (is_empty_map d.rows)
@@ -48,17 +48,11 @@ count_filtered (d ∷ ds) = by_test (is_empty_map d.rows) refl (count_filtered d
 
 pub later_stay : (s : ℕ) (p : Network) (ds : List (Lost Attrs)) → AllByRecursion (λ later. s < later.number) ds → map (swept_one s p) ds ≡ ds
 later_stay s p [] all = refl
-later_stay s p (d ∷ ds) all = ap2 (by_test (nat_eq d.number s) refl) (later_stay s p ds all.1)
+later_stay s p (d ∷ ds) all = both (by_test (nat_eq d.number s) refl) (later_stay s p ds all.1)
   where
-    ap2 : {x y : Lost Attrs} {xs ys : List (Lost Attrs)} → x ≡ y → xs ≡ ys → (x ∷ xs) ≡ (y ∷ ys)
-    ap2 p q i = p i ∷ q i
-
     by_test : (b : Bool) → nat_eq d.number s ≡ b → swept_one s p d ≡ d
     by_test true e = let same : d.number ≡ s = equal_by d.number s e in let lt : s < d.number = all.0 in absurd (omega arith)
     by_test false e = ap (λ (b : Bool). cond b (without p d) d) e
-
-table_is : (t u : FinMap prefix_cmp Attrs) → Some t ≡ Some u → t ≡ u
-table_is t u e = cc
 
 pub count_swept : (s : ℕ) (p : Network) (a : Attrs) (t : FinMap prefix_cmp Attrs) (ds : List (Lost Attrs)) → AreRising ds → table_of s ds ≡ Some t → tables.get t p ≡ Some a
     → lost_count (map (swept_one s p) ds) + 1 ≡ lost_count ds
@@ -69,7 +63,7 @@ count_swept s p a t (d ∷ ds) rising there at = by_test (nat_eq d.number s) ref
         → lost_count (map (swept_one s p) (d ∷ ds)) + 1 ≡ lost_count (d ∷ ds)
     by_test true e rest =
         let same : d.number ≡ s = equal_by d.number s e in
-        let is : d.rows ≡ t = table_is d.rows t (sym (ap (λ (b : Bool). cond b (Some d.rows) (table_of s ds)) e) ∙ there) in
+        let is : d.rows ≡ t = one_of d.rows t (sym (ap (λ (b : Bool). cond b (Some d.rows) (table_of s ds)) e) ∙ there) in
         let less : tables.len (tables.remove d.rows p) + 1 ≡ tables.len d.rows = one_row_less d.rows p a (ap (λ (m : FinMap prefix_cmp Attrs). tables.get m p) is ∙ at) in
         let here : swept_one s p d ≡ without p d = ap (λ (b : Bool). cond b (without p d) d) e in
         let first : tables.len (swept_one s p d).rows ≡ tables.len (tables.remove d.rows p) = ap (λ (x : Lost Attrs). tables.len x.rows) here in
@@ -95,9 +89,6 @@ rows_are_sum = record { none = refl; more = λ c cs. refl }
 pub turns_are_sum : IsSum turns_left left_in
 turns_are_sum = record { none = refl; more = λ c cs. refl }
 
-is_one : (x y : Chained) → Some x ≡ Some y → x ≡ y
-is_one x y e = cc
-
 module _ (f : Chained → ℕ) (sum_of : List Chained → ℕ) (is : IsSum f sum_of) where
   -- a chain in the place of another
   pub sum_put : (k : ℕ) (cs : List Chained) (c c' : Chained) → AreInOrder cs → chain_at k cs ≡ Some c → c'.incoming.number ≡ k → sum_of (put_chain c' cs) + f c ≡ sum_of cs + f c'
@@ -111,7 +102,7 @@ module _ (f : Chained → ℕ) (sum_of : List Chained → ℕ) (is : IsSum f sum
           → sum_of (put_chain c' (d ∷ ds)) + f c ≡ sum_of (d ∷ ds) + f c'
       by_test true e rest =
           let number : d.incoming.number ≡ k = equal_by d.incoming.number k e in
-          let count : f d ≡ f c = ap f (is_one d c (sym (chain_here k d ds e) ∙ at)) in
+          let count : f d ≡ f c = ap f (one_of d c (sym (chain_here k d ds e) ∙ at)) in
           let one : f (put_one c' d) ≡ f c' = ap f (put_one_here c' d (same_by d.incoming.number c'.incoming.number (number ∙ sym same))) in
           let stay : sum_of (put_chain c' ds) ≡ sum_of ds = ap sum_of (put_none c' d.incoming.number ds (same ∙ sym number) order.0) in
           let all = here (f c') (sum_of ds) one stay in
@@ -130,7 +121,7 @@ module _ (f : Chained → ℕ) (sum_of : List Chained → ℕ) (is : IsSum f sum
   sum_at k (d ∷ ds) c at = by_test (nat_eq d.incoming.number k) refl (sum_at k ds c)
     where
       by_test : (b : Bool) → nat_eq d.incoming.number k ≡ b → (chain_at k ds ≡ Some c → f c ≤ sum_of ds) → f c ≤ sum_of (d ∷ ds)
-      by_test true e rest = let same : f d ≡ f c = ap f (is_one d c (sym (chain_here k d ds e) ∙ at)) in let old = is.more d ds in omega (arith, same, old)
+      by_test true e rest = let same : f d ≡ f c = ap f (one_of d c (sym (chain_here k d ds e) ∙ at)) in let old = is.more d ds in omega (arith, same, old)
       by_test false e rest = let r = rest (sym (chain_past k d ds e) ∙ at) in let old = is.more d ds in omega (arith, r, old)
 
 -- ---- the turns of all walks are bounded

@@ -18,7 +18,7 @@ use Rattle.router_core.specs.Moments.{Moment, chain_at, put_chain, with_chain, r
 use Rattle.router_core.specs.Stands.{AreInOrder, Stands}
 use Rattle.router_core.specs.Turns.{IsTurn, DrainsAll, IsOver, chain_tasks, deletion_tasks, has_turn_in, has_work}
 use Rattle.router_core.specs.Works.{Nears, first_task}
-use Rattle.router_core.proofs.ChainLemmas.{same_by, other_by, number_at, chain_here, chain_past, put_one_here, put_one_past, put_none, none_below, chain_at_put_same}
+use Rattle.router_core.proofs.ChainLemmas.{same_by, other_by, both, one_of, number_at, chain_here, chain_past, put_one_here, put_one_past, put_none, none_below, chain_at_put_same}
 use Rattle.router_core.proofs.RowCounts.{is_full, later_stay, full_stay}
 use Rattle.router_core.proofs.StandLemmas.{sound_at}
 use Rattle.router_core.proofs.TurnLemmas.{and_false}
@@ -40,9 +40,6 @@ record Heads (cs : List Chained) (k s : ℕ) (rest : List Task) : Type 0 where
 
 same_del : (a b c d : ℕ) (xs ys : List Task) → (Del a b ∷ xs) ≡ (Del c d ∷ ys) → (a ≡ c) × (b ≡ d) × (xs ≡ ys)
 same_del a b c d xs ys e = (cc, cc, cc)
-
-both : {A : Type 0} {x y : A} {xs ys : List A} → x ≡ y → xs ≡ ys → (x ∷ xs) ≡ (y ∷ ys)
-both p q i = p i ∷ q i
 
 tasks_by : (d : Chained) (ds : List Chained) (x : List (Lost Attrs)) → d.incoming.deletions ≡ x → tasks_of (d ∷ ds) ≡ map (λ e. Del d.incoming.number e.number) x ++ tasks_of ds
 tasks_by d ds x is = ap (λ (l : List (Lost Attrs)). map (λ e. Del d.incoming.number e.number) l ++ tasks_of ds) is
@@ -132,9 +129,6 @@ swept_head s p d ds same later full =
 abbrev pub Follows : Moment → Task → List Task → Type 0
 Follows m task rest = (deletion_tasks m ≡ task ∷ rest) ⊎ ((deletion_tasks m ≡ rest) × (has_work task m ≡ false))
 
-one_chain : (a b : Chained) → Some a ≡ Some b → a ≡ b
-one_chain a b e = cc
-
 stage_turn : (m m' : Moment) (k s : ℕ) (rest : List Task) (said : List Line) → Stands m → deletion_tasks m ≡ Del k s ∷ rest → IsTurn (Del k s) m said m' → Follows m' (Del k s) rest
 stage_turn m m' k s rest said stands e t = subst (λ (x : Moment). Follows x (Del k s) rest) (sym (t.after ∙ ap (λ (x : Chained). with_chain m (welded x)) (sweeps.after ∙ ap (swept s sweeps.prefix) same))) by_full
   where
@@ -145,7 +139,7 @@ stage_turn m m' k s rest said stands e t = subst (λ (x : Moment). Follows x (De
     h = heads m.chains k s rest stands.order e
 
     same : t.chain ≡ h.chain
-    same = one_chain t.chain h.chain (sym t.at ∙ h.at)
+    same = one_of t.chain h.chain (sym t.at ∙ h.at)
 
     c' : Chained
     c' = welded (swept s sweeps.prefix h.chain)

@@ -74,12 +74,12 @@ feeds_chain p row c less c' sent before j now rows is adds w =
 
 -- ---- turns
 -- what a turn leaves as it was
-record Stays (c less : Chained) : Type 0 where
-  number : less.incoming.number ≡ c.incoming.number
-  me : less.me ≡ c.me
-  peer : less.peer ≡ c.peer
+pub record Stays (c less : Chained) : Type 0 where
+  pub number : less.incoming.number ≡ c.incoming.number
+  pub me : less.me ≡ c.me
+  pub peer : less.peer ≡ c.peer
 
-turn_stays : (task : Task) (c less : Chained) (sent : Option (Change Route)) (entries : List (Entry Value)) → Turned c less task sent entries → Stays c less
+pub turn_stays : (task : Task) (c less : Chained) (sent : Option (Change Route)) (entries : List (Entry Value)) → Turned c less task sent entries → Stays c less
 turn_stays (Del k s) c less sent entries t = record {
   number = ap (λ (x : Chained). x.incoming.number) t.1.after;
   me = ap (λ (x : Chained). x.me) t.1.after;

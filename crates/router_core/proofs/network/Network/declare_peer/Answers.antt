@@ -1,6 +1,5 @@
-use Rattle.std.proofs.Common.{◌≡◌, ◌∷◌, [], ◌∙◌, Some, None, subst, sym, ap}
+use Rattle.std.proofs.Common.{◌∷◌, [], ◌∙◌, subst, sym, ap}
 use Rattle.std.proofs.lemmas.Result.{on_ok_weaker}
-use Rattle.bgp_attr.specs.declared.speaker.Speaker.{Speaker}
 use Rattle.journal_text.specs.declared.link.Link.TheVariants.{In, Filt}
 use Rattle.journal_text.specs.declared.entry.Entry.TheVariants.{Begin}
 use Rattle.journal_text.specs.declared.line.Line.TheVariants as lines

@@ -1,7 +1,6 @@
-use Rattle.std.proofs.Common.{◌≡◌, List, [], subst, sym}
+use Rattle.std.proofs.Common.{[], subst, sym}
 use Rattle.std.specs.Prelude.{IsSome}
 use Rattle.event_text.specs.declared.event.Event.TheVariants as events
-use Rattle.in_chain.specs.Chains.{Chained}
 use Rattle.router_core.specs.Moments.{Moment, chain_at}
 use Rattle.router_core.specs.Stands.{Stands}
 use Rattle.router_core.specs.Blocks.{Acts}
