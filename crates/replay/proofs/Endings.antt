@@ -160,7 +160,7 @@ first_output quiet text = record {
     end = first_moment;
     run = (refl, refl);
     lawful = record { lawful = tt; ends = refl };
-    stands = record { order = tt; peers = λ k. tt };
+    stands = record { order = tt; peers = λ k. tt; speaker = tt; count = refl };
     text = refl;
   };
 }
