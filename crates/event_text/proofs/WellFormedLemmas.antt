@@ -3,23 +3,26 @@ use Rattle.std.proofs.Common.{◌≡◌, ℕ, ◌^◌, ◌<◌, Bool, true, fals
 use Rattle.std.proofs.lemmas.Bool.Decides.{nat_tests}
 use Rattle.std.proofs.lemmas.List.{get_or_default}
 use Rattle.std.specs.List.{All, starts_with}
+use Rattle.std.specs.Option.{option_map}
 use Rattle.std.specs.Result.{result_ok}
 use Rattle.std.specs.Str.{bytes_eq}
 use Rattle.hex.specs.Hex.{decode_of}
 use Rattle.hex.specs.declared.FromHexError.{FromHexError}
 use Rattle.hex.proofs.HexLemmas.{decode_of-ok}
 use Rattle.addr4.specs.Texts.{number_below, number_of, addr_of, prefix_of, parts}
-use Rattle.journal_text.specs.declared.link.Link.TheVariants as links
 use Rattle.journal_text.specs.declared.link.Task.TheVariants as tasks
+use Rattle.journal_text.specs.Names.{name_number, with_both, proto_of, task_of_two, task_of_three, task_from_parts, task_of, link_of as link_named, IsNamed}
+use Rattle.journal_text.proofs.ReadNames.{read_number_named, read_link_named}
+use Rattle.rib_route.specs.declared.Proto.{Proto}
+use Rattle.rib_route.specs.Ifaces.{is_iface_name, iface_of}
 use Rattle.event_text.specs.declared.event.Event.TheVariants as events
-use Rattle.policy_rules.specs.Words.{◌>>=◌}
 use Rattle.policy_rules.specs.Ranges.{AreRules}
 use Rattle.policy_rules.specs.Grammar.{rules_of}
 use Rattle.policy_rules.proofs.RangeLemmas.{and_then, either, below, addr_fits, prefix_ok, rules_ok}
 use Rattle.addr4.specs.Prefixes.{Network, IsMasked}
-use Rattle.event_text.specs.Words.{from_one, two_from_one, is_host, speaker_of, octets_of, link_named, link_from, link_of, task_from, task_of}
-use Rattle.event_text.specs.Events.{local_of, peer_of, one_number, bgp_of, filter_of, work_of, ask_of, show_of, plain_event, named_event, event_of}
-use Rattle.event_text.specs.WellFormed.{IsNumber, IsSpeaker, IsMessage, IsPrefix, IsPeerLink, IsTask, IsWellFormed}
+use Rattle.event_text.specs.Words.{from_one, is_host, speaker_of, octets_of, way_out, way_over, interior_of, is_asked, link_of}
+use Rattle.event_text.specs.Events.{local_of, peer_of, one_number, bgp_of, filter_of, route_add_of, route_del_of, route_of, lost_of, cover_of, interior_event, work_of, ask_of, show_of, plain_event, named_event, event_of}
+use Rattle.event_text.specs.WellFormed.{IsNumber, IsSpeaker, IsMessage, IsPrefix, IsGateway, IsInterior, IsAsked, IsTask, IsWellFormed}
 
 -- ---- steps that may fail
 told : {A : Type 0} (b : Bool) (x y : Option A) (P : A → Type 0) → (b ≡ true → IfSome x P) → (b ≡ false → IfSome y P) → IfSome (cond b x y) P
@@ -31,11 +34,6 @@ from_one_ok : (word : List ℕ) → IfSome (from_one word) IsNumber
 unfolding from_one
 from_one_ok word =
     and_then (number_of word) _ (λ n. n < 2 ^ 32) IsNumber (below (2 ^ 32) word) (λ n fits. told (nat_eq n 0) None (Some n) IsNumber (λ _. tt) (λ other. record { least = grind (arith, nat_tests); fits = fits }))
-
-two_ok : (k s : List ℕ) → IfSome (two_from_one k s) (λ n. IsNumber n.0 × IsNumber n.1)
-unfolding two_from_one
-two_ok k s =
-    and_then (from_one k) _ IsNumber (λ n. IsNumber n.0 × IsNumber n.1) (from_one_ok k) (λ a ha. and_then (from_one s) _ IsNumber (λ n. IsNumber n.0 × IsNumber n.1) (from_one_ok s) (λ b hb. (ha, hb)))
 
 speaker_told : (a i h : ℕ) → a < 65536 → i < 2 ^ 32 → h < 2 ^ 32 → (x y z : Bool) → nat_eq a 0 ≡ x → nat_eq i 0 ≡ y → is_host h ≡ z → IfSome (cond (x || y || not z) None (Some (record { asn = a; id = i; addr = h }))) IsSpeaker
 speaker_told a i h fa fi fh true y z ea ei eh = tt
@@ -73,31 +71,68 @@ is_prefix text = as_record (prefix_of 32 text) (prefix_ok text)
     as_record None h = tt
     as_record (Some p) h = record { masked = h.0; fits = h.1 }
 
-link_named_ok : (name : List ℕ) (n : ℕ) → IsNumber n → IfSome (link_named name n) IsPeerLink
-link_named_ok name n h =
-    either (bytes_eq name (codes "in")) (Some (links.In n)) _ IsPeerLink h
-    (either (bytes_eq name (codes "filt")) (Some (links.Filt n)) None IsPeerLink h tt)
+-- ---- interior routes
+way_out_ok : (proto : Proto) (gateway : Option ℕ) (ws : List (List ℕ)) → IsGateway gateway → IfSome (way_out proto gateway ws) IsInterior
+unfolding way_out
+way_out_ok proto gateway [] h = tt
+way_out_ok proto gateway (name ∷ []) h = tt
+way_out_ok proto gateway (name ∷ metric ∷ []) h =
+    and_then (iface_of name) _ (λ i. is_iface_name i ≡ true) IsInterior
+    (told (is_iface_name name) (Some name) None (λ i. is_iface_name i ≡ true) (λ e. e) (λ _. tt)) (λ i hi.
+    and_then (number_of metric) _ (λ n. n < 2 ^ 32) IsInterior (below (2 ^ 32) metric) (λ m hm. record { gateway = h; name = hi; metric = hm }))
+way_out_ok proto gateway (name ∷ metric ∷ x ∷ more) h = tt
 
-link_parts_ok : (ps : List (List ℕ)) → IfSome (link_from ps) IsPeerLink
-link_parts_ok [] = tt
-link_parts_ok (a ∷ []) = tt
-link_parts_ok (a ∷ k ∷ []) = and_then (from_one k) (link_named a) IsNumber IsPeerLink (from_one_ok k) (λ n h. link_named_ok a n h)
-link_parts_ok (a ∷ k ∷ s ∷ []) = either (bytes_eq a (codes "peer")) (two_from_one k s >>= λ n. Some (links.Peer n.0 n.1)) None IsPeerLink (and_then (two_from_one k s) _ (λ n. IsNumber n.0 × IsNumber n.1) IsPeerLink (two_ok k s) (λ n h. h)) tt
-link_parts_ok (a ∷ k ∷ s ∷ x ∷ more) = tt
+way_over_ok : (proto : Proto) (ws : List (List ℕ)) → IfSome (way_over proto ws) IsInterior
+unfolding way_over
+way_over_ok proto [] = tt
+way_over_ok proto (gateway ∷ ws) = and_then (addr_of gateway) _ (λ a. a < 2 ^ 32) IsInterior (addr_fits gateway) (λ a h. way_out_ok proto (Some a) ws h)
 
-link_ok : (word : List ℕ) → IfSome (link_of word) IsPeerLink
+interior_ok : (proto : Proto) (ws : List (List ℕ)) → IfSome (interior_of proto ws) IsInterior
+unfolding interior_of
+interior_ok proto [] = tt
+interior_ok proto (way ∷ ws) =
+    either (bytes_eq way (codes "direct")) _ _ IsInterior (way_out_ok proto None ws tt)
+    (either (bytes_eq way (codes "via")) _ None IsInterior (way_over_ok proto ws) tt)
+
+-- ---- links and tasks
+each : {A : Type 0} (o : Option A) (P : A → Type 0) → ((x : A) → o ≡ Some x → P x) → IfSome o P
+each None P h = tt
+each (Some x) P h = h x refl
+
+link_ok : (word : List ℕ) → IfSome (link_of word) IsAsked
 unfolding link_of
-link_ok word = link_parts_ok (parts 46 word)
+link_ok word =
+    and_then (link_named word) _ IsNamed IsAsked (each (link_named word) IsNamed (read_link_named word)) (λ link h.
+    told (is_asked link) (Some link) None IsAsked (λ asked. record { asked = asked; numbers = h }) (λ _. tt))
 
-task_parts_ok : (ps : List (List ℕ)) → IfSome (task_from ps) IsTask
+number_ok : (word : List ℕ) → IfSome (name_number word) IsNumber
+number_ok word = each (name_number word) IsNumber (λ n e. let h = read_number_named word n e in record { least = h.0; fits = h.1 })
+
+fin_ok : (k : Option ℕ) → IfSome k IsNumber → IfSome (option_map (λ k. tasks.Fin k) k) IsTask
+fin_ok None h = tt
+fin_ok (Some k) h = h
+
+del_ok : (k s : Option ℕ) → IfSome k IsNumber → IfSome s IsNumber → IfSome (with_both (λ k s. Some (tasks.Del k s)) k s) IsTask
+del_ok None s hk hs = tt
+del_ok (Some k) None hk hs = tt
+del_ok (Some k) (Some s) hk hs = (hk, hs)
+
+rdel_ok : (proto : Option Proto) (n : Option ℕ) → IfSome n IsNumber → IfSome (with_both (λ proto n. Some (tasks.Rdel proto n)) proto n) IsTask
+rdel_ok None n h = tt
+rdel_ok (Some proto) None h = tt
+rdel_ok (Some proto) (Some n) h = h
+
+task_parts_ok : (ps : List (List ℕ)) → IfSome (task_from_parts ps) IsTask
+unfolding task_from_parts task_of_two task_of_three
 task_parts_ok [] = tt
-task_parts_ok (a ∷ []) = tt
-task_parts_ok (a ∷ k ∷ []) = either (bytes_eq a (codes "fin")) (from_one k >>= λ n. Some (tasks.Fin n)) None IsTask (and_then (from_one k) _ IsNumber IsTask (from_one_ok k) (λ n h. h)) tt
-task_parts_ok (a ∷ k ∷ s ∷ []) = either (bytes_eq a (codes "del")) (two_from_one k s >>= λ n. Some (tasks.Del n.0 n.1)) None IsTask (and_then (two_from_one k s) _ (λ n. IsNumber n.0 × IsNumber n.1) IsTask (two_ok k s) (λ n h. h)) tt
-task_parts_ok (a ∷ k ∷ s ∷ x ∷ more) = tt
+task_parts_ok (w ∷ []) = tt
+task_parts_ok (w ∷ a ∷ []) = either (bytes_eq w (codes "fin")) _ None IsTask (fin_ok (name_number a) (number_ok a)) tt
+task_parts_ok (w ∷ a ∷ b ∷ []) =
+    either (bytes_eq w (codes "del")) _ _ IsTask (del_ok (name_number a) (name_number b) (number_ok a) (number_ok b))
+    (either (bytes_eq w (codes "rdel")) _ None IsTask (rdel_ok (proto_of a) (name_number b) (number_ok b)) tt)
+task_parts_ok (w ∷ a ∷ b ∷ x ∷ more) = tt
 
 task_ok : (word : List ℕ) → IfSome (task_of word) IsTask
-unfolding task_of
 task_ok word = task_parts_ok (parts 46 word)
 
 -- ---- lines
@@ -132,6 +167,50 @@ filter_ok (side ∷ k ∷ ws) =
     (and_then (from_one k) _ IsNumber IsWellFormed (from_one_ok k) (λ n hn. and_then (rules_of false ws) _ (AreRules false) IsWellFormed (rules_ok false ws) (λ rules hr. (hn, hr))))
     tt
 
+route_add_ok : (ws : List (List ℕ)) → IfSome (route_add_of ws) IsWellFormed
+unfolding route_add_of
+route_add_ok [] = tt
+route_add_ok (proto ∷ []) = tt
+route_add_ok (proto ∷ p ∷ ws) =
+    and_then (proto_of proto) _ (λ _. Unit {0}) IsWellFormed (each (proto_of proto) (λ _. Unit {0}) (λ _ _. tt)) (λ o _.
+    and_then (prefix_of 32 p) _ IsPrefix IsWellFormed (is_prefix p) (λ n hn.
+    and_then (interior_of o ws) _ IsInterior IsWellFormed (interior_ok o ws) (λ row hr. (hn, hr))))
+
+route_del_ok : (ws : List (List ℕ)) → IfSome (route_del_of ws) IsWellFormed
+unfolding route_del_of
+route_del_ok [] = tt
+route_del_ok (proto ∷ []) = tt
+route_del_ok (proto ∷ p ∷ []) =
+    and_then (proto_of proto) _ (λ _. Unit {0}) IsWellFormed (each (proto_of proto) (λ _. Unit {0}) (λ _ _. tt)) (λ o _.
+    and_then (prefix_of 32 p) _ IsPrefix IsWellFormed (is_prefix p) (λ n hn. hn))
+route_del_ok (proto ∷ p ∷ x ∷ more) = tt
+
+route_ok : (ws : List (List ℕ)) → IfSome (route_of ws) IsWellFormed
+unfolding route_of
+route_ok [] = tt
+route_ok (w ∷ ws) =
+    either (bytes_eq w (codes "add")) _ _ IsWellFormed (route_add_ok ws)
+    (either (bytes_eq w (codes "del")) _ None IsWellFormed (route_del_ok ws) tt)
+
+lost_ok : (ws : List (List ℕ)) → IfSome (lost_of ws) IsWellFormed
+unfolding lost_of
+lost_ok [] = tt
+lost_ok (proto ∷ []) = and_then (proto_of proto) _ (λ _. Unit {0}) IsWellFormed (each (proto_of proto) (λ _. Unit {0}) (λ _ _. tt)) (λ o _. tt)
+lost_ok (proto ∷ x ∷ more) = tt
+
+cover_ok : (ws : List (List ℕ)) → IfSome (cover_of ws) IsWellFormed
+unfolding cover_of
+cover_ok [] = tt
+cover_ok (addr ∷ []) = and_then (addr_of addr) _ (λ a. a < 2 ^ 32) IsWellFormed (addr_fits addr) (λ a h. h)
+cover_ok (addr ∷ x ∷ more) = tt
+
+interior_event_ok : (w : List ℕ) (ws : List (List ℕ)) → IfSome (interior_event w ws) IsWellFormed
+unfolding interior_event
+interior_event_ok w ws =
+    either (bytes_eq w (codes "route")) _ _ IsWellFormed (route_ok ws)
+    (either (bytes_eq w (codes "lost")) _ _ IsWellFormed (lost_ok ws)
+    (either (bytes_eq w (codes "cover")) _ None IsWellFormed (cover_ok ws) tt))
+
 work_ok : (ws : List (List ℕ)) → IfSome (work_of ws) IsWellFormed
 unfolding work_of
 work_ok [] = tt
@@ -143,13 +222,13 @@ ask_ok : (ws : List (List ℕ)) → IfSome (ask_of ws) IsWellFormed
 unfolding ask_of
 ask_ok [] = tt
 ask_ok (link ∷ []) = tt
-ask_ok (link ∷ p ∷ []) = and_then (link_of link) _ IsPeerLink IsWellFormed (link_ok link) (λ l hl. and_then (prefix_of 32 p) _ IsPrefix IsWellFormed (is_prefix p) (λ n hn. (hl, hn)))
+ask_ok (link ∷ p ∷ []) = and_then (link_of link) _ IsAsked IsWellFormed (link_ok link) (λ l hl. and_then (prefix_of 32 p) _ IsPrefix IsWellFormed (is_prefix p) (λ n hn. (hl, hn)))
 ask_ok (link ∷ p ∷ x ∷ more) = tt
 
 show_ok : (ws : List (List ℕ)) → IfSome (show_of ws) IsWellFormed
 unfolding show_of
 show_ok [] = tt
-show_ok (link ∷ []) = and_then (link_of link) _ IsPeerLink IsWellFormed (link_ok link) (λ l hl. hl)
+show_ok (link ∷ []) = and_then (link_of link) _ IsAsked IsWellFormed (link_ok link) (λ l hl. hl)
 show_ok (link ∷ x ∷ more) = tt
 
 plain_ok : (w : List ℕ) (ws : List (List ℕ)) → IfSome (plain_event w ws) IsWellFormed
@@ -160,7 +239,7 @@ plain_ok w ws =
     (either (bytes_eq w (codes "idle")) _ _ IsWellFormed (either (nat_eq (length ws) 0) (Some events.Idle) None IsWellFormed tt tt)
     (either (bytes_eq w (codes "work")) _ _ IsWellFormed (work_ok ws)
     (either (bytes_eq w (codes "ask")) _ _ IsWellFormed (ask_ok ws)
-    (either (bytes_eq w (codes "show")) _ None IsWellFormed (show_ok ws) tt)))))
+    (either (bytes_eq w (codes "show")) _ _ IsWellFormed (show_ok ws) (interior_event_ok w ws))))))
 
 named_ok : (w : List ℕ) (ws : List (List ℕ)) → IfSome (named_event w ws) IsWellFormed
 unfolding named_event

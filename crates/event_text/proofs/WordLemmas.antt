@@ -1,12 +1,14 @@
--- Too many words, and too many parts of one.
-use Rattle.std.proofs.Common.{◌≡◌, ℕ, ◌<◌, false, List, [], ◌∷◌, length, None, nat_eq, refl, arith}
-use Rattle.std.proofs.lemmas.List.Splits.{length-slice_split}
-use Rattle.addr4.specs.Texts.{parts}
+-- Too many words, and the protocol of one.
+use Rattle.std.proofs.Common.{◌≡◌, ℕ, false, List, [], ◌∷◌, length, Option, Some, None, codes, nat_eq, refl}
+use Rattle.std.specs.Prelude.{if◌then◌else◌}
+use Rattle.std.specs.Str.{bytes_eq}
+use Rattle.rib_route.specs.declared.Proto.{Proto}
+use Rattle.rib_route.specs.declared.Proto.TheVariants.{Connected, Static, Ospf, Rip}
+use Rattle.journal_text.specs.Names.{proto_of}
 use Rattle.policy_rules.specs.Words.{words}
-use Rattle.event_text.specs.Words.{speaker_of, link_from, task_from}
-use Rattle.event_text.specs.Events.{one_number, bgp_of, work_of, ask_of, show_of}
+use Rattle.event_text.specs.Words.{speaker_of, way_out}
+use Rattle.event_text.specs.Events.{one_number, bgp_of, route_del_of, lost_of, cover_of, work_of, ask_of, show_of}
 
--- ---- too many words
 four : (a b c : List ℕ) (more : List (List ℕ)) → nat_eq (length more) 0 ≡ false → speaker_of (a ∷ b ∷ c ∷ more) ≡ None
 unfolding speaker_of
 four a b c [] some = absurd (cc)
@@ -55,20 +57,39 @@ behind_link a (d ∷ more) some = refl
 pub no_word_behind_link : (a r : List ℕ) → nat_eq (length (words r)) 0 ≡ false → show_of (a ∷ words r) ≡ None
 no_word_behind_link a r some = behind_link a (words r) some
 
--- ---- too many parts of a name
-pub parts_some : (separator : ℕ) (text : List ℕ) → 0 < length (parts separator text)
-parts_some separator text = omega (arith, length-slice_split (λ b. nat_eq b separator) text)
+behind_metric : (proto : Proto) (gateway : Option ℕ) (a b : List ℕ) (more : List (List ℕ)) → nat_eq (length more) 0 ≡ false → way_out proto gateway (a ∷ b ∷ more) ≡ None
+unfolding way_out
+behind_metric proto gateway a b [] some = absurd (cc)
+behind_metric proto gateway a b (d ∷ more) some = refl
 
-four_in_link : (a b c : List ℕ) (more : List (List ℕ)) → 0 < length more → link_from (a ∷ b ∷ c ∷ more) ≡ None
-four_in_link a b c [] some = absurd (omega arith)
-four_in_link a b c (d ∷ more) some = refl
+pub no_word_behind_metric : (proto : Proto) (gateway : Option ℕ) (a b r : List ℕ) → nat_eq (length (words r)) 0 ≡ false → way_out proto gateway (a ∷ b ∷ words r) ≡ None
+no_word_behind_metric proto gateway a b r some = behind_metric proto gateway a b (words r) some
 
-pub no_fourth_in_link : (a b c r : List ℕ) → link_from (a ∷ b ∷ c ∷ parts 46 r) ≡ None
-no_fourth_in_link a b c r = four_in_link a b c (parts 46 r) (parts_some 46 r)
+behind_route : (a b : List ℕ) (more : List (List ℕ)) → nat_eq (length more) 0 ≡ false → route_del_of (a ∷ b ∷ more) ≡ None
+unfolding route_del_of
+behind_route a b [] some = absurd (cc)
+behind_route a b (d ∷ more) some = refl
 
-four_in_task : (a b c : List ℕ) (more : List (List ℕ)) → 0 < length more → task_from (a ∷ b ∷ c ∷ more) ≡ None
-four_in_task a b c [] some = absurd (omega arith)
-four_in_task a b c (d ∷ more) some = refl
+pub no_word_behind_route : (a b r : List ℕ) → nat_eq (length (words r)) 0 ≡ false → route_del_of (a ∷ b ∷ words r) ≡ None
+no_word_behind_route a b r some = behind_route a b (words r) some
 
-pub no_fourth_in_task : (a b c r : List ℕ) → task_from (a ∷ b ∷ c ∷ parts 46 r) ≡ None
-no_fourth_in_task a b c r = four_in_task a b c (parts 46 r) (parts_some 46 r)
+behind_protocol : (a : List ℕ) (more : List (List ℕ)) → nat_eq (length more) 0 ≡ false → lost_of (a ∷ more) ≡ None
+unfolding lost_of
+behind_protocol a [] some = absurd (cc)
+behind_protocol a (d ∷ more) some = refl
+
+pub no_word_behind_protocol : (a r : List ℕ) → nat_eq (length (words r)) 0 ≡ false → lost_of (a ∷ words r) ≡ None
+no_word_behind_protocol a r some = behind_protocol a (words r) some
+
+behind_addr : (a : List ℕ) (more : List (List ℕ)) → nat_eq (length more) 0 ≡ false → cover_of (a ∷ more) ≡ None
+unfolding cover_of
+behind_addr a [] some = absurd (cc)
+behind_addr a (d ∷ more) some = refl
+
+pub no_word_behind_addr : (a r : List ℕ) → nat_eq (length (words r)) 0 ≡ false → cover_of (a ∷ words r) ≡ None
+no_word_behind_addr a r some = behind_addr a (words r) some
+
+-- ---- protocols
+pub protocol_is : (w : List ℕ) → proto_of w ≡ (if bytes_eq w (codes "connected") then Some Connected else if bytes_eq w (codes "static") then Some Static else if bytes_eq w (codes "ospf") then Some Ospf else if bytes_eq w (codes "rip") then Some Rip else None)
+unfolding proto_of
+protocol_is w = refl

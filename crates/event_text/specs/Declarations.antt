@@ -3,12 +3,14 @@ use Rattle.std.specs.Prelude.{◌≡◌, ℕ, ◌+◌, ◌≤◌, ◌<◌, ◌==
 use Rattle.std.specs.Coded.{Coded, code_by, coded×, coded_option, coded_list}
 use Rattle.bgp_attr.specs.declared.speaker.Speaker.{Speaker}
 use Rattle.bgp_attr.specs.declared.speaker.Neighbour.{Neighbour}
-use Rattle.journal_text.specs.Links.{owner_of}
-use Rattle.journal_text.specs.declared.link.Task.TheVariants.{Del, Fin}
+use Rattle.journal_text.specs.declared.link.Link.{Link}
+use Rattle.journal_text.specs.declared.link.Link.TheVariants as links
+use Rattle.journal_text.specs.declared.link.Task.{Task}
+use Rattle.journal_text.specs.declared.link.Task.TheVariants.{Del, Fin, Rdel}
 use Rattle.journal_text.specs.declared.line.Code.{Code}
 use Rattle.journal_text.specs.declared.line.Code.TheVariants.{E3, E4, E5, E6}
 use Rattle.event_text.specs.declared.event.Event.{Event}
-use Rattle.event_text.specs.declared.event.Event.TheVariants.{Nothing, Local, Peer, Up, Down, Bgp, FilterIn, Idle, Work, Ask, Show}
+use Rattle.event_text.specs.declared.event.Event.TheVariants.{Nothing, Local, Peer, Up, Down, Bgp, FilterIn, RouteAdd, RouteDel, Lose, Cover, Idle, Work, Ask, Show}
 use Rattle.event_text.specs.declared.declared.DeclaredPeer.{DeclaredPeer}
 use Rattle.event_text.specs.WellFormed.{IsSpeaker}
 
@@ -57,6 +59,34 @@ abbrev pub rules_refusal : ℕ → Option DeclaredPeer → Option Code
 rules_refusal count None = Some E5
 rules_refusal count (Some p) = if nat_le count 64 then None else Some E6
 
+-- a task of a peer needs it declared; one of a protocol doesn't
+abbrev pub task_refusal : Task → List DeclaredPeer → Option Code
+task_refusal (Del k s) peers = undeclared (peer_at k peers)
+task_refusal (Fin k) peers = undeclared (peer_at k peers)
+task_refusal (Rdel proto n) peers = None
+
+-- a link of a peer needs it declared; the others don't
+abbrev pub link_refusal : Link → List DeclaredPeer → Option Code
+link_refusal (links.In k) peers = undeclared (peer_at k peers)
+link_refusal (links.Peer k s) peers = undeclared (peer_at k peers)
+link_refusal (links.Filt k) peers = undeclared (peer_at k peers)
+link_refusal (links.Res k) peers = undeclared (peer_at k peers)
+link_refusal (links.Org proto) peers = None
+link_refusal (links.Lost proto n) peers = None
+link_refusal links.Low peers = None
+link_refusal links.Dyn peers = None
+link_refusal links.Int peers = None
+link_refusal links.Red peers = None
+link_refusal links.Best peers = None
+link_refusal links.ReadRib peers = None
+link_refusal links.Ebgp peers = None
+link_refusal links.Ibgp peers = None
+link_refusal links.Ext peers = None
+link_refusal links.Fib peers = None
+link_refusal (links.Read j s) peers = undeclared (peer_at j peers)
+link_refusal (links.Outf j s) peers = undeclared (peer_at j peers)
+link_refusal (links.Adv j s) peers = undeclared (peer_at j peers)
+
 -- where `local` was declared
 abbrev pub refusal_by : Speaker → List DeclaredPeer → Event → Option Code
 refusal_by local peers Nothing = None
@@ -66,11 +96,14 @@ refusal_by local peers (Up k) = session_refusal (peer_at k peers)
 refusal_by local peers (Down k) = undeclared (peer_at k peers)
 refusal_by local peers (Bgp k octets) = undeclared (peer_at k peers)
 refusal_by local peers (FilterIn k rules) = rules_refusal (length rules) (peer_at k peers)
+refusal_by local peers (RouteAdd p row) = None
+refusal_by local peers (RouteDel proto p) = None
+refusal_by local peers (Lose proto) = None
+refusal_by local peers (Cover addr) = None
 refusal_by local peers Idle = None
-refusal_by local peers (Work (Del k s) n) = undeclared (peer_at k peers)
-refusal_by local peers (Work (Fin k) n) = undeclared (peer_at k peers)
-refusal_by local peers (Ask link p) = undeclared (peer_at (owner_of link) peers)
-refusal_by local peers (Show link) = undeclared (peer_at (owner_of link) peers)
+refusal_by local peers (Work task n) = task_refusal task peers
+refusal_by local peers (Ask link p) = link_refusal link peers
+refusal_by local peers (Show link) = link_refusal link peers
 
 -- before `local`
 abbrev pub refusal_first : Event → Option Code
@@ -81,6 +114,10 @@ refusal_first (Up k) = Some E4
 refusal_first (Down k) = Some E4
 refusal_first (Bgp k octets) = Some E4
 refusal_first (FilterIn k rules) = Some E4
+refusal_first (RouteAdd p row) = Some E4
+refusal_first (RouteDel proto p) = Some E4
+refusal_first (Lose proto) = Some E4
+refusal_first (Cover addr) = Some E4
 refusal_first Idle = Some E4
 refusal_first (Work task n) = Some E4
 refusal_first (Ask link p) = Some E4

@@ -2,14 +2,15 @@
 use Rattle.std.specs.Prelude.{ℕ, false, if◌then◌else◌, ◌==◌, List, [], ◌∷◌, length, Option, Some, None, Result, Ok, Err, codes, nat_eq}
 use Rattle.std.specs.Str.{bytes_eq}
 use Rattle.std.specs.List.{starts_with}
-use Rattle.addr4.specs.Texts.{number_of, prefix_of}
+use Rattle.addr4.specs.Texts.{number_of, addr_of, prefix_of}
+use Rattle.journal_text.specs.Names.{proto_of, task_of}
 use Rattle.journal_text.specs.declared.line.Code.{Code}
 use Rattle.journal_text.specs.declared.line.Code.TheVariants.{E1, E2}
 use Rattle.policy_rules.specs.Words.{◌>>=◌, words}
 use Rattle.policy_rules.specs.Grammar.{rules_of}
 use Rattle.event_text.specs.declared.event.Event.{Event}
-use Rattle.event_text.specs.declared.event.Event.TheVariants.{Nothing, Local, Peer, Up, Down, Bgp, FilterIn, Idle, Work, Ask, Show}
-use Rattle.event_text.specs.Words.{is_clean, from_one, speaker_of, octets_of, link_of, task_of}
+use Rattle.event_text.specs.declared.event.Event.TheVariants.{Nothing, Local, Peer, Up, Down, Bgp, FilterIn, RouteAdd, RouteDel, Lose, Cover, Idle, Work, Ask, Show}
+use Rattle.event_text.specs.Words.{is_clean, from_one, speaker_of, octets_of, interior_of, link_of}
 
 -- what follows `local`
 unfoldable pub local_of : List (List ℕ) → Option Event
@@ -47,6 +48,49 @@ filter_of (side ∷ k ∷ ws) =
     else None
 filter_of other = None
 
+-- what follows `route add`: a protocol, a prefix, and where the route goes
+unfoldable pub route_add_of : List (List ℕ) → Option Event
+route_add_of (proto ∷ p ∷ ws) = do
+  o ← proto_of proto
+  n ← prefix_of 32 p
+  row ← interior_of o ws
+  Some (RouteAdd n row)
+route_add_of other = None
+
+-- what follows `route del`: a protocol and a prefix
+unfoldable pub route_del_of : List (List ℕ) → Option Event
+route_del_of (proto ∷ p ∷ []) = do
+  o ← proto_of proto
+  n ← prefix_of 32 p
+  Some (RouteDel o n)
+route_del_of other = None
+
+-- what follows `route`
+unfoldable pub route_of : List (List ℕ) → Option Event
+route_of [] = None
+route_of (w ∷ ws) =
+    if bytes_eq w (codes "add") then route_add_of ws
+    else if bytes_eq w (codes "del") then route_del_of ws
+    else None
+
+-- what follows `lost`
+unfoldable pub lost_of : List (List ℕ) → Option Event
+lost_of (proto ∷ []) = proto_of proto >>= λ o. Some (Lose o)
+lost_of other = None
+
+-- what follows `cover`
+unfoldable pub cover_of : List (List ℕ) → Option Event
+cover_of (addr ∷ []) = addr_of addr >>= λ a. Some (Cover a)
+cover_of other = None
+
+-- an event of the interior routes, by its first word and the others
+unfoldable pub interior_event : List ℕ → List (List ℕ) → Option Event
+interior_event w ws =
+    if bytes_eq w (codes "route") then route_of ws
+    else if bytes_eq w (codes "lost") then lost_of ws
+    else if bytes_eq w (codes "cover") then cover_of ws
+    else None
+
 -- what follows `work`
 unfoldable pub work_of : List (List ℕ) → Option Event
 work_of (task ∷ turns ∷ []) = do
@@ -68,7 +112,7 @@ unfoldable pub show_of : List (List ℕ) → Option Event
 show_of (link ∷ []) = link_of link >>= λ l. Some (Show l)
 show_of other = None
 
--- an event but for `local`, `peer`, `bgp` and `filter`, by its first word and the others
+-- an event that isn't `local`, `peer`, `bgp` or `filter`, by its first word and the others
 unfoldable pub plain_event : List ℕ → List (List ℕ) → Option Event
 plain_event w ws =
     if bytes_eq w (codes "up") then (one_number ws >>= λ k. Some (Up k))
@@ -77,7 +121,7 @@ plain_event w ws =
     else if bytes_eq w (codes "work") then work_of ws
     else if bytes_eq w (codes "ask") then ask_of ws
     else if bytes_eq w (codes "show") then show_of ws
-    else None
+    else interior_event w ws
 
 -- an event by its first word and the others
 unfoldable pub named_event : List ℕ → List (List ℕ) → Option Event

@@ -1,16 +1,18 @@
 -- What holds of each event that was read.
-use Rattle.std.specs.Prelude.{◌≡◌, ℕ, ◌^◌, ◌<◌, ◌≤◌, List, length, true, false}
+use Rattle.std.specs.Prelude.{◌≡◌, ℕ, ◌^◌, ◌<◌, ◌≤◌, List, length, Option, Some, None, true, false}
 use Rattle.std.specs.List.{All}
 use Rattle.addr4.specs.Prefixes.{Network, IsMasked}
 use Rattle.bgp_attr.specs.declared.speaker.Speaker.{Speaker}
+use Rattle.rib_route.specs.Ifaces.{is_iface_name}
+use Rattle.rib_route.specs.declared.rows.Interior.{Interior}
+use Rattle.journal_text.specs.Names.{IsNamed}
 use Rattle.journal_text.specs.declared.link.Link.{Link}
-use Rattle.journal_text.specs.declared.link.Link.TheVariants.{In, Peer, Filt, Res, Org, Lost, Low, Dyn, Int, Red, Best, ReadRib, Ebgp, Ibgp, Ext, Fib, Read, Outf, Adv}
 use Rattle.journal_text.specs.declared.link.Task.{Task}
-use Rattle.journal_text.specs.declared.link.Task.TheVariants.{Del, Fin}
+use Rattle.journal_text.specs.declared.link.Task.TheVariants.{Del, Fin, Rdel}
 use Rattle.policy_rules.specs.Ranges.{AreRules}
 use Rattle.event_text.specs.declared.event.Event.{Event}
 use Rattle.event_text.specs.declared.event.Event.TheVariants as events
-use Rattle.event_text.specs.Words.{is_host}
+use Rattle.event_text.specs.Words.{is_host, is_asked}
 
 -- a number from 1 of 32 bits
 pub record IsNumber (n : ℕ) : Type 0 where
@@ -36,31 +38,26 @@ pub record IsPrefix (p : Network) : Type 0 where
   pub masked : IsMasked 32 p
   pub fits : p.address < 2 ^ 32
 
--- `in.K`, `peer.K.S` or `filt.K`
-abbrev pub IsPeerLink : Link → Type 0
-IsPeerLink (In k) = IsNumber k
-IsPeerLink (Peer k s) = IsNumber k × IsNumber s
-IsPeerLink (Filt k) = IsNumber k
-IsPeerLink (Res k) = ⊥
-IsPeerLink (Org proto) = ⊥
-IsPeerLink (Lost proto n) = ⊥
-IsPeerLink Low = ⊥
-IsPeerLink Dyn = ⊥
-IsPeerLink Int = ⊥
-IsPeerLink Red = ⊥
-IsPeerLink Best = ⊥
-IsPeerLink ReadRib = ⊥
-IsPeerLink Ebgp = ⊥
-IsPeerLink Ibgp = ⊥
-IsPeerLink Ext = ⊥
-IsPeerLink Fib = ⊥
-IsPeerLink (Read j s) = ⊥
-IsPeerLink (Outf j s) = ⊥
-IsPeerLink (Adv j s) = ⊥
+-- a gateway, if there is one
+abbrev pub IsGateway : Option ℕ → Type 0
+IsGateway None = Unit {0}
+IsGateway (Some addr) = addr < 2 ^ 32
+
+-- a gateway and a metric of 32 bits, and the name of an interface
+pub record IsInterior (row : Interior) : Type 0 where
+  pub gateway : IsGateway row.gateway
+  pub name : is_iface_name row.iface ≡ true
+  pub metric : row.metric < 2 ^ 32
+
+-- a link that events may name, its numbers from 1 and of 32 bits
+pub record IsAsked (link : Link) : Type 0 where
+  pub asked : is_asked link ≡ true
+  pub numbers : IsNamed link
 
 abbrev pub IsTask : Task → Type 0
 IsTask (Del k s) = IsNumber k × IsNumber s
 IsTask (Fin k) = IsNumber k
+IsTask (Rdel proto n) = IsNumber n
 
 -- its numbers, words, octets, prefix, link and task are what the grammar says
 abbrev pub IsWellFormed : Event → Type 0
@@ -71,7 +68,11 @@ IsWellFormed (events.Up k) = IsNumber k
 IsWellFormed (events.Down k) = IsNumber k
 IsWellFormed (events.Bgp k octets) = IsNumber k × IsMessage octets
 IsWellFormed (events.FilterIn k rules) = IsNumber k × AreRules false rules
+IsWellFormed (events.RouteAdd p row) = IsPrefix p × IsInterior row
+IsWellFormed (events.RouteDel proto p) = IsPrefix p
+IsWellFormed (events.Lose proto) = Unit {0}
+IsWellFormed (events.Cover addr) = addr < 2 ^ 32
 IsWellFormed events.Idle = Unit {0}
 IsWellFormed (events.Work task n) = IsTask task × (n < 2 ^ 32)
-IsWellFormed (events.Ask link p) = IsPeerLink link × IsPrefix p
-IsWellFormed (events.Show link) = IsPeerLink link
+IsWellFormed (events.Ask link p) = IsAsked link × IsPrefix p
+IsWellFormed (events.Show link) = IsAsked link

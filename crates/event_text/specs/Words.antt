@@ -1,15 +1,17 @@
 -- What single words of a line say.
-use Rattle.std.specs.Prelude.{ℕ, Bool, not, ◌&&◌, ◌||◌, if◌then◌else◌, List, [], ◌∷◌, length, nat_le, ◌==◌, ◌/◌, Option, Some, None, codes}
+use Rattle.std.specs.Prelude.{ℕ, Bool, true, false, not, ◌&&◌, ◌||◌, if◌then◌else◌, List, [], ◌∷◌, length, nat_le, ◌==◌, ◌/◌, Option, Some, None, codes}
 use Rattle.std.specs.Result.{result_ok}
 use Rattle.std.specs.Str.{bytes_eq}
 use Rattle.std.specs.List.{list_all}
 use Rattle.hex.specs.Hex.{decode_of}
-use Rattle.addr4.specs.Texts.{number_of, number_below, addr_of, parts}
+use Rattle.addr4.specs.Texts.{number_of, number_below, addr_of}
 use Rattle.bgp_attr.specs.declared.speaker.Speaker.{Speaker}
+use Rattle.rib_route.specs.Ifaces.{iface_of}
+use Rattle.rib_route.specs.declared.Proto.{Proto}
+use Rattle.rib_route.specs.declared.rows.Interior.{Interior}
+use Rattle.journal_text.specs.Names.{link_of as link_named}
 use Rattle.journal_text.specs.declared.link.Link.{Link}
-use Rattle.journal_text.specs.declared.link.Link.TheVariants.{In, Peer, Filt}
-use Rattle.journal_text.specs.declared.link.Task.{Task}
-use Rattle.journal_text.specs.declared.link.Task.TheVariants.{Del, Fin}
+use Rattle.journal_text.specs.declared.link.Link.TheVariants.{In, Peer, Filt, Res, Org, Lost, Low, Dyn, Int, Red, Best, ReadRib, Ebgp, Ibgp, Ext, Fib, Read, Outf, Adv}
 use Rattle.policy_rules.specs.Words.{◌>>=◌}
 
 -- at most 16,384 bytes, all from 32 to 126
@@ -21,13 +23,6 @@ unfoldable pub from_one : List ℕ → Option ℕ
 from_one word = do
   n ← number_of word
   if n == 0 then None else Some n
-
--- two numbers from 1
-unfoldable pub two_from_one : List ℕ → List ℕ → Option (ℕ × ℕ)
-two_from_one k s = do
-  a ← from_one k
-  b ← from_one s
-  Some (a, b)
 
 -- a host may have the address: its first octet is from 1 to 223, but not 127
 abbrev pub is_host : ℕ → Bool
@@ -48,25 +43,51 @@ octets_of digits = do
   octets ← result_ok (decode_of digits)
   if length octets == 0 then None else Some octets
 
--- `in.K` or `filt.K`
-abbrev pub link_named : List ℕ → ℕ → Option Link
-link_named name n =
-    if bytes_eq name (codes "in") then Some (In n) else if bytes_eq name (codes "filt") then Some (Filt n) else None
+-- an interface and a metric, behind `direct` or the gateway
+unfoldable pub way_out : Proto → Option ℕ → List (List ℕ) → Option Interior
+way_out proto gateway (name ∷ metric ∷ []) = do
+  i ← iface_of name
+  m ← number_of metric
+  Some (record { proto = proto; gateway = gateway; iface = i; metric = m })
+way_out proto gateway other = None
 
--- `in.K`, `filt.K` or `peer.K.S`
-abbrev pub link_from : List (List ℕ) → Option Link
-link_from (name ∷ k ∷ []) = from_one k >>= link_named name
-link_from (name ∷ k ∷ s ∷ []) = if bytes_eq name (codes "peer") then (two_from_one k s >>= λ n. Some (Peer n.0 n.1)) else None
-link_from other = None
+-- `GATEWAY IF METRIC`
+unfoldable pub way_over : Proto → List (List ℕ) → Option Interior
+way_over proto [] = None
+way_over proto (gateway ∷ ws) = addr_of gateway >>= λ g. way_out proto (Some g) ws
 
+-- `direct IF METRIC` or `via GATEWAY IF METRIC`
+unfoldable pub interior_of : Proto → List (List ℕ) → Option Interior
+interior_of proto [] = None
+interior_of proto (way ∷ ws) =
+    if bytes_eq way (codes "direct") then way_out proto None ws
+    else if bytes_eq way (codes "via") then way_over proto ws
+    else None
+
+-- events may name the link: those from the peers to behind the incoming filters, and those of the interior routes
+abbrev pub is_asked : Link → Bool
+is_asked (In k) = true
+is_asked (Peer k s) = true
+is_asked (Filt k) = true
+is_asked (Res k) = false
+is_asked (Org proto) = true
+is_asked (Lost proto n) = true
+is_asked Low = true
+is_asked Dyn = true
+is_asked Int = true
+is_asked Red = false
+is_asked Best = false
+is_asked ReadRib = false
+is_asked Ebgp = false
+is_asked Ibgp = false
+is_asked Ext = false
+is_asked Fib = true
+is_asked (Read j s) = false
+is_asked (Outf j s) = false
+is_asked (Adv j s) = false
+
+-- the link of a name, if events may name it
 unfoldable pub link_of : List ℕ → Option Link
-link_of word = link_from (parts 46 word)
-
--- `del.K.S` or `fin.K`
-abbrev pub task_from : List (List ℕ) → Option Task
-task_from (name ∷ k ∷ []) = if bytes_eq name (codes "fin") then (from_one k >>= λ n. Some (Fin n)) else None
-task_from (name ∷ k ∷ s ∷ []) = if bytes_eq name (codes "del") then (two_from_one k s >>= λ n. Some (Del n.0 n.1)) else None
-task_from other = None
-
-unfoldable pub task_of : List ℕ → Option Task
-task_of word = task_from (parts 46 word)
+link_of word = do
+  link ← link_named word
+  if is_asked link then Some link else None

@@ -4,15 +4,13 @@ ghost use Rattle.std.specs.Prelude.{◌≡◌, ◌==◌, ◌≤◌, map, Option,
 ghost use Rattle.std.specs.List.{All};
 ghost use Rattle.event_text.specs.declared.event.Event.{Event};
 ghost use Rattle.event_text.specs.declared.event.Event.TheVariants as events;
-ghost use Rattle.event_text.specs.Declarations.{no_declaration, refusal, peer_at, with_speaker, with_peer, with_session, without_session, IsDeclaration, IsCounted, begun_at, ended_at, has_addr, is_taken, is_internal, session_refusal, rules_refusal, undeclared, refusal_by, refusal_first};
+ghost use Rattle.event_text.specs.Declarations.{no_declaration, refusal, peer_at, with_speaker, with_peer, with_session, without_session, IsDeclaration, IsCounted, begun_at, ended_at, has_addr, is_taken, is_internal, session_refusal, rules_refusal, undeclared, task_refusal, link_refusal, refusal_by, refusal_first};
 ghost use Rattle.event_text.specs.WellFormed.{IsWellFormed};
-ghost use Rattle.journal_text.specs.Links.{owner_of, proto_number};
 
 use crate::event::Event;
 use addr4::{Addr, Memory};
 use bgp_attr::{Neighbour, Speaker};
 use journal_text::{Code, Link, Task};
-use rib_route::Proto;
 use std::alloc::Global;
 use std::marker::Model;
 
@@ -242,15 +240,31 @@ fn peer_refusal(local: Speaker, peers: &[DeclaredPeer], number: u32, words: Spea
     if number <= 64 { None } else { Some(Code::E6) }
 }
 
-/// Whose link it is.
-fn owner(link: Link) -> u32
-    ensures { result ≡ owner_of link }
+/// E5 where the task is a peer's that isn't declared.
+fn task_refusal(task: Task, peers: &[DeclaredPeer]) -> Option<Code>
+    ensures { result ≡ task_refusal task peers.now }
+{
+    match task {
+        Task::Del(peer, _) | Task::Fin(peer) => undeclared(peer_of(peers, peer)),
+        Task::Rdel(_, _) => None,
+    }
+}
+
+/// E5 where the link is a peer's that isn't declared.
+fn link_refusal(link: Link, peers: &[DeclaredPeer]) -> Option<Code>
+    ensures { result ≡ link_refusal link peers.now }
 {
     match link {
-        Link::In(k) | Link::Peer(k, _) | Link::Filt(k) | Link::Res(k) => k,
-        Link::Org(proto) | Link::Lost(proto, _) => proto_number(proto),
-        Link::Read(j, _) | Link::Outf(j, _) | Link::Adv(j, _) => j,
-        Link::Low
+        Link::In(peer)
+        | Link::Peer(peer, _)
+        | Link::Filt(peer)
+        | Link::Res(peer)
+        | Link::Read(peer, _)
+        | Link::Outf(peer, _)
+        | Link::Adv(peer, _) => undeclared(peer_of(peers, peer)),
+        Link::Org(_)
+        | Link::Lost(_, _)
+        | Link::Low
         | Link::Dyn
         | Link::Int
         | Link::Red
@@ -259,18 +273,7 @@ fn owner(link: Link) -> u32
         | Link::Ebgp
         | Link::Ibgp
         | Link::Ext
-        | Link::Fib => 0,
-    }
-}
-
-fn proto_number(proto: Proto) -> u32
-    ensures { result ≡ proto_number proto }
-{
-    match proto {
-        Proto::Connected => 0,
-        Proto::Static => 1,
-        Proto::Ospf => 2,
-        Proto::Rip => 3,
+        | Link::Fib => None,
     }
 }
 
@@ -289,17 +292,21 @@ fn refusal_by(local: Speaker, peers: &[DeclaredPeer], event: &Event) -> Option<C
     ensures { result ≡ refusal_by local peers.now event.now }
 {
     match event {
-        Event::Nothing | Event::Idle => None,
+        Event::Nothing
+        | Event::RouteAdd(_, _)
+        | Event::RouteDel(_, _)
+        | Event::Lose(_)
+        | Event::Cover(_)
+        | Event::Idle => None,
         Event::Local(_) => Some(Code::E3),
         Event::Peer(number, words) => peer_refusal(local, peers, *number, *words),
         Event::Up(number) => session_refusal(peer_of(peers, *number)),
         Event::Down(number) => undeclared(peer_of(peers, *number)),
         Event::Bgp(number, _) => undeclared(peer_of(peers, *number)),
         Event::FilterIn(number, rules) => rules_refusal(rules.len(), peer_of(peers, *number)),
-        Event::Work(Task::Del(number, _), _) => undeclared(peer_of(peers, *number)),
-        Event::Work(Task::Fin(number), _) => undeclared(peer_of(peers, *number)),
-        Event::Ask(link, _) => undeclared(peer_of(peers, owner(*link))),
-        Event::Show(link) => undeclared(peer_of(peers, owner(*link))),
+        Event::Work(task, _) => task_refusal(*task, peers),
+        Event::Ask(link, _) => link_refusal(*link, peers),
+        Event::Show(link) => link_refusal(*link, peers),
     }
 }
 

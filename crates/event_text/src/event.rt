@@ -1,9 +1,10 @@
 //! Events.
 
-use addr4::Prefix;
+use addr4::{Addr, Prefix};
 use bgp_attr::{Octets, Speaker};
 use journal_text::{Link, Task};
 use policy_rules::Rules;
+use rib_route::{Interior, Proto};
 
 /// One event of an event file. K is a peer's number, from 1.
 #[derive(Drop)]
@@ -22,6 +23,15 @@ pub enum Event {
     Bgp(u32, Octets),
     /// `filter in K RULES`: the peer's incoming filter has these rules from now on.
     FilterIn(u32, Rules),
+    /// `route add PROTO PREFIX direct IF METRIC`, or `via GATEWAY` in the place of `direct`: the protocol's route at the prefix is
+    /// this one from now on.
+    RouteAdd(Prefix, Interior),
+    /// `route del PROTO PREFIX`: the protocol has no route at the prefix any more.
+    RouteDel(Proto, Prefix),
+    /// `lost PROTO`: the protocol is lost, and its routes with it.
+    Lose(Proto),
+    /// `cover ADDR`: which interior route holds the address, and for which subnet that answer holds.
+    Cover(Addr),
     /// `idle`
     Idle,
     /// `work TASK N`

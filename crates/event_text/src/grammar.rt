@@ -2,14 +2,14 @@
 
 ghost use Rattle.std.specs.Prelude.{◌≡◌, IfOk};
 ghost use Rattle.policy_rules.specs.Words.{words};
-ghost use Rattle.event_text.specs.Events.{local_of, peer_of, one_number, bgp_of, filter_of, work_of, ask_of, show_of, plain_event, named_event, event_of, read_event};
+ghost use Rattle.event_text.specs.Events.{local_of, peer_of, one_number, bgp_of, filter_of, route_add_of, route_del_of, route_of, lost_of, cover_of, interior_event, work_of, ask_of, show_of, plain_event, named_event, event_of, read_event};
 ghost use Rattle.event_text.specs.WellFormed.{IsWellFormed};
 
 use crate::event::Event;
-use crate::words::{from_one, is_clean, is_end, link, octets, speaker, task};
-use addr4::{Memory, read_number, read_prefix};
+use crate::words::{from_one, interior, is_clean, is_end, link, octets, protocol, speaker};
+use addr4::{Memory, read_addr, read_number, read_prefix};
 use bgp_attr::Profile;
-use journal_text::Code;
+use journal_text::{Code, Task};
 use policy_rules::{first_word, read_rules};
 use std::alloc::Global;
 
@@ -136,7 +136,7 @@ fn filter(alloc: Global, rest: &[u8]) -> Result<Option<Event>, Memory>
     }
 }
 
-/// The events `up`, `down`, `idle`, `work`, `ask` and `show`.
+/// The events `up`, `down`, `idle`, `work`, `ask` and `show`, and those of the interior routes.
 #[tactic(auto, unfolding(crate::specs::Events::plain_event))]
 fn plain_event(word: &[u8], rest: &[u8]) -> Option<Event>
     ensures { result ≡ plain_event word.now (words rest.now) }
@@ -163,7 +163,93 @@ fn plain_event(word: &[u8], rest: &[u8]) -> Option<Event>
     if word == b"show".as_slice() {
         return show(rest);
     }
+    interior_event(word, rest)
+}
+
+/// The events `route`, `lost` and `cover`.
+#[tactic(auto, unfolding(crate::specs::Events::interior_event))]
+fn interior_event(word: &[u8], rest: &[u8]) -> Option<Event>
+    ensures { result ≡ interior_event word.now (words rest.now) }
+{
+    if word == b"route".as_slice() {
+        return route(rest);
+    }
+    if word == b"lost".as_slice() {
+        return lost(rest);
+    }
+    if word == b"cover".as_slice() {
+        return cover(rest);
+    }
     None
+}
+
+/// What follows `route`.
+#[tactic(auto, unfolding(crate::specs::Events::route_of))]
+fn route(rest: &[u8]) -> Option<Event>
+    ensures { result ≡ route_of (words rest.now) }
+{
+    let (word, rest) = first_word(rest)?;
+    if word == b"add".as_slice() {
+        return route_add(rest);
+    }
+    if word == b"del".as_slice() {
+        return route_del(rest);
+    }
+    None
+}
+
+/// What follows `route add`.
+#[tactic(auto, unfolding(crate::specs::Events::route_add_of))]
+fn route_add(rest: &[u8]) -> Option<Event>
+    ensures { result ≡ route_add_of (words rest.now) }
+{
+    let (name, rest) = first_word(rest)?;
+    let (prefix, rest) = first_word(rest)?;
+    let proto = protocol(name)?;
+    let prefix = read_prefix(prefix).ok()?;
+    let row = interior(proto, rest)?;
+    Some(Event::RouteAdd(prefix, row))
+}
+
+/// What follows `route del`.
+#[tactic(auto, using(crate::proofs::WordLemmas::no_word_behind_route), unfolding(crate::specs::Events::route_del_of))]
+fn route_del(rest: &[u8]) -> Option<Event>
+    ensures { result ≡ route_del_of (words rest.now) }
+{
+    let (name, rest) = first_word(rest)?;
+    let (prefix, rest) = first_word(rest)?;
+    if !is_end(rest) {
+        return None;
+    }
+    let proto = protocol(name)?;
+    let prefix = read_prefix(prefix).ok()?;
+    Some(Event::RouteDel(proto, prefix))
+}
+
+/// What follows `lost`.
+#[tactic(auto, using(crate::proofs::WordLemmas::no_word_behind_protocol), unfolding(crate::specs::Events::lost_of))]
+fn lost(rest: &[u8]) -> Option<Event>
+    ensures { result ≡ lost_of (words rest.now) }
+{
+    let (name, rest) = first_word(rest)?;
+    if !is_end(rest) {
+        return None;
+    }
+    let proto = protocol(name)?;
+    Some(Event::Lose(proto))
+}
+
+/// What follows `cover`.
+#[tactic(auto, using(crate::proofs::WordLemmas::no_word_behind_addr), unfolding(crate::specs::Events::cover_of))]
+fn cover(rest: &[u8]) -> Option<Event>
+    ensures { result ≡ cover_of (words rest.now) }
+{
+    let (addr, rest) = first_word(rest)?;
+    if !is_end(rest) {
+        return None;
+    }
+    let addr = read_addr(addr).ok()?;
+    Some(Event::Cover(addr))
 }
 
 /// The one word is a peer's number.
@@ -188,7 +274,7 @@ fn work(rest: &[u8]) -> Option<Event>
     if !is_end(rest) {
         return None;
     }
-    let task = task(name)?;
+    let task = Task::read(name)?;
     let turns = read_number(turns)?;
     Some(Event::Work(task, turns))
 }

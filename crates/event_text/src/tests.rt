@@ -1,10 +1,26 @@
 //! Lines with what they say, and events in a row with the code of each that is refused.
 
 use super::*;
-use addr4::Memory;
+use addr4::{Memory, Prefix};
 use journal_text::Code;
+use rib_route::Interior;
 use std::alloc::Global;
 use std::test::Fail;
+
+/// A short text of an interior route: its gateway as a number.
+fn shown_route(alloc: Global, p: Prefix, row: &Interior) -> Result<String, Fail> {
+    let iface = std::str::from_utf8(row.iface.as_slice())
+        .ok()
+        .ok_or("no text")?;
+    let gateway = row.gateway.map(|gateway| gateway.number());
+    Ok(format!(in alloc;
+        "route {:?} {:08x} {} {gateway:?} {iface} {}",
+        row.proto,
+        p.address().number(),
+        p.length(),
+        row.metric
+    )?)
+}
 
 /// A short text of what a line says: addresses as eight hex digits.
 fn shown(alloc: Global, answer: &Result<Event, Code>) -> Result<String, Fail> {
@@ -30,6 +46,14 @@ fn shown(alloc: Global, answer: &Result<Event, Code>) -> Result<String, Fail> {
         Event::Down(k) => format!(in alloc; "down {k}")?,
         Event::Bgp(k, octets) => format!(in alloc; "bgp {k} {:?}", octets.as_slice())?,
         Event::FilterIn(k, rules) => format!(in alloc; "filter {k} {}", rules.len())?,
+        Event::RouteAdd(p, row) => shown_route(alloc, *p, row)?,
+        Event::RouteDel(proto, p) => format!(in alloc;
+            "del {proto:?} {:08x} {}",
+            p.address().number(),
+            p.length()
+        )?,
+        Event::Lose(proto) => format!(in alloc; "lost {proto:?}")?,
+        Event::Cover(addr) => format!(in alloc; "cover {:08x}", addr.number())?,
         Event::Idle => format!(in alloc; "idle")?,
         Event::Work(task, n) => format!(in alloc; "work {task:?} {n}")?,
         Event::Ask(link, p) => format!(in alloc;
@@ -118,6 +142,52 @@ fn lines_say(rt: HostRuntime) -> Result<(), Fail> {
     Ok(())
 }
 
+#[test]
+fn interior_lines_say(rt: HostRuntime) -> Result<(), Fail> {
+    let alloc = rt.alloc();
+    let table = [
+        (
+            "route add static 10.1.2.3/8 direct eth0 7",
+            "route Static 0a000000 8 None eth0 7",
+        ),
+        (
+            "route add ospf 10.0.0.0/8 via 192.0.2.9 a.b-c_d 4294967295",
+            "route Ospf 0a000000 8 Some(3221225993) a.b-c_d 4294967295",
+        ),
+        (
+            "route add rip 0.0.0.0/0 direct abcdefghijklmno 0",
+            "route Rip 00000000 0 None abcdefghijklmno 0",
+        ),
+        ("route add rip 0.0.0.0/0 direct abcdefghijklmnop 0", "E2"),
+        ("route add rip 0.0.0.0/0 direct Eth0 0", "E2"),
+        ("route add rip 0.0.0.0/0 direct 0", "E2"),
+        ("route add rip 0.0.0.0/0 direct eth0 4294967296", "E2"),
+        ("route add rip 0.0.0.0/0 direct eth0 0 0", "E2"),
+        ("route add rip 0.0.0.0/0 via eth0 0", "E2"),
+        ("route add bgp 0.0.0.0/0 direct eth0 0", "E2"),
+        (
+            "route del connected 10.1.2.3/16",
+            "del Connected 0a010000 16",
+        ),
+        ("route del rip", "E2"),
+        ("lost rip", "lost Rip"),
+        ("lost", "E2"),
+        ("cover 9.9.9.9", "cover 09090909"),
+        ("cover 9.9.9.9/32", "E2"),
+        ("work rdel.ospf.2 3", "work Rdel(Ospf, 2) 3"),
+        ("work rdel.rip.0 3", "E2"),
+        ("show org.rip.1", "show Lost(Rip, 1)"),
+        ("show org.bgp", "E2"),
+        ("show fib", "show Fib"),
+    ];
+    for (line, want) in table {
+        let answer = parse(alloc, line.as_bytes())?;
+        let text = shown(alloc, &answer)?;
+        assert_eq!(rt; text.as_str(), want, "at {line}");
+    }
+    Ok(())
+}
+
 /// Reads an event, and does it unless it is refused.
 fn refused(alloc: Global, line: &str, declared: &mut Declared) -> Result<Option<Code>, Memory> {
     let event = match parse(alloc, line.as_bytes())? {
@@ -145,6 +215,7 @@ fn events_are_refused_in_order(rt: HostRuntime) -> Result<(), Fail> {
         ("peer 65 65001 192.0.2.1 192.0.2.1", Some(Code::E4)),
         ("up 300", Some(Code::E4)),
         ("filter in 1 any accept", Some(Code::E4)),
+        ("cover 9.9.9.9", Some(Code::E4)),
         ("idle", Some(Code::E4)),
         ("# local", None),
         ("local 65000 192.0.2.254 192.0.2.254", None),
@@ -161,6 +232,9 @@ fn events_are_refused_in_order(rt: HostRuntime) -> Result<(), Fail> {
         ("work fin.2 1", Some(Code::E5)),
         ("ask filt.2 10.1.0.0/16", Some(Code::E5)),
         ("filter in 2", Some(Code::E5)),
+        ("route del rip 10.0.0.0/8", None),
+        ("show org.rip.2", None),
+        ("work rdel.rip.2 1", None),
         ("down 64", None),
     ];
     for (line, want) in table {

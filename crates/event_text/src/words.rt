@@ -1,15 +1,17 @@
 //! What single words of a line say.
 
-ghost use Rattle.std.specs.Prelude.{◌≡◌, ◌&&◌, ◌==◌, nat_le, length, option_map, IfOk};
+ghost use Rattle.std.specs.Prelude.{◌≡◌, ◌&&◌, ◌==◌, nat_le, length, IfOk};
 ghost use Rattle.std.specs.List.{list_all};
+ghost use Rattle.journal_text.specs.Names.{proto_of};
 ghost use Rattle.policy_rules.specs.Words.{words};
-ghost use Rattle.event_text.specs.Words.{is_clean, from_one, two_from_one, is_host, speaker_of, octets_of, link_named, link_of, task_of};
+ghost use Rattle.event_text.specs.Words.{is_clean, from_one, is_host, speaker_of, octets_of, way_out, way_over, interior_of, is_asked, link_of};
 
-use addr4::{Addr, Memory, first_part, read_addr, read_number, read_number_below};
+use addr4::{Addr, Memory, read_addr, read_number, read_number_below};
 use bgp_attr::{Octets, Speaker};
 use hex::FromHexError;
-use journal_text::{Link, Task};
+use journal_text::Link;
 use policy_rules::first_word;
+use rib_route::{Iface, Interior, Proto};
 use std::alloc::Global;
 
 /// At most 16,384 bytes, all printable ASCII.
@@ -40,15 +42,6 @@ pub fn from_one(word: &[u8]) -> Option<u32>
 {
     let number = read_number(word)?;
     if number == 0 { None } else { Some(number) }
-}
-
-#[tactic(auto, unfolding(crate::specs::Words::two_from_one))]
-fn two_from_one(first: &[u8], second: &[u8]) -> Option<(u32, u32)>
-    ensures { option_map (λ n. (n.0, n.1)) result ≡ two_from_one first.now second.now }
-{
-    let first = from_one(first)?;
-    let second = from_one(second)?;
-    Some((first, second))
 }
 
 /// Whether a host may have the address.
@@ -96,60 +89,101 @@ pub fn octets(alloc: Global, digits: &[u8]) -> Result<Option<Octets>, Memory>
     }
 }
 
-/// The link `in.K` or `filt.K`.
-fn link_named(name: &[u8], peer: u32) -> Option<Link>
-    ensures { result ≡ link_named name.now peer }
+/// The protocol of a word.
+#[tactic(auto, using(crate::proofs::WordLemmas::protocol_is))]
+pub fn protocol(word: &[u8]) -> Option<Proto>
+    ensures { result ≡ proto_of word.now }
 {
-    if name == b"in".as_slice() {
-        return Some(Link::In(peer));
+    if word == b"connected".as_slice() {
+        Some(Proto::Connected)
+    } else if word == b"static".as_slice() {
+        Some(Proto::Static)
+    } else if word == b"ospf".as_slice() {
+        Some(Proto::Ospf)
+    } else if word == b"rip".as_slice() {
+        Some(Proto::Rip)
+    } else {
+        None
     }
-    if name == b"filt".as_slice() {
-        return Some(Link::Filt(peer));
+}
+
+/// The words `IF METRIC`, and no other.
+#[tactic(auto, using(crate::proofs::WordLemmas::no_word_behind_metric), unfolding(crate::specs::Words::way_out))]
+fn way_out(proto: Proto, gateway: Option<Addr>, rest: &[u8]) -> Option<Interior>
+    ensures { result ≡ way_out proto gateway (words rest.now) }
+{
+    let (name, rest) = first_word(rest)?;
+    let (metric, rest) = first_word(rest)?;
+    if !is_end(rest) {
+        return None;
+    }
+    let iface = Iface::read(name)?;
+    let metric = read_number(metric)?;
+    Some(Interior {
+        proto,
+        gateway,
+        iface,
+        metric,
+    })
+}
+
+/// The words `GATEWAY IF METRIC`, and no other.
+#[tactic(auto, unfolding(crate::specs::Words::way_over))]
+fn way_over(proto: Proto, rest: &[u8]) -> Option<Interior>
+    ensures { result ≡ way_over proto (words rest.now) }
+{
+    let (gateway, rest) = first_word(rest)?;
+    let gateway = read_addr(gateway).ok()?;
+    way_out(proto, Some(gateway), rest)
+}
+
+/// The words `direct IF METRIC` or `via GATEWAY IF METRIC`, and no other.
+#[tactic(auto, unfolding(crate::specs::Words::interior_of))]
+pub fn interior(proto: Proto, rest: &[u8]) -> Option<Interior>
+    ensures { result ≡ interior_of proto (words rest.now) }
+{
+    let (way, rest) = first_word(rest)?;
+    if way == b"direct".as_slice() {
+        return way_out(proto, None, rest);
+    }
+    if way == b"via".as_slice() {
+        return way_over(proto, rest);
     }
     None
 }
 
-/// The link `in.K`, `filt.K` or `peer.K.S`.
-#[tactic(auto, using(crate::proofs::WordLemmas::no_fourth_in_link), unfolding(crate::specs::Words::link_of))]
+/// Whether events may name the link.
+fn is_asked(link: Link) -> bool
+    ensures { result ≡ is_asked link }
+{
+    match link {
+        Link::In(_)
+        | Link::Peer(_, _)
+        | Link::Filt(_)
+        | Link::Org(_)
+        | Link::Lost(_, _)
+        | Link::Low
+        | Link::Dyn
+        | Link::Int
+        | Link::Fib => true,
+        Link::Res(_)
+        | Link::Red
+        | Link::Best
+        | Link::ReadRib
+        | Link::Ebgp
+        | Link::Ibgp
+        | Link::Ext
+        | Link::Read(_, _)
+        | Link::Outf(_, _)
+        | Link::Adv(_, _) => false,
+    }
+}
+
+/// The link of a name, if events may name it.
+#[tactic(auto, unfolding(crate::specs::Words::link_of))]
 pub fn link(word: &[u8]) -> Option<Link>
     ensures { result ≡ link_of word.now }
 {
-    let (name, rest) = first_part(word, b'.');
-    let (peer, rest) = first_part(rest?, b'.');
-    let Some(rest) = rest else {
-        return link_named(name, from_one(peer)?);
-    };
-    let (session, more) = first_part(rest, b'.');
-    if let Some(_more) = more {
-        return None;
-    }
-    if name == b"peer".as_slice() {
-        let (peer, session) = two_from_one(peer, session)?;
-        return Some(Link::Peer(peer, session));
-    }
-    None
-}
-
-/// The task `fin.K` or `del.K.S`.
-#[tactic(auto, using(crate::proofs::WordLemmas::no_fourth_in_task), unfolding(crate::specs::Words::task_of))]
-pub fn task(word: &[u8]) -> Option<Task>
-    ensures { result ≡ task_of word.now }
-{
-    let (name, rest) = first_part(word, b'.');
-    let (peer, rest) = first_part(rest?, b'.');
-    let Some(rest) = rest else {
-        if name == b"fin".as_slice() {
-            return Some(Task::Fin(from_one(peer)?));
-        }
-        return None;
-    };
-    let (session, more) = first_part(rest, b'.');
-    if let Some(_more) = more {
-        return None;
-    }
-    if name == b"del".as_slice() {
-        let (peer, session) = two_from_one(peer, session)?;
-        return Some(Task::Del(peer, session));
-    }
-    None
+    let link = Link::read(word)?;
+    if is_asked(link) { Some(link) } else { None }
 }

@@ -15,7 +15,7 @@ use Rattle.journal_text.specs.declared.entry.Entry.{Entry}
 use Rattle.journal_text.specs.Journals.{Journaled, with_entries}
 use Rattle.journal_text.specs.Walk.{change_entries}
 use Rattle.journal_text.proofs.JournalLemmas.{with_entries_append}
-use Rattle.in_chain.specs.Falls.{IsWhole, IsCut, GoesDown}
+use Rattle.journal_text.specs.Falls.{IsWhole, IsCut, GoesDown}
 use Rattle.in_chain.specs.Steps.{filter_entries}
 use Rattle.in_chain.specs.Parts.{sent_entries}
 

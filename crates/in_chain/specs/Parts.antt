@@ -19,7 +19,8 @@ use Rattle.journal_text.specs.declared.entry.Entry.{Entry}
 use Rattle.journal_text.specs.Walk.{Links, with_link, Leads}
 use Rattle.journal_text.specs.Journals.{attrs_rows, Journaled, Adds, attrs_change}
 use Rattle.in_chain.specs.Incomings.{Incoming, rows_below, in_rows, AreAllApart}
-use Rattle.in_chain.specs.Falls.{GoesDown, way_from}
+use Rattle.journal_text.specs.Falls.{GoesDown}
+use Rattle.in_chain.specs.Falls.{way_from}
 use Rattle.in_chain.specs.IncomingSteps.{table_of, swept_incoming}
 
 -- the links of a part, beside other links

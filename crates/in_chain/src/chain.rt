@@ -212,6 +212,7 @@ impl Chain {
                 }
                 self.walk(journal)
             }
+            Task::Rdel(_, _) => Ok(Turn::Nothing),
         }
     }
 

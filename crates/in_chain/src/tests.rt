@@ -132,6 +132,7 @@ fn number_at(chain: &Chain, link: Link, p: Prefix) -> Result<Option<u32>, Memory
         None => Ok(None),
         Some(Value::Attrs(attrs)) => Ok(attrs.attrs().med),
         Some(Value::Route(route)) => Ok(Some(route.pref)),
+        Some(Value::Interior(_) | Value::External(_) | Value::FibRow(_)) => Ok(None),
     }
 }
 

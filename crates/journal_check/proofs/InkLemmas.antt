@@ -56,7 +56,7 @@ AreInk text = AllByRecursion IsInk text
 abbrev pub inky : ℕ → Bool
 inky b = nat_le 33 b && nat_le b 126
 
-both_true : (a b : Bool) → (a && b) ≡ true → (a ≡ true) × (b ≡ true)
+pub both_true : (a b : Bool) → (a && b) ≡ true → (a ≡ true) × (b ≡ true)
 both_true true b e = (refl, e)
 both_true false b e = absurd (cc)
 

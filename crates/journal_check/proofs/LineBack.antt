@@ -20,11 +20,17 @@ use Rattle.bgp_attr.specs.declared.unrecognized.Unrecognized.{Unrecognized}
 use Rattle.bgp_attr.specs.declared.attrs.Attrs.{Attrs}
 use Rattle.bgp_attr.specs.declared.route.Route.{Route}
 use Rattle.rib_route.specs.declared.Proto.{Proto}
-use Rattle.rib_route.specs.declared.Proto.TheVariants.{Connected, Static, Ospf, Rip}
+use Rattle.rib_route.specs.declared.protocol.FibProto.{FibProto}
+use Rattle.rib_route.specs.declared.protocol.FibProto.TheVariants.{Connected, Static, Ospf, Rip, Ebgp, Ibgp}
+use Rattle.rib_route.specs.declared.rows.Interior.{Interior}
+use Rattle.rib_route.specs.declared.rows.External.{External}
+use Rattle.rib_route.specs.declared.rows.FibRow.{FibRow}
+use Rattle.rib_route.specs.Distances.{fib_proto, external_proto}
+use Rattle.rib_route.specs.Ifaces.{is_name_byte, is_iface_name}
 use Rattle.journal_text.specs.Names.{IsNameNumber, IsNamed, link_of}
-use Rattle.journal_text.specs.Texts.{origin_number, bracketed, segment_text, path_text, lettered, aggregator_text, unrecognized_text, required_text, optional_text, attrs_text, sender_number, field_text, known_text, route_text, value_text, proto_text, dot_number, link_text, words_line, answer_text, entry_words, code_text, line_words, line_text}
+use Rattle.journal_text.specs.Texts.{origin_number, bracketed, segment_text, path_text, lettered, aggregator_text, unrecognized_text, required_text, optional_text, attrs_text, sender_number, field_text, known_text, route_text, fib_proto_text, proto_text, gateway_text, with_colons, interior_text, external_text, fib_text, value_text, match_text, dot_number, link_text, words_line, answer_text, entry_words, code_text, line_words, line_text}
 use Rattle.journal_text.specs.declared.link.Link.{Link}
-use Rattle.journal_text.specs.declared.link.Link.TheVariants.{In, Peer, Filt, Res, Org, Lost, Low, Dyn, Int, Red, Best, ReadRib, Ebgp, Ibgp, Ext, Fib, Read as ReadLink, Outf, Adv}
+use Rattle.journal_text.specs.declared.link.Link.TheVariants.{In, Peer, Filt, Res, Org, Lost, Low, Dyn, Int, Red, Best, ReadRib, Ebgp as EbgpLink, Ibgp as IbgpLink, Ext, Fib, Read as ReadLink, Outf, Adv}
 use Rattle.journal_text.specs.declared.value.Value.{Value}
 use Rattle.journal_text.specs.declared.value.Value.TheVariants as values
 use Rattle.journal_text.specs.declared.entry.Entry.{Entry}
@@ -32,13 +38,13 @@ use Rattle.journal_text.specs.declared.entry.Entry.TheVariants.{Begin, Inherit, 
 use Rattle.journal_text.specs.declared.line.Code.{Code}
 use Rattle.journal_text.specs.declared.line.Code.TheVariants.{E1, E2, E3, E4, E5, E6}
 use Rattle.journal_text.specs.declared.line.Line.{Line}
-use Rattle.journal_text.specs.declared.line.Line.TheVariants.{Journal, Note, Row, Rows, Work, Bound, Idle, Ignored, Absent, Refused}
+use Rattle.journal_text.specs.declared.line.Line.TheVariants.{Journal, Note, Row, Rows, Cover, Work, Bound, Idle, Ignored, Absent, Refused}
 use Rattle.journal_text.proofs.ReadBack.{link_back}
 use Rattle.journal_check.specs.declared.reading.Reading.{Reading}
 use Rattle.journal_check.specs.declared.reading.Reading.TheVariants.{Skipped, Read, NotALine}
 use Rattle.journal_check.specs.Readings.{TextEntry, ◌>>=◌, is_clean, printed_prefix, value_of, answer_of, entry_of_two, entry_on_two, entry_of_three, entry_on_row, entry_of_four, entry_of_five, entry_from, is_skipped, read_or_not, reading_from, reading_of}
-use Rattle.journal_check.specs.Laws.{IsPrefix, IsNumberIfAny, HasNumbers, HasNumber, HasOctets, HasRanges, HasRouteRanges, IsValue, IsAnswer, IsEntry, IsLine, texts_of, said, PrintedLinesAreReadBack}
-use Rattle.journal_check.proofs.InkLemmas.{IsInk, AreInk, digit_range, all_append, all_flat, inky, ink_by, ink_decimal, ink_wide, ink_dotted, ink_hex, printable, words_parted, line_passes}
+use Rattle.journal_check.specs.Laws.{IsPrefix, IsNumberIfAny, HasNumbers, HasNumber, HasOctets, HasRanges, HasRouteRanges, IsValue, IsAnswer, IsMatch, IsEntry, IsLine, texts_of, said, PrintedLinesAreReadBack}
+use Rattle.journal_check.proofs.InkLemmas.{IsInk, AreInk, digit_range, all_append, all_flat, inky, both_true, ink_by, ink_decimal, ink_wide, ink_dotted, ink_hex, printable, words_parted, line_passes}
 use Rattle.journal_check.proofs.PrefixBack.{ink_addr, ink_prefix, printed_back}
 
 -- ---- the words have no space
@@ -58,11 +64,16 @@ one_number word n w h = both word (dot_number n) w (dot_ink n h)
 two_numbers : (word : List ℕ) (k s : ℕ) → AreInk word → IsNameNumber k × IsNameNumber s → AreInk (word ++ dot_number k ++ dot_number s)
 two_numbers word k s w h = both (word ++ dot_number k) (dot_number s) (one_number word k w h.0) (dot_ink s h.1)
 
+fib_proto_ink : (proto : FibProto) → AreInk (fib_proto_text proto)
+fib_proto_ink Connected = ink_by (fib_proto_text Connected) refl
+fib_proto_ink Static = ink_by (fib_proto_text Static) refl
+fib_proto_ink Ospf = ink_by (fib_proto_text Ospf) refl
+fib_proto_ink Rip = ink_by (fib_proto_text Rip) refl
+fib_proto_ink Ebgp = ink_by (fib_proto_text Ebgp) refl
+fib_proto_ink Ibgp = ink_by (fib_proto_text Ibgp) refl
+
 proto_ink : (proto : Proto) → AreInk (codes "org." ++ proto_text proto)
-proto_ink Connected = ink_by (codes "org." ++ proto_text Connected) refl
-proto_ink Static = ink_by (codes "org." ++ proto_text Static) refl
-proto_ink Ospf = ink_by (codes "org." ++ proto_text Ospf) refl
-proto_ink Rip = ink_by (codes "org." ++ proto_text Rip) refl
+proto_ink proto = both (codes "org.") (proto_text proto) (ink_by (codes "org.") refl) (fib_proto_ink (fib_proto proto))
 
 link_ink : (link : Link) → IsNamed link → AreInk (link_text link)
 unfolding link_text
@@ -78,8 +89,8 @@ link_ink Int h = ink_by (codes "int") refl
 link_ink Red h = ink_by (codes "red") refl
 link_ink Best h = ink_by (codes "best") refl
 link_ink ReadRib h = ink_by (codes "read.rib") refl
-link_ink Ebgp h = ink_by (codes "ebgp") refl
-link_ink Ibgp h = ink_by (codes "ibgp") refl
+link_ink EbgpLink h = ink_by (codes "ebgp") refl
+link_ink IbgpLink h = ink_by (codes "ibgp") refl
 link_ink Ext h = ink_by (codes "ext") refl
 link_ink Fib h = ink_by (codes "fib") refl
 link_ink (ReadLink j s) h = two_numbers (codes "read") j s (ink_by (codes "read") refl) h
@@ -171,9 +182,44 @@ route_ink r h =
     let igp = both (field_text (sender_number r.from) ++ field_text r.pref ++ known_text r.med ++ field_text r.prepend) (known_text r.igp) prepend (known_ink r.igp h.igp) in
     both (field_text (sender_number r.from) ++ field_text r.pref ++ known_text r.med ++ field_text r.prepend ++ known_text r.igp) (attrs_text r.attrs) igp (attrs_ink r.attrs h.attrs)
 
+colons_ink : (word : List ℕ) (words : List (List ℕ)) → AllByRecursion AreInk (word ∷ words) → AreInk (with_colons (word ∷ words))
+colons_ink word [] h = h.0
+colons_ink word (next ∷ words) h = both word (58 ∷ with_colons (next ∷ words)) h.0 (ink 58 refl (with_colons (next ∷ words)) (colons_ink next words h.1))
+
+name_byte_ink : (b : ℕ) → is_name_byte b ≡ true → IsInk b
+name_byte_ink b e = (grind (arith, nat_tests), grind (arith, nat_tests))
+
+name_bytes_ink : (name : List ℕ) → list_all is_name_byte name ≡ true → AreInk name
+name_bytes_ink [] e = tt
+name_bytes_ink (b ∷ name) e = let t = both_true (is_name_byte b) (list_all is_name_byte name) e in (name_byte_ink b t.0, name_bytes_ink name t.1)
+
+iface_ink : (name : List ℕ) → is_iface_name name ≡ true → AreInk name
+iface_ink name e = name_bytes_ink name (both_true (nat_le 1 (length name) && nat_le (length name) 15) (list_all is_name_byte name) e).1
+
+gateway_ink : (gateway : Option ℕ) → AreInk (gateway_text gateway)
+gateway_ink None = ink_by (codes "direct") refl
+gateway_ink (Some addr) = ink_addr addr
+
+interior_ink : (r : Interior) → is_iface_name r.iface ≡ true → r.metric < 2 ^ 32 → AreInk (interior_text r)
+unfolding interior_text
+interior_ink r name small =
+    colons_ink (proto_text r.proto) (gateway_text r.gateway ∷ r.iface ∷ decimal r.metric ∷ [])
+    (fib_proto_ink (fib_proto r.proto), (gateway_ink r.gateway, (iface_ink r.iface name, (ink_decimal r.metric (omega arith), tt))))
+
+external_ink : (r : External) → AreInk (external_text r)
+unfolding external_text
+external_ink r = colons_ink (fib_proto_text (external_proto r)) (addr_text r.next_hop ∷ []) (fib_proto_ink (external_proto r), (ink_addr r.next_hop, tt))
+
+fib_ink : (r : FibRow) → is_iface_name r.iface ≡ true → AreInk (fib_text r)
+unfolding fib_text
+fib_ink r name = colons_ink (fib_proto_text r.proto) (gateway_text r.gateway ∷ r.iface ∷ []) (fib_proto_ink r.proto, (gateway_ink r.gateway, (iface_ink r.iface name, tt)))
+
 value_ink : (value : Value) → IsValue value → AreInk (value_text value)
 value_ink (values.Attrs a) h = attrs_ink a h
 value_ink (values.Route r) h = route_ink r h
+value_ink (values.Interior r) h = interior_ink r h.0 h.1
+value_ink (values.External r) h = external_ink r
+value_ink (values.FibRow r) h = fib_ink r h
 
 answer_ink : (row : Option Value) → IsAnswer row → AreInk (answer_text row)
 answer_ink None h = ink_by (codes "-") refl
@@ -213,9 +259,36 @@ route_begins r h =
     let igp = front_begins (field_text (sender_number r.from) ++ field_text r.pref ++ known_text r.med ++ field_text r.prepend) (known_text r.igp) prepend in
     front_begins (field_text (sender_number r.from) ++ field_text r.pref ++ known_text r.med ++ field_text r.prepend ++ known_text r.igp) (attrs_text r.attrs) igp
 
+proto_begins : (proto : FibProto) → Begins (fib_proto_text proto)
+proto_begins Connected = record { first = 99; others = _; parted = refl; no_dash = refl }
+proto_begins Static = record { first = 115; others = _; parted = refl; no_dash = refl }
+proto_begins Ospf = record { first = 111; others = _; parted = refl; no_dash = refl }
+proto_begins Rip = record { first = 114; others = _; parted = refl; no_dash = refl }
+proto_begins Ebgp = record { first = 101; others = _; parted = refl; no_dash = refl }
+proto_begins Ibgp = record { first = 105; others = _; parted = refl; no_dash = refl }
+
+-- the protocol, and more behind a colon
+row_begins : (proto : FibProto) (next : List ℕ) (words : List (List ℕ)) → Begins (with_colons (fib_proto_text proto ∷ next ∷ words))
+row_begins proto next words = front_begins (fib_proto_text proto) (58 ∷ with_colons (next ∷ words)) (proto_begins proto)
+
+interior_begins : (r : Interior) → Begins (interior_text r)
+unfolding interior_text
+interior_begins r = row_begins (fib_proto r.proto) (gateway_text r.gateway) (r.iface ∷ decimal r.metric ∷ [])
+
+external_begins : (r : External) → Begins (external_text r)
+unfolding external_text
+external_begins r = row_begins (external_proto r) (addr_text r.next_hop) []
+
+fib_begins : (r : FibRow) → Begins (fib_text r)
+unfolding fib_text
+fib_begins r = row_begins r.proto (gateway_text r.gateway) (r.iface ∷ [])
+
 value_begins : (value : Value) → IsValue value → Begins (value_text value)
 value_begins (values.Attrs a) h = attrs_begin a
 value_begins (values.Route r) h = route_begins r h
+value_begins (values.Interior r) h = interior_begins r
+value_begins (values.External r) h = external_begins r
+value_begins (values.FibRow r) h = fib_begins r
 
 not_dash : (first : ℕ) (rest : List ℕ) → nat_eq first 45 ≡ false → bytes_eq (first ∷ rest) (codes "-") ≡ false
 not_dash first rest e = ap (λ b. b && bytes_eq rest []) e
@@ -336,6 +409,10 @@ entry_has (Asked link p row) h =
 entry_has (Weld upper lower) h = has_entry (codes "w") (link_text upper ∷ link_text lower ∷ []) (Weld upper lower) refl refl (links_ink upper lower h) (entry_back (Weld upper lower) h)
 entry_has (End link) h = has_entry (codes "e") (link_text link ∷ []) (End link) refl refl (link_ink link h, tt) (entry_back (End link) h)
 
+match_ink : (found : Option Network) → IsMatch found → AreInk (match_text found)
+match_ink None h = ink_by (codes "-") refl
+match_ink (Some p) h = ink_prefix p h
+
 code_ink : (code : Code) → AreInk (code_text code)
 code_ink E1 = ink_by (code_text E1) refl
 code_ink E2 = ink_by (code_text E2) refl
@@ -350,6 +427,7 @@ line_has (Journal entry) h = entry_has entry h
 line_has (Note k octets) h = let small = h.0 in has_skipped (codes "note") (decimal k ∷ encode_lower octets ∷ []) refl refl (ink_decimal k (omega arith), (ink_hex octets h.1, tt))
 line_has (Row link p value) h = has_skipped (codes "row") (link_text link ∷ prefix_text p ∷ value_text value ∷ []) refl refl (row_ink link p value h)
 line_has (Rows link count) h = has_skipped (codes "rows") (link_text link ∷ decimal count ∷ []) refl refl (link_ink link h.0, (ink_wide count h.1, tt))
+line_has (Cover addr found subnet) h = has_skipped (codes "cover") (addr_text addr ∷ match_text found ∷ prefix_text subnet ∷ []) refl refl (ink_addr addr, (match_ink found h.1, (ink_prefix subnet h.2, tt)))
 line_has (Work turns) h = has_skipped (codes "work") (decimal turns ∷ []) refl refl (ink_wide turns h, tt)
 line_has (Bound turns) h = has_skipped (codes "bound") (decimal turns ∷ []) refl refl (ink_wide turns h, tt)
 line_has (Idle turns) h = has_skipped (codes "idle") (decimal turns ∷ []) refl refl (ink_wide turns h, tt)

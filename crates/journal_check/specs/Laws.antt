@@ -1,5 +1,5 @@
 -- Laws of the judge: printed lines are read back, and there is one answer.
-use Rattle.std.specs.Prelude.{◌≡◌, ℕ, ◌^◌, ◌<◌, ◌≤◌, List, [], ◌∷◌, ◌++◌, length, Option, Some, None, option_map}
+use Rattle.std.specs.Prelude.{◌≡◌, ℕ, ◌^◌, ◌<◌, ◌≤◌, true, List, [], ◌∷◌, ◌++◌, length, Option, Some, None, option_map}
 use Rattle.std.specs.List.{AllByRecursion}
 use Rattle.addr4.specs.Prefixes.{Network, IsMasked}
 use Rattle.bgp_attr.specs.declared.path.Segment.{Segment}
@@ -7,6 +7,7 @@ use Rattle.bgp_attr.specs.declared.attrs.Aggregator.{Aggregator}
 use Rattle.bgp_attr.specs.declared.unrecognized.Unrecognized.{Unrecognized}
 use Rattle.bgp_attr.specs.declared.attrs.Attrs.{Attrs}
 use Rattle.bgp_attr.specs.declared.route.Route.{Route}
+use Rattle.rib_route.specs.Ifaces.{is_iface_name}
 use Rattle.journal_text.specs.Names.{IsNamed}
 use Rattle.journal_text.specs.Texts.{sender_number, value_text, line_text}
 use Rattle.journal_text.specs.declared.value.Value.{Value}
@@ -14,7 +15,7 @@ use Rattle.journal_text.specs.declared.value.Value.TheVariants as values
 use Rattle.journal_text.specs.declared.entry.Entry.{Entry}
 use Rattle.journal_text.specs.declared.entry.Entry.TheVariants.{Begin, Inherit, Add, Delete, Replace, Asked, Weld, End}
 use Rattle.journal_text.specs.declared.line.Line.{Line}
-use Rattle.journal_text.specs.declared.line.Line.TheVariants.{Journal, Note, Row, Rows, Work, Bound, Idle, Ignored, Absent, Refused}
+use Rattle.journal_text.specs.declared.line.Line.TheVariants.{Journal, Note, Row, Rows, Cover, Work, Bound, Idle, Ignored, Absent, Refused}
 use Rattle.journal_check.specs.Readings.{TextEntry, reading_of}
 use Rattle.journal_check.specs.Judged.{IsChecked}
 use Rattle.journal_check.specs.declared.checked.Checked.{Checked}
@@ -62,6 +63,9 @@ pub record HasRouteRanges (r : Route) : Type 0 where
 abbrev pub IsValue : Value → Type 0
 IsValue (values.Attrs a) = HasRanges a
 IsValue (values.Route r) = HasRouteRanges r
+IsValue (values.Interior r) = (is_iface_name r.iface ≡ true) × (r.metric < 2 ^ 32)
+IsValue (values.External r) = Unit {0}
+IsValue (values.FibRow r) = is_iface_name r.iface ≡ true
 
 abbrev pub IsAnswer : Option Value → Type 0
 IsAnswer None = Unit {0}
@@ -78,12 +82,17 @@ IsEntry (Asked link p row) = IsNamed link × IsPrefix p × IsAnswer row
 IsEntry (Weld upper lower) = IsNamed upper × IsNamed lower
 IsEntry (End link) = IsNamed link
 
+abbrev pub IsMatch : Option Network → Type 0
+IsMatch None = Unit {0}
+IsMatch (Some p) = IsPrefix p
+
 -- a line that the program can print
 abbrev pub IsLine : Line → Type 0
 IsLine (Journal entry) = IsEntry entry
 IsLine (Note k octets) = (k < 2 ^ 32) × AreOctets octets
 IsLine (Row link p value) = IsNamed link × IsPrefix p × IsValue value
 IsLine (Rows link count) = IsNamed link × (count < 2 ^ 128)
+IsLine (Cover addr found subnet) = (addr < 2 ^ 32) × IsMatch found × IsPrefix subnet
 IsLine (Work turns) = turns < 2 ^ 128
 IsLine (Bound turns) = turns < 2 ^ 128
 IsLine (Idle turns) = turns < 2 ^ 128
@@ -110,6 +119,7 @@ said (Journal entry) = Read (texts_of entry)
 said (Note k octets) = Skipped
 said (Row link p value) = Skipped
 said (Rows link count) = Skipped
+said (Cover addr found subnet) = Skipped
 said (Work turns) = Skipped
 said (Bound turns) = Skipped
 said (Idle turns) = Skipped

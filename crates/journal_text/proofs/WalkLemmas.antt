@@ -5,6 +5,9 @@ use Rattle.addr4.specs.Prefixes.{Network, prefix_cmp}
 use Rattle.std.specs.Ordering.{eq_by_cmp}
 use Rattle.bgp_attr.specs.declared.attrs.Attrs.{Attrs}
 use Rattle.bgp_attr.specs.declared.route.Route.{Route}
+use Rattle.rib_route.specs.declared.rows.Interior.{Interior}
+use Rattle.rib_route.specs.declared.rows.External.{External}
+use Rattle.rib_route.specs.declared.rows.FibRow.{FibRow}
 use Rattle.link_change.specs.Rows.{Rows, no_rows, with_row}
 use Rattle.link_change.specs.Changes.{IsSent}
 use Rattle.link_change.specs.declared.change.Change.{Change}
@@ -16,7 +19,7 @@ use Rattle.journal_text.specs.declared.value.Value.{Value}
 use Rattle.journal_text.specs.declared.value.Value.TheVariants as values
 use Rattle.journal_text.specs.Links.{same_link}
 use Rattle.journal_text.specs.Walk.{Links, with_link, after, IsLawful, fold_links, Leads, change_entries}
-use Rattle.journal_text.specs.Journals.{attrs_rows, attrs_change, route_rows, route_change}
+use Rattle.journal_text.specs.Journals.{attrs_rows, attrs_change, route_rows, route_change, interior_rows, interior_change, external_rows, external_change, fib_rows, fib_change}
 use Rattle.journal_text.proofs.LinkLemmas.{same_link-refl, same_link-yes, same_link-no}
 
 swap_cond : {A : Type 0} (p r : Bool) (x y z : A) → (p ≡ true → r ≡ true → ⊥) → cond r y (cond p x z) ≡ cond p x (cond r y z)
@@ -143,3 +146,24 @@ change_leads = values_lead (λ a. values.Attrs a) one_of_attrs
 pub route_change_leads : (links : Links Value) (link : Link) (old new : Rows Route) (p : Network) (change : Change Route) → links link ≡ Some (route_rows old) → IsSent old new p (Some change)
     → Leads links (route_change link change) (with_link links link (Some (route_rows new)))
 route_change_leads = values_lead (λ r. values.Route r) one_of_route
+
+one_of_interior : (a b : Interior) → values.Interior a ≡ values.Interior b → a ≡ b
+one_of_interior a b e = cc
+
+pub interior_change_leads : (links : Links Value) (link : Link) (old new : Rows Interior) (p : Network) (change : Change Interior) → links link ≡ Some (interior_rows old) → IsSent old new p (Some change)
+    → Leads links (interior_change link change) (with_link links link (Some (interior_rows new)))
+interior_change_leads = values_lead (λ r. values.Interior r) one_of_interior
+
+one_of_external : (a b : External) → values.External a ≡ values.External b → a ≡ b
+one_of_external a b e = cc
+
+pub external_change_leads : (links : Links Value) (link : Link) (old new : Rows External) (p : Network) (change : Change External) → links link ≡ Some (external_rows old) → IsSent old new p (Some change)
+    → Leads links (external_change link change) (with_link links link (Some (external_rows new)))
+external_change_leads = values_lead (λ r. values.External r) one_of_external
+
+one_of_fib : (a b : FibRow) → values.FibRow a ≡ values.FibRow b → a ≡ b
+one_of_fib a b e = cc
+
+pub fib_change_leads : (links : Links Value) (link : Link) (old new : Rows FibRow) (p : Network) (change : Change FibRow) → links link ≡ Some (fib_rows old) → IsSent old new p (Some change)
+    → Leads links (fib_change link change) (with_link links link (Some (fib_rows new)))
+fib_change_leads = values_lead (λ r. values.FibRow r) one_of_fib

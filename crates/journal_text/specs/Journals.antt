@@ -3,6 +3,9 @@ use Rattle.std.specs.Prelude.{◌≡◌, ℕ, Bool, List, [], ◌++◌, map, opt
 use Rattle.std.specs.Coded.{Coded, code_by, coded×, coded_ℕ, coded_bool, coded_list}
 use Rattle.bgp_attr.specs.declared.attrs.Attrs.{Attrs}
 use Rattle.bgp_attr.specs.declared.route.Route.{Route}
+use Rattle.rib_route.specs.declared.rows.Interior.{Interior}
+use Rattle.rib_route.specs.declared.rows.External.{External}
+use Rattle.rib_route.specs.declared.rows.FibRow.{FibRow}
 use Rattle.link_change.specs.Rows.{Rows}
 use Rattle.link_change.specs.declared.change.Change.{Change}
 use Rattle.journal_text.specs.Walk.{change_entries}
@@ -56,3 +59,27 @@ route_change link change = change_entries link change.prefix (option_map (λ r. 
 -- rows of routes, as values
 abbrev pub route_rows : Rows Route → Rows Value
 route_rows rows q = option_map (λ r. values.Route r) (rows q)
+
+-- the entry of a change of interior routes on a link
+abbrev pub interior_change : Link → Change Interior → List (Entry Value)
+interior_change link change = change_entries link change.prefix (option_map (λ r. values.Interior r) change.before) (option_map (λ r. values.Interior r) change.after)
+
+-- rows of interior routes, as values
+abbrev pub interior_rows : Rows Interior → Rows Value
+interior_rows rows q = option_map (λ r. values.Interior r) (rows q)
+
+-- the entry of a change of external routes on a link
+abbrev pub external_change : Link → Change External → List (Entry Value)
+external_change link change = change_entries link change.prefix (option_map (λ r. values.External r) change.before) (option_map (λ r. values.External r) change.after)
+
+-- rows of external routes, as values
+abbrev pub external_rows : Rows External → Rows Value
+external_rows rows q = option_map (λ r. values.External r) (rows q)
+
+-- the entry of a change of forwarding rows on a link
+abbrev pub fib_change : Link → Change FibRow → List (Entry Value)
+fib_change link change = change_entries link change.prefix (option_map (λ r. values.FibRow r) change.before) (option_map (λ r. values.FibRow r) change.after)
+
+-- rows of forwarding rows, as values
+abbrev pub fib_rows : Rows FibRow → Rows Value
+fib_rows rows q = option_map (λ r. values.FibRow r) (rows q)

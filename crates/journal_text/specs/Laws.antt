@@ -3,6 +3,9 @@ use Rattle.std.specs.Prelude.{◌≡◌, ℕ, true, false, List, ◌++◌, Optio
 use Rattle.addr4.specs.Prefixes.{Network}
 use Rattle.bgp_attr.specs.declared.attrs.Attrs.{Attrs}
 use Rattle.bgp_attr.specs.declared.route.Route.{Route}
+use Rattle.rib_route.specs.declared.rows.Interior.{Interior}
+use Rattle.rib_route.specs.declared.rows.External.{External}
+use Rattle.rib_route.specs.declared.rows.FibRow.{FibRow}
 use Rattle.link_change.specs.Rows.{Rows}
 use Rattle.link_change.specs.Changes.{IsSent}
 use Rattle.link_change.specs.declared.change.Change.{Change}
@@ -10,7 +13,7 @@ use Rattle.journal_text.specs.Links.{same_link}
 use Rattle.journal_text.specs.Names.{IsNamed, link_of}
 use Rattle.journal_text.specs.Texts.{link_text, entries_of}
 use Rattle.journal_text.specs.Walk.{Links, with_link, Leads}
-use Rattle.journal_text.specs.Journals.{Journaled, attrs_rows, attrs_change, route_rows, route_change, with_entries}
+use Rattle.journal_text.specs.Journals.{Journaled, attrs_rows, attrs_change, route_rows, route_change, interior_rows, interior_change, external_rows, external_change, fib_rows, fib_change, with_entries}
 use Rattle.journal_text.specs.declared.link.Link.{Link}
 use Rattle.journal_text.specs.declared.entry.Entry.{Entry}
 use Rattle.journal_text.specs.declared.value.Value.{Value}
@@ -42,6 +45,27 @@ RouteChangesLead =
     (links : Links Value) (link : Link) (old new : Rows Route) (p : Network) (change : Change Route)
     → links link ≡ Some (route_rows old) → IsSent old new p (Some change)
     → Leads links (route_change link change) (with_link links link (Some (route_rows new)))
+
+-- The same of a change of interior routes.
+abbrev pub InteriorChangesLead : Type 0
+InteriorChangesLead =
+    (links : Links Value) (link : Link) (old new : Rows Interior) (p : Network) (change : Change Interior)
+    → links link ≡ Some (interior_rows old) → IsSent old new p (Some change)
+    → Leads links (interior_change link change) (with_link links link (Some (interior_rows new)))
+
+-- The same of a change of external routes.
+abbrev pub ExternalChangesLead : Type 0
+ExternalChangesLead =
+    (links : Links Value) (link : Link) (old new : Rows External) (p : Network) (change : Change External)
+    → links link ≡ Some (external_rows old) → IsSent old new p (Some change)
+    → Leads links (external_change link change) (with_link links link (Some (external_rows new)))
+
+-- The same of a change of forwarding rows.
+abbrev pub FibChangesLead : Type 0
+FibChangesLead =
+    (links : Links Value) (link : Link) (old new : Rows FibRow) (p : Network) (change : Change FibRow)
+    → links link ≡ Some (fib_rows old) → IsSent old new p (Some change)
+    → Leads links (fib_change link change) (with_link links link (Some (fib_rows new)))
 
 -- The name of a link is read back, where its numbers can stand in a name.
 abbrev pub LinksReadBack : Type 0

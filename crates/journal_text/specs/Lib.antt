@@ -4,3 +4,4 @@ pub mod Texts
 pub mod Journals
 pub mod Laws
 pub mod Names
+pub mod Falls

@@ -8,7 +8,7 @@ use Rattle.rib_route.specs.declared.Proto.TheVariants.{Connected, Static, Ospf, 
 use Rattle.journal_text.specs.declared.link.Link.{Link}
 use Rattle.journal_text.specs.declared.link.Link.TheVariants.{In, Peer, Filt, Res, Org, Lost, Low, Dyn, Int, Red, Best, ReadRib, Ebgp, Ibgp, Ext, Fib, Read, Outf, Adv}
 use Rattle.journal_text.specs.declared.link.Task.{Task}
-use Rattle.journal_text.specs.declared.link.Task.TheVariants.{Del, Fin}
+use Rattle.journal_text.specs.declared.link.Task.TheVariants.{Del, Fin, Rdel}
 
 -- the number, if it is not 0
 abbrev pub from_one : ℕ → Option ℕ
@@ -96,9 +96,12 @@ link_of text = link_from_parts (parts 46 text)
 unfoldable pub task_of_two : List ℕ → List ℕ → Option Task
 task_of_two w a = if bytes_eq w (codes "fin") then option_map (λ k. Fin k) (name_number a) else None
 
--- three words: `del`, a peer's number and a session's
+-- three words: `del`, a peer's number and a session's; or `rdel`, a protocol and the number of its loss
 unfoldable pub task_of_three : List ℕ → List ℕ → List ℕ → Option Task
-task_of_three w a b = if bytes_eq w (codes "del") then with_both (λ k s. Some (Del k s)) (name_number a) (name_number b) else None
+task_of_three w a b =
+    if bytes_eq w (codes "del") then with_both (λ k s. Some (Del k s)) (name_number a) (name_number b)
+    else if bytes_eq w (codes "rdel") then with_both (λ proto n. Some (Rdel proto n)) (proto_of a) (name_number b)
+    else None
 
 unfoldable pub task_from_parts : List (List ℕ) → Option Task
 task_from_parts (w ∷ a ∷ []) = task_of_two w a

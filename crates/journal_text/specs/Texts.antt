@@ -3,9 +3,15 @@ use Rattle.std.specs.Prelude.{ℕ, Bool, true, false, ◌&&◌, cond, List, [], 
 use Rattle.std.specs.List.{join_with_byte, flat_map}
 use Rattle.std.specs.Fmt.{decimal}
 use Rattle.hex.specs.Hex.{encode_lower}
+use Rattle.addr4.specs.Prefixes.{Network}
 use Rattle.addr4.specs.Texts.{addr_text, dotted, prefix_text}
 use Rattle.rib_route.specs.declared.Proto.{Proto}
-use Rattle.rib_route.specs.declared.Proto.TheVariants.{Connected, Static, Ospf, Rip}
+use Rattle.rib_route.specs.declared.protocol.FibProto.{FibProto}
+use Rattle.rib_route.specs.declared.protocol.FibProto.TheVariants as protocols
+use Rattle.rib_route.specs.declared.rows.Interior.{Interior}
+use Rattle.rib_route.specs.declared.rows.External.{External}
+use Rattle.rib_route.specs.declared.rows.FibRow.{FibRow}
+use Rattle.rib_route.specs.Distances.{fib_proto, external_proto}
 use Rattle.bgp_attr.specs.declared.path.SegmentKind.{SegmentKind}
 use Rattle.bgp_attr.specs.declared.path.SegmentKind.TheVariants.{Set, Sequence}
 use Rattle.bgp_attr.specs.declared.path.Segment.{Segment}
@@ -25,7 +31,7 @@ use Rattle.journal_text.specs.declared.entry.Entry.TheVariants.{Begin, Inherit, 
 use Rattle.journal_text.specs.declared.line.Code.{Code}
 use Rattle.journal_text.specs.declared.line.Code.TheVariants.{E1, E2, E3, E4, E5, E6}
 use Rattle.journal_text.specs.declared.line.Line.{Line}
-use Rattle.journal_text.specs.declared.line.Line.TheVariants.{Journal, Note, Row, Rows, Work, Bound, Idle, Ignored, Absent, Refused}
+use Rattle.journal_text.specs.declared.line.Line.TheVariants.{Journal, Note, Row, Rows, Cover, Work, Bound, Idle, Ignored, Absent, Refused}
 
 abbrev pub origin_number : Origin → ℕ
 origin_number Igp = 0
@@ -88,15 +94,44 @@ known_text (Some n) = field_text n
 unfoldable pub route_text : Route → List ℕ
 route_text r = field_text (sender_number r.from) ++ field_text r.pref ++ known_text r.med ++ field_text r.prepend ++ known_text r.igp ++ attrs_text r.attrs
 
+abbrev pub fib_proto_text : FibProto → List ℕ
+fib_proto_text protocols.Connected = codes "connected"
+fib_proto_text protocols.Static = codes "static"
+fib_proto_text protocols.Ospf = codes "ospf"
+fib_proto_text protocols.Rip = codes "rip"
+fib_proto_text protocols.Ebgp = codes "ebgp"
+fib_proto_text protocols.Ibgp = codes "ibgp"
+
+abbrev pub proto_text : Proto → List ℕ
+proto_text proto = fib_proto_text (fib_proto proto)
+
+-- an address, or `direct` where there is no gateway
+abbrev pub gateway_text : Option ℕ → List ℕ
+gateway_text None = codes "direct"
+gateway_text (Some addr) = addr_text addr
+
+-- words with a colon between them
+abbrev pub with_colons : List (List ℕ) → List ℕ
+with_colons words = join_with_byte 58 words
+
+-- protocol, gateway, interface and metric
+unfoldable pub interior_text : Interior → List ℕ
+interior_text r = with_colons (proto_text r.proto ∷ gateway_text r.gateway ∷ r.iface ∷ decimal r.metric ∷ [])
+
+-- `ebgp` or `ibgp`, and the next hop
+unfoldable pub external_text : External → List ℕ
+external_text r = with_colons (fib_proto_text (external_proto r) ∷ addr_text r.next_hop ∷ [])
+
+-- protocol, gateway and interface
+unfoldable pub fib_text : FibRow → List ℕ
+fib_text r = with_colons (fib_proto_text r.proto ∷ gateway_text r.gateway ∷ r.iface ∷ [])
+
 abbrev pub value_text : Value → List ℕ
 value_text (values.Attrs a) = attrs_text a
 value_text (values.Route r) = route_text r
-
-abbrev pub proto_text : Proto → List ℕ
-proto_text Connected = codes "connected"
-proto_text Static = codes "static"
-proto_text Ospf = codes "ospf"
-proto_text Rip = codes "rip"
+value_text (values.Interior r) = interior_text r
+value_text (values.External r) = external_text r
+value_text (values.FibRow r) = fib_text r
 
 -- a dot and a number
 abbrev pub dot_number : ℕ → List ℕ
@@ -143,6 +178,11 @@ entry_words (Asked link p row) = codes "?" ∷ link_text link ∷ prefix_text p 
 entry_words (Weld upper lower) = codes "w" ∷ link_text upper ∷ link_text lower ∷ []
 entry_words (End link) = codes "e" ∷ link_text link ∷ []
 
+-- a prefix, or `-` for none
+abbrev pub match_text : Option Network → List ℕ
+match_text None = codes "-"
+match_text (Some p) = prefix_text p
+
 abbrev pub code_text : Code → List ℕ
 code_text E1 = codes "E1"
 code_text E2 = codes "E2"
@@ -156,6 +196,7 @@ line_words (Journal entry) = entry_words entry
 line_words (Note k octets) = codes "note" ∷ decimal k ∷ encode_lower octets ∷ []
 line_words (Row link p value) = codes "row" ∷ link_text link ∷ prefix_text p ∷ value_text value ∷ []
 line_words (Rows link count) = codes "rows" ∷ link_text link ∷ decimal count ∷ []
+line_words (Cover addr found subnet) = codes "cover" ∷ addr_text addr ∷ match_text found ∷ prefix_text subnet ∷ []
 line_words (Work turns) = codes "work" ∷ decimal turns ∷ []
 line_words (Bound turns) = codes "bound" ∷ decimal turns ∷ []
 line_words (Idle turns) = codes "idle" ∷ decimal turns ∷ []
@@ -172,6 +213,7 @@ is_entry (Journal entry) = true
 is_entry (Note k octets) = false
 is_entry (Row link p value) = false
 is_entry (Rows link count) = false
+is_entry (Cover addr found subnet) = false
 is_entry (Work turns) = false
 is_entry (Bound turns) = false
 is_entry (Idle turns) = false
@@ -192,6 +234,7 @@ entry_list (Journal entry) = entry ∷ []
 entry_list (Note k octets) = []
 entry_list (Row link p value) = []
 entry_list (Rows link count) = []
+entry_list (Cover addr found subnet) = []
 entry_list (Work turns) = []
 entry_list (Bound turns) = []
 entry_list (Idle turns) = []

@@ -6,7 +6,7 @@ ghost use Rattle.journal_text.specs.declared.line.Line.TheVariants as lines;
 ghost use Rattle.journal_text.specs.declared.value.Value.TheVariants as values;
 ghost use Rattle.link_change.specs.declared.change.Change.{Change};
 ghost use Rattle.journal_text.specs.Walk.{change_entries};
-ghost use Rattle.journal_text.specs.Journals.{with_lines, with_entries, attrs_change, route_change, flushed};
+ghost use Rattle.journal_text.specs.Journals.{with_lines, with_entries, attrs_change, route_change, interior_change, external_change, fib_change, flushed};
 
 use crate::entry::Entry;
 use crate::line::Line;
@@ -16,6 +16,7 @@ use crate::value::Value;
 use addr4::{Memory, Prefix, Row};
 use bgp_attr::{Route, SharedAttrs};
 use link_change::Change;
+use rib_route::{External, FibRow, Interior};
 use std::alloc::Global;
 use std::marker::Model;
 
@@ -86,6 +87,41 @@ impl Journal {
         self.push_values(link, change.prefix, before, after)
     }
 
+    /// Appends the entry of a change of interior routes on a link.
+    pub fn push_interior_change(
+        &mut self,
+        link: Link,
+        change: &Change<Interior>,
+    ) -> Result<(), Memory>
+        ensures { OnOk result (self.new ≡ with_entries self.old (interior_change link change.now)) }
+    {
+        let before = interior_value(&change.before);
+        let after = interior_value(&change.after);
+        self.push_values(link, change.prefix, before, after)
+    }
+
+    /// Appends the entry of a change of external routes on a link.
+    pub fn push_external_change(
+        &mut self,
+        link: Link,
+        change: &Change<External>,
+    ) -> Result<(), Memory>
+        ensures { OnOk result (self.new ≡ with_entries self.old (external_change link change.now)) }
+    {
+        let before = external_value(&change.before);
+        let after = external_value(&change.after);
+        self.push_values(link, change.prefix, before, after)
+    }
+
+    /// Appends the entry of a change of forwarding rows on a link.
+    pub fn push_fib_change(&mut self, link: Link, change: &Change<FibRow>) -> Result<(), Memory>
+        ensures { OnOk result (self.new ≡ with_entries self.old (fib_change link change.now)) }
+    {
+        let before = fib_value(&change.before);
+        let after = fib_value(&change.after);
+        self.push_values(link, change.prefix, before, after)
+    }
+
     // Appends the entry of a change of values.
     fn push_values(
         &mut self,
@@ -147,5 +183,35 @@ fn route_value(row: &Option<Route>) -> Result<Option<Value>, Memory>
     match row {
         Some(route) => Ok(Some(Value::Route(route.copy()?))),
         None => Ok(None),
+    }
+}
+
+// The value of an interior route, if there is one.
+fn interior_value(row: &Option<Interior>) -> Option<Value>
+    ensures { result ≡ option_map (λ r. values.Interior r) row.now }
+{
+    match row {
+        Some(row) => Some(Value::Interior(*row)),
+        None => None,
+    }
+}
+
+// The value of an external route, if there is one.
+fn external_value(row: &Option<External>) -> Option<Value>
+    ensures { result ≡ option_map (λ r. values.External r) row.now }
+{
+    match row {
+        Some(row) => Some(Value::External(*row)),
+        None => None,
+    }
+}
+
+// The value of a forwarding row, if there is one.
+fn fib_value(row: &Option<FibRow>) -> Option<Value>
+    ensures { result ≡ option_map (λ r. values.FibRow r) row.now }
+{
+    match row {
+        Some(row) => Some(Value::FibRow(*row)),
+        None => None,
     }
 }

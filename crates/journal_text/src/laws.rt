@@ -2,7 +2,7 @@
 //! the law.
 
 ghost use Rattle.journal_text.specs.Walk.{LeadsOn};
-ghost use Rattle.journal_text.specs.Laws.{ChangesLead, EachLinkIsItself, LinksAreSetInEitherOrder, EntriesGrow, EntriesJoin, LinksReadBack, ReadLinksAreNamed, RouteChangesLead, SameLinksAreEqual};
+ghost use Rattle.journal_text.specs.Laws.{ChangesLead, EachLinkIsItself, LinksAreSetInEitherOrder, EntriesGrow, EntriesJoin, ExternalChangesLead, FibChangesLead, InteriorChangesLead, LinksReadBack, ReadLinksAreNamed, RouteChangesLead, SameLinksAreEqual};
 
 /// Each link is itself, and links that are the same are equal.
 pub fn same_links()
@@ -28,6 +28,21 @@ pub fn changes_lead()
 /// The entry of a lawful change of routes leads on.
 pub fn route_changes_lead()
     ensures { RouteChangesLead }
+{}
+
+/// The entry of a lawful change of interior routes leads on.
+pub fn interior_changes_lead()
+    ensures { InteriorChangesLead }
+{}
+
+/// The entry of a lawful change of external routes leads on.
+pub fn external_changes_lead()
+    ensures { ExternalChangesLead }
+{}
+
+/// The entry of a lawful change of forwarding rows leads on.
+pub fn fib_changes_lead()
+    ensures { FibChangesLead }
 {}
 
 /// The name of a link whose numbers are from 1 and below 2^32 is read back, so no two of them have one name.

@@ -3,7 +3,7 @@
 use crate::entry::Entry;
 use crate::link::Link;
 use crate::value::Value;
-use addr4::Prefix;
+use addr4::{Addr, Prefix};
 use bgp_attr::Octets;
 
 /// Why a line of the event file is refused.
@@ -33,6 +33,9 @@ pub enum Line {
     Row(Link, Prefix, Value),
     /// `rows LINK COUNT`: how many rows a link has that was shown.
     Rows(Link, u128),
+    /// `cover ADDR MATCH SUBNET`: the prefix of the longest interior route that holds the address, `-` where there is none,
+    /// and the largest subnet with that answer.
+    Cover(Addr, Option<Prefix>, Prefix),
     /// `work M`: how many turns `work` took.
     Work(u128),
     /// `bound B`: how many turns `idle` takes at most.

@@ -3,8 +3,8 @@
 ghost use Rattle.std.specs.Prelude.{◌≡◌, ◌++◌, ◌∷◌, [], OnOk, codes};
 ghost use Rattle.std.specs.Fmt.{decimal};
 ghost use Rattle.hex.specs.Hex.{encode_lower};
-ghost use Rattle.addr4.specs.Texts.{prefix_text};
-ghost use Rattle.journal_text.specs.Texts.{answer_text, code_text, entry_words, is_entry, line_text, link_text, text_of, value_text, words_line};
+ghost use Rattle.addr4.specs.Texts.{addr_text, prefix_text};
+ghost use Rattle.journal_text.specs.Texts.{answer_text, code_text, entry_words, is_entry, line_text, link_text, match_text, text_of, value_text, words_line};
 
 use crate::entry::Entry;
 use crate::line::{Code, Line};
@@ -12,7 +12,7 @@ use crate::link::Link;
 use crate::names::push_link;
 use crate::texts::{push_answer, push_text, push_value, push_wide};
 use crate::value::Value;
-use addr4::{Memory, Prefix, push_number, push_prefix};
+use addr4::{Addr, Memory, Prefix, push_addr, push_number, push_prefix};
 use std::alloc::Global;
 
 /// A word, a space, and a link.
@@ -160,6 +160,35 @@ fn push_rows(alloc: Global, out: &mut Vec<u8>, link: Link, count: u128) -> Resul
     Ok(())
 }
 
+/// A prefix, or `-` for none.
+fn push_match(out: &mut Vec<u8>, found: Option<Prefix>) -> Result<(), Memory>
+    ensures { OnOk result (out.new.items ≡ out.old.items ++ match_text found) }
+{
+    match found {
+        Some(prefix) => push_prefix(out, prefix),
+        None => push_text(out, b"-"),
+    }
+}
+
+/// `cover ADDR MATCH SUBNET`
+fn push_cover(
+    out: &mut Vec<u8>,
+    addr: Addr,
+    found: Option<Prefix>,
+    subnet: Prefix,
+) -> Result<(), Memory>
+    ensures { OnOk result (out.new.items ≡ out.old.items ++ words_line (codes "cover" ∷ addr_text addr ∷ match_text found ∷ prefix_text subnet ∷ [])) }
+{
+    push_text(out, b"cover ")?;
+    push_addr(out, addr)?;
+    out.push(b' ')?;
+    push_match(out, found)?;
+    out.push(b' ')?;
+    push_prefix(out, subnet)?;
+    out.push(b'\n')?;
+    Ok(())
+}
+
 /// The word of a code.
 fn code_word(code: Code) -> &'static [u8]
     ensures { result.now ≡ code_text code }
@@ -196,6 +225,7 @@ fn push_line(alloc: Global, out: &mut Vec<u8>, line: &Line) -> Result<(), Memory
         Line::Note(peer, octets) => push_note(alloc, out, *peer, octets.as_slice()),
         Line::Row(link, prefix, value) => push_row(alloc, out, b"row", *link, *prefix, value),
         Line::Rows(link, count) => push_rows(alloc, out, *link, *count),
+        Line::Cover(addr, found, subnet) => push_cover(out, *addr, *found, *subnet),
         Line::Work(turns) => push_count(alloc, out, b"work", *turns),
         Line::Bound(turns) => push_count(alloc, out, b"bound", *turns),
         Line::Idle(turns) => push_count(alloc, out, b"idle", *turns),

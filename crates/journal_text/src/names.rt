@@ -1,12 +1,12 @@
 //! The texts of links' names.
 
 ghost use Rattle.std.specs.Prelude.{◌≡◌, ◌++◌, ◌∷◌, [], OnOk, codes};
-ghost use Rattle.journal_text.specs.Texts.{dot_number, link_text, proto_text};
+ghost use Rattle.journal_text.specs.Texts.{dot_number, fib_proto_text, link_text, proto_text};
 
 use crate::link::Link;
 use crate::texts::push_text;
 use addr4::{Memory, push_number};
-use rib_route::Proto;
+use rib_route::{FibProto, Proto};
 
 /// A dot and a number.
 fn push_dot_number(out: &mut Vec<u8>, number: u32) -> Result<(), Memory>
@@ -34,15 +34,24 @@ fn push_session(out: &mut Vec<u8>, word: &[u8], peer: u32, session: u32) -> Resu
 }
 
 /// The word of a protocol.
-fn proto_word(proto: Proto) -> &'static [u8]
-    ensures { result.now ≡ proto_text proto }
+pub(crate) fn fib_proto_word(proto: FibProto) -> &'static [u8]
+    ensures { result.now ≡ fib_proto_text proto }
 {
     match proto {
-        Proto::Connected => b"connected",
-        Proto::Static => b"static",
-        Proto::Ospf => b"ospf",
-        Proto::Rip => b"rip",
+        FibProto::Connected => b"connected",
+        FibProto::Static => b"static",
+        FibProto::Ospf => b"ospf",
+        FibProto::Rip => b"rip",
+        FibProto::Ebgp => b"ebgp",
+        FibProto::Ibgp => b"ibgp",
     }
+}
+
+/// The word of an interior protocol.
+pub(crate) fn proto_word(proto: Proto) -> &'static [u8]
+    ensures { result.now ≡ proto_text proto }
+{
+    fib_proto_word(proto.fib_proto())
 }
 
 /// `org.PROTO`

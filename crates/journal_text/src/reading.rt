@@ -173,17 +173,22 @@ fn task_of_two(word: &[u8], part: &[u8]) -> Option<Task>
     Some(Task::Fin(peer))
 }
 
-/// `del.K.S`.
+/// `del.K.S`, `rdel.PROTO.N`.
 #[tactic(auto, unfolding(crate::specs::Names::task_of_three))]
 fn task_of_three(word: &[u8], part: &[u8], last: &[u8]) -> Option<Task>
     ensures { result ≡ task_of_three word.now part.now last.now }
 {
-    if word != b"del".as_slice() {
-        return None;
+    if word == b"del".as_slice() {
+        let peer = name_number(part)?;
+        let session = name_number(last)?;
+        Some(Task::Del(peer, session))
+    } else if word == b"rdel".as_slice() {
+        let proto = protocol(part)?;
+        let loss = name_number(last)?;
+        Some(Task::Rdel(proto, loss))
+    } else {
+        None
     }
-    let peer = name_number(part)?;
-    let session = name_number(last)?;
-    Some(Task::Del(peer, session))
 }
 
 /// The task of a name.

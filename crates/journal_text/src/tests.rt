@@ -7,20 +7,25 @@ use bgp_attr::{
     UnrecognizedAttrs,
 };
 use link_change::Change;
-use rib_route::Proto;
+use rib_route::{External, FibRow, Iface, Interior, Proto};
 use std::alloc::Global;
 use std::test::Fail;
 
 /// The journal's own lines.
 const ENTRIES: &str =
-    "b in.1\ni read.1.1 best\n+ in.1 10.1.0.0/16 o0,p(65001),n192.0.2.1\n= in.1 10.1.0.0/16 o0,p(65001),n192.0.2.1 o1,p(65001),n192.0.2.1\n- in.1 10.1.0.0/16 o1,p(65001),n192.0.2.1\n? in.1 10.1.0.0/16 -\nw peer.1.1 in.1\ne read.1.1\n= filt.1 10.1.0.0/16 1:100:-:0:-:o0,p(65001),n192.0.2.1 0:200:7:2:10:o0,p(65001),n192.0.2.1\n";
+    "b in.1\ni read.1.1 best\n+ in.1 10.1.0.0/16 o0,p(65001),n192.0.2.1\n= in.1 10.1.0.0/16 o0,p(65001),n192.0.2.1 o1,p(65001),n192.0.2.1\n- in.1 10.1.0.0/16 o1,p(65001),n192.0.2.1\n? in.1 10.1.0.0/16 -\nw peer.1.1 in.1\ne read.1.1\n= filt.1 10.1.0.0/16 1:100:-:0:-:o0,p(65001),n192.0.2.1 0:200:7:2:10:o0,p(65001),n192.0.2.1\n+ int 10.1.0.0/16 static:192.0.2.9:eth0:5\n- org.rip.2 10.1.0.0/16 rip:direct:eth1:7\n= ext 10.1.0.0/16 ibgp:192.0.2.1 ebgp:192.0.2.1\n= fib 10.1.0.0/16 static:192.0.2.9:eth0 rip:direct:eth1\n";
 
 /// The other lines.
 const OTHERS: &str =
-    "note 1 ffff\nrow in.1 10.1.0.0/16 o0,p(65001),n192.0.2.1\nrows in.1 1\nwork 1\nbound 51\nidle 2\nignored\nabsent\nrefused 2 E5\n";
+    "note 1 ffff\nrow in.1 10.1.0.0/16 o0,p(65001),n192.0.2.1\nrows in.1 1\ncover 10.1.2.3 10.1.0.0/16 10.1.0.0/16\ncover 9.9.9.9 - 0.0.0.0/1\nwork 1\nbound 51\nidle 2\nignored\nabsent\nrefused 2 E5\n";
 
 fn prefix() -> Result<Prefix, Fail> {
     Ok(read_prefix(b"10.1.0.0/16").ok().ok_or("no prefix")?)
+}
+
+/// The lower half of all addresses.
+fn half() -> Result<Prefix, Fail> {
+    Ok(read_prefix(b"0.0.0.0/1").ok().ok_or("no prefix")?)
 }
 
 /// The path (65001) and the next hop 192.0.2.1.
@@ -73,7 +78,59 @@ fn push_entries(alloc: Global, journal: &mut Journal) -> Result<(), Fail> {
     journal.push_entry(Entry::Weld(Link::Peer(1, 1), link))?;
     journal.push_entry(Entry::End(session))?;
     journal.push_route_change(Link::Filt(1), &route_change(alloc)?)?;
+    push_rib_entries(journal)
+}
+
+/// The entries of the interior, the external and the forwarding side.
+fn push_rib_entries(journal: &mut Journal) -> Result<(), Fail> {
+    let prefix = prefix()?;
+    let gateway = Some(Addr::new(0xc000_0209));
+    let far = interior(Proto::Static, gateway, b"eth0", 5)?;
+    let near = interior(Proto::Rip, None, b"eth1", 7)?;
+    journal.push_interior_change(Link::Int, &change(prefix, None, Some(far)))?;
+    journal.push_interior_change(Link::Lost(Proto::Rip, 2), &change(prefix, Some(near), None))?;
+    let before = Some(external(true));
+    journal.push_external_change(Link::Ext, &change(prefix, before, Some(external(false))))?;
+    let before = Some(forwarded(&far));
+    journal.push_fib_change(Link::Fib, &change(prefix, before, Some(forwarded(&near))))?;
     Ok(())
+}
+
+fn change<R: Row>(prefix: Prefix, before: Option<R>, after: Option<R>) -> Change<R> {
+    Change {
+        prefix,
+        before,
+        after,
+    }
+}
+
+fn interior(
+    proto: Proto,
+    gateway: Option<Addr>,
+    iface: &[u8],
+    metric: u32,
+) -> Result<Interior, Fail> {
+    Ok(Interior {
+        proto,
+        gateway,
+        iface: Iface::read(iface).ok_or("no name")?,
+        metric,
+    })
+}
+
+fn external(internal: bool) -> External {
+    External {
+        internal,
+        next_hop: Addr::new(0xc000_0201),
+    }
+}
+
+fn forwarded(row: &Interior) -> FibRow {
+    FibRow {
+        proto: row.proto.fib_proto(),
+        gateway: row.gateway,
+        iface: row.iface,
+    }
 }
 
 /// A peer's route becomes a local one, with every number set.
@@ -115,6 +172,9 @@ fn push_others(alloc: Global, journal: &mut Journal) -> Result<(), Fail> {
     journal.push_line(Line::Note(1, octets))?;
     journal.push_line(Line::Row(link, prefix()?, value))?;
     journal.push_line(Line::Rows(link, 1))?;
+    let prefix = prefix()?;
+    journal.push_line(Line::Cover(Addr::new(0x0a01_0203), Some(prefix), prefix))?;
+    journal.push_line(Line::Cover(Addr::new(0x0909_0909), None, half()?))?;
     journal.push_line(Line::Work(1))?;
     journal.push_line(Line::Bound(51))?;
     journal.push_line(Line::Idle(2))?;
@@ -180,4 +240,7 @@ fn names_of_links_are_read(rt: HostRuntime) {
     assert_eq!(rt; Task::read(b"del.0.1"), None);
     assert_eq!(rt; Task::read(b"fin.1"), Some(Task::Fin(1)));
     assert_eq!(rt; Task::read(b"fin.1.1"), None);
+    assert_eq!(rt; Task::read(b"rdel.rip.2"), Some(Task::Rdel(Proto::Rip, 2)));
+    assert_eq!(rt; Task::read(b"rdel.2.1"), None);
+    assert_eq!(rt; Task::read(b"rdel.rip.0"), None);
 }

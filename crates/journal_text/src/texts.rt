@@ -4,11 +4,13 @@ ghost use Rattle.std.specs.Prelude.{◌≡◌, ◌++◌, ◌∷◌, [], List, On
 ghost use Rattle.std.specs.List.{flat_map};
 ghost use Rattle.std.specs.Fmt.{decimal};
 ghost use Rattle.addr4.specs.Texts.{dotted};
-ghost use Rattle.journal_text.specs.Texts.{origin_number, segment_text, path_text, lettered, aggregator_text, unrecognized_text, required_text, optional_text, attrs_text, sender_number, field_text, known_text, route_text, value_text, answer_text};
+ghost use Rattle.journal_text.specs.Texts.{origin_number, segment_text, path_text, lettered, aggregator_text, unrecognized_text, required_text, optional_text, attrs_text, sender_number, field_text, known_text, route_text, fib_proto_text, gateway_text, with_colons, interior_text, external_text, fib_text, value_text, answer_text};
 
+use crate::names::fib_proto_word;
 use crate::value::Value;
-use addr4::{Memory, push_addr, push_number};
+use addr4::{Addr, Memory, push_addr, push_number};
 use bgp_attr::{Aggregator, Attrs, Neighbour, Origin, Route, Segment, SegmentKind, Unrecognized};
+use rib_route::{External, FibProto, FibRow, Iface, Interior};
 use std::alloc::Global;
 
 /// Appends a text.
@@ -225,6 +227,58 @@ fn push_route(alloc: Global, out: &mut Vec<u8>, route: &Route) -> Result<(), Mem
     push_attrs(alloc, out, route.attrs.attrs())
 }
 
+/// An address, or `direct` for none.
+fn push_gateway(out: &mut Vec<u8>, gateway: Option<Addr>) -> Result<(), Memory>
+    ensures { OnOk result (out.new.items ≡ out.old.items ++ gateway_text gateway) }
+{
+    match gateway {
+        Some(addr) => push_addr(out, addr),
+        None => push_text(out, b"direct"),
+    }
+}
+
+/// Protocol, gateway and interface.
+fn push_hop(
+    out: &mut Vec<u8>,
+    proto: FibProto,
+    gateway: Option<Addr>,
+    iface: &Iface,
+) -> Result<(), Memory>
+    ensures { OnOk result (out.new.items ≡ out.old.items ++ with_colons (fib_proto_text proto ∷ gateway_text gateway ∷ iface.now ∷ [])) }
+{
+    push_text(out, fib_proto_word(proto))?;
+    out.push(b':')?;
+    push_gateway(out, gateway)?;
+    out.push(b':')?;
+    push_text(out, iface.as_slice())
+}
+
+#[tactic(auto, unfolding(crate::specs::Texts::interior_text))]
+fn push_interior(out: &mut Vec<u8>, row: &Interior) -> Result<(), Memory>
+    ensures { OnOk result (out.new.items ≡ out.old.items ++ interior_text row.now) }
+{
+    push_hop(out, row.proto.fib_proto(), row.gateway, &row.iface)?;
+    out.push(b':')?;
+    push_number(out, u64::from(row.metric))?;
+    Ok(())
+}
+
+#[tactic(auto, unfolding(crate::specs::Texts::external_text))]
+fn push_external(out: &mut Vec<u8>, row: &External) -> Result<(), Memory>
+    ensures { OnOk result (out.new.items ≡ out.old.items ++ external_text row.now) }
+{
+    push_text(out, fib_proto_word(row.fib_proto()))?;
+    out.push(b':')?;
+    push_addr(out, row.next_hop)
+}
+
+#[tactic(auto, unfolding(crate::specs::Texts::fib_text))]
+fn push_fib_row(out: &mut Vec<u8>, row: &FibRow) -> Result<(), Memory>
+    ensures { OnOk result (out.new.items ≡ out.old.items ++ fib_text row.now) }
+{
+    push_hop(out, row.proto, row.gateway, &row.iface)
+}
+
 /// The text of a value.
 pub(crate) fn push_value(alloc: Global, out: &mut Vec<u8>, value: &Value) -> Result<(), Memory>
     ensures { OnOk result (out.new.items ≡ out.old.items ++ value_text value.now) }
@@ -232,6 +286,9 @@ pub(crate) fn push_value(alloc: Global, out: &mut Vec<u8>, value: &Value) -> Res
     match value {
         Value::Attrs(attrs) => push_attrs(alloc, out, attrs.attrs()),
         Value::Route(route) => push_route(alloc, out, route),
+        Value::Interior(row) => push_interior(out, row),
+        Value::External(row) => push_external(out, row),
+        Value::FibRow(row) => push_fib_row(out, row),
     }
 }
 

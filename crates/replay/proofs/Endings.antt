@@ -3,11 +3,13 @@ use Rattle.std.proofs.Common.{◌≡◌, ◌≢◌, ◌⊎◌, ⊎_elim, IfSome,
 use Rattle.std.proofs.lemmas.List.{append-nil}
 use Rattle.std.proofs.Math.Seq.{take-append_seam, take-length}
 use Rattle.std.specs.Io.KnownBytes.{Appends, Consumes, IsAtEnd, Keeps}
+use Rattle.replay.proofs.FirstLinks.{none_at_first}
 use Rattle.replay.specs.declared.words.Command.{Command}
 use Rattle.replay.specs.declared.words.Command.TheVariants.{Run, Check}
 use Rattle.replay.specs.Answers.{HasFirst}
 use Rattle.replay.specs.declared.status.Status.{Status}
 use Rattle.replay.specs.declared.status.Status.TheVariants as statuses
+use Rattle.router_core.specs.Stands.{Stands}
 use Rattle.router_core.specs.Moments.{Moment, first_moment}
 use Rattle.check_run.specs.Lines.{lines_of, lines_in}
 use Rattle.replay.specs.Judging.{verdict, status_of}
@@ -152,26 +154,26 @@ pub stepped_as : (quiet other : Bool) (read : List ℕ) (number : ℕ) (m : Mome
 stepped_as quiet other read number m pending output e s = subst (λ (q : Bool). HasStepped q read number m pending output) (sym e) s
 
 -- no line was stepped
-first_output : (quiet : Bool) (text : List ℕ) → IsOutputOfFront quiet text []
-first_output quiet text = record {
+first_output : Stands first_moment → (quiet : Bool) (text : List ℕ) → IsOutputOfFront quiet text []
+first_output stands quiet text = record {
   count = 0;
   output = record {
     out = [];
     end = first_moment;
     run = (refl, refl);
-    lawful = record { lawful = tt; ends = refl };
-    stands = record { order = tt; peers = λ k. tt; speaker = tt; count = refl };
+    lawful = record { lawful = tt; ends = none_at_first };
+    stands = stands;
     text = refl;
   };
 }
 
-took_first : (quiet : Bool) (left taken : Option (List ℕ)) → Took left taken taken (IsOutputOfFront quiet)
-took_first quiet None taken = tt
-took_first quiet (Some text) None = tt
-took_first quiet (Some text) (Some before) = ([], sym (append-nil before), first_output quiet text)
+took_first : Stands first_moment → (quiet : Bool) (left taken : Option (List ℕ)) → Took left taken taken (IsOutputOfFront quiet)
+took_first stands quiet None taken = tt
+took_first stands quiet (Some text) None = tt
+took_first stands quiet (Some text) (Some before) = ([], sym (append-nil before), first_output stands quiet text)
 
 -- there was no memory for the words
-pub no_words : (command : Option Command) (left taken : Option (List ℕ)) → HasFirst command left taken taken
-no_words (Some (Run quiet)) left taken = took_first quiet left taken
-no_words (Some Check) left taken = refl
-no_words None left taken = refl
+pub no_words : Stands first_moment → (command : Option Command) (left taken : Option (List ℕ)) → HasFirst command left taken taken
+no_words stands (Some (Run quiet)) left taken = took_first stands quiet left taken
+no_words stands (Some Check) left taken = refl
+no_words stands None left taken = refl

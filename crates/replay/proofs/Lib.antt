@@ -1,4 +1,5 @@
 pub mod Lines
+pub mod FirstLinks
 pub mod Runs
 pub mod Steps
 pub mod Pieces

@@ -15,6 +15,7 @@ use Rattle.journal_text.specs.Walk.{Leads, no_links}
 use Rattle.event_text.specs.Declarations.{no_declaration}
 use Rattle.router_core.specs.Moments.{Moment, first_moment, router_links}
 use Rattle.router_core.specs.Stands.{Stands}
+use Rattle.replay.proofs.FirstLinks.{none_at_first}
 use Rattle.replay.specs.Judging.{judge, verdict_from}
 use Rattle.check_run.specs.Lines.{IsPart, lines_of, lines_in}
 use Rattle.replay.specs.Output.{Run, IsOutput, IsRefusedOutput}
@@ -33,7 +34,7 @@ stepped_nothing quiet stands = record {
   stands = stands;
   out = [];
   run = (refl, refl);
-  lawful = record { lawful = tt; ends = refl };
+  lawful = record { lawful = tt; ends = none_at_first };
   written = refl;
 }
 

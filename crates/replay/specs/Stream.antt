@@ -9,7 +9,7 @@ use Rattle.journal_text.specs.Journals.{Journaled}
 use Rattle.journal_text.specs.Texts.{line_text, text_of, entries_of}
 use Rattle.journal_text.specs.Walk.{Leads, no_links}
 use Rattle.router_core.specs.Moments.{Moment, Cored, first_moment, router_links}
-use Rattle.router_core.specs.Stands.{Stands}
+use Rattle.router_core.specs.Stands.{Stands, CoreStands}
 use Rattle.replay.specs.Judging.{judge}
 use Rattle.check_run.specs.Lines.{IsCut, lines_in}
 use Rattle.replay.specs.Output.{Step, Run, IsRefusedOutput, IsFrontOfOutput}
@@ -17,7 +17,7 @@ use Rattle.replay.specs.Output.{Step, Run, IsRefusedOutput, IsFrontOfOutput}
 -- a router that may step line n: memory never ran out, its state is sound, and it has stepped the lines before
 pub record IsReady (n : ℕ) (core : Cored) : Type 0 where
   pub good : core.failed ≡ false
-  pub stands : Stands core.moment
+  pub stands : CoreStands core
   pub counted : n ≡ core.events + 1
   pub few : n ≤ 2 ^ 32
 

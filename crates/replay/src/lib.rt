@@ -30,6 +30,7 @@ ghost use Rattle.replay.specs.Answers.{IsDone, IsRefused, IsBroken, HasSoFar, Ha
 use crate::commands::obey;
 use crate::words::read_command;
 use edge_io::{Sink, Source};
+use router_core::first_moment_stands;
 pub use status::Status;
 use std::alloc::Global;
 
@@ -77,6 +78,7 @@ pub fn replay<S: Source, K: Sink>(
     ensures write_fault { result ≡ Status.WriteFault → Rose (K.faults sink.old) (K.faults sink.new) }
     ensures front { result ≡ Status.WriteFault → HasFront (command_of (map string_bytes words.now)) (S.left source.old) (K.taken sink.old) (K.taken sink.new) }
 {
+    first_moment_stands();
     let Ok(command) = read_command(alloc, words) else {
         return Status::Memory;
     };

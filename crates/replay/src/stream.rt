@@ -9,7 +9,7 @@ use crate::stepping::step_line;
 use addr4::Memory;
 use check_run::{first_line, without_return};
 use journal_text::{Code, Journal, Line};
-use router_core::Core;
+use router_core::{Core, first_moment_stands};
 use std::alloc::Global;
 
 /// So many bytes without an LF may be part of a line, which may end with CR LF; with one more the line is refused.
@@ -35,6 +35,7 @@ impl Stream {
         ensures stepped { HasStepped quiet [] result.number result.core.moment result.pending.items [] }
         ensures ready { IsReady result.number result.core }
     {
+        first_moment_stands();
         Stream {
             alloc,
             core: Core::new(alloc),

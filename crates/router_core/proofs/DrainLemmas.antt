@@ -1,5 +1,5 @@
 -- Every task of a phase to its end, and every task of an idle.
-use Rattle.std.proofs.Common.{◌≡◌, ℕ, ◌+◌, ◌*◌, ◌<◌, ◌≤◌, false, List, [], ◌∷◌, ◌++◌, length, drop, get_or, map, Some, None, refl, sym, ap, subst, ◌∙◌, arith, append_assoc, zero, suc}
+use Rattle.std.proofs.Common.{◌≡◌, ℕ, ◌+◌, ◌<◌, ◌≤◌, false, List, [], ◌∷◌, ◌++◌, length, drop, get_or, map, Some, None, refl, sym, ap, subst, ◌∙◌, arith, append_assoc, zero, suc}
 use Rattle.std.proofs.lemmas.List.{append-nil}
 use Rattle.journal_text.specs.declared.link.Task.{Task}
 use Rattle.journal_text.specs.declared.link.Task.TheVariants.{Fin}
@@ -8,15 +8,15 @@ use Rattle.journal_text.specs.Journals.{Journaled, with_lines, flushed}
 use Rattle.in_chain.specs.Chains.{Chained}
 use Rattle.in_chain.specs.Laws.{TurnsAreBounded}
 use Rattle.router_core.specs.declared.router.Phase.TheVariants as phases
+use Rattle.rib_tree.specs.Trees.{tree_count}
 use Rattle.router_core.specs.Moments.{Moment, rows_in, left_in, Gives}
-use Rattle.router_core.specs.Stands.{Stands, ChainIsSettled, IsSettled}
+use Rattle.router_core.specs.Stands.{Stands}
 use Rattle.router_core.specs.Turns.{DrainsAll, deletion_tasks, filter_tasks, has_work}
-use Rattle.router_core.specs.Works.{IsWork, IsUnit, HasDrained, HaveDrained, AllHaveDrained, first_task}
+use Rattle.router_core.specs.Works.{IsWork, IsUnit, HasDrained, HaveDrained, first_task}
 use Rattle.router_core.proofs.RowCounts.{left_below}
 use Rattle.router_core.proofs.TurnLemmas.{flushed_join, flushed_none, work_none, work_join}
-use Rattle.router_core.proofs.TaskLemmas.{first_has_work, first_turn, nears_rows, drains_more, no_stage, no_first, is_first}
-use Rattle.router_core.proofs.KeepLemmas.{walks_after_turns, walks_after_drains, over_after_drains, walks_over, all_both}
-use Rattle.router_core.proofs.ScratchLemmas.{settled_is_exact}
+use Rattle.router_core.proofs.TaskLemmas.{first_has_work, first_turn, first_keeps_tree, nears_rows, drains_more, no_stage, no_first, is_first}
+use Rattle.router_core.proofs.KeepLemmas.{walks_after_turns, walk_keeps_tree, over_after_drains, walks_over}
 
 from_none : (tasks : List Task) (m : Moment) (ys : List Line) (n : ℕ) (m' : Moment) → DrainsAll tasks m ys n m' → DrainsAll tasks m ([] ++ ys) (0 + n) m'
 from_none tasks m ys n m' d = let same : n ≡ 0 + n = omega arith in subst (λ (k : ℕ). DrainsAll tasks m ys k m') same d
@@ -27,6 +27,7 @@ pub record HaveGone (m : Moment) (turns : ℕ) (now : Moment) (said : List Line)
   pub goes_on : (ys : List Line) (n : ℕ) (m' : Moment) → DrainsAll (deletion_tasks now) now ys n m' → DrainsAll (deletion_tasks m) m (said ++ ys) (turns + n) m'
   pub work : IsWork m said now
   pub fewer : rows_in now.chains + turns ≡ rows_in m.chains
+  pub tree : now.tree ≡ m.tree
 
 abbrev pub HaveGivenAll : Moment → ℕ → Moment → Journaled → Journaled → Type 0
 HaveGivenAll m turns now before j = Gives (HaveGone m turns now) before j
@@ -35,7 +36,7 @@ pub none_gone : (m : Moment) (before j : Journaled) → Stands m → j ≡ flush
 none_gone m before j stands is = (
   [],
   is ∙ flushed_none before,
-  record { goes_on = λ ys n m' d. from_none (deletion_tasks m) m ys n m' d; work = work_none m stands; fewer = omega arith },
+  record { goes_on = λ ys n m' d. from_none (deletion_tasks m) m ys n m' d; work = work_none m stands; fewer = omega arith; tree = refl },
 )
 
 pub all_more : (m at now : Moment) (task : Task) (turns : ℕ) (before j j' : Journaled) → HaveGivenAll m turns at before j → first_task (deletion_tasks at) ≡ Some task
@@ -55,6 +56,7 @@ all_more m at now task turns before j j' g first u =
             (subst (λ (ls : List Line). DrainsAll (deletion_tasks m) m ls (turns + suc n) m') (sym (append_assoc g.0 u.0 ys)) all);
         work = work_join m at now g.0 u.0 g.2.work u.2.work;
         fewer = let a = g.2.fewer in omega (arith, a, one_less);
+        tree = first_keeps_tree at now task f.0 u.0 f.1 u.2.turn ∙ g.2.tree;
       },
     )
 
@@ -83,13 +85,15 @@ pub all_done : (m now : Moment) (turns : ℕ) (before j : Journaled) → HaveGiv
 all_done m now turns before j g none =
     let empty = no_first (deletion_tasks now) none in
     let drains = all_by (deletion_tasks m) (deletion_tasks now) m now g.0 turns empty g.2.goes_on in
-    let fewer = g.2.fewer in (
+    let fewer = g.2.fewer in
+    let same : tree_count now.tree ≡ tree_count m.tree = ap tree_count g.2.tree in (
       g.0,
       g.1,
       record {
         drains = drains;
         work = g.2.work;
         most = omega (arith, fewer);
+        routes = omega (arith, same);
         over = no_stage now empty;
         rows = omega (arith, fewer);
         keeps = λ earlier over. over_after_drains earlier (deletion_tasks m) m now g.0 turns drains over;
@@ -114,6 +118,7 @@ pub record HaveWalked (m : Moment) (i turns : ℕ) (now : Moment) (said : List L
   pub fewer : left_in now.chains + turns ≤ left_in m.chains
   pub same : filter_tasks now ≡ filter_tasks m
   pub count : length now.chains ≡ length m.chains
+  pub tree : now.tree ≡ m.tree
 
 abbrev pub HaveGivenWalks : Moment → ℕ → ℕ → Moment → Journaled → Journaled → Type 0
 HaveGivenWalks m i turns now before j = Gives (HaveWalked m i turns now) before j
@@ -122,7 +127,7 @@ pub none_walked : (m : Moment) (before j : Journaled) → Stands m → j ≡ flu
 none_walked m before j stands is = (
   [],
   is ∙ flushed_none before,
-  record { goes_on = λ ys n m' d. from_none (filter_tasks m) m ys n m' d; work = work_none m stands; rows = refl; fewer = omega arith; same = refl; count = refl },
+  record { goes_on = λ ys n m' d. from_none (filter_tasks m) m ys n m' d; work = work_none m stands; rows = refl; fewer = omega arith; same = refl; count = refl; tree = refl },
 )
 
 walk_there : (cs : List Chained) (i : ℕ) (c : Chained) → i < length cs → c ≡ get_or cs i c
@@ -131,7 +136,7 @@ walk_there [] i c below is = absurd (omega (arith, below))
 walk_there (d ∷ ds) zero c below is = ap (λ (x : Chained). Fin x.incoming.number ∷ map (λ e. Fin e.incoming.number) ds) (sym is)
 walk_there (d ∷ ds) (suc i) c below is = walk_there ds i c (omega (arith, below)) is
 
-count_of : (cs : List Chained) → length (map (λ d. Fin d.incoming.number) cs) ≡ length cs
+pub count_of : (cs : List Chained) → length (map (λ d. Fin d.incoming.number) cs) ≡ length cs
 count_of [] = refl
 count_of (c ∷ cs) = ap suc (count_of cs)
 
@@ -163,6 +168,7 @@ walk_more m at now i turns n c before j j' g below is u =
         fewer = let a = g.2.fewer in let b = u.2.run.nearer.1 in omega (arith, a, b);
         same = same;
         count = sym (count_of now.chains) ∙ ap length same ∙ count_of m.chains;
+        tree = walk_keeps_tree n c.incoming.number at now u.0 u.2.run.taken ∙ g.2.tree;
       },
     )
 
@@ -173,7 +179,8 @@ walks_done bounded m now i turns before j g past =
     let drains = all_by (filter_tasks m) (drop i (filter_tasks m)) m now g.0 turns none g.2.goes_on in
     let fewer = g.2.fewer in
     let bound = left_below bounded m.chains in
-    let rows = g.2.rows in (
+    let rows = g.2.rows in
+    let same : tree_count now.tree ≡ tree_count m.tree = ap tree_count g.2.tree in (
       g.0,
       g.1,
       record {
@@ -182,48 +189,7 @@ walks_done bounded m now i turns before j g past =
         most = omega (arith, fewer, bound);
         over = walks_over m now g.0 turns g.2.work.stands.order drains;
         rows = omega (arith, rows);
+        routes = omega (arith, same);
         keeps = λ earlier over. over_after_drains earlier (filter_tasks m) m now g.0 turns drains over;
-      },
-    )
-
--- ---- an idle
-drains_join : (xs ys : List Task) (m at now : Moment) (a b : List Line) (n k : ℕ) → DrainsAll xs m a n at → DrainsAll ys at b k now → DrainsAll (xs ++ ys) m (a ++ b) (n + k) now
-drains_join [] ys m at now a b n k d e =
-    let start : DrainsAll ys m b k now = subst (λ (x : Moment). DrainsAll ys x b k now) d.2 e in
-    let lines : b ≡ a ++ b = ap (λ (l : List Line). l ++ b) (sym d.0) in
-    let turns : k ≡ n + k = (let none = d.1 in omega (arith, none)) in
-    subst (λ (s : ℕ). DrainsAll ys m (a ++ b) s now) turns (subst (λ (l : List Line). DrainsAll ys m l k now) lines start)
-drains_join (x ∷ xs) ys m at now a b n k d e = (
-  d.0,
-  d.1 ++ b,
-  d.2,
-  d.3 + k,
-  d.4,
-  d.5,
-  drains_join xs ys d.4 at now d.1 b d.3 k d.6 e,
-  ap (λ (l : List Line). l ++ b) d.7 ∙ append_assoc d.0 d.1 b,
-  (let sum = d.8 in omega (arith, sum)),
-)
-
-within : (stages walks rows left peers count : ℕ) → stages ≤ rows → walks ≤ 2 * (left + count) → left ≤ rows → count ≡ peers → stages + walks ≤ (peers + 2) * (9 * rows + 6)
-within stages walks rows left peers count a b c d = grind arith
-
-pub all_drained : (m at now : Moment) (stages walks : ℕ) (before j j' : Journaled) → Stands m → Gives (HaveDrained phases.Del m stages at) before j
-    → Gives (HaveDrained phases.Fin at walks now) j j' → Gives (AllHaveDrained m (stages + walks) now) before j'
-all_drained m at now stages walks before j j' stands g u =
-    let same : filter_tasks at ≡ filter_tasks m = walks_after_drains (deletion_tasks m) m at g.0 stages g.2.drains in
-    let count : length at.chains ≡ length m.chains = sym (count_of at.chains) ∙ ap length same ∙ count_of m.chains in
-    let drains : DrainsAll (filter_tasks m) at u.0 walks now = subst (λ (ts : List Task). DrainsAll ts at u.0 walks now) same u.2.drains in
-    let settled : IsSettled now =
-    all_both (λ c. c.incoming.deletions ≡ []) (λ c. c.filter.walk ≡ None) ChainIsSettled (λ c stages walk. record { deletions = stages; walk = walk }) now.chains
-    (u.2.keeps phases.Del g.2.over) u.2.over in (
-      g.0 ++ u.0,
-      u.1 ∙ ap (λ (x : Journaled). flushed (with_lines x u.0)) g.1 ∙ flushed_join before g.0 u.0,
-      record {
-        drains = drains_join (deletion_tasks m) (filter_tasks m) m at now g.0 u.0 stages walks g.2.drains drains;
-        work = work_join m at now g.0 u.0 g.2.work u.2.work;
-        most = within stages walks (rows_in m.chains) (rows_in at.chains) (length m.declared.peers) (length at.chains) g.2.most u.2.most g.2.rows (count ∙ stands.count);
-        settled = settled;
-        exact = settled_is_exact now u.2.work.stands settled;
       },
     )

@@ -23,7 +23,7 @@ use Rattle.router_core.specs.Works.{FeedsChain, Pushes, Steps, IsPlace, IsUpAt, 
 use Rattle.router_core.proofs.ChainLemmas.{number_at, same_by}
 use Rattle.router_core.proofs.LinkLemmas.{leads_router}
 use Rattle.router_core.proofs.RowCounts.{is_full}
-use Rattle.router_core.proofs.StandLemmas.{one_peer, peer_of, stands_with, live_routed, routes_there, routes_same, routes_twice, peer_left}
+use Rattle.router_core.proofs.StandLemmas.{remade, losses_stay, losses_join, one_peer, peer_of, stands_with, live_routed, routes_there, routes_same, routes_twice, peer_left}
 use Rattle.router_core.proofs.TurnLemmas.{leads_join}
 use Rattle.router_core.proofs.PlaceLemmas.{at_place, set_at_place}
 
@@ -54,7 +54,7 @@ silent_up true c is = tt
 silent_up false c is = absurd (cc)
 
 abbrev live_by : Moment → (ℕ → Routes) → LiveState
-live_by m routes = record { declared = m.declared; routes = routes; rules = (live_state m).rules }
+live_by m routes = record { declared = m.declared; routes = routes; rules = (live_state m).rules; interior = (live_state m).interior }
 
 -- a feed of a peer's chain is one of the router
 pub fed_one : (k : ℕ) (p : Network) (row : Option Attrs) (m : Moment) (c c' : Chained) (said : List Line) → Stands m → IsUpAt k m → chain_at k m.chains ≡ Some c → FeedsChain p row c c' said
@@ -72,13 +72,14 @@ fed_one k p row m c c' said stands up at f =
       leads = leads_router m k c at c' number (entries_of said) f.step.leads;
       live = live_routed m m.declared k c c' at number (ap (λ (x : Chained). present x.filter) f.after)
           ∙ ap (λ (r : Routes). live_by m (with_routes (live_state m).routes k r)) (live ∙ ap (λ (r : Routes). live_after r p row) (sym (routes_there m k c at)));
+      losses = losses_stay m (with_chain m c') refl;
       stands = stands_with m k c c' peer.0 stands at number f.step.words.0 peer.1 here;
     }
 
 pub one_fed : (k : ℕ) (p : Network) (row : Option Attrs) (m : Moment) (cs : List Chained) (before now : Journaled) → Stands m → IsUpAt k m → Steps (FeedsChain p row) k m.chains cs before now
-    → Pushes (HaveFed k ((p, row) ∷ []) m (record { declared = m.declared; chains = cs })) before now
+    → Pushes (HaveFed k ((p, row) ∷ []) m (remade m m.declared cs)) before now
 one_fed k p row m cs before now stands up t =
-    (t.4.0, t.4.1, subst (λ (x : List Chained). HaveFed k ((p, row) ∷ []) m (record { declared = m.declared; chains = x }) t.4.0) (sym t.3) (fed_one k p row m t.0 t.1 t.4.0 stands up t.2 t.4.2))
+    (t.4.0, t.4.1, subst (λ (x : List Chained). HaveFed k ((p, row) ∷ []) m (remade m m.declared x) t.4.0) (sym t.3) (fed_one k p row m t.0 t.1 t.4.0 stands up t.2 t.4.2))
 
 -- ---- one after the other
 module _ (k : ℕ) where
@@ -102,13 +103,14 @@ module _ (k : ℕ) where
       ∙ ap (λ (r : Routes). the_state (with_routes l.routes k r)) (sym (routes_join xs ys (l.routes k)))
     where
       the_state : (ℕ → Routes) → LiveState
-      the_state routes = record { declared = l.declared; routes = routes; rules = l.rules }
+      the_state routes = record { declared = l.declared; routes = routes; rules = l.rules; interior = l.interior }
 
   pub fed_none : (m : Moment) → Stands m → HaveFed k [] m m []
   fed_none m stands = record {
     feeds = (refl, refl);
     leads = leads_nowhere (router_links m) (router_links m) refl;
     live = ap (live_by m) (sym (routes_same (live_state m).routes k ((live_state m).routes k) refl));
+    losses = losses_stay m m refl;
     stands = stands;
   }
 
@@ -117,6 +119,7 @@ module _ (k : ℕ) where
     feeds = feeds_join xs ys m between m' a b f.feeds g.feeds;
     leads = leads_join m between m' a b f.leads g.leads;
     live = g.live ∙ ap (λ (l : LiveState). live_fed l k ys) f.live ∙ live_join (live_state m) xs ys;
+    losses = losses_join 0 0 m between m' f.losses g.losses;
     stands = g.stands;
   }
 

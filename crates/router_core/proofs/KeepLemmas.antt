@@ -6,10 +6,13 @@ use Rattle.link_change.specs.declared.change.Change.{Change}
 use Rattle.policy_rules.specs.declared.rule.Rule.{Rule}
 use Rattle.pass_core.specs.Passed.{Walked}
 use Rattle.journal_text.specs.declared.link.Task.{Task}
-use Rattle.journal_text.specs.declared.link.Task.TheVariants.{Del, Fin}
+use Rattle.journal_text.specs.declared.link.Task.TheVariants.{Del, Fin, Rdel}
 use Rattle.journal_text.specs.declared.entry.Entry.{Entry}
 use Rattle.journal_text.specs.declared.value.Value.{Value}
 use Rattle.journal_text.specs.declared.line.Line.{Line}
+use Rattle.rib_route.specs.declared.Proto.{Proto}
+use Rattle.rib_origin.specs.Steps.{table_of as table_of_loss}
+use Rattle.rib_tree.specs.Trees.{branch_of}
 use Rattle.in_chain.specs.Chains.{Chained}
 use Rattle.in_chain.specs.IncomingSteps.{table_of}
 use Rattle.in_chain.specs.Steps.{welded, has_turn, Turned}
@@ -17,7 +20,7 @@ use Rattle.router_core.specs.declared.router.Phase.{Phase}
 use Rattle.router_core.specs.declared.router.Phase.TheVariants as phases
 use Rattle.router_core.specs.Moments.{Moment, chain_at, put_chain, with_chain}
 use Rattle.router_core.specs.Stands.{AreInOrder}
-use Rattle.router_core.specs.Turns.{peer_of, IsTurn, Turns, DrainsAll, filter_tasks, has_turn_in, has_work, IsOver}
+use Rattle.router_core.specs.Turns.{peer_of, IsPeerTurn, IsRouteTurn, IsTurn, Turns, DrainsAll, filter_tasks, has_turn_in, has_work, IsOver}
 use Rattle.router_core.proofs.ChainLemmas.{equal_by, same_by, other_by, both, number_at, chain_here, chain_past, chain_at_put_same, chain_at_put_other, put_one_number, all_at, all_put}
 use Rattle.router_core.proofs.RowCounts.{is_full}
 use Rattle.router_core.proofs.WorkLemmas.{turn_stays}
@@ -38,7 +41,9 @@ numbers_put c' [] = refl
 numbers_put c' (d ∷ ds) = both (ap Fin (put_one_number c' d)) (numbers_put c' ds)
 
 walks_stay : (tasks : List Task) (task : Task) (m m' : Moment) (said : List Line) → IsTurn task m said m' → filter_tasks m ≡ tasks → filter_tasks m' ≡ tasks
-walks_stay tasks task m m' said t e = ap filter_tasks t.after ∙ numbers_put (welded t.turned_chain) m.chains ∙ e
+walks_stay tasks (Del k s) m m' said t e = ap filter_tasks t.after ∙ numbers_put (welded t.turned_chain) m.chains ∙ e
+walks_stay tasks (Fin k) m m' said t e = ap filter_tasks t.after ∙ numbers_put (welded t.turned_chain) m.chains ∙ e
+walks_stay tasks (Rdel proto n) m m' said t e = ap (map (λ (c : Chained). Fin c.incoming.number)) t.falls.after.chains ∙ e
 
 -- turns make no walk's task more
 pub walks_after_turns : (n : ℕ) (task : Task) (m m' : Moment) (said : List Line) → Turns n task m said m' → filter_tasks m' ≡ filter_tasks m
@@ -51,20 +56,42 @@ walks_after_drains tasks m m' said n d = kept_by_drains (λ x. filter_tasks x �
 no_walk_stays : (task : Task) (c c' : Chained) (sent : Option (Change Route)) (entries : List (Entry Value)) → Turned c c' task sent entries → c.filter.walk ≡ None → c'.filter.walk ≡ None
 no_walk_stays (Del k s) c c' sent entries t none = ap (λ (x : Chained). x.filter.walk) t.1.after ∙ none
 no_walk_stays (Fin k) c c' sent entries t none = absurd (let on = t.1.walks.on in cc)
+no_walk_stays (Rdel proto n) c c' sent entries t none = absurd t
 
 no_stage_stays : (task : Task) (c c' : Chained) (sent : Option (Change Route)) (entries : List (Entry Value)) → Turned c c' task sent entries → c.incoming.deletions ≡ []
     → (welded c').incoming.deletions ≡ []
 no_stage_stays (Del k s) c c' sent entries t none =
     absurd (let there = t.1.stands in let gone : table_of s c.incoming.deletions ≡ None = ap (table_of s) none in cc)
 no_stage_stays (Fin k) c c' sent entries t none = ap (λ (x : Chained). filter is_full x.incoming.deletions) t.1.after ∙ ap (filter is_full) none
+no_stage_stays (Rdel proto n) c c' sent entries t none = absurd t
 
-pub over_stays : (phase : Phase) (task : Task) (m m' : Moment) (said : List Line) → IsTurn task m said m' → IsOver phase m → IsOver phase m'
-over_stays phases.Del task m m' said t over =
+peer_over_stays : (phase : Phase) (task : Task) (m m' : Moment) (said : List Line) → IsPeerTurn task m said m' → IsOver phase m → IsOver phase m'
+peer_over_stays phases.Rdel task m m' said t over = subst (IsOver phases.Rdel) (sym t.after) over
+peer_over_stays phases.Del task m m' said t over =
     subst (IsOver phases.Del) (sym t.after) (all_put (λ c. c.incoming.deletions ≡ []) (welded t.turned_chain) m.chains over
     (no_stage_stays task t.chain t.turned_chain t.sent t.entries t.turned (all_at (λ c. c.incoming.deletions ≡ []) (peer_of task) m.chains t.chain over t.at)))
-over_stays phases.Fin task m m' said t over =
+peer_over_stays phases.Fin task m m' said t over =
     subst (IsOver phases.Fin) (sym t.after) (all_put (λ c. c.filter.walk ≡ None) (welded t.turned_chain) m.chains over
     (no_walk_stays task t.chain t.turned_chain t.sent t.entries t.turned (all_at (λ c. c.filter.walk ≡ None) (peer_of task) m.chains t.chain over t.at)))
+
+route_over_stays : (phase : Phase) (proto : Proto) (n : ℕ) (m m' : Moment) (said : List Line) → IsRouteTurn proto n m said m' → IsOver phase m → IsOver phase m'
+route_over_stays phases.Rdel proto n m m' said t over =
+    absurd (let there = t.stands in let gone : table_of_loss n (branch_of proto m.tree).deletions ≡ None = ap (table_of_loss n) (over proto) in cc)
+route_over_stays phases.Del proto n m m' said t over = subst (AllByRecursion (λ c. c.incoming.deletions ≡ [])) (sym t.falls.after.chains) over
+route_over_stays phases.Fin proto n m m' said t over = subst (AllByRecursion (λ c. c.filter.walk ≡ None)) (sym t.falls.after.chains) over
+
+pub over_stays : (phase : Phase) (task : Task) (m m' : Moment) (said : List Line) → IsTurn task m said m' → IsOver phase m → IsOver phase m'
+over_stays phase (Del k s) m m' said t over = peer_over_stays phase (Del k s) m m' said t over
+over_stays phase (Fin k) m m' said t over = peer_over_stays phase (Fin k) m m' said t over
+over_stays phase (Rdel proto n) m m' said t over = route_over_stays phase proto n m m' said t over
+
+-- ---- the tree, over turns of peers
+pub stage_keeps_tree : (k s : ℕ) (m m' : Moment) (said : List Line) → IsTurn (Del k s) m said m' → m'.tree ≡ m.tree
+stage_keeps_tree k s m m' said t = ap (λ (x : Moment). x.tree) t.after
+
+pub walk_keeps_tree : (n k : ℕ) (m m' : Moment) (said : List Line) → Turns n (Fin k) m said m' → m'.tree ≡ m.tree
+walk_keeps_tree zero k m m' said t = ap (λ (x : Moment). x.tree) t.1
+walk_keeps_tree (suc n) k m m' said t = walk_keeps_tree n k t.2 m' t.1 t.4 ∙ ap (λ (x : Moment). x.tree) t.3.after
 
 pub over_after_drains : (phase : Phase) (tasks : List Task) (m m' : Moment) (said : List Line) (n : ℕ) → DrainsAll tasks m said n m' → IsOver phase m → IsOver phase m'
 over_after_drains phase tasks m m' said n d over = kept_by_drains (IsOver phase) (over_stays phase) tasks m m' said n d over
@@ -77,9 +104,10 @@ turn_rests j (Fin k) c c' sent entries t number rests =
     let on : is_some c.filter.walk ≡ true = ap (λ (w : Option (Walked (List Rule))). is_some w) t.1.walks.on in
     let works : has_turn c (Fin j) ≡ true = ap (λ (b : Bool). b && is_some c.filter.walk) (same_by j c.incoming.number number) ∙ on in
     absurd (cc)
+turn_rests j (Rdel proto n) c c' sent entries t number rests = absurd t
 
-rest_stays : (j : ℕ) (task : Task) (m m' : Moment) (said : List Line) → IsTurn task m said m' → has_work (Fin j) m ≡ false → has_work (Fin j) m' ≡ false
-rest_stays j task m m' said t rests = ap (has_work (Fin j)) t.after ∙ by_test (nat_eq j k) refl
+peer_rest_stays : (j : ℕ) (task : Task) (m m' : Moment) (said : List Line) → IsPeerTurn task m said m' → has_work (Fin j) m ≡ false → has_work (Fin j) m' ≡ false
+peer_rest_stays j task m m' said t rests = ap (has_work (Fin j)) t.after ∙ by_test (nat_eq j k) refl
   where
     k : ℕ
     k = peer_of task
@@ -100,6 +128,11 @@ rest_stays j task m m' said t rests = ap (has_work (Fin j)) t.after ∙ by_test 
         let after : chain_at j (put_chain c' m.chains) ≡ Some c' = ap (λ (n : ℕ). chain_at n (put_chain c' m.chains)) same ∙ chain_at_put_same k m.chains t.chain c' t.at number in
         ap (has_turn_in (Fin j)) after ∙ turn_rests j task t.chain t.turned_chain t.sent t.entries t.turned (same ∙ sym own) (sym (ap (has_turn_in (Fin j)) before) ∙ rests)
     by_test false e = ap (has_turn_in (Fin j)) (chain_at_put_other j m.chains c' (ap (nat_eq j) number ∙ e)) ∙ rests
+
+rest_stays : (j : ℕ) (task : Task) (m m' : Moment) (said : List Line) → IsTurn task m said m' → has_work (Fin j) m ≡ false → has_work (Fin j) m' ≡ false
+rest_stays j (Del k s) m m' said t rests = peer_rest_stays j (Del k s) m m' said t rests
+rest_stays j (Fin k) m m' said t rests = peer_rest_stays j (Fin k) m m' said t rests
+rest_stays j (Rdel proto n) m m' said t rests = ap (λ (cs : List Chained). has_turn_in (Fin j) (chain_at j cs)) t.falls.after.chains ∙ rests
 
 walks_rest : (cs : List Chained) (m m' : Moment) (said : List Line) (n : ℕ) → DrainsAll (map (λ c. Fin c.incoming.number) cs) m said n m' → AllByRecursion (λ c. has_work (Fin c.incoming.number) m' ≡ false) cs
 walks_rest [] m m' said n d = tt

@@ -1,6 +1,8 @@
 mod ChainLookups
+mod CoreLemmas
 mod NoticeSizes
-mod PeerLemmas
+mod LocalLemmas
+pub mod PeerLemmas
 mod SessionLemmas
 mod ShownRows
 mod UpdateLemmas
@@ -20,3 +22,12 @@ pub mod FeedLemmas
 pub mod RoomLemmas
 pub mod LossLemmas
 pub mod StepLemmas
+pub mod TreeParts
+pub mod RibLinks
+pub mod RouteLemmas
+pub mod ProtocolLosses
+pub mod RouteTurns
+pub mod RouteTasks
+pub mod DrainRoutes
+pub mod RouteRoom
+pub mod RouteSteps

@@ -8,7 +8,7 @@ use Rattle.journal_text.specs.Links.{owner_of}
 use Rattle.journal_text.specs.Walk.{Links, Leads}
 use Rattle.in_chain.specs.Chains.{Chained, links_of, beside}
 use Rattle.in_chain.specs.Falls.{LeadsChain}
-use Rattle.router_core.specs.Moments.{Moment, chain_at, put_chain, with_chain, links_by, router_links}
+use Rattle.router_core.specs.Moments.{Moment, chain_at, put_chain, with_chain, links_by, peer_links, router_links}
 use Rattle.router_core.proofs.ChainLemmas.{equal_by, number_at, chain_at_put_same, chain_at_put_other}
 
 -- a link that no chain has
@@ -60,7 +60,7 @@ module _ (m : Moment) (k : ℕ) (c : Chained) (at : chain_at k m.chains ≡ Some
     pub beside_new : beside (router_links m) c' ≡ router_links (with_chain m c')
     beside_new i link = each link i
       where
-        none : (link : Link) → ((d : Chained) → links_of d link ≡ None) → router_links m link ≡ router_links (with_chain m c') link
+        none : (link : Link) → ((d : Chained) → links_of d link ≡ None) → peer_links m.chains link ≡ peer_links (put_chain c' m.chains) link
         none link lacks = both_none link lacks (chain_at (owner_of link) m.chains) (chain_at (owner_of link) (put_chain c' m.chains))
 
         each : (link : Link) → beside (router_links m) c' link ≡ router_links (with_chain m c') link
@@ -68,18 +68,18 @@ module _ (m : Moment) (k : ℕ) (c : Chained) (at : chain_at k m.chains ≡ Some
         each (Peer j s) = new_at (Peer j s) j (nat_eq j c'.incoming.number) refl
         each (Filt j) = new_at (Filt j) j (nat_eq j c'.incoming.number) refl
         each (Res j) = none (Res j) (λ d. refl)
-        each (Org p) = none (Org p) (λ d. refl)
-        each (Lost p n) = none (Lost p n) (λ d. refl)
-        each Low = none Low (λ d. refl)
-        each Dyn = none Dyn (λ d. refl)
-        each Int = none Int (λ d. refl)
+        each (Org p) = refl
+        each (Lost p n) = refl
+        each Low = refl
+        each Dyn = refl
+        each Int = refl
         each Red = none Red (λ d. refl)
         each Best = none Best (λ d. refl)
         each ReadRib = none ReadRib (λ d. refl)
         each Ebgp = none Ebgp (λ d. refl)
         each Ibgp = none Ibgp (λ d. refl)
         each Ext = none Ext (λ d. refl)
-        each Fib = none Fib (λ d. refl)
+        each Fib = refl
         each (Read j s) = none (Read j s) (λ d. refl)
         each (Outf j s) = none (Outf j s) (λ d. refl)
         each (Adv j s) = none (Adv j s) (λ d. refl)

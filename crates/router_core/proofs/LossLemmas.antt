@@ -16,7 +16,7 @@ use Rattle.journal_text.specs.Texts.{entries_of}
 use Rattle.journal_text.specs.Walk.{Leads}
 use Rattle.journal_text.proofs.JournalLemmas.{entries_of_entries}
 use Rattle.event_text.specs.declared.declared.DeclaredPeer.{DeclaredPeer}
-use Rattle.event_text.specs.Declarations.{Declaration, peer_at, ended_at, without_session}
+use Rattle.event_text.specs.Declarations.{peer_at, ended_at, without_session}
 use Rattle.pass_core.specs.Passed.{present}
 use Rattle.in_chain.specs.Incomings.{NoneEmpty}
 use Rattle.in_chain.specs.Chains.{Chained, beside, IsChain}
@@ -30,7 +30,7 @@ use Rattle.router_core.specs.Turns.{journal_lines}
 use Rattle.router_core.specs.Works.{Pushes, Steps, IsPlace, LosesChain, HasRoom, IsSession, HasLost, Ends}
 use Rattle.router_core.proofs.ChainLemmas.{equal_by, number_at}
 use Rattle.router_core.proofs.LinkLemmas.{leads_router}
-use Rattle.router_core.proofs.StandLemmas.{one_peer, peer_of, KeepsOthers, stands_put, live_routed}
+use Rattle.router_core.proofs.StandLemmas.{remade, losses_stay, losses_join, one_peer, peer_of, KeepsOthers, stands_put, live_routed}
 use Rattle.router_core.proofs.TurnLemmas.{flushed_join, leads_join}
 use Rattle.router_core.proofs.PlaceLemmas.{at_place, set_at_place}
 
@@ -163,12 +163,9 @@ lost_stands p s c up session stands room chain full = record {
         let was = room_of c room e in
         (omega arith, subst (λ (ds : List (Lost Attrs)). AllByRecursion (λ d. d.number ≤ p.session) ds) (sym is) (low_push p.session c.incoming.deletions (record { number = s; rows = c.incoming.live }) low (omega arith)))
 
-abbrev moment_by : Declaration → List Chained → Moment
-moment_by d cs = record { declared = d; chains = cs }
-
 -- the loss in a peer's chain is one of the router
 pub ends_one : (k s : ℕ) (m : Moment) (c c' : Chained) (said : List Line) → Stands m → IsSession k s m → overdue_of c.incoming ≡ None → chain_at k m.chains ≡ Some c → LosesChain s c c' said
-    → Ends k s m (moment_by (without_session m.declared k) (put_chain c' m.chains)) said
+    → Ends k s m (remade m (without_session m.declared k) (put_chain c' m.chains)) said
 ends_one k s m c c' said stands up free at f =
     let peer = peer_of m stands k c at in
     let same : peer.0 ≡ up.0 = one_peer peer.0 up.0 (sym peer.1 ∙ up.1) in
@@ -179,25 +176,26 @@ ends_one k s m c c' said stands up free at f =
     (lost_stands peer.0 s c is_up session peer.2 free (subst IsChain f.is f.step.chain) (subst (λ (x : Chained). NoneEmpty x.incoming.deletions) f.is f.step.full)) in
     let at_now : StandsAt (peer_at k (map (ended_at k) m.declared.peers)) (Some c') = subst (λ (o : Option DeclaredPeer). StandsAt o (Some c')) (sym (ended_same k m.declared.peers peer.0 peer.1)) here in
     record {
+      losses = losses_stay m (remade m (without_session m.declared k) (put_chain c' m.chains)) refl;
       chain = c;
       there = at;
       lines = f.lines;
-      after = ap (λ (x : Chained). moment_by (without_session m.declared k) (put_chain x m.chains)) f.is;
+      after = ap (λ (x : Chained). remade m (without_session m.declared k) (put_chain x m.chains)) f.is;
       leads = leads_router m k c at c' number (entries_of said) f.step.leads;
       live = live_routed m (without_session m.declared k) k c c' at number (ap (λ (x : Chained). present x.filter) f.is) ∙ ap (λ r. the_state (with_routes (live_state m).routes k r)) (ap (λ (x : Chained). x.incoming.live) f.is);
       stands = stands_put m (without_session m.declared k) k c c' stands at number f.step.words.0 keeps at_now;
     }
   where
     the_state : (ℕ → Routes) → LiveState
-    the_state routes = record { declared = without_session m.declared k; routes = routes; rules = (live_state m).rules }
+    the_state routes = record { declared = without_session m.declared k; routes = routes; rules = (live_state m).rules; interior = (live_state m).interior }
 
     keeps : KeepsOthers k m.declared (without_session m.declared k)
     keeps = record { speaker = refl; count = ended_length k m.declared.peers; others = λ j e. ended_other k j m.declared.peers e }
 
 pub one_ended : (k s : ℕ) (m : Moment) (cs : List Chained) (before now : Journaled) → Stands m → IsSession k s m → ((c : Chained) → chain_at k m.chains ≡ Some c → overdue_of c.incoming ≡ None)
-    → Steps (LosesChain s) k m.chains cs before now → Pushes (Ends k s m (moment_by (without_session m.declared k) cs)) before now
+    → Steps (LosesChain s) k m.chains cs before now → Pushes (Ends k s m (remade m (without_session m.declared k) cs)) before now
 one_ended k s m cs before now stands up free t =
-    (t.4.0, t.4.1, subst (λ (x : List Chained). Ends k s m (moment_by (without_session m.declared k) x) t.4.0) (sym t.3) (ends_one k s m t.0 t.1 t.4.0 stands up (free t.0 t.2) t.2 t.4.2))
+    (t.4.0, t.4.1, subst (λ (x : List Chained). Ends k s m (remade m (without_session m.declared k) x) t.4.0) (sym t.3) (ends_one k s m t.0 t.1 t.4.0 stands up (free t.0 t.2) t.2 t.4.2))
 
 -- ---- both
 pub lost_all : (k s : ℕ) (m room m' : Moment) (before j j' now : Journaled) → Gives (HasRoom k m room) before j → Pushes (Ends k s room m') j j' → now ≡ flushed j' → Gives (HasLost k s m m') before now
@@ -205,6 +203,7 @@ lost_all k s m room m' before j j' now r e is = (
   r.0 ++ e.0,
   is ∙ ap flushed e.1 ∙ ap (λ (x : Journaled). flushed (with_lines x e.0)) r.1 ∙ flushed_join before r.0 e.0,
   record {
+    losses = losses_join 0 0 m room m' r.2.work.losses e.2.losses;
     loses = record {
       before = r.2.before;
       at = r.2.at;

@@ -29,7 +29,10 @@ use Rattle.in_chain.specs.Chains.{Chained, filt_rows, links_of, is_named}
 use Rattle.journal_text.specs.Journals.{attrs_rows, route_rows}
 use Rattle.journal_text.proofs.WalkLemmas.{leads_nowhere}
 use Rattle.in_chain.specs.Steps.{new_chain, refiltered}
-use Rattle.router_core.specs.Moments.{Moment, chain_at, put_chain, with_chain, insert_chain, links_by, router_links}
+use Rattle.rib_route.specs.declared.rows.Interior.{Interior}
+use Rattle.register_interest.specs.Registers.{Registry}
+use Rattle.rib_tree.specs.Trees.{Treed}
+use Rattle.router_core.specs.Moments.{Moment, chain_at, put_chain, with_chain, insert_chain, links_by, peer_links, router_links}
 use Rattle.router_core.specs.Lives.{LiveState, live_state, routes_of, rules_of, with_rules, begun_if_down}
 use Rattle.router_core.specs.Stands.{IsEarlier, IsSilent, PeerStands, StandsAt, AreInOrder, Stands}
 use Rattle.router_core.specs.Blocks.{Acts, ByPeer, BeginsIf, Declares, declared_speaker, declared_peer, begun}
@@ -37,7 +40,7 @@ use Rattle.router_core.specs.Peers.{place_in, is_up, Edits}
 use Rattle.router_core.specs.Works.{IsPlace}
 use Rattle.router_core.proofs.ChainLemmas.{equal_by, same_by, other_by, chain_here, chain_past, number_at}
 use Rattle.router_core.proofs.LinkLemmas.{both_none, beside_old, beside_new}
-use Rattle.router_core.proofs.StandLemmas.{one_peer, peer_of, chain_there, stands_with, live_edited}
+use Rattle.router_core.proofs.StandLemmas.{remade, one_peer, peer_of, chain_there, stands_with, live_edited}
 use Rattle.router_core.proofs.PlaceLemmas.{at_place, set_at_place}
 
 -- ---- a chain more
@@ -165,6 +168,8 @@ module _ (m : Moment) (me : Speaker) (k : ℕ) (words : Speaker) (is_local : m.d
     peers = λ j. by_test j (nat_eq k j) refl;
     speaker = all_more (λ c. m.declared.speaker ≡ Some c.me) fresh m.chains stands.speaker is_local;
     count = chains_more fresh m.chains ∙ ap (λ (n : ℕ). n + 1) stands.count ∙ sym (length_push m.declared.peers (new_peer m k words));
+    tree = stands.tree;
+    registered = stands.registered;
   }
     where
       by_test : (j : ℕ) (b : Bool) → nat_eq k j ≡ b → StandsAt (peer_at j (with_peer m.declared k words).peers) (chain_at j chains_then)
@@ -219,7 +224,7 @@ module _ (m : Moment) (me : Speaker) (k : ℕ) (words : Speaker) (is_local : m.d
   declared_links : links_then ≡ router_links (declared_peer m me k words)
   declared_links i link = each link i
     where
-      none : (link : Link) → ((c : Chained) → links_of c link ≡ None) → links_by (chain_at (owner_of link) m.chains) link ≡ links_by (chain_at (owner_of link) chains_then) link
+      none : (link : Link) → ((c : Chained) → links_of c link ≡ None) → peer_links m.chains link ≡ peer_links chains_then link
       none link lacks = both_none link lacks (chain_at (owner_of link) m.chains) (chain_at (owner_of link) chains_then)
 
       each : (link : Link) → links_then link ≡ router_links (declared_peer m me k words) link
@@ -227,18 +232,18 @@ module _ (m : Moment) (me : Speaker) (k : ℕ) (words : Speaker) (is_local : m.d
       each (Peer j s) = peer_link j s
       each (Filt j) = begins j (Filt j) (route_rows (filt_rows fresh)) (λ b e. ap (λ (b : Bool). cond b (Some (route_rows (filt_rows fresh))) None) e) new_filt
       each (Res j) = none (Res j) (λ c. refl)
-      each (Org p) = none (Org p) (λ c. refl)
-      each (LostOf p n) = none (LostOf p n) (λ c. refl)
-      each Low = none Low (λ c. refl)
-      each Dyn = none Dyn (λ c. refl)
-      each Int = none Int (λ c. refl)
+      each (Org p) = refl
+      each (LostOf p n) = refl
+      each Low = refl
+      each Dyn = refl
+      each Int = refl
       each Red = none Red (λ c. refl)
       each Best = none Best (λ c. refl)
       each ReadRib = none ReadRib (λ c. refl)
       each Ebgp = none Ebgp (λ c. refl)
       each Ibgp = none Ibgp (λ c. refl)
       each Ext = none Ext (λ c. refl)
-      each Fib = none Fib (λ c. refl)
+      each Fib = refl
       each (Read j s) = none (Read j s) (λ c. refl)
       each (Outf j s) = none (Outf j s) (λ c. refl)
       each (Adv j s) = none (Adv j s) (λ c. refl)
@@ -261,7 +266,7 @@ module _ (m : Moment) (me : Speaker) (k : ℕ) (words : Speaker) (is_local : m.d
   peer_acts = record {
     block = subst (λ (s : Option Speaker). Declares m s k words (lines.Journal (Begin (In k)) ∷ lines.Journal (Begin (Filt k)) ∷ []) 0 (declared_peer m me k words)) (sym is_local) (refl, refl, refl);
     leads = declared_leads;
-    live = λ i. record { declared = with_peer m.declared k words; routes = λ j. stays routes_of refl j i; rules = λ j. stays rules_of refl j i };
+    live = λ i. record { declared = with_peer m.declared k words; routes = λ j. stays routes_of refl j i; rules = λ j. stays rules_of refl j i; interior = (live_state m).interior };
   }
 
 -- ---- a session begins
@@ -311,6 +316,8 @@ begun_stands m k stands = record {
   order = stands.order;
   speaker = stands.speaker;
   count = stands.count ∙ sym (begun_length k m.declared.peers);
+  tree = stands.tree;
+  registered = stands.registered;
   peers = λ j. subst (λ (o : Option DeclaredPeer). StandsAt o (chain_at j m.chains)) (sym (peer_at_map (begun_at k) (begun_words k) j m.declared.peers)) (begun_one k (peer_at j m.declared.peers) (chain_at j m.chains) (stands.peers j));
 }
 
@@ -353,19 +360,19 @@ ignored_acts m k up = record {
     live (Some p) up = sym (ap (λ (u : Bool). cond u (live_state m) (live_state (begun m k))) up)
 
 -- ---- the moment after it, from its parts
-abbrev moment_by : Declaration → List Chained → Moment
-moment_by d cs = record { declared = d; chains = cs }
+abbrev pub moment_by : Declaration → Treed → Registry Interior → List Chained → Moment
+moment_by d t r cs = record { declared = d; tree = t; registry = r; chains = cs }
 
 -- the peer that was declared, by its words
 pub new_peer_at : (d : Declaration) (k : ℕ) (words : Speaker) → peer_at k d.peers ≡ None → peer_at k (with_peer d k words).peers ≡ Some (record { words = words_of d.speaker k words; session = 0; up = false })
 new_peer_at d k words absent = peer_at_push_here k d.peers (record { words = words_of d.speaker k words; session = 0; up = false }) absent refl
 
-pub declared_is : (m : Moment) (me : Speaker) (k : ℕ) (words : Speaker) (before after : Declaration) (p : DeclaredPeer) (c : Chained) (cs cs' : List Chained) → moment_by before cs ≡ m → peer_at k before.peers ≡ None
-    → after ≡ with_peer before k words → Some p ≡ peer_at k after.peers → c ≡ new_chain me p.words → cs' ≡ insert_chain c cs → moment_by after cs' ≡ declared_peer m me k words
-declared_is m me k words before after p c cs cs' view absent added there new inserted =
+pub declared_is : (m : Moment) (me : Speaker) (k : ℕ) (words : Speaker) (before after : Declaration) (p : DeclaredPeer) (c : Chained) (t : Treed) (r : Registry Interior) (cs cs' : List Chained) → moment_by before t r cs ≡ m → peer_at k before.peers ≡ None
+    → after ≡ with_peer before k words → Some p ≡ peer_at k after.peers → c ≡ new_chain me p.words → cs' ≡ insert_chain c cs → moment_by after t r cs' ≡ declared_peer m me k words
+declared_is m me k words before after p c t r cs cs' view absent added there new inserted =
     let q : DeclaredPeer = record { words = words_of before.speaker k words; session = 0; up = false } in
     let is : p ≡ q = one_peer p q (there ∙ ap (λ (d : Declaration). peer_at k d.peers) added ∙ new_peer_at before k words absent) in
-    ap (λ (d : Declaration). moment_by d cs') added ∙ ap (moment_by (with_peer before k words)) (inserted ∙ ap (λ (x : Chained). insert_chain x cs) (new ∙ ap (λ (x : DeclaredPeer). new_chain me x.words) is))
+    ap (λ (d : Declaration). moment_by d t r cs') added ∙ ap (moment_by (with_peer before k words) t r) (inserted ∙ ap (λ (x : Chained). insert_chain x cs) (new ∙ ap (λ (x : DeclaredPeer). new_chain me x.words) is))
     ∙ ap (λ (n : Moment). declared_peer n me k words) view
 
 -- the peer that was just declared is there
@@ -374,14 +381,15 @@ not_added before after k words absent added none =
     let there : peer_at k after.peers ≡ Some (record { words = words_of before.speaker k words; session = 0; up = false }) = ap (λ (d : Declaration). peer_at k d.peers) added ∙ new_peer_at before k words absent in
     cc
 
-pub begun_is : (m : Moment) (k : ℕ) (before after : Declaration) (cs : List Chained) → moment_by before cs ≡ m → after ≡ with_session before k → moment_by after cs ≡ begun m k
-begun_is m k before after cs view began = ap (λ (d : Declaration). moment_by d cs) began ∙ ap (λ (n : Moment). begun n k) view
+pub begun_is : (m : Moment) (k : ℕ) (before after : Declaration) (t : Treed) (r : Registry Interior) (cs : List Chained) → moment_by before t r cs ≡ m → after ≡ with_session before k
+    → moment_by after t r cs ≡ begun m k
+begun_is m k before after t r cs view began = ap (λ (d : Declaration). moment_by d t r cs) began ∙ ap (λ (n : Moment). begun n k) view
 
 pub peer_absent : (d : Declaration) (k : ℕ) (words : Speaker) → refusal d (events.Peer k words) ≡ None → peer_at k d.peers ≡ None
 peer_absent d k words e = (addable d.speaker d.peers k words e).1
 
 -- ---- `local`
-local_first : (d : Declaration) (words : Speaker) → refusal d (events.Local words) ≡ None → d.speaker ≡ None
+pub local_first : (d : Declaration) (words : Speaker) → refusal d (events.Local words) ≡ None → d.speaker ≡ None
 unfolding refusal
 local_first d words e = by_speaker d.speaker e
   where
@@ -408,6 +416,8 @@ speaker_stands m words admitted stands = record {
   peers = stands.peers;
   speaker = no_chains m.declared.speaker (Some words) m.chains (local_first m.declared words admitted) stands.speaker;
   count = stands.count;
+  tree = record { tree = stands.tree.tree; full = stands.tree.full; few = stands.tree.few; waiting = λ e. absurd (cc) };
+  registered = stands.registered;
 }
 
 -- ---- new rules
@@ -447,8 +457,8 @@ same_links m k rules c at links =
     sym (beside_old m k c at) ∙ ap (λ (own : Links Value). λ (link : Link). cond (is_named c.incoming.number link) (own link) (router_links m link)) (sym links)
     ∙ beside_new m k c at (refiltered rules c) (number_at k m.chains c at)
 
-pub edited_acts : (m : Moment) (k : ℕ) (rules : List Rule) (cs : List Chained) → Edits k rules m.chains cs → Acts m (events.FilterIn k rules) 0 (moment_by m.declared cs) []
-edited_acts m k rules cs e = subst (λ (x : List Chained). Acts m (events.FilterIn k rules) 0 (moment_by m.declared x) []) (sym e.2) (record {
+pub edited_acts : (m : Moment) (k : ℕ) (rules : List Rule) (cs : List Chained) → Edits k rules m.chains cs → Acts m (events.FilterIn k rules) 0 (remade m m.declared cs) []
+edited_acts m k rules cs e = subst (λ (x : List Chained). Acts m (events.FilterIn k rules) 0 (remade m m.declared x) []) (sym e.2) (record {
   block = (e.0, e.1, (refl, refl, refl));
   leads = leads_nowhere (router_links m) (router_links (with_chain m (refiltered rules e.0))) (same_links m k rules e.0 e.1 e.3);
   live = live_edited m k e.0 (refiltered rules e.0) e.1 (number_at k m.chains e.0 e.1) refl
@@ -456,12 +466,12 @@ edited_acts m k rules cs e = subst (λ (x : List Chained). Acts m (events.Filter
 })
   where
     live_by : Moment → (ℕ → List Rule) → LiveState
-    live_by m rules = record { declared = m.declared; routes = (live_state m).routes; rules = rules }
+    live_by m rules = record { declared = m.declared; routes = (live_state m).routes; rules = rules; interior = (live_state m).interior }
 
-pub edited_stands : (m : Moment) (k : ℕ) (rules : List Rule) (cs : List Chained) → Stands m → Edits k rules m.chains cs → Stands (moment_by m.declared cs)
+pub edited_stands : (m : Moment) (k : ℕ) (rules : List Rule) (cs : List Chained) → Stands m → Edits k rules m.chains cs → Stands (remade m m.declared cs)
 edited_stands m k rules cs stands e =
     let p = peer_of m stands k e.0 e.1 in
-    subst (λ (x : List Chained). Stands (moment_by m.declared x)) (sym e.2)
+    subst (λ (x : List Chained). Stands (remade m m.declared x)) (sym e.2)
     (stands_with m k e.0 (refiltered rules e.0) p.0 stands e.1 (number_at k m.chains e.0 e.1) refl p.1 (edited_peer p.0 e.0 rules p.2))
 
 pub edits_placed : (k : ℕ) (rules : List Rule) (cs : List Chained) (i : ℕ) (c c' : Chained) → AreInOrder cs → IsPlace k cs (Some i) → c ≡ get_or cs i c → c' ≡ refiltered rules c → links_of c' ≡ links_of c

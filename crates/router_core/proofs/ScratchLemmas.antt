@@ -12,15 +12,23 @@ use Rattle.filter_bank.specs.Filtered.{passed_rows, filtered_rows}
 use Rattle.journal_text.specs.declared.link.Link.{Link}
 use Rattle.journal_text.specs.declared.link.Link.TheVariants.{In, Peer, Filt, Res, Org, Lost as LostOf, Low, Dyn, Int, Red, Best, ReadRib, Ebgp, Ibgp, Ext, Fib, Read, Outf, Adv}
 use Rattle.journal_text.specs.Links.{owner_of}
-use Rattle.journal_text.specs.Journals.{attrs_rows, route_rows}
+use Rattle.journal_text.specs.Journals.{attrs_rows, route_rows, interior_rows, fib_rows}
 use Rattle.event_text.specs.declared.declared.DeclaredPeer.{DeclaredPeer}
 use Rattle.event_text.specs.Declarations.{peer_at}
 use Rattle.in_chain.specs.Incomings.{in_rows, rows_below, rows_above}
 use Rattle.in_chain.specs.Chains.{Chained, filt_rows}
-use Rattle.router_core.specs.Moments.{Moment, chain_at, links_by, router_links}
-use Rattle.router_core.specs.Lives.{Routes, live_state, routes_of, rules_of}
+use Rattle.link_change.specs.Rows.{Rows}
+use Rattle.rib_route.specs.declared.Proto.{Proto}
+use Rattle.rib_route.specs.declared.Proto.TheVariants.{Connected, Static, Ospf, Rip}
+use Rattle.rib_route.specs.declared.rows.Interior.{Interior}
+use Rattle.rib_merge.specs.Merging.{merged}
+use Rattle.rib_origin.specs.Branches.{org_rows, rows_below as interiors_below, rows_above as interiors_above}
+use Rattle.rib_tree.specs.Trees.{branch_of, low_rows, dyn_rows, int_rows, interior_distance}
+use Rattle.rib_tree.specs.Forwards.{forwarded}
+use Rattle.router_core.specs.Moments.{Moment, chain_at, links_by, peer_links, rib_by, router_links}
+use Rattle.router_core.specs.Lives.{Routes, Interiors, live_state, routes_of, rules_of}
 use Rattle.router_core.specs.Stands.{StandsAt, Stands, ChainIsSettled, IsSettled}
-use Rattle.router_core.specs.Scratch.{live_rows, judged_rows, from_scratch, IsExact}
+use Rattle.router_core.specs.Scratch.{live_rows, judged_rows, best_of, least_rows, since_local, from_scratch, IsExact}
 use Rattle.router_core.proofs.ChainLemmas.{same_by, number_at, all_at}
 use Rattle.router_core.proofs.LinkLemmas.{none_by}
 use Rattle.router_core.proofs.StandLemmas.{speaker_at}
@@ -42,7 +50,7 @@ module _ (m : Moment) (stands : Stands m) (settled : IsSettled m) where
   here k c at = same_by k c.incoming.number (sym (number_at k m.chains c at))
 
   rests : (k : ℕ) (c : Chained) → chain_at k m.chains ≡ Some c → ChainIsSettled c
-  rests k c at = all_at ChainIsSettled k m.chains c settled at
+  rests k c at = all_at ChainIsSettled k m.chains c settled.chains at
 
   in_exact : (k : ℕ) (p : Option DeclaredPeer) (c : Option Chained) → chain_at k m.chains ≡ c → StandsAt p c → links_by c (In k) ≡ option_map attrs_rows (live_rows p (routes_of c))
   in_exact k None None at there = refl
@@ -69,10 +77,50 @@ module _ (m : Moment) (stands : Stands m) (settled : IsSettled m) where
       ∙ ap (λ (w : Neighbour). Some (route_rows (filtered_rows c.me w (present c.filter) (tables.get c.incoming.live)))) there.words
       ∙ ap (λ (s : Option Speaker). option_map route_rows (judged_rows s (Some p) (present c.filter) c.incoming.live)) (sym (speaker_at m stands k c at))
 
+  -- ---- the interior routes
+  abbrev routes_in : Proto → Interiors
+  routes_in proto = (branch_of proto m.tree).live
+
+  org_is : (proto : Proto) → org_rows (branch_of proto m.tree) ≡ tables.get (routes_in proto)
+  org_is proto = ap (interiors_below (routes_in proto)) (settled.tree proto)
+
+  low_is : low_rows m.tree ≡ best_of (routes_in Connected) (routes_in Static)
+  low_is i = merged interior_distance (org_is Connected i) (org_is Static i)
+
+  dyn_is : dyn_rows m.tree ≡ best_of (routes_in Ospf) (routes_in Rip)
+  dyn_is i = merged interior_distance (org_is Ospf i) (org_is Rip i)
+
+  int_is : int_rows m.tree ≡ least_rows routes_in
+  int_is i = merged interior_distance (low_is i) (dyn_is i)
+
+  org_exact : (proto : Proto) (s : Option Speaker) → rib_by s m.tree (Org proto) ≡ option_map interior_rows (since_local s (tables.get (routes_in proto)))
+  org_exact proto None = refl
+  org_exact proto (Some me) = ap (λ (rows : Rows Interior). Some (interior_rows rows)) (org_is proto)
+
+  lost_exact : (proto : Proto) (n : ℕ) (s : Option Speaker) → rib_by s m.tree (LostOf proto n) ≡ None
+  lost_exact proto n None = refl
+  lost_exact proto n (Some me) = ap (λ (ds : List (Lost Interior)). option_map interior_rows (interiors_above (routes_in proto) n ds)) (settled.tree proto)
+
+  low_exact : (s : Option Speaker) → rib_by s m.tree Low ≡ option_map interior_rows (since_local s (best_of (routes_in Connected) (routes_in Static)))
+  low_exact None = refl
+  low_exact (Some me) = ap (λ (rows : Rows Interior). Some (interior_rows rows)) low_is
+
+  dyn_exact : (s : Option Speaker) → rib_by s m.tree Dyn ≡ option_map interior_rows (since_local s (best_of (routes_in Ospf) (routes_in Rip)))
+  dyn_exact None = refl
+  dyn_exact (Some me) = ap (λ (rows : Rows Interior). Some (interior_rows rows)) dyn_is
+
+  int_exact : (s : Option Speaker) → rib_by s m.tree Int ≡ option_map interior_rows (since_local s (least_rows routes_in))
+  int_exact None = refl
+  int_exact (Some me) = ap (λ (rows : Rows Interior). Some (interior_rows rows)) int_is
+
+  fib_exact : (s : Option Speaker) → rib_by s m.tree Fib ≡ option_map fib_rows (since_local s (forwarded (least_rows routes_in)))
+  fib_exact None = refl
+  fib_exact (Some me) = ap (λ (rows : Rows Interior). Some (fib_rows (forwarded rows))) int_is
+
   pub settled_is_exact : IsExact m
   settled_is_exact link = each link
     where
-      none : (link : Link) → ((c : Chained) → links_by (Some c) link ≡ None) → router_links m link ≡ None
+      none : (link : Link) → ((c : Chained) → links_by (Some c) link ≡ None) → peer_links m.chains link ≡ None
       none link lacks = none_by link lacks (chain_at (owner_of link) m.chains)
 
       each : (link : Link) → router_links m link ≡ from_scratch (live_state m) link
@@ -80,18 +128,18 @@ module _ (m : Moment) (stands : Stands m) (settled : IsSettled m) where
       each (Peer k s) = peer_exact k s (chain_at k m.chains) refl
       each (Filt k) = filt_exact k (peer_at k m.declared.peers) (chain_at k m.chains) refl (stands.peers k)
       each (Res j) = none (Res j) (λ c. refl)
-      each (Org p) = none (Org p) (λ c. refl)
-      each (LostOf p n) = none (LostOf p n) (λ c. refl)
-      each Low = none Low (λ c. refl)
-      each Dyn = none Dyn (λ c. refl)
-      each Int = none Int (λ c. refl)
+      each (Org p) = org_exact p m.declared.speaker
+      each (LostOf p n) = lost_exact p n m.declared.speaker
+      each Low = low_exact m.declared.speaker
+      each Dyn = dyn_exact m.declared.speaker
+      each Int = int_exact m.declared.speaker
       each Red = none Red (λ c. refl)
       each Best = none Best (λ c. refl)
       each ReadRib = none ReadRib (λ c. refl)
       each Ebgp = none Ebgp (λ c. refl)
       each Ibgp = none Ibgp (λ c. refl)
       each Ext = none Ext (λ c. refl)
-      each Fib = none Fib (λ c. refl)
+      each Fib = fib_exact m.declared.speaker
       each (Read j s) = none (Read j s) (λ c. refl)
       each (Outf j s) = none (Outf j s) (λ c. refl)
       each (Adv j s) = none (Adv j s) (λ c. refl)

@@ -5,7 +5,7 @@ use Rattle.bgp_wire.specs.declared.message.Message.{Message}
 use Rattle.bgp_wire.specs.declared.message.Message.TheVariants as messages
 use Rattle.bgp_wire.specs.Updates.{fault}
 use Rattle.bgp_wire.specs.Grammar.{IsFrame, Reads, OneAnswer}
-use Rattle.event_text.specs.declared.event.Event.TheVariants.{Nothing, Local, Peer, Up, Down, Bgp, FilterIn, Idle, Work, Ask, Show}
+use Rattle.event_text.specs.declared.event.Event.TheVariants.{Nothing, Local, Peer, Up, Down, Bgp, FilterIn, RouteAdd, RouteDel, Lose, Cover, Idle, Work, Ask, Show}
 use Rattle.event_text.specs.declared.declared.DeclaredPeer.{DeclaredPeer}
 use Rattle.event_text.specs.Declarations.{peer_at, with_session, without_session}
 use Rattle.router_core.specs.Lives.{LiveState, HearsIfUp, HearsFrom, plain, heard, is_ending, ends_session, ended, begun_if_down, ended_if_up, declared_up, declared_down, declared_heard}
@@ -41,7 +41,7 @@ up_follows : (l : LiveState) (k : ℕ) (o : Option DeclaredPeer) → (begun_if_d
 up_follows l k None = refl
 up_follows l k (Some p) = by_up p.up
   where
-    by_up : (up : Bool) → (cond up l (record { declared = with_session l.declared k; routes = l.routes; rules = l.rules })).declared ≡ cond up l.declared (with_session l.declared k)
+    by_up : (up : Bool) → (cond up l (record { declared = with_session l.declared k; routes = l.routes; rules = l.rules; interior = l.interior })).declared ≡ cond up l.declared (with_session l.declared k)
     by_up true = refl
     by_up false = refl
 
@@ -78,6 +78,10 @@ follows law l (Up k) l' after = ap (λ s. s.declared) after ∙ up_follows l k (
 follows law l (Down k) l' after = ap (λ s. s.declared) after ∙ down_follows l k (peer_at k l.declared.peers)
 follows law l (Bgp k octets) l' after = heard_follows l k (peer_at k l.declared.peers) octets l' law after
 follows law l (FilterIn k rules) l' after = ap (λ s. s.declared) after
+follows law l (RouteAdd p row) l' after = ap (λ s. s.declared) after
+follows law l (RouteDel proto p) l' after = ap (λ s. s.declared) after
+follows law l (Lose proto) l' after = ap (λ s. s.declared) after
+follows law l (Cover addr) l' after = ap (λ s. s.declared) after
 follows law l Idle l' after = ap (λ s. s.declared) after
 follows law l (Work task n) l' after = ap (λ s. s.declared) after
 follows law l (Ask link p) l' after = ap (λ s. s.declared) after

@@ -1,6 +1,6 @@
 -- The rows of a link, one after the other.
-use Rattle.std.proofs.Common.{◌≡◌, ◌⊎◌, ℕ, ◌+◌, ◌^◌, ◌<◌, ◌≤◌, List, [], ◌∷◌, ◌++◌, map, length, Option, Some, None, refl, sym, ap, subst, ◌∙◌, inl, inr, append-nil, append_assoc, length-append, arith}
-use Rattle.std.specs.Prelude.{IsSome, Contains}
+use Rattle.std.proofs.Common.{◌≡◌, ◌⊎◌, ℕ, ◌+◌, ◌^◌, ◌<◌, ◌≤◌, true, false, List, [], ◌∷◌, ◌++◌, map, length, Option, Some, None, refl, sym, ap, subst, ◌∙◌, inl, inr, append-nil, append_assoc, length-append, arith}
+use Rattle.std.specs.Prelude.{IsSome, is_some, Contains}
 use Rattle.std.specs.List.{AllByRecursion}
 use Rattle.std.specs.List.Sorted.{IsStrictlySortedBy}
 use Rattle.std.specs.Ordering.{ordering_reverse}
@@ -12,20 +12,20 @@ use Rattle.addr4.specs.Prefixes.{Network, prefix_cmp, ComesBefore}
 use Rattle.addr4.specs.Places.{IsBeyond, IsShort, beyond}
 use Rattle.addr4.proofs.PrefixOrder.{prefixes_total, exact_prefixes}
 use Rattle.addr4.proofs.RankLemmas.{rank_beyond, further}
-use Rattle.link_change.specs.Rows.{Rows, Candidates, IsNextCandidate, CoversRows}
+use Rattle.link_change.specs.Rows.{Rows, Candidates, IsNextCandidate, CoversRows, with_rows}
 use Rattle.journal_text.specs.declared.value.Value.{Value}
 use Rattle.journal_text.specs.declared.link.Link.{Link}
+use Rattle.journal_text.specs.declared.link.Link.TheVariants.{In, Peer, Filt, Res, Org, Lost, Low, Dyn, Int, Red, Best, ReadRib, Ebgp, Ibgp, Ext, Fib, Read, Outf, Adv}
 use Rattle.journal_text.specs.declared.line.Line.{Line}
 use Rattle.journal_text.specs.declared.line.Line.TheVariants as lines
 use Rattle.journal_text.specs.declared.entry.Entry.{Entry}
 use Rattle.journal_text.specs.Walk.{Links, Leads, HasRow}
 use Rattle.journal_text.specs.Texts.{entries_of}
 use Rattle.event_text.specs.declared.event.Event.TheVariants as events
-use Rattle.in_chain.specs.Chains.{Chained}
-use Rattle.router_core.specs.Moments.{Moment, router_links}
+use Rattle.router_core.specs.Moments.{Moment, peer_links, rib_by, router_links}
 use Rattle.journal_text.specs.Journals.{Journaled, with_lines}
-use Rattle.router_core.specs.Blocks.{AreRows, Shows, Acts}
-use Rattle.router_core.specs.Lookups.{links_among, listed_at, row_lines, Counts, ShowsRow, IsCountOf}
+use Rattle.router_core.specs.Blocks.{AreRows, answer_lines, Shows, Acts}
+use Rattle.router_core.specs.Lookups.{is_of_rib, listed_at, row_lines, Counts, ShowsRow, IsCountOf}
 use Rattle.router_core.specs.Works.{Pushes}
 
 -- a prefix lies beyond the place, or is listed
@@ -223,11 +223,91 @@ shows_no_entries : (link : Link) (of : Option (Rows Value)) (said : List Line) �
 shows_no_entries link None said shows = ap entries_of shows
 shows_no_entries link (Some rows) said shows = ap entries_of shows.2 ∙ no_entries link shows.0 (length shows.0)
 
-pub show_acts : (m : Moment) (chains : List Chained) (link : Link) (said : List Line) → chains ≡ m.chains → Shows link (links_among chains link) said → Acts m (events.Show link) 0 m said
-show_acts m chains link said same shows =
-    let here : Shows link (router_links m link) said = subst (λ (cs : List Chained). Shows link (links_among cs link) said) same shows in
+pub show_acts : (m : Moment) (link : Link) (of : Option (Rows Value)) (said : List Line) → router_links m link ≡ of → Shows link of said → Acts m (events.Show link) 0 m said
+show_acts m link of said is shows =
+    let here : Shows link (router_links m link) said = subst (λ (o : Option (Rows Value)). Shows link o said) (sym is) shows in
     record {
       block = (refl, refl, here);
-      leads = subst (λ (es : List (Entry Value)). Leads (router_links m) es (router_links m)) (sym (shows_no_entries link (router_links m link) said here)) (record { lawful = tt; ends = refl });
+      leads = subst (λ (es : List (Entry Value)). Leads (router_links m) es (router_links m)) (sym (shows_no_entries link of said shows)) (record { lawful = tt; ends = refl });
       live = refl;
     }
+
+-- ---- a lookup as an event
+pub ask_acts : (m : Moment) (link : Link) (p : Network) (of : Option (Rows Value)) → router_links m link ≡ of → Acts m (events.Ask link p) 0 m (answer_lines link p of)
+ask_acts m link p None is = record {
+  block = (ap (answer_lines link p) (sym is), refl, refl);
+  leads = record { lawful = tt; ends = refl };
+  live = refl;
+}
+ask_acts m link p (Some rows) is = record {
+  block = (ap (answer_lines link p) (sym is), refl, refl);
+  leads = record { lawful = ((rows, is, refl), tt); ends = refl };
+  live = refl;
+}
+
+-- ---- whose link it is
+pub links_of_rib : (m : Moment) (link : Link) → is_of_rib link ≡ true → router_links m link ≡ rib_by m.declared.speaker m.tree link
+links_of_rib m (In k) e = absurd (cc)
+links_of_rib m (Peer k s) e = absurd (cc)
+links_of_rib m (Filt k) e = absurd (cc)
+links_of_rib m (Res k) e = absurd (cc)
+links_of_rib m (Org p) e = refl
+links_of_rib m (Lost p n) e = refl
+links_of_rib m Low e = refl
+links_of_rib m Dyn e = refl
+links_of_rib m Int e = refl
+links_of_rib m Red e = absurd (cc)
+links_of_rib m Best e = absurd (cc)
+links_of_rib m ReadRib e = absurd (cc)
+links_of_rib m Ebgp e = absurd (cc)
+links_of_rib m Ibgp e = absurd (cc)
+links_of_rib m Ext e = absurd (cc)
+links_of_rib m Fib e = refl
+links_of_rib m (Read j s) e = absurd (cc)
+links_of_rib m (Outf j s) e = absurd (cc)
+links_of_rib m (Adv j s) e = absurd (cc)
+
+pub links_of_peers : (m : Moment) (link : Link) → is_of_rib link ≡ false → router_links m link ≡ peer_links m.chains link
+links_of_peers m (In k) e = refl
+links_of_peers m (Peer k s) e = refl
+links_of_peers m (Filt k) e = refl
+links_of_peers m (Res k) e = refl
+links_of_peers m (Org p) e = absurd (cc)
+links_of_peers m (Lost p n) e = absurd (cc)
+links_of_peers m Low e = absurd (cc)
+links_of_peers m Dyn e = absurd (cc)
+links_of_peers m Int e = absurd (cc)
+links_of_peers m Red e = refl
+links_of_peers m Best e = refl
+links_of_peers m ReadRib e = refl
+links_of_peers m Ebgp e = refl
+links_of_peers m Ibgp e = refl
+links_of_peers m Ext e = refl
+links_of_peers m Fib e = absurd (cc)
+links_of_peers m (Read j s) e = refl
+links_of_peers m (Outf j s) e = refl
+links_of_peers m (Adv j s) e = refl
+
+-- ---- a link whose candidates are its rows
+abbrev pub candidates_by : Option (Rows Value) → Candidates
+candidates_by None = λ q. false
+candidates_by (Some rows) = with_rows rows
+
+none_by_test : (o : Option Value) → is_some o ≡ false → o ≡ None
+none_by_test None e = refl
+none_by_test (Some v) e = absurd (cc)
+
+pub covers_own : (of : Option (Rows Value)) → CoversLink (candidates_by of) of
+covers_own None rows is q lacks = absurd (cc)
+covers_own (Some own) rows is q lacks = ap (λ (f : Rows Value). f q) (sym (one_rows own rows is)) ∙ none_by_test (own q) lacks
+
+-- the next candidate of each map of rows that the link has
+abbrev pub IsNextRow : Option (Rows Value) → Option Network → Option Network → Type 0
+IsNextRow of place result = (rows : Rows Value) → of ≡ Some rows → IsNextCandidate (with_rows rows) place result
+
+pub next_own : (of : Option (Rows Value)) (place result : Option Network) → IsSome of → IsNextRow of place result → IsNextCandidate (candidates_by of) place result
+next_own None place result live next = absurd (cc)
+next_own (Some rows) place result live next = next rows refl
+
+pub beyond_own : (of : Option (Rows Value)) (place : Option Network) (p : Network) → IsSome of → IsNextRow of place (Some p) → IsBeyond place p
+beyond_own of place p live next = (next_own of place (Some p) live next).0

@@ -1,5 +1,5 @@
 -- What stands after a step of one chain, and what is live then.
-use Rattle.std.proofs.Common.{◌≡◌, ℕ, ◌≤◌, Bool, true, false, cond, List, [], ◌∷◌, map, Option, Some, None, nat_eq, refl, sym, ap, subst, ◌∙◌, arith, length}
+use Rattle.std.proofs.Common.{◌≡◌, ℕ, ◌+◌, ◌≤◌, Bool, true, false, cond, List, [], ◌∷◌, map, Option, Some, None, nat_eq, refl, sym, ap, subst, ◌∙◌, arith, length}
 use Rattle.std.specs.List.{AllByRecursion, filter}
 use Rattle.bgp_attr.specs.declared.attrs.Attrs.{Attrs}
 use Rattle.bgp_attr.specs.declared.speaker.Speaker.{Speaker}
@@ -12,9 +12,27 @@ use Rattle.in_chain.specs.Incomings.{NoneEmpty}
 use Rattle.in_chain.specs.Chains.{Chained, IsChain}
 use Rattle.router_core.specs.Moments.{Moment, chain_at, put_chain, with_chain}
 use Rattle.router_core.specs.Lives.{LiveState, Routes, live_state, routes_of, rules_of, with_routes, with_rules}
-use Rattle.router_core.specs.Stands.{IsEarlier, IsSilent, PeerStands, StandsAt, Stands}
-use Rattle.router_core.specs.Works.{IsSoundAt}
+use Rattle.rib_tree.specs.Trees.{branch_of}
+use Rattle.router_core.specs.Stands.{IsEarlier, IsSilent, PeerStands, StandsAt, TreeStands, Stands}
+use Rattle.router_core.specs.Works.{IsSoundAt, HasLosses}
 use Rattle.router_core.proofs.ChainLemmas.{equal_by, chain_at_put_same, chain_at_put_other, in_order_put, all_at, all_put, put_length, put_at}
+
+-- the moment with this declared, and these chains
+abbrev pub remade : Moment → Declaration → List Chained → Moment
+remade m d cs = record { declared = d; tree = m.tree; registry = m.registry; chains = cs }
+
+-- ---- the losses of protocols
+pub losses_stay : (m m' : Moment) → m'.tree ≡ m.tree → HasLosses 0 m m'
+losses_stay m m' same most all proto =
+    let was = all proto in
+    let is : (branch_of proto m'.tree).losses ≡ (branch_of proto m.tree).losses = ap (λ t. (branch_of proto t).losses) same in
+    omega (arith, was, is)
+
+pub losses_join : (x y : ℕ) (a b c : Moment) → HasLosses x a b → HasLosses y b c → HasLosses (x + y) a c
+losses_join x y a b c p q most all proto = let r = q (most + x) (p most all) proto in omega (arith, r)
+
+pub losses_more : (m m' : Moment) → HasLosses 0 m m' → HasLosses 1 m m'
+losses_more m m' p most all proto = let r = p most all proto in omega (arith, r)
 
 -- ---- one peer and its chain
 pub one_peer : (p q : DeclaredPeer) → Some p ≡ Some q → p ≡ q
@@ -48,13 +66,15 @@ pub record KeepsOthers (k : ℕ) (before now : Declaration) : Type 0 where
   pub others : (j : ℕ) → nat_eq j k ≡ false → peer_at j now.peers ≡ peer_at j before.peers
 
 pub stands_put : (m : Moment) (now : Declaration) (k : ℕ) (c c' : Chained) → Stands m → chain_at k m.chains ≡ Some c → c'.incoming.number ≡ k → c'.me ≡ c.me
-    → KeepsOthers k m.declared now → StandsAt (peer_at k now.peers) (Some c') → Stands (record { declared = now; chains = put_chain c' m.chains })
+    → KeepsOthers k m.declared now → StandsAt (peer_at k now.peers) (Some c') → Stands (remade m now (put_chain c' m.chains))
 stands_put m now k c c' stands at number me keeps here = record {
   order = in_order_put c' m.chains stands.order;
   peers = λ j. by_test j (nat_eq j k) refl;
   speaker = subst (λ (s : Option Speaker). AllByRecursion (λ d. s ≡ Some d.me) (put_chain c' m.chains)) (sym keeps.speaker)
       (all_put (λ d. m.declared.speaker ≡ Some d.me) c' m.chains stands.speaker (speaker_at m stands k c at ∙ ap Some (sym me)));
   count = put_length c' m.chains ∙ stands.count ∙ sym keeps.count;
+  tree = subst (λ (s : Option Speaker). TreeStands s m.tree) (sym keeps.speaker) stands.tree;
+  registered = stands.registered;
 }
   where
     by_test : (j : ℕ) (b : Bool) → nat_eq j k ≡ b → StandsAt (peer_at j now.peers) (chain_at j (put_chain c' m.chains))
@@ -117,14 +137,14 @@ peer_left p c c' f g keeps is words chain full silent stands = record {
 }
 
 -- ---- what is live
-abbrev live_by : Declaration → (ℕ → Routes) → (ℕ → List Rule) → LiveState
-live_by d routes rules = record { declared = d; routes = routes; rules = rules }
+abbrev pub live_by : Moment → Declaration → (ℕ → Routes) → (ℕ → List Rule) → LiveState
+live_by m d routes rules = record { declared = d; routes = routes; rules = rules; interior = (live_state m).interior }
 
 -- the live state after a step of one chain
 pub live_with : (m : Moment) (now : Declaration) (k : ℕ) (c c' : Chained) → chain_at k m.chains ≡ Some c → c'.incoming.number ≡ k
-    → live_state (record { declared = now; chains = put_chain c' m.chains })
-    ≡ record { declared = now; routes = with_routes (live_state m).routes k c'.incoming.live; rules = with_rules (live_state m).rules k (present c'.filter) }
-live_with m now k c c' at number i = live_by now (λ j. put_at routes_of k m.chains c c' at number j i) (λ j. put_at rules_of k m.chains c c' at number j i)
+    → live_state (remade m now (put_chain c' m.chains))
+    ≡ live_by m now (with_routes (live_state m).routes k c'.incoming.live) (with_rules (live_state m).rules k (present c'.filter))
+live_with m now k c c' at number i = live_by m now (λ j. put_at routes_of k m.chains c c' at number j i) (λ j. put_at rules_of k m.chains c c' at number j i)
 
 pub routes_there : (m : Moment) (k : ℕ) (c : Chained) → chain_at k m.chains ≡ Some c → (live_state m).routes k ≡ c.incoming.live
 routes_there m k c at = ap routes_of at
@@ -156,21 +176,21 @@ routes_twice all k a b i j = by_test (nat_eq j k) i
 
 -- where the rules stay
 pub live_routed : (m : Moment) (now : Declaration) (k : ℕ) (c c' : Chained) → chain_at k m.chains ≡ Some c → c'.incoming.number ≡ k → present c'.filter ≡ present c.filter
-    → live_state (record { declared = now; chains = put_chain c' m.chains }) ≡ record { declared = now; routes = with_routes (live_state m).routes k c'.incoming.live; rules = (live_state m).rules }
+    → live_state (remade m now (put_chain c' m.chains)) ≡ live_by m now (with_routes (live_state m).routes k c'.incoming.live) (live_state m).rules
 live_routed m now k c c' at number same =
     live_with m now k c c' at number
-    ∙ ap (live_by now (with_routes (live_state m).routes k c'.incoming.live)) (rules_same (live_state m).rules k (present c'.filter) (rules_there m k c at ∙ sym same))
+    ∙ ap (live_by m now (with_routes (live_state m).routes k c'.incoming.live)) (rules_same (live_state m).rules k (present c'.filter) (rules_there m k c at ∙ sym same))
 
 -- where the routes stay
 pub live_edited : (m : Moment) (k : ℕ) (c c' : Chained) → chain_at k m.chains ≡ Some c → c'.incoming.number ≡ k → c'.incoming.live ≡ c.incoming.live
-    → live_state (with_chain m c') ≡ record { declared = m.declared; routes = (live_state m).routes; rules = with_rules (live_state m).rules k (present c'.filter) }
+    → live_state (with_chain m c') ≡ live_by m m.declared (live_state m).routes (with_rules (live_state m).rules k (present c'.filter))
 live_edited m k c c' at number same =
     live_with m m.declared k c c' at number
-    ∙ ap (λ (r : ℕ → Routes). live_by m.declared r (with_rules (live_state m).rules k (present c'.filter))) (routes_same (live_state m).routes k c'.incoming.live (routes_there m k c at ∙ sym same))
+    ∙ ap (λ (r : ℕ → Routes). live_by m m.declared r (with_rules (live_state m).rules k (present c'.filter))) (routes_same (live_state m).routes k c'.incoming.live (routes_there m k c at ∙ sym same))
 
 -- where both stay
 pub live_same : (m : Moment) (k : ℕ) (c c' : Chained) → chain_at k m.chains ≡ Some c → c'.incoming.number ≡ k → c'.incoming.live ≡ c.incoming.live → present c'.filter ≡ present c.filter
     → live_state (with_chain m c') ≡ live_state m
 live_same m k c c' at number same kept =
     live_routed m m.declared k c c' at number kept
-    ∙ ap (λ (r : ℕ → Routes). live_by m.declared r (live_state m).rules) (routes_same (live_state m).routes k c'.incoming.live (routes_there m k c at ∙ sym same))
+    ∙ ap (λ (r : ℕ → Routes). live_by m m.declared r (live_state m).rules) (routes_same (live_state m).routes k c'.incoming.live (routes_there m k c at ∙ sym same))

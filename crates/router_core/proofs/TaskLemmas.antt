@@ -114,6 +114,12 @@ first_has_work m task rest stands e =
 pub nears_rows : (m m' : Moment) (task : Task) (rest : List Task) (n : ℕ) → deletion_tasks m ≡ task ∷ rest → Nears task n m m' → rows_in m'.chains + n ≡ rows_in m.chains
 nears_rows m m' task rest n e nears = let is = first_is_stage m.chains task rest e in subst (λ (t : Task). Nears t n m m') is.2 nears
 
+pub first_keeps_tree : (m m' : Moment) (task : Task) (rest : List Task) (said : List Line) → deletion_tasks m ≡ task ∷ rest → IsTurn task m said m' → m'.tree ≡ m.tree
+first_keeps_tree m m' task rest said e t =
+    let is = first_is_stage m.chains task rest e in
+    let turn : IsTurn (Del is.0 is.1) m said m' = subst (λ (x : Task). IsTurn x m said m') is.2 t in
+    ap (λ (x : Moment). x.tree) turn.after
+
 -- ---- a turn of the first task
 none_later : (s : ℕ) (ds : List (Lost Attrs)) → AllByRecursion (λ later. s < later.number) ds → table_of s ds ≡ None
 none_later s [] all = refl

@@ -9,7 +9,7 @@ use Rattle.bgp_attr.specs.declared.attrs.Attrs.{Attrs}
 use Rattle.link_change.specs.Rows.{is_empty_map}
 use Rattle.deletion_stage.specs.Lost.{Lost}
 use Rattle.journal_text.specs.declared.link.Task.{Task}
-use Rattle.journal_text.specs.declared.link.Task.TheVariants.{Del, Fin}
+use Rattle.journal_text.specs.declared.link.Task.TheVariants.{Del, Fin, Rdel}
 use Rattle.journal_text.specs.declared.entry.Entry.{Entry}
 use Rattle.journal_text.specs.declared.value.Value.{Value}
 use Rattle.journal_text.specs.declared.line.Line.{Line}
@@ -27,7 +27,7 @@ use Rattle.router_core.specs.Stands.{Stands}
 use Rattle.router_core.specs.Turns.{IsTurn, Turns, has_turn_in, has_work}
 use Rattle.router_core.specs.Works.{Nears, IsWork, IsUnit, HaveRun, AreTurns, HasDrained}
 use Rattle.router_core.proofs.RowCounts.{rows_are_sum, turns_are_sum, sum_at, left_below}
-use Rattle.router_core.proofs.StandLemmas.{sound_at}
+use Rattle.router_core.proofs.StandLemmas.{losses_stay, losses_join, sound_at}
 
 -- ---- the journal
 abbrev text_with : Journaled → List ℕ → Journaled
@@ -43,7 +43,7 @@ flushed_none j = ap (λ (ls : List Line). text_with j (j.text ++ text_of j.quiet
 
 -- ---- work
 pub work_none : (m : Moment) → Stands m → IsWork m [] m
-work_none m stands = record { leads = leads_nowhere (router_links m) (router_links m) refl; live = refl; stands = stands }
+work_none m stands = record { losses = losses_stay m m refl; leads = leads_nowhere (router_links m) (router_links m) refl; live = refl; stands = stands }
 
 pub leads_join : (a b c : Moment) (xs ys : List Line) → Leads (router_links a) (entries_of xs) (router_links b) → Leads (router_links b) (entries_of ys) (router_links c)
     → Leads (router_links a) (entries_of (xs ++ ys)) (router_links c)
@@ -52,7 +52,7 @@ leads_join a b c xs ys p q =
     (leads_append (router_links a) (router_links b) (router_links c) (entries_of xs) (entries_of ys) p q)
 
 pub work_join : (a b c : Moment) (xs ys : List Line) → IsWork a xs b → IsWork b ys c → IsWork a (xs ++ ys) c
-work_join a b c xs ys p q = record { leads = leads_join a b c xs ys p.leads q.leads; live = q.live ∙ p.live; stands = q.stands }
+work_join a b c xs ys p q = record { losses = losses_join 0 0 a b c p.losses q.losses; leads = leads_join a b c xs ys p.leads q.leads; live = q.live ∙ p.live; stands = q.stands }
 
 -- ---- turns
 pub turns_more : (n : ℕ) (task : Task) (m between m' : Moment) (xs ys : List Line) → Turns n task m xs between → IsTurn task between ys m' → Turns (suc n) task m (xs ++ ys) m'
@@ -65,10 +65,12 @@ turns_more (suc n) task m between m' xs ys t turn =
 nears_none : (task : Task) (m : Moment) → Nears task 0 m m
 nears_none (Del k s) m = omega arith
 nears_none (Fin k) m = (refl, omega arith)
+nears_none (Rdel proto l) m = omega arith
 
 nears_more : (task : Task) (n : ℕ) (a b c : Moment) → Nears task n a b → Nears task 1 b c → Nears task (n + 1) a c
 nears_more (Del k s) n a b c p q = omega (arith, p, q)
 nears_more (Fin k) n a b c p q = (q.0 ∙ p.0, (let x = p.1 in let y = q.1 in omega (arith, x, y)))
+nears_more (Rdel proto l) n a b c p q = omega (arith, p, q)
 
 pub run_none : (task : Task) (m : Moment) → Stands m → HaveRun task m 0 m []
 run_none task m stands = record { taken = (refl, refl); work = work_none m stands; nearer = nears_none task m }
@@ -128,7 +130,7 @@ no_turns_no_work law k m none = by_chain (chain_at k m.chains) refl
         let no_turn : turns_left c ≡ 0 = omega (arith, below, none) in
         ap (has_turn_in (Fin k)) at ∙ and_false (nat_eq k c.incoming.number) (is_some c.filter.walk) (off_by c (is_some c.filter.walk) refl law no_turn)
 
-drained_by : (task : Task) (most n : ℕ) (m m' : Moment) (before now : Journaled) → ((said : List Line) → HaveRun task m most m' said → has_work task m' ≡ false) → Gives (AreTurns task most m n m') before now
+pub drained_by : (task : Task) (most n : ℕ) (m m' : Moment) (before now : Journaled) → ((said : List Line) → HaveRun task m most m' said → has_work task m' ≡ false) → Gives (AreTurns task most m n m') before now
     → Gives (HasDrained task m n m') before now
 drained_by task most n m m' before now ends g = (g.0, g.1, record { run = g.2.run; ended = by_end g.2.ended })
   where

@@ -10,7 +10,7 @@ use Rattle.policy_rules.specs.declared.rule.Rule.{Rule}
 use Rattle.pass_core.specs.Passed.{Passed, Walked, present, latest_of, present_of, stepped, walk_of_waiting, after_walk}
 use Rattle.filter_bank.specs.Walks.{walked_on}
 use Rattle.journal_text.specs.declared.link.Task.{Task}
-use Rattle.journal_text.specs.declared.link.Task.TheVariants.{Del, Fin}
+use Rattle.journal_text.specs.declared.link.Task.TheVariants.{Del, Fin, Rdel}
 use Rattle.journal_text.specs.declared.entry.Entry.{Entry}
 use Rattle.journal_text.specs.declared.value.Value.{Value}
 use Rattle.journal_text.specs.declared.line.Line.{Line}
@@ -24,12 +24,12 @@ use Rattle.in_chain.specs.Steps.{swept, welded, Turned, Rewalks}
 use Rattle.router_core.specs.declared.router.Done.TheVariants.{Taken}
 use Rattle.router_core.specs.Moments.{Moment, chain_at, with_chain, rows_in, left_in}
 use Rattle.router_core.specs.Stands.{IsEarlier, IsSilent, AreInOrder, PeerStands, Stands}
-use Rattle.router_core.specs.Turns.{peer_of, IsTurn}
+use Rattle.router_core.specs.Turns.{peer_of, IsPeerTurn, IsTurn}
 use Rattle.router_core.specs.Works.{NearsChain, Nears, TakesChain, IsUnit, Comes, TurnsAt}
 use Rattle.router_core.proofs.ChainLemmas.{number_at}
 use Rattle.router_core.proofs.LinkLemmas.{leads_router}
 use Rattle.router_core.proofs.RowCounts.{is_full, rows_are_sum, turns_are_sum, sum_put}
-use Rattle.router_core.proofs.StandLemmas.{peer_of as peer_at_chain, peer_left, stands_with, live_same}
+use Rattle.router_core.proofs.StandLemmas.{remade, losses_stay, peer_of as peer_at_chain, peer_left, stands_with, live_same}
 use Rattle.router_core.proofs.WorkLemmas.{walk_stays}
 
 pub swept_number : (s : ℕ) (p : Network) (d : Lost Attrs) → (swept_one s p d).number ≡ d.number
@@ -98,6 +98,7 @@ turn_leaves : (task : Task) (c less c' : Chained) (sent : Option (Change Route))
     → Leaves c c'
 turn_leaves (Del k s) c less c' sent entries t full after = sweep_leaves s t.1.prefix c c' (after ∙ ap welded t.1.after)
 turn_leaves (Fin k) c less c' sent entries t full after = walk_leaves c less c' sent entries t.1 full after
+turn_leaves (Rdel proto n) c less c' sent entries t full after = absurd t
 
 -- ---- a turn of the router
 nears_by : (task : Task) (k : ℕ) (m : Moment) (c c' : Chained) → AreInOrder m.chains → chain_at k m.chains ≡ Some c → c'.incoming.number ≡ k → NearsChain task c c' → Nears task 1 m (with_chain m c')
@@ -107,6 +108,13 @@ nears_by (Fin n) k m c c' order at number nearer =
     let left = sum_put turns_left left_in turns_are_sum k m.chains c c' order at number in
     let fewer = nearer.1 in
     ((let same = nearer.0 in omega (arith, rows, same)), omega (arith, left, fewer))
+nears_by (Rdel proto n) k m c c' order at number nearer = absurd nearer
+
+-- a task that nears its end in a chain is one of a peer
+turn_of_peer : (task : Task) (m m' : Moment) (c c' : Chained) (said : List Line) → NearsChain task c c' → IsPeerTurn task m said m' → IsTurn task m said m'
+turn_of_peer (Del k s) m m' c c' said nearer turn = turn
+turn_of_peer (Fin k) m m' c c' said nearer turn = turn
+turn_of_peer (Rdel proto n) m m' c c' said nearer turn = absurd nearer
 
 -- a turn in a peer's chain is one of the router
 pub unit_done : (task : Task) (m : Moment) (c c' : Chained) (said : List Line) → Stands m → chain_at (peer_of task) m.chains ≡ Some c → TakesChain task c c' said → IsUnit task m (with_chain m c') said
@@ -115,11 +123,12 @@ unit_done task m c c' said stands at t =
     let p = peer_at_chain m stands k c at in
     let number : c'.incoming.number ≡ k = t.step.number ∙ number_at k m.chains c at in
     let leaves = turn_leaves task c t.turned_chain c' t.sent t.entries t.turned p.2.full t.after in
-    let turn : IsTurn task m said (with_chain m c') =
+    let turn : IsPeerTurn task m said (with_chain m c') =
     record { chain = c; at = at; turned_chain = t.turned_chain; sent = t.sent; entries = t.entries; turned = t.turned; lines = t.lines; after = ap (with_chain m) t.after } in
     record {
-      turn = turn;
+      turn = turn_of_peer task m (with_chain m c') c c' said t.nearer turn;
       work = record {
+        losses = losses_stay m (with_chain m c') refl;
         leads = leads_router m k c at c' number (entries_of said) t.step.leads;
         live = live_same m k c c' at number leaves.live leaves.rules;
         stands = stands_with m k c c' p.0 stands at number t.step.words.0 p.1 (leaves.stands p.0 t.step.words.1 t.step.chain t.step.full p.2);
@@ -128,7 +137,7 @@ unit_done task m c c' said stands at t =
     }
 
 pub comes_taken : (task : Task) (m : Moment) (cs : List Chained) (before j now : Journaled) → Stands m → TurnsAt task m.chains cs before j Taken → now ≡ flushed j
-    → Comes task m (record { declared = m.declared; chains = cs }) before now Taken
+    → Comes task m (remade m m.declared cs) before now Taken
 comes_taken task m cs before j now stands t is =
     let unit = unit_done task m t.0 t.1 t.4.0 stands t.2 t.4.2 in
-    (t.4.0, is ∙ ap flushed t.4.1, subst (λ (x : List Chained). IsUnit task m (record { declared = m.declared; chains = x }) t.4.0) (sym t.3) unit)
+    (t.4.0, is ∙ ap flushed t.4.1, subst (λ (x : List Chained). IsUnit task m (remade m m.declared x) t.4.0) (sym t.3) unit)

@@ -9,7 +9,7 @@ use Rattle.link_change.specs.declared.turn.Turn.{Turn}
 use Rattle.link_change.specs.declared.turn.Turn.TheVariants as turns
 use Rattle.journal_text.specs.declared.link.Link.TheVariants.{In}
 use Rattle.journal_text.specs.declared.link.Task.{Task}
-use Rattle.journal_text.specs.declared.link.Task.TheVariants.{Del, Fin}
+use Rattle.journal_text.specs.declared.link.Task.TheVariants.{Del, Fin, Rdel}
 use Rattle.journal_text.specs.declared.entry.Entry.{Entry}
 use Rattle.journal_text.specs.declared.value.Value.{Value}
 use Rattle.journal_text.specs.Journals.{Journaled, with_lines, with_entries, Adds}
@@ -90,10 +90,12 @@ turn_stays (Fin k) c less sent entries t = record {
   me = ap (λ (x : Chained). x.me) t.1.after;
   peer = ap (λ (x : Chained). x.peer) t.1.after;
 }
+turn_stays (Rdel proto n) c less sent entries t = absurd t
 
 turn_leads : (task : Task) (c less : Chained) (sent : Option (Change Route)) (entries : List (Entry Value)) → Turned c less task sent entries → LeadsChain c entries less
 turn_leads (Del k s) c less sent entries t = t.1.fall.leads
 turn_leads (Fin k) c less sent entries t = t.1.leads
+turn_leads (Rdel proto n) c less sent entries t = absurd t
 
 -- a turn of a walk empties no stage
 pub walk_stays : (c less : Chained) (sent : Option (Change Route)) (entries : List (Entry Value)) → Rewalks c less sent entries → NoneEmpty c.incoming.deletions → welded less ≡ less
@@ -108,6 +110,7 @@ turn_nears (Del k s) c less c' sent entries chain full t after =
 turn_nears (Fin k) c less c' sent entries chain full t after =
     let is : c' ≡ less = after ∙ walk_stays c less sent entries t.1 full in
     (ap row_count is ∙ ap row_count t.1.after, subst (λ (x : Chained). turns_left x < turns_left c) (sym is) t.1.fewer)
+turn_nears (Rdel proto n) c less c' sent entries chain full t after = t
 
 takes_chain : (task : Task) (c less c' : Chained) (sent : Option (Change Route)) (before j now : Journaled) → IsChain c → NoneEmpty c.incoming.deletions → Adds (Turned c less task sent) before j
     → Welds less c' j now → TurnsChain task c c' before now Taken

@@ -1,5 +1,5 @@
 -- What each event does, and the lines that it gives.
-use Rattle.std.specs.Prelude.{◌≡◌, ℕ, ◌≤◌, ◌⊎◌, Bool, true, false, List, [], ◌∷◌, ◌++◌, map, length, Contains, Option, Some, None, IsSome}
+use Rattle.std.specs.Prelude.{◌≡◌, ℕ, ◌≤◌, ◌⊎◌, Bool, true, false, List, [], ◌∷◌, ◌++◌, map, length, Contains, Option, Some, None, IsSome, is_some}
 use Rattle.std.specs.List.{AllByRecursion}
 use Rattle.std.specs.List.Sorted.{IsStrictlySortedBy}
 use Rattle.addr4.specs.Prefixes.{Network, prefix_cmp}
@@ -9,7 +9,7 @@ use Rattle.bgp_wire.specs.declared.message.Message.{Message}
 use Rattle.bgp_wire.specs.declared.message.Message.TheVariants as messages
 use Rattle.bgp_wire.specs.Spelling.{notification_octets}
 use Rattle.journal_text.specs.declared.link.Link.{Link}
-use Rattle.journal_text.specs.declared.link.Link.TheVariants.{In, Filt}
+use Rattle.journal_text.specs.declared.link.Link.TheVariants.{In, Filt, Org, Low, Dyn, Int, Fib}
 use Rattle.journal_text.specs.declared.link.Task.{Task}
 use Rattle.journal_text.specs.declared.value.Value.{Value}
 use Rattle.journal_text.specs.declared.entry.Entry.TheVariants as entries
@@ -18,10 +18,19 @@ use Rattle.journal_text.specs.declared.line.Line.TheVariants as lines
 use Rattle.journal_text.specs.Walk.{Leads}
 use Rattle.journal_text.specs.Texts.{entries_of}
 use Rattle.event_text.specs.declared.event.Event.{Event}
-use Rattle.event_text.specs.declared.event.Event.TheVariants.{Nothing, Local, Peer, Up, Down, Bgp, FilterIn, Idle, Work, Ask, Show}
+use Rattle.event_text.specs.declared.event.Event.TheVariants.{Nothing, Local, Peer, Up, Down, Bgp, FilterIn, RouteAdd, RouteDel, Lose, Cover, Idle, Work, Ask, Show}
 use Rattle.event_text.specs.declared.declared.DeclaredPeer.{DeclaredPeer}
 use Rattle.policy_rules.specs.declared.rule.Rule.{Rule}
 use Rattle.event_text.specs.Declarations.{peer_at, words_of, with_speaker, with_peer, with_session, without_session}
+use Rattle.std.specs.FinMap as tables
+use Rattle.rib_route.specs.declared.Proto.{Proto}
+use Rattle.rib_route.specs.declared.Proto.TheVariants.{Connected, Static, Ospf, Rip}
+use Rattle.rib_route.specs.declared.rows.Interior.{Interior}
+use Rattle.prefix_trie.specs.Width.{width}
+use Rattle.register_interest.specs.Covers.{matched, IsCover}
+use Rattle.rib_tree.specs.Trees.{branch_of, int_rows}
+use Rattle.rib_tree.specs.Steps.{fed_tree, lost_tree, tree_overdue, tree_loss_entries}
+use Rattle.rib_tree.specs.Falls.{way_of_route}
 use Rattle.in_chain.specs.Chains.{Chained}
 use Rattle.in_chain.specs.IncomingSteps.{loss_entries, overdue_of}
 use Rattle.in_chain.specs.Steps.{new_chain, lost, refiltered}
@@ -29,18 +38,25 @@ use Rattle.router_core.specs.Moments.{Moment, chain_at, insert_chain, with_chain
 use Rattle.router_core.specs.Lives.{LiveAfter, live_state, changes_of, Says}
 use Rattle.router_core.specs.Stands.{IsSettled}
 use Rattle.router_core.specs.Scratch.{IsExact}
-use Rattle.router_core.specs.Turns.{journal_lines, FeedsAll, Turns, Drains, DrainsAll, idle_tasks, has_work}
+use Rattle.router_core.specs.Turns.{journal_lines, FeedsAll, Replants, FallsRoute, Turns, Drains, DrainsAll, idle_tasks, has_work}
 
 -- exactly this is said, this is the moment after it, and no turn was taken
 abbrev pub Just : List Line → Moment → List Line → ℕ → Moment → Type 0
 Just these then said turns m' = (said ≡ these) × (turns ≡ 0) × (m' ≡ then)
 
+abbrev pub begin_line : Link → Line
+begin_line link = lines.Journal (entries.Begin link)
+
+-- the links that begin with `local`
+abbrev pub rib_begins : List Line
+rib_begins = map begin_line (Org Connected ∷ Org Static ∷ Org Ospf ∷ Org Rip ∷ Low ∷ Dyn ∷ Int ∷ Fib ∷ [])
+
 abbrev pub declared_speaker : Moment → Speaker → Moment
-declared_speaker m words = record { declared = with_speaker m.declared words; chains = m.chains }
+declared_speaker m words = record { declared = with_speaker m.declared words; tree = m.tree; registry = m.registry; chains = m.chains }
 
 abbrev pub declared_peer : Moment → Speaker → ℕ → Speaker → Moment
 declared_peer m me k words =
-    record { declared = with_peer m.declared k words; chains = insert_chain (new_chain me (words_of m.declared.speaker k words)) m.chains }
+    record { declared = with_peer m.declared k words; tree = m.tree; registry = m.registry; chains = insert_chain (new_chain me (words_of m.declared.speaker k words)) m.chains }
 
 -- where `local` was declared, the links of a new peer begin
 abbrev pub Declares : Moment → Option Speaker → ℕ → Speaker → List Line → ℕ → Moment → Type 0
@@ -54,10 +70,10 @@ Refilters k rules m said turns m' =
     (chain : Chained) × (chain_at k m.chains ≡ Some chain) × Just [] (with_chain m (refiltered rules chain)) said turns m'
 
 abbrev pub begun : Moment → ℕ → Moment
-begun m k = record { declared = with_session m.declared k; chains = m.chains }
+begun m k = record { declared = with_session m.declared k; tree = m.tree; registry = m.registry; chains = m.chains }
 
 abbrev pub ended : Moment → ℕ → Moment
-ended m k = record { declared = without_session m.declared k; chains = m.chains }
+ended m k = record { declared = without_session m.declared k; tree = m.tree; registry = m.registry; chains = m.chains }
 
 -- the stage that has to go first runs to its end, if there is one
 abbrev pub RunsFirst : Option Task → Moment → List Line → Moment → Type 0
@@ -76,6 +92,32 @@ pub record Loses (k s : ℕ) (m : Moment) (said : List Line) (m' : Moment) : Typ
   pub there : chain_at k room.chains ≡ Some chain
   pub lines : said ≡ first ++ journal_lines (loss_entries s chain.incoming)
   pub after : m' ≡ ended (with_chain room (lost s chain)) k
+
+-- A route of a protocol is the one of the event from now on; an equal one sends nothing.
+abbrev pub AddsRoute : Network → Interior → Moment → List Line → Moment → Type 0
+AddsRoute p row m said m' = FallsRoute m (fed_tree m.tree row.proto p (Some row)) row.proto p (way_of_route row.proto m.tree) said m'
+
+-- by whether the protocol has a live route at the prefix
+abbrev pub DropsRouteIf : Bool → Proto → Network → Moment → List Line → ℕ → Moment → Type 0
+DropsRouteIf false proto p m said turns m' = Just (lines.Ignored ∷ []) m said turns m'
+DropsRouteIf true proto p m said turns m' =
+    (turns ≡ 0) × FallsRoute m (fed_tree m.tree proto p None) proto p (way_of_route proto m.tree) said m'
+
+-- A protocol is lost: where 16 deletion stages of it stand and it has routes, the oldest stage runs to its end first; then the
+-- routes go to a stage of their own.
+pub record LosesProtocol (proto : Proto) (m : Moment) (said : List Line) (m' : Moment) : Type 0 where
+  pub first : List Line
+  pub room : Moment
+  pub runs : RunsFirst (tree_overdue proto m.tree) m first room
+  pub lines : said ≡ first ++ journal_lines (tree_loss_entries proto room.tree)
+  pub after : Replants (lost_tree proto room.tree) room m'
+
+-- the longest interior route that holds the address, and the largest subnet with that answer
+pub record CoversAddress (addr : ℕ) (m : Moment) (said : List Line) : Type 0 where
+  pub found : Option (Network × Interior)
+  pub subnet : Network
+  pub cover : IsCover width (int_rows m.tree) addr found subnet
+  pub line : said ≡ lines.Cover addr (matched found) subnet ∷ []
 
 -- a NOTIFICATION is sent, and the session is lost
 abbrev pub Notifies : ℕ → ℕ → List ℕ → Moment → List Line → Moment → Type 0
@@ -143,12 +185,16 @@ ByPeer P (Some p) = P p
 
 abbrev pub IsBlock : Moment → Event → List Line → ℕ → Moment → Type 0
 IsBlock m Nothing said turns m' = Just [] m said turns m'
-IsBlock m (Local words) said turns m' = Just [] (declared_speaker m words) said turns m'
+IsBlock m (Local words) said turns m' = Just rib_begins (declared_speaker m words) said turns m'
 IsBlock m (Peer k words) said turns m' = Declares m m.declared.speaker k words said turns m'
 IsBlock m (Up k) said turns m' = ByPeer (λ p. BeginsIf p.up m k said turns m') (peer_at k m.declared.peers)
 IsBlock m (Down k) said turns m' = ByPeer (λ p. EndsIf p.up m k p said turns m') (peer_at k m.declared.peers)
 IsBlock m (Bgp k octets) said turns m' = ByPeer (λ p. HearsIf p.up m k p octets said turns m') (peer_at k m.declared.peers)
 IsBlock m (FilterIn k rules) said turns m' = Refilters k rules m said turns m'
+IsBlock m (RouteAdd p row) said turns m' = (turns ≡ 0) × AddsRoute p row m said m'
+IsBlock m (RouteDel proto p) said turns m' = DropsRouteIf (is_some (tables.get (branch_of proto m.tree).live p)) proto p m said turns m'
+IsBlock m (Lose proto) said turns m' = (turns ≡ 0) × LosesProtocol proto m said m'
+IsBlock m (Cover addr) said turns m' = (turns ≡ 0) × (m' ≡ m) × CoversAddress addr m said
 IsBlock m Idle said turns m' = Idles m said turns m'
 IsBlock m (Work task n) said turns m' = Works task n m said turns m'
 IsBlock m (Ask link p) said turns m' = Just (answer_lines link p (router_links m link)) m said turns m'

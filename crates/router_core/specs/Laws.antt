@@ -6,6 +6,8 @@ use Rattle.bgp_wire.specs.declared.message.Message.{Message}
 use Rattle.bgp_wire.specs.Updates.{fault}
 use Rattle.event_text.specs.declared.event.Event.{Event}
 use Rattle.event_text.specs.declared.declared.DeclaredPeer.{DeclaredPeer}
+use Rattle.router_core.specs.Moments.{first_moment}
+use Rattle.router_core.specs.Stands.{Stands}
 use Rattle.router_core.specs.Lives.{LiveState, LiveAfter, Says, is_ending, ends_session, declared_after}
 
 -- What octets say ends the session exactly where they are seen to end it.
@@ -19,3 +21,7 @@ DeclarationsFollow = (l : LiveState) (event : Event) (l' : LiveState) → LiveAf
 -- The data of a fault's NOTIFICATION has at most the 4,075 octets that fit into a message.
 abbrev pub NoticesFit : Type 0
 NoticesFit = (p : Profile) (octets : List ℕ) (n : Notice) → fault p octets ≡ Some n → length n.octets ≤ 4075
+
+-- What holds between two steps holds before the first.
+abbrev pub FirstStands : Type 0
+FirstStands = Stands first_moment

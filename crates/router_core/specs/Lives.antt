@@ -1,5 +1,5 @@
--- The live state: what the events alone make of the declarations, the sessions, each peer's live routes and its rules, whatever
--- work was done or not.
+-- The live state: what the events alone make of the declarations, the sessions, each peer's live routes and its rules, and the
+-- interior routes, whatever work was done or not.
 use Rattle.std.specs.Prelude.{◌≡◌, ℕ, ◌==◌, ◌&&◌, ◌||◌, nat_lt, Bool, true, false, not, if◌then◌else◌, List, [], ◌∷◌, ◌++◌, map, filter, slice_index, Option, Some, None, is_some}
 use Rattle.std.specs.FinMap as tables
 use Rattle.std.specs.FinMap.{FinMap}
@@ -12,26 +12,35 @@ use Rattle.bgp_wire.specs.declared.message.Message.TheVariants as messages
 use Rattle.bgp_wire.specs.Updates.{fault}
 use Rattle.bgp_wire.specs.Grammar.{without, Answers}
 use Rattle.event_text.specs.declared.event.Event.{Event}
-use Rattle.event_text.specs.declared.event.Event.TheVariants.{Nothing, Local, Peer, Up, Down, Bgp, FilterIn, Idle, Work, Ask, Show}
+use Rattle.event_text.specs.declared.event.Event.TheVariants.{Nothing, Local, Peer, Up, Down, Bgp, FilterIn, RouteAdd, RouteDel, Lose, Cover, Idle, Work, Ask, Show}
 use Rattle.event_text.specs.declared.declared.DeclaredPeer.{DeclaredPeer}
 use Rattle.event_text.specs.Declarations.{Declaration, no_declaration, peer_at, with_speaker, with_peer, with_session, without_session}
 use Rattle.policy_rules.specs.declared.rule.Rule.{Rule}
 use Rattle.pass_core.specs.Passed.{present}
 use Rattle.in_chain.specs.Chains.{Chained}
 use Rattle.in_chain.specs.IncomingSteps.{live_after}
+use Rattle.rib_route.specs.declared.Proto.{Proto}
+use Rattle.rib_route.specs.declared.rows.Interior.{Interior}
+use Rattle.rib_origin.specs.Branches.{same_proto}
+use Rattle.rib_tree.specs.Trees.{branch_of}
 use Rattle.router_core.specs.Moments.{Moment, chain_at}
 
 abbrev pub Routes : Type 0
 Routes = FinMap prefix_cmp Attrs
+
+-- the routes of an interior protocol
+abbrev pub Interiors : Type 0
+Interiors = FinMap prefix_cmp Interior
 
 pub record LiveState : Type 0 where
   pub declared : Declaration
   pub routes : ℕ → Routes
   -- of the incoming filters
   pub rules : ℕ → List Rule
+  pub interior : Proto → Interiors
 
 abbrev pub first_live : LiveState
-first_live = record { declared = no_declaration; routes = λ k. tables.empty; rules = λ k. [] }
+first_live = record { declared = no_declaration; routes = λ k. tables.empty; rules = λ k. []; interior = λ proto. tables.empty }
 
 -- 224.0.0.0 is where the addresses of no host begin
 abbrev pub is_host_prefix : Network → Bool
@@ -59,11 +68,11 @@ with_routes all k routes j = if j == k then routes else all j
 
 -- a session ends, and its routes with it
 abbrev pub ended : LiveState → ℕ → LiveState
-ended l k = record { declared = without_session l.declared k; routes = with_routes l.routes k tables.empty; rules = l.rules }
+ended l k = record { declared = without_session l.declared k; routes = with_routes l.routes k tables.empty; rules = l.rules; interior = l.interior }
 
 -- a message came from a peer that is up
 abbrev pub heard : LiveState → ℕ → Message → LiveState
-heard l k (messages.Update u) = record { declared = l.declared; routes = with_routes l.routes k (routes_after (l.routes k) (changes_of u)); rules = l.rules }
+heard l k (messages.Update u) = record { declared = l.declared; routes = with_routes l.routes k (routes_after (l.routes k) (changes_of u)); rules = l.rules; interior = l.interior }
 heard l k messages.Keepalive = l
 heard l k messages.Skip = l
 heard l k messages.Notification = ended l k
@@ -72,6 +81,13 @@ heard l k (messages.Notify n) = ended l k
 -- the rules of one peer become these
 abbrev pub with_rules : (ℕ → List Rule) → ℕ → List Rule → ℕ → List Rule
 with_rules all k rules j = if j == k then rules else all j
+
+-- the routes of one protocol become these
+abbrev pub with_interior : (Proto → Interiors) → Proto → Interiors → Proto → Interiors
+with_interior all proto routes other = if same_proto other proto then routes else all other
+
+abbrev pub interior_fed : LiveState → Proto → Interiors → LiveState
+interior_fed l proto routes = record { declared = l.declared; routes = l.routes; rules = l.rules; interior = with_interior l.interior proto routes }
 
 -- AS numbers have two octets, and errors are handled by RFC 4271, section 6.3
 abbrev pub plain : Profile
@@ -91,7 +107,7 @@ HearsFrom l k (Some p) octets l' = HearsIfUp l k p octets p.up l'
 
 abbrev pub begun_if_down : LiveState → ℕ → Option DeclaredPeer → LiveState
 begun_if_down l k None = l
-begun_if_down l k (Some p) = if p.up then l else record { declared = with_session l.declared k; routes = l.routes; rules = l.rules }
+begun_if_down l k (Some p) = if p.up then l else record { declared = with_session l.declared k; routes = l.routes; rules = l.rules; interior = l.interior }
 
 abbrev pub ended_if_up : LiveState → ℕ → Option DeclaredPeer → LiveState
 ended_if_up l k None = l
@@ -100,12 +116,16 @@ ended_if_up l k (Some p) = if p.up then ended l k else l
 -- the live state after an event
 abbrev pub LiveAfter : LiveState → Event → LiveState → Type 0
 LiveAfter l Nothing l' = l' ≡ l
-LiveAfter l (Local words) l' = l' ≡ record { declared = with_speaker l.declared words; routes = l.routes; rules = l.rules }
-LiveAfter l (Peer k words) l' = l' ≡ record { declared = with_peer l.declared k words; routes = l.routes; rules = l.rules }
+LiveAfter l (Local words) l' = l' ≡ record { declared = with_speaker l.declared words; routes = l.routes; rules = l.rules; interior = l.interior }
+LiveAfter l (Peer k words) l' = l' ≡ record { declared = with_peer l.declared k words; routes = l.routes; rules = l.rules; interior = l.interior }
 LiveAfter l (Up k) l' = l' ≡ begun_if_down l k (peer_at k l.declared.peers)
 LiveAfter l (Down k) l' = l' ≡ ended_if_up l k (peer_at k l.declared.peers)
 LiveAfter l (Bgp k octets) l' = HearsFrom l k (peer_at k l.declared.peers) octets l'
-LiveAfter l (FilterIn k rules) l' = l' ≡ record { declared = l.declared; routes = l.routes; rules = with_rules l.rules k rules }
+LiveAfter l (FilterIn k rules) l' = l' ≡ record { declared = l.declared; routes = l.routes; rules = with_rules l.rules k rules; interior = l.interior }
+LiveAfter l (RouteAdd p row) l' = l' ≡ interior_fed l row.proto (tables.insert (l.interior row.proto) p row)
+LiveAfter l (RouteDel proto p) l' = l' ≡ interior_fed l proto (tables.remove (l.interior proto) p)
+LiveAfter l (Lose proto) l' = l' ≡ interior_fed l proto tables.empty
+LiveAfter l (Cover addr) l' = l' ≡ l
 LiveAfter l Idle l' = l' ≡ l
 LiveAfter l (Work task n) l' = l' ≡ l
 LiveAfter l (Ask link p) l' = l' ≡ l
@@ -122,7 +142,12 @@ rules_of None = []
 rules_of (Some c) = present c.filter
 
 abbrev pub live_state : Moment → LiveState
-live_state m = record { declared = m.declared; routes = λ k. routes_of (chain_at k m.chains); rules = λ k. rules_of (chain_at k m.chains) }
+live_state m = record {
+  declared = m.declared;
+  routes = λ k. routes_of (chain_at k m.chains);
+  rules = λ k. rules_of (chain_at k m.chains);
+  interior = λ proto. (branch_of proto m.tree).live;
+}
 
 -- whether a message ends the session
 abbrev pub is_ending : Message → Bool
@@ -160,6 +185,10 @@ declared_after d (Up k) = declared_up d k (peer_at k d.peers)
 declared_after d (Down k) = declared_down d k (peer_at k d.peers)
 declared_after d (Bgp k octets) = declared_heard d k octets (peer_at k d.peers)
 declared_after d (FilterIn k rules) = d
+declared_after d (RouteAdd p row) = d
+declared_after d (RouteDel proto p) = d
+declared_after d (Lose proto) = d
+declared_after d (Cover addr) = d
 declared_after d Idle = d
 declared_after d (Work task n) = d
 declared_after d (Ask link p) = d

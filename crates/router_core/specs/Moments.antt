@@ -1,6 +1,11 @@
 -- What contracts see of the router between two steps.
 use Rattle.std.specs.Prelude.{◌≡◌, ℕ, ◌+◌, ◌*◌, ◌==◌, nat_lt, length, Bool, if◌then◌else◌, List, [], ◌∷◌, map, Option, Some, None, refl}
+use Rattle.std.specs.FinMap as tables
 use Rattle.std.specs.Coded.{Coded, code_by, coded×, coded_ℕ, coded_bool, coded_list}
+use Rattle.bgp_attr.specs.declared.speaker.Speaker.{Speaker}
+use Rattle.rib_route.specs.declared.rows.Interior.{Interior}
+use Rattle.register_interest.specs.Registers.{Registry}
+use Rattle.journal_text.specs.declared.link.Link.TheVariants.{Org, Lost, Low, Dyn, Int, Fib}
 use Rattle.journal_text.specs.declared.value.Value.{Value}
 use Rattle.journal_text.specs.declared.line.Line.{Line}
 use Rattle.journal_text.specs.Links.{owner_of}
@@ -8,16 +13,21 @@ use Rattle.journal_text.specs.Walk.{Links}
 use Rattle.journal_text.specs.Journals.{Journaled, with_lines, flushed}
 use Rattle.event_text.specs.Declarations.{Declaration, no_declaration}
 use Rattle.in_chain.specs.Chains.{Chained, links_of, row_count, turns_left}
+use Rattle.rib_tree.specs.Trees.{Treed, tree_count}
+use Rattle.rib_tree.specs.Steps.{new_tree}
+use Rattle.rib_tree.specs.Forwards.{rib_links}
 
--- what was declared, and each peer's chain, by ascending number
+-- what was declared, the tree of the interior routes, the register of those, and each peer's chain, by ascending number
 pub record Moment : Type 0 where
   pub declared : Declaration
+  pub tree : Treed
+  pub registry : Registry Interior
   pub chains : List Chained
 
-abbrev pub moment_code : Coded Declaration → Coded Chained → Coded Moment
-moment_code d c =
-    code_by (Declaration × List Chained) (coded× d (coded_list c))
-    (λ a. (a.declared, a.chains)) (λ p. record { declared = p.0; chains = p.1 }) (λ _. refl)
+abbrev pub moment_code : Coded Declaration → Coded Treed → Coded (Registry Interior) → Coded Chained → Coded Moment
+moment_code d t r c =
+    code_by ((Declaration × Treed) × (Registry Interior × List Chained)) (coded× (coded× d t) (coded× r (coded_list c)))
+    (λ a. ((a.declared, a.tree), (a.registry, a.chains))) (λ p. record { declared = p.0.0; tree = p.0.1; registry = p.1.0; chains = p.1.1 }) (λ _. refl)
 
 -- the moment, how many events were stepped, and whether memory ran out
 pub record Cored : Type 0 where
@@ -25,14 +35,13 @@ pub record Cored : Type 0 where
   pub events : ℕ
   pub failed : Bool
 
-abbrev pub cored_code : Coded Declaration → Coded Chained → Coded Cored
-cored_code d c =
-    code_by ((Declaration × List Chained) × (ℕ × Bool)) (coded× (coded× d (coded_list c)) (coded× coded_ℕ coded_bool))
-    (λ a. ((a.moment.declared, a.moment.chains), (a.events, a.failed)))
-    (λ p. record { moment = record { declared = p.0.0; chains = p.0.1 }; events = p.1.0; failed = p.1.1 }) (λ _. refl)
+abbrev pub cored_code : Coded Moment → Coded Cored
+cored_code m =
+    code_by (Moment × (ℕ × Bool)) (coded× m (coded× coded_ℕ coded_bool))
+    (λ a. (a.moment, (a.events, a.failed))) (λ p. record { moment = p.0; events = p.1.0; failed = p.1.1 }) (λ _. refl)
 
 abbrev pub first_moment : Moment
-first_moment = record { declared = no_declaration; chains = [] }
+first_moment = record { declared = no_declaration; tree = new_tree; registry = record { rows = tables.empty; interests = tables.empty }; chains = [] }
 
 -- the chain of a peer
 abbrev pub chain_at : ℕ → List Chained → Option Chained
@@ -52,15 +61,30 @@ insert_chain c [] = c ∷ []
 insert_chain c (d ∷ ds) = if nat_lt c.incoming.number d.incoming.number then c ∷ d ∷ ds else d ∷ insert_chain c ds
 
 abbrev pub with_chain : Moment → Chained → Moment
-with_chain m c = record { declared = m.declared; chains = put_chain c m.chains }
+with_chain m c = record { declared = m.declared; tree = m.tree; registry = m.registry; chains = put_chain c m.chains }
 
 abbrev pub links_by : Option Chained → Links Value
 links_by None link = None
 links_by (Some c) link = links_of c link
 
--- the live links and their rows: those of each peer's chain
+-- the live links of the peers' chains
+abbrev pub peer_links : List Chained → Links Value
+peer_links chains link = links_by (chain_at (owner_of link) chains) link
+
+-- those of the tree, and `fib`: they are live where `local` was declared
+abbrev pub rib_by : Option Speaker → Treed → Links Value
+rib_by None t link = None
+rib_by (Some me) t link = rib_links t link
+
+-- the live links and their rows
 abbrev pub router_links : Moment → Links Value
-router_links m link = links_by (chain_at (owner_of link) m.chains) link
+router_links m (Org proto) = rib_by m.declared.speaker m.tree (Org proto)
+router_links m (Lost proto n) = rib_by m.declared.speaker m.tree (Lost proto n)
+router_links m Low = rib_by m.declared.speaker m.tree Low
+router_links m Dyn = rib_by m.declared.speaker m.tree Dyn
+router_links m Int = rib_by m.declared.speaker m.tree Int
+router_links m Fib = rib_by m.declared.speaker m.tree Fib
+router_links m link = peer_links m.chains link
 
 -- how many rows all `in.K` have
 abbrev pub rows_in : List Chained → ℕ
@@ -74,7 +98,7 @@ left_in (c ∷ cs) = turns_left c + left_in cs
 
 -- how many turns an idle takes at most
 abbrev pub bound_of : Moment → ℕ
-bound_of m = (length m.declared.peers + 2) * (9 * rows_in m.chains + 6)
+bound_of m = (length m.declared.peers + 2) * (9 * (rows_in m.chains + tree_count m.tree) + 6)
 
 -- these lines were given, in the text of the journal, and this is said of them
 abbrev pub Gives : (List Line → Type 0) → Journaled → Journaled → Type 0

@@ -6,7 +6,7 @@ use Rattle.bgp_attr.specs.declared.attrs.Attrs.{Attrs}
 use Rattle.bgp_attr.specs.declared.route.Route.{Route}
 use Rattle.link_change.specs.Changes.{IsSent}
 use Rattle.link_change.specs.declared.change.Change.{Change}
-use Rattle.journal_text.specs.declared.link.Link.TheVariants.{In}
+use Rattle.journal_text.specs.declared.link.Link.TheVariants.{In, Fib}
 use Rattle.journal_text.specs.declared.link.Task.{Task}
 use Rattle.journal_text.specs.declared.link.Task.TheVariants as tasks
 use Rattle.journal_text.specs.declared.value.Value.{Value}
@@ -19,6 +19,21 @@ use Rattle.in_chain.specs.IncomingSteps.{weld_entries}
 use Rattle.in_chain.specs.Steps.{fed, welded, has_turn, Turned}
 use Rattle.router_core.specs.declared.router.Phase.{Phase}
 use Rattle.router_core.specs.declared.router.Phase.TheVariants as phases
+use Rattle.std.specs.FinMap as tables
+use Rattle.std.specs.FinMap.{FinMap}
+use Rattle.addr4.specs.Prefixes.{prefix_cmp}
+use Rattle.deletion_stage.specs.Covering.{IsLeastRow}
+use Rattle.rib_route.specs.declared.Proto.{Proto}
+use Rattle.rib_route.specs.declared.rows.Interior.{Interior}
+use Rattle.rib_route.specs.declared.rows.FibRow.{FibRow}
+use Rattle.journal_text.specs.declared.link.Link.{Link}
+use Rattle.journal_text.specs.Journals.{fib_change}
+use Rattle.rib_origin.specs.Steps.{table_of}
+use Rattle.rib_tree.specs.Trees.{Treed, branch_of, int_rows, tree_count, tree_tasks}
+use Rattle.rib_tree.specs.Steps.{welded_tree, swept_tree, tree_weld_entries, has_tree_turn}
+use Rattle.rib_tree.specs.Falls.{FallsTree, way_of_sweep}
+use Rattle.rib_tree.specs.Forwards.{forwarded}
+use Rattle.router_core.specs.Stands.{TreeIsSettled}
 use Rattle.router_core.specs.Moments.{Moment, chain_at, with_chain, rows_in}
 
 abbrev pub journal_lines : List (Entry Value) → List Line
@@ -45,13 +60,37 @@ FeedsAll k [] m said m' = (said ≡ []) × (m' ≡ m)
 FeedsAll k (c ∷ cs) m said m' =
     (first rest : List Line) × (between : Moment) × Feeds k c m first between × FeedsAll k cs between rest m' × (said ≡ first ++ rest)
 
+-- the entry of what `fib` gets
+abbrev pub fib_entries : Option (Change FibRow) → List (Entry Value)
+fib_entries None = []
+fib_entries (Some change) = fib_change Fib change
+
+-- the tree became this one, and nothing else changed but the register
+pub record Replants (tree : Treed) (m m' : Moment) : Type 0 where
+  pub tree_is : m'.tree ≡ tree
+  pub declared : m'.declared ≡ m.declared
+  pub chains : m'.chains ≡ m.chains
+
+-- A change of an interior route at a prefix made this of the tree: its messages go down to `int`, then `fib` follows, and
+-- behind them stands the weld of the stage that it emptied, if any.
+pub record FallsRoute (m : Moment) (new : Treed) (proto : Proto) (p : Network) (way : List Link) (said : List Line) (m' : Moment) : Type 0 where
+  pub sent : Option (Change Interior)
+  pub entries : List (Entry Value)
+  pub falls : FallsTree m.tree new p way sent entries
+  pub rows : IsSent (int_rows m.tree) (int_rows new) p sent
+  pub below : Option (Change FibRow)
+  pub fib : IsSent (forwarded (int_rows m.tree)) (forwarded (int_rows new)) p below
+  pub lines : said ≡ journal_lines (entries ++ (fib_entries below ++ tree_weld_entries proto new))
+  pub after : Replants (welded_tree proto new) m m'
+
 -- the peer whose task it is
 abbrev pub peer_of : Task → ℕ
 peer_of (tasks.Del k s) = k
 peer_of (tasks.Fin k) = k
+peer_of (tasks.Rdel proto n) = 0
 
--- One turn of a task: of the deletion stage of a session, or of the walk of a filter.
-pub record IsTurn (task : Task) (m : Moment) (said : List Line) (m' : Moment) : Type 0 where
+-- One turn of a task of a peer: of the deletion stage of a session, or of the walk of a filter.
+pub record IsPeerTurn (task : Task) (m : Moment) (said : List Line) (m' : Moment) : Type 0 where
   pub chain : Chained
   pub at : chain_at (peer_of task) m.chains ≡ Some chain
   pub turned_chain : Chained
@@ -61,13 +100,30 @@ pub record IsTurn (task : Task) (m : Moment) (said : List Line) (m' : Moment) : 
   pub lines : said ≡ fall_lines turned_chain entries
   pub after : m' ≡ with_chain m (welded turned_chain)
 
+-- One turn of the stage of a protocol's loss: its least row goes.
+pub record IsRouteTurn (proto : Proto) (n : ℕ) (m : Moment) (said : List Line) (m' : Moment) : Type 0 where
+  pub prefix : Network
+  pub row : Interior
+  pub table : FinMap prefix_cmp Interior
+  pub stands : table_of n (branch_of proto m.tree).deletions ≡ Some table
+  pub least : IsLeastRow (tables.get table) prefix (Some row)
+  pub falls : FallsRoute m (swept_tree proto n prefix m.tree) proto prefix (way_of_sweep proto n m.tree) said m'
+
+-- one turn of a task
+abbrev pub IsTurn : Task → Moment → List Line → Moment → Type 0
+IsTurn (tasks.Del k s) m said m' = IsPeerTurn (tasks.Del k s) m said m'
+IsTurn (tasks.Fin k) m said m' = IsPeerTurn (tasks.Fin k) m said m'
+IsTurn (tasks.Rdel proto n) m said m' = IsRouteTurn proto n m said m'
+
 abbrev pub has_turn_in : Task → Option Chained → Bool
 has_turn_in task None = false
 has_turn_in task (Some c) = has_turn c task
 
 -- whether a task has work
 abbrev pub has_work : Task → Moment → Bool
-has_work task m = has_turn_in task (chain_at (peer_of task) m.chains)
+has_work (tasks.Del k s) m = has_turn_in (tasks.Del k s) (chain_at k m.chains)
+has_work (tasks.Fin k) m = has_turn_in (tasks.Fin k) (chain_at k m.chains)
+has_work (tasks.Rdel proto n) m = has_tree_turn m.tree (tasks.Rdel proto n)
 
 -- so many turns of a task
 abbrev pub Turns : ℕ → Task → Moment → List Line → Moment → Type 0
@@ -100,19 +156,22 @@ filter_tasks m = map (λ c. tasks.Fin c.incoming.number) m.chains
 
 -- the tasks of a phase of an idle
 abbrev pub phase_tasks : Phase → Moment → List Task
+phase_tasks phases.Rdel m = tree_tasks m.tree
 phase_tasks phases.Del m = deletion_tasks m
 phase_tasks phases.Fin m = filter_tasks m
 
 -- how many turns a phase takes at most
 abbrev pub phase_bound : Phase → Moment → ℕ
+phase_bound phases.Rdel m = tree_count m.tree
 phase_bound phases.Del m = rows_in m.chains
 phase_bound phases.Fin m = 2 * (rows_in m.chains + length m.chains)
 
 -- no task of a phase has work
 abbrev pub IsOver : Phase → Moment → Type 0
+IsOver phases.Rdel m = TreeIsSettled m.tree
 IsOver phases.Del m = AllByRecursion (λ c. c.incoming.deletions ≡ []) m.chains
 IsOver phases.Fin m = AllByRecursion (λ c. c.filter.walk ≡ None) m.chains
 
 -- all tasks of an idle, in their order
 abbrev pub idle_tasks : Moment → List Task
-idle_tasks m = deletion_tasks m ++ filter_tasks m
+idle_tasks m = tree_tasks m.tree ++ (deletion_tasks m ++ filter_tasks m)

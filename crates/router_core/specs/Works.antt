@@ -1,7 +1,7 @@
 -- What the router's own calls make of chains and moments, with what they keep.
-use Rattle.std.specs.Prelude.{◌≡◌, ℕ, ◌+◌, ◌≤◌, ◌<◌, ◌⊎◌, length, slice_index_or, Bool, true, false, List, [], ◌∷◌, Option, Some, None}
+use Rattle.std.specs.Prelude.{◌≡◌, ℕ, ◌+◌, ◌≤◌, ◌<◌, ◌⊎◌, length, slice_index_or, Bool, true, false, List, [], ◌∷◌, ◌++◌, Option, Some, None}
 use Rattle.std.specs.List.{AllByRecursion}
-use Rattle.addr4.specs.Prefixes.{Network}
+use Rattle.addr4.specs.Prefixes.{Network, prefix_cmp}
 use Rattle.bgp_attr.specs.declared.attrs.Attrs.{Attrs}
 use Rattle.bgp_attr.specs.declared.route.Route.{Route}
 use Rattle.link_change.specs.Changes.{IsSent}
@@ -15,22 +15,32 @@ use Rattle.journal_text.specs.declared.entry.Entry.{Entry}
 use Rattle.journal_text.specs.declared.line.Line.{Line}
 use Rattle.journal_text.specs.Walk.{Leads}
 use Rattle.journal_text.specs.Texts.{entries_of}
-use Rattle.journal_text.specs.Journals.{Journaled, with_lines}
+use Rattle.journal_text.specs.Journals.{Journaled, with_lines, with_entries, flushed}
 use Rattle.event_text.specs.declared.declared.DeclaredPeer.{DeclaredPeer}
 use Rattle.event_text.specs.Declarations.{peer_at}
 use Rattle.in_chain.specs.Incomings.{NoneEmpty}
 use Rattle.in_chain.specs.Chains.{Chained, filt_rows, IsChain, row_count, turns_left}
 use Rattle.in_chain.specs.Falls.{Falls, LeadsChain, way_of_feed}
 use Rattle.in_chain.specs.IncomingSteps.{loss_entries, overdue_of}
-use Rattle.in_chain.specs.Steps.{fed, welded, lost, has_turn, Turned}
+use Rattle.in_chain.specs.Steps.{fed, welded, lost, has_turn, Turned as TurnedChain}
 use Rattle.router_core.specs.declared.router.Done.{Done}
 use Rattle.router_core.specs.declared.router.Done.TheVariants.{Nothing, Taken}
+use Rattle.rib_route.specs.declared.Proto.{Proto}
+use Rattle.rib_route.specs.declared.rows.Interior.{Interior}
+use Rattle.rib_tree.specs.Trees.{Treed, int_rows, tree_count, AreNumbered, IsTree, IsFull}
+use Rattle.rib_tree.specs.Falls.{LeadsTree}
+use Rattle.rib_tree.specs.Steps.{lost_tree, welded_tree, tree_overdue, tree_loss_entries, tree_weld_entries}
 use Rattle.router_core.specs.Moments.{Moment, chain_at, put_chain, with_chain, router_links, rows_in, left_in, bound_of, Gives}
-use Rattle.router_core.specs.Lives.{LiveState, live_state, with_routes, routes_after, heard, ended}
+use Rattle.std.specs.FinMap as map
+use Rattle.journal_text.specs.declared.link.Link.{Link}
+use Rattle.router_core.specs.Lives.{LiveState, live_state, with_routes, routes_after, heard, ended, interior_fed}
 use Rattle.router_core.specs.Stands.{Stands, IsSettled}
 use Rattle.router_core.specs.Scratch.{IsExact}
 use Rattle.router_core.specs.declared.router.Phase.{Phase}
-use Rattle.router_core.specs.Turns.{journal_lines, fall_lines, FeedsAll, peer_of, IsTurn, Turns, DrainsAll, has_turn_in, has_work, phase_tasks, phase_bound, IsOver, idle_tasks}
+use Rattle.rib_route.specs.declared.rows.FibRow.{FibRow}
+use Rattle.register_interest.specs.Registers.{put_row}
+use Rattle.rib_tree.specs.Forwards.{ForwardsOn}
+use Rattle.router_core.specs.Turns.{fib_entries, journal_lines, fall_lines, FeedsAll, Replants, FallsRoute, peer_of, IsTurn, Turns, DrainsAll, has_turn_in, has_work, phase_tasks, phase_bound, IsOver, idle_tasks}
 use Rattle.router_core.specs.Blocks.{RunsFirst, Loses, Hears, Idles, Acts, ended as ended_moment}
 use Rattle.router_core.specs.declared.router.Idle.{Idle}
 use Rattle.event_text.specs.declared.event.Event.{Event}
@@ -62,18 +72,20 @@ pub record FeedsChain (p : Network) (row : Option Attrs) (c c' : Chained) (said 
 abbrev pub Nears : Task → ℕ → Moment → Moment → Type 0
 Nears (tasks.Del k s) n m m' = rows_in m'.chains + n ≡ rows_in m.chains
 Nears (tasks.Fin k) n m m' = (rows_in m'.chains ≡ rows_in m.chains) × (left_in m'.chains + n ≤ left_in m.chains)
+Nears (tasks.Rdel proto l) n m m' = tree_count m'.tree + n ≡ tree_count m.tree
 
 -- the same of one turn, in the chain
 abbrev pub NearsChain : Task → Chained → Chained → Type 0
 NearsChain (tasks.Del k s) c c' = row_count c' + 1 ≡ row_count c
 NearsChain (tasks.Fin k) c c' = (row_count c' ≡ row_count c) × (turns_left c' < turns_left c)
+NearsChain (tasks.Rdel proto l) c c' = ⊥
 
 -- one turn of a task in its chain
 pub record TakesChain (task : Task) (c c' : Chained) (said : List Line) : Type 0 where
   pub turned_chain : Chained
   pub sent : Option (Change Route)
   pub entries : List (Entry Value)
-  pub turned : Turned c turned_chain task sent entries
+  pub turned : TurnedChain c turned_chain task sent entries
   pub lines : said ≡ fall_lines turned_chain entries
   pub after : c' ≡ welded turned_chain
   pub step : StepsChain c said c'
@@ -107,8 +119,13 @@ abbrev pub TurnsAt : Task → List Chained → List Chained → Journaled → Jo
 TurnsAt task cs cs' before now Nothing = (has_turn_in task (chain_at (peer_of task) cs) ≡ false) × (cs' ≡ cs) × (now ≡ before)
 TurnsAt task cs cs' before now Taken = Steps (TakesChain task) (peer_of task) cs cs' before now
 
--- Background work: by the rules of the journal, and what is live stays.
+-- so many deletion stages at most each protocol made more
+abbrev pub HasLosses : ℕ → Moment → Moment → Type 0
+HasLosses more m m' = (most : ℕ) → AreNumbered most m.tree → AreNumbered (most + more) m'.tree
+
+-- Background work: by the rules of the journal, what is live stays, and nothing is lost.
 pub record IsWork (m : Moment) (said : List Line) (m' : Moment) : Type 0 where
+  pub losses : HasLosses 0 m m'
   pub leads : Leads (router_links m) (entries_of said) (router_links m')
   pub live : live_state m' ≡ live_state m
   pub stands : Stands m'
@@ -149,6 +166,7 @@ pub record HaveDrained (phase : Phase) (m : Moment) (turns : ℕ) (m' : Moment) 
   pub most : turns ≤ phase_bound phase m
   pub over : IsOver phase m'
   pub rows : rows_in m'.chains ≤ rows_in m.chains
+  pub routes : tree_count m'.tree ≤ tree_count m.tree
   pub keeps : (earlier : Phase) → IsOver earlier m → IsOver earlier m'
 
 -- every task has run to its end
@@ -170,13 +188,14 @@ IsUpAt k m = (p : DeclaredPeer) × (peer_at k m.declared.peers ≡ Some p) × (p
 
 -- the live state where these changes were made to a peer's routes
 abbrev pub live_fed : LiveState → ℕ → List (Network × Option Attrs) → LiveState
-live_fed l k changes = record { declared = l.declared; routes = with_routes l.routes k (routes_after (l.routes k) changes); rules = l.rules }
+live_fed l k changes = record { declared = l.declared; routes = with_routes l.routes k (routes_after (l.routes k) changes); rules = l.rules; interior = l.interior }
 
 -- The prefixes of an UPDATE from peer k were announced and withdrawn, one after the other.
 pub record HaveFed (k : ℕ) (changes : List (Network × Option Attrs)) (m m' : Moment) (said : List Line) : Type 0 where
   pub feeds : FeedsAll k changes m said m'
   pub leads : Leads (router_links m) (entries_of said) (router_links m')
   pub live : live_state m' ≡ live_fed (live_state m) k changes
+  pub losses : HasLosses 0 m m'
   pub stands : Stands m'
 
 -- a session of this number may be lost in a chain
@@ -209,6 +228,7 @@ IsSession k s m = (p : DeclaredPeer) × (peer_at k m.declared.peers ≡ Some p) 
 
 -- session s of peer k was lost
 pub record HasLost (k s : ℕ) (m m' : Moment) (said : List Line) : Type 0 where
+  pub losses : HasLosses 0 m m'
   pub loses : Loses k s m said m'
   pub leads : Leads (router_links m) (entries_of said) (router_links m')
   pub live : live_state m' ≡ ended (live_state m) k
@@ -216,6 +236,7 @@ pub record HasLost (k s : ℕ) (m m' : Moment) (said : List Line) : Type 0 where
 
 -- the loss alone, where there is room
 pub record Ends (k s : ℕ) (m m' : Moment) (said : List Line) : Type 0 where
+  pub losses : HasLosses 0 m m'
   pub chain : Chained
   pub there : chain_at k m.chains ≡ Some chain
   pub lines : said ≡ journal_lines (loss_entries s chain.incoming)
@@ -233,11 +254,77 @@ pub record HasIdled (m : Moment) (idle : Idle) (m' : Moment) (said : List Line) 
 -- an event was stepped, and what stands then
 pub record HasStepped (m : Moment) (event : Event) (turns : ℕ) (m' : Moment) (said : List Line) : Type 0 where
   pub acts : Acts m event turns m' said
+  pub losses : HasLosses 1 m m'
   pub stands : Stands m'
 
 -- a message from peer k, which is up, was heard
 pub record HasHeard (k : ℕ) (p : DeclaredPeer) (m : Moment) (message : Message) (m' : Moment) (said : List Line) : Type 0 where
   pub hears : Hears k p m message said m'
+  pub losses : HasLosses 0 m m'
   pub leads : Leads (router_links m) (entries_of said) (router_links m')
   pub live : live_state m' ≡ heard (live_state m) k message
   pub stands : Stands m'
+
+-- ---- interior routes
+
+-- A change of an interior route made this of the tree.
+pub record HasRouted (m : Moment) (new : Treed) (proto : Proto) (p : Network) (way : List Link) (live : LiveState) (m' : Moment) (said : List Line) : Type 0 where
+  pub falls : FallsRoute m new proto p way said m'
+  pub lives : live_state m' ≡ live
+  pub leads : Leads (router_links m) (entries_of said) (router_links m')
+  pub losses : HasLosses 0 m m'
+  pub stands : Stands m'
+
+-- there is room for a loss of the protocol
+pub record HasProtocolRoom (proto : Proto) (m room : Moment) (said : List Line) : Type 0 where
+  pub runs : RunsFirst (tree_overdue proto m.tree) m said room
+  pub work : IsWork m said room
+  pub free : tree_overdue proto room.tree ≡ None
+
+-- the loss alone, where there is room
+pub record EndsProtocol (proto : Proto) (m m' : Moment) (said : List Line) : Type 0 where
+  pub lines : said ≡ journal_lines (tree_loss_entries proto m.tree)
+  pub after : Replants (lost_tree proto m.tree) m m'
+  pub leads : Leads (router_links m) (entries_of said) (router_links m')
+  pub live : live_state m' ≡ interior_fed (live_state m) proto map.empty
+  pub losses : HasLosses 1 m m'
+  pub stands : Stands m'
+
+-- what comes out on `fib`, by what came out on `int`
+abbrev pub Forwards : Option (Change Interior) → Option (Change FibRow) → Type 0
+Forwards None below = below ≡ None
+Forwards (Some change) below = ForwardsOn change below
+
+-- the entries of that were pushed
+abbrev pub PushesForwarded : Change Interior → Journaled → Journaled → Type 0
+PushesForwarded change before now = (below : Option (Change FibRow)) × ForwardsOn change below × (now ≡ with_entries before (fib_entries below))
+
+-- the rows of the register, by the same
+abbrev pub registered_after : map.FinMap prefix_cmp Interior → Option (Change Interior) → map.FinMap prefix_cmp Interior
+registered_after rows None = rows
+registered_after rows (Some change) = put_row rows change.prefix change.after
+
+-- What follows a change that came out on `int`, if one did: the register has its row, and `fib` gets what the change makes of it.
+pub record Follows (sent : Option (Change Interior)) (m m' : Moment) (before now : Journaled) : Type 0 where
+  pub after : Replants m.tree m m'
+  pub rows : m'.registry.rows ≡ registered_after m.registry.rows sent
+  pub below : Option (Change FibRow)
+  pub fib : Forwards sent below
+  pub lines : now ≡ with_entries before (fib_entries below)
+
+-- the same, and behind it the stage of the protocol that was emptied goes, if there is one
+pub record Settles (proto : Proto) (sent : Option (Change Interior)) (m m' : Moment) (before now : Journaled) : Type 0 where
+  pub after : Replants (welded_tree proto m.tree) m m'
+  pub rows : m'.registry.rows ≡ registered_after m.registry.rows sent
+  pub below : Option (Change FibRow)
+  pub fib : Forwards sent below
+  pub lines : now ≡ with_entries before (fib_entries below ++ tree_weld_entries proto m.tree)
+  pub leads : LeadsTree m.tree (tree_weld_entries proto m.tree) (welded_tree proto m.tree)
+  pub int : int_rows (welded_tree proto m.tree) ≡ int_rows m.tree
+  pub tree : IsTree (welded_tree proto m.tree)
+  pub full : IsFull (welded_tree proto m.tree)
+
+-- the same, and the text of its lines
+abbrev pub Turned : Proto → Option (Change Interior) → Moment → Moment → Journaled → Journaled → Done → Type 0
+Turned proto sent m m' before now Nothing = ⊥
+Turned proto sent m m' before now Taken = (j : Journaled) × Settles proto sent m m' before j × (now ≡ flushed j)

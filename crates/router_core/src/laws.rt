@@ -1,8 +1,9 @@
 //! Laws of events, for the proofs of the crates above. Each is a function that does nothing, whose contract is the law.
 
-ghost use Rattle.router_core.specs.Laws.{SessionsEnd, DeclarationsFollow, NoticesFit};
+ghost use Rattle.router_core.specs.Laws.{SessionsEnd, DeclarationsFollow, NoticesFit, FirstStands};
 
 use bgp_wire::one_of_message_and_fault;
+use rib_tree::a_new_tree_stands;
 
 /// Octets from a peer end its session exactly where they have a fault or are a NOTIFICATION.
 pub fn sessions_end()
@@ -22,3 +23,10 @@ pub fn declarations_follow()
 pub fn notices_fit()
     ensures { NoticesFit }
 {}
+
+/// What holds between two steps holds before the first.
+pub fn first_moment_stands()
+    ensures { FirstStands }
+{
+    a_new_tree_stands();
+}

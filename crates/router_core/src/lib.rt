@@ -19,13 +19,15 @@ mod laws;
 mod lookups;
 mod network;
 mod peers;
+mod rib_lookups;
 mod router;
+mod routes;
 mod sessions;
 mod steps;
 mod turns;
 mod updates;
 
-pub use laws::{declarations_follow, notices_fit, sessions_end};
+pub use laws::{declarations_follow, first_moment_stands, notices_fit, sessions_end};
 pub use router::{Core, Done, Idle, Phase};
 
 #[cfg(test)]

@@ -4,9 +4,9 @@ ghost use Rattle.std.specs.Prelude.{◌≡◌, ◌≤◌, OnOk, IfOk, IsSome, Ma
 ghost use Rattle.std.specs.Option.{option_copied};
 ghost use Rattle.journal_text.specs.Journals.{with_lines};
 ghost use Rattle.in_chain.specs.Chains.{links_of};
-ghost use Rattle.router_core.specs.Moments.{chain_at, links_by};
+ghost use Rattle.router_core.specs.Moments.{chain_at, links_by, peer_links};
 ghost use Rattle.router_core.specs.Blocks.{answer_lines, Shows};
-ghost use Rattle.router_core.specs.Lookups.{links_among, Counts, ShowsRow, IsCountOf};
+ghost use Rattle.router_core.specs.Lookups.{Counts, ShowsRow, IsCountOf};
 ghost use Rattle.router_core.specs.Works.{Pushes};
 
 use addr4::{Memory, Place, Prefix};
@@ -22,7 +22,7 @@ pub(crate) fn chain_of(chains: &[Chain], number: u32) -> Option<&Chain>
 
 /// The chain that may have the link.
 fn chain_for(chains: &[Chain], link: Link) -> Option<&Chain>
-    ensures { links_by (option_copied result) link ≡ links_among chains.now link }
+    ensures { links_by (option_copied result) link ≡ peer_links chains.now link }
 {
     match link {
         Link::In(k) | Link::Peer(k, _) | Link::Filt(k) => chain_of(chains, k),
@@ -32,7 +32,7 @@ fn chain_for(chains: &[Chain], link: Link) -> Option<&Chain>
 
 /// The chain that has the link, where it is live.
 fn chain_with(chains: &[Chain], link: Link) -> Option<&Chain>
-    ensures { MatchOption result (links_among chains.now link ≡ None) (λ chain. (links_of chain.now link ≡ links_among chains.now link) × IsSome (links_of chain.now link)) }
+    ensures { MatchOption result (peer_links chains.now link ≡ None) (λ chain. (links_of chain.now link ≡ peer_links chains.now link) × IsSome (links_of chain.now link)) }
 {
     match chain_for(chains, link) {
         Some(chain) if chain.live(link) => Some(chain),
@@ -47,7 +47,7 @@ pub(crate) fn ask(
     p: Prefix,
     journal: &mut Journal,
 ) -> Result<(), Memory>
-    ensures { OnOk result (journal.new ≡ with_lines journal.old (answer_lines link p (links_among chains.now link))) }
+    ensures { OnOk result (journal.new ≡ with_lines journal.old (answer_lines link p (peer_links chains.now link))) }
 {
     match chain_with(chains, link) {
         None => journal.push_line(Line::Absent),
@@ -60,7 +60,7 @@ pub(crate) fn ask(
 
 /// Appends all rows of a link by prefix, and their number; or `absent` where the link isn't live.
 pub(crate) fn show(chains: &[Chain], link: Link, journal: &mut Journal) -> Result<(), Memory>
-    ensures { OnOk result (Pushes (Shows link (links_among chains.now link)) journal.old journal.new) }
+    ensures { OnOk result (Pushes (Shows link (peer_links chains.now link)) journal.old journal.new) }
 {
     match chain_with(chains, link) {
         None => journal.push_line(Line::Absent),
@@ -101,7 +101,7 @@ fn show_row(chain: &Chain, link: Link, p: Prefix, journal: &mut Journal) -> Resu
 
 /// How many rows a link has; None where it isn't live.
 pub(crate) fn count(chains: &[Chain], link: Link) -> Result<Option<u128>, Memory>
-    ensures { IfOk result (IsCountOf (links_among chains.now link)) }
+    ensures { IfOk result (IsCountOf (peer_links chains.now link)) }
 {
     match chain_with(chains, link) {
         None => Ok(None),

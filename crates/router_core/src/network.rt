@@ -1,4 +1,4 @@
-//! What was declared, and the peers' chains.
+//! What was declared, the interior routes, and the peers' chains.
 
 ghost use Rattle.std.specs.Prelude.{◌≡◌, ◌+◌, ◌*◌, IfOk};
 ghost use Rattle.router_core.specs.declared.router.Phase.TheVariants as phases;
@@ -8,6 +8,9 @@ ghost use Rattle.router_core.specs.Turns.{phase_bound};
 use addr4::Memory;
 use event_text::Declared;
 use in_chain::Chain;
+use register_interest::Register;
+use rib_route::Interior;
+use rib_tree::Tree;
 use std::alloc::Global;
 use std::marker::Model;
 
@@ -16,6 +19,8 @@ use std::marker::Model;
 pub(crate) struct Network {
     pub(crate) alloc: Global,
     pub(crate) declared: Declared,
+    pub(crate) tree: Tree,
+    pub(crate) registry: Register<Interior>,
     pub(crate) chains: Vec<Chain>,
 }
 
@@ -31,12 +36,17 @@ impl Model for Network {
     ghost use Rattle.pass_core.specs.Passed.{passed_code};
     ghost use Rattle.in_chain.specs.Incomings.{incoming_code};
     ghost use Rattle.in_chain.specs.Chains.{chained_code};
+    ghost use Rattle.rib_route.specs.contracts.Proto as proto_row;
+    ghost use Rattle.rib_route.specs.contracts.rows.Interior as interior_row;
+    ghost use Rattle.rib_origin.specs.Branches.{branch_code};
+    ghost use Rattle.rib_tree.specs.Trees.{treed_code};
+    ghost use Rattle.register_interest.specs.Registers.{registry_code};
 
     ghost Value = { Moment };
 
-    ghost coded = { moment_code (declaration_code speaker_row.the_row.coded peer_row.the_row.coded) (chained_code (incoming_code attrs_row.the_row.coded) speaker_row.the_row.coded neighbour_row.the_row.coded (passed_code (coded_list rule_row.the_row.coded))) };
+    ghost coded = { moment_code (declaration_code speaker_row.the_row.coded peer_row.the_row.coded) (treed_code (branch_code proto_row.the_row.coded interior_row.the_row.coded)) (registry_code interior_row.the_row.coded) (chained_code (incoming_code attrs_row.the_row.coded) speaker_row.the_row.coded neighbour_row.the_row.coded (passed_code (coded_list rule_row.the_row.coded))) };
 
-    ghost view = { λ n. record { declared = n.declared; chains = n.chains.items } };
+    ghost view = { λ n. record { declared = n.declared; tree = n.tree; registry = n.registry; chains = n.chains.items } };
 }
 
 impl Network {
@@ -47,6 +57,8 @@ impl Network {
         Network {
             alloc,
             declared: Declared::new(alloc),
+            tree: Tree::new(alloc),
+            registry: Register::new(alloc),
             chains: Vec::new(alloc),
         }
     }
@@ -73,7 +85,7 @@ impl Network {
         ensures { IfOk result (λ bound. bound ≡ bound_of self.now) }
     {
         let peers = plus(self.declared.peers().len() as u128, 2)?;
-        let rows = count_rows(self.chains.as_slice())?;
+        let rows = plus(count_rows(self.chains.as_slice())?, self.tree.rows())?;
         let bound = times(peers, plus(times(9, rows)?, 6)?)?;
         Ok(bound)
     }

@@ -1,18 +1,20 @@
 //! Declarations, sessions that begin, and what octets of a peer say.
 
-ghost use Rattle.std.specs.Prelude.{◌≡◌, ◌≤◌, [], length, not, OnOk, IfOk, IsSome, Some, None};
+ghost use Rattle.std.specs.Prelude.{◌≡◌, ◌≤◌, [], length, not, OnOk, IfOk, IsSome, Some, None, map};
 ghost use Rattle.event_text.specs.declared.event.Event.TheVariants as events;
 ghost use Rattle.event_text.specs.Declarations.{peer_at, refusal};
 ghost use Rattle.router_core.specs.Moments.{chain_at, insert_chain, router_links};
 ghost use Rattle.router_core.specs.Lives.{Says};
 ghost use Rattle.router_core.specs.Stands.{AreInOrder, Stands};
-ghost use Rattle.router_core.specs.Blocks.{Acts};
+ghost use Rattle.router_core.specs.Blocks.{Acts, begin_line, rib_begins};
+ghost use Rattle.journal_text.specs.Journals.{with_lines};
 ghost use Rattle.router_core.specs.Lookups.{IsCountOf};
 ghost use Rattle.router_core.specs.Peers.{is_up, place_in, Edits, HasShortNotice};
 ghost use Rattle.router_core.specs.Works.{Pushes};
 
 use crate::lookups;
 use crate::network::Network;
+use crate::rib_lookups::is_of_rib;
 use crate::turns::place;
 use addr4::{Memory, Prefix};
 use bgp_attr::{Profile, Speaker};
@@ -21,6 +23,7 @@ use event_text::DeclaredPeer;
 use in_chain::Chain;
 use journal_text::{Entry, Journal, Line, Link};
 use policy_rules::Rules;
+use rib_route::Proto;
 use std::alloc::Global;
 
 /// AS numbers have two octets, and errors are handled by RFC 4271, section 6.3.
@@ -30,14 +33,19 @@ const PLAIN: Profile = Profile {
 };
 
 impl Network {
-    /// `local` was declared. Takes no memory.
-    pub(crate) fn declare_speaker(&mut self, words: Speaker)
+    /// `local` was declared: the links of the interior routes begin.
+    pub(crate) fn declare_speaker(
+        &mut self,
+        words: Speaker,
+        journal: &mut Journal,
+    ) -> Result<(), Memory>
         requires admitted { refusal self.old.declared (events.Local words) ≡ None }
         requires stands { Stands self.old }
-        ensures acts { Acts self.old (events.Local words) 0 self.new [] }
-        ensures stands { Stands self.new }
+        ensures acts { OnOk result (Pushes (Acts self.old (events.Local words) 0 self.new) journal.old journal.new) }
+        ensures stands { OnOk result (Stands self.new) }
     {
         self.declared.set_speaker(words);
+        begin_rib(journal)
     }
 
     /// `peer` was declared: its chain begins, without routes and rules.
@@ -111,6 +119,9 @@ impl Network {
     pub(crate) fn ask(&self, link: Link, p: Prefix, journal: &mut Journal) -> Result<(), Memory>
         ensures { OnOk result (Pushes (Acts self.now (events.Ask link p) 0 self.now) journal.old journal.new) }
     {
+        if is_of_rib(link) {
+            return self.ask_rib(link, p, journal);
+        }
         lookups::ask(self.chains.as_slice(), link, p, journal)
     }
 
@@ -118,6 +129,9 @@ impl Network {
     pub(crate) fn show(&self, link: Link, journal: &mut Journal) -> Result<(), Memory>
         ensures { OnOk result (Pushes (Acts self.now (events.Show link) 0 self.now) journal.old journal.new) }
     {
+        if is_of_rib(link) {
+            return self.show_rib(link, journal);
+        }
         lookups::show(self.chains.as_slice(), link, journal)
     }
 
@@ -125,8 +139,38 @@ impl Network {
     pub(crate) fn count(&self, link: Link) -> Result<Option<u128>, Memory>
         ensures { IfOk result (IsCountOf (router_links self.now link)) }
     {
+        if is_of_rib(link) {
+            return self.count_rib(link);
+        }
         lookups::count(self.chains.as_slice(), link)
     }
+}
+
+/// The links that begin with `local`.
+fn begin_rib(journal: &mut Journal) -> Result<(), Memory>
+    ensures { OnOk result (journal.new ≡ with_lines journal.old rib_begins) }
+{
+    let links = [
+        Link::Org(Proto::Connected),
+        Link::Org(Proto::Static),
+        Link::Org(Proto::Ospf),
+        Link::Org(Proto::Rip),
+        Link::Low,
+        Link::Dyn,
+        Link::Int,
+        Link::Fib,
+    ];
+    begin_all(&links, journal)
+}
+
+/// Links begin.
+fn begin_all(links: &[Link], journal: &mut Journal) -> Result<(), Memory>
+    ensures { OnOk result (journal.new ≡ with_lines journal.old (map begin_line links.now)) }
+{
+    for link in links {
+        journal.push_line(Line::Journal(Entry::Begin(*link)))?;
+    }
+    Ok(())
 }
 
 /// The chain of a peer has new rules.

@@ -6,7 +6,7 @@ ghost use Rattle.journal_text.specs.Walk.{Leads};
 ghost use Rattle.event_text.specs.declared.event.Event.TheVariants as events;
 ghost use Rattle.event_text.specs.Declarations.{refusal};
 ghost use Rattle.router_core.specs.Moments.{first_moment, chain_at, router_links, Gives};
-ghost use Rattle.router_core.specs.Stands.{Stands};
+ghost use Rattle.router_core.specs.Stands.{CoreStands};
 ghost use Rattle.router_core.specs.Turns.{has_work};
 ghost use Rattle.router_core.specs.Blocks.{Acts};
 ghost use Rattle.router_core.specs.Lookups.{IsCountOf};
@@ -17,6 +17,7 @@ use addr4::Memory;
 use event_text::{Declared, Event};
 use in_chain::Chain;
 use journal_text::{Journal, Link, Task};
+use rib_tree::{Tree, a_new_tree_stands};
 use std::alloc::Global;
 use std::marker::Model;
 
@@ -38,6 +39,8 @@ pub struct Idle {
 /// The phases of an idle, in their order.
 #[derive(Clone, Copy, Debug, PartialEq, Eq)]
 pub enum Phase {
+    /// The deletion stages of the interior protocols' losses.
+    Rdel,
     /// The deletion stages of lost sessions.
     Del,
     /// The walks of the incoming filters.
@@ -52,7 +55,12 @@ pub struct Core {
 }
 
 impl Model for Core {
-    ghost use Rattle.router_core.specs.Moments.{Cored, cored_code};
+    ghost use Rattle.router_core.specs.Moments.{Cored, cored_code, moment_code};
+    ghost use Rattle.rib_route.specs.contracts.Proto as proto_row;
+    ghost use Rattle.rib_route.specs.contracts.rows.Interior as interior_row;
+    ghost use Rattle.rib_origin.specs.Branches.{branch_code};
+    ghost use Rattle.rib_tree.specs.Trees.{treed_code};
+    ghost use Rattle.register_interest.specs.Registers.{registry_code};
     ghost use Rattle.event_text.specs.Declarations.{declaration_code};
     ghost use Rattle.event_text.specs.contracts.declared.DeclaredPeer as peer_row;
     ghost use Rattle.bgp_attr.specs.contracts.speaker.Speaker as speaker_row;
@@ -66,7 +74,7 @@ impl Model for Core {
 
     ghost Value = { Cored };
 
-    ghost coded = { cored_code (declaration_code speaker_row.the_row.coded peer_row.the_row.coded) (chained_code (incoming_code attrs_row.the_row.coded) speaker_row.the_row.coded neighbour_row.the_row.coded (passed_code (coded_list rule_row.the_row.coded))) };
+    ghost coded = { cored_code (moment_code (declaration_code speaker_row.the_row.coded peer_row.the_row.coded) (treed_code (branch_code proto_row.the_row.coded interior_row.the_row.coded)) (registry_code interior_row.the_row.coded) (chained_code (incoming_code attrs_row.the_row.coded) speaker_row.the_row.coded neighbour_row.the_row.coded (passed_code (coded_list rule_row.the_row.coded)))) };
 
     ghost view = { λ c. record { moment = c.network; events = c.events; failed = c.failed } };
 }
@@ -75,8 +83,9 @@ impl Core {
     /// Nothing is declared, and no link is live. Takes no memory.
     pub fn new(alloc: Global) -> Core
         ensures value { result ≡ record { moment = first_moment; events = 0; failed = false } }
-        ensures stands { Stands result.moment }
+        ensures stands { CoreStands result }
     {
+        a_new_tree_stands();
         Core {
             network: Network::new(alloc),
             events: 0,
@@ -106,6 +115,13 @@ impl Core {
         self.network.chain(number)
     }
 
+    /// The tree of the interior routes.
+    pub fn tree(&self) -> &Tree
+        ensures { result.now ≡ self.now.moment.tree }
+    {
+        &self.network.tree
+    }
+
     /// How many rows a link has; None exactly where it isn't live. Memory for want of memory: each row of `filt.K` is judged.
     pub fn count(&self, link: Link) -> Result<Option<u128>, Memory>
         ensures { IfOk result (IsCountOf (router_links self.now.moment link)) }
@@ -118,9 +134,9 @@ impl Core {
     pub fn step(&mut self, event: Event, journal: &mut Journal) -> Result<u128, Memory>
         requires admitted { refusal self.old.moment.declared event ≡ None }
         requires few { self.old.events < 4294967295 }
-        requires stands { self.old.failed ≡ false → Stands self.old.moment }
+        requires stands { self.old.failed ≡ false → CoreStands self.old }
         ensures acts { IfOk result (λ turns. Gives (Acts self.old.moment event turns self.new.moment) journal.old journal.new) }
-        ensures stands { OnOk result (Stands self.new.moment) }
+        ensures stands { OnOk result (CoreStands self.new) }
         ensures events { OnOk result (self.new.events ≡ self.old.events + 1) }
         ensures good { OnOk result (self.new.failed ≡ false) }
         ensures memory { OnErr result (self.new.failed ≡ true) }
@@ -139,9 +155,9 @@ impl Core {
     /// One turn of a task, and the text of its lines. [`Done::Nothing`] comes exactly where the task has no work; then
     /// nothing changes. What is live stays.
     pub fn unit(&mut self, task: Task, journal: &mut Journal) -> Result<Done, Memory>
-        requires stands { self.old.failed ≡ false → Stands self.old.moment }
+        requires stands { self.old.failed ≡ false → CoreStands self.old }
         ensures comes { IfOk result (Comes task self.old.moment self.new.moment journal.old journal.new) }
-        ensures stands { OnOk result (Stands self.new.moment) }
+        ensures stands { OnOk result (CoreStands self.new) }
         ensures events { OnOk result (self.new.events ≡ self.old.events) }
         ensures good { OnOk result (self.new.failed ≡ false) }
         ensures memory { OnErr result (self.new.failed ≡ true) }
@@ -156,12 +172,12 @@ impl Core {
         Ok(done)
     }
 
-    /// A phase of an idle: each of its tasks runs to its end. Answers how many turns that took: of the deletion stages at
-    /// most as many as there are rows, of the walks at most two for each row and two for each peer.
+    /// A phase of an idle: each of its tasks runs to its end. Answers how many turns that took: of deletion stages at most
+    /// as many as there are rows, of the walks at most two for each row and two for each peer.
     pub fn drain(&mut self, phase: Phase, journal: &mut Journal) -> Result<u128, Memory>
-        requires stands { self.old.failed ≡ false → Stands self.old.moment }
+        requires stands { self.old.failed ≡ false → CoreStands self.old }
         ensures drained { IfOk result (λ turns. Gives (HaveDrained phase self.old.moment turns self.new.moment) journal.old journal.new) }
-        ensures stands { OnOk result (Stands self.new.moment) }
+        ensures stands { OnOk result (CoreStands self.new) }
         ensures events { OnOk result (self.new.events ≡ self.old.events) }
         ensures good { OnOk result (self.new.failed ≡ false) }
         ensures memory { OnErr result (self.new.failed ≡ true) }
@@ -178,9 +194,9 @@ impl Core {
 
     /// Every task runs to its end, within the number of turns that is announced first. Answers both.
     pub fn idle(&mut self, journal: &mut Journal) -> Result<Idle, Memory>
-        requires stands { self.old.failed ≡ false → Stands self.old.moment }
+        requires stands { self.old.failed ≡ false → CoreStands self.old }
         ensures idled { IfOk result (λ idle. Gives (HasIdled self.old.moment idle self.new.moment) journal.old journal.new) }
-        ensures stands { OnOk result (Stands self.new.moment) }
+        ensures stands { OnOk result (CoreStands self.new) }
         ensures events { OnOk result (self.new.events ≡ self.old.events) }
         ensures good { OnOk result (self.new.failed ≡ false) }
         ensures memory { OnErr result (self.new.failed ≡ true) }

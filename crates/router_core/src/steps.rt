@@ -4,6 +4,7 @@ ghost use Rattle.std.specs.Prelude.{◌≡◌, ◌≤◌, length, OnOk, IfOk, Is
 ghost use Rattle.event_text.specs.declared.event.Event.TheVariants as events;
 ghost use Rattle.event_text.specs.Declarations.{peer_at, refusal};
 ghost use Rattle.bgp_wire.specs.Spelling.{notification_octets};
+ghost use Rattle.rib_tree.specs.Trees.{AreNumbered};
 ghost use Rattle.router_core.specs.Moments.{Gives};
 ghost use Rattle.router_core.specs.Lives.{Says};
 ghost use Rattle.router_core.specs.Peers.{HasShortNotice};
@@ -26,6 +27,7 @@ impl Network {
     /// Steps an event, and makes the text of its lines. Answers how many turns `work` or `idle` took.
     pub(crate) fn step(&mut self, event: Event, journal: &mut Journal) -> Result<u128, Memory>
         requires admitted { refusal self.old.declared event ≡ None }
+        requires few { AreNumbered 4294967294 self.old.tree }
         requires stands { Stands self.old }
         ensures { IfOk result (λ turns. Gives (HasStepped self.old event turns self.new) journal.old journal.new) }
     {
@@ -37,6 +39,10 @@ impl Network {
             Event::Down(number) => self.down(number, journal),
             Event::Bgp(number, octets) => self.message(number, octets, journal),
             Event::FilterIn(number, rules) => self.filter_in(number, rules, journal),
+            Event::RouteAdd(p, row) => self.route_add(p, row, journal),
+            Event::RouteDel(proto, p) => self.route_del(proto, p, journal),
+            Event::Lose(proto) => self.lose_protocol(proto, journal),
+            Event::Cover(address) => self.cover(address, journal),
             Event::Idle => self.idle_turns(journal),
             Event::Work(task, most) => self.work(task, most, journal),
             Event::Ask(link, p) => self.look_up(link, p, journal),
@@ -58,7 +64,7 @@ impl Network {
         requires stands { Stands self.old }
         ensures { IfOk result (λ turns. Gives (HasStepped self.old (events.Local words) turns self.new) journal.old journal.new) }
     {
-        self.declare_speaker(words);
+        self.declare_speaker(words, journal)?;
         journal.flush()?;
         Ok(0)
     }

@@ -49,13 +49,14 @@ pub(crate) fn place(chains: &[Chain], number: u32) -> Option<usize>
     chains.iter().position(|chain| chain.number() == number)
 }
 
-/// The peer whose task it is.
+/// The peer whose task it is; 0 for a task of none.
 fn peer_of(task: Task) -> u32
     ensures { result ≡ peer_of task }
 {
     match task {
         Task::Del(number, _) => number,
         Task::Fin(number) => number,
+        Task::Rdel(_, _) => 0,
     }
 }
 
@@ -78,6 +79,9 @@ impl Network {
         requires { Stands self.old }
         ensures { IfOk result (Comes task self.old self.new journal.old journal.new) }
     {
+        if let Task::Rdel(proto, loss) = task {
+            return self.turn_route(proto, loss, journal);
+        }
         match turn_at(&mut self.chains, task, journal)? {
             Done::Nothing => return Ok(Done::Nothing),
             Done::Taken => {}
@@ -117,6 +121,11 @@ impl Network {
                 let turns = self.turns(task, rows, journal)?;
                 Ok(turns)
             }
+            Task::Rdel(_, _) => {
+                let routes = self.tree.rows();
+                let turns = self.turns(task, routes, journal)?;
+                Ok(turns)
+            }
             Task::Fin(_) => {
                 turns_are_bounded();
                 let bound = self.walk_bound()?;
@@ -131,9 +140,10 @@ impl Network {
         requires { Stands self.old }
         ensures { IfOk result (λ turns. Gives (AllHaveDrained self.old turns self.new) journal.old journal.new) }
     {
+        let losses = self.drain(Phase::Rdel, journal)?;
         let deletions = self.drain(Phase::Del, journal)?;
         let walks = self.drain(Phase::Fin, journal)?;
-        let turns = plus(deletions, walks)?;
+        let turns = plus(losses, plus(deletions, walks)?)?;
         Ok(turns)
     }
 
@@ -143,9 +153,27 @@ impl Network {
         ensures { IfOk result (λ turns. Gives (HaveDrained phase self.old turns self.new) journal.old journal.new) }
     {
         match phase {
+            Phase::Rdel => self.drain_losses(journal),
             Phase::Del => self.drain_deletions(journal),
             Phase::Fin => self.drain_walks(journal),
         }
+    }
+
+    /// The deletion stages of the interior protocols, each to its end: by protocol, and the earliest loss first.
+    fn drain_losses(&mut self, journal: &mut Journal) -> Result<u128, Memory>
+        requires { Stands self.old }
+        ensures { IfOk result (λ turns. Gives (HaveDrained phases.Rdel self.old turns self.new) journal.old journal.new) }
+    {
+        let rows = self.tree.rows();
+        journal.flush()?;
+        let mut turns = 0;
+        while let Some(task) = self.tree.oldest() {
+            match self.turn(task, journal)? {
+                Done::Nothing => unreachable!(),
+                Done::Taken => turns += 1,
+            }
+        }
+        Ok(turns)
     }
 
     /// The walks of the filters, each to its end: by peer.

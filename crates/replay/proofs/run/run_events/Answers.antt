@@ -3,7 +3,7 @@ use Rattle.check_run.specs.Lines.{lines_of}
 use Rattle.replay.specs.Output.{IsOutput, IsRefusedOutput, IsFrontOfOutput}
 use Rattle.replay.specs.Stream.{HasStepped, IsRefusedAt, IsFrontAt}
 use Rattle.check_run.proofs.Known.{appends_then, consumes_then}
-use Rattle.replay.proofs.Endings.{took_read, took_all, took_front, read_nothing, of_all, of_read, ended_status, refused_status, stepped_as}
+use Rattle.replay.proofs.Endings.{took_read, took_all, took_front, took_ended, read_nothing, of_all, of_read, ended_status, refused_status, stepped_as}
 use Rattle.replay.proofs.run.run_events.Goals as goal
 
 pub returns-then-count-eq0-clause-ok : goal.returns-then-count-eq0-clause-ok
@@ -96,3 +96,6 @@ returns-in-Some-clause-by_text g c = ⊎_elim
     let p = c.reading.invariant.progress in
     let w = c.in-Some.ensures.refused (ap Some is) p.read p.written (stepped_as _ _ _ _ _ _ _ c.reading.invariant.same p.stepped) in
     of_read _ _ (p.read ++ take c.in-Ok.count c.read.new.buf) _ (consumes_then _ _ _ _ _ p.consumed c.in-Ok.ensures.bytes.0) (λ more. is ∙ refused_status _ _ _ (w.2 more)))
+
+pub returns-in_default-clause-so_far : goal.returns-in_default-clause-so_far
+returns-in_default-clause-so_far g c = λ is. took_ended _ _ _ _ _ _ _ _ _ c.reading.stream.short c.reading.invariant.progress c.in_default.ensures.bytes

@@ -29,7 +29,7 @@ returns-clause-acts c =
     let k = c.args.number in
     let said = lines.Journal (Begin (In k)) ∷ lines.Journal (Begin (Filt k)) ∷ [] in
     let absent = peer_absent m.declared k c.args.words c.requires.admitted in
-    let is = declared_is m c.in-Some.me k c.args.words c.self.inside.declared c.add_peer.new.self c.in-Some-peer.peer c.in_ok-chain.chain c.self.inside.chains.items c.insert_chain.new.chains.items c.self.view_is
+    let is = declared_is m c.in-Some.me k c.args.words c.self.inside.declared c.add_peer.new.self c.in-Some-peer.peer c.in_ok-chain.chain c.self.inside.tree c.self.inside.registry c.self.inside.chains.items c.insert_chain.new.chains.items c.self.view_is
     (ap (λ (m : Moment). peer_at k m.declared.peers) c.self.view_is ∙ absent) c.in_ok-add_peer.ensures.ok c.in-Some-peer.ensures c.in_ok-chain.ensures c.in_ok-insert_chain.ensures in
     let acts = peer_acts m c.in-Some.me k c.args.words (sym (ap (λ (m : Moment). m.declared.speaker) c.self.view_is) ∙ sym c.in-Some.ensures) c.requires.stands absent in
     on_ok_weaker c.push_line-2.result
@@ -45,7 +45,7 @@ returns-clause-stands c =
     let m = c.args.self.now in
     let k = c.args.number in
     let absent = peer_absent m.declared k c.args.words c.requires.admitted in
-    let is = declared_is m c.in-Some.me k c.args.words c.self.inside.declared c.add_peer.new.self c.in-Some-peer.peer c.in_ok-chain.chain c.self.inside.chains.items c.insert_chain.new.chains.items c.self.view_is
+    let is = declared_is m c.in-Some.me k c.args.words c.self.inside.declared c.add_peer.new.self c.in-Some-peer.peer c.in_ok-chain.chain c.self.inside.tree c.self.inside.registry c.self.inside.chains.items c.insert_chain.new.chains.items c.self.view_is
     (ap (λ (m : Moment). peer_at k m.declared.peers) c.self.view_is ∙ absent) c.in_ok-add_peer.ensures.ok c.in-Some-peer.ensures c.in_ok-chain.ensures c.in_ok-insert_chain.ensures in
     let stands = declared_stands m c.in-Some.me k c.args.words (sym (ap (λ (m : Moment). m.declared.speaker) c.self.view_is) ∙ sym c.in-Some.ensures) c.requires.stands absent in
     on_ok_weaker c.push_line-2.result (λ _. subst Stands (sym is) stands) c.push_line-2.ensures

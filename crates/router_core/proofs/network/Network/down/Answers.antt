@@ -1,10 +1,15 @@
-use Rattle.std.proofs.Common.{◌≡◌, None, subst, sym}
+use Rattle.std.proofs.Common.{◌≡◌, Some, None, subst, sym}
 use Rattle.event_text.specs.Declarations.{peer_at}
 use Rattle.router_core.specs.Moments.{Moment}
-use Rattle.router_core.proofs.StepLemmas.{down_there}
+use Rattle.router_core.proofs.StepLemmas.{down_there, lost_down, is_up_by}
 use Rattle.router_core.proofs.network.Network.down.Goals as goal
 
 pub unreachable-requires : goal.unreachable-requires
 unreachable-requires c =
     down_there c.args.self.now.declared c.args.number c.requires.admitted
     (subst (λ (m : Moment). peer_at c.args.number m.declared.peers ≡ None) c.self.view_is (sym c.in_default.ensures))
+
+pub returns : goal.returns
+returns c =
+    let there : peer_at c.args.number c.args.self.now.declared.peers ≡ Some c.in-Some.peer = subst (λ (m : Moment). peer_at c.args.number m.declared.peers ≡ Some c.in-Some.peer) c.self.view_is (sym c.in-Some.ensures) in
+    lost_down c.args.number c.in-Some.peer c.args.self.now c.lose.new.self c.args.journal.now c.lose.new.journal there (is_up_by c.in-Some.peer.up c.if-not-peer.false) c.in_ok-lose.ensures

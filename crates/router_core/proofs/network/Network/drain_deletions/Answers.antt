@@ -2,13 +2,16 @@ use Rattle.std.proofs.Common.{◌≡◌, ◌+◌, ◌≤◌, sym, subst, arith}
 use Rattle.router_core.specs.declared.router.Done.{Done}
 use Rattle.router_core.specs.Moments.{rows_in}
 use Rattle.router_core.specs.Works.{Comes}
-use Rattle.router_core.proofs.DrainLemmas.{all_more, all_done, all_taken, row_taken, turns_fit}
+use Rattle.router_core.proofs.DrainLemmas.{none_gone, all_more, all_done, all_taken, row_taken, turns_fit}
 use Rattle.router_core.proofs.network.Network.drain_deletions.Goals as goal
 
 pub unreachable-requires : goal.unreachable-requires
 unreachable-requires c =
     all_taken c.args.self.now c.loop-task.self c.turn.new.self c.in-Some.task c.loop-task.turns c.args.journal.now c.loop-task.journal c.turn.new.journal c.loop-task.invariant (sym c.in-Some.ensures)
     (subst (λ (d : Done). Comes c.in-Some.task c.loop-task.self c.turn.new.self c.loop-task.journal c.turn.new.journal d) c.in-Nothing.is c.in_ok-turn.ensures)
+
+pub loop-task-init : goal.loop-task-init
+loop-task-init c = none_gone c.args.self.now c.args.journal.now c.flush.new.self c.requires c.in_ok-flush.ensures.ok
 
 pub loop-task-preserved : goal.loop-task-preserved
 loop-task-preserved c =

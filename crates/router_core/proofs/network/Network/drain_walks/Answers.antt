@@ -2,8 +2,11 @@ use Rattle.std.proofs.Common.{◌≡◌, ℕ, ◌+◌, ◌<◌, ◌≤◌, lengt
 use Rattle.journal_text.specs.declared.link.Task.TheVariants.{Fin}
 use Rattle.router_core.specs.Moments.{Moment, Gives}
 use Rattle.router_core.specs.Works.{HasDrained}
-use Rattle.router_core.proofs.DrainLemmas.{HaveGivenWalks, walk_more, walks_done}
+use Rattle.router_core.proofs.DrainLemmas.{HaveGivenWalks, none_walked, walk_more, walks_done}
 use Rattle.router_core.proofs.network.Network.drain_walks.Goals as goal
+
+pub loop-i-init : goal.loop-i-init
+loop-i-init c = none_walked c.args.self.now c.args.journal.now c.flush.new.self c.requires c.in_ok-flush.ensures.ok
 
 pub loop-i-preserved : goal.loop-i-preserved
 loop-i-preserved c =

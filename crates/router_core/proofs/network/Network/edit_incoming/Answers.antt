@@ -14,12 +14,12 @@ edit_at-requires-clause-there c =
 
 pub returns-clause-acts : goal.returns-clause-acts
 returns-clause-acts c =
-    let old : Moment = record { declared = c.self.inside.declared; chains = c.self.inside.chains.items } in
-    let new : Moment = record { declared = c.self.inside.declared; chains = c.edit_at.new.chains.items } in
+    let old : Moment = record { declared = c.self.inside.declared; tree = c.self.inside.tree; registry = c.self.inside.registry; chains = c.self.inside.chains.items } in
+    let new : Moment = record { declared = c.self.inside.declared; tree = c.self.inside.tree; registry = c.self.inside.registry; chains = c.edit_at.new.chains.items } in
     subst (λ (m : Moment). Acts m (events.FilterIn c.args.number c.args.rules) 0 new []) c.self.view_is
     (edited_acts old c.args.number c.args.rules c.edit_at.new.chains.items c.edit_at.ensures)
 
 pub returns-clause-stands : goal.returns-clause-stands
 returns-clause-stands c =
-    let old : Moment = record { declared = c.self.inside.declared; chains = c.self.inside.chains.items } in
+    let old : Moment = record { declared = c.self.inside.declared; tree = c.self.inside.tree; registry = c.self.inside.registry; chains = c.self.inside.chains.items } in
     edited_stands old c.args.number c.args.rules c.edit_at.new.chains.items (subst Stands (sym c.self.view_is) c.requires.stands) c.edit_at.ensures

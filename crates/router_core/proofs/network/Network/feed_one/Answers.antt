@@ -7,8 +7,8 @@ use Rattle.router_core.proofs.network.Network.feed_one.Goals as goal
 
 pub returns : goal.returns
 returns c =
-    let old : Moment = record { declared = c.self.inside.declared; chains = c.self.inside.chains.items } in
-    let new : Moment = record { declared = c.self.inside.declared; chains = c.feed_at.new.chains.items } in
+    let old : Moment = record { declared = c.self.inside.declared; tree = c.self.inside.tree; registry = c.self.inside.registry; chains = c.self.inside.chains.items } in
+    let new : Moment = record { declared = c.self.inside.declared; tree = c.self.inside.tree; registry = c.self.inside.registry; chains = c.feed_at.new.chains.items } in
     subst (λ (m : Moment). Pushes (HaveFed c.args.number ((c.args.prefix, c.args.row) ∷ []) m new) c.args.journal.now c.feed_at.new.journal) c.self.view_is
     (one_fed c.args.number c.args.prefix c.args.row old c.feed_at.new.chains.items c.args.journal.now c.feed_at.new.journal (subst Stands (sym c.self.view_is) c.requires.stands)
     (subst (IsUpAt c.args.number) (sym c.self.view_is) c.requires.up) c.in_ok-feed_at.ensures)

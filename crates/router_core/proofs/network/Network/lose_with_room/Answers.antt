@@ -10,8 +10,8 @@ use Rattle.router_core.proofs.network.Network.lose_with_room.Goals as goal
 
 pub returns : goal.returns
 returns c =
-    let old : Moment = record { declared = c.self.inside.declared; chains = c.self.inside.chains.items } in
-    let new : Declaration → Moment = λ d. record { declared = d; chains = c.lose_at.new.chains.items } in
+    let old : Moment = record { declared = c.self.inside.declared; tree = c.self.inside.tree; registry = c.self.inside.registry; chains = c.self.inside.chains.items } in
+    let new : Declaration → Moment = λ d. record { declared = d; tree = c.self.inside.tree; registry = c.self.inside.registry; chains = c.lose_at.new.chains.items } in
     let stands : Stands old = subst Stands (sym c.self.view_is) c.requires.stands in
     let up : IsSession c.args.number c.args.session old = subst (IsSession c.args.number c.args.session) (sym c.self.view_is) c.requires.up in
     let free : (d : Chained) → chain_at c.args.number old.chains ≡ Some d → overdue_of d.incoming ≡ None =

@@ -1,10 +1,17 @@
-use Rattle.std.proofs.Common.{◌≡◌, None, subst, sym}
+use Rattle.std.proofs.Common.{◌≡◌, ℕ, List, Some, None, subst, sym}
 use Rattle.event_text.specs.Declarations.{peer_at}
 use Rattle.router_core.specs.Moments.{Moment}
-use Rattle.router_core.proofs.StepLemmas.{bgp_there}
+use Rattle.router_core.specs.Lives.{Says}
+use Rattle.router_core.proofs.StepLemmas.{bgp_there, heard_up}
 use Rattle.router_core.proofs.network.Network.message.Goals as goal
 
 pub unreachable-requires : goal.unreachable-requires
 unreachable-requires c =
     bgp_there c.args.self.now.declared c.args.number c.args.octets c.requires.admitted
     (subst (λ (m : Moment). peer_at c.args.number m.declared.peers ≡ None) c.self.view_is (sym c.in_default.ensures))
+
+pub returns : goal.returns
+returns c =
+    let there : peer_at c.args.number c.args.self.now.declared.peers ≡ Some c.in-Some.peer = subst (λ (m : Moment). peer_at c.args.number m.declared.peers ≡ Some c.in-Some.peer) c.self.view_is (sym c.in-Some.ensures) in
+    let says : Says c.in-Some.peer c.args.octets c.in_ok-message.message = subst (λ (octets : List ℕ). Says c.in-Some.peer octets c.in_ok-message.message) c.as_slice.ensures c.in_ok-message.ensures.says in
+    heard_up c.args.number c.in-Some.peer c.args.self.now c.hear.new.self c.args.octets c.in_ok-message.message c.args.journal.now c.hear.new.journal there c.if-not-peer.false says c.in_ok-hear.ensures

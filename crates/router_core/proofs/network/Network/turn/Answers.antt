@@ -9,8 +9,8 @@ use Rattle.router_core.proofs.network.Network.turn.Goals as goal
 
 pub returns : goal.returns
 returns c =
-    let old : Moment = record { declared = c.self.inside.declared; chains = c.self.inside.chains.items } in
-    let new : Moment = record { declared = c.self.inside.declared; chains = c.turn_at.new.chains.items } in
+    let old : Moment = record { declared = c.self.inside.declared; tree = c.self.inside.tree; registry = c.self.inside.registry; chains = c.self.inside.chains.items } in
+    let new : Moment = record { declared = c.self.inside.declared; tree = c.self.inside.tree; registry = c.self.inside.registry; chains = c.turn_at.new.chains.items } in
     let stands : Stands old = subst Stands (sym c.self.view_is) c.requires in
     subst (λ (m : Moment). Comes c.args.task m new c.args.journal.now c.flush.new.self Taken) c.self.view_is
     (comes_taken c.args.task old c.turn_at.new.chains.items c.args.journal.now c.turn_at.new.journal c.flush.new.self stands

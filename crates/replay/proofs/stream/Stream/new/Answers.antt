@@ -1,0 +1,10 @@
+use Rattle.std.proofs.Common.{[], List, ℕ, ap, sym, subst}
+use Rattle.router_core.specs.Moments.{Moment, Cored}
+use Rattle.replay.specs.Stream.{HasStepped}
+use Rattle.replay.proofs.Pieces.{stepped_nothing}
+use Rattle.replay.proofs.stream.Stream.new.Goals as goal
+
+pub returns-clause-stepped : goal.returns-clause-stepped
+returns-clause-stepped c =
+    subst (λ (p : List ℕ). HasStepped c.args.quiet [] 1 c.new.result.moment p []) (sym c.new-2.ensures.items)
+    (subst (λ (m : Moment). HasStepped c.args.quiet [] 1 m [] []) (sym (ap (λ (k : Cored). k.moment) c.new.ensures.value)) (stepped_nothing c.args.quiet c.first_moment_stands.ensures))

@@ -1,0 +1,7 @@
+mod RowLemmas
+mod FallLemmas
+mod PartLemmas
+mod WorkLemmas
+mod WholeLemmas
+mod CountLemmas
+mod OwnLemmas

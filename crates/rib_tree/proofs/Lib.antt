@@ -1,0 +1,10 @@
+pub mod WayLemmas
+pub mod BranchLemmas
+pub mod LinkLemmas
+pub mod MergeLemmas
+pub mod StepLemmas
+pub mod LookupLemmas
+pub mod ForwardLemmas
+pub mod LawLemmas
+pub mod CountLemmas
+pub mod NewLemmas

@@ -1,0 +1,6 @@
+pub mod Trees
+pub mod Falls
+pub mod Steps
+pub mod Merges
+pub mod Forwards
+pub mod Laws

@@ -1,0 +1,42 @@
+//! Laws of the tree, for the proofs of the crates above. Each is a function that does nothing, whose contract is the law.
+
+ghost use Rattle.rib_tree.specs.Laws.{ANewTreeStands, TheLeastDistanceStands, EachRowCounts, TurnsTakeRows, WeldsKeepRows, LossesKeepRows};
+
+use rib_merge::the_lesser_distance_stands;
+use rib_origin::rows_are_own;
+use rib_route::Interior;
+
+/// What calls require of a tree holds of a new one.
+pub fn a_new_tree_stands()
+    ensures { ANewTreeStands }
+{}
+
+/// A row of `int` is the row of its protocol, and no protocol has a row of lesser distance there.
+pub fn the_least_distance_stands()
+    ensures { TheLeastDistanceStands }
+{
+    the_lesser_distance_stands::<Interior>();
+    rows_are_own();
+}
+
+/// `int` has none only where no protocol has one.
+pub fn each_row_counts()
+    ensures { EachRowCounts }
+{
+    the_lesser_distance_stands::<Interior>();
+}
+
+/// A turn of a deletion stage takes one row.
+pub fn turns_take_rows()
+    ensures { TurnsTakeRows }
+{}
+
+/// When an empty stage goes, as many rows stay.
+pub fn welds_keep_rows()
+    ensures { WeldsKeepRows }
+{}
+
+/// When a protocol is lost, as many rows stay.
+pub fn losses_keep_rows()
+    ensures { LossesKeepRows }
+{}

@@ -1,0 +1,135 @@
+//! The merges below the branches. They hold no rows: beside a change they ask for the other link's row.
+
+ghost use Rattle.std.specs.Prelude.{◌≡◌, IfOk, OnOk};
+ghost use Rattle.journal_text.specs.Journals.{with_entries};
+ghost use Rattle.rib_origin.specs.Parts.{sent_entries};
+ghost use Rattle.rib_tree.specs.Trees.{low_rows, dyn_rows};
+ghost use Rattle.rib_tree.specs.Falls.{merge_below};
+ghost use Rattle.rib_tree.specs.Merges.{partner_of, side_of, side_below, rows_beside, MergesInto, MergesBelow, IsPassedDown};
+
+use crate::tree::Tree;
+use addr4::{Memory, Prefix};
+use journal_text::{Journal, Link};
+use link_change::{Change, Upstream};
+use rib_merge::{Side, take_in};
+use rib_route::{Interior, Proto};
+
+// The other protocol whose routes come into the same merge.
+fn partner(proto: Proto) -> Proto
+    ensures { result ≡ partner_of proto }
+{
+    match proto {
+        Proto::Connected => Proto::Static,
+        Proto::Static => Proto::Connected,
+        Proto::Ospf => Proto::Rip,
+        Proto::Rip => Proto::Ospf,
+    }
+}
+
+// Which side of that merge the protocol's link is.
+fn side(proto: Proto) -> Side
+    ensures { result ≡ side_of proto }
+{
+    match proto {
+        Proto::Connected | Proto::Ospf => Side::Left,
+        Proto::Static | Proto::Rip => Side::Right,
+    }
+}
+
+// Which side of the merge into `int` the merged link is.
+fn next_side(proto: Proto) -> Side
+    ensures { result ≡ side_below proto }
+{
+    match proto {
+        Proto::Connected | Proto::Static => Side::Left,
+        Proto::Ospf | Proto::Rip => Side::Right,
+    }
+}
+
+// The link that a protocol's routes are merged into.
+fn merged_link(proto: Proto) -> Link
+    ensures { result ≡ merge_below proto }
+{
+    match proto {
+        Proto::Connected | Proto::Static => Link::Low,
+        Proto::Ospf | Proto::Rip => Link::Dyn,
+    }
+}
+
+// Writes the line of what a merge sends, if it sends something.
+fn send(journal: &mut Journal, out: Link, sent: &Option<Change<Interior>>) -> Result<(), Memory>
+    ensures { OnOk result (journal.new ≡ with_entries journal.old (sent_entries out sent.now)) }
+{
+    match sent {
+        Some(change) => journal.push_interior_change(out, change),
+        None => Ok(()),
+    }
+}
+
+impl Tree {
+    /// The row of `low` at a prefix.
+    pub(crate) fn low_row(&self, p: Prefix) -> Result<Option<Interior>, Memory>
+        ensures { IfOk result (λ row. row ≡ low_rows self.now p) }
+    {
+        rib_merge::asked(&self.connected, &self.statics, p)
+    }
+
+    /// The row of `dyn` at a prefix.
+    pub(crate) fn dyn_row(&self, p: Prefix) -> Result<Option<Interior>, Memory>
+        ensures { IfOk result (λ row. row ≡ dyn_rows self.now p) }
+    {
+        rib_merge::asked(&self.ospf, &self.rip, p)
+    }
+
+    // The row at a prefix of the other link that comes into `int` beside the protocol's.
+    fn row_beside(&self, proto: Proto, p: Prefix) -> Result<Option<Interior>, Memory>
+        ensures { IfOk result (λ row. row ≡ rows_beside proto self.now p) }
+    {
+        match proto {
+            Proto::Connected | Proto::Static => self.dyn_row(p),
+            Proto::Ospf | Proto::Rip => self.low_row(p),
+        }
+    }
+
+    // What the first merge below the protocol's link sends of a change on it.
+    fn merge_into(
+        &self,
+        proto: Proto,
+        change: Change<Interior>,
+    ) -> Result<Option<Change<Interior>>, Memory>
+        ensures { IfOk result (MergesInto proto self.now change) }
+    {
+        let other = Upstream::asked(self.branch(partner(proto)), &change.prefix)?;
+        Ok(take_in(side(proto), change, other))
+    }
+
+    // What the merge into `int` sends of a change on the link of the first.
+    fn merge_below(
+        &self,
+        proto: Proto,
+        change: Change<Interior>,
+    ) -> Result<Option<Change<Interior>>, Memory>
+        ensures { IfOk result (MergesBelow proto self.now change) }
+    {
+        let other = self.row_beside(proto, change.prefix)?;
+        Ok(take_in(next_side(proto), change, other))
+    }
+
+    /// A change on the protocol's link goes down through both merges, whose lines are written. Answers the change on `int`.
+    pub(crate) fn pass_down(
+        &self,
+        proto: Proto,
+        change: Change<Interior>,
+        journal: &mut Journal,
+    ) -> Result<Option<Change<Interior>>, Memory>
+        ensures { IfOk result (IsPassedDown proto self.now change journal.old journal.new) }
+    {
+        let Some(middle) = self.merge_into(proto, change)? else {
+            return Ok(None);
+        };
+        journal.push_interior_change(merged_link(proto), &middle)?;
+        let sent = self.merge_below(proto, middle)?;
+        send(journal, Link::Int, &sent)?;
+        Ok(sent)
+    }
+}

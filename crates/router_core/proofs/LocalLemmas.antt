@@ -1,0 +1,130 @@
+-- `local`: the links of the interior routes begin.
+use Rattle.std.proofs.Common.{◌≡◌, ℕ, ◌+◌, ◌<◌, arith, zero, suc, List, [], ◌∷◌, ◌++◌, map, take, length, get_or, Option, Some, None, refl, sym, ap, ◌∙◌}
+use Rattle.std.proofs.lemmas.List.{map-append, take_more}
+use Rattle.bgp_attr.specs.declared.speaker.Speaker.{Speaker}
+use Rattle.link_change.specs.Rows.{Rows, no_rows}
+use Rattle.link_change.proofs.RowLemmas.{empty_rows}
+use Rattle.rib_route.specs.declared.Proto.{Proto}
+use Rattle.rib_route.specs.declared.Proto.TheVariants.{Connected, Static, Ospf, Rip}
+use Rattle.rib_route.specs.declared.rows.Interior.{Interior}
+use Rattle.rib_merge.specs.Merging.{merged}
+use Rattle.rib_origin.specs.Branches.{org_rows}
+use Rattle.rib_tree.specs.Trees.{Treed, branch_of, low_rows, dyn_rows, int_rows, interior_distance}
+use Rattle.rib_tree.specs.Steps.{new_tree}
+use Rattle.rib_tree.specs.Forwards.{forwarded, rib_links}
+use Rattle.journal_text.specs.declared.link.Link.{Link}
+use Rattle.journal_text.specs.declared.link.Link.TheVariants.{In, Peer, Filt, Res, Org, Lost, Low, Dyn, Int, Red, Best, ReadRib, Ebgp, Ibgp, Ext, Fib, Read, Outf, Adv}
+use Rattle.journal_text.specs.declared.value.Value.{Value}
+use Rattle.journal_text.specs.Texts.{entries_of}
+use Rattle.journal_text.specs.Walk.{Leads, fold_links}
+use Rattle.journal_text.specs.Journals.{interior_rows, fib_rows, Journaled, with_lines}
+use Rattle.event_text.specs.declared.event.Event.TheVariants as events
+use Rattle.event_text.specs.Declarations.{refusal}
+use Rattle.router_core.specs.Moments.{Moment, rib_by, router_links}
+use Rattle.router_core.specs.Stands.{Stands}
+use Rattle.router_core.specs.Blocks.{Acts, begin_line, rib_begins, declared_speaker}
+use Rattle.router_core.proofs.PeerLemmas.{local_first}
+use Rattle.router_core.proofs.ShownRows.{with_more}
+
+-- a tree without routes has no rows
+org_empty : (proto : Proto) → org_rows (branch_of proto new_tree) ≡ no_rows
+org_empty Connected = empty_rows {V = Interior}
+org_empty Static = empty_rows {V = Interior}
+org_empty Ospf = empty_rows {V = Interior}
+org_empty Rip = empty_rows {V = Interior}
+
+low_empty : low_rows new_tree ≡ no_rows
+low_empty i = merged interior_distance (org_empty Connected i) (org_empty Static i)
+
+dyn_empty : dyn_rows new_tree ≡ no_rows
+dyn_empty i = merged interior_distance (org_empty Ospf i) (org_empty Rip i)
+
+pub int_empty : int_rows new_tree ≡ no_rows
+int_empty i = merged interior_distance (low_empty i) (dyn_empty i)
+
+-- a link of interior routes without rows
+begins : (rows : Rows Interior) → rows ≡ no_rows → ◌≡◌ {A = Option (Rows Value)} (Some no_rows) (Some (interior_rows rows))
+begins rows empty = ap (λ (r : Rows Interior). Some (interior_rows r)) (sym empty)
+
+begins_fib : (rows : Rows Interior) → rows ≡ no_rows → ◌≡◌ {A = Option (Rows Value)} (Some no_rows) (Some (fib_rows (forwarded rows)))
+begins_fib rows empty = ap (λ (r : Rows Interior). Some (fib_rows (forwarded r))) (sym empty)
+
+none_lost : (proto : Proto) (n : ℕ) → rib_links new_tree (Lost proto n) ≡ None
+none_lost Connected n = refl
+none_lost Static n = refl
+none_lost Ospf n = refl
+none_lost Rip n = refl
+
+module _ (m : Moment) (words : Speaker) (first : m.declared.speaker ≡ None) (empty : m.tree ≡ new_tree) where
+  none : (link : Link) → rib_by m.declared.speaker m.tree link ≡ None
+  none link = ap (λ (s : Option Speaker). rib_by s m.tree link) first
+
+  in_tree : (link : Link) (own : Option (Rows Value)) → own ≡ rib_links new_tree link → own ≡ rib_links m.tree link
+  in_tree link own is = is ∙ ap (λ (t : Treed). rib_links t link) (sym empty)
+
+  begin_org : (proto : Proto) → fold_links (router_links m) (entries_of rib_begins) (Org proto) ≡ rib_links m.tree (Org proto)
+  begin_org Connected = in_tree (Org Connected) (Some no_rows) (begins (org_rows (branch_of Connected new_tree)) (org_empty Connected))
+  begin_org Static = in_tree (Org Static) (Some no_rows) (begins (org_rows (branch_of Static new_tree)) (org_empty Static))
+  begin_org Ospf = in_tree (Org Ospf) (Some no_rows) (begins (org_rows (branch_of Ospf new_tree)) (org_empty Ospf))
+  begin_org Rip = in_tree (Org Rip) (Some no_rows) (begins (org_rows (branch_of Rip new_tree)) (org_empty Rip))
+
+  links_then : fold_links (router_links m) (entries_of rib_begins) ≡ router_links (declared_speaker m words)
+  links_then i link = each link i
+    where
+      each : (link : Link) → fold_links (router_links m) (entries_of rib_begins) link ≡ router_links (declared_speaker m words) link
+      each (In j) = refl
+      each (Peer j s) = refl
+      each (Filt j) = refl
+      each (Res j) = refl
+      each (Org p) = begin_org p
+      each (Lost p n) = none (Lost p n) ∙ in_tree (Lost p n) None (sym (none_lost p n))
+      each Low = in_tree Low (Some no_rows) (begins (low_rows new_tree) low_empty)
+      each Dyn = in_tree Dyn (Some no_rows) (begins (dyn_rows new_tree) dyn_empty)
+      each Int = in_tree Int (Some no_rows) (begins (int_rows new_tree) int_empty)
+      each Red = refl
+      each Best = refl
+      each ReadRib = refl
+      each Ebgp = refl
+      each Ibgp = refl
+      each Ext = refl
+      each Fib = in_tree Fib (Some no_rows) (begins_fib (int_rows new_tree) int_empty)
+      each (Read j s) = refl
+      each (Outf j s) = refl
+      each (Adv j s) = refl
+
+  begun_leads : Leads (router_links m) (entries_of rib_begins) (router_links (declared_speaker m words))
+  begun_leads = record {
+    lawful = (none (Org Connected), (none (Org Static), (none (Org Ospf), (none (Org Rip), (none Low, (none Dyn, (none Int, (none Fib, tt))))))));
+    ends = links_then;
+  }
+
+pub local_acts : (m : Moment) (words : Speaker) → refusal m.declared (events.Local words) ≡ None → Stands m → Acts m (events.Local words) 0 (declared_speaker m words) rib_begins
+local_acts m words admitted stands =
+    let first = local_first m.declared words admitted in
+    record {
+      block = (refl, refl, refl);
+      leads = begun_leads m words first (stands.tree.waiting first);
+      live = refl;
+    }
+
+-- ---- one link after the other
+-- the first so many of these links have begun
+abbrev pub HaveBegun : List Link → ℕ → Journaled → Journaled → Type 0
+HaveBegun links n before now = now ≡ with_lines before (map begin_line (take n links))
+
+begun_more : (links : List Link) (n : ℕ) (link : Link) (before j now : Journaled) → n < length links → link ≡ get_or links n link → HaveBegun links n before j → now ≡ with_lines j (begin_line link ∷ [])
+    → HaveBegun links (n + 1) before now
+begun_more links n link before j now below is begun last =
+    let more : take (n + 1) links ≡ take n links ++ link ∷ [] = take_more links n link below ∙ ap (λ (l : Link). take n links ++ l ∷ []) (sym is) in
+    last ∙ ap (λ (x : Journaled). with_lines x (begin_line link ∷ [])) begun ∙ with_more before (map begin_line (take n links)) (begin_line link ∷ [])
+    ∙ ap (with_lines before) (sym (map-append begin_line (take n links) (link ∷ [])))
+    ∙ ap (λ (ls : List Link). with_lines before (map begin_line ls)) (sym more)
+
+get_or_any : (links : List Link) (n : ℕ) (x y : Link) → n < length links → get_or links n x ≡ get_or links n y
+get_or_any [] n x y below = absurd (omega (arith, below))
+get_or_any (l ∷ ls) zero x y below = refl
+get_or_any (l ∷ ls) (suc n) x y below = get_or_any ls n x y (omega (arith, below))
+
+pub begun_next : (links : List Link) (n : ℕ) (x : Link) (before j now : Journaled) → n < length links → HaveBegun links n before j → now ≡ with_lines j (begin_line (get_or links n x) ∷ [])
+    → HaveBegun links (n + 1) before now
+begun_next links n x before j now below begun last = begun_more links n (get_or links n x) before j now below (get_or_any links n x (get_or links n x) below) begun last

@@ -1,0 +1,221 @@
+-- A change of an interior route: what follows it, and what stands then.
+use Rattle.std.proofs.Common.{◌≡◌, ℕ, ◌+◌, ◌≤◌, true, false, not, List, ◌++◌, length, Option, Some, None, IsSome, refl, sym, ap, subst, ◌∙◌, arith, append_assoc}
+use Rattle.std.specs.FinMap as tables
+use Rattle.std.specs.FinMap.{FinMap}
+use Rattle.addr4.specs.Prefixes.{Network, prefix_cmp}
+use Rattle.bgp_attr.specs.declared.speaker.Speaker.{Speaker}
+use Rattle.rib_route.specs.declared.Proto.{Proto}
+use Rattle.rib_route.specs.declared.rows.Interior.{Interior}
+use Rattle.rib_route.specs.declared.rows.FibRow.{FibRow}
+use Rattle.link_change.specs.Rows.{Rows, with_row, is_empty_map}
+use Rattle.link_change.specs.Changes.{IsSent}
+use Rattle.link_change.specs.declared.change.Change.{Change}
+use Rattle.link_change.proofs.RowLemmas.{rows_inserted, rows_removed}
+use Rattle.journal_text.specs.declared.link.Link.{Link}
+use Rattle.journal_text.specs.declared.entry.Entry.{Entry}
+use Rattle.journal_text.specs.declared.value.Value.{Value}
+use Rattle.journal_text.specs.declared.line.Line.{Line}
+use Rattle.journal_text.specs.Journals.{Journaled, with_entries, Adds}
+use Rattle.journal_text.specs.Texts.{entries_of}
+use Rattle.journal_text.specs.Walk.{Leads}
+use Rattle.journal_text.proofs.JournalLemmas.{with_entries_append, with_entries_none, entries_of_entries}
+use Rattle.journal_text.proofs.WalkLemmas.{leads_append}
+use Rattle.register_interest.specs.Registers.{Registry, put_row}
+use Rattle.rib_origin.specs.Branches.{Branch}
+use Rattle.rib_origin.specs.Steps.{welded_branch, fed_branch, live_after, without}
+use Rattle.rib_tree.specs.Trees.{Treed, branch_of, put_branch, int_rows, IsTree, IsFull}
+use Rattle.rib_tree.specs.Falls.{FallsTree, LeadsTree, way_of_route}
+use Rattle.rib_tree.specs.Forwards.{forwarded}
+use Rattle.rib_tree.specs.Steps.{welded_tree, fed_tree, tree_weld_entries}
+use Rattle.router_core.specs.Moments.{Moment, router_links}
+use Rattle.router_core.specs.Lives.{live_state, interior_fed}
+use Rattle.router_core.specs.Stands.{Stands}
+use Rattle.router_core.specs.Turns.{journal_lines, fib_entries, FallsRoute}
+use Rattle.router_core.specs.Works.{HasLosses, Forwards, registered_after, Follows, Settles, PushesForwarded, HasRouted, Pushes}
+use Rattle.router_core.proofs.RibLinks.{replanted, replants_is, replants_to, leads_rib, leads_above}
+use Rattle.router_core.proofs.TreeParts.{welded_put, put_seen, put_all, put_kept, few_filter, few_map}
+
+-- ---- the register, and `fib`
+put_is_with : (rows : FinMap prefix_cmp Interior) (p : Network) (row : Option Interior) → tables.get (put_row rows p row) ≡ with_row (tables.get rows) p row
+put_is_with rows p None = rows_removed rows p
+put_is_with rows p (Some row) = rows_inserted rows p row
+
+-- the register keeps up with `int`
+pub keeps_up : (rows : FinMap prefix_cmp Interior) (old new : Rows Interior) (p : Network) (sent : Option (Change Interior)) → tables.get rows ≡ old → IsSent old new p sent → tables.get (registered_after rows sent) ≡ new
+keeps_up rows old new p None is same = is ∙ sym same
+keeps_up rows old new p (Some change) is sent = put_is_with rows change.prefix change.after ∙ ap (λ (r : Rows Interior). with_row r change.prefix change.after) is ∙ sym sent.2
+
+pub fib_sent : (old new : Rows Interior) (p : Network) (sent : Option (Change Interior)) (below : Option (Change FibRow)) → Forwards sent below → IsSent old new p sent → IsSent (forwarded old) (forwarded new) p below
+fib_sent old new p None below none same = subst (λ (b : Option (Change FibRow)). IsSent (forwarded old) (forwarded new) p b) (sym none) (ap forwarded same)
+fib_sent old new p (Some change) below fib sent = fib old new p sent
+
+pub not_followed : (m : Moment) (before : Journaled) → Follows None m m before before
+not_followed m before = record { after = record { tree_is = refl; declared = refl; chains = refl }; rows = refl; below = None; fib = refl; lines = sym (with_entries_none before) }
+
+pub followed : (change : Change Interior) (m : Moment) (r : Registry Interior) (before now : Journaled) → r.rows ≡ put_row m.registry.rows change.prefix change.after → PushesForwarded change before now
+    → Follows (Some change) m (replanted m m.tree r) before now
+followed change m r before now rows pushed = record { after = replants_to m m.tree r; rows = rows; below = pushed.0; fib = pushed.1; lines = pushed.2 }
+
+-- what follows, and the weld behind it
+pub settled : (proto : Proto) (sent : Option (Change Interior)) (m m1 : Moment) (t : Treed) (before j now : Journaled) → Follows sent m m1 before j → t ≡ welded_tree proto m1.tree → now ≡ with_entries j (tree_weld_entries proto m1.tree)
+    → LeadsTree m1.tree (tree_weld_entries proto m1.tree) t → int_rows t ≡ int_rows m1.tree → IsTree t → IsFull t → Settles proto sent m (replanted m1 t m1.registry) before now
+settled proto sent m m1 t before j now follows is lines leads int tree full = record {
+  after = record { tree_is = is ∙ ap (welded_tree proto) same; declared = follows.after.declared; chains = follows.after.chains };
+  rows = follows.rows;
+  below = follows.below;
+  fib = follows.fib;
+  lines = lines ∙ ap (λ (x : Journaled). with_entries x (tree_weld_entries proto m1.tree)) follows.lines ∙ with_entries_append before (fib_entries follows.below) (tree_weld_entries proto m1.tree)
+      ∙ ap (λ (x : Treed). with_entries before (fib_entries follows.below ++ tree_weld_entries proto x)) same;
+  leads = subst (λ (x : Treed). LeadsTree x (tree_weld_entries proto x) (welded_tree proto x)) same (subst (λ (x : Treed). LeadsTree m1.tree (tree_weld_entries proto m1.tree) x) is leads);
+  int = subst (λ (x : Treed). int_rows (welded_tree proto x) ≡ int_rows x) same (sym (ap int_rows is) ∙ int);
+  tree = subst (λ (x : Treed). IsTree (welded_tree proto x)) same (subst IsTree is tree);
+  full = subst (λ (x : Treed). IsFull (welded_tree proto x)) same (subst IsFull is full);
+}
+  where
+    same : m1.tree ≡ m.tree
+    same = follows.after.tree_is
+
+-- ---- what stands where the tree became another
+pub stands_replanted : (m : Moment) (me : Speaker) (t : Treed) (r : Registry Interior) → Stands m → m.declared.speaker ≡ Some me → IsTree t → IsFull t → ((proto : Proto) → length (branch_of proto t).deletions ≤ 16)
+    → tables.get r.rows ≡ int_rows t → Stands (replanted m t r)
+stands_replanted m me t r stands since tree full few registered = record {
+  order = stands.order;
+  peers = stands.peers;
+  speaker = stands.speaker;
+  count = stands.count;
+  tree = record { tree = tree; full = full; few = few; waiting = λ none. absurd (let contra : Some me ≡ None = sym since ∙ none in cc) };
+  registered = registered;
+}
+
+pub live_replanted : (m : Moment) (proto : Proto) (b : Branch) (r : Registry Interior) → live_state (replanted m (put_branch proto b m.tree) r) ≡ interior_fed (live_state m) proto b.live
+live_replanted m proto b r i = record {
+  declared = m.declared;
+  routes = (live_state m).routes;
+  rules = (live_state m).rules;
+  interior = λ other. put_seen (λ (x : Branch). x.live) proto other b m.tree i;
+}
+
+pub live_stays : (m : Moment) (proto : Proto) (b : Branch) (r : Registry Interior) → b.live ≡ (branch_of proto m.tree).live → live_state (replanted m (put_branch proto b m.tree) r) ≡ live_state m
+live_stays m proto b r same i = record {
+  declared = m.declared;
+  routes = (live_state m).routes;
+  rules = (live_state m).rules;
+  interior = λ other. put_kept (λ (x : Branch). x.live) proto b m.tree same other i;
+}
+
+pub losses_put : (m : Moment) (proto : Proto) (b : Branch) (r : Registry Interior) (more : ℕ) → b.losses ≤ (branch_of proto m.tree).losses + more → HasLosses more m (replanted m (put_branch proto b m.tree) r)
+losses_put m proto b r more at most all =
+    put_all (λ (x : Branch). x.losses ≤ most + more) proto b m.tree (let was = all proto in omega (arith, at, was)) (λ other. let was = all other in omega (arith, was))
+
+-- ---- a change, what follows it, and the weld
+-- What was made of the branch of a protocol, and what stands after all of it.
+pub record Routes (m : Moment) (proto : Proto) (b : Branch) (p : Network) (way : List Link) (m' : Moment) (said : List Line) : Type 0 where
+  pub falls : FallsRoute m (put_branch proto b m.tree) proto p way said m'
+  pub is : m' ≡ replanted m (put_branch proto (welded_branch b) m.tree) m'.registry
+  pub leads : Leads (router_links m) (entries_of said) (router_links m')
+  pub stands : Stands m'
+
+pub routes_on : (m : Moment) (me : Speaker) (proto : Proto) (b : Branch) (p : Network) (way : List Link) (sent : Option (Change Interior)) (t : Treed) (m' : Moment) (before j now : Journaled) → Stands m → m.declared.speaker ≡ Some me
+    → t ≡ put_branch proto b m.tree → length b.deletions ≤ 16 → IsSent (int_rows m.tree) (int_rows t) p sent → Adds (FallsTree m.tree t p way sent) before j → Settles proto sent (replanted m t m.registry) m' j now
+    → Pushes (Routes m proto b p way m') before now
+routes_on m me proto b p way sent t m' before j now stands since at few rows adds settles = (
+  journal_lines all,
+  settles.lines ∙ ap (λ (x : Journaled). with_entries x after) adds.1 ∙ with_entries_append before entries after,
+  record {
+    falls = subst (λ (x : Treed). FallsRoute m x proto p way (journal_lines all) m') at falls;
+    is = is ∙ ap (λ (x : Treed). replanted m x m'.registry) (ap (welded_tree proto) at ∙ welded_put proto b m.tree);
+    leads = subst (λ (es : List (Entry Value)). Leads (router_links m) es (router_links m')) (sym (entries_of_entries all)) leads;
+    stands = subst Stands (sym is) stands_then;
+  },
+)
+  where
+    entries : List (Entry Value)
+    entries = adds.0
+
+    fib : List (Entry Value)
+    fib = fib_entries settles.below
+
+    after : List (Entry Value)
+    after = fib ++ tree_weld_entries proto t
+
+    all : List (Entry Value)
+    all = entries ++ after
+
+    fib_is : IsSent (forwarded (int_rows m.tree)) (forwarded (int_rows t)) p settles.below
+    fib_is = fib_sent (int_rows m.tree) (int_rows t) p sent settles.below settles.fib rows
+
+    is : m' ≡ replanted m (welded_tree proto t) m'.registry
+    is = replants_is (welded_tree proto t) (replanted m t m.registry) m' settles.after
+
+    falls : FallsRoute m t proto p way (journal_lines all) m'
+    falls = record {
+      sent = sent;
+      entries = entries;
+      falls = adds.2;
+      rows = rows;
+      below = settles.below;
+      fib = fib_is;
+      lines = refl;
+      after = record { tree_is = settles.after.tree_is; declared = settles.after.declared; chains = settles.after.chains };
+    }
+
+    first : Leads (router_links m) (entries ++ fib) (router_links (replanted m t m.registry))
+    first = leads_rib m me since t m.registry entries p settles.below adds.2.leads fib_is
+
+    second : Leads (router_links (replanted m t m.registry)) (tree_weld_entries proto t) (router_links (replanted m (welded_tree proto t) m'.registry))
+    second = leads_above (replanted m t m.registry) me since (welded_tree proto t) m'.registry (tree_weld_entries proto t) settles.leads settles.int
+
+    leads : Leads (router_links m) all (router_links m')
+    leads =
+        subst (λ (es : List (Entry Value)). Leads (router_links m) es (router_links m')) (append_assoc entries fib (tree_weld_entries proto t))
+        (subst (λ (x : Moment). Leads (router_links m) ((entries ++ fib) ++ tree_weld_entries proto t) (router_links x)) (sym is)
+        (leads_append (router_links m) (router_links (replanted m t m.registry)) (router_links (replanted m (welded_tree proto t) m'.registry)) (entries ++ fib) (tree_weld_entries proto t) first second))
+
+    few_then : (other : Proto) → length (branch_of other (welded_tree proto t)).deletions ≤ 16
+    few_then = subst (λ (x : Treed). (other : Proto) → length (branch_of other x).deletions ≤ 16) (sym (ap (welded_tree proto) at ∙ welded_put proto b m.tree))
+        (put_all (λ (x : Branch). length x.deletions ≤ 16) proto (welded_branch b) m.tree (let less = few_filter (λ d. not (is_empty_map d.rows)) b.deletions in omega (arith, few, less)) stands.tree.few)
+
+    registered : tables.get m'.registry.rows ≡ int_rows (welded_tree proto t)
+    registered = ap tables.get settles.rows ∙ keeps_up m.registry.rows (int_rows m.tree) (int_rows t) p sent stands.registered rows ∙ sym settles.int
+
+    stands_then : Stands (replanted m (welded_tree proto t) m'.registry)
+    stands_then = stands_replanted m me (welded_tree proto t) m'.registry stands since settles.tree settles.full few_then registered
+
+-- ---- a route that is set, or goes
+few_fed : (b : Branch) (p : Network) (new : Option Interior) → length (fed_branch b p new).deletions ≡ length b.deletions
+few_fed b p None = refl
+few_fed b p (Some row) = few_map (without p) b.deletions
+
+pub routed : (m : Moment) (me : Speaker) (proto : Proto) (p : Network) (new : Option Interior) (way : List Link) (sent : Option (Change Interior)) (t : Treed) (m' : Moment) (before j now : Journaled) → Stands m → m.declared.speaker ≡ Some me
+    → t ≡ fed_tree m.tree proto p new → IsSent (int_rows m.tree) (int_rows t) p sent → Adds (FallsTree m.tree t p way sent) before j → Settles proto sent (replanted m t m.registry) m' j now
+    → Pushes (HasRouted m (fed_tree m.tree proto p new) proto p way (interior_fed (live_state m) proto (live_after (branch_of proto m.tree).live p new)) m') before now
+routed m me proto p new way sent t m' before j now stands since at rows adds settles = (
+  r.0,
+  r.1,
+  record {
+    falls = r.2.falls;
+    lives = ap live_state r.2.is ∙ live_replanted m proto (welded_branch b) m'.registry;
+    leads = r.2.leads;
+    losses = subst (HasLosses 0 m) (sym r.2.is) (losses_put m proto (welded_branch b) m'.registry 0 (omega arith));
+    stands = r.2.stands;
+  },
+)
+  where
+    b : Branch
+    b = fed_branch (branch_of proto m.tree) p new
+
+    few : length b.deletions ≤ 16
+    few = let same = few_fed (branch_of proto m.tree) p new in let was = stands.tree.few proto in omega (arith, same, was)
+
+    r : Pushes (Routes m proto b p way m') before now
+    r = routes_on m me proto b p way sent t m' before j now stands since at few rows adds settles
+
+pub routed_since : (m : Moment) (proto : Proto) (p : Network) (new : Option Interior) (sent : Option (Change Interior)) (t : Treed) (m' : Moment) (before j now : Journaled) → Stands m → IsSome m.declared.speaker
+    → t ≡ fed_tree m.tree proto p new → IsSent (int_rows m.tree) (int_rows t) p sent → Adds (FallsTree m.tree t p (way_of_route proto m.tree) sent) before j → Settles proto sent (replanted m t m.registry) m' j now
+    → Pushes (HasRouted m (fed_tree m.tree proto p new) proto p (way_of_route proto m.tree) (interior_fed (live_state m) proto (live_after (branch_of proto m.tree).live p new)) m') before now
+routed_since m proto p new sent t m' before j now stands since at rows adds settles = by_speaker m.declared.speaker refl since
+  where
+    by_speaker : (s : Option Speaker) → m.declared.speaker ≡ s → IsSome s
+        → Pushes (HasRouted m (fed_tree m.tree proto p new) proto p (way_of_route proto m.tree) (interior_fed (live_state m) proto (live_after (branch_of proto m.tree).live p new)) m') before now
+    by_speaker None me_is some = absurd (let contra : false ≡ true = some in cc)
+    by_speaker (Some me) me_is some = routed m me proto p new (way_of_route proto m.tree) sent t m' before j now stands me_is at rows adds settles

@@ -1,0 +1,113 @@
+-- One turn of the stage of a protocol's loss.
+use Rattle.std.proofs.Common.{◌≡◌, ℕ, ◌+◌, ◌≤◌, List, length, Option, Some, None, Result, IfOk, refl, sym, ap, subst, ◌∙◌, arith}
+use Rattle.std.proofs.lemmas.Result.{IfOk-weaker}
+use Rattle.std.specs.FinMap.{FinMap}
+use Rattle.addr4.specs.Prefixes.{Network, prefix_cmp}
+use Rattle.bgp_attr.specs.declared.speaker.Speaker.{Speaker}
+use Rattle.rib_route.specs.declared.Proto.{Proto}
+use Rattle.rib_route.specs.declared.Proto.TheVariants.{Connected, Static, Ospf, Rip}
+use Rattle.rib_route.specs.declared.rows.Interior.{Interior}
+use Rattle.link_change.specs.declared.change.Change.{Change}
+use Rattle.link_change.specs.declared.turn.Turn.{Turn}
+use Rattle.link_change.specs.declared.turn.Turn.TheVariants.{Quiet, Sent}
+use Rattle.journal_text.specs.declared.link.Task.TheVariants.{Rdel}
+use Rattle.journal_text.specs.declared.entry.Entry.{Entry}
+use Rattle.journal_text.specs.declared.value.Value.{Value}
+use Rattle.journal_text.specs.Journals.{Journaled, Adds, flushed}
+use Rattle.rib_origin.specs.Branches.{Branch}
+use Rattle.rib_origin.specs.Steps.{welded_branch, swept_branch, swept_one, table_of}
+use Rattle.rib_tree.specs.Trees.{Treed, branch_of, tree_count}
+use Rattle.rib_tree.specs.Falls.{way_of_sweep}
+use Rattle.rib_tree.specs.Laws.{TurnsTakeRows, WeldsKeepRows}
+use Rattle.rib_tree.specs.Steps.{new_tree, SweepsTree, IsTakenTree, swept_tree}
+use Rattle.router_core.specs.declared.router.Done.{Done}
+use Rattle.router_core.specs.declared.router.Done.TheVariants.{Nothing, Taken}
+use Rattle.router_core.specs.Moments.{Moment}
+use Rattle.router_core.specs.Lives.{live_state}
+use Rattle.router_core.specs.Stands.{Stands}
+use Rattle.router_core.specs.Works.{HasLosses, Settles, Turned, IsUnit, Comes, Pushes}
+use Rattle.router_core.proofs.RibLinks.{replanted}
+use Rattle.router_core.proofs.TreeParts.{few_map}
+use Rattle.router_core.proofs.RouteLemmas.{Routes, routes_on, live_stays, losses_put}
+
+-- ---- before `local` no stage stands
+no_table : (proto : Proto) (n : ℕ) → table_of n (branch_of proto new_tree).deletions ≡ None
+no_table Connected n = refl
+no_table Static n = refl
+no_table Ospf n = refl
+no_table Rip n = refl
+
+pub since_local : (m : Moment) (proto : Proto) (n : ℕ) (table : FinMap prefix_cmp Interior) → Stands m → table_of n (branch_of proto m.tree).deletions ≡ Some table → (me : Speaker) × (m.declared.speaker ≡ Some me)
+since_local m proto n table stands there = by_speaker m.declared.speaker refl
+  where
+    by_speaker : (s : Option Speaker) → m.declared.speaker ≡ s → (me : Speaker) × (m.declared.speaker ≡ Some me)
+    by_speaker None at =
+        let none : table_of n (branch_of proto m.tree).deletions ≡ None = ap (λ (t : Treed). table_of n (branch_of proto t).deletions) (stands.tree.waiting at) ∙ no_table proto n in
+        absurd (let contra : Some table ≡ None = sym there ∙ none in cc)
+    by_speaker (Some me) at = (me, at)
+
+-- ---- the turn
+pub route_unit : TurnsTakeRows → WeldsKeepRows → (m : Moment) (proto : Proto) (n : ℕ) (sent : Option (Change Interior)) (t : Treed) (m' : Moment) (before j j' : Journaled) → Stands m → Adds (SweepsTree m.tree t proto n sent) before j
+    → Settles proto sent (replanted m t m.registry) m' j j' → Pushes (IsUnit (Rdel proto n) m m') before j'
+route_unit take keep m proto n sent t m' before j j' stands adds settles = (
+  r.0,
+  r.1,
+  record {
+    turn = record { prefix = sweeps.prefix; row = sweeps.row; table = sweeps.table; stands = sweeps.stands; least = sweeps.least; falls = r.2.falls };
+    work = record {
+      losses = subst (HasLosses 0 m) (sym r.2.is) (losses_put m proto (welded_branch b) m'.registry 0 (omega arith));
+      leads = r.2.leads;
+      live = ap live_state r.2.is ∙ live_stays m proto (welded_branch b) m'.registry refl;
+      stands = r.2.stands;
+    };
+    nearer = fewer;
+  },
+)
+  where
+    entries : List (Entry Value)
+    entries = adds.0
+
+    sweeps : SweepsTree m.tree t proto n sent entries
+    sweeps = adds.2
+
+    p : Network
+    p = sweeps.prefix
+
+    me : (me : Speaker) × (m.declared.speaker ≡ Some me)
+    me = since_local m proto n sweeps.table stands sweeps.stands
+
+    b : Branch
+    b = swept_branch n p (branch_of proto m.tree)
+
+    few : length b.deletions ≤ 16
+    few = let same = few_map (swept_one n p) (branch_of proto m.tree).deletions in let was = stands.tree.few proto in omega (arith, same, was)
+
+    r : Pushes (Routes m proto b p (way_of_sweep proto n m.tree) m') before j'
+    r = routes_on m me.0 proto b p (way_of_sweep proto n m.tree) sent t m' before j j' stands me.1 sweeps.after few sweeps.rows (entries, adds.1, sweeps.fall) settles
+
+    fewer : tree_count m'.tree + 1 ≡ tree_count m.tree
+    fewer =
+        let one = take m.tree proto n p sweeps.table sweeps.row stands.tree.tree sweeps.stands sweeps.least.0 in
+        let same : tree_count m'.tree ≡ tree_count (swept_tree proto n p m.tree) =
+        ap tree_count settles.after.tree_is ∙ keep t proto ∙ ap tree_count sweeps.after in
+        omega (arith, one, same)
+
+pub route_comes : TurnsTakeRows → WeldsKeepRows → (m : Moment) (proto : Proto) (n : ℕ) (sent : Option (Change Interior)) (t : Treed) (m' : Moment) (before j now : Journaled) (done : Done) → Stands m → Adds (SweepsTree m.tree t proto n sent) before j
+    → Turned proto sent (replanted m t m.registry) m' j now done → Comes (Rdel proto n) m m' before now done
+route_comes take keep m proto n sent t m' before j now Nothing stands adds turned = absurd turned
+route_comes take keep m proto n sent t m' before j now Taken stands adds turned =
+    let u = route_unit take keep m proto n sent t m' before j turned.0 stands adds turned.1 in
+    (u.0, turned.2 ∙ ap flushed u.1, u.2)
+
+-- by what came out on `int`
+pub route_quiet : {E : Type 0} → TurnsTakeRows → WeldsKeepRows → (m : Moment) (proto : Proto) (n : ℕ) (turn : Turn Interior) (t : Treed) (m' : Moment) (before j now : Journaled) (result : Result Done E) → Stands m → turn ≡ Quiet
+    → IsTakenTree m.tree t (Rdel proto n) before j turn → IfOk result (Turned proto None (replanted m t m.registry) m' j now) → IfOk result (Comes (Rdel proto n) m m' before now)
+route_quiet take keep m proto n turn t m' before j now result stands is taken turned =
+    let adds : Adds (SweepsTree m.tree t proto n None) before j = subst (IsTakenTree m.tree t (Rdel proto n) before j) is taken in
+    IfOk-weaker result (Turned proto None (replanted m t m.registry) m' j now) (Comes (Rdel proto n) m m' before now) (λ done. route_comes take keep m proto n None t m' before j now done stands adds) turned
+
+pub route_sent : {E : Type 0} → TurnsTakeRows → WeldsKeepRows → (m : Moment) (proto : Proto) (n : ℕ) (turn : Turn Interior) (change : Change Interior) (t : Treed) (m' : Moment) (before j now : Journaled) (result : Result Done E) → Stands m → turn ≡ Sent change
+    → IsTakenTree m.tree t (Rdel proto n) before j turn → IfOk result (Turned proto (Some change) (replanted m t m.registry) m' j now) → IfOk result (Comes (Rdel proto n) m m' before now)
+route_sent take keep m proto n turn change t m' before j now result stands is taken turned =
+    let adds : Adds (SweepsTree m.tree t proto n (Some change)) before j = subst (IsTakenTree m.tree t (Rdel proto n) before j) is taken in
+    IfOk-weaker result (Turned proto (Some change) (replanted m t m.registry) m' j now) (Comes (Rdel proto n) m m' before now) (λ done. route_comes take keep m proto n (Some change) t m' before j now done stands adds) turned

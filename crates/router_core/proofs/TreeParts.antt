@@ -1,0 +1,118 @@
+-- A tree with another branch for one protocol.
+use Rattle.std.proofs.Common.{◌≡◌, ◌≤◌, cond, Bool, true, false, List, [], ◌∷◌, map, length, refl, ◌∙◌, arith}
+use Rattle.std.specs.List.{filter}
+use Rattle.rib_route.specs.declared.Proto.{Proto}
+use Rattle.rib_route.specs.declared.Proto.TheVariants.{Connected, Static, Ospf, Rip}
+use Rattle.rib_route.specs.declared.rows.Interior.{Interior}
+use Rattle.deletion_stage.specs.Lost.{Lost}
+use Rattle.rib_origin.specs.Branches.{Branch, same_proto}
+use Rattle.rib_origin.specs.Steps.{welded_branch}
+use Rattle.rib_tree.specs.Trees.{Treed, branch_of, put_branch}
+use Rattle.rib_tree.specs.Steps.{welded_tree}
+
+pub put_here : (proto : Proto) (b : Branch) (t : Treed) → branch_of proto (put_branch proto b t) ≡ b
+put_here Connected b t = refl
+put_here Static b t = refl
+put_here Ospf b t = refl
+put_here Rip b t = refl
+
+pub put_same : (proto : Proto) (t : Treed) → put_branch proto (branch_of proto t) t ≡ t
+put_same Connected t = refl
+put_same Static t = refl
+put_same Ospf t = refl
+put_same Rip t = refl
+
+-- an empty stage of the branch that was put goes
+pub welded_put : (proto : Proto) (b : Branch) (t : Treed) → welded_tree proto (put_branch proto b t) ≡ put_branch proto (welded_branch b) t
+welded_put Connected b t = refl
+welded_put Static b t = refl
+welded_put Ospf b t = refl
+welded_put Rip b t = refl
+
+-- what is seen of each branch, where one was put
+pub put_seen : {A : Type 0} (f : Branch → A) (proto other : Proto) (b : Branch) (t : Treed) → f (branch_of other (put_branch proto b t)) ≡ cond (same_proto other proto) (f b) (f (branch_of other t))
+put_seen f Connected Connected b t = refl
+put_seen f Connected Static b t = refl
+put_seen f Connected Ospf b t = refl
+put_seen f Connected Rip b t = refl
+put_seen f Static Connected b t = refl
+put_seen f Static Static b t = refl
+put_seen f Static Ospf b t = refl
+put_seen f Static Rip b t = refl
+put_seen f Ospf Connected b t = refl
+put_seen f Ospf Static b t = refl
+put_seen f Ospf Ospf b t = refl
+put_seen f Ospf Rip b t = refl
+put_seen f Rip Connected b t = refl
+put_seen f Rip Static b t = refl
+put_seen f Rip Ospf b t = refl
+put_seen f Rip Rip b t = refl
+
+-- what holds of the branch that was put, and of the others
+pub put_all : (P : Branch → Type 0) (proto : Proto) (b : Branch) (t : Treed) → P b → ((other : Proto) → P (branch_of other t)) → (other : Proto) → P (branch_of other (put_branch proto b t))
+put_all P proto b t own each Connected = by proto
+  where
+    by : (proto : Proto) → P (branch_of Connected (put_branch proto b t))
+    by Connected = own
+    by Static = each Connected
+    by Ospf = each Connected
+    by Rip = each Connected
+put_all P proto b t own each Static = by proto
+  where
+    by : (proto : Proto) → P (branch_of Static (put_branch proto b t))
+    by Connected = each Static
+    by Static = own
+    by Ospf = each Static
+    by Rip = each Static
+put_all P proto b t own each Ospf = by proto
+  where
+    by : (proto : Proto) → P (branch_of Ospf (put_branch proto b t))
+    by Connected = each Ospf
+    by Static = each Ospf
+    by Ospf = own
+    by Rip = each Ospf
+put_all P proto b t own each Rip = by proto
+  where
+    by : (proto : Proto) → P (branch_of Rip (put_branch proto b t))
+    by Connected = each Rip
+    by Static = each Rip
+    by Ospf = each Rip
+    by Rip = own
+
+-- what the branch that was put has as the one before
+pub put_kept : {A : Type 0} (f : Branch → A) (proto : Proto) (b : Branch) (t : Treed) → f b ≡ f (branch_of proto t) → (other : Proto) → f (branch_of other (put_branch proto b t)) ≡ f (branch_of other t)
+put_kept f proto b t same other = put_seen f proto other b t ∙ by proto other same
+  where
+    by : (proto other : Proto) → f b ≡ f (branch_of proto t) → cond (same_proto other proto) (f b) (f (branch_of other t)) ≡ f (branch_of other t)
+    by Connected Connected same = same
+    by Connected Static same = refl
+    by Connected Ospf same = refl
+    by Connected Rip same = refl
+    by Static Connected same = refl
+    by Static Static same = same
+    by Static Ospf same = refl
+    by Static Rip same = refl
+    by Ospf Connected same = refl
+    by Ospf Static same = refl
+    by Ospf Ospf same = same
+    by Ospf Rip same = refl
+    by Rip Connected same = refl
+    by Rip Static same = refl
+    by Rip Ospf same = refl
+    by Rip Rip same = same
+
+-- ---- how many stages there are
+pub few_filter : (f : Lost Interior → Bool) (ds : List (Lost Interior)) → length (filter f ds) ≤ length ds
+few_filter f [] = omega arith
+few_filter f (d ∷ ds) = by_test (f d) (few_filter f ds)
+  where
+    by_test : (b : Bool) → length (filter f ds) ≤ length ds → length (cond b (d ∷ filter f ds) (filter f ds)) ≤ length (d ∷ ds)
+    by_test true rest = omega arith
+    by_test false rest = omega arith
+
+pub few_map : (f : Lost Interior → Lost Interior) (ds : List (Lost Interior)) → length (map f ds) ≡ length ds
+few_map f [] = refl
+few_map f (d ∷ ds) = let e = few_map f ds in omega arith
+
+pub few_left : (f : Lost Interior → Lost Interior) (g : Lost Interior → Bool) (ds : List (Lost Interior)) → length (filter g (map f ds)) ≤ length ds
+few_left f g ds = let a = few_filter g (map f ds) in let b = few_map f ds in omega arith

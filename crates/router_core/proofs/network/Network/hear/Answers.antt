@@ -1,0 +1,19 @@
+use Rattle.router_core.proofs.StepLemmas.{keepalive_heard, skip_heard, end_heard, fault_heard}
+use Rattle.router_core.proofs.network.Network.hear.Goals as goal
+
+pub returns-in_ok-flush-in-Keepalive : goal.returns-in_ok-flush-in-Keepalive
+returns-in_ok-flush-in-Keepalive c =
+    keepalive_heard c.args.number c.args.peer c.args.self.now c.args.message c.args.journal.now c.flush-in-Keepalive.new.self c.requires.stands c.in-Keepalive.is c.in_ok-flush-in-Keepalive.ensures.ok
+
+pub returns-in_ok-flush-in-Skip : goal.returns-in_ok-flush-in-Skip
+returns-in_ok-flush-in-Skip c =
+    skip_heard c.args.number c.args.peer c.args.self.now c.args.message c.args.journal.now c.flush-in-Skip.new.self c.requires.stands c.in-Skip.is c.in_ok-flush-in-Skip.ensures.ok
+
+pub returns-in_ok-lose-in-Notification : goal.returns-in_ok-lose-in-Notification
+returns-in_ok-lose-in-Notification c =
+    end_heard c.args.number c.args.peer c.args.self.now c.lose.new.self c.args.message c.args.journal.now c.lose.new.journal c.in-Notification.is c.in_ok-lose-in-Notification.ensures
+
+pub returns-in_ok-lose-in-Notify : goal.returns-in_ok-lose-in-Notify
+returns-in_ok-lose-in-Notify c =
+    fault_heard c.args.number c.args.peer c.args.self.now c.lose-in-Notify.new.self c.args.message c.in-Notify.notice c.in_ok-octets-in-Notify.octets c.args.journal.now c.push_line.new.self
+    c.lose-in-Notify.new.journal c.in-Notify.is c.in_ok-octets-in-Notify.ensures c.in_ok-push_line-in-Notify.ensures c.in_ok-lose-in-Notify.ensures

@@ -1,0 +1,17 @@
+use Rattle.std.proofs.Common.{IsSome, sym, ap, subst}
+use Rattle.router_core.specs.Lives.{LiveState}
+use Rattle.router_core.proofs.RouteSteps.{lose_since}
+use Rattle.router_core.proofs.ProtocolLosses.{protocol_lost}
+use Rattle.router_core.proofs.network.Network.lose_protocol.Goals as goal
+
+pub lose_protocol_with_room-requires-clause-few : goal.lose_protocol_with_room-requires-clause-few
+lose_protocol_with_room-requires-clause-few c = c.in_ok-make_protocol_room.ensures.2.work.losses 4294967294 c.requires.few
+
+pub lose_protocol_with_room-requires-clause-since : goal.lose_protocol_with_room-requires-clause-since
+lose_protocol_with_room-requires-clause-since c =
+    subst IsSome (sym (ap (λ (l : LiveState). l.declared.speaker) c.in_ok-make_protocol_room.ensures.2.work.live)) (lose_since c.args.self.now.declared c.args.proto c.requires.admitted)
+
+pub returns : goal.returns
+returns c =
+    protocol_lost c.args.proto c.args.self.now c.make_protocol_room.new.self c.lose_protocol_with_room.new.self c.args.journal.now c.make_protocol_room.new.journal
+    c.lose_protocol_with_room.new.journal c.flush.new.self c.in_ok-make_protocol_room.ensures c.in_ok-lose_protocol_with_room.ensures c.in_ok-flush.ensures.ok

@@ -1,0 +1,16 @@
+use Rattle.std.proofs.Common.{◌≡◌, None, IsSome, subst, sym}
+use Rattle.rib_tree.specs.Steps.{tree_overdue}
+use Rattle.router_core.specs.Moments.{Moment}
+use Rattle.router_core.specs.Stands.{Stands}
+use Rattle.router_core.specs.Works.{Pushes, EndsProtocol}
+use Rattle.router_core.proofs.ProtocolLosses.{protocol_ended}
+use Rattle.router_core.proofs.network.Network.lose_protocol_with_room.Goals as goal
+
+pub returns : goal.returns
+returns c =
+    let old : Moment = record { declared = c.self.inside.declared; tree = c.self.inside.tree; registry = c.self.inside.registry; chains = c.self.inside.chains.items } in
+    let new : Moment = record { declared = c.self.inside.declared; tree = c.lose.new.self; registry = c.self.inside.registry; chains = c.self.inside.chains.items } in
+    subst (λ (m : Moment). Pushes (EndsProtocol c.args.proto m new) c.args.journal.now c.lose.new.journal) c.self.view_is
+    (protocol_ended c.args.proto old c.lose.new.self c.args.journal.now c.lose.new.journal (subst Stands (sym c.self.view_is) c.requires.stands)
+    (subst (λ (m : Moment). tree_overdue c.args.proto m.tree ≡ None) (sym c.self.view_is) c.requires.free) (subst (λ (m : Moment). IsSome m.declared.speaker) (sym c.self.view_is) c.requires.since)
+    c.in_ok-lose.ensures.after c.in_ok-lose.ensures.lines c.in_ok-lose.ensures.leads c.in_ok-lose.ensures.rows c.in_ok-lose.ensures.tree c.in_ok-lose.ensures.full)

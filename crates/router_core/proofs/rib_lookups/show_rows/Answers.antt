@@ -1,0 +1,28 @@
+use Rattle.std.proofs.Common.{Some, None, arith}
+use Rattle.std.proofs.lemmas.Result.{on_ok_weaker}
+use Rattle.addr4.specs.Places.{key_of}
+use Rattle.rib_tree.specs.Forwards.{rib_links}
+use Rattle.router_core.proofs.ShownRows.{none_given, one_given, rows_end, place_rises, candidates_by, covers_own, next_own, beyond_own}
+use Rattle.router_core.proofs.rib_lookups.show_rows.Goals as goal
+
+pub rows-init : goal.rows-init
+rows-init c = record { placed = tt; few = omega arith; given = none_given c.args.link (rib_links c.args.tree.now c.args.link) c.args.journal.now }
+
+pub rows-preserved : goal.rows-preserved
+rows-preserved c =
+    let place = key_of c.rows.place in
+    let p = c.in-Some.p in
+    let rises = place_rises place p c.rows.invariant.placed (beyond_own (rib_links c.args.tree.now c.args.link) place p c.requires c.in-Some.ensures) in
+    record {
+      placed = (c.known.ensures.masked.0, c.known.ensures.fits);
+      few = omega (arith, rises, c.rows.invariant.few, c.in_ok-shown.ensures.few);
+      given = one_given (candidates_by (rib_links c.args.tree.now c.args.link)) (rib_links c.args.tree.now) c.args.link place p c.rows.count c.in_ok-shown.shown c.args.journal.now c.rows.journal c.show_row.new.journal
+          (next_own (rib_links c.args.tree.now c.args.link) place (Some p) c.requires c.in-Some.ensures) (covers_own (rib_links c.args.tree.now c.args.link)) c.in_ok-shown.ensures.shows c.rows.invariant.given;
+    }
+
+pub returns : goal.returns
+returns c =
+    on_ok_weaker c.push_line.result
+    (λ last. rows_end (candidates_by (rib_links c.args.tree.now c.args.link)) c.args.link (rib_links c.args.tree.now c.args.link) (key_of c.rows.place) c.rows.count c.args.journal.now c.rows.journal c.push_line.new.self
+    c.requires (next_own (rib_links c.args.tree.now c.args.link) (key_of c.rows.place) None c.requires c.in_default.ensures) (covers_own (rib_links c.args.tree.now c.args.link)) c.rows.invariant.given last)
+    c.push_line.ensures

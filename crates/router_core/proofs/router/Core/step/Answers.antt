@@ -1,0 +1,22 @@
+use Rattle.std.proofs.Common.{◌<◌, subst, sym}
+use Rattle.router_core.specs.Moments.{Cored}
+use Rattle.router_core.proofs.CoreLemmas.{few_losses, moment_stands, core_acts, core_stepped}
+use Rattle.router_core.proofs.router.Core.step.Goals as goal
+
+pub step-requires-clause-few : goal.step-requires-clause-few
+step-requires-clause-few c =
+    few_losses c.args.self.now c.self.inside.network c.self.inside.events c.self.inside.failed c.self.view_is c.if-self.false c.requires.stands
+    (subst (λ (x : Cored). x.events < 4294967295) (sym c.self.view_is) c.requires.few)
+
+pub step-requires-clause-stands : goal.step-requires-clause-stands
+step-requires-clause-stands c = moment_stands c.args.self.now c.self.inside.network c.self.inside.events c.self.inside.failed c.self.view_is c.if-self.false c.requires.stands
+
+pub returns-clause-acts : goal.returns-clause-acts
+returns-clause-acts c =
+    core_acts c.args.self.now c.self.inside.network c.self.inside.events c.self.inside.failed c.self.view_is c.if-self.false c.requires.stands c.step.new.self c.args.event c.in_ok-turns.turns
+    c.args.journal.now c.step.new.journal c.in_ok-turns.ensures
+
+pub returns-clause-stands : goal.returns-clause-stands
+returns-clause-stands c =
+    core_stepped c.args.self.now c.self.inside.network c.self.inside.events c.self.inside.failed c.self.view_is c.if-self.false c.requires.stands c.step.new.self c.args.event c.in_ok-turns.turns
+    c.args.journal.now c.step.new.journal c.in_ok-turns.ensures

@@ -1,0 +1,261 @@
+//! Interior routes: they come, go and are lost with their protocol; and the register's answers.
+
+ghost use Rattle.std.specs.Prelude.{◌≡◌, OnOk, IfOk, IfSome, IsSome, Some, None};
+ghost use Rattle.event_text.specs.declared.event.Event.TheVariants as events;
+ghost use Rattle.event_text.specs.Declarations.{refusal};
+ghost use Rattle.journal_text.specs.declared.link.Task.TheVariants as tasks;
+ghost use Rattle.register_interest.specs.Covers.{matched};
+ghost use Rattle.register_interest.specs.Matches.{lent_match};
+ghost use Rattle.register_interest.specs.Registers.{put_row};
+ghost use Rattle.rib_tree.specs.Trees.{branch_of, AreNumbered, IsTree, IsFullBut};
+ghost use Rattle.rib_tree.specs.Steps.{fed_tree, tree_overdue};
+ghost use Rattle.rib_tree.specs.Falls.{way_of_route};
+ghost use Rattle.router_core.specs.Moments.{Gives};
+ghost use Rattle.rib_origin.specs.Steps.{live_after};
+ghost use Rattle.router_core.specs.Lives.{live_state, interior_fed};
+ghost use Rattle.router_core.specs.Stands.{Stands};
+ghost use Rattle.router_core.specs.Works.{Comes, Follows, Settles, Turned, PushesForwarded, HasRouted, HasProtocolRoom, EndsProtocol, HasStepped, Pushes};
+
+use crate::network::Network;
+use crate::router::Done;
+use addr4::{Addr, Memory, Prefix};
+use journal_text::{Journal, Line, Link, Task};
+use link_change::{Change, Turn};
+use register_interest::Register;
+use rib_route::{Interior, Proto};
+use rib_tree::{forward, turns_take_rows, welds_keep_rows};
+use std::alloc::Global;
+
+impl Network {
+    /// `route add`: the protocol's route at the prefix is this one from now on.
+    pub(crate) fn route_add(
+        &mut self,
+        p: Prefix,
+        row: Interior,
+        journal: &mut Journal,
+    ) -> Result<u128, Memory>
+        requires admitted { refusal self.old.declared (events.RouteAdd p row) ≡ None }
+        requires stands { Stands self.old }
+        ensures { IfOk result (λ turns. Gives (HasStepped self.old (events.RouteAdd p row) turns self.new) journal.old journal.new) }
+    {
+        self.route(row.proto, p, Some(row), journal)?;
+        journal.flush()?;
+        Ok(0)
+    }
+
+    /// `route del`: the protocol's route at the prefix goes; `ignored` where it has none.
+    pub(crate) fn route_del(
+        &mut self,
+        proto: Proto,
+        p: Prefix,
+        journal: &mut Journal,
+    ) -> Result<u128, Memory>
+        requires admitted { refusal self.old.declared (events.RouteDel proto p) ≡ None }
+        requires stands { Stands self.old }
+        ensures { IfOk result (λ turns. Gives (HasStepped self.old (events.RouteDel proto p) turns self.new) journal.old journal.new) }
+    {
+        if !self.tree.has(proto, p) {
+            journal.push_line(Line::Ignored)?;
+            journal.flush()?;
+            return Ok(0);
+        }
+        self.route(proto, p, None, journal)?;
+        journal.flush()?;
+        Ok(0)
+    }
+
+    /// `lost`: the protocol's routes go to a deletion stage of their own. Where 16 stand and it has routes, the oldest runs
+    /// to its end first (NSDI 2005, section 5.1.2).
+    pub(crate) fn lose_protocol(
+        &mut self,
+        proto: Proto,
+        journal: &mut Journal,
+    ) -> Result<u128, Memory>
+        requires admitted { refusal self.old.declared (events.Lose proto) ≡ None }
+        requires few { AreNumbered 4294967294 self.old.tree }
+        requires stands { Stands self.old }
+        ensures { IfOk result (λ turns. Gives (HasStepped self.old (events.Lose proto) turns self.new) journal.old journal.new) }
+    {
+        self.make_protocol_room(proto, journal)?;
+        self.lose_protocol_with_room(proto, journal)?;
+        journal.flush()?;
+        Ok(0)
+    }
+
+    /// `cover`: the longest interior route that holds an address, and the largest subnet with that answer (NSDI 2005, section
+    /// 5.2.1).
+    pub(crate) fn cover(&mut self, address: Addr, journal: &mut Journal) -> Result<u128, Memory>
+        requires { Stands self.old }
+        ensures { IfOk result (λ turns. Gives (HasStepped self.old (events.Cover address) turns self.new) journal.old journal.new) }
+    {
+        let (found, subnet) = self.registry.peek(address);
+        journal.push_line(Line::Cover(address, prefix_of(&found), subnet))?;
+        journal.flush()?;
+        Ok(0)
+    }
+
+    /// Makes room for one more deletion stage of a protocol.
+    fn make_protocol_room(&mut self, proto: Proto, journal: &mut Journal) -> Result<(), Memory>
+        requires stands { Stands self.old }
+        ensures { OnOk result (Gives (HasProtocolRoom proto self.old self.new) journal.old journal.new) }
+    {
+        match self.tree.overdue(proto) {
+            Some(task) => {
+                self.drain_task(task, journal)?;
+                Ok(())
+            }
+            None => {
+                journal.flush()?;
+                Ok(())
+            }
+        }
+    }
+
+    fn lose_protocol_with_room(&mut self, proto: Proto, journal: &mut Journal) -> Result<(), Memory>
+        requires stands { Stands self.old }
+        requires free { tree_overdue proto self.old.tree ≡ None }
+        requires few { AreNumbered 4294967294 self.old.tree }
+        requires since { IsSome self.old.declared.speaker }
+        ensures { OnOk result (Pushes (EndsProtocol proto self.old self.new) journal.old journal.new) }
+    {
+        self.tree.lose(proto, journal)?;
+        Ok(())
+    }
+
+    /// A protocol's route at a prefix is this one from now on, or gone.
+    fn route(
+        &mut self,
+        proto: Proto,
+        p: Prefix,
+        new: Option<Interior>,
+        journal: &mut Journal,
+    ) -> Result<(), Memory>
+        requires stands { Stands self.old }
+        requires own { IfSome new (λ row. row.proto ≡ proto) }
+        requires since { IsSome self.old.declared.speaker }
+        ensures { OnOk result (Pushes (HasRouted self.old (fed_tree self.old.tree proto p new) proto p (way_of_route proto self.old.tree) (interior_fed (live_state self.old) proto (live_after (branch_of proto self.old.tree).live p new)) self.new) journal.old journal.new) }
+    {
+        // By cases: the prover asks for a route in sight where one is passed on.
+        match new {
+            None => {
+                let sent = self.tree.feed(proto, p, None, journal)?;
+                self.settle(proto, sent, journal)?;
+                Ok(())
+            }
+            Some(row) => {
+                let sent = self.tree.feed(proto, p, Some(row), journal)?;
+                self.settle(proto, sent, journal)?;
+                Ok(())
+            }
+        }
+    }
+
+    /// What follows a change in a protocol's branch, by what came out on `int`; behind it the stage that it emptied goes.
+    fn settle(
+        &mut self,
+        proto: Proto,
+        sent: Option<Change<Interior>>,
+        journal: &mut Journal,
+    ) -> Result<(), Memory>
+        requires tree { IsTree self.old.tree }
+        requires full { IsFullBut proto self.old.tree }
+        ensures { OnOk result (Settles proto sent self.old self.new journal.old journal.new) }
+    {
+        self.follow(sent, journal)?;
+        self.tree.weld(proto, journal)?;
+        Ok(())
+    }
+
+    /// What follows a change of `int`, if one came out: the register takes it over, and `fib` gets what it makes of it.
+    fn follow(
+        &mut self,
+        sent: Option<Change<Interior>>,
+        journal: &mut Journal,
+    ) -> Result<(), Memory>
+        ensures { OnOk result (Follows sent self.old self.new journal.old journal.new) }
+    {
+        match sent {
+            None => Ok(()),
+            Some(change) => {
+                register(&mut self.registry, self.alloc, &change)?;
+                push_forwarded(&change, journal)?;
+                Ok(())
+            }
+        }
+    }
+
+    /// One turn of the stage of a protocol's loss, and the text of its lines.
+    pub(crate) fn turn_route(
+        &mut self,
+        proto: Proto,
+        loss: u32,
+        journal: &mut Journal,
+    ) -> Result<Done, Memory>
+        requires { Stands self.old }
+        ensures { IfOk result (Comes (tasks.Rdel proto loss) self.old self.new journal.old journal.new) }
+    {
+        turns_take_rows();
+        welds_keep_rows();
+        match self.tree.unit(Task::Rdel(proto, loss), journal)? {
+            Turn::Nothing => Ok(Done::Nothing),
+            Turn::Quiet => self.turned(proto, None, journal),
+            Turn::Sent(change) => self.turned(proto, Some(change), journal),
+        }
+    }
+
+    /// What follows a turn that was taken, and the text of its lines.
+    fn turned(
+        &mut self,
+        proto: Proto,
+        sent: Option<Change<Interior>>,
+        journal: &mut Journal,
+    ) -> Result<Done, Memory>
+        requires tree { IsTree self.old.tree }
+        requires full { IsFullBut proto self.old.tree }
+        ensures { IfOk result (Turned proto sent self.old self.new journal.old journal.new) }
+    {
+        self.settle(proto, sent, journal)?;
+        journal.flush()?;
+        Ok(Done::Taken)
+    }
+}
+
+/// The prefix of a match.
+fn prefix_of(found: &Option<(Prefix, &Interior)>) -> Option<Prefix>
+    ensures { result ≡ matched (lent_match found.now) }
+{
+    match found {
+        None => None,
+        Some(found) => Some(found.0),
+    }
+}
+
+/// The register takes a change over; nobody asks for what it reaches yet.
+fn register(
+    registry: &mut Register<Interior>,
+    alloc: Global,
+    change: &Change<Interior>,
+) -> Result<(), Memory>
+    ensures { OnOk result (registry.new.rows ≡ put_row registry.old.rows change.now.prefix change.now.after) }
+{
+    match change.after {
+        None => {
+            let _reached = registry.changed(alloc, change.prefix, None)?;
+            Ok(())
+        }
+        Some(row) => {
+            let _reached = registry.changed(alloc, change.prefix, Some(row))?;
+            Ok(())
+        }
+    }
+}
+
+/// Appends what `fib` gets of a change of `int`.
+fn push_forwarded(change: &Change<Interior>, journal: &mut Journal) -> Result<(), Memory>
+    ensures { OnOk result (PushesForwarded change.now journal.old journal.new) }
+{
+    match forward(change) {
+        None => Ok(()),
+        Some(sent) => journal.push_fib_change(Link::Fib, &sent),
+    }
+}
