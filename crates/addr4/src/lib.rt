@@ -28,6 +28,3 @@ pub use place::Place;
 pub use prefix::Prefix;
 pub use row::Row;
 pub use texts::{BadAddr, BadPrefix, push_addr, push_prefix, read_addr, read_prefix};
-
-#[cfg(test)]
-mod tests;

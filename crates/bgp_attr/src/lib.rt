@@ -17,8 +17,6 @@ mod octets;
 mod path;
 mod route;
 mod speaker;
-#[cfg(test)]
-mod tests;
 mod unrecognized;
 
 pub use attrs::{Aggregator, Attrs, Origin, SharedAttrs};

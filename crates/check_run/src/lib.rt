@@ -17,6 +17,3 @@ pub use command::check;
 pub use ending::Ending;
 pub use lines::{first_line, without_return};
 pub use writing::write_all;
-
-#[cfg(test)]
-mod tests;

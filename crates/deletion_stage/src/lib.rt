@@ -15,6 +15,3 @@
 mod deletion;
 
 pub use deletion::Deletion;
-
-#[cfg(test)]
-mod tests;

@@ -14,6 +14,3 @@ mod traits;
 pub use memory::{MemorySink, MemorySource};
 pub use sure::{SureSink, SureSource};
 pub use traits::{Failed, Sink, Source};
-
-#[cfg(test)]
-mod tests;

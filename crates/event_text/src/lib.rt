@@ -12,6 +12,3 @@ mod words;
 pub use declared::{Declared, DeclaredPeer, admit};
 pub use event::Event;
 pub use grammar::parse;
-
-#[cfg(test)]
-mod tests;

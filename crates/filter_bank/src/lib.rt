@@ -15,6 +15,3 @@ mod laws;
 
 pub use filter::FilterBank;
 pub use laws::{a_walk_leads, an_edit_keeps_the_rows, exact_without_a_walk, filtered_keeps_attrs};
-
-#[cfg(test)]
-mod tests;

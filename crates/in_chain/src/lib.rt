@@ -31,6 +31,3 @@ mod stage;
 pub use chain::Chain;
 pub use laws::{rows_are_counted, turns_are_bounded};
 pub use stage::Stage;
-
-#[cfg(test)]
-mod tests;

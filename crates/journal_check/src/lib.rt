@@ -19,6 +19,3 @@ mod walk;
 pub use checked::Checked;
 pub use laws::{printed_lines_are_read_back, there_is_one_answer};
 pub use walk::Walk;
-
-#[cfg(test)]
-mod tests;

@@ -29,6 +29,3 @@ pub use laws::{
 pub use line::{Code, Line};
 pub use link::{Link, Task};
 pub use value::Value;
-
-#[cfg(test)]
-mod tests;

@@ -16,6 +16,3 @@ mod upstream;
 pub use change::{Change, apply};
 pub use turn::Turn;
 pub use upstream::{Upstream, nearer};
-
-#[cfg(test)]
-mod tests;

@@ -21,6 +21,3 @@ pub use laws::{
     the_latest_is_the_edited,
 };
 pub use pass::Pass;
-
-#[cfg(test)]
-mod tests;

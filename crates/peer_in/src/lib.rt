@@ -12,6 +12,3 @@
 mod peer_in;
 
 pub use peer_in::PeerIn;
-
-#[cfg(test)]
-mod tests;

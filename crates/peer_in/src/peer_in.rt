@@ -1,7 +1,6 @@
 //! The live routes of the present session.
 
 ghost use Rattle.std.specs.Prelude.{◌≡◌, ◌↔◌, IsTrue, IfOk, OnOk, OnErr, IfSome, IsNone, Some, None};
-ghost use Rattle.std.specs.Option.{option_copied};
 ghost use Rattle.std.specs.FinMap as map;
 ghost use Rattle.addr4.specs.Places.{key_of};
 ghost use Rattle.link_change.specs.Rows.{IsNextCandidate, with_rows, is_empty_map};
@@ -35,11 +34,11 @@ impl Model for PeerIn {
     ghost view = { λ p. p.live.rows };
 }
 
-// Whether a route is live with these attributes.
-fn is_live(live: Option<&SharedAttrs>, attrs: &SharedAttrs) -> bool
-    ensures { IsTrue result ↔ (option_copied live.entry ≡ Some attrs.now) }
+// Whether a route was live with these attributes.
+fn was_live(before: &Option<SharedAttrs>, attrs: &SharedAttrs) -> bool
+    ensures { IsTrue result ↔ (before.now ≡ Some attrs.now) }
 {
-    match live {
+    match before {
         None => false,
         Some(row) => row.same(attrs),
     }
@@ -69,11 +68,11 @@ impl PeerIn {
         ensures table { OnOk result (self.new ≡ map.insert self.old prefix attrs) }
         ensures memory { OnErr result (self.new ≡ self.old) }
     {
-        if is_live(self.live.get(prefix), &attrs) {
-            return Ok(None);
-        }
         let kept = attrs.copy()?;
         let before = self.live.insert(prefix, kept)?;
+        if was_live(&before, &attrs) {
+            return Ok(None);
+        }
         Ok(Some(Change {
             prefix,
             before,

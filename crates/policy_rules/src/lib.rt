@@ -18,6 +18,3 @@ pub use judging::judge;
 pub use laws::{the_answer_is_judged, there_is_one_result};
 pub use rule::{Action, Actions, Condition, Rule, Rules, Verdict};
 pub use words::first_word;
-
-#[cfg(test)]
-mod tests;

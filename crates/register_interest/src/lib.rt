@@ -20,6 +20,3 @@ mod search;
 
 pub use interests::Interest;
 pub use register::{Match, Register};
-
-#[cfg(test)]
-mod tests;

@@ -84,6 +84,3 @@ pub fn replay<S: Source, K: Sink>(
     };
     obey(alloc, command, source, sink)
 }
-
-#[cfg(test)]
-mod tests;

@@ -1,12 +1,13 @@
 //! The command `run`.
 
-ghost use Rattle.std.specs.Prelude.{◌≡◌, ◌≢◌, ◌≤◌, ◌+◌, ◌⊎◌, ℕ, List, IfSome};
+ghost use Rattle.std.specs.Prelude.{◌≡◌, ◌≢◌, ◌≤◌, ◌+◌, ◌⊎◌, ℕ, List, [], IfSome};
 ghost use Rattle.std.specs.Io.KnownBytes.{IsAtEnd};
 ghost use Rattle.edge_io.specs.Causes.{Rose};
 ghost use Rattle.check_run.specs.Lines.{lines_of};
 ghost use Rattle.replay.specs.Judging.{verdict, status_of};
 ghost use Rattle.replay.specs.Output.{IsOutput, IsRefusedOutput, IsOutputOfFront, IsOutputOfEnded, IsFrontOfOutput};
 ghost use Rattle.check_run.specs.Runs.{Took, ReadsAndWrites};
+ghost use Rattle.replay.specs.Stream.{HasStepped, IsReady};
 
 use crate::output::{finish, turn};
 use crate::status::Status;
@@ -38,15 +39,39 @@ pub fn run_events<S: Source, K: Sink>(
 {
     let mut stream = Stream::new(alloc, quiet);
     let mut journal = Journal::new(alloc, quiet);
+    run_stream(&mut stream, &mut journal, source, sink)
+}
+
+/// Steps the events of the source in a stream and a journal that have none yet.
+fn run_stream<S: Source, K: Sink>(
+    stream: &mut Stream,
+    journal: &mut Journal,
+    source: &mut S,
+    sink: &mut K,
+) -> Status
+    requires stepped { HasStepped journal.old.quiet [] stream.old.number stream.old.core.moment stream.old.pending.items [] }
+    requires ready { IsReady stream.old.number stream.old.core }
+    requires empty { journal.old.pending ≡ [] }
+    ensures ok { result ≡ Status.Ok → Took (S.left source.old) (K.taken sink.old) (K.taken sink.new) (λ text bytes. IsOutput journal.old.quiet (lines_of text) bytes) }
+    ensures all_read { result ≡ Status.Ok → IsAtEnd (S.left source.new) }
+    ensures refused { result ≡ Status.Refused → Took (S.left source.old) (K.taken sink.old) (K.taken sink.new) (IsRefusedOutput journal.old.quiet) }
+    ensures so_far { result ≡ Status.ReadFault → ReadsAndWrites (S.left source.old) (S.left source.new) (K.taken sink.old) (K.taken sink.new) (IsOutputOfEnded journal.old.quiet) }
+    ensures memory { result ≡ Status.Memory → Took (S.left source.old) (K.taken sink.old) (K.taken sink.new) (IsOutputOfFront journal.old.quiet) }
+    ensures front { result ≡ Status.WriteFault → Took (S.left source.old) (K.taken sink.old) (K.taken sink.new) (IsFrontOfOutput journal.old.quiet) }
+    ensures read_fault { result ≡ Status.ReadFault → Rose (S.faults source.old) (S.faults source.new) }
+    ensures write_fault { result ≡ Status.WriteFault → Rose (K.faults sink.old) (K.faults sink.new) }
+    ensures by_text { (result ≡ Status.Ok) ⊎ (result ≡ Status.Refused) → IfSome (S.left source.old) (λ text. result ≡ status_of (verdict text)) }
+    ensures no_other { (result ≢ Status.Broken) × (result ≢ Status.Usage) }
+{
     let mut buf = [0u8; READ_SIZE];
     'reading: loop {
         let Ok(count) = source.read(&mut buf) else {
             return Status::ReadFault;
         };
         if count == 0 {
-            return finish(&mut stream, &mut journal, sink);
+            return finish(stream, journal, sink);
         }
-        if let Some(status) = turn(&mut stream, &buf[..count], &mut journal, sink) {
+        if let Some(status) = turn(stream, &buf[..count], journal, sink) {
             return status;
         }
     }

@@ -16,6 +16,3 @@ mod ranked;
 pub use laws::the_lesser_distance_stands;
 pub use merge::{Side, asked, next_candidate, preferred, take_in};
 pub use ranked::Ranked;
-
-#[cfg(test)]
-mod tests;

@@ -28,6 +28,3 @@ pub use branch::Branch;
 pub use laws::{rows_are_counted, rows_are_own};
 pub use origin::Origin;
 pub use part::Part;
-
-#[cfg(test)]
-mod tests;

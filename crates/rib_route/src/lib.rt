@@ -24,6 +24,3 @@ pub enum Proto {
     Ospf,
     Rip,
 }
-
-#[cfg(test)]
-mod tests;

@@ -38,6 +38,3 @@ pub use laws::{
     turns_take_rows, welds_keep_rows,
 };
 pub use tree::Tree;
-
-#[cfg(test)]
-mod tests;

@@ -29,6 +29,3 @@ mod updates;
 
 pub use laws::{declarations_follow, first_moment_stands, notices_fit, sessions_end};
 pub use router::{Core, Done, Idle, Phase};
-
-#[cfg(test)]
-mod tests;

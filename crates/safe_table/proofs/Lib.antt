@@ -1,3 +1,4 @@
 pub mod Maps
 pub mod Standing
 pub mod Keeping
+pub mod Putting

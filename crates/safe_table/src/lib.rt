@@ -21,6 +21,3 @@ mod table;
 pub use iter::Iter;
 pub use slot::Slot;
 pub use table::Table;
-
-#[cfg(test)]
-mod tests;

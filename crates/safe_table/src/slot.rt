@@ -125,16 +125,35 @@ impl<V> Slot<V> {
         self.kept.row_mut()
     }
 
-    // Puts a row, and answers the one before.
-    pub(crate) fn put(&mut self, row: V) -> Option<V>
-        ensures before { result ≡ self.old.value }
-        ensures after { self.new ≡ record self.old { value = Some row } }
+    // Sets how many iterators stand here.
+    pub(crate) fn set_readers(&mut self, count: u32)
+        ensures { self.new ≡ record self.old { readers = count } }
     {
-        let readers = self.readers();
-        match mem::replace(&mut self.kept, Kept::Row { readers, row }) {
+        match &mut self.kept {
+            Kept::Row { readers, row: _ } => *readers = count,
+            Kept::Removed { readers } => *readers = count,
+        }
+    }
+
+    // The row, if it wasn't removed, and the slot is gone.
+    pub(crate) fn into_row(self) -> Option<V>
+        ensures { result ≡ self.value }
+    {
+        match self.kept {
             Kept::Row { readers: _, row } => Some(row),
             Kept::Removed { readers: _ } => None,
         }
+    }
+
+    // Puts another slot's row, and answers the one before.
+    pub(crate) fn replace(&mut self, slot: Slot<V>) -> Option<V>
+        ensures before { result ≡ self.old.value }
+        ensures after { self.new ≡ record self.old { value = slot.value } }
+    {
+        let readers = self.readers();
+        let before = mem::replace(self, slot);
+        self.set_readers(readers);
+        before.into_row()
     }
 
     // Takes the row.

@@ -94,6 +94,37 @@ pub(crate) fn fits<V>(trie: &Trie<Slot<V>>, count: usize, prefix: Prefix) -> boo
     has_row(trie, prefix)
 }
 
+// A row was put in the place of a slot: that slot's iterators stay, and its row is answered.
+fn keep_readers<V: Drop>(trie: &mut Trie<Slot<V>>, prefix: Prefix, before: Slot<V>) -> Option<V>
+    requires { HasKey trie.old.rows prefix }
+    ensures before { result ≡ before.value }
+    ensures stays { (s : Slot V) → map.get trie.old.rows prefix ≡ Some s → s.readers ≡ 0 → trie.new.rows ≡ map.insert trie.old.rows prefix (record s { readers = before.readers }) }
+{
+    let readers = before.readers();
+    if readers == 0 {
+        return before.into_row();
+    }
+    trie.value_mut(prefix).set_readers(readers);
+    before.into_row()
+}
+
+// Puts a slot without iterators where one stands, whose iterators stay: that takes no memory.
+fn put_in_place<V: Drop>(
+    trie: &mut Trie<Slot<V>>,
+    prefix: Prefix,
+    slot: Slot<V>,
+) -> Result<Option<V>, Memory>
+    ensures ok { OnOk result (trie.new.rows ≡ map.insert trie.old.rows prefix (record slot { readers = readers_of (map.get trie.old.rows prefix) })) }
+    ensures before { IfOk result (λ before. before ≡ live_value (map.get trie.old.rows prefix)) }
+    ensures err { OnErr result (trie.new.rows ≡ trie.old.rows) }
+    ensures succeeds { HasKey trie.old.rows prefix → IsOk result }
+{
+    match trie.get_mut(prefix) {
+        None => Err(Memory),
+        Some(standing) => Ok(standing.replace(slot)),
+    }
+}
+
 // Puts a row at a prefix, where iterators stay.
 pub(crate) fn put<V: Drop>(
     trie: &mut Trie<Slot<V>>,
@@ -105,12 +136,10 @@ pub(crate) fn put<V: Drop>(
     ensures err { OnErr result (trie.new.rows ≡ trie.old.rows) }
     ensures succeeds { HasKey trie.old.rows prefix → IsOk result }
 {
-    if let Some(slot) = trie.get_mut(prefix) {
-        return Ok(slot.put(value));
-    }
     match trie.insert(prefix, Slot::new(value)) {
-        Ok(_) => Ok(None),
-        Err(_) => Err(Memory),
+        Ok(None) => Ok(None),
+        Ok(Some(before)) => Ok(keep_readers(trie, prefix, before)),
+        Err(slot) => put_in_place(trie, prefix, slot),
     }
 }
 

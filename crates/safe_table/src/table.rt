@@ -129,7 +129,7 @@ impl<V: Drop> Table<V> {
         self.trie.nodes()
     }
 
-    /// Puts a row at a prefix, and answers the one before. Takes no memory where there is a row; for want of memory the
+    /// Puts a row at a prefix, and answers the one before. Succeeds where there is a row; for want of memory the
     /// table stays.
     pub fn insert(&mut self, prefix: Prefix, row: V) -> Result<Option<V>, Memory>
         ensures before { IfOk result (λ before. before ≡ map.get self.old.rows prefix) }

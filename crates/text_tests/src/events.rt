@@ -1,0 +1,223 @@
+//! Lines that are read or refused, and events in a row with the code of each that is refused.
+
+use addr4::Memory;
+use event_text::{Declared, Event, admit, parse};
+use journal_text::Code;
+use std::alloc::Global;
+use std::test::Fail;
+
+/// Lines that are read. Those that are empty or begin with `#` say nothing.
+const READ: &str = "\
+\n\
+\x20\x20\x20\n\
+# up 1\n\
+\x20\x20#up\n\
+local 65535 192.0.2.254 223.1.2.3\n\
+peer 3 65001 192.0.2.1 1.0.0.1\n\
+\x20\x20up   7 \n\
+down 4294967295\n\
+bgp 1 fF0a\n\
+filter in 1\n\
+filter in 1 any pref 200 accept\n\
+filter in 2 path 65535 reject any accept\n\
+idle\n\
+work del.1.2 0\n\
+work fin.1 3\n\
+ask in.1 192.0.2.77/24\n\
+ask filt.1 10.1.0.0/16\n\
+show filt.1\n\
+show peer.3.4\n\
+route add static 10.1.2.3/8 direct eth0 7\n\
+route add ospf 10.0.0.0/8 via 192.0.2.9 a.b-c_d 4294967295\n\
+route add rip 0.0.0.0/0 direct abcdefghijklmno 0\n\
+route del connected 10.1.2.3/16\n\
+lost rip\n\
+cover 9.9.9.9\n\
+work rdel.ospf.2 3\n\
+show org.rip.1\n\
+show fib";
+
+/// Lines that are no events.
+const UNREAD: &str = "\
+local 0 192.0.2.254 192.0.2.254\n\
+local 65536 192.0.2.254 192.0.2.254\n\
+local 65000 0.0.0.0 192.0.2.254\n\
+local 65000 192.0.2.254 127.0.0.1\n\
+local 65000 192.0.2.254 224.0.0.1\n\
+local 65000 192.0.2.254\n\
+peer 3 65001 192.0.2.1 1.0.0.1 x\n\
+up 0\n\
+up 01\n\
+up 4294967296\n\
+up\n\
+down 1 1\n\
+bgp 1\n\
+bgp 1 fff\n\
+bgp 1 0g\n\
+filter in 1 path 65536 reject\n\
+filter in 0 any accept\n\
+filter out 1 any accept\n\
+filter in 1 any pref\n\
+filter in\n\
+idle 1\n\
+work del.1 0\n\
+work fin.0 3\n\
+ask in.1 192.0.2.0/33\n\
+show peer.3.4.5\n\
+show best\n\
+Up 1\n\
+route add rip 0.0.0.0/0 direct abcdefghijklmnop 0\n\
+route add rip 0.0.0.0/0 direct Eth0 0\n\
+route add rip 0.0.0.0/0 direct 0\n\
+route add rip 0.0.0.0/0 direct eth0 4294967296\n\
+route add rip 0.0.0.0/0 direct eth0 0 0\n\
+route add rip 0.0.0.0/0 via eth0 0\n\
+route add bgp 0.0.0.0/0 direct eth0 0\n\
+route del rip\n\
+lost\n\
+cover 9.9.9.9/32\n\
+work rdel.rip.0 3\n\
+show org.bgp";
+
+/// Lines with an octet that no line has.
+const UNPRINTABLE: &str = "up\t1\n# \u{7f}";
+
+/// The code of a line that is refused.
+fn code_of(alloc: Global, line: &[u8]) -> Result<Option<Code>, Memory> {
+    match parse(alloc, line)? {
+        Ok(_) => Ok(None),
+        Err(code) => Ok(Some(code)),
+    }
+}
+
+/// Fails at the first of these lines that gets another code.
+fn have_code(alloc: Global, lines: &str, want: Option<Code>) -> Result<(), Fail> {
+    for line in lines.as_bytes().split(|octet| *octet == b'\n') {
+        if code_of(alloc, line)? != want {
+            return Err(Fail::from(Vec::from_slice(alloc, line)?));
+        }
+    }
+    Ok(())
+}
+
+#[test]
+fn lines_are_read_or_refused(rt: HostRuntime) -> Result<(), Fail> {
+    have_code(rt.alloc(), READ, None)?;
+    have_code(rt.alloc(), UNREAD, Some(Code::E2))?;
+    have_code(rt.alloc(), UNPRINTABLE, Some(Code::E1))
+}
+
+#[test]
+fn the_longest_line_has_16384_bytes(rt: HostRuntime) -> Result<(), Fail> {
+    let long = vec![in rt.alloc(); b' '; 16385]?;
+    assert!(rt; code_of(rt.alloc(), &long[1..])?.is_none());
+    assert!(rt; code_of(rt.alloc(), long.as_slice())? == Some(Code::E1));
+    Ok(())
+}
+
+/// Reads an event, and does it unless it is refused.
+fn refused(alloc: Global, line: &str, declared: &mut Declared) -> Result<Option<Code>, Memory> {
+    let event = match parse(alloc, line.as_bytes())? {
+        Ok(event) => event,
+        Err(code) => return Ok(Some(code)),
+    };
+    if let Some(code) = admit(&event, declared) {
+        return Ok(Some(code));
+    }
+    match &event {
+        Event::Local(words) => declared.set_speaker(*words),
+        Event::Peer(number, words) => declared.add_peer(*number, *words)?,
+        Event::Up(number) => declared.begin_session(*number),
+        Event::Down(number) => declared.end_session(*number),
+        _ => {}
+    }
+    Ok(None)
+}
+
+/// Events in a row, each with its code.
+const EVENTS: [(&str, Option<Code>); 24] = [
+    ("peer 65 65001 192.0.2.1 192.0.2.1", Some(Code::E4)),
+    ("up 300", Some(Code::E4)),
+    ("filter in 1 any accept", Some(Code::E4)),
+    ("cover 9.9.9.9", Some(Code::E4)),
+    ("idle", Some(Code::E4)),
+    ("# local", None),
+    ("local 65000 192.0.2.254 192.0.2.254", None),
+    ("local 65000 192.0.2.254 192.0.2.253", Some(Code::E3)),
+    ("peer 1 65000 192.0.2.1 192.0.2.254", Some(Code::E3)),
+    ("peer 1 65000 192.0.2.1 192.0.2.1", None),
+    ("peer 1 65000 192.0.2.2 192.0.2.2", Some(Code::E3)),
+    ("peer 65 65000 192.0.2.2 192.0.2.1", Some(Code::E3)),
+    ("peer 65 65000 192.0.2.2 192.0.2.2", Some(Code::E6)),
+    ("peer 64 65001 192.0.2.2 192.0.2.2", None),
+    ("up 300", Some(Code::E5)),
+    ("bgp 2 ff", Some(Code::E5)),
+    ("show peer.2.1", Some(Code::E5)),
+    ("work fin.2 1", Some(Code::E5)),
+    ("ask filt.2 10.1.0.0/16", Some(Code::E5)),
+    ("filter in 2", Some(Code::E5)),
+    ("route del rip 10.0.0.0/8", None),
+    ("show org.rip.2", None),
+    ("work rdel.rip.2 1", None),
+    ("down 64", None),
+];
+
+/// Fails at the first event that gets another code.
+fn in_order(alloc: Global, declared: &mut Declared) -> Result<(), Fail> {
+    for (line, want) in EVENTS {
+        if refused(alloc, line, declared)? != want {
+            return Err(Fail::from(line));
+        }
+    }
+    Ok(())
+}
+
+/// Fails where an event gets another code than this.
+fn is_told(
+    alloc: Global,
+    line: &str,
+    want: Option<Code>,
+    declared: &mut Declared,
+) -> Result<(), Fail> {
+    match refused(alloc, line, declared)? == want {
+        true => Ok(()),
+        false => Err(Fail::from("another code")),
+    }
+}
+
+/// A filter has at most 64 rules, of a peer that is declared.
+fn rules_are_counted(alloc: Global, declared: &mut Declared) -> Result<(), Fail> {
+    let rules = " any accept".repeat(alloc, 64)?;
+    let line = format!(in alloc; "filter in 1{rules}")?;
+    is_told(alloc, line.as_str(), None, declared)?;
+    let line = format!(in alloc; "filter in 1{rules} any accept")?;
+    is_told(alloc, line.as_str(), Some(Code::E6), declared)?;
+    let line = format!(in alloc; "filter in 2{rules} any accept")?;
+    is_told(alloc, line.as_str(), Some(Code::E5), declared)
+}
+
+/// A peer has at most 65,535 sessions.
+fn sessions_are_counted(alloc: Global, declared: &mut Declared) -> Result<(), Fail> {
+    for _ in 0..65535 {
+        is_told(alloc, "down 1", None, declared)?;
+        is_told(alloc, "up 1", None, declared)?;
+    }
+    is_told(alloc, "up 1", None, declared)?;
+    is_told(alloc, "down 1", None, declared)?;
+    is_told(alloc, "up 1", Some(Code::E6), declared)
+}
+
+/// Answers how many peers are declared in the end.
+fn peers_of_events(alloc: Global) -> Result<usize, Fail> {
+    let mut declared = Declared::new(alloc);
+    in_order(alloc, &mut declared)?;
+    rules_are_counted(alloc, &mut declared)?;
+    sessions_are_counted(alloc, &mut declared)?;
+    Ok(declared.peers().len())
+}
+
+#[test]
+fn events_are_refused_in_order(rt: HostRuntime) -> Result<(), Fail> {
+    assert_eq!(rt; peers_of_events(rt.alloc())?, 2);
+    Ok(())
+}
