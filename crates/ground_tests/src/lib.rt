@@ -1,4 +1,4 @@
-//! Stories of the ground crates: addresses, attributes, rows, streams, tables, interests and walks, each public call on its happy path.
+//! Stories of the ground crates: addresses, attributes, rows, streams, tables, interests, next hops and walks, each public call on its happy path.
 //!
 //! The crates that these tests are of have none of their own: a crate with tests is proved once more with them.
 #![tactic(auto)]
@@ -9,6 +9,8 @@ mod addresses;
 mod attributes;
 #[cfg(test)]
 mod changes;
+#[cfg(test)]
+mod hops;
 #[cfg(test)]
 mod interests;
 #[cfg(test)]

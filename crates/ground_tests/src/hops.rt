@@ -1,0 +1,113 @@
+//! Next hops are learnt, go stale, are answered anew, and are forgotten.
+
+ghost use Rattle.std.specs.Prelude.{◌≡◌, ◌↔◌, IsTrue};
+
+use addr4::{Addr, Memory, Prefix};
+use nexthop_known::{Answer, Known};
+use std::alloc::Global;
+use std::test::Fail;
+
+/// The metric of a route.
+#[derive(Clone, Copy, Debug, PartialEq, Eq)]
+struct Metric(u32);
+
+impl Answer for Metric {
+    fn same(&self, other: &Metric) -> bool {
+        self.0 == other.0
+    }
+}
+
+/// Two next hops in one subnet and one in another.
+fn learn_three(
+    known: &mut Known<Metric>,
+    hops: [Addr; 3],
+    subnets: [Prefix; 3],
+) -> Result<(), Memory> {
+    known.learn(hops[1], subnets[0], Metric(10))?;
+    known.learn(hops[0], subnets[0], Metric(10))?;
+    known.learn(hops[2], subnets[1], Metric(30))
+}
+
+/// What is stale after each step: two next hops of three go stale, the lesser is answered anew as before, and the greater
+/// with another metric.
+fn stale_ones(
+    known: &mut Known<Metric>,
+    hops: [Addr; 3],
+    subnets: [Prefix; 3],
+) -> Result<[Option<Addr>; 4], Memory> {
+    let none = known.next_stale();
+    known.stale(subnets[0]);
+    let first = known.next_stale();
+    known.learn(hops[0], subnets[2], Metric(10))?;
+    let second = known.next_stale();
+    if known.in_force(hops[1]).is_some() {
+        known.fresh(hops[1], subnets[2], Metric(20))?;
+    }
+    let last = known.next_stale();
+    Ok([none, first, second, last])
+}
+
+fn metrics(known: &Known<Metric>, hop: Addr) -> [Option<u32>; 2] {
+    [
+        known.in_force(hop).map(|metric| metric.0),
+        known.fresh_of(hop).map(|metric| metric.0),
+    ]
+}
+
+/// The subnet that is given up with a next hop.
+fn given_up(known: &mut Known<Metric>, hop: Addr) -> Option<Prefix> {
+    if known.in_force(hop).is_none() {
+        return None;
+    }
+    known.forget(hop)
+}
+
+#[derive(Clone, Copy)]
+struct Story {
+    stale: [Option<Addr>; 4],
+    differs: [bool; 2],
+    before: [Option<u32>; 2],
+    after: [Option<u32>; 2],
+    given_up: [Option<Prefix>; 3],
+    known: u128,
+}
+
+fn told(alloc: Global, hops: [Addr; 3], subnets: [Prefix; 3]) -> Result<Story, Memory> {
+    let mut known = Known::new(alloc);
+    learn_three(&mut known, hops, subnets)?;
+    let stale = stale_ones(&mut known, hops, subnets)?;
+    let differing = known.differs();
+    let before = metrics(&known, hops[1]);
+    known.settle();
+    let settled = known.differs();
+    let after = metrics(&known, hops[1]);
+    let shared = given_up(&mut known, hops[1]);
+    let own = given_up(&mut known, hops[0]);
+    let unknown = given_up(&mut known, hops[0]);
+    Ok(Story {
+        stale,
+        differs: [differing, settled],
+        before,
+        after,
+        given_up: [shared, own, unknown],
+        known: known.known(),
+    })
+}
+
+#[test]
+fn the_story_of_three_next_hops(rt: HostRuntime) -> Result<(), Fail> {
+    let one = Addr::new(0x0a00_0001);
+    let two = Addr::new(0x0a00_0002);
+    let three = Addr::new(0x0a01_0001);
+    let wide = Prefix::new(one, 24).ok_or("no prefix")?;
+    let narrow = Prefix::new(one, 25).ok_or("no prefix")?;
+    let other = Prefix::new(three, 16).ok_or("no prefix")?;
+    let story = told(rt.alloc(), [one, two, three], [wide, other, narrow])?;
+    assert!(rt; story.stale == [None, Some(one), Some(two), None]);
+    assert!(rt; story.differs == [true, false]);
+    assert!(rt; story.before == [Some(10), Some(20)]);
+    assert!(rt; story.after == [Some(20), Some(20)]);
+    assert!(rt; story.given_up == [None, Some(narrow), None]);
+    assert!(rt; story.known == 1);
+    Ok(())
+}

@@ -1,0 +1,94 @@
+-- What the fields of the known next hops mean for the map that contracts see.
+use Rattle.std.proofs.Common.{◌≡◌, ◌↔◌, ℕ, ◌<◌, Bool, true, false, not, ◌&&◌, ◌||◌, List, [], ◌∷◌, length, arith, refl, sym, ap, ◌∙◌, subst, inl, inr, Option, Some, None, is_some, MatchBool}
+use Rattle.std.specs.Option.{option_map}
+use Rattle.std.specs.List.{list_any}
+use Rattle.std.specs.Ordering.{nat_cmp, is_eq}
+use Rattle.std.specs.Cmp.{nat_cmp_total, tied_itself}
+use Rattle.std.specs.BTreeMap.{BTreeMap, is_at}
+use Rattle.std.specs.BTreeMap as tree
+use Rattle.std.specs.BTreeSet.{BTreeSet, btree_set_len}
+use Rattle.std.specs.FinMap.{from_entries}
+use Rattle.std.specs.FinMap as map
+use Rattle.std.proofs.lemmas.Bool.{cases_lt, and_parts}
+use Rattle.addr4.specs.Places.{IsNextRow}
+use Rattle.addr4.specs.Prefixes.{Network}
+use Rattle.nexthop_known.specs.declared.answer.Hop.{Hop}
+use Rattle.nexthop_known.specs.declared.index.Holding.{Holding}
+use Rattle.nexthop_known.specs.Hops.{Hops, is_with, IsMapped, IsLeastStale, IsSettled, IsDiffering, IsUnshared}
+use Rattle.nexthop_known.specs.Ties.{came_at, is_stale_at, IsSettledAt, AreTied, AreTold, Marks, host, is_host, Maps, IsFreed}
+use Rattle.nexthop_known.proofs.HopLemmas.{same_self}
+use Rattle.nexthop_known.proofs.MarkLemmas.{host_is, host_before}
+use Rattle.nexthop_known.proofs.TieLemmas.{found_with}
+use Rattle.nexthop_known.proofs.MapLemmas.{map_read, read_in}
+
+none_listed : (ks : List ℕ) (a : ℕ) → (0 < length ks → ⊥) → list_any (is_at (nat_cmp a)) ks ≡ false
+none_listed [] a none = refl
+none_listed (k ∷ ks) a none = absurd (none (omega arith))
+
+some_listed : (ks : List ℕ) → (length ks ≡ 0 → ⊥) → (k : ℕ) × (list_any (is_at (nat_cmp k)) ks ≡ true)
+some_listed [] some = absurd (some refl)
+some_listed (k ∷ ks) some = (k, ap (λ o. is_eq o || list_any (is_at (nat_cmp k)) ks) (tied_itself nat_cmp_total k))
+
+module _ {A : Type 0} where
+  pub mapped : (f : Hop A → Hop A) (m n : BTreeMap ℕ (Hop A)) (now : Hops A) → from_entries m.entries ≡ now → Maps f m n → IsMapped f now (from_entries n.entries)
+  mapped f m n now view maps = λ a. map_read nat_cmp_total n.entries a ∙ maps a ∙ ap (option_map f) (sym (read_in nat_cmp_total m now a view))
+
+  -- ---- a subnet given up
+
+  pub freed : (n : BTreeMap ℕ (Hop A)) (stale : Marks) (held : BTreeSet Holding) (came result : Option Network) → AreTied n stale held → IsFreed held came result → IsUnshared (map.get (from_entries {R = nat_cmp} n.entries)) came result
+  freed n stale held came None tied (inl e) = inl e
+  freed n stale held came None tied (inr has) =
+      let found = found_with has.0 (tree.get nat_cmp n has.2) (sym (tied.held_is (record { subnet = has.0; hop = has.2 })) ∙ has.3) in
+      inr (has.0, has.1, (has.2, found.0, map_read nat_cmp_total n.entries has.2 ∙ found.1, found.2))
+  freed n stale held came (Some s) tied is = (
+    is.0,
+    λ a h e with_s.
+        let here : tree.get nat_cmp n a ≡ Some h = sym (map_read nat_cmp_total n.entries a) ∙ e in
+        let told = sym (is.1 a) ∙ tied.held_is (record { subnet = s; hop = a }) ∙ ap (λ o. is_with s (came_at o)) here ∙ ap (is_with s) with_s ∙ same_self s in
+        let clash : false ≡ true = told in cc,
+  )
+
+  pub came_of_known : (m : BTreeMap ℕ (Hop A)) (now : Hops A) (a : ℕ) (h : Hop A) → from_entries m.entries ≡ now → map.get now a ≡ Some h → came_at (tree.get nat_cmp m a) ≡ h.came
+  came_of_known m now a h view e = ap came_at (sym (read_in nat_cmp_total m now a view) ∙ e)
+
+  -- ---- the least stale one
+
+  stale_told : (o : Option (Hop A)) → is_stale_at o ≡ true → (h : Hop A) × (o ≡ Some h) × (h.came ≡ None)
+  stale_told None e = absurd (cc)
+  stale_told (Some h) e = (h, refl, none h.came e)
+    where
+      none : (c : Option Network) → not (is_some c) ≡ true → c ≡ None
+      none None e = refl
+      none (Some s) e = absurd (cc)
+
+  told_stale : (m : BTreeMap ℕ (Hop A)) (stale : Marks) (held : BTreeSet Holding) (now : Hops A) (a : ℕ) (h : Hop A) → AreTied m stale held → from_entries m.entries ≡ now → map.get now a ≡ Some h → h.came ≡ None → map.contains_key stale (host a) ≡ true
+  told_stale m stale held now a h tied view e none =
+      tied.stale_is (host a) ∙ ap (λ b. b && is_stale_at (tree.get nat_cmp m a)) (host_is a) ∙ ap is_stale_at (sym (read_in nat_cmp_total m now a view) ∙ e) ∙ ap (λ c. not (is_some c)) none
+
+  pub none_stale : (m : BTreeMap ℕ (Hop A)) (stale : Marks) (held : BTreeSet Holding) (now : Hops A) → AreTied m stale held → from_entries m.entries ≡ now → IsNextRow (map.get stale) None None → IsLeastStale (map.get now) None
+  none_stale m stale held now tied view none = λ a h e is. let clash : true ≡ false = sym (told_stale m stale held now a h tied view e is) ∙ ap is_some (none (host a) tt) in cc
+
+  pub least_stale : (m : BTreeMap ℕ (Hop A)) (stale : Marks) (held : BTreeSet Holding) (now : Hops A) (p : Network) → AreTied m stale held → from_entries m.entries ≡ now → IsNextRow (map.get stale) None (Some p) → IsLeastStale (map.get now) (Some p.address)
+  least_stale m stale held now p tied view next =
+      let found = stale_told (tree.get nat_cmp m p.address) (and_parts (is_host p) (is_stale_at (tree.get nat_cmp m p.address)) (sym (tied.stale_is p) ∙ next.1)).1 in (
+        (found.0, read_in nat_cmp_total m now p.address view ∙ found.1, found.2),
+        λ q h e is. elim (cases_lt q p.address) [
+          | inl less ↦ absurd (let clash : true ≡ false = sym (told_stale m stale held now q h tied view e is) ∙ ap is_some (next.2 (host q) tt (host_before q p less)) in cc)
+          | inr le ↦ le
+        ],
+      )
+
+  -- ---- whether some differ
+
+  differing_at : (now : Hops A) (k : ℕ) (o : Option (Hop A)) → map.get now k ≡ o → (IsSettledAt o → ⊥) → IsDiffering (map.get now)
+  differing_at now k None is out = absurd (out tt)
+  differing_at now k (Some h) is out = (k, h, is, out)
+
+  pub differing_told : (m : BTreeMap ℕ (Hop A)) (differing : BTreeSet ℕ) (now : Hops A) (b : Bool) → AreTold m differing → from_entries m.entries ≡ now → ((b ≡ true) ↔ (btree_set_len differing ≡ 0)) → MatchBool (not b) (IsDiffering (map.get now)) (IsSettled (map.get now))
+  differing_told m differing now true told view empty = λ a h e.
+      let none = none_listed differing.keys a (λ lt. let z = empty.0 refl in absurd (omega (arith, lt, z))) in
+      let here : tree.get nat_cmp m a ≡ Some h = sym (read_in nat_cmp_total m now a view) ∙ e in
+      subst (λ x. IsSettledAt x) here ((told a).0 none)
+  differing_told m differing now false told view empty =
+      let has = some_listed differing.keys (λ z. let clash : false ≡ true = empty.1 z in cc) in
+      differing_at now has.0 (tree.get nat_cmp m has.0) (read_in nat_cmp_total m now has.0 view) (λ s. let clash : true ≡ false = sym has.1 ∙ (told has.0).1 s in cc)

@@ -1,0 +1,79 @@
+-- The known next hops, by address.
+use Rattle.std.specs.Prelude.{◌≡◌, ◌≢◌, ◌⊎◌, ℕ, ◌≤◌, Bool, false, cond, Option, Some, None, refl}
+use Rattle.std.specs.Option.{option_map}
+use Rattle.std.specs.Coded.{Coded, code_by, coded×, coded_option}
+use Rattle.std.specs.Ordering.{nat_cmp}
+use Rattle.std.specs.FinMap as map
+use Rattle.addr4.specs.Prefixes.{Network, network_code, same_prefix}
+use Rattle.nexthop_known.specs.declared.answer.Hop.{Hop}
+
+abbrev pub hop_code : {A : Type 0} → Coded A → Coded (Hop A)
+hop_code {A} c = code_by (A × (A × Option Network)) (coded× c (coded× c (coded_option network_code))) (λ h. (h.in_force, (h.fresh, h.came))) (λ p. record { in_force = p.0; fresh = p.1.0; came = p.1.1 }) (λ _. refl)
+
+-- next hops by address
+abbrev pub Hops : Type 0 → Type 0
+Hops A = map.FinMap nat_cmp (Hop A)
+
+-- whether the subnet is this one
+abbrev pub is_with : Network → Option Network → Bool
+is_with s None = false
+is_with s (Some t) = same_prefix t s
+
+module _ {A : Type 0} where
+  -- stale where its answer came with the subnet
+  abbrev pub staled : Network → Hop A → Hop A
+  staled s h = record { in_force = h.in_force; fresh = h.fresh; came = cond (is_with s h.came) None h.came }
+
+  -- its fresh answer in force
+  abbrev pub settled : Hop A → Hop A
+  settled h = record { in_force = h.fresh; fresh = h.fresh; came = h.came }
+
+  -- the same next hops, each changed by f
+  abbrev pub IsMapped : (Hop A → Hop A) → Hops A → Hops A → Type 0
+  IsMapped f old new = (a : ℕ) → map.get new a ≡ option_map f (map.get old a)
+
+  -- a first answer, in force at once
+  abbrev pub learnt : Network → A → Hop A
+  learnt s answer = record { in_force = answer; fresh = answer; came = Some s }
+
+  -- the answer in force, or else this one
+  abbrev pub in_force_or : A → Option (Hop A) → A
+  in_force_or answer None = answer
+  in_force_or answer (Some h) = h.in_force
+
+  -- this answer is the fresh one
+  abbrev pub renewed : Network → A → Option (Hop A) → Hop A
+  renewed s answer h = record { in_force = in_force_or answer h; fresh = answer; came = Some s }
+
+  -- a known next hop has this answer as its fresh one
+  abbrev pub IsRenewed : Hops A → Hops A → ℕ → Network → A → Type 0
+  IsRenewed old new a s answer = new ≡ map.insert old a (renewed s answer (map.get old a))
+
+  -- the least of the stale next hops, or there is none
+  abbrev pub IsLeastStale : (ℕ → Option (Hop A)) → Option ℕ → Type 0
+  IsLeastStale hops None = (a : ℕ) (h : Hop A) → hops a ≡ Some h → h.came ≢ None
+  IsLeastStale hops (Some least) = ((h : Hop A) × (hops least ≡ Some h) × (h.came ≡ None)) × ((a : ℕ) (h : Hop A) → hops a ≡ Some h → h.came ≡ None → least ≤ a)
+
+  -- every fresh answer is in force
+  abbrev pub IsSettled : (ℕ → Option (Hop A)) → Type 0
+  IsSettled hops = (a : ℕ) (h : Hop A) → hops a ≡ Some h → h.fresh ≡ h.in_force
+
+  -- some fresh answer isn't the one in force
+  abbrev pub IsDiffering : (ℕ → Option (Hop A)) → Type 0
+  IsDiffering hops = (a : ℕ) × (h : Hop A) × (hops a ≡ Some h) × (h.fresh ≢ h.in_force)
+
+  -- the answer of some next hop came with the subnet
+  abbrev pub IsWithSome : (ℕ → Option (Hop A)) → Network → Type 0
+  IsWithSome hops s = (a : ℕ) × (h : Hop A) × (hops a ≡ Some h) × (h.came ≡ Some s)
+
+  abbrev pub IsWithNone : (ℕ → Option (Hop A)) → Network → Type 0
+  IsWithNone hops s = (a : ℕ) (h : Hop A) → hops a ≡ Some h → h.came ≢ Some s
+
+  -- the subnet with which an answer came, where no answer of these next hops came with it
+  abbrev pub IsUnshared : (ℕ → Option (Hop A)) → Option Network → Option Network → Type 0
+  IsUnshared hops came None = (came ≡ None) ⊎ ((s : Network) × (came ≡ Some s) × IsWithSome hops s)
+  IsUnshared hops came (Some s) = (came ≡ Some s) × IsWithNone hops s
+
+  -- the subnet is that of the one taken out, and of no other
+  abbrev pub IsGivenUp : (ℕ → Option (Hop A)) → (ℕ → Option (Hop A)) → ℕ → Option Network → Type 0
+  IsGivenUp old new a s = (h : Hop A) → old a ≡ Some h → IsUnshared new h.came s

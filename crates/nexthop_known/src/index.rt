@@ -1,0 +1,294 @@
+//! The next hops by address, and beside them which are stale, and with which subnets the answers of the others came.
+
+ghost use Rattle.std.specs.Prelude.{◌≡◌, ◌+◌, ◌<◌, ◌≤◌, not, ◌&&◌, true, false, OnOk, OnErr, IfOk, MatchOption};
+ghost use Rattle.std.specs.Option.{option_map};
+ghost use Rattle.std.specs.Ordering.{nat_cmp};
+ghost use Rattle.std.specs.BTreeMap as tree;
+ghost use Rattle.std.specs.BTreeMap.{is_at};
+ghost use Rattle.std.specs.BTreeSet as set;
+ghost use Rattle.std.specs.FinMap as map;
+ghost use Rattle.nexthop_known.specs.Hops.{in_force_or, staled, settled};
+ghost use Rattle.nexthop_known.specs.Ties.{holding_cmp, is_own, other_than, came_at, host, let_go, AreTied, AreTold, Puts, IsFreed, IsHeldByNone, Sets, Maps};
+
+use crate::answer::{Answer, Hop};
+use addr4::{Addr, Memory, Prefix};
+use prefix_trie::Trie;
+use std::collections::{BTreeMap, BTreeSet};
+use std::ops::Bound;
+
+// A next hop with the subnet of its answer.
+#[derive(Clone, Copy, PartialEq, Eq, PartialOrd, Ord)]
+pub(crate) struct Holding {
+    pub(crate) subnet: Prefix,
+    pub(crate) hop: Addr,
+}
+
+// The prefix of one address alone.
+pub(crate) fn host(hop: Addr) -> Prefix
+    ensures { result ≡ host hop }
+{
+    Prefix::new(hop, 32).unwrap()
+}
+
+fn copied(address: &Addr) -> Addr
+    ensures { result ≡ address.now }
+{
+    *address
+}
+
+fn came_of<A: Answer>(row: &Hop<A>) -> Option<Prefix>
+    ensures { result ≡ row.now.came }
+{
+    row.came
+}
+
+pub(crate) fn in_force_of<A: Answer>(row: &Hop<A>) -> A
+    ensures { result ≡ row.now.in_force }
+{
+    row.in_force
+}
+
+pub(crate) fn fresh_of<A: Answer>(row: &Hop<A>) -> A
+    ensures { result ≡ row.now.fresh }
+{
+    row.fresh
+}
+
+// The subnet of the answer, if the next hop is known and its answer isn't stale.
+pub(crate) fn came_at<A: Answer>(hops: &BTreeMap<Addr, Hop<A>>, hop: Addr) -> Option<Prefix>
+    ensures { result ≡ came_at (tree.get nat_cmp hops.now hop) }
+{
+    match hops.get(&hop) {
+        None => None,
+        Some(row) => came_of(row),
+    }
+}
+
+// The answer in force of a known next hop, or else this one.
+pub(crate) fn in_force_or<A: Answer>(hops: &BTreeMap<Addr, Hop<A>>, hop: Addr, answer: A) -> A
+    ensures { result ≡ in_force_or answer (tree.get nat_cmp hops.now hop) }
+{
+    match hops.get(&hop) {
+        None => answer,
+        Some(row) => in_force_of(row),
+    }
+}
+
+// The subnet, unless it is the other one.
+fn other_than(subnet: Prefix, came: &Option<Prefix>) -> Option<Prefix>
+    ensures { result ≡ other_than subnet came.now }
+{
+    match came {
+        None => None,
+        Some(other) => {
+            if *other == subnet {
+                return None;
+            }
+            Some(*other)
+        }
+    }
+}
+
+// Takes out the holding of a next hop, if its answer came with a subnet.
+fn leave(held: &mut BTreeSet<Holding>, hop: Addr, came: &Option<Prefix>)
+    ensures left { Sets holding_cmp (is_own hop came.now) false held.old held.new }
+    ensures fewer { set.btree_set_len held.new ≤ set.btree_set_len held.old }
+{
+    if let Some(subnet) = came {
+        let holding = Holding {
+            subnet: *subnet,
+            hop,
+        };
+        held.remove(&holding);
+    }
+}
+
+// Makes room for each next hop that isn't stale, and one more, to become stale.
+fn make_room(stale: &mut Trie<()>, held: &BTreeSet<Holding>) -> Result<(), Memory>
+    ensures room { OnOk result (set.btree_set_len held.now + 1 ≤ stale.new.spare) }
+    ensures rows { stale.new.rows ≡ stale.old.rows }
+    ensures spare { stale.old.spare ≤ stale.new.spare }
+{
+    stale.reserve(held.len() + 1)
+}
+
+// Notes a next hop as stale, for which there is room.
+fn note_stale(stale: &mut Trie<()>, hop: Addr)
+    requires { 0 < stale.old.spare }
+    ensures rows { stale.new.rows ≡ map.insert stale.old.rows (host hop) tt }
+    ensures spare { stale.old.spare ≤ stale.new.spare + 1 }
+{
+    let _before = stale.insert(host(hop), ()).unwrap();
+}
+
+// Takes a next hop from the stale ones, if it is one.
+fn clear_stale(stale: &mut Trie<()>, hop: Addr)
+    ensures rows { stale.new.rows ≡ map.remove stale.old.rows (host hop) }
+    ensures spare { stale.old.spare ≤ stale.new.spare }
+{
+    stale.remove(host(hop));
+}
+
+// The least next hop whose answer came with the subnet.
+pub(crate) fn first_with(held: &BTreeSet<Holding>, subnet: Prefix) -> Option<Addr>
+    ensures { MatchOption result (IsHeldByNone held.now subnet) (λ a. set.contains holding_cmp held.now (record { subnet = subnet; hop = a }) ≡ true) }
+{
+    let from = Holding {
+        subnet,
+        hop: Addr::new(0),
+    };
+    let mut range = held.range((Bound::Included(from), Bound::Unbounded));
+    match range.next() {
+        None => None,
+        Some(found) => {
+            if found.subnet != subnet {
+                return None;
+            }
+            Some(copied(&found.hop))
+        }
+    }
+}
+
+// Puts a row whose answer came with the subnet. For want of memory nothing changes.
+pub(crate) fn put<A: Answer>(
+    hops: &mut BTreeMap<Addr, Hop<A>>,
+    stale: &mut Trie<()>,
+    held: &mut BTreeSet<Holding>,
+    hop: Addr,
+    subnet: Prefix,
+    row: Hop<A>,
+) -> Result<(), Memory>
+    requires tied { AreTied hops.old stale.old.rows held.old }
+    requires room { set.btree_set_len held.old ≤ stale.old.spare }
+    requires came { row.came ≡ Some subnet }
+    ensures tied { AreTied hops.new stale.new.rows held.new }
+    ensures room { set.btree_set_len held.new ≤ stale.new.spare }
+    ensures ok { OnOk result (Puts hops.old hops.new hop (Some row)) }
+    ensures err { OnErr result (hops.new.entries ≡ hops.old.entries) }
+{
+    let before = came_at(hops, hop);
+    let holding = Holding { subnet, hop };
+    make_room(stale, held)?;
+    held.insert(holding)?;
+    match hops.insert(hop, row) {
+        Err(_row) => {
+            held.remove(&holding);
+            Err(Memory)
+        }
+        Ok(_before) => {
+            clear_stale(stale, hop);
+            leave(held, hop, &other_than(subnet, &before));
+            Ok(())
+        }
+    }
+}
+
+// Takes a known next hop out.
+pub(crate) fn take_out<A: Answer>(
+    hops: &mut BTreeMap<Addr, Hop<A>>,
+    stale: &mut Trie<()>,
+    held: &mut BTreeSet<Holding>,
+    hop: Addr,
+) -> Option<Prefix>
+    requires tied { AreTied hops.old stale.old.rows held.old }
+    requires room { set.btree_set_len held.old ≤ stale.old.spare }
+    ensures tied { AreTied hops.new stale.new.rows held.new }
+    ensures room { set.btree_set_len held.new ≤ stale.new.spare }
+    ensures removed { Puts hops.old hops.new hop None }
+    ensures came { result ≡ came_at (tree.get nat_cmp hops.old hop) }
+{
+    let came = came_at(hops, hop);
+    hops.remove(&hop);
+    clear_stale(stale, hop);
+    leave(held, hop, &came);
+    came
+}
+
+// The subnet, unless there is none or the answer of some next hop came with it.
+pub(crate) fn unshared(held: &BTreeSet<Holding>, came: &Option<Prefix>) -> Option<Prefix>
+    ensures { IsFreed held.now came.now result }
+{
+    match came {
+        None => None,
+        Some(subnet) => {
+            if first_with(held, *subnet).is_some() {
+                return None;
+            }
+            Some(*subnet)
+        }
+    }
+}
+
+// Notes a next hop among those that differ, where it does, and answers whether it is new there.
+pub(crate) fn mark(differing: &mut BTreeSet<Addr>, hop: Addr, differs: bool) -> Result<bool, Memory>
+    ensures ok { OnOk result (Sets nat_cmp (λ q. differs && is_at (nat_cmp hop) q) true differing.old differing.new) }
+    ensures added { IfOk result (λ added. added ≡ (differs && not (set.contains nat_cmp differing.old hop))) }
+    ensures err { OnErr result (differing.new.keys ≡ differing.old.keys) }
+{
+    if !differs {
+        return Ok(false);
+    }
+    let added = differing.insert(hop)?;
+    Ok(added)
+}
+
+// Takes a next hop from those that differ, where this is wanted.
+pub(crate) fn unmark(differing: &mut BTreeSet<Addr>, hop: Addr, wanted: bool)
+    ensures { Sets nat_cmp (λ q. wanted && is_at (nat_cmp hop) q) false differing.old differing.new }
+{
+    if wanted {
+        differing.remove(&hop);
+    }
+}
+
+// Makes a known next hop stale.
+fn make_stale<A: Answer>(hops: &mut BTreeMap<Addr, Hop<A>>, hop: Addr)
+    ensures { Puts hops.old hops.new hop (option_map let_go (tree.get nat_cmp hops.old hop)) }
+{
+    if let Some(row) = hops.get_mut(&hop) {
+        row.came = None;
+    }
+}
+
+// Puts the fresh answer of a known next hop in force.
+fn put_in_force<A: Answer>(hops: &mut BTreeMap<Addr, Hop<A>>, hop: Addr)
+    ensures { Puts hops.old hops.new hop (option_map settled (tree.get nat_cmp hops.old hop)) }
+{
+    if let Some(row) = hops.get_mut(&hop) {
+        row.in_force = row.fresh;
+    }
+}
+
+// Makes stale the next hops whose answer came with the subnet.
+pub(crate) fn make_all_stale<A: Answer>(
+    hops: &mut BTreeMap<Addr, Hop<A>>,
+    stale: &mut Trie<()>,
+    held: &mut BTreeSet<Holding>,
+    subnet: Prefix,
+)
+    requires tied { AreTied hops.old stale.old.rows held.old }
+    requires room { set.btree_set_len held.old ≤ stale.old.spare }
+    ensures tied { AreTied hops.new stale.new.rows held.new }
+    ensures room { set.btree_set_len held.new ≤ stale.new.spare }
+    ensures mapped { Maps (staled subnet) hops.old hops.new }
+{
+    while let Some(hop) = first_with(held, subnet) {
+        note_stale(stale, hop);
+        make_stale(hops, hop);
+        held.remove(&Holding { subnet, hop });
+    }
+}
+
+// Puts each fresh answer in force.
+pub(crate) fn put_all_in_force<A: Answer>(
+    hops: &mut BTreeMap<Addr, Hop<A>>,
+    differing: &mut BTreeSet<Addr>,
+)
+    requires { AreTold hops.old differing.old }
+    ensures told { AreTold hops.new differing.new }
+    ensures mapped { Maps settled hops.old hops.new }
+{
+    while let Some(hop) = differing.pop_first() {
+        put_in_force(hops, hop);
+    }
+}

@@ -1,0 +1,187 @@
+//! The known next hops.
+
+ghost use Rattle.std.specs.Prelude.{◌≡◌, OnOk, OnErr, IsSome, MatchBool};
+ghost use Rattle.std.specs.Option.{option_map};
+ghost use Rattle.std.specs.FinMap as map;
+ghost use Rattle.nexthop_known.specs.Hops.{learnt, staled, settled, IsMapped, IsLeastStale, IsSettled, IsDiffering, IsGivenUp, IsRenewed};
+
+use crate::answer::{Answer, Hop};
+use crate::index::{
+    Holding, fresh_of, in_force_of, in_force_or, make_all_stale, mark, put, put_all_in_force,
+    take_out, unmark, unshared,
+};
+use addr4::{Addr, Memory, Place, Prefix};
+use prefix_trie::Trie;
+use std::alloc::Global;
+use std::collections::{BTreeMap, BTreeSet};
+use std::marker::Model;
+
+/// The known next hops.
+///
+/// Contracts see a finite map from addresses to what is kept of each.
+#[derive(Drop)]
+pub struct Known<A> {
+    hops: BTreeMap<Addr, Hop<A>>,
+    // Those whose answer is stale, each as the prefix of its address alone. There is room in it for those that are held.
+    stale: Trie<()>,
+    // Those whose fresh answer differs from the one in force.
+    differing: BTreeSet<Addr>,
+    // Those whose answer isn't stale, by the subnet with which it came.
+    held: BTreeSet<Holding>,
+}
+
+impl<A> Model for Known<A> {
+    ghost use Rattle.std.specs.FinMap as map;
+    ghost use Rattle.std.specs.Coded.{coded_ℕ};
+    ghost use Rattle.nexthop_known.specs.Hops.{Hops, hop_code};
+    ghost use Rattle.nexthop_known.specs.Ties.{AreIndexed};
+
+    ghost Value = { Hops A };
+
+    ghost coded = { map.code coded_ℕ (hop_code A.code) };
+
+    ghost view = { λ k. map.from_entries k.hops.entries };
+
+    ghost invariant = { λ k. AreIndexed k.hops k.stale k.differing k.held };
+}
+
+impl<A: Answer> Known<A> {
+    /// No known next hop. Takes no memory.
+    pub fn new(alloc: Global) -> Known<A>
+        ensures { result ≡ map.empty }
+    {
+        Known {
+            hops: BTreeMap::new(alloc),
+            stale: Trie::new(alloc),
+            differing: BTreeSet::new(alloc),
+            held: BTreeSet::new(alloc),
+        }
+    }
+
+    /// How many next hops are known.
+    pub fn known(&self) -> u128
+        ensures { result ≡ map.len self.now }
+    {
+        self.hops.len() as u128
+    }
+
+    /// Adds a next hop with its first answer, which came with the subnet and is in force at once. For want of memory nothing
+    /// changes.
+    pub fn learn(&mut self, hop: Addr, subnet: Prefix, answer: A) -> Result<(), Memory>
+        ensures ok { OnOk result (self.new ≡ map.insert self.old hop (learnt subnet answer)) }
+        ensures err { OnErr result (self.new ≡ self.old) }
+    {
+        let row = Hop {
+            in_force: answer,
+            fresh: answer,
+            came: Some(subnet),
+        };
+        put(
+            &mut self.hops,
+            &mut self.stale,
+            &mut self.held,
+            hop,
+            subnet,
+            row,
+        )?;
+        self.differing.remove(&hop);
+        Ok(())
+    }
+
+    /// Keeps a further answer of a known next hop, which came with the subnet and comes into force when all do. For want of
+    /// memory nothing changes.
+    pub fn fresh(&mut self, hop: Addr, subnet: Prefix, answer: A) -> Result<(), Memory>
+        requires { IsSome (map.get self.old hop) }
+        ensures ok { OnOk result (IsRenewed self.old self.new hop subnet answer) }
+        ensures err { OnErr result (self.new ≡ self.old) }
+    {
+        let in_force = in_force_or(&self.hops, hop, answer);
+        let row = Hop {
+            in_force,
+            fresh: answer,
+            came: Some(subnet),
+        };
+        let differs = !answer.same(&in_force);
+        let added = mark(&mut self.differing, hop, differs)?;
+        match put(
+            &mut self.hops,
+            &mut self.stale,
+            &mut self.held,
+            hop,
+            subnet,
+            row,
+        ) {
+            Err(Memory) => {
+                unmark(&mut self.differing, hop, added);
+                Err(Memory)
+            }
+            Ok(()) => {
+                unmark(&mut self.differing, hop, !differs);
+                Ok(())
+            }
+        }
+    }
+
+    /// Takes a known next hop out, and answers the subnet with which its fresh answer came: none exactly where that was stale,
+    /// or the answer of another known one that isn't stale came with that subnet.
+    pub fn forget(&mut self, hop: Addr) -> Option<Prefix>
+        requires { IsSome (map.get self.old hop) }
+        ensures removed { self.new ≡ map.remove self.old hop }
+        ensures answer { IsGivenUp (map.get self.old) (map.get self.new) hop result }
+    {
+        let came = take_out(&mut self.hops, &mut self.stale, &mut self.held, hop);
+        self.differing.remove(&hop);
+        unshared(&self.held, &came)
+    }
+
+    /// Makes stale the known next hops whose answer came with the subnet. Takes no memory.
+    pub fn stale(&mut self, subnet: Prefix)
+        ensures { IsMapped (staled subnet) self.old self.new }
+    {
+        make_all_stale(&mut self.hops, &mut self.stale, &mut self.held, subnet);
+    }
+
+    /// The stale next hop of the least address.
+    pub fn next_stale(&self) -> Option<Addr>
+        ensures { IsLeastStale (map.get self.now) result }
+    {
+        match self.stale.next_after(Place::Before) {
+            None => None,
+            Some(host) => Some(host.address()),
+        }
+    }
+
+    /// Puts each fresh answer in force.
+    pub fn settle(&mut self)
+        ensures { IsMapped settled self.old self.new }
+    {
+        put_all_in_force(&mut self.hops, &mut self.differing);
+    }
+
+    /// The answer in force of a known next hop.
+    pub fn in_force(&self, hop: Addr) -> Option<A>
+        ensures { result ≡ option_map (λ h. h.in_force) (map.get self.now hop) }
+    {
+        match self.hops.get(&hop) {
+            None => None,
+            Some(row) => Some(in_force_of(row)),
+        }
+    }
+
+    /// The fresh answer of a known next hop.
+    pub fn fresh_of(&self, hop: Addr) -> Option<A>
+        ensures { result ≡ option_map (λ h. h.fresh) (map.get self.now hop) }
+    {
+        match self.hops.get(&hop) {
+            None => None,
+            Some(row) => Some(fresh_of(row)),
+        }
+    }
+
+    /// Whether some fresh answer differs from the one in force.
+    pub fn differs(&self) -> bool
+        ensures { MatchBool result (IsDiffering (map.get self.now)) (IsSettled (map.get self.now)) }
+    {
+        !self.differing.is_empty()
+    }
+}

@@ -1,0 +1,27 @@
+//! The next hops that a resolver knows, and what is kept of the answers about them.
+//!
+//! A resolver asks the interior routes about each next hop that some route names. What it is told holds for a whole subnet,
+//! and until the interior routes change there. [`Known`] keeps two answers of each next hop: the one in force, by which the
+//! routes that were sent on are resolved, and the fresh one, the latest. A change of the interior routes makes the answers
+//! that came with a subnet stale. The resolver then takes the stale next hops one by one, the least address first, and asks
+//! again. Where no answer is stale and some fresh one differs from the one in force, it lets all come into force at once.
+//!
+//! What is kept true: a next hop that isn't stale stands in an index under the subnet with which its fresh answer came, and one
+//! that is stale in a trie, as the prefix of its address alone; those whose two answers differ are in a set. So no call looks
+//! at all known next hops. To learn, answer anew, forget or find one takes a time that grows with the logarithm of their
+//! number, beside what the trie takes where it is moved to more room; to make a subnet's stale, as much for each whose answer
+//! came with it; and to settle, as much for each that differs.
+//!
+//! Only [`learn`](Known::learn) and [`fresh`](Known::fresh) take memory, and for want of it they change nothing. They also make
+//! room in the trie: it has enough for each next hop that isn't stale, so that [`stale`](Known::stale) can't fail.
+//!
+//! Contracts see one finite map from addresses to [`Hop`], and say nothing of the sets. The resolver uses this crate, with a
+//! value that is an [`Answer`]: what it needs of the interior route that holds a next hop.
+#![tactic(auto)]
+
+mod answer;
+mod index;
+mod known;
+
+pub use answer::{Answer, Hop};
+pub use known::Known;
