@@ -26,6 +26,7 @@ use Rattle.router_core.specs.Turns.{Turns, DrainsAll, deletion_tasks, filter_tas
 use Rattle.router_core.specs.Works.{Nears, IsWork, IsUnit, AreTurns, HasDrained, HaveDrained, AllHaveDrained}
 use Rattle.router_core.proofs.TurnLemmas.{flushed_join, flushed_none, work_none, work_join, drained_by}
 use Rattle.router_core.proofs.RouteTasks.{first_has_work, nears_count, first_turn, drains_more, none_stands}
+use Rattle.router_core.proofs.DrainLemmas.{count_of}
 use Rattle.router_core.proofs.KeepLemmas.{walks_after_drains, over_after_drains, all_both}
 use Rattle.router_core.proofs.ScratchLemmas.{settled_is_exact}
 
@@ -191,10 +192,6 @@ drains_join (x ∷ xs) ys m at now a b n k d e = (
   ap (λ (l : List Line). l ++ b) d.7 ∙ append_assoc d.0 d.1 b,
   (let sum = d.8 in omega (arith, sum)),
 )
-
-count_of : (cs : List Chained) → length (map (λ c. Fin c.incoming.number) cs) ≡ length cs
-count_of [] = refl
-count_of (c ∷ cs) = ap suc (count_of cs)
 
 within : (losses stages walks rows left routes peers : ℕ) → losses ≤ routes → stages ≤ rows → walks ≤ 2 * (left + peers) → left ≤ rows → losses + (stages + walks) ≤ (peers + 2) * (9 * (rows + routes) + 6)
 within losses stages walks rows left routes peers a b c d = grind arith

@@ -18,9 +18,9 @@ use Rattle.event_text.specs.declared.declared.DeclaredPeer.{DeclaredPeer}
 use Rattle.event_text.specs.Declarations.{Declaration, peer_at, refusal, refusal_at, undeclared}
 use Rattle.router_core.specs.Moments.{Moment, router_links, bound_of, Gives}
 use Rattle.router_core.specs.declared.router.Idle.{Idle as Answer}
-use Rattle.router_core.specs.Lives.{live_state, ended, ended_if_up, Says, HearsIfUp, HearsFrom}
+use Rattle.router_core.specs.Lives.{live_state, heard, ended, ended_if_up, Says, HearsIfUp, HearsFrom}
 use Rattle.router_core.specs.Stands.{Stands}
-use Rattle.router_core.specs.Blocks.{Declares, BeginsIf, EndsIf, HearsIf, ByPeer, Acts}
+use Rattle.router_core.specs.Blocks.{Declares, BeginsIf, EndsIf, Hears, HearsIf, ByPeer, Acts}
 use Rattle.router_core.specs.Works.{Pushes, AreTurns, AllHaveDrained, HasLost, HasHeard, HasIdled, HasStepped}
 use Rattle.router_core.proofs.StandLemmas.{losses_stay, losses_more}
 use Rattle.router_core.proofs.TurnLemmas.{flushed_join, flushed_none, leads_join}
@@ -113,20 +113,13 @@ up_tree m m' k said acts = by_peer (peer_at k m.declared.peers) acts.block
     by_peer (Some p) block = by_up p.up block
 
 -- ---- what a message does
-pub keepalive_heard : (k : ℕ) (p : DeclaredPeer) (m : Moment) (message : Message) (before now : Journaled) → Stands m → message ≡ messages.Keepalive → now ≡ flushed before
-    → Gives (HasHeard k p m message m) before now
-keepalive_heard k p m message before now stands same is = subst (λ (x : Message). Gives (HasHeard k p m x m) before now) (sym same) (
+-- a message that says nothing of routes or of the session
+pub nothing_heard : (k : ℕ) (p : DeclaredPeer) (m : Moment) (message quiet : Message) (before now : Journaled) → Stands m → message ≡ quiet → Hears k p m quiet [] m
+    → heard (live_state m) k quiet ≡ live_state m → now ≡ flushed before → Gives (HasHeard k p m message m) before now
+nothing_heard k p m message quiet before now stands same hears live is = subst (λ (x : Message). Gives (HasHeard k p m x m) before now) (sym same) (
   [],
   is ∙ flushed_none before,
-  record { hears = (refl, refl); losses = losses_stay m m refl; leads = same_links m; live = refl; stands = stands },
-)
-
-pub skip_heard : (k : ℕ) (p : DeclaredPeer) (m : Moment) (message : Message) (before now : Journaled) → Stands m → message ≡ messages.Skip → now ≡ flushed before
-    → Gives (HasHeard k p m message m) before now
-skip_heard k p m message before now stands same is = subst (λ (x : Message). Gives (HasHeard k p m x m) before now) (sym same) (
-  [],
-  is ∙ flushed_none before,
-  record { hears = (refl, refl); losses = losses_stay m m refl; leads = same_links m; live = refl; stands = stands },
+  record { hears = hears; losses = losses_stay m m refl; leads = same_links m; live = sym live; stands = stands },
 )
 
 pub end_heard : (k : ℕ) (p : DeclaredPeer) (m m' : Moment) (message : Message) (before now : Journaled) → message ≡ messages.Notification → Gives (HasLost k p.session m m') before now

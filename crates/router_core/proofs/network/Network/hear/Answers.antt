@@ -1,13 +1,15 @@
-use Rattle.router_core.proofs.StepLemmas.{keepalive_heard, skip_heard, end_heard, fault_heard}
+use Rattle.std.proofs.Common.{refl}
+use Rattle.bgp_wire.specs.declared.message.Message.TheVariants as messages
+use Rattle.router_core.proofs.StepLemmas.{nothing_heard, end_heard, fault_heard}
 use Rattle.router_core.proofs.network.Network.hear.Goals as goal
 
 pub returns-in_ok-flush-in-Keepalive : goal.returns-in_ok-flush-in-Keepalive
 returns-in_ok-flush-in-Keepalive c =
-    keepalive_heard c.args.number c.args.peer c.args.self.now c.args.message c.args.journal.now c.flush-in-Keepalive.new.self c.requires.stands c.in-Keepalive.is c.in_ok-flush-in-Keepalive.ensures.ok
+    nothing_heard c.args.number c.args.peer c.args.self.now c.args.message messages.Keepalive c.args.journal.now c.flush-in-Keepalive.new.self c.requires.stands c.in-Keepalive.is (refl, refl) refl c.in_ok-flush-in-Keepalive.ensures.ok
 
 pub returns-in_ok-flush-in-Skip : goal.returns-in_ok-flush-in-Skip
 returns-in_ok-flush-in-Skip c =
-    skip_heard c.args.number c.args.peer c.args.self.now c.args.message c.args.journal.now c.flush-in-Skip.new.self c.requires.stands c.in-Skip.is c.in_ok-flush-in-Skip.ensures.ok
+    nothing_heard c.args.number c.args.peer c.args.self.now c.args.message messages.Skip c.args.journal.now c.flush-in-Skip.new.self c.requires.stands c.in-Skip.is (refl, refl) refl c.in_ok-flush-in-Skip.ensures.ok
 
 pub returns-in_ok-lose-in-Notification : goal.returns-in_ok-lose-in-Notification
 returns-in_ok-lose-in-Notification c =
