@@ -1,13 +1,10 @@
 //! What a map holds after changes, and which of two candidates is the nearer.
 
-use addr4::{Prefix, read_prefix};
+use crate::prefixes::prefix;
+use addr4::Prefix;
 use link_change::{Change, Turn, apply, nearer};
 use std::collections::BTreeMap;
 use std::test::Fail;
-
-fn prefix(text: &str) -> Result<Prefix, Fail> {
-    Ok(read_prefix(text.as_bytes()).ok().ok_or("no prefix")?)
-}
 
 #[test]
 fn changes_add_replace_and_delete(rt: HostRuntime) -> Result<(), Fail> {

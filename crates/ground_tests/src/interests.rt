@@ -1,6 +1,7 @@
 //! Static routes that nest, and interests that a change reaches.
 
-use addr4::{Memory, Prefix, Row, read_addr, read_prefix};
+use crate::prefixes::prefix;
+use addr4::{Memory, Prefix, Row, read_addr};
 use register_interest::{Interest, Register};
 use std::alloc::Global;
 use std::test::Fail;
@@ -16,10 +17,6 @@ impl Row for Metric {
     fn same(&self, other: &Metric) -> bool {
         self.0 == other.0
     }
-}
-
-fn prefix(text: &str) -> Result<Prefix, Fail> {
-    Ok(read_prefix(text.as_bytes()).ok().ok_or("prefix")?)
 }
 
 /// Four routes that nest.

@@ -16,6 +16,8 @@ mod interests;
 #[cfg(test)]
 mod merges;
 #[cfg(test)]
+mod prefixes;
+#[cfg(test)]
 mod rows;
 #[cfg(test)]
 mod streams;

@@ -1,12 +1,9 @@
 //! A filter that is edited, and edited again before all routes have gone through it.
 
-use addr4::{Place, Prefix, read_prefix};
+use crate::prefixes::prefix;
+use addr4::{Place, Prefix};
 use pass_core::Pass;
 use std::test::Fail;
-
-fn prefix(text: &str) -> Result<Prefix, Fail> {
-    Ok(read_prefix(text.as_bytes()).ok().ok_or("no prefix")?)
-}
 
 #[test]
 fn an_edit_reaches_the_prefixes_in_their_order(rt: HostRuntime) -> Result<(), Fail> {

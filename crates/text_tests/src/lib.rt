@@ -10,6 +10,8 @@ mod journals;
 #[cfg(test)]
 mod lines;
 #[cfg(test)]
+mod paths;
+#[cfg(test)]
 mod rules;
 #[cfg(test)]
 mod runs;

@@ -1,10 +1,8 @@
 //! The texts of lines, loud and quiet, and the names that are read.
 
+use crate::paths::path;
 use addr4::{Addr, Memory, Prefix, Row, read_prefix};
-use bgp_attr::{
-    AsPath, Attrs, Neighbour, Numbers, Octets, Origin, Route, Segment, SegmentKind, SharedAttrs,
-    UnrecognizedAttrs,
-};
+use bgp_attr::{Attrs, Neighbour, Octets, Origin, Route, SharedAttrs, UnrecognizedAttrs};
 use journal_text::{Code, Entry, Journal, Line, Link, Task, Value};
 use link_change::Change;
 use rib_route::{External, FibRow, Iface, Interior, Proto};
@@ -28,18 +26,11 @@ fn half() -> Result<Prefix, Fail> {
     Ok(read_prefix(b"0.0.0.0/1").ok().ok_or("no prefix")?)
 }
 
-/// The path (65001).
-fn path(alloc: Global) -> Result<AsPath, Memory> {
-    let numbers = Numbers::from_vec(Vec::from_slice(alloc, &[65001])?);
-    let kind = SegmentKind::Sequence;
-    Ok(AsPath::from_vec(vec![in alloc; Segment { kind, numbers }]?))
-}
-
-/// That path and the next hop 192.0.2.1.
+/// The path (65001) and the next hop 192.0.2.1.
 fn attrs(alloc: Global, origin: Origin) -> Result<SharedAttrs, Memory> {
     let attrs = Attrs {
         origin,
-        path: path(alloc)?,
+        path: path(alloc, &[65001])?,
         next_hop: Addr::new(0xc000_0201),
         med: None,
         local_pref: None,

@@ -1,10 +1,8 @@
 //! Texts in and outside the grammar, and routes that rules judge.
 
+use crate::paths::path;
 use addr4::{Addr, Memory, Prefix, read_prefix};
-use bgp_attr::{
-    AsPath, Attrs, Numbers, Origin, Profile, Route, Segment, SegmentKind, SharedAttrs,
-    UnrecognizedAttrs,
-};
+use bgp_attr::{Attrs, Origin, Profile, Route, SharedAttrs, UnrecognizedAttrs};
 use policy_rules::{BadRule, Rules, judge, read_rules};
 use std::alloc::Global;
 use std::test::Fail;
@@ -67,18 +65,11 @@ fn more_than_64_rules_are_read(rt: HostRuntime) -> Result<(), Fail> {
     Ok(())
 }
 
-/// The path `65001 0`.
-fn path(alloc: Global) -> Result<AsPath, Memory> {
-    let numbers = Numbers::from_vec(Vec::from_slice(alloc, &[65001, 0])?);
-    let kind = SegmentKind::Sequence;
-    Ok(AsPath::from_vec(vec![in alloc; Segment { kind, numbers }]?))
-}
-
-/// A route with that path, ORIGIN 0, preference 100 and metric 10.
+/// A route with the path `65001 0`, ORIGIN 0, preference 100 and metric 10.
 fn route(alloc: Global) -> Result<Route, Memory> {
     let attrs = Attrs {
         origin: Origin::Igp,
-        path: path(alloc)?,
+        path: path(alloc, &[65001, 0])?,
         next_hop: Addr::new(0xc000_0201),
         med: Some(10),
         local_pref: None,
