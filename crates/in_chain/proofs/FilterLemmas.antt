@@ -22,20 +22,23 @@ use Rattle.journal_text.specs.declared.link.Link.TheVariants as names
 use Rattle.journal_text.specs.declared.link.Task.TheVariants.{Del, Fin}
 use Rattle.journal_text.specs.declared.value.Value.{Value}
 use Rattle.journal_text.specs.declared.entry.Entry.{Entry}
-use Rattle.journal_text.specs.Journals.{Journaled, with_entries, Adds, route_rows, route_change}
+use Rattle.journal_text.specs.Journals.{Journaled, with_entries, Adds}
+use Rattle.journal_text.specs.Values.{route_rows, attrs_value, route_value, valued_change}
 use Rattle.journal_text.specs.Walk.{Links, with_link, Leads}
 use Rattle.journal_text.proofs.LinkLemmas.{same_link-yes}
 use Rattle.journal_text.proofs.JournalLemmas.{with_entries_none}
-use Rattle.journal_text.proofs.WalkLemmas.{with_link_here, with_link_twice, leads_nowhere, leads_append, route_change_leads}
-use Rattle.in_chain.proofs.FallLemmas.{and_then, cut_before, filter_goes_out, goes_on}
+use Rattle.journal_text.proofs.WalkLemmas.{leads_nowhere, leads_append, leads_over}
 use Rattle.in_chain.proofs.TurnLemmas.{fewer_turns}
-use Rattle.in_chain.specs.Incomings.{Incoming, in_rows, is_incoming, incoming_links, beside_incoming}
+use Rattle.loss_chain.specs.declared.owner.Owner.TheVariants as owners
+use Rattle.journal_text.specs.Values.{attrs_value}
+use Rattle.loss_chain.specs.Tables.{Tables, lowest_rows}
+use Rattle.loss_chain.specs.Falls.{FallsTables, way_from}
+use Rattle.loss_chain.specs.Steps.{SweepsTables, IsTakenTables, table_of}
+use Rattle.journal_text.proofs.FallLemmas.{and_then, cut_before, goes_on, goes_out}
+use Rattle.in_chain.specs.Incomings.{Incoming, incoming_of, incoming_tables, in_rows, is_incoming, incoming_links, beside_incoming}
 use Rattle.in_chain.specs.Chains.{Chained, filt_rows, is_named, links_of, beside}
-use Rattle.in_chain.specs.Falls.{FallsIncoming, LeadsIncoming, Falls, LeadsChain, way_from}
-use Rattle.in_chain.specs.IncomingSteps.{SweepsIncoming, IsTakenIncoming, table_of}
+use Rattle.in_chain.specs.Falls.{LeadsIncoming, Falls, LeadsChain}
 use Rattle.in_chain.specs.Steps.{filter_entries, Rewalks, Turned, IsTaken}
-use Rattle.in_chain.specs.Stages.{incoming_of, rows_of, stage_candidates}
-use Rattle.in_chain.specs.declared.stage.Stage.{Stage}
 
 -- ---- the links of a chain are those of its upper part, and `filt.K`
 
@@ -126,16 +129,7 @@ in_frame old new x entries same leads others =
     let Q : Links Value → Type 0 = λ l. Leads (with_link (beside_incoming others old) (Filt old.number) x) entries l in
     subst Q to (subst P (sym (set_filter others old x)) inside)
 
--- what the filter sends leads on from the rows of its link to the new ones
-leads_filter : (links : Links Value) (k : ℕ) (old new : Rows Route) (p : Network) (sent : Option (Change Route)) → IsSent old new p sent
-    → Leads (with_link links (Filt k) (Some (route_rows old))) (filter_entries k sent) (with_link links (Filt k) (Some (route_rows new)))
-leads_filter links k old new p None is = leads_nowhere _ _ (ap (λ (r : Rows Route). with_link links (Filt k) (Some (route_rows r))) (sym is))
-leads_filter links k old new p (Some change) is =
-    let step = route_change_leads (with_link links (Filt k) (Some (route_rows old))) (Filt k) old new p change (with_link_here links (Filt k) (Some (route_rows old))) is in
-    let P : Links Value → Type 0 = λ l. Leads (with_link links (Filt k) (Some (route_rows old))) (filter_entries k (Some change)) l in
-    subst P (with_link_twice links (Filt k) (Some (route_rows old)) (Some (route_rows new))) step
-
--- the same of links that are a chain's
+-- what leads on from the upper part and then from the filter, of links that are a chain's
 as_chains : (old new : Chained) (entries : List (Entry Value)) → new.incoming.number ≡ old.incoming.number
     → ((others : Links Value) → Leads (over (beside_incoming others old.incoming) old) entries (with_link (beside_incoming others new.incoming) (Filt old.incoming.number) (Some (route_rows (filt_rows new)))))
     → LeadsChain old entries new
@@ -152,7 +146,7 @@ leads_on : (old new : Chained) (p : Network) (sent : Option (Change Route)) (ent
 leads_on old new p sent entries same leads is =
     as_chains old new (entries ++ filter_entries old.incoming.number sent) same (λ others.
     leads_append _ _ _ entries (filter_entries old.incoming.number sent) (in_frame old.incoming new.incoming (Some (route_rows (filt_rows old))) entries same leads others)
-    (leads_filter (beside_incoming others new.incoming) old.incoming.number (filt_rows old) (filt_rows new) p sent is))
+    (leads_over route_value (λ a b e. cc) (beside_incoming others new.incoming) (Filt old.incoming.number) (filt_rows old) (filt_rows new) p sent is))
 
 -- entries of the upper part alone, where the rows of `filt.K` stay the same
 pub leads_kept : (old new : Chained) (entries : List (Entry Value)) → new.incoming.number ≡ old.incoming.number → LeadsIncoming old.incoming entries new.incoming → filt_rows new ≡ filt_rows old
@@ -169,34 +163,38 @@ leads_walk old new p sent same is =
     let numbers : new.incoming.number ≡ old.incoming.number = ap (λ (i : Incoming). i.number) same in
     as_chains old new (filter_entries old.incoming.number sent) numbers (λ others.
     let P : Incoming → Type 0 = λ i. Leads (over (beside_incoming others old.incoming) old) (filter_entries old.incoming.number sent) (with_link (beside_incoming others i) (Filt old.incoming.number) (Some (route_rows (filt_rows new)))) in
-    subst P (sym same) (leads_filter (beside_incoming others old.incoming) old.incoming.number (filt_rows old) (filt_rows new) p sent is))
+    subst P (sym same) (leads_over route_value (λ a b e. cc) (beside_incoming others old.incoming) (Filt old.incoming.number) (filt_rows old) (filt_rows new) p sent is))
+
+-- the chain with other live routes and lost tables
+abbrev pub above : Chained → Tables Attrs → Chained
+above c t = below c (incoming_of c.incoming.number t)
 
 -- where the rows of `in.K` stay, those of `filt.K` do
-pub filt_kept : (c : Chained) (i : Incoming) → in_rows i ≡ in_rows c.incoming → filt_rows (below c i) ≡ filt_rows c
-filt_kept c i same = ap (passed_rows c.me c.peer c.filter) same
+pub filt_kept : (c : Chained) (t : Tables Attrs) → lowest_rows t ≡ in_rows c.incoming → filt_rows (above c t) ≡ filt_rows c
+filt_kept c t same = ap (passed_rows c.me c.peer c.filter) same
 
 -- ---- falls
 
 -- nothing comes into the filter
-pub falls_quietly : (old : Chained) (i : Incoming) (p : Network) (way : List Link) (before now : Journaled) → i.number ≡ old.incoming.number → in_rows i ≡ in_rows old.incoming
-    → Adds (FallsIncoming old.incoming i p way None) before now → Adds (Falls old (below old i) p (way ++ Filt old.incoming.number ∷ []) None) before now
-falls_quietly old i p way before now same rows (entries, now_is, fall) = (
+pub falls_quietly : (old : Chained) (t : Tables Attrs) (p : Network) (way : List Link) (before now : Journaled) → lowest_rows t ≡ in_rows old.incoming
+    → Adds (FallsTables attrs_value (owners.Peer old.incoming.number) (incoming_tables old.incoming) t p way None) before now → Adds (Falls old (above old t) p (way ++ Filt old.incoming.number ∷ []) None) before now
+falls_quietly old t p way before now rows (entries, now_is, fall) = (
   entries,
   now_is,
-  record { leads = leads_kept old (below old i) entries same fall.leads (filt_kept old i rows); down = cut_before p way (Filt old.incoming.number) entries fall.down },
+  record { leads = leads_kept old (above old t) entries refl fall.leads (filt_kept old t rows); down = cut_before p way (Filt old.incoming.number ∷ []) entries fall.down },
 )
 
 -- a change comes into the filter
-pub falls_on : (old : Chained) (i : Incoming) (p : Network) (way : List Link) (change : Change Attrs) (sent : Option (Change Route)) (before mid now : Journaled) → i.number ≡ old.incoming.number
-    → Adds (FallsIncoming old.incoming i p way (Some change)) before mid → IsSent (filt_rows old) (filt_rows (below old i)) p sent → now ≡ with_entries mid (filter_entries old.incoming.number sent)
-    → Adds (Falls old (below old i) p (way ++ Filt old.incoming.number ∷ []) sent) before now
-falls_on old i p way change sent before mid now same (entries, mid_is, fall) is now_is =
+pub falls_on : (old : Chained) (t : Tables Attrs) (p : Network) (way : List Link) (change : Change Attrs) (sent : Option (Change Route)) (before mid now : Journaled)
+    → Adds (FallsTables attrs_value (owners.Peer old.incoming.number) (incoming_tables old.incoming) t p way (Some change)) before mid → IsSent (filt_rows old) (filt_rows (above old t)) p sent → now ≡ with_entries mid (filter_entries old.incoming.number sent)
+    → Adds (Falls old (above old t) p (way ++ Filt old.incoming.number ∷ []) sent) before now
+falls_on old t p way change sent before mid now (entries, mid_is, fall) is now_is =
     let k = old.incoming.number in (
       entries ++ filter_entries k sent,
       and_then before mid now entries (filter_entries k sent) mid_is now_is,
       record {
-        leads = leads_on old (below old i) p sent entries same fall.leads is;
-        down = goes_on p way (Filt k) change entries (filter_entries k sent) sent fall.down (filter_goes_out k (filt_rows old) (filt_rows (below old i)) p sent is);
+        leads = leads_on old (above old t) p sent entries refl fall.leads is;
+        down = goes_on p way (Filt k ∷ []) change entries (filter_entries k sent) sent fall.down (goes_out route_value (Filt k) (filt_rows old) (filt_rows (above old t)) p sent is);
       },
     )
 
@@ -206,39 +204,36 @@ and_false : (a b : Bool) → b ≡ false → (a && b) ≡ false
 and_false true b e = e
 and_false false b e = refl
 
-pub sweeps_nothing : (old : Chained) (i : Incoming) (session : ℕ) (before now : Journaled) → IsTakenIncoming old.incoming i session before now Nothing
-    → IsTaken old (below old i) (Del old.incoming.number session) before now Nothing
-sweeps_nothing old i session before now (none, (same, now_is)) =
-    (and_false (old.incoming.number == old.incoming.number) (is_some (table_of session old.incoming.deletions)) (ap is_some none), (ap (below old) same, now_is))
+pub sweeps_nothing : (old : Chained) (t : Tables Attrs) (session : ℕ) (before now : Journaled) → IsTakenTables attrs_value (owners.Peer old.incoming.number) (incoming_tables old.incoming) t session before now Nothing
+    → IsTaken old (above old t) (Del old.incoming.number session) before now Nothing
+sweeps_nothing old t session before now (none, (same, now_is)) =
+    (and_false (old.incoming.number == old.incoming.number) (is_some (table_of session old.incoming.deletions)) (ap is_some none), (ap (above old) same, now_is))
 
-pub sweeps_quietly_below : (old : Chained) (i : Incoming) (session : ℕ) (before now : Journaled) → IsTakenIncoming old.incoming i session before now Quiet
-    → IsTaken old (below old i) (Del old.incoming.number session) before now Quiet
-sweeps_quietly_below old i session before now (entries, now_is, s) =
+pub sweeps_quietly_below : (old : Chained) (t : Tables Attrs) (session : ℕ) (before now : Journaled) → IsTakenTables attrs_value (owners.Peer old.incoming.number) (incoming_tables old.incoming) t session before now Quiet
+    → IsTaken old (above old t) (Del old.incoming.number session) before now Quiet
+sweeps_quietly_below old t session before now (entries, now_is, s) =
     let k = old.incoming.number in
-    let numbers : i.number ≡ k = ap (λ (x : Incoming). x.number) s.after in
-    let fall = falls_quietly old i s.prefix (way_from k session (In k) old.incoming.deletions) before now numbers s.rows (entries, now_is, s.fall) in (
+    let fall = falls_quietly old t s.prefix (way_from (owners.Peer k) session (In k) old.incoming.deletions) before now s.rows (entries, now_is, s.fall) in (
       fall.0,
       fall.1,
       (
         refl,
-        record { prefix = s.prefix; row = s.row; table = s.table; stands = s.stands; least = s.least; after = ap (below old) s.after; fall = fall.2; rows = filt_kept old i s.rows },
+        record { prefix = s.prefix; row = s.row; table = s.table; stands = s.stands; least = s.least; after = ap (above old) s.after; fall = fall.2; rows = filt_kept old t s.rows },
       ),
     )
 
-sweeps_below : (old : Chained) (i : Incoming) (session : ℕ) (change : Change Attrs) (sent : Option (Change Route)) (before mid now : Journaled)
-    → Adds (SweepsIncoming old.incoming i session (Some change)) before mid → FiltersOn old.me old.peer old.filter change sent → now ≡ with_entries mid (filter_entries i.number sent)
-    → Adds (Turned old (below old i) (Del old.incoming.number session) sent) before now
-sweeps_below old i session change sent before mid now (entries, mid_is, s) filters now_is =
+sweeps_below : (old : Chained) (t : Tables Attrs) (session : ℕ) (change : Change Attrs) (sent : Option (Change Route)) (before mid now : Journaled)
+    → Adds (SweepsTables attrs_value (owners.Peer old.incoming.number) (incoming_tables old.incoming) t session (Some change)) before mid → FiltersOn old.me old.peer old.filter change sent → now ≡ with_entries mid (filter_entries old.incoming.number sent)
+    → Adds (Turned old (above old t) (Del old.incoming.number session) sent) before now
+sweeps_below old t session change sent before mid now (entries, mid_is, s) filters now_is =
     let k = old.incoming.number in
-    let numbers : i.number ≡ k = ap (λ (x : Incoming). x.number) s.after in
-    let is = filters (in_rows old.incoming) (in_rows i) s.prefix s.rows in
-    let written = now_is ∙ ap (λ n. with_entries mid (filter_entries n sent)) numbers in
-    let fall = falls_on old i s.prefix (way_from k session (In k) old.incoming.deletions) change sent before mid now numbers (entries, mid_is, s.fall) is written in (
+    let is = filters (in_rows old.incoming) (lowest_rows t) s.prefix s.rows in
+    let fall = falls_on old t s.prefix (way_from (owners.Peer k) session (In k) old.incoming.deletions) change sent before mid now (entries, mid_is, s.fall) is now_is in (
       fall.0,
       fall.1,
       (
         refl,
-        record { prefix = s.prefix; row = s.row; table = s.table; stands = s.stands; least = s.least; after = ap (below old) s.after; fall = fall.2; rows = is },
+        record { prefix = s.prefix; row = s.row; table = s.table; stands = s.stands; least = s.least; after = ap (above old) s.after; fall = fall.2; rows = is },
       ),
     )
 
@@ -246,11 +241,11 @@ turned : (old new : Chained) (k session : ℕ) (sent : Option (Change Route)) (b
 turned old new k session None before now adds = adds
 turned old new k session (Some change) before now adds = adds
 
-pub sweeps_on_below : (old : Chained) (i : Incoming) (session : ℕ) (change : Change Attrs) (sent : Option (Change Route)) (before mid now : Journaled)
-    → IsTakenIncoming old.incoming i session before mid (Sent change) → FiltersOn old.me old.peer old.filter change sent → now ≡ with_entries mid (filter_entries i.number sent)
-    → IsTaken old (below old i) (Del old.incoming.number session) before now (taken_turn sent)
-sweeps_on_below old i session change sent before mid now taken filters now_is =
-    turned old (below old i) old.incoming.number session sent before now (sweeps_below old i session change sent before mid now taken filters now_is)
+pub sweeps_on_below : (old : Chained) (t : Tables Attrs) (session : ℕ) (change : Change Attrs) (sent : Option (Change Route)) (before mid now : Journaled)
+    → IsTakenTables attrs_value (owners.Peer old.incoming.number) (incoming_tables old.incoming) t session before mid (Sent change) → FiltersOn old.me old.peer old.filter change sent → now ≡ with_entries mid (filter_entries old.incoming.number sent)
+    → IsTaken old (above old t) (Del old.incoming.number session) before now (taken_turn sent)
+sweeps_on_below old t session change sent before mid now taken filters now_is =
+    turned old (above old t) old.incoming.number session sent before now (sweeps_below old t session change sent before mid now taken filters now_is)
 
 -- ---- turns of the filter's walk
 
@@ -260,13 +255,6 @@ refilled c f = record { incoming = c.incoming; me = c.me; peer = c.peer; filter 
 
 abbrev pub IsWalkOf : Chained → Passed (List Rule) → Turn Route → Type 0
 IsWalkOf c f turn = IsWalked c.me c.peer (with_rows (in_rows c.incoming)) (in_rows c.incoming) c.filter f turn
-
--- the walk goes over the lowest stage, whose rows are those of `in.K`
-pub walk_of_lowest : (c : Chained) (stage : Stage) (f : Passed (List Rule)) (turn : Turn Route) → incoming_of c.incoming.number stage ≡ c.incoming
-    → IsWalked c.me c.peer (stage_candidates stage) (rows_of stage) c.filter f turn → IsWalkOf c f turn
-walk_of_lowest c stage f turn same walked =
-    let P : Rows Attrs → Type 0 = λ r. IsWalked c.me c.peer (with_rows r) r c.filter f turn in
-    subst P (ap in_rows same) walked
 
 rewalks : (c : Chained) (f : Passed (List Rule)) (sent : Option (Change Route)) → Walks c.me c.peer (with_rows (in_rows c.incoming)) (in_rows c.incoming) c.filter f sent
     → LeadsChain c (filter_entries c.incoming.number sent) (refilled c f) → Rewalks c (refilled c f) sent (filter_entries c.incoming.number sent)
@@ -281,8 +269,8 @@ walks_quietly c f j w =
     let same = a_walk_leads c.me c.peer (with_rows (in_rows c.incoming)) (in_rows c.incoming) c.filter f Quiet w in
     ([], sym (with_entries_none j), (refl, rewalks c f None w (leads_kept c (refilled c f) [] refl (λ others. leads_nowhere _ _ refl) same)))
 
-pub walks_on : (c : Chained) (f : Passed (List Rule)) (change : Change Route) (before now : Journaled) → IsWalkOf c f (Sent change) → now ≡ with_entries before (route_change (Filt c.incoming.number) change)
+pub walks_on : (c : Chained) (f : Passed (List Rule)) (change : Change Route) (before now : Journaled) → IsWalkOf c f (Sent change) → now ≡ with_entries before (valued_change route_value (Filt c.incoming.number) change)
     → IsTaken c (refilled c f) (Fin c.incoming.number) before now (Sent change)
 walks_on c f change before now w now_is =
     let is = a_walk_leads c.me c.peer (with_rows (in_rows c.incoming)) (in_rows c.incoming) c.filter f (Sent change) w in
-    (route_change (Filt c.incoming.number) change, now_is, (refl, rewalks c f (Some change) w (leads_walk c (refilled c f) change.prefix (Some change) refl is)))
+    (valued_change route_value (Filt c.incoming.number) change, now_is, (refl, rewalks c f (Some change) w (leads_walk c (refilled c f) change.prefix (Some change) refl is)))

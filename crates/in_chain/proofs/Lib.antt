@@ -1,8 +1,2 @@
-mod RowLemmas
-mod FallLemmas
-mod PartLemmas
-mod WorkLemmas
-mod WholeLemmas
-mod CountLemmas
 mod TurnLemmas
 mod FilterLemmas

@@ -17,7 +17,7 @@ use Rattle.journal_text.specs.declared.link.Link.{Link}
 use Rattle.journal_text.specs.declared.link.Link.TheVariants.{In, Peer, Filt}
 use Rattle.journal_text.specs.declared.value.Value.{Value}
 use Rattle.journal_text.specs.Walk.{Links}
-use Rattle.journal_text.specs.Journals.{route_rows}
+use Rattle.journal_text.specs.Values.{route_rows}
 use Rattle.in_chain.specs.Incomings.{Incoming, in_rows, incoming_links, IsIncoming, incoming_count}
 
 -- the live routes and the lost tables; the words of this speaker and of the peer; the rules of the incoming filter

@@ -11,36 +11,23 @@ use Rattle.journal_text.specs.declared.value.Value.{Value}
 use Rattle.journal_text.specs.declared.entry.Entry.{Entry}
 use Rattle.journal_text.specs.Walk.{Links, Leads}
 use Rattle.journal_text.specs.Falls.{GoesDown}
+use Rattle.loss_chain.specs.declared.owner.Owner.TheVariants as owners
+use Rattle.loss_chain.specs.Falls.{way_down, way_from}
 use Rattle.in_chain.specs.Incomings.{Incoming, beside_incoming}
 use Rattle.in_chain.specs.Chains.{Chained, beside}
-
--- from the live routes down to the link `out`, past these lost tables
-abbrev pub way_down : ℕ → Link → List (Lost Attrs) → List Link
-way_down k out [] = out ∷ []
-way_down k out (d ∷ ds) = way_down k (Peer k d.number) ds ++ out ∷ []
-
--- from the stage of a session down to the link `out`
-abbrev pub way_from : ℕ → ℕ → Link → List (Lost Attrs) → List Link
-way_from k session out [] = []
-way_from k session out (d ∷ ds) = if d.number == session then out ∷ [] else way_from k session (Peer k d.number) ds ++ out ∷ []
 
 -- Whatever other links there are, the entries lead by the rules of the journal from the old links of the upper part to its new
 -- ones.
 abbrev pub LeadsIncoming : Incoming → List (Entry Value) → Incoming → Type 0
 LeadsIncoming old entries new = (others : Links Value) → Leads (beside_incoming others old) entries (beside_incoming others new)
 
--- a fall at a prefix down this way, in the upper part
-pub record FallsIncoming (old new : Incoming) (p : Network) (way : List Link) (sent : Option (Change Attrs)) (entries : List (Entry Value)) : Type 0 where
-  pub leads : LeadsIncoming old entries new
-  pub down : GoesDown p way sent entries
-
 -- from the live routes of a chain down to `filt.K`
 abbrev pub way_of_feed : Incoming → List Link
-way_of_feed c = way_down c.number (In c.number) c.deletions ++ Filt c.number ∷ []
+way_of_feed c = way_down (owners.Peer c.number) (In c.number) c.deletions ++ Filt c.number ∷ []
 
 -- from the stage of a session down to `filt.K`
 abbrev pub way_of_sweep : ℕ → Incoming → List Link
-way_of_sweep session c = way_from c.number session (In c.number) c.deletions ++ Filt c.number ∷ []
+way_of_sweep session c = way_from (owners.Peer c.number) session (In c.number) c.deletions ++ Filt c.number ∷ []
 
 -- Whatever other links there are, the entries lead by the rules of the journal from the chain's old links to its new ones.
 abbrev pub LeadsChain : Chained → List (Entry Value) → Chained → Type 0

@@ -8,14 +8,6 @@ use Rattle.link_change.specs.Rows.{Rows}
 use Rattle.in_chain.specs.Chains.{Chained, row_count, turns_left}
 use Rattle.in_chain.specs.Incomings.{Incoming, IsIncoming, in_rows, incoming_count}
 
--- the rows are those of a finite map with so many entries
-abbrev pub Counts : Rows Attrs → ℕ → Type 0
-Counts rows n = (m : FinMap prefix_cmp Attrs) × (map.get m ≡ rows) × (map.len m ≡ n)
-
--- The tables of a chain have together as many rows as `in.K`.
-abbrev pub RowsAreCounted : Type 0
-RowsAreCounted = (c : Incoming) → IsIncoming c → Counts (in_rows c) (incoming_count c)
-
 -- A filter's walk, and that of rules which wait, take together at most two turns more than twice the rows of `in.K`.
 abbrev pub TurnsAreBounded : Type 0
 TurnsAreBounded = (c : Chained) → turns_left c ≤ 2 * (row_count c + 1)

@@ -21,9 +21,11 @@ use Rattle.journal_text.specs.declared.link.Task.{Task}
 use Rattle.journal_text.specs.declared.link.Task.TheVariants.{Del, Fin, Rdel}
 use Rattle.journal_text.specs.declared.value.Value.{Value}
 use Rattle.journal_text.specs.declared.entry.Entry.{Entry}
-use Rattle.journal_text.specs.Journals.{Journaled, Adds, route_change}
+use Rattle.journal_text.specs.Journals.{Journaled, Adds}
+use Rattle.journal_text.specs.Values.{route_value, sent_entries}
 use Rattle.in_chain.specs.Incomings.{in_rows}
-use Rattle.in_chain.specs.IncomingSteps.{new_incoming, fed_incoming, lost_incoming, welded_incoming, swept_incoming, table_of}
+use Rattle.loss_chain.specs.Steps.{table_of}
+use Rattle.in_chain.specs.IncomingSteps.{new_incoming, fed_incoming, lost_incoming, welded_incoming, swept_incoming}
 use Rattle.in_chain.specs.Chains.{Chained, filt_rows, turns_left}
 use Rattle.in_chain.specs.Falls.{Falls, LeadsChain, way_of_sweep}
 
@@ -67,8 +69,7 @@ pub record Sweeps (old new : Chained) (session : ℕ) (sent : Option (Change Rou
 
 -- the entry of what the filter sends
 abbrev pub filter_entries : ℕ → Option (Change Route) → List (Entry Value)
-filter_entries k None = []
-filter_entries k (Some change) = route_change (Filt k) change
+filter_entries k = sent_entries route_value (Filt k)
 
 -- A turn of the filter's walk over the rows of `in.K`: nothing else changes, and fewer turns are left.
 pub record Rewalks (old new : Chained) (sent : Option (Change Route)) (entries : List (Entry Value)) : Type 0 where

@@ -9,21 +9,22 @@ ghost use Rattle.journal_text.specs.declared.link.Link.TheVariants as names;
 ghost use Rattle.journal_text.specs.declared.link.Task.TheVariants as tasks;
 ghost use Rattle.journal_text.specs.declared.value.Value.{Value};
 ghost use Rattle.journal_text.specs.Walk.{HasRow};
-ghost use Rattle.journal_text.specs.Journals.{Adds, with_entries, route_rows};
-ghost use Rattle.in_chain.specs.Incomings.{NoneEmpty, OneEmptyAtMost};
+ghost use Rattle.journal_text.specs.Journals.{Adds, with_entries};
+ghost use Rattle.journal_text.specs.Values.{route_rows};
+ghost use Rattle.loss_chain.specs.declared.owner.Owner.TheVariants as owners;
+ghost use Rattle.loss_chain.specs.Tables.{NoneEmpty, OneEmptyAtMost};
+ghost use Rattle.loss_chain.specs.Steps.{weld_entries, oldest_of};
 ghost use Rattle.in_chain.specs.Chains.{links_of, filt_rows, candidates_of, IsChain, row_count};
-ghost use Rattle.in_chain.specs.Stages.{incoming_of};
 ghost use Rattle.in_chain.specs.Falls.{Falls, LeadsChain, way_of_feed};
-ghost use Rattle.in_chain.specs.IncomingSteps.{loss_entries, weld_entries, oldest_of, overdue_of};
+ghost use Rattle.in_chain.specs.IncomingSteps.{loss_entries, overdue_of};
 ghost use Rattle.in_chain.specs.Steps.{new_chain, fed, lost, welded, refiltered, filter_entries, IsTaken};
 
-use crate::incoming::Incoming;
-use crate::stage::Stage;
 use addr4::{Memory, Place, Prefix};
 use bgp_attr::{Neighbour, Route, SharedAttrs, Speaker};
 use filter_bank::FilterBank;
 use journal_text::{Journal, Link, Task, Value};
 use link_change::{Change, Turn};
+use loss_chain::{LossChain, Owner};
 use policy_rules::Rules;
 use std::alloc::Global;
 use std::marker::Model;
@@ -34,13 +35,14 @@ use std::marker::Model;
 pub struct Chain {
     me: Speaker,
     peer: Neighbour,
-    incoming: Incoming,
+    number: u32,
+    stages: LossChain<SharedAttrs>,
     filter: FilterBank,
 }
 
 impl Model for Chain {
     ghost use Rattle.std.specs.Coded.{coded_list};
-    ghost use Rattle.in_chain.specs.Incomings.{incoming_code};
+    ghost use Rattle.in_chain.specs.Incomings.{incoming_code, incoming_of};
     ghost use Rattle.in_chain.specs.Chains.{Chained, chained_code};
     ghost use Rattle.pass_core.specs.Passed.{passed_code};
     ghost use Rattle.bgp_attr.specs.contracts.attrs.Attrs as attrs_row;
@@ -52,21 +54,7 @@ impl Model for Chain {
 
     ghost coded = { chained_code (incoming_code attrs_row.the_row.coded) speaker_row.the_row.coded neighbour_row.the_row.coded (passed_code (coded_list rule_row.the_row.coded)) };
 
-    ghost view = { λ c. record { incoming = c.incoming; me = c.me; peer = c.peer; filter = c.filter } };
-}
-
-// Writes the line of what the filter sends, if it sends something.
-fn send_route(
-    journal: &mut Journal,
-    number: u32,
-    sent: &Option<Change<Route>>,
-) -> Result<(), Memory>
-    ensures { OnOk result (journal.new ≡ with_entries journal.old (filter_entries number sent.now)) }
-{
-    match sent {
-        Some(change) => journal.push_route_change(Link::Filt(number), change),
-        None => Ok(()),
-    }
+    ghost view = { λ c. record { incoming = incoming_of c.number c.stages; me = c.me; peer = c.peer; filter = c.filter } };
 }
 
 impl Chain {
@@ -75,11 +63,11 @@ impl Chain {
     pub fn new(alloc: Global, me: Speaker, peer: Neighbour) -> Result<Chain, Memory>
         ensures { IfOk result (λ chain. chain ≡ new_chain me peer) }
     {
-        let incoming = Incoming::new(alloc, u32::from(peer.number))?;
         Ok(Chain {
+            number: u32::from(peer.number),
+            stages: LossChain::new(alloc),
             me,
             peer,
-            incoming,
             filter: FilterBank::new(alloc),
         })
     }
@@ -88,15 +76,7 @@ impl Chain {
     pub fn number(&self) -> u32
         ensures { result ≡ self.now.incoming.number }
     {
-        self.incoming.number()
-    }
-
-    /// The lowest stage whose links carry attributes; it holds all others of them. The link out of it is `in.K`, into the
-    /// filter.
-    pub fn lowest(&self) -> &Stage
-        ensures { incoming_of self.now.incoming.number result.now ≡ self.now.incoming }
-    {
-        self.incoming.lowest()
+        self.number
     }
 
     /// The incoming filter, between `in.K` and `filt.K`.
@@ -123,11 +103,11 @@ impl Chain {
         ensures chain { OnOk result (IsChain self.new) }
         ensures one_empty { OnOk result (OneEmptyAtMost self.new.incoming.deletions) }
     {
-        let Some(change) = self.incoming.feed(p, new, journal)? else {
+        let Some(change) = self.stages.feed(Owner::Peer(self.number), p, new, journal)? else {
             return Ok(None);
         };
         let sent = self.filter.take_in(change, &self.me, &self.peer);
-        send_route(journal, self.incoming.number(), &sent)?;
+        journal.push_sent(Link::Filt(self.number), &sent)?;
         Ok(sent)
     }
 
@@ -136,14 +116,14 @@ impl Chain {
     pub fn overdue(&self) -> Option<Task>
         ensures { result ≡ overdue_of self.now.incoming }
     {
-        self.incoming.overdue()
+        self.stages.overdue(Owner::Peer(self.number))
     }
 
     /// The task of the deletion stage that stands longest, the lowest; None where none stands.
     pub fn oldest(&self) -> Option<Task>
-        ensures { result ≡ oldest_of self.now.incoming.number self.now.incoming.deletions }
+        ensures { result ≡ oldest_of (owners.Peer self.now.incoming.number) self.now.incoming.deletions }
     {
-        self.incoming.oldest()
+        self.stages.oldest(Owner::Peer(self.number))
     }
 
     /// The session of this number is lost: its routes, if there are any, go to a deletion stage directly below the top, and
@@ -160,7 +140,8 @@ impl Chain {
         ensures chain { OnOk result (IsChain self.new) }
         ensures full { OnOk result (NoneEmpty self.new.incoming.deletions) }
     {
-        self.incoming.lose(session, journal)?;
+        self.stages
+            .lose(Owner::Peer(self.number), session, journal)?;
         Ok(())
     }
 
@@ -169,13 +150,13 @@ impl Chain {
         requires chain { IsChain self.old }
         requires one_empty { OneEmptyAtMost self.old.incoming.deletions }
         ensures after { OnOk result (self.new ≡ welded self.old) }
-        ensures lines { OnOk result (journal.new ≡ with_entries journal.old (weld_entries self.old.incoming.number (names.In self.old.incoming.number) self.old.incoming.deletions)) }
-        ensures leads { OnOk result (LeadsChain self.old (weld_entries self.old.incoming.number (names.In self.old.incoming.number) self.old.incoming.deletions) self.new) }
+        ensures lines { OnOk result (journal.new ≡ with_entries journal.old (weld_entries (owners.Peer self.old.incoming.number) (names.In self.old.incoming.number) self.old.incoming.deletions)) }
+        ensures leads { OnOk result (LeadsChain self.old (weld_entries (owners.Peer self.old.incoming.number) (names.In self.old.incoming.number) self.old.incoming.deletions) self.new) }
         ensures rows { OnOk result (filt_rows self.new ≡ filt_rows self.old) }
         ensures chain { OnOk result (IsChain self.new) }
         ensures full { OnOk result (NoneEmpty self.new.incoming.deletions) }
     {
-        self.incoming.weld(journal)?;
+        self.stages.weld(Owner::Peer(self.number), journal)?;
         Ok(())
     }
 
@@ -201,13 +182,13 @@ impl Chain {
     {
         match task {
             Task::Del(number, session) => {
-                if number != self.incoming.number() {
+                if number != self.number {
                     return Ok(Turn::Nothing);
                 }
                 self.sweep(session, journal)
             }
             Task::Fin(number) => {
-                if number != self.incoming.number() {
+                if number != self.number {
                     return Ok(Turn::Nothing);
                 }
                 self.walk(journal)
@@ -224,12 +205,15 @@ impl Chain {
         ensures chain { OnOk result (IsChain self.new) }
         ensures one_empty { OnOk result (OneEmptyAtMost self.new.incoming.deletions) }
     {
-        match self.incoming.unit(session, journal)? {
+        match self
+            .stages
+            .unit(Owner::Peer(self.number), session, journal)?
+        {
             Turn::Nothing => Ok(Turn::Nothing),
             Turn::Quiet => Ok(Turn::Quiet),
             Turn::Sent(change) => {
                 let sent = self.filter.take_in(change, &self.me, &self.peer);
-                send_route(journal, self.incoming.number(), &sent)?;
+                journal.push_sent(Link::Filt(self.number), &sent)?;
                 Ok(Turn::taken(sent))
             }
         }
@@ -242,14 +226,11 @@ impl Chain {
         ensures taken { IfOk result (IsTaken self.old self.new (tasks.Fin self.old.incoming.number) journal.old journal.new) }
         ensures incoming { OnOk result (self.new.incoming ≡ self.old.incoming) }
     {
-        match self
-            .filter
-            .unit(self.incoming.lowest(), &self.me, &self.peer)?
-        {
+        match self.filter.unit(&self.stages, &self.me, &self.peer)? {
             Turn::Nothing => Ok(Turn::Nothing),
             Turn::Quiet => Ok(Turn::Quiet),
             Turn::Sent(change) => {
-                journal.push_route_change(Link::Filt(self.incoming.number()), &change)?;
+                journal.push_change(Link::Filt(self.number), &change)?;
                 Ok(Turn::Sent(change))
             }
         }
@@ -260,8 +241,8 @@ impl Chain {
         ensures { result ≡ is_some (links_of self.now link) }
     {
         match link {
-            Link::Filt(number) => number == self.incoming.number(),
-            _ => self.incoming.live(link),
+            Link::Filt(number) => number == self.number,
+            _ => self.stages.live(Owner::Peer(self.number), link),
         }
     }
 
@@ -272,7 +253,7 @@ impl Chain {
     {
         match link {
             Link::Filt(_) => self.filtered(p),
-            _ => self.incoming.asked(link, p),
+            _ => self.stages.asked(Owner::Peer(self.number), link, p),
         }
     }
 
@@ -280,9 +261,7 @@ impl Chain {
     fn filtered(&self, p: Prefix) -> Result<Option<Value>, Memory>
         ensures { IfOk result (λ row. row ≡ route_rows (filt_rows self.now) p) }
     {
-        let route = self
-            .filter
-            .asked(self.incoming.lowest(), p, &self.me, &self.peer)?;
+        let route = self.filter.asked(&self.stages, p, &self.me, &self.peer)?;
         match route {
             Some(route) => Ok(Some(Value::Route(route))),
             None => Ok(None),
@@ -296,9 +275,10 @@ impl Chain {
         ensures next { IsNextCandidate (candidates_of self.now link) (key_of after) result }
         ensures covers { (rows : Rows Value) → links_of self.now link ≡ Some rows → CoversRows (candidates_of self.now link) rows }
     {
+        let owner = Owner::Peer(self.number);
         match link {
-            Link::Filt(number) => self.incoming.next_candidate(Link::In(number), after),
-            _ => self.incoming.next_candidate(link, after),
+            Link::Filt(number) => self.stages.next_candidate(owner, Link::In(number), after),
+            _ => self.stages.next_candidate(owner, link, after),
         }
     }
 
@@ -313,6 +293,6 @@ impl Chain {
     pub fn rows(&self) -> u128
         ensures { result ≡ row_count self.now }
     {
-        self.incoming.rows()
+        self.stages.rows()
     }
 }

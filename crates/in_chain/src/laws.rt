@@ -1,11 +1,6 @@
 //! Laws of chains, for the proofs of the crates above. Each is a function that does nothing, whose contract is the law.
 
-ghost use Rattle.in_chain.specs.Laws.{RowsAreCounted, TurnsAreBounded, TurnsAreLeft};
-
-/// The count that [`Chain::rows`](crate::Chain::rows) gives is the number of rows of `in.K`.
-pub fn rows_are_counted()
-    ensures { RowsAreCounted }
-{}
+ghost use Rattle.in_chain.specs.Laws.{TurnsAreBounded, TurnsAreLeft};
 
 /// How many turns of a filter's walk are left: none exactly where no walk is on, and no more than its rows tell.
 pub fn turns_are_bounded()

@@ -22,12 +22,7 @@
 #![tactic(auto)]
 
 mod chain;
-mod incoming;
 mod laws;
-mod lookup;
-mod splice;
-mod stage;
 
 pub use chain::Chain;
-pub use laws::{rows_are_counted, turns_are_bounded};
-pub use stage::Stage;
+pub use laws::turns_are_bounded;

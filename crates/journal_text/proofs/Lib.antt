@@ -5,3 +5,4 @@ pub mod NameLemmas
 pub mod ReadBack
 pub mod JournalLemmas
 pub mod ReadNames
+pub mod FallLemmas

@@ -8,10 +8,10 @@ use Rattle.journal_text.specs.declared.link.Link.{Link}
 use Rattle.journal_text.specs.declared.link.Link.TheVariants.{In, Peer, Filt, Res, Org, Lost, Low, Dyn, Int, Red, Best, ReadRib, Ebgp, Ibgp, Ext, Fib, Read, Outf, Adv}
 use Rattle.journal_text.specs.Links.{proto_number, kind_of, owner_of, number_of, same_link}
 
-abbrev proto_by : ℕ → Proto
+abbrev pub proto_by : ℕ → Proto
 proto_by n = if n == 0 then Connected else if n == 1 then Static else if n == 2 then Ospf else Rip
 
-proto_back : (proto : Proto) → proto_by (proto_number proto) ≡ proto
+pub proto_back : (proto : Proto) → proto_by (proto_number proto) ≡ proto
 proto_back Connected = refl
 proto_back Static = refl
 proto_back Ospf = refl

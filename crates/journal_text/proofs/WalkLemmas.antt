@@ -3,11 +3,6 @@ use Rattle.std.proofs.Common.{◌≡◌, Bool, true, false, cond, List, [], ◌�
 use Rattle.std.specs.Option.{option_map}
 use Rattle.addr4.specs.Prefixes.{Network, prefix_cmp}
 use Rattle.std.specs.Ordering.{eq_by_cmp}
-use Rattle.bgp_attr.specs.declared.attrs.Attrs.{Attrs}
-use Rattle.bgp_attr.specs.declared.route.Route.{Route}
-use Rattle.rib_route.specs.declared.rows.Interior.{Interior}
-use Rattle.rib_route.specs.declared.rows.External.{External}
-use Rattle.rib_route.specs.declared.rows.FibRow.{FibRow}
 use Rattle.link_change.specs.Rows.{Rows, no_rows, with_row}
 use Rattle.link_change.specs.Changes.{IsSent}
 use Rattle.link_change.specs.declared.change.Change.{Change}
@@ -16,10 +11,9 @@ use Rattle.journal_text.specs.declared.link.Link.{Link}
 use Rattle.journal_text.specs.declared.entry.Entry.{Entry}
 use Rattle.journal_text.specs.declared.entry.Entry.TheVariants.{Begin, Inherit, Asked, Weld, End}
 use Rattle.journal_text.specs.declared.value.Value.{Value}
-use Rattle.journal_text.specs.declared.value.Value.TheVariants as values
 use Rattle.journal_text.specs.Links.{same_link}
 use Rattle.journal_text.specs.Walk.{Links, with_link, after, IsLawful, fold_links, Leads, change_entries}
-use Rattle.journal_text.specs.Journals.{attrs_rows, attrs_change, route_rows, route_change, interior_rows, interior_change, external_rows, external_change, fib_rows, fib_change}
+use Rattle.journal_text.specs.Values.{valued, valued_change, sent_entries}
 use Rattle.journal_text.proofs.LinkLemmas.{same_link-refl, same_link-yes, same_link-no}
 
 swap_cond : {A : Type 0} (p r : Bool) (x y z : A) → (p ≡ true → r ≡ true → ⊥) → cond r y (cond p x z) ≡ cond p x (cond r y z)
@@ -112,58 +106,36 @@ module _ {V : Type 0} where
 
 -- rows of one type as values, where no two rows have one value
 module _ {R : Type 0} (value : R → Value) (one : (a b : R) → value a ≡ value b → a ≡ b) where
-  abbrev as_values : Rows R → Rows Value
-  as_values rows q = option_map value (rows q)
-
   one_value : (a b : Option R) → option_map value a ≡ option_map value b → a ≡ b
   one_value None None e = refl
   one_value None (Some b) e = cc
   one_value (Some a) None e = cc
   one_value (Some a) (Some b) e = let same : value a ≡ value b = cc in ap Some (one a b same)
 
-  values_set : (rows : Rows R) (p : Network) (row : Option R) → as_values (with_row rows p row) ≡ with_row (as_values rows) p (option_map value row)
+  values_set : (rows : Rows R) (p : Network) (row : Option R) → valued value (with_row rows p row) ≡ with_row (valued value rows) p (option_map value row)
   values_set rows p row = same_function _ _ (λ q.
       elim (eq_by_cmp prefix_cmp q p) as (λ b. option_map value (cond b row (rows q)) ≡ cond b (option_map value row) (option_map value (rows q))) [ true ↦ refl | false ↦ refl ])
 
-  values_lead : (links : Links Value) (link : Link) (old new : Rows R) (p : Network) (change : Change R) → links link ≡ Some (as_values old) → IsSent old new p (Some change)
-      → Leads links (change_entries link change.prefix (option_map value change.before) (option_map value change.after)) (with_link links link (Some (as_values new)))
+  -- the entry of a lawful change leads on
+  pub values_lead : (links : Links Value) (link : Link) (old new : Rows R) (p : Network) (change : Change R) → links link ≡ Some (valued value old) → IsSent old new p (Some change)
+      → Leads links (valued_change value link change) (with_link links link (Some (valued value new)))
   values_lead links link old new p change live sent =
-      let at : as_values old change.prefix ≡ option_map value change.before = ap (option_map value) sent.1.0 in
-      let lead = leads_change links link (as_values old) change.prefix (option_map value change.before) (option_map value change.after) live at (λ e. sent.1.1 (one_value change.after change.before e)) in
-      let is : with_row (as_values old) change.prefix (option_map value change.after) ≡ as_values new = sym (values_set old change.prefix change.after) ∙ ap as_values (sym sent.2) in
-      subst (λ (rows : Rows Value). Leads links (change_entries link change.prefix (option_map value change.before) (option_map value change.after)) (with_link links link (Some rows))) is lead
+      let at : valued value old change.prefix ≡ option_map value change.before = ap (option_map value) sent.1.0 in
+      let lead = leads_change links link (valued value old) change.prefix (option_map value change.before) (option_map value change.after) live at (λ e. sent.1.1 (one_value change.after change.before e)) in
+      let is : with_row (valued value old) change.prefix (option_map value change.after) ≡ valued value new = sym (values_set old change.prefix change.after) ∙ ap (valued value) (sym sent.2) in
+      subst (λ (rows : Rows Value). Leads links (valued_change value link change) (with_link links link (Some rows))) is lead
 
-one_of_attrs : (a b : Attrs) → values.Attrs a ≡ values.Attrs b → a ≡ b
-one_of_attrs a b e = cc
+  -- what a stage sends leads on from the rows of its link to the new ones
+  pub leads_sent : (links : Links Value) (link : Link) (old new : Rows R) (p : Network) (sent : Option (Change R)) → links link ≡ Some (valued value old) → IsSent old new p sent
+      → Leads links (sent_entries value link sent) (with_link links link (Some (valued value new)))
+  leads_sent links link old new p None live is =
+      leads_nowhere _ _ (sym (with_link_same links link (Some (valued value new)) (live ∙ ap (λ (r : Rows R). Some (valued value r)) (sym is))))
+  leads_sent links link old new p (Some change) live is = values_lead links link old new p change live is
 
-one_of_route : (a b : Route) → values.Route a ≡ values.Route b → a ≡ b
-one_of_route a b e = cc
-
-pub change_leads : (links : Links Value) (link : Link) (old new : Rows Attrs) (p : Network) (change : Change Attrs) → links link ≡ Some (attrs_rows old) → IsSent old new p (Some change)
-    → Leads links (attrs_change link change) (with_link links link (Some (attrs_rows new)))
-change_leads = values_lead (λ a. values.Attrs a) one_of_attrs
-
-pub route_change_leads : (links : Links Value) (link : Link) (old new : Rows Route) (p : Network) (change : Change Route) → links link ≡ Some (route_rows old) → IsSent old new p (Some change)
-    → Leads links (route_change link change) (with_link links link (Some (route_rows new)))
-route_change_leads = values_lead (λ r. values.Route r) one_of_route
-
-one_of_interior : (a b : Interior) → values.Interior a ≡ values.Interior b → a ≡ b
-one_of_interior a b e = cc
-
-pub interior_change_leads : (links : Links Value) (link : Link) (old new : Rows Interior) (p : Network) (change : Change Interior) → links link ≡ Some (interior_rows old) → IsSent old new p (Some change)
-    → Leads links (interior_change link change) (with_link links link (Some (interior_rows new)))
-interior_change_leads = values_lead (λ r. values.Interior r) one_of_interior
-
-one_of_external : (a b : External) → values.External a ≡ values.External b → a ≡ b
-one_of_external a b e = cc
-
-pub external_change_leads : (links : Links Value) (link : Link) (old new : Rows External) (p : Network) (change : Change External) → links link ≡ Some (external_rows old) → IsSent old new p (Some change)
-    → Leads links (external_change link change) (with_link links link (Some (external_rows new)))
-external_change_leads = values_lead (λ r. values.External r) one_of_external
-
-one_of_fib : (a b : FibRow) → values.FibRow a ≡ values.FibRow b → a ≡ b
-one_of_fib a b e = cc
-
-pub fib_change_leads : (links : Links Value) (link : Link) (old new : Rows FibRow) (p : Network) (change : Change FibRow) → links link ≡ Some (fib_rows old) → IsSent old new p (Some change)
-    → Leads links (fib_change link change) (with_link links link (Some (fib_rows new)))
-fib_change_leads = values_lead (λ r. values.FibRow r) one_of_fib
+  -- the same where the link's rows are set before
+  pub leads_over : (links : Links Value) (link : Link) (old new : Rows R) (p : Network) (sent : Option (Change R)) → IsSent old new p sent
+      → Leads (with_link links link (Some (valued value old))) (sent_entries value link sent) (with_link links link (Some (valued value new)))
+  leads_over links link old new p sent is =
+      let step = leads_sent (with_link links link (Some (valued value old))) link old new p sent (with_link_here links link (Some (valued value old))) is in
+      let P : Links Value → Type 0 = λ l. Leads (with_link links link (Some (valued value old))) (sent_entries value link sent) l in
+      subst P (with_link_twice links link (Some (valued value old)) (Some (valued value new))) step

@@ -1,11 +1,6 @@
 -- Laws of links and walks, for the crates above.
 use Rattle.std.specs.Prelude.{◌≡◌, ℕ, true, false, List, ◌++◌, Option, Some}
 use Rattle.addr4.specs.Prefixes.{Network}
-use Rattle.bgp_attr.specs.declared.attrs.Attrs.{Attrs}
-use Rattle.bgp_attr.specs.declared.route.Route.{Route}
-use Rattle.rib_route.specs.declared.rows.Interior.{Interior}
-use Rattle.rib_route.specs.declared.rows.External.{External}
-use Rattle.rib_route.specs.declared.rows.FibRow.{FibRow}
 use Rattle.link_change.specs.Rows.{Rows}
 use Rattle.link_change.specs.Changes.{IsSent}
 use Rattle.link_change.specs.declared.change.Change.{Change}
@@ -13,7 +8,8 @@ use Rattle.journal_text.specs.Links.{same_link}
 use Rattle.journal_text.specs.Names.{IsNamed, link_of}
 use Rattle.journal_text.specs.Texts.{link_text, entries_of}
 use Rattle.journal_text.specs.Walk.{Links, with_link, Leads}
-use Rattle.journal_text.specs.Journals.{Journaled, attrs_rows, attrs_change, route_rows, route_change, interior_rows, interior_change, external_rows, external_change, fib_rows, fib_change, with_entries}
+use Rattle.journal_text.specs.Journals.{Journaled, with_entries}
+use Rattle.journal_text.specs.Values.{valued, valued_change}
 use Rattle.journal_text.specs.declared.link.Link.{Link}
 use Rattle.journal_text.specs.declared.entry.Entry.{Entry}
 use Rattle.journal_text.specs.declared.value.Value.{Value}
@@ -32,40 +28,12 @@ LinksAreSetInEitherOrder V =
     (links : Links V) (a b : Link) (x y : Option (Rows V)) → same_link a b ≡ false
     → with_link (with_link links a x) b y ≡ with_link (with_link links b y) a x
 
--- The entry of a change that is lawful on a live link's attributes leads on, and that link's rows alone become the new ones.
-abbrev pub ChangesLead : Type 0
-ChangesLead =
-    (links : Links Value) (link : Link) (old new : Rows Attrs) (p : Network) (change : Change Attrs)
-    → links link ≡ Some (attrs_rows old) → IsSent old new p (Some change)
-    → Leads links (attrs_change link change) (with_link links link (Some (attrs_rows new)))
-
--- The same of a change of routes.
-abbrev pub RouteChangesLead : Type 0
-RouteChangesLead =
-    (links : Links Value) (link : Link) (old new : Rows Route) (p : Network) (change : Change Route)
-    → links link ≡ Some (route_rows old) → IsSent old new p (Some change)
-    → Leads links (route_change link change) (with_link links link (Some (route_rows new)))
-
--- The same of a change of interior routes.
-abbrev pub InteriorChangesLead : Type 0
-InteriorChangesLead =
-    (links : Links Value) (link : Link) (old new : Rows Interior) (p : Network) (change : Change Interior)
-    → links link ≡ Some (interior_rows old) → IsSent old new p (Some change)
-    → Leads links (interior_change link change) (with_link links link (Some (interior_rows new)))
-
--- The same of a change of external routes.
-abbrev pub ExternalChangesLead : Type 0
-ExternalChangesLead =
-    (links : Links Value) (link : Link) (old new : Rows External) (p : Network) (change : Change External)
-    → links link ≡ Some (external_rows old) → IsSent old new p (Some change)
-    → Leads links (external_change link change) (with_link links link (Some (external_rows new)))
-
--- The same of a change of forwarding rows.
-abbrev pub FibChangesLead : Type 0
-FibChangesLead =
-    (links : Links Value) (link : Link) (old new : Rows FibRow) (p : Network) (change : Change FibRow)
-    → links link ≡ Some (fib_rows old) → IsSent old new p (Some change)
-    → Leads links (fib_change link change) (with_link links link (Some (fib_rows new)))
+-- The entry of a change that is lawful on a live link's rows leads on, and that link's rows alone become the new ones.
+abbrev pub ChangesLead : {R : Type 0} → (R → Value) → Type 0
+ChangesLead {R} value =
+    (links : Links Value) (link : Link) (old new : Rows R) (p : Network) (change : Change R)
+    → links link ≡ Some (valued value old) → IsSent old new p (Some change)
+    → Leads links (valued_change value link change) (with_link links link (Some (valued value new)))
 
 -- The name of a link is read back, where its numbers can stand in a name.
 abbrev pub LinksReadBack : Type 0

@@ -5,3 +5,4 @@ pub mod Journals
 pub mod Laws
 pub mod Names
 pub mod Falls
+pub mod Values

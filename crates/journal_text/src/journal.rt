@@ -1,22 +1,20 @@
 //! The output, line by line.
 
-ghost use Rattle.std.specs.Prelude.{◌≡◌, ◌++◌, ◌∷◌, [], OnOk, OnErr, IfOk, option_map};
+ghost use Rattle.std.specs.Prelude.{◌≡◌, ◌++◌, ◌∷◌, [], OnOk, OnErr};
 ghost use Rattle.journal_text.specs.declared.line.Line.{Line};
 ghost use Rattle.journal_text.specs.declared.line.Line.TheVariants as lines;
-ghost use Rattle.journal_text.specs.declared.value.Value.TheVariants as values;
-ghost use Rattle.link_change.specs.declared.change.Change.{Change};
 ghost use Rattle.journal_text.specs.Walk.{change_entries};
-ghost use Rattle.journal_text.specs.Journals.{with_lines, with_entries, attrs_change, route_change, interior_change, external_change, fib_change, flushed};
+ghost use Rattle.journal_text.specs.Journals.{with_lines, with_entries, flushed};
+ghost use Rattle.journal_text.specs.Values.{valued_change, sent_entries};
 
 use crate::entry::Entry;
 use crate::line::Line;
 use crate::lines::push_lines;
 use crate::link::Link;
 use crate::value::Value;
-use addr4::{Memory, Prefix, Row};
-use bgp_attr::{Route, SharedAttrs};
+use crate::valued::{Valued, value_of};
+use addr4::{Memory, Prefix};
 use link_change::Change;
-use rib_route::{External, FibRow, Interior};
 use std::alloc::Global;
 use std::marker::Model;
 
@@ -69,57 +67,27 @@ impl Journal {
         self.push_line(Line::Journal(entry))
     }
 
-    /// Appends the entry of a change of attributes on a link: an add, a delete or a replacement; none where no row was or is.
-    pub fn push_change(&mut self, link: Link, change: &Change<SharedAttrs>) -> Result<(), Memory>
-        ensures { OnOk result (self.new ≡ with_entries self.old (attrs_change link change.now)) }
+    /// Appends the entry of a change of rows on a link: an add, a delete or a replacement; none where no row was or is.
+    pub fn push_change<R: Valued>(&mut self, link: Link, change: &Change<R>) -> Result<(), Memory>
+        ensures { OnOk result (self.new ≡ with_entries self.old (valued_change R.value link change.now)) }
     {
-        let before = attrs_value(&change.before)?;
-        let after = attrs_value(&change.after)?;
+        let before = value_of(&change.before)?;
+        let after = value_of(&change.after)?;
         self.push_values(link, change.prefix, before, after)
     }
 
-    /// Appends the entry of a change of routes on a link, as [`push_change`](Journal::push_change) does of attributes.
-    pub fn push_route_change(&mut self, link: Link, change: &Change<Route>) -> Result<(), Memory>
-        ensures { OnOk result (self.new ≡ with_entries self.old (route_change link change.now)) }
-    {
-        let before = route_value(&change.before)?;
-        let after = route_value(&change.after)?;
-        self.push_values(link, change.prefix, before, after)
-    }
-
-    /// Appends the entry of a change of interior routes on a link.
-    pub fn push_interior_change(
+    /// Appends the entry of what a stage sends on a link, if it sends something.
+    pub fn push_sent<R: Valued>(
         &mut self,
         link: Link,
-        change: &Change<Interior>,
+        sent: &Option<Change<R>>,
     ) -> Result<(), Memory>
-        ensures { OnOk result (self.new ≡ with_entries self.old (interior_change link change.now)) }
+        ensures { OnOk result (self.new ≡ with_entries self.old (sent_entries R.value link sent.now)) }
     {
-        let before = interior_value(&change.before);
-        let after = interior_value(&change.after);
-        self.push_values(link, change.prefix, before, after)
-    }
-
-    /// Appends the entry of a change of external routes on a link.
-    pub fn push_external_change(
-        &mut self,
-        link: Link,
-        change: &Change<External>,
-    ) -> Result<(), Memory>
-        ensures { OnOk result (self.new ≡ with_entries self.old (external_change link change.now)) }
-    {
-        let before = external_value(&change.before);
-        let after = external_value(&change.after);
-        self.push_values(link, change.prefix, before, after)
-    }
-
-    /// Appends the entry of a change of forwarding rows on a link.
-    pub fn push_fib_change(&mut self, link: Link, change: &Change<FibRow>) -> Result<(), Memory>
-        ensures { OnOk result (self.new ≡ with_entries self.old (fib_change link change.now)) }
-    {
-        let before = fib_value(&change.before);
-        let after = fib_value(&change.after);
-        self.push_values(link, change.prefix, before, after)
+        match sent {
+            Some(change) => self.push_change(link, change),
+            None => Ok(()),
+        }
     }
 
     // Appends the entry of a change of values.
@@ -163,55 +131,5 @@ impl Journal {
         ensures { self.new ≡ record { text = []; pending = self.old.pending; quiet = self.old.quiet } }
     {
         self.text.clear();
-    }
-}
-
-// The value of attributes, if there are any.
-fn attrs_value(row: &Option<SharedAttrs>) -> Result<Option<Value>, Memory>
-    ensures { IfOk result (λ value. value ≡ option_map (λ a. values.Attrs a) row.now) }
-{
-    match row {
-        Some(attrs) => Ok(Some(Value::Attrs(attrs.copy()?))),
-        None => Ok(None),
-    }
-}
-
-// The value of a route, if there is one.
-fn route_value(row: &Option<Route>) -> Result<Option<Value>, Memory>
-    ensures { IfOk result (λ value. value ≡ option_map (λ r. values.Route r) row.now) }
-{
-    match row {
-        Some(route) => Ok(Some(Value::Route(route.copy()?))),
-        None => Ok(None),
-    }
-}
-
-// The value of an interior route, if there is one.
-fn interior_value(row: &Option<Interior>) -> Option<Value>
-    ensures { result ≡ option_map (λ r. values.Interior r) row.now }
-{
-    match row {
-        Some(row) => Some(Value::Interior(*row)),
-        None => None,
-    }
-}
-
-// The value of an external route, if there is one.
-fn external_value(row: &Option<External>) -> Option<Value>
-    ensures { result ≡ option_map (λ r. values.External r) row.now }
-{
-    match row {
-        Some(row) => Some(Value::External(*row)),
-        None => None,
-    }
-}
-
-// The value of a forwarding row, if there is one.
-fn fib_value(row: &Option<FibRow>) -> Option<Value>
-    ensures { result ≡ option_map (λ r. values.FibRow r) row.now }
-{
-    match row {
-        Some(row) => Some(Value::FibRow(*row)),
-        None => None,
     }
 }

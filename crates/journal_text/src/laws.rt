@@ -2,7 +2,9 @@
 //! the law.
 
 ghost use Rattle.journal_text.specs.Walk.{LeadsOn};
-ghost use Rattle.journal_text.specs.Laws.{ChangesLead, EachLinkIsItself, LinksAreSetInEitherOrder, EntriesGrow, EntriesJoin, ExternalChangesLead, FibChangesLead, InteriorChangesLead, LinksReadBack, ReadLinksAreNamed, RouteChangesLead, SameLinksAreEqual};
+ghost use Rattle.journal_text.specs.Laws.{ChangesLead, EachLinkIsItself, LinksAreSetInEitherOrder, EntriesGrow, EntriesJoin, LinksReadBack, ReadLinksAreNamed, SameLinksAreEqual};
+
+use crate::valued::Valued;
 
 /// Each link is itself, and links that are the same are equal.
 pub fn same_links()
@@ -20,29 +22,9 @@ pub fn journals_join<V>()
     ensures { LeadsOn V }
 {}
 
-/// The entry of a lawful change of attributes leads on (NSDI 2005, section 5.1).
-pub fn changes_lead()
-    ensures { ChangesLead }
-{}
-
-/// The entry of a lawful change of routes leads on.
-pub fn route_changes_lead()
-    ensures { RouteChangesLead }
-{}
-
-/// The entry of a lawful change of interior routes leads on.
-pub fn interior_changes_lead()
-    ensures { InteriorChangesLead }
-{}
-
-/// The entry of a lawful change of external routes leads on.
-pub fn external_changes_lead()
-    ensures { ExternalChangesLead }
-{}
-
-/// The entry of a lawful change of forwarding rows leads on.
-pub fn fib_changes_lead()
-    ensures { FibChangesLead }
+/// The entry of a lawful change of rows leads on (NSDI 2005, section 5.1).
+pub fn changes_lead<R: Valued>()
+    ensures { ChangesLead R.value }
 {}
 
 /// The name of a link whose numbers are from 1 and below 2^32 is read back, so no two of them have one name.

@@ -18,14 +18,15 @@ mod names;
 mod reading;
 mod texts;
 mod value;
+mod valued;
 
 pub use entry::Entry;
 pub use journal::Journal;
 pub use laws::{
-    changes_lead, entries_are_appended, external_changes_lead, fib_changes_lead,
-    interior_changes_lead, journals_join, link_names_are_read_back, links_are_set_in_either_order,
-    read_links_are_named, route_changes_lead, same_links,
+    changes_lead, entries_are_appended, journals_join, link_names_are_read_back,
+    links_are_set_in_either_order, read_links_are_named, same_links,
 };
 pub use line::{Code, Line};
 pub use link::{Link, Task};
 pub use value::Value;
+pub use valued::Valued;

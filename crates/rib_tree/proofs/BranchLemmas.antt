@@ -5,7 +5,9 @@ use Rattle.rib_route.specs.declared.Proto.TheVariants.{Connected, Static, Ospf, 
 use Rattle.rib_route.specs.declared.rows.Interior.{Interior}
 use Rattle.link_change.specs.Rows.{Rows}
 use Rattle.rib_merge.specs.Merging.{merged}
-use Rattle.rib_origin.specs.Branches.{Branch, org_rows, same_proto, IsBranch, NoneEmpty, OneEmptyAtMost}
+use Rattle.rib_tree.specs.Branches.{Branch, org_rows, IsBranch}
+use Rattle.loss_chain.specs.Owners.{same_proto}
+use Rattle.loss_chain.specs.Tables.{NoneEmpty, OneEmptyAtMost}
 use Rattle.rib_tree.specs.Trees.{Treed, branch_of, put_branch, IsTree, IsFull, IsFullBut, low_rows, dyn_rows, int_rows, interior_distance}
 use Rattle.rib_tree.specs.Merges.{rows_into}
 

@@ -7,8 +7,8 @@ use Rattle.rib_route.specs.declared.rows.Interior.{Interior}
 use Rattle.rib_merge.specs.Merging.{merged}
 use Rattle.rib_merge.specs.Laws.{IsOfOneSide, IsLeastOfBoth, HasARow}
 use Rattle.link_change.specs.Rows.{Rows}
-use Rattle.rib_origin.specs.Branches.{org_rows}
-use Rattle.rib_origin.specs.Laws.{RowsAreOwn}
+use Rattle.rib_tree.specs.Branches.{org_rows}
+use Rattle.rib_tree.specs.Laws.{RowsAreOwn}
 use Rattle.rib_tree.specs.Trees.{Treed, branch_of, low_rows, dyn_rows, int_rows, interior_distance}
 use Rattle.rib_tree.specs.Laws.{TheLeastDistanceStands, EachRowCounts}
 

@@ -1,4 +1,4 @@
-pub mod WayLemmas
+pub mod OwnLemmas
 pub mod BranchLemmas
 pub mod LinkLemmas
 pub mod MergeLemmas

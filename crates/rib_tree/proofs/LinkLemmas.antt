@@ -13,12 +13,13 @@ use Rattle.journal_text.specs.declared.link.Link.{Link}
 use Rattle.journal_text.specs.declared.link.Link.TheVariants.{Org, Lost, Low, Dyn, Int}
 use Rattle.journal_text.specs.declared.value.Value.{Value}
 use Rattle.journal_text.specs.declared.entry.Entry.{Entry}
-use Rattle.journal_text.specs.Journals.{interior_rows}
+use Rattle.journal_text.specs.Values.{interior_rows, interior_value}
 use Rattle.journal_text.specs.Walk.{Links, with_link, Leads}
-use Rattle.journal_text.proofs.WalkLemmas.{with_link_same, leads_nowhere, leads_append, interior_change_leads}
-use Rattle.rib_origin.specs.Branches.{Branch, org_rows, rows_above, beside_branch}
-use Rattle.rib_origin.specs.Falls.{LeadsBranch}
-use Rattle.rib_origin.specs.Parts.{sent_entries}
+use Rattle.journal_text.proofs.WalkLemmas.{with_link_same, leads_append, leads_sent}
+use Rattle.rib_tree.specs.Branches.{Branch, org_rows, beside_branch}
+use Rattle.loss_chain.specs.Tables.{rows_above}
+use Rattle.rib_tree.specs.Branches.{LeadsBranch}
+use Rattle.rib_tree.specs.Merges.{sent_entries}
 use Rattle.rib_tree.specs.Trees.{Treed, branch_of, put_branch, ArePlaced, low_rows, dyn_rows, int_rows, beside_tree}
 use Rattle.rib_tree.specs.Falls.{merge_below, LeadsTree}
 use Rattle.rib_tree.specs.Merges.{rows_into}
@@ -76,13 +77,6 @@ links_set others Rip b t same =
 
 -- ---- what leads on
 
--- what a stage sends leads on from the rows of its link to the new ones
-pub leads_sent : (links : Links Value) (link : Link) (old new : Rows Interior) (p : Network) (sent : Option (Change Interior)) → links link ≡ Some (interior_rows old) → IsSent old new p sent
-    → Leads links (sent_entries link sent) (with_link links link (Some (interior_rows new)))
-leads_sent links link old new p None live is =
-    leads_nowhere _ _ (sym (with_link_same links link (Some (interior_rows new)) (live ∙ ap (λ (r : Rows Interior). Some (interior_rows r)) (sym is))))
-leads_sent links link old new p (Some change) live is = interior_change_leads links link old new p change live is
-
 middle_is : (others : Links Value) (proto : Proto) (b : Branch) (t : Treed) → rebranched others t b (merge_below proto) ≡ Some (interior_rows (rows_into proto t))
 middle_is others Connected b t = refl
 middle_is others Static b t = refl
@@ -104,8 +98,8 @@ merges_lead others proto b t p middle sent same into is =
     let first = rebranched others t b in
     let second = with_link first (merge_below proto) (Some (interior_rows (rows_into proto new))) in
     let third = with_link second Int (Some (interior_rows (int_rows new))) in
-    let a = leads_sent first (merge_below proto) (rows_into proto t) (rows_into proto new) p middle (middle_is others proto b t) into in
-    let z = leads_sent second Int (int_rows t) (int_rows new) p sent (last_is others proto b t (Some (interior_rows (rows_into proto new)))) is in
+    let a = leads_sent interior_value (λ a b e. cc) first (merge_below proto) (rows_into proto t) (rows_into proto new) p middle (middle_is others proto b t) into in
+    let z = leads_sent interior_value (λ a b e. cc) second Int (int_rows t) (int_rows new) p sent (last_is others proto b t (Some (interior_rows (rows_into proto new)))) is in
     let P : Links Value → Type 0 = λ l. Leads first (sent_entries (merge_below proto) middle ++ sent_entries Int sent) l in
     subst P (links_set others proto b t same) (leads_append first second third (sent_entries (merge_below proto) middle) (sent_entries Int sent) a z)
 

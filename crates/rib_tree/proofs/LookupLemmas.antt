@@ -13,8 +13,10 @@ use Rattle.journal_text.specs.declared.link.Link.{Link}
 use Rattle.journal_text.specs.declared.link.Link.TheVariants.{Lost}
 use Rattle.journal_text.specs.declared.value.Value.{Value}
 use Rattle.journal_text.specs.Walk.{Links, HasRow}
-use Rattle.journal_text.specs.Journals.{interior_rows}
-use Rattle.rib_origin.specs.Branches.{Branch, same_proto, rows_above, branch_links}
+use Rattle.journal_text.specs.Values.{interior_rows}
+use Rattle.rib_tree.specs.Branches.{Branch, branch_links}
+use Rattle.loss_chain.specs.Owners.{same_proto}
+use Rattle.loss_chain.specs.Tables.{rows_above}
 use Rattle.rib_tree.specs.Trees.{Treed, branch_of, tree_links, interior_distance}
 
 -- ---- the stage of a loss, which the branch names by its own protocol

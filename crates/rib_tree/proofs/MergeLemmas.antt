@@ -8,16 +8,17 @@ use Rattle.rib_merge.specs.Merging.{merged_on, MergesOn}
 use Rattle.link_change.specs.Rows.{Rows}
 use Rattle.link_change.specs.Changes.{IsSent}
 use Rattle.link_change.specs.declared.change.Change.{Change}
+use Rattle.journal_text.specs.Values.{interior_value}
 use Rattle.journal_text.specs.declared.link.Link.TheVariants.{Int}
 use Rattle.journal_text.specs.Journals.{Journaled, with_entries}
 use Rattle.journal_text.proofs.JournalLemmas.{with_entries_none}
-use Rattle.rib_origin.specs.Branches.{Branch, org_rows}
-use Rattle.rib_origin.specs.Parts.{sent_entries}
+use Rattle.rib_tree.specs.Branches.{Branch, org_rows}
+use Rattle.rib_tree.specs.Merges.{sent_entries}
 use Rattle.rib_tree.specs.Trees.{Treed, branch_of, put_branch, int_rows, interior_distance}
 use Rattle.rib_tree.specs.Falls.{merge_below}
 use Rattle.rib_tree.specs.Merges.{partner_of, side_of, side_below, rows_into, rows_beside, DifferAt, MergesInto, MergesBelow, IsPassedDown}
 use Rattle.rib_tree.proofs.BranchLemmas.{int_kept}
-use Rattle.rib_tree.proofs.WayLemmas.{and_then, goes_on, goes_out}
+use Rattle.journal_text.proofs.FallLemmas.{and_then, goes_on, goes_out}
 
 -- ---- the rows below are merged ones
 
@@ -103,6 +104,6 @@ passes_on proto new change middle sent before mid now law next mid_is now_is old
         into = into;
         rows = rows;
         lines = refl;
-        down = goes_on p (merge_below proto ∷ []) (Int ∷ []) middle es last sent (goes_out (merge_below proto) (rows_into proto old) (rows_into proto new) p (Some middle) into) (goes_out Int (int_rows old) (int_rows new) p sent rows);
+        down = goes_on p (merge_below proto ∷ []) (Int ∷ []) middle es last sent (goes_out interior_value (merge_below proto) (rows_into proto old) (rows_into proto new) p (Some middle) into) (goes_out interior_value Int (int_rows old) (int_rows new) p sent rows);
       },
     )

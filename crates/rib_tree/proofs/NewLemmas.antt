@@ -5,8 +5,9 @@ use Rattle.addr4.specs.Prefixes.{prefix_cmp}
 use Rattle.rib_route.specs.declared.Proto.{Proto}
 use Rattle.rib_route.specs.declared.Proto.TheVariants.{Connected, Static, Ospf, Rip}
 use Rattle.rib_route.specs.declared.rows.Interior.{Interior}
-use Rattle.rib_origin.specs.Branches.{IsBranch, NoneEmpty}
-use Rattle.rib_origin.specs.Steps.{new_branch}
+use Rattle.rib_tree.specs.Branches.{IsBranch}
+use Rattle.loss_chain.specs.Tables.{NoneEmpty}
+use Rattle.rib_tree.specs.BranchSteps.{new_branch}
 use Rattle.rib_tree.specs.Trees.{branch_of}
 use Rattle.rib_tree.specs.Steps.{new_tree}
 use Rattle.rib_tree.specs.Laws.{ANewTreeStands}

@@ -12,16 +12,20 @@ use Rattle.journal_text.specs.declared.link.Task.TheVariants.{Rdel}
 use Rattle.journal_text.specs.declared.value.Value.{Value}
 use Rattle.journal_text.specs.declared.entry.Entry.{Entry}
 use Rattle.journal_text.specs.Journals.{Journaled, Adds}
-use Rattle.rib_origin.specs.Branches.{Branch, org_rows, IsBranch, NoneEmpty, OneEmptyAtMost}
-use Rattle.rib_origin.specs.Falls.{FallsBranch, LeadsBranch, way_down, way_from}
-use Rattle.rib_origin.specs.Steps.{IsTakenBranch, weld_entries}
+use Rattle.rib_tree.specs.Branches.{Branch, org_rows, IsBranch}
+use Rattle.loss_chain.specs.Tables.{NoneEmpty, OneEmptyAtMost}
+use Rattle.rib_tree.specs.Branches.{FallsBranch, LeadsBranch}
+use Rattle.loss_chain.specs.declared.owner.Owner.TheVariants.{Origin}
+use Rattle.loss_chain.specs.Falls.{way_down, way_from}
+use Rattle.rib_tree.specs.BranchSteps.{IsTakenBranch}
+use Rattle.loss_chain.specs.Steps.{weld_entries}
 use Rattle.rib_tree.specs.Trees.{Treed, branch_of, put_branch, int_rows, ArePlaced, IsTree, IsFull, IsFullBut}
 use Rattle.rib_tree.specs.Falls.{merge_below, way_of_route, LeadsTree, FallsTree}
 use Rattle.rib_tree.specs.Steps.{tree_weld_entries, SweepsTree, IsTakenTree}
 use Rattle.rib_tree.specs.Merges.{DifferAt, PassesDown, IsPassedDown}
 use Rattle.rib_tree.proofs.BranchLemmas.{rows_kept, tree_put, full_put, full_but_put, full_again}
 use Rattle.rib_tree.proofs.LinkLemmas.{leads_all, leads_kept}
-use Rattle.rib_tree.proofs.WayLemmas.{and_then, cut_before, goes_on}
+use Rattle.journal_text.proofs.FallLemmas.{and_then, cut_before, goes_on}
 
 abbrev below : Proto → List Link
 below proto = merge_below proto ∷ Int ∷ []
@@ -88,31 +92,31 @@ stepped proto old new step differ after = differ ∙ ap (λ (b : Branch). put_br
 
 -- ---- the links are named by the branch's own protocol
 
-pub way_placed : (proto : Proto) (t : Treed) → ArePlaced t → way_down (branch_of proto t).proto (Org (branch_of proto t).proto) (branch_of proto t).deletions ≡ way_down proto (Org proto) (branch_of proto t).deletions
-way_placed proto t placed = ap (λ (k : Proto). way_down k (Org k) (branch_of proto t).deletions) (placed proto)
+pub way_placed : (proto : Proto) (t : Treed) → ArePlaced t → way_down (Origin (branch_of proto t).proto) (Org (branch_of proto t).proto) (branch_of proto t).deletions ≡ way_down (Origin proto) (Org proto) (branch_of proto t).deletions
+way_placed proto t placed = ap (λ (k : Proto). way_down (Origin k) (Org k) (branch_of proto t).deletions) (placed proto)
 
-sweep_way_placed : (proto : Proto) (n : ℕ) (t : Treed) → ArePlaced t → way_from (branch_of proto t).proto n (Org (branch_of proto t).proto) (branch_of proto t).deletions ≡ way_from proto n (Org proto) (branch_of proto t).deletions
-sweep_way_placed proto n t placed = ap (λ (k : Proto). way_from k n (Org k) (branch_of proto t).deletions) (placed proto)
+sweep_way_placed : (proto : Proto) (n : ℕ) (t : Treed) → ArePlaced t → way_from (Origin (branch_of proto t).proto) n (Org (branch_of proto t).proto) (branch_of proto t).deletions ≡ way_from (Origin proto) n (Org proto) (branch_of proto t).deletions
+sweep_way_placed proto n t placed = ap (λ (k : Proto). way_from (Origin k) n (Org k) (branch_of proto t).deletions) (placed proto)
 
-pub weld_placed : (proto : Proto) (t : Treed) → ArePlaced t → weld_entries (branch_of proto t).proto (Org (branch_of proto t).proto) (branch_of proto t).deletions ≡ tree_weld_entries proto t
-weld_placed proto t placed = ap (λ (k : Proto). weld_entries k (Org k) (branch_of proto t).deletions) (placed proto)
+pub weld_placed : (proto : Proto) (t : Treed) → ArePlaced t → weld_entries (Origin (branch_of proto t).proto) (Org (branch_of proto t).proto) (branch_of proto t).deletions ≡ tree_weld_entries proto t
+weld_placed proto t placed = ap (λ (k : Proto). weld_entries (Origin k) (Org k) (branch_of proto t).deletions) (placed proto)
 
 -- ---- feeds
 
 module _ (proto : Proto) (old new : Treed) (differ : DifferAt proto old new) (tree : IsTree old) (same : (branch_of proto new).proto ≡ (branch_of proto old).proto) where
   pub fed_quietly : (p : Network) (before now : Journaled) → org_rows (branch_of proto new) ≡ org_rows (branch_of proto old)
-      → Adds (FallsBranch (branch_of proto old) (branch_of proto new) p (way_down (branch_of proto old).proto (Org (branch_of proto old).proto) (branch_of proto old).deletions) None) before now
+      → Adds (FallsBranch (branch_of proto old) (branch_of proto new) p (way_down (Origin (branch_of proto old).proto) (Org (branch_of proto old).proto) (branch_of proto old).deletions) None) before now
       → Adds (FallsTree old new p (way_of_route proto old) None) before now
   fed_quietly p before now rows adds =
       let P : List Link → Type 0 = λ way. Adds (FallsBranch (branch_of proto old) (branch_of proto new) p way None) before now in
-      falls_quietly proto old new differ tree.placed (same ∙ tree.placed proto) p (way_down proto (Org proto) (branch_of proto old).deletions) before now rows (subst P (way_placed proto old tree.placed) adds)
+      falls_quietly proto old new differ tree.placed (same ∙ tree.placed proto) p (way_down (Origin proto) (Org proto) (branch_of proto old).deletions) before now rows (subst P (way_placed proto old tree.placed) adds)
 
   pub fed_on : (p : Network) (change : Change Interior) (sent : Option (Change Interior)) (before mid now : Journaled)
-      → Adds (FallsBranch (branch_of proto old) (branch_of proto new) p (way_down (branch_of proto old).proto (Org (branch_of proto old).proto) (branch_of proto old).deletions) (Some change)) before mid
+      → Adds (FallsBranch (branch_of proto old) (branch_of proto new) p (way_down (Origin (branch_of proto old).proto) (Org (branch_of proto old).proto) (branch_of proto old).deletions) (Some change)) before mid
       → Adds (PassesDown proto old new p sent) mid now → Adds (FallsTree old new p (way_of_route proto old) sent) before now
   fed_on p change sent before mid now adds pass =
       let P : List Link → Type 0 = λ way. Adds (FallsBranch (branch_of proto old) (branch_of proto new) p way (Some change)) before mid in
-      falls_on proto old new differ tree.placed (same ∙ tree.placed proto) p (way_down proto (Org proto) (branch_of proto old).deletions) change sent before mid now (subst P (way_placed proto old tree.placed) adds) pass
+      falls_on proto old new differ tree.placed (same ∙ tree.placed proto) p (way_down (Origin proto) (Org proto) (branch_of proto old).deletions) change sent before mid now (subst P (way_placed proto old tree.placed) adds) pass
 
 -- ---- turns
 
@@ -124,7 +128,7 @@ module _ (proto : Proto) (n : ℕ) (old new : Treed) (differ : DifferAt proto ol
   pub sweeps_quietly : (before now : Journaled) → IsTakenBranch (branch_of proto old) (branch_of proto new) n before now Quiet → IsTakenTree old new (Rdel proto n) before now Quiet
   sweeps_quietly before now (entries, now_is, s) =
       let same : (branch_of proto new).proto ≡ proto = ap (λ (b : Branch). b.proto) s.after ∙ tree.placed proto in
-      let way = way_from proto n (Org proto) (branch_of proto old).deletions in
+      let way = way_from (Origin proto) n (Org proto) (branch_of proto old).deletions in
       let P : List Link → Type 0 = λ w. FallsBranch (branch_of proto old) (branch_of proto new) s.prefix w None entries in
       let fall = falls_quietly proto old new differ tree.placed same s.prefix way before now s.rows (entries, now_is, subst P (sweep_way_placed proto n old tree.placed) s.fall) in (
         fall.0,
@@ -136,7 +140,7 @@ module _ (proto : Proto) (n : ℕ) (old new : Treed) (differ : DifferAt proto ol
       → IsPassedDown proto new change mid now sent → IsTakenTree old new (Rdel proto n) before now (taken_turn sent)
   sweeps_on change sent before mid now (entries, mid_is, s) passed =
       let same : (branch_of proto new).proto ≡ proto = ap (λ (b : Branch). b.proto) s.after ∙ tree.placed proto in
-      let way = way_from proto n (Org proto) (branch_of proto old).deletions in
+      let way = way_from (Origin proto) n (Org proto) (branch_of proto old).deletions in
       let P : List Link → Type 0 = λ w. FallsBranch (branch_of proto old) (branch_of proto new) s.prefix w (Some change) entries in
       let pass = passed old s.prefix differ s.rows in
       let fall = falls_on proto old new differ tree.placed same s.prefix way change sent before mid now (entries, mid_is, subst P (sweep_way_placed proto n old tree.placed) s.fall) pass in

@@ -11,7 +11,8 @@ use Rattle.journal_text.specs.declared.value.Value.{Value}
 use Rattle.journal_text.specs.declared.entry.Entry.{Entry}
 use Rattle.journal_text.specs.Walk.{Links, Leads}
 use Rattle.journal_text.specs.Falls.{GoesDown}
-use Rattle.rib_origin.specs.Falls.{way_down, way_from}
+use Rattle.loss_chain.specs.declared.owner.Owner.TheVariants.{Origin}
+use Rattle.loss_chain.specs.Falls.{way_down, way_from}
 use Rattle.rib_tree.specs.Trees.{Treed, branch_of, beside_tree}
 
 -- the link that a protocol's rows are merged into
@@ -23,11 +24,11 @@ merge_below Rip = Dyn
 
 -- from the live routes of a protocol down to `int`
 abbrev pub way_of_route : Proto → Treed → List Link
-way_of_route proto t = way_down proto (Org proto) (branch_of proto t).deletions ++ (merge_below proto ∷ Int ∷ [])
+way_of_route proto t = way_down (Origin proto) (Org proto) (branch_of proto t).deletions ++ (merge_below proto ∷ Int ∷ [])
 
 -- from the stage of a protocol's loss down to `int`
 abbrev pub way_of_sweep : Proto → ℕ → Treed → List Link
-way_of_sweep proto n t = way_from proto n (Org proto) (branch_of proto t).deletions ++ (merge_below proto ∷ Int ∷ [])
+way_of_sweep proto n t = way_from (Origin proto) n (Org proto) (branch_of proto t).deletions ++ (merge_below proto ∷ Int ∷ [])
 
 -- Whatever other links there are, the entries lead by the rules of the journal from the tree's old links to its new ones.
 abbrev pub LeadsTree : Treed → List (Entry Value) → Treed → Type 0

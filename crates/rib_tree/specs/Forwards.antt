@@ -10,7 +10,7 @@ use Rattle.link_change.specs.declared.change.Change.{Change}
 use Rattle.journal_text.specs.declared.link.Link.TheVariants.{Fib}
 use Rattle.journal_text.specs.declared.value.Value.{Value}
 use Rattle.journal_text.specs.Walk.{Links}
-use Rattle.journal_text.specs.Journals.{fib_rows}
+use Rattle.journal_text.specs.Values.{fib_rows}
 use Rattle.rib_tree.specs.Trees.{Treed, int_rows, tree_links}
 
 abbrev pub fib_row : Interior → FibRow

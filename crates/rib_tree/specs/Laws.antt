@@ -5,8 +5,8 @@ use Rattle.std.specs.FinMap.{FinMap}
 use Rattle.addr4.specs.Prefixes.{Network, prefix_cmp}
 use Rattle.rib_route.specs.declared.Proto.{Proto}
 use Rattle.rib_route.specs.declared.rows.Interior.{Interior}
-use Rattle.rib_origin.specs.Branches.{org_rows}
-use Rattle.rib_origin.specs.Steps.{table_of}
+use Rattle.rib_tree.specs.Branches.{Branch, IsBranch, org_rows}
+use Rattle.loss_chain.specs.Steps.{table_of}
 use Rattle.rib_tree.specs.Trees.{Treed, branch_of, IsTree, IsFull, int_rows, interior_distance, tree_count}
 use Rattle.rib_tree.specs.Steps.{new_tree, lost_tree, welded_tree, swept_tree}
 
@@ -39,3 +39,7 @@ WeldsKeepRows = (t : Treed) (proto : Proto) → tree_count (welded_tree proto t)
 -- When a protocol is lost, as many rows stay.
 abbrev pub LossesKeepRows : Type 0
 LossesKeepRows = (t : Treed) (proto : Proto) → tree_count (lost_tree proto t) ≡ tree_count t
+
+-- Each row of `org.PROTO` is one of the protocol.
+abbrev pub RowsAreOwn : Type 0
+RowsAreOwn = (b : Branch) (p : Network) (row : Interior) → IsBranch b → org_rows b p ≡ Some row → row.proto ≡ b.proto

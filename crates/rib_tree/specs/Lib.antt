@@ -1,3 +1,5 @@
+pub mod Branches
+pub mod BranchSteps
 pub mod Trees
 pub mod Falls
 pub mod Steps

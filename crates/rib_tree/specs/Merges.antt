@@ -1,5 +1,5 @@
 -- What the two merges below a protocol's link make of a change on it.
-use Rattle.std.specs.Prelude.{◌≡◌, List, [], ◌∷◌, ◌++◌, Option, Some}
+use Rattle.std.specs.Prelude.{◌≡◌, List, [], ◌∷◌, ◌++◌, Option, Some, None}
 use Rattle.addr4.specs.Prefixes.{Network}
 use Rattle.rib_route.specs.declared.Proto.{Proto}
 use Rattle.rib_route.specs.declared.Proto.TheVariants.{Connected, Static, Ospf, Rip}
@@ -9,13 +9,14 @@ use Rattle.rib_merge.specs.declared.merge.Side.TheVariants.{Left, Right}
 use Rattle.link_change.specs.Rows.{Rows}
 use Rattle.link_change.specs.Changes.{IsSent}
 use Rattle.link_change.specs.declared.change.Change.{Change}
+use Rattle.journal_text.specs.declared.link.Link.{Link}
 use Rattle.journal_text.specs.declared.link.Link.TheVariants.{Int}
 use Rattle.journal_text.specs.declared.value.Value.{Value}
 use Rattle.journal_text.specs.declared.entry.Entry.{Entry}
 use Rattle.journal_text.specs.Journals.{Journaled, Adds}
+use Rattle.journal_text.specs.Values.{interior_value, sent_entries as entries_sent}
 use Rattle.journal_text.specs.Falls.{GoesDown}
-use Rattle.rib_origin.specs.Branches.{org_rows}
-use Rattle.rib_origin.specs.Parts.{sent_entries}
+use Rattle.rib_tree.specs.Branches.{org_rows}
 use Rattle.rib_tree.specs.Trees.{Treed, branch_of, put_branch, low_rows, dyn_rows, int_rows}
 use Rattle.rib_tree.specs.Falls.{merge_below}
 
@@ -68,6 +69,10 @@ abbrev pub MergesBelow : Proto → Treed → Change Interior → Option (Change 
 MergesBelow proto new change sent =
     (old : Treed) (p : Network) → DifferAt proto old new → IsSent (rows_into proto old) (rows_into proto new) p (Some change)
     → IsSent (int_rows old) (int_rows new) p sent
+
+-- the entry of what a merge sends
+abbrev pub sent_entries : Link → Option (Change Interior) → List (Entry Value)
+sent_entries = entries_sent interior_value
 
 -- what both merges send, and its entries
 pub record PassesDown (proto : Proto) (old new : Treed) (p : Network) (sent : Option (Change Interior)) (entries : List (Entry Value)) : Type 0 where

@@ -17,7 +17,9 @@ use Rattle.journal_text.specs.declared.link.Task.TheVariants.{Del, Fin, Rdel}
 use Rattle.journal_text.specs.declared.value.Value.{Value}
 use Rattle.journal_text.specs.declared.entry.Entry.{Entry}
 use Rattle.journal_text.specs.Journals.{Journaled, Adds}
-use Rattle.rib_origin.specs.Steps.{new_branch, fed_branch, lost_branch, loss_entries, welded_branch, weld_entries, table_of, swept_branch, overdue_of}
+use Rattle.rib_tree.specs.BranchSteps.{new_branch, fed_branch, lost_branch, loss_entries, welded_branch, swept_branch, overdue_of}
+use Rattle.loss_chain.specs.declared.owner.Owner.TheVariants.{Origin}
+use Rattle.loss_chain.specs.Steps.{weld_entries, table_of}
 use Rattle.rib_tree.specs.Trees.{Treed, branch_of, put_branch, int_rows, IsFull, IsFullBut}
 use Rattle.rib_tree.specs.Falls.{FallsTree, way_of_sweep}
 
@@ -41,7 +43,7 @@ abbrev pub welded_tree : Proto → Treed → Treed
 welded_tree proto t = put_branch proto (welded_branch (branch_of proto t)) t
 
 abbrev pub tree_weld_entries : Proto → Treed → List (Entry Value)
-tree_weld_entries proto t = weld_entries proto (Org proto) (branch_of proto t).deletions
+tree_weld_entries proto t = weld_entries (Origin proto) (Org proto) (branch_of proto t).deletions
 
 -- the row at a prefix leaves the table of a loss
 abbrev pub swept_tree : Proto → ℕ → Network → Treed → Treed

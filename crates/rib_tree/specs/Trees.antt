@@ -13,9 +13,11 @@ use Rattle.journal_text.specs.declared.link.Link.TheVariants.{Org, Lost, Low, Dy
 use Rattle.journal_text.specs.declared.link.Task.{Task}
 use Rattle.journal_text.specs.declared.value.Value.{Value}
 use Rattle.journal_text.specs.Walk.{Links}
-use Rattle.journal_text.specs.Journals.{interior_rows}
-use Rattle.rib_origin.specs.Branches.{Branch, org_rows, rows_above, IsBranch, NoneEmpty, OneEmptyAtMost, branch_count, same_proto}
-use Rattle.rib_origin.specs.Steps.{branch_tasks}
+use Rattle.journal_text.specs.Values.{interior_rows}
+use Rattle.rib_tree.specs.Branches.{Branch, org_rows, IsBranch, branch_count}
+use Rattle.loss_chain.specs.Tables.{rows_above, NoneEmpty, OneEmptyAtMost}
+use Rattle.loss_chain.specs.Owners.{same_proto}
+use Rattle.rib_tree.specs.BranchSteps.{branch_tasks}
 
 pub record Treed : Type 0 where
   pub connected : Branch

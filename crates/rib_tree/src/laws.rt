@@ -1,10 +1,14 @@
 //! Laws of the tree, for the proofs of the crates above. Each is a function that does nothing, whose contract is the law.
 
-ghost use Rattle.rib_tree.specs.Laws.{ANewTreeStands, TheLeastDistanceStands, EachRowCounts, TurnsTakeRows, WeldsKeepRows, LossesKeepRows};
+ghost use Rattle.rib_tree.specs.Laws.{ANewTreeStands, RowsAreOwn, TheLeastDistanceStands, EachRowCounts, TurnsTakeRows, WeldsKeepRows, LossesKeepRows};
 
 use rib_merge::the_lesser_distance_stands;
-use rib_origin::rows_are_own;
 use rib_route::Interior;
+
+/// Each row of `org.PROTO` is a route of the protocol.
+pub fn rows_are_own()
+    ensures { RowsAreOwn }
+{}
 
 /// What calls require of a tree holds of a new one.
 pub fn a_new_tree_stands()

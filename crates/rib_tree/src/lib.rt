@@ -11,7 +11,7 @@
 //! org.rip --------+
 //! ```
 //!
-//! A [`Tree`] holds a [`Branch`](rib_origin::Branch) for each protocol: its live routes, and a deletion stage for each of
+//! A [`Tree`] holds a [`Branch`] for each protocol: its live routes, and a deletion stage for each of
 //! its losses whose routes aren't deleted yet. Two merges bring the four links together in two, `low` and `dyn`, and a
 //! third these in `int`: at each prefix the row of the least administrative distance stands. The merges hold no rows:
 //! beside a change they ask the other link for its row at the prefix. [`forward`] is what `fib` gets of a change of `int`.
@@ -25,6 +25,7 @@
 //! For want of memory a call may stop half way. The tree may then only be dropped: nothing is said of it.
 #![tactic(auto)]
 
+mod branch;
 mod forwarding;
 mod laws;
 mod lookups;
@@ -32,9 +33,10 @@ mod merging;
 mod steps;
 mod tree;
 
+pub use branch::Branch;
 pub use forwarding::forward;
 pub use laws::{
-    a_new_tree_stands, each_row_counts, losses_keep_rows, the_least_distance_stands,
+    a_new_tree_stands, each_row_counts, losses_keep_rows, rows_are_own, the_least_distance_stands,
     turns_take_rows, welds_keep_rows,
 };
 pub use tree::Tree;

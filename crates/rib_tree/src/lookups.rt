@@ -1,6 +1,8 @@
 //! Lookups, which walk the tree upward.
 
-ghost use Rattle.std.specs.Prelude.{◌≡◌, IfOk, IsSome, is_some, option_map, Some};
+ghost use Rattle.std.specs.Prelude.{◌≡◌, ℕ, IfOk, IsSome, is_some, option_map, Some};
+ghost use Rattle.rib_route.specs.declared.Proto.{Proto};
+ghost use Rattle.journal_text.specs.declared.link.Link.TheVariants as names;
 ghost use Rattle.addr4.specs.Places.{key_of};
 ghost use Rattle.link_change.specs.Rows.{Rows, IsNextCandidate, with_rows};
 ghost use Rattle.journal_text.specs.declared.value.Value.{Value};
@@ -63,6 +65,11 @@ impl Tree {
                 let row = self.int_row(p)?;
                 Ok(fib_value(forwarded(&row)))
             }
+            Link::Lost(proto, loss) => {
+                let branch = self.branch(proto);
+                let row = branch.asked(Link::Lost(branch.proto(), loss), p)?;
+                Ok(row)
+            }
             _ => {
                 let row = self.interior_row(link, p)?;
                 Ok(interior_value(row))
@@ -70,17 +77,14 @@ impl Tree {
         }
     }
 
-    // The row at a prefix of a link of the tree.
+    // The row at a prefix of a link of the tree, except those of losses.
     fn interior_row(&self, link: Link, p: Prefix) -> Result<Option<Interior>, Memory>
-        requires { IsSome (tree_links self.now link) }
+        requires some { IsSome (tree_links self.now link) }
+        requires no_loss { (proto : Proto) (loss : ℕ) → link ≡ names.Lost proto loss → ⊥ }
         ensures { IfOk result (λ row. HasRow (tree_links self.now) link p (option_map (λ r. values.Interior r) row)) }
     {
         match link {
             Link::Org(proto) => Upstream::asked(self.branch(proto), &p),
-            Link::Lost(proto, loss) => {
-                let branch = self.branch(proto);
-                Ok(branch.asked(Link::Lost(branch.proto(), loss), p))
-            }
             Link::Low => self.low_row(p),
             Link::Dyn => self.dyn_row(p),
             Link::Int => self.int_row(p),

@@ -2,7 +2,7 @@
 
 ghost use Rattle.std.specs.Prelude.{◌≡◌, IfOk, OnOk};
 ghost use Rattle.journal_text.specs.Journals.{with_entries};
-ghost use Rattle.rib_origin.specs.Parts.{sent_entries};
+ghost use Rattle.rib_tree.specs.Merges.{sent_entries};
 ghost use Rattle.rib_tree.specs.Trees.{low_rows, dyn_rows};
 ghost use Rattle.rib_tree.specs.Falls.{merge_below};
 ghost use Rattle.rib_tree.specs.Merges.{partner_of, side_of, side_below, rows_beside, MergesInto, MergesBelow, IsPassedDown};
@@ -53,16 +53,6 @@ fn merged_link(proto: Proto) -> Link
     match proto {
         Proto::Connected | Proto::Static => Link::Low,
         Proto::Ospf | Proto::Rip => Link::Dyn,
-    }
-}
-
-// Writes the line of what a merge sends, if it sends something.
-fn send(journal: &mut Journal, out: Link, sent: &Option<Change<Interior>>) -> Result<(), Memory>
-    ensures { OnOk result (journal.new ≡ with_entries journal.old (sent_entries out sent.now)) }
-{
-    match sent {
-        Some(change) => journal.push_interior_change(out, change),
-        None => Ok(()),
     }
 }
 
@@ -127,9 +117,9 @@ impl Tree {
         let Some(middle) = self.merge_into(proto, change)? else {
             return Ok(None);
         };
-        journal.push_interior_change(merged_link(proto), &middle)?;
+        journal.push_change(merged_link(proto), &middle)?;
         let sent = self.merge_below(proto, middle)?;
-        send(journal, Link::Int, &sent)?;
+        journal.push_sent(Link::Int, &sent)?;
         Ok(sent)
     }
 }

@@ -3,10 +3,14 @@
 ghost use Rattle.std.specs.Prelude.{◌≡◌, ◌<◌, IfOk, OnOk, IfSome, None};
 ghost use Rattle.link_change.specs.Changes.{IsSent};
 ghost use Rattle.journal_text.specs.declared.link.Link.TheVariants as names;
+ghost use Rattle.loss_chain.specs.declared.owner.Owner.TheVariants as owners;
 ghost use Rattle.journal_text.specs.Journals.{Adds, with_entries};
-ghost use Rattle.rib_origin.specs.Branches.{org_rows, IsBranch, NoneEmpty, OneEmptyAtMost};
-ghost use Rattle.rib_origin.specs.Falls.{FallsBranch, LeadsBranch, way_down};
-ghost use Rattle.rib_origin.specs.Steps.{fed_branch, lost_branch, loss_entries, welded_branch, weld_entries, overdue_of, IsTakenBranch};
+ghost use Rattle.rib_tree.specs.Branches.{org_rows, IsBranch};
+ghost use Rattle.loss_chain.specs.Tables.{NoneEmpty, OneEmptyAtMost};
+ghost use Rattle.rib_tree.specs.Branches.{FallsBranch, LeadsBranch};
+ghost use Rattle.loss_chain.specs.Falls.{way_down};
+ghost use Rattle.rib_tree.specs.BranchSteps.{fed_branch, lost_branch, loss_entries, welded_branch, overdue_of, IsTakenBranch};
+ghost use Rattle.loss_chain.specs.Steps.{weld_entries};
 ghost use Rattle.rib_tree.specs.Trees.{branch_of};
 ghost use Rattle.rib_tree.specs.Merges.{DifferAt};
 
@@ -31,7 +35,7 @@ impl Tree {
         ensures others { DifferAt proto self.old self.new }
         ensures sent { IfOk result (IsSent (org_rows (branch_of proto self.old)) (org_rows (branch_of proto self.new)) p) }
         ensures after { OnOk result (branch_of proto self.new ≡ fed_branch (branch_of proto self.old) p new) }
-        ensures lines { IfOk result (λ sent. let b = branch_of proto self.old in Adds (FallsBranch b (branch_of proto self.new) p (way_down b.proto (names.Org b.proto) b.deletions) sent) journal.old journal.new) }
+        ensures lines { IfOk result (λ sent. let b = branch_of proto self.old in Adds (FallsBranch b (branch_of proto self.new) p (way_down (owners.Origin b.proto) (names.Org b.proto) b.deletions) sent) journal.old journal.new) }
         ensures branch { OnOk result (IsBranch (branch_of proto self.new)) }
         ensures one_empty { OnOk result (OneEmptyAtMost (branch_of proto self.new).deletions) }
     {
@@ -71,8 +75,8 @@ impl Tree {
         requires one_empty { OneEmptyAtMost (branch_of proto self.old).deletions }
         ensures others { DifferAt proto self.old self.new }
         ensures after { OnOk result (branch_of proto self.new ≡ welded_branch (branch_of proto self.old)) }
-        ensures lines { OnOk result (let b = branch_of proto self.old in journal.new ≡ with_entries journal.old (weld_entries b.proto (names.Org b.proto) b.deletions)) }
-        ensures leads { OnOk result (let b = branch_of proto self.old in LeadsBranch b (weld_entries b.proto (names.Org b.proto) b.deletions) (branch_of proto self.new)) }
+        ensures lines { OnOk result (let b = branch_of proto self.old in journal.new ≡ with_entries journal.old (weld_entries (owners.Origin b.proto) (names.Org b.proto) b.deletions)) }
+        ensures leads { OnOk result (let b = branch_of proto self.old in LeadsBranch b (weld_entries (owners.Origin b.proto) (names.Org b.proto) b.deletions) (branch_of proto self.new)) }
         ensures rows { OnOk result (org_rows (branch_of proto self.new) ≡ org_rows (branch_of proto self.old)) }
         ensures branch { OnOk result (IsBranch (branch_of proto self.new)) }
         ensures full { OnOk result (NoneEmpty (branch_of proto self.new).deletions) }

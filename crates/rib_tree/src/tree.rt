@@ -9,10 +9,10 @@ ghost use Rattle.rib_tree.specs.Trees.{branch_of, int_rows, IsTree, IsFull, IsFu
 ghost use Rattle.rib_tree.specs.Falls.{FallsTree, LeadsTree, way_of_route};
 ghost use Rattle.rib_tree.specs.Steps.{new_tree, fed_tree, lost_tree, tree_loss_entries, welded_tree, tree_weld_entries, tree_overdue, IsTakenTree, IsFullAfter};
 
+use crate::branch::Branch;
 use addr4::{Memory, Prefix};
 use journal_text::{Journal, Task};
 use link_change::{Change, Turn};
-use rib_origin::Branch;
 use rib_route::{Interior, Proto};
 use std::alloc::Global;
 use std::marker::Model;
@@ -27,7 +27,7 @@ pub struct Tree {
 }
 
 impl Model for Tree {
-    ghost use Rattle.rib_origin.specs.Branches.{branch_code};
+    ghost use Rattle.rib_tree.specs.Branches.{branch_code};
     ghost use Rattle.rib_route.specs.contracts.Proto as proto_row;
     ghost use Rattle.rib_route.specs.contracts.rows.Interior as interior_row;
     ghost use Rattle.rib_tree.specs.Trees.{Treed, treed_code};

@@ -15,8 +15,9 @@ use Rattle.journal_text.specs.declared.link.Task.{Task}
 use Rattle.journal_text.specs.declared.link.Task.TheVariants.{Del, Fin, Rdel}
 use Rattle.journal_text.specs.declared.line.Line.{Line}
 use Rattle.journal_text.specs.Journals.{Journaled, with_lines, flushed}
-use Rattle.rib_origin.specs.Branches.{NoneEmpty, lost_count}
-use Rattle.rib_origin.specs.Steps.{table_of, branch_tasks}
+use Rattle.loss_chain.specs.Tables.{NoneEmpty, lost_count}
+use Rattle.loss_chain.specs.Steps.{table_of}
+use Rattle.rib_tree.specs.BranchSteps.{branch_tasks}
 use Rattle.rib_tree.specs.Trees.{Treed, branch_of, tree_count, tree_tasks, first_task}
 use Rattle.in_chain.specs.Chains.{Chained}
 use Rattle.router_core.specs.declared.router.Phase.TheVariants as phases

@@ -14,15 +14,15 @@ use Rattle.journal_text.proofs.WalkLemmas.{leads_nowhere}
 use Rattle.event_text.specs.declared.declared.DeclaredPeer.{DeclaredPeer}
 use Rattle.pass_core.specs.Passed.{present}
 use Rattle.in_chain.specs.Chains.{Chained}
-use Rattle.in_chain.specs.IncomingSteps.{without, live_after, deletions_after}
+use Rattle.loss_chain.specs.Steps.{without, live_after, deletions_after}
 use Rattle.router_core.specs.Moments.{Moment, chain_at, with_chain, router_links}
 use Rattle.router_core.specs.Lives.{LiveState, Routes, live_state, with_routes, routes_after}
 use Rattle.router_core.specs.Stands.{AreInOrder, IsSilent, PeerStands, Stands}
 use Rattle.router_core.specs.Turns.{Feeds, FeedsAll}
 use Rattle.router_core.specs.Works.{FeedsChain, Pushes, Steps, IsPlace, IsUpAt, HaveFed, live_fed}
+use Rattle.router_core.proofs.TableLemmas.{is_full}
 use Rattle.router_core.proofs.ChainLemmas.{number_at, same_by}
 use Rattle.router_core.proofs.LinkLemmas.{leads_router}
-use Rattle.router_core.proofs.RowCounts.{is_full}
 use Rattle.router_core.proofs.StandLemmas.{remade, losses_stay, losses_join, one_peer, peer_of, stands_with, live_routed, routes_there, routes_same, routes_twice, peer_left}
 use Rattle.router_core.proofs.TurnLemmas.{leads_join}
 use Rattle.router_core.proofs.PlaceLemmas.{at_place, set_at_place}

@@ -11,18 +11,18 @@ use Rattle.journal_text.specs.declared.entry.Entry.{Entry}
 use Rattle.journal_text.specs.declared.value.Value.{Value}
 use Rattle.journal_text.specs.declared.line.Line.{Line}
 use Rattle.rib_route.specs.declared.Proto.{Proto}
-use Rattle.rib_origin.specs.Steps.{table_of as table_of_loss}
+use Rattle.loss_chain.specs.Steps.{table_of as table_of_loss}
 use Rattle.rib_tree.specs.Trees.{branch_of}
 use Rattle.in_chain.specs.Chains.{Chained}
-use Rattle.in_chain.specs.IncomingSteps.{table_of}
+use Rattle.loss_chain.specs.Steps.{table_of}
 use Rattle.in_chain.specs.Steps.{welded, has_turn, Turned}
 use Rattle.router_core.specs.declared.router.Phase.{Phase}
 use Rattle.router_core.specs.declared.router.Phase.TheVariants as phases
 use Rattle.router_core.specs.Moments.{Moment, chain_at, put_chain, with_chain}
 use Rattle.router_core.specs.Stands.{AreInOrder}
 use Rattle.router_core.specs.Turns.{peer_of, IsPeerTurn, IsRouteTurn, IsTurn, Turns, DrainsAll, filter_tasks, has_turn_in, has_work, IsOver}
+use Rattle.router_core.proofs.TableLemmas.{is_full}
 use Rattle.router_core.proofs.ChainLemmas.{equal_by, same_by, other_by, both, number_at, chain_here, chain_past, chain_at_put_same, chain_at_put_other, put_one_number, all_at, all_put}
-use Rattle.router_core.proofs.RowCounts.{is_full}
 use Rattle.router_core.proofs.WorkLemmas.{turn_stays}
 
 -- ---- what each turn keeps, all turns keep

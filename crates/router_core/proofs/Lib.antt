@@ -31,3 +31,4 @@ pub mod RouteTasks
 pub mod DrainRoutes
 pub mod RouteRoom
 pub mod RouteSteps
+pub mod TableLemmas

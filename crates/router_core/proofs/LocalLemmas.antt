@@ -8,7 +8,7 @@ use Rattle.rib_route.specs.declared.Proto.{Proto}
 use Rattle.rib_route.specs.declared.Proto.TheVariants.{Connected, Static, Ospf, Rip}
 use Rattle.rib_route.specs.declared.rows.Interior.{Interior}
 use Rattle.rib_merge.specs.Merging.{merged}
-use Rattle.rib_origin.specs.Branches.{org_rows}
+use Rattle.rib_tree.specs.Branches.{org_rows}
 use Rattle.rib_tree.specs.Trees.{Treed, branch_of, low_rows, dyn_rows, int_rows, interior_distance}
 use Rattle.rib_tree.specs.Steps.{new_tree}
 use Rattle.rib_tree.specs.Forwards.{forwarded, rib_links}
@@ -17,7 +17,8 @@ use Rattle.journal_text.specs.declared.link.Link.TheVariants.{In, Peer, Filt, Re
 use Rattle.journal_text.specs.declared.value.Value.{Value}
 use Rattle.journal_text.specs.Texts.{entries_of}
 use Rattle.journal_text.specs.Walk.{Leads, fold_links}
-use Rattle.journal_text.specs.Journals.{interior_rows, fib_rows, Journaled, with_lines}
+use Rattle.journal_text.specs.Journals.{Journaled, with_lines}
+use Rattle.journal_text.specs.Values.{interior_rows, fib_rows}
 use Rattle.event_text.specs.declared.event.Event.TheVariants as events
 use Rattle.event_text.specs.Declarations.{refusal}
 use Rattle.router_core.specs.Moments.{Moment, rib_by, router_links}

@@ -18,10 +18,12 @@ use Rattle.journal_text.proofs.JournalLemmas.{entries_of_entries}
 use Rattle.event_text.specs.declared.declared.DeclaredPeer.{DeclaredPeer}
 use Rattle.event_text.specs.Declarations.{peer_at, ended_at, without_session}
 use Rattle.pass_core.specs.Passed.{present}
-use Rattle.in_chain.specs.Incomings.{NoneEmpty}
+use Rattle.loss_chain.specs.declared.owner.Owner.TheVariants as owners
+use Rattle.loss_chain.specs.Tables.{NoneEmpty}
 use Rattle.in_chain.specs.Chains.{Chained, beside, IsChain}
 use Rattle.in_chain.specs.Falls.{LeadsChain}
-use Rattle.in_chain.specs.IncomingSteps.{loss_entries, overdue_of, oldest_of}
+use Rattle.in_chain.specs.IncomingSteps.{loss_entries, overdue_of}
+use Rattle.loss_chain.specs.Steps.{oldest_of}
 use Rattle.in_chain.specs.Steps.{lost}
 use Rattle.router_core.specs.Moments.{Moment, chain_at, put_chain, Gives}
 use Rattle.router_core.specs.Lives.{LiveState, Routes, live_state, with_routes, ended}
@@ -129,7 +131,7 @@ room_of c none full = by_stages c.incoming.deletions refl
     by_stages : (x : List (Lost Attrs)) → c.incoming.deletions ≡ x → length c.incoming.deletions < 16
     by_stages [] is = let e : length c.incoming.deletions ≡ 0 = ap length is in omega arith
     by_stages (d ∷ ds) is =
-        let b = none_of (nat_lt (length c.incoming.deletions) 16 || is_empty_map c.incoming.live) (oldest_of c.incoming.number c.incoming.deletions) none (Del c.incoming.number d.number) (ap (oldest_of c.incoming.number) is) in
+        let b = none_of (nat_lt (length c.incoming.deletions) 16 || is_empty_map c.incoming.live) (oldest_of (owners.Peer c.incoming.number) c.incoming.deletions) none (Del c.incoming.number d.number) (ap (oldest_of (owners.Peer c.incoming.number)) is) in
         let only : nat_lt (length c.incoming.deletions) 16 ≡ true = left_of (nat_lt (length c.incoming.deletions) 16) (is_empty_map c.incoming.live) b full in
         grind (arith, nat_tests)
       where

@@ -26,7 +26,7 @@ use Rattle.pass_core.specs.Passed.{Walked, present, edited}
 use Rattle.filter_bank.specs.Filtered.{filtered_rows}
 use Rattle.in_chain.specs.Incomings.{in_rows}
 use Rattle.in_chain.specs.Chains.{Chained, filt_rows, links_of, is_named}
-use Rattle.journal_text.specs.Journals.{attrs_rows, route_rows}
+use Rattle.journal_text.specs.Values.{attrs_rows, route_rows}
 use Rattle.journal_text.proofs.WalkLemmas.{leads_nowhere}
 use Rattle.in_chain.specs.Steps.{new_chain, refiltered}
 use Rattle.rib_route.specs.declared.rows.Interior.{Interior}

@@ -16,8 +16,10 @@ use Rattle.journal_text.specs.Journals.{Journaled, with_lines, with_entries, flu
 use Rattle.journal_text.specs.Walk.{Leads}
 use Rattle.journal_text.proofs.JournalLemmas.{entries_of_entries}
 use Rattle.event_text.specs.declared.event.Event.TheVariants.{Lose}
-use Rattle.rib_origin.specs.Branches.{Branch}
-use Rattle.rib_origin.specs.Steps.{lost_branch, overdue_of, oldest_of}
+use Rattle.rib_tree.specs.Branches.{Branch}
+use Rattle.rib_tree.specs.BranchSteps.{lost_branch, overdue_of}
+use Rattle.loss_chain.specs.declared.owner.Owner.TheVariants as owners
+use Rattle.loss_chain.specs.Steps.{oldest_of}
 use Rattle.rib_tree.specs.Trees.{Treed, branch_of, int_rows, IsTree, IsFull, AreNumbered}
 use Rattle.rib_tree.specs.Falls.{LeadsTree}
 use Rattle.rib_tree.specs.Steps.{lost_tree, tree_loss_entries, tree_overdue}
@@ -47,7 +49,7 @@ room_of b none full = by_stages b.deletions refl
     by_stages : (x : List (Lost Interior)) → b.deletions ≡ x → length b.deletions < 16
     by_stages [] is = let e : length b.deletions ≡ 0 = ap length is in omega arith
     by_stages (d ∷ ds) is =
-        let test = none_of (nat_lt (length b.deletions) 16 || is_empty_map b.live) (oldest_of b.proto b.deletions) none (Rdel b.proto d.number) (ap (oldest_of b.proto) is) in
+        let test = none_of (nat_lt (length b.deletions) 16 || is_empty_map b.live) (oldest_of (owners.Origin b.proto) b.deletions) none (Rdel b.proto d.number) (ap (oldest_of (owners.Origin b.proto)) is) in
         let only : nat_lt (length b.deletions) 16 ≡ true = left_of (nat_lt (length b.deletions) 16) (is_empty_map b.live) test full in
         grind (arith, nat_tests)
 

@@ -12,9 +12,9 @@ use Rattle.journal_text.specs.declared.link.Link.{Link}
 use Rattle.journal_text.specs.declared.link.Link.TheVariants.{In, Peer, Filt, Res, Org, Lost, Low, Dyn, Int, Red, Best, ReadRib, Ebgp, Ibgp, Ext, Fib, Read, Outf, Adv}
 use Rattle.journal_text.specs.declared.entry.Entry.{Entry}
 use Rattle.journal_text.specs.declared.value.Value.{Value}
-use Rattle.journal_text.specs.Journals.{fib_rows}
+use Rattle.journal_text.specs.Values.{fib_rows, fib_value}
 use Rattle.journal_text.specs.Walk.{Links, with_link, Leads}
-use Rattle.journal_text.proofs.WalkLemmas.{leads_append, leads_nowhere, with_link_same, fib_change_leads}
+use Rattle.journal_text.proofs.WalkLemmas.{leads_append, leads_nowhere, with_link_same, values_lead}
 use Rattle.register_interest.specs.Registers.{Registry}
 use Rattle.rib_tree.specs.Trees.{Treed, beside_tree, int_rows}
 use Rattle.rib_tree.specs.Falls.{LeadsTree}
@@ -100,7 +100,7 @@ module _ (m : Moment) (me : Speaker) (since : m.declared.speaker ≡ Some me) wh
         leads_nowhere (beside_tree (router_links m) t) (router_links (replanted m t r)) (sym stays ∙ beside_next)
     fib_leads p (Some change) sent =
         subst (λ (l : Links Value). Leads (beside_tree (router_links m) t) (fib_entries (Some change)) l) beside_next
-        (fib_change_leads (beside_tree (router_links m) t) Fib (forwarded (int_rows m.tree)) (forwarded (int_rows t)) p change fib_now sent)
+        (values_lead fib_value (λ a b e. cc) (beside_tree (router_links m) t) Fib (forwarded (int_rows m.tree)) (forwarded (int_rows t)) p change fib_now sent)
 
     -- what leads the tree on, and `fib` behind it, leads the router on
     pub leads_rib : (entries : List (Entry Value)) (p : Network) (below : Option (Change FibRow)) → LeadsTree m.tree entries t → IsSent (forwarded (int_rows m.tree)) (forwarded (int_rows t)) p below

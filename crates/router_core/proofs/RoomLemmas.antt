@@ -1,66 +1,28 @@
 -- Room for one more deletion stage.
-use Rattle.std.proofs.Common.{◌≡◌, ℕ, ◌<◌, ◌≤◌, Bool, true, false, ◌&&◌, ◌||◌, cond, List, [], ◌∷◌, map, Option, Some, None, is_some, nat_eq, nat_lt, length, refl, sym, ap, subst, ◌∙◌, arith, zero, suc}
+use Rattle.std.proofs.Common.{◌≡◌, ℕ, ◌<◌, ◌≤◌, Bool, true, ◌&&◌, ◌||◌, cond, List, [], Option, Some, None, is_some, nat_eq, nat_lt, length, refl, sym, ap, subst, ◌∙◌, arith, zero, suc}
 use Rattle.std.proofs.lemmas.Bool.Decides.{nat_tests}
-use Rattle.std.specs.List.{filter}
 use Rattle.std.specs.FinMap.{FinMap}
 use Rattle.addr4.specs.Prefixes.{Network, prefix_cmp}
 use Rattle.bgp_attr.specs.declared.attrs.Attrs.{Attrs}
 use Rattle.link_change.specs.Rows.{is_empty_map}
-use Rattle.deletion_stage.specs.Lost.{Lost}
 use Rattle.journal_text.specs.declared.link.Task.{Task}
 use Rattle.journal_text.specs.declared.link.Task.TheVariants.{Del}
 use Rattle.journal_text.specs.declared.line.Line.{Line}
 use Rattle.journal_text.specs.Journals.{Journaled, flushed}
 use Rattle.in_chain.specs.Chains.{Chained}
-use Rattle.in_chain.specs.IncomingSteps.{swept_one, table_of, overdue_of, oldest_of}
+use Rattle.loss_chain.specs.declared.owner.Owner.TheVariants as owners
+use Rattle.loss_chain.specs.Steps.{swept_one, table_of, oldest_of}
+use Rattle.in_chain.specs.IncomingSteps.{overdue_of}
 use Rattle.in_chain.specs.Steps.{swept, welded, Sweeps}
 use Rattle.router_core.specs.Moments.{Moment, chain_at, with_chain, Gives}
 use Rattle.router_core.specs.Stands.{Stands}
 use Rattle.router_core.specs.Turns.{Turns, has_turn_in}
 use Rattle.router_core.specs.Blocks.{RunsFirst}
 use Rattle.router_core.specs.Works.{HasDrained, HasRoom}
+use Rattle.router_core.proofs.TableLemmas.{is_full, few_left, short_filter, stage_of, no_table}
 use Rattle.router_core.proofs.ChainLemmas.{same_by, one_of, number_at, chain_at_put_same}
-use Rattle.router_core.proofs.RowCounts.{is_full}
-use Rattle.router_core.proofs.StandLemmas.{peer_of, few_left}
+use Rattle.router_core.proofs.StandLemmas.{peer_of}
 use Rattle.router_core.proofs.TurnLemmas.{flushed_none, work_none}
-use Rattle.router_core.proofs.UnitLemmas.{swept_number}
-
-short_filter : (s : ℕ) (p : Network) (ds : List (Lost Attrs)) (t : FinMap prefix_cmp Attrs) → table_of s ds ≡ Some t → table_of s (filter is_full (map (swept_one s p) ds)) ≡ None
-    → length (filter is_full (map (swept_one s p) ds)) < length ds
-short_filter s p [] t there gone = absurd (cc)
-short_filter s p (d ∷ ds) t there gone = by_test (nat_eq d.number s) refl (is_full (swept_one s p d)) refl (short_filter s p ds t)
-  where
-    below : length (filter is_full (map (swept_one s p) ds)) ≤ length ds
-    below = few_left (swept_one s p) is_full ds
-
-    number : (swept_one s p d).number ≡ d.number
-    number = swept_number s p d
-
-    list_is : (b : Bool) → is_full (swept_one s p d) ≡ b → filter is_full (map (swept_one s p) (d ∷ ds)) ≡ cond b (swept_one s p d ∷ filter is_full (map (swept_one s p) ds)) (filter is_full (map (swept_one s p) ds))
-    list_is b f = ap (λ (x : Bool). cond x (swept_one s p d ∷ filter is_full (map (swept_one s p) ds)) (filter is_full (map (swept_one s p) ds))) f
-
-    by_test : (b : Bool) → nat_eq d.number s ≡ b → (f : Bool) → is_full (swept_one s p d) ≡ f
-        → (table_of s ds ≡ Some t → table_of s (filter is_full (map (swept_one s p) ds)) ≡ None → length (filter is_full (map (swept_one s p) ds)) < length ds)
-        → length (filter is_full (map (swept_one s p) (d ∷ ds))) < length (d ∷ ds)
-    by_test true e true f rest =
-        let has : table_of s (filter is_full (map (swept_one s p) (d ∷ ds))) ≡ Some (swept_one s p d).rows = ap (table_of s) (list_is true f)
-        ∙ ap (λ (b : Bool). cond b (Some (swept_one s p d).rows) (table_of s (filter is_full (map (swept_one s p) ds)))) (ap (λ (n : ℕ). nat_eq n s) number ∙ e) in
-        let contra : Some (swept_one s p d).rows ≡ None = sym has ∙ gone in
-        absurd (cc)
-    by_test true e false f rest =
-        let n : length (filter is_full (map (swept_one s p) (d ∷ ds))) ≡ length (filter is_full (map (swept_one s p) ds)) = ap length (list_is false f) in
-        let b = below in
-        omega arith
-    by_test false e true f rest =
-        let skip : table_of s (filter is_full (map (swept_one s p) (d ∷ ds))) ≡ table_of s (filter is_full (map (swept_one s p) ds)) = ap (table_of s) (list_is true f)
-        ∙ ap (λ (b : Bool). cond b (Some (swept_one s p d).rows) (table_of s (filter is_full (map (swept_one s p) ds)))) (ap (λ (n : ℕ). nat_eq n s) number ∙ e) in
-        let r = rest (sym (ap (λ (b : Bool). cond b (Some d.rows) (table_of s ds)) e) ∙ there) (sym skip ∙ gone) in
-        let n : length (filter is_full (map (swept_one s p) (d ∷ ds))) ≡ suc (length (filter is_full (map (swept_one s p) ds))) = ap length (list_is true f) in
-        omega arith
-    by_test false e false f rest =
-        let r = rest (sym (ap (λ (b : Bool). cond b (Some d.rows) (table_of s ds)) e) ∙ there) (ap (table_of s) (sym (list_is false f)) ∙ gone) in
-        let n : length (filter is_full (map (swept_one s p) (d ∷ ds))) ≡ length (filter is_full (map (swept_one s p) ds)) = ap length (list_is false f) in
-        omega arith
 
 -- the stages of a chain after turns of one of them: fewer, where that one has gone
 record Shorter (k s : ℕ) (c : Chained) (m' : Moment) : Type 0 where
@@ -109,22 +71,13 @@ turns_shorter (suc n) k s m c said m' at t = by_rest (turns_shorter n k s t.2 c1
         by_table table there none (Some x) e = let a = r.gone x e none in let b = few_left (swept_one s p) is_full c.incoming.deletions in omega arith
         by_table table there none None e = let a = r.short in let b = short_filter s p c.incoming.deletions table there e in omega arith
 
-stage_of : (b : Bool) (k : ℕ) (ds : List (Lost Attrs)) (task : Task) → cond b None (oldest_of k ds) ≡ Some task → (d : Lost Attrs) × (rest : List (Lost Attrs)) × (ds ≡ d ∷ rest) × (task ≡ Del k d.number)
-stage_of true k ds task e = absurd (cc)
-stage_of false k [] task e = absurd (cc)
-stage_of false k (d ∷ ds) task e = (d, ds, refl, cc)
-
 free_of : (c : Chained) → length c.incoming.deletions < 16 → overdue_of c.incoming ≡ None
-free_of c below = let few : nat_lt (length c.incoming.deletions) 16 ≡ true = grind (arith, nat_tests) in ap (λ (b : Bool). cond (b || is_empty_map c.incoming.live) None (oldest_of c.incoming.number c.incoming.deletions)) few
-
-no_table : (o : Option (FinMap prefix_cmp Attrs)) → is_some o ≡ false → o ≡ None
-no_table None e = refl
-no_table (Some t) e = absurd (cc)
+free_of c below = let few : nat_lt (length c.incoming.deletions) 16 ≡ true = grind (arith, nat_tests) in ap (λ (b : Bool). cond (b || is_empty_map c.incoming.live) None (oldest_of (owners.Peer c.incoming.number) c.incoming.deletions)) few
 
 drained_free : (k : ℕ) (m room : Moment) (c : Chained) (task : Task) (n : ℕ) (said : List Line) → Stands m → chain_at k m.chains ≡ Some c → overdue_of c.incoming ≡ Some task → HasDrained task m n room said
     → (c' : Chained) → chain_at k room.chains ≡ Some c' → overdue_of c'.incoming ≡ None
 drained_free k m room c task n said stands at over d c' at' =
-    let stage = stage_of (nat_lt (length c.incoming.deletions) 16 || is_empty_map c.incoming.live) c.incoming.number c.incoming.deletions task over in
+    let stage = stage_of (nat_lt (length c.incoming.deletions) 16 || is_empty_map c.incoming.live) (owners.Peer c.incoming.number) c.incoming.deletions task over in
     let is : task ≡ Del k stage.0.number = stage.3 ∙ ap (λ (j : ℕ). Del j stage.0.number) (number_at k m.chains c at) in
     let drained : HasDrained (Del k stage.0.number) m n room said = subst (λ (t : Task). HasDrained t m n room said) is d in
     let r = turns_shorter n k stage.0.number m c said room at drained.run.taken in

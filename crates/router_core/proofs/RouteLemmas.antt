@@ -21,8 +21,9 @@ use Rattle.journal_text.specs.Walk.{Leads}
 use Rattle.journal_text.proofs.JournalLemmas.{with_entries_append, with_entries_none, entries_of_entries}
 use Rattle.journal_text.proofs.WalkLemmas.{leads_append}
 use Rattle.register_interest.specs.Registers.{Registry, put_row}
-use Rattle.rib_origin.specs.Branches.{Branch}
-use Rattle.rib_origin.specs.Steps.{welded_branch, fed_branch, live_after, without}
+use Rattle.rib_tree.specs.Branches.{Branch}
+use Rattle.rib_tree.specs.BranchSteps.{welded_branch, fed_branch}
+use Rattle.loss_chain.specs.Steps.{live_after, without}
 use Rattle.rib_tree.specs.Trees.{Treed, branch_of, put_branch, int_rows, IsTree, IsFull}
 use Rattle.rib_tree.specs.Falls.{FallsTree, LeadsTree, way_of_route}
 use Rattle.rib_tree.specs.Forwards.{forwarded}
@@ -32,8 +33,9 @@ use Rattle.router_core.specs.Lives.{live_state, interior_fed}
 use Rattle.router_core.specs.Stands.{Stands}
 use Rattle.router_core.specs.Turns.{journal_lines, fib_entries, FallsRoute}
 use Rattle.router_core.specs.Works.{HasLosses, Forwards, registered_after, Follows, Settles, PushesForwarded, HasRouted, Pushes}
+use Rattle.router_core.proofs.TableLemmas.{few_filter, few_map}
 use Rattle.router_core.proofs.RibLinks.{replanted, replants_is, replants_to, leads_rib, leads_above}
-use Rattle.router_core.proofs.TreeParts.{welded_put, put_seen, put_all, put_kept, few_filter, few_map}
+use Rattle.router_core.proofs.TreeParts.{welded_put, put_seen, put_all, put_kept}
 
 -- ---- the register, and `fib`
 put_is_with : (rows : FinMap prefix_cmp Interior) (p : Network) (row : Option Interior) → tables.get (put_row rows p row) ≡ with_row (tables.get rows) p row

@@ -1,5 +1,5 @@
 -- Room for one more deletion stage of a protocol.
-use Rattle.std.proofs.Common.{◌≡◌, ℕ, ◌<◌, ◌≤◌, Bool, true, false, ◌||◌, cond, List, [], ◌∷◌, map, length, Option, Some, None, is_some, nat_eq, nat_lt, refl, sym, ap, subst, ◌∙◌, arith, zero, suc}
+use Rattle.std.proofs.Common.{◌≡◌, ℕ, ◌<◌, ◌≤◌, Bool, true, ◌||◌, cond, List, [], map, length, Option, Some, None, nat_lt, refl, sym, ap, subst, ◌∙◌, arith, zero, suc}
 use Rattle.std.proofs.lemmas.Bool.Decides.{nat_tests}
 use Rattle.std.specs.List.{filter}
 use Rattle.std.specs.FinMap.{FinMap}
@@ -7,13 +7,14 @@ use Rattle.addr4.specs.Prefixes.{Network, prefix_cmp}
 use Rattle.rib_route.specs.declared.Proto.{Proto}
 use Rattle.rib_route.specs.declared.rows.Interior.{Interior}
 use Rattle.link_change.specs.Rows.{is_empty_map}
-use Rattle.deletion_stage.specs.Lost.{Lost}
 use Rattle.journal_text.specs.declared.link.Task.{Task}
 use Rattle.journal_text.specs.declared.link.Task.TheVariants.{Rdel}
 use Rattle.journal_text.specs.declared.line.Line.{Line}
 use Rattle.journal_text.specs.Journals.{Journaled, flushed}
-use Rattle.rib_origin.specs.Branches.{Branch}
-use Rattle.rib_origin.specs.Steps.{without, swept_one, swept_branch, welded_branch, table_of, overdue_of, oldest_of}
+use Rattle.rib_tree.specs.Branches.{Branch}
+use Rattle.loss_chain.specs.declared.owner.Owner.TheVariants as owners
+use Rattle.loss_chain.specs.Steps.{swept_one, table_of, oldest_of}
+use Rattle.rib_tree.specs.BranchSteps.{swept_branch, welded_branch, overdue_of}
 use Rattle.rib_tree.specs.Trees.{Treed, branch_of}
 use Rattle.rib_tree.specs.Steps.{tree_overdue}
 use Rattle.router_core.specs.Moments.{Moment, Gives}
@@ -21,54 +22,11 @@ use Rattle.router_core.specs.Stands.{Stands}
 use Rattle.router_core.specs.Turns.{Turns}
 use Rattle.router_core.specs.Blocks.{RunsFirst}
 use Rattle.router_core.specs.Works.{HasDrained, HasProtocolRoom}
+use Rattle.router_core.proofs.TableLemmas.{is_full, few_left, short_filter, stage_of, no_table}
 use Rattle.router_core.proofs.ChainLemmas.{same_by}
-use Rattle.router_core.proofs.TreeParts.{put_here, few_left}
+use Rattle.router_core.proofs.TreeParts.{put_here}
 use Rattle.router_core.proofs.TurnLemmas.{flushed_none, work_none}
-use Rattle.router_core.proofs.RouteTasks.{is_full, swept_then}
-
-swept_number : (n : ℕ) (p : Network) (d : Lost Interior) → (swept_one n p d).number ≡ d.number
-swept_number n p d = by_test (nat_eq d.number n)
-  where
-    by_test : (b : Bool) → (cond b (without p d) d).number ≡ d.number
-    by_test true = refl
-    by_test false = refl
-
-short_filter : (n : ℕ) (p : Network) (ds : List (Lost Interior)) (t : FinMap prefix_cmp Interior) → table_of n ds ≡ Some t → table_of n (filter is_full (map (swept_one n p) ds)) ≡ None
-    → length (filter is_full (map (swept_one n p) ds)) < length ds
-short_filter n p [] t there gone = absurd (cc)
-short_filter n p (d ∷ ds) t there gone = by_test (nat_eq d.number n) refl (is_full (swept_one n p d)) refl (short_filter n p ds t)
-  where
-    rest_of : List (Lost Interior)
-    rest_of = filter is_full (map (swept_one n p) ds)
-
-    below : length rest_of ≤ length ds
-    below = few_left (swept_one n p) is_full ds
-
-    list_is : (b : Bool) → is_full (swept_one n p d) ≡ b → filter is_full (map (swept_one n p) (d ∷ ds)) ≡ cond b (swept_one n p d ∷ rest_of) rest_of
-    list_is b f = ap (λ (x : Bool). cond x (swept_one n p d ∷ rest_of) rest_of) f
-
-    found : (b : Bool) → nat_eq d.number n ≡ b → table_of n (swept_one n p d ∷ rest_of) ≡ cond b (Some (swept_one n p d).rows) (table_of n rest_of)
-    found b e = ap (λ (x : Bool). cond x (Some (swept_one n p d).rows) (table_of n rest_of)) (ap (λ (k : ℕ). nat_eq k n) (swept_number n p d) ∙ e)
-
-    by_test : (b : Bool) → nat_eq d.number n ≡ b → (f : Bool) → is_full (swept_one n p d) ≡ f → (table_of n ds ≡ Some t → table_of n rest_of ≡ None → length rest_of < length ds)
-        → length (filter is_full (map (swept_one n p) (d ∷ ds))) < length (d ∷ ds)
-    by_test true e true f rest =
-        let has : table_of n (filter is_full (map (swept_one n p) (d ∷ ds))) ≡ Some (swept_one n p d).rows = ap (table_of n) (list_is true f) ∙ found true e in
-        let contra : Some (swept_one n p d).rows ≡ None = sym has ∙ gone in
-        absurd (cc)
-    by_test true e false f rest =
-        let k : length (filter is_full (map (swept_one n p) (d ∷ ds))) ≡ length rest_of = ap length (list_is false f) in
-        let b = below in
-        omega (arith, k, b)
-    by_test false e true f rest =
-        let skip : table_of n (filter is_full (map (swept_one n p) (d ∷ ds))) ≡ table_of n rest_of = ap (table_of n) (list_is true f) ∙ found false e in
-        let r = rest (sym (ap (λ (b : Bool). cond b (Some d.rows) (table_of n ds)) e) ∙ there) (sym skip ∙ gone) in
-        let k : length (filter is_full (map (swept_one n p) (d ∷ ds))) ≡ suc (length rest_of) = ap length (list_is true f) in
-        omega (arith, k, r)
-    by_test false e false f rest =
-        let r = rest (sym (ap (λ (b : Bool). cond b (Some d.rows) (table_of n ds)) e) ∙ there) (ap (table_of n) (sym (list_is false f)) ∙ gone) in
-        let k : length (filter is_full (map (swept_one n p) (d ∷ ds))) ≡ length rest_of = ap length (list_is false f) in
-        omega (arith, k, r)
+use Rattle.router_core.proofs.RouteTasks.{swept_then}
 
 -- the stages of a protocol after turns of one of them: fewer, where that one has gone
 record Shorter (proto : Proto) (n : ℕ) (m m' : Moment) : Type 0 where
@@ -111,22 +69,13 @@ turns_shorter (suc k) proto n m said m' t = by_rest (turns_shorter k proto n t.2
             let d : length (branch_of proto t.2.tree).deletions ≡ length (filter is_full (map (swept_one n p) b.deletions)) = ap length stages in
             omega (arith, a, c, d)
 
-stage_of : (b : Bool) (k : Proto) (ds : List (Lost Interior)) (task : Task) → cond b None (oldest_of k ds) ≡ Some task → (d : Lost Interior) × (rest : List (Lost Interior)) × (ds ≡ d ∷ rest) × (task ≡ Rdel k d.number)
-stage_of true k ds task e = absurd (cc)
-stage_of false k [] task e = absurd (cc)
-stage_of false k (d ∷ ds) task e = (d, ds, refl, cc)
-
 free_of : (b : Branch) → length b.deletions < 16 → overdue_of b ≡ None
-free_of b below = let few : nat_lt (length b.deletions) 16 ≡ true = grind (arith, nat_tests) in ap (λ (x : Bool). cond (x || is_empty_map b.live) None (oldest_of b.proto b.deletions)) few
-
-no_table : (o : Option (FinMap prefix_cmp Interior)) → is_some o ≡ false → o ≡ None
-no_table None e = refl
-no_table (Some t) e = absurd (cc)
+free_of b below = let few : nat_lt (length b.deletions) 16 ≡ true = grind (arith, nat_tests) in ap (λ (x : Bool). cond (x || is_empty_map b.live) None (oldest_of (owners.Origin b.proto) b.deletions)) few
 
 drained_free : (proto : Proto) (m room : Moment) (task : Task) (turns : ℕ) (said : List Line) → Stands m → tree_overdue proto m.tree ≡ Some task → HasDrained task m turns room said → tree_overdue proto room.tree ≡ None
 drained_free proto m room task turns said stands over d =
     let b : Branch = branch_of proto m.tree in
-    let stage = stage_of (nat_lt (length b.deletions) 16 || is_empty_map b.live) b.proto b.deletions task over in
+    let stage = stage_of (nat_lt (length b.deletions) 16 || is_empty_map b.live) (owners.Origin b.proto) b.deletions task over in
     let n : ℕ = stage.0.number in
     let is : task ≡ Rdel proto n = stage.3 ∙ ap (λ (k : Proto). Rdel k n) (stands.tree.tree.placed proto) in
     let drained : HasDrained (Rdel proto n) m turns room said = subst (λ (t : Task). HasDrained t m turns room said) is d in

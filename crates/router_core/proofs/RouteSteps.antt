@@ -13,7 +13,7 @@ use Rattle.journal_text.proofs.WalkLemmas.{leads_nowhere}
 use Rattle.event_text.specs.declared.event.Event.TheVariants.{RouteAdd, RouteDel, Lose}
 use Rattle.event_text.specs.declared.declared.DeclaredPeer.{DeclaredPeer}
 use Rattle.event_text.specs.Declarations.{Declaration, refusal, refusal_at}
-use Rattle.rib_origin.specs.Steps.{live_after}
+use Rattle.loss_chain.specs.Steps.{live_after}
 use Rattle.rib_tree.specs.Trees.{branch_of}
 use Rattle.rib_tree.specs.Falls.{way_of_route}
 use Rattle.rib_tree.specs.Steps.{fed_tree}

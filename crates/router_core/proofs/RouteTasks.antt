@@ -1,5 +1,5 @@
 -- The tasks of the protocols' deletion stages, and what a turn of the first makes of them.
-use Rattle.std.proofs.Common.{◌≡◌, ℕ, ◌+◌, ◌<◌, ◌⊎◌, inl, inr, Bool, true, false, cond, not, List, [], ◌∷◌, ◌++◌, map, Option, Some, None, is_some, refl, sym, ap, subst, ◌∙◌, arith, append_assoc, zero, suc}
+use Rattle.std.proofs.Common.{◌≡◌, ℕ, ◌+◌, ◌<◌, ◌⊎◌, inl, inr, Bool, true, false, cond, List, [], ◌∷◌, ◌++◌, map, Option, is_some, refl, sym, ap, subst, ◌∙◌, arith, append_assoc, zero, suc}
 use Rattle.std.proofs.lemmas.List.{append-nil}
 use Rattle.std.specs.List.{AllByRecursion, filter}
 use Rattle.std.specs.FinMap.{FinMap}
@@ -7,19 +7,21 @@ use Rattle.addr4.specs.Prefixes.{Network, prefix_cmp}
 use Rattle.rib_route.specs.declared.Proto.{Proto}
 use Rattle.rib_route.specs.declared.Proto.TheVariants.{Connected, Static, Ospf, Rip}
 use Rattle.rib_route.specs.declared.rows.Interior.{Interior}
-use Rattle.link_change.specs.Rows.{is_empty_map}
 use Rattle.deletion_stage.specs.Lost.{Lost}
 use Rattle.journal_text.specs.declared.link.Task.{Task}
 use Rattle.journal_text.specs.declared.link.Task.TheVariants.{Rdel}
 use Rattle.journal_text.specs.declared.line.Line.{Line}
-use Rattle.rib_origin.specs.Branches.{Branch, AreRising, NoneEmpty}
-use Rattle.rib_origin.specs.Steps.{without, swept_one, swept_branch, welded_branch, table_of, branch_tasks}
+use Rattle.rib_tree.specs.Branches.{Branch}
+use Rattle.loss_chain.specs.Tables.{AreRising, NoneEmpty}
+use Rattle.loss_chain.specs.Steps.{without, swept_one, table_of}
+use Rattle.rib_tree.specs.BranchSteps.{swept_branch, welded_branch, branch_tasks}
 use Rattle.rib_tree.specs.Trees.{Treed, branch_of, put_branch, ArePlaced, tree_count, tree_tasks}
 use Rattle.router_core.specs.Moments.{Moment}
 use Rattle.router_core.specs.Stands.{TreeIsSettled, Stands}
 use Rattle.router_core.specs.Turns.{IsTurn, IsRouteTurn, DrainsAll, has_work}
 use Rattle.router_core.specs.Works.{Nears}
-use Rattle.router_core.proofs.ChainLemmas.{same_by, other_by, both}
+use Rattle.router_core.proofs.TableLemmas.{is_full, table_here, none_later, swept_head}
+use Rattle.router_core.proofs.ChainLemmas.{both}
 use Rattle.router_core.proofs.TreeParts.{put_same, put_here, welded_put}
 
 -- The first task is of the lowest stage of this protocol, and the stages behind it have the others.
@@ -83,9 +85,6 @@ module _ (t : Treed) (task : Task) (rest : List Task) (placed : ArePlaced t) (e 
       by_connected (x ∷ xs) is = here Connected of_statics x xs (λ d. refl) is
 
 -- ---- the first task has work
-table_here : (n : ℕ) (d : Lost Interior) (ds : List (Lost Interior)) → d.number ≡ n → table_of n (d ∷ ds) ≡ Some d.rows
-table_here n d ds same = ap (λ (b : Bool). cond b (Some d.rows) (table_of n ds)) (same_by d.number n same)
-
 pub first_has_work : (m : Moment) (task : Task) (rest : List Task) → Stands m → tree_tasks m.tree ≡ task ∷ rest → has_work task m ≡ true
 first_has_work m task rest stands e =
     let h = heads m.tree task rest stands.tree.tree.placed e in
@@ -97,27 +96,6 @@ pub nears_count : (m m' : Moment) (task : Task) (rest : List Task) (n : ℕ) →
 nears_count m m' task rest n stands e nears = let h = heads m.tree task rest stands.tree.tree.placed e in subst (λ (x : Task). Nears x n m m') h.is nears
 
 -- ---- the tables that a turn leaves
-abbrev pub is_full : Lost Interior → Bool
-is_full d = not (is_empty_map d.rows)
-
-none_later : (n : ℕ) (ds : List (Lost Interior)) → AllByRecursion (λ later. n < later.number) ds → table_of n ds ≡ None
-none_later n [] all = refl
-none_later n (d ∷ ds) all = ap (λ (b : Bool). cond b (Some d.rows) (table_of n ds)) (other_by d.number n (λ same. let lt : n < d.number = all.0 in omega arith)) ∙ none_later n ds all.1
-
-later_stay : (n : ℕ) (p : Network) (ds : List (Lost Interior)) → AllByRecursion (λ later. n < later.number) ds → map (swept_one n p) ds ≡ ds
-later_stay n p [] all = refl
-later_stay n p (d ∷ ds) all = both (ap (λ (b : Bool). cond b (without p d) d) (other_by d.number n (λ same. let lt : n < d.number = all.0 in omega arith))) (later_stay n p ds all.1)
-
-full_stay : (ds : List (Lost Interior)) → NoneEmpty ds → filter is_full ds ≡ ds
-full_stay [] full = refl
-full_stay (d ∷ ds) full = ap (λ (b : Bool). cond (not b) (d ∷ filter is_full ds) (filter is_full ds)) full.0 ∙ both refl (full_stay ds full.1)
-
-swept_head : (n : ℕ) (p : Network) (d : Lost Interior) (ds : List (Lost Interior)) → d.number ≡ n → AllByRecursion (λ later. n < later.number) ds → NoneEmpty ds
-    → filter is_full (map (swept_one n p) (d ∷ ds)) ≡ cond (is_full (without p d)) (without p d ∷ ds) ds
-swept_head n p d ds same later full =
-    let first : swept_one n p d ≡ without p d = ap (λ (b : Bool). cond b (without p d) d) (same_by d.number n same) in
-    ap (filter is_full) (both first (later_stay n p ds later)) ∙ ap (λ (l : List (Lost Interior)). cond (is_full (without p d)) (without p d ∷ l) l) (full_stay ds full)
-
 -- ---- a turn of the first task
 -- the task is still the first, or it has no work left
 abbrev pub Remains : Moment → Task → List Task → Type 0

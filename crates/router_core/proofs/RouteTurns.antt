@@ -14,8 +14,9 @@ use Rattle.journal_text.specs.declared.link.Task.TheVariants.{Rdel}
 use Rattle.journal_text.specs.declared.entry.Entry.{Entry}
 use Rattle.journal_text.specs.declared.value.Value.{Value}
 use Rattle.journal_text.specs.Journals.{Journaled, Adds, flushed}
-use Rattle.rib_origin.specs.Branches.{Branch}
-use Rattle.rib_origin.specs.Steps.{welded_branch, swept_branch, swept_one, table_of}
+use Rattle.rib_tree.specs.Branches.{Branch}
+use Rattle.rib_tree.specs.BranchSteps.{welded_branch, swept_branch}
+use Rattle.loss_chain.specs.Steps.{swept_one, table_of}
 use Rattle.rib_tree.specs.Trees.{Treed, branch_of, tree_count}
 use Rattle.rib_tree.specs.Falls.{way_of_sweep}
 use Rattle.rib_tree.specs.Laws.{TurnsTakeRows, WeldsKeepRows}
@@ -26,8 +27,8 @@ use Rattle.router_core.specs.Moments.{Moment}
 use Rattle.router_core.specs.Lives.{live_state}
 use Rattle.router_core.specs.Stands.{Stands}
 use Rattle.router_core.specs.Works.{HasLosses, Settles, Turned, IsUnit, Comes, Pushes}
+use Rattle.router_core.proofs.TableLemmas.{few_map}
 use Rattle.router_core.proofs.RibLinks.{replanted}
-use Rattle.router_core.proofs.TreeParts.{few_map}
 use Rattle.router_core.proofs.RouteLemmas.{Routes, routes_on, live_stays, losses_put}
 
 -- ---- before `local` no stage stands

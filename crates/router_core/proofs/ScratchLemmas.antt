@@ -12,17 +12,19 @@ use Rattle.filter_bank.specs.Filtered.{passed_rows, filtered_rows}
 use Rattle.journal_text.specs.declared.link.Link.{Link}
 use Rattle.journal_text.specs.declared.link.Link.TheVariants.{In, Peer, Filt, Res, Org, Lost as LostOf, Low, Dyn, Int, Red, Best, ReadRib, Ebgp, Ibgp, Ext, Fib, Read, Outf, Adv}
 use Rattle.journal_text.specs.Links.{owner_of}
-use Rattle.journal_text.specs.Journals.{attrs_rows, route_rows, interior_rows, fib_rows}
+use Rattle.journal_text.specs.Values.{attrs_rows, route_rows, interior_rows, fib_rows}
 use Rattle.event_text.specs.declared.declared.DeclaredPeer.{DeclaredPeer}
 use Rattle.event_text.specs.Declarations.{peer_at}
-use Rattle.in_chain.specs.Incomings.{in_rows, rows_below, rows_above}
+use Rattle.in_chain.specs.Incomings.{in_rows}
+use Rattle.loss_chain.specs.Tables.{rows_below, rows_above}
 use Rattle.in_chain.specs.Chains.{Chained, filt_rows}
 use Rattle.link_change.specs.Rows.{Rows}
 use Rattle.rib_route.specs.declared.Proto.{Proto}
 use Rattle.rib_route.specs.declared.Proto.TheVariants.{Connected, Static, Ospf, Rip}
 use Rattle.rib_route.specs.declared.rows.Interior.{Interior}
 use Rattle.rib_merge.specs.Merging.{merged}
-use Rattle.rib_origin.specs.Branches.{org_rows, rows_below as interiors_below, rows_above as interiors_above}
+use Rattle.rib_tree.specs.Branches.{org_rows}
+use Rattle.loss_chain.specs.Tables.{rows_below as interiors_below, rows_above as interiors_above}
 use Rattle.rib_tree.specs.Trees.{branch_of, low_rows, dyn_rows, int_rows, interior_distance}
 use Rattle.rib_tree.specs.Forwards.{forwarded}
 use Rattle.router_core.specs.Moments.{Moment, chain_at, links_by, peer_links, rib_by, router_links}

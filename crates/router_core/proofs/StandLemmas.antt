@@ -1,5 +1,5 @@
 -- What stands after a step of one chain, and what is live then.
-use Rattle.std.proofs.Common.{◌≡◌, ℕ, ◌+◌, ◌≤◌, Bool, true, false, cond, List, [], ◌∷◌, map, Option, Some, None, nat_eq, refl, sym, ap, subst, ◌∙◌, arith, length}
+use Rattle.std.proofs.Common.{◌≡◌, ℕ, ◌+◌, Bool, true, false, cond, List, [], ◌∷◌, map, Option, Some, None, nat_eq, refl, sym, ap, subst, ◌∙◌, arith, length}
 use Rattle.std.specs.List.{AllByRecursion, filter}
 use Rattle.bgp_attr.specs.declared.attrs.Attrs.{Attrs}
 use Rattle.bgp_attr.specs.declared.speaker.Speaker.{Speaker}
@@ -8,13 +8,14 @@ use Rattle.event_text.specs.declared.declared.DeclaredPeer.{DeclaredPeer}
 use Rattle.event_text.specs.Declarations.{Declaration, peer_at}
 use Rattle.policy_rules.specs.declared.rule.Rule.{Rule}
 use Rattle.pass_core.specs.Passed.{present}
-use Rattle.in_chain.specs.Incomings.{NoneEmpty}
+use Rattle.loss_chain.specs.Tables.{NoneEmpty}
 use Rattle.in_chain.specs.Chains.{Chained, IsChain}
 use Rattle.router_core.specs.Moments.{Moment, chain_at, put_chain, with_chain}
 use Rattle.router_core.specs.Lives.{LiveState, Routes, live_state, routes_of, rules_of, with_routes, with_rules}
 use Rattle.rib_tree.specs.Trees.{branch_of}
 use Rattle.router_core.specs.Stands.{IsEarlier, IsSilent, PeerStands, StandsAt, TreeStands, Stands}
 use Rattle.router_core.specs.Works.{IsSoundAt, HasLosses}
+use Rattle.router_core.proofs.TableLemmas.{few_left}
 use Rattle.router_core.proofs.ChainLemmas.{equal_by, chain_at_put_same, chain_at_put_other, in_order_put, all_at, all_put, put_length, put_at}
 
 -- the moment with this declared, and these chains
@@ -108,21 +109,6 @@ module _ (p : DeclaredPeer) (up : Bool) where
   pub earlier_left : (f : Lost Attrs → Lost Attrs) (g : Lost Attrs → Bool) → ((d : Lost Attrs) → (f d).number ≡ d.number) → (ds : List (Lost Attrs)) → AllByRecursion (λ d. IsEarlier p up d.number) ds
       → AllByRecursion (λ d. IsEarlier p up d.number) (filter g (map f ds))
   earlier_left f g keeps ds all = earlier_filter g (map f ds) (earlier_map f keeps ds all)
-
-few_filter : (f : Lost Attrs → Bool) (ds : List (Lost Attrs)) → length (filter f ds) ≤ length ds
-few_filter f [] = omega arith
-few_filter f (d ∷ ds) = by_test (f d) (few_filter f ds)
-  where
-    by_test : (b : Bool) → length (filter f ds) ≤ length ds → length (cond b (d ∷ filter f ds) (filter f ds)) ≤ length (d ∷ ds)
-    by_test true rest = omega arith
-    by_test false rest = omega arith
-
-few_map : (f : Lost Attrs → Lost Attrs) (ds : List (Lost Attrs)) → length (map f ds) ≡ length ds
-few_map f [] = refl
-few_map f (d ∷ ds) = let e = few_map f ds in omega arith
-
-pub few_left : (f : Lost Attrs → Lost Attrs) (g : Lost Attrs → Bool) (ds : List (Lost Attrs)) → length (filter g (map f ds)) ≤ length ds
-few_left f g ds = let a = few_filter g (map f ds) in let b = few_map f ds in omega arith
 
 -- what is left of a chain's tables stands as they stood
 pub peer_left : (p : DeclaredPeer) (c c' : Chained) (f : Lost Attrs → Lost Attrs) (g : Lost Attrs → Bool) → ((d : Lost Attrs) → (f d).number ≡ d.number)

@@ -3,23 +3,23 @@ use Rattle.std.proofs.Common.{◌≡◌, ℕ, ◌+◌, ◌<◌, ◌⊎◌, inl, 
 use Rattle.std.proofs.lemmas.List.{append-nil}
 use Rattle.std.specs.List.{AllByRecursion, flat_map, filter}
 use Rattle.std.specs.FinMap.{FinMap}
-use Rattle.addr4.specs.Prefixes.{Network, prefix_cmp}
+use Rattle.addr4.specs.Prefixes.{prefix_cmp}
 use Rattle.bgp_attr.specs.declared.attrs.Attrs.{Attrs}
 use Rattle.deletion_stage.specs.Lost.{Lost}
 use Rattle.journal_text.specs.declared.link.Task.{Task}
 use Rattle.journal_text.specs.declared.link.Task.TheVariants.{Del}
 use Rattle.journal_text.specs.declared.line.Line.{Line}
-use Rattle.in_chain.specs.Incomings.{AreRising, NoneEmpty}
+use Rattle.loss_chain.specs.Tables.{AreRising, NoneEmpty}
 use Rattle.in_chain.specs.Chains.{Chained}
-use Rattle.in_chain.specs.IncomingSteps.{without, swept_one, table_of}
+use Rattle.loss_chain.specs.Steps.{without, swept_one, table_of}
 use Rattle.in_chain.specs.Steps.{swept, welded, Sweeps}
 use Rattle.router_core.specs.declared.router.Phase.TheVariants as phases
 use Rattle.router_core.specs.Moments.{Moment, chain_at, put_chain, with_chain, rows_in}
 use Rattle.router_core.specs.Stands.{AreInOrder, Stands}
 use Rattle.router_core.specs.Turns.{IsTurn, DrainsAll, IsOver, chain_tasks, deletion_tasks, has_turn_in, has_work}
 use Rattle.router_core.specs.Works.{Nears, first_task}
+use Rattle.router_core.proofs.TableLemmas.{is_full, table_here, none_later, swept_head}
 use Rattle.router_core.proofs.ChainLemmas.{same_by, other_by, both, one_of, number_at, chain_here, chain_past, put_one_here, put_one_past, put_none, none_below, chain_at_put_same}
-use Rattle.router_core.proofs.RowCounts.{is_full, later_stay, full_stay}
 use Rattle.router_core.proofs.StandLemmas.{sound_at}
 use Rattle.router_core.proofs.TurnLemmas.{and_false}
 
@@ -84,9 +84,6 @@ heads (d ∷ ds) k s rest order e = by_stages d.incoming.deletions refl (λ ther
     by_stages (x ∷ xs) is there = here x xs is
 
 -- ---- the first task has work
-table_here : (s : ℕ) (d : Lost Attrs) (ds : List (Lost Attrs)) → d.number ≡ s → table_of s (d ∷ ds) ≡ Some d.rows
-table_here s d ds same = ap (λ (b : Bool). cond b (Some d.rows) (table_of s ds)) (same_by d.number s same)
-
 heads_work : (m : Moment) (k s : ℕ) (rest : List Task) → Heads m.chains k s rest → has_work (Del k s) m ≡ true
 heads_work m k s rest h =
     let table : is_some (table_of s h.chain.incoming.deletions) ≡ true = ap (λ (ds : List (Lost Attrs)). is_some (table_of s ds)) h.stages
@@ -121,16 +118,6 @@ first_keeps_tree m m' task rest said e t =
     ap (λ (x : Moment). x.tree) turn.after
 
 -- ---- a turn of the first task
-none_later : (s : ℕ) (ds : List (Lost Attrs)) → AllByRecursion (λ later. s < later.number) ds → table_of s ds ≡ None
-none_later s [] all = refl
-none_later s (d ∷ ds) all = ap (λ (b : Bool). cond b (Some d.rows) (table_of s ds)) (other_by d.number s (λ same. let lt : s < d.number = all.0 in omega arith)) ∙ none_later s ds all.1
-
-swept_head : (s : ℕ) (p : Network) (d : Lost Attrs) (ds : List (Lost Attrs)) → d.number ≡ s → AllByRecursion (λ later. s < later.number) ds → NoneEmpty ds
-    → filter is_full (map (swept_one s p) (d ∷ ds)) ≡ cond (is_full (without p d)) (without p d ∷ ds) ds
-swept_head s p d ds same later full =
-    let first : swept_one s p d ≡ without p d = ap (λ (b : Bool). cond b (without p d) d) (same_by d.number s same) in
-    ap (filter is_full) (both first (later_stay s p ds later)) ∙ ap (λ (l : List (Lost Attrs)). cond (is_full (without p d)) (without p d ∷ l) l) (full_stay ds full)
-
 -- the task is still the first, or it has no work left
 abbrev pub Follows : Moment → Task → List Task → Type 0
 Follows m task rest = (deletion_tasks m ≡ task ∷ rest) ⊎ ((deletion_tasks m ≡ rest) × (has_work task m ≡ false))

@@ -1,12 +1,10 @@
 -- A tree with another branch for one protocol.
-use Rattle.std.proofs.Common.{◌≡◌, ◌≤◌, cond, Bool, true, false, List, [], ◌∷◌, map, length, refl, ◌∙◌, arith}
-use Rattle.std.specs.List.{filter}
+use Rattle.std.proofs.Common.{◌≡◌, cond, refl, ◌∙◌}
 use Rattle.rib_route.specs.declared.Proto.{Proto}
 use Rattle.rib_route.specs.declared.Proto.TheVariants.{Connected, Static, Ospf, Rip}
-use Rattle.rib_route.specs.declared.rows.Interior.{Interior}
-use Rattle.deletion_stage.specs.Lost.{Lost}
-use Rattle.rib_origin.specs.Branches.{Branch, same_proto}
-use Rattle.rib_origin.specs.Steps.{welded_branch}
+use Rattle.rib_tree.specs.Branches.{Branch}
+use Rattle.loss_chain.specs.Owners.{same_proto}
+use Rattle.rib_tree.specs.BranchSteps.{welded_branch}
 use Rattle.rib_tree.specs.Trees.{Treed, branch_of, put_branch}
 use Rattle.rib_tree.specs.Steps.{welded_tree}
 
@@ -102,17 +100,3 @@ put_kept f proto b t same other = put_seen f proto other b t ∙ by proto other 
     by Rip Rip same = same
 
 -- ---- how many stages there are
-pub few_filter : (f : Lost Interior → Bool) (ds : List (Lost Interior)) → length (filter f ds) ≤ length ds
-few_filter f [] = omega arith
-few_filter f (d ∷ ds) = by_test (f d) (few_filter f ds)
-  where
-    by_test : (b : Bool) → length (filter f ds) ≤ length ds → length (cond b (d ∷ filter f ds) (filter f ds)) ≤ length (d ∷ ds)
-    by_test true rest = omega arith
-    by_test false rest = omega arith
-
-pub few_map : (f : Lost Interior → Lost Interior) (ds : List (Lost Interior)) → length (map f ds) ≡ length ds
-few_map f [] = refl
-few_map f (d ∷ ds) = let e = few_map f ds in omega arith
-
-pub few_left : (f : Lost Interior → Lost Interior) (g : Lost Interior → Bool) (ds : List (Lost Interior)) → length (filter g (map f ds)) ≤ length ds
-few_left f g ds = let a = few_filter g (map f ds) in let b = few_map f ds in omega arith

@@ -18,10 +18,10 @@ use Rattle.journal_text.specs.Texts.{text_of, entries_of}
 use Rattle.journal_text.specs.Walk.{Leads}
 use Rattle.journal_text.proofs.JournalLemmas.{text_of_append, entries_of_append}
 use Rattle.journal_text.proofs.WalkLemmas.{leads_append, leads_nowhere}
-use Rattle.in_chain.specs.Incomings.{NoneEmpty, lost_count}
+use Rattle.loss_chain.specs.Tables.{NoneEmpty, lost_count}
 use Rattle.in_chain.specs.Chains.{Chained, row_count, turns_left}
 use Rattle.in_chain.specs.Laws.{TurnsAreBounded, TurnsAreLeft}
-use Rattle.in_chain.specs.IncomingSteps.{table_of}
+use Rattle.loss_chain.specs.Steps.{table_of}
 use Rattle.router_core.specs.Moments.{Moment, chain_at, rows_in, left_in, router_links, Gives}
 use Rattle.router_core.specs.Stands.{Stands}
 use Rattle.router_core.specs.Turns.{IsTurn, Turns, has_turn_in, has_work}

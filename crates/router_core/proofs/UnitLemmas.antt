@@ -1,11 +1,9 @@
 -- One turn of the router.
-use Rattle.std.proofs.Common.{◌≡◌, ℕ, ◌≤◌, Bool, true, false, cond, List, Option, Some, None, nat_eq, refl, sym, ap, subst, ◌∙◌, arith, length}
+use Rattle.std.proofs.Common.{◌≡◌, ℕ, ◌≤◌, Bool, true, false, List, Option, Some, None, refl, sym, ap, subst, ◌∙◌, arith, length}
 use Rattle.std.specs.List.{AllByRecursion}
 use Rattle.addr4.specs.Prefixes.{Network}
-use Rattle.bgp_attr.specs.declared.attrs.Attrs.{Attrs}
 use Rattle.bgp_attr.specs.declared.route.Route.{Route}
 use Rattle.link_change.specs.declared.change.Change.{Change}
-use Rattle.deletion_stage.specs.Lost.{Lost}
 use Rattle.policy_rules.specs.declared.rule.Rule.{Rule}
 use Rattle.pass_core.specs.Passed.{Passed, Walked, present, latest_of, present_of, stepped, walk_of_waiting, after_walk}
 use Rattle.filter_bank.specs.Walks.{walked_on}
@@ -17,27 +15,21 @@ use Rattle.journal_text.specs.declared.line.Line.{Line}
 use Rattle.journal_text.specs.Texts.{entries_of}
 use Rattle.journal_text.specs.Journals.{Journaled, flushed}
 use Rattle.event_text.specs.declared.declared.DeclaredPeer.{DeclaredPeer}
-use Rattle.in_chain.specs.Incomings.{NoneEmpty}
+use Rattle.loss_chain.specs.Tables.{NoneEmpty}
 use Rattle.in_chain.specs.Chains.{Chained, IsChain, row_count, turns_left}
-use Rattle.in_chain.specs.IncomingSteps.{without, swept_one}
+use Rattle.loss_chain.specs.Steps.{swept_one}
 use Rattle.in_chain.specs.Steps.{swept, welded, Turned, Rewalks}
 use Rattle.router_core.specs.declared.router.Done.TheVariants.{Taken}
 use Rattle.router_core.specs.Moments.{Moment, chain_at, with_chain, rows_in, left_in}
 use Rattle.router_core.specs.Stands.{IsEarlier, IsSilent, AreInOrder, PeerStands, Stands}
 use Rattle.router_core.specs.Turns.{peer_of, IsPeerTurn, IsTurn}
 use Rattle.router_core.specs.Works.{NearsChain, Nears, TakesChain, IsUnit, Comes, TurnsAt}
+use Rattle.router_core.proofs.TableLemmas.{is_full, swept_number}
 use Rattle.router_core.proofs.ChainLemmas.{number_at}
 use Rattle.router_core.proofs.LinkLemmas.{leads_router}
-use Rattle.router_core.proofs.RowCounts.{is_full, rows_are_sum, turns_are_sum, sum_put}
+use Rattle.router_core.proofs.RowCounts.{rows_are_sum, turns_are_sum, sum_put}
 use Rattle.router_core.proofs.StandLemmas.{remade, losses_stay, peer_of as peer_at_chain, peer_left, stands_with, live_same}
 use Rattle.router_core.proofs.WorkLemmas.{walk_stays}
-
-pub swept_number : (s : ℕ) (p : Network) (d : Lost Attrs) → (swept_one s p d).number ≡ d.number
-swept_number s p d = by_test (nat_eq d.number s)
-  where
-    by_test : (b : Bool) → (cond b (without p d) d).number ≡ d.number
-    by_test true = refl
-    by_test false = refl
 
 silent_as : (up : Bool) (c c' : Chained) → c'.incoming.live ≡ c.incoming.live → IsSilent up c → IsSilent up c'
 silent_as true c c' same silent = tt

@@ -16,10 +16,11 @@ use Rattle.journal_text.specs.Journals.{Journaled, with_lines, with_entries, Add
 use Rattle.journal_text.specs.Walk.{Leads}
 use Rattle.journal_text.proofs.JournalLemmas.{with_entries_append, entries_of_entries}
 use Rattle.journal_text.proofs.WalkLemmas.{leads_append}
-use Rattle.in_chain.specs.Incomings.{NoneEmpty}
+use Rattle.loss_chain.specs.declared.owner.Owner.TheVariants as owners
+use Rattle.loss_chain.specs.Tables.{NoneEmpty}
 use Rattle.in_chain.specs.Chains.{Chained, filt_rows, beside, IsChain, row_count, turns_left}
 use Rattle.in_chain.specs.Falls.{Falls, LeadsChain, way_of_feed}
-use Rattle.in_chain.specs.IncomingSteps.{weld_entries}
+use Rattle.loss_chain.specs.Steps.{weld_entries}
 use Rattle.in_chain.specs.Steps.{fed, welded, swept, Turned, Rewalks, IsTaken}
 use Rattle.router_core.specs.declared.router.Done.TheVariants.{Nothing, Taken}
 use Rattle.router_core.specs.Turns.{journal_lines}
@@ -29,13 +30,13 @@ use Rattle.router_core.proofs.RowCounts.{swept_rows, weld_stays}
 -- what a weld leaves
 pub record Welds (less c' : Chained) (j now : Journaled) : Type 0 where
   pub after : c' ≡ welded less
-  pub lines : now ≡ with_entries j (weld_entries less.incoming.number (In less.incoming.number) less.incoming.deletions)
-  pub leads : LeadsChain less (weld_entries less.incoming.number (In less.incoming.number) less.incoming.deletions) c'
+  pub lines : now ≡ with_entries j (weld_entries (owners.Peer less.incoming.number) (In less.incoming.number) less.incoming.deletions)
+  pub leads : LeadsChain less (weld_entries (owners.Peer less.incoming.number) (In less.incoming.number) less.incoming.deletions) c'
   pub chain : IsChain c'
   pub full : NoneEmpty c'.incoming.deletions
 
 abbrev pub fall_entries : Chained → List (Entry Value) → List (Entry Value)
-fall_entries less entries = entries ++ weld_entries less.incoming.number (In less.incoming.number) less.incoming.deletions
+fall_entries less entries = entries ++ weld_entries (owners.Peer less.incoming.number) (In less.incoming.number) less.incoming.deletions
 
 pub fall_step : (c less c' : Chained) (entries : List (Entry Value)) (j now : Journaled) → less.incoming.number ≡ c.incoming.number → (less.me ≡ c.me) × (less.peer ≡ c.peer) → LeadsChain c entries less → Welds less c' j now
     → StepsChain c (journal_lines (fall_entries less entries)) c'
@@ -43,7 +44,7 @@ fall_step c less c' entries j now number words leads w = record {
   number = ap (λ (x : Chained). x.incoming.number) w.after ∙ number;
   words = (ap (λ (x : Chained). x.me) w.after ∙ words.0, ap (λ (x : Chained). x.peer) w.after ∙ words.1);
   leads = λ others. subst (λ (es : List (Entry Value)). Leads (beside others c) es (beside others c')) (sym (entries_of_entries (fall_entries less entries)))
-      (leads_append (beside others c) (beside others less) (beside others c') entries (weld_entries less.incoming.number (In less.incoming.number) less.incoming.deletions) (leads others) (w.leads others));
+      (leads_append (beside others c) (beside others less) (beside others c') entries (weld_entries (owners.Peer less.incoming.number) (In less.incoming.number) less.incoming.deletions) (leads others) (w.leads others));
   chain = w.chain;
   full = w.full;
 }
@@ -51,8 +52,8 @@ fall_step c less c' entries j now number words leads w = record {
 pub fall_pushed : (less c' : Chained) (entries : List (Entry Value)) (before j now : Journaled) → j ≡ with_entries before entries → Welds less c' j now
     → now ≡ with_lines before (journal_lines (fall_entries less entries))
 fall_pushed less c' entries before j now pushed w =
-    w.lines ∙ ap (λ (x : Journaled). with_entries x (weld_entries less.incoming.number (In less.incoming.number) less.incoming.deletions)) pushed
-    ∙ with_entries_append before entries (weld_entries less.incoming.number (In less.incoming.number) less.incoming.deletions)
+    w.lines ∙ ap (λ (x : Journaled). with_entries x (weld_entries (owners.Peer less.incoming.number) (In less.incoming.number) less.incoming.deletions)) pushed
+    ∙ with_entries_append before entries (weld_entries (owners.Peer less.incoming.number) (In less.incoming.number) less.incoming.deletions)
 
 pub feeds_chain : (p : Network) (row : Option Attrs) (c less c' : Chained) (sent : Option (Change Route)) (before j now : Journaled)
     → IsSent (filt_rows c) (filt_rows less) p sent → less ≡ fed c p row

@@ -18,10 +18,10 @@ use Rattle.event_text.specs.Declarations.{Declaration, no_declaration, peer_at, 
 use Rattle.policy_rules.specs.declared.rule.Rule.{Rule}
 use Rattle.pass_core.specs.Passed.{present}
 use Rattle.in_chain.specs.Chains.{Chained}
-use Rattle.in_chain.specs.IncomingSteps.{live_after}
+use Rattle.loss_chain.specs.Steps.{live_after}
 use Rattle.rib_route.specs.declared.Proto.{Proto}
 use Rattle.rib_route.specs.declared.rows.Interior.{Interior}
-use Rattle.rib_origin.specs.Branches.{same_proto}
+use Rattle.loss_chain.specs.Owners.{same_proto}
 use Rattle.rib_tree.specs.Trees.{branch_of}
 use Rattle.router_core.specs.Moments.{Moment, chain_at}
 

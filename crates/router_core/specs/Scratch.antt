@@ -11,7 +11,7 @@ use Rattle.journal_text.specs.declared.link.Link.{Link}
 use Rattle.journal_text.specs.declared.link.Link.TheVariants.{In, Filt, Org, Low, Dyn, Int, Fib}
 use Rattle.journal_text.specs.declared.value.Value.{Value}
 use Rattle.journal_text.specs.Walk.{Links}
-use Rattle.journal_text.specs.Journals.{attrs_rows, route_rows, interior_rows, fib_rows}
+use Rattle.journal_text.specs.Values.{attrs_rows, route_rows, interior_rows, fib_rows}
 use Rattle.event_text.specs.declared.declared.DeclaredPeer.{DeclaredPeer}
 use Rattle.event_text.specs.Declarations.{peer_at}
 use Rattle.router_core.specs.Moments.{Moment, router_links}

@@ -5,7 +5,7 @@ use Rattle.std.specs.FinMap as tables
 use Rattle.bgp_attr.specs.declared.speaker.Speaker.{Speaker}
 use Rattle.event_text.specs.declared.declared.DeclaredPeer.{DeclaredPeer}
 use Rattle.event_text.specs.Declarations.{peer_at}
-use Rattle.in_chain.specs.Incomings.{NoneEmpty}
+use Rattle.loss_chain.specs.Tables.{NoneEmpty}
 use Rattle.in_chain.specs.Chains.{Chained, IsChain}
 use Rattle.rib_route.specs.declared.Proto.{Proto}
 use Rattle.rib_tree.specs.Trees.{Treed, branch_of, int_rows, IsTree, IsFull, AreNumbered}

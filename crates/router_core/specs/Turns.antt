@@ -15,7 +15,8 @@ use Rattle.journal_text.specs.declared.line.Line.{Line}
 use Rattle.journal_text.specs.declared.line.Line.TheVariants as lines
 use Rattle.in_chain.specs.Chains.{Chained, filt_rows}
 use Rattle.in_chain.specs.Falls.{Falls, way_of_feed}
-use Rattle.in_chain.specs.IncomingSteps.{weld_entries}
+use Rattle.loss_chain.specs.declared.owner.Owner.TheVariants as owners
+use Rattle.loss_chain.specs.Steps.{weld_entries}
 use Rattle.in_chain.specs.Steps.{fed, welded, has_turn, Turned}
 use Rattle.router_core.specs.declared.router.Phase.{Phase}
 use Rattle.router_core.specs.declared.router.Phase.TheVariants as phases
@@ -27,8 +28,8 @@ use Rattle.rib_route.specs.declared.Proto.{Proto}
 use Rattle.rib_route.specs.declared.rows.Interior.{Interior}
 use Rattle.rib_route.specs.declared.rows.FibRow.{FibRow}
 use Rattle.journal_text.specs.declared.link.Link.{Link}
-use Rattle.journal_text.specs.Journals.{fib_change}
-use Rattle.rib_origin.specs.Steps.{table_of}
+use Rattle.journal_text.specs.Values.{fib_value, valued_change}
+use Rattle.loss_chain.specs.Steps.{table_of}
 use Rattle.rib_tree.specs.Trees.{Treed, branch_of, int_rows, tree_count, tree_tasks}
 use Rattle.rib_tree.specs.Steps.{welded_tree, swept_tree, tree_weld_entries, has_tree_turn}
 use Rattle.rib_tree.specs.Falls.{FallsTree, way_of_sweep}
@@ -41,7 +42,7 @@ journal_lines entries = map (λ e. lines.Journal e) entries
 
 -- the lines of a fall in a chain, and behind them the weld of the stage that it emptied, if any
 abbrev pub fall_lines : Chained → List (Entry Value) → List Line
-fall_lines c entries = journal_lines (entries ++ weld_entries c.incoming.number (In c.incoming.number) c.incoming.deletions)
+fall_lines c entries = journal_lines (entries ++ weld_entries (owners.Peer c.incoming.number) (In c.incoming.number) c.incoming.deletions)
 
 -- One prefix of an UPDATE from peer k is announced or withdrawn.
 pub record Feeds (k : ℕ) (change : Network × Option Attrs) (m : Moment) (said : List Line) (m' : Moment) : Type 0 where
@@ -63,7 +64,7 @@ FeedsAll k (c ∷ cs) m said m' =
 -- the entry of what `fib` gets
 abbrev pub fib_entries : Option (Change FibRow) → List (Entry Value)
 fib_entries None = []
-fib_entries (Some change) = fib_change Fib change
+fib_entries (Some change) = valued_change fib_value Fib change
 
 -- the tree became this one, and nothing else changed but the register
 pub record Replants (tree : Treed) (m m' : Moment) : Type 0 where

@@ -18,7 +18,7 @@ use Rattle.journal_text.specs.Texts.{entries_of}
 use Rattle.journal_text.specs.Journals.{Journaled, with_lines, with_entries, flushed}
 use Rattle.event_text.specs.declared.declared.DeclaredPeer.{DeclaredPeer}
 use Rattle.event_text.specs.Declarations.{peer_at}
-use Rattle.in_chain.specs.Incomings.{NoneEmpty}
+use Rattle.loss_chain.specs.Tables.{NoneEmpty}
 use Rattle.in_chain.specs.Chains.{Chained, filt_rows, IsChain, row_count, turns_left}
 use Rattle.in_chain.specs.Falls.{Falls, LeadsChain, way_of_feed}
 use Rattle.in_chain.specs.IncomingSteps.{loss_entries, overdue_of}

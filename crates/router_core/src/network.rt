@@ -38,7 +38,7 @@ impl Model for Network {
     ghost use Rattle.in_chain.specs.Chains.{chained_code};
     ghost use Rattle.rib_route.specs.contracts.Proto as proto_row;
     ghost use Rattle.rib_route.specs.contracts.rows.Interior as interior_row;
-    ghost use Rattle.rib_origin.specs.Branches.{branch_code};
+    ghost use Rattle.rib_tree.specs.Branches.{branch_code};
     ghost use Rattle.rib_tree.specs.Trees.{treed_code};
     ghost use Rattle.register_interest.specs.Registers.{registry_code};
 

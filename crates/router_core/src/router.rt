@@ -58,7 +58,7 @@ impl Model for Core {
     ghost use Rattle.router_core.specs.Moments.{Cored, cored_code, moment_code};
     ghost use Rattle.rib_route.specs.contracts.Proto as proto_row;
     ghost use Rattle.rib_route.specs.contracts.rows.Interior as interior_row;
-    ghost use Rattle.rib_origin.specs.Branches.{branch_code};
+    ghost use Rattle.rib_tree.specs.Branches.{branch_code};
     ghost use Rattle.rib_tree.specs.Trees.{treed_code};
     ghost use Rattle.register_interest.specs.Registers.{registry_code};
     ghost use Rattle.event_text.specs.Declarations.{declaration_code};

@@ -11,7 +11,7 @@ ghost use Rattle.rib_tree.specs.Trees.{branch_of, AreNumbered, IsTree, IsFullBut
 ghost use Rattle.rib_tree.specs.Steps.{fed_tree, tree_overdue};
 ghost use Rattle.rib_tree.specs.Falls.{way_of_route};
 ghost use Rattle.router_core.specs.Moments.{Gives};
-ghost use Rattle.rib_origin.specs.Steps.{live_after};
+ghost use Rattle.loss_chain.specs.Steps.{live_after};
 ghost use Rattle.router_core.specs.Lives.{live_state, interior_fed};
 ghost use Rattle.router_core.specs.Stands.{Stands};
 ghost use Rattle.router_core.specs.Works.{Comes, Follows, Settles, Turned, PushesForwarded, HasRouted, HasProtocolRoom, EndsProtocol, HasStepped, Pushes};
@@ -256,6 +256,6 @@ fn push_forwarded(change: &Change<Interior>, journal: &mut Journal) -> Result<()
 {
     match forward(change) {
         None => Ok(()),
-        Some(sent) => journal.push_fib_change(Link::Fib, &sent),
+        Some(sent) => journal.push_change(Link::Fib, &sent),
     }
 }

@@ -4,7 +4,7 @@ ghost use Rattle.std.specs.Prelude.{◌≡◌, [], ◌∷◌, OnOk, IfOk, IsSome
 ghost use Rattle.router_core.specs.Moments.{chain_at, Gives};
 ghost use Rattle.router_core.specs.Stands.{AreInOrder, Stands};
 ghost use Rattle.router_core.specs.Works.{FeedsChain, LosesChain, Pushes, Steps, IsSoundAt, IsUpAt, IsSession, MayLoseAt, HaveFed, HasLost, HasRoom, Ends};
-ghost use Rattle.in_chain.specs.Incomings.{NoneEmpty};
+ghost use Rattle.loss_chain.specs.Tables.{NoneEmpty};
 ghost use Rattle.in_chain.specs.Chains.{Chained, IsChain};
 ghost use Rattle.in_chain.specs.IncomingSteps.{overdue_of};
 

@@ -1,7 +1,7 @@
 //! Turns of background work.
 
 ghost use Rattle.std.specs.Prelude.{◌≡◌, IfOk, OnOk};
-ghost use Rattle.in_chain.specs.Incomings.{NoneEmpty};
+ghost use Rattle.loss_chain.specs.Tables.{NoneEmpty};
 ghost use Rattle.in_chain.specs.Chains.{IsChain};
 ghost use Rattle.router_core.specs.declared.router.Phase.TheVariants as phases;
 ghost use Rattle.router_core.specs.Moments.{chain_at, Gives};

@@ -83,12 +83,12 @@ fn push_rib_entries(journal: &mut Journal) -> Result<(), Fail> {
     let gateway = Some(Addr::new(0xc000_0209));
     let far = interior(Proto::Static, gateway, b"eth0", 5)?;
     let near = interior(Proto::Rip, None, b"eth1", 7)?;
-    journal.push_interior_change(Link::Int, &change(prefix, None, Some(far)))?;
-    journal.push_interior_change(Link::Lost(Proto::Rip, 2), &change(prefix, Some(near), None))?;
+    journal.push_change(Link::Int, &change(prefix, None, Some(far)))?;
+    journal.push_change(Link::Lost(Proto::Rip, 2), &change(prefix, Some(near), None))?;
     let before = Some(external(true));
-    journal.push_external_change(Link::Ext, &change(prefix, before, Some(external(false))))?;
+    journal.push_change(Link::Ext, &change(prefix, before, Some(external(false))))?;
     let before = Some(forwarded(&far));
-    journal.push_fib_change(Link::Fib, &change(prefix, before, Some(forwarded(&near))))?;
+    journal.push_change(Link::Fib, &change(prefix, before, Some(forwarded(&near))))?;
     Ok(())
 }
 
@@ -165,7 +165,7 @@ fn push_route_change(alloc: Global, journal: &mut Journal) -> Result<(), Fail> {
     let prefix = prefix()?;
     let before = peers_route(attrs(alloc, Origin::Igp)?);
     let after = local_route(attrs(alloc, Origin::Igp)?);
-    journal.push_route_change(Link::Filt(1), &change(prefix, Some(before), Some(after)))?;
+    journal.push_change(Link::Filt(1), &change(prefix, Some(before), Some(after)))?;
     Ok(())
 }
 

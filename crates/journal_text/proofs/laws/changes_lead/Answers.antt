@@ -1,5 +1,5 @@
-use Rattle.journal_text.proofs.WalkLemmas.{change_leads}
+use Rattle.journal_text.proofs.WalkLemmas.{values_lead}
 use Rattle.journal_text.proofs.laws.changes_lead.Goals as goal
 
 pub returns : goal.returns
-returns c = change_leads
+returns g c = values_lead g.R.Valued.value g.met.R.Valued.told

@@ -1,11 +1,12 @@
+use Rattle.in_chain.specs.Incomings.{incoming_of}
 use Rattle.in_chain.specs.Chains.{Chained}
 use Rattle.in_chain.proofs.FilterLemmas.{sweeps_nothing, sweeps_on_below, sweeps_quietly_below}
 use Rattle.in_chain.proofs.chain.Chain.sweep.Goals as goal
-use Rattle.in_chain.proofs.chain.Chain.sweep.Goals.{in-Nothing, in-Quiet, in-Sent+in_ok-send_route-in-Sent}
+use Rattle.in_chain.proofs.chain.Chain.sweep.Goals.{in-Nothing, in-Quiet, in-Sent+in_ok-push_sent-in-Sent}
 
 pub returns-clause-taken : goal.returns-clause-taken
 returns-clause-taken c =
-    let old : Chained = record { incoming = c.self.inside.incoming; me = c.self.inside.me; peer = c.self.inside.peer; filter = c.self.inside.filter } in
+    let old : Chained = record { incoming = incoming_of c.self.inside.number c.self.inside.stages; me = c.self.inside.me; peer = c.self.inside.peer; filter = c.self.inside.filter } in
     let i = c.unit.new.self in
     rw (← c.self.view_is)
     (elim c.match-branch-2.branch [
@@ -15,9 +16,8 @@ returns-clause-taken c =
       | in-Quiet w ↦
           let taken = rw w.in-Quiet.is at c.in_ok-unit.ensures.taken in
           rw (w.result-is, w.journal-is) (sweeps_quietly_below old i c.args.session c.args.journal.now c.unit.new.journal taken)
-      | in-Sent+in_ok-send_route-in-Sent w ↦
+      | in-Sent+in_ok-push_sent-in-Sent w ↦
           let taken = rw w.in-Sent.is at c.in_ok-unit.ensures.taken in
-          let now_is = rw w.number.ensures at w.in_ok-send_route-in-Sent.ensures in
           rw (w.result-is, w.journal-is, w.taken.ensures)
-          (sweeps_on_below old i c.args.session w.in-Sent.change w.take_in-sent.result c.args.journal.now c.unit.new.journal w.send_route.new.journal taken w.take_in-sent.ensures now_is)
+          (sweeps_on_below old i c.args.session w.in-Sent.change w.take_in-sent.result c.args.journal.now c.unit.new.journal w.push_sent.new.self taken w.take_in-sent.ensures w.in_ok-push_sent-in-Sent.ensures)
     ])

@@ -1,13 +1,14 @@
+use Rattle.in_chain.specs.Incomings.{incoming_of}
 use Rattle.in_chain.specs.Chains.{Chained}
-use Rattle.in_chain.proofs.FilterLemmas.{walk_of_lowest, walks_nothing, walks_on, walks_quietly}
+use Rattle.in_chain.proofs.FilterLemmas.{walks_nothing, walks_on, walks_quietly}
 use Rattle.in_chain.proofs.chain.Chain.walk.Goals as goal
-use Rattle.in_chain.proofs.chain.Chain.walk.Goals.{in-Nothing, in-Quiet, in-Sent+in_ok-push_route_change-in-Sent}
+use Rattle.in_chain.proofs.chain.Chain.walk.Goals.{in-Nothing, in-Quiet, in-Sent+in_ok-push_change-in-Sent}
 
 pub returns-clause-taken : goal.returns-clause-taken
 returns-clause-taken c =
-    let old : Chained = record { incoming = c.self.inside.incoming; me = c.self.inside.me; peer = c.self.inside.peer; filter = c.self.inside.filter } in
+    let old : Chained = record { incoming = incoming_of c.self.inside.number c.self.inside.stages; me = c.self.inside.me; peer = c.self.inside.peer; filter = c.self.inside.filter } in
     let f = c.unit.new.self in
-    let walked = walk_of_lowest old c.lowest.result.now f c.in_ok-unit.field-0 c.lowest.ensures c.in_ok-unit.ensures.taken in
+    let walked = c.in_ok-unit.ensures.taken in
     rw (← c.self.view_is)
     (elim c.match-branch-2.branch [
       | in-Nothing w ↦
@@ -16,8 +17,7 @@ returns-clause-taken c =
       | in-Quiet w ↦
           let quiet = rw w.in-Quiet.is at walked in
           rw (w.result-is, w.journal-is) (walks_quietly old f c.args.journal.now quiet)
-      | in-Sent+in_ok-push_route_change-in-Sent w ↦
+      | in-Sent+in_ok-push_change-in-Sent w ↦
           let sent = rw w.in-Sent.is at walked in
-          let now_is = rw w.number.ensures at w.in_ok-push_route_change-in-Sent.ensures in
-          rw (w.result-is, w.journal-is) (walks_on old f w.in-Sent.change c.args.journal.now w.push_route_change.new.self sent now_is)
+          rw (w.result-is, w.journal-is) (walks_on old f w.in-Sent.change c.args.journal.now w.push_change.new.self sent w.in_ok-push_change-in-Sent.ensures)
     ])

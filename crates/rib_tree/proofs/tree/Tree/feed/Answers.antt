@@ -1,5 +1,5 @@
 use Rattle.std.proofs.Common.{ap, ◌∙◌}
-use Rattle.rib_origin.specs.Branches.{Branch}
+use Rattle.rib_tree.specs.Branches.{Branch}
 use Rattle.rib_tree.proofs.StepLemmas.{fed_quietly, fed_on, is_tree, is_full_but}
 use Rattle.rib_tree.proofs.tree.Tree.feed.Goals as goal
 

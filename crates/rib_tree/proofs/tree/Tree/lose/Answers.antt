@@ -1,5 +1,5 @@
 use Rattle.std.proofs.Common.{ap, ◌∙◌}
-use Rattle.rib_origin.specs.Branches.{Branch}
+use Rattle.rib_tree.specs.Branches.{Branch}
 use Rattle.rib_tree.specs.Steps.{tree_loss_entries}
 use Rattle.rib_tree.proofs.StepLemmas.{leads_on, is_tree, is_full}
 use Rattle.rib_tree.proofs.tree.Tree.lose.Goals as goal

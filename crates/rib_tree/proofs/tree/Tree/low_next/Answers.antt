@@ -1,7 +1,7 @@
 use Rattle.std.proofs.Common.{subst}
 use Rattle.addr4.specs.Places.{key_of}
 use Rattle.link_change.specs.Rows.{Candidates, IsNextCandidate}
-use Rattle.rib_origin.specs.Branches.{org_rows}
+use Rattle.rib_tree.specs.Branches.{org_rows}
 use Rattle.rib_tree.proofs.LookupLemmas.{both_are}
 use Rattle.rib_tree.proofs.tree.Tree.low_next.Goals as goal
 

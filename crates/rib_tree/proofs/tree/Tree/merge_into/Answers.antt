@@ -2,7 +2,7 @@ use Rattle.std.proofs.Common.{◌≡◌, ap, subst, ◌∙◌}
 use Rattle.rib_route.specs.declared.Proto.{Proto}
 use Rattle.rib_merge.specs.declared.merge.Side.{Side}
 use Rattle.rib_merge.specs.Merging.{MergesOn}
-use Rattle.rib_origin.specs.Branches.{Branch, org_rows}
+use Rattle.rib_tree.specs.Branches.{Branch, org_rows}
 use Rattle.rib_tree.specs.Trees.{branch_of, interior_distance}
 use Rattle.rib_tree.specs.Merges.{partner_of}
 use Rattle.rib_tree.proofs.MergeLemmas.{merges_into}

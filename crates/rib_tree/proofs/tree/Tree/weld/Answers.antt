@@ -2,8 +2,8 @@ use Rattle.std.proofs.Common.{List, ap, subst, ◌∙◌}
 use Rattle.journal_text.specs.declared.entry.Entry.{Entry}
 use Rattle.journal_text.specs.declared.value.Value.{Value}
 use Rattle.journal_text.specs.Journals.{with_entries}
-use Rattle.rib_origin.specs.Branches.{Branch}
-use Rattle.rib_origin.specs.Falls.{LeadsBranch}
+use Rattle.rib_tree.specs.Branches.{Branch}
+use Rattle.rib_tree.specs.Branches.{LeadsBranch}
 use Rattle.rib_tree.specs.Trees.{branch_of}
 use Rattle.rib_tree.specs.Steps.{tree_weld_entries}
 use Rattle.rib_tree.proofs.StepLemmas.{leads_on, is_tree, is_full_again, weld_placed}

@@ -1,6 +1,6 @@
 use Rattle.std.proofs.Common.{◌≡◌, Option, IsSome, subst, sym}
 use Rattle.rib_route.specs.declared.rows.Interior.{Interior}
-use Rattle.rib_origin.specs.Steps.{live_after}
+use Rattle.loss_chain.specs.Steps.{live_after}
 use Rattle.rib_tree.specs.Trees.{branch_of}
 use Rattle.rib_tree.specs.Falls.{way_of_route}
 use Rattle.rib_tree.specs.Steps.{fed_tree}

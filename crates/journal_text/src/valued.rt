@@ -1,0 +1,93 @@
+//! Rows, as values of a journal.
+
+ghost use Rattle.std.specs.Prelude.{◌≡◌, IfOk, option_map};
+ghost use Rattle.journal_text.specs.declared.value.Value.{Value};
+ghost use Rattle.journal_text.specs.Values.{attrs_value, route_value, interior_value, external_value, fib_value};
+
+use crate::value::Value;
+use addr4::{Memory, Row};
+use bgp_attr::{Route, SharedAttrs};
+use rib_route::{External, FibRow, Interior};
+
+/// A row that has a value of its own on the journal's lines.
+pub trait Valued: Row {
+    /// The value.
+    ghost value: { Self → Value };
+
+    /// The value of the row. Memory only where the row can't be copied.
+    fn to_value(&self) -> Result<Value, Memory>
+        ensures { IfOk result (λ v. v ≡ value self.now) };
+
+    /// No two rows have one value.
+    ghost told: { (a b : Self) → value a ≡ value b → a ≡ b };
+}
+
+impl Valued for SharedAttrs {
+    ghost use Rattle.std.proofs.Common.{rules};
+
+    ghost value = { attrs_value };
+
+    ghost told = { λ a b same. Prim.search rules };
+
+    fn to_value(&self) -> Result<Value, Memory> {
+        Ok(Value::Attrs(self.copy()?))
+    }
+}
+
+impl Valued for Route {
+    ghost use Rattle.std.proofs.Common.{rules};
+
+    ghost value = { route_value };
+
+    ghost told = { λ a b same. Prim.search rules };
+
+    fn to_value(&self) -> Result<Value, Memory> {
+        Ok(Value::Route(self.copy()?))
+    }
+}
+
+impl Valued for Interior {
+    ghost use Rattle.std.proofs.Common.{rules};
+
+    ghost value = { interior_value };
+
+    ghost told = { λ a b same. Prim.search rules };
+
+    fn to_value(&self) -> Result<Value, Memory> {
+        Ok(Value::Interior(*self))
+    }
+}
+
+impl Valued for External {
+    ghost use Rattle.std.proofs.Common.{rules};
+
+    ghost value = { external_value };
+
+    ghost told = { λ a b same. Prim.search rules };
+
+    fn to_value(&self) -> Result<Value, Memory> {
+        Ok(Value::External(*self))
+    }
+}
+
+impl Valued for FibRow {
+    ghost use Rattle.std.proofs.Common.{rules};
+
+    ghost value = { fib_value };
+
+    ghost told = { λ a b same. Prim.search rules };
+
+    fn to_value(&self) -> Result<Value, Memory> {
+        Ok(Value::FibRow(*self))
+    }
+}
+
+/// The value of a row, if there is one.
+pub(crate) fn value_of<R: Valued>(row: &Option<R>) -> Result<Option<Value>, Memory>
+    ensures { IfOk result (λ value. value ≡ option_map R.value row.now) }
+{
+    match row {
+        Some(row) => Ok(Some(row.to_value()?)),
+        None => Ok(None),
+    }
+}

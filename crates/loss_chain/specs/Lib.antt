@@ -1,0 +1,7 @@
+pub mod Owners
+pub mod Tables
+pub mod Falls
+pub mod Steps
+pub mod Stages
+pub mod Parts
+pub mod Laws

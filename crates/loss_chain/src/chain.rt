@@ -1,0 +1,275 @@
+//! A chain of stages, as the crates above see it.
+
+ghost use Rattle.std.specs.Prelude.{◌≡◌, ◌<◌, ◌≤◌, ◌*◌, IfOk, OnOk, is_some, IsSome, Some, None};
+ghost use Rattle.std.specs.Option.{option_copied, option_map};
+ghost use Rattle.std.specs.List.{AllByRecursion};
+ghost use Rattle.std.specs.FinMap as map;
+ghost use Rattle.addr4.specs.Places.{key_of};
+ghost use Rattle.link_change.specs.Rows.{Rows, IsNextCandidate, with_rows, is_empty_map};
+ghost use Rattle.link_change.specs.Changes.{IsSent};
+ghost use Rattle.journal_text.specs.declared.value.Value.{Value};
+ghost use Rattle.journal_text.specs.Walk.{HasRow};
+ghost use Rattle.journal_text.specs.Journals.{Adds, with_entries};
+ghost use Rattle.loss_chain.specs.Owners.{lowest_link};
+ghost use Rattle.journal_text.specs.Values.{valued};
+ghost use Rattle.loss_chain.specs.Tables.{chain_links, lowest_rows, IsLossChain, NoneEmpty, OneEmptyAtMost, tables_count};
+ghost use Rattle.loss_chain.specs.Stages.{tables_of, rows_of, chain_candidates};
+ghost use Rattle.loss_chain.specs.Falls.{FallsTables, LeadsTables, way_down};
+ghost use Rattle.loss_chain.specs.Steps.{no_tables, fed_tables, lost_tables, loss_entries, welded_tables, weld_entries, oldest_of, overdue_of, IsTakenTables};
+
+use crate::live::Live;
+use crate::owner::{Owner, is_same};
+use crate::stage::Stage;
+use addr4::{Memory, Place, Prefix, Row};
+use journal_text::{Journal, Link, Task, Value, Valued};
+use link_change::{Change, Turn, Upstream};
+use std::alloc::Global;
+use std::marker::Model;
+
+/// The live rows of a source, and a deletion stage for each of its losses. Contracts see the live rows and the lost tables.
+/// Each call is told whose chain it is.
+#[derive(Drop)]
+pub struct LossChain<R> {
+    alloc: Global,
+    lowest: Stage<R>,
+}
+
+impl<R> Model for LossChain<R> {
+    ghost use Rattle.std.specs.Prelude.{◌≤◌, length};
+    ghost use Rattle.loss_chain.specs.Tables.{Tables, tables_code};
+    ghost use Rattle.loss_chain.specs.Stages.{tables_of, deletions_of};
+
+    ghost Value = { Tables R };
+
+    ghost coded = { tables_code R.code };
+
+    ghost view = { λ c. tables_of c.lowest };
+
+    ghost invariant = { λ c. length (deletions_of c.lowest) ≤ 16 };
+}
+
+impl<R: Valued> LossChain<R> {
+    /// A chain without rows and without deletion stages. Takes no memory; what the stages hold later comes from `alloc`.
+    pub fn new(alloc: Global) -> LossChain<R>
+        ensures { result ≡ no_tables }
+    {
+        LossChain {
+            alloc,
+            lowest: Stage::Top(Live::new(alloc)),
+        }
+    }
+
+    /// The lowest stage, which holds all others.
+    pub fn lowest(&self) -> &Stage<R>
+        ensures { tables_of result.now ≡ self.now }
+    {
+        &self.lowest
+    }
+
+    /// A row is set at a prefix (`new` is some), or taken away. Answers the change on the lowest link: None exactly where its
+    /// map stays the same. A row that is set takes its prefix out of the lost tables, and may so empty one: weld then. Memory
+    /// comes only for want of memory.
+    pub fn feed(
+        &mut self,
+        owner: Owner,
+        p: Prefix,
+        new: Option<R>,
+        journal: &mut Journal,
+    ) -> Result<Option<Change<R>>, Memory>
+        requires chain { IsLossChain self.old }
+        requires full { NoneEmpty self.old.deletions }
+        ensures sent { IfOk result (IsSent (lowest_rows self.old) (lowest_rows self.new) p) }
+        ensures after { OnOk result (self.new ≡ fed_tables self.old p new) }
+        ensures lines { IfOk result (λ sent. Adds (FallsTables R.value owner self.old self.new p (way_down owner (lowest_link owner) self.old.deletions) sent) journal.old journal.new) }
+        ensures chain { OnOk result (IsLossChain self.new) }
+        ensures one_empty { OnOk result (OneEmptyAtMost self.new.deletions) }
+    {
+        let link = owner.lowest();
+        let sent = self.lowest.feed(owner, link, p, new, journal)?;
+        Ok(sent)
+    }
+
+    /// Whether a row is live at the prefix.
+    pub fn has(&self, p: Prefix) -> bool
+        ensures { result ≡ is_some (map.get self.now.live p) }
+    {
+        self.lowest.has(p)
+    }
+
+    /// The task that has to run to its end before the source may be lost: that of the stage that stands longest, where 16
+    /// stand and a row is live. So no chain has more than 16 deletion stages.
+    pub fn overdue(&self, owner: Owner) -> Option<Task>
+        ensures { result ≡ overdue_of owner self.now }
+    {
+        if self.lowest.stands_below(16) || self.lowest.has_no_live() {
+            return None;
+        }
+        self.oldest(owner)
+    }
+
+    /// The task of the deletion stage that stands longest, the lowest; None where none stands.
+    pub fn oldest(&self, owner: Owner) -> Option<Task>
+        ensures { result ≡ oldest_of owner self.now.deletions }
+    {
+        match &self.lowest {
+            Stage::Top(_) => None,
+            Stage::Deletion(deletion, _) => Some(owner.task(deletion.number())),
+        }
+    }
+
+    /// Whether no row is live, so that a loss makes no stage.
+    pub fn has_no_live(&self) -> bool
+        ensures { result ≡ is_empty_map self.now.live }
+    {
+        self.lowest.has_no_live()
+    }
+
+    /// The source is lost, and this is the number of the loss: its rows, if there are any, go to a deletion stage directly
+    /// below the top, and the link above it begins. The map of the lowest link stays the same.
+    pub fn lose(&mut self, owner: Owner, number: u32, journal: &mut Journal) -> Result<(), Memory>
+        requires chain { IsLossChain self.old }
+        requires full { NoneEmpty self.old.deletions }
+        requires room { overdue_of owner self.old ≡ None }
+        requires later { AllByRecursion (λ d. d.number < number) self.old.deletions }
+        ensures after { OnOk result (self.new ≡ lost_tables number self.old) }
+        ensures lines { OnOk result (journal.new ≡ with_entries journal.old (loss_entries owner number self.old)) }
+        ensures leads { OnOk result (LeadsTables R.value owner self.old (loss_entries owner number self.old) self.new) }
+        ensures rows { OnOk result (lowest_rows self.new ≡ lowest_rows self.old) }
+        ensures chain { OnOk result (IsLossChain self.new) }
+        ensures full { OnOk result (NoneEmpty self.new.deletions) }
+    {
+        let link = owner.lowest();
+        self.lowest.lose(self.alloc, owner, link, number, journal)?;
+        Ok(())
+    }
+
+    /// Takes out the stage that a feed or a turn emptied, if there is one: the link above it is welded into the one below.
+    pub fn weld(&mut self, owner: Owner, journal: &mut Journal) -> Result<(), Memory>
+        requires chain { IsLossChain self.old }
+        requires one_empty { OneEmptyAtMost self.old.deletions }
+        ensures after { OnOk result (self.new ≡ welded_tables self.old) }
+        ensures lines { OnOk result (journal.new ≡ with_entries journal.old (weld_entries owner (lowest_link owner) self.old.deletions)) }
+        ensures leads { OnOk result (LeadsTables R.value owner self.old (weld_entries owner (lowest_link owner) self.old.deletions) self.new) }
+        ensures rows { OnOk result (lowest_rows self.new ≡ lowest_rows self.old) }
+        ensures chain { OnOk result (IsLossChain self.new) }
+        ensures full { OnOk result (NoneEmpty self.new.deletions) }
+    {
+        let link = owner.lowest();
+        self.lowest.weld(self.alloc, owner, link, journal)?;
+        Ok(())
+    }
+
+    /// One turn of the deletion stage of a loss: its least row, by address and then length, goes, and its delete goes down.
+    /// Nothing exactly where no such stage stands; Quiet where no change comes out on the lowest link. A turn may empty the
+    /// stage: weld then.
+    pub fn unit(
+        &mut self,
+        owner: Owner,
+        number: u32,
+        journal: &mut Journal,
+    ) -> Result<Turn<R>, Memory>
+        requires chain { IsLossChain self.old }
+        requires full { NoneEmpty self.old.deletions }
+        ensures taken { IfOk result (IsTakenTables R.value owner self.old self.new number journal.old journal.new) }
+        ensures chain { OnOk result (IsLossChain self.new) }
+        ensures one_empty { OnOk result (OneEmptyAtMost self.new.deletions) }
+    {
+        let link = owner.lowest();
+        let turn = self.lowest.unit(owner, link, number, journal)?;
+        Ok(turn)
+    }
+
+    // The stage whose link out is this one.
+    fn stage_out(&self, owner: Owner, link: Link) -> Option<&Stage<R>>
+        ensures { option_map (λ s. valued R.value (rows_of s)) (option_copied result) ≡ chain_links R.value owner self.now link }
+    {
+        match owner {
+            Owner::Peer(peer) => match link {
+                Link::In(number) => {
+                    if number == peer {
+                        return Some(&self.lowest);
+                    }
+                    None
+                }
+                Link::Peer(number, session) => {
+                    if number == peer {
+                        return self.lowest.above(session);
+                    }
+                    None
+                }
+                _ => None,
+            },
+            Owner::Origin(proto) => match link {
+                Link::Org(other) => {
+                    if is_same(other, proto) {
+                        return Some(&self.lowest);
+                    }
+                    None
+                }
+                Link::Lost(other, loss) => {
+                    if is_same(other, proto) {
+                        return self.lowest.above(loss);
+                    }
+                    None
+                }
+                _ => None,
+            },
+        }
+    }
+
+    /// Whether the link is one of the chain's: the lowest, or the one above the deletion stage of a loss.
+    pub fn live(&self, owner: Owner, link: Link) -> bool
+        ensures { result ≡ is_some (chain_links R.value owner self.now link) }
+    {
+        self.stage_out(owner, link).is_some()
+    }
+
+    /// The row at a prefix of a link of the chain; None where it has none. Memory where the row can't be copied.
+    pub fn asked(&self, owner: Owner, link: Link, p: Prefix) -> Result<Option<Value>, Memory>
+        requires { IsSome (chain_links R.value owner self.now link) }
+        ensures { IfOk result (HasRow (chain_links R.value owner self.now) link p) }
+    {
+        let Some(stage) = self.stage_out(owner, link) else {
+            unreachable!();
+        };
+        match stage.asked(p)? {
+            Some(row) => Ok(Some(row.to_value()?)),
+            None => Ok(None),
+        }
+    }
+
+    /// The least prefix beyond a place that has a row on a link of the chain.
+    pub fn next_candidate(&self, owner: Owner, link: Link, after: Place) -> Option<Prefix>
+        requires { IsSome (chain_links R.value owner self.now link) }
+        ensures { (rows : Rows Value) → chain_links R.value owner self.now link ≡ Some rows → IsNextCandidate (with_rows rows) (key_of after) result }
+    {
+        let Some(stage) = self.stage_out(owner, link) else {
+            unreachable!();
+        };
+        stage.next_candidate(&after)
+    }
+
+    /// How many rows the lowest link has.
+    pub fn rows(&self) -> u128
+        ensures rows { result ≡ tables_count self.now }
+        ensures bound { result ≤ 17 * 18446744073709551616 }
+    {
+        self.lowest.count()
+    }
+}
+
+impl<R: Row> Upstream for LossChain<R> {
+    type Row = R;
+
+    ghost rows = { lowest_rows };
+
+    ghost candidates = { chain_candidates };
+
+    fn asked(&self, p: &Prefix) -> Result<Option<R>, Memory> {
+        self.lowest.asked(*p)
+    }
+
+    fn next_candidate(&self, after: &Place) -> Option<Prefix> {
+        self.lowest.next_candidate(after)
+    }
+}

@@ -1,0 +1,15 @@
+//! Laws of chains, for the proofs of the crates above. Each is a function that does nothing, whose contract is the law.
+
+ghost use Rattle.loss_chain.specs.Laws.{RowsAreCounted, TurnsTakeRows, WeldsKeepRows, LossesKeepRows};
+
+/// The count that [`LossChain::rows`](crate::LossChain::rows) gives is the number of rows of the lowest link.
+pub fn rows_are_counted<R>()
+    ensures { RowsAreCounted R }
+{}
+
+/// A turn of a deletion stage takes one row; when an empty stage goes, or the source is lost, as many rows stay.
+pub fn turns_take_rows<R>()
+    ensures turns { TurnsTakeRows R }
+    ensures welds { WeldsKeepRows R }
+    ensures losses { LossesKeepRows R }
+{}

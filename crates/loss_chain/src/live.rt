@@ -1,0 +1,140 @@
+//! The live rows.
+
+ghost use Rattle.std.specs.Prelude.{◌≡◌, ◌↔◌, IsTrue, IfOk, OnOk, OnErr, IfSome, IsNone, is_some, Some, None};
+ghost use Rattle.std.specs.FinMap as map;
+ghost use Rattle.addr4.specs.Places.{key_of};
+ghost use Rattle.link_change.specs.Rows.{IsNextCandidate, with_rows, is_empty_map};
+ghost use Rattle.link_change.specs.Changes.{IsSent};
+
+use addr4::{Memory, Place, Prefix, Row};
+use link_change::Change;
+use safe_table::Table;
+use std::alloc::Global;
+use std::marker::Model;
+use std::mem;
+
+/// The live rows. Contracts see their map by prefix.
+#[derive(Drop)]
+pub struct Live<R> {
+    alloc: Global,
+    live: Table<R>,
+}
+
+impl<R> Model for Live<R> {
+    ghost use Rattle.std.specs.FinMap as map;
+    ghost use Rattle.addr4.specs.Prefixes.{prefix_cmp, network_code};
+
+    ghost Value = { map.FinMap prefix_cmp R };
+
+    ghost coded = { map.code network_code R.code };
+
+    ghost view = { λ p. p.live.rows };
+}
+
+// Whether this very row was live.
+fn was_live<R: Row>(before: &Option<R>, row: &R) -> bool
+    ensures { IsTrue result ↔ (before.now ≡ Some row.now) }
+{
+    match before {
+        None => false,
+        Some(other) => other.same(row),
+    }
+}
+
+impl<R: Row> Live<R> {
+    /// No row is live. Takes no memory.
+    pub fn new(alloc: Global) -> Live<R>
+        ensures { result ≡ map.empty }
+    {
+        Live {
+            alloc,
+            live: Table::new(alloc),
+        }
+    }
+
+    /// A row is set: an add, or the replacement of the one that is live at the prefix.
+    /// None exactly where the equal row is live. For want of memory nothing changes.
+    pub fn set(&mut self, prefix: Prefix, row: R) -> Result<Option<Change<R>>, Memory>
+        ensures sent { IfOk result (IsSent (map.get self.old) (map.get self.new) prefix) }
+        ensures silent { IfOk result (λ sent. IsNone sent ↔ (map.get self.old prefix ≡ Some row)) }
+        ensures after { IfOk result (λ sent. IfSome sent (λ change. change.after ≡ Some row)) }
+        ensures table { OnOk result (self.new ≡ map.insert self.old prefix row) }
+        ensures memory { OnErr result (self.new ≡ self.old) }
+    {
+        let kept = row.copy()?;
+        let before = self.live.insert(prefix, kept)?;
+        if was_live(&before, &row) {
+            return Ok(None);
+        }
+        Ok(Some(Change {
+            prefix,
+            before,
+            after: Some(row),
+        }))
+    }
+
+    /// A row is taken away. None exactly where no row is live at the prefix. Takes no memory.
+    pub fn unset(&mut self, prefix: Prefix) -> Option<Change<R>>
+        ensures sent { IsSent (map.get self.old) (map.get self.new) prefix result }
+        ensures silent { IsNone result ↔ (map.get self.old prefix ≡ None) }
+        ensures after { IfSome result (λ change. change.after ≡ None) }
+        ensures table { self.new ≡ map.remove self.old prefix }
+    {
+        let before = match self.live.remove(prefix) {
+            None => return None,
+            Some(before) => before,
+        };
+        Some(Change {
+            prefix,
+            before: Some(before),
+            after: None,
+        })
+    }
+
+    /// Gives all rows away, and begins anew. Takes no memory.
+    pub fn lose(&mut self) -> Table<R>
+        ensures lost { result.rows ≡ self.old }
+        ensures fresh { self.new ≡ map.empty }
+    {
+        mem::replace(&mut self.live, Table::new(self.alloc))
+    }
+
+    /// How many rows are live.
+    pub fn len(&self) -> usize
+        ensures { result ≡ map.len self.now }
+    {
+        self.live.len()
+    }
+
+    /// Whether no row is live.
+    pub fn is_empty(&self) -> bool
+        ensures empty { IsTrue result ↔ (self.now ≡ map.empty) }
+        ensures test { result ≡ is_empty_map self.now }
+    {
+        self.live.len() == 0
+    }
+
+    /// The row that is live at a prefix.
+    pub fn asked(&self, prefix: Prefix) -> Result<Option<R>, Memory>
+        ensures { IfOk result (λ row. row ≡ map.get self.now prefix) }
+    {
+        match self.live.get(prefix) {
+            None => Ok(None),
+            Some(row) => Ok(Some(row.copy()?)),
+        }
+    }
+
+    /// Whether a row is live at a prefix.
+    pub fn has(&self, prefix: Prefix) -> bool
+        ensures { result ≡ is_some (map.get self.now prefix) }
+    {
+        self.live.get(prefix).is_some()
+    }
+
+    /// The least prefix beyond a place, by address and then length, at which a row is live.
+    pub fn next_candidate(&self, after: Place) -> Option<Prefix>
+        ensures { IsNextCandidate (with_rows (map.get self.now)) (key_of after) result }
+    {
+        self.live.next_after(after)
+    }
+}

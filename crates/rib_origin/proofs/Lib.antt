@@ -1,7 +1,0 @@
-mod RowLemmas
-mod FallLemmas
-mod PartLemmas
-mod WorkLemmas
-mod WholeLemmas
-mod CountLemmas
-mod OwnLemmas

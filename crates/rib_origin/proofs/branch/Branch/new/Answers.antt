@@ -1,5 +1,0 @@
-use Rattle.rib_origin.proofs.OwnLemmas.{new_is_branch}
-use Rattle.rib_origin.proofs.branch.Branch.new.Goals as goal
-
-pub returns-clause-chain : goal.returns-clause-chain
-returns-clause-chain c = rw c.new.ensures (new_is_branch c.args.proto)

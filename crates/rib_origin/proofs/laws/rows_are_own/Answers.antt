@@ -1,5 +1,0 @@
-use Rattle.rib_origin.proofs.OwnLemmas.{rows_are_own}
-use Rattle.rib_origin.proofs.laws.rows_are_own.Goals as goal
-
-pub returns : goal.returns
-returns c = rows_are_own

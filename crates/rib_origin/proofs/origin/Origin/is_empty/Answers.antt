@@ -1,7 +1,0 @@
-use Rattle.std.proofs.Common.{◌∙◌, ap}
-use Rattle.std.specs.FinMap as map
-use Rattle.link_change.proofs.RowLemmas.{counted_empty}
-use Rattle.rib_origin.proofs.origin.Origin.is_empty.Goals as goal
-
-pub returns-clause-empty : goal.returns-clause-empty
-returns-clause-empty c = counted_empty c.args.self.now c.len.result (c.len.ensures ∙ ap map.len c.self.view_is)

@@ -1,6 +1,0 @@
-pub mod Branches
-pub mod Falls
-pub mod Steps
-pub mod Stages
-pub mod Parts
-pub mod Laws
