@@ -14,10 +14,17 @@ use Rattle.router_core.specs.Moments.{Moment, Cored, first_moment, Gives}
 use Rattle.router_core.specs.Stands.{Stands, CoreStands}
 use Rattle.router_core.specs.Blocks.{Acts}
 use Rattle.router_core.specs.Works.{IsWork, HasStepped}
+use Rattle.router_core.specs.Lives.{LiveState, live_state}
+use Rattle.router_core.proofs.KeepLemmas.{acts_of}
+use Rattle.router_core.proofs.SessionLemmas.{losses_follow}
 use Rattle.router_core.proofs.LocalLemmas.{int_empty}
 
 abbrev pub cored : Moment → ℕ → Cored
 cored m n = record { moment = m; events = n; failed = false }
+
+-- background work loses nothing
+pub worked_numbered : (m m' : Moment) (said : List Line) (n : ℕ) → IsWork m said m' → AreNumbered n m.tree → AreNumbered n m'.tree
+worked_numbered m m' said n work most proto = let was = most proto in let is : (branch_of proto m'.tree).losses ≡ (branch_of proto m.tree).losses = ap (λ (l : LiveState). l.losses proto) work.live in omega (arith, was, is)
 
 -- ---- a core by its parts
 module _ (old : Cored) (m : Moment) (n : ℕ) (failed : Bool) (view : record { moment = m; events = n; failed = failed } ≡ old) (off : failed ≡ false) (stands : old.failed ≡ false → CoreStands old) where
@@ -31,13 +38,20 @@ module _ (old : Cored) (m : Moment) (n : ℕ) (failed : Bool) (view : record { m
   few_losses few proto = let most = stood.numbered proto in omega (arith, few, most)
 
   pub core_stepped : (m' : Moment) (event : Event) (turns : ℕ) (before now : Journaled) → Gives (HasStepped m event turns m') before now → CoreStands (cored m' (n + 1))
-  core_stepped m' event turns before now g = record { stands = g.2.stands; numbered = g.2.losses n stood.numbered }
+  core_stepped m' event turns before now g = record {
+    stands = g.2.keeps.stands;
+    numbered = λ proto.
+        let was = stood.numbered proto in
+        let more = losses_follow (live_state m) event g.2.live g.2.after proto in
+        let is : (branch_of proto m'.tree).losses ≡ g.2.live.losses proto = ap (λ (l : LiveState). l.losses proto) g.2.keeps.live in
+        omega (arith, was, more, is);
+  }
 
   pub core_acts : (m' : Moment) (event : Event) (turns : ℕ) (before now : Journaled) → Gives (HasStepped m event turns m') before now → Gives (Acts old.moment event turns m') before now
-  core_acts m' event turns before now g = (g.0, g.1, subst (λ (c : Cored). Acts c.moment event turns m' g.0) view g.2.acts)
+  core_acts m' event turns before now g = (g.0, g.1, subst (λ (c : Cored). Acts c.moment event turns m' g.0) view (acts_of m m' event turns g.0 g.2))
 
   pub core_worked : (m' : Moment) (said : List Line) → IsWork m said m' → CoreStands (cored m' n)
-  core_worked m' said work = record { stands = work.stands; numbered = λ proto. let most = work.losses n stood.numbered proto in omega (arith, most) }
+  core_worked m' said work = record { stands = work.stands; numbered = worked_numbered m m' said n work stood.numbered }
 
 -- ---- the first moment
 few_new : (proto : Proto) → length (branch_of proto new_tree).deletions ≤ 16

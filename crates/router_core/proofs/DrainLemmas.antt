@@ -14,9 +14,10 @@ use Rattle.router_core.specs.Stands.{Stands}
 use Rattle.router_core.specs.Turns.{DrainsAll, deletion_tasks, filter_tasks, has_work}
 use Rattle.router_core.specs.Works.{IsWork, IsUnit, HasDrained, HaveDrained, first_task}
 use Rattle.router_core.proofs.RowCounts.{left_below}
-use Rattle.router_core.proofs.TurnLemmas.{flushed_join, flushed_none, work_none, work_join}
+use Rattle.router_core.proofs.KeepLemmas.{flushed_join, flushed_none, keeps_none, keeps_on}
 use Rattle.router_core.proofs.TaskLemmas.{first_has_work, first_turn, first_keeps_tree, nears_rows, drains_more, no_stage, no_first, is_first}
-use Rattle.router_core.proofs.KeepLemmas.{walks_after_turns, walk_keeps_tree, over_after_drains, walks_over}
+use Rattle.router_core.proofs.OverLemmas.{walks_after_turns, walk_keeps_tree, over_after_drains, walks_over}
+use Rattle.router_core.specs.Lives.{live_state}
 
 from_none : (tasks : List Task) (m : Moment) (ys : List Line) (n : ℕ) (m' : Moment) → DrainsAll tasks m ys n m' → DrainsAll tasks m ([] ++ ys) (0 + n) m'
 from_none tasks m ys n m' d = let same : n ≡ 0 + n = omega arith in subst (λ (k : ℕ). DrainsAll tasks m ys k m') same d
@@ -36,7 +37,7 @@ pub none_gone : (m : Moment) (before j : Journaled) → Stands m → j ≡ flush
 none_gone m before j stands is = (
   [],
   is ∙ flushed_none before,
-  record { goes_on = λ ys n m' d. from_none (deletion_tasks m) m ys n m' d; work = work_none m stands; fewer = omega arith; tree = refl },
+  record { goes_on = λ ys n m' d. from_none (deletion_tasks m) m ys n m' d; work = keeps_none m stands; fewer = omega arith; tree = refl },
 )
 
 pub all_more : (m at now : Moment) (task : Task) (turns : ℕ) (before j j' : Journaled) → HaveGivenAll m turns at before j → first_task (deletion_tasks at) ≡ Some task
@@ -54,7 +55,7 @@ all_more m at now task turns before j j' g first u =
             let one : turns + suc n ≡ turns + 1 + n = omega arith in
             subst (λ (k : ℕ). DrainsAll (deletion_tasks m) m ((g.0 ++ u.0) ++ ys) k m') one
             (subst (λ (ls : List Line). DrainsAll (deletion_tasks m) m ls (turns + suc n) m') (sym (append_assoc g.0 u.0 ys)) all);
-        work = work_join m at now g.0 u.0 g.2.work u.2.work;
+        work = keeps_on m at now g.0 u.0 (live_state m) g.2.work u.2.work;
         fewer = let a = g.2.fewer in omega (arith, a, one_less);
         tree = first_keeps_tree at now task f.0 u.0 f.1 u.2.turn ∙ g.2.tree;
       },
@@ -127,7 +128,7 @@ pub none_walked : (m : Moment) (before j : Journaled) → Stands m → j ≡ flu
 none_walked m before j stands is = (
   [],
   is ∙ flushed_none before,
-  record { goes_on = λ ys n m' d. from_none (filter_tasks m) m ys n m' d; work = work_none m stands; rows = refl; fewer = omega arith; same = refl; count = refl; tree = refl },
+  record { goes_on = λ ys n m' d. from_none (filter_tasks m) m ys n m' d; work = keeps_none m stands; rows = refl; fewer = omega arith; same = refl; count = refl; tree = refl },
 )
 
 walk_there : (cs : List Chained) (i : ℕ) (c : Chained) → i < length cs → c ≡ get_or cs i c
@@ -163,7 +164,7 @@ walk_more m at now i turns n c before j j' g below is u =
             let sum : turns + (n + k) ≡ turns + n + k = omega arith in
             subst (λ (s : ℕ). DrainsAll (filter_tasks m) m ((g.0 ++ u.0) ++ ys) s m') sum
             (subst (λ (ls : List Line). DrainsAll (filter_tasks m) m ls (turns + (n + k)) m') (sym (append_assoc g.0 u.0 ys)) all);
-        work = work_join m at now g.0 u.0 g.2.work u.2.run.work;
+        work = keeps_on m at now g.0 u.0 (live_state m) g.2.work u.2.run.work;
         rows = u.2.run.nearer.0 ∙ g.2.rows;
         fewer = let a = g.2.fewer in let b = u.2.run.nearer.1 in omega (arith, a, b);
         same = same;

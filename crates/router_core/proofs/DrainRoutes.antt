@@ -25,11 +25,13 @@ use Rattle.router_core.specs.Moments.{Moment, rows_in, bound_of, Gives}
 use Rattle.router_core.specs.Stands.{Stands, ChainIsSettled, IsSettled}
 use Rattle.router_core.specs.Turns.{Turns, DrainsAll, deletion_tasks, filter_tasks, has_work}
 use Rattle.router_core.specs.Works.{Nears, IsWork, IsUnit, AreTurns, HasDrained, HaveDrained, AllHaveDrained}
-use Rattle.router_core.proofs.TurnLemmas.{flushed_join, flushed_none, work_none, work_join, drained_by}
+use Rattle.router_core.proofs.TurnLemmas.{drained_by}
+use Rattle.router_core.proofs.KeepLemmas.{flushed_join, flushed_none, keeps_none, keeps_on}
 use Rattle.router_core.proofs.RouteTasks.{first_has_work, nears_count, first_turn, drains_more, none_stands}
 use Rattle.router_core.proofs.DrainLemmas.{count_of}
-use Rattle.router_core.proofs.KeepLemmas.{walks_after_drains, over_after_drains, all_both}
+use Rattle.router_core.proofs.OverLemmas.{walks_after_drains, over_after_drains, all_both}
 use Rattle.router_core.proofs.ScratchLemmas.{settled_is_exact}
+use Rattle.router_core.specs.Lives.{live_state}
 
 -- ---- one stage to its end
 none_there : (n : ℕ) (ds : List (Lost Interior)) → NoneEmpty ds → lost_count ds ≡ 0 → table_of n ds ≡ None
@@ -107,7 +109,7 @@ pub none_ended : (m : Moment) (before j : Journaled) → Stands m → j ≡ flus
 none_ended m before j stands is = (
   [],
   is ∙ flushed_none before,
-  record { goes_on = λ ys n m' d. let same : n ≡ 0 + n = omega arith in subst (λ (k : ℕ). DrainsAll (tree_tasks m.tree) m ys k m') same d; work = work_none m stands; fewer = omega arith },
+  record { goes_on = λ ys n m' d. let same : n ≡ 0 + n = omega arith in subst (λ (k : ℕ). DrainsAll (tree_tasks m.tree) m ys k m') same d; work = keeps_none m stands; fewer = omega arith },
 )
 
 pub losses_more : (m at now : Moment) (task : Task) (turns : ℕ) (before j j' : Journaled) → HaveGivenLosses m turns at before j → first_task (tree_tasks at.tree) ≡ Some task
@@ -125,7 +127,7 @@ losses_more m at now task turns before j j' g first u =
             let one : turns + suc n ≡ turns + 1 + n = omega arith in
             subst (λ (k : ℕ). DrainsAll (tree_tasks m.tree) m ((g.0 ++ u.0) ++ ys) k m') one
             (subst (λ (ls : List Line). DrainsAll (tree_tasks m.tree) m ls (turns + suc n) m') (sym (append_assoc g.0 u.0 ys)) all);
-        work = work_join m at now g.0 u.0 g.2.work u.2.work;
+        work = keeps_on m at now g.0 u.0 (live_state m) g.2.work u.2.work;
         fewer = let a = g.2.fewer in omega (arith, a, one_less);
       },
     )
@@ -207,7 +209,7 @@ all_drained m first second now losses stages walks before j j2 j3 stands g u v =
         (drains_join (deletion_tasks m) (filter_tasks m) first second now u.0 v.0 stages walks
         (subst (λ (cs : List Chained). DrainsAll (deletion_tasks (over cs)) first u.0 stages second) chains u.2.drains)
         (subst (λ (ts : List Task). DrainsAll ts second v.0 walks now) tasks v.2.drains));
-    work = work_join m first now g.0 (u.0 ++ v.0) g.2.work (work_join first second now u.0 v.0 u.2.work v.2.work);
+    work = keeps_on m first now g.0 (u.0 ++ v.0) (live_state m) g.2.work (keeps_on first second now u.0 v.0 (live_state first) u.2.work v.2.work);
     most = most;
     settled = settled;
     exact = settled_is_exact now v.2.work.stands settled;
@@ -215,7 +217,7 @@ all_drained m first second now losses stages walks before j j2 j3 stands g u v =
 )
   where
     over : List Chained → Moment
-    over cs = record { declared = m.declared; tree = m.tree; registry = m.registry; chains = cs }
+    over cs = record m { chains = cs }
 
     chains : first.chains ≡ m.chains
     chains = chains_after (tree_tasks m.tree) m first g.0 losses (are_losses m.tree) g.2.drains

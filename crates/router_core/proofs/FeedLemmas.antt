@@ -7,24 +7,22 @@ use Rattle.addr4.specs.Prefixes.{Network}
 use Rattle.bgp_attr.specs.declared.attrs.Attrs.{Attrs}
 use Rattle.deletion_stage.specs.Lost.{Lost}
 use Rattle.journal_text.specs.declared.line.Line.{Line}
-use Rattle.journal_text.specs.Journals.{Journaled, with_lines}
+use Rattle.journal_text.specs.Journals.{Journaled}
 use Rattle.journal_text.specs.Texts.{entries_of}
-use Rattle.journal_text.proofs.JournalLemmas.{with_lines_append}
-use Rattle.journal_text.proofs.WalkLemmas.{leads_nowhere}
 use Rattle.event_text.specs.declared.declared.DeclaredPeer.{DeclaredPeer}
 use Rattle.pass_core.specs.Passed.{present}
 use Rattle.in_chain.specs.Chains.{Chained}
 use Rattle.loss_chain.specs.Steps.{without, live_after, deletions_after}
-use Rattle.router_core.specs.Moments.{Moment, chain_at, with_chain, router_links}
-use Rattle.router_core.specs.Lives.{LiveState, Routes, live_state, with_routes, routes_after}
+use Rattle.router_core.specs.Moments.{Moment, chain_at, with_chain}
+use Rattle.router_core.specs.Lives.{LiveState, Routes, live_state, with_routes, routes_after, live_fed}
 use Rattle.router_core.specs.Stands.{AreInOrder, IsSilent, PeerStands, Stands}
 use Rattle.router_core.specs.Turns.{Feeds, FeedsAll}
-use Rattle.router_core.specs.Works.{FeedsChain, Pushes, Steps, IsPlace, IsUpAt, HaveFed, live_fed}
+use Rattle.router_core.specs.Works.{FeedsChain, Pushes, Steps, IsPlace, IsUpAt, Keeps, HaveFed}
 use Rattle.router_core.proofs.TableLemmas.{is_full}
 use Rattle.router_core.proofs.ChainLemmas.{number_at, same_by}
 use Rattle.router_core.proofs.LinkLemmas.{leads_router}
-use Rattle.router_core.proofs.StandLemmas.{remade, losses_stay, losses_join, one_peer, peer_of, stands_with, live_routed, routes_there, routes_same, routes_twice, peer_left}
-use Rattle.router_core.proofs.TurnLemmas.{leads_join}
+use Rattle.router_core.proofs.StandLemmas.{remade, one_peer, peer_of, stands_with, live_routed, routes_there, routes_same, routes_twice, peer_left}
+use Rattle.router_core.proofs.KeepLemmas.{keeps_none, keeps_join, pushes_join}
 use Rattle.router_core.proofs.PlaceLemmas.{at_place, set_at_place}
 
 -- a feed at a place
@@ -54,7 +52,7 @@ silent_up true c is = tt
 silent_up false c is = absurd (cc)
 
 abbrev live_by : Moment → (ℕ → Routes) → LiveState
-live_by m routes = record { declared = m.declared; routes = routes; rules = (live_state m).rules; interior = (live_state m).interior }
+live_by m routes = record (live_state m) { routes = routes }
 
 -- a feed of a peer's chain is one of the router
 pub fed_one : (k : ℕ) (p : Network) (row : Option Attrs) (m : Moment) (c c' : Chained) (said : List Line) → Stands m → IsUpAt k m → chain_at k m.chains ≡ Some c → FeedsChain p row c c' said
@@ -69,11 +67,12 @@ fed_one k p row m c c' said stands up at f =
     let feeds : Feeds k (p, row) m said (with_chain m c') = record { chain = c; at = at; sent = f.sent; entries = f.entries; falls = f.falls; rows = f.rows; lines = f.lines; after = ap (with_chain m) f.after } in
     record {
       feeds = (said, [], with_chain m c', feeds, (refl, refl), sym (append-nil said));
-      leads = leads_router m k c at c' number (entries_of said) f.step.leads;
-      live = live_routed m m.declared k c c' at number (ap (λ (x : Chained). present x.filter) f.after)
-          ∙ ap (λ (r : Routes). live_by m (with_routes (live_state m).routes k r)) (live ∙ ap (λ (r : Routes). live_after r p row) (sym (routes_there m k c at)));
-      losses = losses_stay m (with_chain m c') refl;
-      stands = stands_with m k c c' peer.0 stands at number f.step.words.0 peer.1 here;
+      keeps = record {
+        leads = leads_router m k c at c' number (entries_of said) f.step.leads;
+        live = live_routed m m.declared k c c' at number (ap (λ (x : Chained). present x.filter) f.after)
+            ∙ ap (λ (r : Routes). live_by m (with_routes (live_state m).routes k r)) (live ∙ ap (λ (r : Routes). live_after r p row) (sym (routes_there m k c at)));
+        stands = stands_with m k c c' peer.0 stands at number f.step.words.0 peer.1 here;
+      };
     }
 
 pub one_fed : (k : ℕ) (p : Network) (row : Option Attrs) (m : Moment) (cs : List Chained) (before now : Journaled) → Stands m → IsUpAt k m → Steps (FeedsChain p row) k m.chains cs before now
@@ -103,30 +102,25 @@ module _ (k : ℕ) where
       ∙ ap (λ (r : Routes). the_state (with_routes l.routes k r)) (sym (routes_join xs ys (l.routes k)))
     where
       the_state : (ℕ → Routes) → LiveState
-      the_state routes = record { declared = l.declared; routes = routes; rules = l.rules; interior = l.interior }
+      the_state routes = record l { routes = routes }
 
   pub fed_none : (m : Moment) → Stands m → HaveFed k [] m m []
   fed_none m stands = record {
     feeds = (refl, refl);
-    leads = leads_nowhere (router_links m) (router_links m) refl;
-    live = ap (live_by m) (sym (routes_same (live_state m).routes k ((live_state m).routes k) refl));
-    losses = losses_stay m m refl;
-    stands = stands;
+    keeps = subst (λ (r : ℕ → Routes). Keeps (live_by m r) m m []) (sym (routes_same (live_state m).routes k ((live_state m).routes k) refl)) (keeps_none m stands);
   }
 
   pub fed_join : (xs ys : List (Network × Option Attrs)) (m between m' : Moment) (a b : List Line) → HaveFed k xs m between a → HaveFed k ys between m' b → HaveFed k (xs ++ ys) m m' (a ++ b)
   fed_join xs ys m between m' a b f g = record {
     feeds = feeds_join xs ys m between m' a b f.feeds g.feeds;
-    leads = leads_join m between m' a b f.leads g.leads;
-    live = g.live ∙ ap (λ (l : LiveState). live_fed l k ys) f.live ∙ live_join (live_state m) xs ys;
-    losses = losses_join 0 0 m between m' f.losses g.losses;
-    stands = g.stands;
+    keeps = subst (λ (l : LiveState). Keeps l m m' (a ++ b)) (ap (λ (l : LiveState). live_fed l k ys) f.keeps.live ∙ live_join (live_state m) xs ys)
+        (keeps_join m between m' a b (live_fed (live_state m) k xs) (live_fed (live_state between) k ys) f.keeps g.keeps);
   }
 
   pub pushed_more : (xs : List (Network × Option Attrs)) (x : Network × Option Attrs) (m between m' : Moment) (before j now : Journaled) → Pushes (HaveFed k xs m between) before j
       → Pushes (HaveFed k (x ∷ []) between m') j now → Pushes (HaveFed k (xs ++ x ∷ []) m m') before now
   pushed_more xs x m between m' before j now f g =
-      (f.0 ++ g.0, g.1 ∙ ap (λ (y : Journaled). with_lines y g.0) f.1 ∙ with_lines_append before f.0 g.0, fed_join xs (x ∷ []) m between m' f.0 g.0 f.2 g.2)
+      pushes_join (HaveFed k xs m between) (HaveFed k (x ∷ []) between m') (HaveFed k (xs ++ x ∷ []) m m') (λ a b p q. fed_join xs (x ∷ []) m between m' a b p q) before j now f g
 
 -- one change more
 pub take_pair : (xs : List (Network × Option Attrs)) (i : ℕ) (x : Network × Option Attrs) (row : Option Attrs) → i < length xs → x ≡ get_or xs i x → row ≡ x.1

@@ -16,6 +16,7 @@ pub mod PlaceLemmas
 pub mod UnitLemmas
 pub mod TurnLemmas
 pub mod TaskLemmas
+pub mod OverLemmas
 pub mod KeepLemmas
 pub mod DrainLemmas
 pub mod FeedLemmas

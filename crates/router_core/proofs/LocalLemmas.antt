@@ -23,9 +23,12 @@ use Rattle.event_text.specs.declared.event.Event.TheVariants as events
 use Rattle.event_text.specs.Declarations.{refusal}
 use Rattle.router_core.specs.Moments.{Moment, rib_by, router_links}
 use Rattle.router_core.specs.Stands.{Stands}
-use Rattle.router_core.specs.Blocks.{Acts, begin_line, rib_begins, declared_speaker}
-use Rattle.router_core.proofs.PeerLemmas.{local_first}
+use Rattle.router_core.specs.Blocks.{begin_line, rib_begins, declared_speaker}
+use Rattle.router_core.proofs.PeerLemmas.{local_first, speaker_stands}
 use Rattle.router_core.proofs.ShownRows.{with_more}
+use Rattle.router_core.specs.Works.{HasStepped}
+use Rattle.router_core.proofs.SessionLemmas.{ends}
+use Rattle.router_core.specs.Lives.{live_state}
 
 -- a tree without routes has no rows
 org_empty : (proto : Proto) → org_rows (branch_of proto new_tree) ≡ no_rows
@@ -99,13 +102,14 @@ module _ (m : Moment) (words : Speaker) (first : m.declared.speaker ≡ None) (e
     ends = links_then;
   }
 
-pub local_acts : (m : Moment) (words : Speaker) → refusal m.declared (events.Local words) ≡ None → Stands m → Acts m (events.Local words) 0 (declared_speaker m words) rib_begins
-local_acts m words admitted stands =
+pub local_stepped : (m : Moment) (words : Speaker) → refusal m.declared (events.Local words) ≡ None → Stands m → HasStepped m (events.Local words) 0 (declared_speaker m words) rib_begins
+local_stepped m words admitted stands =
     let first = local_first m.declared words admitted in
     record {
       block = (refl, refl, refl);
-      leads = begun_leads m words first (stands.tree.waiting first);
-      live = refl;
+      live = live_state (declared_speaker m words);
+      after = refl;
+      keeps = record { leads = begun_leads m words first (stands.tree.waiting first); live = refl; stands = speaker_stands m words admitted stands };
     }
 
 -- ---- one link after the other

@@ -26,14 +26,14 @@ use Rattle.in_chain.specs.IncomingSteps.{loss_entries, overdue_of}
 use Rattle.loss_chain.specs.Steps.{oldest_of}
 use Rattle.in_chain.specs.Steps.{lost}
 use Rattle.router_core.specs.Moments.{Moment, chain_at, put_chain, Gives}
-use Rattle.router_core.specs.Lives.{LiveState, Routes, live_state, with_routes, ended}
+use Rattle.router_core.specs.Lives.{Routes, live_state, with_routes, ended}
 use Rattle.router_core.specs.Stands.{AreInOrder, IsEarlier, PeerStands, StandsAt, Stands}
 use Rattle.router_core.specs.Turns.{journal_lines}
 use Rattle.router_core.specs.Works.{Pushes, Steps, IsPlace, LosesChain, HasRoom, IsSession, HasLost, Ends}
 use Rattle.router_core.proofs.ChainLemmas.{equal_by, number_at}
 use Rattle.router_core.proofs.LinkLemmas.{leads_router}
-use Rattle.router_core.proofs.StandLemmas.{remade, losses_stay, losses_join, one_peer, peer_of, KeepsOthers, stands_put, live_routed}
-use Rattle.router_core.proofs.TurnLemmas.{flushed_join, leads_join}
+use Rattle.router_core.proofs.StandLemmas.{remade, one_peer, peer_of, KeepsOthers, stands_put, live_routed}
+use Rattle.router_core.proofs.KeepLemmas.{keeps_then, gives_push}
 use Rattle.router_core.proofs.PlaceLemmas.{at_place, set_at_place}
 
 -- ---- in a chain
@@ -178,19 +178,17 @@ ends_one k s m c c' said stands up free at f =
     (lost_stands peer.0 s c is_up session peer.2 free (subst IsChain f.is f.step.chain) (subst (λ (x : Chained). NoneEmpty x.incoming.deletions) f.is f.step.full)) in
     let at_now : StandsAt (peer_at k (map (ended_at k) m.declared.peers)) (Some c') = subst (λ (o : Option DeclaredPeer). StandsAt o (Some c')) (sym (ended_same k m.declared.peers peer.0 peer.1)) here in
     record {
-      losses = losses_stay m (remade m (without_session m.declared k) (put_chain c' m.chains)) refl;
       chain = c;
       there = at;
       lines = f.lines;
       after = ap (λ (x : Chained). remade m (without_session m.declared k) (put_chain x m.chains)) f.is;
-      leads = leads_router m k c at c' number (entries_of said) f.step.leads;
-      live = live_routed m (without_session m.declared k) k c c' at number (ap (λ (x : Chained). present x.filter) f.is) ∙ ap (λ r. the_state (with_routes (live_state m).routes k r)) (ap (λ (x : Chained). x.incoming.live) f.is);
-      stands = stands_put m (without_session m.declared k) k c c' stands at number f.step.words.0 keeps at_now;
+      keeps = record {
+        leads = leads_router m k c at c' number (entries_of said) f.step.leads;
+        live = live_routed m (without_session m.declared k) k c c' at number (ap (λ (x : Chained). present x.filter) f.is) ∙ ap (λ (r : Routes). record (live_state m) { declared = without_session m.declared k; routes = with_routes (live_state m).routes k r }) (ap (λ (x : Chained). x.incoming.live) f.is);
+        stands = stands_put m (without_session m.declared k) k c c' stands at number f.step.words.0 keeps at_now;
+      };
     }
   where
-    the_state : (ℕ → Routes) → LiveState
-    the_state routes = record { declared = without_session m.declared k; routes = routes; rules = (live_state m).rules; interior = (live_state m).interior }
-
     keeps : KeepsOthers k m.declared (without_session m.declared k)
     keeps = record { speaker = refl; count = ended_length k m.declared.peers; others = λ j e. ended_other k j m.declared.peers e }
 
@@ -201,24 +199,17 @@ one_ended k s m cs before now stands up free t =
 
 -- ---- both
 pub lost_all : (k s : ℕ) (m room m' : Moment) (before j j' now : Journaled) → Gives (HasRoom k m room) before j → Pushes (Ends k s room m') j j' → now ≡ flushed j' → Gives (HasLost k s m m') before now
-lost_all k s m room m' before j j' now r e is = (
-  r.0 ++ e.0,
-  is ∙ ap flushed e.1 ∙ ap (λ (x : Journaled). flushed (with_lines x e.0)) r.1 ∙ flushed_join before r.0 e.0,
-  record {
-    losses = losses_join 0 0 m room m' r.2.work.losses e.2.losses;
-    loses = record {
-      before = r.2.before;
-      at = r.2.at;
-      first = r.0;
-      room = room;
-      runs = r.2.runs;
-      chain = e.2.chain;
-      there = e.2.there;
-      lines = ap (λ (ls : List Line). r.0 ++ ls) e.2.lines;
-      after = e.2.after;
-    };
-    leads = leads_join m room m' r.0 e.0 r.2.work.leads e.2.leads;
-    live = e.2.live ∙ ap (λ (l : LiveState). ended l k) r.2.work.live;
-    stands = e.2.stands;
-  },
-)
+lost_all k s m room m' before j j' now r e is = gives_push (HasRoom k m room) (Ends k s room m') (HasLost k s m m') (λ xs ys p q. record {
+  loses = record {
+    before = p.before;
+    at = p.at;
+    first = xs;
+    room = room;
+    runs = p.runs;
+    chain = q.chain;
+    there = q.there;
+    lines = ap (λ (ls : List Line). xs ++ ls) q.lines;
+    after = q.after;
+  };
+  keeps = keeps_then m room m' xs ys (λ l. ended l k) p.work q.keeps;
+}) before j j' now r e is

@@ -19,7 +19,7 @@ use Rattle.journal_text.specs.Links.{owner_of}
 use Rattle.journal_text.specs.Walk.{Links, Leads, with_link}
 use Rattle.event_text.specs.declared.event.Event.TheVariants as events
 use Rattle.event_text.specs.declared.declared.DeclaredPeer.{DeclaredPeer}
-use Rattle.event_text.specs.Declarations.{Declaration, peer_at, words_of, with_peer, with_session, begun_at, refusal, refusal_at, rules_refusal, session_refusal}
+use Rattle.event_text.specs.Declarations.{with_speaker, Declaration, peer_at, words_of, with_peer, with_session, begun_at, refusal, refusal_at, rules_refusal, session_refusal}
 use Rattle.event_text.proofs.Sessions.{addable, missed, KeepsWords, begun_words}
 use Rattle.policy_rules.specs.declared.rule.Rule.{Rule}
 use Rattle.pass_core.specs.Passed.{Walked, present, edited}
@@ -33,15 +33,17 @@ use Rattle.rib_route.specs.declared.rows.Interior.{Interior}
 use Rattle.register_interest.specs.Registers.{Registry}
 use Rattle.rib_tree.specs.Trees.{Treed}
 use Rattle.router_core.specs.Moments.{Moment, chain_at, put_chain, with_chain, insert_chain, links_by, peer_links, router_links}
-use Rattle.router_core.specs.Lives.{LiveState, live_state, routes_of, rules_of, with_rules, begun_if_down}
+use Rattle.router_core.specs.Lives.{live_state, routes_of, rules_of, with_rules, begun_if_down}
 use Rattle.router_core.specs.Stands.{IsEarlier, IsSilent, PeerStands, StandsAt, AreInOrder, Stands}
-use Rattle.router_core.specs.Blocks.{Acts, ByPeer, BeginsIf, Declares, declared_speaker, declared_peer, begun}
+use Rattle.router_core.specs.Blocks.{ByPeer, BeginsIf, Declares, declared_speaker, declared_peer, begun}
 use Rattle.router_core.specs.Peers.{place_in, is_up, Edits}
-use Rattle.router_core.specs.Works.{IsPlace}
+use Rattle.router_core.specs.Works.{IsPlace, HasStepped}
 use Rattle.router_core.proofs.ChainLemmas.{equal_by, same_by, other_by, chain_here, chain_past, number_at}
 use Rattle.router_core.proofs.LinkLemmas.{both_none, beside_old, beside_new}
-use Rattle.router_core.proofs.StandLemmas.{remade, one_peer, peer_of, chain_there, stands_with, live_edited}
+use Rattle.router_core.proofs.StandLemmas.{one_peer, peer_of, chain_there, stands_with, live_edited}
 use Rattle.router_core.proofs.PlaceLemmas.{at_place, set_at_place}
+use Rattle.router_core.proofs.SessionLemmas.{ends}
+use Rattle.router_core.proofs.KeepLemmas.{steps_said}
 
 -- ---- a chain more
 below_by : (m n : ℕ) → nat_lt m n ≡ true → m < n
@@ -262,11 +264,16 @@ module _ (m : Moment) (me : Speaker) (k : ℕ) (words : Speaker) (is_local : m.d
       by_test true e = ap f (there_at j e) ∙ same ∙ sym (ap f (none_at j e))
       by_test false e = ap f (chain_at_insert_other j fresh m.chains e)
 
-  pub peer_acts : Acts m (events.Peer k words) 0 (declared_peer m me k words) (lines.Journal (Begin (In k)) ∷ lines.Journal (Begin (Filt k)) ∷ [])
-  peer_acts = record {
+  pub peer_stepped : HasStepped m (events.Peer k words) 0 (declared_peer m me k words) (lines.Journal (Begin (In k)) ∷ lines.Journal (Begin (Filt k)) ∷ [])
+  peer_stepped = record {
     block = subst (λ (s : Option Speaker). Declares m s k words (lines.Journal (Begin (In k)) ∷ lines.Journal (Begin (Filt k)) ∷ []) 0 (declared_peer m me k words)) (sym is_local) (refl, refl, refl);
-    leads = declared_leads;
-    live = λ i. record { declared = with_peer m.declared k words; routes = λ j. stays routes_of refl j i; rules = λ j. stays rules_of refl j i; interior = (live_state m).interior };
+    live = record (live_state m) { declared = with_peer m.declared k words };
+    after = refl;
+    keeps = record {
+      leads = declared_leads;
+      live = λ i. record (live_state m) { declared = with_peer m.declared k words; routes = λ j. stays routes_of refl j i; rules = λ j. stays rules_of refl j i };
+      stands = declared_stands;
+    };
   }
 
 -- ---- a session begins
@@ -329,11 +336,12 @@ may_begin d k e = by_speaker d.speaker e
     by_speaker None e = absurd (cc)
     by_speaker (Some local) e = e
 
-pub begun_acts : (m : Moment) (k : ℕ) → refusal m.declared (events.Up k) ≡ None → is_up (peer_at k m.declared.peers) ≡ false → Acts m (events.Up k) 0 (begun m k) []
-begun_acts m k admitted down = record {
+pub begun_stepped : (m : Moment) (k : ℕ) → Stands m → refusal m.declared (events.Up k) ≡ None → is_up (peer_at k m.declared.peers) ≡ false → HasStepped m (events.Up k) 0 (begun m k) []
+begun_stepped m k stands admitted down = record {
   block = block (peer_at k m.declared.peers) (may_begin m.declared k admitted) down;
-  leads = record { lawful = tt; ends = refl };
-  live = live (peer_at k m.declared.peers) (may_begin m.declared k admitted) down;
+  live = live_state (begun m k);
+  after = live (peer_at k m.declared.peers) (may_begin m.declared k admitted) down;
+  keeps = record { leads = record { lawful = tt; ends = refl }; live = refl; stands = begun_stands m k stands };
 }
   where
     block : (o : Option DeclaredPeer) → session_refusal o ≡ None → is_up o ≡ false → ByPeer (λ p. BeginsIf p.up m k [] 0 (begun m k)) o
@@ -344,12 +352,8 @@ begun_acts m k admitted down = record {
     live None e down = absurd (cc)
     live (Some p) e down = sym (ap (λ (u : Bool). cond u (live_state m) (live_state (begun m k))) down)
 
-pub ignored_acts : (m : Moment) (k : ℕ) → is_up (peer_at k m.declared.peers) ≡ true → Acts m (events.Up k) 0 m (lines.Ignored ∷ [])
-ignored_acts m k up = record {
-  block = block (peer_at k m.declared.peers) up;
-  leads = record { lawful = tt; ends = refl };
-  live = live (peer_at k m.declared.peers) up;
-}
+pub ignored_stepped : (m : Moment) (k : ℕ) → Stands m → is_up (peer_at k m.declared.peers) ≡ true → HasStepped m (events.Up k) 0 m (lines.Ignored ∷ [])
+ignored_stepped m k stands up = steps_said m (events.Up k) 0 (lines.Ignored ∷ []) stands (block (peer_at k m.declared.peers) up) (live (peer_at k m.declared.peers) up) refl
   where
     block : (o : Option DeclaredPeer) → is_up o ≡ true → ByPeer (λ p. BeginsIf p.up m k (lines.Ignored ∷ []) 0 m) o
     block None up = absurd (cc)
@@ -360,19 +364,17 @@ ignored_acts m k up = record {
     live (Some p) up = sym (ap (λ (u : Bool). cond u (live_state m) (live_state (begun m k))) up)
 
 -- ---- the moment after it, from its parts
-abbrev pub moment_by : Declaration → Treed → Registry Interior → List Chained → Moment
-moment_by d t r cs = record { declared = d; tree = t; registry = r; chains = cs }
-
 -- the peer that was declared, by its words
 pub new_peer_at : (d : Declaration) (k : ℕ) (words : Speaker) → peer_at k d.peers ≡ None → peer_at k (with_peer d k words).peers ≡ Some (record { words = words_of d.speaker k words; session = 0; up = false })
 new_peer_at d k words absent = peer_at_push_here k d.peers (record { words = words_of d.speaker k words; session = 0; up = false }) absent refl
 
-pub declared_is : (m : Moment) (me : Speaker) (k : ℕ) (words : Speaker) (before after : Declaration) (p : DeclaredPeer) (c : Chained) (t : Treed) (r : Registry Interior) (cs cs' : List Chained) → moment_by before t r cs ≡ m → peer_at k before.peers ≡ None
-    → after ≡ with_peer before k words → Some p ≡ peer_at k after.peers → c ≡ new_chain me p.words → cs' ≡ insert_chain c cs → moment_by after t r cs' ≡ declared_peer m me k words
-declared_is m me k words before after p c t r cs cs' view absent added there new inserted =
-    let q : DeclaredPeer = record { words = words_of before.speaker k words; session = 0; up = false } in
-    let is : p ≡ q = one_peer p q (there ∙ ap (λ (d : Declaration). peer_at k d.peers) added ∙ new_peer_at before k words absent) in
-    ap (λ (d : Declaration). moment_by d t r cs') added ∙ ap (moment_by (with_peer before k words) t r) (inserted ∙ ap (λ (x : Chained). insert_chain x cs) (new ∙ ap (λ (x : DeclaredPeer). new_chain me x.words) is))
+pub declared_is : (m v : Moment) (me : Speaker) (k : ℕ) (words : Speaker) (after : Declaration) (p : DeclaredPeer) (c : Chained) (cs' : List Chained) → v ≡ m → peer_at k m.declared.peers ≡ None
+    → after ≡ with_peer v.declared k words → Some p ≡ peer_at k after.peers → c ≡ new_chain me p.words → cs' ≡ insert_chain c v.chains → record v { declared = after; chains = cs' } ≡ declared_peer m me k words
+declared_is m v me k words after p c cs' view absent added there new inserted =
+    let q : DeclaredPeer = record { words = words_of v.declared.speaker k words; session = 0; up = false } in
+    let is : p ≡ q = one_peer p q (there ∙ ap (λ (d : Declaration). peer_at k d.peers) added ∙ new_peer_at v.declared k words (ap (λ (n : Moment). peer_at k n.declared.peers) view ∙ absent)) in
+    let chains : cs' ≡ insert_chain (new_chain me q.words) v.chains = inserted ∙ ap (λ (x : Chained). insert_chain x v.chains) (new ∙ ap (λ (x : DeclaredPeer). new_chain me x.words) is) in
+    ap (λ (d : Declaration). record v { declared = d; chains = cs' }) added ∙ ap (λ (l : List Chained). record v { declared = with_peer v.declared k words; chains = l }) chains
     ∙ ap (λ (n : Moment). declared_peer n me k words) view
 
 -- the peer that was just declared is there
@@ -381,9 +383,11 @@ not_added before after k words absent added none =
     let there : peer_at k after.peers ≡ Some (record { words = words_of before.speaker k words; session = 0; up = false }) = ap (λ (d : Declaration). peer_at k d.peers) added ∙ new_peer_at before k words absent in
     cc
 
-pub begun_is : (m : Moment) (k : ℕ) (before after : Declaration) (t : Treed) (r : Registry Interior) (cs : List Chained) → moment_by before t r cs ≡ m → after ≡ with_session before k
-    → moment_by after t r cs ≡ begun m k
-begun_is m k before after t r cs view began = ap (λ (d : Declaration). moment_by d t r cs) began ∙ ap (λ (n : Moment). begun n k) view
+pub speaker_is : (m v : Moment) (words : Speaker) (after : Declaration) → v ≡ m → after ≡ with_speaker v.declared words → record v { declared = after } ≡ declared_speaker m words
+speaker_is m v words after view said = ap (λ (d : Declaration). record v { declared = d }) said ∙ ap (λ (n : Moment). declared_speaker n words) view
+
+pub begun_is : (m v : Moment) (k : ℕ) (after : Declaration) → v ≡ m → after ≡ with_session v.declared k → record v { declared = after } ≡ begun m k
+begun_is m v k after view began = ap (λ (d : Declaration). record v { declared = d }) began ∙ ap (λ (n : Moment). begun n k) view
 
 pub peer_absent : (d : Declaration) (k : ℕ) (words : Speaker) → refusal d (events.Peer k words) ≡ None → peer_at k d.peers ≡ None
 peer_absent d k words e = (addable d.speaker d.peers k words e).1
@@ -457,22 +461,23 @@ same_links m k rules c at links =
     sym (beside_old m k c at) ∙ ap (λ (own : Links Value). λ (link : Link). cond (is_named c.incoming.number link) (own link) (router_links m link)) (sym links)
     ∙ beside_new m k c at (refiltered rules c) (number_at k m.chains c at)
 
-pub edited_acts : (m : Moment) (k : ℕ) (rules : List Rule) (cs : List Chained) → Edits k rules m.chains cs → Acts m (events.FilterIn k rules) 0 (remade m m.declared cs) []
-edited_acts m k rules cs e = subst (λ (x : List Chained). Acts m (events.FilterIn k rules) 0 (remade m m.declared x) []) (sym e.2) (record {
-  block = (e.0, e.1, (refl, refl, refl));
-  leads = leads_nowhere (router_links m) (router_links (with_chain m (refiltered rules e.0))) (same_links m k rules e.0 e.1 e.3);
-  live = live_edited m k e.0 (refiltered rules e.0) e.1 (number_at k m.chains e.0 e.1) refl
-      ∙ ap (λ (r : List Rule). live_by m (with_rules (live_state m).rules k r)) (present_edited e.0.filter.in_force e.0.filter.walk rules);
-})
+pub edited_stepped : (m v : Moment) (k : ℕ) (rules : List Rule) (cs : List Chained) → v ≡ m → Stands m → Edits k rules v.chains cs → HasStepped m (events.FilterIn k rules) 0 (record v { chains = cs }) []
+edited_stepped m v k rules cs view stands e = subst (λ (n : Moment). HasStepped n (events.FilterIn k rules) 0 (record v { chains = cs }) []) view (edited_one v k rules cs (subst Stands (sym view) stands) e)
   where
-    live_by : Moment → (ℕ → List Rule) → LiveState
-    live_by m rules = record { declared = m.declared; routes = (live_state m).routes; rules = rules; interior = (live_state m).interior }
-
-pub edited_stands : (m : Moment) (k : ℕ) (rules : List Rule) (cs : List Chained) → Stands m → Edits k rules m.chains cs → Stands (remade m m.declared cs)
-edited_stands m k rules cs stands e =
-    let p = peer_of m stands k e.0 e.1 in
-    subst (λ (x : List Chained). Stands (remade m m.declared x)) (sym e.2)
-    (stands_with m k e.0 (refiltered rules e.0) p.0 stands e.1 (number_at k m.chains e.0 e.1) refl p.1 (edited_peer p.0 e.0 rules p.2))
+    edited_one : (m : Moment) (k : ℕ) (rules : List Rule) (cs : List Chained) → Stands m → Edits k rules m.chains cs → HasStepped m (events.FilterIn k rules) 0 (record m { chains = cs }) []
+    edited_one m k rules cs stands e =
+        let p = peer_of m stands k e.0 e.1 in
+        subst (λ (x : List Chained). HasStepped m (events.FilterIn k rules) 0 (record m { chains = x }) []) (sym e.2) (record {
+          block = (e.0, e.1, (refl, refl, refl));
+          live = record (live_state m) { rules = with_rules (live_state m).rules k rules };
+          after = refl;
+          keeps = record {
+            leads = leads_nowhere (router_links m) (router_links (with_chain m (refiltered rules e.0))) (same_links m k rules e.0 e.1 e.3);
+            live = live_edited m k e.0 (refiltered rules e.0) e.1 (number_at k m.chains e.0 e.1) refl
+                ∙ ap (λ (r : List Rule). record (live_state m) { rules = with_rules (live_state m).rules k r }) (present_edited e.0.filter.in_force e.0.filter.walk rules);
+            stands = stands_with m k e.0 (refiltered rules e.0) p.0 stands e.1 (number_at k m.chains e.0 e.1) refl p.1 (edited_peer p.0 e.0 rules p.2);
+          };
+        })
 
 pub edits_placed : (k : ℕ) (rules : List Rule) (cs : List Chained) (i : ℕ) (c c' : Chained) → AreInOrder cs → IsPlace k cs (Some i) → c ≡ get_or cs i c → c' ≡ refiltered rules c → links_of c' ≡ links_of c
     → Edits k rules cs (set cs i c')

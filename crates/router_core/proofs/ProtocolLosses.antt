@@ -24,15 +24,14 @@ use Rattle.rib_tree.specs.Trees.{Treed, branch_of, int_rows, IsTree, IsFull, Are
 use Rattle.rib_tree.specs.Falls.{LeadsTree}
 use Rattle.rib_tree.specs.Steps.{lost_tree, tree_loss_entries, tree_overdue}
 use Rattle.router_core.specs.Moments.{Moment, router_links, Gives}
-use Rattle.router_core.specs.Lives.{LiveState, live_state, interior_fed}
+use Rattle.router_core.specs.Lives.{live_state, interior_lost}
 use Rattle.router_core.specs.Stands.{Stands}
 use Rattle.router_core.specs.Turns.{journal_lines}
-use Rattle.router_core.specs.Works.{HasLosses, Pushes, EndsProtocol, HasProtocolRoom, HasStepped}
+use Rattle.router_core.specs.Works.{Pushes, EndsProtocol, HasProtocolRoom, HasStepped}
 use Rattle.router_core.proofs.RibLinks.{replanted, leads_above}
 use Rattle.router_core.proofs.TreeParts.{put_all}
-use Rattle.router_core.proofs.RouteLemmas.{stands_replanted, live_replanted, losses_put}
-use Rattle.router_core.proofs.StandLemmas.{losses_join}
-use Rattle.router_core.proofs.TurnLemmas.{flushed_join, leads_join}
+use Rattle.router_core.proofs.RouteLemmas.{stands_replanted, live_lost}
+use Rattle.router_core.proofs.KeepLemmas.{keeps_then, gives_push}
 
 -- ---- how many stages stand then
 left_of : (a b : Bool) → (a || b) ≡ true → b ≡ false → a ≡ true
@@ -70,10 +69,6 @@ few_lost b few none = by_test (is_empty_map b.live) refl
         let was = room_of b none e in
         omega (arith, n, m, was)
 
-losses_one : (e : Bool) (n : ℕ) → cond e n (n + 1) ≤ n + 1
-losses_one true n = omega arith
-losses_one false n = omega arith
-
 -- the loss alone
 pub protocol_ended : (proto : Proto) (m : Moment) (t : Treed) (before now : Journaled) → Stands m → tree_overdue proto m.tree ≡ None → IsSome m.declared.speaker → t ≡ lost_tree proto m.tree
     → now ≡ with_entries before (tree_loss_entries proto m.tree) → LeadsTree m.tree (tree_loss_entries proto m.tree) t → int_rows t ≡ int_rows m.tree → IsTree t → IsFull t
@@ -98,29 +93,23 @@ protocol_ended proto m t before now stands free since is lines leads int tree fu
       record {
         lines = refl;
         after = record { tree_is = is; declared = refl; chains = refl };
-        leads = subst (λ (es : List (Entry Value)). Leads (router_links m) es (router_links (replanted m t m.registry))) (sym (entries_of_entries entries)) (leads_above m me at t m.registry entries leads int);
-        live = ap (λ (x : Treed). live_state (replanted m x m.registry)) is ∙ live_replanted m proto (lost_branch b) m.registry;
-        losses = subst (λ (x : Treed). HasLosses 1 m (replanted m x m.registry)) (sym is) (losses_put m proto (lost_branch b) m.registry 1 (losses_one (is_empty_map b.live) b.losses));
-        stands = stands_replanted m me t m.registry stands at tree full few (stands.registered ∙ sym int);
+        keeps = record {
+          leads = subst (λ (es : List (Entry Value)). Leads (router_links m) es (router_links (replanted m t m.registry))) (sym (entries_of_entries entries)) (leads_above m me at t m.registry entries leads int);
+          live = ap (λ (x : Treed). live_state (replanted m x m.registry)) is ∙ live_lost m proto (lost_branch b) m.registry;
+          stands = stands_replanted m me t m.registry stands at tree full few (stands.registered ∙ sym int);
+        };
       },
     )
 
 -- both, as the event's step
 pub protocol_lost : (proto : Proto) (m room m' : Moment) (before j j' now : Journaled) → Gives (HasProtocolRoom proto m room) before j → Pushes (EndsProtocol proto room m') j j' → now ≡ flushed j'
     → Gives (HasStepped m (Lose proto) 0 m') before now
-protocol_lost proto m room m' before j j' now r e is = (
-  r.0 ++ e.0,
-  is ∙ ap flushed e.1 ∙ ap (λ (x : Journaled). flushed (with_lines x e.0)) r.1 ∙ flushed_join before r.0 e.0,
-  record {
-    acts = record {
-      block = (refl, record { first = r.0; room = room; runs = r.2.runs; lines = ap (λ (ls : List Line). r.0 ++ ls) e.2.lines; after = e.2.after });
-      leads = leads_join m room m' r.0 e.0 r.2.work.leads e.2.leads;
-      live = e.2.live ∙ ap (λ (l : LiveState). interior_fed l proto tables.empty) r.2.work.live;
-    };
-    losses = losses_join 0 1 m room m' r.2.work.losses e.2.losses;
-    stands = e.2.stands;
-  },
-)
+protocol_lost proto m room m' before j j' now r e is = gives_push (HasProtocolRoom proto m room) (EndsProtocol proto room m') (HasStepped m (Lose proto) 0 m') (λ xs ys p q. record {
+  block = (refl, record { first = xs; room = room; runs = p.runs; lines = ap (λ (ls : List Line). xs ++ ls) q.lines; after = q.after });
+  live = interior_lost (live_state m) proto;
+  after = refl;
+  keeps = keeps_then m room m' xs ys (λ l. interior_lost l proto) p.work q.keeps;
+}) before j j' now r e is
 
 -- ---- the protocol may be lost
 pub may_lose : (proto : Proto) (t : Treed) → AreNumbered 4294967294 t → (branch_of proto t).losses < 4294967295

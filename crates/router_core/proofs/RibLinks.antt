@@ -24,7 +24,7 @@ use Rattle.router_core.specs.Turns.{fib_entries, Replants}
 
 -- the moment with this tree and this register
 abbrev pub replanted : Moment → Treed → Registry Interior → Moment
-replanted m t r = record { declared = m.declared; tree = t; registry = r; chains = m.chains }
+replanted m t r = record m { tree = t; registry = r }
 
 -- the tree alone became this one
 pub replants_is : (t : Treed) (m m' : Moment) → Replants t m m' → m' ≡ replanted m t m'.registry

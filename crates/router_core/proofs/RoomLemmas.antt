@@ -22,7 +22,7 @@ use Rattle.router_core.specs.Works.{HasDrained, HasRoom}
 use Rattle.router_core.proofs.TableLemmas.{is_full, few_left, short_filter, stage_of, no_table}
 use Rattle.router_core.proofs.ChainLemmas.{same_by, one_of, number_at, chain_at_put_same}
 use Rattle.router_core.proofs.StandLemmas.{peer_of}
-use Rattle.router_core.proofs.TurnLemmas.{flushed_none, work_none}
+use Rattle.router_core.proofs.KeepLemmas.{keeps_none, gives_none}
 
 -- the stages of a chain after turns of one of them: fewer, where that one has gone
 record Shorter (k s : ℕ) (c : Chained) (m' : Moment) : Type 0 where
@@ -106,14 +106,10 @@ room_drained k m room c task n before now stands at over g = (
 )
 
 pub room_there : (k : ℕ) (m : Moment) (c : Chained) (before now : Journaled) → Stands m → Some c ≡ chain_at k m.chains → None ≡ overdue_of c.incoming → now ≡ flushed before → Gives (HasRoom k m m) before now
-room_there k m c before now stands at over is = (
-  [],
-  is ∙ flushed_none before,
-  record {
-    before = c;
-    at = sym at;
-    runs = subst (λ (o : Option Task). RunsFirst o m [] m) over (refl, refl);
-    work = work_none m stands;
-    free = λ c' at'. ap (λ (x : Chained). overdue_of x.incoming) (one_of c' c (sym at' ∙ sym at)) ∙ sym over;
-  },
-)
+room_there k m c before now stands at over is = gives_none (HasRoom k m m) before now (record {
+  before = c;
+  at = sym at;
+  runs = subst (λ (o : Option Task). RunsFirst o m [] m) over (refl, refl);
+  work = keeps_none m stands;
+  free = λ c' at'. ap (λ (x : Chained). overdue_of x.incoming) (one_of c' c (sym at' ∙ sym at)) ∙ sym over;
+}) is

@@ -29,10 +29,10 @@ use Rattle.rib_tree.specs.Falls.{FallsTree, LeadsTree, way_of_route}
 use Rattle.rib_tree.specs.Forwards.{forwarded}
 use Rattle.rib_tree.specs.Steps.{welded_tree, fed_tree, tree_weld_entries}
 use Rattle.router_core.specs.Moments.{Moment, router_links}
-use Rattle.router_core.specs.Lives.{live_state, interior_fed}
+use Rattle.router_core.specs.Lives.{live_state, with_interior, with_losses, interior_fed}
 use Rattle.router_core.specs.Stands.{Stands}
 use Rattle.router_core.specs.Turns.{journal_lines, fib_entries, FallsRoute}
-use Rattle.router_core.specs.Works.{HasLosses, Forwards, registered_after, Follows, Settles, PushesForwarded, HasRouted, Pushes}
+use Rattle.router_core.specs.Works.{Forwards, registered_after, Follows, Settles, PushesForwarded, HasRouted, Pushes}
 use Rattle.router_core.proofs.TableLemmas.{few_filter, few_map}
 use Rattle.router_core.proofs.RibLinks.{replanted, replants_is, replants_to, leads_rib, leads_above}
 use Rattle.router_core.proofs.TreeParts.{welded_put, put_seen, put_all, put_kept}
@@ -89,25 +89,25 @@ stands_replanted m me t r stands since tree full few registered = record {
   registered = registered;
 }
 
-pub live_replanted : (m : Moment) (proto : Proto) (b : Branch) (r : Registry Interior) → live_state (replanted m (put_branch proto b m.tree) r) ≡ interior_fed (live_state m) proto b.live
-live_replanted m proto b r i = record {
-  declared = m.declared;
-  routes = (live_state m).routes;
-  rules = (live_state m).rules;
+-- the live state, where the part of a protocol became another: one that lost nothing more, one whose routes stay too, and one that
+-- was lost
+pub live_replanted : (m : Moment) (proto : Proto) (b : Branch) (r : Registry Interior) → b.losses ≡ (branch_of proto m.tree).losses → live_state (replanted m (put_branch proto b m.tree) r) ≡ interior_fed (live_state m) proto b.live
+live_replanted m proto b r same i = record (live_state m) {
   interior = λ other. put_seen (λ (x : Branch). x.live) proto other b m.tree i;
+  losses = λ other. put_kept (λ (x : Branch). x.losses) proto b m.tree same other i;
 }
 
-pub live_stays : (m : Moment) (proto : Proto) (b : Branch) (r : Registry Interior) → b.live ≡ (branch_of proto m.tree).live → live_state (replanted m (put_branch proto b m.tree) r) ≡ live_state m
-live_stays m proto b r same i = record {
-  declared = m.declared;
-  routes = (live_state m).routes;
-  rules = (live_state m).rules;
+pub live_stays : (m : Moment) (proto : Proto) (b : Branch) (r : Registry Interior) → b.losses ≡ (branch_of proto m.tree).losses → b.live ≡ (branch_of proto m.tree).live → live_state (replanted m (put_branch proto b m.tree) r) ≡ live_state m
+live_stays m proto b r losses same i = record (live_state m) {
   interior = λ other. put_kept (λ (x : Branch). x.live) proto b m.tree same other i;
+  losses = λ other. put_kept (λ (x : Branch). x.losses) proto b m.tree losses other i;
 }
 
-pub losses_put : (m : Moment) (proto : Proto) (b : Branch) (r : Registry Interior) (more : ℕ) → b.losses ≤ (branch_of proto m.tree).losses + more → HasLosses more m (replanted m (put_branch proto b m.tree) r)
-losses_put m proto b r more at most all =
-    put_all (λ (x : Branch). x.losses ≤ most + more) proto b m.tree (let was = all proto in omega (arith, at, was)) (λ other. let was = all other in omega (arith, was))
+pub live_lost : (m : Moment) (proto : Proto) (b : Branch) (r : Registry Interior) → live_state (replanted m (put_branch proto b m.tree) r) ≡ record (live_state m) { interior = with_interior (live_state m).interior proto b.live; losses = with_losses (live_state m).losses proto b.losses }
+live_lost m proto b r i = record (live_state m) {
+  interior = λ other. put_seen (λ (x : Branch). x.live) proto other b m.tree i;
+  losses = λ other. put_seen (λ (x : Branch). x.losses) proto other b m.tree i;
+}
 
 -- ---- a change, what follows it, and the weld
 -- What was made of the branch of a protocol, and what stands after all of it.
@@ -196,10 +196,7 @@ routed m me proto p new way sent t m' before j now stands since at rows adds set
   r.1,
   record {
     falls = r.2.falls;
-    lives = ap live_state r.2.is ∙ live_replanted m proto (welded_branch b) m'.registry;
-    leads = r.2.leads;
-    losses = subst (HasLosses 0 m) (sym r.2.is) (losses_put m proto (welded_branch b) m'.registry 0 (omega arith));
-    stands = r.2.stands;
+    keeps = record { leads = r.2.leads; live = ap live_state r.2.is ∙ live_replanted m proto (welded_branch b) m'.registry refl; stands = r.2.stands };
   },
 )
   where

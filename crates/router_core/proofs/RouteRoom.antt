@@ -25,7 +25,7 @@ use Rattle.router_core.specs.Works.{HasDrained, HasProtocolRoom}
 use Rattle.router_core.proofs.TableLemmas.{is_full, few_left, short_filter, stage_of, no_table}
 use Rattle.router_core.proofs.ChainLemmas.{same_by}
 use Rattle.router_core.proofs.TreeParts.{put_here}
-use Rattle.router_core.proofs.TurnLemmas.{flushed_none, work_none}
+use Rattle.router_core.proofs.KeepLemmas.{keeps_none, gives_none}
 use Rattle.router_core.proofs.RouteTasks.{swept_then}
 
 -- the stages of a protocol after turns of one of them: fewer, where that one has gone
@@ -99,8 +99,5 @@ protocol_room_drained proto m room task turns before now stands over g = (
 )
 
 pub protocol_room_there : (proto : Proto) (m : Moment) (before now : Journaled) → Stands m → None ≡ tree_overdue proto m.tree → now ≡ flushed before → Gives (HasProtocolRoom proto m m) before now
-protocol_room_there proto m before now stands over is = (
-  [],
-  is ∙ flushed_none before,
-  record { runs = subst (λ (o : Option Task). RunsFirst o m [] m) over (refl, refl); work = work_none m stands; free = sym over },
-)
+protocol_room_there proto m before now stands over is =
+    gives_none (HasProtocolRoom proto m m) before now (record { runs = subst (λ (o : Option Task). RunsFirst o m [] m) over (refl, refl); work = keeps_none m stands; free = sym over }) is

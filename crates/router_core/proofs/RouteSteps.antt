@@ -9,7 +9,6 @@ use Rattle.rib_route.specs.declared.rows.Interior.{Interior}
 use Rattle.link_change.proofs.RowLemmas.{remove_absent}
 use Rattle.journal_text.specs.declared.line.Line.TheVariants as lines
 use Rattle.journal_text.specs.Journals.{Journaled, with_lines, flushed}
-use Rattle.journal_text.proofs.WalkLemmas.{leads_nowhere}
 use Rattle.event_text.specs.declared.event.Event.TheVariants.{RouteAdd, RouteDel, Lose}
 use Rattle.event_text.specs.declared.declared.DeclaredPeer.{DeclaredPeer}
 use Rattle.event_text.specs.Declarations.{Declaration, refusal, refusal_at}
@@ -17,12 +16,13 @@ use Rattle.loss_chain.specs.Steps.{live_after}
 use Rattle.rib_tree.specs.Trees.{branch_of}
 use Rattle.rib_tree.specs.Falls.{way_of_route}
 use Rattle.rib_tree.specs.Steps.{fed_tree}
-use Rattle.router_core.specs.Moments.{Moment, router_links, Gives}
+use Rattle.router_core.specs.Moments.{Moment, Gives}
 use Rattle.router_core.specs.Lives.{LiveState, Interiors, live_state, with_interior, interior_fed}
 use Rattle.router_core.specs.Stands.{Stands}
 use Rattle.router_core.specs.Blocks.{DropsRouteIf}
 use Rattle.router_core.specs.Works.{HasRouted, HasStepped, Pushes}
-use Rattle.router_core.proofs.StandLemmas.{losses_stay, losses_more}
+use Rattle.router_core.proofs.KeepLemmas.{gives_pushed, steps_said}
+use Rattle.journal_text.specs.declared.line.Line.{Line}
 
 -- ---- `local` was declared
 add_by : (s : Option Speaker) (ps : List DeclaredPeer) (p : Network) (row : Interior) → refusal_at s ps (RouteAdd p row) ≡ None → IsSome s
@@ -53,24 +53,19 @@ lose_since d proto e = lose_by d.speaker d.peers proto e
 pub route_added : (p : Network) (row : Interior) (m m' : Moment) (before j now : Journaled)
     → Pushes (HasRouted m (fed_tree m.tree row.proto p (Some row)) row.proto p (way_of_route row.proto m.tree) (interior_fed (live_state m) row.proto (live_after (branch_of row.proto m.tree).live p (Some row))) m') before j
     → now ≡ flushed j → Gives (HasStepped m (RouteAdd p row) 0 m') before now
-route_added p row m m' before j now u is = (
-  u.0,
-  is ∙ ap flushed u.1,
-  record { acts = record { block = (refl, u.2.falls); leads = u.2.leads; live = u.2.lives }; losses = losses_more m m' u.2.losses; stands = u.2.stands },
-)
+route_added p row m m' before j now u is = gives_pushed (HasRouted m (fed_tree m.tree row.proto p (Some row)) row.proto p (way_of_route row.proto m.tree) (interior_fed (live_state m) row.proto (live_after (branch_of row.proto m.tree).live p (Some row))) m')
+    (HasStepped m (RouteAdd p row) 0 m') (λ xs h. record { block = (refl, h.falls); live = interior_fed (live_state m) row.proto (tables.insert (branch_of row.proto m.tree).live p row); after = refl; keeps = h.keeps }) before j now u is
 
 pub route_dropped : (proto : Proto) (p : Network) (m m' : Moment) (before j now : Journaled) → is_some (tables.get (branch_of proto m.tree).live p) ≡ true
     → Pushes (HasRouted m (fed_tree m.tree proto p None) proto p (way_of_route proto m.tree) (interior_fed (live_state m) proto (live_after (branch_of proto m.tree).live p None)) m') before j
     → now ≡ flushed j → Gives (HasStepped m (RouteDel proto p) 0 m') before now
-route_dropped proto p m m' before j now has u is = (
-  u.0,
-  is ∙ ap flushed u.1,
-  record {
-    acts = record { block = subst (λ (b : Bool). DropsRouteIf b proto p m u.0 0 m') (sym has) (refl, u.2.falls); leads = u.2.leads; live = u.2.lives };
-    losses = losses_more m m' u.2.losses;
-    stands = u.2.stands;
-  },
-)
+route_dropped proto p m m' before j now has u is = gives_pushed (HasRouted m (fed_tree m.tree proto p None) proto p (way_of_route proto m.tree) (interior_fed (live_state m) proto (live_after (branch_of proto m.tree).live p None)) m')
+    (HasStepped m (RouteDel proto p) 0 m') (λ xs h. record {
+      block = subst (λ (b : Bool). DropsRouteIf b proto p m xs 0 m') (sym has) (refl, h.falls);
+      live = interior_fed (live_state m) proto (tables.remove (branch_of proto m.tree).live p);
+      after = refl;
+      keeps = h.keeps;
+    }) before j now u is
 
 -- what is set to what it is
 interior_same : (all : Proto → Interiors) (proto : Proto) (routes : Interiors) → routes ≡ all proto → (other : Proto) → with_interior all proto routes other ≡ all other
@@ -96,20 +91,13 @@ none_there None e = refl
 none_there (Some row) e = absurd (cc)
 
 live_as_it_was : (l : LiveState) (proto : Proto) (routes : Interiors) → routes ≡ l.interior proto → l ≡ interior_fed l proto routes
-live_as_it_was l proto routes same i = record { declared = l.declared; routes = l.routes; rules = l.rules; interior = λ other. sym (interior_same l.interior proto routes same other) i }
+live_as_it_was l proto routes same i = record l { interior = λ other. sym (interior_same l.interior proto routes same other) i }
 
 pub nothing_dropped : (proto : Proto) (p : Network) (m : Moment) (before j now : Journaled) → Stands m → is_some (tables.get (branch_of proto m.tree).live p) ≡ false → j ≡ with_lines before (lines.Ignored ∷ []) → now ≡ flushed j
     → Gives (HasStepped m (RouteDel proto p) 0 m) before now
-nothing_dropped proto p m before j now stands has pushed is = (
-  lines.Ignored ∷ [],
-  is ∙ ap flushed pushed,
-  record {
-    acts = record {
-      block = subst (λ (b : Bool). DropsRouteIf b proto p m (lines.Ignored ∷ []) 0 m) (sym has) (refl, refl, refl);
-      leads = leads_nowhere (router_links m) (router_links m) refl;
-      live = live_as_it_was (live_state m) proto (tables.remove (branch_of proto m.tree).live p) (remove_absent (branch_of proto m.tree).live p (none_there (tables.get (branch_of proto m.tree).live p) has));
-    };
-    losses = losses_more m m (losses_stay m m refl);
-    stands = stands;
-  },
-)
+nothing_dropped proto p m before j now stands has pushed is = gives_pushed Ignores (HasStepped m (RouteDel proto p) 0 m) (λ xs ignores. subst (HasStepped m (RouteDel proto p) 0 m) (sym ignores) (steps_said m (RouteDel proto p) 0 (lines.Ignored ∷ []) stands
+    (subst (λ (b : Bool). DropsRouteIf b proto p m (lines.Ignored ∷ []) 0 m) (sym has) (refl, refl, refl))
+    (live_as_it_was (live_state m) proto (tables.remove (branch_of proto m.tree).live p) (remove_absent (branch_of proto m.tree).live p (none_there (tables.get (branch_of proto m.tree).live p) has))) refl)) before j now (lines.Ignored ∷ [], pushed, refl) is
+  where
+    Ignores : List Line → Type 0
+    Ignores said = said ≡ lines.Ignored ∷ []

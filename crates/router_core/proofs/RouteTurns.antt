@@ -26,10 +26,10 @@ use Rattle.router_core.specs.declared.router.Done.TheVariants.{Nothing, Taken}
 use Rattle.router_core.specs.Moments.{Moment}
 use Rattle.router_core.specs.Lives.{live_state}
 use Rattle.router_core.specs.Stands.{Stands}
-use Rattle.router_core.specs.Works.{HasLosses, Settles, Turned, IsUnit, Comes, Pushes}
+use Rattle.router_core.specs.Works.{Settles, Turned, IsUnit, Comes, Pushes}
 use Rattle.router_core.proofs.TableLemmas.{few_map}
 use Rattle.router_core.proofs.RibLinks.{replanted}
-use Rattle.router_core.proofs.RouteLemmas.{Routes, routes_on, live_stays, losses_put}
+use Rattle.router_core.proofs.RouteLemmas.{Routes, routes_on, live_stays}
 
 -- ---- before `local` no stage stands
 no_table : (proto : Proto) (n : ℕ) → table_of n (branch_of proto new_tree).deletions ≡ None
@@ -56,9 +56,8 @@ route_unit take keep m proto n sent t m' before j j' stands adds settles = (
   record {
     turn = record { prefix = sweeps.prefix; row = sweeps.row; table = sweeps.table; stands = sweeps.stands; least = sweeps.least; falls = r.2.falls };
     work = record {
-      losses = subst (HasLosses 0 m) (sym r.2.is) (losses_put m proto (welded_branch b) m'.registry 0 (omega arith));
       leads = r.2.leads;
-      live = ap live_state r.2.is ∙ live_stays m proto (welded_branch b) m'.registry refl;
+      live = ap live_state r.2.is ∙ live_stays m proto (welded_branch b) m'.registry refl refl;
       stands = r.2.stands;
     };
     nearer = fewer;

@@ -1,5 +1,5 @@
 -- Which octets end a session, and which declarations an event leaves.
-use Rattle.std.proofs.Common.{◌≡◌, ℕ, ◌==◌, ◌||◌, ◌&&◌, Bool, true, false, cond, not, List, get_or, Option, Some, None, is_some, refl, ap, sym, ◌∙◌, inl, inr}
+use Rattle.std.proofs.Common.{◌≡◌, ℕ, ◌==◌, ◌||◌, ◌&&◌, Bool, true, false, cond, not, List, get_or, Option, Some, None, is_some, refl, ap, sym, ◌∙◌, inl, inr, arith, ◌≤◌, ◌+◌}
 use Rattle.bgp_attr.specs.declared.speaker.Profile.{Profile}
 use Rattle.bgp_wire.specs.declared.message.Message.{Message}
 use Rattle.bgp_wire.specs.declared.message.Message.TheVariants as messages
@@ -8,8 +8,12 @@ use Rattle.bgp_wire.specs.Grammar.{IsFrame, Reads, OneAnswer}
 use Rattle.event_text.specs.declared.event.Event.TheVariants.{Nothing, Local, Peer, Up, Down, Bgp, FilterIn, RouteAdd, RouteDel, Lose, Cover, Idle, Work, Ask, Show}
 use Rattle.event_text.specs.declared.declared.DeclaredPeer.{DeclaredPeer}
 use Rattle.event_text.specs.Declarations.{peer_at, with_session, without_session}
-use Rattle.router_core.specs.Lives.{LiveState, HearsIfUp, HearsFrom, plain, heard, is_ending, ends_session, ended, begun_if_down, ended_if_up, declared_up, declared_down, declared_heard}
+use Rattle.router_core.specs.Lives.{with_losses, LiveState, HearsIfUp, HearsFrom, plain, heard, is_ending, ends_session, ended, begun_if_down, ended_if_up, declared_up, declared_down, declared_heard, LiveAfter}
 use Rattle.router_core.specs.Laws.{SessionsEnd, DeclarationsFollow}
+use Rattle.rib_route.specs.declared.Proto.TheVariants.{Connected, Ospf, Rip, Static}
+use Rattle.event_text.specs.declared.event.Event.{Event}
+use Rattle.rib_route.specs.declared.Proto.{Proto}
+use Rattle.loss_chain.specs.Owners.{same_proto}
 
 -- one of message and fault, for all octets
 abbrev pub EachAnswers : Type 0
@@ -41,7 +45,7 @@ up_follows : (l : LiveState) (k : ℕ) (o : Option DeclaredPeer) → (begun_if_d
 up_follows l k None = refl
 up_follows l k (Some p) = by_up p.up
   where
-    by_up : (up : Bool) → (cond up l (record { declared = with_session l.declared k; routes = l.routes; rules = l.rules; interior = l.interior })).declared ≡ cond up l.declared (with_session l.declared k)
+    by_up : (up : Bool) → (cond up l (record l { declared = with_session l.declared k })).declared ≡ cond up l.declared (with_session l.declared k)
     by_up true = refl
     by_up false = refl
 
@@ -86,3 +90,76 @@ follows law l Idle l' after = ap (λ s. s.declared) after
 follows law l (Work task n) l' after = ap (λ s. s.declared) after
 follows law l (Ask link p) l' after = ap (λ s. s.declared) after
 follows law l (Show link) l' after = ap (λ s. s.declared) after
+
+-- ---- an event counts at most one loss of a protocol
+same_losses : (l l' : LiveState) → l' ≡ l → (proto : Proto) → l'.losses proto ≤ l.losses proto + 1
+same_losses l l' same proto = let e : l'.losses proto ≡ l.losses proto = ap (λ s. s.losses proto) same in omega (arith, e)
+
+heard_losses : (l : LiveState) (k : ℕ) (m : Message) → (heard l k m).losses ≡ l.losses
+heard_losses l k (messages.Update u) = refl
+heard_losses l k messages.Keepalive = refl
+heard_losses l k messages.Skip = refl
+heard_losses l k messages.Notification = refl
+heard_losses l k (messages.Notify n) = refl
+
+session_losses : (l l' : LiveState) → l'.losses ≡ l.losses → (proto : Proto) → l'.losses proto ≤ l.losses proto + 1
+session_losses l l' same proto = let e : l'.losses proto ≡ l.losses proto = ap (λ (f : Proto → ℕ). f proto) same in omega (arith, e)
+
+up_losses : (l : LiveState) (k : ℕ) (o : Option DeclaredPeer) → (begun_if_down l k o).losses ≡ l.losses
+up_losses l k None = refl
+up_losses l k (Some p) = elim p.up as (λ up. (cond up l (record l { declared = with_session l.declared k })).losses ≡ l.losses) [ true ↦ refl | false ↦ refl ]
+
+down_losses : (l : LiveState) (k : ℕ) (o : Option DeclaredPeer) → (ended_if_up l k o).losses ≡ l.losses
+down_losses l k None = refl
+down_losses l k (Some p) = elim p.up as (λ up. (cond up (ended l k) l).losses ≡ l.losses) [ true ↦ refl | false ↦ refl ]
+
+octets_losses : (l l' : LiveState) (k : ℕ) (p : DeclaredPeer) (octets : List ℕ) (up : Bool) → HearsIfUp l k p octets up l' → l'.losses ≡ l.losses
+octets_losses l l' k p octets false hears = ap (λ s. s.losses) hears
+octets_losses l l' k p octets true hears = ap (λ s. s.losses) hears.2 ∙ heard_losses l k hears.0
+
+from_losses : (l l' : LiveState) (k : ℕ) (o : Option DeclaredPeer) (octets : List ℕ) → HearsFrom l k o octets l' → l'.losses ≡ l.losses
+from_losses l l' k None octets hears = absurd hears
+from_losses l l' k (Some p) octets hears = octets_losses l l' k p octets p.up hears
+
+one_loss : (here empty : Bool) (n own : ℕ) → (here ≡ true → own ≡ n) → cond here (cond empty own (own + 1)) n ≤ n + 1
+one_loss true true n own same = let e = same refl in omega (arith, e)
+one_loss true false n own same = let e = same refl in omega (arith, e)
+one_loss false empty n own same = omega arith
+
+same_protocol : (f : Proto → ℕ) (a b : Proto) → same_proto a b ≡ true → f b ≡ f a
+same_protocol f Connected Connected e = refl
+same_protocol f Connected Static e = absurd (cc)
+same_protocol f Connected Ospf e = absurd (cc)
+same_protocol f Connected Rip e = absurd (cc)
+same_protocol f Static Connected e = absurd (cc)
+same_protocol f Static Static e = refl
+same_protocol f Static Ospf e = absurd (cc)
+same_protocol f Static Rip e = absurd (cc)
+same_protocol f Ospf Connected e = absurd (cc)
+same_protocol f Ospf Static e = absurd (cc)
+same_protocol f Ospf Ospf e = refl
+same_protocol f Ospf Rip e = absurd (cc)
+same_protocol f Rip Connected e = absurd (cc)
+same_protocol f Rip Static e = absurd (cc)
+same_protocol f Rip Ospf e = absurd (cc)
+same_protocol f Rip Rip e = refl
+
+pub losses_follow : (l : LiveState) (event : Event) (l' : LiveState) → LiveAfter l event l' → (proto : Proto) → l'.losses proto ≤ l.losses proto + 1
+losses_follow l Nothing l' after = same_losses l l' after
+losses_follow l (Local words) l' after = session_losses l l' (ap (λ s. s.losses) after)
+losses_follow l (Peer k words) l' after = session_losses l l' (ap (λ s. s.losses) after)
+losses_follow l (Up k) l' after = session_losses l l' (ap (λ s. s.losses) after ∙ up_losses l k (peer_at k l.declared.peers))
+losses_follow l (Down k) l' after = session_losses l l' (ap (λ s. s.losses) after ∙ down_losses l k (peer_at k l.declared.peers))
+losses_follow l (Bgp k octets) l' after = session_losses l l' (from_losses l l' k (peer_at k l.declared.peers) octets after)
+losses_follow l (FilterIn k rules) l' after = session_losses l l' (ap (λ s. s.losses) after)
+losses_follow l (RouteAdd p row) l' after = session_losses l l' (ap (λ s. s.losses) after)
+losses_follow l (RouteDel proto p) l' after = session_losses l l' (ap (λ s. s.losses) after)
+losses_follow l (Lose lost) l' after proto =
+    let is : l'.losses proto ≡ with_losses l.losses lost (cond (is_empty_map (l.interior lost)) (l.losses lost) (l.losses lost + 1)) proto = ap (λ s. s.losses proto) after in
+    let one = one_loss (same_proto proto lost) (is_empty_map (l.interior lost)) (l.losses proto) (l.losses lost) (same_protocol l.losses proto lost) in
+    omega (arith, is, one)
+losses_follow l (Cover addr) l' after = same_losses l l' after
+losses_follow l Idle l' after = same_losses l l' after
+losses_follow l (Work task n) l' after = same_losses l l' after
+losses_follow l (Ask link p) l' after = same_losses l l' after
+losses_follow l (Show link) l' after = same_losses l l' after

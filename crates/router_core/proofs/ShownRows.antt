@@ -24,9 +24,13 @@ use Rattle.journal_text.specs.Texts.{entries_of}
 use Rattle.event_text.specs.declared.event.Event.TheVariants as events
 use Rattle.router_core.specs.Moments.{Moment, peer_links, rib_by, router_links}
 use Rattle.journal_text.specs.Journals.{Journaled, with_lines}
-use Rattle.router_core.specs.Blocks.{AreRows, answer_lines, Shows, Acts}
+use Rattle.router_core.specs.Blocks.{AreRows, answer_lines, Shows}
 use Rattle.router_core.specs.Lookups.{is_of_rib, listed_at, row_lines, Counts, ShowsRow, IsCountOf}
-use Rattle.router_core.specs.Works.{Pushes}
+use Rattle.router_core.specs.Works.{Pushes, HasStepped}
+use Rattle.router_core.specs.Stands.{Stands}
+use Rattle.router_core.proofs.SessionLemmas.{ends}
+use Rattle.router_core.specs.Lives.{live_state}
+use Rattle.router_core.proofs.KeepLemmas.{steps_said}
 
 -- a prefix lies beyond the place, or is listed
 abbrev IsAhead : Option Network → List (Network × Value) → Network → Type 0
@@ -223,26 +227,19 @@ shows_no_entries : (link : Link) (of : Option (Rows Value)) (said : List Line) �
 shows_no_entries link None said shows = ap entries_of shows
 shows_no_entries link (Some rows) said shows = ap entries_of shows.2 ∙ no_entries link shows.0 (length shows.0)
 
-pub show_acts : (m : Moment) (link : Link) (of : Option (Rows Value)) (said : List Line) → router_links m link ≡ of → Shows link of said → Acts m (events.Show link) 0 m said
-show_acts m link of said is shows =
+pub show_stepped : (m : Moment) (link : Link) (of : Option (Rows Value)) (said : List Line) → Stands m → router_links m link ≡ of → Shows link of said → HasStepped m (events.Show link) 0 m said
+show_stepped m link of said stands is shows =
     let here : Shows link (router_links m link) said = subst (λ (o : Option (Rows Value)). Shows link o said) (sym is) shows in
-    record {
-      block = (refl, refl, here);
-      leads = subst (λ (es : List (Entry Value)). Leads (router_links m) es (router_links m)) (sym (shows_no_entries link of said shows)) (record { lawful = tt; ends = refl });
-      live = refl;
-    }
+    steps_said m (events.Show link) 0 said stands (refl, refl, here) refl (shows_no_entries link of said shows)
 
 -- ---- a lookup as an event
-pub ask_acts : (m : Moment) (link : Link) (p : Network) (of : Option (Rows Value)) → router_links m link ≡ of → Acts m (events.Ask link p) 0 m (answer_lines link p of)
-ask_acts m link p None is = record {
+pub ask_stepped : (m : Moment) (link : Link) (p : Network) (of : Option (Rows Value)) → Stands m → router_links m link ≡ of → HasStepped m (events.Ask link p) 0 m (answer_lines link p of)
+ask_stepped m link p None stands is = steps_said m (events.Ask link p) 0 (lines.Absent ∷ []) stands (ap (answer_lines link p) (sym is), refl, refl) refl refl
+ask_stepped m link p (Some rows) stands is = record {
   block = (ap (answer_lines link p) (sym is), refl, refl);
-  leads = record { lawful = tt; ends = refl };
-  live = refl;
-}
-ask_acts m link p (Some rows) is = record {
-  block = (ap (answer_lines link p) (sym is), refl, refl);
-  leads = record { lawful = ((rows, is, refl), tt); ends = refl };
-  live = refl;
+  live = live_state m;
+  after = refl;
+  keeps = record { leads = record { lawful = ((rows, is, refl), tt); ends = refl }; live = refl; stands = stands };
 }
 
 -- ---- whose link it is

@@ -14,26 +14,13 @@ use Rattle.router_core.specs.Moments.{Moment, chain_at, put_chain, with_chain}
 use Rattle.router_core.specs.Lives.{LiveState, Routes, live_state, routes_of, rules_of, with_routes, with_rules}
 use Rattle.rib_tree.specs.Trees.{branch_of}
 use Rattle.router_core.specs.Stands.{IsEarlier, IsSilent, PeerStands, StandsAt, TreeStands, Stands}
-use Rattle.router_core.specs.Works.{IsSoundAt, HasLosses}
+use Rattle.router_core.specs.Works.{IsSoundAt}
 use Rattle.router_core.proofs.TableLemmas.{few_left}
 use Rattle.router_core.proofs.ChainLemmas.{equal_by, chain_at_put_same, chain_at_put_other, in_order_put, all_at, all_put, put_length, put_at}
 
 -- the moment with this declared, and these chains
 abbrev pub remade : Moment → Declaration → List Chained → Moment
-remade m d cs = record { declared = d; tree = m.tree; registry = m.registry; chains = cs }
-
--- ---- the losses of protocols
-pub losses_stay : (m m' : Moment) → m'.tree ≡ m.tree → HasLosses 0 m m'
-losses_stay m m' same most all proto =
-    let was = all proto in
-    let is : (branch_of proto m'.tree).losses ≡ (branch_of proto m.tree).losses = ap (λ t. (branch_of proto t).losses) same in
-    omega (arith, was, is)
-
-pub losses_join : (x y : ℕ) (a b c : Moment) → HasLosses x a b → HasLosses y b c → HasLosses (x + y) a c
-losses_join x y a b c p q most all proto = let r = q (most + x) (p most all) proto in omega (arith, r)
-
-pub losses_more : (m m' : Moment) → HasLosses 0 m m' → HasLosses 1 m m'
-losses_more m m' p most all proto = let r = p most all proto in omega (arith, r)
+remade m d cs = record m { declared = d; chains = cs }
 
 -- ---- one peer and its chain
 pub one_peer : (p q : DeclaredPeer) → Some p ≡ Some q → p ≡ q
@@ -124,7 +111,7 @@ peer_left p c c' f g keeps is words chain full silent stands = record {
 
 -- ---- what is live
 abbrev pub live_by : Moment → Declaration → (ℕ → Routes) → (ℕ → List Rule) → LiveState
-live_by m d routes rules = record { declared = d; routes = routes; rules = rules; interior = (live_state m).interior }
+live_by m d routes rules = record (live_state m) { declared = d; routes = routes; rules = rules }
 
 -- the live state after a step of one chain
 pub live_with : (m : Moment) (now : Declaration) (k : ℕ) (c c' : Chained) → chain_at k m.chains ≡ Some c → c'.incoming.number ≡ k

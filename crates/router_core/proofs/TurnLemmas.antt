@@ -10,49 +10,21 @@ use Rattle.link_change.specs.Rows.{is_empty_map}
 use Rattle.deletion_stage.specs.Lost.{Lost}
 use Rattle.journal_text.specs.declared.link.Task.{Task}
 use Rattle.journal_text.specs.declared.link.Task.TheVariants.{Del, Fin, Rdel}
-use Rattle.journal_text.specs.declared.entry.Entry.{Entry}
-use Rattle.journal_text.specs.declared.value.Value.{Value}
 use Rattle.journal_text.specs.declared.line.Line.{Line}
-use Rattle.journal_text.specs.Journals.{Journaled, with_lines, flushed}
-use Rattle.journal_text.specs.Texts.{text_of, entries_of}
-use Rattle.journal_text.specs.Walk.{Leads}
-use Rattle.journal_text.proofs.JournalLemmas.{text_of_append, entries_of_append}
-use Rattle.journal_text.proofs.WalkLemmas.{leads_append, leads_nowhere}
+use Rattle.journal_text.specs.Journals.{Journaled}
 use Rattle.loss_chain.specs.Tables.{NoneEmpty, lost_count}
 use Rattle.in_chain.specs.Chains.{Chained, row_count, turns_left}
 use Rattle.in_chain.specs.Laws.{TurnsAreBounded, TurnsAreLeft}
 use Rattle.loss_chain.specs.Steps.{table_of}
-use Rattle.router_core.specs.Moments.{Moment, chain_at, rows_in, left_in, router_links, Gives}
+use Rattle.router_core.specs.Moments.{Moment, chain_at, rows_in, left_in, Gives}
+use Rattle.router_core.specs.Lives.{live_state}
 use Rattle.router_core.specs.Stands.{Stands}
 use Rattle.router_core.specs.Turns.{IsTurn, Turns, has_turn_in, has_work}
-use Rattle.router_core.specs.Works.{Nears, IsWork, IsUnit, HaveRun, AreTurns, HasDrained}
+use Rattle.router_core.specs.Works.{Nears, IsUnit, HaveRun, AreTurns, HasDrained}
 use Rattle.router_core.proofs.RowCounts.{rows_are_sum, turns_are_sum, sum_at, left_below}
-use Rattle.router_core.proofs.StandLemmas.{losses_stay, losses_join, sound_at}
-
--- ---- the journal
-abbrev text_with : Journaled → List ℕ → Journaled
-text_with j text = record { text = text; pending = []; quiet = j.quiet }
-
-pub flushed_join : (j : Journaled) (a b : List Line) → flushed (with_lines (flushed (with_lines j a)) b) ≡ flushed (with_lines j (a ++ b))
-flushed_join j a b = ap (text_with j)
-    (append_assoc j.text (text_of j.quiet (j.pending ++ a)) (text_of j.quiet b) ∙ ap (λ (t : List ℕ). j.text ++ t) (sym (text_of_append j.quiet (j.pending ++ a) b))
-    ∙ ap (λ (ls : List Line). j.text ++ text_of j.quiet ls) (append_assoc j.pending a b))
-
-pub flushed_none : (j : Journaled) → flushed j ≡ flushed (with_lines j [])
-flushed_none j = ap (λ (ls : List Line). text_with j (j.text ++ text_of j.quiet ls)) (sym (append-nil j.pending))
-
--- ---- work
-pub work_none : (m : Moment) → Stands m → IsWork m [] m
-work_none m stands = record { losses = losses_stay m m refl; leads = leads_nowhere (router_links m) (router_links m) refl; live = refl; stands = stands }
-
-pub leads_join : (a b c : Moment) (xs ys : List Line) → Leads (router_links a) (entries_of xs) (router_links b) → Leads (router_links b) (entries_of ys) (router_links c)
-    → Leads (router_links a) (entries_of (xs ++ ys)) (router_links c)
-leads_join a b c xs ys p q =
-    subst (λ (es : List (Entry Value)). Leads (router_links a) es (router_links c)) (sym (entries_of_append xs ys))
-    (leads_append (router_links a) (router_links b) (router_links c) (entries_of xs) (entries_of ys) p q)
-
-pub work_join : (a b c : Moment) (xs ys : List Line) → IsWork a xs b → IsWork b ys c → IsWork a (xs ++ ys) c
-work_join a b c xs ys p q = record { losses = losses_join 0 0 a b c p.losses q.losses; leads = leads_join a b c xs ys p.leads q.leads; live = q.live ∙ p.live; stands = q.stands }
+use Rattle.router_core.proofs.StandLemmas.{sound_at}
+use Rattle.router_core.proofs.KeepLemmas.{keeps_none, keeps_on, gives_join}
+use Rattle.router_core.specs.Blocks.{ended}
 
 -- ---- turns
 pub turns_more : (n : ℕ) (task : Task) (m between m' : Moment) (xs ys : List Line) → Turns n task m xs between → IsTurn task between ys m' → Turns (suc n) task m (xs ++ ys) m'
@@ -73,14 +45,14 @@ nears_more (Fin k) n a b c p q = (q.0 ∙ p.0, (let x = p.1 in let y = q.1 in om
 nears_more (Rdel proto l) n a b c p q = omega (arith, p, q)
 
 pub run_none : (task : Task) (m : Moment) → Stands m → HaveRun task m 0 m []
-run_none task m stands = record { taken = (refl, refl); work = work_none m stands; nearer = nears_none task m }
+run_none task m stands = record { taken = (refl, refl); work = keeps_none m stands; nearer = nears_none task m }
 
 pub run_more : (task : Task) (n : ℕ) (m between m' : Moment) (xs ys : List Line) → HaveRun task m n between xs → IsUnit task between m' ys → HaveRun task m (n + 1) m' (xs ++ ys)
 run_more task n m between m' xs ys r u =
     let one : suc n ≡ n + 1 = omega arith in
     record {
       taken = subst (λ (k : ℕ). Turns k task m (xs ++ ys) m') one (turns_more n task m between m' xs ys r.taken u.turn);
-      work = work_join m between m' xs ys r.work u.work;
+      work = keeps_on m between m' xs ys (live_state m) r.work u.work;
       nearer = nears_more task n m between m' r.nearer u.nearer;
     }
 
@@ -89,8 +61,7 @@ HaveGiven task n m m' before now = Gives (HaveRun task m n m') before now
 
 pub given_more : (task : Task) (n : ℕ) (m between m' : Moment) (before j now : Journaled) → HaveGiven task n m between before j → Gives (IsUnit task between m') j now
     → HaveGiven task (n + 1) m m' before now
-given_more task n m between m' before j now g u =
-    (g.0 ++ u.0, u.1 ∙ ap (λ (x : Journaled). flushed (with_lines x u.0)) g.1 ∙ flushed_join before g.0 u.0, run_more task n m between m' g.0 u.0 g.2 u.2)
+given_more task n m between m' before j now g u = gives_join (HaveRun task m n between) (IsUnit task between m') (HaveRun task m (n + 1) m') (λ xs ys p q. run_more task n m between m' xs ys p q) before j now g u
 
 -- ---- a task to its end
 none_there : (s : ℕ) (ds : List (Lost Attrs)) → NoneEmpty ds → lost_count ds ≡ 0 → table_of s ds ≡ None

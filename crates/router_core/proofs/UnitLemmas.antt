@@ -28,7 +28,7 @@ use Rattle.router_core.proofs.TableLemmas.{is_full, swept_number}
 use Rattle.router_core.proofs.ChainLemmas.{number_at}
 use Rattle.router_core.proofs.LinkLemmas.{leads_router}
 use Rattle.router_core.proofs.RowCounts.{rows_are_sum, turns_are_sum, sum_put}
-use Rattle.router_core.proofs.StandLemmas.{remade, losses_stay, peer_of as peer_at_chain, peer_left, stands_with, live_same}
+use Rattle.router_core.proofs.StandLemmas.{remade, peer_of as peer_at_chain, peer_left, stands_with, live_same}
 use Rattle.router_core.proofs.WorkLemmas.{walk_stays}
 
 silent_as : (up : Bool) (c c' : Chained) → c'.incoming.live ≡ c.incoming.live → IsSilent up c → IsSilent up c'
@@ -120,7 +120,6 @@ unit_done task m c c' said stands at t =
     record {
       turn = turn_of_peer task m (with_chain m c') c c' said t.nearer turn;
       work = record {
-        losses = losses_stay m (with_chain m c') refl;
         leads = leads_router m k c at c' number (entries_of said) t.step.leads;
         live = live_same m k c c' at number leaves.live leaves.rules;
         stands = stands_with m k c c' p.0 stands at number t.step.words.0 p.1 (leaves.stands p.0 t.step.words.1 t.step.chain t.step.full p.2);

@@ -52,11 +52,11 @@ abbrev pub rib_begins : List Line
 rib_begins = map begin_line (Org Connected ∷ Org Static ∷ Org Ospf ∷ Org Rip ∷ Low ∷ Dyn ∷ Int ∷ Fib ∷ [])
 
 abbrev pub declared_speaker : Moment → Speaker → Moment
-declared_speaker m words = record { declared = with_speaker m.declared words; tree = m.tree; registry = m.registry; chains = m.chains }
+declared_speaker m words = record m { declared = with_speaker m.declared words }
 
 abbrev pub declared_peer : Moment → Speaker → ℕ → Speaker → Moment
 declared_peer m me k words =
-    record { declared = with_peer m.declared k words; tree = m.tree; registry = m.registry; chains = insert_chain (new_chain me (words_of m.declared.speaker k words)) m.chains }
+    record m { declared = with_peer m.declared k words; chains = insert_chain (new_chain me (words_of m.declared.speaker k words)) m.chains }
 
 -- where `local` was declared, the links of a new peer begin
 abbrev pub Declares : Moment → Option Speaker → ℕ → Speaker → List Line → ℕ → Moment → Type 0
@@ -70,10 +70,10 @@ Refilters k rules m said turns m' =
     (chain : Chained) × (chain_at k m.chains ≡ Some chain) × Just [] (with_chain m (refiltered rules chain)) said turns m'
 
 abbrev pub begun : Moment → ℕ → Moment
-begun m k = record { declared = with_session m.declared k; tree = m.tree; registry = m.registry; chains = m.chains }
+begun m k = record m { declared = with_session m.declared k }
 
 abbrev pub ended : Moment → ℕ → Moment
-ended m k = record { declared = without_session m.declared k; tree = m.tree; registry = m.registry; chains = m.chains }
+ended m k = record m { declared = without_session m.declared k }
 
 -- the stage that has to go first runs to its end, if there is one
 abbrev pub RunsFirst : Option Task → Moment → List Line → Moment → Type 0

@@ -1,6 +1,6 @@
 -- The live state: what the events alone make of the declarations, the sessions, each peer's live routes and its rules, and the
--- interior routes, whatever work was done or not.
-use Rattle.std.specs.Prelude.{◌≡◌, ℕ, ◌==◌, ◌&&◌, ◌||◌, nat_lt, Bool, true, false, not, if◌then◌else◌, List, [], ◌∷◌, ◌++◌, map, filter, slice_index, Option, Some, None, is_some}
+-- interior routes and their losses, whatever work was done or not.
+use Rattle.std.specs.Prelude.{◌≡◌, ℕ, ◌+◌, ◌==◌, ◌&&◌, ◌||◌, nat_lt, Bool, true, false, not, if◌then◌else◌, List, [], ◌∷◌, ◌++◌, map, filter, slice_index, Option, Some, None, is_some}
 use Rattle.std.specs.FinMap as tables
 use Rattle.std.specs.FinMap.{FinMap}
 use Rattle.addr4.specs.Prefixes.{Network, prefix_cmp}
@@ -24,6 +24,7 @@ use Rattle.rib_route.specs.declared.rows.Interior.{Interior}
 use Rattle.loss_chain.specs.Owners.{same_proto}
 use Rattle.rib_tree.specs.Trees.{branch_of}
 use Rattle.router_core.specs.Moments.{Moment, chain_at}
+use Rattle.link_change.specs.Rows.{is_empty_map}
 
 abbrev pub Routes : Type 0
 Routes = FinMap prefix_cmp Attrs
@@ -38,9 +39,11 @@ pub record LiveState : Type 0 where
   -- of the incoming filters
   pub rules : ℕ → List Rule
   pub interior : Proto → Interiors
+  -- how many losses of each protocol found a route
+  pub losses : Proto → ℕ
 
 abbrev pub first_live : LiveState
-first_live = record { declared = no_declaration; routes = λ k. tables.empty; rules = λ k. []; interior = λ proto. tables.empty }
+first_live = record { declared = no_declaration; routes = λ k. tables.empty; rules = λ k. []; interior = λ proto. tables.empty; losses = λ proto. 0 }
 
 -- 224.0.0.0 is where the addresses of no host begin
 abbrev pub is_host_prefix : Network → Bool
@@ -68,11 +71,15 @@ with_routes all k routes j = if j == k then routes else all j
 
 -- a session ends, and its routes with it
 abbrev pub ended : LiveState → ℕ → LiveState
-ended l k = record { declared = without_session l.declared k; routes = with_routes l.routes k tables.empty; rules = l.rules; interior = l.interior }
+ended l k = record l { declared = without_session l.declared k; routes = with_routes l.routes k tables.empty }
+
+-- these changes are made to the routes of a peer
+abbrev pub live_fed : LiveState → ℕ → List (Network × Option Attrs) → LiveState
+live_fed l k changes = record l { routes = with_routes l.routes k (routes_after (l.routes k) changes) }
 
 -- a message came from a peer that is up
 abbrev pub heard : LiveState → ℕ → Message → LiveState
-heard l k (messages.Update u) = record { declared = l.declared; routes = with_routes l.routes k (routes_after (l.routes k) (changes_of u)); rules = l.rules; interior = l.interior }
+heard l k (messages.Update u) = live_fed l k (changes_of u)
 heard l k messages.Keepalive = l
 heard l k messages.Skip = l
 heard l k messages.Notification = ended l k
@@ -87,7 +94,18 @@ abbrev pub with_interior : (Proto → Interiors) → Proto → Interiors → Pro
 with_interior all proto routes other = if same_proto other proto then routes else all other
 
 abbrev pub interior_fed : LiveState → Proto → Interiors → LiveState
-interior_fed l proto routes = record { declared = l.declared; routes = l.routes; rules = l.rules; interior = with_interior l.interior proto routes }
+interior_fed l proto routes = record l { interior = with_interior l.interior proto routes }
+
+-- one protocol has lost routes so many times
+abbrev pub with_losses : (Proto → ℕ) → Proto → ℕ → Proto → ℕ
+with_losses all proto n other = if same_proto other proto then n else all other
+
+-- a protocol is lost, and its routes with it, if it has any
+abbrev pub interior_lost : LiveState → Proto → LiveState
+interior_lost l proto = record l {
+  interior = with_interior l.interior proto tables.empty;
+  losses = with_losses l.losses proto (if is_empty_map (l.interior proto) then l.losses proto else l.losses proto + 1);
+}
 
 -- AS numbers have two octets, and errors are handled by RFC 4271, section 6.3
 abbrev pub plain : Profile
@@ -107,7 +125,7 @@ HearsFrom l k (Some p) octets l' = HearsIfUp l k p octets p.up l'
 
 abbrev pub begun_if_down : LiveState → ℕ → Option DeclaredPeer → LiveState
 begun_if_down l k None = l
-begun_if_down l k (Some p) = if p.up then l else record { declared = with_session l.declared k; routes = l.routes; rules = l.rules; interior = l.interior }
+begun_if_down l k (Some p) = if p.up then l else record l { declared = with_session l.declared k }
 
 abbrev pub ended_if_up : LiveState → ℕ → Option DeclaredPeer → LiveState
 ended_if_up l k None = l
@@ -116,15 +134,15 @@ ended_if_up l k (Some p) = if p.up then ended l k else l
 -- the live state after an event
 abbrev pub LiveAfter : LiveState → Event → LiveState → Type 0
 LiveAfter l Nothing l' = l' ≡ l
-LiveAfter l (Local words) l' = l' ≡ record { declared = with_speaker l.declared words; routes = l.routes; rules = l.rules; interior = l.interior }
-LiveAfter l (Peer k words) l' = l' ≡ record { declared = with_peer l.declared k words; routes = l.routes; rules = l.rules; interior = l.interior }
+LiveAfter l (Local words) l' = l' ≡ record l { declared = with_speaker l.declared words }
+LiveAfter l (Peer k words) l' = l' ≡ record l { declared = with_peer l.declared k words }
 LiveAfter l (Up k) l' = l' ≡ begun_if_down l k (peer_at k l.declared.peers)
 LiveAfter l (Down k) l' = l' ≡ ended_if_up l k (peer_at k l.declared.peers)
 LiveAfter l (Bgp k octets) l' = HearsFrom l k (peer_at k l.declared.peers) octets l'
-LiveAfter l (FilterIn k rules) l' = l' ≡ record { declared = l.declared; routes = l.routes; rules = with_rules l.rules k rules; interior = l.interior }
+LiveAfter l (FilterIn k rules) l' = l' ≡ record l { rules = with_rules l.rules k rules }
 LiveAfter l (RouteAdd p row) l' = l' ≡ interior_fed l row.proto (tables.insert (l.interior row.proto) p row)
 LiveAfter l (RouteDel proto p) l' = l' ≡ interior_fed l proto (tables.remove (l.interior proto) p)
-LiveAfter l (Lose proto) l' = l' ≡ interior_fed l proto tables.empty
+LiveAfter l (Lose proto) l' = l' ≡ interior_lost l proto
 LiveAfter l (Cover addr) l' = l' ≡ l
 LiveAfter l Idle l' = l' ≡ l
 LiveAfter l (Work task n) l' = l' ≡ l
@@ -147,6 +165,7 @@ live_state m = record {
   routes = λ k. routes_of (chain_at k m.chains);
   rules = λ k. rules_of (chain_at k m.chains);
   interior = λ proto. (branch_of proto m.tree).live;
+  losses = λ proto. (branch_of proto m.tree).losses;
 }
 
 -- whether a message ends the session

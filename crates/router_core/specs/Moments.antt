@@ -61,7 +61,7 @@ insert_chain c [] = c ∷ []
 insert_chain c (d ∷ ds) = if nat_lt c.incoming.number d.incoming.number then c ∷ d ∷ ds else d ∷ insert_chain c ds
 
 abbrev pub with_chain : Moment → Chained → Moment
-with_chain m c = record { declared = m.declared; tree = m.tree; registry = m.registry; chains = put_chain c m.chains }
+with_chain m c = record m { chains = put_chain c m.chains }
 
 abbrev pub links_by : Option Chained → Links Value
 links_by None link = None

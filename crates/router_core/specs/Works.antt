@@ -27,13 +27,13 @@ use Rattle.router_core.specs.declared.router.Done.{Done}
 use Rattle.router_core.specs.declared.router.Done.TheVariants.{Nothing, Taken}
 use Rattle.rib_route.specs.declared.Proto.{Proto}
 use Rattle.rib_route.specs.declared.rows.Interior.{Interior}
-use Rattle.rib_tree.specs.Trees.{Treed, int_rows, tree_count, AreNumbered, IsTree, IsFull}
+use Rattle.rib_tree.specs.Trees.{Treed, int_rows, tree_count, IsTree, IsFull}
 use Rattle.rib_tree.specs.Falls.{LeadsTree}
 use Rattle.rib_tree.specs.Steps.{lost_tree, welded_tree, tree_overdue, tree_loss_entries, tree_weld_entries}
 use Rattle.router_core.specs.Moments.{Moment, chain_at, put_chain, with_chain, router_links, rows_in, left_in, bound_of, Gives}
 use Rattle.std.specs.FinMap as map
 use Rattle.journal_text.specs.declared.link.Link.{Link}
-use Rattle.router_core.specs.Lives.{LiveState, live_state, with_routes, routes_after, heard, ended, interior_fed}
+use Rattle.router_core.specs.Lives.{LiveState, LiveAfter, live_state, live_fed, heard, ended, interior_lost}
 use Rattle.router_core.specs.Stands.{Stands, IsSettled}
 use Rattle.router_core.specs.Scratch.{IsExact}
 use Rattle.router_core.specs.declared.router.Phase.{Phase}
@@ -41,7 +41,7 @@ use Rattle.rib_route.specs.declared.rows.FibRow.{FibRow}
 use Rattle.register_interest.specs.Registers.{put_row}
 use Rattle.rib_tree.specs.Forwards.{ForwardsOn}
 use Rattle.router_core.specs.Turns.{fib_entries, journal_lines, fall_lines, FeedsAll, Replants, FallsRoute, peer_of, IsTurn, Turns, DrainsAll, has_turn_in, has_work, phase_tasks, phase_bound, IsOver, idle_tasks}
-use Rattle.router_core.specs.Blocks.{RunsFirst, Loses, Hears, Idles, Acts, ended as ended_moment}
+use Rattle.router_core.specs.Blocks.{RunsFirst, Loses, Hears, Idles, IsBlock, ended as ended_moment}
 use Rattle.router_core.specs.declared.router.Idle.{Idle}
 use Rattle.event_text.specs.declared.event.Event.{Event}
 use Rattle.bgp_wire.specs.declared.message.Message.{Message}
@@ -119,16 +119,16 @@ abbrev pub TurnsAt : Task → List Chained → List Chained → Journaled → Jo
 TurnsAt task cs cs' before now Nothing = (has_turn_in task (chain_at (peer_of task) cs) ≡ false) × (cs' ≡ cs) × (now ≡ before)
 TurnsAt task cs cs' before now Taken = Steps (TakesChain task) (peer_of task) cs cs' before now
 
--- so many deletion stages at most each protocol made more
-abbrev pub HasLosses : ℕ → Moment → Moment → Type 0
-HasLosses more m m' = (most : ℕ) → AreNumbered most m.tree → AreNumbered (most + more) m'.tree
-
--- Background work: by the rules of the journal, what is live stays, and nothing is lost.
-pub record IsWork (m : Moment) (said : List Line) (m' : Moment) : Type 0 where
-  pub losses : HasLosses 0 m m'
+-- What every step keeps: its entries lead from the old links to the new ones by the rules of the journal, this is live then, and
+-- what holds between two steps holds.
+pub record Keeps (live_then : LiveState) (m m' : Moment) (said : List Line) : Type 0 where
   pub leads : Leads (router_links m) (entries_of said) (router_links m')
-  pub live : live_state m' ≡ live_state m
+  pub live : live_state m' ≡ live_then
   pub stands : Stands m'
+
+-- background work: what is live stays
+abbrev pub IsWork : Moment → List Line → Moment → Type 0
+IsWork m said m' = Keeps (live_state m) m m' said
 
 -- one turn of a task
 pub record IsUnit (task : Task) (m m' : Moment) (said : List Line) : Type 0 where
@@ -186,17 +186,10 @@ first_task (task ∷ tasks) = Some task
 abbrev pub IsUpAt : ℕ → Moment → Type 0
 IsUpAt k m = (p : DeclaredPeer) × (peer_at k m.declared.peers ≡ Some p) × (p.up ≡ true)
 
--- the live state where these changes were made to a peer's routes
-abbrev pub live_fed : LiveState → ℕ → List (Network × Option Attrs) → LiveState
-live_fed l k changes = record { declared = l.declared; routes = with_routes l.routes k (routes_after (l.routes k) changes); rules = l.rules; interior = l.interior }
-
 -- The prefixes of an UPDATE from peer k were announced and withdrawn, one after the other.
 pub record HaveFed (k : ℕ) (changes : List (Network × Option Attrs)) (m m' : Moment) (said : List Line) : Type 0 where
   pub feeds : FeedsAll k changes m said m'
-  pub leads : Leads (router_links m) (entries_of said) (router_links m')
-  pub live : live_state m' ≡ live_fed (live_state m) k changes
-  pub losses : HasLosses 0 m m'
-  pub stands : Stands m'
+  pub keeps : Keeps (live_fed (live_state m) k changes) m m' said
 
 -- a session of this number may be lost in a chain
 pub record MayLose (s : ℕ) (c : Chained) : Type 0 where
@@ -228,22 +221,16 @@ IsSession k s m = (p : DeclaredPeer) × (peer_at k m.declared.peers ≡ Some p) 
 
 -- session s of peer k was lost
 pub record HasLost (k s : ℕ) (m m' : Moment) (said : List Line) : Type 0 where
-  pub losses : HasLosses 0 m m'
   pub loses : Loses k s m said m'
-  pub leads : Leads (router_links m) (entries_of said) (router_links m')
-  pub live : live_state m' ≡ ended (live_state m) k
-  pub stands : Stands m'
+  pub keeps : Keeps (ended (live_state m) k) m m' said
 
 -- the loss alone, where there is room
 pub record Ends (k s : ℕ) (m m' : Moment) (said : List Line) : Type 0 where
-  pub losses : HasLosses 0 m m'
   pub chain : Chained
   pub there : chain_at k m.chains ≡ Some chain
   pub lines : said ≡ journal_lines (loss_entries s chain.incoming)
   pub after : m' ≡ ended_moment (with_chain m (lost s chain)) k
-  pub leads : Leads (router_links m) (entries_of said) (router_links m')
-  pub live : live_state m' ≡ ended (live_state m) k
-  pub stands : Stands m'
+  pub keeps : Keeps (ended (live_state m) k) m m' said
 
 -- an idle was answered by its bound and its turns
 pub record HasIdled (m : Moment) (idle : Idle) (m' : Moment) (said : List Line) : Type 0 where
@@ -253,27 +240,22 @@ pub record HasIdled (m : Moment) (idle : Idle) (m' : Moment) (said : List Line) 
 
 -- an event was stepped, and what stands then
 pub record HasStepped (m : Moment) (event : Event) (turns : ℕ) (m' : Moment) (said : List Line) : Type 0 where
-  pub acts : Acts m event turns m' said
-  pub losses : HasLosses 1 m m'
-  pub stands : Stands m'
+  pub block : IsBlock m event said turns m'
+  pub live : LiveState
+  pub after : LiveAfter (live_state m) event live
+  pub keeps : Keeps live m m' said
 
 -- a message from peer k, which is up, was heard
 pub record HasHeard (k : ℕ) (p : DeclaredPeer) (m : Moment) (message : Message) (m' : Moment) (said : List Line) : Type 0 where
   pub hears : Hears k p m message said m'
-  pub losses : HasLosses 0 m m'
-  pub leads : Leads (router_links m) (entries_of said) (router_links m')
-  pub live : live_state m' ≡ heard (live_state m) k message
-  pub stands : Stands m'
+  pub keeps : Keeps (heard (live_state m) k message) m m' said
 
 -- ---- interior routes
 
 -- A change of an interior route made this of the tree.
 pub record HasRouted (m : Moment) (new : Treed) (proto : Proto) (p : Network) (way : List Link) (live : LiveState) (m' : Moment) (said : List Line) : Type 0 where
   pub falls : FallsRoute m new proto p way said m'
-  pub lives : live_state m' ≡ live
-  pub leads : Leads (router_links m) (entries_of said) (router_links m')
-  pub losses : HasLosses 0 m m'
-  pub stands : Stands m'
+  pub keeps : Keeps live m m' said
 
 -- there is room for a loss of the protocol
 pub record HasProtocolRoom (proto : Proto) (m room : Moment) (said : List Line) : Type 0 where
@@ -285,10 +267,7 @@ pub record HasProtocolRoom (proto : Proto) (m room : Moment) (said : List Line) 
 pub record EndsProtocol (proto : Proto) (m m' : Moment) (said : List Line) : Type 0 where
   pub lines : said ≡ journal_lines (tree_loss_entries proto m.tree)
   pub after : Replants (lost_tree proto m.tree) m m'
-  pub leads : Leads (router_links m) (entries_of said) (router_links m')
-  pub live : live_state m' ≡ interior_fed (live_state m) proto map.empty
-  pub losses : HasLosses 1 m m'
-  pub stands : Stands m'
+  pub keeps : Keeps (interior_lost (live_state m) proto) m m' said
 
 -- what comes out on `fib`, by what came out on `int`
 abbrev pub Forwards : Option (Change Interior) → Option (Change FibRow) → Type 0

@@ -6,11 +6,11 @@ ghost use Rattle.event_text.specs.Declarations.{peer_at, refusal};
 ghost use Rattle.router_core.specs.Moments.{chain_at, insert_chain, router_links};
 ghost use Rattle.router_core.specs.Lives.{Says};
 ghost use Rattle.router_core.specs.Stands.{AreInOrder, Stands};
-ghost use Rattle.router_core.specs.Blocks.{Acts, begin_line, rib_begins};
+ghost use Rattle.router_core.specs.Blocks.{begin_line, rib_begins};
 ghost use Rattle.journal_text.specs.Journals.{with_lines};
 ghost use Rattle.router_core.specs.Lookups.{IsCountOf};
 ghost use Rattle.router_core.specs.Peers.{is_up, place_in, Edits, HasShortNotice};
-ghost use Rattle.router_core.specs.Works.{Pushes};
+ghost use Rattle.router_core.specs.Works.{Pushes, HasStepped};
 
 use crate::lookups;
 use crate::network::Network;
@@ -41,8 +41,7 @@ impl Network {
     ) -> Result<(), Memory>
         requires admitted { refusal self.old.declared (events.Local words) ≡ None }
         requires stands { Stands self.old }
-        ensures acts { OnOk result (Pushes (Acts self.old (events.Local words) 0 self.new) journal.old journal.new) }
-        ensures stands { OnOk result (Stands self.new) }
+        ensures { OnOk result (Pushes (HasStepped self.old (events.Local words) 0 self.new) journal.old journal.new) }
     {
         self.declared.set_speaker(words);
         begin_rib(journal)
@@ -57,8 +56,7 @@ impl Network {
     ) -> Result<(), Memory>
         requires admitted { refusal self.old.declared (events.Peer number words) ≡ None }
         requires stands { Stands self.old }
-        ensures acts { OnOk result (Pushes (Acts self.old (events.Peer number words) 0 self.new) journal.old journal.new) }
-        ensures stands { OnOk result (Stands self.new) }
+        ensures { OnOk result (Pushes (HasStepped self.old (events.Peer number words) 0 self.new) journal.old journal.new) }
     {
         let Some(me) = self.declared.speaker() else {
             unreachable!()
@@ -77,8 +75,7 @@ impl Network {
     pub(crate) fn begin_session(&mut self, number: u32, journal: &mut Journal) -> Result<(), Memory>
         requires admitted { refusal self.old.declared (events.Up number) ≡ None }
         requires stands { Stands self.old }
-        ensures acts { OnOk result (Pushes (Acts self.old (events.Up number) 0 self.new) journal.old journal.new) }
-        ensures stands { OnOk result (Stands self.new) }
+        ensures { OnOk result (Pushes (HasStepped self.old (events.Up number) 0 self.new) journal.old journal.new) }
     {
         if self.is_up(number) {
             return journal.push_line(Line::Ignored);
@@ -91,8 +88,7 @@ impl Network {
     pub(crate) fn edit_incoming(&mut self, number: u32, rules: Rules)
         requires admitted { refusal self.old.declared (events.FilterIn number rules) ≡ None }
         requires stands { Stands self.old }
-        ensures acts { Acts self.old (events.FilterIn number rules) 0 self.new [] }
-        ensures stands { Stands self.new }
+        ensures { HasStepped self.old (events.FilterIn number rules) 0 self.new [] }
     {
         edit_at(&mut self.chains, number, rules);
     }
@@ -117,7 +113,8 @@ impl Network {
 
     /// A row is asked for.
     pub(crate) fn ask(&self, link: Link, p: Prefix, journal: &mut Journal) -> Result<(), Memory>
-        ensures { OnOk result (Pushes (Acts self.now (events.Ask link p) 0 self.now) journal.old journal.new) }
+        requires { Stands self.now }
+        ensures { OnOk result (Pushes (HasStepped self.now (events.Ask link p) 0 self.now) journal.old journal.new) }
     {
         if is_of_rib(link) {
             return self.ask_rib(link, p, journal);
@@ -127,7 +124,8 @@ impl Network {
 
     /// All rows of a link are asked for.
     pub(crate) fn show(&self, link: Link, journal: &mut Journal) -> Result<(), Memory>
-        ensures { OnOk result (Pushes (Acts self.now (events.Show link) 0 self.now) journal.old journal.new) }
+        requires { Stands self.now }
+        ensures { OnOk result (Pushes (HasStepped self.now (events.Show link) 0 self.now) journal.old journal.new) }
     {
         if is_of_rib(link) {
             return self.show_rib(link, journal);

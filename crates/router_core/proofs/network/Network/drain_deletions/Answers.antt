@@ -1,9 +1,10 @@
-use Rattle.std.proofs.Common.{◌≡◌, ◌+◌, ◌≤◌, sym, subst, arith}
+use Rattle.std.proofs.Common.{◌≡◌, ◌+◌, ◌≤◌, sym, subst, arith, Some}
 use Rattle.router_core.specs.declared.router.Done.{Done}
 use Rattle.router_core.specs.Moments.{rows_in}
 use Rattle.router_core.specs.Works.{Comes}
 use Rattle.router_core.proofs.DrainLemmas.{none_gone, all_more, all_done, all_taken, row_taken, turns_fit}
 use Rattle.router_core.proofs.network.Network.drain_deletions.Goals as goal
+use Rattle.router_core.specs.declared.router.Done.TheVariants.{Nothing, Taken}
 
 pub unreachable-requires : goal.unreachable-requires
 unreachable-requires c =

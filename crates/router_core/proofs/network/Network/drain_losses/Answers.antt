@@ -1,10 +1,11 @@
-use Rattle.std.proofs.Common.{◌∙◌, sym, ap, subst}
+use Rattle.std.proofs.Common.{◌∙◌, sym, ap, subst, Some}
 use Rattle.rib_tree.specs.Trees.{tree_tasks, first_task}
 use Rattle.router_core.specs.declared.router.Done.{Done}
 use Rattle.router_core.specs.Moments.{Moment}
 use Rattle.router_core.specs.Works.{Comes}
 use Rattle.router_core.proofs.DrainRoutes.{none_ended, losses_more, losses_done, losses_taken, loss_taken}
 use Rattle.router_core.proofs.network.Network.drain_losses.Goals as goal
+use Rattle.router_core.specs.declared.router.Done.TheVariants.{Nothing, Taken}
 
 pub loop-task-init : goal.loop-task-init
 loop-task-init c = none_ended c.args.self.now c.args.journal.now c.flush.new.self c.requires c.in_ok-flush.ensures.ok

@@ -4,6 +4,7 @@ use Rattle.router_core.specs.Moments.{Moment}
 use Rattle.router_core.proofs.TurnLemmas.{stage_drained, walk_drained}
 use Rattle.router_core.proofs.DrainRoutes.{loss_drained}
 use Rattle.router_core.proofs.network.Network.drain_task.Goals as goal
+use Rattle.journal_text.specs.declared.link.Task.TheVariants.{Del, Fin, Rdel}
 
 pub returns-in_ok-turns-in-Del : goal.returns-in_ok-turns-in-Del
 returns-in_ok-turns-in-Del c =

@@ -3,9 +3,10 @@ use Rattle.router_core.specs.Lives.{LiveState}
 use Rattle.router_core.proofs.RouteSteps.{lose_since}
 use Rattle.router_core.proofs.ProtocolLosses.{protocol_lost}
 use Rattle.router_core.proofs.network.Network.lose_protocol.Goals as goal
+use Rattle.router_core.proofs.CoreLemmas.{worked_numbered}
 
 pub lose_protocol_with_room-requires-clause-few : goal.lose_protocol_with_room-requires-clause-few
-lose_protocol_with_room-requires-clause-few c = c.in_ok-make_protocol_room.ensures.2.work.losses 4294967294 c.requires.few
+lose_protocol_with_room-requires-clause-few c = worked_numbered c.args.self.now c.make_protocol_room.new.self c.in_ok-make_protocol_room.ensures.0 4294967294 c.in_ok-make_protocol_room.ensures.2.work c.requires.few
 
 pub lose_protocol_with_room-requires-clause-since : goal.lose_protocol_with_room-requires-clause-since
 lose_protocol_with_room-requires-clause-since c =

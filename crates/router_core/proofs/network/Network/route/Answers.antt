@@ -1,4 +1,4 @@
-use Rattle.std.proofs.Common.{◌≡◌, Option, IsSome, subst, sym}
+use Rattle.std.proofs.Common.{◌≡◌, Option, IsSome, subst, sym, None, Some}
 use Rattle.rib_route.specs.declared.rows.Interior.{Interior}
 use Rattle.loss_chain.specs.Steps.{live_after}
 use Rattle.rib_tree.specs.Trees.{branch_of}

@@ -5,6 +5,7 @@ use Rattle.router_core.specs.Moments.{Moment}
 use Rattle.router_core.specs.Stands.{Stands}
 use Rattle.router_core.proofs.RouteTurns.{route_quiet, route_sent}
 use Rattle.router_core.proofs.network.Network.turn_route.Goals as goal
+use Rattle.link_change.specs.declared.turn.Turn.TheVariants.{Quiet, Sent}
 
 pub returns-in-Quiet : goal.returns-in-Quiet
 returns-in-Quiet c =
