@@ -22,6 +22,12 @@ both p q i = p i ∷ q i
 pub one_of : {A : Type 0} (c d : A) → Some c ≡ Some d → c ≡ d
 one_of c d e = cc
 
+-- what is read of a list where it has it, whatever is read where not
+pub get_or_any : {A : Type 0} (xs : List A) (n : ℕ) (x y : A) → n < length xs → get_or xs n x ≡ get_or xs n y
+get_or_any [] n x y below = absurd (omega (arith, below))
+get_or_any (l ∷ ls) zero x y below = refl
+get_or_any (l ∷ ls) (suc n) x y below = get_or_any ls n x y (omega (arith, below))
+
 -- ---- the chain of a number
 pub chain_here : (k : ℕ) (c : Chained) (cs : List Chained) → nat_eq c.incoming.number k ≡ true → chain_at k (c ∷ cs) ≡ Some c
 chain_here k c cs e = ap (λ b. cond b (Some c) (chain_at k cs)) e
@@ -122,6 +128,25 @@ all_put P c' (d ∷ ds) all one = (by_test (nat_eq d.incoming.number c'.incoming
 pub put_length : (c' : Chained) (cs : List Chained) → length (put_chain c' cs) ≡ length cs
 put_length c' [] = refl
 put_length c' (d ∷ ds) = ap suc (put_length c' ds)
+
+pub all_so : {A : Type 0} (P Q : A → Type 0) → ((x : A) → P x → Q x) → (xs : List A) → AllByRecursion P xs → AllByRecursion Q xs
+all_so P Q to [] all = tt
+all_so P Q to (x ∷ xs) all = (to x all.0, all_so P Q to xs all.1)
+
+all_both : (P Q R : Chained → Type 0) → ((c : Chained) → P c → Q c → R c) → (cs : List Chained) → AllByRecursion P cs → AllByRecursion Q cs → AllByRecursion R cs
+all_both P Q R f [] p q = tt
+all_both P Q R f (c ∷ cs) p q = (f c p.0 q.0, all_both P Q R f cs p.1 q.1)
+
+-- each chain is found by its number
+pub all_found : (cs : List Chained) → AreInOrder cs → AllByRecursion (λ c. chain_at c.incoming.number cs ≡ Some c) cs
+all_found [] order = tt
+all_found (d ∷ ds) order = (
+  chain_here d.incoming.number d ds (same_by d.incoming.number d.incoming.number refl),
+  all_both (λ c. d.incoming.number < c.incoming.number) (λ c. chain_at c.incoming.number ds ≡ Some c) (λ c. chain_at c.incoming.number (d ∷ ds) ≡ Some c) past ds order.0 (all_found ds order.1),
+)
+  where
+    past : (c : Chained) → d.incoming.number < c.incoming.number → chain_at c.incoming.number ds ≡ Some c → chain_at c.incoming.number (d ∷ ds) ≡ Some c
+    past c less there = chain_past c.incoming.number d ds (other_by d.incoming.number c.incoming.number (λ e. omega (arith, less))) ∙ there
 
 -- what is seen of each chain, where one was put
 pub put_at : {A : Type 0} (f : Option Chained → A) (k : ℕ) (cs : List Chained) (c c' : Chained) → chain_at k cs ≡ Some c → c'.incoming.number ≡ k → (j : ℕ)

@@ -13,7 +13,7 @@ use Rattle.rib_tree.specs.Laws.{ANewTreeStands}
 use Rattle.router_core.specs.Moments.{Moment, Cored, first_moment, Gives}
 use Rattle.router_core.specs.Stands.{Stands, CoreStands}
 use Rattle.router_core.specs.Blocks.{Acts}
-use Rattle.router_core.specs.Works.{IsWork, HasStepped}
+use Rattle.router_core.specs.Works.{HasStepped, Keeps}
 use Rattle.router_core.specs.Lives.{LiveState, live_state}
 use Rattle.router_core.proofs.KeepLemmas.{acts_of}
 use Rattle.router_core.proofs.SessionLemmas.{losses_follow}
@@ -23,7 +23,7 @@ abbrev pub cored : Moment → ℕ → Cored
 cored m n = record { moment = m; events = n; failed = false }
 
 -- background work loses nothing
-pub worked_numbered : (m m' : Moment) (said : List Line) (n : ℕ) → IsWork m said m' → AreNumbered n m.tree → AreNumbered n m'.tree
+pub worked_numbered : (m m' : Moment) (said : List Line) (n : ℕ) → Keeps (live_state m) m m' said → AreNumbered n m.tree → AreNumbered n m'.tree
 worked_numbered m m' said n work most proto = let was = most proto in let is : (branch_of proto m'.tree).losses ≡ (branch_of proto m.tree).losses = ap (λ (l : LiveState). l.losses proto) work.live in omega (arith, was, is)
 
 -- ---- a core by its parts
@@ -50,7 +50,7 @@ module _ (old : Cored) (m : Moment) (n : ℕ) (failed : Bool) (view : record { m
   pub core_acts : (m' : Moment) (event : Event) (turns : ℕ) (before now : Journaled) → Gives (HasStepped m event turns m') before now → Gives (Acts old.moment event turns m') before now
   core_acts m' event turns before now g = (g.0, g.1, subst (λ (c : Cored). Acts c.moment event turns m' g.0) view (acts_of m m' event turns g.0 g.2))
 
-  pub core_worked : (m' : Moment) (said : List Line) → IsWork m said m' → CoreStands (cored m' n)
+  pub core_worked : (m' : Moment) (said : List Line) → Keeps (live_state m) m m' said → CoreStands (cored m' n)
   core_worked m' said work = record { stands = work.stands; numbered = worked_numbered m m' said n work stood.numbered }
 
 -- ---- the first moment

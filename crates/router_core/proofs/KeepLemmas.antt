@@ -87,3 +87,7 @@ acts_of m m' event turns said h = record { block = h.block; leads = h.keeps.lead
 -- an event that leaves the router as it is
 pub steps_said : (m : Moment) (event : Event) (turns : ℕ) (said : List Line) → Stands m → IsBlock m event said turns m → LiveAfter (live_state m) event (live_state m) → entries_of said ≡ [] → HasStepped m event turns m said
 steps_said m event turns said stands block after none = record { block = block; live = live_state m; after = after; keeps = keeps_said m said stands none }
+
+pub steps_pushed : (m : Moment) (event : Event) (said : List Line) (before j now : Journaled) → Stands m → IsBlock m event said 0 m → LiveAfter (live_state m) event (live_state m) → entries_of said ≡ [] → j ≡ with_lines before said → now ≡ flushed j
+    → Gives (HasStepped m event 0 m) before now
+steps_pushed m event said before j now stands block after none pushed is = (said, is ∙ ap flushed pushed, steps_said m event 0 said stands block after none)

@@ -29,6 +29,7 @@ use Rattle.router_core.proofs.ShownRows.{with_more}
 use Rattle.router_core.specs.Works.{HasStepped}
 use Rattle.router_core.proofs.SessionLemmas.{ends}
 use Rattle.router_core.specs.Lives.{live_state}
+use Rattle.router_core.proofs.ChainLemmas.{get_or_any}
 
 -- a tree without routes has no rows
 org_empty : (proto : Proto) → org_rows (branch_of proto new_tree) ≡ no_rows
@@ -124,11 +125,6 @@ begun_more links n link before j now below is begun last =
     last ∙ ap (λ (x : Journaled). with_lines x (begin_line link ∷ [])) begun ∙ with_more before (map begin_line (take n links)) (begin_line link ∷ [])
     ∙ ap (with_lines before) (sym (map-append begin_line (take n links) (link ∷ [])))
     ∙ ap (λ (ls : List Link). with_lines before (map begin_line ls)) (sym more)
-
-get_or_any : (links : List Link) (n : ℕ) (x y : Link) → n < length links → get_or links n x ≡ get_or links n y
-get_or_any [] n x y below = absurd (omega (arith, below))
-get_or_any (l ∷ ls) zero x y below = refl
-get_or_any (l ∷ ls) (suc n) x y below = get_or_any ls n x y (omega (arith, below))
 
 pub begun_next : (links : List Link) (n : ℕ) (x : Link) (before j now : Journaled) → n < length links → HaveBegun links n before j → now ≡ with_lines j (begin_line (get_or links n x) ∷ [])
     → HaveBegun links (n + 1) before now

@@ -211,5 +211,5 @@ lost_all k s m room m' before j j' now r e is = gives_push (HasRoom k m room) (E
     lines = ap (λ (ls : List Line). xs ++ ls) q.lines;
     after = q.after;
   };
-  keeps = keeps_then m room m' xs ys (λ l. ended l k) p.work q.keeps;
+  keeps = keeps_then m room m' xs ys (λ l. ended l k) p.keeps q.keeps;
 }) before j j' now r e is

@@ -108,7 +108,7 @@ protocol_lost proto m room m' before j j' now r e is = gives_push (HasProtocolRo
   block = (refl, record { first = xs; room = room; runs = p.runs; lines = ap (λ (ls : List Line). xs ++ ls) q.lines; after = q.after });
   live = interior_lost (live_state m) proto;
   after = refl;
-  keeps = keeps_then m room m' xs ys (λ l. interior_lost l proto) p.work q.keeps;
+  keeps = keeps_then m room m' xs ys (λ l. interior_lost l proto) p.keeps q.keeps;
 }) before j j' now r e is
 
 -- ---- the protocol may be lost

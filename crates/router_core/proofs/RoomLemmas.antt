@@ -100,7 +100,7 @@ room_drained k m room c task n before now stands at over g = (
     before = c;
     at = sym at;
     runs = subst (λ (o : Option Task). RunsFirst o m g.0 room) over (n, (g.2.run.taken, g.2.ended));
-    work = g.2.run.work;
+    keeps = g.2.run.work.keeps;
     free = drained_free k m room c task n g.0 stands (sym at) (sym over) g.2;
   },
 )
@@ -110,6 +110,6 @@ room_there k m c before now stands at over is = gives_none (HasRoom k m m) befor
   before = c;
   at = sym at;
   runs = subst (λ (o : Option Task). RunsFirst o m [] m) over (refl, refl);
-  work = keeps_none m stands;
+  keeps = keeps_none m stands;
   free = λ c' at'. ap (λ (x : Chained). overdue_of x.incoming) (one_of c' c (sym at' ∙ sym at)) ∙ sym over;
 }) is

@@ -15,24 +15,27 @@ use Rattle.rib_tree.specs.Branches.{Branch}
 use Rattle.loss_chain.specs.declared.owner.Owner.TheVariants as owners
 use Rattle.loss_chain.specs.Steps.{swept_one, table_of, oldest_of}
 use Rattle.rib_tree.specs.BranchSteps.{swept_branch, welded_branch, overdue_of}
-use Rattle.rib_tree.specs.Trees.{Treed, branch_of}
+use Rattle.rib_tree.specs.Trees.{Treed, branch_of, put_branch}
 use Rattle.rib_tree.specs.Steps.{tree_overdue}
 use Rattle.router_core.specs.Moments.{Moment, Gives}
 use Rattle.router_core.specs.Stands.{Stands}
-use Rattle.router_core.specs.Turns.{Turns}
+use Rattle.router_core.specs.Turns.{Turns, IsRouteTurn}
 use Rattle.router_core.specs.Blocks.{RunsFirst}
 use Rattle.router_core.specs.Works.{HasDrained, HasProtocolRoom}
 use Rattle.router_core.proofs.TableLemmas.{is_full, few_left, short_filter, stage_of, no_table}
 use Rattle.router_core.proofs.ChainLemmas.{same_by}
-use Rattle.router_core.proofs.TreeParts.{put_here}
+use Rattle.router_core.proofs.TreeParts.{put_here, welded_put}
 use Rattle.router_core.proofs.KeepLemmas.{keeps_none, gives_none}
-use Rattle.router_core.proofs.RouteTasks.{swept_then}
 
 -- the stages of a protocol after turns of one of them: fewer, where that one has gone
 record Shorter (proto : Proto) (n : ℕ) (m m' : Moment) : Type 0 where
   short : length (branch_of proto m'.tree).deletions ≤ length (branch_of proto m.tree).deletions
   gone : (t : FinMap prefix_cmp Interior) → table_of n (branch_of proto m.tree).deletions ≡ Some t → table_of n (branch_of proto m'.tree).deletions ≡ None
       → length (branch_of proto m'.tree).deletions < length (branch_of proto m.tree).deletions
+
+-- what a turn of the stage of a loss leaves of the branch
+swept_then : (m m' : Moment) (proto : Proto) (n : ℕ) (said : List Line) (turn : IsRouteTurn proto n m said m') → m'.tree ≡ put_branch proto (welded_branch (swept_branch n turn.prefix (branch_of proto m.tree))) m.tree
+swept_then m m' proto n said turn = turn.falls.after.tree_is ∙ welded_put proto (swept_branch n turn.prefix (branch_of proto m.tree)) m.tree
 
 turns_shorter : (turns : ℕ) (proto : Proto) (n : ℕ) (m : Moment) (said : List Line) (m' : Moment) → Turns turns (Rdel proto n) m said m' → Shorter proto n m m'
 turns_shorter zero proto n m said m' t = subst (Shorter proto n m) (sym t.1) (record {
@@ -93,11 +96,11 @@ protocol_room_drained proto m room task turns before now stands over g = (
   g.1,
   record {
     runs = subst (λ (o : Option Task). RunsFirst o m g.0 room) over (turns, (g.2.run.taken, g.2.ended));
-    work = g.2.run.work;
+    keeps = g.2.run.work.keeps;
     free = drained_free proto m room task turns g.0 stands (sym over) g.2;
   },
 )
 
 pub protocol_room_there : (proto : Proto) (m : Moment) (before now : Journaled) → Stands m → None ≡ tree_overdue proto m.tree → now ≡ flushed before → Gives (HasProtocolRoom proto m m) before now
 protocol_room_there proto m before now stands over is =
-    gives_none (HasProtocolRoom proto m m) before now (record { runs = subst (λ (o : Option Task). RunsFirst o m [] m) over (refl, refl); work = keeps_none m stands; free = sym over }) is
+    gives_none (HasProtocolRoom proto m m) before now (record { runs = subst (λ (o : Option Task). RunsFirst o m [] m) over (refl, refl); keeps = keeps_none m stands; free = sym over }) is

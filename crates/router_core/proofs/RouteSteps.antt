@@ -21,7 +21,7 @@ use Rattle.router_core.specs.Lives.{LiveState, Interiors, live_state, with_inter
 use Rattle.router_core.specs.Stands.{Stands}
 use Rattle.router_core.specs.Blocks.{DropsRouteIf}
 use Rattle.router_core.specs.Works.{HasRouted, HasStepped, Pushes}
-use Rattle.router_core.proofs.KeepLemmas.{gives_pushed, steps_said}
+use Rattle.router_core.proofs.KeepLemmas.{gives_pushed, steps_pushed}
 use Rattle.journal_text.specs.declared.line.Line.{Line}
 
 -- ---- `local` was declared
@@ -95,9 +95,6 @@ live_as_it_was l proto routes same i = record l { interior = λ other. sym (inte
 
 pub nothing_dropped : (proto : Proto) (p : Network) (m : Moment) (before j now : Journaled) → Stands m → is_some (tables.get (branch_of proto m.tree).live p) ≡ false → j ≡ with_lines before (lines.Ignored ∷ []) → now ≡ flushed j
     → Gives (HasStepped m (RouteDel proto p) 0 m) before now
-nothing_dropped proto p m before j now stands has pushed is = gives_pushed Ignores (HasStepped m (RouteDel proto p) 0 m) (λ xs ignores. subst (HasStepped m (RouteDel proto p) 0 m) (sym ignores) (steps_said m (RouteDel proto p) 0 (lines.Ignored ∷ []) stands
+nothing_dropped proto p m before j now stands has pushed is = steps_pushed m (RouteDel proto p) (lines.Ignored ∷ []) before j now stands
     (subst (λ (b : Bool). DropsRouteIf b proto p m (lines.Ignored ∷ []) 0 m) (sym has) (refl, refl, refl))
-    (live_as_it_was (live_state m) proto (tables.remove (branch_of proto m.tree).live p) (remove_absent (branch_of proto m.tree).live p (none_there (tables.get (branch_of proto m.tree).live p) has))) refl)) before j now (lines.Ignored ∷ [], pushed, refl) is
-  where
-    Ignores : List Line → Type 0
-    Ignores said = said ≡ lines.Ignored ∷ []
+    (live_as_it_was (live_state m) proto (tables.remove (branch_of proto m.tree).live p) (remove_absent (branch_of proto m.tree).live p (none_there (tables.get (branch_of proto m.tree).live p) has))) refl pushed is

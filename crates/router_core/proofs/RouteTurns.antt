@@ -30,6 +30,8 @@ use Rattle.router_core.specs.Works.{Settles, Turned, IsUnit, Comes, Pushes}
 use Rattle.router_core.proofs.TableLemmas.{few_map}
 use Rattle.router_core.proofs.RibLinks.{replanted}
 use Rattle.router_core.proofs.RouteLemmas.{Routes, routes_on, live_stays}
+use Rattle.router_core.specs.Phases.{frame_of}
+use Rattle.router_core.proofs.CountLemmas.{tree_spends}
 
 -- ---- before `local` no stage stands
 no_table : (proto : Proto) (n : ℕ) → table_of n (branch_of proto new_tree).deletions ≡ None
@@ -56,11 +58,9 @@ route_unit take keep m proto n sent t m' before j j' stands adds settles = (
   record {
     turn = record { prefix = sweeps.prefix; row = sweeps.row; table = sweeps.table; stands = sweeps.stands; least = sweeps.least; falls = r.2.falls };
     work = record {
-      leads = r.2.leads;
-      live = ap live_state r.2.is ∙ live_stays m proto (welded_branch b) m'.registry refl refl;
-      stands = r.2.stands;
+      keeps = record { leads = r.2.leads; live = lives; stands = r.2.stands };
+      spends = tree_spends (frame_of (live_state m)) m m' r.2.falls.after.chains lives fewer;
     };
-    nearer = fewer;
   },
 )
   where
@@ -84,6 +84,9 @@ route_unit take keep m proto n sent t m' before j j' stands adds settles = (
 
     r : Pushes (Routes m proto b p (way_of_sweep proto n m.tree) m') before j'
     r = routes_on m me.0 proto b p (way_of_sweep proto n m.tree) sent t m' before j j' stands me.1 sweeps.after few sweeps.rows (entries, adds.1, sweeps.fall) settles
+
+    lives : live_state m' ≡ live_state m
+    lives = ap live_state r.2.is ∙ live_stays m proto (welded_branch b) m'.registry refl refl
 
     fewer : tree_count m'.tree + 1 ≡ tree_count m.tree
     fewer =

@@ -27,13 +27,15 @@ use Rattle.rib_tree.specs.Branches.{org_rows}
 use Rattle.loss_chain.specs.Tables.{rows_below as interiors_below, rows_above as interiors_above}
 use Rattle.rib_tree.specs.Trees.{branch_of, low_rows, dyn_rows, int_rows, interior_distance}
 use Rattle.rib_tree.specs.Forwards.{forwarded}
+use Rattle.router_core.specs.declared.router.Phase.TheVariants as phases
 use Rattle.router_core.specs.Moments.{Moment, chain_at, links_by, peer_links, rib_by, router_links}
 use Rattle.router_core.specs.Lives.{Routes, Interiors, live_state, routes_of, rules_of}
-use Rattle.router_core.specs.Stands.{StandsAt, Stands, ChainIsSettled, IsSettled}
+use Rattle.router_core.specs.Stands.{StandsAt, Stands}
 use Rattle.router_core.specs.Scratch.{live_rows, judged_rows, best_of, least_rows, since_local, from_scratch, IsExact}
 use Rattle.router_core.proofs.ChainLemmas.{same_by, number_at, all_at}
 use Rattle.router_core.proofs.LinkLemmas.{none_by}
 use Rattle.router_core.proofs.StandLemmas.{speaker_at}
+use Rattle.router_core.specs.Turns.{IsSettled}
 
 -- no peer, nothing to judge
 unjudged : (s : Option Speaker) (rules : List Rule) (routes : Routes) → judged_rows s None rules routes ≡ None
@@ -41,18 +43,21 @@ unjudged None rules routes = refl
 unjudged (Some me) rules routes = refl
 
 -- no walk, one function
-rows_settled : (c : Chained) → ChainIsSettled c → filt_rows c ≡ filtered_rows c.me c.peer (present c.filter) (tables.get c.incoming.live)
-rows_settled c settled =
-    ap (λ (w : Option (Walked (List Rule))). passed_rows c.me c.peer (record { in_force = c.filter.in_force; walk = w }) (in_rows c.incoming)) settled.walk
-    ∙ ap (λ (ds : List (Lost Attrs)). filtered_rows c.me c.peer c.filter.in_force (rows_below c.incoming.live ds)) settled.deletions
-    ∙ ap (λ (w : Option (Walked (List Rule))). filtered_rows c.me c.peer (present_of c.filter.in_force w) (tables.get c.incoming.live)) (sym settled.walk)
+rows_settled : (c : Chained) → c.incoming.deletions ≡ [] → c.filter.walk ≡ None → filt_rows c ≡ filtered_rows c.me c.peer (present c.filter) (tables.get c.incoming.live)
+rows_settled c stages walk =
+    ap (λ (w : Option (Walked (List Rule))). passed_rows c.me c.peer (record { in_force = c.filter.in_force; walk = w }) (in_rows c.incoming)) walk
+    ∙ ap (λ (ds : List (Lost Attrs)). filtered_rows c.me c.peer c.filter.in_force (rows_below c.incoming.live ds)) stages
+    ∙ ap (λ (w : Option (Walked (List Rule))). filtered_rows c.me c.peer (present_of c.filter.in_force w) (tables.get c.incoming.live)) (sym walk)
 
 module _ (m : Moment) (stands : Stands m) (settled : IsSettled m) where
   here : (k : ℕ) (c : Chained) → chain_at k m.chains ≡ Some c → nat_eq k c.incoming.number ≡ true
   here k c at = same_by k c.incoming.number (sym (number_at k m.chains c at))
 
-  rests : (k : ℕ) (c : Chained) → chain_at k m.chains ≡ Some c → ChainIsSettled c
-  rests k c at = all_at ChainIsSettled k m.chains c settled.chains at
+  no_stage : (k : ℕ) (c : Chained) → chain_at k m.chains ≡ Some c → c.incoming.deletions ≡ []
+  no_stage k c at = all_at (λ d. d.incoming.deletions ≡ []) k m.chains c (settled phases.Del) at
+
+  no_walk : (k : ℕ) (c : Chained) → chain_at k m.chains ≡ Some c → c.filter.walk ≡ None
+  no_walk k c at = all_at (λ d. d.filter.walk ≡ None) k m.chains c (settled phases.Fin) at
 
   in_exact : (k : ℕ) (p : Option DeclaredPeer) (c : Option Chained) → chain_at k m.chains ≡ c → StandsAt p c → links_by c (In k) ≡ option_map attrs_rows (live_rows p (routes_of c))
   in_exact k None None at there = refl
@@ -60,13 +65,13 @@ module _ (m : Moment) (stands : Stands m) (settled : IsSettled m) where
   in_exact k (Some p) None at there = absurd there
   in_exact k (Some p) (Some c) at there =
       ap (λ (b : Bool). cond b (Some (attrs_rows (in_rows c.incoming))) None) (here k c at)
-      ∙ ap (λ (ds : List (Lost Attrs)). Some (attrs_rows (rows_below c.incoming.live ds))) (rests k c at).deletions
+      ∙ ap (λ (ds : List (Lost Attrs)). Some (attrs_rows (rows_below c.incoming.live ds))) (no_stage k c at)
 
   peer_exact : (k s : ℕ) (c : Option Chained) → chain_at k m.chains ≡ c → links_by c (Peer k s) ≡ None
   peer_exact k s None at = refl
   peer_exact k s (Some c) at =
       ap (λ (b : Bool). cond b (option_map attrs_rows (rows_above c.incoming.live s c.incoming.deletions)) None) (here k c at)
-      ∙ ap (λ (ds : List (Lost Attrs)). option_map attrs_rows (rows_above c.incoming.live s ds)) (rests k c at).deletions
+      ∙ ap (λ (ds : List (Lost Attrs)). option_map attrs_rows (rows_above c.incoming.live s ds)) (no_stage k c at)
 
   filt_exact : (k : ℕ) (p : Option DeclaredPeer) (c : Option Chained) → chain_at k m.chains ≡ c → StandsAt p c
       → links_by c (Filt k) ≡ option_map route_rows (judged_rows m.declared.speaker p (rules_of c) (routes_of c))
@@ -75,7 +80,7 @@ module _ (m : Moment) (stands : Stands m) (settled : IsSettled m) where
   filt_exact k (Some p) None at there = absurd there
   filt_exact k (Some p) (Some c) at there =
       ap (λ (b : Bool). cond b (Some (route_rows (filt_rows c))) None) (here k c at)
-      ∙ ap (λ rows. Some (route_rows rows)) (rows_settled c (rests k c at))
+      ∙ ap (λ rows. Some (route_rows rows)) (rows_settled c (no_stage k c at) (no_walk k c at))
       ∙ ap (λ (w : Neighbour). Some (route_rows (filtered_rows c.me w (present c.filter) (tables.get c.incoming.live)))) there.words
       ∙ ap (λ (s : Option Speaker). option_map route_rows (judged_rows s (Some p) (present c.filter) c.incoming.live)) (sym (speaker_at m stands k c at))
 
@@ -84,7 +89,7 @@ module _ (m : Moment) (stands : Stands m) (settled : IsSettled m) where
   routes_in proto = (branch_of proto m.tree).live
 
   org_is : (proto : Proto) → org_rows (branch_of proto m.tree) ≡ tables.get (routes_in proto)
-  org_is proto = ap (interiors_below (routes_in proto)) (settled.tree proto)
+  org_is proto = ap (interiors_below (routes_in proto)) (settled phases.Rdel proto)
 
   low_is : low_rows m.tree ≡ best_of (routes_in Connected) (routes_in Static)
   low_is i = merged interior_distance (org_is Connected i) (org_is Static i)
@@ -101,7 +106,7 @@ module _ (m : Moment) (stands : Stands m) (settled : IsSettled m) where
 
   lost_exact : (proto : Proto) (n : ℕ) (s : Option Speaker) → rib_by s m.tree (LostOf proto n) ≡ None
   lost_exact proto n None = refl
-  lost_exact proto n (Some me) = ap (λ (ds : List (Lost Interior)). option_map interior_rows (interiors_above (routes_in proto) n ds)) (settled.tree proto)
+  lost_exact proto n (Some me) = ap (λ (ds : List (Lost Interior)). option_map interior_rows (interiors_above (routes_in proto) n ds)) (settled phases.Rdel proto)
 
   low_exact : (s : Option Speaker) → rib_by s m.tree Low ≡ option_map interior_rows (since_local s (best_of (routes_in Connected) (routes_in Static)))
   low_exact None = refl

@@ -8,6 +8,7 @@ use Rattle.bgp_wire.specs.Grammar.{IsFrame, Reads, OneAnswer}
 use Rattle.event_text.specs.declared.event.Event.TheVariants.{Nothing, Local, Peer, Up, Down, Bgp, FilterIn, RouteAdd, RouteDel, Lose, Cover, Idle, Work, Ask, Show}
 use Rattle.event_text.specs.declared.declared.DeclaredPeer.{DeclaredPeer}
 use Rattle.event_text.specs.Declarations.{peer_at, with_session, without_session}
+use Rattle.link_change.specs.Rows.{is_empty_map}
 use Rattle.router_core.specs.Lives.{with_losses, LiveState, HearsIfUp, HearsFrom, plain, heard, is_ending, ends_session, ended, begun_if_down, ended_if_up, declared_up, declared_down, declared_heard, LiveAfter}
 use Rattle.router_core.specs.Laws.{SessionsEnd, DeclarationsFollow}
 use Rattle.rib_route.specs.declared.Proto.TheVariants.{Connected, Ospf, Rip, Static}
@@ -154,7 +155,7 @@ losses_follow l (Bgp k octets) l' after = session_losses l l' (from_losses l l' 
 losses_follow l (FilterIn k rules) l' after = session_losses l l' (ap (λ s. s.losses) after)
 losses_follow l (RouteAdd p row) l' after = session_losses l l' (ap (λ s. s.losses) after)
 losses_follow l (RouteDel proto p) l' after = session_losses l l' (ap (λ s. s.losses) after)
-losses_follow l (Lose lost) l' after proto =
+losses_follow l (Lose lost) l' after = λ proto.
     let is : l'.losses proto ≡ with_losses l.losses lost (cond (is_empty_map (l.interior lost)) (l.losses lost) (l.losses lost + 1)) proto = ap (λ s. s.losses proto) after in
     let one = one_loss (same_proto proto lost) (is_empty_map (l.interior lost)) (l.losses proto) (l.losses lost) (same_protocol l.losses proto lost) in
     omega (arith, is, one)

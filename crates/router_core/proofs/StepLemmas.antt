@@ -9,17 +9,23 @@ use Rattle.journal_text.specs.declared.link.Task.{Task}
 use Rattle.journal_text.specs.declared.line.Line.{Line}
 use Rattle.journal_text.specs.declared.line.Line.TheVariants as lines
 use Rattle.journal_text.specs.Journals.{Journaled, with_lines, flushed}
-use Rattle.event_text.specs.declared.event.Event.TheVariants.{Down, Bgp, Idle, Work}
+use Rattle.event_text.specs.declared.event.Event.TheVariants.{Down, Bgp, Cover, Idle, Work}
 use Rattle.event_text.specs.declared.event.Event.{Event}
 use Rattle.event_text.specs.declared.declared.DeclaredPeer.{DeclaredPeer}
 use Rattle.event_text.specs.Declarations.{Declaration, peer_at, refusal, refusal_at, undeclared}
+use Rattle.std.specs.FinMap as tables
+use Rattle.addr4.specs.Prefixes.{Network}
+use Rattle.link_change.specs.Rows.{Rows}
+use Rattle.rib_route.specs.declared.rows.Interior.{Interior}
+use Rattle.prefix_trie.specs.Width.{width}
+use Rattle.register_interest.specs.Covers.{matched, IsCover}
 use Rattle.router_core.specs.Moments.{Moment, bound_of, Gives}
 use Rattle.router_core.specs.declared.router.Idle.{Idle as Answer}
 use Rattle.router_core.specs.Lives.{LiveState, live_state, heard, ended, ended_if_up, Says, HearsIfUp, HearsFrom}
 use Rattle.router_core.specs.Stands.{Stands}
 use Rattle.router_core.specs.Blocks.{EndsIf, Hears, HearsIf, ByPeer}
 use Rattle.router_core.specs.Works.{Pushes, Keeps, AreTurns, AllHaveDrained, HasLost, HasHeard, HasIdled, HasStepped}
-use Rattle.router_core.proofs.KeepLemmas.{keeps_none, keeps_said, keeps_join, keeps_on, gives_push, push_gives, gives_none, gives_so, gives_pushed}
+use Rattle.router_core.proofs.KeepLemmas.{keeps_none, keeps_said, keeps_join, keeps_on, gives_push, push_gives, gives_none, gives_so, gives_pushed, steps_pushed}
 
 -- ---- a declared peer
 there_by : (o : Option DeclaredPeer) → undeclared o ≡ None → (p : DeclaredPeer) × (o ≡ Some p)
@@ -62,15 +68,15 @@ idled m m' bound turns before j j2 j3 now stands same first g last is =
     both xs ys p q = subst (λ (l : List Line). HasIdled m (record { bound = bound; turns = turns }) m' l) (sym (ap (λ (l : List Line). l ++ ys) p.1 ∙ ap (λ (l : List Line). lines.Bound bound ∷ (p.0 ++ l)) q)) (record {
       idles = record {
         inner = p.0;
-        drains = p.2.drains;
+        runs = p.2.runs;
         lines = ap (λ (b : ℕ). lines.Bound b ∷ (p.0 ++ lines.Idle turns ∷ [])) same;
         within = p.2.most;
         settled = p.2.settled;
         exact = p.2.exact;
       };
       bound = same;
-      work = keeps_on m m m' (lines.Bound bound ∷ []) (p.0 ++ lines.Idle turns ∷ []) (live_state m) (keeps_said m (lines.Bound bound ∷ []) stands refl)
-          (keeps_on m m' m' p.0 (lines.Idle turns ∷ []) (live_state m) p.2.work (keeps_said m' (lines.Idle turns ∷ []) p.2.work.stands refl));
+      keeps = keeps_on m m m' (lines.Bound bound ∷ []) (p.0 ++ lines.Idle turns ∷ []) (live_state m) (keeps_said m (lines.Bound bound ∷ []) stands refl)
+          (keeps_on m m' m' p.0 (lines.Idle turns ∷ []) (live_state m) p.2.keeps (keeps_said m' (lines.Idle turns ∷ []) p.2.keeps.stands refl));
     })
 
 pub worked : (m m' : Moment) (task : Task) (most turns : ℕ) (before j j2 now : Journaled) → Gives (AreTurns task most m turns m') before j → j2 ≡ with_lines j (lines.Work turns ∷ []) → now ≡ flushed j2
@@ -86,8 +92,15 @@ worked m m' task most turns before j j2 now g last is =
       block = record { inner = xs; taken = p.run.taken; most = p.most; ended = p.ended; lines = refl };
       live = live_state m;
       after = refl;
-      keeps = keeps_on m m' m' xs (lines.Work turns ∷ []) (live_state m) p.run.work (keeps_said m' (lines.Work turns ∷ []) p.run.work.stands refl);
+      keeps = keeps_on m m' m' xs (lines.Work turns ∷ []) (live_state m) p.run.work.keeps (keeps_said m' (lines.Work turns ∷ []) p.run.work.keeps.stands refl);
     })
+
+-- ---- `cover`
+pub covered : (m : Moment) (addr : ℕ) (found : Option (Network × Interior)) (subnet : Network) (prefix : Option Network) (before j now : Journaled) → Stands m → IsCover width (tables.get m.registry.rows) addr found subnet
+    → prefix ≡ matched found → j ≡ with_lines before (lines.Cover addr prefix subnet ∷ []) → now ≡ flushed j → Gives (HasStepped m (Cover addr) 0 m) before now
+covered m addr found subnet prefix before j now stands cover is pushed flush = steps_pushed m (Cover addr) (lines.Cover addr (matched found) subnet ∷ []) before j now stands
+    (refl, refl, record { found = found; subnet = subnet; cover = subst (λ (rows : Rows Interior). IsCover width rows addr found subnet) stands.registered cover; line = refl }) refl refl
+    (pushed ∙ ap (λ (p : Option Network). with_lines before (lines.Cover addr p subnet ∷ [])) is) flush
 
 -- ---- what a message does
 -- a message that says nothing of routes or of the session
@@ -139,13 +152,30 @@ heard_up k p m m' octets message before now at up says g = gives_so (HasHeard k 
   keeps = h.keeps;
 }) before now g
 
+-- of a peer that is down nothing comes
+pub down_ignored : (k : ℕ) (p : DeclaredPeer) (m : Moment) (before j now : Journaled) → Stands m → peer_at k m.declared.peers ≡ Some p → p.up ≡ false → j ≡ with_lines before (lines.Ignored ∷ []) → now ≡ flushed j
+    → Gives (HasStepped m (Down k) 0 m) before now
+down_ignored k p m before j now stands at down pushed is = steps_pushed m (Down k) (lines.Ignored ∷ []) before j now stands
+    (subst (λ (o : Option DeclaredPeer). ByPeer (λ q. EndsIf q.up m k q (lines.Ignored ∷ []) 0 m) o) (sym at) (subst (λ (u : Bool). EndsIf u m k p (lines.Ignored ∷ []) 0 m) (sym down) (refl, refl, refl)))
+    (sym (ap (ended_if_up (live_state m) k) at ∙ ap (λ (u : Bool). cond u (ended (live_state m) k) (live_state m)) down)) refl pushed is
+
+pub bgp_ignored : (k : ℕ) (octets : List ℕ) (p : DeclaredPeer) (m : Moment) (before j now : Journaled) → Stands m → peer_at k m.declared.peers ≡ Some p → p.up ≡ false → j ≡ with_lines before (lines.Ignored ∷ []) → now ≡ flushed j
+    → Gives (HasStepped m (Bgp k octets) 0 m) before now
+bgp_ignored k octets p m before j now stands at down pushed is = steps_pushed m (Bgp k octets) (lines.Ignored ∷ []) before j now stands
+    (subst (λ (o : Option DeclaredPeer). ByPeer (λ q. HearsIf q.up m k q octets (lines.Ignored ∷ []) 0 m) o) (sym at) (subst (λ (u : Bool). HearsIf u m k p octets (lines.Ignored ∷ []) 0 m) (sym down) (refl, refl, refl)))
+    (subst (λ (o : Option DeclaredPeer). HearsFrom (live_state m) k o octets (live_state m)) (sym at) (subst (λ (u : Bool). HearsIfUp (live_state m) k p octets u (live_state m)) (sym down) refl)) refl pushed is
+
 -- ---- every task
 pub idle_stepped : (m m' : Moment) (idle : Answer) (before now : Journaled) → Gives (HasIdled m idle m') before now → Gives (HasStepped m Idle idle.turns m') before now
-idle_stepped m m' idle before now g = gives_so (HasIdled m idle m') (HasStepped m Idle idle.turns m') (λ xs h. record { block = h.idles; live = live_state m; after = refl; keeps = h.work }) before now g
+idle_stepped m m' idle before now g = gives_so (HasIdled m idle m') (HasStepped m Idle idle.turns m') (λ xs h. record { block = h.idles; live = live_state m; after = refl; keeps = h.keeps }) before now g
 
 -- ---- an event whose lines were pushed
 pub stepped : (m m' : Moment) (event : Event) (before j now : Journaled) → Pushes (HasStepped m event 0 m') before j → now ≡ flushed j → Gives (HasStepped m event 0 m') before now
 stepped m m' event before j now p is = gives_pushed (HasStepped m event 0 m') (HasStepped m event 0 m') (λ xs h. h) before j now p is
+
+pub is_down_by : (up : Bool) → not up ≡ true → up ≡ false
+is_down_by true e = absurd (cc)
+is_down_by false e = refl
 
 pub is_up_by : (up : Bool) → not up ≡ false → up ≡ true
 is_up_by true e = refl

@@ -100,6 +100,19 @@ module _ {R : Type 0} where
           let k : length (filter is_full (map (swept_one n p) (d ∷ ds))) ≡ length rest_of = ap length (list_is false f) in
           omega (arith, k, r)
 
+  more_tables : (d : Lost R) (ds xs : List (Lost R)) → AllByRecursion (λ x. is_some (table_of x.number ds) ≡ true) xs → AllByRecursion (λ x. is_some (table_of x.number (d ∷ ds)) ≡ true) xs
+  more_tables d ds [] all = tt
+  more_tables d ds (x ∷ xs) all = (by_test (nat_eq d.number x.number), more_tables d ds xs all.1)
+    where
+      by_test : (b : Bool) → is_some (cond b (Some d.rows) (table_of x.number ds)) ≡ true
+      by_test true = refl
+      by_test false = all.0
+
+  -- each table is found by its number
+  pub all_tables : (ds : List (Lost R)) → AllByRecursion (λ x. is_some (table_of x.number ds) ≡ true) ds
+  all_tables [] = tt
+  all_tables (d ∷ ds) = (ap (λ (o : Option (FinMap prefix_cmp R)). is_some o) (table_here d.number d ds refl), more_tables d ds ds (all_tables ds))
+
   -- the task of the stage that stands longest is that of the lowest
   pub stage_of : (b : Bool) (o : Owner) (ds : List (Lost R)) (task : Task) → cond b None (oldest_of o ds) ≡ Some task → (d : Lost R) × (rest : List (Lost R)) × (ds ≡ d ∷ rest) × (task ≡ loss_task o d.number)
   stage_of true o ds task e = absurd (cc)

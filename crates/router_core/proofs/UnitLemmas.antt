@@ -20,16 +20,18 @@ use Rattle.in_chain.specs.Chains.{Chained, IsChain, row_count, turns_left}
 use Rattle.loss_chain.specs.Steps.{swept_one}
 use Rattle.in_chain.specs.Steps.{swept, welded, Turned, Rewalks}
 use Rattle.router_core.specs.declared.router.Done.TheVariants.{Taken}
-use Rattle.router_core.specs.Moments.{Moment, chain_at, with_chain, rows_in, left_in}
-use Rattle.router_core.specs.Stands.{IsEarlier, IsSilent, AreInOrder, PeerStands, Stands}
+use Rattle.router_core.specs.Moments.{Moment, chain_at, with_chain}
+use Rattle.router_core.specs.Stands.{IsEarlier, IsSilent, PeerStands, Stands}
 use Rattle.router_core.specs.Turns.{peer_of, IsPeerTurn, IsTurn}
-use Rattle.router_core.specs.Works.{NearsChain, Nears, TakesChain, IsUnit, Comes, TurnsAt}
+use Rattle.router_core.specs.Works.{NearsChain, TakesChain, IsUnit, Comes, TurnsAt}
 use Rattle.router_core.proofs.TableLemmas.{is_full, swept_number}
 use Rattle.router_core.proofs.ChainLemmas.{number_at}
 use Rattle.router_core.proofs.LinkLemmas.{leads_router}
-use Rattle.router_core.proofs.RowCounts.{rows_are_sum, turns_are_sum, sum_put}
+use Rattle.router_core.proofs.CountLemmas.{chain_spends}
 use Rattle.router_core.proofs.StandLemmas.{remade, peer_of as peer_at_chain, peer_left, stands_with, live_same}
 use Rattle.router_core.proofs.WorkLemmas.{walk_stays}
+use Rattle.router_core.specs.Phases.{frame_of}
+use Rattle.router_core.specs.Lives.{live_state}
 
 silent_as : (up : Bool) (c c' : Chained) → c'.incoming.live ≡ c.incoming.live → IsSilent up c → IsSilent up c'
 silent_as true c c' same silent = tt
@@ -93,15 +95,6 @@ turn_leaves (Fin k) c less c' sent entries t full after = walk_leaves c less c' 
 turn_leaves (Rdel proto n) c less c' sent entries t full after = absurd t
 
 -- ---- a turn of the router
-nears_by : (task : Task) (k : ℕ) (m : Moment) (c c' : Chained) → AreInOrder m.chains → chain_at k m.chains ≡ Some c → c'.incoming.number ≡ k → NearsChain task c c' → Nears task 1 m (with_chain m c')
-nears_by (Del n s) k m c c' order at number nearer = let rows = sum_put row_count rows_in rows_are_sum k m.chains c c' order at number in omega (arith, rows, nearer)
-nears_by (Fin n) k m c c' order at number nearer =
-    let rows = sum_put row_count rows_in rows_are_sum k m.chains c c' order at number in
-    let left = sum_put turns_left left_in turns_are_sum k m.chains c c' order at number in
-    let fewer = nearer.1 in
-    ((let same = nearer.0 in omega (arith, rows, same)), omega (arith, left, fewer))
-nears_by (Rdel proto n) k m c c' order at number nearer = absurd nearer
-
 -- a task that nears its end in a chain is one of a peer
 turn_of_peer : (task : Task) (m m' : Moment) (c c' : Chained) (said : List Line) → NearsChain task c c' → IsPeerTurn task m said m' → IsTurn task m said m'
 turn_of_peer (Del k s) m m' c c' said nearer turn = turn
@@ -120,11 +113,13 @@ unit_done task m c c' said stands at t =
     record {
       turn = turn_of_peer task m (with_chain m c') c c' said t.nearer turn;
       work = record {
-        leads = leads_router m k c at c' number (entries_of said) t.step.leads;
-        live = live_same m k c c' at number leaves.live leaves.rules;
-        stands = stands_with m k c c' p.0 stands at number t.step.words.0 p.1 (leaves.stands p.0 t.step.words.1 t.step.chain t.step.full p.2);
+        keeps = record {
+          leads = leads_router m k c at c' number (entries_of said) t.step.leads;
+          live = live_same m k c c' at number leaves.live leaves.rules;
+          stands = stands_with m k c c' p.0 stands at number t.step.words.0 p.1 (leaves.stands p.0 t.step.words.1 t.step.chain t.step.full p.2);
+        };
+        spends = chain_spends (frame_of (live_state m)) task k m c c' stands.order at number t.nearer;
       };
-      nearer = nears_by task k m c c' stands.order at number t.nearer;
     }
 
 pub comes_taken : (task : Task) (m : Moment) (cs : List Chained) (before j now : Journaled) → Stands m → TurnsAt task m.chains cs before j Taken → now ≡ flushed j

@@ -17,7 +17,7 @@ use Rattle.journal_text.specs.Walk.{Leads}
 use Rattle.journal_text.proofs.JournalLemmas.{with_entries_append, entries_of_entries}
 use Rattle.journal_text.proofs.WalkLemmas.{leads_append}
 use Rattle.loss_chain.specs.declared.owner.Owner.TheVariants as owners
-use Rattle.loss_chain.specs.Tables.{NoneEmpty}
+use Rattle.loss_chain.specs.Tables.{NoneEmpty, lost_count}
 use Rattle.in_chain.specs.Chains.{Chained, filt_rows, beside, IsChain, row_count, turns_left}
 use Rattle.in_chain.specs.Falls.{Falls, LeadsChain, way_of_feed}
 use Rattle.loss_chain.specs.Steps.{weld_entries}
@@ -25,7 +25,7 @@ use Rattle.in_chain.specs.Steps.{fed, welded, swept, Turned, Rewalks, IsTaken}
 use Rattle.router_core.specs.declared.router.Done.TheVariants.{Nothing, Taken}
 use Rattle.router_core.specs.Turns.{journal_lines}
 use Rattle.router_core.specs.Works.{Pushes, StepsChain, FeedsChain, NearsChain, TakesChain, TurnsChain, is_nothing}
-use Rattle.router_core.proofs.RowCounts.{swept_rows, weld_stays}
+use Rattle.router_core.proofs.CountLemmas.{swept_turns, swept_rows, weld_stays}
 
 -- what a weld leaves
 pub record Welds (less c' : Chained) (j now : Journaled) : Type 0 where
@@ -105,12 +105,12 @@ walk_stays c less sent entries t full = weld_stays less (subst (λ (x : Chained)
 turn_nears : (task : Task) (c less c' : Chained) (sent : Option (Change Route)) (entries : List (Entry Value)) → IsChain c → NoneEmpty c.incoming.deletions → Turned c less task sent entries → c' ≡ welded less
     → NearsChain task c c'
 turn_nears (Del k s) c less c' sent entries chain full t after =
-    let is : row_count c' ≡ row_count (welded (swept s t.1.prefix c)) = ap row_count (after ∙ ap welded t.1.after) in
     let fewer = swept_rows s c t.1.prefix t.1.row t.1.table chain t.1.stands t.1.least.0 in
-    omega (arith, is, fewer)
+    let turns = swept_turns s c t.1.prefix (omega (arith, fewer)) in
+    subst (NearsChain (Del k s) c) (sym (after ∙ ap welded t.1.after)) (fewer, turns)
 turn_nears (Fin k) c less c' sent entries chain full t after =
     let is : c' ≡ less = after ∙ walk_stays c less sent entries t.1 full in
-    (ap row_count is ∙ ap row_count t.1.after, subst (λ (x : Chained). turns_left x < turns_left c) (sym is) t.1.fewer)
+    (ap (λ (x : Chained). lost_count x.incoming.deletions) (is ∙ t.1.after), subst (λ (x : Chained). turns_left x < turns_left c) (sym is) t.1.fewer)
 turn_nears (Rdel proto n) c less c' sent entries chain full t after = t
 
 takes_chain : (task : Task) (c less c' : Chained) (sent : Option (Change Route)) (before j now : Journaled) → IsChain c → NoneEmpty c.incoming.deletions → Adds (Turned c less task sent) before j

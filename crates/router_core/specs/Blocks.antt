@@ -36,9 +36,9 @@ use Rattle.in_chain.specs.IncomingSteps.{loss_entries, overdue_of}
 use Rattle.in_chain.specs.Steps.{new_chain, lost, refiltered}
 use Rattle.router_core.specs.Moments.{Moment, chain_at, insert_chain, with_chain, router_links, bound_of}
 use Rattle.router_core.specs.Lives.{LiveAfter, live_state, changes_of, Says}
-use Rattle.router_core.specs.Stands.{IsSettled}
+use Rattle.router_core.specs.Phases.{all_phases}
 use Rattle.router_core.specs.Scratch.{IsExact}
-use Rattle.router_core.specs.Turns.{journal_lines, FeedsAll, Replants, FallsRoute, Turns, Drains, DrainsAll, idle_tasks, has_work}
+use Rattle.router_core.specs.Turns.{journal_lines, FeedsAll, Replants, FallsRoute, Turns, Drains, RunsAll, IsSettled, has_work}
 
 -- exactly this is said, this is the moment after it, and no turn was taken
 abbrev pub Just : List Line → Moment → List Line → ℕ → Moment → Type 0
@@ -172,7 +172,7 @@ pub record Works (task : Task) (n : ℕ) (m : Moment) (said : List Line) (turns 
 -- every task runs to its end, within the number of turns that is announced; then all links are what the live state alone asks for
 pub record Idles (m : Moment) (said : List Line) (turns : ℕ) (m' : Moment) : Type 0 where
   pub inner : List Line
-  pub drains : DrainsAll (idle_tasks m) m inner turns m'
+  pub runs : RunsAll all_phases m inner turns m'
   pub lines : said ≡ lines.Bound (bound_of m) ∷ (inner ++ lines.Idle turns ∷ [])
   pub within : turns ≤ bound_of m
   pub settled : IsSettled m'

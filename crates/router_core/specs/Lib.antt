@@ -1,5 +1,6 @@
 pub mod Moments
 pub mod Lives
+pub mod Phases
 pub mod Stands
 pub mod Scratch
 pub mod Turns

@@ -58,20 +58,6 @@ pub record Stands (m : Moment) : Type 0 where
   pub tree : TreeStands m.declared.speaker m.tree
   pub registered : tables.get m.registry.rows ≡ int_rows m.tree
 
--- no deletion stage stands in the chain, and no walk is on
-pub record ChainIsSettled (c : Chained) : Type 0 where
-  pub deletions : c.incoming.deletions ≡ []
-  pub walk : c.filter.walk ≡ None
-
--- no deletion stage stands in the tree
-abbrev pub TreeIsSettled : Treed → Type 0
-TreeIsSettled t = (proto : Proto) → (branch_of proto t).deletions ≡ []
-
--- No task has work.
-pub record IsSettled (m : Moment) : Type 0 where
-  pub tree : TreeIsSettled m.tree
-  pub chains : AllByRecursion ChainIsSettled m.chains
-
 -- What holds of a core between two calls, unless memory ran out: losses are counted by events.
 pub record CoreStands (c : Cored) : Type 0 where
   pub stands : Stands c.moment

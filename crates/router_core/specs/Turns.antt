@@ -1,5 +1,5 @@
 -- Turns of background work, and the falls of messages.
-use Rattle.std.specs.Prelude.{◌≡◌, ℕ, zero, suc, ◌+◌, ◌*◌, length, Bool, false, List, [], ◌∷◌, ◌++◌, map, Option, Some, None}
+use Rattle.std.specs.Prelude.{◌≡◌, ℕ, zero, suc, ◌+◌, ◌*◌, length, Bool, false, List, [], ◌∷◌, ◌++◌, map, Option, Some, None, if◌then◌else◌}
 use Rattle.std.specs.List.{flat_map, AllByRecursion}
 use Rattle.addr4.specs.Prefixes.{Network}
 use Rattle.bgp_attr.specs.declared.attrs.Attrs.{Attrs}
@@ -34,7 +34,6 @@ use Rattle.rib_tree.specs.Trees.{Treed, branch_of, int_rows, tree_count, tree_ta
 use Rattle.rib_tree.specs.Steps.{welded_tree, swept_tree, tree_weld_entries, has_tree_turn}
 use Rattle.rib_tree.specs.Falls.{FallsTree, way_of_sweep}
 use Rattle.rib_tree.specs.Forwards.{forwarded}
-use Rattle.router_core.specs.Stands.{TreeIsSettled}
 use Rattle.router_core.specs.Moments.{Moment, chain_at, with_chain, rows_in}
 
 abbrev pub journal_lines : List (Entry Value) → List Line
@@ -136,12 +135,12 @@ Turns (suc n) task m said m' =
 abbrev pub Drains : Task → Moment → List Line → ℕ → Moment → Type 0
 Drains task m said turns m' = Turns turns task m said m' × (has_work task m' ≡ false)
 
--- one task after the other, each to its end
-abbrev pub DrainsAll : List Task → Moment → List Line → ℕ → Moment → Type 0
-DrainsAll [] m said turns m' = (said ≡ []) × (turns ≡ 0) × (m' ≡ m)
-DrainsAll (task ∷ tasks) m said turns m' =
-    (first rest : List Line) × (a b : ℕ) × (between : Moment) × Drains task m first a between × DrainsAll tasks between rest b m'
-    × (said ≡ first ++ rest) × (turns ≡ a + b)
+-- ---- the tables: a line for each task, and for each phase
+
+abbrev pub phase_of : Task → Phase
+phase_of (tasks.Rdel proto n) = phases.Rdel
+phase_of (tasks.Del k s) = phases.Del
+phase_of (tasks.Fin k) = phases.Fin
 
 -- the deletion stages of a chain, the earliest session first
 abbrev pub chain_tasks : Chained → List Task
@@ -155,7 +154,7 @@ deletion_tasks m = flat_map chain_tasks m.chains
 abbrev pub filter_tasks : Moment → List Task
 filter_tasks m = map (λ c. tasks.Fin c.incoming.number) m.chains
 
--- the tasks of a phase of an idle
+-- the tasks of a phase of an idle, in their order
 abbrev pub phase_tasks : Phase → Moment → List Task
 phase_tasks phases.Rdel m = tree_tasks m.tree
 phase_tasks phases.Del m = deletion_tasks m
@@ -167,12 +166,43 @@ phase_bound phases.Rdel m = tree_count m.tree
 phase_bound phases.Del m = rows_in m.chains
 phase_bound phases.Fin m = 2 * (rows_in m.chains + length m.chains)
 
--- no task of a phase has work
+-- no stage of the phase stands, and no walk of it is on
 abbrev pub IsOver : Phase → Moment → Type 0
-IsOver phases.Rdel m = TreeIsSettled m.tree
+IsOver phases.Rdel m = (proto : Proto) → (branch_of proto m.tree).deletions ≡ []
 IsOver phases.Del m = AllByRecursion (λ c. c.incoming.deletions ≡ []) m.chains
 IsOver phases.Fin m = AllByRecursion (λ c. c.filter.walk ≡ None) m.chains
 
--- all tasks of an idle, in their order
-abbrev pub idle_tasks : Moment → List Task
-idle_tasks m = tree_tasks m.tree ++ (deletion_tasks m ++ filter_tasks m)
+-- ---- the same for any table
+
+-- the first of these tasks that has work
+abbrev pub first_at_work : List Task → Moment → Option Task
+first_at_work [] m = None
+first_at_work (task ∷ rest) m = if has_work task m then Some task else first_at_work rest m
+
+-- the first task of a phase that has work
+abbrev pub next_task : Phase → Moment → Option Task
+next_task phase m = first_at_work (phase_tasks phase m) m
+
+-- So many tasks of a phase one after the other, each to its end: always the first that has work.
+abbrev pub Runs : Phase → ℕ → Moment → List Line → ℕ → Moment → Type 0
+Runs phase zero m said turns m' = (said ≡ []) × (turns ≡ 0) × (m' ≡ m)
+Runs phase (suc n) m said turns m' =
+    (first last : List Line) × (a b : ℕ) × (between : Moment) × Runs phase n m first a between
+    × ((task : Task) × (next_task phase between ≡ Some task) × Drains task between last b m') × (said ≡ first ++ last) × (turns ≡ a + b)
+
+-- a phase to its end: until none of its tasks has work
+pub record RunsPhase (phase : Phase) (m : Moment) (said : List Line) (turns : ℕ) (m' : Moment) : Type 0 where
+  pub count : ℕ
+  pub runs : Runs phase count m said turns m'
+  pub none : next_task phase m' ≡ None
+
+-- one phase after the other, each to its end
+abbrev pub RunsAll : List Phase → Moment → List Line → ℕ → Moment → Type 0
+RunsAll [] m said turns m' = (said ≡ []) × (turns ≡ 0) × (m' ≡ m)
+RunsAll (phase ∷ later) m said turns m' =
+    (first rest : List Line) × (a b : ℕ) × (between : Moment) × RunsPhase phase m first a between × RunsAll later between rest b m'
+    × (said ≡ first ++ rest) × (turns ≡ a + b)
+
+-- no task has work
+abbrev pub IsSettled : Moment → Type 0
+IsSettled m = (phase : Phase) → IsOver phase m

@@ -1,5 +1,5 @@
 -- What the router's own calls make of chains and moments, with what they keep.
-use Rattle.std.specs.Prelude.{◌≡◌, ℕ, ◌+◌, ◌≤◌, ◌<◌, ◌⊎◌, length, slice_index_or, Bool, true, false, List, [], ◌∷◌, ◌++◌, Option, Some, None}
+use Rattle.std.specs.Prelude.{◌≡◌, ℕ, ◌+◌, ◌≤◌, ◌<◌, ◌⊎◌, length, slice_index_or, Bool, true, false, List, [], ◌∷◌, ◌++◌, Option, Some, None, is_some, if◌then◌else◌}
 use Rattle.std.specs.List.{AllByRecursion}
 use Rattle.addr4.specs.Prefixes.{Network, prefix_cmp}
 use Rattle.bgp_attr.specs.declared.attrs.Attrs.{Attrs}
@@ -18,8 +18,8 @@ use Rattle.journal_text.specs.Texts.{entries_of}
 use Rattle.journal_text.specs.Journals.{Journaled, with_lines, with_entries, flushed}
 use Rattle.event_text.specs.declared.declared.DeclaredPeer.{DeclaredPeer}
 use Rattle.event_text.specs.Declarations.{peer_at}
-use Rattle.loss_chain.specs.Tables.{NoneEmpty}
-use Rattle.in_chain.specs.Chains.{Chained, filt_rows, IsChain, row_count, turns_left}
+use Rattle.loss_chain.specs.Tables.{NoneEmpty, lost_count}
+use Rattle.in_chain.specs.Chains.{Chained, filt_rows, IsChain, turns_left}
 use Rattle.in_chain.specs.Falls.{Falls, LeadsChain, way_of_feed}
 use Rattle.in_chain.specs.IncomingSteps.{loss_entries, overdue_of}
 use Rattle.in_chain.specs.Steps.{fed, welded, lost, has_turn, Turned as TurnedChain}
@@ -27,20 +27,21 @@ use Rattle.router_core.specs.declared.router.Done.{Done}
 use Rattle.router_core.specs.declared.router.Done.TheVariants.{Nothing, Taken}
 use Rattle.rib_route.specs.declared.Proto.{Proto}
 use Rattle.rib_route.specs.declared.rows.Interior.{Interior}
-use Rattle.rib_tree.specs.Trees.{Treed, int_rows, tree_count, IsTree, IsFull}
+use Rattle.rib_tree.specs.Trees.{Treed, int_rows, IsTree, IsFull}
 use Rattle.rib_tree.specs.Falls.{LeadsTree}
 use Rattle.rib_tree.specs.Steps.{lost_tree, welded_tree, tree_overdue, tree_loss_entries, tree_weld_entries}
-use Rattle.router_core.specs.Moments.{Moment, chain_at, put_chain, with_chain, router_links, rows_in, left_in, bound_of, Gives}
+use Rattle.router_core.specs.Moments.{Moment, chain_at, put_chain, with_chain, router_links, bound_of, Gives}
 use Rattle.std.specs.FinMap as map
 use Rattle.journal_text.specs.declared.link.Link.{Link}
 use Rattle.router_core.specs.Lives.{LiveState, LiveAfter, live_state, live_fed, heard, ended, interior_lost}
-use Rattle.router_core.specs.Stands.{Stands, IsSettled}
+use Rattle.router_core.specs.Stands.{Stands}
 use Rattle.router_core.specs.Scratch.{IsExact}
 use Rattle.router_core.specs.declared.router.Phase.{Phase}
 use Rattle.rib_route.specs.declared.rows.FibRow.{FibRow}
 use Rattle.register_interest.specs.Registers.{put_row}
 use Rattle.rib_tree.specs.Forwards.{ForwardsOn}
-use Rattle.router_core.specs.Turns.{fib_entries, journal_lines, fall_lines, FeedsAll, Replants, FallsRoute, peer_of, IsTurn, Turns, DrainsAll, has_turn_in, has_work, phase_tasks, phase_bound, IsOver, idle_tasks}
+use Rattle.router_core.specs.Turns.{fib_entries, journal_lines, fall_lines, FeedsAll, Replants, FallsRoute, peer_of, phase_of, IsTurn, Turns, Runs, RunsPhase, RunsAll, has_turn_in, has_work, phase_bound, IsOver, IsSettled}
+use Rattle.router_core.specs.Phases.{all_phases, counts, frame_of, Spends}
 use Rattle.router_core.specs.Blocks.{RunsFirst, Loses, Hears, Idles, IsBlock, ended as ended_moment}
 use Rattle.router_core.specs.declared.router.Idle.{Idle}
 use Rattle.event_text.specs.declared.event.Event.{Event}
@@ -68,16 +69,10 @@ pub record FeedsChain (p : Network) (row : Option Attrs) (c c' : Chained) (said 
   pub after : c' ≡ welded (fed c p row)
   pub step : StepsChain c said c'
 
--- so many turns of a task bring its end so much nearer: fewer rows stand, or fewer turns of the walks are left
-abbrev pub Nears : Task → ℕ → Moment → Moment → Type 0
-Nears (tasks.Del k s) n m m' = rows_in m'.chains + n ≡ rows_in m.chains
-Nears (tasks.Fin k) n m m' = (rows_in m'.chains ≡ rows_in m.chains) × (left_in m'.chains + n ≤ left_in m.chains)
-Nears (tasks.Rdel proto l) n m m' = tree_count m'.tree + n ≡ tree_count m.tree
-
--- the same of one turn, in the chain
+-- a turn brings the end of its task nearer in the chain: fewer rows are lost, or fewer turns of the walk are left
 abbrev pub NearsChain : Task → Chained → Chained → Type 0
-NearsChain (tasks.Del k s) c c' = row_count c' + 1 ≡ row_count c
-NearsChain (tasks.Fin k) c c' = (row_count c' ≡ row_count c) × (turns_left c' < turns_left c)
+NearsChain (tasks.Del k s) c c' = (lost_count c'.incoming.deletions + 1 ≡ lost_count c.incoming.deletions) × (turns_left c' ≤ turns_left c)
+NearsChain (tasks.Fin k) c c' = (lost_count c'.incoming.deletions ≡ lost_count c.incoming.deletions) × (turns_left c' < turns_left c)
 NearsChain (tasks.Rdel proto l) c c' = ⊥
 
 -- one turn of a task in its chain
@@ -126,15 +121,15 @@ pub record Keeps (live_then : LiveState) (m m' : Moment) (said : List Line) : Ty
   pub live : live_state m' ≡ live_then
   pub stands : Stands m'
 
--- background work: what is live stays
-abbrev pub IsWork : Moment → List Line → Moment → Type 0
-IsWork m said m' = Keeps (live_state m) m m' said
+-- Background work of a phase: what is live stays, and so many turns are spent.
+pub record IsWork (phase : Phase) (turns : ℕ) (m m' : Moment) (said : List Line) : Type 0 where
+  pub keeps : Keeps (live_state m) m m' said
+  pub spends : Spends (frame_of (live_state m)) phase turns (counts m) (counts m')
 
 -- one turn of a task
 pub record IsUnit (task : Task) (m m' : Moment) (said : List Line) : Type 0 where
   pub turn : IsTurn task m said m'
-  pub work : IsWork m said m'
-  pub nearer : Nears task 1 m m'
+  pub work : IsWork (phase_of task) 1 m m' said
 
 -- what a turn of a task came to; where there is no work, nothing changes
 abbrev pub Comes : Task → Moment → Moment → Journaled → Journaled → Done → Type 0
@@ -144,8 +139,7 @@ Comes task m m' before now Taken = Gives (IsUnit task m m') before now
 -- so many turns of a task
 pub record HaveRun (task : Task) (m : Moment) (turns : ℕ) (m' : Moment) (said : List Line) : Type 0 where
   pub taken : Turns turns task m said m'
-  pub work : IsWork m said m'
-  pub nearer : Nears task turns m m'
+  pub work : IsWork (phase_of task) turns m m' said
 
 -- at most n turns of a task, and fewer only where it then has no work
 pub record AreTurns (task : Task) (n : ℕ) (m : Moment) (turns : ℕ) (m' : Moment) (said : List Line) : Type 0 where
@@ -158,29 +152,31 @@ pub record HasDrained (task : Task) (m : Moment) (turns : ℕ) (m' : Moment) (sa
   pub run : HaveRun task m turns m' said
   pub ended : has_work task m' ≡ false
 
--- A phase of an idle: each of its tasks has run to its end. It leaves no more rows than there were, begins no walk and no
--- deletion stage.
+-- tasks of a phase have run, each to its end
+pub record HaveRunOf (phase : Phase) (m : Moment) (turns : ℕ) (m' : Moment) (said : List Line) : Type 0 where
+  pub count : ℕ
+  pub runs : Runs phase count m said turns m'
+  pub work : IsWork phase turns m m' said
+
+-- A phase of an idle has run to its end.
 pub record HaveDrained (phase : Phase) (m : Moment) (turns : ℕ) (m' : Moment) (said : List Line) : Type 0 where
-  pub drains : DrainsAll (phase_tasks phase m) m said turns m'
-  pub work : IsWork m said m'
+  pub runs : RunsPhase phase m said turns m'
+  pub work : IsWork phase turns m m' said
   pub most : turns ≤ phase_bound phase m
   pub over : IsOver phase m'
-  pub rows : rows_in m'.chains ≤ rows_in m.chains
-  pub routes : tree_count m'.tree ≤ tree_count m.tree
-  pub keeps : (earlier : Phase) → IsOver earlier m → IsOver earlier m'
 
 -- every task has run to its end
 pub record AllHaveDrained (m : Moment) (turns : ℕ) (m' : Moment) (said : List Line) : Type 0 where
-  pub drains : DrainsAll (idle_tasks m) m said turns m'
-  pub work : IsWork m said m'
+  pub runs : RunsAll all_phases m said turns m'
+  pub keeps : Keeps (live_state m) m m' said
   pub most : turns ≤ bound_of m
   pub settled : IsSettled m'
   pub exact : IsExact m'
 
--- the first of some tasks
-abbrev pub first_task : List Task → Option Task
-first_task [] = None
-first_task (task ∷ tasks) = Some task
+-- the walk of the first filter that has one
+abbrev pub first_walk : List Chained → Option Task
+first_walk [] = None
+first_walk (c ∷ cs) = if is_some c.filter.walk then Some (tasks.Fin c.incoming.number) else first_walk cs
 
 -- the peer is up
 abbrev pub IsUpAt : ℕ → Moment → Type 0
@@ -212,7 +208,7 @@ pub record HasRoom (k : ℕ) (m room : Moment) (said : List Line) : Type 0 where
   pub before : Chained
   pub at : chain_at k m.chains ≡ Some before
   pub runs : RunsFirst (overdue_of before.incoming) m said room
-  pub work : IsWork m said room
+  pub keeps : Keeps (live_state m) m room said
   pub free : (c : Chained) → chain_at k room.chains ≡ Some c → overdue_of c.incoming ≡ None
 
 -- session s of the peer is up
@@ -236,7 +232,7 @@ pub record Ends (k s : ℕ) (m m' : Moment) (said : List Line) : Type 0 where
 pub record HasIdled (m : Moment) (idle : Idle) (m' : Moment) (said : List Line) : Type 0 where
   pub idles : Idles m said idle.turns m'
   pub bound : idle.bound ≡ bound_of m
-  pub work : IsWork m said m'
+  pub keeps : Keeps (live_state m) m m' said
 
 -- an event was stepped, and what stands then
 pub record HasStepped (m : Moment) (event : Event) (turns : ℕ) (m' : Moment) (said : List Line) : Type 0 where
@@ -260,7 +256,7 @@ pub record HasRouted (m : Moment) (new : Treed) (proto : Proto) (p : Network) (w
 -- there is room for a loss of the protocol
 pub record HasProtocolRoom (proto : Proto) (m room : Moment) (said : List Line) : Type 0 where
   pub runs : RunsFirst (tree_overdue proto m.tree) m said room
-  pub work : IsWork m said room
+  pub keeps : Keeps (live_state m) m room said
   pub free : tree_overdue proto room.tree ≡ None
 
 -- the loss alone, where there is room

@@ -1,9 +1,7 @@
 //! What was declared, the interior routes, and the peers' chains.
 
 ghost use Rattle.std.specs.Prelude.{◌≡◌, ◌+◌, ◌*◌, IfOk};
-ghost use Rattle.router_core.specs.declared.router.Phase.TheVariants as phases;
 ghost use Rattle.router_core.specs.Moments.{first_moment, rows_in, bound_of};
-ghost use Rattle.router_core.specs.Turns.{phase_bound};
 
 use addr4::Memory;
 use event_text::Declared;
@@ -61,23 +59,6 @@ impl Network {
             registry: Register::new(alloc),
             chains: Vec::new(alloc),
         }
-    }
-
-    /// How many rows all `in.K` have.
-    pub(crate) fn rows(&self) -> Result<u128, Memory>
-        ensures { IfOk result (λ rows. rows ≡ rows_in self.now.chains) }
-    {
-        let rows = count_rows(self.chains.as_slice())?;
-        Ok(rows)
-    }
-
-    /// How many turns the walks of all filters take at most: two for each row of `in.K` and two for each peer.
-    pub(crate) fn walk_bound(&self) -> Result<u128, Memory>
-        ensures { IfOk result (λ bound. bound ≡ phase_bound phases.Fin self.now) }
-    {
-        let rows = count_rows(self.chains.as_slice())?;
-        let bound = times(2, plus(rows, self.chains.len() as u128)?)?;
-        Ok(bound)
     }
 
     /// How many turns an idle takes at most.

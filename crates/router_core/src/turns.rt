@@ -3,11 +3,11 @@
 ghost use Rattle.std.specs.Prelude.{◌≡◌, IfOk, OnOk};
 ghost use Rattle.loss_chain.specs.Tables.{NoneEmpty};
 ghost use Rattle.in_chain.specs.Chains.{IsChain};
-ghost use Rattle.router_core.specs.declared.router.Phase.TheVariants as phases;
 ghost use Rattle.router_core.specs.Moments.{chain_at, Gives};
 ghost use Rattle.router_core.specs.Stands.{AreInOrder, Stands};
-ghost use Rattle.router_core.specs.Works.{TurnsChain, is_nothing, IsPlace, IsSoundAt, TurnsAt, Comes, AreTurns, HasDrained, HaveDrained, AllHaveDrained, first_task};
-ghost use Rattle.router_core.specs.Turns.{peer_of, chain_tasks, deletion_tasks};
+ghost use Rattle.router_core.specs.Works.{TurnsChain, is_nothing, IsPlace, IsSoundAt, TurnsAt, Comes, AreTurns, HasDrained, HaveDrained, AllHaveDrained, first_walk};
+ghost use Rattle.router_core.specs.Turns.{peer_of, chain_tasks, next_task};
+ghost use Rattle.rib_tree.specs.Trees.{first_task};
 ghost use Rattle.std.specs.List.{flat_map};
 
 use crate::network::{Network, plus};
@@ -115,104 +115,55 @@ impl Network {
         requires { Stands self.old }
         ensures { IfOk result (λ turns. Gives (HasDrained task self.old turns self.new) journal.old journal.new) }
     {
-        match task {
-            Task::Del(_, _) => {
-                let rows = self.rows()?;
-                let turns = self.turns(task, rows, journal)?;
-                Ok(turns)
-            }
-            Task::Rdel(_, _) => {
-                let routes = self.tree.rows();
-                let turns = self.turns(task, routes, journal)?;
-                Ok(turns)
-            }
-            Task::Fin(_) => {
-                turns_are_bounded();
-                let bound = self.walk_bound()?;
-                let turns = self.turns(task, bound, journal)?;
-                Ok(turns)
+        journal.flush()?;
+        let mut turns = 0;
+        'rest: loop {
+            match self.turn(task, journal)? {
+                Done::Nothing => return Ok(turns),
+                Done::Taken => turns = plus(turns, 1)?,
             }
         }
     }
 
-    /// Turns of every task, each to its end, phase after phase.
-    pub(crate) fn drain_all(&mut self, journal: &mut Journal) -> Result<u128, Memory>
-        requires { Stands self.old }
-        ensures { IfOk result (λ turns. Gives (AllHaveDrained self.old turns self.new) journal.old journal.new) }
+    /// The first task of a phase that has work.
+    fn next(&self, phase: Phase) -> Option<Task>
+        requires { Stands self.now }
+        ensures { result ≡ next_task phase self.now }
     {
-        let losses = self.drain(Phase::Rdel, journal)?;
-        let deletions = self.drain(Phase::Del, journal)?;
-        let walks = self.drain(Phase::Fin, journal)?;
-        let turns = plus(losses, plus(deletions, walks)?)?;
-        Ok(turns)
+        match phase {
+            Phase::Rdel => self.tree.oldest(),
+            Phase::Del => first_oldest(self.chains.as_slice()),
+            Phase::Fin => first_walk(self.chains.as_slice()),
+        }
     }
 
-    /// Turns of every task of a phase, each to its end.
+    /// A phase: the first of its tasks that has work runs to its end, until none has.
     pub(crate) fn drain(&mut self, phase: Phase, journal: &mut Journal) -> Result<u128, Memory>
         requires { Stands self.old }
         ensures { IfOk result (λ turns. Gives (HaveDrained phase self.old turns self.new) journal.old journal.new) }
     {
-        match phase {
-            Phase::Rdel => self.drain_losses(journal),
-            Phase::Del => self.drain_deletions(journal),
-            Phase::Fin => self.drain_walks(journal),
-        }
-    }
-
-    /// The deletion stages of the interior protocols, each to its end: by protocol, and the earliest loss first.
-    fn drain_losses(&mut self, journal: &mut Journal) -> Result<u128, Memory>
-        requires { Stands self.old }
-        ensures { IfOk result (λ turns. Gives (HaveDrained phases.Rdel self.old turns self.new) journal.old journal.new) }
-    {
-        let rows = self.tree.rows();
-        journal.flush()?;
-        let mut turns = 0;
-        while let Some(task) = self.tree.oldest() {
-            match self.turn(task, journal)? {
-                Done::Nothing => unreachable!(),
-                Done::Taken => turns += 1,
-            }
-        }
-        Ok(turns)
-    }
-
-    /// The walks of the filters, each to its end: by peer.
-    fn drain_walks(&mut self, journal: &mut Journal) -> Result<u128, Memory>
-        requires { Stands self.old }
-        ensures { IfOk result (λ turns. Gives (HaveDrained phases.Fin self.old turns self.new) journal.old journal.new) }
-    {
         turns_are_bounded();
         journal.flush()?;
         let mut turns = 0;
-        for i in 0..self.chains.len() {
-            let task = Task::Fin(self.chains[i].number());
+        while let Some(task) = self.next(phase) {
             turns = plus(turns, self.drain_task(task, journal)?)?;
         }
         Ok(turns)
     }
 
-    /// The deletion stages, each to its end: by peer, and the earliest session first.
-    fn drain_deletions(&mut self, journal: &mut Journal) -> Result<u128, Memory>
+    /// Phase after phase, each to its end.
+    pub(crate) fn drain_all(&mut self, journal: &mut Journal) -> Result<u128, Memory>
         requires { Stands self.old }
-        ensures { IfOk result (λ turns. Gives (HaveDrained phases.Del self.old turns self.new) journal.old journal.new) }
+        ensures { IfOk result (λ turns. Gives (AllHaveDrained self.old turns self.new) journal.old journal.new) }
     {
-        let rows = self.rows()?;
+        turns_are_bounded();
         journal.flush()?;
+        let phases = [Phase::Rdel, Phase::Del, Phase::Fin];
         let mut turns = 0;
-        while let Some(task) = self.first() {
-            match self.turn(task, journal)? {
-                Done::Nothing => unreachable!(),
-                Done::Taken => turns += 1,
-            }
+        for i in 0..phases.len() {
+            turns = plus(turns, self.drain(phases[i], journal)?)?;
         }
         Ok(turns)
-    }
-
-    /// The first task that has work.
-    fn first(&self) -> Option<Task>
-        ensures { result ≡ first_task (deletion_tasks self.now) }
-    {
-        first_oldest(self.chains.as_slice())
     }
 }
 
@@ -223,6 +174,18 @@ fn first_oldest(chains: &[Chain]) -> Option<Task>
     for chain in chains {
         if let Some(task) = chain.oldest() {
             return Some(task);
+        }
+    }
+    None
+}
+
+/// The walk of the first filter that has one.
+fn first_walk(chains: &[Chain]) -> Option<Task>
+    ensures { result ≡ first_walk chains.now }
+{
+    for chain in chains {
+        if chain.busy() {
+            return Some(Task::Fin(chain.number()));
         }
     }
     None

@@ -1,7 +1,7 @@
 use Rattle.std.proofs.Common.{◌≡◌, drop}
 use Rattle.std.specs.List.{flat_map}
 use Rattle.router_core.specs.Turns.{chain_tasks}
-use Rattle.router_core.specs.Works.{first_task}
+use Rattle.rib_tree.specs.Trees.{first_task}
 use Rattle.router_core.proofs.turns.first_oldest.Given as goal
 
 abbrev pub invariant-loop-chain : goal.invariant-loop-chain

@@ -7,6 +7,7 @@ use Rattle.router_core.specs.Blocks.{rib_begins}
 use Rattle.router_core.proofs.network.Network.declare_speaker.Goals as goal
 use Rattle.router_core.specs.Works.{HasStepped}
 use Rattle.router_core.proofs.PeerLemmas.{speaker_is}
+use Rattle.router_core.proofs.LocalLemmas.{local_stepped}
 
 pub returns : goal.returns
 returns c =

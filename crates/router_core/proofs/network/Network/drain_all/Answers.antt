@@ -1,12 +1,19 @@
-use Rattle.std.proofs.Common.{ℕ, ◌+◌, sym, ap, subst, ◌∙◌}
+use Rattle.std.proofs.Common.{◌≡◌, ℕ, get_or, refl, sym, subst, ◌+◌}
+use Rattle.router_core.specs.declared.router.Phase.TheVariants.{Rdel}
 use Rattle.router_core.specs.Moments.{Gives}
-use Rattle.router_core.specs.Works.{AllHaveDrained}
-use Rattle.router_core.proofs.DrainRoutes.{all_drained}
+use Rattle.router_core.proofs.RunLemmas.{Idling, idling_none, idling_more, idling_done}
 use Rattle.router_core.proofs.network.Network.drain_all.Goals as goal
+
+pub loop-i-init : goal.loop-i-init
+loop-i-init c = idling_none c.args.self.now c.args.journal.now c.flush.new.self c.requires c.in_ok-flush.ensures.ok
+
+pub loop-i-preserved : goal.loop-i-preserved
+loop-i-preserved c =
+    subst (λ (n : ℕ). Gives (Idling (c.loop-i.i + 1) n c.args.self.now c.drain.new.self) c.args.journal.now c.drain.new.journal) (sym c.in_ok-turns.ensures)
+    (idling_more c.loop-i.i c.loop-i.turns c.in_ok-drain.field-0 Rdel c.args.self.now c.loop-i.self c.drain.new.self c.args.journal.now c.loop-i.journal c.drain.new.journal c.loop-i-test.true
+    c.loop-i.invariant c.in_ok-drain.ensures)
 
 pub returns : goal.returns
 returns c =
-    subst (λ (turns : ℕ). Gives (AllHaveDrained c.args.self.now turns c.drain-3.new.self) c.args.journal.now c.drain-3.new.journal)
-    (sym (c.in_ok-turns.ensures ∙ ap (λ (n : ℕ). c.in_ok-losses.losses + n) c.in_ok-plus.ensures))
-    (all_drained c.args.self.now c.drain.new.self c.drain-2.new.self c.drain-3.new.self c.in_ok-losses.losses c.in_ok-deletions.deletions c.in_ok-walks.walks c.args.journal.now c.drain.new.journal
-    c.drain-2.new.journal c.drain-3.new.journal c.requires c.in_ok-losses.ensures c.in_ok-deletions.ensures c.in_ok-walks.ensures)
+    idling_done c.turns_are_bounded.ensures.bounded c.turns_are_bounded.ensures.left c.loop-i.i c.loop-i.turns c.args.self.now c.loop-i.self c.args.journal.now c.loop-i.journal c.requires
+    c.loop-i-test.false c.loop-i.invariant

@@ -6,11 +6,11 @@ use Rattle.router_core.proofs.network.Network.lose_protocol.Goals as goal
 use Rattle.router_core.proofs.CoreLemmas.{worked_numbered}
 
 pub lose_protocol_with_room-requires-clause-few : goal.lose_protocol_with_room-requires-clause-few
-lose_protocol_with_room-requires-clause-few c = worked_numbered c.args.self.now c.make_protocol_room.new.self c.in_ok-make_protocol_room.ensures.0 4294967294 c.in_ok-make_protocol_room.ensures.2.work c.requires.few
+lose_protocol_with_room-requires-clause-few c = worked_numbered c.args.self.now c.make_protocol_room.new.self c.in_ok-make_protocol_room.ensures.0 4294967294 c.in_ok-make_protocol_room.ensures.2.keeps c.requires.few
 
 pub lose_protocol_with_room-requires-clause-since : goal.lose_protocol_with_room-requires-clause-since
 lose_protocol_with_room-requires-clause-since c =
-    subst IsSome (sym (ap (λ (l : LiveState). l.declared.speaker) c.in_ok-make_protocol_room.ensures.2.work.live)) (lose_since c.args.self.now.declared c.args.proto c.requires.admitted)
+    subst IsSome (sym (ap (λ (l : LiveState). l.declared.speaker) c.in_ok-make_protocol_room.ensures.2.keeps.live)) (lose_since c.args.self.now.declared c.args.proto c.requires.admitted)
 
 pub returns : goal.returns
 returns c =

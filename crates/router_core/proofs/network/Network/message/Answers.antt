@@ -1,3 +1,4 @@
+use Rattle.router_core.proofs.StepLemmas.{bgp_ignored}
 use Rattle.std.proofs.Common.{◌≡◌, ℕ, List, Some, None, subst, sym}
 use Rattle.event_text.specs.Declarations.{peer_at}
 use Rattle.router_core.specs.Moments.{Moment}
@@ -15,3 +16,9 @@ returns c =
     let there : peer_at c.args.number c.args.self.now.declared.peers ≡ Some c.in-Some.peer = subst (λ (m : Moment). peer_at c.args.number m.declared.peers ≡ Some c.in-Some.peer) c.self.view_is (sym c.in-Some.ensures) in
     let says : Says c.in-Some.peer c.args.octets c.in_ok-message.message = subst (λ (octets : List ℕ). Says c.in-Some.peer octets c.in_ok-message.message) c.as_slice.ensures c.in_ok-message.ensures.says in
     heard_up c.args.number c.in-Some.peer c.args.self.now c.hear.new.self c.args.octets c.in_ok-message.message c.args.journal.now c.hear.new.journal there c.if-not-peer.false says c.in_ok-hear.ensures
+
+pub returns-then-not-peer : goal.returns-then-not-peer
+returns-then-not-peer c =
+    let there : peer_at c.args.number c.args.self.now.declared.peers ≡ Some c.in-Some.peer = subst (λ (m : Moment). peer_at c.args.number m.declared.peers ≡ Some c.in-Some.peer) c.self.view_is (sym c.in-Some.ensures) in
+    bgp_ignored c.args.number c.args.octets c.in-Some.peer c.args.self.now c.args.journal.now c.push_line.new.self c.flush.new.self c.requires.stands there c.if-not-peer.true
+    c.in_ok-push_line.ensures c.in_ok-flush.ensures.ok

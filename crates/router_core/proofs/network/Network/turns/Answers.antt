@@ -1,7 +1,7 @@
 use Rattle.std.proofs.Common.{subst}
 use Rattle.router_core.specs.declared.router.Done.{Done}
 use Rattle.router_core.specs.Works.{Comes}
-use Rattle.router_core.proofs.TurnLemmas.{given_more}
+use Rattle.router_core.proofs.RunLemmas.{given_more}
 use Rattle.router_core.proofs.network.Network.turns.Goals as goal
 use Rattle.router_core.specs.declared.router.Done.TheVariants.{Taken}
 

@@ -4,4 +4,4 @@ use Rattle.router_core.proofs.router.Core.idle.Goals as goal
 pub returns-clause-stands : goal.returns-clause-stands
 returns-clause-stands c =
     core_worked c.args.self.now c.self.inside.network c.self.inside.events c.self.inside.failed c.self.view_is c.if-self.false c.requires.stands c.idle.new.self c.in_ok-idle.ensures.0
-    c.in_ok-idle.ensures.2.work
+    c.in_ok-idle.ensures.2.keeps

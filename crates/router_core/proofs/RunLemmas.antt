@@ -1,0 +1,214 @@
+-- Turns one after the other: of a task, of a phase, and of all phases.
+use Rattle.std.proofs.Common.{◌≡◌, ℕ, ◌+◌, ◌*◌, ◌<◌, ◌≤◌, ◌⊎◌, inl, inr, Bool, true, false, List, [], ◌∷◌, ◌++◌, length, take, drop, get_or, Option, Some, None, refl, sym, ap, subst, ◌∙◌, arith, append_assoc, zero, suc}
+use Rattle.std.proofs.lemmas.List.{append-nil, take_more, drop_more, take_all}
+use Rattle.std.specs.List.{AllByRecursion}
+use Rattle.journal_text.specs.declared.link.Task.{Task}
+use Rattle.journal_text.specs.declared.line.Line.{Line}
+use Rattle.journal_text.specs.Journals.{Journaled, flushed}
+use Rattle.in_chain.specs.Laws.{TurnsAreBounded, TurnsAreLeft}
+use Rattle.rib_tree.specs.Trees.{tree_count}
+use Rattle.router_core.specs.declared.router.Phase.{Phase}
+use Rattle.router_core.specs.declared.router.Phase.TheVariants.{Rdel, Del, Fin}
+use Rattle.router_core.specs.Moments.{Moment, rows_in, bound_of, Gives}
+use Rattle.router_core.specs.Lives.{LiveState, live_state}
+use Rattle.router_core.specs.Stands.{Stands}
+use Rattle.router_core.specs.Phases.{Frame, Each, all_phases, counts, frame_of, rise, bounds, Spends}
+use Rattle.router_core.specs.Turns.{IsTurn, Turns, RunsPhase, RunsAll, phase_of, next_task, has_work, IsSettled}
+use Rattle.router_core.specs.Works.{Keeps, IsWork, IsUnit, HaveRun, HasDrained, HaveRunOf, HaveDrained, AllHaveDrained}
+use Rattle.router_core.proofs.KeepLemmas.{keeps_none, keeps_on, gives_join, gives_none, gives_so}
+use Rattle.router_core.proofs.ChainLemmas.{get_or_any}
+use Rattle.router_core.proofs.PhaseLemmas.{spends_none, spends_join, bounds_step, over_more}
+use Rattle.router_core.proofs.CountLemmas.{counts_below, over_none, none_over}
+use Rattle.router_core.proofs.NextLemmas.{next_works, next_over}
+use Rattle.router_core.proofs.ScratchLemmas.{settled_is_exact}
+
+-- ---- work
+work_none : (r : Phase) (m : Moment) → Stands m → IsWork r 0 m m []
+work_none r m stands = record { keeps = keeps_none m stands; spends = spends_none (frame_of (live_state m)) r (counts m) }
+
+work_join : (r : Phase) (n k : ℕ) (a b c : Moment) (xs ys : List Line) → IsWork r n a b xs → IsWork r k b c ys → IsWork r (n + k) a c (xs ++ ys)
+work_join r n k a b c xs ys x y = record {
+  keeps = keeps_on a b c xs ys (live_state a) x.keeps y.keeps;
+  spends = spends_join (frame_of (live_state a)) r n k (counts a) (counts b) (counts c) x.spends
+      (subst (λ (l : LiveState). Spends (frame_of l) r k (counts b) (counts c)) x.keeps.live y.spends);
+}
+
+-- ---- turns of a task
+turns_more : (n : ℕ) (task : Task) (m between m' : Moment) (xs ys : List Line) → Turns n task m xs between → IsTurn task between ys m' → Turns (suc n) task m (xs ++ ys) m'
+turns_more zero task m between m' xs ys none turn =
+    (ys, [], m', subst (λ (x : Moment). IsTurn task x ys m') none.1 turn, (refl, refl), ap (λ (l : List Line). l ++ ys) none.0 ∙ sym (append-nil ys))
+turns_more (suc n) task m between m' xs ys t turn =
+    (t.0, t.1 ++ ys, t.2, t.3, turns_more n task t.2 between m' t.1 ys t.4 turn, ap (λ (l : List Line). l ++ ys) t.5 ∙ append_assoc t.0 t.1 ys)
+
+pub run_none : (task : Task) (m : Moment) → Stands m → HaveRun task m 0 m []
+run_none task m stands = record { taken = (refl, refl); work = work_none (phase_of task) m stands }
+
+run_more : (task : Task) (n : ℕ) (m between m' : Moment) (xs ys : List Line) → HaveRun task m n between xs → IsUnit task between m' ys → HaveRun task m (n + 1) m' (xs ++ ys)
+run_more task n m between m' xs ys r u =
+    let one : suc n ≡ n + 1 = omega arith in
+    record {
+      taken = subst (λ (k : ℕ). Turns k task m (xs ++ ys) m') one (turns_more n task m between m' xs ys r.taken u.turn);
+      work = work_join (phase_of task) n 1 m between m' xs ys r.work u.work;
+    }
+
+abbrev pub HaveGiven : Task → ℕ → Moment → Moment → Journaled → Journaled → Type 0
+HaveGiven task n m m' before now = Gives (HaveRun task m n m') before now
+
+pub given_none : (task : Task) (m : Moment) (before j : Journaled) → Stands m → j ≡ flushed before → HaveGiven task 0 m m before j
+given_none task m before j stands is = gives_none (HaveRun task m 0 m) before j (run_none task m stands) is
+
+pub given_more : (task : Task) (n : ℕ) (m between m' : Moment) (before j now : Journaled) → HaveGiven task n m between before j → Gives (IsUnit task between m') j now
+    → HaveGiven task (n + 1) m m' before now
+given_more task n m between m' before j now g u = gives_join (HaveRun task m n between) (IsUnit task between m') (HaveRun task m (n + 1) m') (λ xs ys p q. run_more task n m between m' xs ys p q) before j now g u
+
+-- a turn brings the end nearer
+pub unit_less : (task : Task) (m m' : Moment) (before now : Journaled) → Gives (IsUnit task m m') before now → counts m' (phase_of task) < counts m (phase_of task)
+unit_less task m m' before now u = let falls = u.2.work.spends.falls in omega (arith, falls)
+
+-- where the task has no work left
+pub given_end : (task : Task) (n : ℕ) (m between m' : Moment) (before j now : Journaled) → HaveGiven task n m between before j → (has_work task between ≡ false) × (m' ≡ between) × (now ≡ j) → Gives (HasDrained task m n m') before now
+given_end task n m between m' before j now g end =
+    subst (λ (x : Journaled). Gives (HasDrained task m n m') before x) (sym end.2) (subst (λ (x : Moment). Gives (HasDrained task m n x) before j) (sym end.1)
+    (gives_so (HaveRun task m n between) (HasDrained task m n between) (λ xs r. record { run = r; ended = end.0 }) before j g))
+
+-- ---- tasks of a phase
+abbrev pub HaveGivenOf : Phase → ℕ → Moment → Moment → Journaled → Journaled → Type 0
+HaveGivenOf r turns m now before j = Gives (HaveRunOf r m turns now) before j
+
+pub phase_none : (r : Phase) (m : Moment) (before j : Journaled) → Stands m → j ≡ flushed before → HaveGivenOf r 0 m m before j
+phase_none r m before j stands is = gives_none (HaveRunOf r m 0 m) before j (record { count = 0; runs = (refl, refl, refl); work = work_none r m stands }) is
+
+pub phase_more : (r : Phase) (task : Task) (turns n : ℕ) (m at now : Moment) (before j j' : Journaled) → HaveGivenOf r turns m at before j → Some task ≡ next_task r at → Gives (HasDrained task at n now) j j'
+    → HaveGivenOf r (turns + n) m now before j'
+phase_more r task turns n m at now before j j' g next d = gives_join (HaveRunOf r m turns at) (HasDrained task at n now) (HaveRunOf r m (turns + n) now) (λ xs ys p q. record {
+  count = suc p.count;
+  runs = (xs, ys, turns, n, at, p.runs, (task, sym next, (q.run.taken, q.ended)), refl, refl);
+  work = work_join r turns n m at now xs ys p.work (subst (λ (e : Phase). IsWork e n at now ys) (next_works r at task (sym next)).1 q.run.work);
+}) before j j' g d
+
+-- a task with work takes a turn at least
+pub phase_less : (r : Phase) (task : Task) (n : ℕ) (at now : Moment) (j j' : Journaled) → Some task ≡ next_task r at → Gives (HasDrained task at n now) j j' → counts now r < counts at r
+phase_less r task n at now j j' next d = by_turns n (subst (λ (e : Phase). IsWork e n at now d.0) works.1 d.2.run.work) d.2.run.taken
+  where
+    works : (has_work task at ≡ true) × (phase_of task ≡ r)
+    works = next_works r at task (sym next)
+
+    by_turns : (n : ℕ) → IsWork r n at now d.0 → Turns n task at d.0 now → counts now r < counts at r
+    by_turns zero work taken = absurd (let same : has_work task at ≡ false = sym (ap (has_work task) taken.1) ∙ d.2.ended in let on = works.0 in cc)
+    by_turns (suc n) work taken = let falls = work.spends.falls in omega (arith, falls)
+
+pub phase_done : TurnsAreBounded → (r : Phase) (m now : Moment) (turns : ℕ) (before j : Journaled) → HaveGivenOf r turns m now before j → None ≡ next_task r now → Gives (HaveDrained r m turns now) before j
+phase_done law r m now turns before j g none = gives_so (HaveRunOf r m turns now) (HaveDrained r m turns now) (λ xs p. record {
+  runs = record { count = p.count; runs = p.runs; none = sym none };
+  work = p.work;
+  most = let falls = p.work.spends.falls in let below = counts_below law m r in omega (arith, falls, below);
+  over = next_over r now p.work.keeps.stands (sym none);
+}) before j g
+
+-- ---- all phases, whatever the table is
+-- what was done before phase i
+pub record Idling (i turns : ℕ) (m now : Moment) (said : List Line) : Type 0 where
+  pub runs : RunsAll (take i all_phases) m said turns now
+  pub keeps : Keeps (live_state m) m now said
+  pub within : turns + bounds (frame_of (live_state m)) (drop i all_phases) (counts now) ≤ bounds (frame_of (live_state m)) all_phases (counts m)
+  pub over : AllByRecursion (λ e. counts now e ≡ 0) (take i all_phases)
+
+runs_push : (rs : List Phase) (r : Phase) (n k : ℕ) (m at now : Moment) (xs ys : List Line) → RunsAll rs m xs n at → RunsPhase r at ys k now → RunsAll (rs ++ r ∷ []) m (xs ++ ys) (n + k) now
+runs_push [] r n k m at now xs ys a p = (
+  ys,
+  [],
+  k,
+  0,
+  now,
+  subst (λ (x : Moment). RunsPhase r x ys k now) a.2 p,
+  (refl, refl, refl),
+  ap (λ (l : List Line). l ++ ys) a.0 ∙ sym (append-nil ys),
+  (let none = a.1 in omega (arith, none)),
+)
+runs_push (e ∷ rs) r n k m at now xs ys a p = (
+  a.0,
+  a.1 ++ ys,
+  a.2,
+  a.3 + k,
+  a.4,
+  a.5,
+  runs_push rs r a.3 k a.4 at now a.1 ys a.6 p,
+  ap (λ (l : List Line). l ++ ys) a.7 ∙ append_assoc a.0 a.1 ys,
+  (let sum = a.8 in omega (arith, sum)),
+)
+
+-- a phase adds nothing to an earlier one: a line for each phase
+never_back : (f : Frame) (i : ℕ) → i < length all_phases → AllByRecursion (λ e. rise f (get_or all_phases i Fin) e ≡ Each 0) (take i all_phases)
+never_back f zero within = tt
+never_back f (suc zero) within = (refl, tt)
+never_back f (suc (suc zero)) within = (refl, (refl, tt))
+never_back f (suc (suc (suc i))) within = absurd (omega (arith, within))
+
+each_phase : (P : Phase → Type 0) → AllByRecursion P all_phases → (r : Phase) → P r
+each_phase P all Rdel = all.0
+each_phase P all Del = all.1.0
+each_phase P all Fin = all.1.1.0
+
+-- the announced bound is above the table's
+within_all : (losses stages walks rows routes peers : ℕ) → losses ≤ routes → stages ≤ rows → walks ≤ 2 * (rows + peers) → losses + (stages + walks) ≤ (peers + 2) * (9 * (rows + routes) + 6)
+within_all losses stages walks rows routes peers a b c = grind arith
+
+bounds_fit : TurnsAreBounded → (m : Moment) → Stands m → bounds (frame_of (live_state m)) all_phases (counts m) ≤ bound_of m
+bounds_fit law m stands =
+    let a = counts_below law m Rdel in
+    let b = counts_below law m Del in
+    let c = counts_below law m Fin in
+    let count = stands.count in
+    let all = within_all (counts m Rdel) (counts m Del) (counts m Fin) (rows_in m.chains) (tree_count m.tree) (length m.declared.peers) a b (omega (arith, c, count)) in
+    omega (arith, all)
+
+pub idling_none : (m : Moment) (before j : Journaled) → Stands m → j ≡ flushed before → Gives (Idling 0 0 m m) before j
+idling_none m before j stands is = gives_none (Idling 0 0 m m) before j (record { runs = (refl, refl, refl); keeps = keeps_none m stands; within = omega arith; over = tt }) is
+
+all_push : (P : Phase → Type 0) (rs : List Phase) (r : Phase) → AllByRecursion P rs → P r → AllByRecursion P (rs ++ r ∷ [])
+all_push P [] r all one = (one, tt)
+all_push P (e ∷ rs) r all one = (all.0, all_push P rs r all.1 one)
+
+pub idling_more : (i turns n : ℕ) (x : Phase) (m at now : Moment) (before j j' : Journaled) → i < length all_phases → Gives (Idling i turns m at) before j → Gives (HaveDrained (get_or all_phases i x) at n now) j j'
+    → Gives (Idling (i + 1) (turns + n) m now) before j'
+idling_more i turns n x m at now before j j' within g d = gives_join (Idling i turns m at) (HaveDrained r at n now) (Idling (i + 1) (turns + n) m now) both before j j' g d
+  where
+    r : Phase
+    r = get_or all_phases i x
+
+    is : r ≡ get_or all_phases i Fin
+    is = get_or_any all_phases i x Fin within
+
+    f : Frame
+    f = frame_of (live_state m)
+
+    both : (xs ys : List Line) → Idling i turns m at xs → HaveDrained r at n now ys → Idling (i + 1) (turns + n) m now (xs ++ ys)
+    both xs ys x y =
+        let first : take i all_phases ++ r ∷ [] ≡ take (i + 1) all_phases = ap (λ (e : Phase). take i all_phases ++ e ∷ []) is ∙ sym (take_more all_phases i Fin within) in
+        let rest : drop i all_phases ≡ r ∷ drop (i + 1) all_phases = drop_more all_phases i Fin within ∙ ap (λ (e : Phase). e ∷ drop (i + 1) all_phases) (sym is) in
+        let spends : Spends f r n (counts at) (counts now) = subst (λ (l : LiveState). Spends (frame_of l) r n (counts at) (counts now)) x.keeps.live y.work.spends in
+        let flat : AllByRecursion (λ e. rise f r e ≡ Each 0) (take i all_phases) = subst (λ (p : Phase). AllByRecursion (λ e. rise f p e ≡ Each 0) (take i all_phases)) (sym is) (never_back f i within) in
+        let step = bounds_step f r (drop (i + 1) all_phases) n (counts at) (counts now) spends in
+        let was : turns + bounds f (r ∷ drop (i + 1) all_phases) (counts at) ≤ bounds f all_phases (counts m) = subst (λ (l : List Phase). turns + bounds f l (counts at) ≤ bounds f all_phases (counts m)) rest x.within in
+        record {
+          runs = subst (λ (l : List Phase). RunsAll l m (xs ++ ys) (turns + n) now) first (runs_push (take i all_phases) r turns n m at now xs ys x.runs y.runs);
+          keeps = keeps_on m at now xs ys (live_state m) x.keeps y.work.keeps;
+          within = omega (arith, step, was);
+          over = subst (λ (l : List Phase). AllByRecursion (λ e. counts now e ≡ 0) l) first
+              (all_push (λ e. counts now e ≡ 0) (take i all_phases) r (over_more f r n (counts at) (counts now) (take i all_phases) spends flat x.over) (over_none r now y.over));
+        }
+
+pub idling_done : TurnsAreBounded → TurnsAreLeft → (i turns : ℕ) (m now : Moment) (before j : Journaled) → Stands m → length all_phases ≤ i → Gives (Idling i turns m now) before j → Gives (AllHaveDrained m turns now) before j
+idling_done bounded left i turns m now before j stands past g = gives_so (Idling i turns m now) (AllHaveDrained m turns now) (λ xs x.
+    let all : take i all_phases ≡ all_phases = take_all i all_phases past in
+    let over = subst (λ (l : List Phase). AllByRecursion (λ e. counts now e ≡ 0) l) all x.over in
+    let settled : IsSettled now = λ r. none_over left r now x.keeps.stands (each_phase (λ e. counts now e ≡ 0) over r) in
+    let within = x.within in
+    let fits = bounds_fit bounded m stands in
+    record {
+      runs = subst (λ (l : List Phase). RunsAll l m xs turns now) all x.runs;
+      keeps = x.keeps;
+      most = omega (arith, within, fits);
+      settled = settled;
+      exact = settled_is_exact now x.keeps.stands settled;
+    }) before j g

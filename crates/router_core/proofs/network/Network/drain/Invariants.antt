@@ -1,0 +1,9 @@
+use Rattle.router_core.specs.Phases.{counts}
+use Rattle.router_core.proofs.RunLemmas.{HaveGivenOf}
+use Rattle.router_core.proofs.network.Network.drain.Given as goal
+
+abbrev pub invariant-loop-task : goal.invariant-loop-task
+invariant-loop-task l = HaveGivenOf l.phase l.turns l.fn.self l.self l.fn.journal l.journal
+
+abbrev pub decreases-loop-task : goal.decreases-loop-task
+decreases-loop-task l = counts l.self l.phase

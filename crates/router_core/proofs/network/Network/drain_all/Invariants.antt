@@ -1,0 +1,6 @@
+use Rattle.router_core.specs.Moments.{Gives}
+use Rattle.router_core.proofs.RunLemmas.{Idling}
+use Rattle.router_core.proofs.network.Network.drain_all.Given as goal
+
+abbrev pub invariant-loop-i : goal.invariant-loop-i
+invariant-loop-i l = Gives (Idling l.i l.turns l.fn.self l.self) l.fn.journal l.journal

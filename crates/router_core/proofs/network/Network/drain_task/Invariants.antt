@@ -1,0 +1,10 @@
+use Rattle.router_core.specs.Phases.{counts}
+use Rattle.router_core.specs.Turns.{phase_of}
+use Rattle.router_core.proofs.RunLemmas.{HaveGiven}
+use Rattle.router_core.proofs.network.Network.drain_task.Given as goal
+
+abbrev pub invariant-rest : goal.invariant-rest
+invariant-rest l = HaveGiven l.task l.turns l.fn.self l.self l.fn.journal l.journal
+
+abbrev pub decreases-rest : goal.decreases-rest
+decreases-rest l = counts l.self (phase_of l.task)

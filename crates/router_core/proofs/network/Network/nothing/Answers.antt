@@ -1,0 +1,10 @@
+use Rattle.std.proofs.Common.{[], refl}
+use Rattle.event_text.specs.declared.event.Event.TheVariants as events
+use Rattle.router_core.specs.Works.{HasStepped}
+use Rattle.router_core.proofs.KeepLemmas.{gives_none, steps_said}
+use Rattle.router_core.proofs.network.Network.nothing.Goals as goal
+
+pub returns : goal.returns
+returns c =
+    gives_none (HasStepped c.args.self.now events.Nothing 0 c.args.self.now) c.args.journal.now c.flush.new.self
+    (steps_said c.args.self.now events.Nothing 0 [] c.requires (refl, refl, refl) refl refl) c.in_ok-flush.ensures.ok
