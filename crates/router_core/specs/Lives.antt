@@ -1,9 +1,10 @@
 -- The live state: what the events alone make of the declarations, the sessions, each peer's live routes and its rules, and the
 -- interior routes, whatever work was done or not.
-use Rattle.std.specs.Prelude.{◌≡◌, ℕ, ◌==◌, ◌&&◌, ◌||◌, nat_lt, Bool, true, false, not, if◌then◌else◌, List, [], ◌∷◌, ◌++◌, map, filter, slice_index, Option, Some, None, is_some}
+use Rattle.std.specs.Prelude.{◌≡◌, ℕ, ◌==◌, ◌&&◌, ◌||◌, Bool, true, false, not, if◌then◌else◌, List, [], ◌∷◌, ◌++◌, map, filter, slice_index, Option, Some, None, is_some}
 use Rattle.std.specs.FinMap as tables
 use Rattle.std.specs.FinMap.{FinMap}
 use Rattle.addr4.specs.Prefixes.{Network, prefix_cmp}
+use Rattle.bgp_attr.specs.Hosts.{is_host_prefix}
 use Rattle.bgp_attr.specs.declared.attrs.Attrs.{Attrs}
 use Rattle.bgp_attr.specs.declared.speaker.Profile.{Profile}
 use Rattle.bgp_wire.specs.declared.message.Update.{Update}
@@ -41,10 +42,6 @@ pub record LiveState : Type 0 where
 
 abbrev pub first_live : LiveState
 first_live = record { declared = no_declaration; routes = λ k. tables.empty; rules = λ k. []; interior = λ proto. tables.empty }
-
--- 224.0.0.0 is where the addresses of no host begin
-abbrev pub is_host_prefix : Network → Bool
-is_host_prefix p = nat_lt p.address 3758096384
 
 -- an announced prefix with its attributes
 abbrev pub announced_with : Option Attrs → Network → Network × Option Attrs
