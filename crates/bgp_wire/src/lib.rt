@@ -27,8 +27,11 @@ mod prefixes;
 mod reading;
 mod writing;
 
-pub use laws::{one_fault_for_both, one_of_message_and_fault};
+pub use laws::{notices_fit, one_fault_for_both, one_of_message_and_fault};
 pub use message::{Message, Prefixes, Update};
 pub use notice::Notice;
 pub use reading::read_message;
-pub use writing::{write_notification, write_update};
+pub use writing::{
+    announcement_length, attributes_length, write_announcement, write_notification, write_update,
+    write_withdrawal,
+};
