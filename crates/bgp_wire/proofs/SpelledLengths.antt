@@ -22,12 +22,12 @@ length-segment width s numbers w e f = rw (e, f) (omega (arith, length-numbers w
 pub octets-append : (xs ys : List Attribute) → octets_of (xs ++ ys) ≡ octets_of xs ++ octets_of ys
 octets-append xs ys = flat_map-append (λ (a : Attribute). a.octets) xs ys
 
-pub length-octets : (xs ys : List Attribute) → length (octets_of (xs ++ ys)) ≡ length (octets_of xs) + length (octets_of ys)
-length-octets xs ys = ap length (octets-append xs ys) ∙ length-append (octets_of xs) (octets_of ys)
+pub length-octets-append : (xs ys : List Attribute) → length (octets_of (xs ++ ys)) ≡ length (octets_of xs) + length (octets_of ys)
+length-octets-append xs ys = ap length (octets-append xs ys) ∙ length-append (octets_of xs) (octets_of ys)
 
 -- four lists of attributes one after the other, as further_attributes and sent_attributes are
 pub length-four : (a b c d : List Attribute) → length (octets_of (a ++ b ++ c ++ d)) ≡ length (octets_of a) + length (octets_of b) + length (octets_of c) + length (octets_of d)
-length-four a b c d = omega (arith, length-octets (a ++ b ++ c) d, length-octets (a ++ b) c, length-octets a b)
+length-four a b c d = omega (arith, length-octets-append (a ++ b ++ c) d, length-octets-append (a ++ b) c, length-octets-append a b)
 
 pub length-framed : (kind : ℕ) (body : List ℕ) → length (framed kind body) ≡ 19 + length body
 length-framed kind body = omega arith

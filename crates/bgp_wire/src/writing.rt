@@ -10,8 +10,6 @@ mod attributes;
 mod lengths;
 mod numbers;
 
-pub use lengths::{announcement_length, attributes_length};
-
 use crate::header::{LONGEST, NOTIFICATION, UPDATE};
 use crate::message::Update;
 use crate::writing::attributes::push_attrs;
@@ -19,6 +17,7 @@ use crate::writing::lengths::prefixes_length;
 use crate::writing::numbers::{push_prefix, push_u16};
 use addr4::{Memory, Prefix};
 use bgp_attr::{Attrs, Profile};
+pub use lengths::{announcement_fits, announcement_length, attributes_length};
 use std::alloc::Global;
 
 /// The octets of a header.

@@ -1,11 +1,13 @@
 //! How many octets are written, without writing them.
 
-ghost use Rattle.std.specs.Prelude.{◌≡◌, ◌+◌, ◌<◌, ◌≤◌, ◌^◌, length, option_map, if◌then◌else◌, [], ◌∷◌};
+ghost use Rattle.std.specs.Prelude.{◌≡◌, ◌+◌, ◌<◌, ◌≤◌, ◌^◌, length, nat_le, Bool, ℕ, if◌then◌else◌, [], ◌∷◌};
 ghost use Rattle.byteorder.specs.Endian.{big_bytes};
+ghost use Rattle.bgp_attr.specs.declared.attrs.Attrs.{Attrs as Route};
 ghost use Rattle.bgp_wire.specs.Paths.{width_of};
 ghost use Rattle.bgp_wire.specs.Lengths.{spelled_length, attributes_length, announcement_length};
 ghost use Rattle.bgp_wire.specs.Spelling.{segment_octets, path_octets, prefix_octets, prefixes_octets, spelled, optional, aggregator_value, aggregator_flags, unrecognized_attributes, mandatory_attributes, further_attributes, octets_of};
 
+use crate::header::LONGEST;
 use crate::numbers::width;
 use crate::prefixes::octets_for;
 use addr4::Prefix;
@@ -40,7 +42,7 @@ pub(crate) fn path_length(as4: bool, path: &AsPath) -> u128
 }
 
 fn number_length(number: Option<u32>) -> u128
-    ensures value { (flags kind : _) → result ≡ length (octets_of (optional (λ n. spelled flags kind (big_bytes 4 n)) number)) }
+    ensures value { (flags kind : ℕ) → result ≡ length (octets_of (optional (λ n. spelled flags kind (big_bytes 4 n)) number)) }
     ensures small { result ≤ 7 }
 {
     if number.is_some() { 7 } else { 0 }
@@ -134,4 +136,12 @@ pub fn announcement_length(profile: Profile, prefix: Prefix, attrs: &Attrs) -> u
     ensures { result ≡ announcement_length profile.as4 prefix attrs.now }
 {
     23 + prefix_length(prefix) as u128 + attributes_length(profile, attrs)
+}
+
+/// Whether an announcement of the prefix with attributes of so many octets ([`attributes_length`]) fits into a message, which
+/// has at most 4,096 octets (RFC 4271, section 4.1).
+pub fn announcement_fits(prefix: Prefix, attributes: u128) -> bool
+    ensures { (as4 : Bool) (a : Route) → attributes_length as4 a ≡ attributes → result ≡ nat_le (announcement_length as4 prefix a) 4096 }
+{
+    attributes <= (LONGEST - 23 - prefix_length(prefix)) as u128
 }

@@ -12,5 +12,5 @@ returns-clause-value c =
       c.number_length.ensures.value 128 4,
       c.number_length-2.ensures.value 64 5,
       length-four (optional (λ n. spelled 128 4 (big_bytes 4 n)) a.med) (optional (λ n. spelled 64 5 (big_bytes 4 n)) a.local_pref) (if a.atomic then spelled 64 6 [] ∷ [] else [])
-      (optional (λ g. spelled (aggregator_flags g.partial) 7 (aggregator_value c.args.as4 g)) a.aggregator),
+          (optional (λ g. spelled (aggregator_flags g.partial) 7 (aggregator_value c.args.as4 g)) a.aggregator),
     )
