@@ -12,7 +12,7 @@ use Rattle.bgp_wire.specs.Prefixes.{octets_for, ArePrefixes}
 use Rattle.bgp_wire.specs.Routes.{AreAttrs}
 use Rattle.bgp_wire.specs.Updates.{Reading}
 use Rattle.bgp_wire.specs.Grammar.{IsReading, AreAttrsFor, IsUpdateBy, Reads}
-use Rattle.bgp_wire.specs.Spelling.{sent_attributes, octets_of, prefixes_octets, prefix_octets, fields_octets, framed, update_octets}
+use Rattle.bgp_wire.specs.Spelling.{update_octets}
 use Rattle.bgp_wire.specs.Readable.{IsNetwork, IsReadable, IsReadableUpdate, AreOctets, HasOnePrefix, announcement}
 use Rattle.bgp_wire.specs.Lengths.{attributes_length, announcement_length}
 use Rattle.bgp_wire.proofs.SpelledLengths.{length-announcement}
