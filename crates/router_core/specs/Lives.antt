@@ -131,7 +131,7 @@ LiveAfter l (Show link) l' = l' ≡ l
 -- what is live in a chain
 abbrev pub routes_of : Option Chained → Routes
 routes_of None = tables.empty
-routes_of (Some c) = c.incoming.live
+routes_of (Some c) = c.incoming.tables.live
 
 -- the latest rules of a chain's filter
 abbrev pub rules_of : Option Chained → List Rule
@@ -143,7 +143,7 @@ live_state m = record {
   declared = m.declared;
   routes = λ k. routes_of (chain_at k m.chains);
   rules = λ k. rules_of (chain_at k m.chains);
-  interior = λ proto. (branch_of proto m.tree).live;
+  interior = λ proto. (branch_of proto m.tree).tables.live;
 }
 
 -- whether a message ends the session
