@@ -49,7 +49,10 @@ fn words_that_are_no_command_get_the_usage_line(rt: HostRuntime) -> Result<(), F
     let none = Vec::new(alloc);
     let words = ["replay", "run", "--help"];
     let (status, output) = run_failing(alloc, words.as_slice(), "", none, Vec::new(alloc))?;
-    assert_eq!(rt; output.as_str(), "usage: replay run [--quiet] / replay check\n");
+    assert_eq!(rt;
+        output.as_str(),
+        "usage: replay run [--quiet] / replay check\n"
+    );
     assert!(rt; status == Status::Usage);
     Ok(())
 }
