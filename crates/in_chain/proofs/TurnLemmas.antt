@@ -15,7 +15,7 @@ use Rattle.deletion_stage.specs.Lost.{Lost}
 use Rattle.deletion_stage.specs.Covering.{row_over}
 use Rattle.policy_rules.specs.declared.rule.Rule.{Rule}
 use Rattle.pass_core.specs.Passed.{Passed, Walked, is_beyond, walk_of_waiting, walk_stepped, after_walk}
-use Rattle.filter_bank.specs.Walks.{walked_on}
+use Rattle.pass_core.specs.Turns.{walked_on}
 use Rattle.loss_chain.specs.Tables.{Tables, rows_below, lowest_rows, lost_count, tables_count}
 use Rattle.in_chain.specs.Chains.{count_beyond, lost_beyond, left_beyond, waiting_turns, walk_turns}
 use Rattle.in_chain.specs.Laws.{TurnsAreBounded, TurnsAreLeft}
