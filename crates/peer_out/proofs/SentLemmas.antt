@@ -1,5 +1,5 @@
 -- What is sent is read as it is.
-use Rattle.std.proofs.Common.{◌≡◌, ℕ, ◌+◌, ◌<◌, ◌≤◌, ◌^◌, Bool, true, false, cond, nat_le, List, [], length, Option, Some, None, refl, sym, ap, subst, arith}
+use Rattle.std.proofs.Common.{◌≡◌, ℕ, ◌+◌, ◌<◌, ◌≤◌, Bool, true, false, cond, nat_le, List, length, Option, Some, None, refl, sym, subst, arith}
 use Rattle.std.specs.Prelude.{MatchOption, IsSome}
 use Rattle.std.specs.Option.{ForSome}
 use Rattle.std.proofs.lemmas.Bool.Decides.{nat_tests}
@@ -13,8 +13,7 @@ use Rattle.bgp_wire.specs.declared.message.Update.{Update}
 use Rattle.bgp_wire.specs.declared.message.Message.TheVariants as messages
 use Rattle.bgp_wire.specs.Grammar.{Reads}
 use Rattle.bgp_wire.specs.Lengths.{announcement_length}
-use Rattle.bgp_wire.specs.Paths.{width_of}
-use Rattle.bgp_wire.specs.Readable.{IsReadable, IsReadableSegment, IsHost, IsNetwork, AreOctets, withdrawal, announcement}
+use Rattle.bgp_wire.specs.Readable.{IsReadable, IsHost, IsNetwork, AreOctets}
 use Rattle.bgp_wire.specs.Spelling.{FitsAttrs}
 use Rattle.bgp_wire.proofs.MessageLaws.{one_message}
 use Rattle.bgp_wire.proofs.ReadableMessages.{read_is_readable}
@@ -22,7 +21,7 @@ use Rattle.wire_laws.proofs.Prepended.{prepended_is_readable, readable_fits}
 use Rattle.wire_laws.proofs.SaidAgain.{internal_reads}
 use Rattle.wire_laws.proofs.SpelledMessages.{announcement_is_read, withdrawal_is_read}
 use Rattle.link_change.specs.declared.change.Change.{Change}
-use Rattle.peer_out.specs.Forms.{sent_form, as_sent, AreSentAlike}
+use Rattle.peer_out.specs.Forms.{sent_form, AreSentAlike}
 use Rattle.peer_out.specs.Changes.{saying, message_octets, IsReadAs, MayBeHeard, IsSender, IsSentOf, HasNumbers, CanBeRead}
 use Rattle.peer_out.specs.Laws.{bare_attrs}
 

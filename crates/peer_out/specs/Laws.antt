@@ -1,5 +1,5 @@
 -- Laws of what a peer is sent, for the crates above.
-use Rattle.std.specs.Prelude.{◌≡◌, ℕ, List, [], Bool, false, Option, Some, None}
+use Rattle.std.specs.Prelude.{◌≡◌, ℕ, List, [], Bool, false, Some, None}
 use Rattle.std.specs.Option.{ForSome}
 use Rattle.addr4.specs.Prefixes.{Network}
 use Rattle.bgp_attr.specs.declared.attrs.Attrs.{Attrs}

@@ -1,8 +1,6 @@
 -- What contracts see of a peer's exit, and what is kept true of the form that it remembers.
-use Rattle.std.specs.Prelude.{◌≡◌, ℕ, Bool, Option}
+use Rattle.std.specs.Prelude.{◌≡◌, Bool, Option}
 use Rattle.std.specs.Option.{ForSome}
-use Rattle.bgp_attr.specs.declared.attrs.Attrs.{Attrs}
-use Rattle.bgp_attr.specs.declared.route.Route.{Route}
 use Rattle.bgp_attr.specs.declared.speaker.Profile.{Profile}
 use Rattle.bgp_attr.specs.declared.speaker.Speaker.{Speaker}
 use Rattle.bgp_wire.specs.Lengths.{attributes_length}

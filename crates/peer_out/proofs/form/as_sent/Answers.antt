@@ -1,6 +1,5 @@
-use Rattle.std.proofs.Common.{◌≡◌, ap, sym, subst, IfOk, rules}
+use Rattle.std.proofs.Common.{◌≡◌, subst, IfOk}
 use Rattle.bgp_attr.specs.declared.route.Route.{Route}
-use Rattle.std.proofs.lemmas.Result.{IfOk-weaker}
 use Rattle.peer_out.specs.Forms.{as_sent}
 use Rattle.peer_out.specs.Remembered.{Exit}
 use Rattle.peer_out.proofs.form.as_sent.Goals as goal

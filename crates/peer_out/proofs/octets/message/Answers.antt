@@ -1,12 +1,8 @@
-use Rattle.std.proofs.Common.{◌≡◌, ◌≤◌, ap, sym, ◌∙◌, length, Option, Some, None}
-use Rattle.std.specs.Option.{ForSome}
+use Rattle.std.proofs.Common.{◌≡◌, ap, sym, ◌∙◌, Some}
 use Rattle.std.proofs.lemmas.Result.{IfOk-weaker}
-use Rattle.bgp_attr.specs.declared.attrs.Attrs.{Attrs}
-use Rattle.bgp_wire.specs.declared.message.Message.TheVariants as messages
-use Rattle.bgp_wire.specs.Grammar.{Reads}
 use Rattle.bgp_wire.specs.Readable.{IsNetwork}
 use Rattle.bgp_wire.specs.Spelling.{update_octets}
-use Rattle.peer_out.specs.Changes.{saying, message_octets, HasNumbers, CanBeRead}
+use Rattle.peer_out.specs.Changes.{saying, HasNumbers}
 use Rattle.peer_out.proofs.SentLemmas.{said, no_longer, after_can, none_can, sent_fits}
 use Rattle.peer_out.proofs.octets.message.Goals as goal
 
@@ -56,5 +52,5 @@ returns-in-None-clause-short c =
     let can = none_can c.args.profile c.args.external change.prefix change.after c.in-None.is in
     IfOk-weaker c.write_withdrawal.result _ _
     (λ octets is. no_longer c.args.profile c.args.external octets.items (saying change.prefix change.after)
-        (said c.args.profile c.args.external change octets.items network can (is ∙ sym (ap (λ o. update_octets c.args.profile.as4 (saying change.prefix o)) c.in-None.is))))
+    (said c.args.profile c.args.external change octets.items network can (is ∙ sym (ap (λ o. update_octets c.args.profile.as4 (saying change.prefix o)) c.in-None.is))))
     (c.write_withdrawal.ensures c.args.profile.as4)

@@ -1,5 +1,3 @@
-use Rattle.std.proofs.Common.{◌≡◌, ◌∙◌, ap, rules}
-use Rattle.cache_stage.specs.Caches.{kept_after}
 use Rattle.cache_stage.proofs.KeptLemmas.{keeps}
 use Rattle.cache_stage.proofs.cache.Cache.take_in.Goals as goal
 
