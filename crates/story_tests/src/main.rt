@@ -58,27 +58,39 @@ fn fault_of_check(alloc: Global, journal: &str, wanted: &str) -> anyhow::Result<
     fault_of(alloc, check.as_slice(), Pace::Bytes, journal, wanted)
 }
 
-/// What is wrong with a story, if anything. None of another file.
+/// What is done with the text of a story.
+#[derive(Clone, Copy)]
+enum Kind {
+    Run,
+    Check,
+}
+
+/// The name of a story and its kind, by the name of its file; None of another file.
+fn story_of(file: &str) -> Option<(&str, Kind)> {
+    if let Some(name) = file.strip_suffix(".events") {
+        return Some((name, Kind::Run));
+    }
+    let name = file.strip_suffix(".journal")?;
+    Some((name, Kind::Check))
+}
+
+/// What is wrong with a story, if anything.
 fn fault_of_story(
     rt: &HostRuntime,
     folder: &str,
     file: &str,
-) -> anyhow::Result<Option<Option<String>>> {
+    story: (&str, Kind),
+) -> anyhow::Result<Option<String>> {
     let alloc = rt.alloc();
-    let (name, is_run) = match (file.strip_suffix(".events"), file.strip_suffix(".journal")) {
-        (Some(name), _) => (name, true),
-        (None, Some(name)) => (name, false),
-        (None, None) => return Ok(None),
-    };
+    let (name, kind) = story;
     let path = format!(in alloc; "{folder}/{name}.out")?;
     let wanted = fs::read_to_string(rt, path.as_str()).context("no output")?;
     let path = format!(in alloc; "{folder}/{file}")?;
     let text = fs::read_to_string(rt, path.as_str())?;
-    Ok(Some(if is_run {
-        fault_of_run(alloc, text.as_str(), wanted.as_str())?
-    } else {
-        fault_of_check(alloc, text.as_str(), wanted.as_str())?
-    }))
+    match kind {
+        Kind::Run => fault_of_run(alloc, text.as_str(), wanted.as_str()),
+        Kind::Check => fault_of_check(alloc, text.as_str(), wanted.as_str()),
+    }
 }
 
 /// The names of the files in a folder, in order.
@@ -95,12 +107,14 @@ fn files(rt: &HostRuntime, folder: &str) -> anyhow::Result<Vec<String>> {
 fn main(rt: HostRuntime) -> anyhow::Result<()> {
     let folder = env::args(&rt)?.nth(1).context("no folder")?;
     let mut wrong = 0u64;
-    for name in &files(&rt, folder.as_str())? {
-        match fault_of_story(&rt, folder.as_str(), name.as_str())? {
-            None => {}
-            Some(None) => println!(rt; "{name}")?,
-            Some(Some(fault)) => {
-                eprintln!(rt; "{name}: {fault}")?;
+    for file in &files(&rt, folder.as_str())? {
+        let Some(story) = story_of(file.as_str()) else {
+            continue;
+        };
+        match fault_of_story(&rt, folder.as_str(), file.as_str(), story)? {
+            None => println!(rt; "{file}")?,
+            Some(fault) => {
+                eprintln!(rt; "{file}: {fault}")?;
                 wrong = wrong.wrapping_add(1);
             }
         }
