@@ -3,7 +3,8 @@
 //! [`Attrs`] is what an UPDATE says of a route (RFC 4271, section 4.3 and 5), as far as this speaker keeps it: unrecognized
 //! optional non-transitive attributes are gone by then. [`SharedAttrs`] lends the same attributes to all routes of one
 //! UPDATE. [`Route`] is a row behind the incoming filter. [`Speaker`], [`Neighbour`] and [`Profile`] are the words of the
-//! configuration. Contracts see a path as its list of segments and octets as a list of numbers, so that two values are
+//! configuration; what those must be (`IsSpeaker`, `IsNeighbourOf`) is said here for all who take them. [`is_host`] and
+//! [`is_host_prefix`] tell the addresses and prefixes of hosts. Contracts see a path as its list of segments and octets as a list of numbers, so that two values are
 //! equal exactly where everything in them is.
 //!
 //! An [`AsPath`] answers what the decision and the filters ask of it (its hops, its first AS, whether it has an AS), and
@@ -13,6 +14,7 @@
 #![tactic(auto)]
 
 mod attrs;
+mod hosts;
 mod octets;
 mod path;
 mod route;
@@ -20,6 +22,7 @@ mod speaker;
 mod unrecognized;
 
 pub use attrs::{Aggregator, Attrs, Origin, SharedAttrs};
+pub use hosts::{is_host, is_host_prefix};
 pub use octets::Octets;
 pub use path::{AsPath, Numbers, Segment, SegmentKind};
 pub use route::Route;

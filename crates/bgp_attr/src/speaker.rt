@@ -9,13 +9,14 @@ pub struct Speaker {
     pub asn: u32,
     /// The BGP identifier, not 0.0.0.0.
     pub id: Addr,
+    /// The local address, that of a host.
     pub addr: Addr,
 }
 
 /// A peer: the words of `peer`.
 #[derive(Clone, Copy, Debug, PartialEq, Eq)]
 pub struct Neighbour {
-    /// The peer's number in the event file, from 1.
+    /// The peer's number in the event file, 1 to 64.
     pub number: u8,
     /// The peer's AS, 1 to 65535.
     pub asn: u32,

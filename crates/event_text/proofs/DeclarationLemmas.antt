@@ -4,8 +4,9 @@ use Rattle.std.proofs.lemmas.Bool.Decides.{nat_tests}
 use Rattle.bgp_attr.specs.declared.speaker.Speaker.{Speaker}
 use Rattle.event_text.specs.declared.event.Event.TheVariants as events
 use Rattle.event_text.specs.declared.declared.DeclaredPeer.{DeclaredPeer}
-use Rattle.event_text.specs.WellFormed.{IsSpeaker, IsWellFormed}
-use Rattle.event_text.specs.Declarations.{Declaration, peer_at, has_addr, refusal, words_of, with_speaker, with_peer, with_session, without_session, begun_at, ended_at, ArePeerWords, IsPeerOf, ArePeersOf, HaveOwnAddrs, AreDeclared, IsDeclaredBy, IsDeclaration}
+use Rattle.bgp_attr.specs.Speakers.{IsSpeaker, IsNeighbourOf}
+use Rattle.event_text.specs.WellFormed.{IsWellFormed}
+use Rattle.event_text.specs.Declarations.{Declaration, peer_at, has_addr, refusal, words_of, with_speaker, with_peer, with_session, without_session, begun_at, ended_at, IsPeerOf, ArePeersOf, HaveOwnAddrs, AreDeclared, IsDeclaredBy, IsDeclaration}
 use Rattle.event_text.proofs.Sessions.{Addable, addable_by, counted_push, KeepsWords, begun_words, ended_words, counted_begun, counted_ended}
 
 -- ---- `local`
@@ -44,7 +45,7 @@ addrs_push (p ∷ ps) q own none =
 peer_added : (local : Speaker) (peers : List DeclaredPeer) (k : ℕ) (s : Speaker) → AreDeclared local peers → Addable local peers k s → 0 < k → IsSpeaker s → AreDeclared local (peers ++ record { words = words_of (Some local) k s; session = 0; up = false } ∷ [])
 peer_added local peers k s declared a least ok =
     let q : DeclaredPeer = record { words = words_of (Some local) k s; session = 0; up = false } in
-    let words : ArePeerWords local q.words = record { least = least; most = a.few; speaker = ok; internal = refl; foreign = a.foreign } in
+    let words : IsNeighbourOf local q.words = record { neighbour = record { least = least; most = a.few; speaker = ok }; internal = refl; foreign = a.foreign } in
     record {
       speaker = declared.speaker;
       each = peers_push local peers q declared.each (record { words = words; begun = λ up. absurd (cc) });
@@ -67,7 +68,7 @@ KeepsBegun f = (p : DeclaredPeer) → (p.up ≡ true → 0 < p.session) → (f p
 peers_map : (f : DeclaredPeer → DeclaredPeer) → KeepsWords f → KeepsBegun f → (local : Speaker) (ps : List DeclaredPeer) → ArePeersOf local ps → ArePeersOf local (map f ps)
 unfolding KeepsBegun
 peers_map f keeps begun local [] each = tt
-peers_map f keeps begun local (p ∷ ps) each = (record { words = subst (ArePeerWords local) (sym (keeps p)) each.0.words; begun = begun p each.0.begun }, peers_map f keeps begun local ps each.1)
+peers_map f keeps begun local (p ∷ ps) each = (record { words = subst (IsNeighbourOf local) (sym (keeps p)) each.0.words; begun = begun p each.0.begun }, peers_map f keeps begun local ps each.1)
 
 addr_map : (f : DeclaredPeer → DeclaredPeer) → KeepsWords f → (a : ℕ) (ps : List DeclaredPeer) → has_addr a (map f ps) ≡ has_addr a ps
 addr_map f keeps a [] = refl

@@ -20,9 +20,11 @@ use Rattle.policy_rules.specs.Ranges.{AreRules}
 use Rattle.policy_rules.specs.Grammar.{rules_of}
 use Rattle.policy_rules.proofs.RangeLemmas.{and_then, either, below, addr_fits, prefix_ok, rules_ok}
 use Rattle.addr4.specs.Prefixes.{Network, IsMasked}
-use Rattle.event_text.specs.Words.{from_one, is_host, speaker_of, octets_of, way_out, way_over, interior_of, is_asked, link_of}
+use Rattle.bgp_attr.specs.Hosts.{is_host}
+use Rattle.bgp_attr.specs.Speakers.{IsSpeaker}
+use Rattle.event_text.specs.Words.{from_one, speaker_of, octets_of, way_out, way_over, interior_of, is_asked, link_of}
 use Rattle.event_text.specs.Events.{local_of, peer_of, one_number, bgp_of, filter_of, route_add_of, route_del_of, route_of, lost_of, cover_of, interior_event, work_of, ask_of, show_of, plain_event, named_event, event_of}
-use Rattle.event_text.specs.WellFormed.{IsNumber, IsSpeaker, IsMessage, IsPrefix, IsGateway, IsInterior, IsAsked, IsTask, IsWellFormed}
+use Rattle.event_text.specs.WellFormed.{IsNumber, IsMessage, IsPrefix, IsGateway, IsInterior, IsAsked, IsTask, IsWellFormed}
 
 -- ---- steps that may fail
 told : {A : Type 0} (b : Bool) (x y : Option A) (P : A → Type 0) → (b ≡ true → IfSome x P) → (b ≡ false → IfSome y P) → IfSome (cond b x y) P

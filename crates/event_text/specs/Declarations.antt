@@ -3,6 +3,7 @@ use Rattle.std.specs.Prelude.{◌≡◌, ℕ, ◌+◌, ◌≤◌, ◌<◌, ◌==
 use Rattle.std.specs.Coded.{Coded, code_by, coded×, coded_option, coded_list}
 use Rattle.bgp_attr.specs.declared.speaker.Speaker.{Speaker}
 use Rattle.bgp_attr.specs.declared.speaker.Neighbour.{Neighbour}
+use Rattle.bgp_attr.specs.Speakers.{IsSpeaker, IsNeighbourOf}
 use Rattle.journal_text.specs.declared.link.Link.{Link}
 use Rattle.journal_text.specs.declared.link.Link.TheVariants as links
 use Rattle.journal_text.specs.declared.link.Task.{Task}
@@ -12,7 +13,6 @@ use Rattle.journal_text.specs.declared.line.Code.TheVariants.{E3, E4, E5, E6}
 use Rattle.event_text.specs.declared.event.Event.{Event}
 use Rattle.event_text.specs.declared.event.Event.TheVariants.{Nothing, Local, Peer, Up, Down, Bgp, FilterIn, RouteAdd, RouteDel, Lose, Cover, Idle, Work, Ask, Show}
 use Rattle.event_text.specs.declared.declared.DeclaredPeer.{DeclaredPeer}
-use Rattle.event_text.specs.WellFormed.{IsSpeaker}
 
 pub record Declaration : Type 0 where
   pub speaker : Option Speaker
@@ -161,17 +161,9 @@ with_session d k = record { speaker = d.speaker; peers = map (begun_at k) d.peer
 abbrev pub without_session : Declaration → ℕ → Declaration
 without_session d k = record { speaker = d.speaker; peers = map (ended_at k) d.peers }
 
--- the words of a peer, where `local` has these
-pub record ArePeerWords (local : Speaker) (w : Neighbour) : Type 0 where
-  pub least : 0 < w.number
-  pub most : w.number ≤ 64
-  pub speaker : IsSpeaker (record { asn = w.asn; id = w.id; addr = w.addr })
-  pub internal : w.internal ≡ (local.asn == w.asn)
-  pub foreign : (local.addr == w.addr) ≡ false
-
 -- a peer that was declared after `local`; its session counts from 1
 pub record IsPeerOf (local : Speaker) (p : DeclaredPeer) : Type 0 where
-  pub words : ArePeerWords local p.words
+  pub words : IsNeighbourOf local p.words
   pub begun : p.up ≡ true → 0 < p.session
 
 abbrev pub ArePeersOf : Speaker → List DeclaredPeer → Type 0

@@ -2,7 +2,7 @@
 use Rattle.std.specs.Prelude.{◌≡◌, ℕ, ◌^◌, ◌<◌, ◌≤◌, List, length, Option, Some, None, true, false}
 use Rattle.std.specs.List.{All}
 use Rattle.addr4.specs.Prefixes.{Network, IsMasked}
-use Rattle.bgp_attr.specs.declared.speaker.Speaker.{Speaker}
+use Rattle.bgp_attr.specs.Speakers.{IsSpeaker}
 use Rattle.rib_route.specs.Ifaces.{is_iface_name}
 use Rattle.rib_route.specs.declared.rows.Interior.{Interior}
 use Rattle.journal_text.specs.Names.{IsNamed}
@@ -12,21 +12,12 @@ use Rattle.journal_text.specs.declared.link.Task.TheVariants.{Del, Fin, Rdel}
 use Rattle.policy_rules.specs.Ranges.{AreRules}
 use Rattle.event_text.specs.declared.event.Event.{Event}
 use Rattle.event_text.specs.declared.event.Event.TheVariants as events
-use Rattle.event_text.specs.Words.{is_host, is_asked}
+use Rattle.event_text.specs.Words.{is_asked}
 
 -- a number from 1 of 32 bits
 pub record IsNumber (n : ℕ) : Type 0 where
   pub least : 0 < n
   pub fits : n < 2 ^ 32
-
--- an AS number from 1 to 65535, an ID other than 0.0.0.0, and the address of a host
-pub record IsSpeaker (s : Speaker) : Type 0 where
-  pub asn_least : 0 < s.asn
-  pub asn_most : s.asn ≤ 65535
-  pub id_least : 0 < s.id
-  pub id_fits : s.id < 2 ^ 32
-  pub host : is_host s.addr ≡ true
-  pub addr_fits : s.addr < 2 ^ 32
 
 -- at least one octet
 pub record IsMessage (octets : List ℕ) : Type 0 where

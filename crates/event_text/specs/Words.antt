@@ -5,6 +5,7 @@ use Rattle.std.specs.Str.{bytes_eq}
 use Rattle.std.specs.List.{list_all}
 use Rattle.hex.specs.Hex.{decode_of}
 use Rattle.addr4.specs.Texts.{number_of, number_below, addr_of}
+use Rattle.bgp_attr.specs.Hosts.{is_host}
 use Rattle.bgp_attr.specs.declared.speaker.Speaker.{Speaker}
 use Rattle.rib_route.specs.Ifaces.{iface_of}
 use Rattle.rib_route.specs.declared.Proto.{Proto}
@@ -23,10 +24,6 @@ unfoldable pub from_one : List ℕ → Option ℕ
 from_one word = do
   n ← number_of word
   if n == 0 then None else Some n
-
--- a host may have the address: its first octet is from 1 to 223, but not 127
-abbrev pub is_host : ℕ → Bool
-is_host addr = nat_le 1 (addr / 16777216) && nat_le (addr / 16777216) 223 && not (addr / 16777216 == 127)
 
 -- `AS ID ADDR`: an AS number from 1 to 65535, an ID other than 0.0.0.0, and the address of a host
 unfoldable pub speaker_of : List (List ℕ) → Option Speaker

@@ -4,10 +4,10 @@ ghost use Rattle.std.specs.Prelude.{◌≡◌, ◌&&◌, ◌==◌, nat_le, lengt
 ghost use Rattle.std.specs.List.{list_all};
 ghost use Rattle.journal_text.specs.Names.{proto_of};
 ghost use Rattle.policy_rules.specs.Words.{words};
-ghost use Rattle.event_text.specs.Words.{is_clean, from_one, is_host, speaker_of, octets_of, way_out, way_over, interior_of, is_asked, link_of};
+ghost use Rattle.event_text.specs.Words.{is_clean, from_one, speaker_of, octets_of, way_out, way_over, interior_of, is_asked, link_of};
 
 use addr4::{Addr, Memory, read_addr, read_number, read_number_below};
-use bgp_attr::{Octets, Speaker};
+use bgp_attr::{Octets, Speaker, is_host};
 use hex::FromHexError;
 use journal_text::Link;
 use policy_rules::first_word;
@@ -42,14 +42,6 @@ pub fn from_one(word: &[u8]) -> Option<u32>
 {
     let number = read_number(word)?;
     if number == 0 { None } else { Some(number) }
-}
-
-/// Whether a host may have the address.
-fn is_host(addr: Addr) -> bool
-    ensures { result ≡ is_host addr }
-{
-    let first = addr.number() / 0x100_0000;
-    1 <= first && first <= 223 && first != 127
 }
 
 /// The words `AS ID ADDR`, and no other.

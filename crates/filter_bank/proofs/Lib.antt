@@ -1,3 +1,2 @@
 pub mod ChangeLemmas
-pub mod WalkLemmas
 pub mod LawLemmas

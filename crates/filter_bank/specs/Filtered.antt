@@ -1,16 +1,16 @@
 -- The incoming filter of a peer (RFC 4271, sections 5.1.3 and 9.1.1): the route that a peer's attributes make, where it is accepted.
-use Rattle.std.specs.Prelude.{◌≡◌, ◌≢◌, ℕ, ◌==◌, ◌||◌, cond, Bool, true, false, List, Option, Some, None}
+use Rattle.std.specs.Prelude.{ℕ, ◌==◌, ◌||◌, cond, Bool, true, false, List, Option, Some, None}
 use Rattle.addr4.specs.Prefixes.{Network}
 use Rattle.bgp_attr.specs.declared.attrs.Attrs.{Attrs}
 use Rattle.bgp_attr.specs.declared.route.Route.{Route}
 use Rattle.bgp_attr.specs.declared.speaker.Speaker.{Speaker}
 use Rattle.bgp_attr.specs.declared.speaker.Neighbour.{Neighbour}
 use Rattle.link_change.specs.Rows.{Rows}
-use Rattle.link_change.specs.Changes.{IsSent}
 use Rattle.link_change.specs.declared.change.Change.{Change}
 use Rattle.policy_rules.specs.declared.rule.Rule.{Rule}
 use Rattle.policy_rules.specs.Verdicts.{has_as, judged_by}
-use Rattle.pass_core.specs.Passed.{Passed, function_at}
+use Rattle.pass_core.specs.Passed.{Passed}
+use Rattle.pass_core.specs.Turns as turns
 
 -- the degree of preference before any rule: LOCAL_PREF of an internal peer's route, and 100 where it has none or the peer is
 -- external
@@ -41,20 +41,12 @@ filtered me peer rules p (Some attrs) = cond (is_own me attrs) None (judged_by r
 
 -- the rows of the link below the filter, where these rules hold everywhere
 abbrev pub filtered_rows : Speaker → Neighbour → List Rule → Rows Attrs → Rows Route
-filtered_rows me peer rules upper q = filtered me peer rules q (upper q)
+filtered_rows me peer rules upper = turns.rows_by (filtered me peer) rules upper
 
 -- the rows of the link below: at each prefix by the rules that hold there
 abbrev pub passed_rows : Speaker → Neighbour → Passed (List Rule) → Rows Attrs → Rows Route
-passed_rows me peer pass upper q = filtered me peer (function_at pass q) q (upper q)
-
--- the change of one row: none exactly where it stays the same
-abbrev pub IsChangeOf : {R : Type 0} → Network → Option R → Option R → Option (Change R) → Type 0
-IsChangeOf p before after None = after ≡ before
-IsChangeOf p before after (Some change) =
-    (change.prefix ≡ p) × (change.before ≡ before) × (change.after ≡ after) × (after ≢ before)
+passed_rows me peer pass upper = turns.passed_rows (filtered me peer) pass upper
 
 -- where the change that comes in leads from the rows above to new ones, what goes out leads from the rows below to the new ones there
 abbrev pub FiltersOn : Speaker → Neighbour → Passed (List Rule) → Change Attrs → Option (Change Route) → Type 0
-FiltersOn me peer pass change result =
-    (upper now : Rows Attrs) (p : Network) → IsSent upper now p (Some change)
-    → IsSent (passed_rows me peer pass upper) (passed_rows me peer pass now) p result
+FiltersOn me peer pass change result = turns.IsPassedOn (filtered me peer) pass change result

@@ -1,18 +1,18 @@
 //! The incoming filter.
 
-ghost use Rattle.std.specs.Prelude.{◌≡◌, ◌↔◌, IfOk, OnErr, IsTrue, [], None, is_some};
+ghost use Rattle.std.specs.Prelude.{◌≡◌, IfOk, OnErr, [], None, is_some};
 ghost use Rattle.addr4.specs.Places.{key_of};
 ghost use Rattle.bgp_attr.specs.declared.speaker.Speaker.{Speaker};
 ghost use Rattle.bgp_attr.specs.declared.speaker.Neighbour.{Neighbour};
 ghost use Rattle.link_change.specs.Rows.{IsNextCandidate, CoversRows};
 ghost use Rattle.pass_core.specs.Passed.{edited, present};
-ghost use Rattle.filter_bank.specs.Filtered.{passed_rows, FiltersOn, IsChangeOf};
+ghost use Rattle.filter_bank.specs.Filtered.{passed_rows, FiltersOn};
 ghost use Rattle.filter_bank.specs.Walks.{IsWalked};
 
 use crate::filtering::filtered;
-use addr4::{Memory, Place, Prefix, Row};
+use addr4::{Memory, Place, Prefix};
 use bgp_attr::{Neighbour, Route, SharedAttrs, Speaker};
-use link_change::{Change, Turn, Upstream};
+use link_change::{Change, Turn, Upstream, copy_row};
 use pass_core::Pass;
 use policy_rules::Rules;
 use std::alloc::Global;
@@ -32,31 +32,6 @@ impl Model for FilterBank {
     ghost Value = { Passed (List Rule) };
 
     ghost view = { λ f. f.pass };
-}
-
-// Whether both rows are none, or both some and equal.
-fn is_same(before: &Option<Route>, after: &Option<Route>) -> bool
-    ensures { IsTrue result ↔ (before.now ≡ after.now) }
-{
-    match (before, after) {
-        (None, None) => true,
-        (Some(before), Some(after)) => before.same(after),
-        _ => false,
-    }
-}
-
-// The change of a row. None exactly where it stays the same.
-fn change_of(prefix: Prefix, before: Option<Route>, after: Option<Route>) -> Option<Change<Route>>
-    ensures { IsChangeOf prefix before after result }
-{
-    if is_same(&before, &after) {
-        return None;
-    }
-    Some(Change {
-        prefix,
-        before,
-        after,
-    })
 }
 
 impl FilterBank {
@@ -104,7 +79,7 @@ impl FilterBank {
         let rules = self.pass.at(change.prefix);
         let before = filtered(me, peer, rules, change.prefix, change.before);
         let after = filtered(me, peer, rules, change.prefix, change.after);
-        change_of(change.prefix, before, after)
+        Change::between(change.prefix, before, after)
     }
 
     /// One turn of the walk: it goes to the least candidate of the link above that lies beyond its place, and sends the
@@ -127,11 +102,11 @@ impl FilterBank {
             return Ok(Turn::Quiet);
         };
         let row = upper.asked(&prefix)?;
-        let again = copied(&row)?;
+        let again = copy_row(&row)?;
         let before = filtered(me, peer, self.pass.at(prefix), prefix, row);
         self.pass.step_to(prefix);
         let after = filtered(me, peer, self.pass.at(prefix), prefix, again);
-        Ok(Turn::taken(change_of(prefix, before, after)))
+        Ok(Turn::taken(Change::between(prefix, before, after)))
     }
 
     /// The row at a prefix of the link below.
@@ -159,15 +134,5 @@ impl FilterBank {
         ensures covers { (me : Speaker) (peer : Neighbour) → CoversRows (U.candidates upper.now) (passed_rows me peer self.now (U.rows upper.now)) }
     {
         upper.next_candidate(&after)
-    }
-}
-
-// The same row once more. Takes no memory.
-fn copied(row: &Option<SharedAttrs>) -> Result<Option<SharedAttrs>, Memory>
-    ensures { IfOk result (λ copied. copied ≡ row.now) }
-{
-    match row {
-        Some(attrs) => Ok(Some(attrs.copy()?)),
-        None => Ok(None),
     }
 }

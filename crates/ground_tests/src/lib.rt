@@ -10,6 +10,8 @@ mod attributes;
 #[cfg(test)]
 mod changes;
 #[cfg(test)]
+mod exits;
+#[cfg(test)]
 mod hops;
 #[cfg(test)]
 mod interests;

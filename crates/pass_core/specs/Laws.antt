@@ -1,8 +1,15 @@
 -- Laws of a function that is changed in the background, for the crates above.
-use Rattle.std.specs.Prelude.{◌≡◌, Some, None}
+use Rattle.std.specs.Prelude.{◌≡◌, Option, Some, None}
 use Rattle.addr4.specs.Prefixes.{Network}
 use Rattle.addr4.specs.Places.{IsBeyond}
+use Rattle.link_change.specs.Rows.{Rows, Candidates, IsNextCandidate, CoversRows, with_row, computed_rows}
+use Rattle.link_change.specs.Changes.{IsSent, IsChangeOf}
+use Rattle.link_change.specs.Turns.{IsTurned}
+use Rattle.link_change.specs.declared.change.Change.{Change}
+use Rattle.link_change.specs.declared.turn.Turn.{Turn}
 use Rattle.pass_core.specs.Passed.{Passed, Walked, function_at, present, edited, stepped, finished}
+use Rattle.pass_core.specs.Split.{split, MakesNone}
+use Rattle.pass_core.specs.Turns.{passed, passed_rows, rows_by, IsPassedOn, Walks, IsWalked}
 
 -- Without a walk the function in force holds at each prefix.
 abbrev pub HoldsEverywhere : Type 0 → Type 0
@@ -59,3 +66,90 @@ StepKeepsPresent F = (s : Passed F) (p : Network) → present (stepped s p) ≡ 
 -- So does the end of a walk.
 abbrev pub FinishKeepsPresent : Type 0 → Type 0
 FinishKeepsPresent F = (s : Passed F) → present (finished s) ≡ present s
+
+-- ---- two functions and a place: whatever the function in force and the new one are
+-- Before all prefixes the rows are those of the function in force.
+abbrev pub SplitBegins : Type 0 → Type 0 → Type 0
+SplitBegins A B =
+    (in_force fresh : Network → Option A → Option B) (upper : Rows A)
+    → computed_rows (split in_force fresh None) upper ≡ computed_rows in_force upper
+
+-- Beyond the place they are those of the function in force, and up to it those of the new one.
+abbrev pub SplitBeyond : Type 0 → Type 0 → Type 0
+SplitBeyond A B =
+    (in_force fresh : Network → Option A → Option B) (place : Option Network) (upper : Rows A) (q : Network) → IsBeyond place q
+    → computed_rows (split in_force fresh place) upper q ≡ in_force q (upper q)
+
+abbrev pub SplitBehind : Type 0 → Type 0 → Type 0
+SplitBehind A B =
+    (in_force fresh : Network → Option A → Option B) (place : Option Network) (upper : Rows A) (q : Network) → (IsBeyond place q → ⊥)
+    → computed_rows (split in_force fresh place) upper q ≡ fresh q (upper q)
+
+-- A step to the next candidate changes the row there alone: to that of the new function.
+abbrev pub SplitSteps : Type 0 → Type 0 → Type 0
+SplitSteps A B =
+    (in_force fresh : Network → Option A → Option B) (candidates : Candidates) (upper : Rows A) (place : Option Network) (p : Network)
+    → MakesNone in_force → MakesNone fresh → CoversRows candidates upper → IsNextCandidate candidates place (Some p)
+    → computed_rows (split in_force fresh (Some p)) upper ≡ with_row (computed_rows (split in_force fresh place) upper) p (fresh p (upper p))
+
+-- So the change of the row there leads from the rows before the step to those after it.
+abbrev pub SplitSends : Type 0 → Type 0 → Type 0
+SplitSends A B =
+    (in_force fresh : Network → Option A → Option B) (candidates : Candidates) (upper : Rows A) (place : Option Network) (p : Network) (sent : Option (Change B))
+    → MakesNone in_force → MakesNone fresh → CoversRows candidates upper → IsNextCandidate candidates place (Some p)
+    → IsChangeOf p (in_force p (upper p)) (fresh p (upper p)) sent
+    → IsSent (computed_rows (split in_force fresh place) upper) (computed_rows (split in_force fresh (Some p)) upper) p sent
+
+-- Where no candidate lies beyond the place, the rows are those of the new function.
+abbrev pub SplitEnds : Type 0 → Type 0 → Type 0
+SplitEnds A B =
+    (in_force fresh : Network → Option A → Option B) (candidates : Candidates) (upper : Rows A) (place : Option Network)
+    → MakesNone in_force → MakesNone fresh → CoversRows candidates upper → IsNextCandidate candidates place None
+    → computed_rows (split in_force fresh place) upper ≡ computed_rows fresh upper
+
+-- ---- a stage whose rows are made by one function after the other
+-- Without a walk the rows below are those that the function of the latest edit makes.
+abbrev pub ExactWithoutAWalk : Type 0 → Type 0 → Type 0 → Type 0
+ExactWithoutAWalk F A B =
+    (apply : F → Network → Option A → Option B) (s : Passed F) (upper : Rows A) → s.walk ≡ None
+    → passed_rows apply s upper ≡ rows_by apply (present s) upper
+
+-- An edit changes no row below.
+abbrev pub EditKeepsRows : Type 0 → Type 0 → Type 0 → Type 0
+EditKeepsRows F A B =
+    (apply : F → Network → Option A → Option B) (s : Passed F) (f : F) (upper : Rows A)
+    → passed_rows apply (edited s f) upper ≡ passed_rows apply s upper
+
+-- Every row below stands at a candidate of the link above.
+abbrev pub PassedIsCovered : Type 0 → Type 0 → Type 0 → Type 0
+PassedIsCovered F A B =
+    (apply : F → Network → Option A → Option B) (s : Passed F) (candidates : Candidates) (upper : Rows A) → ((f : F) → MakesNone (apply f))
+    → CoversRows candidates upper → CoversRows candidates (passed_rows apply s upper)
+
+-- A change is passed on as the change of the row that the function at its prefix makes.
+abbrev pub ChangeIsPassedOn : Type 0 → Type 0 → Type 0 → Type 0
+ChangeIsPassedOn F A B =
+    (apply : F → Network → Option A → Option B) (s : Passed F) (change : Change A) (sent : Option (Change B))
+    → IsChangeOf change.prefix (passed apply s change.prefix change.before) (passed apply s change.prefix change.after) sent
+    → IsPassedOn apply s change sent
+
+-- A turn that steps to the next candidate, and sends the change there.
+abbrev pub StepWalks : Type 0 → Type 0 → Type 0 → Type 0
+StepWalks F A B =
+    (apply : F → Network → Option A → Option B) (s : Passed F) (w : Walked F) (candidates : Candidates) (upper : Rows A) (p : Network) (sent : Option (Change B))
+    → ((f : F) → MakesNone (apply f)) → CoversRows candidates upper → s.walk ≡ Some w → IsNextCandidate candidates w.place (Some p)
+    → IsChangeOf p (passed apply s p (upper p)) (passed apply (stepped s p) p (upper p)) sent
+    → Walks apply candidates upper s (stepped s p) sent
+
+-- One that finds none, and ends the walk.
+abbrev pub EndWalks : Type 0 → Type 0 → Type 0 → Type 0
+EndWalks F A B =
+    (apply : F → Network → Option A → Option B) (s : Passed F) (w : Walked F) (candidates : Candidates) (upper : Rows A)
+    → ((f : F) → MakesNone (apply f)) → CoversRows candidates upper → s.walk ≡ Some w → IsNextCandidate candidates w.place None
+    → Walks apply candidates upper s (finished s) None
+
+-- What a turn of the walk sends leads from the rows below before it to those after it.
+abbrev pub WalkLeads : Type 0 → Type 0 → Type 0 → Type 0
+WalkLeads F A B =
+    (apply : F → Network → Option A → Option B) (candidates : Candidates) (upper : Rows A) (old new : Passed F) (turn : Turn B)
+    → IsWalked apply candidates upper old new turn → IsTurned (passed_rows apply old upper) (passed_rows apply new upper) turn

@@ -1,5 +1,5 @@
 -- What contracts see of a function that is changed in the background.
-use Rattle.std.specs.Prelude.{Bool, true, Option, Some, None, if◌then◌else◌, refl}
+use Rattle.std.specs.Prelude.{Bool, true, false, Option, Some, None, is_some, if◌then◌else◌, refl}
 use Rattle.std.specs.Coded.{Coded, code_by, coded×, coded_option}
 use Rattle.std.specs.Ordering.{is_lt}
 use Rattle.addr4.specs.Prefixes.{Network, prefix_cmp, network_code}
@@ -52,6 +52,14 @@ module _ {F : Type 0} where
   -- the function of the latest edit
   abbrev pub present : Passed F → F
   present s = present_of s.in_force s.walk
+
+  abbrev pub is_followed : Option (Walked F) → Bool
+  is_followed None = false
+  is_followed (Some w) = is_some w.waiting
+
+  -- whether a function waits for the end of a walk
+  abbrev pub waits : Passed F → Bool
+  waits s = is_followed s.walk
 
   -- a walk that stands before all prefixes, for which nothing waits
   abbrev pub begun : F → Walked F

@@ -1,7 +1,7 @@
 //! Laws of a function that is changed in the background, for the proofs of the crates above. Each is a function that does
 //! nothing, whose contract is the law.
 
-ghost use Rattle.pass_core.specs.Laws.{HoldsEverywhere, HoldsBeyond, HoldsBehind, StepSetsBehind, StepKeepsBeyond, StepKeepsBehind, EditKeeps, FinishSets, FinishKeepsBehind, EditIsPresent, StepKeepsPresent, FinishKeepsPresent};
+ghost use Rattle.pass_core.specs.Laws.{HoldsEverywhere, HoldsBeyond, HoldsBehind, StepSetsBehind, StepKeepsBeyond, StepKeepsBehind, EditKeeps, FinishSets, FinishKeepsBehind, EditIsPresent, StepKeepsPresent, FinishKeepsPresent, SplitBegins, SplitBeyond, SplitBehind, SplitSteps, SplitSends, SplitEnds, ExactWithoutAWalk, EditKeepsRows, PassedIsCovered, ChangeIsPassedOn, StepWalks, EndWalks, WalkLeads};
 
 /// At each prefix one function holds: the one in force, or up to the place of a walk the new one.
 pub fn one_function_holds<F>()
@@ -34,4 +34,30 @@ pub fn the_latest_is_the_edited<F>()
     ensures edit { EditIsPresent F }
     ensures step { StepKeepsPresent F }
     ensures finish { FinishKeepsPresent F }
+{}
+
+/// Rows beyond a place by one function, up to it by another: a step to the next candidate changes one row, and where there
+/// is none the rows are those of the new function.
+pub fn a_step_changes_one_row<A, B>()
+    ensures begins { SplitBegins A B }
+    ensures beyond { SplitBeyond A B }
+    ensures behind { SplitBehind A B }
+    ensures steps { SplitSteps A B }
+    ensures sends { SplitSends A B }
+    ensures ends { SplitEnds A B }
+{}
+
+/// The rows below a stage, by the functions that hold: without a walk those of the latest one; an edit changes none.
+pub fn the_rows_below<F, A, B>()
+    ensures exact { ExactWithoutAWalk F A B }
+    ensures edit { EditKeepsRows F A B }
+    ensures covered { PassedIsCovered F A B }
+    ensures change { ChangeIsPassedOn F A B }
+{}
+
+/// What a turn of a walk sends leads from the rows below before it to those after it.
+pub fn a_walk_leads<F, A, B>()
+    ensures step { StepWalks F A B }
+    ensures end { EndWalks F A B }
+    ensures leads { WalkLeads F A B }
 {}

@@ -9,15 +9,18 @@
 //! to the one before. The turn that finds no further prefix ends the walk: then the new function is in force everywhere,
 //! and one that waits begins a walk of its own, before all prefixes.
 //!
-//! Here is only which function holds where. To find the prefixes of a walk, and to send the changes that a step makes, is
-//! the work of the stages that hold a [`Pass`].
+//! A stage that holds a [`Pass`] makes each row below from the one above by the function that holds there. What it passes on
+//! and what its turns do is said here once for all such stages, whatever a function is and makes of a row: over `apply`, an
+//! argument of the definitions. [`the_rows_below`] and [`a_walk_leads`] are their laws. [`a_step_changes_one_row`] is the
+//! law below them, of any two functions and a place: stages whose functions themselves change during a walk, as answers for
+//! next hops do, stand on it. To ask the link above for rows and candidates is the stages' own work.
 #![tactic(auto)]
 
 mod laws;
 mod pass;
 
 pub use laws::{
-    a_step_sets_what_it_passes, an_edit_changes_nothing, one_function_holds, the_end_sets_the_rest,
-    the_latest_is_the_edited,
+    a_step_changes_one_row, a_step_sets_what_it_passes, a_walk_leads, an_edit_changes_nothing,
+    one_function_holds, the_end_sets_the_rest, the_latest_is_the_edited, the_rows_below,
 };
 pub use pass::Pass;

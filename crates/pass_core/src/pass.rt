@@ -2,7 +2,7 @@
 
 ghost use Rattle.std.specs.Prelude.{◌≡◌, is_some, IsSome, IfSome};
 ghost use Rattle.addr4.specs.Places.{key_of, IsBeyond};
-ghost use Rattle.pass_core.specs.Passed.{is_beyond, function_at, present, edited, stepped, finished, begun, latest_of};
+ghost use Rattle.pass_core.specs.Passed.{is_beyond, function_at, present, edited, stepped, finished, begun, latest_of, waits};
 ghost use Rattle.pass_core.specs.Walks.{walked};
 
 use addr4::{Place, Prefix};
@@ -121,6 +121,16 @@ impl<F: Drop> Pass<F> {
         ensures { result ≡ is_some self.now.walk }
     {
         self.walk.is_some()
+    }
+
+    /// Whether a function waits for the end of the walk that is on.
+    pub fn waits(&self) -> bool
+        ensures { result ≡ waits self.now }
+    {
+        match &self.walk {
+            None => false,
+            Some(walk) => walk.waiting.is_some(),
+        }
     }
 
     /// How far the walk has come. To be asked while a walk is on.

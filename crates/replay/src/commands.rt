@@ -72,6 +72,7 @@ pub fn obey<S: Source, K: Sink>(
     ensures write_fault { result ≡ Status.WriteFault → Rose (K.faults sink.old) (K.faults sink.new) }
     ensures usage { result ≡ Status.Usage → Appends (K.taken sink.old) (K.taken sink.new) usage_line }
     ensures command { command ≢ None → result ≢ Status.Usage }
+    ensures by_check { result ≡ Status.Broken → command ≡ Some commands.Check }
     ensures no_command { command ≡ None → (result ≡ Status.Usage) ⊎ (result ≡ Status.WriteFault) }
     ensures unread { command ≡ None → source.new ≡ source.old }
 {

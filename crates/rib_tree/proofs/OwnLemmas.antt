@@ -14,16 +14,11 @@ use Rattle.link_change.specs.declared.turn.Turn.TheVariants.{Nothing, Quiet, Sen
 use Rattle.link_change.proofs.RowLemmas.{rows_inserted, rows_removed, empty_rows}
 use Rattle.deletion_stage.specs.Lost.{Lost}
 use Rattle.deletion_stage.specs.Covering.{row_over}
-use Rattle.journal_text.specs.Journals.{Journaled, Adds}
-use Rattle.loss_chain.specs.Tables.{rows_below, beside_chain, IsLossChain}
-use Rattle.loss_chain.specs.Steps.{live_after, without, deletions_after, swept_one, swept_tables, SweepsTables, IsTakenTables}
-use Rattle.rib_tree.specs.Branches.{Branch, branch_tables, beside_branch, AreOwn, IsBranch}
-use Rattle.rib_tree.specs.BranchSteps.{new_branch, fed_branch, lost_branch, welded_branch, swept_branch, SweepsBranch, IsTakenBranch}
-use Rattle.link_change.specs.declared.change.Change.{Change}
-use Rattle.journal_text.specs.declared.value.Value.{Value}
-use Rattle.journal_text.specs.Walk.{Links, Leads}
-use Rattle.loss_chain.specs.declared.owner.Owner.TheVariants.{Origin}
-use Rattle.journal_text.specs.Values.{interior_value}
+use Rattle.journal_text.specs.Journals.{Journaled}
+use Rattle.loss_chain.specs.Tables.{rows_below, IsLossChain}
+use Rattle.loss_chain.specs.Steps.{live_after, without, deletions_after, swept_one}
+use Rattle.rib_tree.specs.Branches.{Branch, AreOwn, IsBranch}
+use Rattle.rib_tree.specs.BranchSteps.{new_branch, with_tables, fed_branch, lost_branch, welded_branch, swept_branch, IsTakenBranch}
 use Rattle.rib_tree.specs.Laws.{RowsAreOwn}
 
 abbrev Table : Type 0
@@ -70,7 +65,7 @@ own_empty proto q r at = let none : tables.get {R = prefix_cmp} (tables.empty {X
 -- ---- branches
 
 pub new_is_branch : (proto : Proto) → IsBranch (new_branch proto)
-new_is_branch proto = record { apart = tt; rising = tt; counted = tt; own = own_empty proto; own_lost = tt }
+new_is_branch proto = record { chain = record { apart = tt; rising = tt }; counted = tt; own = own_empty proto; own_lost = tt }
 
 abbrev Counted : ℕ → List (Lost Interior) → Type 0
 Counted n ds = AllByRecursion (λ d. d.number ≤ n) ds
@@ -79,13 +74,13 @@ abbrev AllOwn : Proto → List (Lost Interior) → Type 0
 AllOwn proto ds = AllByRecursion (λ d. AreOwn proto d.rows) ds
 
 abbrev Keeps : Branch → Type 0
-Keeps b = Counted b.losses b.deletions × (AreOwn b.proto b.live × AllOwn b.proto b.deletions)
+Keeps b = Counted b.losses b.tables.deletions × (AreOwn b.proto b.tables.live × AllOwn b.proto b.tables.deletions)
 
 -- one that is known to be sound
-kept_branch : (b new : Branch) → new ≡ b → IsLossChain (branch_tables new) → Keeps b → IsBranch new
+kept_branch : (b new : Branch) → new ≡ b → IsLossChain new.tables → Keeps b → IsBranch new
 kept_branch b new is sound keeps =
     let all : Keeps new = subst Keeps (sym is) keeps in
-    record { apart = sound.apart; rising = sound.rising; counted = all.0; own = all.1.0; own_lost = all.1.1 }
+    record { chain = sound; counted = all.0; own = all.1.0; own_lost = all.1.1 }
 
 counted_fed : (n : ℕ) (p : Network) (row : Option Interior) (ds : List (Lost Interior)) → Counted n ds → Counted n (deletions_after ds p row)
 counted_fed n p None ds all = all
@@ -95,23 +90,23 @@ own_lost_fed : (proto : Proto) (p : Network) (row : Option Interior) (ds : List 
 own_lost_fed proto p None ds all = all
 own_lost_fed proto p (Some r) ds all = all_mapped (λ d. AreOwn proto d.rows) (without p) (λ d own. own_removed proto d.rows p own) ds all
 
-pub branch_fed : (b new : Branch) (p : Network) (row : Option Interior) → IsBranch b → IfSome row (λ r. r.proto ≡ b.proto) → new ≡ fed_branch b p row → IsLossChain (branch_tables new) → IsBranch new
+pub branch_fed : (b new : Branch) (p : Network) (row : Option Interior) → IsBranch b → IfSome row (λ r. r.proto ≡ b.proto) → new ≡ fed_branch b p row → IsLossChain new.tables → IsBranch new
 branch_fed b new p row is own after sound =
     kept_branch (fed_branch b p row) new after sound
-    (counted_fed b.losses p row b.deletions is.counted, (own_fed b.proto b.live p row is.own own, own_lost_fed b.proto p row b.deletions is.own_lost))
+    (counted_fed b.losses p row b.tables.deletions is.counted, (own_fed b.proto b.tables.live p row is.own own, own_lost_fed b.proto p row b.tables.deletions is.own_lost))
 
 lost_keeps : (b : Branch) → IsBranch b → Keeps (lost_branch b)
 lost_keeps b is =
-    let last : Lost Interior = record { number = b.losses + 1; rows = b.live } in
-    elim (is_empty_map b.live) as (λ e. Counted (cond e b.losses (b.losses + 1)) (cond e b.deletions (b.deletions ++ last ∷ [])) × (AreOwn b.proto tables.empty × AllOwn b.proto (cond e b.deletions (b.deletions ++ last ∷ [])))) [
+    let last : Lost Interior = record { number = b.losses + 1; rows = b.tables.live } in
+    elim (is_empty_map b.tables.live) as (λ e. Counted (cond e b.losses (b.losses + 1)) (cond e b.tables.deletions (b.tables.deletions ++ last ∷ [])) × (AreOwn b.proto tables.empty × AllOwn b.proto (cond e b.tables.deletions (b.tables.deletions ++ last ∷ [])))) [
       | true ↦ (is.counted, (own_empty b.proto, is.own_lost))
       | false ↦ (
-        all_and_last (λ d. d.number ≤ b.losses) (λ d. d.number ≤ b.losses + 1) last (λ d h. omega (arith, h)) (omega arith) b.deletions is.counted,
-        (own_empty b.proto, all_and_last (λ d. AreOwn b.proto d.rows) (λ d. AreOwn b.proto d.rows) last (λ d own. own) is.own b.deletions is.own_lost),
+        all_and_last (λ d. d.number ≤ b.losses) (λ d. d.number ≤ b.losses + 1) last (λ d h. omega (arith, h)) (omega arith) b.tables.deletions is.counted,
+        (own_empty b.proto, all_and_last (λ d. AreOwn b.proto d.rows) (λ d. AreOwn b.proto d.rows) last (λ d own. own) is.own b.tables.deletions is.own_lost),
       )
     ]
 
-pub branch_lost : (b new : Branch) → IsBranch b → new ≡ lost_branch b → IsLossChain (branch_tables new) → IsBranch new
+pub branch_lost : (b new : Branch) → IsBranch b → new ≡ lost_branch b → IsLossChain new.tables → IsBranch new
 branch_lost b new is after sound = kept_branch (lost_branch b) new after sound (lost_keeps b is)
 
 -- the next loss is later than those that were counted
@@ -119,11 +114,11 @@ pub next_is_later : (n : ℕ) (ds : List (Lost Interior)) → Counted n ds → A
 next_is_later n [] all = tt
 next_is_later n (d ∷ ds) all = let first = all.0 in (omega (arith, first), next_is_later n ds all.1)
 
-pub branch_welded : (b new : Branch) → IsBranch b → new ≡ welded_branch b → IsLossChain (branch_tables new) → IsBranch new
+pub branch_welded : (b new : Branch) → IsBranch b → new ≡ welded_branch b → IsLossChain new.tables → IsBranch new
 branch_welded b new is after sound =
     kept_branch (welded_branch b) new after sound (
-      all_kept (λ d. d.number ≤ b.losses) (λ d. not (is_empty_map d.rows)) b.deletions is.counted,
-      (is.own, all_kept (λ d. AreOwn b.proto d.rows) (λ d. not (is_empty_map d.rows)) b.deletions is.own_lost),
+      all_kept (λ d. d.number ≤ b.losses) (λ d. not (is_empty_map d.rows)) b.tables.deletions is.counted,
+      (is.own, all_kept (λ d. AreOwn b.proto d.rows) (λ d. not (is_empty_map d.rows)) b.tables.deletions is.own_lost),
     )
 
 counted_one : (n loss : ℕ) (p : Network) (d : Lost Interior) → d.number ≤ n → (swept_one loss p d).number ≤ n
@@ -132,17 +127,17 @@ counted_one n loss p d h = elim (d.number == loss) as (λ b. (cond b (without p 
 own_one : (proto : Proto) (loss : ℕ) (p : Network) (d : Lost Interior) → AreOwn proto d.rows → AreOwn proto (swept_one loss p d).rows
 own_one proto loss p d own = elim (d.number == loss) as (λ b. AreOwn proto (cond b (without p d) d).rows) [ true ↦ own_removed proto d.rows p own | false ↦ own ]
 
-branch_swept : (b new : Branch) (loss : ℕ) (p : Network) → IsBranch b → new ≡ swept_branch loss p b → IsLossChain (branch_tables new) → IsBranch new
+branch_swept : (b new : Branch) (loss : ℕ) (p : Network) → IsBranch b → new ≡ swept_branch loss p b → IsLossChain new.tables → IsBranch new
 branch_swept b new loss p is after sound =
     kept_branch (swept_branch loss p b) new after sound (
-      all_mapped (λ d. d.number ≤ b.losses) (swept_one loss p) (counted_one b.losses loss p) b.deletions is.counted,
-      (is.own, all_mapped (λ d. AreOwn b.proto d.rows) (swept_one loss p) (own_one b.proto loss p) b.deletions is.own_lost),
+      all_mapped (λ d. d.number ≤ b.losses) (swept_one loss p) (counted_one b.losses loss p) b.tables.deletions is.counted,
+      (is.own, all_mapped (λ d. AreOwn b.proto d.rows) (swept_one loss p) (own_one b.proto loss p) b.tables.deletions is.own_lost),
     )
 
-pub branch_taken : (b new : Branch) (loss : ℕ) (before now : Journaled) (turn : Turn Interior) → IsBranch b → IsTakenBranch b new loss before now turn → IsLossChain (branch_tables new) → IsBranch new
-branch_taken b new loss before now Nothing is taken sound = subst IsBranch (sym taken.1.0) is
-branch_taken b new loss before now Quiet is taken sound = branch_swept b new loss taken.2.prefix is taken.2.after sound
-branch_taken b new loss before now (Sent change) is taken sound = branch_swept b new loss taken.2.prefix is taken.2.after sound
+pub branch_taken : (b new : Branch) (loss : ℕ) (before now : Journaled) (turn : Turn Interior) → IsBranch b → new ≡ with_tables b new.tables → IsTakenBranch b new loss before now turn → IsLossChain new.tables → IsBranch new
+branch_taken b new loss before now Nothing is kept taken sound = subst IsBranch (sym (kept ∙ ap (with_tables b) taken.1.0)) is
+branch_taken b new loss before now Quiet is kept taken sound = branch_swept b new loss taken.2.prefix is (kept ∙ ap (with_tables b) taken.2.after) sound
+branch_taken b new loss before now (Sent change) is kept taken sound = branch_swept b new loss taken.2.prefix is (kept ∙ ap (with_tables b) taken.2.after) sound
 
 -- ---- rows
 
@@ -155,32 +150,4 @@ own_row proto live (d ∷ ds) p r own all at =
     ] refl at
 
 pub rows_are_own : RowsAreOwn
-rows_are_own b p row is at = own_row b.proto b.live b.deletions p row is.own is.own_lost at
-
--- ---- turns
-
-sweeps_branch : (old new : Branch) (loss : ℕ) (sent : Option (Change Interior)) (before now : Journaled) → new.proto ≡ old.proto → new.losses ≡ old.losses
-    → Adds (SweepsTables interior_value (Origin old.proto) (branch_tables old) (branch_tables new) loss sent) before now → Adds (SweepsBranch old new loss sent) before now
-sweeps_branch old new loss sent before now proto losses (entries, now_is, s) =
-    let tables_are : branch_tables new ≡ swept_tables loss s.prefix (branch_tables old) = s.after in
-    let P : Proto → Type 0 = λ k. (others : Links Value) → Leads (beside_branch others old) entries (beside_chain interior_value (Origin k) others (branch_tables new)) in (
-      entries,
-      now_is,
-      record {
-        prefix = s.prefix;
-        row = s.row;
-        table = s.table;
-        stands = s.stands;
-        least = s.least;
-        after = λ i. record { proto = proto i; losses = losses i; live = (tables_are i).live; deletions = (tables_are i).deletions };
-        fall = record { leads = subst P (sym proto) s.fall.leads; down = s.fall.down };
-        rows = s.rows;
-      },
-    )
-
-pub taken_branch : (old new : Branch) (loss : ℕ) (before now : Journaled) (turn : Turn Interior) → new.proto ≡ old.proto → new.losses ≡ old.losses
-    → IsTakenTables interior_value (Origin old.proto) (branch_tables old) (branch_tables new) loss before now turn → IsTakenBranch old new loss before now turn
-taken_branch old new loss before now Nothing proto losses taken =
-    let same : branch_tables new ≡ branch_tables old = taken.1.0 in (taken.0, ((λ i. record { proto = proto i; losses = losses i; live = (same i).live; deletions = (same i).deletions }), taken.1.1))
-taken_branch old new loss before now Quiet proto losses taken = sweeps_branch old new loss None before now proto losses taken
-taken_branch old new loss before now (Sent change) proto losses taken = sweeps_branch old new loss (Some change) before now proto losses taken
+rows_are_own b p row is at = own_row b.proto b.tables.live b.tables.deletions p row is.own is.own_lost at

@@ -10,8 +10,8 @@ use Rattle.std.specs.Prelude.{T}
 use Rattle.addr4.proofs.PrefixOrder.{prefixes_total, exact_prefixes}
 use Rattle.pass_core.specs.Passed.{is_beyond}
 use Rattle.loss_chain.specs.Steps.{without}
-use Rattle.in_chain.specs.Incomings.{incoming_count}
-use Rattle.in_chain.specs.Chains.{count_beyond, lost_beyond, waiting_turns}
+use Rattle.loss_chain.specs.Tables.{tables_count}
+use Rattle.in_chain.specs.Chains.{with_tables, count_beyond, lost_beyond, waiting_turns}
 use Rattle.addr4.specs.Prefixes.{Network, prefix_cmp}
 use Rattle.bgp_attr.specs.declared.attrs.Attrs.{Attrs}
 use Rattle.link_change.specs.Rows.{is_empty_map}
@@ -48,7 +48,7 @@ pub record IsSum (f : Chained → ℕ) (sum_of : List Chained → ℕ) : Type 0 
   pub more : (c : Chained) (cs : List Chained) → sum_of (c ∷ cs) ≡ f c + sum_of cs
 
 abbrev lost_of : Chained → ℕ
-lost_of c = lost_count c.incoming.deletions
+lost_of c = lost_count c.incoming.tables.deletions
 
 lost_are_sum : IsSum lost_of lost_in
 lost_are_sum = record { none = refl; more = λ c cs. refl }
@@ -83,11 +83,11 @@ module _ (f : Chained → ℕ) (sum_of : List Chained → ℕ) (is : IsSum f sum
           omega (arith, all, old, r)
 
 -- ---- what a turn of a chain leaves
-pub swept_rows : (s : ℕ) (c : Chained) (p : Network) (a : Attrs) (t : FinMap prefix_cmp Attrs) → IsChain c → table_of s c.incoming.deletions ≡ Some t → tables.get t p ≡ Some a
+pub swept_rows : (s : ℕ) (c : Chained) (p : Network) (a : Attrs) (t : FinMap prefix_cmp Attrs) → IsChain c → table_of s c.incoming.tables.deletions ≡ Some t → tables.get t p ≡ Some a
     → lost_of (welded (swept s p c)) + 1 ≡ lost_of c
 swept_rows s c p a t chain stands at =
-    let filtered = welded_rows (map (swept_one s p) c.incoming.deletions) in
-    let less = swept_rows_of s p t a c.incoming.deletions chain.rising stands at in
+    let filtered = welded_rows (map (swept_one s p) c.incoming.tables.deletions) in
+    let less = swept_rows_of s p t a c.incoming.tables.deletions chain.rising stands at in
     omega arith
 
 -- the entries of a table without a prefix
@@ -157,21 +157,16 @@ waiting_more a b (Some rules) most = omega (arith, most)
 pub swept_turns : (s : ℕ) (c : Chained) (p : Network) → lost_of (welded (swept s p c)) ≤ lost_of c → turns_left (welded (swept s p c)) ≤ turns_left c
 swept_turns s c p less = by_walk c.filter.walk
   where
-    by_walk : (w : Option (Walked (List Rule))) → walk_turns (welded (swept s p c)).incoming w ≤ walk_turns c.incoming w
+    by_walk : (w : Option (Walked (List Rule))) → walk_turns (welded (swept s p c)).incoming.tables w ≤ walk_turns c.incoming.tables w
     by_walk None = omega arith
     by_walk (Some w) =
-        let a = swept_beyond w.place s p c.incoming.deletions in
-        let b = full_beyond w.place (map (swept_one s p) c.incoming.deletions) in
-        let d = waiting_more (incoming_count (welded (swept s p c)).incoming) (incoming_count c.incoming) w.waiting (omega (arith, less)) in
+        let a = swept_beyond w.place s p c.incoming.tables.deletions in
+        let b = full_beyond w.place (map (swept_one s p) c.incoming.tables.deletions) in
+        let d = waiting_more (tables_count (welded (swept s p c)).incoming.tables) (tables_count c.incoming.tables) w.waiting (omega (arith, less)) in
         omega (arith, a, b, d)
 
-pub weld_stays : (c : Chained) → NoneEmpty c.incoming.deletions → welded c ≡ c
-weld_stays c full i = record {
-  incoming = record { number = c.incoming.number; live = c.incoming.live; deletions = full_stay c.incoming.deletions full i };
-  me = c.me;
-  peer = c.peer;
-  filter = c.filter;
-}
+pub weld_stays : (c : Chained) → NoneEmpty c.incoming.tables.deletions → welded c ≡ c
+weld_stays c full i = with_tables c (record { live = c.incoming.tables.live; deletions = full_stay c.incoming.tables.deletions full i })
 
 -- ---- what a turn spends
 -- of a peer's chain
@@ -199,7 +194,7 @@ chain_spends f task k m c c' order at number nearer = by_task task nearer
 pub tree_spends : (f : Frame) (m m' : Moment) → m'.chains ≡ m.chains → live_state m' ≡ live_state m → tree_count m'.tree + 1 ≡ tree_count m.tree → Spends f Rdel 1 (counts m) (counts m')
 tree_spends f m m' chains live fewer = spends_one f Rdel (counts m) (counts m') less rises
   where
-    same : (proto : Proto) → tables.len (branch_of proto m'.tree).live ≡ tables.len (branch_of proto m.tree).live
+    same : (proto : Proto) → tables.len (branch_of proto m'.tree).tables.live ≡ tables.len (branch_of proto m.tree).tables.live
     same proto = ap (λ (l : LiveState). tables.len (l.interior proto)) live
 
     less : tree_lost m'.tree + 1 ≤ tree_lost m.tree
@@ -228,17 +223,17 @@ counts_below law m Del = lost_below m.chains
 counts_below law m Fin = left_below law m.chains
 
 -- ---- a phase is over exactly where no turn of it is left
-none_lost : (cs : List Chained) → AllByRecursion (λ c. c.incoming.deletions ≡ []) cs → lost_in cs ≡ 0
+none_lost : (cs : List Chained) → AllByRecursion (λ c. c.incoming.tables.deletions ≡ []) cs → lost_in cs ≡ 0
 none_lost [] all = refl
 none_lost (c ∷ cs) all = let rest = none_lost cs all.1 in let here : lost_of c ≡ 0 = ap lost_count all.0 in omega (arith, rest, here)
 
 none_left : (cs : List Chained) → AllByRecursion (λ c. c.filter.walk ≡ None) cs → left_in cs ≡ 0
 none_left [] all = refl
-none_left (c ∷ cs) all = let rest = none_left cs all.1 in let here : turns_left c ≡ 0 = ap (walk_turns c.incoming) all.0 in omega (arith, rest, here)
+none_left (c ∷ cs) all = let rest = none_left cs all.1 in let here : turns_left c ≡ 0 = ap (walk_turns c.incoming.tables) all.0 in omega (arith, rest, here)
 
 pub over_none : (r : Phase) (m : Moment) → IsOver r m → counts m r ≡ 0
 over_none Rdel m over =
-    let gone : (proto : Proto) → lost_count (branch_of proto m.tree).deletions ≡ 0 = λ proto. ap lost_count (over proto) in
+    let gone : (proto : Proto) → lost_count (branch_of proto m.tree).tables.deletions ≡ 0 = λ proto. ap lost_count (over proto) in
     let a = gone Connected in let b = gone Static in let c = gone Ospf in let d = gone Rip in omega (arith, a, b, c, d)
 over_none Del m over = none_lost m.chains over
 over_none Fin m over = none_left m.chains over
@@ -250,9 +245,9 @@ no_table (d ∷ ds) full none =
     let zero_len : tables.len d.rows ≡ 0 = omega arith in
     absurd (let contra : is_empty_map d.rows ≡ true = grind (arith, nat_tests) in cc)
 
-no_stages : (cs : List Chained) → AllByRecursion (λ c. NoneEmpty c.incoming.deletions) cs → lost_in cs ≡ 0 → AllByRecursion (λ c. c.incoming.deletions ≡ []) cs
+no_stages : (cs : List Chained) → AllByRecursion (λ c. NoneEmpty c.incoming.tables.deletions) cs → lost_in cs ≡ 0 → AllByRecursion (λ c. c.incoming.tables.deletions ≡ []) cs
 no_stages [] all none = tt
-no_stages (c ∷ cs) all none = (no_table c.incoming.deletions all.0 (omega (arith, none)), no_stages cs all.1 (omega (arith, none)))
+no_stages (c ∷ cs) all none = (no_table c.incoming.tables.deletions all.0 (omega (arith, none)), no_stages cs all.1 (omega (arith, none)))
 
 pub off : (w : Option (Walked (List Rule))) → is_some w ≡ false → w ≡ None
 off None e = refl
@@ -266,14 +261,14 @@ no_walks : TurnsAreLeft → (cs : List Chained) → left_in cs ≡ 0 → AllByRe
 no_walks law [] none = tt
 no_walks law (c ∷ cs) none = (off_by c (is_some c.filter.walk) refl law (omega (arith, none)), no_walks law cs (omega (arith, none)))
 
-tree_none : (t : Treed) (proto : Proto) → tree_lost t ≡ 0 → lost_count (branch_of proto t).deletions ≡ 0
+tree_none : (t : Treed) (proto : Proto) → tree_lost t ≡ 0 → lost_count (branch_of proto t).tables.deletions ≡ 0
 tree_none t Connected none = omega (arith, none)
 tree_none t Static none = omega (arith, none)
 tree_none t Ospf none = omega (arith, none)
 tree_none t Rip none = omega (arith, none)
 
 pub none_over : TurnsAreLeft → (r : Phase) (m : Moment) → Stands m → counts m r ≡ 0 → IsOver r m
-none_over law Rdel m stands none = λ proto. no_table (branch_of proto m.tree).deletions (stands.tree.full proto) (tree_none m.tree proto none)
+none_over law Rdel m stands none = λ proto. no_table (branch_of proto m.tree).tables.deletions (stands.tree.full proto) (tree_none m.tree proto none)
 none_over law Del m stands none =
-    no_stages m.chains (all_so (λ c. chain_at c.incoming.number m.chains ≡ Some c) (λ c. NoneEmpty c.incoming.deletions) (λ c at. (sound_at m stands c.incoming.number c at).1) m.chains (all_found m.chains stands.order)) none
+    no_stages m.chains (all_so (λ c. chain_at c.incoming.number m.chains ≡ Some c) (λ c. NoneEmpty c.incoming.tables.deletions) (λ c at. (sound_at m stands c.incoming.number c at).1) m.chains (all_found m.chains stands.order)) none
 none_over law Fin m stands none = no_walks law m.chains none

@@ -1,6 +1,5 @@
 mod ChainLookups
 mod CoreLemmas
-mod NoticeSizes
 mod LocalLemmas
 pub mod PeerLemmas
 mod SessionLemmas

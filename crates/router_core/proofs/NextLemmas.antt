@@ -46,8 +46,8 @@ all_tree P t each =
 
 -- ---- each task is of its phase: a line for each phase
 pub all_of_phase : (r : Phase) (m : Moment) → AllByRecursion (λ t. phase_of t ≡ r) (phase_tasks r m)
-all_of_phase Rdel m = all_tree (λ t. phase_of t ≡ Rdel) m.tree (λ proto. all_map (λ t. phase_of t ≡ Rdel) (λ (d : Lost Interior). tasks.Rdel (branch_of proto m.tree).proto d.number) (branch_of proto m.tree).deletions (all_any _ (λ d. refl) (branch_of proto m.tree).deletions))
-all_of_phase Del m = all_flat (λ t. phase_of t ≡ Del) m.chains (all_any (λ c. AllByRecursion (λ t. phase_of t ≡ Del) (chain_tasks c)) (λ c. all_map (λ t. phase_of t ≡ Del) (λ d. tasks.Del c.incoming.number d.number) c.incoming.deletions (all_any _ (λ d. refl) c.incoming.deletions)) m.chains)
+all_of_phase Rdel m = all_tree (λ t. phase_of t ≡ Rdel) m.tree (λ proto. all_map (λ t. phase_of t ≡ Rdel) (λ (d : Lost Interior). tasks.Rdel (branch_of proto m.tree).proto d.number) (branch_of proto m.tree).tables.deletions (all_any _ (λ d. refl) (branch_of proto m.tree).tables.deletions))
+all_of_phase Del m = all_flat (λ t. phase_of t ≡ Del) m.chains (all_any (λ c. AllByRecursion (λ t. phase_of t ≡ Del) (chain_tasks c)) (λ c. all_map (λ t. phase_of t ≡ Del) (λ d. tasks.Del c.incoming.number d.number) c.incoming.tables.deletions (all_any _ (λ d. refl) c.incoming.tables.deletions)) m.chains)
 all_of_phase Fin m = all_map (λ t. phase_of t ≡ Fin) (λ (c : Chained). tasks.Fin c.incoming.number) m.chains (all_any _ (λ c. refl) m.chains)
 
 -- ---- the first that has work
@@ -71,8 +71,8 @@ all_working m (t ∷ ts) all = ap (λ (b : Bool). cond b (Some t) (first_at_work
 
 -- each stage that stands has work
 pub next_loss : (m : Moment) → Stands m → next_task Rdel m ≡ first_task (tree_tasks m.tree)
-next_loss m stands = all_working m (tree_tasks m.tree) (all_tree Works m.tree (λ proto. all_map Works (λ (d : Lost Interior). tasks.Rdel (branch_of proto m.tree).proto d.number) (branch_of proto m.tree).deletions
-    (subst (λ (k : Proto). AllByRecursion (λ (d : Lost Interior). is_some (table_of d.number (branch_of k m.tree).deletions) ≡ true) (branch_of proto m.tree).deletions) (sym (stands.tree.tree.placed proto)) (all_tables (branch_of proto m.tree).deletions))))
+next_loss m stands = all_working m (tree_tasks m.tree) (all_tree Works m.tree (λ proto. all_map Works (λ (d : Lost Interior). tasks.Rdel (branch_of proto m.tree).proto d.number) (branch_of proto m.tree).tables.deletions
+    (subst (λ (k : Proto). AllByRecursion (λ (d : Lost Interior). is_some (table_of d.number (branch_of k m.tree).tables.deletions) ≡ true) (branch_of proto m.tree).tables.deletions) (sym (stands.tree.tree.placed proto)) (all_tables (branch_of proto m.tree).tables.deletions))))
   where
     Works : Task → Type 0
     Works t = has_work t m ≡ true
@@ -84,8 +84,8 @@ next_stage m stands = all_working m (deletion_tasks m) (all_flat Works m.chains 
     Works t = has_work t m ≡ true
 
     of_chain : (c : Chained) → chain_at c.incoming.number m.chains ≡ Some c → AllByRecursion Works (chain_tasks c)
-    of_chain c at = all_map Works (λ d. tasks.Del c.incoming.number d.number) c.incoming.deletions (all_so (λ d. is_some (table_of d.number c.incoming.deletions) ≡ true) (λ d. Works (tasks.Del c.incoming.number d.number))
-        (λ d there. ap (has_turn_in (tasks.Del c.incoming.number d.number)) at ∙ ap (λ (b : Bool). b && is_some (table_of d.number c.incoming.deletions)) (same_by c.incoming.number c.incoming.number refl) ∙ there) c.incoming.deletions (all_tables c.incoming.deletions))
+    of_chain c at = all_map Works (λ d. tasks.Del c.incoming.number d.number) c.incoming.tables.deletions (all_so (λ d. is_some (table_of d.number c.incoming.tables.deletions) ≡ true) (λ d. Works (tasks.Del c.incoming.number d.number))
+        (λ d there. ap (has_turn_in (tasks.Del c.incoming.number d.number)) at ∙ ap (λ (b : Bool). b && is_some (table_of d.number c.incoming.tables.deletions)) (same_by c.incoming.number c.incoming.number refl) ∙ there) c.incoming.tables.deletions (all_tables c.incoming.tables.deletions))
 
 -- a filter's walk has work while it is on
 pub next_walk : (m : Moment) → Stands m → next_task Fin m ≡ first_walk m.chains
@@ -102,9 +102,9 @@ first_none : {A : Type 0} (f : A → Task) (xs : List A) (rest : List Task) → 
 first_none f [] rest e = (refl, e)
 first_none f (x ∷ xs) rest e = absurd (cc)
 
-no_stage : (cs : List Chained) → first_task (flat_map chain_tasks cs) ≡ None → AllByRecursion (λ c. c.incoming.deletions ≡ []) cs
+no_stage : (cs : List Chained) → first_task (flat_map chain_tasks cs) ≡ None → AllByRecursion (λ c. c.incoming.tables.deletions ≡ []) cs
 no_stage [] e = tt
-no_stage (c ∷ cs) e = let here = first_none (λ d. tasks.Del c.incoming.number d.number) c.incoming.deletions (flat_map chain_tasks cs) e in (here.0, no_stage cs here.1)
+no_stage (c ∷ cs) e = let here = first_none (λ d. tasks.Del c.incoming.number d.number) c.incoming.tables.deletions (flat_map chain_tasks cs) e in (here.0, no_stage cs here.1)
 
 no_walk : (cs : List Chained) → first_walk cs ≡ None → AllByRecursion (λ c. c.filter.walk ≡ None) cs
 no_walk [] e = tt
@@ -114,29 +114,29 @@ no_walk (c ∷ cs) e = by_walk (is_some c.filter.walk) refl (no_walk cs)
     by_walk true w rest = let some : Some (tasks.Fin c.incoming.number) ≡ None = sym (ap (λ (b : Bool). cond b (Some (tasks.Fin c.incoming.number)) (first_walk cs)) w) ∙ e in absurd (cc)
     by_walk false w rest = (off c.filter.walk w, rest (sym (ap (λ (b : Bool). cond b (Some (tasks.Fin c.incoming.number)) (first_walk cs)) w) ∙ e))
 
-no_loss : (t : Treed) → first_task (tree_tasks t) ≡ None → (proto : Proto) → (branch_of proto t).deletions ≡ []
+no_loss : (t : Treed) → first_task (tree_tasks t) ≡ None → (proto : Proto) → (branch_of proto t).tables.deletions ≡ []
 no_loss t e proto = by_proto proto
   where
     task : Branch → Lost Interior → Task
     task b d = tasks.Rdel b.proto d.number
 
-    a : (t.connected.deletions ≡ []) × (first_task (branch_tasks t.statics ++ (branch_tasks t.ospf ++ branch_tasks t.rip)) ≡ None)
-    a = first_none (task t.connected) t.connected.deletions (branch_tasks t.statics ++ (branch_tasks t.ospf ++ branch_tasks t.rip)) e
+    a : (t.connected.tables.deletions ≡ []) × (first_task (branch_tasks t.statics ++ (branch_tasks t.ospf ++ branch_tasks t.rip)) ≡ None)
+    a = first_none (task t.connected) t.connected.tables.deletions (branch_tasks t.statics ++ (branch_tasks t.ospf ++ branch_tasks t.rip)) e
 
-    b : (t.statics.deletions ≡ []) × (first_task (branch_tasks t.ospf ++ branch_tasks t.rip) ≡ None)
-    b = first_none (task t.statics) t.statics.deletions (branch_tasks t.ospf ++ branch_tasks t.rip) a.1
+    b : (t.statics.tables.deletions ≡ []) × (first_task (branch_tasks t.ospf ++ branch_tasks t.rip) ≡ None)
+    b = first_none (task t.statics) t.statics.tables.deletions (branch_tasks t.ospf ++ branch_tasks t.rip) a.1
 
-    c : (t.ospf.deletions ≡ []) × (first_task (branch_tasks t.rip) ≡ None)
-    c = first_none (task t.ospf) t.ospf.deletions (branch_tasks t.rip) b.1
+    c : (t.ospf.tables.deletions ≡ []) × (first_task (branch_tasks t.rip) ≡ None)
+    c = first_none (task t.ospf) t.ospf.tables.deletions (branch_tasks t.rip) b.1
 
-    d : t.rip.deletions ≡ []
-    d = last t.rip.deletions c.1
+    d : t.rip.tables.deletions ≡ []
+    d = last t.rip.tables.deletions c.1
       where
         last : (ds : List (Lost Interior)) → first_task (map (task t.rip) ds) ≡ None → ds ≡ []
         last [] e = refl
         last (x ∷ xs) e = absurd (cc)
 
-    by_proto : (proto : Proto) → (branch_of proto t).deletions ≡ []
+    by_proto : (proto : Proto) → (branch_of proto t).tables.deletions ≡ []
     by_proto Connected = a.0
     by_proto Static = b.0
     by_proto Ospf = c.0

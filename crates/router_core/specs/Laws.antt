@@ -18,10 +18,6 @@ SessionsEnd = (p : DeclaredPeer) (octets : List ℕ) (message : Message) → Say
 abbrev pub DeclarationsFollow : Type 0
 DeclarationsFollow = (l : LiveState) (event : Event) (l' : LiveState) → LiveAfter l event l' → l'.declared ≡ declared_after l.declared event
 
--- The data of a fault's NOTIFICATION has at most the 4,075 octets that fit into a message.
-abbrev pub NoticesFit : Type 0
-NoticesFit = (p : Profile) (octets : List ℕ) (n : Notice) → fault p octets ≡ Some n → length n.octets ≤ 4075
-
 -- What holds between two steps holds before the first.
 abbrev pub FirstStands : Type 0
 FirstStands = Stands first_moment

@@ -4,6 +4,7 @@ use Rattle.std.specs.Prelude.{◌≡◌, ℕ, ◌+◌, ◌==◌, ◌&&◌, ◌||
 use Rattle.std.specs.FinMap as tables
 use Rattle.std.specs.FinMap.{FinMap}
 use Rattle.addr4.specs.Prefixes.{Network, prefix_cmp}
+use Rattle.bgp_attr.specs.Hosts.{is_host_prefix}
 use Rattle.bgp_attr.specs.declared.attrs.Attrs.{Attrs}
 use Rattle.bgp_attr.specs.declared.speaker.Profile.{Profile}
 use Rattle.bgp_wire.specs.declared.message.Update.{Update}
@@ -44,10 +45,6 @@ pub record LiveState : Type 0 where
 
 abbrev pub first_live : LiveState
 first_live = record { declared = no_declaration; routes = λ k. tables.empty; rules = λ k. []; interior = λ proto. tables.empty; losses = λ proto. 0 }
-
--- 224.0.0.0 is where the addresses of no host begin
-abbrev pub is_host_prefix : Network → Bool
-is_host_prefix p = nat_lt p.address 3758096384
 
 -- an announced prefix with its attributes
 abbrev pub announced_with : Option Attrs → Network → Network × Option Attrs
@@ -152,7 +149,7 @@ LiveAfter l (Show link) l' = l' ≡ l
 -- what is live in a chain
 abbrev pub routes_of : Option Chained → Routes
 routes_of None = tables.empty
-routes_of (Some c) = c.incoming.live
+routes_of (Some c) = c.incoming.tables.live
 
 -- the latest rules of a chain's filter
 abbrev pub rules_of : Option Chained → List Rule
@@ -164,7 +161,7 @@ live_state m = record {
   declared = m.declared;
   routes = λ k. routes_of (chain_at k m.chains);
   rules = λ k. rules_of (chain_at k m.chains);
-  interior = λ proto. (branch_of proto m.tree).live;
+  interior = λ proto. (branch_of proto m.tree).tables.live;
   losses = λ proto. (branch_of proto m.tree).losses;
 }
 

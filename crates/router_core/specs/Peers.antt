@@ -1,7 +1,5 @@
 -- Peers and their chains, where they stand.
 use Rattle.std.specs.Prelude.{◌≡◌, ℕ, ◌+◌, ◌≤◌, length, nat_lt, Bool, false, if◌then◌else◌, List, [], ◌∷◌, Option, Some, None}
-use Rattle.bgp_wire.specs.declared.message.Message.{Message}
-use Rattle.bgp_wire.specs.declared.message.Message.TheVariants as messages
 use Rattle.event_text.specs.declared.declared.DeclaredPeer.{DeclaredPeer}
 use Rattle.policy_rules.specs.declared.rule.Rule.{Rule}
 use Rattle.in_chain.specs.Chains.{Chained, links_of}
@@ -21,11 +19,3 @@ Edits k rules cs cs' = (c : Chained) × (chain_at k cs ≡ Some c) × (cs' ≡ p
 abbrev pub is_up : Option DeclaredPeer → Bool
 is_up None = false
 is_up (Some p) = p.up
-
--- the data of a fault's NOTIFICATION fits into a message
-abbrev pub HasShortNotice : Message → Type 0
-HasShortNotice (messages.Notify n) = length n.octets ≤ 4075
-HasShortNotice (messages.Update u) = Unit {0}
-HasShortNotice messages.Keepalive = Unit {0}
-HasShortNotice messages.Skip = Unit {0}
-HasShortNotice messages.Notification = Unit {0}

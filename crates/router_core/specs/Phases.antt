@@ -10,12 +10,12 @@ use Rattle.router_core.specs.Lives.{LiveState}
 
 -- how many rows the stages of the protocols' losses have
 abbrev pub tree_lost : Treed → ℕ
-tree_lost t = lost_count t.connected.deletions + (lost_count t.statics.deletions + (lost_count t.ospf.deletions + lost_count t.rip.deletions))
+tree_lost t = lost_count t.connected.tables.deletions + (lost_count t.statics.tables.deletions + (lost_count t.ospf.tables.deletions + lost_count t.rip.tables.deletions))
 
 -- how many those of lost sessions have
 abbrev pub lost_in : List Chained → ℕ
 lost_in [] = 0
-lost_in (c ∷ cs) = lost_count c.incoming.deletions + lost_in cs
+lost_in (c ∷ cs) = lost_count c.incoming.tables.deletions + lost_in cs
 
 -- ---- the table: a line for each phase
 

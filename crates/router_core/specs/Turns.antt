@@ -41,7 +41,7 @@ journal_lines entries = map (λ e. lines.Journal e) entries
 
 -- the lines of a fall in a chain, and behind them the weld of the stage that it emptied, if any
 abbrev pub fall_lines : Chained → List (Entry Value) → List Line
-fall_lines c entries = journal_lines (entries ++ weld_entries (owners.Peer c.incoming.number) (In c.incoming.number) c.incoming.deletions)
+fall_lines c entries = journal_lines (entries ++ weld_entries (owners.Peer c.incoming.number) (In c.incoming.number) c.incoming.tables.deletions)
 
 -- One prefix of an UPDATE from peer k is announced or withdrawn.
 pub record Feeds (k : ℕ) (change : Network × Option Attrs) (m : Moment) (said : List Line) (m' : Moment) : Type 0 where
@@ -105,7 +105,7 @@ pub record IsRouteTurn (proto : Proto) (n : ℕ) (m : Moment) (said : List Line)
   pub prefix : Network
   pub row : Interior
   pub table : FinMap prefix_cmp Interior
-  pub stands : table_of n (branch_of proto m.tree).deletions ≡ Some table
+  pub stands : table_of n (branch_of proto m.tree).tables.deletions ≡ Some table
   pub least : IsLeastRow (tables.get table) prefix (Some row)
   pub falls : FallsRoute m (swept_tree proto n prefix m.tree) proto prefix (way_of_sweep proto n m.tree) said m'
 
@@ -144,7 +144,7 @@ phase_of (tasks.Fin k) = phases.Fin
 
 -- the deletion stages of a chain, the earliest session first
 abbrev pub chain_tasks : Chained → List Task
-chain_tasks c = map (λ d. tasks.Del c.incoming.number d.number) c.incoming.deletions
+chain_tasks c = map (λ d. tasks.Del c.incoming.number d.number) c.incoming.tables.deletions
 
 -- all deletion stages, by peer, then session
 abbrev pub deletion_tasks : Moment → List Task
@@ -168,8 +168,8 @@ phase_bound phases.Fin m = 2 * (rows_in m.chains + length m.chains)
 
 -- no stage of the phase stands, and no walk of it is on
 abbrev pub IsOver : Phase → Moment → Type 0
-IsOver phases.Rdel m = (proto : Proto) → (branch_of proto m.tree).deletions ≡ []
-IsOver phases.Del m = AllByRecursion (λ c. c.incoming.deletions ≡ []) m.chains
+IsOver phases.Rdel m = (proto : Proto) → (branch_of proto m.tree).tables.deletions ≡ []
+IsOver phases.Del m = AllByRecursion (λ c. c.incoming.tables.deletions ≡ []) m.chains
 IsOver phases.Fin m = AllByRecursion (λ c. c.filter.walk ≡ None) m.chains
 
 -- ---- the same for any table

@@ -1,6 +1,6 @@
 //! Laws of events, for the proofs of the crates above. Each is a function that does nothing, whose contract is the law.
 
-ghost use Rattle.router_core.specs.Laws.{SessionsEnd, DeclarationsFollow, NoticesFit, FirstStands};
+ghost use Rattle.router_core.specs.Laws.{SessionsEnd, DeclarationsFollow, FirstStands};
 
 use bgp_wire::one_of_message_and_fault;
 use rib_tree::a_new_tree_stands;
@@ -18,11 +18,6 @@ pub fn declarations_follow()
 {
     sessions_end();
 }
-
-/// The data of the NOTIFICATION that answers a fault fits into a message.
-pub fn notices_fit()
-    ensures { NoticesFit }
-{}
 
 /// What holds between two steps holds before the first.
 pub fn first_moment_stands()

@@ -27,5 +27,5 @@ mod steps;
 mod turns;
 mod updates;
 
-pub use laws::{declarations_follow, first_moment_stands, notices_fit, sessions_end};
+pub use laws::{declarations_follow, first_moment_stands, sessions_end};
 pub use router::{Core, Done, Idle, Phase};

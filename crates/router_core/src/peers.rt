@@ -9,7 +9,8 @@ ghost use Rattle.router_core.specs.Stands.{AreInOrder, Stands};
 ghost use Rattle.router_core.specs.Blocks.{begin_line, rib_begins};
 ghost use Rattle.journal_text.specs.Journals.{with_lines};
 ghost use Rattle.router_core.specs.Lookups.{IsCountOf};
-ghost use Rattle.router_core.specs.Peers.{is_up, place_in, Edits, HasShortNotice};
+ghost use Rattle.router_core.specs.Peers.{is_up, place_in, Edits};
+ghost use Rattle.bgp_wire.specs.Notices.{HasShortNotice};
 ghost use Rattle.router_core.specs.Works.{Pushes, HasStepped};
 
 use crate::lookups;

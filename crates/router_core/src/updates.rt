@@ -3,17 +3,15 @@
 ghost use Rattle.std.specs.Prelude.{◌≡◌, ◌++◌, map, filter, IfOk, OnOk};
 ghost use Rattle.std.specs.BTreeSet.{IsFromIterResult};
 ghost use Rattle.addr4.specs.Prefixes.{prefix_cmp};
+ghost use Rattle.bgp_attr.specs.Hosts.{is_host_prefix};
 ghost use Rattle.bgp_wire.specs.Grammar.{without};
-ghost use Rattle.router_core.specs.Lives.{announced_with, changes_of, is_host_prefix, withdrawn_from};
+ghost use Rattle.router_core.specs.Lives.{announced_with, changes_of, withdrawn_from};
 
 use addr4::{Memory, Prefix, Row};
-use bgp_attr::{Attrs, SharedAttrs};
+use bgp_attr::{Attrs, SharedAttrs, is_host_prefix};
 use bgp_wire::Update;
 use std::alloc::Global;
 use std::collections::BTreeSet;
-
-/// The first address that is no host's: 224.0.0.0.
-const BEHIND_HOSTS: u32 = 0xE000_0000;
 
 /// The changes that an UPDATE makes, in their order: withdrawals (none) of prefixes that it doesn't announce, then
 /// announcements, all with the same attributes.
@@ -96,11 +94,4 @@ fn push_announced(
         }
     }
     Ok(())
-}
-
-/// Whether the prefix is none of those of multicast and of class E, which 224.0.0.0/3 covers.
-fn is_host_prefix(prefix: Prefix) -> bool
-    ensures { result ≡ is_host_prefix prefix }
-{
-    prefix.address().number() < BEHIND_HOSTS
 }
