@@ -6,6 +6,7 @@ mod SessionLemmas
 mod ShownRows
 mod UpdateLemmas
 pub mod ChainLemmas
+pub mod RegionLemmas
 pub mod LinkLemmas
 pub mod WorkLemmas
 pub mod StandLemmas

@@ -77,25 +77,13 @@ module _ (m : Moment) (words : Speaker) (first : m.declared.speaker ≡ None) (e
   links_then i link = each link i
     where
       each : (link : Link) → fold_links (router_links m) (entries_of rib_begins) link ≡ router_links (declared_speaker m words) link
-      each (In j) = refl
-      each (Peer j s) = refl
-      each (Filt j) = refl
-      each (Res j) = refl
       each (Org p) = begin_org p
       each (Lost p n) = none (Lost p n) ∙ in_tree (Lost p n) None (sym (none_lost p n))
       each Low = in_tree Low (Some no_rows) (begins (low_rows new_tree) low_empty)
       each Dyn = in_tree Dyn (Some no_rows) (begins (dyn_rows new_tree) dyn_empty)
       each Int = in_tree Int (Some no_rows) (begins (int_rows new_tree) int_empty)
-      each Red = refl
-      each Best = refl
-      each ReadRib = refl
-      each Ebgp = refl
-      each Ibgp = refl
-      each Ext = refl
       each Fib = in_tree Fib (Some no_rows) (begins_fib (int_rows new_tree) int_empty)
-      each (Read j s) = refl
-      each (Outf j s) = refl
-      each (Adv j s) = refl
+      each other = refl
 
   begun_leads : Leads (router_links m) (entries_of rib_begins) (router_links (declared_speaker m words))
   begun_leads = record {

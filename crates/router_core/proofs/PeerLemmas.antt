@@ -32,18 +32,20 @@ use Rattle.in_chain.specs.Steps.{new_chain, refiltered}
 use Rattle.rib_route.specs.declared.rows.Interior.{Interior}
 use Rattle.register_interest.specs.Registers.{Registry}
 use Rattle.rib_tree.specs.Trees.{Treed}
-use Rattle.router_core.specs.Moments.{Moment, chain_at, put_chain, with_chain, insert_chain, links_by, peer_links, router_links}
+use Rattle.router_core.specs.Moments.{Moment, chain_at, put_chain, with_chain, insert_chain, links_by, router_links, parts}
 use Rattle.router_core.specs.Lives.{live_state, routes_of, rules_of, with_rules, begun_if_down}
 use Rattle.router_core.specs.Stands.{IsEarlier, IsSilent, PeerStands, StandsAt, AreInOrder, Stands}
 use Rattle.router_core.specs.Blocks.{ByPeer, BeginsIf, Declares, declared_speaker, declared_peer, begun}
 use Rattle.router_core.specs.Peers.{place_in, is_up, Edits}
 use Rattle.router_core.specs.Works.{IsPlace, HasStepped}
 use Rattle.router_core.proofs.ChainLemmas.{equal_by, same_by, other_by, chain_here, chain_past, number_at}
-use Rattle.router_core.proofs.LinkLemmas.{both_none, beside_old, beside_new}
+use Rattle.router_core.proofs.LinkLemmas.{both_none, same_peers}
 use Rattle.router_core.proofs.StandLemmas.{one_peer, peer_of, chain_there, stands_with, live_edited}
 use Rattle.router_core.proofs.PlaceLemmas.{at_place, set_at_place}
 use Rattle.router_core.proofs.SessionLemmas.{ends}
 use Rattle.router_core.proofs.KeepLemmas.{steps_said}
+use Rattle.router_core.proofs.RegionLemmas.{inward_set}
+use Rattle.router_core.specs.Regions.{joined}
 
 -- ---- a chain more
 below_by : (m n : ℕ) → nat_lt m n ≡ true → m < n
@@ -226,29 +228,12 @@ module _ (m : Moment) (me : Speaker) (k : ℕ) (words : Speaker) (is_local : m.d
   declared_links : links_then ≡ router_links (declared_peer m me k words)
   declared_links i link = each link i
     where
-      none : (link : Link) → ((c : Chained) → links_of c link ≡ None) → peer_links m.chains link ≡ peer_links chains_then link
-      none link lacks = both_none link lacks (chain_at (owner_of link) m.chains) (chain_at (owner_of link) chains_then)
-
       each : (link : Link) → links_then link ≡ router_links (declared_peer m me k words) link
       each (In j) = begins j (In j) (attrs_rows (in_rows fresh.incoming)) (λ b e. ap (λ (b : Bool). cond b (Some (attrs_rows (in_rows fresh.incoming))) None) e) new_in
       each (Peer j s) = peer_link j s
       each (Filt j) = begins j (Filt j) (route_rows (filt_rows fresh)) (λ b e. ap (λ (b : Bool). cond b (Some (route_rows (filt_rows fresh))) None) e) new_filt
-      each (Res j) = none (Res j) (λ c. refl)
-      each (Org p) = refl
-      each (LostOf p n) = refl
-      each Low = refl
-      each Dyn = refl
-      each Int = refl
-      each Red = none Red (λ c. refl)
-      each Best = none Best (λ c. refl)
-      each ReadRib = none ReadRib (λ c. refl)
-      each Ebgp = none Ebgp (λ c. refl)
-      each Ibgp = none Ibgp (λ c. refl)
-      each Ext = none Ext (λ c. refl)
-      each Fib = refl
-      each (Read j s) = none (Read j s) (λ c. refl)
-      each (Outf j s) = none (Outf j s) (λ c. refl)
-      each (Adv j s) = none (Adv j s) (λ c. refl)
+      each (Res j) = both_none (Res j) (λ c. refl) (chain_at j m.chains) (chain_at j chains_then)
+      each other = refl
 
   declared_leads : Leads (router_links m) (Begin (In k) ∷ Begin (Filt k) ∷ []) (router_links (declared_peer m me k words))
   declared_leads = record {
@@ -458,8 +443,7 @@ edited_peer p c rules stands = record {
 
 same_links : (m : Moment) (k : ℕ) (rules : List Rule) (c : Chained) → chain_at k m.chains ≡ Some c → links_of (refiltered rules c) ≡ links_of c → router_links m ≡ router_links (with_chain m (refiltered rules c))
 same_links m k rules c at links =
-    sym (beside_old m k c at) ∙ ap (λ (own : Links Value). λ (link : Link). cond (is_named c.incoming.number link) (own link) (router_links m link)) (sym links)
-    ∙ beside_new m k c at (refiltered rules c) (number_at k m.chains c at)
+    sym (same_peers m.chains k c at (parts m) refl (refiltered rules c) (number_at k m.chains c at) links) ∙ ap joined (inward_set m (put_chain (refiltered rules c) m.chains))
 
 pub edited_stepped : (m v : Moment) (k : ℕ) (rules : List Rule) (cs : List Chained) → v ≡ m → Stands m → Edits k rules v.chains cs → HasStepped m (events.FilterIn k rules) 0 (record v { chains = cs }) []
 edited_stepped m v k rules cs view stands e = subst (λ (n : Moment). HasStepped n (events.FilterIn k rules) 0 (record v { chains = cs }) []) view (edited_one v k rules cs (subst Stands (sym view) stands) e)

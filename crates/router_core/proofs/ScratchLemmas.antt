@@ -28,7 +28,7 @@ use Rattle.loss_chain.specs.Tables.{rows_below as interiors_below, rows_above as
 use Rattle.rib_tree.specs.Trees.{branch_of, low_rows, dyn_rows, int_rows, interior_distance}
 use Rattle.rib_tree.specs.Forwards.{forwarded}
 use Rattle.router_core.specs.declared.router.Phase.TheVariants as phases
-use Rattle.router_core.specs.Moments.{Moment, chain_at, links_by, peer_links, rib_by, router_links}
+use Rattle.router_core.specs.Moments.{Moment, chain_at, links_by, rib_by, router_links}
 use Rattle.router_core.specs.Lives.{Routes, Interiors, live_state, routes_of, rules_of}
 use Rattle.router_core.specs.Stands.{StandsAt, Stands}
 use Rattle.router_core.specs.Scratch.{live_rows, judged_rows, best_of, least_rows, since_local, from_scratch, IsExact}
@@ -127,26 +127,15 @@ module _ (m : Moment) (stands : Stands m) (settled : IsSettled m) where
   pub settled_is_exact : IsExact m
   settled_is_exact link = each link
     where
-      none : (link : Link) → ((c : Chained) → links_by (Some c) link ≡ None) → peer_links m.chains link ≡ None
-      none link lacks = none_by link lacks (chain_at (owner_of link) m.chains)
-
       each : (link : Link) → router_links m link ≡ from_scratch (live_state m) link
       each (In k) = in_exact k (peer_at k m.declared.peers) (chain_at k m.chains) refl (stands.peers k)
       each (Peer k s) = peer_exact k s (chain_at k m.chains) refl
       each (Filt k) = filt_exact k (peer_at k m.declared.peers) (chain_at k m.chains) refl (stands.peers k)
-      each (Res j) = none (Res j) (λ c. refl)
+      each (Res j) = none_by (Res j) (λ c. refl) (chain_at j m.chains)
       each (Org p) = org_exact p m.declared.speaker
       each (LostOf p n) = lost_exact p n m.declared.speaker
       each Low = low_exact m.declared.speaker
       each Dyn = dyn_exact m.declared.speaker
       each Int = int_exact m.declared.speaker
-      each Red = none Red (λ c. refl)
-      each Best = none Best (λ c. refl)
-      each ReadRib = none ReadRib (λ c. refl)
-      each Ebgp = none Ebgp (λ c. refl)
-      each Ibgp = none Ibgp (λ c. refl)
-      each Ext = none Ext (λ c. refl)
       each Fib = fib_exact m.declared.speaker
-      each (Read j s) = none (Read j s) (λ c. refl)
-      each (Outf j s) = none (Outf j s) (λ c. refl)
-      each (Adv j s) = none (Adv j s) (λ c. refl)
+      each other = refl

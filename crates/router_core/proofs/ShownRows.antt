@@ -22,10 +22,10 @@ use Rattle.journal_text.specs.declared.entry.Entry.{Entry}
 use Rattle.journal_text.specs.Walk.{Links, Leads, HasRow}
 use Rattle.journal_text.specs.Texts.{entries_of}
 use Rattle.event_text.specs.declared.event.Event.TheVariants as events
-use Rattle.router_core.specs.Moments.{Moment, peer_links, rib_by, router_links}
+use Rattle.router_core.specs.Moments.{Moment, router_links}
 use Rattle.journal_text.specs.Journals.{Journaled, with_lines}
 use Rattle.router_core.specs.Blocks.{AreRows, answer_lines, Shows}
-use Rattle.router_core.specs.Lookups.{is_of_rib, listed_at, row_lines, Counts, ShowsRow, IsCountOf}
+use Rattle.router_core.specs.Lookups.{listed_at, row_lines, Counts, ShowsRow, IsCountOf}
 use Rattle.router_core.specs.Works.{Pushes, HasStepped}
 use Rattle.router_core.specs.Stands.{Stands}
 use Rattle.router_core.proofs.SessionLemmas.{ends}
@@ -241,49 +241,6 @@ ask_stepped m link p (Some rows) stands is = record {
   after = refl;
   keeps = record { leads = record { lawful = ((rows, is, refl), tt); ends = refl }; live = refl; stands = stands };
 }
-
--- ---- whose link it is
-pub links_of_rib : (m : Moment) (link : Link) → is_of_rib link ≡ true → router_links m link ≡ rib_by m.declared.speaker m.tree link
-links_of_rib m (In k) e = absurd (cc)
-links_of_rib m (Peer k s) e = absurd (cc)
-links_of_rib m (Filt k) e = absurd (cc)
-links_of_rib m (Res k) e = absurd (cc)
-links_of_rib m (Org p) e = refl
-links_of_rib m (Lost p n) e = refl
-links_of_rib m Low e = refl
-links_of_rib m Dyn e = refl
-links_of_rib m Int e = refl
-links_of_rib m Red e = absurd (cc)
-links_of_rib m Best e = absurd (cc)
-links_of_rib m ReadRib e = absurd (cc)
-links_of_rib m Ebgp e = absurd (cc)
-links_of_rib m Ibgp e = absurd (cc)
-links_of_rib m Ext e = absurd (cc)
-links_of_rib m Fib e = refl
-links_of_rib m (Read j s) e = absurd (cc)
-links_of_rib m (Outf j s) e = absurd (cc)
-links_of_rib m (Adv j s) e = absurd (cc)
-
-pub links_of_peers : (m : Moment) (link : Link) → is_of_rib link ≡ false → router_links m link ≡ peer_links m.chains link
-links_of_peers m (In k) e = refl
-links_of_peers m (Peer k s) e = refl
-links_of_peers m (Filt k) e = refl
-links_of_peers m (Res k) e = refl
-links_of_peers m (Org p) e = absurd (cc)
-links_of_peers m (Lost p n) e = absurd (cc)
-links_of_peers m Low e = absurd (cc)
-links_of_peers m Dyn e = absurd (cc)
-links_of_peers m Int e = absurd (cc)
-links_of_peers m Red e = refl
-links_of_peers m Best e = refl
-links_of_peers m ReadRib e = refl
-links_of_peers m Ebgp e = refl
-links_of_peers m Ibgp e = refl
-links_of_peers m Ext e = refl
-links_of_peers m Fib e = absurd (cc)
-links_of_peers m (Read j s) e = refl
-links_of_peers m (Outf j s) e = refl
-links_of_peers m (Adv j s) e = refl
 
 -- ---- a link whose candidates are its rows
 abbrev pub candidates_by : Option (Rows Value) → Candidates

@@ -1,3 +1,4 @@
+pub mod Regions
 pub mod Moments
 pub mod Lives
 pub mod Phases

@@ -3,23 +3,12 @@ use Rattle.std.specs.Prelude.{◌≡◌, ℕ, Bool, true, false, length, List, [
 use Rattle.addr4.specs.Prefixes.{Network}
 use Rattle.link_change.specs.Rows.{Rows}
 use Rattle.journal_text.specs.declared.link.Link.{Link}
-use Rattle.journal_text.specs.declared.link.Link.TheVariants.{Org, Lost, Low, Dyn, Int, Fib}
 use Rattle.journal_text.specs.declared.value.Value.{Value}
 use Rattle.journal_text.specs.declared.line.Line.{Line}
 use Rattle.journal_text.specs.declared.line.Line.TheVariants as lines
 use Rattle.journal_text.specs.Walk.{Links, HasRow}
 use Rattle.journal_text.specs.Journals.{Journaled, with_lines}
 use Rattle.router_core.specs.Blocks.{AreRows}
-
--- the link is one of the tree's, or `fib`
-abbrev pub is_of_rib : Link → Bool
-is_of_rib (Org proto) = true
-is_of_rib (Lost proto n) = true
-is_of_rib Low = true
-is_of_rib Dyn = true
-is_of_rib Int = true
-is_of_rib Fib = true
-is_of_rib other = false
 
 -- the row at a prefix, if there is one
 abbrev pub listed_at : Network → Option Value → List (Network × Value)

@@ -5,17 +5,18 @@ use Rattle.std.specs.Coded.{Coded, code_by, coded×, coded_ℕ, coded_bool, code
 use Rattle.bgp_attr.specs.declared.speaker.Speaker.{Speaker}
 use Rattle.rib_route.specs.declared.rows.Interior.{Interior}
 use Rattle.register_interest.specs.Registers.{Registry}
-use Rattle.journal_text.specs.declared.link.Link.TheVariants.{Org, Lost, Low, Dyn, Int, Fib}
 use Rattle.journal_text.specs.declared.value.Value.{Value}
 use Rattle.journal_text.specs.declared.line.Line.{Line}
 use Rattle.journal_text.specs.Links.{owner_of}
-use Rattle.journal_text.specs.Walk.{Links}
+use Rattle.journal_text.specs.Walk.{Links, no_links}
 use Rattle.journal_text.specs.Journals.{Journaled, with_lines, flushed}
 use Rattle.event_text.specs.Declarations.{Declaration, no_declaration}
 use Rattle.in_chain.specs.Chains.{Chained, links_of, row_count, turns_left}
 use Rattle.rib_tree.specs.Trees.{Treed, tree_count}
 use Rattle.rib_tree.specs.Steps.{new_tree}
 use Rattle.rib_tree.specs.Forwards.{rib_links}
+use Rattle.router_core.specs.declared.regions.Region.TheVariants.{Inward, InteriorRoutes, Forward, Elsewhere}
+use Rattle.router_core.specs.Regions.{Sides, joined}
 
 -- what was declared, the tree of the interior routes, the register of those, and each peer's chain, by ascending number
 pub record Moment : Type 0 where
@@ -76,15 +77,16 @@ abbrev pub rib_by : Option Speaker → Treed → Links Value
 rib_by None t link = None
 rib_by (Some me) t link = rib_links t link
 
+-- the links of each region
+abbrev pub parts : Moment → Sides
+parts m Inward = peer_links m.chains
+parts m InteriorRoutes = rib_by m.declared.speaker m.tree
+parts m Forward = rib_by m.declared.speaker m.tree
+parts m Elsewhere = no_links
+
 -- the live links and their rows
 abbrev pub router_links : Moment → Links Value
-router_links m (Org proto) = rib_by m.declared.speaker m.tree (Org proto)
-router_links m (Lost proto n) = rib_by m.declared.speaker m.tree (Lost proto n)
-router_links m Low = rib_by m.declared.speaker m.tree Low
-router_links m Dyn = rib_by m.declared.speaker m.tree Dyn
-router_links m Int = rib_by m.declared.speaker m.tree Int
-router_links m Fib = rib_by m.declared.speaker m.tree Fib
-router_links m link = peer_links m.chains link
+router_links m = joined (parts m)
 
 -- how many rows all `in.K` have
 abbrev pub rows_in : List Chained → ℕ

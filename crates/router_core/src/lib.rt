@@ -19,6 +19,7 @@ mod laws;
 mod lookups;
 mod network;
 mod peers;
+mod regions;
 mod rib_lookups;
 mod router;
 mod routes;

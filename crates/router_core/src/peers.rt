@@ -15,7 +15,7 @@ ghost use Rattle.router_core.specs.Works.{Pushes, HasStepped};
 
 use crate::lookups;
 use crate::network::Network;
-use crate::rib_lookups::is_of_rib;
+use crate::regions::{Region, region_of};
 use crate::turns::place;
 use addr4::{Memory, Prefix};
 use bgp_attr::{Profile, Speaker};
@@ -117,10 +117,12 @@ impl Network {
         requires { Stands self.now }
         ensures { OnOk result (Pushes (HasStepped self.now (events.Ask link p) 0 self.now) journal.old journal.new) }
     {
-        if is_of_rib(link) {
-            return self.ask_rib(link, p, journal);
+        match region_of(link) {
+            Region::Inward => lookups::ask(self.chains.as_slice(), link, p, journal),
+            Region::InteriorRoutes => self.ask_rib(link, p, journal),
+            Region::Forward => self.ask_rib(link, p, journal),
+            Region::Elsewhere => journal.push_line(Line::Absent),
         }
-        lookups::ask(self.chains.as_slice(), link, p, journal)
     }
 
     /// All rows of a link are asked for.
@@ -128,20 +130,24 @@ impl Network {
         requires { Stands self.now }
         ensures { OnOk result (Pushes (HasStepped self.now (events.Show link) 0 self.now) journal.old journal.new) }
     {
-        if is_of_rib(link) {
-            return self.show_rib(link, journal);
+        match region_of(link) {
+            Region::Inward => lookups::show(self.chains.as_slice(), link, journal),
+            Region::InteriorRoutes => self.show_rib(link, journal),
+            Region::Forward => self.show_rib(link, journal),
+            Region::Elsewhere => journal.push_line(Line::Absent),
         }
-        lookups::show(self.chains.as_slice(), link, journal)
     }
 
     /// How many rows a link has; None where it isn't live.
     pub(crate) fn count(&self, link: Link) -> Result<Option<u128>, Memory>
         ensures { IfOk result (IsCountOf (router_links self.now link)) }
     {
-        if is_of_rib(link) {
-            return self.count_rib(link);
+        match region_of(link) {
+            Region::Inward => lookups::count(self.chains.as_slice(), link),
+            Region::InteriorRoutes => self.count_rib(link),
+            Region::Forward => self.count_rib(link),
+            Region::Elsewhere => Ok(None),
         }
-        lookups::count(self.chains.as_slice(), link)
     }
 }
 

@@ -5,23 +5,13 @@ ghost use Rattle.journal_text.specs.Journals.{with_lines};
 ghost use Rattle.rib_tree.specs.Forwards.{rib_links};
 ghost use Rattle.router_core.specs.Moments.{rib_by};
 ghost use Rattle.router_core.specs.Blocks.{answer_lines, Shows};
-ghost use Rattle.router_core.specs.Lookups.{is_of_rib, Counts, ShowsRow, IsCountOf};
+ghost use Rattle.router_core.specs.Lookups.{Counts, ShowsRow, IsCountOf};
 ghost use Rattle.router_core.specs.Works.{Pushes};
 
 use crate::network::Network;
 use addr4::{Memory, Place, Prefix};
 use journal_text::{Entry, Journal, Line, Link};
 use rib_tree::Tree;
-
-/// Whether the link is one of the tree's, or `fib`.
-pub(crate) fn is_of_rib(link: Link) -> bool
-    ensures { result ≡ is_of_rib link }
-{
-    matches!(
-        link,
-        Link::Org(_) | Link::Lost(_, _) | Link::Low | Link::Dyn | Link::Int | Link::Fib
-    )
-}
 
 impl Network {
     /// The tree, where it has the link and the link is live.

@@ -1,0 +1,45 @@
+-- What one region's part does, whatever the others have.
+use Rattle.std.proofs.Common.{◌≡◌, Bool, true, false, cond, List, Option, refl, sym, ap, subst, ◌∙◌}
+use Rattle.journal_text.specs.declared.link.Link.{Link}
+use Rattle.journal_text.specs.declared.value.Value.{Value}
+use Rattle.journal_text.specs.declared.entry.Entry.{Entry}
+use Rattle.journal_text.specs.Walk.{Links, Leads}
+use Rattle.event_text.specs.Declarations.{Declaration}
+use Rattle.in_chain.specs.Chains.{Chained}
+use Rattle.rib_tree.specs.Trees.{Treed}
+use Rattle.rib_route.specs.declared.rows.Interior.{Interior as Route}
+use Rattle.register_interest.specs.Registers.{Registry}
+use Rattle.router_core.specs.declared.regions.Region.{Region}
+use Rattle.router_core.specs.declared.regions.Region.TheVariants.{Inward, InteriorRoutes, Forward, Elsewhere}
+use Rattle.router_core.specs.Regions.{Sides, region_of, joined, with_side, LeadsIn}
+use Rattle.router_core.specs.Moments.{Moment, rib_by, peer_links, parts, router_links}
+
+pub with_side_here : (sides : Sides) (r : Region) (links : Links Value) → with_side sides r links r ≡ links
+with_side_here sides Inward links = refl
+with_side_here sides InteriorRoutes links = refl
+with_side_here sides Forward links = refl
+with_side_here sides Elsewhere links = refl
+
+-- a link, by its region
+pub in_region : (m : Moment) (link : Link) (r : Region) → region_of link ≡ r → router_links m link ≡ parts m r link
+in_region m link r is = ap (λ (e : Region). parts m e link) is
+
+-- ---- the part of one region set in `parts`: a line for each side
+pub inward_set : (m : Moment) (cs : List Chained) → with_side (parts m) Inward (peer_links cs) ≡ parts (record m { chains = cs })
+inward_set m cs i r = each r i
+  where
+    each : (r : Region) → with_side (parts m) Inward (peer_links cs) r ≡ parts (record m { chains = cs }) r
+    each Inward = refl
+    each other = refl
+
+-- `fib` follows `int`: between the two it is the old one
+pub interior_set : (m : Moment) (t : Treed) (r : Registry Route) → with_side (with_side (parts m) InteriorRoutes (rib_by m.declared.speaker t)) Forward (rib_by m.declared.speaker t) ≡ parts (record m { tree = t; registry = r })
+interior_set m t r i s = each s i
+  where
+    each : (s : Region) → with_side (with_side (parts m) InteriorRoutes (rib_by m.declared.speaker t)) Forward (rib_by m.declared.speaker t) s ≡ parts (record m { tree = t; registry = r }) s
+    each InteriorRoutes = refl
+    each other = refl
+
+-- ---- in the router
+pub leads_inward : (m : Moment) (cs : List Chained) (entries : List (Entry Value)) → LeadsIn Inward (peer_links m.chains) entries (peer_links cs) → Leads (router_links m) entries (router_links (record m { chains = cs }))
+leads_inward m cs entries leads = subst (λ (s : Sides). Leads (router_links m) entries (joined s)) (inward_set m cs) (leads (parts m) refl)
