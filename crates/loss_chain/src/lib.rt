@@ -26,7 +26,7 @@ mod splice;
 mod stage;
 
 pub use chain::LossChain;
-pub use laws::{rows_are_counted, turns_take_rows};
+pub use laws::{each_row_is_fed, rows_are_counted, turns_take_rows};
 pub use live::Live;
 pub use owner::Owner;
 pub use stage::Stage;
