@@ -1,0 +1,6 @@
+pub mod InOrder
+pub mod Queues
+pub mod Index
+pub mod Entries
+pub mod Places
+pub mod Laws
