@@ -2,8 +2,10 @@
 use Rattle.std.specs.Prelude.{◌≡◌, ◌≤◌, ℕ, suc, nat_eq, nat_le, Bool, true, false, cond, ◌&&◌, ◌||◌, List, [], ◌∷◌, Option, Some, None}
 use Rattle.std.specs.declared.cmp.Ordering.{Ordering}
 use Rattle.std.specs.Ordering.{nat_cmp, eq_by_cmp, is_gt, ordering_then}
+use Rattle.std.specs.declared.ops.Bound.{Bound}
+use Rattle.std.specs.declared.ops.Bound.TheVariants.{Excluded, Unbounded}
 use Rattle.std.specs.BTreeMap.Range.{IsLeBy, IsLtBy}
-use Rattle.std.specs.BTreeSet.{BTreeSet, contains}
+use Rattle.std.specs.BTreeSet.{BTreeSet, contains, keys_between}
 use Rattle.addr4.specs.Prefixes.{Network, prefix_cmp, ComesBefore}
 use Rattle.addr4.specs.Places.{IsBeyond}
 use Rattle.link_change.specs.declared.change.Change.{Change}
@@ -31,6 +33,15 @@ is_reached (Some other) p = cond (is_gt (prefix_cmp other p)) false true
 -- whether the entry has this number or a later one, or its prefix isn't before the other one
 abbrev pub stops : ℕ → Option Network → Key → Bool
 stops place other key = nat_le place key.1 || is_reached other key.0
+
+-- the keys of the prefixes beyond a place, with numbers below 2 ^ 64, begin behind this
+abbrev pub behind : Option Network → Bound Key
+behind None = Unbounded
+behind (Some p) = Excluded (p, 18446744073709551615)
+
+-- the keys from a bound on
+abbrev pub keys_from : Bound Key → BTreeSet Key → List Key
+keys_from from index = keys_between key_cmp from Unbounded index
 
 -- the answer is the first key beyond the place at which the search stops
 abbrev pub IsFirstStop : BTreeSet Key → (Key → Bool) → Option Network → Option Key → Type 0

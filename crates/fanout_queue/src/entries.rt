@@ -108,16 +108,12 @@ impl<R: Row> Entries<R> {
         let prefix = change.prefix;
         index::put_key(&mut self.index, prefix, number)?;
         let readers = self.at_end;
-        match self.kept.push_back(Entry { change, readers }) {
-            Ok(()) => {
-                self.at_end = 0;
-                Ok(())
-            }
-            Err(_refused) => {
-                index::cut_key(&mut self.index, prefix, number);
-                Err(Memory)
-            }
+        if self.kept.push_back(Entry { change, readers }).is_err() {
+            index::cut_key(&mut self.index, prefix, number);
+            return Err(Memory);
         }
+        self.at_end = 0;
+        Ok(())
     }
 
     /// One reader more stands at a place.

@@ -1,10 +1,11 @@
 //! The entries of a queue by prefix and then number.
 
 ghost use Rattle.std.specs.Prelude.{◌≡◌, ◌<◌, ◌^◌, ℕ, OnOk, OnErr, true, false};
-ghost use Rattle.std.specs.BTreeSet.{Updates, contains};
+ghost use Rattle.std.specs.List.{find};
+ghost use Rattle.std.specs.BTreeSet.{Updates, contains, IsOrdered};
 ghost use Rattle.addr4.specs.Places.{key_of};
 ghost use Rattle.addr4.specs.Prefixes.{Network};
-ghost use Rattle.fanout_queue.specs.Index.{key_cmp, IsFirstKey, IsFirstStop, is_reached, stops};
+ghost use Rattle.fanout_queue.specs.Index.{key_cmp, IsFirstKey, IsFirstStop, is_reached, stops, behind, keys_from};
 
 use addr4::{Memory, Place, Prefix};
 use std::collections::BTreeSet;
@@ -56,11 +57,29 @@ pub(crate) fn is_reached(other: &Option<Prefix>, prefix: Prefix) -> bool
 }
 
 // The keys of the prefixes beyond a place begin behind this.
-fn behind(after: &Place) -> Bound<(Prefix, u64)> {
+fn behind(after: &Place) -> Bound<(Prefix, u64)>
+    ensures { result ≡ behind (key_of after.now) }
+{
     match after {
         Place::Before => Bound::Unbounded,
         Place::At(prefix) => Bound::Excluded((*prefix, u64::MAX)),
     }
+}
+
+// The first key from a bound on at which the search stops.
+fn find_stop(
+    index: &BTreeSet<(Prefix, u64)>,
+    from: Bound<(Prefix, u64)>,
+    place: u64,
+    other: &Option<Prefix>,
+) -> Option<(Prefix, u64)>
+    ensures found { result ≡ find (stops place other.now) (keys_from from index.now) }
+    ensures ordered { IsOrdered key_cmp index.now }
+{
+    index
+        .range((from, Bound::Unbounded))
+        .find(|key| place <= key.1 || is_reached(other, key.0))
+        .copied()
 }
 
 /// The first key beyond a place whose number is from this one on, or whose prefix isn't before the other one.
@@ -73,8 +92,5 @@ pub(crate) fn first_stop(
     requires { (p : Network) (n : ℕ) → contains key_cmp index.now (p, n) ≡ true → n < 2 ^ 64 }
     ensures { IsFirstStop index.now (stops place other.now) (key_of after.now) result }
 {
-    index
-        .range((behind(after), Bound::Unbounded))
-        .find(|key| place <= key.1 || is_reached(other, key.0))
-        .copied()
+    find_stop(index, behind(after), place, other)
 }

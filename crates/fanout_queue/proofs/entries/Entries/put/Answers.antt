@@ -4,13 +4,10 @@ use Rattle.addr4.specs.Places.{key_of}
 use Rattle.fanout_queue.specs.Entries.{IsPlace, readers_at, first_readers, unread_at, Puts, Enters, Leaves, CutsFirst, Trims, TakesOut, Passes, first_before, IsNextBeside}
 use Rattle.fanout_queue.proofs.entries.Entries.put.Goals as goal
 
--- src/entries.rt:114:17
-pub invariant_of-self-in-Ok : goal.invariant_of-self-in-Ok
-invariant_of-self-in-Ok g c = ?
+-- src/entries.rt:113:13
+pub invariant_of-self-then-is_err : goal.invariant_of-self-then-is_err
+invariant_of-self-then-is_err g c = ?
 
--- src/entries.rt:116:17
-pub invariant_of-self-in-Err : goal.invariant_of-self-in-Err
-invariant_of-self-in-Err g c = ?
-
-pub invariant_of-self-in-Err-2 : goal.invariant_of-self-in-Err-2
-invariant_of-self-in-Err-2 g c = ?
+-- src/entries.rt:100:5
+pub invariant_of-self-2 : goal.invariant_of-self-2
+invariant_of-self-2 g c = ?
