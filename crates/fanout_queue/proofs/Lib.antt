@@ -2,3 +2,5 @@ pub mod Cases
 pub mod OrderLemmas
 pub mod LeadLemmas
 pub mod KeyLemmas
+pub mod IndexLemmas
+pub mod EntryLemmas

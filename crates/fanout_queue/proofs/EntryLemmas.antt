@@ -1,0 +1,185 @@
+-- Entries with numbers, and how many readers stand at each.
+use Rattle.std.proofs.Common.{◌≡◌, ◌≢◌, ℕ, zero, suc, ◌+◌, ◌-◌, ◌<◌, ◌≤◌, ◌^◌, nat_eq, arith, Bool, true, false, cond, List, [], ◌∷◌, ◌++◌, length, get_or, set, take, drop, map, Option, Some, None, refl, sym, ap, ◌∙◌, subst}
+use Rattle.std.proofs.lemmas.List.{map-append, length-map, length-append, length-set, map-set, set-append_left, get_or-set_same, get_or-set_other, get_or_append_left, get_or_past, get_or-drop, get_or-map, drop_more}
+use Rattle.std.proofs.Math.Seq.{set-append_seam, get_or-append_seam, map-set_same}
+use Rattle.std.proofs.lemmas.Bool.Decides.{nat_tests}
+use Rattle.std.specs.Ordering.{is_eq}
+use Rattle.std.specs.BTreeSet.{BTreeSet, contains}
+use Rattle.addr4.specs.Prefixes.{Network}
+use Rattle.link_change.specs.declared.change.Change.{Change}
+use Rattle.fanout_queue.specs.declared.entries.Entry.{Entry}
+use Rattle.fanout_queue.specs.Index.{Key, key_cmp, IsIndexed}
+use Rattle.fanout_queue.specs.Entries.{Numbered, stands_at, changes_of, readers_of, numbered_of, IsKept, readers_at, first_readers, unread_at, IsPlace, Puts, Enters, Leaves, CutsFirst, Drops, Trims, TakesOut, Passes}
+use Rattle.fanout_queue.proofs.Cases.{by_bool}
+use Rattle.fanout_queue.proofs.IndexLemmas.{put_indexed, back_indexed, cut_indexed}
+
+pub stands_here : (n place : ℕ) → n ≡ place → stands_at n (Some place) ≡ 1
+stands_here n place is = by_bool (nat_eq n place) (λ v. ◌≡◌ {A = ℕ} (cond v 1 0) 1) (λ _. refl) (λ e. absurd (grind (arith, nat_tests)))
+
+pub stands_elsewhere : (n place : ℕ) → n ≢ place → stands_at n (Some place) ≡ 0
+stands_elsewhere n place apart = by_bool (nat_eq n place) (λ v. ◌≡◌ {A = ℕ} (cond v 1 0) 0) (λ e. absurd (apart (grind (arith, nat_tests)))) (λ _. refl)
+
+-- a place is that of the number, or it isn't
+pub by_place : (n place : ℕ) (P : Type 0) → (n ≡ place → P) → (n ≢ place → P) → P
+by_place n place P here apart = by_bool (nat_eq n place) (λ _. P) (λ e. here (grind (arith, nat_tests))) (λ e. apart (λ same. let f : nat_eq n place ≡ true = grind (arith, nat_tests) in let g : true ≡ false = sym f ∙ e in cc))
+
+-- the key, and no other, is there from now on, or isn't
+abbrev IsWith : BTreeSet Key → BTreeSet Key → Network → ℕ → Bool → Type 0
+IsWith old new p number there = (q : Key) → contains key_cmp new q ≡ cond (is_eq (key_cmp (p, number) q)) there (contains key_cmp old q)
+
+module _ {R : Type 0} where
+  -- ---- the count of one place is set
+  pub kept_stays : (first : ℕ) (kept kept' : List (Entry R)) (index : BTreeSet Key) → changes_of kept' ≡ changes_of kept → IsKept first kept index → IsKept first kept' index
+  kept_stays first kept kept' index same is = record {
+    indexed = subst (λ (cs : List (Change R)). IsIndexed first cs index) (sym same) is.indexed;
+    fits = subst (λ (cs : List (Change R)). first + length cs < 2 ^ 64) (sym same) is.fits;
+  }
+
+  pub same_changes : (kept : List (Entry R)) (i count : ℕ) (e : Entry R) → e ≡ get_or kept i e → changes_of (set kept i (record { change = e.change; readers = count })) ≡ changes_of kept
+  same_changes kept i count e at = map-set_same (λ (x : Entry R). x.change) kept i (record { change = e.change; readers = count }) e (ap (λ (x : Entry R). x.change) at)
+
+  pub count_set : (kept : List (Entry R)) (at_end i count : ℕ) (e : Entry R) → i < length kept → readers_of (set kept i (record { change = e.change; readers = count })) at_end ≡ set (readers_of kept at_end) i count
+  count_set kept at_end i count e within =
+      let n = length-map kept (λ (x : Entry R). x.readers) in
+      ap (λ (l : List ℕ). l ++ at_end ∷ []) (map-set (λ (x : Entry R). x.readers) kept i (record { change = e.change; readers = count }))
+      ∙ sym (set-append_left (map (λ (x : Entry R). x.readers) kept) (at_end ∷ []) i count (omega arith))
+
+  pub last_set : (kept : List (Entry R)) (at_end i count : ℕ) → i ≡ length kept → readers_of kept count ≡ set (readers_of kept at_end) i count
+  last_set kept at_end i count is =
+      let n = length-map kept (λ (x : Entry R). x.readers) in
+      sym (ap (λ k. set (readers_of kept at_end) k count) (let e : i ≡ length (map (λ (x : Entry R). x.readers) kept) = omega arith in e)
+      ∙ set-append_seam (map (λ (x : Entry R). x.readers) kept) at_end [] count)
+
+  pub counts_long : (kept : List (Entry R)) (at_end : ℕ) → length (readers_of kept at_end) ≡ length (changes_of kept) + 1
+  counts_long kept at_end =
+      let n = length-map kept (λ (x : Entry R). x.readers) in
+      let m = length-map kept (λ (x : Entry R). x.change) in
+      length-append (map (λ (x : Entry R). x.readers) kept) (at_end ∷ []) ∙ omega arith
+
+  -- what is counted at a place, and elsewhere
+  pub set_here : (m m' : Numbered R) (place count n : ℕ) → m'.first ≡ m.first → m.first ≤ place → place - m.first < length m.readers → m'.readers ≡ set m.readers (place - m.first) count → n ≡ place → readers_at m' n ≡ count
+  set_here m m' place count n first from within is here =
+      ap (λ (l : List ℕ). get_or l (n - m'.first) 0) is
+      ∙ ap (λ k. get_or (set m.readers (place - m.first) count) k 0) (let e : n - m'.first ≡ place - m.first = omega arith in e)
+      ∙ get_or-set_same m.readers (place - m.first) count 0 within
+
+  pub set_elsewhere : (m m' : Numbered R) (place count n : ℕ) → m'.first ≡ m.first → m.first ≤ place → m.first ≤ n → m'.readers ≡ set m.readers (place - m.first) count → n ≢ place → readers_at m' n ≡ readers_at m n
+  set_elsewhere m m' place count n first from low is apart =
+      ap (λ (l : List ℕ). get_or l (n - m'.first) 0) is
+      ∙ ap (λ k. get_or (set m.readers (place - m.first) count) k 0) (let e : n - m'.first ≡ n - m.first = omega arith in e)
+      ∙ get_or-set_other m.readers (place - m.first) (n - m.first) count 0 (λ e. apart (omega arith))
+
+  enters_by : (m m' : Numbered R) (place : ℕ) → m'.first ≡ m.first → m'.changes ≡ m.changes → m.first ≤ place → place - m.first < length m.readers → m'.readers ≡ set m.readers (place - m.first) (readers_at m place + 1) → Enters m m' place
+  enters_by m m' place first changes from within is = record {
+    first = first;
+    changes = changes;
+    readers = λ n low. by_place n place (readers_at m' n ≡ readers_at m n + stands_at n (Some place))
+        (λ here. let s = stands_here n place here in
+        set_here m m' place (readers_at m place + 1) n first from within is here ∙ (let same = ap (readers_at m) here in omega arith))
+        (λ apart. let s = stands_elsewhere n place apart in
+        let e = set_elsewhere m m' place (readers_at m place + 1) n first from low is apart in omega arith);
+  }
+
+  leaves_by : (m m' : Numbered R) (place : ℕ) → m'.first ≡ m.first → m'.changes ≡ m.changes → m.first ≤ place → place - m.first < length m.readers → 0 < readers_at m place → m'.readers ≡ set m.readers (place - m.first) (readers_at m place - 1) → Leaves m m' place
+  leaves_by m m' place first changes from within some is = record {
+    first = first;
+    changes = changes;
+    readers = λ n low. by_place n place (readers_at m' n + stands_at n (Some place) ≡ readers_at m n)
+        (λ here. let s = stands_here n place here in
+        let e = set_here m m' place (readers_at m place - 1) n first from within is here in
+        let same = ap (readers_at m) here in omega arith)
+        (λ apart. let s = stands_elsewhere n place apart in
+        let e = set_elsewhere m m' place (readers_at m place - 1) n first from low is apart in omega arith);
+  }
+
+  -- ---- the same, of the fields
+  module _ (first : ℕ) (kept : List (Entry R)) (at_end : ℕ) (m : Numbered R) (view : numbered_of first kept at_end ≡ m) (place : ℕ) where
+    count_here : (e : Entry R) → place - first < length kept → e ≡ get_or kept (place - first) e → get_or (readers_of kept at_end) (place - first) 0 ≡ e.readers
+    count_here e within at =
+        let n = length-map kept (λ (x : Entry R). x.readers) in
+        get_or_append_left (map (λ (x : Entry R). x.readers) kept) (at_end ∷ []) 0 (place - first) (omega arith)
+        ∙ get_or-map (λ (x : Entry R). x.readers) kept (place - first) e 0 within
+        ∙ sym (ap (λ (x : Entry R). x.readers) at)
+
+    count_last : place - first ≡ length kept → get_or (readers_of kept at_end) (place - first) 0 ≡ at_end
+    count_last is =
+        let n = length-map kept (λ (x : Entry R). x.readers) in
+        ap (λ k. get_or (readers_of kept at_end) k 0) (let e : place - first ≡ length (map (λ (x : Entry R). x.readers) kept) = omega arith in e)
+        ∙ get_or-append_seam (map (λ (x : Entry R). x.readers) kept) at_end [] 0
+
+    pub place_from : IsPlace m place → first ≤ place
+    place_from is = subst (λ (v : Numbered R). v.first ≤ place) (sym view) is.from
+
+    pub place_to : IsPlace m place → place ≤ first + length kept
+    place_to is =
+        let n = length-map kept (λ (x : Entry R). x.change) in
+        let to : place ≤ first + length (changes_of kept) = subst (λ (v : Numbered R). place ≤ v.first + length v.changes) (sym view) is.to in omega arith
+
+    pub enters_entry : (e : Entry R) → first ≤ place → place - first < length kept → e ≡ get_or kept (place - first) e → Enters m (numbered_of first (set kept (place - first) (record { change = e.change; readers = e.readers + 1 })) at_end) place
+    enters_entry e from within at =
+        let n = counts_long kept at_end in let k = length-map kept (λ (x : Entry R). x.change) in
+        subst (λ (v : Numbered R). Enters v (numbered_of first (set kept (place - first) (record { change = e.change; readers = e.readers + 1 })) at_end) place) view
+        (enters_by (numbered_of first kept at_end) (numbered_of first (set kept (place - first) (record { change = e.change; readers = e.readers + 1 })) at_end) place refl (same_changes kept (place - first) (e.readers + 1) e at) from (omega arith)
+        (count_set kept at_end (place - first) (e.readers + 1) e within ∙ ap (λ c. set (readers_of kept at_end) (place - first) (c + 1)) (sym (count_here e within at))))
+
+    pub enters_end : first ≤ place → place - first ≡ length kept → Enters m (numbered_of first kept (at_end + 1)) place
+    enters_end from is =
+        let n = counts_long kept at_end in let k = length-map kept (λ (x : Entry R). x.change) in
+        subst (λ (v : Numbered R). Enters v (numbered_of first kept (at_end + 1)) place) view
+        (enters_by (numbered_of first kept at_end) (numbered_of first kept (at_end + 1)) place refl refl from (omega arith)
+        (last_set kept at_end (place - first) (at_end + 1) is ∙ ap (λ c. set (readers_of kept at_end) (place - first) (c + 1)) (sym (count_last is))))
+
+    pub leaves_entry : (e : Entry R) → first ≤ place → place - first < length kept → 0 < readers_at m place → e ≡ get_or kept (place - first) e → Leaves m (numbered_of first (set kept (place - first) (record { change = e.change; readers = e.readers - 1 })) at_end) place
+    leaves_entry e from within some at =
+        let n = counts_long kept at_end in let k = length-map kept (λ (x : Entry R). x.change) in
+        subst (λ (v : Numbered R). Leaves v (numbered_of first (set kept (place - first) (record { change = e.change; readers = e.readers - 1 })) at_end) place) view
+        (leaves_by (numbered_of first kept at_end) (numbered_of first (set kept (place - first) (record { change = e.change; readers = e.readers - 1 })) at_end) place refl (same_changes kept (place - first) (e.readers - 1) e at) from (omega arith)
+        (subst (λ (v : Numbered R). 0 < readers_at v place) (sym view) some)
+        (count_set kept at_end (place - first) (e.readers - 1) e within ∙ ap (λ c. set (readers_of kept at_end) (place - first) (c - 1)) (sym (count_here e within at))))
+
+    pub leaves_end : first ≤ place → place - first ≡ length kept → 0 < readers_at m place → Leaves m (numbered_of first kept (at_end - 1)) place
+    leaves_end from is some =
+        let n = counts_long kept at_end in let k = length-map kept (λ (x : Entry R). x.change) in
+        subst (λ (v : Numbered R). Leaves v (numbered_of first kept (at_end - 1)) place) view
+        (leaves_by (numbered_of first kept at_end) (numbered_of first kept (at_end - 1)) place refl refl from (omega arith)
+        (subst (λ (v : Numbered R). 0 < readers_at v place) (sym view) some)
+        (last_set kept at_end (place - first) (at_end - 1) is ∙ ap (λ c. set (readers_of kept at_end) (place - first) (c - 1)) (sym (count_last is))))
+
+    -- there are as many readers as are counted
+    pub counted_entry : (e : Entry R) → place - first < length kept → e ≡ get_or kept (place - first) e → readers_at m place ≡ e.readers
+    counted_entry e within at = ap (λ (v : Numbered R). readers_at v place) (sym view) ∙ count_here e within at
+
+    pub counted_end : place - first ≡ length kept → readers_at m place ≡ at_end
+    counted_end is = ap (λ (v : Numbered R). readers_at v place) (sym view) ∙ count_last is
+
+  -- ---- entries come and go
+  pub end_is : (first : ℕ) (kept : List (Entry R)) (at_end number : ℕ) (m : Numbered R) → numbered_of first kept at_end ≡ m → number ≡ m.first + length m.changes → number ≡ first + length (changes_of kept)
+  end_is first kept at_end number m view is = is ∙ sym (ap (λ (v : Numbered R). v.first + length v.changes) view)
+
+  pub put_kept : (first : ℕ) (kept kept' : List (Entry R)) (c : Change R) (readers : ℕ) (index index' : BTreeSet Key) (number : ℕ) → number ≡ first + length (changes_of kept) → first + length (changes_of kept) + 1 < 2 ^ 64
+      → kept' ≡ kept ++ record { change = c; readers = readers } ∷ [] → IsKept first kept index → IsWith index index' c.prefix number true → IsKept first kept' index'
+  put_kept first kept kept' c readers index index' number is fits more sound put =
+      let changes : changes_of kept' ≡ changes_of kept ++ c ∷ [] = ap (changes_of) more ∙ map-append (λ (x : Entry R). x.change) kept (record { change = c; readers = readers } ∷ []) in
+      let n = length-append (changes_of kept) (c ∷ []) in
+      record {
+        indexed = subst (λ (cs : List (Change R)). IsIndexed first cs index') (sym changes)
+            (put_indexed first (changes_of kept) c index index' sound.indexed (subst (λ k. IsWith index index' c.prefix k true) is put));
+        fits = subst (λ (cs : List (Change R)). first + length cs < 2 ^ 64) (sym changes) (omega arith);
+      }
+
+  pub back_kept : (first : ℕ) (kept kept' : List (Entry R)) (c : Change R) (index index' last : BTreeSet Key) (number : ℕ) → number ≡ first + length (changes_of kept)
+      → kept' ≡ kept → IsKept first kept index → IsWith index index' c.prefix number true → IsWith index' last c.prefix number false → IsKept first kept' last
+  back_kept first kept kept' c index index' last number is same sound put cut =
+      subst (λ (l : List (Entry R)). IsKept first l last) (sym same) (record {
+        indexed = back_indexed first (changes_of kept) c index index' last sound.indexed (subst (λ k. IsWith index index' c.prefix k true) is put) (subst (λ k. IsWith index' last c.prefix k false) is cut);
+        fits = sound.fits;
+      })
+
+  pub cut_kept : (first : ℕ) (kept kept' rest : List (Entry R)) (e : Entry R) (index index' : BTreeSet Key) → kept ≡ e ∷ rest → kept' ≡ rest → IsKept first kept index → IsWith index index' e.change.prefix first false
+      → IsKept (first + 1) kept' index'
+  cut_kept first kept kept' rest e index index' is same sound cut =
+      let was : IsKept first (e ∷ rest) index = subst (λ (l : List (Entry R)). IsKept first l index) is sound in
+      subst (λ (l : List (Entry R)). IsKept (first + 1) l index') (sym same) (record {
+        indexed = cut_indexed first e.change (changes_of rest) index index' was.indexed cut;
+        fits = let fits : first + length (changes_of (e ∷ rest)) < 2 ^ 64 = was.fits in omega arith;
+      })
