@@ -1,17 +1,18 @@
 -- Entries with numbers, and how many readers stand at each.
 use Rattle.std.proofs.Common.{◌≡◌, ◌≢◌, ℕ, zero, suc, ◌+◌, ◌-◌, ◌<◌, ◌≤◌, ◌^◌, nat_eq, arith, Bool, true, false, cond, List, [], ◌∷◌, ◌++◌, length, get_or, set, take, drop, map, Option, Some, None, refl, sym, ap, ◌∙◌, subst}
 use Rattle.std.proofs.lemmas.List.{map-append, length-map, length-append, length-set, map-set, set-append_left, get_or-set_same, get_or-set_other, get_or_append_left, get_or_past, get_or-drop, get_or-map, drop_more}
+use Rattle.std.proofs.Math.ListN as list
 use Rattle.std.proofs.Math.Seq.{set-append_seam, get_or-append_seam, map-set_same}
 use Rattle.std.proofs.lemmas.Bool.Decides.{nat_tests}
-use Rattle.std.specs.Ordering.{is_eq}
+use Rattle.std.specs.Ordering.{eq_by_cmp, is_eq}
 use Rattle.std.specs.BTreeSet.{BTreeSet, contains}
-use Rattle.addr4.specs.Prefixes.{Network}
+use Rattle.addr4.specs.Prefixes.{Network, prefix_cmp}
 use Rattle.link_change.specs.declared.change.Change.{Change}
 use Rattle.fanout_queue.specs.declared.entries.Entry.{Entry}
-use Rattle.fanout_queue.specs.Index.{Key, key_cmp, IsIndexed}
-use Rattle.fanout_queue.specs.Entries.{Numbered, stands_at, changes_of, readers_of, numbered_of, IsKept, readers_at, first_readers, unread_at, IsPlace, Puts, Enters, Leaves, CutsFirst, Drops, Trims, TakesOut, Passes}
+use Rattle.fanout_queue.specs.Index.{Key, key_cmp, IsFirstKey, IsFirstStop, is_reached, stops, IsIndexed}
+use Rattle.fanout_queue.specs.Entries.{Numbered, stands_at, changes_of, readers_of, numbered_of, IsKept, readers_at, first_readers, unread_at, IsPlace, Enters, Leaves, first_before, IsNextBeside}
 use Rattle.fanout_queue.proofs.Cases.{by_bool}
-use Rattle.fanout_queue.proofs.IndexLemmas.{put_indexed, back_indexed, cut_indexed}
+use Rattle.fanout_queue.proofs.IndexLemmas.{put_indexed, back_indexed, cut_indexed, number_fits, no_key, other_key, key_within, key_here, none_beside, none_stops, other_stops, change_stops}
 
 pub stands_here : (n place : ℕ) → n ≡ place → stands_at n (Some place) ≡ 1
 stands_here n place is = by_bool (nat_eq n place) (λ v. ◌≡◌ {A = ℕ} (cond v 1 0) 1) (λ _. refl) (λ e. absurd (grind (arith, nat_tests)))
@@ -183,3 +184,60 @@ module _ {R : Type 0} where
         indexed = cut_indexed first e.change (changes_of rest) index index' was.indexed cut;
         fits = let fits : first + length (changes_of (e ∷ rest)) < 2 ^ 64 = was.fits in omega arith;
       })
+
+  -- ---- what is found in the index
+  module _ (first : ℕ) (kept : List (Entry R)) (at_end : ℕ) (index : BTreeSet Key) (m : Numbered R) (view : numbered_of first kept at_end ≡ m) (sound : IsKept first kept index) (place : ℕ) (is : IsPlace m place) where
+    abbrev low : first ≤ place
+    low = place_from first kept at_end m view place is
+
+    unread_is : drop (place - first) (changes_of kept) ≡ unread_at m place
+    unread_is = ap (λ (v : Numbered R). unread_at v place) view
+
+    pub numbers_fit : (p : Network) (n : ℕ) → contains key_cmp index (p, n) ≡ true → n < 2 ^ 64
+    numbers_fit p n has = let below = number_fits (changes_of kept) first p n (sym (sound.indexed p n) ∙ has) in let fits = sound.fits in omega arith
+
+    pub none_found : (p : Network) → IsFirstKey index (p, place) None → None ≡ first_before p (unread_at m place)
+    none_found p key = sym (ap (first_before p) (sym unread_is) ∙ no_key first (changes_of kept) index p place sound.indexed low key)
+
+    pub other_found : (p q : Network) (s : ℕ) → IsFirstKey index (p, place) (Some (q, s)) → eq_by_cmp prefix_cmp p q ≡ false → None ≡ first_before p (unread_at m place)
+    other_found p q s key apart = sym (ap (first_before p) (sym unread_is) ∙ other_key first (changes_of kept) index p place sound.indexed low q s key apart)
+
+    pub within_kept : (p : Network) (s : ℕ) → IsFirstKey index (p, place) (Some (p, s)) → s - first < length kept
+    within_kept p s key =
+        let n = length-map kept (λ (x : Entry R). x.change) in
+        let inside = key_within first (changes_of kept) index p place sound.indexed low s key in omega arith
+
+    pub change_found : (p : Network) (s : ℕ) (e : Entry R) → e ≡ get_or kept (s - first) e → IsFirstKey index (p, place) (Some (p, s)) → Some e.change.before ≡ first_before p (unread_at m place)
+    change_found p s e at key =
+        ap (λ (x : Change R). Some x.before) (ap (λ (x : Entry R). x.change) at ∙ sym (list.get_or-map (λ (x : Entry R). x.change) kept (s - first) e))
+        ∙ sym (ap (first_before p) (sym unread_is) ∙ key_here first (changes_of kept) index p place sound.indexed low s e.change key)
+
+    module _ (after other : Option Network) where
+      beside_is : (result : Option Network) → IsNextBeside (drop (place - first) (changes_of kept)) after other result → IsNextBeside (unread_at m place) after other result
+      beside_is result next = subst (λ (cs : List (Change R)). IsNextBeside cs after other result) unread_is next
+
+      pub end_beside : place ≡ m.first + length m.changes → IsNextBeside (unread_at m place) after other other
+      end_beside at = none_beside m.changes (place - m.first) after other (omega arith)
+
+      pub none_beside_stops : IsFirstStop index (stops place other) after None → IsNextBeside (unread_at m place) after other other
+      none_beside_stops stop = beside_is other (none_stops first (changes_of kept) index place after other sound.indexed low stop)
+
+      pub other_beside : (key : Key) → IsFirstStop index (stops place other) after (Some key) → is_reached other key.0 ≡ true → IsNextBeside (unread_at m place) after other other
+      other_beside key stop reached = beside_is other (other_stops first (changes_of kept) index place after other sound.indexed low key stop reached)
+
+      pub change_beside : (key : Key) → IsFirstStop index (stops place other) after (Some key) → is_reached other key.0 ≡ false → IsNextBeside (unread_at m place) after other (Some key.0)
+      change_beside key stop not_reached = beside_is (Some key.0) (change_stops first (changes_of kept) index place after other sound.indexed low key stop not_reached)
+
+  -- the change at a place is the first from there on
+  pub copied_first : (first : ℕ) (kept : List (Entry R)) (at_end : ℕ) (m : Numbered R) (place : ℕ) (e : Entry R) (c : Change R) → numbered_of first kept at_end ≡ m → m.first ≤ place → place < m.first + length m.changes
+      → e ≡ get_or kept (place - first) e → c ≡ e.change → unread_at m place ≡ c ∷ drop (place + 1 - m.first) m.changes
+  copied_first first kept at_end m place e c view from within at same =
+      let at_first : first ≡ m.first = ap (λ (v : Numbered R). v.first) view in
+      let here : get_or m.changes (place - m.first) e.change ≡ e.change =
+          ap (λ (l : List (Change R)). get_or l (place - m.first) e.change) (sym (ap (λ (v : Numbered R). v.changes) view))
+          ∙ list.get_or-map (λ (x : Entry R). x.change) kept (place - m.first) e
+          ∙ ap (λ k. (get_or kept k e).change) (let s : place - m.first ≡ place - first = omega arith in s)
+          ∙ sym (ap (λ (x : Entry R). x.change) at) in
+      drop_more m.changes (place - m.first) e.change (omega arith)
+      ∙ ap (λ (x : Change R). x ∷ drop (place - m.first + 1) m.changes) (here ∙ sym same)
+      ∙ ap (λ k. c ∷ drop k m.changes) (let s : place - m.first + 1 ≡ place + 1 - m.first = omega arith in s)

@@ -8,6 +8,7 @@ use Rattle.std.specs.BTreeMap.Range.{IsLeBy, IsLtBy}
 use Rattle.std.specs.BTreeSet.{BTreeSet, contains}
 use Rattle.std.proofs.lemmas.Bool.Decides.{nat_tests}
 use Rattle.std.proofs.Math.Seq.{drop-nil}
+use Rattle.std.proofs.Math.ListN.{drop_of_length-le}
 use Rattle.addr4.specs.Prefixes.{Network, prefix_cmp, ComesBefore}
 use Rattle.addr4.specs.Places.{IsBeyond}
 use Rattle.addr4.proofs.PrefixOrder.{itself, prefixes_total, exact_prefixes}
@@ -272,6 +273,19 @@ module _ {R : Type 0} where
       changed_from cs (suc base) k place p n (omega arith) low (sym (at_rest c cs base p n (omega arith)) ∙ has)
 
   -- ---- the next candidate of others and of the changes from a place on
+  -- where none of the changes lies beyond, it is that of the others
+  stays_beside : (cs : List (Change R)) (after other : Option Network) → ((q : Network) → IsBeyond after q → changed_in cs q ≡ false) → IsNextBeside cs after other other
+  stays_beside cs after None gone others next = λ q beyond. both_false (others q) (changed_in cs q) (next q beyond) (gone q beyond)
+  stays_beside cs after (Some p) gone others next = (
+    next.0,
+    ap (λ b. b || changed_in cs p) next.1,
+    λ q beyond before. both_false (others q) (changed_in cs q) (next.2 q beyond before) (gone q beyond),
+  )
+
+  -- as where there are none
+  pub none_beside : (es : List (Change R)) (k : ℕ) (after other : Option Network) → length es ≤ k → IsNextBeside (drop k es) after other other
+  none_beside es k after other past = subst (λ (cs : List (Change R)). IsNextBeside cs after other other) (sym (drop_of_length-le es past)) (stays_beside [] after other (λ q beyond. refl))
+
   module _ (base : ℕ) (es : List (Change R)) (index : BTreeSet Key) (place : ℕ) (after other : Option Network) (indexed : IsIndexed base es index) (low : base ≤ place) where
     abbrev unread : Candidates
     unread = changed_in (drop (place - base) es)
@@ -284,18 +298,7 @@ module _ {R : Type 0} where
         (λ e. sym (indexed q n) ∙ e))
 
     pub none_stops : IsFirstStop index (stops place other) after None → IsNextBeside (drop (place - base) es) after other other
-    none_stops first others is = beside other is
-      where
-        gone : (q : Network) → IsBeyond after q → unread q ≡ false
-        gone q beyond = unread_none q (λ n e. first (q, n) e beyond)
-
-        beside : (o : Option Network) → IsNextCandidate others after o → IsNextCandidate (together others unread) after o
-        beside None next = λ q beyond. both_false (others q) (unread q) (next q beyond) (gone q beyond)
-        beside (Some p) next = (
-          next.0,
-          ap (λ b. b || unread p) next.1,
-          λ q beyond before. both_false (others q) (unread q) (next.2 q beyond before) (gone q beyond),
-        )
+    none_stops first = stays_beside (drop (place - base) es) after other (λ q beyond. unread_none q (λ n e. first (q, n) e beyond))
 
     module _ (key : Key) (first : IsFirstStop index (stops place other) after (Some key)) where
       gone_before : (q : Network) → IsBeyond after q → ComesBefore q key.0 → unread q ≡ false

@@ -4,3 +4,4 @@ pub mod LeadLemmas
 pub mod KeyLemmas
 pub mod IndexLemmas
 pub mod EntryLemmas
+pub mod StepLemmas

@@ -1,6 +1,6 @@
 //! The entries of a queue: changes with numbers.
 
-ghost use Rattle.std.specs.Prelude.{◌≡◌, ◌≤◌, ◌<◌, ◌+◌, ◌-◌, ◌^◌, [], ◌∷◌, ◌++◌, length, drop, slice_index_or, option_map, IfOk, OnOk, OnErr, IfSome, IsNone, Some};
+ghost use Rattle.std.specs.Prelude.{◌≡◌, ◌≤◌, ◌<◌, ◌+◌, ◌-◌, ◌^◌, [], ◌∷◌, ◌++◌, length, drop, slice_index_or, option_map, IfOk, OnOk, OnErr, IfSome, IsNone, Some, ◌↔◌, IsTrue};
 ghost use Rattle.std.specs.Option.{option_copied};
 ghost use Rattle.addr4.specs.Places.{key_of};
 
@@ -162,12 +162,27 @@ impl<R: Row> Entries<R> {
     pub(crate) fn trim(&mut self)
         ensures { Trims self.old self.new }
     {
-        for _ in 0..self.len() {
-            if self.first_readers() > 0 {
+        'first: while self.first_readers() == 0 {
+            if self.cut_first().is_none() {
                 return;
             }
-            self.cut_first();
         }
+    }
+
+    // Whether a reader at a place is the only one that is to take the first change.
+    fn is_alone(&self, place: u64) -> bool
+        ensures { IsTrue result ↔ ((place ≡ self.now.first) × (first_readers self.now ≡ 1)) }
+    {
+        place == self.first && self.first_readers() == 1
+    }
+
+    // The change at a place.
+    fn copy_at(&self, place: u64) -> Result<Change<R>, Memory>
+        requires from { self.now.first ≤ place }
+        requires within { place < self.now.first + length self.now.changes }
+        ensures { IfOk result (λ change. unread_at self.now place ≡ change ∷ drop (place + 1 - self.now.first) self.now.changes) }
+    {
+        copy_change(&self.kept[(place - self.first) as usize].change)
     }
 
     // A reader takes the change at its place. That is the change itself, which goes, where no other reader is to take it.
@@ -178,10 +193,10 @@ impl<R: Row> Entries<R> {
         ensures ok { IfOk result (λ change. TakesOut self.old self.new place change) }
         ensures memory { OnErr result (self.new ≡ self.old) }
     {
-        if place == self.first && self.first_readers() == 1 {
+        if self.is_alone(place) {
             return self.cut_first().ok_or(Memory);
         }
-        let change = copy_change(&self.kept[(place - self.first) as usize].change)?;
+        let change = self.copy_at(place)?;
         self.leave(place);
         Ok(change)
     }
@@ -191,6 +206,7 @@ impl<R: Row> Entries<R> {
         requires from { self.old.first ≤ place }
         requires within { place < self.old.first + length self.old.changes }
         requires stands { 0 < readers_at self.old place }
+        requires next { place + 1 < 2 ^ 64 }
         requires fits { readers_at self.old (place + 1) + 1 < 2 ^ 64 }
         ensures ok { IfOk result (λ change. Passes self.old self.new place change) }
         ensures memory { OnErr result (self.new ≡ self.old) }
