@@ -1,5 +1,5 @@
 -- Cases: of a test, of two numbers, of two prefixes.
-use Rattle.std.proofs.Common.{◌≡◌, ◌≢◌, ℕ, Bool, true, false, Option, Some, None, Result, Ok, Err, IfOk, IfSome, IsSome, refl, sym, ap, ◌∙◌, subst}
+use Rattle.std.proofs.Common.{◌≡◌, ◌≢◌, ℕ, Bool, true, false, Option, Some, None, IfSome, IsSome, refl, sym, ap, ◌∙◌, subst}
 use Rattle.std.specs.Ordering.{nat_cmp, eq_by_cmp, is_eq}
 use Rattle.std.specs.declared.cmp.Ordering.{Ordering}
 use Rattle.std.specs.declared.cmp.Ordering.TheVariants.{Less, Equal, Greater}
@@ -51,7 +51,3 @@ module _ {A : Type 0} where
   pub none_live : (o : Option A) → o ≡ None → IsSome o → ⊥
   none_live None is live = cc
   none_live (Some x) is live = cc
-
-pub if_ok : {A B : Type 0} (r : Result A B) (P Q : A → Type 0) → ((x : A) → P x → Q x) → IfOk r P → IfOk r Q
-if_ok (Ok x) P Q more h = more x h
-if_ok (Err e) P Q more h = tt

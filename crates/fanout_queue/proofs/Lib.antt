@@ -5,3 +5,4 @@ pub mod KeyLemmas
 pub mod IndexLemmas
 pub mod EntryLemmas
 pub mod StepLemmas
+pub mod QueueLemmas
