@@ -1,6 +1,6 @@
 -- Entries with numbers, and how many readers stand at each.
-use Rattle.std.proofs.Common.{◌≡◌, ◌≢◌, ℕ, zero, suc, ◌+◌, ◌-◌, ◌<◌, ◌≤◌, ◌^◌, nat_eq, arith, Bool, true, false, cond, List, [], ◌∷◌, ◌++◌, length, get_or, set, take, drop, map, Option, Some, None, refl, sym, ap, ◌∙◌, subst}
-use Rattle.std.proofs.lemmas.List.{map-append, length-map, length-append, length-set, map-set, set-append_left, get_or-set_same, get_or-set_other, get_or_append_left, get_or_past, get_or-drop, get_or-map, drop_more}
+use Rattle.std.proofs.Common.{◌≡◌, ◌≢◌, ℕ, ◌+◌, ◌-◌, ◌<◌, ◌≤◌, ◌^◌, nat_eq, arith, Bool, true, false, cond, List, [], ◌∷◌, ◌++◌, length, get_or, set, drop, map, Option, Some, None, refl, sym, ap, ◌∙◌, subst}
+use Rattle.std.proofs.lemmas.List.{map-append, length-map, length-append, map-set, set-append_left, get_or-set_same, get_or-set_other, get_or_append_left, get_or-map, drop_more}
 use Rattle.std.proofs.Math.ListN as list
 use Rattle.std.proofs.Math.Seq.{set-append_seam, get_or-append_seam, map-set_same}
 use Rattle.std.proofs.lemmas.Bool.Decides.{nat_tests}
@@ -10,7 +10,7 @@ use Rattle.addr4.specs.Prefixes.{Network, prefix_cmp}
 use Rattle.link_change.specs.declared.change.Change.{Change}
 use Rattle.fanout_queue.specs.declared.entries.Entry.{Entry}
 use Rattle.fanout_queue.specs.Index.{Key, key_cmp, IsFirstKey, IsFirstStop, is_reached, stops, IsIndexed}
-use Rattle.fanout_queue.specs.Entries.{Numbered, stands_at, changes_of, readers_of, numbered_of, IsKept, readers_at, first_readers, unread_at, IsPlace, Enters, Leaves, first_before, IsNextBeside}
+use Rattle.fanout_queue.specs.Entries.{Numbered, stands_at, changes_of, readers_of, numbered_of, IsKept, readers_at, unread_at, IsPlace, Enters, Leaves, first_before, IsNextBeside}
 use Rattle.fanout_queue.proofs.Cases.{by_bool}
 use Rattle.fanout_queue.proofs.IndexLemmas.{put_indexed, back_indexed, cut_indexed, number_fits, no_key, other_key, key_within, key_here, none_beside, none_stops, other_stops, change_stops}
 
@@ -234,10 +234,10 @@ module _ {R : Type 0} where
   copied_first first kept at_end m place e c view from within at same =
       let at_first : first ≡ m.first = ap (λ (v : Numbered R). v.first) view in
       let here : get_or m.changes (place - m.first) e.change ≡ e.change =
-          ap (λ (l : List (Change R)). get_or l (place - m.first) e.change) (sym (ap (λ (v : Numbered R). v.changes) view))
-          ∙ list.get_or-map (λ (x : Entry R). x.change) kept (place - m.first) e
-          ∙ ap (λ k. (get_or kept k e).change) (let s : place - m.first ≡ place - first = omega arith in s)
-          ∙ sym (ap (λ (x : Entry R). x.change) at) in
+      ap (λ (l : List (Change R)). get_or l (place - m.first) e.change) (sym (ap (λ (v : Numbered R). v.changes) view))
+      ∙ list.get_or-map (λ (x : Entry R). x.change) kept (place - m.first) e
+      ∙ ap (λ k. (get_or kept k e).change) (let s : place - m.first ≡ place - first = omega arith in s)
+      ∙ sym (ap (λ (x : Entry R). x.change) at) in
       drop_more m.changes (place - m.first) e.change (omega arith)
       ∙ ap (λ (x : Change R). x ∷ drop (place - m.first + 1) m.changes) (here ∙ sym same)
       ∙ ap (λ k. c ∷ drop k m.changes) (let s : place - m.first + 1 ≡ place + 1 - m.first = omega arith in s)

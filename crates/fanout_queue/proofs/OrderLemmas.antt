@@ -1,5 +1,5 @@
 -- Changes that are applied in order.
-use Rattle.std.proofs.Common.{◌≡◌, ◌≢◌, ◌↔◌, Bool, true, false, cond, List, [], ◌∷◌, ◌++◌, Option, Some, refl, sym, ap, ◌∙◌, subst}
+use Rattle.std.proofs.Common.{◌≡◌, ◌≢◌, true, false, cond, List, [], ◌∷◌, ◌++◌, Option, Some, refl, sym, ap, ◌∙◌, subst}
 use Rattle.std.proofs.lemmas.List.{append-nil}
 use Rattle.std.specs.Ordering.{eq_by_cmp}
 use Rattle.addr4.specs.Prefixes.{Network, prefix_cmp}
@@ -70,10 +70,10 @@ module _ {R : Type 0} where
       let here : RowLeads (old c.prefix) (c ∷ changes_at c.prefix cs) (new c.prefix) = subst (λ (l : List (Change R)). RowLeads (old c.prefix) l (new c.prefix)) (first_here c cs) (h c.prefix) in (
         (here.0, here.1),
         each_leads (with_row old c.prefix c.after) new cs (λ p.
-        by_prefix p c.prefix (λ v. RowLeads (old p) (cond v (c ∷ changes_at p cs) (changes_at p cs)) (new p) → RowLeads (cond v c.after (old p)) (changes_at p cs) (new p))
-        (λ _ all. all.2)
-        (λ _ all. all)
-        (h p)),
+            by_prefix p c.prefix (λ v. RowLeads (old p) (cond v (c ∷ changes_at p cs) (changes_at p cs)) (new p) → RowLeads (cond v c.after (old p)) (changes_at p cs) (new p))
+            (λ _ all. all.2)
+            (λ _ all. all)
+            (h p)),
       )
 
   -- ---- a change is put

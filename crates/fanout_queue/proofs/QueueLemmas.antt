@@ -1,20 +1,26 @@
 -- What the readers of a queue haven't taken, by their numbers.
-use Rattle.std.proofs.Common.{◌≡◌, ◌≢◌, ℕ, zero, suc, ◌+◌, ◌-◌, ◌*◌, ◌<◌, ◌≤◌, ◌^◌, nat_eq, nat_lt, arith, true, false, cond, List, [], ◌∷◌, ◌++◌, length, get_or, drop, Option, Some, None, IsSome, IfSome, refl, sym, ap, ◌∙◌, subst}
+use Rattle.std.proofs.Common.{◌≡◌, ◌≢◌, ℕ, zero, suc, ◌+◌, ◌-◌, ◌*◌, ◌<◌, ◌≤◌, ◌^◌, nat_lt, arith, cond, List, [], ◌∷◌, ◌++◌, length, get_or, drop, Option, Some, None, IsSome, IfSome, Result, IfOk, refl, sym, ap, ◌∙◌, subst}
 use Rattle.std.specs.Option.{option_map}
-use Rattle.std.specs.List.{All, sum_by}
+use Rattle.std.specs.List.{sum_by}
 use Rattle.std.specs.Ordering.{nat_cmp, eq_by_cmp}
 use Rattle.std.specs.Cmp.{nat_cmp_total}
 use Rattle.std.specs.FinMap as map
 use Rattle.std.specs.FinMap.{nat_cmp-IsAntisymmetric, get-empty, get-insert, get-remove, same_map}
-use Rattle.std.proofs.lemmas.List.{drop-append-le, length-drop, length-append, get_or_past, get_or_append_left, get_or-drop}
+use Rattle.std.proofs.lemmas.List.{drop-append-le, length-drop, length-append, get_or_past, get_or-drop}
 use Rattle.std.proofs.lemmas.List.Sums.{sum_by-le, sum_by-cons, get_or-le-sum_by}
 use Rattle.std.proofs.lemmas.Bool.Decides.{nat_tests}
+use Rattle.std.proofs.lemmas.Result.{IfOk-weaker}
 use Rattle.std.proofs.Math.ListN.{drop_of_length-le}
+use Rattle.addr4.specs.Prefixes.{Network}
+use Rattle.addr4.specs.declared.memory.Memory.{Memory}
+use Rattle.link_change.specs.Rows.{Rows}
 use Rattle.link_change.specs.declared.change.Change.{Change}
+use Rattle.fanout_queue.specs.InOrder.{rows_before}
 use Rattle.fanout_queue.specs.Queues.{Queued, AppendsToAll, Takes, IsMostUnread, with_last}
-use Rattle.fanout_queue.specs.Entries.{Numbered, stands_at, readers_at, first_readers, unread_at, IsPlace, Puts, Enters, Leaves, Trims, Passes}
+use Rattle.fanout_queue.specs.Entries.{Numbered, stands_at, readers_at, first_readers, unread_at, IsPlace, Puts, Enters, Leaves, Trims, Passes, first_before}
 use Rattle.fanout_queue.specs.Places.{SetsPlace, queued_from, queued_of, IsPlaced, IsQueue}
-use Rattle.fanout_queue.proofs.Cases.{by_bool, by_number, same_number, other_number}
+use Rattle.fanout_queue.proofs.Cases.{by_bool, by_number, same_number, other_number, if_some}
+use Rattle.fanout_queue.proofs.IndexLemmas.{or_else, first_of_rows}
 use Rattle.fanout_queue.proofs.EntryLemmas.{stands_here, stands_elsewhere, by_place}
 use Rattle.fanout_queue.proofs.StepLemmas.{first_is, drop_twice}
 
@@ -60,6 +66,9 @@ zero_more [] zero = refl
 zero_more [] (suc k) = refl
 zero_more (x ∷ xs) zero = refl
 zero_more (x ∷ xs) (suc k) = zero_more xs k
+
+pub at_place : (slice places : List (Option ℕ)) (number place : ℕ) → slice ≡ places → get_or slice number None ≡ Some place → get_or places number None ≡ Some place
+at_place slice places number place same at = ap (λ (l : List (Option ℕ)). get_or l number None) (sym same) ∙ at
 
 module _ {R : Type 0} where
   -- ---- what a reader hasn't taken
@@ -148,7 +157,7 @@ module _ {R : Type 0} where
   pub put_to_nobody : (entries : Numbered R) (places : List (Option ℕ)) (m : Queued R) (c : Change R) → queued_of entries places ≡ m → IsQueue entries places → first_readers entries ≡ 0 → AppendsToAll c m m
   put_to_nobody entries places m c view sound none q =
       let absent : map.get m q ≡ None = ap (λ (x : Queued R). map.get x q) (sym view) ∙ unread_of entries places q
-          ∙ ap (option_map (unread_at entries)) (nobody entries places sound none q (get_or places q None) refl) in
+      ∙ ap (option_map (unread_at entries)) (nobody entries places sound none q (get_or places q None) refl) in
       absent ∙ sym (ap (option_map (with_last c)) absent)
 
   module _ (old new : Numbered R) (places : List (Option ℕ)) (c : Change R) (puts : Puts old new c) (sound : IsQueue old places) where
@@ -367,3 +376,24 @@ module _ {R : Type 0} where
 
   pub few_there : (entries : Numbered R) (places : List (Option ℕ)) (n : ℕ) → IsQueue entries places → entries.first ≤ n → length places < 2 ^ 63 → readers_at entries n + 1 < 2 ^ 64
   few_there entries places n sound low few = let stood = sound.counted n low in let some = few_stand n places in omega arith
+
+  pub waits : (entries : Numbered R) (places : List (Option ℕ)) (m : Queued R) (number reader place end count : ℕ) → queued_of entries places ≡ m → number ≡ reader → IsQueue entries places → get_or places number None ≡ Some place
+      → end ≡ entries.first + length entries.changes → count ≡ end - place → IfSome (map.get m reader) (λ unread. count ≡ length unread)
+  waits entries places m number reader place end count view same sound at is_end is =
+      let placed : IsPlace entries place = stands_there entries places number place sound at in
+      let from = placed.from in
+      if_some (map.get m reader) (λ unread. count ≡ length unread) (unread_at entries place) (has_unread entries places m view number reader same place at)
+      (let left = length-drop (place - entries.first) entries.changes in omega arith)
+
+  -- the row that is answered is the one before the first change at the prefix, or else the one above
+  pub asked_unread : (entries : Numbered R) (places : List (Option ℕ)) (m : Queued R) (number reader place : ℕ) → queued_of entries places ≡ m → number ≡ reader → get_or places number None ≡ Some place
+      → (best : Rows R) (p : Network) (found : Option (Option R)) (result : Result (Option R) Memory) → found ≡ first_before p (unread_at entries place) → IfOk result (λ row. row ≡ or_else found (best p))
+      → IfOk result (λ row. IfSome (map.get m reader) (λ unread. row ≡ rows_before unread best p))
+  asked_unread entries places m number reader place view same at best p found result first answered =
+      IfOk-weaker result (λ row. row ≡ or_else found (best p)) (λ row. IfSome (map.get m reader) (λ unread. row ≡ rows_before unread best p))
+      (λ row is. if_some (map.get m reader) (λ unread. row ≡ rows_before unread best p) (unread_at entries place) (has_unread entries places m view number reader same place at)
+      (is ∙ ap (λ f. or_else f (best p)) first ∙ sym (first_of_rows best (unread_at entries place) p)))
+      answered
+
+  pub joined_live : (m : Queued R) (number : ℕ) (l : List (Change R)) → IsSome (map.get (map.insert m number l) number)
+  joined_live m number l = subst IsSome (sym (get-insert nat_cmp_total m number l number ∙ ap (λ b. cond b (Some l) (map.get m number)) (same_number number))) refl

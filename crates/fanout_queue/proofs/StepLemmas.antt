@@ -1,12 +1,10 @@
 -- What calls make of entries, as they are seen.
-use Rattle.std.proofs.Common.{◌≡◌, ◌≢◌, ℕ, zero, suc, ◌+◌, ◌-◌, ◌<◌, ◌≤◌, nat_eq, nat_lt, arith, true, false, cond, List, [], ◌∷◌, length, get_or, drop, Option, Some, None, IfSome, refl, sym, ap, ◌∙◌, subst}
+use Rattle.std.proofs.Common.{◌≡◌, ◌≢◌, ℕ, zero, suc, ◌+◌, ◌-◌, ◌<◌, ◌≤◌, arith, true, false, List, [], ◌∷◌, length, get_or, drop, Option, Some, None, IfSome, refl, sym, ap, ◌∙◌}
 use Rattle.std.specs.Option.{is_none}
-use Rattle.std.proofs.lemmas.List.{get_or-drop, drop_more, length-drop}
-use Rattle.std.proofs.lemmas.Bool.Decides.{nat_tests}
+use Rattle.std.proofs.lemmas.List.{get_or-drop, length-drop}
 use Rattle.std.proofs.Math.Seq.{drop-nil}
 use Rattle.link_change.specs.declared.change.Change.{Change}
-use Rattle.fanout_queue.specs.Entries.{Numbered, stands_at, readers_at, first_readers, unread_at, IsPlace, Enters, Leaves, CutsFirst, Drops, Trims, TakesOut, Passes}
-use Rattle.fanout_queue.proofs.Cases.{by_bool}
+use Rattle.fanout_queue.specs.Entries.{Numbered, readers_at, first_readers, unread_at, IsPlace, Enters, Leaves, CutsFirst, Drops, TakesOut, Passes}
 use Rattle.fanout_queue.proofs.EntryLemmas.{stands_here, stands_elsewhere, by_place}
 
 module _ {A : Type 0} where

@@ -1,5 +1,5 @@
 -- Changes that are applied in order.
-use Rattle.std.specs.Prelude.{◌≡◌, ◌≢◌, Bool, false, ◌||◌, if◌then◌else◌, List, [], ◌∷◌, Option}
+use Rattle.std.specs.Prelude.{◌≡◌, ◌≢◌, false, ◌||◌, if◌then◌else◌, List, [], ◌∷◌, Option}
 use Rattle.std.specs.Ordering.{eq_by_cmp}
 use Rattle.addr4.specs.Prefixes.{Network, prefix_cmp}
 use Rattle.link_change.specs.Rows.{Rows, Candidates, with_row}

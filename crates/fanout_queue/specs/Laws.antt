@@ -1,11 +1,11 @@
 -- Laws of changes in order and of queues, for the crates above.
-use Rattle.std.specs.Prelude.{◌≡◌, ◌≢◌, ◌↔◌, ℕ, List, [], ◌∷◌, ◌++◌, Option, Some, None}
+use Rattle.std.specs.Prelude.{◌≡◌, ◌≢◌, ◌↔◌, ℕ, List, [], ◌∷◌, ◌++◌, Option, Some}
 use Rattle.std.specs.FinMap as map
 use Rattle.addr4.specs.Prefixes.{Network}
-use Rattle.link_change.specs.Rows.{Rows, with_row}
+use Rattle.link_change.specs.Rows.{Rows}
 use Rattle.link_change.specs.Changes.{IsSent}
 use Rattle.link_change.specs.declared.change.Change.{Change}
-use Rattle.fanout_queue.specs.InOrder.{ChangesLead, rows_before, changes_at, changed_in, RowLeads, row_before}
+use Rattle.fanout_queue.specs.InOrder.{ChangesLead, rows_before, changes_at, RowLeads, row_before}
 use Rattle.fanout_queue.specs.Queues.{Queued, AppendsToAll, Takes, AllLead}
 
 -- ---- the rows that changes lead from

@@ -24,7 +24,8 @@ mod queue;
 mod reader;
 
 pub use laws::{
-    changes_are_of_prefixes, put_changes_lead, read_rows_are_led_from, readers_keep_leading, taken_changes_lead,
+    changes_are_of_prefixes, put_changes_lead, read_rows_are_led_from, readers_keep_leading,
+    taken_changes_lead,
 };
 pub use queue::Queue;
 pub use reader::Reader;

@@ -1,4 +1,4 @@
-use Rattle.std.proofs.Common.{rules, arith, ◌≡◌, ◌+◌, ◌-◌, ◌<◌, ◌≤◌, length, slice_set}
+use Rattle.std.proofs.Common.{rules, arith, ◌+◌, ◌-◌, ◌<◌, ◌≤◌, length}
 use Rattle.fanout_queue.proofs.EntryLemmas.{kept_stays, same_changes, place_from, place_to, enters_entry, enters_end}
 use Rattle.fanout_queue.proofs.entries.Entries.enter.Goals as goal
 

@@ -1,4 +1,4 @@
-use Rattle.std.proofs.Common.{rules, arith, ◌≡◌, ◌+◌, ◌-◌, ◌<◌, ◌≤◌, length, slice_set}
+use Rattle.std.proofs.Common.{rules, arith, ◌-◌, ◌<◌, ◌≤◌, length}
 use Rattle.fanout_queue.proofs.EntryLemmas.{kept_stays, same_changes, place_from, place_to, leaves_entry, leaves_end}
 use Rattle.fanout_queue.proofs.entries.Entries.leave.Goals as goal
 

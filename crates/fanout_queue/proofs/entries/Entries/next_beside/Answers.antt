@@ -1,7 +1,7 @@
 use Rattle.std.proofs.Common.{rules, ◌≡◌, true, false}
 use Rattle.addr4.specs.Places.{key_of}
 use Rattle.fanout_queue.specs.Index.{is_reached}
-use Rattle.fanout_queue.proofs.EntryLemmas.{numbers_fit, end_beside, none_beside_stops, other_beside, change_beside}
+use Rattle.fanout_queue.proofs.EntryLemmas.{numbers_fit, none_beside_stops, other_beside, change_beside}
 use Rattle.fanout_queue.proofs.entries.Entries.next_beside.Goals as goal
 
 pub first_stop-requires : goal.first_stop-requires
