@@ -5,9 +5,10 @@ use Rattle.std.specs.FinMap as map
 use Rattle.std.specs.FinMap.{FinMap}
 use Rattle.addr4.specs.Prefixes.{Network, prefix_cmp}
 use Rattle.link_change.specs.Rows.{Rows, no_rows, with_row, Candidates, CoversRows, with_rows, together}
-use Rattle.link_change.specs.Changes.{IsSent}
+use Rattle.link_change.specs.Changes.{IsSent, IsChangeOf}
 use Rattle.link_change.specs.declared.change.Change.{Change}
 use Rattle.link_change.proofs.RowLemmas.{same_function, with_row_same, rows_removed, empty_rows, rows_covered, not_first, not_second}
+use Rattle.link_change.proofs.ChangeLemmas.{change_sent}
 use Rattle.deletion_stage.specs.Covering.{row_over, covered, AreApart}
 
 module _ {R : Type 0} where
@@ -45,17 +46,12 @@ module _ {R : Type 0} where
       → IsSent (covered (map.get old) upper) (covered (map.get new) now) p (Some change)
   passes old new upper now p change new_is none sent = (sent.0, (ap (λ o. row_over o (upper change.prefix)) none ∙ sent.1.0, sent.1.1), covered_after old new upper now p change new_is sent)
 
-  -- nothing is to be sent where the table's row is the one after
-  pub keeps : (old new : FinMap prefix_cmp R) (upper now : Rows R) (p : Network) (change : Change R) (held : R) → new ≡ map.remove old change.prefix → map.get old change.prefix ≡ Some held → change.after ≡ Some held → IsSent upper now p (Some change)
-      → covered (map.get new) now ≡ covered (map.get old) upper
-  keeps old new upper now p change held new_is at same sent =
-      covered_after old new upper now p change new_is sent
-      ∙ with_row_same (covered (map.get old) upper) change.prefix change.after (ap (λ o. row_over o (upper change.prefix)) at ∙ sym same)
-
-  -- the table's row is the one before, where it isn't the one after
-  pub replaces : (old new : FinMap prefix_cmp R) (upper now : Rows R) (p : Network) (change : Change R) (held : R) → new ≡ map.remove old change.prefix → map.get old change.prefix ≡ Some held → (change.after ≡ Some held → ⊥) → IsSent upper now p (Some change)
-      → IsSent (covered (map.get old) upper) (covered (map.get new) now) p (Some (record change { before = Some held }))
-  replaces old new upper now p change held new_is at other sent = (sent.0, (ap (λ o. row_over o (upper change.prefix)) at, other), covered_after old new upper now p change new_is sent)
+  -- where the table has one, that is the row before
+  pub replaces : (old new : FinMap prefix_cmp R) (upper now : Rows R) (p : Network) (change : Change R) (held : R) (result : Option (Change R)) → new ≡ map.remove old change.prefix → map.get old change.prefix ≡ Some held → IsChangeOf change.prefix (Some held) change.after result → IsSent upper now p (Some change)
+      → IsSent (covered (map.get old) upper) (covered (map.get new) now) p result
+  replaces old new upper now p change held result new_is at is sent =
+      subst (λ k. IsSent (covered (map.get old) upper) (covered (map.get new) now) k result) sent.0
+      (change_sent _ _ change.prefix (Some held) change.after result (ap (λ o. row_over o (upper change.prefix)) at) (covered_after old new upper now p change new_is sent) is)
 
   -- to take a row out of the table deletes it below
   pub covered_delete : (old new : FinMap prefix_cmp R) (upper : Rows R) (p : Network) (row : R) → map.get old p ≡ Some row → new ≡ map.remove old p → AreApart (map.get old) upper

@@ -29,16 +29,6 @@ impl<R> Model for Deletion<R> {
     ghost view = { λ d. record { number = d.number; rows = d.table.rows } };
 }
 
-// Whether the row is the one after a change.
-fn is_after<R: Row>(row: &R, after: &Option<R>) -> bool
-    ensures { IsTrue result ↔ (after.now ≡ Some row.now) }
-{
-    match after {
-        None => false,
-        Some(other) => other.same(row),
-    }
-}
-
 impl<R: Row> Deletion<R> {
     /// A stage that is to delete the rows of this table. The number tells which session, or which loss of a protocol, it
     /// was. Takes no memory.
@@ -69,14 +59,7 @@ impl<R: Row> Deletion<R> {
             None => return Some(change),
             Some(held) => held,
         };
-        if is_after(&held, &change.after) {
-            return None;
-        }
-        Some(Change {
-            prefix: change.prefix,
-            before: Some(held),
-            after: change.after,
-        })
+        Change::between(change.prefix, Some(held), change.after)
     }
 
     /// One turn: takes the least row, by address and then length, out of the table, and sends its delete. None exactly

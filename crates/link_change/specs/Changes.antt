@@ -1,14 +1,38 @@
 -- When a change is lawful, and what it makes of a link's map.
-use Rattle.std.specs.Prelude.{◌≡◌, ◌≢◌, Option, Some, None}
-use Rattle.addr4.specs.Prefixes.{Network}
-use Rattle.link_change.specs.Rows.{Rows, with_row}
+use Rattle.std.specs.Prelude.{◌≡◌, ◌≢◌, Option, Some, None, refl}
+use Rattle.std.specs.Coded.{Coded, code_by, coded×, coded_option}
+use Rattle.addr4.specs.Prefixes.{Network, network_code}
+use Rattle.link_change.specs.Rows.{Rows, with_row, computed_rows}
 use Rattle.link_change.specs.declared.change.Change.{Change}
 
 -- the row before is the one that stands there, and the row after differs
 abbrev pub IsLawfulOn : {R : Type 0} → Rows R → Change R → Type 0
 IsLawfulOn rows change = (rows change.prefix ≡ change.before) × (change.after ≢ change.before)
 
+-- the rows with the row after the change at its prefix
+abbrev pub after_change : {R : Type 0} → Rows R → Change R → Rows R
+after_change rows change = with_row rows change.prefix change.after
+
 -- the link's map became the new one by this change at the prefix; or nothing was sent, and it is as it was
 abbrev pub IsSent : {R : Type 0} → Rows R → Rows R → Network → Option (Change R) → Type 0
 IsSent old new p None = new ≡ old
 IsSent old new p (Some change) = (change.prefix ≡ p) × IsLawfulOn old change × (new ≡ with_row old change.prefix change.after)
+
+-- the change of one row: none exactly where it stays the same
+abbrev pub IsChangeOf : {R : Type 0} → Network → Option R → Option R → Option (Change R) → Type 0
+IsChangeOf p before after None = after ≡ before
+IsChangeOf p before after (Some change) =
+    (change.prefix ≡ p) × (change.before ≡ before) × (change.after ≡ after) × (after ≢ before)
+
+-- where the change that comes in leads from the rows above to new ones, what goes out leads from the rows computed from them
+-- to the new ones there
+abbrev pub ComputesOn : {A B : Type 0} → (Network → Option A → Option B) → Change A → Option (Change B) → Type 0
+ComputesOn {A} f change result =
+    (upper now : Rows A) (p : Network) → IsSent upper now p (Some change)
+    → IsSent (computed_rows f upper) (computed_rows f now) p result
+
+-- how a change is stored
+abbrev pub change_code : {R : Type 0} → Coded R → Coded (Change R)
+change_code {R} c =
+    code_by (Network × (Option R × Option R)) (coded× network_code (coded× (coded_option c) (coded_option c)))
+    (λ x. (x.prefix, (x.before, x.after))) (λ p. record { prefix = p.0; before = p.1.0; after = p.1.1 }) (λ _. refl)

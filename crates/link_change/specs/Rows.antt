@@ -17,6 +17,10 @@ no_rows q = None
 abbrev pub with_row : {V : Type 0} → Rows V → Network → Option V → Rows V
 with_row rows p row q = cond (eq_by_cmp prefix_cmp q p) row (rows q)
 
+-- the rows that are computed from those above, each from the one at its prefix
+abbrev pub computed_rows : {A B : Type 0} → (Network → Option A → Option B) → Rows A → Rows B
+computed_rows f upper q = f q (upper q)
+
 -- prefixes that a walk goes to
 abbrev pub Candidates : Type 0
 Candidates = Network → Bool

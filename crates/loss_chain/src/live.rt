@@ -31,16 +31,6 @@ impl<R> Model for Live<R> {
     ghost view = { λ p. p.live.rows };
 }
 
-// Whether this very row was live.
-fn was_live<R: Row>(before: &Option<R>, row: &R) -> bool
-    ensures { IsTrue result ↔ (before.now ≡ Some row.now) }
-{
-    match before {
-        None => false,
-        Some(other) => other.same(row),
-    }
-}
-
 impl<R: Row> Live<R> {
     /// No row is live. Takes no memory.
     pub fn new(alloc: Global) -> Live<R>
@@ -63,14 +53,7 @@ impl<R: Row> Live<R> {
     {
         let kept = row.copy()?;
         let before = self.live.insert(prefix, kept)?;
-        if was_live(&before, &row) {
-            return Ok(None);
-        }
-        Ok(Some(Change {
-            prefix,
-            before,
-            after: Some(row),
-        }))
+        Ok(Change::between(prefix, before, Some(row)))
     }
 
     /// A row is taken away. None exactly where no row is live at the prefix. Takes no memory.
@@ -80,15 +63,8 @@ impl<R: Row> Live<R> {
         ensures after { IfSome result (λ change. change.after ≡ None) }
         ensures table { self.new ≡ map.remove self.old prefix }
     {
-        let before = match self.live.remove(prefix) {
-            None => return None,
-            Some(before) => before,
-        };
-        Some(Change {
-            prefix,
-            before: Some(before),
-            after: None,
-        })
+        let before = self.live.remove(prefix);
+        Change::between(prefix, before, None)
     }
 
     /// Gives all rows away, and begins anew. Takes no memory.

@@ -1,12 +1,12 @@
 //! Merges.
 
-ghost use Rattle.std.specs.Prelude.{◌≡◌, ◌↔◌, IsTrue, IfOk};
+ghost use Rattle.std.specs.Prelude.{◌≡◌, IfOk};
 ghost use Rattle.addr4.specs.Places.{key_of};
 ghost use Rattle.link_change.specs.Rows.{IsNextCandidate, CoversRows, together};
 ghost use Rattle.rib_merge.specs.Merging.{row_of_both, row_on, merged, MergesOn};
 
 use crate::ranked::Ranked;
-use addr4::{Memory, Place, Prefix, Row};
+use addr4::{Memory, Place, Prefix};
 use link_change::{Change, Upstream, nearer};
 
 /// One of the two links above a merge.
@@ -42,16 +42,6 @@ fn beside<R: Ranked>(side: Side, own: Option<R>, other: Option<R>) -> Option<R>
     }
 }
 
-fn same_rows<R: Row>(a: &Option<R>, b: &Option<R>) -> bool
-    ensures { IsTrue result ↔ (a.now ≡ b.now) }
-{
-    match (a, b) {
-        (None, None) => true,
-        (Some(x), Some(y)) => x.same(y),
-        _ => false,
-    }
-}
-
 /// A change on one side, as it goes on below, where the other side has this row at its prefix. None comes exactly where the
 /// merged rows stay the same. Takes no memory.
 pub fn take_in<R: Ranked>(side: Side, change: Change<R>, other: Option<R>) -> Option<Change<R>>
@@ -59,14 +49,7 @@ pub fn take_in<R: Ranked>(side: Side, change: Change<R>, other: Option<R>) -> Op
 {
     let before = beside(side, change.before, other);
     let after = beside(side, change.after, other);
-    if same_rows(&after, &before) {
-        return None;
-    }
-    Some(Change {
-        prefix: change.prefix,
-        before,
-        after,
-    })
+    Change::between(change.prefix, before, after)
 }
 
 /// The row on the link below.

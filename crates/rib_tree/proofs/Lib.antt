@@ -4,7 +4,6 @@ pub mod LinkLemmas
 pub mod MergeLemmas
 pub mod StepLemmas
 pub mod LookupLemmas
-pub mod ForwardLemmas
 pub mod LawLemmas
 pub mod CountLemmas
 pub mod NewLemmas

@@ -1,9 +1,8 @@
 //! The forwarding table's changes.
 
-ghost use Rattle.std.specs.Prelude.{◌≡◌, ◌↔◌, IsTrue, option_map};
+ghost use Rattle.std.specs.Prelude.{◌≡◌, option_map};
 ghost use Rattle.rib_tree.specs.Forwards.{fib_row, ForwardsOn};
 
-use addr4::Row;
 use link_change::Change;
 use rib_route::{FibRow, Interior};
 
@@ -28,16 +27,6 @@ pub(crate) fn forwarded(route: &Option<Interior>) -> Option<FibRow>
     }
 }
 
-fn same_rows(a: &Option<FibRow>, b: &Option<FibRow>) -> bool
-    ensures { IsTrue result ↔ (a.now ≡ b.now) }
-{
-    match (a, b) {
-        (None, None) => true,
-        (Some(x), Some(y)) => x.same(y),
-        _ => false,
-    }
-}
-
 /// What `fib` gets of a change of `int`. None exactly where its map stays the same, as where the metric of a route changes
 /// alone. Takes no memory.
 pub fn forward(change: &Change<Interior>) -> Option<Change<FibRow>>
@@ -45,12 +34,5 @@ pub fn forward(change: &Change<Interior>) -> Option<Change<FibRow>>
 {
     let before = forwarded(&change.before);
     let after = forwarded(&change.after);
-    if same_rows(&after, &before) {
-        return None;
-    }
-    Some(Change {
-        prefix: change.prefix,
-        before,
-        after,
-    })
+    Change::between(change.prefix, before, after)
 }

@@ -1,6 +1,7 @@
-use Rattle.std.proofs.Common.{◌≡◌, true, false, refl, ap, sym, ◌∙◌, rules}
+use Rattle.std.proofs.Common.{◌≡◌, Some, ap, sym, ◌∙◌, rules}
 use Rattle.std.specs.FinMap as map
-use Rattle.deletion_stage.proofs.CoverLemmas.{passes, keeps, replaces, apart_after}
+use Rattle.link_change.proofs.ChangeLemmas.{sent_after}
+use Rattle.deletion_stage.proofs.CoverLemmas.{passes, replaces, apart_after}
 use Rattle.deletion_stage.proofs.deletion.Deletion.take_in.Goals as goal
 
 pub returns-in-None-clause-law : goal.returns-in-None-clause-law
@@ -14,24 +15,16 @@ returns-in-None-clause-apart g c upper now p sent apart =
     let new_is : c.remove.new.self.rows ≡ map.remove c.args.self.now.rows c.args.change.prefix = search rules in
     apart_after c.args.self.now.rows c.remove.new.self.rows upper now p c.args.change new_is sent apart
 
-pub returns-then-is_after-clause-law : goal.returns-then-is_after-clause-law
-returns-then-is_after-clause-law g c upper now p sent =
-    let new_is : c.remove.new.self.rows ≡ map.remove c.args.self.now.rows c.args.change.prefix = search rules in
-    let at = sym (c.in-Some.ensures.before ∙ ap (λ d. map.get d.rows c.args.change.prefix) c.self.view_is) in
-    keeps c.args.self.now.rows c.remove.new.self.rows upper now p c.args.change c.in-Some.held new_is at (c.if-is_after.ensures.0 refl) sent
-
-pub returns-then-is_after-clause-apart : goal.returns-then-is_after-clause-apart
-returns-then-is_after-clause-apart g c upper now p sent apart =
-    let new_is : c.remove.new.self.rows ≡ map.remove c.args.self.now.rows c.args.change.prefix = search rules in
-    apart_after c.args.self.now.rows c.remove.new.self.rows upper now p c.args.change new_is sent apart
-
 pub returns-clause-law : goal.returns-clause-law
 returns-clause-law g c upper now p sent =
     let new_is : c.remove.new.self.rows ≡ map.remove c.args.self.now.rows c.args.change.prefix = search rules in
     let at = sym (c.in-Some.ensures.before ∙ ap (λ d. map.get d.rows c.args.change.prefix) c.self.view_is) in
-    replaces c.args.self.now.rows c.remove.new.self.rows upper now p c.args.change c.in-Some.held new_is at (λ same. let e : false ≡ true = c.if-is_after.ensures.1 same in cc) sent
+    replaces c.args.self.now.rows c.remove.new.self.rows upper now p c.args.change c.in-Some.held c.between.result new_is at c.between.ensures sent
 
 pub returns-clause-apart : goal.returns-clause-apart
 returns-clause-apart g c upper now p sent apart =
     let new_is : c.remove.new.self.rows ≡ map.remove c.args.self.now.rows c.args.change.prefix = search rules in
     apart_after c.args.self.now.rows c.remove.new.self.rows upper now p c.args.change new_is sent apart
+
+pub returns-clause-after : goal.returns-clause-after
+returns-clause-after g c = sent_after c.args.change.prefix (Some c.in-Some.held) c.args.change.after c.between.result c.between.ensures
