@@ -14,7 +14,7 @@ use Rattle.addr4.specs.Places.{IsBeyond}
 use Rattle.addr4.proofs.PrefixOrder.{itself, prefixes_total, exact_prefixes}
 use Rattle.link_change.specs.Rows.{Rows, Candidates, together, IsNextCandidate}
 use Rattle.link_change.specs.declared.change.Change.{Change}
-use Rattle.fanout_queue.specs.InOrder.{changed_in, rows_before}
+use Rattle.link_change.specs.InOrder.{changed_in, rows_before}
 use Rattle.fanout_queue.specs.Entries.{first_before, IsNextBeside}
 use Rattle.fanout_queue.specs.Index.{Key, key_cmp, is_entry, is_reached, stops, IsFirstKey, IsFirstStop, IsIndexed}
 use Rattle.fanout_queue.proofs.Cases.{by_bool, either_way}

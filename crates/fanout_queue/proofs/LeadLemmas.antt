@@ -1,5 +1,5 @@
--- What every reader hasn't taken leads from the rows that it has to the best ones.
-use Rattle.std.proofs.Common.{◌≡◌, ℕ, cond, List, [], ◌∷◌, ◌++◌, Option, Some, None, refl, sym, ◌∙◌, subst}
+-- What every reader hasn't taken leads from the rows that it has to the best ones, and readers stay.
+use Rattle.std.proofs.Common.{◌≡◌, ◌≢◌, ℕ, cond, List, [], ◌∷◌, ◌++◌, Option, Some, None, IsSome, refl, sym, ◌∙◌, subst}
 use Rattle.std.specs.Option.{option_map}
 use Rattle.std.specs.Cmp.{nat_cmp_total}
 use Rattle.std.specs.FinMap as map
@@ -8,10 +8,10 @@ use Rattle.addr4.specs.Prefixes.{Network}
 use Rattle.link_change.specs.Rows.{Rows}
 use Rattle.link_change.specs.Changes.{IsSent}
 use Rattle.link_change.specs.declared.change.Change.{Change}
-use Rattle.fanout_queue.specs.InOrder.{ChangesLead, rows_before}
-use Rattle.fanout_queue.specs.Queues.{Queued, AppendsToAll, Takes, AllLead, with_last}
-use Rattle.fanout_queue.proofs.Cases.{by_number}
-use Rattle.fanout_queue.proofs.OrderLemmas.{put_keeps_before, put_leads, take_leads}
+use Rattle.link_change.specs.InOrder.{ChangesLead, rows_before, with_last}
+use Rattle.fanout_queue.specs.Queues.{Queued, AppendsToAll, Takes, AllLead, KeepsReaders}
+use Rattle.fanout_queue.proofs.Cases.{by_number, other_number}
+use Rattle.link_change.proofs.InOrderLemmas.{put_keeps_before, put_leads, take_leads}
 
 module _ {R : Type 0} where
   abbrev Lead : Rows R → List (Change R) → Type 0
@@ -53,3 +53,26 @@ module _ {R : Type 0} where
       (λ _ is. absurd (let e : ◌≡◌ {A = Option (List (Change R))} None (Some unread) = is in cc))
       (λ _ is. all q unread is)
       (sym (get-remove nat_cmp_total queued reader q) ∙ at)
+
+  -- ---- readers stay
+  some_more : (c : Change R) (o : Option (List (Change R))) → IsSome o → IsSome (option_map (with_last c) o)
+  some_more c None live = absurd (cc)
+  some_more c (Some u) live = refl
+
+  pub put_keeps_readers : (old new : Queued R) (c : Change R) → AppendsToAll c old new → KeepsReaders old new
+  put_keeps_readers old new c appends reader live = subst IsSome (sym (appends reader)) (some_more c (map.get old reader) live)
+
+  keeps_with : (queued : Queued R) (reader : ℕ) (rest : List (Change R)) → KeepsReaders queued (map.insert queued reader rest)
+  keeps_with queued reader rest q live = subst IsSome (sym (get-insert nat_cmp_total queued reader rest q))
+      (by_number q reader (λ v. IsSome (cond v (Some rest) (map.get queued q))) (λ _. refl) (λ _. live))
+
+  pub take_keeps_readers : (old new : Queued R) (reader : ℕ) (result : Option (Change R)) → Takes old new reader result → KeepsReaders old new
+  take_keeps_readers old new reader None takes = subst (KeepsReaders old) (sym takes.1) (λ q live. live)
+  take_keeps_readers old new reader (Some c) takes = subst (KeepsReaders old) (sym takes.2) (keeps_with old reader takes.0)
+
+  pub join_keeps_readers : (queued : Queued R) (reader : ℕ) → KeepsReaders queued (map.insert queued reader [])
+  join_keeps_readers queued reader = keeps_with queued reader []
+
+  pub drop_keeps_others : (queued : Queued R) (reader other : ℕ) → other ≢ reader → IsSome (map.get queued other) → IsSome (map.get (map.remove queued reader) other)
+  drop_keeps_others queued reader other apart live =
+      subst IsSome (sym (get-remove nat_cmp_total queued reader other ∙ ap (λ b. cond b None (map.get queued other)) (other_number other reader apart))) live

@@ -1,5 +1,4 @@
 pub mod Cases
-pub mod OrderLemmas
 pub mod LeadLemmas
 pub mod KeyLemmas
 pub mod IndexLemmas

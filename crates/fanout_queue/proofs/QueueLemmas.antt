@@ -15,8 +15,8 @@ use Rattle.addr4.specs.Prefixes.{Network}
 use Rattle.addr4.specs.declared.memory.Memory.{Memory}
 use Rattle.link_change.specs.Rows.{Rows}
 use Rattle.link_change.specs.declared.change.Change.{Change}
-use Rattle.fanout_queue.specs.InOrder.{rows_before}
-use Rattle.fanout_queue.specs.Queues.{Queued, AppendsToAll, Takes, IsMostUnread, with_last}
+use Rattle.link_change.specs.InOrder.{rows_before, with_last}
+use Rattle.fanout_queue.specs.Queues.{Queued, AppendsToAll, Takes, IsMostUnread}
 use Rattle.fanout_queue.specs.Entries.{Numbered, stands_at, readers_at, first_readers, unread_at, IsPlace, Puts, Enters, Leaves, Trims, Passes, first_before}
 use Rattle.fanout_queue.specs.Places.{SetsPlace, queued_from, queued_of, IsPlaced, IsQueue}
 use Rattle.fanout_queue.proofs.Cases.{by_bool, by_number, same_number, other_number, if_some}

@@ -7,7 +7,7 @@ use Rattle.addr4.specs.Prefixes.{Network, prefix_cmp}
 use Rattle.link_change.specs.Rows.{Candidates, IsNextCandidate, together}
 use Rattle.link_change.specs.declared.change.Change.{Change}
 use Rattle.fanout_queue.specs.declared.entries.Entry.{Entry}
-use Rattle.fanout_queue.specs.InOrder.{changed_in}
+use Rattle.link_change.specs.InOrder.{changed_in}
 use Rattle.fanout_queue.specs.Queues.{change_code}
 use Rattle.fanout_queue.specs.Index.{Key, IsIndexed}
 

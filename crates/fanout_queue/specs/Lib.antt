@@ -1,4 +1,3 @@
-pub mod InOrder
 pub mod Queues
 pub mod Index
 pub mod Entries

@@ -1,5 +1,5 @@
 -- What contracts see of a queue.
-use Rattle.std.specs.Prelude.{◌≡◌, ◌≤◌, ℕ, List, [], ◌∷◌, ◌++◌, length, Option, Some, None, option_map, refl}
+use Rattle.std.specs.Prelude.{◌≡◌, ◌≤◌, ℕ, List, [], ◌∷◌, length, Option, Some, None, IsSome, option_map, refl}
 use Rattle.std.specs.Ordering.{nat_cmp}
 use Rattle.std.specs.Coded.{Coded, code_by, coded×, coded_ℕ, coded_list, coded_option}
 use Rattle.std.specs.FinMap as map
@@ -7,7 +7,7 @@ use Rattle.std.specs.FinMap.{FinMap}
 use Rattle.addr4.specs.Prefixes.{Network, network_code}
 use Rattle.link_change.specs.Rows.{Rows}
 use Rattle.link_change.specs.declared.change.Change.{Change}
-use Rattle.fanout_queue.specs.InOrder.{ChangesLead, rows_before}
+use Rattle.link_change.specs.InOrder.{ChangesLead, rows_before, with_last}
 
 -- of each live reader, by its number, the changes that it hasn't taken, the first one first
 abbrev pub Queued : Type 0 → Type 0
@@ -22,9 +22,6 @@ abbrev pub queued_code : {R : Type 0} → Coded R → Coded (Queued R)
 queued_code {R} c = map.code coded_ℕ (coded_list (change_code c))
 
 module _ {R : Type 0} where
-  abbrev pub with_last : Change R → List (Change R) → List (Change R)
-  with_last change unread = unread ++ change ∷ []
-
   -- every reader has this change at the end, and none joins or leaves
   abbrev pub AppendsToAll : Change R → Queued R → Queued R → Type 0
   AppendsToAll change old new = (reader : ℕ) → map.get new reader ≡ option_map (with_last change) (map.get old reader)
@@ -34,6 +31,10 @@ module _ {R : Type 0} where
   Takes old new reader None = (map.get old reader ≡ Some []) × (new ≡ old)
   Takes old new reader (Some change) =
       (rest : List (Change R)) × (map.get old reader ≡ Some (change ∷ rest)) × (new ≡ map.insert old reader rest)
+
+  -- each reader that was live is still
+  abbrev pub KeepsReaders : Queued R → Queued R → Type 0
+  KeepsReaders old new = (reader : ℕ) → IsSome (map.get old reader) → IsSome (map.get new reader)
 
   -- some reader hasn't taken so many changes, and none hasn't taken more; none at all where there is no reader
   pub record IsMostUnread (queued : Queued R) (count : ℕ) : Type 0 where

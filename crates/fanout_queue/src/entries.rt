@@ -4,7 +4,6 @@ ghost use Rattle.std.specs.Prelude.{◌≡◌, ◌≤◌, ◌<◌, ◌+◌, ◌-
 ghost use Rattle.std.specs.Option.{option_copied};
 ghost use Rattle.addr4.specs.Places.{key_of};
 
-use crate::copies::copy_change;
 use crate::index;
 use addr4::{Memory, Place, Prefix, Row};
 use link_change::Change;
@@ -182,7 +181,7 @@ impl<R: Row> Entries<R> {
         requires within { place < self.now.first + length self.now.changes }
         ensures { IfOk result (λ change. unread_at self.now place ≡ change ∷ drop (place + 1 - self.now.first) self.now.changes) }
     {
-        copy_change(&self.kept[(place - self.first) as usize].change)
+        self.kept[(place - self.first) as usize].change.copy()
     }
 
     // A reader takes the change at its place. That is the change itself, which goes, where no other reader is to take it.

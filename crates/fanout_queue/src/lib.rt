@@ -6,16 +6,15 @@
 //! Contracts see, of each live reader, the list of the changes that it hasn't taken.
 //!
 //! So a reader has the rows of the link above as they were before these changes: [`Queue::asked`] answers the row before the
-//! first of them at a prefix, and only where there is none asks above. What is kept true of such lists is said by the laws:
-//! where a reader's changes lead from its rows to the best ones, they still do when a change of the best rows is put, and
-//! what is left leads from the new rows when one is taken.
+//! first of them at a prefix, and only where there is none asks above. What is kept true of them is a law,
+//! [`readers_keep_leading`]: where every reader's changes lead from its rows to the best ones, they still do when a change of
+//! the best rows is put, when one is taken, and when readers join and leave.
 //!
 //! To put and to take cost the same however much is kept, but for one step in the index of entries by prefix. It lets a
 //! lookup find the first change at a prefix, and a walk the next prefix that has one, without a scan of the list. The
 //! outgoing chains of the peers and the forwarding side are the readers.
 #![tactic(auto)]
 
-mod copies;
 mod entries;
 mod index;
 mod laws;
@@ -23,9 +22,6 @@ mod places;
 mod queue;
 mod reader;
 
-pub use laws::{
-    changes_are_of_prefixes, put_changes_lead, read_rows_are_led_from, readers_keep_leading,
-    taken_changes_lead,
-};
+pub use laws::{readers_keep_leading, readers_stay_live};
 pub use queue::Queue;
 pub use reader::Reader;

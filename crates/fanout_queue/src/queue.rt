@@ -4,15 +4,14 @@ ghost use Rattle.std.specs.Prelude.{◌≡◌, length, [], IfOk, OnOk, OnErr, If
 ghost use Rattle.std.specs.FinMap as map;
 ghost use Rattle.addr4.specs.Places.{key_of};
 ghost use Rattle.link_change.specs.Rows.{IsNextCandidate, CoversRows, together};
-ghost use Rattle.fanout_queue.specs.InOrder.{rows_before, changed_in};
+ghost use Rattle.link_change.specs.InOrder.{rows_before, changed_in};
 ghost use Rattle.fanout_queue.specs.Queues.{AppendsToAll, Takes, IsMostUnread};
 
-use crate::copies::copy_row;
 use crate::entries::Entries;
 use crate::places;
 use crate::reader::Reader;
 use addr4::{Memory, Place, Prefix, Row};
-use link_change::{Change, Upstream};
+use link_change::{Change, Upstream, copy_row};
 use std::alloc::Global;
 use std::marker::Model;
 
