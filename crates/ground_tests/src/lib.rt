@@ -1,4 +1,4 @@
-//! Stories of the ground crates: addresses, attributes, rows, streams, tables, interests, next hops and walks, each public call on its happy path.
+//! Stories of the ground crates: addresses, attributes, rows, streams, tables, interests, next hops, queues and walks, each public call on its happy path.
 //!
 //! The crates that these tests are of have none of their own: a crate with tests is proved once more with them.
 #![tactic(auto)]
@@ -19,6 +19,8 @@ mod interests;
 mod merges;
 #[cfg(test)]
 mod prefixes;
+#[cfg(test)]
+mod queues;
 #[cfg(test)]
 mod rows;
 #[cfg(test)]
