@@ -1,4 +1,4 @@
-//! Stories of the ground crates: addresses, attributes, rows, streams, tables, interests, next hops and walks, each public call on its happy path.
+//! Stories of the ground crates: addresses, attributes, rows, streams, tables, interests, next hops, walks and chains, each public call on its happy path.
 //!
 //! The crates that these tests are of have none of their own: a crate with tests is proved once more with them.
 #![tactic(auto)]
@@ -7,6 +7,8 @@
 mod addresses;
 #[cfg(test)]
 mod attributes;
+#[cfg(test)]
+mod chains;
 #[cfg(test)]
 mod changes;
 #[cfg(test)]
