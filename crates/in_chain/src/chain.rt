@@ -13,6 +13,7 @@ ghost use Rattle.journal_text.specs.Journals.{Adds, with_entries};
 ghost use Rattle.journal_text.specs.Values.{route_rows};
 ghost use Rattle.loss_chain.specs.declared.owner.Owner.TheVariants as owners;
 ghost use Rattle.loss_chain.specs.Tables.{NoneEmpty, OneEmptyAtMost};
+ghost use Rattle.loss_chain.specs.Stages.{tables_of};
 ghost use Rattle.loss_chain.specs.Steps.{weld_entries, oldest_of};
 ghost use Rattle.in_chain.specs.Chains.{links_of, filt_rows, candidates_of, IsChain, row_count};
 ghost use Rattle.in_chain.specs.Falls.{Falls, LeadsChain, way_of_feed};
@@ -24,7 +25,7 @@ use bgp_attr::{Neighbour, Route, SharedAttrs, Speaker};
 use filter_bank::FilterBank;
 use journal_text::{Journal, Link, Task, Value};
 use link_change::{Change, Turn};
-use loss_chain::{LossChain, Owner};
+use loss_chain::{LossChain, Owner, Stage};
 use policy_rules::Rules;
 use std::alloc::Global;
 use std::marker::Model;
@@ -77,6 +78,14 @@ impl Chain {
         ensures { result ≡ self.now.incoming.number }
     {
         self.number
+    }
+
+    /// The lowest of the stages whose links carry attributes, the one above `in.K`. A deletion stage holds the stage above it
+    /// in its box, up to the live routes.
+    pub fn lowest(&self) -> &Stage<SharedAttrs>
+        ensures { tables_of result.now ≡ self.now.incoming.tables }
+    {
+        self.stages.lowest()
     }
 
     /// The incoming filter, between `in.K` and `filt.K`.

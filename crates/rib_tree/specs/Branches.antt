@@ -18,6 +18,7 @@ use Rattle.journal_text.specs.Walk.{Links}
 use Rattle.journal_text.specs.Values.{interior_value}
 use Rattle.loss_chain.specs.declared.owner.Owner.TheVariants.{Origin}
 use Rattle.loss_chain.specs.Tables.{Tables, tables_code, lowest_rows, chain_links, IsLossChain, tables_count}
+use Rattle.loss_chain.specs.Rows.{AllRows}
 use Rattle.loss_chain.specs.Falls.{LeadsTables, FallsTables}
 
 pub record Branch : Type 0 where
@@ -41,16 +42,15 @@ branch_candidates b = with_rows (org_rows b)
 abbrev pub branch_links : Branch → Links Value
 branch_links b = chain_links interior_value (Origin b.proto) b.tables
 
--- all rows are the protocol's
-abbrev pub AreOwn : Proto → FinMap prefix_cmp Interior → Type 0
-AreOwn proto table = (p : Network) (row : Interior) → map.get table p ≡ Some row → row.proto ≡ proto
+-- the row is the protocol's
+abbrev pub IsOwn : Proto → Interior → Type 0
+IsOwn proto row = row.proto ≡ proto
 
 -- what holds of a branch between two calls
 pub record IsBranch (b : Branch) : Type 0 where
   pub chain : IsLossChain b.tables
   pub counted : AllByRecursion (λ d. d.number ≤ b.losses) b.tables.deletions
-  pub own : AreOwn b.proto b.tables.live
-  pub own_lost : AllByRecursion (λ d. AreOwn b.proto d.rows) b.tables.deletions
+  pub own : AllRows (IsOwn b.proto) b.tables
 
 -- how many rows the branch has
 abbrev pub branch_count : Branch → ℕ

@@ -12,6 +12,7 @@ ghost use Rattle.journal_text.specs.Journals.{Adds, with_entries};
 ghost use Rattle.loss_chain.specs.declared.owner.Owner.TheVariants as owners;
 ghost use Rattle.loss_chain.specs.Tables.{NoneEmpty, OneEmptyAtMost};
 ghost use Rattle.loss_chain.specs.Falls.{way_down};
+ghost use Rattle.loss_chain.specs.Stages.{tables_of};
 ghost use Rattle.loss_chain.specs.Steps.{oldest_of};
 ghost use Rattle.rib_tree.specs.Branches.{branch_links, org_rows, branch_candidates, IsBranch, branch_count, LeadsBranch, FallsBranch};
 ghost use Rattle.rib_tree.specs.BranchSteps.{new_branch, fed_branch, lost_branch, loss_entries, with_tables, welded_branch, weld_entries, overdue_of, IsTakenBranch};
@@ -19,7 +20,7 @@ ghost use Rattle.rib_tree.specs.BranchSteps.{new_branch, fed_branch, lost_branch
 use addr4::{Memory, Place, Prefix};
 use journal_text::{Journal, Link, Task, Value};
 use link_change::{Change, Turn, Upstream};
-use loss_chain::{LossChain, Owner};
+use loss_chain::{LossChain, Owner, Stage};
 use rib_route::{Interior, Proto};
 use std::alloc::Global;
 use std::marker::Model;
@@ -72,6 +73,14 @@ impl Branch {
         ensures { result ≡ self.now.proto }
     {
         self.proto
+    }
+
+    /// The lowest of the protocol's stages, the one above `org.PROTO`. A deletion stage holds the stage above it in its box,
+    /// up to the live routes.
+    pub fn lowest(&self) -> &Stage<Interior>
+        ensures { tables_of result.now ≡ self.now.tables }
+    {
+        self.stages.lowest()
     }
 
     /// A route of the protocol is set at a prefix (`new` is some), or taken away. Answers the change on `org.PROTO`: None

@@ -1,6 +1,5 @@
-use Rattle.std.proofs.Common.{◌≡◌, ◌+◌, cond, ap, ◌∙◌}
+use Rattle.std.proofs.Common.{◌+◌, cond, ap, ◌∙◌}
 use Rattle.rib_tree.specs.Branches.{Branch}
-use Rattle.rib_tree.specs.BranchSteps.{lost_branch}
 use Rattle.rib_tree.proofs.OwnLemmas.{branch_lost}
 use Rattle.rib_tree.proofs.branch.Branch.lose.Goals as goal
 
@@ -11,7 +10,4 @@ pub returns-clause-chain : goal.returns-clause-chain
 returns-clause-chain c =
     let is = rw (← c.self.view_is) at c.requires.chain in
     let old : Branch = record { proto = c.self.inside.proto; losses = c.self.inside.losses; tables = c.self.inside.stages } in
-    let new : Branch = record { proto = old.proto; losses = c.counted-losses.result; tables = c.lose.new.self } in
-    let losses : c.counted-losses.result ≡ (lost_branch old).losses = c.counted-losses.ensures ∙ ap (λ b. cond b old.losses (old.losses + 1)) c.has_no_live.ensures in
-    let after : new ≡ lost_branch old = λ i. record { proto = old.proto; losses = losses i; tables = c.in_ok-lose.ensures.after i } in
-    branch_lost old new is after c.in_ok-lose.ensures.chain
+    branch_lost old is c.lose.new.self c.in_ok-lose.ensures.chain c.counted-losses.result (c.counted-losses.ensures ∙ ap (λ b. cond b old.losses (old.losses + 1)) c.has_no_live.ensures) c.in_ok-lose.ensures.after

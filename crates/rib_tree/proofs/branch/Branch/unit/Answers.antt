@@ -1,6 +1,4 @@
-use Rattle.std.proofs.Common.{refl}
 use Rattle.rib_tree.specs.Branches.{Branch}
-use Rattle.rib_tree.specs.BranchSteps.{with_tables}
 use Rattle.rib_tree.proofs.OwnLemmas.{branch_taken}
 use Rattle.rib_tree.proofs.branch.Branch.unit.Goals as goal
 
@@ -8,4 +6,4 @@ pub returns-clause-chain : goal.returns-clause-chain
 returns-clause-chain c =
     let is = rw (← c.self.view_is) at c.requires.chain in
     let old : Branch = record { proto = c.self.inside.proto; losses = c.self.inside.losses; tables = c.self.inside.stages } in
-    branch_taken old (with_tables old c.unit.new.self) c.args.loss c.args.journal.now c.unit.new.journal c.in_ok-turn.turn is refl c.in_ok-turn.ensures.taken c.in_ok-turn.ensures.chain
+    branch_taken old is c.unit.new.self c.in_ok-turn.ensures.chain c.args.loss c.args.journal.now c.unit.new.journal c.in_ok-turn.turn c.in_ok-turn.ensures.taken

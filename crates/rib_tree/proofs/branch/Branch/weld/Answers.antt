@@ -1,6 +1,4 @@
-use Rattle.std.proofs.Common.{ap}
 use Rattle.rib_tree.specs.Branches.{Branch}
-use Rattle.rib_tree.specs.BranchSteps.{with_tables}
 use Rattle.rib_tree.proofs.OwnLemmas.{branch_welded}
 use Rattle.rib_tree.proofs.branch.Branch.weld.Goals as goal
 
@@ -11,4 +9,4 @@ pub returns-clause-chain : goal.returns-clause-chain
 returns-clause-chain c =
     let is = rw (← c.self.view_is) at c.requires.chain in
     let old : Branch = record { proto = c.self.inside.proto; losses = c.self.inside.losses; tables = c.self.inside.stages } in
-    branch_welded old (with_tables old c.weld.new.self) is (ap (with_tables old) c.in_ok-weld.ensures.after) c.in_ok-weld.ensures.chain
+    branch_welded old is c.weld.new.self c.in_ok-weld.ensures.chain c.in_ok-weld.ensures.after
