@@ -11,13 +11,15 @@ use Rattle.rib_tree.specs.Trees.{branch_of, AreNumbered}
 use Rattle.rib_tree.specs.Steps.{new_tree}
 use Rattle.rib_tree.specs.Laws.{ANewTreeStands}
 use Rattle.router_core.specs.Moments.{Moment, Cored, first_moment, Gives}
-use Rattle.router_core.specs.Stands.{Stands, CoreStands}
+use Rattle.router_core.specs.Stands.{Stands, CoreStands, Claim, Claims, EachPeer, InteriorTree, OneSpeaker, Order, Registered, SameCount, Tie, Ties, here}
 use Rattle.router_core.specs.Blocks.{Acts}
 use Rattle.router_core.specs.Works.{HasStepped, Keeps}
 use Rattle.router_core.specs.Lives.{LiveState, live_state}
 use Rattle.router_core.proofs.KeepLemmas.{acts_of}
 use Rattle.router_core.proofs.SessionLemmas.{losses_follow}
 use Rattle.router_core.proofs.LocalLemmas.{int_empty}
+use Rattle.addr4.specs.Prefixes.{Network}
+use Rattle.link_change.specs.Rows.{Rows}
 
 abbrev pub cored : Moment → ℕ → Cored
 cored m n = record { moment = m; events = n; failed = false }
@@ -68,13 +70,16 @@ none_new Rip = omega arith
 
 pub first_stands : ANewTreeStands → CoreStands (cored first_moment 0)
 first_stands law = record {
-  stands = record {
-    order = tt;
-    peers = λ k. tt;
-    speaker = tt;
-    count = refl;
-    tree = record { tree = law.0; full = law.1; few = few_new; waiting = λ e. refl };
-    registered = empty_rows {V = Interior} ∙ sym int_empty;
-  };
+  stands = record { own = own; at = at };
   numbered = none_new;
 }
+  where
+    own : (claim : Claim) → Claims first_moment claim
+    own Order = tt
+    own EachPeer = λ k. tt
+    own OneSpeaker = tt
+    own SameCount = refl
+    own InteriorTree = record { tree = law.0; full = law.1; few = few_new; waiting = λ e. refl }
+
+    at : (p : Network) (tie : Tie) → Ties (here first_moment p) tie
+    at p Registered = ap (λ (rows : Rows Interior). rows p) (empty_rows {V = Interior} ∙ sym int_empty)

@@ -32,7 +32,7 @@ use Rattle.loss_chain.proofs.TurnLemmas.{welded_rows, swept_rows as swept_rows_o
 use Rattle.router_core.specs.declared.router.Phase.{Phase}
 use Rattle.router_core.specs.declared.router.Phase.TheVariants.{Rdel, Del, Fin}
 use Rattle.router_core.specs.Moments.{Moment, chain_at, put_one, put_chain, with_chain, rows_in, left_in}
-use Rattle.router_core.specs.Stands.{AreInOrder, Stands}
+use Rattle.router_core.specs.Stands.{AreInOrder, Stands, InteriorTree, Order}
 use Rattle.router_core.specs.Lives.{LiveState, live_state}
 use Rattle.router_core.specs.Phases.{Frame, tree_lost, lost_in, counts, Spends}
 use Rattle.router_core.specs.Turns.{phase_of, phase_bound, IsOver}
@@ -268,7 +268,7 @@ tree_none t Ospf none = omega (arith, none)
 tree_none t Rip none = omega (arith, none)
 
 pub none_over : TurnsAreLeft → (r : Phase) (m : Moment) → Stands m → counts m r ≡ 0 → IsOver r m
-none_over law Rdel m stands none = λ proto. no_table (branch_of proto m.tree).tables.deletions (stands.tree.full proto) (tree_none m.tree proto none)
+none_over law Rdel m stands none = λ proto. no_table (branch_of proto m.tree).tables.deletions ((stands.own InteriorTree).full proto) (tree_none m.tree proto none)
 none_over law Del m stands none =
-    no_stages m.chains (all_so (λ c. chain_at c.incoming.number m.chains ≡ Some c) (λ c. NoneEmpty c.incoming.tables.deletions) (λ c at. (sound_at m stands c.incoming.number c at).1) m.chains (all_found m.chains stands.order)) none
+    no_stages m.chains (all_so (λ c. chain_at c.incoming.number m.chains ≡ Some c) (λ c. NoneEmpty c.incoming.tables.deletions) (λ c at. (sound_at m stands c.incoming.number c at).1) m.chains (all_found m.chains (stands.own Order))) none
 none_over law Fin m stands none = no_walks law m.chains none

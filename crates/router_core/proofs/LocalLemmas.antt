@@ -22,7 +22,7 @@ use Rattle.journal_text.specs.Values.{interior_rows, fib_rows}
 use Rattle.event_text.specs.declared.event.Event.TheVariants as events
 use Rattle.event_text.specs.Declarations.{refusal}
 use Rattle.router_core.specs.Moments.{Moment, rib_by, router_links}
-use Rattle.router_core.specs.Stands.{Stands}
+use Rattle.router_core.specs.Stands.{Stands, InteriorTree}
 use Rattle.router_core.specs.Blocks.{begin_line, rib_begins, declared_speaker}
 use Rattle.router_core.proofs.PeerLemmas.{local_first, speaker_stands}
 use Rattle.router_core.proofs.ShownRows.{with_more}
@@ -98,7 +98,7 @@ local_stepped m words admitted stands =
       block = (refl, refl, refl);
       live = live_state (declared_speaker m words);
       after = refl;
-      keeps = record { leads = begun_leads m words first (stands.tree.waiting first); live = refl; stands = speaker_stands m words admitted stands };
+      keeps = record { leads = begun_leads m words first ((stands.own InteriorTree).waiting first); live = refl; stands = speaker_stands m words admitted stands };
     }
 
 -- ---- one link after the other

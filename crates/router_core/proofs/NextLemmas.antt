@@ -15,7 +15,7 @@ use Rattle.rib_tree.specs.Trees.{Treed, branch_of, tree_tasks, first_task}
 use Rattle.router_core.specs.declared.router.Phase.{Phase}
 use Rattle.router_core.specs.declared.router.Phase.TheVariants.{Rdel, Del, Fin}
 use Rattle.router_core.specs.Moments.{Moment, chain_at}
-use Rattle.router_core.specs.Stands.{Stands}
+use Rattle.router_core.specs.Stands.{Stands, InteriorTree, Order}
 use Rattle.router_core.specs.Turns.{phase_of, chain_tasks, deletion_tasks, phase_tasks, first_at_work, next_task, has_turn_in, has_work, IsOver}
 use Rattle.router_core.specs.Works.{first_walk}
 use Rattle.router_core.proofs.TableLemmas.{all_tables}
@@ -72,13 +72,13 @@ all_working m (t ∷ ts) all = ap (λ (b : Bool). cond b (Some t) (first_at_work
 -- each stage that stands has work
 pub next_loss : (m : Moment) → Stands m → next_task Rdel m ≡ first_task (tree_tasks m.tree)
 next_loss m stands = all_working m (tree_tasks m.tree) (all_tree Works m.tree (λ proto. all_map Works (λ (d : Lost Interior). tasks.Rdel (branch_of proto m.tree).proto d.number) (branch_of proto m.tree).tables.deletions
-    (subst (λ (k : Proto). AllByRecursion (λ (d : Lost Interior). is_some (table_of d.number (branch_of k m.tree).tables.deletions) ≡ true) (branch_of proto m.tree).tables.deletions) (sym (stands.tree.tree.placed proto)) (all_tables (branch_of proto m.tree).tables.deletions))))
+    (subst (λ (k : Proto). AllByRecursion (λ (d : Lost Interior). is_some (table_of d.number (branch_of k m.tree).tables.deletions) ≡ true) (branch_of proto m.tree).tables.deletions) (sym ((stands.own InteriorTree).tree.placed proto)) (all_tables (branch_of proto m.tree).tables.deletions))))
   where
     Works : Task → Type 0
     Works t = has_work t m ≡ true
 
 pub next_stage : (m : Moment) → Stands m → next_task Del m ≡ first_task (deletion_tasks m)
-next_stage m stands = all_working m (deletion_tasks m) (all_flat Works m.chains (all_so (λ c. chain_at c.incoming.number m.chains ≡ Some c) (λ c. AllByRecursion Works (chain_tasks c)) of_chain m.chains (all_found m.chains stands.order)))
+next_stage m stands = all_working m (deletion_tasks m) (all_flat Works m.chains (all_so (λ c. chain_at c.incoming.number m.chains ≡ Some c) (λ c. AllByRecursion Works (chain_tasks c)) of_chain m.chains (all_found m.chains (stands.own Order))))
   where
     Works : Task → Type 0
     Works t = has_work t m ≡ true
@@ -90,7 +90,7 @@ next_stage m stands = all_working m (deletion_tasks m) (all_flat Works m.chains 
 -- a filter's walk has work while it is on
 pub next_walk : (m : Moment) → Stands m → next_task Fin m ≡ first_walk m.chains
 next_walk m stands = among m.chains (all_so (λ c. chain_at c.incoming.number m.chains ≡ Some c) (λ c. has_work (tasks.Fin c.incoming.number) m ≡ is_some c.filter.walk)
-    (λ c at. ap (has_turn_in (tasks.Fin c.incoming.number)) at ∙ ap (λ (b : Bool). b && is_some c.filter.walk) (same_by c.incoming.number c.incoming.number refl)) m.chains (all_found m.chains stands.order))
+    (λ c at. ap (has_turn_in (tasks.Fin c.incoming.number)) at ∙ ap (λ (b : Bool). b && is_some c.filter.walk) (same_by c.incoming.number c.incoming.number refl)) m.chains (all_found m.chains (stands.own Order)))
   where
     among : (cs : List Chained) → AllByRecursion (λ c. has_work (tasks.Fin c.incoming.number) m ≡ is_some c.filter.walk) cs → first_at_work (map (λ c. tasks.Fin c.incoming.number) cs) m ≡ first_walk cs
     among [] all = refl

@@ -34,7 +34,7 @@ use Rattle.register_interest.specs.Registers.{Registry}
 use Rattle.rib_tree.specs.Trees.{Treed}
 use Rattle.router_core.specs.Moments.{Moment, chain_at, put_chain, with_chain, insert_chain, links_by, router_links, parts}
 use Rattle.router_core.specs.Lives.{live_state, routes_of, rules_of, with_rules, begun_if_down}
-use Rattle.router_core.specs.Stands.{IsEarlier, IsSilent, PeerStands, StandsAt, AreInOrder, Stands}
+use Rattle.router_core.specs.Stands.{IsEarlier, IsSilent, PeerStands, StandsAt, AreInOrder, Stands, Claim, Claims, EachPeer, InteriorTree, OneSpeaker, Order, SameCount}
 use Rattle.router_core.specs.Blocks.{ByPeer, BeginsIf, Declares, declared_speaker, declared_peer, begun}
 use Rattle.router_core.specs.Peers.{place_in, is_up, Edits}
 use Rattle.router_core.specs.Works.{IsPlace, HasStepped}
@@ -155,7 +155,7 @@ module _ (m : Moment) (me : Speaker) (k : ℕ) (words : Speaker) (is_local : m.d
   chains_then = insert_chain fresh m.chains
 
   no_chain_yet : chain_at k m.chains ≡ None
-  no_chain_yet = no_chain (peer_at k m.declared.peers) (chain_at k m.chains) (stands.peers k) absent
+  no_chain_yet = no_chain (peer_at k m.declared.peers) (chain_at k m.chains) (stands.own EachPeer k) absent
 
   there_at : (j : ℕ) → nat_eq k j ≡ true → chain_at j chains_then ≡ Some fresh
   there_at j e = subst (λ (n : ℕ). chain_at n chains_then ≡ Some fresh) (equal_by k j e) (chain_at_insert_here k fresh m.chains no_chain_yet refl)
@@ -167,14 +167,7 @@ module _ (m : Moment) (me : Speaker) (k : ℕ) (words : Speaker) (is_local : m.d
   new_stands = record { words = refl; chain = record { apart = tt; rising = tt }; full = tt; few = omega arith; earlier = tt; silent = refl }
 
   pub declared_stands : Stands (declared_peer m me k words)
-  declared_stands = record {
-    order = in_order_insert fresh m.chains stands.order no_chain_yet;
-    peers = λ j. by_test j (nat_eq k j) refl;
-    speaker = all_more (λ c. m.declared.speaker ≡ Some c.me) fresh m.chains stands.speaker is_local;
-    count = chains_more fresh m.chains ∙ ap (λ (n : ℕ). n + 1) stands.count ∙ sym (length_push m.declared.peers (new_peer m k words));
-    tree = stands.tree;
-    registered = stands.registered;
-  }
+  declared_stands = record { own = own; at = stands.at }
     where
       by_test : (j : ℕ) (b : Bool) → nat_eq k j ≡ b → StandsAt (peer_at j (with_peer m.declared k words).peers) (chain_at j chains_then)
       by_test j true e =
@@ -188,7 +181,14 @@ module _ (m : Moment) (me : Speaker) (k : ℕ) (words : Speaker) (is_local : m.d
           let p : peer_at j (with_peer m.declared k words).peers ≡ peer_at j m.declared.peers = peer_at_push_other j m.declared.peers (new_peer m k words) e in
           let c : chain_at j chains_then ≡ chain_at j m.chains = chain_at_insert_other j fresh m.chains e in
           subst (λ (o : Option DeclaredPeer). StandsAt o (chain_at j chains_then)) (sym p)
-          (subst (λ (o : Option Chained). StandsAt (peer_at j m.declared.peers) o) (sym c) (stands.peers j))
+          (subst (λ (o : Option Chained). StandsAt (peer_at j m.declared.peers) o) (sym c) (stands.own EachPeer j))
+
+      own : (claim : Claim) → Claims (declared_peer m me k words) claim
+      own Order = in_order_insert fresh m.chains (stands.own Order) no_chain_yet
+      own EachPeer = λ j. by_test j (nat_eq k j) refl
+      own OneSpeaker = all_more (λ c. m.declared.speaker ≡ Some c.me) fresh m.chains (stands.own OneSpeaker) is_local
+      own SameCount = chains_more fresh m.chains ∙ ap (λ (n : ℕ). n + 1) (stands.own SameCount) ∙ sym (length_push m.declared.peers (new_peer m k words))
+      own other = stands.own other
 
   -- ---- the new links
   new_in : ◌≡◌ {A = Option (Rows Value)} (Some (attrs_rows (in_rows fresh.incoming))) (Some no_rows)
@@ -304,14 +304,12 @@ begun_length k [] = refl
 begun_length k (p ∷ ps) = ap suc (begun_length k ps)
 
 pub begun_stands : (m : Moment) (k : ℕ) → Stands m → Stands (begun m k)
-begun_stands m k stands = record {
-  order = stands.order;
-  speaker = stands.speaker;
-  count = stands.count ∙ sym (begun_length k m.declared.peers);
-  tree = stands.tree;
-  registered = stands.registered;
-  peers = λ j. subst (λ (o : Option DeclaredPeer). StandsAt o (chain_at j m.chains)) (sym (peer_at_map (begun_at k) (begun_words k) j m.declared.peers)) (begun_one k (peer_at j m.declared.peers) (chain_at j m.chains) (stands.peers j));
-}
+begun_stands m k stands = record { own = own; at = stands.at }
+  where
+    own : (claim : Claim) → Claims (begun m k) claim
+    own EachPeer = λ j. subst (λ (o : Option DeclaredPeer). StandsAt o (chain_at j m.chains)) (sym (peer_at_map (begun_at k) (begun_words k) j m.declared.peers)) (begun_one k (peer_at j m.declared.peers) (chain_at j m.chains) (stands.own EachPeer j))
+    own SameCount = stands.own SameCount ∙ sym (begun_length k m.declared.peers)
+    own other = stands.own other
 
 may_begin : (d : Declaration) (k : ℕ) → refusal d (events.Up k) ≡ None → session_refusal (peer_at k d.peers) ≡ None
 unfolding refusal
@@ -400,14 +398,12 @@ no_chains s t [] none all = tt
 no_chains s t (c ∷ cs) none all = let one : s ≡ Some c.me = all.0 in absurd (cc)
 
 pub speaker_stands : (m : Moment) (words : Speaker) → refusal m.declared (events.Local words) ≡ None → Stands m → Stands (declared_speaker m words)
-speaker_stands m words admitted stands = record {
-  order = stands.order;
-  peers = stands.peers;
-  speaker = no_chains m.declared.speaker (Some words) m.chains (local_first m.declared words admitted) stands.speaker;
-  count = stands.count;
-  tree = record { tree = stands.tree.tree; full = stands.tree.full; few = stands.tree.few; waiting = λ e. absurd (cc) };
-  registered = stands.registered;
-}
+speaker_stands m words admitted stands = record { own = own; at = stands.at }
+  where
+    own : (claim : Claim) → Claims (declared_speaker m words) claim
+    own OneSpeaker = no_chains m.declared.speaker (Some words) m.chains (local_first m.declared words admitted) (stands.own OneSpeaker)
+    own InteriorTree = let t = stands.own InteriorTree in record { tree = t.tree; full = t.full; few = t.few; waiting = λ e. absurd (cc) }
+    own other = stands.own other
 
 -- ---- new rules
 pub rules_there : (d : Declaration) (k : ℕ) (rules : List Rule) → refusal d (events.FilterIn k rules) ≡ None → (p : DeclaredPeer) × (peer_at k d.peers ≡ Some p)

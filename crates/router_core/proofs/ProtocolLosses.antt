@@ -25,13 +25,14 @@ use Rattle.rib_tree.specs.Falls.{LeadsTree}
 use Rattle.rib_tree.specs.Steps.{lost_tree, tree_loss_entries, tree_overdue}
 use Rattle.router_core.specs.Moments.{Moment, router_links, Gives}
 use Rattle.router_core.specs.Lives.{live_state, interior_lost}
-use Rattle.router_core.specs.Stands.{Stands}
+use Rattle.router_core.specs.Stands.{Stands, InteriorTree}
 use Rattle.router_core.specs.Turns.{journal_lines}
 use Rattle.router_core.specs.Works.{Pushes, EndsProtocol, HasProtocolRoom, HasStepped}
 use Rattle.router_core.proofs.RibLinks.{replanted, leads_above}
 use Rattle.router_core.proofs.TreeParts.{put_all}
 use Rattle.router_core.proofs.RouteLemmas.{stands_replanted, live_lost}
 use Rattle.router_core.proofs.KeepLemmas.{keeps_then, gives_push}
+use Rattle.router_core.proofs.StandLemmas.{registered_rows}
 
 -- ---- how many stages stand then
 left_of : (a b : Bool) → (a || b) ≡ true → b ≡ false → a ≡ true
@@ -83,7 +84,7 @@ protocol_ended proto m t before now stands free since is lines leads int tree fu
 
     few : (other : Proto) → length (branch_of other t).tables.deletions ≤ 16
     few = subst (λ (x : Treed). (other : Proto) → length (branch_of other x).tables.deletions ≤ 16) (sym is)
-        (put_all (λ (x : Branch). length x.tables.deletions ≤ 16) proto (lost_branch b) m.tree (few_lost b (stands.tree.few proto) free) stands.tree.few)
+        (put_all (λ (x : Branch). length x.tables.deletions ≤ 16) proto (lost_branch b) m.tree (few_lost b ((stands.own InteriorTree).few proto) free) (stands.own InteriorTree).few)
 
     by_speaker : (s : Option Speaker) → m.declared.speaker ≡ s → IsSome s → Pushes (EndsProtocol proto m (replanted m t m.registry)) before now
     by_speaker None at some = absurd (let contra : false ≡ true = some in cc)
@@ -96,7 +97,7 @@ protocol_ended proto m t before now stands free since is lines leads int tree fu
         keeps = record {
           leads = subst (λ (es : List (Entry Value)). Leads (router_links m) es (router_links (replanted m t m.registry))) (sym (entries_of_entries entries)) (leads_above m me at t m.registry entries leads int);
           live = ap (λ (x : Treed). live_state (replanted m x m.registry)) is ∙ live_lost m proto (lost_branch b) m.registry;
-          stands = stands_replanted m me t m.registry stands at tree full few (stands.registered ∙ sym int);
+          stands = stands_replanted m me t m.registry stands at tree full few (registered_rows m stands ∙ sym int);
         };
       },
     )

@@ -30,12 +30,13 @@ use Rattle.rib_tree.specs.Forwards.{forwarded}
 use Rattle.rib_tree.specs.Steps.{welded_tree, fed_tree, tree_weld_entries}
 use Rattle.router_core.specs.Moments.{Moment, router_links}
 use Rattle.router_core.specs.Lives.{live_state, with_interior, with_losses, interior_fed}
-use Rattle.router_core.specs.Stands.{Stands}
+use Rattle.router_core.specs.Stands.{Stands, Claim, Claims, InteriorTree, Tie, Ties, Registered, here}
 use Rattle.router_core.specs.Turns.{journal_lines, fib_entries, FallsRoute}
 use Rattle.router_core.specs.Works.{Forwards, registered_after, Follows, Settles, PushesForwarded, HasRouted, Pushes}
 use Rattle.router_core.proofs.TableLemmas.{few_filter, few_map}
 use Rattle.router_core.proofs.RibLinks.{replanted, replants_is, replants_to, leads_rib, leads_above}
 use Rattle.router_core.proofs.TreeParts.{welded_put, put_seen, put_all, put_kept}
+use Rattle.router_core.proofs.StandLemmas.{registered_rows}
 
 -- ---- the register, and `fib`
 put_is_with : (rows : FinMap prefix_cmp Interior) (p : Network) (row : Option Interior) → tables.get (put_row rows p row) ≡ with_row (tables.get rows) p row
@@ -80,14 +81,14 @@ settled proto sent m m1 t before j now follows is lines leads int tree full = re
 -- ---- what stands where the tree became another
 pub stands_replanted : (m : Moment) (me : Speaker) (t : Treed) (r : Registry Interior) → Stands m → m.declared.speaker ≡ Some me → IsTree t → IsFull t → ((proto : Proto) → length (branch_of proto t).tables.deletions ≤ 16)
     → tables.get r.rows ≡ int_rows t → Stands (replanted m t r)
-stands_replanted m me t r stands since tree full few registered = record {
-  order = stands.order;
-  peers = stands.peers;
-  speaker = stands.speaker;
-  count = stands.count;
-  tree = record { tree = tree; full = full; few = few; waiting = λ none. absurd (let contra : Some me ≡ None = sym since ∙ none in cc) };
-  registered = registered;
-}
+stands_replanted m me t r stands since tree full few registered = record { own = own; at = at }
+  where
+    own : (claim : Claim) → Claims (replanted m t r) claim
+    own InteriorTree = record { tree = tree; full = full; few = few; waiting = λ none. absurd (let contra : Some me ≡ None = sym since ∙ none in cc) }
+    own other = stands.own other
+
+    at : (p : Network) (tie : Tie) → Ties (here (replanted m t r) p) tie
+    at p Registered = ap (λ (rows : Rows Interior). rows p) registered
 
 -- the live state, where the part of a protocol became another: one that lost nothing more, one whose routes stay too, and one that
 -- was lost
@@ -175,10 +176,10 @@ routes_on m me proto b p way sent t m' before j now stands since at few rows add
 
     few_then : (other : Proto) → length (branch_of other (welded_tree proto t)).tables.deletions ≤ 16
     few_then = subst (λ (x : Treed). (other : Proto) → length (branch_of other x).tables.deletions ≤ 16) (sym (ap (welded_tree proto) at ∙ welded_put proto b m.tree))
-        (put_all (λ (x : Branch). length x.tables.deletions ≤ 16) proto (welded_branch b) m.tree (let less = few_filter (λ d. not (is_empty_map d.rows)) b.tables.deletions in omega (arith, few, less)) stands.tree.few)
+        (put_all (λ (x : Branch). length x.tables.deletions ≤ 16) proto (welded_branch b) m.tree (let less = few_filter (λ d. not (is_empty_map d.rows)) b.tables.deletions in omega (arith, few, less)) (stands.own InteriorTree).few)
 
     registered : tables.get m'.registry.rows ≡ int_rows (welded_tree proto t)
-    registered = ap tables.get settles.rows ∙ keeps_up m.registry.rows (int_rows m.tree) (int_rows t) p sent stands.registered rows ∙ sym settles.int
+    registered = ap tables.get settles.rows ∙ keeps_up m.registry.rows (int_rows m.tree) (int_rows t) p sent (registered_rows m stands) rows ∙ sym settles.int
 
     stands_then : Stands (replanted m (welded_tree proto t) m'.registry)
     stands_then = stands_replanted m me (welded_tree proto t) m'.registry stands since settles.tree settles.full few_then registered
@@ -204,7 +205,7 @@ routed m me proto p new way sent t m' before j now stands since at rows adds set
     b = fed_branch (branch_of proto m.tree) p new
 
     few : length b.tables.deletions ≤ 16
-    few = let same = few_fed (branch_of proto m.tree) p new in let was = stands.tree.few proto in omega (arith, same, was)
+    few = let same = few_fed (branch_of proto m.tree) p new in let was = (stands.own InteriorTree).few proto in omega (arith, same, was)
 
     r : Pushes (Routes m proto b p way m') before now
     r = routes_on m me proto b p way sent t m' before j now stands since at few rows adds settles

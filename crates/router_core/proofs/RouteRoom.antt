@@ -18,7 +18,7 @@ use Rattle.rib_tree.specs.BranchSteps.{swept_branch, welded_branch, overdue_of}
 use Rattle.rib_tree.specs.Trees.{Treed, branch_of, put_branch}
 use Rattle.rib_tree.specs.Steps.{tree_overdue}
 use Rattle.router_core.specs.Moments.{Moment, Gives}
-use Rattle.router_core.specs.Stands.{Stands}
+use Rattle.router_core.specs.Stands.{Stands, InteriorTree}
 use Rattle.router_core.specs.Turns.{Turns, IsRouteTurn}
 use Rattle.router_core.specs.Blocks.{RunsFirst}
 use Rattle.router_core.specs.Works.{HasDrained, HasProtocolRoom}
@@ -80,13 +80,13 @@ drained_free proto m room task turns said stands over d =
     let b : Branch = branch_of proto m.tree in
     let stage = stage_of (nat_lt (length b.tables.deletions) 16 || is_empty_map b.tables.live) (owners.Origin b.proto) b.tables.deletions task over in
     let n : ℕ = stage.0.number in
-    let is : task ≡ Rdel proto n = stage.3 ∙ ap (λ (k : Proto). Rdel k n) (stands.tree.tree.placed proto) in
+    let is : task ≡ Rdel proto n = stage.3 ∙ ap (λ (k : Proto). Rdel k n) ((stands.own InteriorTree).tree.placed proto) in
     let drained : HasDrained (Rdel proto n) m turns room said = subst (λ (t : Task). HasDrained t m turns room said) is d in
     let r = turns_shorter turns proto n m said room drained.run.taken in
     let there : table_of n b.tables.deletions ≡ Some stage.0.rows = ap (table_of n) stage.2 ∙ ap (λ (x : Bool). cond x (Some stage.0.rows) (table_of n stage.1)) (same_by n n refl) in
     let none : table_of n (branch_of proto room.tree).tables.deletions ≡ None = no_table (table_of n (branch_of proto room.tree).tables.deletions) drained.ended in
     let less = r.gone stage.0.rows there none in
-    let few = stands.tree.few proto in
+    let few = (stands.own InteriorTree).few proto in
     free_of (branch_of proto room.tree) (omega (arith, less, few))
 
 pub protocol_room_drained : (proto : Proto) (m room : Moment) (task : Task) (turns : ℕ) (before now : Journaled) → Stands m → Some task ≡ tree_overdue proto m.tree → Gives (HasDrained task m turns room) before now

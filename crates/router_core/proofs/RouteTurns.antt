@@ -25,7 +25,7 @@ use Rattle.router_core.specs.declared.router.Done.{Done}
 use Rattle.router_core.specs.declared.router.Done.TheVariants.{Nothing, Taken}
 use Rattle.router_core.specs.Moments.{Moment}
 use Rattle.router_core.specs.Lives.{live_state}
-use Rattle.router_core.specs.Stands.{Stands}
+use Rattle.router_core.specs.Stands.{Stands, InteriorTree}
 use Rattle.router_core.specs.Works.{Settles, Turned, IsUnit, Comes, Pushes}
 use Rattle.router_core.proofs.TableLemmas.{few_map}
 use Rattle.router_core.proofs.RibLinks.{replanted}
@@ -45,7 +45,7 @@ since_local m proto n table stands there = by_speaker m.declared.speaker refl
   where
     by_speaker : (s : Option Speaker) → m.declared.speaker ≡ s → (me : Speaker) × (m.declared.speaker ≡ Some me)
     by_speaker None at =
-        let none : table_of n (branch_of proto m.tree).tables.deletions ≡ None = ap (λ (t : Treed). table_of n (branch_of proto t).tables.deletions) (stands.tree.waiting at) ∙ no_table proto n in
+        let none : table_of n (branch_of proto m.tree).tables.deletions ≡ None = ap (λ (t : Treed). table_of n (branch_of proto t).tables.deletions) ((stands.own InteriorTree).waiting at) ∙ no_table proto n in
         absurd (let contra : Some table ≡ None = sym there ∙ none in cc)
     by_speaker (Some me) at = (me, at)
 
@@ -80,7 +80,7 @@ route_unit take keep m proto n sent t m' before j j' stands adds settles = (
     b = swept_branch n p (branch_of proto m.tree)
 
     few : length b.tables.deletions ≤ 16
-    few = let same = few_map (swept_one n p) (branch_of proto m.tree).tables.deletions in let was = stands.tree.few proto in omega (arith, same, was)
+    few = let same = few_map (swept_one n p) (branch_of proto m.tree).tables.deletions in let was = (stands.own InteriorTree).few proto in omega (arith, same, was)
 
     r : Pushes (Routes m proto b p (way_of_sweep proto n m.tree) m') before j'
     r = routes_on m me.0 proto b p (way_of_sweep proto n m.tree) sent t m' before j j' stands me.1 sweeps.after few sweeps.rows (entries, adds.1, sweeps.fall) settles
@@ -90,7 +90,7 @@ route_unit take keep m proto n sent t m' before j j' stands adds settles = (
 
     fewer : tree_count m'.tree + 1 ≡ tree_count m.tree
     fewer =
-        let one = take m.tree proto n p sweeps.table sweeps.row stands.tree.tree sweeps.stands sweeps.least.0 in
+        let one = take m.tree proto n p sweeps.table sweeps.row (stands.own InteriorTree).tree sweeps.stands sweeps.least.0 in
         let same : tree_count m'.tree ≡ tree_count (swept_tree proto n p m.tree) =
         ap tree_count settles.after.tree_is ∙ keep t proto ∙ ap tree_count sweeps.after in
         omega (arith, one, same)

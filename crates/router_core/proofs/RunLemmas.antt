@@ -11,7 +11,7 @@ use Rattle.router_core.specs.declared.router.Phase.{Phase}
 use Rattle.router_core.specs.declared.router.Phase.TheVariants.{Rdel, Del, Fin}
 use Rattle.router_core.specs.Moments.{Moment, rows_in, bound_of, Gives}
 use Rattle.router_core.specs.Lives.{LiveState, live_state}
-use Rattle.router_core.specs.Stands.{Stands}
+use Rattle.router_core.specs.Stands.{Stands, SameCount}
 use Rattle.router_core.specs.Phases.{Frame, Each, all_phases, counts, frame_of, rise, bounds, Spends}
 use Rattle.router_core.specs.Turns.{IsTurn, Turns, RunsPhase, RunsAll, phase_of, next_task, has_work, IsSettled}
 use Rattle.router_core.specs.Works.{Keeps, IsWork, IsUnit, HaveRun, HasDrained, HaveRunOf, HaveDrained, AllHaveDrained}
@@ -158,7 +158,7 @@ bounds_fit law m stands =
     let a = counts_below law m Rdel in
     let b = counts_below law m Del in
     let c = counts_below law m Fin in
-    let count = stands.count in
+    let count = stands.own SameCount in
     let all = within_all (counts m Rdel) (counts m Del) (counts m Fin) (rows_in m.chains) (tree_count m.tree) (length m.declared.peers) a b (omega (arith, c, count)) in
     omega (arith, all)
 

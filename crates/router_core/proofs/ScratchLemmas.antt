@@ -30,7 +30,7 @@ use Rattle.rib_tree.specs.Forwards.{forwarded}
 use Rattle.router_core.specs.declared.router.Phase.TheVariants as phases
 use Rattle.router_core.specs.Moments.{Moment, chain_at, links_by, rib_by, router_links}
 use Rattle.router_core.specs.Lives.{Routes, Interiors, live_state, routes_of, rules_of}
-use Rattle.router_core.specs.Stands.{StandsAt, Stands}
+use Rattle.router_core.specs.Stands.{StandsAt, Stands, EachPeer}
 use Rattle.router_core.specs.Scratch.{live_rows, judged_rows, best_of, least_rows, since_local, from_scratch, IsExact}
 use Rattle.router_core.proofs.ChainLemmas.{same_by, number_at, all_at}
 use Rattle.router_core.proofs.LinkLemmas.{none_by}
@@ -128,9 +128,9 @@ module _ (m : Moment) (stands : Stands m) (settled : IsSettled m) where
   settled_is_exact link = each link
     where
       each : (link : Link) → router_links m link ≡ from_scratch (live_state m) link
-      each (In k) = in_exact k (peer_at k m.declared.peers) (chain_at k m.chains) refl (stands.peers k)
+      each (In k) = in_exact k (peer_at k m.declared.peers) (chain_at k m.chains) refl (stands.own EachPeer k)
       each (Peer k s) = peer_exact k s (chain_at k m.chains) refl
-      each (Filt k) = filt_exact k (peer_at k m.declared.peers) (chain_at k m.chains) refl (stands.peers k)
+      each (Filt k) = filt_exact k (peer_at k m.declared.peers) (chain_at k m.chains) refl (stands.own EachPeer k)
       each (Res j) = none_by (Res j) (λ c. refl) (chain_at j m.chains)
       each (Org p) = org_exact p m.declared.speaker
       each (LostOf p n) = lost_exact p n m.declared.speaker

@@ -1,6 +1,7 @@
 -- What stands after a step of one chain, and what is live then.
 use Rattle.std.proofs.Common.{◌≡◌, ℕ, ◌+◌, Bool, true, false, cond, List, [], ◌∷◌, map, Option, Some, None, nat_eq, refl, sym, ap, subst, ◌∙◌, arith, length}
 use Rattle.std.specs.List.{AllByRecursion, filter}
+use Rattle.std.specs.FinMap as tables
 use Rattle.bgp_attr.specs.declared.attrs.Attrs.{Attrs}
 use Rattle.bgp_attr.specs.declared.speaker.Speaker.{Speaker}
 use Rattle.deletion_stage.specs.Lost.{Lost}
@@ -12,8 +13,8 @@ use Rattle.loss_chain.specs.Tables.{NoneEmpty}
 use Rattle.in_chain.specs.Chains.{Chained, IsChain}
 use Rattle.router_core.specs.Moments.{Moment, chain_at, put_chain, with_chain}
 use Rattle.router_core.specs.Lives.{LiveState, Routes, live_state, routes_of, rules_of, with_routes, with_rules}
-use Rattle.rib_tree.specs.Trees.{branch_of}
-use Rattle.router_core.specs.Stands.{IsEarlier, IsSilent, PeerStands, StandsAt, TreeStands, Stands}
+use Rattle.rib_tree.specs.Trees.{branch_of, int_rows}
+use Rattle.router_core.specs.Stands.{IsEarlier, IsSilent, PeerStands, StandsAt, TreeStands, Stands, Claim, Claims, EachPeer, InteriorTree, OneSpeaker, Order, Registered, SameCount}
 use Rattle.router_core.specs.Works.{IsSoundAt}
 use Rattle.router_core.proofs.TableLemmas.{few_left}
 use Rattle.router_core.proofs.ChainLemmas.{equal_by, chain_at_put_same, chain_at_put_other, in_order_put, all_at, all_put, put_length, put_at}
@@ -21,6 +22,10 @@ use Rattle.router_core.proofs.ChainLemmas.{equal_by, chain_at_put_same, chain_at
 -- the moment with this declared, and these chains
 abbrev pub remade : Moment → Declaration → List Chained → Moment
 remade m d cs = record m { declared = d; chains = cs }
+
+-- ---- the register
+pub registered_rows : (m : Moment) → Stands m → tables.get m.registry.rows ≡ int_rows m.tree
+registered_rows m stands i p = stands.at p Registered i
 
 -- ---- one peer and its chain
 pub one_peer : (p q : DeclaredPeer) → Some p ≡ Some q → p ≡ q
@@ -31,7 +36,7 @@ stands_there k m c None stands = absurd stands
 stands_there k m c (Some p) stands = (p, refl, stands)
 
 pub peer_of : (m : Moment) → Stands m → (k : ℕ) (c : Chained) → chain_at k m.chains ≡ Some c → (p : DeclaredPeer) × (peer_at k m.declared.peers ≡ Some p) × PeerStands p c
-peer_of m stands k c at = stands_there k m c (peer_at k m.declared.peers) (subst (λ (o : Option Chained). StandsAt (peer_at k m.declared.peers) o) at (stands.peers k))
+peer_of m stands k c at = stands_there k m c (peer_at k m.declared.peers) (subst (λ (o : Option Chained). StandsAt (peer_at k m.declared.peers) o) at (stands.own EachPeer k))
 
 pub sound_at : (m : Moment) → Stands m → (k : ℕ) → IsSoundAt k m.chains
 sound_at m stands k c at = let p = peer_of m stands k c at in (p.2.chain, p.2.full)
@@ -41,11 +46,11 @@ chain_of None p stands = absurd stands
 chain_of (Some c) p stands = (c, refl, stands)
 
 pub chain_there : (m : Moment) → Stands m → (k : ℕ) (p : DeclaredPeer) → peer_at k m.declared.peers ≡ Some p → (c : Chained) × (chain_at k m.chains ≡ Some c) × PeerStands p c
-chain_there m stands k p at = chain_of (chain_at k m.chains) p (subst (λ (o : Option DeclaredPeer). StandsAt o (chain_at k m.chains)) at (stands.peers k))
+chain_there m stands k p at = chain_of (chain_at k m.chains) p (subst (λ (o : Option DeclaredPeer). StandsAt o (chain_at k m.chains)) at (stands.own EachPeer k))
 
 -- ---- all peers
 pub speaker_at : (m : Moment) → Stands m → (k : ℕ) (c : Chained) → chain_at k m.chains ≡ Some c → m.declared.speaker ≡ Some c.me
-speaker_at m stands k c at = all_at (λ d. m.declared.speaker ≡ Some d.me) k m.chains c stands.speaker at
+speaker_at m stands k c at = all_at (λ d. m.declared.speaker ≡ Some d.me) k m.chains c (stands.own OneSpeaker) at
 
 -- the same speaker, as many peers, and the others' sessions as they were
 pub record KeepsOthers (k : ℕ) (before now : Declaration) : Type 0 where
@@ -55,23 +60,23 @@ pub record KeepsOthers (k : ℕ) (before now : Declaration) : Type 0 where
 
 pub stands_put : (m : Moment) (now : Declaration) (k : ℕ) (c c' : Chained) → Stands m → chain_at k m.chains ≡ Some c → c'.incoming.number ≡ k → c'.me ≡ c.me
     → KeepsOthers k m.declared now → StandsAt (peer_at k now.peers) (Some c') → Stands (remade m now (put_chain c' m.chains))
-stands_put m now k c c' stands at number me keeps here = record {
-  order = in_order_put c' m.chains stands.order;
-  peers = λ j. by_test j (nat_eq j k) refl;
-  speaker = subst (λ (s : Option Speaker). AllByRecursion (λ d. s ≡ Some d.me) (put_chain c' m.chains)) (sym keeps.speaker)
-      (all_put (λ d. m.declared.speaker ≡ Some d.me) c' m.chains stands.speaker (speaker_at m stands k c at ∙ ap Some (sym me)));
-  count = put_length c' m.chains ∙ stands.count ∙ sym keeps.count;
-  tree = subst (λ (s : Option Speaker). TreeStands s m.tree) (sym keeps.speaker) stands.tree;
-  registered = stands.registered;
-}
+stands_put m now k c c' stands at number me keeps own_peer = record { own = own; at = stands.at }
   where
     by_test : (j : ℕ) (b : Bool) → nat_eq j k ≡ b → StandsAt (peer_at j now.peers) (chain_at j (put_chain c' m.chains))
     by_test j true e =
-        let there : StandsAt (peer_at k now.peers) (chain_at k (put_chain c' m.chains)) = subst (λ (o : Option Chained). StandsAt (peer_at k now.peers) o) (sym (chain_at_put_same k m.chains c c' at number)) here in
+        let there : StandsAt (peer_at k now.peers) (chain_at k (put_chain c' m.chains)) = subst (λ (o : Option Chained). StandsAt (peer_at k now.peers) o) (sym (chain_at_put_same k m.chains c c' at number)) own_peer in
         subst (λ (n : ℕ). StandsAt (peer_at n now.peers) (chain_at n (put_chain c' m.chains))) (sym (equal_by j k e)) there
     by_test j false e =
         subst (λ (o : Option Chained). StandsAt (peer_at j now.peers) o) (sym (chain_at_put_other j m.chains c' (ap (nat_eq j) number ∙ e)))
-        (subst (λ (o : Option DeclaredPeer). StandsAt o (chain_at j m.chains)) (sym (keeps.others j e)) (stands.peers j))
+        (subst (λ (o : Option DeclaredPeer). StandsAt o (chain_at j m.chains)) (sym (keeps.others j e)) (stands.own EachPeer j))
+
+    own : (claim : Claim) → Claims (remade m now (put_chain c' m.chains)) claim
+    own Order = in_order_put c' m.chains (stands.own Order)
+    own EachPeer = λ j. by_test j (nat_eq j k) refl
+    own OneSpeaker = subst (λ (s : Option Speaker). AllByRecursion (λ d. s ≡ Some d.me) (put_chain c' m.chains)) (sym keeps.speaker)
+        (all_put (λ d. m.declared.speaker ≡ Some d.me) c' m.chains (stands.own OneSpeaker) (speaker_at m stands k c at ∙ ap Some (sym me)))
+    own SameCount = put_length c' m.chains ∙ stands.own SameCount ∙ sym keeps.count
+    own InteriorTree = subst (λ (s : Option Speaker). TreeStands s m.tree) (sym keeps.speaker) (stands.own InteriorTree)
 
 pub stands_with : (m : Moment) (k : ℕ) (c c' : Chained) (p : DeclaredPeer) → Stands m → chain_at k m.chains ≡ Some c → c'.incoming.number ≡ k → c'.me ≡ c.me → peer_at k m.declared.peers ≡ Some p
     → PeerStands p c' → Stands (with_chain m c')

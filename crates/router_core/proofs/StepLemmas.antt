@@ -26,6 +26,7 @@ use Rattle.router_core.specs.Stands.{Stands}
 use Rattle.router_core.specs.Blocks.{EndsIf, Hears, HearsIf, ByPeer}
 use Rattle.router_core.specs.Works.{Pushes, Keeps, AreTurns, AllHaveDrained, HasLost, HasHeard, HasIdled, HasStepped}
 use Rattle.router_core.proofs.KeepLemmas.{keeps_none, keeps_said, keeps_join, keeps_on, gives_push, push_gives, gives_none, gives_so, gives_pushed, steps_pushed}
+use Rattle.router_core.proofs.StandLemmas.{registered_rows}
 
 -- ---- a declared peer
 there_by : (o : Option DeclaredPeer) → undeclared o ≡ None → (p : DeclaredPeer) × (o ≡ Some p)
@@ -99,7 +100,7 @@ worked m m' task most turns before j j2 now g last is =
 pub covered : (m : Moment) (addr : ℕ) (found : Option (Network × Interior)) (subnet : Network) (prefix : Option Network) (before j now : Journaled) → Stands m → IsCover width (tables.get m.registry.rows) addr found subnet
     → prefix ≡ matched found → j ≡ with_lines before (lines.Cover addr prefix subnet ∷ []) → now ≡ flushed j → Gives (HasStepped m (Cover addr) 0 m) before now
 covered m addr found subnet prefix before j now stands cover is pushed flush = steps_pushed m (Cover addr) (lines.Cover addr (matched found) subnet ∷ []) before j now stands
-    (refl, refl, record { found = found; subnet = subnet; cover = subst (λ (rows : Rows Interior). IsCover width rows addr found subnet) stands.registered cover; line = refl }) refl refl
+    (refl, refl, record { found = found; subnet = subnet; cover = subst (λ (rows : Rows Interior). IsCover width rows addr found subnet) (registered_rows m stands) cover; line = refl }) refl refl
     (pushed ∙ ap (λ (p : Option Network). with_lines before (lines.Cover addr p subnet ∷ [])) is) flush
 
 -- ---- what a message does

@@ -21,7 +21,7 @@ use Rattle.loss_chain.specs.Steps.{swept_one}
 use Rattle.in_chain.specs.Steps.{swept, welded, Turned, Rewalks}
 use Rattle.router_core.specs.declared.router.Done.TheVariants.{Taken}
 use Rattle.router_core.specs.Moments.{Moment, chain_at, with_chain}
-use Rattle.router_core.specs.Stands.{IsEarlier, IsSilent, PeerStands, Stands}
+use Rattle.router_core.specs.Stands.{IsEarlier, IsSilent, PeerStands, Stands, Order}
 use Rattle.router_core.specs.Turns.{peer_of, IsPeerTurn, IsTurn}
 use Rattle.router_core.specs.Works.{NearsChain, TakesChain, IsUnit, Comes, TurnsAt}
 use Rattle.router_core.proofs.TableLemmas.{is_full, swept_number}
@@ -118,7 +118,7 @@ unit_done task m c c' said stands at t =
           live = live_same m k c c' at number leaves.live leaves.rules;
           stands = stands_with m k c c' p.0 stands at number t.step.words.0 p.1 (leaves.stands p.0 t.step.words.1 t.step.chain t.step.full p.2);
         };
-        spends = chain_spends (frame_of (live_state m)) task k m c c' stands.order at number t.nearer;
+        spends = chain_spends (frame_of (live_state m)) task k m c c' (stands.own Order) at number t.nearer;
       };
     }
 

@@ -11,6 +11,8 @@ use Rattle.rib_route.specs.declared.Proto.{Proto}
 use Rattle.rib_tree.specs.Trees.{Treed, branch_of, int_rows, IsTree, IsFull, AreNumbered}
 use Rattle.rib_tree.specs.Steps.{new_tree}
 use Rattle.router_core.specs.Moments.{Moment, Cored, chain_at}
+use Rattle.addr4.specs.Prefixes.{Network}
+use Rattle.rib_route.specs.declared.rows.Interior.{Interior}
 
 -- a session was lost before this one: before the present one where the peer is up
 abbrev pub IsEarlier : DeclaredPeer → Bool → ℕ → Type 0
@@ -49,14 +51,44 @@ pub record TreeStands (speaker : Option Speaker) (t : Treed) : Type 0 where
   pub few : (proto : Proto) → length (branch_of proto t).tables.deletions ≤ 16
   pub waiting : speaker ≡ None → t ≡ new_tree
 
--- The chains have the words of this speaker; there are as many as peers. The register has the rows of `int`.
+-- ---- the tables: a line for each claim, and for each tie between two parts
+
+-- what is claimed: of the order of the chains, of each peer and its chain, that the chains have the words of this speaker and are
+-- as many as peers, and of the interior routes
+pub data Claim : Type 0 where
+  Order : Claim
+  EachPeer : Claim
+  OneSpeaker : Claim
+  SameCount : Claim
+  InteriorTree : Claim
+
+abbrev pub Claims : Moment → Claim → Type 0
+Claims m Order = AreInOrder m.chains
+Claims m EachPeer = (k : ℕ) → StandsAt (peer_at k m.declared.peers) (chain_at k m.chains)
+Claims m OneSpeaker = AllByRecursion (λ c. m.declared.speaker ≡ Some c.me) m.chains
+Claims m SameCount = length m.chains ≡ length m.declared.peers
+Claims m InteriorTree = TreeStands m.declared.speaker m.tree
+
+-- all that the ties read at one prefix: the row of the register, and that of `int`
+pub record Here : Type 0 where
+  pub registered : Option Interior
+  pub int : Option Interior
+
+abbrev pub here : Moment → Network → Here
+here m p = record { registered = tables.get m.registry.rows p; int = int_rows m.tree p }
+
+pub data Tie : Type 0 where
+  Registered : Tie
+
+abbrev pub Ties : Here → Tie → Type 0
+Ties h Registered = h.registered ≡ h.int
+
+-- ---- the same for any table
+
+-- each claim, and the ties at each prefix
 pub record Stands (m : Moment) : Type 0 where
-  pub order : AreInOrder m.chains
-  pub peers : (k : ℕ) → StandsAt (peer_at k m.declared.peers) (chain_at k m.chains)
-  pub speaker : AllByRecursion (λ c. m.declared.speaker ≡ Some c.me) m.chains
-  pub count : length m.chains ≡ length m.declared.peers
-  pub tree : TreeStands m.declared.speaker m.tree
-  pub registered : tables.get m.registry.rows ≡ int_rows m.tree
+  pub own : (claim : Claim) → Claims m claim
+  pub at : (p : Network) → (tie : Tie) → Ties (here m p) tie
 
 -- What holds of a core between two calls, unless memory ran out: losses are counted by events.
 pub record CoreStands (c : Cored) : Type 0 where
