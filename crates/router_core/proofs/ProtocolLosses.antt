@@ -23,12 +23,12 @@ use Rattle.loss_chain.specs.Steps.{oldest_of}
 use Rattle.rib_tree.specs.Trees.{Treed, branch_of, int_rows, IsTree, IsFull, AreNumbered}
 use Rattle.rib_tree.specs.Falls.{LeadsTree}
 use Rattle.rib_tree.specs.Steps.{lost_tree, tree_loss_entries, tree_overdue}
-use Rattle.router_core.specs.Moments.{Moment, router_links, Gives}
+use Rattle.router_core.specs.Moments.{Moment, router_links, Gives, with_rib}
 use Rattle.router_core.specs.Lives.{live_state, interior_lost}
 use Rattle.router_core.specs.Stands.{Stands, InteriorTree}
 use Rattle.router_core.specs.Turns.{journal_lines}
 use Rattle.router_core.specs.Works.{Pushes, EndsProtocol, HasProtocolRoom, HasStepped}
-use Rattle.router_core.proofs.RibLinks.{replanted, leads_above}
+use Rattle.router_core.proofs.RibLinks.{leads_above}
 use Rattle.router_core.proofs.TreeParts.{put_all}
 use Rattle.router_core.proofs.RouteLemmas.{stands_replanted, live_lost}
 use Rattle.router_core.proofs.KeepLemmas.{keeps_then, gives_push}
@@ -73,7 +73,7 @@ few_lost b few none = by_test (is_empty_map b.tables.live) refl
 -- the loss alone
 pub protocol_ended : (proto : Proto) (m : Moment) (t : Treed) (before now : Journaled) → Stands m → tree_overdue proto m.tree ≡ None → IsSome m.declared.speaker → t ≡ lost_tree proto m.tree
     → now ≡ with_entries before (tree_loss_entries proto m.tree) → LeadsTree m.tree (tree_loss_entries proto m.tree) t → int_rows t ≡ int_rows m.tree → IsTree t → IsFull t
-    → Pushes (EndsProtocol proto m (replanted m t m.registry)) before now
+    → Pushes (EndsProtocol proto m (with_rib m t m.registry)) before now
 protocol_ended proto m t before now stands free since is lines leads int tree full = by_speaker m.declared.speaker refl since
   where
     entries : List (Entry Value)
@@ -86,17 +86,17 @@ protocol_ended proto m t before now stands free since is lines leads int tree fu
     few = subst (λ (x : Treed). (other : Proto) → length (branch_of other x).tables.deletions ≤ 16) (sym is)
         (put_all (λ (x : Branch). length x.tables.deletions ≤ 16) proto (lost_branch b) m.tree (few_lost b ((stands.own InteriorTree).few proto) free) (stands.own InteriorTree).few)
 
-    by_speaker : (s : Option Speaker) → m.declared.speaker ≡ s → IsSome s → Pushes (EndsProtocol proto m (replanted m t m.registry)) before now
+    by_speaker : (s : Option Speaker) → m.declared.speaker ≡ s → IsSome s → Pushes (EndsProtocol proto m (with_rib m t m.registry)) before now
     by_speaker None at some = absurd (let contra : false ≡ true = some in cc)
     by_speaker (Some me) at some = (
       journal_lines entries,
       lines,
       record {
         lines = refl;
-        after = record { tree_is = is; declared = refl; chains = refl };
+        after = ap (λ (x : Treed). with_rib m x m.registry) is;
         keeps = record {
-          leads = subst (λ (es : List (Entry Value)). Leads (router_links m) es (router_links (replanted m t m.registry))) (sym (entries_of_entries entries)) (leads_above m me at t m.registry entries leads int);
-          live = ap (λ (x : Treed). live_state (replanted m x m.registry)) is ∙ live_lost m proto (lost_branch b) m.registry;
+          leads = subst (λ (es : List (Entry Value)). Leads (router_links m) es (router_links (with_rib m t m.registry))) (sym (entries_of_entries entries)) (leads_above m me at t m.registry entries leads int);
+          live = ap (λ (x : Treed). live_state (with_rib m x m.registry)) is ∙ live_lost m proto (lost_branch b) m.registry;
           stands = stands_replanted m me t m.registry stands at tree full few (registered_rows m stands ∙ sym int);
         };
       },

@@ -22,19 +22,8 @@ use Rattle.rib_tree.specs.Forwards.{forwarded, rib_links}
 use Rattle.router_core.specs.declared.regions.Region.TheVariants.{InteriorRoutes, Forward}
 use Rattle.router_core.specs.Regions.{Sides, joined, with_side, LeadsIn}
 use Rattle.router_core.proofs.RegionLemmas.{interior_set}
-use Rattle.router_core.specs.Moments.{Moment, rib_by, router_links, parts}
-use Rattle.router_core.specs.Turns.{fib_entries, Replants}
-
--- the moment with this tree and this register
-abbrev pub replanted : Moment → Treed → Registry Route → Moment
-replanted m t r = record m { tree = t; registry = r }
-
--- the tree alone became this one
-pub replants_is : (t : Treed) (m m' : Moment) → Replants t m m' → m' ≡ replanted m t m'.registry
-replants_is t m m' is i = record { declared = is.declared i; tree = is.tree_is i; registry = m'.registry; chains = is.chains i }
-
-pub replants_to : (m : Moment) (t : Treed) (r : Registry Route) → Replants t m (replanted m t r)
-replants_to m t r = record { tree_is = refl; declared = refl; chains = refl }
+use Rattle.router_core.specs.Moments.{with_rib, Moment, rib_by, router_links, parts}
+use Rattle.router_core.specs.Turns.{fib_entries}
 
 module _ (s : Option Speaker) (me : Speaker) (since : s ≡ Some me) where
   live_at : (t : Treed) (link : Link) → rib_by s t link ≡ rib_links t link
@@ -82,15 +71,15 @@ module _ (s : Option Speaker) (me : Speaker) (since : s ≡ Some me) where
 module _ (m : Moment) (me : Speaker) (since : m.declared.speaker ≡ Some me) (t : Treed) (r : Registry Route) where
   -- what leads the tree on, and `fib` behind it, leads the router on
   pub leads_rib : (entries : List (Entry Value)) (p : Network) (below : Option (Change FibRow)) → LeadsTree m.tree entries t → IsSent (forwarded (int_rows m.tree)) (forwarded (int_rows t)) p below
-      → Leads (router_links m) (entries ++ fib_entries below) (router_links (replanted m t r))
+      → Leads (router_links m) (entries ++ fib_entries below) (router_links (with_rib m t r))
   leads_rib entries p below leads sent =
-      leads_append (router_links m) (joined between) (router_links (replanted m t r)) entries (fib_entries below) (tree_leads m.declared.speaker me since m.tree t entries leads (parts m) refl)
+      leads_append (router_links m) (joined between) (router_links (with_rib m t r)) entries (fib_entries below) (tree_leads m.declared.speaker me since m.tree t entries leads (parts m) refl)
       (subst (λ (s : Sides). Leads (joined between) (fib_entries below) (joined s)) (interior_set m t r) (fib_leads m.declared.speaker me since m.tree t p below sent between refl))
     where
       between : Sides
       between = with_side (parts m) InteriorRoutes (rib_by m.declared.speaker t)
 
   -- where the rows of `int` stay
-  pub leads_above : (entries : List (Entry Value)) → LeadsTree m.tree entries t → int_rows t ≡ int_rows m.tree → Leads (router_links m) entries (router_links (replanted m t r))
+  pub leads_above : (entries : List (Entry Value)) → LeadsTree m.tree entries t → int_rows t ≡ int_rows m.tree → Leads (router_links m) entries (router_links (with_rib m t r))
   leads_above entries leads same =
-      subst (λ (es : List (Entry Value)). Leads (router_links m) es (router_links (replanted m t r))) (append-nil entries) (leads_rib entries (record { address = 0; length = 0 }) None leads (ap forwarded same))
+      subst (λ (es : List (Entry Value)). Leads (router_links m) es (router_links (with_rib m t r))) (append-nil entries) (leads_rib entries (record { address = 0; length = 0 }) None leads (ap forwarded same))

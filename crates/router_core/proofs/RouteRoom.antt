@@ -35,7 +35,7 @@ record Shorter (proto : Proto) (n : ℕ) (m m' : Moment) : Type 0 where
 
 -- what a turn of the stage of a loss leaves of the branch
 swept_then : (m m' : Moment) (proto : Proto) (n : ℕ) (said : List Line) (turn : IsRouteTurn proto n m said m') → m'.tree ≡ put_branch proto (welded_branch (swept_branch n turn.prefix (branch_of proto m.tree))) m.tree
-swept_then m m' proto n said turn = turn.falls.after.tree_is ∙ welded_put proto (swept_branch n turn.prefix (branch_of proto m.tree)) m.tree
+swept_then m m' proto n said turn = ap (λ (x : Moment). x.tree) turn.falls.after ∙ welded_put proto (swept_branch n turn.prefix (branch_of proto m.tree)) m.tree
 
 turns_shorter : (turns : ℕ) (proto : Proto) (n : ℕ) (m : Moment) (said : List Line) (m' : Moment) → Turns turns (Rdel proto n) m said m' → Shorter proto n m m'
 turns_shorter zero proto n m said m' t = subst (Shorter proto n m) (sym t.1) (record {

@@ -23,12 +23,11 @@ use Rattle.rib_tree.specs.Laws.{TurnsTakeRows, WeldsKeepRows}
 use Rattle.rib_tree.specs.Steps.{new_tree, SweepsTree, IsTakenTree, swept_tree}
 use Rattle.router_core.specs.declared.router.Done.{Done}
 use Rattle.router_core.specs.declared.router.Done.TheVariants.{Nothing, Taken}
-use Rattle.router_core.specs.Moments.{Moment}
+use Rattle.router_core.specs.Moments.{Moment, with_rib}
 use Rattle.router_core.specs.Lives.{live_state}
 use Rattle.router_core.specs.Stands.{Stands, InteriorTree}
 use Rattle.router_core.specs.Works.{Settles, Turned, IsUnit, Comes, Pushes}
 use Rattle.router_core.proofs.TableLemmas.{few_map}
-use Rattle.router_core.proofs.RibLinks.{replanted}
 use Rattle.router_core.proofs.RouteLemmas.{Routes, routes_on, live_stays}
 use Rattle.router_core.specs.Phases.{frame_of}
 use Rattle.router_core.proofs.CountLemmas.{tree_spends}
@@ -51,7 +50,7 @@ since_local m proto n table stands there = by_speaker m.declared.speaker refl
 
 -- ---- the turn
 pub route_unit : TurnsTakeRows → WeldsKeepRows → (m : Moment) (proto : Proto) (n : ℕ) (sent : Option (Change Interior)) (t : Treed) (m' : Moment) (before j j' : Journaled) → Stands m → Adds (SweepsTree m.tree t proto n sent) before j
-    → Settles proto sent (replanted m t m.registry) m' j j' → Pushes (IsUnit (Rdel proto n) m m') before j'
+    → Settles proto sent (with_rib m t m.registry) m' j j' → Pushes (IsUnit (Rdel proto n) m m') before j'
 route_unit take keep m proto n sent t m' before j j' stands adds settles = (
   r.0,
   r.1,
@@ -59,7 +58,7 @@ route_unit take keep m proto n sent t m' before j j' stands adds settles = (
     turn = record { prefix = sweeps.prefix; row = sweeps.row; table = sweeps.table; stands = sweeps.stands; least = sweeps.least; falls = r.2.falls };
     work = record {
       keeps = record { leads = r.2.leads; live = lives; stands = r.2.stands };
-      spends = tree_spends (frame_of (live_state m)) m m' r.2.falls.after.chains lives fewer;
+      spends = tree_spends (frame_of (live_state m)) m m' (ap (λ (x : Moment). x.chains) r.2.falls.after) lives fewer;
     };
   },
 )
@@ -92,11 +91,11 @@ route_unit take keep m proto n sent t m' before j j' stands adds settles = (
     fewer =
         let one = take m.tree proto n p sweeps.table sweeps.row (stands.own InteriorTree).tree sweeps.stands sweeps.least.0 in
         let same : tree_count m'.tree ≡ tree_count (swept_tree proto n p m.tree) =
-        ap tree_count settles.after.tree_is ∙ keep t proto ∙ ap tree_count sweeps.after in
+        ap (λ (x : Moment). tree_count x.tree) settles.after ∙ keep t proto ∙ ap tree_count sweeps.after in
         omega (arith, one, same)
 
 pub route_comes : TurnsTakeRows → WeldsKeepRows → (m : Moment) (proto : Proto) (n : ℕ) (sent : Option (Change Interior)) (t : Treed) (m' : Moment) (before j now : Journaled) (done : Done) → Stands m → Adds (SweepsTree m.tree t proto n sent) before j
-    → Turned proto sent (replanted m t m.registry) m' j now done → Comes (Rdel proto n) m m' before now done
+    → Turned proto sent (with_rib m t m.registry) m' j now done → Comes (Rdel proto n) m m' before now done
 route_comes take keep m proto n sent t m' before j now Nothing stands adds turned = absurd turned
 route_comes take keep m proto n sent t m' before j now Taken stands adds turned =
     let u = route_unit take keep m proto n sent t m' before j turned.0 stands adds turned.1 in
@@ -104,13 +103,13 @@ route_comes take keep m proto n sent t m' before j now Taken stands adds turned 
 
 -- by what came out on `int`
 pub route_quiet : {E : Type 0} → TurnsTakeRows → WeldsKeepRows → (m : Moment) (proto : Proto) (n : ℕ) (turn : Turn Interior) (t : Treed) (m' : Moment) (before j now : Journaled) (result : Result Done E) → Stands m → turn ≡ Quiet
-    → IsTakenTree m.tree t (Rdel proto n) before j turn → IfOk result (Turned proto None (replanted m t m.registry) m' j now) → IfOk result (Comes (Rdel proto n) m m' before now)
+    → IsTakenTree m.tree t (Rdel proto n) before j turn → IfOk result (Turned proto None (with_rib m t m.registry) m' j now) → IfOk result (Comes (Rdel proto n) m m' before now)
 route_quiet take keep m proto n turn t m' before j now result stands is taken turned =
     let adds : Adds (SweepsTree m.tree t proto n None) before j = subst (IsTakenTree m.tree t (Rdel proto n) before j) is taken in
-    IfOk-weaker result (Turned proto None (replanted m t m.registry) m' j now) (Comes (Rdel proto n) m m' before now) (λ done. route_comes take keep m proto n None t m' before j now done stands adds) turned
+    IfOk-weaker result (Turned proto None (with_rib m t m.registry) m' j now) (Comes (Rdel proto n) m m' before now) (λ done. route_comes take keep m proto n None t m' before j now done stands adds) turned
 
 pub route_sent : {E : Type 0} → TurnsTakeRows → WeldsKeepRows → (m : Moment) (proto : Proto) (n : ℕ) (turn : Turn Interior) (change : Change Interior) (t : Treed) (m' : Moment) (before j now : Journaled) (result : Result Done E) → Stands m → turn ≡ Sent change
-    → IsTakenTree m.tree t (Rdel proto n) before j turn → IfOk result (Turned proto (Some change) (replanted m t m.registry) m' j now) → IfOk result (Comes (Rdel proto n) m m' before now)
+    → IsTakenTree m.tree t (Rdel proto n) before j turn → IfOk result (Turned proto (Some change) (with_rib m t m.registry) m' j now) → IfOk result (Comes (Rdel proto n) m m' before now)
 route_sent take keep m proto n turn change t m' before j now result stands is taken turned =
     let adds : Adds (SweepsTree m.tree t proto n (Some change)) before j = subst (IsTakenTree m.tree t (Rdel proto n) before j) is taken in
-    IfOk-weaker result (Turned proto (Some change) (replanted m t m.registry) m' j now) (Comes (Rdel proto n) m m' before now) (λ done. route_comes take keep m proto n (Some change) t m' before j now done stands adds) turned
+    IfOk-weaker result (Turned proto (Some change) (with_rib m t m.registry) m' j now) (Comes (Rdel proto n) m m' before now) (λ done. route_comes take keep m proto n (Some change) t m' before j now done stands adds) turned

@@ -34,11 +34,11 @@ use Rattle.rib_tree.specs.Falls.{way_of_route}
 use Rattle.in_chain.specs.Chains.{Chained}
 use Rattle.in_chain.specs.Incomings.{loss_entries, overdue_of}
 use Rattle.in_chain.specs.Steps.{new_chain, lost, refiltered}
-use Rattle.router_core.specs.Moments.{Moment, chain_at, insert_chain, with_chain, router_links, bound_of}
+use Rattle.router_core.specs.Moments.{with_rib, Moment, chain_at, insert_chain, with_chain, router_links, bound_of}
 use Rattle.router_core.specs.Lives.{LiveAfter, live_state, changes_of, Says}
 use Rattle.router_core.specs.Phases.{all_phases}
 use Rattle.router_core.specs.Scratch.{IsExact}
-use Rattle.router_core.specs.Turns.{journal_lines, FeedsAll, Replants, FallsRoute, Turns, Drains, RunsAll, IsSettled, has_work}
+use Rattle.router_core.specs.Turns.{journal_lines, FeedsAll, FallsRoute, Turns, Drains, RunsAll, IsSettled, has_work}
 
 -- exactly this is said, this is the moment after it, and no turn was taken
 abbrev pub Just : List Line → Moment → List Line → ℕ → Moment → Type 0
@@ -110,7 +110,7 @@ pub record LosesProtocol (proto : Proto) (m : Moment) (said : List Line) (m' : M
   pub room : Moment
   pub runs : RunsFirst (tree_overdue proto m.tree) m first room
   pub lines : said ≡ first ++ journal_lines (tree_loss_entries proto room.tree)
-  pub after : Replants (lost_tree proto room.tree) room m'
+  pub after : m' ≡ with_rib room (lost_tree proto room.tree) room.registry
 
 -- the longest interior route that holds the address, and the largest subnet with that answer
 pub record CoversAddress (addr : ℕ) (m : Moment) (said : List Line) : Type 0 where

@@ -64,6 +64,10 @@ insert_chain c (d ∷ ds) = if nat_lt c.incoming.number d.incoming.number then c
 abbrev pub with_chain : Moment → Chained → Moment
 with_chain m c = record m { chains = put_chain c m.chains }
 
+-- the interior routes and the register became these
+abbrev pub with_rib : Moment → Treed → Registry Interior → Moment
+with_rib m t r = record m { tree = t; registry = r }
+
 abbrev pub links_by : Option Chained → Links Value
 links_by None link = None
 links_by (Some c) link = links_of c link

@@ -34,7 +34,11 @@ use Rattle.rib_tree.specs.Trees.{Treed, branch_of, int_rows, tree_count, tree_ta
 use Rattle.rib_tree.specs.Steps.{welded_tree, swept_tree, tree_weld_entries, has_tree_turn}
 use Rattle.rib_tree.specs.Falls.{FallsTree, way_of_sweep}
 use Rattle.rib_tree.specs.Forwards.{forwarded}
-use Rattle.router_core.specs.Moments.{Moment, chain_at, with_chain, rows_in}
+use Rattle.prefix_trie.specs.Width.{width}
+use Rattle.register_interest.specs.declared.interests.Interest.{Interest}
+use Rattle.register_interest.specs.Interests.{AreReached, without}
+use Rattle.register_interest.specs.Registers.{Registry, put_row}
+use Rattle.router_core.specs.Moments.{with_rib, Moment, chain_at, with_chain, rows_in}
 
 abbrev pub journal_lines : List (Entry Value) → List Line
 journal_lines entries = map (λ e. lines.Journal e) entries
@@ -65,14 +69,16 @@ abbrev pub fib_entries : Option (Change FibRow) → List (Entry Value)
 fib_entries None = []
 fib_entries (Some change) = valued_change fib_value Fib change
 
--- the tree became this one, and nothing else changed but the register
-pub record Replants (tree : Treed) (m m' : Moment) : Type 0 where
-  pub tree_is : m'.tree ≡ tree
-  pub declared : m'.declared ≡ m.declared
-  pub chains : m'.chains ≡ m.chains
+-- What the register makes of a change of `int`, if one came out: it has the row, and the interests that the change reaches are
+-- given up; all else stays.
+abbrev pub Registers : Option (Change Interior) → Registry Interior → Registry Interior → Type 0
+Registers None r r' = r' ≡ r
+Registers (Some change) r r' =
+    (r'.rows ≡ put_row r.rows change.prefix change.after)
+    × (reached : List Interest) × AreReached width change.prefix (tables.get r.interests) reached × (r'.interests ≡ without r.interests reached)
 
--- A change of an interior route at a prefix made this of the tree: its messages go down to `int`, then `fib` follows, and
--- behind them stands the weld of the stage that it emptied, if any.
+-- A change of an interior route at a prefix made this of the tree: its messages go down to `int`, then the register and `fib`
+-- follow, and behind them stands the weld of the stage that it emptied, if any.
 pub record FallsRoute (m : Moment) (new : Treed) (proto : Proto) (p : Network) (way : List Link) (said : List Line) (m' : Moment) : Type 0 where
   pub sent : Option (Change Interior)
   pub entries : List (Entry Value)
@@ -81,7 +87,8 @@ pub record FallsRoute (m : Moment) (new : Treed) (proto : Proto) (p : Network) (
   pub below : Option (Change FibRow)
   pub fib : IsSent (forwarded (int_rows m.tree)) (forwarded (int_rows new)) p below
   pub lines : said ≡ journal_lines (entries ++ (fib_entries below ++ tree_weld_entries proto new))
-  pub after : Replants (welded_tree proto new) m m'
+  pub register : Registers sent m.registry m'.registry
+  pub after : m' ≡ with_rib m (welded_tree proto new) m'.registry
 
 -- the peer whose task it is
 abbrev pub peer_of : Task → ℕ

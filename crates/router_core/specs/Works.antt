@@ -30,7 +30,7 @@ use Rattle.rib_route.specs.declared.rows.Interior.{Interior}
 use Rattle.rib_tree.specs.Trees.{Treed, int_rows, IsTree, IsFull}
 use Rattle.rib_tree.specs.Falls.{LeadsTree}
 use Rattle.rib_tree.specs.Steps.{lost_tree, welded_tree, tree_overdue, tree_loss_entries, tree_weld_entries}
-use Rattle.router_core.specs.Moments.{Moment, chain_at, put_chain, with_chain, router_links, bound_of, Gives}
+use Rattle.router_core.specs.Moments.{with_rib, Moment, chain_at, put_chain, with_chain, router_links, bound_of, Gives}
 use Rattle.std.specs.FinMap as map
 use Rattle.journal_text.specs.declared.link.Link.{Link}
 use Rattle.router_core.specs.Lives.{LiveState, LiveAfter, live_state, live_fed, heard, ended, interior_lost}
@@ -38,9 +38,8 @@ use Rattle.router_core.specs.Stands.{Stands}
 use Rattle.router_core.specs.Scratch.{IsExact}
 use Rattle.router_core.specs.declared.router.Phase.{Phase}
 use Rattle.rib_route.specs.declared.rows.FibRow.{FibRow}
-use Rattle.register_interest.specs.Registers.{put_row}
 use Rattle.rib_tree.specs.Forwards.{ForwardsOn}
-use Rattle.router_core.specs.Turns.{fib_entries, journal_lines, fall_lines, FeedsAll, Replants, FallsRoute, peer_of, phase_of, IsTurn, Turns, Runs, RunsPhase, RunsAll, has_turn_in, has_work, phase_bound, IsOver, IsSettled}
+use Rattle.router_core.specs.Turns.{Registers, fib_entries, journal_lines, fall_lines, FeedsAll, FallsRoute, peer_of, phase_of, IsTurn, Turns, Runs, RunsPhase, RunsAll, has_turn_in, has_work, phase_bound, IsOver, IsSettled}
 use Rattle.router_core.specs.Phases.{all_phases, counts, frame_of, Spends}
 use Rattle.router_core.specs.Blocks.{RunsFirst, Loses, Hears, Idles, IsBlock, ended as ended_moment}
 use Rattle.router_core.specs.declared.router.Idle.{Idle}
@@ -262,7 +261,7 @@ pub record HasProtocolRoom (proto : Proto) (m room : Moment) (said : List Line) 
 -- the loss alone, where there is room
 pub record EndsProtocol (proto : Proto) (m m' : Moment) (said : List Line) : Type 0 where
   pub lines : said ≡ journal_lines (tree_loss_entries proto m.tree)
-  pub after : Replants (lost_tree proto m.tree) m m'
+  pub after : m' ≡ with_rib m (lost_tree proto m.tree) m.registry
   pub keeps : Keeps (interior_lost (live_state m) proto) m m' said
 
 -- what comes out on `fib`, by what came out on `int`
@@ -274,23 +273,18 @@ Forwards (Some change) below = ForwardsOn change below
 abbrev pub PushesForwarded : Change Interior → Journaled → Journaled → Type 0
 PushesForwarded change before now = (below : Option (Change FibRow)) × ForwardsOn change below × (now ≡ with_entries before (fib_entries below))
 
--- the rows of the register, by the same
-abbrev pub registered_after : map.FinMap prefix_cmp Interior → Option (Change Interior) → map.FinMap prefix_cmp Interior
-registered_after rows None = rows
-registered_after rows (Some change) = put_row rows change.prefix change.after
-
--- What follows a change that came out on `int`, if one did: the register has its row, and `fib` gets what the change makes of it.
+-- What follows a change that came out on `int`, if one did: the register takes it over, and `fib` gets what the change makes of it.
 pub record Follows (sent : Option (Change Interior)) (m m' : Moment) (before now : Journaled) : Type 0 where
-  pub after : Replants m.tree m m'
-  pub rows : m'.registry.rows ≡ registered_after m.registry.rows sent
+  pub register : Registers sent m.registry m'.registry
+  pub after : m' ≡ with_rib m m.tree m'.registry
   pub below : Option (Change FibRow)
   pub fib : Forwards sent below
   pub lines : now ≡ with_entries before (fib_entries below)
 
 -- the same, and behind it the stage of the protocol that was emptied goes, if there is one
 pub record Settles (proto : Proto) (sent : Option (Change Interior)) (m m' : Moment) (before now : Journaled) : Type 0 where
-  pub after : Replants (welded_tree proto m.tree) m m'
-  pub rows : m'.registry.rows ≡ registered_after m.registry.rows sent
+  pub register : Registers sent m.registry m'.registry
+  pub after : m' ≡ with_rib m (welded_tree proto m.tree) m'.registry
   pub below : Option (Change FibRow)
   pub fib : Forwards sent below
   pub lines : now ≡ with_entries before (fib_entries below ++ tree_weld_entries proto m.tree)

@@ -6,7 +6,6 @@ ghost use Rattle.event_text.specs.Declarations.{refusal};
 ghost use Rattle.journal_text.specs.declared.link.Task.TheVariants as tasks;
 ghost use Rattle.register_interest.specs.Covers.{matched};
 ghost use Rattle.register_interest.specs.Matches.{lent_match};
-ghost use Rattle.register_interest.specs.Registers.{put_row};
 ghost use Rattle.rib_tree.specs.Trees.{branch_of, AreNumbered, IsTree, IsFullBut};
 ghost use Rattle.rib_tree.specs.Steps.{fed_tree, tree_overdue};
 ghost use Rattle.rib_tree.specs.Falls.{way_of_route};
@@ -14,6 +13,7 @@ ghost use Rattle.router_core.specs.Moments.{Gives};
 ghost use Rattle.loss_chain.specs.Steps.{live_after};
 ghost use Rattle.router_core.specs.Lives.{live_state, interior_fed};
 ghost use Rattle.router_core.specs.Stands.{Stands};
+ghost use Rattle.router_core.specs.Turns.{Registers};
 ghost use Rattle.router_core.specs.Works.{Comes, Follows, Settles, Turned, PushesForwarded, HasRouted, HasProtocolRoom, EndsProtocol, HasStepped, Pushes};
 
 use crate::network::Network;
@@ -236,7 +236,7 @@ fn register(
     alloc: Global,
     change: &Change<Interior>,
 ) -> Result<(), Memory>
-    ensures { OnOk result (registry.new.rows ≡ put_row registry.old.rows change.now.prefix change.now.after) }
+    ensures { OnOk result (Registers (Some change.now) registry.old registry.new) }
 {
     match change.after {
         None => {
