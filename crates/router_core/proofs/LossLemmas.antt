@@ -29,7 +29,11 @@ use Rattle.router_core.specs.Moments.{Moment, chain_at, put_chain, Gives}
 use Rattle.router_core.specs.Lives.{Routes, live_state, with_routes, ended}
 use Rattle.router_core.specs.Stands.{AreInOrder, IsEarlier, PeerStands, StandsAt, Stands}
 use Rattle.router_core.specs.Turns.{journal_lines}
-use Rattle.router_core.specs.Works.{Pushes, Steps, IsPlace, LosesChain, HasRoom, IsSession, HasLost, Ends}
+use Rattle.router_core.specs.Works.{MayLoseAt, Pushes, Steps, IsPlace, LosesChain, HasRoom, IsSession, HasLost, Ends}
+use Rattle.std.specs.Prelude.{option_map}
+use Rattle.event_text.proofs.Sessions.{ended_words}
+use Rattle.router_core.proofs.PeerLemmas.{peer_at_map}
+use Rattle.router_core.proofs.TableLemmas.{few_lost, all_lost}
 use Rattle.router_core.proofs.ChainLemmas.{equal_by, number_at}
 use Rattle.router_core.proofs.LinkLemmas.{leads_router}
 use Rattle.router_core.proofs.StandLemmas.{remade, one_peer, peer_of, KeepsOthers, stands_put, live_routed}
@@ -63,46 +67,23 @@ loses_placed k s cs i c c' before now order place is f = (c, c', at_place k cs i
 abbrev down : DeclaredPeer → DeclaredPeer
 down p = record { words = p.words; session = p.session; up = false }
 
-ended_words : (k : ℕ) (p : DeclaredPeer) → (ended_at k p).words ≡ p.words
-ended_words k p = by_test (nat_eq p.words.number k)
+peer_number : (k : ℕ) (ps : List DeclaredPeer) (p : DeclaredPeer) → peer_at k ps ≡ Some p → nat_eq p.words.number k ≡ true
+peer_number k [] p at = absurd (cc)
+peer_number k (q ∷ qs) p at = by_test (nat_eq q.words.number k) refl (peer_number k qs p)
   where
-    by_test : (b : Bool) → (cond b (down p) p).words ≡ p.words
-    by_test true = refl
-    by_test false = refl
-
-peer_here : (k : ℕ) (p : DeclaredPeer) (ps : List DeclaredPeer) → nat_eq p.words.number k ≡ true → peer_at k (p ∷ ps) ≡ Some p
-peer_here k p ps e = ap (λ (b : Bool). cond b (Some p) (peer_at k ps)) e
-
-peer_past : (k : ℕ) (p : DeclaredPeer) (ps : List DeclaredPeer) → nat_eq p.words.number k ≡ false → peer_at k (p ∷ ps) ≡ peer_at k ps
-peer_past k p ps e = ap (λ (b : Bool). cond b (Some p) (peer_at k ps)) e
+    by_test : (b : Bool) → nat_eq q.words.number k ≡ b → (peer_at k qs ≡ Some p → nat_eq p.words.number k ≡ true) → nat_eq p.words.number k ≡ true
+    by_test true e rest = ap (λ (x : DeclaredPeer). nat_eq x.words.number k) (sym (one_peer q p (sym (ap (λ (b : Bool). cond b (Some q) (peer_at k qs)) e) ∙ at))) ∙ e
+    by_test false e rest = rest (sym (ap (λ (b : Bool). cond b (Some q) (peer_at k qs)) e) ∙ at)
 
 ended_same : (k : ℕ) (ps : List DeclaredPeer) (p : DeclaredPeer) → peer_at k ps ≡ Some p → peer_at k (map (ended_at k) ps) ≡ Some (down p)
-ended_same k [] p at = absurd (cc)
-ended_same k (q ∷ qs) p at = by_test (nat_eq q.words.number k) refl (ended_same k qs p)
-  where
-    number : (b : Bool) → nat_eq q.words.number k ≡ b → nat_eq (ended_at k q).words.number k ≡ b
-    number b e = ap (λ w. nat_eq w.number k) (ended_words k q) ∙ e
-
-    by_test : (b : Bool) → nat_eq q.words.number k ≡ b → (peer_at k qs ≡ Some p → peer_at k (map (ended_at k) qs) ≡ Some (down p)) → peer_at k (map (ended_at k) (q ∷ qs)) ≡ Some (down p)
-    by_test true e rest =
-        let same : q ≡ p = one_peer q p (sym (peer_here k q qs e) ∙ at) in
-        let is : ended_at k q ≡ down q = ap (λ (b : Bool). cond b (down q) q) e in
-        peer_here k (ended_at k q) (map (ended_at k) qs) (number true e) ∙ ap Some is ∙ ap (λ (x : DeclaredPeer). Some (down x)) same
-    by_test false e rest = peer_past k (ended_at k q) (map (ended_at k) qs) (number false e) ∙ rest (sym (peer_past k q qs e) ∙ at)
+ended_same k ps p at = peer_at_map (ended_at k) (ended_words k) k ps ∙ ap (option_map (ended_at k)) at ∙ ap (λ (b : Bool). Some (cond b (down p) p)) (peer_number k ps p at)
 
 ended_other : (k j : ℕ) (ps : List DeclaredPeer) → nat_eq j k ≡ false → peer_at j (map (ended_at k) ps) ≡ peer_at j ps
-ended_other k j [] other = refl
-ended_other k j (q ∷ qs) other = by_test (nat_eq q.words.number j) refl (ended_other k j qs other)
+ended_other k j ps other = peer_at_map (ended_at k) (ended_words k) j ps ∙ by_peer (peer_at j ps) refl
   where
-    number : (b : Bool) → nat_eq q.words.number j ≡ b → nat_eq (ended_at k q).words.number j ≡ b
-    number b e = ap (λ w. nat_eq w.number j) (ended_words k q) ∙ e
-
-    by_test : (b : Bool) → nat_eq q.words.number j ≡ b → peer_at j (map (ended_at k) qs) ≡ peer_at j qs → peer_at j (map (ended_at k) (q ∷ qs)) ≡ peer_at j (q ∷ qs)
-    by_test true e rest =
-        let same : q.words.number ≡ j = equal_by q.words.number j e in
-        let is : ended_at k q ≡ q = ap (λ (b : Bool). cond b (down q) q) (ap (λ (n : ℕ). nat_eq n k) same ∙ other) in
-        peer_here j (ended_at k q) (map (ended_at k) qs) (number true e) ∙ ap Some is ∙ sym (peer_here j q qs e)
-    by_test false e rest = peer_past j (ended_at k q) (map (ended_at k) qs) (number false e) ∙ rest ∙ sym (peer_past j q qs e)
+    by_peer : (o : Option DeclaredPeer) → peer_at j ps ≡ o → option_map (ended_at k) o ≡ o
+    by_peer None at = refl
+    by_peer (Some q) at = ap (λ (b : Bool). Some (cond b (down q) q)) (ap (λ (n : ℕ). nat_eq n k) (equal_by q.words.number j (peer_number j ps q at)) ∙ other)
 
 ended_length : (k : ℕ) (ps : List DeclaredPeer) → length (map (ended_at k) ps) ≡ length ps
 ended_length k [] = refl
@@ -113,57 +94,32 @@ low_of : (p : DeclaredPeer) (ds : List (Lost Attrs)) → AllByRecursion (λ d. I
 low_of p [] all = tt
 low_of p (d ∷ ds) all = (let lt : d.number < p.session = all.0 in omega arith, low_of p ds all.1)
 
-low_push : (n : ℕ) (ds : List (Lost Attrs)) (x : Lost Attrs) → AllByRecursion (λ d. d.number ≤ n) ds → x.number ≤ n → AllByRecursion (λ d. d.number ≤ n) (ds ++ x ∷ [])
-low_push n [] x all low = (low, tt)
-low_push n (d ∷ ds) x all low = (all.0, low_push n ds x all.1 low)
-
-pub up_as : (p : DeclaredPeer) (up : Bool) (ds : List (Lost Attrs)) → up ≡ true → AllByRecursion (λ d. IsEarlier p up d.number) ds → AllByRecursion (λ d. IsEarlier p true d.number) ds
+up_as : (p : DeclaredPeer) (up : Bool) (ds : List (Lost Attrs)) → up ≡ true → AllByRecursion (λ d. IsEarlier p up d.number) ds → AllByRecursion (λ d. IsEarlier p true d.number) ds
 up_as p true ds e all = all
 up_as p false ds e all = absurd (cc)
-
-none_of : (b : Bool) (o : Option Task) → cond b None o ≡ None → (task : Task) → o ≡ Some task → b ≡ true
-none_of true o e task some = refl
-none_of false o e task some = let s = some in absurd (cc)
-
-room_of : (c : Chained) → overdue_of c.incoming ≡ None → is_empty_map c.incoming.tables.live ≡ false → length c.incoming.tables.deletions < 16
-room_of c none full = by_stages c.incoming.tables.deletions refl
-  where
-    by_stages : (x : List (Lost Attrs)) → c.incoming.tables.deletions ≡ x → length c.incoming.tables.deletions < 16
-    by_stages [] is = let e : length c.incoming.tables.deletions ≡ 0 = ap length is in omega arith
-    by_stages (d ∷ ds) is =
-        let b = none_of (nat_lt (length c.incoming.tables.deletions) 16 || is_empty_map c.incoming.tables.live) (oldest_of (owners.Peer c.incoming.number) c.incoming.tables.deletions) none (Del c.incoming.number d.number) (ap (oldest_of (owners.Peer c.incoming.number)) is) in
-        let only : nat_lt (length c.incoming.tables.deletions) 16 ≡ true = left_of (nat_lt (length c.incoming.tables.deletions) 16) (is_empty_map c.incoming.tables.live) b full in
-        grind (arith, nat_tests)
-      where
-        left_of : (a b : Bool) → (a || b) ≡ true → b ≡ false → a ≡ true
-        left_of true b e f = refl
-        left_of false b e f = absurd (cc)
 
 lost_stands : (p : DeclaredPeer) (s : ℕ) (c : Chained) → p.up ≡ true → p.session ≡ s → PeerStands p c → overdue_of c.incoming ≡ None → IsChain (lost s c) → NoneEmpty (lost s c).incoming.tables.deletions → PeerStands (down p) (lost s c)
 lost_stands p s c up session stands room chain full = record {
   words = stands.words;
   chain = chain;
   full = full;
-  few = (by_test (is_empty_map c.incoming.tables.live) refl).0;
-  earlier = (by_test (is_empty_map c.incoming.tables.live) refl).1;
+  few = few_lost (owners.Peer c.incoming.number) s c.incoming.tables stands.few room;
+  earlier = all_lost (λ d. d.number ≤ p.session) s c.incoming.tables (low_of p c.incoming.tables.deletions (up_as p p.up c.incoming.tables.deletions up stands.earlier)) (omega (arith, session));
   silent = refl;
 }
-  where
-    low : AllByRecursion (λ d. d.number ≤ p.session) c.incoming.tables.deletions
-    low = low_of p c.incoming.tables.deletions (up_as p p.up c.incoming.tables.deletions up stands.earlier)
 
-    by_test : (b : Bool) → is_empty_map c.incoming.tables.live ≡ b → (length (lost s c).incoming.tables.deletions ≤ 16) × AllByRecursion (λ d. d.number ≤ p.session) (lost s c).incoming.tables.deletions
-    by_test true e =
-        let is : (lost s c).incoming.tables.deletions ≡ c.incoming.tables.deletions = ap (λ (b : Bool). cond b c.incoming.tables.deletions (c.incoming.tables.deletions ++ record { number = s; rows = c.incoming.tables.live } ∷ [])) e in
-        let n : length (lost s c).incoming.tables.deletions ≡ length c.incoming.tables.deletions = ap length is in
-        let was = stands.few in
-        (omega arith, subst (λ (ds : List (Lost Attrs)). AllByRecursion (λ d. d.number ≤ p.session) ds) (sym is) low)
-    by_test false e =
-        let is : (lost s c).incoming.tables.deletions ≡ c.incoming.tables.deletions ++ record { number = s; rows = c.incoming.tables.live } ∷ [] = ap (λ (b : Bool). cond b c.incoming.tables.deletions (c.incoming.tables.deletions ++ record { number = s; rows = c.incoming.tables.live } ∷ [])) e in
-        let n : length (lost s c).incoming.tables.deletions ≡ length (c.incoming.tables.deletions ++ record { number = s; rows = c.incoming.tables.live } ∷ []) = ap length is in
-        let m : length (c.incoming.tables.deletions ++ record { number = s; rows = c.incoming.tables.live } ∷ []) ≡ length c.incoming.tables.deletions + 1 = length-append c.incoming.tables.deletions (record { number = s; rows = c.incoming.tables.live } ∷ []) in
-        let was = room_of c room e in
-        (omega arith, subst (λ (ds : List (Lost Attrs)). AllByRecursion (λ d. d.number ≤ p.session) ds) (sym is) (low_push p.session c.incoming.tables.deletions (record { number = s; rows = c.incoming.tables.live }) low (omega arith)))
+-- a session that is up may be lost, where there is room
+pub may_lose_at : (k s : ℕ) (m : Moment) → Stands m → IsSession k s m → ((c : Chained) → chain_at k m.chains ≡ Some c → overdue_of c.incoming ≡ None) → MayLoseAt k s m.chains
+may_lose_at k s m stands up free c at =
+    let peer = peer_of m stands k c at in
+    let same : peer.0 ≡ up.0 = one_peer peer.0 up.0 (sym peer.1 ∙ up.1) in
+    let session : peer.0.session ≡ s = ap (λ (q : DeclaredPeer). q.session) same ∙ up.3 in
+    record {
+      chain = peer.2.chain;
+      full = peer.2.full;
+      room = free c at;
+      later = subst (λ (n : ℕ). AllByRecursion (λ d. d.number < n) c.incoming.tables.deletions) session (up_as peer.0 peer.0.up c.incoming.tables.deletions (ap (λ (q : DeclaredPeer). q.up) same ∙ up.2) peer.2.earlier);
+    }
 
 -- the loss in a peer's chain is one of the router
 pub ends_one : (k s : ℕ) (m : Moment) (c c' : Chained) (said : List Line) → Stands m → IsSession k s m → overdue_of c.incoming ≡ None → chain_at k m.chains ≡ Some c → LosesChain s c c' said

@@ -29,46 +29,11 @@ use Rattle.router_core.specs.Stands.{Stands, InteriorTree}
 use Rattle.router_core.specs.Turns.{journal_lines}
 use Rattle.router_core.specs.Works.{Pushes, EndsProtocol, HasProtocolRoom, HasStepped}
 use Rattle.router_core.proofs.RibLinks.{leads_above}
+use Rattle.router_core.proofs.TableLemmas.{few_lost}
 use Rattle.router_core.proofs.TreeParts.{put_all}
 use Rattle.router_core.proofs.RouteLemmas.{stands_replanted, live_lost}
 use Rattle.router_core.proofs.KeepLemmas.{keeps_then, gives_push}
 use Rattle.router_core.proofs.StandLemmas.{registered_rows}
-
--- ---- how many stages stand then
-left_of : (a b : Bool) → (a || b) ≡ true → b ≡ false → a ≡ true
-left_of true b e f = refl
-left_of false b e f = absurd (cc)
-
-none_of : (b : Bool) (o : Option Task) → cond b None o ≡ None → (task : Task) → o ≡ Some task → b ≡ true
-none_of true o e task some = refl
-none_of false o e task some = let s = some in absurd (cc)
-
-room_of : (b : Branch) → overdue_of b ≡ None → is_empty_map b.tables.live ≡ false → length b.tables.deletions < 16
-room_of b none full = by_stages b.tables.deletions refl
-  where
-    by_stages : (x : List (Lost Interior)) → b.tables.deletions ≡ x → length b.tables.deletions < 16
-    by_stages [] is = let e : length b.tables.deletions ≡ 0 = ap length is in omega arith
-    by_stages (d ∷ ds) is =
-        let test = none_of (nat_lt (length b.tables.deletions) 16 || is_empty_map b.tables.live) (oldest_of (owners.Origin b.proto) b.tables.deletions) none (Rdel b.proto d.number) (ap (oldest_of (owners.Origin b.proto)) is) in
-        let only : nat_lt (length b.tables.deletions) 16 ≡ true = left_of (nat_lt (length b.tables.deletions) 16) (is_empty_map b.tables.live) test full in
-        grind (arith, nat_tests)
-
-few_lost : (b : Branch) → length b.tables.deletions ≤ 16 → overdue_of b ≡ None → length (lost_branch b).tables.deletions ≤ 16
-few_lost b few none = by_test (is_empty_map b.tables.live) refl
-  where
-    last : Lost Interior
-    last = record { number = b.losses + 1; rows = b.tables.live }
-
-    more : List (Lost Interior)
-    more = b.tables.deletions ++ last ∷ []
-
-    by_test : (e : Bool) → is_empty_map b.tables.live ≡ e → length (lost_branch b).tables.deletions ≤ 16
-    by_test true e = let n : length (lost_branch b).tables.deletions ≡ length b.tables.deletions = ap (λ (x : Bool). length (cond x b.tables.deletions more)) e in omega (arith, n, few)
-    by_test false e =
-        let n : length (lost_branch b).tables.deletions ≡ length more = ap (λ (x : Bool). length (cond x b.tables.deletions more)) e in
-        let m : length more ≡ length b.tables.deletions + 1 = length-append b.tables.deletions (last ∷ []) in
-        let was = room_of b none e in
-        omega (arith, n, m, was)
 
 -- the loss alone
 pub protocol_ended : (proto : Proto) (m : Moment) (t : Treed) (before now : Journaled) → Stands m → tree_overdue proto m.tree ≡ None → IsSome m.declared.speaker → t ≡ lost_tree proto m.tree
@@ -84,7 +49,7 @@ protocol_ended proto m t before now stands free since is lines leads int tree fu
 
     few : (other : Proto) → length (branch_of other t).tables.deletions ≤ 16
     few = subst (λ (x : Treed). (other : Proto) → length (branch_of other x).tables.deletions ≤ 16) (sym is)
-        (put_all (λ (x : Branch). length x.tables.deletions ≤ 16) proto (lost_branch b) m.tree (few_lost b ((stands.own InteriorTree).few proto) free) (stands.own InteriorTree).few)
+        (put_all (λ (x : Branch). length x.tables.deletions ≤ 16) proto (lost_branch b) m.tree (few_lost (owners.Origin b.proto) (b.losses + 1) b.tables ((stands.own InteriorTree).few proto) free) (stands.own InteriorTree).few)
 
     by_speaker : (s : Option Speaker) → m.declared.speaker ≡ s → IsSome s → Pushes (EndsProtocol proto m (with_rib m t m.registry)) before now
     by_speaker None at some = absurd (let contra : false ≡ true = some in cc)

@@ -10,15 +10,9 @@ use Rattle.rib_tree.specs.Trees.{Treed}
 use Rattle.rib_route.specs.declared.rows.Interior.{Interior as Route}
 use Rattle.register_interest.specs.Registers.{Registry}
 use Rattle.router_core.specs.declared.regions.Region.{Region}
-use Rattle.router_core.specs.declared.regions.Region.TheVariants.{Inward, InteriorRoutes, Forward, Elsewhere}
+use Rattle.router_core.specs.declared.regions.Region.TheVariants.{Inward, InteriorRoutes, Forward}
 use Rattle.router_core.specs.Regions.{Sides, region_of, joined, with_side, LeadsIn}
 use Rattle.router_core.specs.Moments.{Moment, rib_by, peer_links, parts, router_links}
-
-pub with_side_here : (sides : Sides) (r : Region) (links : Links Value) → with_side sides r links r ≡ links
-with_side_here sides Inward links = refl
-with_side_here sides InteriorRoutes links = refl
-with_side_here sides Forward links = refl
-with_side_here sides Elsewhere links = refl
 
 -- a link, by its region
 pub in_region : (m : Moment) (link : Link) (r : Region) → region_of link ≡ r → router_links m link ≡ parts m r link

@@ -19,25 +19,15 @@ use Rattle.router_core.specs.Stands.{Stands}
 use Rattle.router_core.specs.Turns.{Turns, has_turn_in}
 use Rattle.router_core.specs.Blocks.{RunsFirst}
 use Rattle.router_core.specs.Works.{HasDrained, HasRoom}
-use Rattle.router_core.proofs.TableLemmas.{is_full, few_left, short_filter, stage_of, no_table}
+use Rattle.router_core.proofs.TableLemmas.{Shorter, shorter_none, shorter_more, free_of, stage_of, no_table}
 use Rattle.router_core.proofs.ChainLemmas.{same_by, one_of, number_at, chain_at_put_same}
 use Rattle.router_core.proofs.StandLemmas.{peer_of}
 use Rattle.router_core.proofs.KeepLemmas.{keeps_none, gives_none}
 
--- the stages of a chain after turns of one of them: fewer, where that one has gone
-record Shorter (k s : ℕ) (c : Chained) (m' : Moment) : Type 0 where
-  chain : Chained
-  at : chain_at k m'.chains ≡ Some chain
-  short : length chain.incoming.tables.deletions ≤ length c.incoming.tables.deletions
-  gone : (t : FinMap prefix_cmp Attrs) → table_of s c.incoming.tables.deletions ≡ Some t → table_of s chain.incoming.tables.deletions ≡ None → length chain.incoming.tables.deletions < length c.incoming.tables.deletions
-
-turns_shorter : (n k s : ℕ) (m : Moment) (c : Chained) (said : List Line) (m' : Moment) → chain_at k m.chains ≡ Some c → Turns n (Del k s) m said m' → Shorter k s c m'
-turns_shorter zero k s m c said m' at t = record {
-  chain = c;
-  at = ap (λ (x : Moment). chain_at k x.chains) t.1 ∙ at;
-  short = omega arith;
-  gone = λ table there none. let contra : Some table ≡ None = sym there ∙ none in absurd (cc);
-}
+-- the chain after turns of a stage, which may have gone
+turns_shorter : (n k s : ℕ) (m : Moment) (c : Chained) (said : List Line) (m' : Moment) → chain_at k m.chains ≡ Some c → Turns n (Del k s) m said m'
+    → (c' : Chained) × (chain_at k m'.chains ≡ Some c') × Shorter s c.incoming.tables.deletions c'.incoming.tables.deletions
+turns_shorter zero k s m c said m' at t = (c, ap (λ (x : Moment). chain_at k x.chains) t.1 ∙ at, shorter_none s c.incoming.tables.deletions)
 turns_shorter (suc n) k s m c said m' at t = by_rest (turns_shorter n k s t.2 c1 t.1 m' at1 t.4)
   where
     sweeps : Sweeps t.3.chain t.3.turned_chain s t.3.sent t.3.entries
@@ -49,30 +39,15 @@ turns_shorter (suc n) k s m c said m' at t = by_rest (turns_shorter n k s t.2 c1
     c1 : Chained
     c1 = welded (swept s p c)
 
-    same : t.3.chain ≡ c
-    same = one_of t.3.chain c (sym t.3.at ∙ at)
-
     is : t.2 ≡ with_chain m c1
-    is = t.3.after ∙ ap (λ (x : Chained). with_chain m (welded x)) (sweeps.after ∙ ap (swept s p) same)
+    is = t.3.after ∙ ap (λ (x : Chained). with_chain m (welded x)) (sweeps.after ∙ ap (swept s p) (one_of t.3.chain c (sym t.3.at ∙ at)))
 
     at1 : chain_at k t.2.chains ≡ Some c1
     at1 = ap (λ (x : Moment). chain_at k x.chains) is ∙ chain_at_put_same k m.chains c c1 at (number_at k m.chains c at)
 
-    by_rest : Shorter k s c1 m' → Shorter k s c m'
-    by_rest r = record {
-      chain = r.chain;
-      at = r.at;
-      short = let a = r.short in let b = few_left (swept_one s p) is_full c.incoming.tables.deletions in omega arith;
-      gone = λ table there none. by_table table there none (table_of s c1.incoming.tables.deletions) refl;
-    }
-      where
-        by_table : (table : FinMap prefix_cmp Attrs) → table_of s c.incoming.tables.deletions ≡ Some table → table_of s r.chain.incoming.tables.deletions ≡ None → (o : Option (FinMap prefix_cmp Attrs)) → table_of s c1.incoming.tables.deletions ≡ o
-            → length r.chain.incoming.tables.deletions < length c.incoming.tables.deletions
-        by_table table there none (Some x) e = let a = r.gone x e none in let b = few_left (swept_one s p) is_full c.incoming.tables.deletions in omega arith
-        by_table table there none None e = let a = r.short in let b = short_filter s p c.incoming.tables.deletions table there e in omega arith
-
-free_of : (c : Chained) → length c.incoming.tables.deletions < 16 → overdue_of c.incoming ≡ None
-free_of c below = let few : nat_lt (length c.incoming.tables.deletions) 16 ≡ true = grind (arith, nat_tests) in ap (λ (b : Bool). cond (b || is_empty_map c.incoming.tables.live) None (oldest_of (owners.Peer c.incoming.number) c.incoming.tables.deletions)) few
+    by_rest : (c' : Chained) × (chain_at k m'.chains ≡ Some c') × Shorter s c1.incoming.tables.deletions c'.incoming.tables.deletions
+        → (c' : Chained) × (chain_at k m'.chains ≡ Some c') × Shorter s c.incoming.tables.deletions c'.incoming.tables.deletions
+    by_rest r = (r.0, r.1, shorter_more s p c.incoming.tables.deletions r.0.incoming.tables.deletions r.2)
 
 drained_free : (k : ℕ) (m room : Moment) (c : Chained) (task : Task) (n : ℕ) (said : List Line) → Stands m → chain_at k m.chains ≡ Some c → overdue_of c.incoming ≡ Some task → HasDrained task m n room said
     → (c' : Chained) → chain_at k room.chains ≡ Some c' → overdue_of c'.incoming ≡ None
@@ -81,15 +56,15 @@ drained_free k m room c task n said stands at over d c' at' =
     let is : task ≡ Del k stage.0.number = stage.3 ∙ ap (λ (j : ℕ). Del j stage.0.number) (number_at k m.chains c at) in
     let drained : HasDrained (Del k stage.0.number) m n room said = subst (λ (t : Task). HasDrained t m n room said) is d in
     let r = turns_shorter n k stage.0.number m c said room at drained.run.taken in
-    let same : r.chain ≡ c' = one_of r.chain c' (sym r.at ∙ at') in
+    let same : r.0 ≡ c' = one_of r.0 c' (sym r.1 ∙ at') in
     let there : table_of stage.0.number c.incoming.tables.deletions ≡ Some stage.0.rows = ap (table_of stage.0.number) stage.2 ∙ ap (λ (b : Bool). cond b (Some stage.0.rows) (table_of stage.0.number stage.1)) (same_by stage.0.number stage.0.number refl) in
-    let own : nat_eq k r.chain.incoming.number ≡ true = same_by k r.chain.incoming.number (sym (number_at k room.chains r.chain r.at)) in
-    let none : table_of stage.0.number r.chain.incoming.tables.deletions ≡ None = no_table (table_of stage.0.number r.chain.incoming.tables.deletions)
-    (sym (ap (λ (b : Bool). b && is_some (table_of stage.0.number r.chain.incoming.tables.deletions)) own) ∙ sym (ap (has_turn_in (Del k stage.0.number)) r.at) ∙ drained.ended) in
-    let less = r.gone stage.0.rows there none in
+    let own : nat_eq k r.0.incoming.number ≡ true = same_by k r.0.incoming.number (sym (number_at k room.chains r.0 r.1)) in
+    let none : table_of stage.0.number r.0.incoming.tables.deletions ≡ None = no_table (table_of stage.0.number r.0.incoming.tables.deletions)
+    (sym (ap (λ (b : Bool). b && is_some (table_of stage.0.number r.0.incoming.tables.deletions)) own) ∙ sym (ap (has_turn_in (Del k stage.0.number)) r.1) ∙ drained.ended) in
+    let less = r.2.gone stage.0.rows there none in
     let few = (peer_of m stands k c at).2.few in
-    let len : length r.chain.incoming.tables.deletions ≡ length c'.incoming.tables.deletions = ap (λ (x : Chained). length x.incoming.tables.deletions) same in
-    free_of c' (omega arith)
+    let len : length r.0.incoming.tables.deletions ≡ length c'.incoming.tables.deletions = ap (λ (x : Chained). length x.incoming.tables.deletions) same in
+    free_of (owners.Peer c'.incoming.number) c'.incoming.tables (omega arith)
 
 pub room_drained : (k : ℕ) (m room : Moment) (c : Chained) (task : Task) (n : ℕ) (before now : Journaled) → Stands m → Some c ≡ chain_at k m.chains → Some task ≡ overdue_of c.incoming
     → Gives (HasDrained task m n room) before now → Gives (HasRoom k m room) before now

@@ -19,61 +19,29 @@ use Rattle.rib_tree.specs.Trees.{Treed, branch_of, put_branch}
 use Rattle.rib_tree.specs.Steps.{tree_overdue}
 use Rattle.router_core.specs.Moments.{Moment, Gives}
 use Rattle.router_core.specs.Stands.{Stands, InteriorTree}
-use Rattle.router_core.specs.Turns.{Turns, IsRouteTurn}
+use Rattle.deletion_stage.specs.Lost.{Lost}
+use Rattle.router_core.specs.Turns.{Turns}
 use Rattle.router_core.specs.Blocks.{RunsFirst}
 use Rattle.router_core.specs.Works.{HasDrained, HasProtocolRoom}
-use Rattle.router_core.proofs.TableLemmas.{is_full, few_left, short_filter, stage_of, no_table}
+use Rattle.router_core.proofs.TableLemmas.{is_full, Shorter, shorter_none, shorter_more, free_of, stage_of, no_table}
 use Rattle.router_core.proofs.ChainLemmas.{same_by}
 use Rattle.router_core.proofs.TreeParts.{put_here, welded_put}
 use Rattle.router_core.proofs.KeepLemmas.{keeps_none, gives_none}
 
--- the stages of a protocol after turns of one of them: fewer, where that one has gone
-record Shorter (proto : Proto) (n : ℕ) (m m' : Moment) : Type 0 where
-  short : length (branch_of proto m'.tree).tables.deletions ≤ length (branch_of proto m.tree).tables.deletions
-  gone : (t : FinMap prefix_cmp Interior) → table_of n (branch_of proto m.tree).tables.deletions ≡ Some t → table_of n (branch_of proto m'.tree).tables.deletions ≡ None
-      → length (branch_of proto m'.tree).tables.deletions < length (branch_of proto m.tree).tables.deletions
+abbrev stages : Proto → Moment → List (Lost Interior)
+stages proto m = (branch_of proto m.tree).tables.deletions
 
--- what a turn of the stage of a loss leaves of the branch
-swept_then : (m m' : Moment) (proto : Proto) (n : ℕ) (said : List Line) (turn : IsRouteTurn proto n m said m') → m'.tree ≡ put_branch proto (welded_branch (swept_branch n turn.prefix (branch_of proto m.tree))) m.tree
-swept_then m m' proto n said turn = ap (λ (x : Moment). x.tree) turn.falls.after ∙ welded_put proto (swept_branch n turn.prefix (branch_of proto m.tree)) m.tree
-
-turns_shorter : (turns : ℕ) (proto : Proto) (n : ℕ) (m : Moment) (said : List Line) (m' : Moment) → Turns turns (Rdel proto n) m said m' → Shorter proto n m m'
-turns_shorter zero proto n m said m' t = subst (Shorter proto n m) (sym t.1) (record {
-  short = omega arith;
-  gone = λ table there none. let contra : Some table ≡ None = sym there ∙ none in absurd (cc);
-})
-turns_shorter (suc k) proto n m said m' t = by_rest (turns_shorter k proto n t.2 t.1 m' t.4)
+-- the stages of a protocol after turns of one of them, which may have gone
+turns_shorter : (turns : ℕ) (proto : Proto) (n : ℕ) (m : Moment) (said : List Line) (m' : Moment) → Turns turns (Rdel proto n) m said m' → Shorter n (stages proto m) (stages proto m')
+turns_shorter zero proto n m said m' t = subst (λ (x : Moment). Shorter n (stages proto m) (stages proto x)) (sym t.1) (shorter_none n (stages proto m))
+turns_shorter (suc k) proto n m said m' t = shorter_more n t.3.prefix (stages proto m) (stages proto m') (subst (λ (ds : List (Lost Interior)). Shorter n ds (stages proto m')) swept (turns_shorter k proto n t.2 t.1 m' t.4))
   where
-    p : Network
-    p = t.3.prefix
-
     b : Branch
-    b = branch_of proto m.tree
+    b = swept_branch n t.3.prefix (branch_of proto m.tree)
 
-    stages : (branch_of proto t.2.tree).tables.deletions ≡ filter is_full (map (swept_one n p) b.tables.deletions)
-    stages = ap (λ (x : Treed). (branch_of proto x).tables.deletions) (swept_then m t.2 proto n t.0 t.3)
-        ∙ ap (λ (x : Branch). x.tables.deletions) (put_here proto (welded_branch (swept_branch n p b)) m.tree)
-
-    less : length (branch_of proto t.2.tree).tables.deletions ≤ length b.tables.deletions
-    less = let a = few_left (swept_one n p) is_full b.tables.deletions in let e : length (branch_of proto t.2.tree).tables.deletions ≡ length (filter is_full (map (swept_one n p) b.tables.deletions)) = ap length stages in omega (arith, a, e)
-
-    by_rest : Shorter proto n t.2 m' → Shorter proto n m m'
-    by_rest r = record {
-      short = let a = r.short in let c = less in omega (arith, a, c);
-      gone = λ table there none. by_table table there none (table_of n (branch_of proto t.2.tree).tables.deletions) refl;
-    }
-      where
-        by_table : (table : FinMap prefix_cmp Interior) → table_of n b.tables.deletions ≡ Some table → table_of n (branch_of proto m'.tree).tables.deletions ≡ None → (o : Option (FinMap prefix_cmp Interior))
-            → table_of n (branch_of proto t.2.tree).tables.deletions ≡ o → length (branch_of proto m'.tree).tables.deletions < length b.tables.deletions
-        by_table table there none (Some x) e = let a = r.gone x e none in let c = less in omega (arith, a, c)
-        by_table table there none None e =
-            let a = r.short in
-            let c = short_filter n p b.tables.deletions table there (sym (ap (table_of n) stages) ∙ e) in
-            let d : length (branch_of proto t.2.tree).tables.deletions ≡ length (filter is_full (map (swept_one n p) b.tables.deletions)) = ap length stages in
-            omega (arith, a, c, d)
-
-free_of : (b : Branch) → length b.tables.deletions < 16 → overdue_of b ≡ None
-free_of b below = let few : nat_lt (length b.tables.deletions) 16 ≡ true = grind (arith, nat_tests) in ap (λ (x : Bool). cond (x || is_empty_map b.tables.live) None (oldest_of (owners.Origin b.proto) b.tables.deletions)) few
+    swept : stages proto t.2 ≡ filter is_full (map (swept_one n t.3.prefix) (stages proto m))
+    swept = ap (stages proto) t.3.falls.after ∙ ap (λ (x : Treed). (branch_of proto x).tables.deletions) (welded_put proto b m.tree)
+        ∙ ap (λ (x : Branch). x.tables.deletions) (put_here proto (welded_branch b) m.tree)
 
 drained_free : (proto : Proto) (m room : Moment) (task : Task) (turns : ℕ) (said : List Line) → Stands m → tree_overdue proto m.tree ≡ Some task → HasDrained task m turns room said → tree_overdue proto room.tree ≡ None
 drained_free proto m room task turns said stands over d =
@@ -87,7 +55,7 @@ drained_free proto m room task turns said stands over d =
     let none : table_of n (branch_of proto room.tree).tables.deletions ≡ None = no_table (table_of n (branch_of proto room.tree).tables.deletions) drained.ended in
     let less = r.gone stage.0.rows there none in
     let few = (stands.own InteriorTree).few proto in
-    free_of (branch_of proto room.tree) (omega (arith, less, few))
+    free_of (owners.Origin (branch_of proto room.tree).proto) (branch_of proto room.tree).tables (omega (arith, less, few))
 
 pub protocol_room_drained : (proto : Proto) (m room : Moment) (task : Task) (turns : ℕ) (before now : Journaled) → Stands m → Some task ≡ tree_overdue proto m.tree → Gives (HasDrained task m turns room) before now
     → Gives (HasProtocolRoom proto m room) before now

@@ -70,21 +70,10 @@ route_dropped proto p m m' before j now has u is = gives_pushed (HasRouted m (fe
 -- what is set to what it is
 interior_same : (all : Proto → Interiors) (proto : Proto) (routes : Interiors) → routes ≡ all proto → (other : Proto) → with_interior all proto routes other ≡ all other
 interior_same all Connected routes same Connected = same
-interior_same all Connected routes same Static = refl
-interior_same all Connected routes same Ospf = refl
-interior_same all Connected routes same Rip = refl
-interior_same all Static routes same Connected = refl
 interior_same all Static routes same Static = same
-interior_same all Static routes same Ospf = refl
-interior_same all Static routes same Rip = refl
-interior_same all Ospf routes same Connected = refl
-interior_same all Ospf routes same Static = refl
 interior_same all Ospf routes same Ospf = same
-interior_same all Ospf routes same Rip = refl
-interior_same all Rip routes same Connected = refl
-interior_same all Rip routes same Static = refl
-interior_same all Rip routes same Ospf = refl
 interior_same all Rip routes same Rip = same
+interior_same all proto routes same other = refl
 
 none_there : (o : Option Interior) → is_some o ≡ false → o ≡ None
 none_there None e = refl

@@ -129,21 +129,10 @@ one_loss false empty n own same = omega arith
 
 same_protocol : (f : Proto → ℕ) (a b : Proto) → same_proto a b ≡ true → f b ≡ f a
 same_protocol f Connected Connected e = refl
-same_protocol f Connected Static e = absurd (cc)
-same_protocol f Connected Ospf e = absurd (cc)
-same_protocol f Connected Rip e = absurd (cc)
-same_protocol f Static Connected e = absurd (cc)
 same_protocol f Static Static e = refl
-same_protocol f Static Ospf e = absurd (cc)
-same_protocol f Static Rip e = absurd (cc)
-same_protocol f Ospf Connected e = absurd (cc)
-same_protocol f Ospf Static e = absurd (cc)
 same_protocol f Ospf Ospf e = refl
-same_protocol f Ospf Rip e = absurd (cc)
-same_protocol f Rip Connected e = absurd (cc)
-same_protocol f Rip Static e = absurd (cc)
-same_protocol f Rip Ospf e = absurd (cc)
 same_protocol f Rip Rip e = refl
+same_protocol f a b e = absurd (cc)
 
 pub losses_follow : (l : LiveState) (event : Event) (l' : LiveState) → LiveAfter l event l' → (proto : Proto) → l'.losses proto ≤ l.losses proto + 1
 losses_follow l Nothing l' after = same_losses l l' after

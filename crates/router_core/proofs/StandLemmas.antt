@@ -1,6 +1,7 @@
 -- What stands after a step of one chain, and what is live then.
 use Rattle.std.proofs.Common.{◌≡◌, ℕ, ◌+◌, Bool, true, false, cond, List, [], ◌∷◌, map, Option, Some, None, nat_eq, refl, sym, ap, subst, ◌∙◌, arith, length}
 use Rattle.std.specs.List.{AllByRecursion, filter}
+use Rattle.std.specs.Prelude.{IsSome, is_some}
 use Rattle.std.specs.FinMap as tables
 use Rattle.bgp_attr.specs.declared.attrs.Attrs.{Attrs}
 use Rattle.bgp_attr.specs.declared.speaker.Speaker.{Speaker}
@@ -47,6 +48,9 @@ chain_of (Some c) p stands = (c, refl, stands)
 
 pub chain_there : (m : Moment) → Stands m → (k : ℕ) (p : DeclaredPeer) → peer_at k m.declared.peers ≡ Some p → (c : Chained) × (chain_at k m.chains ≡ Some c) × PeerStands p c
 chain_there m stands k p at = chain_of (chain_at k m.chains) p (subst (λ (o : Option DeclaredPeer). StandsAt o (chain_at k m.chains)) at (stands.own EachPeer k))
+
+pub chain_is_there : (m : Moment) → Stands m → (k : ℕ) (p : DeclaredPeer) → peer_at k m.declared.peers ≡ Some p → IsSome (chain_at k m.chains)
+chain_is_there m stands k p at = ap is_some (chain_there m stands k p at).1
 
 -- ---- all peers
 pub speaker_at : (m : Moment) → Stands m → (k : ℕ) (c : Chained) → chain_at k m.chains ≡ Some c → m.declared.speaker ≡ Some c.me

@@ -1,5 +1,5 @@
 -- Lost tables, after a turn of one of them and a weld.
-use Rattle.std.proofs.Common.{◌≡◌, ℕ, ◌<◌, ◌≤◌, Bool, true, false, cond, not, List, [], ◌∷◌, map, length, Option, Some, None, is_some, nat_eq, refl, sym, ap, ◌∙◌, arith, suc}
+use Rattle.std.proofs.Common.{◌≡◌, ℕ, ◌+◌, ◌||◌, ◌++◌, nat_lt, length-append, ◌<◌, ◌≤◌, Bool, true, false, cond, not, List, [], ◌∷◌, map, length, Option, Some, None, is_some, nat_eq, refl, sym, ap, ◌∙◌, arith, suc}
 use Rattle.std.specs.List.{AllByRecursion, filter}
 use Rattle.std.specs.FinMap.{FinMap}
 use Rattle.addr4.specs.Prefixes.{Network, prefix_cmp}
@@ -8,8 +8,9 @@ use Rattle.deletion_stage.specs.Lost.{Lost}
 use Rattle.journal_text.specs.declared.link.Task.{Task}
 use Rattle.loss_chain.specs.declared.owner.Owner.{Owner}
 use Rattle.loss_chain.specs.Owners.{loss_task}
-use Rattle.loss_chain.specs.Tables.{NoneEmpty}
-use Rattle.loss_chain.specs.Steps.{without, swept_one, table_of, oldest_of}
+use Rattle.std.proofs.lemmas.Bool.Decides.{nat_tests}
+use Rattle.loss_chain.specs.Tables.{Tables, NoneEmpty}
+use Rattle.loss_chain.specs.Steps.{without, swept_one, table_of, oldest_of, overdue_of, lost_tables}
 use Rattle.router_core.proofs.ChainLemmas.{same_by, other_by, both}
 
 pub no_table : {A : Type 0} (o : Option A) → is_some o ≡ false → o ≡ None
@@ -118,3 +119,72 @@ module _ {R : Type 0} where
   stage_of true o ds task e = absurd (cc)
   stage_of false o [] task e = absurd (cc)
   stage_of false o (d ∷ ds) task e = (d, ds, refl, cc)
+
+-- ---- a stage that goes
+-- no more stages than before, and fewer where this one has gone
+pub record Shorter {R : Type 0} (n : ℕ) (ds ds' : List (Lost R)) : Type 0 where
+  pub short : length ds' ≤ length ds
+  pub gone : (t : FinMap prefix_cmp R) → table_of n ds ≡ Some t → table_of n ds' ≡ None → length ds' < length ds
+
+left_of : (a b : Bool) → (a || b) ≡ true → b ≡ false → a ≡ true
+left_of true b e f = refl
+left_of false b e f = absurd (cc)
+
+none_of : (b : Bool) (o : Option Task) → cond b None o ≡ None → (task : Task) → o ≡ Some task → b ≡ true
+none_of true o e task some = refl
+none_of false o e task some = let s = some in absurd (cc)
+
+module _ {R : Type 0} where
+  pub shorter_none : (n : ℕ) (ds : List (Lost R)) → Shorter n ds ds
+  shorter_none n ds = record { short = omega arith; gone = λ t there none. let contra : Some t ≡ None = sym there ∙ none in absurd (cc) }
+
+  pub shorter_more : (n : ℕ) (p : Network) (ds ds' : List (Lost R)) → Shorter n (filter is_full (map (swept_one n p) ds)) ds' → Shorter n ds ds'
+  shorter_more n p ds ds' r = record {
+    short = let a = r.short in let b = few_left (swept_one n p) is_full ds in omega (arith, a, b);
+    gone = λ t there none. by_table t there none (table_of n (filter is_full (map (swept_one n p) ds))) refl;
+  }
+    where
+      by_table : (t : FinMap prefix_cmp R) → table_of n ds ≡ Some t → table_of n ds' ≡ None → (o : Option (FinMap prefix_cmp R)) → table_of n (filter is_full (map (swept_one n p) ds)) ≡ o → length ds' < length ds
+      by_table t there none (Some x) e = let a = r.gone x e none in let b = few_left (swept_one n p) is_full ds in omega (arith, a, b)
+      by_table t there none None e = let a = r.short in let b = short_filter n p ds t there e in omega (arith, a, b)
+
+  -- where 16 stages don't stand, none is overdue; and where none is, and rows are live, fewer stand
+  pub free_of : (o : Owner) (t : Tables R) → length t.deletions < 16 → overdue_of o t ≡ None
+  free_of o t below = let few : nat_lt (length t.deletions) 16 ≡ true = grind (arith, nat_tests) in ap (λ (b : Bool). cond (b || is_empty_map t.live) None (oldest_of o t.deletions)) few
+
+  room_of : (o : Owner) (t : Tables R) → overdue_of o t ≡ None → is_empty_map t.live ≡ false → length t.deletions < 16
+  room_of o t none full = by_stages t.deletions refl
+    where
+      by_stages : (x : List (Lost R)) → t.deletions ≡ x → length t.deletions < 16
+      by_stages [] is = let e : length t.deletions ≡ 0 = ap length is in omega arith
+      by_stages (d ∷ ds) is =
+          let test = none_of (nat_lt (length t.deletions) 16 || is_empty_map t.live) (oldest_of o t.deletions) none (loss_task o d.number) (ap (oldest_of o) is) in
+          let only : nat_lt (length t.deletions) 16 ≡ true = left_of (nat_lt (length t.deletions) 16) (is_empty_map t.live) test full in
+          grind (arith, nat_tests)
+
+  -- a loss makes no more than 16
+  pub few_lost : (o : Owner) (n : ℕ) (t : Tables R) → length t.deletions ≤ 16 → overdue_of o t ≡ None → length (lost_tables n t).deletions ≤ 16
+  few_lost o n t few none = by_test (is_empty_map t.live) refl
+    where
+      more : List (Lost R)
+      more = t.deletions ++ record { number = n; rows = t.live } ∷ []
+
+      by_test : (e : Bool) → is_empty_map t.live ≡ e → length (lost_tables n t).deletions ≤ 16
+      by_test true e = let k : length (lost_tables n t).deletions ≡ length t.deletions = ap (λ (x : Bool). length (cond x t.deletions more)) e in omega (arith, k, few)
+      by_test false e =
+          let k : length (lost_tables n t).deletions ≡ length more = ap (λ (x : Bool). length (cond x t.deletions more)) e in
+          let m : length more ≡ length t.deletions + 1 = length-append t.deletions (record { number = n; rows = t.live } ∷ []) in
+          let was = room_of o t none e in
+          omega (arith, k, m, was)
+
+  -- what holds of the tables, and of the one that a loss adds, holds of all after it
+  pub all_lost : (P : Lost R → Type 0) (n : ℕ) (t : Tables R) → AllByRecursion P t.deletions → P (record { number = n; rows = t.live }) → AllByRecursion P (lost_tables n t).deletions
+  all_lost P n t all one = by_test (is_empty_map t.live)
+    where
+      push : (ds : List (Lost R)) → AllByRecursion P ds → AllByRecursion P (ds ++ record { number = n; rows = t.live } ∷ [])
+      push [] all = (one, tt)
+      push (d ∷ ds) all = (all.0, push ds all.1)
+
+      by_test : (e : Bool) → AllByRecursion P (cond e t.deletions (t.deletions ++ record { number = n; rows = t.live } ∷ []))
+      by_test true = all
+      by_test false = push t.deletions all

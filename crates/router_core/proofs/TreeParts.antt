@@ -1,5 +1,5 @@
 -- A tree with another branch for one protocol.
-use Rattle.std.proofs.Common.{◌≡◌, cond, refl, ◌∙◌}
+use Rattle.std.proofs.Common.{true, false, ◌≡◌, cond, refl, ◌∙◌, Bool, subst, sym}
 use Rattle.rib_route.specs.declared.Proto.{Proto}
 use Rattle.rib_route.specs.declared.Proto.TheVariants.{Connected, Static, Ospf, Rip}
 use Rattle.rib_tree.specs.Branches.{Branch}
@@ -30,52 +30,18 @@ welded_put Rip b t = refl
 -- what is seen of each branch, where one was put
 pub put_seen : {A : Type 0} (f : Branch → A) (proto other : Proto) (b : Branch) (t : Treed) → f (branch_of other (put_branch proto b t)) ≡ cond (same_proto other proto) (f b) (f (branch_of other t))
 put_seen f Connected Connected b t = refl
-put_seen f Connected Static b t = refl
-put_seen f Connected Ospf b t = refl
-put_seen f Connected Rip b t = refl
-put_seen f Static Connected b t = refl
 put_seen f Static Static b t = refl
-put_seen f Static Ospf b t = refl
-put_seen f Static Rip b t = refl
-put_seen f Ospf Connected b t = refl
-put_seen f Ospf Static b t = refl
 put_seen f Ospf Ospf b t = refl
-put_seen f Ospf Rip b t = refl
-put_seen f Rip Connected b t = refl
-put_seen f Rip Static b t = refl
-put_seen f Rip Ospf b t = refl
 put_seen f Rip Rip b t = refl
+put_seen f proto other b t = refl
 
 -- what holds of the branch that was put, and of the others
 pub put_all : (P : Branch → Type 0) (proto : Proto) (b : Branch) (t : Treed) → P b → ((other : Proto) → P (branch_of other t)) → (other : Proto) → P (branch_of other (put_branch proto b t))
-put_all P proto b t own each Connected = by proto
+put_all P proto b t own each other = subst P (sym (put_seen (λ x. x) proto other b t)) (by_test (same_proto other proto))
   where
-    by : (proto : Proto) → P (branch_of Connected (put_branch proto b t))
-    by Connected = own
-    by Static = each Connected
-    by Ospf = each Connected
-    by Rip = each Connected
-put_all P proto b t own each Static = by proto
-  where
-    by : (proto : Proto) → P (branch_of Static (put_branch proto b t))
-    by Connected = each Static
-    by Static = own
-    by Ospf = each Static
-    by Rip = each Static
-put_all P proto b t own each Ospf = by proto
-  where
-    by : (proto : Proto) → P (branch_of Ospf (put_branch proto b t))
-    by Connected = each Ospf
-    by Static = each Ospf
-    by Ospf = own
-    by Rip = each Ospf
-put_all P proto b t own each Rip = by proto
-  where
-    by : (proto : Proto) → P (branch_of Rip (put_branch proto b t))
-    by Connected = each Rip
-    by Static = each Rip
-    by Ospf = each Rip
-    by Rip = own
+    by_test : (s : Bool) → P (cond s b (branch_of other t))
+    by_test true = own
+    by_test false = each other
 
 -- what the branch that was put has as the one before
 pub put_kept : {A : Type 0} (f : Branch → A) (proto : Proto) (b : Branch) (t : Treed) → f b ≡ f (branch_of proto t) → (other : Proto) → f (branch_of other (put_branch proto b t)) ≡ f (branch_of other t)
@@ -83,20 +49,7 @@ put_kept f proto b t same other = put_seen f proto other b t ∙ by proto other 
   where
     by : (proto other : Proto) → f b ≡ f (branch_of proto t) → cond (same_proto other proto) (f b) (f (branch_of other t)) ≡ f (branch_of other t)
     by Connected Connected same = same
-    by Connected Static same = refl
-    by Connected Ospf same = refl
-    by Connected Rip same = refl
-    by Static Connected same = refl
     by Static Static same = same
-    by Static Ospf same = refl
-    by Static Rip same = refl
-    by Ospf Connected same = refl
-    by Ospf Static same = refl
     by Ospf Ospf same = same
-    by Ospf Rip same = refl
-    by Rip Connected same = refl
-    by Rip Static same = refl
-    by Rip Ospf same = refl
     by Rip Rip same = same
-
--- ---- how many stages there are
+    by a o same = refl

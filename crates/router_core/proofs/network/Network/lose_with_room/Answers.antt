@@ -1,3 +1,8 @@
+use Rattle.router_core.specs.Stands.{AreInOrder, Order}
+use Rattle.std.specs.Prelude.{IsSome}
+use Rattle.router_core.specs.Works.{MayLoseAt}
+use Rattle.router_core.proofs.LossLemmas.{may_lose_at}
+use Rattle.router_core.proofs.StandLemmas.{chain_is_there}
 use Rattle.std.proofs.Common.{◌≡◌, Some, None, subst, sym}
 use Rattle.event_text.specs.Declarations.{Declaration}
 use Rattle.in_chain.specs.Chains.{Chained}
@@ -7,6 +12,17 @@ use Rattle.router_core.specs.Stands.{Stands}
 use Rattle.router_core.specs.Works.{Pushes, Ends, IsSession}
 use Rattle.router_core.proofs.LossLemmas.{one_ended}
 use Rattle.router_core.proofs.network.Network.lose_with_room.Goals as goal
+
+pub lose_at-requires-clause-order : goal.lose_at-requires-clause-order
+lose_at-requires-clause-order c = subst (λ (m : Moment). AreInOrder m.chains) (sym c.self.view_is) (c.requires.stands.own Order)
+
+pub lose_at-requires-clause-there : goal.lose_at-requires-clause-there
+lose_at-requires-clause-there c =
+    subst (λ (m : Moment). IsSome (chain_at c.args.number m.chains)) (sym c.self.view_is) (chain_is_there c.args.self.now c.requires.stands c.args.number c.requires.up.0 c.requires.up.1)
+
+pub lose_at-requires-clause-may : goal.lose_at-requires-clause-may
+lose_at-requires-clause-may c =
+    subst (λ (m : Moment). MayLoseAt c.args.number c.args.session m.chains) (sym c.self.view_is) (may_lose_at c.args.number c.args.session c.args.self.now c.requires.stands c.requires.up c.requires.free)
 
 pub returns : goal.returns
 returns c =

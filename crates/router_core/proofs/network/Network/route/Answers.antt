@@ -1,3 +1,5 @@
+use Rattle.router_core.specs.Stands.{InteriorTree}
+use Rattle.rib_tree.specs.Trees.{IsTree, IsFull}
 use Rattle.std.proofs.Common.{◌≡◌, Option, IsSome, subst, sym, None, Some}
 use Rattle.rib_route.specs.declared.rows.Interior.{Interior}
 use Rattle.loss_chain.specs.Steps.{live_after}
@@ -10,6 +12,18 @@ use Rattle.router_core.specs.Stands.{Stands}
 use Rattle.router_core.specs.Works.{Pushes, HasRouted}
 use Rattle.router_core.proofs.RouteLemmas.{routed_since}
 use Rattle.router_core.proofs.network.Network.route.Goals as goal
+
+pub feed-requires-clause-tree : goal.feed-requires-clause-tree
+feed-requires-clause-tree c = subst (λ (m : Moment). IsTree m.tree) (sym c.self.view_is) (c.requires.stands.own InteriorTree).tree
+
+pub feed-requires-clause-full : goal.feed-requires-clause-full
+feed-requires-clause-full c = subst (λ (m : Moment). IsFull m.tree) (sym c.self.view_is) (c.requires.stands.own InteriorTree).full
+
+pub feed-requires-in-Some-clause-tree : goal.feed-requires-in-Some-clause-tree
+feed-requires-in-Some-clause-tree c = subst (λ (m : Moment). IsTree m.tree) (sym c.self-in-Some.view_is) (c.requires.stands.own InteriorTree).tree
+
+pub feed-requires-in-Some-clause-full : goal.feed-requires-in-Some-clause-full
+feed-requires-in-Some-clause-full c = subst (λ (m : Moment). IsFull m.tree) (sym c.self-in-Some.view_is) (c.requires.stands.own InteriorTree).full
 
 pub returns-in_ok-settle-in-None : goal.returns-in_ok-settle-in-None
 returns-in_ok-settle-in-None c =

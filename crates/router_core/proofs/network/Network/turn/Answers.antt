@@ -1,3 +1,7 @@
+use Rattle.router_core.specs.Stands.{AreInOrder, Order}
+use Rattle.router_core.specs.Turns.{peer_of}
+use Rattle.router_core.specs.Works.{IsSoundAt}
+use Rattle.router_core.proofs.StandLemmas.{sound_at}
 use Rattle.std.proofs.Common.{subst, sym}
 use Rattle.router_core.specs.declared.router.Done.{Done}
 use Rattle.router_core.specs.declared.router.Done.TheVariants.{Taken}
@@ -6,6 +10,12 @@ use Rattle.router_core.specs.Stands.{Stands}
 use Rattle.router_core.specs.Works.{Comes, TurnsAt}
 use Rattle.router_core.proofs.UnitLemmas.{comes_taken}
 use Rattle.router_core.proofs.network.Network.turn.Goals as goal
+
+pub turn_at-requires : goal.turn_at-requires
+turn_at-requires c = record {
+  order = subst (λ (m : Moment). AreInOrder m.chains) (sym c.self.view_is) (c.requires.own Order);
+  sound = subst (λ (m : Moment). IsSoundAt (peer_of c.args.task) m.chains) (sym c.self.view_is) (sound_at c.args.self.now c.requires (peer_of c.args.task));
+}
 
 pub returns : goal.returns
 returns c =

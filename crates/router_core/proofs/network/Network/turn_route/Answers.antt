@@ -1,3 +1,5 @@
+use Rattle.router_core.specs.Stands.{InteriorTree}
+use Rattle.rib_tree.specs.Trees.{IsTree, IsFull}
 use Rattle.std.proofs.Common.{IfOk, sym, subst}
 use Rattle.journal_text.specs.declared.link.Task.TheVariants as tasks
 use Rattle.router_core.specs.Works.{Comes}
@@ -6,6 +8,12 @@ use Rattle.router_core.specs.Stands.{Stands}
 use Rattle.router_core.proofs.RouteTurns.{route_quiet, route_sent}
 use Rattle.router_core.proofs.network.Network.turn_route.Goals as goal
 use Rattle.link_change.specs.declared.turn.Turn.TheVariants.{Quiet, Sent}
+
+pub unit-requires-clause-tree : goal.unit-requires-clause-tree
+unit-requires-clause-tree c = subst (λ (m : Moment). IsTree m.tree) (sym c.self.view_is) (c.requires.own InteriorTree).tree
+
+pub unit-requires-clause-full : goal.unit-requires-clause-full
+unit-requires-clause-full c = subst (λ (m : Moment). IsFull m.tree) (sym c.self.view_is) (c.requires.own InteriorTree).full
 
 pub returns-in-Quiet : goal.returns-in-Quiet
 returns-in-Quiet c =
