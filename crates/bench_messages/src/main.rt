@@ -1,6 +1,6 @@
 //! Measures the reading of messages: reads lines `bgp K HEX` of an event file from standard input and reads each message.
 //!
-//! It prints how many messages were read and how many prefixes they withdraw and announce. `bench/messages.py` runs it and
+//! It prints how many messages were read and how many prefixes they withdraw and announce. `bench/all.py` runs it and
 //! measures.
 #![tactic(auto)]
 

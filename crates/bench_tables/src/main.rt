@@ -2,7 +2,7 @@
 //!
 //! Words: `trie`, `table` or `map`; the number of prefixes; how many of the steps are done: 1 puts, 2 gets, 3 longest
 //! matches (of a table: gets again), 4 a walk over all rows during which others are removed, before and behind, 5 removals. It
-//! prints a checksum, the same for a trie and a map. `bench/tables.py` runs it and measures.
+//! prints a checksum, the same for a trie and a map. `bench/all.py` runs it and measures.
 #![tactic(auto)]
 
 mod stores;

@@ -17,3 +17,5 @@ pub mod TypeLaws
 pub mod ReadableLaws
 pub mod ReadableMessages
 pub mod JudgedTypes
+pub mod NoticeSizes
+pub mod SpelledLengths

@@ -9,3 +9,5 @@ pub mod Grammar
 pub mod Found
 pub mod Spelling
 pub mod Readable
+pub mod Lengths
+pub mod Notices

@@ -1,10 +1,12 @@
 //! What holds of all octets.
 
-ghost use Rattle.std.specs.Prelude.{◌≡◌, Bool, List, ℕ};
+ghost use Rattle.std.specs.Prelude.{◌≡◌, Bool, List, Some, ℕ};
 ghost use Rattle.bgp_attr.specs.declared.speaker.Profile.{Profile};
 ghost use Rattle.bgp_wire.specs.Faults.{err_of};
 ghost use Rattle.bgp_wire.specs.Updates.{content_at, fault};
 ghost use Rattle.bgp_wire.specs.Grammar.{OneAnswer};
+ghost use Rattle.bgp_wire.specs.Notices.{FitsMessage};
+ghost use Rattle.bgp_wire.specs.declared.notice.Notice.{Notice};
 
 /// Each list of octets is one message, or has a first fault, and not both.
 pub fn one_of_message_and_fault()
@@ -14,4 +16,9 @@ pub fn one_of_message_and_fault()
 /// The first fault is the same from an internal and an external peer.
 pub fn one_fault_for_both()
     ensures { (p : Profile) (external : Bool) (bytes : List ℕ) → err_of (content_at p external bytes) ≡ fault p bytes }
+{}
+
+/// The NOTIFICATION that answers a fault fits into a message.
+pub fn notices_fit()
+    ensures { (p : Profile) (bytes : List ℕ) (n : Notice) → fault p bytes ≡ Some n → FitsMessage n }
 {}

@@ -11,6 +11,8 @@
 //! `revised` an UPDATE whose attributes have a fault is a withdraw, in the manner of RFC 7606.
 //!
 //! [`write_update`] and [`write_notification`] give the one spelling of a message (`update_octets`, `notification_octets`).
+//! [`write_announcement`] and [`write_withdrawal`] give that of an UPDATE of one prefix, from attributes that are lent. How many
+//! octets it has is told without writing it ([`announcement_length`]), also of attributes that no message can hold.
 //! What a peer can read as it is said is said in `specs/Readable`: all that [`read_message`] answers is so. That what is
 //! written is read as it was, the crate `wire_laws` says.
 #![tactic(auto)]
@@ -27,8 +29,11 @@ mod prefixes;
 mod reading;
 mod writing;
 
-pub use laws::{one_fault_for_both, one_of_message_and_fault};
+pub use laws::{notices_fit, one_fault_for_both, one_of_message_and_fault};
 pub use message::{Message, Prefixes, Update};
 pub use notice::Notice;
 pub use reading::read_message;
-pub use writing::{write_notification, write_update};
+pub use writing::{
+    announcement_fits, announcement_length, attributes_length, write_announcement,
+    write_notification, write_update, write_withdrawal,
+};

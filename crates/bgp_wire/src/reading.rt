@@ -9,6 +9,7 @@ ghost use Rattle.bgp_wire.specs.Faults.{Gives};
 ghost use Rattle.bgp_wire.specs.Found.{missing_from, lacks_from, attrs_from, update_of};
 ghost use Rattle.bgp_wire.specs.Updates.{reading_at, content_at};
 ghost use Rattle.bgp_wire.specs.Grammar.{without, GivesUpdate, GivesMessage, Answers};
+ghost use Rattle.bgp_wire.specs.Notices.{HasShortNotice};
 ghost use Rattle.bgp_wire.specs.Readable.{IsReadableMessage};
 
 use crate::attributes::{AS_PATH, NEXT_HOP, ORIGIN};
@@ -211,6 +212,8 @@ pub fn read_message(
     ensures answer { IfOk result (λ m. Answers profile external bytes.now m) }
     // What it says of routes can be said again.
     ensures readable { IfOk result (IsReadableMessage profile external) }
+    // The NOTIFICATION that answers a fault has at most 4,096 octets.
+    ensures short { IfOk result HasShortNotice }
     // There is no other.
     ensures only { (m : Answer) → Answers profile external bytes.now m → IfOk result (λ answer. answer ≡ m) }
 {

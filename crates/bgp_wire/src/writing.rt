@@ -1,19 +1,23 @@
 //! Messages that are written.
 
-ghost use Rattle.std.specs.Prelude.{◌≡◌, ◌+◌, ◌≤◌, ◌<◌, length, replicate, IfOk, OnOk, MatchOption, ◌++◌, ◌∷◌, []};
-ghost use Rattle.std.specs.Option.{ForSome};
+ghost use Rattle.std.specs.Prelude.{◌≡◌, ◌+◌, ◌≤◌, ◌<◌, length, replicate, IfOk, OnOk, MatchOption, ◌++◌, ◌∷◌, [], Bool};
+ghost use Rattle.std.specs.Option.{ForSome, option_copied};
 ghost use Rattle.byteorder.specs.Endian.{big_bytes};
 ghost use Rattle.bgp_wire.specs.Spelling.{FitsAttrs, fields_octets, framed, notification_octets, prefixes_octets, attrs_octets, update_octets};
+ghost use Rattle.bgp_wire.specs.Readable.{announcement, withdrawal};
 
 mod attributes;
+mod lengths;
 mod numbers;
 
 use crate::header::{LONGEST, NOTIFICATION, UPDATE};
-use crate::message::{Prefixes, Update};
+use crate::message::Update;
 use crate::writing::attributes::push_attrs;
+use crate::writing::lengths::prefixes_length;
 use crate::writing::numbers::{push_prefix, push_u16};
-use addr4::Memory;
+use addr4::{Memory, Prefix};
 use bgp_attr::{Attrs, Profile};
+pub use lengths::{announcement_fits, announcement_length, attributes_length};
 use std::alloc::Global;
 
 /// The octets of a header.
@@ -31,15 +35,40 @@ pub fn write_update(
     requires fits { ForSome update.now.attrs (FitsAttrs profile.as4) }
     ensures { let octets = update_octets profile.as4 update.now in IfOk result (λ written. MatchOption written (4096 < length octets) (λ v. (length octets ≤ 4096) × (v.items ≡ octets))) }
 {
-    let withdrawn = write_prefixes(alloc, &update.withdrawn)?;
-    let attributes = write_attrs(alloc, profile.as4, &update.attrs)?;
-    let announced = write_prefixes(alloc, &update.announced)?;
     write_fields(
         alloc,
-        withdrawn.as_slice(),
-        attributes.as_slice(),
-        announced.as_slice(),
+        profile,
+        update.withdrawn.as_slice(),
+        update.attrs.as_ref(),
+        update.announced.as_slice(),
     )
+}
+
+/// The octets of the UPDATE that announces one prefix with these attributes: those that [`write_update`] gives for it.
+/// None exactly where it would be above 4,096 octets.
+pub fn write_announcement(
+    alloc: Global,
+    profile: Profile,
+    prefix: Prefix,
+    attrs: &Attrs,
+) -> Result<Option<Vec<u8>>, Memory>
+    requires { FitsAttrs profile.as4 attrs.now }
+    ensures { let octets = update_octets profile.as4 (announcement prefix attrs.now) in IfOk result (λ written. MatchOption written (4096 < length octets) (λ v. (length octets ≤ 4096) × (v.items ≡ octets))) }
+{
+    write_fields(alloc, profile, &[], Some(attrs), &[prefix])
+}
+
+/// The octets of the UPDATE that withdraws one prefix: those that [`write_update`] gives for it, whatever the profile.
+pub fn write_withdrawal(alloc: Global, prefix: Prefix) -> Result<Vec<u8>, Memory>
+    ensures { (as4 : Bool) → IfOk result (λ v. v.items ≡ update_octets as4 (withdrawal prefix)) }
+{
+    let withdrawn = &[prefix];
+    let size = HEADER + 4 + prefixes_length(withdrawn);
+    let mut out = Vec::with_capacity(alloc, size)?;
+    push_header(&mut out, size as u16, UPDATE)?;
+    push_withdrawn(&mut out, withdrawn)?;
+    push_u16(&mut out, 0)?;
+    Ok(out)
 }
 
 /// A NOTIFICATION (RFC 4271, section 4.5), of at most 4,075 octets of data.
@@ -61,50 +90,69 @@ pub fn write_notification(
     Ok(out)
 }
 
-fn write_prefixes(alloc: Global, prefixes: &Prefixes) -> Result<Vec<u8>, Memory>
-    ensures octets { IfOk result (λ v. v.items ≡ prefixes_octets prefixes.now) }
-{
-    let mut out = Vec::new(alloc);
-    for prefix in prefixes.as_slice() {
-        push_prefix(&mut out, *prefix)?;
-    }
-    Ok(out)
-}
-
-fn write_attrs(alloc: Global, as4: bool, attrs: &Option<Attrs>) -> Result<Vec<u8>, Memory>
-    requires { ForSome attrs.now (FitsAttrs as4) }
-    ensures { IfOk result (λ v. v.items ≡ attrs_octets as4 attrs.now) }
-{
-    let mut out = Vec::new(alloc);
-    if let Some(attrs) = attrs {
-        push_attrs(&mut out, as4, attrs)?;
-    }
-    Ok(out)
-}
-
 /// The UPDATE of three fields. None exactly where it would be above 4,096 octets.
 fn write_fields(
     alloc: Global,
-    withdrawn: &[u8],
-    attributes: &[u8],
-    announced: &[u8],
+    profile: Profile,
+    withdrawn: &[Prefix],
+    attrs: Option<&Attrs>,
+    announced: &[Prefix],
 ) -> Result<Option<Vec<u8>>, Memory>
-    requires { length withdrawn.now + length announced.now ≤ 5 }
-    ensures { let octets = framed 2 (fields_octets withdrawn.now attributes.now announced.now) in IfOk result (λ written. MatchOption written (4096 < length octets) (λ v. (length octets ≤ 4096) × (v.items ≡ octets))) }
+    requires one { length withdrawn.now + length announced.now ≡ 1 }
+    requires fits { ForSome (option_copied attrs) (FitsAttrs profile.as4) }
+    ensures { let octets = update_octets profile.as4 (record { withdrawn = withdrawn.now; announced = announced.now; attrs = option_copied attrs.entry }) in IfOk result (λ written. MatchOption written (4096 < length octets) (λ v. (length octets ≤ 4096) × (v.items ≡ octets))) }
 {
-    let others = HEADER + 4 + withdrawn.len() + announced.len();
-    if attributes.len() > LONGEST - others {
+    let others = HEADER + 4 + prefixes_length(withdrawn) + prefixes_length(announced);
+    let attributes = attrs_length(profile, attrs);
+    if attributes > (LONGEST - others) as u128 {
         return Ok(None);
     }
-    let size = others + attributes.len();
+    let size = others + attributes as usize;
     let mut out = Vec::with_capacity(alloc, size)?;
     push_header(&mut out, size as u16, UPDATE)?;
-    push_u16(&mut out, withdrawn.len() as u16)?;
-    out.extend_from_slice(withdrawn)?;
-    push_u16(&mut out, attributes.len() as u16)?;
-    out.extend_from_slice(attributes)?;
-    out.extend_from_slice(announced)?;
+    push_withdrawn(&mut out, withdrawn)?;
+    push_u16(&mut out, attributes as u16)?;
+    push_option(&mut out, profile.as4, attrs)?;
+    push_prefixes(&mut out, announced)?;
     Ok(Some(out))
+}
+
+#[tactic(auto, unfolding(crate::specs::Lengths::attributes_length))]
+fn attrs_length(profile: Profile, attrs: Option<&Attrs>) -> u128
+    ensures { result ≡ length (attrs_octets profile.as4 (option_copied attrs.entry)) }
+{
+    match attrs {
+        None => 0,
+        Some(attrs) => attributes_length(profile, attrs),
+    }
+}
+
+fn push_option(out: &mut Vec<u8>, as4: bool, attrs: Option<&Attrs>) -> Result<(), Memory>
+    requires { ForSome (option_copied attrs) (FitsAttrs as4) }
+    ensures { OnOk result (out.new.items ≡ out.old.items ++ attrs_octets as4 (option_copied attrs.entry)) }
+{
+    match attrs {
+        None => Ok(()),
+        Some(attrs) => push_attrs(out, as4, attrs),
+    }
+}
+
+/// The length of the withdrawn prefixes, of one at most, and then these.
+fn push_withdrawn(out: &mut Vec<u8>, prefixes: &[Prefix]) -> Result<(), Memory>
+    requires { length prefixes.now ≤ 1 }
+    ensures { OnOk result (out.new.items ≡ out.old.items ++ big_bytes 2 (length (prefixes_octets prefixes.now)) ++ prefixes_octets prefixes.now) }
+{
+    push_u16(out, prefixes_length(prefixes) as u16)?;
+    push_prefixes(out, prefixes)
+}
+
+fn push_prefixes(out: &mut Vec<u8>, prefixes: &[Prefix]) -> Result<(), Memory>
+    ensures { OnOk result (out.new.items ≡ out.old.items ++ prefixes_octets prefixes.now) }
+{
+    for prefix in prefixes {
+        push_prefix(out, *prefix)?;
+    }
+    Ok(())
 }
 
 /// A marker of ones, the length of the whole message, and its type.

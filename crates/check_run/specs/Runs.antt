@@ -2,12 +2,18 @@
 use Rattle.std.specs.Prelude.{◌≡◌, ℕ, List, ◌++◌, Option, Some, None, ⊤}
 use Rattle.std.specs.Io.KnownBytes.{Appends, Consumes}
 
--- Of the source's text and of what the sink took this holds, where both tell their bytes.
+-- a text that the source may have: the one that it tells, and any where it tells none
+abbrev pub IsTextOf : Option (List ℕ) → List ℕ → Type 0
+IsTextOf None text = ⊤
+IsTextOf (Some told) text = text ≡ told
+
+-- This holds of a text that the source may have.
+abbrev pub OfText : Option (List ℕ) → (List ℕ → Type 0) → Type 0
+OfText left P = (text : List ℕ) × IsTextOf left text × P text
+
+-- This holds of a text that the source may have, and of the bytes that the sink took.
 abbrev pub Took : Option (List ℕ) → Option (List ℕ) → Option (List ℕ) → (List ℕ → List ℕ → Type 0) → Type 0
-Took None before now P = ⊤
-Took (Some text) None now P = ⊤
-Took (Some text) (Some before) None P = ⊥
-Took (Some text) (Some before) (Some now) P = (bytes : List ℕ) × (now ≡ before ++ bytes) × P text bytes
+Took left before now P = (text bytes : List ℕ) × IsTextOf left text × Appends before now bytes × P text bytes
 
 -- A sink took more, and this holds of it.
 abbrev pub Writes : Option (List ℕ) → Option (List ℕ) → (List ℕ → Type 0) → Type 0

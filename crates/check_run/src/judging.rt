@@ -1,11 +1,12 @@
 //! Judging the journal in the text of a source.
 
-ghost use Rattle.std.specs.Prelude.{◌≡◌, IfOk, IfSome};
+ghost use Rattle.std.specs.Prelude.{◌≡◌, IfOk};
 ghost use Rattle.std.specs.Io.KnownBytes.{IsAtEnd};
 ghost use Rattle.edge_io.specs.Causes.{Rose};
 ghost use Rattle.journal_check.specs.Judged.{IsChecked};
 ghost use Rattle.journal_check.specs.declared.checked.Checked.{Checked};
 ghost use Rattle.check_run.specs.Lines.{lines_of};
+ghost use Rattle.check_run.specs.Runs.{OfText};
 
 use crate::checking::Checking;
 use edge_io::Source;
@@ -26,7 +27,7 @@ pub(crate) enum Stop {
 
 /// Reads the text of a source up to the line that decides, and says what is to be said of all its lines.
 pub(crate) fn judge<S: Source>(alloc: Global, source: &mut S) -> Result<Checked, Stop>
-    ensures judged { IfOk result (λ checked. IfSome (S.left source.old) (λ text. IsChecked (lines_of text) checked)) }
+    ensures judged { IfOk result (λ checked. OfText (S.left source.old) (λ text. IsChecked (lines_of text) checked)) }
     ensures all_read { IfOk result (λ checked. checked ≡ Checked.Lawful → IsAtEnd (S.left source.new)) }
     ensures read_fault { result ≡ Err Stop.ReadFault → Rose (S.faults source.old) (S.faults source.new) }
 {

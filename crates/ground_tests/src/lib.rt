@@ -1,4 +1,5 @@
-//! Stories of the ground crates: addresses, attributes, rows, streams, tables, interests, next hops and walks, each public call on its happy path.
+//! Stories of the ground crates: addresses, attributes, rows, streams, tables, interests, next hops, queues, walks, chains and exits,
+//! each public call on its happy path.
 //!
 //! The crates that these tests are of have none of their own: a crate with tests is proved once more with them.
 #![tactic(auto)]
@@ -8,7 +9,11 @@ mod addresses;
 #[cfg(test)]
 mod attributes;
 #[cfg(test)]
+mod chains;
+#[cfg(test)]
 mod changes;
+#[cfg(test)]
+mod exits;
 #[cfg(test)]
 mod hops;
 #[cfg(test)]
@@ -17,6 +22,8 @@ mod interests;
 mod merges;
 #[cfg(test)]
 mod prefixes;
+#[cfg(test)]
+mod queues;
 #[cfg(test)]
 mod rows;
 #[cfg(test)]

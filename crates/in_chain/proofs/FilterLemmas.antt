@@ -17,8 +17,7 @@ use Rattle.filter_bank.specs.Walks.{Walks, IsWalked}
 use Rattle.filter_bank.proofs.LawLemmas.{a_walk_leads}
 use Rattle.journal_text.specs.Links.{same_link}
 use Rattle.journal_text.specs.declared.link.Link.{Link}
-use Rattle.journal_text.specs.declared.link.Link.TheVariants.{In, Peer, Filt, Res, Org, Low, Dyn, Int, Red, Best, ReadRib, Ebgp, Ibgp, Ext, Fib, Read, Outf, Adv}
-use Rattle.journal_text.specs.declared.link.Link.TheVariants as names
+use Rattle.journal_text.specs.declared.link.Link.TheVariants.{In, Filt}
 use Rattle.journal_text.specs.declared.link.Task.TheVariants.{Del, Fin}
 use Rattle.journal_text.specs.declared.value.Value.{Value}
 use Rattle.journal_text.specs.declared.entry.Entry.{Entry}
@@ -30,13 +29,12 @@ use Rattle.journal_text.proofs.JournalLemmas.{with_entries_none}
 use Rattle.journal_text.proofs.WalkLemmas.{leads_nowhere, leads_append, leads_over}
 use Rattle.in_chain.proofs.TurnLemmas.{fewer_turns}
 use Rattle.loss_chain.specs.declared.owner.Owner.TheVariants as owners
-use Rattle.journal_text.specs.Values.{attrs_value}
 use Rattle.loss_chain.specs.Tables.{Tables, lowest_rows}
 use Rattle.loss_chain.specs.Falls.{FallsTables, way_from}
 use Rattle.loss_chain.specs.Steps.{SweepsTables, IsTakenTables, table_of}
 use Rattle.journal_text.proofs.FallLemmas.{and_then, cut_before, goes_on, goes_out}
-use Rattle.in_chain.specs.Incomings.{Incoming, incoming_of, incoming_tables, in_rows, is_incoming, incoming_links, beside_incoming}
-use Rattle.in_chain.specs.Chains.{Chained, filt_rows, is_named, links_of, beside}
+use Rattle.in_chain.specs.Incomings.{Incoming, in_rows, is_incoming, incoming_links, beside_incoming}
+use Rattle.in_chain.specs.Chains.{Chained, with_tables, filt_rows, is_named, links_of, beside}
 use Rattle.in_chain.specs.Falls.{LeadsIncoming, Falls, LeadsChain}
 use Rattle.in_chain.specs.Steps.{filter_entries, Rewalks, Turned, IsTaken}
 
@@ -47,46 +45,16 @@ abbrev over : Links Value → Chained → Links Value
 over others c = with_link others (Filt c.incoming.number) (Some (route_rows (filt_rows c)))
 
 links_are : (c : Chained) (link : Link) → links_of c link ≡ over (incoming_links c.incoming) c link
-links_are c (In k) = refl
-links_are c (Peer k s) = refl
-links_are c (Filt k) = elim (k == c.incoming.number) as (λ b. cond b (Some (route_rows (filt_rows c))) None ≡ cond (true && (b && true)) (Some (route_rows (filt_rows c))) None) [ true ↦ refl | false ↦ refl ]
-links_are c (Res k) = refl
-links_are c (Org p) = refl
-links_are c (names.Lost p n) = refl
-links_are c Low = refl
-links_are c Dyn = refl
-links_are c Int = refl
-links_are c Red = refl
-links_are c Best = refl
-links_are c ReadRib = refl
-links_are c Ebgp = refl
-links_are c Ibgp = refl
-links_are c Ext = refl
-links_are c Fib = refl
-links_are c (Read j s) = refl
-links_are c (Outf j s) = refl
-links_are c (Adv j s) = refl
+links_are c link = elim link as (λ l. links_of c l ≡ over (incoming_links c.incoming) c l) [
+  | Filt k ↦ elim (k == c.incoming.number) as (λ b. cond b (Some (route_rows (filt_rows c))) None ≡ cond (true && (b && true)) (Some (route_rows (filt_rows c))) None) [ true ↦ refl | false ↦ refl ]
+  | _ ↦ refl
+]
 
 named_are : (k : ℕ) (link : Link) → is_named k link ≡ (same_link link (Filt k) || is_incoming k link)
-named_are k (In j) = refl
-named_are k (Peer j s) = refl
-named_are k (Filt j) = elim (j == k) as (λ b. b ≡ ((true && (b && true)) || false)) [ true ↦ refl | false ↦ refl ]
-named_are k (Res j) = refl
-named_are k (Org p) = refl
-named_are k (names.Lost p n) = refl
-named_are k Low = refl
-named_are k Dyn = refl
-named_are k Int = refl
-named_are k Red = refl
-named_are k Best = refl
-named_are k ReadRib = refl
-named_are k Ebgp = refl
-named_are k Ibgp = refl
-named_are k Ext = refl
-named_are k Fib = refl
-named_are k (Read j s) = refl
-named_are k (Outf j s) = refl
-named_are k (Adv j s) = refl
+named_are k link = elim link as (λ l. is_named k l ≡ (same_link l (Filt k) || is_incoming k l)) [
+  | Filt j ↦ elim (j == k) as (λ b. b ≡ ((true && (b && true)) || false)) [ true ↦ refl | false ↦ refl ]
+  | _ ↦ refl
+]
 
 one_of_two : {A : Type 0} (a b : Bool) (x y z : A) → cond (a || b) (cond a x y) z ≡ cond a x (cond b y z)
 one_of_two true b x y z = refl
@@ -114,10 +82,6 @@ set_filter others c x = same_function _ _ (λ link.
     swap_cond (same_link link (Filt c.number)) (is_incoming c.number link) x (incoming_links c link) (others link) (not_both c.number link))
 
 -- ---- what leads on
-
--- the chain with another upper part
-abbrev pub below : Chained → Incoming → Chained
-below c i = record { incoming = i; me = c.me; peer = c.peer; filter = c.filter }
 
 in_frame : (old new : Incoming) (x : Option (Rows Value)) (entries : List (Entry Value)) → new.number ≡ old.number → LeadsIncoming old entries new
     → (others : Links Value) → Leads (with_link (beside_incoming others old) (Filt old.number) x) entries (with_link (beside_incoming others new) (Filt old.number) x)
@@ -165,36 +129,32 @@ leads_walk old new p sent same is =
     let P : Incoming → Type 0 = λ i. Leads (over (beside_incoming others old.incoming) old) (filter_entries old.incoming.number sent) (with_link (beside_incoming others i) (Filt old.incoming.number) (Some (route_rows (filt_rows new)))) in
     subst P (sym same) (leads_over route_value (λ a b e. cc) (beside_incoming others old.incoming) (Filt old.incoming.number) (filt_rows old) (filt_rows new) p sent is))
 
--- the chain with other live routes and lost tables
-abbrev pub above : Chained → Tables Attrs → Chained
-above c t = below c (incoming_of c.incoming.number t)
-
 -- where the rows of `in.K` stay, those of `filt.K` do
-pub filt_kept : (c : Chained) (t : Tables Attrs) → lowest_rows t ≡ in_rows c.incoming → filt_rows (above c t) ≡ filt_rows c
+pub filt_kept : (c : Chained) (t : Tables Attrs) → lowest_rows t ≡ in_rows c.incoming → filt_rows (with_tables c t) ≡ filt_rows c
 filt_kept c t same = ap (passed_rows c.me c.peer c.filter) same
 
 -- ---- falls
 
 -- nothing comes into the filter
 pub falls_quietly : (old : Chained) (t : Tables Attrs) (p : Network) (way : List Link) (before now : Journaled) → lowest_rows t ≡ in_rows old.incoming
-    → Adds (FallsTables attrs_value (owners.Peer old.incoming.number) (incoming_tables old.incoming) t p way None) before now → Adds (Falls old (above old t) p (way ++ Filt old.incoming.number ∷ []) None) before now
+    → Adds (FallsTables attrs_value (owners.Peer old.incoming.number) (old.incoming.tables) t p way None) before now → Adds (Falls old (with_tables old t) p (way ++ Filt old.incoming.number ∷ []) None) before now
 falls_quietly old t p way before now rows (entries, now_is, fall) = (
   entries,
   now_is,
-  record { leads = leads_kept old (above old t) entries refl fall.leads (filt_kept old t rows); down = cut_before p way (Filt old.incoming.number ∷ []) entries fall.down },
+  record { leads = leads_kept old (with_tables old t) entries refl fall.leads (filt_kept old t rows); down = cut_before p way (Filt old.incoming.number ∷ []) entries fall.down },
 )
 
 -- a change comes into the filter
 pub falls_on : (old : Chained) (t : Tables Attrs) (p : Network) (way : List Link) (change : Change Attrs) (sent : Option (Change Route)) (before mid now : Journaled)
-    → Adds (FallsTables attrs_value (owners.Peer old.incoming.number) (incoming_tables old.incoming) t p way (Some change)) before mid → IsSent (filt_rows old) (filt_rows (above old t)) p sent → now ≡ with_entries mid (filter_entries old.incoming.number sent)
-    → Adds (Falls old (above old t) p (way ++ Filt old.incoming.number ∷ []) sent) before now
+    → Adds (FallsTables attrs_value (owners.Peer old.incoming.number) (old.incoming.tables) t p way (Some change)) before mid → IsSent (filt_rows old) (filt_rows (with_tables old t)) p sent → now ≡ with_entries mid (filter_entries old.incoming.number sent)
+    → Adds (Falls old (with_tables old t) p (way ++ Filt old.incoming.number ∷ []) sent) before now
 falls_on old t p way change sent before mid now (entries, mid_is, fall) is now_is =
     let k = old.incoming.number in (
       entries ++ filter_entries k sent,
       and_then before mid now entries (filter_entries k sent) mid_is now_is,
       record {
-        leads = leads_on old (above old t) p sent entries refl fall.leads is;
-        down = goes_on p way (Filt k ∷ []) change entries (filter_entries k sent) sent fall.down (goes_out route_value (Filt k) (filt_rows old) (filt_rows (above old t)) p sent is);
+        leads = leads_on old (with_tables old t) p sent entries refl fall.leads is;
+        down = goes_on p way (Filt k ∷ []) change entries (filter_entries k sent) sent fall.down (goes_out route_value (Filt k) (filt_rows old) (filt_rows (with_tables old t)) p sent is);
       },
     )
 
@@ -204,36 +164,36 @@ and_false : (a b : Bool) → b ≡ false → (a && b) ≡ false
 and_false true b e = e
 and_false false b e = refl
 
-pub sweeps_nothing : (old : Chained) (t : Tables Attrs) (session : ℕ) (before now : Journaled) → IsTakenTables attrs_value (owners.Peer old.incoming.number) (incoming_tables old.incoming) t session before now Nothing
-    → IsTaken old (above old t) (Del old.incoming.number session) before now Nothing
+pub sweeps_nothing : (old : Chained) (t : Tables Attrs) (session : ℕ) (before now : Journaled) → IsTakenTables attrs_value (owners.Peer old.incoming.number) (old.incoming.tables) t session before now Nothing
+    → IsTaken old (with_tables old t) (Del old.incoming.number session) before now Nothing
 sweeps_nothing old t session before now (none, (same, now_is)) =
-    (and_false (old.incoming.number == old.incoming.number) (is_some (table_of session old.incoming.deletions)) (ap is_some none), (ap (above old) same, now_is))
+    (and_false (old.incoming.number == old.incoming.number) (is_some (table_of session old.incoming.tables.deletions)) (ap is_some none), (ap (with_tables old) same, now_is))
 
-pub sweeps_quietly_below : (old : Chained) (t : Tables Attrs) (session : ℕ) (before now : Journaled) → IsTakenTables attrs_value (owners.Peer old.incoming.number) (incoming_tables old.incoming) t session before now Quiet
-    → IsTaken old (above old t) (Del old.incoming.number session) before now Quiet
+pub sweeps_quietly_below : (old : Chained) (t : Tables Attrs) (session : ℕ) (before now : Journaled) → IsTakenTables attrs_value (owners.Peer old.incoming.number) (old.incoming.tables) t session before now Quiet
+    → IsTaken old (with_tables old t) (Del old.incoming.number session) before now Quiet
 sweeps_quietly_below old t session before now (entries, now_is, s) =
     let k = old.incoming.number in
-    let fall = falls_quietly old t s.prefix (way_from (owners.Peer k) session (In k) old.incoming.deletions) before now s.rows (entries, now_is, s.fall) in (
+    let fall = falls_quietly old t s.prefix (way_from (owners.Peer k) session (In k) old.incoming.tables.deletions) before now s.rows (entries, now_is, s.fall) in (
       fall.0,
       fall.1,
       (
         refl,
-        record { prefix = s.prefix; row = s.row; table = s.table; stands = s.stands; least = s.least; after = ap (above old) s.after; fall = fall.2; rows = filt_kept old t s.rows },
+        record { prefix = s.prefix; row = s.row; table = s.table; stands = s.stands; least = s.least; after = ap (with_tables old) s.after; fall = fall.2; rows = filt_kept old t s.rows },
       ),
     )
 
 sweeps_below : (old : Chained) (t : Tables Attrs) (session : ℕ) (change : Change Attrs) (sent : Option (Change Route)) (before mid now : Journaled)
-    → Adds (SweepsTables attrs_value (owners.Peer old.incoming.number) (incoming_tables old.incoming) t session (Some change)) before mid → FiltersOn old.me old.peer old.filter change sent → now ≡ with_entries mid (filter_entries old.incoming.number sent)
-    → Adds (Turned old (above old t) (Del old.incoming.number session) sent) before now
+    → Adds (SweepsTables attrs_value (owners.Peer old.incoming.number) (old.incoming.tables) t session (Some change)) before mid → FiltersOn old.me old.peer old.filter change sent → now ≡ with_entries mid (filter_entries old.incoming.number sent)
+    → Adds (Turned old (with_tables old t) (Del old.incoming.number session) sent) before now
 sweeps_below old t session change sent before mid now (entries, mid_is, s) filters now_is =
     let k = old.incoming.number in
     let is = filters (in_rows old.incoming) (lowest_rows t) s.prefix s.rows in
-    let fall = falls_on old t s.prefix (way_from (owners.Peer k) session (In k) old.incoming.deletions) change sent before mid now (entries, mid_is, s.fall) is now_is in (
+    let fall = falls_on old t s.prefix (way_from (owners.Peer k) session (In k) old.incoming.tables.deletions) change sent before mid now (entries, mid_is, s.fall) is now_is in (
       fall.0,
       fall.1,
       (
         refl,
-        record { prefix = s.prefix; row = s.row; table = s.table; stands = s.stands; least = s.least; after = ap (above old) s.after; fall = fall.2; rows = is },
+        record { prefix = s.prefix; row = s.row; table = s.table; stands = s.stands; least = s.least; after = ap (with_tables old) s.after; fall = fall.2; rows = is },
       ),
     )
 
@@ -242,23 +202,23 @@ turned old new k session None before now adds = adds
 turned old new k session (Some change) before now adds = adds
 
 pub sweeps_on_below : (old : Chained) (t : Tables Attrs) (session : ℕ) (change : Change Attrs) (sent : Option (Change Route)) (before mid now : Journaled)
-    → IsTakenTables attrs_value (owners.Peer old.incoming.number) (incoming_tables old.incoming) t session before mid (Sent change) → FiltersOn old.me old.peer old.filter change sent → now ≡ with_entries mid (filter_entries old.incoming.number sent)
-    → IsTaken old (above old t) (Del old.incoming.number session) before now (taken_turn sent)
+    → IsTakenTables attrs_value (owners.Peer old.incoming.number) (old.incoming.tables) t session before mid (Sent change) → FiltersOn old.me old.peer old.filter change sent → now ≡ with_entries mid (filter_entries old.incoming.number sent)
+    → IsTaken old (with_tables old t) (Del old.incoming.number session) before now (taken_turn sent)
 sweeps_on_below old t session change sent before mid now taken filters now_is =
-    turned old (above old t) old.incoming.number session sent before now (sweeps_below old t session change sent before mid now taken filters now_is)
+    turned old (with_tables old t) old.incoming.number session sent before now (sweeps_below old t session change sent before mid now taken filters now_is)
 
 -- ---- turns of the filter's walk
 
 -- the chain with another state of its filter
 abbrev pub refilled : Chained → Passed (List Rule) → Chained
-refilled c f = record { incoming = c.incoming; me = c.me; peer = c.peer; filter = f }
+refilled c f = record c { filter = f }
 
 abbrev pub IsWalkOf : Chained → Passed (List Rule) → Turn Route → Type 0
 IsWalkOf c f turn = IsWalked c.me c.peer (with_rows (in_rows c.incoming)) (in_rows c.incoming) c.filter f turn
 
 rewalks : (c : Chained) (f : Passed (List Rule)) (sent : Option (Change Route)) → Walks c.me c.peer (with_rows (in_rows c.incoming)) (in_rows c.incoming) c.filter f sent
     → LeadsChain c (filter_entries c.incoming.number sent) (refilled c f) → Rewalks c (refilled c f) sent (filter_entries c.incoming.number sent)
-rewalks c f sent w leads = record { walks = w; after = refl; lines = refl; leads = leads; fewer = fewer_turns c.incoming c.filter f w.walk w.next w.on w.after w.least }
+rewalks c f sent w leads = record { walks = w; after = refl; lines = refl; leads = leads; fewer = fewer_turns c.incoming.tables c.filter f w.walk w.next w.on w.after w.least }
 
 pub walks_nothing : (c : Chained) (f : Passed (List Rule)) (j : Journaled) → IsWalkOf c f Nothing → IsTaken c (refilled c f) (Fin c.incoming.number) j j Nothing
 walks_nothing c f j (none, same) =

@@ -16,8 +16,7 @@ use Rattle.deletion_stage.specs.Covering.{row_over}
 use Rattle.policy_rules.specs.declared.rule.Rule.{Rule}
 use Rattle.pass_core.specs.Passed.{Passed, Walked, is_beyond, walk_of_waiting, walk_stepped, after_walk}
 use Rattle.pass_core.specs.Turns.{walked_on}
-use Rattle.loss_chain.specs.Tables.{rows_below, lost_count}
-use Rattle.in_chain.specs.Incomings.{Incoming, in_rows, incoming_count}
+use Rattle.loss_chain.specs.Tables.{Tables, rows_below, lowest_rows, lost_count, tables_count}
 use Rattle.in_chain.specs.Chains.{count_beyond, lost_beyond, left_beyond, waiting_turns, walk_turns}
 use Rattle.in_chain.specs.Laws.{TurnsAreBounded, TurnsAreLeft}
 
@@ -139,29 +138,29 @@ of_lost place (d ∷ ds) =
     let rest = of_lost place ds in
     omega (arith, first, rest)
 
-of_all : (place : Option Network) (c : Incoming) → left_beyond place c ≤ incoming_count c
-of_all place c =
-    let first = of_table place c.live in
-    let rest = of_lost place c.deletions in
+of_all : (place : Option Network) (t : Tables Attrs) → left_beyond place t ≤ tables_count t
+of_all place t =
+    let first = of_table place t.live in
+    let rest = of_lost place t.deletions in
     omega (arith, first, rest)
 
 -- ---- turns
 
 -- the turn that ends a walk
-ended_turns : (c : Incoming) (place : Option Network) (waiting : Option (List Rule)) → walk_turns c (walk_of_waiting waiting) < left_beyond place c + 1 + waiting_turns (incoming_count c) waiting
-ended_turns c place None = omega arith
-ended_turns c place (Some rules) = let all = of_all None c in omega (arith, all)
+ended_turns : (t : Tables Attrs) (place : Option Network) (waiting : Option (List Rule)) → walk_turns t (walk_of_waiting waiting) < left_beyond place t + 1 + waiting_turns (tables_count t) waiting
+ended_turns t place None = omega arith
+ended_turns t place (Some rules) = let all = of_all None t in omega (arith, all)
 
-pub fewer_turns : (c : Incoming) (s new : Passed (List Rule)) (w : Walked (List Rule)) (next : Option Network) → s.walk ≡ Some w → new ≡ walked_on next s → IsNextCandidate (with_rows (in_rows c)) w.place next
-    → walk_turns c new.walk < walk_turns c s.walk
-fewer_turns c s new w None on is least =
-    let P : Passed (List Rule) → Type 0 = λ n. walk_turns c n.walk < walk_turns c s.walk in
-    let Q : Option (Walked (List Rule)) → Type 0 = λ o. walk_turns c (after_walk s.in_force o).walk < walk_turns c o in
-    subst P (sym is) (subst Q (sym on) (ended_turns c w.place w.waiting))
-fewer_turns c s new w (Some p) on is least =
-    let P : Passed (List Rule) → Type 0 = λ n. walk_turns c n.walk < walk_turns c s.walk in
-    let Q : Option (Walked (List Rule)) → Type 0 = λ o. walk_turns c (walk_stepped o p) < walk_turns c o in
-    let step = fewer_left w.place p c.live c.deletions least.0 least.1 in
+pub fewer_turns : (t : Tables Attrs) (s new : Passed (List Rule)) (w : Walked (List Rule)) (next : Option Network) → s.walk ≡ Some w → new ≡ walked_on next s → IsNextCandidate (with_rows (lowest_rows t)) w.place next
+    → walk_turns t new.walk < walk_turns t s.walk
+fewer_turns t s new w None on is least =
+    let P : Passed (List Rule) → Type 0 = λ n. walk_turns t n.walk < walk_turns t s.walk in
+    let Q : Option (Walked (List Rule)) → Type 0 = λ o. walk_turns t (after_walk s.in_force o).walk < walk_turns t o in
+    subst P (sym is) (subst Q (sym on) (ended_turns t w.place w.waiting))
+fewer_turns t s new w (Some p) on is least =
+    let P : Passed (List Rule) → Type 0 = λ n. walk_turns t n.walk < walk_turns t s.walk in
+    let Q : Option (Walked (List Rule)) → Type 0 = λ o. walk_turns t (walk_stepped o p) < walk_turns t o in
+    let step = fewer_left w.place p t.live t.deletions least.0 least.1 in
     subst P (sym is) (subst Q (sym on) (omega (arith, step)))
 
 -- ---- laws
@@ -170,19 +169,19 @@ waiting_bounded : (rows : ℕ) (waiting : Option (List Rule)) → waiting_turns 
 waiting_bounded rows None = omega arith
 waiting_bounded rows (Some rules) = omega arith
 
-walk_bounded : (c : Incoming) (walk : Option (Walked (List Rule))) → walk_turns c walk ≤ 2 * (incoming_count c + 1)
-walk_bounded c None = omega arith
-walk_bounded c (Some w) =
-    let left = of_all w.place c in
-    let more = waiting_bounded (incoming_count c) w.waiting in
+walk_bounded : (t : Tables Attrs) (walk : Option (Walked (List Rule))) → walk_turns t walk ≤ 2 * (tables_count t + 1)
+walk_bounded t None = omega arith
+walk_bounded t (Some w) =
+    let left = of_all w.place t in
+    let more = waiting_bounded (tables_count t) w.waiting in
     omega (arith, left, more)
 
 pub turns_are_bounded : TurnsAreBounded
-turns_are_bounded c = walk_bounded c.incoming c.filter.walk
+turns_are_bounded c = walk_bounded c.incoming.tables c.filter.walk
 
-walk_left : (c : Incoming) (walk : Option (Walked (List Rule))) → (is_some walk ≡ true → 0 < walk_turns c walk) × (is_some walk ≡ false → walk_turns c walk ≡ 0)
-walk_left c None = (λ e. absurd (let clash : false ≡ true = e in cc), λ _. refl)
-walk_left c (Some w) = (λ _. omega arith, λ e. absurd (let clash : true ≡ false = e in cc))
+walk_left : (t : Tables Attrs) (walk : Option (Walked (List Rule))) → (is_some walk ≡ true → 0 < walk_turns t walk) × (is_some walk ≡ false → walk_turns t walk ≡ 0)
+walk_left t None = (λ e. absurd (let clash : false ≡ true = e in cc), λ _. refl)
+walk_left t (Some w) = (λ _. omega arith, λ e. absurd (let clash : true ≡ false = e in cc))
 
 pub turns_are_left : TurnsAreLeft
-turns_are_left c = walk_left c.incoming c.filter.walk
+turns_are_left c = walk_left c.incoming.tables c.filter.walk

@@ -18,7 +18,8 @@ use Rattle.journal_text.specs.declared.link.Link.TheVariants.{In, Peer, Filt}
 use Rattle.journal_text.specs.declared.value.Value.{Value}
 use Rattle.journal_text.specs.Walk.{Links}
 use Rattle.journal_text.specs.Values.{route_rows}
-use Rattle.in_chain.specs.Incomings.{Incoming, in_rows, incoming_links, IsIncoming, incoming_count}
+use Rattle.loss_chain.specs.Tables.{Tables, IsLossChain, tables_count}
+use Rattle.in_chain.specs.Incomings.{Incoming, in_rows, incoming_links}
 
 -- the live routes and the lost tables; the words of this speaker and of the peer; the rules of the incoming filter
 pub record Chained : Type 0 where
@@ -31,6 +32,10 @@ abbrev pub chained_code : Coded Incoming → Coded Speaker → Coded Neighbour �
 chained_code i s n f =
     code_by ((Incoming × Speaker) × (Neighbour × Passed (List Rule))) (coded× (coded× i s) (coded× n f))
     (λ a. ((a.incoming, a.me), (a.peer, a.filter))) (λ p. record { incoming = p.0.0; me = p.0.1; peer = p.1.0; filter = p.1.1 }) (λ _. refl)
+
+-- the chain with these live routes and lost tables
+abbrev pub with_tables : Chained → Tables Attrs → Chained
+with_tables c t = record c { incoming = record c.incoming { tables = t } }
 
 -- the rows of `filt.K`
 abbrev pub filt_rows : Chained → Rows Route
@@ -71,11 +76,11 @@ candidates_of c link = candidates_in (incoming_links c.incoming (upper_of link))
 
 -- what holds of a chain between two calls
 abbrev pub IsChain : Chained → Type 0
-IsChain c = IsIncoming c.incoming
+IsChain c = IsLossChain c.incoming.tables
 
 -- how many rows `in.K` has
 abbrev pub row_count : Chained → ℕ
-row_count c = incoming_count c.incoming
+row_count c = tables_count c.incoming.tables
 
 -- ---- how many turns are left
 
@@ -88,18 +93,18 @@ lost_beyond place [] = 0
 lost_beyond place (d ∷ ds) = count_beyond place d.rows + lost_beyond place ds
 
 -- how many rows of `in.K` lie beyond a place
-abbrev pub left_beyond : Option Network → Incoming → ℕ
-left_beyond place c = count_beyond place c.live + lost_beyond place c.deletions
+abbrev pub left_beyond : Option Network → Tables Attrs → ℕ
+left_beyond place t = count_beyond place t.live + lost_beyond place t.deletions
 
 abbrev pub waiting_turns : ℕ → Option (List Rule) → ℕ
 waiting_turns rows None = 0
 waiting_turns rows (Some rules) = rows + 1
 
-abbrev pub walk_turns : Incoming → Option (Walked (List Rule)) → ℕ
-walk_turns c None = 0
-walk_turns c (Some w) = left_beyond w.place c + 1 + waiting_turns (incoming_count c) w.waiting
+abbrev pub walk_turns : Tables Attrs → Option (Walked (List Rule)) → ℕ
+walk_turns t None = 0
+walk_turns t (Some w) = left_beyond w.place t + 1 + waiting_turns (tables_count t) w.waiting
 
 -- how many turns the walk of the filter takes: one for each row of `in.K` beyond its place and one that ends it, and a whole walk
 -- more where rules wait
 abbrev pub turns_left : Chained → ℕ
-turns_left c = walk_turns c.incoming c.filter.walk
+turns_left c = walk_turns c.incoming.tables c.filter.walk

@@ -23,11 +23,11 @@ LeadsIncoming old entries new = (others : Links Value) → Leads (beside_incomin
 
 -- from the live routes of a chain down to `filt.K`
 abbrev pub way_of_feed : Incoming → List Link
-way_of_feed c = way_down (owners.Peer c.number) (In c.number) c.deletions ++ Filt c.number ∷ []
+way_of_feed c = way_down (owners.Peer c.number) (In c.number) c.tables.deletions ++ Filt c.number ∷ []
 
 -- from the stage of a session down to `filt.K`
 abbrev pub way_of_sweep : ℕ → Incoming → List Link
-way_of_sweep session c = way_from (owners.Peer c.number) session (In c.number) c.deletions ++ Filt c.number ∷ []
+way_of_sweep session c = way_from (owners.Peer c.number) session (In c.number) c.tables.deletions ++ Filt c.number ∷ []
 
 -- Whatever other links there are, the entries lead by the rules of the journal from the chain's old links to its new ones.
 abbrev pub LeadsChain : Chained → List (Entry Value) → Chained → Type 0

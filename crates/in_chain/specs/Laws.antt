@@ -1,12 +1,6 @@
 -- Laws of chains, for the crates above.
 use Rattle.std.specs.Prelude.{◌≡◌, ℕ, ◌+◌, ◌*◌, ◌<◌, ◌≤◌, is_some, true, false}
-use Rattle.std.specs.FinMap as map
-use Rattle.std.specs.FinMap.{FinMap}
-use Rattle.addr4.specs.Prefixes.{prefix_cmp}
-use Rattle.bgp_attr.specs.declared.attrs.Attrs.{Attrs}
-use Rattle.link_change.specs.Rows.{Rows}
 use Rattle.in_chain.specs.Chains.{Chained, row_count, turns_left}
-use Rattle.in_chain.specs.Incomings.{Incoming, IsIncoming, in_rows, incoming_count}
 
 -- A filter's walk, and that of rules which wait, take together at most two turns more than twice the rows of `in.K`.
 abbrev pub TurnsAreBounded : Type 0

@@ -24,44 +24,44 @@ use Rattle.journal_text.specs.declared.entry.Entry.{Entry}
 use Rattle.journal_text.specs.Journals.{Journaled, Adds}
 use Rattle.journal_text.specs.Values.{route_value, sent_entries}
 use Rattle.in_chain.specs.Incomings.{in_rows}
-use Rattle.loss_chain.specs.Steps.{table_of}
-use Rattle.in_chain.specs.IncomingSteps.{new_incoming, fed_incoming, lost_incoming, welded_incoming, swept_incoming}
-use Rattle.in_chain.specs.Chains.{Chained, filt_rows, turns_left}
+use Rattle.loss_chain.specs.Steps.{no_tables, fed_tables, lost_tables, welded_tables, swept_tables, table_of}
+use Rattle.in_chain.specs.Chains.{Chained, with_tables, filt_rows, turns_left}
 use Rattle.in_chain.specs.Falls.{Falls, LeadsChain, way_of_sweep}
 
 -- no route, no deletion stage, and no rule
 abbrev pub new_chain : Speaker → Neighbour → Chained
 new_chain me peer = record {
-  incoming = new_incoming peer.number;
+  incoming = record { number = peer.number; tables = no_tables };
   me = me;
   peer = peer;
   filter = record { in_force = []; walk = None };
 }
 
 abbrev pub fed : Chained → Network → Option Attrs → Chained
-fed c p row = record { incoming = fed_incoming c.incoming p row; me = c.me; peer = c.peer; filter = c.filter }
+fed c p row = with_tables c (fed_tables c.incoming.tables p row)
 
 -- a session is lost: its routes go to a stage of their own, if there are any
 abbrev pub lost : ℕ → Chained → Chained
-lost session c = record { incoming = lost_incoming session c.incoming; me = c.me; peer = c.peer; filter = c.filter }
+lost session c = with_tables c (lost_tables session c.incoming.tables)
 
 -- an empty stage goes
 abbrev pub welded : Chained → Chained
-welded c = record { incoming = welded_incoming c.incoming; me = c.me; peer = c.peer; filter = c.filter }
+welded c = with_tables c (welded_tables c.incoming.tables)
 
+-- the row at a prefix leaves the lost table of a session
 abbrev pub swept : ℕ → Network → Chained → Chained
-swept session p c = record { incoming = swept_incoming session p c.incoming; me = c.me; peer = c.peer; filter = c.filter }
+swept session p c = with_tables c (swept_tables session p c.incoming.tables)
 
 -- the filter has new rules, which hold nowhere yet
 abbrev pub refiltered : List Rule → Chained → Chained
-refiltered rules c = record { incoming = c.incoming; me = c.me; peer = c.peer; filter = edited c.filter rules }
+refiltered rules c = record c { filter = edited c.filter rules }
 
 -- A turn of the stage of a session: its least row goes, and the messages of that go down.
 pub record Sweeps (old new : Chained) (session : ℕ) (sent : Option (Change Route)) (entries : List (Entry Value)) : Type 0 where
   pub prefix : Network
   pub row : Attrs
   pub table : FinMap prefix_cmp Attrs
-  pub stands : table_of session old.incoming.deletions ≡ Some table
+  pub stands : table_of session old.incoming.tables.deletions ≡ Some table
   pub least : IsLeastRow (tables.get table) prefix (Some row)
   pub after : new ≡ swept session prefix old
   pub fall : Falls old new prefix (way_of_sweep session old.incoming) sent entries
@@ -74,14 +74,14 @@ filter_entries k = sent_entries route_value (Filt k)
 -- A turn of the filter's walk over the rows of `in.K`: nothing else changes, and fewer turns are left.
 pub record Rewalks (old new : Chained) (sent : Option (Change Route)) (entries : List (Entry Value)) : Type 0 where
   pub walks : Walks old.me old.peer (with_rows (in_rows old.incoming)) (in_rows old.incoming) old.filter new.filter sent
-  pub after : new ≡ record { incoming = old.incoming; me = old.me; peer = old.peer; filter = new.filter }
+  pub after : new ≡ record old { filter = new.filter }
   pub lines : entries ≡ filter_entries old.incoming.number sent
   pub leads : LeadsChain old entries new
   pub fewer : turns_left new < turns_left old
 
 -- whether a task is one of the chain's and has work
 abbrev pub has_turn : Chained → Task → Bool
-has_turn c (Del k s) = k == c.incoming.number && is_some (table_of s c.incoming.deletions)
+has_turn c (Del k s) = k == c.incoming.number && is_some (table_of s c.incoming.tables.deletions)
 has_turn c (Fin k) = k == c.incoming.number && is_some c.filter.walk
 has_turn c (Rdel proto n) = false
 

@@ -13,10 +13,11 @@ ghost use Rattle.journal_text.specs.Journals.{Adds, with_entries};
 ghost use Rattle.journal_text.specs.Values.{route_rows};
 ghost use Rattle.loss_chain.specs.declared.owner.Owner.TheVariants as owners;
 ghost use Rattle.loss_chain.specs.Tables.{NoneEmpty, OneEmptyAtMost};
+ghost use Rattle.loss_chain.specs.Stages.{tables_of};
 ghost use Rattle.loss_chain.specs.Steps.{weld_entries, oldest_of};
 ghost use Rattle.in_chain.specs.Chains.{links_of, filt_rows, candidates_of, IsChain, row_count};
 ghost use Rattle.in_chain.specs.Falls.{Falls, LeadsChain, way_of_feed};
-ghost use Rattle.in_chain.specs.IncomingSteps.{loss_entries, overdue_of};
+ghost use Rattle.in_chain.specs.Incomings.{loss_entries, overdue_of};
 ghost use Rattle.in_chain.specs.Steps.{new_chain, fed, lost, welded, refiltered, filter_entries, IsTaken};
 
 use addr4::{Memory, Place, Prefix};
@@ -24,7 +25,7 @@ use bgp_attr::{Neighbour, Route, SharedAttrs, Speaker};
 use filter_bank::FilterBank;
 use journal_text::{Journal, Link, Task, Value};
 use link_change::{Change, Turn};
-use loss_chain::{LossChain, Owner};
+use loss_chain::{LossChain, Owner, Stage};
 use policy_rules::Rules;
 use std::alloc::Global;
 use std::marker::Model;
@@ -42,7 +43,7 @@ pub struct Chain {
 
 impl Model for Chain {
     ghost use Rattle.std.specs.Coded.{coded_list};
-    ghost use Rattle.in_chain.specs.Incomings.{incoming_code, incoming_of};
+    ghost use Rattle.in_chain.specs.Incomings.{incoming_code};
     ghost use Rattle.in_chain.specs.Chains.{Chained, chained_code};
     ghost use Rattle.pass_core.specs.Passed.{passed_code};
     ghost use Rattle.bgp_attr.specs.contracts.attrs.Attrs as attrs_row;
@@ -54,7 +55,7 @@ impl Model for Chain {
 
     ghost coded = { chained_code (incoming_code attrs_row.the_row.coded) speaker_row.the_row.coded neighbour_row.the_row.coded (passed_code (coded_list rule_row.the_row.coded)) };
 
-    ghost view = { λ c. record { incoming = incoming_of c.number c.stages; me = c.me; peer = c.peer; filter = c.filter } };
+    ghost view = { λ c. record { incoming = record { number = c.number; tables = c.stages }; me = c.me; peer = c.peer; filter = c.filter } };
 }
 
 impl Chain {
@@ -79,6 +80,14 @@ impl Chain {
         self.number
     }
 
+    /// The lowest of the stages whose links carry attributes, the one above `in.K`. A deletion stage holds the stage above it
+    /// in its box, up to the live routes.
+    pub fn lowest(&self) -> &Stage<SharedAttrs>
+        ensures { tables_of result.now ≡ self.now.incoming.tables }
+    {
+        self.stages.lowest()
+    }
+
     /// The incoming filter, between `in.K` and `filt.K`.
     pub fn filter(&self) -> &FilterBank
         ensures { result.now ≡ self.now.filter }
@@ -96,12 +105,12 @@ impl Chain {
         journal: &mut Journal,
     ) -> Result<Option<Change<Route>>, Memory>
         requires chain { IsChain self.old }
-        requires full { NoneEmpty self.old.incoming.deletions }
+        requires full { NoneEmpty self.old.incoming.tables.deletions }
         ensures sent { IfOk result (IsSent (filt_rows self.old) (filt_rows self.new) p) }
         ensures after { OnOk result (self.new ≡ fed self.old p new) }
         ensures lines { IfOk result (λ sent. Adds (Falls self.old self.new p (way_of_feed self.old.incoming) sent) journal.old journal.new) }
         ensures chain { OnOk result (IsChain self.new) }
-        ensures one_empty { OnOk result (OneEmptyAtMost self.new.incoming.deletions) }
+        ensures one_empty { OnOk result (OneEmptyAtMost self.new.incoming.tables.deletions) }
     {
         let Some(change) = self.stages.feed(Owner::Peer(self.number), p, new, journal)? else {
             return Ok(None);
@@ -121,7 +130,7 @@ impl Chain {
 
     /// The task of the deletion stage that stands longest, the lowest; None where none stands.
     pub fn oldest(&self) -> Option<Task>
-        ensures { result ≡ oldest_of (owners.Peer self.now.incoming.number) self.now.incoming.deletions }
+        ensures { result ≡ oldest_of (owners.Peer self.now.incoming.number) self.now.incoming.tables.deletions }
     {
         self.stages.oldest(Owner::Peer(self.number))
     }
@@ -130,15 +139,15 @@ impl Chain {
     /// the link `peer.K.S` above it begins. The maps of `in.K` and `filt.K` stay the same.
     pub fn lose(&mut self, session: u32, journal: &mut Journal) -> Result<(), Memory>
         requires chain { IsChain self.old }
-        requires full { NoneEmpty self.old.incoming.deletions }
+        requires full { NoneEmpty self.old.incoming.tables.deletions }
         requires room { overdue_of self.old.incoming ≡ None }
-        requires later { AllByRecursion (λ d. d.number < session) self.old.incoming.deletions }
+        requires later { AllByRecursion (λ d. d.number < session) self.old.incoming.tables.deletions }
         ensures after { OnOk result (self.new ≡ lost session self.old) }
         ensures lines { OnOk result (journal.new ≡ with_entries journal.old (loss_entries session self.old.incoming)) }
         ensures leads { OnOk result (LeadsChain self.old (loss_entries session self.old.incoming) self.new) }
         ensures rows { OnOk result (filt_rows self.new ≡ filt_rows self.old) }
         ensures chain { OnOk result (IsChain self.new) }
-        ensures full { OnOk result (NoneEmpty self.new.incoming.deletions) }
+        ensures full { OnOk result (NoneEmpty self.new.incoming.tables.deletions) }
     {
         self.stages
             .lose(Owner::Peer(self.number), session, journal)?;
@@ -148,13 +157,13 @@ impl Chain {
     /// Takes out the stage that a feed or a turn emptied, if there is one: the link above it is welded into the one below.
     pub fn weld(&mut self, journal: &mut Journal) -> Result<(), Memory>
         requires chain { IsChain self.old }
-        requires one_empty { OneEmptyAtMost self.old.incoming.deletions }
+        requires one_empty { OneEmptyAtMost self.old.incoming.tables.deletions }
         ensures after { OnOk result (self.new ≡ welded self.old) }
-        ensures lines { OnOk result (journal.new ≡ with_entries journal.old (weld_entries (owners.Peer self.old.incoming.number) (names.In self.old.incoming.number) self.old.incoming.deletions)) }
-        ensures leads { OnOk result (LeadsChain self.old (weld_entries (owners.Peer self.old.incoming.number) (names.In self.old.incoming.number) self.old.incoming.deletions) self.new) }
+        ensures lines { OnOk result (journal.new ≡ with_entries journal.old (weld_entries (owners.Peer self.old.incoming.number) (names.In self.old.incoming.number) self.old.incoming.tables.deletions)) }
+        ensures leads { OnOk result (LeadsChain self.old (weld_entries (owners.Peer self.old.incoming.number) (names.In self.old.incoming.number) self.old.incoming.tables.deletions) self.new) }
         ensures rows { OnOk result (filt_rows self.new ≡ filt_rows self.old) }
         ensures chain { OnOk result (IsChain self.new) }
-        ensures full { OnOk result (NoneEmpty self.new.incoming.deletions) }
+        ensures full { OnOk result (NoneEmpty self.new.incoming.tables.deletions) }
     {
         self.stages.weld(Owner::Peer(self.number), journal)?;
         Ok(())
@@ -175,10 +184,10 @@ impl Chain {
     /// `filt.K`.
     pub fn unit(&mut self, task: Task, journal: &mut Journal) -> Result<Turn<Route>, Memory>
         requires chain { IsChain self.old }
-        requires full { NoneEmpty self.old.incoming.deletions }
+        requires full { NoneEmpty self.old.incoming.tables.deletions }
         ensures taken { IfOk result (IsTaken self.old self.new task journal.old journal.new) }
         ensures chain { OnOk result (IsChain self.new) }
-        ensures one_empty { OnOk result (OneEmptyAtMost self.new.incoming.deletions) }
+        ensures one_empty { OnOk result (OneEmptyAtMost self.new.incoming.tables.deletions) }
     {
         match task {
             Task::Del(number, session) => {
@@ -200,10 +209,10 @@ impl Chain {
     // One turn of the stage of a session.
     fn sweep(&mut self, session: u32, journal: &mut Journal) -> Result<Turn<Route>, Memory>
         requires chain { IsChain self.old }
-        requires full { NoneEmpty self.old.incoming.deletions }
+        requires full { NoneEmpty self.old.incoming.tables.deletions }
         ensures taken { IfOk result (IsTaken self.old self.new (tasks.Del self.old.incoming.number session) journal.old journal.new) }
         ensures chain { OnOk result (IsChain self.new) }
-        ensures one_empty { OnOk result (OneEmptyAtMost self.new.incoming.deletions) }
+        ensures one_empty { OnOk result (OneEmptyAtMost self.new.incoming.tables.deletions) }
     {
         match self
             .stages
@@ -222,7 +231,7 @@ impl Chain {
     // One turn of the filter's walk.
     fn walk(&mut self, journal: &mut Journal) -> Result<Turn<Route>, Memory>
         requires chain { IsChain self.old }
-        requires full { NoneEmpty self.old.incoming.deletions }
+        requires full { NoneEmpty self.old.incoming.tables.deletions }
         ensures taken { IfOk result (IsTaken self.old self.new (tasks.Fin self.old.incoming.number) journal.old journal.new) }
         ensures incoming { OnOk result (self.new.incoming ≡ self.old.incoming) }
     {

@@ -1,15 +1,14 @@
 //! A peer's incoming chain: the live routes of the present session, below them a deletion stage for each lost session
 //! whose routes aren't deleted yet (NSDI 2005, section 5.1.2), and at the bottom the incoming filter (section 5.1.1).
 //!
-//! A [`Chain`] holds its lowest [`Stage`]; each deletion stage holds the stage above it in a box, and the routes of the
-//! present session stand at the top. The link out of the lowest stage is `in.K`, K being the peer's number; the link
-//! above the deletion stage of session S is `peer.K.S`. When a session is lost, its whole table goes into a new stage
-//! directly below the top, in one step whatever its size, and the new link begins. When a table is empty, its stage is
-//! taken out, and the link above it is welded into the one below.
+//! A [`Chain`] holds the lowest stage of those whose links carry attributes ([`LossChain`](loss_chain::LossChain)); each
+//! deletion stage holds the stage above it in a box, and the routes of the present session stand at the top.
+//! [`Chain::lowest`] lends them. The link out of the lowest stage is `in.K`, K being the peer's number; the link above the
+//! deletion stage of session S is `peer.K.S`.
 //!
-//! These links carry attributes. The filter turns them into routes, on `filt.K`: it is never spliced, and so it is a field
-//! of the chain beside the boxes. It keeps rules and no rows. New rules hold nowhere at first: a walk over the prefixes of
-//! `in.K` brings them into force, one each turn of the task `fin.K`, and sends what that changes on `filt.K`.
+//! The filter turns attributes into routes, on `filt.K`: it is never spliced, and so it is a field of the chain beside the
+//! boxes. It keeps rules and no rows. New rules hold nowhere at first: a walk over the prefixes of `in.K` brings them into
+//! force, one each turn of the task `fin.K`, and sends what that changes on `filt.K`.
 //!
 //! What is proved of every call: whatever other links there are, its entries lead by the journal's two consistency rules
 //! from the maps of the chain's old links to those of its new ones; a change goes down, link by link, as far as it isn't

@@ -12,6 +12,7 @@ use Rattle.deletion_stage.specs.Covering.{row_over, covered, AreApart}
 use Rattle.deletion_stage.proofs.CoverLemmas.{nothing_covers, apart_delete}
 use Rattle.loss_chain.specs.Tables.{rows_below, AreAllApart, lost_count}
 use Rattle.loss_chain.specs.Laws.{Counts}
+use Rattle.loss_chain.proofs.TurnLemmas.{one_less}
 
 module _ {R : Type 0} where
   first_of : (n : ℕ) (es : List (Network × R)) → length es ≡ n + 1 → (e : Network × R) × (find prefix_cmp e.0 es ≡ Some e.1)
@@ -23,11 +24,6 @@ module _ {R : Type 0} where
   a_row t n is =
       let first = first_of n (tables.entries t) (sym (len-entries t) ∙ is) in
       (first.0, get-entries t first.0.0 ∙ first.1)
-
-  one_less : (t : FinMap prefix_cmp R) (n : ℕ) (p : Network) (row : R) → tables.len t ≡ n + 1 → tables.get t p ≡ Some row → tables.len (tables.remove t p) ≡ n
-  one_less t n p row is at =
-      let e : tables.len (tables.remove t p) ≡ tables.len t - 1 = len-remove prefixes_total t p ∙ ap (λ o. cond (is_some o) (tables.len t - 1) (tables.len t)) at in
-      omega (arith, e, is)
 
   one_more : (t : FinMap prefix_cmp R) (p : Network) (row : R) → tables.get t p ≡ None → tables.len (tables.insert t p row) ≡ tables.len t + 1
   one_more t p row none = len-insert prefixes_total t p row ∙ ap (λ o. cond (is_some o) (tables.len t) (tables.len t + 1)) none
@@ -46,7 +42,8 @@ module _ {R : Type 0} where
       let found = a_row t n (is ∙ omega arith) in
       let p = found.0.0 in
       let row = found.0.1 in
-      let rest = both n (tables.remove t p) m (one_less t n p row (is ∙ omega arith) found.1) (apart_delete t (tables.remove t p) (tables.get m) p row found.1 refl apart) in
+      let less = one_less t p row found.1 in
+      let rest = both n (tables.remove t p) m (omega (arith, less, is)) (apart_delete t (tables.remove t p) (tables.get m) p row found.1 refl apart) in
       let gone : tables.get (tables.remove t p) p ≡ None = ap (λ (r : Rows R). r p) (rows_removed t p) ∙ with_row_here (tables.get t) p None in
       let none : tables.get rest.0 p ≡ None = ap (λ (r : Rows R). r p) rest.1 ∙ ap (λ o. row_over o (tables.get m p)) gone ∙ apart p (ap is_some found.1) in
       let more = one_more rest.0 p row none in

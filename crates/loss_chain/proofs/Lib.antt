@@ -1,5 +1,7 @@
 pub mod OwnerLemmas
 pub mod RowLemmas
+pub mod ListLemmas
+pub mod FeedLemmas
 pub mod PartLemmas
 pub mod WholeLemmas
 pub mod WorkLemmas

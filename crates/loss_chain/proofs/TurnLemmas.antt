@@ -11,10 +11,9 @@ use Rattle.link_change.specs.Rows.{is_empty_map}
 use Rattle.deletion_stage.specs.Lost.{Lost}
 use Rattle.loss_chain.specs.Tables.{Tables, AreRising, lost_count, tables_count}
 use Rattle.loss_chain.specs.Steps.{without, table_of, swept_one}
+use Rattle.loss_chain.proofs.WholeLemmas.{rising_all}
+use Rattle.loss_chain.proofs.WorkLemmas.{swept_above}
 use Rattle.loss_chain.specs.Laws.{TurnsTakeRows, WeldsKeepRows, LossesKeepRows}
-
-other_number : (m n : ℕ) → (m ≡ n → ⊥) → (m == n) ≡ false
-other_number m n e = grind (arith, nat_tests)
 
 module _ {R : Type 0} where
   -- ---- a turn
@@ -25,21 +24,11 @@ module _ {R : Type 0} where
       absurd (let clash : None ≡ Some row = sym none ∙ at in cc)
   some_counted t p row (suc n) counts at = omega arith
 
-  one_less : (t : FinMap prefix_cmp R) (p : Network) (row : R) → tables.get t p ≡ Some row → tables.len (tables.remove t p) + 1 ≡ tables.len t
+  pub one_less : (t : FinMap prefix_cmp R) (p : Network) (row : R) → tables.get t p ≡ Some row → tables.len (tables.remove t p) + 1 ≡ tables.len t
   one_less t p row at =
       let e : tables.len (tables.remove t p) ≡ tables.len t - 1 = len-remove prefixes_total t p ∙ ap (λ o. cond (is_some o) (tables.len t - 1) (tables.len t)) at in
       let some = some_counted t p row (tables.len t) refl at in
       omega (arith, e, some)
-
-  -- the numbers above are greater
-  swept_above : (n low : ℕ) (p : Network) (ds : List (Lost R)) → n ≤ low → AllByRecursion (λ later. low < later.number) ds → lost_count (map (swept_one n p) ds) ≡ lost_count ds
-  swept_above n low p [] h above = refl
-  swept_above n low p (d ∷ ds) h above =
-      let step : low < d.number = above.0 in
-      let other = other_number d.number n (λ e. omega (arith, e, h, step)) in
-      let rest = swept_above n low p ds h above.1 in
-      let first : tables.len (swept_one n p d).rows ≡ tables.len d.rows = ap (λ (b : Bool). tables.len (cond b (without p d) d).rows) other in
-      omega (arith, first, rest)
 
   pub swept_rows : (n : ℕ) (p : Network) (table : FinMap prefix_cmp R) (row : R) (ds : List (Lost R)) → AreRising ds → table_of n ds ≡ Some table → tables.get table p ≡ Some row → lost_count (map (swept_one n p) ds) + 1 ≡ lost_count ds
   swept_rows n p table row [] rising stands at = absurd (let clash : None ≡ Some table = stands in cc)
@@ -48,7 +37,7 @@ module _ {R : Type 0} where
         | true ↦ λ e here.
             let same : d.number ≡ n = grind (arith, nat_tests) in
             let rows : d.rows ≡ table = cc in
-            let rest = swept_above n d.number p ds (omega (arith, same)) rising.0 in
+            let rest = ap lost_count (swept_above n p (d.number + 1) ds (omega (arith, same)) (rising_all d.number ds rising.0 rising.1)) in
             let less = one_less d.rows p row (ap (λ (t : FinMap prefix_cmp R). tables.get t p) rows ∙ at) in
             omega (arith, rest, less)
         | false ↦ λ e there.

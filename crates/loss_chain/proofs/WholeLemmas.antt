@@ -38,7 +38,7 @@ use Rattle.loss_chain.proofs.PartLemmas.{own_link}
 -- ---- the order of losses
 
 module _ {R : Type 0} where
-  rising_all : (low : ℕ) (ds : List (Lost R)) → AllByRecursion (λ later. low < later.number) ds → AreRising ds → IsRisingFrom (low + 1) ds
+  pub rising_all : (low : ℕ) (ds : List (Lost R)) → AllByRecursion (λ later. low < later.number) ds → AreRising ds → IsRisingFrom (low + 1) ds
   rising_all low [] above rising = tt
   rising_all low (d ∷ ds) above rising = let first = above.0 in (omega (arith, first), rising_all d.number ds rising.0 rising.1)
 

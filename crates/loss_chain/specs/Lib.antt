@@ -1,5 +1,6 @@
 pub mod Owners
 pub mod Tables
+pub mod Rows
 pub mod Falls
 pub mod Steps
 pub mod Stages

@@ -59,7 +59,7 @@ impl<R: Valued> LossChain<R> {
         }
     }
 
-    /// The lowest stage, which holds all others.
+    /// The lowest stage, which holds all others: a deletion stage holds the stage above it in its box, up to the live rows.
     pub fn lowest(&self) -> &Stage<R>
         ensures { tables_of result.now ≡ self.now }
     {

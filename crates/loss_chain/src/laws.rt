@@ -1,6 +1,6 @@
 //! Laws of chains, for the proofs of the crates above. Each is a function that does nothing, whose contract is the law.
 
-ghost use Rattle.loss_chain.specs.Laws.{RowsAreCounted, TurnsTakeRows, WeldsKeepRows, LossesKeepRows};
+ghost use Rattle.loss_chain.specs.Laws.{RowsAreCounted, TurnsTakeRows, WeldsKeepRows, LossesKeepRows, NoRowAtFirst, FeedsBringOneRow, LossesBringNoRow, WeldsBringNoRow, TurnsBringNoRow, LowestRowsAreRows};
 
 /// The count that [`LossChain::rows`](crate::LossChain::rows) gives is the number of rows of the lowest link.
 pub fn rows_are_counted<R>()
@@ -12,4 +12,15 @@ pub fn turns_take_rows<R>()
     ensures turns { TurnsTakeRows R }
     ensures welds { WeldsKeepRows R }
     ensures losses { LossesKeepRows R }
+{}
+
+/// Only a feed brings a row. So what holds of each row that is fed holds of each row of the chain, live or lost, and of those
+/// of its lowest link.
+pub fn each_row_is_fed<R>()
+    ensures first { NoRowAtFirst R }
+    ensures feeds { FeedsBringOneRow R }
+    ensures losses { LossesBringNoRow R }
+    ensures welds { WeldsBringNoRow R }
+    ensures turns { TurnsBringNoRow R }
+    ensures lowest { LowestRowsAreRows R }
 {}

@@ -2,7 +2,7 @@
 //! deleted yet (NSDI 2005, section 5.1.2).
 //!
 //! A [`LossChain`] holds its lowest [`Stage`]; each deletion stage holds the stage above it in a box, and the live rows, a
-//! [`Live`], stand at the top. When the source is lost, as when a session ends, its whole table goes into a new stage directly
+//! [`Live`], stand at the top. [`LossChain::lowest`] lends them all. When the source is lost, as when a session ends, its whole table goes into a new stage directly
 //! below the top, in one step whatever its size, and the new link begins. When a table is empty, its stage is taken out, and
 //! the link above it is welded into the one below.
 //!
@@ -26,7 +26,7 @@ mod splice;
 mod stage;
 
 pub use chain::LossChain;
-pub use laws::{rows_are_counted, turns_take_rows};
+pub use laws::{each_row_is_fed, rows_are_counted, turns_take_rows};
 pub use live::Live;
 pub use owner::Owner;
 pub use stage::Stage;

@@ -23,19 +23,15 @@ use Rattle.check_run.proofs.Known.{appends_nothing, consumes_nothing, consumes_t
 
 -- however the text goes on behind what was read
 pub took_read : (left0 left taken0 taken : Option (List ℕ)) (read bytes : List ℕ) (P : List ℕ → List ℕ → Type 0) → Consumes left0 left read → Appends taken0 taken bytes → ((more : List ℕ) → P (read ++ more) bytes) → Took left0 taken0 taken P
-took_read None left taken0 taken read bytes P c a h = tt
+took_read None left taken0 taken read bytes P c a h = (read ++ [], bytes, tt, a, h [])
 took_read (Some text) None taken0 taken read bytes P c a h = absurd c
-took_read (Some text) (Some more) None taken read bytes P c a h = tt
-took_read (Some text) (Some more) (Some before) None read bytes P c a h = absurd a
-took_read (Some text) (Some more) (Some before) (Some after) read bytes P c a h = (bytes, a, subst (λ (t : List ℕ). P t bytes) (sym c) (h more))
+took_read (Some text) (Some more) taken0 taken read bytes P c a h = (read ++ more, bytes, sym c, a, h more)
 
 -- all of the text was read
 pub took_all : (left0 left taken0 taken : Option (List ℕ)) (read bytes : List ℕ) (P : List ℕ → List ℕ → Type 0) → Consumes left0 left read → IsAtEnd left → Appends taken0 taken bytes → P read bytes → Took left0 taken0 taken P
-took_all None left taken0 taken read bytes P c e a h = tt
+took_all None left taken0 taken read bytes P c e a h = (read, bytes, tt, a, h)
 took_all (Some text) None taken0 taken read bytes P c e a h = absurd c
-took_all (Some text) (Some more) None taken read bytes P c e a h = tt
-took_all (Some text) (Some more) (Some before) None read bytes P c e a h = absurd a
-took_all (Some text) (Some more) (Some before) (Some after) read bytes P c e a h = (bytes, a, subst (λ (t : List ℕ). P t bytes) (sym (c ∙ (ap (λ t. read ++ t) e ∙ append-nil read))) h)
+took_all (Some text) (Some more) taken0 taken read bytes P c e a h = (read, bytes, sym (c ∙ (ap (λ t. read ++ t) e ∙ append-nil read)), a, h)
 
 -- what was stepped is an allowed output of some first lines, however the text goes on
 pub stepped_front : (quiet : Bool) (read : List ℕ) (number : ℕ) (m : Moment) (pending output : List ℕ) → HasStepped quiet read number m pending output → (more : List ℕ) → IsOutputOfFront quiet (read ++ more) output
@@ -168,9 +164,8 @@ first_output stands quiet text = record {
 }
 
 took_first : Stands first_moment → (quiet : Bool) (left taken : Option (List ℕ)) → Took left taken taken (IsOutputOfFront quiet)
-took_first stands quiet None taken = tt
-took_first stands quiet (Some text) None = tt
-took_first stands quiet (Some text) (Some before) = ([], sym (append-nil before), first_output stands quiet text)
+took_first stands quiet None taken = ([], [], tt, appends_nothing taken, first_output stands quiet [])
+took_first stands quiet (Some text) taken = (text, [], refl, appends_nothing taken, first_output stands quiet text)
 
 -- there was no memory for the words
 pub no_words : Stands first_moment → (command : Option Command) (left taken : Option (List ℕ)) → HasFirst command left taken taken

@@ -8,6 +8,7 @@ use Rattle.rib_merge.specs.Merging.{merged}
 use Rattle.rib_tree.specs.Branches.{Branch, org_rows, IsBranch}
 use Rattle.loss_chain.specs.Owners.{same_proto}
 use Rattle.loss_chain.specs.Tables.{NoneEmpty, OneEmptyAtMost}
+use Rattle.loss_chain.proofs.OwnerLemmas.{proto_itself}
 use Rattle.rib_tree.specs.Trees.{Treed, branch_of, put_branch, IsTree, IsFull, IsFullBut, low_rows, dyn_rows, int_rows, interior_distance}
 use Rattle.rib_tree.specs.Merges.{rows_into}
 
@@ -24,60 +25,46 @@ put_same Ospf t = refl
 put_same Rip t = refl
 
 -- what is chosen by the protocol, of one branch or of those in a tree, is that of the tree with this branch
-chosen_at : {A : Type 0} (f : Branch → A) (x : A) (proto other : Proto) (b : Branch) (t : Treed)
+pub chosen : {A : Type 0} (f : Branch → A) (x : A) (proto other : Proto) (b : Branch) (t : Treed)
     → cond (same_proto other proto) (cond (same_proto other proto) (f b) x) (f (branch_of other t)) ≡ f (branch_of other (put_branch proto b t))
-chosen_at f x Connected Connected b t = refl
-chosen_at f x Connected other b t = refl
-chosen_at f x Static Static b t = refl
-chosen_at f x Static other b t = refl
-chosen_at f x Ospf Ospf b t = refl
-chosen_at f x Ospf other b t = refl
-chosen_at f x Rip Rip b t = refl
-chosen_at f x Rip other b t = refl
+chosen f x Connected Connected b t = refl
+chosen f x Connected other b t = refl
+chosen f x Static Static b t = refl
+chosen f x Static other b t = refl
+chosen f x Ospf Ospf b t = refl
+chosen f x Ospf other b t = refl
+chosen f x Rip Rip b t = refl
+chosen f x Rip other b t = refl
 
-pub chosen : {A : Type 0} (f : Branch → A) (x : A) (proto other : Proto) (b : Branch) (t : Treed) → b.proto ≡ proto
-    → cond (same_proto other b.proto) (cond (same_proto other b.proto) (f b) x) (f (branch_of other t)) ≡ f (branch_of other (put_branch proto b t))
-chosen f x proto other b t same =
-    ap (λ k. cond (same_proto other k) (cond (same_proto other k) (f b) x) (f (branch_of other t))) same ∙ chosen_at f x proto other b t
-
--- what holds of the branch and of those in a tree
-put_each : (P : Proto → Branch → Type 0) (proto other : Proto) (b : Branch) (t : Treed) → P proto b → ((k : Proto) → P k (branch_of k t)) → P other (branch_of other (put_branch proto b t))
+-- what holds of the branch, and of the others in a tree
+put_each : (P : Proto → Branch → Type 0) (proto other : Proto) (b : Branch) (t : Treed) → P proto b → ((k : Proto) → same_proto k proto ≡ false → P k (branch_of k t)) → P other (branch_of other (put_branch proto b t))
 put_each P Connected Connected b t own each = own
-put_each P Connected other b t own each = each other
+put_each P Connected other b t own each = each other refl
 put_each P Static Static b t own each = own
-put_each P Static other b t own each = each other
+put_each P Static other b t own each = each other refl
 put_each P Ospf Ospf b t own each = own
-put_each P Ospf other b t own each = each other
+put_each P Ospf other b t own each = each other refl
 put_each P Rip Rip b t own each = own
-put_each P Rip other b t own each = each other
+put_each P Rip other b t own each = each other refl
 
 pub tree_put : (proto : Proto) (b : Branch) (t : Treed) → IsTree t → IsBranch b → b.proto ≡ proto → IsTree (put_branch proto b t)
 tree_put proto b t tree branch same = record {
-  each = λ other. put_each (λ k x. IsBranch x) proto other b t branch tree.each;
-  placed = λ other. put_each (λ k x. x.proto ≡ k) proto other b t same tree.placed;
+  each = λ other. put_each (λ k x. IsBranch x) proto other b t branch (λ k _. tree.each k);
+  placed = λ other. put_each (λ k x. x.proto ≡ k) proto other b t same (λ k _. tree.placed k);
 }
 
-pub full_put : (proto : Proto) (b : Branch) (t : Treed) → IsFull t → NoneEmpty b.deletions → IsFull (put_branch proto b t)
-full_put proto b t full none = λ other. put_each (λ k x. NoneEmpty x.deletions) proto other b t none full
+pub full_put : (proto : Proto) (b : Branch) (t : Treed) → IsFull t → NoneEmpty b.tables.deletions → IsFull (put_branch proto b t)
+full_put proto b t full none other = put_each (λ k x. NoneEmpty x.tables.deletions) proto other b t none (λ k _. full k)
 
-itself : (proto : Proto) → same_proto proto proto ≡ true
-itself Connected = refl
-itself Static = refl
-itself Ospf = refl
-itself Rip = refl
-
-pub full_but_put : (proto : Proto) (b : Branch) (t : Treed) → IsFull t → OneEmptyAtMost b.deletions → IsFullBut proto (put_branch proto b t)
+pub full_but_put : (proto : Proto) (b : Branch) (t : Treed) → IsFull t → OneEmptyAtMost b.tables.deletions → IsFullBut proto (put_branch proto b t)
 full_but_put proto b t full one = record {
-  one = subst (λ (x : Branch). OneEmptyAtMost x.deletions) (sym (put_own proto b t)) one;
-  others = λ other. put_each (λ k x. same_proto k proto ≡ false → NoneEmpty x.deletions) proto other b t (λ not_same. absurd (let clash : true ≡ false = sym (itself proto) ∙ not_same in cc)) (λ k _. full k);
+  one = subst (λ (x : Branch). OneEmptyAtMost x.tables.deletions) (sym (put_own proto b t)) one;
+  others = λ other. put_each (λ k x. same_proto k proto ≡ false → NoneEmpty x.tables.deletions) proto other b t (λ not_same. absurd (let clash : true ≡ false = sym (proto_itself proto) ∙ not_same in cc)) (λ k _ _. full k);
 }
 
 -- where this protocol's one is none too, all are full
-pub full_again : (proto : Proto) (b : Branch) (t : Treed) → IsFullBut proto t → NoneEmpty b.deletions → IsFull (put_branch proto b t)
-full_again Connected b t but none = λ other. elim other as (λ o. NoneEmpty (branch_of o (put_branch Connected b t)).deletions) [ Connected ↦ none | Static ↦ but.others Static refl | Ospf ↦ but.others Ospf refl | Rip ↦ but.others Rip refl ]
-full_again Static b t but none = λ other. elim other as (λ o. NoneEmpty (branch_of o (put_branch Static b t)).deletions) [ Connected ↦ but.others Connected refl | Static ↦ none | Ospf ↦ but.others Ospf refl | Rip ↦ but.others Rip refl ]
-full_again Ospf b t but none = λ other. elim other as (λ o. NoneEmpty (branch_of o (put_branch Ospf b t)).deletions) [ Connected ↦ but.others Connected refl | Static ↦ but.others Static refl | Ospf ↦ none | Rip ↦ but.others Rip refl ]
-full_again Rip b t but none = λ other. elim other as (λ o. NoneEmpty (branch_of o (put_branch Rip b t)).deletions) [ Connected ↦ but.others Connected refl | Static ↦ but.others Static refl | Ospf ↦ but.others Ospf refl | Rip ↦ none ]
+pub full_again : (proto : Proto) (b : Branch) (t : Treed) → IsFullBut proto t → NoneEmpty b.tables.deletions → IsFull (put_branch proto b t)
+full_again proto b t but none other = put_each (λ k x. NoneEmpty x.tables.deletions) proto other b t none but.others
 
 -- ---- where the rows of a protocol's link stay, those below do
 

@@ -4,7 +4,6 @@ use Rattle.std.specs.Prelude.{nat_lt}
 use Rattle.std.specs.Option.{option_map}
 use Rattle.addr4.specs.Prefixes.{Network}
 use Rattle.rib_route.specs.declared.Proto.{Proto}
-use Rattle.rib_route.specs.declared.Proto.TheVariants.{Connected, Static, Ospf, Rip}
 use Rattle.rib_route.specs.declared.rows.Interior.{Interior}
 use Rattle.rib_merge.specs.Merging.{row_of_both, merged}
 use Rattle.link_change.specs.Rows.{Rows, Candidates, with_rows, together, IsNextCandidate}
@@ -15,25 +14,19 @@ use Rattle.journal_text.specs.declared.value.Value.{Value}
 use Rattle.journal_text.specs.Walk.{Links, HasRow}
 use Rattle.journal_text.specs.Values.{interior_rows}
 use Rattle.rib_tree.specs.Branches.{Branch, branch_links}
-use Rattle.loss_chain.specs.Owners.{same_proto}
 use Rattle.loss_chain.specs.Tables.{rows_above}
+use Rattle.loss_chain.proofs.OwnerLemmas.{proto_itself}
 use Rattle.rib_tree.specs.Trees.{Treed, branch_of, tree_links, interior_distance}
 
 -- ---- the stage of a loss, which the branch names by its own protocol
 
-itself : (proto : Proto) → same_proto proto proto ≡ true
-itself Connected = refl
-itself Static = refl
-itself Ospf = refl
-itself Rip = refl
-
-lost_link : (b : Branch) (n : ℕ) → branch_links b (Lost b.proto n) ≡ option_map interior_rows (rows_above b.live n b.deletions)
-lost_link b n = ap (λ c. cond c (option_map interior_rows (rows_above b.live n b.deletions)) None) (itself b.proto)
+lost_link : (b : Branch) (n : ℕ) → branch_links b (Lost b.proto n) ≡ option_map interior_rows (rows_above b.tables.live n b.tables.deletions)
+lost_link b n = ap (λ c. cond c (option_map interior_rows (rows_above b.tables.live n b.tables.deletions)) None) (proto_itself b.proto)
 
 -- of this branch, which has its protocol's links in the tree
 pub lost_is : (t : Treed) (proto own : Proto) (b : Branch) (n : ℕ) → own ≡ b.proto → b ≡ branch_of proto t → branch_links b (Lost own n) ≡ tree_links t (Lost proto n)
 lost_is t proto own b n is same =
-    ap (λ (k : Proto). branch_links b (Lost k n)) is ∙ lost_link b n ∙ ap (λ (x : Branch). option_map interior_rows (rows_above x.live n x.deletions)) same
+    ap (λ (k : Proto). branch_links b (Lost k n)) is ∙ lost_link b n ∙ ap (λ (x : Branch). option_map interior_rows (rows_above x.tables.live n x.tables.deletions)) same
 
 pub has_row_too : (links more : Links Value) (link other : Link) (p : Network) (row : Option Value) → links link ≡ more other → HasRow links link p row → HasRow more other p row
 has_row_too links more link other p row same (rows, live, at) = (rows, sym same ∙ live, at)

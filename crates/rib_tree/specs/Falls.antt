@@ -24,11 +24,11 @@ merge_below Rip = Dyn
 
 -- from the live routes of a protocol down to `int`
 abbrev pub way_of_route : Proto → Treed → List Link
-way_of_route proto t = way_down (Origin proto) (Org proto) (branch_of proto t).deletions ++ (merge_below proto ∷ Int ∷ [])
+way_of_route proto t = way_down (Origin proto) (Org proto) (branch_of proto t).tables.deletions ++ (merge_below proto ∷ Int ∷ [])
 
 -- from the stage of a protocol's loss down to `int`
 abbrev pub way_of_sweep : Proto → ℕ → Treed → List Link
-way_of_sweep proto n t = way_from (Origin proto) n (Org proto) (branch_of proto t).deletions ++ (merge_below proto ∷ Int ∷ [])
+way_of_sweep proto n t = way_from (Origin proto) n (Org proto) (branch_of proto t).tables.deletions ++ (merge_below proto ∷ Int ∷ [])
 
 -- Whatever other links there are, the entries lead by the rules of the journal from the tree's old links to its new ones.
 abbrev pub LeadsTree : Treed → List (Entry Value) → Treed → Type 0

@@ -29,7 +29,7 @@ EachRowCounts = (t : Treed) (p : Network) → int_rows t p ≡ None → (proto :
 abbrev pub TurnsTakeRows : Type 0
 TurnsTakeRows =
     (t : Treed) (proto : Proto) (n : ℕ) (p : Network) (table : FinMap prefix_cmp Interior) (row : Interior) → IsTree t
-    → table_of n (branch_of proto t).deletions ≡ Some table → map.get table p ≡ Some row
+    → table_of n (branch_of proto t).tables.deletions ≡ Some table → map.get table p ≡ Some row
     → tree_count (swept_tree proto n p t) + 1 ≡ tree_count t
 
 -- When an empty stage goes, as many rows stay.

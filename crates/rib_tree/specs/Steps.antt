@@ -43,7 +43,7 @@ abbrev pub welded_tree : Proto → Treed → Treed
 welded_tree proto t = put_branch proto (welded_branch (branch_of proto t)) t
 
 abbrev pub tree_weld_entries : Proto → Treed → List (Entry Value)
-tree_weld_entries proto t = weld_entries (Origin proto) (Org proto) (branch_of proto t).deletions
+tree_weld_entries proto t = weld_entries (Origin proto) (Org proto) (branch_of proto t).tables.deletions
 
 -- the row at a prefix leaves the table of a loss
 abbrev pub swept_tree : Proto → ℕ → Network → Treed → Treed
@@ -58,7 +58,7 @@ pub record SweepsTree (old new : Treed) (proto : Proto) (n : ℕ) (sent : Option
   pub prefix : Network
   pub row : Interior
   pub table : FinMap prefix_cmp Interior
-  pub stands : table_of n (branch_of proto old).deletions ≡ Some table
+  pub stands : table_of n (branch_of proto old).tables.deletions ≡ Some table
   pub least : IsLeastRow (map.get table) prefix (Some row)
   pub after : new ≡ swept_tree proto n prefix old
   pub fall : FallsTree old new prefix (way_of_sweep proto n old) sent entries
@@ -66,7 +66,7 @@ pub record SweepsTree (old new : Treed) (proto : Proto) (n : ℕ) (sent : Option
 
 -- whether a task is one of the tree's and has work
 abbrev pub has_tree_turn : Treed → Task → Bool
-has_tree_turn t (Rdel proto n) = is_some (table_of n (branch_of proto t).deletions)
+has_tree_turn t (Rdel proto n) = is_some (table_of n (branch_of proto t).tables.deletions)
 has_tree_turn t (Del k s) = false
 has_tree_turn t (Fin k) = false
 

@@ -68,7 +68,7 @@ int_candidates t = with_rows (int_rows t)
 -- the links of the tree: `org.PROTO`, `org.PROTO.N` into the stage of each loss, `low`, `dyn` and `int`
 abbrev pub tree_links : Treed → Links Value
 tree_links t (Org proto) = Some (interior_rows (org_rows (branch_of proto t)))
-tree_links t (Lost proto n) = option_map interior_rows (rows_above (branch_of proto t).live n (branch_of proto t).deletions)
+tree_links t (Lost proto n) = option_map interior_rows (rows_above (branch_of proto t).tables.live n (branch_of proto t).tables.deletions)
 tree_links t Low = Some (interior_rows (low_rows t))
 tree_links t Dyn = Some (interior_rows (dyn_rows t))
 tree_links t Int = Some (interior_rows (int_rows t))
@@ -94,12 +94,12 @@ pub record IsTree (t : Treed) : Type 0 where
 
 -- no lost table is empty
 abbrev pub IsFull : Treed → Type 0
-IsFull t = (proto : Proto) → NoneEmpty (branch_of proto t).deletions
+IsFull t = (proto : Proto) → NoneEmpty (branch_of proto t).tables.deletions
 
 -- of this protocol at most one is empty, of the others none
 pub record IsFullBut (proto : Proto) (t : Treed) : Type 0 where
-  pub one : OneEmptyAtMost (branch_of proto t).deletions
-  pub others : (other : Proto) → same_proto other proto ≡ false → NoneEmpty (branch_of other t).deletions
+  pub one : OneEmptyAtMost (branch_of proto t).tables.deletions
+  pub others : (other : Proto) → same_proto other proto ≡ false → NoneEmpty (branch_of other t).tables.deletions
 
 -- how many rows all `org.PROTO` have
 abbrev pub tree_count : Treed → ℕ

@@ -12,14 +12,15 @@ ghost use Rattle.journal_text.specs.Journals.{Adds, with_entries};
 ghost use Rattle.loss_chain.specs.declared.owner.Owner.TheVariants as owners;
 ghost use Rattle.loss_chain.specs.Tables.{NoneEmpty, OneEmptyAtMost};
 ghost use Rattle.loss_chain.specs.Falls.{way_down};
-ghost use Rattle.loss_chain.specs.Steps.{weld_entries, oldest_of};
+ghost use Rattle.loss_chain.specs.Stages.{tables_of};
+ghost use Rattle.loss_chain.specs.Steps.{oldest_of};
 ghost use Rattle.rib_tree.specs.Branches.{branch_links, org_rows, branch_candidates, IsBranch, branch_count, LeadsBranch, FallsBranch};
-ghost use Rattle.rib_tree.specs.BranchSteps.{new_branch, fed_branch, lost_branch, loss_entries, welded_branch, overdue_of, IsTakenBranch};
+ghost use Rattle.rib_tree.specs.BranchSteps.{new_branch, fed_branch, lost_branch, loss_entries, with_tables, welded_branch, weld_entries, overdue_of, IsTakenBranch};
 
 use addr4::{Memory, Place, Prefix};
 use journal_text::{Journal, Link, Task, Value};
 use link_change::{Change, Turn, Upstream};
-use loss_chain::{LossChain, Owner};
+use loss_chain::{LossChain, Owner, Stage};
 use rib_route::{Interior, Proto};
 use std::alloc::Global;
 use std::marker::Model;
@@ -42,7 +43,7 @@ impl Model for Branch {
 
     ghost coded = { branch_code proto_row.the_row.coded interior_row.the_row.coded };
 
-    ghost view = { λ b. record { proto = b.proto; losses = b.losses; live = b.stages.live; deletions = b.stages.deletions } };
+    ghost view = { λ b. record { proto = b.proto; losses = b.losses; tables = b.stages } };
 }
 
 // The losses after one more; one of no routes makes no stage, and isn't counted.
@@ -74,6 +75,14 @@ impl Branch {
         self.proto
     }
 
+    /// The lowest of the protocol's stages, the one above `org.PROTO`. A deletion stage holds the stage above it in its box,
+    /// up to the live routes.
+    pub fn lowest(&self) -> &Stage<Interior>
+        ensures { tables_of result.now ≡ self.now.tables }
+    {
+        self.stages.lowest()
+    }
+
     /// A route of the protocol is set at a prefix (`new` is some), or taken away. Answers the change on `org.PROTO`: None
     /// exactly where its map stays the same. A route that is set takes its prefix out of the lost tables, and may so empty
     /// one: weld then. Memory comes only for want of memory.
@@ -84,13 +93,13 @@ impl Branch {
         journal: &mut Journal,
     ) -> Result<Option<Change<Interior>>, Memory>
         requires chain { IsBranch self.old }
-        requires full { NoneEmpty self.old.deletions }
+        requires full { NoneEmpty self.old.tables.deletions }
         requires own { IfSome new (λ row. row.proto ≡ self.old.proto) }
         ensures sent { IfOk result (IsSent (org_rows self.old) (org_rows self.new) p) }
         ensures after { OnOk result (self.new ≡ fed_branch self.old p new) }
-        ensures lines { IfOk result (λ sent. Adds (FallsBranch self.old self.new p (way_down (owners.Origin self.old.proto) (names.Org self.old.proto) self.old.deletions) sent) journal.old journal.new) }
+        ensures lines { IfOk result (λ sent. Adds (FallsBranch self.old self.new p (way_down (owners.Origin self.old.proto) (names.Org self.old.proto) self.old.tables.deletions) sent) journal.old journal.new) }
         ensures chain { OnOk result (IsBranch self.new) }
-        ensures one_empty { OnOk result (OneEmptyAtMost self.new.deletions) }
+        ensures one_empty { OnOk result (OneEmptyAtMost self.new.tables.deletions) }
     {
         let owner = Owner::Origin(self.proto);
         let sent = self.stages.feed(owner, p, new, journal)?;
@@ -99,7 +108,7 @@ impl Branch {
 
     /// Whether a route of the protocol is live at the prefix.
     pub fn has(&self, p: Prefix) -> bool
-        ensures { result ≡ is_some (map.get self.now.live p) }
+        ensures { result ≡ is_some (map.get self.now.tables.live p) }
     {
         self.stages.has(p)
     }
@@ -114,7 +123,7 @@ impl Branch {
 
     /// The task of the deletion stage that stands longest, the lowest; None where none stands.
     pub fn oldest(&self) -> Option<Task>
-        ensures { result ≡ oldest_of (owners.Origin self.now.proto) self.now.deletions }
+        ensures { result ≡ oldest_of (owners.Origin self.now.proto) self.now.tables.deletions }
     {
         self.stages.oldest(Owner::Origin(self.proto))
     }
@@ -124,7 +133,7 @@ impl Branch {
     /// same.
     pub fn lose(&mut self, journal: &mut Journal) -> Result<(), Memory>
         requires chain { IsBranch self.old }
-        requires full { NoneEmpty self.old.deletions }
+        requires full { NoneEmpty self.old.tables.deletions }
         requires room { overdue_of self.old ≡ None }
         requires few { self.old.losses < 4294967295 }
         ensures after { OnOk result (self.new ≡ lost_branch self.old) }
@@ -132,7 +141,7 @@ impl Branch {
         ensures leads { OnOk result (LeadsBranch self.old (loss_entries self.old) self.new) }
         ensures rows { OnOk result (org_rows self.new ≡ org_rows self.old) }
         ensures chain { OnOk result (IsBranch self.new) }
-        ensures full { OnOk result (NoneEmpty self.new.deletions) }
+        ensures full { OnOk result (NoneEmpty self.new.tables.deletions) }
     {
         let losses = counted(self.losses, self.stages.has_no_live());
         self.stages
@@ -144,13 +153,13 @@ impl Branch {
     /// Takes out the stage that a feed or a turn emptied, if there is one: the link above it is welded into the one below.
     pub fn weld(&mut self, journal: &mut Journal) -> Result<(), Memory>
         requires chain { IsBranch self.old }
-        requires one_empty { OneEmptyAtMost self.old.deletions }
+        requires one_empty { OneEmptyAtMost self.old.tables.deletions }
         ensures after { OnOk result (self.new ≡ welded_branch self.old) }
-        ensures lines { OnOk result (journal.new ≡ with_entries journal.old (weld_entries (owners.Origin self.old.proto) (names.Org self.old.proto) self.old.deletions)) }
-        ensures leads { OnOk result (LeadsBranch self.old (weld_entries (owners.Origin self.old.proto) (names.Org self.old.proto) self.old.deletions) self.new) }
+        ensures lines { OnOk result (journal.new ≡ with_entries journal.old (weld_entries self.old)) }
+        ensures leads { OnOk result (LeadsBranch self.old (weld_entries self.old) self.new) }
         ensures rows { OnOk result (org_rows self.new ≡ org_rows self.old) }
         ensures chain { OnOk result (IsBranch self.new) }
-        ensures full { OnOk result (NoneEmpty self.new.deletions) }
+        ensures full { OnOk result (NoneEmpty self.new.tables.deletions) }
     {
         self.stages.weld(Owner::Origin(self.proto), journal)?;
         Ok(())
@@ -161,10 +170,11 @@ impl Branch {
     /// stage: weld then.
     pub fn unit(&mut self, loss: u32, journal: &mut Journal) -> Result<Turn<Interior>, Memory>
         requires chain { IsBranch self.old }
-        requires full { NoneEmpty self.old.deletions }
+        requires full { NoneEmpty self.old.tables.deletions }
+        ensures kept { self.new ≡ with_tables self.old self.new.tables }
         ensures taken { IfOk result (IsTakenBranch self.old self.new loss journal.old journal.new) }
         ensures chain { OnOk result (IsBranch self.new) }
-        ensures one_empty { OnOk result (OneEmptyAtMost self.new.deletions) }
+        ensures one_empty { OnOk result (OneEmptyAtMost self.new.tables.deletions) }
     {
         let turn = self.stages.unit(Owner::Origin(self.proto), loss, journal)?;
         Ok(turn)

@@ -33,6 +33,15 @@ pub fn forward(change: &Change<Interior>) -> Option<Change<FibRow>>
     ensures { ForwardsOn change.now result }
 {
     let before = forwarded(&change.before);
-    let after = forwarded(&change.after);
-    Change::between(change.prefix, before, after)
+    // By cases: the prover asks for a row in sight where one is passed on.
+    match forwarded(&change.after) {
+        None => match before {
+            None => None,
+            Some(before) => Change::between(change.prefix, Some(before), None),
+        },
+        Some(after) => match before {
+            None => Change::between(change.prefix, None, Some(after)),
+            Some(before) => Change::between(change.prefix, Some(before), Some(after)),
+        },
+    }
 }

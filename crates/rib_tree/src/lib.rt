@@ -12,7 +12,7 @@
 //! ```
 //!
 //! A [`Tree`] holds a [`Branch`] for each protocol: its live routes, and a deletion stage for each of
-//! its losses whose routes aren't deleted yet. Two merges bring the four links together in two, `low` and `dyn`, and a
+//! its losses whose routes aren't deleted yet, in boxes ([`Branch::lowest`] lends them). Two merges bring the four links together in two, `low` and `dyn`, and a
 //! third these in `int`: at each prefix the row of the least administrative distance stands. The merges hold no rows:
 //! beside a change they ask the other link for its row at the prefix. [`forward`] is what `fib` gets of a change of `int`.
 //!

@@ -9,8 +9,7 @@ ghost use Rattle.rib_tree.specs.Branches.{org_rows, IsBranch};
 ghost use Rattle.loss_chain.specs.Tables.{NoneEmpty, OneEmptyAtMost};
 ghost use Rattle.rib_tree.specs.Branches.{FallsBranch, LeadsBranch};
 ghost use Rattle.loss_chain.specs.Falls.{way_down};
-ghost use Rattle.rib_tree.specs.BranchSteps.{fed_branch, lost_branch, loss_entries, welded_branch, overdue_of, IsTakenBranch};
-ghost use Rattle.loss_chain.specs.Steps.{weld_entries};
+ghost use Rattle.rib_tree.specs.BranchSteps.{fed_branch, lost_branch, loss_entries, with_tables, welded_branch, weld_entries, overdue_of, IsTakenBranch};
 ghost use Rattle.rib_tree.specs.Trees.{branch_of};
 ghost use Rattle.rib_tree.specs.Merges.{DifferAt};
 
@@ -30,14 +29,14 @@ impl Tree {
         journal: &mut Journal,
     ) -> Result<Option<Change<Interior>>, Memory>
         requires branch { IsBranch (branch_of proto self.old) }
-        requires full { NoneEmpty (branch_of proto self.old).deletions }
+        requires full { NoneEmpty (branch_of proto self.old).tables.deletions }
         requires own { IfSome new (λ row. row.proto ≡ (branch_of proto self.old).proto) }
         ensures others { DifferAt proto self.old self.new }
         ensures sent { IfOk result (IsSent (org_rows (branch_of proto self.old)) (org_rows (branch_of proto self.new)) p) }
         ensures after { OnOk result (branch_of proto self.new ≡ fed_branch (branch_of proto self.old) p new) }
-        ensures lines { IfOk result (λ sent. let b = branch_of proto self.old in Adds (FallsBranch b (branch_of proto self.new) p (way_down (owners.Origin b.proto) (names.Org b.proto) b.deletions) sent) journal.old journal.new) }
+        ensures lines { IfOk result (λ sent. let b = branch_of proto self.old in Adds (FallsBranch b (branch_of proto self.new) p (way_down (owners.Origin b.proto) (names.Org b.proto) b.tables.deletions) sent) journal.old journal.new) }
         ensures branch { OnOk result (IsBranch (branch_of proto self.new)) }
-        ensures one_empty { OnOk result (OneEmptyAtMost (branch_of proto self.new).deletions) }
+        ensures one_empty { OnOk result (OneEmptyAtMost (branch_of proto self.new).tables.deletions) }
     {
         match proto {
             Proto::Connected => self.connected.feed(p, new, journal),
@@ -50,7 +49,7 @@ impl Tree {
     /// A protocol's routes are lost.
     pub(crate) fn lose_branch(&mut self, proto: Proto, journal: &mut Journal) -> Result<(), Memory>
         requires branch { IsBranch (branch_of proto self.old) }
-        requires full { NoneEmpty (branch_of proto self.old).deletions }
+        requires full { NoneEmpty (branch_of proto self.old).tables.deletions }
         requires room { overdue_of (branch_of proto self.old) ≡ None }
         requires few { (branch_of proto self.old).losses < 4294967295 }
         ensures others { DifferAt proto self.old self.new }
@@ -59,7 +58,7 @@ impl Tree {
         ensures leads { OnOk result (LeadsBranch (branch_of proto self.old) (loss_entries (branch_of proto self.old)) (branch_of proto self.new)) }
         ensures rows { OnOk result (org_rows (branch_of proto self.new) ≡ org_rows (branch_of proto self.old)) }
         ensures branch { OnOk result (IsBranch (branch_of proto self.new)) }
-        ensures full { OnOk result (NoneEmpty (branch_of proto self.new).deletions) }
+        ensures full { OnOk result (NoneEmpty (branch_of proto self.new).tables.deletions) }
     {
         match proto {
             Proto::Connected => self.connected.lose(journal),
@@ -72,14 +71,14 @@ impl Tree {
     /// The stage of a protocol that stands empty goes.
     pub(crate) fn weld_branch(&mut self, proto: Proto, journal: &mut Journal) -> Result<(), Memory>
         requires branch { IsBranch (branch_of proto self.old) }
-        requires one_empty { OneEmptyAtMost (branch_of proto self.old).deletions }
+        requires one_empty { OneEmptyAtMost (branch_of proto self.old).tables.deletions }
         ensures others { DifferAt proto self.old self.new }
         ensures after { OnOk result (branch_of proto self.new ≡ welded_branch (branch_of proto self.old)) }
-        ensures lines { OnOk result (let b = branch_of proto self.old in journal.new ≡ with_entries journal.old (weld_entries (owners.Origin b.proto) (names.Org b.proto) b.deletions)) }
-        ensures leads { OnOk result (let b = branch_of proto self.old in LeadsBranch b (weld_entries (owners.Origin b.proto) (names.Org b.proto) b.deletions) (branch_of proto self.new)) }
+        ensures lines { OnOk result (journal.new ≡ with_entries journal.old (weld_entries (branch_of proto self.old))) }
+        ensures leads { OnOk result (LeadsBranch (branch_of proto self.old) (weld_entries (branch_of proto self.old)) (branch_of proto self.new)) }
         ensures rows { OnOk result (org_rows (branch_of proto self.new) ≡ org_rows (branch_of proto self.old)) }
         ensures branch { OnOk result (IsBranch (branch_of proto self.new)) }
-        ensures full { OnOk result (NoneEmpty (branch_of proto self.new).deletions) }
+        ensures full { OnOk result (NoneEmpty (branch_of proto self.new).tables.deletions) }
     {
         match proto {
             Proto::Connected => self.connected.weld(journal),
@@ -97,11 +96,12 @@ impl Tree {
         journal: &mut Journal,
     ) -> Result<Turn<Interior>, Memory>
         requires branch { IsBranch (branch_of proto self.old) }
-        requires full { NoneEmpty (branch_of proto self.old).deletions }
+        requires full { NoneEmpty (branch_of proto self.old).tables.deletions }
         ensures others { DifferAt proto self.old self.new }
+        ensures kept { branch_of proto self.new ≡ with_tables (branch_of proto self.old) (branch_of proto self.new).tables }
         ensures taken { IfOk result (IsTakenBranch (branch_of proto self.old) (branch_of proto self.new) loss journal.old journal.new) }
         ensures branch { OnOk result (IsBranch (branch_of proto self.new)) }
-        ensures one_empty { OnOk result (OneEmptyAtMost (branch_of proto self.new).deletions) }
+        ensures one_empty { OnOk result (OneEmptyAtMost (branch_of proto self.new).tables.deletions) }
     {
         match proto {
             Proto::Connected => self.connected.unit(loss, journal),

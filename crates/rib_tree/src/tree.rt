@@ -67,7 +67,7 @@ impl Tree {
 
     /// Whether a route of a protocol is live at the prefix.
     pub fn has(&self, proto: Proto, p: Prefix) -> bool
-        ensures { result ≡ is_some (map.get (branch_of proto self.now).live p) }
+        ensures { result ≡ is_some (map.get (branch_of proto self.now).tables.live p) }
     {
         self.branch(proto).has(p)
     }

@@ -40,7 +40,7 @@ module _ (old : Cored) (m : Moment) (n : ℕ) (failed : Bool) (view : record { m
   core_worked m' said work = record { stands = work.stands; numbered = λ proto. let most = work.losses n stood.numbered proto in omega (arith, most) }
 
 -- ---- the first moment
-few_new : (proto : Proto) → length (branch_of proto new_tree).deletions ≤ 16
+few_new : (proto : Proto) → length (branch_of proto new_tree).tables.deletions ≤ 16
 few_new Connected = omega arith
 few_new Static = omega arith
 few_new Ospf = omega arith

@@ -39,7 +39,7 @@ none_there n (d ∷ ds) full none =
     let zero_len : tables.len d.rows ≡ 0 = omega arith in
     absurd (let contra : is_empty_map d.rows ≡ true = grind (arith, nat_tests) in cc)
 
-none_lost : (proto : Proto) (t : Treed) → tree_count t ≡ 0 → lost_count (branch_of proto t).deletions ≡ 0
+none_lost : (proto : Proto) (t : Treed) → tree_count t ≡ 0 → lost_count (branch_of proto t).tables.deletions ≡ 0
 none_lost Connected t none = omega (arith, none)
 none_lost Static t none = omega (arith, none)
 none_lost Ospf t none = omega (arith, none)
@@ -47,7 +47,7 @@ none_lost Rip t none = omega (arith, none)
 
 no_rows_no_turn : (proto : Proto) (n : ℕ) (m : Moment) → Stands m → tree_count m.tree ≡ 0 → has_work (Rdel proto n) m ≡ false
 no_rows_no_turn proto n m stands none =
-    ap (λ (o : Option (FinMap prefix_cmp Interior)). is_some o) (none_there n (branch_of proto m.tree).deletions (stands.tree.full proto) (none_lost proto m.tree none))
+    ap (λ (o : Option (FinMap prefix_cmp Interior)). is_some o) (none_there n (branch_of proto m.tree).tables.deletions (stands.tree.full proto) (none_lost proto m.tree none))
 
 pub loss_drained : (task : Task) (proto : Proto) (l rows n : ℕ) (m m' : Moment) (before now : Journaled) → task ≡ Rdel proto l → rows ≡ tree_count m.tree → Gives (AreTurns task rows m n m') before now
     → Gives (HasDrained task m n m') before now
@@ -69,8 +69,8 @@ branch_losses proto (d ∷ ds) rest all = (tt, branch_losses proto ds rest all)
 
 are_losses : (t : Treed) → AllByRecursion IsOfLoss (tree_tasks t)
 are_losses t =
-    branch_losses t.connected.proto t.connected.deletions _ (branch_losses t.statics.proto t.statics.deletions _ (branch_losses t.ospf.proto t.ospf.deletions _
-    (subst (AllByRecursion IsOfLoss) (append-nil (branch_tasks t.rip)) (branch_losses t.rip.proto t.rip.deletions [] tt))))
+    branch_losses t.connected.proto t.connected.tables.deletions _ (branch_losses t.statics.proto t.statics.tables.deletions _ (branch_losses t.ospf.proto t.ospf.tables.deletions _
+    (subst (AllByRecursion IsOfLoss) (append-nil (branch_tasks t.rip)) (branch_losses t.rip.proto t.rip.tables.deletions [] tt))))
 
 chains_after_turns : (n : ℕ) (proto : Proto) (l : ℕ) (m m' : Moment) (said : List Line) → Turns n (Rdel proto l) m said m' → m'.chains ≡ m.chains
 chains_after_turns zero proto l m m' said t = ap (λ (x : Moment). x.chains) t.1
@@ -238,5 +238,5 @@ all_drained m first second now losses stages walks before j j2 j3 stands g u v =
     settled : IsSettled now
     settled = record {
       tree = v.2.keeps phases.Rdel (u.2.keeps phases.Rdel g.2.over);
-      chains = all_both (λ c. c.incoming.deletions ≡ []) (λ c. c.filter.walk ≡ None) ChainIsSettled (λ c stages walk. record { deletions = stages; walk = walk }) now.chains (v.2.keeps phases.Del u.2.over) v.2.over;
+      chains = all_both (λ c. c.incoming.tables.deletions ≡ []) (λ c. c.filter.walk ≡ None) ChainIsSettled (λ c stages walk. record { deletions = stages; walk = walk }) now.chains (v.2.keeps phases.Del u.2.over) v.2.over;
     }

@@ -63,9 +63,9 @@ fed_one k p row m c c' said stands up at f =
     let peer = peer_of m stands k c at in
     let number : c'.incoming.number ≡ k = f.step.number ∙ number_at k m.chains c at in
     let is_up : peer.0.up ≡ true = ap (λ (q : DeclaredPeer). q.up) (one_peer peer.0 up.0 (sym peer.1 ∙ up.1)) ∙ up.2 in
-    let tables : c'.incoming.deletions ≡ filter is_full (map (thinned p row) c.incoming.deletions) = ap (λ (x : Chained). x.incoming.deletions) f.after ∙ ap (filter is_full) (thinned_all p row c.incoming.deletions) in
+    let tables : c'.incoming.tables.deletions ≡ filter is_full (map (thinned p row) c.incoming.tables.deletions) = ap (λ (x : Chained). x.incoming.tables.deletions) f.after ∙ ap (filter is_full) (thinned_all p row c.incoming.tables.deletions) in
     let here : PeerStands peer.0 c' = peer_left peer.0 c c' (thinned p row) is_full (thinned_number p row) tables f.step.words.1 f.step.chain f.step.full (silent_up peer.0.up c' is_up) peer.2 in
-    let live : c'.incoming.live ≡ live_after c.incoming.live p row = ap (λ (x : Chained). x.incoming.live) f.after in
+    let live : c'.incoming.tables.live ≡ live_after c.incoming.tables.live p row = ap (λ (x : Chained). x.incoming.tables.live) f.after in
     let feeds : Feeds k (p, row) m said (with_chain m c') = record { chain = c; at = at; sent = f.sent; entries = f.entries; falls = f.falls; rows = f.rows; lines = f.lines; after = ap (with_chain m) f.after } in
     record {
       feeds = (said, [], with_chain m c', feeds, (refl, refl), sym (append-nil said));

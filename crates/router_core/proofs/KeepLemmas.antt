@@ -58,26 +58,26 @@ no_walk_stays (Del k s) c c' sent entries t none = ap (λ (x : Chained). x.filte
 no_walk_stays (Fin k) c c' sent entries t none = absurd (let on = t.1.walks.on in cc)
 no_walk_stays (Rdel proto n) c c' sent entries t none = absurd t
 
-no_stage_stays : (task : Task) (c c' : Chained) (sent : Option (Change Route)) (entries : List (Entry Value)) → Turned c c' task sent entries → c.incoming.deletions ≡ []
-    → (welded c').incoming.deletions ≡ []
+no_stage_stays : (task : Task) (c c' : Chained) (sent : Option (Change Route)) (entries : List (Entry Value)) → Turned c c' task sent entries → c.incoming.tables.deletions ≡ []
+    → (welded c').incoming.tables.deletions ≡ []
 no_stage_stays (Del k s) c c' sent entries t none =
-    absurd (let there = t.1.stands in let gone : table_of s c.incoming.deletions ≡ None = ap (table_of s) none in cc)
-no_stage_stays (Fin k) c c' sent entries t none = ap (λ (x : Chained). filter is_full x.incoming.deletions) t.1.after ∙ ap (filter is_full) none
+    absurd (let there = t.1.stands in let gone : table_of s c.incoming.tables.deletions ≡ None = ap (table_of s) none in cc)
+no_stage_stays (Fin k) c c' sent entries t none = ap (λ (x : Chained). filter is_full x.incoming.tables.deletions) t.1.after ∙ ap (filter is_full) none
 no_stage_stays (Rdel proto n) c c' sent entries t none = absurd t
 
 peer_over_stays : (phase : Phase) (task : Task) (m m' : Moment) (said : List Line) → IsPeerTurn task m said m' → IsOver phase m → IsOver phase m'
 peer_over_stays phases.Rdel task m m' said t over = subst (IsOver phases.Rdel) (sym t.after) over
 peer_over_stays phases.Del task m m' said t over =
-    subst (IsOver phases.Del) (sym t.after) (all_put (λ c. c.incoming.deletions ≡ []) (welded t.turned_chain) m.chains over
-    (no_stage_stays task t.chain t.turned_chain t.sent t.entries t.turned (all_at (λ c. c.incoming.deletions ≡ []) (peer_of task) m.chains t.chain over t.at)))
+    subst (IsOver phases.Del) (sym t.after) (all_put (λ c. c.incoming.tables.deletions ≡ []) (welded t.turned_chain) m.chains over
+    (no_stage_stays task t.chain t.turned_chain t.sent t.entries t.turned (all_at (λ c. c.incoming.tables.deletions ≡ []) (peer_of task) m.chains t.chain over t.at)))
 peer_over_stays phases.Fin task m m' said t over =
     subst (IsOver phases.Fin) (sym t.after) (all_put (λ c. c.filter.walk ≡ None) (welded t.turned_chain) m.chains over
     (no_walk_stays task t.chain t.turned_chain t.sent t.entries t.turned (all_at (λ c. c.filter.walk ≡ None) (peer_of task) m.chains t.chain over t.at)))
 
 route_over_stays : (phase : Phase) (proto : Proto) (n : ℕ) (m m' : Moment) (said : List Line) → IsRouteTurn proto n m said m' → IsOver phase m → IsOver phase m'
 route_over_stays phases.Rdel proto n m m' said t over =
-    absurd (let there = t.stands in let gone : table_of_loss n (branch_of proto m.tree).deletions ≡ None = ap (table_of_loss n) (over proto) in cc)
-route_over_stays phases.Del proto n m m' said t over = subst (AllByRecursion (λ c. c.incoming.deletions ≡ [])) (sym t.falls.after.chains) over
+    absurd (let there = t.stands in let gone : table_of_loss n (branch_of proto m.tree).tables.deletions ≡ None = ap (table_of_loss n) (over proto) in cc)
+route_over_stays phases.Del proto n m m' said t over = subst (AllByRecursion (λ c. c.incoming.tables.deletions ≡ [])) (sym t.falls.after.chains) over
 route_over_stays phases.Fin proto n m m' said t over = subst (AllByRecursion (λ c. c.filter.walk ≡ None)) (sym t.falls.after.chains) over
 
 pub over_stays : (phase : Phase) (task : Task) (m m' : Moment) (said : List Line) → IsTurn task m said m' → IsOver phase m → IsOver phase m'

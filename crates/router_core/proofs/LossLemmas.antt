@@ -22,7 +22,7 @@ use Rattle.loss_chain.specs.declared.owner.Owner.TheVariants as owners
 use Rattle.loss_chain.specs.Tables.{NoneEmpty}
 use Rattle.in_chain.specs.Chains.{Chained, beside, IsChain}
 use Rattle.in_chain.specs.Falls.{LeadsChain}
-use Rattle.in_chain.specs.IncomingSteps.{loss_entries, overdue_of}
+use Rattle.in_chain.specs.Incomings.{loss_entries, overdue_of}
 use Rattle.loss_chain.specs.Steps.{oldest_of}
 use Rattle.in_chain.specs.Steps.{lost}
 use Rattle.router_core.specs.Moments.{Moment, chain_at, put_chain, Gives}
@@ -37,7 +37,7 @@ use Rattle.router_core.proofs.TurnLemmas.{flushed_join, leads_join}
 use Rattle.router_core.proofs.PlaceLemmas.{at_place, set_at_place}
 
 -- ---- in a chain
-pub loses_chain : (s : ℕ) (c c' : Chained) (before now : Journaled) → c' ≡ lost s c → now ≡ with_entries before (loss_entries s c.incoming) → LeadsChain c (loss_entries s c.incoming) c' → IsChain c' → NoneEmpty c'.incoming.deletions
+pub loses_chain : (s : ℕ) (c c' : Chained) (before now : Journaled) → c' ≡ lost s c → now ≡ with_entries before (loss_entries s c.incoming) → LeadsChain c (loss_entries s c.incoming) c' → IsChain c' → NoneEmpty c'.incoming.tables.deletions
     → Pushes (LosesChain s c c') before now
 loses_chain s c c' before now is lines leads chain full = (
   journal_lines (loss_entries s c.incoming),
@@ -125,45 +125,45 @@ none_of : (b : Bool) (o : Option Task) → cond b None o ≡ None → (task : Ta
 none_of true o e task some = refl
 none_of false o e task some = let s = some in absurd (cc)
 
-room_of : (c : Chained) → overdue_of c.incoming ≡ None → is_empty_map c.incoming.live ≡ false → length c.incoming.deletions < 16
-room_of c none full = by_stages c.incoming.deletions refl
+room_of : (c : Chained) → overdue_of c.incoming ≡ None → is_empty_map c.incoming.tables.live ≡ false → length c.incoming.tables.deletions < 16
+room_of c none full = by_stages c.incoming.tables.deletions refl
   where
-    by_stages : (x : List (Lost Attrs)) → c.incoming.deletions ≡ x → length c.incoming.deletions < 16
-    by_stages [] is = let e : length c.incoming.deletions ≡ 0 = ap length is in omega arith
+    by_stages : (x : List (Lost Attrs)) → c.incoming.tables.deletions ≡ x → length c.incoming.tables.deletions < 16
+    by_stages [] is = let e : length c.incoming.tables.deletions ≡ 0 = ap length is in omega arith
     by_stages (d ∷ ds) is =
-        let b = none_of (nat_lt (length c.incoming.deletions) 16 || is_empty_map c.incoming.live) (oldest_of (owners.Peer c.incoming.number) c.incoming.deletions) none (Del c.incoming.number d.number) (ap (oldest_of (owners.Peer c.incoming.number)) is) in
-        let only : nat_lt (length c.incoming.deletions) 16 ≡ true = left_of (nat_lt (length c.incoming.deletions) 16) (is_empty_map c.incoming.live) b full in
+        let b = none_of (nat_lt (length c.incoming.tables.deletions) 16 || is_empty_map c.incoming.tables.live) (oldest_of (owners.Peer c.incoming.number) c.incoming.tables.deletions) none (Del c.incoming.number d.number) (ap (oldest_of (owners.Peer c.incoming.number)) is) in
+        let only : nat_lt (length c.incoming.tables.deletions) 16 ≡ true = left_of (nat_lt (length c.incoming.tables.deletions) 16) (is_empty_map c.incoming.tables.live) b full in
         grind (arith, nat_tests)
       where
         left_of : (a b : Bool) → (a || b) ≡ true → b ≡ false → a ≡ true
         left_of true b e f = refl
         left_of false b e f = absurd (cc)
 
-lost_stands : (p : DeclaredPeer) (s : ℕ) (c : Chained) → p.up ≡ true → p.session ≡ s → PeerStands p c → overdue_of c.incoming ≡ None → IsChain (lost s c) → NoneEmpty (lost s c).incoming.deletions → PeerStands (down p) (lost s c)
+lost_stands : (p : DeclaredPeer) (s : ℕ) (c : Chained) → p.up ≡ true → p.session ≡ s → PeerStands p c → overdue_of c.incoming ≡ None → IsChain (lost s c) → NoneEmpty (lost s c).incoming.tables.deletions → PeerStands (down p) (lost s c)
 lost_stands p s c up session stands room chain full = record {
   words = stands.words;
   chain = chain;
   full = full;
-  few = (by_test (is_empty_map c.incoming.live) refl).0;
-  earlier = (by_test (is_empty_map c.incoming.live) refl).1;
+  few = (by_test (is_empty_map c.incoming.tables.live) refl).0;
+  earlier = (by_test (is_empty_map c.incoming.tables.live) refl).1;
   silent = refl;
 }
   where
-    low : AllByRecursion (λ d. d.number ≤ p.session) c.incoming.deletions
-    low = low_of p c.incoming.deletions (up_as p p.up c.incoming.deletions up stands.earlier)
+    low : AllByRecursion (λ d. d.number ≤ p.session) c.incoming.tables.deletions
+    low = low_of p c.incoming.tables.deletions (up_as p p.up c.incoming.tables.deletions up stands.earlier)
 
-    by_test : (b : Bool) → is_empty_map c.incoming.live ≡ b → (length (lost s c).incoming.deletions ≤ 16) × AllByRecursion (λ d. d.number ≤ p.session) (lost s c).incoming.deletions
+    by_test : (b : Bool) → is_empty_map c.incoming.tables.live ≡ b → (length (lost s c).incoming.tables.deletions ≤ 16) × AllByRecursion (λ d. d.number ≤ p.session) (lost s c).incoming.tables.deletions
     by_test true e =
-        let is : (lost s c).incoming.deletions ≡ c.incoming.deletions = ap (λ (b : Bool). cond b c.incoming.deletions (c.incoming.deletions ++ record { number = s; rows = c.incoming.live } ∷ [])) e in
-        let n : length (lost s c).incoming.deletions ≡ length c.incoming.deletions = ap length is in
+        let is : (lost s c).incoming.tables.deletions ≡ c.incoming.tables.deletions = ap (λ (b : Bool). cond b c.incoming.tables.deletions (c.incoming.tables.deletions ++ record { number = s; rows = c.incoming.tables.live } ∷ [])) e in
+        let n : length (lost s c).incoming.tables.deletions ≡ length c.incoming.tables.deletions = ap length is in
         let was = stands.few in
         (omega arith, subst (λ (ds : List (Lost Attrs)). AllByRecursion (λ d. d.number ≤ p.session) ds) (sym is) low)
     by_test false e =
-        let is : (lost s c).incoming.deletions ≡ c.incoming.deletions ++ record { number = s; rows = c.incoming.live } ∷ [] = ap (λ (b : Bool). cond b c.incoming.deletions (c.incoming.deletions ++ record { number = s; rows = c.incoming.live } ∷ [])) e in
-        let n : length (lost s c).incoming.deletions ≡ length (c.incoming.deletions ++ record { number = s; rows = c.incoming.live } ∷ []) = ap length is in
-        let m : length (c.incoming.deletions ++ record { number = s; rows = c.incoming.live } ∷ []) ≡ length c.incoming.deletions + 1 = length-append c.incoming.deletions (record { number = s; rows = c.incoming.live } ∷ []) in
+        let is : (lost s c).incoming.tables.deletions ≡ c.incoming.tables.deletions ++ record { number = s; rows = c.incoming.tables.live } ∷ [] = ap (λ (b : Bool). cond b c.incoming.tables.deletions (c.incoming.tables.deletions ++ record { number = s; rows = c.incoming.tables.live } ∷ [])) e in
+        let n : length (lost s c).incoming.tables.deletions ≡ length (c.incoming.tables.deletions ++ record { number = s; rows = c.incoming.tables.live } ∷ []) = ap length is in
+        let m : length (c.incoming.tables.deletions ++ record { number = s; rows = c.incoming.tables.live } ∷ []) ≡ length c.incoming.tables.deletions + 1 = length-append c.incoming.tables.deletions (record { number = s; rows = c.incoming.tables.live } ∷ []) in
         let was = room_of c room e in
-        (omega arith, subst (λ (ds : List (Lost Attrs)). AllByRecursion (λ d. d.number ≤ p.session) ds) (sym is) (low_push p.session c.incoming.deletions (record { number = s; rows = c.incoming.live }) low (omega arith)))
+        (omega arith, subst (λ (ds : List (Lost Attrs)). AllByRecursion (λ d. d.number ≤ p.session) ds) (sym is) (low_push p.session c.incoming.tables.deletions (record { number = s; rows = c.incoming.tables.live }) low (omega arith)))
 
 -- the loss in a peer's chain is one of the router
 pub ends_one : (k s : ℕ) (m : Moment) (c c' : Chained) (said : List Line) → Stands m → IsSession k s m → overdue_of c.incoming ≡ None → chain_at k m.chains ≡ Some c → LosesChain s c c' said
@@ -175,7 +175,7 @@ ends_one k s m c c' said stands up free at f =
     let session : peer.0.session ≡ s = ap (λ (q : DeclaredPeer). q.session) same ∙ up.3 in
     let number : c'.incoming.number ≡ k = f.step.number ∙ number_at k m.chains c at in
     let here : PeerStands (down peer.0) c' = subst (λ (x : Chained). PeerStands (down peer.0) x) (sym f.is)
-    (lost_stands peer.0 s c is_up session peer.2 free (subst IsChain f.is f.step.chain) (subst (λ (x : Chained). NoneEmpty x.incoming.deletions) f.is f.step.full)) in
+    (lost_stands peer.0 s c is_up session peer.2 free (subst IsChain f.is f.step.chain) (subst (λ (x : Chained). NoneEmpty x.incoming.tables.deletions) f.is f.step.full)) in
     let at_now : StandsAt (peer_at k (map (ended_at k) m.declared.peers)) (Some c') = subst (λ (o : Option DeclaredPeer). StandsAt o (Some c')) (sym (ended_same k m.declared.peers peer.0 peer.1)) here in
     record {
       losses = losses_stay m (remade m (without_session m.declared k) (put_chain c' m.chains)) refl;
@@ -184,7 +184,7 @@ ends_one k s m c c' said stands up free at f =
       lines = f.lines;
       after = ap (λ (x : Chained). remade m (without_session m.declared k) (put_chain x m.chains)) f.is;
       leads = leads_router m k c at c' number (entries_of said) f.step.leads;
-      live = live_routed m (without_session m.declared k) k c c' at number (ap (λ (x : Chained). present x.filter) f.is) ∙ ap (λ r. the_state (with_routes (live_state m).routes k r)) (ap (λ (x : Chained). x.incoming.live) f.is);
+      live = live_routed m (without_session m.declared k) k c c' at number (ap (λ (x : Chained). present x.filter) f.is) ∙ ap (λ r. the_state (with_routes (live_state m).routes k r)) (ap (λ (x : Chained). x.incoming.tables.live) f.is);
       stands = stands_put m (without_session m.declared k) k c c' stands at number f.step.words.0 keeps at_now;
     }
   where

@@ -296,7 +296,7 @@ begun_peer k p c stands = by_test (nat_eq p.words.number k && not p.up) refl
       chain = stands.chain;
       full = stands.full;
       few = stands.few;
-      earlier = later p c.incoming.deletions (subst (λ (u : Bool). AllByRecursion (λ d. IsEarlier p u d.number) c.incoming.deletions) (is_down (nat_eq p.words.number k) p.up e) stands.earlier);
+      earlier = later p c.incoming.tables.deletions (subst (λ (u : Bool). AllByRecursion (λ d. IsEarlier p u d.number) c.incoming.tables.deletions) (is_down (nat_eq p.words.number k) p.up e) stands.earlier);
       silent = tt;
     }
     by_test false e = stands

@@ -43,30 +43,30 @@ none_of : (b : Bool) (o : Option Task) → cond b None o ≡ None → (task : Ta
 none_of true o e task some = refl
 none_of false o e task some = let s = some in absurd (cc)
 
-room_of : (b : Branch) → overdue_of b ≡ None → is_empty_map b.live ≡ false → length b.deletions < 16
-room_of b none full = by_stages b.deletions refl
+room_of : (b : Branch) → overdue_of b ≡ None → is_empty_map b.tables.live ≡ false → length b.tables.deletions < 16
+room_of b none full = by_stages b.tables.deletions refl
   where
-    by_stages : (x : List (Lost Interior)) → b.deletions ≡ x → length b.deletions < 16
-    by_stages [] is = let e : length b.deletions ≡ 0 = ap length is in omega arith
+    by_stages : (x : List (Lost Interior)) → b.tables.deletions ≡ x → length b.tables.deletions < 16
+    by_stages [] is = let e : length b.tables.deletions ≡ 0 = ap length is in omega arith
     by_stages (d ∷ ds) is =
-        let test = none_of (nat_lt (length b.deletions) 16 || is_empty_map b.live) (oldest_of (owners.Origin b.proto) b.deletions) none (Rdel b.proto d.number) (ap (oldest_of (owners.Origin b.proto)) is) in
-        let only : nat_lt (length b.deletions) 16 ≡ true = left_of (nat_lt (length b.deletions) 16) (is_empty_map b.live) test full in
+        let test = none_of (nat_lt (length b.tables.deletions) 16 || is_empty_map b.tables.live) (oldest_of (owners.Origin b.proto) b.tables.deletions) none (Rdel b.proto d.number) (ap (oldest_of (owners.Origin b.proto)) is) in
+        let only : nat_lt (length b.tables.deletions) 16 ≡ true = left_of (nat_lt (length b.tables.deletions) 16) (is_empty_map b.tables.live) test full in
         grind (arith, nat_tests)
 
-few_lost : (b : Branch) → length b.deletions ≤ 16 → overdue_of b ≡ None → length (lost_branch b).deletions ≤ 16
-few_lost b few none = by_test (is_empty_map b.live) refl
+few_lost : (b : Branch) → length b.tables.deletions ≤ 16 → overdue_of b ≡ None → length (lost_branch b).tables.deletions ≤ 16
+few_lost b few none = by_test (is_empty_map b.tables.live) refl
   where
     last : Lost Interior
-    last = record { number = b.losses + 1; rows = b.live }
+    last = record { number = b.losses + 1; rows = b.tables.live }
 
     more : List (Lost Interior)
-    more = b.deletions ++ last ∷ []
+    more = b.tables.deletions ++ last ∷ []
 
-    by_test : (e : Bool) → is_empty_map b.live ≡ e → length (lost_branch b).deletions ≤ 16
-    by_test true e = let n : length (lost_branch b).deletions ≡ length b.deletions = ap (λ (x : Bool). length (cond x b.deletions more)) e in omega (arith, n, few)
+    by_test : (e : Bool) → is_empty_map b.tables.live ≡ e → length (lost_branch b).tables.deletions ≤ 16
+    by_test true e = let n : length (lost_branch b).tables.deletions ≡ length b.tables.deletions = ap (λ (x : Bool). length (cond x b.tables.deletions more)) e in omega (arith, n, few)
     by_test false e =
-        let n : length (lost_branch b).deletions ≡ length more = ap (λ (x : Bool). length (cond x b.deletions more)) e in
-        let m : length more ≡ length b.deletions + 1 = length-append b.deletions (last ∷ []) in
+        let n : length (lost_branch b).tables.deletions ≡ length more = ap (λ (x : Bool). length (cond x b.tables.deletions more)) e in
+        let m : length more ≡ length b.tables.deletions + 1 = length-append b.tables.deletions (last ∷ []) in
         let was = room_of b none e in
         omega (arith, n, m, was)
 
@@ -86,9 +86,9 @@ protocol_ended proto m t before now stands free since is lines leads int tree fu
     b : Branch
     b = branch_of proto m.tree
 
-    few : (other : Proto) → length (branch_of other t).deletions ≤ 16
-    few = subst (λ (x : Treed). (other : Proto) → length (branch_of other x).deletions ≤ 16) (sym is)
-        (put_all (λ (x : Branch). length x.deletions ≤ 16) proto (lost_branch b) m.tree (few_lost b (stands.tree.few proto) free) stands.tree.few)
+    few : (other : Proto) → length (branch_of other t).tables.deletions ≤ 16
+    few = subst (λ (x : Treed). (other : Proto) → length (branch_of other x).tables.deletions ≤ 16) (sym is)
+        (put_all (λ (x : Branch). length x.tables.deletions ≤ 16) proto (lost_branch b) m.tree (few_lost b (stands.tree.few proto) free) stands.tree.few)
 
     by_speaker : (s : Option Speaker) → m.declared.speaker ≡ s → IsSome s → Pushes (EndsProtocol proto m (replanted m t m.registry)) before now
     by_speaker None at some = absurd (let contra : false ≡ true = some in cc)
@@ -100,7 +100,7 @@ protocol_ended proto m t before now stands free since is lines leads int tree fu
         after = record { tree_is = is; declared = refl; chains = refl };
         leads = subst (λ (es : List (Entry Value)). Leads (router_links m) es (router_links (replanted m t m.registry))) (sym (entries_of_entries entries)) (leads_above m me at t m.registry entries leads int);
         live = ap (λ (x : Treed). live_state (replanted m x m.registry)) is ∙ live_replanted m proto (lost_branch b) m.registry;
-        losses = subst (λ (x : Treed). HasLosses 1 m (replanted m x m.registry)) (sym is) (losses_put m proto (lost_branch b) m.registry 1 (losses_one (is_empty_map b.live) b.losses));
+        losses = subst (λ (x : Treed). HasLosses 1 m (replanted m x m.registry)) (sym is) (losses_put m proto (lost_branch b) m.registry 1 (losses_one (is_empty_map b.tables.live) b.losses));
         stands = stands_replanted m me t m.registry stands at tree full few (stands.registered ∙ sym int);
       },
     )

@@ -12,7 +12,7 @@ use Rattle.journal_text.specs.Journals.{Journaled, flushed}
 use Rattle.in_chain.specs.Chains.{Chained}
 use Rattle.loss_chain.specs.declared.owner.Owner.TheVariants as owners
 use Rattle.loss_chain.specs.Steps.{swept_one, table_of, oldest_of}
-use Rattle.in_chain.specs.IncomingSteps.{overdue_of}
+use Rattle.in_chain.specs.Incomings.{overdue_of}
 use Rattle.in_chain.specs.Steps.{swept, welded, Sweeps}
 use Rattle.router_core.specs.Moments.{Moment, chain_at, with_chain, Gives}
 use Rattle.router_core.specs.Stands.{Stands}
@@ -28,8 +28,8 @@ use Rattle.router_core.proofs.TurnLemmas.{flushed_none, work_none}
 record Shorter (k s : ℕ) (c : Chained) (m' : Moment) : Type 0 where
   chain : Chained
   at : chain_at k m'.chains ≡ Some chain
-  short : length chain.incoming.deletions ≤ length c.incoming.deletions
-  gone : (t : FinMap prefix_cmp Attrs) → table_of s c.incoming.deletions ≡ Some t → table_of s chain.incoming.deletions ≡ None → length chain.incoming.deletions < length c.incoming.deletions
+  short : length chain.incoming.tables.deletions ≤ length c.incoming.tables.deletions
+  gone : (t : FinMap prefix_cmp Attrs) → table_of s c.incoming.tables.deletions ≡ Some t → table_of s chain.incoming.tables.deletions ≡ None → length chain.incoming.tables.deletions < length c.incoming.tables.deletions
 
 turns_shorter : (n k s : ℕ) (m : Moment) (c : Chained) (said : List Line) (m' : Moment) → chain_at k m.chains ≡ Some c → Turns n (Del k s) m said m' → Shorter k s c m'
 turns_shorter zero k s m c said m' at t = record {
@@ -62,33 +62,33 @@ turns_shorter (suc n) k s m c said m' at t = by_rest (turns_shorter n k s t.2 c1
     by_rest r = record {
       chain = r.chain;
       at = r.at;
-      short = let a = r.short in let b = few_left (swept_one s p) is_full c.incoming.deletions in omega arith;
-      gone = λ table there none. by_table table there none (table_of s c1.incoming.deletions) refl;
+      short = let a = r.short in let b = few_left (swept_one s p) is_full c.incoming.tables.deletions in omega arith;
+      gone = λ table there none. by_table table there none (table_of s c1.incoming.tables.deletions) refl;
     }
       where
-        by_table : (table : FinMap prefix_cmp Attrs) → table_of s c.incoming.deletions ≡ Some table → table_of s r.chain.incoming.deletions ≡ None → (o : Option (FinMap prefix_cmp Attrs)) → table_of s c1.incoming.deletions ≡ o
-            → length r.chain.incoming.deletions < length c.incoming.deletions
-        by_table table there none (Some x) e = let a = r.gone x e none in let b = few_left (swept_one s p) is_full c.incoming.deletions in omega arith
-        by_table table there none None e = let a = r.short in let b = short_filter s p c.incoming.deletions table there e in omega arith
+        by_table : (table : FinMap prefix_cmp Attrs) → table_of s c.incoming.tables.deletions ≡ Some table → table_of s r.chain.incoming.tables.deletions ≡ None → (o : Option (FinMap prefix_cmp Attrs)) → table_of s c1.incoming.tables.deletions ≡ o
+            → length r.chain.incoming.tables.deletions < length c.incoming.tables.deletions
+        by_table table there none (Some x) e = let a = r.gone x e none in let b = few_left (swept_one s p) is_full c.incoming.tables.deletions in omega arith
+        by_table table there none None e = let a = r.short in let b = short_filter s p c.incoming.tables.deletions table there e in omega arith
 
-free_of : (c : Chained) → length c.incoming.deletions < 16 → overdue_of c.incoming ≡ None
-free_of c below = let few : nat_lt (length c.incoming.deletions) 16 ≡ true = grind (arith, nat_tests) in ap (λ (b : Bool). cond (b || is_empty_map c.incoming.live) None (oldest_of (owners.Peer c.incoming.number) c.incoming.deletions)) few
+free_of : (c : Chained) → length c.incoming.tables.deletions < 16 → overdue_of c.incoming ≡ None
+free_of c below = let few : nat_lt (length c.incoming.tables.deletions) 16 ≡ true = grind (arith, nat_tests) in ap (λ (b : Bool). cond (b || is_empty_map c.incoming.tables.live) None (oldest_of (owners.Peer c.incoming.number) c.incoming.tables.deletions)) few
 
 drained_free : (k : ℕ) (m room : Moment) (c : Chained) (task : Task) (n : ℕ) (said : List Line) → Stands m → chain_at k m.chains ≡ Some c → overdue_of c.incoming ≡ Some task → HasDrained task m n room said
     → (c' : Chained) → chain_at k room.chains ≡ Some c' → overdue_of c'.incoming ≡ None
 drained_free k m room c task n said stands at over d c' at' =
-    let stage = stage_of (nat_lt (length c.incoming.deletions) 16 || is_empty_map c.incoming.live) (owners.Peer c.incoming.number) c.incoming.deletions task over in
+    let stage = stage_of (nat_lt (length c.incoming.tables.deletions) 16 || is_empty_map c.incoming.tables.live) (owners.Peer c.incoming.number) c.incoming.tables.deletions task over in
     let is : task ≡ Del k stage.0.number = stage.3 ∙ ap (λ (j : ℕ). Del j stage.0.number) (number_at k m.chains c at) in
     let drained : HasDrained (Del k stage.0.number) m n room said = subst (λ (t : Task). HasDrained t m n room said) is d in
     let r = turns_shorter n k stage.0.number m c said room at drained.run.taken in
     let same : r.chain ≡ c' = one_of r.chain c' (sym r.at ∙ at') in
-    let there : table_of stage.0.number c.incoming.deletions ≡ Some stage.0.rows = ap (table_of stage.0.number) stage.2 ∙ ap (λ (b : Bool). cond b (Some stage.0.rows) (table_of stage.0.number stage.1)) (same_by stage.0.number stage.0.number refl) in
+    let there : table_of stage.0.number c.incoming.tables.deletions ≡ Some stage.0.rows = ap (table_of stage.0.number) stage.2 ∙ ap (λ (b : Bool). cond b (Some stage.0.rows) (table_of stage.0.number stage.1)) (same_by stage.0.number stage.0.number refl) in
     let own : nat_eq k r.chain.incoming.number ≡ true = same_by k r.chain.incoming.number (sym (number_at k room.chains r.chain r.at)) in
-    let none : table_of stage.0.number r.chain.incoming.deletions ≡ None = no_table (table_of stage.0.number r.chain.incoming.deletions)
-    (sym (ap (λ (b : Bool). b && is_some (table_of stage.0.number r.chain.incoming.deletions)) own) ∙ sym (ap (has_turn_in (Del k stage.0.number)) r.at) ∙ drained.ended) in
+    let none : table_of stage.0.number r.chain.incoming.tables.deletions ≡ None = no_table (table_of stage.0.number r.chain.incoming.tables.deletions)
+    (sym (ap (λ (b : Bool). b && is_some (table_of stage.0.number r.chain.incoming.tables.deletions)) own) ∙ sym (ap (has_turn_in (Del k stage.0.number)) r.at) ∙ drained.ended) in
     let less = r.gone stage.0.rows there none in
     let few = (peer_of m stands k c at).2.few in
-    let len : length r.chain.incoming.deletions ≡ length c'.incoming.deletions = ap (λ (x : Chained). length x.incoming.deletions) same in
+    let len : length r.chain.incoming.tables.deletions ≡ length c'.incoming.tables.deletions = ap (λ (x : Chained). length x.incoming.tables.deletions) same in
     free_of c' (omega arith)
 
 pub room_drained : (k : ℕ) (m room : Moment) (c : Chained) (task : Task) (n : ℕ) (before now : Journaled) → Stands m → Some c ≡ chain_at k m.chains → Some task ≡ overdue_of c.incoming

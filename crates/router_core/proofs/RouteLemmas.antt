@@ -78,7 +78,7 @@ settled proto sent m m1 t before j now follows is lines leads int tree full = re
     same = follows.after.tree_is
 
 -- ---- what stands where the tree became another
-pub stands_replanted : (m : Moment) (me : Speaker) (t : Treed) (r : Registry Interior) → Stands m → m.declared.speaker ≡ Some me → IsTree t → IsFull t → ((proto : Proto) → length (branch_of proto t).deletions ≤ 16)
+pub stands_replanted : (m : Moment) (me : Speaker) (t : Treed) (r : Registry Interior) → Stands m → m.declared.speaker ≡ Some me → IsTree t → IsFull t → ((proto : Proto) → length (branch_of proto t).tables.deletions ≤ 16)
     → tables.get r.rows ≡ int_rows t → Stands (replanted m t r)
 stands_replanted m me t r stands since tree full few registered = record {
   order = stands.order;
@@ -89,20 +89,20 @@ stands_replanted m me t r stands since tree full few registered = record {
   registered = registered;
 }
 
-pub live_replanted : (m : Moment) (proto : Proto) (b : Branch) (r : Registry Interior) → live_state (replanted m (put_branch proto b m.tree) r) ≡ interior_fed (live_state m) proto b.live
+pub live_replanted : (m : Moment) (proto : Proto) (b : Branch) (r : Registry Interior) → live_state (replanted m (put_branch proto b m.tree) r) ≡ interior_fed (live_state m) proto b.tables.live
 live_replanted m proto b r i = record {
   declared = m.declared;
   routes = (live_state m).routes;
   rules = (live_state m).rules;
-  interior = λ other. put_seen (λ (x : Branch). x.live) proto other b m.tree i;
+  interior = λ other. put_seen (λ (x : Branch). x.tables.live) proto other b m.tree i;
 }
 
-pub live_stays : (m : Moment) (proto : Proto) (b : Branch) (r : Registry Interior) → b.live ≡ (branch_of proto m.tree).live → live_state (replanted m (put_branch proto b m.tree) r) ≡ live_state m
+pub live_stays : (m : Moment) (proto : Proto) (b : Branch) (r : Registry Interior) → b.tables.live ≡ (branch_of proto m.tree).tables.live → live_state (replanted m (put_branch proto b m.tree) r) ≡ live_state m
 live_stays m proto b r same i = record {
   declared = m.declared;
   routes = (live_state m).routes;
   rules = (live_state m).rules;
-  interior = λ other. put_kept (λ (x : Branch). x.live) proto b m.tree same other i;
+  interior = λ other. put_kept (λ (x : Branch). x.tables.live) proto b m.tree same other i;
 }
 
 pub losses_put : (m : Moment) (proto : Proto) (b : Branch) (r : Registry Interior) (more : ℕ) → b.losses ≤ (branch_of proto m.tree).losses + more → HasLosses more m (replanted m (put_branch proto b m.tree) r)
@@ -118,7 +118,7 @@ pub record Routes (m : Moment) (proto : Proto) (b : Branch) (p : Network) (way :
   pub stands : Stands m'
 
 pub routes_on : (m : Moment) (me : Speaker) (proto : Proto) (b : Branch) (p : Network) (way : List Link) (sent : Option (Change Interior)) (t : Treed) (m' : Moment) (before j now : Journaled) → Stands m → m.declared.speaker ≡ Some me
-    → t ≡ put_branch proto b m.tree → length b.deletions ≤ 16 → IsSent (int_rows m.tree) (int_rows t) p sent → Adds (FallsTree m.tree t p way sent) before j → Settles proto sent (replanted m t m.registry) m' j now
+    → t ≡ put_branch proto b m.tree → length b.tables.deletions ≤ 16 → IsSent (int_rows m.tree) (int_rows t) p sent → Adds (FallsTree m.tree t p way sent) before j → Settles proto sent (replanted m t m.registry) m' j now
     → Pushes (Routes m proto b p way m') before now
 routes_on m me proto b p way sent t m' before j now stands since at few rows adds settles = (
   journal_lines all,
@@ -173,9 +173,9 @@ routes_on m me proto b p way sent t m' before j now stands since at few rows add
         (subst (λ (x : Moment). Leads (router_links m) ((entries ++ fib) ++ tree_weld_entries proto t) (router_links x)) (sym is)
         (leads_append (router_links m) (router_links (replanted m t m.registry)) (router_links (replanted m (welded_tree proto t) m'.registry)) (entries ++ fib) (tree_weld_entries proto t) first second))
 
-    few_then : (other : Proto) → length (branch_of other (welded_tree proto t)).deletions ≤ 16
-    few_then = subst (λ (x : Treed). (other : Proto) → length (branch_of other x).deletions ≤ 16) (sym (ap (welded_tree proto) at ∙ welded_put proto b m.tree))
-        (put_all (λ (x : Branch). length x.deletions ≤ 16) proto (welded_branch b) m.tree (let less = few_filter (λ d. not (is_empty_map d.rows)) b.deletions in omega (arith, few, less)) stands.tree.few)
+    few_then : (other : Proto) → length (branch_of other (welded_tree proto t)).tables.deletions ≤ 16
+    few_then = subst (λ (x : Treed). (other : Proto) → length (branch_of other x).tables.deletions ≤ 16) (sym (ap (welded_tree proto) at ∙ welded_put proto b m.tree))
+        (put_all (λ (x : Branch). length x.tables.deletions ≤ 16) proto (welded_branch b) m.tree (let less = few_filter (λ d. not (is_empty_map d.rows)) b.tables.deletions in omega (arith, few, less)) stands.tree.few)
 
     registered : tables.get m'.registry.rows ≡ int_rows (welded_tree proto t)
     registered = ap tables.get settles.rows ∙ keeps_up m.registry.rows (int_rows m.tree) (int_rows t) p sent stands.registered rows ∙ sym settles.int
@@ -184,13 +184,13 @@ routes_on m me proto b p way sent t m' before j now stands since at few rows add
     stands_then = stands_replanted m me (welded_tree proto t) m'.registry stands since settles.tree settles.full few_then registered
 
 -- ---- a route that is set, or goes
-few_fed : (b : Branch) (p : Network) (new : Option Interior) → length (fed_branch b p new).deletions ≡ length b.deletions
+few_fed : (b : Branch) (p : Network) (new : Option Interior) → length (fed_branch b p new).tables.deletions ≡ length b.tables.deletions
 few_fed b p None = refl
-few_fed b p (Some row) = few_map (without p) b.deletions
+few_fed b p (Some row) = few_map (without p) b.tables.deletions
 
 pub routed : (m : Moment) (me : Speaker) (proto : Proto) (p : Network) (new : Option Interior) (way : List Link) (sent : Option (Change Interior)) (t : Treed) (m' : Moment) (before j now : Journaled) → Stands m → m.declared.speaker ≡ Some me
     → t ≡ fed_tree m.tree proto p new → IsSent (int_rows m.tree) (int_rows t) p sent → Adds (FallsTree m.tree t p way sent) before j → Settles proto sent (replanted m t m.registry) m' j now
-    → Pushes (HasRouted m (fed_tree m.tree proto p new) proto p way (interior_fed (live_state m) proto (live_after (branch_of proto m.tree).live p new)) m') before now
+    → Pushes (HasRouted m (fed_tree m.tree proto p new) proto p way (interior_fed (live_state m) proto (live_after (branch_of proto m.tree).tables.live p new)) m') before now
 routed m me proto p new way sent t m' before j now stands since at rows adds settles = (
   r.0,
   r.1,
@@ -206,7 +206,7 @@ routed m me proto p new way sent t m' before j now stands since at rows adds set
     b : Branch
     b = fed_branch (branch_of proto m.tree) p new
 
-    few : length b.deletions ≤ 16
+    few : length b.tables.deletions ≤ 16
     few = let same = few_fed (branch_of proto m.tree) p new in let was = stands.tree.few proto in omega (arith, same, was)
 
     r : Pushes (Routes m proto b p way m') before now
@@ -214,10 +214,10 @@ routed m me proto p new way sent t m' before j now stands since at rows adds set
 
 pub routed_since : (m : Moment) (proto : Proto) (p : Network) (new : Option Interior) (sent : Option (Change Interior)) (t : Treed) (m' : Moment) (before j now : Journaled) → Stands m → IsSome m.declared.speaker
     → t ≡ fed_tree m.tree proto p new → IsSent (int_rows m.tree) (int_rows t) p sent → Adds (FallsTree m.tree t p (way_of_route proto m.tree) sent) before j → Settles proto sent (replanted m t m.registry) m' j now
-    → Pushes (HasRouted m (fed_tree m.tree proto p new) proto p (way_of_route proto m.tree) (interior_fed (live_state m) proto (live_after (branch_of proto m.tree).live p new)) m') before now
+    → Pushes (HasRouted m (fed_tree m.tree proto p new) proto p (way_of_route proto m.tree) (interior_fed (live_state m) proto (live_after (branch_of proto m.tree).tables.live p new)) m') before now
 routed_since m proto p new sent t m' before j now stands since at rows adds settles = by_speaker m.declared.speaker refl since
   where
     by_speaker : (s : Option Speaker) → m.declared.speaker ≡ s → IsSome s
-        → Pushes (HasRouted m (fed_tree m.tree proto p new) proto p (way_of_route proto m.tree) (interior_fed (live_state m) proto (live_after (branch_of proto m.tree).live p new)) m') before now
+        → Pushes (HasRouted m (fed_tree m.tree proto p new) proto p (way_of_route proto m.tree) (interior_fed (live_state m) proto (live_after (branch_of proto m.tree).tables.live p new)) m') before now
     by_speaker None me_is some = absurd (let contra : false ≡ true = some in cc)
     by_speaker (Some me) me_is some = routed m me proto p new (way_of_route proto m.tree) sent t m' before j now stands me_is at rows adds settles

@@ -30,9 +30,9 @@ use Rattle.router_core.proofs.RouteTasks.{swept_then}
 
 -- the stages of a protocol after turns of one of them: fewer, where that one has gone
 record Shorter (proto : Proto) (n : ℕ) (m m' : Moment) : Type 0 where
-  short : length (branch_of proto m'.tree).deletions ≤ length (branch_of proto m.tree).deletions
-  gone : (t : FinMap prefix_cmp Interior) → table_of n (branch_of proto m.tree).deletions ≡ Some t → table_of n (branch_of proto m'.tree).deletions ≡ None
-      → length (branch_of proto m'.tree).deletions < length (branch_of proto m.tree).deletions
+  short : length (branch_of proto m'.tree).tables.deletions ≤ length (branch_of proto m.tree).tables.deletions
+  gone : (t : FinMap prefix_cmp Interior) → table_of n (branch_of proto m.tree).tables.deletions ≡ Some t → table_of n (branch_of proto m'.tree).tables.deletions ≡ None
+      → length (branch_of proto m'.tree).tables.deletions < length (branch_of proto m.tree).tables.deletions
 
 turns_shorter : (turns : ℕ) (proto : Proto) (n : ℕ) (m : Moment) (said : List Line) (m' : Moment) → Turns turns (Rdel proto n) m said m' → Shorter proto n m m'
 turns_shorter zero proto n m said m' t = subst (Shorter proto n m) (sym t.1) (record {
@@ -47,41 +47,41 @@ turns_shorter (suc k) proto n m said m' t = by_rest (turns_shorter k proto n t.2
     b : Branch
     b = branch_of proto m.tree
 
-    stages : (branch_of proto t.2.tree).deletions ≡ filter is_full (map (swept_one n p) b.deletions)
-    stages = ap (λ (x : Treed). (branch_of proto x).deletions) (swept_then m t.2 proto n t.0 t.3)
-        ∙ ap (λ (x : Branch). x.deletions) (put_here proto (welded_branch (swept_branch n p b)) m.tree)
+    stages : (branch_of proto t.2.tree).tables.deletions ≡ filter is_full (map (swept_one n p) b.tables.deletions)
+    stages = ap (λ (x : Treed). (branch_of proto x).tables.deletions) (swept_then m t.2 proto n t.0 t.3)
+        ∙ ap (λ (x : Branch). x.tables.deletions) (put_here proto (welded_branch (swept_branch n p b)) m.tree)
 
-    less : length (branch_of proto t.2.tree).deletions ≤ length b.deletions
-    less = let a = few_left (swept_one n p) is_full b.deletions in let e : length (branch_of proto t.2.tree).deletions ≡ length (filter is_full (map (swept_one n p) b.deletions)) = ap length stages in omega (arith, a, e)
+    less : length (branch_of proto t.2.tree).tables.deletions ≤ length b.tables.deletions
+    less = let a = few_left (swept_one n p) is_full b.tables.deletions in let e : length (branch_of proto t.2.tree).tables.deletions ≡ length (filter is_full (map (swept_one n p) b.tables.deletions)) = ap length stages in omega (arith, a, e)
 
     by_rest : Shorter proto n t.2 m' → Shorter proto n m m'
     by_rest r = record {
       short = let a = r.short in let c = less in omega (arith, a, c);
-      gone = λ table there none. by_table table there none (table_of n (branch_of proto t.2.tree).deletions) refl;
+      gone = λ table there none. by_table table there none (table_of n (branch_of proto t.2.tree).tables.deletions) refl;
     }
       where
-        by_table : (table : FinMap prefix_cmp Interior) → table_of n b.deletions ≡ Some table → table_of n (branch_of proto m'.tree).deletions ≡ None → (o : Option (FinMap prefix_cmp Interior))
-            → table_of n (branch_of proto t.2.tree).deletions ≡ o → length (branch_of proto m'.tree).deletions < length b.deletions
+        by_table : (table : FinMap prefix_cmp Interior) → table_of n b.tables.deletions ≡ Some table → table_of n (branch_of proto m'.tree).tables.deletions ≡ None → (o : Option (FinMap prefix_cmp Interior))
+            → table_of n (branch_of proto t.2.tree).tables.deletions ≡ o → length (branch_of proto m'.tree).tables.deletions < length b.tables.deletions
         by_table table there none (Some x) e = let a = r.gone x e none in let c = less in omega (arith, a, c)
         by_table table there none None e =
             let a = r.short in
-            let c = short_filter n p b.deletions table there (sym (ap (table_of n) stages) ∙ e) in
-            let d : length (branch_of proto t.2.tree).deletions ≡ length (filter is_full (map (swept_one n p) b.deletions)) = ap length stages in
+            let c = short_filter n p b.tables.deletions table there (sym (ap (table_of n) stages) ∙ e) in
+            let d : length (branch_of proto t.2.tree).tables.deletions ≡ length (filter is_full (map (swept_one n p) b.tables.deletions)) = ap length stages in
             omega (arith, a, c, d)
 
-free_of : (b : Branch) → length b.deletions < 16 → overdue_of b ≡ None
-free_of b below = let few : nat_lt (length b.deletions) 16 ≡ true = grind (arith, nat_tests) in ap (λ (x : Bool). cond (x || is_empty_map b.live) None (oldest_of (owners.Origin b.proto) b.deletions)) few
+free_of : (b : Branch) → length b.tables.deletions < 16 → overdue_of b ≡ None
+free_of b below = let few : nat_lt (length b.tables.deletions) 16 ≡ true = grind (arith, nat_tests) in ap (λ (x : Bool). cond (x || is_empty_map b.tables.live) None (oldest_of (owners.Origin b.proto) b.tables.deletions)) few
 
 drained_free : (proto : Proto) (m room : Moment) (task : Task) (turns : ℕ) (said : List Line) → Stands m → tree_overdue proto m.tree ≡ Some task → HasDrained task m turns room said → tree_overdue proto room.tree ≡ None
 drained_free proto m room task turns said stands over d =
     let b : Branch = branch_of proto m.tree in
-    let stage = stage_of (nat_lt (length b.deletions) 16 || is_empty_map b.live) (owners.Origin b.proto) b.deletions task over in
+    let stage = stage_of (nat_lt (length b.tables.deletions) 16 || is_empty_map b.tables.live) (owners.Origin b.proto) b.tables.deletions task over in
     let n : ℕ = stage.0.number in
     let is : task ≡ Rdel proto n = stage.3 ∙ ap (λ (k : Proto). Rdel k n) (stands.tree.tree.placed proto) in
     let drained : HasDrained (Rdel proto n) m turns room said = subst (λ (t : Task). HasDrained t m turns room said) is d in
     let r = turns_shorter turns proto n m said room drained.run.taken in
-    let there : table_of n b.deletions ≡ Some stage.0.rows = ap (table_of n) stage.2 ∙ ap (λ (x : Bool). cond x (Some stage.0.rows) (table_of n stage.1)) (same_by n n refl) in
-    let none : table_of n (branch_of proto room.tree).deletions ≡ None = no_table (table_of n (branch_of proto room.tree).deletions) drained.ended in
+    let there : table_of n b.tables.deletions ≡ Some stage.0.rows = ap (table_of n) stage.2 ∙ ap (λ (x : Bool). cond x (Some stage.0.rows) (table_of n stage.1)) (same_by n n refl) in
+    let none : table_of n (branch_of proto room.tree).tables.deletions ≡ None = no_table (table_of n (branch_of proto room.tree).tables.deletions) drained.ended in
     let less = r.gone stage.0.rows there none in
     let few = stands.tree.few proto in
     free_of (branch_of proto room.tree) (omega (arith, less, few))

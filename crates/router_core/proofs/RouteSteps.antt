@@ -51,7 +51,7 @@ lose_since d proto e = lose_by d.speaker d.peers proto e
 
 -- ---- `route add` and `route del`
 pub route_added : (p : Network) (row : Interior) (m m' : Moment) (before j now : Journaled)
-    → Pushes (HasRouted m (fed_tree m.tree row.proto p (Some row)) row.proto p (way_of_route row.proto m.tree) (interior_fed (live_state m) row.proto (live_after (branch_of row.proto m.tree).live p (Some row))) m') before j
+    → Pushes (HasRouted m (fed_tree m.tree row.proto p (Some row)) row.proto p (way_of_route row.proto m.tree) (interior_fed (live_state m) row.proto (live_after (branch_of row.proto m.tree).tables.live p (Some row))) m') before j
     → now ≡ flushed j → Gives (HasStepped m (RouteAdd p row) 0 m') before now
 route_added p row m m' before j now u is = (
   u.0,
@@ -59,8 +59,8 @@ route_added p row m m' before j now u is = (
   record { acts = record { block = (refl, u.2.falls); leads = u.2.leads; live = u.2.lives }; losses = losses_more m m' u.2.losses; stands = u.2.stands },
 )
 
-pub route_dropped : (proto : Proto) (p : Network) (m m' : Moment) (before j now : Journaled) → is_some (tables.get (branch_of proto m.tree).live p) ≡ true
-    → Pushes (HasRouted m (fed_tree m.tree proto p None) proto p (way_of_route proto m.tree) (interior_fed (live_state m) proto (live_after (branch_of proto m.tree).live p None)) m') before j
+pub route_dropped : (proto : Proto) (p : Network) (m m' : Moment) (before j now : Journaled) → is_some (tables.get (branch_of proto m.tree).tables.live p) ≡ true
+    → Pushes (HasRouted m (fed_tree m.tree proto p None) proto p (way_of_route proto m.tree) (interior_fed (live_state m) proto (live_after (branch_of proto m.tree).tables.live p None)) m') before j
     → now ≡ flushed j → Gives (HasStepped m (RouteDel proto p) 0 m') before now
 route_dropped proto p m m' before j now has u is = (
   u.0,
@@ -98,7 +98,7 @@ none_there (Some row) e = absurd (cc)
 live_as_it_was : (l : LiveState) (proto : Proto) (routes : Interiors) → routes ≡ l.interior proto → l ≡ interior_fed l proto routes
 live_as_it_was l proto routes same i = record { declared = l.declared; routes = l.routes; rules = l.rules; interior = λ other. sym (interior_same l.interior proto routes same other) i }
 
-pub nothing_dropped : (proto : Proto) (p : Network) (m : Moment) (before j now : Journaled) → Stands m → is_some (tables.get (branch_of proto m.tree).live p) ≡ false → j ≡ with_lines before (lines.Ignored ∷ []) → now ≡ flushed j
+pub nothing_dropped : (proto : Proto) (p : Network) (m : Moment) (before j now : Journaled) → Stands m → is_some (tables.get (branch_of proto m.tree).tables.live p) ≡ false → j ≡ with_lines before (lines.Ignored ∷ []) → now ≡ flushed j
     → Gives (HasStepped m (RouteDel proto p) 0 m) before now
 nothing_dropped proto p m before j now stands has pushed is = (
   lines.Ignored ∷ [],
@@ -107,7 +107,7 @@ nothing_dropped proto p m before j now stands has pushed is = (
     acts = record {
       block = subst (λ (b : Bool). DropsRouteIf b proto p m (lines.Ignored ∷ []) 0 m) (sym has) (refl, refl, refl);
       leads = leads_nowhere (router_links m) (router_links m) refl;
-      live = live_as_it_was (live_state m) proto (tables.remove (branch_of proto m.tree).live p) (remove_absent (branch_of proto m.tree).live p (none_there (tables.get (branch_of proto m.tree).live p) has));
+      live = live_as_it_was (live_state m) proto (tables.remove (branch_of proto m.tree).tables.live p) (remove_absent (branch_of proto m.tree).tables.live p (none_there (tables.get (branch_of proto m.tree).tables.live p) has));
     };
     losses = losses_more m m (losses_stay m m refl);
     stands = stands;

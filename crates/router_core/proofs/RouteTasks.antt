@@ -29,7 +29,7 @@ pub record Heads (t : Treed) (task : Task) (rest : List Task) : Type 0 where
   pub proto : Proto
   pub lowest : Lost Interior
   pub above : List (Lost Interior)
-  pub stages : (branch_of proto t).deletions ≡ lowest ∷ above
+  pub stages : (branch_of proto t).tables.deletions ≡ lowest ∷ above
   pub is : task ≡ Rdel proto lowest.number
   pub others : List Task
   pub rest_is : rest ≡ map (λ d. Rdel proto d.number) above ++ others
@@ -38,11 +38,11 @@ pub record Heads (t : Treed) (task : Task) (rest : List Task) : Type 0 where
 same_head : (a b : Task) (xs ys : List Task) → (a ∷ xs) ≡ (b ∷ ys) → (a ≡ b) × (xs ≡ ys)
 same_head a b xs ys e = (cc, cc)
 
-no_tasks : (b : Branch) (l : List Task) → b.deletions ≡ [] → branch_tasks b ++ l ≡ l
+no_tasks : (b : Branch) (l : List Task) → b.tables.deletions ≡ [] → branch_tasks b ++ l ≡ l
 no_tasks b l none = ap (λ (ds : List (Lost Interior)). map (λ d. Rdel b.proto d.number) ds ++ l) none
 
 module _ (t : Treed) (task : Task) (rest : List Task) (placed : ArePlaced t) (e : tree_tasks t ≡ task ∷ rest) where
-  here : (proto : Proto) (others : List Task) (x : Lost Interior) (xs : List (Lost Interior)) → ((b : Branch) → tree_tasks (put_branch proto b t) ≡ branch_tasks b ++ others) → (branch_of proto t).deletions ≡ x ∷ xs → Heads t task rest
+  here : (proto : Proto) (others : List Task) (x : Lost Interior) (xs : List (Lost Interior)) → ((b : Branch) → tree_tasks (put_branch proto b t) ≡ branch_tasks b ++ others) → (branch_of proto t).tables.deletions ≡ x ∷ xs → Heads t task rest
   here proto others x xs puts is =
       let b : Branch = branch_of proto t in
       let first : branch_tasks b ++ others ≡ task ∷ rest = sym (puts b) ∙ ap tree_tasks (put_same proto t) ∙ e in
@@ -52,7 +52,7 @@ module _ (t : Treed) (task : Task) (rest : List Task) (placed : ArePlaced t) (e 
       record { proto = proto; lowest = x; above = xs; stages = is; is = same.0; others = others; rest_is = same.1; puts = puts }
 
   pub heads : Heads t task rest
-  heads = by_connected t.connected.deletions refl
+  heads = by_connected t.connected.tables.deletions refl
     where
       of_rip : List Task
       of_rip = branch_tasks t.rip
@@ -63,7 +63,7 @@ module _ (t : Treed) (task : Task) (rest : List Task) (placed : ArePlaced t) (e 
       of_statics : List Task
       of_statics = branch_tasks t.statics ++ of_ospf
 
-      by_rip : (x : List (Lost Interior)) → t.rip.deletions ≡ x → t.connected.deletions ≡ [] → t.statics.deletions ≡ [] → t.ospf.deletions ≡ [] → Heads t task rest
+      by_rip : (x : List (Lost Interior)) → t.rip.tables.deletions ≡ x → t.connected.tables.deletions ≡ [] → t.statics.tables.deletions ≡ [] → t.ospf.tables.deletions ≡ [] → Heads t task rest
       by_rip [] is a b c =
           let none : tree_tasks t ≡ [] = no_tasks t.connected of_statics a ∙ no_tasks t.statics of_ospf b ∙ no_tasks t.ospf of_rip c ∙ ap (map (λ d. Rdel t.rip.proto d.number)) is in
           absurd (let contra : (task ∷ rest) ≡ [] = sym e ∙ none in cc)
@@ -71,24 +71,24 @@ module _ (t : Treed) (task : Task) (rest : List Task) (placed : ArePlaced t) (e 
           here Rip [] x xs
           (λ d. no_tasks t.connected (branch_tasks t.statics ++ (branch_tasks t.ospf ++ branch_tasks d)) a ∙ no_tasks t.statics (branch_tasks t.ospf ++ branch_tasks d) b ∙ no_tasks t.ospf (branch_tasks d) c ∙ sym (append-nil (branch_tasks d))) is
 
-      by_ospf : (x : List (Lost Interior)) → t.ospf.deletions ≡ x → t.connected.deletions ≡ [] → t.statics.deletions ≡ [] → Heads t task rest
-      by_ospf [] is a b = by_rip t.rip.deletions refl a b is
+      by_ospf : (x : List (Lost Interior)) → t.ospf.tables.deletions ≡ x → t.connected.tables.deletions ≡ [] → t.statics.tables.deletions ≡ [] → Heads t task rest
+      by_ospf [] is a b = by_rip t.rip.tables.deletions refl a b is
       by_ospf (x ∷ xs) is a b =
           here Ospf of_rip x xs (λ d. no_tasks t.connected (branch_tasks t.statics ++ (branch_tasks d ++ of_rip)) a ∙ no_tasks t.statics (branch_tasks d ++ of_rip) b) is
 
-      by_static : (x : List (Lost Interior)) → t.statics.deletions ≡ x → t.connected.deletions ≡ [] → Heads t task rest
-      by_static [] is a = by_ospf t.ospf.deletions refl a is
+      by_static : (x : List (Lost Interior)) → t.statics.tables.deletions ≡ x → t.connected.tables.deletions ≡ [] → Heads t task rest
+      by_static [] is a = by_ospf t.ospf.tables.deletions refl a is
       by_static (x ∷ xs) is a = here Static of_ospf x xs (λ d. no_tasks t.connected (branch_tasks d ++ of_ospf) a) is
 
-      by_connected : (x : List (Lost Interior)) → t.connected.deletions ≡ x → Heads t task rest
-      by_connected [] is = by_static t.statics.deletions refl is
+      by_connected : (x : List (Lost Interior)) → t.connected.tables.deletions ≡ x → Heads t task rest
+      by_connected [] is = by_static t.statics.tables.deletions refl is
       by_connected (x ∷ xs) is = here Connected of_statics x xs (λ d. refl) is
 
 -- ---- the first task has work
 pub first_has_work : (m : Moment) (task : Task) (rest : List Task) → Stands m → tree_tasks m.tree ≡ task ∷ rest → has_work task m ≡ true
 first_has_work m task rest stands e =
     let h = heads m.tree task rest stands.tree.tree.placed e in
-    let table : is_some (table_of h.lowest.number (branch_of h.proto m.tree).deletions) ≡ true = ap (λ (ds : List (Lost Interior)). is_some (table_of h.lowest.number ds)) h.stages
+    let table : is_some (table_of h.lowest.number (branch_of h.proto m.tree).tables.deletions) ≡ true = ap (λ (ds : List (Lost Interior)). is_some (table_of h.lowest.number ds)) h.stages
     ∙ ap (λ (o : Option (FinMap prefix_cmp Interior)). is_some o) (table_here h.lowest.number h.lowest h.above refl) in
     ap (λ (x : Task). has_work x m) h.is ∙ table
 
@@ -124,7 +124,7 @@ stage_turn m m' task rest said h stands turn = by_test (is_full less) refl
     is = swept_then m m' k n said turn
 
     later : AllByRecursion (λ d. n < d.number) h.above
-    later = (subst AreRising h.stages (stands.tree.tree.each k).rising).0
+    later = (subst AreRising h.stages (stands.tree.tree.each k).chain.rising).0
 
     full : NoneEmpty h.above
     full = (subst NoneEmpty h.stages (stands.tree.full k)).1
@@ -132,23 +132,23 @@ stage_turn m m' task rest said h stands turn = by_test (is_full less) refl
     less : Lost Interior
     less = without p h.lowest
 
-    stages : b.deletions ≡ cond (is_full less) (less ∷ h.above) h.above
+    stages : b.tables.deletions ≡ cond (is_full less) (less ∷ h.above) h.above
     stages = ap (λ (l : List (Lost Interior)). filter is_full (map (swept_one n p) l)) h.stages ∙ swept_head n p h.lowest h.above refl later full
 
-    tasks : (x : List (Lost Interior)) → b.deletions ≡ x → tree_tasks m'.tree ≡ map (λ d. Rdel k d.number) x ++ h.others
+    tasks : (x : List (Lost Interior)) → b.tables.deletions ≡ x → tree_tasks m'.tree ≡ map (λ d. Rdel k d.number) x ++ h.others
     tasks x at = ap tree_tasks is ∙ h.puts b ∙ ap (λ (l : List (Lost Interior)). map (λ d. Rdel b.proto d.number) l ++ h.others) at
         ∙ ap (λ (j : Proto). map (λ d. Rdel j d.number) x ++ h.others) (stands.tree.tree.placed k)
 
-    ended : b.deletions ≡ h.above → has_work (Rdel k n) m' ≡ false
-    ended gone = ap (λ (t : Treed). is_some (table_of n (branch_of k t).deletions)) is ∙ ap (λ (x : Branch). is_some (table_of n x.deletions)) (put_here k b m.tree)
+    ended : b.tables.deletions ≡ h.above → has_work (Rdel k n) m' ≡ false
+    ended gone = ap (λ (t : Treed). is_some (table_of n (branch_of k t).tables.deletions)) is ∙ ap (λ (x : Branch). is_some (table_of n x.tables.deletions)) (put_here k b m.tree)
         ∙ ap (λ (l : List (Lost Interior)). is_some (table_of n l)) gone ∙ ap (λ (o : Option (FinMap prefix_cmp Interior)). is_some o) (none_later n h.above later)
 
     by_test : (f : Bool) → is_full less ≡ f → Remains m' (Rdel k n) rest
     by_test true f =
-        let stays : b.deletions ≡ less ∷ h.above = stages ∙ ap (λ (x : Bool). cond x (less ∷ h.above) h.above) f in
+        let stays : b.tables.deletions ≡ less ∷ h.above = stages ∙ ap (λ (x : Bool). cond x (less ∷ h.above) h.above) f in
         inl (tasks (less ∷ h.above) stays ∙ both refl (sym h.rest_is))
     by_test false f =
-        let gone : b.deletions ≡ h.above = stages ∙ ap (λ (x : Bool). cond x (less ∷ h.above) h.above) f in
+        let gone : b.tables.deletions ≡ h.above = stages ∙ ap (λ (x : Bool). cond x (less ∷ h.above) h.above) f in
         inr (tasks h.above gone ∙ sym h.rest_is, ended gone)
 
 pub first_turn : (m m' : Moment) (task : Task) (rest : List Task) (said : List Line) → Stands m → tree_tasks m.tree ≡ task ∷ rest → IsTurn task m said m' → Remains m' task rest
@@ -196,8 +196,8 @@ none_stands t e proto = by_proto proto
     c : (branch_tasks t.ospf ≡ []) × (branch_tasks t.rip ≡ [])
     c = nothing_left (branch_tasks t.ospf) (branch_tasks t.rip) b.1
 
-    by_proto : (proto : Proto) → (branch_of proto t).deletions ≡ []
-    by_proto Connected = no_stages t.connected.proto t.connected.deletions a.0
-    by_proto Static = no_stages t.statics.proto t.statics.deletions b.0
-    by_proto Ospf = no_stages t.ospf.proto t.ospf.deletions c.0
-    by_proto Rip = no_stages t.rip.proto t.rip.deletions c.1
+    by_proto : (proto : Proto) → (branch_of proto t).tables.deletions ≡ []
+    by_proto Connected = no_stages t.connected.proto t.connected.tables.deletions a.0
+    by_proto Static = no_stages t.statics.proto t.statics.tables.deletions b.0
+    by_proto Ospf = no_stages t.ospf.proto t.ospf.tables.deletions c.0
+    by_proto Rip = no_stages t.rip.proto t.rip.tables.deletions c.1

@@ -32,18 +32,18 @@ use Rattle.router_core.proofs.RibLinks.{replanted}
 use Rattle.router_core.proofs.RouteLemmas.{Routes, routes_on, live_stays, losses_put}
 
 -- ---- before `local` no stage stands
-no_table : (proto : Proto) (n : ℕ) → table_of n (branch_of proto new_tree).deletions ≡ None
+no_table : (proto : Proto) (n : ℕ) → table_of n (branch_of proto new_tree).tables.deletions ≡ None
 no_table Connected n = refl
 no_table Static n = refl
 no_table Ospf n = refl
 no_table Rip n = refl
 
-pub since_local : (m : Moment) (proto : Proto) (n : ℕ) (table : FinMap prefix_cmp Interior) → Stands m → table_of n (branch_of proto m.tree).deletions ≡ Some table → (me : Speaker) × (m.declared.speaker ≡ Some me)
+pub since_local : (m : Moment) (proto : Proto) (n : ℕ) (table : FinMap prefix_cmp Interior) → Stands m → table_of n (branch_of proto m.tree).tables.deletions ≡ Some table → (me : Speaker) × (m.declared.speaker ≡ Some me)
 since_local m proto n table stands there = by_speaker m.declared.speaker refl
   where
     by_speaker : (s : Option Speaker) → m.declared.speaker ≡ s → (me : Speaker) × (m.declared.speaker ≡ Some me)
     by_speaker None at =
-        let none : table_of n (branch_of proto m.tree).deletions ≡ None = ap (λ (t : Treed). table_of n (branch_of proto t).deletions) (stands.tree.waiting at) ∙ no_table proto n in
+        let none : table_of n (branch_of proto m.tree).tables.deletions ≡ None = ap (λ (t : Treed). table_of n (branch_of proto t).tables.deletions) (stands.tree.waiting at) ∙ no_table proto n in
         absurd (let contra : Some table ≡ None = sym there ∙ none in cc)
     by_speaker (Some me) at = (me, at)
 
@@ -80,8 +80,8 @@ route_unit take keep m proto n sent t m' before j j' stands adds settles = (
     b : Branch
     b = swept_branch n p (branch_of proto m.tree)
 
-    few : length b.deletions ≤ 16
-    few = let same = few_map (swept_one n p) (branch_of proto m.tree).deletions in let was = stands.tree.few proto in omega (arith, same, was)
+    few : length b.tables.deletions ≤ 16
+    few = let same = few_map (swept_one n p) (branch_of proto m.tree).tables.deletions in let was = stands.tree.few proto in omega (arith, same, was)
 
     r : Pushes (Routes m proto b p (way_of_sweep proto n m.tree) m') before j'
     r = routes_on m me.0 proto b p (way_of_sweep proto n m.tree) sent t m' before j j' stands me.1 sweeps.after few sweeps.rows (entries, adds.1, sweeps.fall) settles

@@ -5,7 +5,7 @@ use Rattle.std.specs.FinMap.{FinMap}
 use Rattle.addr4.specs.Prefixes.{Network, prefix_cmp}
 use Rattle.bgp_attr.specs.declared.attrs.Attrs.{Attrs}
 use Rattle.loss_chain.specs.Tables.{NoneEmpty}
-use Rattle.in_chain.specs.Chains.{Chained, IsChain, row_count, turns_left}
+use Rattle.in_chain.specs.Chains.{Chained, IsChain, row_count, turns_left, with_tables}
 use Rattle.loss_chain.specs.Steps.{swept_one, table_of}
 use Rattle.in_chain.specs.Steps.{swept, welded}
 use Rattle.in_chain.specs.Laws.{TurnsAreBounded}
@@ -70,17 +70,12 @@ left_below law [] = omega arith
 left_below law (c ∷ cs) = one_more (turns_left c) (left_in cs) (row_count c) (rows_in cs) (length cs) (law c) (left_below law cs)
 
 -- ---- what a turn leaves
-pub swept_rows : (s : ℕ) (c : Chained) (p : Network) (a : Attrs) (t : FinMap prefix_cmp Attrs) → IsChain c → table_of s c.incoming.deletions ≡ Some t → tables.get t p ≡ Some a
+pub swept_rows : (s : ℕ) (c : Chained) (p : Network) (a : Attrs) (t : FinMap prefix_cmp Attrs) → IsChain c → table_of s c.incoming.tables.deletions ≡ Some t → tables.get t p ≡ Some a
     → row_count (welded (swept s p c)) + 1 ≡ row_count c
 swept_rows s c p a t chain stands at =
-    let filtered = welded_rows (map (swept_one s p) c.incoming.deletions) in
-    let less = swept_rows_of s p t a c.incoming.deletions chain.rising stands at in
+    let filtered = welded_rows (map (swept_one s p) c.incoming.tables.deletions) in
+    let less = swept_rows_of s p t a c.incoming.tables.deletions chain.rising stands at in
     omega arith
 
-pub weld_stays : (c : Chained) → NoneEmpty c.incoming.deletions → welded c ≡ c
-weld_stays c full i = record {
-  incoming = record { number = c.incoming.number; live = c.incoming.live; deletions = full_stay c.incoming.deletions full i };
-  me = c.me;
-  peer = c.peer;
-  filter = c.filter;
-}
+pub weld_stays : (c : Chained) → NoneEmpty c.incoming.tables.deletions → welded c ≡ c
+weld_stays c full i = with_tables c (record { live = c.incoming.tables.live; deletions = full_stay c.incoming.tables.deletions full i })

@@ -41,11 +41,11 @@ unjudged None rules routes = refl
 unjudged (Some me) rules routes = refl
 
 -- no walk, one function
-rows_settled : (c : Chained) → ChainIsSettled c → filt_rows c ≡ filtered_rows c.me c.peer (present c.filter) (tables.get c.incoming.live)
+rows_settled : (c : Chained) → ChainIsSettled c → filt_rows c ≡ filtered_rows c.me c.peer (present c.filter) (tables.get c.incoming.tables.live)
 rows_settled c settled =
     ap (λ (w : Option (Walked (List Rule))). passed_rows c.me c.peer (record { in_force = c.filter.in_force; walk = w }) (in_rows c.incoming)) settled.walk
-    ∙ ap (λ (ds : List (Lost Attrs)). filtered_rows c.me c.peer c.filter.in_force (rows_below c.incoming.live ds)) settled.deletions
-    ∙ ap (λ (w : Option (Walked (List Rule))). filtered_rows c.me c.peer (present_of c.filter.in_force w) (tables.get c.incoming.live)) (sym settled.walk)
+    ∙ ap (λ (ds : List (Lost Attrs)). filtered_rows c.me c.peer c.filter.in_force (rows_below c.incoming.tables.live ds)) settled.deletions
+    ∙ ap (λ (w : Option (Walked (List Rule))). filtered_rows c.me c.peer (present_of c.filter.in_force w) (tables.get c.incoming.tables.live)) (sym settled.walk)
 
 module _ (m : Moment) (stands : Stands m) (settled : IsSettled m) where
   here : (k : ℕ) (c : Chained) → chain_at k m.chains ≡ Some c → nat_eq k c.incoming.number ≡ true
@@ -60,13 +60,13 @@ module _ (m : Moment) (stands : Stands m) (settled : IsSettled m) where
   in_exact k (Some p) None at there = absurd there
   in_exact k (Some p) (Some c) at there =
       ap (λ (b : Bool). cond b (Some (attrs_rows (in_rows c.incoming))) None) (here k c at)
-      ∙ ap (λ (ds : List (Lost Attrs)). Some (attrs_rows (rows_below c.incoming.live ds))) (rests k c at).deletions
+      ∙ ap (λ (ds : List (Lost Attrs)). Some (attrs_rows (rows_below c.incoming.tables.live ds))) (rests k c at).deletions
 
   peer_exact : (k s : ℕ) (c : Option Chained) → chain_at k m.chains ≡ c → links_by c (Peer k s) ≡ None
   peer_exact k s None at = refl
   peer_exact k s (Some c) at =
-      ap (λ (b : Bool). cond b (option_map attrs_rows (rows_above c.incoming.live s c.incoming.deletions)) None) (here k c at)
-      ∙ ap (λ (ds : List (Lost Attrs)). option_map attrs_rows (rows_above c.incoming.live s ds)) (rests k c at).deletions
+      ap (λ (b : Bool). cond b (option_map attrs_rows (rows_above c.incoming.tables.live s c.incoming.tables.deletions)) None) (here k c at)
+      ∙ ap (λ (ds : List (Lost Attrs)). option_map attrs_rows (rows_above c.incoming.tables.live s ds)) (rests k c at).deletions
 
   filt_exact : (k : ℕ) (p : Option DeclaredPeer) (c : Option Chained) → chain_at k m.chains ≡ c → StandsAt p c
       → links_by c (Filt k) ≡ option_map route_rows (judged_rows m.declared.speaker p (rules_of c) (routes_of c))
@@ -76,12 +76,12 @@ module _ (m : Moment) (stands : Stands m) (settled : IsSettled m) where
   filt_exact k (Some p) (Some c) at there =
       ap (λ (b : Bool). cond b (Some (route_rows (filt_rows c))) None) (here k c at)
       ∙ ap (λ rows. Some (route_rows rows)) (rows_settled c (rests k c at))
-      ∙ ap (λ (w : Neighbour). Some (route_rows (filtered_rows c.me w (present c.filter) (tables.get c.incoming.live)))) there.words
-      ∙ ap (λ (s : Option Speaker). option_map route_rows (judged_rows s (Some p) (present c.filter) c.incoming.live)) (sym (speaker_at m stands k c at))
+      ∙ ap (λ (w : Neighbour). Some (route_rows (filtered_rows c.me w (present c.filter) (tables.get c.incoming.tables.live)))) there.words
+      ∙ ap (λ (s : Option Speaker). option_map route_rows (judged_rows s (Some p) (present c.filter) c.incoming.tables.live)) (sym (speaker_at m stands k c at))
 
   -- ---- the interior routes
   abbrev routes_in : Proto → Interiors
-  routes_in proto = (branch_of proto m.tree).live
+  routes_in proto = (branch_of proto m.tree).tables.live
 
   org_is : (proto : Proto) → org_rows (branch_of proto m.tree) ≡ tables.get (routes_in proto)
   org_is proto = ap (interiors_below (routes_in proto)) (settled.tree proto)

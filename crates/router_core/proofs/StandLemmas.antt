@@ -112,13 +112,13 @@ module _ (p : DeclaredPeer) (up : Bool) where
 
 -- what is left of a chain's tables stands as they stood
 pub peer_left : (p : DeclaredPeer) (c c' : Chained) (f : Lost Attrs → Lost Attrs) (g : Lost Attrs → Bool) → ((d : Lost Attrs) → (f d).number ≡ d.number)
-    → c'.incoming.deletions ≡ filter g (map f c.incoming.deletions) → c'.peer ≡ c.peer → IsChain c' → NoneEmpty c'.incoming.deletions → IsSilent p.up c' → PeerStands p c → PeerStands p c'
+    → c'.incoming.tables.deletions ≡ filter g (map f c.incoming.tables.deletions) → c'.peer ≡ c.peer → IsChain c' → NoneEmpty c'.incoming.tables.deletions → IsSilent p.up c' → PeerStands p c → PeerStands p c'
 peer_left p c c' f g keeps is words chain full silent stands = record {
   words = words ∙ stands.words;
   chain = chain;
   full = full;
-  few = let few = few_left f g c.incoming.deletions in let was = stands.few in let e : length c'.incoming.deletions ≡ length (filter g (map f c.incoming.deletions)) = ap length is in omega arith;
-  earlier = subst (λ ds. AllByRecursion (λ d. IsEarlier p p.up d.number) ds) (sym is) (earlier_left p p.up f g keeps c.incoming.deletions stands.earlier);
+  few = let few = few_left f g c.incoming.tables.deletions in let was = stands.few in let e : length c'.incoming.tables.deletions ≡ length (filter g (map f c.incoming.tables.deletions)) = ap length is in omega arith;
+  earlier = subst (λ ds. AllByRecursion (λ d. IsEarlier p p.up d.number) ds) (sym is) (earlier_left p p.up f g keeps c.incoming.tables.deletions stands.earlier);
   silent = silent;
 }
 
@@ -129,10 +129,10 @@ live_by m d routes rules = record { declared = d; routes = routes; rules = rules
 -- the live state after a step of one chain
 pub live_with : (m : Moment) (now : Declaration) (k : ℕ) (c c' : Chained) → chain_at k m.chains ≡ Some c → c'.incoming.number ≡ k
     → live_state (remade m now (put_chain c' m.chains))
-    ≡ live_by m now (with_routes (live_state m).routes k c'.incoming.live) (with_rules (live_state m).rules k (present c'.filter))
+    ≡ live_by m now (with_routes (live_state m).routes k c'.incoming.tables.live) (with_rules (live_state m).rules k (present c'.filter))
 live_with m now k c c' at number i = live_by m now (λ j. put_at routes_of k m.chains c c' at number j i) (λ j. put_at rules_of k m.chains c c' at number j i)
 
-pub routes_there : (m : Moment) (k : ℕ) (c : Chained) → chain_at k m.chains ≡ Some c → (live_state m).routes k ≡ c.incoming.live
+pub routes_there : (m : Moment) (k : ℕ) (c : Chained) → chain_at k m.chains ≡ Some c → (live_state m).routes k ≡ c.incoming.tables.live
 routes_there m k c at = ap routes_of at
 
 pub rules_there : (m : Moment) (k : ℕ) (c : Chained) → chain_at k m.chains ≡ Some c → (live_state m).rules k ≡ present c.filter
@@ -162,21 +162,21 @@ routes_twice all k a b i j = by_test (nat_eq j k) i
 
 -- where the rules stay
 pub live_routed : (m : Moment) (now : Declaration) (k : ℕ) (c c' : Chained) → chain_at k m.chains ≡ Some c → c'.incoming.number ≡ k → present c'.filter ≡ present c.filter
-    → live_state (remade m now (put_chain c' m.chains)) ≡ live_by m now (with_routes (live_state m).routes k c'.incoming.live) (live_state m).rules
+    → live_state (remade m now (put_chain c' m.chains)) ≡ live_by m now (with_routes (live_state m).routes k c'.incoming.tables.live) (live_state m).rules
 live_routed m now k c c' at number same =
     live_with m now k c c' at number
-    ∙ ap (live_by m now (with_routes (live_state m).routes k c'.incoming.live)) (rules_same (live_state m).rules k (present c'.filter) (rules_there m k c at ∙ sym same))
+    ∙ ap (live_by m now (with_routes (live_state m).routes k c'.incoming.tables.live)) (rules_same (live_state m).rules k (present c'.filter) (rules_there m k c at ∙ sym same))
 
 -- where the routes stay
-pub live_edited : (m : Moment) (k : ℕ) (c c' : Chained) → chain_at k m.chains ≡ Some c → c'.incoming.number ≡ k → c'.incoming.live ≡ c.incoming.live
+pub live_edited : (m : Moment) (k : ℕ) (c c' : Chained) → chain_at k m.chains ≡ Some c → c'.incoming.number ≡ k → c'.incoming.tables.live ≡ c.incoming.tables.live
     → live_state (with_chain m c') ≡ live_by m m.declared (live_state m).routes (with_rules (live_state m).rules k (present c'.filter))
 live_edited m k c c' at number same =
     live_with m m.declared k c c' at number
-    ∙ ap (λ (r : ℕ → Routes). live_by m m.declared r (with_rules (live_state m).rules k (present c'.filter))) (routes_same (live_state m).routes k c'.incoming.live (routes_there m k c at ∙ sym same))
+    ∙ ap (λ (r : ℕ → Routes). live_by m m.declared r (with_rules (live_state m).rules k (present c'.filter))) (routes_same (live_state m).routes k c'.incoming.tables.live (routes_there m k c at ∙ sym same))
 
 -- where both stay
-pub live_same : (m : Moment) (k : ℕ) (c c' : Chained) → chain_at k m.chains ≡ Some c → c'.incoming.number ≡ k → c'.incoming.live ≡ c.incoming.live → present c'.filter ≡ present c.filter
+pub live_same : (m : Moment) (k : ℕ) (c c' : Chained) → chain_at k m.chains ≡ Some c → c'.incoming.number ≡ k → c'.incoming.tables.live ≡ c.incoming.tables.live → present c'.filter ≡ present c.filter
     → live_state (with_chain m c') ≡ live_state m
 live_same m k c c' at number same kept =
     live_routed m m.declared k c c' at number kept
-    ∙ ap (λ (r : ℕ → Routes). live_by m m.declared r (live_state m).rules) (routes_same (live_state m).routes k c'.incoming.live (routes_there m k c at ∙ sym same))
+    ∙ ap (λ (r : ℕ → Routes). live_by m m.declared r (live_state m).rules) (routes_same (live_state m).routes k c'.incoming.tables.live (routes_there m k c at ∙ sym same))

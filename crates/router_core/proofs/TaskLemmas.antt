@@ -32,7 +32,7 @@ record Heads (cs : List Chained) (k s : ℕ) (rest : List Task) : Type 0 where
   at : chain_at k cs ≡ Some chain
   lowest : Lost Attrs
   above : List (Lost Attrs)
-  stages : chain.incoming.deletions ≡ lowest ∷ above
+  stages : chain.incoming.tables.deletions ≡ lowest ∷ above
   session : lowest.number ≡ s
   others : List Task
   rest_is : rest ≡ map (λ d. Del k d.number) above ++ others
@@ -41,17 +41,17 @@ record Heads (cs : List Chained) (k s : ℕ) (rest : List Task) : Type 0 where
 same_del : (a b c d : ℕ) (xs ys : List Task) → (Del a b ∷ xs) ≡ (Del c d ∷ ys) → (a ≡ c) × (b ≡ d) × (xs ≡ ys)
 same_del a b c d xs ys e = (cc, cc, cc)
 
-tasks_by : (d : Chained) (ds : List Chained) (x : List (Lost Attrs)) → d.incoming.deletions ≡ x → tasks_of (d ∷ ds) ≡ map (λ e. Del d.incoming.number e.number) x ++ tasks_of ds
+tasks_by : (d : Chained) (ds : List Chained) (x : List (Lost Attrs)) → d.incoming.tables.deletions ≡ x → tasks_of (d ∷ ds) ≡ map (λ e. Del d.incoming.number e.number) x ++ tasks_of ds
 tasks_by d ds x is = ap (λ (l : List (Lost Attrs)). map (λ e. Del d.incoming.number e.number) l ++ tasks_of ds) is
 
 heads : (cs : List Chained) (k s : ℕ) (rest : List Task) → AreInOrder cs → tasks_of cs ≡ Del k s ∷ rest → Heads cs k s rest
 heads [] k s rest order e = absurd (cc)
-heads (d ∷ ds) k s rest order e = by_stages d.incoming.deletions refl (λ there. heads ds k s rest order.1 there)
+heads (d ∷ ds) k s rest order e = by_stages d.incoming.tables.deletions refl (λ there. heads ds k s rest order.1 there)
   where
     past : Heads ds k s rest → nat_eq d.incoming.number k ≡ false
     past h = other_by d.incoming.number k (λ same. let none : chain_at k ds ≡ None = none_below k d.incoming.number ds (sym same) order.0 in let at = h.at in absurd (cc))
 
-    skip : d.incoming.deletions ≡ [] → Heads ds k s rest → Heads (d ∷ ds) k s rest
+    skip : d.incoming.tables.deletions ≡ [] → Heads ds k s rest → Heads (d ∷ ds) k s rest
     skip none h = record {
       chain = h.chain;
       at = chain_past k d ds (past h) ∙ h.at;
@@ -64,7 +64,7 @@ heads (d ∷ ds) k s rest order e = by_stages d.incoming.deletions refl (λ ther
       puts = λ c' number. ap (λ (x : Chained). tasks_of (x ∷ put_chain c' ds)) (put_one_past c' d (ap (nat_eq d.incoming.number) number ∙ past h)) ∙ tasks_by d (put_chain c' ds) [] none ∙ h.puts c' number;
     }
 
-    here : (x : Lost Attrs) (xs : List (Lost Attrs)) → d.incoming.deletions ≡ x ∷ xs → Heads (d ∷ ds) k s rest
+    here : (x : Lost Attrs) (xs : List (Lost Attrs)) → d.incoming.tables.deletions ≡ x ∷ xs → Heads (d ∷ ds) k s rest
     here x xs is =
         let same = same_del d.incoming.number x.number k s (map (λ e. Del d.incoming.number e.number) xs ++ tasks_of ds) rest (sym (tasks_by d ds (x ∷ xs) is) ∙ e) in
         record {
@@ -79,24 +79,24 @@ heads (d ∷ ds) k s rest order e = by_stages d.incoming.deletions refl (λ ther
           puts = λ c' number. ap tasks_of (both (put_one_here c' d (same_by d.incoming.number c'.incoming.number (same.0 ∙ sym number))) (put_none c' d.incoming.number ds (number ∙ sym same.0) order.0));
         }
 
-    by_stages : (x : List (Lost Attrs)) → d.incoming.deletions ≡ x → (tasks_of ds ≡ Del k s ∷ rest → Heads ds k s rest) → Heads (d ∷ ds) k s rest
+    by_stages : (x : List (Lost Attrs)) → d.incoming.tables.deletions ≡ x → (tasks_of ds ≡ Del k s ∷ rest → Heads ds k s rest) → Heads (d ∷ ds) k s rest
     by_stages [] is there = skip is (there (sym (tasks_by d ds [] is) ∙ e))
     by_stages (x ∷ xs) is there = here x xs is
 
 -- ---- the first task has work
 heads_work : (m : Moment) (k s : ℕ) (rest : List Task) → Heads m.chains k s rest → has_work (Del k s) m ≡ true
 heads_work m k s rest h =
-    let table : is_some (table_of s h.chain.incoming.deletions) ≡ true = ap (λ (ds : List (Lost Attrs)). is_some (table_of s ds)) h.stages
+    let table : is_some (table_of s h.chain.incoming.tables.deletions) ≡ true = ap (λ (ds : List (Lost Attrs)). is_some (table_of s ds)) h.stages
     ∙ ap (λ (t : Option (FinMap prefix_cmp Attrs)). is_some t) (table_here s h.lowest h.above h.session) in
     let own : nat_eq k h.chain.incoming.number ≡ true = same_by k h.chain.incoming.number (sym (number_at k m.chains h.chain h.at)) in
-    ap (has_turn_in (Del k s)) h.at ∙ ap (λ (b : Bool). b && is_some (table_of s h.chain.incoming.deletions)) own ∙ table
+    ap (has_turn_in (Del k s)) h.at ∙ ap (λ (b : Bool). b && is_some (table_of s h.chain.incoming.tables.deletions)) own ∙ table
 
 -- the deletion stages have no other tasks
 first_is_stage : (cs : List Chained) (task : Task) (rest : List Task) → tasks_of cs ≡ task ∷ rest → (k s : ℕ) × (task ≡ Del k s)
 first_is_stage [] task rest e = absurd (cc)
-first_is_stage (d ∷ ds) task rest e = by_stages d.incoming.deletions refl (first_is_stage ds task rest)
+first_is_stage (d ∷ ds) task rest e = by_stages d.incoming.tables.deletions refl (first_is_stage ds task rest)
   where
-    by_stages : (x : List (Lost Attrs)) → d.incoming.deletions ≡ x → (tasks_of ds ≡ task ∷ rest → (k s : ℕ) × (task ≡ Del k s)) → (k s : ℕ) × (task ≡ Del k s)
+    by_stages : (x : List (Lost Attrs)) → d.incoming.tables.deletions ≡ x → (tasks_of ds ≡ task ∷ rest → (k s : ℕ) × (task ≡ Del k s)) → (k s : ℕ) × (task ≡ Del k s)
     by_stages [] is there = there (sym (tasks_by d ds [] is) ∙ e)
     by_stages (x ∷ xs) is there =
         let both_are : (Del d.incoming.number x.number ∷ (map (λ e. Del d.incoming.number e.number) xs ++ tasks_of ds)) ≡ task ∷ rest = sym (tasks_by d ds (x ∷ xs) is) ∙ e in
@@ -149,24 +149,24 @@ stage_turn m m' k s rest said stands e t = subst (λ (x : Moment). Follows x (De
     less : Lost Attrs
     less = without sweeps.prefix h.lowest
 
-    stages : c'.incoming.deletions ≡ cond (is_full less) (less ∷ h.above) h.above
+    stages : c'.incoming.tables.deletions ≡ cond (is_full less) (less ∷ h.above) h.above
     stages = ap (λ (l : List (Lost Attrs)). filter is_full (map (swept_one s sweeps.prefix) l)) h.stages ∙ swept_head s sweeps.prefix h.lowest h.above h.session later full
 
-    tasks : (x : List (Lost Attrs)) → c'.incoming.deletions ≡ x → deletion_tasks (with_chain m c') ≡ map (λ d. Del k d.number) x ++ h.others
+    tasks : (x : List (Lost Attrs)) → c'.incoming.tables.deletions ≡ x → deletion_tasks (with_chain m c') ≡ map (λ d. Del k d.number) x ++ h.others
     tasks x is = h.puts c' number ∙ ap (λ (l : List (Lost Attrs)). map (λ d. Del c'.incoming.number d.number) l ++ h.others) is ∙ ap (λ (n : ℕ). map (λ d. Del n d.number) x ++ h.others) number
 
-    ended : c'.incoming.deletions ≡ h.above → has_work (Del k s) (with_chain m c') ≡ false
+    ended : c'.incoming.tables.deletions ≡ h.above → has_work (Del k s) (with_chain m c') ≡ false
     ended gone =
-        let none : is_some (table_of s c'.incoming.deletions) ≡ false = ap (λ (l : List (Lost Attrs)). is_some (table_of s l)) gone
+        let none : is_some (table_of s c'.incoming.tables.deletions) ≡ false = ap (λ (l : List (Lost Attrs)). is_some (table_of s l)) gone
         ∙ ap (λ (o : Option (FinMap prefix_cmp Attrs)). is_some o) (none_later s h.above later) in
-        ap (has_turn_in (Del k s)) (chain_at_put_same k m.chains h.chain c' h.at number) ∙ and_false (nat_eq k c'.incoming.number) (is_some (table_of s c'.incoming.deletions)) none
+        ap (has_turn_in (Del k s)) (chain_at_put_same k m.chains h.chain c' h.at number) ∙ and_false (nat_eq k c'.incoming.number) (is_some (table_of s c'.incoming.tables.deletions)) none
 
     by_test : (b : Bool) → is_full less ≡ b → Follows (with_chain m c') (Del k s) rest
     by_test true is =
-        let stays : c'.incoming.deletions ≡ less ∷ h.above = stages ∙ ap (λ (b : Bool). cond b (less ∷ h.above) h.above) is in
+        let stays : c'.incoming.tables.deletions ≡ less ∷ h.above = stages ∙ ap (λ (b : Bool). cond b (less ∷ h.above) h.above) is in
         inl (tasks (less ∷ h.above) stays ∙ both (ap (Del k) h.session) (sym h.rest_is))
     by_test false is =
-        let gone : c'.incoming.deletions ≡ h.above = stages ∙ ap (λ (b : Bool). cond b (less ∷ h.above) h.above) is in
+        let gone : c'.incoming.tables.deletions ≡ h.above = stages ∙ ap (λ (b : Bool). cond b (less ∷ h.above) h.above) is in
         inr (tasks h.above gone ∙ sym h.rest_is, ended gone)
 
     by_full : Follows (with_chain m c') (Del k s) rest
@@ -207,9 +207,9 @@ no_stages : (k : ℕ) (ds : List (Lost Attrs)) → map (λ d. Del k d.number) ds
 no_stages k [] e = refl
 no_stages k (d ∷ ds) e = absurd (cc)
 
-none_stand : (cs : List Chained) → tasks_of cs ≡ [] → AllByRecursion (λ c. c.incoming.deletions ≡ []) cs
+none_stand : (cs : List Chained) → tasks_of cs ≡ [] → AllByRecursion (λ c. c.incoming.tables.deletions ≡ []) cs
 none_stand [] e = tt
-none_stand (c ∷ cs) e = let parts = left_nothing (chain_tasks c) (tasks_of cs) e in (no_stages c.incoming.number c.incoming.deletions parts.0, none_stand cs parts.1)
+none_stand (c ∷ cs) e = let parts = left_nothing (chain_tasks c) (tasks_of cs) e in (no_stages c.incoming.number c.incoming.tables.deletions parts.0, none_stand cs parts.1)
 
 pub no_stage : (m : Moment) → deletion_tasks m ≡ [] → IsOver phases.Del m
 no_stage m e = none_stand m.chains e

@@ -111,9 +111,9 @@ no_rows_no_work k s m stands none = by_chain (chain_at k m.chains) refl
     by_chain None at = ap (has_turn_in (Del k s)) at
     by_chain (Some c) at =
         let below = sum_at row_count rows_in rows_are_sum k m.chains c at in
-        let empty : lost_count c.incoming.deletions ≡ 0 = omega (arith, below, none) in
-        let gone = ap (λ (t : Option (FinMap prefix_cmp Attrs)). is_some t) (none_there s c.incoming.deletions (sound_at m stands k c at).1 empty) in
-        ap (has_turn_in (Del k s)) at ∙ and_false (nat_eq k c.incoming.number) (is_some (table_of s c.incoming.deletions)) gone
+        let empty : lost_count c.incoming.tables.deletions ≡ 0 = omega (arith, below, none) in
+        let gone = ap (λ (t : Option (FinMap prefix_cmp Attrs)). is_some t) (none_there s c.incoming.tables.deletions (sound_at m stands k c at).1 empty) in
+        ap (has_turn_in (Del k s)) at ∙ and_false (nat_eq k c.incoming.number) (is_some (table_of s c.incoming.tables.deletions)) gone
 
 -- where no turn of a walk is left, none is on
 off_by : (c : Chained) (on : Bool) → is_some c.filter.walk ≡ on → TurnsAreLeft → turns_left c ≡ 0 → is_some c.filter.walk ≡ false

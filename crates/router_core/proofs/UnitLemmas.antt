@@ -31,7 +31,7 @@ use Rattle.router_core.proofs.RowCounts.{rows_are_sum, turns_are_sum, sum_put}
 use Rattle.router_core.proofs.StandLemmas.{remade, losses_stay, peer_of as peer_at_chain, peer_left, stands_with, live_same}
 use Rattle.router_core.proofs.WorkLemmas.{walk_stays}
 
-silent_as : (up : Bool) (c c' : Chained) → c'.incoming.live ≡ c.incoming.live → IsSilent up c → IsSilent up c'
+silent_as : (up : Bool) (c c' : Chained) → c'.incoming.tables.live ≡ c.incoming.tables.live → IsSilent up c → IsSilent up c'
 silent_as true c c' same silent = tt
 silent_as false c c' same silent = same ∙ silent
 
@@ -56,37 +56,37 @@ walked_keeps (Some p) s = step_keeps s.in_force s.walk p
 -- ---- a turn of the chain
 -- what a turn and the weld behind it keep
 record Leaves (c c' : Chained) : Type 0 where
-  live : c'.incoming.live ≡ c.incoming.live
+  live : c'.incoming.tables.live ≡ c.incoming.tables.live
   rules : present c'.filter ≡ present c.filter
-  stands : (p : DeclaredPeer) → c'.peer ≡ c.peer → IsChain c' → NoneEmpty c'.incoming.deletions → PeerStands p c → PeerStands p c'
+  stands : (p : DeclaredPeer) → c'.peer ≡ c.peer → IsChain c' → NoneEmpty c'.incoming.tables.deletions → PeerStands p c → PeerStands p c'
 
 sweep_leaves : (s : ℕ) (p : Network) (c c' : Chained) → c' ≡ welded (swept s p c) → Leaves c c'
 sweep_leaves s p c c' is = record {
-  live = ap (λ (x : Chained). x.incoming.live) is;
+  live = ap (λ (x : Chained). x.incoming.tables.live) is;
   rules = ap (λ (x : Chained). present x.filter) is;
   stands = λ peer words chain full stands.
-      peer_left peer c c' (swept_one s p) is_full (swept_number s p) (ap (λ (x : Chained). x.incoming.deletions) is) words chain full
-      (silent_as peer.up c c' (ap (λ (x : Chained). x.incoming.live) is) stands.silent) stands;
+      peer_left peer c c' (swept_one s p) is_full (swept_number s p) (ap (λ (x : Chained). x.incoming.tables.deletions) is) words chain full
+      (silent_as peer.up c c' (ap (λ (x : Chained). x.incoming.tables.live) is) stands.silent) stands;
 }
 
-walk_leaves : (c less c' : Chained) (sent : Option (Change Route)) (entries : List (Entry Value)) → Rewalks c less sent entries → NoneEmpty c.incoming.deletions → c' ≡ welded less → Leaves c c'
+walk_leaves : (c less c' : Chained) (sent : Option (Change Route)) (entries : List (Entry Value)) → Rewalks c less sent entries → NoneEmpty c.incoming.tables.deletions → c' ≡ welded less → Leaves c c'
 walk_leaves c less c' sent entries w full after =
     let is : c' ≡ less = after ∙ walk_stays c less sent entries w full in
     let incoming : c'.incoming ≡ c.incoming = ap (λ (x : Chained). x.incoming) (is ∙ w.after) in
     record {
-      live = ap (λ x. x.live) incoming;
+      live = ap (λ x. x.tables.live) incoming;
       rules = ap (λ (x : Chained). present x.filter) is ∙ ap (λ (x : Passed (List Rule)). present x) w.walks.after ∙ walked_keeps w.walks.next c.filter;
       stands = λ peer words chain full stands. record {
         words = words ∙ stands.words;
         chain = chain;
         full = full;
-        few = subst (λ x. length x.deletions ≤ 16) (sym incoming) stands.few;
-        earlier = subst (λ x. AllByRecursion (λ d. IsEarlier peer peer.up d.number) x.deletions) (sym incoming) stands.earlier;
-        silent = silent_as peer.up c c' (ap (λ x. x.live) incoming) stands.silent;
+        few = subst (λ x. length x.tables.deletions ≤ 16) (sym incoming) stands.few;
+        earlier = subst (λ x. AllByRecursion (λ d. IsEarlier peer peer.up d.number) x.tables.deletions) (sym incoming) stands.earlier;
+        silent = silent_as peer.up c c' (ap (λ x. x.tables.live) incoming) stands.silent;
       };
     }
 
-turn_leaves : (task : Task) (c less c' : Chained) (sent : Option (Change Route)) (entries : List (Entry Value)) → Turned c less task sent entries → NoneEmpty c.incoming.deletions → c' ≡ welded less
+turn_leaves : (task : Task) (c less c' : Chained) (sent : Option (Change Route)) (entries : List (Entry Value)) → Turned c less task sent entries → NoneEmpty c.incoming.tables.deletions → c' ≡ welded less
     → Leaves c c'
 turn_leaves (Del k s) c less c' sent entries t full after = sweep_leaves s t.1.prefix c c' (after ∙ ap welded t.1.after)
 turn_leaves (Fin k) c less c' sent entries t full after = walk_leaves c less c' sent entries t.1 full after

@@ -30,13 +30,13 @@ use Rattle.router_core.proofs.RowCounts.{swept_rows, weld_stays}
 -- what a weld leaves
 pub record Welds (less c' : Chained) (j now : Journaled) : Type 0 where
   pub after : c' ≡ welded less
-  pub lines : now ≡ with_entries j (weld_entries (owners.Peer less.incoming.number) (In less.incoming.number) less.incoming.deletions)
-  pub leads : LeadsChain less (weld_entries (owners.Peer less.incoming.number) (In less.incoming.number) less.incoming.deletions) c'
+  pub lines : now ≡ with_entries j (weld_entries (owners.Peer less.incoming.number) (In less.incoming.number) less.incoming.tables.deletions)
+  pub leads : LeadsChain less (weld_entries (owners.Peer less.incoming.number) (In less.incoming.number) less.incoming.tables.deletions) c'
   pub chain : IsChain c'
-  pub full : NoneEmpty c'.incoming.deletions
+  pub full : NoneEmpty c'.incoming.tables.deletions
 
 abbrev pub fall_entries : Chained → List (Entry Value) → List (Entry Value)
-fall_entries less entries = entries ++ weld_entries (owners.Peer less.incoming.number) (In less.incoming.number) less.incoming.deletions
+fall_entries less entries = entries ++ weld_entries (owners.Peer less.incoming.number) (In less.incoming.number) less.incoming.tables.deletions
 
 pub fall_step : (c less c' : Chained) (entries : List (Entry Value)) (j now : Journaled) → less.incoming.number ≡ c.incoming.number → (less.me ≡ c.me) × (less.peer ≡ c.peer) → LeadsChain c entries less → Welds less c' j now
     → StepsChain c (journal_lines (fall_entries less entries)) c'
@@ -44,7 +44,7 @@ fall_step c less c' entries j now number words leads w = record {
   number = ap (λ (x : Chained). x.incoming.number) w.after ∙ number;
   words = (ap (λ (x : Chained). x.me) w.after ∙ words.0, ap (λ (x : Chained). x.peer) w.after ∙ words.1);
   leads = λ others. subst (λ (es : List (Entry Value)). Leads (beside others c) es (beside others c')) (sym (entries_of_entries (fall_entries less entries)))
-      (leads_append (beside others c) (beside others less) (beside others c') entries (weld_entries (owners.Peer less.incoming.number) (In less.incoming.number) less.incoming.deletions) (leads others) (w.leads others));
+      (leads_append (beside others c) (beside others less) (beside others c') entries (weld_entries (owners.Peer less.incoming.number) (In less.incoming.number) less.incoming.tables.deletions) (leads others) (w.leads others));
   chain = w.chain;
   full = w.full;
 }
@@ -52,8 +52,8 @@ fall_step c less c' entries j now number words leads w = record {
 pub fall_pushed : (less c' : Chained) (entries : List (Entry Value)) (before j now : Journaled) → j ≡ with_entries before entries → Welds less c' j now
     → now ≡ with_lines before (journal_lines (fall_entries less entries))
 fall_pushed less c' entries before j now pushed w =
-    w.lines ∙ ap (λ (x : Journaled). with_entries x (weld_entries (owners.Peer less.incoming.number) (In less.incoming.number) less.incoming.deletions)) pushed
-    ∙ with_entries_append before entries (weld_entries (owners.Peer less.incoming.number) (In less.incoming.number) less.incoming.deletions)
+    w.lines ∙ ap (λ (x : Journaled). with_entries x (weld_entries (owners.Peer less.incoming.number) (In less.incoming.number) less.incoming.tables.deletions)) pushed
+    ∙ with_entries_append before entries (weld_entries (owners.Peer less.incoming.number) (In less.incoming.number) less.incoming.tables.deletions)
 
 pub feeds_chain : (p : Network) (row : Option Attrs) (c less c' : Chained) (sent : Option (Change Route)) (before j now : Journaled)
     → IsSent (filt_rows c) (filt_rows less) p sent → less ≡ fed c p row
@@ -99,10 +99,10 @@ turn_leads (Fin k) c less sent entries t = t.1.leads
 turn_leads (Rdel proto n) c less sent entries t = absurd t
 
 -- a turn of a walk empties no stage
-pub walk_stays : (c less : Chained) (sent : Option (Change Route)) (entries : List (Entry Value)) → Rewalks c less sent entries → NoneEmpty c.incoming.deletions → welded less ≡ less
-walk_stays c less sent entries t full = weld_stays less (subst (λ (x : Chained). NoneEmpty x.incoming.deletions) (sym t.after) full)
+pub walk_stays : (c less : Chained) (sent : Option (Change Route)) (entries : List (Entry Value)) → Rewalks c less sent entries → NoneEmpty c.incoming.tables.deletions → welded less ≡ less
+walk_stays c less sent entries t full = weld_stays less (subst (λ (x : Chained). NoneEmpty x.incoming.tables.deletions) (sym t.after) full)
 
-turn_nears : (task : Task) (c less c' : Chained) (sent : Option (Change Route)) (entries : List (Entry Value)) → IsChain c → NoneEmpty c.incoming.deletions → Turned c less task sent entries → c' ≡ welded less
+turn_nears : (task : Task) (c less c' : Chained) (sent : Option (Change Route)) (entries : List (Entry Value)) → IsChain c → NoneEmpty c.incoming.tables.deletions → Turned c less task sent entries → c' ≡ welded less
     → NearsChain task c c'
 turn_nears (Del k s) c less c' sent entries chain full t after =
     let is : row_count c' ≡ row_count (welded (swept s t.1.prefix c)) = ap row_count (after ∙ ap welded t.1.after) in
@@ -113,7 +113,7 @@ turn_nears (Fin k) c less c' sent entries chain full t after =
     (ap row_count is ∙ ap row_count t.1.after, subst (λ (x : Chained). turns_left x < turns_left c) (sym is) t.1.fewer)
 turn_nears (Rdel proto n) c less c' sent entries chain full t after = t
 
-takes_chain : (task : Task) (c less c' : Chained) (sent : Option (Change Route)) (before j now : Journaled) → IsChain c → NoneEmpty c.incoming.deletions → Adds (Turned c less task sent) before j
+takes_chain : (task : Task) (c less c' : Chained) (sent : Option (Change Route)) (before j now : Journaled) → IsChain c → NoneEmpty c.incoming.tables.deletions → Adds (Turned c less task sent) before j
     → Welds less c' j now → TurnsChain task c c' before now Taken
 takes_chain task c less c' sent before j now chain full adds w =
     let stays = turn_stays task c less sent adds.0 adds.2 in
@@ -136,7 +136,7 @@ rests_chain task c c' before now turns.Nothing taken is = taken
 rests_chain task c c' before now turns.Quiet taken is = absurd (cc)
 rests_chain task c c' before now (turns.Sent change) taken is = absurd (cc)
 
-pub turns_chain : (task : Task) (c less c' : Chained) (before j now : Journaled) (turn : Turn Route) → IsChain c → NoneEmpty c.incoming.deletions → IsTaken c less task before j turn → is_nothing turn ≡ false
+pub turns_chain : (task : Task) (c less c' : Chained) (before j now : Journaled) (turn : Turn Route) → IsChain c → NoneEmpty c.incoming.tables.deletions → IsTaken c less task before j turn → is_nothing turn ≡ false
     → Welds less c' j now → TurnsChain task c c' before now Taken
 turns_chain task c less c' before j now turns.Nothing chain full taken is w = absurd (cc)
 turns_chain task c less c' before j now turns.Quiet chain full taken is w = takes_chain task c less c' None before j now chain full taken w

@@ -1,4 +1,4 @@
--- What each event does, and the lines that it gives.
+-- What each event does, and the lines that it gives (NSDI 2005, sections 5.1 and 5.2; of messages RFC 4271, sections 3.1 and 6).
 use Rattle.std.specs.Prelude.{◌≡◌, ℕ, ◌≤◌, ◌⊎◌, Bool, true, false, List, [], ◌∷◌, ◌++◌, map, length, Contains, Option, Some, None, IsSome, is_some}
 use Rattle.std.specs.List.{AllByRecursion}
 use Rattle.std.specs.List.Sorted.{IsStrictlySortedBy}
@@ -32,7 +32,7 @@ use Rattle.rib_tree.specs.Trees.{branch_of, int_rows}
 use Rattle.rib_tree.specs.Steps.{fed_tree, lost_tree, tree_overdue, tree_loss_entries}
 use Rattle.rib_tree.specs.Falls.{way_of_route}
 use Rattle.in_chain.specs.Chains.{Chained}
-use Rattle.in_chain.specs.IncomingSteps.{loss_entries, overdue_of}
+use Rattle.in_chain.specs.Incomings.{loss_entries, overdue_of}
 use Rattle.in_chain.specs.Steps.{new_chain, lost, refiltered}
 use Rattle.router_core.specs.Moments.{Moment, chain_at, insert_chain, with_chain, router_links, bound_of}
 use Rattle.router_core.specs.Lives.{LiveAfter, live_state, changes_of, Says}
@@ -192,7 +192,7 @@ IsBlock m (Down k) said turns m' = ByPeer (λ p. EndsIf p.up m k p said turns m'
 IsBlock m (Bgp k octets) said turns m' = ByPeer (λ p. HearsIf p.up m k p octets said turns m') (peer_at k m.declared.peers)
 IsBlock m (FilterIn k rules) said turns m' = Refilters k rules m said turns m'
 IsBlock m (RouteAdd p row) said turns m' = (turns ≡ 0) × AddsRoute p row m said m'
-IsBlock m (RouteDel proto p) said turns m' = DropsRouteIf (is_some (tables.get (branch_of proto m.tree).live p)) proto p m said turns m'
+IsBlock m (RouteDel proto p) said turns m' = DropsRouteIf (is_some (tables.get (branch_of proto m.tree).tables.live p)) proto p m said turns m'
 IsBlock m (Lose proto) said turns m' = (turns ≡ 0) × LosesProtocol proto m said m'
 IsBlock m (Cover addr) said turns m' = (turns ≡ 0) × (m' ≡ m) × CoversAddress addr m said
 IsBlock m Idle said turns m' = Idles m said turns m'

@@ -1,6 +1,6 @@
 -- The live state: what the events alone make of the declarations, the sessions, each peer's live routes and its rules, and the
--- interior routes, whatever work was done or not.
-use Rattle.std.specs.Prelude.{◌≡◌, ℕ, ◌==◌, ◌&&◌, ◌||◌, Bool, true, false, not, if◌then◌else◌, List, [], ◌∷◌, ◌++◌, map, filter, slice_index, Option, Some, None, is_some}
+-- interior routes, whatever work was done or not (RFC 4271, sections 3.1, 3.2 and 6).
+use Rattle.std.specs.Prelude.{◌≡◌, ℕ, ◌==◌, ◌&&◌, ◌||◌, nat_lt, Bool, true, false, not, if◌then◌else◌, List, [], ◌∷◌, ◌++◌, map, filter, slice_index, Option, Some, None, is_some}
 use Rattle.std.specs.FinMap as tables
 use Rattle.std.specs.FinMap.{FinMap}
 use Rattle.addr4.specs.Prefixes.{Network, prefix_cmp}
@@ -131,7 +131,7 @@ LiveAfter l (Show link) l' = l' ≡ l
 -- what is live in a chain
 abbrev pub routes_of : Option Chained → Routes
 routes_of None = tables.empty
-routes_of (Some c) = c.incoming.live
+routes_of (Some c) = c.incoming.tables.live
 
 -- the latest rules of a chain's filter
 abbrev pub rules_of : Option Chained → List Rule
@@ -143,7 +143,7 @@ live_state m = record {
   declared = m.declared;
   routes = λ k. routes_of (chain_at k m.chains);
   rules = λ k. rules_of (chain_at k m.chains);
-  interior = λ proto. (branch_of proto m.tree).live;
+  interior = λ proto. (branch_of proto m.tree).tables.live;
 }
 
 -- whether a message ends the session

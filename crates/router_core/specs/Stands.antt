@@ -19,16 +19,16 @@ IsEarlier p false session = session ≤ p.session
 
 abbrev pub IsSilent : Bool → Chained → Type 0
 IsSilent true c = Unit {0}
-IsSilent false c = c.incoming.live ≡ tables.empty
+IsSilent false c = c.incoming.tables.live ≡ tables.empty
 
 -- A peer and its chain, which has the peer's words: its lost tables are apart from each other and from the live routes, none is
 -- empty, at most 16 stand, each of an earlier session; where the peer is down nothing is live.
 pub record PeerStands (p : DeclaredPeer) (c : Chained) : Type 0 where
   pub words : c.peer ≡ p.words
   pub chain : IsChain c
-  pub full : NoneEmpty c.incoming.deletions
-  pub few : length c.incoming.deletions ≤ 16
-  pub earlier : AllByRecursion (λ d. IsEarlier p p.up d.number) c.incoming.deletions
+  pub full : NoneEmpty c.incoming.tables.deletions
+  pub few : length c.incoming.tables.deletions ≤ 16
+  pub earlier : AllByRecursion (λ d. IsEarlier p p.up d.number) c.incoming.tables.deletions
   pub silent : IsSilent p.up c
 
 -- exactly the declared peers have chains
@@ -46,7 +46,7 @@ AreInOrder (c ∷ cs) = AllByRecursion (λ d. c.incoming.number < d.incoming.num
 pub record TreeStands (speaker : Option Speaker) (t : Treed) : Type 0 where
   pub tree : IsTree t
   pub full : IsFull t
-  pub few : (proto : Proto) → length (branch_of proto t).deletions ≤ 16
+  pub few : (proto : Proto) → length (branch_of proto t).tables.deletions ≤ 16
   pub waiting : speaker ≡ None → t ≡ new_tree
 
 -- The chains have the words of this speaker; there are as many as peers. The register has the rows of `int`.
@@ -60,12 +60,12 @@ pub record Stands (m : Moment) : Type 0 where
 
 -- no deletion stage stands in the chain, and no walk is on
 pub record ChainIsSettled (c : Chained) : Type 0 where
-  pub deletions : c.incoming.deletions ≡ []
+  pub deletions : c.incoming.tables.deletions ≡ []
   pub walk : c.filter.walk ≡ None
 
 -- no deletion stage stands in the tree
 abbrev pub TreeIsSettled : Treed → Type 0
-TreeIsSettled t = (proto : Proto) → (branch_of proto t).deletions ≡ []
+TreeIsSettled t = (proto : Proto) → (branch_of proto t).tables.deletions ≡ []
 
 -- No task has work.
 pub record IsSettled (m : Moment) : Type 0 where

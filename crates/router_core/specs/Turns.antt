@@ -1,4 +1,4 @@
--- Turns of background work, and the falls of messages.
+-- Turns of background work, and the falls of messages (NSDI 2005, sections 5.1 and 5.1.2).
 use Rattle.std.specs.Prelude.{◌≡◌, ℕ, zero, suc, ◌+◌, ◌*◌, length, Bool, false, List, [], ◌∷◌, ◌++◌, map, Option, Some, None}
 use Rattle.std.specs.List.{flat_map, AllByRecursion}
 use Rattle.addr4.specs.Prefixes.{Network}
@@ -42,7 +42,7 @@ journal_lines entries = map (λ e. lines.Journal e) entries
 
 -- the lines of a fall in a chain, and behind them the weld of the stage that it emptied, if any
 abbrev pub fall_lines : Chained → List (Entry Value) → List Line
-fall_lines c entries = journal_lines (entries ++ weld_entries (owners.Peer c.incoming.number) (In c.incoming.number) c.incoming.deletions)
+fall_lines c entries = journal_lines (entries ++ weld_entries (owners.Peer c.incoming.number) (In c.incoming.number) c.incoming.tables.deletions)
 
 -- One prefix of an UPDATE from peer k is announced or withdrawn.
 pub record Feeds (k : ℕ) (change : Network × Option Attrs) (m : Moment) (said : List Line) (m' : Moment) : Type 0 where
@@ -106,7 +106,7 @@ pub record IsRouteTurn (proto : Proto) (n : ℕ) (m : Moment) (said : List Line)
   pub prefix : Network
   pub row : Interior
   pub table : FinMap prefix_cmp Interior
-  pub stands : table_of n (branch_of proto m.tree).deletions ≡ Some table
+  pub stands : table_of n (branch_of proto m.tree).tables.deletions ≡ Some table
   pub least : IsLeastRow (tables.get table) prefix (Some row)
   pub falls : FallsRoute m (swept_tree proto n prefix m.tree) proto prefix (way_of_sweep proto n m.tree) said m'
 
@@ -145,7 +145,7 @@ DrainsAll (task ∷ tasks) m said turns m' =
 
 -- the deletion stages of a chain, the earliest session first
 abbrev pub chain_tasks : Chained → List Task
-chain_tasks c = map (λ d. tasks.Del c.incoming.number d.number) c.incoming.deletions
+chain_tasks c = map (λ d. tasks.Del c.incoming.number d.number) c.incoming.tables.deletions
 
 -- all deletion stages, by peer, then session
 abbrev pub deletion_tasks : Moment → List Task
@@ -170,7 +170,7 @@ phase_bound phases.Fin m = 2 * (rows_in m.chains + length m.chains)
 -- no task of a phase has work
 abbrev pub IsOver : Phase → Moment → Type 0
 IsOver phases.Rdel m = TreeIsSettled m.tree
-IsOver phases.Del m = AllByRecursion (λ c. c.incoming.deletions ≡ []) m.chains
+IsOver phases.Del m = AllByRecursion (λ c. c.incoming.tables.deletions ≡ []) m.chains
 IsOver phases.Fin m = AllByRecursion (λ c. c.filter.walk ≡ None) m.chains
 
 -- all tasks of an idle, in their order

@@ -21,7 +21,7 @@ use Rattle.event_text.specs.Declarations.{peer_at}
 use Rattle.loss_chain.specs.Tables.{NoneEmpty}
 use Rattle.in_chain.specs.Chains.{Chained, filt_rows, IsChain, row_count, turns_left}
 use Rattle.in_chain.specs.Falls.{Falls, LeadsChain, way_of_feed}
-use Rattle.in_chain.specs.IncomingSteps.{loss_entries, overdue_of}
+use Rattle.in_chain.specs.Incomings.{loss_entries, overdue_of}
 use Rattle.in_chain.specs.Steps.{fed, welded, lost, has_turn, Turned as TurnedChain}
 use Rattle.router_core.specs.declared.router.Done.{Done}
 use Rattle.router_core.specs.declared.router.Done.TheVariants.{Nothing, Taken}
@@ -56,7 +56,7 @@ pub record StepsChain (c : Chained) (said : List Line) (c' : Chained) : Type 0 w
   pub words : (c'.me ≡ c.me) × (c'.peer ≡ c.peer)
   pub leads : LeadsChain c (entries_of said) c'
   pub chain : IsChain c'
-  pub full : NoneEmpty c'.incoming.deletions
+  pub full : NoneEmpty c'.incoming.tables.deletions
 
 -- one prefix is announced or withdrawn in a chain
 pub record FeedsChain (p : Network) (row : Option Attrs) (c c' : Chained) (said : List Line) : Type 0 where
@@ -108,7 +108,7 @@ IsPlace k cs (Some i) = (i < length cs) × ((x : Chained) → chain_at k cs ≡ 
 
 -- the chain of this number may take a step
 abbrev pub IsSoundAt : ℕ → List Chained → Type 0
-IsSoundAt k cs = (c : Chained) → chain_at k cs ≡ Some c → IsChain c × NoneEmpty c.incoming.deletions
+IsSoundAt k cs = (c : Chained) → chain_at k cs ≡ Some c → IsChain c × NoneEmpty c.incoming.tables.deletions
 
 -- the chain of this number took a step, and nothing else changed
 abbrev pub Steps : (Chained → Chained → List Line → Type 0) → ℕ → List Chained → List Chained → Journaled → Journaled → Type 0
@@ -201,9 +201,9 @@ pub record HaveFed (k : ℕ) (changes : List (Network × Option Attrs)) (m m' : 
 -- a session of this number may be lost in a chain
 pub record MayLose (s : ℕ) (c : Chained) : Type 0 where
   pub chain : IsChain c
-  pub full : NoneEmpty c.incoming.deletions
+  pub full : NoneEmpty c.incoming.tables.deletions
   pub room : overdue_of c.incoming ≡ None
-  pub later : AllByRecursion (λ d. d.number < s) c.incoming.deletions
+  pub later : AllByRecursion (λ d. d.number < s) c.incoming.tables.deletions
 
 abbrev pub MayLoseAt : ℕ → ℕ → List Chained → Type 0
 MayLoseAt k s cs = (c : Chained) → chain_at k cs ≡ Some c → MayLose s c

@@ -133,7 +133,7 @@ impl Network {
         requires stands { Stands self.old }
         requires own { IfSome new (λ row. row.proto ≡ proto) }
         requires since { IsSome self.old.declared.speaker }
-        ensures { OnOk result (Pushes (HasRouted self.old (fed_tree self.old.tree proto p new) proto p (way_of_route proto self.old.tree) (interior_fed (live_state self.old) proto (live_after (branch_of proto self.old.tree).live p new)) self.new) journal.old journal.new) }
+        ensures { OnOk result (Pushes (HasRouted self.old (fed_tree self.old.tree proto p new) proto p (way_of_route proto self.old.tree) (interior_fed (live_state self.old) proto (live_after (branch_of proto self.old.tree).tables.live p new)) self.new) journal.old journal.new) }
     {
         // By cases: the prover asks for a route in sight where one is passed on.
         match new {

@@ -6,7 +6,7 @@ ghost use Rattle.router_core.specs.Stands.{AreInOrder, Stands};
 ghost use Rattle.router_core.specs.Works.{FeedsChain, LosesChain, Pushes, Steps, IsSoundAt, IsUpAt, IsSession, MayLoseAt, HaveFed, HasLost, HasRoom, Ends};
 ghost use Rattle.loss_chain.specs.Tables.{NoneEmpty};
 ghost use Rattle.in_chain.specs.Chains.{Chained, IsChain};
-ghost use Rattle.in_chain.specs.IncomingSteps.{overdue_of};
+ghost use Rattle.in_chain.specs.Incomings.{overdue_of};
 
 use crate::network::Network;
 use crate::turns::place;
@@ -150,7 +150,7 @@ fn feed_chain(
     journal: &mut Journal,
 ) -> Result<(), Memory>
     requires sound { IsChain chain.old }
-    requires full { NoneEmpty chain.old.incoming.deletions }
+    requires full { NoneEmpty chain.old.incoming.tables.deletions }
     ensures { OnOk result (Pushes (FeedsChain prefix row chain.old chain.new) journal.old journal.new) }
 {
     chain.feed(prefix, row, journal)?;

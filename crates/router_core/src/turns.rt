@@ -31,7 +31,7 @@ fn is_nothing(turn: &Turn<Route>) -> bool
 /// One turn of a task, in its chain.
 fn turn_chain(chain: &mut Chain, task: Task, journal: &mut Journal) -> Result<Done, Memory>
     requires sound { IsChain chain.old }
-    requires full { NoneEmpty chain.old.incoming.deletions }
+    requires full { NoneEmpty chain.old.incoming.tables.deletions }
     ensures { IfOk result (TurnsChain task chain.old chain.new journal.old journal.new) }
 {
     let turn = chain.unit(task, journal)?;

@@ -17,9 +17,10 @@ use Rattle.bgp_wire.specs.Paths.{width_of, IsPath}
 use Rattle.bgp_wire.specs.Attributes.{Attribute, IsAttribute, AreAttributes, kept_by, rule_of}
 use Rattle.bgp_wire.specs.Routes.{kept_of, number_of, code_of_origin, aggregator_of, AreAttrs}
 use Rattle.bgp_wire.specs.Spelling.{segment_octets, path_octets, is_long, spelled, optional, aggregator_value, aggregator_flags, comes_first, unrecognized_attributes, mandatory_attributes, further_attributes, sent_attributes, octets_of}
+use Rattle.bgp_wire.specs.Lengths.{attributes_length}
 use Rattle.bgp_wire.specs.Readable.{IsReadable}
 use Rattle.bgp_wire.proofs.TestLemmas.{unequal}
-use Rattle.wire_laws.proofs.SpelledNumbers.{length-numbers}
+use Rattle.bgp_wire.proofs.SpelledLengths.{length-numbers}
 use Rattle.wire_laws.proofs.SpelledAttributes.{AreSound, FitLengths, sound_sent}
 use Rattle.wire_laws.proofs.SpelledMessages.{length-spelled}
 use Rattle.bgp_wire.proofs.ReadableLaws.{Every, every_all, every_append, Octets, held, good, right_size, found_from, some_in, each_type, unrecognized_held}
@@ -246,7 +247,8 @@ lengths_fit p external bytes steps runs attrs are octets is fits =
 
 -- the attributes that are sent are no longer than those that were read
 pub attributes_no_longer : (p : Profile) (external : Bool) (bytes : List ℕ) (steps : List (Attribute × Verdict)) (runs : Bool) (attrs : Attrs) → AreAttributes p external [] bytes steps runs → Octets bytes → AreAttrs p.as4 external (kept_by steps runs).0 attrs
-    → IsReadable p external attrs → length bytes < 65536 → length (octets_of (sent_attributes p.as4 attrs)) ≤ length bytes
+    → IsReadable p external attrs → length bytes < 65536 → attributes_length p.as4 attrs ≤ length bytes
+unfolding attributes_length
 attributes_no_longer p external bytes steps runs attrs are octets is readable fits =
     let kept = (kept_by steps runs).0 in
     let sent = sent_attributes p.as4 attrs in

@@ -1,7 +1,7 @@
 mod SpelledNumbers
 mod SpelledAttributes
 mod SpelledRoutes
-mod SpelledMessages
+pub mod SpelledMessages
 mod LengthLaws
-mod SaidAgain
-mod Prepended
+pub mod SaidAgain
+pub mod Prepended

@@ -12,23 +12,18 @@ use Rattle.bgp_wire.specs.Prefixes.{octets_for, ArePrefixes}
 use Rattle.bgp_wire.specs.Routes.{AreAttrs}
 use Rattle.bgp_wire.specs.Updates.{Reading}
 use Rattle.bgp_wire.specs.Grammar.{IsReading, AreAttrsFor, IsUpdateBy, Reads}
-use Rattle.bgp_wire.specs.Spelling.{sent_attributes, octets_of, prefixes_octets, prefix_octets, fields_octets, framed, update_octets}
+use Rattle.bgp_wire.specs.Spelling.{update_octets}
 use Rattle.bgp_wire.specs.Readable.{IsNetwork, IsReadable, IsReadableUpdate, AreOctets, HasOnePrefix, announcement}
-use Rattle.wire_laws.proofs.SpelledMessages.{length-framed, length-fields, withdrawal_is_read, announcement_is_read}
+use Rattle.bgp_wire.specs.Lengths.{attributes_length, announcement_length}
+use Rattle.bgp_wire.proofs.SpelledLengths.{length-announcement}
+use Rattle.wire_laws.proofs.SpelledMessages.{withdrawal_is_read, announcement_is_read}
 use Rattle.bgp_wire.proofs.ReadableLaws.{all_every, Octets}
 use Rattle.wire_laws.proofs.LengthLaws.{attributes_no_longer}
 use Rattle.bgp_wire.proofs.ReadableMessages.{field_octets, read_is_readable}
 
 -- an announcement's octets, by the attributes'
-announced_length : (n : Network) (octets : List ℕ) → n.length ≤ 32 → length (framed 2 (fields_octets [] octets (prefixes_octets (n ∷ [])))) ≡ 24 + length octets + octets_for n.length
-announced_length n octets short =
-    omega (
-      arith,
-      length-framed 2 (fields_octets [] octets (prefixes_octets (n ∷ []))),
-      length-fields [] octets (prefixes_octets (n ∷ [])),
-      length-append (prefix_octets n) [],
-      length-take (octets_for n.length) (big_bytes 4 n.address),
-    )
+pub announced_length : (as4 : Bool) (n : Network) (a : Attrs) → n.length ≤ 32 → announcement_length as4 n a ≡ 24 + attributes_length as4 a + octets_for n.length
+announced_length as4 n a short = omega (arith, length-announcement as4 n a, length-take (octets_for n.length) (big_bytes 4 n.address))
 
 one_announced : (bytes : List ℕ) (n : Network) → ArePrefixes bytes (n ∷ []) → (length bytes ≡ 1 + octets_for n.length) × (n.length ≤ 32)
 one_announced bytes n are = (omega (arith, ap length are.2, length-append are.0 are.1, ap length are.3.spelled, are.3.fewest, ap length are.4), are.3.short)
@@ -40,7 +35,7 @@ announced_again p external bytes r is octets n a network readable prefix are =
     let one = one_announced is.announced n prefix in
     let shorter = attributes_no_longer p external is.attributes is.steps is.runs a is.are f.attributes (subst (λ kept. AreAttrs p.as4 external kept a) is.kept are) readable (omega (arith, f.whole, is.frame.top)) in
     announcement_is_read p external n a network readable
-    (omega (arith, announced_length n (octets_of (sent_attributes p.as4 a)) one.1, shorter, one.0, f.whole, is.frame.top))
+    (omega (arith, announced_length p.as4 n a one.1, shorter, one.0, f.whole, is.frame.top))
 
 -- by the lists of prefixes
 withdrawn_again : (p : Profile) (external : Bool) (ws ns : List Network) (attrs : Option Attrs) → ns ≡ [] → attrs ≡ None → All IsNetwork ws → length ws + length ns ≡ 1
@@ -73,3 +68,15 @@ again_by p external bytes r is octets false u by readable one =
 pub said_again : (p : Profile) (external : Bool) (bytes : List ℕ) (u : Update) → AreOctets bytes → Reads p external bytes (messages.Update u) → HasOnePrefix u → Reads p external (update_octets p.as4 u) (messages.Update u)
 said_again p external bytes u octets reads one =
     again_by p external bytes reads.0 reads.1 (all_every (λ b. b < 256) bytes octets) reads.0.withdraw u reads.2 (read_is_readable p external bytes u octets reads) one
+
+-- from an internal peer as much is read as from an external one
+pub internal_reads : (p : Profile) (external : Bool) (a : Attrs) → IsReadable p external a → IsReadable p false a
+internal_reads p external a readable = record {
+  path = readable.path;
+  next_hop = readable.next_hop;
+  med = readable.med;
+  local_pref = λ n e. (refl, (readable.local_pref n e).1);
+  aggregator = readable.aggregator;
+  order = readable.order;
+  types = readable.types;
+}

@@ -1,8 +1,7 @@
 -- What is written of an UPDATE is read as it was.
-use Rattle.std.proofs.Common.{◌≡◌, ℕ, zero, suc, ◌+◌, ◌*◌, ◌/◌, ◌%◌, ◌≤◌, ◌<◌, Bool, true, false, cond, eqb, ◌||◌, map, List, [], ◌∷◌, ◌++◌, length, Ok, refl, sym, ap, subst, ◌∙◌, append_assoc, arith}
+use Rattle.std.proofs.Common.{◌≡◌, ℕ, zero, suc, ◌+◌, ◌*◌, ◌/◌, ◌%◌, ◌≤◌, ◌<◌, Bool, true, false, cond, eqb, ◌||◌, map, List, [], ◌∷◌, ◌++◌, length, Ok, refl, sym, ap, subst, ◌∙◌, arith}
 use Rattle.std.specs.Prelude.{All, filter}
 use Rattle.std.proofs.lemmas.List.{length-append}
-use Rattle.std.proofs.lemmas.Grind.{flat_map-append}
 use mathlib.Core.Bool.{beq}
 use Rattle.byteorder.specs.Endian.{big_bytes}
 use Rattle.addr4.specs.Prefixes.{Network}
@@ -16,7 +15,9 @@ use Rattle.bgp_wire.specs.Routes.{code_of_origin}
 use Rattle.bgp_wire.specs.Updates.{has_kind, missing, lack}
 use Rattle.bgp_wire.specs.Grammar.{IsFrame, IsReading, Reads}
 use Rattle.bgp_wire.specs.Spelling.{path_octets, spelled, is_long, spelled_octets, comes_first, unrecognized_attributes, mandatory_attributes, further_attributes, sent_attributes, octets_of, prefixes_octets, fields_octets, framed, update_octets}
+use Rattle.bgp_wire.specs.Lengths.{announcement_length}
 use Rattle.bgp_wire.specs.Readable.{IsNetwork, IsReadable, withdrawal, announcement}
+use Rattle.bgp_wire.proofs.SpelledLengths.{length-framed, fields_parts, length-fields, length-octets-append}
 use Rattle.bgp_wire.proofs.SpellingLemmas.{alone}
 use Rattle.wire_laws.proofs.SpelledNumbers.{spelled_prefixes}
 use Rattle.wire_laws.proofs.SpelledAttributes.{FitLengths, all_kept, sound_sent, sound_are, all_are_kept}
@@ -25,19 +26,10 @@ use Rattle.wire_laws.proofs.SpelledRoutes.{attrs_are, has_mandatory}
 two_back : (n : ℕ) → n < 65536 → n / 256 % 256 * 256 + n % 256 ≡ n
 two_back n lt = omega arith
 
-pub length-framed : (kind : ℕ) (body : List ℕ) → length (framed kind body) ≡ 19 + length body
-length-framed kind body = omega arith
-
 framed_is : (kind : ℕ) (body : List ℕ) → length (framed kind body) ≤ 4096 → IsFrame (framed kind body) kind body
 framed_is kind body top =
     let n = 19 + length body in
     record { high = n / 256 % 256; low = n % 256; parts = refl; size = two_back n (omega (arith, length-framed kind body)) ∙ sym (length-framed kind body); top = top }
-
-fields_parts : (w a n : List ℕ) → fields_octets w a n ≡ (length w / 256 % 256) ∷ (length w % 256) ∷ (w ++ ((length a / 256 % 256) ∷ (length a % 256) ∷ (a ++ n)))
-fields_parts w a n = simp append_assoc
-
-pub length-fields : (w a n : List ℕ) → length (fields_octets w a n) ≡ 4 + length w + length a + length n
-length-fields w a n = omega (arith, ap length (fields_parts w a n), length-append w ((length a / 256 % 256) ∷ (length a % 256) ∷ (a ++ n)), length-append a n)
 
 fields_frame : (w a n : List ℕ) → length (framed 2 (fields_octets w a n)) ≤ 4096
     → IsFrame (framed 2 (fields_octets w a n)) 2 ((length w / 256 % 256) ∷ (length w % 256) ∷ (w ++ ((length a / 256 % 256) ∷ (length a % 256) ∷ (a ++ n))))
@@ -76,12 +68,6 @@ withdrawal_is_read p external n is =
     (record { withdrawn = n ∷ []; announced = []; kept = []; withdraw = false }, reading, record { withdrawn = refl; announced = refl; attrs = refl })
 
 -- ---- the lengths of values, by the length of all
-
-octets-append : (xs ys : List Attribute) → octets_of (xs ++ ys) ≡ octets_of xs ++ octets_of ys
-octets-append xs ys = flat_map-append (λ (a : Attribute). a.octets) xs ys
-
-pub length-octets-append : (xs ys : List Attribute) → length (octets_of (xs ++ ys)) ≡ length (octets_of xs) + length (octets_of ys)
-length-octets-append xs ys = ap length (octets-append xs ys) ∙ length-append (octets_of xs) (octets_of ys)
 
 pub length-spelled : (long : Bool) (flags kind : ℕ) (value : List ℕ) → length (spelled_octets long flags kind value) ≡ cond long 4 3 + length value
 length-spelled true flags kind value = omega (arith, length-append (big_bytes 2 (length value)) value)
@@ -135,8 +121,9 @@ fit_lengths as4 a fits =
 nothing_lacks : (p : Profile) (kept : List Attribute) → has_kind 1 kept ≡ true → has_kind 2 kept ≡ true → has_kind 3 kept ≡ true → lack p (missing kept) ≡ Ok false
 nothing_lacks p kept a b c = rw (a, b, c) refl
 
-pub announcement_is_read : (p : Profile) (external : Bool) (n : Network) (a : Attrs) → IsNetwork n → IsReadable p external a → length (update_octets p.as4 (announcement n a)) ≤ 4096
+pub announcement_is_read : (p : Profile) (external : Bool) (n : Network) (a : Attrs) → IsNetwork n → IsReadable p external a → announcement_length p.as4 n a ≤ 4096
     → Reads p external (update_octets p.as4 (announcement n a)) (messages.Update (announcement n a))
+unfolding announcement_length
 announcement_is_read p external n a is readable top =
     let sent = sent_attributes p.as4 a in
     let octets = octets_of sent in

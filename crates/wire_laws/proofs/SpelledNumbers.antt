@@ -2,7 +2,7 @@
 use Rattle.std.proofs.Common.{◌≡◌, ℕ, zero, suc, ◌-◌, ◌*◌, ◌/◌, ◌%◌, ◌^◌, ◌≤◌, ◌<◌, Bool, List, [], ◌∷◌, ◌++◌, length, take, drop, refl, sym, ap, subst, ◌∙◌, arith}
 use Rattle.std.specs.Prelude.{All}
 use Rattle.std.specs.List.{flat_map}
-use Rattle.std.proofs.lemmas.List.{length-take, length-append, drop_at}
+use Rattle.std.proofs.lemmas.List.{length-take, drop_at}
 use Rattle.byteorder.specs.Endian.{big_number, big_bytes}
 use Rattle.byteorder.specs.Numbers.{big_number-reads_back, length-bytes_high_first}
 use Rattle.addr4.specs.Blocks.{size_of_length, masked_to}
@@ -12,6 +12,7 @@ use Rattle.bgp_attr.specs.declared.path.Segment.{Segment}
 use Rattle.bgp_wire.specs.Prefixes.{octets_for, IsPrefix, ArePrefixes}
 use Rattle.bgp_wire.specs.Paths.{width_of, numbers_at, IsSegment, IsPath}
 use Rattle.bgp_wire.specs.Spelling.{prefix_octets, prefixes_octets, segment_octets, path_octets}
+use Rattle.bgp_wire.proofs.SpelledLengths.{length-numbers}
 use Rattle.bgp_wire.specs.Readable.{IsNetwork, IsReadableSegment}
 
 pub all_first : {A : Type 0} (P : A → Type 0) (x : A) (xs : List A) → All P (x ∷ xs) → P x
@@ -71,10 +72,6 @@ pub spelled_prefixes : (p : Network) → IsNetwork p → ArePrefixes (prefixes_o
 spelled_prefixes p is = (prefix_octets p, [], refl, spelled_prefix p is, refl)
 
 -- ---- paths
-
-pub length-numbers : (width : ℕ) (ns : List ℕ) → length (flat_map (big_bytes width) ns) ≡ length ns * width
-length-numbers width [] = omega arith
-length-numbers width (n ∷ ns) = omega (arith, length-append (big_bytes width n) (flat_map (big_bytes width) ns), length-bytes_high_first width n, length-numbers width ns)
 
 numbers_again : (width : ℕ) (ns : List ℕ) → All (λ n. n < 256 ^ width) ns → ns ≡ numbers_at width (length ns) (flat_map (big_bytes width) ns)
 numbers_again width [] fit = refl

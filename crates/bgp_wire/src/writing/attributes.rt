@@ -6,11 +6,14 @@ ghost use Rattle.byteorder.specs.Endian.{big_bytes};
 ghost use Rattle.bgp_wire.specs.Paths.{width_of};
 ghost use Rattle.bgp_wire.specs.Routes.{code_of_origin};
 ghost use Rattle.bgp_wire.specs.Spelling.{FitsWidth, FitsSegment, FitsAttrs, segment_octets, path_octets, spelled, optional, aggregator_value, aggregator_flags, unrecognized_attributes, mandatory_attributes, further_attributes, sent_attributes, octets_of};
+ghost use Rattle.bgp_wire.specs.Lengths.{head_octets};
 
 use crate::attributes::{
     AGGREGATOR, AS_PATH, ATOMIC_AGGREGATE, LOCAL_PREF, MULTI_EXIT_DISC, NEXT_HOP, ORIGIN,
 };
+use crate::numbers::width;
 use crate::path::{AS_SEQUENCE, AS_SET};
+use crate::writing::lengths::path_length;
 use crate::writing::numbers::{push_asn, push_u16, push_u32};
 use addr4::Memory;
 use bgp_attr::{Aggregator, AsPath, Attrs, Origin, Segment, SegmentKind, Unrecognized};
@@ -60,18 +63,27 @@ fn push_further(out: &mut Vec<u8>, as4: bool, attrs: &Attrs) -> Result<(), Memor
     Ok(())
 }
 
-/// One attribute. Its length field has two octets exactly where the value has more than 255.
+/// What stands before the value of an attribute, which has so many octets. The length field has two octets exactly where
+/// these are more than 255.
+fn push_head(out: &mut Vec<u8>, flags: u8, kind: u8, size: u128) -> Result<(), Memory>
+    requires { flags < 240 }
+    ensures { OnOk result (out.new.items ≡ out.old.items ++ head_octets flags kind size) }
+{
+    if size > 255 {
+        out.extend_from_slice(&[flags + EXTENDED_LENGTH, kind])?;
+        // An attribute of 65,536 octets and more is in no message: its UPDATE is too long.
+        push_u16(out, (size % 65536) as u16)
+    } else {
+        out.extend_from_slice(&[flags, kind, size as u8])?;
+        Ok(())
+    }
+}
+
 fn push_attribute(out: &mut Vec<u8>, flags: u8, kind: u8, value: &[u8]) -> Result<(), Memory>
     requires { flags < 240 }
     ensures { OnOk result (out.new.items ≡ out.old.items ++ (spelled flags kind value.now).octets) }
 {
-    if value.len() > 255 {
-        out.extend_from_slice(&[flags + EXTENDED_LENGTH, kind])?;
-        // An attribute of 65,536 octets and more is in no message: its UPDATE is too long.
-        push_u16(out, (value.len() % 65536) as u16)?;
-    } else {
-        out.extend_from_slice(&[flags, kind, value.len() as u8])?;
-    }
+    push_head(out, flags, kind, value.len() as u128)?;
     out.extend_from_slice(value)?;
     Ok(())
 }
@@ -91,11 +103,11 @@ fn push_path(out: &mut Vec<u8>, as4: bool, path: &AsPath) -> Result<(), Memory>
     requires { All (FitsSegment as4) path.now }
     ensures { OnOk result (out.new.items ≡ out.old.items ++ (spelled 64 2 (path_octets (width_of as4) path.now)).octets) }
 {
-    let mut value = Vec::new(*out.allocator());
+    push_head(out, WELL_KNOWN, AS_PATH, path_length(as4, path))?;
     for segment in path.as_slice() {
-        push_segment(&mut value, as4, segment)?;
+        push_segment(out, as4, segment)?;
     }
-    push_attribute(out, WELL_KNOWN, AS_PATH, value.as_slice())
+    Ok(())
 }
 
 fn push_segment(out: &mut Vec<u8>, as4: bool, segment: &Segment) -> Result<(), Memory>
@@ -123,9 +135,8 @@ fn push_number(out: &mut Vec<u8>, flags: u8, kind: u8, number: Option<u32>) -> R
     let Some(number) = number else {
         return Ok(());
     };
-    let mut value = Vec::new(*out.allocator());
-    push_u32(&mut value, number)?;
-    push_attribute(out, flags, kind, value.as_slice())
+    push_head(out, flags, kind, 4)?;
+    push_u32(out, number)
 }
 
 fn push_atomic(out: &mut Vec<u8>, atomic: bool) -> Result<(), Memory>
@@ -154,10 +165,9 @@ fn push_aggregator(
     } else {
         OPTIONAL_TRANSITIVE
     };
-    let mut value = Vec::new(*out.allocator());
-    push_asn(&mut value, as4, aggregator.asn)?;
-    push_u32(&mut value, aggregator.addr.number())?;
-    push_attribute(out, flags, AGGREGATOR, value.as_slice())
+    push_head(out, flags, AGGREGATOR, 4 + width(as4) as u128)?;
+    push_asn(out, as4, aggregator.asn)?;
+    push_u32(out, aggregator.addr.number())
 }
 
 /// Those unrecognized attributes whose type stands before ORIGIN, or the others. They have passed a speaker that doesn't

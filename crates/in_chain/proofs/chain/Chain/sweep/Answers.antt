@@ -1,4 +1,3 @@
-use Rattle.in_chain.specs.Incomings.{incoming_of}
 use Rattle.in_chain.specs.Chains.{Chained}
 use Rattle.in_chain.proofs.FilterLemmas.{sweeps_nothing, sweeps_on_below, sweeps_quietly_below}
 use Rattle.in_chain.proofs.chain.Chain.sweep.Goals as goal
@@ -6,7 +5,7 @@ use Rattle.in_chain.proofs.chain.Chain.sweep.Goals.{in-Nothing, in-Quiet, in-Sen
 
 pub returns-clause-taken : goal.returns-clause-taken
 returns-clause-taken c =
-    let old : Chained = record { incoming = incoming_of c.self.inside.number c.self.inside.stages; me = c.self.inside.me; peer = c.self.inside.peer; filter = c.self.inside.filter } in
+    let old : Chained = record { incoming = record { number = c.self.inside.number; tables = c.self.inside.stages }; me = c.self.inside.me; peer = c.self.inside.peer; filter = c.self.inside.filter } in
     let i = c.unit.new.self in
     rw (← c.self.view_is)
     (elim c.match-branch-2.branch [

@@ -13,7 +13,7 @@ returns-then-number-self-2-clause-one_empty c = none_is_one _ c.requires.full
 
 pub returns-else-number-self-2-clause-one_empty : goal.returns-else-number-self-2-clause-one_empty
 returns-else-number-self-2-clause-one_empty c =
-    on_ok_weaker c.walk.result (λ same. subst (λ (i : Incoming). OneEmptyAtMost i.deletions) (sym same) (none_is_one _ c.requires.full)) c.walk.ensures.incoming
+    on_ok_weaker c.walk.result (λ same. subst (λ (i : Incoming). OneEmptyAtMost i.tables.deletions) (sym same) (none_is_one _ c.requires.full)) c.walk.ensures.incoming
 
 pub returns-in-Rdel-clause-one_empty : goal.returns-in-Rdel-clause-one_empty
 returns-in-Rdel-clause-one_empty c = none_is_one _ c.requires.full

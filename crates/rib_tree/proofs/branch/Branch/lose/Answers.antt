@@ -1,6 +1,5 @@
-use Rattle.std.proofs.Common.{◌≡◌, ◌+◌, cond, ap, ◌∙◌}
+use Rattle.std.proofs.Common.{◌+◌, cond, ap, ◌∙◌}
 use Rattle.rib_tree.specs.Branches.{Branch}
-use Rattle.rib_tree.specs.BranchSteps.{lost_branch}
 use Rattle.rib_tree.proofs.OwnLemmas.{branch_lost}
 use Rattle.rib_tree.proofs.branch.Branch.lose.Goals as goal
 
@@ -10,9 +9,5 @@ returns-clause-leads c = rw (← c.self.view_is) c.in_ok-lose.ensures.leads
 pub returns-clause-chain : goal.returns-clause-chain
 returns-clause-chain c =
     let is = rw (← c.self.view_is) at c.requires.chain in
-    let old : Branch = record { proto = c.self.inside.proto; losses = c.self.inside.losses; live = c.self.inside.stages.live; deletions = c.self.inside.stages.deletions } in
-    let new : Branch = record { proto = c.self.inside.proto; losses = c.counted-losses.result; live = c.lose.new.self.live; deletions = c.lose.new.self.deletions } in
-    let tables = c.in_ok-lose.ensures.after in
-    let losses : c.counted-losses.result ≡ (lost_branch old).losses = c.counted-losses.ensures ∙ ap (λ b. cond b old.losses (old.losses + 1)) c.has_no_live.ensures in
-    let after : new ≡ lost_branch old = λ i. record { proto = old.proto; losses = losses i; live = (tables i).live; deletions = (tables i).deletions } in
-    branch_lost old new is after c.in_ok-lose.ensures.chain
+    let old : Branch = record { proto = c.self.inside.proto; losses = c.self.inside.losses; tables = c.self.inside.stages } in
+    branch_lost old is c.lose.new.self c.in_ok-lose.ensures.chain c.counted-losses.result (c.counted-losses.ensures ∙ ap (λ b. cond b old.losses (old.losses + 1)) c.has_no_live.ensures) c.in_ok-lose.ensures.after

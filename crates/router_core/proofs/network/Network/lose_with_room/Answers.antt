@@ -1,7 +1,7 @@
 use Rattle.std.proofs.Common.{◌≡◌, Some, None, subst, sym}
 use Rattle.event_text.specs.Declarations.{Declaration}
 use Rattle.in_chain.specs.Chains.{Chained}
-use Rattle.in_chain.specs.IncomingSteps.{overdue_of}
+use Rattle.in_chain.specs.Incomings.{overdue_of}
 use Rattle.router_core.specs.Moments.{Moment, chain_at}
 use Rattle.router_core.specs.Stands.{Stands}
 use Rattle.router_core.specs.Works.{Pushes, Ends, IsSession}

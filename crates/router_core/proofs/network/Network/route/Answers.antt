@@ -16,7 +16,7 @@ returns-in_ok-settle-in-None c =
     let old : Moment = record { declared = c.self.inside.declared; tree = c.self.inside.tree; registry = c.self.inside.registry; chains = c.self.inside.chains.items } in
     let k = c.args.proto in
     let p = c.args.p in
-    subst (λ (m : Moment). Pushes (HasRouted m (fed_tree m.tree k p c.args.new) k p (way_of_route k m.tree) (interior_fed (live_state m) k (live_after (branch_of k m.tree).live p c.args.new)) c.settle.new.self) c.args.journal.now c.settle.new.journal)
+    subst (λ (m : Moment). Pushes (HasRouted m (fed_tree m.tree k p c.args.new) k p (way_of_route k m.tree) (interior_fed (live_state m) k (live_after (branch_of k m.tree).tables.live p c.args.new)) c.settle.new.self) c.args.journal.now c.settle.new.journal)
     c.self.view_is
     (routed_since old k p c.args.new c.in_ok-sent-in-None.sent c.feed.new.self c.settle.new.self c.args.journal.now c.feed.new.journal c.settle.new.journal (subst Stands (sym c.self.view_is) c.requires.stands)
     (subst (λ (m : Moment). IsSome m.declared.speaker) (sym c.self.view_is) c.requires.since) (subst (λ (row : Option Interior). c.feed.new.self ≡ fed_tree c.self.inside.tree k p row) (sym c.in-None.is) c.in_ok-sent-in-None.ensures.after)
@@ -27,7 +27,7 @@ returns-in_ok-settle-in-Some c =
     let old : Moment = record { declared = c.self-in-Some.inside.declared; tree = c.self-in-Some.inside.tree; registry = c.self-in-Some.inside.registry; chains = c.self-in-Some.inside.chains.items } in
     let k = c.args.proto in
     let p = c.args.p in
-    subst (λ (m : Moment). Pushes (HasRouted m (fed_tree m.tree k p c.args.new) k p (way_of_route k m.tree) (interior_fed (live_state m) k (live_after (branch_of k m.tree).live p c.args.new)) c.settle-in-Some.new.self) c.args.journal.now c.settle-in-Some.new.journal)
+    subst (λ (m : Moment). Pushes (HasRouted m (fed_tree m.tree k p c.args.new) k p (way_of_route k m.tree) (interior_fed (live_state m) k (live_after (branch_of k m.tree).tables.live p c.args.new)) c.settle-in-Some.new.self) c.args.journal.now c.settle-in-Some.new.journal)
     c.self-in-Some.view_is
     (routed_since old k p c.args.new c.in_ok-sent-in-Some.sent c.feed-in-Some.new.self c.settle-in-Some.new.self c.args.journal.now c.feed-in-Some.new.journal c.settle-in-Some.new.journal (subst Stands (sym c.self-in-Some.view_is) c.requires.stands)
     (subst (λ (m : Moment). IsSome m.declared.speaker) (sym c.self-in-Some.view_is) c.requires.since) (subst (λ (row : Option Interior). c.feed-in-Some.new.self ≡ fed_tree c.self-in-Some.inside.tree k p row) (sym c.in-Some.is) c.in_ok-sent-in-Some.ensures.after)

@@ -7,8 +7,8 @@ use Rattle.router_core.proofs.network.Network.route_del.Goals as goal
 
 pub returns-then-not-has : goal.returns-then-not-has
 returns-then-not-has c =
-    let is : c.has.result ≡ is_some (tables.get (branch_of c.args.proto c.args.self.now.tree).live c.args.p) =
-    c.has.ensures ∙ ap (λ (m : Moment). is_some (tables.get (branch_of c.args.proto m.tree).live c.args.p)) c.self.view_is in
+    let is : c.has.result ≡ is_some (tables.get (branch_of c.args.proto c.args.self.now.tree).tables.live c.args.p) =
+    c.has.ensures ∙ ap (λ (m : Moment). is_some (tables.get (branch_of c.args.proto m.tree).tables.live c.args.p)) c.self.view_is in
     let none : c.has.result ≡ false = cc in
     nothing_dropped c.args.proto c.args.p c.args.self.now c.args.journal.now c.push_line.new.self c.flush.new.self c.requires.stands (sym is ∙ none) c.in_ok-push_line.ensures c.in_ok-flush.ensures.ok
 
@@ -17,7 +17,7 @@ route-requires-clause-since c = del_since c.args.self.now.declared c.args.proto 
 
 pub returns : goal.returns
 returns c =
-    let is : c.has.result ≡ is_some (tables.get (branch_of c.args.proto c.args.self.now.tree).live c.args.p) =
-    c.has.ensures ∙ ap (λ (m : Moment). is_some (tables.get (branch_of c.args.proto m.tree).live c.args.p)) c.self.view_is in
+    let is : c.has.result ≡ is_some (tables.get (branch_of c.args.proto c.args.self.now.tree).tables.live c.args.p) =
+    c.has.ensures ∙ ap (λ (m : Moment). is_some (tables.get (branch_of c.args.proto m.tree).tables.live c.args.p)) c.self.view_is in
     let some : c.has.result ≡ true = cc in
     route_dropped c.args.proto c.args.p c.args.self.now c.route.new.self c.args.journal.now c.route.new.journal c.flush-2.new.self (sym is ∙ some) c.in_ok-route.ensures c.in_ok-flush-2.ensures.ok

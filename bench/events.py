@@ -1,0 +1,112 @@
+#!/usr/bin/env python3
+"""Writes an event file: events.py KIND [--routes 200000] > FILE
+
+Kinds:
+  table     peer 1 announces so many different prefixes, about five an UPDATE; then `idle`
+  edit      the same, then a rule for peer 1's incoming filter that changes every route, and `idle`
+  loss      the same as table, then the session is lost, and `idle` deletes every route
+  interior  `route add` of so many different prefixes, half of them static and half of ospf; then `idle`
+  lost      the same, then ospf is lost, and `idle` deletes its routes
+
+Prefixes have lengths as in a real table (some 60 % of /24, few shorter than /16). AS paths have 2 to 6 numbers and begin with
+the peer's AS; one route in ten has a MED, one in fifty an AGGREGATOR, one in three an unrecognized attribute. Each prefix is
+announced once, by the same messages in every run.
+"""
+import argparse
+import random
+import sys
+
+MARKER = b'\xff' * 16
+LENGTHS = [24] * 60 + [23] * 9 + [22] * 11 + [21] * 5 + [20] * 4 + [19] * 3 + [18] * 2 + [17] + [16] * 4 + [15, 14, 13]
+LOCAL = 'local 65000 192.0.2.254 192.0.2.254'
+PEERS = ['peer 1 65001 192.0.2.1 192.0.2.1', 'peer 2 65002 192.0.2.2 192.0.2.2', 'up 1', 'up 2']
+KINDS = ('table', 'edit', 'loss', 'interior', 'lost')
+
+
+def prefixes(count, rand):
+    """So many different prefixes: first address and length."""
+    seen = set()
+    while len(seen) < count:
+        length = rand.choice(LENGTHS)
+        first = rand.randrange(1, 223)
+        if first in (10, 127, 192):
+            continue
+        bits = (first << 24 | rand.getrandbits(24)) >> (32 - length) << (32 - length)
+        if (bits, length) not in seen:
+            seen.add((bits, length))
+            yield bits, length
+
+
+def attributes(rand, transit):
+    path = [65001] + [rand.choice(transit) for _ in range(rand.randrange(5))] + [rand.randrange(1, 64000)]
+    out = bytes([0x40, 1, 1, 0 if rand.random() < .9 else 2])
+    out += bytes([0x40, 2, 2 + 2 * len(path), 2, len(path)]) + b''.join(asn.to_bytes(2, 'big') for asn in path)
+    out += bytes([0x40, 3, 4, 192, 0, 2, 1])
+    if rand.random() < .1:
+        out += bytes([0x80, 4, 4]) + rand.randrange(200).to_bytes(4, 'big')
+    if rand.random() < .02:
+        out += bytes([0xc0, 7, 6]) + path[-1].to_bytes(2, 'big') + bytes([10, 0, 0, rand.randrange(1, 255)])
+    if rand.random() < .33:
+        length = 4 * rand.randrange(1, 6)
+        out += bytes([0xc0, 99, length]) + bytes(rand.randrange(256) for _ in range(length))
+    return out
+
+
+def updates(count):
+    """UPDATE messages that announce so many prefixes in all."""
+    rand = random.Random(1)
+    transit = [rand.randrange(1, 64000) for _ in range(40)]
+    left, coming = count, prefixes(count, rand)
+    while left:
+        here = 1
+        while here < min(left, 60) and rand.random() < .8:
+            here += 1
+        left -= here
+        said = attributes(rand, transit)
+        announced = b''
+        for _ in range(here):
+            bits, length = next(coming)
+            announced += bytes([length]) + bits.to_bytes(4, 'big')[:(length + 7) // 8]
+        body = b'\0\0' + len(said).to_bytes(2, 'big') + said + announced
+        yield MARKER + (19 + len(body)).to_bytes(2, 'big') + b'\2' + body
+
+
+def routes(count):
+    """`route add` events of so many prefixes."""
+    rand = random.Random(1)
+    for place, (bits, length) in enumerate(prefixes(count, rand)):
+        yield 'route add %s %s/%d via 192.0.2.%d eth%d %d' % (
+            'static' if place % 2 else 'ospf', '.'.join(str(octet) for octet in bits.to_bytes(4, 'big')), length,
+            rand.randrange(1, 17), rand.randrange(4), rand.randrange(1000))
+
+
+def events(kind, count):
+    """The lines of an event file."""
+    yield LOCAL
+    if kind in ('interior', 'lost'):
+        yield from routes(count)
+    else:
+        yield from PEERS
+        yield from ('bgp 1 ' + message.hex() for message in updates(count))
+    yield 'idle'
+    yield from {'edit': ['filter in 1 any pref 200 accept', 'idle'], 'loss': ['down 1', 'idle'],
+                'lost': ['lost ospf', 'idle']}.get(kind, [])
+
+
+def write(kind, count, file):
+    """Writes the event file."""
+    for line in events(kind, count):
+        file.write(line.encode() + b'\n')
+    file.flush()
+
+
+def main():
+    words = argparse.ArgumentParser(description=__doc__, formatter_class=argparse.RawDescriptionHelpFormatter)
+    words.add_argument('kind', choices=KINDS)
+    words.add_argument('--routes', type=int, default=200000)
+    asked = words.parse_args()
+    write(asked.kind, asked.routes, sys.stdout.buffer)
+
+
+if __name__ == '__main__':
+    main()

@@ -1,0 +1,5 @@
+pub mod Keys
+pub mod Steps
+pub mod Marks
+pub mod Laws
+pub mod Leaders

@@ -1,0 +1,87 @@
+//! What the decision compares of a route.
+
+ghost use Rattle.std.specs.Prelude.{◌≡◌};
+ghost use Rattle.best_path.specs.Keys.{neighbour_as, origin_rank, candidate_of};
+
+use addr4::Addr;
+use bgp_attr::{Origin, Route};
+
+/// What the decision compares of a route; made of one by [`Candidate::of`]. That a route is local decides alone: of a local
+/// one the rest counts nowhere.
+#[derive(Clone, Copy, Debug, PartialEq, Eq)]
+pub struct Candidate {
+    /// Whether this speaker made the route: it came from no peer.
+    pub(crate) local: bool,
+    /// The degree of preference (RFC 4271, section 9.1.1).
+    pub(crate) pref: u32,
+    /// How many AS numbers the path has, an AS_SET counting 1 (section 9.1.2.2 a).
+    pub(crate) hops: u128,
+    pub(crate) origin: Origin,
+    /// The AS within which MULTI_EXIT_DISC is compared (section 9.1.2.2 c).
+    pub(crate) neighbour_as: u32,
+    /// MULTI_EXIT_DISC, 0 where there is none.
+    pub(crate) med: u32,
+    /// Whether an internal peer sent the route.
+    pub(crate) internal: bool,
+    /// The interior metric of the next hop, 0 where it isn't known.
+    pub(crate) igp: u32,
+    /// The peer's BGP identifier.
+    pub(crate) id: Addr,
+    /// The peer's address.
+    pub(crate) addr: Addr,
+}
+
+impl Candidate {
+    /// The candidate that a route is.
+    pub fn of(route: &Route) -> Candidate
+        ensures { result ≡ candidate_of route.now }
+    {
+        let attrs = route.attrs.attrs();
+        let mut candidate = Candidate {
+            local: true,
+            pref: route.pref,
+            hops: attrs.path.hops(),
+            origin: attrs.origin,
+            neighbour_as: neighbour_as(route),
+            med: route.med.unwrap_or(0),
+            internal: false,
+            igp: route.igp.unwrap_or(0),
+            id: Addr::new(0),
+            addr: Addr::new(0),
+        };
+        if let Some(peer) = route.from {
+            candidate.local = false;
+            candidate.internal = peer.internal;
+            candidate.id = peer.id;
+            candidate.addr = peer.addr;
+        }
+        candidate
+    }
+
+    /// The place of ORIGIN in its order (RFC 4271, section 9.1.2.2 b).
+    pub(crate) fn origin_rank(&self) -> u8
+        ensures { result ≡ origin_rank self.now.origin }
+    {
+        match self.origin {
+            Origin::Igp => 0,
+            Origin::Egp => 1,
+            Origin::Incomplete => 2,
+        }
+    }
+}
+
+// The neighbour AS of a route; 0 of a local one.
+fn neighbour_as(route: &Route) -> u32
+    ensures { result ≡ neighbour_as route.now }
+{
+    match route.from {
+        None => 0,
+        Some(peer) => {
+            if peer.internal {
+                route.attrs.attrs().path.first().unwrap_or(peer.asn)
+            } else {
+                peer.asn
+            }
+        }
+    }
+}

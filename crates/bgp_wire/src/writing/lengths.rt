@@ -1,0 +1,147 @@
+//! How many octets are written, without writing them.
+
+ghost use Rattle.std.specs.Prelude.{◌≡◌, ◌+◌, ◌<◌, ◌≤◌, ◌^◌, length, nat_le, Bool, ℕ, if◌then◌else◌, [], ◌∷◌};
+ghost use Rattle.byteorder.specs.Endian.{big_bytes};
+ghost use Rattle.bgp_attr.specs.declared.attrs.Attrs.{Attrs as Route};
+ghost use Rattle.bgp_wire.specs.Paths.{width_of};
+ghost use Rattle.bgp_wire.specs.Lengths.{spelled_length, attributes_length, announcement_length};
+ghost use Rattle.bgp_wire.specs.Spelling.{segment_octets, path_octets, prefix_octets, prefixes_octets, spelled, optional, aggregator_value, aggregator_flags, unrecognized_attributes, mandatory_attributes, further_attributes, octets_of};
+
+use crate::header::LONGEST;
+use crate::numbers::width;
+use crate::prefixes::octets_for;
+use addr4::Prefix;
+use bgp_attr::{Aggregator, AsPath, Attrs, Profile, Segment, Unrecognized};
+
+/// The octets of an attribute whose value has so many.
+pub(crate) fn spelled_length(size: u128) -> u128
+    requires { size < 2 ^ 127 }
+    ensures { result ≡ spelled_length size }
+{
+    if size > 255 { size + 4 } else { size + 3 }
+}
+
+fn segment_length(as4: bool, segment: &Segment) -> u128
+    ensures value { result ≡ length (segment_octets (width_of as4) segment.now) }
+    ensures small { result ≤ 2 ^ 63 + 4 }
+{
+    let numbers = segment.numbers.as_slice();
+    2 + numbers.len() as u128 * width(as4) as u128
+}
+
+/// The octets of the segments of a path.
+pub(crate) fn path_length(as4: bool, path: &AsPath) -> u128
+    ensures value { result ≡ length (path_octets (width_of as4) path.now) }
+    ensures small { result < 2 ^ 126 + 2 ^ 66 }
+{
+    let mut total: u128 = 0;
+    for segment in path.as_slice() {
+        total += segment_length(as4, segment);
+    }
+    total
+}
+
+fn number_length(number: Option<u32>) -> u128
+    ensures value { (flags kind : ℕ) → result ≡ length (octets_of (optional (λ n. spelled flags kind (big_bytes 4 n)) number)) }
+    ensures small { result ≤ 7 }
+{
+    if number.is_some() { 7 } else { 0 }
+}
+
+fn atomic_length(atomic: bool) -> u128
+    ensures value { result ≡ length (octets_of (if atomic then spelled 64 6 [] ∷ [] else [])) }
+    ensures small { result ≤ 3 }
+{
+    if atomic { 3 } else { 0 }
+}
+
+fn aggregator_length(as4: bool, aggregator: Option<Aggregator>) -> u128
+    ensures value { result ≡ length (octets_of (optional (λ g. spelled (aggregator_flags g.partial) 7 (aggregator_value as4 g)) aggregator)) }
+    ensures small { result ≤ 11 }
+{
+    if aggregator.is_some() {
+        7 + width(as4) as u128
+    } else {
+        0
+    }
+}
+
+/// The octets of those unrecognized attributes whose type stands before ORIGIN, or of the others.
+fn unrecognized_length(first: bool, items: &[Unrecognized]) -> u128
+    ensures value { result ≡ length (octets_of (unrecognized_attributes first items.now)) }
+    ensures small { result < 2 ^ 126 + 2 ^ 66 }
+{
+    let mut total: u128 = 0;
+    for item in items {
+        if (item.kind < 1) == first {
+            total += spelled_length(item.value.as_slice().len() as u128);
+        }
+    }
+    total
+}
+
+/// The octets of ORIGIN, AS_PATH and NEXT_HOP.
+fn mandatory_length(as4: bool, attrs: &Attrs) -> u128
+    ensures value { result ≡ length (octets_of (mandatory_attributes as4 attrs.now)) }
+    ensures small { result < 2 ^ 126 + 2 ^ 67 }
+{
+    4 + spelled_length(path_length(as4, &attrs.path)) + 7
+}
+
+/// The octets of MULTI_EXIT_DISC, LOCAL_PREF, ATOMIC_AGGREGATE and AGGREGATOR, of those that are there.
+fn further_length(as4: bool, attrs: &Attrs) -> u128
+    ensures value { result ≡ length (octets_of (further_attributes as4 attrs.now)) }
+    ensures small { result ≤ 28 }
+{
+    number_length(attrs.med)
+        + number_length(attrs.local_pref)
+        + atomic_length(attrs.atomic)
+        + aggregator_length(as4, attrs.aggregator)
+}
+
+fn prefix_length(prefix: Prefix) -> usize
+    ensures value { result ≡ length (prefix_octets prefix) }
+    ensures small { result ≤ 5 }
+{
+    1 + octets_for(prefix.length())
+}
+
+/// The octets of one prefix at most.
+pub(crate) fn prefixes_length(prefixes: &[Prefix]) -> usize
+    requires { length prefixes.now ≤ 1 }
+    ensures value { result ≡ length (prefixes_octets prefixes.now) }
+    ensures small { result ≤ 5 }
+{
+    match prefixes {
+        [] => 0,
+        [prefix, ..] => prefix_length(*prefix),
+    }
+}
+
+/// How many octets a route's attributes have when they are written.
+#[tactic(auto, unfolding(crate::specs::Lengths::attributes_length))]
+pub fn attributes_length(profile: Profile, attrs: &Attrs) -> u128
+    ensures value { result ≡ attributes_length profile.as4 attrs.now }
+    ensures small { result + 28 < 2 ^ 128 }
+{
+    let unrecognized = attrs.unrecognized.as_slice();
+    unrecognized_length(true, unrecognized)
+        + mandatory_length(profile.as4, attrs)
+        + further_length(profile.as4, attrs)
+        + unrecognized_length(false, unrecognized)
+}
+
+/// How many octets the UPDATE has that announces one prefix with these attributes, whether or not it fits into a message.
+pub fn announcement_length(profile: Profile, prefix: Prefix, attrs: &Attrs) -> u128
+    ensures { result ≡ announcement_length profile.as4 prefix attrs.now }
+{
+    23 + prefix_length(prefix) as u128 + attributes_length(profile, attrs)
+}
+
+/// Whether an announcement of the prefix with attributes of so many octets ([`attributes_length`]) fits into a message, which
+/// has at most 4,096 octets (RFC 4271, section 4.1).
+pub fn announcement_fits(prefix: Prefix, attributes: u128) -> bool
+    ensures { (as4 : Bool) (a : Route) → attributes_length as4 a ≡ attributes → result ≡ nat_le (announcement_length as4 prefix a) 4096 }
+{
+    attributes <= (LONGEST - 23 - prefix_length(prefix)) as u128
+}

@@ -1,0 +1,3 @@
+pub mod LineupLemmas
+pub mod BestLemmas
+pub mod LawLemmas

@@ -1,0 +1,167 @@
+-- Branches in their order, and the candidates of their routes.
+use Rattle.std.proofs.Common.{◌≡◌, ◌≢◌, ℕ, zero, suc, ◌+◌, ◌-◌, ◌≤◌, ◌<◌, Bool, true, false, not, ◌==◌, if◌then◌else◌, List, [], ◌∷◌, ◌++◌, length, map, slice_get, Option, Some, None, Bor, refl, sym, ◌∙◌, ap, subst, arith, add-one}
+use Rattle.std.specs.List.{filter_map, range_with_len, cons_option}
+use Rattle.std.proofs.lemmas.List.{append-nil, map-append, length-append, length-map}
+use Rattle.std.specs.Option.{option_copied, option_eq}
+use Rattle.std.proofs.Math.Dec.{eqb}
+use Rattle.std.proofs.lemmas.Bool.{eqb-true, eq-eqb}
+use Rattle.std.specs.Slice.{IsItemAt}
+use Rattle.std.proofs.lemmas.Option.{slice_get_past, slice_get-get_or}
+use Rattle.std.proofs.lemmas.List.Elements.{filter_map-append}
+use Rattle.std.proofs.lemmas.Bool.Decides.{nat_tests}
+use Rattle.bgp_attr.specs.declared.route.Route.{Route}
+use Rattle.best_path.specs.declared.candidate.Candidate.{Candidate}
+use Rattle.best_path.specs.Keys.{candidate_of}
+use Rattle.decision.specs.declared.lineup.Lineup.{Lineup}
+use Rattle.addr4.specs.Prefixes.{Network}
+use Rattle.decision.specs.Branches.{AllRows}
+use Rattle.decision.specs.Lineups.{routes_of, at_prefix, with_own, chosen, candidate_at, LinesUp}
+
+-- ---- numbers in their order
+pub range_more : (a n : ℕ) → range_with_len a (suc n) ≡ range_with_len a n ++ (a + n) ∷ []
+range_more a zero = let e : a ≡ a + 0 = omega arith in ap (λ v. v ∷ []) e
+range_more a (suc n) =
+    let e : a + 1 + n ≡ a + suc n = omega arith in
+    ap (λ l. a ∷ l) (range_more (a + 1) n ∙ ap (λ v. range_with_len (a + 1) n ++ v ∷ []) e)
+
+pub numbers_more : (n : ℕ) → range_with_len 0 (n + 1) ≡ range_with_len 0 n ++ n ∷ []
+numbers_more n =
+    let e : 0 + n ≡ n = omega arith in
+    rw add-one (range_more 0 n ∙ ap (λ v. range_with_len 0 n ++ v ∷ []) e)
+
+-- ---- the routes of one branch more
+pub routes_more : (n : ℕ) (here : ℕ → Option Route) → routes_of (n + 1) here ≡ routes_of n here ++ cons_option (here n) []
+routes_more n here = ap (filter_map here) (numbers_more n) ∙ filter_map-append here (range_with_len 0 n) (n ∷ [])
+
+routes_with : (n : ℕ) (here : ℕ → Option Route) (route : Route) → here n ≡ Some route → routes_of (n + 1) here ≡ routes_of n here ++ route ∷ []
+routes_with n here route is = routes_more n here ∙ ap (λ r. routes_of n here ++ cons_option r []) is
+
+pub routes_without : (n : ℕ) (here : ℕ → Option Route) → here n ≡ None → routes_of (n + 1) here ≡ routes_of n here
+routes_without n here is =
+    routes_more n here ∙ ap (λ r. routes_of n here ++ cons_option r []) is ∙ append-nil (routes_of n here)
+
+-- branches without rows behind the last one count nowhere
+routes_past : (n k : ℕ) (here : ℕ → Option Route) → ((b : ℕ) → n ≤ b → here b ≡ None) → routes_of (n + k) here ≡ routes_of n here
+routes_past n zero here none = let e : n + 0 ≡ n = omega arith in ap (λ m. routes_of m here) e
+routes_past n (suc k) here none =
+    let e : n + suc k ≡ n + k + 1 = omega arith in
+    ap (λ m. routes_of m here) e ∙ routes_without (n + k) here (none (n + k) (omega arith)) ∙ routes_past n k here none
+
+pub routes_up_to : (n m : ℕ) (here : ℕ → Option Route) → n ≤ m → ((b : ℕ) → n ≤ b → here b ≡ None) → routes_of m here ≡ routes_of n here
+routes_up_to n m here le none =
+    let e : m ≡ n + (m - n) = omega arith in ap (λ k. routes_of k here) e ∙ routes_past n (m - n) here none
+
+pub routes_none : (n : ℕ) (here : ℕ → Option Route) → ((b : ℕ) → b < n → here b ≡ None) → routes_of n here ≡ []
+routes_none zero here none = refl
+routes_none (suc n) here none =
+    let e : suc n ≡ n + 1 = omega arith in
+    ap (λ m. routes_of m here) e ∙ routes_without n here (none n (omega arith)) ∙ routes_none n here (λ b below. none b (omega arith))
+
+-- ---- lineups
+no_candidate : (row : Option Route) → None ≡ candidate_at row → row ≡ None
+no_candidate None e = refl
+no_candidate (Some route) e = cc
+
+pub lines_up_none : (n : ℕ) (here : ℕ → Option Route) (line : Lineup) → None ≡ candidate_at (here n) → LinesUp n here line → LinesUp (n + 1) here line
+lines_up_none n here line is h =
+    let same = routes_without n here (no_candidate (here n) is) in
+    record { keys = ap (map candidate_of) same ∙ h.keys; numbers = h.numbers ∙ ap (map Some) (sym same) }
+
+its_route : (candidate : Candidate) (row : Option Route) → Some candidate ≡ candidate_at row → (route : Route) × ((row ≡ Some route) × (candidate ≡ candidate_of route))
+its_route candidate None e = absurd (let f : Some candidate ≡ None = e in cc)
+its_route candidate (Some route) e = (route, (refl, (let f : Some candidate ≡ Some (candidate_of route) = e in cc)))
+
+pub lines_up_some : (n : ℕ) (here : ℕ → Option Route) (line new : Lineup) (candidate : Candidate) → Some candidate ≡ candidate_at (here n)
+    → new.candidates.items ≡ line.candidates.items ++ candidate ∷ [] → new.branches.items ≡ line.branches.items ++ n ∷ []
+    → LinesUp n here line → LinesUp (n + 1) here new
+lines_up_some n here line new candidate is keys numbers h =
+    let r = its_route candidate (here n) is in
+    let more = routes_with n here r.0 r.1.0 in
+    record {
+      keys = ap (map candidate_of) more ∙ map-append candidate_of (routes_of n here) (r.0 ∷ [])
+          ∙ ap (λ l. l ++ candidate_of r.0 ∷ []) h.keys ∙ ap (λ k. line.candidates.items ++ k ∷ []) (sym r.1.1) ∙ sym keys;
+      numbers = ap (map here) numbers ∙ map-append here line.branches.items (n ∷ [])
+          ∙ ap (λ l. l ++ here n ∷ []) h.numbers ∙ ap (λ v. map Some (routes_of n here) ++ v ∷ []) r.1.0
+          ∙ sym (map-append Some (routes_of n here) (r.0 ∷ [])) ∙ ap (map Some) (sym more);
+    }
+
+-- a lineup of the branches that may have rows is one of all
+pub lines_up_to : (n m : ℕ) (here : ℕ → Option Route) (line : Lineup) → n ≤ m → ((b : ℕ) → n ≤ b → here b ≡ None)
+    → LinesUp n here line → LinesUp m here line
+lines_up_to n m here line le none h =
+    let same = routes_up_to n m here le none in
+    record { keys = ap (map candidate_of) same ∙ h.keys; numbers = h.numbers ∙ ap (map Some) (sym same) }
+
+-- no more candidates than branches
+few_option : (row : Option Route) → length (cons_option row []) ≤ 1
+few_option None = omega arith
+few_option (Some route) = omega arith
+
+few_routes : (n : ℕ) (here : ℕ → Option Route) → length (routes_of n here) ≤ n
+few_routes zero here = omega arith
+few_routes (suc n) here =
+    let e : suc n ≡ n + 1 = omega arith in
+    let more : routes_of (suc n) here ≡ routes_of n here ++ cons_option (here n) [] = ap (λ m. routes_of m here) e ∙ routes_more n here in
+    omega (arith, ap length more, length-append (routes_of n here) (cons_option (here n) []), few_option (here n), few_routes n here)
+
+pub few_candidates : (n : ℕ) (here : ℕ → Option Route) (line : Lineup) → LinesUp n here line → length line.candidates.items ≤ n
+few_candidates n here line h = omega (arith, ap length h.keys, length-map (routes_of n here) candidate_of, few_routes n here)
+
+-- ---- the winner
+pub chosen_at : (here : ℕ → Option Route) (branches : List ℕ) (routes : List Route) (place : ℕ) → map here branches ≡ map Some routes
+    → place < length routes → chosen here (slice_get branches place) ≡ slice_get routes place
+chosen_at here [] [] place is h = absurd (omega (arith, h))
+chosen_at here [] (r ∷ rs) place is h = absurd (let e : [] ≡ Some r ∷ map Some rs = is in cc)
+chosen_at here (b ∷ bs) [] place is h = absurd (omega (arith, h))
+chosen_at here (b ∷ bs) (r ∷ rs) zero is h = let e : here b ∷ map here bs ≡ Some r ∷ map Some rs = is in let f : here b ≡ Some r = cc in f
+chosen_at here (b ∷ bs) (r ∷ rs) (suc place) is h =
+    let e : here b ∷ map here bs ≡ Some r ∷ map Some rs = is in
+    let f : map here bs ≡ map Some rs = cc in chosen_at here bs rs place f (omega (arith, h))
+
+-- the element that `get` lends
+pub copied_item : (xs : List ℕ) (i : ℕ) (lent : Option (Bor ℕ)) → IsItemAt xs i lent → option_copied lent ≡ slice_get xs i
+copied_item xs i None h = sym (slice_get_past xs i h.3)
+copied_item xs i (Some x) h = ap Some h.1 ∙ sym (slice_get-get_or xs i x.now h.3.0)
+
+-- ---- winners are compared
+pub same_winner : (a b : Option ℕ) → true ≡ option_eq eqb a b → a ≡ b
+same_winner None None h = refl
+same_winner None (Some n) h = absurd (let e : true ≡ false = h in cc)
+same_winner (Some m) None h = absurd (let e : true ≡ false = h in cc)
+same_winner (Some m) (Some n) h = ap Some (eqb-true m n (sym h))
+
+other_number : (a : Option ℕ) (m n : ℕ) → true ≡ not (option_eq eqb a (Some n)) → a ≡ Some m → m ≢ n
+other_number a m n h is same =
+    let e : option_eq eqb a (Some n) ≡ true = ap (λ v. option_eq eqb v (Some n)) is ∙ eq-eqb m n same in
+    let f : true ≡ false = h ∙ ap not e in cc
+
+pub other_winner : (a : Option ℕ) (n : ℕ) → true ≡ not (option_eq eqb a (Some n)) → a ≢ Some n
+other_winner a n h is = other_number a n n h is refl
+
+-- ---- one branch's own row
+by_number_case : (b n : ℕ) (P : Bool → Type 0) (test : Bool) → (b == n) ≡ test → (b ≡ n → P true) → (b ≢ n → P false) → P (b == n)
+by_number_case b n P true e here elsewhere = subst P (sym e) (here (grind (arith, nat_tests, e)))
+by_number_case b n P false e here elsewhere = subst P (sym e) (elsewhere (λ same. grind (arith, nat_tests, e)))
+
+-- by cases whether it is this branch
+pub by_number : (b n : ℕ) (P : Bool → Type 0) → (b ≡ n → P true) → (b ≢ n → P false) → P (b == n)
+by_number b n P here elsewhere = by_number_case b n P (b == n) refl here elsewhere
+
+pub own_elsewhere : (branch : ℕ) (own : Option Route) (here : ℕ → Option Route) (b : ℕ) → b ≢ branch → with_own branch own here b ≡ here b
+own_elsewhere branch own here b differ = by_number b branch (λ t. (if t then own else here b) ≡ here b) (λ same. absurd (differ same)) (λ _. refl)
+
+pub own_at : (branch : ℕ) (own : Option Route) (here : ℕ → Option Route) (b : ℕ) → b ≡ branch → with_own branch own here b ≡ own
+own_at branch own here b is = by_number b branch (λ t. (if t then own else here b) ≡ own) (λ _. refl) (λ differ. absurd (differ is))
+
+-- behind the branch and all that may have rows there are none
+pub none_past : (branch n : ℕ) (own : Option Route) (rows : AllRows) (p : Network) → branch < n → ((b : ℕ) → n ≤ b → rows b p ≡ None)
+    → (b : ℕ) → n ≤ b → with_own branch own (at_prefix rows p) b ≡ None
+none_past branch n own rows p below none b past =
+    own_elsewhere branch own (at_prefix rows p) b (λ same. absurd (omega (arith, below, past, same))) ∙ none b past
+
+-- a winner other than the branch has the same row, whatever the branch has
+pub chosen_beside : (branch : ℕ) (own new : Option Route) (here : ℕ → Option Route) (winner : Option ℕ) → winner ≢ Some branch
+    → chosen (with_own branch own here) winner ≡ chosen (with_own branch new here) winner
+chosen_beside branch own new here None differ = refl
+chosen_beside branch own new here (Some b) differ =
+    own_elsewhere branch own here b (λ same. differ (ap Some same)) ∙ sym (own_elsewhere branch new here b (λ same. differ (ap Some same)))

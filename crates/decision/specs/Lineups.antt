@@ -1,0 +1,34 @@
+-- The candidates of the branches at one prefix.
+use Rattle.std.specs.Prelude.{◌≡◌, ℕ, ◌==◌, if◌then◌else◌, List, map, Option, Some, option_and_then}
+use Rattle.std.specs.List.{filter_map, range_with_len}
+use Rattle.std.specs.Option.{option_map}
+use Rattle.addr4.specs.Prefixes.{Network}
+use Rattle.bgp_attr.specs.declared.route.Route.{Route}
+use Rattle.best_path.specs.declared.candidate.Candidate.{Candidate}
+use Rattle.best_path.specs.Keys.{candidate_of}
+use Rattle.decision.specs.declared.lineup.Lineup.{Lineup}
+use Rattle.decision.specs.Branches.{AllRows}
+
+-- the row of each branch at a prefix
+abbrev pub at_prefix : AllRows → Network → ℕ → Option Route
+at_prefix rows p b = rows b p
+
+-- the same, but this row of one branch
+abbrev pub with_own : ℕ → Option Route → (ℕ → Option Route) → ℕ → Option Route
+with_own branch own here b = if b == branch then own else here b
+
+-- the routes of the branches below n
+abbrev pub routes_of : ℕ → (ℕ → Option Route) → List Route
+routes_of n here = filter_map here (range_with_len 0 n)
+
+-- the row of the branch that was chosen, if one was
+abbrev pub chosen : (ℕ → Option Route) → Option ℕ → Option Route
+chosen here winner = option_and_then here winner
+
+abbrev pub candidate_at : Option Route → Option Candidate
+candidate_at row = option_map candidate_of row
+
+-- the lineup has the candidates of the routes of the branches below n, and beside each the branch whose route it is
+pub record LinesUp (n : ℕ) (here : ℕ → Option Route) (line : Lineup) : Type 0 where
+  pub keys : map candidate_of (routes_of n here) ≡ line.candidates.items
+  pub numbers : map here line.branches.items ≡ map Some (routes_of n here)

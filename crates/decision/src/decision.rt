@@ -1,0 +1,132 @@
+//! The decision over all branches.
+
+ghost use Rattle.std.specs.Prelude.{◌≡◌, ◌<◌, ◌≤◌, ◌↔◌, ℕ, length, IsTrue, IfOk};
+ghost use Rattle.addr4.specs.Places.{key_of};
+ghost use Rattle.link_change.specs.Rows.{IsNextCandidate, CoversRows};
+ghost use Rattle.decision.specs.Branches.{best_rows, best_candidates, Decides};
+ghost use Rattle.decision.specs.Lineups.{LinesUp, at_prefix, with_own, chosen};
+
+use crate::branches::Branches;
+use crate::lineup::{Lineup, candidate};
+use addr4::{Memory, Place, Prefix, Row};
+use bgp_attr::Route;
+use link_change::{Change, nearer};
+use std::alloc::Global;
+
+/// The candidates before a branch's change, and after it.
+#[derive(Drop)]
+struct Lineups {
+    before: Lineup,
+    after: Lineup,
+}
+
+// Each other branch is asked once.
+fn line_up<B: Branches>(
+    alloc: Global,
+    branch: u8,
+    change: &Change<Route>,
+    all: &B,
+) -> Result<Lineups, Memory>
+    requires { branch < 65 }
+    ensures before { IfOk result (λ lines. LinesUp 65 (with_own branch change.now.before (at_prefix (B.rows all.now) change.now.prefix)) lines.before) }
+    ensures after { IfOk result (λ lines. LinesUp 65 (with_own branch change.now.after (at_prefix (B.rows all.now) change.now.prefix)) lines.after) }
+{
+    let mut before = Lineup::new(alloc);
+    let mut after = Lineup::new(alloc);
+    for number in 0..all.count().max(branch + 1) {
+        if number == branch {
+            before.enter(number, candidate(&change.before))?;
+            after.enter(number, candidate(&change.after))?;
+        } else {
+            let other = candidate(&all.asked(number, &change.prefix)?);
+            before.enter(number, other)?;
+            after.enter(number, other)?;
+        }
+    }
+    Ok(Lineups { before, after })
+}
+
+// The row of the branch that wins, where one branch has this own row.
+fn row_of<B: Branches>(
+    winner: Option<u8>,
+    branch: u8,
+    own: Option<Route>,
+    prefix: &Prefix,
+    all: &B,
+) -> Result<Option<Route>, Memory>
+    ensures { IfOk result (λ row. row ≡ chosen (with_own branch own (at_prefix (B.rows all.now) prefix.now)) winner) }
+{
+    let Some(number) = winner else {
+        return Ok(None);
+    };
+    if number == branch {
+        return Ok(own);
+    }
+    all.asked(number, prefix)
+}
+
+fn same_rows(a: &Option<Route>, b: &Option<Route>) -> bool
+    ensures { IsTrue result ↔ (a.now ≡ b.now) }
+{
+    match (a, b) {
+        (None, None) => true,
+        (Some(x), Some(y)) => x.same(y),
+        _ => false,
+    }
+}
+
+/// A change of one branch's rows, as it goes on below: the change of the best route at its prefix. The branches are lent as
+/// they are after the change; each other one is asked once for its row there, and the one whose row is sent again. None comes
+/// exactly where the best route stays the same, Memory only for want of memory.
+pub fn take_in<B: Branches>(
+    alloc: Global,
+    branch: u8,
+    change: Change<Route>,
+    all: &B,
+) -> Result<Option<Change<Route>>, Memory>
+    requires { branch < 65 }
+    ensures { IfOk result (Decides branch (B.rows all.now) change) }
+{
+    let lines = line_up(alloc, branch, &change, all)?;
+    let former = lines.before.winner();
+    let latter = lines.after.winner();
+    if former == latter && latter != Some(branch) {
+        return Ok(None);
+    }
+    let before = row_of(former, branch, change.before, &change.prefix, all)?;
+    let after = row_of(latter, branch, change.after, &change.prefix, all)?;
+    if same_rows(&after, &before) {
+        return Ok(None);
+    }
+    Ok(Some(Change {
+        prefix: change.prefix,
+        before,
+        after,
+    }))
+}
+
+/// The best route at a prefix; none where no branch has one.
+pub fn asked<B: Branches>(alloc: Global, all: &B, prefix: &Prefix) -> Result<Option<Route>, Memory>
+    ensures { IfOk result (λ row. row ≡ best_rows (B.rows all.now) prefix.now) }
+{
+    let mut line = Lineup::new(alloc);
+    for number in 0..all.count() {
+        line.enter(number, candidate(&all.asked(number, prefix)?))?;
+    }
+    match line.winner() {
+        Some(number) => all.asked(number, prefix),
+        None => Ok(None),
+    }
+}
+
+/// The least of all branches' candidates beyond a place. Every best route stands at one.
+pub fn next_candidate<B: Branches>(all: &B, after: &Place) -> Option<Prefix>
+    ensures next { IsNextCandidate (best_candidates (B.candidates all.now)) (key_of after.now) result }
+    ensures covers { CoversRows (best_candidates (B.candidates all.now)) (best_rows (B.rows all.now)) }
+{
+    let mut nearest = None;
+    for number in 0..all.count() {
+        nearest = nearer(nearest, all.next_candidate(number, after));
+    }
+    nearest
+}

@@ -1,0 +1,243 @@
+-- Entries with numbers, and how many readers stand at each.
+use Rattle.std.proofs.Common.{◌≡◌, ◌≢◌, ℕ, ◌+◌, ◌-◌, ◌<◌, ◌≤◌, ◌^◌, nat_eq, arith, Bool, true, false, cond, List, [], ◌∷◌, ◌++◌, length, get_or, set, drop, map, Option, Some, None, refl, sym, ap, ◌∙◌, subst}
+use Rattle.std.proofs.lemmas.List.{map-append, length-map, length-append, map-set, set-append_left, get_or-set_same, get_or-set_other, get_or_append_left, get_or-map, drop_more}
+use Rattle.std.proofs.Math.ListN as list
+use Rattle.std.proofs.Math.Seq.{set-append_seam, get_or-append_seam, map-set_same}
+use Rattle.std.proofs.lemmas.Bool.Decides.{nat_tests}
+use Rattle.std.specs.Ordering.{eq_by_cmp, is_eq}
+use Rattle.std.specs.BTreeSet.{BTreeSet, contains}
+use Rattle.addr4.specs.Prefixes.{Network, prefix_cmp}
+use Rattle.link_change.specs.declared.change.Change.{Change}
+use Rattle.fanout_queue.specs.declared.entries.Entry.{Entry}
+use Rattle.fanout_queue.specs.Index.{Key, key_cmp, IsFirstKey, IsFirstStop, is_reached, stops, IsIndexed}
+use Rattle.fanout_queue.specs.Entries.{Numbered, stands_at, changes_of, readers_of, numbered_of, IsKept, readers_at, unread_at, IsPlace, Enters, Leaves, first_before, IsNextBeside}
+use Rattle.fanout_queue.proofs.Cases.{by_bool}
+use Rattle.fanout_queue.proofs.IndexLemmas.{put_indexed, back_indexed, cut_indexed, number_fits, no_key, other_key, key_within, key_here, none_beside, none_stops, other_stops, change_stops}
+
+pub stands_here : (n place : ℕ) → n ≡ place → stands_at n (Some place) ≡ 1
+stands_here n place is = by_bool (nat_eq n place) (λ v. ◌≡◌ {A = ℕ} (cond v 1 0) 1) (λ _. refl) (λ e. absurd (grind (arith, nat_tests)))
+
+pub stands_elsewhere : (n place : ℕ) → n ≢ place → stands_at n (Some place) ≡ 0
+stands_elsewhere n place apart = by_bool (nat_eq n place) (λ v. ◌≡◌ {A = ℕ} (cond v 1 0) 0) (λ e. absurd (apart (grind (arith, nat_tests)))) (λ _. refl)
+
+-- a place is that of the number, or it isn't
+pub by_place : (n place : ℕ) (P : Type 0) → (n ≡ place → P) → (n ≢ place → P) → P
+by_place n place P here apart = by_bool (nat_eq n place) (λ _. P) (λ e. here (grind (arith, nat_tests))) (λ e. apart (λ same. let f : nat_eq n place ≡ true = grind (arith, nat_tests) in let g : true ≡ false = sym f ∙ e in cc))
+
+-- the key, and no other, is there from now on, or isn't
+abbrev IsWith : BTreeSet Key → BTreeSet Key → Network → ℕ → Bool → Type 0
+IsWith old new p number there = (q : Key) → contains key_cmp new q ≡ cond (is_eq (key_cmp (p, number) q)) there (contains key_cmp old q)
+
+module _ {R : Type 0} where
+  -- ---- the count of one place is set
+  pub kept_stays : (first : ℕ) (kept kept' : List (Entry R)) (index : BTreeSet Key) → changes_of kept' ≡ changes_of kept → IsKept first kept index → IsKept first kept' index
+  kept_stays first kept kept' index same is = record {
+    indexed = subst (λ (cs : List (Change R)). IsIndexed first cs index) (sym same) is.indexed;
+    fits = subst (λ (cs : List (Change R)). first + length cs < 2 ^ 64) (sym same) is.fits;
+  }
+
+  pub same_changes : (kept : List (Entry R)) (i count : ℕ) (e : Entry R) → e ≡ get_or kept i e → changes_of (set kept i (record { change = e.change; readers = count })) ≡ changes_of kept
+  same_changes kept i count e at = map-set_same (λ (x : Entry R). x.change) kept i (record { change = e.change; readers = count }) e (ap (λ (x : Entry R). x.change) at)
+
+  pub count_set : (kept : List (Entry R)) (at_end i count : ℕ) (e : Entry R) → i < length kept → readers_of (set kept i (record { change = e.change; readers = count })) at_end ≡ set (readers_of kept at_end) i count
+  count_set kept at_end i count e within =
+      let n = length-map kept (λ (x : Entry R). x.readers) in
+      ap (λ (l : List ℕ). l ++ at_end ∷ []) (map-set (λ (x : Entry R). x.readers) kept i (record { change = e.change; readers = count }))
+      ∙ sym (set-append_left (map (λ (x : Entry R). x.readers) kept) (at_end ∷ []) i count (omega arith))
+
+  pub last_set : (kept : List (Entry R)) (at_end i count : ℕ) → i ≡ length kept → readers_of kept count ≡ set (readers_of kept at_end) i count
+  last_set kept at_end i count is =
+      let n = length-map kept (λ (x : Entry R). x.readers) in
+      sym (ap (λ k. set (readers_of kept at_end) k count) (let e : i ≡ length (map (λ (x : Entry R). x.readers) kept) = omega arith in e)
+      ∙ set-append_seam (map (λ (x : Entry R). x.readers) kept) at_end [] count)
+
+  pub counts_long : (kept : List (Entry R)) (at_end : ℕ) → length (readers_of kept at_end) ≡ length (changes_of kept) + 1
+  counts_long kept at_end =
+      let n = length-map kept (λ (x : Entry R). x.readers) in
+      let m = length-map kept (λ (x : Entry R). x.change) in
+      length-append (map (λ (x : Entry R). x.readers) kept) (at_end ∷ []) ∙ omega arith
+
+  -- what is counted at a place, and elsewhere
+  pub set_here : (m m' : Numbered R) (place count n : ℕ) → m'.first ≡ m.first → m.first ≤ place → place - m.first < length m.readers → m'.readers ≡ set m.readers (place - m.first) count → n ≡ place → readers_at m' n ≡ count
+  set_here m m' place count n first from within is here =
+      ap (λ (l : List ℕ). get_or l (n - m'.first) 0) is
+      ∙ ap (λ k. get_or (set m.readers (place - m.first) count) k 0) (let e : n - m'.first ≡ place - m.first = omega arith in e)
+      ∙ get_or-set_same m.readers (place - m.first) count 0 within
+
+  pub set_elsewhere : (m m' : Numbered R) (place count n : ℕ) → m'.first ≡ m.first → m.first ≤ place → m.first ≤ n → m'.readers ≡ set m.readers (place - m.first) count → n ≢ place → readers_at m' n ≡ readers_at m n
+  set_elsewhere m m' place count n first from low is apart =
+      ap (λ (l : List ℕ). get_or l (n - m'.first) 0) is
+      ∙ ap (λ k. get_or (set m.readers (place - m.first) count) k 0) (let e : n - m'.first ≡ n - m.first = omega arith in e)
+      ∙ get_or-set_other m.readers (place - m.first) (n - m.first) count 0 (λ e. apart (omega arith))
+
+  enters_by : (m m' : Numbered R) (place : ℕ) → m'.first ≡ m.first → m'.changes ≡ m.changes → m.first ≤ place → place - m.first < length m.readers → m'.readers ≡ set m.readers (place - m.first) (readers_at m place + 1) → Enters m m' place
+  enters_by m m' place first changes from within is = record {
+    first = first;
+    changes = changes;
+    readers = λ n low. by_place n place (readers_at m' n ≡ readers_at m n + stands_at n (Some place))
+        (λ here. let s = stands_here n place here in
+        set_here m m' place (readers_at m place + 1) n first from within is here ∙ (let same = ap (readers_at m) here in omega arith))
+        (λ apart. let s = stands_elsewhere n place apart in
+        let e = set_elsewhere m m' place (readers_at m place + 1) n first from low is apart in omega arith);
+  }
+
+  leaves_by : (m m' : Numbered R) (place : ℕ) → m'.first ≡ m.first → m'.changes ≡ m.changes → m.first ≤ place → place - m.first < length m.readers → 0 < readers_at m place → m'.readers ≡ set m.readers (place - m.first) (readers_at m place - 1) → Leaves m m' place
+  leaves_by m m' place first changes from within some is = record {
+    first = first;
+    changes = changes;
+    readers = λ n low. by_place n place (readers_at m' n + stands_at n (Some place) ≡ readers_at m n)
+        (λ here. let s = stands_here n place here in
+        let e = set_here m m' place (readers_at m place - 1) n first from within is here in
+        let same = ap (readers_at m) here in omega arith)
+        (λ apart. let s = stands_elsewhere n place apart in
+        let e = set_elsewhere m m' place (readers_at m place - 1) n first from low is apart in omega arith);
+  }
+
+  -- ---- the same, of the fields
+  module _ (first : ℕ) (kept : List (Entry R)) (at_end : ℕ) (m : Numbered R) (view : numbered_of first kept at_end ≡ m) (place : ℕ) where
+    count_here : (e : Entry R) → place - first < length kept → e ≡ get_or kept (place - first) e → get_or (readers_of kept at_end) (place - first) 0 ≡ e.readers
+    count_here e within at =
+        let n = length-map kept (λ (x : Entry R). x.readers) in
+        get_or_append_left (map (λ (x : Entry R). x.readers) kept) (at_end ∷ []) 0 (place - first) (omega arith)
+        ∙ get_or-map (λ (x : Entry R). x.readers) kept (place - first) e 0 within
+        ∙ sym (ap (λ (x : Entry R). x.readers) at)
+
+    count_last : place - first ≡ length kept → get_or (readers_of kept at_end) (place - first) 0 ≡ at_end
+    count_last is =
+        let n = length-map kept (λ (x : Entry R). x.readers) in
+        ap (λ k. get_or (readers_of kept at_end) k 0) (let e : place - first ≡ length (map (λ (x : Entry R). x.readers) kept) = omega arith in e)
+        ∙ get_or-append_seam (map (λ (x : Entry R). x.readers) kept) at_end [] 0
+
+    pub place_from : IsPlace m place → first ≤ place
+    place_from is = subst (λ (v : Numbered R). v.first ≤ place) (sym view) is.from
+
+    pub place_to : IsPlace m place → place ≤ first + length kept
+    place_to is =
+        let n = length-map kept (λ (x : Entry R). x.change) in
+        let to : place ≤ first + length (changes_of kept) = subst (λ (v : Numbered R). place ≤ v.first + length v.changes) (sym view) is.to in omega arith
+
+    pub enters_entry : (e : Entry R) → first ≤ place → place - first < length kept → e ≡ get_or kept (place - first) e → Enters m (numbered_of first (set kept (place - first) (record { change = e.change; readers = e.readers + 1 })) at_end) place
+    enters_entry e from within at =
+        let n = counts_long kept at_end in let k = length-map kept (λ (x : Entry R). x.change) in
+        subst (λ (v : Numbered R). Enters v (numbered_of first (set kept (place - first) (record { change = e.change; readers = e.readers + 1 })) at_end) place) view
+        (enters_by (numbered_of first kept at_end) (numbered_of first (set kept (place - first) (record { change = e.change; readers = e.readers + 1 })) at_end) place refl (same_changes kept (place - first) (e.readers + 1) e at) from (omega arith)
+        (count_set kept at_end (place - first) (e.readers + 1) e within ∙ ap (λ c. set (readers_of kept at_end) (place - first) (c + 1)) (sym (count_here e within at))))
+
+    pub enters_end : first ≤ place → place - first ≡ length kept → Enters m (numbered_of first kept (at_end + 1)) place
+    enters_end from is =
+        let n = counts_long kept at_end in let k = length-map kept (λ (x : Entry R). x.change) in
+        subst (λ (v : Numbered R). Enters v (numbered_of first kept (at_end + 1)) place) view
+        (enters_by (numbered_of first kept at_end) (numbered_of first kept (at_end + 1)) place refl refl from (omega arith)
+        (last_set kept at_end (place - first) (at_end + 1) is ∙ ap (λ c. set (readers_of kept at_end) (place - first) (c + 1)) (sym (count_last is))))
+
+    pub leaves_entry : (e : Entry R) → first ≤ place → place - first < length kept → 0 < readers_at m place → e ≡ get_or kept (place - first) e → Leaves m (numbered_of first (set kept (place - first) (record { change = e.change; readers = e.readers - 1 })) at_end) place
+    leaves_entry e from within some at =
+        let n = counts_long kept at_end in let k = length-map kept (λ (x : Entry R). x.change) in
+        subst (λ (v : Numbered R). Leaves v (numbered_of first (set kept (place - first) (record { change = e.change; readers = e.readers - 1 })) at_end) place) view
+        (leaves_by (numbered_of first kept at_end) (numbered_of first (set kept (place - first) (record { change = e.change; readers = e.readers - 1 })) at_end) place refl (same_changes kept (place - first) (e.readers - 1) e at) from (omega arith)
+        (subst (λ (v : Numbered R). 0 < readers_at v place) (sym view) some)
+        (count_set kept at_end (place - first) (e.readers - 1) e within ∙ ap (λ c. set (readers_of kept at_end) (place - first) (c - 1)) (sym (count_here e within at))))
+
+    pub leaves_end : first ≤ place → place - first ≡ length kept → 0 < readers_at m place → Leaves m (numbered_of first kept (at_end - 1)) place
+    leaves_end from is some =
+        let n = counts_long kept at_end in let k = length-map kept (λ (x : Entry R). x.change) in
+        subst (λ (v : Numbered R). Leaves v (numbered_of first kept (at_end - 1)) place) view
+        (leaves_by (numbered_of first kept at_end) (numbered_of first kept (at_end - 1)) place refl refl from (omega arith)
+        (subst (λ (v : Numbered R). 0 < readers_at v place) (sym view) some)
+        (last_set kept at_end (place - first) (at_end - 1) is ∙ ap (λ c. set (readers_of kept at_end) (place - first) (c - 1)) (sym (count_last is))))
+
+    -- there are as many readers as are counted
+    pub counted_entry : (e : Entry R) → place - first < length kept → e ≡ get_or kept (place - first) e → readers_at m place ≡ e.readers
+    counted_entry e within at = ap (λ (v : Numbered R). readers_at v place) (sym view) ∙ count_here e within at
+
+    pub counted_end : place - first ≡ length kept → readers_at m place ≡ at_end
+    counted_end is = ap (λ (v : Numbered R). readers_at v place) (sym view) ∙ count_last is
+
+  -- ---- entries come and go
+  pub end_is : (first : ℕ) (kept : List (Entry R)) (at_end number : ℕ) (m : Numbered R) → numbered_of first kept at_end ≡ m → number ≡ m.first + length m.changes → number ≡ first + length (changes_of kept)
+  end_is first kept at_end number m view is = is ∙ sym (ap (λ (v : Numbered R). v.first + length v.changes) view)
+
+  pub put_kept : (first : ℕ) (kept kept' : List (Entry R)) (c : Change R) (readers : ℕ) (index index' : BTreeSet Key) (number : ℕ) → number ≡ first + length (changes_of kept) → first + length (changes_of kept) + 1 < 2 ^ 64
+      → kept' ≡ kept ++ record { change = c; readers = readers } ∷ [] → IsKept first kept index → IsWith index index' c.prefix number true → IsKept first kept' index'
+  put_kept first kept kept' c readers index index' number is fits more sound put =
+      let changes : changes_of kept' ≡ changes_of kept ++ c ∷ [] = ap (changes_of) more ∙ map-append (λ (x : Entry R). x.change) kept (record { change = c; readers = readers } ∷ []) in
+      let n = length-append (changes_of kept) (c ∷ []) in
+      record {
+        indexed = subst (λ (cs : List (Change R)). IsIndexed first cs index') (sym changes)
+            (put_indexed first (changes_of kept) c index index' sound.indexed (subst (λ k. IsWith index index' c.prefix k true) is put));
+        fits = subst (λ (cs : List (Change R)). first + length cs < 2 ^ 64) (sym changes) (omega arith);
+      }
+
+  pub back_kept : (first : ℕ) (kept kept' : List (Entry R)) (c : Change R) (index index' last : BTreeSet Key) (number : ℕ) → number ≡ first + length (changes_of kept)
+      → kept' ≡ kept → IsKept first kept index → IsWith index index' c.prefix number true → IsWith index' last c.prefix number false → IsKept first kept' last
+  back_kept first kept kept' c index index' last number is same sound put cut =
+      subst (λ (l : List (Entry R)). IsKept first l last) (sym same) (record {
+        indexed = back_indexed first (changes_of kept) c index index' last sound.indexed (subst (λ k. IsWith index index' c.prefix k true) is put) (subst (λ k. IsWith index' last c.prefix k false) is cut);
+        fits = sound.fits;
+      })
+
+  pub cut_kept : (first : ℕ) (kept kept' rest : List (Entry R)) (e : Entry R) (index index' : BTreeSet Key) → kept ≡ e ∷ rest → kept' ≡ rest → IsKept first kept index → IsWith index index' e.change.prefix first false
+      → IsKept (first + 1) kept' index'
+  cut_kept first kept kept' rest e index index' is same sound cut =
+      let was : IsKept first (e ∷ rest) index = subst (λ (l : List (Entry R)). IsKept first l index) is sound in
+      subst (λ (l : List (Entry R)). IsKept (first + 1) l index') (sym same) (record {
+        indexed = cut_indexed first e.change (changes_of rest) index index' was.indexed cut;
+        fits = let fits : first + length (changes_of (e ∷ rest)) < 2 ^ 64 = was.fits in omega arith;
+      })
+
+  -- ---- what is found in the index
+  module _ (first : ℕ) (kept : List (Entry R)) (at_end : ℕ) (index : BTreeSet Key) (m : Numbered R) (view : numbered_of first kept at_end ≡ m) (sound : IsKept first kept index) (place : ℕ) (is : IsPlace m place) where
+    abbrev low : first ≤ place
+    low = place_from first kept at_end m view place is
+
+    unread_is : drop (place - first) (changes_of kept) ≡ unread_at m place
+    unread_is = ap (λ (v : Numbered R). unread_at v place) view
+
+    pub numbers_fit : (p : Network) (n : ℕ) → contains key_cmp index (p, n) ≡ true → n < 2 ^ 64
+    numbers_fit p n has = let below = number_fits (changes_of kept) first p n (sym (sound.indexed p n) ∙ has) in let fits = sound.fits in omega arith
+
+    pub none_found : (p : Network) → IsFirstKey index (p, place) None → None ≡ first_before p (unread_at m place)
+    none_found p key = sym (ap (first_before p) (sym unread_is) ∙ no_key first (changes_of kept) index p place sound.indexed low key)
+
+    pub other_found : (p q : Network) (s : ℕ) → IsFirstKey index (p, place) (Some (q, s)) → eq_by_cmp prefix_cmp p q ≡ false → None ≡ first_before p (unread_at m place)
+    other_found p q s key apart = sym (ap (first_before p) (sym unread_is) ∙ other_key first (changes_of kept) index p place sound.indexed low q s key apart)
+
+    pub within_kept : (p : Network) (s : ℕ) → IsFirstKey index (p, place) (Some (p, s)) → s - first < length kept
+    within_kept p s key =
+        let n = length-map kept (λ (x : Entry R). x.change) in
+        let inside = key_within first (changes_of kept) index p place sound.indexed low s key in omega arith
+
+    pub change_found : (p : Network) (s : ℕ) (e : Entry R) → e ≡ get_or kept (s - first) e → IsFirstKey index (p, place) (Some (p, s)) → Some e.change.before ≡ first_before p (unread_at m place)
+    change_found p s e at key =
+        ap (λ (x : Change R). Some x.before) (ap (λ (x : Entry R). x.change) at ∙ sym (list.get_or-map (λ (x : Entry R). x.change) kept (s - first) e))
+        ∙ sym (ap (first_before p) (sym unread_is) ∙ key_here first (changes_of kept) index p place sound.indexed low s e.change key)
+
+    module _ (after other : Option Network) where
+      beside_is : (result : Option Network) → IsNextBeside (drop (place - first) (changes_of kept)) after other result → IsNextBeside (unread_at m place) after other result
+      beside_is result next = subst (λ (cs : List (Change R)). IsNextBeside cs after other result) unread_is next
+
+      pub end_beside : place ≡ m.first + length m.changes → IsNextBeside (unread_at m place) after other other
+      end_beside at = none_beside m.changes (place - m.first) after other (omega arith)
+
+      pub none_beside_stops : IsFirstStop index (stops place other) after None → IsNextBeside (unread_at m place) after other other
+      none_beside_stops stop = beside_is other (none_stops first (changes_of kept) index place after other sound.indexed low stop)
+
+      pub other_beside : (key : Key) → IsFirstStop index (stops place other) after (Some key) → is_reached other key.0 ≡ true → IsNextBeside (unread_at m place) after other other
+      other_beside key stop reached = beside_is other (other_stops first (changes_of kept) index place after other sound.indexed low key stop reached)
+
+      pub change_beside : (key : Key) → IsFirstStop index (stops place other) after (Some key) → is_reached other key.0 ≡ false → IsNextBeside (unread_at m place) after other (Some key.0)
+      change_beside key stop not_reached = beside_is (Some key.0) (change_stops first (changes_of kept) index place after other sound.indexed low key stop not_reached)
+
+  -- the change at a place is the first from there on
+  pub copied_first : (first : ℕ) (kept : List (Entry R)) (at_end : ℕ) (m : Numbered R) (place : ℕ) (e : Entry R) (c : Change R) → numbered_of first kept at_end ≡ m → m.first ≤ place → place < m.first + length m.changes
+      → e ≡ get_or kept (place - first) e → c ≡ e.change → unread_at m place ≡ c ∷ drop (place + 1 - m.first) m.changes
+  copied_first first kept at_end m place e c view from within at same =
+      let at_first : first ≡ m.first = ap (λ (v : Numbered R). v.first) view in
+      let here : get_or m.changes (place - m.first) e.change ≡ e.change =
+      ap (λ (l : List (Change R)). get_or l (place - m.first) e.change) (sym (ap (λ (v : Numbered R). v.changes) view))
+      ∙ list.get_or-map (λ (x : Entry R). x.change) kept (place - m.first) e
+      ∙ ap (λ k. (get_or kept k e).change) (let s : place - m.first ≡ place - first = omega arith in s)
+      ∙ sym (ap (λ (x : Entry R). x.change) at) in
+      drop_more m.changes (place - m.first) e.change (omega arith)
+      ∙ ap (λ (x : Change R). x ∷ drop (place - m.first + 1) m.changes) (here ∙ sym same)
+      ∙ ap (λ k. c ∷ drop k m.changes) (let s : place - m.first + 1 ≡ place + 1 - m.first = omega arith in s)

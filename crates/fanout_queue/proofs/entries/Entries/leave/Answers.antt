@@ -1,0 +1,22 @@
+use Rattle.std.proofs.Common.{rules, arith, ◌-◌, ◌<◌, ◌≤◌, length}
+use Rattle.fanout_queue.proofs.EntryLemmas.{kept_stays, same_changes, place_from, place_to, leaves_entry, leaves_end}
+use Rattle.fanout_queue.proofs.entries.Entries.leave.Goals as goal
+
+pub invariant_of-self-in-Some : goal.invariant_of-self-in-Some
+invariant_of-self-in-Some g c =
+    kept_stays c.self.inside.first c.self.inside.kept.items _ c.self.inside.index
+    (same_changes c.self.inside.kept.items (c.args.place - c.self.inside.first) (c.in-Some.entry.now.readers - 1) c.in-Some.entry.now c.in-Some.ensures.value)
+    c.self.invariant
+
+pub returns-in-None : goal.returns-in-None
+returns-in-None g c =
+    let from = place_from c.self.inside.first c.self.inside.kept.items c.self.inside.at_end c.args.self.now c.self.view_is c.args.place c.requires.place in
+    let to = place_to c.self.inside.first c.self.inside.kept.items c.self.inside.at_end c.args.self.now c.self.view_is c.args.place c.requires.place in
+    let past : length c.self.inside.kept.items ≤ c.args.place - c.self.inside.first = search rules in
+    leaves_end c.self.inside.first c.self.inside.kept.items c.self.inside.at_end c.args.self.now c.self.view_is c.args.place from (omega arith) c.requires.stands
+
+pub returns-in-Some : goal.returns-in-Some
+returns-in-Some g c =
+    let from = place_from c.self.inside.first c.self.inside.kept.items c.self.inside.at_end c.args.self.now c.self.view_is c.args.place c.requires.place in
+    let within : c.args.place - c.self.inside.first < length c.self.inside.kept.items = search rules in
+    leaves_entry c.self.inside.first c.self.inside.kept.items c.self.inside.at_end c.args.self.now c.self.view_is c.args.place c.in-Some.entry.now from within c.requires.stands c.in-Some.ensures.value

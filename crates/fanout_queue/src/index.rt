@@ -1,0 +1,96 @@
+//! The entries of a queue by prefix and then number.
+
+ghost use Rattle.std.specs.Prelude.{◌≡◌, ◌<◌, ◌^◌, ℕ, OnOk, OnErr, true, false};
+ghost use Rattle.std.specs.List.{find};
+ghost use Rattle.std.specs.BTreeSet.{Updates, contains, IsOrdered};
+ghost use Rattle.addr4.specs.Places.{key_of};
+ghost use Rattle.addr4.specs.Prefixes.{Network};
+ghost use Rattle.fanout_queue.specs.Index.{key_cmp, IsFirstKey, IsFirstStop, is_reached, stops, behind, keys_from};
+
+use addr4::{Memory, Place, Prefix};
+use std::collections::BTreeSet;
+use std::ops::Bound;
+
+/// Puts the key of an entry.
+pub(crate) fn put_key(
+    index: &mut BTreeSet<(Prefix, u64)>,
+    prefix: Prefix,
+    number: u64,
+) -> Result<(), Memory>
+    ensures ok { OnOk result (Updates key_cmp index.old index.new (prefix, number) true) }
+    ensures memory { OnErr result (index.new.keys ≡ index.old.keys) }
+{
+    index.insert((prefix, number))?;
+    Ok(())
+}
+
+/// Takes out the key of an entry.
+pub(crate) fn cut_key(index: &mut BTreeSet<(Prefix, u64)>, prefix: Prefix, number: u64)
+    ensures { Updates key_cmp index.old index.new (prefix, number) false }
+{
+    let key = (prefix, number);
+    index.remove(&key);
+}
+
+/// The first key at or beyond this one.
+pub(crate) fn first_from(
+    index: &BTreeSet<(Prefix, u64)>,
+    prefix: Prefix,
+    number: u64,
+) -> Option<(Prefix, u64)>
+    ensures { IsFirstKey index.now (prefix, number) result }
+{
+    match index.range((prefix, number)..).next() {
+        None => None,
+        Some(key) => Some((key.0, key.1)),
+    }
+}
+
+/// Whether the prefix isn't before the other one.
+pub(crate) fn is_reached(other: &Option<Prefix>, prefix: Prefix) -> bool
+    ensures { result ≡ is_reached other.now prefix }
+{
+    match other {
+        None => false,
+        Some(other) => *other <= prefix,
+    }
+}
+
+// The keys of the prefixes beyond a place begin behind this.
+fn behind(after: &Place) -> Bound<(Prefix, u64)>
+    ensures { result ≡ behind (key_of after.now) }
+{
+    match after {
+        Place::Before => Bound::Unbounded,
+        Place::At(prefix) => Bound::Excluded((*prefix, u64::MAX)),
+    }
+}
+
+// The first key from a bound on at which the search stops.
+fn find_stop(
+    index: &BTreeSet<(Prefix, u64)>,
+    from: Bound<(Prefix, u64)>,
+    place: u64,
+    other: &Option<Prefix>,
+) -> Option<(Prefix, u64)>
+    ensures found { result ≡ find (stops place other.now) (keys_from from index.now) }
+    ensures ordered { IsOrdered key_cmp index.now }
+{
+    index
+        .range((from, Bound::Unbounded))
+        .find(|key| place <= key.1 || is_reached(other, key.0))
+        .copied()
+}
+
+/// The first key beyond a place whose number is from this one on, or whose prefix isn't before the other one.
+pub(crate) fn first_stop(
+    index: &BTreeSet<(Prefix, u64)>,
+    place: u64,
+    after: &Place,
+    other: &Option<Prefix>,
+) -> Option<(Prefix, u64)>
+    requires { (p : Network) (n : ℕ) → contains key_cmp index.now (p, n) ≡ true → n < 2 ^ 64 }
+    ensures { IsFirstStop index.now (stops place other.now) (key_of after.now) result }
+{
+    find_stop(index, behind(after), place, other)
+}

@@ -1,0 +1,20 @@
+//! Laws of queues, for the proofs of the crates above. Each is a function that does nothing, whose contract is the law. Those
+//! of one reader's changes are laws of changes in order, of `link_change`.
+
+ghost use Rattle.fanout_queue.specs.Laws.{PutKeepsLeading, TakeKeepsLeading, JoinKeepsLeading, DropKeepsLeading, PutKeepsReaders, TakeKeepsReaders, JoinKeepsReaders, DropKeepsOthers};
+
+/// What each reader hasn't taken goes on to lead from the rows that it has to the best ones, whatever is called.
+pub fn readers_keep_leading<R>()
+    ensures put { PutKeepsLeading R }
+    ensures take { TakeKeepsLeading R }
+    ensures join { JoinKeepsLeading R }
+    ensures drop { DropKeepsLeading R }
+{}
+
+/// A reader is live until it is dropped.
+pub fn readers_stay_live<R>()
+    ensures put { PutKeepsReaders R }
+    ensures take { TakeKeepsReaders R }
+    ensures join { JoinKeepsReaders R }
+    ensures drop { DropKeepsOthers R }
+{}

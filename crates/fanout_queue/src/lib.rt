@@ -1,0 +1,27 @@
+//! The queue from the best routes to those who read them (NSDI 2005, section 5.1.1): one list of changes, with a place for
+//! each reader.
+//!
+//! A reader has each change that was put since it joined, in that order, and takes them one by one, whenever it has time. A
+//! change is kept once, however many are to take it, and goes, with its memory, as soon as nobody is left who hasn't.
+//! Contracts see, of each live reader, the list of the changes that it hasn't taken.
+//!
+//! So a reader has the rows of the link above as they were before these changes: [`Queue::asked`] answers the row before the
+//! first of them at a prefix, and only where there is none asks above. What is kept true of them is a law,
+//! [`readers_keep_leading`]: where every reader's changes lead from its rows to the best ones, they still do when a change of
+//! the best rows is put, when one is taken, and when readers join and leave.
+//!
+//! To put and to take cost the same however much is kept, but for one step in the index of entries by prefix. It lets a
+//! lookup find the first change at a prefix, and a walk the next prefix that has one, without a scan of the list. The
+//! outgoing chains of the peers and the forwarding side are the readers.
+#![tactic(auto)]
+
+mod entries;
+mod index;
+mod laws;
+mod places;
+mod queue;
+mod reader;
+
+pub use laws::{readers_keep_leading, readers_stay_live};
+pub use queue::Queue;
+pub use reader::Reader;

@@ -1,0 +1,122 @@
+-- What is sent is read as it is.
+use Rattle.std.proofs.Common.{◌≡◌, ℕ, ◌+◌, ◌<◌, ◌≤◌, Bool, true, false, cond, nat_le, List, length, Option, Some, None, refl, sym, subst, arith}
+use Rattle.std.specs.Prelude.{MatchOption, IsSome}
+use Rattle.std.specs.Option.{ForSome}
+use Rattle.std.proofs.lemmas.Bool.Decides.{nat_tests}
+use Rattle.addr4.specs.Prefixes.{Network}
+use Rattle.bgp_attr.specs.declared.attrs.Attrs.{Attrs}
+use Rattle.bgp_attr.specs.declared.attrs.Origin.{Origin}
+use Rattle.bgp_attr.specs.declared.route.Route.{Route}
+use Rattle.bgp_attr.specs.declared.speaker.Profile.{Profile}
+use Rattle.bgp_attr.specs.declared.speaker.Speaker.{Speaker}
+use Rattle.bgp_wire.specs.declared.message.Update.{Update}
+use Rattle.bgp_wire.specs.declared.message.Message.TheVariants as messages
+use Rattle.bgp_wire.specs.Grammar.{Reads}
+use Rattle.bgp_wire.specs.Lengths.{announcement_length}
+use Rattle.bgp_wire.specs.Readable.{IsReadable, IsHost, IsNetwork, AreOctets}
+use Rattle.bgp_wire.specs.Spelling.{FitsAttrs}
+use Rattle.bgp_wire.proofs.MessageLaws.{one_message}
+use Rattle.bgp_wire.proofs.ReadableMessages.{read_is_readable}
+use Rattle.wire_laws.proofs.Prepended.{prepended_is_readable, readable_fits}
+use Rattle.wire_laws.proofs.SaidAgain.{internal_reads}
+use Rattle.wire_laws.proofs.SpelledMessages.{announcement_is_read, withdrawal_is_read}
+use Rattle.link_change.specs.declared.change.Change.{Change}
+use Rattle.peer_out.specs.Forms.{sent_form, AreSentAlike}
+use Rattle.peer_out.specs.Changes.{saying, message_octets, IsReadAs, MayBeHeard, IsSender, IsSentOf, HasNumbers, CanBeRead}
+use Rattle.peer_out.specs.Laws.{bare_attrs}
+
+-- routes that are sent alike have one form
+pub same_form : (me : Speaker) (external : Bool) (row other : Route) → AreSentAlike row other → sent_form me external row ≡ sent_form me external other
+same_form me external row other alike =
+    let attrs = alike.attrs in
+    let pref = alike.pref in
+    let med = alike.med in
+    let prepend = alike.prepend in
+    cc
+
+form_readable : (profile : Profile) (external : Bool) (me : Speaker) (row : Route) → IsSender profile me → MayBeHeard profile row.attrs → HasNumbers (sent_form me external row) → IsReadable profile external (sent_form me external row)
+form_readable profile true me row sender heard numbers = record {
+  path = prepended_is_readable profile.as4 (1 + row.prepend) me.asn row.attrs.path sender.asn heard.path;
+  next_hop = sender.addr;
+  med = numbers.med;
+  local_pref = λ n e. absurd (cc);
+  aggregator = heard.aggregator;
+  order = heard.order;
+  types = heard.types;
+}
+form_readable profile false me row sender heard numbers = record {
+  path = heard.path;
+  next_hop = heard.next_hop;
+  med = numbers.med;
+  local_pref = λ n e. (refl, numbers.local_pref n e);
+  aggregator = heard.aggregator;
+  order = heard.order;
+  types = heard.types;
+}
+
+-- what is sent is the form, and fits
+sent_by : (b : Bool) (n : ℕ) (form a : Attrs) → nat_le n 4096 ≡ b → cond b (Some form) None ≡ Some a → (form ≡ a) × (n ≤ 4096)
+sent_by true n form a test e = (cc, grind (arith, nat_tests))
+sent_by false n form a test e = absurd (cc)
+
+pub sent_is_readable : (profile : Profile) (external : Bool) (p : Network) (a : Attrs) → IsSentOf profile external p a → HasNumbers a → CanBeRead profile external p a
+sent_is_readable profile external p a is numbers =
+    let form = sent_form is.me external is.row in
+    let by = sent_by (nat_le (announcement_length profile.as4 p form) 4096) (announcement_length profile.as4 p form) form a refl is.sent in
+    let C : Attrs → Type 0 = CanBeRead profile external p in
+    subst C by.0 (record { readable = form_readable profile external is.me is.row is.sender is.heard (subst HasNumbers (sym by.0) numbers); short = by.1 })
+
+-- the octets of a change, by the row after it
+change_by : (profile : Profile) (external : Bool) (p : Network) (after : Option Attrs) → IsNetwork p → ForSome after (CanBeRead profile external p) → (before : Option Attrs)
+    → Reads profile external (message_octets profile.as4 (record { prefix = p; before = before; after = after })) (messages.Update (saying p after))
+change_by profile external p None network can before = withdrawal_is_read profile external p network
+change_by profile external p (Some a) network can before = let c = can a refl in announcement_is_read profile external p a network c.readable c.short
+
+pub reads_change : (profile : Profile) (external : Bool) (change : Change Attrs) → IsNetwork change.prefix → ForSome change.after (CanBeRead profile external change.prefix)
+    → IsReadAs profile external (message_octets profile.as4 change) (saying change.prefix change.after)
+reads_change profile external change network can =
+    let reads = change_by profile external change.prefix change.after network can change.before in
+    let octets = message_octets profile.as4 change in
+    record { reads = reads; only = λ m also. one_message profile external octets m (messages.Update (saying change.prefix change.after)) also reads }
+
+-- octets of a change, as the peer reads them
+pub said : (profile : Profile) (external : Bool) (change : Change Attrs) (octets : List ℕ) → IsNetwork change.prefix → ForSome change.after (CanBeRead profile external change.prefix) → octets ≡ message_octets profile.as4 change
+    → IsReadAs profile external octets (saying change.prefix change.after)
+said profile external change octets network can is =
+    subst (λ (bytes : List ℕ). IsReadAs profile external bytes (saying change.prefix change.after)) (sym is) (reads_change profile external change network can)
+
+-- they are no longer than a message
+pub no_longer : (profile : Profile) (external : Bool) (octets : List ℕ) (u : Update) → IsReadAs profile external octets u → length octets ≤ 4096
+no_longer profile external octets u is = is.reads.1.frame.top
+
+-- the row after a change can be read, by its numbers
+pub after_can : (profile : Profile) (external : Bool) (p : Network) (after : Option Attrs) (a : Attrs) → after ≡ Some a → HasNumbers a → ForSome after (IsSentOf profile external p) → ForSome after (CanBeRead profile external p)
+after_can profile external p after a at numbers sent b is =
+    let same : a ≡ b = cc in
+    sent_is_readable profile external p b (sent b is) (subst HasNumbers same numbers)
+
+-- without one there is nothing to be read
+pub none_can : (profile : Profile) (external : Bool) (p : Network) (after : Option Attrs) → after ≡ None → ForSome after (CanBeRead profile external p)
+none_can profile external p after at b is = absurd (cc)
+
+-- an announcement that fits is written
+pub is_there : {A : Type 0} (o : Option A) (n : ℕ) (P : A → Type 0) → MatchOption o (4096 < n) P → n ≤ 4096 → IsSome o
+is_there None n P long short = absurd (omega arith)
+is_there (Some x) n P fits short = refl
+
+pub sent_fits : (profile : Profile) (external : Bool) (p : Network) (a : Attrs) → CanBeRead profile external p a → FitsAttrs profile.as4 a
+sent_fits profile external p a can = readable_fits profile external a can.readable
+
+pub read_may_be_heard : (profile : Profile) (external : Bool) (bytes : List ℕ) (u : Update) (a : Attrs) → AreOctets bytes → Reads profile external bytes (messages.Update u) → u.attrs ≡ Some a → MayBeHeard profile a
+read_may_be_heard profile external bytes u a octets reads e = let r = read_is_readable profile external bytes u octets reads in internal_reads profile external a (r.attrs a e)
+
+pub bare_may_be_heard : (profile : Profile) (origin : Origin) (next_hop : ℕ) → IsHost next_hop → MayBeHeard profile (bare_attrs origin next_hop)
+bare_may_be_heard profile origin next_hop host = record {
+  path = λ k s lt. absurd (omega arith);
+  next_hop = host;
+  med = λ n e. absurd (cc);
+  local_pref = λ n e. absurd (cc);
+  aggregator = λ g e. absurd (cc);
+  order = tt;
+  types = λ k u lt. absurd (omega arith);
+}

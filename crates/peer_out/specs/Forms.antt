@@ -1,0 +1,36 @@
+-- The form in which a route is sent to a peer (RFC 4271, sections 5.1 and 9.1.3).
+use Rattle.std.specs.Prelude.{◌≡◌, ◌+◌, nat_le, Bool, if◌then◌else◌, Option, Some, None}
+use Rattle.addr4.specs.Prefixes.{Network}
+use Rattle.bgp_attr.specs.declared.attrs.Attrs.{Attrs}
+use Rattle.bgp_attr.specs.declared.route.Route.{Route}
+use Rattle.bgp_attr.specs.declared.speaker.Profile.{Profile}
+use Rattle.bgp_attr.specs.declared.speaker.Speaker.{Speaker}
+use Rattle.bgp_attr.specs.Paths.{times_in_front}
+use Rattle.bgp_wire.specs.Lengths.{announcement_length}
+
+-- An external peer gets the local AS in front of the path, once and as often more as the rules said, the local address as the next
+-- hop, and no LOCAL_PREF (section 5.1.5). An internal one gets path and next hop as they are, and the degree of preference as
+-- LOCAL_PREF. MULTI_EXIT_DISC is the one that counts here. All else is passed on.
+abbrev pub sent_form : Speaker → Bool → Route → Attrs
+sent_form me external row = record {
+  origin = row.attrs.origin;
+  path = if external then times_in_front (1 + row.prepend) me.asn row.attrs.path else row.attrs.path;
+  next_hop = if external then me.addr else row.attrs.next_hop;
+  med = row.med;
+  local_pref = if external then None else Some row.pref;
+  atomic = row.attrs.atomic;
+  aggregator = row.attrs.aggregator;
+  unrecognized = row.attrs.unrecognized;
+}
+
+-- What is sent at a prefix: nothing where the announcement would have more than the 4,096 octets of a message (section 4.1).
+abbrev pub as_sent : Profile → Speaker → Bool → Network → Route → Option Attrs
+as_sent profile me external p row =
+    if nat_le (announcement_length profile.as4 p (sent_form me external row)) 4096 then Some (sent_form me external row) else None
+
+-- routes that are sent alike, whoever they are from
+pub record AreSentAlike (row other : Route) : Type 0 where
+  pub attrs : row.attrs ≡ other.attrs
+  pub pref : row.pref ≡ other.pref
+  pub med : row.med ≡ other.med
+  pub prepend : row.prepend ≡ other.prepend

@@ -1,0 +1,4 @@
+pub mod Forms
+pub mod Remembered
+pub mod Changes
+pub mod Laws

@@ -1,0 +1,89 @@
+//! What one peer is sent.
+
+ghost use Rattle.std.specs.Prelude.{◌≡◌, ◌≤◌, IfOk, length};
+ghost use Rattle.std.specs.Option.{ForSome};
+ghost use Rattle.peer_out.specs.Forms.{as_sent};
+ghost use Rattle.peer_out.specs.Changes.{IsSentOf, IsReadAs, saying, message_octets};
+
+use crate::form::Formed;
+use crate::octets::message;
+use addr4::{Memory, Prefix};
+use bgp_attr::{Profile, Route, SharedAttrs, Speaker};
+use link_change::Change;
+use std::alloc::Global;
+use std::marker::Model;
+
+/// What one peer is sent. Contracts see who sends, and whether the peer is external; what is remembered they don't see.
+#[derive(Drop)]
+pub struct PeerOut {
+    alloc: Global,
+    profile: Profile,
+    me: Speaker,
+    external: bool,
+    /// The last route that was sent, in its form.
+    last: Option<Formed>,
+}
+
+impl Model for PeerOut {
+    ghost use Rattle.peer_out.specs.Remembered.{Exit, Remembers};
+
+    ghost Value = { Exit };
+
+    ghost view = { λ p. record { profile = p.profile; me = p.me; external = p.external } };
+
+    ghost invariant = { λ p. Remembers (record { profile = p.profile; me = p.me; external = p.external }) p.last };
+}
+
+impl PeerOut {
+    /// Takes no memory; what is sent later comes from `alloc`.
+    pub fn new(alloc: Global, profile: Profile, me: Speaker, external: bool) -> PeerOut
+        ensures { result ≡ record { profile = profile; me = me; external = external } }
+    {
+        PeerOut {
+            alloc,
+            profile,
+            me,
+            external,
+            last: None,
+        }
+    }
+
+    /// What the peer is sent of a route at a prefix ([`crate::as_sent`]), and remembers its form: a route with equal attributes
+    /// and the same preference, metric and prepending that comes next shares the value. Memory only for want of memory.
+    pub fn sent(&mut self, prefix: Prefix, row: &Route) -> Result<Option<SharedAttrs>, Memory>
+        ensures sent { IfOk result (λ sent. sent ≡ as_sent self.old.profile self.old.me self.old.external prefix row.now) }
+        ensures same { self.new ≡ self.old }
+    {
+        if let Some(last) = &self.last
+            && last.is_alike(row)
+        {
+            return last.at(prefix);
+        }
+        let formed = Formed::new(self.alloc, self.profile, &self.me, self.external, row)?;
+        let sent = formed.at(prefix)?;
+        self.last = Some(formed);
+        Ok(sent)
+    }
+
+    /// The same without remembering more.
+    pub fn asked(&self, prefix: Prefix, row: &Route) -> Result<Option<SharedAttrs>, Memory>
+        ensures { IfOk result (λ sent. sent ≡ as_sent self.now.profile self.now.me self.now.external prefix row.now) }
+    {
+        if let Some(last) = &self.last
+            && last.is_alike(row)
+        {
+            return last.at(prefix);
+        }
+        Formed::new(self.alloc, self.profile, &self.me, self.external, row)?.at(prefix)
+    }
+
+    /// The octets that say a change to the peer ([`crate::message`]).
+    pub fn message(&self, change: &Change<SharedAttrs>) -> Result<Vec<u8>, Memory>
+        requires { ForSome change.now.after (IsSentOf self.now.profile self.now.external change.now.prefix) }
+        ensures octets { IfOk result (λ octets. octets.items ≡ message_octets self.now.profile.as4 change.now) }
+        ensures short { IfOk result (λ octets. length octets.items ≤ 4096) }
+        ensures reads { IfOk result (λ octets. IsReadAs self.now.profile self.now.external octets.items (saying change.now.prefix change.now.after)) }
+    {
+        message(self.alloc, self.profile, change, self.external)
+    }
+}

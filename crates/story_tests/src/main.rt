@@ -1,0 +1,126 @@
+//! Runs the program on stories: files in the folder that the first word names, each with the output that it must have.
+//!
+//! `NAME.events` is an event file, for `replay run`; `NAME.journal` is a journal, for `replay check`. `NAME.out` is what must
+//! be written, and the status is told by its last line. The outputs come from a program of another hand, never from this one.
+//! An event file is read in one piece, and again byte by byte; with `--quiet` it must give the same lines without those
+//! of the journal; and its whole output, judged by `check`, must be lawful.
+//!
+//! It prints the name of each file whose answers are right. Of another it says which line differs first, on standard error,
+//! and ends with status 1. The examples in the documents are some of these files.
+#![tactic(auto)]
+
+mod answer;
+mod lines;
+
+use crate::answer::{Pace, answer_to};
+use crate::lines::{first_difference, without_journal};
+use anyhow::{Context, bail};
+use std::alloc::Global;
+use std::{env, fs};
+
+/// What is wrong with the answer to a text, if anything: its first line that differs, or its status.
+fn fault_of(
+    alloc: Global,
+    words: &[&str],
+    pace: Pace,
+    text: &str,
+    wanted: &str,
+) -> anyhow::Result<Option<String>> {
+    let answer = answer_to(alloc, words, pace, text)?;
+    let difference = match first_difference(alloc, wanted, answer.output.as_str())? {
+        Some(difference) => difference,
+        None if answer.has_status_of(wanted) => return Ok(None),
+        None => format!(in alloc; "the status is {:?}", answer.status)?,
+    };
+    let command = words.last().copied().unwrap_or("");
+    Ok(Some(format!(in alloc; "{command}, {pace:?}: {difference}")?))
+}
+
+/// What is wrong with the answers to an event file, if anything.
+fn fault_of_run(alloc: Global, events: &str, wanted: &str) -> anyhow::Result<Option<String>> {
+    let run = ["replay", "run"];
+    for pace in [Pace::Whole, Pace::Bytes] {
+        if let Some(fault) = fault_of(alloc, run.as_slice(), pace, events, wanted)? {
+            return Ok(Some(fault));
+        }
+    }
+    let quiet = ["replay", "run", "--quiet"];
+    let rest = without_journal(alloc, wanted)?;
+    if let Some(fault) = fault_of(alloc, quiet.as_slice(), Pace::Whole, events, rest.as_str())? {
+        return Ok(Some(fault));
+    }
+    fault_of_check(alloc, wanted, "lawful\n")
+}
+
+/// What is wrong with the verdict on a journal, if anything.
+fn fault_of_check(alloc: Global, journal: &str, wanted: &str) -> anyhow::Result<Option<String>> {
+    let check = ["replay", "check"];
+    fault_of(alloc, check.as_slice(), Pace::Bytes, journal, wanted)
+}
+
+/// What is done with the text of a story.
+#[derive(Clone, Copy)]
+enum Kind {
+    Run,
+    Check,
+}
+
+/// The name of a story and its kind, by the name of its file; None of another file.
+fn story_of(file: &str) -> Option<(&str, Kind)> {
+    if let Some(name) = file.strip_suffix(".events") {
+        return Some((name, Kind::Run));
+    }
+    let name = file.strip_suffix(".journal")?;
+    Some((name, Kind::Check))
+}
+
+/// What is wrong with a story, if anything.
+fn fault_of_story(
+    rt: &HostRuntime,
+    folder: &str,
+    file: &str,
+    story: (&str, Kind),
+) -> anyhow::Result<Option<String>> {
+    let alloc = rt.alloc();
+    let (name, kind) = story;
+    let path = format!(in alloc; "{folder}/{name}.out")?;
+    let wanted = fs::read_to_string(rt, path.as_str()).context("no output")?;
+    let path = format!(in alloc; "{folder}/{file}")?;
+    let text = fs::read_to_string(rt, path.as_str())?;
+    match kind {
+        Kind::Run => fault_of_run(alloc, text.as_str(), wanted.as_str()),
+        Kind::Check => fault_of_check(alloc, text.as_str(), wanted.as_str()),
+    }
+}
+
+/// The names of the files in a folder, in order.
+fn files(rt: &HostRuntime, folder: &str) -> anyhow::Result<Vec<String>> {
+    let alloc = rt.alloc();
+    let mut names = Vec::new(alloc);
+    for entry in fs::read_dir(rt, folder)? {
+        names.push(String::from_str(alloc, entry?.file_name())?)?;
+    }
+    names.sort()?;
+    Ok(names)
+}
+
+fn main(rt: HostRuntime) -> anyhow::Result<()> {
+    let folder = env::args(&rt)?.nth(1).context("no folder")?;
+    let mut wrong = 0u64;
+    for file in &files(&rt, folder.as_str())? {
+        let Some(story) = story_of(file.as_str()) else {
+            continue;
+        };
+        match fault_of_story(&rt, folder.as_str(), file.as_str(), story)? {
+            None => println!(rt; "{file}")?,
+            Some(fault) => {
+                eprintln!(rt; "{file}: {fault}")?;
+                wrong = wrong.wrapping_add(1);
+            }
+        }
+    }
+    if wrong > 0 {
+        bail!("stories with other answers than they must have: {wrong}");
+    }
+    Ok(())
+}

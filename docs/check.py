@@ -1,0 +1,74 @@
+#!/usr/bin/env python3
+"""Compares the examples in README.md and docs/ with the files that they show: docs/check.py
+
+A fence ```text examples/NAME.EXT shows lines of that file in their order; a line `..` stands for any number of lines that
+are left out. Each file of examples/ is a story, which the gate runs (crates/story_tests). So no output stands in a document
+that the program didn't print.
+
+Also refused: lines of output in a block that names no file, lines of more than 100 columns, and the word "today", which the
+next change makes false. Each complaint is printed; the status is 1 where there is one.
+"""
+import glob
+import os
+import re
+import sys
+
+TOP = os.path.join(os.path.dirname(os.path.abspath(__file__)), '..')
+WIDTH = 100
+OUTPUT = re.compile(r'([bi+=?we-]|rows?) (in|peer|filt|res|org|low|dyn|int|red|best|read|ebgp|ibgp|ext|fib|outf|adv)\b')
+
+
+def shows(lines, whole):
+    """Whether lines are those of a file, in order, but for what `..` leaves out."""
+    at, free = 0, False
+    for line in lines:
+        if line == '..':
+            free = True
+            continue
+        found = whole.index(line, at) if line in whole[at:] else None
+        if found is None or found != at and not free:
+            return line
+        at, free = found + 1, False
+    return None if free or at == len(whole) else '(the lines behind)'
+
+
+def faults(path):
+    """What is wrong with a document: pairs of line number and complaint."""
+    with open(path, encoding='utf-8') as file:
+        text = file.read().split('\n')
+    fence = None
+    for number, line in enumerate(text, 1):
+        if len(line) > WIDTH:
+            yield number, '%d columns' % len(line)
+        if re.search(r'\btoday\b', line, re.I):
+            yield number, 'what is true today'
+        if line.startswith('```'):
+            if fence is None:
+                fence = number
+                continue
+            words = text[fence - 1][3:].split()
+            block = text[fence:number - 1]
+            if len(words) == 2:
+                with open(os.path.join(TOP, words[1]), encoding='utf-8') as file:
+                    whole = file.read().split('\n')
+                missed = shows(block, whole[:-1] if whole[-1] == '' else whole)
+                if missed is not None:
+                    yield fence, 'not as in %s: %s' % (words[1], missed)
+            else:
+                yield from ((fence + 1 + n, 'output of no file') for n, told in enumerate(block) if OUTPUT.match(told))
+            fence = None
+        elif fence is None and line.startswith('    ') and OUTPUT.match(line.strip()):
+            yield number, 'output of no file'
+
+
+def main():
+    found = 0
+    for path in [os.path.join(TOP, 'README.md')] + sorted(glob.glob(os.path.join(TOP, 'docs', '*.md'))):
+        for number, fault in faults(path):
+            print('%s:%d: %s' % (os.path.relpath(path, TOP), number, fault))
+            found += 1
+    sys.exit(1 if found else 0)
+
+
+if __name__ == '__main__':
+    main()
