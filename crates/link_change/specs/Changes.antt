@@ -1,7 +1,8 @@
 -- When a change is lawful, and what it makes of a link's map (NSDI 2005, section 5.1).
-use Rattle.std.specs.Prelude.{◌≡◌, ◌≢◌, Option, Some, None}
-use Rattle.addr4.specs.Prefixes.{Network}
-use Rattle.link_change.specs.Rows.{Rows, with_row}
+use Rattle.std.specs.Prelude.{◌≡◌, ◌≢◌, Option, Some, None, refl}
+use Rattle.std.specs.Coded.{Coded, code_by, coded×, coded_option}
+use Rattle.addr4.specs.Prefixes.{Network, network_code}
+use Rattle.link_change.specs.Rows.{Rows, with_row, computed_rows}
 use Rattle.link_change.specs.declared.change.Change.{Change}
 
 -- the row before is the one that stands there, and the row after differs
