@@ -10,6 +10,8 @@ mod attributes;
 #[cfg(test)]
 mod changes;
 #[cfg(test)]
+mod decisions;
+#[cfg(test)]
 mod exits;
 #[cfg(test)]
 mod hops;
