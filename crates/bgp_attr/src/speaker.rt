@@ -32,6 +32,7 @@ pub struct Neighbour {
 pub struct Profile {
     /// AS numbers have four octets (RFC 6793) in place of two.
     pub as4: bool,
-    /// Errors in attributes are handled by RFC 7606 in place of RFC 4271, section 6.3.
+    /// Errors in attributes are handled by a table in the manner of RFC 7606, in place of RFC 4271, section 6.3. It differs in
+    /// substance: a faulty UPDATE that announces nothing withdraws nothing more, where RFC 7606, section 5.2, resets the session.
     pub revised: bool,
 }

@@ -1,16 +1,16 @@
 -- The best rows, and what a branch's change makes of them.
-use Rattle.std.proofs.Common.{◌≡◌, ℕ, zero, suc, ◌+◌, ◌≤◌, ◌<◌, Bool, true, false, cond, ◌||◌, if◌then◌else◌, [], ◌∷◌, Option, Some, None, refl, sym, ◌∙◌, ap, subst, arith, ◌-◌}
+use Rattle.std.proofs.Common.{◌≡◌, ℕ, zero, suc, ◌+◌, ◌≤◌, ◌<◌, Bool, true, false, ◌||◌, if◌then◌else◌, [], ◌∷◌, Option, refl, sym, ◌∙◌, ap, subst, arith, ◌-◌}
 use Rattle.std.specs.List.{range_with_len, list_any}
 use Rattle.std.proofs.lemmas.List.Folds.{list_any-append}
 use Rattle.addr4.specs.Prefixes.{Network}
-use Rattle.addr4.proofs.PrefixOrder.{by_prefix}
-use Rattle.link_change.specs.Rows.{Rows, with_row, Candidates, IsNextCandidate, IsNextOfBoth, CoversRows, together}
-use Rattle.link_change.specs.Changes.{IsSent}
+use Rattle.link_change.specs.Rows.{Rows, computed_rows, Candidates, IsNextCandidate, IsNextOfBoth, CoversRows, together}
+use Rattle.link_change.specs.Changes.{IsSent, IsChangeOf}
 use Rattle.link_change.specs.declared.change.Change.{Change}
-use Rattle.link_change.proofs.RowLemmas.{same_function, with_row_here, with_row_same, not_first, not_second}
+use Rattle.link_change.proofs.RowLemmas.{same_function, not_first, not_second}
+use Rattle.link_change.proofs.ChangeLemmas.{computes_on}
 use Rattle.bgp_attr.specs.declared.route.Route.{Route}
 use Rattle.best_path.specs.Steps.{pick}
-use Rattle.decision.specs.Branches.{AllRows, best_rows, best_candidates, candidates_below, NoneFrom, OthersStay}
+use Rattle.decision.specs.Branches.{AllRows, best_rows, best_candidates, candidates_below, NoneFrom, OthersStay, Decides}
 use Rattle.decision.specs.Lineups.{at_prefix, routes_of, with_own}
 use Rattle.decision.proofs.LineupLemmas.{by_number, numbers_more, routes_up_to, routes_none}
 
@@ -18,56 +18,29 @@ pub best_is : (rows : AllRows) (p : Network) → best_rows rows p ≡ pick (rout
 unfolding best_rows
 best_is rows p = refl
 
-module _ (branch : ℕ) (now before : AllRows) (change : Change Route) (p : Network) (stay : OthersStay branch before now)
-    (sent : IsSent (before branch) (now branch) p (Some change)) where
-  -- the rows at the prefix before the change, and after it
-  here_before : at_prefix before change.prefix ≡ with_own branch change.before (at_prefix now change.prefix)
-  here_before = same_function _ _ (λ b.
-      by_number b branch (λ t. before b change.prefix ≡ (if t then change.before else now b change.prefix))
-      (λ same. ap (λ n. before n change.prefix) same ∙ sent.1.0)
-      (λ differ. ap (λ (r : Rows Route). r change.prefix) (stay b differ)))
+-- the best at a prefix where one branch has this row, and the others have theirs
+abbrev pub best_beside : ℕ → AllRows → Network → Option Route → Option Route
+best_beside branch now q row = pick (routes_of 65 (with_own branch row (at_prefix now q)))
 
-  here_now : at_prefix now change.prefix ≡ with_own branch change.after (at_prefix now change.prefix)
-  here_now = same_function _ _ (λ b.
-      by_number b branch (λ t. now b change.prefix ≡ (if t then change.after else now b change.prefix))
-      (λ same. ap (λ n. now n change.prefix) same ∙ ap (λ (r : Rows Route). r change.prefix) sent.2
-      ∙ with_row_here (before branch) change.prefix change.after)
-      (λ differ. refl))
+-- the best rows are computed from those of one branch
+best_by_branch : (branch : ℕ) (now rows : AllRows) → OthersStay branch rows now → best_rows rows ≡ computed_rows (best_beside branch now) (rows branch)
+best_by_branch branch now rows stay = same_function _ _ (λ q.
+    best_is rows q
+    ∙ ap (λ h. pick (routes_of 65 h))
+    (same_function (at_prefix rows q) (with_own branch (rows branch q) (at_prefix now q)) (λ b.
+    by_number b branch (λ t. rows b q ≡ (if t then rows branch q else now b q))
+    (λ same. ap (λ n. rows n q) same)
+    (λ differ. ap (λ (r : Rows Route). r q) (stay b differ)))))
 
-  pub best_before : best_rows before change.prefix ≡ pick (routes_of 65 (with_own branch change.before (at_prefix now change.prefix)))
-  best_before = best_is before change.prefix ∙ ap (λ h. pick (routes_of 65 h)) here_before
-
-  pub best_now : best_rows now change.prefix ≡ pick (routes_of 65 (with_own branch change.after (at_prefix now change.prefix)))
-  best_now = best_is now change.prefix ∙ ap (λ h. pick (routes_of 65 h)) here_now
-
-  -- elsewhere no row changes
-  here_elsewhere : (q : Network) → with_row (before branch) change.prefix change.after q ≡ before branch q → at_prefix now q ≡ at_prefix before q
-  here_elsewhere q same = same_function _ _ (λ b.
-      by_number b branch (λ t. now b q ≡ before b q)
-      (λ is. ap (λ n. now n q) is ∙ ap (λ (r : Rows Route). r q) sent.2 ∙ same ∙ ap (λ n. before n q) (sym is))
-      (λ differ. sym (ap (λ (r : Rows Route). r q) (stay b differ))))
-
-  elsewhere : (q : Network) → with_row (before branch) change.prefix change.after q ≡ before branch q → best_rows now q ≡ best_rows before q
-  elsewhere q same = best_is now q ∙ ap (λ h. pick (routes_of 65 h)) (here_elsewhere q same) ∙ sym (best_is before q)
-
-  best_with : (row : Option Route) → best_rows now change.prefix ≡ row → best_rows now ≡ with_row (best_rows before) change.prefix row
-  best_with row is = same_function _ _ (λ q.
-      by_prefix q change.prefix
-      (λ t. with_row (before branch) change.prefix change.after q ≡ cond t change.after (before branch q) → best_rows now q ≡ cond t row (best_rows before q))
-      (λ e. λ _. ap (best_rows now) e ∙ is)
-      (λ _. λ same. elsewhere q same)
-      refl)
-
-  pub stays : (old new : Option Route) → old ≡ pick (routes_of 65 (with_own branch change.before (at_prefix now change.prefix)))
-      → new ≡ pick (routes_of 65 (with_own branch change.after (at_prefix now change.prefix))) → new ≡ old
-      → IsSent (best_rows before) (best_rows now) p None
-  stays old new was is same =
-      best_with new (best_now ∙ sym is) ∙ with_row_same (best_rows before) change.prefix new (best_before ∙ sym was ∙ sym same)
-
-  pub changes : (old new : Option Route) → old ≡ pick (routes_of 65 (with_own branch change.before (at_prefix now change.prefix)))
-      → new ≡ pick (routes_of 65 (with_own branch change.after (at_prefix now change.prefix))) → (new ≡ old → ⊥)
-      → IsSent (best_rows before) (best_rows now) p (Some (record { prefix = change.prefix; before = old; after = new }))
-  changes old new was is differ = (sent.0, (best_before ∙ sym was, differ), best_with new (best_now ∙ sym is))
+pub decides : (branch : ℕ) (now : AllRows) (change : Change Route) (before after : Option Route) (result : Option (Change Route))
+    → before ≡ best_beside branch now change.prefix change.before → after ≡ best_beside branch now change.prefix change.after
+    → IsChangeOf change.prefix before after result → Decides branch now change result
+decides branch now change before after result b a is rows p stay sent =
+    let old = best_by_branch branch now rows stay in
+    let new = best_by_branch branch now now (λ b differ. refl) in
+    subst (λ r. IsSent (best_rows rows) r p result) (sym new)
+    (subst (λ r. IsSent r (computed_rows (best_beside branch now) (now branch)) p result) (sym old)
+    (computes_on (best_beside branch now) change before after result b a is (rows branch) (now branch) p sent))
 
 -- ---- candidates of walks
 or_none : (a : Bool) → (a || false) ≡ a

@@ -119,7 +119,7 @@ chosen_at here (b ∷ bs) (r ∷ rs) (suc place) is h =
     let f : map here bs ≡ map Some rs = cc in chosen_at here bs rs place f (omega (arith, h))
 
 -- the element that `get` lends
-pub copied_item : (xs : List ℕ) (i : ℕ) (lent : Option (Bor ℕ)) → IsItemAt xs i lent → option_copied lent ≡ slice_get xs i
+pub copied_item : {X : Type 0} → (xs : List X) (i : ℕ) (lent : Option (Bor X)) → IsItemAt xs i lent → option_copied lent ≡ slice_get xs i
 copied_item xs i None h = sym (slice_get_past xs i h.3)
 copied_item xs i (Some x) h = ap Some h.1 ∙ sym (slice_get-get_or xs i x.now h.3.0)
 

@@ -1,6 +1,6 @@
 //! The decision over all branches.
 
-ghost use Rattle.std.specs.Prelude.{◌≡◌, ◌<◌, ◌≤◌, ◌↔◌, ℕ, length, IsTrue, IfOk};
+ghost use Rattle.std.specs.Prelude.{◌≡◌, ◌<◌, IfOk};
 ghost use Rattle.addr4.specs.Places.{key_of};
 ghost use Rattle.link_change.specs.Rows.{IsNextCandidate, CoversRows};
 ghost use Rattle.decision.specs.Branches.{best_rows, best_candidates, Decides};
@@ -8,7 +8,7 @@ ghost use Rattle.decision.specs.Lineups.{LinesUp, at_prefix, with_own, chosen};
 
 use crate::branches::Branches;
 use crate::lineup::{Lineup, candidate};
-use addr4::{Memory, Place, Prefix, Row};
+use addr4::{Memory, Place, Prefix};
 use bgp_attr::Route;
 use link_change::{Change, nearer};
 use std::alloc::Global;
@@ -65,16 +65,6 @@ fn row_of<B: Branches>(
     all.asked(number, prefix)
 }
 
-fn same_rows(a: &Option<Route>, b: &Option<Route>) -> bool
-    ensures { IsTrue result ↔ (a.now ≡ b.now) }
-{
-    match (a, b) {
-        (None, None) => true,
-        (Some(x), Some(y)) => x.same(y),
-        _ => false,
-    }
-}
-
 /// A change of one branch's rows, as it goes on below: the change of the best route at its prefix. The branches are lent as
 /// they are after the change; each other one is asked once for its row there, and the one whose row is sent again. None comes
 /// exactly where the best route stays the same, Memory only for want of memory.
@@ -95,14 +85,7 @@ pub fn take_in<B: Branches>(
     }
     let before = row_of(former, branch, change.before, &change.prefix, all)?;
     let after = row_of(latter, branch, change.after, &change.prefix, all)?;
-    if same_rows(&after, &before) {
-        return Ok(None);
-    }
-    Ok(Some(Change {
-        prefix: change.prefix,
-        before,
-        after,
-    }))
+    Ok(Change::between(change.prefix, before, after))
 }
 
 /// The best route at a prefix; none where no branch has one.

@@ -4,10 +4,10 @@ use Rattle.std.specs.Ordering.{eq_by_cmp}
 use Rattle.std.specs.FinMap as map
 use Rattle.std.specs.FinMap.{FinMap}
 use Rattle.addr4.specs.Prefixes.{Network, prefix_cmp}
-use Rattle.link_change.specs.Rows.{Rows, no_rows, with_row, Candidates, CoversRows, with_rows, together}
+use Rattle.link_change.specs.Rows.{Rows, no_rows, with_row}
 use Rattle.link_change.specs.Changes.{IsSent, IsChangeOf}
 use Rattle.link_change.specs.declared.change.Change.{Change}
-use Rattle.link_change.proofs.RowLemmas.{same_function, with_row_same, rows_removed, empty_rows, rows_covered, not_first, not_second}
+use Rattle.link_change.proofs.RowLemmas.{same_function, with_row_same, rows_removed, empty_rows}
 use Rattle.link_change.proofs.ChangeLemmas.{change_sent}
 use Rattle.deletion_stage.specs.Covering.{row_over, covered, AreApart}
 
@@ -84,8 +84,3 @@ module _ {R : Type 0} where
   -- an empty table covers nothing
   pub nothing_covers : (t : FinMap prefix_cmp R) (upper : Rows R) → t ≡ map.empty → covered (map.get t) upper ≡ upper
   nothing_covers t upper e = ap (λ (r : Rows R). covered r upper) (ap map.get e ∙ empty_rows)
-
-  -- every row below stands at a row of the table or a candidate above
-  pub covers_both : (table upper : Rows R) (above : Candidates) → CoversRows above upper → CoversRows (together (with_rows table) above) (covered table upper)
-  covers_both table upper above covers q none =
-      ap (λ o. row_over o (upper q)) (rows_covered table q (not_first (is_some (table q)) (above q) none)) ∙ covers q (not_second (is_some (table q)) (above q) none)

@@ -1,4 +1,4 @@
--- The rows of the link below a deletion stage, and what the stage makes of changes.
+-- The rows of the link below a deletion stage, and what the stage makes of changes (NSDI 2005, section 5.1.2).
 use Rattle.std.specs.Prelude.{◌≡◌, Option, Some, None, IsSome}
 use Rattle.std.specs.FinMap as map
 use Rattle.std.specs.FinMap.{FinMap}

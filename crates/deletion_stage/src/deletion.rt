@@ -1,14 +1,14 @@
 //! Deletion stages.
 
-ghost use Rattle.std.specs.Prelude.{◌≡◌, ◌==◌, ◌↔◌, IsTrue, IfOk, IfSome, IfNone, Some, None};
+ghost use Rattle.std.specs.Prelude.{◌≡◌, ◌↔◌, IsTrue, IfSome, IfNone, Some, None};
 ghost use Rattle.std.specs.Option.{option_copied};
 ghost use Rattle.std.specs.FinMap as map;
 ghost use Rattle.addr4.specs.Places.{key_of};
-ghost use Rattle.link_change.specs.Rows.{IsNextCandidate, CoversRows, with_rows, together, is_empty_map};
-ghost use Rattle.deletion_stage.specs.Covering.{covered, PassesOn, StaysApart, DeletesOn, IsLeastRow};
+ghost use Rattle.link_change.specs.Rows.{IsNextCandidate, with_rows, is_empty_map};
+ghost use Rattle.deletion_stage.specs.Covering.{PassesOn, StaysApart, DeletesOn, IsLeastRow};
 
-use addr4::{Memory, Place, Prefix, Row};
-use link_change::{Change, Upstream, nearer};
+use addr4::{Place, Prefix, Row};
+use link_change::Change;
 use safe_table::Table;
 use std::marker::Model;
 
@@ -111,31 +111,5 @@ impl<R: Row> Deletion<R> {
         ensures test { result ≡ is_empty_map self.now.rows }
     {
         self.table.len() == 0
-    }
-
-    /// The row on the link below: the table's, or else the one above.
-    pub fn asked<U: Upstream<Row = R>>(
-        &self,
-        upper: &U,
-        prefix: Prefix,
-    ) -> Result<Option<R>, Memory>
-        ensures { IfOk result (λ row. row ≡ covered (map.get self.now.rows) (U.rows upper.now) prefix) }
-    {
-        match self.table.get(prefix) {
-            Some(held) => Ok(Some(held.copy()?)),
-            None => upper.asked(&prefix),
-        }
-    }
-
-    /// The least candidate of the link below beyond a place: a row of the table, or a candidate above. Every row below
-    /// stands at one.
-    pub fn next_candidate<U: Upstream<Row = R>>(&self, upper: &U, after: Place) -> Option<Prefix>
-        ensures next { let rows = map.get self.now.rows in
-            IsNextCandidate (together (with_rows rows) (U.candidates upper.now)) (key_of after) result }
-        ensures covers { let rows = map.get self.now.rows in
-            CoversRows (together (with_rows rows) (U.candidates upper.now)) (covered rows (U.rows upper.now)) }
-    {
-        let above = upper.next_candidate(&after);
-        nearer(self.next_held(after), above)
     }
 }

@@ -1,2 +1,3 @@
 pub mod ChangeLemmas
 pub mod LawLemmas
+pub mod OutLemmas

@@ -1,3 +1,5 @@
 pub mod Filtered
 pub mod Walks
 pub mod Laws
+pub mod Outgoing
+pub mod OutLaws

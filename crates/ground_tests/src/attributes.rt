@@ -1,5 +1,6 @@
 //! Calls that take memory, and paths as RFC 4271 counts and changes them.
 
+use crate::prefixes::prefix;
 use addr4::{Addr, Memory, Row};
 use bgp_attr::*;
 use std::alloc::Global;
@@ -97,5 +98,19 @@ fn a_copy_is_the_same(rt: HostRuntime) -> Result<(), Fail> {
         route.copy()?.attrs.attrs().unrecognized.as_slice().len(),
         1
     );
+    Ok(())
+}
+
+#[test]
+fn addresses_and_prefixes_of_hosts(rt: HostRuntime) -> Result<(), Fail> {
+    assert!(rt; is_host(Addr::new(0x0100_0000)));
+    assert!(rt; is_host(Addr::new(0xdfff_ffff)));
+    assert!(rt; !is_host(Addr::new(0x00ff_ffff)));
+    assert!(rt; !is_host(Addr::new(0x7f00_0001)));
+    assert!(rt; !is_host(Addr::new(0xe000_0000)));
+    assert!(rt; is_host_prefix(prefix("0.0.0.0/0")?));
+    assert!(rt; is_host_prefix(prefix("223.255.0.0/16")?));
+    assert!(rt; !is_host_prefix(prefix("224.0.0.0/3")?));
+    assert!(rt; !is_host_prefix(prefix("240.0.0.0/8")?));
     Ok(())
 }

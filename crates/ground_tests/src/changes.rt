@@ -1,8 +1,9 @@
 //! What a map holds after changes, and which of two candidates is the nearer.
 
 use crate::prefixes::prefix;
-use addr4::Prefix;
-use link_change::{Change, Turn, apply, nearer};
+use addr4::{Addr, Prefix};
+use link_change::{Change, Turn, apply, copy_row, nearer};
+use rib_route::External;
 use std::collections::BTreeMap;
 use std::test::Fail;
 
@@ -34,6 +35,26 @@ fn changes_add_replace_and_delete(rt: HostRuntime) -> Result<(), Fail> {
     apply(&mut map, delete)?;
     assert_eq!(rt; map.get(&p).copied(), None);
     assert_eq!(rt; map.get(&other).copied(), Some(7));
+    Ok(())
+}
+
+#[test]
+fn rows_that_differ_have_a_change_between_them(rt: HostRuntime) -> Result<(), Fail> {
+    let p = prefix("10.1.0.0/16")?;
+    let one = External {
+        internal: true,
+        next_hop: Addr::new(1),
+    };
+    let other = External {
+        internal: true,
+        next_hop: Addr::new(2),
+    };
+    assert!(rt; Change::between(p, Some(one), Some(one)).is_none());
+    let change = Change::between(p, Some(one), Some(other)).ok_or("no change")?;
+    let copy = change.copy().ok().ok_or("memory")?;
+    assert_eq!(rt; copy.prefix, p);
+    assert_eq!(rt; copy.before, Some(one));
+    assert_eq!(rt; copy_row(&copy.after).ok().ok_or("memory")?, Some(other));
     Ok(())
 }
 

@@ -1,5 +1,5 @@
-//! Stories of the ground crates: addresses, attributes, rows, streams, tables, interests, next hops, queues, walks, chains and exits,
-//! each public call on its happy path.
+//! Stories of the ground crates: addresses, attributes, rows, streams, tables, interests, next hops, queues and walks, each
+//! public call on its happy path.
 //!
 //! The crates that these tests are of have none of their own: a crate with tests is proved once more with them.
 #![tactic(auto)]
@@ -9,11 +9,7 @@ mod addresses;
 #[cfg(test)]
 mod attributes;
 #[cfg(test)]
-mod chains;
-#[cfg(test)]
 mod changes;
-#[cfg(test)]
-mod exits;
 #[cfg(test)]
 mod hops;
 #[cfg(test)]

@@ -13,6 +13,7 @@ fn an_edit_reaches_the_prefixes_in_their_order(rt: HostRuntime) -> Result<(), Fa
     assert!(rt; !filter.busy());
     filter.edit(2);
     assert!(rt; filter.busy());
+    assert!(rt; !filter.waits());
     assert_eq!(rt; filter.place(), Place::Before);
     assert_eq!(rt; *filter.at(first), 1);
     filter.step_to(first);
@@ -21,6 +22,8 @@ fn an_edit_reaches_the_prefixes_in_their_order(rt: HostRuntime) -> Result<(), Fa
     assert_eq!(rt; *filter.at(second), 1);
     filter.edit(3);
     filter.edit(4);
+    assert!(rt; filter.waits());
+    assert_eq!(rt; *filter.coming(), 2);
     assert_eq!(rt; *filter.present(), 4);
     assert_eq!(rt; *filter.at(first), 2);
     filter.finish();

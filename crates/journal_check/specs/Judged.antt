@@ -1,4 +1,4 @@
--- When a journal is lawful, and where it is broken.
+-- When a journal is lawful, and where it is broken (NSDI 2005, section 5.1).
 use Rattle.std.specs.Prelude.{◌≡◌, ◌⊎◌, ℕ, ◌+◌, ◌<◌, nat_lt, if◌then◌else◌, List, [], ◌∷◌, ◌++◌, length, Option, Some, None}
 use Rattle.journal_text.specs.Walk.{Demands, IsLawful, fold_links, no_links}
 use Rattle.journal_text.specs.declared.entry.Entry.TheVariants.{Begin, Inherit, Add, Delete, Replace, Asked, Weld, End}

@@ -1,4 +1,4 @@
--- When a change is lawful, and what it makes of a link's map.
+-- When a change is lawful, and what it makes of a link's map (NSDI 2005, section 5.1).
 use Rattle.std.specs.Prelude.{◌≡◌, ◌≢◌, Option, Some, None, refl}
 use Rattle.std.specs.Coded.{Coded, code_by, coded×, coded_option}
 use Rattle.addr4.specs.Prefixes.{Network, network_code}

@@ -143,6 +143,16 @@ module _ {F A B : Type 0} where
           subst (λ n. Walks apply candidates upper s n None) (sym new_is)
           (end_walks s w.0 w.1 (subst (λ l. IsNextCandidate candidates l None) w.2 least))
 
+-- at the prefix of a step the new function holds
+next_at : {F : Type 0} (in_force : F) (walk : Option (Walked F)) (p : Network) (f : F) → is_some walk ≡ true → IfSome walk (λ w. f ≡ w.next)
+    → f ≡ function_of in_force (walk_stepped walk p) p
+next_at in_force None p f busy is = absurd (let e : false ≡ true = busy in cc)
+next_at in_force (Some w) p f busy is = is ∙ sym (ap (λ b. cond b in_force w.next) (at_itself p))
+
+pub coming_at : {F : Type 0} (s new : Passed F) (p : Network) (f : F) → is_some s.walk ≡ true → IfSome s.walk (λ w. f ≡ w.next) → new ≡ stepped s p
+    → f ≡ function_at new p
+coming_at s new p f busy is new_is = next_at s.in_force s.walk p f busy is ∙ sym (ap (λ n. function_at n p) new_is)
+
 pub step_of_a_walk : {F A B : Type 0} → StepWalks F A B
 step_of_a_walk apply s w candidates upper p sent nothing covers on least is = step_walks apply nothing candidates upper covers s w p sent on least is
 

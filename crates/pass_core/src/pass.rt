@@ -144,6 +144,17 @@ impl<F: Drop> Pass<F> {
         }
     }
 
+    /// The function that the walk brings into force. To be asked while a walk is on.
+    pub fn coming(&self) -> &F
+        requires { IsSome self.now.walk }
+        ensures { IfSome self.now.walk (λ walk. result.now ≡ walk.next) }
+    {
+        match &self.walk {
+            None => unreachable!(),
+            Some(walk) => &walk.next,
+        }
+    }
+
     /// The walk goes on to a prefix beyond its place: there, and at all that lie between, the new function holds from now
     /// on. To be called while a walk is on.
     pub fn step_to(&mut self, prefix: Prefix)

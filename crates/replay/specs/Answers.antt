@@ -13,24 +13,24 @@ use Rattle.replay.specs.Commands.{usage_line}
 use Rattle.replay.specs.Judging.{verdict, status_of}
 use Rattle.replay.specs.Output.{IsOutput, IsRefusedOutput, IsOutputOfFront, IsOutputOfEnded, IsFrontOfOutput}
 
--- What is written where status 0 answers: an allowed output for all lines of the text; or that the text is a lawful journal.
-abbrev pub IsDone : Option Command → List ℕ → List ℕ → Type 0
-IsDone (Some (Run quiet)) text bytes = IsOutput quiet (lines_of text) bytes
-IsDone (Some Check) text bytes = Judges text bytes endings.Lawful
-IsDone None text bytes = ⊥
+-- What was written where status 0 answers: an allowed output for all lines of the text; or that the text is a lawful journal.
+abbrev pub HasDone : Option Command → Option (List ℕ) → Option (List ℕ) → Option (List ℕ) → Type 0
+HasDone (Some (Run quiet)) left0 taken0 taken = Took left0 taken0 taken (λ text bytes. IsOutput quiet (lines_of text) bytes)
+HasDone (Some Check) left0 taken0 taken = Took left0 taken0 taken (λ text bytes. Judges text bytes endings.Lawful)
+HasDone None left0 taken0 taken = ⊥
 
--- What is written where a line is refused: an allowed output for the lines before it, and that it is refused; or that the
+-- What was written where a line is refused: an allowed output for the lines before it, and that it is refused; or that the
 -- line is none of a journal.
-abbrev pub IsRefused : Option Command → List ℕ → List ℕ → Type 0
-IsRefused (Some (Run quiet)) text bytes = IsRefusedOutput quiet text bytes
-IsRefused (Some Check) text bytes = Judges text bytes endings.Refused
-IsRefused None text bytes = ⊥
+abbrev pub HasRefused : Option Command → Option (List ℕ) → Option (List ℕ) → Option (List ℕ) → Type 0
+HasRefused (Some (Run quiet)) left0 taken0 taken = Took left0 taken0 taken (IsRefusedOutput quiet)
+HasRefused (Some Check) left0 taken0 taken = Took left0 taken0 taken (λ text bytes. Judges text bytes endings.Refused)
+HasRefused None left0 taken0 taken = ⊥
 
--- what is written where a journal breaks a rule
-abbrev pub IsBroken : Option Command → List ℕ → List ℕ → Type 0
-IsBroken (Some (Run quiet)) text bytes = ⊥
-IsBroken (Some Check) text bytes = Judges text bytes endings.Broken
-IsBroken None text bytes = ⊥
+-- what was written where a journal breaks a rule, which `check` alone says
+abbrev pub HasBroken : Option Command → Option (List ℕ) → Option (List ℕ) → Option (List ℕ) → Type 0
+HasBroken (Some (Run quiet)) left0 taken0 taken = ⊥
+HasBroken (Some Check) left0 taken0 taken = Took left0 taken0 taken (λ text bytes. Judges text bytes endings.Broken)
+HasBroken None left0 taken0 taken = ⊥
 
 -- What was read and written where a read failed: an allowed output of the lines that had ended in what was read; nothing of
 -- a check.

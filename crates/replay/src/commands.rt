@@ -3,9 +3,8 @@
 ghost use Rattle.std.specs.Prelude.{◌≡◌, ◌≢◌, ◌≤◌, ◌⊎◌, ℕ, List, Option, Some, None};
 ghost use Rattle.std.specs.Io.KnownBytes.{Appends, IsAtEnd};
 ghost use Rattle.edge_io.specs.Causes.{Rose};
-ghost use Rattle.check_run.specs.Runs.{Took};
 ghost use Rattle.replay.specs.Commands.{usage_line};
-ghost use Rattle.replay.specs.Answers.{IsDone, IsRefused, IsBroken, HasSoFar, HasFirst, HasFront, IsByText, IsUnfailing};
+ghost use Rattle.replay.specs.Answers.{HasDone, HasRefused, HasBroken, HasSoFar, HasFirst, HasFront, IsByText, IsUnfailing};
 ghost use Rattle.replay.specs.declared.words.Command.TheVariants as commands;
 
 use crate::run::run_events;
@@ -30,10 +29,10 @@ fn show_usage<K: Sink>(sink: &mut K) -> Status
 
 /// Judges the journal that the source is.
 fn check_journal<S: Source, K: Sink>(alloc: Global, source: &mut S, sink: &mut K) -> Status
-    ensures ok { result ≡ Status.Ok → Took (S.left source.old) (K.taken sink.old) (K.taken sink.new) (IsDone (Some commands.Check)) }
+    ensures ok { result ≡ Status.Ok → HasDone (Some commands.Check) (S.left source.old) (K.taken sink.old) (K.taken sink.new) }
     ensures all_read { result ≡ Status.Ok → IsAtEnd (S.left source.new) }
-    ensures refused { result ≡ Status.Refused → Took (S.left source.old) (K.taken sink.old) (K.taken sink.new) (IsRefused (Some commands.Check)) }
-    ensures broken { result ≡ Status.Broken → Took (S.left source.old) (K.taken sink.old) (K.taken sink.new) (IsBroken (Some commands.Check)) }
+    ensures refused { result ≡ Status.Refused → HasRefused (Some commands.Check) (S.left source.old) (K.taken sink.old) (K.taken sink.new) }
+    ensures broken { result ≡ Status.Broken → HasBroken (Some commands.Check) (S.left source.old) (K.taken sink.old) (K.taken sink.new) }
     ensures by_text { (result ≡ Status.Ok) ⊎ (result ≡ Status.Broken) ⊎ (result ≡ Status.Refused) → IsByText (Some commands.Check) (S.left source.old) result }
     ensures so_far { result ≡ Status.ReadFault → K.taken sink.new ≡ K.taken sink.old }
     ensures memory { result ≡ Status.Memory → K.taken sink.new ≡ K.taken sink.old }
@@ -59,10 +58,10 @@ pub fn obey<S: Source, K: Sink>(
     source: &mut S,
     sink: &mut K,
 ) -> Status
-    ensures ok { result ≡ Status.Ok → Took (S.left source.old) (K.taken sink.old) (K.taken sink.new) (IsDone command) }
+    ensures ok { result ≡ Status.Ok → HasDone command (S.left source.old) (K.taken sink.old) (K.taken sink.new) }
     ensures all_read { result ≡ Status.Ok → IsAtEnd (S.left source.new) }
-    ensures refused { result ≡ Status.Refused → Took (S.left source.old) (K.taken sink.old) (K.taken sink.new) (IsRefused command) }
-    ensures broken { result ≡ Status.Broken → Took (S.left source.old) (K.taken sink.old) (K.taken sink.new) (IsBroken command) }
+    ensures refused { result ≡ Status.Refused → HasRefused command (S.left source.old) (K.taken sink.old) (K.taken sink.new) }
+    ensures broken { result ≡ Status.Broken → HasBroken command (S.left source.old) (K.taken sink.old) (K.taken sink.new) }
     ensures by_text { (result ≡ Status.Ok) ⊎ (result ≡ Status.Broken) ⊎ (result ≡ Status.Refused) → IsByText command (S.left source.old) result }
     ensures complete { ¬ Rose (S.faults source.old) (S.faults source.new) → ¬ Rose (K.faults sink.old) (K.faults sink.new) → IsUnfailing command (S.left source.old) result }
     ensures so_far { result ≡ Status.ReadFault → HasSoFar command (S.left source.old) (S.left source.new) (K.taken sink.old) (K.taken sink.new) }

@@ -23,9 +23,8 @@ ghost use Rattle.std.specs.Prelude.{◌≡◌, ◌≢◌, ◌⊎◌, ℕ, List, 
 ghost use Rattle.std.specs.String.{string_bytes};
 ghost use Rattle.std.specs.Io.KnownBytes.{Appends, IsAtEnd};
 ghost use Rattle.edge_io.specs.Causes.{Rose};
-ghost use Rattle.check_run.specs.Runs.{Took};
 ghost use Rattle.replay.specs.Commands.{command_of, usage_line};
-ghost use Rattle.replay.specs.Answers.{IsDone, IsRefused, IsBroken, HasSoFar, HasFirst, HasFront, IsByText, IsUnfailing};
+ghost use Rattle.replay.specs.Answers.{HasDone, HasRefused, HasBroken, HasSoFar, HasFirst, HasFront, IsByText, IsUnfailing};
 ghost use Rattle.replay.specs.declared.words.Command.TheVariants.{Check};
 
 use crate::commands::obey;
@@ -48,16 +47,16 @@ pub fn replay<S: Source, K: Sink>(
 ) -> Status
     // Every line of the text was accepted, all of it was read, and the sink took exactly an allowed output; or the text is a
     // lawful journal.
-    ensures ok { result ≡ Status.Ok → Took (S.left source.old) (K.taken sink.old) (K.taken sink.new) (IsDone (command_of (map string_bytes words.now))) }
+    ensures ok { result ≡ Status.Ok → HasDone (command_of (map string_bytes words.now)) (S.left source.old) (K.taken sink.old) (K.taken sink.new) }
     ensures all_read { result ≡ Status.Ok → IsAtEnd (S.left source.new) }
 
     // A line was refused, and the sink took an allowed output of the lines before it, and then that it was refused; or the
     // line is none of a journal.
-    ensures refused { result ≡ Status.Refused → Took (S.left source.old) (K.taken sink.old) (K.taken sink.new) (IsRefused (command_of (map string_bytes words.now))) }
+    ensures refused { result ≡ Status.Refused → HasRefused (command_of (map string_bytes words.now)) (S.left source.old) (K.taken sink.old) (K.taken sink.new) }
 
     // The journal breaks a rule, and the sink took which, and where. That is said by `check` alone.
     ensures by_check { result ≡ Status.Broken → command_of (map string_bytes words.now) ≡ Some Check }
-    ensures broken { result ≡ Status.Broken → Took (S.left source.old) (K.taken sink.old) (K.taken sink.new) (IsBroken (command_of (map string_bytes words.now))) }
+    ensures broken { result ≡ Status.Broken → HasBroken (command_of (map string_bytes words.now)) (S.left source.old) (K.taken sink.old) (K.taken sink.new) }
 
     // The text alone decides between 0, 1 and 3; and it decides alone where no count of faults rose and there was memory.
     ensures by_text { (result ≡ Status.Ok) ⊎ (result ≡ Status.Broken) ⊎ (result ≡ Status.Refused) → IsByText (command_of (map string_bytes words.now)) (S.left source.old) result }

@@ -1,4 +1,4 @@
--- Merged rows, and what a merge makes of changes.
+-- Merged rows, and what a merge makes of changes (NSDI 2005, section 5.2).
 use Rattle.std.specs.Prelude.{◌≡◌, ℕ, nat_lt, if◌then◌else◌, Option, Some, None}
 use Rattle.addr4.specs.Prefixes.{Network}
 use Rattle.link_change.specs.Rows.{Rows}

@@ -1,4 +1,4 @@
--- The protocols' distances.
+-- The protocols' distances, by which the RIB prefers one route to another (NSDI 2005, section 5.2).
 use Rattle.std.specs.Prelude.{◌≡◌, ℕ, if◌then◌else◌}
 use Rattle.rib_route.specs.declared.Proto.{Proto}
 use Rattle.rib_route.specs.declared.Proto.TheVariants as interior

@@ -1,4 +1,4 @@
--- What each event does, and the lines that it gives.
+-- What each event does, and the lines that it gives (NSDI 2005, sections 5.1 and 5.2; of messages RFC 4271, sections 3.1 and 6).
 use Rattle.std.specs.Prelude.{◌≡◌, ℕ, ◌≤◌, ◌⊎◌, Bool, true, false, List, [], ◌∷◌, ◌++◌, map, length, Contains, Option, Some, None, IsSome, is_some}
 use Rattle.std.specs.List.{AllByRecursion}
 use Rattle.std.specs.List.Sorted.{IsStrictlySortedBy}

@@ -1,4 +1,5 @@
--- The links that the live state alone asks for, decided from scratch.
+-- The links that the live state alone asks for, decided from scratch: those of a peer (RFC 4271, sections 3.2 and 9.1.1), and
+-- those of the interior routes (NSDI 2005, section 5.2).
 use Rattle.std.specs.Prelude.{◌≡◌, List, Option, Some, None, option_map}
 use Rattle.std.specs.FinMap as tables
 use Rattle.bgp_attr.specs.declared.attrs.Attrs.{Attrs}

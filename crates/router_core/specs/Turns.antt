@@ -1,4 +1,4 @@
--- Turns of background work, and the falls of messages.
+-- Turns of background work, and the falls of messages (NSDI 2005, sections 5.1 and 5.1.2).
 use Rattle.std.specs.Prelude.{◌≡◌, ℕ, zero, suc, ◌+◌, ◌*◌, length, Bool, false, List, [], ◌∷◌, ◌++◌, map, Option, Some, None, if◌then◌else◌}
 use Rattle.std.specs.List.{flat_map, AllByRecursion}
 use Rattle.addr4.specs.Prefixes.{Network}

@@ -1,16 +1,18 @@
 //! The router: events and turns of background work, and the lines that they give.
 //!
-//! A [`Core`] has what was declared and a chain of stages for each peer. [`Core::step`] steps an event, and its lines go into
-//! the text of a journal; it asks that the event may stand there, as `event_text` judges. [`Core::unit`], [`Core::drain`]
-//! and [`Core::idle`] do background work alone: one turn of a task, a phase of an idle, all of it. [`Core::chain`] and
-//! [`Core::count`] look at what is there. Each turn's lines are made into text at once, so that a long idle holds few lines.
+//! A [`Core`] has what was declared, a chain of stages for each peer, the tree of the interior routes, and the register of
+//! these. [`Core::step`] steps an event, and its lines go into the text of a journal; it asks that the event may stand there,
+//! as `event_text` judges. [`Core::unit`], [`Core::drain`] and [`Core::idle`] do background work alone: one turn of a task, a
+//! phase of an idle, all of it. [`Core::chain`], [`Core::tree`] and [`Core::count`] look at what is there. Each turn's lines
+//! are made into text at once, so that a long idle holds few lines.
 //!
-//! What contracts see is in `specs/`: the declarations and the chains ([`Moments`](specs/Moments.antt)), what holds between
-//! two steps (`Stands`), what each event does and the lines that it gives (`Blocks`), and what the events alone make of the
-//! live routes and of the filters' rules, whatever work was done or not (`Lives`). Every step obeys the two consistency rules
+//! What contracts see is in `specs/`: the moment ([`Moments`](specs/Moments.antt)), what holds between two steps (`Stands`),
+//! what each event does and the lines that it gives (`Blocks`), and what the events alone make of the live routes of peers and
+//! protocols and of the filters' rules, whatever work was done or not (`Lives`). Every step obeys the two consistency rules
 //! of a journal (NSDI 2005, section 5.1) on all links together. After an idle no deletion stage stands and no walk is on
-//! (`IsSettled`), and each link is what the live state alone asks for (`Scratch`): `in.K` has exactly the live routes, and
-//! `filt.K` what the latest rules make of them. An idle takes no more turns than it announces.
+//! (`IsSettled`), and each link is what the live state alone asks for (`Scratch`): of a peer the live routes and what the
+//! latest rules make of them, of the interior side the live routes of each protocol, those of least distance, and what packets
+//! are forwarded by. An idle takes no more turns than it announces.
 //!
 //! For want of memory a call answers `Memory`, and from then on each further call does: what was half done is never seen.
 #![tactic(auto)]

@@ -184,8 +184,8 @@ fn live_on<R: Valued>(
     requires { chain.old ≡ no_tables }
 {
     let [one, two, three] = rows;
-    let first = prefix("10.1.0.0/16")?;
-    let second = prefix("10.2.0.0/16")?;
+    let first = prefix(0x0a01_0000, 16);
+    let second = prefix(0x0a02_0000, 16);
     let lowest = owner.lowest();
     feed(chain, owner, first, Some(one), journal)?;
     feed(chain, owner, second, Some(two), journal)?;
@@ -246,7 +246,7 @@ fn a_protocols_chain_loses_and_is_welded(rt: HostRuntime) -> Result<(), Fail> {
 
 /// A row on a line.
 fn push_row<R: Valued>(journal: &mut Journal, link: Link, row: &R) -> Result<(), Fail> {
-    journal.push_line(Line::Row(link, prefix("10.1.0.0/16")?, row.to_value()?))?;
+    journal.push_line(Line::Row(link, prefix(0x0a01_0000, 16), row.to_value()?))?;
     Ok(())
 }
 

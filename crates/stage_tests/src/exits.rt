@@ -4,6 +4,7 @@ ghost use Rattle.std.specs.Prelude.{◌≡◌, IfOk, Bool};
 ghost use Rattle.std.specs.Option.{ForSome};
 ghost use Rattle.peer_out.specs.Changes.{IsSender, MayBeHeard};
 
+use crate::prefixes::prefix;
 use addr4::{Addr, Memory, Place, Prefix, Row};
 use bgp_attr::*;
 use bgp_wire::{Message, Update, announcement_length, read_message};
@@ -98,10 +99,6 @@ fn own(alloc: Global) -> Result<Route, Memory>
         unrecognized: UnrecognizedAttrs::new(alloc),
     };
     Ok(row_of(SharedAttrs::new(alloc, attrs)?))
-}
-
-fn prefix(address: u32, length: u8) -> Prefix {
-    Prefix::new(Addr::new(address), length % 33).unwrap()
 }
 
 /// The octets of hexadecimal digits, so many times.

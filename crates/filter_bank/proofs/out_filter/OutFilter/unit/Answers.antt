@@ -1,0 +1,37 @@
+use Rattle.std.proofs.Common.{List, Option, true, is_some, ◌≡◌, ◌∙◌, ap, subst, rules}
+use Rattle.addr4.specs.Places.{key_of}
+use Rattle.policy_rules.specs.declared.rule.Rule.{Rule}
+use Rattle.pass_core.specs.Passed.{Passed, function_at}
+use Rattle.pass_core.specs.Turns.{IsWalked}
+use Rattle.pass_core.proofs.TurnLemmas.{goes_on, coming_at}
+use Rattle.link_change.specs.Turns.{taken_turn}
+use Rattle.filter_bank.specs.Outgoing.{outgoing}
+use Rattle.filter_bank.proofs.OutLemmas.{makes_none_out}
+use Rattle.filter_bank.proofs.out_filter.OutFilter.unit.Goals as goal
+
+pub returns-clause-taken : goal.returns-clause-taken
+returns-clause-taken g c =
+    let form = g.S.Sent.form c.args.form.now in
+    let peer = c.args.peer.now in
+    let candidates = g.U.Upstream.candidates c.args.upper.now in
+    let upper = g.U.Upstream.rows c.args.upper.now in
+    let old = c.self.inside.pass in
+    let new = c.step_to.new.self in
+    let p = c.in-Some.prefix in
+    let busy : is_some old.walk ≡ true = search rules in
+    let row : c.in_ok-row.row ≡ upper p = c.in_ok-row.ensures in
+    let again : c.in_ok-again.again ≡ upper p = c.in_ok-again.ensures ∙ row in
+    let kept : g.S.Sent.form c.sent_row.new.form ≡ form = ap g.S.Sent.form c.sent_row.ensures.same in
+    let before : c.in_ok-before.before ≡ outgoing form peer (function_at old p) p (upper p) =
+    c.in_ok-before.ensures.sent ∙ ap (λ (f : Option (List Rule)). outgoing form peer f p c.in_ok-row.row) c.at.ensures
+    ∙ ap (outgoing form peer (function_at old p) p) row in
+    let coming : c.coming.result.now ≡ function_at new p = coming_at old new p c.coming.result.now busy c.coming.ensures c.step_to.ensures in
+    let after : c.in_ok-after.after ≡ outgoing form peer (function_at new p) p (upper p) =
+    c.in_ok-after.ensures.sent ∙ ap (λ f. outgoing f peer c.coming.result.now p c.in_ok-again.again) kept
+    ∙ ap (λ (f : Option (List Rule)). outgoing form peer f p c.in_ok-again.again) coming
+    ∙ ap (outgoing form peer (function_at new p) p) again in
+    rw c.taken.ensures
+    (subst (λ (s : Passed (Option (List Rule))). IsWalked (outgoing form peer) candidates upper s new (taken_turn c.between.result)) c.self.view_is
+    (goes_on (outgoing form peer) (makes_none_out form peer) candidates upper c.in-Some.ensures.covers old new (key_of c.place.result) p
+    c.in_ok-before.before c.in_ok-after.after c.between.result busy c.place.ensures c.step_to.ensures c.in-Some.ensures.next
+    before after c.between.ensures))

@@ -1,0 +1,33 @@
+-- Laws of outgoing filters, for the crates above.
+use Rattle.std.specs.Prelude.{◌≡◌, ◌≢◌, true, List, Option, Some}
+use Rattle.addr4.specs.Prefixes.{Network}
+use Rattle.bgp_attr.specs.Hosts.{is_host_prefix}
+use Rattle.bgp_attr.specs.declared.attrs.Attrs.{Attrs}
+use Rattle.bgp_attr.specs.declared.route.Route.{Route}
+use Rattle.bgp_attr.specs.declared.speaker.Neighbour.{Neighbour}
+use Rattle.link_change.specs.Rows.{Rows, no_rows}
+use Rattle.policy_rules.specs.declared.rule.Rule.{Rule}
+use Rattle.pass_core.specs.Split.{MakesNone}
+use Rattle.pass_core.specs.Turns.{passed_rows}
+use Rattle.filter_bank.specs.Outgoing.{Form, outgoing, first_walk}
+
+-- Where no row is above, none is sent: so what holds of all walks holds of these.
+abbrev pub NothingOfNothing : Type 0
+NothingOfNothing = (form : Form) (peer : Neighbour) (rules : Option (List Rule)) → MakesNone (outgoing form peer rules)
+
+-- A session begins with no row sent, whatever its rules.
+abbrev pub NothingAtFirst : Type 0
+NothingAtFirst =
+    (form : Form) (peer : Neighbour) (rules : List Rule) (upper : Rows Route) → passed_rows (outgoing form peer) (first_walk rules) upper ≡ no_rows
+
+-- the peer may get the route
+pub record MayGo (peer : Neighbour) (p : Network) (r : Route) : Type 0 where
+  pub not_back : (from : Neighbour) → r.from ≡ Some from → from.number ≢ peer.number
+  pub not_inside : (from : Neighbour) → r.from ≡ Some from → peer.internal ≡ true → from.internal ≢ true
+  pub of_hosts : is_host_prefix p ≡ true
+
+-- Whatever the rules, only such routes are sent.
+abbrev pub OnlyWhatMayGo : Type 0
+OnlyWhatMayGo =
+    (form : Form) (peer : Neighbour) (rules : Option (List Rule)) (p : Network) (r : Route) (a : Attrs)
+    → outgoing form peer rules p (Some r) ≡ Some a → MayGo peer p r

@@ -1,0 +1,49 @@
+-- The outgoing filter to a peer (RFC 4271, sections 5.1.4, 9.1.3 and 9.2): which routes the peer gets, and in which form.
+use Rattle.std.specs.Prelude.{◌==◌, not, ◌&&◌, ◌||◌, Bool, false, if◌then◌else◌, List, Option, Some, None}
+use Rattle.addr4.specs.Prefixes.{Network}
+use Rattle.bgp_attr.specs.Hosts.{is_host_prefix}
+use Rattle.bgp_attr.specs.declared.attrs.Attrs.{Attrs}
+use Rattle.bgp_attr.specs.declared.route.Route.{Route}
+use Rattle.bgp_attr.specs.declared.speaker.Neighbour.{Neighbour}
+use Rattle.policy_rules.specs.declared.rule.Rule.{Rule}
+use Rattle.policy_rules.specs.Verdicts.{judged_by}
+use Rattle.pass_core.specs.Passed.{Passed, begun}
+
+-- the form in which a route is sent at a prefix, or none where it can't be
+abbrev pub Form : Type 0
+Form = Network → Route → Option Attrs
+
+-- the route came from the peer itself, or from another internal peer where this one is internal too (section 9.2)
+abbrev pub is_kept_from : Neighbour → Option Neighbour → Bool
+is_kept_from peer None = false
+is_kept_from peer (Some from) = from.number == peer.number || (from.internal && peer.internal)
+
+-- the peer may get the route, if the rules let it: it isn't kept from the peer, and its prefix is one of hosts
+abbrev pub may_go : Neighbour → Network → Route → Bool
+may_go peer p r = not (is_kept_from peer r.from) && is_host_prefix p
+
+-- the route before any rule: MULTI_EXIT_DISC of another AS doesn't go to an external peer (section 5.1.4)
+abbrev pub first_out : Neighbour → Route → Route
+first_out peer r = if peer.internal then r else record r { med = None }
+
+-- what the rules make of a route, where there are rules; without, nothing is sent
+abbrev pub let_by : Option (List Rule) → Network → Route → Option Route
+let_by None p r = None
+let_by (Some rules) p r = judged_by rules p r
+
+-- the route that goes out at a prefix
+abbrev pub let_out : Neighbour → Option (List Rule) → Network → Option Route → Option Route
+let_out peer rules p None = None
+let_out peer rules p (Some r) = if may_go peer p r then let_by rules p (first_out peer r) else None
+
+abbrev pub formed : Form → Network → Option Route → Option Attrs
+formed form p None = None
+formed form p (Some r) = form p r
+
+-- what the filter makes of the route at a prefix, by rules, or by none
+abbrev pub outgoing : Form → Neighbour → Option (List Rule) → Network → Option Route → Option Attrs
+outgoing form peer rules p row = formed form p (let_out peer rules p row)
+
+-- a session begins: nothing is sent, and a walk brings its rules into force
+abbrev pub first_walk : List Rule → Passed (Option (List Rule))
+first_walk rules = record { in_force = None; walk = Some (begun (Some rules)) }

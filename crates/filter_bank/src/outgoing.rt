@@ -1,0 +1,100 @@
+//! What the outgoing filter makes of one route.
+
+ghost use Rattle.std.specs.Prelude.{◌≡◌, IfOk};
+ghost use Rattle.filter_bank.specs.Outgoing.{is_kept_from, may_go, first_out, let_by, let_out, outgoing};
+
+use crate::sent::Sent;
+use addr4::{Memory, Prefix};
+use bgp_attr::{Neighbour, Route, SharedAttrs, is_host_prefix};
+use policy_rules::{Rules, judge};
+
+/// Whether a route from there is kept from the peer.
+fn is_kept_from(peer: &Neighbour, from: Option<Neighbour>) -> bool
+    ensures { result ≡ is_kept_from peer.now from }
+{
+    match from {
+        None => false,
+        Some(from) => from.number == peer.number || from.internal && peer.internal,
+    }
+}
+
+/// Whether the peer may get the route, if the rules let it.
+fn may_go(peer: &Neighbour, prefix: Prefix, route: &Route) -> bool
+    ensures { result ≡ may_go peer.now prefix route.now }
+{
+    !is_kept_from(peer, route.from) && is_host_prefix(prefix)
+}
+
+/// The route before any rule.
+fn first_out(peer: &Neighbour, route: Route) -> Route
+    ensures { result ≡ first_out peer.now route }
+{
+    let mut route = route;
+    if !peer.internal {
+        route.med = None;
+    }
+    route
+}
+
+/// What the rules make of a route; without rules nothing goes out.
+fn let_by(rules: &Option<Rules>, prefix: Prefix, route: Route) -> Option<Route>
+    ensures { result ≡ let_by rules.now prefix route }
+{
+    match rules {
+        None => None,
+        Some(rules) => judge(rules, prefix, route),
+    }
+}
+
+/// The route that goes out.
+fn let_out(
+    peer: &Neighbour,
+    rules: &Option<Rules>,
+    prefix: Prefix,
+    row: Option<Route>,
+) -> Option<Route>
+    ensures { result ≡ let_out peer.now rules.now prefix row }
+{
+    match row {
+        None => None,
+        Some(route) => {
+            if !may_go(peer, prefix, &route) {
+                return None;
+            }
+            let_by(rules, prefix, first_out(peer, route))
+        }
+    }
+}
+
+/// What is sent of a row above.
+pub(crate) fn sent_row<S: Sent>(
+    form: &mut S,
+    peer: &Neighbour,
+    rules: &Option<Rules>,
+    prefix: Prefix,
+    row: Option<Route>,
+) -> Result<Option<SharedAttrs>, Memory>
+    ensures sent { IfOk result (λ sent. sent ≡ outgoing (S.form form.old) peer.now rules.now prefix row) }
+    ensures same { form.new ≡ form.old }
+{
+    match let_out(peer, rules, prefix, row) {
+        None => Ok(None),
+        Some(route) => form.sent(&prefix, &route),
+    }
+}
+
+/// The same for a lookup.
+pub(crate) fn asked_row<S: Sent>(
+    form: &S,
+    peer: &Neighbour,
+    rules: &Option<Rules>,
+    prefix: Prefix,
+    row: Option<Route>,
+) -> Result<Option<SharedAttrs>, Memory>
+    ensures { IfOk result (λ sent. sent ≡ outgoing (S.form form.now) peer.now rules.now prefix row) }
+{
+    match let_out(peer, rules, prefix, row) {
+        None => Ok(None),
+        Some(route) => form.asked(&prefix, &route),
+    }
+}

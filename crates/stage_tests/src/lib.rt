@@ -1,0 +1,14 @@
+//! Stories of stages: a chain of live rows and deletion stages, the decision, what a peer is sent, each public call on its
+//! happy path.
+//!
+//! The crates that these tests are of have none of their own: a crate with tests is proved once more with them.
+#![tactic(auto)]
+
+#[cfg(test)]
+mod chains;
+#[cfg(test)]
+mod decisions;
+#[cfg(test)]
+mod exits;
+#[cfg(test)]
+mod prefixes;
