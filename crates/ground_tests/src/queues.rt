@@ -10,6 +10,7 @@ use rib_route::External;
 use std::test::Fail;
 
 /// A link that has a row at one prefix, and none elsewhere.
+#[derive(Drop)]
 struct OneRow {
     prefix: Prefix,
     row: External,
@@ -102,8 +103,14 @@ fn a_change_is_kept_while_a_reader_needs_it(rt: HostRuntime) -> Result<(), Fail>
     })?;
     assert!(rt; queue.take(&mut fast)?.is_some());
     assert_eq!(rt; queue.kept(), 1);
-    assert_eq!(rt; queue.next_candidate(&slow, &best, Place::Before), Some(first));
-    assert_eq!(rt; queue.next_candidate(&slow, &best, Place::At(first)), Some(second));
+    assert_eq!(rt;
+        queue.next_candidate(&slow, &best, Place::Before),
+        Some(first)
+    );
+    assert_eq!(rt;
+        queue.next_candidate(&slow, &best, Place::At(first)),
+        Some(second)
+    );
     assert_eq!(rt; queue.next_candidate(&slow, &best, Place::At(second)), None);
     assert_eq!(rt; queue.next_candidate(&fast, &best, Place::At(first)), None);
     queue.drop_reader(slow);
