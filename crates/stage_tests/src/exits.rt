@@ -1,6 +1,6 @@
 //! What a peer is sent of the routes of the others, and the rows that are kept of it.
 
-ghost use Rattle.std.specs.Prelude.{◌≡◌, IfOk, Bool};
+ghost use Rattle.std.specs.Prelude.{◌≡◌, IfOk, Bool, false};
 ghost use Rattle.std.specs.Option.{ForSome};
 ghost use Rattle.peer_out.specs.Changes.{IsSender, MayBeHeard};
 
@@ -44,19 +44,31 @@ fn row_of(attrs: SharedAttrs) -> Route
     }
 }
 
+fn row_heard(alloc: Global, update: Update) -> Result<Option<Route>, Memory>
+    requires { ForSome update.attrs (MayBeHeard PLAIN) }
+    ensures { IfOk result (λ row. ForSome row (λ r. MayBeHeard PLAIN r.attrs)) }
+{
+    let Update {
+        withdrawn: _,
+        announced: _,
+        attrs,
+    } = update;
+    match attrs {
+        Some(attrs) => {
+            let attrs = SharedAttrs::new(alloc, attrs)?;
+            Ok(Some(row_of(attrs)))
+        }
+        None => Ok(None),
+    }
+}
+
 /// The route that an external peer announces, with preference 100.
 fn heard(alloc: Global, octets: &[u8]) -> Result<Option<Route>, Memory>
     ensures { IfOk result (λ row. ForSome row (λ r. MayBeHeard PLAIN r.attrs)) }
 {
     internal_peers_read_as_much();
     match read_message(alloc, PLAIN, octets, true)? {
-        Message::Update(
-            Update {
-                withdrawn: _,
-                announced: _,
-                attrs: Some(attrs),
-            },
-        ) => Ok(Some(row_of(SharedAttrs::new(alloc, attrs)?))),
+        Message::Update(update) => row_heard(alloc, update),
         _ => Ok(None),
     }
 }
