@@ -1,10 +1,9 @@
 -- From the links of one chain to those of all peers.
 use Rattle.std.proofs.Common.{◌≡◌, ℕ, Bool, true, false, cond, List, Option, Some, None, nat_eq, refl, sym, ap, subst, ◌∙◌}
 use Rattle.journal_text.specs.declared.link.Link.{Link}
-use Rattle.journal_text.specs.declared.link.Link.TheVariants.{In, Peer, Filt, Res, Org, Lost, Low, Dyn, Int, Red, Best, ReadRib, Ebgp, Ibgp, Ext, Fib, Read, Outf, Adv}
+use Rattle.journal_text.specs.declared.link.Link.TheVariants.{In, Peer, Filt, Res}
 use Rattle.journal_text.specs.declared.entry.Entry.{Entry}
 use Rattle.journal_text.specs.declared.value.Value.{Value}
-use Rattle.journal_text.specs.Links.{owner_of}
 use Rattle.journal_text.specs.Walk.{Links, Leads}
 use Rattle.in_chain.specs.Chains.{Chained, links_of, beside, is_named}
 use Rattle.in_chain.specs.Falls.{LeadsChain}

@@ -1,5 +1,5 @@
 -- `local`: the links of the interior routes begin.
-use Rattle.std.proofs.Common.{◌≡◌, ℕ, ◌+◌, ◌<◌, arith, zero, suc, List, [], ◌∷◌, ◌++◌, map, take, length, get_or, Option, Some, None, refl, sym, ap, ◌∙◌}
+use Rattle.std.proofs.Common.{◌≡◌, ℕ, ◌+◌, ◌<◌, List, [], ◌∷◌, ◌++◌, map, take, length, get_or, Option, Some, None, refl, sym, ap, ◌∙◌}
 use Rattle.std.proofs.lemmas.List.{map-append, take_more}
 use Rattle.bgp_attr.specs.declared.speaker.Speaker.{Speaker}
 use Rattle.link_change.specs.Rows.{Rows, no_rows}
@@ -13,7 +13,7 @@ use Rattle.rib_tree.specs.Trees.{Treed, branch_of, low_rows, dyn_rows, int_rows,
 use Rattle.rib_tree.specs.Steps.{new_tree}
 use Rattle.rib_tree.specs.Forwards.{forwarded, rib_links}
 use Rattle.journal_text.specs.declared.link.Link.{Link}
-use Rattle.journal_text.specs.declared.link.Link.TheVariants.{In, Peer, Filt, Res, Org, Lost, Low, Dyn, Int, Red, Best, ReadRib, Ebgp, Ibgp, Ext, Fib, Read, Outf, Adv}
+use Rattle.journal_text.specs.declared.link.Link.TheVariants.{Org, Lost, Low, Dyn, Int, Fib}
 use Rattle.journal_text.specs.declared.value.Value.{Value}
 use Rattle.journal_text.specs.Texts.{entries_of}
 use Rattle.journal_text.specs.Walk.{Leads, fold_links}
@@ -27,7 +27,6 @@ use Rattle.router_core.specs.Blocks.{begin_line, rib_begins, declared_speaker}
 use Rattle.router_core.proofs.PeerLemmas.{local_first, speaker_stands}
 use Rattle.router_core.proofs.ShownRows.{with_more}
 use Rattle.router_core.specs.Works.{HasStepped}
-use Rattle.router_core.proofs.SessionLemmas.{ends}
 use Rattle.router_core.specs.Lives.{live_state}
 use Rattle.router_core.proofs.ChainLemmas.{get_or_any}
 

@@ -1,17 +1,13 @@
 -- The loss of a session.
-use Rattle.std.proofs.Common.{◌≡◌, ℕ, ◌+◌, ◌<◌, ◌≤◌, Bool, true, false, ◌||◌, cond, List, [], ◌∷◌, ◌++◌, map, Option, Some, None, nat_eq, nat_lt, get_or, length, refl, sym, ap, subst, ◌∙◌, arith, length-append, suc}
+use Rattle.std.proofs.Common.{◌≡◌, ℕ, ◌<◌, ◌≤◌, Bool, true, false, cond, List, [], ◌∷◌, ◌++◌, map, Option, Some, None, nat_eq, get_or, length, refl, sym, ap, subst, ◌∙◌, arith, suc}
 use Rattle.std.proofs.Math.ListN.{set}
-use Rattle.std.proofs.lemmas.Bool.Decides.{nat_tests}
 use Rattle.std.specs.List.{AllByRecursion}
 use Rattle.bgp_attr.specs.declared.attrs.Attrs.{Attrs}
-use Rattle.link_change.specs.Rows.{is_empty_map}
 use Rattle.deletion_stage.specs.Lost.{Lost}
-use Rattle.journal_text.specs.declared.link.Task.{Task}
-use Rattle.journal_text.specs.declared.link.Task.TheVariants.{Del}
 use Rattle.journal_text.specs.declared.entry.Entry.{Entry}
 use Rattle.journal_text.specs.declared.value.Value.{Value}
 use Rattle.journal_text.specs.declared.line.Line.{Line}
-use Rattle.journal_text.specs.Journals.{Journaled, with_lines, with_entries, flushed}
+use Rattle.journal_text.specs.Journals.{Journaled, with_entries, flushed}
 use Rattle.journal_text.specs.Texts.{entries_of}
 use Rattle.journal_text.specs.Walk.{Leads}
 use Rattle.journal_text.proofs.JournalLemmas.{entries_of_entries}
@@ -23,7 +19,6 @@ use Rattle.loss_chain.specs.Tables.{NoneEmpty}
 use Rattle.in_chain.specs.Chains.{Chained, beside, IsChain}
 use Rattle.in_chain.specs.Falls.{LeadsChain}
 use Rattle.in_chain.specs.Incomings.{loss_entries, overdue_of}
-use Rattle.loss_chain.specs.Steps.{oldest_of}
 use Rattle.in_chain.specs.Steps.{lost}
 use Rattle.router_core.specs.Moments.{Moment, chain_at, put_chain, Gives}
 use Rattle.router_core.specs.Lives.{Routes, live_state, with_routes, ended}

@@ -11,11 +11,10 @@ use Rattle.deletion_stage.specs.Lost.{Lost}
 use Rattle.link_change.specs.Rows.{Rows, no_rows}
 use Rattle.link_change.proofs.RowLemmas.{empty_rows}
 use Rattle.journal_text.specs.declared.link.Link.{Link}
-use Rattle.journal_text.specs.declared.link.Link.TheVariants.{In, Peer, Filt, Res, Org, Lost as LostOf, Low, Dyn, Int, Red, Best, ReadRib, Ebgp, Ibgp, Ext, Fib, Read, Outf, Adv}
+use Rattle.journal_text.specs.declared.link.Link.TheVariants.{In, Peer, Filt, Res}
 use Rattle.journal_text.specs.declared.entry.Entry.TheVariants.{Begin}
 use Rattle.journal_text.specs.declared.value.Value.{Value}
 use Rattle.journal_text.specs.declared.line.Line.TheVariants as lines
-use Rattle.journal_text.specs.Links.{owner_of}
 use Rattle.journal_text.specs.Walk.{Links, Leads, with_link}
 use Rattle.event_text.specs.declared.event.Event.TheVariants as events
 use Rattle.event_text.specs.declared.declared.DeclaredPeer.{DeclaredPeer}
@@ -25,13 +24,10 @@ use Rattle.policy_rules.specs.declared.rule.Rule.{Rule}
 use Rattle.pass_core.specs.Passed.{Walked, present, edited}
 use Rattle.filter_bank.specs.Filtered.{filtered_rows}
 use Rattle.in_chain.specs.Incomings.{in_rows}
-use Rattle.in_chain.specs.Chains.{Chained, filt_rows, links_of, is_named}
+use Rattle.in_chain.specs.Chains.{Chained, filt_rows, links_of}
 use Rattle.journal_text.specs.Values.{attrs_rows, route_rows}
 use Rattle.journal_text.proofs.WalkLemmas.{leads_nowhere}
 use Rattle.in_chain.specs.Steps.{new_chain, refiltered}
-use Rattle.rib_route.specs.declared.rows.Interior.{Interior}
-use Rattle.register_interest.specs.Registers.{Registry}
-use Rattle.rib_tree.specs.Trees.{Treed}
 use Rattle.router_core.specs.Moments.{Moment, chain_at, put_chain, with_chain, insert_chain, links_by, router_links, parts}
 use Rattle.router_core.specs.Lives.{live_state, routes_of, rules_of, with_rules, begun_if_down}
 use Rattle.router_core.specs.Stands.{IsEarlier, IsSilent, PeerStands, StandsAt, AreInOrder, Stands, Claim, Claims, EachPeer, InteriorTree, OneSpeaker, Order, SameCount}
@@ -42,7 +38,6 @@ use Rattle.router_core.proofs.ChainLemmas.{equal_by, same_by, other_by, chain_he
 use Rattle.router_core.proofs.LinkLemmas.{both_none, same_peers}
 use Rattle.router_core.proofs.StandLemmas.{one_peer, peer_of, chain_there, stands_with, live_edited}
 use Rattle.router_core.proofs.PlaceLemmas.{at_place, set_at_place}
-use Rattle.router_core.proofs.SessionLemmas.{ends}
 use Rattle.router_core.proofs.KeepLemmas.{steps_said}
 use Rattle.router_core.proofs.RegionLemmas.{inward_set}
 use Rattle.router_core.specs.Regions.{joined}

@@ -1,25 +1,17 @@
 -- The loss of a protocol.
-use Rattle.std.proofs.Common.{◌≡◌, ℕ, ◌+◌, ◌<◌, ◌≤◌, ◌||◌, Bool, true, false, cond, List, [], ◌∷◌, ◌++◌, length, Option, Some, None, IsSome, nat_lt, refl, sym, ap, subst, ◌∙◌, arith, length-append}
-use Rattle.std.proofs.lemmas.Bool.Decides.{nat_tests}
-use Rattle.std.specs.FinMap as tables
+use Rattle.std.proofs.Common.{◌≡◌, ◌+◌, ◌<◌, ◌≤◌, true, false, List, ◌++◌, length, Option, Some, None, IsSome, refl, sym, ap, subst, ◌∙◌, arith}
 use Rattle.bgp_attr.specs.declared.speaker.Speaker.{Speaker}
 use Rattle.rib_route.specs.declared.Proto.{Proto}
-use Rattle.rib_route.specs.declared.rows.Interior.{Interior}
-use Rattle.link_change.specs.Rows.{is_empty_map}
-use Rattle.deletion_stage.specs.Lost.{Lost}
-use Rattle.journal_text.specs.declared.link.Task.{Task}
-use Rattle.journal_text.specs.declared.link.Task.TheVariants.{Rdel}
 use Rattle.journal_text.specs.declared.entry.Entry.{Entry}
 use Rattle.journal_text.specs.declared.value.Value.{Value}
 use Rattle.journal_text.specs.declared.line.Line.{Line}
-use Rattle.journal_text.specs.Journals.{Journaled, with_lines, with_entries, flushed}
+use Rattle.journal_text.specs.Journals.{Journaled, with_entries, flushed}
 use Rattle.journal_text.specs.Walk.{Leads}
 use Rattle.journal_text.proofs.JournalLemmas.{entries_of_entries}
 use Rattle.event_text.specs.declared.event.Event.TheVariants.{Lose}
 use Rattle.rib_tree.specs.Branches.{Branch}
-use Rattle.rib_tree.specs.BranchSteps.{lost_branch, overdue_of}
+use Rattle.rib_tree.specs.BranchSteps.{lost_branch}
 use Rattle.loss_chain.specs.declared.owner.Owner.TheVariants as owners
-use Rattle.loss_chain.specs.Steps.{oldest_of}
 use Rattle.rib_tree.specs.Trees.{Treed, branch_of, int_rows, IsTree, IsFull, AreNumbered}
 use Rattle.rib_tree.specs.Falls.{LeadsTree}
 use Rattle.rib_tree.specs.Steps.{lost_tree, tree_loss_entries, tree_overdue}

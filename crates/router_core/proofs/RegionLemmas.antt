@@ -1,10 +1,9 @@
 -- What one region's part does, whatever the others have.
-use Rattle.std.proofs.Common.{◌≡◌, Bool, true, false, cond, List, Option, refl, sym, ap, subst, ◌∙◌}
+use Rattle.std.proofs.Common.{◌≡◌, List, refl, ap, subst}
 use Rattle.journal_text.specs.declared.link.Link.{Link}
 use Rattle.journal_text.specs.declared.value.Value.{Value}
 use Rattle.journal_text.specs.declared.entry.Entry.{Entry}
-use Rattle.journal_text.specs.Walk.{Links, Leads}
-use Rattle.event_text.specs.Declarations.{Declaration}
+use Rattle.journal_text.specs.Walk.{Leads}
 use Rattle.in_chain.specs.Chains.{Chained}
 use Rattle.rib_tree.specs.Trees.{Treed}
 use Rattle.rib_route.specs.declared.rows.Interior.{Interior as Route}

@@ -1,5 +1,5 @@
 -- From the links of the tree, and `fib`, to those of the router.
-use Rattle.std.proofs.Common.{◌≡◌, List, [], ◌++◌, Option, Some, None, refl, sym, ap, subst, ◌∙◌}
+use Rattle.std.proofs.Common.{◌≡◌, List, ◌++◌, Option, Some, None, refl, sym, ap, subst, ◌∙◌}
 use Rattle.std.proofs.lemmas.List.{append-nil}
 use Rattle.addr4.specs.Prefixes.{Network}
 use Rattle.bgp_attr.specs.declared.speaker.Speaker.{Speaker}
@@ -14,7 +14,7 @@ use Rattle.journal_text.specs.declared.entry.Entry.{Entry}
 use Rattle.journal_text.specs.declared.value.Value.{Value}
 use Rattle.journal_text.specs.Values.{fib_rows, fib_value}
 use Rattle.journal_text.specs.Walk.{Links, with_link, Leads}
-use Rattle.journal_text.proofs.WalkLemmas.{leads_append, leads_nowhere, with_link_same, values_lead}
+use Rattle.journal_text.proofs.WalkLemmas.{leads_append, leads_nowhere, values_lead}
 use Rattle.register_interest.specs.Registers.{Registry}
 use Rattle.rib_tree.specs.Trees.{tree_links, Treed, beside_tree, int_rows}
 use Rattle.rib_tree.specs.Falls.{LeadsTree}

@@ -1,9 +1,6 @@
 -- Room for one more deletion stage.
-use Rattle.std.proofs.Common.{◌≡◌, ℕ, ◌<◌, ◌≤◌, Bool, true, ◌&&◌, ◌||◌, cond, List, [], Option, Some, None, is_some, nat_eq, nat_lt, length, refl, sym, ap, subst, ◌∙◌, arith, zero, suc}
-use Rattle.std.proofs.lemmas.Bool.Decides.{nat_tests}
-use Rattle.std.specs.FinMap.{FinMap}
-use Rattle.addr4.specs.Prefixes.{Network, prefix_cmp}
-use Rattle.bgp_attr.specs.declared.attrs.Attrs.{Attrs}
+use Rattle.std.proofs.Common.{◌≡◌, ℕ, Bool, true, ◌&&◌, ◌||◌, cond, List, [], Option, Some, None, is_some, nat_eq, nat_lt, length, refl, sym, ap, subst, ◌∙◌, arith, zero, suc}
+use Rattle.addr4.specs.Prefixes.{Network}
 use Rattle.link_change.specs.Rows.{is_empty_map}
 use Rattle.journal_text.specs.declared.link.Task.{Task}
 use Rattle.journal_text.specs.declared.link.Task.TheVariants.{Del}
@@ -11,7 +8,7 @@ use Rattle.journal_text.specs.declared.line.Line.{Line}
 use Rattle.journal_text.specs.Journals.{Journaled, flushed}
 use Rattle.in_chain.specs.Chains.{Chained}
 use Rattle.loss_chain.specs.declared.owner.Owner.TheVariants as owners
-use Rattle.loss_chain.specs.Steps.{swept_one, table_of, oldest_of}
+use Rattle.loss_chain.specs.Steps.{table_of}
 use Rattle.in_chain.specs.Incomings.{overdue_of}
 use Rattle.in_chain.specs.Steps.{swept, welded, Sweeps}
 use Rattle.router_core.specs.Moments.{Moment, chain_at, with_chain, Gives}

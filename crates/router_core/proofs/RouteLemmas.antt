@@ -1,5 +1,5 @@
 -- A change of an interior route: what follows it, and what stands then.
-use Rattle.std.proofs.Common.{◌≡◌, ℕ, ◌+◌, ◌≤◌, true, false, not, List, ◌++◌, length, Option, Some, None, IsSome, refl, sym, ap, subst, ◌∙◌, arith, append_assoc}
+use Rattle.std.proofs.Common.{◌≡◌, ◌≤◌, true, false, not, List, ◌++◌, length, Option, Some, None, IsSome, refl, sym, ap, subst, ◌∙◌, arith, append_assoc}
 use Rattle.std.specs.FinMap as tables
 use Rattle.std.specs.FinMap.{FinMap}
 use Rattle.addr4.specs.Prefixes.{Network, prefix_cmp}

@@ -1,9 +1,6 @@
 -- Room for one more deletion stage of a protocol.
-use Rattle.std.proofs.Common.{◌≡◌, ℕ, ◌<◌, ◌≤◌, Bool, true, ◌||◌, cond, List, [], map, length, Option, Some, None, nat_lt, refl, sym, ap, subst, ◌∙◌, arith, zero, suc}
-use Rattle.std.proofs.lemmas.Bool.Decides.{nat_tests}
+use Rattle.std.proofs.Common.{◌≡◌, ℕ, Bool, ◌||◌, cond, List, [], map, length, Option, Some, None, nat_lt, refl, sym, ap, subst, ◌∙◌, arith, zero, suc}
 use Rattle.std.specs.List.{filter}
-use Rattle.std.specs.FinMap.{FinMap}
-use Rattle.addr4.specs.Prefixes.{Network, prefix_cmp}
 use Rattle.rib_route.specs.declared.Proto.{Proto}
 use Rattle.rib_route.specs.declared.rows.Interior.{Interior}
 use Rattle.link_change.specs.Rows.{is_empty_map}
@@ -13,9 +10,9 @@ use Rattle.journal_text.specs.declared.line.Line.{Line}
 use Rattle.journal_text.specs.Journals.{Journaled, flushed}
 use Rattle.rib_tree.specs.Branches.{Branch}
 use Rattle.loss_chain.specs.declared.owner.Owner.TheVariants as owners
-use Rattle.loss_chain.specs.Steps.{swept_one, table_of, oldest_of}
-use Rattle.rib_tree.specs.BranchSteps.{swept_branch, welded_branch, overdue_of}
-use Rattle.rib_tree.specs.Trees.{Treed, branch_of, put_branch}
+use Rattle.loss_chain.specs.Steps.{swept_one, table_of}
+use Rattle.rib_tree.specs.BranchSteps.{swept_branch, welded_branch}
+use Rattle.rib_tree.specs.Trees.{Treed, branch_of}
 use Rattle.rib_tree.specs.Steps.{tree_overdue}
 use Rattle.router_core.specs.Moments.{Moment, Gives}
 use Rattle.router_core.specs.Stands.{Stands, InteriorTree}

@@ -1,5 +1,5 @@
 -- What each event of the interior routes comes to.
-use Rattle.std.proofs.Common.{◌≡◌, Bool, true, false, List, [], ◌∷◌, Option, Some, None, IsSome, is_some, refl, sym, ap, subst, ◌∙◌}
+use Rattle.std.proofs.Common.{◌≡◌, Bool, true, false, List, [], ◌∷◌, Option, Some, None, IsSome, is_some, refl, sym, subst}
 use Rattle.std.specs.FinMap as tables
 use Rattle.addr4.specs.Prefixes.{Network}
 use Rattle.bgp_attr.specs.declared.speaker.Speaker.{Speaker}
@@ -22,7 +22,6 @@ use Rattle.router_core.specs.Stands.{Stands}
 use Rattle.router_core.specs.Blocks.{DropsRouteIf}
 use Rattle.router_core.specs.Works.{HasRouted, HasStepped, Pushes}
 use Rattle.router_core.proofs.KeepLemmas.{gives_pushed, steps_pushed}
-use Rattle.journal_text.specs.declared.line.Line.{Line}
 
 -- ---- `local` was declared
 add_by : (s : Option Speaker) (ps : List DeclaredPeer) (p : Network) (row : Interior) → refusal_at s ps (RouteAdd p row) ≡ None → IsSome s

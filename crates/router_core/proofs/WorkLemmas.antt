@@ -18,10 +18,10 @@ use Rattle.journal_text.proofs.JournalLemmas.{with_entries_append, entries_of_en
 use Rattle.journal_text.proofs.WalkLemmas.{leads_append}
 use Rattle.loss_chain.specs.declared.owner.Owner.TheVariants as owners
 use Rattle.loss_chain.specs.Tables.{NoneEmpty, lost_count}
-use Rattle.in_chain.specs.Chains.{Chained, filt_rows, beside, IsChain, row_count, turns_left}
+use Rattle.in_chain.specs.Chains.{Chained, filt_rows, beside, IsChain, turns_left}
 use Rattle.in_chain.specs.Falls.{Falls, LeadsChain, way_of_feed}
 use Rattle.loss_chain.specs.Steps.{weld_entries}
-use Rattle.in_chain.specs.Steps.{fed, welded, swept, Turned, Rewalks, IsTaken}
+use Rattle.in_chain.specs.Steps.{fed, welded, Turned, Rewalks, IsTaken}
 use Rattle.router_core.specs.declared.router.Done.TheVariants.{Nothing, Taken}
 use Rattle.router_core.specs.Turns.{journal_lines}
 use Rattle.router_core.specs.Works.{Pushes, StepsChain, FeedsChain, NearsChain, TakesChain, TurnsChain, is_nothing}

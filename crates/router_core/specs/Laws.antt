@@ -1,9 +1,6 @@
 -- Laws of events, for the crates above.
-use Rattle.std.specs.Prelude.{◌≡◌, ℕ, ◌≤◌, List, length, Some}
-use Rattle.bgp_attr.specs.declared.speaker.Profile.{Profile}
-use Rattle.bgp_wire.specs.declared.notice.Notice.{Notice}
+use Rattle.std.specs.Prelude.{◌≡◌, ℕ, List}
 use Rattle.bgp_wire.specs.declared.message.Message.{Message}
-use Rattle.bgp_wire.specs.Updates.{fault}
 use Rattle.event_text.specs.declared.event.Event.{Event}
 use Rattle.event_text.specs.declared.declared.DeclaredPeer.{DeclaredPeer}
 use Rattle.router_core.specs.Moments.{first_moment}

@@ -1,7 +1,7 @@
 -- How many turns are left, phase by phase, and how many all take.
 use Rattle.std.specs.Prelude.{ℕ, ◌+◌, ◌-◌, ◌*◌, ◌≤◌, nat_lt, if◌then◌else◌, length, List, [], ◌∷◌}
 use Rattle.loss_chain.specs.Tables.{lost_count}
-use Rattle.in_chain.specs.Chains.{Chained, turns_left}
+use Rattle.in_chain.specs.Chains.{Chained}
 use Rattle.rib_tree.specs.Trees.{Treed}
 use Rattle.router_core.specs.declared.router.Phase.{Phase}
 use Rattle.router_core.specs.declared.router.Phase.TheVariants.{Rdel, Del, Fin}

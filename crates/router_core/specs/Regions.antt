@@ -1,5 +1,5 @@
 -- The links by their regions: each region has a part of the router that gives its links.
-use Rattle.std.specs.Prelude.{◌≡◌, ℕ, ◌==◌, cond, List, Option, None}
+use Rattle.std.specs.Prelude.{◌≡◌, ℕ, ◌==◌, cond, List}
 use Rattle.journal_text.specs.declared.link.Link.{Link}
 use Rattle.journal_text.specs.declared.link.Link.TheVariants.{In, Peer, Filt, Res, Org, Lost, Low, Dyn, Int, Fib}
 use Rattle.journal_text.specs.declared.value.Value.{Value}

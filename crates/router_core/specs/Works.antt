@@ -1,7 +1,7 @@
 -- What the router's own calls make of chains and moments, with what they keep.
 use Rattle.std.specs.Prelude.{◌≡◌, ℕ, ◌+◌, ◌≤◌, ◌<◌, ◌⊎◌, length, slice_index_or, Bool, true, false, List, [], ◌∷◌, ◌++◌, Option, Some, None, is_some, if◌then◌else◌}
 use Rattle.std.specs.List.{AllByRecursion}
-use Rattle.addr4.specs.Prefixes.{Network, prefix_cmp}
+use Rattle.addr4.specs.Prefixes.{Network}
 use Rattle.bgp_attr.specs.declared.attrs.Attrs.{Attrs}
 use Rattle.bgp_attr.specs.declared.route.Route.{Route}
 use Rattle.link_change.specs.Changes.{IsSent}
@@ -31,7 +31,6 @@ use Rattle.rib_tree.specs.Trees.{Treed, int_rows, IsTree, IsFull}
 use Rattle.rib_tree.specs.Falls.{LeadsTree}
 use Rattle.rib_tree.specs.Steps.{lost_tree, welded_tree, tree_overdue, tree_loss_entries, tree_weld_entries}
 use Rattle.router_core.specs.Moments.{with_rib, Moment, chain_at, put_chain, with_chain, router_links, bound_of, Gives}
-use Rattle.std.specs.FinMap as map
 use Rattle.journal_text.specs.declared.link.Link.{Link}
 use Rattle.router_core.specs.Lives.{LiveState, LiveAfter, live_state, live_fed, heard, ended, interior_lost}
 use Rattle.router_core.specs.Stands.{Stands}

@@ -24,7 +24,8 @@ pub(crate) fn region_of(link: Link) -> Region
 {
     match link {
         Link::In(_) | Link::Peer(_, _) | Link::Filt(_) | Link::Res(_) => Region::Inward,
-        Link::Org(_) | Link::Lost(_, _) | Link::Low | Link::Dyn | Link::Int => Region::InteriorRoutes,
+        Link::Org(_) | Link::Lost(_, _) | Link::Low | Link::Dyn | Link::Int =>
+            Region::InteriorRoutes,
         Link::Fib => Region::Forward,
         _ => Region::Elsewhere,
     }

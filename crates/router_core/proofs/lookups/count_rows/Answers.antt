@@ -1,4 +1,4 @@
-use Rattle.std.proofs.Common.{arith, Some}
+use Rattle.std.proofs.Common.{arith}
 use Rattle.addr4.specs.Places.{key_of}
 use Rattle.in_chain.specs.Chains.{links_of, candidates_of}
 use Rattle.router_core.proofs.ShownRows.{none_counted, one_counted, all_counted, place_rises}

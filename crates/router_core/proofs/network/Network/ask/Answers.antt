@@ -1,4 +1,4 @@
-use Rattle.std.proofs.Common.{◌≡◌, ◌∙◌, List, sym, ap, true, false, None}
+use Rattle.std.proofs.Common.{◌≡◌, ◌∙◌, List, sym, ap, None}
 use Rattle.std.proofs.lemmas.Result.{on_ok_weaker}
 use Rattle.in_chain.specs.Chains.{Chained}
 use Rattle.router_core.specs.Moments.{Moment, peer_links}

@@ -7,7 +7,6 @@ use Rattle.router_core.proofs.PeerLemmas.{begun_is, begun_stepped, ignored_stepp
 use Rattle.router_core.proofs.ShownRows.{with_none}
 use Rattle.router_core.proofs.network.Network.begin_session.Goals as goal
 use Rattle.router_core.specs.Works.{HasStepped}
-use Rattle.router_core.specs.Peers.{is_up}
 
 pub returns : goal.returns
 returns c =

@@ -1,4 +1,4 @@
-use Rattle.std.proofs.Common.{◌≡◌, ◌∙◌, List, Option, sym, ap, subst, true, false, None}
+use Rattle.std.proofs.Common.{◌≡◌, ◌∙◌, List, Option, sym, ap, subst, None}
 use Rattle.std.specs.Prelude.{IfOk}
 use Rattle.link_change.specs.Rows.{Rows}
 use Rattle.journal_text.specs.declared.value.Value.{Value}

@@ -1,4 +1,4 @@
-use Rattle.std.proofs.Common.{◌∷◌, [], ◌∙◌, subst, sym, ap, Some}
+use Rattle.std.proofs.Common.{◌∷◌, [], ◌∙◌, subst, sym, ap}
 use Rattle.std.proofs.lemmas.Result.{on_ok_weaker}
 use Rattle.journal_text.specs.declared.link.Link.TheVariants.{In, Filt}
 use Rattle.journal_text.specs.declared.entry.Entry.TheVariants.{Begin}
@@ -6,7 +6,7 @@ use Rattle.journal_text.specs.declared.line.Line.TheVariants as lines
 use Rattle.journal_text.specs.Journals.{Journaled, with_lines}
 use Rattle.event_text.specs.declared.event.Event.TheVariants as events
 use Rattle.event_text.specs.Declarations.{peer_at}
-use Rattle.router_core.specs.Moments.{Moment, insert_chain}
+use Rattle.router_core.specs.Moments.{Moment}
 use Rattle.router_core.proofs.PeerLemmas.{declared_is, peer_after, peer_absent, not_added, peer_stepped}
 use Rattle.router_core.proofs.ShownRows.{with_more}
 use Rattle.router_core.proofs.network.Network.declare_peer.Goals as goal

@@ -1,7 +1,6 @@
-use Rattle.std.proofs.Common.{◌≡◌, ◌∙◌, subst, sym, ap}
+use Rattle.std.proofs.Common.{subst, sym}
 use Rattle.std.proofs.lemmas.Result.{on_ok_weaker}
 use Rattle.event_text.specs.declared.event.Event.TheVariants as events
-use Rattle.event_text.specs.Declarations.{Declaration}
 use Rattle.router_core.specs.Moments.{Moment}
 use Rattle.router_core.specs.Blocks.{rib_begins}
 use Rattle.router_core.proofs.network.Network.declare_speaker.Goals as goal

@@ -1,4 +1,4 @@
-use Rattle.std.proofs.Common.{◌≡◌, ℕ, get_or, refl, sym, subst, ◌+◌}
+use Rattle.std.proofs.Common.{ℕ, sym, subst, ◌+◌}
 use Rattle.router_core.specs.declared.router.Phase.TheVariants.{Rdel}
 use Rattle.router_core.specs.Moments.{Gives}
 use Rattle.router_core.proofs.RunLemmas.{Idling, idling_none, idling_more, idling_done}

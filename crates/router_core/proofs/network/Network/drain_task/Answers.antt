@@ -1,4 +1,4 @@
-use Rattle.std.proofs.Common.{◌≡◌, ℕ, sym, subst}
+use Rattle.std.proofs.Common.{ℕ, sym, subst}
 use Rattle.router_core.specs.declared.router.Done.{Done}
 use Rattle.router_core.specs.Works.{Comes}
 use Rattle.router_core.proofs.RunLemmas.{HaveGiven, given_none, given_more}

@@ -1,7 +1,6 @@
 use Rattle.router_core.specs.Stands.{AreInOrder, Order}
-use Rattle.std.proofs.Common.{[], subst, sym}
+use Rattle.std.proofs.Common.{subst, sym}
 use Rattle.std.specs.Prelude.{IsSome}
-use Rattle.event_text.specs.declared.event.Event.TheVariants as events
 use Rattle.router_core.specs.Moments.{Moment, chain_at}
 use Rattle.router_core.proofs.PeerLemmas.{chain_for_rules, edited_stepped}
 use Rattle.router_core.proofs.network.Network.edit_incoming.Goals as goal

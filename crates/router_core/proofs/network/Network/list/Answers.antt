@@ -1,4 +1,3 @@
-use Rattle.std.proofs.Common.{refl}
 use Rattle.event_text.specs.declared.event.Event.TheVariants as events
 use Rattle.router_core.proofs.StepLemmas.{stepped}
 use Rattle.router_core.proofs.network.Network.list.Goals as goal

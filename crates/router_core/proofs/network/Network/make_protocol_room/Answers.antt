@@ -1,4 +1,4 @@
-use Rattle.std.proofs.Common.{◌∙◌, ap, None, Some}
+use Rattle.std.proofs.Common.{◌∙◌, ap}
 use Rattle.rib_tree.specs.Steps.{tree_overdue}
 use Rattle.router_core.specs.Moments.{Moment}
 use Rattle.router_core.proofs.RouteRoom.{protocol_room_drained, protocol_room_there}

@@ -1,6 +1,5 @@
 use Rattle.router_core.proofs.RoomLemmas.{room_drained, room_there}
 use Rattle.router_core.proofs.network.Network.make_room.Goals as goal
-use Rattle.std.proofs.Common.{None, Some}
 
 pub returns-in_ok-drain_task-in-Some : goal.returns-in_ok-drain_task-in-Some
 returns-in_ok-drain_task-in-Some c =

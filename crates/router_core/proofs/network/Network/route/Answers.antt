@@ -1,6 +1,6 @@
 use Rattle.router_core.specs.Stands.{InteriorTree}
 use Rattle.rib_tree.specs.Trees.{IsTree, IsFull}
-use Rattle.std.proofs.Common.{◌≡◌, Option, IsSome, subst, sym, None, Some}
+use Rattle.std.proofs.Common.{◌≡◌, Option, IsSome, subst, sym}
 use Rattle.rib_route.specs.declared.rows.Interior.{Interior}
 use Rattle.loss_chain.specs.Steps.{live_after}
 use Rattle.rib_tree.specs.Trees.{branch_of}

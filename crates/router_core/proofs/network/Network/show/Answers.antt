@@ -1,5 +1,5 @@
 use Rattle.journal_text.specs.declared.line.Line.TheVariants as lines
-use Rattle.std.proofs.Common.{[], ◌≡◌, ◌∙◌, List, sym, ap, true, false, ◌∷◌, None, refl}
+use Rattle.std.proofs.Common.{[], ◌≡◌, ◌∙◌, List, sym, ap, ◌∷◌, None, refl}
 use Rattle.std.proofs.lemmas.Result.{on_ok_weaker}
 use Rattle.in_chain.specs.Chains.{Chained}
 use Rattle.router_core.specs.Moments.{Moment, peer_links}

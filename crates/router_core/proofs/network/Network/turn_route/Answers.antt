@@ -7,7 +7,6 @@ use Rattle.router_core.specs.Moments.{Moment}
 use Rattle.router_core.specs.Stands.{Stands}
 use Rattle.router_core.proofs.RouteTurns.{route_quiet, route_sent}
 use Rattle.router_core.proofs.network.Network.turn_route.Goals as goal
-use Rattle.link_change.specs.declared.turn.Turn.TheVariants.{Quiet, Sent}
 
 pub unit-requires-clause-tree : goal.unit-requires-clause-tree
 unit-requires-clause-tree c = subst (λ (m : Moment). IsTree m.tree) (sym c.self.view_is) (c.requires.own InteriorTree).tree

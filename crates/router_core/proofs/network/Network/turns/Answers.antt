@@ -3,7 +3,6 @@ use Rattle.router_core.specs.declared.router.Done.{Done}
 use Rattle.router_core.specs.Works.{Comes}
 use Rattle.router_core.proofs.RunLemmas.{given_more}
 use Rattle.router_core.proofs.network.Network.turns.Goals as goal
-use Rattle.router_core.specs.declared.router.Done.TheVariants.{Taken}
 
 pub loop-taken-preserved : goal.loop-taken-preserved
 loop-taken-preserved c =
