@@ -74,8 +74,8 @@ struct Measured {
 /// What is to be done.
 #[derive(Clone, Copy, Debug)]
 struct Work {
-    branches: u64,
-    prefixes: u64,
+    branches: u8,
+    prefixes: u32,
     changes: u64,
     decides: bool,
 }
@@ -129,9 +129,9 @@ fn step(
     number: u64,
     work: &Work,
 ) -> Result<u64, Memory> {
-    let branch = (number % work.branches.max(1)) as u8;
-    let place = (number >> 8) % work.prefixes.max(1);
-    let Some(prefix) = Prefix::new(Addr::new((place as u32).wrapping_mul(256)), 24) else {
+    let branch = (number % u64::from(work.branches.max(1))) as u8;
+    let place = ((number >> 8) % u64::from(work.prefixes.max(1))) as u32;
+    let Some(prefix) = Prefix::new(Addr::new(place.wrapping_mul(256)), 24) else {
         return Ok(0);
     };
     let after = row_of(number, branch, kinds)?;
@@ -171,8 +171,8 @@ fn main(rt: HostRuntime) -> anyhow::Result<()> {
     let mut words = env::args(&rt)?;
     let _program = words.next();
     let kind = words.next().context("no kind")?;
-    let branches = words.next().context("no branches")?.parse::<u64>()?;
-    let prefixes = words.next().context("no prefixes")?.parse::<u64>()?;
+    let branches = words.next().context("no branches")?.parse::<u8>()?;
+    let prefixes = words.next().context("no prefixes")?.parse::<u32>()?;
     let changes = words.next().context("no changes")?.parse::<u64>()?;
     let work = Work {
         branches,
