@@ -5,7 +5,7 @@ ghost use Rattle.std.specs.FinMap as map;
 ghost use Rattle.addr4.specs.Places.{key_of};
 ghost use Rattle.link_change.specs.Rows.{IsNextCandidate, CoversRows, together};
 ghost use Rattle.link_change.specs.InOrder.{rows_before, changed_in};
-ghost use Rattle.fanout_queue.specs.Queues.{AppendsToAll, Takes, IsMostUnread};
+ghost use Rattle.fanout_queue.specs.Queues.{AppendsToAll, Takes, KeepsReaders, IsMostUnread};
 
 use crate::entries::Entries;
 use crate::places;
@@ -51,6 +51,7 @@ impl<R: Row> Queue<R> {
     /// Puts a change at the end of what each reader hasn't taken. For want of memory nothing changes.
     pub fn put(&mut self, change: Change<R>) -> Result<(), Memory>
         ensures ok { OnOk result (AppendsToAll change self.old self.new) }
+        ensures stay { OnOk result (KeepsReaders self.old self.new) }
         ensures memory { OnErr result (self.new ≡ self.old) }
     {
         // Where nothing is kept these are all readers.
@@ -65,6 +66,7 @@ impl<R: Row> Queue<R> {
         ensures fresh { IfOk result (λ reader. map.get self.old reader ≡ None) }
         ensures ok { IfOk result (λ reader. self.new ≡ map.insert self.old reader []) }
         ensures live { IfOk result (λ reader. IsSome (map.get self.new reader)) }
+        ensures stay { OnOk result (KeepsReaders self.old self.new) }
         ensures memory { OnErr result (self.new ≡ self.old) }
     {
         let end = self.entries.end();
@@ -90,6 +92,7 @@ impl<R: Row> Queue<R> {
         requires { IsSome (map.get self.old reader.old) }
         ensures same { reader.new ≡ reader.old }
         ensures ok { IfOk result (Takes self.old self.new reader.old) }
+        ensures stay { OnOk result (KeepsReaders self.old self.new) }
         ensures memory { OnErr result (self.new ≡ self.old) }
     {
         let place = places::place_of(self.places.as_slice(), reader.number);

@@ -1,6 +1,8 @@
 use Rattle.std.proofs.Common.{arith, [], IsSome, refl, sym, subst}
 use Rattle.std.specs.FinMap as map
 use Rattle.fanout_queue.proofs.QueueLemmas.{free_is, joined, joined_live, few_there}
+use Rattle.fanout_queue.specs.Queues.{KeepsReaders}
+use Rattle.fanout_queue.proofs.LeadLemmas.{join_keeps_readers}
 use Rattle.fanout_queue.proofs.queue.Queue.join_reader.Goals as goal
 
 pub enter-requires-clause-fits : goal.enter-requires-clause-fits
@@ -17,3 +19,6 @@ returns-clause-ok g c =
 
 pub returns-clause-live : goal.returns-clause-live
 returns-clause-live g c = subst (λ m. IsSome (map.get m c.in_ok-number.number)) (sym (returns-clause-ok g c)) (joined_live c.args.self.now c.in_ok-number.number [])
+
+pub returns-clause-stay : goal.returns-clause-stay
+returns-clause-stay g c = subst (KeepsReaders c.args.self.now) (sym (returns-clause-ok g c)) (join_keeps_readers c.args.self.now c.in_ok-number.number)

@@ -1,6 +1,7 @@
 use Rattle.std.proofs.Common.{ℕ, List, Option, None, IsSome, slice_index_or, sym, subst, Some, arith, ◌+◌, ◌<◌, length, refl, ap, ◌∙◌}
 use Rattle.std.proofs.Math.ListN.{drop_of_length-le}
 use Rattle.fanout_queue.proofs.QueueLemmas.{live_place, at_place, has_unread, stands_there, few_there, passed_sound, passed_takes}
+use Rattle.fanout_queue.proofs.LeadLemmas.{take_keeps_readers}
 use Rattle.fanout_queue.proofs.queue.Queue.take.Goals as goal
 
 pub place_of-place-requires : goal.place_of-place-requires
@@ -39,3 +40,9 @@ returns-clause-ok g c =
     let end = c.end.ensures in let apart = c.if-place-end.false in
     let within : c.place_of-place.result < c.self.inside.entries.first + length c.self.inside.entries.changes = omega arith in
     passed_takes c.self.inside.entries c.pass.new.self c.self.inside.places.items c.set_place.new.places.items c.reader.inside.number c.place_of-place.result c.in_ok-change.change at within c.set_place.ensures c.in_ok-change.ensures.ok c.self.invariant c.args.self.now c.args.reader.now c.self.view_is c.reader.view_is
+
+pub returns-then-place-end-clause-stay : goal.returns-then-place-end-clause-stay
+returns-then-place-end-clause-stay g c = take_keeps_readers _ _ c.args.reader.now None (returns-then-place-end-clause-ok g c)
+
+pub returns-clause-stay : goal.returns-clause-stay
+returns-clause-stay g c = take_keeps_readers _ _ c.args.reader.now (Some c.in_ok-change.change) (returns-clause-ok g c)
