@@ -1,8 +1,8 @@
 -- How many rows tables have together, where no prefix has a row in two of them.
-use Rattle.std.proofs.Common.{◌≡◌, ℕ, ◌+◌, ◌-◌, cond, zero, suc, List, [], ◌∷◌, length, Some, None, is_some, refl, sym, ap, subst, ◌∙◌, arith}
+use Rattle.std.proofs.Common.{◌≡◌, ℕ, ◌+◌, cond, zero, suc, List, [], ◌∷◌, length, Some, None, is_some, refl, sym, ap, subst, ◌∙◌, arith}
 use Rattle.std.specs.Ordering.{eq_by_cmp}
 use Rattle.std.specs.FinMap as tables
-use Rattle.std.specs.FinMap.{FinMap, get-entries, len-entries, len-insert, len-remove, empty_of_len, find}
+use Rattle.std.specs.FinMap.{FinMap, get-entries, len-entries, len-insert, empty_of_len, find}
 use Rattle.addr4.specs.Prefixes.{Network, prefix_cmp}
 use Rattle.addr4.proofs.PrefixOrder.{prefixes_total, by_prefix, itself}
 use Rattle.link_change.specs.Rows.{Rows, with_row}

@@ -5,7 +5,6 @@ use Rattle.deletion_stage.specs.Lost.{Lost}
 use Rattle.rib_route.specs.declared.Proto.{Proto}
 use Rattle.rib_route.specs.declared.Proto.TheVariants.{Connected, Static, Ospf, Rip}
 use Rattle.journal_text.specs.Links.{rank_of}
-use Rattle.journal_text.specs.declared.link.Link.{Link}
 use Rattle.loss_chain.specs.declared.owner.Owner.{Owner}
 use Rattle.loss_chain.specs.declared.owner.Owner.TheVariants.{Peer, Origin}
 use Rattle.loss_chain.specs.Owners.{lowest_link, lost_link, same_proto, is_owned}

@@ -24,7 +24,6 @@ use Rattle.loss_chain.specs.declared.owner.Owner.{Owner}
 use Rattle.loss_chain.specs.Owners.{lost_link}
 use Rattle.journal_text.specs.Values.{valued, sent_entries}
 use Rattle.loss_chain.specs.Tables.{Tables, rows_below, lowest_rows}
-use Rattle.loss_chain.specs.Falls.{way_down}
 use Rattle.loss_chain.specs.Parts.{links_over, lowered, IsRisingFrom, IsSound, IsClearAbove, LeadsOver, FallsOver}
 use Rattle.loss_chain.proofs.OwnerLemmas.{rank_lost, rising_at, rising_after}
 

@@ -1,7 +1,6 @@
 -- How many rows the tables have after turns, welds and losses.
-use Rattle.std.proofs.Common.{◌≡◌, ℕ, ◌<◌, ◌≤◌, ◌+◌, ◌-◌, ◌==◌, ◌++◌, Bool, true, false, cond, not, zero, suc, List, [], ◌∷◌, Some, None, is_some, refl, sym, ap, ◌∙◌, arith}
+use Rattle.std.proofs.Common.{◌≡◌, ℕ, ◌<◌, ◌+◌, ◌-◌, ◌==◌, ◌++◌, true, false, cond, not, zero, suc, List, [], ◌∷◌, Some, None, is_some, refl, sym, ap, ◌∙◌, arith}
 use Rattle.std.specs.Prelude.{map, filter}
-use Rattle.std.specs.List.{AllByRecursion}
 use Rattle.std.proofs.lemmas.Bool.Decides.{nat_tests}
 use Rattle.std.specs.FinMap as tables
 use Rattle.std.specs.FinMap.{FinMap, len-remove, len-empty, empty_of_len, get-empty}
@@ -9,7 +8,7 @@ use Rattle.addr4.specs.Prefixes.{Network, prefix_cmp}
 use Rattle.addr4.proofs.PrefixOrder.{prefixes_total}
 use Rattle.link_change.specs.Rows.{is_empty_map}
 use Rattle.deletion_stage.specs.Lost.{Lost}
-use Rattle.loss_chain.specs.Tables.{Tables, AreRising, lost_count, tables_count}
+use Rattle.loss_chain.specs.Tables.{AreRising, lost_count, tables_count}
 use Rattle.loss_chain.specs.Steps.{without, table_of, swept_one}
 use Rattle.loss_chain.proofs.WholeLemmas.{rising_all}
 use Rattle.loss_chain.proofs.WorkLemmas.{swept_above}

@@ -1,6 +1,6 @@
 -- What contracts see of the stages above a link whose source may be lost: the live rows, and below them the tables of losses
 -- whose deletes weren't sent yet (NSDI 2005, section 5.1.2).
-use Rattle.std.specs.Prelude.{◌≡◌, ℕ, ◌+◌, ◌==◌, ◌<◌, cond, Bool, false, if◌then◌else◌, List, [], ◌∷◌, ◌⊎◌, Option, Some, None, option_map, refl}
+use Rattle.std.specs.Prelude.{◌≡◌, ℕ, ◌+◌, ◌==◌, ◌<◌, cond, false, if◌then◌else◌, List, [], ◌∷◌, ◌⊎◌, Option, Some, None, option_map, refl}
 use Rattle.std.specs.List.{AllByRecursion}
 use Rattle.std.specs.Coded.{Coded, code_by, coded×, coded_list}
 use Rattle.std.specs.FinMap as map
@@ -9,7 +9,6 @@ use Rattle.addr4.specs.Prefixes.{prefix_cmp, network_code}
 use Rattle.link_change.specs.Rows.{Rows, is_empty_map}
 use Rattle.deletion_stage.specs.Lost.{Lost, lost_code}
 use Rattle.deletion_stage.specs.Covering.{covered, AreApart}
-use Rattle.journal_text.specs.declared.link.Link.{Link}
 use Rattle.journal_text.specs.declared.link.Link.TheVariants as names
 use Rattle.journal_text.specs.declared.value.Value.{Value}
 use Rattle.journal_text.specs.Walk.{Links}

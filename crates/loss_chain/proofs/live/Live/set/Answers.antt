@@ -1,4 +1,4 @@
-use Rattle.std.proofs.Common.{◌≡◌, Some, None, IsNone, ◌↔◌, ap, subst, ◌∙◌, rules}
+use Rattle.std.proofs.Common.{◌≡◌, Some, IsNone, ◌↔◌, ap, subst, ◌∙◌, rules}
 use Rattle.std.specs.FinMap as map
 use Rattle.link_change.proofs.ChangeLemmas.{sends_insert, none_if_same, sent_after}
 use Rattle.loss_chain.proofs.live.Live.set.Goals as goal

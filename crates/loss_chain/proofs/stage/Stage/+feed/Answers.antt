@@ -1,4 +1,3 @@
-use Rattle.std.proofs.Common.{refl}
 use Rattle.loss_chain.specs.Owners.{lost_link}
 use Rattle.loss_chain.specs.Falls.{way_down}
 use Rattle.loss_chain.specs.Stages.{rows_of, tables_of, deletions_of}
