@@ -18,7 +18,7 @@ use std::test::Fail;
 use trie_branches::TrieBranches;
 
 // A peer of AS 65001 or 65002; the second's identifier is greater than the third's.
-fn peer(number: u8) -> Neighbour {
+pub(crate) fn peer(number: u8) -> Neighbour {
     let (asn, id) = match number {
         1 => (65001, 1),
         2 => (65001, 3),
@@ -34,7 +34,7 @@ fn peer(number: u8) -> Neighbour {
 }
 
 // The route of a peer: its AS alone, and MULTI_EXIT_DISC 20, 10 or none.
-fn route(alloc: Global, number: u8) -> Result<Route, Memory> {
+pub(crate) fn route(alloc: Global, number: u8) -> Result<Route, Memory> {
     let from = peer(number);
     let med = match number {
         1 => Some(20),
