@@ -17,7 +17,7 @@ use crate::live::Live;
 use crate::owner::Owner;
 use crate::splice::{fresh_top, set_live, splice_out};
 use addr4::{Memory, Prefix};
-use deletion_stage::Deletion;
+use crate::deletion::Deletion;
 use journal_text::{Entry, Journal, Link, Valued};
 use link_change::{Change, Turn};
 use std::alloc::Global;

@@ -28,7 +28,7 @@ use Rattle.router_core.proofs.PeerLemmas.{local_first, speaker_stands}
 use Rattle.router_core.proofs.ShownRows.{with_more}
 use Rattle.router_core.specs.Works.{HasStepped}
 use Rattle.router_core.specs.Lives.{live_state}
-use Rattle.router_core.proofs.ChainLemmas.{get_or_any}
+use Rattle.router_core.proofs.KeepLemmas.{get_or_any}
 
 -- a tree without routes has no rows
 org_empty : (proto : Proto) → org_rows (branch_of proto new_tree) ≡ no_rows

@@ -33,7 +33,7 @@ use Rattle.router_core.specs.Lives.{live_state, with_interior, with_losses, inte
 use Rattle.router_core.specs.Stands.{Stands, Claim, Claims, InteriorTree, Tie, Ties, Registered, here}
 use Rattle.router_core.specs.Turns.{journal_lines, fib_entries, FallsRoute, Registers}
 use Rattle.router_core.specs.Works.{Forwards, Follows, Settles, PushesForwarded, HasRouted, Pushes}
-use Rattle.router_core.proofs.TableLemmas.{few_filter, few_map}
+use Rattle.loss_chain.proofs.TableLemmas.{few_filter, few_map}
 use Rattle.router_core.proofs.RibLinks.{leads_rib, leads_above}
 use Rattle.router_core.proofs.TreeParts.{welded_put, put_seen, put_all, put_kept}
 use Rattle.router_core.proofs.StandLemmas.{registered_rows}
