@@ -31,10 +31,10 @@ all_both P [] ys p q = q
 all_both P (x ∷ xs) ys p q = (p.0, all_both P xs ys p.1 q)
 
 -- of what is made of each element
-pub all_made : {A X : Type 0} (P : X → Type 0) (f : A → X) (as : List A) → AllByRecursion (λ a. P (f a)) as → AllByRecursion P (map f as)
+pub all_made : {A X : Type 0} (P : X → Type 0) (f : A → X) (xs : List A) → AllByRecursion (λ a. P (f a)) xs → AllByRecursion P (map f xs)
 all_made P f [] all = tt
-all_made P f (a ∷ as) all = (all.0, all_made P f as all.1)
+all_made P f (x ∷ xs) all = (all.0, all_made P f xs all.1)
 
-pub all_flat : {A X : Type 0} (P : X → Type 0) (f : A → List X) (as : List A) → AllByRecursion (λ a. AllByRecursion P (f a)) as → AllByRecursion P (flat_map f as)
+pub all_flat : {A X : Type 0} (P : X → Type 0) (f : A → List X) (xs : List A) → AllByRecursion (λ a. AllByRecursion P (f a)) xs → AllByRecursion P (flat_map f xs)
 all_flat P f [] all = tt
-all_flat P f (a ∷ as) all = all_both P (f a) (flat_map f as) all.0 (all_flat P f as all.1)
+all_flat P f (x ∷ xs) all = all_both P (f x) (flat_map f xs) all.0 (all_flat P f xs all.1)

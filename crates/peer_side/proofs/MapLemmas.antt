@@ -109,7 +109,7 @@ module _ {K X : Type 0} (R : K → K → Ordering) (total : IsTotalOrder R) wher
         let p = parts (below_all R e.0 es) (is_sorted R es) sorted in
         let old = sum_by-cons f e.1 (values_of es) in
         elim (R k e.0) as (λ o. R k e.0 ≡ o → cond (is_eq o) (Some e.1) (find R k es) ≡ Some d
-            → sum_by f (values_of (by_order o ((k, v) ∷ e ∷ es) ((e.0, v) ∷ es) (e ∷ put R k v es))) + f d ≡ sum_by f (values_of (e ∷ es)) + f v) [
+        → sum_by f (values_of (by_order o ((k, v) ∷ e ∷ es) ((e.0, v) ∷ es) (e ∷ put R k v es))) + f d ≡ sum_by f (values_of (e ∷ es)) + f v) [
           | Less ↦ λ less there. let none : find R k es ≡ None = missing k es (below_less k e.0 es less p.0) in absurd (cc)
           | Equal ↦ λ _ there.
               let same : f e.1 ≡ f d = ap f (one_of e.1 d there) in

@@ -1,10 +1,11 @@
 //! Lookups: whether a link is live, its row at a prefix, and where its rows may stand.
 
-ghost use Rattle.std.specs.Prelude.{◌≡◌, IfOk, IsSome, is_some, Some, None, MatchOption};
+ghost use Rattle.std.specs.Prelude.{◌≡◌, IfOk, IfSome, IsSome, is_some, Some};
 ghost use Rattle.std.specs.Option.{option_copied};
 ghost use Rattle.addr4.specs.Places.{key_of};
 ghost use Rattle.link_change.specs.Rows.{Rows, IsNextCandidate, CoversRows};
 ghost use Rattle.journal_text.specs.declared.value.Value.{Value};
+ghost use Rattle.journal_text.specs.Links.{owner_of};
 ghost use Rattle.journal_text.specs.Walk.{HasRow};
 ghost use Rattle.peer_side.specs.Peers.{chain_at, links_by, peer_links, peer_candidates};
 
@@ -16,7 +17,8 @@ use journal_text::{Link, Value};
 impl Peers {
     /// The chain that may have the link.
     fn chain_for(&self, link: Link) -> Option<&Chain>
-        ensures { links_by (option_copied result) link ≡ peer_links self.now link }
+        ensures links { links_by (option_copied result) link ≡ peer_links self.now link }
+        ensures own { IfSome result (λ chain. Some chain.now ≡ chain_at (owner_of link) self.now) }
     {
         match link {
             Link::In(k) | Link::Peer(k, _) | Link::Filt(k) => self.chain(k),

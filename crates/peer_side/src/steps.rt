@@ -37,12 +37,7 @@ impl Peers {
 
     /// The session of this number of a peer is lost: its routes, if there are any, go to a deletion stage directly below the
     /// top (NSDI 2005, section 5.1.2), and the link `peer.K.S` above it begins. No other link changes.
-    pub fn lose(
-        &mut self,
-        number: u32,
-        session: u32,
-        journal: &mut Journal,
-    ) -> Result<(), Memory>
+    pub fn lose(&mut self, number: u32, session: u32, journal: &mut Journal) -> Result<(), Memory>
         requires sound { IsPeers self.old }
         requires may { MayLose number session self.old }
         ensures { OnOk result (Adds (LosesInward number session self.old self.new) journal.old journal.new) }
@@ -84,11 +79,7 @@ fn feed_chain(
 }
 
 /// One turn of a task in a chain, and the stage that this empties goes.
-fn turn_chain(
-    chain: &mut Chain,
-    task: Task,
-    journal: &mut Journal,
-) -> Result<Turn<Route>, Memory>
+fn turn_chain(chain: &mut Chain, task: Task, journal: &mut Journal) -> Result<Turn<Route>, Memory>
     requires sound { IsChain chain.old }
     requires full { NoneEmpty chain.old.incoming.tables.deletions }
     ensures { IfOk result (ComesChain task chain.old chain.new journal.old journal.new) }

@@ -126,7 +126,7 @@ peer_declared m v me k words after p cs before now view stands admitted local ad
       journal_lines (begin_entries k),
       lines,
       subst (λ (n : Moment). HasStepped v (events.Peer k words) 0 n (journal_lines (begin_entries k))) (sym is)
-      (peer_stepped v me k words (sym local) (subst Stands (sym view) stands) absent (subst (λ (x : Chains). LeadsIn Inward (peer_links v.chains) (begin_entries k) (peer_links x)) chains leads) (subst IsPeers chains peers)),
+          (peer_stepped v me k words (sym local) (subst Stands (sym view) stands) absent (subst (λ (x : Chains). LeadsIn Inward (peer_links v.chains) (begin_entries k) (peer_links x)) chains leads) (subst IsPeers chains peers)),
     )
   where
     absent : peer_at k v.declared.peers ≡ None
@@ -155,9 +155,9 @@ is_down false b e = absurd (cc)
 begun_peer : (k : ℕ) (p : DeclaredPeer) (c : Chained) → PeerStands p c → PeerStands (begun_at k p) c
 begun_peer k p c stands = by_bool (nat_eq p.words.number k && not p.up) (λ b. PeerStands (cond b (record { words = p.words; session = p.session + 1; up = true }) p) c)
     (λ e. record {
-    words = stands.words;
-    earlier = subst (λ (n : ℕ). AreBefore n c) (ap (λ (u : Bool). cond u p.session (p.session + 1)) (is_down (nat_eq p.words.number k) p.up e)) stands.earlier;
-    silent = tt;
+      words = stands.words;
+      earlier = subst (λ (n : ℕ). AreBefore n c) (ap (λ (u : Bool). cond u p.session (p.session + 1)) (is_down (nat_eq p.words.number k) p.up e)) stands.earlier;
+      silent = tt;
     })
     (λ _. stands)
 
