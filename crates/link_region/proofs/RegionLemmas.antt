@@ -23,7 +23,7 @@ by_bool false P yes_so no_so = no_so refl
 equal_numbers : (m n : ℕ) → nat_eq m n ≡ true → m ≡ n
 equal_numbers m n e = grind (arith, nat_tests)
 
-region_by : ℕ → Region
+abbrev region_by : ℕ → Region
 region_by n = cond (nat_eq n 0) Inward (cond (nat_eq n 1) InteriorRoutes (cond (nat_eq n 2) Forward Elsewhere))
 
 region_back : (r : Region) → region_by (region_number r) ≡ r

@@ -1,11 +1,13 @@
 -- A fall or a turn in a chain and the weld behind it, as one step.
-use Rattle.std.proofs.Common.{◌≡◌, ℕ, ◌<◌, ◌≤◌, Bool, List, [], ◌++◌, map, length, Option, Some, None, refl, sym, ap, subst, ◌∙◌, arith}
-use Rattle.std.specs.List.{AllByRecursion, filter}
+use Rattle.std.proofs.Common.{◌≡◌, ℕ, ◌<◌, ◌≤◌, List, map, length, Option, Some, None, refl, sym, ap, subst, ◌∙◌, arith}
+use Rattle.std.specs.List.{AllByRecursion}
 use Rattle.addr4.specs.Prefixes.{Network}
 use Rattle.bgp_attr.specs.declared.attrs.Attrs.{Attrs}
 use Rattle.bgp_attr.specs.declared.route.Route.{Route}
 use Rattle.link_change.specs.Changes.{IsSent}
 use Rattle.link_change.specs.declared.change.Change.{Change}
+use Rattle.link_change.specs.declared.turn.Turn.{Turn}
+use Rattle.link_change.specs.declared.turn.Turn.TheVariants as turns
 use Rattle.policy_rules.specs.declared.rule.Rule.{Rule}
 use Rattle.pass_core.specs.Passed.{Passed, Walked, present, latest_of, present_of, stepped, walk_of_waiting, after_walk}
 use Rattle.pass_core.specs.Turns.{walked_on, IsSentAt}
@@ -25,7 +27,7 @@ use Rattle.loss_chain.proofs.ListLemmas.{all_mapped, all_filtered}
 use Rattle.loss_chain.proofs.TableLemmas.{is_full, few_filter, few_map, swept_number}
 use Rattle.in_chain.specs.Chains.{Chained, filt_rows, beside, IsChain, turns_left}
 use Rattle.in_chain.specs.Falls.{Falls, LeadsChain, way_of_feed}
-use Rattle.in_chain.specs.Steps.{fed, welded, swept, Turned, Rewalks}
+use Rattle.in_chain.specs.Steps.{fed, welded, swept, Turned, Rewalks, IsTaken}
 use Rattle.peer_side.specs.Peers.{AreBefore, lost_of}
 use Rattle.peer_side.specs.Chains.{with_weld, StepsChain, FeedsChain, Leaves, NearsChain, TakesChain}
 use Rattle.peer_side.proofs.CountLemmas.{swept_turns, swept_rows, weld_stays}
@@ -73,7 +75,7 @@ turn_leads (Del k s) c less sent entries t = t.1.fall.leads
 turn_leads (Fin k) c less sent entries t = t.1.leads
 turn_leads (Rdel proto n) c less sent entries t = absurd t
 
-pub takes_chain : (task : Task) (sent : Option (Change Route)) (c less c' : Chained) (before j now : Journaled) → Adds (Turned c less task sent) before j → Welds less c' j now → Adds (TakesChain task sent c c') before now
+takes_chain : (task : Task) (sent : Option (Change Route)) (c less c' : Chained) (before j now : Journaled) → Adds (Turned c less task sent) before j → Welds less c' j now → Adds (TakesChain task sent c c') before now
 takes_chain task sent c less c' before j now adds w = (
   with_weld less adds.0,
   fall_pushed less c' adds.0 before j now adds.1 w,
@@ -87,6 +89,14 @@ takes_chain task sent c less c' before j now adds w = (
     step = fall_step c less c' adds.0 j now (turn_leads task c less sent adds.0 adds.2) w;
   },
 )
+
+-- by what came out
+pub taken_quietly : (task : Task) (c less c' : Chained) (before j now : Journaled) (turn : Turn Route) → turn ≡ turns.Quiet → IsTaken c less task before j turn → Welds less c' j now → Adds (TakesChain task None c c') before now
+taken_quietly task c less c' before j now turn is taken w = takes_chain task None c less c' before j now (subst (IsTaken c less task before j) is taken) w
+
+pub taken_sent : (task : Task) (change : Change Route) (c less c' : Chained) (before j now : Journaled) (turn : Turn Route) → turn ≡ turns.Sent change → IsTaken c less task before j turn → Welds less c' j now
+    → Adds (TakesChain task (Some change) c c') before now
+taken_sent task change c less c' before j now turn is taken w = takes_chain task (Some change) c less c' before j now (subst (IsTaken c less task before j) is taken) w
 
 -- ---- the lost sessions of a chain
 

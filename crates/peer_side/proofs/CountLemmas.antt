@@ -1,5 +1,5 @@
 -- What a turn of a chain's stage, and the weld behind it, leave of its counts.
-use Rattle.std.proofs.Common.{◌≡◌, ℕ, ◌+◌, ◌≤◌, Bool, true, false, not, cond, List, [], ◌∷◌, length, map, filter, Option, Some, None, is_some, nat_eq, refl, sym, ap, subst, ◌∙◌, arith}
+use Rattle.std.proofs.Common.{◌≡◌, ℕ, ◌+◌, ◌≤◌, Bool, true, false, not, cond, List, [], ◌∷◌, length, map, filter, Option, Some, None, nat_eq, refl, sym, ap, subst, ◌∙◌, arith}
 use Rattle.std.specs.FinMap as tables
 use Rattle.std.specs.FinMap.{FinMap, find, is_sorted, get-entries, get-remove, get-from_sorted, entries_sorted, entries-from_sorted, same_map}
 use Rattle.std.specs.FinMap.Entries.{where_key, is_sorted-where_key, find-where_key}

@@ -1,5 +1,5 @@
 -- From the links of one chain to those of all peers.
-use Rattle.std.proofs.Common.{◌≡◌, ℕ, Bool, true, false, ◌&&◌, cond, List, [], ◌∷◌, ◌++◌, Option, Some, None, nat_eq, refl, sym, ap, subst, ◌∙◌}
+use Rattle.std.proofs.Common.{◌≡◌, ℕ, Bool, true, false, ◌&&◌, cond, List, [], ◌∷◌, Option, Some, None, nat_eq, refl, sym, ap, subst, ◌∙◌}
 use Rattle.bgp_attr.specs.declared.attrs.Attrs.{Attrs}
 use Rattle.bgp_attr.specs.declared.speaker.Speaker.{Speaker}
 use Rattle.bgp_attr.specs.declared.speaker.Neighbour.{Neighbour}
@@ -17,9 +17,9 @@ use Rattle.journal_text.specs.Walk.{Links, with_link, Leads}
 use Rattle.link_region.specs.declared.regions.Region.TheVariants.{Inward}
 use Rattle.link_region.specs.Regions.{Sides, joined, with_side, LeadsIn}
 use Rattle.link_region.proofs.RegionLemmas.{by_bool, lead_join, lead_begin}
-use Rattle.loss_chain.proofs.TableLemmas.{equal_by, same_by, other_by}
+use Rattle.loss_chain.proofs.TableLemmas.{equal_by}
 use Rattle.in_chain.specs.Incomings.{in_rows}
-use Rattle.in_chain.specs.Chains.{Chained, links_of, filt_rows, beside, is_named}
+use Rattle.in_chain.specs.Chains.{Chained, links_of, filt_rows, beside}
 use Rattle.in_chain.specs.Falls.{LeadsChain}
 use Rattle.in_chain.specs.Steps.{new_chain}
 use Rattle.peer_side.specs.Peers.{Chains, chain_at, put_chain, links_by, peer_links, begin_entries}

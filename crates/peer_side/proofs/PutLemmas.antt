@@ -1,14 +1,17 @@
 -- Peers' chains by number, where one was put.
-use Rattle.std.proofs.Common.{◌≡◌, ℕ, ◌+◌, ◌<◌, ◌≤◌, Bool, true, false, cond, length, Option, Some, None, is_some, nat_eq, refl, sym, ap, subst, ◌∙◌, arith}
+use Rattle.std.proofs.Common.{◌≡◌, ℕ, ◌+◌, Bool, true, false, cond, Option, Some, None, is_some, nat_eq, refl, sym, ap, subst, ◌∙◌}
 use Rattle.std.specs.FinMap as tables
-use Rattle.std.specs.FinMap.{get-insert, len-insert, same_map, nat_cmp-IsAntisymmetric}
+use Rattle.std.specs.FinMap.{from_entries, get-insert, len-insert, same_map, nat_cmp-IsAntisymmetric}
+use Rattle.std.specs.BTreeMap as tree
+use Rattle.std.specs.BTreeMap.{BTreeMap, WritesThrough}
+use Rattle.std.specs.Prelude.{IsSome}
 use Rattle.std.specs.Cmp.{nat_cmp_total, unsigned_tied}
 use Rattle.std.specs.Ordering.{nat_cmp}
 use Rattle.link_region.proofs.RegionLemmas.{by_bool}
 use Rattle.loss_chain.proofs.TableLemmas.{equal_by, same_by}
 use Rattle.in_chain.specs.Chains.{Chained, turns_left}
 use Rattle.peer_side.specs.Peers.{Chains, chain_at, put_chain, lost_of, lost_in, left_in}
-use Rattle.peer_side.proofs.MapLemmas.{one_of, sum_replaced}
+use Rattle.peer_side.proofs.MapLemmas.{one_of, read_in, map_set, sum_replaced}
 
 pub at_put : (k : ℕ) (c : Chained) (a : Chains) (j : ℕ) → chain_at j (put_chain k c a) ≡ cond (nat_eq j k) (Some c) (chain_at j a)
 at_put k c a j = get-insert nat_cmp_total a k c j ∙ ap (λ (b : Bool). cond b (Some c) (chain_at j a)) (unsigned_tied j k)
@@ -53,3 +56,17 @@ put_left k c c' a at = sum_replaced nat_cmp nat_cmp_total turns_left a k c' c at
 -- to put the chain that is there changes nothing
 pub put_same : (k : ℕ) (c : Chained) (a : Chains) → chain_at k a ≡ Some c → put_chain k c a ≡ a
 put_same k c a at = same_map nat_cmp_total nat_cmp-IsAntisymmetric (put_chain k c a) a (λ j. put_kept (λ (o : Option Chained). o) k c a (sym at) j)
+
+-- ---- a chain that is lent by the map that holds it
+pub read_at : (m : BTreeMap ℕ Chained) (now : Chains) (k : ℕ) → from_entries m.entries ≡ now → tree.get nat_cmp m k ≡ chain_at k now
+read_at m now k view = sym (read_in nat_cmp nat_cmp_total m now k view)
+
+pub lent_none : (m : BTreeMap ℕ Chained) (now : Chains) (k : ℕ) → from_entries m.entries ≡ now → None ≡ tree.get nat_cmp m k → IsSome (chain_at k now) → ⊥
+lent_none m now k view none some = let gone : chain_at k now ≡ None = sym (none ∙ read_at m now k view) in cc
+
+pub lent_put : (m n : BTreeMap ℕ Chained) (now : Chains) (k : ℕ) (c c' : Chained) → from_entries m.entries ≡ now → Some c ≡ tree.get nat_cmp m k → WritesThrough nat_cmp (nat_cmp k) m c' n → from_entries {R = nat_cmp} n.entries ≡ put_chain k c' now
+lent_put m n now k c c' view at written = map_set nat_cmp nat_cmp_total nat_cmp-IsAntisymmetric m n now k c' view (written.3 (ap is_some (sym at)))
+
+-- and one that is new
+pub set_put : (m n : BTreeMap ℕ Chained) (now : Chains) (k : ℕ) (c : Chained) → from_entries m.entries ≡ now → tree.Updates nat_cmp m n k (Some c) → from_entries {R = nat_cmp} n.entries ≡ put_chain k c now
+set_put m n now k c view updates = map_set nat_cmp nat_cmp_total nat_cmp-IsAntisymmetric m n now k c view updates

@@ -1,6 +1,5 @@
 -- A step of one chain, as one of the side.
-use Rattle.std.proofs.Common.{◌≡◌, ℕ, ◌+◌, ◌<◌, ◌≤◌, Bool, false, List, [], ◌∷◌, length, Option, Some, None, IsSome, is_some, nat_eq, refl, sym, ap, subst, ◌∙◌, arith}
-use Rattle.std.specs.List.{AllByRecursion}
+use Rattle.std.proofs.Common.{◌≡◌, ℕ, ◌+◌, ◌<◌, ◌≤◌, List, length, Option, Some, None, refl, sym, ap, subst, ◌∙◌, arith}
 use Rattle.addr4.specs.Prefixes.{Network}
 use Rattle.bgp_attr.specs.declared.attrs.Attrs.{Attrs}
 use Rattle.bgp_attr.specs.declared.route.Route.{Route}
@@ -16,7 +15,7 @@ use Rattle.journal_text.specs.declared.link.Task.{Task}
 use Rattle.journal_text.specs.declared.link.Task.TheVariants.{Del, Fin, Rdel}
 use Rattle.journal_text.specs.declared.entry.Entry.{Entry}
 use Rattle.journal_text.specs.declared.value.Value.{Value}
-use Rattle.journal_text.specs.Journals.{Journaled, Adds}
+use Rattle.journal_text.specs.Journals.{Journaled, with_entries, Adds}
 use Rattle.loss_chain.specs.Lost.{Lost}
 use Rattle.loss_chain.specs.declared.owner.Owner.TheVariants as owners
 use Rattle.loss_chain.specs.Tables.{NoneEmpty}
@@ -25,11 +24,12 @@ use Rattle.loss_chain.proofs.TableLemmas.{few_lost, all_lost}
 use Rattle.in_chain.specs.Chains.{Chained, links_of, filt_rows, IsChain}
 use Rattle.in_chain.specs.Falls.{LeadsChain}
 use Rattle.in_chain.specs.Incomings.{loss_entries, overdue_of}
-use Rattle.in_chain.specs.Steps.{fed, lost, welded, refiltered, new_chain, has_turn}
-use Rattle.peer_side.specs.Peers.{Chains, chain_at, put_chain, filt_at, filt_by, IsPeer, IsPeers, AreBefore, peer_of, has_turn_in, has_peer_work}
+use Rattle.in_chain.specs.Steps.{fed, lost, welded, refiltered, new_chain}
+use Rattle.peer_side.specs.Peers.{Chains, chain_at, put_chain, filt_at, filt_by, IsPeer, IsPeers, AreBefore, peer_of, has_turn_in}
 use Rattle.peer_side.specs.Chains.{StepsChain, FeedsChain, NearsChain, TakesChain, ComesChain}
-use Rattle.peer_side.specs.Steps.{StepsInward, Changes, FeedsInward, LosesInward, EditsInward, Nears, TakesInward, ComesInward}
-use Rattle.peer_side.proofs.PutLemmas.{put_here, put_other, put_kept, put_each, put_lost, put_left}
+use Rattle.peer_side.specs.Steps.{StepsInward, Changes, MayLose, FeedsInward, LosesInward, EditsInward, Nears, TakesInward, ComesInward}
+use Rattle.peer_side.proofs.MapLemmas.{one_of}
+use Rattle.peer_side.proofs.PutLemmas.{put_here, put_other, put_kept, put_each, put_same, put_lost, put_left}
 use Rattle.peer_side.proofs.LinkLemmas.{leads_peers, links_kept}
 use Rattle.peer_side.proofs.ChainLemmas.{Left, fed_before, fed_few, turn_left, turn_nears, turn_sent}
 
@@ -50,7 +50,7 @@ module _ (a : Chains) (k : ℕ) (c : Chained) (at : chain_at k a ≡ Some c) (pe
   }
 
   -- ---- a feed
-  pub fed_inward : (p : Network) (row : Option Attrs) (sent : Option (Change Route)) (c' : Chained) (entries : List (Entry Value)) → FeedsChain p row sent c c' entries
+  fed_inward : (p : Network) (row : Option Attrs) (sent : Option (Change Route)) (c' : Chained) (entries : List (Entry Value)) → FeedsChain p row sent c c' entries
       → FeedsInward k p row sent a (put_chain k c' a) entries
   fed_inward p row sent c' entries f = record {
     feeds = record { chain = c; at = at; fall = f.fall; falls = f.falls; rows = f.rows; lines = f.lines; after = ap (λ (x : Chained). put_chain k x a) f.after };
@@ -66,11 +66,15 @@ module _ (a : Chains) (k : ℕ) (c : Chained) (at : chain_at k a ≡ Some c) (pe
           let was = is_peer.few in
           omega (arith, same, less, was)
 
+  pub fed_adds : (p : Network) (row : Option Attrs) (sent : Option (Change Route)) (c' : Chained) (before now : Journaled) → Adds (FeedsChain p row sent c c') before now
+      → Adds (FeedsInward k p row sent a (put_chain k c' a)) before now
+  fed_adds p row sent c' before now f = (f.0, f.1, fed_inward p row sent c' f.0 f.2)
+
   -- ---- a loss
   later : (s : ℕ) → AreBefore s c → AreBefore (s + 1) (lost s c)
   later s all = all_lost (λ (d : Lost Attrs). d.number < s + 1) s c.incoming.tables (all_so (λ (d : Lost Attrs). d.number < s) (λ d. d.number < s + 1) (λ d lt. omega (arith, lt)) c.incoming.tables.deletions all) (omega arith)
 
-  pub lost_inward : (s : ℕ) (c' : Chained) → overdue_of c.incoming ≡ None → AreBefore s c → c' ≡ lost s c → LeadsChain c (loss_entries s c.incoming) c' → filt_rows c' ≡ filt_rows c → IsChain c' → NoneEmpty c'.incoming.tables.deletions
+  lost_inward : (s : ℕ) (c' : Chained) → overdue_of c.incoming ≡ None → AreBefore s c → c' ≡ lost s c → LeadsChain c (loss_entries s c.incoming) c' → filt_rows c' ≡ filt_rows c → IsChain c' → NoneEmpty c'.incoming.tables.deletions
       → LosesInward k s a (put_chain k c' a) (loss_entries s c.incoming)
   lost_inward s c' room before is leads rows chain full = record {
     loses = record { chain = c; at = at; lines = refl; after = ap (λ (x : Chained). put_chain k x a) is };
@@ -80,6 +84,10 @@ module _ (a : Chains) (k : ℕ) (c : Chained) (at : chain_at k a ≡ Some c) (pe
     before = later s before;
   }
 
+  pub lost_adds : (s : ℕ) (c' : Chained) (old now : Journaled) → overdue_of c.incoming ≡ None → AreBefore s c → c' ≡ lost s c → now ≡ with_entries old (loss_entries s c.incoming) → LeadsChain c (loss_entries s c.incoming) c'
+      → filt_rows c' ≡ filt_rows c → IsChain c' → NoneEmpty c'.incoming.tables.deletions → Adds (LosesInward k s a (put_chain k c' a)) old now
+  lost_adds s c' old now room before is lines leads rows chain full = (loss_entries s c.incoming, lines, lost_inward s c' room before is leads rows chain full)
+
   -- ---- new rules
   pub edited_inward : (rules : List Rule) (c' : Chained) → c' ≡ refiltered rules c → filt_rows c' ≡ filt_rows c → links_of c' ≡ links_of c → EditsInward k rules a (put_chain k c' a)
   edited_inward rules c' is rows links = record {
@@ -88,6 +96,10 @@ module _ (a : Chains) (k : ℕ) (c : Chained) (at : chain_at k a ≡ Some c) (pe
     quiet = put_kept filt_by k c' a (rows ∙ ap filt_by (sym at));
     sound = put_each IsPeer k c' a (subst (IsPeer k) (sym is) (record { number = is_peer.number; chain = is_peer.chain; full = is_peer.full; few = is_peer.few })) peers;
   }
+
+-- the chain of the peer whose session may be lost
+pub may_lose_here : (k s : ℕ) (a : Chains) (c : Chained) → MayLose k s a → chain_at k a ≡ Some c → (overdue_of c.incoming ≡ None) × AreBefore s c
+may_lose_here k s a c may at = subst (λ (x : Chained). (overdue_of x.incoming ≡ None) × AreBefore s x) (one_of may.chain c (sym may.at ∙ at)) (may.room, may.later)
 
 -- a peer that is new
 pub begun_sound : (a : Chains) (k : ℕ) (me : Speaker) (words : Neighbour) → words.number ≡ k → IsPeers a → IsPeers (put_chain k (new_chain me words) a)
@@ -128,10 +140,15 @@ took_adds : (task : Task) (sent : Option (Change Route)) (a : Chains) (c c' : Ch
     → Adds (TakesInward task sent a (put_chain (peer_of task) c' a)) before now
 took_adds task sent a c c' before now at peers t = (t.0, t.1, took_inward task sent a c c' t.0 at peers t.2)
 
--- to put the chain that is there changes nothing
-pub comes_inward : (task : Task) (a a' : Chains) (c c' : Chained) (before now : Journaled) (turn : Turn Route) → chain_at (peer_of task) a ≡ Some c → IsPeers a → a' ≡ put_chain (peer_of task) c' a → put_chain (peer_of task) c a ≡ a
-    → ComesChain task c c' before now turn → ComesInward task a a' before now turn
-comes_inward task a a' c c' before now turns.Nothing at peers after same t =
-    (ap (has_turn_in task) at ∙ t.0, after ∙ ap (λ (x : Chained). put_chain (peer_of task) x a) t.1 ∙ same, t.2)
-comes_inward task a a' c c' before now turns.Quiet at peers after same t = subst (λ (x : Chains). Adds (TakesInward task None a x) before now) (sym after) (took_adds task None a c c' before now at peers t)
-comes_inward task a a' c c' before now (turns.Sent change) at peers after same t = subst (λ (x : Chains). Adds (TakesInward task (Some change) a x) before now) (sym after) (took_adds task (Some change) a c c' before now at peers t)
+pub comes_inward : (task : Task) (a : Chains) (k : ℕ) (c c' : Chained) (before now : Journaled) (turn : Turn Route) → k ≡ peer_of task → chain_at k a ≡ Some c → IsPeers a → ComesChain task c c' before now turn
+    → ComesInward task a (put_chain k c' a) before now turn
+comes_inward task a k c c' before now turn is at peers t =
+    subst (λ (n : ℕ). ComesInward task a (put_chain n c' a) before now turn) (sym is) (by_turn turn t)
+  where
+    there : chain_at (peer_of task) a ≡ Some c
+    there = ap (λ (n : ℕ). chain_at n a) (sym is) ∙ at
+
+    by_turn : (turn : Turn Route) → ComesChain task c c' before now turn → ComesInward task a (put_chain (peer_of task) c' a) before now turn
+    by_turn turns.Nothing t = (ap (has_turn_in task) there ∙ t.0, ap (λ (x : Chained). put_chain (peer_of task) x a) t.1 ∙ put_same (peer_of task) c a there, t.2)
+    by_turn turns.Quiet t = took_adds task None a c c' before now there peers t
+    by_turn (turns.Sent change) t = took_adds task (Some change) a c c' before now there peers t

@@ -1,5 +1,5 @@
 -- The first task that has work.
-use Rattle.std.proofs.Common.{◌≡◌, ℕ, ◌+◌, ◌*◌, ◌<◌, ◌≤◌, Bool, true, false, ◌&&◌, cond, List, [], ◌∷◌, ◌++◌, map, length, Option, Some, None, is_some, refl, sym, ap, subst, ◌∙◌, arith}
+use Rattle.std.proofs.Common.{◌≡◌, ℕ, Bool, true, ◌&&◌, cond, List, [], ◌∷◌, ◌++◌, map, Option, Some, None, is_some, refl, sym, ap, ◌∙◌, arith}
 use Rattle.std.specs.Prelude.{IfNone}
 use Rattle.std.specs.List.{AllByRecursion, find, flat_map, sum_by}
 use Rattle.std.specs.FinMap as tables
@@ -7,8 +7,6 @@ use Rattle.std.specs.Ordering.{nat_cmp}
 use Rattle.std.specs.Cmp.{nat_cmp_total}
 use Rattle.std.proofs.lemmas.List.Sums.{sum_by-cons}
 use Rattle.bgp_attr.specs.declared.attrs.Attrs.{Attrs}
-use Rattle.policy_rules.specs.declared.rule.Rule.{Rule}
-use Rattle.pass_core.specs.Passed.{Walked}
 use Rattle.journal_text.specs.declared.link.Task.{Task}
 use Rattle.journal_text.specs.declared.link.Task.TheVariants.{Del, Fin}
 use Rattle.loss_chain.specs.Lost.{Lost}

@@ -45,7 +45,8 @@ impl Peers {
         let Some(chain) = self.chains.get_mut(&number) else {
             unreachable!()
         };
-        chain.lose(session, journal)
+        chain.lose(session, journal)?;
+        Ok(())
     }
 
     /// One turn of a task. Of `del.K.S`: the least row of that stage goes, and its delete goes down; of `fin.K`: the walk of

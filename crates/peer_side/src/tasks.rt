@@ -2,7 +2,8 @@
 
 ghost use Rattle.std.specs.Prelude.{◌≡◌, ◌+◌, IfOk, IfNone};
 ghost use Rattle.std.specs.List.{find, flat_map, sum_by};
-ghost use Rattle.std.specs.BTreeMap.{values};
+ghost use Rattle.std.specs.Ordering.{nat_cmp};
+ghost use Rattle.std.specs.BTreeMap.{values, IsOrdered};
 ghost use Rattle.loss_chain.specs.Steps.{first_task};
 ghost use Rattle.in_chain.specs.Chains.{row_count};
 ghost use Rattle.peer_side.specs.Peers.{chain_tasks, deletion_tasks, filter_tasks, first_walk, has_peer_work, rows_in, lost_in, left_in, IsPeers};
@@ -43,7 +44,8 @@ impl Peers {
 
 /// The oldest stage of the first chain that has one.
 fn first_oldest(chains: &BTreeMap<u32, Chain>) -> Option<Task>
-    ensures { result ≡ first_task (flat_map chain_tasks (values chains.now)) }
+    ensures first { result ≡ first_task (flat_map chain_tasks (values chains.now)) }
+    ensures ordered { IsOrdered nat_cmp chains.now }
 {
     for chain in chains.values() {
         if let Some(task) = chain.oldest() {
@@ -55,7 +57,8 @@ fn first_oldest(chains: &BTreeMap<u32, Chain>) -> Option<Task>
 
 /// The walk of the first filter that has one.
 fn first_busy(chains: &BTreeMap<u32, Chain>) -> Option<Task>
-    ensures { result ≡ first_walk (values chains.now) }
+    ensures first { result ≡ first_walk (values chains.now) }
+    ensures ordered { IsOrdered nat_cmp chains.now }
 {
     for chain in chains.values() {
         if chain.busy() {
@@ -67,7 +70,8 @@ fn first_busy(chains: &BTreeMap<u32, Chain>) -> Option<Task>
 
 /// How many rows these chains have together.
 fn count_rows(chains: &BTreeMap<u32, Chain>) -> Result<u128, Memory>
-    ensures { IfOk result (λ rows. rows ≡ sum_by row_count (values chains.now)) }
+    ensures sum { IfOk result (λ rows. rows ≡ sum_by row_count (values chains.now)) }
+    ensures ordered { IsOrdered nat_cmp chains.now }
 {
     let mut rows: u128 = 0;
     for chain in chains.values() {
