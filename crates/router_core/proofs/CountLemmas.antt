@@ -1,8 +1,8 @@
 -- How many turns are left, by the table of phases: what a turn makes of it, and what is over.
-use Rattle.std.proofs.Common.{◌≡◌, ℕ, ◌+◌, ◌*◌, ◌≤◌, ◌<◌, Bool, true, false, List, [], ◌∷◌, length, map, Option, Some, None, is_some, nat_eq, refl, sym, ap, ◌∙◌, arith}
+use Rattle.std.proofs.Common.{◌≡◌, ◌+◌, ◌*◌, ◌≤◌, true, false, List, [], ◌∷◌, length, Option, Some, None, is_some, refl, ap, arith}
 use Rattle.std.proofs.lemmas.Bool.Decides.{nat_tests}
 use Rattle.std.proofs.lemmas.List.Sums.{sum_by-cons, sum_by-le-sum_by}
-use Rattle.std.specs.List.{AllByRecursion, sum_by}
+use Rattle.std.specs.List.{sum_by}
 use Rattle.std.specs.FinMap as tables
 use Rattle.std.specs.Ordering.{nat_cmp}
 use Rattle.std.specs.Cmp.{nat_cmp_total}
@@ -16,7 +16,7 @@ use Rattle.loss_chain.specs.Tables.{NoneEmpty, lost_count}
 use Rattle.in_chain.specs.Chains.{Chained, row_count, turns_left, walk_turns}
 use Rattle.in_chain.specs.Laws.{TurnsAreBounded, TurnsAreLeft}
 use Rattle.link_region.proofs.RegionLemmas.{by_bool}
-use Rattle.peer_side.specs.Peers.{Chains, chain_at, lost_of, lost_in, left_in, rows_in}
+use Rattle.peer_side.specs.Peers.{Chains, lost_of, lost_in, left_in, rows_in}
 use Rattle.peer_side.proofs.MapLemmas.{sum_none, one_of_sum, all_values, values_length}
 use Rattle.rib_tree.specs.Trees.{Treed, branch_of, tree_count}
 use Rattle.router_core.specs.declared.router.Phase.{Phase}

@@ -14,7 +14,7 @@ use Rattle.in_chain.specs.Chains.{Chained}
 use Rattle.in_chain.specs.Steps.{fed, welded}
 use Rattle.loss_chain.specs.Steps.{live_after}
 use Rattle.loss_chain.proofs.TableLemmas.{same_by}
-use Rattle.peer_side.specs.Peers.{Chains, AreBefore}
+use Rattle.peer_side.specs.Peers.{Chains}
 use Rattle.peer_side.specs.Steps.{FeedsInward}
 use Rattle.router_core.specs.Moments.{Moment, with_chains}
 use Rattle.router_core.specs.Lives.{LiveState, Routes, live_state, with_routes, routes_after, live_fed}

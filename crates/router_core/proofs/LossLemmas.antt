@@ -1,8 +1,7 @@
 -- The loss of a session.
-use Rattle.std.proofs.Common.{◌≡◌, ℕ, ◌+◌, ◌<◌, ◌≤◌, Bool, true, false, cond, List, [], ◌∷◌, ◌++◌, map, Option, Some, None, nat_eq, length, refl, sym, ap, subst, ◌∙◌, suc}
+use Rattle.std.proofs.Common.{◌≡◌, ℕ, ◌+◌, Bool, true, false, cond, List, [], ◌∷◌, map, Option, Some, None, nat_eq, length, refl, sym, ap, subst, ◌∙◌, suc}
 use Rattle.journal_text.specs.declared.entry.Entry.{Entry}
 use Rattle.journal_text.specs.declared.value.Value.{Value}
-use Rattle.journal_text.specs.declared.line.Line.{Line}
 use Rattle.journal_text.specs.Journals.{Journaled, Adds, flushed}
 use Rattle.event_text.specs.declared.declared.DeclaredPeer.{DeclaredPeer}
 use Rattle.event_text.specs.Declarations.{Declaration, peer_at, ended_at, without_session}
@@ -13,7 +12,7 @@ use Rattle.in_chain.specs.Steps.{lost}
 use Rattle.peer_side.specs.Peers.{Chains, chain_at, overdue_at, overdue_by, AreBefore}
 use Rattle.peer_side.specs.Steps.{MayLose, LosesInward}
 use Rattle.router_core.specs.Moments.{Moment, Gives, with_chains}
-use Rattle.router_core.specs.Lives.{Routes, live_state, with_routes, ended}
+use Rattle.router_core.specs.Lives.{ended}
 use Rattle.router_core.specs.Stands.{PeerStands, StandsAt, Stands, open_session}
 use Rattle.router_core.specs.Turns.{journal_lines}
 use Rattle.router_core.specs.Works.{Pushes, HasRoom, IsSession, HasLost, Ends}

@@ -1,5 +1,6 @@
 -- The next task of a phase.
-use Rattle.std.proofs.Common.{◌≡◌, ℕ, ◌+◌, Bool, true, false, cond, List, [], ◌∷◌, ◌++◌, map, Option, Some, None, is_some, refl, sym, ap, subst, ◌∙◌, arith}
+use Rattle.std.proofs.Common.{◌≡◌, Bool, true, cond, List, [], ◌∷◌, ◌++◌, map, Option, Some, None, is_some, refl, sym, ap, subst, ◌∙◌, arith}
+use Rattle.std.specs.Prelude.{IfNone}
 use Rattle.std.specs.List.{AllByRecursion, find}
 use Rattle.std.specs.FinMap as tables
 use Rattle.bgp_attr.specs.declared.attrs.Attrs.{Attrs}
@@ -24,7 +25,7 @@ use Rattle.router_core.specs.declared.router.Phase.{Phase}
 use Rattle.router_core.specs.declared.router.Phase.TheVariants.{Rdel, Del, Fin}
 use Rattle.router_core.specs.Moments.{Moment}
 use Rattle.router_core.specs.Stands.{Stands, InteriorTree}
-use Rattle.router_core.specs.Phases.{tree_lost}
+use Rattle.router_core.specs.Phases.{tree_lost, counts}
 use Rattle.router_core.specs.Turns.{phase_of, phase_tasks, next_task, has_work}
 
 -- of all tasks of the tree, branch by branch
@@ -60,12 +61,20 @@ of_peers m (tasks.Del k s) r other is = refl
 of_peers m (tasks.Fin k) r other is = refl
 of_peers m (tasks.Rdel proto n) r other is = absurd (other (sym is))
 
-pub next_of_peers : (r : Phase) (m : Moment) → (r ≡ Rdel → ⊥) → find (has_peer_work m.chains) (phase_tasks r m) ≡ next_task r m
-next_of_peers r m other = found_same (has_peer_work m.chains) (λ t. has_work t m) (phase_tasks r m) (all_so (λ t. phase_of t ≡ r) (λ t. has_peer_work m.chains t ≡ has_work t m) (λ t is. of_peers m t r other is) (phase_tasks r m) (all_of_phase r m))
+pub next_of_peers : (s r : Phase) (m v : Moment) (first : Option Task) → (s ≡ Rdel → ⊥) → r ≡ s → v ≡ m → first ≡ find (has_peer_work v.chains) (phase_tasks s v) → first ≡ next_task r m
+next_of_peers s r m v first other is view found =
+    found ∙ found_same (has_peer_work v.chains) (λ t. has_work t v) (phase_tasks s v) (all_so (λ t. phase_of t ≡ s) (λ t. has_peer_work v.chains t ≡ has_work t v) (λ t of. of_peers v t s other of) (phase_tasks s v) (all_of_phase s v))
+    ∙ ap (next_task s) view ∙ ap (λ (e : Phase). next_task e m) (sym is)
+
+pub del_not_rdel : Del ≡ Rdel → ⊥
+del_not_rdel e = cc
+
+pub fin_not_rdel : Fin ≡ Rdel → ⊥
+fin_not_rdel e = cc
 
 -- ---- the stages of the tree
 -- each stage that stands has work
-pub next_loss : (m : Moment) → Stands m → next_task Rdel m ≡ first_task (tree_tasks m.tree)
+next_loss : (m : Moment) → Stands m → next_task Rdel m ≡ first_task (tree_tasks m.tree)
 next_loss m stands = all_working (λ t. has_work t m) (tree_tasks m.tree) (all_tree Works m.tree (λ proto. all_made Works (λ (d : Lost Interior). tasks.Rdel (branch_of proto m.tree).proto d.number) (branch_of proto m.tree).tables.deletions
     (subst (λ (k : Proto). AllByRecursion (λ (d : Lost Interior). is_some (table_of d.number (branch_of k m.tree).tables.deletions) ≡ true) (branch_of proto m.tree).tables.deletions) (sym ((stands.own InteriorTree).tree.placed proto)) (all_tables (branch_of proto m.tree).tables.deletions))))
   where
@@ -73,7 +82,7 @@ next_loss m stands = all_working (λ t. has_work t m) (tree_tasks m.tree) (all_t
     Works t = has_work t m ≡ true
 
 -- where none stands, no row is lost
-pub no_loss : (t : Treed) → first_task (tree_tasks t) ≡ None → tree_lost t ≡ 0
+no_loss : (t : Treed) → first_task (tree_tasks t) ≡ None → tree_lost t ≡ 0
 no_loss t e =
     let a = first_none (task t.connected) t.connected.tables.deletions (branch_tasks t.statics ++ (branch_tasks t.ospf ++ branch_tasks t.rip)) e in
     let b = first_none (task t.statics) t.statics.tables.deletions (branch_tasks t.ospf ++ branch_tasks t.rip) a.1 in
@@ -90,3 +99,10 @@ no_loss t e =
     last : (ds : List (Lost Interior)) → first_task (map (task t.rip) ds) ≡ None → ds ≡ []
     last [] e = refl
     last (x ∷ xs) e = absurd (cc)
+
+pub next_of_tree : (r : Phase) (m v : Moment) (first : Option Task) → r ≡ Rdel → v ≡ m → Stands m → first ≡ first_task (tree_tasks v.tree) → first ≡ next_task r m
+next_of_tree r m v first is view stands found = found ∙ ap (λ (n : Moment). first_task (tree_tasks n.tree)) view ∙ sym (next_loss m stands) ∙ ap (λ (e : Phase). next_task e m) (sym is)
+
+pub none_of_tree : (r : Phase) (m v : Moment) (first : Option Task) → r ≡ Rdel → v ≡ m → first ≡ first_task (tree_tasks v.tree) → IfNone first (counts m r ≡ 0)
+none_of_tree r m v None is view found = ap (counts m) is ∙ no_loss m.tree (ap (λ (n : Moment). first_task (tree_tasks n.tree)) (sym view) ∙ sym found)
+none_of_tree r m v (Some task) is view found = tt

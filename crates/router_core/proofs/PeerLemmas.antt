@@ -1,5 +1,5 @@
 -- A peer that is declared, and one whose session begins.
-use Rattle.std.proofs.Common.{◌≡◌, ℕ, ◌+◌, ◌<◌, Bool, true, false, not, ◌&&◌, cond, List, [], ◌∷◌, ◌++◌, map, length, Option, Some, None, nat_eq, refl, sym, ap, subst, ◌∙◌, suc}
+use Rattle.std.proofs.Common.{◌≡◌, ℕ, ◌+◌, Bool, true, false, not, ◌&&◌, cond, List, [], ◌∷◌, ◌++◌, map, length, Option, Some, None, nat_eq, refl, sym, ap, subst, ◌∙◌, suc}
 use Rattle.std.proofs.lemmas.List.{length_push}
 use Rattle.std.specs.Prelude.{option_map, IsSome, is_some}
 use Rattle.bgp_attr.specs.declared.speaker.Speaker.{Speaker}
@@ -20,7 +20,7 @@ use Rattle.link_region.proofs.RegionLemmas.{by_bool, lead_nothing}
 use Rattle.peer_side.specs.Peers.{Chains, chain_at, put_chain, peer_links, begin_entries, routes_of, rules_of, IsPeers, AreBefore}
 use Rattle.peer_side.specs.Steps.{EditsInward}
 use Rattle.peer_side.proofs.PutLemmas.{at_put, put_each, put_kept, put_more}
-use Rattle.router_core.specs.Moments.{Moment, with_chains, router_links}
+use Rattle.router_core.specs.Moments.{Moment, with_chains}
 use Rattle.router_core.specs.Lives.{live_state, with_rules, begun_if_down}
 use Rattle.router_core.specs.Stands.{IsSilent, PeerStands, StandsAt, Stands, Claim, Claims, EachChain, EachPeer, InteriorTree, OneSpeaker, SameCount}
 use Rattle.router_core.specs.Turns.{journal_lines}
@@ -246,7 +246,7 @@ speaker_stands m words admitted stands = record { own = own; at = stands.at }
     first = local_first m.declared words admitted
 
     own : (claim : Claim) → Claims (declared_speaker m words) claim
-    own OneSpeaker = λ k c at. absurd (let one : m.declared.speaker ≡ Some c.me = stands.own OneSpeaker k c at in cc)
+    own OneSpeaker = λ k c at. absurd (let one : m.declared.speaker ≡ Some c.me = stands.own OneSpeaker k c at in let none = first in cc)
     own InteriorTree = let t = stands.own InteriorTree in record { tree = t.tree; full = t.full; few = t.few; waiting = λ e. absurd (cc) }
     own other = stands.own other
 

@@ -1,7 +1,9 @@
 -- One turn of a task of a peer.
-use Rattle.std.proofs.Common.{◌≡◌, ℕ, ◌+◌, ◌≤◌, Bool, true, false, List, Option, refl, sym, ap, subst, ◌∙◌, arith}
+use Rattle.std.proofs.Common.{◌≡◌, ℕ, ◌≤◌, Bool, true, false, List, Option, Some, None, refl, sym, ap, subst, ◌∙◌, arith}
 use Rattle.bgp_attr.specs.declared.route.Route.{Route}
 use Rattle.link_change.specs.declared.change.Change.{Change}
+use Rattle.link_change.specs.declared.turn.Turn.{Turn}
+use Rattle.link_change.specs.declared.turn.Turn.TheVariants as turns
 use Rattle.journal_text.specs.declared.link.Task.{Task}
 use Rattle.journal_text.specs.declared.link.Task.TheVariants.{Del, Fin, Rdel}
 use Rattle.journal_text.specs.declared.entry.Entry.{Entry}
@@ -10,16 +12,17 @@ use Rattle.journal_text.specs.declared.line.Line.{Line}
 use Rattle.journal_text.specs.Journals.{Journaled, Adds, flushed}
 use Rattle.in_chain.specs.Chains.{Chained}
 use Rattle.in_chain.specs.Steps.{welded}
-use Rattle.peer_side.specs.Peers.{Chains, peer_of}
-use Rattle.peer_side.specs.Steps.{Nears, TakesInward}
-use Rattle.router_core.specs.declared.router.Done.TheVariants.{Taken}
+use Rattle.peer_side.specs.Peers.{Chains, peer_of, has_peer_work}
+use Rattle.peer_side.specs.Steps.{Nears, TakesInward, ComesInward}
+use Rattle.rib_route.specs.declared.Proto.{Proto}
+use Rattle.router_core.specs.declared.router.Done.TheVariants.{Nothing, Taken}
 use Rattle.router_core.specs.declared.router.Phase.{Phase}
 use Rattle.router_core.specs.declared.router.Phase.TheVariants as phases
 use Rattle.router_core.specs.Moments.{Moment, with_chains}
 use Rattle.router_core.specs.Lives.{live_state}
 use Rattle.router_core.specs.Stands.{IsSilent, PeerStands, Stands, open_session}
 use Rattle.router_core.specs.Phases.{Frame, counts, frame_of, Spends}
-use Rattle.router_core.specs.Turns.{IsPeerTurn, IsTurn, phase_of, journal_lines}
+use Rattle.router_core.specs.Turns.{IsPeerTurn, IsTurn, has_work, phase_of, journal_lines}
 use Rattle.router_core.specs.Works.{IsUnit, Comes}
 use Rattle.router_core.proofs.RegionLemmas.{leads_inward}
 use Rattle.router_core.proofs.PhaseLemmas.{spends_one}
@@ -71,8 +74,29 @@ unit_done task sent m cs entries stands t =
       };
     }
 
-pub peer_taken : (task : Task) (sent : Option (Change Route)) (m v : Moment) (cs : Chains) (before j now : Journaled) → v ≡ m → Stands m → Adds (TakesInward task sent v.chains cs) before j → now ≡ flushed j
+taken : (task : Task) (sent : Option (Change Route)) (m v : Moment) (cs : Chains) (before j now : Journaled) → v ≡ m → Stands m → Adds (TakesInward task sent v.chains cs) before j → now ≡ flushed j
     → Comes task m (with_chains v cs) before now Taken
-peer_taken task sent m v cs before j now view stands t is =
+taken task sent m v cs before j now view stands t is =
     subst (λ (n : Moment). Comes task n (with_chains v cs) before now Taken) view
     (journal_lines t.0, is ∙ ap flushed t.1, unit_done task sent v cs t.0 (subst Stands (sym view) stands) t.2)
+
+-- by what came out on `filt.K`
+pub peer_quiet : (task : Task) (m v : Moment) (cs : Chains) (before j now : Journaled) (turn : Turn Route) → turn ≡ turns.Quiet → v ≡ m → Stands m → ComesInward task v.chains cs before j turn → now ≡ flushed j
+    → Comes task m (with_chains v cs) before now Taken
+peer_quiet task m v cs before j now turn is view stands t flush = taken task None m v cs before j now view stands (subst (ComesInward task v.chains cs before j) is t) flush
+
+pub peer_sent : (task : Task) (change : Change Route) (m v : Moment) (cs : Chains) (before j now : Journaled) (turn : Turn Route) → turn ≡ turns.Sent change → v ≡ m → Stands m → ComesInward task v.chains cs before j turn → now ≡ flushed j
+    → Comes task m (with_chains v cs) before now Taken
+peer_sent task change m v cs before j now turn is view stands t flush = taken task (Some change) m v cs before j now view stands (subst (ComesInward task v.chains cs before j) is t) flush
+
+-- where there is no work
+rests : (task : Task) (m : Moment) → ((proto : Proto) (n : ℕ) → task ≡ Rdel proto n → ⊥) → has_peer_work m.chains task ≡ false → has_work task m ≡ false
+rests (Del k s) m other none = none
+rests (Fin k) m other none = none
+rests (Rdel proto n) m other none = absurd (other proto n refl)
+
+pub peer_rests : (task : Task) (m v : Moment) (cs : Chains) (before j : Journaled) (turn : Turn Route) → ((proto : Proto) (n : ℕ) → task ≡ Rdel proto n → ⊥) → turn ≡ turns.Nothing → v ≡ m → ComesInward task v.chains cs before j turn
+    → Comes task m (with_chains v cs) before j Nothing
+peer_rests task m v cs before j turn other is view t =
+    let rest : ComesInward task v.chains cs before j turns.Nothing = subst (ComesInward task v.chains cs before j) is t in
+    (subst (λ (n : Moment). has_work task n ≡ false) view (rests task v other rest.0), ap (with_chains v) rest.1 ∙ view, rest.2)

@@ -1,7 +1,6 @@
 -- Room for one more deletion stage.
 use Rattle.std.proofs.Common.{◌≡◌, ℕ, Bool, true, ◌&&◌, ◌||◌, cond, List, [], Option, Some, None, is_some, nat_eq, nat_lt, length, refl, sym, ap, subst, ◌∙◌, arith, zero, suc}
 use Rattle.std.specs.Prelude.{IsSome}
-use Rattle.addr4.specs.Prefixes.{Network}
 use Rattle.link_change.specs.Rows.{is_empty_map}
 use Rattle.journal_text.specs.declared.link.Task.{Task}
 use Rattle.journal_text.specs.declared.link.Task.TheVariants.{Del}
@@ -13,7 +12,7 @@ use Rattle.loss_chain.proofs.TableLemmas.{Shorter, shorter_none, shorter_more, f
 use Rattle.in_chain.specs.Chains.{Chained}
 use Rattle.in_chain.specs.Incomings.{overdue_of}
 use Rattle.in_chain.specs.Steps.{swept, welded, Sweeps}
-use Rattle.peer_side.specs.Peers.{Chains, chain_at, put_chain, has_turn_in, overdue_at, overdue_by}
+use Rattle.peer_side.specs.Peers.{chain_at, has_turn_in, overdue_at, overdue_by}
 use Rattle.peer_side.specs.Steps.{TurnsPeer}
 use Rattle.peer_side.proofs.MapLemmas.{one_of}
 use Rattle.peer_side.proofs.PutLemmas.{put_here}
@@ -28,7 +27,9 @@ use Rattle.router_core.proofs.KeepLemmas.{keeps_none, gives_none}
 turns_shorter : (n k s : ℕ) (m : Moment) (c : Chained) (said : List Line) (m' : Moment) → chain_at k m.chains ≡ Some c → Turns n (Del k s) m said m'
     → (c' : Chained) × (chain_at k m'.chains ≡ Some c') × Shorter s c.incoming.tables.deletions c'.incoming.tables.deletions
 turns_shorter zero k s m c said m' at t = (c, ap (λ (x : Moment). chain_at k x.chains) t.1 ∙ at, shorter_none s c.incoming.tables.deletions)
-turns_shorter (suc n) k s m c said m' at t = (rest.0, rest.1, shorter_more s sweeps.prefix c.incoming.tables.deletions rest.0.incoming.tables.deletions rest.2)
+turns_shorter (suc n) k s m c said m' at t =
+    let rest = turns_shorter n k s t.2 c1 t.1 m' at1 t.4 in
+    (rest.0, rest.1, shorter_more s sweeps.prefix c.incoming.tables.deletions rest.0.incoming.tables.deletions rest.2)
   where
     turn : TurnsPeer (Del k s) t.3.0 m.chains t.3.1.chains t.3.1.entries
     turn = t.3.1.part
@@ -42,9 +43,6 @@ turns_shorter (suc n) k s m c said m' at t = (rest.0, rest.1, shorter_more s swe
     at1 : chain_at k t.2.chains ≡ Some c1
     at1 = ap (λ (x : Moment). chain_at k x.chains) t.3.1.after ∙ ap (chain_at k) turn.after ∙ put_here k (welded turn.turned_chain) m.chains
         ∙ ap (λ (x : Chained). Some (welded x)) (sweeps.after ∙ ap (swept s sweeps.prefix) (one_of turn.chain c (sym turn.at ∙ at)))
-
-    rest : (c' : Chained) × (chain_at k m'.chains ≡ Some c') × Shorter s c1.incoming.tables.deletions c'.incoming.tables.deletions
-    rest = turns_shorter n k s t.2 c1 t.1 m' at1 t.4
 
 drained_free : (k : ℕ) (m room : Moment) (c : Chained) (task : Task) (n : ℕ) (said : List Line) → Stands m → chain_at k m.chains ≡ Some c → overdue_of c.incoming ≡ Some task → HasDrained task m n room said → overdue_at k room.chains ≡ None
 drained_free k m room c task n said stands at over d =

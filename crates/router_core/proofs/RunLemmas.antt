@@ -9,7 +9,6 @@ use Rattle.in_chain.specs.Laws.{TurnsAreBounded, TurnsAreLeft}
 use Rattle.rib_tree.specs.Trees.{tree_count}
 use Rattle.router_core.specs.declared.router.Phase.{Phase}
 use Rattle.router_core.specs.declared.router.Phase.TheVariants.{Rdel, Del, Fin}
-use Rattle.std.specs.FinMap as tables
 use Rattle.peer_side.specs.Peers.{rows_in}
 use Rattle.router_core.specs.Moments.{Moment, bound_of, Gives}
 use Rattle.router_core.specs.Lives.{LiveState, live_state}

@@ -27,7 +27,11 @@ use Rattle.router_core.specs.Lookups.{listed_at, row_lines, Counts, ShowsRow, Is
 use Rattle.bgp_attr.specs.declared.speaker.Speaker.{Speaker}
 use Rattle.rib_tree.specs.Trees.{Treed}
 use Rattle.rib_tree.specs.Forwards.{rib_links}
+use Rattle.link_region.specs.declared.regions.Region.TheVariants.{Inward}
+use Rattle.link_region.specs.Regions.{region_of}
+use Rattle.peer_side.specs.Peers.{peer_links, peer_candidates}
 use Rattle.router_core.specs.Moments.{rib_by}
+use Rattle.router_core.proofs.RegionLemmas.{in_region}
 use Rattle.router_core.specs.Works.{Pushes, HasStepped}
 use Rattle.router_core.specs.Stands.{Stands}
 use Rattle.router_core.specs.Lives.{live_state}
@@ -243,11 +247,22 @@ none_by_test None e = refl
 none_by_test (Some v) e = absurd (cc)
 
 -- the next candidate of each map of rows that the link has
-pub next_row : (of : Option (Rows Value)) (place result : Option Network) → IsSome of → ((rows : Rows Value) → of ≡ Some rows → IsNextCandidate (with_rows rows) place result) → IsNextPlace of place result
+next_row : (of : Option (Rows Value)) (place result : Option Network) → IsSome of → ((rows : Rows Value) → of ≡ Some rows → IsNextCandidate (with_rows rows) place result) → IsNextPlace of place result
 next_row None place result live next = absurd (cc)
 next_row (Some own) place result live next = (with_rows own, next own refl, λ rows is q lacks. ap (λ (f : Rows Value). f q) (one_rows rows own (sym is)) ∙ none_by_test (own q) lacks)
 
+-- by the region of the link
+pub next_inward : (m v : Moment) (link : Link) (place result : Option Network) → v ≡ m → region_of link ≡ Inward → IsNextCandidate (peer_candidates v.chains link) place result
+    → ((rows : Rows Value) → peer_links v.chains link ≡ Some rows → CoversRows (peer_candidates v.chains link) rows) → IsNextPlace (router_links m link) place result
+next_inward m v link place result view here next covers =
+    (peer_candidates v.chains link, next, λ rows is. covers rows (ap (λ (n : Moment). peer_links n.chains link) view ∙ sym (in_region m link Inward here) ∙ is))
+
 -- a link of the interior routes that is live
-pub rib_live : (s : Option Speaker) (t : Treed) (link : Link) → IsSome (rib_by s t link) → rib_by s t link ≡ rib_links t link
+rib_live : (s : Option Speaker) (t : Treed) (link : Link) → IsSome (rib_by s t link) → rib_by s t link ≡ rib_links t link
 rib_live None t link live = absurd (cc)
 rib_live (Some me) t link live = refl
+
+pub next_rib : (m v : Moment) (link : Link) (place result : Option Network) → v ≡ m → router_links m link ≡ rib_by m.declared.speaker m.tree link → IsSome (router_links m link)
+    → ((rows : Rows Value) → rib_links v.tree link ≡ Some rows → IsNextCandidate (with_rows rows) place result) → IsNextPlace (router_links m link) place result
+next_rib m v link place result view here live next = next_row (router_links m link) place result live (λ rows is.
+    next rows (ap (λ (n : Moment). rib_links n.tree link) view ∙ sym (rib_live m.declared.speaker m.tree link (subst IsSome here live)) ∙ sym here ∙ is))

@@ -62,7 +62,8 @@ impl Network {
         let Some(peer) = self.declared.peer(number) else {
             unreachable!()
         };
-        self.chains.begin(number, me, peer.words, journal)
+        self.chains.begin(number, me, peer.words, journal)?;
+        Ok(())
     }
 
     /// A peer's session begins; `ignored` where one is up.

@@ -1,5 +1,4 @@
 use Rattle.std.proofs.Common.{sym, ap, ◌∙◌}
-use Rattle.std.proofs.lemmas.Result.{on_ok_weaker}
 use Rattle.event_text.specs.Declarations.{peer_at}
 use Rattle.router_core.specs.Moments.{Moment}
 use Rattle.router_core.proofs.StandLemmas.{peers_sound}
@@ -26,4 +25,6 @@ pub begin-requires-clause-own : goal.begin-requires-clause-own
 begin-requires-clause-own c = new_number c.args.self.now _ c.add_peer.new.self c.args.number c.args.words c.in-Some-peer.peer c.self.view_is c.requires.admitted c.in_ok-add_peer.ensures.ok c.in-Some-peer.ensures
 
 pub returns : goal.returns
-returns c = ?
+returns c =
+    peer_declared c.args.self.now _ c.in-Some.me c.args.number c.args.words c.add_peer.new.self c.in-Some-peer.peer c.begin.new.self c.args.journal.now c.begin.new.journal c.self.view_is c.requires.stands c.requires.admitted
+    c.in-Some.ensures c.in_ok-add_peer.ensures.ok c.in-Some-peer.ensures c.in_ok-begin.ensures.after c.in_ok-begin.ensures.lines c.in_ok-begin.ensures.leads c.in_ok-begin.ensures.sound
