@@ -28,9 +28,10 @@ use Rattle.loss_chain.proofs.TableLemmas.{is_full, few_filter, few_map, swept_nu
 use Rattle.in_chain.specs.Chains.{Chained, filt_rows, beside, IsChain, turns_left}
 use Rattle.in_chain.specs.Falls.{Falls, LeadsChain, way_of_feed}
 use Rattle.in_chain.specs.Steps.{fed, welded, swept, Turned, Rewalks, IsTaken}
-use Rattle.peer_side.specs.Peers.{AreBefore, lost_of}
-use Rattle.peer_side.specs.Chains.{with_weld, StepsChain, FeedsChain, Leaves, NearsChain, TakesChain}
+use Rattle.peer_side.specs.Peers.{Chains, chain_at, put_chain, AreBefore, lost_of}
+use Rattle.peer_side.specs.Steps.{with_weld, Leaves, Nears}
 use Rattle.peer_side.proofs.CountLemmas.{swept_turns, swept_rows, weld_stays}
+use Rattle.peer_side.proofs.PutLemmas.{put_lost, put_left}
 
 -- what a weld leaves
 pub record Welds (less c' : Chained) (j now : Journaled) : Type 0 where
@@ -41,62 +42,20 @@ pub record Welds (less c' : Chained) (j now : Journaled) : Type 0 where
   pub chain : IsChain c'
   pub full : NoneEmpty c'.incoming.tables.deletions
 
-fall_step : (c less c' : Chained) (entries : List (Entry Value)) (j now : Journaled) → LeadsChain c entries less → Welds less c' j now → StepsChain c c' (with_weld less entries)
-fall_step c less c' entries j now leads w = record {
-  leads = λ others. leads_append (beside others c) (beside others less) (beside others c') entries (weld_entries (owners.Peer less.incoming.number) (In less.incoming.number) less.incoming.tables.deletions) (leads others) (w.leads others);
-  chain = w.chain;
-  full = w.full;
-}
+pub fall_leads : (c less c' : Chained) (entries : List (Entry Value)) (j now : Journaled) → LeadsChain c entries less → Welds less c' j now → LeadsChain c (with_weld less entries) c'
+fall_leads c less c' entries j now leads w others =
+    leads_append (beside others c) (beside others less) (beside others c') entries (weld_entries (owners.Peer less.incoming.number) (In less.incoming.number) less.incoming.tables.deletions) (leads others) (w.leads others)
 
-fall_pushed : (less c' : Chained) (entries : List (Entry Value)) (before j now : Journaled) → j ≡ with_entries before entries → Welds less c' j now → now ≡ with_entries before (with_weld less entries)
+pub fall_pushed : (less c' : Chained) (entries : List (Entry Value)) (before j now : Journaled) → j ≡ with_entries before entries → Welds less c' j now → now ≡ with_entries before (with_weld less entries)
 fall_pushed less c' entries before j now pushed w =
     w.lines ∙ ap (λ (x : Journaled). with_entries x (weld_entries (owners.Peer less.incoming.number) (In less.incoming.number) less.incoming.tables.deletions)) pushed
     ∙ with_entries_append before entries (weld_entries (owners.Peer less.incoming.number) (In less.incoming.number) less.incoming.tables.deletions)
 
-pub feeds_chain : (p : Network) (row : Option Attrs) (sent : Option (Change Route)) (c less c' : Chained) (before j now : Journaled) → IsSent (filt_rows c) (filt_rows less) p sent → less ≡ fed c p row
-    → Adds (Falls c less p (way_of_feed c.incoming) sent) before j → Welds less c' j now → Adds (FeedsChain p row sent c c') before now
-feeds_chain p row sent c less c' before j now rows is adds w = (
-  with_weld less adds.0,
-  fall_pushed less c' adds.0 before j now adds.1 w,
-  record {
-    fall = adds.0;
-    falls = subst (λ (x : Chained). Falls c x p (way_of_feed c.incoming) sent adds.0) is adds.2;
-    rows = subst (λ (x : Chained). IsSent (filt_rows c) (filt_rows x) p sent) is rows;
-    lines = ap (λ (x : Chained). with_weld x adds.0) is;
-    after = w.after ∙ ap welded is;
-    stays = w.rows ∙ ap filt_rows is;
-    step = fall_step c less c' adds.0 j now adds.2.leads w;
-  },
-)
-
 -- ---- turns
-turn_leads : (task : Task) (c less : Chained) (sent : Option (Change Route)) (entries : List (Entry Value)) → Turned c less task sent entries → LeadsChain c entries less
+pub turn_leads : (task : Task) (c less : Chained) (sent : Option (Change Route)) (entries : List (Entry Value)) → Turned c less task sent entries → LeadsChain c entries less
 turn_leads (Del k s) c less sent entries t = t.1.fall.leads
 turn_leads (Fin k) c less sent entries t = t.1.leads
 turn_leads (Rdel proto n) c less sent entries t = absurd t
-
-takes_chain : (task : Task) (sent : Option (Change Route)) (c less c' : Chained) (before j now : Journaled) → Adds (Turned c less task sent) before j → Welds less c' j now → Adds (TakesChain task sent c c') before now
-takes_chain task sent c less c' before j now adds w = (
-  with_weld less adds.0,
-  fall_pushed less c' adds.0 before j now adds.1 w,
-  record {
-    turned_chain = less;
-    fall = adds.0;
-    turned = adds.2;
-    lines = refl;
-    after = w.after;
-    stays = w.rows;
-    step = fall_step c less c' adds.0 j now (turn_leads task c less sent adds.0 adds.2) w;
-  },
-)
-
--- by what came out
-pub taken_quietly : (task : Task) (c less c' : Chained) (before j now : Journaled) (turn : Turn Route) → turn ≡ turns.Quiet → IsTaken c less task before j turn → Welds less c' j now → Adds (TakesChain task None c c') before now
-taken_quietly task c less c' before j now turn is taken w = takes_chain task None c less c' before j now (subst (IsTaken c less task before j) is taken) w
-
-pub taken_sent : (task : Task) (change : Change Route) (c less c' : Chained) (before j now : Journaled) (turn : Turn Route) → turn ≡ turns.Sent change → IsTaken c less task before j turn → Welds less c' j now
-    → Adds (TakesChain task (Some change) c c') before now
-taken_sent task change c less c' before j now turn is taken w = takes_chain task (Some change) c less c' before j now (subst (IsTaken c less task before j) is taken) w
 
 -- ---- the lost sessions of a chain
 
@@ -146,43 +105,46 @@ walk_stays c less sent entries w full = weld_stays less (subst (λ (x : Chained)
 
 -- and no more stages stand
 pub record Left (c c' : Chained) : Type 0 where
+  pub number : c'.incoming.number ≡ c.incoming.number
   pub leaves : Leaves c c'
   pub few : length c'.incoming.tables.deletions ≤ length c.incoming.tables.deletions
 
-sweep_left : (s : ℕ) (p : Network) (c c' : Chained) → c' ≡ welded (swept s p c) → Left c c'
-sweep_left s p c c' is = subst (Left c) (sym is) (record {
-  leaves = record { number = refl; me = refl; peer = refl; live = refl; rules = refl; before = λ n. swept_before n s p c };
-  few = swept_few s p c;
+pub turn_left : (task : Task) (c less : Chained) (sent : Option (Change Route)) (entries : List (Entry Value)) → Turned c less task sent entries → NoneEmpty c.incoming.tables.deletions → Left c (welded less)
+turn_left (Del k s) c less sent entries t full = subst (λ (x : Chained). Left c (welded x)) (sym t.1.after) (record {
+  number = refl;
+  leaves = record { me = refl; peer = refl; live = refl; rules = refl; before = λ n. swept_before n s t.1.prefix c };
+  few = swept_few s t.1.prefix c;
 })
-
-walk_left : (c less c' : Chained) (sent : Option (Change Route)) (entries : List (Entry Value)) → Rewalks c less sent entries → NoneEmpty c.incoming.tables.deletions → c' ≡ welded less → Left c c'
-walk_left c less c' sent entries w full after = subst (Left c) (sym (after ∙ walk_stays c less sent entries w full ∙ w.after)) (record {
+turn_left (Fin k) c less sent entries t full = subst (Left c) (sym (walk_stays c less sent entries t.1 full ∙ t.1.after)) (record {
+  number = refl;
   leaves = record {
-    number = refl;
     me = refl;
     peer = refl;
     live = refl;
-    rules = ap (λ (x : Passed (List Rule)). present x) w.walks.after ∙ walked_keeps w.walks.next c.filter;
+    rules = ap (λ (x : Passed (List Rule)). present x) t.1.walks.after ∙ walked_keeps t.1.walks.next c.filter;
     before = λ n all. all;
   };
   few = omega arith;
 })
+turn_left (Rdel proto n) c less sent entries t full = absurd t
 
-pub turn_left : (task : Task) (c less c' : Chained) (sent : Option (Change Route)) (entries : List (Entry Value)) → Turned c less task sent entries → NoneEmpty c.incoming.tables.deletions → c' ≡ welded less → Left c c'
-turn_left (Del k s) c less c' sent entries t full after = sweep_left s t.1.prefix c c' (after ∙ ap welded t.1.after)
-turn_left (Fin k) c less c' sent entries t full after = walk_left c less c' sent entries t.1 full after
-turn_left (Rdel proto n) c less c' sent entries t full after = absurd t
-
-pub turn_nears : (task : Task) (c less c' : Chained) (sent : Option (Change Route)) (entries : List (Entry Value)) → IsChain c → NoneEmpty c.incoming.tables.deletions → Turned c less task sent entries → c' ≡ welded less
-    → NearsChain task c c'
-turn_nears (Del k s) c less c' sent entries chain full t after =
+pub turn_nears : (task : Task) (a : Chains) (k : ℕ) (c less : Chained) (sent : Option (Change Route)) (entries : List (Entry Value)) → chain_at k a ≡ Some c → IsChain c → NoneEmpty c.incoming.tables.deletions → Turned c less task sent entries
+    → Nears task a (put_chain k (welded less) a)
+turn_nears (Del n s) a k c less sent entries at chain full t =
+    let c' : Chained = welded (swept s t.1.prefix c) in
     let fewer = swept_rows s c t.1.prefix t.1.row t.1.table chain t.1.stands t.1.least.0 in
     let turns = swept_turns s c t.1.prefix (omega (arith, fewer)) in
-    subst (NearsChain (Del k s) c) (sym (after ∙ ap welded t.1.after)) (fewer, turns)
-turn_nears (Fin k) c less c' sent entries chain full t after =
-    let is : c' ≡ less = after ∙ walk_stays c less sent entries t.1 full in
-    (ap (λ (x : Chained). lost_of x) (is ∙ t.1.after), subst (λ (x : Chained). turns_left x < turns_left c) (sym is) t.1.fewer)
-turn_nears (Rdel proto n) c less c' sent entries chain full t after = t
+    let l = put_lost k c c' a at in
+    let w = put_left k c c' a at in
+    subst (λ (x : Chained). Nears (Del n s) a (put_chain k (welded x) a)) (sym t.1.after) (omega (arith, l, fewer), omega (arith, w, turns))
+turn_nears (Fin n) a k c less sent entries at chain full t =
+    let is : welded less ≡ less = walk_stays c less sent entries t.1 full in
+    let same : lost_of less ≡ lost_of c = ap (λ (x : Chained). lost_of x) t.1.after in
+    let fewer = t.1.fewer in
+    let l = put_lost k c less a at in
+    let w = put_left k c less a at in
+    subst (λ (x : Chained). Nears (Fin n) a (put_chain k x a)) (sym is) (omega (arith, l, same), omega (arith, w, fewer))
+turn_nears (Rdel proto n) a k c less sent entries at chain full t = absurd t
 
 -- ---- what comes out on `filt.K`
 walk_sent : (next : Option Network) (old new : Network → Option Route) (sent : Option (Change Route)) → IsSentAt next old new sent → (p : Network) × IsSent old new p sent

@@ -1,5 +1,8 @@
 -- From the links of one chain to those of all peers.
 use Rattle.std.proofs.Common.{◌≡◌, ℕ, Bool, true, false, ◌&&◌, cond, List, [], ◌∷◌, Option, Some, None, nat_eq, refl, sym, ap, subst, ◌∙◌}
+use Rattle.std.specs.FinMap as tables
+use Rattle.std.specs.FinMap.{get-empty}
+use Rattle.std.specs.Ordering.{nat_cmp}
 use Rattle.bgp_attr.specs.declared.attrs.Attrs.{Attrs}
 use Rattle.bgp_attr.specs.declared.speaker.Speaker.{Speaker}
 use Rattle.bgp_attr.specs.declared.speaker.Neighbour.{Neighbour}
@@ -131,3 +134,7 @@ module _ (a : Chains) (k : ℕ) (me : Speaker) (words : Neighbour) (own : words.
       lead_join Inward (peer_links a) between (peer_links (put_chain k fresh a)) (Begin (In k) ∷ []) (Begin (Filt k) ∷ [])
       (lead_begin Inward (peer_links a) between (In k) refl (free (In k) refl) refl)
       (lead_begin Inward between (peer_links (put_chain k fresh a)) (Filt k) refl (free (Filt k) refl) links_then)
+
+-- ---- no peer
+pub no_peer : (link : Link) → peer_links tables.empty link ≡ None
+no_peer link = ap (λ (o : Option Chained). links_by o link) (get-empty nat_cmp (owner_of link))

@@ -12,7 +12,6 @@ use Rattle.link_change.specs.declared.turn.Turn.{Turn}
 use Rattle.link_change.specs.declared.turn.Turn.TheVariants as turns
 use Rattle.policy_rules.specs.declared.rule.Rule.{Rule}
 use Rattle.journal_text.specs.declared.link.Task.{Task}
-use Rattle.journal_text.specs.declared.link.Task.TheVariants.{Del, Fin, Rdel}
 use Rattle.journal_text.specs.declared.entry.Entry.{Entry}
 use Rattle.journal_text.specs.declared.value.Value.{Value}
 use Rattle.journal_text.specs.Journals.{Journaled, with_entries, Adds}
@@ -22,26 +21,34 @@ use Rattle.loss_chain.specs.Tables.{NoneEmpty}
 use Rattle.loss_chain.proofs.ListLemmas.{all_so}
 use Rattle.loss_chain.proofs.TableLemmas.{few_lost, all_lost}
 use Rattle.in_chain.specs.Chains.{Chained, links_of, filt_rows, IsChain}
-use Rattle.in_chain.specs.Falls.{LeadsChain}
+use Rattle.in_chain.specs.Falls.{Falls, LeadsChain, way_of_feed}
 use Rattle.in_chain.specs.Incomings.{loss_entries, overdue_of}
-use Rattle.in_chain.specs.Steps.{fed, lost, welded, refiltered, new_chain}
+use Rattle.in_chain.specs.Steps.{fed, lost, welded, refiltered, new_chain, Turned, IsTaken}
 use Rattle.peer_side.specs.Peers.{Chains, chain_at, put_chain, filt_at, filt_by, IsPeer, IsPeers, AreBefore, peer_of, has_turn_in}
-use Rattle.peer_side.specs.Chains.{StepsChain, FeedsChain, NearsChain, TakesChain, ComesChain}
-use Rattle.peer_side.specs.Steps.{StepsInward, Changes, MayLose, FeedsInward, LosesInward, EditsInward, Nears, TakesInward, ComesInward}
+use Rattle.peer_side.specs.Steps.{with_weld, StepsInward, Changes, MayLose, FeedsInward, LosesInward, EditsInward, Nears, TakesInward, ComesInward}
 use Rattle.peer_side.proofs.MapLemmas.{one_of}
-use Rattle.peer_side.proofs.PutLemmas.{put_here, put_other, put_kept, put_each, put_same, put_lost, put_left}
+use Rattle.peer_side.proofs.PutLemmas.{put_here, put_other, put_kept, put_each, put_same}
 use Rattle.peer_side.proofs.LinkLemmas.{leads_peers, links_kept}
-use Rattle.peer_side.proofs.ChainLemmas.{Left, fed_before, fed_few, turn_left, turn_nears, turn_sent}
+use Rattle.peer_side.proofs.ChainLemmas.{Welds, Left, fall_leads, fall_pushed, fed_before, fed_few, turn_leads, turn_left, turn_nears, turn_sent}
 
 module _ (a : Chains) (k : ℕ) (c : Chained) (at : chain_at k a ≡ Some c) (peers : IsPeers a) where
   is_peer : IsPeer k c
   is_peer = peers k c at
 
-  stepped : (c' : Chained) (entries : List (Entry Value)) → c'.incoming.number ≡ c.incoming.number → length c'.incoming.tables.deletions ≤ 16 → StepsChain c c' entries → StepsInward a (put_chain k c' a) entries
-  stepped c' entries same few s = record {
-    leads = leads_peers a k c c' entries at is_peer.number (same ∙ is_peer.number) s.leads;
-    sound = put_each IsPeer k c' a (record { number = same ∙ is_peer.number; chain = s.chain; full = s.full; few = few }) peers;
+  stepped : (c' : Chained) (entries : List (Entry Value)) → c'.incoming.number ≡ c.incoming.number → length c'.incoming.tables.deletions ≤ 16 → LeadsChain c entries c' → IsChain c'
+      → NoneEmpty c'.incoming.tables.deletions → StepsInward a (put_chain k c' a) entries
+  stepped c' entries same few leads chain full = record {
+    leads = leads_peers a k c c' entries at is_peer.number (same ∙ is_peer.number) leads;
+    sound = put_each IsPeer k c' a (record { number = same ∙ is_peer.number; chain = chain; full = full; few = few }) peers;
   }
+
+  -- a fall or a turn, and the weld behind it
+  welded_step : (less c' : Chained) (entries : List (Entry Value)) (j now : Journaled) → less.incoming.number ≡ c.incoming.number → length (welded less).incoming.tables.deletions ≤ length c.incoming.tables.deletions → LeadsChain c entries less → Welds less c' j now
+      → StepsInward a (put_chain k c' a) (with_weld less entries)
+  welded_step less c' entries j now same few leads w =
+      let after : length c'.incoming.tables.deletions ≡ length (welded less).incoming.tables.deletions = ap (λ (x : Chained). length x.incoming.tables.deletions) w.after in
+      let was = is_peer.few in
+      stepped c' (with_weld less entries) (ap (λ (x : Chained). x.incoming.number) w.after ∙ same) (omega (arith, after, few, was)) (fall_leads c less c' entries j now leads w) w.chain w.full
 
   changed : (c' : Chained) (p : Network) (sent : Option (Change Route)) → IsSent (filt_rows c) (filt_rows c') p sent → Changes k p sent a (put_chain k c' a)
   changed c' p sent is = record {
@@ -50,25 +57,26 @@ module _ (a : Chains) (k : ℕ) (c : Chained) (at : chain_at k a ≡ Some c) (pe
   }
 
   -- ---- a feed
-  fed_inward : (p : Network) (row : Option Attrs) (sent : Option (Change Route)) (c' : Chained) (entries : List (Entry Value)) → FeedsChain p row sent c c' entries
-      → FeedsInward k p row sent a (put_chain k c' a) entries
-  fed_inward p row sent c' entries f = record {
-    feeds = record { chain = c; at = at; fall = f.fall; falls = f.falls; rows = f.rows; lines = f.lines; after = ap (λ (x : Chained). put_chain k x a) f.after };
-    step = stepped c' entries (ap (λ (x : Chained). x.incoming.number) f.after) few f.step;
-    changes = changed c' p sent (subst (λ (rows : Rows Route). IsSent (filt_rows c) rows p sent) (sym f.stays) f.rows);
-    before = λ s all. fed_before s p row c all;
-  }
-    where
-      few : length c'.incoming.tables.deletions ≤ 16
-      few =
-          let same : length c'.incoming.tables.deletions ≡ length (welded (fed c p row)).incoming.tables.deletions = ap (λ (x : Chained). length x.incoming.tables.deletions) f.after in
-          let less = fed_few p row c in
-          let was = is_peer.few in
-          omega (arith, same, less, was)
-
-  pub fed_adds : (p : Network) (row : Option Attrs) (sent : Option (Change Route)) (c' : Chained) (before now : Journaled) → Adds (FeedsChain p row sent c c') before now
-      → Adds (FeedsInward k p row sent a (put_chain k c' a)) before now
-  fed_adds p row sent c' before now f = (f.0, f.1, fed_inward p row sent c' f.0 f.2)
+  pub fed_adds : (p : Network) (row : Option Attrs) (sent : Option (Change Route)) (less c' : Chained) (before j now : Journaled) → IsSent (filt_rows c) (filt_rows less) p sent → less ≡ fed c p row → Adds (Falls c less p (way_of_feed c.incoming) sent) before j
+      → Welds less c' j now → Adds (FeedsInward k p row sent a (put_chain k c' a)) before now
+  fed_adds p row sent less c' before j now rows is adds w = (
+    with_weld less adds.0,
+    fall_pushed less c' adds.0 before j now adds.1 w,
+    record {
+      feeds = record {
+        chain = c;
+        at = at;
+        fall = adds.0;
+        falls = subst (λ (x : Chained). Falls c x p (way_of_feed c.incoming) sent adds.0) is adds.2;
+        rows = subst (λ (x : Chained). IsSent (filt_rows c) (filt_rows x) p sent) is rows;
+        lines = ap (λ (x : Chained). with_weld x adds.0) is;
+        after = ap (λ (x : Chained). put_chain k x a) (w.after ∙ ap welded is);
+      };
+      step = welded_step less c' adds.0 j now (ap (λ (x : Chained). x.incoming.number) is) (subst (λ (x : Chained). length (welded x).incoming.tables.deletions ≤ length c.incoming.tables.deletions) (sym is) (fed_few p row c)) adds.2.leads w;
+      changes = changed c' p sent (subst (λ (new : Rows Route). IsSent (filt_rows c) new p sent) (sym w.rows) rows);
+      before = λ s all. fed_before s p row c all;
+    },
+  )
 
   -- ---- a loss
   later : (s : ℕ) → AreBefore s c → AreBefore (s + 1) (lost s c)
@@ -79,7 +87,7 @@ module _ (a : Chains) (k : ℕ) (c : Chained) (at : chain_at k a ≡ Some c) (pe
   lost_inward s c' room before is leads rows chain full = record {
     loses = record { chain = c; at = at; lines = refl; after = ap (λ (x : Chained). put_chain k x a) is };
     step = stepped c' (loss_entries s c.incoming) (ap (λ (x : Chained). x.incoming.number) is)
-        (subst (λ (x : Chained). length x.incoming.tables.deletions ≤ 16) (sym is) (few_lost (owners.Peer c.incoming.number) s c.incoming.tables is_peer.few room)) (record { leads = leads; chain = chain; full = full });
+        (subst (λ (x : Chained). length x.incoming.tables.deletions ≤ 16) (sym is) (few_lost (owners.Peer c.incoming.number) s c.incoming.tables is_peer.few room)) leads chain full;
     quiet = put_kept filt_by k c' a (rows ∙ ap filt_by (sym at));
     before = later s before;
   }
@@ -106,20 +114,19 @@ pub begun_sound : (a : Chains) (k : ℕ) (me : Speaker) (words : Neighbour) → 
 begun_sound a k me words own peers = put_each IsPeer k (new_chain me words) a (record { number = own; chain = record { apart = tt; rising = tt }; full = tt; few = omega arith }) peers
 
 -- ---- turns
-nears_inward : (task : Task) (a : Chains) (k : ℕ) (c c' : Chained) → chain_at k a ≡ Some c → NearsChain task c c' → Nears task a (put_chain k c' a)
-nears_inward (Del n s) a k c c' at near = let l = put_lost k c c' a at in let t = put_left k c c' a at in let x = near.0 in let y = near.1 in (omega (arith, l, x), omega (arith, t, y))
-nears_inward (Fin n) a k c c' at near = let l = put_lost k c c' a at in let t = put_left k c c' a at in let x = near.0 in let y = near.1 in (omega (arith, l, x), omega (arith, t, y))
-nears_inward (Rdel proto n) a k c c' at near = absurd near
-
-took_inward : (task : Task) (sent : Option (Change Route)) (a : Chains) (c c' : Chained) (entries : List (Entry Value)) → chain_at (peer_of task) a ≡ Some c → IsPeers a → TakesChain task sent c c' entries
-    → TakesInward task sent a (put_chain (peer_of task) c' a) entries
-took_inward task sent a c c' entries at peers t = record {
-  turn = record { chain = c; at = at; turned_chain = t.turned_chain; fall = t.fall; turned = t.turned; lines = t.lines; after = ap (λ (x : Chained). put_chain k x a) t.after };
-  step = stepped a k c at peers c' entries left.leaves.number few t.step;
-  changes = (out.0, changed a k c at peers c' out.0 sent (subst (λ (rows : Rows Route). IsSent (filt_rows c) rows out.0 sent) (sym t.stays) out.1));
-  leaves = (turn_left task c t.turned_chain (welded t.turned_chain) sent t.fall t.turned peer.full refl).leaves;
-  nearer = nears_inward task a k c c' at (turn_nears task c t.turned_chain c' sent t.fall peer.chain peer.full t.turned t.after);
-}
+took_adds : (task : Task) (sent : Option (Change Route)) (a : Chains) (c less c' : Chained) (before j now : Journaled) → chain_at (peer_of task) a ≡ Some c → IsPeers a → Adds (Turned c less task sent) before j → Welds less c' j now
+    → Adds (TakesInward task sent a (put_chain (peer_of task) c' a)) before now
+took_adds task sent a c less c' before j now at peers adds w = (
+  with_weld less adds.0,
+  fall_pushed less c' adds.0 before j now adds.1 w,
+  record {
+    turn = record { chain = c; at = at; turned_chain = less; fall = adds.0; turned = adds.2; lines = refl; after = ap (λ (x : Chained). put_chain k x a) w.after };
+    step = welded_step a k c at peers less c' adds.0 j now left.number left.few (turn_leads task c less sent adds.0 adds.2) w;
+    changes = (out.0, changed a k c at peers c' out.0 sent (subst (λ (rows : Rows Route). IsSent (filt_rows c) rows out.0 sent) (sym w.rows) out.1));
+    leaves = left.leaves;
+    nearer = subst (λ (x : Chained). Nears task a (put_chain k x a)) (sym w.after) (turn_nears task a k c less sent adds.0 at peer.chain peer.full adds.2);
+  },
+)
   where
     k : ℕ
     k = peer_of task
@@ -127,28 +134,27 @@ took_inward task sent a c c' entries at peers t = record {
     peer : IsPeer k c
     peer = peers k c at
 
-    left : Left c c'
-    left = turn_left task c t.turned_chain c' sent t.fall t.turned peer.full t.after
+    left : Left c (welded less)
+    left = turn_left task c less sent adds.0 adds.2 peer.full
 
-    few : length c'.incoming.tables.deletions ≤ 16
-    few = let less = left.few in let was = peer.few in omega (arith, less, was)
+    out : (p : Network) × IsSent (filt_rows c) (filt_rows less) p sent
+    out = turn_sent task c less sent adds.0 adds.2
 
-    out : (p : Network) × IsSent (filt_rows c) (filt_rows t.turned_chain) p sent
-    out = turn_sent task c t.turned_chain sent t.fall t.turned
+module _ (task : Task) (a : Chains) (k : ℕ) (c less : Chained) (before j : Journaled) (turn : Turn Route) (taken : IsTaken c less task before j turn) (is : k ≡ peer_of task) (at : chain_at k a ≡ Some c) where
+  there : chain_at (peer_of task) a ≡ Some c
+  there = ap (λ (n : ℕ). chain_at n a) (sym is) ∙ at
 
-took_adds : (task : Task) (sent : Option (Change Route)) (a : Chains) (c c' : Chained) (before now : Journaled) → chain_at (peer_of task) a ≡ Some c → IsPeers a → Adds (TakesChain task sent c c') before now
-    → Adds (TakesInward task sent a (put_chain (peer_of task) c' a)) before now
-took_adds task sent a c c' before now at peers t = (t.0, t.1, took_inward task sent a c c' t.0 at peers t.2)
+  pub rests_inward : turn ≡ turns.Nothing → ComesInward task a (put_chain k less a) before j turns.Nothing
+  rests_inward none =
+      let t = subst (IsTaken c less task before j) none taken in
+      (ap (has_turn_in task) there ∙ t.0, ap (λ (x : Chained). put_chain k x a) t.1.0 ∙ put_same k c a at, t.1.1)
 
-pub comes_inward : (task : Task) (a : Chains) (k : ℕ) (c c' : Chained) (before now : Journaled) (turn : Turn Route) → k ≡ peer_of task → chain_at k a ≡ Some c → IsPeers a → ComesChain task c c' before now turn
-    → ComesInward task a (put_chain k c' a) before now turn
-comes_inward task a k c c' before now turn is at peers t =
-    subst (λ (n : ℕ). ComesInward task a (put_chain n c' a) before now turn) (sym is) (by_turn turn t)
-  where
-    there : chain_at (peer_of task) a ≡ Some c
-    there = ap (λ (n : ℕ). chain_at n a) (sym is) ∙ at
+  -- what came out, and the weld behind it
+  took : (sent : Option (Change Route)) (c' : Chained) (now : Journaled) → Adds (Turned c less task sent) before j → IsPeers a → Welds less c' j now → Adds (TakesInward task sent a (put_chain k c' a)) before now
+  took sent c' now adds peers w = subst (λ (n : ℕ). Adds (TakesInward task sent a (put_chain n c' a)) before now) (sym is) (took_adds task sent a c less c' before j now there peers adds w)
 
-    by_turn : (turn : Turn Route) → ComesChain task c c' before now turn → ComesInward task a (put_chain (peer_of task) c' a) before now turn
-    by_turn turns.Nothing t = (ap (has_turn_in task) there ∙ t.0, ap (λ (x : Chained). put_chain (peer_of task) x a) t.1 ∙ put_same (peer_of task) c a there, t.2)
-    by_turn turns.Quiet t = took_adds task None a c c' before now there peers t
-    by_turn (turns.Sent change) t = took_adds task (Some change) a c c' before now there peers t
+  pub quiet_inward : (c' : Chained) (now : Journaled) → turn ≡ turns.Quiet → IsPeers a → Welds less c' j now → ComesInward task a (put_chain k c' a) before now turns.Quiet
+  quiet_inward c' now quiet peers w = took None c' now (subst (IsTaken c less task before j) quiet taken) peers w
+
+  pub sent_inward : (change : Change Route) (c' : Chained) (now : Journaled) → turn ≡ turns.Sent change → IsPeers a → Welds less c' j now → ComesInward task a (put_chain k c' a) before now (turns.Sent change)
+  sent_inward change c' now out peers w = took (Some change) c' now (subst (IsTaken c less task before j) out taken) peers w

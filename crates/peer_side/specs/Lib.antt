@@ -1,3 +1,2 @@
 pub mod Peers
-pub mod Chains
 pub mod Steps

@@ -1,5 +1,5 @@
 -- What each call makes of the peers' chains, and what it keeps.
-use Rattle.std.specs.Prelude.{◌≡◌, ℕ, ◌+◌, ◌<◌, ◌≤◌, ◌==◌, false, List, Option, Some, None}
+use Rattle.std.specs.Prelude.{◌≡◌, ℕ, ◌+◌, ◌<◌, ◌≤◌, ◌==◌, false, List, ◌++◌, Option, Some, None}
 use Rattle.addr4.specs.Prefixes.{Network}
 use Rattle.bgp_attr.specs.declared.attrs.Attrs.{Attrs}
 use Rattle.bgp_attr.specs.declared.route.Route.{Route}
@@ -8,21 +8,28 @@ use Rattle.link_change.specs.declared.change.Change.{Change}
 use Rattle.link_change.specs.declared.turn.Turn.{Turn}
 use Rattle.link_change.specs.declared.turn.Turn.TheVariants.{Nothing, Quiet, Sent}
 use Rattle.policy_rules.specs.declared.rule.Rule.{Rule}
+use Rattle.pass_core.specs.Passed.{present}
+use Rattle.journal_text.specs.declared.link.Link.TheVariants.{In}
 use Rattle.journal_text.specs.declared.link.Task.{Task}
 use Rattle.journal_text.specs.declared.link.Task.TheVariants.{Del, Fin, Rdel}
 use Rattle.journal_text.specs.declared.entry.Entry.{Entry}
 use Rattle.journal_text.specs.declared.value.Value.{Value}
 use Rattle.journal_text.specs.Journals.{Journaled, Adds}
+use Rattle.loss_chain.specs.declared.owner.Owner.TheVariants as owners
+use Rattle.loss_chain.specs.Steps.{weld_entries}
 use Rattle.in_chain.specs.Chains.{Chained, filt_rows}
 use Rattle.in_chain.specs.Falls.{Falls, way_of_feed}
 use Rattle.in_chain.specs.Incomings.{loss_entries, overdue_of}
 use Rattle.in_chain.specs.Steps.{fed, lost, welded, refiltered, Turned}
 use Rattle.link_region.specs.declared.regions.Region.TheVariants.{Inward}
 use Rattle.link_region.specs.Regions.{LeadsIn}
-use Rattle.peer_side.specs.Chains.{with_weld, Leaves}
 use Rattle.peer_side.specs.Peers.{Chains, chain_at, put_chain, peer_links, filt_at, IsPeers, AreBefore, peer_of, has_peer_work, lost_in, left_in}
 
 -- ---- what each call does
+-- the entries of a fall in a chain, and behind them the weld of the stage that it emptied, if any
+abbrev pub with_weld : Chained → List (Entry Value) → List (Entry Value)
+with_weld c entries = entries ++ weld_entries (owners.Peer c.incoming.number) (In c.incoming.number) c.incoming.tables.deletions
+
 -- One prefix is announced or withdrawn in the chain of peer k.
 pub record FeedsPeer (k : ℕ) (p : Network) (row : Option Attrs) (sent : Option (Change Route)) (a a' : Chains) (entries : List (Entry Value)) : Type 0 where
   pub chain : Chained
@@ -91,6 +98,14 @@ pub record EditsInward (k : ℕ) (rules : List Rule) (a a' : Chains) : Type 0 wh
   pub links : peer_links a' ≡ peer_links a
   pub quiet : (j : ℕ) → filt_at a' j ≡ filt_at a j
   pub sound : IsPeers a'
+
+-- What a turn leaves of a chain: whose it is, what is live, the latest rules; and that the lost sessions are earlier than one.
+pub record Leaves (c c' : Chained) : Type 0 where
+  pub me : c'.me ≡ c.me
+  pub peer : c'.peer ≡ c.peer
+  pub live : c'.incoming.tables.live ≡ c.incoming.tables.live
+  pub rules : present c'.filter ≡ present c.filter
+  pub before : (s : ℕ) → AreBefore s c → AreBefore s c'
 
 -- a turn brings the end of its task nearer: fewer rows are lost, or fewer turns of walks are left
 abbrev pub Nears : Task → Chains → Chains → Type 0

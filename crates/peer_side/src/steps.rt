@@ -2,16 +2,12 @@
 
 ghost use Rattle.std.specs.Prelude.{◌≡◌, OnOk, IfOk, IsSome};
 ghost use Rattle.journal_text.specs.Journals.{Adds};
-ghost use Rattle.loss_chain.specs.Tables.{NoneEmpty};
-ghost use Rattle.in_chain.specs.Chains.{IsChain};
 ghost use Rattle.peer_side.specs.Peers.{chain_at, peer_of, IsPeers};
 ghost use Rattle.peer_side.specs.Steps.{FeedsInward, LosesInward, MayLose, ComesInward};
-ghost use Rattle.peer_side.specs.Chains.{FeedsChain, ComesChain};
 
 use crate::peers::Peers;
 use addr4::{Memory, Prefix};
 use bgp_attr::{Route, SharedAttrs};
-use in_chain::Chain;
 use journal_text::{Journal, Task};
 use link_change::{Change, Turn};
 
@@ -32,7 +28,9 @@ impl Peers {
         let Some(chain) = self.chains.get_mut(&number) else {
             unreachable!()
         };
-        feed_chain(chain, prefix, row, journal)
+        let sent = chain.feed(prefix, row, journal)?;
+        chain.weld(journal)?;
+        Ok(sent)
     }
 
     /// The session of this number of a peer is lost: its routes, if there are any, go to a deletion stage directly below the
@@ -59,41 +57,16 @@ impl Peers {
         let Some(chain) = self.chains.get_mut(&peer_of(task)) else {
             return Ok(Turn::Nothing);
         };
-        turn_chain(chain, task, journal)
-    }
-}
-
-/// One prefix is announced or withdrawn in a chain, and the stage that this empties goes.
-fn feed_chain(
-    chain: &mut Chain,
-    prefix: Prefix,
-    row: Option<SharedAttrs>,
-    journal: &mut Journal,
-) -> Result<Option<Change<Route>>, Memory>
-    requires sound { IsChain chain.old }
-    requires full { NoneEmpty chain.old.incoming.tables.deletions }
-    ensures { IfOk result (λ sent. Adds (FeedsChain prefix row sent chain.old chain.new) journal.old journal.new) }
-{
-    let sent = chain.feed(prefix, row, journal)?;
-    chain.weld(journal)?;
-    Ok(sent)
-}
-
-/// One turn of a task in a chain, and the stage that this empties goes.
-fn turn_chain(chain: &mut Chain, task: Task, journal: &mut Journal) -> Result<Turn<Route>, Memory>
-    requires sound { IsChain chain.old }
-    requires full { NoneEmpty chain.old.incoming.tables.deletions }
-    ensures { IfOk result (ComesChain task chain.old chain.new journal.old journal.new) }
-{
-    match chain.unit(task, journal)? {
-        Turn::Nothing => Ok(Turn::Nothing),
-        Turn::Quiet => {
-            chain.weld(journal)?;
-            Ok(Turn::Quiet)
-        }
-        Turn::Sent(change) => {
-            chain.weld(journal)?;
-            Ok(Turn::Sent(change))
+        match chain.unit(task, journal)? {
+            Turn::Nothing => Ok(Turn::Nothing),
+            Turn::Quiet => {
+                chain.weld(journal)?;
+                Ok(Turn::Quiet)
+            }
+            Turn::Sent(change) => {
+                chain.weld(journal)?;
+                Ok(Turn::Sent(change))
+            }
         }
     }
 }
