@@ -111,7 +111,7 @@ fn replacing(prefix: Prefix, before: External, after: External) -> Split
 }
 
 /// What a change of the best routes comes to.
-pub(crate) fn split(change: &Change<Route>) -> Split
+pub(crate) fn split_change(change: &Change<Route>) -> Split
     ensures { IsSplitOf change.now.prefix (external_row change.now.before) (external_row change.now.after) result }
 {
     let before = external_row(&change.before);

@@ -5,7 +5,7 @@ ghost use Rattle.std.specs.FinMap as map;
 ghost use Rattle.rib_split.specs.Splitting.{DeletesLast};
 ghost use Rattle.rib_split.specs.Tables.{table_of, kept_on, kept_all, SplitsOn};
 
-use crate::split::{BgpLink, Split, split};
+use crate::split::{BgpLink, Split, split_change};
 use addr4::Memory;
 use bgp_attr::Route;
 use cache_stage::Cache;
@@ -87,7 +87,7 @@ impl Splitter {
         ensures law { IfOk result (SplitsOn self.old self.new change.now) }
         ensures memory { OnErr result (self.new ≡ self.old) }
     {
-        let split = split(change);
+        let split = split_change(change);
         self.keep_all(&split)?;
         Ok(split)
     }
