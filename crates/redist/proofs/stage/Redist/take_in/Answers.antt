@@ -11,7 +11,7 @@ returns-clause-sent c =
     let me = c.args.me.now in
     let p = c.args.change.prefix in
     let pass = c.args.self.now in
-    let on : c.at.result.now ≡ function_at pass p = c.at.ensures ∙ ap (λ (s : Passed Protos). function_at s p) c.self.view_is in
+    let on : c.at-on.result.now ≡ function_at pass p = c.at-on.ensures ∙ ap (λ (s : Passed Protos). function_at s p) c.self.view_is in
     let before : c.in_ok-before.before ≡ passed (redistributed me) pass p c.args.change.before =
     c.in_ok-before.ensures ∙ ap (λ (f : Protos). redistributed me f p c.args.change.before) on in
     let after : c.in_ok-after.after ≡ passed (redistributed me) pass p c.args.change.after =

@@ -3,9 +3,8 @@ use Rattle.addr4.specs.Places.{key_of}
 use Rattle.redist.specs.declared.protos.Protos.{Protos}
 use Rattle.pass_core.specs.Passed.{Passed, function_at}
 use Rattle.pass_core.specs.Turns.{IsWalked}
-use Rattle.pass_core.proofs.TurnLemmas.{goes_on, ends_here, coming_at}
+use Rattle.pass_core.proofs.TurnLemmas.{goes_on, coming_at}
 use Rattle.link_change.specs.Turns.{taken_turn}
-use Rattle.link_change.specs.declared.turn.Turn.TheVariants.{Quiet}
 use Rattle.redist.specs.Local.{redistributed}
 use Rattle.redist.proofs.LawLemmas.{makes_none}
 use Rattle.redist.proofs.stage.Redist.unit.Goals as goal
@@ -21,9 +20,9 @@ returns-clause-taken g c =
     let busy : is_some old.walk ≡ true = search rules in
     let row : c.in_ok-row.row ≡ upper p = c.in_ok-row.ensures in
     let before : c.in_ok-before.before ≡ redistributed me (function_at old p) p (upper p) =
-    c.in_ok-before.ensures ∙ ap (λ (f : Protos). redistributed me f p c.in_ok-row.row) c.at.ensures
+    c.in_ok-before.ensures ∙ ap (λ (f : Protos). redistributed me f p c.in_ok-row.row) c.at-in_force.ensures
     ∙ ap (redistributed me (function_at old p) p) row in
-    let coming : c.coming.result.now ≡ function_at new p = coming_at old new p c.coming.result.now busy c.coming.ensures c.step_to.ensures in
+    let coming : c.coming-coming.result.now ≡ function_at new p = coming_at old new p c.coming-coming.result.now busy c.coming-coming.ensures c.step_to.ensures in
     let after : c.in_ok-after.after ≡ redistributed me (function_at new p) p (upper p) =
     c.in_ok-after.ensures ∙ ap (λ (f : Protos). redistributed me f p c.in_ok-row.row) coming
     ∙ ap (redistributed me (function_at new p) p) row in
