@@ -1,5 +1,5 @@
 -- A route that moves between the links changes the merged rows once.
-use Rattle.std.proofs.Common.{◌≡◌, ◌⊎◌, inl, inr, Bool, true, false, cond, not, nat_lt, Option, Some, None, refl, sym, ap, ◌∙◌, subst}
+use Rattle.std.proofs.Common.{◌≡◌, ◌⊎◌, inl, inr, Bool, true, false, cond, not, nat_lt, Option, Some, None, refl, sym, ap, ◌∙◌}
 use Rattle.addr4.specs.Prefixes.{Network}
 use Rattle.addr4.proofs.PrefixOrder.{by_prefix}
 use Rattle.bgp_attr.specs.declared.route.Route.{Route}
@@ -11,10 +11,9 @@ use Rattle.link_change.specs.Changes.{IsSent}
 use Rattle.link_change.specs.declared.change.Change.{Change}
 use Rattle.link_change.proofs.RowLemmas.{same_function, with_row_here}
 use Rattle.rib_merge.specs.Merging.{row_of_both}
-use Rattle.rib_split.specs.declared.split.BgpLink.{BgpLink}
 use Rattle.rib_split.specs.declared.split.BgpLink.TheVariants.{Ebgp, Ibgp}
-use Rattle.rib_split.specs.Splitting.{external_row, on_link, split_rows, Moves}
-use Rattle.rib_split.specs.Laws.{merged_links, MovedChangesOnce}
+use Rattle.rib_split.specs.Splitting.{external_row, on_link, split_rows}
+use Rattle.rib_split.specs.Laws.{MovedChangesOnce}
 
 -- beside a row of an external peer no row of an internal one counts
 beside : (e : Bool) (i : Bool) (a c : External) → a.internal ≡ e → c.internal ≡ i → (cond (not e) (Some a) None ≡ None → ⊥)
@@ -55,7 +54,7 @@ module _ (upper now : Rows Route) (p : Network) where
   -- the rows of `ebgp` at p of these routes hide those of `ibgp`, whichever those are
   hides : (rows : Rows Route) → (split_rows rows Ebgp p ≡ None → ⊥) → (q : Network) → (q ≡ p) ⊎ (split_rows now Ibgp q ≡ split_rows upper Ibgp q)
       → row_of_both (λ r. distance (external_proto r)) (split_rows rows Ebgp q) (split_rows now Ibgp q)
-        ≡ row_of_both (λ r. distance (external_proto r)) (split_rows rows Ebgp q) (split_rows upper Ibgp q)
+      ≡ row_of_both (λ r. distance (external_proto r)) (split_rows rows Ebgp q) (split_rows upper Ibgp q)
   hides rows some q (inr same) = ap (row_of_both (λ r. distance (external_proto r)) (split_rows rows Ebgp q)) same
   hides rows some q (inl here) =
       let there : split_rows rows Ebgp q ≡ None → ⊥ = λ none. some (ap (split_rows rows Ebgp) (sym here) ∙ none) in

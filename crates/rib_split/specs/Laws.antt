@@ -1,5 +1,5 @@
 -- Laws of the splitter, for the crates above.
-use Rattle.std.specs.Prelude.{◌≡◌, ◌⊎◌, ℕ}
+use Rattle.std.specs.Prelude.{◌≡◌, ◌⊎◌}
 use Rattle.std.specs.FinMap as map
 use Rattle.addr4.specs.Prefixes.{Network}
 use Rattle.bgp_attr.specs.declared.route.Route.{Route}
@@ -26,4 +26,4 @@ abbrev pub MovedChangesOnce : Type 0
 MovedChangesOnce =
     (upper now : Rows Route) (link : BgpLink) (p : Network) (add delete : Change External) → Moves link (split_rows upper) (split_rows now) p add delete
     → (merged_links (first_on link (split_rows upper) (split_rows now)) ≡ merged_links (split_rows upper))
-      ⊎ (merged_links (split_rows now) ≡ merged_links (first_on link (split_rows upper) (split_rows now)))
+    ⊎ (merged_links (split_rows now) ≡ merged_links (first_on link (split_rows upper) (split_rows now)))
