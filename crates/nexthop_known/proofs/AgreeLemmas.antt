@@ -1,5 +1,5 @@
 -- Known next hops that keep to what the register would answer.
-use Rattle.std.proofs.Common.{◌≡◌, ◌≢◌, ℕ, Bool, true, false, cond, refl, sym, ap, ◌∙◌, subst, inl, inr, Option, Some, None}
+use Rattle.std.proofs.Common.{◌≡◌, ℕ, Bool, true, false, refl, sym, ap, ◌∙◌, subst, inl, inr, Option, Some, None}
 use Rattle.std.specs.Option.{option_map}
 use Rattle.std.specs.FinMap as map
 use Rattle.std.proofs.lemmas.Bool.{cases_eq}
@@ -7,8 +7,8 @@ use Rattle.addr4.specs.Prefixes.{Network, Holds}
 use Rattle.addr4.proofs.PrefixOrder.{by_prefix}
 use Rattle.prefix_trie.specs.Width.{width}
 use Rattle.nexthop_known.specs.declared.answer.Hop.{Hop}
-use Rattle.nexthop_known.specs.Hops.{Hops, came_at, settled, IsMapped, IsWithSome, IsWithNone, IsUnshared}
-use Rattle.nexthop_known.specs.Agreement.{IsPresent, Agree, IsPutAt, IsInterestIn, GivesUp}
+use Rattle.nexthop_known.specs.Hops.{Hops, came_at, settled, IsMapped, IsWithSome, IsUnshared}
+use Rattle.nexthop_known.specs.Agreement.{IsPresent, IsPutAt, IsInterestIn, GivesUp}
 use Rattle.nexthop_known.specs.Laws.{NothingAgrees, AnsweredAgrees, EarlyAgrees, EarlyIsGivenUp, ForgottenAgrees, SettledAgrees}
 
 clash_some : {X : Type 0} (x : X) (P : Type 0) → None ≡ Some x → P

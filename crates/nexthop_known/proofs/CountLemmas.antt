@@ -1,21 +1,18 @@
 -- Counts of the rows that name a next hop, and what a change of a row does to them.
 use Rattle.std.proofs.Common.{◌≡◌, ◌≢◌, ◌⊎◌, ◌↔◌, ℕ, zero, suc, ◌+◌, ◌-◌, ◌<◌, ◌==◌, Bool, true, false, cond, if◌then◌else◌, List, [], ◌∷◌, length, refl, sym, ap, ◌∙◌, subst, inl, inr, Option, Some, None, is_some, arith, eqb-true, eq-eqb}
 use Rattle.std.specs.List.{Contains}
-use Rattle.std.specs.Option.{option_map}
-use Rattle.std.specs.Ordering.{nat_cmp, eq_by_cmp, is_eq}
-use Rattle.std.specs.declared.cmp.Ordering.{Ordering}
-use Rattle.std.specs.declared.cmp.Ordering.TheVariants.{Less, Equal, Greater}
+use Rattle.std.specs.Ordering.{nat_cmp, eq_by_cmp}
 use Rattle.std.specs.Cmp.{nat_cmp_total, eq_by_cmp_equiv}
 use Rattle.std.specs.FinMap.{get, insert, remove, get-insert, get-remove, get-empty, same_map, nat_cmp-IsAntisymmetric}
 use Rattle.std.specs.FinMap as map
 use Rattle.std.proofs.lemmas.Bool.{cases_eq}
 use Rattle.addr4.specs.Prefixes.{Network}
 use Rattle.addr4.proofs.PrefixOrder.{by_prefix}
-use Rattle.link_change.specs.Rows.{Rows, no_rows, with_row}
+use Rattle.link_change.specs.Rows.{Rows, with_row}
 use Rattle.link_change.proofs.RowLemmas.{with_row_here}
 use Rattle.link_change.proofs.InOrderLemmas.{with_row_elsewhere}
 use Rattle.nexthop_known.proofs.HopLemmas.{equal_of}
-use Rattle.nexthop_known.specs.Counts.{Counts, counted, counted_in, one_more, one_less, one_less_of, once, Recounts, AllApart, IsCount, AreCounted}
+use Rattle.nexthop_known.specs.Counts.{Counts, counted, counted_in, one_more, one_less_of, once, Recounts, AllApart, IsCount}
 use Rattle.nexthop_known.specs.Laws.{NothingIsCounted, OneMoreCounts, OneLessCounts, OneForAnother, MoreAndLess, CountsFollow, NamedIsCounted, CountedIsNamed}
 
 -- at the number, or at another

@@ -1,5 +1,5 @@
 -- Laws of known next hops, for the crates above.
-use Rattle.std.specs.Prelude.{◌≡◌, ◌≢◌, ◌↔◌, ℕ, ◌+◌, ◌<◌, ◌≤◌, true, false, Bool, Option, Some, None}
+use Rattle.std.specs.Prelude.{◌≡◌, ◌↔◌, ℕ, ◌+◌, ◌<◌, ◌≤◌, true, false, Bool, Option, Some, None}
 use Rattle.std.specs.FinMap as map
 use Rattle.addr4.specs.Prefixes.{Network, Holds}
 use Rattle.link_change.specs.Rows.{Rows, no_rows, with_row}

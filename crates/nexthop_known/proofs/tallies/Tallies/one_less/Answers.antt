@@ -1,7 +1,4 @@
-use Rattle.std.proofs.Common.{◌≡◌, ◌+◌, ◌-◌, ℕ, Option, Some, false, sym, ap, ◌∙◌, subst, arith}
-use Rattle.std.specs.Ordering.{nat_cmp}
-use Rattle.std.specs.BTreeMap as tree
-use Rattle.nexthop_known.specs.Counts.{is_one}
+use Rattle.std.proofs.Common.{◌≡◌, ◌+◌, ◌-◌, Some, sym, ap, ◌∙◌, arith}
 use Rattle.nexthop_known.proofs.TallyLemmas.{nothing_less, last_less, lowered_is, one_told, not_one}
 use Rattle.nexthop_known.proofs.tallies.Tallies.one_less.Goals as goal
 
