@@ -1,34 +1,24 @@
-//! The forwarding table's changes.
+//! Interior rows as what packets are forwarded by.
 
 ghost use Rattle.std.specs.Prelude.{◌≡◌, option_map};
-ghost use Rattle.rib_tree.specs.Forwards.{fib_row, ForwardsOn};
+ghost use Rattle.rib_route.specs.Forwarding.{fib_row};
+ghost use Rattle.rib_merge.specs.Forwards.{ForwardsOn};
 
 use link_change::Change;
 use rib_route::{FibRow, Interior};
 
-// The row that a route is forwarded by.
-fn fib_row(route: &Interior) -> FibRow
-    ensures { result ≡ fib_row route.now }
-{
-    FibRow {
-        proto: route.proto.fib_proto(),
-        gateway: route.gateway,
-        iface: route.iface,
-    }
-}
-
-/// The same of a route, if there is one.
-pub(crate) fn forwarded(route: &Option<Interior>) -> Option<FibRow>
+/// What packets are forwarded by, if there is a route.
+pub fn forwarded(route: &Option<Interior>) -> Option<FibRow>
     ensures { result ≡ option_map fib_row route.now }
 {
     match route {
-        Some(route) => Some(fib_row(route)),
+        Some(route) => Some(route.fib_row()),
         None => None,
     }
 }
 
-/// What `fib` gets of a change of `int`. None exactly where its map stays the same, as where the metric of a route changes
-/// alone. Takes no memory.
+/// The change of the forwarding rows that follows one of interior rows. None exactly where they stay the same, as where the
+/// metric of a route changes alone. Takes no memory.
 pub fn forward(change: &Change<Interior>) -> Option<Change<FibRow>>
     ensures { ForwardsOn change.now result }
 {
