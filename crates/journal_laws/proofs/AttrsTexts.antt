@@ -12,6 +12,7 @@ use Rattle.bgp_attr.specs.declared.attrs.Attrs.{Attrs}
 use Rattle.bgp_attr.specs.declared.unrecognized.Unrecognized.{Unrecognized}
 use Rattle.journal_text.specs.Texts.{origin_number, path_text, lettered, aggregator_text, unrecognized_text, required_text, optional_text, attrs_text}
 use Rattle.journal_check.specs.Laws.{IsNumberIfAny, HasNumber, HasRanges}
+use Rattle.journal_check.proofs.InkLemmas.{both_true}
 use Rattle.journal_laws.specs.Printed.{HasAddress, HasAddresses}
 use Rattle.journal_laws.proofs.Spans.{begins, clash, first_same, rest_same, begins_less}
 use Rattle.journal_laws.proofs.NumberTexts.{is_dotted, digit_is_dotted, number_told, addr_told}
@@ -24,18 +25,14 @@ opens letters [] = true
 opens letters (c ∷ []) = false
 opens letters (c ∷ d ∷ s) = nat_eq c 44 && letters d
 
-both_true : (a b : Bool) → (a && b) ≡ true → (a ≡ true) × (b ≡ true)
-both_true true b e = (refl, e)
-both_true false b e = absurd (cc)
-
 comma : (c : ℕ) → nat_eq c 44 ≡ true → c ≡ 44
 comma c e = grind (arith, nat_tests)
 
 -- where only commas stand, a test that commas fail fails
-not_begun : (test : ℕ → Bool) (letters : ℕ → Bool) (s : List ℕ) → test 44 ≡ false → opens letters s ≡ true → begins test s ≡ false
-not_begun test letters [] no open = refl
-not_begun test letters (c ∷ []) no open = absurd (cc)
-not_begun test letters (c ∷ d ∷ s) no open = ap test (comma c (both_true (nat_eq c 44) (letters d) open).0) ∙ no
+not_begun : (test letters : ℕ → Bool) (s : List ℕ) → test 44 ≡ false → opens letters s ≡ true → begins test s ≡ false
+not_begun test letters [] fails f = refl
+not_begun test letters (c ∷ []) fails f = absurd (cc)
+not_begun test letters (c ∷ d ∷ s) fails f = ap test (comma c (both_true (nat_eq c 44) (letters d) f).0) ∙ fails
 
 -- ---- parts that are there or not
 
@@ -90,15 +87,15 @@ small_number : (o : Option ℕ) (n : ℕ) → IsNumberIfAny o → o ≡ Some n �
 small_number None n h e = absurd (cc)
 small_number (Some m) n h e = let same : m ≡ n = cc in omega arith
 
+as_letter : (letter : ℕ) (o : Option ℕ) → lettered letter o ≡ tagged letter decimal o
+as_letter letter None = refl
+as_letter letter (Some x) = refl
+
 lettered_told : (letter : ℕ) (later : ℕ → Bool) (m n : Option ℕ) (s t : List ℕ) → later letter ≡ false → opens later s ≡ true → opens later t ≡ true → IsNumberIfAny m → IsNumberIfAny n → lettered letter m ++ s ≡ lettered letter n ++ t → (m ≡ n) × (s ≡ t)
 lettered_told letter later m n s t last f g hm hn e =
     tag_told letter later decimal m n s t last f g
     (λ x y is_x is_y same. number_told x y s t (small_number m x hm is_x) (small_number n y hn is_y) (not_begun is_ascii_digit later s refl f) (not_begun is_ascii_digit later t refl g) same)
-    (ap (λ u. u ++ s) (sym (as_tagged m)) ∙ (e ∙ ap (λ u. u ++ t) (as_tagged n)))
-  where
-    as_tagged : (o : Option ℕ) → lettered letter o ≡ tagged letter decimal o
-    as_tagged None = refl
-    as_tagged (Some x) = refl
+    (ap (λ u. u ++ s) (sym (as_letter letter m)) ∙ (e ∙ ap (λ u. u ++ t) (as_letter letter n)))
 
 abbrev flag_of : Bool → Option Bool
 flag_of true = Some true
@@ -245,10 +242,6 @@ open_local : (a : Attrs) → opens atomic_letters (behind_local a) ≡ true
 open_local a =
     ap (λ t. opens atomic_letters (t ++ behind_atomic a)) (as_flag a.atomic)
     ∙ tag_opens 97 aggregator_letters atomic_letters no_text (flag_of a.atomic) (behind_atomic a) refl (λ d e. or_right (nat_eq d 97) (aggregator_letters d) e) (open_atomic a)
-
-as_letter : (letter : ℕ) (o : Option ℕ) → lettered letter o ≡ tagged letter decimal o
-as_letter letter None = refl
-as_letter letter (Some x) = refl
 
 open_med : (a : Attrs) → opens local_letters (behind_med a) ≡ true
 open_med a =

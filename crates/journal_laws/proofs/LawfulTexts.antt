@@ -22,6 +22,7 @@ use Rattle.journal_check.specs.declared.reading.Reading.{Reading}
 use Rattle.journal_check.specs.declared.reading.Reading.TheVariants.{Skipped, Read, NotALine}
 use Rattle.journal_check.specs.declared.checked.Checked.{Checked}
 use Rattle.journal_check.specs.declared.checked.Checked.TheVariants.{Lawful}
+use Rattle.journal_check.proofs.InkLemmas.{all_append, both_true}
 use Rattle.journal_check.proofs.LineBack.{lines_back}
 use Rattle.journal_check.proofs.OneAnswer.{one_answer}
 use Rattle.check_run.specs.Lines.{IsPart, ended, lines_of, lines_in}
@@ -57,10 +58,6 @@ printed_read line h = lines_read line (printed line) h (line_ended line)
 
 abbrev printable : ℕ → Bool
 printable b = nat_le 32 b && nat_le b 126
-
-both_true : (a b : Bool) → (a && b) ≡ true → (a ≡ true) × (b ≡ true)
-both_true true b e = (refl, e)
-both_true false b e = absurd (cc)
 
 is_said : (line : Line) → NotALine ≡ said line → ⊥
 is_said (Journal entry) e = absurd (cc)
@@ -194,10 +191,6 @@ line_exact peers (Idle turns) h told = tt
 line_exact peers Ignored h told = tt
 line_exact peers Absent h told = tt
 line_exact peers (Refused number code) h told = tt
-
-all_append : {A : Type 0} (P : A → Type 0) (xs ys : List A) → AllByRecursion P xs → AllByRecursion P ys → AllByRecursion P (xs ++ ys)
-all_append P [] ys g h = h
-all_append P (x ∷ xs) ys g h = (g.0, all_append P xs ys g.1 h)
 
 lines_exact : (peers : ℕ → Option Neighbour) (lines : List Line) → AllByRecursion (IsPrinted peers) lines → AreExact peers (entries_of lines)
 lines_exact peers [] h = tt

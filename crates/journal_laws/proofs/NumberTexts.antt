@@ -12,7 +12,7 @@ use Rattle.hex.proofs.HexLemmas.{decode_of-encode_lower}
 use Rattle.addr4.specs.Texts.{dotted, addr_text, addr_of}
 use Rattle.journal_check.proofs.InkLemmas.{decimal_are, dotted_are}
 use Rattle.journal_check.proofs.PrefixBack.{addr_back}
-use Rattle.journal_laws.proofs.Spans.{begins, Pass, clash, first_same, rest_same, spans, pass_more, begins_less}
+use Rattle.journal_laws.proofs.Spans.{begins, Pass, clash, first_same, rest_same, some_same, spans, pass_more, begins_less}
 
 -- ---- numbers
 
@@ -101,9 +101,6 @@ dotted_told (m ∷ ms) (n ∷ ns) s t hm hn f g e =
     ((λ i. first.0 i ∷ later.0 i), later.1)
 
 -- ---- addresses
-
-some_same : (a b : ℕ) → ◌≡◌ {A = Option ℕ} (Some a) (Some b) → a ≡ b
-some_same a b e = cc
 
 pub addr_same : (a b : ℕ) → a < 2 ^ 32 → b < 2 ^ 32 → addr_text a ≡ addr_text b → a ≡ b
 addr_same a b ha hb e = some_same a b (sym (addr_back a ha) ∙ (ap addr_of e ∙ addr_back b hb))

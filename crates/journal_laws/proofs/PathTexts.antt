@@ -25,10 +25,10 @@ record SameSegments (k l : SegmentKind) (ms ns s t : List ℕ) : Type 0 where
 behind_bracket : (close : ℕ) (ms s : List ℕ) → (dotted ms ++ close ∷ []) ++ s ≡ dotted ms ++ close ∷ s
 behind_bracket close ms s = append_assoc (dotted ms) (close ∷ []) s
 
-inside : (open close : ℕ) (ms ns s t : List ℕ) → is_dotted close ≡ false → AreSmall ms → AreSmall ns → open ∷ ((dotted ms ++ close ∷ []) ++ s) ≡ open ∷ ((dotted ns ++ close ∷ []) ++ t) → (ms ≡ ns) × (s ≡ t)
-inside open close ms ns s t shut hm hn e =
+inside : (start close : ℕ) (ms ns s t : List ℕ) → is_dotted close ≡ false → AreSmall ms → AreSmall ns → start ∷ ((dotted ms ++ close ∷ []) ++ s) ≡ start ∷ ((dotted ns ++ close ∷ []) ++ t) → (ms ≡ ns) × (s ≡ t)
+inside start close ms ns s t shut hm hn e =
     let whole : dotted ms ++ close ∷ s ≡ dotted ns ++ close ∷ t =
-        sym (behind_bracket close ms s) ∙ (rest_same open open ((dotted ms ++ close ∷ []) ++ s) ((dotted ns ++ close ∷ []) ++ t) e ∙ behind_bracket close ns t) in
+        sym (behind_bracket close ms s) ∙ (rest_same start start ((dotted ms ++ close ∷ []) ++ s) ((dotted ns ++ close ∷ []) ++ t) e ∙ behind_bracket close ns t) in
     let told = dotted_told ms ns (close ∷ s) (close ∷ t) hm hn shut shut whole in
     (told.0, rest_same close close s t told.1)
 

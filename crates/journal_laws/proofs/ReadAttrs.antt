@@ -22,6 +22,7 @@ use Rattle.bgp_wire.proofs.ReadableLaws.{Every, all_every, Octets, held, each_ty
 use Rattle.bgp_wire.proofs.ReadableMessages.{field_octets}
 use Rattle.wire_laws.proofs.LengthLaws.{attributes_no_longer}
 use Rattle.journal_check.specs.Laws.{IsNumberIfAny, HasNumbers, HasNumber, HasOctets, HasRanges}
+use Rattle.journal_laws.proofs.Spans.{some_same, not_some}
 use Rattle.journal_laws.specs.Printed.{HasAddress, HasAddresses, FitsMessage, IsPrintable}
 use Rattle.journal_laws.specs.Laws.{ReadIsPrintable}
 
@@ -97,19 +98,13 @@ attrs_printable p external bytes r is octets a are =
     let shorter = attributes_no_longer p external is.attributes is.steps is.runs a is.are f.attributes kept readable (omega (arith, whole, top)) in
     printable_by p external a readable (unrecognized_ranges p external is.attributes is.steps is.runs a is.are f.attributes kept) (p.as4, omega (arith, shorter, whole, top))
 
-some_attrs : (a b : Attrs) → ◌≡◌ {A = Option Attrs} (Some a) (Some b) → a ≡ b
-some_attrs a b e = cc
-
-no_attrs : (a : Attrs) → ◌≡◌ {A = Option Attrs} None (Some a) → ⊥
-no_attrs a e = absurd (cc)
-
 by_prefixes : (p : Profile) (external : Bool) (bytes : List ℕ) (r : Reading) (is : IsReading p external bytes r) → Octets bytes → (ns : List Network) (attrs : Option Attrs) (a : Attrs) → AreAttrsFor p.as4 external r.kept ns attrs → attrs ≡ Some a → IsPrintable a
-by_prefixes p external bytes r is octets [] attrs a are e = absurd (no_attrs a (sym are ∙ e))
+by_prefixes p external bytes r is octets [] attrs a are e = absurd (not_some a (sym are ∙ e))
 by_prefixes p external bytes r is octets (n ∷ ns) None a are e = absurd are
-by_prefixes p external bytes r is octets (n ∷ ns) (Some b) a are e = subst IsPrintable (some_attrs b a e) (attrs_printable p external bytes r is octets b are)
+by_prefixes p external bytes r is octets (n ∷ ns) (Some b) a are e = subst IsPrintable (some_same b a e) (attrs_printable p external bytes r is octets b are)
 
 by_withdraw : (p : Profile) (external : Bool) (bytes : List ℕ) (r : Reading) (is : IsReading p external bytes r) → Octets bytes → (withdraw : Bool) (u : Update) (a : Attrs) → IsUpdateBy p.as4 external r withdraw u → u.attrs ≡ Some a → IsPrintable a
-by_withdraw p external bytes r is octets true u a by e = absurd (no_attrs a (sym by.attrs ∙ e))
+by_withdraw p external bytes r is octets true u a by e = absurd (not_some a (sym by.attrs ∙ e))
 by_withdraw p external bytes r is octets false u a by e = by_prefixes p external bytes r is octets r.announced u.attrs a by.attrs e
 
 pub read_printable : ReadIsPrintable

@@ -1,5 +1,5 @@
 -- Texts that are equal, and where each is parted.
-use Rattle.std.proofs.Common.{◌≡◌, ℕ, Bool, true, false, List, [], ◌∷◌, ◌++◌, refl, sym, ap, ◌∙◌}
+use Rattle.std.proofs.Common.{◌≡◌, ℕ, Bool, true, false, List, [], ◌∷◌, ◌++◌, Option, Some, None, refl, sym, ap, ◌∙◌}
 use Rattle.std.specs.List.{AllByRecursion}
 
 -- whether the first byte passes the test
@@ -19,6 +19,12 @@ first_same x y xs ys e = cc
 
 pub rest_same : (x y : ℕ) (xs ys : List ℕ) → x ∷ xs ≡ y ∷ ys → xs ≡ ys
 rest_same x y xs ys e = cc
+
+pub some_same : {A : Type 0} (x y : A) → ◌≡◌ {A = Option A} (Some x) (Some y) → x ≡ y
+some_same x y e = cc
+
+pub not_some : {A : Type 0} (x : A) → ◌≡◌ {A = Option A} None (Some x) → ⊥
+not_some x e = absurd (cc)
 
 -- what passes ends at the same place in both
 pub spans : (test : ℕ → Bool) (xs ys s t : List ℕ) → Pass test xs → Pass test ys → begins test s ≡ false → begins test t ≡ false → xs ++ s ≡ ys ++ t → (xs ≡ ys) × (s ≡ t)
@@ -42,7 +48,3 @@ begins_less test more f (c ∷ s) g = by (test c) refl
     by : (b : Bool) → test c ≡ b → b ≡ false
     by true is = absurd (clash (more c) g (f c is))
     by false is = refl
-
-pub pass_append : (test : ℕ → Bool) (xs ys : List ℕ) → Pass test xs → Pass test ys → Pass test (xs ++ ys)
-pass_append test [] ys p q = q
-pass_append test (x ∷ xs) ys p q = (p.0, pass_append test xs ys p.1 q)

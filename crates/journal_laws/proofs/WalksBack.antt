@@ -18,6 +18,7 @@ use Rattle.journal_check.specs.Laws.{texts_of}
 use Rattle.journal_laws.specs.Printed.{IsExact, answer_values, values_of}
 use Rattle.journal_laws.specs.TextLinks.{text_rows, text_links, text_entries}
 use Rattle.journal_laws.specs.Laws.{TextsTellWalks}
+use Rattle.journal_laws.proofs.Spans.{some_same, not_some}
 use Rattle.journal_laws.proofs.ValueTexts.{values_told}
 use Rattle.journal_laws.proofs.TextWalks.{after_texts, lawful_texts}
 
@@ -32,12 +33,6 @@ AreExactLinks peers links = (link : Link) (rows : Rows Value) → links link ≡
 
 abbrev IsExactIfAny : (ℕ → Option Neighbour) → Option Value → Type 0
 IsExactIfAny peers o = (value : Value) → o ≡ Some value → IsExact peers value
-
-some_same : {A : Type 0} (x y : A) → ◌≡◌ {A = Option A} (Some x) (Some y) → x ≡ y
-some_same x y e = cc
-
-not_some : {A : Type 0} (x : A) → ◌≡◌ {A = Option A} None (Some x) → ⊥
-not_some x e = absurd (cc)
 
 no_values : (peers : ℕ → Option Neighbour) → IsExactIfAny peers None
 no_values peers value e = absurd (not_some value e)
