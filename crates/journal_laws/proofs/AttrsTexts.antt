@@ -79,7 +79,8 @@ abbrev med_letters : ℕ → Bool
 med_letters d = nat_eq d 109 || local_letters d
 
 or_right : (a b : Bool) → b ≡ true → (a || b) ≡ true
-or_right a b e = cc
+or_right true b e = refl
+or_right false b e = e
 
 -- ---- single parts
 
@@ -229,7 +230,6 @@ unfolding unrecognized_text
 open_aggregator a = by a.unrecognized
   where
     by : (us : List Unrecognized) → opens last_letters (flat_map unrecognized_text us) ≡ true
-    unfolding unrecognized_text
     by [] = refl
     by (u ∷ us) = refl
 

@@ -15,11 +15,9 @@ use Rattle.journal_text.specs.declared.entry.Entry.{Entry}
 use Rattle.journal_text.specs.declared.entry.Entry.TheVariants.{Begin, Inherit, Add, Delete, Replace, Asked, Weld, End}
 use Rattle.journal_text.specs.declared.line.Line.{Line}
 use Rattle.journal_text.specs.declared.line.Line.TheVariants.{Journal, Note, Row, Rows, Cover, Work, Bound, Idle, Ignored, Absent, Refused}
-use Rattle.journal_check.specs.Readings.{TextEntry, is_clean, reading_from, reading_of}
+use Rattle.journal_check.specs.Readings.{TextEntry, is_clean, read_or_not, reading_from, reading_of}
 use Rattle.journal_check.specs.Judged.{entries_in, joined, each_read, entries_read, IsChecked}
 use Rattle.journal_check.specs.Laws.{IsValue, IsAnswer, IsEntry, IsLine, said, texts_of}
-use Rattle.journal_check.specs.declared.reading.Reading.{Reading}
-use Rattle.journal_check.specs.declared.reading.Reading.TheVariants.{Skipped, Read, NotALine}
 use Rattle.journal_check.specs.declared.checked.Checked.{Checked}
 use Rattle.journal_check.specs.declared.checked.Checked.TheVariants.{Lawful}
 use Rattle.journal_check.proofs.InkLemmas.{all_append, both_true}
@@ -39,11 +37,7 @@ use Rattle.journal_laws.proofs.TextWalks.{texts_walked}
 -- ---- one line
 
 pub lines_read : PrintedLinesAreRead
-lines_read line text h is =
-    let top = lines_short line h in
-    let size = length-append text (10 ∷ []) in
-    let same = ap length is in
-    lines_back line text h.ranges is (omega (arith, top, size, same))
+lines_read line text h is = lines_back line text h.ranges is (omega (arith, lines_short line h, length-append text (10 ∷ []), ap length is))
 
 -- a line without its LF
 abbrev printed : Line → List ℕ
@@ -59,7 +53,7 @@ printed_read line h = lines_read line (printed line) h (line_ended line)
 abbrev printable : ℕ → Bool
 printable b = nat_le 32 b && nat_le b 126
 
-is_said : (line : Line) → NotALine ≡ said line → ⊥
+is_said : (line : Line) → read_or_not None ≡ said line → ⊥
 is_said (Journal entry) e = absurd (cc)
 is_said (Note k octets) e = absurd (cc)
 is_said (Row link p value) e = absurd (cc)
@@ -76,7 +70,7 @@ clean_of : (text : List ℕ) (line : Line) → reading_of text ≡ said line →
 unfolding reading_of
 clean_of text line e = by (is_clean text) e
   where
-    by : (b : Bool) → cond b (reading_from (parts 32 text)) NotALine ≡ said line → b ≡ true
+    by : (b : Bool) → cond b (reading_from (parts 32 text)) (read_or_not None) ≡ said line → b ≡ true
     by true e = refl
     by false e = absurd (is_said line e)
 
@@ -216,27 +210,27 @@ kept quiet (line ∷ lines) = cond (quiet && is_entry line) (kept quiet lines) (
 
 text_kept : (quiet : Bool) (lines : List Line) → text_of quiet lines ≡ flat_map line_text (kept quiet lines)
 text_kept quiet [] = refl
-text_kept quiet (line ∷ lines) = by (quiet && is_entry line)
+text_kept quiet (line ∷ lines) = by (quiet && is_entry line) (text_kept quiet lines)
   where
-    by : (b : Bool) → cond b [] (line_text line) ++ text_of quiet lines ≡ flat_map line_text (cond b (kept quiet lines) (line ∷ kept quiet lines))
-    by true = text_kept quiet lines
-    by false = ap (λ t. line_text line ++ t) (text_kept quiet lines)
+    by : (b : Bool) → text_of quiet lines ≡ flat_map line_text (kept quiet lines) → cond b [] (line_text line) ++ text_of quiet lines ≡ flat_map line_text (cond b (kept quiet lines) (line ∷ kept quiet lines))
+    by true later = later
+    by false later = ap (λ t. line_text line ++ t) later
 
 all_kept : (P : Line → Type 0) (quiet : Bool) (lines : List Line) → AllByRecursion P lines → AllByRecursion P (kept quiet lines)
 all_kept P quiet [] h = tt
-all_kept P quiet (line ∷ lines) h = by (quiet && is_entry line)
+all_kept P quiet (line ∷ lines) h = by (quiet && is_entry line) (all_kept P quiet lines h.1)
   where
-    by : (b : Bool) → AllByRecursion P (cond b (kept quiet lines) (line ∷ kept quiet lines))
-    by true = all_kept P quiet lines h.1
-    by false = (h.0, all_kept P quiet lines h.1)
+    by : (b : Bool) → AllByRecursion P (kept quiet lines) → AllByRecursion P (cond b (kept quiet lines) (line ∷ kept quiet lines))
+    by true later = later
+    by false later = (h.0, later)
 
 few_kept : (quiet : Bool) (lines : List Line) → length (kept quiet lines) ≤ length lines
 few_kept quiet [] = omega arith
-few_kept quiet (line ∷ lines) = by (quiet && is_entry line)
+few_kept quiet (line ∷ lines) = by (quiet && is_entry line) (few_kept quiet lines)
   where
-    by : (b : Bool) → length (cond b (kept quiet lines) (line ∷ kept quiet lines)) ≤ length (line ∷ lines)
-    by true = omega (arith, few_kept quiet lines)
-    by false = omega (arith, few_kept quiet lines)
+    by : (b : Bool) → length (kept quiet lines) ≤ length lines → length (cond b (kept quiet lines) (line ∷ kept quiet lines)) ≤ length (line ∷ lines)
+    by true later = omega (arith, later)
+    by false later = omega (arith, later)
 
 all_if_loud : (lines : List Line) → kept false lines ≡ lines
 all_if_loud [] = refl

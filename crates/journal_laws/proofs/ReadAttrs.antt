@@ -9,7 +9,6 @@ use Rattle.bgp_attr.specs.declared.attrs.Attrs.{Attrs}
 use Rattle.bgp_attr.specs.declared.path.Segment.{Segment}
 use Rattle.bgp_attr.specs.declared.speaker.Profile.{Profile}
 use Rattle.bgp_attr.specs.declared.unrecognized.Unrecognized.{Unrecognized}
-use Rattle.bgp_wire.specs.declared.attributes.Verdict.{Verdict}
 use Rattle.bgp_wire.specs.declared.message.Update.{Update}
 use Rattle.bgp_wire.specs.declared.message.Message.TheVariants as messages
 use Rattle.bgp_wire.specs.Paths.{width_of}
@@ -18,6 +17,7 @@ use Rattle.bgp_wire.specs.Routes.{AreAttrs}
 use Rattle.bgp_wire.specs.Updates.{Reading}
 use Rattle.bgp_wire.specs.Grammar.{IsReading, AreAttrsFor, IsUpdateBy, Reads}
 use Rattle.bgp_wire.specs.Readable.{AreOctets, IsReadable, IsReadableSegment}
+use Rattle.bgp_wire.proofs.JudgedTypes.{Verdict}
 use Rattle.bgp_wire.proofs.ReadableLaws.{Every, all_every, Octets, held, each_type, unrecognized_held, attrs_read}
 use Rattle.bgp_wire.proofs.ReadableMessages.{field_octets}
 use Rattle.wire_laws.proofs.LengthLaws.{attributes_no_longer}

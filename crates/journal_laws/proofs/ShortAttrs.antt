@@ -111,7 +111,7 @@ short_atomic : (b : Bool) → length (cond b (codes ",a") []) ≤ 6 * length (oc
 short_atomic true = omega (arith, head_at_least 64 6 [], one_of (spelled 64 6 []))
 short_atomic false = omega arith
 
-short_partial : (b : Bool) → length (cond b (33 ∷ []) []) ≤ 1
+short_partial : (b : Bool) → length {A = ℕ} (cond b (33 ∷ []) []) ≤ 1
 short_partial true = omega arith
 short_partial false = omega arith
 

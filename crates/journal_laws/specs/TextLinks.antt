@@ -1,8 +1,5 @@
 -- Links and entries with texts in place of values.
 use Rattle.std.specs.Prelude.{ℕ, List, map, option_map}
-use Rattle.std.specs.List.{AllByRecursion}
-use Rattle.bgp_attr.specs.declared.speaker.Neighbour.{Neighbour}
-use Rattle.bgp_attr.specs.declared.route.Route.{Route}
 use Rattle.link_change.specs.Rows.{Rows}
 use Rattle.journal_text.specs.Texts.{value_text}
 use Rattle.journal_text.specs.Walk.{Links}
