@@ -195,11 +195,12 @@ are_short : (peers : ℕ → Option Neighbour) (lines : List Line) → AllByRecu
 are_short peers [] h = tt
 are_short peers (line ∷ lines) h = (h.0.short, are_short peers lines h.1)
 
-all_judged : (peers : ℕ → Option Neighbour) (lines : List Line) → AllByRecursion (IsPrinted peers) lines → length lines < 4294967296 → IsLawful no_links (entries_of lines) → IsChecked (lines_of (flat_map line_text lines)) Lawful
+all_judged : (peers : ℕ → Option Neighbour) (lines : List Line) → AllByRecursion (IsPrinted peers) lines → length (lines_of (flat_map line_text lines)) < 4294967296 → IsLawful no_links (entries_of lines) → IsChecked (lines_of (flat_map line_text lines)) Lawful
 all_judged peers lines h few lawful =
     let short = are_short peers lines h in
     let walked = texts_walked peers no_links (entries_of lines) (lines_exact peers lines h) lawful in
-    (text_entries (entries_of lines), ap entries_read (lines_printed lines short) ∙ entries_printed lines short few, walked.lawful)
+    let count : length lines < 4294967296 = omega (arith, ap length (lines_printed lines short), length-map lines printed) in
+    (text_entries (entries_of lines), ap entries_read (lines_printed lines short) ∙ entries_printed lines short count, walked.lawful)
 
 -- ---- quiet output
 
@@ -223,14 +224,6 @@ all_kept P quiet (line ∷ lines) h = by (quiet && is_entry line) (all_kept P qu
     by : (b : Bool) → AllByRecursion P (kept quiet lines) → AllByRecursion P (cond b (kept quiet lines) (line ∷ kept quiet lines))
     by true later = later
     by false later = (h.0, later)
-
-few_kept : (quiet : Bool) (lines : List Line) → length (kept quiet lines) ≤ length lines
-few_kept quiet [] = omega arith
-few_kept quiet (line ∷ lines) = by (quiet && is_entry line) (few_kept quiet lines)
-  where
-    by : (b : Bool) → length (kept quiet lines) ≤ length lines → length (cond b (kept quiet lines) (line ∷ kept quiet lines)) ≤ length (line ∷ lines)
-    by true later = omega (arith, later)
-    by false later = omega (arith, later)
 
 all_if_loud : (lines : List Line) → kept false lines ≡ lines
 all_if_loud [] = refl
@@ -256,9 +249,9 @@ lawful_kept true lines lawful = subst (λ (es : List (Entry Value)). IsLawful no
 
 pub printed_judged : PrintedIsLawful
 printed_judged peers quiet lines h few lawful =
-    let size = few_kept quiet lines in
     subst (λ text. IsChecked (lines_of text) Lawful) (sym (text_kept quiet lines))
-    (all_judged peers (kept quiet lines) (all_kept (IsPrinted peers) quiet lines h) (omega (arith, size)) (lawful_kept quiet lines lawful))
+    (all_judged peers (kept quiet lines) (all_kept (IsPrinted peers) quiet lines h)
+    (subst (λ text. length (lines_of text) < 4294967296) (text_kept quiet lines) few) (lawful_kept quiet lines lawful))
 
 pub printed_ends : PrintedEndsLawful
 printed_ends peers quiet lines ending h few lawful ends =

@@ -54,14 +54,15 @@ TextsTellWalks =
     (peers : ℕ → Option Neighbour) (entries : List (Entry Value)) → AllByRecursion (λ e. AllByRecursion (IsExact peers) (values_of e)) entries
     → IsLawful no_links entries ↔ IsLawful no_links (text_entries entries)
 
--- Of the text of lines whose entries obey the rules, from no link at all, it is to be said that it is lawful.
+-- Of the text of lines whose entries obey the rules, from no link at all, it is to be said that it is lawful, where it has
+-- fewer lines than a journal may have.
 abbrev pub PrintedIsLawful : Type 0
 PrintedIsLawful =
-    (peers : ℕ → Option Neighbour) (quiet : Bool) (lines : List Line) → AllByRecursion (IsPrinted peers) lines → length lines < 4294967296 → IsLawful no_links (entries_of lines)
+    (peers : ℕ → Option Neighbour) (quiet : Bool) (lines : List Line) → AllByRecursion (IsPrinted peers) lines → length (lines_of (text_of quiet lines)) < 4294967296 → IsLawful no_links (entries_of lines)
     → IsChecked (lines_of (text_of quiet lines)) Lawful
 
 -- And nothing else: this is how a run of `check` over that text ends, where it gives an answer.
 abbrev pub PrintedEndsLawful : Type 0
 PrintedEndsLawful =
-    (peers : ℕ → Option Neighbour) (quiet : Bool) (lines : List Line) (ending : Ending) → AllByRecursion (IsPrinted peers) lines → length lines < 4294967296 → IsLawful no_links (entries_of lines)
+    (peers : ℕ → Option Neighbour) (quiet : Bool) (lines : List Line) (ending : Ending) → AllByRecursion (IsPrinted peers) lines → length (lines_of (text_of quiet lines)) < 4294967296 → IsLawful no_links (entries_of lines)
     → Ends (text_of quiet lines) ending → ending ≡ endings.Lawful
