@@ -3,7 +3,7 @@ use Rattle.std.proofs.Common.{◌≡◌, ℕ, ◌^◌, ◌<◌, ◌&&◌, ◌||�
 use Rattle.std.proofs.lemmas.Bool.Decides.{nat_tests}
 use Rattle.std.specs.Char.{is_ascii_digit}
 use Rattle.std.specs.Fmt.{decimal}
-use Rattle.std.specs.List.{AllByRecursion, flat_map}
+use Rattle.std.specs.List.{flat_map}
 use Rattle.addr4.specs.Texts.{addr_text}
 use Rattle.bgp_attr.specs.declared.attrs.Origin.{Origin}
 use Rattle.bgp_attr.specs.declared.attrs.Origin.TheVariants.{Igp, Egp, Incomplete}
@@ -14,9 +14,9 @@ use Rattle.journal_text.specs.Texts.{origin_number, path_text, lettered, aggrega
 use Rattle.journal_check.specs.Laws.{IsNumberIfAny, HasNumber, HasRanges}
 use Rattle.journal_check.proofs.InkLemmas.{both_true}
 use Rattle.journal_laws.specs.Printed.{HasAddress, HasAddresses}
-use Rattle.journal_laws.proofs.Spans.{begins, clash, first_same, rest_same, begins_less}
-use Rattle.journal_laws.proofs.NumberTexts.{is_dotted, digit_is_dotted, number_told, addr_told}
-use Rattle.journal_laws.proofs.PathTexts.{is_bracket, path_told, all_told}
+use Rattle.journal_laws.proofs.Spans.{begins, clash, rest_same}
+use Rattle.journal_laws.proofs.NumberTexts.{is_dotted, number_told, addr_told}
+use Rattle.journal_laws.proofs.PathTexts.{path_told, all_told}
 
 -- ---- what may follow: nothing, or a comma and one of some letters
 
@@ -124,8 +124,8 @@ flags_same false x e = absurd (cc)
 atomic_told : (a b : Bool) (s t : List ℕ) → opens aggregator_letters s ≡ true → opens aggregator_letters t ≡ true → cond a (codes ",a") [] ++ s ≡ cond b (codes ",a") [] ++ t → (a ≡ b) × (s ≡ t)
 atomic_told a b s t f g e =
     let told = tag_told 97 aggregator_letters no_text (flag_of a) (flag_of b) s t refl f g
-            (λ x y is_x is_y same. (sym (flags_same a x is_x) ∙ flags_same b y is_y, same))
-            (ap (λ u. u ++ s) (sym (as_flag a)) ∙ (e ∙ ap (λ u. u ++ t) (as_flag b))) in
+    (λ x y is_x is_y same. (sym (flags_same a x is_x) ∙ flags_same b y is_y, same))
+    (ap (λ u. u ++ s) (sym (as_flag a)) ∙ (e ∙ ap (λ u. u ++ t) (as_flag b))) in
     (sym (flag_back a) ∙ (ap is_flag told.0 ∙ flag_back b), told.1)
 
 -- `!` or nothing, behind which nothing but a comma stands

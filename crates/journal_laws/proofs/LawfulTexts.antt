@@ -1,5 +1,5 @@
 -- Of the text of lines whose entries obey the rules it is to be said that it is lawful.
-use Rattle.std.proofs.Common.{◌≡◌, ℕ, zero, suc, ◌-◌, ◌<◌, ◌≤◌, ◌&&◌, Bool, true, false, cond, nat_lt, nat_le, nat_eq, List, [], ◌∷◌, ◌++◌, length, get_or, take, Option, Some, None, refl, sym, ap, subst, ◌∙◌, arith, length-append}
+use Rattle.std.proofs.Common.{◌≡◌, ℕ, zero, suc, ◌-◌, ◌<◌, ◌&&◌, Bool, true, false, cond, nat_lt, nat_le, nat_eq, List, [], ◌∷◌, ◌++◌, length, get_or, take, Option, Some, None, refl, sym, ap, subst, ◌∙◌, arith, length-append}
 use Rattle.std.specs.Prelude.{map}
 use Rattle.std.proofs.lemmas.Bool.Decides.{nat_tests}
 use Rattle.std.proofs.lemmas.List.{append-nil, length-map, map-append}
@@ -8,8 +8,8 @@ use Rattle.std.specs.List.{AllByRecursion, flat_map, list_all, join_with_byte}
 use Rattle.std.specs.Str.Lines.{strip_carriage_return}
 use Rattle.addr4.specs.Texts.{parts}
 use Rattle.bgp_attr.specs.declared.speaker.Neighbour.{Neighbour}
-use Rattle.journal_text.specs.Texts.{line_words, line_text, is_entry, shown, text_of, entry_list, entries_of}
-use Rattle.journal_text.specs.Walk.{Links, IsLawful, no_links}
+use Rattle.journal_text.specs.Texts.{line_words, line_text, is_entry, text_of, entry_list, entries_of}
+use Rattle.journal_text.specs.Walk.{IsLawful, no_links}
 use Rattle.journal_text.specs.declared.value.Value.{Value}
 use Rattle.journal_text.specs.declared.entry.Entry.{Entry}
 use Rattle.journal_text.specs.declared.entry.Entry.TheVariants.{Begin, Inherit, Add, Delete, Replace, Asked, Weld, End}
@@ -17,19 +17,16 @@ use Rattle.journal_text.specs.declared.line.Line.{Line}
 use Rattle.journal_text.specs.declared.line.Line.TheVariants.{Journal, Note, Row, Rows, Cover, Work, Bound, Idle, Ignored, Absent, Refused}
 use Rattle.journal_check.specs.Readings.{TextEntry, is_clean, read_or_not, reading_from, reading_of}
 use Rattle.journal_check.specs.Judged.{entries_in, joined, each_read, entries_read, IsChecked}
-use Rattle.journal_check.specs.Laws.{IsValue, IsAnswer, IsEntry, IsLine, said, texts_of}
-use Rattle.journal_check.specs.declared.checked.Checked.{Checked}
+use Rattle.journal_check.specs.Laws.{IsAnswer, IsEntry, IsLine, said, texts_of}
 use Rattle.journal_check.specs.declared.checked.Checked.TheVariants.{Lawful}
 use Rattle.journal_check.proofs.InkLemmas.{all_append, both_true}
 use Rattle.journal_check.proofs.LineBack.{lines_back}
 use Rattle.journal_check.proofs.OneAnswer.{one_answer}
 use Rattle.check_run.specs.Lines.{IsPart, ended, lines_of, lines_in}
-use Rattle.check_run.specs.Answers.{ending_of, Ends}
-use Rattle.check_run.specs.declared.ending.Ending.{Ending}
-use Rattle.check_run.specs.declared.ending.Ending.TheVariants as endings
+use Rattle.check_run.specs.Answers.{ending_of}
 use Rattle.check_run.proofs.Cuts.{lines_done}
 use Rattle.journal_laws.specs.Printed.{IsTold, IsExact, answer_values, values_of, values_in, IsShortLine, IsPrinted}
-use Rattle.journal_laws.specs.TextLinks.{text_links, text_entries}
+use Rattle.journal_laws.specs.TextLinks.{text_entries}
 use Rattle.journal_laws.specs.Laws.{PrintedLinesAreRead, PrintedIsLawful, PrintedEndsLawful}
 use Rattle.journal_laws.proofs.ShortLines.{lines_short}
 use Rattle.journal_laws.proofs.TextWalks.{texts_walked}

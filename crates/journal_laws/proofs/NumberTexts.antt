@@ -1,5 +1,5 @@
 -- Numbers, addresses and octets are told by their texts.
-use Rattle.std.proofs.Common.{◌≡◌, ℕ, zero, suc, ◌/◌, ◌%◌, ◌^◌, ◌<◌, ◌≤◌, ◌||◌, Bool, true, false, nat_eq, List, [], ◌∷◌, ◌++◌, length, get_or, Option, Some, Ok, Result, refl, sym, ap, ◌∙◌, arith, append_assoc}
+use Rattle.std.proofs.Common.{◌≡◌, ℕ, zero, suc, ◌/◌, ◌%◌, ◌^◌, ◌<◌, ◌≤◌, ◌||◌, Bool, true, false, nat_eq, List, [], ◌∷◌, ◌++◌, length, get_or, Ok, Result, refl, sym, ap, ◌∙◌, arith, append_assoc}
 use Rattle.std.proofs.lemmas.Bool.Decides.{nat_tests}
 use Rattle.std.proofs.lemmas.List.{append-nil}
 use Rattle.std.proofs.lemmas.Fmt.{decimal_is_IsNumeral, decimal_injective}
@@ -12,7 +12,7 @@ use Rattle.hex.proofs.HexLemmas.{decode_of-encode_lower}
 use Rattle.addr4.specs.Texts.{dotted, addr_text, addr_of}
 use Rattle.journal_check.proofs.InkLemmas.{decimal_are, dotted_are}
 use Rattle.journal_check.proofs.PrefixBack.{addr_back}
-use Rattle.journal_laws.proofs.Spans.{begins, Pass, clash, first_same, rest_same, some_same, spans, pass_more, begins_less}
+use Rattle.journal_laws.proofs.Spans.{begins, Pass, clash, rest_same, some_same, spans, pass_more, begins_less}
 
 -- ---- numbers
 
@@ -70,7 +70,7 @@ behind_told (m ∷ ms) (n ∷ ns) s t hm hn f g e =
     let small_m = hm.0 in
     let small_n = hn.0 in
     let whole : decimal m ++ (behind_dots ms ++ s) ≡ decimal n ++ (behind_dots ns ++ t) =
-        sym (append_assoc (decimal m) (behind_dots ms) s) ∙ (rest_same 46 46 ((decimal m ++ behind_dots ms) ++ s) ((decimal n ++ behind_dots ns) ++ t) e ∙ append_assoc (decimal n) (behind_dots ns) t) in
+    sym (append_assoc (decimal m) (behind_dots ms) s) ∙ (rest_same 46 46 ((decimal m ++ behind_dots ms) ++ s) ((decimal n ++ behind_dots ns) ++ t) e ∙ append_assoc (decimal n) (behind_dots ns) t) in
     let first = number_told m n (behind_dots ms ++ s) (behind_dots ns ++ t) (omega arith) (omega arith) (no_digit ms s f) (no_digit ns t g) whole in
     let later = behind_told ms ns s t hm.1 hn.1 f g first.1 in
     ((λ i. first.0 i ∷ later.0 i), later.1)
@@ -94,8 +94,8 @@ dotted_told (m ∷ ms) (n ∷ ns) s t hm hn f g e =
     let small_m = hm.0 in
     let small_n = hn.0 in
     let whole : decimal m ++ (behind_dots ms ++ s) ≡ decimal n ++ (behind_dots ns ++ t) =
-        sym (append_assoc (decimal m) (behind_dots ms) s)
-        ∙ (ap (λ d. d ++ s) (sym (dotted_by m ms)) ∙ (e ∙ (ap (λ d. d ++ t) (dotted_by n ns) ∙ append_assoc (decimal n) (behind_dots ns) t))) in
+    sym (append_assoc (decimal m) (behind_dots ms) s)
+    ∙ (ap (λ d. d ++ s) (sym (dotted_by m ms)) ∙ (e ∙ (ap (λ d. d ++ t) (dotted_by n ns) ∙ append_assoc (decimal n) (behind_dots ns) t))) in
     let first = number_told m n (behind_dots ms ++ s) (behind_dots ns ++ t) (omega arith) (omega arith) (no_digit ms s f) (no_digit ns t g) whole in
     let later = behind_told ms ns s t hm.1 hn.1 f g first.1 in
     ((λ i. first.0 i ∷ later.0 i), later.1)

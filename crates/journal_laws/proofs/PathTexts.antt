@@ -1,6 +1,5 @@
 -- AS paths and unrecognized attributes are told by their texts.
-use Rattle.std.proofs.Common.{◌≡◌, ℕ, ◌^◌, ◌<◌, ◌||◌, Bool, true, false, nat_eq, List, [], ◌∷◌, ◌++◌, refl, sym, ap, ◌∙◌, arith, append_assoc}
-use Rattle.std.specs.Char.{is_ascii_digit}
+use Rattle.std.proofs.Common.{◌≡◌, ℕ, ◌||◌, Bool, true, false, nat_eq, List, [], ◌∷◌, ◌++◌, refl, sym, ap, ◌∙◌, arith, append_assoc}
 use Rattle.std.specs.Fmt.{decimal}
 use Rattle.std.specs.List.{AllByRecursion, flat_map}
 use Rattle.hex.specs.Hex.{encode_lower, is_hex_digit}
@@ -28,7 +27,7 @@ behind_bracket close ms s = append_assoc (dotted ms) (close ∷ []) s
 inside : (start close : ℕ) (ms ns s t : List ℕ) → is_dotted close ≡ false → AreSmall ms → AreSmall ns → start ∷ ((dotted ms ++ close ∷ []) ++ s) ≡ start ∷ ((dotted ns ++ close ∷ []) ++ t) → (ms ≡ ns) × (s ≡ t)
 inside start close ms ns s t shut hm hn e =
     let whole : dotted ms ++ close ∷ s ≡ dotted ns ++ close ∷ t =
-        sym (behind_bracket close ms s) ∙ (rest_same start start ((dotted ms ++ close ∷ []) ++ s) ((dotted ns ++ close ∷ []) ++ t) e ∙ behind_bracket close ns t) in
+    sym (behind_bracket close ms s) ∙ (rest_same start start ((dotted ms ++ close ∷ []) ++ s) ((dotted ns ++ close ∷ []) ++ t) e ∙ behind_bracket close ns t) in
     let told = dotted_told ms ns (close ∷ s) (close ∷ t) hm hn shut shut whole in
     (told.0, rest_same close close s t told.1)
 
@@ -66,7 +65,7 @@ path_told [] (y ∷ q) s t hp hq f g e = absurd (clash (begins is_bracket s) f (
 path_told (x ∷ p) [] s t hp hq f g e = absurd (clash (begins is_bracket t) g (ap (begins is_bracket) (sym e) ∙ path_begins x p s))
 path_told (x ∷ p) (y ∷ q) s t hp hq f g e =
     let whole : segment_text x ++ (path_text p ++ s) ≡ segment_text y ++ (path_text q ++ t) =
-        sym (append_assoc (segment_text x) (path_text p) s) ∙ (e ∙ append_assoc (segment_text y) (path_text q) t) in
+    sym (append_assoc (segment_text x) (path_text p) s) ∙ (e ∙ append_assoc (segment_text y) (path_text q) t) in
     let first = segment_told x y (path_text p ++ s) (path_text q ++ t) hp.0 hq.0 whole in
     let later = path_told p q s t hp.1 hq.1 f g first.1 in
     ((λ i. first.0 i ∷ later.0 i), later.1)
@@ -90,7 +89,6 @@ unrecognized_told u v s t hu hv f g e =
     let kind = number_told u.kind v.kind (58 ∷ (encode_lower u.value ++ s)) (58 ∷ (encode_lower v.value ++ t)) (omega arith) (omega arith) refl refl behind in
     let value = hex_told u.value v.value s t hu.1 hv.1 f g (rest_same 58 58 (encode_lower u.value ++ s) (encode_lower v.value ++ t) kind.1) in
     ((λ i. record { kind = kind.0 i; value = value.0 i }), value.1)
-
 
 no_hex : (us : List Unrecognized) → begins is_hex_digit (flat_map unrecognized_text us) ≡ false
 unfolding unrecognized_text

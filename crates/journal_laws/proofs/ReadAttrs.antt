@@ -1,7 +1,5 @@
 -- Attributes that a peer said can be printed.
-use Rattle.std.proofs.Common.{◌≡◌, ℕ, zero, suc, ◌^◌, ◌<◌, ◌≤◌, Bool, true, false, List, [], ◌∷◌, ◌++◌, length, Option, Some, None, refl, sym, ap, subst, ◌∙◌, inl, inr, arith}
-use Rattle.std.specs.Prelude.{All}
-use Rattle.std.specs.Option.{ForSome}
+use Rattle.std.proofs.Common.{◌≡◌, ℕ, ◌^◌, ◌<◌, Bool, true, false, List, [], ◌∷◌, Option, Some, None, refl, sym, subst, ◌∙◌, inl, inr, arith}
 use Rattle.std.specs.List.{AllByRecursion}
 use Rattle.addr4.specs.Prefixes.{Network}
 use Rattle.bgp_attr.specs.declared.attrs.Aggregator.{Aggregator}
@@ -10,20 +8,19 @@ use Rattle.bgp_attr.specs.declared.path.Segment.{Segment}
 use Rattle.bgp_attr.specs.declared.speaker.Profile.{Profile}
 use Rattle.bgp_attr.specs.declared.unrecognized.Unrecognized.{Unrecognized}
 use Rattle.bgp_wire.specs.declared.message.Update.{Update}
-use Rattle.bgp_wire.specs.declared.message.Message.TheVariants as messages
 use Rattle.bgp_wire.specs.Paths.{width_of}
 use Rattle.bgp_wire.specs.Attributes.{Attribute, AreAttributes, IsAttribute, kept_by}
 use Rattle.bgp_wire.specs.Routes.{AreAttrs}
 use Rattle.bgp_wire.specs.Updates.{Reading}
-use Rattle.bgp_wire.specs.Grammar.{IsReading, AreAttrsFor, IsUpdateBy, Reads}
-use Rattle.bgp_wire.specs.Readable.{AreOctets, IsReadable, IsReadableSegment}
+use Rattle.bgp_wire.specs.Grammar.{IsReading, AreAttrsFor, IsUpdateBy}
+use Rattle.bgp_wire.specs.Readable.{IsReadable, IsReadableSegment}
 use Rattle.bgp_wire.proofs.JudgedTypes.{Verdict}
 use Rattle.bgp_wire.proofs.ReadableLaws.{Every, all_every, Octets, held, each_type, unrecognized_held, attrs_read}
 use Rattle.bgp_wire.proofs.ReadableMessages.{field_octets}
 use Rattle.wire_laws.proofs.LengthLaws.{attributes_no_longer}
-use Rattle.journal_check.specs.Laws.{IsNumberIfAny, HasNumbers, HasNumber, HasOctets, HasRanges}
+use Rattle.journal_check.specs.Laws.{IsNumberIfAny, HasNumbers, HasNumber, HasOctets}
 use Rattle.journal_laws.proofs.Spans.{some_same, not_some}
-use Rattle.journal_laws.specs.Printed.{HasAddress, HasAddresses, FitsMessage, IsPrintable}
+use Rattle.journal_laws.specs.Printed.{HasAddress, FitsMessage, IsPrintable}
 use Rattle.journal_laws.specs.Laws.{ReadIsPrintable}
 
 -- ---- ranges of what can be read
@@ -69,9 +66,9 @@ unrecognized_ranges : (p : Profile) (external : Bool) (bytes : List ℕ) (steps 
     → AllByRecursion HasOctets attrs.unrecognized
 unrecognized_ranges p external bytes steps runs attrs are octets is =
     every_more HasOctets HasOctets attrs.unrecognized (λ u h. h) (each_type HasOctets 0 attrs.unrecognized is.unrecognized.order (λ u e.
-        let k = unrecognized_held p external bytes steps runs are octets attrs.unrecognized is.unrecognized u.kind u.value e in
-        let h = held p external bytes steps runs are octets u.kind k.1.0 k.1.1 in
-        unrecognized_small u k.1.0 h.same k.1.2 (attribute_small k.1.0 h.is h.octets)))
+    let k = unrecognized_held p external bytes steps runs are octets attrs.unrecognized is.unrecognized u.kind u.value e in
+    let h = held p external bytes steps runs are octets u.kind k.1.0 k.1.1 in
+    unrecognized_small u k.1.0 h.same k.1.2 (attribute_small k.1.0 h.is h.octets)))
 
 -- ---- all of them
 

@@ -1,10 +1,9 @@
 -- Interior, external and forwarding rows are told by their texts.
-use Rattle.std.proofs.Common.{◌≡◌, ℕ, ◌^◌, ◌<◌, ◌≤◌, ◌&&◌, ◌||◌, Bool, true, false, cond, nat_eq, nat_le, List, [], ◌∷◌, ◌++◌, length, Option, Some, None, refl, sym, ap, ◌∙◌, arith, codes}
+use Rattle.std.proofs.Common.{◌≡◌, ℕ, ◌^◌, ◌<◌, ◌≤◌, ◌&&◌, Bool, true, false, cond, nat_eq, nat_le, List, [], ◌∷◌, length, Option, Some, None, refl, sym, ap, ◌∙◌, arith}
 use Rattle.std.proofs.lemmas.Bool.Decides.{nat_tests}
 use Rattle.std.proofs.lemmas.Fmt.{decimal_injective}
-use Rattle.std.specs.Char.{is_ascii_digit}
 use Rattle.std.specs.Fmt.{decimal}
-use Rattle.std.specs.List.{AllByRecursion, list_all, join_with_byte}
+use Rattle.std.specs.List.{AllByRecursion, list_all}
 use Rattle.addr4.specs.Texts.{parts, addr_text, addr_of}
 use Rattle.rib_route.specs.declared.Proto.{Proto}
 use Rattle.rib_route.specs.declared.Proto.TheVariants as interior
@@ -16,7 +15,7 @@ use Rattle.rib_route.specs.declared.rows.FibRow.{FibRow}
 use Rattle.rib_route.specs.Distances.{fib_proto, external_proto}
 use Rattle.rib_route.specs.Ifaces.{is_name_byte, is_iface_name}
 use Rattle.journal_text.specs.Texts.{fib_proto_text, proto_text, gateway_text, with_colons, interior_text, external_text, fib_text}
-use Rattle.journal_check.proofs.InkLemmas.{apart_then, apart_alone, both_true, decimal_are, dotted_are}
+use Rattle.journal_check.proofs.InkLemmas.{apart_then, apart_alone, both_true, decimal_are}
 use Rattle.journal_check.proofs.PrefixBack.{addr_back}
 use Rattle.journal_laws.specs.Printed.{IsAddressIfAny}
 use Rattle.journal_laws.proofs.NumberTexts.{addr_same, addr_colonless}
@@ -118,7 +117,6 @@ gateway_told g h hg hh e = sym (gateway_back g hg) ∙ (ap addr_of e ∙ gateway
 
 -- ---- rows
 
-
 record SameFour (a b c d e f g h : List ℕ) : Type 0 where
   first : a ≡ e
   second : b ≡ f
@@ -145,7 +143,7 @@ fib_parts r name = words_parted (fib_proto_text r.proto) (gateway_text r.gateway
 pub interior_told : (a b : Interior) → is_iface_name a.iface ≡ true → is_iface_name b.iface ≡ true → a.metric < 2 ^ 32 → b.metric < 2 ^ 32 → IsAddressIfAny a.gateway → IsAddressIfAny b.gateway → interior_text a ≡ interior_text b → a ≡ b
 interior_told a b na nb ma mb ga gb e =
     let same = four_same (proto_text a.proto) (gateway_text a.gateway) a.iface (decimal a.metric) (proto_text b.proto) (gateway_text b.gateway) b.iface (decimal b.metric)
-            (sym (interior_parts a na ma) ∙ (ap (parts 58) e ∙ interior_parts b nb mb)) in
+    (sym (interior_parts a na ma) ∙ (ap (parts 58) e ∙ interior_parts b nb mb)) in
     let proto = proto_told a.proto b.proto same.first in
     let gateway = gateway_told a.gateway b.gateway ga gb same.second in
     let metric = decimal_injective a.metric b.metric (omega arith) (omega arith) same.fourth in

@@ -1,5 +1,5 @@
 -- The text of attributes has at most six bytes for each octet of a message that holds them.
-use Rattle.std.proofs.Common.{◌≡◌, ℕ, ◌+◌, ◌*◌, ◌^◌, ◌<◌, ◌≤◌, Bool, true, false, cond, List, [], ◌∷◌, ◌++◌, length, map, Option, Some, None, eqb, refl, ap, ◌∙◌, arith, codes}
+use Rattle.std.proofs.Common.{◌≡◌, ℕ, ◌+◌, ◌*◌, ◌≤◌, Bool, true, false, cond, List, [], ◌∷◌, ◌++◌, length, map, Option, Some, None, arith, codes}
 use Rattle.std.specs.Prelude.{filter}
 use Rattle.std.specs.List.{AllByRecursion, flat_map}
 use Rattle.std.specs.Fmt.{decimal}
@@ -21,7 +21,7 @@ use Rattle.bgp_attr.specs.declared.unrecognized.Unrecognized.{Unrecognized}
 use Rattle.bgp_wire.specs.Attributes.{Attribute}
 use Rattle.bgp_wire.specs.Paths.{width_of}
 use Rattle.bgp_wire.specs.Routes.{code_of_origin}
-use Rattle.bgp_wire.specs.Spelling.{segment_octets, path_octets, is_long, spelled_octets, spelled, optional, aggregator_value, aggregator_flags, comes_first, unrecognized_attributes, mandatory_attributes, further_attributes, sent_attributes, octets_of}
+use Rattle.bgp_wire.specs.Spelling.{segment_octets, path_octets, is_long, spelled_octets, spelled, optional, aggregator_value, aggregator_flags, comes_first, unrecognized_attributes, mandatory_attributes, further_attributes, octets_of}
 use Rattle.bgp_wire.specs.Lengths.{attributes_length}
 use Rattle.bgp_wire.proofs.SpelledLengths.{length-numbers, length-four}
 use Rattle.wire_laws.proofs.SpelledMessages.{length-spelled}

@@ -1,5 +1,5 @@
 -- Printed lines are short.
-use Rattle.std.proofs.Common.{◌≡◌, ℕ, ◌+◌, ◌*◌, ◌^◌, ◌<◌, ◌≤◌, Bool, true, List, [], ◌∷◌, ◌++◌, length, Option, Some, None, refl, ap, ◌∙◌, arith, codes}
+use Rattle.std.proofs.Common.{◌≡◌, ℕ, ◌+◌, ◌^◌, ◌<◌, ◌≤◌, true, List, [], ◌∷◌, ◌++◌, length, Option, Some, None, arith, codes}
 use Rattle.std.specs.List.{AllByRecursion, join_with_byte}
 use Rattle.std.specs.Fmt.{decimal}
 use Rattle.std.proofs.lemmas.List.{length-append}
@@ -14,7 +14,6 @@ use Rattle.rib_route.specs.declared.rows.External.{External}
 use Rattle.rib_route.specs.declared.rows.FibRow.{FibRow}
 use Rattle.rib_route.specs.Distances.{fib_proto, external_proto}
 use Rattle.rib_route.specs.Ifaces.{is_iface_name}
-use Rattle.bgp_wire.specs.Lengths.{attributes_length}
 use Rattle.journal_text.specs.Names.{IsNamed}
 use Rattle.journal_text.specs.Texts.{attrs_text, sender_number, field_text, known_text, route_text, fib_proto_text, proto_text, gateway_text, interior_text, external_text, fib_text, value_text, answer_text, match_text, code_text, link_text, words_line, entry_words, line_words, line_text}
 use Rattle.journal_text.specs.declared.link.Link.{Link}
@@ -27,7 +26,7 @@ use Rattle.journal_text.specs.declared.line.Code.TheVariants.{E1, E2, E3, E4, E5
 use Rattle.journal_text.specs.declared.line.Line.{Line}
 use Rattle.journal_text.specs.declared.line.Line.TheVariants.{Journal, Note, Row, Rows, Cover, Work, Bound, Idle, Ignored, Absent, Refused}
 use Rattle.journal_check.specs.Laws.{IsPrefix, IsNumberIfAny, HasRanges, HasRouteRanges, IsValue, IsAnswer, IsMatch, IsEntry, IsLine}
-use Rattle.journal_laws.specs.Printed.{FitsMessage, IsShort, answer_values, values_of, values_in, octets_in, IsShortLine}
+use Rattle.journal_laws.specs.Printed.{FitsMessage, IsShort, answer_values, values_of, values_in, octets_in}
 use Rattle.journal_laws.specs.Laws.{PrintedLinesAreShort}
 use Rattle.journal_laws.proofs.ShortNumbers.{short_number, short_long, short_wide, short_addr, short_prefix, short_link, short_fib_proto, short_name}
 use Rattle.journal_laws.proofs.ShortAttrs.{short_attrs}

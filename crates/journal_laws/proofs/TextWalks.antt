@@ -1,6 +1,6 @@
 -- The walk over texts goes with the walk over values.
-use Rattle.std.proofs.Common.{◌≡◌, ◌≢◌, ℕ, Bool, true, false, cond, List, [], ◌∷◌, Option, Some, None, option_map, refl, sym, ap, subst, ◌∙◌}
-use Rattle.std.specs.Prelude.{IsSome, map}
+use Rattle.std.proofs.Common.{◌≡◌, ℕ, Bool, true, false, cond, List, [], ◌∷◌, Option, Some, None, option_map, refl, sym, ap, subst, ◌∙◌}
+use Rattle.std.specs.Prelude.{IsSome}
 use Rattle.std.specs.List.{AllByRecursion}
 use Rattle.std.specs.Ordering.{eq_by_cmp}
 use Rattle.addr4.specs.Prefixes.{Network, prefix_cmp}
@@ -9,7 +9,7 @@ use Rattle.link_change.specs.Rows.{Rows, no_rows, with_row}
 use Rattle.link_change.proofs.RowLemmas.{same_function}
 use Rattle.journal_text.specs.Links.{same_link}
 use Rattle.journal_text.specs.Texts.{value_text}
-use Rattle.journal_text.specs.Walk.{Links, with_link, with_row_on, HasRow, Demands, after, IsLawful, fold_links, Leads}
+use Rattle.journal_text.specs.Walk.{Links, with_link, with_row_on, HasRow, Demands, after, IsLawful, fold_links}
 use Rattle.journal_text.specs.declared.link.Link.{Link}
 use Rattle.journal_text.specs.declared.value.Value.{Value}
 use Rattle.journal_text.specs.declared.entry.Entry.{Entry}

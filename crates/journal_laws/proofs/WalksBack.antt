@@ -1,6 +1,6 @@
 -- A walk over texts that is lawful is lawful over the values.
-use Rattle.std.proofs.Common.{◌≡◌, ◌≢◌, ◌↔◌, ℕ, Bool, true, false, cond, List, [], ◌∷◌, Option, Some, None, option_map, refl, sym, ap, subst, ◌∙◌}
-use Rattle.std.specs.Prelude.{IsSome, map}
+use Rattle.std.proofs.Common.{◌≡◌, ℕ, Bool, true, false, cond, List, [], ◌∷◌, Option, Some, None, option_map, refl, sym, ap, subst, ◌∙◌}
+use Rattle.std.specs.Prelude.{IsSome}
 use Rattle.std.specs.List.{AllByRecursion}
 use Rattle.std.specs.Ordering.{eq_by_cmp}
 use Rattle.addr4.specs.Prefixes.{Network, prefix_cmp}
@@ -107,8 +107,8 @@ with_row_exact peers rows p row exact here q value is = by (eq_by_cmp prefix_cmp
 row_exact : (peers : ℕ → Option Neighbour) (links : Links Value) (link : Link) (p : Network) (row : Option Value) → AreExactLinks peers links → IsExactIfAny peers row → AreExactLinks peers (with_row_on links link p row)
 row_exact peers links link p row exact here =
     link_exact peers links link (option_map (λ rows. with_row rows p row) (links link)) exact (λ r is.
-        let s = mapped_some (λ (rows : Rows Value). with_row rows p row) (links link) r is in
-        subst (AreExactRows peers) s.2 (with_row_exact peers s.0 p row (exact link s.0 s.1) here))
+    let s = mapped_some (λ (rows : Rows Value). with_row rows p row) (links link) r is in
+    subst (AreExactRows peers) s.2 (with_row_exact peers s.0 p row (exact link s.0 s.1) here))
 
 no_link : (peers : ℕ → Option Neighbour) (r : Rows Value) → ◌≡◌ {A = Option (Rows Value)} None (Some r) → AreExactRows peers r
 no_link peers r e = absurd (not_some r e)
@@ -133,7 +133,7 @@ lawful_back peers links [] exact values lawful = tt
 lawful_back peers links (e ∷ entries) exact values lawful = (
   demand_back peers links e exact values.0 lawful.0,
   lawful_back peers (after links e) entries (after_exact peers links e exact values.0) values.1
-  (subst (λ (l : Links (List ℕ)). IsLawful l (text_entries entries)) (after_texts links e) lawful.1),
+      (subst (λ (l : Links (List ℕ)). IsLawful l (text_entries entries)) (after_texts links e) lawful.1),
 )
 
 nothing_exact : (peers : ℕ → Option Neighbour) → AreExactLinks peers no_links
