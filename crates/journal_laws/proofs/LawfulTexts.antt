@@ -1,18 +1,20 @@
 -- Of the text of lines whose entries obey the rules it is to be said that it is lawful.
-use Rattle.std.proofs.Common.{◌≡◌, ℕ, zero, suc, ◌-◌, ◌<◌, ◌&&◌, Bool, true, false, cond, nat_lt, nat_le, nat_eq, List, [], ◌∷◌, ◌++◌, length, get_or, take, Option, Some, None, refl, sym, ap, subst, ◌∙◌, arith, length-append}
+use Rattle.std.proofs.Common.{◌≡◌, ℕ, zero, suc, ◌-◌, ◌^◌, ◌<◌, ◌&&◌, Bool, true, false, cond, nat_lt, nat_le, nat_eq, List, [], ◌∷◌, ◌++◌, length, get_or, take, Option, Some, None, refl, sym, ap, subst, ◌∙◌, arith, length-append}
 use Rattle.std.specs.Prelude.{map}
 use Rattle.std.proofs.lemmas.Bool.Decides.{nat_tests}
 use Rattle.std.proofs.lemmas.List.{append-nil, length-map, map-append}
+use Rattle.std.proofs.lemmas.List.Concat.{flat_map-append}
 use Rattle.std.proofs.lemmas.List.Elements.{All-cons}
 use Rattle.std.specs.List.{AllByRecursion, flat_map, list_all, join_with_byte}
 use Rattle.std.specs.Str.Lines.{strip_carriage_return}
 use Rattle.addr4.specs.Texts.{parts}
 use Rattle.bgp_attr.specs.declared.speaker.Neighbour.{Neighbour}
-use Rattle.journal_text.specs.Texts.{line_words, line_text, is_entry, text_of, entry_list, entries_of}
+use Rattle.journal_text.specs.Texts.{line_words, line_text, is_entry, shown, text_of, entry_list, entries_of}
 use Rattle.journal_text.specs.Walk.{IsLawful, no_links}
 use Rattle.journal_text.specs.declared.value.Value.{Value}
 use Rattle.journal_text.specs.declared.entry.Entry.{Entry}
 use Rattle.journal_text.specs.declared.entry.Entry.TheVariants.{Begin, Inherit, Add, Delete, Replace, Asked, Weld, End}
+use Rattle.journal_text.specs.declared.line.Code.{Code}
 use Rattle.journal_text.specs.declared.line.Line.{Line}
 use Rattle.journal_text.specs.declared.line.Line.TheVariants.{Journal, Note, Row, Rows, Cover, Work, Bound, Idle, Ignored, Absent, Refused}
 use Rattle.journal_check.specs.Readings.{TextEntry, is_clean, read_or_not, reading_from, reading_of}
@@ -25,9 +27,9 @@ use Rattle.journal_check.proofs.OneAnswer.{one_answer}
 use Rattle.check_run.specs.Lines.{IsPart, ended, lines_of, lines_in}
 use Rattle.check_run.specs.Answers.{ending_of}
 use Rattle.check_run.proofs.Cuts.{lines_done}
-use Rattle.journal_laws.specs.Printed.{IsTold, IsExact, answer_values, values_of, values_in, IsShortLine, IsPrinted}
+use Rattle.journal_laws.specs.Printed.{IsTold, IsWellTold, answer_values, values_of, values_in, IsShortLine, IsPrinted}
 use Rattle.journal_laws.specs.TextLinks.{text_entries}
-use Rattle.journal_laws.specs.Laws.{PrintedLinesAreRead, PrintedIsLawful, PrintedEndsLawful}
+use Rattle.journal_laws.specs.Laws.{PrintedLinesAreRead, PrintedIsLawful, RefusedIsLawful, LawfulEndsLawful}
 use Rattle.journal_laws.proofs.ShortLines.{lines_short}
 use Rattle.journal_laws.proofs.TextWalks.{texts_walked}
 
@@ -153,7 +155,7 @@ lines_printed lines h =
 
 -- ---- what is judged
 
-values_exact : (peers : ℕ → Option Neighbour) (entry : Entry Value) → IsEntry entry → AllByRecursion (IsTold peers) (values_of entry) → AllByRecursion (IsExact peers) (values_of entry)
+values_exact : (peers : ℕ → Option Neighbour) (entry : Entry Value) → IsEntry entry → AllByRecursion (IsTold peers) (values_of entry) → AllByRecursion (IsWellTold peers) (values_of entry)
 values_exact peers (Begin link) h told = tt
 values_exact peers (Inherit link from) h told = tt
 values_exact peers (Add link p new) h told = (record { ranges = h.2; told = told.0 }, tt)
@@ -161,14 +163,14 @@ values_exact peers (Delete link p old) h told = (record { ranges = h.2; told = t
 values_exact peers (Replace link p old new) h told = (record { ranges = h.2; told = told.0 }, (record { ranges = h.3; told = told.1.0 }, tt))
 values_exact peers (Asked link p row) h told = by row h.2 told
   where
-    by : (row : Option Value) → IsAnswer row → AllByRecursion (IsTold peers) (answer_values row) → AllByRecursion (IsExact peers) (answer_values row)
+    by : (row : Option Value) → IsAnswer row → AllByRecursion (IsTold peers) (answer_values row) → AllByRecursion (IsWellTold peers) (answer_values row)
     by None h told = tt
     by (Some value) h told = (record { ranges = h; told = told.0 }, tt)
 values_exact peers (Weld upper lower) h told = tt
 values_exact peers (End link) h told = tt
 
 abbrev AreExact : (ℕ → Option Neighbour) → List (Entry Value) → Type 0
-AreExact peers entries = AllByRecursion (λ e. AllByRecursion (IsExact peers) (values_of e)) entries
+AreExact peers entries = AllByRecursion (λ e. AllByRecursion (IsWellTold peers) (values_of e)) entries
 
 line_exact : (peers : ℕ → Option Neighbour) (line : Line) → IsLine line → AllByRecursion (IsTold peers) (values_in line) → AreExact peers (entry_list line)
 line_exact peers (Journal entry) h told = (values_exact peers entry h told, tt)
@@ -186,7 +188,7 @@ line_exact peers (Refused number code) h told = tt
 lines_exact : (peers : ℕ → Option Neighbour) (lines : List Line) → AllByRecursion (IsPrinted peers) lines → AreExact peers (entries_of lines)
 lines_exact peers [] h = tt
 lines_exact peers (line ∷ lines) h =
-    all_append (λ e. AllByRecursion (IsExact peers) (values_of e)) (entry_list line) (entries_of lines) (line_exact peers line h.0.short.ranges h.0.told) (lines_exact peers lines h.1)
+    all_append (λ e. AllByRecursion (IsWellTold peers) (values_of e)) (entry_list line) (entries_of lines) (line_exact peers line h.0.short.ranges h.0.told) (lines_exact peers lines h.1)
 
 are_short : (peers : ℕ → Option Neighbour) (lines : List Line) → AllByRecursion (IsPrinted peers) lines → AreShort lines
 are_short peers [] h = tt
@@ -250,6 +252,28 @@ printed_judged peers quiet lines h few lawful =
     (all_judged peers (kept quiet lines) (all_kept (IsPrinted peers) quiet lines h)
     (subst (λ text. length (lines_of text) < 4294967296) (text_kept quiet lines) few) (lawful_kept quiet lines lawful))
 
-pub printed_ends : PrintedEndsLawful
-printed_ends peers quiet lines ending h few lawful ends =
-    ends.gives ∙ ap ending_of (one_answer (lines_of (text_of quiet lines)) ends.checked Lawful ends.is (printed_judged peers quiet lines h few lawful))
+pub lawful_ends : LawfulEndsLawful
+lawful_ends text ending lawful ends = ends.gives ∙ ap ending_of (one_answer (lines_of text) ends.checked Lawful ends.is lawful)
+
+-- ---- a refused event
+
+-- it is one more line, and no entry
+refused_text : (quiet : Bool) (lines : List Line) (number : ℕ) (code : Code) → text_of quiet lines ++ line_text (Refused number code) ≡ text_of quiet (lines ++ Refused number code ∷ [])
+refused_text quiet lines number code = sym (flat_map-append (shown quiet) lines (Refused number code ∷ []) ∙ ap (λ t. text_of quiet lines ++ t) (alone quiet))
+  where
+    alone : (quiet : Bool) → text_of quiet (Refused number code ∷ []) ≡ line_text (Refused number code)
+    alone true = append-nil (line_text (Refused number code))
+    alone false = append-nil (line_text (Refused number code))
+
+refused_entries : (lines : List Line) (number : ℕ) (code : Code) → entries_of (lines ++ Refused number code ∷ []) ≡ entries_of lines
+refused_entries lines number code = flat_map-append entry_list lines (Refused number code ∷ []) ∙ append-nil (entries_of lines)
+
+refused_printed : (peers : ℕ → Option Neighbour) (number : ℕ) (code : Code) → number < 2 ^ 64 → IsPrinted peers (Refused number code)
+refused_printed peers number code small = record { short = record { ranges = small; values = tt; octets = omega arith }; told = tt }
+
+pub refused_judged : RefusedIsLawful
+refused_judged peers quiet lines number code h small few lawful =
+    subst (λ text. IsChecked (lines_of text) Lawful) (sym (refused_text quiet lines number code))
+    (printed_judged peers quiet (lines ++ Refused number code ∷ []) (all_append (IsPrinted peers) lines (Refused number code ∷ []) h (refused_printed peers number code small, tt))
+    (subst (λ text. length (lines_of text) < 4294967296) (refused_text quiet lines number code) few)
+    (subst (λ (es : List (Entry Value)). IsLawful no_links es) (sym (refused_entries lines number code)) lawful))

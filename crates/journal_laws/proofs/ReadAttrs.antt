@@ -20,7 +20,7 @@ use Rattle.bgp_wire.proofs.ReadableMessages.{field_octets}
 use Rattle.wire_laws.proofs.LengthLaws.{attributes_no_longer}
 use Rattle.journal_check.specs.Laws.{IsNumberIfAny, HasNumbers, HasNumber, HasOctets}
 use Rattle.journal_laws.proofs.Spans.{some_same, not_some}
-use Rattle.journal_laws.specs.Printed.{HasAddress, FitsMessage, IsPrintable}
+use Rattle.journal_laws.specs.Printed.{HasAddress, HasRoom, IsPrintable}
 use Rattle.journal_laws.specs.Laws.{ReadIsPrintable}
 
 -- ---- ranges of what can be read
@@ -72,7 +72,7 @@ unrecognized_ranges p external bytes steps runs attrs are octets is =
 
 -- ---- all of them
 
-printable_by : (p : Profile) (external : Bool) (a : Attrs) → IsReadable p external a → AllByRecursion HasOctets a.unrecognized → FitsMessage a → IsPrintable a
+printable_by : (p : Profile) (external : Bool) (a : Attrs) → IsReadable p external a → AllByRecursion HasOctets a.unrecognized → HasRoom a → IsPrintable a
 printable_by p external a h octets fits = record {
   ranges = record {
     path = every_more (IsReadableSegment p.as4) HasNumbers a.path (segment_ranges p.as4) (all_every (IsReadableSegment p.as4) a.path h.path);

@@ -26,14 +26,14 @@ use Rattle.journal_text.specs.declared.line.Code.TheVariants.{E1, E2, E3, E4, E5
 use Rattle.journal_text.specs.declared.line.Line.{Line}
 use Rattle.journal_text.specs.declared.line.Line.TheVariants.{Journal, Note, Row, Rows, Cover, Work, Bound, Idle, Ignored, Absent, Refused}
 use Rattle.journal_check.specs.Laws.{IsPrefix, IsNumberIfAny, HasRanges, HasRouteRanges, IsValue, IsAnswer, IsMatch, IsEntry, IsLine}
-use Rattle.journal_laws.specs.Printed.{FitsMessage, IsShort, answer_values, values_of, values_in, octets_in}
+use Rattle.journal_laws.specs.Printed.{HasRoom, HasShortText, answer_values, values_of, values_in, octets_in}
 use Rattle.journal_laws.specs.Laws.{PrintedLinesAreShort}
 use Rattle.journal_laws.proofs.ShortNumbers.{short_number, short_long, short_wide, short_addr, short_prefix, short_link, short_fib_proto, short_name}
 use Rattle.journal_laws.proofs.ShortAttrs.{short_attrs}
 
 -- ---- values
 
-attrs_short : (a : Attrs) → HasRanges a → FitsMessage a → length (attrs_text a) ≤ 24576
+attrs_short : (a : Attrs) → HasRanges a → HasRoom a → length (attrs_text a) ≤ 24576
 attrs_short a h fits = omega (arith, short_attrs fits.0 a h, fits.1)
 
 short_field : (n : ℕ) → n < 2 ^ 32 → length (field_text n) ≤ 11
@@ -43,7 +43,7 @@ short_known : (n : Option ℕ) → IsNumberIfAny n → length (known_text n) ≤
 short_known None h = omega arith
 short_known (Some n) h = short_field n h
 
-route_short : (r : Route) → HasRouteRanges r → FitsMessage r.attrs → length (route_text r) ≤ 24631
+route_short : (r : Route) → HasRouteRanges r → HasRoom r.attrs → length (route_text r) ≤ 24631
 unfolding route_text
 route_short r h fits =
     let number = h.from in
@@ -94,14 +94,14 @@ fib_short : (r : FibRow) → is_iface_name r.iface ≡ true → length (fib_text
 unfolding fib_text
 fib_short r name = omega (arith, short_fib_proto r.proto, short_gateway r.gateway, short_name r.iface name, joined 58 (fib_proto_text r.proto ∷ gateway_text r.gateway ∷ r.iface ∷ []))
 
-value_short : (value : Value) → IsValue value → IsShort value → length (value_text value) ≤ 24631
+value_short : (value : Value) → IsValue value → HasShortText value → length (value_text value) ≤ 24631
 value_short (values.Attrs a) h short = omega (arith, attrs_short a h short)
 value_short (values.Route r) h short = route_short r h short
 value_short (values.Interior r) h short = omega (arith, interior_short r h.0 h.1)
 value_short (values.External r) h short = omega (arith, external_short r)
 value_short (values.FibRow r) h short = omega (arith, fib_short r h)
 
-answer_short : (row : Option Value) → IsAnswer row → AllByRecursion IsShort (answer_values row) → length (answer_text row) ≤ 24631
+answer_short : (row : Option Value) → IsAnswer row → AllByRecursion HasShortText (answer_values row) → length (answer_text row) ≤ 24631
 answer_short None h short = omega arith
 answer_short (Some value) h short = value_short value h short.0
 
@@ -131,7 +131,7 @@ pair_line word text few short =
     let words = word ∷ text ∷ [] in
     omega (arith, joined 32 words, length-append (join_with_byte 32 words) (10 ∷ []))
 
-entry_line : (entry : Entry Value) → IsEntry entry → AllByRecursion IsShort (values_of entry) → length (words_line (entry_words entry)) ≤ 65537
+entry_line : (entry : Entry Value) → IsEntry entry → AllByRecursion HasShortText (values_of entry) → length (words_line (entry_words entry)) ≤ 65537
 unfolding entry_words
 entry_line (Begin link) h short = link_line (codes "b") link (omega arith) h
 entry_line (Inherit link from) h short = links_line (codes "i") link from (omega arith) h.0 h.1
@@ -164,7 +164,7 @@ short_code E4 = omega arith
 short_code E5 = omega arith
 short_code E6 = omega arith
 
-line_short : (line : Line) → IsLine line → AllByRecursion IsShort (values_in line) → length (octets_in line) ≤ 4096 → length (words_line (line_words line)) ≤ 65537
+line_short : (line : Line) → IsLine line → AllByRecursion HasShortText (values_in line) → length (octets_in line) ≤ 4096 → length (words_line (line_words line)) ≤ 65537
 line_short (Journal entry) h short few = entry_line entry h short
 line_short (Note k octets) h short few =
     let words = codes "note" ∷ decimal k ∷ encode_lower octets ∷ [] in

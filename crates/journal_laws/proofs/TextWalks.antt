@@ -15,7 +15,7 @@ use Rattle.journal_text.specs.declared.value.Value.{Value}
 use Rattle.journal_text.specs.declared.entry.Entry.{Entry}
 use Rattle.journal_text.specs.declared.entry.Entry.TheVariants.{Begin, Inherit, Add, Delete, Replace, Asked, Weld, End}
 use Rattle.journal_check.specs.Laws.{texts_of}
-use Rattle.journal_laws.specs.Printed.{IsExact, values_of}
+use Rattle.journal_laws.specs.Printed.{IsWellTold, values_of}
 use Rattle.journal_laws.specs.TextLinks.{text_rows, text_links, text_entries}
 use Rattle.journal_laws.specs.Laws.{TextsAreWalked}
 use Rattle.journal_laws.proofs.ValueTexts.{values_told}
@@ -58,7 +58,7 @@ some_mapped f None is = is
 row_texts : (links : Links Value) (link : Link) (p : Network) (row : Option Value) → HasRow links link p row → HasRow (text_links links) link p (option_map value_text row)
 row_texts links link p row has = (text_rows has.0, ap (option_map text_rows) has.1, ap (option_map value_text) has.2)
 
-demand_texts : (peers : ℕ → Option Neighbour) (links : Links Value) (entry : Entry Value) → AllByRecursion (IsExact peers) (values_of entry) → Demands links entry → Demands (text_links links) (texts_of entry)
+demand_texts : (peers : ℕ → Option Neighbour) (links : Links Value) (entry : Entry Value) → AllByRecursion (IsWellTold peers) (values_of entry) → Demands links entry → Demands (text_links links) (texts_of entry)
 demand_texts peers links (Begin link) exact h = ap (option_map text_rows) h
 demand_texts peers links (Inherit link from) exact h = (ap (option_map text_rows) h.0, some_mapped text_rows (links from) h.1)
 demand_texts peers links (Add link p new) exact h = row_texts links link p None h
@@ -70,7 +70,7 @@ demand_texts peers links (End link) exact h = some_mapped text_rows (links link)
 
 -- ---- walks
 
-pub lawful_texts : (peers : ℕ → Option Neighbour) (links : Links Value) (entries : List (Entry Value)) → AllByRecursion (λ e. AllByRecursion (IsExact peers) (values_of e)) entries → IsLawful links entries → IsLawful (text_links links) (text_entries entries)
+pub lawful_texts : (peers : ℕ → Option Neighbour) (links : Links Value) (entries : List (Entry Value)) → AllByRecursion (λ e. AllByRecursion (IsWellTold peers) (values_of e)) entries → IsLawful links entries → IsLawful (text_links links) (text_entries entries)
 lawful_texts peers links [] exact lawful = tt
 lawful_texts peers links (e ∷ entries) exact lawful = (
   demand_texts peers links e exact.0 lawful.0,

@@ -15,7 +15,7 @@ use Rattle.journal_text.specs.Texts.{origin_number, attrs_text, sender_number, f
 use Rattle.journal_text.specs.declared.value.Value.{Value}
 use Rattle.journal_text.specs.declared.value.Value.TheVariants as values
 use Rattle.journal_check.specs.Laws.{IsNumberIfAny, HasRouteRanges}
-use Rattle.journal_laws.specs.Printed.{IsFromOneOf, IsExact, HasAddresses}
+use Rattle.journal_laws.specs.Printed.{IsFromOneOf, IsWellTold, HasAddresses}
 use Rattle.journal_laws.specs.Laws.{ValuesAreTold}
 use Rattle.journal_laws.proofs.Spans.{begins, clash, rest_same}
 use Rattle.journal_laws.proofs.NumberTexts.{number_told, decimal_begins}
@@ -116,7 +116,7 @@ proto_kind Rip next words = refl
 proto_kind Ebgp next words = refl
 proto_kind Ibgp next words = refl
 
-kind_told : (peers : ℕ → Option Neighbour) (value : Value) → IsExact peers value → kind_by (value_text value) ≡ kind_of value
+kind_told : (peers : ℕ → Option Neighbour) (value : Value) → IsWellTold peers value → kind_by (value_text value) ≡ kind_of value
 unfolding interior_text external_text fib_text
 kind_told peers (values.Attrs a) h = attrs_kind a
 kind_told peers (values.Route r) h = route_kind r h.ranges
@@ -126,7 +126,7 @@ kind_told peers (values.FibRow r) h = proto_kind r.proto (gateway_text r.gateway
 
 -- ---- all values
 
-by_kinds : (peers : ℕ → Option Neighbour) (a b : Value) → IsExact peers a → IsExact peers b → kind_of a ≡ kind_of b → value_text a ≡ value_text b → a ≡ b
+by_kinds : (peers : ℕ → Option Neighbour) (a b : Value) → IsWellTold peers a → IsWellTold peers b → kind_of a ≡ kind_of b → value_text a ≡ value_text b → a ≡ b
 by_kinds peers (values.Attrs a) (values.Attrs b) ha hb same e = ap (λ x. values.Attrs x) (attrs_told a b ha.ranges hb.ranges ha.told hb.told e)
 by_kinds peers (values.Attrs a) (values.Route b) ha hb same e = absurd (omega arith)
 by_kinds peers (values.Attrs a) (values.Interior b) ha hb same e = absurd (omega arith)

@@ -15,7 +15,7 @@ use Rattle.journal_text.specs.declared.value.Value.{Value}
 use Rattle.journal_text.specs.declared.entry.Entry.{Entry}
 use Rattle.journal_text.specs.declared.entry.Entry.TheVariants.{Begin, Inherit, Add, Delete, Replace, Asked, Weld, End}
 use Rattle.journal_check.specs.Laws.{texts_of}
-use Rattle.journal_laws.specs.Printed.{IsExact, answer_values, values_of}
+use Rattle.journal_laws.specs.Printed.{IsWellTold, answer_values, values_of}
 use Rattle.journal_laws.specs.TextLinks.{text_rows, text_links, text_entries}
 use Rattle.journal_laws.specs.Laws.{TextsTellWalks}
 use Rattle.journal_laws.proofs.Spans.{some_same, not_some}
@@ -26,21 +26,21 @@ use Rattle.journal_laws.proofs.TextWalks.{after_texts, lawful_texts}
 
 -- each row is told by its text
 abbrev AreExactRows : (ℕ → Option Neighbour) → Rows Value → Type 0
-AreExactRows peers rows = (p : Network) (value : Value) → rows p ≡ Some value → IsExact peers value
+AreExactRows peers rows = (p : Network) (value : Value) → rows p ≡ Some value → IsWellTold peers value
 
 abbrev AreExactLinks : (ℕ → Option Neighbour) → Links Value → Type 0
 AreExactLinks peers links = (link : Link) (rows : Rows Value) → links link ≡ Some rows → AreExactRows peers rows
 
 abbrev IsExactIfAny : (ℕ → Option Neighbour) → Option Value → Type 0
-IsExactIfAny peers o = (value : Value) → o ≡ Some value → IsExact peers value
+IsExactIfAny peers o = (value : Value) → o ≡ Some value → IsWellTold peers value
 
 no_values : (peers : ℕ → Option Neighbour) → IsExactIfAny peers None
 no_values peers value e = absurd (not_some value e)
 
-one_value : (peers : ℕ → Option Neighbour) (x : Value) → IsExact peers x → IsExactIfAny peers (Some x)
-one_value peers x h value e = subst (IsExact peers) (some_same x value e) h
+one_value : (peers : ℕ → Option Neighbour) (x : Value) → IsWellTold peers x → IsExactIfAny peers (Some x)
+one_value peers x h value e = subst (IsWellTold peers) (some_same x value e) h
 
-answer_value : (peers : ℕ → Option Neighbour) (row : Option Value) → AllByRecursion (IsExact peers) (answer_values row) → IsExactIfAny peers row
+answer_value : (peers : ℕ → Option Neighbour) (row : Option Value) → AllByRecursion (IsWellTold peers) (answer_values row) → IsExactIfAny peers row
 answer_value peers None h = no_values peers
 answer_value peers (Some x) h = one_value peers x h.0
 
@@ -78,7 +78,7 @@ same_back peers links upper lower exact has =
     let l = mapped_some text_rows (links lower) has.0 has.2 in
     (u.0, u.1, l.1 ∙ ap (λ (r : Rows Value). Some r) (rows_told peers l.0 u.0 (exact lower l.0 l.1) (exact upper u.0 u.1) (l.2 ∙ sym u.2)))
 
-demand_back : (peers : ℕ → Option Neighbour) (links : Links Value) (entry : Entry Value) → AreExactLinks peers links → AllByRecursion (IsExact peers) (values_of entry) → Demands (text_links links) (texts_of entry) → Demands links entry
+demand_back : (peers : ℕ → Option Neighbour) (links : Links Value) (entry : Entry Value) → AreExactLinks peers links → AllByRecursion (IsWellTold peers) (values_of entry) → Demands (text_links links) (texts_of entry) → Demands links entry
 demand_back peers links (Begin link) exact values h = mapped_none text_rows (links link) h
 demand_back peers links (Inherit link from) exact values h = (mapped_none text_rows (links link) h.0, mapped_is_some text_rows (links from) h.1)
 demand_back peers links (Add link p new) exact values h = row_back peers links link p None exact (no_values peers) h
@@ -100,7 +100,7 @@ link_exact peers links link rows exact here q r is = by (same_link q link) is
 with_row_exact : (peers : ℕ → Option Neighbour) (rows : Rows Value) (p : Network) (row : Option Value) → AreExactRows peers rows → IsExactIfAny peers row → AreExactRows peers (with_row rows p row)
 with_row_exact peers rows p row exact here q value is = by (eq_by_cmp prefix_cmp q p) is
   where
-    by : (b : Bool) → cond b row (rows q) ≡ Some value → IsExact peers value
+    by : (b : Bool) → cond b row (rows q) ≡ Some value → IsWellTold peers value
     by true e = here value e
     by false e = exact q value e
 
@@ -116,7 +116,7 @@ no_link peers r e = absurd (not_some r e)
 empty_exact : (peers : ℕ → Option Neighbour) (r : Rows Value) → ◌≡◌ {A = Option (Rows Value)} (Some no_rows) (Some r) → AreExactRows peers r
 empty_exact peers r e = subst (AreExactRows peers) (some_same no_rows r e) (λ p value is. absurd (not_some value is))
 
-after_exact : (peers : ℕ → Option Neighbour) (links : Links Value) (entry : Entry Value) → AreExactLinks peers links → AllByRecursion (IsExact peers) (values_of entry) → AreExactLinks peers (after links entry)
+after_exact : (peers : ℕ → Option Neighbour) (links : Links Value) (entry : Entry Value) → AreExactLinks peers links → AllByRecursion (IsWellTold peers) (values_of entry) → AreExactLinks peers (after links entry)
 after_exact peers links (Begin link) exact values = link_exact peers links link (Some no_rows) exact (empty_exact peers)
 after_exact peers links (Inherit link from) exact values = link_exact peers links link (links from) exact (exact from)
 after_exact peers links (Add link p new) exact values = row_exact peers links link p (Some new) exact (one_value peers new values.0)
@@ -128,7 +128,7 @@ after_exact peers links (End link) exact values = link_exact peers links link No
 
 -- ---- walks
 
-lawful_back : (peers : ℕ → Option Neighbour) (links : Links Value) (entries : List (Entry Value)) → AreExactLinks peers links → AllByRecursion (λ e. AllByRecursion (IsExact peers) (values_of e)) entries → IsLawful (text_links links) (text_entries entries) → IsLawful links entries
+lawful_back : (peers : ℕ → Option Neighbour) (links : Links Value) (entries : List (Entry Value)) → AreExactLinks peers links → AllByRecursion (λ e. AllByRecursion (IsWellTold peers) (values_of e)) entries → IsLawful (text_links links) (text_entries entries) → IsLawful links entries
 lawful_back peers links [] exact values lawful = tt
 lawful_back peers links (e ∷ entries) exact values lawful = (
   demand_back peers links e exact values.0 lawful.0,

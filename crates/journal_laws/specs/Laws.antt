@@ -1,5 +1,5 @@
 -- Laws of what is printed, and of what `check` says of it.
-use Rattle.std.specs.Prelude.{◌≡◌, ◌↔◌, ℕ, ◌<◌, ◌≤◌, Bool, List, [], ◌∷◌, ◌++◌, length, Option, Some}
+use Rattle.std.specs.Prelude.{◌≡◌, ◌↔◌, ℕ, ◌^◌, ◌<◌, ◌≤◌, Bool, List, [], ◌∷◌, ◌++◌, length, Option, Some}
 use Rattle.std.specs.List.{AllByRecursion}
 use Rattle.bgp_attr.specs.declared.attrs.Attrs.{Attrs}
 use Rattle.bgp_attr.specs.declared.speaker.Neighbour.{Neighbour}
@@ -12,7 +12,9 @@ use Rattle.journal_text.specs.Texts.{value_text, line_text, text_of, entries_of}
 use Rattle.journal_text.specs.Walk.{Links, IsLawful, Leads, fold_links, no_links}
 use Rattle.journal_text.specs.declared.value.Value.{Value}
 use Rattle.journal_text.specs.declared.entry.Entry.{Entry}
+use Rattle.journal_text.specs.declared.line.Code.{Code}
 use Rattle.journal_text.specs.declared.line.Line.{Line}
+use Rattle.journal_text.specs.declared.line.Line.TheVariants.{Refused}
 use Rattle.journal_check.specs.Readings.{reading_of}
 use Rattle.journal_check.specs.Judged.{IsChecked}
 use Rattle.journal_check.specs.Laws.{said}
@@ -21,7 +23,7 @@ use Rattle.check_run.specs.Lines.{lines_of}
 use Rattle.check_run.specs.Answers.{Ends}
 use Rattle.check_run.specs.declared.ending.Ending.{Ending}
 use Rattle.check_run.specs.declared.ending.Ending.TheVariants as endings
-use Rattle.journal_laws.specs.Printed.{IsShortLine, IsExact, IsPrinted, IsPrintable, values_of}
+use Rattle.journal_laws.specs.Printed.{IsShortLine, IsWellTold, IsPrinted, IsPrintable, values_of}
 use Rattle.journal_laws.specs.TextLinks.{text_links, text_entries}
 
 -- Attributes that a peer said in a message can be printed.
@@ -40,18 +42,18 @@ PrintedLinesAreRead = (line : Line) (text : List ℕ) → IsShortLine line → l
 
 -- Values of one text are the same.
 abbrev pub ValuesAreTold : Type 0
-ValuesAreTold = (peers : ℕ → Option Neighbour) (a b : Value) → IsExact peers a → IsExact peers b → value_text a ≡ value_text b → a ≡ b
+ValuesAreTold = (peers : ℕ → Option Neighbour) (a b : Value) → IsWellTold peers a → IsWellTold peers b → value_text a ≡ value_text b → a ≡ b
 
 -- A walk that is lawful is lawful with texts in the place of values, and leads to their links.
 abbrev pub TextsAreWalked : Type 0
 TextsAreWalked =
-    (peers : ℕ → Option Neighbour) (links : Links Value) (entries : List (Entry Value)) → AllByRecursion (λ e. AllByRecursion (IsExact peers) (values_of e)) entries → IsLawful links entries
+    (peers : ℕ → Option Neighbour) (links : Links Value) (entries : List (Entry Value)) → AllByRecursion (λ e. AllByRecursion (IsWellTold peers) (values_of e)) entries → IsLawful links entries
     → Leads (text_links links) (text_entries entries) (text_links (fold_links links entries))
 
 -- A journal obeys the rules exactly where it does with texts in the place of values.
 abbrev pub TextsTellWalks : Type 0
 TextsTellWalks =
-    (peers : ℕ → Option Neighbour) (entries : List (Entry Value)) → AllByRecursion (λ e. AllByRecursion (IsExact peers) (values_of e)) entries
+    (peers : ℕ → Option Neighbour) (entries : List (Entry Value)) → AllByRecursion (λ e. AllByRecursion (IsWellTold peers) (values_of e)) entries
     → IsLawful no_links entries ↔ IsLawful no_links (text_entries entries)
 
 -- Of the text of lines whose entries obey the rules, from no link at all, it is to be said that it is lawful, where it has
@@ -61,8 +63,13 @@ PrintedIsLawful =
     (peers : ℕ → Option Neighbour) (quiet : Bool) (lines : List Line) → AllByRecursion (IsPrinted peers) lines → length (lines_of (text_of quiet lines)) < 4294967296 → IsLawful no_links (entries_of lines)
     → IsChecked (lines_of (text_of quiet lines)) Lawful
 
--- And nothing else: this is how a run of `check` over that text ends, where it gives an answer.
-abbrev pub PrintedEndsLawful : Type 0
-PrintedEndsLawful =
-    (peers : ℕ → Option Neighbour) (quiet : Bool) (lines : List Line) (ending : Ending) → AllByRecursion (IsPrinted peers) lines → length (lines_of (text_of quiet lines)) < 4294967296 → IsLawful no_links (entries_of lines)
-    → Ends (text_of quiet lines) ending → ending ≡ endings.Lawful
+-- So it is where the line that refuses an event stands behind them.
+abbrev pub RefusedIsLawful : Type 0
+RefusedIsLawful =
+    (peers : ℕ → Option Neighbour) (quiet : Bool) (lines : List Line) (number : ℕ) (code : Code) → AllByRecursion (IsPrinted peers) lines → number < 2 ^ 64
+    → length (lines_of (text_of quiet lines ++ line_text (Refused number code))) < 4294967296 → IsLawful no_links (entries_of lines)
+    → IsChecked (lines_of (text_of quiet lines ++ line_text (Refused number code))) Lawful
+
+-- And nothing else: this is how a run of `check` over such a text ends, where it gives an answer.
+abbrev pub LawfulEndsLawful : Type 0
+LawfulEndsLawful = (text : List ℕ) (ending : Ending) → IsChecked (lines_of text) Lawful → Ends text ending → ending ≡ endings.Lawful

@@ -18,15 +18,15 @@ use Rattle.journal_check.specs.Laws.{HasRanges, IsValue, IsLine}
 -- ---- values that are short
 
 -- A message of at most 4,096 octets has room for the attributes, with AS numbers of two octets or of four (RFC 4271, section 4.1).
-abbrev pub FitsMessage : Attrs → Type 0
-FitsMessage a = (as4 : Bool) × (attributes_length as4 a ≤ 4096)
+abbrev pub HasRoom : Attrs → Type 0
+HasRoom a = (as4 : Bool) × (attributes_length as4 a ≤ 4096)
 
-abbrev pub IsShort : Value → Type 0
-IsShort (values.Attrs a) = FitsMessage a
-IsShort (values.Route r) = FitsMessage r.attrs
-IsShort (values.Interior r) = Unit {0}
-IsShort (values.External r) = Unit {0}
-IsShort (values.FibRow r) = Unit {0}
+abbrev pub HasShortText : Value → Type 0
+HasShortText (values.Attrs a) = HasRoom a
+HasShortText (values.Route r) = HasRoom r.attrs
+HasShortText (values.Interior r) = Unit {0}
+HasShortText (values.External r) = Unit {0}
+HasShortText (values.FibRow r) = Unit {0}
 
 -- ---- values that their texts tell apart
 
@@ -55,7 +55,7 @@ IsTold peers (values.External r) = r.next_hop < 2 ^ 32
 IsTold peers (values.FibRow r) = IsAddressIfAny r.gateway
 
 -- in its ranges, and told by its text
-pub record IsExact (peers : ℕ → Option Neighbour) (value : Value) : Type 0 where
+pub record IsWellTold (peers : ℕ → Option Neighbour) (value : Value) : Type 0 where
   pub ranges : IsValue value
   pub told : IsTold peers value
 
@@ -107,7 +107,7 @@ octets_in (Refused number code) = []
 -- its links have numbers from 1, its numbers are in their ranges, and messages have room for what they hold
 pub record IsShortLine (line : Line) : Type 0 where
   pub ranges : IsLine line
-  pub values : AllByRecursion IsShort (values_in line)
+  pub values : AllByRecursion HasShortText (values_in line)
   pub octets : length (octets_in line) ≤ 4096
 
 -- and its values are told by their texts
@@ -119,4 +119,4 @@ pub record IsPrinted (peers : ℕ → Option Neighbour) (line : Line) : Type 0 w
 pub record IsPrintable (a : Attrs) : Type 0 where
   pub ranges : HasRanges a
   pub addresses : HasAddresses a
-  pub fits : FitsMessage a
+  pub fits : HasRoom a

@@ -11,7 +11,7 @@
 //! contract is the law.
 #![tactic(auto)]
 
-ghost use Rattle.journal_laws.specs.Laws.{ReadIsPrintable, PrintedLinesAreShort, PrintedLinesAreRead, ValuesAreTold, TextsAreWalked, TextsTellWalks, PrintedIsLawful, PrintedEndsLawful};
+ghost use Rattle.journal_laws.specs.Laws.{ReadIsPrintable, PrintedLinesAreShort, PrintedLinesAreRead, ValuesAreTold, TextsAreWalked, TextsTellWalks, PrintedIsLawful, RefusedIsLawful, LawfulEndsLawful};
 
 /// Attributes that a peer said in a message can be printed.
 pub fn what_was_read_is_printable()
@@ -40,8 +40,9 @@ pub fn texts_are_walked()
 {}
 
 /// Of the text of lines whose entries obey the rules (NSDI 2005, section 5.1) it is to be said that it is lawful, whether
-/// the entries are printed or not; and so a run of `check` that answers says it.
+/// the entries are printed or not, and also where a refused event ends it; so a run of `check` that answers says it.
 pub fn printed_is_lawful()
     ensures judged { PrintedIsLawful }
-    ensures ends { PrintedEndsLawful }
+    ensures refused { RefusedIsLawful }
+    ensures ends { LawfulEndsLawful }
 {}
