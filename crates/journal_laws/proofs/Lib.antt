@@ -11,3 +11,4 @@ pub mod TextWalks
 mod WalksBack
 pub mod LawfulTexts
 pub mod ReadAttrs
+pub mod FilteredRoutes

@@ -18,9 +18,9 @@ use Rattle.bgp_wire.proofs.JudgedTypes.{Verdict}
 use Rattle.bgp_wire.proofs.ReadableLaws.{Every, all_every, Octets, held, each_type, unrecognized_held, attrs_read}
 use Rattle.bgp_wire.proofs.ReadableMessages.{field_octets}
 use Rattle.wire_laws.proofs.LengthLaws.{attributes_no_longer}
-use Rattle.journal_check.specs.Laws.{IsNumberIfAny, HasNumbers, HasNumber, HasOctets}
+use Rattle.journal_check.specs.Laws.{IsNumberIfAny, HasNumbers, HasNumber, HasOctets, HasRanges}
 use Rattle.journal_laws.proofs.Spans.{some_same, not_some}
-use Rattle.journal_laws.specs.Printed.{HasAddress, HasRoom, IsPrintable}
+use Rattle.journal_laws.specs.Printed.{HasAddress, HasAddresses, HasRoom}
 use Rattle.journal_laws.specs.Laws.{ReadIsPrintable}
 
 -- ---- ranges of what can be read
@@ -72,8 +72,14 @@ unrecognized_ranges p external bytes steps runs attrs are octets is =
 
 -- ---- all of them
 
-printable_by : (p : Profile) (external : Bool) (a : Attrs) → IsReadable p external a → AllByRecursion HasOctets a.unrecognized → HasRoom a → IsPrintable a
-printable_by p external a h octets fits = record {
+-- what is asked of attributes
+record ArePrintable (a : Attrs) : Type 0 where
+  ranges : HasRanges a
+  addresses : HasAddresses a
+  room : HasRoom a
+
+printable_by : (p : Profile) (external : Bool) (a : Attrs) → IsReadable p external a → AllByRecursion HasOctets a.unrecognized → HasRoom a → ArePrintable a
+printable_by p external a h octets room = record {
   ranges = record {
     path = every_more (IsReadableSegment p.as4) HasNumbers a.path (segment_ranges p.as4) (all_every (IsReadableSegment p.as4) a.path h.path);
     med = number_ranges a.med h.med;
@@ -82,10 +88,10 @@ printable_by p external a h octets fits = record {
     unrecognized = octets;
   };
   addresses = record { next_hop = h.next_hop.fits; aggregator = aggregator_address p.as4 a.aggregator h.aggregator };
-  fits = fits;
+  room = room;
 }
 
-attrs_printable : (p : Profile) (external : Bool) (bytes : List ℕ) (r : Reading) (is : IsReading p external bytes r) → Octets bytes → (a : Attrs) → AreAttrs p.as4 external r.kept a → IsPrintable a
+attrs_printable : (p : Profile) (external : Bool) (bytes : List ℕ) (r : Reading) (is : IsReading p external bytes r) → Octets bytes → (a : Attrs) → AreAttrs p.as4 external r.kept a → ArePrintable a
 attrs_printable p external bytes r is octets a are =
     let f = field_octets p external bytes r is octets in
     let kept = subst (λ kept. AreAttrs p.as4 external kept a) is.kept are in
@@ -95,14 +101,16 @@ attrs_printable p external bytes r is octets a are =
     let shorter = attributes_no_longer p external is.attributes is.steps is.runs a is.are f.attributes kept readable (omega (arith, whole, top)) in
     printable_by p external a readable (unrecognized_ranges p external is.attributes is.steps is.runs a is.are f.attributes kept) (p.as4, omega (arith, shorter, whole, top))
 
-by_prefixes : (p : Profile) (external : Bool) (bytes : List ℕ) (r : Reading) (is : IsReading p external bytes r) → Octets bytes → (ns : List Network) (attrs : Option Attrs) (a : Attrs) → AreAttrsFor p.as4 external r.kept ns attrs → attrs ≡ Some a → IsPrintable a
+by_prefixes : (p : Profile) (external : Bool) (bytes : List ℕ) (r : Reading) (is : IsReading p external bytes r) → Octets bytes → (ns : List Network) (attrs : Option Attrs) (a : Attrs) → AreAttrsFor p.as4 external r.kept ns attrs → attrs ≡ Some a → ArePrintable a
 by_prefixes p external bytes r is octets [] attrs a are e = absurd (not_some a (sym are ∙ e))
 by_prefixes p external bytes r is octets (n ∷ ns) None a are e = absurd are
-by_prefixes p external bytes r is octets (n ∷ ns) (Some b) a are e = subst IsPrintable (some_same b a e) (attrs_printable p external bytes r is octets b are)
+by_prefixes p external bytes r is octets (n ∷ ns) (Some b) a are e = subst ArePrintable (some_same b a e) (attrs_printable p external bytes r is octets b are)
 
-by_withdraw : (p : Profile) (external : Bool) (bytes : List ℕ) (r : Reading) (is : IsReading p external bytes r) → Octets bytes → (withdraw : Bool) (u : Update) (a : Attrs) → IsUpdateBy p.as4 external r withdraw u → u.attrs ≡ Some a → IsPrintable a
+by_withdraw : (p : Profile) (external : Bool) (bytes : List ℕ) (r : Reading) (is : IsReading p external bytes r) → Octets bytes → (withdraw : Bool) (u : Update) (a : Attrs) → IsUpdateBy p.as4 external r withdraw u → u.attrs ≡ Some a → ArePrintable a
 by_withdraw p external bytes r is octets true u a by e = absurd (not_some a (sym by.attrs ∙ e))
 by_withdraw p external bytes r is octets false u a by e = by_prefixes p external bytes r is octets r.announced u.attrs a by.attrs e
 
 pub read_printable : ReadIsPrintable
-read_printable p external bytes u a octets reads e = by_withdraw p external bytes reads.0 reads.1 (all_every (λ b. b < 256) bytes octets) reads.0.withdraw u a reads.2 e
+read_printable peers p external bytes u a octets reads e =
+    let h = by_withdraw p external bytes reads.0 reads.1 (all_every (λ b. b < 256) bytes octets) reads.0.withdraw u a reads.2 e in
+    record { well_told = record { ranges = h.ranges; told = h.addresses }; short = h.room }

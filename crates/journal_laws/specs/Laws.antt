@@ -1,16 +1,23 @@
 -- Laws of what is printed, and of what `check` says of it.
 use Rattle.std.specs.Prelude.{◌≡◌, ◌↔◌, ℕ, ◌^◌, ◌<◌, ◌≤◌, Bool, List, [], ◌∷◌, ◌++◌, length, Option, Some}
 use Rattle.std.specs.List.{AllByRecursion}
+use Rattle.addr4.specs.Prefixes.{Network}
 use Rattle.bgp_attr.specs.declared.attrs.Attrs.{Attrs}
+use Rattle.bgp_attr.specs.declared.route.Route.{Route}
+use Rattle.bgp_attr.specs.declared.speaker.Speaker.{Speaker}
 use Rattle.bgp_attr.specs.declared.speaker.Neighbour.{Neighbour}
 use Rattle.bgp_attr.specs.declared.speaker.Profile.{Profile}
 use Rattle.bgp_wire.specs.declared.message.Update.{Update}
 use Rattle.bgp_wire.specs.declared.message.Message.TheVariants as messages
 use Rattle.bgp_wire.specs.Grammar.{Reads}
 use Rattle.bgp_wire.specs.Readable.{AreOctets}
+use Rattle.policy_rules.specs.declared.rule.Rule.{Rule}
+use Rattle.policy_rules.specs.Ranges.{AreRules}
+use Rattle.filter_bank.specs.Filtered.{filtered}
 use Rattle.journal_text.specs.Texts.{value_text, line_text, text_of, entries_of}
 use Rattle.journal_text.specs.Walk.{Links, IsLawful, Leads, fold_links, no_links}
 use Rattle.journal_text.specs.declared.value.Value.{Value}
+use Rattle.journal_text.specs.declared.value.Value.TheVariants as values
 use Rattle.journal_text.specs.declared.entry.Entry.{Entry}
 use Rattle.journal_text.specs.declared.line.Code.{Code}
 use Rattle.journal_text.specs.declared.line.Line.{Line}
@@ -29,8 +36,14 @@ use Rattle.journal_laws.specs.TextLinks.{text_links, text_entries}
 -- Attributes that a peer said in a message can be printed.
 abbrev pub ReadIsPrintable : Type 0
 ReadIsPrintable =
-    (p : Profile) (external : Bool) (bytes : List ℕ) (u : Update) (a : Attrs) → AreOctets bytes → Reads p external bytes (messages.Update u) → u.attrs ≡ Some a
-    → IsPrintable a
+    (peers : ℕ → Option Neighbour) (p : Profile) (external : Bool) (bytes : List ℕ) (u : Update) (a : Attrs) → AreOctets bytes → Reads p external bytes (messages.Update u) → u.attrs ≡ Some a
+    → IsPrintable peers (values.Attrs a)
+
+-- A route that rules make of attributes that can be printed can be printed.
+abbrev pub FilteredIsPrintable : Type 0
+FilteredIsPrintable =
+    (peers : ℕ → Option Neighbour) (me : Speaker) (peer : Neighbour) (as4 : Bool) (rules : List Rule) (p : Network) (a : Attrs) (r : Route) → peers peer.number ≡ Some peer → peer.number < 2 ^ 8 → AreRules as4 rules
+    → IsPrintable peers (values.Attrs a) → filtered me peer rules p (Some a) ≡ Some r → IsPrintable peers (values.Route r)
 
 -- A printed line has at most 65,536 bytes and its LF.
 abbrev pub PrintedLinesAreShort : Type 0

@@ -13,7 +13,7 @@ use Rattle.journal_text.specs.declared.entry.Entry.{Entry}
 use Rattle.journal_text.specs.declared.entry.Entry.TheVariants.{Begin, Inherit, Add, Delete, Replace, Asked, Weld, End}
 use Rattle.journal_text.specs.declared.line.Line.{Line}
 use Rattle.journal_text.specs.declared.line.Line.TheVariants.{Journal, Note, Row, Rows, Cover, Work, Bound, Idle, Ignored, Absent, Refused}
-use Rattle.journal_check.specs.Laws.{HasRanges, IsValue, IsLine}
+use Rattle.journal_check.specs.Laws.{IsValue, IsLine}
 
 -- ---- values that are short
 
@@ -58,6 +58,11 @@ IsTold peers (values.FibRow r) = IsAddressIfAny r.gateway
 pub record IsWellTold (peers : ℕ → Option Neighbour) (value : Value) : Type 0 where
   pub ranges : IsValue value
   pub told : IsTold peers value
+
+-- a value that can be printed
+pub record IsPrintable (peers : ℕ → Option Neighbour) (value : Value) : Type 0 where
+  pub well_told : IsWellTold peers value
+  pub short : HasShortText value
 
 -- ---- lines
 
@@ -114,9 +119,3 @@ pub record IsShortLine (line : Line) : Type 0 where
 pub record IsPrinted (peers : ℕ → Option Neighbour) (line : Line) : Type 0 where
   pub short : IsShortLine line
   pub told : AllByRecursion (IsTold peers) (values_in line)
-
--- attributes that can be printed
-pub record IsPrintable (a : Attrs) : Type 0 where
-  pub ranges : HasRanges a
-  pub addresses : HasAddresses a
-  pub fits : HasRoom a

@@ -4,18 +4,25 @@
 //! its range, its attributes are such that some message has room for them, and a route's sender is the peer of its number.
 //! Then the line is short enough to be read, and is read as it was meant ([`printed_lines_are_short`],
 //! [`printed_lines_are_read`]), no two values have one text ([`values_are_told`]), and so the walk over the texts is the walk
-//! over the values ([`texts_are_walked`]). Attributes that a peer said are such ([`what_was_read_is_printable`]). Together: of the
-//! text of lines whose entries obey the rules, nothing is to be said but that it is lawful ([`printed_is_lawful`]).
+//! over the values ([`texts_are_walked`]). Together: of the text of lines whose entries obey the rules, nothing is to be said but
+//! that it is lawful ([`printed_is_lawful`]). Attributes that a peer said are such, and what a filter makes of them
+//! ([`what_was_read_is_printable`], [`filtered_routes_are_printable`]).
 //!
 //! For the proofs of the crates above, which know that their lines are such. Each law is a function that does nothing, whose
 //! contract is the law.
 #![tactic(auto)]
 
-ghost use Rattle.journal_laws.specs.Laws.{ReadIsPrintable, PrintedLinesAreShort, PrintedLinesAreRead, ValuesAreTold, TextsAreWalked, TextsTellWalks, PrintedIsLawful, RefusedIsLawful, LawfulEndsLawful};
+ghost use Rattle.journal_laws.specs.Laws.{ReadIsPrintable, FilteredIsPrintable, PrintedLinesAreShort, PrintedLinesAreRead, ValuesAreTold, TextsAreWalked, TextsTellWalks, PrintedIsLawful, RefusedIsLawful, LawfulEndsLawful};
 
 /// Attributes that a peer said in a message can be printed.
 pub fn what_was_read_is_printable()
     ensures { ReadIsPrintable }
+{}
+
+/// What the incoming filter makes of attributes that can be printed is a route that can be printed: rules set numbers in their
+/// ranges alone, and the route is from the peer.
+pub fn filtered_routes_are_printable()
+    ensures { FilteredIsPrintable }
 {}
 
 /// A printed line has at most 65,536 bytes and its LF.
