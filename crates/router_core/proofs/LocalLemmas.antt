@@ -11,7 +11,8 @@ use Rattle.rib_merge.specs.Merging.{merged}
 use Rattle.rib_tree.specs.Branches.{org_rows}
 use Rattle.rib_tree.specs.Trees.{Treed, branch_of, low_rows, dyn_rows, int_rows, interior_distance}
 use Rattle.rib_tree.specs.Steps.{new_tree}
-use Rattle.rib_tree.specs.Forwards.{forwarded, rib_links}
+use Rattle.rib_merge.specs.Forwards.{forwarded}
+use Rattle.rib_tree.specs.Forwards.{rib_links}
 use Rattle.journal_text.specs.declared.link.Link.{Link}
 use Rattle.journal_text.specs.declared.link.Link.TheVariants.{Org, Lost, Low, Dyn, Int, Fib}
 use Rattle.journal_text.specs.declared.value.Value.{Value}

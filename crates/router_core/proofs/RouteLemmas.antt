@@ -26,7 +26,7 @@ use Rattle.rib_tree.specs.BranchSteps.{welded_branch, fed_branch}
 use Rattle.loss_chain.specs.Steps.{live_after, without}
 use Rattle.rib_tree.specs.Trees.{Treed, branch_of, put_branch, int_rows, IsTree, IsFull}
 use Rattle.rib_tree.specs.Falls.{FallsTree, LeadsTree, way_of_route}
-use Rattle.rib_tree.specs.Forwards.{forwarded}
+use Rattle.rib_merge.specs.Forwards.{forwarded}
 use Rattle.rib_tree.specs.Steps.{welded_tree, fed_tree, tree_weld_entries}
 use Rattle.router_core.specs.Moments.{with_rib, Moment, router_links}
 use Rattle.router_core.specs.Lives.{live_state, with_interior, with_losses, interior_fed}

@@ -25,7 +25,7 @@ use Rattle.rib_merge.specs.Merging.{merged}
 use Rattle.rib_tree.specs.Branches.{org_rows}
 use Rattle.loss_chain.specs.Tables.{rows_below as interiors_below, rows_above as interiors_above}
 use Rattle.rib_tree.specs.Trees.{branch_of, low_rows, dyn_rows, int_rows, interior_distance}
-use Rattle.rib_tree.specs.Forwards.{forwarded}
+use Rattle.rib_merge.specs.Forwards.{forwarded}
 use Rattle.router_core.specs.declared.router.Phase.TheVariants as phases
 use Rattle.peer_side.specs.Peers.{chain_at, links_by, routes_of, rules_of}
 use Rattle.router_core.specs.Moments.{Moment, rib_by, router_links}

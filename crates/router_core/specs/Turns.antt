@@ -31,7 +31,7 @@ use Rattle.loss_chain.specs.Steps.{table_of}
 use Rattle.rib_tree.specs.Trees.{Treed, branch_of, int_rows, tree_count, tree_tasks}
 use Rattle.rib_tree.specs.Steps.{welded_tree, swept_tree, tree_weld_entries, has_tree_turn}
 use Rattle.rib_tree.specs.Falls.{FallsTree, way_of_sweep}
-use Rattle.rib_tree.specs.Forwards.{forwarded}
+use Rattle.rib_merge.specs.Forwards.{forwarded}
 use Rattle.prefix_trie.specs.Width.{width}
 use Rattle.register_interest.specs.declared.interests.Interest.{Interest}
 use Rattle.register_interest.specs.Interests.{AreReached, without}

@@ -26,7 +26,7 @@ use Rattle.router_core.specs.Stands.{Stands}
 use Rattle.router_core.specs.Scratch.{IsExact}
 use Rattle.router_core.specs.declared.router.Phase.{Phase}
 use Rattle.rib_route.specs.declared.rows.FibRow.{FibRow}
-use Rattle.rib_tree.specs.Forwards.{ForwardsOn}
+use Rattle.rib_merge.specs.Forwards.{ForwardsOn}
 use Rattle.router_core.specs.Turns.{Registers, fib_entries, journal_lines, InPeers, FeedsAll, FallsRoute, phase_of, IsTurn, Turns, Runs, RunsPhase, RunsAll, has_work, phase_bound, IsOver, IsSettled}
 use Rattle.router_core.specs.Phases.{all_phases, counts, frame_of, Spends}
 use Rattle.router_core.specs.Blocks.{RunsFirst, Loses, Hears, Idles, IsBlock, ended as ended_moment}
