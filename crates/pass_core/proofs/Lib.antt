@@ -1,2 +1,3 @@
 pub mod SplitLemmas
 pub mod TurnLemmas
+pub mod LeftLemmas

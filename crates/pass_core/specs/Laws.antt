@@ -1,5 +1,5 @@
 -- Laws of a function that is changed in the background, for the crates above.
-use Rattle.std.specs.Prelude.{◌≡◌, Option, Some, None}
+use Rattle.std.specs.Prelude.{◌≡◌, ℕ, ◌+◌, ◌*◌, ◌<◌, ◌≤◌, true, false, is_some, Option, Some, None}
 use Rattle.addr4.specs.Prefixes.{Network}
 use Rattle.addr4.specs.Places.{IsBeyond}
 use Rattle.link_change.specs.Rows.{Rows, Candidates, IsNextCandidate, CoversRows, with_row, computed_rows}
@@ -10,6 +10,7 @@ use Rattle.link_change.specs.declared.turn.Turn.{Turn}
 use Rattle.pass_core.specs.Passed.{Passed, Walked, function_at, present, edited, stepped, finished}
 use Rattle.pass_core.specs.Split.{split, MakesNone}
 use Rattle.pass_core.specs.Turns.{passed, passed_rows, rows_by, IsPassedOn, Walks, IsWalked}
+use Rattle.pass_core.specs.Left.{CountsBeyond, turns_left}
 
 -- Without a walk the function in force holds at each prefix.
 abbrev pub HoldsEverywhere : Type 0 → Type 0
@@ -153,3 +154,28 @@ abbrev pub WalkLeads : Type 0 → Type 0 → Type 0 → Type 0
 WalkLeads F A B =
     (apply : F → Network → Option A → Option B) (candidates : Candidates) (upper : Rows A) (old new : Passed F) (turn : Turn B)
     → IsWalked apply candidates upper old new turn → IsTurned (passed_rows apply old upper) (passed_rows apply new upper) turn
+
+-- ---- how many turns are left, whatever counts the candidates
+-- After a turn fewer are left than before.
+abbrev pub WalkIsSpent : Type 0 → Type 0 → Type 0 → Type 0
+WalkIsSpent F A B =
+    (apply : F → Network → Option A → Option B) (candidates : Candidates) (upper : Rows A) (beyond : Option Network → ℕ) (old new : Passed F) (sent : Option (Change B))
+    → CountsBeyond candidates beyond → Walks apply candidates upper old new sent → turns_left beyond new < turns_left beyond old
+
+-- At most those of two whole walks are left.
+abbrev pub LeftIsBounded : Type 0 → Type 0
+LeftIsBounded F =
+    (candidates : Candidates) (beyond : Option Network → ℕ) (s : Passed F) → CountsBeyond candidates beyond
+    → turns_left beyond s ≤ 2 * (beyond None + 1)
+
+-- Some are left exactly while a walk is on.
+abbrev pub LeftWhileOn : Type 0 → Type 0
+LeftWhileOn F =
+    (beyond : Option Network → ℕ) (s : Passed F)
+    → (is_some s.walk ≡ true → 0 < turns_left beyond s) × (is_some s.walk ≡ false → turns_left beyond s ≡ 0)
+
+-- Where no more candidates lie beyond any place than before, no more are left.
+abbrev pub LeftFollows : Type 0 → Type 0
+LeftFollows F =
+    (before now : Option Network → ℕ) (s : Passed F) → ((place : Option Network) → now place ≤ before place)
+    → turns_left now s ≤ turns_left before s

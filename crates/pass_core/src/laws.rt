@@ -1,7 +1,7 @@
 //! Laws of a function that is changed in the background, for the proofs of the crates above. Each is a function that does
 //! nothing, whose contract is the law.
 
-ghost use Rattle.pass_core.specs.Laws.{HoldsEverywhere, HoldsBeyond, HoldsBehind, StepSetsBehind, StepKeepsBeyond, StepKeepsBehind, EditKeeps, FinishSets, FinishKeepsBehind, EditIsPresent, StepKeepsPresent, FinishKeepsPresent, SplitBegins, SplitBeyond, SplitBehind, SplitSteps, SplitSends, SplitEnds, ExactWithoutAWalk, EditKeepsRows, PassedIsCovered, ChangeIsPassedOn, StepWalks, EndWalks, WalkLeads};
+ghost use Rattle.pass_core.specs.Laws.{HoldsEverywhere, HoldsBeyond, HoldsBehind, StepSetsBehind, StepKeepsBeyond, StepKeepsBehind, EditKeeps, FinishSets, FinishKeepsBehind, EditIsPresent, StepKeepsPresent, FinishKeepsPresent, SplitBegins, SplitBeyond, SplitBehind, SplitSteps, SplitSends, SplitEnds, ExactWithoutAWalk, EditKeepsRows, PassedIsCovered, ChangeIsPassedOn, StepWalks, EndWalks, WalkLeads, WalkIsSpent, LeftIsBounded, LeftWhileOn, LeftFollows};
 
 /// At each prefix one function holds: the one in force, or up to the place of a walk the new one.
 pub fn one_function_holds<F>()
@@ -60,4 +60,12 @@ pub fn a_walk_leads<F, A, B>()
     ensures step { StepWalks F A B }
     ensures end { EndWalks F A B }
     ensures leads { WalkLeads F A B }
+{}
+
+/// How many turns a walk still takes: each turn leaves fewer, whatever counts the candidates.
+pub fn a_walk_ends<F, A, B>()
+    ensures spent { WalkIsSpent F A B }
+    ensures bounded { LeftIsBounded F }
+    ensures on { LeftWhileOn F }
+    ensures follows { LeftFollows F }
 {}

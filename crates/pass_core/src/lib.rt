@@ -11,7 +11,7 @@
 //!
 //! A stage that holds a [`Pass`] makes each row below from the one above by the function that holds there. What it passes on
 //! and what its turns do is said here once for all such stages, whatever a function is and makes of a row: over `apply`, an
-//! argument of the definitions. [`the_rows_below`] and [`a_walk_leads`] are their laws. [`a_step_changes_one_row`] is the
+//! argument of the definitions. [`the_rows_below`] and [`a_walk_leads`] are their laws, and [`a_walk_ends`] counts the turns. [`a_step_changes_one_row`] is the
 //! law below them, of any two functions and a place: stages whose functions themselves change during a walk, as answers for
 //! next hops do, stand on it. To ask the link above for rows and candidates is the stages' own work.
 #![tactic(auto)]
@@ -20,7 +20,8 @@ mod laws;
 mod pass;
 
 pub use laws::{
-    a_step_changes_one_row, a_step_sets_what_it_passes, a_walk_leads, an_edit_changes_nothing,
-    one_function_holds, the_end_sets_the_rest, the_latest_is_the_edited, the_rows_below,
+    a_step_changes_one_row, a_step_sets_what_it_passes, a_walk_ends, a_walk_leads,
+    an_edit_changes_nothing, one_function_holds, the_end_sets_the_rest, the_latest_is_the_edited,
+    the_rows_below,
 };
 pub use pass::Pass;
