@@ -1,0 +1,5 @@
+mod SessionLinks
+mod SaidLemmas
+mod LookupLemmas
+mod TurnLemmas
+mod LawLemmas
