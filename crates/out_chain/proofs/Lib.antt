@@ -2,4 +2,5 @@ mod SessionLinks
 mod SaidLemmas
 mod LookupLemmas
 mod TurnLemmas
+mod PassLemmas
 mod LawLemmas

@@ -25,6 +25,7 @@ use Rattle.pass_core.specs.Turns.{passed_rows, Walks}
 use Rattle.pass_core.specs.Left.{CountsBeyond, turns_left}
 use Rattle.pass_core.proofs.TurnLemmas.{a_walk_leads, an_edit_keeps_the_rows}
 use Rattle.pass_core.proofs.LeftLemmas.{walk_is_spent}
+use Rattle.filter_bank.specs.Outgoing.{first_walk}
 use Rattle.filter_bank.proofs.OutLemmas.{nothing_at_first}
 use Rattle.peer_out.specs.Remembered.{Exit}
 use Rattle.peer_out.specs.Changes.{IsSender}
@@ -49,10 +50,10 @@ use Rattle.out_chain.proofs.SessionLinks.{goes_down, begins, ends}
 
 -- ---- what a change, or none, does to rows, whatever its prefix is called
 
-no_prefix : Network
+abbrev no_prefix : Network
 no_prefix = record { address = 0; length = 0 }
 
-prefix_of : Option (Change Attrs) → Network
+abbrev prefix_of : Option (Change Attrs) → Network
 prefix_of None = no_prefix
 prefix_of (Some change) = change.prefix
 
@@ -95,7 +96,7 @@ said_all j mid end now outf adv line mid_is end_is now_is =
 
 -- ---- what the reader hasn't taken, before and after a turn
 module _ (queued left : Queued Route) (reader : ℕ) where
-  was_first : (change : Change Route) (takes : Takes queued left reader (Some change)) → unread_by queued reader ≡ change ∷ takes.0
+  pub was_first : (change : Change Route) (takes : Takes queued left reader (Some change)) → unread_by queued reader ≡ change ∷ takes.0
   was_first change takes = ap unread_or_none takes.1
 
   is_rest : (change : Change Route) (takes : Takes queued left reader (Some change)) → unread_by left reader ≡ takes.0
@@ -327,3 +328,23 @@ edit_stands c rules queued best was = record {
   heard = was.heard;
   unread = was.unread;
 }
+
+-- the same as the code makes it
+pub starts_leading_as : (exit : Exit) (filter : Passed (Option (List Rule))) (sent : FinMap prefix_cmp Attrs) (peer : Neighbour) (session reader : ℕ) (rules : List Rule) → filter ≡ first_walk rules → sent ≡ tables.empty
+    → (best : Rows Route) → LeadsFromBest peer.number best no_links (start_entries peer.number session) (out_links (record { exit = exit; peer = peer; session = session; reader = reader; filter = filter; sent = sent }) best)
+starts_leading_as exit filter sent peer session reader rules filter_is sent_is best =
+    let P : Passed (Option (List Rule)) → FinMap prefix_cmp Attrs → Type 0 = λ f s.
+    LeadsFromBest peer.number best no_links (start_entries peer.number session) (out_links (record { exit = exit; peer = peer; session = session; reader = reader; filter = f; sent = s }) best) in
+    subst (λ f. P f sent) (sym filter_is) (subst (P (first_walk rules)) (sym sent_is) (starts_leading exit peer session reader rules best))
+
+pub starts_standing_as : (profile : Profile) (me : Speaker) (exit : Exit) (filter : Passed (Option (List Rule))) (sent : FinMap prefix_cmp Attrs) (peer : Neighbour) (session reader : ℕ) (rules : List Rule) (queued joined : Queued Route)
+    → exit ≡ exit_to profile me peer → filter ≡ first_walk rules → sent ≡ tables.empty → joined ≡ tables.insert queued reader [] → IsSender profile me
+    → (best : Rows Route) → RowsMayBeHeard profile best → OutStands (record { exit = exit; peer = peer; session = session; reader = reader; filter = filter; sent = sent }) joined best
+starts_standing_as profile me exit filter sent peer session reader rules queued joined exit_is filter_is sent_is joined_is sender best heard =
+    let P : Exit → Passed (Option (List Rule)) → FinMap prefix_cmp Attrs → Queued Route → Type 0 = λ e f s q.
+    OutStands (record { exit = e; peer = peer; session = session; reader = reader; filter = f; sent = s }) q best in
+    subst (λ e. P e filter sent joined) (sym exit_is)
+    (subst (λ f. P (exit_to profile me peer) f sent joined) (sym filter_is)
+    (subst (λ s. P (exit_to profile me peer) (first_walk rules) s joined) (sym sent_is)
+    (subst (P (exit_to profile me peer) (first_walk rules) tables.empty) (sym joined_is)
+    (starts_standing profile me peer session reader rules queued best sender heard))))

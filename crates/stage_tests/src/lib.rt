@@ -1,4 +1,4 @@
-//! Stories of stages: a chain of live rows and deletion stages, the decision, outgoing filters, what a peer is sent, each
+//! Stories of stages: a chain of live rows and deletion stages, the decision, outgoing filters, what a peer is sent, a session, each
 //! public call on its happy path.
 //!
 //! The crates that these tests are of have none of their own: a crate with tests is proved once more with them.
@@ -14,3 +14,5 @@ mod exits;
 mod outgoing;
 #[cfg(test)]
 mod prefixes;
+#[cfg(test)]
+mod sessions;
