@@ -1,5 +1,5 @@
 -- The laws of outgoing chains.
-use Rattle.std.proofs.Common.{◌≡◌, ℕ, ◌+◌, ◌*◌, ◌<◌, ◌≤◌, cond, List, [], ◌∷◌, length, Option, Some, None, IsSome, refl, sym, ap, subst, ◌∙◌, arith}
+use Rattle.std.proofs.Common.{◌≡◌, ℕ, cond, List, [], ◌∷◌, length, Option, Some, None, IsSome, refl, sym, ap, subst, ◌∙◌, arith}
 use Rattle.std.specs.Option.{option_map, ForSome}
 use Rattle.std.specs.FinMap as map
 use Rattle.addr4.specs.Prefixes.{Network}
@@ -13,13 +13,13 @@ use Rattle.link_change.proofs.InOrderLemmas.{put_keeps_before, put_leads}
 use Rattle.link_change.specs.declared.change.Change.{Change}
 use Rattle.policy_rules.specs.declared.rule.Rule.{Rule}
 use Rattle.pass_core.specs.Passed.{Walked}
-use Rattle.pass_core.specs.Left.{walk_turns, turns_left}
+use Rattle.pass_core.specs.Left.{walk_turns}
 use Rattle.pass_core.proofs.TurnLemmas.{exact_without_a_walk}
 use Rattle.pass_core.proofs.LeftLemmas.{left_is_bounded}
 use Rattle.peer_out.specs.Changes.{MayBeHeard}
 use Rattle.fanout_queue.specs.Readers.{unread_or_none, unread_by, read_rows}
 use Rattle.fanout_queue.proofs.LeadLemmas.{put_keeps_read, put_keeps_readers}
-use Rattle.out_chain.specs.Chains.{OutChained, made_by, outf_rows, HasSent, RowsMayBeHeard, ChangesMayBeHeard}
+use Rattle.out_chain.specs.Chains.{made_by, outf_rows, HasSent, RowsMayBeHeard, ChangesMayBeHeard}
 use Rattle.out_chain.specs.Laws.{ExactWithoutWork, PutKeepsStanding, OthersKeepStanding, NoTurnsWithoutWork, OutTurnsAreBounded}
 
 pub exact_without_work : ExactWithoutWork

@@ -6,7 +6,7 @@ use Rattle.bgp_attr.specs.declared.attrs.Attrs.{Attrs}
 use Rattle.bgp_attr.specs.declared.route.Route.{Route}
 use Rattle.bgp_attr.specs.declared.speaker.Neighbour.{Neighbour}
 use Rattle.link_change.specs.Rows.{Rows, Candidates, with_row, no_rows}
-use Rattle.link_change.specs.Changes.{IsSent, ComputesOn}
+use Rattle.link_change.specs.Changes.{ComputesOn}
 use Rattle.link_change.specs.declared.change.Change.{Change}
 use Rattle.link_change.proofs.RowLemmas.{with_row_here}
 use Rattle.policy_rules.specs.declared.rule.Rule.{Rule}

@@ -1,5 +1,5 @@
 -- The links of a session beside others: how they begin, change and end.
-use Rattle.std.proofs.Common.{◌≡◌, ℕ, ◌==◌, ◌&&◌, Bool, true, false, cond, List, [], ◌∷◌, ◌++◌, Option, Some, None, IsSome, refl, sym, ap, subst, ◌∙◌}
+use Rattle.std.proofs.Common.{◌≡◌, ℕ, ◌==◌, ◌&&◌, Bool, true, false, cond, [], ◌∷◌, ◌++◌, Option, Some, None, IsSome, refl, sym, subst}
 use Rattle.std.proofs.lemmas.Bool.{eq-eqb}
 use Rattle.addr4.specs.Prefixes.{Network}
 use Rattle.bgp_attr.specs.declared.attrs.Attrs.{Attrs}
@@ -8,10 +8,8 @@ use Rattle.link_change.specs.Rows.{Rows, no_rows}
 use Rattle.link_change.specs.Changes.{IsSent}
 use Rattle.link_change.specs.declared.change.Change.{Change}
 use Rattle.link_change.proofs.RowLemmas.{same_function}
-use Rattle.journal_text.specs.declared.link.Link.{Link}
 use Rattle.journal_text.specs.declared.link.Link.TheVariants.{Best, Read, Outf, Adv}
 use Rattle.journal_text.specs.declared.value.Value.{Value}
-use Rattle.journal_text.specs.declared.entry.Entry.{Entry}
 use Rattle.journal_text.specs.declared.entry.Entry.TheVariants.{Inherit, Begin, End}
 use Rattle.journal_text.specs.Walk.{Links, Leads, no_links, with_link}
 use Rattle.journal_text.specs.Values.{route_rows, attrs_rows, route_value, attrs_value, sent_entries}

@@ -21,8 +21,8 @@ use Rattle.link_change.proofs.InOrderLemmas.{take_sends, take_leads}
 use Rattle.link_change.proofs.RowLemmas.{empty_rows}
 use Rattle.policy_rules.specs.declared.rule.Rule.{Rule}
 use Rattle.pass_core.specs.Passed.{Passed}
-use Rattle.pass_core.specs.Turns.{passed_rows, Walks}
-use Rattle.pass_core.specs.Left.{CountsBeyond, turns_left}
+use Rattle.pass_core.specs.Turns.{Walks}
+use Rattle.pass_core.specs.Left.{turns_left}
 use Rattle.pass_core.proofs.TurnLemmas.{a_walk_leads, an_edit_keeps_the_rows}
 use Rattle.pass_core.proofs.LeftLemmas.{walk_is_spent}
 use Rattle.filter_bank.specs.Outgoing.{first_walk}
@@ -44,7 +44,7 @@ use Rattle.journal_text.specs.Walk.{Leads, no_links}
 use Rattle.journal_text.specs.Values.{route_value, route_rows, attrs_rows, sent_entries}
 use Rattle.journal_text.specs.declared.link.Link.TheVariants.{Read}
 use Rattle.journal_text.proofs.JournalLemmas.{as_lines, with_lines_append, as_lines_append}
-use Rattle.out_chain.specs.Chains.{OutChained, form_of, made_by, outf_rows, session_links, out_links, beside_out, IsOutChain, HasSent, RowsMayBeHeard, ChangesMayBeHeard, OutStands, out_turns_left}
+use Rattle.out_chain.specs.Chains.{OutChained, form_of, made_by, outf_rows, session_links, out_links, beside_out, HasSent, RowsMayBeHeard, ChangesMayBeHeard, OutStands}
 use Rattle.out_chain.specs.Steps.{exit_to, new_out, start_entries, stop_entries, LeadsOut, LeadsFromBest, with_rules, sent_after, with_sent, with_filter, read_entries, sending_entries, message_lines, said_of, IsTold, GoesOut, PassesOut, WalksOut, IsWalkedOut, ReadsFirst, WalksNext, TurnsOut, AddsLines, IsOutTurn}
 use Rattle.out_chain.proofs.SessionLinks.{goes_down, begins, ends}
 

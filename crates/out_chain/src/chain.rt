@@ -158,10 +158,7 @@ impl OutChain {
     {
         let link = Link::Read(u32::from(self.peer.number), self.session);
         journal.push_change(link, &change)?;
-        match self
-            .filter
-            .take_in(change, &mut self.to_peer, &self.peer)?
-        {
+        match self.filter.take_in(change, &mut self.to_peer, &self.peer)? {
             None => Ok(None),
             Some(sent) => {
                 let sent = self.send(sent, journal)?;
@@ -180,10 +177,7 @@ impl OutChain {
         requires heard { RowsMayBeHeard self.old.exit.profile (U.rows best.now) }
         ensures { IfOk result (IsWalkedOut self.old self.new (U.candidates best.now) (U.rows best.now) journal.old journal.new) }
     {
-        match self
-            .filter
-            .unit(best, &mut self.to_peer, &self.peer)?
-        {
+        match self.filter.unit(best, &mut self.to_peer, &self.peer)? {
             Turn::Nothing => Ok(Turn::Nothing),
             Turn::Quiet => Ok(Turn::Quiet),
             Turn::Sent(change) => {
@@ -235,8 +229,9 @@ impl OutChain {
         ensures { (read : Rows Route) → result ≡ is_some (out_links self.now read link) }
     {
         match link {
-            Link::Read(number, session) | Link::Outf(number, session) | Link::Adv(number, session) =>
-                number == self.number() && session == self.session,
+            Link::Read(number, session)
+            | Link::Outf(number, session)
+            | Link::Adv(number, session) => number == self.number() && session == self.session,
             _ => false,
         }
     }

@@ -1,5 +1,4 @@
 use Rattle.std.proofs.Common.{◌≡◌, ap}
-use Rattle.peer_out.specs.Remembered.{Exit}
 use Rattle.out_chain.specs.declared.to_peer.ToPeer.{ToPeer}
 use Rattle.out_chain.proofs.PassLemmas.{passed_may_be_said, passes_none, passes_some}
 use Rattle.out_chain.proofs.chain.OutChain.pass_on.Goals as goal

@@ -1,5 +1,3 @@
-use Rattle.std.proofs.Common.{sym, subst}
-use Rattle.fanout_queue.specs.Readers.{KeepsOtherReaders}
 use Rattle.out_chain.proofs.TurnLemmas.{leave_keeps_others}
 use Rattle.out_chain.proofs.chain.OutChain.stop.Goals as goal
 
