@@ -11,6 +11,8 @@ mod decisions;
 #[cfg(test)]
 mod exits;
 #[cfg(test)]
+mod forwarding;
+#[cfg(test)]
 mod outgoing;
 #[cfg(test)]
 mod prefixes;
