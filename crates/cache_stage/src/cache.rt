@@ -1,6 +1,6 @@
 //! Caches.
 
-ghost use Rattle.std.specs.Prelude.{◌≡◌, IfOk, OnOk, OnErr};
+ghost use Rattle.std.specs.Prelude.{◌≡◌, IfOk, OnOk, OnErr, IsOk, None};
 ghost use Rattle.std.specs.FinMap as map;
 ghost use Rattle.link_change.specs.Rows.{with_rows};
 ghost use Rattle.cache_stage.specs.Caches.{CachesOn, kept_after};
@@ -52,8 +52,11 @@ impl<R: Row> Cache<R> {
         Ok(change)
     }
 
-    fn keep(&mut self, prefix: Prefix, after: &Option<R>) -> Result<(), Memory>
+    /// Makes the row the one that it keeps at a prefix, or keeps none there, which takes no memory. For want of memory no row
+    /// changes.
+    pub fn keep(&mut self, prefix: Prefix, after: &Option<R>) -> Result<(), Memory>
         ensures ok { OnOk result (self.new ≡ kept_after self.old prefix after.now) }
+        ensures none { after.now ≡ None → IsOk result }
         ensures memory { OnErr result (self.new ≡ self.old) }
     {
         match after {

@@ -3,7 +3,7 @@
 ghost use Rattle.std.specs.Prelude.{◌≡◌, ◌↔◌, IsTrue};
 
 use addr4::{Addr, Memory, Prefix};
-use nexthop_known::{Answer, Known};
+use nexthop_known::{Answer, Known, Tallies};
 use std::alloc::Global;
 use std::test::Fail;
 
@@ -17,15 +17,39 @@ impl Answer for Metric {
     }
 }
 
+fn learn(
+    known: &mut Known<Metric>,
+    hop: Addr,
+    subnet: Prefix,
+    metric: u32,
+) -> Result<(), Memory> {
+    if known.in_force(hop).is_none() {
+        known.learn(hop, subnet, Metric(metric))?;
+    }
+    Ok(())
+}
+
+fn answer(
+    known: &mut Known<Metric>,
+    hop: Addr,
+    subnet: Prefix,
+    metric: u32,
+) -> Result<(), Memory> {
+    if known.is_stale(hop) {
+        known.fresh(hop, subnet, Metric(metric))?;
+    }
+    Ok(())
+}
+
 /// Two next hops in one subnet and one in another.
 fn learn_three(
     known: &mut Known<Metric>,
     hops: [Addr; 3],
     subnets: [Prefix; 3],
 ) -> Result<(), Memory> {
-    known.learn(hops[1], subnets[0], Metric(10))?;
-    known.learn(hops[0], subnets[0], Metric(10))?;
-    known.learn(hops[2], subnets[1], Metric(30))
+    learn(known, hops[1], subnets[0], 10)?;
+    learn(known, hops[0], subnets[0], 10)?;
+    learn(known, hops[2], subnets[1], 30)
 }
 
 /// What is stale after each step: two next hops of three go stale, the lesser is answered anew as before, and the greater
@@ -38,11 +62,9 @@ fn stale_ones(
     let none = known.next_stale();
     known.stale(subnets[0]);
     let first = known.next_stale();
-    known.learn(hops[0], subnets[2], Metric(10))?;
+    answer(known, hops[0], subnets[2], 10)?;
     let second = known.next_stale();
-    if known.in_force(hops[1]).is_some() {
-        known.fresh(hops[1], subnets[2], Metric(20))?;
-    }
+    answer(known, hops[1], subnets[2], 20)?;
     let last = known.next_stale();
     Ok([none, first, second, last])
 }
@@ -109,5 +131,24 @@ fn the_story_of_three_next_hops(rt: HostRuntime) -> Result<(), Fail> {
     assert!(rt; story.after == [Some(20), Some(20)]);
     assert!(rt; story.given_up == [None, Some(narrow), None]);
     assert!(rt; story.known == 1);
+    Ok(())
+}
+
+/// Which calls say so that a next hop has its first row, or its only one goes: two rows name the one, then one the other.
+fn firsts(alloc: Global, one: Addr, other: Addr) -> Result<[bool; 6], Memory> {
+    let mut tallies = Tallies::new(alloc);
+    let first = tallies.one_more(one)?;
+    let second = tallies.one_more(one)?;
+    let another = tallies.one_more(other)?;
+    let not_last = tallies.one_less(one);
+    let last = tallies.one_less(one);
+    let none = tallies.one_less(one);
+    Ok([first, second, another, not_last, last, none])
+}
+
+#[test]
+fn the_first_row_and_the_last(rt: HostRuntime) -> Result<(), Fail> {
+    let told = firsts(rt.alloc(), Addr::new(1), Addr::new(2))?;
+    assert!(rt; told == [true, false, true, false, true, false]);
     Ok(())
 }

@@ -11,8 +11,8 @@ use Rattle.addr4.specs.Places.{IsBeyond}
 use Rattle.addr4.proofs.PrefixOrder.{prefixes_total, one_prefix, itself}
 use Rattle.bgp_attr.specs.declared.attrs.Attrs.{Attrs}
 use Rattle.link_change.specs.Rows.{IsNextCandidate, with_rows}
-use Rattle.deletion_stage.specs.Lost.{Lost}
-use Rattle.deletion_stage.specs.Covering.{row_over}
+use Rattle.loss_chain.specs.Lost.{Lost}
+use Rattle.loss_chain.specs.Covering.{row_over}
 use Rattle.policy_rules.specs.declared.rule.Rule.{Rule}
 use Rattle.pass_core.specs.Passed.{Passed, Walked, is_beyond, walk_of_waiting, walk_stepped, after_walk}
 use Rattle.pass_core.specs.Turns.{walked_on}

@@ -9,7 +9,7 @@ use Rattle.bgp_attr.specs.declared.route.Route.{Route}
 use Rattle.bgp_attr.specs.declared.speaker.Speaker.{Speaker}
 use Rattle.bgp_attr.specs.declared.speaker.Neighbour.{Neighbour}
 use Rattle.link_change.specs.Rows.{Rows, Candidates}
-use Rattle.deletion_stage.specs.Lost.{Lost}
+use Rattle.loss_chain.specs.Lost.{Lost}
 use Rattle.policy_rules.specs.declared.rule.Rule.{Rule}
 use Rattle.pass_core.specs.Passed.{Passed, Walked, is_beyond}
 use Rattle.filter_bank.specs.Filtered.{passed_rows}

@@ -4,7 +4,7 @@ use Rattle.addr4.specs.Prefixes.{Network}
 use Rattle.bgp_attr.specs.declared.attrs.Attrs.{Attrs}
 use Rattle.bgp_attr.specs.declared.route.Route.{Route}
 use Rattle.link_change.specs.declared.change.Change.{Change}
-use Rattle.deletion_stage.specs.Lost.{Lost}
+use Rattle.loss_chain.specs.Lost.{Lost}
 use Rattle.journal_text.specs.declared.link.Link.{Link}
 use Rattle.journal_text.specs.declared.link.Link.TheVariants.{In, Peer, Filt}
 use Rattle.journal_text.specs.declared.value.Value.{Value}

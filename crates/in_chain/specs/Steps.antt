@@ -12,7 +12,7 @@ use Rattle.link_change.specs.Changes.{IsSent}
 use Rattle.link_change.specs.declared.change.Change.{Change}
 use Rattle.link_change.specs.declared.turn.Turn.{Turn}
 use Rattle.link_change.specs.declared.turn.Turn.TheVariants.{Nothing, Quiet, Sent}
-use Rattle.deletion_stage.specs.Covering.{IsLeastRow}
+use Rattle.loss_chain.specs.Covering.{IsLeastRow}
 use Rattle.policy_rules.specs.declared.rule.Rule.{Rule}
 use Rattle.pass_core.specs.Passed.{edited}
 use Rattle.filter_bank.specs.Walks.{Walks}

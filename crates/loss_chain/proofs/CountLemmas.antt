@@ -7,9 +7,9 @@ use Rattle.addr4.specs.Prefixes.{Network, prefix_cmp}
 use Rattle.addr4.proofs.PrefixOrder.{prefixes_total, by_prefix, itself}
 use Rattle.link_change.specs.Rows.{Rows, with_row}
 use Rattle.link_change.proofs.RowLemmas.{same_function, rows_inserted, rows_removed, with_row_here}
-use Rattle.deletion_stage.specs.Lost.{Lost}
-use Rattle.deletion_stage.specs.Covering.{row_over, covered, AreApart}
-use Rattle.deletion_stage.proofs.CoverLemmas.{nothing_covers, apart_delete}
+use Rattle.loss_chain.specs.Lost.{Lost}
+use Rattle.loss_chain.specs.Covering.{row_over, covered, AreApart}
+use Rattle.loss_chain.proofs.CoverLemmas.{nothing_covers, apart_delete}
 use Rattle.loss_chain.specs.Tables.{rows_below, AreAllApart, lost_count}
 use Rattle.loss_chain.specs.Laws.{Counts}
 use Rattle.loss_chain.proofs.TurnLemmas.{one_less}

@@ -8,8 +8,8 @@ use Rattle.addr4.specs.Prefixes.{Network, prefix_cmp}
 use Rattle.addr4.proofs.PrefixOrder.{by_prefix}
 use Rattle.link_change.specs.Rows.{Rows, is_empty_map}
 use Rattle.link_change.proofs.RowLemmas.{rows_inserted, rows_removed}
-use Rattle.deletion_stage.specs.Lost.{Lost}
-use Rattle.deletion_stage.specs.Covering.{row_over}
+use Rattle.loss_chain.specs.Lost.{Lost}
+use Rattle.loss_chain.specs.Covering.{row_over}
 use Rattle.loss_chain.specs.Tables.{Tables, rows_below, lowest_rows}
 use Rattle.loss_chain.specs.Rows.{IsLostRow, IsRow, AllRows}
 use Rattle.loss_chain.specs.Steps.{no_tables, live_after, without, deletions_after, fed_tables, lost_tables, welded_tables, swept_one, swept_tables}

@@ -1,3 +1,4 @@
+pub mod CoverLemmas
 pub mod OwnerLemmas
 pub mod RowLemmas
 pub mod ListLemmas
@@ -7,3 +8,4 @@ pub mod WholeLemmas
 pub mod WorkLemmas
 pub mod CountLemmas
 pub mod TurnLemmas
+pub mod TableLemmas

@@ -1,7 +1,7 @@
 -- What holds of each element of a list.
 use Rattle.std.proofs.Common.{◌++◌, Bool, true, false, cond, List, [], ◌∷◌}
 use Rattle.std.specs.Prelude.{map, filter}
-use Rattle.std.specs.List.{AllByRecursion}
+use Rattle.std.specs.List.{AllByRecursion, flat_map}
 
 module _ {X : Type 0} (P : X → Type 0) where
   pub all_mapped : (f : X → X) → ((x : X) → P x → P (f x)) → (xs : List X) → AllByRecursion P xs → AllByRecursion P (map f xs)
@@ -16,3 +16,25 @@ module _ {X : Type 0} (P : X → Type 0) where
   pub all_appended : (Q : X → Type 0) → ((x : X) → P x → Q x) → (xs : List X) (last : X) → AllByRecursion P xs → Q last → AllByRecursion Q (xs ++ last ∷ [])
   all_appended Q weaker [] last all is = (is, tt)
   all_appended Q weaker (x ∷ xs) last all is = (weaker x all.0, all_appended Q weaker xs last all.1 is)
+
+-- what each element is, all are
+pub all_any : {X : Type 0} (P : X → Type 0) → ((x : X) → P x) → (xs : List X) → AllByRecursion P xs
+all_any P each [] = tt
+all_any P each (x ∷ xs) = (each x, all_any P each xs)
+
+pub all_so : {X : Type 0} (P Q : X → Type 0) → ((x : X) → P x → Q x) → (xs : List X) → AllByRecursion P xs → AllByRecursion Q xs
+all_so P Q to [] all = tt
+all_so P Q to (x ∷ xs) all = (to x all.0, all_so P Q to xs all.1)
+
+pub all_both : {X : Type 0} (P : X → Type 0) (xs ys : List X) → AllByRecursion P xs → AllByRecursion P ys → AllByRecursion P (xs ++ ys)
+all_both P [] ys p q = q
+all_both P (x ∷ xs) ys p q = (p.0, all_both P xs ys p.1 q)
+
+-- of what is made of each element
+pub all_made : {A X : Type 0} (P : X → Type 0) (f : A → X) (xs : List A) → AllByRecursion (λ a. P (f a)) xs → AllByRecursion P (map f xs)
+all_made P f [] all = tt
+all_made P f (x ∷ xs) all = (all.0, all_made P f xs all.1)
+
+pub all_flat : {A X : Type 0} (P : X → Type 0) (f : A → List X) (xs : List A) → AllByRecursion (λ a. AllByRecursion P (f a)) xs → AllByRecursion P (flat_map f xs)
+all_flat P f [] all = tt
+all_flat P f (x ∷ xs) all = all_both P (f x) (flat_map f xs) all.0 (all_flat P f xs all.1)

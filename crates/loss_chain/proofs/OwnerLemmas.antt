@@ -1,7 +1,7 @@
 -- The names of an owner's links.
 use Rattle.std.proofs.Common.{◌≡◌, ℕ, ◌+◌, List, true, refl, sym, subst}
 use Rattle.std.proofs.lemmas.Bool.{eq-eqb}
-use Rattle.deletion_stage.specs.Lost.{Lost}
+use Rattle.loss_chain.specs.Lost.{Lost}
 use Rattle.rib_route.specs.declared.Proto.{Proto}
 use Rattle.rib_route.specs.declared.Proto.TheVariants.{Connected, Static, Ospf, Rip}
 use Rattle.journal_text.specs.Links.{rank_of}

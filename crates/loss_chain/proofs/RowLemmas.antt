@@ -7,8 +7,8 @@ use Rattle.link_change.specs.Rows.{Rows, with_rows, together, Candidates, IsNext
 use Rattle.link_change.specs.Changes.{IsSent}
 use Rattle.link_change.specs.declared.change.Change.{Change}
 use Rattle.link_change.proofs.RowLemmas.{remove_absent, rows_inserted, same_function, with_row_here}
-use Rattle.deletion_stage.specs.Lost.{Lost}
-use Rattle.deletion_stage.specs.Covering.{row_over, covered, AreApart}
+use Rattle.loss_chain.specs.Lost.{Lost}
+use Rattle.loss_chain.specs.Covering.{row_over, covered, AreApart}
 use Rattle.loss_chain.specs.Tables.{Tables, rows_below, lowest_rows}
 use Rattle.loss_chain.specs.Steps.{fed_tables, without}
 use Rattle.loss_chain.specs.Parts.{lowered}

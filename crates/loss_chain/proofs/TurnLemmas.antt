@@ -7,7 +7,7 @@ use Rattle.std.specs.FinMap.{FinMap, len-remove, len-empty, empty_of_len, get-em
 use Rattle.addr4.specs.Prefixes.{Network, prefix_cmp}
 use Rattle.addr4.proofs.PrefixOrder.{prefixes_total}
 use Rattle.link_change.specs.Rows.{is_empty_map}
-use Rattle.deletion_stage.specs.Lost.{Lost}
+use Rattle.loss_chain.specs.Lost.{Lost}
 use Rattle.loss_chain.specs.Tables.{AreRising, lost_count, tables_count}
 use Rattle.loss_chain.specs.Steps.{without, table_of, swept_one}
 use Rattle.loss_chain.proofs.WholeLemmas.{rising_all}

@@ -12,7 +12,7 @@ use Rattle.link_change.specs.declared.change.Change.{Change}
 use Rattle.link_change.specs.declared.turn.Turn.{Turn}
 use Rattle.link_change.specs.declared.turn.Turn.TheVariants.{Nothing, Quiet, Sent}
 use Rattle.link_change.proofs.RowLemmas.{same_function}
-use Rattle.deletion_stage.specs.Lost.{Lost}
+use Rattle.loss_chain.specs.Lost.{Lost}
 use Rattle.journal_text.specs.declared.link.Link.{Link}
 use Rattle.journal_text.specs.declared.link.Link.TheVariants as names
 use Rattle.journal_text.specs.declared.value.Value.{Value}

@@ -13,9 +13,9 @@ use Rattle.link_change.specs.declared.turn.Turn.{Turn}
 use Rattle.link_change.specs.declared.turn.Turn.TheVariants.{Nothing, Quiet, Sent}
 use Rattle.link_change.specs.Turns.{taken_turn}
 use Rattle.link_change.proofs.RowLemmas.{empty_rows}
-use Rattle.deletion_stage.proofs.CoverLemmas.{covered_nothing}
-use Rattle.deletion_stage.specs.Lost.{Lost}
-use Rattle.deletion_stage.specs.Covering.{row_over, covered, DeletesOn, IsLeastRow}
+use Rattle.loss_chain.proofs.CoverLemmas.{covered_nothing}
+use Rattle.loss_chain.specs.Lost.{Lost}
+use Rattle.loss_chain.specs.Covering.{row_over, covered, DeletesOn, IsLeastRow}
 use Rattle.journal_text.specs.Links.{rank_of}
 use Rattle.journal_text.specs.declared.link.Link.{Link}
 use Rattle.journal_text.specs.declared.entry.Entry.TheVariants.{Begin, Weld}

@@ -1,3 +1,5 @@
+pub mod Lost
+pub mod Covering
 pub mod Owners
 pub mod Tables
 pub mod Rows

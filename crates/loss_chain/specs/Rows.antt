@@ -2,7 +2,7 @@
 use Rattle.std.specs.Prelude.{◌≡◌, ◌⊎◌, List, [], ◌∷◌, Some}
 use Rattle.std.specs.FinMap as map
 use Rattle.addr4.specs.Prefixes.{Network}
-use Rattle.deletion_stage.specs.Lost.{Lost}
+use Rattle.loss_chain.specs.Lost.{Lost}
 use Rattle.loss_chain.specs.Tables.{Tables}
 
 -- a row at a prefix, in one of these lost tables

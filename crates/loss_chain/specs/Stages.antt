@@ -3,7 +3,7 @@ use Rattle.std.specs.Prelude.{ℕ, ◌==◌, if◌then◌else◌, List, [], ◌�
 use Rattle.std.specs.FinMap.{FinMap}
 use Rattle.addr4.specs.Prefixes.{prefix_cmp}
 use Rattle.link_change.specs.Rows.{Rows, Candidates, with_rows}
-use Rattle.deletion_stage.specs.Lost.{Lost}
+use Rattle.loss_chain.specs.Lost.{Lost}
 use Rattle.loss_chain.specs.Tables.{Tables, rows_below, lowest_rows}
 use Rattle.loss_chain.specs.declared.stage.Stage.{Stage, Top, Deletion'}
 

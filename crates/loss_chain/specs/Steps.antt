@@ -8,8 +8,8 @@ use Rattle.link_change.specs.Changes.{IsSent}
 use Rattle.link_change.specs.declared.change.Change.{Change}
 use Rattle.link_change.specs.declared.turn.Turn.{Turn}
 use Rattle.link_change.specs.declared.turn.Turn.TheVariants.{Nothing, Quiet, Sent}
-use Rattle.deletion_stage.specs.Lost.{Lost}
-use Rattle.deletion_stage.specs.Covering.{IsLeastRow}
+use Rattle.loss_chain.specs.Lost.{Lost}
+use Rattle.loss_chain.specs.Covering.{IsLeastRow}
 use Rattle.journal_text.specs.declared.link.Link.{Link}
 use Rattle.journal_text.specs.declared.link.Task.{Task}
 use Rattle.journal_text.specs.declared.value.Value.{Value}
@@ -86,6 +86,11 @@ pub record SweepsTables {R : Type 0} (value : R → Value) (o : Owner) (old new 
 abbrev pub oldest_of : {R : Type 0} → Owner → List (Lost R) → Option Task
 oldest_of o [] = None
 oldest_of o (d ∷ ds) = Some (loss_task o d.number)
+
+-- the first of some tasks
+abbrev pub first_task : List Task → Option Task
+first_task [] = None
+first_task (task ∷ tasks) = Some task
 
 -- the stage that has to go before another one may come: where 16 stand, and the table to be lost isn't empty
 abbrev pub overdue_of : {R : Type 0} → Owner → Tables R → Option Task

@@ -7,8 +7,8 @@ use Rattle.std.specs.FinMap as map
 use Rattle.std.specs.FinMap.{FinMap}
 use Rattle.addr4.specs.Prefixes.{prefix_cmp, network_code}
 use Rattle.link_change.specs.Rows.{Rows, is_empty_map}
-use Rattle.deletion_stage.specs.Lost.{Lost, lost_code}
-use Rattle.deletion_stage.specs.Covering.{covered, AreApart}
+use Rattle.loss_chain.specs.Lost.{Lost, lost_code}
+use Rattle.loss_chain.specs.Covering.{covered, AreApart}
 use Rattle.journal_text.specs.declared.link.Link.TheVariants as names
 use Rattle.journal_text.specs.declared.value.Value.{Value}
 use Rattle.journal_text.specs.Walk.{Links}

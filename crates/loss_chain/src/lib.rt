@@ -6,6 +6,11 @@
 //! below the top, in one step whatever its size, and the new link begins. When a table is empty, its stage is taken out, and
 //! the link above it is welded into the one below.
 //!
+//! A deletion stage is a [`Deletion`]. Nothing is sent where it is spliced in: the rows on the link below it are those of the lost
+//! table and, at every other prefix, those on the link above. From then on each turn of background work takes the least row
+//! out and sends its delete. A new row from above at a prefix that is still in the table takes that row's place: below it is
+//! a replacement, never a second add.
+//!
 //! The chain doesn't know whose it is: each call is told its [`Owner`], who names the links and numbers the losses. What a row
 //! is on a line of the journal, it says itself ([`Valued`](journal_text::Valued)).
 //!
@@ -18,6 +23,7 @@
 #![tactic(auto)]
 
 mod chain;
+mod deletion;
 mod laws;
 mod live;
 mod lookup;
@@ -26,6 +32,7 @@ mod splice;
 mod stage;
 
 pub use chain::LossChain;
+pub use deletion::Deletion;
 pub use laws::{each_row_is_fed, rows_are_counted, turns_take_rows};
 pub use live::Live;
 pub use owner::Owner;

@@ -13,11 +13,11 @@ ghost use Rattle.loss_chain.specs.Steps.{fed_tables, lost_tables, loss_entries, 
 ghost use Rattle.loss_chain.specs.Stages.{tables_of, deletions_of, rows_of};
 ghost use Rattle.loss_chain.specs.Parts.{IsSound, FallsOver, LeadsOver, IsTakenOver, filled_once};
 
+use crate::deletion::Deletion;
 use crate::live::Live;
 use crate::owner::Owner;
 use crate::splice::{fresh_top, set_live, splice_out};
 use addr4::{Memory, Prefix};
-use deletion_stage::Deletion;
 use journal_text::{Entry, Journal, Link, Valued};
 use link_change::{Change, Turn};
 use std::alloc::Global;

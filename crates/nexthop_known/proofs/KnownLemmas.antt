@@ -1,5 +1,5 @@
 -- What the fields of the known next hops mean for the map that contracts see.
-use Rattle.std.proofs.Common.{◌≡◌, ◌↔◌, ℕ, ◌<◌, Bool, true, false, not, ◌&&◌, ◌||◌, List, [], ◌∷◌, length, arith, refl, sym, ap, ◌∙◌, subst, inl, inr, Option, Some, None, is_some, MatchBool}
+use Rattle.std.proofs.Common.{◌≡◌, ◌↔◌, ℕ, ◌<◌, Bool, true, false, not, ◌&&◌, ◌||◌, List, [], ◌∷◌, length, arith, refl, sym, ap, ◌∙◌, subst, inl, inr, Option, Some, None, is_some, MatchBool, MatchOption}
 use Rattle.std.specs.Option.{option_map}
 use Rattle.std.specs.List.{list_any}
 use Rattle.std.specs.Ordering.{nat_cmp, is_eq}
@@ -7,6 +7,7 @@ use Rattle.std.specs.Cmp.{nat_cmp_total, tied_itself}
 use Rattle.std.specs.BTreeMap.{BTreeMap, is_at}
 use Rattle.std.specs.BTreeMap as tree
 use Rattle.std.specs.BTreeSet.{BTreeSet, btree_set_len}
+use Rattle.std.specs.BTreeSet as set
 use Rattle.std.specs.FinMap.{from_entries}
 use Rattle.std.specs.FinMap as map
 use Rattle.std.proofs.lemmas.Bool.{cases_lt, and_parts}
@@ -14,8 +15,8 @@ use Rattle.addr4.specs.Places.{IsNextRow}
 use Rattle.addr4.specs.Prefixes.{Network}
 use Rattle.nexthop_known.specs.declared.answer.Hop.{Hop}
 use Rattle.nexthop_known.specs.declared.index.Holding.{Holding}
-use Rattle.nexthop_known.specs.Hops.{Hops, is_with, IsMapped, IsLeastStale, IsSettled, IsDiffering, IsUnshared}
-use Rattle.nexthop_known.specs.Ties.{came_at, is_stale_at, IsSettledAt, AreTied, AreTold, Marks, host, is_host, Maps, IsFreed}
+use Rattle.nexthop_known.specs.Hops.{Hops, is_with, came_at, is_stale_at, IsWithSome, IsWithNone, IsMapped, IsLeastStale, IsSettled, IsDiffering, IsUnshared}
+use Rattle.nexthop_known.specs.Ties.{holding_cmp, IsSettledAt, AreTied, AreTold, Marks, host, is_host, Maps, IsFreed, IsHeldByNone}
 use Rattle.nexthop_known.proofs.HopLemmas.{same_self}
 use Rattle.nexthop_known.proofs.MarkLemmas.{host_is, host_before}
 use Rattle.nexthop_known.proofs.TieLemmas.{found_with}
@@ -47,6 +48,25 @@ module _ {A : Type 0} where
         let told = sym (is.1 a) ∙ tied.held_is (record { subnet = s; hop = a }) ∙ ap (λ o. is_with s (came_at o)) here ∙ ap (is_with s) with_s ∙ same_self s in
         let clash : false ≡ true = told in cc,
   )
+
+  -- ---- whether the answer of one came with a subnet
+
+  none_with : (m : BTreeMap ℕ (Hop A)) (stale : Marks) (held : BTreeSet Holding) (now : Hops A) (s : Network) → AreTied m stale held → from_entries m.entries ≡ now → IsHeldByNone held s → IsWithNone (map.get now) s
+  none_with m stale held now s tied view none = λ a h e with_s.
+      let here : tree.get nat_cmp m a ≡ Some h = sym (read_in nat_cmp_total m now a view) ∙ e in
+      let told = sym (none a) ∙ tied.held_is (record { subnet = s; hop = a }) ∙ ap (λ o. is_with s (came_at o)) here ∙ ap (is_with s) with_s ∙ same_self s in
+      let clash : false ≡ true = told in cc
+
+  some_with : (m : BTreeMap ℕ (Hop A)) (stale : Marks) (held : BTreeSet Holding) (now : Hops A) (s : Network) (a : ℕ) → AreTied m stale held → from_entries m.entries ≡ now
+      → set.contains holding_cmp held (record { subnet = s; hop = a }) ≡ true → IsWithSome (map.get now) s
+  some_with m stale held now s a tied view has =
+      let found = found_with s (tree.get nat_cmp m a) (sym (tied.held_is (record { subnet = s; hop = a })) ∙ has) in
+      (a, found.0, read_in nat_cmp_total m now a view ∙ found.1, found.2)
+
+  pub told_with : (m : BTreeMap ℕ (Hop A)) (stale : Marks) (held : BTreeSet Holding) (now : Hops A) (s : Network) (o : Option ℕ) → AreTied m stale held → from_entries m.entries ≡ now
+      → MatchOption o (IsHeldByNone held s) (λ a. set.contains holding_cmp held (record { subnet = s; hop = a }) ≡ true) → MatchBool (is_some o) (IsWithSome (map.get now) s) (IsWithNone (map.get now) s)
+  told_with m stale held now s None tied view none = none_with m stale held now s tied view none
+  told_with m stale held now s (Some a) tied view has = some_with m stale held now s a tied view has
 
   pub came_of_known : (m : BTreeMap ℕ (Hop A)) (now : Hops A) (a : ℕ) (h : Hop A) → from_entries m.entries ≡ now → map.get now a ≡ Some h → came_at (tree.get nat_cmp m a) ≡ h.came
   came_of_known m now a h view e = ap came_at (sym (read_in nat_cmp_total m now a view) ∙ e)

@@ -3,3 +3,7 @@ pub mod MarkLemmas
 pub mod MapLemmas
 pub mod TieLemmas
 pub mod KnownLemmas
+pub mod CountLemmas
+pub mod AgreeLemmas
+pub mod StaleLemmas
+pub mod TallyLemmas

@@ -1,5 +1,5 @@
 -- The known next hops, by address.
-use Rattle.std.specs.Prelude.{◌≡◌, ◌≢◌, ◌⊎◌, ℕ, ◌≤◌, Bool, false, cond, Option, Some, None, refl}
+use Rattle.std.specs.Prelude.{◌≡◌, ◌≢◌, ◌⊎◌, ℕ, ◌≤◌, Bool, false, not, cond, is_some, Option, Some, None, refl}
 use Rattle.std.specs.Option.{option_map}
 use Rattle.std.specs.Coded.{Coded, code_by, coded×, coded_option}
 use Rattle.std.specs.Ordering.{nat_cmp}
@@ -20,6 +20,24 @@ is_with s None = false
 is_with s (Some t) = same_prefix t s
 
 module _ {A : Type 0} where
+  -- the subnet of a known one's answer
+  abbrev pub came_at : Option (Hop A) → Option Network
+  came_at None = None
+  came_at (Some h) = h.came
+
+  -- whether it is known and stale
+  abbrev pub is_stale_at : Option (Hop A) → Bool
+  is_stale_at None = false
+  is_stale_at (Some h) = not (is_some h.came)
+
+  -- how many pass a test
+  abbrev pub count_of : (Option (Hop A) → Bool) → Hops A → ℕ
+  count_of test hops = map.len (map.retain_keys hops (λ a. test (map.get hops a)))
+
+  -- how many are stale
+  abbrev pub stale_count : Hops A → ℕ
+  stale_count hops = count_of is_stale_at hops
+
   -- stale where its answer came with the subnet
   abbrev pub staled : Network → Hop A → Hop A
   staled s h = record { in_force = h.in_force; fresh = h.fresh; came = cond (is_with s h.came) None h.came }

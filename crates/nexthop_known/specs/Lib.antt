@@ -1,2 +1,5 @@
 pub mod Hops
 pub mod Ties
+pub mod Counts
+pub mod Agreement
+pub mod Laws

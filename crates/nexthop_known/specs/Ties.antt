@@ -1,5 +1,5 @@
 -- What the fields of the known next hops keep true.
-use Rattle.std.specs.Prelude.{◌≡◌, ◌↔◌, ◌⊎◌, ℕ, ◌≤◌, Bool, true, false, not, ◌&&◌, cond, is_some, Option, Some, None}
+use Rattle.std.specs.Prelude.{◌≡◌, ◌↔◌, ◌⊎◌, ℕ, ◌≤◌, Bool, true, false, ◌&&◌, cond, Option, Some, None}
 use Rattle.std.specs.Option.{option_map}
 use Rattle.std.specs.declared.cmp.Ordering.{Ordering}
 use Rattle.std.specs.Ordering.{nat_cmp, ordering_then}
@@ -13,7 +13,7 @@ use Rattle.prefix_trie.specs.Contents.{Contents}
 use Rattle.prefix_trie.specs.Width.{width}
 use Rattle.nexthop_known.specs.declared.answer.Hop.{Hop}
 use Rattle.nexthop_known.specs.declared.index.Holding.{Holding}
-use Rattle.nexthop_known.specs.Hops.{is_with}
+use Rattle.nexthop_known.specs.Hops.{is_with, came_at, is_stale_at}
 
 -- a set of prefixes
 abbrev pub Marks : Type 0
@@ -49,15 +49,6 @@ abbrev pub IsHeldByNone : BTreeSet Holding → Network → Type 0
 IsHeldByNone held s = (a : ℕ) → set.contains holding_cmp held (record { subnet = s; hop = a }) ≡ false
 
 module _ {A : Type 0} where
-  -- the subnet of a known one's answer
-  abbrev pub came_at : Option (Hop A) → Option Network
-  came_at None = None
-  came_at (Some h) = h.came
-
-  abbrev pub is_stale_at : Option (Hop A) → Bool
-  is_stale_at None = false
-  is_stale_at (Some h) = not (is_some h.came)
-
   abbrev pub IsSettledAt : Option (Hop A) → Type 0
   IsSettledAt None = Unit {0}
   IsSettledAt (Some h) = h.fresh ≡ h.in_force

@@ -1,14 +1,14 @@
 //! The next hops by address, and beside them which are stale, and with which subnets the answers of the others came.
 
-ghost use Rattle.std.specs.Prelude.{◌≡◌, ◌+◌, ◌<◌, ◌≤◌, not, ◌&&◌, true, false, OnOk, OnErr, IfOk, MatchOption};
+ghost use Rattle.std.specs.Prelude.{◌≡◌, ◌+◌, ◌<◌, ◌≤◌, not, ◌&&◌, true, false, Some, OnOk, OnErr, IfOk, MatchOption};
 ghost use Rattle.std.specs.Option.{option_map};
 ghost use Rattle.std.specs.Ordering.{nat_cmp};
 ghost use Rattle.std.specs.BTreeMap as tree;
 ghost use Rattle.std.specs.BTreeMap.{is_at};
 ghost use Rattle.std.specs.BTreeSet as set;
 ghost use Rattle.std.specs.FinMap as map;
-ghost use Rattle.nexthop_known.specs.Hops.{in_force_or, staled, settled};
-ghost use Rattle.nexthop_known.specs.Ties.{holding_cmp, is_own, other_than, came_at, host, let_go, AreTied, AreTold, Puts, IsFreed, IsHeldByNone, Sets, Maps};
+ghost use Rattle.nexthop_known.specs.Hops.{came_at, is_stale_at, in_force_or, staled, settled};
+ghost use Rattle.nexthop_known.specs.Ties.{holding_cmp, is_own, other_than, host, let_go, AreTied, AreTold, Puts, IsFreed, IsHeldByNone, Sets, Maps};
 
 use crate::answer::{Answer, Hop};
 use addr4::{Addr, Memory, Prefix};
@@ -52,6 +52,12 @@ pub(crate) fn fresh_of<A: Answer>(row: &Hop<A>) -> A
     ensures { result ≡ row.now.fresh }
 {
     row.fresh
+}
+
+pub(crate) fn is_stale<A: Answer>(row: &Hop<A>) -> bool
+    ensures { result ≡ is_stale_at (Some row.now) }
+{
+    row.came.is_none()
 }
 
 // The subnet of the answer, if the next hop is known and its answer isn't stale.

@@ -1,14 +1,14 @@
 //! The known next hops.
 
-ghost use Rattle.std.specs.Prelude.{◌≡◌, OnOk, OnErr, IsSome, MatchBool};
+ghost use Rattle.std.specs.Prelude.{◌≡◌, true, OnOk, OnErr, IsNone, IsSome, MatchBool};
 ghost use Rattle.std.specs.Option.{option_map};
 ghost use Rattle.std.specs.FinMap as map;
-ghost use Rattle.nexthop_known.specs.Hops.{learnt, staled, settled, IsMapped, IsLeastStale, IsSettled, IsDiffering, IsGivenUp, IsRenewed};
+ghost use Rattle.nexthop_known.specs.Hops.{learnt, staled, settled, is_stale_at, IsMapped, IsLeastStale, IsSettled, IsDiffering, IsGivenUp, IsRenewed, IsWithSome, IsWithNone};
 
 use crate::answer::{Answer, Hop};
 use crate::index::{
-    Holding, fresh_of, in_force_of, in_force_or, make_all_stale, mark, put, put_all_in_force,
-    take_out, unmark, unshared,
+    Holding, first_with, fresh_of, in_force_of, in_force_or, is_stale, make_all_stale, mark, put,
+    put_all_in_force, take_out, unmark, unshared,
 };
 use addr4::{Addr, Memory, Place, Prefix};
 use prefix_trie::Trie;
@@ -65,9 +65,10 @@ impl<A: Answer> Known<A> {
         self.hops.len() as u128
     }
 
-    /// Adds a next hop with its first answer, which came with the subnet and is in force at once. For want of memory nothing
-    /// changes.
+    /// Adds an unknown next hop with its first answer, which came with the subnet and is in force at once. For want of memory
+    /// nothing changes.
     pub fn learn(&mut self, hop: Addr, subnet: Prefix, answer: A) -> Result<(), Memory>
+        requires { IsNone (map.get self.old hop) }
         ensures ok { OnOk result (self.new ≡ map.insert self.old hop (learnt subnet answer)) }
         ensures err { OnErr result (self.new ≡ self.old) }
     {
@@ -88,10 +89,10 @@ impl<A: Answer> Known<A> {
         Ok(())
     }
 
-    /// Keeps a further answer of a known next hop, which came with the subnet and comes into force when all do. For want of
+    /// Keeps a further answer of a stale next hop, which came with the subnet and comes into force when all do. For want of
     /// memory nothing changes.
     pub fn fresh(&mut self, hop: Addr, subnet: Prefix, answer: A) -> Result<(), Memory>
-        requires { IsSome (map.get self.old hop) }
+        requires { is_stale_at (map.get self.old hop) ≡ true }
         ensures ok { OnOk result (IsRenewed self.old self.new hop subnet answer) }
         ensures err { OnErr result (self.new ≡ self.old) }
     {
@@ -134,11 +135,28 @@ impl<A: Answer> Known<A> {
         unshared(&self.held, &came)
     }
 
+    /// Whether the answer of some known next hop that isn't stale came with the subnet.
+    pub fn is_answered_with(&self, subnet: Prefix) -> bool
+        ensures { MatchBool result (IsWithSome (map.get self.now) subnet) (IsWithNone (map.get self.now) subnet) }
+    {
+        first_with(&self.held, subnet).is_some()
+    }
+
     /// Makes stale the known next hops whose answer came with the subnet. Takes no memory.
     pub fn stale(&mut self, subnet: Prefix)
         ensures { IsMapped (staled subnet) self.old self.new }
     {
         make_all_stale(&mut self.hops, &mut self.stale, &mut self.held, subnet);
+    }
+
+    /// Whether the next hop is known and stale.
+    pub fn is_stale(&self, hop: Addr) -> bool
+        ensures { result ≡ is_stale_at (map.get self.now hop) }
+    {
+        match self.hops.get(&hop) {
+            None => false,
+            Some(row) => is_stale(row),
+        }
     }
 
     /// The stale next hop of the least address.

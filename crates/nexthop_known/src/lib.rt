@@ -17,11 +17,18 @@
 //!
 //! Contracts see one finite map from addresses to [`Hop`], and say nothing of the sets. The resolver uses this crate, with a
 //! value that is an [`Answer`]: what it needs of the interior route that holds a next hop.
+//!
+//! Beside it [`Tallies`] tells how many rows name each next hop, so that the last one that goes is known without a look at the
+//! others. A number means a list of prefixes without repeats. [`laws`] has what follows for both: how the numbers follow the
+//! change of a row, and how known next hops keep to what the register would answer now.
 #![tactic(auto)]
 
 mod answer;
 mod index;
 mod known;
+pub mod laws;
+mod tallies;
 
 pub use answer::{Answer, Hop};
 pub use known::Known;
+pub use tallies::Tallies;

@@ -1,7 +1,6 @@
 -- The merged rows before and after a change on one side.
 use Rattle.std.proofs.Common.{◌≡◌, ℕ, Option, sym, ap, ◌∙◌}
 use Rattle.addr4.specs.Prefixes.{Network}
-use Rattle.link_change.specs.Rows.{Rows}
 use Rattle.link_change.specs.Changes.{IsChangeOf}
 use Rattle.link_change.specs.declared.change.Change.{Change}
 use Rattle.link_change.proofs.ChangeLemmas.{computes_on}

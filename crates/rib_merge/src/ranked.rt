@@ -3,7 +3,7 @@
 ghost use Rattle.std.specs.Prelude.{◌≡◌, ℕ};
 
 use addr4::Row;
-use rib_route::{External, Interior};
+use rib_route::{External, FibRow, Interior};
 
 /// A row that is preferred to another at the same prefix by its administrative distance.
 pub trait Ranked: Row + Copy {
@@ -31,5 +31,15 @@ impl Ranked for External {
 
     fn distance(&self) -> u8 {
         self.fib_proto().distance()
+    }
+}
+
+impl Ranked for FibRow {
+    ghost use Rattle.rib_route.specs.Distances.{distance};
+
+    ghost distance = { λ row. distance row.proto };
+
+    fn distance(&self) -> u8 {
+        self.proto.distance()
     }
 }

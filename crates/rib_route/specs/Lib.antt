@@ -1,2 +1,3 @@
 pub mod Ifaces
 pub mod Distances
+pub mod Forwarding

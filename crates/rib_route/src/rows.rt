@@ -1,5 +1,8 @@
 //! Interior, external and forwarding rows.
 
+ghost use Rattle.std.specs.Prelude.{◌≡◌};
+ghost use Rattle.rib_route.specs.Forwarding.{fib_row};
+
 use crate::Proto;
 use crate::iface::Iface;
 use crate::protocol::FibProto;
@@ -32,6 +35,19 @@ pub struct FibRow {
     /// The router that packets are sent to; none where their destination is reached directly.
     pub gateway: Option<Addr>,
     pub iface: Iface,
+}
+
+impl Interior {
+    /// The row that packets are forwarded by.
+    pub fn fib_row(&self) -> FibRow
+        ensures { result ≡ fib_row self.now }
+    {
+        FibRow {
+            proto: self.proto.fib_proto(),
+            gateway: self.gateway,
+            iface: self.iface,
+        }
+    }
 }
 
 impl Row for Interior {

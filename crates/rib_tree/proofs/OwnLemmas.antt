@@ -8,7 +8,7 @@ use Rattle.rib_route.specs.declared.rows.Interior.{Interior}
 use Rattle.link_change.specs.Rows.{is_empty_map}
 use Rattle.link_change.specs.declared.turn.Turn.{Turn}
 use Rattle.link_change.specs.declared.turn.Turn.TheVariants.{Nothing, Quiet, Sent}
-use Rattle.deletion_stage.specs.Lost.{Lost}
+use Rattle.loss_chain.specs.Lost.{Lost}
 use Rattle.journal_text.specs.Journals.{Journaled}
 use Rattle.loss_chain.specs.Tables.{Tables, IsLossChain}
 use Rattle.loss_chain.specs.Rows.{AllRows}

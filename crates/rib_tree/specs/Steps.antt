@@ -10,7 +10,7 @@ use Rattle.link_change.specs.Changes.{IsSent}
 use Rattle.link_change.specs.declared.change.Change.{Change}
 use Rattle.link_change.specs.declared.turn.Turn.{Turn}
 use Rattle.link_change.specs.declared.turn.Turn.TheVariants.{Nothing, Quiet, Sent}
-use Rattle.deletion_stage.specs.Covering.{IsLeastRow}
+use Rattle.loss_chain.specs.Covering.{IsLeastRow}
 use Rattle.journal_text.specs.declared.link.Link.TheVariants.{Org}
 use Rattle.journal_text.specs.declared.link.Task.{Task}
 use Rattle.journal_text.specs.declared.link.Task.TheVariants.{Del, Fin, Rdel}

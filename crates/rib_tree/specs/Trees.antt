@@ -112,7 +112,3 @@ AreNumbered most t = (proto : Proto) → (branch_of proto t).losses ≤ most
 -- the deletion stages, by protocol (connected, static, ospf, rip), the earliest loss first
 abbrev pub tree_tasks : Treed → List Task
 tree_tasks t = branch_tasks t.connected ++ (branch_tasks t.statics ++ (branch_tasks t.ospf ++ branch_tasks t.rip))
-
-abbrev pub first_task : List Task → Option Task
-first_task [] = None
-first_task (task ∷ tasks) = Some task

@@ -14,7 +14,8 @@
 //! A [`Tree`] holds a [`Branch`] for each protocol: its live routes, and a deletion stage for each of
 //! its losses whose routes aren't deleted yet, in boxes ([`Branch::lowest`] lends them). Two merges bring the four links together in two, `low` and `dyn`, and a
 //! third these in `int`: at each prefix the row of the least administrative distance stands. The merges hold no rows:
-//! beside a change they ask the other link for its row at the prefix. [`forward`] is what `fib` gets of a change of `int`.
+//! beside a change they ask the other link for its row at the prefix. `fib` has the rows of `int` as what packets are forwarded by
+//! ([`rib_merge::forward`]).
 //!
 //! What is proved of every call: whatever other links there are, its entries lead by the journal's two consistency rules
 //! from the maps of the tree's old links to those of its new ones; a change goes down from the branch of its protocol, link
@@ -26,7 +27,6 @@
 #![tactic(auto)]
 
 mod branch;
-mod forwarding;
 mod laws;
 mod lookups;
 mod merging;
@@ -34,7 +34,6 @@ mod steps;
 mod tree;
 
 pub use branch::Branch;
-pub use forwarding::forward;
 pub use laws::{
     a_new_tree_stands, each_row_counts, losses_keep_rows, rows_are_own, the_least_distance_stands,
     turns_take_rows, welds_keep_rows,

@@ -11,12 +11,11 @@ ghost use Rattle.journal_text.specs.Walk.{HasRow};
 ghost use Rattle.rib_tree.specs.Trees.{low_rows, dyn_rows, int_rows, int_candidates, tree_links};
 ghost use Rattle.rib_tree.specs.Forwards.{rib_links};
 
-use crate::forwarding::forwarded;
 use crate::tree::Tree;
 use addr4::{Memory, Place, Prefix};
 use journal_text::{Link, Value};
 use link_change::{Upstream, nearer};
-use rib_merge::preferred;
+use rib_merge::{forwarded, preferred};
 use rib_route::{FibRow, Interior};
 
 // The value of a route, if there is one.

@@ -5,7 +5,8 @@ ghost use Rattle.std.specs.FinMap as map;
 ghost use Rattle.link_change.specs.Changes.{IsSent};
 ghost use Rattle.journal_text.specs.declared.link.Task.TheVariants as tasks;
 ghost use Rattle.journal_text.specs.Journals.{Adds, with_entries};
-ghost use Rattle.rib_tree.specs.Trees.{branch_of, int_rows, IsTree, IsFull, IsFullBut, tree_count, tree_tasks, first_task};
+ghost use Rattle.loss_chain.specs.Steps.{first_task};
+ghost use Rattle.rib_tree.specs.Trees.{branch_of, int_rows, IsTree, IsFull, IsFullBut, tree_count, tree_tasks};
 ghost use Rattle.rib_tree.specs.Falls.{FallsTree, LeadsTree, way_of_route};
 ghost use Rattle.rib_tree.specs.Steps.{new_tree, fed_tree, lost_tree, tree_loss_entries, welded_tree, tree_weld_entries, tree_overdue, IsTakenTree, IsFullAfter};
 

@@ -1,5 +1,8 @@
 -- What holds of a core after each of its calls.
-use Rattle.std.proofs.Common.{◌≡◌, ℕ, ◌+◌, ◌<◌, ◌≤◌, Bool, false, List, length, refl, sym, ap, subst, ◌∙◌, arith}
+use Rattle.std.proofs.Common.{◌≡◌, ℕ, ◌+◌, ◌<◌, ◌≤◌, Bool, false, List, length, None, refl, sym, ap, subst, ◌∙◌, arith}
+use Rattle.std.specs.FinMap.{get-empty, len-empty}
+use Rattle.std.specs.Ordering.{nat_cmp}
+use Rattle.in_chain.specs.Chains.{Chained}
 use Rattle.journal_text.specs.declared.line.Line.{Line}
 use Rattle.journal_text.specs.Journals.{Journaled}
 use Rattle.event_text.specs.declared.event.Event.{Event}
@@ -11,7 +14,7 @@ use Rattle.rib_tree.specs.Trees.{branch_of, AreNumbered}
 use Rattle.rib_tree.specs.Steps.{new_tree}
 use Rattle.rib_tree.specs.Laws.{ANewTreeStands}
 use Rattle.router_core.specs.Moments.{Moment, Cored, first_moment, Gives}
-use Rattle.router_core.specs.Stands.{Stands, CoreStands, Claim, Claims, EachPeer, InteriorTree, OneSpeaker, Order, Registered, SameCount, Tie, Ties, here}
+use Rattle.router_core.specs.Stands.{Stands, CoreStands, Claim, Claims, EachChain, EachPeer, InteriorTree, OneSpeaker, Registered, SameCount, StandsAt, Tie, Ties, here}
 use Rattle.router_core.specs.Blocks.{Acts}
 use Rattle.router_core.specs.Works.{HasStepped, Keeps}
 use Rattle.router_core.specs.Lives.{LiveState, live_state}
@@ -75,10 +78,10 @@ first_stands law = record {
 }
   where
     own : (claim : Claim) → Claims first_moment claim
-    own Order = tt
-    own EachPeer = λ k. tt
-    own OneSpeaker = tt
-    own SameCount = refl
+    own EachChain = λ k c at. absurd (let none = get-empty {X = Chained} nat_cmp k in cc)
+    own EachPeer = λ k. subst (StandsAt None) (sym (get-empty {X = Chained} nat_cmp k)) tt
+    own OneSpeaker = λ k c at. absurd (let none = get-empty {X = Chained} nat_cmp k in cc)
+    own SameCount = len-empty nat_cmp Chained
     own InteriorTree = record { tree = law.0; full = law.1; few = few_new; waiting = λ e. refl }
 
     at : (p : Network) (tie : Tie) → Ties (here first_moment p) tie

@@ -1,51 +1,29 @@
 -- The prefixes of an UPDATE, one after the other.
-use Rattle.std.proofs.Common.{◌≡◌, ℕ, ◌+◌, ◌<◌, Bool, true, false, cond, List, [], ◌∷◌, ◌++◌, map, Option, Some, None, get_or, length, take, refl, sym, ap, subst, ◌∙◌, append_assoc}
-use Rattle.std.proofs.Math.ListN.{set}
+use Rattle.std.proofs.Common.{◌≡◌, ℕ, ◌+◌, ◌<◌, Bool, true, false, cond, List, [], ◌∷◌, ◌++◌, Option, get_or, length, take, refl, sym, ap, subst, ◌∙◌, append_assoc}
 use Rattle.std.proofs.lemmas.List.{append-nil, take_more}
-use Rattle.std.specs.List.{filter}
 use Rattle.addr4.specs.Prefixes.{Network}
 use Rattle.bgp_attr.specs.declared.attrs.Attrs.{Attrs}
-use Rattle.deletion_stage.specs.Lost.{Lost}
+use Rattle.bgp_attr.specs.declared.route.Route.{Route}
+use Rattle.link_change.specs.declared.change.Change.{Change}
+use Rattle.journal_text.specs.declared.entry.Entry.{Entry}
+use Rattle.journal_text.specs.declared.value.Value.{Value}
 use Rattle.journal_text.specs.declared.line.Line.{Line}
-use Rattle.journal_text.specs.Journals.{Journaled}
-use Rattle.journal_text.specs.Texts.{entries_of}
+use Rattle.journal_text.specs.Journals.{Journaled, Adds}
 use Rattle.event_text.specs.declared.declared.DeclaredPeer.{DeclaredPeer}
-use Rattle.pass_core.specs.Passed.{present}
 use Rattle.in_chain.specs.Chains.{Chained}
-use Rattle.loss_chain.specs.Steps.{without, live_after, deletions_after}
-use Rattle.router_core.specs.Moments.{Moment, chain_at, with_chain}
+use Rattle.in_chain.specs.Steps.{fed, welded}
+use Rattle.loss_chain.specs.Steps.{live_after}
+use Rattle.loss_chain.proofs.TableLemmas.{same_by}
+use Rattle.peer_side.specs.Peers.{Chains}
+use Rattle.peer_side.specs.Steps.{FeedsInward}
+use Rattle.router_core.specs.Moments.{Moment, with_chains}
 use Rattle.router_core.specs.Lives.{LiveState, Routes, live_state, with_routes, routes_after, live_fed}
-use Rattle.router_core.specs.Stands.{AreInOrder, IsSilent, PeerStands, Stands}
-use Rattle.router_core.specs.Turns.{Feeds, FeedsAll}
-use Rattle.router_core.specs.Works.{FeedsChain, Pushes, Steps, IsPlace, IsUpAt, Keeps, HaveFed}
-use Rattle.router_core.proofs.TableLemmas.{is_full}
-use Rattle.router_core.proofs.ChainLemmas.{number_at, same_by}
-use Rattle.router_core.proofs.LinkLemmas.{leads_router}
-use Rattle.router_core.proofs.StandLemmas.{remade, one_peer, peer_of, stands_with, live_routed, routes_there, routes_same, routes_twice, peer_left}
+use Rattle.router_core.specs.Stands.{IsSilent, PeerStands, Stands, open_session}
+use Rattle.router_core.specs.Turns.{FeedsAll, journal_lines}
+use Rattle.router_core.specs.Works.{Pushes, IsUpAt, Keeps, HaveFed}
+use Rattle.router_core.proofs.RegionLemmas.{leads_inward}
+use Rattle.router_core.proofs.StandLemmas.{one_peer, peer_of, stands_with, live_routed, routes_there, routes_same, routes_twice}
 use Rattle.router_core.proofs.KeepLemmas.{keeps_none, keeps_join, pushes_join}
-use Rattle.router_core.proofs.PlaceLemmas.{at_place, set_at_place}
-
--- a feed at a place
-pub feeds_placed : (k : ℕ) (p : Network) (row : Option Attrs) (cs : List Chained) (i : ℕ) (c c' : Chained) (before now : Journaled) → AreInOrder cs → IsPlace k cs (Some i)
-    → c ≡ get_or cs i c → Pushes (FeedsChain p row c c') before now → Steps (FeedsChain p row) k cs (set cs i c') before now
-feeds_placed k p row cs i c c' before now order place is f = (c, c', at_place k cs i c place is, set_at_place cs i c c' order place.0 is f.2.step.number, f)
-
--- the tables after a feed
-abbrev thinned : Network → Option Attrs → Lost Attrs → Lost Attrs
-thinned p None d = d
-thinned p (Some attrs) d = without p d
-
-thinned_number : (p : Network) (row : Option Attrs) (d : Lost Attrs) → (thinned p row d).number ≡ d.number
-thinned_number p None d = refl
-thinned_number p (Some attrs) d = refl
-
-map_same : (ds : List (Lost Attrs)) → ds ≡ map (λ d. d) ds
-map_same [] = refl
-map_same (d ∷ ds) = ap (λ (l : List (Lost Attrs)). d ∷ l) (map_same ds)
-
-thinned_all : (p : Network) (row : Option Attrs) (ds : List (Lost Attrs)) → deletions_after ds p row ≡ map (thinned p row) ds
-thinned_all p None ds = map_same ds
-thinned_all p (Some attrs) ds = refl
 
 silent_up : (up : Bool) (c : Chained) → up ≡ true → IsSilent up c
 silent_up true c is = tt
@@ -55,30 +33,28 @@ abbrev live_by : Moment → (ℕ → Routes) → LiveState
 live_by m routes = record (live_state m) { routes = routes }
 
 -- a feed of a peer's chain is one of the router
-pub fed_one : (k : ℕ) (p : Network) (row : Option Attrs) (m : Moment) (c c' : Chained) (said : List Line) → Stands m → IsUpAt k m → chain_at k m.chains ≡ Some c → FeedsChain p row c c' said
-    → HaveFed k ((p, row) ∷ []) m (with_chain m c') said
-fed_one k p row m c c' said stands up at f =
-    let peer = peer_of m stands k c at in
-    let number : c'.incoming.number ≡ k = f.step.number ∙ number_at k m.chains c at in
+fed_one : (k : ℕ) (p : Network) (row : Option Attrs) (sent : Option (Change Route)) (m : Moment) (cs : Chains) (entries : List (Entry Value)) → Stands m → IsUpAt k m → FeedsInward k p row sent m.chains cs entries
+    → HaveFed k ((p, row) ∷ []) m (with_chains m cs) (journal_lines entries)
+fed_one k p row sent m cs entries stands up f =
+    let c : Chained = f.feeds.chain in
+    let peer = peer_of m stands k c f.feeds.at in
     let is_up : peer.0.up ≡ true = ap (λ (q : DeclaredPeer). q.up) (one_peer peer.0 up.0 (sym peer.1 ∙ up.1)) ∙ up.2 in
-    let tables : c'.incoming.tables.deletions ≡ filter is_full (map (thinned p row) c.incoming.tables.deletions) = ap (λ (x : Chained). x.incoming.tables.deletions) f.after ∙ ap (filter is_full) (thinned_all p row c.incoming.tables.deletions) in
-    let here : PeerStands peer.0 c' = peer_left peer.0 c c' (thinned p row) is_full (thinned_number p row) tables f.step.words.1 f.step.chain f.step.full (silent_up peer.0.up c' is_up) peer.2 in
-    let live : c'.incoming.tables.live ≡ live_after c.incoming.tables.live p row = ap (λ (x : Chained). x.incoming.tables.live) f.after in
-    let feeds : Feeds k (p, row) m said (with_chain m c') = record { chain = c; at = at; sent = f.sent; entries = f.entries; falls = f.falls; rows = f.rows; lines = f.lines; after = ap (with_chain m) f.after } in
+    let here : PeerStands peer.0 (welded (fed c p row)) = record { words = peer.2.words; earlier = f.before (open_session peer.0) peer.2.earlier; silent = silent_up peer.0.up (welded (fed c p row)) is_up } in
     record {
-      feeds = (said, [], with_chain m c', feeds, (refl, refl), sym (append-nil said));
+      feeds = (journal_lines entries, [], with_chains m cs, (sent, record { chains = cs; entries = entries; part = f.feeds; lines = refl; after = refl }), (refl, refl), sym (append-nil (journal_lines entries)));
       keeps = record {
-        leads = leads_router m k c at c' number (entries_of said) f.step.leads;
-        live = live_routed m m.declared k c c' at number (ap (λ (x : Chained). present x.filter) f.after)
-            ∙ ap (λ (r : Routes). live_by m (with_routes (live_state m).routes k r)) (live ∙ ap (λ (r : Routes). live_after r p row) (sym (routes_there m k c at)));
-        stands = stands_with m k c c' peer.0 stands at number f.step.words.0 peer.1 here;
+        leads = leads_inward m cs entries f.step.leads;
+        live = live_routed m m.declared k c (welded (fed c p row)) cs f.feeds.at f.feeds.after refl
+            ∙ ap (λ (r : Routes). live_by m (with_routes (live_state m).routes k (live_after r p row))) (sym (routes_there m k c f.feeds.at));
+        stands = stands_with m k c (welded (fed c p row)) cs peer.0 stands f.feeds.at f.feeds.after f.step.sound refl peer.1 here;
       };
     }
 
-pub one_fed : (k : ℕ) (p : Network) (row : Option Attrs) (m : Moment) (cs : List Chained) (before now : Journaled) → Stands m → IsUpAt k m → Steps (FeedsChain p row) k m.chains cs before now
-    → Pushes (HaveFed k ((p, row) ∷ []) m (remade m m.declared cs)) before now
-one_fed k p row m cs before now stands up t =
-    (t.4.0, t.4.1, subst (λ (x : List Chained). HaveFed k ((p, row) ∷ []) m (remade m m.declared x) t.4.0) (sym t.3) (fed_one k p row m t.0 t.1 t.4.0 stands up t.2 t.4.2))
+pub one_fed : (k : ℕ) (p : Network) (row : Option Attrs) (sent : Option (Change Route)) (m v : Moment) (cs : Chains) (before now : Journaled) → v ≡ m → Stands m → IsUpAt k m → Adds (FeedsInward k p row sent v.chains cs) before now
+    → Pushes (HaveFed k ((p, row) ∷ []) m (with_chains v cs)) before now
+one_fed k p row sent m v cs before now view stands up f =
+    subst (λ (n : Moment). Pushes (HaveFed k ((p, row) ∷ []) n (with_chains v cs)) before now) view
+    (journal_lines f.0, f.1, fed_one k p row sent v cs f.0 (subst Stands (sym view) stands) (subst (IsUpAt k) (sym view) up) f.2)
 
 -- ---- one after the other
 module _ (k : ℕ) where

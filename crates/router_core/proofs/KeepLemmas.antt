@@ -1,5 +1,5 @@
 -- Steps one after the other, and the journal that they leave.
-use Rattle.std.proofs.Common.{◌≡◌, ℕ, List, [], ◌++◌, refl, sym, ap, subst, ◌∙◌, append_assoc}
+use Rattle.std.proofs.Common.{◌≡◌, ℕ, ◌<◌, List, [], ◌∷◌, ◌++◌, length, get_or, refl, sym, ap, subst, ◌∙◌, append_assoc, arith, zero, suc}
 use Rattle.std.proofs.lemmas.List.{append-nil}
 use Rattle.journal_text.specs.declared.entry.Entry.{Entry}
 use Rattle.journal_text.specs.declared.value.Value.{Value}
@@ -15,6 +15,12 @@ use Rattle.router_core.specs.Lives.{LiveState, live_state, LiveAfter}
 use Rattle.router_core.specs.Stands.{Stands}
 use Rattle.router_core.specs.Blocks.{IsBlock, Acts}
 use Rattle.router_core.specs.Works.{Pushes, Keeps, HasStepped}
+
+-- what is read of a list where it has it, whatever is read where not
+pub get_or_any : {A : Type 0} (xs : List A) (n : ℕ) (x y : A) → n < length xs → get_or xs n x ≡ get_or xs n y
+get_or_any [] n x y below = absurd (omega (arith, below))
+get_or_any (l ∷ ls) zero x y below = refl
+get_or_any (l ∷ ls) (suc n) x y below = get_or_any ls n x y (omega (arith, below))
 
 -- ---- the journal
 abbrev text_with : Journaled → List ℕ → Journaled

@@ -1,18 +1,13 @@
-mod ChainLookups
 mod CoreLemmas
 mod LocalLemmas
 pub mod PeerLemmas
 mod SessionLemmas
 mod ShownRows
 mod UpdateLemmas
-pub mod ChainLemmas
 pub mod RegionLemmas
-pub mod LinkLemmas
-pub mod WorkLemmas
 pub mod StandLemmas
 pub mod ScratchLemmas
-pub mod PlaceLemmas
-pub mod UnitLemmas
+pub mod PeerTurns
 pub mod KeepLemmas
 pub mod PhaseLemmas
 pub mod CountLemmas
@@ -29,4 +24,3 @@ pub mod ProtocolLosses
 pub mod RouteTurns
 pub mod RouteRoom
 pub mod RouteSteps
-pub mod TableLemmas

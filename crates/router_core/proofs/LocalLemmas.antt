@@ -11,7 +11,8 @@ use Rattle.rib_merge.specs.Merging.{merged}
 use Rattle.rib_tree.specs.Branches.{org_rows}
 use Rattle.rib_tree.specs.Trees.{Treed, branch_of, low_rows, dyn_rows, int_rows, interior_distance}
 use Rattle.rib_tree.specs.Steps.{new_tree}
-use Rattle.rib_tree.specs.Forwards.{forwarded, rib_links}
+use Rattle.rib_merge.specs.Forwards.{forwarded}
+use Rattle.rib_tree.specs.Forwards.{rib_links}
 use Rattle.journal_text.specs.declared.link.Link.{Link}
 use Rattle.journal_text.specs.declared.link.Link.TheVariants.{Org, Lost, Low, Dyn, Int, Fib}
 use Rattle.journal_text.specs.declared.value.Value.{Value}
@@ -28,7 +29,7 @@ use Rattle.router_core.proofs.PeerLemmas.{local_first, speaker_stands}
 use Rattle.router_core.proofs.ShownRows.{with_more}
 use Rattle.router_core.specs.Works.{HasStepped}
 use Rattle.router_core.specs.Lives.{live_state}
-use Rattle.router_core.proofs.ChainLemmas.{get_or_any}
+use Rattle.router_core.proofs.KeepLemmas.{get_or_any}
 
 -- a tree without routes has no rows
 org_empty : (proto : Proto) → org_rows (branch_of proto new_tree) ≡ no_rows

@@ -1,62 +1,26 @@
 -- The loss of a session.
-use Rattle.std.proofs.Common.{◌≡◌, ℕ, ◌<◌, ◌≤◌, Bool, true, false, cond, List, [], ◌∷◌, ◌++◌, map, Option, Some, None, nat_eq, get_or, length, refl, sym, ap, subst, ◌∙◌, arith, suc}
-use Rattle.std.proofs.Math.ListN.{set}
-use Rattle.std.specs.List.{AllByRecursion}
-use Rattle.bgp_attr.specs.declared.attrs.Attrs.{Attrs}
-use Rattle.deletion_stage.specs.Lost.{Lost}
+use Rattle.std.proofs.Common.{◌≡◌, ℕ, ◌+◌, Bool, true, false, cond, List, [], ◌∷◌, map, Option, Some, None, nat_eq, length, refl, sym, ap, subst, ◌∙◌, suc}
 use Rattle.journal_text.specs.declared.entry.Entry.{Entry}
 use Rattle.journal_text.specs.declared.value.Value.{Value}
-use Rattle.journal_text.specs.declared.line.Line.{Line}
-use Rattle.journal_text.specs.Journals.{Journaled, with_entries, flushed}
-use Rattle.journal_text.specs.Texts.{entries_of}
-use Rattle.journal_text.specs.Walk.{Leads}
-use Rattle.journal_text.proofs.JournalLemmas.{entries_of_entries}
+use Rattle.journal_text.specs.Journals.{Journaled, Adds, flushed}
 use Rattle.event_text.specs.declared.declared.DeclaredPeer.{DeclaredPeer}
-use Rattle.event_text.specs.Declarations.{peer_at, ended_at, without_session}
-use Rattle.pass_core.specs.Passed.{present}
-use Rattle.loss_chain.specs.declared.owner.Owner.TheVariants as owners
-use Rattle.loss_chain.specs.Tables.{NoneEmpty}
-use Rattle.in_chain.specs.Chains.{Chained, beside, IsChain}
-use Rattle.in_chain.specs.Falls.{LeadsChain}
-use Rattle.in_chain.specs.Incomings.{loss_entries, overdue_of}
-use Rattle.in_chain.specs.Steps.{lost}
-use Rattle.router_core.specs.Moments.{Moment, chain_at, put_chain, Gives}
-use Rattle.router_core.specs.Lives.{Routes, live_state, with_routes, ended}
-use Rattle.router_core.specs.Stands.{AreInOrder, IsEarlier, PeerStands, StandsAt, Stands}
-use Rattle.router_core.specs.Turns.{journal_lines}
-use Rattle.router_core.specs.Works.{MayLoseAt, Pushes, Steps, IsPlace, LosesChain, HasRoom, IsSession, HasLost, Ends}
-use Rattle.std.specs.Prelude.{option_map}
+use Rattle.event_text.specs.Declarations.{Declaration, peer_at, ended_at, without_session}
 use Rattle.event_text.proofs.Sessions.{ended_words}
+use Rattle.loss_chain.proofs.TableLemmas.{equal_by}
+use Rattle.in_chain.specs.Chains.{Chained}
+use Rattle.in_chain.specs.Steps.{lost}
+use Rattle.peer_side.specs.Peers.{Chains, chain_at, overdue_at, overdue_by, AreBefore}
+use Rattle.peer_side.specs.Steps.{MayLose, LosesInward}
+use Rattle.router_core.specs.Moments.{Moment, Gives, with_chains}
+use Rattle.router_core.specs.Lives.{ended}
+use Rattle.router_core.specs.Stands.{PeerStands, StandsAt, Stands, open_session}
+use Rattle.router_core.specs.Turns.{journal_lines}
+use Rattle.router_core.specs.Works.{Pushes, HasRoom, IsSession, HasLost, Ends}
+use Rattle.std.specs.Prelude.{option_map}
 use Rattle.router_core.proofs.PeerLemmas.{peer_at_map}
-use Rattle.router_core.proofs.TableLemmas.{few_lost, all_lost}
-use Rattle.router_core.proofs.ChainLemmas.{equal_by, number_at}
-use Rattle.router_core.proofs.LinkLemmas.{leads_router}
-use Rattle.router_core.proofs.StandLemmas.{remade, one_peer, peer_of, KeepsOthers, stands_put, live_routed}
+use Rattle.router_core.proofs.RegionLemmas.{leads_inward}
+use Rattle.router_core.proofs.StandLemmas.{remade, one_peer, peer_of, chain_there, KeepsOthers, stands_put, live_routed}
 use Rattle.router_core.proofs.KeepLemmas.{keeps_then, gives_push}
-use Rattle.router_core.proofs.PlaceLemmas.{at_place, set_at_place}
-
--- ---- in a chain
-pub loses_chain : (s : ℕ) (c c' : Chained) (before now : Journaled) → c' ≡ lost s c → now ≡ with_entries before (loss_entries s c.incoming) → LeadsChain c (loss_entries s c.incoming) c' → IsChain c' → NoneEmpty c'.incoming.tables.deletions
-    → Pushes (LosesChain s c c') before now
-loses_chain s c c' before now is lines leads chain full = (
-  journal_lines (loss_entries s c.incoming),
-  lines,
-  record {
-    is = is;
-    lines = refl;
-    step = record {
-      number = ap (λ (x : Chained). x.incoming.number) is;
-      words = (ap (λ (x : Chained). x.me) is, ap (λ (x : Chained). x.peer) is);
-      leads = λ others. subst (λ (es : List (Entry Value)). Leads (beside others c) es (beside others c')) (sym (entries_of_entries (loss_entries s c.incoming))) (leads others);
-      chain = chain;
-      full = full;
-    };
-  },
-)
-
-pub loses_placed : (k s : ℕ) (cs : List Chained) (i : ℕ) (c c' : Chained) (before now : Journaled) → AreInOrder cs → IsPlace k cs (Some i) → c ≡ get_or cs i c
-    → Pushes (LosesChain s c c') before now → Steps (LosesChain s) k cs (set cs i c') before now
-loses_placed k s cs i c c' before now order place is f = (c, c', at_place k cs i c place is, set_at_place cs i c c' order place.0 is f.2.step.number, f)
 
 -- ---- the peers
 abbrev down : DeclaredPeer → DeclaredPeer
@@ -85,81 +49,63 @@ ended_length k [] = refl
 ended_length k (p ∷ ps) = ap suc (ended_length k ps)
 
 -- ---- what stands after the loss
-low_of : (p : DeclaredPeer) (ds : List (Lost Attrs)) → AllByRecursion (λ d. IsEarlier p true d.number) ds → AllByRecursion (λ d. d.number ≤ p.session) ds
-low_of p [] all = tt
-low_of p (d ∷ ds) all = (let lt : d.number < p.session = all.0 in omega arith, low_of p ds all.1)
-
-up_as : (p : DeclaredPeer) (up : Bool) (ds : List (Lost Attrs)) → up ≡ true → AllByRecursion (λ d. IsEarlier p up d.number) ds → AllByRecursion (λ d. IsEarlier p true d.number) ds
-up_as p true ds e all = all
-up_as p false ds e all = absurd (cc)
-
-lost_stands : (p : DeclaredPeer) (s : ℕ) (c : Chained) → p.up ≡ true → p.session ≡ s → PeerStands p c → overdue_of c.incoming ≡ None → IsChain (lost s c) → NoneEmpty (lost s c).incoming.tables.deletions → PeerStands (down p) (lost s c)
-lost_stands p s c up session stands room chain full = record {
-  words = stands.words;
-  chain = chain;
-  full = full;
-  few = few_lost (owners.Peer c.incoming.number) s c.incoming.tables stands.few room;
-  earlier = all_lost (λ d. d.number ≤ p.session) s c.incoming.tables (low_of p c.incoming.tables.deletions (up_as p p.up c.incoming.tables.deletions up stands.earlier)) (omega (arith, session));
-  silent = refl;
-}
+-- of a peer that is up the lost sessions are earlier than the present one
+before_up : (p : DeclaredPeer) (s : ℕ) (c : Chained) → p.up ≡ true → p.session ≡ s → AreBefore (open_session p) c → AreBefore s c
+before_up p s c up same before = subst (λ (n : ℕ). AreBefore n c) (ap (λ (b : Bool). cond b p.session (p.session + 1)) up ∙ same) before
 
 -- a session that is up may be lost, where there is room
-pub may_lose_at : (k s : ℕ) (m : Moment) → Stands m → IsSession k s m → ((c : Chained) → chain_at k m.chains ≡ Some c → overdue_of c.incoming ≡ None) → MayLoseAt k s m.chains
-may_lose_at k s m stands up free c at =
-    let peer = peer_of m stands k c at in
-    let same : peer.0 ≡ up.0 = one_peer peer.0 up.0 (sym peer.1 ∙ up.1) in
-    let session : peer.0.session ≡ s = ap (λ (q : DeclaredPeer). q.session) same ∙ up.3 in
-    record {
-      chain = peer.2.chain;
-      full = peer.2.full;
-      room = free c at;
-      later = subst (λ (n : ℕ). AllByRecursion (λ d. d.number < n) c.incoming.tables.deletions) session (up_as peer.0 peer.0.up c.incoming.tables.deletions (ap (λ (q : DeclaredPeer). q.up) same ∙ up.2) peer.2.earlier);
-    }
+pub may_lose : (k s : ℕ) (m v : Moment) → v ≡ m → Stands m → IsSession k s m → overdue_at k m.chains ≡ None → MayLose k s v.chains
+may_lose k s m v view stands up free = subst (λ (n : Moment). MayLose k s n.chains) (sym view) (record {
+  chain = there.0;
+  at = there.1;
+  room = sym (ap overdue_by there.1) ∙ free;
+  later = before_up up.0 s there.0 up.2 up.3 there.2.earlier;
+})
+  where
+    there : (c : Chained) × (chain_at k m.chains ≡ Some c) × PeerStands up.0 c
+    there = chain_there m stands k up.0 up.1
 
 -- the loss in a peer's chain is one of the router
-pub ends_one : (k s : ℕ) (m : Moment) (c c' : Chained) (said : List Line) → Stands m → IsSession k s m → overdue_of c.incoming ≡ None → chain_at k m.chains ≡ Some c → LosesChain s c c' said
-    → Ends k s m (remade m (without_session m.declared k) (put_chain c' m.chains)) said
-ends_one k s m c c' said stands up free at f =
-    let peer = peer_of m stands k c at in
-    let same : peer.0 ≡ up.0 = one_peer peer.0 up.0 (sym peer.1 ∙ up.1) in
-    let is_up : peer.0.up ≡ true = ap (λ (q : DeclaredPeer). q.up) same ∙ up.2 in
-    let session : peer.0.session ≡ s = ap (λ (q : DeclaredPeer). q.session) same ∙ up.3 in
-    let number : c'.incoming.number ≡ k = f.step.number ∙ number_at k m.chains c at in
-    let here : PeerStands (down peer.0) c' = subst (λ (x : Chained). PeerStands (down peer.0) x) (sym f.is)
-    (lost_stands peer.0 s c is_up session peer.2 free (subst IsChain f.is f.step.chain) (subst (λ (x : Chained). NoneEmpty x.incoming.tables.deletions) f.is f.step.full)) in
-    let at_now : StandsAt (peer_at k (map (ended_at k) m.declared.peers)) (Some c') = subst (λ (o : Option DeclaredPeer). StandsAt o (Some c')) (sym (ended_same k m.declared.peers peer.0 peer.1)) here in
+ends_one : (k s : ℕ) (m : Moment) (cs : Chains) (entries : List (Entry Value)) → Stands m → IsSession k s m → LosesInward k s m.chains cs entries → Ends k s m (remade m (without_session m.declared k) cs) (journal_lines entries)
+ends_one k s m cs entries stands up f =
+    let c : Chained = f.loses.chain in
+    let peer = peer_of m stands k c f.loses.at in
+    let session : peer.0.session ≡ s = ap (λ (q : DeclaredPeer). q.session) (one_peer peer.0 up.0 (sym peer.1 ∙ up.1)) ∙ up.3 in
+    let here : PeerStands (down peer.0) (lost s c) = record { words = peer.2.words; earlier = subst (λ (n : ℕ). AreBefore (n + 1) (lost s c)) (sym session) f.before; silent = refl } in
     record {
-      chain = c;
-      there = at;
-      lines = f.lines;
-      after = ap (λ (x : Chained). remade m (without_session m.declared k) (put_chain x m.chains)) f.is;
+      between = with_chains m cs;
+      loses = record { chains = cs; entries = entries; part = f.loses; lines = refl; after = refl };
+      after = refl;
       keeps = record {
-        leads = leads_router m k c at c' number (entries_of said) f.step.leads;
-        live = live_routed m (without_session m.declared k) k c c' at number (ap (λ (x : Chained). present x.filter) f.is) ∙ ap (λ (r : Routes). record (live_state m) { declared = without_session m.declared k; routes = with_routes (live_state m).routes k r }) (ap (λ (x : Chained). x.incoming.tables.live) f.is);
-        stands = stands_put m (without_session m.declared k) k c c' stands at number f.step.words.0 keeps at_now;
+        leads = leads_inward m cs entries f.step.leads;
+        live = live_routed m (without_session m.declared k) k c (lost s c) cs f.loses.at f.loses.after refl;
+        stands = stands_put m (without_session m.declared k) k c (lost s c) cs stands f.loses.at f.loses.after f.step.sound refl keeps
+            (subst (λ (o : Option DeclaredPeer). StandsAt o (Some (lost s c))) (sym (ended_same k m.declared.peers peer.0 peer.1)) here);
       };
     }
   where
     keeps : KeepsOthers k m.declared (without_session m.declared k)
     keeps = record { speaker = refl; count = ended_length k m.declared.peers; others = λ j e. ended_other k j m.declared.peers e }
 
-pub one_ended : (k s : ℕ) (m : Moment) (cs : List Chained) (before now : Journaled) → Stands m → IsSession k s m → ((c : Chained) → chain_at k m.chains ≡ Some c → overdue_of c.incoming ≡ None)
-    → Steps (LosesChain s) k m.chains cs before now → Pushes (Ends k s m (remade m (without_session m.declared k) cs)) before now
-one_ended k s m cs before now stands up free t =
-    (t.4.0, t.4.1, subst (λ (x : List Chained). Ends k s m (remade m (without_session m.declared k) x) t.4.0) (sym t.3) (ends_one k s m t.0 t.1 t.4.0 stands up (free t.0 t.2) t.2 t.4.2))
+pub one_ended : (k s : ℕ) (m v : Moment) (now : Declaration) (cs : Chains) (before after : Journaled) → v ≡ m → Stands m → IsSession k s m → now ≡ without_session v.declared k → Adds (LosesInward k s v.chains cs) before after
+    → Pushes (Ends k s m (remade v now cs)) before after
+one_ended k s m v now cs before after view stands up is f =
+    subst (λ (n : Moment). Pushes (Ends k s n (remade v now cs)) before after) view
+    (subst (λ (d : Declaration). Pushes (Ends k s v (remade v d cs)) before after) (sym is)
+    (journal_lines f.0, f.1, ends_one k s v cs f.0 (subst Stands (sym view) stands) (subst (IsSession k s) (sym view) up) f.2))
 
 -- ---- both
 pub lost_all : (k s : ℕ) (m room m' : Moment) (before j j' now : Journaled) → Gives (HasRoom k m room) before j → Pushes (Ends k s room m') j j' → now ≡ flushed j' → Gives (HasLost k s m m') before now
 lost_all k s m room m' before j j' now r e is = gives_push (HasRoom k m room) (Ends k s room m') (HasLost k s m m') (λ xs ys p q. record {
   loses = record {
-    before = p.before;
-    at = p.at;
+    there = p.there;
     first = xs;
     room = room;
     runs = p.runs;
-    chain = q.chain;
-    there = q.there;
-    lines = ap (λ (ls : List Line). xs ++ ls) q.lines;
+    last = ys;
+    between = q.between;
+    loses = q.loses;
+    lines = refl;
     after = q.after;
   };
   keeps = keeps_then m room m' xs ys (λ l. ended l k) p.keeps q.keeps;

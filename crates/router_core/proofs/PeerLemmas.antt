@@ -1,110 +1,35 @@
 -- A peer that is declared, and one whose session begins.
-use Rattle.std.proofs.Common.{◌≡◌, ℕ, ◌+◌, ◌≤◌, ◌<◌, Bool, true, false, not, ◌&&◌, cond, List, [], ◌∷◌, ◌++◌, map, take, drop, length, get_or, Option, Some, None, nat_eq, nat_lt, refl, sym, ap, subst, ◌∙◌, add-one, arith, suc}
-use Rattle.std.proofs.Math.ListN.{set}
+use Rattle.std.proofs.Common.{◌≡◌, ℕ, ◌+◌, Bool, true, false, not, ◌&&◌, cond, List, [], ◌∷◌, ◌++◌, map, length, Option, Some, None, nat_eq, refl, sym, ap, subst, ◌∙◌, suc}
 use Rattle.std.proofs.lemmas.List.{length_push}
 use Rattle.std.specs.Prelude.{option_map, IsSome, is_some}
-use Rattle.std.specs.List.{AllByRecursion, insert}
-use Rattle.std.proofs.lemmas.Bool.Decides.{nat_tests}
-use Rattle.bgp_attr.specs.declared.attrs.Attrs.{Attrs}
 use Rattle.bgp_attr.specs.declared.speaker.Speaker.{Speaker}
-use Rattle.deletion_stage.specs.Lost.{Lost}
-use Rattle.link_change.specs.Rows.{Rows, no_rows}
-use Rattle.link_change.proofs.RowLemmas.{empty_rows}
-use Rattle.journal_text.specs.declared.link.Link.{Link}
-use Rattle.journal_text.specs.declared.link.Link.TheVariants.{In, Peer, Filt, Res}
-use Rattle.journal_text.specs.declared.entry.Entry.TheVariants.{Begin}
-use Rattle.journal_text.specs.declared.value.Value.{Value}
 use Rattle.journal_text.specs.declared.line.Line.TheVariants as lines
-use Rattle.journal_text.specs.Walk.{Links, Leads, with_link}
+use Rattle.journal_text.specs.Journals.{Journaled, with_entries}
 use Rattle.event_text.specs.declared.event.Event.TheVariants as events
 use Rattle.event_text.specs.declared.declared.DeclaredPeer.{DeclaredPeer}
 use Rattle.event_text.specs.Declarations.{with_speaker, Declaration, peer_at, words_of, with_peer, with_session, begun_at, refusal, refusal_at, rules_refusal, session_refusal}
 use Rattle.event_text.proofs.Sessions.{addable, missed, KeepsWords, begun_words}
 use Rattle.policy_rules.specs.declared.rule.Rule.{Rule}
 use Rattle.pass_core.specs.Passed.{Walked, present, edited}
-use Rattle.filter_bank.specs.Filtered.{filtered_rows}
-use Rattle.in_chain.specs.Incomings.{in_rows}
-use Rattle.in_chain.specs.Chains.{Chained, filt_rows, links_of}
-use Rattle.journal_text.specs.Values.{attrs_rows, route_rows}
-use Rattle.journal_text.proofs.WalkLemmas.{leads_nowhere}
+use Rattle.in_chain.specs.Chains.{Chained}
 use Rattle.in_chain.specs.Steps.{new_chain, refiltered}
-use Rattle.router_core.specs.Moments.{Moment, chain_at, put_chain, with_chain, insert_chain, links_by, router_links, parts}
-use Rattle.router_core.specs.Lives.{live_state, routes_of, rules_of, with_rules, begun_if_down}
-use Rattle.router_core.specs.Stands.{IsEarlier, IsSilent, PeerStands, StandsAt, AreInOrder, Stands, Claim, Claims, EachPeer, InteriorTree, OneSpeaker, Order, SameCount}
+use Rattle.loss_chain.proofs.TableLemmas.{equal_by, same_by, other_by}
+use Rattle.link_region.specs.declared.regions.Region.TheVariants.{Inward}
+use Rattle.link_region.specs.Regions.{LeadsIn}
+use Rattle.link_region.proofs.RegionLemmas.{by_bool, lead_nothing}
+use Rattle.peer_side.specs.Peers.{Chains, chain_at, put_chain, peer_links, begin_entries, routes_of, rules_of, IsPeers, AreBefore}
+use Rattle.peer_side.specs.Steps.{EditsInward}
+use Rattle.peer_side.proofs.PutLemmas.{at_put, put_each, put_kept, put_more}
+use Rattle.router_core.specs.Moments.{Moment, with_chains}
+use Rattle.router_core.specs.Lives.{live_state, with_rules, begun_if_down}
+use Rattle.router_core.specs.Stands.{IsSilent, PeerStands, StandsAt, Stands, Claim, Claims, EachChain, EachPeer, InteriorTree, OneSpeaker, SameCount}
+use Rattle.router_core.specs.Turns.{journal_lines}
 use Rattle.router_core.specs.Blocks.{ByPeer, BeginsIf, Declares, declared_speaker, declared_peer, begun}
-use Rattle.router_core.specs.Peers.{place_in, is_up, Edits}
-use Rattle.router_core.specs.Works.{IsPlace, HasStepped}
-use Rattle.router_core.proofs.ChainLemmas.{equal_by, same_by, other_by, chain_here, chain_past, number_at}
-use Rattle.router_core.proofs.LinkLemmas.{both_none, same_peers}
+use Rattle.router_core.specs.Peers.{is_up}
+use Rattle.router_core.specs.Works.{HasStepped, Pushes}
+use Rattle.router_core.proofs.RegionLemmas.{leads_inward}
 use Rattle.router_core.proofs.StandLemmas.{one_peer, peer_of, chain_there, stands_with, live_edited}
-use Rattle.router_core.proofs.PlaceLemmas.{at_place, set_at_place}
 use Rattle.router_core.proofs.KeepLemmas.{steps_said}
-use Rattle.router_core.proofs.RegionLemmas.{inward_set}
-use Rattle.router_core.specs.Regions.{joined}
-
--- ---- a chain more
-below_by : (m n : ℕ) → nat_lt m n ≡ true → m < n
-below_by m n e = grind (arith, nat_tests)
-
-above_by : (m n : ℕ) → nat_lt m n ≡ false → n ≤ m
-above_by m n e = grind (arith, nat_tests)
-
-chain_missed : (b : Bool) (c : Chained) (o : Option Chained) → cond b (Some c) o ≡ None → (b ≡ false) × (o ≡ None)
-chain_missed true c o e = absurd (cc)
-chain_missed false c o e = (refl, e)
-
--- a chain that is inserted at its place
-pub inserted : (c : Chained) (cs : List Chained) → insert cs (place_in c.incoming.number cs) c ≡ insert_chain c cs
-inserted c [] = refl
-inserted c (d ∷ ds) = by_test (nat_lt c.incoming.number d.incoming.number) (inserted c ds)
-  where
-    by_test : (b : Bool) → insert ds (place_in c.incoming.number ds) c ≡ insert_chain c ds → insert (d ∷ ds) (cond b 0 (place_in c.incoming.number ds + 1)) c ≡ cond b (c ∷ d ∷ ds) (d ∷ insert_chain c ds)
-    by_test true rest = refl
-    by_test false rest = ap (λ n. take n (d ∷ ds) ++ c ∷ drop n (d ∷ ds)) (add-one (place_in c.incoming.number ds)) ∙ ap (λ l. d ∷ l) rest
-
-pub chain_at_insert_here : (k : ℕ) (c : Chained) (cs : List Chained) → chain_at k cs ≡ None → c.incoming.number ≡ k → chain_at k (insert_chain c cs) ≡ Some c
-chain_at_insert_here k c [] none same = chain_here k c [] (same_by c.incoming.number k same)
-chain_at_insert_here k c (d ∷ ds) none same =
-    let past = chain_missed (nat_eq d.incoming.number k) d (chain_at k ds) none in
-    by_test (nat_lt c.incoming.number d.incoming.number) (chain_past k d (insert_chain c ds) past.0 ∙ chain_at_insert_here k c ds past.1 same)
-  where
-    by_test : (b : Bool) → chain_at k (d ∷ insert_chain c ds) ≡ Some c → chain_at k (cond b (c ∷ d ∷ ds) (d ∷ insert_chain c ds)) ≡ Some c
-    by_test true rest = chain_here k c (d ∷ ds) (same_by c.incoming.number k same)
-    by_test false rest = rest
-
-pub chain_at_insert_other : (j : ℕ) (c : Chained) (cs : List Chained) → nat_eq c.incoming.number j ≡ false → chain_at j (insert_chain c cs) ≡ chain_at j cs
-chain_at_insert_other j c [] other = chain_past j c [] other
-chain_at_insert_other j c (d ∷ ds) other =
-    by_test (nat_lt c.incoming.number d.incoming.number) (ap (λ o. cond (nat_eq d.incoming.number j) (Some d) o) (chain_at_insert_other j c ds other))
-  where
-    by_test : (b : Bool) → chain_at j (d ∷ insert_chain c ds) ≡ chain_at j (d ∷ ds) → chain_at j (cond b (c ∷ d ∷ ds) (d ∷ insert_chain c ds)) ≡ chain_at j (d ∷ ds)
-    by_test true rest = chain_past j c (d ∷ ds) other
-    by_test false rest = rest
-
-below_insert : (n : ℕ) (c : Chained) (cs : List Chained) → n < c.incoming.number → AllByRecursion (λ d. n < d.incoming.number) cs → AllByRecursion (λ d. n < d.incoming.number) (insert_chain c cs)
-below_insert n c [] lt all = (lt, tt)
-below_insert n c (d ∷ ds) lt all = by_test (nat_lt c.incoming.number d.incoming.number) (below_insert n c ds lt all.1)
-  where
-    by_test : (b : Bool) → AllByRecursion (λ d. n < d.incoming.number) (insert_chain c ds) → AllByRecursion (λ d. n < d.incoming.number) (cond b (c ∷ d ∷ ds) (d ∷ insert_chain c ds))
-    by_test true rest = (lt, all)
-    by_test false rest = (all.0, rest)
-
-below_all : (m n : ℕ) (cs : List Chained) → m < n → AllByRecursion (λ d. n < d.incoming.number) cs → AllByRecursion (λ d. m < d.incoming.number) cs
-below_all m n [] lt all = tt
-below_all m n (d ∷ ds) lt all = (let above : n < d.incoming.number = all.0 in omega arith, below_all m n ds lt all.1)
-
-pub in_order_insert : (c : Chained) (cs : List Chained) → AreInOrder cs → chain_at c.incoming.number cs ≡ None → AreInOrder (insert_chain c cs)
-in_order_insert c [] order none = (tt, tt)
-in_order_insert c (d ∷ ds) order none =
-    let past = chain_missed (nat_eq d.incoming.number c.incoming.number) d (chain_at c.incoming.number ds) none in
-    by_test (nat_lt c.incoming.number d.incoming.number) refl past.0 (in_order_insert c ds order.1 past.1)
-  where
-    by_test : (b : Bool) → nat_lt c.incoming.number d.incoming.number ≡ b → nat_eq d.incoming.number c.incoming.number ≡ false → AreInOrder (insert_chain c ds) → AreInOrder (cond b (c ∷ d ∷ ds) (d ∷ insert_chain c ds))
-    by_test true e other rest = let lt = below_by c.incoming.number d.incoming.number e in ((lt, below_all c.incoming.number d.incoming.number ds lt order.0), order)
-    by_test false e other rest = (below_insert d.incoming.number c ds (beyond e other) order.0, rest)
-      where
-        beyond : nat_lt c.incoming.number d.incoming.number ≡ false → nat_eq d.incoming.number c.incoming.number ≡ false → d.incoming.number < c.incoming.number
-        beyond e other = grind (arith, nat_tests)
 
 -- ---- a peer more
 pub peer_at_push_here : (k : ℕ) (ps : List DeclaredPeer) (q : DeclaredPeer) → peer_at k ps ≡ None → q.words.number ≡ k → peer_at k (ps ++ q ∷ []) ≡ Some q
@@ -118,143 +43,100 @@ peer_at_push_other j [] q other = ap (λ b. cond b (Some q) None) other
 peer_at_push_other j (p ∷ ps) q other = ap (λ o. cond (nat_eq p.words.number j) (Some p) o) (peer_at_push_other j ps q other)
 
 -- the peer as it is declared
-abbrev new_peer : Moment → ℕ → Speaker → DeclaredPeer
-new_peer m k words = record { words = words_of m.declared.speaker k words; session = 0; up = false }
+abbrev new_peer : Declaration → ℕ → Speaker → DeclaredPeer
+new_peer d k words = record { words = words_of d.speaker k words; session = 0; up = false }
+
+-- and where it is found
+pub new_peer_at : (d : Declaration) (k : ℕ) (words : Speaker) → peer_at k d.peers ≡ None → peer_at k (with_peer d k words).peers ≡ Some (new_peer d k words)
+new_peer_at d k words absent = peer_at_push_here k d.peers (new_peer d k words) absent refl
+
+pub peer_absent : (d : Declaration) (k : ℕ) (words : Speaker) → refusal d (events.Peer k words) ≡ None → peer_at k d.peers ≡ None
+peer_absent d k words e = (addable d.speaker d.peers k words e).1
+
+-- the peer that was just declared is there
+pub not_added : (before after : Declaration) (k : ℕ) (words : Speaker) → peer_at k before.peers ≡ None → after ≡ with_peer before k words → None ≡ peer_at k after.peers → ⊥
+not_added before after k words absent added none =
+    let there : peer_at k after.peers ≡ Some (new_peer before k words) = ap (λ (d : Declaration). peer_at k d.peers) added ∙ new_peer_at before k words absent in
+    cc
 
 no_chain : (o : Option DeclaredPeer) (c : Option Chained) → StandsAt o c → o ≡ None → c ≡ None
 no_chain None None stands none = refl
 no_chain None (Some c) stands none = absurd stands
 no_chain (Some p) c stands none = absurd (cc)
 
-chains_more : (c : Chained) (cs : List Chained) → length (insert_chain c cs) ≡ length cs + 1
-chains_more c [] = refl
-chains_more c (d ∷ ds) = by_test (nat_lt c.incoming.number d.incoming.number) (chains_more c ds)
-  where
-    by_test : (b : Bool) → length (insert_chain c ds) ≡ length ds + 1 → length (cond b (c ∷ d ∷ ds) (d ∷ insert_chain c ds)) ≡ length (d ∷ ds) + 1
-    by_test true rest = omega arith
-    by_test false rest = omega arith
+-- no chain stands before it is declared
+pub chain_absent : (m v : Moment) (k : ℕ) (words : Speaker) → v ≡ m → Stands m → refusal m.declared (events.Peer k words) ≡ None → chain_at k v.chains ≡ None
+chain_absent m v k words view stands admitted =
+    ap (λ (n : Moment). chain_at k n.chains) view ∙ no_chain (peer_at k m.declared.peers) (chain_at k m.chains) (stands.own EachPeer k) (peer_absent m.declared k words admitted)
 
-all_more : (P : Chained → Type 0) (c : Chained) (cs : List Chained) → AllByRecursion P cs → P c → AllByRecursion P (insert_chain c cs)
-all_more P c [] all one = (one, tt)
-all_more P c (d ∷ ds) all one = by_test (nat_lt c.incoming.number d.incoming.number) (all_more P c ds all.1 one)
-  where
-    by_test : (b : Bool) → AllByRecursion P (insert_chain c ds) → AllByRecursion P (cond b (c ∷ d ∷ ds) (d ∷ insert_chain c ds))
-    by_test true rest = (one, all)
-    by_test false rest = (all.0, rest)
+-- its words, as they were read again
+declared_is : (before after : Declaration) (k : ℕ) (words : Speaker) (p : DeclaredPeer) → peer_at k before.peers ≡ None → after ≡ with_peer before k words → Some p ≡ peer_at k after.peers → p ≡ new_peer before k words
+declared_is before after k words p absent added there =
+    one_peer p (new_peer before k words) (there ∙ ap (λ (d : Declaration). peer_at k d.peers) added ∙ new_peer_at before k words absent)
+
+pub new_number : (m v : Moment) (after : Declaration) (k : ℕ) (words : Speaker) (p : DeclaredPeer) → v ≡ m → refusal m.declared (events.Peer k words) ≡ None → after ≡ with_peer v.declared k words → Some p ≡ peer_at k after.peers
+    → p.words.number ≡ k
+new_number m v after k words p view admitted added there =
+    let absent : peer_at k v.declared.peers ≡ None = ap (λ (n : Moment). peer_at k n.declared.peers) view ∙ peer_absent m.declared k words admitted in
+    ap (λ (q : DeclaredPeer). q.words.number) (declared_is v.declared after k words p absent added there)
 
 module _ (m : Moment) (me : Speaker) (k : ℕ) (words : Speaker) (is_local : m.declared.speaker ≡ Some me) (stands : Stands m) (absent : peer_at k m.declared.peers ≡ None) where
   abbrev fresh : Chained
   fresh = new_chain me (words_of m.declared.speaker k words)
 
-  abbrev chains_then : List Chained
-  chains_then = insert_chain fresh m.chains
-
   no_chain_yet : chain_at k m.chains ≡ None
   no_chain_yet = no_chain (peer_at k m.declared.peers) (chain_at k m.chains) (stands.own EachPeer k) absent
 
-  there_at : (j : ℕ) → nat_eq k j ≡ true → chain_at j chains_then ≡ Some fresh
-  there_at j e = subst (λ (n : ℕ). chain_at n chains_then ≡ Some fresh) (equal_by k j e) (chain_at_insert_here k fresh m.chains no_chain_yet refl)
-
-  none_at : (j : ℕ) → nat_eq k j ≡ true → chain_at j m.chains ≡ None
-  none_at j e = subst (λ (n : ℕ). chain_at n m.chains ≡ None) (equal_by k j e) no_chain_yet
-
-  new_stands : StandsAt (Some (new_peer m k words)) (Some fresh)
-  new_stands = record { words = refl; chain = record { apart = tt; rising = tt }; full = tt; few = omega arith; earlier = tt; silent = refl }
-
-  pub declared_stands : Stands (declared_peer m me k words)
-  declared_stands = record { own = own; at = stands.at }
+  declared_stands : IsPeers (put_chain k fresh m.chains) → Stands (declared_peer m me k words)
+  declared_stands peers = record { own = own; at = stands.at }
     where
-      by_test : (j : ℕ) (b : Bool) → nat_eq k j ≡ b → StandsAt (peer_at j (with_peer m.declared k words).peers) (chain_at j chains_then)
-      by_test j true e =
-          let is : k ≡ j = equal_by k j e in
-          let p : peer_at k (with_peer m.declared k words).peers ≡ Some (new_peer m k words) = peer_at_push_here k m.declared.peers (new_peer m k words) absent refl in
-          let c : chain_at k chains_then ≡ Some fresh = chain_at_insert_here k fresh m.chains no_chain_yet refl in
-          subst (λ (n : ℕ). StandsAt (peer_at n (with_peer m.declared k words).peers) (chain_at n chains_then)) is
-          (subst (λ (o : Option DeclaredPeer). StandsAt o (chain_at k chains_then)) (sym p)
-          (subst (λ (o : Option Chained). StandsAt (Some (new_peer m k words)) o) (sym c) new_stands))
-      by_test j false e =
-          let p : peer_at j (with_peer m.declared k words).peers ≡ peer_at j m.declared.peers = peer_at_push_other j m.declared.peers (new_peer m k words) e in
-          let c : chain_at j chains_then ≡ chain_at j m.chains = chain_at_insert_other j fresh m.chains e in
-          subst (λ (o : Option DeclaredPeer). StandsAt o (chain_at j chains_then)) (sym p)
-          (subst (λ (o : Option Chained). StandsAt (peer_at j m.declared.peers) o) (sym c) (stands.own EachPeer j))
-
       own : (claim : Claim) → Claims (declared_peer m me k words) claim
-      own Order = in_order_insert fresh m.chains (stands.own Order) no_chain_yet
-      own EachPeer = λ j. by_test j (nat_eq k j) refl
-      own OneSpeaker = all_more (λ c. m.declared.speaker ≡ Some c.me) fresh m.chains (stands.own OneSpeaker) is_local
-      own SameCount = chains_more fresh m.chains ∙ ap (λ (n : ℕ). n + 1) (stands.own SameCount) ∙ sym (length_push m.declared.peers (new_peer m k words))
+      own EachChain = peers
+      own EachPeer = λ j. subst (λ (o : Option Chained). StandsAt (peer_at j (with_peer m.declared k words).peers) o) (sym (at_put k fresh m.chains j))
+          (by_bool (nat_eq j k) (λ b. StandsAt (peer_at j (with_peer m.declared k words).peers) (cond b (Some fresh) (chain_at j m.chains)))
+          (λ e. subst (λ (n : ℕ). StandsAt (peer_at n (with_peer m.declared k words).peers) (Some fresh)) (sym (equal_by j k e))
+          (subst (λ (o : Option DeclaredPeer). StandsAt o (Some fresh)) (sym (new_peer_at m.declared k words absent)) (record { words = refl; earlier = tt; silent = refl })))
+          (λ e. subst (λ (o : Option DeclaredPeer). StandsAt o (chain_at j m.chains))
+          (sym (peer_at_push_other j m.declared.peers (new_peer m.declared k words) (other_by k j (λ same. let t : true ≡ false = sym (same_by j k (sym same)) ∙ e in cc)))) (stands.own EachPeer j)))
+      own OneSpeaker = put_each (λ j c. m.declared.speaker ≡ Some c.me) k fresh m.chains is_local (stands.own OneSpeaker)
+      own SameCount = put_more k fresh m.chains no_chain_yet ∙ ap (λ (n : ℕ). n + 1) (stands.own SameCount) ∙ sym (length_push m.declared.peers (new_peer m.declared k words))
       own other = stands.own other
 
-  -- ---- the new links
-  new_in : ◌≡◌ {A = Option (Rows Value)} (Some (attrs_rows (in_rows fresh.incoming))) (Some no_rows)
-  new_in = ap (λ (rows : Rows Attrs). Some (attrs_rows rows)) (empty_rows {V = Attrs})
+  -- live routes and rules stay
+  stays : {A : Type 0} (f : Option Chained → A) → f (Some fresh) ≡ f None → (j : ℕ) → f (chain_at j (put_chain k fresh m.chains)) ≡ f (chain_at j m.chains)
+  stays f same = put_kept f k fresh m.chains (same ∙ ap f (sym no_chain_yet))
 
-  new_filt : ◌≡◌ {A = Option (Rows Value)} (Some (route_rows (filt_rows fresh))) (Some no_rows)
-  new_filt = ap (λ (rows : Rows Attrs). Some (route_rows (filtered_rows fresh.me fresh.peer [] rows))) (empty_rows {V = Attrs})
-
-  -- a link that begins without rows
-  begins : (j : ℕ) (link : Link) (own : Rows Value) → ((b : Bool) → nat_eq j k ≡ b → links_of fresh link ≡ cond b (Some own) None) → ◌≡◌ {A = Option (Rows Value)} (Some own) (Some no_rows)
-      → cond (nat_eq j k && true) (Some no_rows) (links_by (chain_at j m.chains) link) ≡ links_by (chain_at j chains_then) link
-  begins j link own has empty = by_test (nat_eq k j) refl
-    where
-      by_test : (b : Bool) → nat_eq k j ≡ b → cond (nat_eq j k && true) (Some no_rows) (links_by (chain_at j m.chains) link) ≡ links_by (chain_at j chains_then) link
-      by_test true e =
-          let f : nat_eq j k ≡ true = same_by j k (sym (equal_by k j e)) in
-          ap (λ (b : Bool). cond (b && true) (Some no_rows) (links_by (chain_at j m.chains) link)) f
-          ∙ sym empty ∙ sym (has true f) ∙ ap (λ (o : Option Chained). links_by o link) (sym (there_at j e))
-      by_test false e =
-          let f : nat_eq j k ≡ false = other_by j k (λ same. let t : true ≡ false = sym (same_by k j (sym same)) ∙ e in cc) in
-          ap (λ (b : Bool). cond (b && true) (Some no_rows) (links_by (chain_at j m.chains) link)) f
-          ∙ ap (λ (o : Option Chained). links_by o link) (sym (chain_at_insert_other j fresh m.chains e))
-
-  peer_link : (j s : ℕ) → links_by (chain_at j m.chains) (Peer j s) ≡ links_by (chain_at j chains_then) (Peer j s)
-  peer_link j s = by_test (nat_eq k j) refl
-    where
-      by_test : (b : Bool) → nat_eq k j ≡ b → links_by (chain_at j m.chains) (Peer j s) ≡ links_by (chain_at j chains_then) (Peer j s)
-      by_test true e =
-          let f : nat_eq j k ≡ true = same_by j k (sym (equal_by k j e)) in
-          ap (λ (o : Option Chained). links_by o (Peer j s)) (none_at j e)
-          ∙ sym (ap (λ (b : Bool). cond b None None) f) ∙ ap (λ (o : Option Chained). links_by o (Peer j s)) (sym (there_at j e))
-      by_test false e = ap (λ (o : Option Chained). links_by o (Peer j s)) (sym (chain_at_insert_other j fresh m.chains e))
-
-  abbrev links_then : Links Value
-  links_then = with_link (with_link (router_links m) (In k) (Some no_rows)) (Filt k) (Some no_rows)
-
-  declared_links : links_then ≡ router_links (declared_peer m me k words)
-  declared_links i link = each link i
-    where
-      each : (link : Link) → links_then link ≡ router_links (declared_peer m me k words) link
-      each (In j) = begins j (In j) (attrs_rows (in_rows fresh.incoming)) (λ b e. ap (λ (b : Bool). cond b (Some (attrs_rows (in_rows fresh.incoming))) None) e) new_in
-      each (Peer j s) = peer_link j s
-      each (Filt j) = begins j (Filt j) (route_rows (filt_rows fresh)) (λ b e. ap (λ (b : Bool). cond b (Some (route_rows (filt_rows fresh))) None) e) new_filt
-      each (Res j) = both_none (Res j) (λ c. refl) (chain_at j m.chains) (chain_at j chains_then)
-      each other = refl
-
-  declared_leads : Leads (router_links m) (Begin (In k) ∷ Begin (Filt k) ∷ []) (router_links (declared_peer m me k words))
-  declared_leads = record {
-    lawful = (ap (λ (o : Option Chained). links_by o (In k)) no_chain_yet, (ap (λ (o : Option Chained). links_by o (Filt k)) no_chain_yet, tt));
-    ends = declared_links;
-  }
-
-  -- ---- live routes and rules stay
-  stays : {A : Type 0} (f : Option Chained → A) → f (Some fresh) ≡ f None → (j : ℕ) → f (chain_at j chains_then) ≡ f (chain_at j m.chains)
-  stays f same j = by_test (nat_eq k j) refl
-    where
-      by_test : (b : Bool) → nat_eq k j ≡ b → f (chain_at j chains_then) ≡ f (chain_at j m.chains)
-      by_test true e = ap f (there_at j e) ∙ same ∙ sym (ap f (none_at j e))
-      by_test false e = ap f (chain_at_insert_other j fresh m.chains e)
-
-  pub peer_stepped : HasStepped m (events.Peer k words) 0 (declared_peer m me k words) (lines.Journal (Begin (In k)) ∷ lines.Journal (Begin (Filt k)) ∷ [])
-  peer_stepped = record {
-    block = subst (λ (s : Option Speaker). Declares m s k words (lines.Journal (Begin (In k)) ∷ lines.Journal (Begin (Filt k)) ∷ []) 0 (declared_peer m me k words)) (sym is_local) (refl, refl, refl);
+  peer_stepped : LeadsIn Inward (peer_links m.chains) (begin_entries k) (peer_links (put_chain k fresh m.chains)) → IsPeers (put_chain k fresh m.chains) → HasStepped m (events.Peer k words) 0 (declared_peer m me k words) (journal_lines (begin_entries k))
+  peer_stepped leads peers = record {
+    block = subst (λ (s : Option Speaker). Declares m s k words (journal_lines (begin_entries k)) 0 (declared_peer m me k words)) (sym is_local) (refl, refl, refl);
     live = record (live_state m) { declared = with_peer m.declared k words };
     after = refl;
     keeps = record {
-      leads = declared_leads;
+      leads = leads_inward m (put_chain k fresh m.chains) (begin_entries k) leads;
       live = λ i. record (live_state m) { declared = with_peer m.declared k words; routes = λ j. stays routes_of refl j i; rules = λ j. stays rules_of refl j i };
-      stands = declared_stands;
+      stands = declared_stands peers;
     };
   }
+
+pub peer_declared : (m v : Moment) (me : Speaker) (k : ℕ) (words : Speaker) (after : Declaration) (p : DeclaredPeer) (cs : Chains) (before now : Journaled) → v ≡ m → Stands m → refusal m.declared (events.Peer k words) ≡ None
+    → Some me ≡ v.declared.speaker → after ≡ with_peer v.declared k words → Some p ≡ peer_at k after.peers → cs ≡ put_chain k (new_chain me p.words) v.chains → now ≡ with_entries before (begin_entries k)
+    → LeadsIn Inward (peer_links v.chains) (begin_entries k) (peer_links cs) → IsPeers cs → Pushes (HasStepped m (events.Peer k words) 0 (record v { declared = after; chains = cs })) before now
+peer_declared m v me k words after p cs before now view stands admitted local added there put lines leads peers =
+    subst (λ (n : Moment). Pushes (HasStepped n (events.Peer k words) 0 (record v { declared = after; chains = cs })) before now) view (
+      journal_lines (begin_entries k),
+      lines,
+      subst (λ (n : Moment). HasStepped v (events.Peer k words) 0 n (journal_lines (begin_entries k))) (sym is)
+          (peer_stepped v me k words (sym local) (subst Stands (sym view) stands) absent (subst (λ (x : Chains). LeadsIn Inward (peer_links v.chains) (begin_entries k) (peer_links x)) chains leads) (subst IsPeers chains peers)),
+    )
+  where
+    absent : peer_at k v.declared.peers ≡ None
+    absent = ap (λ (n : Moment). peer_at k n.declared.peers) view ∙ peer_absent m.declared k words admitted
+
+    chains : cs ≡ put_chain k (new_chain me (words_of v.declared.speaker k words)) v.chains
+    chains = put ∙ ap (λ (q : DeclaredPeer). put_chain k (new_chain me q.words) v.chains) (declared_is v.declared after k words p absent added there)
+
+    is : record v { declared = after; chains = cs } ≡ declared_peer v me k words
+    is = ap (λ (d : Declaration). record v { declared = d; chains = cs }) added ∙ ap (λ (x : Chains). record v { declared = with_peer v.declared k words; chains = x }) chains
 
 -- ---- a session begins
 pub peer_at_map : (f : DeclaredPeer → DeclaredPeer) → KeepsWords f → (j : ℕ) (ps : List DeclaredPeer) → peer_at j (map f ps) ≡ option_map f (peer_at j ps)
@@ -265,28 +147,19 @@ peer_at_map f keeps j (p ∷ ps) = ap (λ w. cond (nat_eq w.number j) (Some (f p
     by_test true rest = refl
     by_test false rest = rest
 
-later : (p : DeclaredPeer) (ds : List (Lost Attrs)) → AllByRecursion (λ d. IsEarlier p false d.number) ds → AllByRecursion (λ d. d.number < p.session + 1) ds
-later p [] all = tt
-later p (d ∷ ds) all = (let low : d.number ≤ p.session = all.0 in omega arith, later p ds all.1)
-
 is_down : (a b : Bool) → (a && not b) ≡ true → b ≡ false
 is_down true true e = absurd (cc)
 is_down true false e = refl
 is_down false b e = absurd (cc)
 
 begun_peer : (k : ℕ) (p : DeclaredPeer) (c : Chained) → PeerStands p c → PeerStands (begun_at k p) c
-begun_peer k p c stands = by_test (nat_eq p.words.number k && not p.up) refl
-  where
-    by_test : (b : Bool) → (nat_eq p.words.number k && not p.up) ≡ b → PeerStands (cond b (record { words = p.words; session = p.session + 1; up = true }) p) c
-    by_test true e = record {
+begun_peer k p c stands = by_bool (nat_eq p.words.number k && not p.up) (λ b. PeerStands (cond b (record { words = p.words; session = p.session + 1; up = true }) p) c)
+    (λ e. record {
       words = stands.words;
-      chain = stands.chain;
-      full = stands.full;
-      few = stands.few;
-      earlier = later p c.incoming.tables.deletions (subst (λ (u : Bool). AllByRecursion (λ d. IsEarlier p u d.number) c.incoming.tables.deletions) (is_down (nat_eq p.words.number k) p.up e) stands.earlier);
+      earlier = subst (λ (n : ℕ). AreBefore n c) (ap (λ (u : Bool). cond u p.session (p.session + 1)) (is_down (nat_eq p.words.number k) p.up e)) stands.earlier;
       silent = tt;
-    }
-    by_test false e = stands
+    })
+    (λ _. stands)
 
 begun_one : (k : ℕ) (o : Option DeclaredPeer) (c : Option Chained) → StandsAt o c → StandsAt (option_map (begun_at k) o) c
 begun_one k None None stands = tt
@@ -342,33 +215,11 @@ ignored_stepped m k stands up = steps_said m (events.Up k) 0 (lines.Ignored ∷ 
     live (Some p) up = sym (ap (λ (u : Bool). cond u (live_state m) (live_state (begun m k))) up)
 
 -- ---- the moment after it, from its parts
--- the peer that was declared, by its words
-pub new_peer_at : (d : Declaration) (k : ℕ) (words : Speaker) → peer_at k d.peers ≡ None → peer_at k (with_peer d k words).peers ≡ Some (record { words = words_of d.speaker k words; session = 0; up = false })
-new_peer_at d k words absent = peer_at_push_here k d.peers (record { words = words_of d.speaker k words; session = 0; up = false }) absent refl
-
-pub declared_is : (m v : Moment) (me : Speaker) (k : ℕ) (words : Speaker) (after : Declaration) (p : DeclaredPeer) (c : Chained) (cs' : List Chained) → v ≡ m → peer_at k m.declared.peers ≡ None
-    → after ≡ with_peer v.declared k words → Some p ≡ peer_at k after.peers → c ≡ new_chain me p.words → cs' ≡ insert_chain c v.chains → record v { declared = after; chains = cs' } ≡ declared_peer m me k words
-declared_is m v me k words after p c cs' view absent added there new inserted =
-    let q : DeclaredPeer = record { words = words_of v.declared.speaker k words; session = 0; up = false } in
-    let is : p ≡ q = one_peer p q (there ∙ ap (λ (d : Declaration). peer_at k d.peers) added ∙ new_peer_at v.declared k words (ap (λ (n : Moment). peer_at k n.declared.peers) view ∙ absent)) in
-    let chains : cs' ≡ insert_chain (new_chain me q.words) v.chains = inserted ∙ ap (λ (x : Chained). insert_chain x v.chains) (new ∙ ap (λ (x : DeclaredPeer). new_chain me x.words) is) in
-    ap (λ (d : Declaration). record v { declared = d; chains = cs' }) added ∙ ap (λ (l : List Chained). record v { declared = with_peer v.declared k words; chains = l }) chains
-    ∙ ap (λ (n : Moment). declared_peer n me k words) view
-
--- the peer that was just declared is there
-pub not_added : (before after : Declaration) (k : ℕ) (words : Speaker) → peer_at k before.peers ≡ None → after ≡ with_peer before k words → None ≡ peer_at k after.peers → ⊥
-not_added before after k words absent added none =
-    let there : peer_at k after.peers ≡ Some (record { words = words_of before.speaker k words; session = 0; up = false }) = ap (λ (d : Declaration). peer_at k d.peers) added ∙ new_peer_at before k words absent in
-    cc
-
 pub speaker_is : (m v : Moment) (words : Speaker) (after : Declaration) → v ≡ m → after ≡ with_speaker v.declared words → record v { declared = after } ≡ declared_speaker m words
 speaker_is m v words after view said = ap (λ (d : Declaration). record v { declared = d }) said ∙ ap (λ (n : Moment). declared_speaker n words) view
 
 pub begun_is : (m v : Moment) (k : ℕ) (after : Declaration) → v ≡ m → after ≡ with_session v.declared k → record v { declared = after } ≡ begun m k
 begun_is m v k after view began = ap (λ (d : Declaration). record v { declared = d }) began ∙ ap (λ (n : Moment). begun n k) view
-
-pub peer_absent : (d : Declaration) (k : ℕ) (words : Speaker) → refusal d (events.Peer k words) ≡ None → peer_at k d.peers ≡ None
-peer_absent d k words e = (addable d.speaker d.peers k words e).1
 
 -- ---- `local`
 pub local_first : (d : Declaration) (words : Speaker) → refusal d (events.Local words) ≡ None → d.speaker ≡ None
@@ -388,15 +239,14 @@ peer_after d k words e none = by_speaker d.speaker e none
     by_speaker (Some me) e none = absurd (cc)
 
 -- no chain stands before it
-no_chains : (s t : Option Speaker) (cs : List Chained) → s ≡ None → AllByRecursion (λ c. s ≡ Some c.me) cs → AllByRecursion (λ c. t ≡ Some c.me) cs
-no_chains s t [] none all = tt
-no_chains s t (c ∷ cs) none all = let one : s ≡ Some c.me = all.0 in absurd (cc)
-
 pub speaker_stands : (m : Moment) (words : Speaker) → refusal m.declared (events.Local words) ≡ None → Stands m → Stands (declared_speaker m words)
 speaker_stands m words admitted stands = record { own = own; at = stands.at }
   where
+    first : m.declared.speaker ≡ None
+    first = local_first m.declared words admitted
+
     own : (claim : Claim) → Claims (declared_speaker m words) claim
-    own OneSpeaker = no_chains m.declared.speaker (Some words) m.chains (local_first m.declared words admitted) (stands.own OneSpeaker)
+    own OneSpeaker = λ k c at. absurd (let one : m.declared.speaker ≡ Some c.me = stands.own OneSpeaker k c at in let none = first in cc)
     own InteriorTree = let t = stands.own InteriorTree in record { tree = t.tree; full = t.full; few = t.few; waiting = λ e. absurd (cc) }
     own other = stands.own other
 
@@ -421,50 +271,26 @@ silent_edited : (up : Bool) (c : Chained) (rules : List Rule) → IsSilent up c 
 silent_edited true c rules silent = tt
 silent_edited false c rules silent = silent
 
--- the chain with new rules stands for the peer
-edited_peer : (p : DeclaredPeer) (c : Chained) (rules : List Rule) → PeerStands p c → PeerStands p (refiltered rules c)
-edited_peer p c rules stands = record {
-  words = stands.words;
-  chain = stands.chain;
-  full = stands.full;
-  few = stands.few;
-  earlier = stands.earlier;
-  silent = silent_edited p.up c rules stands.silent;
-}
+edited_one : (m : Moment) (k : ℕ) (rules : List Rule) (cs : Chains) → Stands m → EditsInward k rules m.chains cs → HasStepped m (events.FilterIn k rules) 0 (with_chains m cs) []
+edited_one m k rules cs stands e =
+    let c : Chained = e.edits.chain in
+    let p = peer_of m stands k c e.edits.at in
+    record {
+      block = (cs, e.edits, (refl, refl, refl));
+      live = record (live_state m) { rules = with_rules (live_state m).rules k rules };
+      after = refl;
+      keeps = record {
+        leads = leads_inward m cs [] (lead_nothing Inward (peer_links m.chains) (peer_links cs) e.links);
+        live = live_edited m k c (refiltered rules c) cs e.edits.at e.edits.after refl
+            ∙ ap (λ (r : List Rule). record (live_state m) { rules = with_rules (live_state m).rules k r }) (present_edited c.filter.in_force c.filter.walk rules);
+        stands = stands_with m k c (refiltered rules c) cs p.0 stands e.edits.at e.edits.after e.sound refl p.1 (record { words = p.2.words; earlier = p.2.earlier; silent = silent_edited p.0.up c rules p.2.silent });
+      };
+    }
 
-same_links : (m : Moment) (k : ℕ) (rules : List Rule) (c : Chained) → chain_at k m.chains ≡ Some c → links_of (refiltered rules c) ≡ links_of c → router_links m ≡ router_links (with_chain m (refiltered rules c))
-same_links m k rules c at links =
-    sym (same_peers m.chains k c at (parts m) refl (refiltered rules c) (number_at k m.chains c at) links) ∙ ap joined (inward_set m (put_chain (refiltered rules c) m.chains))
+pub edited_stepped : (m v : Moment) (k : ℕ) (rules : List Rule) (cs : Chains) → v ≡ m → Stands m → EditsInward k rules v.chains cs → HasStepped m (events.FilterIn k rules) 0 (with_chains v cs) []
+edited_stepped m v k rules cs view stands e = subst (λ (n : Moment). HasStepped n (events.FilterIn k rules) 0 (with_chains v cs) []) view (edited_one v k rules cs (subst Stands (sym view) stands) e)
 
-pub edited_stepped : (m v : Moment) (k : ℕ) (rules : List Rule) (cs : List Chained) → v ≡ m → Stands m → Edits k rules v.chains cs → HasStepped m (events.FilterIn k rules) 0 (record v { chains = cs }) []
-edited_stepped m v k rules cs view stands e = subst (λ (n : Moment). HasStepped n (events.FilterIn k rules) 0 (record v { chains = cs }) []) view (edited_one v k rules cs (subst Stands (sym view) stands) e)
-  where
-    edited_one : (m : Moment) (k : ℕ) (rules : List Rule) (cs : List Chained) → Stands m → Edits k rules m.chains cs → HasStepped m (events.FilterIn k rules) 0 (record m { chains = cs }) []
-    edited_one m k rules cs stands e =
-        let p = peer_of m stands k e.0 e.1 in
-        subst (λ (x : List Chained). HasStepped m (events.FilterIn k rules) 0 (record m { chains = x }) []) (sym e.2) (record {
-          block = (e.0, e.1, (refl, refl, refl));
-          live = record (live_state m) { rules = with_rules (live_state m).rules k rules };
-          after = refl;
-          keeps = record {
-            leads = leads_nowhere (router_links m) (router_links (with_chain m (refiltered rules e.0))) (same_links m k rules e.0 e.1 e.3);
-            live = live_edited m k e.0 (refiltered rules e.0) e.1 (number_at k m.chains e.0 e.1) refl
-                ∙ ap (λ (r : List Rule). record (live_state m) { rules = with_rules (live_state m).rules k r }) (present_edited e.0.filter.in_force e.0.filter.walk rules);
-            stands = stands_with m k e.0 (refiltered rules e.0) p.0 stands e.1 (number_at k m.chains e.0 e.1) refl p.1 (edited_peer p.0 e.0 rules p.2);
-          };
-        })
-
-pub edits_placed : (k : ℕ) (rules : List Rule) (cs : List Chained) (i : ℕ) (c c' : Chained) → AreInOrder cs → IsPlace k cs (Some i) → c ≡ get_or cs i c → c' ≡ refiltered rules c → links_of c' ≡ links_of c
-    → Edits k rules cs (set cs i c')
-edits_placed k rules cs i c c' order place is after links = (
-  c,
-  at_place k cs i c place is,
-  set_at_place cs i c c' order place.0 is (ap (λ (x : Chained). x.incoming.number) after) ∙ ap (λ (x : Chained). put_chain x cs) after,
-  subst (λ (x : Chained). links_of x ≡ links_of c) after links,
-)
-
-pub chain_for_rules : (m : Moment) (k : ℕ) (rules : List Rule) → refusal m.declared (events.FilterIn k rules) ≡ None → Stands m → IsSome (chain_at k m.chains)
-chain_for_rules m k rules admitted stands =
+pub chain_for_rules : (m v : Moment) (k : ℕ) (rules : List Rule) → v ≡ m → refusal m.declared (events.FilterIn k rules) ≡ None → Stands m → IsSome (chain_at k v.chains)
+chain_for_rules m v k rules view admitted stands =
     let p = rules_there m.declared k rules admitted in
-    let c = chain_there m stands k p.0 p.1 in
-    ap is_some c.1
+    subst (λ (n : Moment). IsSome (chain_at k n.chains)) (sym view) (ap is_some (chain_there m stands k p.0 p.1).1)

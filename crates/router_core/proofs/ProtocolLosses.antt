@@ -21,7 +21,7 @@ use Rattle.router_core.specs.Stands.{Stands, InteriorTree}
 use Rattle.router_core.specs.Turns.{journal_lines}
 use Rattle.router_core.specs.Works.{Pushes, EndsProtocol, HasProtocolRoom, HasStepped}
 use Rattle.router_core.proofs.RibLinks.{leads_above}
-use Rattle.router_core.proofs.TableLemmas.{few_lost}
+use Rattle.loss_chain.proofs.TableLemmas.{few_lost}
 use Rattle.router_core.proofs.TreeParts.{put_all}
 use Rattle.router_core.proofs.RouteLemmas.{stands_replanted, live_lost}
 use Rattle.router_core.proofs.KeepLemmas.{keeps_then, gives_push}

@@ -1,24 +1,27 @@
 -- What one region's part does, whatever the others have.
-use Rattle.std.proofs.Common.{◌≡◌, List, refl, ap, subst}
+use Rattle.std.proofs.Common.{◌≡◌, List, refl, sym, ap, subst}
 use Rattle.journal_text.specs.declared.link.Link.{Link}
 use Rattle.journal_text.specs.declared.value.Value.{Value}
 use Rattle.journal_text.specs.declared.entry.Entry.{Entry}
 use Rattle.journal_text.specs.Walk.{Leads}
-use Rattle.in_chain.specs.Chains.{Chained}
+use Rattle.journal_text.specs.Texts.{entries_of}
+use Rattle.journal_text.proofs.JournalLemmas.{entries_of_entries}
+use Rattle.peer_side.specs.Peers.{Chains, peer_links}
 use Rattle.rib_tree.specs.Trees.{Treed}
 use Rattle.rib_route.specs.declared.rows.Interior.{Interior as Route}
 use Rattle.register_interest.specs.Registers.{Registry}
-use Rattle.router_core.specs.declared.regions.Region.{Region}
-use Rattle.router_core.specs.declared.regions.Region.TheVariants.{Inward, InteriorRoutes, Forward}
-use Rattle.router_core.specs.Regions.{Sides, region_of, joined, with_side, LeadsIn}
-use Rattle.router_core.specs.Moments.{Moment, rib_by, peer_links, parts, router_links}
+use Rattle.link_region.specs.declared.regions.Region.{Region}
+use Rattle.link_region.specs.declared.regions.Region.TheVariants.{Inward, InteriorRoutes, Forward}
+use Rattle.link_region.specs.Regions.{Sides, region_of, joined, with_side, LeadsIn}
+use Rattle.router_core.specs.Moments.{Moment, with_chains, rib_by, parts, router_links}
+use Rattle.router_core.specs.Turns.{journal_lines}
 
 -- a link, by its region
 pub in_region : (m : Moment) (link : Link) (r : Region) → region_of link ≡ r → router_links m link ≡ parts m r link
 in_region m link r is = ap (λ (e : Region). parts m e link) is
 
 -- ---- the part of one region set in `parts`: a line for each side
-pub inward_set : (m : Moment) (cs : List Chained) → with_side (parts m) Inward (peer_links cs) ≡ parts (record m { chains = cs })
+pub inward_set : (m : Moment) (cs : Chains) → with_side (parts m) Inward (peer_links cs) ≡ parts (record m { chains = cs })
 inward_set m cs i r = each r i
   where
     each : (r : Region) → with_side (parts m) Inward (peer_links cs) r ≡ parts (record m { chains = cs }) r
@@ -34,5 +37,7 @@ interior_set m t r i s = each s i
     each other = refl
 
 -- ---- in the router
-pub leads_inward : (m : Moment) (cs : List Chained) (entries : List (Entry Value)) → LeadsIn Inward (peer_links m.chains) entries (peer_links cs) → Leads (router_links m) entries (router_links (record m { chains = cs }))
-leads_inward m cs entries leads = subst (λ (s : Sides). Leads (router_links m) entries (joined s)) (inward_set m cs) (leads (parts m) refl)
+pub leads_inward : (m : Moment) (cs : Chains) (entries : List (Entry Value)) → LeadsIn Inward (peer_links m.chains) entries (peer_links cs) → Leads (router_links m) (entries_of (journal_lines entries)) (router_links (with_chains m cs))
+leads_inward m cs entries leads =
+    subst (λ (es : List (Entry Value)). Leads (router_links m) es (router_links (with_chains m cs))) (sym (entries_of_entries entries))
+    (subst (λ (s : Sides). Leads (router_links m) entries (joined s)) (inward_set m cs) (leads (parts m) refl))

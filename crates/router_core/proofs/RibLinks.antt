@@ -18,9 +18,10 @@ use Rattle.journal_text.proofs.WalkLemmas.{leads_append, leads_nowhere, values_l
 use Rattle.register_interest.specs.Registers.{Registry}
 use Rattle.rib_tree.specs.Trees.{tree_links, Treed, beside_tree, int_rows}
 use Rattle.rib_tree.specs.Falls.{LeadsTree}
-use Rattle.rib_tree.specs.Forwards.{forwarded, rib_links}
-use Rattle.router_core.specs.declared.regions.Region.TheVariants.{InteriorRoutes, Forward}
-use Rattle.router_core.specs.Regions.{Sides, joined, with_side, LeadsIn}
+use Rattle.rib_merge.specs.Forwards.{forwarded}
+use Rattle.rib_tree.specs.Forwards.{rib_links}
+use Rattle.link_region.specs.declared.regions.Region.TheVariants.{InteriorRoutes, Forward}
+use Rattle.link_region.specs.Regions.{Sides, joined, with_side, LeadsIn}
 use Rattle.router_core.proofs.RegionLemmas.{interior_set}
 use Rattle.router_core.specs.Moments.{with_rib, Moment, rib_by, router_links, parts}
 use Rattle.router_core.specs.Turns.{fib_entries}

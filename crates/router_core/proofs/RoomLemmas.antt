@@ -1,87 +1,87 @@
 -- Room for one more deletion stage.
 use Rattle.std.proofs.Common.{◌≡◌, ℕ, Bool, true, ◌&&◌, ◌||◌, cond, List, [], Option, Some, None, is_some, nat_eq, nat_lt, length, refl, sym, ap, subst, ◌∙◌, arith, zero, suc}
-use Rattle.addr4.specs.Prefixes.{Network}
+use Rattle.std.specs.Prelude.{IsSome}
 use Rattle.link_change.specs.Rows.{is_empty_map}
 use Rattle.journal_text.specs.declared.link.Task.{Task}
 use Rattle.journal_text.specs.declared.link.Task.TheVariants.{Del}
 use Rattle.journal_text.specs.declared.line.Line.{Line}
 use Rattle.journal_text.specs.Journals.{Journaled, flushed}
-use Rattle.in_chain.specs.Chains.{Chained}
 use Rattle.loss_chain.specs.declared.owner.Owner.TheVariants as owners
 use Rattle.loss_chain.specs.Steps.{table_of}
+use Rattle.loss_chain.proofs.TableLemmas.{Shorter, shorter_none, shorter_more, free_of, stage_of, no_table, same_by}
+use Rattle.in_chain.specs.Chains.{Chained}
 use Rattle.in_chain.specs.Incomings.{overdue_of}
 use Rattle.in_chain.specs.Steps.{swept, welded, Sweeps}
-use Rattle.router_core.specs.Moments.{Moment, chain_at, with_chain, Gives}
-use Rattle.router_core.specs.Stands.{Stands}
-use Rattle.router_core.specs.Turns.{Turns, has_turn_in}
+use Rattle.peer_side.specs.Peers.{chain_at, has_turn_in, overdue_at, overdue_by}
+use Rattle.peer_side.specs.Steps.{TurnsPeer}
+use Rattle.peer_side.proofs.MapLemmas.{one_of}
+use Rattle.peer_side.proofs.PutLemmas.{put_here}
+use Rattle.router_core.specs.Moments.{Moment, Gives}
+use Rattle.router_core.specs.Stands.{Stands, EachChain}
+use Rattle.router_core.specs.Turns.{Turns}
 use Rattle.router_core.specs.Blocks.{RunsFirst}
 use Rattle.router_core.specs.Works.{HasDrained, HasRoom}
-use Rattle.router_core.proofs.TableLemmas.{Shorter, shorter_none, shorter_more, free_of, stage_of, no_table}
-use Rattle.router_core.proofs.ChainLemmas.{same_by, one_of, number_at, chain_at_put_same}
-use Rattle.router_core.proofs.StandLemmas.{peer_of}
 use Rattle.router_core.proofs.KeepLemmas.{keeps_none, gives_none}
 
 -- the chain after turns of a stage, which may have gone
 turns_shorter : (n k s : ℕ) (m : Moment) (c : Chained) (said : List Line) (m' : Moment) → chain_at k m.chains ≡ Some c → Turns n (Del k s) m said m'
     → (c' : Chained) × (chain_at k m'.chains ≡ Some c') × Shorter s c.incoming.tables.deletions c'.incoming.tables.deletions
 turns_shorter zero k s m c said m' at t = (c, ap (λ (x : Moment). chain_at k x.chains) t.1 ∙ at, shorter_none s c.incoming.tables.deletions)
-turns_shorter (suc n) k s m c said m' at t = by_rest (turns_shorter n k s t.2 c1 t.1 m' at1 t.4)
+turns_shorter (suc n) k s m c said m' at t =
+    let rest = turns_shorter n k s t.2 c1 t.1 m' at1 t.4 in
+    (rest.0, rest.1, shorter_more s sweeps.prefix c.incoming.tables.deletions rest.0.incoming.tables.deletions rest.2)
   where
-    sweeps : Sweeps t.3.chain t.3.turned_chain s t.3.sent t.3.entries
-    sweeps = t.3.turned.1
+    turn : TurnsPeer (Del k s) t.3.0 m.chains t.3.1.chains t.3.1.entries
+    turn = t.3.1.part
 
-    p : Network
-    p = sweeps.prefix
+    sweeps : Sweeps turn.chain turn.turned_chain s t.3.0 turn.fall
+    sweeps = turn.turned.1
 
     c1 : Chained
-    c1 = welded (swept s p c)
-
-    is : t.2 ≡ with_chain m c1
-    is = t.3.after ∙ ap (λ (x : Chained). with_chain m (welded x)) (sweeps.after ∙ ap (swept s p) (one_of t.3.chain c (sym t.3.at ∙ at)))
+    c1 = welded (swept s sweeps.prefix c)
 
     at1 : chain_at k t.2.chains ≡ Some c1
-    at1 = ap (λ (x : Moment). chain_at k x.chains) is ∙ chain_at_put_same k m.chains c c1 at (number_at k m.chains c at)
+    at1 = ap (λ (x : Moment). chain_at k x.chains) t.3.1.after ∙ ap (chain_at k) turn.after ∙ put_here k (welded turn.turned_chain) m.chains
+        ∙ ap (λ (x : Chained). Some (welded x)) (sweeps.after ∙ ap (swept s sweeps.prefix) (one_of turn.chain c (sym turn.at ∙ at)))
 
-    by_rest : (c' : Chained) × (chain_at k m'.chains ≡ Some c') × Shorter s c1.incoming.tables.deletions c'.incoming.tables.deletions
-        → (c' : Chained) × (chain_at k m'.chains ≡ Some c') × Shorter s c.incoming.tables.deletions c'.incoming.tables.deletions
-    by_rest r = (r.0, r.1, shorter_more s p c.incoming.tables.deletions r.0.incoming.tables.deletions r.2)
-
-drained_free : (k : ℕ) (m room : Moment) (c : Chained) (task : Task) (n : ℕ) (said : List Line) → Stands m → chain_at k m.chains ≡ Some c → overdue_of c.incoming ≡ Some task → HasDrained task m n room said
-    → (c' : Chained) → chain_at k room.chains ≡ Some c' → overdue_of c'.incoming ≡ None
-drained_free k m room c task n said stands at over d c' at' =
+drained_free : (k : ℕ) (m room : Moment) (c : Chained) (task : Task) (n : ℕ) (said : List Line) → Stands m → chain_at k m.chains ≡ Some c → overdue_of c.incoming ≡ Some task → HasDrained task m n room said → overdue_at k room.chains ≡ None
+drained_free k m room c task n said stands at over d =
     let stage = stage_of (nat_lt (length c.incoming.tables.deletions) 16 || is_empty_map c.incoming.tables.live) (owners.Peer c.incoming.number) c.incoming.tables.deletions task over in
-    let is : task ≡ Del k stage.0.number = stage.3 ∙ ap (λ (j : ℕ). Del j stage.0.number) (number_at k m.chains c at) in
+    let is : task ≡ Del k stage.0.number = stage.3 ∙ ap (λ (j : ℕ). Del j stage.0.number) (stands.own EachChain k c at).number in
     let drained : HasDrained (Del k stage.0.number) m n room said = subst (λ (t : Task). HasDrained t m n room said) is d in
     let r = turns_shorter n k stage.0.number m c said room at drained.run.taken in
-    let same : r.0 ≡ c' = one_of r.0 c' (sym r.1 ∙ at') in
     let there : table_of stage.0.number c.incoming.tables.deletions ≡ Some stage.0.rows = ap (table_of stage.0.number) stage.2 ∙ ap (λ (b : Bool). cond b (Some stage.0.rows) (table_of stage.0.number stage.1)) (same_by stage.0.number stage.0.number refl) in
-    let own : nat_eq k r.0.incoming.number ≡ true = same_by k r.0.incoming.number (sym (number_at k room.chains r.0 r.1)) in
+    let own : nat_eq k r.0.incoming.number ≡ true = same_by k r.0.incoming.number (sym (drained.run.work.keeps.stands.own EachChain k r.0 r.1).number) in
     let none : table_of stage.0.number r.0.incoming.tables.deletions ≡ None = no_table (table_of stage.0.number r.0.incoming.tables.deletions)
     (sym (ap (λ (b : Bool). b && is_some (table_of stage.0.number r.0.incoming.tables.deletions)) own) ∙ sym (ap (has_turn_in (Del k stage.0.number)) r.1) ∙ drained.ended) in
     let less = r.2.gone stage.0.rows there none in
-    let few = (peer_of m stands k c at).2.few in
-    let len : length r.0.incoming.tables.deletions ≡ length c'.incoming.tables.deletions = ap (λ (x : Chained). length x.incoming.tables.deletions) same in
-    free_of (owners.Peer c'.incoming.number) c'.incoming.tables (omega arith)
+    let few = (stands.own EachChain k c at).few in
+    ap overdue_by r.1 ∙ free_of (owners.Peer r.0.incoming.number) r.0.incoming.tables (omega (arith, less, few))
 
-pub room_drained : (k : ℕ) (m room : Moment) (c : Chained) (task : Task) (n : ℕ) (before now : Journaled) → Stands m → Some c ≡ chain_at k m.chains → Some task ≡ overdue_of c.incoming
-    → Gives (HasDrained task m n room) before now → Gives (HasRoom k m room) before now
-room_drained k m room c task n before now stands at over g = (
+-- a peer whose stage is overdue has a chain
+overdue_there : (o : Option Chained) (task : Task) → overdue_by o ≡ Some task → (c : Chained) × (o ≡ Some c) × (overdue_of c.incoming ≡ Some task)
+overdue_there None task e = absurd (cc)
+overdue_there (Some c) task e = (c, refl, e)
+
+pub room_drained : (k : ℕ) (m v room : Moment) (task : Task) (n : ℕ) (before now : Journaled) → v ≡ m → Stands m → Some task ≡ overdue_at k v.chains → Gives (HasDrained task m n room) before now → Gives (HasRoom k m room) before now
+room_drained k m v room task n before now view stands over g = (
   g.0,
   g.1,
   record {
-    before = c;
-    at = sym at;
-    runs = subst (λ (o : Option Task). RunsFirst o m g.0 room) over (n, (g.2.run.taken, g.2.ended));
+    there = ap is_some c.1;
+    runs = subst (λ (o : Option Task). RunsFirst o m g.0 room) is (n, (g.2.run.taken, g.2.ended));
     keeps = g.2.run.work.keeps;
-    free = drained_free k m room c task n g.0 stands (sym at) (sym over) g.2;
+    free = drained_free k m room c.0 task n g.0 stands c.1 c.2 g.2;
   },
 )
+  where
+    is : Some task ≡ overdue_at k m.chains
+    is = over ∙ ap (λ (x : Moment). overdue_at k x.chains) view
 
-pub room_there : (k : ℕ) (m : Moment) (c : Chained) (before now : Journaled) → Stands m → Some c ≡ chain_at k m.chains → None ≡ overdue_of c.incoming → now ≡ flushed before → Gives (HasRoom k m m) before now
-room_there k m c before now stands at over is = gives_none (HasRoom k m m) before now (record {
-  before = c;
-  at = sym at;
-  runs = subst (λ (o : Option Task). RunsFirst o m [] m) over (refl, refl);
-  keeps = keeps_none m stands;
-  free = λ c' at'. ap (λ (x : Chained). overdue_of x.incoming) (one_of c' c (sym at' ∙ sym at)) ∙ sym over;
-}) is
+    c : (c : Chained) × (chain_at k m.chains ≡ Some c) × (overdue_of c.incoming ≡ Some task)
+    c = overdue_there (chain_at k m.chains) task (sym is)
+
+pub room_there : (k : ℕ) (m v : Moment) (before now : Journaled) → v ≡ m → Stands m → IsSome (chain_at k m.chains) → None ≡ overdue_at k v.chains → now ≡ flushed before → Gives (HasRoom k m m) before now
+room_there k m v before now view stands there over is =
+    let none : None ≡ overdue_at k m.chains = over ∙ ap (λ (x : Moment). overdue_at k x.chains) view in
+    gives_none (HasRoom k m m) before now (record { there = there; runs = subst (λ (o : Option Task). RunsFirst o m [] m) none (refl, refl); keeps = keeps_none m stands; free = sym none }) is

@@ -26,14 +26,14 @@ use Rattle.rib_tree.specs.BranchSteps.{welded_branch, fed_branch}
 use Rattle.loss_chain.specs.Steps.{live_after, without}
 use Rattle.rib_tree.specs.Trees.{Treed, branch_of, put_branch, int_rows, IsTree, IsFull}
 use Rattle.rib_tree.specs.Falls.{FallsTree, LeadsTree, way_of_route}
-use Rattle.rib_tree.specs.Forwards.{forwarded}
+use Rattle.rib_merge.specs.Forwards.{forwarded}
 use Rattle.rib_tree.specs.Steps.{welded_tree, fed_tree, tree_weld_entries}
 use Rattle.router_core.specs.Moments.{with_rib, Moment, router_links}
 use Rattle.router_core.specs.Lives.{live_state, with_interior, with_losses, interior_fed}
 use Rattle.router_core.specs.Stands.{Stands, Claim, Claims, InteriorTree, Tie, Ties, Registered, here}
 use Rattle.router_core.specs.Turns.{journal_lines, fib_entries, FallsRoute, Registers}
 use Rattle.router_core.specs.Works.{Forwards, Follows, Settles, PushesForwarded, HasRouted, Pushes}
-use Rattle.router_core.proofs.TableLemmas.{few_filter, few_map}
+use Rattle.loss_chain.proofs.TableLemmas.{few_filter, few_map}
 use Rattle.router_core.proofs.RibLinks.{leads_rib, leads_above}
 use Rattle.router_core.proofs.TreeParts.{welded_put, put_seen, put_all, put_kept}
 use Rattle.router_core.proofs.StandLemmas.{registered_rows}

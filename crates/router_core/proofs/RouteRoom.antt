@@ -16,12 +16,11 @@ use Rattle.rib_tree.specs.Trees.{Treed, branch_of}
 use Rattle.rib_tree.specs.Steps.{tree_overdue}
 use Rattle.router_core.specs.Moments.{Moment, Gives}
 use Rattle.router_core.specs.Stands.{Stands, InteriorTree}
-use Rattle.deletion_stage.specs.Lost.{Lost}
+use Rattle.loss_chain.specs.Lost.{Lost}
 use Rattle.router_core.specs.Turns.{Turns}
 use Rattle.router_core.specs.Blocks.{RunsFirst}
 use Rattle.router_core.specs.Works.{HasDrained, HasProtocolRoom}
-use Rattle.router_core.proofs.TableLemmas.{is_full, Shorter, shorter_none, shorter_more, free_of, stage_of, no_table}
-use Rattle.router_core.proofs.ChainLemmas.{same_by}
+use Rattle.loss_chain.proofs.TableLemmas.{is_full, Shorter, shorter_none, shorter_more, free_of, stage_of, no_table, same_by}
 use Rattle.router_core.proofs.TreeParts.{put_here, welded_put}
 use Rattle.router_core.proofs.KeepLemmas.{keeps_none, gives_none}
 

@@ -27,7 +27,7 @@ use Rattle.router_core.specs.Moments.{Moment, with_rib}
 use Rattle.router_core.specs.Lives.{live_state}
 use Rattle.router_core.specs.Stands.{Stands, InteriorTree}
 use Rattle.router_core.specs.Works.{Settles, Turned, IsUnit, Comes, Pushes}
-use Rattle.router_core.proofs.TableLemmas.{few_map}
+use Rattle.loss_chain.proofs.TableLemmas.{few_map}
 use Rattle.router_core.proofs.RouteLemmas.{Routes, routes_on, live_stays}
 use Rattle.router_core.specs.Phases.{frame_of}
 use Rattle.router_core.proofs.CountLemmas.{tree_spends}

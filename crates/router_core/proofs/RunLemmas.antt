@@ -9,17 +9,17 @@ use Rattle.in_chain.specs.Laws.{TurnsAreBounded, TurnsAreLeft}
 use Rattle.rib_tree.specs.Trees.{tree_count}
 use Rattle.router_core.specs.declared.router.Phase.{Phase}
 use Rattle.router_core.specs.declared.router.Phase.TheVariants.{Rdel, Del, Fin}
-use Rattle.router_core.specs.Moments.{Moment, rows_in, bound_of, Gives}
+use Rattle.peer_side.specs.Peers.{rows_in}
+use Rattle.router_core.specs.Moments.{Moment, bound_of, Gives}
 use Rattle.router_core.specs.Lives.{LiveState, live_state}
 use Rattle.router_core.specs.Stands.{Stands, SameCount}
 use Rattle.router_core.specs.Phases.{Frame, Each, all_phases, counts, frame_of, rise, bounds, Spends}
 use Rattle.router_core.specs.Turns.{IsTurn, Turns, RunsPhase, RunsAll, phase_of, next_task, has_work, IsSettled}
 use Rattle.router_core.specs.Works.{Keeps, IsWork, IsUnit, HaveRun, HasDrained, HaveRunOf, HaveDrained, AllHaveDrained}
-use Rattle.router_core.proofs.KeepLemmas.{keeps_none, keeps_on, gives_join, gives_none, gives_so}
-use Rattle.router_core.proofs.ChainLemmas.{get_or_any}
+use Rattle.router_core.proofs.KeepLemmas.{get_or_any, keeps_none, keeps_on, gives_join, gives_none, gives_so}
 use Rattle.router_core.proofs.PhaseLemmas.{spends_none, spends_join, bounds_step, over_more}
 use Rattle.router_core.proofs.CountLemmas.{counts_below, over_none, none_over}
-use Rattle.router_core.proofs.NextLemmas.{next_works, next_over}
+use Rattle.router_core.proofs.NextLemmas.{next_works}
 use Rattle.router_core.proofs.ScratchLemmas.{settled_is_exact}
 
 -- ---- work
@@ -97,12 +97,12 @@ phase_less r task n at now j j' next d = by_turns n (subst (λ (e : Phase). IsWo
     by_turns zero work taken = absurd (let same : has_work task at ≡ false = sym (ap (has_work task) taken.1) ∙ d.2.ended in let on = works.0 in cc)
     by_turns (suc n) work taken = let falls = work.spends.falls in omega (arith, falls)
 
-pub phase_done : TurnsAreBounded → (r : Phase) (m now : Moment) (turns : ℕ) (before j : Journaled) → HaveGivenOf r turns m now before j → None ≡ next_task r now → Gives (HaveDrained r m turns now) before j
-phase_done law r m now turns before j g none = gives_so (HaveRunOf r m turns now) (HaveDrained r m turns now) (λ xs p. record {
+pub phase_done : TurnsAreBounded → TurnsAreLeft → (r : Phase) (m now : Moment) (turns : ℕ) (before j : Journaled) → HaveGivenOf r turns m now before j → None ≡ next_task r now → counts now r ≡ 0 → Gives (HaveDrained r m turns now) before j
+phase_done law left r m now turns before j g none gone = gives_so (HaveRunOf r m turns now) (HaveDrained r m turns now) (λ xs p. record {
   runs = record { count = p.count; runs = p.runs; none = sym none };
   work = p.work;
   most = let falls = p.work.spends.falls in let below = counts_below law m r in omega (arith, falls, below);
-  over = next_over r now p.work.keeps.stands (sym none);
+  over = none_over left r now p.work.keeps.stands gone;
 }) before j g
 
 -- ---- all phases, whatever the table is

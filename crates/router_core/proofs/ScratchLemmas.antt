@@ -5,7 +5,7 @@ use Rattle.std.specs.FinMap as tables
 use Rattle.bgp_attr.specs.declared.attrs.Attrs.{Attrs}
 use Rattle.bgp_attr.specs.declared.speaker.Speaker.{Speaker}
 use Rattle.bgp_attr.specs.declared.speaker.Neighbour.{Neighbour}
-use Rattle.deletion_stage.specs.Lost.{Lost}
+use Rattle.loss_chain.specs.Lost.{Lost}
 use Rattle.policy_rules.specs.declared.rule.Rule.{Rule}
 use Rattle.pass_core.specs.Passed.{Walked, present, present_of}
 use Rattle.filter_bank.specs.Filtered.{passed_rows, filtered_rows}
@@ -25,15 +25,15 @@ use Rattle.rib_merge.specs.Merging.{merged}
 use Rattle.rib_tree.specs.Branches.{org_rows}
 use Rattle.loss_chain.specs.Tables.{rows_below as interiors_below, rows_above as interiors_above}
 use Rattle.rib_tree.specs.Trees.{branch_of, low_rows, dyn_rows, int_rows, interior_distance}
-use Rattle.rib_tree.specs.Forwards.{forwarded}
+use Rattle.rib_merge.specs.Forwards.{forwarded}
 use Rattle.router_core.specs.declared.router.Phase.TheVariants as phases
-use Rattle.router_core.specs.Moments.{Moment, chain_at, links_by, rib_by, router_links}
-use Rattle.router_core.specs.Lives.{Routes, Interiors, live_state, routes_of, rules_of}
-use Rattle.router_core.specs.Stands.{StandsAt, Stands, EachPeer}
+use Rattle.peer_side.specs.Peers.{chain_at, links_by, routes_of, rules_of}
+use Rattle.router_core.specs.Moments.{Moment, rib_by, router_links}
+use Rattle.router_core.specs.Lives.{Routes, Interiors, live_state}
+use Rattle.router_core.specs.Stands.{StandsAt, Stands, EachChain, EachPeer, OneSpeaker}
 use Rattle.router_core.specs.Scratch.{live_rows, judged_rows, best_of, least_rows, since_local, from_scratch, IsExact}
-use Rattle.router_core.proofs.ChainLemmas.{same_by, number_at, all_at}
-use Rattle.router_core.proofs.LinkLemmas.{none_by}
-use Rattle.router_core.proofs.StandLemmas.{speaker_at}
+use Rattle.loss_chain.proofs.TableLemmas.{same_by}
+use Rattle.peer_side.proofs.LinkLemmas.{none_by}
 use Rattle.router_core.specs.Turns.{IsSettled}
 
 -- no peer, nothing to judge
@@ -50,13 +50,13 @@ rows_settled c stages walk =
 
 module _ (m : Moment) (stands : Stands m) (settled : IsSettled m) where
   here : (k : ℕ) (c : Chained) → chain_at k m.chains ≡ Some c → nat_eq k c.incoming.number ≡ true
-  here k c at = same_by k c.incoming.number (sym (number_at k m.chains c at))
+  here k c at = same_by k c.incoming.number (sym (stands.own EachChain k c at).number)
 
   no_stage : (k : ℕ) (c : Chained) → chain_at k m.chains ≡ Some c → c.incoming.tables.deletions ≡ []
-  no_stage k c at = all_at (λ d. d.incoming.tables.deletions ≡ []) k m.chains c (settled phases.Del) at
+  no_stage k c at = settled phases.Del k c at
 
   no_walk : (k : ℕ) (c : Chained) → chain_at k m.chains ≡ Some c → c.filter.walk ≡ None
-  no_walk k c at = all_at (λ d. d.filter.walk ≡ None) k m.chains c (settled phases.Fin) at
+  no_walk k c at = settled phases.Fin k c at
 
   in_exact : (k : ℕ) (p : Option DeclaredPeer) (c : Option Chained) → chain_at k m.chains ≡ c → StandsAt p c → links_by c (In k) ≡ option_map attrs_rows (live_rows p (routes_of c))
   in_exact k None None at there = refl
@@ -81,7 +81,7 @@ module _ (m : Moment) (stands : Stands m) (settled : IsSettled m) where
       ap (λ (b : Bool). cond b (Some (route_rows (filt_rows c))) None) (here k c at)
       ∙ ap (λ rows. Some (route_rows rows)) (rows_settled c (no_stage k c at) (no_walk k c at))
       ∙ ap (λ (w : Neighbour). Some (route_rows (filtered_rows c.me w (present c.filter) (tables.get c.incoming.tables.live)))) there.words
-      ∙ ap (λ (s : Option Speaker). option_map route_rows (judged_rows s (Some p) (present c.filter) c.incoming.tables.live)) (sym (speaker_at m stands k c at))
+      ∙ ap (λ (s : Option Speaker). option_map route_rows (judged_rows s (Some p) (present c.filter) c.incoming.tables.live)) (sym (stands.own OneSpeaker k c at))
 
   -- ---- the interior routes
   abbrev routes_in : Proto → Interiors

@@ -23,7 +23,15 @@ use Rattle.event_text.specs.declared.event.Event.TheVariants as events
 use Rattle.router_core.specs.Moments.{Moment, router_links}
 use Rattle.journal_text.specs.Journals.{Journaled, with_lines}
 use Rattle.router_core.specs.Blocks.{AreRows, answer_lines, Shows}
-use Rattle.router_core.specs.Lookups.{listed_at, row_lines, Counts, ShowsRow, IsCountOf}
+use Rattle.router_core.specs.Lookups.{listed_at, row_lines, Counts, ShowsRow, IsCountOf, IsNextPlace}
+use Rattle.bgp_attr.specs.declared.speaker.Speaker.{Speaker}
+use Rattle.rib_tree.specs.Trees.{Treed}
+use Rattle.rib_tree.specs.Forwards.{rib_links}
+use Rattle.link_region.specs.declared.regions.Region.TheVariants.{Inward}
+use Rattle.link_region.specs.Regions.{region_of}
+use Rattle.peer_side.specs.Peers.{peer_links, peer_candidates}
+use Rattle.router_core.specs.Moments.{rib_by}
+use Rattle.router_core.proofs.RegionLemmas.{in_region}
 use Rattle.router_core.specs.Works.{Pushes, HasStepped}
 use Rattle.router_core.specs.Stands.{Stands}
 use Rattle.router_core.specs.Lives.{live_state}
@@ -147,10 +155,6 @@ row_here links link p row rows has is = ap (λ (f : Rows Value). f p) (one_rows 
 length_at : (p : Network) (row : Option Value) (listed : List (Network × Value)) (m n : ℕ) → m ≡ length listed → n ≡ length (listed_at p row) → m + n ≡ length (listed ++ listed_at p row)
 length_at p row listed m n e f = let l = length-append listed (listed_at p row) in omega arith
 
--- candidates at which all rows of a link stand
-abbrev pub CoversLink : Candidates → Option (Rows Value) → Type 0
-CoversLink candidates link = (rows : Rows Value) → link ≡ Some rows → CoversRows candidates rows
-
 -- these rows were passed
 abbrev pub AreShown : Option (Rows Value) → Option Network → List (Network × Value) → Type 0
 AreShown link place listed = (rows : Rows Value) → link ≡ Some rows → IsShown rows place listed
@@ -162,24 +166,23 @@ IsCounted link place n = (listed : List (Network × Value)) × (n ≡ length lis
 pub none_counted : (link : Option (Rows Value)) → IsCounted link None 0
 none_counted link = ([], refl, λ rows is. none_shown rows)
 
-pub row_shown : (candidates : Candidates) (links : Links Value) (link : Link) (place : Option Network) (p : Network) (row : Option Value) (listed : List (Network × Value))
-    → IsNextCandidate candidates place (Some p) → CoversLink candidates (links link) → HasRow links link p row → AreShown (links link) place listed → AreShown (links link) (Some p) (listed ++ listed_at p row)
-row_shown candidates links link place p row listed next covers has shown rows is =
-    next_shown candidates rows (covers rows is) place listed p row next (row_here links link p row rows has is) (shown rows is)
+row_shown : (links : Links Value) (link : Link) (place : Option Network) (p : Network) (row : Option Value) (listed : List (Network × Value))
+    → IsNextPlace (links link) place (Some p) → HasRow links link p row → AreShown (links link) place listed → AreShown (links link) (Some p) (listed ++ listed_at p row)
+row_shown links link place p row listed next has shown rows is =
+    next_shown next.0 rows (next.2 rows is) place listed p row next.1 (row_here links link p row rows has is) (shown rows is)
 
-pub one_counted : (candidates : Candidates) (links : Links Value) (link : Link) (place : Option Network) (p : Network) (m n : ℕ)
-    → IsNextCandidate candidates place (Some p) → CoversLink candidates (links link) → Counts links link p n → IsCounted (links link) place m → IsCounted (links link) (Some p) (m + n)
-one_counted candidates links link place p m n next covers counts before = (
+pub one_counted : (links : Links Value) (link : Link) (place : Option Network) (p : Network) (m n : ℕ)
+    → IsNextPlace (links link) place (Some p) → Counts links link p n → IsCounted (links link) place m → IsCounted (links link) (Some p) (m + n)
+one_counted links link place p m n next counts before = (
   before.0 ++ listed_at p counts.0,
   length_at p counts.0 before.0 m n before.1 counts.2,
-  row_shown candidates links link place p counts.0 before.0 next covers counts.1 before.2,
+  row_shown links link place p counts.0 before.0 next counts.1 before.2,
 )
 
-pub all_counted : (candidates : Candidates) (link : Option (Rows Value)) (place : Option Network) (n : ℕ) → IsSome link → IsNextCandidate candidates place None → CoversLink candidates link
-    → IsCounted link place n → IsCountOf link (Some n)
-all_counted candidates None place n live next covers counted = absurd (cc)
-all_counted candidates (Some rows) place n live next covers counted =
-    (counted.0, all_shown candidates rows (covers rows refl) place counted.0 next (counted.2 rows refl), counted.1)
+pub all_counted : (link : Option (Rows Value)) (place : Option Network) (n : ℕ) → IsSome link → IsNextPlace link place None → IsCounted link place n → IsCountOf link (Some n)
+all_counted None place n live next counted = absurd (cc)
+all_counted (Some rows) place n live next counted =
+    (counted.0, all_shown next.0 rows (next.2 rows refl) place counted.0 next.1 (counted.2 rows refl), counted.1)
 
 pub with_none : (j : Journaled) → j ≡ with_lines j []
 with_none j = ap (λ pending. record { text = j.text; pending = pending; quiet = j.quiet }) (sym (append-nil j.pending))
@@ -194,25 +197,24 @@ AreGiven link of place n before now = (listed : List (Network × Value)) × (now
 pub none_given : (link : Link) (of : Option (Rows Value)) (j : Journaled) → AreGiven link of None 0 j j
 none_given link of j = ([], with_none j, refl, λ rows is. none_shown rows)
 
-pub one_given : (candidates : Candidates) (links : Links Value) (link : Link) (place : Option Network) (p : Network) (m n : ℕ) (before j now : Journaled)
-    → IsNextCandidate candidates place (Some p) → CoversLink candidates (links link) → ShowsRow links link p j now n → AreGiven link (links link) place m before j
-    → AreGiven link (links link) (Some p) (m + n) before now
-one_given candidates links link place p m n before j now next covers row given = (
+pub one_given : (links : Links Value) (link : Link) (place : Option Network) (p : Network) (m n : ℕ) (before j now : Journaled)
+    → IsNextPlace (links link) place (Some p) → ShowsRow links link p j now n → AreGiven link (links link) place m before j → AreGiven link (links link) (Some p) (m + n) before now
+one_given links link place p m n before j now next row given = (
   given.0 ++ listed_at p row.0,
   row.3 ∙ ap (λ (x : Journaled). with_lines x (row_lines link (listed_at p row.0))) given.1 ∙ with_more before (row_lines link given.0) (row_lines link (listed_at p row.0))
       ∙ ap (with_lines before) (sym (map-append (λ r. lines.Row link r.0 r.1) given.0 (listed_at p row.0))),
   length_at p row.0 given.0 m n given.2 row.2,
-  row_shown candidates links link place p row.0 given.0 next covers row.1 given.3,
+  row_shown links link place p row.0 given.0 next row.1 given.3,
 )
 
-pub rows_end : (candidates : Candidates) (link : Link) (of : Option (Rows Value)) (place : Option Network) (n : ℕ) (before j now : Journaled) → IsSome of → IsNextCandidate candidates place None
-    → CoversLink candidates of → AreGiven link of place n before j → now ≡ with_lines j (lines.Rows link n ∷ []) → Pushes (Shows link of) before now
-rows_end candidates link None place n before j now live next covers given last = absurd (cc)
-rows_end candidates link (Some rows) place n before j now live next covers given last = (
+pub rows_end : (link : Link) (of : Option (Rows Value)) (place : Option Network) (n : ℕ) (before j now : Journaled) → IsSome of → IsNextPlace of place None
+    → AreGiven link of place n before j → now ≡ with_lines j (lines.Rows link n ∷ []) → Pushes (Shows link of) before now
+rows_end link None place n before j now live next given last = absurd (cc)
+rows_end link (Some rows) place n before j now live next given last = (
   row_lines link given.0 ++ lines.Rows link (length given.0) ∷ [],
   last ∙ ap (λ m. with_lines j (lines.Rows link m ∷ [])) given.2 ∙ ap (λ s. with_lines s (lines.Rows link (length given.0) ∷ [])) given.1
       ∙ with_more before (row_lines link given.0) (lines.Rows link (length given.0) ∷ []),
-  (given.0, all_shown candidates rows (covers rows refl) place given.0 next (given.3 rows refl), refl),
+  (given.0, all_shown next.0 rows (next.2 rows refl) place given.0 next.1 (given.3 rows refl), refl),
 )
 
 -- ---- a show as an event
@@ -240,25 +242,27 @@ ask_stepped m link p (Some rows) stands is = record {
 }
 
 -- ---- a link whose candidates are its rows
-abbrev pub candidates_by : Option (Rows Value) → Candidates
-candidates_by None = λ q. false
-candidates_by (Some rows) = with_rows rows
-
 none_by_test : (o : Option Value) → is_some o ≡ false → o ≡ None
 none_by_test None e = refl
 none_by_test (Some v) e = absurd (cc)
 
-pub covers_own : (of : Option (Rows Value)) → CoversLink (candidates_by of) of
-covers_own None rows is q lacks = absurd (cc)
-covers_own (Some own) rows is q lacks = ap (λ (f : Rows Value). f q) (sym (one_rows own rows is)) ∙ none_by_test (own q) lacks
-
 -- the next candidate of each map of rows that the link has
-abbrev pub IsNextRow : Option (Rows Value) → Option Network → Option Network → Type 0
-IsNextRow of place result = (rows : Rows Value) → of ≡ Some rows → IsNextCandidate (with_rows rows) place result
+next_row : (of : Option (Rows Value)) (place result : Option Network) → IsSome of → ((rows : Rows Value) → of ≡ Some rows → IsNextCandidate (with_rows rows) place result) → IsNextPlace of place result
+next_row None place result live next = absurd (cc)
+next_row (Some own) place result live next = (with_rows own, next own refl, λ rows is q lacks. ap (λ (f : Rows Value). f q) (one_rows rows own (sym is)) ∙ none_by_test (own q) lacks)
 
-pub next_own : (of : Option (Rows Value)) (place result : Option Network) → IsSome of → IsNextRow of place result → IsNextCandidate (candidates_by of) place result
-next_own None place result live next = absurd (cc)
-next_own (Some rows) place result live next = next rows refl
+-- by the region of the link
+pub next_inward : (m v : Moment) (link : Link) (place result : Option Network) → v ≡ m → region_of link ≡ Inward → IsNextCandidate (peer_candidates v.chains link) place result
+    → ((rows : Rows Value) → peer_links v.chains link ≡ Some rows → CoversRows (peer_candidates v.chains link) rows) → IsNextPlace (router_links m link) place result
+next_inward m v link place result view here next covers =
+    (peer_candidates v.chains link, next, λ rows is. covers rows (ap (λ (n : Moment). peer_links n.chains link) view ∙ sym (in_region m link Inward here) ∙ is))
 
-pub beyond_own : (of : Option (Rows Value)) (place : Option Network) (p : Network) → IsSome of → IsNextRow of place (Some p) → IsBeyond place p
-beyond_own of place p live next = (next_own of place (Some p) live next).0
+-- a link of the interior routes that is live
+rib_live : (s : Option Speaker) (t : Treed) (link : Link) → IsSome (rib_by s t link) → rib_by s t link ≡ rib_links t link
+rib_live None t link live = absurd (cc)
+rib_live (Some me) t link live = refl
+
+pub next_rib : (m v : Moment) (link : Link) (place result : Option Network) → v ≡ m → router_links m link ≡ rib_by m.declared.speaker m.tree link → IsSome (router_links m link)
+    → ((rows : Rows Value) → rib_links v.tree link ≡ Some rows → IsNextCandidate (with_rows rows) place result) → IsNextPlace (router_links m link) place result
+next_rib m v link place result view here live next = next_row (router_links m link) place result live (λ rows is.
+    next rows (ap (λ (n : Moment). rib_links n.tree link) view ∙ sym (rib_live m.declared.speaker m.tree link (subst IsSome here live)) ∙ sym here ∙ is))

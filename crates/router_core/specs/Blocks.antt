@@ -31,14 +31,14 @@ use Rattle.register_interest.specs.Covers.{matched, IsCover}
 use Rattle.rib_tree.specs.Trees.{branch_of, int_rows}
 use Rattle.rib_tree.specs.Steps.{fed_tree, lost_tree, tree_overdue, tree_loss_entries}
 use Rattle.rib_tree.specs.Falls.{way_of_route}
-use Rattle.in_chain.specs.Chains.{Chained}
-use Rattle.in_chain.specs.Incomings.{loss_entries, overdue_of}
-use Rattle.in_chain.specs.Steps.{new_chain, lost, refiltered}
-use Rattle.router_core.specs.Moments.{with_rib, Moment, chain_at, insert_chain, with_chain, router_links, bound_of}
+use Rattle.in_chain.specs.Steps.{new_chain}
+use Rattle.peer_side.specs.Peers.{Chains, chain_at, put_chain, overdue_at}
+use Rattle.peer_side.specs.Steps.{EditsPeer, LosesPeer}
+use Rattle.router_core.specs.Moments.{Moment, with_chains, with_rib, router_links, bound_of}
 use Rattle.router_core.specs.Lives.{LiveAfter, live_state, changes_of, Says}
 use Rattle.router_core.specs.Phases.{all_phases}
 use Rattle.router_core.specs.Scratch.{IsExact}
-use Rattle.router_core.specs.Turns.{journal_lines, FeedsAll, FallsRoute, Turns, Drains, RunsAll, IsSettled, has_work}
+use Rattle.router_core.specs.Turns.{journal_lines, InPeers, FeedsAll, FallsRoute, Turns, Drains, RunsAll, IsSettled, has_work}
 
 -- exactly this is said, this is the moment after it, and no turn was taken
 abbrev pub Just : List Line → Moment → List Line → ℕ → Moment → Type 0
@@ -56,7 +56,7 @@ declared_speaker m words = record m { declared = with_speaker m.declared words }
 
 abbrev pub declared_peer : Moment → Speaker → ℕ → Speaker → Moment
 declared_peer m me k words =
-    record m { declared = with_peer m.declared k words; chains = insert_chain (new_chain me (words_of m.declared.speaker k words)) m.chains }
+    record m { declared = with_peer m.declared k words; chains = put_chain k (new_chain me (words_of m.declared.speaker k words)) m.chains }
 
 -- where `local` was declared, the links of a new peer begin
 abbrev pub Declares : Moment → Option Speaker → ℕ → Speaker → List Line → ℕ → Moment → Type 0
@@ -67,7 +67,7 @@ Declares m (Some me) k words said turns m' =
 -- the incoming filter of peer k has these rules from now on; they hold nowhere yet
 abbrev pub Refilters : ℕ → List Rule → Moment → List Line → ℕ → Moment → Type 0
 Refilters k rules m said turns m' =
-    (chain : Chained) × (chain_at k m.chains ≡ Some chain) × Just [] (with_chain m (refiltered rules chain)) said turns m'
+    (chains : Chains) × EditsPeer k rules m.chains chains × Just [] (with_chains m chains) said turns m'
 
 abbrev pub begun : Moment → ℕ → Moment
 begun m k = record m { declared = with_session m.declared k }
@@ -83,15 +83,15 @@ RunsFirst (Some task) m said m' = (turns : ℕ) × Drains task m said turns m'
 -- Session s of peer k is lost: where 16 deletion stages stand and the routes to be lost are some, the oldest stage runs to its
 -- end first; then the routes go to a stage of their own.
 pub record Loses (k s : ℕ) (m : Moment) (said : List Line) (m' : Moment) : Type 0 where
-  pub before : Chained
-  pub at : chain_at k m.chains ≡ Some before
+  pub there : IsSome (chain_at k m.chains)
   pub first : List Line
   pub room : Moment
-  pub runs : RunsFirst (overdue_of before.incoming) m first room
-  pub chain : Chained
-  pub there : chain_at k room.chains ≡ Some chain
-  pub lines : said ≡ first ++ journal_lines (loss_entries s chain.incoming)
-  pub after : m' ≡ ended (with_chain room (lost s chain)) k
+  pub runs : RunsFirst (overdue_at k m.chains) m first room
+  pub last : List Line
+  pub between : Moment
+  pub loses : InPeers (LosesPeer k s room.chains) room last between
+  pub lines : said ≡ first ++ last
+  pub after : m' ≡ ended between k
 
 -- A route of a protocol is the one of the event from now on; an equal one sends nothing.
 abbrev pub AddsRoute : Network → Interior → Moment → List Line → Moment → Type 0

@@ -1,4 +1,3 @@
-pub mod Regions
 pub mod Moments
 pub mod Lives
 pub mod Phases

@@ -17,14 +17,13 @@ use Rattle.event_text.specs.declared.event.Event.TheVariants.{Nothing, Local, Pe
 use Rattle.event_text.specs.declared.declared.DeclaredPeer.{DeclaredPeer}
 use Rattle.event_text.specs.Declarations.{Declaration, no_declaration, peer_at, with_speaker, with_peer, with_session, without_session}
 use Rattle.policy_rules.specs.declared.rule.Rule.{Rule}
-use Rattle.pass_core.specs.Passed.{present}
-use Rattle.in_chain.specs.Chains.{Chained}
 use Rattle.loss_chain.specs.Steps.{live_after}
 use Rattle.rib_route.specs.declared.Proto.{Proto}
 use Rattle.rib_route.specs.declared.rows.Interior.{Interior}
 use Rattle.loss_chain.specs.Owners.{same_proto}
 use Rattle.rib_tree.specs.Trees.{branch_of}
-use Rattle.router_core.specs.Moments.{Moment, chain_at}
+use Rattle.peer_side.specs.Peers.{chain_at, routes_of, rules_of}
+use Rattle.router_core.specs.Moments.{Moment}
 use Rattle.link_change.specs.Rows.{is_empty_map}
 
 abbrev pub Routes : Type 0
@@ -145,16 +144,6 @@ LiveAfter l Idle l' = l' ≡ l
 LiveAfter l (Work task n) l' = l' ≡ l
 LiveAfter l (Ask link p) l' = l' ≡ l
 LiveAfter l (Show link) l' = l' ≡ l
-
--- what is live in a chain
-abbrev pub routes_of : Option Chained → Routes
-routes_of None = tables.empty
-routes_of (Some c) = c.incoming.tables.live
-
--- the latest rules of a chain's filter
-abbrev pub rules_of : Option Chained → List Rule
-rules_of None = []
-rules_of (Some c) = present c.filter
 
 abbrev pub live_state : Moment → LiveState
 live_state m = record {

@@ -1,7 +1,7 @@
--- Lookups, over the chains alone, or the tree alone.
+-- Lookups of one link.
 use Rattle.std.specs.Prelude.{◌≡◌, ℕ, length, List, [], ◌∷◌, map, Option, Some, None}
 use Rattle.addr4.specs.Prefixes.{Network}
-use Rattle.link_change.specs.Rows.{Rows}
+use Rattle.link_change.specs.Rows.{Rows, Candidates, IsNextCandidate, CoversRows}
 use Rattle.journal_text.specs.declared.link.Link.{Link}
 use Rattle.journal_text.specs.declared.value.Value.{Value}
 use Rattle.journal_text.specs.declared.line.Line.{Line}
@@ -33,3 +33,8 @@ abbrev pub IsCountOf : Option (Rows Value) → Option ℕ → Type 0
 IsCountOf None None = Unit {0}
 IsCountOf (Some rows) (Some n) = (listed : List (Network × Value)) × AreRows rows listed × (n ≡ length listed)
 IsCountOf rows n = ⊥
+
+-- the answer is the least of some candidates beyond the place, at which all rows of the link stand
+abbrev pub IsNextPlace : Option (Rows Value) → Option Network → Option Network → Type 0
+IsNextPlace of place result =
+    (candidates : Candidates) × IsNextCandidate candidates place result × ((rows : Rows Value) → of ≡ Some rows → CoversRows candidates rows)

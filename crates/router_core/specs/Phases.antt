@@ -1,21 +1,16 @@
 -- How many turns are left, phase by phase, and how many all take.
 use Rattle.std.specs.Prelude.{ℕ, ◌+◌, ◌-◌, ◌*◌, ◌≤◌, nat_lt, if◌then◌else◌, length, List, [], ◌∷◌}
 use Rattle.loss_chain.specs.Tables.{lost_count}
-use Rattle.in_chain.specs.Chains.{Chained}
+use Rattle.peer_side.specs.Peers.{lost_in, left_in}
 use Rattle.rib_tree.specs.Trees.{Treed}
 use Rattle.router_core.specs.declared.router.Phase.{Phase}
 use Rattle.router_core.specs.declared.router.Phase.TheVariants.{Rdel, Del, Fin}
-use Rattle.router_core.specs.Moments.{Moment, left_in}
+use Rattle.router_core.specs.Moments.{Moment}
 use Rattle.router_core.specs.Lives.{LiveState}
 
 -- how many rows the stages of the protocols' losses have
 abbrev pub tree_lost : Treed → ℕ
 tree_lost t = lost_count t.connected.tables.deletions + (lost_count t.statics.tables.deletions + (lost_count t.ospf.tables.deletions + lost_count t.rip.tables.deletions))
-
--- how many those of lost sessions have
-abbrev pub lost_in : List Chained → ℕ
-lost_in [] = 0
-lost_in (c ∷ cs) = lost_count c.incoming.tables.deletions + lost_in cs
 
 -- ---- the table: a line for each phase
 

@@ -21,7 +21,7 @@ use Rattle.rib_route.specs.declared.Proto.TheVariants.{Connected, Static, Ospf, 
 use Rattle.rib_route.specs.declared.rows.Interior.{Interior}
 use Rattle.rib_merge.specs.Merging.{merged}
 use Rattle.rib_tree.specs.Trees.{interior_distance}
-use Rattle.rib_tree.specs.Forwards.{forwarded}
+use Rattle.rib_merge.specs.Forwards.{forwarded}
 use Rattle.router_core.specs.Lives.{LiveState, Routes, Interiors, live_state}
 
 -- `in.K` of a declared peer has exactly its live routes

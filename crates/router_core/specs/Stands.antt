@@ -1,36 +1,31 @@
 -- What holds between two steps.
-use Rattle.std.specs.Prelude.{◌≡◌, ℕ, ◌≤◌, ◌<◌, length, Bool, true, false, List, [], ◌∷◌, Option, Some, None}
-use Rattle.std.specs.List.{AllByRecursion}
+use Rattle.std.specs.Prelude.{◌≡◌, ℕ, ◌+◌, ◌≤◌, length, Bool, true, false, if◌then◌else◌, Option, Some, None}
 use Rattle.std.specs.FinMap as tables
 use Rattle.bgp_attr.specs.declared.speaker.Speaker.{Speaker}
 use Rattle.event_text.specs.declared.declared.DeclaredPeer.{DeclaredPeer}
 use Rattle.event_text.specs.Declarations.{peer_at}
-use Rattle.loss_chain.specs.Tables.{NoneEmpty}
-use Rattle.in_chain.specs.Chains.{Chained, IsChain}
+use Rattle.in_chain.specs.Chains.{Chained}
+use Rattle.peer_side.specs.Peers.{chain_at, IsPeers, AreBefore}
 use Rattle.rib_route.specs.declared.Proto.{Proto}
 use Rattle.rib_tree.specs.Trees.{Treed, branch_of, int_rows, IsTree, IsFull, AreNumbered}
 use Rattle.rib_tree.specs.Steps.{new_tree}
-use Rattle.router_core.specs.Moments.{Moment, Cored, chain_at}
+use Rattle.router_core.specs.Moments.{Moment, Cored}
 use Rattle.addr4.specs.Prefixes.{Network}
 use Rattle.rib_route.specs.declared.rows.Interior.{Interior}
 
--- a session was lost before this one: before the present one where the peer is up
-abbrev pub IsEarlier : DeclaredPeer → Bool → ℕ → Type 0
-IsEarlier p true session = session < p.session
-IsEarlier p false session = session ≤ p.session
+-- the first session that no loss of the peer can name yet: the present one where the peer is up, else the next
+abbrev pub open_session : DeclaredPeer → ℕ
+open_session p = if p.up then p.session else p.session + 1
 
 abbrev pub IsSilent : Bool → Chained → Type 0
 IsSilent true c = Unit {0}
 IsSilent false c = c.incoming.tables.live ≡ tables.empty
 
--- A peer and its chain, which has the peer's words: its lost tables are apart from each other and from the live routes, none is
--- empty, at most 16 stand, each of an earlier session; where the peer is down nothing is live.
+-- A peer and its chain: the chain has the peer's words, its lost tables are each of an earlier session, and where the peer is down
+-- nothing is live.
 pub record PeerStands (p : DeclaredPeer) (c : Chained) : Type 0 where
   pub words : c.peer ≡ p.words
-  pub chain : IsChain c
-  pub full : NoneEmpty c.incoming.tables.deletions
-  pub few : length c.incoming.tables.deletions ≤ 16
-  pub earlier : AllByRecursion (λ d. IsEarlier p p.up d.number) c.incoming.tables.deletions
+  pub earlier : AreBefore (open_session p) c
   pub silent : IsSilent p.up c
 
 -- exactly the declared peers have chains
@@ -38,11 +33,6 @@ abbrev pub StandsAt : Option DeclaredPeer → Option Chained → Type 0
 StandsAt None None = Unit {0}
 StandsAt (Some p) (Some c) = PeerStands p c
 StandsAt p c = ⊥
-
--- the chains stand by ascending number
-abbrev pub AreInOrder : List Chained → Type 0
-AreInOrder [] = Unit {0}
-AreInOrder (c ∷ cs) = AllByRecursion (λ d. c.incoming.number < d.incoming.number) cs × AreInOrder cs
 
 -- the tree may take a step, and has no route before `local`; no protocol has more than 16 deletion stages
 pub record TreeStands (speaker : Option Speaker) (t : Treed) : Type 0 where
@@ -53,20 +43,20 @@ pub record TreeStands (speaker : Option Speaker) (t : Treed) : Type 0 where
 
 -- ---- the tables: a line for each claim, and for each tie between two parts
 
--- what is claimed: of the order of the chains, of each peer and its chain, that the chains have the words of this speaker and are
--- as many as peers, and of the interior routes
+-- what is claimed: of the chains alone, of each peer and its chain, that the chains have the words of this speaker and are as many as
+-- peers, and of the interior routes
 pub data Claim : Type 0 where
-  Order : Claim
+  EachChain : Claim
   EachPeer : Claim
   OneSpeaker : Claim
   SameCount : Claim
   InteriorTree : Claim
 
 abbrev pub Claims : Moment → Claim → Type 0
-Claims m Order = AreInOrder m.chains
+Claims m EachChain = IsPeers m.chains
 Claims m EachPeer = (k : ℕ) → StandsAt (peer_at k m.declared.peers) (chain_at k m.chains)
-Claims m OneSpeaker = AllByRecursion (λ c. m.declared.speaker ≡ Some c.me) m.chains
-Claims m SameCount = length m.chains ≡ length m.declared.peers
+Claims m OneSpeaker = (k : ℕ) (c : Chained) → chain_at k m.chains ≡ Some c → m.declared.speaker ≡ Some c.me
+Claims m SameCount = tables.len m.chains ≡ length m.declared.peers
 Claims m InteriorTree = TreeStands m.declared.speaker m.tree
 
 -- all that the ties read at one prefix: the row of the register, and that of `int`

@@ -1,29 +1,27 @@
 -- Turns of background work, and the falls of messages (NSDI 2005, sections 5.1 and 5.1.2).
-use Rattle.std.specs.Prelude.{◌≡◌, ℕ, zero, suc, ◌+◌, ◌*◌, length, Bool, false, List, [], ◌∷◌, ◌++◌, map, Option, Some, None, if◌then◌else◌}
-use Rattle.std.specs.List.{flat_map, AllByRecursion}
+use Rattle.std.specs.Prelude.{◌≡◌, ℕ, zero, suc, ◌+◌, ◌*◌, Bool, false, List, [], ◌∷◌, ◌++◌, map, Option, Some, None}
+use Rattle.std.specs.List.{find}
 use Rattle.addr4.specs.Prefixes.{Network}
 use Rattle.bgp_attr.specs.declared.attrs.Attrs.{Attrs}
 use Rattle.bgp_attr.specs.declared.route.Route.{Route}
 use Rattle.link_change.specs.Changes.{IsSent}
 use Rattle.link_change.specs.declared.change.Change.{Change}
-use Rattle.journal_text.specs.declared.link.Link.TheVariants.{In, Fib}
+use Rattle.journal_text.specs.declared.link.Link.TheVariants.{Fib}
 use Rattle.journal_text.specs.declared.link.Task.{Task}
 use Rattle.journal_text.specs.declared.link.Task.TheVariants as tasks
 use Rattle.journal_text.specs.declared.value.Value.{Value}
 use Rattle.journal_text.specs.declared.entry.Entry.{Entry}
 use Rattle.journal_text.specs.declared.line.Line.{Line}
 use Rattle.journal_text.specs.declared.line.Line.TheVariants as lines
-use Rattle.in_chain.specs.Chains.{Chained, filt_rows}
-use Rattle.in_chain.specs.Falls.{Falls, way_of_feed}
-use Rattle.loss_chain.specs.declared.owner.Owner.TheVariants as owners
-use Rattle.loss_chain.specs.Steps.{weld_entries}
-use Rattle.in_chain.specs.Steps.{fed, welded, has_turn, Turned}
+use Rattle.in_chain.specs.Chains.{Chained}
+use Rattle.peer_side.specs.Peers.{Chains, chain_at, has_peer_work, deletion_tasks, filter_tasks, rows_in}
+use Rattle.peer_side.specs.Steps.{FeedsPeer, TurnsPeer}
 use Rattle.router_core.specs.declared.router.Phase.{Phase}
 use Rattle.router_core.specs.declared.router.Phase.TheVariants as phases
 use Rattle.std.specs.FinMap as tables
 use Rattle.std.specs.FinMap.{FinMap}
 use Rattle.addr4.specs.Prefixes.{prefix_cmp}
-use Rattle.deletion_stage.specs.Covering.{IsLeastRow}
+use Rattle.loss_chain.specs.Covering.{IsLeastRow}
 use Rattle.rib_route.specs.declared.Proto.{Proto}
 use Rattle.rib_route.specs.declared.rows.Interior.{Interior}
 use Rattle.rib_route.specs.declared.rows.FibRow.{FibRow}
@@ -33,30 +31,27 @@ use Rattle.loss_chain.specs.Steps.{table_of}
 use Rattle.rib_tree.specs.Trees.{Treed, branch_of, int_rows, tree_count, tree_tasks}
 use Rattle.rib_tree.specs.Steps.{welded_tree, swept_tree, tree_weld_entries, has_tree_turn}
 use Rattle.rib_tree.specs.Falls.{FallsTree, way_of_sweep}
-use Rattle.rib_tree.specs.Forwards.{forwarded}
+use Rattle.rib_merge.specs.Forwards.{forwarded}
 use Rattle.prefix_trie.specs.Width.{width}
 use Rattle.register_interest.specs.declared.interests.Interest.{Interest}
 use Rattle.register_interest.specs.Interests.{AreReached, without}
 use Rattle.register_interest.specs.Registers.{Registry, put_row}
-use Rattle.router_core.specs.Moments.{with_rib, Moment, chain_at, with_chain, rows_in}
+use Rattle.router_core.specs.Moments.{Moment, with_chains, with_rib}
 
 abbrev pub journal_lines : List (Entry Value) → List Line
 journal_lines entries = map (λ e. lines.Journal e) entries
 
--- the lines of a fall in a chain, and behind them the weld of the stage that it emptied, if any
-abbrev pub fall_lines : Chained → List (Entry Value) → List Line
-fall_lines c entries = journal_lines (entries ++ weld_entries (owners.Peer c.incoming.number) (In c.incoming.number) c.incoming.tables.deletions)
+-- The chains of the peers changed, and nothing else: these are they then, and this is said of them and of their entries.
+pub record InPeers (P : Chains → List (Entry Value) → Type 0) (m : Moment) (said : List Line) (m' : Moment) : Type 0 where
+  pub chains : Chains
+  pub entries : List (Entry Value)
+  pub part : P chains entries
+  pub lines : said ≡ journal_lines entries
+  pub after : m' ≡ with_chains m chains
 
 -- One prefix of an UPDATE from peer k is announced or withdrawn.
-pub record Feeds (k : ℕ) (change : Network × Option Attrs) (m : Moment) (said : List Line) (m' : Moment) : Type 0 where
-  pub chain : Chained
-  pub at : chain_at k m.chains ≡ Some chain
-  pub sent : Option (Change Route)
-  pub entries : List (Entry Value)
-  pub falls : Falls chain (fed chain change.0 change.1) change.0 (way_of_feed chain.incoming) sent entries
-  pub rows : IsSent (filt_rows chain) (filt_rows (fed chain change.0 change.1)) change.0 sent
-  pub lines : said ≡ fall_lines (fed chain change.0 change.1) entries
-  pub after : m' ≡ with_chain m (welded (fed chain change.0 change.1))
+abbrev pub Feeds : ℕ → Network × Option Attrs → Moment → List Line → Moment → Type 0
+Feeds k change m said m' = (sent : Option (Change Route)) × InPeers (FeedsPeer k change.0 change.1 sent m.chains) m said m'
 
 -- one prefix after the other
 abbrev pub FeedsAll : ℕ → List (Network × Option Attrs) → Moment → List Line → Moment → Type 0
@@ -90,22 +85,9 @@ pub record FallsRoute (m : Moment) (new : Treed) (proto : Proto) (p : Network) (
   pub register : Registers sent m.registry m'.registry
   pub after : m' ≡ with_rib m (welded_tree proto new) m'.registry
 
--- the peer whose task it is
-abbrev pub peer_of : Task → ℕ
-peer_of (tasks.Del k s) = k
-peer_of (tasks.Fin k) = k
-peer_of (tasks.Rdel proto n) = 0
-
 -- One turn of a task of a peer: of the deletion stage of a session, or of the walk of a filter.
-pub record IsPeerTurn (task : Task) (m : Moment) (said : List Line) (m' : Moment) : Type 0 where
-  pub chain : Chained
-  pub at : chain_at (peer_of task) m.chains ≡ Some chain
-  pub turned_chain : Chained
-  pub sent : Option (Change Route)
-  pub entries : List (Entry Value)
-  pub turned : Turned chain turned_chain task sent entries
-  pub lines : said ≡ fall_lines turned_chain entries
-  pub after : m' ≡ with_chain m (welded turned_chain)
+abbrev pub IsPeerTurn : Task → Moment → List Line → Moment → Type 0
+IsPeerTurn task m said m' = (sent : Option (Change Route)) × InPeers (TurnsPeer task sent m.chains) m said m'
 
 -- One turn of the stage of a protocol's loss: its least row goes.
 pub record IsRouteTurn (proto : Proto) (n : ℕ) (m : Moment) (said : List Line) (m' : Moment) : Type 0 where
@@ -122,14 +104,10 @@ IsTurn (tasks.Del k s) m said m' = IsPeerTurn (tasks.Del k s) m said m'
 IsTurn (tasks.Fin k) m said m' = IsPeerTurn (tasks.Fin k) m said m'
 IsTurn (tasks.Rdel proto n) m said m' = IsRouteTurn proto n m said m'
 
-abbrev pub has_turn_in : Task → Option Chained → Bool
-has_turn_in task None = false
-has_turn_in task (Some c) = has_turn c task
-
 -- whether a task has work
 abbrev pub has_work : Task → Moment → Bool
-has_work (tasks.Del k s) m = has_turn_in (tasks.Del k s) (chain_at k m.chains)
-has_work (tasks.Fin k) m = has_turn_in (tasks.Fin k) (chain_at k m.chains)
+has_work (tasks.Del k s) m = has_peer_work m.chains (tasks.Del k s)
+has_work (tasks.Fin k) m = has_peer_work m.chains (tasks.Fin k)
 has_work (tasks.Rdel proto n) m = has_tree_turn m.tree (tasks.Rdel proto n)
 
 -- so many turns of a task
@@ -149,46 +127,29 @@ phase_of (tasks.Rdel proto n) = phases.Rdel
 phase_of (tasks.Del k s) = phases.Del
 phase_of (tasks.Fin k) = phases.Fin
 
--- the deletion stages of a chain, the earliest session first
-abbrev pub chain_tasks : Chained → List Task
-chain_tasks c = map (λ d. tasks.Del c.incoming.number d.number) c.incoming.tables.deletions
-
--- all deletion stages, by peer, then session
-abbrev pub deletion_tasks : Moment → List Task
-deletion_tasks m = flat_map chain_tasks m.chains
-
--- the filters' walks, by peer
-abbrev pub filter_tasks : Moment → List Task
-filter_tasks m = map (λ c. tasks.Fin c.incoming.number) m.chains
-
 -- the tasks of a phase of an idle, in their order
 abbrev pub phase_tasks : Phase → Moment → List Task
 phase_tasks phases.Rdel m = tree_tasks m.tree
-phase_tasks phases.Del m = deletion_tasks m
-phase_tasks phases.Fin m = filter_tasks m
+phase_tasks phases.Del m = deletion_tasks m.chains
+phase_tasks phases.Fin m = filter_tasks m.chains
 
 -- how many turns a phase takes at most
 abbrev pub phase_bound : Phase → Moment → ℕ
 phase_bound phases.Rdel m = tree_count m.tree
 phase_bound phases.Del m = rows_in m.chains
-phase_bound phases.Fin m = 2 * (rows_in m.chains + length m.chains)
+phase_bound phases.Fin m = 2 * (rows_in m.chains + tables.len m.chains)
 
 -- no stage of the phase stands, and no walk of it is on
 abbrev pub IsOver : Phase → Moment → Type 0
 IsOver phases.Rdel m = (proto : Proto) → (branch_of proto m.tree).tables.deletions ≡ []
-IsOver phases.Del m = AllByRecursion (λ c. c.incoming.tables.deletions ≡ []) m.chains
-IsOver phases.Fin m = AllByRecursion (λ c. c.filter.walk ≡ None) m.chains
+IsOver phases.Del m = (k : ℕ) (c : Chained) → chain_at k m.chains ≡ Some c → c.incoming.tables.deletions ≡ []
+IsOver phases.Fin m = (k : ℕ) (c : Chained) → chain_at k m.chains ≡ Some c → c.filter.walk ≡ None
 
 -- ---- the same for any table
 
--- the first of these tasks that has work
-abbrev pub first_at_work : List Task → Moment → Option Task
-first_at_work [] m = None
-first_at_work (task ∷ rest) m = if has_work task m then Some task else first_at_work rest m
-
 -- the first task of a phase that has work
 abbrev pub next_task : Phase → Moment → Option Task
-next_task phase m = first_at_work (phase_tasks phase m) m
+next_task phase m = find (λ task. has_work task m) (phase_tasks phase m)
 
 -- So many tasks of a phase one after the other, each to its end: always the first that has work.
 abbrev pub Runs : Phase → ℕ → Moment → List Line → ℕ → Moment → Type 0

@@ -1,28 +1,17 @@
 -- What the router's own calls make of chains and moments, with what they keep.
-use Rattle.std.specs.Prelude.{◌≡◌, ℕ, ◌+◌, ◌≤◌, ◌<◌, ◌⊎◌, length, slice_index_or, Bool, true, false, List, [], ◌∷◌, ◌++◌, Option, Some, None, is_some, if◌then◌else◌}
-use Rattle.std.specs.List.{AllByRecursion}
+use Rattle.std.specs.Prelude.{◌≡◌, ℕ, ◌≤◌, ◌⊎◌, true, false, List, ◌++◌, Option, Some, None, IsSome}
 use Rattle.addr4.specs.Prefixes.{Network}
 use Rattle.bgp_attr.specs.declared.attrs.Attrs.{Attrs}
-use Rattle.bgp_attr.specs.declared.route.Route.{Route}
-use Rattle.link_change.specs.Changes.{IsSent}
 use Rattle.link_change.specs.declared.change.Change.{Change}
-use Rattle.link_change.specs.declared.turn.Turn.{Turn}
-use Rattle.link_change.specs.declared.turn.Turn.TheVariants as turns
 use Rattle.journal_text.specs.declared.link.Task.{Task}
-use Rattle.journal_text.specs.declared.link.Task.TheVariants as tasks
-use Rattle.journal_text.specs.declared.value.Value.{Value}
-use Rattle.journal_text.specs.declared.entry.Entry.{Entry}
 use Rattle.journal_text.specs.declared.line.Line.{Line}
 use Rattle.journal_text.specs.Walk.{Leads}
 use Rattle.journal_text.specs.Texts.{entries_of}
 use Rattle.journal_text.specs.Journals.{Journaled, with_lines, with_entries, flushed}
 use Rattle.event_text.specs.declared.declared.DeclaredPeer.{DeclaredPeer}
 use Rattle.event_text.specs.Declarations.{peer_at}
-use Rattle.loss_chain.specs.Tables.{NoneEmpty, lost_count}
-use Rattle.in_chain.specs.Chains.{Chained, filt_rows, IsChain, turns_left}
-use Rattle.in_chain.specs.Falls.{Falls, LeadsChain, way_of_feed}
-use Rattle.in_chain.specs.Incomings.{loss_entries, overdue_of}
-use Rattle.in_chain.specs.Steps.{fed, welded, lost, has_turn, Turned as TurnedChain}
+use Rattle.peer_side.specs.Peers.{chain_at, overdue_at}
+use Rattle.peer_side.specs.Steps.{LosesPeer}
 use Rattle.router_core.specs.declared.router.Done.{Done}
 use Rattle.router_core.specs.declared.router.Done.TheVariants.{Nothing, Taken}
 use Rattle.rib_route.specs.declared.Proto.{Proto}
@@ -30,15 +19,15 @@ use Rattle.rib_route.specs.declared.rows.Interior.{Interior}
 use Rattle.rib_tree.specs.Trees.{Treed, int_rows, IsTree, IsFull}
 use Rattle.rib_tree.specs.Falls.{LeadsTree}
 use Rattle.rib_tree.specs.Steps.{lost_tree, welded_tree, tree_overdue, tree_loss_entries, tree_weld_entries}
-use Rattle.router_core.specs.Moments.{with_rib, Moment, chain_at, put_chain, with_chain, router_links, bound_of, Gives}
+use Rattle.router_core.specs.Moments.{Moment, with_rib, router_links, bound_of, Gives}
 use Rattle.journal_text.specs.declared.link.Link.{Link}
 use Rattle.router_core.specs.Lives.{LiveState, LiveAfter, live_state, live_fed, heard, ended, interior_lost}
 use Rattle.router_core.specs.Stands.{Stands}
 use Rattle.router_core.specs.Scratch.{IsExact}
 use Rattle.router_core.specs.declared.router.Phase.{Phase}
 use Rattle.rib_route.specs.declared.rows.FibRow.{FibRow}
-use Rattle.rib_tree.specs.Forwards.{ForwardsOn}
-use Rattle.router_core.specs.Turns.{Registers, fib_entries, journal_lines, fall_lines, FeedsAll, FallsRoute, peer_of, phase_of, IsTurn, Turns, Runs, RunsPhase, RunsAll, has_turn_in, has_work, phase_bound, IsOver, IsSettled}
+use Rattle.rib_merge.specs.Forwards.{ForwardsOn}
+use Rattle.router_core.specs.Turns.{Registers, fib_entries, journal_lines, InPeers, FeedsAll, FallsRoute, phase_of, IsTurn, Turns, Runs, RunsPhase, RunsAll, has_work, phase_bound, IsOver, IsSettled}
 use Rattle.router_core.specs.Phases.{all_phases, counts, frame_of, Spends}
 use Rattle.router_core.specs.Blocks.{RunsFirst, Loses, Hears, Idles, IsBlock, ended as ended_moment}
 use Rattle.router_core.specs.declared.router.Idle.{Idle}
@@ -48,69 +37,6 @@ use Rattle.bgp_wire.specs.declared.message.Message.{Message}
 -- these lines were pushed, and this is said of them
 abbrev pub Pushes : (List Line → Type 0) → Journaled → Journaled → Type 0
 Pushes P before now = (lines : List Line) × (now ≡ with_lines before lines) × P lines
-
--- what any work on a chain keeps
-pub record StepsChain (c : Chained) (said : List Line) (c' : Chained) : Type 0 where
-  pub number : c'.incoming.number ≡ c.incoming.number
-  pub words : (c'.me ≡ c.me) × (c'.peer ≡ c.peer)
-  pub leads : LeadsChain c (entries_of said) c'
-  pub chain : IsChain c'
-  pub full : NoneEmpty c'.incoming.tables.deletions
-
--- one prefix is announced or withdrawn in a chain
-pub record FeedsChain (p : Network) (row : Option Attrs) (c c' : Chained) (said : List Line) : Type 0 where
-  pub sent : Option (Change Route)
-  pub entries : List (Entry Value)
-  pub falls : Falls c (fed c p row) p (way_of_feed c.incoming) sent entries
-  pub rows : IsSent (filt_rows c) (filt_rows (fed c p row)) p sent
-  pub lines : said ≡ fall_lines (fed c p row) entries
-  pub after : c' ≡ welded (fed c p row)
-  pub step : StepsChain c said c'
-
--- a turn brings the end of its task nearer in the chain: fewer rows are lost, or fewer turns of the walk are left
-abbrev pub NearsChain : Task → Chained → Chained → Type 0
-NearsChain (tasks.Del k s) c c' = (lost_count c'.incoming.tables.deletions + 1 ≡ lost_count c.incoming.tables.deletions) × (turns_left c' ≤ turns_left c)
-NearsChain (tasks.Fin k) c c' = (lost_count c'.incoming.tables.deletions ≡ lost_count c.incoming.tables.deletions) × (turns_left c' < turns_left c)
-NearsChain (tasks.Rdel proto l) c c' = ⊥
-
--- one turn of a task in its chain
-pub record TakesChain (task : Task) (c c' : Chained) (said : List Line) : Type 0 where
-  pub turned_chain : Chained
-  pub sent : Option (Change Route)
-  pub entries : List (Entry Value)
-  pub turned : TurnedChain c turned_chain task sent entries
-  pub lines : said ≡ fall_lines turned_chain entries
-  pub after : c' ≡ welded turned_chain
-  pub step : StepsChain c said c'
-  pub nearer : NearsChain task c c'
-
--- what a turn in a chain came to
-abbrev pub TurnsChain : Task → Chained → Chained → Journaled → Journaled → Done → Type 0
-TurnsChain task c c' before now Nothing = (has_turn c task ≡ false) × ((c' ≡ c) × (now ≡ before))
-TurnsChain task c c' before now Taken = Pushes (TakesChain task c c') before now
-
-abbrev pub is_nothing : {R : Type 0} → Turn R → Bool
-is_nothing turns.Nothing = true
-is_nothing turns.Quiet = false
-is_nothing (turns.Sent change) = false
-
--- where the chain of a number stands
-abbrev pub IsPlace : ℕ → List Chained → Option ℕ → Type 0
-IsPlace k cs None = chain_at k cs ≡ None
-IsPlace k cs (Some i) = (i < length cs) × ((x : Chained) → chain_at k cs ≡ Some (slice_index_or cs i x))
-
--- the chain of this number may take a step
-abbrev pub IsSoundAt : ℕ → List Chained → Type 0
-IsSoundAt k cs = (c : Chained) → chain_at k cs ≡ Some c → IsChain c × NoneEmpty c.incoming.tables.deletions
-
--- the chain of this number took a step, and nothing else changed
-abbrev pub Steps : (Chained → Chained → List Line → Type 0) → ℕ → List Chained → List Chained → Journaled → Journaled → Type 0
-Steps P k cs cs' before now = (c c' : Chained) × (chain_at k cs ≡ Some c) × (cs' ≡ put_chain c' cs) × Pushes (P c c') before now
-
--- what a turn of a task came to, among the chains
-abbrev pub TurnsAt : Task → List Chained → List Chained → Journaled → Journaled → Done → Type 0
-TurnsAt task cs cs' before now Nothing = (has_turn_in task (chain_at (peer_of task) cs) ≡ false) × (cs' ≡ cs) × (now ≡ before)
-TurnsAt task cs cs' before now Taken = Steps (TakesChain task) (peer_of task) cs cs' before now
 
 -- What every step keeps: its entries lead from the old links to the new ones by the rules of the journal, this is live then, and
 -- what holds between two steps holds.
@@ -171,11 +97,6 @@ pub record AllHaveDrained (m : Moment) (turns : ℕ) (m' : Moment) (said : List 
   pub settled : IsSettled m'
   pub exact : IsExact m'
 
--- the walk of the first filter that has one
-abbrev pub first_walk : List Chained → Option Task
-first_walk [] = None
-first_walk (c ∷ cs) = if is_some c.filter.walk then Some (tasks.Fin c.incoming.number) else first_walk cs
-
 -- the peer is up
 abbrev pub IsUpAt : ℕ → Moment → Type 0
 IsUpAt k m = (p : DeclaredPeer) × (peer_at k m.declared.peers ≡ Some p) × (p.up ≡ true)
@@ -185,29 +106,12 @@ pub record HaveFed (k : ℕ) (changes : List (Network × Option Attrs)) (m m' : 
   pub feeds : FeedsAll k changes m said m'
   pub keeps : Keeps (live_fed (live_state m) k changes) m m' said
 
--- a session of this number may be lost in a chain
-pub record MayLose (s : ℕ) (c : Chained) : Type 0 where
-  pub chain : IsChain c
-  pub full : NoneEmpty c.incoming.tables.deletions
-  pub room : overdue_of c.incoming ≡ None
-  pub later : AllByRecursion (λ d. d.number < s) c.incoming.tables.deletions
-
-abbrev pub MayLoseAt : ℕ → ℕ → List Chained → Type 0
-MayLoseAt k s cs = (c : Chained) → chain_at k cs ≡ Some c → MayLose s c
-
--- a session is lost in a chain
-pub record LosesChain (s : ℕ) (c c' : Chained) (said : List Line) : Type 0 where
-  pub is : c' ≡ lost s c
-  pub lines : said ≡ journal_lines (loss_entries s c.incoming)
-  pub step : StepsChain c said c'
-
 -- There is room for the loss of a session in the chain of peer k.
 pub record HasRoom (k : ℕ) (m room : Moment) (said : List Line) : Type 0 where
-  pub before : Chained
-  pub at : chain_at k m.chains ≡ Some before
-  pub runs : RunsFirst (overdue_of before.incoming) m said room
+  pub there : IsSome (chain_at k m.chains)
+  pub runs : RunsFirst (overdue_at k m.chains) m said room
   pub keeps : Keeps (live_state m) m room said
-  pub free : (c : Chained) → chain_at k room.chains ≡ Some c → overdue_of c.incoming ≡ None
+  pub free : overdue_at k room.chains ≡ None
 
 -- session s of the peer is up
 abbrev pub IsSession : ℕ → ℕ → Moment → Type 0
@@ -220,10 +124,9 @@ pub record HasLost (k s : ℕ) (m m' : Moment) (said : List Line) : Type 0 where
 
 -- the loss alone, where there is room
 pub record Ends (k s : ℕ) (m m' : Moment) (said : List Line) : Type 0 where
-  pub chain : Chained
-  pub there : chain_at k m.chains ≡ Some chain
-  pub lines : said ≡ journal_lines (loss_entries s chain.incoming)
-  pub after : m' ≡ ended_moment (with_chain m (lost s chain)) k
+  pub between : Moment
+  pub loses : InPeers (LosesPeer k s m.chains) m said between
+  pub after : m' ≡ ended_moment between k
   pub keeps : Keeps (ended (live_state m) k) m m' said
 
 -- an idle was answered by its bound and its turns

@@ -21,8 +21,6 @@ mod laws;
 mod lookups;
 mod network;
 mod peers;
-mod regions;
-mod rib_lookups;
 mod router;
 mod routes;
 mod sessions;

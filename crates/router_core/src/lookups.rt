@@ -1,138 +1,155 @@
-//! Lookups: the answer at one prefix of a link, and all rows of a link.
+//! Lookups, by the region of the link: the answer at one prefix, all rows, and how many.
 
-ghost use Rattle.std.specs.Prelude.{◌≡◌, ◌≤◌, OnOk, IfOk, IsSome, MatchOption, Some, None};
-ghost use Rattle.std.specs.Option.{option_copied};
+ghost use Rattle.std.specs.Prelude.{◌≡◌, ◌≤◌, OnOk, IfOk, IsSome, is_some, Some};
+ghost use Rattle.addr4.specs.Places.{key_of};
+ghost use Rattle.journal_text.specs.Walk.{HasRow};
 ghost use Rattle.journal_text.specs.Journals.{with_lines};
-ghost use Rattle.in_chain.specs.Chains.{links_of};
-ghost use Rattle.router_core.specs.Moments.{chain_at, links_by, peer_links};
+ghost use Rattle.router_core.specs.Moments.{rib_by, router_links};
 ghost use Rattle.router_core.specs.Blocks.{answer_lines, Shows};
-ghost use Rattle.router_core.specs.Lookups.{Counts, ShowsRow, IsCountOf};
+ghost use Rattle.router_core.specs.Lookups.{Counts, ShowsRow, IsCountOf, IsNextPlace};
 ghost use Rattle.router_core.specs.Works.{Pushes};
 
+use crate::network::Network;
 use addr4::{Memory, Place, Prefix};
-use in_chain::Chain;
-use journal_text::{Entry, Journal, Line, Link};
+use journal_text::{Entry, Journal, Line, Link, Value};
+use link_region::{Region, region_of};
 
-/// The chain of the peer of this number.
-pub(crate) fn chain_of(chains: &[Chain], number: u32) -> Option<&Chain>
-    ensures { option_copied result ≡ chain_at number chains.now }
-{
-    chains.iter().find(|chain| chain.number() == number)
-}
-
-/// The chain that may have the link.
-fn chain_for(chains: &[Chain], link: Link) -> Option<&Chain>
-    ensures { links_by (option_copied result) link ≡ peer_links chains.now link }
-{
-    match link {
-        Link::In(k) | Link::Peer(k, _) | Link::Filt(k) => chain_of(chains, k),
-        _ => None,
-    }
-}
-
-/// The chain that has the link, where it is live.
-fn chain_with(chains: &[Chain], link: Link) -> Option<&Chain>
-    ensures { MatchOption result (peer_links chains.now link ≡ None) (λ chain. (links_of chain.now link ≡ peer_links chains.now link) × IsSome (links_of chain.now link)) }
-{
-    match chain_for(chains, link) {
-        Some(chain) if chain.live(link) => Some(chain),
-        _ => None,
-    }
-}
-
-/// Appends the answer of a lookup: the row at the prefix or none, or `absent` where the link isn't live.
-pub(crate) fn ask(
-    chains: &[Chain],
-    link: Link,
-    p: Prefix,
-    journal: &mut Journal,
-) -> Result<(), Memory>
-    ensures { OnOk result (journal.new ≡ with_lines journal.old (answer_lines link p (peer_links chains.now link))) }
-{
-    match chain_with(chains, link) {
-        None => journal.push_line(Line::Absent),
-        Some(chain) => {
-            let row = chain.asked(link, p)?;
-            journal.push_line(Line::Journal(Entry::Asked(link, p, row)))
+impl Network {
+    /// Whether a link is live.
+    pub(crate) fn live(&self, link: Link) -> bool
+        ensures { result ≡ is_some (router_links self.now link) }
+    {
+        match region_of(link) {
+            Region::Inward => self.chains.live(link),
+            Region::InteriorRoutes => self.rib_live(link),
+            Region::Forward => self.rib_live(link),
+            Region::Elsewhere => false,
         }
     }
-}
 
-/// Appends all rows of a link by prefix, and their number; or `absent` where the link isn't live.
-pub(crate) fn show(chains: &[Chain], link: Link, journal: &mut Journal) -> Result<(), Memory>
-    ensures { OnOk result (Pushes (Shows link (peer_links chains.now link)) journal.old journal.new) }
-{
-    match chain_with(chains, link) {
-        None => journal.push_line(Line::Absent),
-        Some(chain) => show_rows(chain, link, journal),
-    }
-}
-
-/// All rows of a live link, and their number.
-fn show_rows(chain: &Chain, link: Link, journal: &mut Journal) -> Result<(), Memory>
-    requires { IsSome (links_of chain.now link) }
-    ensures { OnOk result (Pushes (Shows link (links_of chain.now link)) journal.old journal.new) }
-{
-    let mut count: u128 = 0;
-    let mut place = Place::Before;
-    'rows: while let Some(p) = chain.next_candidate(link, place) {
-        p.known();
-        let shown = show_row(chain, link, p, journal)?;
-        count += shown;
-        place = Place::At(p);
-    }
-    journal.push_line(Line::Rows(link, count))
-}
-
-/// The row at a prefix, if there is one; answers how many there are.
-fn show_row(chain: &Chain, link: Link, p: Prefix, journal: &mut Journal) -> Result<u128, Memory>
-    requires { IsSome (links_of chain.now link) }
-    ensures shows { IfOk result (ShowsRow (links_of chain.now) link p journal.old journal.new) }
-    ensures few { IfOk result (λ count. count ≤ 1) }
-{
-    match chain.asked(link, p)? {
-        None => Ok(0),
-        Some(value) => {
-            journal.push_line(Line::Row(link, p, value))?;
-            Ok(1)
+    /// Whether a link of the interior routes, or `fib`, is live.
+    fn rib_live(&self, link: Link) -> bool
+        ensures { result ≡ is_some (rib_by self.now.declared.speaker self.now.tree link) }
+    {
+        match self.declared.speaker() {
+            Some(_) => self.tree.live(link),
+            None => false,
         }
     }
-}
 
-/// How many rows a link has; None where it isn't live.
-pub(crate) fn count(chains: &[Chain], link: Link) -> Result<Option<u128>, Memory>
-    ensures { IfOk result (IsCountOf (peer_links chains.now link)) }
-{
-    match chain_with(chains, link) {
-        None => Ok(None),
-        Some(chain) => Ok(Some(count_rows(chain, link)?)),
+    /// The row at a prefix of a live link; None where it has none.
+    fn asked(&self, link: Link, p: Prefix) -> Result<Option<Value>, Memory>
+        requires { IsSome (router_links self.now link) }
+        ensures { IfOk result (HasRow (router_links self.now) link p) }
+    {
+        match region_of(link) {
+            Region::Inward => self.chains.asked(link, p),
+            Region::InteriorRoutes => self.tree.asked(link, p),
+            Region::Forward => self.tree.asked(link, p),
+            Region::Elsewhere => unreachable!(),
+        }
     }
-}
 
-/// How many rows a live link has.
-fn count_rows(chain: &Chain, link: Link) -> Result<u128, Memory>
-    requires { IsSome (links_of chain.now link) }
-    ensures { IfOk result (λ count. IsCountOf (links_of chain.now link) (Some count)) }
-{
-    let mut count: u128 = 0;
-    let mut place = Place::Before;
-    'rows: while let Some(p) = chain.next_candidate(link, place) {
-        p.known();
-        let held = count_row(chain, link, p)?;
-        count += held;
-        place = Place::At(p);
+    /// Where the next row of a live link may stand, beyond a place.
+    fn next_candidate(&self, link: Link, after: Place) -> Option<Prefix>
+        requires { IsSome (router_links self.now link) }
+        ensures { IsNextPlace (router_links self.now link) (key_of after) result }
+    {
+        match region_of(link) {
+            Region::Inward => self.chains.next_candidate(link, after),
+            Region::InteriorRoutes => self.tree.next_candidate(link, after),
+            Region::Forward => self.tree.next_candidate(link, after),
+            Region::Elsewhere => unreachable!(),
+        }
     }
-    Ok(count)
-}
 
-/// How many rows stand at a prefix: one or none.
-fn count_row(chain: &Chain, link: Link, p: Prefix) -> Result<u128, Memory>
-    requires { IsSome (links_of chain.now link) }
-    ensures counts { IfOk result (Counts (links_of chain.now) link p) }
-    ensures few { IfOk result (λ count. count ≤ 1) }
-{
-    match chain.asked(link, p)? {
-        None => Ok(0),
-        Some(_) => Ok(1),
+    /// Appends the answer of a lookup: the row at the prefix or none, or `absent` where the link isn't live.
+    pub(crate) fn ask(&self, link: Link, p: Prefix, journal: &mut Journal) -> Result<(), Memory>
+        ensures { OnOk result (journal.new ≡ with_lines journal.old (answer_lines link p (router_links self.now link))) }
+    {
+        if !self.live(link) {
+            return journal.push_line(Line::Absent);
+        }
+        let row = self.asked(link, p)?;
+        journal.push_line(Line::Journal(Entry::Asked(link, p, row)))
+    }
+
+    /// Appends all rows of a link by prefix, and their number; or `absent` where the link isn't live.
+    pub(crate) fn show(&self, link: Link, journal: &mut Journal) -> Result<(), Memory>
+        ensures { OnOk result (Pushes (Shows link (router_links self.now link)) journal.old journal.new) }
+    {
+        if !self.live(link) {
+            return journal.push_line(Line::Absent);
+        }
+        self.show_rows(link, journal)
+    }
+
+    /// All rows of a live link, and their number.
+    fn show_rows(&self, link: Link, journal: &mut Journal) -> Result<(), Memory>
+        requires { IsSome (router_links self.now link) }
+        ensures { OnOk result (Pushes (Shows link (router_links self.now link)) journal.old journal.new) }
+    {
+        let mut count: u128 = 0;
+        let mut place = Place::Before;
+        'rows: while let Some(p) = self.next_candidate(link, place) {
+            p.known();
+            let shown = self.show_row(link, p, journal)?;
+            count += shown;
+            place = Place::At(p);
+        }
+        journal.push_line(Line::Rows(link, count))
+    }
+
+    /// The row at a prefix, if there is one; answers how many there are.
+    fn show_row(&self, link: Link, p: Prefix, journal: &mut Journal) -> Result<u128, Memory>
+        requires { IsSome (router_links self.now link) }
+        ensures shows { IfOk result (ShowsRow (router_links self.now) link p journal.old journal.new) }
+        ensures few { IfOk result (λ count. count ≤ 1) }
+    {
+        match self.asked(link, p)? {
+            None => Ok(0),
+            Some(value) => {
+                journal.push_line(Line::Row(link, p, value))?;
+                Ok(1)
+            }
+        }
+    }
+
+    /// How many rows a link has; None where it isn't live.
+    pub(crate) fn count(&self, link: Link) -> Result<Option<u128>, Memory>
+        ensures { IfOk result (IsCountOf (router_links self.now link)) }
+    {
+        if !self.live(link) {
+            return Ok(None);
+        }
+        Ok(Some(self.count_rows(link)?))
+    }
+
+    /// How many rows a live link has.
+    fn count_rows(&self, link: Link) -> Result<u128, Memory>
+        requires { IsSome (router_links self.now link) }
+        ensures { IfOk result (λ count. IsCountOf (router_links self.now link) (Some count)) }
+    {
+        let mut count: u128 = 0;
+        let mut place = Place::Before;
+        'rows: while let Some(p) = self.next_candidate(link, place) {
+            p.known();
+            let held = self.count_row(link, p)?;
+            count += held;
+            place = Place::At(p);
+        }
+        Ok(count)
+    }
+
+    /// How many rows stand at a prefix: one or none.
+    fn count_row(&self, link: Link, p: Prefix) -> Result<u128, Memory>
+        requires { IsSome (router_links self.now link) }
+        ensures counts { IfOk result (Counts (router_links self.now) link p) }
+        ensures few { IfOk result (λ count. count ≤ 1) }
+    {
+        match self.asked(link, p)? {
+            None => Ok(0),
+            Some(_) => Ok(1),
+        }
     }
 }

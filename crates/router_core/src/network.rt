@@ -1,11 +1,11 @@
 //! What was declared, the interior routes, and the peers' chains.
 
 ghost use Rattle.std.specs.Prelude.{◌≡◌, ◌+◌, ◌*◌, IfOk};
-ghost use Rattle.router_core.specs.Moments.{first_moment, rows_in, bound_of};
+ghost use Rattle.router_core.specs.Moments.{first_moment, bound_of};
 
 use addr4::Memory;
 use event_text::Declared;
-use in_chain::Chain;
+use peer_side::Peers;
 use register_interest::Register;
 use rib_route::Interior;
 use rib_tree::Tree;
@@ -19,7 +19,7 @@ pub(crate) struct Network {
     pub(crate) declared: Declared,
     pub(crate) tree: Tree,
     pub(crate) registry: Register<Interior>,
-    pub(crate) chains: Vec<Chain>,
+    pub(crate) chains: Peers,
 }
 
 impl Model for Network {
@@ -27,13 +27,7 @@ impl Model for Network {
     ghost use Rattle.event_text.specs.Declarations.{declaration_code};
     ghost use Rattle.event_text.specs.contracts.declared.DeclaredPeer as peer_row;
     ghost use Rattle.bgp_attr.specs.contracts.speaker.Speaker as speaker_row;
-    ghost use Rattle.bgp_attr.specs.contracts.attrs.Attrs as attrs_row;
-    ghost use Rattle.std.specs.Coded.{coded_list};
-    ghost use Rattle.bgp_attr.specs.contracts.speaker.Neighbour as neighbour_row;
-    ghost use Rattle.policy_rules.specs.contracts.rule.Rule as rule_row;
-    ghost use Rattle.pass_core.specs.Passed.{passed_code};
-    ghost use Rattle.in_chain.specs.Incomings.{incoming_code};
-    ghost use Rattle.in_chain.specs.Chains.{chained_code};
+    ghost use Rattle.peer_side.specs.contracts.peers.Peers as peers_row;
     ghost use Rattle.rib_route.specs.contracts.Proto as proto_row;
     ghost use Rattle.rib_route.specs.contracts.rows.Interior as interior_row;
     ghost use Rattle.rib_tree.specs.Branches.{branch_code};
@@ -42,9 +36,9 @@ impl Model for Network {
 
     ghost Value = { Moment };
 
-    ghost coded = { moment_code (declaration_code speaker_row.the_row.coded peer_row.the_row.coded) (treed_code (branch_code proto_row.the_row.coded interior_row.the_row.coded)) (registry_code interior_row.the_row.coded) (chained_code (incoming_code attrs_row.the_row.coded) speaker_row.the_row.coded neighbour_row.the_row.coded (passed_code (coded_list rule_row.the_row.coded))) };
+    ghost coded = { moment_code (declaration_code speaker_row.the_row.coded peer_row.the_row.coded) (treed_code (branch_code proto_row.the_row.coded interior_row.the_row.coded)) (registry_code interior_row.the_row.coded) peers_row.the_row.coded };
 
-    ghost view = { λ n. record { declared = n.declared; tree = n.tree; registry = n.registry; chains = n.chains.items } };
+    ghost view = { λ n. record { declared = n.declared; tree = n.tree; registry = n.registry; chains = n.chains } };
 }
 
 impl Network {
@@ -57,7 +51,7 @@ impl Network {
             declared: Declared::new(alloc),
             tree: Tree::new(alloc),
             registry: Register::new(alloc),
-            chains: Vec::new(alloc),
+            chains: Peers::new(alloc),
         }
     }
 
@@ -66,7 +60,7 @@ impl Network {
         ensures { IfOk result (λ bound. bound ≡ bound_of self.now) }
     {
         let peers = plus(self.declared.peers().len() as u128, 2)?;
-        let rows = plus(count_rows(self.chains.as_slice())?, self.tree.rows())?;
+        let rows = plus(self.chains.rows()?, self.tree.rows())?;
         let bound = times(peers, plus(times(9, rows)?, 6)?)?;
         Ok(bound)
     }
@@ -90,15 +84,4 @@ fn times(a: u128, b: u128) -> Result<u128, Memory>
         Some(product) => Ok(product),
         None => Err(Memory),
     }
-}
-
-/// How many rows these chains have together.
-fn count_rows(chains: &[Chain]) -> Result<u128, Memory>
-    ensures { IfOk result (λ rows. rows ≡ rows_in chains.now) }
-{
-    let mut rows = 0;
-    for chain in chains {
-        rows = plus(rows, chain.rows())?;
-    }
-    Ok(rows)
 }

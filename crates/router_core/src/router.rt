@@ -5,7 +5,8 @@ ghost use Rattle.journal_text.specs.declared.line.Line.{Line};
 ghost use Rattle.journal_text.specs.Walk.{Leads};
 ghost use Rattle.event_text.specs.declared.event.Event.TheVariants as events;
 ghost use Rattle.event_text.specs.Declarations.{refusal};
-ghost use Rattle.router_core.specs.Moments.{first_moment, chain_at, router_links, Gives};
+ghost use Rattle.peer_side.specs.Peers.{chain_at};
+ghost use Rattle.router_core.specs.Moments.{first_moment, router_links, Gives};
 ghost use Rattle.router_core.specs.Stands.{CoreStands};
 ghost use Rattle.router_core.specs.Turns.{has_work};
 ghost use Rattle.router_core.specs.Blocks.{Acts};
@@ -56,6 +57,7 @@ pub struct Core {
 
 impl Model for Core {
     ghost use Rattle.router_core.specs.Moments.{Cored, cored_code, moment_code};
+    ghost use Rattle.peer_side.specs.contracts.peers.Peers as peers_row;
     ghost use Rattle.rib_route.specs.contracts.Proto as proto_row;
     ghost use Rattle.rib_route.specs.contracts.rows.Interior as interior_row;
     ghost use Rattle.rib_tree.specs.Branches.{branch_code};
@@ -64,17 +66,10 @@ impl Model for Core {
     ghost use Rattle.event_text.specs.Declarations.{declaration_code};
     ghost use Rattle.event_text.specs.contracts.declared.DeclaredPeer as peer_row;
     ghost use Rattle.bgp_attr.specs.contracts.speaker.Speaker as speaker_row;
-    ghost use Rattle.bgp_attr.specs.contracts.attrs.Attrs as attrs_row;
-    ghost use Rattle.std.specs.Coded.{coded_list};
-    ghost use Rattle.bgp_attr.specs.contracts.speaker.Neighbour as neighbour_row;
-    ghost use Rattle.policy_rules.specs.contracts.rule.Rule as rule_row;
-    ghost use Rattle.pass_core.specs.Passed.{passed_code};
-    ghost use Rattle.in_chain.specs.Incomings.{incoming_code};
-    ghost use Rattle.in_chain.specs.Chains.{chained_code};
 
     ghost Value = { Cored };
 
-    ghost coded = { cored_code (moment_code (declaration_code speaker_row.the_row.coded peer_row.the_row.coded) (treed_code (branch_code proto_row.the_row.coded interior_row.the_row.coded)) (registry_code interior_row.the_row.coded) (chained_code (incoming_code attrs_row.the_row.coded) speaker_row.the_row.coded neighbour_row.the_row.coded (passed_code (coded_list rule_row.the_row.coded)))) };
+    ghost coded = { cored_code (moment_code (declaration_code speaker_row.the_row.coded peer_row.the_row.coded) (treed_code (branch_code proto_row.the_row.coded interior_row.the_row.coded)) (registry_code interior_row.the_row.coded) peers_row.the_row.coded) };
 
     ghost view = { λ c. record { moment = c.network; events = c.events; failed = c.failed } };
 }

@@ -22,8 +22,9 @@ use addr4::{Addr, Memory, Prefix};
 use journal_text::{Journal, Line, Link, Task};
 use link_change::{Change, Turn};
 use register_interest::Register;
+use rib_merge::forward;
 use rib_route::{Interior, Proto};
-use rib_tree::{forward, turns_take_rows, welds_keep_rows};
+use rib_tree::{turns_take_rows, welds_keep_rows};
 use std::alloc::Global;
 
 impl Network {

@@ -1,77 +1,18 @@
 //! Turns of background work.
 
-ghost use Rattle.std.specs.Prelude.{◌≡◌, IfOk, OnOk};
-ghost use Rattle.loss_chain.specs.Tables.{NoneEmpty};
-ghost use Rattle.in_chain.specs.Chains.{IsChain};
-ghost use Rattle.router_core.specs.Moments.{chain_at, Gives};
-ghost use Rattle.router_core.specs.Stands.{AreInOrder, Stands};
-ghost use Rattle.router_core.specs.Works.{TurnsChain, is_nothing, IsPlace, IsSoundAt, TurnsAt, Comes, AreTurns, HasDrained, HaveDrained, AllHaveDrained, first_walk};
-ghost use Rattle.router_core.specs.Turns.{peer_of, chain_tasks, next_task};
-ghost use Rattle.rib_tree.specs.Trees.{first_task};
-ghost use Rattle.std.specs.List.{flat_map};
+ghost use Rattle.std.specs.Prelude.{◌≡◌, IfOk, IfNone};
+ghost use Rattle.router_core.specs.Moments.{Gives};
+ghost use Rattle.router_core.specs.Stands.{Stands};
+ghost use Rattle.router_core.specs.Phases.{counts};
+ghost use Rattle.router_core.specs.Turns.{next_task};
+ghost use Rattle.router_core.specs.Works.{Comes, AreTurns, HasDrained, HaveDrained, AllHaveDrained};
 
 use crate::network::{Network, plus};
 use crate::router::{Done, Phase};
 use addr4::Memory;
-use bgp_attr::Route;
-use in_chain::{Chain, turns_are_bounded};
+use in_chain::turns_are_bounded;
 use journal_text::{Journal, Task};
 use link_change::Turn;
-
-fn is_nothing(turn: &Turn<Route>) -> bool
-    ensures { result ≡ is_nothing turn.now }
-{
-    match turn {
-        Turn::Nothing => true,
-        Turn::Quiet => false,
-        Turn::Sent(_) => false,
-    }
-}
-
-/// One turn of a task, in its chain.
-fn turn_chain(chain: &mut Chain, task: Task, journal: &mut Journal) -> Result<Done, Memory>
-    requires sound { IsChain chain.old }
-    requires full { NoneEmpty chain.old.incoming.tables.deletions }
-    ensures { IfOk result (TurnsChain task chain.old chain.new journal.old journal.new) }
-{
-    let turn = chain.unit(task, journal)?;
-    if is_nothing(&turn) {
-        return Ok(Done::Nothing);
-    }
-    chain.weld(journal)?;
-    Ok(Done::Taken)
-}
-
-/// Where the chain of this number stands.
-pub(crate) fn place(chains: &[Chain], number: u32) -> Option<usize>
-    ensures { IsPlace number chains.now result }
-{
-    chains.iter().position(|chain| chain.number() == number)
-}
-
-/// The peer whose task it is; 0 for a task of none.
-fn peer_of(task: Task) -> u32
-    ensures { result ≡ peer_of task }
-{
-    match task {
-        Task::Del(number, _) => number,
-        Task::Fin(number) => number,
-        Task::Rdel(_, _) => 0,
-    }
-}
-
-/// One turn of a task, among the chains.
-fn turn_at(chains: &mut Vec<Chain>, task: Task, journal: &mut Journal) -> Result<Done, Memory>
-    requires order { AreInOrder chains.old.items }
-    requires sound { IsSoundAt (peer_of task) chains.old.items }
-    ensures { IfOk result (TurnsAt task chains.old.items chains.new.items journal.old journal.new) }
-{
-    let Some(i) = place(chains.as_slice(), peer_of(task)) else {
-        return Ok(Done::Nothing);
-    };
-    let done = turn_chain(&mut chains[i], task, journal)?;
-    Ok(done)
-}
 
 impl Network {
     /// One turn of a task, and the text of its lines.
@@ -82,12 +23,17 @@ impl Network {
         if let Task::Rdel(proto, loss) = task {
             return self.turn_route(proto, loss, journal);
         }
-        match turn_at(&mut self.chains, task, journal)? {
-            Done::Nothing => return Ok(Done::Nothing),
-            Done::Taken => {}
+        match self.chains.turn(task, journal)? {
+            Turn::Nothing => Ok(Done::Nothing),
+            Turn::Quiet => {
+                journal.flush()?;
+                Ok(Done::Taken)
+            }
+            Turn::Sent(_) => {
+                journal.flush()?;
+                Ok(Done::Taken)
+            }
         }
-        journal.flush()?;
-        Ok(Done::Taken)
     }
 
     /// Turns of a task, at most so many; fewer where the task has no work left.
@@ -125,15 +71,16 @@ impl Network {
         }
     }
 
-    /// The first task of a phase that has work.
+    /// The first task of a phase that has work; None where no turn of the phase is left.
     fn next(&self, phase: Phase) -> Option<Task>
         requires { Stands self.now }
-        ensures { result ≡ next_task phase self.now }
+        ensures next { result ≡ next_task phase self.now }
+        ensures none { IfNone result (counts self.now phase ≡ 0) }
     {
         match phase {
             Phase::Rdel => self.tree.oldest(),
-            Phase::Del => first_oldest(self.chains.as_slice()),
-            Phase::Fin => first_walk(self.chains.as_slice()),
+            Phase::Del => self.chains.first_loss(),
+            Phase::Fin => self.chains.first_walk(),
         }
     }
 
@@ -165,28 +112,4 @@ impl Network {
         }
         Ok(turns)
     }
-}
-
-/// The oldest stage of the first chain that has one.
-fn first_oldest(chains: &[Chain]) -> Option<Task>
-    ensures { result ≡ first_task (flat_map chain_tasks chains.now) }
-{
-    for chain in chains {
-        if let Some(task) = chain.oldest() {
-            return Some(task);
-        }
-    }
-    None
-}
-
-/// The walk of the first filter that has one.
-fn first_walk(chains: &[Chain]) -> Option<Task>
-    ensures { result ≡ first_walk chains.now }
-{
-    for chain in chains {
-        if chain.busy() {
-            return Some(Task::Fin(chain.number()));
-        }
-    }
-    None
 }

@@ -1,5 +1,5 @@
-//! Stories of stages: a chain of live rows and deletion stages, the decision, outgoing filters, what a peer is sent, a session, each
-//! public call on its happy path.
+//! Stories of stages: a chain of live rows and deletion stages, the decision, outgoing filters, what a peer is sent, a session,
+//! redistribution, the splitter and the forwarding table, each public call on its happy path.
 //!
 //! The crates that these tests are of have none of their own: a crate with tests is proved once more with them.
 #![tactic(auto)]
@@ -14,5 +14,7 @@ mod exits;
 mod outgoing;
 #[cfg(test)]
 mod prefixes;
+#[cfg(test)]
+mod redistribution;
 #[cfg(test)]
 mod sessions;

@@ -2,6 +2,6 @@ mod SpelledNumbers
 mod SpelledAttributes
 mod SpelledRoutes
 pub mod SpelledMessages
-mod LengthLaws
+pub mod LengthLaws
 pub mod SaidAgain
 pub mod Prepended

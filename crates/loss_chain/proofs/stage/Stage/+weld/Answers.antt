@@ -1,5 +1,5 @@
 use Rattle.std.proofs.Common.{◌∷◌, sym, subst, ◌∙◌, arith}
-use Rattle.deletion_stage.proofs.CoverLemmas.{nothing_covers}
+use Rattle.loss_chain.proofs.CoverLemmas.{nothing_covers}
 use Rattle.journal_text.specs.Links.{rank_of}
 use Rattle.loss_chain.specs.Owners.{lost_link}
 use Rattle.loss_chain.specs.Steps.{weld_entries}

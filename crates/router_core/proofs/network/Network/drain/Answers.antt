@@ -7,14 +7,14 @@ loop-task-init c = phase_none c.args.phase c.args.self.now c.args.journal.now c.
 
 pub loop-task-smaller : goal.loop-task-smaller
 loop-task-smaller c =
-    phase_less c.args.phase c.in-Some.task c.in_ok-drain_task.field-0 c.loop-task.self c.drain_task.new.self c.loop-task.journal c.drain_task.new.journal c.in-Some.ensures c.in_ok-drain_task.ensures
+    phase_less c.args.phase c.in-Some.task c.in_ok-drain_task.field-0 c.loop-task.self c.drain_task.new.self c.loop-task.journal c.drain_task.new.journal c.in-Some.ensures.next c.in_ok-drain_task.ensures
 
 pub loop-task-preserved : goal.loop-task-preserved
 loop-task-preserved c =
     subst (λ (n : ℕ). HaveGivenOf c.args.phase n c.args.self.now c.drain_task.new.self c.args.journal.now c.drain_task.new.journal) (sym c.in_ok-turns.ensures)
     (phase_more c.args.phase c.in-Some.task c.loop-task.turns c.in_ok-drain_task.field-0 c.args.self.now c.loop-task.self c.drain_task.new.self c.args.journal.now c.loop-task.journal c.drain_task.new.journal
-    c.loop-task.invariant c.in-Some.ensures c.in_ok-drain_task.ensures)
+    c.loop-task.invariant c.in-Some.ensures.next c.in_ok-drain_task.ensures)
 
 pub returns : goal.returns
 returns c =
-    phase_done c.turns_are_bounded.ensures.bounded c.args.phase c.args.self.now c.loop-task.self c.loop-task.turns c.args.journal.now c.loop-task.journal c.loop-task.invariant c.in_default.ensures
+    phase_done c.turns_are_bounded.ensures.bounded c.turns_are_bounded.ensures.left c.args.phase c.args.self.now c.loop-task.self c.loop-task.turns c.args.journal.now c.loop-task.journal c.loop-task.invariant c.in_default.ensures.next c.in_default.ensures.none

@@ -1,6 +1,11 @@
-use Rattle.event_text.specs.declared.event.Event.TheVariants as events
-use Rattle.router_core.proofs.StepLemmas.{stepped}
+use Rattle.std.proofs.Common.{ap, ◌∙◌, refl}
+use Rattle.journal_text.specs.Journals.{flushed}
+use Rattle.router_core.specs.Moments.{router_links}
+use Rattle.router_core.specs.Blocks.{answer_lines}
+use Rattle.router_core.proofs.ShownRows.{ask_stepped}
 use Rattle.router_core.proofs.network.Network.look_up.Goals as goal
 
 pub returns : goal.returns
-returns c = stepped c.args.self.now c.args.self.now (events.Ask c.args.link c.args.p) c.args.journal.now c.ask.new.journal c.flush.new.self c.in_ok-ask.ensures c.in_ok-flush.ensures.ok
+returns c =
+    let of = router_links c.args.self.now c.args.link in
+    (answer_lines c.args.link c.args.p of, c.in_ok-flush.ensures.ok ∙ ap flushed c.in_ok-ask.ensures, ask_stepped c.args.self.now c.args.link c.args.p of c.requires refl)

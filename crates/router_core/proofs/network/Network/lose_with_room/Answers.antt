@@ -1,37 +1,14 @@
-use Rattle.router_core.specs.Stands.{AreInOrder, Order}
-use Rattle.std.specs.Prelude.{IsSome}
-use Rattle.router_core.specs.Works.{MayLoseAt}
-use Rattle.router_core.proofs.LossLemmas.{may_lose_at}
-use Rattle.router_core.proofs.StandLemmas.{chain_is_there}
-use Rattle.std.proofs.Common.{◌≡◌, Some, None, subst, sym}
-use Rattle.event_text.specs.Declarations.{Declaration}
-use Rattle.in_chain.specs.Chains.{Chained}
-use Rattle.in_chain.specs.Incomings.{overdue_of}
-use Rattle.router_core.specs.Moments.{Moment, chain_at}
-use Rattle.router_core.specs.Stands.{Stands}
-use Rattle.router_core.specs.Works.{Pushes, Ends, IsSession}
-use Rattle.router_core.proofs.LossLemmas.{one_ended}
+use Rattle.router_core.proofs.StandLemmas.{peers_sound}
+use Rattle.router_core.proofs.LossLemmas.{may_lose, one_ended}
 use Rattle.router_core.proofs.network.Network.lose_with_room.Goals as goal
 
-pub lose_at-requires-clause-order : goal.lose_at-requires-clause-order
-lose_at-requires-clause-order c = subst (λ (m : Moment). AreInOrder m.chains) (sym c.self.view_is) (c.requires.stands.own Order)
+pub lose-requires-clause-sound : goal.lose-requires-clause-sound
+lose-requires-clause-sound c = peers_sound c.args.self.now _ c.self.view_is c.requires.stands
 
-pub lose_at-requires-clause-there : goal.lose_at-requires-clause-there
-lose_at-requires-clause-there c =
-    subst (λ (m : Moment). IsSome (chain_at c.args.number m.chains)) (sym c.self.view_is) (chain_is_there c.args.self.now c.requires.stands c.args.number c.requires.up.0 c.requires.up.1)
-
-pub lose_at-requires-clause-may : goal.lose_at-requires-clause-may
-lose_at-requires-clause-may c =
-    subst (λ (m : Moment). MayLoseAt c.args.number c.args.session m.chains) (sym c.self.view_is) (may_lose_at c.args.number c.args.session c.args.self.now c.requires.stands c.requires.up c.requires.free)
+pub lose-requires-clause-may : goal.lose-requires-clause-may
+lose-requires-clause-may c = may_lose c.args.number c.args.session c.args.self.now _ c.self.view_is c.requires.stands c.requires.up c.requires.free
 
 pub returns : goal.returns
 returns c =
-    let old : Moment = record { declared = c.self.inside.declared; tree = c.self.inside.tree; registry = c.self.inside.registry; chains = c.self.inside.chains.items } in
-    let new : Declaration → Moment = λ d. record { declared = d; tree = c.self.inside.tree; registry = c.self.inside.registry; chains = c.lose_at.new.chains.items } in
-    let stands : Stands old = subst Stands (sym c.self.view_is) c.requires.stands in
-    let up : IsSession c.args.number c.args.session old = subst (IsSession c.args.number c.args.session) (sym c.self.view_is) c.requires.up in
-    let free : (d : Chained) → chain_at c.args.number old.chains ≡ Some d → overdue_of d.incoming ≡ None =
-    subst (λ (m : Moment). (d : Chained) → chain_at c.args.number m.chains ≡ Some d → overdue_of d.incoming ≡ None) (sym c.self.view_is) c.requires.free in
-    let ends = one_ended c.args.number c.args.session old c.lose_at.new.chains.items c.args.journal.now c.lose_at.new.journal stands up free c.in_ok-lose_at.ensures in
-    subst (λ (m : Moment). Pushes (Ends c.args.number c.args.session m (new c.end_session.new.self)) c.args.journal.now c.lose_at.new.journal) c.self.view_is
-    (subst (λ (d : Declaration). Pushes (Ends c.args.number c.args.session old (new d)) c.args.journal.now c.lose_at.new.journal) (sym c.end_session.ensures.value) ends)
+    one_ended c.args.number c.args.session c.args.self.now _ c.end_session.new.self c.lose.new.self c.args.journal.now c.lose.new.journal c.self.view_is c.requires.stands c.requires.up
+    c.end_session.ensures.value c.in_ok-lose.ensures

@@ -3,9 +3,9 @@ use Rattle.router_core.proofs.network.Network.make_room.Goals as goal
 
 pub returns-in_ok-drain_task-in-Some : goal.returns-in_ok-drain_task-in-Some
 returns-in_ok-drain_task-in-Some c =
-    room_drained c.args.number c.args.self.now c.drain_task.new.self c.chain.result.now c.in-Some.task c.in_ok-drain_task-in-Some.field-0 c.args.journal.now c.drain_task.new.journal
-    c.requires.stands c.chain.ensures c.in-Some.ensures c.in_ok-drain_task-in-Some.ensures
+    room_drained c.args.number c.args.self.now _ c.drain_task.new.self c.in-Some.task c.in_ok-drain_task-in-Some.field-0 c.args.journal.now c.drain_task.new.journal c.self.view_is
+    c.requires.stands c.in-Some.ensures c.in_ok-drain_task-in-Some.ensures
 
 pub returns-in_ok-flush-in-None : goal.returns-in_ok-flush-in-None
 returns-in_ok-flush-in-None c =
-    room_there c.args.number c.args.self.now c.chain.result.now c.args.journal.now c.flush.new.self c.requires.stands c.chain.ensures c.in-None.ensures c.in_ok-flush-in-None.ensures.ok
+    room_there c.args.number c.args.self.now _ c.args.journal.now c.flush.new.self c.self.view_is c.requires.stands c.requires.there c.in-None.ensures c.in_ok-flush-in-None.ensures.ok

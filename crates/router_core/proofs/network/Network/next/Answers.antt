@@ -1,21 +1,22 @@
-use Rattle.std.proofs.Common.{List, sym, ap, ◌∙◌}
-use Rattle.std.specs.List.{flat_map}
-use Rattle.rib_tree.specs.Trees.{tree_tasks, first_task}
-use Rattle.in_chain.specs.Chains.{Chained}
-use Rattle.router_core.specs.declared.router.Phase.{Phase}
-use Rattle.router_core.specs.Moments.{Moment}
-use Rattle.router_core.specs.Turns.{chain_tasks, next_task}
-use Rattle.router_core.specs.Works.{first_walk}
-use Rattle.router_core.proofs.NextLemmas.{next_loss, next_stage, next_walk}
+use Rattle.router_core.specs.declared.router.Phase.TheVariants.{Del, Fin}
+use Rattle.router_core.proofs.StandLemmas.{peers_sound}
+use Rattle.router_core.proofs.NextLemmas.{del_not_rdel, fin_not_rdel, next_of_peers, next_of_tree, none_of_tree}
 use Rattle.router_core.proofs.network.Network.next.Goals as goal
 
-pub returns-in-Rdel : goal.returns-in-Rdel
-returns-in-Rdel c = c.oldest.ensures ∙ ap (λ (m : Moment). first_task (tree_tasks m.tree)) c.self.view_is ∙ sym (next_loss c.args.self.now c.requires) ∙ ap (λ (r : Phase). next_task r c.args.self.now) (sym c.in-Rdel.is)
+pub first_loss-requires : goal.first_loss-requires
+first_loss-requires c = peers_sound c.args.self.now _ c.self.view_is c.requires
 
-pub returns-in-Del : goal.returns-in-Del
-returns-in-Del c = c.first_oldest.ensures ∙ ap (λ (cs : List Chained). first_task (flat_map chain_tasks cs)) (c.as_slice.ensures.value ∙ ap (λ (m : Moment). m.chains) c.self.view_is)
-    ∙ sym (next_stage c.args.self.now c.requires) ∙ ap (λ (r : Phase). next_task r c.args.self.now) (sym c.in-Del.is)
+pub first_walk-requires : goal.first_walk-requires
+first_walk-requires c = peers_sound c.args.self.now _ c.self.view_is c.requires
 
-pub returns-in-Fin : goal.returns-in-Fin
-returns-in-Fin c = c.first_walk.ensures ∙ ap first_walk (c.as_slice-in-Fin.ensures.value ∙ ap (λ (m : Moment). m.chains) c.self.view_is)
-    ∙ sym (next_walk c.args.self.now c.requires) ∙ ap (λ (r : Phase). next_task r c.args.self.now) (sym c.in-Fin.is)
+pub returns-in-Rdel-clause-next : goal.returns-in-Rdel-clause-next
+returns-in-Rdel-clause-next c = next_of_tree c.args.phase c.args.self.now _ c.oldest.result c.in-Rdel.is c.self.view_is c.requires c.oldest.ensures
+
+pub returns-in-Rdel-clause-none : goal.returns-in-Rdel-clause-none
+returns-in-Rdel-clause-none c = none_of_tree c.args.phase c.args.self.now _ c.oldest.result c.in-Rdel.is c.self.view_is c.oldest.ensures
+
+pub returns-in-Del-clause-next : goal.returns-in-Del-clause-next
+returns-in-Del-clause-next c = next_of_peers Del c.args.phase c.args.self.now _ c.first_loss.result del_not_rdel c.in-Del.is c.self.view_is c.first_loss.ensures.first
+
+pub returns-in-Fin-clause-next : goal.returns-in-Fin-clause-next
+returns-in-Fin-clause-next c = next_of_peers Fin c.args.phase c.args.self.now _ c.first_walk.result fin_not_rdel c.in-Fin.is c.self.view_is c.first_walk.ensures.first

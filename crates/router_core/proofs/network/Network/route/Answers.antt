@@ -27,7 +27,7 @@ feed-requires-in-Some-clause-full c = subst (λ (m : Moment). IsFull m.tree) (sy
 
 pub returns-in_ok-settle-in-None : goal.returns-in_ok-settle-in-None
 returns-in_ok-settle-in-None c =
-    let old : Moment = record { declared = c.self.inside.declared; tree = c.self.inside.tree; registry = c.self.inside.registry; chains = c.self.inside.chains.items } in
+    let old : Moment = record { declared = c.self.inside.declared; tree = c.self.inside.tree; registry = c.self.inside.registry; chains = c.self.inside.chains } in
     let k = c.args.proto in
     let p = c.args.p in
     subst (λ (m : Moment). Pushes (HasRouted m (fed_tree m.tree k p c.args.new) k p (way_of_route k m.tree) (interior_fed (live_state m) k (live_after (branch_of k m.tree).tables.live p c.args.new)) c.settle.new.self) c.args.journal.now c.settle.new.journal)
@@ -38,7 +38,7 @@ returns-in_ok-settle-in-None c =
 
 pub returns-in_ok-settle-in-Some : goal.returns-in_ok-settle-in-Some
 returns-in_ok-settle-in-Some c =
-    let old : Moment = record { declared = c.self-in-Some.inside.declared; tree = c.self-in-Some.inside.tree; registry = c.self-in-Some.inside.registry; chains = c.self-in-Some.inside.chains.items } in
+    let old : Moment = record { declared = c.self-in-Some.inside.declared; tree = c.self-in-Some.inside.tree; registry = c.self-in-Some.inside.registry; chains = c.self-in-Some.inside.chains } in
     let k = c.args.proto in
     let p = c.args.p in
     subst (λ (m : Moment). Pushes (HasRouted m (fed_tree m.tree k p c.args.new) k p (way_of_route k m.tree) (interior_fed (live_state m) k (live_after (branch_of k m.tree).tables.live p c.args.new)) c.settle-in-Some.new.self) c.args.journal.now c.settle-in-Some.new.journal)

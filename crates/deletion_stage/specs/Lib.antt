@@ -1,2 +1,0 @@
-pub mod Lost
-pub mod Covering

@@ -1,0 +1,2 @@
+pub mod Fibs
+pub mod Laws

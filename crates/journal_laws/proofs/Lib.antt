@@ -1,0 +1,14 @@
+mod Spans
+mod NumberTexts
+mod PathTexts
+mod AttrsTexts
+mod RowTexts
+pub mod ValueTexts
+mod ShortNumbers
+mod ShortAttrs
+pub mod ShortLines
+pub mod TextWalks
+mod WalksBack
+pub mod LawfulTexts
+pub mod ReadAttrs
+pub mod FilteredRoutes

@@ -1,0 +1,164 @@
+-- Numbers, addresses and octets are told by their texts.
+use Rattle.std.proofs.Common.{◌≡◌, ℕ, zero, suc, ◌/◌, ◌%◌, ◌^◌, ◌<◌, ◌≤◌, ◌||◌, Bool, true, false, nat_eq, List, [], ◌∷◌, ◌++◌, length, get_or, Ok, Result, refl, sym, ap, ◌∙◌, arith, append_assoc}
+use Rattle.std.proofs.lemmas.Bool.Decides.{nat_tests}
+use Rattle.std.proofs.lemmas.List.{append-nil}
+use Rattle.std.proofs.lemmas.Fmt.{decimal_is_IsNumeral, decimal_injective}
+use Rattle.std.specs.Char.{is_ascii_digit}
+use Rattle.std.specs.Fmt.{decimal}
+use Rattle.std.specs.Int.{w32, to_be_bytes}
+use Rattle.std.specs.List.{AllByRecursion}
+use Rattle.hex.specs.Hex.{IsBytes, encode_lower, encode_with, lower_digits, is_hex_digit, decode_of}
+use Rattle.hex.proofs.HexLemmas.{decode_of-encode_lower}
+use Rattle.addr4.specs.Texts.{dotted, addr_text, addr_of}
+use Rattle.journal_check.proofs.InkLemmas.{decimal_are, dotted_are}
+use Rattle.journal_check.proofs.PrefixBack.{addr_back}
+use Rattle.journal_laws.proofs.Spans.{begins, Pass, clash, rest_same, some_same, spans, pass_more, begins_less}
+
+-- ---- numbers
+
+pub digit_passes : (c : ℕ) → 48 ≤ c → c ≤ 57 → is_ascii_digit c ≡ true
+digit_passes c low high = grind (arith, nat_tests)
+
+pub digits_pass : (n : ℕ) → n < 2 ^ 64 → Pass is_ascii_digit (decimal n)
+digits_pass n small = decimal_are (λ c. is_ascii_digit c ≡ true) digit_passes n small
+
+begins_by : (test : ℕ → Bool) (cs t : List ℕ) → 0 < length cs → Pass test cs → begins test (cs ++ t) ≡ true
+begins_by test [] t some p = absurd (omega arith)
+begins_by test (c ∷ cs) t some p = p.0
+
+pub decimal_begins : (n : ℕ) (t : List ℕ) → n < 2 ^ 64 → begins is_ascii_digit (decimal n ++ t) ≡ true
+decimal_begins n t small = begins_by is_ascii_digit (decimal n) t (decimal_is_IsNumeral n small).0.0 (digits_pass n small)
+
+-- a number behind which no digit stands
+pub number_told : (m n : ℕ) (s t : List ℕ) → m < 2 ^ 64 → n < 2 ^ 64 → begins is_ascii_digit s ≡ false → begins is_ascii_digit t ≡ false → decimal m ++ s ≡ decimal n ++ t → (m ≡ n) × (s ≡ t)
+number_told m n s t hm hn f g e =
+    let parted = spans is_ascii_digit (decimal m) (decimal n) s t (digits_pass m hm) (digits_pass n hn) f g e in
+    (decimal_injective m n hm hn parted.0, parted.1)
+
+-- ---- numbers with dots between them
+
+abbrev pub is_dotted : ℕ → Bool
+is_dotted c = is_ascii_digit c || nat_eq c 46
+
+or_left : (a b : Bool) → a ≡ true → (a || b) ≡ true
+or_left a b e = cc
+
+pub digit_is_dotted : (c : ℕ) → is_ascii_digit c ≡ true → is_dotted c ≡ true
+digit_is_dotted c e = or_left (is_ascii_digit c) (nat_eq c 46) e
+
+-- numbers with a dot before each
+abbrev behind_dots : List ℕ → List ℕ
+behind_dots [] = []
+behind_dots (n ∷ ns) = 46 ∷ decimal n ++ behind_dots ns
+
+dotted_by : (n : ℕ) (ns : List ℕ) → dotted (n ∷ ns) ≡ decimal n ++ behind_dots ns
+dotted_by n [] = sym (append-nil (decimal n))
+dotted_by n (m ∷ ns) = ap (λ t. decimal n ++ 46 ∷ t) (dotted_by m ns)
+
+abbrev pub AreSmall : List ℕ → Type 0
+AreSmall ns = AllByRecursion (λ n. n < 2 ^ 32) ns
+
+no_digit : (ns : List ℕ) (s : List ℕ) → begins is_dotted s ≡ false → begins is_ascii_digit (behind_dots ns ++ s) ≡ false
+no_digit [] s f = begins_less is_ascii_digit is_dotted digit_is_dotted s f
+no_digit (n ∷ ns) s f = refl
+
+behind_told : (ms ns s t : List ℕ) → AreSmall ms → AreSmall ns → begins is_dotted s ≡ false → begins is_dotted t ≡ false → behind_dots ms ++ s ≡ behind_dots ns ++ t → (ms ≡ ns) × (s ≡ t)
+behind_told [] [] s t hm hn f g e = (refl, e)
+behind_told [] (n ∷ ns) s t hm hn f g e = absurd (clash (begins is_dotted s) f (ap (begins is_dotted) e))
+behind_told (m ∷ ms) [] s t hm hn f g e = absurd (clash (begins is_dotted t) g (ap (begins is_dotted) (sym e)))
+behind_told (m ∷ ms) (n ∷ ns) s t hm hn f g e =
+    let small_m = hm.0 in
+    let small_n = hn.0 in
+    let whole : decimal m ++ (behind_dots ms ++ s) ≡ decimal n ++ (behind_dots ns ++ t) =
+    sym (append_assoc (decimal m) (behind_dots ms) s) ∙ (rest_same 46 46 ((decimal m ++ behind_dots ms) ++ s) ((decimal n ++ behind_dots ns) ++ t) e ∙ append_assoc (decimal n) (behind_dots ns) t) in
+    let first = number_told m n (behind_dots ms ++ s) (behind_dots ns ++ t) (omega arith) (omega arith) (no_digit ms s f) (no_digit ns t g) whole in
+    let later = behind_told ms ns s t hm.1 hn.1 f g first.1 in
+    ((λ i. first.0 i ∷ later.0 i), later.1)
+
+begins_dotted : (n : ℕ) (ns t : List ℕ) → n < 2 ^ 64 → begins is_dotted (dotted (n ∷ ns) ++ t) ≡ true
+begins_dotted n ns t small =
+    ap (λ d. begins is_dotted (d ++ t)) (dotted_by n ns)
+    ∙ (ap (begins is_dotted) (append_assoc (decimal n) (behind_dots ns) t)
+    ∙ begins_by is_dotted (decimal n) (behind_dots ns ++ t) (decimal_is_IsNumeral n small).0.0 (pass_more is_ascii_digit is_dotted digit_is_dotted (decimal n) (digits_pass n small)))
+
+-- numbers behind which neither a digit nor a dot stands
+pub dotted_told : (ms ns s t : List ℕ) → AreSmall ms → AreSmall ns → begins is_dotted s ≡ false → begins is_dotted t ≡ false → dotted ms ++ s ≡ dotted ns ++ t → (ms ≡ ns) × (s ≡ t)
+dotted_told [] [] s t hm hn f g e = (refl, e)
+dotted_told [] (n ∷ ns) s t hm hn f g e =
+    let small = hn.0 in
+    absurd (clash (begins is_dotted s) f (ap (begins is_dotted) e ∙ begins_dotted n ns t (omega arith)))
+dotted_told (m ∷ ms) [] s t hm hn f g e =
+    let small = hm.0 in
+    absurd (clash (begins is_dotted t) g (ap (begins is_dotted) (sym e) ∙ begins_dotted m ms s (omega arith)))
+dotted_told (m ∷ ms) (n ∷ ns) s t hm hn f g e =
+    let small_m = hm.0 in
+    let small_n = hn.0 in
+    let whole : decimal m ++ (behind_dots ms ++ s) ≡ decimal n ++ (behind_dots ns ++ t) =
+    sym (append_assoc (decimal m) (behind_dots ms) s)
+    ∙ (ap (λ d. d ++ s) (sym (dotted_by m ms)) ∙ (e ∙ (ap (λ d. d ++ t) (dotted_by n ns) ∙ append_assoc (decimal n) (behind_dots ns) t))) in
+    let first = number_told m n (behind_dots ms ++ s) (behind_dots ns ++ t) (omega arith) (omega arith) (no_digit ms s f) (no_digit ns t g) whole in
+    let later = behind_told ms ns s t hm.1 hn.1 f g first.1 in
+    ((λ i. first.0 i ∷ later.0 i), later.1)
+
+-- ---- addresses
+
+pub addr_same : (a b : ℕ) → a < 2 ^ 32 → b < 2 ^ 32 → addr_text a ≡ addr_text b → a ≡ b
+addr_same a b ha hb e = some_same a b (sym (addr_back a ha) ∙ (ap addr_of e ∙ addr_back b hb))
+
+dotted_passes : (ns : List ℕ) → AreSmall ns → Pass is_dotted (dotted ns)
+dotted_passes ns small = dotted_are (λ c. is_dotted c ≡ true) (λ c low high. digit_is_dotted c (digit_passes c low high)) refl ns small
+
+octet_small : (n : ℕ) → n % 256 < 2 ^ 32
+octet_small n = omega arith
+
+octets_small : (a : ℕ) → AreSmall (to_be_bytes w32 a)
+octets_small a = (octet_small (a / 16777216), (octet_small (a / 65536), (octet_small (a / 256), (octet_small a, tt))))
+
+addr_passes : (a : ℕ) → Pass is_dotted (addr_text a)
+unfolding addr_text
+addr_passes a = dotted_passes (to_be_bytes w32 a) (octets_small a)
+
+-- an address behind which neither a digit nor a dot stands
+pub addr_told : (a b : ℕ) (s t : List ℕ) → a < 2 ^ 32 → b < 2 ^ 32 → begins is_dotted s ≡ false → begins is_dotted t ≡ false → addr_text a ++ s ≡ addr_text b ++ t → (a ≡ b) × (s ≡ t)
+addr_told a b s t ha hb f g e =
+    let parted = spans is_dotted (addr_text a) (addr_text b) s t (addr_passes a) (addr_passes b) f g e in
+    (addr_same a b ha hb parted.0, parted.1)
+
+not_colon : (c : ℕ) → 48 ≤ c → c ≤ 57 → nat_eq c 58 ≡ false
+not_colon c low high = grind (arith, nat_tests)
+
+pub addr_colonless : (a : ℕ) → AllByRecursion (λ c. nat_eq c 58 ≡ false) (addr_text a)
+unfolding addr_text
+addr_colonless a = dotted_are (λ c. nat_eq c 58 ≡ false) not_colon refl (to_be_bytes w32 a) (octets_small a)
+
+-- ---- octets in hex
+
+hex_digit_at : (ds : List ℕ) (k : ℕ) → Pass is_hex_digit ds → k < length ds → is_hex_digit (get_or ds k 0) ≡ true
+hex_digit_at [] k p below = absurd (omega arith)
+hex_digit_at (d ∷ ds) zero p below = p.0
+hex_digit_at (d ∷ ds) (suc k) p below = hex_digit_at ds k p.1 (omega arith)
+
+abbrev pub AreOctets : List ℕ → Type 0
+AreOctets octets = AllByRecursion (λ b. b < 2 ^ 8) octets
+
+hex_passes : (octets : List ℕ) → AreOctets octets → Pass is_hex_digit (encode_lower octets)
+unfolding encode_with
+hex_passes [] small = tt
+hex_passes (b ∷ octets) small =
+    let low = small.0 in
+    let digits : Pass is_hex_digit lower_digits = (refl, (refl, (refl, (refl, (refl, (refl, (refl, (refl, (refl, (refl, (refl, (refl, (refl, (refl, (refl, (refl, tt)))))))))))))))) in
+    (hex_digit_at lower_digits (b / 16) digits (omega arith), (hex_digit_at lower_digits (b % 16) digits (omega arith), hex_passes octets small.1))
+
+ok_same : {E : Type 0} (a b : List ℕ) → ◌≡◌ {A = Result (List ℕ) E} (Ok a) (Ok b) → a ≡ b
+ok_same a b e = cc
+
+bytes : (octets : List ℕ) → AreOctets octets → IsBytes octets
+bytes [] small i = omega arith
+bytes (b ∷ octets) small zero = let low = small.0 in omega arith
+bytes (b ∷ octets) small (suc i) = bytes octets small.1 i
+
+-- octets behind which no hex digit stands
+pub hex_told : (xs ys s t : List ℕ) → AreOctets xs → AreOctets ys → begins is_hex_digit s ≡ false → begins is_hex_digit t ≡ false → encode_lower xs ++ s ≡ encode_lower ys ++ t → (xs ≡ ys) × (s ≡ t)
+hex_told xs ys s t hx hy f g e =
+    let parted = spans is_hex_digit (encode_lower xs) (encode_lower ys) s t (hex_passes xs hx) (hex_passes ys hy) f g e in
+    (ok_same xs ys (sym (decode_of-encode_lower xs (bytes xs hx)) ∙ (ap decode_of parted.0 ∙ decode_of-encode_lower ys (bytes ys hy))), parted.1)

@@ -1,0 +1,115 @@
+-- How long the texts of numbers, addresses, prefixes and links are at most.
+use Rattle.std.proofs.Common.{◌≡◌, ℕ, ◌+◌, ◌*◌, ◌/◌, ◌%◌, ◌^◌, ◌<◌, ◌≤◌, ◌&&◌, true, nat_le, List, [], ◌∷◌, ◌++◌, length, arith, codes}
+use Rattle.std.proofs.lemmas.Bool.Decides.{nat_tests}
+use Rattle.std.proofs.lemmas.List.{length-append}
+use Rattle.std.proofs.lemmas.Fmt.{length-decimal-le, length-decimal-le_wide}
+use Rattle.std.specs.Fmt.{decimal}
+use Rattle.std.specs.List.{AllByRecursion, list_all}
+use Rattle.addr4.specs.Prefixes.{Network}
+use Rattle.addr4.specs.Texts.{dotted, addr_text, prefix_text}
+use Rattle.rib_route.specs.declared.Proto.{Proto}
+use Rattle.rib_route.specs.declared.protocol.FibProto.{FibProto}
+use Rattle.rib_route.specs.declared.protocol.FibProto.TheVariants.{Connected, Static, Ospf, Rip, Ebgp, Ibgp}
+use Rattle.rib_route.specs.Distances.{fib_proto}
+use Rattle.rib_route.specs.Ifaces.{is_name_byte, is_iface_name}
+use Rattle.journal_text.specs.Names.{IsNameNumber, IsNamed}
+use Rattle.journal_text.specs.Texts.{fib_proto_text, proto_text, dot_number, link_text}
+use Rattle.journal_text.specs.declared.link.Link.{Link}
+use Rattle.journal_text.specs.declared.link.Link.TheVariants.{In, Peer, Filt, Res, Org, Lost, Low, Dyn, Int, Red, Best, ReadRib, Ebgp as EbgpLink, Ibgp as IbgpLink, Ext, Fib, Read, Outf, Adv}
+use Rattle.journal_check.specs.Laws.{IsPrefix}
+use Rattle.journal_check.proofs.InkLemmas.{both_true}
+
+-- ---- numbers
+
+pub short_number : (n : ℕ) → n < 2 ^ 32 → length (decimal n) ≤ 10
+short_number n small = length-decimal-le 10 n (omega arith) (omega arith) (omega arith)
+
+pub short_octet : (n : ℕ) → n < 256 → length (decimal n) ≤ 3
+short_octet n small = length-decimal-le 3 n (omega arith) (omega arith) (omega arith)
+
+pub short_long : (n : ℕ) → n < 2 ^ 64 → length (decimal n) ≤ 20
+short_long n small = length-decimal-le 20 n (omega arith) (omega arith) small
+
+pub short_wide : (n : ℕ) → n < 2 ^ 128 → length (decimal n) ≤ 39
+short_wide n small = length-decimal-le_wide 39 n (omega arith) (omega arith) (omega arith)
+
+-- each number of a row of them has a dot at most beside its digits
+pub short_dotted : (ns : List ℕ) → AllByRecursion (λ n. n < 2 ^ 32) ns → length (dotted ns) ≤ 11 * length ns
+short_dotted [] h = omega arith
+short_dotted (n ∷ []) h = let first = short_number n h.0 in omega arith
+short_dotted (n ∷ m ∷ ns) h = omega (arith, short_number n h.0, short_dotted (m ∷ ns) h.1, length-append (decimal n) (46 ∷ dotted (m ∷ ns)))
+
+-- ---- addresses
+
+four_dotted : (a b c d : ℕ) → a < 256 → b < 256 → c < 256 → d < 256 → length (dotted (a ∷ b ∷ c ∷ d ∷ [])) ≤ 15
+four_dotted a b c d ha hb hc hd =
+    omega (
+      arith,
+      short_octet a ha,
+      short_octet b hb,
+      short_octet c hc,
+      short_octet d hd,
+      length-append (decimal a) (46 ∷ dotted (b ∷ c ∷ d ∷ [])),
+      length-append (decimal b) (46 ∷ dotted (c ∷ d ∷ [])),
+      length-append (decimal c) (46 ∷ dotted (d ∷ [])),
+    )
+
+low_octet : (n : ℕ) → n % 256 < 256
+low_octet n = omega arith
+
+pub short_addr : (a : ℕ) → length (addr_text a) ≤ 15
+unfolding addr_text
+short_addr a = four_dotted (a / 16777216 % 256) (a / 65536 % 256) (a / 256 % 256) (a % 256) (low_octet (a / 16777216)) (low_octet (a / 65536)) (low_octet (a / 256)) (low_octet a)
+
+pub short_prefix : (p : Network) → IsPrefix p → length (prefix_text p) ≤ 19
+unfolding prefix_text
+short_prefix p h =
+    let short = h.0.0 in
+    omega (arith, short_addr p.address, short_octet p.length (omega arith), length-append (addr_text p.address) (47 ∷ decimal p.length))
+
+-- ---- links
+
+one_number : (word : List ℕ) (n : ℕ) → length word ≤ 13 → IsNameNumber n → length (word ++ dot_number n) ≤ length word + 11
+one_number word n few h = omega (arith, short_number n h.1, length-append word (dot_number n))
+
+two_numbers : (word : List ℕ) (k s : ℕ) → length word ≤ 4 → IsNameNumber k × IsNameNumber s → length (word ++ dot_number k ++ dot_number s) ≤ 26
+two_numbers word k s few h = omega (arith, short_number k h.0.1, short_number s h.1.1, length-append word (dot_number k), length-append (word ++ dot_number k) (dot_number s))
+
+pub short_fib_proto : (p : FibProto) → length (fib_proto_text p) ≤ 9
+short_fib_proto Connected = omega arith
+short_fib_proto Static = omega arith
+short_fib_proto Ospf = omega arith
+short_fib_proto Rip = omega arith
+short_fib_proto Ebgp = omega arith
+short_fib_proto Ibgp = omega arith
+
+short_org : (p : Proto) → length (codes "org." ++ proto_text p) ≤ 13
+short_org p = omega (arith, short_fib_proto (fib_proto p))
+
+pub short_link : (link : Link) → IsNamed link → length (link_text link) ≤ 26
+unfolding link_text
+short_link (In k) h = omega (arith, one_number (codes "in") k (omega arith) h)
+short_link (Peer k s) h = two_numbers (codes "peer") k s (omega arith) h
+short_link (Filt k) h = omega (arith, one_number (codes "filt") k (omega arith) h)
+short_link (Res k) h = omega (arith, one_number (codes "res") k (omega arith) h)
+short_link (Org proto) h = omega (arith, short_org proto)
+short_link (Lost proto n) h = omega (arith, short_org proto, one_number (codes "org." ++ proto_text proto) n (short_org proto) h)
+short_link Low h = omega arith
+short_link Dyn h = omega arith
+short_link Int h = omega arith
+short_link Red h = omega arith
+short_link Best h = omega arith
+short_link ReadRib h = omega arith
+short_link EbgpLink h = omega arith
+short_link IbgpLink h = omega arith
+short_link Ext h = omega arith
+short_link Fib h = omega arith
+short_link (Read j s) h = two_numbers (codes "read") j s (omega arith) h
+short_link (Outf j s) h = two_numbers (codes "outf") j s (omega arith) h
+short_link (Adv j s) h = two_numbers (codes "adv") j s (omega arith) h
+
+pub short_name : (name : List ℕ) → is_iface_name name ≡ true → length name ≤ 15
+short_name name e =
+    let ends = (both_true (nat_le 1 (length name) && nat_le (length name) 15) (list_all is_name_byte name) e).0 in
+    let most = (both_true (nat_le 1 (length name)) (nat_le (length name) 15) ends).1 in
+    grind (arith, nat_tests)

@@ -1,0 +1,55 @@
+//! Laws of printed lines: what the program prints of a lawful journal, `check` says is lawful.
+//!
+//! What is asked of a line that is printed stands in `specs/Printed`: the numbers of its links are from 1, each number is in
+//! its range, its attributes are such that some message has room for them, and a route's sender is the peer of its number.
+//! Then the line is short enough to be read, and is read as it was meant ([`printed_lines_are_short`],
+//! [`printed_lines_are_read`]), no two values have one text ([`values_are_told`]), and so the walk over the texts is the walk
+//! over the values ([`texts_are_walked`]). Together: of the text of lines whose entries obey the rules, nothing is to be said but
+//! that it is lawful ([`printed_is_lawful`]). Attributes that a peer said are such, and what a filter makes of them
+//! ([`what_was_read_is_printable`], [`filtered_routes_are_printable`]).
+//!
+//! For the proofs of the crates above, which know that their lines are such. Each law is a function that does nothing, whose
+//! contract is the law.
+#![tactic(auto)]
+
+ghost use Rattle.journal_laws.specs.Laws.{ReadIsPrintable, FilteredIsPrintable, PrintedLinesAreShort, PrintedLinesAreRead, ValuesAreTold, TextsAreWalked, TextsTellWalks, PrintedIsLawful, RefusedIsLawful, LawfulEndsLawful};
+
+/// Attributes that a peer said in a message can be printed.
+pub fn what_was_read_is_printable()
+    ensures { ReadIsPrintable }
+{}
+
+/// What the incoming filter makes of attributes that can be printed is a route that can be printed: rules set numbers in their
+/// ranges alone, and the route is from the peer.
+pub fn filtered_routes_are_printable()
+    ensures { FilteredIsPrintable }
+{}
+
+/// A printed line has at most 65,536 bytes and its LF.
+pub fn printed_lines_are_short()
+    ensures { PrintedLinesAreShort }
+{}
+
+/// A printed line is read as what it says: an entry as the entry, and each other line as one that says nothing of links.
+pub fn printed_lines_are_read()
+    ensures { PrintedLinesAreRead }
+{}
+
+/// No two values have one text, where a peer is known by its number.
+pub fn values_are_told()
+    ensures { ValuesAreTold }
+{}
+
+/// The walk over texts is the walk over values: it is lawful exactly where that is, and leads to the texts of the same links.
+pub fn texts_are_walked()
+    ensures leads { TextsAreWalked }
+    ensures tells { TextsTellWalks }
+{}
+
+/// Of the text of lines whose entries obey the rules (NSDI 2005, section 5.1) it is to be said that it is lawful, whether
+/// the entries are printed or not, and also where a refused event ends it; so a run of `check` that answers says it.
+pub fn printed_is_lawful()
+    ensures judged { PrintedIsLawful }
+    ensures refused { RefusedIsLawful }
+    ensures ends { LawfulEndsLawful }
+{}

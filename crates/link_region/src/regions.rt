@@ -1,0 +1,32 @@
+//! The links by their regions.
+
+ghost use Rattle.std.specs.Prelude.{◌≡◌};
+ghost use Rattle.link_region.specs.Regions.{region_of};
+
+use journal_text::Link;
+
+/// The regions of the network. Each link is of one region, and each region has a part of the router that gives its links.
+#[derive(Clone, Copy, Debug, PartialEq, Eq)]
+pub enum Region {
+    /// The peers' chains.
+    Inward,
+    /// The interior routes, down to `int`.
+    InteriorRoutes,
+    /// The forwarding table.
+    Forward,
+    /// Links that aren't live yet, in no state.
+    Elsewhere,
+}
+
+/// The region of a link.
+pub fn region_of(link: Link) -> Region
+    ensures { result ≡ region_of link }
+{
+    match link {
+        Link::In(_) | Link::Peer(_, _) | Link::Filt(_) | Link::Res(_) => Region::Inward,
+        Link::Org(_) | Link::Lost(_, _) | Link::Low | Link::Dyn | Link::Int =>
+            Region::InteriorRoutes,
+        Link::Fib => Region::Forward,
+        _ => Region::Elsewhere,
+    }
+}

@@ -1,0 +1,7 @@
+pub mod Kept
+pub mod Resolving
+pub mod Registered
+pub mod Takes
+pub mod Turns
+pub mod Left
+pub mod Laws

@@ -1,0 +1,54 @@
+-- What ties a resolver to the register.
+use Rattle.std.specs.Prelude.{◌≡◌, ◌≢◌, ◌⊎◌, ℕ, Bool, true, List, Option, Some, None}
+use Rattle.std.specs.List.{Contains}
+use Rattle.std.specs.FinMap as map
+use Rattle.addr4.specs.Prefixes.{Network}
+use Rattle.prefix_trie.specs.Width.{width}
+use Rattle.rib_route.specs.declared.rows.Interior.{Interior}
+use Rattle.register_interest.specs.Covers.{longest}
+use Rattle.register_interest.specs.declared.interests.Interest.{Interest}
+use Rattle.register_interest.specs.Registers.{Registry}
+use Rattle.nexthop_known.specs.declared.answer.Hop.{Hop}
+use Rattle.nexthop_known.specs.Hops.{Hops, IsRenewed, learnt}
+use Rattle.nexthop_known.specs.Agreement.{Agree, IsPresent, AreWanted, IsInterestIn}
+
+-- the subnets in which a client has an interest
+abbrev pub interest_of : {R : Type 0} → ℕ → Registry R → Network → Bool
+interest_of client r s = map.contains_key r.interests (record { subnet = s; client = client })
+
+-- no row and no interest of another client is changed
+pub record KeepsOthers {R : Type 0} (client : ℕ) (old new : Registry R) : Type 0 where
+  pub rows : new.rows ≡ old.rows
+  pub interests : (k : Interest) → k.client ≢ client → map.get new.interests k ≡ map.get old.interests k
+
+module _ {A : Type 0} (kept : Option (Network × Interior) → A) where
+  -- what is kept of the register's answer about each address
+  abbrev pub answer_of : Registry Interior → ℕ → A
+  answer_of r a = kept (longest width (map.get r.rows) a)
+
+  -- each known next hop that isn't stale has the present answer and its interest, and no interest is without one
+  abbrev pub Agrees : ℕ → Hops A → Registry Interior → Type 0
+  Agrees client known r = Agree (answer_of r) (interest_of client r) (map.get known)
+
+  -- an interest came that known next hops needn't have
+  pub record IsEarly (client : ℕ) (known : Hops A) (r : Registry Interior) (s : Network) : Type 0 where
+    pub before : Network → Bool
+    pub agree : Agree (answer_of r) before (map.get known)
+    pub comes : IsInterestIn before (interest_of client r) s true
+
+  -- an unknown next hop has the register's answer, for both
+  abbrev pub Learns : Registry Interior → Hops A → Hops A → ℕ → Type 0
+  Learns r old new a = (s : Network) × (new ≡ map.insert old a (learnt s (answer_of r a)))
+
+  -- a stale one has it as its fresh answer
+  abbrev pub Renews : Registry Interior → Hops A → Hops A → ℕ → Type 0
+  Renews r old new a = (s : Network) × IsRenewed old new a s (answer_of r a)
+
+  -- ---- after a change of the interior routes
+  -- Each next hop that isn't stale has the present answer, or its interest was given up and is still listed; and each interest that is
+  -- kept is one with which the answer of such a next hop came.
+  pub record Pends (client : ℕ) (known : Hops A) (r : Registry Interior) (out : List Interest) : Type 0 where
+    pub pending : (a : ℕ) (h : Hop A) (s : Network) → map.get known a ≡ Some h → h.came ≡ Some s
+        → IsPresent (answer_of r) (interest_of client r) a h s ⊎ Contains out (record { subnet = s; client = client })
+    pub given_up : (k : Interest) → Contains out k → map.get r.interests k ≡ None
+    pub wanted : AreWanted (interest_of client r) (map.get known)

@@ -1,0 +1,105 @@
+-- What a turn of a chain's stage, and the weld behind it, leave of its counts.
+use Rattle.std.proofs.Common.{◌≡◌, ℕ, ◌+◌, ◌≤◌, Bool, true, false, not, cond, List, [], ◌∷◌, length, map, filter, Option, Some, None, nat_eq, refl, sym, ap, subst, ◌∙◌, arith}
+use Rattle.std.specs.FinMap as tables
+use Rattle.std.specs.FinMap.{FinMap, find, is_sorted, get-entries, get-remove, get-from_sorted, entries_sorted, entries-from_sorted, same_map}
+use Rattle.std.specs.FinMap.Entries.{where_key, is_sorted-where_key, find-where_key}
+use Rattle.std.specs.Ordering.{eq_by_cmp}
+use Rattle.std.specs.Prelude.{T}
+use Rattle.addr4.specs.Prefixes.{Network, prefix_cmp}
+use Rattle.addr4.proofs.PrefixOrder.{prefixes_total, exact_prefixes}
+use Rattle.bgp_attr.specs.declared.attrs.Attrs.{Attrs}
+use Rattle.policy_rules.specs.declared.rule.Rule.{Rule}
+use Rattle.pass_core.specs.Passed.{Walked, is_beyond}
+use Rattle.loss_chain.specs.Lost.{Lost}
+use Rattle.loss_chain.specs.Tables.{NoneEmpty, tables_count}
+use Rattle.loss_chain.specs.Steps.{without, swept_one, table_of}
+use Rattle.loss_chain.proofs.TableLemmas.{is_full, full_stay}
+use Rattle.loss_chain.proofs.TurnLemmas.{welded_rows, swept_rows as swept_rows_of}
+use Rattle.in_chain.specs.Chains.{Chained, IsChain, with_tables, count_beyond, lost_beyond, waiting_turns, walk_turns, turns_left}
+use Rattle.in_chain.specs.Steps.{swept, welded}
+use Rattle.peer_side.specs.Peers.{lost_of}
+
+pub swept_rows : (s : ℕ) (c : Chained) (p : Network) (a : Attrs) (t : FinMap prefix_cmp Attrs) → IsChain c → table_of s c.incoming.tables.deletions ≡ Some t → tables.get t p ≡ Some a
+    → lost_of (welded (swept s p c)) + 1 ≡ lost_of c
+swept_rows s c p a t chain stands at =
+    let filtered = welded_rows (map (swept_one s p) c.incoming.tables.deletions) in
+    let less = swept_rows_of s p t a c.incoming.tables.deletions chain.rising stands at in
+    omega arith
+
+-- the entries of a table without a prefix
+entries_removed : (t : FinMap prefix_cmp Attrs) (p : Network) → tables.entries (tables.remove t p) ≡ filter (λ e. not (eq_by_cmp prefix_cmp e.0 p)) (tables.entries t)
+entries_removed t p = ap tables.entries (same_map prefixes_total exact_prefixes (tables.remove t p) (tables.from_sorted es) alike) ∙ entries-from_sorted prefix_cmp es sorted
+  where
+    other : Network → Bool
+    other x = not (eq_by_cmp prefix_cmp x p)
+
+    es : List (Network × Attrs)
+    es = where_key prefix_cmp other (tables.entries t)
+
+    sorted : T (is_sorted prefix_cmp es)
+    sorted = is_sorted-where_key prefix_cmp other (tables.entries t) (entries_sorted t)
+
+    by_test : (q : Network) (b : Bool) → cond b None (tables.get t q) ≡ cond (not b) (find prefix_cmp q (tables.entries t)) None
+    by_test q true = refl
+    by_test q false = get-entries t q
+
+    alike : (q : Network) → tables.get (tables.remove t p) q ≡ tables.get (tables.from_sorted {R = prefix_cmp} es) q
+    alike q = get-remove prefixes_total t p q ∙ by_test q (eq_by_cmp prefix_cmp q p)
+        ∙ sym (find-where_key prefix_cmp other q (λ x e. ap other (sym (exact_prefixes q x e))) (tables.entries t)) ∙ sym (get-from_sorted prefix_cmp es q sorted)
+
+fewer_filtered : (f g : Network × Attrs → Bool) (es : List (Network × Attrs)) → length (filter f (filter g es)) ≤ length (filter f es)
+fewer_filtered f g [] = omega arith
+fewer_filtered f g (e ∷ es) = by_g (g e) (fewer_filtered f g es)
+  where
+    both_kept : (b : Bool) → length (filter f (filter g es)) ≤ length (filter f es) → length (cond b (e ∷ filter f (filter g es)) (filter f (filter g es))) ≤ length (cond b (e ∷ filter f es) (filter f es))
+    both_kept true rest = omega (arith, rest)
+    both_kept false rest = rest
+
+    one_gone : (b : Bool) → length (filter f (filter g es)) ≤ length (filter f es) → length (filter f (filter g es)) ≤ length (cond b (e ∷ filter f es) (filter f es))
+    one_gone true rest = omega (arith, rest)
+    one_gone false rest = rest
+
+    by_g : (b : Bool) → length (filter f (filter g es)) ≤ length (filter f es) → length (filter f (cond b (e ∷ filter g es) (filter g es))) ≤ length (filter f (e ∷ es))
+    by_g true rest = both_kept (f e) rest
+    by_g false rest = one_gone (f e) rest
+
+-- a row that goes leaves no more beyond a place
+removed_beyond : (place : Option Network) (p : Network) (t : FinMap prefix_cmp Attrs) → count_beyond place (tables.remove t p) ≤ count_beyond place t
+removed_beyond place p t =
+    subst (λ (es : List (Network × Attrs)). length (filter (λ e. is_beyond place e.0) es) ≤ count_beyond place t) (sym (entries_removed t p))
+    (fewer_filtered (λ e. is_beyond place e.0) (λ e. not (eq_by_cmp prefix_cmp e.0 p)) (tables.entries t))
+
+swept_beyond : (place : Option Network) (s : ℕ) (p : Network) (ds : List (Lost Attrs)) → lost_beyond place (map (swept_one s p) ds) ≤ lost_beyond place ds
+swept_beyond place s p [] = omega arith
+swept_beyond place s p (d ∷ ds) = let here = by_test (nat_eq d.number s) in let rest = swept_beyond place s p ds in omega (arith, here, rest)
+  where
+    by_test : (b : Bool) → count_beyond place (cond b (without p d) d).rows ≤ count_beyond place d.rows
+    by_test true = removed_beyond place p d.rows
+    by_test false = omega arith
+
+full_beyond : (place : Option Network) (ds : List (Lost Attrs)) → lost_beyond place (filter is_full ds) ≤ lost_beyond place ds
+full_beyond place [] = omega arith
+full_beyond place (d ∷ ds) = by_test (is_full d) (full_beyond place ds)
+  where
+    by_test : (b : Bool) → lost_beyond place (filter is_full ds) ≤ lost_beyond place ds → lost_beyond place (cond b (d ∷ filter is_full ds) (filter is_full ds)) ≤ lost_beyond place (d ∷ ds)
+    by_test true rest = omega (arith, rest)
+    by_test false rest = omega (arith, rest)
+
+waiting_more : (a b : ℕ) (waiting : Option (List Rule)) → a ≤ b → waiting_turns a waiting ≤ waiting_turns b waiting
+waiting_more a b None most = omega arith
+waiting_more a b (Some rules) most = omega (arith, most)
+
+-- and no more turns of the filter's walk
+pub swept_turns : (s : ℕ) (c : Chained) (p : Network) → lost_of (welded (swept s p c)) ≤ lost_of c → turns_left (welded (swept s p c)) ≤ turns_left c
+swept_turns s c p less = by_walk c.filter.walk
+  where
+    by_walk : (w : Option (Walked (List Rule))) → walk_turns (welded (swept s p c)).incoming.tables w ≤ walk_turns c.incoming.tables w
+    by_walk None = omega arith
+    by_walk (Some w) =
+        let a = swept_beyond w.place s p c.incoming.tables.deletions in
+        let b = full_beyond w.place (map (swept_one s p) c.incoming.tables.deletions) in
+        let d = waiting_more (tables_count (welded (swept s p c)).incoming.tables) (tables_count c.incoming.tables) w.waiting (omega (arith, less)) in
+        omega (arith, a, b, d)
+
+pub weld_stays : (c : Chained) → NoneEmpty c.incoming.tables.deletions → welded c ≡ c
+weld_stays c full i = with_tables c (record { live = c.incoming.tables.live; deletions = full_stay c.incoming.tables.deletions full i })

@@ -1,0 +1,127 @@
+//! Routes of this speaker's own.
+
+ghost use Rattle.std.specs.Prelude.{◌≡◌, IfOk, if◌then◌else◌};
+ghost use Rattle.redist.specs.Local.{local_attrs, local_route, of_own, is_on};
+
+use crate::protos::Protos;
+use addr4::{Addr, Memory, Row};
+use bgp_attr::{AsPath, Attrs, Origin, Route, SharedAttrs, Speaker, UnrecognizedAttrs};
+use rib_route::Interior;
+use std::alloc::Global;
+
+/// The attributes of this speaker's own routes, with its address.
+#[derive(Drop)]
+struct Own {
+    addr: Addr,
+    attrs: SharedAttrs,
+    ghost own: { attrs ≡ local_attrs addr },
+}
+
+/// Makes the routes of this speaker's own, and keeps the attributes that they share.
+#[derive(Drop)]
+pub(crate) struct Maker {
+    alloc: Global,
+    last: Option<Own>,
+}
+
+// The attributes of a route of the speaker's own. Takes no memory.
+fn local_attrs(alloc: Global, addr: Addr) -> Attrs
+    ensures { result ≡ local_attrs addr }
+{
+    Attrs {
+        origin: Origin::Incomplete,
+        path: AsPath::new(alloc),
+        next_hop: addr,
+        med: None,
+        local_pref: None,
+        atomic: false,
+        aggregator: None,
+        unrecognized: UnrecognizedAttrs::new(alloc),
+    }
+}
+
+// The route of the speaker's own with these attributes.
+fn of_own(attrs: SharedAttrs) -> Route
+    ensures { result ≡ of_own attrs }
+{
+    Route {
+        attrs,
+        pref: 100,
+        med: None,
+        prepend: 0,
+        igp: Some(0),
+        from: None,
+    }
+}
+
+// Whether there is a row, of one of these protocols.
+fn is_on(on: Protos, row: &Option<Interior>) -> bool
+    ensures { result ≡ is_on on row.now }
+{
+    match row {
+        None => false,
+        Some(row) => on.has(row.proto),
+    }
+}
+
+impl Maker {
+    /// Takes no memory; what is made later comes from `alloc`.
+    pub(crate) fn new(alloc: Global) -> Maker {
+        Maker { alloc, last: None }
+    }
+
+    // The attributes that are kept, if they are this speaker's, or new ones.
+    fn attrs(&self, me: &Speaker) -> Result<SharedAttrs, Memory>
+        ensures { IfOk result (λ attrs. attrs ≡ local_attrs me.now.addr) }
+    {
+        if let Some(own) = &self.last
+            && own.addr == me.addr
+        {
+            return own.attrs.copy();
+        }
+        SharedAttrs::new(self.alloc, local_attrs(self.alloc, me.addr))
+    }
+
+    // The same, kept for the next route.
+    fn kept_attrs(&mut self, me: &Speaker) -> Result<SharedAttrs, Memory>
+        ensures { IfOk result (λ attrs. attrs ≡ local_attrs me.now.addr) }
+    {
+        let attrs = self.attrs(me)?;
+        let kept = attrs.copy()?;
+        self.last = Some(Own {
+            addr: me.addr,
+            attrs: kept,
+        });
+        Ok(attrs)
+    }
+
+    /// What is made of an interior row, where these protocols are redistributed. Memory only for want of memory.
+    pub(crate) fn row(
+        &mut self,
+        on: Protos,
+        row: &Option<Interior>,
+        me: &Speaker,
+    ) -> Result<Option<Route>, Memory>
+        ensures { IfOk result (λ route. route ≡ (if is_on on row.now then Some (local_route me.now) else None)) }
+    {
+        if !is_on(on, row) {
+            return Ok(None);
+        }
+        Ok(Some(of_own(self.kept_attrs(me)?)))
+    }
+
+    /// The same for a lookup: nothing more is kept.
+    pub(crate) fn asked(
+        &self,
+        on: Protos,
+        row: &Option<Interior>,
+        me: &Speaker,
+    ) -> Result<Option<Route>, Memory>
+        ensures { IfOk result (λ route. route ≡ (if is_on on row.now then Some (local_route me.now) else None)) }
+    {
+        if !is_on(on, row) {
+            return Ok(None);
+        }
+        Ok(Some(of_own(self.attrs(me)?)))
+    }
+}

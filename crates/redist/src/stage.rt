@@ -1,0 +1,156 @@
+//! The stage between `int` and `red`.
+
+ghost use Rattle.std.specs.Prelude.{◌≡◌, IfOk, OnErr, None, IsSome, IfSome, is_some};
+ghost use Rattle.addr4.specs.Places.{key_of};
+ghost use Rattle.bgp_attr.specs.declared.speaker.Speaker.{Speaker};
+ghost use Rattle.link_change.specs.Rows.{IsNextCandidate, CoversRows};
+ghost use Rattle.pass_core.specs.Passed.{edited, present, waits};
+ghost use Rattle.pass_core.specs.Turns.{passed_rows, IsPassedOn, IsWalked};
+ghost use Rattle.redist.specs.Protocols.{no_protos, with_proto};
+ghost use Rattle.redist.specs.Local.{redistributed};
+
+use crate::local::Maker;
+use crate::protos::Protos;
+use addr4::{Memory, Place, Prefix};
+use bgp_attr::{Route, Speaker};
+use link_change::{Change, Turn, Upstream};
+use pass_core::Pass;
+use rib_route::{Interior, Proto};
+use std::alloc::Global;
+use std::marker::Model;
+
+/// Redistribution of interior routes. Contracts see the set in force and the walk that is on, if any.
+#[derive(Drop)]
+pub struct Redist {
+    pass: Pass<Protos>,
+    maker: Maker,
+}
+
+impl Model for Redist {
+    ghost use Rattle.pass_core.specs.Passed.{Passed};
+    ghost use Rattle.redist.specs.declared.protos.Protos.{Protos};
+
+    ghost Value = { Passed Protos };
+
+    ghost view = { λ r. r.pass };
+}
+
+impl Redist {
+    /// Nothing is redistributed. Takes no memory.
+    pub fn new(alloc: Global) -> Redist
+        ensures { result ≡ record { in_force = no_protos; walk = None } }
+    {
+        Redist {
+            pass: Pass::new(Protos::none()),
+            maker: Maker::new(alloc),
+        }
+    }
+
+    /// Turns a protocol on or off in the latest set, also where it is so already: a walk begins that brings the set which that
+    /// makes into force; where one is on, the set waits for its end, in place of one that waited. Nothing changes at once.
+    /// Takes no memory.
+    pub fn edit(&mut self, proto: Proto, on: bool)
+        ensures { self.new ≡ edited self.old (with_proto (present self.old) proto on) }
+    {
+        let latest = *self.pass.present();
+        self.pass.edit(latest.with(proto, on));
+    }
+
+    /// Whether a walk is on.
+    pub fn busy(&self) -> bool
+        ensures { result ≡ is_some self.now.walk }
+    {
+        self.pass.busy()
+    }
+
+    /// Whether a set waits for the end of the walk that is on.
+    pub fn waits(&self) -> bool
+        ensures { result ≡ waits self.now }
+    {
+        self.pass.waits()
+    }
+
+    /// How far the walk has come. To be asked while a walk is on.
+    pub fn place(&self) -> Place
+        requires { IsSome self.now.walk }
+        ensures { IfSome self.now.walk (λ walk. key_of result ≡ walk.place) }
+    {
+        self.pass.place()
+    }
+
+    /// The latest set.
+    pub fn protos(&self) -> Protos
+        ensures { result ≡ present self.now }
+    {
+        *self.pass.present()
+    }
+
+    /// A change of `int`, as it goes on below: by the set that holds at its prefix. None exactly where the row below stays the
+    /// same. Memory only for want of memory: then nothing changes.
+    pub fn take_in(
+        &mut self,
+        change: Change<Interior>,
+        me: &Speaker,
+    ) -> Result<Option<Change<Route>>, Memory>
+        ensures sent { IfOk result (IsPassedOn (redistributed me.now) self.old change) }
+        ensures same { self.new ≡ self.old }
+    {
+        let on = *self.pass.at(change.prefix);
+        let before = self.maker.row(on, &change.before, me)?;
+        let after = self.maker.row(on, &change.after, me)?;
+        Ok(Change::between(change.prefix, before, after))
+    }
+
+    /// One turn of the walk: it goes to the least candidate of `int` that lies beyond its place, and sends the change there, if
+    /// there is one. The turn that finds no candidate ends the walk; a set that waited then begins a walk of its own. Nothing
+    /// exactly where no walk is on. Memory only for want of memory: then nothing changes.
+    pub fn unit<U: Upstream<Row = Interior>>(
+        &mut self,
+        upper: &U,
+        me: &Speaker,
+    ) -> Result<Turn<Route>, Memory>
+        ensures taken { IfOk result (IsWalked (redistributed me.now) (U.candidates upper.now) (U.rows upper.now) self.old self.new) }
+        ensures memory { OnErr result (self.new ≡ self.old) }
+    {
+        if !self.pass.busy() {
+            return Ok(Turn::Nothing);
+        }
+        let Some(prefix) = upper.next_candidate(&self.pass.place()) else {
+            self.pass.finish();
+            return Ok(Turn::Quiet);
+        };
+        let row = upper.asked(&prefix)?;
+        let in_force = *self.pass.at(prefix);
+        let coming = *self.pass.coming();
+        let before = self.maker.row(in_force, &row, me)?;
+        let after = self.maker.row(coming, &row, me)?;
+        self.pass.step_to(prefix);
+        Ok(Turn::taken(Change::between(prefix, before, after)))
+    }
+
+    /// The row at a prefix of the link below. Memory only for want of memory.
+    pub fn asked<U: Upstream<Row = Interior>>(
+        &self,
+        upper: &U,
+        prefix: Prefix,
+        me: &Speaker,
+    ) -> Result<Option<Route>, Memory>
+        ensures { IfOk result (λ row. row ≡ passed_rows (redistributed me.now) self.now (U.rows upper.now) prefix) }
+    {
+        let row = upper.asked(&prefix)?;
+        self.maker.asked(*self.pass.at(prefix), &row, me)
+    }
+
+    /// The least candidate of the link below beyond a place: those of the link above, of which some may have no row below.
+    /// Every row below stands at one.
+    pub fn next_candidate<U: Upstream<Row = Interior>>(
+        &self,
+        upper: &U,
+        after: Place,
+    ) -> Option<Prefix>
+        ensures next { IsNextCandidate (U.candidates upper.now) (key_of after) result }
+        ensures covers { (me : Speaker) → CoversRows (U.candidates upper.now) (passed_rows (redistributed me) self.now (U.rows upper.now)) }
+    {
+        upper.next_candidate(&after)
+    }
+}

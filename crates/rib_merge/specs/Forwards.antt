@@ -1,0 +1,18 @@
+-- Interior rows as what packets are forwarded by.
+use Rattle.std.specs.Prelude.{Option, Some, option_map}
+use Rattle.addr4.specs.Prefixes.{Network}
+use Rattle.rib_route.specs.declared.rows.Interior.{Interior}
+use Rattle.rib_route.specs.declared.rows.FibRow.{FibRow}
+use Rattle.rib_route.specs.Forwarding.{fib_row}
+use Rattle.link_change.specs.Rows.{Rows}
+use Rattle.link_change.specs.Changes.{IsSent}
+use Rattle.link_change.specs.declared.change.Change.{Change}
+
+abbrev pub forwarded : Rows Interior → Rows FibRow
+forwarded rows q = option_map fib_row (rows q)
+
+-- where the change that comes in leads from interior rows to new ones, what goes out leads from the forwarding rows to the
+-- new ones there; nothing goes out where they stay the same
+abbrev pub ForwardsOn : Change Interior → Option (Change FibRow) → Type 0
+ForwardsOn change result =
+    (old new : Rows Interior) (p : Network) → IsSent old new p (Some change) → IsSent (forwarded old) (forwarded new) p result

@@ -1,0 +1,129 @@
+//! What a change of the best routes comes to.
+
+ghost use Rattle.std.specs.Prelude.{◌≡◌, Some, None};
+ghost use Rattle.rib_split.specs.Splitting.{external_of, external_row, link_of, other, adding, deleting, IsSplitOf};
+
+use addr4::{Addr, Prefix};
+use bgp_attr::{Neighbour, Route};
+use link_change::Change;
+use rib_route::External;
+
+/// One of the two links below the splitter.
+#[derive(Clone, Copy, Debug, PartialEq, Eq)]
+pub enum BgpLink {
+    /// The routes from external peers.
+    Ebgp,
+    /// Those from internal ones.
+    Ibgp,
+}
+
+impl BgpLink {
+    /// The other one of the two.
+    pub fn other(self) -> BgpLink
+        ensures { result ≡ other self }
+    {
+        match self {
+            BgpLink::Ebgp => BgpLink::Ibgp,
+            BgpLink::Ibgp => BgpLink::Ebgp,
+        }
+    }
+}
+
+/// What goes on below.
+#[derive(Drop)]
+pub enum Split {
+    /// Both links stay as they are.
+    Neither,
+    /// One link changes.
+    One(BgpLink, Change<External>),
+    /// The route moves to this link from the other: first an add on this one, and then a delete on the other.
+    Moved(BgpLink, Change<External>, Change<External>),
+}
+
+// What forwarding needs of a route, if a peer sent it.
+fn external_of(from: Option<Neighbour>, next_hop: Addr) -> Option<External>
+    ensures { result ≡ external_of from next_hop }
+{
+    match from {
+        None => None,
+        Some(peer) => Some(External {
+            internal: peer.internal,
+            next_hop,
+        }),
+    }
+}
+
+// The row that a best route makes on one of the links.
+fn external_row(route: &Option<Route>) -> Option<External>
+    ensures { result ≡ external_row route.now }
+{
+    match route {
+        None => None,
+        Some(route) => external_of(route.from, route.attrs.attrs().next_hop),
+    }
+}
+
+// The link that the row stands on.
+fn link_of(row: &External) -> BgpLink
+    ensures { result ≡ link_of row.now }
+{
+    if row.internal {
+        BgpLink::Ibgp
+    } else {
+        BgpLink::Ebgp
+    }
+}
+
+// A row comes.
+fn adding(prefix: Prefix, row: External) -> Change<External>
+    ensures { result ≡ adding prefix row }
+{
+    Change {
+        prefix,
+        before: None,
+        after: Some(row),
+    }
+}
+
+// A row goes.
+fn deleting(prefix: Prefix, row: External) -> Change<External>
+    ensures { result ≡ deleting prefix row }
+{
+    Change {
+        prefix,
+        before: Some(row),
+        after: None,
+    }
+}
+
+// A row stands in place of another one, which may be of the other link.
+fn replacing(prefix: Prefix, before: External, after: External) -> Split
+    ensures { IsSplitOf prefix (Some before) (Some after) result }
+{
+    let link = link_of(&after);
+    if link_of(&before) != link {
+        return Split::Moved(link, adding(prefix, after), deleting(prefix, before));
+    }
+    match Change::between(prefix, Some(before), Some(after)) {
+        None => Split::Neither,
+        Some(change) => Split::One(link, change),
+    }
+}
+
+/// What a change of the best routes comes to.
+pub(crate) fn split_change(change: &Change<Route>) -> Split
+    ensures { IsSplitOf change.now.prefix (external_row change.now.before) (external_row change.now.after) result }
+{
+    let before = external_row(&change.before);
+    let after = external_row(&change.after);
+    match before {
+        None => match after {
+            None => Split::Neither,
+            Some(after) => Split::One(link_of(&after), adding(change.prefix, after)),
+        },
+        Some(before) => match after {
+            None => Split::One(link_of(&before), deleting(change.prefix, before)),
+            Some(after) => replacing(change.prefix, before, after),
+        },
+    }
+}

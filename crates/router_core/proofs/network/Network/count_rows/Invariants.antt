@@ -1,0 +1,15 @@
+use Rattle.std.proofs.Common.{◌≤◌, ◌-◌, ◌+◌, ◌^◌}
+use Rattle.addr4.specs.Places.{key_of, beyond}
+use Rattle.router_core.specs.Moments.{router_links}
+use Rattle.router_core.proofs.ShownRows.{IsCounted, IsPlaced}
+use Rattle.router_core.proofs.network.Network.count_rows.Given as goal
+
+abbrev pub invariant-rows : goal.invariant-rows
+invariant-rows l = record {
+  placed : IsPlaced (key_of l.place);
+  few : l.count ≤ beyond (key_of l.place);
+  shown : IsCounted (router_links l.self l.link) (key_of l.place) l.count;
+}
+
+abbrev pub decreases-rows : goal.decreases-rows
+decreases-rows l = 2 ^ 40 + 1 - beyond (key_of l.place)

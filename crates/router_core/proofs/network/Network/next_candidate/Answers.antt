@@ -1,0 +1,20 @@
+use Rattle.std.proofs.Common.{◌∙◌, sym}
+use Rattle.addr4.specs.Places.{key_of}
+use Rattle.link_region.specs.declared.regions.Region.TheVariants.{InteriorRoutes, Forward}
+use Rattle.router_core.proofs.RegionLemmas.{in_region}
+use Rattle.router_core.proofs.ShownRows.{next_inward, next_rib}
+use Rattle.router_core.proofs.network.Network.next_candidate.Goals as goal
+
+pub returns-in-Inward : goal.returns-in-Inward
+returns-in-Inward c =
+    next_inward c.args.self.now _ c.args.link (key_of c.args.after) c.next_candidate.result c.self.view_is (sym c.region_of.ensures ∙ c.in-Inward.is) c.next_candidate.ensures.next c.next_candidate.ensures.covers
+
+pub returns-in-InteriorRoutes : goal.returns-in-InteriorRoutes
+returns-in-InteriorRoutes c =
+    next_rib c.args.self.now _ c.args.link (key_of c.args.after) c.next_candidate-in-InteriorRoutes.result c.self.view_is (in_region c.args.self.now c.args.link InteriorRoutes (sym c.region_of.ensures ∙ c.in-InteriorRoutes.is))
+    c.requires c.next_candidate-in-InteriorRoutes.ensures
+
+pub returns-in-Forward : goal.returns-in-Forward
+returns-in-Forward c =
+    next_rib c.args.self.now _ c.args.link (key_of c.args.after) c.next_candidate-in-Forward.result c.self.view_is (in_region c.args.self.now c.args.link Forward (sym c.region_of.ensures ∙ c.in-Forward.is))
+    c.requires c.next_candidate-in-Forward.ensures
