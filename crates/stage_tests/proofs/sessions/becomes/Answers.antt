@@ -26,5 +26,3 @@ put_stands law c queued put old new p before after change sent stands at is hear
     let row : sent.after ≡ after = subst (λ (s : Change Route). s.after ≡ after) (sym same) is.2 in
     law c queued put (map.get old) (map.get new) p sent stands appends sends (subst (λ o. ForSome o (λ (r : Route). MayBeHeard c.exit.profile r.attrs)) (sym row) heard)
 
-pub returns-in_ok-put-in-Some : goal.returns-in_ok-put-in-Some
-returns-in_ok-put-in-Some c = ?
