@@ -80,12 +80,6 @@ module _ (k : ℕ) where
       the_state : (ℕ → Routes) → LiveState
       the_state routes = record l { routes = routes }
 
-  pub fed_none : (m : Moment) → Stands m → HaveFed k [] m m []
-  fed_none m stands = record {
-    feeds = (refl, refl);
-    keeps = subst (λ (r : ℕ → Routes). Keeps (live_by m r) m m []) (sym (routes_same (live_state m).routes k ((live_state m).routes k) refl)) (keeps_none m stands);
-  }
-
   pub fed_join : (xs ys : List (Network × Option Attrs)) (m between m' : Moment) (a b : List Line) → HaveFed k xs m between a → HaveFed k ys between m' b → HaveFed k (xs ++ ys) m m' (a ++ b)
   fed_join xs ys m between m' a b f g = record {
     feeds = feeds_join xs ys m between m' a b f.feeds g.feeds;

@@ -53,9 +53,6 @@ pub fib_sent : (old new : Rows Interior) (p : Network) (sent : Option (Change In
 fib_sent old new p None below none same = subst (λ (b : Option (Change FibRow)). IsSent (forwarded old) (forwarded new) p b) (sym none) (ap forwarded same)
 fib_sent old new p (Some change) below fib sent = fib old new p sent
 
-pub not_followed : (m : Moment) (before : Journaled) → Follows None m m before before
-not_followed m before = record { register = refl; after = refl; below = None; fib = refl; lines = sym (with_entries_none before) }
-
 pub followed : (change : Change Interior) (m : Moment) (r : Registry Interior) (before now : Journaled) → Registers (Some change) m.registry r → PushesForwarded change before now
     → Follows (Some change) m (with_rib m m.tree r) before now
 followed change m r before now register pushed = record { register = register; after = refl; below = pushed.0; fib = pushed.1; lines = pushed.2 }
