@@ -22,8 +22,8 @@ use Rattle.router_core.specs.Stands.{IsSilent, PeerStands, Stands, open_session}
 use Rattle.router_core.specs.Turns.{FeedsAll, journal_lines}
 use Rattle.router_core.specs.Works.{Pushes, IsUpAt, Keeps, HaveFed}
 use Rattle.router_core.proofs.RegionLemmas.{leads_inward}
-use Rattle.router_core.proofs.StandLemmas.{one_peer, peer_of, stands_with, live_routed, routes_there, routes_same, routes_twice}
-use Rattle.router_core.proofs.KeepLemmas.{keeps_none, keeps_join, pushes_join}
+use Rattle.router_core.proofs.StandLemmas.{one_peer, peer_of, stands_with, live_routed, routes_there, routes_twice}
+use Rattle.router_core.proofs.KeepLemmas.{keeps_join, pushes_join}
 
 silent_up : (up : Bool) (c : Chained) → up ≡ true → IsSilent up c
 silent_up true c is = tt

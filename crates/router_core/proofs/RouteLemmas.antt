@@ -18,7 +18,7 @@ use Rattle.journal_text.specs.declared.line.Line.{Line}
 use Rattle.journal_text.specs.Journals.{Journaled, with_entries, Adds}
 use Rattle.journal_text.specs.Texts.{entries_of}
 use Rattle.journal_text.specs.Walk.{Leads}
-use Rattle.journal_text.proofs.JournalLemmas.{with_entries_append, with_entries_none, entries_of_entries}
+use Rattle.journal_text.proofs.JournalLemmas.{with_entries_append, entries_of_entries}
 use Rattle.journal_text.proofs.WalkLemmas.{leads_append}
 use Rattle.register_interest.specs.Registers.{Registry, put_row}
 use Rattle.rib_tree.specs.Branches.{Branch}
