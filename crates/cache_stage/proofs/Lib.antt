@@ -1,1 +1,1 @@
-mod KeptLemmas
+pub mod KeptLemmas

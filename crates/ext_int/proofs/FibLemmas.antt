@@ -1,15 +1,13 @@
 -- The forwarding table follows its two links.
-use Rattle.std.proofs.Common.{◌≡◌, ℕ, false, ◌||◌, Option, Some, None, option_map, refl, sym, ap, subst, ◌∙◌}
+use Rattle.std.proofs.Common.{◌≡◌, ℕ, Option, Some, None, option_map, refl, sym, ap, subst, ◌∙◌}
 use Rattle.std.specs.FinMap as map
-use Rattle.addr4.specs.Prefixes.{Network}
 use Rattle.prefix_trie.specs.Width.{width}
 use Rattle.rib_route.specs.declared.rows.Interior.{Interior}
 use Rattle.rib_route.specs.declared.rows.External.{External}
 use Rattle.rib_route.specs.declared.rows.FibRow.{FibRow}
 use Rattle.rib_route.specs.Forwarding.{fib_row}
 use Rattle.link_change.specs.Rows.{Rows, Candidates, CoversRows, together, no_rows}
-use Rattle.link_change.specs.Changes.{IsSent}
-use Rattle.link_change.specs.Turns.{IsTurned, taken_turn}
+use Rattle.link_change.specs.Turns.{IsTurned}
 use Rattle.link_change.specs.declared.change.Change.{Change}
 use Rattle.link_change.specs.declared.turn.Turn.{Turn}
 use Rattle.link_change.specs.declared.turn.Turn.TheVariants.{Nothing, Quiet, Sent}
@@ -40,10 +38,7 @@ follows_int outer change inner row result forwards at merges int now p is =
     let sent = forwards int now p is in
     merges (forwarded int) (forwarded now) outer p (ap outer (sent.0 ∙ sym is.0) ∙ sym at) sent
 
--- resolved external rows that stay, and a change of them
-pub silent_ext : (int : Rows Interior) → FollowsExt int None None
-silent_ext int outer now p same = ap (forwarding_table int) same
-
+-- a change of resolved external rows
 pub follows_ext : (int : Rows Interior) (outer : Change FibRow) (row : Option FibRow) (result : Option (Change FibRow))
     → row ≡ forwarded int outer.prefix → MergesOn fib_distance Right outer row result → FollowsExt int (Some outer) result
 follows_ext int outer row result at merges old now p is = merges old now (forwarded int) p (sym at) is
@@ -60,11 +55,19 @@ turn_leads int old new (Sent change) turn sent is =
     (turned_by (forwarding_table int old) (forwarding_table int new) change.prefix is.0 (is.2 old new change.prefix sent))
 
 -- what the resolver makes of a change of external rows is followed
-pub takes_ext : (int : Rows Interior) (old new : Resolving Way) (change : Change External) (outer result : Option (Change FibRow))
-    → TakesIn external_hop over old new change outer → FollowsExt int outer result → TakesExt int old new change result
-takes_ext int old new change outer result taken follows ext now p counted is =
+pub takes_silent : (int : Rows Interior) (old new : Resolving Way) (change : Change External) → TakesIn external_hop over old new change None
+    → TakesExt int old new change None
+takes_silent int old new change taken ext now p counted is =
     let t = taken ext now p counted is in
-    record { counted = t.counted; sent_is = follows _ _ p t.sent_is }
+    record { counted = t.counted; sent_is = ap (forwarding_table int) t.sent_is }
+
+pub takes_ext : (int : Rows Interior) (old new : Resolving Way) (change : Change External) (outer : Change FibRow) (row : Option FibRow) (result : Option (Change FibRow))
+    → TakesIn external_hop over old new change (Some outer) → row ≡ forwarded int change.prefix → MergesOn fib_distance Right outer row result
+    → TakesExt int old new change result
+takes_ext int old new change outer row result taken at merges ext now p counted is =
+    let t = taken ext now p counted is in
+    let here = at ∙ ap (forwarded int) (is.0 ∙ sym t.sent_is.0) in
+    record { counted = t.counted; sent_is = merges _ _ (forwarded int) p (sym here) t.sent_is }
 
 -- every row of the table stands at a candidate
 pub table_covered : (a b : Candidates) (int : Rows Interior) (outer : Rows FibRow) → CoversRows a int → CoversRows b outer

@@ -1,5 +1,5 @@
 -- The forwarding table: of interior and external routes, by distance (NSDI 2005, section 5.2).
-use Rattle.std.specs.Prelude.{◌≡◌, ◌⊎◌, ℕ, Option, Some, None}
+use Rattle.std.specs.Prelude.{◌≡◌, ◌⊎◌, ℕ, Option, Some}
 use Rattle.addr4.specs.Prefixes.{Network}
 use Rattle.rib_route.specs.declared.rows.Interior.{Interior}
 use Rattle.rib_route.specs.declared.rows.External.{External}

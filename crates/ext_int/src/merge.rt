@@ -11,7 +11,7 @@ ghost use Rattle.nexthop_resolver.specs.Resolving.{nothing_known, AreNamed};
 ghost use Rattle.nexthop_resolver.specs.Registered.{answer_of, Agrees, KeepsOthers};
 ghost use Rattle.nexthop_resolver.specs.Takes.{Keeps, Invalidates};
 ghost use Rattle.nexthop_resolver.specs.Turns.{Rests, HasWork};
-ghost use Rattle.ext_int.specs.Fibs.{resolved_rows, fib_table, FollowsInt, TakesExt, TakesTurn, StopsInTurn};
+ghost use Rattle.ext_int.specs.Fibs.{resolved_rows, fib_table, FollowsInt, FollowsTurn, TakesExt, TakesTurn, StopsInTurn};
 
 use addr4::{Memory, Place, Prefix};
 use link_change::{Change, Turn, Upstream, nearer};
@@ -32,12 +32,32 @@ pub struct ExtInt {
 }
 
 impl Model for ExtInt {
-    ghost use Rattle.nexthop_resolver.specs.Resolving.{Resolving};
+    ghost use Rattle.nexthop_resolver.specs.contracts.rows.Way as way_row;
     ghost use Rattle.nexthop_resolver.specs.declared.rows.Way.{Way};
+    ghost use Rattle.nexthop_resolver.specs.Resolving.{Resolving, resolving_code};
 
     ghost Value = { Resolving Way };
 
+    ghost coded = { resolving_code way_row.the_row.coded };
+
     ghost view = { λ e. e.hops };
+}
+
+// What a turn comes to below, by what it came to of the resolved external rows.
+fn merged_turn<I: Upstream<Row = Interior>>(
+    int: &I,
+    turn: Turn<FibRow>,
+) -> Result<Turn<FibRow>, Memory>
+    ensures { IfOk result (FollowsTurn (I.rows int.now) turn) }
+{
+    match turn {
+        Turn::Nothing => Ok(Turn::Nothing),
+        Turn::Quiet => Ok(Turn::Quiet),
+        Turn::Sent(outer) => {
+            let inner = forwarded(&int.asked(&outer.prefix)?);
+            Ok(Turn::taken(take_in(Side::Right, outer, inner)))
+        }
+    }
 }
 
 impl ExtInt {
@@ -110,10 +130,10 @@ impl ExtInt {
         ensures memory { OnErr result (self.new ≡ self.old) }
     {
         let inner = forwarded(&int.asked(&change.prefix)?);
-        match self.hops.take_in(change, register)? {
-            None => Ok(None),
-            Some(outer) => Ok(take_in(Side::Right, outer, inner)),
-        }
+        let Some(outer) = self.hops.take_in(change, register)? else {
+            return Ok(None);
+        };
+        Ok(take_in(Side::Right, outer, inner))
     }
 
     /// One turn of the resolver's work, as it goes on below ([`Resolver::unit`]): it goes to the next candidate of `ext`, or
@@ -131,14 +151,9 @@ impl ExtInt {
         ensures others { KeepsOthers self.old.client register.old register.new }
         ensures memory { OnErr result (StopsInTurn (E.candidates ext.now) (E.rows ext.now) register.old register.new self.old self.new) }
     {
-        match self.hops.unit(ext, register)? {
-            Turn::Nothing => Ok(Turn::Nothing),
-            Turn::Quiet => Ok(Turn::Quiet),
-            Turn::Sent(outer) => {
-                let inner = forwarded(&int.asked(&outer.prefix)?);
-                Ok(Turn::taken(take_in(Side::Right, outer, inner)))
-            }
-        }
+        let resolved = self.hops.unit(ext, register)?;
+        let turn = merged_turn(int, resolved)?;
+        Ok(turn)
     }
 
     /// The row of the forwarding table at a prefix. Memory only for want of memory.

@@ -10,6 +10,7 @@ use Rattle.link_change.specs.Changes.{IsSent}
 use Rattle.link_change.specs.declared.change.Change.{Change}
 use Rattle.link_change.specs.InOrder.{ChangesLead, rows_before, with_last}
 use Rattle.fanout_queue.specs.Queues.{Queued, AppendsToAll, Takes, AllLead, KeepsReaders}
+use Rattle.fanout_queue.specs.Readers.{unread_or_none, read_rows, ReaderLeads, KeepsOtherReaders}
 use Rattle.fanout_queue.proofs.Cases.{by_number, other_number}
 use Rattle.link_change.proofs.InOrderLemmas.{put_keeps_before, put_leads, take_leads}
 
@@ -76,3 +77,27 @@ module _ {R : Type 0} where
   pub drop_keeps_others : (queued : Queued R) (reader other : ℕ) → other ≢ reader → IsSome (map.get queued other) → IsSome (map.get (map.remove queued reader) other)
   drop_keeps_others queued reader other apart live =
       subst IsSome (sym (get-remove nat_cmp_total queued reader other ∙ ap (λ b. cond b None (map.get queued other)) (other_number other reader apart))) live
+
+  -- ---- one reader
+  pub each_reader_leads : (queued : Queued R) (best : Rows R) (reader : ℕ) → AllLead queued best → ReaderLeads queued reader best
+  each_reader_leads queued best reader all =
+      elim (map.get queued reader) as (λ o. map.get queued reader ≡ o → ChangesLead (rows_before (unread_or_none o) best) (unread_or_none o) best) [
+        | None ↦ λ _. refl
+        | Some unread ↦ λ at. all reader unread at
+      ] refl
+
+  kept_read : (best best' : Rows R) (p : Network) (c : Change R) (o : Option (List (Change R))) → IsSent best best' p (Some c) → IsSome o
+      → rows_before (unread_or_none (option_map (with_last c) o)) best' ≡ rows_before (unread_or_none o) best
+  kept_read best best' p c None sent live = absurd (cc)
+  kept_read best best' p c (Some u) sent live = put_keeps_before best best' p c u sent
+
+  pub put_keeps_read : (old new : Queued R) (best best' : Rows R) (p : Network) (c : Change R) (reader : ℕ) → AppendsToAll c old new → IsSent best best' p (Some c)
+      → IsSome (map.get old reader) → read_rows new reader best' ≡ read_rows old reader best
+  put_keeps_read old new best best' p c reader appends sent live =
+      ap (λ (o : Option (List (Change R))). rows_before (unread_or_none o) best') (appends reader) ∙ kept_read best best' p c (map.get old reader) sent live
+
+  pub take_keeps_others : (old new : Queued R) (reader : ℕ) (result : Option (Change R)) → Takes old new reader result → KeepsOtherReaders reader old new
+  take_keeps_others old new reader None takes other apart = ap (λ (m : Queued R). map.get m other) takes.1
+  take_keeps_others old new reader (Some c) takes other apart =
+      ap (λ (m : Queued R). map.get m other) takes.2 ∙ get-insert nat_cmp_total old reader takes.0 other
+      ∙ ap (λ b. cond b (Some takes.0) (map.get old other)) (other_number other reader apart)

@@ -1,11 +1,12 @@
 -- Laws of queues, for the crates above.
-use Rattle.std.specs.Prelude.{◌≢◌, ℕ, [], Option, Some, IsSome}
+use Rattle.std.specs.Prelude.{◌≡◌, ◌≢◌, ℕ, [], Option, Some, IsSome}
 use Rattle.std.specs.FinMap as map
 use Rattle.addr4.specs.Prefixes.{Network}
 use Rattle.link_change.specs.Rows.{Rows}
 use Rattle.link_change.specs.Changes.{IsSent}
 use Rattle.link_change.specs.declared.change.Change.{Change}
 use Rattle.fanout_queue.specs.Queues.{Queued, AppendsToAll, Takes, AllLead, KeepsReaders}
+use Rattle.fanout_queue.specs.Readers.{read_rows, ReaderLeads, KeepsOtherReaders}
 
 -- ---- what is unread leads to the best rows
 -- What every reader hasn't taken goes on to lead from the rows that it has to the best ones: when a change of these is put,
@@ -46,3 +47,19 @@ abbrev pub DropKeepsOthers : Type 0 → Type 0
 DropKeepsOthers R =
     (queued : Queued R) (reader other : ℕ) → other ≢ reader → IsSome (map.get queued other)
     → IsSome (map.get (map.remove queued reader) other)
+
+-- ---- one reader
+-- Where what every reader hasn't taken leads to the best rows, it does so for each number.
+abbrev pub EachReaderLeads : Type 0 → Type 0
+EachReaderLeads R = (queued : Queued R) (best : Rows R) (reader : ℕ) → AllLead queued best → ReaderLeads queued reader best
+
+-- A change of the best rows that is put leaves the rows that a reader has.
+abbrev pub PutKeepsRead : Type 0 → Type 0
+PutKeepsRead R =
+    (old new : Queued R) (best now : Rows R) (p : Network) (c : Change R) (reader : ℕ) → AppendsToAll c old new → IsSent best now p (Some c)
+    → IsSome (map.get old reader) → read_rows new reader now ≡ read_rows old reader best
+
+-- What one reader takes leaves what the others haven't taken.
+abbrev pub TakeKeepsOthers : Type 0 → Type 0
+TakeKeepsOthers R =
+    (old new : Queued R) (reader : ℕ) (result : Option (Change R)) → Takes old new reader result → KeepsOtherReaders reader old new

@@ -1,4 +1,5 @@
 pub mod Queues
+pub mod Readers
 pub mod Index
 pub mod Entries
 pub mod Places

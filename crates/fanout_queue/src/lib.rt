@@ -22,6 +22,6 @@ mod places;
 mod queue;
 mod reader;
 
-pub use laws::{readers_keep_leading, readers_stay_live};
+pub use laws::{each_reader_has_its_rows, readers_keep_leading, readers_stay_live};
 pub use queue::Queue;
 pub use reader::Reader;

@@ -5,7 +5,7 @@ ghost use Rattle.addr4.specs.Places.{key_of};
 ghost use Rattle.bgp_attr.specs.declared.speaker.Neighbour.{Neighbour};
 ghost use Rattle.link_change.specs.Rows.{IsNextCandidate, CoversRows};
 ghost use Rattle.pass_core.specs.Passed.{edited, waits};
-ghost use Rattle.pass_core.specs.Turns.{passed_rows, IsPassedOn, IsWalked};
+ghost use Rattle.pass_core.specs.Turns.{passed, passed_rows, IsPassedOn, IsWalked};
 ghost use Rattle.filter_bank.specs.Outgoing.{Form, outgoing, first_walk};
 
 use crate::outgoing::{asked_row, sent_row};
@@ -123,6 +123,19 @@ impl OutFilter {
         ensures { IfOk result (λ row. row ≡ passed_rows (outgoing (S.form form.now) peer.now) self.now (U.rows upper.now) prefix) }
     {
         let row = upper.asked(&prefix)?;
+        self.made(prefix, row, form, peer)
+    }
+
+    /// What the rules that hold at a prefix make of a row of the link above. Memory only for want of memory.
+    pub fn made<S: Sent>(
+        &self,
+        prefix: Prefix,
+        row: Option<Route>,
+        form: &S,
+        peer: &Neighbour,
+    ) -> Result<Option<SharedAttrs>, Memory>
+        ensures { IfOk result (λ sent. sent ≡ passed (outgoing (S.form form.now) peer.now) self.now prefix row) }
+    {
         asked_row(form, peer, self.pass.at(prefix), prefix, row)
     }
 

@@ -38,7 +38,7 @@ use Rattle.journal_text.specs.declared.entry.Entry.TheVariants.{Begin, Inherit, 
 use Rattle.journal_text.specs.declared.line.Code.{Code}
 use Rattle.journal_text.specs.declared.line.Code.TheVariants.{E1, E2, E3, E4, E5, E6}
 use Rattle.journal_text.specs.declared.line.Line.{Line}
-use Rattle.journal_text.specs.declared.line.Line.TheVariants.{Journal, Note, Row, Rows, Cover, Work, Bound, Idle, Ignored, Absent, Refused}
+use Rattle.journal_text.specs.declared.line.Line.TheVariants.{Journal, Out, Note, Row, Rows, Cover, Work, Bound, Idle, Ignored, Absent, Refused}
 use Rattle.journal_text.proofs.ReadBack.{link_back}
 use Rattle.journal_check.specs.declared.reading.Reading.{Reading}
 use Rattle.journal_check.specs.declared.reading.Reading.TheVariants.{Skipped, Read, NotALine}
@@ -424,6 +424,7 @@ code_ink E6 = ink_by (code_text E6) refl
 line_has : (line : Line) → IsLine line → HasWords (line_words line) (said line)
 unfolding is_skipped
 line_has (Journal entry) h = entry_has entry h
+line_has (Out k octets) h = let small = h.0 in has_skipped (codes "out") (decimal k ∷ encode_lower octets ∷ []) refl refl (ink_decimal k (omega arith), (ink_hex octets h.1, tt))
 line_has (Note k octets) h = let small = h.0 in has_skipped (codes "note") (decimal k ∷ encode_lower octets ∷ []) refl refl (ink_decimal k (omega arith), (ink_hex octets h.1, tt))
 line_has (Row link p value) h = has_skipped (codes "row") (link_text link ∷ prefix_text p ∷ value_text value ∷ []) refl refl (row_ink link p value h)
 line_has (Rows link count) h = has_skipped (codes "rows") (link_text link ∷ decimal count ∷ []) refl refl (link_ink link h.0, (ink_wide count h.1, tt))

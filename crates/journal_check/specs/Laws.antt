@@ -15,7 +15,7 @@ use Rattle.journal_text.specs.declared.value.Value.TheVariants as values
 use Rattle.journal_text.specs.declared.entry.Entry.{Entry}
 use Rattle.journal_text.specs.declared.entry.Entry.TheVariants.{Begin, Inherit, Add, Delete, Replace, Asked, Weld, End}
 use Rattle.journal_text.specs.declared.line.Line.{Line}
-use Rattle.journal_text.specs.declared.line.Line.TheVariants.{Journal, Note, Row, Rows, Cover, Work, Bound, Idle, Ignored, Absent, Refused}
+use Rattle.journal_text.specs.declared.line.Line.TheVariants.{Journal, Out, Note, Row, Rows, Cover, Work, Bound, Idle, Ignored, Absent, Refused}
 use Rattle.journal_check.specs.Readings.{TextEntry, reading_of}
 use Rattle.journal_check.specs.Judged.{IsChecked}
 use Rattle.journal_check.specs.declared.checked.Checked.{Checked}
@@ -89,6 +89,7 @@ IsMatch (Some p) = IsPrefix p
 -- a line that the program can print
 abbrev pub IsLine : Line → Type 0
 IsLine (Journal entry) = IsEntry entry
+IsLine (Out k octets) = (k < 2 ^ 32) × AreOctets octets
 IsLine (Note k octets) = (k < 2 ^ 32) × AreOctets octets
 IsLine (Row link p value) = IsNamed link × IsPrefix p × IsValue value
 IsLine (Rows link count) = IsNamed link × (count < 2 ^ 128)
@@ -116,6 +117,7 @@ texts_of (End link) = End link
 -- what a printed line says of links
 abbrev pub said : Line → Reading
 said (Journal entry) = Read (texts_of entry)
+said (Out k octets) = Skipped
 said (Note k octets) = Skipped
 said (Row link p value) = Skipped
 said (Rows link count) = Skipped

@@ -11,7 +11,7 @@ use Rattle.journal_text.specs.Journals.{Journaled, with_lines, with_entries}
 abbrev pub as_lines : List (Entry Value) → List Line
 as_lines entries = map (λ e. lines.Journal e) entries
 
-as_lines_append : (a b : List (Entry Value)) → as_lines (a ++ b) ≡ as_lines a ++ as_lines b
+pub as_lines_append : (a b : List (Entry Value)) → as_lines (a ++ b) ≡ as_lines a ++ as_lines b
 as_lines_append [] b = refl
 as_lines_append (e ∷ a) b = ap (λ (t : List Line). lines.Journal e ∷ t) (as_lines_append a b)
 

@@ -31,7 +31,7 @@ use Rattle.journal_text.specs.declared.entry.Entry.TheVariants.{Begin, Inherit, 
 use Rattle.journal_text.specs.declared.line.Code.{Code}
 use Rattle.journal_text.specs.declared.line.Code.TheVariants.{E1, E2, E3, E4, E5, E6}
 use Rattle.journal_text.specs.declared.line.Line.{Line}
-use Rattle.journal_text.specs.declared.line.Line.TheVariants.{Journal, Note, Row, Rows, Cover, Work, Bound, Idle, Ignored, Absent, Refused}
+use Rattle.journal_text.specs.declared.line.Line.TheVariants.{Journal, Out, Note, Row, Rows, Cover, Work, Bound, Idle, Ignored, Absent, Refused}
 
 abbrev pub origin_number : Origin → ℕ
 origin_number Igp = 0
@@ -193,6 +193,7 @@ code_text E6 = codes "E6"
 
 abbrev pub line_words : Line → List (List ℕ)
 line_words (Journal entry) = entry_words entry
+line_words (Out k octets) = codes "out" ∷ decimal k ∷ encode_lower octets ∷ []
 line_words (Note k octets) = codes "note" ∷ decimal k ∷ encode_lower octets ∷ []
 line_words (Row link p value) = codes "row" ∷ link_text link ∷ prefix_text p ∷ value_text value ∷ []
 line_words (Rows link count) = codes "rows" ∷ link_text link ∷ decimal count ∷ []
@@ -210,6 +211,7 @@ line_text line = words_line (line_words line)
 -- whether a line is one of the journal
 abbrev pub is_entry : Line → Bool
 is_entry (Journal entry) = true
+is_entry (Out k octets) = false
 is_entry (Note k octets) = false
 is_entry (Row link p value) = false
 is_entry (Rows link count) = false
@@ -231,6 +233,7 @@ text_of quiet lines = flat_map (shown quiet) lines
 -- the journal's entries among the lines
 abbrev pub entry_list : Line → List (Entry Value)
 entry_list (Journal entry) = entry ∷ []
+entry_list (Out k octets) = []
 entry_list (Note k octets) = []
 entry_list (Row link p value) = []
 entry_list (Rows link count) = []

@@ -27,6 +27,8 @@ pub enum Code {
 #[derive(Drop)]
 pub enum Line {
     Journal(Entry<Value>),
+    /// `out K HEX`: an UPDATE is sent to the peer.
+    Out(u32, Octets),
     /// `note K HEX`: a NOTIFICATION is sent to the peer.
     Note(u32, Octets),
     /// `row LINK PREFIX VALUE`: a row of a link that is shown.

@@ -136,11 +136,18 @@ fn push_count(alloc: Global, out: &mut Vec<u8>, word: &[u8], count: u128) -> Res
     Ok(())
 }
 
-/// `note K HEX`
-fn push_note(alloc: Global, out: &mut Vec<u8>, peer: u32, octets: &[u8]) -> Result<(), Memory>
-    ensures { OnOk result (out.new.items ≡ out.old.items ++ words_line (codes "note" ∷ decimal peer ∷ encode_lower octets.now ∷ [])) }
+/// A word, a peer's number and octets: `out K HEX`, `note K HEX`.
+fn push_octets(
+    alloc: Global,
+    out: &mut Vec<u8>,
+    word: &[u8],
+    peer: u32,
+    octets: &[u8],
+) -> Result<(), Memory>
+    ensures { OnOk result (out.new.items ≡ out.old.items ++ words_line (word.now ∷ decimal peer ∷ encode_lower octets.now ∷ [])) }
 {
-    push_text(out, b"note ")?;
+    push_text(out, word)?;
+    out.push(b' ')?;
     push_number(out, u64::from(peer))?;
     out.push(b' ')?;
     let digits = hex::encode(alloc, octets)?;
@@ -222,7 +229,8 @@ fn push_line(alloc: Global, out: &mut Vec<u8>, line: &Line) -> Result<(), Memory
 {
     match line {
         Line::Journal(entry) => push_entry(alloc, out, entry),
-        Line::Note(peer, octets) => push_note(alloc, out, *peer, octets.as_slice()),
+        Line::Out(peer, octets) => push_octets(alloc, out, b"out", *peer, octets.as_slice()),
+        Line::Note(peer, octets) => push_octets(alloc, out, b"note", *peer, octets.as_slice()),
         Line::Row(link, prefix, value) => push_row(alloc, out, b"row", *link, *prefix, value),
         Line::Rows(link, count) => push_rows(alloc, out, *link, *count),
         Line::Cover(addr, found, subnet) => push_cover(out, *addr, *found, *subnet),

@@ -17,7 +17,8 @@ use Rattle.nexthop_known.proofs.StaleLemmas.{none_counts, some_counts, one_count
 use Rattle.nexthop_resolver.specs.Resolving.{Resolving, Answers, in_force_by, fresh_by, walk_to, passes, begun}
 use Rattle.nexthop_resolver.specs.Registered.{answer_of}
 use Rattle.nexthop_resolver.specs.Turns.{KnownAfter, Rests, Turned}
-use Rattle.nexthop_resolver.specs.Left.{CountsBeyond, TellsAlike, differs_at, differing_count, walk_turns, is_needed, next_walk, turns_left}
+use Rattle.pass_core.specs.Left.{CountsBeyond}
+use Rattle.nexthop_resolver.specs.Left.{TellsAlike, differs_at, differing_count, walk_turns, is_needed, next_walk, turns_left}
 use Rattle.nexthop_resolver.proofs.MoveLemmas.{same_some, clash_some}
 
 -- ---- tests and counts

@@ -16,7 +16,8 @@ use Rattle.nexthop_resolver.specs.Resolving.{Resolving, AreNamed, nothing_known,
 use Rattle.nexthop_resolver.specs.Registered.{Agrees, Pends, answer_of, interest_of, KeepsOthers}
 use Rattle.nexthop_resolver.specs.Takes.{Invalidates}
 use Rattle.nexthop_resolver.specs.Turns.{Rests, Turned, IsTurn}
-use Rattle.nexthop_resolver.specs.Left.{CountsBeyond, TellsAlike, turns_left}
+use Rattle.pass_core.specs.Left.{CountsBeyond}
+use Rattle.nexthop_resolver.specs.Left.{TellsAlike, turns_left}
 
 module _ (A R L : Type 0) where
   -- What a turn sends leads from the rows below before it to those after it.

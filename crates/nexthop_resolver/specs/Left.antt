@@ -2,15 +2,9 @@
 -- test for equal answers.
 use Rattle.std.specs.Prelude.{◌≡◌, ◌↔◌, ℕ, ◌+◌, ◌<◌, ◌≤◌, nat_lt, not, Bool, true, false, is_some, Option, Some, None}
 use Rattle.addr4.specs.Prefixes.{Network}
-use Rattle.link_change.specs.Rows.{Candidates, IsNextCandidate}
 use Rattle.nexthop_known.specs.declared.answer.Hop.{Hop}
 use Rattle.nexthop_known.specs.Hops.{Hops, stale_count, count_of}
 use Rattle.nexthop_resolver.specs.Resolving.{Resolving}
-
--- of candidates beyond a place there are no more than of all, and fewer beyond the next one
-pub record CountsBeyond (candidates : Candidates) (beyond : Option Network → ℕ) : Type 0 where
-  pub most : (place : Option Network) → beyond place ≤ beyond None
-  pub fewer : (place : Option Network) (p : Network) → IsNextCandidate candidates place (Some p) → beyond (Some p) < beyond place
 
 -- whether a walk begins when the one that is on, if any, is over and all stale next hops are asked for
 abbrev pub is_needed : Bool → ℕ → ℕ → Bool

@@ -1,4 +1,4 @@
-//! Stories of stages: a chain of live rows and deletion stages, the decision, outgoing filters, what a peer is sent,
+//! Stories of stages: a chain of live rows and deletion stages, the decision, outgoing filters, what a peer is sent, a session,
 //! redistribution, the splitter and the forwarding table, each public call on its happy path.
 //!
 //! The crates that these tests are of have none of their own: a crate with tests is proved once more with them.
@@ -16,3 +16,5 @@ mod outgoing;
 mod prefixes;
 #[cfg(test)]
 mod redistribution;
+#[cfg(test)]
+mod sessions;

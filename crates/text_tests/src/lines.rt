@@ -15,7 +15,7 @@ const ENTRIES: &str =
 
 /// The other lines.
 const OTHERS: &str =
-    "note 1 ffff\nrow in.1 10.1.0.0/16 o0,p(65001),n192.0.2.1\nrows in.1 1\ncover 10.1.2.3 10.1.0.0/16 10.1.0.0/16\ncover 9.9.9.9 - 0.0.0.0/1\nwork 1\nbound 51\nidle 2\nignored\nabsent\nrefused 2 E5\n";
+    "out 2 ff00\nnote 1 ffff\nrow in.1 10.1.0.0/16 o0,p(65001),n192.0.2.1\nrows in.1 1\ncover 10.1.2.3 10.1.0.0/16 10.1.0.0/16\ncover 9.9.9.9 - 0.0.0.0/1\nwork 1\nbound 51\nidle 2\nignored\nabsent\nrefused 2 E5\n";
 
 fn prefix() -> Result<Prefix, Fail> {
     Ok(read_prefix(b"10.1.0.0/16").ok().ok_or("no prefix")?)
@@ -172,6 +172,8 @@ fn push_route_change(alloc: Global, journal: &mut Journal) -> Result<(), Fail> {
 /// A row and a message.
 fn push_values(alloc: Global, journal: &mut Journal) -> Result<(), Fail> {
     let prefix = prefix()?;
+    let message = Octets::from_vec(Vec::from_slice(alloc, &[255, 0])?);
+    journal.push_line(Line::Out(2, message))?;
     let octets = Octets::from_vec(Vec::from_slice(alloc, &[255, 255])?);
     journal.push_line(Line::Note(1, octets))?;
     let value = Value::Attrs(attrs(alloc, Origin::Igp)?);

@@ -1,0 +1,6 @@
+mod SessionLinks
+mod SaidLemmas
+mod LookupLemmas
+mod TurnLemmas
+mod PassLemmas
+mod LawLemmas

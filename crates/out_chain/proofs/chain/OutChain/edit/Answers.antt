@@ -1,0 +1,9 @@
+use Rattle.out_chain.specs.Chains.{OutChained}
+use Rattle.out_chain.proofs.TurnLemmas.{edit_stands}
+use Rattle.out_chain.proofs.chain.OutChain.edit.Goals as goal
+
+pub returns-clause-stands : goal.returns-clause-stands
+returns-clause-stands c =
+    let i = c.self.inside in
+    let old : OutChained = record { exit = i.to_peer.out; peer = i.peer; session = i.session; reader = i.reader; filter = i.filter; sent = i.sent } in
+    rw (← c.self.view_is, c.edit.ensures) (edit_stands old c.args.rules)

@@ -1,0 +1,146 @@
+-- What contracts see of the outgoing chain of a session. What its reader hasn't taken is the queue's: so the rows of its links are
+-- told over those that the reader has.
+use Rattle.std.specs.Prelude.{◌≡◌, ℕ, ◌+◌, ◌==◌, ◌&&◌, ◌||◌, not, cond, Bool, true, false, is_some, length, List, [], ◌∷◌, Option, Some, None, IsSome, refl}
+use Rattle.std.specs.Option.{ForSome}
+use Rattle.std.specs.List.{AllByRecursion}
+use Rattle.std.specs.Coded.{Coded, code_by, coded×, coded_ℕ, coded_bool}
+use Rattle.std.specs.FinMap as map
+use Rattle.std.specs.FinMap.{FinMap}
+use Rattle.addr4.specs.Prefixes.{Network, prefix_cmp, network_code}
+use Rattle.bgp_attr.specs.declared.attrs.Attrs.{Attrs}
+use Rattle.bgp_attr.specs.declared.route.Route.{Route}
+use Rattle.bgp_attr.specs.declared.speaker.Profile.{Profile}
+use Rattle.bgp_attr.specs.declared.speaker.Speaker.{Speaker}
+use Rattle.bgp_attr.specs.declared.speaker.Neighbour.{Neighbour}
+use Rattle.link_change.specs.Rows.{Rows, Candidates, with_rows}
+use Rattle.link_change.specs.declared.change.Change.{Change}
+use Rattle.policy_rules.specs.declared.rule.Rule.{Rule}
+use Rattle.pass_core.specs.Passed.{Passed}
+use Rattle.pass_core.specs.Turns.{passed_rows}
+use Rattle.pass_core.specs.Left.{turns_left as walk_turns_left}
+use Rattle.filter_bank.specs.Outgoing.{Form, outgoing}
+use Rattle.peer_out.specs.Forms.{as_sent}
+use Rattle.peer_out.specs.Remembered.{Exit}
+use Rattle.peer_out.specs.Changes.{MayBeHeard, IsSender}
+use Rattle.fanout_queue.specs.Queues.{Queued}
+use Rattle.fanout_queue.specs.Readers.{unread_by, read_rows, ReaderLeads}
+use Rattle.journal_text.specs.declared.link.Link.{Link}
+use Rattle.journal_text.specs.declared.link.Link.TheVariants.{Read, Outf, Adv}
+use Rattle.journal_text.specs.declared.value.Value.{Value}
+use Rattle.journal_text.specs.Walk.{Links}
+use Rattle.journal_text.specs.Values.{route_rows, attrs_rows}
+
+-- who sends, and to which kind of peer; the peer's words; the session; the reader's number in the queue; the rules of the outgoing
+-- filter; the rows that were sent
+pub record OutChained : Type 0 where
+  pub exit : Exit
+  pub peer : Neighbour
+  pub session : ℕ
+  pub reader : ℕ
+  pub filter : Passed (Option (List Rule))
+  pub sent : FinMap prefix_cmp Attrs
+
+-- ---- how it is stored
+abbrev pub exit_code : Coded Profile → Coded Speaker → Coded Exit
+exit_code p s =
+    code_by (Profile × (Speaker × Bool)) (coded× p (coded× s coded_bool))
+    (λ e. (e.profile, (e.me, e.external))) (λ x. record { profile = x.0; me = x.1.0; external = x.1.1 }) (λ _. refl)
+
+abbrev pub out_chained_code : Coded Exit → Coded Neighbour → Coded (Passed (Option (List Rule))) → Coded Attrs → Coded OutChained
+out_chained_code e n f a =
+    code_by ((Exit × Neighbour) × ((ℕ × ℕ) × (Passed (Option (List Rule)) × FinMap prefix_cmp Attrs)))
+    (coded× (coded× e n) (coded× (coded× coded_ℕ coded_ℕ) (coded× f (map.code network_code a))))
+    (λ c. ((c.exit, c.peer), ((c.session, c.reader), (c.filter, c.sent))))
+    (λ x. record { exit = x.0.0; peer = x.0.1; session = x.1.0.0; reader = x.1.0.1; filter = x.1.1.0; sent = x.1.1.1 }) (λ _. refl)
+
+-- ---- rows
+
+-- the form in which the peer is sent a route at a prefix
+abbrev pub form_of : Exit → Form
+form_of exit p row = as_sent exit.profile exit.me exit.external p row
+
+-- what the outgoing filter makes of a row at a prefix, by rules, or by none
+abbrev pub made_by : OutChained → Option (List Rule) → Network → Option Route → Option Attrs
+made_by c = outgoing (form_of c.exit) c.peer
+
+-- the rows of `outf.J.S`, where these are the rows that the reader has: at each prefix by the rules that hold there
+abbrev pub outf_rows : OutChained → Rows Route → Rows Attrs
+outf_rows c read = passed_rows (made_by c) c.filter read
+
+-- ---- links
+
+-- the links of a session with these rows
+abbrev pub session_links : ℕ → ℕ → Rows Value → Rows Value → Rows Value → Links Value
+session_links j s read outf adv (Read k t) = cond (k == j && t == s) (Some read) None
+session_links j s read outf adv (Outf k t) = cond (k == j && t == s) (Some outf) None
+session_links j s read outf adv (Adv k t) = cond (k == j && t == s) (Some adv) None
+session_links j s read outf adv other = None
+
+-- the links of the chain: `read.J.S`, `outf.J.S` and `adv.J.S`
+abbrev pub out_links : OutChained → Rows Route → Links Value
+out_links c read = session_links c.peer.number c.session (route_rows read) (attrs_rows (outf_rows c read)) (attrs_rows (map.get c.sent))
+
+-- the link is named as one of a peer's outgoing ones, of whatever session
+abbrev pub is_out_link : ℕ → Link → Bool
+is_out_link j (Read k t) = k == j
+is_out_link j (Outf k t) = k == j
+is_out_link j (Adv k t) = k == j
+is_out_link j other = false
+
+-- these links of a peer beside those of the other parts of the router
+abbrev pub beside_out : ℕ → Links Value → Links Value → Links Value
+beside_out j others own link = cond (is_out_link j link) (own link) (others link)
+
+-- where walks and lists of a link's rows go, where these are the candidates of the rows that the reader has
+abbrev pub out_candidates : OutChained → Candidates → Link → Candidates
+out_candidates c read (Read k t) q = read q
+out_candidates c read (Outf k t) q = read q
+out_candidates c read (Adv k t) q = with_rows (map.get c.sent) q
+out_candidates c read other q = false
+
+-- ---- what is kept true
+
+-- The peer is external exactly where it isn't internal, and this speaker's words can be said.
+pub record IsOutChain (c : OutChained) : Type 0 where
+  pub kind : c.exit.external ≡ not c.peer.internal
+  pub sender : IsSender c.exit.profile c.exit.me
+
+-- What was sent is what the filter makes of the rows that the reader has.
+abbrev pub HasSent : OutChained → Rows Route → Type 0
+HasSent c read = map.get c.sent ≡ outf_rows c read
+
+-- ---- what is known of the routes above
+
+-- The attributes of each row are some that a neighbour's octets may hold,
+abbrev pub RowsMayBeHeard : Profile → Rows Route → Type 0
+RowsMayBeHeard profile rows = (p : Network) → ForSome (rows p) (λ r. MayBeHeard profile r.attrs)
+
+-- and so are those of the row after each change.
+abbrev pub ChangesMayBeHeard : Profile → List (Change Route) → Type 0
+ChangesMayBeHeard profile changes = AllByRecursion (λ change. ForSome change.after (λ r. MayBeHeard profile r.attrs)) changes
+
+-- ---- between two calls
+-- The reader is one of the queue's, and what it hasn't taken leads to the best rows; what was sent is what the filter makes of the rows that
+-- it has; and whatever may still be sent may be heard.
+pub record OutStands (c : OutChained) (queued : Queued Route) (best : Rows Route) : Type 0 where
+  pub chain : IsOutChain c
+  pub live : IsSome (map.get queued c.reader)
+  pub leads : ReaderLeads queued c.reader best
+  pub exact : HasSent c (read_rows queued c.reader best)
+  pub heard : RowsMayBeHeard c.exit.profile best
+  pub unread : ChangesMayBeHeard c.exit.profile (unread_by queued c.reader)
+
+-- ---- work
+
+abbrev pub is_unread : List (Change Route) → Bool
+is_unread [] = false
+is_unread (change ∷ changes) = true
+
+-- the reader hasn't taken all, or a walk is on
+abbrev pub has_out_work : OutChained → List (Change Route) → Bool
+has_out_work c unread = is_unread unread || is_some c.filter.walk
+
+-- how many turns are left, where these numbers count the candidates of the best rows: one for each change that the reader hasn't taken,
+-- and those of the walk
+abbrev pub out_turns_left : (Option Network → ℕ) → OutChained → List (Change Route) → ℕ
+out_turns_left beyond c unread = length unread + walk_turns_left beyond c.filter

@@ -1,0 +1,47 @@
+-- Laws of outgoing chains, for the crates above.
+use Rattle.std.specs.Prelude.{◌≡◌, ◌≢◌, ℕ, ◌+◌, ◌*◌, ◌≤◌, length, List, [], Option, Some, None}
+use Rattle.std.specs.Option.{ForSome}
+use Rattle.std.specs.FinMap as map
+use Rattle.addr4.specs.Prefixes.{Network}
+use Rattle.bgp_attr.specs.declared.route.Route.{Route}
+use Rattle.link_change.specs.Rows.{Rows, Candidates}
+use Rattle.link_change.specs.Changes.{IsSent}
+use Rattle.link_change.specs.declared.change.Change.{Change}
+use Rattle.pass_core.specs.Passed.{present}
+use Rattle.pass_core.specs.Turns.{rows_by}
+use Rattle.pass_core.specs.Left.{CountsBeyond}
+use Rattle.peer_out.specs.Changes.{MayBeHeard}
+use Rattle.fanout_queue.specs.Queues.{Queued, AppendsToAll}
+use Rattle.fanout_queue.specs.Readers.{unread_by, read_rows, KeepsOtherReaders}
+use Rattle.out_chain.specs.Chains.{OutChained, made_by, HasSent, OutStands, out_turns_left}
+
+-- Where the reader has taken all and no walk is on, the peer was sent exactly what the latest rules make of the best rows.
+abbrev pub ExactWithoutWork : Type 0
+ExactWithoutWork =
+    (c : OutChained) (queued : Queued Route) (best : Rows Route) → unread_by queued c.reader ≡ [] → c.filter.walk ≡ None
+    → HasSent c (read_rows queued c.reader best) → map.get c.sent ≡ rows_by (made_by c) (present c.filter) best
+
+-- ---- what others do
+-- A change of the best rows that is put leaves a session standing, where the row after it may be heard.
+abbrev pub PutKeepsStanding : Type 0
+PutKeepsStanding =
+    (c : OutChained) (queued put : Queued Route) (best now : Rows Route) (p : Network) (change : Change Route) → OutStands c queued best
+    → AppendsToAll change queued put → IsSent best now p (Some change) → ForSome change.after (λ r. MayBeHeard c.exit.profile r.attrs) → OutStands c put now
+
+-- So does what another reader does.
+abbrev pub OthersKeepStanding : Type 0
+OthersKeepStanding =
+    (c : OutChained) (queued left : Queued Route) (best : Rows Route) (other : ℕ) → c.reader ≢ other → KeepsOtherReaders other queued left
+    → OutStands c queued best → OutStands c left best
+
+-- ---- turns
+-- No turn is left exactly where the reader has taken all and no walk is on.
+abbrev pub NoTurnsWithoutWork : Type 0
+NoTurnsWithoutWork =
+    (beyond : Option Network → ℕ) (c : OutChained) (unread : List (Change Route)) → out_turns_left beyond c unread ≡ 0 → (unread ≡ []) × (c.filter.walk ≡ None)
+
+-- At most two whole walks are left beside what is unread.
+abbrev pub OutTurnsAreBounded : Type 0
+OutTurnsAreBounded =
+    (candidates : Candidates) (beyond : Option Network → ℕ) (c : OutChained) (unread : List (Change Route)) → CountsBeyond candidates beyond
+    → out_turns_left beyond c unread ≤ length unread + 2 * (beyond None + 1)

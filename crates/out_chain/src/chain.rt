@@ -1,0 +1,331 @@
+//! The outgoing chain of one session, as the crates above see it.
+
+ghost use Rattle.std.specs.Prelude.{◌≡◌, ◌≢◌, [], length, IfOk, OnOk, OnErr, IsSome, is_some, Some, None, option_map};
+ghost use Rattle.std.specs.Option.{ForSome};
+ghost use Rattle.std.specs.FinMap as map;
+ghost use Rattle.addr4.specs.Places.{key_of};
+ghost use Rattle.bgp_attr.specs.declared.route.Route.{Route};
+ghost use Rattle.link_change.specs.Rows.{Rows, IsNextCandidate, CoversRows};
+ghost use Rattle.peer_out.specs.Changes.{IsSender, IsSentOf, MayBeHeard};
+ghost use Rattle.fanout_queue.specs.Queues.{Queued};
+ghost use Rattle.fanout_queue.specs.Readers.{unread_by, read_rows, read_candidates, KeepsOtherReaders};
+ghost use Rattle.journal_text.specs.declared.link.Link.TheVariants as names;
+ghost use Rattle.journal_text.specs.declared.value.Value.{Value};
+ghost use Rattle.journal_text.specs.Walk.{HasRow, no_links};
+ghost use Rattle.journal_text.specs.Journals.{with_entries, with_lines};
+ghost use Rattle.journal_text.specs.Values.{route_value, attrs_value};
+ghost use Rattle.out_chain.specs.Chains.{out_links, out_candidates, IsOutChain, RowsMayBeHeard, OutStands, has_out_work};
+ghost use Rattle.out_chain.specs.Steps.{exit_to, new_out, start_entries, stop_entries, LeadsOut, LeadsFromBest, with_rules, with_sent, said_of, IsTold, PassesOut, IsWalkedOut, IsOutTurn};
+
+use crate::to_peer::ToPeer;
+use addr4::{Memory, Place, Prefix};
+use bgp_attr::{Neighbour, Octets, Profile, Route, SharedAttrs, Speaker};
+use cache_stage::Cache;
+use fanout_queue::{Queue, Reader};
+use filter_bank::OutFilter;
+use journal_text::{Entry, Journal, Line, Link, Value};
+use link_change::{Change, Turn, Upstream};
+use peer_out::PeerOut;
+use policy_rules::Rules;
+use std::alloc::Global;
+use std::marker::Model;
+
+/// The outgoing chain of a session. Contracts see who sends to whom, the session, the reader's number in the queue, the rules of the
+/// outgoing filter, and what was sent.
+#[derive(Drop)]
+pub struct OutChain {
+    peer: Neighbour,
+    session: u32,
+    reader: Reader,
+    filter: OutFilter,
+    sent: Cache<SharedAttrs>,
+    to_peer: ToPeer,
+}
+
+impl Model for OutChain {
+    ghost use Rattle.std.specs.Coded.{coded_list, coded_option};
+    ghost use Rattle.out_chain.specs.Chains.{OutChained, out_chained_code, exit_code};
+    ghost use Rattle.pass_core.specs.Passed.{passed_code};
+    ghost use Rattle.bgp_attr.specs.contracts.attrs.Attrs as attrs_row;
+    ghost use Rattle.bgp_attr.specs.contracts.speaker.Profile as profile_row;
+    ghost use Rattle.bgp_attr.specs.contracts.speaker.Speaker as speaker_row;
+    ghost use Rattle.bgp_attr.specs.contracts.speaker.Neighbour as neighbour_row;
+    ghost use Rattle.policy_rules.specs.contracts.rule.Rule as rule_row;
+
+    ghost Value = { OutChained };
+
+    ghost coded = { out_chained_code (exit_code profile_row.the_row.coded speaker_row.the_row.coded) neighbour_row.the_row.coded (passed_code (coded_option (coded_list rule_row.the_row.coded))) attrs_row.the_row.coded };
+
+    ghost view = { λ c. record { exit = c.to_peer.out; peer = c.peer; session = c.session; reader = c.reader; filter = c.filter; sent = c.sent } };
+}
+
+impl OutChain {
+    /// A session of a peer begins: a reader joins the queue, with nothing to take yet, `read.J.S` inherits `best`, and `outf.J.S` and
+    /// `adv.J.S` begin without rows. Nothing is sent, until the walk to these rules comes by. What is sent later comes from `alloc`. For want
+    /// of memory the queue stays as it is.
+    pub fn start(
+        alloc: Global,
+        profile: Profile,
+        queue: &mut Queue<Route>,
+        me: &Speaker,
+        peer: &Neighbour,
+        session: u32,
+        rules: Rules,
+        journal: &mut Journal,
+    ) -> Result<OutChain, Memory>
+        requires sender { IsSender profile me.now }
+        ensures fresh { IfOk result (λ chain. map.get queue.old chain.reader ≡ None) }
+        ensures after { IfOk result (λ chain. chain ≡ new_out (exit_to profile me.now peer.now) peer.now session chain.reader rules) }
+        ensures joined { IfOk result (λ chain. queue.new ≡ map.insert queue.old chain.reader []) }
+        ensures others { IfOk result (λ chain. KeepsOtherReaders chain.reader queue.old queue.new) }
+        ensures lines { OnOk result (journal.new ≡ with_entries journal.old (start_entries peer.now.number session)) }
+        ensures leads { IfOk result (λ chain. (best : Rows Route) → LeadsFromBest peer.now.number best no_links (start_entries peer.now.number session) (out_links chain best)) }
+        ensures stands { IfOk result (λ chain. (best : Rows Route) → RowsMayBeHeard profile best → OutStands chain queue.new best) }
+        ensures memory { OnErr result (queue.new ≡ queue.old) }
+    {
+        let number = u32::from(peer.number);
+        journal.push_entry(Entry::Inherit(Link::Read(number, session), Link::Best))?;
+        journal.push_entry(Entry::Begin(Link::Outf(number, session)))?;
+        journal.push_entry(Entry::Begin(Link::Adv(number, session)))?;
+        let reader = queue.join_reader()?;
+        let out = PeerOut::new(alloc, profile, *me, !peer.internal);
+        Ok(OutChain {
+            peer: *peer,
+            session,
+            reader,
+            filter: OutFilter::new(rules),
+            sent: Cache::new(alloc),
+            to_peer: ToPeer { out },
+        })
+    }
+
+    /// The peer's number.
+    pub fn number(&self) -> u32
+        ensures { result ≡ self.now.peer.number }
+    {
+        u32::from(self.peer.number)
+    }
+
+    /// The number of the session.
+    pub fn session(&self) -> u32
+        ensures { result ≡ self.now.session }
+    {
+        self.session
+    }
+
+    /// New rules for the outgoing filter. They hold nowhere at first: turns bring them into force. Takes no memory.
+    pub fn edit(&mut self, rules: Rules)
+        ensures after { self.new ≡ with_rules rules self.old }
+        ensures links { (read : Rows Route) → out_links self.new read ≡ out_links self.old read }
+        ensures stands { (queued : Queued Route) (best : Rows Route) → OutStands self.old queued best → OutStands self.new queued best }
+    {
+        self.filter.edit(rules);
+    }
+
+    /// One turn of the session's task. Where the reader has something to take, its first change goes down; else the walk of the
+    /// filter goes to the next candidate of the best rows, or ends. Nothing exactly where neither is to be done; Quiet where no
+    /// change comes out on `adv.J.S`.
+    pub fn unit<U: Upstream<Row = Route>>(
+        &mut self,
+        queue: &mut Queue<Route>,
+        best: &U,
+        journal: &mut Journal,
+    ) -> Result<Turn<SharedAttrs>, Memory>
+        requires stands { OutStands self.old queue.old (U.rows best.now) }
+        ensures taken { IfOk result (IsOutTurn self.old self.new queue.old queue.new (U.candidates best.now) (U.rows best.now) journal.old journal.new) }
+        ensures others { KeepsOtherReaders self.old.reader queue.old queue.new }
+        ensures stands { OnOk result (OutStands self.new queue.new (U.rows best.now)) }
+    {
+        match queue.take(&mut self.reader)? {
+            Some(change) => {
+                let sent = self.pass_on(change, journal)?;
+                Ok(Turn::taken(sent))
+            }
+            None => self.walk(best, journal),
+        }
+    }
+
+    // A change that the reader took goes through the filter.
+    fn pass_on(
+        &mut self,
+        change: Change<Route>,
+        journal: &mut Journal,
+    ) -> Result<Option<Change<SharedAttrs>>, Memory>
+        requires chain { IsOutChain self.old }
+        requires differs { change.after ≢ change.before }
+        requires heard { ForSome change.after (λ r. MayBeHeard self.old.exit.profile r.attrs) }
+        ensures { IfOk result (λ sent. PassesOut self.old self.new change sent journal.old journal.new) }
+    {
+        let link = Link::Read(u32::from(self.peer.number), self.session);
+        journal.push_change(link, &change)?;
+        match self.filter.take_in(change, &mut self.to_peer, &self.peer)? {
+            None => Ok(None),
+            Some(sent) => {
+                let sent = self.send(sent, journal)?;
+                Ok(Some(sent))
+            }
+        }
+    }
+
+    // One turn of the filter's walk over the best rows, which are those that the reader has.
+    fn walk<U: Upstream<Row = Route>>(
+        &mut self,
+        best: &U,
+        journal: &mut Journal,
+    ) -> Result<Turn<SharedAttrs>, Memory>
+        requires chain { IsOutChain self.old }
+        requires heard { RowsMayBeHeard self.old.exit.profile (U.rows best.now) }
+        ensures { IfOk result (IsWalkedOut self.old self.new (U.candidates best.now) (U.rows best.now) journal.old journal.new) }
+    {
+        match self.filter.unit(best, &mut self.to_peer, &self.peer)? {
+            Turn::Nothing => Ok(Turn::Nothing),
+            Turn::Quiet => Ok(Turn::Quiet),
+            Turn::Sent(change) => {
+                let sent = self.send(change, journal)?;
+                Ok(Turn::Sent(sent))
+            }
+        }
+    }
+
+    // A change of what the filter makes is kept, and said to the peer.
+    fn send(
+        &mut self,
+        change: Change<SharedAttrs>,
+        journal: &mut Journal,
+    ) -> Result<Change<SharedAttrs>, Memory>
+        requires { ForSome change.after (IsSentOf self.old.exit.profile self.old.exit.external change.prefix) }
+        ensures passed { IfOk result (λ sent. sent ≡ change) }
+        ensures after { OnOk result (self.new ≡ with_sent self.old (Some change)) }
+        ensures lines { OnOk result (journal.new ≡ with_lines journal.old (said_of self.old [] (Some change))) }
+        ensures told { OnOk result (IsTold self.old.exit change) }
+    {
+        let number = u32::from(self.peer.number);
+        journal.push_change(Link::Outf(number, self.session), &change)?;
+        let sent = self.sent.take_in(change)?;
+        journal.push_change(Link::Adv(number, self.session), &sent)?;
+        let octets = self.to_peer.out.message(&sent)?;
+        journal.push_line(Line::Out(number, Octets::from_vec(octets)))?;
+        Ok(sent)
+    }
+
+    /// The session ends: its links end, whatever its reader hasn't taken, and the reader leaves the queue, also for want of memory.
+    pub fn stop(self, queue: &mut Queue<Route>, journal: &mut Journal) -> Result<(), Memory>
+        requires live { IsSome (map.get queue.old self.reader) }
+        ensures left { queue.new ≡ map.remove queue.old self.reader }
+        ensures others { KeepsOtherReaders self.reader queue.old queue.new }
+        ensures lines { OnOk result (journal.new ≡ with_entries journal.old (stop_entries self.peer.number self.session)) }
+        ensures leads { (read : Rows Route) → LeadsOut self.peer.number (out_links self read) (stop_entries self.peer.number self.session) no_links }
+    {
+        let number = u32::from(self.peer.number);
+        let session = self.session;
+        queue.drop_reader(self.reader);
+        journal.push_entry(Entry::End(Link::Read(number, session)))?;
+        journal.push_entry(Entry::End(Link::Outf(number, session)))?;
+        journal.push_entry(Entry::End(Link::Adv(number, session)))
+    }
+
+    /// Whether the link is one of the chain's: `read.J.S`, `outf.J.S` or `adv.J.S`.
+    pub fn live(&self, link: Link) -> bool
+        ensures { (read : Rows Route) → result ≡ is_some (out_links self.now read link) }
+    {
+        match link {
+            Link::Read(number, session)
+            | Link::Outf(number, session)
+            | Link::Adv(number, session) => number == self.number() && session == self.session,
+            _ => false,
+        }
+    }
+
+    /// The row at a prefix of a link of the chain; None where it has none. Memory only for want of memory.
+    pub fn asked<U: Upstream<Row = Route>>(
+        &self,
+        link: Link,
+        queue: &Queue<Route>,
+        best: &U,
+        p: Prefix,
+    ) -> Result<Option<Value>, Memory>
+        requires live { IsSome (map.get queue.now self.now.reader) }
+        requires own { IsSome (out_links self.now (read_rows queue.now self.now.reader (U.rows best.now)) link) }
+        ensures { IfOk result (HasRow (out_links self.now (read_rows queue.now self.now.reader (U.rows best.now))) link p) }
+    {
+        match link {
+            Link::Read(_, _) => {
+                let read = queue.asked(&self.reader, best, p)?;
+                Ok(route_value(read))
+            }
+            Link::Outf(_, _) => {
+                let row = queue.asked(&self.reader, best, p)?;
+                let sent = self.filter.made(p, row, &self.to_peer, &self.peer)?;
+                Ok(attrs_value(sent))
+            }
+            Link::Adv(_, _) => {
+                let sent = Upstream::asked(&self.sent, &p)?;
+                Ok(attrs_value(sent))
+            }
+            _ => unreachable!(),
+        }
+    }
+
+    /// The least candidate of a link of the chain that lies beyond a place: of `read.J.S` and `outf.J.S` one of the best rows, or
+    /// the prefix of a change that the reader hasn't taken, some of which may have no row; of `adv.J.S` its rows.
+    pub fn next_candidate<U: Upstream<Row = Route>>(
+        &self,
+        link: Link,
+        queue: &Queue<Route>,
+        best: &U,
+        after: Place,
+    ) -> Option<Prefix>
+        requires live { IsSome (map.get queue.now self.now.reader) }
+        requires own { IsSome (out_links self.now (read_rows queue.now self.now.reader (U.rows best.now)) link) }
+        ensures next { IsNextCandidate (out_candidates self.now (read_candidates queue.now self.now.reader (U.candidates best.now)) link) (key_of after) result }
+        ensures covers { (rows : Rows Value) → out_links self.now (read_rows queue.now self.now.reader (U.rows best.now)) link ≡ Some rows → CoversRows (out_candidates self.now (read_candidates queue.now self.now.reader (U.candidates best.now)) link) rows }
+    {
+        match link {
+            Link::Adv(_, _) => Upstream::next_candidate(&self.sent, &after),
+            _ => queue.next_candidate(&self.reader, best, after),
+        }
+    }
+
+    /// How many changes the reader hasn't taken.
+    pub fn waiting(&self, queue: &Queue<Route>) -> u128
+        requires { IsSome (map.get queue.now self.now.reader) }
+        ensures { result ≡ length (unread_by queue.now self.now.reader) }
+    {
+        queue.waiting(&self.reader)
+    }
+
+    /// Whether the session's task has work: the reader hasn't taken all, or the walk of the filter is on.
+    pub fn busy(&self, queue: &Queue<Route>) -> bool
+        requires { IsSome (map.get queue.now self.now.reader) }
+        ensures { result ≡ has_out_work self.now (unread_by queue.now self.now.reader) }
+    {
+        queue.waiting(&self.reader) > 0 || self.filter.busy()
+    }
+
+    /// How many rows were sent.
+    pub fn rows(&self) -> u128
+        ensures { result ≡ map.len self.now.sent }
+    {
+        self.sent.len() as u128
+    }
+}
+
+// A row of `read.J.S`, as a value.
+fn route_value(row: Option<Route>) -> Option<Value>
+    ensures { result ≡ option_map route_value row }
+{
+    match row {
+        Some(row) => Some(Value::Route(row)),
+        None => None,
+    }
+}
+
+// One of `outf.J.S` or `adv.J.S`.
+fn attrs_value(row: Option<SharedAttrs>) -> Option<Value>
+    ensures { result ≡ option_map attrs_value row }
+{
+    match row {
+        Some(row) => Some(Value::Attrs(row)),
+        None => None,
+    }
+}

@@ -1,0 +1,20 @@
+//! Laws of outgoing chains, for the proofs of the crates above. Each is a function that does nothing, whose contract is the law.
+
+ghost use Rattle.out_chain.specs.Laws.{ExactWithoutWork, PutKeepsStanding, OthersKeepStanding, NoTurnsWithoutWork, OutTurnsAreBounded};
+
+/// Where the reader has taken all and no walk is on, the peer was sent what the latest rules make of the best rows.
+pub fn without_work_all_is_sent()
+    ensures { ExactWithoutWork }
+{}
+
+/// A session goes on to stand while changes of the best rows are put, and while other readers take theirs, join and leave.
+pub fn a_session_stands()
+    ensures put { PutKeepsStanding }
+    ensures others { OthersKeepStanding }
+{}
+
+/// How many turns of a session are left: none exactly without work, and no more than its changes and two walks.
+pub fn out_turns_are_left()
+    ensures none { NoTurnsWithoutWork }
+    ensures bounded { OutTurnsAreBounded }
+{}

@@ -1,0 +1,28 @@
+//! The outgoing chain of a peer's session: from what its reader takes out of the fanout queue to the octets that the peer is
+//! sent (NSDI 2005, section 5.1).
+//!
+//! An [`OutChain`] has the stages from top to bottom: a reader of the queue, whose link is `read.J.S` (J is the peer's number,
+//! S that of the session), the outgoing filter, whose link is `outf.J.S`, and the cache of what was sent, whose link is
+//! `adv.J.S`. Each change on `adv.J.S` is said to the peer by one UPDATE.
+//!
+//! A session begins with `read.J.S` as a copy of `best`, nothing sent, and a walk of the filter over the best rows. A turn takes the
+//! first change that the reader hasn't taken, and passes it down, by the rules that hold at its prefix. Where the reader has taken
+//! all, a turn takes the walk to the next candidate. So a slow peer falls behind, and the others don't wait for it.
+//!
+//! What is proved of every call: whatever other links there are, its entries lead by the journal's two consistency rules from the
+//! maps of the session's old links to those of its new ones; what was sent is exactly what the filter makes of the rows that the
+//! reader has; one message follows each change of it, and the peer reads its octets as that change and as nothing else; every
+//! other reader of the queue keeps what it hasn't taken. Without work the peer has what the latest rules make of the best rows
+//! ([`without_work_all_is_sent`]).
+//!
+//! The best rows are lent to the calls that need them, and so is the queue. Nothing is kept twice but what was sent: a withdrawal
+//! has to name it, and the peer can't be asked. For want of memory a call may stop half way. The chain may then only be
+//! dropped: nothing is said of it.
+#![tactic(auto)]
+
+mod chain;
+mod laws;
+mod to_peer;
+
+pub use chain::OutChain;
+pub use laws::{a_session_stands, out_turns_are_left, without_work_all_is_sent};
