@@ -1,5 +1,5 @@
 -- Laws of chains, for the crates above.
-use Rattle.std.specs.Prelude.{◌≡◌, ℕ, ◌+◌, ◌*◌, ◌<◌, ◌≤◌, is_some, true, false}
+use Rattle.std.specs.Prelude.{◌≡◌, ◌+◌, ◌*◌, ◌<◌, ◌≤◌, is_some, true, false}
 use Rattle.in_chain.specs.Chains.{Chained, row_count, turns_left}
 
 -- A filter's walk, and that of rules which wait, take together at most two turns more than twice the rows of `in.K`.

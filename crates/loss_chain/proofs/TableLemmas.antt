@@ -10,6 +10,7 @@ use Rattle.loss_chain.specs.declared.owner.Owner.{Owner}
 use Rattle.loss_chain.specs.Owners.{loss_task}
 use Rattle.std.proofs.lemmas.Bool.Decides.{nat_tests}
 use Rattle.loss_chain.specs.Tables.{Tables, NoneEmpty}
+use Rattle.loss_chain.proofs.ListLemmas.{all_appended}
 use Rattle.loss_chain.specs.Steps.{without, swept_one, table_of, oldest_of, overdue_of, lost_tables}
 
 pub equal_by : (m n : ℕ) → nat_eq m n ≡ true → m ≡ n
@@ -34,11 +35,9 @@ module _ {R : Type 0} where
 
   pub few_filter : (f : Lost R → Bool) (ds : List (Lost R)) → length (filter f ds) ≤ length ds
   few_filter f [] = omega arith
-  few_filter f (d ∷ ds) = by_test (f d) (few_filter f ds)
-    where
-      by_test : (b : Bool) → length (filter f ds) ≤ length ds → length (cond b (d ∷ filter f ds) (filter f ds)) ≤ length (d ∷ ds)
-      by_test true rest = omega arith
-      by_test false rest = omega arith
+  few_filter f (d ∷ ds) =
+      let rest = few_filter f ds in
+      elim (f d) as (λ b. length (cond b (d ∷ filter f ds) (filter f ds)) ≤ length (d ∷ ds)) [ true ↦ omega (arith, rest) | false ↦ omega (arith, rest) ]
 
   pub few_map : (f : Lost R → Lost R) (ds : List (Lost R)) → length (map f ds) ≡ length ds
   few_map f [] = refl
@@ -54,26 +53,12 @@ module _ {R : Type 0} where
   none_later n [] all = refl
   none_later n (d ∷ ds) all = ap (λ (b : Bool). cond b (Some d.rows) (table_of n ds)) (other_by d.number n (λ same. let lt : n < d.number = all.0 in omega arith)) ∙ none_later n ds all.1
 
-  pub later_stay : (n : ℕ) (p : Network) (ds : List (Lost R)) → AllByRecursion (λ later. n < later.number) ds → map (swept_one n p) ds ≡ ds
-  later_stay n p [] all = refl
-  later_stay n p (d ∷ ds) all = both (ap (λ (b : Bool). cond b (without p d) d) (other_by d.number n (λ same. let lt : n < d.number = all.0 in omega arith))) (later_stay n p ds all.1)
-
   pub full_stay : (ds : List (Lost R)) → NoneEmpty ds → filter is_full ds ≡ ds
   full_stay [] full = refl
   full_stay (d ∷ ds) full = ap (λ (b : Bool). cond (not b) (d ∷ filter is_full ds) (filter is_full ds)) full.0 ∙ both refl (full_stay ds full.1)
 
-  pub swept_head : (n : ℕ) (p : Network) (d : Lost R) (ds : List (Lost R)) → d.number ≡ n → AllByRecursion (λ later. n < later.number) ds → NoneEmpty ds
-      → filter is_full (map (swept_one n p) (d ∷ ds)) ≡ cond (is_full (without p d)) (without p d ∷ ds) ds
-  swept_head n p d ds same later full =
-      let first : swept_one n p d ≡ without p d = ap (λ (b : Bool). cond b (without p d) d) (same_by d.number n same) in
-      ap (filter is_full) (both first (later_stay n p ds later)) ∙ ap (λ (l : List (Lost R)). cond (is_full (without p d)) (without p d ∷ l) l) (full_stay ds full)
-
   pub swept_number : (n : ℕ) (p : Network) (d : Lost R) → (swept_one n p d).number ≡ d.number
-  swept_number n p d = by_test (nat_eq d.number n)
-    where
-      by_test : (b : Bool) → (cond b (without p d) d).number ≡ d.number
-      by_test true = refl
-      by_test false = refl
+  swept_number n p d = elim (nat_eq d.number n) as (λ b. (cond b (without p d) d).number ≡ d.number) [ true ↦ refl | false ↦ refl ]
 
   pub short_filter : (n : ℕ) (p : Network) (ds : List (Lost R)) (t : FinMap prefix_cmp R) → table_of n ds ≡ Some t → table_of n (filter is_full (map (swept_one n p) ds)) ≡ None
       → length (filter is_full (map (swept_one n p) ds)) < length ds
@@ -190,12 +175,6 @@ module _ {R : Type 0} where
 
   -- what holds of the tables, and of the one that a loss adds, holds of all after it
   pub all_lost : (P : Lost R → Type 0) (n : ℕ) (t : Tables R) → AllByRecursion P t.deletions → P (record { number = n; rows = t.live }) → AllByRecursion P (lost_tables n t).deletions
-  all_lost P n t all one = by_test (is_empty_map t.live)
-    where
-      push : (ds : List (Lost R)) → AllByRecursion P ds → AllByRecursion P (ds ++ record { number = n; rows = t.live } ∷ [])
-      push [] all = (one, tt)
-      push (d ∷ ds) all = (all.0, push ds all.1)
-
-      by_test : (e : Bool) → AllByRecursion P (cond e t.deletions (t.deletions ++ record { number = n; rows = t.live } ∷ []))
-      by_test true = all
-      by_test false = push t.deletions all
+  all_lost P n t all one =
+      let new : Lost R = record { number = n; rows = t.live } in
+      elim (is_empty_map t.live) as (λ e. AllByRecursion P (cond e t.deletions (t.deletions ++ new ∷ []))) [ true ↦ all | false ↦ all_appended P P (λ d is. is) t.deletions new all one ]

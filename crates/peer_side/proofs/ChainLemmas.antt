@@ -6,8 +6,6 @@ use Rattle.bgp_attr.specs.declared.attrs.Attrs.{Attrs}
 use Rattle.bgp_attr.specs.declared.route.Route.{Route}
 use Rattle.link_change.specs.Changes.{IsSent}
 use Rattle.link_change.specs.declared.change.Change.{Change}
-use Rattle.link_change.specs.declared.turn.Turn.{Turn}
-use Rattle.link_change.specs.declared.turn.Turn.TheVariants as turns
 use Rattle.policy_rules.specs.declared.rule.Rule.{Rule}
 use Rattle.pass_core.specs.Passed.{Passed, Walked, present, latest_of, present_of, stepped, walk_of_waiting, after_walk}
 use Rattle.pass_core.specs.Turns.{walked_on, IsSentAt}
@@ -16,7 +14,7 @@ use Rattle.journal_text.specs.declared.link.Task.{Task}
 use Rattle.journal_text.specs.declared.link.Task.TheVariants.{Del, Fin, Rdel}
 use Rattle.journal_text.specs.declared.entry.Entry.{Entry}
 use Rattle.journal_text.specs.declared.value.Value.{Value}
-use Rattle.journal_text.specs.Journals.{Journaled, with_entries, Adds}
+use Rattle.journal_text.specs.Journals.{Journaled, with_entries}
 use Rattle.journal_text.proofs.JournalLemmas.{with_entries_append}
 use Rattle.journal_text.proofs.WalkLemmas.{leads_append}
 use Rattle.loss_chain.specs.Lost.{Lost}
@@ -25,9 +23,9 @@ use Rattle.loss_chain.specs.Tables.{NoneEmpty}
 use Rattle.loss_chain.specs.Steps.{without, deletions_after, swept_one, weld_entries}
 use Rattle.loss_chain.proofs.ListLemmas.{all_mapped, all_filtered}
 use Rattle.loss_chain.proofs.TableLemmas.{is_full, few_filter, few_map, swept_number}
-use Rattle.in_chain.specs.Chains.{Chained, filt_rows, beside, IsChain, turns_left}
-use Rattle.in_chain.specs.Falls.{Falls, LeadsChain, way_of_feed}
-use Rattle.in_chain.specs.Steps.{fed, welded, swept, Turned, Rewalks, IsTaken}
+use Rattle.in_chain.specs.Chains.{Chained, filt_rows, beside, IsChain}
+use Rattle.in_chain.specs.Falls.{LeadsChain}
+use Rattle.in_chain.specs.Steps.{fed, welded, swept, Turned, Rewalks}
 use Rattle.peer_side.specs.Peers.{Chains, chain_at, put_chain, AreBefore, lost_of}
 use Rattle.peer_side.specs.Steps.{with_weld, Leaves, Nears}
 use Rattle.peer_side.proofs.CountLemmas.{swept_turns, swept_rows, weld_stays}

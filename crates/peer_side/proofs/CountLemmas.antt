@@ -49,19 +49,13 @@ entries_removed t p = ap tables.entries (same_map prefixes_total exact_prefixes 
 
 fewer_filtered : (f g : Network × Attrs → Bool) (es : List (Network × Attrs)) → length (filter f (filter g es)) ≤ length (filter f es)
 fewer_filtered f g [] = omega arith
-fewer_filtered f g (e ∷ es) = by_g (g e) (fewer_filtered f g es)
-  where
-    both_kept : (b : Bool) → length (filter f (filter g es)) ≤ length (filter f es) → length (cond b (e ∷ filter f (filter g es)) (filter f (filter g es))) ≤ length (cond b (e ∷ filter f es) (filter f es))
-    both_kept true rest = omega (arith, rest)
-    both_kept false rest = rest
-
-    one_gone : (b : Bool) → length (filter f (filter g es)) ≤ length (filter f es) → length (filter f (filter g es)) ≤ length (cond b (e ∷ filter f es) (filter f es))
-    one_gone true rest = omega (arith, rest)
-    one_gone false rest = rest
-
-    by_g : (b : Bool) → length (filter f (filter g es)) ≤ length (filter f es) → length (filter f (cond b (e ∷ filter g es) (filter g es))) ≤ length (filter f (e ∷ es))
-    by_g true rest = both_kept (f e) rest
-    by_g false rest = one_gone (f e) rest
+fewer_filtered f g (e ∷ es) =
+    let rest = fewer_filtered f g es in
+    let both = filter f (filter g es) in
+    elim (g e) as (λ b. length (filter f (cond b (e ∷ filter g es) (filter g es))) ≤ length (filter f (e ∷ es))) [
+      | true ↦ elim (f e) as (λ b. length (cond b (e ∷ both) both) ≤ length (cond b (e ∷ filter f es) (filter f es))) [ true ↦ omega (arith, rest) | false ↦ rest ]
+      | false ↦ elim (f e) as (λ b. length both ≤ length (cond b (e ∷ filter f es) (filter f es))) [ true ↦ omega (arith, rest) | false ↦ rest ]
+    ]
 
 -- a row that goes leaves no more beyond a place
 removed_beyond : (place : Option Network) (p : Network) (t : FinMap prefix_cmp Attrs) → count_beyond place (tables.remove t p) ≤ count_beyond place t
@@ -71,19 +65,16 @@ removed_beyond place p t =
 
 swept_beyond : (place : Option Network) (s : ℕ) (p : Network) (ds : List (Lost Attrs)) → lost_beyond place (map (swept_one s p) ds) ≤ lost_beyond place ds
 swept_beyond place s p [] = omega arith
-swept_beyond place s p (d ∷ ds) = let here = by_test (nat_eq d.number s) in let rest = swept_beyond place s p ds in omega (arith, here, rest)
-  where
-    by_test : (b : Bool) → count_beyond place (cond b (without p d) d).rows ≤ count_beyond place d.rows
-    by_test true = removed_beyond place p d.rows
-    by_test false = omega arith
+swept_beyond place s p (d ∷ ds) =
+    let rest = swept_beyond place s p ds in
+    let here : count_beyond place (swept_one s p d).rows ≤ count_beyond place d.rows = elim (nat_eq d.number s) as (λ b. count_beyond place (cond b (without p d) d).rows ≤ count_beyond place d.rows) [ true ↦ removed_beyond place p d.rows | false ↦ omega arith ] in
+    omega (arith, here, rest)
 
 full_beyond : (place : Option Network) (ds : List (Lost Attrs)) → lost_beyond place (filter is_full ds) ≤ lost_beyond place ds
 full_beyond place [] = omega arith
-full_beyond place (d ∷ ds) = by_test (is_full d) (full_beyond place ds)
-  where
-    by_test : (b : Bool) → lost_beyond place (filter is_full ds) ≤ lost_beyond place ds → lost_beyond place (cond b (d ∷ filter is_full ds) (filter is_full ds)) ≤ lost_beyond place (d ∷ ds)
-    by_test true rest = omega (arith, rest)
-    by_test false rest = omega (arith, rest)
+full_beyond place (d ∷ ds) =
+    let rest = full_beyond place ds in
+    elim (is_full d) as (λ b. lost_beyond place (cond b (d ∷ filter is_full ds) (filter is_full ds)) ≤ lost_beyond place (d ∷ ds)) [ true ↦ omega (arith, rest) | false ↦ omega (arith, rest) ]
 
 waiting_more : (a b : ℕ) (waiting : Option (List Rule)) → a ≤ b → waiting_turns a waiting ≤ waiting_turns b waiting
 waiting_more a b None most = omega arith

@@ -22,8 +22,8 @@ use Rattle.router_core.specs.Stands.{IsSilent, PeerStands, Stands, open_session}
 use Rattle.router_core.specs.Turns.{FeedsAll, journal_lines}
 use Rattle.router_core.specs.Works.{Pushes, IsUpAt, Keeps, HaveFed}
 use Rattle.router_core.proofs.RegionLemmas.{leads_inward}
-use Rattle.router_core.proofs.StandLemmas.{one_peer, peer_of, stands_with, live_routed, routes_there, routes_same, routes_twice}
-use Rattle.router_core.proofs.KeepLemmas.{keeps_none, keeps_join, pushes_join}
+use Rattle.router_core.proofs.StandLemmas.{one_peer, peer_of, stands_with, live_routed, routes_there, routes_twice}
+use Rattle.router_core.proofs.KeepLemmas.{keeps_join, pushes_join}
 
 silent_up : (up : Bool) (c : Chained) → up ≡ true → IsSilent up c
 silent_up true c is = tt
@@ -79,12 +79,6 @@ module _ (k : ℕ) where
     where
       the_state : (ℕ → Routes) → LiveState
       the_state routes = record l { routes = routes }
-
-  pub fed_none : (m : Moment) → Stands m → HaveFed k [] m m []
-  fed_none m stands = record {
-    feeds = (refl, refl);
-    keeps = subst (λ (r : ℕ → Routes). Keeps (live_by m r) m m []) (sym (routes_same (live_state m).routes k ((live_state m).routes k) refl)) (keeps_none m stands);
-  }
 
   pub fed_join : (xs ys : List (Network × Option Attrs)) (m between m' : Moment) (a b : List Line) → HaveFed k xs m between a → HaveFed k ys between m' b → HaveFed k (xs ++ ys) m m' (a ++ b)
   fed_join xs ys m between m' a b f g = record {

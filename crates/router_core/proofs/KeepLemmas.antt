@@ -88,7 +88,7 @@ module _ (a b c : Moment) (xs ys : List Line) where
 
 -- ---- events
 pub acts_of : (m m' : Moment) (event : Event) (turns : ℕ) (said : List Line) → HasStepped m event turns m' said → Acts m event turns m' said
-acts_of m m' event turns said h = record { block = h.block; leads = h.keeps.leads; live = subst (LiveAfter (live_state m) event) (sym h.keeps.live) h.after }
+acts_of m m' event turns said h = record { block = h.block; leads = h.keeps.leads; live = subst (LiveAfter (live_state m) event) (sym h.keeps.live) h.after; stands = h.keeps.stands }
 
 -- an event that leaves the router as it is
 pub steps_said : (m : Moment) (event : Event) (turns : ℕ) (said : List Line) → Stands m → IsBlock m event said turns m → LiveAfter (live_state m) event (live_state m) → entries_of said ≡ [] → HasStepped m event turns m said

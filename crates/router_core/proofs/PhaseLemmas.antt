@@ -41,9 +41,6 @@ spends_join f r a b c d g x y = record {
 }
 
 -- a turn brings the end of its phase nearer
-pub spends_less : (f : Frame) (r : Phase) (c d : Counts) → Spends f r 1 c d → d r < c r
-spends_less f r c d x = let p = x.falls in omega arith
-
 bounds_more : (f : Frame) (rs : List Phase) (c d : Counts) → ((e : Phase) → c e ≤ d e) → bounds f rs c ≤ bounds f rs d
 bounds_more f [] c d most = omega arith
 bounds_more f (r ∷ rs) c d most =

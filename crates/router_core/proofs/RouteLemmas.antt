@@ -18,7 +18,7 @@ use Rattle.journal_text.specs.declared.line.Line.{Line}
 use Rattle.journal_text.specs.Journals.{Journaled, with_entries, Adds}
 use Rattle.journal_text.specs.Texts.{entries_of}
 use Rattle.journal_text.specs.Walk.{Leads}
-use Rattle.journal_text.proofs.JournalLemmas.{with_entries_append, with_entries_none, entries_of_entries}
+use Rattle.journal_text.proofs.JournalLemmas.{with_entries_append, entries_of_entries}
 use Rattle.journal_text.proofs.WalkLemmas.{leads_append}
 use Rattle.register_interest.specs.Registers.{Registry, put_row}
 use Rattle.rib_tree.specs.Branches.{Branch}
@@ -52,9 +52,6 @@ keeps_up r r' old new p (Some change) registers is sent =
 pub fib_sent : (old new : Rows Interior) (p : Network) (sent : Option (Change Interior)) (below : Option (Change FibRow)) → Forwards sent below → IsSent old new p sent → IsSent (forwarded old) (forwarded new) p below
 fib_sent old new p None below none same = subst (λ (b : Option (Change FibRow)). IsSent (forwarded old) (forwarded new) p b) (sym none) (ap forwarded same)
 fib_sent old new p (Some change) below fib sent = fib old new p sent
-
-pub not_followed : (m : Moment) (before : Journaled) → Follows None m m before before
-not_followed m before = record { register = refl; after = refl; below = None; fib = refl; lines = sym (with_entries_none before) }
 
 pub followed : (change : Change Interior) (m : Moment) (r : Registry Interior) (before now : Journaled) → Registers (Some change) m.registry r → PushesForwarded change before now
     → Follows (Some change) m (with_rib m m.tree r) before now

@@ -5,6 +5,7 @@ use Rattle.std.specs.List.{AllByRecursion}
 use Rattle.journal_text.specs.declared.link.Task.{Task}
 use Rattle.journal_text.specs.declared.line.Line.{Line}
 use Rattle.journal_text.specs.Journals.{Journaled, flushed}
+use Rattle.loss_chain.proofs.ListLemmas.{all_appended}
 use Rattle.in_chain.specs.Laws.{TurnsAreBounded, TurnsAreLeft}
 use Rattle.rib_tree.specs.Trees.{tree_count}
 use Rattle.router_core.specs.declared.router.Phase.{Phase}
@@ -60,16 +61,6 @@ given_none task m before j stands is = gives_none (HaveRun task m 0 m) before j 
 pub given_more : (task : Task) (n : ℕ) (m between m' : Moment) (before j now : Journaled) → HaveGiven task n m between before j → Gives (IsUnit task between m') j now
     → HaveGiven task (n + 1) m m' before now
 given_more task n m between m' before j now g u = gives_join (HaveRun task m n between) (IsUnit task between m') (HaveRun task m (n + 1) m') (λ xs ys p q. run_more task n m between m' xs ys p q) before j now g u
-
--- a turn brings the end nearer
-pub unit_less : (task : Task) (m m' : Moment) (before now : Journaled) → Gives (IsUnit task m m') before now → counts m' (phase_of task) < counts m (phase_of task)
-unit_less task m m' before now u = let falls = u.2.work.spends.falls in omega (arith, falls)
-
--- where the task has no work left
-pub given_end : (task : Task) (n : ℕ) (m between m' : Moment) (before j now : Journaled) → HaveGiven task n m between before j → (has_work task between ≡ false) × (m' ≡ between) × (now ≡ j) → Gives (HasDrained task m n m') before now
-given_end task n m between m' before j now g end =
-    subst (λ (x : Journaled). Gives (HasDrained task m n m') before x) (sym end.2) (subst (λ (x : Moment). Gives (HasDrained task m n x) before j) (sym end.1)
-    (gives_so (HaveRun task m n between) (HasDrained task m n between) (λ xs r. record { run = r; ended = end.0 }) before j g))
 
 -- ---- tasks of a phase
 abbrev pub HaveGivenOf : Phase → ℕ → Moment → Moment → Journaled → Journaled → Type 0
@@ -165,10 +156,6 @@ bounds_fit law m stands =
 pub idling_none : (m : Moment) (before j : Journaled) → Stands m → j ≡ flushed before → Gives (Idling 0 0 m m) before j
 idling_none m before j stands is = gives_none (Idling 0 0 m m) before j (record { runs = (refl, refl, refl); keeps = keeps_none m stands; within = omega arith; over = tt }) is
 
-all_push : (P : Phase → Type 0) (rs : List Phase) (r : Phase) → AllByRecursion P rs → P r → AllByRecursion P (rs ++ r ∷ [])
-all_push P [] r all one = (one, tt)
-all_push P (e ∷ rs) r all one = (all.0, all_push P rs r all.1 one)
-
 pub idling_more : (i turns n : ℕ) (x : Phase) (m at now : Moment) (before j j' : Journaled) → i < length all_phases → Gives (Idling i turns m at) before j → Gives (HaveDrained (get_or all_phases i x) at n now) j j'
     → Gives (Idling (i + 1) (turns + n) m now) before j'
 idling_more i turns n x m at now before j j' within g d = gives_join (Idling i turns m at) (HaveDrained r at n now) (Idling (i + 1) (turns + n) m now) both before j j' g d
@@ -195,7 +182,7 @@ idling_more i turns n x m at now before j j' within g d = gives_join (Idling i t
           keeps = keeps_on m at now xs ys (live_state m) x.keeps y.work.keeps;
           within = omega (arith, step, was);
           over = subst (λ (l : List Phase). AllByRecursion (λ e. counts now e ≡ 0) l) first
-              (all_push (λ e. counts now e ≡ 0) (take i all_phases) r (over_more f r n (counts at) (counts now) (take i all_phases) spends flat x.over) (over_none r now y.over));
+              (all_appended (λ e. counts now e ≡ 0) (λ e. counts now e ≡ 0) (λ e none. none) (take i all_phases) r (over_more f r n (counts at) (counts now) (take i all_phases) spends flat x.over) (over_none r now y.over));
         }
 
 pub idling_done : TurnsAreBounded → TurnsAreLeft → (i turns : ℕ) (m now : Moment) (before j : Journaled) → Stands m → length all_phases ≤ i → Gives (Idling i turns m now) before j → Gives (AllHaveDrained m turns now) before j

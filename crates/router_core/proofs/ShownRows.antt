@@ -12,6 +12,7 @@ use Rattle.addr4.specs.Prefixes.{Network, prefix_cmp, ComesBefore}
 use Rattle.addr4.specs.Places.{IsBeyond, IsShort, beyond}
 use Rattle.addr4.proofs.PrefixOrder.{prefixes_total, exact_prefixes}
 use Rattle.addr4.proofs.RankLemmas.{rank_beyond, further}
+use Rattle.loss_chain.proofs.ListLemmas.{all_appended}
 use Rattle.link_change.specs.Rows.{Rows, Candidates, IsNextCandidate, CoversRows, with_rows}
 use Rattle.journal_text.specs.declared.value.Value.{Value}
 use Rattle.journal_text.specs.declared.link.Link.{Link}
@@ -52,18 +53,10 @@ pub none_shown : (rows : Rows Value) → IsShown rows None []
 unfolding IsStrictlySortedBy
 none_shown rows = record { order = tt; before = λ p _. tt; each = tt; rest = λ q _. inl tt }
 
-all_push : {X : Type 0} (P : X → Type 0) (xs : List X) (x : X) → AllByRecursion P xs → P x → AllByRecursion P (xs ++ x ∷ [])
-all_push P [] x all one = (one, tt)
-all_push P (y ∷ ys) x all one = (all.0, all_push P ys x all.1 one)
-
-all_all : {X : Type 0} (P Q : X → Type 0) → ((x : X) → P x → Q x) → (xs : List X) → AllByRecursion P xs → AllByRecursion Q xs
-all_all P Q to [] all = tt
-all_all P Q to (x ∷ xs) all = (to x all.0, all_all P Q to xs all.1)
-
 sorted_push : (ks : List Network) (p : Network) → IsStrictlySortedBy prefix_cmp ks → AllByRecursion (λ q. ComesBefore q p) ks → IsStrictlySortedBy prefix_cmp (ks ++ p ∷ [])
 unfolding IsStrictlySortedBy
 sorted_push [] p sorted before = (tt, tt)
-sorted_push (k ∷ ks) p sorted before = (all_push (λ q. prefix_cmp k q ≡ Less) ks p sorted.0 before.0, sorted_push ks p sorted.1 before.1)
+sorted_push (k ∷ ks) p sorted before = (all_appended (λ q. prefix_cmp k q ≡ Less) (λ q. prefix_cmp k q ≡ Less) (λ q less. less) ks p sorted.0 before.0, sorted_push ks p sorted.1 before.1)
 
 prefixes_push : (listed : List (Network × Value)) (p : Network) (v : Value) → map (λ r. r.0) (listed ++ (p, v) ∷ []) ≡ map (λ r. r.0) listed ++ p ∷ []
 prefixes_push listed p v = map-append (λ r. r.0) listed ((p, v) ∷ [])
@@ -74,8 +67,8 @@ module _ (candidates : Candidates) (rows : Rows Value) (covers : CoversRows cand
       → IsShown rows (Some p) (listed ++ (p, v) ∷ [])
   one_shown place listed p v next row is = record {
     order = subst (IsStrictlySortedBy prefix_cmp) push (sorted_push ks p is.order (is.before p next.0));
-    before = λ q beyond. subst (AllByRecursion (λ k. ComesBefore k q)) push (all_push (λ k. ComesBefore k q) ks p (is.before q (further place p q next.0 beyond)) beyond);
-    each = all_push (λ r. rows r.0 ≡ Some r.1) listed (p, v) is.each row;
+    before = λ q beyond. subst (AllByRecursion (λ k. ComesBefore k q)) push (all_appended (λ k. ComesBefore k q) (λ k. ComesBefore k q) (λ k less. less) ks p (is.before q (further place p q next.0 beyond)) beyond);
+    each = all_appended (λ r. rows r.0 ≡ Some r.1) (λ r. rows r.0 ≡ Some r.1) (λ r is. is) listed (p, v) is.each row;
     rest = λ q some. by_rest q some (is.rest q some);
   }
     where
@@ -136,10 +129,6 @@ IsPlaced (Some p) = (p.length ≤ 32) × (p.address < 2 ^ 32)
 pub short_place : (place : Option Network) → IsPlaced place → IsShort place
 short_place None is = tt
 short_place (Some p) is = omega (arith, is.0)
-
-pub place_low : (place : Option Network) → IsPlaced place → beyond place ≤ 2 ^ 40
-place_low None is = omega arith
-place_low (Some p) is = omega (arith, is.0, is.1)
 
 pub place_rises : (place : Option Network) (p : Network) → IsPlaced place → IsBeyond place p → beyond place < beyond (Some p)
 place_rises place p is further = let le = rank_beyond place p (short_place place is) further in omega arith

@@ -36,6 +36,7 @@ use Rattle.peer_side.specs.Peers.{Chains, chain_at, put_chain, overdue_at}
 use Rattle.peer_side.specs.Steps.{EditsPeer, LosesPeer}
 use Rattle.router_core.specs.Moments.{Moment, with_chains, with_rib, router_links, bound_of}
 use Rattle.router_core.specs.Lives.{LiveAfter, live_state, changes_of, Says}
+use Rattle.router_core.specs.Stands.{Stands}
 use Rattle.router_core.specs.Phases.{all_phases}
 use Rattle.router_core.specs.Scratch.{IsExact}
 use Rattle.router_core.specs.Turns.{journal_lines, InPeers, FeedsAll, FallsRoute, Turns, Drains, RunsAll, IsSettled, has_work}
@@ -201,8 +202,9 @@ IsBlock m (Ask link p) said turns m' = Just (answer_lines link p (router_links m
 IsBlock m (Show link) said turns m' = (turns ≡ 0) × (m' ≡ m) × Shows link (router_links m link) said
 
 -- An event was stepped: its lines are as its block says, its entries obey the rules of the journal and lead from the links
--- before it to those after it, and the live state is what the events alone make of it.
+-- before it to those after it, the live state is what the events alone make of it, and what holds between two steps holds.
 pub record Acts (m : Moment) (event : Event) (turns : ℕ) (m' : Moment) (said : List Line) : Type 0 where
   pub block : IsBlock m event said turns m'
   pub leads : Leads (router_links m) (entries_of said) (router_links m')
   pub live : LiveAfter (live_state m) event (live_state m')
+  pub stands : Stands m'

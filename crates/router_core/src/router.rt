@@ -118,9 +118,14 @@ impl Core {
     }
 
     /// How many rows a link has; None exactly where it isn't live. Memory for want of memory: each row of `filt.K` is judged.
+    /// After want of memory the core answers nothing else.
     pub fn count(&self, link: Link) -> Result<Option<u128>, Memory>
-        ensures { IfOk result (IsCountOf (router_links self.now.moment link)) }
+        ensures rows { IfOk result (IsCountOf (router_links self.now.moment link)) }
+        ensures stays { self.now.failed ≡ true → IsErr result }
     {
+        if self.failed {
+            return Err(Memory);
+        }
         self.network.count(link)
     }
 
