@@ -16,7 +16,7 @@ use Rattle.journal_text.specs.declared.entry.Entry.{Entry}
 use Rattle.journal_text.specs.declared.entry.Entry.TheVariants.{Begin, Inherit, Add, Delete, Replace, Asked, Weld, End}
 use Rattle.journal_text.specs.declared.line.Code.{Code}
 use Rattle.journal_text.specs.declared.line.Line.{Line}
-use Rattle.journal_text.specs.declared.line.Line.TheVariants.{Journal, Note, Row, Rows, Cover, Work, Bound, Idle, Ignored, Absent, Refused}
+use Rattle.journal_text.specs.declared.line.Line.TheVariants.{Journal, Out, Note, Row, Rows, Cover, Work, Bound, Idle, Ignored, Absent, Refused}
 use Rattle.journal_check.specs.Readings.{TextEntry, is_clean, read_or_not, reading_from, reading_of}
 use Rattle.journal_check.specs.Judged.{entries_in, joined, each_read, entries_read, IsChecked}
 use Rattle.journal_check.specs.Laws.{IsAnswer, IsEntry, IsLine, said, texts_of}
@@ -54,6 +54,7 @@ printable b = nat_le 32 b && nat_le b 126
 
 is_said : (line : Line) → read_or_not None ≡ said line → ⊥
 is_said (Journal entry) e = absurd (cc)
+is_said (Out k octets) e = absurd (cc)
 is_said (Note k octets) e = absurd (cc)
 is_said (Row link p value) e = absurd (cc)
 is_said (Rows link count) e = absurd (cc)
@@ -98,6 +99,7 @@ no_return text e = ap (λ b. cond b (take (length text - 1) text) text) (no_cr_a
 -- the entries that are read of the line
 entries_said : (line : Line) → entries_in (said line) ≡ Some (text_entries (entry_list line))
 entries_said (Journal entry) = refl
+entries_said (Out k octets) = refl
 entries_said (Note k octets) = refl
 entries_said (Row link p value) = refl
 entries_said (Rows link count) = refl
@@ -174,6 +176,7 @@ AreExact peers entries = AllByRecursion (λ e. AllByRecursion (IsWellTold peers)
 
 line_exact : (peers : ℕ → Option Neighbour) (line : Line) → IsLine line → AllByRecursion (IsTold peers) (values_in line) → AreExact peers (entry_list line)
 line_exact peers (Journal entry) h told = (values_exact peers entry h told, tt)
+line_exact peers (Out k octets) h told = tt
 line_exact peers (Note k octets) h told = tt
 line_exact peers (Row link p value) h told = tt
 line_exact peers (Rows link count) h told = tt
@@ -231,6 +234,7 @@ all_if_loud (line ∷ lines) = ap (λ ls. line ∷ ls) (all_if_loud lines)
 none_if_quiet : (lines : List Line) → entries_of (kept true lines) ≡ []
 none_if_quiet [] = refl
 none_if_quiet (Journal entry ∷ lines) = none_if_quiet lines
+none_if_quiet (Out k octets ∷ lines) = none_if_quiet lines
 none_if_quiet (Note k octets ∷ lines) = none_if_quiet lines
 none_if_quiet (Row link p value ∷ lines) = none_if_quiet lines
 none_if_quiet (Rows link count ∷ lines) = none_if_quiet lines

@@ -24,7 +24,7 @@ use Rattle.journal_text.specs.declared.entry.Entry.TheVariants.{Begin, Inherit, 
 use Rattle.journal_text.specs.declared.line.Code.{Code}
 use Rattle.journal_text.specs.declared.line.Code.TheVariants.{E1, E2, E3, E4, E5, E6}
 use Rattle.journal_text.specs.declared.line.Line.{Line}
-use Rattle.journal_text.specs.declared.line.Line.TheVariants.{Journal, Note, Row, Rows, Cover, Work, Bound, Idle, Ignored, Absent, Refused}
+use Rattle.journal_text.specs.declared.line.Line.TheVariants.{Journal, Out, Note, Row, Rows, Cover, Work, Bound, Idle, Ignored, Absent, Refused}
 use Rattle.journal_check.specs.Laws.{IsPrefix, IsNumberIfAny, HasRanges, HasRouteRanges, IsValue, IsAnswer, IsMatch, IsEntry, IsLine}
 use Rattle.journal_laws.specs.Printed.{HasRoom, HasShortText, answer_values, values_of, values_in, octets_in}
 use Rattle.journal_laws.specs.Laws.{PrintedLinesAreShort}
@@ -166,6 +166,9 @@ short_code E6 = omega arith
 
 line_short : (line : Line) → IsLine line → AllByRecursion HasShortText (values_in line) → length (octets_in line) ≤ 4096 → length (words_line (line_words line)) ≤ 65537
 line_short (Journal entry) h short few = entry_line entry h short
+line_short (Out k octets) h short few =
+    let words = codes "out" ∷ decimal k ∷ encode_lower octets ∷ [] in
+    omega (arith, short_number k h.0, length-encode_with lower_digits octets, joined 32 words, length-append (join_with_byte 32 words) (10 ∷ []))
 line_short (Note k octets) h short few =
     let words = codes "note" ∷ decimal k ∷ encode_lower octets ∷ [] in
     omega (arith, short_number k h.0, length-encode_with lower_digits octets, joined 32 words, length-append (join_with_byte 32 words) (10 ∷ []))

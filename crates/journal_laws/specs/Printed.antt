@@ -12,7 +12,7 @@ use Rattle.journal_text.specs.declared.value.Value.TheVariants as values
 use Rattle.journal_text.specs.declared.entry.Entry.{Entry}
 use Rattle.journal_text.specs.declared.entry.Entry.TheVariants.{Begin, Inherit, Add, Delete, Replace, Asked, Weld, End}
 use Rattle.journal_text.specs.declared.line.Line.{Line}
-use Rattle.journal_text.specs.declared.line.Line.TheVariants.{Journal, Note, Row, Rows, Cover, Work, Bound, Idle, Ignored, Absent, Refused}
+use Rattle.journal_text.specs.declared.line.Line.TheVariants.{Journal, Out, Note, Row, Rows, Cover, Work, Bound, Idle, Ignored, Absent, Refused}
 use Rattle.journal_check.specs.Laws.{IsValue, IsLine}
 
 -- ---- values that are short
@@ -84,6 +84,7 @@ values_of (End link) = []
 -- the values in a line
 abbrev pub values_in : Line → List Value
 values_in (Journal entry) = values_of entry
+values_in (Out k octets) = []
 values_in (Note k octets) = []
 values_in (Row link p value) = value ∷ []
 values_in (Rows link count) = []
@@ -98,6 +99,7 @@ values_in (Refused number code) = []
 -- the octets of the message in a line
 abbrev pub octets_in : Line → List ℕ
 octets_in (Journal entry) = []
+octets_in (Out k octets) = octets
 octets_in (Note k octets) = octets
 octets_in (Row link p value) = []
 octets_in (Rows link count) = []

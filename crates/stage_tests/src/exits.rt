@@ -15,13 +15,13 @@ use std::alloc::Global;
 use std::test::Fail;
 use wire_laws::internal_peers_read_as_much;
 
-pub(crate) const PLAIN: Profile = Profile {
+const PLAIN: Profile = Profile {
     as4: false,
     revised: false,
 };
 
 /// The local speaker: AS 65000 at 192.0.2.254.
-pub(crate) fn local() -> Speaker
+fn local() -> Speaker
     ensures { (revised : Bool) → IsSender (record { as4 = false; revised = revised }) result }
 {
     Speaker {
@@ -63,7 +63,7 @@ fn row_heard(alloc: Global, update: Update) -> Result<Option<Route>, Memory>
 }
 
 /// The route that an external peer announces, with preference 100.
-pub(crate) fn heard(alloc: Global, octets: &[u8]) -> Result<Option<Route>, Memory>
+fn heard(alloc: Global, octets: &[u8]) -> Result<Option<Route>, Memory>
     ensures { IfOk result (λ row. ForSome row (λ r. MayBeHeard PLAIN r.attrs)) }
 {
     internal_peers_read_as_much();
@@ -126,7 +126,7 @@ fn times(alloc: Global, digits: &str, count: u16) -> Result<Vec<u8>, Memory> {
 }
 
 /// Octets in pieces behind a marker of ones.
-pub(crate) fn marked(alloc: Global, pieces: &[(&str, u16)]) -> Result<Vec<u8>, Memory> {
+fn marked(alloc: Global, pieces: &[(&str, u16)]) -> Result<Vec<u8>, Memory> {
     let mut out = times(alloc, "ff", 16)?;
     for piece in pieces {
         let octets = times(alloc, piece.0, piece.1)?;
@@ -154,7 +154,7 @@ fn is_told(
     }
 }
 
-pub(crate) const U1: &str = "002c0200000012400101004002040201fde9400304c0000201100a01";
+const U1: &str = "002c0200000012400101004002040201fde9400304c0000201100a01";
 
 #[test]
 fn the_second_peer_hears_of_the_first(rt: HostRuntime) -> Result<(), Fail> {

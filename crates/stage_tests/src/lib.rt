@@ -18,5 +18,3 @@ mod outgoing;
 mod prefixes;
 #[cfg(test)]
 mod redistribution;
-#[cfg(test)]
-mod sessions;
