@@ -1,4 +1,4 @@
-//! Stories of stages: a chain of live rows and deletion stages, the decision, outgoing filters, what a peer is sent, each
+//! Stories of stages: a chain of live rows and deletion stages, next hops, the decision, outgoing filters, what a peer is sent, each
 //! public call on its happy path.
 //!
 //! The crates that these tests are of have none of their own: a crate with tests is proved once more with them.
@@ -10,6 +10,8 @@ mod chains;
 mod decisions;
 #[cfg(test)]
 mod exits;
+#[cfg(test)]
+mod hops;
 #[cfg(test)]
 mod outgoing;
 #[cfg(test)]
