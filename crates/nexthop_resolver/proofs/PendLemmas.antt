@@ -3,11 +3,12 @@ use Rattle.std.proofs.Common.{◌≡◌, ◌≢◌, ◌⊎◌, ℕ, zero, suc, B
 use Rattle.std.specs.List.{Contains}
 use Rattle.std.specs.Option.{option_map}
 use Rattle.std.specs.Ordering.{nat_cmp}
+use Rattle.std.specs.FinMap as map
 use Rattle.std.specs.FinMap.{get, empty, get-empty}
 use Rattle.addr4.specs.Prefixes.{Network}
 use Rattle.rib_route.specs.declared.rows.Interior.{Interior}
 use Rattle.register_interest.specs.declared.interests.Interest.{Interest}
-use Rattle.register_interest.specs.Interests.{without}
+use Rattle.register_interest.specs.Interests.{interest_cmp, without}
 use Rattle.register_interest.specs.Registers.{Registry, KeepsAnswers}
 use Rattle.register_interest.proofs.InterestLemmas.{interests_total, exact_interests, without_others, without_listed}
 use Rattle.register_interest.proofs.MapLemmas.{by_key}
@@ -43,6 +44,10 @@ cases_listed (x ∷ xs) k = elim (cases_interest x k) [
 
 none_some : {X : Type 0} (o : Option X) (P : Type 0) → o ≡ None → is_some o ≡ true → P
 none_some o P e s = absurd (let clash : false ≡ true = sym (ap is_some e) ∙ s in cc)
+
+-- none is kept where there is none
+pub none_yet : {R : Type 0} (client : ℕ) (r : Registry R) → r.interests ≡ empty → (s : Network) → interest_of client r s ≡ false
+none_yet client r e s = ap (λ x. map.contains_key x (record { subnet = s; client = client })) e ∙ ap is_some (get-empty interest_cmp (record { subnet = s; client = client }))
 
 module _ {A : Type 0} (kept : Option (Network × Interior) → A) where
   pub nothing_yet : (client : ℕ) (r : Registry Interior) → ((s : Network) → interest_of client r s ≡ false) → Agrees kept client empty r

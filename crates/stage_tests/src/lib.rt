@@ -1,4 +1,4 @@
-//! Stories of stages: a chain of live rows and deletion stages, the decision, outgoing filters, what a peer is sent, a session,
+//! Stories of stages: a chain of live rows and deletion stages, next hops, the decision, outgoing filters, what a peer is sent,
 //! redistribution, the splitter and the forwarding table, each public call on its happy path.
 //!
 //! The crates that these tests are of have none of their own: a crate with tests is proved once more with them.
@@ -12,6 +12,8 @@ mod decisions;
 mod exits;
 #[cfg(test)]
 mod forwarding;
+#[cfg(test)]
+mod hops;
 #[cfg(test)]
 mod outgoing;
 #[cfg(test)]
