@@ -17,24 +17,14 @@ impl Answer for Metric {
     }
 }
 
-fn learn(
-    known: &mut Known<Metric>,
-    hop: Addr,
-    subnet: Prefix,
-    metric: u32,
-) -> Result<(), Memory> {
+fn learn(known: &mut Known<Metric>, hop: Addr, subnet: Prefix, metric: u32) -> Result<(), Memory> {
     if known.in_force(hop).is_none() {
         known.learn(hop, subnet, Metric(metric))?;
     }
     Ok(())
 }
 
-fn answer(
-    known: &mut Known<Metric>,
-    hop: Addr,
-    subnet: Prefix,
-    metric: u32,
-) -> Result<(), Memory> {
+fn answer(known: &mut Known<Metric>, hop: Addr, subnet: Prefix, metric: u32) -> Result<(), Memory> {
     if known.is_stale(hop) {
         known.fresh(hop, subnet, Metric(metric))?;
     }
