@@ -1,4 +1,4 @@
-//! Stories of what leaves the router: the forwarding table's rows, and the session of a peer, each public call on its happy path.
+//! A story of what leaves the router: the forwarding table's rows, each public call on its happy path.
 //!
 //! The crates that these tests are of have none of their own: a crate with tests is proved once more with them.
 #![tactic(auto)]
@@ -7,5 +7,3 @@
 mod forwarding;
 #[cfg(test)]
 mod given;
-#[cfg(test)]
-mod sessions;
