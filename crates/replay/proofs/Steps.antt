@@ -13,7 +13,7 @@ use Rattle.event_text.specs.declared.event.Event.{Event}
 use Rattle.router_core.specs.Moments.{Moment, Gives, router_links}
 use Rattle.router_core.specs.Stands.{Stands}
 use Rattle.router_core.specs.Lives.{live_state}
-use Rattle.router_core.specs.Laws.{DeclarationsFollow}
+use Rattle.live_state.specs.Laws.{DeclarationsFollow}
 use Rattle.router_core.specs.Blocks.{Acts}
 use Rattle.replay.specs.Judging.{judge}
 use Rattle.replay.proofs.SettledLinks.{idle_exact}

@@ -5,7 +5,7 @@ use Rattle.journal_text.specs.declared.line.Code.TheVariants.{E6}
 use Rattle.event_text.specs.declared.event.Event.{Event}
 use Rattle.event_text.specs.Events.{read_event}
 use Rattle.event_text.specs.Declarations.{Declaration, no_declaration, refusal}
-use Rattle.router_core.specs.Lives.{declared_after}
+use Rattle.live_state.specs.Declared.{declared_after}
 use Rattle.replay.specs.declared.status.Status.{Status}
 use Rattle.replay.specs.declared.status.Status.TheVariants as statuses
 use Rattle.check_run.specs.Lines.{lines_of}

@@ -9,7 +9,7 @@ use Rattle.event_text.specs.declared.event.Event.{Event}
 use Rattle.event_text.specs.declared.event.Event.TheVariants.{Idle}
 use Rattle.router_core.specs.Moments.{Moment, first_moment, router_links}
 use Rattle.router_core.specs.Stands.{Stands}
-use Rattle.router_core.specs.Lives.{declared_after}
+use Rattle.live_state.specs.Declared.{declared_after}
 use Rattle.router_core.specs.Scratch.{IsExact}
 use Rattle.router_core.specs.Blocks.{Acts}
 use Rattle.replay.specs.Judging.{judge, verdict}

@@ -7,7 +7,8 @@ ghost use Rattle.replay.specs.Stream.{IsReady, StepsLine, RefusesLine, made};
 use addr4::Memory;
 use event_text::{Event, admit, parse};
 use journal_text::{Code, Journal, Line, Value, journals_join};
-use router_core::{Core, declarations_follow};
+use live_state::declarations_follow;
+use router_core::Core;
 use std::alloc::Global;
 
 /// The number of the line that is refused whatever it holds: 2^32 - 1 events are the most.

@@ -17,9 +17,10 @@ use Rattle.router_core.specs.Moments.{Moment, Cored, first_moment, Gives}
 use Rattle.router_core.specs.Stands.{Stands, CoreStands, Claim, Claims, EachChain, EachPeer, InteriorTree, OneSpeaker, Registered, SameCount, StandsAt, Tie, Ties, here}
 use Rattle.router_core.specs.Blocks.{Acts}
 use Rattle.router_core.specs.Works.{HasStepped, Keeps}
-use Rattle.router_core.specs.Lives.{LiveState, live_state}
+use Rattle.live_state.specs.Lives.{LiveState}
+use Rattle.router_core.specs.Lives.{live_state}
 use Rattle.router_core.proofs.KeepLemmas.{acts_of}
-use Rattle.router_core.proofs.SessionLemmas.{losses_follow}
+use Rattle.live_state.proofs.SessionLemmas.{losses_follow}
 use Rattle.router_core.proofs.LocalLemmas.{int_empty}
 use Rattle.addr4.specs.Prefixes.{Network}
 use Rattle.link_change.specs.Rows.{Rows}

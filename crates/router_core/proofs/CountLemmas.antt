@@ -23,7 +23,8 @@ use Rattle.router_core.specs.declared.router.Phase.{Phase}
 use Rattle.router_core.specs.declared.router.Phase.TheVariants.{Rdel, Del, Fin}
 use Rattle.router_core.specs.Moments.{Moment}
 use Rattle.router_core.specs.Stands.{Stands, InteriorTree, EachChain}
-use Rattle.router_core.specs.Lives.{LiveState, live_state}
+use Rattle.live_state.specs.Lives.{LiveState}
+use Rattle.router_core.specs.Lives.{live_state}
 use Rattle.router_core.specs.Phases.{Frame, tree_lost, counts, Spends}
 use Rattle.router_core.specs.Turns.{phase_bound, IsOver}
 use Rattle.router_core.proofs.PhaseLemmas.{spends_one}

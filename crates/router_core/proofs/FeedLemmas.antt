@@ -17,7 +17,8 @@ use Rattle.loss_chain.proofs.TableLemmas.{same_by}
 use Rattle.peer_side.specs.Peers.{Chains}
 use Rattle.peer_side.specs.Steps.{FeedsInward}
 use Rattle.router_core.specs.Moments.{Moment, with_chains}
-use Rattle.router_core.specs.Lives.{LiveState, Routes, live_state, with_routes, routes_after, live_fed}
+use Rattle.live_state.specs.Lives.{LiveState, Routes, with_routes, routes_after, live_fed}
+use Rattle.router_core.specs.Lives.{live_state}
 use Rattle.router_core.specs.Stands.{IsSilent, PeerStands, Stands, open_session}
 use Rattle.router_core.specs.Turns.{FeedsAll, journal_lines}
 use Rattle.router_core.specs.Works.{Pushes, IsUpAt, Keeps, HaveFed}

@@ -11,7 +11,8 @@ use Rattle.journal_text.proofs.JournalLemmas.{text_of_append, entries_of_append,
 use Rattle.journal_text.proofs.WalkLemmas.{leads_append, leads_nowhere}
 use Rattle.event_text.specs.declared.event.Event.{Event}
 use Rattle.router_core.specs.Moments.{Moment, router_links, Gives}
-use Rattle.router_core.specs.Lives.{LiveState, live_state, LiveAfter}
+use Rattle.live_state.specs.Lives.{LiveState, LiveAfter}
+use Rattle.router_core.specs.Lives.{live_state}
 use Rattle.router_core.specs.Stands.{Stands}
 use Rattle.router_core.specs.Blocks.{IsBlock, Acts}
 use Rattle.router_core.specs.Works.{Pushes, Keeps, HasStepped}

@@ -1,7 +1,6 @@
 mod CoreLemmas
 mod LocalLemmas
 pub mod PeerLemmas
-mod SessionLemmas
 mod ShownRows
 mod UpdateLemmas
 pub mod RegionLemmas

@@ -12,7 +12,7 @@ use Rattle.in_chain.specs.Steps.{lost}
 use Rattle.peer_side.specs.Peers.{Chains, chain_at, overdue_at, overdue_by, AreBefore}
 use Rattle.peer_side.specs.Steps.{MayLose, LosesInward}
 use Rattle.router_core.specs.Moments.{Moment, Gives, with_chains}
-use Rattle.router_core.specs.Lives.{ended}
+use Rattle.live_state.specs.Lives.{ended}
 use Rattle.router_core.specs.Stands.{PeerStands, StandsAt, Stands, open_session}
 use Rattle.router_core.specs.Turns.{journal_lines}
 use Rattle.router_core.specs.Works.{Pushes, HasRoom, IsSession, HasLost, Ends}

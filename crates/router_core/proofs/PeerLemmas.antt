@@ -21,7 +21,8 @@ use Rattle.peer_side.specs.Peers.{Chains, chain_at, put_chain, peer_links, begin
 use Rattle.peer_side.specs.Steps.{EditsInward}
 use Rattle.peer_side.proofs.PutLemmas.{at_put, put_each, put_kept, put_more}
 use Rattle.router_core.specs.Moments.{Moment, with_chains}
-use Rattle.router_core.specs.Lives.{live_state, with_rules, begun_if_down}
+use Rattle.live_state.specs.Lives.{with_rules, begun_if_down}
+use Rattle.router_core.specs.Lives.{live_state}
 use Rattle.router_core.specs.Stands.{IsSilent, PeerStands, StandsAt, Stands, Claim, Claims, EachChain, EachPeer, InteriorTree, OneSpeaker, SameCount}
 use Rattle.router_core.specs.Turns.{journal_lines}
 use Rattle.router_core.specs.Blocks.{ByPeer, BeginsIf, Declares, declared_speaker, declared_peer, begun}

@@ -16,7 +16,8 @@ use Rattle.rib_tree.specs.Trees.{Treed, branch_of, int_rows, IsTree, IsFull, Are
 use Rattle.rib_tree.specs.Falls.{LeadsTree}
 use Rattle.rib_tree.specs.Steps.{lost_tree, tree_loss_entries, tree_overdue}
 use Rattle.router_core.specs.Moments.{Moment, router_links, Gives, with_rib}
-use Rattle.router_core.specs.Lives.{live_state, interior_lost}
+use Rattle.live_state.specs.Lives.{interior_lost}
+use Rattle.router_core.specs.Lives.{live_state}
 use Rattle.router_core.specs.Stands.{Stands, InteriorTree}
 use Rattle.router_core.specs.Turns.{journal_lines}
 use Rattle.router_core.specs.Works.{Pushes, EndsProtocol, HasProtocolRoom, HasStepped}

@@ -29,7 +29,8 @@ use Rattle.rib_tree.specs.Falls.{FallsTree, LeadsTree, way_of_route}
 use Rattle.rib_merge.specs.Forwards.{forwarded}
 use Rattle.rib_tree.specs.Steps.{welded_tree, fed_tree, tree_weld_entries}
 use Rattle.router_core.specs.Moments.{with_rib, Moment, router_links}
-use Rattle.router_core.specs.Lives.{live_state, with_interior, with_losses, interior_fed}
+use Rattle.live_state.specs.Lives.{with_interior, with_losses, interior_fed}
+use Rattle.router_core.specs.Lives.{live_state}
 use Rattle.router_core.specs.Stands.{Stands, Claim, Claims, InteriorTree, Tie, Ties, Registered, here}
 use Rattle.router_core.specs.Turns.{journal_lines, fib_entries, FallsRoute, Registers}
 use Rattle.router_core.specs.Works.{Forwards, Follows, Settles, PushesForwarded, HasRouted, Pushes}

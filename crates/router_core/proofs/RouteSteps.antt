@@ -17,7 +17,8 @@ use Rattle.rib_tree.specs.Trees.{branch_of}
 use Rattle.rib_tree.specs.Falls.{way_of_route}
 use Rattle.rib_tree.specs.Steps.{fed_tree}
 use Rattle.router_core.specs.Moments.{Moment, Gives}
-use Rattle.router_core.specs.Lives.{LiveState, Interiors, live_state, with_interior, interior_fed}
+use Rattle.live_state.specs.Lives.{LiveState, Interiors, with_interior, interior_fed}
+use Rattle.router_core.specs.Lives.{live_state}
 use Rattle.router_core.specs.Stands.{Stands}
 use Rattle.router_core.specs.Blocks.{DropsRouteIf}
 use Rattle.router_core.specs.Works.{HasRouted, HasStepped, Pushes}

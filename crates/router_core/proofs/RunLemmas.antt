@@ -12,7 +12,8 @@ use Rattle.router_core.specs.declared.router.Phase.{Phase}
 use Rattle.router_core.specs.declared.router.Phase.TheVariants.{Rdel, Del, Fin}
 use Rattle.peer_side.specs.Peers.{rows_in}
 use Rattle.router_core.specs.Moments.{Moment, bound_of, Gives}
-use Rattle.router_core.specs.Lives.{LiveState, live_state}
+use Rattle.live_state.specs.Lives.{LiveState}
+use Rattle.router_core.specs.Lives.{live_state}
 use Rattle.router_core.specs.Stands.{Stands, SameCount}
 use Rattle.router_core.specs.Phases.{Frame, Each, all_phases, counts, frame_of, rise, bounds, Spends}
 use Rattle.router_core.specs.Turns.{IsTurn, Turns, RunsPhase, RunsAll, phase_of, next_task, has_work, IsSettled}

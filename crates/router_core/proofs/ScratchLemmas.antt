@@ -1,7 +1,9 @@
--- Where no task has work, the links are what the live state alone asks for.
-use Rattle.std.proofs.Common.{◌≡◌, ℕ, Bool, true, cond, List, [], Option, Some, None, nat_eq, refl, sym, ap, ◌∙◌}
-use Rattle.std.specs.Prelude.{option_map}
+-- The links that no work holds up are what the live state alone asks for.
+use Rattle.std.proofs.Common.{◌≡◌, ℕ, ◌==◌, ◌&&◌, Bool, true, false, cond, List, [], ◌∷◌, Option, Some, None, is_some, nat_eq, refl, sym, ap, ◌∙◌, arith}
+use Rattle.std.specs.Prelude.{Contains, option_map}
 use Rattle.std.specs.FinMap as tables
+use Rattle.std.specs.FinMap.{FinMap}
+use Rattle.addr4.specs.Prefixes.{prefix_cmp}
 use Rattle.bgp_attr.specs.declared.attrs.Attrs.{Attrs}
 use Rattle.bgp_attr.specs.declared.speaker.Speaker.{Speaker}
 use Rattle.bgp_attr.specs.declared.speaker.Neighbour.{Neighbour}
@@ -11,10 +13,14 @@ use Rattle.pass_core.specs.Passed.{Walked, present, present_of}
 use Rattle.filter_bank.specs.Filtered.{passed_rows, filtered_rows}
 use Rattle.journal_text.specs.declared.link.Link.{Link}
 use Rattle.journal_text.specs.declared.link.Link.TheVariants.{In, Peer, Filt, Res, Org, Lost as LostOf, Low, Dyn, Int, Fib}
+use Rattle.journal_text.specs.declared.link.Task.{Task}
+use Rattle.journal_text.specs.declared.link.Task.TheVariants.{Del, Fin, Rdel}
+use Rattle.journal_text.specs.declared.value.Value.{Value}
 use Rattle.journal_text.specs.Values.{attrs_rows, route_rows, interior_rows, fib_rows}
 use Rattle.event_text.specs.declared.declared.DeclaredPeer.{DeclaredPeer}
 use Rattle.event_text.specs.Declarations.{peer_at}
 use Rattle.in_chain.specs.Incomings.{in_rows}
+use Rattle.loss_chain.specs.Steps.{table_of}
 use Rattle.loss_chain.specs.Tables.{rows_below, rows_above}
 use Rattle.in_chain.specs.Chains.{Chained, filt_rows}
 use Rattle.link_change.specs.Rows.{Rows}
@@ -23,18 +29,36 @@ use Rattle.rib_route.specs.declared.Proto.TheVariants.{Connected, Static, Ospf, 
 use Rattle.rib_route.specs.declared.rows.Interior.{Interior}
 use Rattle.rib_merge.specs.Merging.{merged}
 use Rattle.rib_tree.specs.Branches.{org_rows}
-use Rattle.loss_chain.specs.Tables.{rows_below as interiors_below, rows_above as interiors_above}
 use Rattle.rib_tree.specs.Trees.{branch_of, low_rows, dyn_rows, int_rows, interior_distance}
+use Rattle.rib_tree.specs.Forwards.{rib_links}
 use Rattle.rib_merge.specs.Forwards.{forwarded}
 use Rattle.router_core.specs.declared.router.Phase.TheVariants as phases
-use Rattle.peer_side.specs.Peers.{chain_at, links_by, routes_of, rules_of}
+use Rattle.peer_side.specs.Peers.{chain_at, links_by, routes_of, rules_of, has_turn_in}
+use Rattle.live_state.specs.Lives.{Routes, Interiors}
+use Rattle.live_state.specs.Decided.{live_rows, judged_rows, least_rows, origins, since_local, from_scratch}
+use Rattle.live_state.proofs.LeastLemmas.{least_of_two, least_of_four}
 use Rattle.router_core.specs.Moments.{Moment, rib_by, router_links}
-use Rattle.router_core.specs.Lives.{Routes, Interiors, live_state}
+use Rattle.router_core.specs.Lives.{live_state}
 use Rattle.router_core.specs.Stands.{StandsAt, Stands, EachChain, EachPeer, OneSpeaker}
-use Rattle.router_core.specs.Scratch.{live_rows, judged_rows, best_of, least_rows, since_local, from_scratch, IsExact}
-use Rattle.loss_chain.proofs.TableLemmas.{same_by}
+use Rattle.router_core.specs.Scratch.{IsAtRest, IsExactAt, IsExact}
+use Rattle.loss_chain.proofs.TableLemmas.{same_by, no_table, table_here}
 use Rattle.peer_side.proofs.LinkLemmas.{none_by}
-use Rattle.router_core.specs.Turns.{IsSettled}
+use Rattle.router_core.specs.Turns.{has_work, IsSettled}
+
+-- ---- stages without work
+-- where no stage has a turn, none stands
+no_stages : {R : Type 0} (ds : List (Lost R)) → ((n : ℕ) → is_some (table_of n ds) ≡ false) → ds ≡ []
+no_stages [] none = refl
+no_stages (d ∷ ds) none = absurd (let clash : true ≡ false = sym (ap is_some (table_here d.number d ds refl)) ∙ none d.number in cc)
+
+-- where that of a loss has none, no link leads into it
+no_link : {R : Type 0} (live : FinMap prefix_cmp R) (n : ℕ) (ds : List (Lost R)) → is_some (table_of n ds) ≡ false → rows_above live n ds ≡ None
+no_link live n [] none = refl
+no_link live n (d ∷ ds) none = by_test (d.number == n) none
+  where
+    by_test : (t : Bool) → is_some (cond t (Some d.rows) (table_of n ds)) ≡ false → cond t (Some (rows_below live ds)) (rows_above live n ds) ≡ None
+    by_test true some = absurd (let clash : true ≡ false = some in cc)
+    by_test false later = no_link live n ds later
 
 -- no peer, nothing to judge
 unjudged : (s : Option Speaker) (rules : List Rule) (routes : Routes) → judged_rows s None rules routes ≡ None
@@ -48,38 +72,42 @@ rows_settled c stages walk =
     ∙ ap (λ (ds : List (Lost Attrs)). filtered_rows c.me c.peer c.filter.in_force (rows_below c.incoming.tables.live ds)) stages
     ∙ ap (λ (w : Option (Walked (List Rule))). filtered_rows c.me c.peer (present_of c.filter.in_force w) (tables.get c.incoming.tables.live)) (sym walk)
 
-module _ (m : Moment) (stands : Stands m) (settled : IsSettled m) where
+module _ (m : Moment) (stands : Stands m) where
+  -- ---- peers
   here : (k : ℕ) (c : Chained) → chain_at k m.chains ≡ Some c → nat_eq k c.incoming.number ≡ true
   here k c at = same_by k c.incoming.number (sym (stands.own EachChain k c at).number)
 
-  no_stage : (k : ℕ) (c : Chained) → chain_at k m.chains ≡ Some c → c.incoming.tables.deletions ≡ []
-  no_stage k c at = settled phases.Del k c at
+  stage_rests : (k s : ℕ) (c : Chained) → chain_at k m.chains ≡ Some c → has_work (Del k s) m ≡ false → is_some (table_of s c.incoming.tables.deletions) ≡ false
+  stage_rests k s c at none = sym (ap (λ (b : Bool). b && is_some (table_of s c.incoming.tables.deletions)) (here k c at)) ∙ sym (ap (has_turn_in (Del k s)) at) ∙ none
 
-  no_walk : (k : ℕ) (c : Chained) → chain_at k m.chains ≡ Some c → c.filter.walk ≡ None
-  no_walk k c at = settled phases.Fin k c at
+  no_stage : (k : ℕ) (c : Chained) → chain_at k m.chains ≡ Some c → ((s : ℕ) → has_work (Del k s) m ≡ false) → c.incoming.tables.deletions ≡ []
+  no_stage k c at none = no_stages c.incoming.tables.deletions (λ s. stage_rests k s c at (none s))
 
-  in_exact : (k : ℕ) (p : Option DeclaredPeer) (c : Option Chained) → chain_at k m.chains ≡ c → StandsAt p c → links_by c (In k) ≡ option_map attrs_rows (live_rows p (routes_of c))
-  in_exact k None None at there = refl
-  in_exact k None (Some c) at there = absurd there
-  in_exact k (Some p) None at there = absurd there
-  in_exact k (Some p) (Some c) at there =
+  no_walk : (k : ℕ) (c : Chained) → chain_at k m.chains ≡ Some c → has_work (Fin k) m ≡ false → c.filter.walk ≡ None
+  no_walk k c at none = no_table c.filter.walk (sym (ap (λ (b : Bool). b && is_some c.filter.walk) (here k c at)) ∙ sym (ap (has_turn_in (Fin k)) at) ∙ none)
+
+  in_exact : (k : ℕ) → IsAtRest m (In k) → (p : Option DeclaredPeer) (c : Option Chained) → chain_at k m.chains ≡ c → StandsAt p c → links_by c (In k) ≡ option_map attrs_rows (live_rows p (routes_of c))
+  in_exact k rest None None at there = refl
+  in_exact k rest None (Some c) at there = absurd there
+  in_exact k rest (Some p) None at there = absurd there
+  in_exact k rest (Some p) (Some c) at there =
       ap (λ (b : Bool). cond b (Some (attrs_rows (in_rows c.incoming))) None) (here k c at)
-      ∙ ap (λ (ds : List (Lost Attrs)). Some (attrs_rows (rows_below c.incoming.tables.live ds))) (no_stage k c at)
+      ∙ ap (λ (ds : List (Lost Attrs)). Some (attrs_rows (rows_below c.incoming.tables.live ds))) (no_stage k c at (λ s. rest (Del k s) refl))
 
-  peer_exact : (k s : ℕ) (c : Option Chained) → chain_at k m.chains ≡ c → links_by c (Peer k s) ≡ None
-  peer_exact k s None at = refl
-  peer_exact k s (Some c) at =
+  peer_exact : (k s : ℕ) → IsAtRest m (Peer k s) → (c : Option Chained) → chain_at k m.chains ≡ c → links_by c (Peer k s) ≡ None
+  peer_exact k s rest None at = refl
+  peer_exact k s rest (Some c) at =
       ap (λ (b : Bool). cond b (option_map attrs_rows (rows_above c.incoming.tables.live s c.incoming.tables.deletions)) None) (here k c at)
-      ∙ ap (λ (ds : List (Lost Attrs)). option_map attrs_rows (rows_above c.incoming.tables.live s ds)) (no_stage k c at)
+      ∙ ap (option_map attrs_rows) (no_link c.incoming.tables.live s c.incoming.tables.deletions (stage_rests k s c at (rest (Del k s) (refl, refl))))
 
-  filt_exact : (k : ℕ) (p : Option DeclaredPeer) (c : Option Chained) → chain_at k m.chains ≡ c → StandsAt p c
+  filt_exact : (k : ℕ) → IsAtRest m (Filt k) → (p : Option DeclaredPeer) (c : Option Chained) → chain_at k m.chains ≡ c → StandsAt p c
       → links_by c (Filt k) ≡ option_map route_rows (judged_rows m.declared.speaker p (rules_of c) (routes_of c))
-  filt_exact k None None at there = sym (ap (option_map route_rows) (unjudged m.declared.speaker [] tables.empty))
-  filt_exact k None (Some c) at there = absurd there
-  filt_exact k (Some p) None at there = absurd there
-  filt_exact k (Some p) (Some c) at there =
+  filt_exact k rest None None at there = sym (ap (option_map route_rows) (unjudged m.declared.speaker [] tables.empty))
+  filt_exact k rest None (Some c) at there = absurd there
+  filt_exact k rest (Some p) None at there = absurd there
+  filt_exact k rest (Some p) (Some c) at there =
       ap (λ (b : Bool). cond b (Some (route_rows (filt_rows c))) None) (here k c at)
-      ∙ ap (λ rows. Some (route_rows rows)) (rows_settled c (no_stage k c at) (no_walk k c at))
+      ∙ ap (λ rows. Some (route_rows rows)) (rows_settled c (no_stage k c at (λ s. rest (Del k s) refl)) (no_walk k c at (rest (Fin k) refl)))
       ∙ ap (λ (w : Neighbour). Some (route_rows (filtered_rows c.me w (present c.filter) (tables.get c.incoming.tables.live)))) there.words
       ∙ ap (λ (s : Option Speaker). option_map route_rows (judged_rows s (Some p) (present c.filter) c.incoming.tables.live)) (sym (stands.own OneSpeaker k c at))
 
@@ -87,54 +115,85 @@ module _ (m : Moment) (stands : Stands m) (settled : IsSettled m) where
   abbrev routes_in : Proto → Interiors
   routes_in proto = (branch_of proto m.tree).tables.live
 
-  org_is : (proto : Proto) → org_rows (branch_of proto m.tree) ≡ tables.get (routes_in proto)
-  org_is proto = ap (interiors_below (routes_in proto)) (settled phases.Rdel proto)
+  abbrev org_of : Proto → Rows Interior
+  org_of proto = org_rows (branch_of proto m.tree)
 
-  low_is : low_rows m.tree ≡ best_of (routes_in Connected) (routes_in Static)
-  low_is i = merged interior_distance (org_is Connected i) (org_is Static i)
+  abbrev live_of : Proto → Rows Interior
+  live_of proto = tables.get (routes_in proto)
 
-  dyn_is : dyn_rows m.tree ≡ best_of (routes_in Ospf) (routes_in Rip)
-  dyn_is i = merged interior_distance (org_is Ospf i) (org_is Rip i)
+  abbrev both : Rows Interior → Rows Interior → Rows Interior
+  both = merged interior_distance
 
-  int_is : int_rows m.tree ≡ least_rows routes_in
-  int_is i = merged interior_distance (low_is i) (dyn_is i)
+  -- no stage of these protocols has work
+  abbrev Rest : List Proto → Type 0
+  Rest protocols = (proto : Proto) → Contains protocols proto → (n : ℕ) → has_work (Rdel proto n) m ≡ false
 
-  org_exact : (proto : Proto) (s : Option Speaker) → rib_by s m.tree (Org proto) ≡ option_map interior_rows (since_local s (tables.get (routes_in proto)))
-  org_exact proto None = refl
-  org_exact proto (Some me) = ap (λ (rows : Rows Interior). Some (interior_rows rows)) (org_is proto)
+  org_is : (proto : Proto) → ((n : ℕ) → has_work (Rdel proto n) m ≡ false) → org_of proto ≡ live_of proto
+  org_is proto none = ap (rows_below (routes_in proto)) (no_stages (branch_of proto m.tree).tables.deletions none)
 
-  lost_exact : (proto : Proto) (n : ℕ) (s : Option Speaker) → rib_by s m.tree (LostOf proto n) ≡ None
-  lost_exact proto n None = refl
-  lost_exact proto n (Some me) = ap (λ (ds : List (Lost Interior)). option_map interior_rows (interiors_above (routes_in proto) n ds)) (settled phases.Rdel proto)
-
-  low_exact : (s : Option Speaker) → rib_by s m.tree Low ≡ option_map interior_rows (since_local s (best_of (routes_in Connected) (routes_in Static)))
-  low_exact None = refl
-  low_exact (Some me) = ap (λ (rows : Rows Interior). Some (interior_rows rows)) low_is
-
-  dyn_exact : (s : Option Speaker) → rib_by s m.tree Dyn ≡ option_map interior_rows (since_local s (best_of (routes_in Ospf) (routes_in Rip)))
-  dyn_exact None = refl
-  dyn_exact (Some me) = ap (λ (rows : Rows Interior). Some (interior_rows rows)) dyn_is
-
-  int_exact : (s : Option Speaker) → rib_by s m.tree Int ≡ option_map interior_rows (since_local s (least_rows routes_in))
-  int_exact None = refl
-  int_exact (Some me) = ap (λ (rows : Rows Interior). Some (interior_rows rows)) int_is
-
-  fib_exact : (s : Option Speaker) → rib_by s m.tree Fib ≡ option_map fib_rows (since_local s (forwarded (least_rows routes_in)))
-  fib_exact None = refl
-  fib_exact (Some me) = ap (λ (rows : Rows Interior). Some (fib_rows (forwarded rows))) int_is
-
-  pub settled_is_exact : IsExact m
-  settled_is_exact link = each link
+  two_are : (a b : Proto) → Rest (a ∷ b ∷ []) → both (org_of a) (org_of b) ≡ least_rows routes_in (a ∷ b ∷ [])
+  two_are a b rest = settled ∙ least
     where
-      each : (link : Link) → router_links m link ≡ from_scratch (live_state m) link
-      each (In k) = in_exact k (peer_at k m.declared.peers) (chain_at k m.chains) refl (stands.own EachPeer k)
-      each (Peer k s) = peer_exact k s (chain_at k m.chains) refl
-      each (Filt k) = filt_exact k (peer_at k m.declared.peers) (chain_at k m.chains) refl (stands.own EachPeer k)
-      each (Res j) = none_by (Res j) (λ c. refl) (chain_at j m.chains)
-      each (Org p) = org_exact p m.declared.speaker
-      each (LostOf p n) = lost_exact p n m.declared.speaker
-      each Low = low_exact m.declared.speaker
-      each Dyn = dyn_exact m.declared.speaker
-      each Int = int_exact m.declared.speaker
-      each Fib = fib_exact m.declared.speaker
-      each other = refl
+      settled : both (org_of a) (org_of b) ≡ both (live_of a) (live_of b)
+      settled i = both (org_is a (rest a (0, omega arith, refl)) i) (org_is b (rest b (1, omega arith, refl)) i)
+
+      least : both (live_of a) (live_of b) ≡ least_rows routes_in (a ∷ b ∷ [])
+      least i p = sym (least_of_two (live_of a p) (live_of b p)) i
+
+  four_are : (a b c d : Proto) → Rest (a ∷ b ∷ c ∷ d ∷ []) → both (both (org_of a) (org_of b)) (both (org_of c) (org_of d)) ≡ least_rows routes_in (a ∷ b ∷ c ∷ d ∷ [])
+  four_are a b c d rest = settled ∙ least
+    where
+      settled : both (both (org_of a) (org_of b)) (both (org_of c) (org_of d)) ≡ both (both (live_of a) (live_of b)) (both (live_of c) (live_of d))
+      settled i = both (both (org_is a (rest a (0, omega arith, refl)) i) (org_is b (rest b (1, omega arith, refl)) i))
+          (both (org_is c (rest c (2, omega arith, refl)) i) (org_is d (rest d (3, omega arith, refl)) i))
+
+      least : both (both (live_of a) (live_of b)) (both (live_of c) (live_of d)) ≡ least_rows routes_in (a ∷ b ∷ c ∷ d ∷ [])
+      least i p = sym (least_of_four (live_of a p) (live_of b p) (live_of c p) (live_of d p)) i
+
+  int_is : Rest (origins Int) → int_rows m.tree ≡ least_rows routes_in (origins Int)
+  int_is = four_are Connected Static Ospf Rip
+
+  -- from the link's rows to the link, which is live since `local`
+  since : {V : Type 0} (value : Rows V → Rows Value) (rows now : Rows V) (link : Link) → rib_links m.tree link ≡ Some (value rows) → rows ≡ now
+      → (s : Option Speaker) → rib_by s m.tree link ≡ option_map value (since_local s now)
+  since value rows now link is same None = refl
+  since value rows now link is same (Some me) = is ∙ ap (λ r. Some (value r)) same
+
+  lost_exact : (proto : Proto) (n : ℕ) → IsAtRest m (LostOf proto n) → (s : Option Speaker) → rib_by s m.tree (LostOf proto n) ≡ None
+  lost_exact proto n rest None = refl
+  lost_exact proto n rest (Some me) = ap (option_map interior_rows) (no_link (routes_in proto) n (branch_of proto m.tree).tables.deletions (rest (Rdel proto n) (refl, refl)))
+
+  -- ---- each link
+  pub at_rest_is_exact : (link : Link) → IsAtRest m link → IsExactAt m link
+  at_rest_is_exact (In k) rest = in_exact k rest (peer_at k m.declared.peers) (chain_at k m.chains) refl (stands.own EachPeer k)
+  at_rest_is_exact (Peer k s) rest = peer_exact k s rest (chain_at k m.chains) refl
+  at_rest_is_exact (Filt k) rest = filt_exact k rest (peer_at k m.declared.peers) (chain_at k m.chains) refl (stands.own EachPeer k)
+  at_rest_is_exact (Res j) rest = none_by (Res j) (λ c. refl) (chain_at j m.chains)
+  at_rest_is_exact (Org p) rest = since interior_rows (org_of p) (live_of p) (Org p) refl (org_is p (λ n. rest (Rdel p n) (0, omega arith, refl))) m.declared.speaker
+  at_rest_is_exact (LostOf p n) rest = lost_exact p n rest m.declared.speaker
+  at_rest_is_exact Low rest = since interior_rows (low_rows m.tree) (least_rows routes_in (origins Low)) Low refl (two_are Connected Static (λ p of n. rest (Rdel p n) of)) m.declared.speaker
+  at_rest_is_exact Dyn rest = since interior_rows (dyn_rows m.tree) (least_rows routes_in (origins Dyn)) Dyn refl (two_are Ospf Rip (λ p of n. rest (Rdel p n) of)) m.declared.speaker
+  at_rest_is_exact Int rest = since interior_rows (int_rows m.tree) (least_rows routes_in (origins Int)) Int refl (int_is (λ p of n. rest (Rdel p n) of)) m.declared.speaker
+  at_rest_is_exact Fib rest = since fib_rows (forwarded (int_rows m.tree)) (forwarded (least_rows routes_in (origins Fib))) Fib refl (ap forwarded (int_is (λ p of n. rest (Rdel p n) of))) m.declared.speaker
+  at_rest_is_exact other rest = refl
+
+-- ---- where no task has work
+no_second : (a : Bool) → (a && false) ≡ false
+no_second true = refl
+no_second false = refl
+
+no_work : (m : Moment) → IsSettled m → (task : Task) → has_work task m ≡ false
+no_work m settled (Del k s) = of_chain (chain_at k m.chains) refl
+  where
+    of_chain : (o : Option Chained) → chain_at k m.chains ≡ o → has_turn_in (Del k s) o ≡ false
+    of_chain None at = refl
+    of_chain (Some c) at = ap (λ (ds : List (Lost Attrs)). k == c.incoming.number && is_some (table_of s ds)) (settled phases.Del k c at) ∙ no_second (k == c.incoming.number)
+no_work m settled (Fin k) = of_chain (chain_at k m.chains) refl
+  where
+    of_chain : (o : Option Chained) → chain_at k m.chains ≡ o → has_turn_in (Fin k) o ≡ false
+    of_chain None at = refl
+    of_chain (Some c) at = ap (λ (w : Option (Walked (List Rule))). k == c.incoming.number && is_some w) (settled phases.Fin k c at) ∙ no_second (k == c.incoming.number)
+no_work m settled (Rdel proto n) = ap (λ (ds : List (Lost Interior)). is_some (table_of n ds)) (settled phases.Rdel proto)
+
+pub settled_is_exact : (m : Moment) → Stands m → IsSettled m → IsExact m
+settled_is_exact m stands settled link = at_rest_is_exact m stands link (λ task holds. no_work m settled task)

@@ -13,7 +13,8 @@ use Rattle.link_region.proofs.RegionLemmas.{by_bool}
 use Rattle.peer_side.specs.Peers.{Chains, chain_at, put_chain, routes_of, rules_of, IsPeers}
 use Rattle.peer_side.proofs.PutLemmas.{at_put, put_seen, put_each, put_size}
 use Rattle.router_core.specs.Moments.{Moment, with_chains}
-use Rattle.router_core.specs.Lives.{LiveState, Routes, live_state, with_routes, with_rules}
+use Rattle.live_state.specs.Lives.{LiveState, Routes, with_routes, with_rules}
+use Rattle.router_core.specs.Lives.{live_state}
 use Rattle.rib_tree.specs.Trees.{int_rows}
 use Rattle.router_core.specs.Stands.{PeerStands, StandsAt, TreeStands, Stands, Claim, Claims, EachChain, EachPeer, InteriorTree, OneSpeaker, Registered, SameCount}
 

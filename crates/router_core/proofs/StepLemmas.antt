@@ -21,7 +21,9 @@ use Rattle.prefix_trie.specs.Width.{width}
 use Rattle.register_interest.specs.Covers.{matched, IsCover}
 use Rattle.router_core.specs.Moments.{Moment, bound_of, Gives}
 use Rattle.router_core.specs.declared.router.Idle.{Idle as Answer}
-use Rattle.router_core.specs.Lives.{LiveState, live_state, heard, ended, ended_if_up, Says, HearsIfUp, HearsFrom}
+use Rattle.live_state.specs.Messages.{Says}
+use Rattle.live_state.specs.Lives.{LiveState, heard, ended, ended_if_up, HearsIfUp, HearsFrom}
+use Rattle.router_core.specs.Lives.{live_state}
 use Rattle.router_core.specs.Stands.{Stands}
 use Rattle.router_core.specs.Blocks.{EndsIf, Hears, HearsIf, ByPeer}
 use Rattle.router_core.specs.Works.{Pushes, Keeps, AreTurns, AllHaveDrained, HasLost, HasHeard, HasIdled, HasStepped}

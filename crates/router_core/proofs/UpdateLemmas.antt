@@ -12,7 +12,7 @@ use Rattle.addr4.specs.Prefixes.{Network, prefix_cmp, same_prefix}
 use Rattle.addr4.proofs.PrefixOrder.{by_prefix}
 use Rattle.bgp_attr.specs.declared.attrs.Attrs.{Attrs}
 use Rattle.bgp_wire.specs.Grammar.{without}
-use Rattle.router_core.specs.Lives.{withdrawn_from}
+use Rattle.live_state.specs.Messages.{withdrawn_from}
 
 same_itself : (p : Network) → same_prefix p p ≡ true
 same_itself p = grind (arith, nat_tests)

@@ -35,7 +35,9 @@ use Rattle.in_chain.specs.Steps.{new_chain}
 use Rattle.peer_side.specs.Peers.{Chains, chain_at, put_chain, overdue_at}
 use Rattle.peer_side.specs.Steps.{EditsPeer, LosesPeer}
 use Rattle.router_core.specs.Moments.{Moment, with_chains, with_rib, router_links, bound_of}
-use Rattle.router_core.specs.Lives.{LiveAfter, live_state, changes_of, Says}
+use Rattle.live_state.specs.Messages.{changes_of, Says}
+use Rattle.live_state.specs.Lives.{LiveAfter}
+use Rattle.router_core.specs.Lives.{live_state}
 use Rattle.router_core.specs.Stands.{Stands}
 use Rattle.router_core.specs.Phases.{all_phases}
 use Rattle.router_core.specs.Scratch.{IsExact}

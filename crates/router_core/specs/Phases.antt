@@ -6,7 +6,7 @@ use Rattle.rib_tree.specs.Trees.{Treed}
 use Rattle.router_core.specs.declared.router.Phase.{Phase}
 use Rattle.router_core.specs.declared.router.Phase.TheVariants.{Rdel, Del, Fin}
 use Rattle.router_core.specs.Moments.{Moment}
-use Rattle.router_core.specs.Lives.{LiveState}
+use Rattle.live_state.specs.Lives.{LiveState}
 
 -- how many rows the stages of the protocols' losses have
 abbrev pub tree_lost : Treed → ℕ

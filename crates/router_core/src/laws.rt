@@ -1,23 +1,8 @@
-//! Laws of events, for the proofs of the crates above. Each is a function that does nothing, whose contract is the law.
+//! Laws of moments, for the proofs of the crates above. Each is a function that does nothing, whose contract is the law.
 
-ghost use Rattle.router_core.specs.Laws.{SessionsEnd, DeclarationsFollow, FirstStands};
+ghost use Rattle.router_core.specs.Laws.{FirstStands, LinksAtRestAreExact};
 
-use bgp_wire::one_of_message_and_fault;
 use rib_tree::a_new_tree_stands;
-
-/// Octets from a peer end its session exactly where they have a fault or are a NOTIFICATION.
-pub fn sessions_end()
-    ensures { SessionsEnd }
-{
-    one_of_message_and_fault();
-}
-
-/// Which peers are declared, and which sessions are up, is told by the events alone, one after the other.
-pub fn declarations_follow()
-    ensures { DeclarationsFollow }
-{
-    sessions_end();
-}
 
 /// What holds between two steps holds before the first.
 pub fn first_moment_stands()
@@ -25,3 +10,8 @@ pub fn first_moment_stands()
 {
     a_new_tree_stands();
 }
+
+/// At any moment each link that no work holds up is what the live state alone asks for.
+pub fn links_at_rest_are_exact()
+    ensures { LinksAtRestAreExact }
+{}

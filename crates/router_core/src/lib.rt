@@ -7,12 +7,13 @@
 //! are made into text at once, so that a long idle holds few lines.
 //!
 //! What contracts see is in `specs/`: the moment ([`Moments`](specs/Moments.antt)), what holds between two steps (`Stands`),
-//! what each event does and the lines that it gives (`Blocks`), and what the events alone make of the live routes of peers and
-//! protocols and of the filters' rules, whatever work was done or not (`Lives`). Every step obeys the two consistency rules
-//! of a journal (NSDI 2005, section 5.1) on all links together. After an idle no deletion stage stands and no walk is on
-//! (`IsSettled`), and each link is what the live state alone asks for (`Scratch`): of a peer the live routes and what the
-//! latest rules make of them, of the interior side the live routes of each protocol, those of least distance, and what packets
-//! are forwarded by. An idle takes no more turns than it announces.
+//! what each event does and the lines that it gives (`Blocks`), and the live state (`Lives`), which is what the events alone make
+//! of it, whatever work was done or not. Every step obeys the two consistency rules of a journal (NSDI 2005, section 5.1) on all
+//! links together. At any moment each link that no work holds up is what the live state alone asks for (`Scratch`): of a peer
+//! the live routes and what the latest rules make of them, of the interior side the live routes of each protocol, those of least
+//! distance, and what packets are forwarded by. After an idle no deletion stage stands and no walk is on (`IsSettled`), so every
+//! link is. An idle takes no more turns than it announces. What is live, and what is decided from it, is defined in the crate
+//! `live_state`.
 //!
 //! For want of memory a call answers `Memory`, and from then on each further call does: what was half done is never seen.
 #![tactic(auto)]
@@ -28,5 +29,5 @@ mod steps;
 mod turns;
 mod updates;
 
-pub use laws::{declarations_follow, first_moment_stands, sessions_end};
+pub use laws::{first_moment_stands, links_at_rest_are_exact};
 pub use router::{Core, Done, Idle, Phase};

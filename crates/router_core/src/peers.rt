@@ -4,7 +4,7 @@ ghost use Rattle.std.specs.Prelude.{◌≡◌, [], OnOk, IfOk, IsSome, Some, Non
 ghost use Rattle.event_text.specs.declared.event.Event.TheVariants as events;
 ghost use Rattle.event_text.specs.Declarations.{peer_at, refusal};
 ghost use Rattle.peer_side.specs.Peers.{chain_at};
-ghost use Rattle.router_core.specs.Lives.{Says};
+ghost use Rattle.live_state.specs.Messages.{Says};
 ghost use Rattle.router_core.specs.Stands.{Stands};
 ghost use Rattle.router_core.specs.Blocks.{begin_line, rib_begins};
 ghost use Rattle.journal_text.specs.Journals.{with_lines};

@@ -7,12 +7,14 @@ ghost use Rattle.event_text.specs.declared.event.Event.TheVariants as events;
 ghost use Rattle.event_text.specs.Declarations.{refusal};
 ghost use Rattle.peer_side.specs.Peers.{chain_at};
 ghost use Rattle.router_core.specs.Moments.{first_moment, router_links, Gives};
+ghost use Rattle.router_core.specs.Scratch.{IsExactAtRest};
 ghost use Rattle.router_core.specs.Stands.{CoreStands};
 ghost use Rattle.router_core.specs.Turns.{has_work};
 ghost use Rattle.router_core.specs.Blocks.{Acts};
 ghost use Rattle.router_core.specs.Lookups.{IsCountOf};
 ghost use Rattle.router_core.specs.Works.{Comes, HaveDrained, HasIdled};
 
+use crate::laws::links_at_rest_are_exact;
 use crate::network::Network;
 use addr4::Memory;
 use event_text::{Declared, Event};
@@ -130,13 +132,15 @@ impl Core {
     }
 
     /// Steps an event: its lines go into the text of the journal. Answers how many turns `work` or `idle` took, and 0 for
-    /// other events. After want of memory the core answers nothing else.
+    /// other events. After each call, this and those below, every link that no work holds up is what the live state alone asks
+    /// for. After want of memory the core answers nothing else.
     pub fn step(&mut self, event: Event, journal: &mut Journal) -> Result<u128, Memory>
         requires admitted { refusal self.old.moment.declared event ≡ None }
         requires few { self.old.events < 4294967295 }
         requires stands { self.old.failed ≡ false → CoreStands self.old }
         ensures acts { IfOk result (λ turns. Gives (Acts self.old.moment event turns self.new.moment) journal.old journal.new) }
         ensures stands { OnOk result (CoreStands self.new) }
+        ensures exact { OnOk result (IsExactAtRest self.new.moment) }
         ensures events { OnOk result (self.new.events ≡ self.old.events + 1) }
         ensures good { OnOk result (self.new.failed ≡ false) }
         ensures memory { OnErr result (self.new.failed ≡ true) }
@@ -145,6 +149,7 @@ impl Core {
         if self.failed {
             return Err(Memory);
         }
+        links_at_rest_are_exact();
         self.failed = true;
         let turns = self.network.step(event, journal)?;
         self.events += 1;
@@ -158,6 +163,7 @@ impl Core {
         requires stands { self.old.failed ≡ false → CoreStands self.old }
         ensures comes { IfOk result (Comes task self.old.moment self.new.moment journal.old journal.new) }
         ensures stands { OnOk result (CoreStands self.new) }
+        ensures exact { OnOk result (IsExactAtRest self.new.moment) }
         ensures events { OnOk result (self.new.events ≡ self.old.events) }
         ensures good { OnOk result (self.new.failed ≡ false) }
         ensures memory { OnErr result (self.new.failed ≡ true) }
@@ -166,6 +172,7 @@ impl Core {
         if self.failed {
             return Err(Memory);
         }
+        links_at_rest_are_exact();
         self.failed = true;
         let done = self.network.turn(task, journal)?;
         self.failed = false;
@@ -178,6 +185,7 @@ impl Core {
         requires stands { self.old.failed ≡ false → CoreStands self.old }
         ensures drained { IfOk result (λ turns. Gives (HaveDrained phase self.old.moment turns self.new.moment) journal.old journal.new) }
         ensures stands { OnOk result (CoreStands self.new) }
+        ensures exact { OnOk result (IsExactAtRest self.new.moment) }
         ensures events { OnOk result (self.new.events ≡ self.old.events) }
         ensures good { OnOk result (self.new.failed ≡ false) }
         ensures memory { OnErr result (self.new.failed ≡ true) }
@@ -186,6 +194,7 @@ impl Core {
         if self.failed {
             return Err(Memory);
         }
+        links_at_rest_are_exact();
         self.failed = true;
         let turns = self.network.drain(phase, journal)?;
         self.failed = false;
@@ -197,6 +206,7 @@ impl Core {
         requires stands { self.old.failed ≡ false → CoreStands self.old }
         ensures idled { IfOk result (λ idle. Gives (HasIdled self.old.moment idle self.new.moment) journal.old journal.new) }
         ensures stands { OnOk result (CoreStands self.new) }
+        ensures exact { OnOk result (IsExactAtRest self.new.moment) }
         ensures events { OnOk result (self.new.events ≡ self.old.events) }
         ensures good { OnOk result (self.new.failed ≡ false) }
         ensures memory { OnErr result (self.new.failed ≡ true) }
@@ -205,6 +215,7 @@ impl Core {
         if self.failed {
             return Err(Memory);
         }
+        links_at_rest_are_exact();
         self.failed = true;
         let idle = self.network.idle(journal)?;
         self.failed = false;

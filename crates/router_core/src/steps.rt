@@ -6,7 +6,7 @@ ghost use Rattle.event_text.specs.Declarations.{peer_at, refusal};
 ghost use Rattle.bgp_wire.specs.Spelling.{notification_octets};
 ghost use Rattle.rib_tree.specs.Trees.{AreNumbered};
 ghost use Rattle.router_core.specs.Moments.{Gives};
-ghost use Rattle.router_core.specs.Lives.{Says};
+ghost use Rattle.live_state.specs.Messages.{Says};
 ghost use Rattle.bgp_wire.specs.Notices.{HasShortNotice};
 ghost use Rattle.router_core.specs.Stands.{Stands};
 ghost use Rattle.router_core.specs.Works.{HasStepped, HasIdled, HasHeard, IsSession};

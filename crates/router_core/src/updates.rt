@@ -5,7 +5,7 @@ ghost use Rattle.std.specs.BTreeSet.{IsFromIterResult};
 ghost use Rattle.addr4.specs.Prefixes.{prefix_cmp};
 ghost use Rattle.bgp_attr.specs.Hosts.{is_host_prefix};
 ghost use Rattle.bgp_wire.specs.Grammar.{without};
-ghost use Rattle.router_core.specs.Lives.{announced_with, changes_of, withdrawn_from};
+ghost use Rattle.live_state.specs.Messages.{announced_with, changes_of, withdrawn_from};
 
 use addr4::{Memory, Prefix, Row};
 use bgp_attr::{Attrs, SharedAttrs, is_host_prefix};

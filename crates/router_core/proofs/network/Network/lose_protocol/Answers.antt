@@ -1,5 +1,5 @@
 use Rattle.std.proofs.Common.{IsSome, sym, ap, subst}
-use Rattle.router_core.specs.Lives.{LiveState}
+use Rattle.live_state.specs.Lives.{LiveState}
 use Rattle.router_core.proofs.RouteSteps.{lose_since}
 use Rattle.router_core.proofs.ProtocolLosses.{protocol_lost}
 use Rattle.router_core.proofs.network.Network.lose_protocol.Goals as goal

@@ -2,7 +2,7 @@ use Rattle.router_core.proofs.StepLemmas.{bgp_ignored}
 use Rattle.std.proofs.Common.{◌≡◌, ℕ, List, Some, None, subst, sym}
 use Rattle.event_text.specs.Declarations.{peer_at}
 use Rattle.router_core.specs.Moments.{Moment}
-use Rattle.router_core.specs.Lives.{Says}
+use Rattle.live_state.specs.Messages.{Says}
 use Rattle.router_core.proofs.StepLemmas.{bgp_there, heard_up}
 use Rattle.router_core.proofs.network.Network.message.Goals as goal
 

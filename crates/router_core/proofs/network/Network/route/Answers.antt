@@ -7,7 +7,8 @@ use Rattle.rib_tree.specs.Trees.{branch_of}
 use Rattle.rib_tree.specs.Falls.{way_of_route}
 use Rattle.rib_tree.specs.Steps.{fed_tree}
 use Rattle.router_core.specs.Moments.{Moment}
-use Rattle.router_core.specs.Lives.{live_state, interior_fed}
+use Rattle.live_state.specs.Lives.{interior_fed}
+use Rattle.router_core.specs.Lives.{live_state}
 use Rattle.router_core.specs.Stands.{Stands}
 use Rattle.router_core.specs.Works.{Pushes, HasRouted}
 use Rattle.router_core.proofs.RouteLemmas.{routed_since}

@@ -9,12 +9,13 @@ use Rattle.event_text.specs.declared.event.Event.TheVariants.{Nothing, Local, Pe
 use Rattle.event_text.specs.declared.declared.DeclaredPeer.{DeclaredPeer}
 use Rattle.event_text.specs.Declarations.{peer_at, with_session, without_session}
 use Rattle.link_change.specs.Rows.{is_empty_map}
-use Rattle.router_core.specs.Lives.{with_losses, LiveState, HearsIfUp, HearsFrom, plain, heard, is_ending, ends_session, ended, begun_if_down, ended_if_up, declared_up, declared_down, declared_heard, LiveAfter}
-use Rattle.router_core.specs.Laws.{SessionsEnd, DeclarationsFollow}
+use Rattle.live_state.specs.Messages.{plain, is_ending, ends_session}
+use Rattle.live_state.specs.Declared.{declared_up, declared_down, declared_heard}
+use Rattle.live_state.specs.Lives.{with_losses, LiveState, HearsIfUp, HearsFrom, heard, ended, begun_if_down, ended_if_up, LiveAfter, same_protocol}
+use Rattle.live_state.specs.Laws.{SessionsEnd, DeclarationsFollow}
 use Rattle.rib_route.specs.declared.Proto.TheVariants.{Connected, Ospf, Rip, Static}
 use Rattle.event_text.specs.declared.event.Event.{Event}
 use Rattle.rib_route.specs.declared.Proto.{Proto}
-use Rattle.loss_chain.specs.Owners.{same_proto}
 
 -- one of message and fault, for all octets
 abbrev pub EachAnswers : Type 0
@@ -127,12 +128,12 @@ one_loss true true n own same = let e = same refl in omega (arith, e)
 one_loss true false n own same = let e = same refl in omega (arith, e)
 one_loss false empty n own same = omega arith
 
-same_protocol : (f : Proto → ℕ) (a b : Proto) → same_proto a b ≡ true → f b ≡ f a
-same_protocol f Connected Connected e = refl
-same_protocol f Static Static e = refl
-same_protocol f Ospf Ospf e = refl
-same_protocol f Rip Rip e = refl
-same_protocol f a b e = absurd (cc)
+losses_at : (f : Proto → ℕ) (a b : Proto) → same_protocol a b ≡ true → f b ≡ f a
+losses_at f Connected Connected e = refl
+losses_at f Static Static e = refl
+losses_at f Ospf Ospf e = refl
+losses_at f Rip Rip e = refl
+losses_at f a b e = absurd (cc)
 
 pub losses_follow : (l : LiveState) (event : Event) (l' : LiveState) → LiveAfter l event l' → (proto : Proto) → l'.losses proto ≤ l.losses proto + 1
 losses_follow l Nothing l' after = same_losses l l' after
@@ -146,7 +147,7 @@ losses_follow l (RouteAdd p row) l' after = session_losses l l' (ap (λ s. s.los
 losses_follow l (RouteDel proto p) l' after = session_losses l l' (ap (λ s. s.losses) after)
 losses_follow l (Lose lost) l' after = λ proto.
     let is : l'.losses proto ≡ with_losses l.losses lost (cond (is_empty_map (l.interior lost)) (l.losses lost) (l.losses lost + 1)) proto = ap (λ s. s.losses proto) after in
-    let one = one_loss (same_proto proto lost) (is_empty_map (l.interior lost)) (l.losses proto) (l.losses lost) (same_protocol l.losses proto lost) in
+    let one = one_loss (same_protocol proto lost) (is_empty_map (l.interior lost)) (l.losses proto) (l.losses lost) (losses_at l.losses proto lost) in
     omega (arith, is, one)
 losses_follow l (Cover addr) l' after = same_losses l l' after
 losses_follow l Idle l' after = same_losses l l' after

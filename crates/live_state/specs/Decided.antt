@@ -1,0 +1,90 @@
+-- What is decided from the live state alone: the rows of each link, from scratch. The links of a peer are its routes (RFC 4271,
+-- section 3.2) and those that the incoming filter accepts (section 9.1.1); those of the interior routes, the routes of each
+-- protocol and the ones of least administrative distance (NSDI 2005, section 5.2).
+use Rattle.std.specs.Prelude.{ℕ, nat_lt, not, List, [], ◌∷◌, find, filter_map, Option, Some, None, option_map}
+use Rattle.std.specs.List.{list_any}
+use Rattle.std.specs.FinMap as tables
+use Rattle.addr4.specs.Prefixes.{Network}
+use Rattle.bgp_attr.specs.declared.attrs.Attrs.{Attrs}
+use Rattle.bgp_attr.specs.declared.route.Route.{Route}
+use Rattle.bgp_attr.specs.declared.speaker.Speaker.{Speaker}
+use Rattle.bgp_attr.specs.declared.speaker.Neighbour.{Neighbour}
+use Rattle.link_change.specs.Rows.{Rows}
+use Rattle.policy_rules.specs.declared.rule.Rule.{Rule}
+use Rattle.filter_bank.specs.Filtered.{filtered}
+use Rattle.rib_route.specs.declared.Proto.{Proto}
+use Rattle.rib_route.specs.declared.Proto.TheVariants.{Connected, Static, Ospf, Rip}
+use Rattle.rib_route.specs.declared.rows.Interior.{Interior}
+use Rattle.rib_route.specs.declared.rows.FibRow.{FibRow}
+use Rattle.rib_route.specs.Distances.{distance, fib_proto}
+use Rattle.rib_route.specs.Forwarding.{fib_row}
+use Rattle.journal_text.specs.declared.link.Link.{Link}
+use Rattle.journal_text.specs.declared.link.Link.TheVariants.{In, Filt, Org, Low, Dyn, Int, Fib}
+use Rattle.journal_text.specs.declared.value.Value.{Value}
+use Rattle.journal_text.specs.Walk.{Links}
+use Rattle.journal_text.specs.Values.{attrs_rows, route_rows, interior_rows, fib_rows}
+use Rattle.event_text.specs.declared.declared.DeclaredPeer.{DeclaredPeer}
+use Rattle.event_text.specs.Declarations.{peer_at}
+use Rattle.live_state.specs.Lives.{LiveState, Routes, Interiors}
+
+-- ---- the links of a peer
+-- `in.K` of a declared peer has exactly its live routes
+abbrev pub live_rows : Option DeclaredPeer → Routes → Option (Rows Attrs)
+live_rows None routes = None
+live_rows (Some p) routes = Some (tables.get routes)
+
+-- the routes that rules make of a peer's live ones, where they accept them
+abbrev pub accepted_rows : Speaker → Neighbour → List Rule → Routes → Rows Route
+accepted_rows me peer rules routes p = filtered me peer rules p (tables.get routes p)
+
+-- `filt.K` has what the latest rules make of them, by the words of this speaker and of the peer
+abbrev pub judged_rows : Option Speaker → Option DeclaredPeer → List Rule → Routes → Option (Rows Route)
+judged_rows None peer rules routes = None
+judged_rows (Some me) None rules routes = None
+judged_rows (Some me) (Some p) rules routes = Some (accepted_rows me p.words rules routes)
+
+-- ---- the links of the interior routes
+-- the administrative distance of a route, which is its protocol's: connected 0, static 1, OSPF 110, RIP 120
+abbrev pub distance_of : Interior → ℕ
+distance_of r = distance (fib_proto r.proto)
+
+-- of some routes the one of least distance: the first than which none has a lesser one
+abbrev pub least_of : List Interior → Option Interior
+least_of routes = find (λ r. not (list_any (λ other. nat_lt (distance_of other) (distance_of r)) routes)) routes
+
+-- the live routes of some protocols at a prefix
+abbrev pub routes_at : (Proto → Interiors) → List Proto → Network → List Interior
+routes_at interior protocols p = filter_map (λ proto. tables.get (interior proto) p) protocols
+
+-- at each prefix the one of least distance among them
+abbrev pub least_rows : (Proto → Interiors) → List Proto → Rows Interior
+least_rows interior protocols p = least_of (routes_at interior protocols p)
+
+-- the protocols whose routes come together in a link
+abbrev pub origins : Link → List Proto
+origins (Org proto) = proto ∷ []
+origins Low = Connected ∷ Static ∷ []
+origins Dyn = Ospf ∷ Rip ∷ []
+origins Int = Connected ∷ Static ∷ Ospf ∷ Rip ∷ []
+origins Fib = Connected ∷ Static ∷ Ospf ∷ Rip ∷ []
+origins other = []
+
+-- what packets are forwarded by
+abbrev pub forwarding_rows : Rows Interior → Rows FibRow
+forwarding_rows rows p = option_map fib_row (rows p)
+
+-- these links are live where `local` was declared
+abbrev pub since_local : {V : Type 0} → Option Speaker → Rows V → Option (Rows V)
+since_local None rows = None
+since_local (Some me) rows = Some rows
+
+-- ---- each link: no other is live
+abbrev pub from_scratch : LiveState → Links Value
+from_scratch l (In k) = option_map attrs_rows (live_rows (peer_at k l.declared.peers) (l.routes k))
+from_scratch l (Filt k) = option_map route_rows (judged_rows l.declared.speaker (peer_at k l.declared.peers) (l.rules k) (l.routes k))
+from_scratch l (Org proto) = option_map interior_rows (since_local l.declared.speaker (tables.get (l.interior proto)))
+from_scratch l Low = option_map interior_rows (since_local l.declared.speaker (least_rows l.interior (origins Low)))
+from_scratch l Dyn = option_map interior_rows (since_local l.declared.speaker (least_rows l.interior (origins Dyn)))
+from_scratch l Int = option_map interior_rows (since_local l.declared.speaker (least_rows l.interior (origins Int)))
+from_scratch l Fib = option_map fib_rows (since_local l.declared.speaker (forwarding_rows (least_rows l.interior (origins Fib))))
+from_scratch l other = None

@@ -1,0 +1,36 @@
+-- Laws of these definitions alone, for the crates above.
+use Rattle.std.specs.Prelude.{◌≡◌, ◌≤◌, ℕ, List, Some, None}
+use Rattle.std.specs.FinMap as tables
+use Rattle.addr4.specs.Prefixes.{Network}
+use Rattle.bgp_wire.specs.declared.message.Message.{Message}
+use Rattle.event_text.specs.declared.event.Event.{Event}
+use Rattle.event_text.specs.declared.declared.DeclaredPeer.{DeclaredPeer}
+use Rattle.rib_route.specs.declared.Proto.{Proto}
+use Rattle.rib_route.specs.declared.rows.Interior.{Interior}
+use Rattle.journal_text.specs.declared.link.Link.TheVariants.{Int}
+use Rattle.live_state.specs.Messages.{Says, is_ending, ends_session}
+use Rattle.live_state.specs.Declared.{declared_after}
+use Rattle.live_state.specs.Lives.{LiveState, LiveAfter, Interiors}
+use Rattle.live_state.specs.Decided.{distance_of, least_rows, origins}
+
+-- What octets say ends the session exactly where they are seen to end it.
+abbrev pub SessionsEnd : Type 0
+SessionsEnd = (p : DeclaredPeer) (octets : List ℕ) (message : Message) → Says p octets message → is_ending message ≡ ends_session octets
+
+-- The declarations after an event are told by those before it.
+abbrev pub DeclarationsFollow : Type 0
+DeclarationsFollow = (l : LiveState) (event : Event) (l' : LiveState) → LiveAfter l event l' → l'.declared ≡ declared_after l.declared event
+
+-- What is decided of all interior routes at a prefix is the live one of a protocol, and no protocol has a live one there of lesser
+-- distance.
+abbrev pub TheLeastDistanceIsDecided : Type 0
+TheLeastDistanceIsDecided =
+    (interior : Proto → Interiors) (p : Network) (row : Interior) → least_rows interior (origins Int) p ≡ Some row
+    → ((proto : Proto) × (tables.get (interior proto) p ≡ Some row))
+    × ((proto : Proto) (other : Interior) → tables.get (interior proto) p ≡ Some other → distance_of row ≤ distance_of other)
+
+-- Nothing is decided only where no protocol has a live one.
+abbrev pub EachLiveRouteCounts : Type 0
+EachLiveRouteCounts =
+    (interior : Proto → Interiors) (p : Network) → least_rows interior (origins Int) p ≡ None
+    → (proto : Proto) → tables.get (interior proto) p ≡ None

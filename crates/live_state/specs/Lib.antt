@@ -1,0 +1,5 @@
+pub mod Messages
+pub mod Declared
+pub mod Lives
+pub mod Decided
+pub mod Laws

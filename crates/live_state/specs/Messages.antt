@@ -1,0 +1,47 @@
+-- What a peer says: the message that octets are, what an UPDATE does to its routes, and which messages end the session (RFC 4271,
+-- sections 3.1, 4 and 6).
+use Rattle.std.specs.Prelude.{ℕ, ◌==◌, ◌||◌, Bool, true, false, not, List, ◌++◌, map, filter, slice_index, Option, None, is_some}
+use Rattle.addr4.specs.Prefixes.{Network}
+use Rattle.bgp_attr.specs.Hosts.{is_host_prefix}
+use Rattle.bgp_attr.specs.declared.attrs.Attrs.{Attrs}
+use Rattle.bgp_attr.specs.declared.speaker.Profile.{Profile}
+use Rattle.bgp_wire.specs.declared.message.Update.{Update}
+use Rattle.bgp_wire.specs.declared.message.Message.{Message}
+use Rattle.bgp_wire.specs.declared.message.Message.TheVariants as messages
+use Rattle.bgp_wire.specs.Updates.{fault}
+use Rattle.bgp_wire.specs.Grammar.{without, Answers}
+use Rattle.event_text.specs.declared.declared.DeclaredPeer.{DeclaredPeer}
+
+-- AS numbers have two octets, and errors are handled by section 6.3
+abbrev pub plain : Profile
+plain = record { as4 = false; revised = false }
+
+-- what octets from a peer say: the message that they are, or the NOTIFICATION that answers their first fault (sections 4 and 6)
+abbrev pub Says : DeclaredPeer → List ℕ → Message → Type 0
+Says p octets message = Answers plain (not p.words.internal) octets message
+
+-- ---- what an UPDATE does
+-- an announced prefix with its attributes
+abbrev pub announced_with : Option Attrs → Network → Network × Option Attrs
+announced_with attrs p = (p, attrs)
+
+abbrev pub withdrawn_from : Network → Network × Option Attrs
+withdrawn_from p = (p, None)
+
+-- What an UPDATE does, prefix by prefix (section 3.1): first it withdraws the withdrawn prefixes that it doesn't announce, then
+-- it announces those of hosts (none covered by 224.0.0.0/3).
+abbrev pub changes_of : Update → List (Network × Option Attrs)
+changes_of u = map withdrawn_from (without u.announced u.withdrawn) ++ map (announced_with u.attrs) (filter is_host_prefix u.announced)
+
+-- ---- the end of a session
+-- whether a message ends the session
+abbrev pub is_ending : Message → Bool
+is_ending (messages.Update u) = false
+is_ending messages.Keepalive = false
+is_ending messages.Skip = false
+is_ending messages.Notification = true
+is_ending (messages.Notify n) = true
+
+-- whether octets end the session: they have a fault, or their type is that of a NOTIFICATION
+abbrev pub ends_session : List ℕ → Bool
+ends_session octets = is_some (fault plain octets) || slice_index octets 18 == 3

@@ -1,0 +1,39 @@
+//! What is live, and what is decided from it: where a reader begins.
+//!
+//! All of it is definitions, in the terms of RFC 4271 and of NSDI 2005, and nothing here names a part of the router that
+//! computes them. They are read in this order:
+//!
+//! 1. [`Messages`](specs/Messages.antt): what octets from a peer say, what an UPDATE does, which messages end a session;
+//! 2. [`Declared`](specs/Declared.antt): what each event makes of the declarations and the sessions;
+//! 3. [`Lives`](specs/Lives.antt): what the events alone make of the live routes, the filters' rules and the interior routes,
+//!    whatever work was done between them;
+//! 4. [`Decided`](specs/Decided.antt): the rows of each link, decided from scratch over what is live.
+//!
+//! The router has these rows after an idle, and on each link that no work holds up at any moment (`router_core`). The functions
+//! are laws about the definitions alone: they do nothing, and have a law as their contract, which crates above call for.
+#![tactic(auto)]
+
+ghost use Rattle.live_state.specs.Laws.{SessionsEnd, DeclarationsFollow, TheLeastDistanceIsDecided, EachLiveRouteCounts};
+
+use bgp_wire::one_of_message_and_fault;
+
+/// Octets from a peer end its session exactly where they have a fault or are a NOTIFICATION.
+pub fn sessions_end()
+    ensures { SessionsEnd }
+{
+    one_of_message_and_fault();
+}
+
+/// Which peers are declared, and which sessions are up, is told by the events alone, one after the other.
+pub fn declarations_follow()
+    ensures { DeclarationsFollow }
+{
+    sessions_end();
+}
+
+/// What is decided of interior routes is a live one, and none of the live ones there has a lesser administrative distance; nothing
+/// is decided only where none is live.
+pub fn the_least_distance_is_decided()
+    ensures least { TheLeastDistanceIsDecided }
+    ensures each { EachLiveRouteCounts }
+{}
