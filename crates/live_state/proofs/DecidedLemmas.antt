@@ -1,15 +1,14 @@
 -- What is decided of interior routes is a live one of least distance.
-use Rattle.std.proofs.Common.{◌≡◌, ◌≤◌, ◌⊎◌, Bool, true, false, cond, not, ◌||◌, nat_lt, List, [], ◌∷◌, Option, Some, None, refl, sym, ap, ◌∙◌, inl, inr}
+use Rattle.std.proofs.Common.{◌≡◌, ℕ, zero, suc, ◌<◌, ◌≤◌, ◌⊎◌, length, slice_index_or, Bool, true, false, cond, not, ◌||◌, nat_lt, List, [], ◌∷◌, Option, Some, None, refl, sym, ap, ◌∙◌, inl, inr, arith}
+use Rattle.std.specs.Prelude.{Contains}
 use Rattle.std.proofs.lemmas.Bool.{ltb-false}
 use Rattle.std.specs.List.{find, list_any, cons_option}
 use Rattle.std.specs.FinMap as tables
 use Rattle.addr4.specs.Prefixes.{Network}
 use Rattle.rib_route.specs.declared.Proto.{Proto}
-use Rattle.rib_route.specs.declared.Proto.TheVariants.{Connected, Static, Ospf, Rip}
 use Rattle.rib_route.specs.declared.rows.Interior.{Interior}
-use Rattle.journal_text.specs.declared.link.Link.TheVariants.{Int}
 use Rattle.live_state.specs.Lives.{Interiors}
-use Rattle.live_state.specs.Decided.{distance_of, least_of, routes_at, origins}
+use Rattle.live_state.specs.Decided.{distance_of, least_of, routes_at}
 use Rattle.live_state.specs.Laws.{TheLeastDistanceIsDecided, EachLiveRouteCounts}
 use Rattle.live_state.proofs.LeastLemmas.{first_false, second_false, found}
 
@@ -53,52 +52,36 @@ never : (xs : List Interior) (u : Interior) → least_of xs ≡ None → Has xs 
 never [] u none h = h
 never (x ∷ xs) u none h = let f = found x xs in let clash : None ≡ Some f.one = sym none ∙ f.least_is in absurd (cc)
 
--- ---- all protocols
+-- ---- protocols
 module _ (interior : Proto → Interiors) (p : Network) where
-  some_protocol : (u : Interior) → Has (routes_at interior (origins Int) p) u → (proto : Proto) × (tables.get (interior proto) p ≡ Some u)
-  some_protocol u h =
-      elim (one_of (tables.get (interior Connected) p) (routes_at interior (Static ∷ Ospf ∷ Rip ∷ []) p) u h) as (λ _. (proto : Proto) × (tables.get (interior proto) p ≡ Some u)) [
-        | inl e ↦ (Connected, e)
-        | inr h ↦ elim (one_of (tables.get (interior Static) p) (routes_at interior (Ospf ∷ Rip ∷ []) p) u h) as (λ _. (proto : Proto) × (tables.get (interior proto) p ≡ Some u)) [
-          | inl e ↦ (Static, e)
-          | inr h ↦ elim (one_of (tables.get (interior Ospf) p) (routes_at interior (Rip ∷ []) p) u h) as (λ _. (proto : Proto) × (tables.get (interior proto) p ≡ Some u)) [
-            | inl e ↦ (Ospf, e)
-            | inr h ↦ elim (one_of (tables.get (interior Rip) p) [] u h) as (λ _. (proto : Proto) × (tables.get (interior proto) p ≡ Some u)) [
-              | inl e ↦ (Rip, e)
-              | inr h ↦ absurd h
-            ]
-          ]
-        ]
+  some_protocol : (protocols : List Proto) (u : Interior) → Has (routes_at interior protocols p) u → (proto : Proto) × Contains protocols proto × (tables.get (interior proto) p ≡ Some u)
+  some_protocol [] u h = absurd h
+  some_protocol (q ∷ qs) u h =
+      elim (one_of (tables.get (interior q) p) (routes_at interior qs p) u h) as (λ _. (proto : Proto) × Contains (q ∷ qs) proto × (tables.get (interior proto) p ≡ Some u)) [
+        | inl e ↦ (q, (0, omega arith, refl), e)
+        | inr later ↦ let r = some_protocol qs u later in let below : r.1.0 < length qs = r.1.1 in (r.0, (suc r.1.0, omega (arith, below), r.1.2), r.2)
       ]
 
-  each_protocol : (proto : Proto) (u : Interior) → tables.get (interior proto) p ≡ Some u → Has (routes_at interior (origins Int) p) u
-  each_protocol Connected u e = has_first (tables.get (interior Connected) p) (routes_at interior (Static ∷ Ospf ∷ Rip ∷ []) p) u e
-  each_protocol Static u e =
-      has_later (tables.get (interior Connected) p) (routes_at interior (Static ∷ Ospf ∷ Rip ∷ []) p) u
-      (has_first (tables.get (interior Static) p) (routes_at interior (Ospf ∷ Rip ∷ []) p) u e)
-  each_protocol Ospf u e =
-      has_later (tables.get (interior Connected) p) (routes_at interior (Static ∷ Ospf ∷ Rip ∷ []) p) u
-      (has_later (tables.get (interior Static) p) (routes_at interior (Ospf ∷ Rip ∷ []) p) u
-      (has_first (tables.get (interior Ospf) p) (routes_at interior (Rip ∷ []) p) u e))
-  each_protocol Rip u e =
-      has_later (tables.get (interior Connected) p) (routes_at interior (Static ∷ Ospf ∷ Rip ∷ []) p) u
-      (has_later (tables.get (interior Static) p) (routes_at interior (Ospf ∷ Rip ∷ []) p) u
-      (has_later (tables.get (interior Ospf) p) (routes_at interior (Rip ∷ []) p) u
-      (has_first (tables.get (interior Rip) p) [] u e)))
+  each_protocol : (protocols : List Proto) (proto : Proto) (k : ℕ) → k < length protocols → slice_index_or protocols k proto ≡ proto → (u : Interior) → tables.get (interior proto) p ≡ Some u → Has (routes_at interior protocols p) u
+  each_protocol [] proto k below at u e = absurd (omega (arith, below))
+  each_protocol (q ∷ qs) proto zero below at u e = has_first (tables.get (interior q) p) (routes_at interior qs p) u (ap (λ (x : Proto). tables.get (interior x) p) at ∙ e)
+  each_protocol (q ∷ qs) proto (suc k) below at u e = has_later (tables.get (interior q) p) (routes_at interior qs p) u (each_protocol qs proto k (omega (arith, below)) at u e)
 
 pub the_least : TheLeastDistanceIsDecided
-the_least interior p row is =
-    let routes : List Interior = routes_at interior (origins Int) p in
+the_least interior protocols p row is =
+    let routes : List Interior = routes_at interior protocols p in
     let beaten : Interior → Bool = λ r. list_any (λ other. nat_lt (distance_of other) (distance_of r)) routes in
     let h = found_has (λ r. not (beaten r)) routes row is in
     (
-      some_protocol interior p row h.0,
-      λ proto other e. ltb-false (distance_of other) (distance_of row) (fails_all (λ o. nat_lt (distance_of o) (distance_of row)) routes other (none_beats (beaten row) h.1) (each_protocol interior p proto other e)),
+      some_protocol interior p protocols row h.0,
+      λ proto other of e.
+          ltb-false (distance_of other) (distance_of row)
+          (fails_all (λ o. nat_lt (distance_of o) (distance_of row)) routes other (none_beats (beaten row) h.1) (each_protocol interior p protocols proto of.0 of.1 of.2 other e)),
     )
 
 pub each_counts : EachLiveRouteCounts
-each_counts interior p none proto = by_row (tables.get (interior proto) p) refl
+each_counts interior protocols p none proto of = by_row (tables.get (interior proto) p) refl
   where
     by_row : (o : Option Interior) → tables.get (interior proto) p ≡ o → tables.get (interior proto) p ≡ None
     by_row None e = e
-    by_row (Some u) e = absurd (never (routes_at interior (origins Int) p) u none (each_protocol interior p proto u e))
+    by_row (Some u) e = absurd (never (routes_at interior protocols p) u none (each_protocol interior p protocols proto of.0 of.1 of.2 u e))

@@ -1,5 +1,5 @@
 -- Laws of these definitions alone, for the crates above.
-use Rattle.std.specs.Prelude.{◌≡◌, ◌≤◌, ℕ, List, Some, None}
+use Rattle.std.specs.Prelude.{◌≡◌, ◌≤◌, ℕ, List, Contains, Some, None}
 use Rattle.std.specs.FinMap as tables
 use Rattle.addr4.specs.Prefixes.{Network}
 use Rattle.bgp_wire.specs.declared.message.Message.{Message}
@@ -7,11 +7,10 @@ use Rattle.event_text.specs.declared.event.Event.{Event}
 use Rattle.event_text.specs.declared.declared.DeclaredPeer.{DeclaredPeer}
 use Rattle.rib_route.specs.declared.Proto.{Proto}
 use Rattle.rib_route.specs.declared.rows.Interior.{Interior}
-use Rattle.journal_text.specs.declared.link.Link.TheVariants.{Int}
 use Rattle.live_state.specs.Messages.{Says, is_ending, ends_session}
 use Rattle.live_state.specs.Declared.{declared_after}
 use Rattle.live_state.specs.Lives.{LiveState, LiveAfter, Interiors}
-use Rattle.live_state.specs.Decided.{distance_of, least_rows, origins}
+use Rattle.live_state.specs.Decided.{distance_of, least_rows}
 
 -- What octets say ends the session exactly where they are seen to end it.
 abbrev pub SessionsEnd : Type 0
@@ -21,16 +20,16 @@ SessionsEnd = (p : DeclaredPeer) (octets : List ℕ) (message : Message) → Say
 abbrev pub DeclarationsFollow : Type 0
 DeclarationsFollow = (l : LiveState) (event : Event) (l' : LiveState) → LiveAfter l event l' → l'.declared ≡ declared_after l.declared event
 
--- What is decided of all interior routes at a prefix is the live one of a protocol, and no protocol has a live one there of lesser
--- distance.
+-- What is decided of the routes of some protocols at a prefix is a live one of one of them, and none of them has a live one there of
+-- lesser distance. So it is of the protocols of `low`, of `dyn`, and of all, which those of `int` and `fib` are.
 abbrev pub TheLeastDistanceIsDecided : Type 0
 TheLeastDistanceIsDecided =
-    (interior : Proto → Interiors) (p : Network) (row : Interior) → least_rows interior (origins Int) p ≡ Some row
-    → ((proto : Proto) × (tables.get (interior proto) p ≡ Some row))
-    × ((proto : Proto) (other : Interior) → tables.get (interior proto) p ≡ Some other → distance_of row ≤ distance_of other)
+    (interior : Proto → Interiors) (protocols : List Proto) (p : Network) (row : Interior) → least_rows interior protocols p ≡ Some row
+    → ((proto : Proto) × Contains protocols proto × (tables.get (interior proto) p ≡ Some row))
+    × ((proto : Proto) (other : Interior) → Contains protocols proto → tables.get (interior proto) p ≡ Some other → distance_of row ≤ distance_of other)
 
--- Nothing is decided only where no protocol has a live one.
+-- Nothing is decided only where none of them has a live one.
 abbrev pub EachLiveRouteCounts : Type 0
 EachLiveRouteCounts =
-    (interior : Proto → Interiors) (p : Network) → least_rows interior (origins Int) p ≡ None
-    → (proto : Proto) → tables.get (interior proto) p ≡ None
+    (interior : Proto → Interiors) (protocols : List Proto) (p : Network) → least_rows interior protocols p ≡ None
+    → (proto : Proto) → Contains protocols proto → tables.get (interior proto) p ≡ None

@@ -31,8 +31,8 @@ pub fn declarations_follow()
     sessions_end();
 }
 
-/// What is decided of interior routes is a live one, and none of the live ones there has a lesser administrative distance; nothing
-/// is decided only where none is live.
+/// What is decided of the interior routes of some protocols is a live one, and no live one of theirs there has a lesser
+/// administrative distance (NSDI 2005, section 5.2); nothing is decided only where they have none.
 pub fn the_least_distance_is_decided()
     ensures least { TheLeastDistanceIsDecided }
     ensures each { EachLiveRouteCounts }
