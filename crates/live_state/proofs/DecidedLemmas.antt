@@ -1,5 +1,5 @@
 -- What is decided of interior routes is a live one of least distance.
-use Rattle.std.proofs.Common.{◌≡◌, ℕ, zero, suc, ◌<◌, ◌≤◌, ◌⊎◌, length, slice_index_or, Bool, true, false, cond, not, ◌||◌, nat_lt, List, [], ◌∷◌, Option, Some, None, refl, sym, ap, ◌∙◌, inl, inr, arith}
+use Rattle.std.proofs.Common.{◌≡◌, ℕ, zero, suc, ◌<◌, ◌⊎◌, length, slice_index_or, Bool, true, false, cond, not, nat_lt, List, [], ◌∷◌, Option, Some, None, refl, sym, ap, ◌∙◌, inl, inr, arith}
 use Rattle.std.specs.Prelude.{Contains}
 use Rattle.std.proofs.lemmas.Bool.{ltb-false}
 use Rattle.std.specs.List.{find, list_any, cons_option}
@@ -33,11 +33,11 @@ one_of (Some x) xs u (inr h) = inr h
 -- ---- what is found
 found_has : (p : Interior → Bool) (xs : List Interior) (u : Interior) → find p xs ≡ Some u → Has xs u × (p u ≡ true)
 found_has p [] u e = absurd (let f : None ≡ Some u = e in cc)
-found_has p (x ∷ xs) u e = by_test (p x) refl e
+found_has p (x ∷ xs) u e = by_test (p x) refl e (λ f. found_has p xs u f)
   where
-    by_test : (t : Bool) → p x ≡ t → cond t (Some x) (find p xs) ≡ Some u → Has (x ∷ xs) u × (p u ≡ true)
-    by_test true at f = let same : x ≡ u = cc in (inl same, sym (ap p same) ∙ at)
-    by_test false at f = let h = found_has p xs u f in (inr h.0, h.1)
+    by_test : (t : Bool) → p x ≡ t → cond t (Some x) (find p xs) ≡ Some u → (find p xs ≡ Some u → Has xs u × (p u ≡ true)) → Has (x ∷ xs) u × (p u ≡ true)
+    by_test true at f later = let same : x ≡ u = cc in (inl same, sym (ap p same) ∙ at)
+    by_test false at f later = let h = later f in (inr h.0, h.1)
 
 fails_all : (p : Interior → Bool) (xs : List Interior) (u : Interior) → list_any p xs ≡ false → Has xs u → p u ≡ false
 fails_all p [] u none h = absurd h
@@ -71,8 +71,7 @@ pub the_least : TheLeastDistanceIsDecided
 the_least interior protocols p row is =
     let routes : List Interior = routes_at interior protocols p in
     let beaten : Interior → Bool = λ r. list_any (λ other. nat_lt (distance_of other) (distance_of r)) routes in
-    let h = found_has (λ r. not (beaten r)) routes row is in
-    (
+    let h = found_has (λ r. not (beaten r)) routes row is in (
       some_protocol interior p protocols row h.0,
       λ proto other of e.
           ltb-false (distance_of other) (distance_of row)

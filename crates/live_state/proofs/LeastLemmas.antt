@@ -51,19 +51,19 @@ none_below n m (x ∷ xs) less none =
 -- ---- what is found
 found_any : (p q : Interior → Bool) (xs : List Interior) (b : Interior) → find p xs ≡ Some b → q b ≡ true → list_any q xs ≡ true
 found_any p q [] b found is = absurd (let e : None ≡ Some b = found in cc)
-found_any p q (x ∷ xs) b found is = by_test (p x) found
+found_any p q (x ∷ xs) b found is = by_test (p x) found (λ e. found_any p q xs b e is)
   where
-    by_test : (t : Bool) → cond t (Some x) (find p xs) ≡ Some b → (q x || list_any q xs) ≡ true
-    by_test true e = let same : x ≡ b = cc in ap (λ (t : Bool). t || list_any q xs) (ap q same ∙ is)
-    by_test false e = ap (λ (t : Bool). q x || t) (found_any p q xs b e is) ∙ or_true (q x)
+    by_test : (t : Bool) → cond t (Some x) (find p xs) ≡ Some b → (find p xs ≡ Some b → list_any q xs ≡ true) → (q x || list_any q xs) ≡ true
+    by_test true e later = let same : x ≡ b = cc in ap (λ (t : Bool). t || list_any q xs) (ap q same ∙ is)
+    by_test false e later = ap (λ (t : Bool). q x || t) (later e) ∙ or_true (q x)
 
 found_by : (p q : Interior → Bool) (xs : List Interior) (b : Interior) → ((r : Interior) → p r ≡ false → q r ≡ false) → q b ≡ true → find p xs ≡ Some b → find q xs ≡ Some b
 found_by p q [] b less is found = found
-found_by p q (x ∷ xs) b less is found = by_test (p x) refl found
+found_by p q (x ∷ xs) b less is found = by_test (p x) refl found (λ e. found_by p q xs b less is e)
   where
-    by_test : (t : Bool) → p x ≡ t → cond t (Some x) (find p xs) ≡ Some b → cond (q x) (Some x) (find q xs) ≡ Some b
-    by_test true at e = let same : x ≡ b = cc in ap (λ (t : Bool). cond t (Some x) (find q xs)) (ap q same ∙ is) ∙ e
-    by_test false at e = ap (λ (t : Bool). cond t (Some x) (find q xs)) (less x at) ∙ found_by p q xs b less is e
+    by_test : (t : Bool) → p x ≡ t → cond t (Some x) (find p xs) ≡ Some b → (find p xs ≡ Some b → find q xs ≡ Some b) → cond (q x) (Some x) (find q xs) ≡ Some b
+    by_test true at e later = let same : x ≡ b = cc in ap (λ (t : Bool). cond t (Some x) (find q xs)) (ap q same ∙ is) ∙ e
+    by_test false at e later = ap (λ (t : Bool). cond t (Some x) (find q xs)) (less x at) ∙ later e
 
 -- ---- the least
 -- of a list that isn't empty: both ways give this one, and none is below it
@@ -95,8 +95,8 @@ found_later : (x : Interior) (xs : List Interior) → (f : Found xs) → nat_lt 
 found_later x xs f less =
     let b : Interior = f.one in
     let some : below (distance_of x) (x ∷ xs) ≡ true =
-        ap (λ (t : Bool). nat_lt (distance_of x) (distance_of x) || t) (found_any (unbeaten xs) (λ other. nat_lt (distance_of other) (distance_of x)) xs b f.least_is less)
-        ∙ or_true (nat_lt (distance_of x) (distance_of x)) in
+    ap (λ (t : Bool). nat_lt (distance_of x) (distance_of x) || t) (found_any (unbeaten xs) (λ other. nat_lt (distance_of other) (distance_of x)) xs b f.least_is less)
+    ∙ or_true (nat_lt (distance_of x) (distance_of x)) in
     let all : below (distance_of b) (x ∷ xs) ≡ false = both_false (nat_lt (distance_of x) (distance_of b)) (below (distance_of b) xs) (not_below (distance_of b) (distance_of x) less) f.none in
     record {
       one = b;
@@ -112,7 +112,7 @@ found_later x xs f less =
 
 pub found : (x : Interior) (xs : List Interior) → Found (x ∷ xs)
 found x [] = found_first x [] refl refl
-found x (y ∷ ys) = by_test (found y ys) (nat_lt (distance_of (found y ys).one) (distance_of x)) refl
+found x (y ∷ ys) = let f = found y ys in by_test f (nat_lt (distance_of f.one) (distance_of x)) refl
   where
     by_test : (f : Found (y ∷ ys)) (t : Bool) → nat_lt (distance_of f.one) (distance_of x) ≡ t → Found (x ∷ y ∷ ys)
     by_test f true less = found_later x (y ∷ ys) f less
@@ -140,7 +140,7 @@ least_of_two a b =
 lesser_joins : (a b c : Option Interior) → lesser a (lesser b c) ≡ lesser (lesser a b) c
 lesser_joins None b c = refl
 lesser_joins (Some x) None c = refl
-lesser_joins (Some x) (Some y) None = lesser_none (lesser (Some x) (Some y))
+lesser_joins (Some x) (Some y) None = sym (lesser_none (lesser (Some x) (Some y)))
 lesser_joins (Some x) (Some y) (Some z) = by_tests (nat_lt (distance_of z) (distance_of y)) (nat_lt (distance_of y) (distance_of x)) refl refl
   where
     by_tests : (zy yx : Bool) → nat_lt (distance_of z) (distance_of y) ≡ zy → nat_lt (distance_of y) (distance_of x) ≡ yx
