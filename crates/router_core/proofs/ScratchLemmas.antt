@@ -35,10 +35,9 @@ use Rattle.rib_merge.specs.Forwards.{forwarded}
 use Rattle.router_core.specs.declared.router.Phase.TheVariants as phases
 use Rattle.peer_side.specs.Peers.{chain_at, links_by, routes_of, rules_of, has_turn_in}
 use Rattle.live_state.specs.Lives.{Routes, Interiors}
-use Rattle.live_state.specs.Decided.{live_rows, judged_rows, least_rows, origins, since_local, from_scratch}
+use Rattle.live_state.specs.Decided.{live_rows, judged_rows, least_rows, origins, since_local}
 use Rattle.live_state.proofs.LeastLemmas.{least_of_two, least_of_four}
-use Rattle.router_core.specs.Moments.{Moment, rib_by, router_links}
-use Rattle.router_core.specs.Lives.{live_state}
+use Rattle.router_core.specs.Moments.{Moment, rib_by}
 use Rattle.router_core.specs.Stands.{StandsAt, Stands, EachChain, EachPeer, OneSpeaker}
 use Rattle.router_core.specs.Scratch.{IsAtRest, IsExactAt, IsExact}
 use Rattle.loss_chain.proofs.TableLemmas.{same_by, no_table, table_here}
@@ -54,11 +53,12 @@ no_stages (d ∷ ds) none = absurd (let clash : true ≡ false = sym (ap is_some
 -- where that of a loss has none, no link leads into it
 no_link : {R : Type 0} (live : FinMap prefix_cmp R) (n : ℕ) (ds : List (Lost R)) → is_some (table_of n ds) ≡ false → rows_above live n ds ≡ None
 no_link live n [] none = refl
-no_link live n (d ∷ ds) none = by_test (d.number == n) none
+no_link live n (d ∷ ds) none = by_test (d.number == n) none (λ e. no_link live n ds e)
   where
-    by_test : (t : Bool) → is_some (cond t (Some d.rows) (table_of n ds)) ≡ false → cond t (Some (rows_below live ds)) (rows_above live n ds) ≡ None
-    by_test true some = absurd (let clash : true ≡ false = some in cc)
-    by_test false later = no_link live n ds later
+    by_test : (t : Bool) → is_some (cond t (Some d.rows) (table_of n ds)) ≡ false → (is_some (table_of n ds) ≡ false → rows_above live n ds ≡ None)
+        → cond t (Some (rows_below live ds)) (rows_above live n ds) ≡ None
+    by_test true some later = absurd (let clash : true ≡ false = some in cc)
+    by_test false e later = later e
 
 -- no peer, nothing to judge
 unjudged : (s : Option Speaker) (rules : List Rule) (routes : Routes) → judged_rows s None rules routes ≡ None

@@ -1,6 +1,6 @@
 -- Which links of a moment are what the live state alone asks for (`from_scratch` of `live_state`): all, where no task has work, and
 -- at any moment each that no work holds up.
-use Rattle.std.specs.Prelude.{◌≡◌, Bool, false, Contains}
+use Rattle.std.specs.Prelude.{◌≡◌, false, Contains}
 use Rattle.journal_text.specs.declared.link.Link.{Link}
 use Rattle.journal_text.specs.declared.link.Link.TheVariants.{In, Peer, Filt, Lost}
 use Rattle.journal_text.specs.declared.link.Task.{Task}
