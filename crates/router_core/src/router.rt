@@ -5,6 +5,7 @@ ghost use Rattle.journal_text.specs.declared.line.Line.{Line};
 ghost use Rattle.journal_text.specs.Walk.{Leads};
 ghost use Rattle.event_text.specs.declared.event.Event.TheVariants as events;
 ghost use Rattle.event_text.specs.Declarations.{refusal};
+ghost use Rattle.event_text.specs.WellFormed.{IsWellFormed};
 ghost use Rattle.peer_side.specs.Peers.{chain_at};
 ghost use Rattle.router_core.specs.Moments.{first_moment, router_links, Gives};
 ghost use Rattle.router_core.specs.Stands.{CoreStands};
@@ -13,6 +14,7 @@ ghost use Rattle.router_core.specs.Blocks.{Acts};
 ghost use Rattle.router_core.specs.Lookups.{IsCountOf};
 ghost use Rattle.router_core.specs.Works.{Comes, HaveDrained, HasIdled};
 
+use crate::laws::declarations_follow;
 use crate::network::Network;
 use addr4::Memory;
 use event_text::{Declared, Event};
@@ -133,6 +135,7 @@ impl Core {
     /// other events. After want of memory the core answers nothing else.
     pub fn step(&mut self, event: Event, journal: &mut Journal) -> Result<u128, Memory>
         requires admitted { refusal self.old.moment.declared event ≡ None }
+        requires formed { IsWellFormed event }
         requires few { self.old.events < 4294967295 }
         requires stands { self.old.failed ≡ false → CoreStands self.old }
         ensures acts { IfOk result (λ turns. Gives (Acts self.old.moment event turns self.new.moment) journal.old journal.new) }
@@ -145,6 +148,7 @@ impl Core {
         if self.failed {
             return Err(Memory);
         }
+        declarations_follow();
         self.failed = true;
         let turns = self.network.step(event, journal)?;
         self.events += 1;
