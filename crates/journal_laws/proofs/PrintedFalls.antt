@@ -1,5 +1,5 @@
 -- Entries at one prefix, on links of which each is written once: what they hold stood before them, or stands behind them.
-use Rattle.std.proofs.Common.{◌≡◌, ◌⊎◌, ℕ, Bool, true, false, cond, List, [], ◌∷◌, Option, Some, None, IfSome, option_map, refl, sym, ap, subst, ◌∙◌, inl, inr, arith}
+use Rattle.std.proofs.Common.{◌≡◌, ℕ, Bool, true, false, cond, List, [], ◌∷◌, Option, Some, None, IfSome, option_map, refl, sym, ap, subst, ◌∙◌, inl, inr, arith}
 use Rattle.std.specs.Ordering.{eq_by_cmp}
 use Rattle.std.specs.List.{AllByRecursion}
 use Rattle.addr4.specs.Prefixes.{Network, prefix_cmp}
@@ -30,8 +30,8 @@ delete_printed peers link p old named prefix was = record { short = record { ran
 
 replace_printed : (peers : ℕ → Option Neighbour) (link : Link) (p : Network) (old new : Value) → IsNamed link → IsPrefix p → IsPrintable peers old → IsPrintable peers new → IsPrinted peers (Journal (Replace link p old new))
 replace_printed peers link p old new named prefix was is = record {
-  short = record { ranges = (named, prefix, was.well_told.ranges, is.well_told.ranges); values = (was.short, is.short, tt); octets = omega arith };
-  told = (was.well_told.told, is.well_told.told, tt);
+  short = record { ranges = (named, prefix, was.well_told.ranges, is.well_told.ranges); values = (was.short, (is.short, tt)); octets = omega arith };
+  told = (was.well_told.told, (is.well_told.told, tt));
 }
 
 pub changes_printed : ChangesArePrinted

@@ -1,12 +1,10 @@
 -- Each row of each live link can be printed, where the rows of the tables can.
-use Rattle.std.proofs.Common.{◌≡◌, ◌⊎◌, ℕ, ◌^◌, ◌<◌, ◌==◌, Bool, true, false, cond, not, List, [], ◌∷◌, map, Option, Some, None, IfSome, option_map, refl, sym, ap, subst, ◌∙◌, inl, inr, arith}
+use Rattle.std.proofs.Common.{◌≡◌, ℕ, ◌^◌, ◌<◌, ◌==◌, Bool, true, false, cond, List, [], ◌∷◌, map, Option, Some, None, IfSome, option_map, refl, sym, ap, subst, ◌∙◌, inl, inr, arith}
 use Rattle.std.specs.Prelude.{filter}
 use Rattle.std.specs.List.{AllByRecursion}
-use Rattle.std.specs.FinMap as tables
 use Rattle.std.specs.FinMap.{FinMap}
 use Rattle.addr4.specs.Prefixes.{Network, prefix_cmp}
 use Rattle.bgp_attr.specs.declared.attrs.Attrs.{Attrs}
-use Rattle.bgp_attr.specs.declared.route.Route.{Route}
 use Rattle.bgp_attr.specs.declared.speaker.Neighbour.{Neighbour}
 use Rattle.rib_route.specs.declared.Proto.{Proto}
 use Rattle.rib_route.specs.declared.Proto.TheVariants.{Connected, Static, Ospf, Rip}
@@ -15,10 +13,10 @@ use Rattle.rib_route.specs.declared.rows.FibRow.{FibRow}
 use Rattle.rib_route.specs.Forwarding.{fib_row}
 use Rattle.rib_merge.specs.Merging.{merged, row_of_both}
 use Rattle.rib_merge.specs.Forwards.{forwarded}
-use Rattle.link_change.specs.Rows.{Rows, is_empty_map}
+use Rattle.link_change.specs.Rows.{Rows}
 use Rattle.policy_rules.specs.declared.rule.Rule.{Rule}
 use Rattle.policy_rules.specs.Ranges.{AreRules}
-use Rattle.pass_core.specs.Passed.{Walked, is_beyond, function_of, function_at, begun, edited, walk_edited, walk_stepped, walk_of_waiting, after_walk}
+use Rattle.pass_core.specs.Passed.{Walked, is_beyond, function_of, function_at, edited, walk_edited, walk_stepped, walk_of_waiting, after_walk}
 use Rattle.pass_core.specs.Turns.{walked_on}
 use Rattle.filter_bank.specs.Filtered.{filtered}
 use Rattle.journal_text.specs.declared.link.Link.{Link}
@@ -26,13 +24,13 @@ use Rattle.journal_text.specs.declared.link.Link.TheVariants as names
 use Rattle.journal_text.specs.declared.value.Value.{Value}
 use Rattle.journal_text.specs.Names.{IsNameNumber}
 use Rattle.journal_text.specs.Values.{valued, attrs_value, route_value, interior_value, fib_value}
-use Rattle.journal_text.specs.Walk.{Links, no_links}
+use Rattle.journal_text.specs.Walk.{no_links}
 use Rattle.journal_check.specs.Laws.{IsPrefix}
 use Rattle.journal_laws.specs.Printed.{IsPrintable}
 use Rattle.journal_laws.proofs.FilteredRoutes.{filtered_printable}
 use Rattle.loss_chain.specs.Lost.{Lost}
 use Rattle.loss_chain.specs.Tables.{Tables, rows_above, lowest_rows, AreRising}
-use Rattle.loss_chain.specs.Rows.{IsLostRow, IsRow}
+use Rattle.loss_chain.specs.Rows.{IsRow}
 use Rattle.loss_chain.specs.Steps.{no_tables, fed_tables, lost_tables, welded_tables, without, deletions_after, swept_one, swept_tables}
 use Rattle.loss_chain.proofs.FeedLemmas.{no_row_at_first, feeds_bring_one_row, losses_bring_no_row, welds_bring_no_row, turns_bring_no_row, lowest_rows_are_rows, numbers_fed, numbers_swept}
 use Rattle.loss_chain.proofs.ListLemmas.{all_mapped, all_filtered}
@@ -150,12 +148,12 @@ module _ (peers : ℕ → Option Neighbour) where
         by_row (Some row) at is = let same : value row ≡ v = cc in subst (λ (x : Value). IsPrefix p × IsPrintable peers x) same (prints p row at)
 
     tables_print : (t : Tables R) → ArePrintableTables value t → Prints peers value (lowest_rows t)
-    tables_print t h p row is = let shown = h.rows p row (lowest_rows_are_rows t p row is) in (shown.prefix, shown.value peers)
+    tables_print t h p row is = let shown = h.rows p row (lowest_rows_are_rows t p row is) in (shown.prefix, shown.printed peers)
 
     above_prints : (live : FinMap prefix_cmp R) (n : ℕ) (ds : List (Lost R)) → ((p : Network) (row : R) → IsRow (record { live = live; deletions = ds }) p row → IsPrintableRow p (value row)) → PrintsIfAny peers (option_map (valued value) (rows_above live n ds))
     above_prints live n [] each = none_prints
     above_prints live n (d ∷ ds) each = elim (d.number == n) as (λ (b : Bool). PrintsIfAny peers (option_map (valued value) (cond b (Some (lowest_rows (record { live = live; deletions = ds }))) (rows_above live n ds)))) [
-      | true ↦ live_prints (lowest_rows (record { live = live; deletions = ds })) (λ p row is. let shown = higher p row (lowest_rows_are_rows (record { live = live; deletions = ds }) p row is) in (shown.prefix, shown.value peers))
+      | true ↦ live_prints (lowest_rows (record { live = live; deletions = ds })) (λ p row is. let shown = higher p row (lowest_rows_are_rows (record { live = live; deletions = ds }) p row is) in (shown.prefix, shown.printed peers))
       | false ↦ above_prints live n ds higher
     ]
       where

@@ -141,11 +141,10 @@ down_of p way (Some change) es down = inl down.1
 
 pub table_row : {R : Type 0} (n : ℕ) (ds : List (Lost R)) (t : FinMap prefix_cmp R) (p : Network) (row : R) → table_of n ds ≡ Some t → tables.get t p ≡ Some row → IsLostRow ds p row
 table_row n [] t p row there is = absurd (cc)
-table_row {R} n (d ∷ ds) t p row there is = by_test (d.number == n) there
-  where
-    by_test : (b : Bool) → cond b (Some d.rows) (table_of n ds) ≡ Some t → IsLostRow (d ∷ ds) p row
-    by_test true here = let same : d.rows ≡ t = cc in inl (subst (λ (x : FinMap prefix_cmp R). tables.get x p ≡ Some row) (sym same) is)
-    by_test false later = inr (table_row n ds t p row later is)
+table_row {R} n (d ∷ ds) t p row there is = elim (d.number == n) as (λ (b : Bool). cond b (Some d.rows) (table_of n ds) ≡ Some t → IsLostRow (d ∷ ds) p row) [
+  | true ↦ λ here. let same : d.rows ≡ t = cc in inl (subst (λ (x : FinMap prefix_cmp R). tables.get x p ≡ Some row) (sym same) is)
+  | false ↦ λ later. inr (table_row n ds t p row later is)
+] there
 
 -- ---- the ways in a tree
 above_org : (proto : Proto) (ds : List (Lost Interior)) → AllByRecursion (λ (d : Lost Interior). IsNameNumber d.number) ds → AllByRecursion (λ (d : Lost Interior). height (Org proto) < height (LostLink proto d.number)) ds

@@ -18,7 +18,7 @@ use Rattle.journal_laws.specs.Printed.{IsPrintable}
 -- a row that can be printed at its prefix, whoever the peers are
 pub record IsPrintableRow (p : Network) (value : Value) : Type 0 where
   pub prefix : IsPrefix p
-  pub value : (peers : ℕ → Option Neighbour) → IsPrintable peers value
+  pub printed : (peers : ℕ → Option Neighbour) → IsPrintable peers value
 
 -- each row, live or lost, and the numbers of the losses
 pub record ArePrintableTables {R : Type 0} (value : R → Value) (t : Tables R) : Type 0 where

@@ -67,11 +67,10 @@ run_printed n m end (line ∷ lines) out run =
 -- ---- the number of a refused line
 verdict_low : (n : ℕ) (d : Declaration) (lines : List (List ℕ)) (k : ℕ) (code : Code) → verdict_from n d lines ≡ Some (k, code) → n ≤ 4294967296 → k ≤ 4294967296
 verdict_low n d [] k code e low = absurd (cc)
-verdict_low n d (line ∷ lines) k code e low = by_judge (judge n d line) refl e
-  where
-    by_judge : (r : Result Event Code) → judge n d line ≡ r → refused_or n r (λ event. verdict_from (n + 1) (declared_after d event) lines) ≡ Some (k, code) → k ≤ 4294967296
-    by_judge (Err c) at here = let same : n ≡ k = cc in omega (arith, same, low)
-    by_judge (Ok event) at later = let other : n ≢ 4294967296 = accepted_in_time n d line event at in verdict_low (n + 1) (declared_after d event) lines k code later (omega (arith, low, other))
+verdict_low n d (line ∷ lines) k code e low = elim (judge n d line) as (λ r. judge n d line ≡ r → refused_or n r (λ event. verdict_from (n + 1) (declared_after d event) lines) ≡ Some (k, code) → k ≤ 4294967296) [
+  | Err c ↦ λ at here. let same : n ≡ k = cc in omega (arith, same, low)
+  | Ok event ↦ λ at later. let other : n ≢ 4294967296 = accepted_in_time n d line event at in verdict_low (n + 1) (declared_after d event) lines k code later (omega (arith, low, other))
+] refl e
 
 -- ---- outputs
 output_lawful : (quiet : Bool) (lines : List (List ℕ)) (bytes : List ℕ) → IsOutput quiet lines bytes → IsLawfulToCheck bytes

@@ -48,7 +48,7 @@ worked_numbered m m' said n work most proto = let was = most proto in let is : (
 -- what stands behind a step can, and so can what it says
 record Prints (m m' : Moment) (said : List Line) : Type 0 where
   now : IsPrintableMoment m'
-  said : ArePrinted m.declared said
+  lines : ArePrinted m.declared said
   peers : KeepsPeers m.declared m'.declared
 
 step_prints : (m m' : Moment) (event : Event) (turns : ℕ) (said : List Line) → DeclarationsFollow → Stands m → IsPrintableMoment m → AreNumbered 4294967294 m.tree → refusal m.declared event ≡ None → IsWellFormed event → HasStepped m event turns m' said
@@ -57,7 +57,7 @@ step_prints m m' event turns said follow stands printable few admitted formed h 
     let l = event_printed m stands printable few event said turns m' formed h.block in
     let is : declared_after m.declared event ≡ m'.declared = sym (ap (λ (x : LiveState). x.declared) h.keeps.live ∙ follow (live_state m) event h.live h.after) in
     let d : Leaves m.declared m'.declared = subst (Leaves m.declared) is (event_leaves m.declared event printable.declared admitted formed) in
-    record { now = record { declared = d.declared; chains = l.chains; interior = l.interior }; said = l.printed; peers = d.peers }
+    record { now = record { declared = d.declared; chains = l.chains; interior = l.interior }; lines = l.printed; peers = d.peers }
 
 -- background work declares nothing
 pub work_prints : (m m' : Moment) (most : ℕ) → Stands m → IsPrintableMoment m → AreNumbered most m.tree → live_state m' ≡ live_state m → (Fit (neighbours m.declared) most m → Fit (neighbours m.declared) most m') → IsPrintableMoment m'
@@ -96,7 +96,7 @@ module _ (old : Cored) (m : Moment) (n : ℕ) (failed : Bool) (view : record { m
     }
 
     pub core_acts : Gives (Acts old.moment event turns m') before now
-    core_acts = (g.0, g.1, subst (λ (c : Cored). Acts c.moment event turns m' g.0) view (acts_of m m' event turns g.0 g.2 prints.said prints.peers))
+    core_acts = (g.0, g.1, subst (λ (c : Cored). Acts c.moment event turns m' g.0) view (acts_of m m' event turns g.0 g.2 prints.lines prints.peers))
 
   pub core_worked : (m' : Moment) (said : List Line) → Keeps (live_state m) m m' said → (Fit (neighbours m.declared) n m → Fit (neighbours m.declared) n m') → CoreStands (cored m' n)
   core_worked m' said work fits = record { stands = work.stands; printable = work_prints m m' n stood.stands stood.printable stood.numbered work.live fits; numbered = worked_numbered m m' said n work stood.numbered }

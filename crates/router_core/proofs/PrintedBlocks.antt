@@ -142,18 +142,18 @@ module _ (m : Moment) (stands : Stands m) (printable : IsPrintableMoment m) wher
   links_print link = by_region (region_of link)
     where
       by_chain : (o : Option Chained) → chain_at (owner_of link) m.chains ≡ o → PrintsIfAny (neighbours m.declared) (links_by o link)
-      by_chain None at rows p v none is = absurd (cc)
+      by_chain None at = λ rows p v none is. absurd (cc)
       by_chain (Some c) at = chain_prints (neighbours m.declared) c (chain_fit (owner_of link) c at) link
 
       by_speaker : (s : Option Speaker) → PrintsIfAny (neighbours m.declared) (rib_by s m.tree link)
-      by_speaker None rows p v none is = absurd (cc)
+      by_speaker None = λ rows p v none is. absurd (cc)
       by_speaker (Some me) = rib_prints (neighbours m.declared) m.tree printable.interior link
 
       by_region : (r : Region) → PrintsIfAny (neighbours m.declared) (parts m r link)
       by_region Inward = by_chain (chain_at (owner_of link) m.chains) refl
       by_region InteriorRoutes = by_speaker m.declared.speaker
       by_region Forward = by_speaker m.declared.speaker
-      by_region Elsewhere rows p v none is = absurd (cc)
+      by_region Elsewhere = λ rows p v none is. absurd (cc)
 
   asked : (link : Link) (p : Network) → IsNamed link → IsPrefix p → (of : Option (Rows Value)) → router_links m link ≡ of → Printed (answer_lines link p of)
   asked link p named prefix None at = (absent, tt)
@@ -237,7 +237,7 @@ module _ (m : Moment) (stands : Stands m) (printable : IsPrintableMoment m) wher
 
         with_attrs : (n : Network) (o : Option Attrs) → u.attrs ≡ o → IsPrefix n → IfSome o (λ a. IsPrintableRow n (attrs_value a))
         with_attrs n None at prefix = tt
-        with_attrs n (Some a) at prefix = record { prefix = prefix; value = λ all. read_printable all plain external octets u a are reads at }
+        with_attrs n (Some a) at prefix = record { prefix = prefix; printed = λ all. read_printable all plain external octets u a are reads at }
 
         announced : (o : Option Attrs) → u.attrs ≡ o → (ns : List Network) → Every IsNetwork ns → AllByRecursion Change (map (announced_with o) ns)
         announced o at [] each = tt
@@ -292,7 +292,7 @@ module _ (m : Moment) (stands : Stands m) (printable : IsPrintableMoment m) wher
     declared (Some me) k words said turns m' named is = just _ _ said turns m' is (record {
       chains = put_each (λ j c. IsPrintableChain c) k _ m.chains (record { tables = none_printable attrs_value; in_force = All-nil (IsRule false); walk = tt }) printable.chains;
       interior = printable.interior;
-      printed = (begun (links.In k) named, begun (links.Filt k) named, tt);
+      printed = (begun (links.In k) named, (begun (links.Filt k) named, tt));
     })
 
     refiltered : (k : ℕ) (rules : List Rule) (said : List Line) (turns : ℕ) (m' : Moment) → AreRules false rules → Refilters k rules m said turns m' → Leaves (neighbours m.declared) m' said
@@ -322,7 +322,7 @@ module _ (m : Moment) (stands : Stands m) (printable : IsPrintableMoment m) wher
     event_printed (Local words) said turns m' formed is = just _ _ said turns m' is (record {
       chains = printable.chains;
       interior = printable.interior;
-      printed = (begun (links.Org Connected) tt, begun (links.Org Static) tt, begun (links.Org Ospf) tt, begun (links.Org Rip) tt, begun links.Low tt, begun links.Dyn tt, begun links.Int tt, begun links.Fib tt, tt);
+      printed = (begun (links.Org Connected) tt, (begun (links.Org Static) tt, (begun (links.Org Ospf) tt, (begun (links.Org Rip) tt, (begun links.Low tt, (begun links.Dyn tt, (begun links.Int tt, (begun links.Fib tt, tt))))))));
     })
     event_printed (Peer k words) said turns m' formed is = declared m.declared.speaker k words said turns m' (formed.0.least, formed.0.fits) is
     event_printed (Up k) said turns m' formed is = by_peer (λ p. BeginsIf p.up m k said turns m') k _ (λ p at begins. begun_if p.up k said turns m' begins) is
@@ -332,7 +332,7 @@ module _ (m : Moment) (stands : Stands m) (printable : IsPrintableMoment m) wher
     event_printed (RouteAdd p row) said turns m' formed is =
         let prefix : IsPrefix p = (formed.0.masked, formed.0.fits) in
         let own = formed.1 in
-        fed row.proto p (Some row) said m' prefix (record { prefix = prefix; value = λ all. record { well_told = record { ranges = (own.name, own.metric); told = own.gateway }; short = tt } }) is.1
+        fed row.proto p (Some row) said m' prefix (record { prefix = prefix; printed = λ all. record { well_told = record { ranges = (own.name, own.metric); told = own.gateway }; short = tt } }) is.1
     event_printed (RouteDel proto p) said turns m' formed is = dropped_if _ proto p said turns m' (formed.masked, formed.fits) is
     event_printed (Lose proto) said turns m' formed is = protocol_lost proto said m' is.1
     event_printed (Cover addr) said turns m' formed is = stays said m' is.1 (covered addr said formed is.2)

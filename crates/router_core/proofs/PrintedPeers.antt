@@ -22,11 +22,10 @@ each_octet (b ∷ bytes) each = (omega (arith, each 0), each_octet bytes (λ i. 
 -- ---- a declared peer
 low_session : (k : ℕ) (ps : List DeclaredPeer) (p : DeclaredPeer) → IsCounted ps → peer_at k ps ≡ Some p → p.session ≤ 65535
 low_session k [] p counted found = absurd (cc)
-low_session k (q ∷ ps) p counted found = by_test (nat_eq q.words.number k) found
-  where
-    by_test : (b : Bool) → cond b (Some q) (peer_at k ps) ≡ Some p → p.session ≤ 65535
-    by_test true here = subst (λ (x : DeclaredPeer). x.session ≤ 65535) (one_peer q p here) counted.0
-    by_test false there = low_session k ps p counted.2 there
+low_session k (q ∷ ps) p counted found = elim (nat_eq q.words.number k) as (λ (b : Bool). cond b (Some q) (peer_at k ps) ≡ Some p → p.session ≤ 65535) [
+  | true ↦ λ here. subst (λ (x : DeclaredPeer). x.session ≤ 65535) (one_peer q p here) counted.0
+  | false ↦ λ there. low_session k ps p counted.2 there
+] found
 
 pub record IsKnown (k : ℕ) (p : DeclaredPeer) : Type 0 where
   pub number : p.words.number ≡ k
@@ -61,19 +60,15 @@ nobody d declared = by_peer (peer_at 0 d.peers) refl
 -- ---- words
 words_mapped : (f : DeclaredPeer → DeclaredPeer) → KeepsWords f → (k : ℕ) (ps : List DeclaredPeer) → words_in (peer_at k (map f ps)) ≡ words_in (peer_at k ps)
 words_mapped f keeps k [] = refl
-words_mapped f keeps k (p ∷ ps) = ap (λ (w : Neighbour). words_in (cond (nat_eq w.number k) (Some (f p)) (peer_at k (map f ps)))) (keeps p) ∙ by_test (nat_eq p.words.number k)
-  where
-    by_test : (b : Bool) → words_in (cond b (Some (f p)) (peer_at k (map f ps))) ≡ words_in (cond b (Some p) (peer_at k ps))
-    by_test true = ap Some (keeps p)
-    by_test false = words_mapped f keeps k ps
+words_mapped f keeps k (p ∷ ps) = ap (λ (w : Neighbour). words_in (cond (nat_eq w.number k) (Some (f p)) (peer_at k (map f ps)))) (keeps p)
+    ∙ elim (nat_eq p.words.number k) as (λ (b : Bool). words_in (cond b (Some (f p)) (peer_at k (map f ps))) ≡ words_in (cond b (Some p) (peer_at k ps))) [ true ↦ ap Some (keeps p) | false ↦ words_mapped f keeps k ps ]
 
 words_pushed : (k : ℕ) (ps : List DeclaredPeer) (q : DeclaredPeer) (w : Neighbour) → words_in (peer_at k ps) ≡ Some w → words_in (peer_at k (ps ++ q ∷ [])) ≡ Some w
 words_pushed k [] q w there = absurd (cc)
-words_pushed k (p ∷ ps) q w there = by_test (nat_eq p.words.number k) there
-  where
-    by_test : (b : Bool) → words_in (cond b (Some p) (peer_at k ps)) ≡ Some w → words_in (cond b (Some p) (peer_at k (ps ++ q ∷ []))) ≡ Some w
-    by_test true here = here
-    by_test false later = words_pushed k ps q w later
+words_pushed k (p ∷ ps) q w there = elim (nat_eq p.words.number k) as (λ (b : Bool). words_in (cond b (Some p) (peer_at k ps)) ≡ Some w → words_in (cond b (Some p) (peer_at k (ps ++ q ∷ []))) ≡ Some w) [
+  | true ↦ λ here. here
+  | false ↦ λ later. words_pushed k ps q w later
+] there
 
 -- ---- each event
 -- what is declared after an event

@@ -13,6 +13,7 @@ use Rattle.link_change.specs.declared.change.Change.{Change}
 use Rattle.journal_text.specs.Values.{attrs_value, interior_value, fib_value}
 use Rattle.journal_text.specs.Walk.{no_links}
 use Rattle.journal_text.specs.declared.entry.Entry.{Entry}
+use Rattle.journal_text.specs.declared.value.Value.{Value}
 use Rattle.journal_text.specs.declared.line.Line.{Line}
 use Rattle.journal_text.specs.declared.line.Line.TheVariants as lines
 use Rattle.journal_text.specs.declared.link.Link.{Link}
