@@ -1,8 +1,7 @@
 -- What each event says can be printed, and so can what stands behind it.
-use Rattle.std.proofs.Common.{◌≡◌, ℕ, ◌+◌, ◌<◌, ◌≤◌, ◌^◌, Bool, true, false, cond, not, List, [], ◌∷◌, ◌++◌, map, length, Option, Some, None, IfSome, is_some, refl, sym, ap, subst, ◌∙◌, arith}
+use Rattle.std.proofs.Common.{◌≡◌, ℕ, ◌+◌, ◌<◌, ◌≤◌, ◌^◌, Bool, true, false, cond, not, List, [], ◌∷◌, map, Option, Some, None, IfSome, refl, sym, ap, subst, ◌∙◌, arith}
 use Rattle.std.specs.Prelude.{filter}
 use Rattle.std.specs.List.{AllByRecursion}
-use Rattle.std.specs.FinMap as tables
 use Rattle.std.proofs.lemmas.List.Elements.{All-nil}
 use Rattle.addr4.specs.Prefixes.{Network}
 use Rattle.bgp_attr.specs.Hosts.{is_host_prefix}
@@ -11,7 +10,6 @@ use Rattle.bgp_attr.specs.declared.speaker.Speaker.{Speaker}
 use Rattle.bgp_attr.specs.declared.speaker.Neighbour.{Neighbour}
 use Rattle.bgp_wire.specs.Grammar.{Reads, without}
 use Rattle.bgp_wire.specs.Readable.{AreOctets, IsNetwork}
-use Rattle.bgp_wire.specs.Spelling.{notification_octets}
 use Rattle.bgp_wire.specs.declared.message.Message.{Message}
 use Rattle.bgp_wire.specs.declared.message.Message.TheVariants as messages
 use Rattle.bgp_wire.specs.declared.message.Update.{Update}
@@ -31,7 +29,6 @@ use Rattle.register_interest.specs.Covers.{matched, longest, IsLongest}
 use Rattle.register_interest.proofs.CoverLemmas.{longest_is}
 use Rattle.journal_text.specs.Names.{IsNameNumber, IsNamed}
 use Rattle.journal_text.specs.Values.{attrs_value, interior_value}
-use Rattle.journal_text.specs.declared.entry.Entry.{Entry}
 use Rattle.journal_text.specs.declared.entry.Entry.TheVariants as entries
 use Rattle.journal_text.specs.declared.line.Line.{Line}
 use Rattle.journal_text.specs.declared.line.Line.TheVariants as lines
@@ -42,32 +39,30 @@ use Rattle.journal_check.specs.Laws.{IsPrefix, IsMatch}
 use Rattle.journal_laws.specs.Printed.{IsPrinted}
 use Rattle.journal_laws.specs.Standing.{IsPrintableRow, ArePrintableTables, IsPrintableChain}
 use Rattle.journal_laws.proofs.ReadAttrs.{read_printable}
-use Rattle.journal_laws.proofs.PrintedRows.{AreFit, IsFit, PrintsIfAny, none_printable, fed_fit, lost_printable, edited_printable, chain_prints, int_prints, rib_prints}
+use Rattle.journal_laws.proofs.PrintedRows.{AreFit, IsFit, PrintsIfAny, none_printable, fed_fit, lost_printable, edited_printable, chain_prints, rib_prints}
 use Rattle.journal_laws.proofs.PrintedWays.{route_way}
 use Rattle.link_region.specs.declared.regions.Region.{Region}
 use Rattle.link_region.specs.declared.regions.Region.TheVariants.{Inward, InteriorRoutes, Forward, Elsewhere}
 use Rattle.link_region.specs.Regions.{region_of}
-use Rattle.loss_chain.proofs.ListLemmas.{all_any, all_both, all_made}
+use Rattle.loss_chain.proofs.ListLemmas.{all_both}
 use Rattle.in_chain.specs.Chains.{Chained}
-use Rattle.in_chain.specs.Steps.{new_chain}
 use Rattle.policy_rules.specs.declared.rule.Rule.{Rule}
 use Rattle.policy_rules.specs.Ranges.{AreRules, IsRule}
 use Rattle.peer_side.specs.Peers.{chain_at, overdue_at, links_by}
 use Rattle.journal_text.specs.Links.{owner_of}
-use Rattle.peer_side.specs.Steps.{LosesPeer}
 use Rattle.peer_side.proofs.PutLemmas.{put_each}
 use Rattle.rib_tree.specs.Branches.{Branch}
 use Rattle.rib_tree.specs.BranchSteps.{lost_branch, fed_branch}
 use Rattle.rib_tree.specs.Falls.{way_of_route}
 use Rattle.rib_tree.specs.Steps.{fed_tree, tree_overdue, tree_loss_entries}
 use Rattle.rib_tree.specs.Trees.{branch_of, int_rows, AreNumbered}
-use Rattle.router_core.specs.Moments.{Moment, parts, rib_by, router_links, bound_of}
+use Rattle.router_core.specs.Moments.{Moment, parts, rib_by, router_links}
 use Rattle.router_core.specs.Printable.{words_in, neighbours, IsPrintableMoment}
 use Rattle.router_core.specs.Lives.{plain, Says, changes_of, announced_with, withdrawn_from}
 use Rattle.router_core.specs.Stands.{Stands, EachChain, InteriorTree}
 use Rattle.router_core.specs.Phases.{all_phases}
-use Rattle.router_core.specs.Turns.{journal_lines, InPeers, FallsRoute}
-use Rattle.router_core.specs.Blocks.{Just, begin_line, AreMessageOctets, Loses, Declares, Refilters, DropsRouteIf, LosesProtocol, CoversAddress, Notifies, Hears, BeginsIf, EndsIf, HearsIf, answer_lines, AreRows, Shows, ByPeer, IsBlock}
+use Rattle.router_core.specs.Turns.{journal_lines, FallsRoute}
+use Rattle.router_core.specs.Blocks.{Just, begin_line, AreMessageOctets, Loses, Declares, Refilters, DropsRouteIf, LosesProtocol, CoversAddress, Hears, BeginsIf, EndsIf, HearsIf, answer_lines, Shows, ByPeer, IsBlock}
 use Rattle.router_core.proofs.StandLemmas.{peer_of}
 use Rattle.router_core.proofs.TreeParts.{put_all}
 use Rattle.router_core.proofs.PrintedPeers.{IsKnown, known_peer}
@@ -310,7 +305,7 @@ module _ (m : Moment) (stands : Stands m) (printable : IsPrintableMoment m) wher
     ended_if false k p said turns m' up at is = just _ m said turns m' is (stays _ m refl (ignored, tt))
 
     heard_if : (up : Bool) (k : ℕ) (p : DeclaredPeer) (octets : List ℕ) (said : List Line) (turns : ℕ) (m' : Moment) → p.up ≡ up → peer_at k m.declared.peers ≡ Some p → AreOctets octets → HearsIf up m k p octets said turns m' → Leaves (neighbours m.declared) m' said
-    heard_if true k p octets said turns m' up at are is = heard k p octets is.1 said m' at up are is.2 is.3
+    heard_if true k p octets said turns m' up at are is = heard k p octets is.1.0 said m' at up are is.1.1 is.1.2
     heard_if false k p octets said turns m' up at are is = just _ m said turns m' is (stays _ m refl (ignored, tt))
 
     dropped_if : (has : Bool) (proto : Proto) (p : Network) (said : List Line) (turns : ℕ) (m' : Moment) → IsPrefix p → DropsRouteIf has proto p m said turns m' → Leaves (neighbours m.declared) m' said
