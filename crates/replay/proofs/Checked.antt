@@ -1,5 +1,5 @@
 -- What `check` says of an output.
-use Rattle.std.proofs.Common.{◌≡◌, ◌≢◌, ◌⊎◌, ℕ, ◌+◌, ◌<◌, ◌≤◌, Bool, List, [], ◌∷◌, ◌++◌, length, Option, Some, None, Result, Ok, Err, refl, sym, ap, subst, ◌∙◌, inl, inr, arith}
+use Rattle.std.proofs.Common.{◌≡◌, ◌≢◌, ◌⊎◌, ℕ, ◌+◌, ◌-◌, ◌<◌, ◌≤◌, Bool, List, [], ◌∷◌, ◌++◌, length, take, Option, Some, None, Result, Ok, Err, refl, sym, ap, subst, ◌∙◌, inl, inr, arith}
 use Rattle.std.specs.List.{AllByRecursion}
 use Rattle.bgp_attr.specs.declared.speaker.Neighbour.{Neighbour}
 use Rattle.journal_text.specs.Texts.{sender_number, line_text, text_of, entries_of}
@@ -65,10 +65,14 @@ run_printed n m end (line ∷ lines) out run =
     (both_printed (neighbours end.declared) run.0 run.1 (lines_kept m.declared end.declared keeps run.0 run.3.acts.printed) (run_printed (n + 1) run.2 end lines run.1 run.5))
 
 -- ---- the number of a refused line
+abbrev number_in : ℕ → Option (ℕ × Code) → ℕ
+number_in other None = other
+number_in other (Some refusal) = refusal.0
+
 verdict_low : (n : ℕ) (d : Declaration) (lines : List (List ℕ)) (k : ℕ) (code : Code) → verdict_from n d lines ≡ Some (k, code) → n ≤ 4294967296 → k ≤ 4294967296
 verdict_low n d [] k code e low = absurd (cc)
 verdict_low n d (line ∷ lines) k code e low = elim (judge n d line) as (λ r. judge n d line ≡ r → refused_or n r (λ event. verdict_from (n + 1) (declared_after d event) lines) ≡ Some (k, code) → k ≤ 4294967296) [
-  | Err c ↦ λ at here. let same : n ≡ k = cc in omega (arith, same, low)
+  | Err c ↦ λ at here. let same : n ≡ k = ap (number_in n) here in omega (arith, same, low)
   | Ok event ↦ λ at later. let other : n ≢ 4294967296 = accepted_in_time n d line event at in verdict_low (n + 1) (declared_after d event) lines k code later (omega (arith, low, other))
 ] refl e
 
@@ -83,7 +87,7 @@ refused_lawful quiet text bytes r = subst IsLawfulToCheck (sym (r.written ∙ ap
     let is = refused_judged (neighbours o.end.declared) quiet o.out r.number r.code (run_printed 1 first_moment o.end _ o.out o.run) (omega (arith, low)) few o.lawful.lawful in
     (is, λ ending ends. lawful_ends (text_of quiet o.out ++ last) ending is ends))
   where
-    o : IsOutput quiet _ r.earlier
+    o : IsOutput quiet (take (r.number - 1) (lines_of text)) r.earlier
     o = r.output
 
     last : List ℕ

@@ -4,7 +4,7 @@ ghost use Rattle.std.specs.Prelude.{◌≡◌, ◌≢◌, ◌≤◌, ◌⊎◌, 
 ghost use Rattle.std.specs.Io.KnownBytes.{Appends, IsAtEnd};
 ghost use Rattle.edge_io.specs.Causes.{Rose};
 ghost use Rattle.replay.specs.Commands.{usage_line};
-ghost use Rattle.replay.specs.Answers.{HasDone, HasRefused, HasLawful, HasBroken, HasSoFar, HasFirst, HasFront, IsByText, IsUnfailing};
+ghost use Rattle.replay.specs.Answers.{HasDone, HasRefused, HasBroken, HasSoFar, HasFirst, HasFront, IsByText, IsUnfailing};
 ghost use Rattle.replay.specs.declared.words.Command.TheVariants as commands;
 
 use crate::run::run_events;
@@ -61,7 +61,6 @@ pub fn obey<S: Source, K: Sink>(
     ensures ok { result ≡ Status.Ok → HasDone command (S.left source.old) (K.taken sink.old) (K.taken sink.new) }
     ensures all_read { result ≡ Status.Ok → IsAtEnd (S.left source.new) }
     ensures refused { result ≡ Status.Refused → HasRefused command (S.left source.old) (K.taken sink.old) (K.taken sink.new) }
-    ensures lawful { (result ≡ Status.Ok) ⊎ (result ≡ Status.Refused) → HasLawful command (S.left source.old) (K.taken sink.old) (K.taken sink.new) }
     ensures broken { result ≡ Status.Broken → HasBroken command (S.left source.old) (K.taken sink.old) (K.taken sink.new) }
     ensures by_text { (result ≡ Status.Ok) ⊎ (result ≡ Status.Broken) ⊎ (result ≡ Status.Refused) → IsByText command (S.left source.old) result }
     ensures complete { ¬ Rose (S.faults source.old) (S.faults source.new) → ¬ Rose (K.faults sink.old) (K.faults sink.new) → IsUnfailing command (S.left source.old) result }
