@@ -9,6 +9,10 @@
 //! ([`what_was_read_is_printable`], [`filtered_routes_are_printable`]); and so are the entries of what one change of rows causes,
 //! where the rows are ([`falls_are_printed`]).
 //!
+//! What stands in tables and chains and can be printed is in `specs/Standing`: each row, live or lost, the numbers of the losses,
+//! and the rules of filters. Then each row of each link of a chain or a tree can be printed, and so can what a fall or a turn
+//! writes.
+//!
 //! For the proofs of the crates above, which know that their lines are such. Each law is a function that does nothing, whose
 //! contract is the law.
 #![tactic(auto)]

@@ -12,7 +12,8 @@
 //! of a journal (NSDI 2005, section 5.1) on all links together. After an idle no deletion stage stands and no walk is on
 //! (`IsSettled`), and each link is what the live state alone asks for (`Scratch`): of a peer the live routes and what the
 //! latest rules make of them, of the interior side the live routes of each protocol, those of least distance, and what packets
-//! are forwarded by. An idle takes no more turns than it announces.
+//! are forwarded by. An idle takes no more turns than it announces. All that stands can be printed and read back, and so can each
+//! line that an event gives (`Printable`).
 //!
 //! For want of memory a call answers `Memory`, and from then on each further call does: what was half done is never seen.
 #![tactic(auto)]
