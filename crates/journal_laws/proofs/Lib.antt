@@ -12,3 +12,6 @@ mod WalksBack
 pub mod LawfulTexts
 pub mod ReadAttrs
 pub mod FilteredRoutes
+pub mod PrintedFalls
+pub mod PrintedRows
+pub mod PrintedWays

@@ -1,5 +1,5 @@
 -- Laws of what is printed, and of what `check` says of it.
-use Rattle.std.specs.Prelude.{◌≡◌, ◌↔◌, ℕ, ◌^◌, ◌<◌, ◌≤◌, Bool, List, [], ◌∷◌, ◌++◌, length, Option, Some}
+use Rattle.std.specs.Prelude.{◌≡◌, ◌↔◌, ◌⊎◌, ℕ, ◌^◌, ◌<◌, ◌≤◌, Bool, false, List, [], ◌∷◌, ◌++◌, length, Option, Some, IfSome}
 use Rattle.std.specs.List.{AllByRecursion}
 use Rattle.addr4.specs.Prefixes.{Network}
 use Rattle.bgp_attr.specs.declared.attrs.Attrs.{Attrs}
@@ -15,16 +15,21 @@ use Rattle.policy_rules.specs.declared.rule.Rule.{Rule}
 use Rattle.policy_rules.specs.Ranges.{AreRules}
 use Rattle.filter_bank.specs.Filtered.{filtered}
 use Rattle.journal_text.specs.Texts.{value_text, line_text, text_of, entries_of}
-use Rattle.journal_text.specs.Walk.{Links, IsLawful, Leads, fold_links, no_links}
+use Rattle.journal_text.specs.Walk.{Links, IsLawful, Leads, fold_links, no_links, change_entries}
+use Rattle.journal_text.specs.Links.{same_link}
+use Rattle.journal_text.specs.Names.{IsNamed}
+use Rattle.journal_text.specs.Falls.{IsWhole, IsCut}
+use Rattle.journal_text.specs.declared.link.Link.{Link}
+use Rattle.link_change.specs.Rows.{Rows}
 use Rattle.journal_text.specs.declared.value.Value.{Value}
 use Rattle.journal_text.specs.declared.value.Value.TheVariants as values
 use Rattle.journal_text.specs.declared.entry.Entry.{Entry}
 use Rattle.journal_text.specs.declared.line.Code.{Code}
 use Rattle.journal_text.specs.declared.line.Line.{Line}
-use Rattle.journal_text.specs.declared.line.Line.TheVariants.{Refused}
+use Rattle.journal_text.specs.declared.line.Line.TheVariants.{Journal, Refused}
 use Rattle.journal_check.specs.Readings.{reading_of}
 use Rattle.journal_check.specs.Judged.{IsChecked}
-use Rattle.journal_check.specs.Laws.{said}
+use Rattle.journal_check.specs.Laws.{IsPrefix, said}
 use Rattle.journal_check.specs.declared.checked.Checked.TheVariants.{Lawful}
 use Rattle.check_run.specs.Lines.{lines_of}
 use Rattle.check_run.specs.Answers.{Ends}
@@ -86,3 +91,24 @@ RefusedIsLawful =
 -- And nothing else: this is how a run of `check` over such a text ends, where it gives an answer.
 abbrev pub LawfulEndsLawful : Type 0
 LawfulEndsLawful = (text : List ℕ) (ending : Ending) → IsChecked (lines_of text) Lawful → Ends text ending → ending ≡ endings.Lawful
+
+-- links whose names are in their ranges, each of them once
+abbrev pub AreEachOnce : List Link → Type 0
+AreEachOnce [] = Unit {0}
+AreEachOnce (link ∷ links) = IsNamed link × AllByRecursion (λ other. same_link link other ≡ false) links × AreEachOnce links
+
+-- each row at the prefix can be printed
+abbrev pub HasPrintable : (ℕ → Option Neighbour) → Network → Links Value → Type 0
+HasPrintable peers p links = (link : Link) (rows : Rows Value) (value : Value) → links link ≡ Some rows → rows p ≡ Some value → IsPrintable peers value
+
+-- Messages at one prefix down a way can be printed, where the rows before and after them can.
+abbrev pub FallsArePrinted : Type 0
+FallsArePrinted =
+    (peers : ℕ → Option Neighbour) (p : Network) (way : List Link) (entries : List (Entry Value)) (old new : Links Value) → IsPrefix p → AreEachOnce way → IsWhole p way entries ⊎ IsCut p way entries
+    → Leads old entries new → HasPrintable peers p old → HasPrintable peers p new → AllByRecursion (λ e. IsPrinted peers (Journal e)) entries
+
+-- So can the entry of a change of rows that can.
+abbrev pub ChangesArePrinted : Type 0
+ChangesArePrinted =
+    (peers : ℕ → Option Neighbour) (link : Link) (p : Network) (before after : Option Value) → IsNamed link → IsPrefix p → IfSome before (IsPrintable peers) → IfSome after (IsPrintable peers)
+    → AllByRecursion (λ e. IsPrinted peers (Journal e)) (change_entries link p before after)

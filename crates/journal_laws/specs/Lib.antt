@@ -1,3 +1,4 @@
 pub mod Printed
 pub mod TextLinks
+pub mod Standing
 pub mod Laws

@@ -6,13 +6,18 @@
 //! [`printed_lines_are_read`]), no two values have one text ([`values_are_told`]), and so the walk over the texts is the walk
 //! over the values ([`texts_are_walked`]). Together: of the text of lines whose entries obey the rules, nothing is to be said but
 //! that it is lawful ([`printed_is_lawful`]). Attributes that a peer said are such, and what a filter makes of them
-//! ([`what_was_read_is_printable`], [`filtered_routes_are_printable`]).
+//! ([`what_was_read_is_printable`], [`filtered_routes_are_printable`]); and so are the entries of what one change of rows causes,
+//! where the rows are ([`falls_are_printed`]).
+//!
+//! What stands in tables and chains and can be printed is in `specs/Standing`: each row, live or lost, the numbers of the losses,
+//! and the rules of filters. Then each row of each link of a chain or a tree can be printed, and so can what a fall or a turn
+//! writes.
 //!
 //! For the proofs of the crates above, which know that their lines are such. Each law is a function that does nothing, whose
 //! contract is the law.
 #![tactic(auto)]
 
-ghost use Rattle.journal_laws.specs.Laws.{ReadIsPrintable, FilteredIsPrintable, PrintedLinesAreShort, PrintedLinesAreRead, ValuesAreTold, TextsAreWalked, TextsTellWalks, PrintedIsLawful, RefusedIsLawful, LawfulEndsLawful};
+ghost use Rattle.journal_laws.specs.Laws.{ReadIsPrintable, FilteredIsPrintable, PrintedLinesAreShort, PrintedLinesAreRead, ValuesAreTold, TextsAreWalked, TextsTellWalks, PrintedIsLawful, RefusedIsLawful, LawfulEndsLawful, FallsArePrinted, ChangesArePrinted};
 
 /// Attributes that a peer said in a message can be printed.
 pub fn what_was_read_is_printable()
@@ -23,6 +28,13 @@ pub fn what_was_read_is_printable()
 /// ranges alone, and the route is from the peer.
 pub fn filtered_routes_are_printable()
     ensures { FilteredIsPrintable }
+{}
+
+/// The entries of what one change causes can be printed, where the rows before it and after it can: they stand at its prefix,
+/// on links of which each is written once.
+pub fn falls_are_printed()
+    ensures falls { FallsArePrinted }
+    ensures changes { ChangesArePrinted }
 {}
 
 /// A printed line has at most 65,536 bytes and its LF.

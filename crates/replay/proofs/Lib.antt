@@ -7,3 +7,4 @@ pub mod GoingOn
 pub mod Endings
 pub mod WordLemmas
 mod SettledLinks
+pub mod Checked

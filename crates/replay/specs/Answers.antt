@@ -1,5 +1,7 @@
 -- What the program reads and writes, by its command.
-use Rattle.std.specs.Prelude.{◌≡◌, ◌⊎◌, ℕ, List, Option, Some, None, IfSome, ⊤}
+use Rattle.std.specs.Prelude.{◌≡◌, ◌⊎◌, ℕ, ◌^◌, ◌<◌, List, length, Option, Some, None, IfSome, ⊤}
+use Rattle.journal_check.specs.Judged.{IsChecked}
+use Rattle.journal_check.specs.declared.checked.Checked.TheVariants.{Lawful}
 use Rattle.check_run.specs.declared.ending.Ending.{Ending}
 use Rattle.check_run.specs.declared.ending.Ending.TheVariants as endings
 use Rattle.check_run.specs.Lines.{lines_of}
@@ -25,6 +27,17 @@ abbrev pub HasRefused : Option Command → Option (List ℕ) → Option (List �
 HasRefused (Some (Run quiet)) left0 taken0 taken = Took left0 taken0 taken (IsRefusedOutput quiet)
 HasRefused (Some Check) left0 taken0 taken = Took left0 taken0 taken (λ text bytes. Judges text bytes endings.Refused)
 HasRefused None left0 taken0 taken = ⊥
+
+-- Of these bytes nothing is to be said but that they are a lawful journal, and so a run of `check` over them ends, unless they
+-- have 2^32 lines or more.
+abbrev pub IsLawfulToCheck : List ℕ → Type 0
+IsLawfulToCheck bytes = length (lines_of bytes) < 2 ^ 32 → IsChecked (lines_of bytes) Lawful × ((ending : Ending) → Ends bytes ending → ending ≡ endings.Lawful)
+
+-- what `check` says of what was written for all lines of the text, or for those before a refused one and that it is refused
+abbrev pub HasLawful : Option Command → Option (List ℕ) → Option (List ℕ) → Option (List ℕ) → Type 0
+HasLawful (Some (Run quiet)) left0 taken0 taken = Took left0 taken0 taken (λ text bytes. (IsOutput quiet (lines_of text) bytes ⊎ IsRefusedOutput quiet text bytes) × IsLawfulToCheck bytes)
+HasLawful (Some Check) left0 taken0 taken = ⊤
+HasLawful None left0 taken0 taken = ⊤
 
 -- what was written where a journal breaks a rule, which `check` alone says
 abbrev pub HasBroken : Option Command → Option (List ℕ) → Option (List ℕ) → Option (List ℕ) → Type 0

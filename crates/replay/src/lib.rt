@@ -24,7 +24,7 @@ ghost use Rattle.std.specs.String.{string_bytes};
 ghost use Rattle.std.specs.Io.KnownBytes.{Appends, IsAtEnd};
 ghost use Rattle.edge_io.specs.Causes.{Rose};
 ghost use Rattle.replay.specs.Commands.{command_of, usage_line};
-ghost use Rattle.replay.specs.Answers.{HasDone, HasRefused, HasBroken, HasSoFar, HasFirst, HasFront, IsByText, IsUnfailing};
+ghost use Rattle.replay.specs.Answers.{HasDone, HasRefused, HasLawful, HasBroken, HasSoFar, HasFirst, HasFront, IsByText, IsUnfailing};
 ghost use Rattle.replay.specs.declared.words.Command.TheVariants.{Check};
 
 use crate::commands::obey;
@@ -53,6 +53,9 @@ pub fn replay<S: Source, K: Sink>(
     // A line was refused, and the sink took an allowed output of the lines before it, and then that it was refused; or the
     // line is none of a journal.
     ensures refused { result ≡ Status.Refused → HasRefused (command_of (map string_bytes words.now)) (S.left source.old) (K.taken sink.old) (K.taken sink.new) }
+
+    // What `check` says of what `run` wrote is that it is lawful, quiet or not, and also where a line was refused.
+    ensures lawful { (result ≡ Status.Ok) ⊎ (result ≡ Status.Refused) → HasLawful (command_of (map string_bytes words.now)) (S.left source.old) (K.taken sink.old) (K.taken sink.new) }
 
     // The journal breaks a rule, and the sink took which, and where. That is said by `check` alone.
     ensures by_check { result ≡ Status.Broken → command_of (map string_bytes words.now) ≡ Some Check }

@@ -1,6 +1,7 @@
 //! Stepping a line.
 
 ghost use Rattle.std.specs.Prelude.{◌≡◌, ◌+◌, true, false, IfOk, OnOk};
+ghost use Rattle.event_text.specs.WellFormed.{IsWellFormed};
 ghost use Rattle.replay.specs.Judging.{judge};
 ghost use Rattle.replay.specs.Stream.{IsReady, StepsLine, RefusesLine, made};
 
@@ -22,7 +23,8 @@ fn judge(
     number: u64,
     line: &[u8],
 ) -> Result<Result<Event, Code>, Memory>
-    ensures { IfOk result (λ answer. answer ≡ judge number core.now.moment.declared line.now) }
+    ensures judged { IfOk result (λ answer. answer ≡ judge number core.now.moment.declared line.now) }
+    ensures formed { IfOk result (λ answer. IfOk answer IsWellFormed) }
 {
     let event = match parse(alloc, line)? {
         Ok(event) => event,

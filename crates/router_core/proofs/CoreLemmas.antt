@@ -6,6 +6,8 @@ use Rattle.in_chain.specs.Chains.{Chained}
 use Rattle.journal_text.specs.declared.line.Line.{Line}
 use Rattle.journal_text.specs.Journals.{Journaled}
 use Rattle.event_text.specs.declared.event.Event.{Event}
+use Rattle.event_text.specs.Declarations.{IsDeclaration, refusal}
+use Rattle.event_text.specs.WellFormed.{IsWellFormed}
 use Rattle.link_change.proofs.RowLemmas.{empty_rows}
 use Rattle.rib_route.specs.declared.Proto.{Proto}
 use Rattle.rib_route.specs.declared.Proto.TheVariants.{Connected, Static, Ospf, Rip}
@@ -16,12 +18,24 @@ use Rattle.rib_tree.specs.Laws.{ANewTreeStands}
 use Rattle.router_core.specs.Moments.{Moment, Cored, first_moment, Gives}
 use Rattle.router_core.specs.Stands.{Stands, CoreStands, Claim, Claims, EachChain, EachPeer, InteriorTree, OneSpeaker, Registered, SameCount, StandsAt, Tie, Ties, here}
 use Rattle.router_core.specs.Blocks.{Acts}
-use Rattle.router_core.specs.Works.{HasStepped, Keeps}
+use Rattle.router_core.specs.Works.{Comes, HasStepped, Keeps}
+use Rattle.live_state.specs.Declared.{declared_after}
 use Rattle.live_state.specs.Lives.{LiveState}
+use Rattle.live_state.specs.Laws.{DeclarationsFollow}
 use Rattle.router_core.specs.Lives.{live_state}
+use Rattle.router_core.specs.Printable.{neighbours, ArePrinted, KeepsPeers, IsPrintableMoment}
 use Rattle.router_core.proofs.KeepLemmas.{acts_of}
 use Rattle.live_state.proofs.SessionLemmas.{losses_follow}
 use Rattle.router_core.proofs.LocalLemmas.{int_empty}
+use Rattle.router_core.proofs.PrintedPeers.{Leaves, event_leaves}
+use Rattle.router_core.proofs.PrintedTurns.{Fit, turn_goes}
+use Rattle.router_core.specs.declared.router.Done.{Done}
+use Rattle.router_core.specs.declared.router.Done.TheVariants.{Nothing, Taken}
+use Rattle.journal_text.specs.declared.link.Task.{Task}
+use Rattle.router_core.proofs.PrintedBlocks.{fit_at, event_printed}
+use Rattle.journal_laws.proofs.PrintedRows.{none_printable}
+use Rattle.journal_laws.specs.Standing.{ArePrintableTables}
+use Rattle.journal_text.specs.Values.{interior_value}
 use Rattle.addr4.specs.Prefixes.{Network}
 use Rattle.link_change.specs.Rows.{Rows}
 
@@ -31,6 +45,31 @@ cored m n = record { moment = m; events = n; failed = false }
 -- background work loses nothing
 pub worked_numbered : (m m' : Moment) (said : List Line) (n : ℕ) → Keeps (live_state m) m m' said → AreNumbered n m.tree → AreNumbered n m'.tree
 worked_numbered m m' said n work most proto = let was = most proto in let is : (branch_of proto m'.tree).losses ≡ (branch_of proto m.tree).losses = ap (λ (l : LiveState). l.losses proto) work.live in omega (arith, was, is)
+
+-- ---- what can be printed
+-- what stands behind a step can, and so can what it says
+record Prints (m m' : Moment) (said : List Line) : Type 0 where
+  now : IsPrintableMoment m'
+  lines : ArePrinted m.declared said
+  peers : KeepsPeers m.declared m'.declared
+
+step_prints : (m m' : Moment) (event : Event) (turns : ℕ) (said : List Line) → DeclarationsFollow → Stands m → IsPrintableMoment m → AreNumbered 4294967294 m.tree → refusal m.declared event ≡ None → IsWellFormed event → HasStepped m event turns m' said
+    → Prints m m' said
+step_prints m m' event turns said follow stands printable few admitted formed h =
+    let l = event_printed m stands printable few event said turns m' formed h.block in
+    let is : declared_after m.declared event ≡ m'.declared = sym (ap (λ (x : LiveState). x.declared) h.keeps.live ∙ follow (live_state m) event h.live h.after) in
+    let d : Leaves m.declared m'.declared = subst (Leaves m.declared) is (event_leaves m.declared event printable.declared admitted formed) in
+    record { now = record { declared = d.declared; chains = l.chains; interior = l.interior }; lines = l.printed; peers = d.peers }
+
+-- background work declares nothing
+pub work_prints : (m m' : Moment) (most : ℕ) → Stands m → IsPrintableMoment m → AreNumbered most m.tree → live_state m' ≡ live_state m → (Fit (neighbours m.declared) most m → Fit (neighbours m.declared) most m') → IsPrintableMoment m'
+work_prints m m' most stands printable few live fits =
+    let x = fits (fit_at m stands printable most few) in
+    record {
+      declared = subst IsDeclaration (sym (ap (λ (l : LiveState). l.declared) live)) printable.declared;
+      chains = λ k c there. (x.chains k c there).printable;
+      interior = λ proto. (x.interior proto).printable;
+    }
 
 -- ---- a core by its parts
 module _ (old : Cored) (m : Moment) (n : ℕ) (failed : Bool) (view : record { moment = m; events = n; failed = failed } ≡ old) (off : failed ≡ false) (stands : old.failed ≡ false → CoreStands old) where
@@ -43,21 +82,30 @@ module _ (old : Cored) (m : Moment) (n : ℕ) (failed : Bool) (view : record { m
   pub few_losses : n < 4294967295 → AreNumbered 4294967294 m.tree
   few_losses few proto = let most = stood.numbered proto in omega (arith, few, most)
 
-  pub core_stepped : (m' : Moment) (event : Event) (turns : ℕ) (before now : Journaled) → Gives (HasStepped m event turns m') before now → CoreStands (cored m' (n + 1))
-  core_stepped m' event turns before now g = record {
-    stands = g.2.keeps.stands;
-    numbered = λ proto.
-        let was = stood.numbered proto in
-        let more = losses_follow (live_state m) event g.2.live g.2.after proto in
-        let is : (branch_of proto m'.tree).losses ≡ g.2.live.losses proto = ap (λ (l : LiveState). l.losses proto) g.2.keeps.live in
-        omega (arith, was, more, is);
-  }
+  module _ (event : Event) (turns : ℕ) (m' : Moment) (before now : Journaled) (few : old.events < 4294967295) (admitted : refusal old.moment.declared event ≡ None) (formed : IsWellFormed event) (follow : DeclarationsFollow) (g : Gives (HasStepped m event turns m') before now) where
+    prints : Prints m m' g.0
+    prints = step_prints m m' event turns g.0 follow stood.stands stood.printable (few_losses (subst (λ (c : Cored). c.events < 4294967295) (sym view) few)) (subst (λ (c : Cored). refusal c.moment.declared event ≡ None) (sym view) admitted) formed g.2
 
-  pub core_acts : (m' : Moment) (event : Event) (turns : ℕ) (before now : Journaled) → Gives (HasStepped m event turns m') before now → Gives (Acts old.moment event turns m') before now
-  core_acts m' event turns before now g = (g.0, g.1, subst (λ (c : Cored). Acts c.moment event turns m' g.0) view (acts_of m m' event turns g.0 g.2))
+    pub core_stepped : CoreStands (cored m' (n + 1))
+    core_stepped = record {
+      stands = g.2.keeps.stands;
+      printable = prints.now;
+      numbered = λ proto.
+          let was = stood.numbered proto in
+          let more = losses_follow (live_state m) event g.2.live g.2.after proto in
+          let is : (branch_of proto m'.tree).losses ≡ g.2.live.losses proto = ap (λ (l : LiveState). l.losses proto) g.2.keeps.live in
+          omega (arith, was, more, is);
+    }
 
-  pub core_worked : (m' : Moment) (said : List Line) → Keeps (live_state m) m m' said → CoreStands (cored m' n)
-  core_worked m' said work = record { stands = work.stands; numbered = worked_numbered m m' said n work stood.numbered }
+    pub core_acts : Gives (Acts old.moment event turns m') before now
+    core_acts = (g.0, g.1, subst (λ (c : Cored). Acts c.moment event turns m' g.0) view (acts_of m m' event turns g.0 g.2 prints.lines prints.peers))
+
+  pub core_worked : (m' : Moment) (said : List Line) → Keeps (live_state m) m m' said → (Fit (neighbours m.declared) n m → Fit (neighbours m.declared) n m') → CoreStands (cored m' n)
+  core_worked m' said work fits = record { stands = work.stands; printable = work_prints m m' n stood.stands stood.printable stood.numbered work.live fits; numbered = worked_numbered m m' said n work stood.numbered }
+
+  pub core_turned : (task : Task) (m' : Moment) (before now : Journaled) (done : Done) → Comes task m m' before now done → CoreStands (cored m' n)
+  core_turned task m' before now Nothing comes = subst (λ (x : Moment). CoreStands (cored x n)) (sym comes.1) (record { stands = stood.stands; printable = stood.printable; numbered = stood.numbered })
+  core_turned task m' before now Taken g = core_worked m' g.0 g.2.work.keeps (λ fit. (turn_goes (neighbours m.declared) n task m g.0 m' g.2.turn fit).0)
 
 -- ---- the first moment
 few_new : (proto : Proto) → length (branch_of proto new_tree).tables.deletions ≤ 16
@@ -75,9 +123,16 @@ none_new Rip = omega arith
 pub first_stands : ANewTreeStands → CoreStands (cored first_moment 0)
 first_stands law = record {
   stands = record { own = own; at = at };
+  printable = record { declared = refl; chains = λ k c at. absurd (let none = get-empty {X = Chained} nat_cmp k in cc); interior = new_printable };
   numbered = none_new;
 }
   where
+    new_printable : (proto : Proto) → ArePrintableTables interior_value (branch_of proto new_tree).tables
+    new_printable Connected = none_printable interior_value
+    new_printable Static = none_printable interior_value
+    new_printable Ospf = none_printable interior_value
+    new_printable Rip = none_printable interior_value
+
     own : (claim : Claim) → Claims first_moment claim
     own EachChain = λ k c at. absurd (let none = get-empty {X = Chained} nat_cmp k in cc)
     own EachPeer = λ k. subst (StandsAt None) (sym (get-empty {X = Chained} nat_cmp k)) tt

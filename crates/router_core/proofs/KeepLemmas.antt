@@ -14,6 +14,7 @@ use Rattle.router_core.specs.Moments.{Moment, router_links, Gives}
 use Rattle.live_state.specs.Lives.{LiveState, LiveAfter}
 use Rattle.router_core.specs.Lives.{live_state}
 use Rattle.router_core.specs.Stands.{Stands}
+use Rattle.router_core.specs.Printable.{ArePrinted, KeepsPeers}
 use Rattle.router_core.specs.Blocks.{IsBlock, Acts}
 use Rattle.router_core.specs.Works.{Pushes, Keeps, HasStepped}
 
@@ -88,8 +89,15 @@ module _ (a b c : Moment) (xs ys : List Line) where
   keeps_then f p q = subst (λ (x : LiveState). Keeps (f x) a c (xs ++ ys)) p.live (keeps_join (live_state a) (f (live_state b)) p q)
 
 -- ---- events
-pub acts_of : (m m' : Moment) (event : Event) (turns : ℕ) (said : List Line) → HasStepped m event turns m' said → Acts m event turns m' said
-acts_of m m' event turns said h = record { block = h.block; leads = h.keeps.leads; live = subst (LiveAfter (live_state m) event) (sym h.keeps.live) h.after; stands = h.keeps.stands }
+pub acts_of : (m m' : Moment) (event : Event) (turns : ℕ) (said : List Line) → HasStepped m event turns m' said → ArePrinted m.declared said → KeepsPeers m.declared m'.declared → Acts m event turns m' said
+acts_of m m' event turns said h printed peers = record {
+  block = h.block;
+  leads = h.keeps.leads;
+  live = subst (LiveAfter (live_state m) event) (sym h.keeps.live) h.after;
+  stands = h.keeps.stands;
+  printed = printed;
+  peers = peers;
+}
 
 -- an event that leaves the router as it is
 pub steps_said : (m : Moment) (event : Event) (turns : ℕ) (said : List Line) → Stands m → IsBlock m event said turns m → LiveAfter (live_state m) event (live_state m) → entries_of said ≡ [] → HasStepped m event turns m said

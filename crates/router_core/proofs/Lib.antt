@@ -23,3 +23,6 @@ pub mod ProtocolLosses
 pub mod RouteTurns
 pub mod RouteRoom
 pub mod RouteSteps
+pub mod PrintedPeers
+pub mod PrintedTurns
+pub mod PrintedBlocks

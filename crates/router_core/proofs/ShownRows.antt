@@ -196,14 +196,14 @@ one_given links link place p m n before j now next row given = (
   row_shown links link place p row.0 given.0 next row.1 given.3,
 )
 
-pub rows_end : (link : Link) (of : Option (Rows Value)) (place : Option Network) (n : ℕ) (before j now : Journaled) → IsSome of → IsNextPlace of place None
+pub rows_end : (link : Link) (of : Option (Rows Value)) (place : Option Network) (n : ℕ) (before j now : Journaled) → n < 2 ^ 128 → IsSome of → IsNextPlace of place None
     → AreGiven link of place n before j → now ≡ with_lines j (lines.Rows link n ∷ []) → Pushes (Shows link of) before now
-rows_end link None place n before j now live next given last = absurd (cc)
-rows_end link (Some rows) place n before j now live next given last = (
+rows_end link None place n before j now small live next given last = absurd (cc)
+rows_end link (Some rows) place n before j now small live next given last = (
   row_lines link given.0 ++ lines.Rows link (length given.0) ∷ [],
   last ∙ ap (λ m. with_lines j (lines.Rows link m ∷ [])) given.2 ∙ ap (λ s. with_lines s (lines.Rows link (length given.0) ∷ [])) given.1
       ∙ with_more before (row_lines link given.0) (lines.Rows link (length given.0) ∷ []),
-  (given.0, all_shown next.0 rows (next.2 rows refl) place given.0 next.1 (given.3 rows refl), refl),
+  (given.0, all_shown next.0 rows (next.2 rows refl) place given.0 next.1 (given.3 rows refl), refl, subst (λ (k : ℕ). k < 2 ^ 128) given.2 small),
 )
 
 -- ---- a show as an event

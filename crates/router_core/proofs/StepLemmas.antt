@@ -1,5 +1,5 @@
 -- What each event comes to.
-use Rattle.std.proofs.Common.{◌≡◌, ℕ, Bool, true, false, not, cond, List, [], ◌∷◌, ◌++◌, Option, Some, None, refl, sym, ap, subst, ◌∙◌}
+use Rattle.std.proofs.Common.{◌≡◌, ℕ, ◌<◌, ◌^◌, Bool, true, false, not, cond, List, [], ◌∷◌, ◌++◌, Option, Some, None, refl, sym, ap, subst, ◌∙◌}
 use Rattle.bgp_attr.specs.declared.speaker.Speaker.{Speaker}
 use Rattle.bgp_wire.specs.declared.notice.Notice.{Notice}
 use Rattle.bgp_wire.specs.declared.message.Message.{Message}
@@ -25,7 +25,7 @@ use Rattle.live_state.specs.Messages.{Says}
 use Rattle.live_state.specs.Lives.{LiveState, heard, ended, ended_if_up, HearsIfUp, HearsFrom}
 use Rattle.router_core.specs.Lives.{live_state}
 use Rattle.router_core.specs.Stands.{Stands}
-use Rattle.router_core.specs.Blocks.{EndsIf, Hears, HearsIf, ByPeer}
+use Rattle.router_core.specs.Blocks.{AreMessageOctets, EndsIf, Hears, HearsIf, ByPeer}
 use Rattle.router_core.specs.Works.{Pushes, Keeps, AreTurns, AllHaveDrained, HasLost, HasHeard, HasIdled, HasStepped}
 use Rattle.router_core.proofs.KeepLemmas.{keeps_none, keeps_said, keeps_join, keeps_on, gives_push, push_gives, gives_none, gives_so, gives_pushed, steps_pushed}
 use Rattle.router_core.proofs.StandLemmas.{registered_rows}
@@ -52,9 +52,9 @@ unfolding refusal
 bgp_there d k octets e none = let p = there_by (peer_at k d.peers) (bgp_by d.speaker d.peers k octets e) in let at = p.1 in cc
 
 -- ---- `idle` and `work`
-pub idled : (m m' : Moment) (bound turns : ℕ) (before j j2 j3 now : Journaled) → Stands m → bound ≡ bound_of m → j ≡ with_lines before (lines.Bound bound ∷ []) → Gives (AllHaveDrained m turns m') j j2
+pub idled : (m m' : Moment) (bound turns : ℕ) (before j j2 j3 now : Journaled) → Stands m → bound ≡ bound_of m → bound < 2 ^ 128 → j ≡ with_lines before (lines.Bound bound ∷ []) → Gives (AllHaveDrained m turns m') j j2
     → j3 ≡ with_lines j2 (lines.Idle turns ∷ []) → now ≡ flushed j3 → Gives (HasIdled m (record { bound = bound; turns = turns }) m') before now
-idled m m' bound turns before j j2 j3 now stands same first g last is =
+idled m m' bound turns before j j2 j3 now stands same small first g last is =
     gives_push Bounded Ended (HasIdled m (record { bound = bound; turns = turns }) m') both before j2 j3 now (push_gives First (AllHaveDrained m turns m') Bounded (λ xs ys p q. (ys, ap (λ (l : List Line). l ++ ys) p, q)) before j j2 (lines.Bound bound ∷ [], first, refl) g)
     (lines.Idle turns ∷ [], last, refl) is
   where
@@ -74,6 +74,7 @@ idled m m' bound turns before j j2 j3 now stands same first g last is =
         runs = p.2.runs;
         lines = ap (λ (b : ℕ). lines.Bound b ∷ (p.0 ++ lines.Idle turns ∷ [])) same;
         within = p.2.most;
+        fits = subst (λ (b : ℕ). b < 2 ^ 128) same small;
         settled = p.2.settled;
         exact = p.2.exact;
       };
@@ -118,8 +119,8 @@ end_heard k p m m' message before now same g = subst (λ (x : Message). Gives (H
     (gives_so (HasLost k p.session m m') (HasHeard k p m messages.Notification m') (λ xs h. record { hears = h.loses; keeps = h.keeps }) before now g)
 
 pub fault_heard : (k : ℕ) (p : DeclaredPeer) (m m' : Moment) (message : Message) (n : Notice) (octets : List ℕ) (before j now : Journaled) → Stands m → message ≡ messages.Notify n
-    → octets ≡ notification_octets n.code n.subcode n.octets → j ≡ with_lines before (lines.Note k octets ∷ []) → Gives (HasLost k p.session m m') j now → Gives (HasHeard k p m message m') before now
-fault_heard k p m m' message n octets before j now stands same spelled pushed g = subst (λ (x : Message). Gives (HasHeard k p m x m') before now) (sym same)
+    → octets ≡ notification_octets n.code n.subcode n.octets → AreMessageOctets octets → j ≡ with_lines before (lines.Note k octets ∷ []) → Gives (HasLost k p.session m m') j now → Gives (HasHeard k p m message m') before now
+fault_heard k p m m' message n octets before j now stands same spelled whole pushed g = subst (λ (x : Message). Gives (HasHeard k p m x m') before now) (sym same)
     (push_gives Noted (HasLost k p.session m m') (HasHeard k p m (messages.Notify n) m') both before j now (note ∷ [], pushed ∙ ap (λ (o : List ℕ). with_lines before (lines.Note k o ∷ [])) spelled, refl) g)
   where
     note : Line
@@ -130,7 +131,7 @@ fault_heard k p m m' message n octets before j now stands same spelled pushed g 
 
     both : (xs ys : List Line) → Noted xs → HasLost k p.session m m' ys → HasHeard k p m (messages.Notify n) m' (xs ++ ys)
     both xs ys noted h = subst (λ (l : List Line). HasHeard k p m (messages.Notify n) m' (l ++ ys)) (sym noted) (record {
-      hears = (ys, refl, h.loses);
+      hears = (ys, refl, h.loses, subst AreMessageOctets spelled whole);
       keeps = keeps_join m m m' (note ∷ []) ys (live_state m) (ended (live_state m) k) (keeps_said m (note ∷ []) stands refl) h.keeps;
     })
 

@@ -1,5 +1,5 @@
 -- What each event does, and the lines that it gives (NSDI 2005, sections 5.1 and 5.2; of messages RFC 4271, sections 3.1 and 6).
-use Rattle.std.specs.Prelude.{◌≡◌, ℕ, ◌≤◌, ◌⊎◌, Bool, true, false, List, [], ◌∷◌, ◌++◌, map, length, Contains, Option, Some, None, IsSome, is_some}
+use Rattle.std.specs.Prelude.{◌≡◌, ℕ, ◌≤◌, ◌<◌, ◌^◌, ◌⊎◌, Bool, true, false, List, [], ◌∷◌, ◌++◌, map, length, Contains, Option, Some, None, IsSome, is_some}
 use Rattle.std.specs.List.{AllByRecursion}
 use Rattle.std.specs.List.Sorted.{IsStrictlySortedBy}
 use Rattle.addr4.specs.Prefixes.{Network, prefix_cmp}
@@ -39,6 +39,7 @@ use Rattle.live_state.specs.Messages.{changes_of, Says}
 use Rattle.live_state.specs.Lives.{LiveAfter}
 use Rattle.router_core.specs.Lives.{live_state}
 use Rattle.router_core.specs.Stands.{Stands}
+use Rattle.router_core.specs.Printable.{ArePrinted, KeepsPeers}
 use Rattle.router_core.specs.Phases.{all_phases}
 use Rattle.router_core.specs.Scratch.{IsExact}
 use Rattle.router_core.specs.Turns.{journal_lines, InPeers, FeedsAll, FallsRoute, Turns, Drains, RunsAll, IsSettled, has_work}
@@ -122,9 +123,14 @@ pub record CoversAddress (addr : ℕ) (m : Moment) (said : List Line) : Type 0 w
   pub cover : IsCover width (int_rows m.tree) addr found subnet
   pub line : said ≡ lines.Cover addr (matched found) subnet ∷ []
 
+-- the octets of one message, of which there are 4,096 at most (RFC 4271, section 4.1)
+pub record AreMessageOctets (octets : List ℕ) : Type 0 where
+  pub each : AllByRecursion (λ b. b < 2 ^ 8) octets
+  pub few : length octets ≤ 4096
+
 -- a NOTIFICATION is sent, and the session is lost
 abbrev pub Notifies : ℕ → ℕ → List ℕ → Moment → List Line → Moment → Type 0
-Notifies k s octets m said m' = (rest : List Line) × (said ≡ lines.Note k octets ∷ rest) × Loses k s m rest m'
+Notifies k s octets m said m' = (rest : List Line) × (said ≡ lines.Note k octets ∷ rest) × Loses k s m rest m' × AreMessageOctets octets
 
 -- a message came from a peer that is up
 abbrev pub Hears : ℕ → DeclaredPeer → Moment → Message → List Line → Moment → Type 0
@@ -162,7 +168,7 @@ abbrev pub Shows : Link → Option (Rows Value) → List Line → Type 0
 Shows link None said = said ≡ lines.Absent ∷ []
 Shows link (Some rows) said =
     (listed : List (Network × Value)) × AreRows rows listed
-    × (said ≡ map (λ r. lines.Row link r.0 r.1) listed ++ lines.Rows link (length listed) ∷ [])
+    × (said ≡ map (λ r. lines.Row link r.0 r.1) listed ++ lines.Rows link (length listed) ∷ []) × (length listed < 2 ^ 128)
 
 -- so many turns, at most n, and fewer only where the task then has no work
 pub record Works (task : Task) (n : ℕ) (m : Moment) (said : List Line) (turns : ℕ) (m' : Moment) : Type 0 where
@@ -178,6 +184,7 @@ pub record Idles (m : Moment) (said : List Line) (turns : ℕ) (m' : Moment) : T
   pub runs : RunsAll all_phases m inner turns m'
   pub lines : said ≡ lines.Bound (bound_of m) ∷ (inner ++ lines.Idle turns ∷ [])
   pub within : turns ≤ bound_of m
+  pub fits : bound_of m < 2 ^ 128
   pub settled : IsSettled m'
   pub exact : IsExact m'
 
@@ -204,9 +211,12 @@ IsBlock m (Ask link p) said turns m' = Just (answer_lines link p (router_links m
 IsBlock m (Show link) said turns m' = (turns ≡ 0) × (m' ≡ m) × Shows link (router_links m link) said
 
 -- An event was stepped: its lines are as its block says, its entries obey the rules of the journal and lead from the links
--- before it to those after it, the live state is what the events alone make of it, and what holds between two steps holds.
+-- before it to those after it, the live state is what the events alone make of it, and what holds between two steps holds. Each
+-- line can be printed and read back, and the peers are known by their numbers then as before.
 pub record Acts (m : Moment) (event : Event) (turns : ℕ) (m' : Moment) (said : List Line) : Type 0 where
   pub block : IsBlock m event said turns m'
   pub leads : Leads (router_links m) (entries_of said) (router_links m')
   pub live : LiveAfter (live_state m) event (live_state m')
   pub stands : Stands m'
+  pub printed : ArePrinted m.declared said
+  pub peers : KeepsPeers m.declared m'.declared

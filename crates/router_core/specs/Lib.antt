@@ -1,6 +1,7 @@
 pub mod Moments
 pub mod Lives
 pub mod Phases
+pub mod Printable
 pub mod Stands
 pub mod Scratch
 pub mod Turns

@@ -10,6 +10,7 @@ use Rattle.rib_route.specs.declared.Proto.{Proto}
 use Rattle.rib_tree.specs.Trees.{Treed, branch_of, int_rows, IsTree, IsFull, AreNumbered}
 use Rattle.rib_tree.specs.Steps.{new_tree}
 use Rattle.router_core.specs.Moments.{Moment, Cored}
+use Rattle.router_core.specs.Printable.{IsPrintableMoment}
 use Rattle.addr4.specs.Prefixes.{Network}
 use Rattle.rib_route.specs.declared.rows.Interior.{Interior}
 
@@ -80,7 +81,8 @@ pub record Stands (m : Moment) : Type 0 where
   pub own : (claim : Claim) → Claims m claim
   pub at : (p : Network) → (tie : Tie) → Ties (here m p) tie
 
--- What holds of a core between two calls, unless memory ran out: losses are counted by events.
+-- What holds of a core between two calls, unless memory ran out: all that stands can be printed, and losses are counted by events.
 pub record CoreStands (c : Cored) : Type 0 where
   pub stands : Stands c.moment
+  pub printable : IsPrintableMoment c.moment
   pub numbered : AreNumbered c.events c.moment.tree

@@ -13,7 +13,7 @@
 //! the live routes and what the latest rules make of them, of the interior side the live routes of each protocol, those of least
 //! distance, and what packets are forwarded by. After an idle no deletion stage stands and no walk is on (`IsSettled`), so every
 //! link is. An idle takes no more turns than it announces. What is live, and what is decided from it, is defined in the crate
-//! `live_state`.
+//! `live_state`. All that stands can be printed and read back, and so can each line that an event gives (`Printable`).
 //!
 //! For want of memory a call answers `Memory`, and from then on each further call does: what was half done is never seen.
 #![tactic(auto)]

@@ -5,6 +5,7 @@ ghost use Rattle.journal_text.specs.declared.line.Line.{Line};
 ghost use Rattle.journal_text.specs.Walk.{Leads};
 ghost use Rattle.event_text.specs.declared.event.Event.TheVariants as events;
 ghost use Rattle.event_text.specs.Declarations.{refusal};
+ghost use Rattle.event_text.specs.WellFormed.{IsWellFormed};
 ghost use Rattle.peer_side.specs.Peers.{chain_at};
 ghost use Rattle.router_core.specs.Moments.{first_moment, router_links, Gives};
 ghost use Rattle.router_core.specs.Scratch.{IsExactAtRest};
@@ -20,6 +21,7 @@ use addr4::Memory;
 use event_text::{Declared, Event};
 use in_chain::Chain;
 use journal_text::{Journal, Link, Task};
+use live_state::declarations_follow;
 use rib_tree::{Tree, a_new_tree_stands};
 use std::alloc::Global;
 use std::marker::Model;
@@ -136,6 +138,7 @@ impl Core {
     /// for. After want of memory the core answers nothing else.
     pub fn step(&mut self, event: Event, journal: &mut Journal) -> Result<u128, Memory>
         requires admitted { refusal self.old.moment.declared event ≡ None }
+        requires formed { IsWellFormed event }
         requires few { self.old.events < 4294967295 }
         requires stands { self.old.failed ≡ false → CoreStands self.old }
         ensures acts { IfOk result (λ turns. Gives (Acts self.old.moment event turns self.new.moment) journal.old journal.new) }
@@ -150,6 +153,7 @@ impl Core {
             return Err(Memory);
         }
         links_at_rest_are_exact();
+        declarations_follow();
         self.failed = true;
         let turns = self.network.step(event, journal)?;
         self.events += 1;

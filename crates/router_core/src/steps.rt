@@ -1,12 +1,14 @@
 //! What each event does.
 
-ghost use Rattle.std.specs.Prelude.{◌≡◌, ◌≤◌, length, OnOk, IfOk, IsSome, Some, None, true};
+ghost use Rattle.std.specs.Prelude.{◌≡◌, ◌≤◌, ◌<◌, ◌^◌, length, OnOk, IfOk, IsSome, Some, None, true};
+ghost use Rattle.std.specs.List.{AllByRecursion};
 ghost use Rattle.event_text.specs.declared.event.Event.TheVariants as events;
 ghost use Rattle.event_text.specs.Declarations.{peer_at, refusal};
 ghost use Rattle.bgp_wire.specs.Spelling.{notification_octets};
 ghost use Rattle.rib_tree.specs.Trees.{AreNumbered};
 ghost use Rattle.router_core.specs.Moments.{Gives};
 ghost use Rattle.live_state.specs.Messages.{Says};
+ghost use Rattle.router_core.specs.Blocks.{AreMessageOctets};
 ghost use Rattle.bgp_wire.specs.Notices.{HasShortNotice};
 ghost use Rattle.router_core.specs.Stands.{Stands};
 ghost use Rattle.router_core.specs.Works.{HasStepped, HasIdled, HasHeard, IsSession};
@@ -242,8 +244,15 @@ impl Network {
 /// The octets of the NOTIFICATION that answers a fault (RFC 4271, section 4.5).
 fn spelled(alloc: Global, notice: Notice) -> Result<Octets, Memory>
     requires { length notice.octets ≤ 4075 }
-    ensures { IfOk result (λ octets. octets ≡ notification_octets notice.code notice.subcode notice.octets) }
+    ensures spelled { IfOk result (λ octets. octets ≡ notification_octets notice.code notice.subcode notice.octets) }
+    ensures message { IfOk result AreMessageOctets }
 {
     let octets = write_notification(alloc, notice.code, notice.subcode, notice.octets.as_slice())?;
+    each_known(octets.as_slice());
     Ok(Octets::from_vec(octets))
 }
+
+/// Each octet is below 256, as its type says.
+fn each_known(octets: &[u8])
+    ensures { AllByRecursion (λ b. b < 2 ^ 8) octets.now }
+{}

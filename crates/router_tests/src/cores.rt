@@ -23,7 +23,9 @@ fn step_line(alloc: Global, core: &mut Core, line: &[u8], journal: &mut Journal)
     requires { CoreStands core.old }
     ensures { OnOk result (CoreStands core.new) }
 {
-    let event = parse(alloc, line)?.ok().ok_or("the line is refused")?;
+    let Ok(event) = parse(alloc, line)? else {
+        return Err(Fail::from("the line is refused"));
+    };
     if admit(&event, core.declared()).is_some() || core.events() > 1000 {
         return Err(Fail::from("the event is refused"));
     }

@@ -18,4 +18,4 @@ returns-in_ok-lose-in-Notification c =
 pub returns-in_ok-lose-in-Notify : goal.returns-in_ok-lose-in-Notify
 returns-in_ok-lose-in-Notify c =
     fault_heard c.args.number c.args.peer c.args.self.now c.lose-in-Notify.new.self c.args.message c.in-Notify.notice c.in_ok-octets-in-Notify.octets c.args.journal.now c.push_line.new.self
-    c.lose-in-Notify.new.journal c.requires.stands c.in-Notify.is c.in_ok-octets-in-Notify.ensures c.in_ok-push_line-in-Notify.ensures c.in_ok-lose-in-Notify.ensures
+    c.lose-in-Notify.new.journal c.requires.stands c.in-Notify.is c.in_ok-octets-in-Notify.ensures.spelled c.in_ok-octets-in-Notify.ensures.message c.in_ok-push_line-in-Notify.ensures c.in_ok-lose-in-Notify.ensures

@@ -1,7 +1,11 @@
+use Rattle.router_core.specs.Printable.{neighbours}
 use Rattle.router_core.proofs.CoreLemmas.{core_worked}
+use Rattle.router_core.proofs.PrintedTurns.{phase_goes}
 use Rattle.router_core.proofs.router.Core.drain.Goals as goal
 
 pub returns-clause-stands : goal.returns-clause-stands
 returns-clause-stands c =
-    core_worked c.args.self.now c.self.inside.network c.self.inside.events c.self.inside.failed c.self.view_is c.if-self.false c.requires.stands c.drain.new.self c.in_ok-turns.ensures.0
-    c.in_ok-turns.ensures.2.work.keeps
+    let m = c.self.inside.network in
+    let n = c.self.inside.events in
+    core_worked c.args.self.now m n c.self.inside.failed c.self.view_is c.if-self.false c.requires.stands c.drain.new.self c.in_ok-turns.ensures.0
+    c.in_ok-turns.ensures.2.work.keeps (λ fit. (phase_goes (neighbours m.declared) n c.args.phase m c.in_ok-turns.ensures.0 _ c.drain.new.self c.in_ok-turns.ensures.2.runs fit).0)

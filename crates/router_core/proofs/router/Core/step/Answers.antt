@@ -13,10 +13,10 @@ step-requires-clause-stands c = moment_stands c.args.self.now c.self.inside.netw
 
 pub returns-clause-acts : goal.returns-clause-acts
 returns-clause-acts c =
-    core_acts c.args.self.now c.self.inside.network c.self.inside.events c.self.inside.failed c.self.view_is c.if-self.false c.requires.stands c.step.new.self c.args.event c.in_ok-turns.turns
-    c.args.journal.now c.step.new.journal c.in_ok-turns.ensures
+    core_acts c.args.self.now c.self.inside.network c.self.inside.events c.self.inside.failed c.self.view_is c.if-self.false c.requires.stands c.args.event c.in_ok-turns.turns c.step.new.self
+    c.args.journal.now c.step.new.journal c.requires.few c.requires.admitted c.requires.formed c.declarations_follow.ensures c.in_ok-turns.ensures
 
 pub returns-clause-stands : goal.returns-clause-stands
 returns-clause-stands c =
-    core_stepped c.args.self.now c.self.inside.network c.self.inside.events c.self.inside.failed c.self.view_is c.if-self.false c.requires.stands c.step.new.self c.args.event c.in_ok-turns.turns
-    c.args.journal.now c.step.new.journal c.in_ok-turns.ensures
+    core_stepped c.args.self.now c.self.inside.network c.self.inside.events c.self.inside.failed c.self.view_is c.if-self.false c.requires.stands c.args.event c.in_ok-turns.turns c.step.new.self
+    c.args.journal.now c.step.new.journal c.requires.few c.requires.admitted c.requires.formed c.declarations_follow.ensures c.in_ok-turns.ensures

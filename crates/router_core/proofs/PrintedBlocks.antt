@@ -1,0 +1,356 @@
+-- What each event says can be printed, and so can what stands behind it.
+use Rattle.std.proofs.Common.{◌≡◌, ℕ, ◌+◌, ◌<◌, ◌≤◌, ◌^◌, Bool, true, false, cond, not, List, [], ◌∷◌, map, Option, Some, None, IfSome, refl, sym, ap, subst, ◌∙◌, arith}
+use Rattle.std.specs.Prelude.{filter}
+use Rattle.std.specs.List.{AllByRecursion}
+use Rattle.std.proofs.lemmas.List.Elements.{All-nil}
+use Rattle.addr4.specs.Prefixes.{Network}
+use Rattle.bgp_attr.specs.Hosts.{is_host_prefix}
+use Rattle.bgp_attr.specs.declared.attrs.Attrs.{Attrs}
+use Rattle.bgp_attr.specs.declared.speaker.Speaker.{Speaker}
+use Rattle.bgp_attr.specs.declared.speaker.Neighbour.{Neighbour}
+use Rattle.bgp_wire.specs.Grammar.{Reads, without}
+use Rattle.bgp_wire.specs.Readable.{AreOctets, IsNetwork}
+use Rattle.bgp_wire.specs.declared.message.Message.{Message}
+use Rattle.bgp_wire.specs.declared.message.Message.TheVariants as messages
+use Rattle.bgp_wire.specs.declared.message.Update.{Update}
+use Rattle.bgp_wire.proofs.ReadableLaws.{Every, all_every, every_filter}
+use Rattle.bgp_wire.proofs.ReadableMessages.{read_is_readable}
+use Rattle.event_text.specs.declared.declared.DeclaredPeer.{DeclaredPeer}
+use Rattle.event_text.specs.declared.event.Event.{Event}
+use Rattle.event_text.specs.declared.event.Event.TheVariants.{Nothing, Local, Peer, Up, Down, Bgp, FilterIn, RouteAdd, RouteDel, Lose, Cover, Idle, Work, Ask, Show}
+use Rattle.event_text.specs.Declarations.{peer_at}
+use Rattle.event_text.specs.WellFormed.{IsWellFormed}
+use Rattle.link_change.specs.Rows.{Rows, is_empty_map}
+use Rattle.rib_route.specs.declared.Proto.{Proto}
+use Rattle.rib_route.specs.declared.Proto.TheVariants.{Connected, Static, Ospf, Rip}
+use Rattle.rib_route.specs.declared.rows.Interior.{Interior}
+use Rattle.prefix_trie.specs.Width.{width}
+use Rattle.register_interest.specs.Covers.{matched, longest, IsLongest}
+use Rattle.register_interest.proofs.CoverLemmas.{longest_is}
+use Rattle.journal_text.specs.Names.{IsNameNumber, IsNamed}
+use Rattle.journal_text.specs.Values.{attrs_value, interior_value}
+use Rattle.journal_text.specs.declared.entry.Entry.TheVariants as entries
+use Rattle.journal_text.specs.declared.line.Line.{Line}
+use Rattle.journal_text.specs.declared.line.Line.TheVariants as lines
+use Rattle.journal_text.specs.declared.link.Link.{Link}
+use Rattle.journal_text.specs.declared.link.Link.TheVariants as links
+use Rattle.journal_text.specs.declared.value.Value.{Value}
+use Rattle.journal_check.specs.Laws.{IsPrefix, IsMatch}
+use Rattle.journal_laws.specs.Printed.{IsPrinted}
+use Rattle.journal_laws.specs.Standing.{IsPrintableRow, ArePrintableTables, IsPrintableChain}
+use Rattle.journal_laws.proofs.ReadAttrs.{read_printable}
+use Rattle.journal_laws.proofs.PrintedRows.{AreFit, IsFit, PrintsIfAny, none_printable, fed_fit, lost_printable, edited_printable, chain_prints, rib_prints}
+use Rattle.journal_laws.proofs.PrintedWays.{route_way}
+use Rattle.link_region.specs.declared.regions.Region.{Region}
+use Rattle.link_region.specs.declared.regions.Region.TheVariants.{Inward, InteriorRoutes, Forward, Elsewhere}
+use Rattle.link_region.specs.Regions.{region_of}
+use Rattle.loss_chain.proofs.ListLemmas.{all_both}
+use Rattle.in_chain.specs.Chains.{Chained}
+use Rattle.policy_rules.specs.declared.rule.Rule.{Rule}
+use Rattle.policy_rules.specs.Ranges.{AreRules, IsRule}
+use Rattle.peer_side.specs.Peers.{chain_at, overdue_at, links_by}
+use Rattle.journal_text.specs.Links.{owner_of}
+use Rattle.peer_side.proofs.PutLemmas.{put_each}
+use Rattle.rib_tree.specs.Branches.{Branch}
+use Rattle.rib_tree.specs.BranchSteps.{lost_branch, fed_branch}
+use Rattle.rib_tree.specs.Falls.{way_of_route}
+use Rattle.rib_tree.specs.Steps.{fed_tree, tree_overdue, tree_loss_entries}
+use Rattle.rib_tree.specs.Trees.{branch_of, int_rows, AreNumbered}
+use Rattle.router_core.specs.Moments.{Moment, parts, rib_by, router_links}
+use Rattle.router_core.specs.Printable.{words_in, neighbours, IsPrintableMoment}
+use Rattle.live_state.specs.Messages.{plain, Says, changes_of, announced_with, withdrawn_from}
+use Rattle.router_core.specs.Stands.{Stands, EachChain, InteriorTree}
+use Rattle.router_core.specs.Phases.{all_phases}
+use Rattle.router_core.specs.Turns.{journal_lines, FallsRoute}
+use Rattle.router_core.specs.Blocks.{Just, begin_line, AreMessageOctets, Loses, Declares, Refilters, DropsRouteIf, LosesProtocol, CoversAddress, Hears, BeginsIf, EndsIf, HearsIf, answer_lines, Shows, ByPeer, IsBlock}
+use Rattle.router_core.proofs.StandLemmas.{peer_of}
+use Rattle.router_core.proofs.TreeParts.{put_all}
+use Rattle.router_core.proofs.PrintedPeers.{IsKnown, known_peer}
+use Rattle.router_core.proofs.PrintedTurns.{Fit, Goes, feeds_go, route_goes, turns_go, phases_go, first_goes}
+
+-- what an event leaves beside the declarations, and what it says
+pub record Leaves (peers : ℕ → Option Neighbour) (m' : Moment) (said : List Line) : Type 0 where
+  pub chains : (k : ℕ) (c : Chained) → chain_at k m'.chains ≡ Some c → IsPrintableChain c
+  pub interior : (proto : Proto) → ArePrintableTables interior_value (branch_of proto m'.tree).tables
+  pub printed : AllByRecursion (IsPrinted peers) said
+
+module _ (m : Moment) (stands : Stands m) (printable : IsPrintableMoment m) where
+  abbrev Printed : List Line → Type 0
+  Printed said = AllByRecursion (IsPrinted (neighbours m.declared)) said
+
+  -- ---- what stands at the beginning
+  known_at : (k : ℕ) (p : DeclaredPeer) → peer_at k m.declared.peers ≡ Some p → IsKnown k p
+  known_at k p at = known_peer m.declared k p printable.declared at
+
+  named_by : (k : ℕ) (p : DeclaredPeer) → peer_at k m.declared.peers ≡ Some p → IsNameNumber k
+  named_by k p at = let known = known_at k p at in let most = known.most in (known.least, omega (arith, most))
+
+  session_named : (k : ℕ) (p : DeclaredPeer) → peer_at k m.declared.peers ≡ Some p → p.up ≡ true → IsNameNumber p.session
+  session_named k p at up = let known = known_at k p at in let most = known.session in (known.begun up, omega (arith, most))
+
+  chain_fit : (k : ℕ) (c : Chained) → chain_at k m.chains ≡ Some c → IsFit (neighbours m.declared) c
+  chain_fit k c there =
+      let p = peer_of m stands k c there in
+      let is = known_at k p.0 p.1 in
+      let number : c.peer.number ≡ k = ap (λ (w : Neighbour). w.number) p.2.words ∙ is.number in
+      let own = stands.own EachChain k c there in
+      let most = is.most in record {
+        known = ap (neighbours m.declared) number ∙ ap words_in p.1 ∙ ap Some (sym p.2.words);
+        small = omega (arith, number, most);
+        named = subst IsNameNumber (sym own.number) (named_by k p.0 p.1);
+        printable = printable.chains k c there;
+        rising = own.chain.rising;
+      }
+
+  pub fit_at : (most : ℕ) → AreNumbered most m.tree → Fit (neighbours m.declared) most m
+  fit_at most few = record {
+    chains = chain_fit;
+    interior = λ proto. record { printable = printable.interior proto; rising = ((stands.own InteriorTree).tree.each proto).chain.rising };
+    few = few;
+  }
+
+  stays : (said : List Line) (m' : Moment) → m' ≡ m → Printed said → Leaves (neighbours m.declared) m' said
+  stays said m' same printed = subst (λ (x : Moment). Leaves (neighbours m.declared) x said) (sym same) (record { chains = printable.chains; interior = printable.interior; printed = printed })
+
+  just : (these : List Line) (then : Moment) (said : List Line) (turns : ℕ) (m' : Moment) → Just these then said turns m' → Leaves (neighbours m.declared) then these → Leaves (neighbours m.declared) m' said
+  just these then said turns m' is leaves =
+      subst (λ (x : Moment). Leaves (neighbours m.declared) x said) (sym is.2) (subst (λ (l : List Line). Leaves (neighbours m.declared) then l) (sym is.0) leaves)
+
+  -- ---- lines without values
+  plain_line : (line : Line) → IsPrinted (neighbours m.declared) line → Printed (line ∷ [])
+  plain_line line is = (is, tt)
+
+  begun : (link : Link) → IsNamed link → IsPrinted (neighbours m.declared) (begin_line link)
+  begun link named = record { short = record { ranges = named; values = tt; octets = omega arith }; told = tt }
+
+  ignored : IsPrinted (neighbours m.declared) lines.Ignored
+  ignored = record { short = record { ranges = tt; values = tt; octets = omega arith }; told = tt }
+
+  absent : IsPrinted (neighbours m.declared) lines.Absent
+  absent = record { short = record { ranges = tt; values = tt; octets = omega arith }; told = tt }
+
+  noted : (k : ℕ) (octets : List ℕ) → IsNameNumber k → AreMessageOctets octets → IsPrinted (neighbours m.declared) (lines.Note k octets)
+  noted k octets named are = record { short = record { ranges = (named.1, are.each); values = tt; octets = are.few }; told = tt }
+
+  -- ---- rows of links
+  links_print : (link : Link) → PrintsIfAny (neighbours m.declared) (router_links m link)
+  links_print link = by_region (region_of link)
+    where
+      by_chain : (o : Option Chained) → chain_at (owner_of link) m.chains ≡ o → PrintsIfAny (neighbours m.declared) (links_by o link)
+      by_chain None at = λ rows p v none is. absurd (cc)
+      by_chain (Some c) at = chain_prints (neighbours m.declared) c (chain_fit (owner_of link) c at) link
+
+      by_speaker : (s : Option Speaker) → PrintsIfAny (neighbours m.declared) (rib_by s m.tree link)
+      by_speaker None = λ rows p v none is. absurd (cc)
+      by_speaker (Some me) = rib_prints (neighbours m.declared) m.tree printable.interior link
+
+      by_region : (r : Region) → PrintsIfAny (neighbours m.declared) (parts m r link)
+      by_region Inward = by_chain (chain_at (owner_of link) m.chains) refl
+      by_region InteriorRoutes = by_speaker m.declared.speaker
+      by_region Forward = by_speaker m.declared.speaker
+      by_region Elsewhere = λ rows p v none is. absurd (cc)
+
+  asked : (link : Link) (p : Network) → IsNamed link → IsPrefix p → (of : Option (Rows Value)) → router_links m link ≡ of → Printed (answer_lines link p of)
+  asked link p named prefix None at = (absent, tt)
+  asked link p named prefix (Some rows) at = (by_row (rows p) refl, tt)
+    where
+      by_row : (o : Option Value) → rows p ≡ o → IsPrinted (neighbours m.declared) (lines.Journal (entries.Asked link p o))
+      by_row None is = record { short = record { ranges = (named, prefix, tt); values = tt; octets = omega arith }; told = tt }
+      by_row (Some v) is =
+          let own = (links_print link rows p v at is).1 in
+          record { short = record { ranges = (named, prefix, own.well_told.ranges); values = (own.short, tt); octets = omega arith }; told = (own.well_told.told, tt) }
+
+  rows_printed : (link : Link) (rows : Rows Value) → IsNamed link → router_links m link ≡ Some rows → (listed : List (Network × Value)) → AllByRecursion (λ r. rows r.0 ≡ Some r.1) listed → Printed (map (λ r. lines.Row link r.0 r.1) listed)
+  rows_printed link rows named at [] each = tt
+  rows_printed link rows named at (r ∷ rs) each =
+      let own = links_print link rows r.0 r.1 at each.0 in
+      let is = own.1 in (
+        record { short = record { ranges = (named, own.0, is.well_told.ranges); values = (is.short, tt); octets = omega arith }; told = (is.well_told.told, tt) },
+        rows_printed link rows named at rs each.1,
+      )
+
+  shown : (link : Link) → IsNamed link → (of : Option (Rows Value)) → router_links m link ≡ of → (said : List Line) → Shows link of said → Printed said
+  shown link named None at said is = subst Printed (sym is) (absent, tt)
+  shown link named (Some rows) at said is =
+      subst Printed (sym is.2) (all_both (IsPrinted (neighbours m.declared)) _ _ (rows_printed link rows named at is.0 is.1.each) (record { short = record { ranges = (named, is.3); values = tt; octets = omega arith }; told = tt }, tt))
+
+  covered : (addr : ℕ) (said : List Line) → addr < 2 ^ 32 → CoversAddress addr m said → Printed said
+  covered addr said fits covers =
+      let sub = covers.cover.subnet in
+      let low = sub.holds.from in
+      subst Printed (sym covers.line) (record { short = record { ranges = (fits, by_match covers.found covers.cover.longest_is, (sub.masked, omega (arith, low, fits))); values = tt; octets = omega arith }; told = tt }, tt)
+    where
+      by_match : (found : Option (Network × Interior)) → found ≡ longest width (int_rows m.tree) addr → IsMatch (matched found)
+      by_match None is = tt
+      by_match (Some r) is =
+          let is_longest : IsLongest width (int_rows m.tree) addr (Some r) = subst (IsLongest width (int_rows m.tree) addr) (sym is) (longest_is width (int_rows m.tree) addr) in
+          let low = is_longest.1.from in
+          (is_longest.0, omega (arith, low, fits))
+
+  module _ (few : AreNumbered 4294967294 m.tree) where
+    start : Fit (neighbours m.declared) 4294967294 m
+    start = fit_at 4294967294 few
+
+    gone : (said : List Line) (m' : Moment) → Goes (neighbours m.declared) 4294967294 m said m' → Leaves (neighbours m.declared) m' said
+    gone said m' goes = let x = goes start in record { chains = λ k c there. (x.0.chains k c there).printable; interior = λ proto. (x.0.interior proto).printable; printed = x.1 }
+
+    -- ---- losses of sessions
+    lost : (k s : ℕ) (said : List Line) (m' : Moment) → IsNameNumber s → Loses k s m said m' → Leaves (neighbours m.declared) m' said
+    lost k s said m' session l =
+        let x = first_goes (neighbours m.declared) 4294967294 (overdue_at k m.chains) m l.first l.room l.runs start in
+        let i = l.loses in
+        let c = i.part.chain in
+        let own = x.0.chains k c i.part.at in
+        let begins : Printed l.last = subst Printed (sym (i.lines ∙ ap journal_lines i.part.lines)) (elim (is_empty_map c.incoming.tables.live) as (λ (b : Bool). Printed (journal_lines (cond b [] (entries.Begin (links.Peer c.incoming.number s) ∷ [])))) [
+          | true ↦ tt
+          | false ↦ (begun (links.Peer c.incoming.number s) (own.named, session), tt)
+        ]) in
+        let chains = put_each (λ j d. IsPrintableChain d) k _ l.room.chains
+        (record { tables = lost_printable attrs_value s c.incoming.tables session own.printable.tables; in_force = own.printable.in_force; walk = own.printable.walk }) (λ j d there. (x.0.chains j d there).printable) in
+        subst (λ (n : Moment). Leaves (neighbours m.declared) n said) (sym l.after) (record {
+          chains = subst (λ (n : Moment). (j : ℕ) (d : Chained) → chain_at j n.chains ≡ Some d → IsPrintableChain d) (sym (i.after ∙ ap (λ a. record l.room { chains = a }) i.part.after)) chains;
+          interior = subst (λ (n : Moment). (proto : Proto) → ArePrintableTables interior_value (branch_of proto n.tree).tables) (sym i.after) (λ proto. (x.0.interior proto).printable);
+          printed = subst Printed (sym l.lines) (all_both (IsPrinted (neighbours m.declared)) l.first l.last x.1 begins);
+        })
+
+    -- ---- messages
+    network_prefix : (n : Network) → IsNetwork n → IsPrefix n
+    network_prefix n is = (is.masked, is.fits)
+
+    abbrev Change : Network × Option Attrs → Type 0
+    Change c = IsPrefix c.0 × IfSome c.1 (λ a. IsPrintableRow c.0 (attrs_value a))
+
+    changes_print : (external : Bool) (octets : List ℕ) (u : Update) → AreOctets octets → Reads plain external octets (messages.Update u) → AllByRecursion Change (changes_of u)
+    changes_print external octets u are reads =
+        let readable = read_is_readable plain external octets u are reads in
+        all_both Change (map withdrawn_from (without u.announced u.withdrawn)) _ (withdrawn _ (every_filter IsNetwork _ u.withdrawn (all_every IsNetwork u.withdrawn readable.withdrawn)))
+        (announced u.attrs refl (filter is_host_prefix u.announced) (every_filter IsNetwork is_host_prefix u.announced (all_every IsNetwork u.announced readable.announced)))
+      where
+        withdrawn : (ns : List Network) → Every IsNetwork ns → AllByRecursion Change (map withdrawn_from ns)
+        withdrawn [] each = tt
+        withdrawn (n ∷ ns) each = ((network_prefix n each.0, tt), withdrawn ns each.1)
+
+        with_attrs : (n : Network) (o : Option Attrs) → u.attrs ≡ o → IsPrefix n → IfSome o (λ a. IsPrintableRow n (attrs_value a))
+        with_attrs n None at prefix = tt
+        with_attrs n (Some a) at prefix = record { prefix = prefix; printed = λ all. read_printable all plain external octets u a are reads at }
+
+        announced : (o : Option Attrs) → u.attrs ≡ o → (ns : List Network) → Every IsNetwork ns → AllByRecursion Change (map (announced_with o) ns)
+        announced o at [] each = tt
+        announced o at (n ∷ ns) each = ((network_prefix n each.0, with_attrs n o at (network_prefix n each.0)), announced o at ns each.1)
+
+    heard : (k : ℕ) (p : DeclaredPeer) (octets : List ℕ) (message : Message) (said : List Line) (m' : Moment) → peer_at k m.declared.peers ≡ Some p → p.up ≡ true → AreOctets octets → Says p octets message → Hears k p m message said m'
+        → Leaves (neighbours m.declared) m' said
+    heard k p octets (messages.Update u) said m' at up are says hears = gone said m' (feeds_go (neighbours m.declared) 4294967294 k (changes_of u) m said m' (changes_print (not p.words.internal) octets u are says) hears)
+    heard k p octets messages.Keepalive said m' at up are says hears = stays said m' hears.1 (subst Printed (sym hears.0) tt)
+    heard k p octets messages.Skip said m' at up are says hears = stays said m' hears.1 (subst Printed (sym hears.0) tt)
+    heard k p octets messages.Notification said m' at up are says hears = lost k p.session said m' (session_named k p at up) hears
+    heard k p octets (messages.Notify n) said m' at up are says hears =
+        let l = lost k p.session hears.0 m' (session_named k p at up) hears.2 in
+        record { chains = l.chains; interior = l.interior; printed = subst Printed (sym hears.1) (noted k _ (named_by k p at) hears.3, l.printed) }
+
+    -- ---- interior routes
+    fed : (proto : Proto) (p : Network) (row : Option Interior) (said : List Line) (m' : Moment) → IsPrefix p → IfSome row (λ r. IsPrintableRow p (interior_value r)) → FallsRoute m (fed_tree m.tree proto p row) proto p (way_of_route proto m.tree) said m'
+        → Leaves (neighbours m.declared) m' said
+    fed proto p row said m' prefix new falls =
+        let b = branch_of proto m.tree in
+        let own = start.interior proto in
+        gone said m' (route_goes (neighbours m.declared) 4294967294 m (fed_tree m.tree proto p row) proto p (way_of_route proto m.tree) said m'
+        (put_all (λ (x : Branch). AreFit interior_value x.tables) proto (fed_branch b p row) m.tree (fed_fit interior_value b.tables p row own new) start.interior)
+        (put_all (λ (x : Branch). x.losses ≤ 4294967294) proto (fed_branch b p row) m.tree (few proto) few) prefix (route_way proto m.tree own.rising own.printable.losses) falls)
+
+    protocol_lost : (proto : Proto) (said : List Line) (m' : Moment) → LosesProtocol proto m said m' → Leaves (neighbours m.declared) m' said
+    protocol_lost proto said m' l =
+        let x = first_goes (neighbours m.declared) 4294967294 (tree_overdue proto m.tree) m l.first l.room l.runs start in
+        let b = branch_of proto l.room.tree in
+        let most = x.0.few proto in
+        let named : IsNameNumber (b.losses + 1) = (omega arith, omega (arith, most)) in
+        let begins : Printed (journal_lines (tree_loss_entries proto l.room.tree)) = elim (is_empty_map b.tables.live) as (λ (e : Bool). Printed (journal_lines (cond e [] (entries.Begin (links.Lost b.proto (b.losses + 1)) ∷ [])))) [
+          | true ↦ tt
+          | false ↦ (begun (links.Lost b.proto (b.losses + 1)) named, tt)
+        ] in
+        subst (λ (n : Moment). Leaves (neighbours m.declared) n said) (sym l.after) (record {
+          chains = λ k c there. (x.0.chains k c there).printable;
+          interior = put_all (λ (y : Branch). ArePrintableTables interior_value y.tables) proto (lost_branch b) l.room.tree (lost_printable interior_value (b.losses + 1) b.tables named (x.0.interior proto).printable) (λ other. (x.0.interior other).printable);
+          printed = subst Printed (sym l.lines) (all_both (IsPrinted (neighbours m.declared)) l.first _ x.1 begins);
+        })
+
+    -- ---- each event
+    by_peer : (P : DeclaredPeer → Type 0) (k : ℕ) (A : Type 0) → ((p : DeclaredPeer) → peer_at k m.declared.peers ≡ Some p → P p → A) → ByPeer P (peer_at k m.declared.peers) → A
+    by_peer P k A then is = by_found (peer_at k m.declared.peers) refl is
+      where
+        by_found : (o : Option DeclaredPeer) → peer_at k m.declared.peers ≡ o → ByPeer P o → A
+        by_found None at is = absurd is
+        by_found (Some p) at is = then p at is
+
+    declared : (speaker : Option Speaker) (k : ℕ) (words : Speaker) (said : List Line) (turns : ℕ) (m' : Moment) → IsNameNumber k → Declares m speaker k words said turns m' → Leaves (neighbours m.declared) m' said
+    declared None k words said turns m' named is = absurd is
+    declared (Some me) k words said turns m' named is = just _ _ said turns m' is (record {
+      chains = put_each (λ j c. IsPrintableChain c) k _ m.chains (record { tables = none_printable attrs_value; in_force = All-nil (IsRule false); walk = tt }) printable.chains;
+      interior = printable.interior;
+      printed = (begun (links.In k) named, (begun (links.Filt k) named, tt));
+    })
+
+    refiltered : (k : ℕ) (rules : List Rule) (said : List Line) (turns : ℕ) (m' : Moment) → AreRules false rules → Refilters k rules m said turns m' → Leaves (neighbours m.declared) m' said
+    refiltered k rules said turns m' are is =
+        let e = is.1 in
+        let chains = put_each (λ j c. IsPrintableChain c) k _ m.chains (edited_printable e.chain rules (printable.chains k e.chain e.at) are) printable.chains in
+        just [] _ said turns m' is.2 (record { chains = subst (λ a. (j : ℕ) (c : Chained) → chain_at j a ≡ Some c → IsPrintableChain c) (sym e.after) chains; interior = printable.interior; printed = tt })
+
+    begun_if : (up : Bool) (k : ℕ) (said : List Line) (turns : ℕ) (m' : Moment) → BeginsIf up m k said turns m' → Leaves (neighbours m.declared) m' said
+    begun_if true k said turns m' is = just _ m said turns m' is (stays _ m refl (ignored, tt))
+    begun_if false k said turns m' is = just [] _ said turns m' is (record { chains = printable.chains; interior = printable.interior; printed = tt })
+
+    ended_if : (up : Bool) (k : ℕ) (p : DeclaredPeer) (said : List Line) (turns : ℕ) (m' : Moment) → p.up ≡ up → peer_at k m.declared.peers ≡ Some p → EndsIf up m k p said turns m' → Leaves (neighbours m.declared) m' said
+    ended_if true k p said turns m' up at is = lost k p.session said m' (session_named k p at up) is.1
+    ended_if false k p said turns m' up at is = just _ m said turns m' is (stays _ m refl (ignored, tt))
+
+    heard_if : (up : Bool) (k : ℕ) (p : DeclaredPeer) (octets : List ℕ) (said : List Line) (turns : ℕ) (m' : Moment) → p.up ≡ up → peer_at k m.declared.peers ≡ Some p → AreOctets octets → HearsIf up m k p octets said turns m' → Leaves (neighbours m.declared) m' said
+    heard_if true k p octets said turns m' up at are is = heard k p octets is.1.0 said m' at up are is.1.1 is.1.2
+    heard_if false k p octets said turns m' up at are is = just _ m said turns m' is (stays _ m refl (ignored, tt))
+
+    dropped_if : (has : Bool) (proto : Proto) (p : Network) (said : List Line) (turns : ℕ) (m' : Moment) → IsPrefix p → DropsRouteIf has proto p m said turns m' → Leaves (neighbours m.declared) m' said
+    dropped_if false proto p said turns m' prefix is = just _ m said turns m' is (stays _ m refl (ignored, tt))
+    dropped_if true proto p said turns m' prefix is = fed proto p None said m' prefix tt is.1
+
+    pub event_printed : (event : Event) (said : List Line) (turns : ℕ) (m' : Moment) → IsWellFormed event → IsBlock m event said turns m' → Leaves (neighbours m.declared) m' said
+    event_printed Nothing said turns m' formed is = just [] m said turns m' is (stays [] m refl tt)
+    event_printed (Local words) said turns m' formed is = just _ _ said turns m' is (record {
+      chains = printable.chains;
+      interior = printable.interior;
+      printed = (begun (links.Org Connected) tt, (begun (links.Org Static) tt, (begun (links.Org Ospf) tt, (begun (links.Org Rip) tt, (begun links.Low tt, (begun links.Dyn tt, (begun links.Int tt, (begun links.Fib tt, tt))))))));
+    })
+    event_printed (Peer k words) said turns m' formed is = declared m.declared.speaker k words said turns m' (formed.0.least, formed.0.fits) is
+    event_printed (Up k) said turns m' formed is = by_peer (λ p. BeginsIf p.up m k said turns m') k _ (λ p at begins. begun_if p.up k said turns m' begins) is
+    event_printed (Down k) said turns m' formed is = by_peer (λ p. EndsIf p.up m k p said turns m') k _ (λ p at ends. ended_if p.up k p said turns m' refl at ends) is
+    event_printed (Bgp k octets) said turns m' formed is = by_peer (λ p. HearsIf p.up m k p octets said turns m') k _ (λ p at hears. heard_if p.up k p octets said turns m' refl at formed.1.bytes hears) is
+    event_printed (FilterIn k rules) said turns m' formed is = refiltered k rules said turns m' formed.1 is
+    event_printed (RouteAdd p row) said turns m' formed is =
+        let prefix : IsPrefix p = (formed.0.masked, formed.0.fits) in
+        let own = formed.1 in
+        fed row.proto p (Some row) said m' prefix (record { prefix = prefix; printed = λ all. record { well_told = record { ranges = (own.name, own.metric); told = own.gateway }; short = tt } }) is.1
+    event_printed (RouteDel proto p) said turns m' formed is = dropped_if _ proto p said turns m' (formed.masked, formed.fits) is
+    event_printed (Lose proto) said turns m' formed is = protocol_lost proto said m' is.1
+    event_printed (Cover addr) said turns m' formed is = stays said m' is.1 (covered addr said formed is.2)
+    event_printed Idle said turns m' formed is =
+        let x = phases_go (neighbours m.declared) 4294967294 all_phases m is.inner turns m' is.runs start in
+        let within = is.within in
+        let fits = is.fits in
+        record {
+          chains = λ k c there. (x.0.chains k c there).printable;
+          interior = λ proto. (x.0.interior proto).printable;
+          printed = subst Printed (sym is.lines) (
+            record { short = record { ranges = fits; values = tt; octets = omega arith }; told = tt },
+            all_both (IsPrinted (neighbours m.declared)) is.inner (lines.Idle turns ∷ []) x.1 (record { short = record { ranges = omega (arith, within, fits); values = tt; octets = omega arith }; told = tt }, tt),
+          );
+        }
+    event_printed (Work task n) said turns m' formed is =
+        let x = turns_go (neighbours m.declared) 4294967294 turns task m is.inner m' is.taken start in
+        let most = is.most in
+        let low = formed.1 in
+        record {
+          chains = λ k c there. (x.0.chains k c there).printable;
+          interior = λ proto. (x.0.interior proto).printable;
+          printed = subst Printed (sym is.lines) (all_both (IsPrinted (neighbours m.declared)) is.inner (lines.Work turns ∷ []) x.1 (record { short = record { ranges = omega (arith, most, low); values = tt; octets = omega arith }; told = tt }, tt));
+        }
+    event_printed (Ask link p) said turns m' formed is = just _ m said turns m' is (stays _ m refl (asked link p formed.0.numbers (formed.1.masked, formed.1.fits) (router_links m link) refl))
+    event_printed (Show link) said turns m' formed is = stays said m' is.1 (shown link formed.numbers (router_links m link) refl said is.2)
