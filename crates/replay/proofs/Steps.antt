@@ -14,6 +14,7 @@ use Rattle.router_core.specs.Moments.{Moment, Gives, router_links}
 use Rattle.router_core.specs.Stands.{Stands}
 use Rattle.router_core.specs.Lives.{live_state}
 use Rattle.live_state.specs.Laws.{DeclarationsFollow}
+use Rattle.router_core.specs.Scratch.{IsExactAtRest}
 use Rattle.router_core.specs.Blocks.{Acts}
 use Rattle.replay.specs.Judging.{judge}
 use Rattle.replay.proofs.SettledLinks.{idle_exact}
@@ -37,8 +38,8 @@ pub made_refused : (j : Journaled) (n : ℕ) (code : Code) → made (with_lines 
 made_refused j n code = made_more j (Refused n code ∷ []) ∙ ap (λ t. made j ++ t) (refused_text j.quiet n code)
 
 -- a line's event was stepped
-pub steps_line : (n : ℕ) (old new : Moment) (line : List ℕ) (event : Event) (turns : ℕ) (before now : Journaled) → judge n old.declared line ≡ Ok event → Gives (Acts old event turns new) before now → Stands new → DeclarationsFollow → LeadsOn Value → StepsLine before.quiet n old line (made before) (made now) new
-steps_line n old new line event turns before now accepted gives stands follow join = record {
+pub steps_line : (n : ℕ) (old new : Moment) (line : List ℕ) (event : Event) (turns : ℕ) (before now : Journaled) → judge n old.declared line ≡ Ok event → Gives (Acts old event turns new) before now → Stands new → IsExactAtRest new → DeclarationsFollow → LeadsOn Value → StepsLine before.quiet n old line (made before) (made now) new
+steps_line n old new line event turns before now accepted gives stands rest follow join = record {
   said = gives.0;
   step = record {
     event = event;
@@ -46,6 +47,7 @@ steps_line n old new line event turns before now accepted gives stands follow jo
     accepted = accepted;
     acts = gives.2;
     declared = follow (live_state old) event (live_state new) gives.2.live;
+    rest = rest;
     idle = idle_exact old event gives.0 turns new gives.2.block;
   };
   leads = λ earlier lawful. join no_links (router_links old) (router_links new) earlier (entries_of gives.0) lawful gives.2.leads;

@@ -10,7 +10,7 @@ use Rattle.event_text.specs.declared.event.Event.TheVariants.{Idle}
 use Rattle.router_core.specs.Moments.{Moment, first_moment, router_links}
 use Rattle.router_core.specs.Stands.{Stands}
 use Rattle.live_state.specs.Declared.{declared_after}
-use Rattle.router_core.specs.Scratch.{IsExact}
+use Rattle.router_core.specs.Scratch.{IsExact, IsExactAtRest}
 use Rattle.router_core.specs.Blocks.{Acts}
 use Rattle.replay.specs.Judging.{judge, verdict}
 use Rattle.check_run.specs.Lines.{AreEnded, lines_of}
@@ -22,7 +22,8 @@ pub record Step (n : ℕ) (m : Moment) (line : List ℕ) (said : List Line) (nex
   pub accepted : judge n m.declared line ≡ Ok event
   pub acts : Acts m event turns next said
   pub declared : next.declared ≡ declared_after m.declared event
-  -- after each idle every link is what the live state alone asks for
+  -- each link that no work holds up is what the live state alone asks for, and after an idle every link is
+  pub rest : IsExactAtRest next
   pub idle : event ≡ Idle → IsExact next
 
 -- Lines from number n on are accepted and stepped, and this is said, from one moment to another.
