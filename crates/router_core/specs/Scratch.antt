@@ -18,9 +18,9 @@ IsExactAt m link = router_links m link ≡ from_scratch (live_state m) link
 abbrev pub IsExact : Moment → Type 0
 IsExact m = (link : Link) → IsExactAt m link
 
--- The task's work may keep the link from that: the deletes of a lost session those of the peer's links, of a lost protocol those
--- of the links where its routes come together; the walk of a filter its own link. The link into a deletion stage stands as long
--- as that has work (NSDI 2005, sections 5.1.1 and 5.1.2).
+-- A task holds a link up where its work may keep it from that (NSDI 2005, sections 5.1.1 and 5.1.2): the deletes of a lost session
+-- its peer's links `in.K` and `filt.K`, the walk of a filter `filt.K`, the deletes of a lost protocol each link where its
+-- routes come together. The link into a deletion stage stands as long as that stage has deletes.
 abbrev pub HoldsUp : Task → Link → Type 0
 HoldsUp (Del j s) (Peer k n) = (j ≡ k) × (s ≡ n)
 HoldsUp (Del j s) (In k) = j ≡ k
