@@ -4,15 +4,15 @@ use Rattle.std.specs.List.{AllByRecursion}
 use Rattle.bgp_attr.specs.declared.speaker.Neighbour.{Neighbour}
 use Rattle.event_text.specs.declared.declared.DeclaredPeer.{DeclaredPeer}
 use Rattle.event_text.specs.Declarations.{Declaration, peer_at, IsDeclaration}
-use Rattle.journal_text.specs.Values.{interior_value}
 use Rattle.journal_text.specs.declared.line.Line.{Line}
 use Rattle.journal_laws.specs.Printed.{IsPrinted}
-use Rattle.journal_laws.specs.Standing.{ArePrintableTables, IsPrintableChain}
+use Rattle.journal_laws.specs.Standing.{AreTablesOf, IsInteriorRow, IsPrintableChain}
 use Rattle.in_chain.specs.Chains.{Chained}
 use Rattle.peer_side.specs.Peers.{chain_at}
 use Rattle.rib_route.specs.declared.Proto.{Proto}
 use Rattle.rib_tree.specs.Trees.{branch_of}
 use Rattle.router_core.specs.Moments.{Moment}
+use Rattle.router_core.specs.Lives.{plain}
 
 -- ---- who is who
 abbrev pub words_in : Option DeclaredPeer → Option Neighbour
@@ -33,8 +33,8 @@ pub record KeepsPeers (before now : Declaration) : Type 0 where
   pub nobody : neighbours now 0 ≡ None
 
 -- ---- what stands
--- the declarations, each peer's chain, and the routes of each protocol
+-- The declarations; each peer's chain, whose rows, live or lost, the peer said; and the routes of each protocol, live or lost.
 pub record IsPrintableMoment (m : Moment) : Type 0 where
   pub declared : IsDeclaration m.declared
-  pub chains : (k : ℕ) (c : Chained) → chain_at k m.chains ≡ Some c → IsPrintableChain c
-  pub interior : (proto : Proto) → ArePrintableTables interior_value (branch_of proto m.tree).tables
+  pub chains : (k : ℕ) (c : Chained) → chain_at k m.chains ≡ Some c → IsPrintableChain plain c
+  pub interior : (proto : Proto) → AreTablesOf IsInteriorRow (branch_of proto m.tree).tables
