@@ -21,11 +21,13 @@ use Rattle.router_core.specs.Blocks.{Acts}
 use Rattle.router_core.specs.Works.{Comes, HasStepped, Keeps}
 use Rattle.router_core.specs.Lives.{LiveState, live_state, declared_after}
 use Rattle.router_core.specs.Laws.{DeclarationsFollow}
-use Rattle.router_core.specs.Printable.{neighbours, ArePrinted, KeepsPeers, IsPrintableMoment}
+use Rattle.journal_laws.specs.Peers.{neighbours, KeepsPeers}
+use Rattle.router_core.specs.Printable.{ArePrinted, IsPrintableMoment}
 use Rattle.router_core.proofs.KeepLemmas.{acts_of}
 use Rattle.router_core.proofs.SessionLemmas.{losses_follow}
 use Rattle.router_core.proofs.LocalLemmas.{int_empty}
-use Rattle.router_core.proofs.PrintedPeers.{Leaves, event_leaves}
+use Rattle.journal_laws.proofs.DeclaredPeers.{Leaves}
+use Rattle.router_core.proofs.PrintedPeers.{event_leaves}
 use Rattle.router_core.proofs.PrintedTurns.{Fit, turn_goes}
 use Rattle.router_core.specs.declared.router.Done.{Done}
 use Rattle.router_core.specs.declared.router.Done.TheVariants.{Nothing, Taken}

@@ -13,7 +13,8 @@ use Rattle.event_text.specs.declared.event.Event.{Event}
 use Rattle.router_core.specs.Moments.{Moment, router_links, Gives}
 use Rattle.router_core.specs.Lives.{LiveState, live_state, LiveAfter}
 use Rattle.router_core.specs.Stands.{Stands}
-use Rattle.router_core.specs.Printable.{ArePrinted, KeepsPeers}
+use Rattle.journal_laws.specs.Peers.{KeepsPeers}
+use Rattle.router_core.specs.Printable.{ArePrinted}
 use Rattle.router_core.specs.Blocks.{IsBlock, Acts}
 use Rattle.router_core.specs.Works.{Pushes, Keeps, HasStepped}
 

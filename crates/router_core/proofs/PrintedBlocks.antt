@@ -39,6 +39,9 @@ use Rattle.journal_laws.specs.Printed.{IsPrinted}
 use Rattle.journal_laws.specs.Standing.{AreTablesOf, IsInteriorRow, WasHeard, IsPrintableChain}
 use Rattle.journal_laws.proofs.PrintedRows.{AreFit, IsFit, PrintsIfAny, none_printable, fed_fit, lost_printable, edited_printable, chain_prints, rib_prints}
 use Rattle.journal_laws.proofs.PrintedWays.{Heard, route_way}
+use Rattle.journal_laws.proofs.PrintedLines.{plain_printed, note_printed, answer_printed, rows_printed}
+use Rattle.journal_laws.proofs.DeclaredPeers.{IsKnown, known_peer}
+use Rattle.journal_laws.specs.Peers.{words_in, neighbours}
 use Rattle.link_region.specs.declared.regions.Region.{Region}
 use Rattle.link_region.specs.declared.regions.Region.TheVariants.{Inward, InteriorRoutes, Forward, Elsewhere}
 use Rattle.link_region.specs.Regions.{region_of}
@@ -55,15 +58,14 @@ use Rattle.rib_tree.specs.Falls.{way_of_route}
 use Rattle.rib_tree.specs.Steps.{fed_tree, tree_overdue, tree_loss_entries}
 use Rattle.rib_tree.specs.Trees.{branch_of, int_rows, AreNumbered}
 use Rattle.router_core.specs.Moments.{Moment, parts, rib_by, router_links}
-use Rattle.router_core.specs.Printable.{words_in, neighbours, IsPrintableMoment}
+use Rattle.router_core.specs.Printable.{IsPrintableMoment}
 use Rattle.router_core.specs.Lives.{plain, Says, changes_of, announced_with, withdrawn_from}
 use Rattle.router_core.specs.Stands.{Stands, EachChain, InteriorTree}
 use Rattle.router_core.specs.Phases.{all_phases}
 use Rattle.router_core.specs.Turns.{journal_lines, FallsRoute}
-use Rattle.router_core.specs.Blocks.{Just, begin_line, AreMessageOctets, Loses, Declares, Refilters, DropsRouteIf, LosesProtocol, CoversAddress, Hears, BeginsIf, EndsIf, HearsIf, answer_lines, Shows, ByPeer, IsBlock}
+use Rattle.router_core.specs.Blocks.{Just, begin_line, Loses, Declares, Refilters, DropsRouteIf, LosesProtocol, CoversAddress, Hears, BeginsIf, EndsIf, HearsIf, answer_lines, Shows, ByPeer, IsBlock}
 use Rattle.router_core.proofs.StandLemmas.{peer_of}
 use Rattle.router_core.proofs.TreeParts.{put_all}
-use Rattle.router_core.proofs.PrintedPeers.{IsKnown, known_peer}
 use Rattle.router_core.proofs.PrintedTurns.{Fit, Goes, IsSaid, feeds_go, route_goes, turns_go, phases_go, first_goes}
 
 -- what an event leaves beside the declarations, and what it says
@@ -118,20 +120,14 @@ module _ (m : Moment) (stands : Stands m) (printable : IsPrintableMoment m) wher
       subst (λ (x : Moment). Leaves (neighbours m.declared) x said) (sym is.2) (subst (λ (l : List Line). Leaves (neighbours m.declared) then l) (sym is.0) leaves)
 
   -- ---- lines without values
-  plain_line : (line : Line) → IsPrinted (neighbours m.declared) line → Printed (line ∷ [])
-  plain_line line is = (is, tt)
-
   begun : (link : Link) → IsNamed link → IsPrinted (neighbours m.declared) (begin_line link)
-  begun link named = record { short = record { ranges = named; values = tt; octets = omega arith }; told = tt }
+  begun link named = plain_printed (neighbours m.declared) (begin_line link) refl refl named
 
   ignored : IsPrinted (neighbours m.declared) lines.Ignored
-  ignored = record { short = record { ranges = tt; values = tt; octets = omega arith }; told = tt }
+  ignored = plain_printed (neighbours m.declared) lines.Ignored refl refl tt
 
   absent : IsPrinted (neighbours m.declared) lines.Absent
-  absent = record { short = record { ranges = tt; values = tt; octets = omega arith }; told = tt }
-
-  noted : (k : ℕ) (octets : List ℕ) → IsNameNumber k → AreMessageOctets octets → IsPrinted (neighbours m.declared) (lines.Note k octets)
-  noted k octets named are = record { short = record { ranges = (named.1, are.each); values = tt; octets = are.few }; told = tt }
+  absent = plain_printed (neighbours m.declared) lines.Absent refl refl tt
 
   -- ---- rows of links
   links_print : (link : Link) → PrintsIfAny (neighbours m.declared) (router_links m link)
@@ -153,33 +149,18 @@ module _ (m : Moment) (stands : Stands m) (printable : IsPrintableMoment m) wher
 
   asked : (link : Link) (p : Network) → IsNamed link → IsPrefix p → (of : Option (Rows Value)) → router_links m link ≡ of → Printed (answer_lines link p of)
   asked link p named prefix None at = (absent, tt)
-  asked link p named prefix (Some rows) at = (by_row (rows p) refl, tt)
-    where
-      by_row : (o : Option Value) → rows p ≡ o → IsPrinted (neighbours m.declared) (lines.Journal (entries.Asked link p o))
-      by_row None is = record { short = record { ranges = (named, prefix, tt); values = tt; octets = omega arith }; told = tt }
-      by_row (Some v) is =
-          let own = (links_print link rows p v at is).1 in
-          record { short = record { ranges = (named, prefix, own.well_told.ranges); values = (own.short, tt); octets = omega arith }; told = (own.well_told.told, tt) }
-
-  rows_printed : (link : Link) (rows : Rows Value) → IsNamed link → router_links m link ≡ Some rows → (listed : List (Network × Value)) → AllByRecursion (λ r. rows r.0 ≡ Some r.1) listed → Printed (map (λ r. lines.Row link r.0 r.1) listed)
-  rows_printed link rows named at [] each = tt
-  rows_printed link rows named at (r ∷ rs) each =
-      let own = links_print link rows r.0 r.1 at each.0 in
-      let is = own.1 in (
-        record { short = record { ranges = (named, own.0, is.well_told.ranges); values = (is.short, tt); octets = omega arith }; told = (is.well_told.told, tt) },
-        rows_printed link rows named at rs each.1,
-      )
+  asked link p named prefix (Some rows) at = (answer_printed (neighbours m.declared) link rows named (λ q v is. links_print link rows q v at is) p prefix, tt)
 
   shown : (link : Link) → IsNamed link → (of : Option (Rows Value)) → router_links m link ≡ of → (said : List Line) → Shows link of said → Printed said
   shown link named None at said is = subst Printed (sym is) (absent, tt)
   shown link named (Some rows) at said is =
-      subst Printed (sym is.2) (all_both (IsPrinted (neighbours m.declared)) _ _ (rows_printed link rows named at is.0 is.1.each) (record { short = record { ranges = (named, is.3); values = tt; octets = omega arith }; told = tt }, tt))
+      subst Printed (sym is.2) (all_both (IsPrinted (neighbours m.declared)) _ _ (rows_printed (neighbours m.declared) link rows named (λ p v here. links_print link rows p v at here) is.0 is.1.each) (plain_printed (neighbours m.declared) _ refl refl (named, is.3), tt))
 
   covered : (addr : ℕ) (said : List Line) → addr < 2 ^ 32 → CoversAddress addr m said → Printed said
   covered addr said fits covers =
       let sub = covers.cover.subnet in
       let low = sub.holds.from in
-      subst Printed (sym covers.line) (record { short = record { ranges = (fits, by_match covers.found covers.cover.longest_is, (sub.masked, omega (arith, low, fits))); values = tt; octets = omega arith }; told = tt }, tt)
+      subst Printed (sym covers.line) (plain_printed (neighbours m.declared) _ refl refl (fits, by_match covers.found covers.cover.longest_is, (sub.masked, omega (arith, low, fits))), tt)
     where
       by_match : (found : Option (Network × Interior)) → found ≡ longest width (int_rows m.tree) addr → IsMatch (matched found)
       by_match None is = tt
@@ -244,7 +225,7 @@ module _ (m : Moment) (stands : Stands m) (printable : IsPrintableMoment m) wher
     heard k p octets messages.Notification said m' at up are says hears = lost k p.session said m' (session_named k p at up) hears
     heard k p octets (messages.Notify n) said m' at up are says hears =
         let l = lost k p.session hears.0 m' (session_named k p at up) hears.2 in
-        record { chains = l.chains; interior = l.interior; printed = subst Printed (sym hears.1) (noted k _ (named_by k p at) hears.3, l.printed) }
+        record { chains = l.chains; interior = l.interior; printed = subst Printed (sym hears.1) (note_printed (neighbours m.declared) k _ (named_by k p at) hears.3.each hears.3.few, l.printed) }
 
     -- ---- interior routes
     fed : (proto : Proto) (p : Network) (row : Option Interior) (said : List Line) (m' : Moment) → IsPrefix p → IfSome row (IsInteriorRow p) → FallsRoute m (fed_tree m.tree proto p row) proto p (way_of_route proto m.tree) said m'
@@ -337,8 +318,8 @@ module _ (m : Moment) (stands : Stands m) (printable : IsPrintableMoment m) wher
           chains = λ k c there. (x.0.chains k c there).0.printable;
           interior = λ proto. (x.0.interior proto).printable;
           printed = subst Printed (sym is.lines) (
-            record { short = record { ranges = fits; values = tt; octets = omega arith }; told = tt },
-            all_both (IsPrinted (neighbours m.declared)) is.inner (lines.Idle turns ∷ []) x.1 (record { short = record { ranges = omega (arith, within, fits); values = tt; octets = omega arith }; told = tt }, tt),
+            plain_printed (neighbours m.declared) _ refl refl fits,
+            all_both (IsPrinted (neighbours m.declared)) is.inner (lines.Idle turns ∷ []) x.1 (plain_printed (neighbours m.declared) (lines.Idle turns) refl refl (omega (arith, within, fits)), tt),
           );
         }
     event_printed (Work task n) said turns m' formed is =
@@ -348,7 +329,7 @@ module _ (m : Moment) (stands : Stands m) (printable : IsPrintableMoment m) wher
         record {
           chains = λ k c there. (x.0.chains k c there).0.printable;
           interior = λ proto. (x.0.interior proto).printable;
-          printed = subst Printed (sym is.lines) (all_both (IsPrinted (neighbours m.declared)) is.inner (lines.Work turns ∷ []) x.1 (record { short = record { ranges = omega (arith, most, low); values = tt; octets = omega arith }; told = tt }, tt));
+          printed = subst Printed (sym is.lines) (all_both (IsPrinted (neighbours m.declared)) is.inner (lines.Work turns ∷ []) x.1 (plain_printed (neighbours m.declared) (lines.Work turns) refl refl (omega (arith, most, low)), tt));
         }
     event_printed (Ask link p) said turns m' formed is = just _ m said turns m' is (stays _ m refl (asked link p formed.0.numbers (formed.1.masked, formed.1.fits) (router_links m link) refl))
     event_printed (Show link) said turns m' formed is = stays said m' is.1 (shown link formed.numbers (router_links m link) refl said is.2)

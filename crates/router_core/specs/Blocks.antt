@@ -37,7 +37,8 @@ use Rattle.peer_side.specs.Steps.{EditsPeer, LosesPeer}
 use Rattle.router_core.specs.Moments.{Moment, with_chains, with_rib, router_links, bound_of}
 use Rattle.router_core.specs.Lives.{LiveAfter, live_state, changes_of, Says}
 use Rattle.router_core.specs.Stands.{Stands}
-use Rattle.router_core.specs.Printable.{ArePrinted, KeepsPeers}
+use Rattle.journal_laws.specs.Peers.{KeepsPeers}
+use Rattle.router_core.specs.Printable.{ArePrinted}
 use Rattle.router_core.specs.Phases.{all_phases}
 use Rattle.router_core.specs.Scratch.{IsExact}
 use Rattle.router_core.specs.Turns.{journal_lines, InPeers, FeedsAll, FallsRoute, Turns, Drains, RunsAll, IsSettled, has_work}
