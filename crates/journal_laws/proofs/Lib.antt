@@ -15,3 +15,5 @@ pub mod FilteredRoutes
 pub mod PrintedFalls
 pub mod PrintedRows
 pub mod PrintedWays
+pub mod PrintedLines
+pub mod DeclaredPeers

@@ -1,11 +1,12 @@
 -- Each row of each live link can be printed, where the rows of the tables can.
-use Rattle.std.proofs.Common.{◌≡◌, ℕ, ◌^◌, ◌<◌, ◌==◌, Bool, true, false, cond, List, [], ◌∷◌, map, Option, Some, None, IfSome, option_map, refl, sym, ap, subst, ◌∙◌, inl, inr, arith}
+use Rattle.std.proofs.Common.{◌≡◌, ℕ, ◌^◌, ◌<◌, ◌==◌, Bool, true, false, not, cond, List, [], ◌∷◌, map, Option, Some, None, IfSome, option_map, refl, sym, ap, subst, ◌∙◌, inl, inr, arith}
 use Rattle.std.specs.Prelude.{filter}
 use Rattle.std.specs.List.{AllByRecursion}
 use Rattle.std.specs.FinMap.{FinMap}
 use Rattle.addr4.specs.Prefixes.{Network, prefix_cmp}
 use Rattle.bgp_attr.specs.declared.attrs.Attrs.{Attrs}
 use Rattle.bgp_attr.specs.declared.speaker.Neighbour.{Neighbour}
+use Rattle.bgp_attr.specs.declared.speaker.Profile.{Profile}
 use Rattle.rib_route.specs.declared.Proto.{Proto}
 use Rattle.rib_route.specs.declared.Proto.TheVariants.{Connected, Static, Ospf, Rip}
 use Rattle.rib_route.specs.declared.rows.Interior.{Interior}
@@ -40,12 +41,13 @@ use Rattle.in_chain.specs.Incomings.{in_rows}
 use Rattle.rib_tree.specs.Branches.{org_rows}
 use Rattle.rib_tree.specs.Trees.{Treed, branch_of, tree_links, is_tree_link, beside_tree, low_rows, dyn_rows, int_rows, interior_distance}
 use Rattle.rib_tree.specs.Forwards.{rib_links}
-use Rattle.journal_laws.specs.Standing.{IsPrintableRow, ArePrintableTables, AreRulesIfAny, AreRulesOfWalk, IsPrintableChain}
+use Rattle.journal_laws.specs.Standing.{IsHeardRow, IsInteriorRow, AreTablesOf, AreRulesIfAny, AreRulesOfWalk, IsPrintableChain}
+use Rattle.journal_laws.proofs.ReadAttrs.{read_printable}
 
 -- ---- tables
--- can be printed, and the losses rise
-pub record AreFit {R : Type 0} (value : R → Value) (t : Tables R) : Type 0 where
-  pub printable : ArePrintableTables value t
+-- of such rows, and the losses rise
+pub record AreFit {R : Type 0} (Is : Network → R → Type 0) (t : Tables R) : Type 0 where
+  pub printable : AreTablesOf Is t
   pub rising : AreRising t.deletions
 
 module _ {R : Type 0} where
@@ -67,35 +69,35 @@ module _ {R : Type 0} where
   rising_fed ds p None rising = rising
   rising_fed ds p (Some row) rising = rising_mapped (without p) (λ d. refl) ds rising
 
-module _ {R : Type 0} (value : R → Value) where
-  pub none_printable : ArePrintableTables value no_tables
+module _ {R : Type 0} (Is : Network → R → Type 0) where
+  pub none_printable : AreTablesOf Is no_tables
   none_printable = record { rows = λ p row is. absurd (no_row_at_first p row is); losses = tt }
 
-  pub fed_fit : (t : Tables R) (p : Network) (row : Option R) → AreFit value t → IfSome row (λ r. IsPrintableRow p (value r)) → AreFit value (fed_tables t p row)
+  pub fed_fit : (t : Tables R) (p : Network) (row : Option R) → AreFit Is t → IfSome row (Is p) → AreFit Is (fed_tables t p row)
   fed_fit t p row fit new = record {
     printable = record {
-      rows = λ q r is. elim (feeds_bring_one_row t p row q r is) as (λ _. IsPrintableRow q (value r)) [
+      rows = λ q r is. elim (feeds_bring_one_row t p row q r is) as (λ _. Is q r) [
         | inl old ↦ fit.printable.rows q r old
-        | inr fed ↦ subst (λ (x : Network). IsPrintableRow x (value r)) (sym fed.0) (subst (λ (o : Option R). IfSome o (λ r. IsPrintableRow p (value r))) fed.1 new)
+        | inr fed ↦ subst (λ (x : Network). Is x r) (sym fed.0) (subst (λ (o : Option R). IfSome o (Is p)) fed.1 new)
       ];
       losses = numbers_fed IsNameNumber t.deletions p row fit.printable.losses;
     };
     rising = rising_fed t.deletions p row fit.rising;
   }
 
-  pub swept_fit : (number : ℕ) (p : Network) (t : Tables R) → AreFit value t → AreFit value (swept_tables number p t)
+  pub swept_fit : (number : ℕ) (p : Network) (t : Tables R) → AreFit Is t → AreFit Is (swept_tables number p t)
   swept_fit number p t fit = record {
     printable = record { rows = λ q r is. fit.printable.rows q r (turns_bring_no_row number p t q r is); losses = numbers_swept IsNameNumber number p t.deletions fit.printable.losses };
     rising = rising_mapped (swept_one number p) (swept_number number p) t.deletions fit.rising;
   }
 
-  pub welded_fit : (t : Tables R) → AreFit value t → AreFit value (welded_tables t)
+  pub welded_fit : (t : Tables R) → AreFit Is t → AreFit Is (welded_tables t)
   welded_fit t fit = record {
     printable = record { rows = λ q r is. fit.printable.rows q r (welds_bring_no_row t q r is); losses = all_filtered (λ (d : Lost R). IsNameNumber d.number) is_full t.deletions fit.printable.losses };
     rising = rising_filtered is_full t.deletions fit.rising;
   }
 
-  pub lost_printable : (number : ℕ) (t : Tables R) → IsNameNumber number → ArePrintableTables value t → ArePrintableTables value (lost_tables number t)
+  pub lost_printable : (number : ℕ) (t : Tables R) → IsNameNumber number → AreTablesOf Is t → AreTablesOf Is (lost_tables number t)
   lost_printable number t named h = record { rows = λ q r is. h.rows q r (losses_bring_no_row number t q r is); losses = all_lost (λ (d : Lost R). IsNameNumber d.number) number t h.losses named }
 
 -- ---- rules
@@ -111,16 +113,16 @@ rules_edited : (walk : Option (Walked (List Rule))) (rules : List Rule) → AreR
 rules_edited None rules are new = (new, tt)
 rules_edited (Some w) rules are new = (are.0, new)
 
-finished_printable : (c : Chained) (walk : Option (Walked (List Rule))) → IsPrintableChain c → AreRulesOfWalk walk → IsPrintableChain (record c { filter = after_walk c.filter.in_force walk })
-finished_printable c None h are = record { tables = h.tables; in_force = h.in_force; walk = tt }
-finished_printable c (Some w) h are = record { tables = h.tables; in_force = are.0; walk = rules_waiting w.waiting are.1 }
+finished_printable : (profile : Profile) (c : Chained) (walk : Option (Walked (List Rule))) → IsPrintableChain profile c → AreRulesOfWalk walk → IsPrintableChain profile (record c { filter = after_walk c.filter.in_force walk })
+finished_printable profile c None h are = record { tables = h.tables; in_force = h.in_force; walk = tt }
+finished_printable profile c (Some w) h are = record { tables = h.tables; in_force = are.0; walk = rules_waiting w.waiting are.1 }
 
-pub walked_printable : (c : Chained) (next : Option Network) → IsPrintableChain c → IsPrintableChain (record c { filter = walked_on next c.filter })
-walked_printable c None h = finished_printable c c.filter.walk h h.walk
-walked_printable c (Some p) h = record { tables = h.tables; in_force = h.in_force; walk = rules_stepped c.filter.walk p h.walk }
+pub walked_printable : (profile : Profile) (c : Chained) (next : Option Network) → IsPrintableChain profile c → IsPrintableChain profile (record c { filter = walked_on next c.filter })
+walked_printable profile c None h = finished_printable profile c c.filter.walk h h.walk
+walked_printable profile c (Some p) h = record { tables = h.tables; in_force = h.in_force; walk = rules_stepped c.filter.walk p h.walk }
 
-pub edited_printable : (c : Chained) (rules : List Rule) → IsPrintableChain c → AreRules false rules → IsPrintableChain (record c { filter = edited c.filter rules })
-edited_printable c rules h new = record { tables = h.tables; in_force = h.in_force; walk = rules_edited c.filter.walk rules h.walk new }
+pub edited_printable : (profile : Profile) (c : Chained) (rules : List Rule) → IsPrintableChain profile c → AreRules false rules → IsPrintableChain profile (record c { filter = edited c.filter rules })
+edited_printable profile c rules h new = record { tables = h.tables; in_force = h.in_force; walk = rules_edited c.filter.walk rules h.walk new }
 
 rules_at : (in_force : List Rule) (walk : Option (Walked (List Rule))) (p : Network) → AreRules false in_force → AreRulesOfWalk walk → AreRules false (function_of in_force walk p)
 rules_at in_force None p are on = are
@@ -147,53 +149,63 @@ module _ (peers : ℕ → Option Neighbour) where
         by_row None at is = absurd (cc)
         by_row (Some row) at is = let same : value row ≡ v = cc in subst (λ (x : Value). IsPrefix p × IsPrintable peers x) same (prints p row at)
 
-    tables_print : (t : Tables R) → ArePrintableTables value t → Prints peers value (lowest_rows t)
-    tables_print t h p row is = let shown = h.rows p row (lowest_rows_are_rows t p row is) in (shown.prefix, shown.printed peers)
+    -- rows of which each can be printed
+    module _ (Is : Network → R → Type 0) (shown : (p : Network) (row : R) → Is p row → IsPrefix p × IsPrintable peers (value row)) where
+      tables_print : (t : Tables R) → AreTablesOf Is t → Prints peers value (lowest_rows t)
+      tables_print t h p row is = shown p row (h.rows p row (lowest_rows_are_rows t p row is))
 
-    above_prints : (live : FinMap prefix_cmp R) (n : ℕ) (ds : List (Lost R)) → ((p : Network) (row : R) → IsRow (record { live = live; deletions = ds }) p row → IsPrintableRow p (value row)) → PrintsIfAny peers (option_map (valued value) (rows_above live n ds))
-    above_prints live n [] each = none_prints
-    above_prints live n (d ∷ ds) each = elim (d.number == n) as (λ (b : Bool). PrintsIfAny peers (option_map (valued value) (cond b (Some (lowest_rows (record { live = live; deletions = ds }))) (rows_above live n ds)))) [
-      | true ↦ live_prints (lowest_rows (record { live = live; deletions = ds })) (λ p row is. let shown = higher p row (lowest_rows_are_rows (record { live = live; deletions = ds }) p row is) in (shown.prefix, shown.printed peers))
-      | false ↦ above_prints live n ds higher
-    ]
-      where
-        higher : (p : Network) (row : R) → IsRow (record { live = live; deletions = ds }) p row → IsPrintableRow p (value row)
-        higher p row (inl own) = each p row (inl own)
-        higher p row (inr lost) = each p row (inr (inr lost))
+      above_prints : (live : FinMap prefix_cmp R) (n : ℕ) (ds : List (Lost R)) → ((p : Network) (row : R) → IsRow (record { live = live; deletions = ds }) p row → Is p row) → PrintsIfAny peers (option_map (valued value) (rows_above live n ds))
+      above_prints live n [] each = none_prints
+      above_prints live n (d ∷ ds) each = elim (d.number == n) as (λ (b : Bool). PrintsIfAny peers (option_map (valued value) (cond b (Some (lowest_rows (record { live = live; deletions = ds }))) (rows_above live n ds)))) [
+        | true ↦ live_prints (lowest_rows (record { live = live; deletions = ds })) (λ p row is. shown p row (higher p row (lowest_rows_are_rows (record { live = live; deletions = ds }) p row is)))
+        | false ↦ above_prints live n ds higher
+      ]
+        where
+          higher : (p : Network) (row : R) → IsRow (record { live = live; deletions = ds }) p row → Is p row
+          higher p row (inl own) = each p row (inl own)
+          higher p row (inr lost) = each p row (inr (inr lost))
 
   if_prints : (b : Bool) (of : Option (Rows Value)) → PrintsIfAny peers of → PrintsIfAny peers (cond b of None)
   if_prints true of prints = prints
   if_prints false of prints = none_prints
 
   -- ---- a chain
-  -- whose peer is known, and which can be printed
-  pub record IsFit (c : Chained) : Type 0 where
-    pub known : peers c.peer.number ≡ Some c.peer
-    pub small : c.peer.number < 2 ^ 8
-    pub named : IsNameNumber c.incoming.number
-    pub printable : IsPrintableChain c
-    pub rising : AreRising c.incoming.tables.deletions
+  module _ (profile : Profile) where
+    heard_prints : (external : Bool) (p : Network) (a : Attrs) → IsHeardRow profile external p a → IsPrefix p × IsPrintable peers (attrs_value a)
+    heard_prints external p a h = (h.0, read_printable peers profile external h.1.0 h.1.1 a h.1.2 h.1.3 h.1.4)
 
-  pub filt_prints : (c : Chained) → IsFit c → Prints peers route_value (filt_rows c)
-  filt_prints c fit p route is = by_attrs (in_rows c.incoming p) refl is
-    where
-      rules : List Rule
-      rules = function_at c.filter p
+    -- whose peer is known, and which can be printed
+    pub record IsFit (c : Chained) : Type 0 where
+      pub known : peers c.peer.number ≡ Some c.peer
+      pub small : c.peer.number < 2 ^ 8
+      pub named : IsNameNumber c.incoming.number
+      pub printable : IsPrintableChain profile c
+      pub rising : AreRising c.incoming.tables.deletions
 
-      by_attrs : (o : Option Attrs) → in_rows c.incoming p ≡ o → filtered c.me c.peer rules p o ≡ Some route → IsPrefix p × IsPrintable peers (route_value route)
-      by_attrs None at is = absurd (cc)
-      by_attrs (Some a) at is =
-          let own = tables_print attrs_value c.incoming.tables fit.printable.tables p a at in
-          (own.0, filtered_printable peers c.me c.peer false rules p a route fit.known fit.small (rules_at c.filter.in_force c.filter.walk p fit.printable.in_force fit.printable.walk) own.1 is)
+    in_prints : (c : Chained) → IsFit c → Prints peers attrs_value (in_rows c.incoming)
+    in_prints c fit = tables_print attrs_value (IsHeardRow profile (not c.peer.internal)) (heard_prints (not c.peer.internal)) c.incoming.tables fit.printable.tables
 
-  pub chain_prints : (c : Chained) → IsFit c → (link : Link) → PrintsIfAny peers (links_of c link)
-  chain_prints c fit (names.Filt k) = if_prints (k == c.incoming.number) _ (live_prints route_value (filt_rows c) (filt_prints c fit))
-  chain_prints c fit (names.In k) = if_prints (k == c.incoming.number) _ (live_prints attrs_value (in_rows c.incoming) (tables_print attrs_value c.incoming.tables fit.printable.tables))
-  chain_prints c fit (names.Peer k s) = if_prints (k == c.incoming.number) _ (above_prints attrs_value c.incoming.tables.live s c.incoming.tables.deletions fit.printable.tables.rows)
-  chain_prints c fit other = none_prints
+    pub filt_prints : (c : Chained) → IsFit c → Prints peers route_value (filt_rows c)
+    filt_prints c fit p route is = by_attrs (in_rows c.incoming p) refl is
+      where
+        rules : List Rule
+        rules = function_at c.filter p
 
-  pub beside_prints : (c : Chained) → IsFit c → (link : Link) → PrintsIfAny peers (beside no_links c link)
-  beside_prints c fit link = if_prints (is_named c.incoming.number link) (links_of c link) (chain_prints c fit link)
+        by_attrs : (o : Option Attrs) → in_rows c.incoming p ≡ o → filtered c.me c.peer rules p o ≡ Some route → IsPrefix p × IsPrintable peers (route_value route)
+        by_attrs None at is = absurd (cc)
+        by_attrs (Some a) at is =
+            let own = in_prints c fit p a at in
+            (own.0, filtered_printable peers c.me c.peer false rules p a route fit.known fit.small (rules_at c.filter.in_force c.filter.walk p fit.printable.in_force fit.printable.walk) own.1 is)
+
+    pub chain_prints : (c : Chained) → IsFit c → (link : Link) → PrintsIfAny peers (links_of c link)
+    chain_prints c fit (names.Filt k) = if_prints (k == c.incoming.number) _ (live_prints route_value (filt_rows c) (filt_prints c fit))
+    chain_prints c fit (names.In k) = if_prints (k == c.incoming.number) _ (live_prints attrs_value (in_rows c.incoming) (in_prints c fit))
+    chain_prints c fit (names.Peer k s) = if_prints (k == c.incoming.number) _
+        (above_prints attrs_value (IsHeardRow profile (not c.peer.internal)) (heard_prints (not c.peer.internal)) c.incoming.tables.live s c.incoming.tables.deletions fit.printable.tables.rows)
+    chain_prints c fit other = none_prints
+
+    pub beside_prints : (c : Chained) → IsFit c → (link : Link) → PrintsIfAny peers (beside no_links c link)
+    beside_prints c fit link = if_prints (is_named c.incoming.number link) (links_of c link) (chain_prints c fit link)
 
   -- ---- the tree
   merged_print : (left right : Rows Interior) → Prints peers interior_value left → Prints peers interior_value right → Prints peers interior_value (merged interior_distance left right)
@@ -208,9 +220,12 @@ module _ (peers : ℕ → Option Neighbour) where
           by_test true is = other p row (r ∙ is)
           by_test false is = one p row (l ∙ is)
 
-  module _ (t : Treed) (each : (proto : Proto) → ArePrintableTables interior_value (branch_of proto t).tables) where
+  module _ (t : Treed) (each : (proto : Proto) → AreTablesOf IsInteriorRow (branch_of proto t).tables) where
+    interior_prints : (p : Network) (row : Interior) → IsInteriorRow p row → IsPrefix p × IsPrintable peers (interior_value row)
+    interior_prints p row h = (h.prefix, h.printed peers)
+
     org_prints : (proto : Proto) → Prints peers interior_value (org_rows (branch_of proto t))
-    org_prints proto = tables_print interior_value (branch_of proto t).tables (each proto)
+    org_prints proto = tables_print interior_value IsInteriorRow interior_prints (branch_of proto t).tables (each proto)
 
     pub int_prints : Prints peers interior_value (int_rows t)
     int_prints = merged_print (low_rows t) (dyn_rows t) (merged_print _ _ (org_prints Connected) (org_prints Static)) (merged_print _ _ (org_prints Ospf) (org_prints Rip))
@@ -228,7 +243,7 @@ module _ (peers : ℕ → Option Neighbour) where
 
     pub tree_prints : (link : Link) → PrintsIfAny peers (tree_links t link)
     tree_prints (names.Org proto) = live_prints interior_value _ (org_prints proto)
-    tree_prints (names.Lost proto n) = above_prints interior_value (branch_of proto t).tables.live n (branch_of proto t).tables.deletions (each proto).rows
+    tree_prints (names.Lost proto n) = above_prints interior_value IsInteriorRow interior_prints (branch_of proto t).tables.live n (branch_of proto t).tables.deletions (each proto).rows
     tree_prints names.Low = live_prints interior_value _ (merged_print _ _ (org_prints Connected) (org_prints Static))
     tree_prints names.Dyn = live_prints interior_value _ (merged_print _ _ (org_prints Ospf) (org_prints Rip))
     tree_prints names.Int = live_prints interior_value _ int_prints

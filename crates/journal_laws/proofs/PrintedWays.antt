@@ -1,5 +1,5 @@
 -- The ways of falls in chains and trees, and what is printed of them.
-use Rattle.std.proofs.Common.{◌≡◌, ◌⊎◌, ℕ, ◌+◌, ◌<◌, ◌≤◌, ◌==◌, Bool, true, false, cond, List, [], ◌∷◌, ◌++◌, Option, Some, None, IfSome, option_map, refl, sym, ap, subst, ◌∙◌, inl, inr, append_assoc, arith}
+use Rattle.std.proofs.Common.{◌≡◌, ◌⊎◌, ℕ, ◌+◌, ◌<◌, ◌≤◌, ◌==◌, Bool, true, false, not, cond, List, [], ◌∷◌, ◌++◌, Option, Some, None, IfSome, option_map, refl, sym, ap, subst, ◌∙◌, inl, inr, append_assoc, arith}
 use Rattle.std.specs.List.{AllByRecursion}
 use Rattle.std.specs.FinMap as tables
 use Rattle.std.specs.FinMap.{FinMap}
@@ -8,6 +8,7 @@ use Rattle.addr4.proofs.PrefixOrder.{itself}
 use Rattle.bgp_attr.specs.declared.attrs.Attrs.{Attrs}
 use Rattle.bgp_attr.specs.declared.route.Route.{Route}
 use Rattle.bgp_attr.specs.declared.speaker.Neighbour.{Neighbour}
+use Rattle.bgp_attr.specs.declared.speaker.Profile.{Profile}
 use Rattle.rib_route.specs.declared.Proto.{Proto}
 use Rattle.rib_route.specs.declared.Proto.TheVariants.{Connected, Static, Ospf, Rip}
 use Rattle.link_change.specs.Rows.{Rows, is_empty_map}
@@ -19,7 +20,7 @@ use Rattle.policy_rules.specs.declared.rule.Rule.{Rule}
 use Rattle.journal_text.specs.Falls.{IsWhole, IsCut, GoesDown}
 use Rattle.journal_text.specs.Links.{same_link}
 use Rattle.journal_text.specs.Names.{IsNameNumber, IsNamed}
-use Rattle.journal_text.specs.Values.{attrs_value, route_value, sent_entries}
+use Rattle.journal_text.specs.Values.{route_value, sent_entries}
 use Rattle.journal_text.specs.Walk.{no_links, change_entries}
 use Rattle.journal_text.specs.declared.entry.Entry.{Entry}
 use Rattle.journal_text.specs.declared.entry.Entry.TheVariants.{Weld}
@@ -32,6 +33,7 @@ use Rattle.journal_text.specs.declared.value.Value.{Value}
 use Rattle.journal_text.proofs.LinkLemmas.{same_link-yes}
 use Rattle.journal_check.specs.Laws.{IsPrefix}
 use Rattle.journal_laws.specs.Printed.{IsPrinted, IsPrintable}
+use Rattle.journal_laws.specs.Standing.{IsHeardRow}
 use Rattle.journal_laws.specs.Laws.{AreEachOnce}
 use Rattle.journal_laws.proofs.PrintedFalls.{falls_printed, changes_printed}
 use Rattle.journal_laws.proofs.PrintedRows.{AreFit, IsFit, Prints, swept_fit, walked_printable, filt_prints, beside_prints}
@@ -193,52 +195,57 @@ module _ (peers : ℕ → Option Neighbour) where
         change_printed link q change.before change.after named (row_prints old q change.before before is.1.0)
         (row_prints new q change.after then (ap (λ (f : Rows R). f q) is.2 ∙ ap (λ (b : Bool). cond b change.after (old q)) (itself q)))
 
-  -- ---- the chain of a peer
-  pub with_fit : (c : Chained) (t : Tables Attrs) → IsFit peers c → AreFit attrs_value t → IsFit peers (with_tables c t)
-  with_fit c t fit own = record {
-    known = fit.known;
-    small = fit.small;
-    named = fit.named;
-    printable = record { tables = own.printable; in_force = fit.printable.in_force; walk = fit.printable.walk };
-    rising = own.rising;
-  }
+  module _ (profile : Profile) where
+    -- ---- the chain of a peer
+    -- the rows of a peer
+    abbrev pub Heard : Chained → Network → Attrs → Type 0
+    Heard c = IsHeardRow profile (not c.peer.internal)
 
-  pub tables_fit : (c : Chained) → IsFit peers c → AreFit attrs_value c.incoming.tables
-  tables_fit c fit = record { printable = fit.printable.tables; rising = fit.rising }
+    pub with_fit : (c : Chained) (t : Tables Attrs) → IsFit peers profile c → AreFit (Heard c) t → IsFit peers profile (with_tables c t)
+    with_fit c t fit own = record {
+      known = fit.known;
+      small = fit.small;
+      named = fit.named;
+      printable = record { tables = own.printable; in_force = fit.printable.in_force; walk = fit.printable.walk };
+      rising = own.rising;
+    }
 
-  module _ (c : Chained) (fit : IsFit peers c) where
-    above_in : (ds : List (Lost Attrs)) → AllByRecursion (λ (d : Lost Attrs). IsNameNumber d.number) ds → AllByRecursion (λ (d : Lost Attrs). height (In c.incoming.number) < height (Peer c.incoming.number d.number)) ds
-    above_in ds numbers = all_so (λ (d : Lost Attrs). IsNameNumber d.number) (λ d. 1 < d.number + 2) (λ d n. omega arith) ds numbers
+    pub tables_fit : (c : Chained) → IsFit peers profile c → AreFit (Heard c) c.incoming.tables
+    tables_fit c fit = record { printable = fit.printable.tables; rising = fit.rising }
 
-    pub feed_once : AreEachOnce (way_of_feed c.incoming)
-    feed_once = peer_once c.incoming.number (way_down (owners.Peer c.incoming.number) (In c.incoming.number) c.incoming.tables.deletions) fit.named
-        (down_way (owners.Peer c.incoming.number) (λ n named. (fit.named, named)) (In c.incoming.number) c.incoming.tables.deletions fit.named (above_in c.incoming.tables.deletions fit.printable.tables.losses) fit.rising fit.printable.tables.losses)
+    module _ (c : Chained) (fit : IsFit peers profile c) where
+      above_in : (ds : List (Lost Attrs)) → AllByRecursion (λ (d : Lost Attrs). IsNameNumber d.number) ds → AllByRecursion (λ (d : Lost Attrs). height (In c.incoming.number) < height (Peer c.incoming.number d.number)) ds
+      above_in ds numbers = all_so (λ (d : Lost Attrs). IsNameNumber d.number) (λ d. 1 < d.number + 2) (λ d n. omega arith) ds numbers
 
-    sweep_once : (s : ℕ) → AreEachOnce (way_of_sweep s c.incoming)
-    sweep_once s = peer_once c.incoming.number (way_from (owners.Peer c.incoming.number) s (In c.incoming.number) c.incoming.tables.deletions) fit.named
-        (from_way (owners.Peer c.incoming.number) (λ n named. (fit.named, named)) s (In c.incoming.number) c.incoming.tables.deletions fit.named (above_in c.incoming.tables.deletions fit.printable.tables.losses) fit.rising fit.printable.tables.losses)
+      pub feed_once : AreEachOnce (way_of_feed c.incoming)
+      feed_once = peer_once c.incoming.number (way_down (owners.Peer c.incoming.number) (In c.incoming.number) c.incoming.tables.deletions) fit.named
+          (down_way (owners.Peer c.incoming.number) (λ n named. (fit.named, named)) (In c.incoming.number) c.incoming.tables.deletions fit.named (above_in c.incoming.tables.deletions fit.printable.tables.losses) fit.rising fit.printable.tables.losses)
 
-    pub chain_fall : (c' : Chained) (p : Network) (way : List Link) (sent : Option (Change Route)) (fall : List (Entry Value)) → IsFit peers c' → IsPrefix p → AreEachOnce way → Falls c c' p way sent fall → ArePrintedEntries fall
-    chain_fall c' p way sent fall fit' prefix once falls =
-        falls_printed peers p way fall (beside no_links c) (beside no_links c') prefix once (down_of p way sent fall falls.down) (falls.leads no_links)
-        (λ link rows v at is. (beside_prints peers c fit link rows p v at is).1) (λ link rows v at is. (beside_prints peers c' fit' link rows p v at is).1)
+      sweep_once : (s : ℕ) → AreEachOnce (way_of_sweep s c.incoming)
+      sweep_once s = peer_once c.incoming.number (way_from (owners.Peer c.incoming.number) s (In c.incoming.number) c.incoming.tables.deletions) fit.named
+          (from_way (owners.Peer c.incoming.number) (λ n named. (fit.named, named)) s (In c.incoming.number) c.incoming.tables.deletions fit.named (above_in c.incoming.tables.deletions fit.printable.tables.losses) fit.rising fit.printable.tables.losses)
 
-    pub turned_fit : (task : Task) (less : Chained) (sent : Option (Change Route)) (fall : List (Entry Value)) → Turned c less task sent fall → IsFit peers less × ArePrintedEntries fall
-    turned_fit (Del k s) less sent fall t =
-        let w = t.1 in
-        let p = w.prefix in
-        let row = table_row s c.incoming.tables.deletions w.table p w.row w.stands w.least.0 in
-        let less_fit : IsFit peers less = subst (IsFit peers) (sym w.after) (with_fit c (swept_tables s p c.incoming.tables) fit (swept_fit attrs_value s p c.incoming.tables (tables_fit c fit))) in
-        (less_fit, chain_fall less p (way_of_sweep s c.incoming) sent fall less_fit (fit.printable.tables.rows p w.row (inr row)).prefix (sweep_once s) w.fall)
-    turned_fit (Fin k) less sent fall t =
-        let w = t.1 in
-        let next = w.walks.next in
-        let is : less ≡ record c { filter = walked_on next c.filter } = w.after ∙ ap (λ (f : Passed (List Rule)). record c { filter = f }) w.walks.after in
-        let less_fit : IsFit peers less = subst (IsFit peers) (sym is) (record { known = fit.known; small = fit.small; named = fit.named; printable = walked_printable c next fit.printable; rising = fit.rising }) in
-        let changes : IsSentAt next (filt_rows c) (filt_rows less) sent = subst (λ (x : Chained). IsSentAt next (filt_rows c) (filt_rows x) sent) (sym w.after) w.walks.changes in
-        (less_fit, subst ArePrintedEntries (sym w.lines) (by_next next (filt_rows less) (filt_prints peers less less_fit) changes))
-      where
-        by_next : (next : Option Network) (new : Rows Route) → Prints peers route_value new → IsSentAt next (filt_rows c) new sent → ArePrintedEntries (sent_entries route_value (Filt c.incoming.number) sent)
-        by_next None new then is = subst (λ (s : Option (Change Route)). ArePrintedEntries (sent_entries route_value (Filt c.incoming.number) s)) (sym is.0) tt
-        by_next (Some p) new then is = sent_printed route_value (Filt c.incoming.number) (filt_rows c) new p sent fit.named (filt_prints peers c fit) then is
-    turned_fit (Rdel proto n) less sent fall t = absurd t
+      pub chain_fall : (c' : Chained) (p : Network) (way : List Link) (sent : Option (Change Route)) (fall : List (Entry Value)) → IsFit peers profile c' → IsPrefix p → AreEachOnce way → Falls c c' p way sent fall → ArePrintedEntries fall
+      chain_fall c' p way sent fall fit' prefix once falls =
+          falls_printed peers p way fall (beside no_links c) (beside no_links c') prefix once (down_of p way sent fall falls.down) (falls.leads no_links)
+          (λ link rows v at is. (beside_prints peers profile c fit link rows p v at is).1) (λ link rows v at is. (beside_prints peers profile c' fit' link rows p v at is).1)
+
+      pub turned_fit : (task : Task) (less : Chained) (sent : Option (Change Route)) (fall : List (Entry Value)) → Turned c less task sent fall → IsFit peers profile less × ArePrintedEntries fall
+      turned_fit (Del k s) less sent fall t =
+          let w = t.1 in
+          let p = w.prefix in
+          let row = table_row s c.incoming.tables.deletions w.table p w.row w.stands w.least.0 in
+          let less_fit : IsFit peers profile less = subst (IsFit peers profile) (sym w.after) (with_fit c (swept_tables s p c.incoming.tables) fit (swept_fit (Heard c) s p c.incoming.tables (tables_fit c fit))) in
+          (less_fit, chain_fall less p (way_of_sweep s c.incoming) sent fall less_fit (fit.printable.tables.rows p w.row (inr row)).0 (sweep_once s) w.fall)
+      turned_fit (Fin k) less sent fall t =
+          let w = t.1 in
+          let next = w.walks.next in
+          let is : less ≡ record c { filter = walked_on next c.filter } = w.after ∙ ap (λ (f : Passed (List Rule)). record c { filter = f }) w.walks.after in
+          let less_fit : IsFit peers profile less = subst (IsFit peers profile) (sym is) (record { known = fit.known; small = fit.small; named = fit.named; printable = walked_printable profile c next fit.printable; rising = fit.rising }) in
+          let changes : IsSentAt next (filt_rows c) (filt_rows less) sent = subst (λ (x : Chained). IsSentAt next (filt_rows c) (filt_rows x) sent) (sym w.after) w.walks.changes in
+          (less_fit, subst ArePrintedEntries (sym w.lines) (by_next next (filt_rows less) (filt_prints peers profile less less_fit) changes))
+        where
+          by_next : (next : Option Network) (new : Rows Route) → Prints peers route_value new → IsSentAt next (filt_rows c) new sent → ArePrintedEntries (sent_entries route_value (Filt c.incoming.number) sent)
+          by_next None new then is = subst (λ (s : Option (Change Route)). ArePrintedEntries (sent_entries route_value (Filt c.incoming.number) s)) (sym is.0) tt
+          by_next (Some p) new then is = sent_printed route_value (Filt c.incoming.number) (filt_rows c) new p sent fit.named (filt_prints peers profile c fit) then is
+      turned_fit (Rdel proto n) less sent fall t = absurd t

@@ -1,4 +1,5 @@
 pub mod Printed
 pub mod TextLinks
 pub mod Standing
+pub mod Peers
 pub mod Laws

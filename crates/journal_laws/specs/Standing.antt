@@ -1,14 +1,21 @@
 -- What stands in tables and chains and can be printed: each row, live or lost, the numbers of the losses, and the rules of filters.
-use Rattle.std.specs.Prelude.{ℕ, false, List, Option, Some, None}
+use Rattle.std.specs.Prelude.{◌≡◌, ℕ, Bool, false, not, List, Option, Some, None}
 use Rattle.std.specs.List.{AllByRecursion}
 use Rattle.addr4.specs.Prefixes.{Network}
+use Rattle.bgp_attr.specs.declared.attrs.Attrs.{Attrs}
 use Rattle.bgp_attr.specs.declared.speaker.Neighbour.{Neighbour}
+use Rattle.bgp_attr.specs.declared.speaker.Profile.{Profile}
+use Rattle.bgp_wire.specs.declared.message.Update.{Update}
+use Rattle.bgp_wire.specs.declared.message.Message.TheVariants as messages
+use Rattle.bgp_wire.specs.Grammar.{Reads}
+use Rattle.bgp_wire.specs.Readable.{AreOctets}
 use Rattle.policy_rules.specs.declared.rule.Rule.{Rule}
 use Rattle.policy_rules.specs.Ranges.{AreRules}
 use Rattle.pass_core.specs.Passed.{Walked}
 use Rattle.journal_text.specs.Names.{IsNameNumber}
-use Rattle.journal_text.specs.Values.{attrs_value}
+use Rattle.journal_text.specs.Values.{interior_value}
 use Rattle.journal_text.specs.declared.value.Value.{Value}
+use Rattle.rib_route.specs.declared.rows.Interior.{Interior}
 use Rattle.journal_check.specs.Laws.{IsPrefix}
 use Rattle.loss_chain.specs.Tables.{Tables}
 use Rattle.loss_chain.specs.Rows.{IsRow}
@@ -20,9 +27,20 @@ pub record IsPrintableRow (p : Network) (value : Value) : Type 0 where
   pub prefix : IsPrefix p
   pub printed : (peers : ℕ → Option Neighbour) → IsPrintable peers value
 
--- each row, live or lost, and the numbers of the losses
-pub record ArePrintableTables {R : Type 0} (value : R → Value) (t : Tables R) : Type 0 where
-  pub rows : (p : Network) (row : R) → IsRow t p row → IsPrintableRow p (value row)
+abbrev pub IsInteriorRow : Network → Interior → Type 0
+IsInteriorRow p row = IsPrintableRow p (interior_value row)
+
+-- some octets of a peer, external or internal, said these attributes (RFC 4271, section 4.3)
+abbrev pub WasHeard : Profile → Bool → Attrs → Type 0
+WasHeard profile external a = (octets : List ℕ) × (u : Update) × AreOctets octets × Reads profile external octets (messages.Update u) × (u.attrs ≡ Some a)
+
+-- a row that such a peer announced at its prefix
+abbrev pub IsHeardRow : Profile → Bool → Network → Attrs → Type 0
+IsHeardRow profile external p a = IsPrefix p × WasHeard profile external a
+
+-- each row, live or lost, is such, and the numbers of the losses are in their range
+pub record AreTablesOf {R : Type 0} (Is : Network → R → Type 0) (t : Tables R) : Type 0 where
+  pub rows : (p : Network) (row : R) → IsRow t p row → Is p row
   pub losses : AllByRecursion (λ d. IsNameNumber d.number) t.deletions
 
 abbrev pub AreRulesIfAny : Option (List Rule) → Type 0
@@ -33,8 +51,9 @@ abbrev pub AreRulesOfWalk : Option (Walked (List Rule)) → Type 0
 AreRulesOfWalk None = Unit {0}
 AreRulesOfWalk (Some w) = AreRules false w.next × AreRulesIfAny w.waiting
 
--- the rows of a chain, and the rules of its filter: those in force, those of a walk, and those that wait
-pub record IsPrintableChain (c : Chained) : Type 0 where
-  pub tables : ArePrintableTables attrs_value c.incoming.tables
+-- Each row of a chain was heard of its peer, and the rules of its filter are in their ranges: those in force, those of a walk, and
+-- those that wait.
+pub record IsPrintableChain (profile : Profile) (c : Chained) : Type 0 where
+  pub tables : AreTablesOf (IsHeardRow profile (not c.peer.internal)) c.incoming.tables
   pub in_force : AreRules false c.filter.in_force
   pub walk : AreRulesOfWalk c.filter.walk

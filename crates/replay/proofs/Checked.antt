@@ -13,7 +13,7 @@ use Rattle.journal_laws.proofs.LawfulTexts.{printed_judged, refused_judged, lawf
 use Rattle.event_text.specs.Declarations.{Declaration, no_declaration}
 use Rattle.router_core.specs.Moments.{Moment, first_moment}
 use Rattle.live_state.specs.Declared.{declared_after}
-use Rattle.router_core.specs.Printable.{neighbours, KeepsPeers}
+use Rattle.journal_laws.specs.Peers.{neighbours, KeepsPeers}
 use Rattle.check_run.specs.Lines.{lines_of}
 use Rattle.check_run.specs.Runs.{Took}
 use Rattle.replay.specs.declared.words.Command.{Command}

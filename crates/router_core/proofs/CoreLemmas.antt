@@ -21,21 +21,22 @@ use Rattle.router_core.specs.Blocks.{Acts}
 use Rattle.router_core.specs.Works.{Comes, HasStepped, Keeps}
 use Rattle.live_state.specs.Declared.{declared_after}
 use Rattle.live_state.specs.Lives.{LiveState}
-use Rattle.live_state.specs.Laws.{DeclarationsFollow}
 use Rattle.router_core.specs.Lives.{live_state}
-use Rattle.router_core.specs.Printable.{neighbours, ArePrinted, KeepsPeers, IsPrintableMoment}
+use Rattle.live_state.specs.Laws.{DeclarationsFollow}
+use Rattle.journal_laws.specs.Peers.{neighbours, KeepsPeers}
+use Rattle.router_core.specs.Printable.{ArePrinted, IsPrintableMoment}
 use Rattle.router_core.proofs.KeepLemmas.{acts_of}
 use Rattle.live_state.proofs.SessionLemmas.{losses_follow}
 use Rattle.router_core.proofs.LocalLemmas.{int_empty}
-use Rattle.router_core.proofs.PrintedPeers.{Leaves, event_leaves}
+use Rattle.journal_laws.proofs.DeclaredPeers.{Leaves}
+use Rattle.router_core.proofs.PrintedPeers.{event_leaves}
 use Rattle.router_core.proofs.PrintedTurns.{Fit, turn_goes}
 use Rattle.router_core.specs.declared.router.Done.{Done}
 use Rattle.router_core.specs.declared.router.Done.TheVariants.{Nothing, Taken}
 use Rattle.journal_text.specs.declared.link.Task.{Task}
 use Rattle.router_core.proofs.PrintedBlocks.{fit_at, event_printed}
 use Rattle.journal_laws.proofs.PrintedRows.{none_printable}
-use Rattle.journal_laws.specs.Standing.{ArePrintableTables}
-use Rattle.journal_text.specs.Values.{interior_value}
+use Rattle.journal_laws.specs.Standing.{AreTablesOf, IsInteriorRow}
 use Rattle.addr4.specs.Prefixes.{Network}
 use Rattle.link_change.specs.Rows.{Rows}
 
@@ -67,7 +68,7 @@ work_prints m m' most stands printable few live fits =
     let x = fits (fit_at m stands printable most few) in
     record {
       declared = subst IsDeclaration (sym (ap (λ (l : LiveState). l.declared) live)) printable.declared;
-      chains = λ k c there. (x.chains k c there).printable;
+      chains = λ k c there. (x.chains k c there).0.printable;
       interior = λ proto. (x.interior proto).printable;
     }
 
@@ -127,11 +128,11 @@ first_stands law = record {
   numbered = none_new;
 }
   where
-    new_printable : (proto : Proto) → ArePrintableTables interior_value (branch_of proto new_tree).tables
-    new_printable Connected = none_printable interior_value
-    new_printable Static = none_printable interior_value
-    new_printable Ospf = none_printable interior_value
-    new_printable Rip = none_printable interior_value
+    new_printable : (proto : Proto) → AreTablesOf IsInteriorRow (branch_of proto new_tree).tables
+    new_printable Connected = none_printable IsInteriorRow
+    new_printable Static = none_printable IsInteriorRow
+    new_printable Ospf = none_printable IsInteriorRow
+    new_printable Rip = none_printable IsInteriorRow
 
     own : (claim : Claim) → Claims first_moment claim
     own EachChain = λ k c at. absurd (let none = get-empty {X = Chained} nat_cmp k in cc)

@@ -14,7 +14,8 @@ use Rattle.router_core.specs.Moments.{Moment, router_links, Gives}
 use Rattle.live_state.specs.Lives.{LiveState, LiveAfter}
 use Rattle.router_core.specs.Lives.{live_state}
 use Rattle.router_core.specs.Stands.{Stands}
-use Rattle.router_core.specs.Printable.{ArePrinted, KeepsPeers}
+use Rattle.journal_laws.specs.Peers.{KeepsPeers}
+use Rattle.router_core.specs.Printable.{ArePrinted}
 use Rattle.router_core.specs.Blocks.{IsBlock, Acts}
 use Rattle.router_core.specs.Works.{Pushes, Keeps, HasStepped}
 

@@ -1,98 +1,28 @@
 -- The declared peers after each event.
-use Rattle.std.proofs.Common.{◌≡◌, ℕ, suc, ◌^◌, get_or, Fits, w8, ◌<◌, ◌≤◌, Bool, true, false, cond, List, [], ◌∷◌, ◌++◌, map, Option, Some, None, nat_eq, refl, ap, subst, sym, ◌∙◌, ◌&&◌, arith}
+use Rattle.std.proofs.Common.{◌≡◌, ℕ, suc, ◌^◌, get_or, Fits, w8, ◌<◌, Bool, true, false, cond, List, [], ◌∷◌, Option, Some, None, ◌&&◌, arith}
 use Rattle.std.specs.List.{AllByRecursion}
-use Rattle.bgp_attr.specs.declared.speaker.Speaker.{Speaker}
-use Rattle.bgp_attr.specs.declared.speaker.Neighbour.{Neighbour}
 use Rattle.event_text.specs.declared.event.Event.{Event}
 use Rattle.event_text.specs.declared.event.Event.TheVariants.{Local, Peer, Up, Down, Bgp}
 use Rattle.event_text.specs.declared.declared.DeclaredPeer.{DeclaredPeer}
-use Rattle.event_text.specs.Declarations.{Declaration, peer_at, refusal, with_speaker, with_peer, with_session, without_session, begun_at, ended_at, IsCounted, IsDeclaredBy, IsDeclaration}
+use Rattle.event_text.specs.Declarations.{Declaration, peer_at, refusal, with_session, without_session, IsDeclaration}
 use Rattle.event_text.specs.WellFormed.{IsWellFormed}
-use Rattle.event_text.proofs.Sessions.{KeepsWords, begun_words, ended_words}
-use Rattle.event_text.proofs.DeclarationLemmas.{speaker_kept, peer_kept, session_kept, end_kept, found_peer}
+use Rattle.journal_laws.proofs.DeclaredPeers.{Leaves, leaves_all, speaker_leaves, peer_leaves, session_leaves, end_leaves}
 use Rattle.live_state.specs.Messages.{ends_session}
 use Rattle.live_state.specs.Declared.{declared_up, declared_down, declared_heard, declared_after}
-use Rattle.router_core.specs.Printable.{words_in, neighbours, KeepsPeers}
-use Rattle.router_core.proofs.StandLemmas.{one_peer}
 
 -- ---- octets are what their type says
 pub each_octet : (bytes : List ℕ) → ((i : ℕ) → Fits w8 (get_or bytes i 0)) → AllByRecursion (λ b. b < 2 ^ 8) bytes
 each_octet [] each = tt
 each_octet (b ∷ bytes) each = (omega (arith, each 0), each_octet bytes (λ i. each (suc i)))
 
--- ---- a declared peer
-low_session : (k : ℕ) (ps : List DeclaredPeer) (p : DeclaredPeer) → IsCounted ps → peer_at k ps ≡ Some p → p.session ≤ 65535
-low_session k [] p counted found = absurd (cc)
-low_session k (q ∷ ps) p counted found = elim (nat_eq q.words.number k) as (λ (b : Bool). cond b (Some q) (peer_at k ps) ≡ Some p → p.session ≤ 65535) [
-  | true ↦ λ here. subst (λ (x : DeclaredPeer). x.session ≤ 65535) (one_peer q p here) counted.0
-  | false ↦ λ there. low_session k ps p counted.2 there
-] found
-
-pub record IsKnown (k : ℕ) (p : DeclaredPeer) : Type 0 where
-  pub number : p.words.number ≡ k
-  pub least : 0 < k
-  pub most : k ≤ 64
-  pub begun : p.up ≡ true → 0 < p.session
-  pub session : p.session ≤ 65535
-
-pub known_peer : (d : Declaration) (k : ℕ) (p : DeclaredPeer) → IsDeclaration d → peer_at k d.peers ≡ Some p → IsKnown k p
-known_peer d k p declared found = by_speaker d.speaker d.peers declared found
-  where
-    by_speaker : (o : Option Speaker) (peers : List DeclaredPeer) → IsDeclaredBy o peers → peer_at k peers ≡ Some p → IsKnown k p
-    by_speaker None peers none found = absurd (let contra : peer_at k [] ≡ Some p = ap (peer_at k) (sym none) ∙ found in cc)
-    by_speaker (Some local) peers are found =
-        let f = found_peer local peers k p are.each found in
-        let own = f.0.words.neighbour in
-        record {
-          number = f.1;
-          least = subst (λ (n : ℕ). 0 < n) f.1 own.least;
-          most = subst (λ (n : ℕ). n ≤ 64) f.1 own.most;
-          begun = f.0.begun;
-          session = low_session k peers p are.counted found;
-        }
-
-nobody : (d : Declaration) → IsDeclaration d → neighbours d 0 ≡ None
-nobody d declared = by_peer (peer_at 0 d.peers) refl
-  where
-    by_peer : (o : Option DeclaredPeer) → peer_at 0 d.peers ≡ o → neighbours d 0 ≡ None
-    by_peer None e = ap words_in e
-    by_peer (Some p) e = absurd (let least = (known_peer d 0 p declared e).least in omega (arith, least))
-
--- ---- words
-words_mapped : (f : DeclaredPeer → DeclaredPeer) → KeepsWords f → (k : ℕ) (ps : List DeclaredPeer) → words_in (peer_at k (map f ps)) ≡ words_in (peer_at k ps)
-words_mapped f keeps k [] = refl
-words_mapped f keeps k (p ∷ ps) = ap (λ (w : Neighbour). words_in (cond (nat_eq w.number k) (Some (f p)) (peer_at k (map f ps)))) (keeps p)
-    ∙ elim (nat_eq p.words.number k) as (λ (b : Bool). words_in (cond b (Some (f p)) (peer_at k (map f ps))) ≡ words_in (cond b (Some p) (peer_at k ps))) [ true ↦ ap Some (keeps p) | false ↦ words_mapped f keeps k ps ]
-
-words_pushed : (k : ℕ) (ps : List DeclaredPeer) (q : DeclaredPeer) (w : Neighbour) → words_in (peer_at k ps) ≡ Some w → words_in (peer_at k (ps ++ q ∷ [])) ≡ Some w
-words_pushed k [] q w there = absurd (cc)
-words_pushed k (p ∷ ps) q w there = elim (nat_eq p.words.number k) as (λ (b : Bool). words_in (cond b (Some p) (peer_at k ps)) ≡ Some w → words_in (cond b (Some p) (peer_at k (ps ++ q ∷ []))) ≡ Some w) [
-  | true ↦ λ here. here
-  | false ↦ λ later. words_pushed k ps q w later
-] there
-
 -- ---- each event
--- what is declared after an event
-pub record Leaves (d now : Declaration) : Type 0 where
-  pub declared : IsDeclaration now
-  pub peers : KeepsPeers d now
-
-leaves : (d now : Declaration) → IsDeclaration now → ((k : ℕ) (w : Neighbour) → neighbours d k ≡ Some w → neighbours now k ≡ Some w) → Leaves d now
-leaves d now declared words = record { declared = declared; peers = record { words = words; nobody = nobody now declared } }
-
-pub leaves_all : (d : Declaration) → IsDeclaration d → Leaves d d
-leaves_all d declared = leaves d d declared (λ k w there. there)
-
 module _ (d : Declaration) (k : ℕ) (declared : IsDeclaration d) where
   begun_by : refusal d (Up k) ≡ None → (o : Option DeclaredPeer) → Leaves d (declared_up d k o)
   begun_by admitted None = leaves_all d declared
-  begun_by admitted (Some p) = elim p.up as (λ (up : Bool). Leaves d (cond up d (with_session d k))) [
-    | true ↦ leaves_all d declared
-    | false ↦ leaves d (with_session d k) (session_kept d k declared admitted) (λ j w there. words_mapped (begun_at k) (begun_words k) j d.peers ∙ there)
-  ]
+  begun_by admitted (Some p) = elim p.up as (λ (up : Bool). Leaves d (cond up d (with_session d k))) [ true ↦ leaves_all d declared | false ↦ session_leaves d k declared admitted ]
 
   ended_if : (b : Bool) → Leaves d (cond b (without_session d k) d)
-  ended_if true = leaves d (without_session d k) (end_kept d k declared) (λ j w there. words_mapped (ended_at k) (ended_words k) j d.peers ∙ there)
+  ended_if true = end_leaves d k declared
   ended_if false = leaves_all d declared
 
   ended_by : (o : Option DeclaredPeer) → Leaves d (declared_down d k o)
@@ -104,8 +34,8 @@ module _ (d : Declaration) (k : ℕ) (declared : IsDeclaration d) where
   heard_by octets (Some p) = ended_if (p.up && ends_session octets)
 
 pub event_leaves : (d : Declaration) (event : Event) → IsDeclaration d → refusal d event ≡ None → IsWellFormed event → Leaves d (declared_after d event)
-event_leaves d (Local words) declared admitted formed = leaves d (with_speaker d words) (speaker_kept d words declared admitted formed) (λ k w there. there)
-event_leaves d (Peer k words) declared admitted formed = leaves d (with_peer d k words) (peer_kept d k words declared admitted formed) (λ j w there. words_pushed j d.peers _ w there)
+event_leaves d (Local words) declared admitted formed = speaker_leaves d words declared admitted formed
+event_leaves d (Peer k words) declared admitted formed = peer_leaves d k words declared admitted formed
 event_leaves d (Up k) declared admitted formed = begun_by d k declared admitted (peer_at k d.peers)
 event_leaves d (Down k) declared admitted formed = ended_by d k declared (peer_at k d.peers)
 event_leaves d (Bgp k octets) declared admitted formed = heard_by d k declared octets (peer_at k d.peers)

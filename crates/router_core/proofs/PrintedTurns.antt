@@ -1,5 +1,5 @@
 -- What falls and turns say can be printed, and so can what stands behind them.
-use Rattle.std.proofs.Common.{◌≡◌, ℕ, zero, suc, ◌≤◌, List, [], ◌∷◌, ◌++◌, Option, Some, None, IfSome, sym, ap, subst, ◌∙◌, inr}
+use Rattle.std.proofs.Common.{◌≡◌, ℕ, zero, suc, not, ◌≤◌, List, [], ◌∷◌, ◌++◌, Option, Some, None, IfSome, sym, ap, subst, ◌∙◌, inr}
 use Rattle.std.specs.List.{AllByRecursion}
 use Rattle.addr4.specs.Prefixes.{Network}
 use Rattle.bgp_attr.specs.declared.attrs.Attrs.{Attrs}
@@ -10,7 +10,7 @@ use Rattle.rib_route.specs.declared.rows.FibRow.{FibRow}
 use Rattle.link_change.specs.Rows.{Rows}
 use Rattle.link_change.specs.Changes.{IsSent}
 use Rattle.link_change.specs.declared.change.Change.{Change}
-use Rattle.journal_text.specs.Values.{attrs_value, interior_value, fib_value}
+use Rattle.journal_text.specs.Values.{fib_value}
 use Rattle.journal_text.specs.Walk.{no_links}
 use Rattle.journal_text.specs.declared.entry.Entry.{Entry}
 use Rattle.journal_text.specs.declared.value.Value.{Value}
@@ -22,17 +22,17 @@ use Rattle.journal_text.specs.declared.link.Task.{Task}
 use Rattle.journal_text.specs.declared.link.Task.TheVariants.{Del, Fin, Rdel}
 use Rattle.journal_check.specs.Laws.{IsPrefix}
 use Rattle.journal_laws.specs.Printed.{IsPrinted}
-use Rattle.journal_laws.specs.Standing.{ArePrintableTables, IsPrintableRow}
+use Rattle.journal_laws.specs.Standing.{AreTablesOf, IsInteriorRow, WasHeard, IsHeardRow}
 use Rattle.journal_laws.specs.Laws.{AreEachOnce}
 use Rattle.journal_laws.proofs.PrintedFalls.{falls_printed}
 use Rattle.journal_laws.proofs.PrintedRows.{AreFit, IsFit, Prints, fed_fit, swept_fit, welded_fit, fib_prints, beside_tree_prints}
-use Rattle.journal_laws.proofs.PrintedWays.{down_of, table_row, sweep_way, ArePrintedEntries, weld_printed, sent_printed, with_fit, tables_fit, feed_once, chain_fall, turned_fit}
+use Rattle.journal_laws.proofs.PrintedWays.{down_of, table_row, sweep_way, ArePrintedEntries, weld_printed, sent_printed, Heard, with_fit, tables_fit, feed_once, chain_fall, turned_fit}
 use Rattle.loss_chain.specs.declared.owner.Owner.TheVariants as owners
 use Rattle.loss_chain.specs.Steps.{fed_tables, welded_tables}
 use Rattle.loss_chain.proofs.ListLemmas.{all_both, all_made}
 use Rattle.in_chain.specs.Chains.{Chained}
 use Rattle.in_chain.specs.Falls.{way_of_feed}
-use Rattle.in_chain.specs.Steps.{fed, welded}
+use Rattle.in_chain.specs.Steps.{fed, welded, Turned}
 use Rattle.peer_side.specs.Peers.{Chains, chain_at, put_chain, peer_of}
 use Rattle.peer_side.specs.Steps.{FeedsPeer, with_weld}
 use Rattle.peer_side.proofs.PutLemmas.{put_each}
@@ -45,6 +45,7 @@ use Rattle.rib_tree.specs.Steps.{swept_tree, tree_weld_entries}
 use Rattle.router_core.specs.declared.router.Phase.{Phase}
 use Rattle.router_core.specs.Moments.{Moment, with_chains}
 use Rattle.router_core.specs.Blocks.{RunsFirst}
+use Rattle.live_state.specs.Messages.{plain}
 use Rattle.router_core.specs.Turns.{journal_lines, InPeers, FeedsAll, fib_entries, FallsRoute, IsPeerTurn, IsRouteTurn, IsTurn, Turns, Runs, RunsPhase, RunsAll}
 use Rattle.router_core.proofs.TreeParts.{put_all}
 
@@ -56,8 +57,8 @@ module _ (peers : ℕ → Option Neighbour) (most : ℕ) where
 
   -- ---- what stands within a step
   pub record Fit (m : Moment) : Type 0 where
-    pub chains : (k : ℕ) (c : Chained) → chain_at k m.chains ≡ Some c → IsFit peers c
-    pub interior : (proto : Proto) → AreFit interior_value (branch_of proto m.tree).tables
+    pub chains : (k : ℕ) (c : Chained) → chain_at k m.chains ≡ Some c → IsFit peers plain c × (c.peer.number ≡ k)
+    pub interior : (proto : Proto) → AreFit IsInteriorRow (branch_of proto m.tree).tables
     pub few : AreNumbered most m.tree
 
   -- from one moment to another, this is said
@@ -77,41 +78,60 @@ module _ (peers : ℕ → Option Neighbour) (most : ℕ) where
   lines_printed said es is printed = subst (λ (l : List Line). AllByRecursion (IsPrinted peers) l) (sym is) (all_made (IsPrinted peers) (λ (e : Entry Value). lines.Journal e) es printed)
 
   -- a fall in a chain, and the weld behind it
-  chain_goes : (k : ℕ) (m : Moment) (less : Chained) (fall entries : List (Entry Value)) (a : Chains) (said : List Line) (m' : Moment) → IsFit peers less → ArePrintedEntries peers fall → entries ≡ with_weld less fall → a ≡ put_chain k (welded less) m.chains
+  chain_goes : (k : ℕ) (m : Moment) (less : Chained) (fall entries : List (Entry Value)) (a : Chains) (said : List Line) (m' : Moment) → IsFit peers plain less → less.peer.number ≡ k → ArePrintedEntries peers fall → entries ≡ with_weld less fall → a ≡ put_chain k (welded less) m.chains
       → said ≡ journal_lines entries → m' ≡ with_chains m a → Goes m said m'
-  chain_goes k m less fall entries a said m' own printed lines_are after is then fit =
+  chain_goes k m less fall entries a said m' own number printed lines_are after is then fit =
       let welds = weld_printed peers (owners.Peer less.incoming.number) (λ n named. (own.named, named)) (In less.incoming.number) less.incoming.tables.deletions own.named own.printable.tables.losses in
-      let welded_own : IsFit peers (welded less) = with_fit peers less (welded_tables less.incoming.tables) own (welded_fit attrs_value less.incoming.tables (tables_fit peers less own)) in (
-        subst Fit (sym (then ∙ ap (with_chains m) after)) (record { chains = put_each (λ j c. IsFit peers c) k (welded less) m.chains welded_own fit.chains; interior = fit.interior; few = fit.few }),
+      let welded_own : IsFit peers plain (welded less) = with_fit peers plain less (welded_tables less.incoming.tables) own (welded_fit (Heard peers plain less) less.incoming.tables (tables_fit peers plain less own)) in (
+        subst Fit (sym (then ∙ ap (with_chains m) after)) (record { chains = put_each (λ j c. IsFit peers plain c × (c.peer.number ≡ j)) k (welded less) m.chains (welded_own, number) fit.chains; interior = fit.interior; few = fit.few }),
         lines_printed said entries is (subst (ArePrintedEntries peers) (sym lines_are) (all_both (λ (e : Entry Value). IsPrinted peers (lines.Journal e)) fall _ printed welds)),
       )
 
-  feed_goes : (k : ℕ) (p : Network) (row : Option Attrs) (sent : Option (Change Route)) (m : Moment) (said : List Line) (m' : Moment) → IsPrefix p → IfSome row (λ a. IsPrintableRow p (attrs_value a)) → InPeers (FeedsPeer k p row sent m.chains) m said m' → Goes m said m'
-  feed_goes k p row sent m said m' prefix new i fit =
+  -- one prefix that a peer said something of
+  abbrev pub IsSaid : Neighbour → Network × Option Attrs → Type 0
+  IsSaid w change = IsPrefix change.0 × IfSome change.1 (WasHeard plain (not w.internal))
+
+  feed_goes : (k : ℕ) (w : Neighbour) (p : Network) (row : Option Attrs) (sent : Option (Change Route)) (m : Moment) (said : List Line) (m' : Moment) → peers k ≡ Some w → IsSaid w (p, row) → InPeers (FeedsPeer k p row sent m.chains) m said m' → Goes m said m'
+  feed_goes k w p row sent m said m' there is i fit =
       let f = i.part in
       let own = fit.chains k f.chain f.at in
+      let who : w ≡ f.chain.peer = one_words w f.chain.peer (sym there ∙ ap peers (sym own.1) ∙ own.0.known) in
+      let new = row_heard f.chain.peer p row (subst (λ (x : Neighbour). IsSaid x (p, row)) who is) in
       let less : Chained = fed f.chain p row in
-      let less_fit : IsFit peers less = with_fit peers f.chain (fed_tables f.chain.incoming.tables p row) own (fed_fit attrs_value f.chain.incoming.tables p row (tables_fit peers f.chain own) new) in
-      chain_goes k m less f.fall i.entries i.chains said m' less_fit (chain_fall peers f.chain own less p (way_of_feed f.chain.incoming) sent f.fall less_fit prefix (feed_once peers f.chain own) f.falls) f.lines f.after i.lines i.after fit
+      let less_fit : IsFit peers plain less = with_fit peers plain f.chain (fed_tables f.chain.incoming.tables p row) own.0 (fed_fit (Heard peers plain f.chain) f.chain.incoming.tables p row (tables_fit peers plain f.chain own.0) new) in
+      chain_goes k m less f.fall i.entries i.chains said m' less_fit own.1 (chain_fall peers plain f.chain own.0 less p (way_of_feed f.chain.incoming) sent f.fall less_fit is.0 (feed_once peers plain f.chain own.0) f.falls) f.lines f.after i.lines i.after fit
+    where
+      one_words : (a b : Neighbour) → Some a ≡ Some b → a ≡ b
+      one_words a b e = cc
 
-  pub feeds_go : (k : ℕ) (cs : List (Network × Option Attrs)) (m : Moment) (said : List Line) (m' : Moment) → AllByRecursion (λ c. IsPrefix c.0 × IfSome c.1 (λ a. IsPrintableRow c.0 (attrs_value a))) cs → FeedsAll k cs m said m' → Goes m said m'
-  feeds_go k [] m said m' each f = goes_nowhere m m' said f.0 f.1
-  feeds_go k (c ∷ cs) m said m' each f = goes_then m f.2 m' f.0 f.1 said (feed_goes k c.0 c.1 f.3.0 m f.0 f.2 each.0.0 each.0.1 f.3.1) (feeds_go k cs f.2 f.1 m' each.1 f.4) f.5
+      row_heard : (x : Neighbour) (q : Network) (o : Option Attrs) → IsSaid x (q, o) → IfSome o (IsHeardRow plain (not x.internal) q)
+      row_heard x q None is = tt
+      row_heard x q (Some a) is = is
+
+  pub feeds_go : (k : ℕ) (w : Neighbour) (cs : List (Network × Option Attrs)) (m : Moment) (said : List Line) (m' : Moment) → peers k ≡ Some w → AllByRecursion (IsSaid w) cs → FeedsAll k cs m said m' → Goes m said m'
+  feeds_go k w [] m said m' there each f = goes_nowhere m m' said f.0 f.1
+  feeds_go k w (c ∷ cs) m said m' there each f = goes_then m f.2 m' f.0 f.1 said (feed_goes k w c.0 c.1 f.3.0 m f.0 f.2 there each.0 f.3.1) (feeds_go k w cs f.2 f.1 m' there each.1 f.4) f.5
+
+  turned_peer : (task : Task) (c less : Chained) (sent : Option (Change Route)) (fall : List (Entry Value)) → Turned c less task sent fall → less.peer.number ≡ c.peer.number
+  turned_peer (Del k s) c less sent fall t = ap (λ (x : Chained). x.peer.number) t.1.after
+  turned_peer (Fin k) c less sent fall t = ap (λ (x : Chained). x.peer.number) t.1.after
+  turned_peer (Rdel proto n) c less sent fall t = absurd t
 
   peer_turn_goes : (task : Task) (m : Moment) (said : List Line) (m' : Moment) → IsPeerTurn task m said m' → Goes m said m'
   peer_turn_goes task m said m' t fit =
       let i = t.1 in
       let f = i.part in
-      let x = turned_fit peers f.chain (fit.chains (peer_of task) f.chain f.at) task f.turned_chain t.0 f.fall f.turned in
-      chain_goes (peer_of task) m f.turned_chain f.fall i.entries i.chains said m' x.0 x.1 f.lines f.after i.lines i.after fit
+      let own = fit.chains (peer_of task) f.chain f.at in
+      let x = turned_fit peers plain f.chain own.0 task f.turned_chain t.0 f.fall f.turned in
+      chain_goes (peer_of task) m f.turned_chain f.fall i.entries i.chains said m' x.0 (turned_peer task f.chain f.turned_chain t.0 f.fall f.turned ∙ own.1) x.1 f.lines f.after i.lines i.after fit
 
   -- ---- the tree
-  pub route_goes : (m : Moment) (new : Treed) (proto : Proto) (p : Network) (way : List Link) (said : List Line) (m' : Moment) → ((other : Proto) → AreFit interior_value (branch_of other new).tables) → AreNumbered most new → IsPrefix p → AreEachOnce way
+  pub route_goes : (m : Moment) (new : Treed) (proto : Proto) (p : Network) (way : List Link) (said : List Line) (m' : Moment) → ((other : Proto) → AreFit IsInteriorRow (branch_of other new).tables) → AreNumbered most new → IsPrefix p → AreEachOnce way
       → FallsRoute m new proto p way said m' → Goes m said m'
   route_goes m new proto p way said m' then few prefix once f fit =
       let own = branch_of proto new in
-      let before : (other : Proto) → ArePrintableTables interior_value (branch_of other m.tree).tables = λ other. (fit.interior other).printable in
-      let behind : (other : Proto) → ArePrintableTables interior_value (branch_of other new).tables = λ other. (then other).printable in
+      let before : (other : Proto) → AreTablesOf IsInteriorRow (branch_of other m.tree).tables = λ other. (fit.interior other).printable in
+      let behind : (other : Proto) → AreTablesOf IsInteriorRow (branch_of other new).tables = λ other. (then other).printable in
       let fall = falls_printed peers p way f.entries (beside_tree no_links m.tree) (beside_tree no_links new) prefix once (down_of p way f.sent f.entries f.falls.down) (f.falls.leads no_links)
       (λ link rows v at is. (beside_tree_prints peers m.tree before link rows p v at is).1) (λ link rows v at is. (beside_tree_prints peers new behind link rows p v at is).1) in
       let fib = fib_printed (forwarded (int_rows m.tree)) (forwarded (int_rows new)) p f.below (fib_prints peers m.tree before) (fib_prints peers new behind) f.fib in
@@ -119,7 +139,7 @@ module _ (peers : ℕ → Option Neighbour) (most : ℕ) where
       let Is : Entry Value → Type 0 = λ e. IsPrinted peers (lines.Journal e) in (
         subst Fit (sym f.after) (record {
           chains = fit.chains;
-          interior = put_all (λ (b : Branch). AreFit interior_value b.tables) proto (welded_branch own) new (welded_fit interior_value own.tables (then proto)) then;
+          interior = put_all (λ (b : Branch). AreFit IsInteriorRow b.tables) proto (welded_branch own) new (welded_fit IsInteriorRow own.tables (then proto)) then;
           few = put_all (λ (b : Branch). b.losses ≤ most) proto (welded_branch own) new (few proto) few;
         }),
         lines_printed said (f.entries ++ (fib_entries f.below ++ tree_weld_entries proto new)) f.lines (all_both Is f.entries _ fall (all_both Is (fib_entries f.below) _ fib weld)),
@@ -132,7 +152,7 @@ module _ (peers : ℕ → Option Neighbour) (most : ℕ) where
       let shown = own.printable.rows t.prefix t.row (inr (table_row n b.tables.deletions t.table t.prefix t.row t.stands t.least.0)) in
       let once = sweep_way proto m.tree own.rising own.printable.losses n in
       route_goes m (swept_tree proto n t.prefix m.tree) proto t.prefix (way_of_sweep proto n m.tree) said m'
-      (put_all (λ (x : Branch). AreFit interior_value x.tables) proto (swept_branch n t.prefix b) m.tree (swept_fit interior_value n t.prefix b.tables own) fit.interior)
+      (put_all (λ (x : Branch). AreFit IsInteriorRow x.tables) proto (swept_branch n t.prefix b) m.tree (swept_fit IsInteriorRow n t.prefix b.tables own) fit.interior)
       (put_all (λ (x : Branch). x.losses ≤ most) proto (swept_branch n t.prefix b) m.tree (fit.few proto) fit.few) shown.prefix once t.falls fit
 
   -- ---- turns, and many of them

@@ -39,7 +39,8 @@ use Rattle.live_state.specs.Messages.{changes_of, Says}
 use Rattle.live_state.specs.Lives.{LiveAfter}
 use Rattle.router_core.specs.Lives.{live_state}
 use Rattle.router_core.specs.Stands.{Stands}
-use Rattle.router_core.specs.Printable.{ArePrinted, KeepsPeers}
+use Rattle.journal_laws.specs.Peers.{KeepsPeers}
+use Rattle.router_core.specs.Printable.{ArePrinted}
 use Rattle.router_core.specs.Phases.{all_phases}
 use Rattle.router_core.specs.Scratch.{IsExact}
 use Rattle.router_core.specs.Turns.{journal_lines, InPeers, FeedsAll, FallsRoute, Turns, Drains, RunsAll, IsSettled, has_work}

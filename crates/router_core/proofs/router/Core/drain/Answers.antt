@@ -1,4 +1,4 @@
-use Rattle.router_core.specs.Printable.{neighbours}
+use Rattle.journal_laws.specs.Peers.{neighbours}
 use Rattle.router_core.proofs.CoreLemmas.{core_worked}
 use Rattle.router_core.proofs.PrintedTurns.{phase_goes}
 use Rattle.router_core.proofs.router.Core.drain.Goals as goal

@@ -1,5 +1,5 @@
 use Rattle.router_core.specs.Phases.{all_phases}
-use Rattle.router_core.specs.Printable.{neighbours}
+use Rattle.journal_laws.specs.Peers.{neighbours}
 use Rattle.router_core.proofs.CoreLemmas.{core_worked}
 use Rattle.router_core.proofs.PrintedTurns.{phases_go}
 use Rattle.router_core.proofs.router.Core.idle.Goals as goal

@@ -1,0 +1,18 @@
+-- The declared peers, by number.
+use Rattle.std.specs.Prelude.{◌≡◌, ℕ, Option, Some, None}
+use Rattle.bgp_attr.specs.declared.speaker.Neighbour.{Neighbour}
+use Rattle.event_text.specs.declared.declared.DeclaredPeer.{DeclaredPeer}
+use Rattle.event_text.specs.Declarations.{Declaration, peer_at}
+
+abbrev pub words_in : Option DeclaredPeer → Option Neighbour
+words_in None = None
+words_in (Some p) = Some p.words
+
+-- the words of the declared peers, by number
+abbrev pub neighbours : Declaration → ℕ → Option Neighbour
+neighbours d k = words_in (peer_at k d.peers)
+
+-- who is declared keeps its words, and nobody gets the number 0, which stands for no peer
+pub record KeepsPeers (before now : Declaration) : Type 0 where
+  pub words : (k : ℕ) (w : Neighbour) → neighbours before k ≡ Some w → neighbours now k ≡ Some w
+  pub nobody : neighbours now 0 ≡ None
