@@ -34,7 +34,7 @@ IsInteriorRow p row = IsPrintableRow p (interior_value row)
 abbrev pub WasHeard : Profile → Bool → Attrs → Type 0
 WasHeard profile external a = (octets : List ℕ) × (u : Update) × AreOctets octets × Reads profile external octets (messages.Update u) × (u.attrs ≡ Some a)
 
--- a row that such a peer announced at its prefix
+-- such attributes, at a prefix
 abbrev pub IsHeardRow : Profile → Bool → Network → Attrs → Type 0
 IsHeardRow profile external p a = IsPrefix p × WasHeard profile external a
 
