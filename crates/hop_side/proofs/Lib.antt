@@ -1,0 +1,8 @@
+pub mod MapLemmas
+pub mod PutLemmas
+mod BusyLemmas
+mod StepLemmas
+mod TurnLemmas
+mod ReachLemmas
+mod TaskLemmas
+mod LawLemmas
