@@ -3,7 +3,6 @@
 
 ghost use Rattle.std.specs.Prelude.{◌≡◌, ℕ, ◌⊎◌, OnOk};
 ghost use Rattle.std.specs.FinMap as map;
-ghost use Rattle.hop_side.specs.Resolvers.{resolver_at};
 ghost use Rattle.hop_side.specs.Steps.{HasNoInterest};
 ghost use Rattle.hop_tests.specs.Given.{Ready};
 
