@@ -6,3 +6,4 @@ mod TurnLemmas
 mod ReachLemmas
 mod TaskLemmas
 mod LawLemmas
+mod FewLemmas

@@ -1,5 +1,6 @@
 -- Laws of the side of next hops, for the crates above.
-use Rattle.std.specs.Prelude.{◌≡◌, ◌↔◌, ℕ, ◌+◌, ◌≤◌, false, List, Option, Some, None}
+use Rattle.std.specs.Prelude.{◌≡◌, ◌↔◌, ℕ, ◌+◌, ◌≤◌, false, List, length, Option, Some, None, IsSome}
+use Rattle.std.specs.List.{Contains}
 use Rattle.std.specs.FinMap as tables
 use Rattle.addr4.specs.Prefixes.{Network}
 use Rattle.prefix_trie.specs.Width.{width}
@@ -17,7 +18,7 @@ use Rattle.journal_text.specs.declared.link.Link.TheVariants.{Res}
 use Rattle.journal_text.specs.declared.entry.Entry.{Entry}
 use Rattle.journal_text.specs.declared.value.Value.{Value}
 use Rattle.journal_text.specs.Walk.{Links, Leads}
-use Rattle.hop_side.specs.Resolvers.{Resolvers, resolver_at, PeerRows, res_at, hop_links, is_res, IsHops, AllAgree, AllCounted, has_hop_work, known_in, Beyonds, left_in, walks_in}
+use Rattle.hop_side.specs.Resolvers.{Resolvers, resolver_at, PeerRows, res_at, hop_links, is_res, IsHops, AllAgree, AllCounted, has_hop_work, known_of, known_in, Beyonds, left_in, walks_in}
 use Rattle.hop_side.specs.Steps.{LeadsRes}
 
 -- ---- at first
@@ -74,3 +75,10 @@ TurnsAreBounded =
 abbrev pub LeftFollows : Type 0
 LeftFollows =
     (a : Resolvers) (before now : Beyonds) → ((k : ℕ) (place : Option Network) → now k place ≤ before k place) → left_in now a ≤ left_in before a
+
+-- ---- how many next hops are known
+-- No more than the rows that name them: than the prefixes of a list that has the prefix of each row of `filt.K`.
+abbrev pub KnownAreFew : Type 0
+KnownAreFew =
+    (a : Resolvers) (uppers : PeerRows) (k : ℕ) (s : Resolving Metric) (prefixes : List Network) → IsHops a → AllCounted uppers a → resolver_at k a ≡ Some s
+    → ((q : Network) → IsSome (uppers k q) → Contains prefixes q) → known_of s ≤ length prefixes

@@ -2,7 +2,7 @@
 //! the law.
 
 ghost use Rattle.std.specs.FinMap as map;
-ghost use Rattle.hop_side.specs.Laws.{StandsAtFirst, LeadsAnywhere, StrangersAgree, ExactWithoutWork, NoneLeftWithoutWork, TurnsAreBounded, LeftFollows};
+ghost use Rattle.hop_side.specs.Laws.{StandsAtFirst, LeadsAnywhere, StrangersAgree, ExactWithoutWork, NoneLeftWithoutWork, TurnsAreBounded, LeftFollows, KnownAreFew};
 
 /// Without a peer no link is live, nothing is left to do, and all that is claimed holds.
 pub fn nothing_at_first()
@@ -31,4 +31,9 @@ pub fn turns_are_left()
     ensures none { NoneLeftWithoutWork }
     ensures bounded { TurnsAreBounded }
     ensures follow { LeftFollows }
+{}
+
+/// A peer's resolver knows no more next hops than rows stand on its `filt.K`.
+pub fn known_are_few()
+    ensures { KnownAreFew }
 {}
