@@ -1,0 +1,9 @@
+pub mod MapLemmas
+pub mod PutLemmas
+mod BusyLemmas
+mod StepLemmas
+mod TurnLemmas
+mod ReachLemmas
+mod TaskLemmas
+mod LawLemmas
+mod FewLemmas

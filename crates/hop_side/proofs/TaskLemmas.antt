@@ -1,0 +1,45 @@
+-- The first peer whose next hops have work.
+use Rattle.std.proofs.Common.{◌≡◌, ℕ, Bool, false, cond, List, [], ◌∷◌, Option, Some, None, refl, sym, ap, ◌∙◌}
+use Rattle.std.specs.Prelude.{IfNone}
+use Rattle.std.specs.List.{AllByRecursion, find, sum_by}
+use Rattle.std.specs.Map.{keys_of, values_of}
+use Rattle.std.specs.FinMap as tables
+use Rattle.std.specs.Ordering.{nat_cmp}
+use Rattle.std.specs.Cmp.{nat_cmp_total}
+use Rattle.nexthop_resolver.specs.declared.rows.Metric.{Metric}
+use Rattle.nexthop_resolver.specs.Resolving.{Resolving}
+use Rattle.hop_side.specs.Resolvers.{Resolvers, is_busy, busy_by, has_hop_work, Beyonds, left_of, left_in}
+use Rattle.hop_side.specs.Tasks.{first_of}
+use Rattle.hop_side.proofs.MapLemmas.{all_entries, sum_none}
+use Rattle.hop_side.proofs.PutLemmas.{by_bool}
+use Rattle.hop_side.proofs.BusyLemmas.{idle_none}
+
+abbrev Entries : Type 0
+Entries = List (ℕ × Resolving Metric)
+
+-- each entry tells of its peer
+pub entries_work : (a : Resolvers) → AllByRecursion (λ e. has_hop_work a e.0 ≡ is_busy e.1) (tables.entries a)
+entries_work a = all_entries nat_cmp nat_cmp_total (λ k s. has_hop_work a k ≡ is_busy s) a (λ k s at. ap busy_by at)
+
+first_among : (W : ℕ → Bool) (es : Entries) → AllByRecursion (λ e. W e.0 ≡ is_busy e.1) es → find W (keys_of es) ≡ first_of es
+first_among W [] all = refl
+first_among W (e ∷ es) all = ap (λ (b : Bool). cond b (Some e.0) (find W (keys_of es))) all.0 ∙ ap (λ (o : Option ℕ). cond (is_busy e.1) (Some e.0) o) (first_among W es all.1)
+
+pub first_with_work : (a : Resolvers) (es : Entries) → es ≡ tables.entries a → first_of es ≡ find (has_hop_work a) (tables.keys a)
+first_with_work a es is = ap first_of is ∙ sym (first_among (has_hop_work a) (tables.entries a) (entries_work a))
+
+all_idle : (es : Entries) → first_of es ≡ None → AllByRecursion (λ e. is_busy e.1 ≡ false) es
+all_idle [] e = tt
+all_idle (x ∷ es) e = by_bool (is_busy x.1) (λ b. cond b (Some x.0) (first_of es) ≡ None → (b ≡ false) × AllByRecursion (λ e. is_busy e.1 ≡ false) es)
+    (λ _ some. absurd (cc)) (λ off none. (refl, all_idle es none)) e
+
+pub idle_sum : (beyonds : Beyonds) (es : Entries) → AllByRecursion (λ e. is_busy e.1 ≡ false) es → sum_by (left_of beyonds) (values_of es) ≡ 0
+idle_sum beyonds es all = sum_none (left_of beyonds) es (each es all)
+  where
+    each : (es : Entries) → AllByRecursion (λ e. is_busy e.1 ≡ false) es → AllByRecursion (λ e. left_of beyonds e.1 ≡ 0) es
+    each [] all = tt
+    each (x ∷ es) all = (idle_none (beyonds x.1.client) x.1 all.0, each es all.1)
+
+pub none_left : (a : Resolvers) (es : Entries) (first : Option ℕ) → es ≡ tables.entries a → first ≡ first_of es → IfNone first ((beyonds : Beyonds) → left_in beyonds a ≡ 0)
+none_left a es None is e = λ beyonds. ap (λ (l : Entries). sum_by (left_of beyonds) (values_of l)) (sym is) ∙ idle_sum beyonds es (all_idle es (sym e))
+none_left a es (Some k) is e = tt

@@ -1,0 +1,4 @@
+pub mod Resolvers
+pub mod Tasks
+pub mod Steps
+pub mod Laws

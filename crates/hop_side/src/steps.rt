@@ -1,0 +1,95 @@
+//! What comes from above, and from the register; and turns of background work.
+
+ghost use Rattle.std.specs.Prelude.{◌≡◌, IfOk, OnErr, IsSome};
+ghost use Rattle.nexthop_resolver.specs.Registered.{KeepsOthers};
+ghost use Rattle.journal_text.specs.Journals.{Adds};
+ghost use Rattle.hop_side.specs.Resolvers.{resolver_at, IsHops, AllAgree};
+ghost use Rattle.hop_side.specs.Steps.{TakesBelow, ComesBelow, ReachesOne, ReachesBelow};
+
+use crate::hops::NextHops;
+use addr4::Memory;
+use bgp_attr::Route;
+use journal_text::{Journal, Link};
+use link_change::{Change, Turn, Upstream};
+use register_interest::{Interest, Register};
+use rib_route::Interior;
+
+impl NextHops {
+    /// A change on `filt.K`, as it goes on below. A next hop that comes is asked for at once, and one that no row names any more
+    /// is forgotten. Answers the change on `res.K`: None exactly where its map stays the same.
+    pub fn take_in(
+        &mut self,
+        number: u32,
+        change: Change<Route>,
+        register: &mut Register<Interior>,
+        journal: &mut Journal,
+    ) -> Result<Option<Change<Route>>, Memory>
+        requires sound { IsHops self.old }
+        requires there { IsSome (resolver_at number self.old) }
+        requires agree { AllAgree self.old register.old }
+        ensures taken { IfOk result (λ sent. Adds (TakesBelow number change sent register.old register.new self.old self.new) journal.old journal.new) }
+        ensures memory { OnErr result (KeepsOthers number register.old register.new) }
+    {
+        let Some(resolver) = self.resolvers.get_mut(&number) else {
+            unreachable!()
+        };
+        let sent = resolver.take_in(change, register)?;
+        resolver.are_named();
+        journal.push_sent(Link::Res(number), &sent)?;
+        Ok(sent)
+    }
+
+    /// The register gave up these interests with a change of the interior routes: the answers that came with them are stale. No
+    /// row changes, and nothing is said. Takes no memory.
+    pub fn reach(&mut self, reached: &[Interest])
+        requires sound { IsHops self.old }
+        ensures { ReachesBelow reached.now self.old self.new }
+    {
+        for interest in reached {
+            self.reach_one(*interest);
+        }
+    }
+
+    // The answers that came with one interest are stale.
+    fn reach_one(&mut self, interest: Interest)
+        requires sound { IsHops self.old }
+        ensures { ReachesOne interest self.old self.new }
+    {
+        let number = u32::from(interest.client);
+        let Some(resolver) = self.resolvers.get_mut(&number) else {
+            return;
+        };
+        resolver.invalidate(interest.subnet);
+        resolver.are_named();
+    }
+
+    /// One turn of the next hops of a peer, over its link `filt.K` (`Resolver::unit`): a walk goes to the next candidate, or
+    /// ends; the least stale next hop is asked for again; a walk begins. Nothing exactly where there is no work; Quiet where no
+    /// change comes out on `res.K`.
+    pub fn turn<U: Upstream<Row = Route>>(
+        &mut self,
+        number: u32,
+        upper: &U,
+        register: &mut Register<Interior>,
+        journal: &mut Journal,
+    ) -> Result<Turn<Route>, Memory>
+        requires sound { IsHops self.old }
+        requires agree { AllAgree self.old register.old }
+        ensures taken { IfOk result (ComesBelow number (U.candidates upper.now) (U.rows upper.now) register.old register.new self.old self.new journal.old journal.new) }
+        ensures memory { OnErr result (KeepsOthers number register.old register.new) }
+    {
+        let Some(resolver) = self.resolvers.get_mut(&number) else {
+            return Ok(Turn::Nothing);
+        };
+        let turn = resolver.unit(upper, register)?;
+        resolver.are_named();
+        match turn {
+            Turn::Nothing => Ok(Turn::Nothing),
+            Turn::Quiet => Ok(Turn::Quiet),
+            Turn::Sent(change) => {
+                journal.push_change(Link::Res(number), &change)?;
+                Ok(Turn::Sent(change))
+            }
+        }
+    }
+}
