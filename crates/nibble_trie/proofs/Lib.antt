@@ -1,0 +1,9 @@
+pub mod Digits
+pub mod Cells
+pub mod Splits
+pub mod Drops
+pub mod Ways
+pub mod Firsts
+pub mod Chains
+pub mod Rows
+pub mod Wholes
