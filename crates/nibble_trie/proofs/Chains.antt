@@ -69,7 +69,7 @@ module _ (keys keys' : ℕ → Option Network) (key : ℕ) (p : Network) (adds :
     | inr n ↦ inr (n, sym (adds.others k n) ∙ found)
   ]
 
-  is_there : (k : ℕ) (q : Network) → keys k ≡ Some q → keys' k ≡ Some q
+  pub is_there : (k : ℕ) (q : Network) → keys k ≡ Some q → keys' k ≡ Some q
   is_there k q found = adds.others k (λ e. let none = adds.vacant in let some = ap keys (sym e) ∙ found in absurd (cc)) ∙ found
 
   next_kept : (a from : ℕ) (link : Option ℕ) → IsNextOf keys a from link → (p.address ≡ a → from ≤ p.length → Behind keys link p.length) → IsNextOf keys' a from link

@@ -1,4 +1,5 @@
 pub mod Digits
+pub mod Words
 pub mod Cells
 pub mod Splits
 pub mod Drops
@@ -7,3 +8,5 @@ pub mod Firsts
 pub mod Chains
 pub mod Rows
 pub mod Wholes
+pub mod Written
+pub mod Searches

@@ -1,9 +1,9 @@
 -- The way of an address from the root down.
-use Rattle.std.proofs.Common.{◌≡◌, ◌≢◌, ℕ, ◌+◌, ◌-◌, ◌*◌, ◌%◌, ◌^◌, ◌<◌, ◌≤◌, Option, Some, None, IsSome, refl, sym, ap, subst, ◌∙◌, inl, inr, arith}
+use Rattle.std.proofs.Common.{◌≡◌, ◌≢◌, ℕ, ◌+◌, ◌-◌, ◌*◌, ◌%◌, ◌^◌, ◌<◌, ◌≤◌, true, [], get_or, Option, Some, None, IsSome, is_some, refl, sym, ap, subst, ◌∙◌, inl, inr, arith}
 use Rattle.std.proofs.lemmas.Nat.{mod_below}
 use Rattle.std.proofs.lemmas.Bool.{cases_eq}
 use Rattle.addr4.specs.Prefixes.{Network}
-use Rattle.slab.specs.Slab.{get, Updates}
+use Rattle.slab.specs.Slab.{Slab, get, ContainsKey}
 use Rattle.nibble_trie.specs.declared.link.Target.{Target}
 use Rattle.nibble_trie.specs.declared.link.Target.TheVariants.{Nothing, Leaf, Inner}
 use Rattle.nibble_trie.specs.declared.branch.Branch.{Branch}
@@ -121,3 +121,21 @@ above_step index a branch spot key h is differ = record {
 
 pub above_cell : (index : Index) (a branch : ℕ) (spot : Spot) → IsAbove index a branch spot → IsCell spot.target → ⊥
 above_cell index a branch spot h cell = h.not_below h.digit (h.holds.apart spot.at (Some (branch, h.digit)) a h.way.stands.place h.place (cell_spot index h.layout spot h.way.stands cell) h.cell h.way.lies h.lies)
+
+-- ---- an index without branches
+pub holds_empty : (index : Index) (layout : Layout) → leads index.root ≡ Nothing → ((b : ℕ) → is_live index b → ⊥) → IsLaid index (λ _. None) layout
+holds_empty index layout none dead = record {
+  fits = fits;
+  apart = λ x y a px py cx cy lx ly. only x px ∙ sym (only y py);
+  single = λ x y b px py ex ey. only x px ∙ sym (only y py);
+}
+  where
+    only : (x : Option (ℕ × ℕ)) → IsPlace (is_live index) x → x ≡ None
+    only None p = refl
+    only (Some x) p = absurd (dead x.0 p.0)
+    fits : (x : Option (ℕ × ℕ)) → IsPlace (is_live index) x → Fits (is_live index) (λ _. None) layout x (link_at index x)
+    fits None p = subst (λ t. Fits (is_live index) (λ _. None) layout None t) (sym none) (λ a l. refl)
+    fits (Some x) p = absurd (dead x.0 p.0)
+
+pub none_live : (branches : Slab Branch) → branches.slots ≡ [] → (b : ℕ) → ContainsKey branches b → ⊥
+none_live branches empty b live = let clash : is_some {T = Branch} None ≡ true = sym (ap (λ xs. is_some (get_or xs b None)) empty) ∙ live in absurd (cc)

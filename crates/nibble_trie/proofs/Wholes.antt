@@ -1,19 +1,40 @@
 -- Tries after a change.
-use Rattle.std.proofs.Common.{◌≡◌, ◌≢◌, ◌⊎◌, ℕ, ◌+◌, ◌^◌, ◌<◌, ◌≤◌, Option, Some, None, IsSome, option_and_then, option_map, refl, sym, ap, subst, ◌∙◌, inl, inr, arith}
+use Rattle.std.proofs.Common.{◌≡◌, ◌≢◌, ◌⊎◌, ℕ, ◌+◌, ◌^◌, ◌<◌, ◌≤◌, true, List, [], get_or, Option, Some, None, IsSome, is_some, option_and_then, option_map, refl, sym, ap, subst, ◌∙◌, inl, inr, arith}
 use Rattle.std.proofs.lemmas.Bool.{cases_eq}
 use Rattle.std.specs.FinMap as map
-use Rattle.slab.specs.Slab.{Slab, get, ContainsKey, Updates, slab_len}
-use Rattle.addr4.specs.Prefixes.{Network}
+use Rattle.slab.specs.Slab.{Slab, get, ContainsKey, Updates, with_value as put_value}
+use Rattle.slab.proofs.SlabLemmas.{Updates-with_value}
+use Rattle.std.specs.FinMap.{same_map, get-empty}
+use Rattle.addr4.specs.Places.{IsBeyond, IsNextRow}
+use Rattle.addr4.proofs.HalfLemmas.{one_network}
+use Rattle.addr4.proofs.PrefixOrder.{prefixes_total, exact_prefixes}
+use Rattle.addr4.specs.Prefixes.{Network, ComesBefore, prefix_cmp}
 use Rattle.nibble_trie.specs.declared.node.Node.{Node}
 use Rattle.nibble_trie.specs.declared.link.Link.{Link}
+use Rattle.nibble_trie.specs.declared.branch.Branch.{Branch}
 use Rattle.nibble_trie.specs.declared.index.Index.{Index}
 use Rattle.nibble_trie.specs.Links.{leads, leaf_of}
-use Rattle.nibble_trie.specs.Keys.{prefix_in, longer_in, IsNextOf, IsChained, IsLastBelow, IsSmall, IsHeadOf}
+use Rattle.nibble_trie.specs.Keys.{prefix_in, longer_in, IsNextOf, IsChained, IsLastBelow, IsSmall, IsHeadOf, IsLeafOf, IsNextLeaf}
 use Rattle.nibble_trie.specs.Index.{Indexes, Names, with_head}
+use Rattle.nibble_trie.specs.Nodes.{HasNode, HasNodes}
 use Rattle.nibble_trie.specs.View.{rows_of, IsWhole, Joins, with_value}
 use Rattle.nibble_trie.proofs.Digits.{some_same}
-use Rattle.nibble_trie.proofs.Chains.{Adds, Removes, was_there, stood_there, first_chained, first_heads, first_gone, next_same, behind_chained, behind_heads, first_removed, behind_removed, behind_gone, chained_kept}
-use Rattle.nibble_trie.proofs.Rows.{prefix_found, node_at, Keeps, keeps_at, keeps_touched, keeps_trans, rows_put, rows_removed, row_of, row_none}
+use Rattle.nibble_trie.proofs.Chains.{Adds, Removes, was_there, is_there, stood_there, first_chained, first_heads, first_gone, next_same, behind_chained, behind_heads, first_removed, behind_removed, behind_gone, chained_kept}
+use Rattle.nibble_trie.proofs.Rows.{prefix_found, node_at, Keeps, keeps_at, keeps_touched, keeps_trans, rows_put, rows_removed, row_of, row_none, row_found}
+
+-- the prefix of a leaf
+abbrev pub IsOf : (ℕ → Option Network) → Option ℕ → Option Network → Type 0
+IsOf keys None None = Unit {0}
+IsOf keys None (Some p) = ⊥
+IsOf keys (Some k) None = ⊥
+IsOf keys (Some k) (Some p) = keys k ≡ Some p
+
+-- a link to the next from a prefix's length on leads to its leaf
+pub leads_to_leaf : (keys : ℕ → Option Network) (longer : ℕ → Option ℕ) (p : Network) (link : Option ℕ) (key : ℕ) → IsChained keys longer → IsNextOf keys p.address p.length link → keys key ≡ Some p → link ≡ Some key
+leads_to_leaf keys longer p None key c next found = absurd (omega (arith, next key p found refl))
+leads_to_leaf keys longer p (Some m) key c next found =
+    let e : next.0 ≡ p = one_network next.0 p next.2 (omega (arith, next.3, next.4 key p found refl (omega arith))) in
+    ap Some (c.single m key p (next.1 ∙ ap Some e) found)
 
 module _ {V : Type 0} where
   pub contains : (leaves : Slab (Node V)) (key : ℕ) (n : Node V) → get leaves key ≡ Some n → ContainsKey leaves key
@@ -170,3 +191,96 @@ module _ {V : Type 0} where
   -- ---- what calls ask of a whole trie
   pub names_of : (leaves : Slab (Node V)) (index : Index) (w : IsWhole leaves index) → Names (prefix_in leaves) w.heads
   names_of leaves index w a k e = let n : IsNextOf (prefix_in leaves) a 0 (Some k) = subst (λ l. IsNextOf (prefix_in leaves) a 0 l) e (w.shortest a) in (n.0, n.1, n.2)
+
+  pub prefix_there : (leaves : Slab (Node V)) (k : ℕ) → ContainsKey leaves k → (p : Network) × (prefix_in leaves k ≡ Some p)
+  prefix_there leaves k has = by (get leaves k) refl has
+    where
+      by : (o : Option (Node V)) → get leaves k ≡ o → IsSome o → (p : Network) × (prefix_in leaves k ≡ Some p)
+      by None e h = absurd (let x : is_some {T = Node V} None ≡ true = h in cc)
+      by (Some n) e h = (n.prefix, ap (option_map (λ n. n.prefix)) e)
+
+  pub names_added : (old new : Slab (Node V)) (heads : ℕ → Option ℕ) (key : ℕ) (p : Network) → Adds (prefix_in old) (prefix_in new) key p → Names (prefix_in old) heads → Names (prefix_in new) heads
+  names_added old new heads key p adds names a k e = let n = names a k e in (n.0, is_there (prefix_in old) (prefix_in new) key p adds k n.0 n.1, n.2)
+
+  -- what another insert leaves
+  pub still_there : (old mid : Slab (Node V)) (key k : ℕ) (n : Node V) (slot : Option (Node V)) → get old key ≡ None → Updates old mid key slot → get old k ≡ Some n → get mid k ≡ Some n
+  still_there old mid key k n slot vacant u found = u.others k (not_vacant old key k n.prefix vacant (prefix_found old k n found)) ∙ found
+
+  -- capacities count for nothing
+  pub whole_sized : (old new : Slab (Node V)) (branches branches' : Slab Branch) (root : Link) → new ≡ record old { capacity = new.capacity } → branches' ≡ record branches { capacity = branches'.capacity } → IsWhole old (record { root = root; branches = branches }) → IsWhole new (record { root = root; branches = branches' })
+  whole_sized old new branches branches' root e f w =
+      let sized : IsWhole (record old { capacity = new.capacity }) (record { root = root; branches = record branches { capacity = branches'.capacity } }) = record {
+        heads = w.heads;
+        indexes = record { layout = w.indexes.layout; holds = record { fits = w.indexes.holds.fits; apart = w.indexes.holds.apart; single = w.indexes.holds.single } };
+        shortest = w.shortest;
+        chained = record { linked = w.chained.linked; single = w.chained.single };
+        small = w.small;
+      } in
+      subst (λ (l : Slab (Node V)). IsWhole l (record { root = root; branches = branches' })) (sym e) (subst (λ (b : Slab Branch). IsWhole (record old { capacity = new.capacity }) (record { root = root; branches = b })) (sym f) sized)
+
+  pub rows_sized : (old new : Slab (Node V)) → new ≡ record old { capacity = new.capacity } → rows_of new ≡ rows_of old
+  rows_sized old new e = ap rows_of e
+
+  -- an empty trie
+  pub whole_empty : (leaves : Slab (Node V)) (index : Index) → leaves.slots ≡ [] → Indexes index (λ _. None) → IsWhole leaves index
+  whole_empty leaves index empty indexes =
+      let none : (k : ℕ) → get leaves k ≡ None = λ k. ap (λ (xs : List (Option (Node V))). get_or xs k None) empty in
+      let absent : (k : ℕ) (p : Network) → prefix_in leaves k ≡ Some p → ⊥ = λ k p found. let n = node_at leaves k p found in let clash = sym n.1 ∙ none k in absurd (cc) in
+      record {
+        heads = λ _. None;
+        indexes = indexes;
+        shortest = λ a k p found. absurd (absent k p found);
+        chained = record { linked = λ k p found. absurd (absent k p found); single = λ k l p found. absurd (absent k p found) };
+        small = λ k p found. absurd (absent k p found);
+      }
+
+  -- ---- a value written in its place
+  pub touched_joins : (leaves : Slab (Node V)) (key : ℕ) (n : Node V) (p : Network) (v : V) → IsChained (prefix_in leaves) (longer_in leaves) → get leaves key ≡ Some n → n.prefix ≡ p → Joins leaves (put_value leaves key (record n { value = v })) p (Some v)
+  touched_joins leaves key n p v c found is = joins_replaced leaves (put_value leaves key (record n { value = v })) key n p v c found is (Updates-with_value leaves key (record n { value = v }) (contains leaves key n found))
+
+  pub touched_whole : (leaves : Slab (Node V)) (index : Index) (key : ℕ) (n : Node V) (p : Network) (v : V) → IsWhole leaves index → get leaves key ≡ Some n → n.prefix ≡ p → IsWhole (put_value leaves key (record n { value = v })) index
+  touched_whole leaves index key n p v w found is =
+      whole_joined leaves (put_value leaves key (record n { value = v })) index p (Some v) w (touched_joins leaves key n p v w.chained found is) (w.small key p (prefix_found leaves key n found ∙ ap Some is))
+
+  pub touched_rows : (leaves : Slab (Node V)) (index : Index) (key : ℕ) (n : Node V) (p : Network) (v : V) → IsWhole leaves index → get leaves key ≡ Some n → n.prefix ≡ p → rows_of (put_value leaves key (record n { value = v })) ≡ map.insert (rows_of leaves) p v
+  touched_rows leaves index key n p v w found is = (touched_joins leaves key n p v w.chained found is).rows
+
+  -- the leaf of a prefix
+  pub leaf_node : (leaves : Slab (Node V)) (key : ℕ) (n : Node V) (p : Network) → prefix_in leaves key ≡ Some p → get leaves key ≡ Some n → n.prefix ≡ p
+  leaf_node leaves key n p leaf found = some_same n.prefix p (sym (prefix_found leaves key n found) ∙ leaf)
+
+  pub must_find : (leaves : Slab (Node V)) (p : Network) (result : Option ℕ) → IsSome (map.get (rows_of leaves) p) → IsLeafOf (prefix_in leaves) p result → IsSome result
+  must_find leaves p None has absent = let clash : is_some {T = V} None ≡ true = sym (ap is_some (row_none leaves p absent)) ∙ has in absurd (cc)
+  must_find leaves p (Some key) has leaf = refl
+
+  -- ---- what stands next
+  pub next_row_is : (leaves : Slab (Node V)) (after result : Option Network) (key : Option ℕ) → IsChained (prefix_in leaves) (longer_in leaves) → IsNextLeaf (prefix_in leaves) after key → IsOf (prefix_in leaves) key result → IsNextRow (map.get (rows_of leaves)) after result
+  next_row_is leaves after None None c next of = λ q beyond. row_none leaves q (λ k found. next k q found beyond)
+  next_row_is leaves after (Some p) (Some key) c next of =
+      let e : next.0 ≡ p = some_same next.0 p (sym next.1 ∙ of) in
+      let n = node_at leaves key p of in (
+        subst (IsBeyond after) e next.2,
+        subst IsSome (sym (row_of leaves key n.0 p c.single n.1 n.2)) refl,
+        λ q beyond before. row_none leaves q (λ k found. next.3 k q found beyond (subst (ComesBefore q) (sym e) before)),
+      )
+  next_row_is leaves after None (Some key) c next of = absurd of
+  next_row_is leaves after (Some p) None c next of = absurd of
+
+  -- each key has a leaf
+  pub nodes_of : (leaves : Slab (Node V)) → HasNodes leaves (rows_of leaves)
+  nodes_of leaves p has = by (map.get (rows_of leaves) p) refl has
+    where
+      by : (o : Option V) → map.get (rows_of leaves) p ≡ o → IsSome o → HasNode leaves p
+      by None e h = absurd (let x : is_some {T = V} None ≡ true = h in cc)
+      by (Some v) e h = let r = row_found leaves p v e in record { key = r.key; node = r.node; found = r.found; prefix = r.prefix }
+
+  pub rows_empty : (leaves : Slab (Node V)) → leaves.slots ≡ [] → rows_of leaves ≡ map.empty
+  rows_empty leaves empty = same_map prefixes_total exact_prefixes _ _ (λ q. row_none leaves q (λ k found.
+      let n = node_at leaves k q found in
+      let clash = sym n.1 ∙ ap (λ (xs : List (Option (Node V))). get_or xs k None) empty in absurd (cc)) ∙ sym (get-empty prefix_cmp q))
+
+  -- the last leaf below a prefix, as the code finds it
+  pub last_at : (leaves : Slab (Node V)) (first before length : ℕ) (p : Network) → ((q : Network) → prefix_in leaves first ≡ Some q → IsLastBelow (prefix_in leaves) (longer_in leaves) q.address length before) → ContainsKey leaves first → ((q : Network) → prefix_in leaves first ≡ Some q → (q.address ≡ p.address) × (q.length < p.length)) → length ≡ p.length → IsLastBelow (prefix_in leaves) (longer_in leaves) p.address p.length before
+  last_at leaves first before length p last has below is =
+      let f = prefix_there leaves first has in
+      subst (λ l. IsLastBelow (prefix_in leaves) (longer_in leaves) p.address l before) is (subst (λ a. IsLastBelow (prefix_in leaves) (longer_in leaves) a length before) (below f.0 f.1).0 (last f.0 f.1))

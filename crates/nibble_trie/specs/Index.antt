@@ -92,6 +92,10 @@ pub record OnWay (index : Index) (layout : Layout) (a : ℕ) (spot : Spot) : Typ
   pub stands : Stands index layout spot
   pub lies : Lies layout spot.at a
 
+-- however the index is laid
+abbrev pub IsSpotOf : Index → ℕ → Spot → Type 0
+IsSpotOf index a spot = (heads : ℕ → Option ℕ) (layout : Layout) → IsLaid index heads layout → OnWay index layout a spot
+
 pub record HasHeads (index : Index) : Type 0 where
   pub heads : ℕ → Option ℕ
   pub indexes : Indexes index heads

@@ -5,7 +5,7 @@ ghost use Rattle.slab.specs.Slab.{HasRoomFor, slab_len};
 ghost use Rattle.nibble_trie.specs.declared.link.Target.TheVariants.{Nothing, Leaf, Inner};
 ghost use Rattle.nibble_trie.specs.Links.{leads, IsCell};
 ghost use Rattle.nibble_trie.specs.Keys.{prefix_in, longer_in};
-ghost use Rattle.nibble_trie.specs.Index.{Layout, high, link_at, is_live, IsPlace, IsLaid, Indexes, Lies, Names, with_head, IsAlone, OnWay, HasHeads, HasWay, HasNamedWay, HasLoneWay, IsBare, Placed, IsAbove, Writes};
+ghost use Rattle.nibble_trie.specs.Index.{Layout, high, link_at, is_live, IsPlace, IsLaid, Indexes, Lies, Names, with_head, IsAlone, OnWay, IsSpotOf, HasHeads, HasWay, HasNamedWay, HasLoneWay, IsBare, Placed, IsAbove, Writes};
 
 use crate::branch::{Branch, digit_of};
 use crate::link::{Link, Target};
@@ -83,7 +83,7 @@ impl Index {
     // The place of an address.
     pub(crate) fn spot_of(&self, address: u32) -> Spot
         requires { HasHeads self.now }
-        ensures way { (heads : ℕ → Option ℕ) (layout : Layout) → IsLaid self.now heads layout → OnWay self.now layout address result }
+        ensures way { IsSpotOf self.now address result }
         ensures cell { IsCell result.target }
     {
         self.walk(address, self.top())

@@ -7,7 +7,7 @@ ghost use Rattle.addr4.specs.Prefixes.{Network};
 ghost use Rattle.nibble_trie.specs.declared.node.Node.{Node};
 ghost use Rattle.nibble_trie.specs.Links.{IsCell};
 ghost use Rattle.nibble_trie.specs.Keys.{prefix_in, longer_in, IsNextOf, IsChained, IsLastBelow, IsSmall, IsHeadOf};
-ghost use Rattle.nibble_trie.specs.Index.{Layout, IsLaid, Indexes, Names, with_head, IsAlone, OnWay, HasNamedWay, HasLoneWay};
+ghost use Rattle.nibble_trie.specs.Index.{Layout, IsLaid, Indexes, with_head, IsAlone, OnWay, IsSpotOf, HasLoneWay};
 ghost use Rattle.nibble_trie.specs.View.{rows_of, IsWhole, Joins};
 
 use crate::branch::Branch;
@@ -82,7 +82,7 @@ fn add_first<V>(
     requires small { leaves.old.capacity < 2 ^ 31 }
     requires branch_room { HasRoomFor index.old.branches spot.level }
     requires branch_small { index.old.branches.capacity ≤ 2 ^ 31 }
-    requires way { HasNamedWay (prefix_in leaves.old) index.old prefix.address spot }
+    requires way { IsSpotOf index.old prefix.address spot }
     requires cell { IsCell spot.target }
     requires head { IsHeadOf (prefix_in leaves.old) prefix head }
     requires absent { (k : ℕ) → prefix_in leaves.old k ≡ Some prefix → ⊥ }
@@ -212,7 +212,7 @@ fn take_first<V>(
     first: usize,
 ) -> V
     requires whole { IsWhole leaves.old index.old }
-    requires way { HasNamedWay (prefix_in leaves.old) index.old address spot }
+    requires way { IsSpotOf index.old address spot }
     requires cell { IsCell spot.target }
     requires head { IsNextOf (prefix_in leaves.old) address 0 (Some first) }
     ensures whole { IsWhole leaves.new index.new }
