@@ -37,7 +37,7 @@ module _ (live live' : ℕ → Type 0) (links links' : Option (ℕ × ℕ) → T
         elim (same_place x at) [
           | inl e ↦ subst (λ u. Fits live' heads' layout x u) (sym (ap links' e ∙ w.changed)) (subst (λ y. Fits live' heads' layout y t) (sym e) fits)
           | inr n ↦ subst (λ u. Fits live' heads' layout x u) (sym (w.others x n))
-          (fits_kept live live' heads heads' layout x (links x) (λ b e. w.kept b) (λ cell a lies. same a (λ here. n (h.apart x at a px0 place cell was lies here))) (h.fits x px0))
+              (fits_kept live live' heads heads' layout x (links x) (λ b e. w.kept b) (λ cell a lies. same a (λ here. n (h.apart x at a px0 place cell was lies here))) (h.fits x px0))
         ];
     apart = λ x y a px py cx cy lx ly. h.apart x y a (place_kept live' live x w.from px) (place_kept live' live y w.from py) (was_cell was x cx) (was_cell was y cy) lx ly;
     single = λ x y b px py ex ey. h.single x y b (place_kept live' live x w.from px) (place_kept live' live y w.from py) (was_inner is x b ex) (was_inner is y b ey);

@@ -80,19 +80,31 @@ module _ (keys keys' : ℕ → Option Network) (key : ℕ) (p : Network) (adds :
     ]
     | inr old ↦ next k q old.1 same
   ]
-  next_kept a from (Some m) next behind = (next.0, is_there m next.0 next.1, next.2, next.3, λ k q found same le. elim (was_there k q found) [
-    | inl new ↦
-        let b = behind (ap (λ x. x.address) (sym new.1) ∙ same) (omega (arith, ap (λ x. x.length) new.1)) in
-        let e : b.0 ≡ next.0 = one_found keys m b.0 next.0 b.1 next.1 in
-        omega (arith, ap (λ x. x.length) new.1, ap (λ x. x.length) e, b.2)
-    | inr old ↦ next.4 k q old.1 same le
-  ])
+  next_kept a from (Some m) next behind = (
+    next.0,
+    is_there m next.0 next.1,
+    next.2,
+    next.3,
+    λ k q found same le. elim (was_there k q found) [
+      | inl new ↦
+          let b = behind (ap (λ x. x.address) (sym new.1) ∙ same) (omega (arith, ap (λ x. x.length) new.1)) in
+          let e : b.0 ≡ next.0 = one_found keys m b.0 next.0 b.1 next.1 in
+          omega (arith, ap (λ x. x.length) new.1, ap (λ x. x.length) e, b.2)
+      | inr old ↦ next.4 k q old.1 same le
+    ],
+  )
 
   next_new : (from : ℕ) (link : Option ℕ) → from ≤ p.length → IsNextOf keys p.address from link → IsNextOf keys p.address p.length link → IsNextOf keys' p.address from (Some key)
-  next_new from link le first second = (p, adds.here, refl, le, λ k q found same far. elim (was_there k q found) [
-    | inl new ↦ omega (arith, ap (λ x. x.length) new.1)
-    | inr old ↦ all_behind keys p.address from p.length link first second k q old.1 same far
-  ])
+  next_new from link le first second = (
+    p,
+    adds.here,
+    refl,
+    le,
+    λ k q found same far. elim (was_there k q found) [
+      | inl new ↦ omega (arith, ap (λ x. x.length) new.1)
+      | inr old ↦ all_behind keys p.address from p.length link first second k q old.1 same far
+    ],
+  )
 
   -- the link of the new one
   next_own : (link : Option ℕ) → IsNextOf keys p.address p.length link → IsNextOf keys' p.address (p.length + 1) link
@@ -117,7 +129,7 @@ module _ (keys keys' : ℕ → Option Network) (key : ℕ) (p : Network) (adds :
       linked = λ k q found. elim (was_there k q found) [
         | inl new ↦ subst (λ x. IsNextOf keys' x.address (x.length + 1) (longer' k)) (sym new.1) (subst (λ l. IsNextOf keys' p.address (p.length + 1) l) (sym (ap longer' new.0 ∙ own)) (next_own head is.1))
         | inr old ↦ subst (λ l. IsNextOf keys' q.address (q.length + 1) l) (sym (others k old.0))
-        (next_kept q.address (q.length + 1) (longer k) (c.linked k q old.1) (λ same le. absurd (omega (arith, all_behind keys p.address 0 p.length head is.0 is.1 k q old.1 (sym same) (omega arith)))))
+            (next_kept q.address (q.length + 1) (longer k) (c.linked k q old.1) (λ same le. absurd (omega (arith, all_behind keys p.address 0 p.length head is.0 is.1 k q old.1 (sym same) (omega arith)))))
       ];
       single = single_kept longer c;
     }
@@ -158,7 +170,7 @@ module _ (keys keys' : ℕ → Option Network) (key : ℕ) (p : Network) (adds :
                 (subst (λ l. IsNextOf keys' last.prefix.address (last.prefix.length + 1) l) (sym (ap longer' e ∙ front))
                 (subst (λ a. IsNextOf keys' a (last.prefix.length + 1) (Some key)) (sym last.same) (next_new (last.prefix.length + 1) (longer before) (omega (arith, last.shorter)) last_next last.next)))
             | inr n ↦ subst (λ l. IsNextOf keys' q.address (q.length + 1) l) (sym (others k old.0 n))
-            (next_kept q.address (q.length + 1) (longer k) (c.linked k q old.1) (λ same le.
+                (next_kept q.address (q.length + 1) (longer k) (c.linked k q old.1) (λ same le.
                 below_last (q.length + 1) (longer k) (not_between k q old.1 (sym same) (omega arith) n) (subst (λ a. IsNextOf keys a (q.length + 1) (longer k)) (sym same) (c.linked k q old.1))))
           ]
         ];
@@ -204,10 +216,15 @@ module _ (keys keys' : ℕ → Option Network) (key : ℕ) (p : Network) (remove
     ]
     next_after from (Some m) first next =
         let e : first.0 ≡ p = one_found keys key first.0 p first.1 removes.was in
-        let apart : m ≢ key = λ same. let is : next.0 ≡ p = one_found keys key next.0 p (ap keys (sym same) ∙ next.1) removes.was in absurd (omega (arith, next.3, ap (λ x. x.length) is)) in
-        (next.0, removes.others m apart ∙ next.1, next.2, omega (arith, next.3, first.3, ap (λ x. x.length) e), λ k q found same le.
-            let s = stood_there k q found in
-            next.4 k q s.1 same (longer_than k q s.1 s.0 same (omega (arith, ap (λ x. x.length) e, first.4 k q s.1 same le))))
+        let apart : m ≢ key = λ same. let is : next.0 ≡ p = one_found keys key next.0 p (ap keys (sym same) ∙ next.1) removes.was in absurd (omega (arith, next.3, ap (λ x. x.length) is)) in (
+          next.0,
+          removes.others m apart ∙ next.1,
+          next.2,
+          omega (arith, next.3, first.3, ap (λ x. x.length) e),
+          λ k q found same le.
+              let s = stood_there k q found in
+              next.4 k q s.1 same (longer_than k q s.1 s.0 same (omega (arith, ap (λ x. x.length) e, first.4 k q s.1 same le))),
+        )
 
     single_stays : (k l : ℕ) (q : Network) → keys' k ≡ Some q → keys' l ≡ Some q → k ≡ l
     single_stays k l q a b = c.single k l q (stood_there k q a).1 (stood_there l q b).1
@@ -221,9 +238,9 @@ module _ (keys keys' : ℕ → Option Network) (key : ℕ) (p : Network) (remove
       linked = λ k q found.
           let s = stood_there k q found in
           subst (λ l. IsNextOf keys' q.address (q.length + 1) l) (sym (others k s.0)) (next_stays q.address (q.length + 1) (longer k) (c.linked k q s.1) (λ e.
-              let n : IsNextOf keys q.address (q.length + 1) (Some key) = subst (λ l. IsNextOf keys q.address (q.length + 1) l) e (c.linked k q s.1) in
-              let is : n.0 ≡ first.0 = one_found keys key n.0 first.0 n.1 first.1 in
-              absurd (omega (arith, n.3, ap (λ x. x.length) is, first.4 k q s.1 (sym n.2 ∙ ap (λ x. x.address) is ∙ first.2) (omega arith)))));
+          let n : IsNextOf keys q.address (q.length + 1) (Some key) = subst (λ l. IsNextOf keys q.address (q.length + 1) l) e (c.linked k q s.1) in
+          let is : n.0 ≡ first.0 = one_found keys key n.0 first.0 n.1 first.1 in
+          absurd (omega (arith, n.3, ap (λ x. x.length) is, first.4 k q s.1 (sym n.2 ∙ ap (λ x. x.address) is ∙ first.2) (omega arith)))));
       single = single_stays;
     }
 

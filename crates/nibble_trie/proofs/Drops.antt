@@ -68,7 +68,7 @@ module _ (live live' : ℕ → Type 0) (links links' : Option (ℕ × ℕ) → T
     fits = λ x p. elim (same_place x at) [
       | inl e ↦ subst (λ t. Fits live' heads layout x t) (sym (ap links' e ∙ d.top)) (λ a lies. none_there a (subst (λ z. Lies layout z a) e lies))
       | inr n ↦ subst (λ t. Fits live' heads layout x t) (sym (d.others x p n))
-      (fits_kept live live' heads heads layout x (links x) (λ b e l. d.kept b l (λ same. n (h.single x at c (before x p) place (e ∙ ap Inner same) d.was))) (λ cell a lies. refl) (h.fits x (before x p)))
+          (fits_kept live live' heads heads layout x (links x) (λ b e l. d.kept b l (λ same. n (h.single x at c (before x p) place (e ∙ ap Inner same) d.was))) (λ cell a lies. refl) (h.fits x (before x p)))
     ];
     apart = apart_after;
     single = λ x y b px py ex ey. h.single x y b (before x px) (before y py) (was_inner x b px ex) (was_inner y b py ey);

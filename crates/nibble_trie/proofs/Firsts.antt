@@ -33,8 +33,10 @@ first_inner live heads layout spot branch from level result f level_is start fir
     up a p =
         let e : high (layout.level branch) a ≡ layout.block branch * 16 + (high (layout.level branch) a - layout.block branch * 16) = omega (arith, p.low) in
         (ap (λ n. high n a) f.1 ∙ digits_before (layout.level branch) (layout.block branch) (high (layout.level branch) a - layout.block branch * 16) a (omega (arith, p.low, p.top)) e ∙ sym f.2, p.from)
+
     of_place : (a : ℕ) → Lies layout spot.at a → high (layout.level branch) a ≡ layout.block branch * 16 + high (layout.level branch) a % 16
     of_place a lies = digit_is (layout.level branch) (layout.block branch) a (ap (λ n. high n a) (sym f.1) ∙ lies ∙ f.2)
+
     digits : (a : ℕ) → Lies layout spot.at a → from ≤ a → layout.block branch * 16 + high level from % 16 ≤ high (layout.level branch) a
     digits a lies le = elim start [
       | inl zero ↦
@@ -44,6 +46,7 @@ first_inner live heads layout spot branch from level result f level_is start fir
           let same : high (layout.level branch) from ≡ high level from = ap (λ n. high n from) level_is in
           omega (arith, of_place from here, high_mono (layout.level branch) from a le)
     ]
+
     down : (a : ℕ) → FromAt layout spot from a → FromIn layout branch (high level from % 16) from a
     down a p = record { low = digits a p.0 p.1; top = omega (arith, of_place a p.0); from = p.1 }
 
@@ -51,11 +54,15 @@ first_inner live heads layout spot branch from level result f level_is start fir
 pub in_found : (heads : ℕ → Option ℕ) (layout : Layout) (branch digit level from : ℕ) (target : Target) (key : ℕ) → digit < 16 → IsFirst (FromAt layout (record { at = Some (branch, digit); level = level; target = target }) from) heads (Some key) → IsFirst (FromIn layout branch digit from) heads (Some key)
 in_found heads layout branch digit level from target key small first =
     let a = first.0 in
-    let at : high (layout.level branch) a ≡ layout.block branch * 16 + digit = first.1.0 in
-    (a, record { low = omega arith; top = omega arith; from = first.1.1 }, first.2, λ b p lt.
-      let mono = high_mono (layout.level branch) b a (omega arith) in
-      let here : high (layout.level branch) b ≡ layout.block branch * 16 + digit = omega (arith, p.low) in
-      first.3 b (here, p.from) lt)
+    let at : high (layout.level branch) a ≡ layout.block branch * 16 + digit = first.1.0 in (
+      a,
+      record { low = omega arith; top = omega arith; from = first.1.1 },
+      first.2,
+      λ b p lt.
+          let mono = high_mono (layout.level branch) b a (omega arith) in
+          let here : high (layout.level branch) b ≡ layout.block branch * 16 + digit = omega (arith, p.low) in
+          first.3 b (here, p.from) lt,
+    )
 
 pub in_last : (heads : ℕ → Option ℕ) (layout : Layout) (branch digit level from : ℕ) (target : Target) → digit ≡ 15 → IsFirst (FromAt layout (record { at = Some (branch, digit); level = level; target = target }) from) heads None → IsFirst (FromIn layout branch digit from) heads None
 in_last heads layout branch digit level from target last first = λ a p.
@@ -72,11 +79,13 @@ in_rest heads layout branch digit level from target result start first rest = by
           let at : high (layout.level branch) from ≡ layout.block branch * 16 + digit = here in
           let lt = high_less (layout.level branch) from a (omega arith) in omega arith
     ]
+
     none : (a : ℕ) → FromIn layout branch digit from a → ((low : layout.block branch * 16 + (digit + 1) ≤ high (layout.level branch) a) → heads a ≡ None) → heads a ≡ None
     none a p beyond = elim (cases_eq (high (layout.level branch) a) (layout.block branch * 16 + digit)) [
       | inl e ↦ first a (e, p.from)
       | inr n ↦ beyond (omega (arith, p.low))
     ]
+
     by : (r : Option ℕ) → IsFirst (FromIn layout branch (digit + 1) 0) heads r → IsFirst (FromIn layout branch digit from) heads r
     by None r = λ a p. none a p (λ low. r a (record { low = low; top = p.top; from = omega arith }))
     by (Some key) r = (r.0, record { low = omega (arith, r.1.low); top = r.1.top; from = later r.0 r.1.low }, r.2, λ b p lt. none b p (λ low. r.3 b (record { low = low; top = p.top; from = omega arith }) lt))

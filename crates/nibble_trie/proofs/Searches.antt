@@ -114,11 +114,15 @@ module _ (keys : ℕ → Option Network) (heads : ℕ → Option ℕ) (layout : 
   -- the head of the first address is the first
   first_of : (from key : ℕ) (first : IsFirst (FromAt layout top from) heads (Some key)) → (q : Network) × (keys key ≡ Some q) × (from ≤ q.address) × ((k : ℕ) (p : Network) → keys k ≡ Some p → from ≤ p.address → ComesBefore p q → ⊥)
   first_of from key first =
-      let n : IsNextOf keys first.0 0 (Some key) = subst (λ l. IsNextOf keys first.0 0 l) first.2 (shortest first.0) in
-      (n.0, n.1, subst (λ a. from ≤ a) (sym n.2) first.1.1, λ k p found le before. elim (before_is p n.0 before) [
-        | inl less ↦ headless p.address k p (first.3 p.address (lies_top k p found, le) (omega (arith, n.2))) found refl
-        | inr same ↦ absurd (omega (arith, same.1, n.4 k p found (same.0 ∙ n.2) (omega arith)))
-      ])
+      let n : IsNextOf keys first.0 0 (Some key) = subst (λ l. IsNextOf keys first.0 0 l) first.2 (shortest first.0) in (
+        n.0,
+        n.1,
+        subst (λ a. from ≤ a) (sym n.2) first.1.1,
+        λ k p found le before. elim (before_is p n.0 before) [
+          | inl less ↦ headless p.address k p (first.3 p.address (lies_top k p found, le) (omega (arith, n.2))) found refl
+          | inr same ↦ absurd (omega (arith, same.1, n.4 k p found (same.0 ∙ n.2) (omega arith)))
+        ],
+      )
 
   pub first_behind_is : (a : ℕ) (r : Option ℕ) → IsFirst (FromAt layout top (a + 1)) heads r → IsFirstBehind keys a r
   first_behind_is a None first = λ k p found. elim (cases_lt a p.address) [
@@ -134,17 +138,22 @@ module _ (keys : ℕ → Option Network) (heads : ℕ → Option ℕ) (layout : 
 -- beyond a prefix: a longer one of its address, or one behind it
 pub longer_is : (keys : ℕ → Option Network) (q : Network) (r : Option ℕ) → is_some r ≡ true → IsNextOf keys q.address (q.length + 1) r → IsNextLeaf keys (Some q) r
 longer_is keys q None some next = absurd (let x : is_some {T = ℕ} None ≡ true = some in cc)
-longer_is keys q (Some key) some next = (next.0, next.1, is_before q next.0 (inr (sym next.2, omega (arith, next.3))), λ k p found beyond before.
-    elim (before_is p next.0 before) [
-      | inl less ↦ elim (before_is q p beyond) [
-        | inl more ↦ absurd (omega (arith, next.2))
-        | inr same ↦ absurd (omega (arith, next.2, same.0))
-      ]
-      | inr same ↦ elim (before_is q p beyond) [
-        | inl more ↦ absurd (omega (arith, next.2, same.0))
-        | inr far ↦ absurd (omega (arith, same.1, next.4 k p found (sym far.0) (omega (arith, far.1))))
-      ]
-    ])
+longer_is keys q (Some key) some next = (
+  next.0,
+  next.1,
+  is_before q next.0 (inr (sym next.2, omega (arith, next.3))),
+  λ k p found beyond before.
+      elim (before_is p next.0 before) [
+        | inl less ↦ elim (before_is q p beyond) [
+          | inl more ↦ absurd (omega (arith, next.2))
+          | inr same ↦ absurd (omega (arith, next.2, same.0))
+        ]
+        | inr same ↦ elim (before_is q p beyond) [
+          | inl more ↦ absurd (omega (arith, next.2, same.0))
+          | inr far ↦ absurd (omega (arith, same.1, next.4 k p found (sym far.0) (omega (arith, far.1))))
+        ]
+      ],
+)
 
 pub behind_is : (keys : ℕ → Option Network) (q : Network) (longer r : Option ℕ) → is_some longer ≡ false → IsNextOf keys q.address (q.length + 1) longer → IsFirstBehind keys q.address r → IsNextLeaf keys (Some q) r
 behind_is keys q (Some key) r none next first = absurd (let x : is_some (Some key) ≡ false = none in cc)
@@ -155,6 +164,7 @@ behind_is keys q None r none next first = by r first
       | inl less ↦ less
       | inr same ↦ absurd (omega (arith, same.1, next k p found (sym same.0)))
     ]
+
     by : (r : Option ℕ) → IsFirstBehind keys q.address r → IsNextLeaf keys (Some q) r
     by None f = λ k p found b. absurd (omega (arith, beyond k p found b, f k p found))
     by (Some key) f = (f.0, f.1, is_before q f.0 (inl f.2), λ k p found b. f.3 k p found (beyond k p found b))

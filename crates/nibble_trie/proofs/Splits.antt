@@ -163,7 +163,7 @@ module _ (live live' : ℕ → Type 0) (links links' : Option (ℕ × ℕ) → T
     fits = λ x p. elim (cases x p) [
       | inl o ↦ elim (same_place x at) [
         | inl e ↦ subst (λ t. Fits live' heads new x t) (sym (ap links' e ∙ s.top))
-        (s.here, level_of_kept x o ∙ ap (level_of layout) e ∙ deep ∙ ap (λ n. n + 1) (sym level_new), block_of_kept x o ∙ ap (block_of layout) e ∙ sym block_new)
+            (s.here, level_of_kept x o ∙ ap (level_of layout) e ∙ deep ∙ ap (λ n. n + 1) (sym level_new), block_of_kept x o ∙ ap (block_of layout) e ∙ sym block_new)
         | inr n ↦ subst (λ t. Fits live' heads new x t) (sym (s.others x o n)) (fits_after x (links x) o (h.fits x o))
       ]
       | inr i ↦ subst (λ y. Fits live' heads new y (links' y)) (sym i.2) (fits_inner i.0 i.1)

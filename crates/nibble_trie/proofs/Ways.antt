@@ -133,6 +133,7 @@ holds_empty index layout none dead = record {
     only : (x : Option (ℕ × ℕ)) → IsPlace (is_live index) x → x ≡ None
     only None p = refl
     only (Some x) p = absurd (dead x.0 p.0)
+
     fits : (x : Option (ℕ × ℕ)) → IsPlace (is_live index) x → Fits (is_live index) (λ _. None) layout x (link_at index x)
     fits None p = subst (λ t. Fits (is_live index) (λ _. None) layout None t) (sym none) (λ a l. refl)
     fits (Some x) p = absurd (dead x.0 p.0)

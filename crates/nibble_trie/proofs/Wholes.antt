@@ -104,9 +104,9 @@ module _ {V : Type 0} where
         heads = behind_heads (prefix_in old) (prefix_in new) key p adds (longer_in old) (longer_in new) c before last;
         keys = λ k q at. elim (was_there (prefix_in old) (prefix_in new) key p adds k q at) [ inl x ↦ inl x.1 | inr x ↦ inr x.1 ];
         rows = rows_put old new p key node v c.single chained.single
-        (keeps_trans old mid new p
-        (keeps_at old mid p key (Some node) one (λ x at. let none = sym at ∙ vacant in absurd (cc)) (λ x at. ap (λ (y : Node V). y.prefix) (some_same x node (sym at))))
-        (keeps_touched mid new p before b after two found' refl refl)) there refl refl;
+            (keeps_trans old mid new p
+            (keeps_at old mid p key (Some node) one (λ x at. let none = sym at ∙ vacant in absurd (cc)) (λ x at. ap (λ (y : Node V). y.prefix) (some_same x node (sym at))))
+            (keeps_touched mid new p before b after two found' refl refl)) there refl refl;
       }
 
   -- ---- a leaf less behind another
@@ -124,9 +124,9 @@ module _ {V : Type 0} where
         heads = behind_gone (prefix_in old) (prefix_in new) key p removes (longer_in old) (longer_in new) c before last leads_to;
         keys = λ k q at. inr ((stood_there (prefix_in old) (prefix_in new) key p removes k q at).1);
         rows = rows_removed old new p c.single chained.single
-        (keeps_trans old mid new p (keeps_touched old mid p before b after one found refl refl)
-        (keeps_at mid new p key None two (λ x at. some_same x.prefix p (sym (prefix_found mid key x at) ∙ touched key ∙ here)) (λ x at. absurd (cc))))
-        (λ k at. let s = stood_there (prefix_in old) (prefix_in new) key p removes k p at in s.0 (c.single k key p s.1 here));
+            (keeps_trans old mid new p (keeps_touched old mid p before b after one found refl refl)
+            (keeps_at mid new p key None two (λ x at. some_same x.prefix p (sym (prefix_found mid key x at) ∙ touched key ∙ here)) (λ x at. absurd (cc))))
+            (λ k at. let s = stood_there (prefix_in old) (prefix_in new) key p removes k p at in s.0 (c.single k key p s.1 here));
       }
 
   -- ---- nothing changed

@@ -113,6 +113,7 @@ drops_of old mid new at c b found root u w was empty = record {
   where
     gone : is_live new c → ⊥
     gone live = not_live mid c u.changed (w.from c live)
+
     same : (x : Option (ℕ × ℕ)) → IsPlace (is_live new) x → link_at mid x ≡ link_at old x
     same None p = ap leads root
     same (Some x) p = ap (λ o. target_in o x.1) (u.others x.0 (λ e. gone (subst (is_live new) e p.0)))

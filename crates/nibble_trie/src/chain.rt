@@ -26,11 +26,7 @@ pub(crate) fn seek<V>(leaves: &Slab<Node<V>>, link: Option<usize>, length: u8) -
 }
 
 // The leaf of an address and a length, if that is what a link to the first from the length on leads to.
-pub(crate) fn exact<V>(
-    leaves: &Slab<Node<V>>,
-    link: Option<usize>,
-    length: u8,
-) -> Option<usize>
+pub(crate) fn exact<V>(leaves: &Slab<Node<V>>, link: Option<usize>, length: u8) -> Option<usize>
     requires { HasNext (prefix_in leaves.now) link length }
     ensures { (a : ℕ) → IsNextOf (prefix_in leaves.now) a length link → IsLeafOf (prefix_in leaves.now) (record { address = a; length = length }) result }
 {

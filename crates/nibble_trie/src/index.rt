@@ -90,12 +90,7 @@ impl Index {
     }
 
     // The first leaf of an address, at its place.
-    pub(crate) fn head<V>(
-        &self,
-        leaves: &Slab<Node<V>>,
-        spot: Spot,
-        address: u32,
-    ) -> Option<usize>
+    pub(crate) fn head<V>(&self, leaves: &Slab<Node<V>>, spot: Spot, address: u32) -> Option<usize>
         requires way { HasNamedWay (prefix_in leaves.now) self.now address spot }
         requires cell { IsCell spot.target }
         ensures { (heads : ℕ → Option ℕ) (layout : Layout) → IsLaid self.now heads layout → Names (prefix_in leaves.now) heads → OnWay self.now layout address spot → result ≡ heads address }

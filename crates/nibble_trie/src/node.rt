@@ -18,3 +18,15 @@ pub struct Node<V> {
 
 // 8 octets of prefix and 8 of link: 16 beside a value of whole words.
 const _: () = prove!(size_of::<Node<u64>>() == 16 + size_of::<u64>());
+
+impl<V> Node<V> {
+    ghost use Rattle.nibble_trie.specs.contracts.node.Node.{the_row};
+
+    // Lends the value.
+    pub(crate) fn value_mut(&mut self) -> &mut V
+        ensures* lends { sem 𝓛 (Lends (the_row V.row) V.row self.entry result (λ v. record self.entry.now { value = v })) }
+        ensures value { self.old.value ≡ result.now }
+    {
+        &mut self.value
+    }
+}

@@ -28,12 +28,7 @@ pub(crate) fn find<V>(index: &Index, leaves: &Slab<Node<V>>, prefix: Prefix) -> 
 
 // The leaf of the first address from one on that has one, among the addresses of a place.
 #[cycle(next)]
-fn first_at<V>(
-    index: &Index,
-    leaves: &Slab<Node<V>>,
-    spot: Spot,
-    from: u32,
-) -> Option<usize>
+fn first_at<V>(index: &Index, leaves: &Slab<Node<V>>, spot: Spot, from: u32) -> Option<usize>
     requires { CanStart (prefix_in leaves.now) index.now spot from }
     ensures { (heads : ℕ → Option ℕ) (layout : Layout) → IsLaid index.now heads layout → Names (prefix_in leaves.now) heads → Stands index.now layout spot → IsStart layout spot.at from → IsFirst (FromAt layout spot from) heads result }
 {

@@ -90,7 +90,7 @@ impl<V> Trie<V> {
     {
         match reading::find(&self.index, &self.leaves, prefix) {
             None => None,
-            Some(key) => Some(&mut self.leaves[key].value),
+            Some(key) => Some(self.leaves[key].value_mut()),
         }
     }
 

@@ -119,12 +119,7 @@ fn add_behind<V>(leaves: &mut Slab<Node<V>>, before: usize, prefix: Prefix, valu
 }
 
 // Puts a value at a prefix whose address has a shorter one, and answers the one that stood there.
-fn put_behind<V>(
-    leaves: &mut Slab<Node<V>>,
-    first: usize,
-    prefix: Prefix,
-    value: V,
-) -> Option<V>
+fn put_behind<V>(leaves: &mut Slab<Node<V>>, first: usize, prefix: Prefix, value: V) -> Option<V>
     requires room { HasRoomFor leaves.old 1 }
     requires small { leaves.old.capacity < 2 ^ 31 }
     requires chained { IsChained (prefix_in leaves.old) (longer_in leaves.old) }
@@ -184,13 +179,7 @@ pub(crate) fn put<V>(
 }
 
 // The leaf behind the first one of an address becomes the first.
-fn drop_head<V>(
-    leaves: &Slab<Node<V>>,
-    index: &mut Index,
-    spot: Spot,
-    address: u32,
-    first: usize,
-)
+fn drop_head<V>(leaves: &Slab<Node<V>>, index: &mut Index, spot: Spot, address: u32, first: usize)
     requires way { HasLoneWay index.old address spot }
     requires cell { IsCell spot.target }
     requires has { ContainsKey leaves.now first }
@@ -255,11 +244,7 @@ fn take_behind<V>(leaves: &mut Slab<Node<V>>, first: usize, prefix: Prefix) -> O
 }
 
 // Takes out what stands at a prefix.
-pub(crate) fn remove<V>(
-    leaves: &mut Slab<Node<V>>,
-    index: &mut Index,
-    prefix: Prefix,
-) -> Option<V>
+pub(crate) fn remove<V>(leaves: &mut Slab<Node<V>>, index: &mut Index, prefix: Prefix) -> Option<V>
     requires { IsWhole leaves.old index.old }
     ensures whole { IsWhole leaves.new index.new }
     ensures before { result ≡ map.get (rows_of leaves.old) prefix }

@@ -204,7 +204,7 @@ add_first-requires-2-clause-head g c =
     let n = c.index-node.result.now in
     let found = prefix_found leaves first n c.index-node.ensures in
     let longer : p.length < n.prefix.length = omega (arith, c.length-length.ensures.value, c.length.ensures.value, c.length-2.ensures.value, c.if-length.false, c.if-length-2.false) in
-    subst (IsHeadOf keys p) (sym c.in-Some.is) (head_some keys p first n.prefix at found (omega arith))
+    head_some keys p first n.prefix at found (omega arith)
 
 pub add_first-requires-2-clause-absent : goal.add_first-requires-2-clause-absent
 add_first-requires-2-clause-absent g c =

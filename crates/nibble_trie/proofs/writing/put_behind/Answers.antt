@@ -18,7 +18,6 @@ exact-requires g c =
     let link : longer_in leaves c.last_below-before.result ≡ c.key.result = longer_found leaves c.last_below-before.result c.index-node.result.now c.index-node.ensures ∙ sym c.key.ensures.value in
     subst (HasNext (prefix_in leaves) c.key.result) (sym c.length-2.ensures.value) (sought (prefix_in leaves) c.args.prefix.address c.args.prefix.length c.key.result (subst (λ l. IsNextOf (prefix_in leaves) c.args.prefix.address c.args.prefix.length l) link last.next))
 
-
 pub replace-requires : goal.replace-requires
 replace-requires g c =
     let leaves = c.args.leaves.now in

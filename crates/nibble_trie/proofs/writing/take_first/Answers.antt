@@ -47,8 +47,8 @@ returns-clause-before g c =
     let has = one_next keys (longer_in leaves) a 0 (w.heads a) (Some c.args.first) w.chained (w.shortest a) c.requires.head in
     let alone = alone_head index w.heads layout a c.args.spot c.args.first w.indexes.holds way c.requires.cell has in
     λ p found.
-        let n = node_at leaves c.args.first p found in
-        ap Some (c.take.ensures.before n.0 n.1) ∙ sym (row_of leaves c.args.first n.0 p w.chained.single n.1 n.2)
+    let n = node_at leaves c.args.first p found in
+    ap Some (c.take.ensures.before n.0 n.1) ∙ sym (row_of leaves c.args.first n.0 p w.chained.single n.1 n.2)
 
 pub returns-clause-rows : goal.returns-clause-rows
 returns-clause-rows g c =

@@ -21,8 +21,7 @@ pub returns-in-Some : goal.returns-in-Some
 returns-in-Some g c =
     let leaves = c.self.inside.leaves in
     let n = c.index_mut.result.now in
-    let is = leaf_node leaves c.in-Some.key n c.args.prefix c.in-Some.ensures c.index_mut.ensures.value in
-    let after = λ w. ap (λ rows. record { rows = rows }) (touched_rows leaves c.self.inside.index c.in-Some.key n c.args.prefix w c.self.invariant c.index_mut.ensures.value is) ∙ ap (λ (v : Contents _). record { rows = map.insert v.rows c.args.prefix w }) c.self.view_is in (
-      λ i. inl (_, λ w. after w i),
-      record { writes_back = tt; value = sym (row_of leaves c.in-Some.key n c.args.prefix c.self.invariant.chained.single c.index_mut.ensures.value is) ∙ ap (λ (v : Contents _). map.get v.rows c.args.prefix) c.self.view_is },
+    let is = leaf_node leaves c.in-Some.key n c.args.prefix c.in-Some.ensures c.index_mut.ensures.value in (
+      λ i. inl (c.value_mut.result.ghost_name, λ w. (ap (λ rows. record { rows = rows }) (touched_rows leaves c.self.inside.index c.in-Some.key n c.args.prefix w c.self.invariant c.index_mut.ensures.value is) ∙ ap (λ (v : Contents _). record { rows = map.insert v.rows c.args.prefix w }) c.self.view_is) i),
+      record { writes_back = tt; value = ap Some (sym c.value_mut.ensures.value) ∙ sym (row_of leaves c.in-Some.key n c.args.prefix c.self.invariant.chained.single c.index_mut.ensures.value is) ∙ ap (λ (v : Contents _). map.get v.rows c.args.prefix) c.self.view_is },
     )
