@@ -11,7 +11,7 @@ use Rattle.addr4.specs.declared.place.Place.{Place}
 use Rattle.addr4.specs.declared.place.Place.TheVariants.{Before, At}
 use Rattle.addr4.proofs.PrefixOrder.{prefixes_total, exact_prefixes, itself, one_prefix}
 use Rattle.addr4.proofs.RankLemmas.{another, before_is, further, one_first}
-use Rattle.prefix_trie.specs.Contents.{HasKey}
+use Rattle.nibble_trie.specs.Contents.{HasKey}
 use Rattle.safe_table.specs.Slots.{Slot}
 use Rattle.safe_table.specs.Tables.{Rows}
 use Rattle.safe_table.specs.Fields.{iterators_of, MatchPlace, standing, live_value, readers_of, with_live, live_from, live_rows, IsKept, IsSound, Leaves}

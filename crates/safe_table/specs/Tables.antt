@@ -9,8 +9,8 @@ use Rattle.addr4.specs.Places.{key_of, IsNextRow}
 use Rattle.addr4.specs.Prefixes.{Network, prefix_cmp, network_code}
 use Rattle.addr4.specs.declared.place.Place.{Place}
 use Rattle.addr4.specs.declared.place.Place.TheVariants.{Before, At}
-use Rattle.prefix_trie.specs.declared.node.Node.{Node}
-use Rattle.prefix_trie.specs.Nodes.{HasNode}
+use Rattle.nibble_trie.specs.declared.node.Node.{Node}
+use Rattle.nibble_trie.specs.Nodes.{HasNode}
 
 -- its rows, and where its live iterators stand
 pub record Rows (V : Type 0) : Type 0 where

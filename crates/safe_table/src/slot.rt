@@ -23,7 +23,7 @@ enum Kept<V> {
     Removed { readers: u32 },
 }
 
-// With the node's own 32 octets (prefix, links, and whether there is a slot) that makes 40 beside a row of whole words.
+// With the leaf's own 16 octets (prefix and link) that makes 24 beside a row of whole words.
 const _: () = prove!(size_of::<Slot<u64>>() == 8 + size_of::<u64>());
 
 impl<V> Model for Slot<V> {

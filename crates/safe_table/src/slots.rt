@@ -2,14 +2,14 @@
 
 ghost use Rattle.std.specs.Prelude.{◌≡◌, ◌↔◌, ◌+◌, ◌-◌, ◌<◌, ◌^◌, IsTrue, IsOk, OnOk, OnErr, IfOk, IfSome, option_map, is_some, Some, None, true, false};
 ghost use Rattle.std.specs.FinMap as map;
-ghost use Rattle.prefix_trie.specs.Contents.{HasKey};
+ghost use Rattle.nibble_trie.specs.Contents.{HasKey};
 ghost use Rattle.addr4.specs.Places.{key_of, IsNextRow};
 ghost use Rattle.safe_table.specs.Fields.{live_rows, live_value, readers_of, Leaves, MatchPlace};
 ghost use Rattle.safe_table.specs.Slots.{Slot};
 
 use crate::slot::Slot;
 use addr4::{Memory, Place, Prefix};
-use prefix_trie::Trie;
+use nibble_trie::Trie;
 
 // One more iterator stands at a prefix.
 pub(crate) fn enter<V>(trie: &mut Trie<Slot<V>>, prefix: Prefix)

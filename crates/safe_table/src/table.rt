@@ -6,15 +6,15 @@ ghost use Rattle.std.specs.Borrow.{sem};
 ghost use Rattle.std.specs.FinMap as map;
 ghost use Rattle.addr4.specs.Places.{key_of, IsNextRow};
 ghost use Rattle.addr4.specs.declared.place.Place.TheVariants.{Before, At};
-ghost use Rattle.prefix_trie.specs.Contents.{HasKey};
-ghost use Rattle.prefix_trie.specs.Nodes.{HasNodes};
+ghost use Rattle.nibble_trie.specs.Contents.{HasKey};
+ghost use Rattle.nibble_trie.specs.Nodes.{HasNodes};
 ghost use Rattle.safe_table.specs.Tables.{Moves, HasPlaces};
 
 use crate::iter::Iter;
 use crate::slot::Slot;
 use crate::slots;
 use addr4::{Memory, Place, Prefix};
-use prefix_trie::{Node, Trie};
+use nibble_trie::{Node, Trie};
 use slab::Slab;
 use std::alloc::Global;
 use std::marker::Model;
@@ -121,7 +121,7 @@ impl<V: Drop> Table<V> {
         slots::first_live(&self.trie, after)
     }
 
-    /// The nodes of the trie: among them one for each row, and one for each prefix at which an iterator stands.
+    /// The leaves of the trie: one for each row, and one for each prefix at which an iterator stands.
     pub fn nodes(&self) -> &Slab<Node<Slot<V>>>
         ensures rows { HasNodes result.now self.now.rows }
         ensures places { HasPlaces result.now self.now.iterators }

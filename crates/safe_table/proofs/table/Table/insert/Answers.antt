@@ -1,6 +1,6 @@
 use Rattle.std.proofs.Common.{◌+◌, ◌∙◌, cond, sym, ap, subst}
 use Rattle.std.specs.FinMap as map
-use Rattle.prefix_trie.specs.Contents.{HasKey}
+use Rattle.nibble_trie.specs.Contents.{HasKey}
 use Rattle.safe_table.specs.Fields.{IsSound}
 use Rattle.safe_table.proofs.Keeping.{get-live, sound_put, rows_put, no_row, has_live, not_err}
 use Rattle.safe_table.proofs.table.Table.insert.Goals as goal

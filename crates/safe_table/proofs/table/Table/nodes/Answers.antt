@@ -1,6 +1,6 @@
 use Rattle.std.proofs.Common.{◌∙◌, sym, ap, subst}
 use Rattle.std.specs.FinMap as map
-use Rattle.prefix_trie.specs.Contents.{HasKey}
+use Rattle.nibble_trie.specs.Contents.{HasKey}
 use Rattle.safe_table.proofs.Standing.{get-iterators}
 use Rattle.safe_table.proofs.Keeping.{has_live, has_place}
 use Rattle.safe_table.proofs.table.Table.nodes.Goals as goal

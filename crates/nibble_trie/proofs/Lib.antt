@@ -1,0 +1,12 @@
+pub mod Digits
+pub mod Words
+pub mod Cells
+pub mod Splits
+pub mod Drops
+pub mod Ways
+pub mod Firsts
+pub mod Chains
+pub mod Rows
+pub mod Wholes
+pub mod Written
+pub mod Searches

@@ -1,0 +1,142 @@
+-- The way of an address from the root down.
+use Rattle.std.proofs.Common.{◌≡◌, ◌≢◌, ℕ, ◌+◌, ◌-◌, ◌*◌, ◌%◌, ◌^◌, ◌<◌, ◌≤◌, true, [], get_or, Option, Some, None, IsSome, is_some, refl, sym, ap, subst, ◌∙◌, inl, inr, arith}
+use Rattle.std.proofs.lemmas.Nat.{mod_below}
+use Rattle.std.proofs.lemmas.Bool.{cases_eq}
+use Rattle.addr4.specs.Prefixes.{Network}
+use Rattle.slab.specs.Slab.{Slab, get, ContainsKey}
+use Rattle.nibble_trie.specs.declared.link.Target.{Target}
+use Rattle.nibble_trie.specs.declared.link.Target.TheVariants.{Nothing, Leaf, Inner}
+use Rattle.nibble_trie.specs.declared.branch.Branch.{Branch}
+use Rattle.nibble_trie.specs.declared.index.Index.{Index}
+use Rattle.nibble_trie.specs.declared.index.Spot.{Spot}
+use Rattle.nibble_trie.specs.Links.{leads, IsCell, target_at}
+use Rattle.nibble_trie.specs.Index.{Layout, level_of, block_of, high, IsPlace, is_live, link_at, target_in, Lies, Fits, Holds, IsLaid, Indexes, Names, OnWay, Stands, HasHeads, HasWay, HasNamedWay, HasLoneWay, IsBare, IsAbove, Placed, IsAlone}
+use Rattle.nibble_trie.proofs.Digits.{high_all, high_none, digit_is, some_same}
+use Rattle.nibble_trie.proofs.Cells.{alone_of}
+use Rattle.nibble_trie.proofs.Drops.{under}
+
+-- what fits a place that the code knows
+pub fits_spot : (index : Index) (heads : ℕ → Option ℕ) (layout : Layout) (spot : Spot) → IsLaid index heads layout → Stands index layout spot → Fits (is_live index) heads layout spot.at spot.target
+fits_spot index heads layout spot h s = subst (λ t. Fits (is_live index) heads layout spot.at t) s.leads (h.fits spot.at s.place)
+
+pub cell_spot : (index : Index) (layout : Layout) (spot : Spot) → Stands index layout spot → IsCell spot.target → IsCell (link_at index spot.at)
+cell_spot index layout spot s cell = subst IsCell (sym s.leads) cell
+
+-- the place below a branch
+abbrev pub below : Index → ℕ → ℕ → ℕ → Spot
+below index branch a level = record { at = Some (branch, high level a % 16); level = level; target = link_at index (Some (branch, high level a % 16)) }
+
+pub inner_fits : (index : Index) (heads : ℕ → Option ℕ) (layout : Layout) (spot : Spot) (branch : ℕ) → IsLaid index heads layout → Stands index layout spot → spot.target ≡ Inner branch → Fits (is_live index) heads layout spot.at (Inner branch)
+inner_fits index heads layout spot branch h s is = subst (λ t. Fits (is_live index) heads layout spot.at t) is (fits_spot index heads layout spot h s)
+
+pub inner_live : (index : Index) (heads : ℕ → Option ℕ) (layout : Layout) (spot : Spot) (branch : ℕ) → IsLaid index heads layout → Stands index layout spot → spot.target ≡ Inner branch → is_live index branch
+inner_live index heads layout spot branch h s is = (inner_fits index heads layout spot branch h s is).0
+
+pub inner_level : (index : Index) (heads : ℕ → Option ℕ) (layout : Layout) (spot : Spot) (branch : ℕ) → IsLaid index heads layout → Stands index layout spot → spot.target ≡ Inner branch → spot.level ≡ layout.level branch + 1
+inner_level index heads layout spot branch h s is = sym s.level ∙ (inner_fits index heads layout spot branch h s is).1
+
+pub below_way : (index : Index) (heads : ℕ → Option ℕ) (layout : Layout) (a : ℕ) (spot : Spot) (branch : ℕ) → IsLaid index heads layout → spot.target ≡ Inner branch → OnWay index layout a spot → OnWay index layout a (below index branch a (spot.level - 1))
+below_way index heads layout a spot branch h is way =
+    let f = inner_fits index heads layout spot branch h way.stands is in
+    let level : layout.level branch ≡ spot.level - 1 = omega (arith, inner_level index heads layout spot branch h way.stands is) in
+    let digit : high (layout.level branch) a % 16 ≡ high (spot.level - 1) a % 16 = ap (λ n. high n a % 16) level in
+    record {
+      stands = record { place = (f.0, mod_below (high (spot.level - 1) a) 16 (omega arith)); level = level; leads = refl; short = omega (arith, way.stands.short) };
+      lies = subst (λ d. Lies layout (Some (branch, d)) a) digit (under (is_live index) heads layout spot.at branch a f way.lies);
+    }
+
+pub top_way : (index : Index) (layout : Layout) (a : ℕ) → a < 2 ^ 32 → OnWay index layout a (record { at = None; level = 8; target = leads index.root })
+top_way index layout a fits = record { stands = record { place = tt; level = refl; leads = refl; short = omega arith }; lies = high_all a fits }
+
+pub no_inner : (t : Target) (b : ℕ) → IsCell t → t ≡ Inner b → ⊥
+no_inner t b cell e = subst IsCell e cell
+
+-- ---- the first leaf of an address
+pub head_nothing : (index : Index) (heads : ℕ → Option ℕ) (layout : Layout) (a : ℕ) (spot : Spot) → IsLaid index heads layout → OnWay index layout a spot → spot.target ≡ Nothing → heads a ≡ None
+head_nothing index heads layout a spot h way is = (subst (λ t. Fits (is_live index) heads layout spot.at t) is (fits_spot index heads layout spot h way.stands)) a way.lies
+
+pub leaf_fits : (index : Index) (heads : ℕ → Option ℕ) (layout : Layout) (spot : Spot) (key : ℕ) → IsLaid index heads layout → Stands index layout spot → spot.target ≡ Leaf key → Fits (is_live index) heads layout spot.at (Leaf key)
+leaf_fits index heads layout spot key h s is = subst (λ t. Fits (is_live index) heads layout spot.at t) is (fits_spot index heads layout spot h s)
+
+-- the leaf at a place has the address that it stands for
+pub named : (keys : ℕ → Option Network) (heads : ℕ → Option ℕ) (a key : ℕ) (p : Network) → Names keys heads → heads a ≡ Some key → keys key ≡ Some p → p.address ≡ a
+named keys heads a key p names has found =
+    let n = names a key has in
+    let e : n.0 ≡ p = some_same n.0 p (sym n.1 ∙ found) in
+    ap (λ q. q.address) (sym e) ∙ n.2
+
+pub head_leaf : (keys : ℕ → Option Network) (index : Index) (heads : ℕ → Option ℕ) (layout : Layout) (a : ℕ) (spot : Spot) (key : ℕ) (p : Network) → IsLaid index heads layout → Names keys heads → OnWay index layout a spot → spot.target ≡ Leaf key → keys key ≡ Some p → p.address ≡ a → heads a ≡ Some key
+head_leaf keys index heads layout a spot key p h names way is found same =
+    let f = leaf_fits index heads layout spot key h way.stands is in
+    let e : p.address ≡ f.0 = named keys heads f.0 key p names f.2 found in
+    ap heads (sym same ∙ e) ∙ f.2
+
+pub head_other : (keys : ℕ → Option Network) (index : Index) (heads : ℕ → Option ℕ) (layout : Layout) (a : ℕ) (spot : Spot) (key : ℕ) (p : Network) → IsLaid index heads layout → Names keys heads → OnWay index layout a spot → spot.target ≡ Leaf key → keys key ≡ Some p → p.address ≢ a → heads a ≡ None
+head_other keys index heads layout a spot key p h names way is found differ =
+    let f = leaf_fits index heads layout spot key h way.stands is in
+    f.3 a way.lies (λ e. differ (named keys heads f.0 key p names f.2 found ∙ sym e))
+
+-- its leaf is there
+pub leaf_found : (keys : ℕ → Option Network) (index : Index) (heads : ℕ → Option ℕ) (layout : Layout) (spot : Spot) (key : ℕ) → IsLaid index heads layout → Names keys heads → Stands index layout spot → spot.target ≡ Leaf key → IsSome (keys key)
+leaf_found keys index heads layout spot key h names s is =
+    let f = leaf_fits index heads layout spot key h s is in
+    let n = names f.0 key f.2 in
+    subst IsSome (sym n.1) refl
+
+-- ---- where no other address of the place has a leaf
+pub alone_nothing : (index : Index) (heads : ℕ → Option ℕ) (layout : Layout) (a : ℕ) (spot : Spot) → IsLaid index heads layout → Stands index layout spot → spot.target ≡ Nothing → IsAlone heads layout spot.at a
+alone_nothing index heads layout a spot h s is = λ b lies n. (subst (λ t. Fits (is_live index) heads layout spot.at t) is (fits_spot index heads layout spot h s)) b lies
+
+pub alone_head : (index : Index) (heads : ℕ → Option ℕ) (layout : Layout) (a : ℕ) (spot : Spot) (key : ℕ) → IsLaid index heads layout → OnWay index layout a spot → IsCell spot.target → heads a ≡ Some key → IsAlone heads layout spot.at a
+alone_head index heads layout a spot key h way cell has = alone_of (is_live index) heads layout spot.at spot.target a key cell (fits_spot index heads layout spot h way.stands) way.lies has
+
+-- two addresses of a place part in one of the digits behind
+pub deep : (index : Index) (layout : Layout) (a b : ℕ) (spot : Spot) → OnWay index layout a spot → Lies layout spot.at b → b ≢ a → 0 < spot.level
+deep index layout a b spot way lies differ = elim (cases_eq spot.level 0) [
+  | inl e ↦
+      let zero : level_of layout spot.at ≡ 0 = way.stands.level ∙ e in
+      let one : a ≡ block_of layout spot.at = sym (high_none a) ∙ ap (λ n. high n a) (sym zero) ∙ way.lies in
+      let two : b ≡ block_of layout spot.at = sym (high_none b) ∙ ap (λ n. high n b) (sym zero) ∙ lies in
+      absurd (differ (two ∙ sym one))
+  | inr n ↦ omega arith
+]
+
+-- a link changes nothing about which branches there are, nor a capacity
+pub target_some : (found : Option Branch) (branch : Branch) (digit : ℕ) → found ≡ Some branch → target_in found digit ≡ target_at branch digit
+target_some found branch digit e = ap (λ f. target_in f digit) e
+
+-- ---- from a branch up
+pub above_step : (index : Index) (a branch : ℕ) (spot : Spot) (key : ℕ) → IsAbove index a branch spot → spot.target ≡ Inner key → key ≢ branch → IsAbove index a branch (below index key a (spot.level - 1))
+above_step index a branch spot key h is differ = record {
+  heads = h.heads;
+  layout = h.layout;
+  holds = h.holds;
+  way = below_way index h.heads h.layout a spot key h.holds is h.way;
+  digit = h.digit;
+  place = h.place;
+  lies = h.lies;
+  cell = h.cell;
+  not_below = λ other e. differ (ap (λ p. p.0) (some_same _ _ e));
+}
+
+pub above_cell : (index : Index) (a branch : ℕ) (spot : Spot) → IsAbove index a branch spot → IsCell spot.target → ⊥
+above_cell index a branch spot h cell = h.not_below h.digit (h.holds.apart spot.at (Some (branch, h.digit)) a h.way.stands.place h.place (cell_spot index h.layout spot h.way.stands cell) h.cell h.way.lies h.lies)
+
+-- ---- an index without branches
+pub holds_empty : (index : Index) (layout : Layout) → leads index.root ≡ Nothing → ((b : ℕ) → is_live index b → ⊥) → IsLaid index (λ _. None) layout
+holds_empty index layout none dead = record {
+  fits = fits;
+  apart = λ x y a px py cx cy lx ly. only x px ∙ sym (only y py);
+  single = λ x y b px py ex ey. only x px ∙ sym (only y py);
+}
+  where
+    only : (x : Option (ℕ × ℕ)) → IsPlace (is_live index) x → x ≡ None
+    only None p = refl
+    only (Some x) p = absurd (dead x.0 p.0)
+
+    fits : (x : Option (ℕ × ℕ)) → IsPlace (is_live index) x → Fits (is_live index) (λ _. None) layout x (link_at index x)
+    fits None p = subst (λ t. Fits (is_live index) (λ _. None) layout None t) (sym none) (λ a l. refl)
+    fits (Some x) p = absurd (dead x.0 p.0)
+
+pub none_live : (branches : Slab Branch) → branches.slots ≡ [] → (b : ℕ) → ContainsKey branches b → ⊥
+none_live branches empty b live = let clash : is_some {T = Branch} None ≡ true = sym (ap (λ xs. is_some (get_or xs b None)) empty) ∙ live in absurd (cc)

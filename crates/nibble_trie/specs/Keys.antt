@@ -1,0 +1,73 @@
+-- The keys of leaves, and the order in which those of one address are linked.
+use Rattle.std.specs.Prelude.{◌≡◌, ℕ, ◌+◌, ◌-◌, ◌<◌, ◌≤◌, ◌^◌, Option, Some, None, option_map, option_and_then}
+use Rattle.slab.specs.Slab.{Slab, get}
+use Rattle.addr4.specs.Places.{IsBeyond}
+use Rattle.addr4.specs.Prefixes.{Network, ComesBefore}
+use Rattle.nibble_trie.specs.declared.node.Node.{Node}
+use Rattle.nibble_trie.specs.Links.{leads, leaf_of}
+
+module _ {V : Type 0} where
+  -- the prefix of the leaf at a key
+  abbrev pub prefix_in : Slab (Node V) → ℕ → Option Network
+  prefix_in leaves key = option_map (λ n. n.prefix) (get leaves key)
+
+  -- where its link leads
+  abbrev pub longer_in : Slab (Node V) → ℕ → Option ℕ
+  longer_in leaves key = option_and_then (λ n. leaf_of (leads n.longer)) (get leaves key)
+
+-- the first leaf of an address from a length on
+abbrev pub IsNextOf : (ℕ → Option Network) → ℕ → ℕ → Option ℕ → Type 0
+IsNextOf keys a from None = (k : ℕ) (p : Network) → keys k ≡ Some p → p.address ≡ a → p.length < from
+IsNextOf keys a from (Some key) = (q : Network) × (keys key ≡ Some q) × (q.address ≡ a) × (from ≤ q.length) × ((k : ℕ) (p : Network) → keys k ≡ Some p → p.address ≡ a → from ≤ p.length → q.length ≤ p.length)
+
+-- each leaf leads to the next longer one of its address, and no prefix has two
+pub record IsChained (keys : ℕ → Option Network) (longer : ℕ → Option ℕ) : Type 0 where
+  pub linked : (k : ℕ) (p : Network) → keys k ≡ Some p → IsNextOf keys p.address (p.length + 1) (longer k)
+  pub single : (k l : ℕ) (p : Network) → keys k ≡ Some p → keys l ≡ Some p → k ≡ l
+
+-- some address and length that a link is the next of
+pub record HasNext (keys : ℕ → Option Network) (link : Option ℕ) (length : ℕ) : Type 0 where
+  pub address : ℕ
+  pub from : ℕ
+  pub within : from ≤ length
+  pub next : IsNextOf keys address from link
+
+-- the last leaf of an address below a length
+pub record IsLastBelow (keys : ℕ → Option Network) (longer : ℕ → Option ℕ) (a length key : ℕ) : Type 0 where
+  pub prefix : Network
+  pub found : keys key ≡ Some prefix
+  pub same : prefix.address ≡ a
+  pub shorter : prefix.length < length
+  pub next : IsNextOf keys a length (longer key)
+
+-- the first leaf of a prefix's address, from its length on as well
+abbrev pub IsHeadOf : (ℕ → Option Network) → Network → Option ℕ → Type 0
+IsHeadOf keys p head = IsNextOf keys p.address 0 head × IsNextOf keys p.address p.length head
+
+-- addresses have 32 bits
+abbrev pub IsSmall : (ℕ → Option Network) → Type 0
+IsSmall keys = (k : ℕ) (p : Network) → keys k ≡ Some p → (p.address < 2 ^ 32) × (p.length ≤ 32)
+
+-- the leaf of a prefix
+abbrev pub IsLeafOf : (ℕ → Option Network) → Network → Option ℕ → Type 0
+IsLeafOf keys p None = (k : ℕ) → keys k ≡ Some p → ⊥
+IsLeafOf keys p (Some key) = keys key ≡ Some p
+
+-- the first leaf beyond a place
+abbrev pub IsNextLeaf : (ℕ → Option Network) → Option Network → Option ℕ → Type 0
+IsNextLeaf keys after None = (k : ℕ) (p : Network) → keys k ≡ Some p → IsBeyond after p → ⊥
+IsNextLeaf keys after (Some key) = (q : Network) × (keys key ≡ Some q) × IsBeyond after q × ((k : ℕ) (p : Network) → keys k ≡ Some p → IsBeyond after p → ComesBefore p q → ⊥)
+
+-- the first leaf behind an address
+abbrev pub IsFirstBehind : (ℕ → Option Network) → ℕ → Option ℕ → Type 0
+IsFirstBehind keys a None = (k : ℕ) (p : Network) → keys k ≡ Some p → p.address ≤ a
+IsFirstBehind keys a (Some key) = (q : Network) × (keys key ≡ Some q) × (a < q.address) × ((k : ℕ) (p : Network) → keys k ≡ Some p → a < p.address → ComesBefore p q → ⊥)
+
+-- how much longer prefixes may come behind a link
+abbrev pub rest_of : Option Network → ℕ
+rest_of None = 0
+rest_of (Some p) = 33 - p.length
+
+abbrev pub rest_behind : (ℕ → Option Network) → Option ℕ → ℕ
+rest_behind keys None = 0
+rest_behind keys (Some key) = rest_of (keys key)

@@ -1,0 +1,78 @@
+//! Branches: sixteen links.
+
+ghost use Rattle.std.specs.Prelude.{◌≡◌, ℕ, ◌%◌, ◌<◌, ◌≤◌, true, if◌then◌else◌, nat_eq};
+ghost use Rattle.nibble_trie.specs.Links.{leads, target_at};
+ghost use Rattle.nibble_trie.specs.Index.{high};
+ghost use Rattle.nibble_trie.specs.declared.link.Target.TheVariants.{Nothing};
+
+use crate::link::{Link, Target};
+
+/// A link for each value of four bits.
+#[derive(Drop)]
+pub(crate) struct Branch {
+    pub(crate) links: [Link; 16],
+}
+
+// The digit of an address that so many others follow.
+pub(crate) fn digit_of(address: u32, level: u32) -> usize
+    requires { level < 8 }
+    ensures digit { result ≡ high level address % 16 }
+    ensures small { result < 16 }
+{
+    ((address >> (4 * level)) % 16) as usize
+}
+
+impl Branch {
+    // A branch with one link.
+    pub(crate) fn with_one(digit: usize, link: Link) -> Branch
+        requires { digit < 16 }
+        ensures { (i : ℕ) → i < 16 → target_at result i ≡ (if nat_eq i digit then leads link else Nothing) }
+    {
+        let mut links = [Link::nothing(); 16];
+        links[digit] = link;
+        Branch { links }
+    }
+
+    pub(crate) fn link(&self, digit: usize) -> Link
+        requires { digit < 16 }
+        ensures { leads result ≡ target_at self.now digit }
+    {
+        self.links[digit]
+    }
+
+    // Where the link at a digit leads.
+    pub(crate) fn target(&self, digit: usize) -> Target
+        requires { digit < 16 }
+        ensures { result ≡ target_at self.now digit }
+    {
+        self.links[digit].target()
+    }
+
+    pub(crate) fn set(&mut self, digit: usize, link: Link)
+        requires { digit < 16 }
+        ensures { (i : ℕ) → target_at self.new i ≡ (if nat_eq i digit then leads link else target_at self.old i) }
+    {
+        self.links[digit] = link;
+    }
+
+    // Whether no link leads anywhere.
+    pub(crate) fn is_empty(&self) -> bool
+        ensures { result ≡ true → (i : ℕ) → i < 16 → target_at self.now i ≡ Nothing }
+    {
+        self.is_empty_from(0)
+    }
+
+    // Whether no link from a digit on leads anywhere.
+    fn is_empty_from(&self, digit: usize) -> bool
+        ensures { result ≡ true → (i : ℕ) → digit ≤ i → i < 16 → target_at self.now i ≡ Nothing }
+    {
+        if digit >= 16 {
+            return true;
+        }
+        match self.target(digit) {
+            Target::Nothing => self.is_empty_from(digit + 1),
+            Target::Leaf(_) => false,
+            Target::Inner(_) => false,
+        }
+    }
+}

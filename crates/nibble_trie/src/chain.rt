@@ -1,0 +1,71 @@
+//! The leaves of one address, by length.
+
+ghost use Rattle.std.specs.Prelude.{◌≡◌, ◌≤◌, ◌<◌, ℕ, Some};
+ghost use Rattle.addr4.specs.Prefixes.{Network};
+ghost use Rattle.slab.specs.Slab.{ContainsKey};
+ghost use Rattle.nibble_trie.specs.Keys.{prefix_in, longer_in, IsNextOf, IsChained, HasNext, IsLastBelow, IsLeafOf};
+
+use crate::node::Node;
+use slab::Slab;
+
+// The first leaf of an address from a length on, under a link to the first from a lesser one.
+pub(crate) fn seek<V>(leaves: &Slab<Node<V>>, link: Option<usize>, length: u8) -> Option<usize>
+    requires chained { IsChained (prefix_in leaves.now) (longer_in leaves.now) }
+    requires next { HasNext (prefix_in leaves.now) link length }
+    ensures { (a from : ℕ) → from ≤ length → IsNextOf (prefix_in leaves.now) a from link → IsNextOf (prefix_in leaves.now) a length result }
+{
+    let key = match link {
+        None => return None,
+        Some(key) => key,
+    };
+    let node = &leaves[key];
+    if length <= node.prefix.length() {
+        return Some(key);
+    }
+    seek(leaves, node.longer.key(), length)
+}
+
+// The leaf of an address and a length, if that is what a link to the first from the length on leads to.
+pub(crate) fn exact<V>(leaves: &Slab<Node<V>>, link: Option<usize>, length: u8) -> Option<usize>
+    requires { HasNext (prefix_in leaves.now) link length }
+    ensures { (a : ℕ) → IsNextOf (prefix_in leaves.now) a length link → IsLeafOf (prefix_in leaves.now) (record { address = a; length = length }) result }
+{
+    let key = match link {
+        None => return None,
+        Some(key) => key,
+    };
+    let node = &leaves[key];
+    if node.prefix.length() == length {
+        Some(key)
+    } else {
+        None
+    }
+}
+
+// The leaf of an address and a length, under the link to the address's first.
+pub(crate) fn find<V>(leaves: &Slab<Node<V>>, link: Option<usize>, length: u8) -> Option<usize>
+    requires chained { IsChained (prefix_in leaves.now) (longer_in leaves.now) }
+    requires next { HasNext (prefix_in leaves.now) link 0 }
+    ensures { (a : ℕ) → IsNextOf (prefix_in leaves.now) a 0 link → IsLeafOf (prefix_in leaves.now) (record { address = a; length = length }) result }
+{
+    exact(leaves, seek(leaves, link, length), length)
+}
+
+// The last leaf of an address below a length: the first one given is below it.
+pub(crate) fn last_below<V>(leaves: &Slab<Node<V>>, key: usize, length: u8) -> usize
+    requires chained { IsChained (prefix_in leaves.now) (longer_in leaves.now) }
+    requires has { ContainsKey leaves.now key }
+    requires below { (p : Network) → prefix_in leaves.now key ≡ Some p → p.length < length }
+    ensures { (p : Network) → prefix_in leaves.now key ≡ Some p → IsLastBelow (prefix_in leaves.now) (longer_in leaves.now) p.address length result }
+{
+    let node = &leaves[key];
+    let next = match node.longer.key() {
+        None => return key,
+        Some(next) => next,
+    };
+    let behind = &leaves[next];
+    if length <= behind.prefix.length() {
+        return key;
+    }
+    last_below(leaves, next, length)
+}

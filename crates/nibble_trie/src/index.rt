@@ -1,0 +1,238 @@
+//! The index that leads each address to its first leaf.
+
+ghost use Rattle.std.specs.Prelude.{◌≡◌, ℕ, ◌+◌, ◌%◌, ◌<◌, ◌≤◌, ◌^◌, Option, Some, None};
+ghost use Rattle.slab.specs.Slab.{HasRoomFor, slab_len};
+ghost use Rattle.nibble_trie.specs.declared.link.Target.TheVariants.{Nothing, Leaf, Inner};
+ghost use Rattle.nibble_trie.specs.Links.{leads, IsCell};
+ghost use Rattle.nibble_trie.specs.Keys.{prefix_in, longer_in};
+ghost use Rattle.nibble_trie.specs.Index.{Layout, high, link_at, is_live, IsPlace, IsLaid, Indexes, Lies, Names, with_head, IsAlone, OnWay, IsSpotOf, HasHeads, HasWay, HasNamedWay, HasLoneWay, IsBare, Placed, IsAbove, Writes};
+
+use crate::branch::{Branch, digit_of};
+use crate::link::{Link, Target};
+use crate::node::Node;
+use slab::Slab;
+use std::alloc::Global;
+
+/// A root's link, and the branches below it.
+#[derive(Drop)]
+pub(crate) struct Index {
+    pub(crate) root: Link,
+    pub(crate) branches: Slab<Branch>,
+}
+
+/// The place of a link: the root's, or that of a branch's digit. How many digits of an address come behind it, and where
+/// the link leads.
+#[derive(Clone, Copy)]
+pub(crate) struct Spot {
+    pub(crate) at: Option<(usize, usize)>,
+    pub(crate) level: u32,
+    pub(crate) target: Target,
+}
+
+impl Index {
+    pub(crate) fn new(alloc: Global) -> Index
+        ensures { Indexes result (λ _. None) }
+    {
+        Index {
+            root: Link::nothing(),
+            branches: Slab::new(alloc),
+        }
+    }
+
+    // The root's place.
+    pub(crate) fn top(&self) -> Spot
+        ensures { result ≡ record { at = None; level = 8; target = leads self.now.root } }
+    {
+        Spot {
+            at: None,
+            level: 8,
+            target: self.root.target(),
+        }
+    }
+
+    // The place below a branch on an address's way.
+    pub(crate) fn below(&self, branch: usize, address: u32, level: u32) -> Spot
+        requires live { is_live self.now branch }
+        requires short { level < 8 }
+        ensures { result ≡ record { at = Some (branch, high level address % 16); level = level; target = link_at self.now (Some (branch, high level address % 16)) } }
+    {
+        let digit = digit_of(address, level);
+        let links = &self.branches[branch];
+        Spot {
+            at: Some((branch, digit)),
+            level,
+            target: links.target(digit),
+        }
+    }
+
+    // From a place on an address's way down to the one that leads to no branch.
+    fn walk(&self, address: u32, spot: Spot) -> Spot
+        requires { HasWay self.now address spot }
+        ensures way { (heads : ℕ → Option ℕ) (layout : Layout) → IsLaid self.now heads layout → OnWay self.now layout address spot → OnWay self.now layout address result }
+        ensures cell { IsCell result.target }
+    {
+        match spot.target {
+            Target::Nothing => spot,
+            Target::Leaf(_) => spot,
+            Target::Inner(branch) => {
+                self.walk(address, self.below(branch, address, spot.level - 1))
+            }
+        }
+    }
+
+    // The place of an address.
+    pub(crate) fn spot_of(&self, address: u32) -> Spot
+        requires { HasHeads self.now }
+        ensures way { IsSpotOf self.now address result }
+        ensures cell { IsCell result.target }
+    {
+        self.walk(address, self.top())
+    }
+
+    // The first leaf of an address, at its place.
+    pub(crate) fn head<V>(&self, leaves: &Slab<Node<V>>, spot: Spot, address: u32) -> Option<usize>
+        requires way { HasNamedWay (prefix_in leaves.now) self.now address spot }
+        requires cell { IsCell spot.target }
+        ensures { (heads : ℕ → Option ℕ) (layout : Layout) → IsLaid self.now heads layout → Names (prefix_in leaves.now) heads → OnWay self.now layout address spot → result ≡ heads address }
+    {
+        match spot.target {
+            Target::Nothing => None,
+            Target::Leaf(key) => {
+                let node = &leaves[key];
+                if node.prefix.address().number() == address {
+                    Some(key)
+                } else {
+                    None
+                }
+            }
+            Target::Inner(_) => unreachable!(),
+        }
+    }
+
+    // The link at a place.
+    fn link(&self, at: Option<(usize, usize)>) -> Link
+        requires { IsPlace (is_live self.now) at }
+        ensures { leads result ≡ link_at self.now at }
+    {
+        match at {
+            None => self.root,
+            Some((branch, digit)) => {
+                let links = &self.branches[branch];
+                links.link(digit)
+            }
+        }
+    }
+
+    fn write(&mut self, at: Option<(usize, usize)>, link: Link)
+        requires { IsPlace (is_live self.old) at }
+        ensures writes { Writes (is_live self.old) (is_live self.new) (link_at self.old) (link_at self.new) at (leads link) }
+        ensures len { slab_len self.new.branches ≡ slab_len self.old.branches }
+        ensures capacity { self.new.branches.capacity ≡ self.old.branches.capacity }
+    {
+        match at {
+            None => self.root = link,
+            Some((branch, digit)) => self.branches[branch].set(digit, link),
+        }
+    }
+
+    // Makes a leaf the first of an address, at its place, where no other address has one.
+    pub(crate) fn point(&mut self, spot: Spot, address: u32, key: usize)
+        requires way { HasLoneWay self.old address spot }
+        requires cell { IsCell spot.target }
+        requires small { key + 1 < 2 ^ 31 }
+        ensures { (heads : ℕ → Option ℕ) (layout : Layout) → IsLaid self.old heads layout → OnWay self.old layout address spot → IsAlone heads layout spot.at address → Indexes self.new (with_head heads address (Some key)) }
+    {
+        self.write(spot.at, Link::leaf(key));
+    }
+
+    // Makes a leaf the first of an address, at its place.
+    pub(crate) fn put<V>(&mut self, leaves: &Slab<Node<V>>, spot: Spot, address: u32, key: usize)
+        requires way { HasNamedWay (prefix_in leaves.now) self.old address spot }
+        requires cell { IsCell spot.target }
+        requires small { key + 1 < 2 ^ 31 }
+        requires room { HasRoomFor self.old.branches spot.level }
+        requires capacity { self.old.branches.capacity ≤ 2 ^ 31 }
+        ensures { (heads : ℕ → Option ℕ) (layout : Layout) → IsLaid self.old heads layout → Names (prefix_in leaves.now) heads → OnWay self.old layout address spot → Indexes self.new (with_head heads address (Some key)) }
+    {
+        match spot.target {
+            Target::Nothing => self.point(spot, address, key),
+            Target::Leaf(other) => {
+                let node = &leaves[other];
+                let standing = node.prefix.address().number();
+                if standing == address {
+                    return self.point(spot, address, key);
+                }
+                let below = self.split(spot, standing, address);
+                self.put(leaves, below, address, key);
+            }
+            Target::Inner(_) => unreachable!(),
+        }
+    }
+
+    // Puts a branch between a place and its leaf, which stands for one address, on the way of another one.
+    fn split(&mut self, spot: Spot, standing: u32, address: u32) -> Spot
+        requires way { HasWay self.old address spot }
+        requires deep { 0 < spot.level }
+        requires room { HasRoomFor self.old.branches spot.level }
+        requires capacity { self.old.branches.capacity ≤ 2 ^ 31 }
+        ensures placed { (heads : ℕ → Option ℕ) (layout : Layout) (other : ℕ) → IsLaid self.old heads layout → OnWay self.old layout address spot → spot.target ≡ Leaf other → heads standing ≡ Some other → Lies layout spot.at standing → Placed self.new heads address result }
+        ensures cell { (other : ℕ) → spot.target ≡ Leaf other → IsCell result.target }
+        ensures level { result.level + 1 ≡ spot.level }
+        ensures room { HasRoomFor self.new.branches result.level }
+        ensures capacity { self.new.branches.capacity ≡ self.old.branches.capacity }
+    {
+        let level = spot.level - 1;
+        let link = self.link(spot.at);
+        let links = Branch::with_one(digit_of(standing, level), link);
+        let branch = self.branches.insert_reserved(links);
+        self.write(spot.at, Link::inner(branch));
+        self.below(branch, address, level)
+    }
+
+    // The place that leads to a branch on an address's way, from one above it on.
+    fn above(&self, branch: usize, address: u32, spot: Spot) -> Spot
+        requires { IsAbove self.now address branch spot }
+        ensures way { (heads : ℕ → Option ℕ) (layout : Layout) → IsLaid self.now heads layout → OnWay self.now layout address spot → OnWay self.now layout address result }
+        ensures target { result.target ≡ Inner branch }
+    {
+        match spot.target {
+            Target::Inner(key) => {
+                if key == branch {
+                    return spot;
+                }
+                self.above(branch, address, self.below(key, address, spot.level - 1))
+            }
+            Target::Nothing => unreachable!(),
+            Target::Leaf(_) => unreachable!(),
+        }
+    }
+
+    // Takes away the branch of a bare link, if it has no other, and those above that are left without.
+    fn prune(&mut self, at: Option<(usize, usize)>, address: u32)
+        requires { IsBare self.old address at }
+        ensures { (heads : ℕ → Option ℕ) → Indexes self.old heads → Indexes self.new heads }
+    {
+        let branch = match at {
+            None => return,
+            Some(at) => at.0,
+        };
+        let links = &self.branches[branch];
+        if !links.is_empty() {
+            return;
+        }
+        let above = self.above(branch, address, self.top());
+        self.branches.remove(branch);
+        self.write(above.at, Link::nothing());
+        self.prune(above.at, address);
+    }
+
+    // Makes an address one without a leaf, at its place, where no other has one.
+    pub(crate) fn clear(&mut self, spot: Spot, address: u32)
+        requires way { HasLoneWay self.old address spot }
+        requires cell { IsCell spot.target }
+        ensures { (heads : ℕ → Option ℕ) (layout : Layout) → IsLaid self.old heads layout → OnWay self.old layout address spot → IsAlone heads layout spot.at address → Indexes self.new (with_head heads address None) }
+    {
+        self.write(spot.at, Link::nothing());
+        self.prune(spot.at, address);
+    }
+}

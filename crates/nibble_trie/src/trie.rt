@@ -1,0 +1,130 @@
+//! Tries.
+
+ghost use Rattle.std.specs.Prelude.{◌≡◌, IsOk, OnOk, OnErr, IfOk, IfErr, IfSome, option_map, Some};
+ghost use Rattle.std.specs.Option.{option_copied, option_copied_mut};
+ghost use Rattle.std.specs.FinMap as map;
+ghost use Rattle.std.specs.Borrow.{sem};
+ghost use Rattle.addr4.specs.Places.{IsNextRow, key_of};
+ghost use Rattle.nibble_trie.specs.Contents.{HasKey};
+
+use crate::index::Index;
+use crate::node::Node;
+use crate::{reading, writing};
+use addr4::{Place, Prefix};
+use slab::Slab;
+use std::alloc::Global;
+use std::marker::Model;
+
+/// A map from prefixes to values. Contracts see its rows, a finite map.
+#[derive(Drop)]
+pub struct Trie<V> {
+    leaves: Slab<Node<V>>,
+    index: Index,
+}
+
+impl<V> Model for Trie<V> {
+    ghost use Rattle.nibble_trie.specs.Contents.{Contents, contents_code};
+
+    ghost Value = { Contents V };
+
+    ghost coded = { contents_code V.code };
+
+    ghost use Rattle.nibble_trie.specs.View.{rows_of, IsWhole};
+
+    ghost view = { λ t. record { rows = rows_of t.leaves } };
+
+    ghost invariant = { λ t. IsWhole t.leaves t.index };
+}
+
+impl<V> Trie<V> {
+    ghost use Rattle.nibble_trie.specs.Lent.{lends_value, lends_get};
+    ghost use Rattle.nibble_trie.specs.Nodes.{HasNodes};
+
+    /// An empty map. Takes no memory.
+    pub fn new(alloc: Global) -> Self
+        ensures { result.rows ≡ map.empty }
+    {
+        Trie {
+            leaves: Slab::new(alloc),
+            index: Index::new(alloc),
+        }
+    }
+
+    /// Puts a value at a prefix, and answers the one that stood there. For want of memory the value is handed back and the
+    /// rows stay; so they do where there are 2^31 keys.
+    pub fn insert(&mut self, prefix: Prefix, value: V) -> Result<Option<V>, V>
+        ensures before { IfOk result (λ before. before ≡ map.get self.old.rows prefix) }
+        ensures ok { OnOk result (self.new.rows ≡ map.insert self.old.rows prefix value) }
+        ensures value_returned { IfErr result (λ back. back ≡ value) }
+        ensures err { OnErr result (self.new.rows ≡ self.old.rows) }
+    {
+        if !writing::make_room(&mut self.leaves, &mut self.index.branches) {
+            return Err(value);
+        }
+        let before = writing::put(&mut self.leaves, &mut self.index, prefix, value);
+        Ok(before)
+    }
+
+    /// Takes out what stands at a prefix. Takes no memory, as all calls below.
+    pub fn remove(&mut self, prefix: Prefix) -> Option<V>
+        ensures before { result ≡ map.get self.old.rows prefix }
+        ensures rows { self.new.rows ≡ map.remove self.old.rows prefix }
+    {
+        writing::remove(&mut self.leaves, &mut self.index, prefix)
+    }
+
+    /// Lends the value at a key, to be changed in place.
+    pub fn value_mut(&mut self, prefix: Prefix) -> &mut V
+        requires { HasKey self.old.rows prefix }
+        ensures* writes_back { sem 𝓛 (lends_value V.row self.entry prefix result) }
+        ensures value { map.get self.old.rows prefix ≡ Some result.now }
+    {
+        let key = reading::find(&self.index, &self.leaves, prefix).unwrap();
+        &mut self.leaves[key].value
+    }
+
+    /// Lends what stands at a prefix, if anything, to be changed in place.
+    pub fn get_mut(&mut self, prefix: Prefix) -> Option<&mut V>
+        ensures* writes_back { sem 𝓛 (lends_get V.row self.entry prefix result) }
+        ensures value { option_copied_mut result ≡ map.get self.old.rows prefix }
+    {
+        match reading::find(&self.index, &self.leaves, prefix) {
+            None => None,
+            Some(key) => Some(self.leaves[key].value_mut()),
+        }
+    }
+
+    /// What stands at a prefix.
+    pub fn get(&self, prefix: Prefix) -> Option<&V>
+        ensures { option_copied result ≡ map.get self.now.rows prefix }
+    {
+        match reading::find(&self.index, &self.leaves, prefix) {
+            None => None,
+            Some(key) => {
+                let node = &self.leaves[key];
+                Some(&node.value)
+            }
+        }
+    }
+
+    /// The leaves: one for each key.
+    pub fn nodes(&self) -> &Slab<Node<V>>
+        ensures { HasNodes result.now self.now.rows }
+    {
+        &self.leaves
+    }
+
+    /// The first row beyond a place, by address and then length.
+    pub fn next_row(&self, after: Place) -> Option<(Prefix, &V)>
+        ensures prefix { IsNextRow (map.get self.now.rows) (key_of after) (option_map (λ row. row.0) result) }
+        ensures value { IfSome result (λ row. map.get self.now.rows row.0 ≡ Some row.1.now) }
+    {
+        match reading::next_leaf(&self.index, &self.leaves, after) {
+            None => None,
+            Some(key) => {
+                let node = &self.leaves[key];
+                Some((node.prefix, &node.value))
+            }
+        }
+    }
+}

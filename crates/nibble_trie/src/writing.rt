@@ -1,0 +1,269 @@
+//! The calls that change a trie.
+
+ghost use Rattle.std.specs.Prelude.{◌≡◌, ℕ, ◌+◌, ◌<◌, ◌≤◌, ◌^◌, Option, Some, None, true};
+ghost use Rattle.std.specs.FinMap as map;
+ghost use Rattle.slab.specs.Slab.{get, Slab, ContainsKey, Updates, HasRoomFor};
+ghost use Rattle.addr4.specs.Prefixes.{Network};
+ghost use Rattle.nibble_trie.specs.declared.node.Node.{Node};
+ghost use Rattle.nibble_trie.specs.Links.{IsCell};
+ghost use Rattle.nibble_trie.specs.Keys.{prefix_in, longer_in, IsNextOf, IsChained, IsLastBelow, IsSmall, IsHeadOf};
+ghost use Rattle.nibble_trie.specs.Index.{Layout, IsLaid, Indexes, with_head, IsAlone, OnWay, IsSpotOf, HasLoneWay};
+ghost use Rattle.nibble_trie.specs.View.{rows_of, IsWhole, Joins};
+
+use crate::branch::Branch;
+use crate::chain;
+use crate::index::{Index, Spot};
+use crate::link::Link;
+use crate::node::Node;
+use addr4::Prefix;
+use slab::Slab;
+use std::mem;
+
+// Room for one leaf more, and for the branches above it; the keys of both fit a link.
+pub(crate) fn make_room<V>(leaves: &mut Slab<Node<V>>, branches: &mut Slab<Branch>) -> bool
+    ensures leaves { leaves.new ≡ record leaves.old { capacity = leaves.new.capacity } }
+    ensures branches { branches.new ≡ record branches.old { capacity = branches.new.capacity } }
+    ensures room { result ≡ true → HasRoomFor leaves.new 1 }
+    ensures small { result ≡ true → leaves.new.capacity < 2 ^ 31 }
+    ensures branch_room { result ≡ true → HasRoomFor branches.new 8 }
+    ensures branch_small { result ≡ true → branches.new.capacity ≤ 2 ^ 31 }
+{
+    if leaves.reserve(1).is_err() {
+        return false;
+    }
+    if branches.reserve(8).is_err() {
+        return false;
+    }
+    leaves.capacity() < 2147483648 && branches.capacity() <= 2147483648
+}
+
+// Puts another value in the place of one.
+fn replace<V>(leaves: &mut Slab<Node<V>>, key: usize, value: V) -> V
+    requires { ContainsKey leaves.old key }
+    ensures before { (n : Node V) → get leaves.old key ≡ Some n → result ≡ n.value }
+    ensures updates { (n : Node V) → get leaves.old key ≡ Some n → Updates leaves.old leaves.new key (Some (record n { value = value })) }
+{
+    mem::replace(&mut leaves[key].value, value)
+}
+
+// Makes a leaf the one behind another.
+fn set_longer<V>(leaves: &mut Slab<Node<V>>, key: usize, link: Link)
+    requires { ContainsKey leaves.old key }
+    ensures { (n : Node V) → get leaves.old key ≡ Some n → Updates leaves.old leaves.new key (Some (record n { longer = link })) }
+{
+    leaves[key].longer = link;
+}
+
+// Takes a leaf out, and answers its value.
+fn take<V>(leaves: &mut Slab<Node<V>>, key: usize) -> V
+    requires { ContainsKey leaves.old key }
+    ensures before { (n : Node V) → get leaves.old key ≡ Some n → result ≡ n.value }
+    ensures updates { Updates leaves.old leaves.new key None }
+{
+    let Node {
+        prefix: _,
+        longer: _,
+        value,
+    } = leaves.remove(key);
+    value
+}
+
+// A new leaf before the first of its address, if there is one.
+fn add_first<V>(
+    leaves: &mut Slab<Node<V>>,
+    index: &mut Index,
+    spot: Spot,
+    head: Option<usize>,
+    prefix: Prefix,
+    value: V,
+)
+    requires whole { IsWhole leaves.old index.old }
+    requires room { HasRoomFor leaves.old 1 }
+    requires small { leaves.old.capacity < 2 ^ 31 }
+    requires branch_room { HasRoomFor index.old.branches spot.level }
+    requires branch_small { index.old.branches.capacity ≤ 2 ^ 31 }
+    requires way { IsSpotOf index.old prefix.address spot }
+    requires cell { IsCell spot.target }
+    requires head { IsHeadOf (prefix_in leaves.old) prefix head }
+    requires absent { (k : ℕ) → prefix_in leaves.old k ≡ Some prefix → ⊥ }
+    ensures whole { IsWhole leaves.new index.new }
+    ensures rows { rows_of leaves.new ≡ map.insert (rows_of leaves.old) prefix value }
+{
+    prefix.known();
+    let _capacity = leaves.capacity();
+    let key = leaves.insert_reserved(Node {
+        prefix,
+        longer: Link::to(head),
+        value,
+    });
+    index.put(leaves, spot, prefix.address().number(), key);
+}
+
+// A new leaf behind the last one below it.
+fn add_behind<V>(leaves: &mut Slab<Node<V>>, before: usize, prefix: Prefix, value: V)
+    requires room { HasRoomFor leaves.old 1 }
+    requires small { leaves.old.capacity < 2 ^ 31 }
+    requires chained { IsChained (prefix_in leaves.old) (longer_in leaves.old) }
+    requires last { IsLastBelow (prefix_in leaves.old) (longer_in leaves.old) prefix.address prefix.length before }
+    requires absent { (k : ℕ) → prefix_in leaves.old k ≡ Some prefix → ⊥ }
+    ensures { Joins leaves.old leaves.new prefix (Some value) }
+{
+    let node = &leaves[before];
+    let longer = node.longer;
+    let key = leaves.insert_reserved(Node {
+        prefix,
+        longer,
+        value,
+    });
+    set_longer(leaves, before, Link::leaf(key));
+}
+
+// Puts a value at a prefix whose address has a shorter one, and answers the one that stood there.
+fn put_behind<V>(leaves: &mut Slab<Node<V>>, first: usize, prefix: Prefix, value: V) -> Option<V>
+    requires room { HasRoomFor leaves.old 1 }
+    requires small { leaves.old.capacity < 2 ^ 31 }
+    requires chained { IsChained (prefix_in leaves.old) (longer_in leaves.old) }
+    requires has { ContainsKey leaves.old first }
+    requires below { (p : Network) → prefix_in leaves.old first ≡ Some p → (p.address ≡ prefix.address) × (p.length < prefix.length) }
+    ensures joins { Joins leaves.old leaves.new prefix (Some value) }
+    ensures before { result ≡ map.get (rows_of leaves.old) prefix }
+{
+    let before = chain::last_below(leaves, first, prefix.length());
+    let node = &leaves[before];
+    match chain::exact(leaves, node.longer.key(), prefix.length()) {
+        Some(key) => Some(replace(leaves, key, value)),
+        None => {
+            add_behind(leaves, before, prefix, value);
+            None
+        }
+    }
+}
+
+// Puts a value at a prefix, and answers the one that stood there.
+pub(crate) fn put<V>(
+    leaves: &mut Slab<Node<V>>,
+    index: &mut Index,
+    prefix: Prefix,
+    value: V,
+) -> Option<V>
+    requires whole { IsWhole leaves.old index.old }
+    requires room { HasRoomFor leaves.old 1 }
+    requires small { leaves.old.capacity < 2 ^ 31 }
+    requires branch_room { HasRoomFor index.old.branches 8 }
+    requires branch_small { index.old.branches.capacity ≤ 2 ^ 31 }
+    ensures whole { IsWhole leaves.new index.new }
+    ensures before { result ≡ map.get (rows_of leaves.old) prefix }
+    ensures rows { rows_of leaves.new ≡ map.insert (rows_of leaves.old) prefix value }
+{
+    prefix.known();
+    let address = prefix.address().number();
+    let spot = index.spot_of(address);
+    let head = index.head(leaves, spot, address);
+    let first = match head {
+        None => {
+            add_first(leaves, index, spot, head, prefix, value);
+            return None;
+        }
+        Some(first) => first,
+    };
+    let node = &leaves[first];
+    let length = node.prefix.length();
+    if length < prefix.length() {
+        return put_behind(leaves, first, prefix, value);
+    }
+    if length == prefix.length() {
+        return Some(replace(leaves, first, value));
+    }
+    add_first(leaves, index, spot, head, prefix, value);
+    None
+}
+
+// The leaf behind the first one of an address becomes the first.
+fn drop_head<V>(leaves: &Slab<Node<V>>, index: &mut Index, spot: Spot, address: u32, first: usize)
+    requires way { HasLoneWay index.old address spot }
+    requires cell { IsCell spot.target }
+    requires has { ContainsKey leaves.now first }
+    ensures { (heads : ℕ → Option ℕ) (layout : Layout) → IsLaid index.old heads layout → OnWay index.old layout address spot → IsAlone heads layout spot.at address → Indexes index.new (with_head heads address (longer_in leaves.now first)) }
+{
+    let node = &leaves[first];
+    match node.longer.key() {
+        None => index.clear(spot, address),
+        Some(next) => index.point(spot, address, next),
+    }
+}
+
+// Takes the first leaf of an address out, and answers its value.
+fn take_first<V>(
+    leaves: &mut Slab<Node<V>>,
+    index: &mut Index,
+    spot: Spot,
+    address: u32,
+    first: usize,
+) -> V
+    requires whole { IsWhole leaves.old index.old }
+    requires way { IsSpotOf index.old address spot }
+    requires cell { IsCell spot.target }
+    requires head { IsNextOf (prefix_in leaves.old) address 0 (Some first) }
+    ensures whole { IsWhole leaves.new index.new }
+    ensures before { (p : Network) → prefix_in leaves.old first ≡ Some p → Some result ≡ map.get (rows_of leaves.old) p }
+    ensures rows { (p : Network) → prefix_in leaves.old first ≡ Some p → rows_of leaves.new ≡ map.remove (rows_of leaves.old) p }
+{
+    drop_head(leaves, index, spot, address, first);
+    take(leaves, first)
+}
+
+// Takes a leaf out that stands behind another one, and answers its value.
+fn unlink<V>(leaves: &mut Slab<Node<V>>, before: usize, key: usize, prefix: Prefix) -> V
+    requires chained { IsChained (prefix_in leaves.old) (longer_in leaves.old) }
+    requires last { IsLastBelow (prefix_in leaves.old) (longer_in leaves.old) prefix.address prefix.length before }
+    requires behind { longer_in leaves.old before ≡ Some key }
+    requires found { prefix_in leaves.old key ≡ Some prefix }
+    ensures joins { Joins leaves.old leaves.new prefix None }
+    ensures before { Some result ≡ map.get (rows_of leaves.old) prefix }
+{
+    let node = &leaves[key];
+    let longer = node.longer;
+    set_longer(leaves, before, longer);
+    take(leaves, key)
+}
+
+// Takes out what stands at a prefix whose address has a shorter one.
+fn take_behind<V>(leaves: &mut Slab<Node<V>>, first: usize, prefix: Prefix) -> Option<V>
+    requires chained { IsChained (prefix_in leaves.old) (longer_in leaves.old) }
+    requires has { ContainsKey leaves.old first }
+    requires below { (p : Network) → prefix_in leaves.old first ≡ Some p → (p.address ≡ prefix.address) × (p.length < prefix.length) }
+    ensures joins { Joins leaves.old leaves.new prefix None }
+    ensures before { result ≡ map.get (rows_of leaves.old) prefix }
+{
+    let before = chain::last_below(leaves, first, prefix.length());
+    let node = &leaves[before];
+    match chain::exact(leaves, node.longer.key(), prefix.length()) {
+        Some(key) => Some(unlink(leaves, before, key, prefix)),
+        None => None,
+    }
+}
+
+// Takes out what stands at a prefix.
+pub(crate) fn remove<V>(leaves: &mut Slab<Node<V>>, index: &mut Index, prefix: Prefix) -> Option<V>
+    requires { IsWhole leaves.old index.old }
+    ensures whole { IsWhole leaves.new index.new }
+    ensures before { result ≡ map.get (rows_of leaves.old) prefix }
+    ensures rows { rows_of leaves.new ≡ map.remove (rows_of leaves.old) prefix }
+{
+    prefix.known();
+    let address = prefix.address().number();
+    let spot = index.spot_of(address);
+    let first = match index.head(leaves, spot, address) {
+        None => return None,
+        Some(first) => first,
+    };
+    let node = &leaves[first];
+    let length = node.prefix.length();
+    if length < prefix.length() {
+        return take_behind(leaves, first, prefix);
+    }
+    if length == prefix.length() {
+        return Some(take_first(leaves, index, spot, address, first));
+    }
+    None
+}
