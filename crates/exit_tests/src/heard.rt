@@ -1,6 +1,6 @@
 //! What the stories hear: messages in digits, and the routes that they announce.
 
-ghost use Rattle.std.specs.Prelude.{◌≡◌, IfOk, Bool};
+ghost use Rattle.std.specs.Prelude.{◌≡◌, IfOk, Bool, false};
 ghost use Rattle.std.specs.Option.{ForSome};
 ghost use Rattle.peer_out.specs.Changes.{IsSender, MayBeHeard};
 
