@@ -5,9 +5,7 @@ ghost use Rattle.peer_out.specs.Changes.{IsSender, MayBeHeard};
 
 use crate::{Measured, prefix_at};
 use addr4::{Addr, Memory};
-use bgp_attr::{
-    AsPath, Attrs, Origin, Profile, Route, SharedAttrs, Speaker, UnrecognizedAttrs,
-};
+use bgp_attr::{AsPath, Attrs, Origin, Profile, Route, SharedAttrs, Speaker, UnrecognizedAttrs};
 use link_change::Change;
 use peer_out::{PeerOut, local_routes_may_be_heard};
 use std::alloc::Global;

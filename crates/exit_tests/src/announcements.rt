@@ -213,7 +213,10 @@ fn lengths(alloc: Global) -> Result<[u128; 2], Memory> {
         revised: false,
     };
     let at = prefix(0x0a01_0000, 16);
-    Ok([announcement_length(PLAIN, at, &attrs), announcement_length(wide, at, &attrs)])
+    Ok([
+        announcement_length(PLAIN, at, &attrs),
+        announcement_length(wide, at, &attrs),
+    ])
 }
 
 #[test]

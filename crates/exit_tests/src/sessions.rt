@@ -201,14 +201,7 @@ fn goes_on(
 {
     a_session_stands();
     early.stop(queue, journal)?;
-    run(
-        alloc,
-        "work 9\nshow adv.2.1",
-        late,
-        queue,
-        best,
-        journal,
-    )
+    run(alloc, "work 9\nshow adv.2.1", late, queue, best, journal)
 }
 
 /// Two sessions, of which the one begins before the route comes and the other afterwards.

@@ -40,7 +40,11 @@ fn attrs(alloc: Global) -> Result<Attrs, Memory> {
 /// How many hops a path has, whether it has a number of the set and one that isn't there, and its first number.
 fn told(alloc: Global) -> Result<(u128, [bool; 2], Option<u32>), Memory> {
     let path = aggregated_path(alloc)?;
-    Ok((path.hops(), [path.has(65004), path.has(65000)], path.first()))
+    Ok((
+        path.hops(),
+        [path.has(65004), path.has(65000)],
+        path.first(),
+    ))
 }
 
 #[test]
@@ -55,7 +59,11 @@ fn shape(path: &AsPath, front: &[u32]) -> Option<(bool, usize, usize)> {
         return None;
     };
     let is_front = first.numbers.as_slice() == front;
-    Some((is_front, path.as_slice().len(), last.numbers.as_slice().len()))
+    Some((
+        is_front,
+        path.as_slice().len(),
+        last.numbers.as_slice().len(),
+    ))
 }
 
 /// The same of a path of 254 numbers with two more in front, and its first number.
@@ -106,7 +114,10 @@ fn is_same(alloc: Global, attrs: Attrs) -> Result<(bool, usize), Memory> {
         from: None,
     };
     let copy = route.copy()?;
-    Ok((copy.same(&route), copy.attrs.attrs().unrecognized.as_slice().len()))
+    Ok((
+        copy.same(&route),
+        copy.attrs.attrs().unrecognized.as_slice().len(),
+    ))
 }
 
 #[test]

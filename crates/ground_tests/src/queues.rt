@@ -114,11 +114,7 @@ fn a_reader_has_what_stood_before_its_changes(rt: HostRuntime) -> Result<(), Fai
 /// slow one has left; and the next candidates: of the slow one before all, beyond each prefix, and of the fast one.
 type Needed = (bool, [usize; 2], [Option<Prefix>; 4]);
 
-fn needed(
-    queue: &mut Queue<External>,
-    best: &OneRow,
-    second: Prefix,
-) -> Result<Needed, Memory> {
+fn needed(queue: &mut Queue<External>, best: &OneRow, second: Prefix) -> Result<Needed, Memory> {
     let mut fast = queue.join_reader()?;
     let slow = queue.join_reader()?;
     queue.put(Change {

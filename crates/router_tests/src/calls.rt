@@ -72,7 +72,11 @@ fn run(
     sink: &mut NotedSink,
 ) -> Result<(Vec<Call>, Status), Fail> {
     let status = replay(alloc, words, source, sink);
-    let calls = sink.record.try_replace(Vec::new(alloc)).ok().ok_or("in use")?;
+    let calls = sink
+        .record
+        .try_replace(Vec::new(alloc))
+        .ok()
+        .ok_or("in use")?;
     Ok((calls, status))
 }
 

@@ -149,7 +149,9 @@ fn heard(
         sent = sent.then(becomes(alloc, all, prefix, number, Some(row))?);
     }
     let best = number_of(&asked(alloc, all, &prefix)?);
-    sent = sent.answered(best).then(becomes(alloc, all, prefix, 3, None)?);
+    sent = sent
+        .answered(best)
+        .then(becomes(alloc, all, prefix, 3, None)?);
     let left = number_of(&asked(alloc, all, &prefix)?);
     Ok([best, left, sent.answered(left).broken])
 }

@@ -102,11 +102,7 @@ fn redistributed(
     Ok([silent, nothing, sent, latest, there, ended, gone, over])
 }
 
-fn redistributed_anew(
-    alloc: Global,
-    prefix: Prefix,
-    iface: Iface,
-) -> Result<[bool; 8], Memory> {
+fn redistributed_anew(alloc: Global, prefix: Prefix, iface: Iface) -> Result<[bool; 8], Memory> {
     let row = interior(Proto::Static, iface, 5);
     let mut above = Cache::new(alloc);
     let mut stage = Redist::new(alloc);
