@@ -66,6 +66,14 @@ def work_of_messages(files, sizes, runs):
         yield 'messages', size, measure.median(files['table', size], [program('bench_messages')], runs)
 
 
+def work_of_exits(sizes, runs):
+    """Changes through the queue to 64 readers, and the messages of announcements."""
+    with open(os.devnull, 'rb') as nothing:
+        for kind in ('queue', 'octets'):
+            for size in sizes:
+                yield kind, size, measure.median(nothing, [program('bench_exits'), kind, str(size)], runs)
+
+
 def work_of_tables(sizes, runs):
     """Each step of the tables: the difference of two runs, the second of which does one step more."""
     with open(os.devnull, 'rb') as nothing:
@@ -139,7 +147,8 @@ def collect(asked, sizes, folder):
     kinds = [('replay_main', work_of_the_program(files, sizes, asked.runs)),
              ('replay_main', work_of_check(files, sizes, asked.runs, folder)),
              ('bench_messages', work_of_messages(files, sizes, asked.runs)),
-             ('bench_tables', work_of_tables(sizes, asked.runs))]
+             ('bench_tables', work_of_tables(sizes, asked.runs)),
+             ('bench_exits', work_of_exits(sizes, asked.runs))]
     rows = {}
     for name, work in kinds:
         if not os.path.exists(program(name)):

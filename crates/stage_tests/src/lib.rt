@@ -1,5 +1,5 @@
-//! Stories of stages: a chain of live rows and deletion stages, next hops, the decision, outgoing filters, what a peer is sent,
-//! redistribution and the splitter, each public call on its happy path.
+//! Stories of stages: a chain of live rows and deletion stages, next hops, the decision, outgoing filters, redistribution and the
+//! splitter, each public call on its happy path.
 //!
 //! The crates that these tests are of have none of their own: a crate with tests is proved once more with them.
 #![tactic(auto)]
@@ -8,8 +8,6 @@
 mod chains;
 #[cfg(test)]
 mod decisions;
-#[cfg(test)]
-mod exits;
 #[cfg(test)]
 mod hops;
 #[cfg(test)]

@@ -1,7 +1,7 @@
 use Rattle.std.proofs.Common.{◌≡◌, false, subst, sym, ◌∙◌}
 use Rattle.bgp_attr.specs.declared.speaker.Profile.{Profile}
 use Rattle.peer_out.specs.Changes.{IsSentOf}
-use Rattle.stage_tests.proofs.exits.told.Goals as goal
+use Rattle.exit_tests.proofs.announcements.told.Goals as goal
 
 pub message-requires : goal.message-requires
 message-requires c x same =

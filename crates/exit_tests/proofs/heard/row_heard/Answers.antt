@@ -1,8 +1,8 @@
 use Rattle.std.proofs.Common.{◌≡◌, subst, sym, ◌∙◌}
 use Rattle.bgp_attr.specs.declared.route.Route.{Route}
 use Rattle.peer_out.specs.Changes.{MayBeHeard}
-use Rattle.stage_tests.specs.declared.exits.TheConstants.{PLAIN}
-use Rattle.stage_tests.proofs.exits.row_heard.Goals as goal
+use Rattle.exit_tests.specs.declared.heard.TheConstants.{PLAIN}
+use Rattle.exit_tests.proofs.heard.row_heard.Goals as goal
 
 pub returns-in-Some : goal.returns-in-Some
 returns-in-Some c x same =
