@@ -1,51 +1,40 @@
 //! What a map holds after changes, and which of two candidates is the nearer.
 
 use crate::prefixes::prefix;
-use addr4::{Addr, Memory, Prefix};
+use addr4::{Addr, Prefix};
 use link_change::{Change, Turn, apply, copy_row, nearer};
 use rib_route::External;
-use std::alloc::Global;
 use std::collections::BTreeMap;
 use std::test::Fail;
 
-/// What the map holds at a prefix after a change there.
-fn applied(
-    map: &mut BTreeMap<Prefix, u32>,
-    prefix: Prefix,
-    before: Option<u32>,
-    after: Option<u32>,
-) -> Result<Option<u32>, Memory> {
-    let change = Change {
-        prefix,
-        before,
-        after,
-    };
-    apply(map, change)?;
-    Ok(map.get(&prefix).copied())
-}
-
-/// What the map holds at a prefix after an add, a replace and a delete, and at another prefix in the end.
-fn held(
-    map: &mut BTreeMap<Prefix, u32>,
-    prefix: Prefix,
-    other: Prefix,
-) -> Result<[Option<u32>; 4], Memory> {
-    map.insert(other, 7)?;
-    let added = applied(map, prefix, None, Some(1))?;
-    let replaced = applied(map, prefix, Some(1), Some(2))?;
-    let deleted = applied(map, prefix, Some(2), None)?;
-    Ok([added, replaced, deleted, map.get(&other).copied()])
-}
-
-fn held_in_new(alloc: Global, prefix: Prefix, other: Prefix) -> Result<[Option<u32>; 4], Memory> {
-    let mut map = BTreeMap::new(alloc);
-    held(&mut map, prefix, other)
-}
-
 #[test]
 fn changes_add_replace_and_delete(rt: HostRuntime) -> Result<(), Fail> {
-    let held = held_in_new(rt.alloc(), prefix("10.1.0.0/16")?, prefix("10.0.0.0/8")?)?;
-    assert!(rt; held == [Some(1), Some(2), None, Some(7)]);
+    let p = prefix("10.1.0.0/16")?;
+    let other = prefix("10.0.0.0/8")?;
+    let mut map = BTreeMap::new(rt.alloc());
+    map.insert(other, 7)?;
+    let add = Change {
+        prefix: p,
+        before: None,
+        after: Some(1),
+    };
+    apply(&mut map, add)?;
+    assert_eq!(rt; map.get(&p).copied(), Some(1));
+    let replace = Change {
+        prefix: p,
+        before: Some(1),
+        after: Some(2),
+    };
+    apply(&mut map, replace)?;
+    assert_eq!(rt; map.get(&p).copied(), Some(2));
+    let delete = Change {
+        prefix: p,
+        before: Some(2),
+        after: None,
+    };
+    apply(&mut map, delete)?;
+    assert_eq!(rt; map.get(&p).copied(), None);
+    assert_eq!(rt; map.get(&other).copied(), Some(7));
     Ok(())
 }
 

@@ -178,7 +178,7 @@ fn is_one_below_one<R: Valued>(stage: &Stage<R>) -> bool {
 fn live_on<R: Valued>(
     chain: &mut LossChain<R>,
     owner: Owner,
-    rows: &[R; 3],
+    rows: [R; 3],
     journal: &mut Journal,
 ) -> Result<(), Fail>
     requires { chain.old ≡ no_tables }
@@ -187,10 +187,10 @@ fn live_on<R: Valued>(
     let first = prefix(0x0a01_0000, 16);
     let second = prefix(0x0a02_0000, 16);
     let lowest = owner.lowest();
-    feed(chain, owner, first, Some(one.copy()?), journal)?;
-    feed(chain, owner, second, Some(two.copy()?), journal)?;
+    feed(chain, owner, first, Some(one), journal)?;
+    feed(chain, owner, second, Some(two), journal)?;
     lose(chain, owner, journal)?;
-    feed(chain, owner, first, Some(three.copy()?), journal)?;
+    feed(chain, owner, first, Some(three), journal)?;
     if !is_one_below_one(chain.lowest()) {
         return Err(Fail::from("other stages stand"));
     }
@@ -209,7 +209,7 @@ fn text_of<R: Valued>(
     alloc: Global,
     chain: &mut LossChain<R>,
     owner: Owner,
-    rows: &[R; 3],
+    rows: [R; 3],
     journal: &mut Journal,
 ) -> Result<Vec<u8>, Fail>
     requires { chain.old ≡ no_tables }
@@ -219,7 +219,7 @@ fn text_of<R: Valued>(
     Ok(Vec::from_slice(alloc, journal.text())?)
 }
 
-fn story<R: Valued>(alloc: Global, owner: Owner, rows: &[R; 3]) -> Result<Vec<u8>, Fail> {
+fn story<R: Valued>(alloc: Global, owner: Owner, rows: [R; 3]) -> Result<Vec<u8>, Fail> {
     let mut chain = LossChain::new(alloc);
     let mut journal = Journal::new(alloc, false);
     text_of(alloc, &mut chain, owner, rows, &mut journal)
@@ -231,7 +231,7 @@ fn a_peers_chain_loses_and_is_welded(rt: HostRuntime) -> Result<(), Fail> {
     let old = attrs(alloc, Origin::Igp)?;
     let other = attrs(alloc, Origin::Igp)?;
     let new = attrs(alloc, Origin::Egp)?;
-    let text = story(alloc, Owner::Peer(1), &[old, other, new])?;
+    let text = story(alloc, Owner::Peer(1), [old, other, new])?;
     assert!(rt; text.as_slice() == PEERS.as_bytes());
     Ok(())
 }
@@ -239,7 +239,7 @@ fn a_peers_chain_loses_and_is_welded(rt: HostRuntime) -> Result<(), Fail> {
 #[test]
 fn a_protocols_chain_loses_and_is_welded(rt: HostRuntime) -> Result<(), Fail> {
     let rows = [interior(5)?, interior(5)?, interior(7)?];
-    let text = story(rt.alloc(), Owner::Origin(Proto::Ospf), &rows)?;
+    let text = story(rt.alloc(), Owner::Origin(Proto::Ospf), rows)?;
     assert!(rt; text.as_slice() == PROTOCOLS.as_bytes());
     Ok(())
 }
@@ -250,8 +250,7 @@ fn push_row<R: Valued>(journal: &mut Journal, link: Link, row: &R) -> Result<(),
     Ok(())
 }
 
-/// A route of the first peer.
-fn route(alloc: Global) -> Result<Route, Memory> {
+fn push_rows(alloc: Global, journal: &mut Journal) -> Result<Vec<u8>, Fail> {
     let peer = Neighbour {
         number: 1,
         asn: 65001,
@@ -259,17 +258,14 @@ fn route(alloc: Global) -> Result<Route, Memory> {
         addr: Addr::new(0xc000_0201),
         internal: false,
     };
-    Ok(Route {
+    let route = Route {
         attrs: attrs(alloc, Origin::Igp)?,
         pref: 100,
         med: None,
         prepend: 0,
         igp: None,
         from: Some(peer),
-    })
-}
-
-fn push_rows(alloc: Global, journal: &mut Journal, route: &Route) -> Result<Vec<u8>, Fail> {
+    };
     let interior = interior(5)?;
     let external = External {
         internal: true,
@@ -281,7 +277,7 @@ fn push_rows(alloc: Global, journal: &mut Journal, route: &Route) -> Result<Vec<
         iface: interior.iface,
     };
     push_row(journal, Link::In(1), &route.attrs)?;
-    push_row(journal, Link::Filt(1), route)?;
+    push_row(journal, Link::Filt(1), &route)?;
     push_row(journal, Link::Int, &interior)?;
     push_row(journal, Link::Ext, &external)?;
     push_row(journal, Link::Fib, &forwarded)?;
@@ -290,9 +286,8 @@ fn push_rows(alloc: Global, journal: &mut Journal, route: &Route) -> Result<Vec<
 }
 
 fn values(alloc: Global) -> Result<Vec<u8>, Fail> {
-    let route = route(alloc)?;
     let mut journal = Journal::new(alloc, false);
-    push_rows(alloc, &mut journal, &route)
+    push_rows(alloc, &mut journal)
 }
 
 #[test]

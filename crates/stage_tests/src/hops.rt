@@ -118,11 +118,16 @@ fn turns(
     requires { Agrees metric_of resolver.old.client resolver.old.known register.old }
     ensures { Agrees metric_of resolver.new.client resolver.new.known register.new }
 {
-    let asked = turn_metrics(&resolver.unit(above, register)?);
-    let sent = turn_metrics(&resolver.unit(above, register)?);
-    let ended = turn_metrics(&resolver.unit(above, register)?);
-    let over = turn_metrics(&resolver.unit(above, register)?);
-    Ok([asked, sent, ended, over])
+    let asked = resolver.unit(above, register)?;
+    let sent = resolver.unit(above, register)?;
+    let ended = resolver.unit(above, register)?;
+    let over = resolver.unit(above, register)?;
+    Ok([
+        turn_metrics(&asked),
+        turn_metrics(&sent),
+        turn_metrics(&ended),
+        turn_metrics(&over),
+    ])
 }
 
 #[derive(Clone, Copy)]
@@ -142,28 +147,28 @@ fn follow(
     hop: Addr,
     resolver: &mut Resolver<Metric>,
     register: &mut Register<Interior>,
-    above: &mut Cache<Route>,
 ) -> Result<Story, Memory>
     requires client { resolver.old.client ≡ 1 }
     requires agrees { Agrees metric_of 1 resolver.old.known register.old }
 {
     change(alloc, resolver, register, prefix(hop.number(), 24), 10)?;
-    let added = metrics(&resolver.take_in(add(alloc, at)?, register)?);
+    let added = resolver.take_in(add(alloc, at)?, register)?;
     let known = resolver.known();
     let reached = change(alloc, resolver, register, prefix(hop.number(), 28), 5)?;
     let before = resolver.busy();
+    let mut above = Cache::new(alloc);
     above.take_in(add(alloc, at)?)?;
-    let turns = turns(resolver, register, above)?;
+    let turns = turns(resolver, register, &above)?;
     let after = resolver.busy();
-    let asked = metric_in(&resolver.asked(above, at)?);
-    let deleted = metrics(&resolver.take_in(delete(alloc, at)?, register)?);
+    let row = resolver.asked(&above, at)?;
+    let deleted = resolver.take_in(delete(alloc, at)?, register)?;
     Ok(Story {
-        added,
+        added: metrics(&added),
         reached,
         busy: [before, after],
         turns,
-        asked,
-        deleted,
+        asked: metric_in(&row),
+        deleted: metrics(&deleted),
         known: [known, resolver.known()],
     })
 }
@@ -171,8 +176,7 @@ fn follow(
 fn told(alloc: Global, at: Prefix, hop: Addr) -> Result<Story, Memory> {
     let mut register = Register::new(alloc);
     let mut resolver = Resolver::new(1, alloc);
-    let mut above = Cache::new(alloc);
-    follow(alloc, at, hop, &mut resolver, &mut register, &mut above)
+    follow(alloc, at, hop, &mut resolver, &mut register)
 }
 
 #[test]

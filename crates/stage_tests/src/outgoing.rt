@@ -60,35 +60,26 @@ fn is_nothing(turn: &Turn<SharedAttrs>) -> bool {
 
 // What holds of a filter to the third peer while the first peer's route stands above: before the walk no row, and no change for
 // one above; then an add; then a row, for the third peer alone; the end of the walk; no work.
-fn follow(
-    alloc: Global,
-    prefix: Prefix,
-    above: &mut Cache<Route>,
-    filter: &mut OutFilter,
-) -> Result<[bool; 7], Memory> {
+fn story(alloc: Global, prefix: Prefix) -> Result<[bool; 7], Memory> {
+    let mut above = Cache::new(alloc);
+    above.take_in(add(alloc, prefix)?)?;
     let to = peer(3);
     let mut form = AsTheyAre;
-    above.take_in(add(alloc, prefix)?)?;
-    let nothing = filter.asked(above, prefix, &form, &to)?.is_none();
+    let mut filter = OutFilter::new(Rules::new(alloc));
+    let nothing = filter.asked(&above, prefix, &form, &to)?.is_none();
     let silent = filter
         .take_in(add(alloc, prefix)?, &mut form, &to)?
         .is_none();
-    let sent = is_add(&filter.unit(above, &mut form, &to)?);
-    let there = filter.asked(above, prefix, &form, &to)?.is_some();
-    let back = filter.asked(above, prefix, &form, &peer(1))?.is_none();
-    let ended = is_quiet(&filter.unit(above, &mut form, &to)?);
-    let over = is_nothing(&filter.unit(above, &mut form, &to)?);
+    let sent = is_add(&filter.unit(&above, &mut form, &to)?);
+    let there = filter.asked(&above, prefix, &form, &to)?.is_some();
+    let back = filter.asked(&above, prefix, &form, &peer(1))?.is_none();
+    let ended = is_quiet(&filter.unit(&above, &mut form, &to)?);
+    let over = is_nothing(&filter.unit(&above, &mut form, &to)?);
     Ok([nothing, silent, sent, there, back, ended, over])
-}
-
-fn story(alloc: Global, prefix: Prefix) -> Result<[bool; 7], Memory> {
-    let mut above = Cache::new(alloc);
-    let mut filter = OutFilter::new(Rules::new(alloc));
-    follow(alloc, prefix, &mut above, &mut filter)
 }
 
 #[test]
 fn a_route_is_sent_when_the_walk_comes_by(rt: HostRuntime) -> Result<(), Fail> {
-    assert!(rt; story(rt.alloc(), prefix(0x0a09_0000, 16))? == [true; 7]);
+    assert_eq!(rt; story(rt.alloc(), prefix(0x0a09_0000, 16))?, [true; 7]);
     Ok(())
 }
