@@ -159,20 +159,20 @@ idling_none m before j stands is = gives_none (Idling 0 0 m m) before j (record 
 
 pub idling_more : (i turns n : ℕ) (x : Phase) (m at now : Moment) (before j j' : Journaled) → i < length all_phases → Gives (Idling i turns m at) before j → Gives (HaveDrained (get_or all_phases i x) at n now) j j'
     → Gives (Idling (i + 1) (turns + n) m now) before j'
-idling_more i turns n x m at now before j j' within g d = gives_join (Idling i turns m at) (HaveDrained r at n now) (Idling (i + 1) (turns + n) m now) both before j j' g d
+idling_more i turns n z m at now before j j' within g d = gives_join (Idling i turns m at) (HaveDrained r at n now) (Idling (i + 1) (turns + n) m now) both before j j' g d
   where
     r : Phase
-    r = get_or all_phases i x
+    r = get_or all_phases i z
 
     f : Frame
     f = frame_of (live_state m)
 
     both : (xs ys : List Line) → Idling i turns m at xs → HaveDrained r at n now ys → Idling (i + 1) (turns + n) m now (xs ++ ys)
     both xs ys x y =
-        let first : take i all_phases ++ r ∷ [] ≡ take (i + 1) all_phases = sym (take_more all_phases i x within) in
-        let rest : drop i all_phases ≡ r ∷ drop (i + 1) all_phases = drop_more all_phases i x within in
+        let first : take i all_phases ++ r ∷ [] ≡ take (i + 1) all_phases = sym (take_more all_phases i z within) in
+        let rest : drop i all_phases ≡ r ∷ drop (i + 1) all_phases = drop_more all_phases i z within in
         let spends : Spends f r n (counts at) (counts now) = subst (λ (l : LiveState). Spends (frame_of l) r n (counts at) (counts now)) x.keeps.live y.work.spends in
-        let flat : AllByRecursion (λ e. rise f r e ≡ Each 0) (take i all_phases) = never_back f i x within in
+        let flat : AllByRecursion (λ e. rise f r e ≡ Each 0) (take i all_phases) = never_back f i z within in
         let step = bounds_step f r (drop (i + 1) all_phases) n (counts at) (counts now) spends in
         let was : turns + bounds f (r ∷ drop (i + 1) all_phases) (counts at) ≤ bounds f all_phases (counts m) = subst (λ (l : List Phase). turns + bounds f l (counts at) ≤ bounds f all_phases (counts m)) rest x.within in
         record {
