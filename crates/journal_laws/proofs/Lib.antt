@@ -17,3 +17,5 @@ pub mod PrintedRows
 pub mod PrintedWays
 pub mod PrintedLines
 pub mod DeclaredPeers
+pub mod PrintedPeers
+pub mod ShownRows

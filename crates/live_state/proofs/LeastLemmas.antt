@@ -2,8 +2,12 @@
 use Rattle.std.proofs.Common.{◌≡◌, ℕ, ◌≤◌, Bool, true, false, cond, not, ◌||◌, nat_lt, List, [], ◌∷◌, Option, Some, None, refl, sym, ap, ◌∙◌, arith}
 use Rattle.std.proofs.lemmas.Bool.{ltb-false, ltb-true, le-ltb, lt-ltb}
 use Rattle.std.specs.List.{find, list_any, cons_option}
+use Rattle.std.specs.FinMap as tables
+use Rattle.link_change.specs.Rows.{Rows}
+use Rattle.rib_route.specs.declared.Proto.{Proto}
 use Rattle.rib_route.specs.declared.rows.Interior.{Interior}
-use Rattle.live_state.specs.Decided.{distance_of, least_of}
+use Rattle.live_state.specs.Decided.{distance_of, least_of, least_rows}
+use Rattle.live_state.specs.Lives.{Interiors}
 
 -- the one of lesser distance of two, the first where both are equal
 abbrev pub lesser : Option Interior → Option Interior → Option Interior
@@ -132,7 +136,7 @@ nearest_with : (a : Option Interior) (xs : List Interior) → nearest (cons_opti
 nearest_with None xs = refl
 nearest_with (Some x) xs = refl
 
-pub least_of_two : (a b : Option Interior) → least_of (cons_option a (cons_option b [])) ≡ lesser a b
+least_of_two : (a b : Option Interior) → least_of (cons_option a (cons_option b [])) ≡ lesser a b
 least_of_two a b =
     least_is_nearest (cons_option a (cons_option b []))
     ∙ nearest_with a (cons_option b []) ∙ ap (lesser a) (nearest_with b [] ∙ lesser_none b)
@@ -156,9 +160,20 @@ lesser_joins (Some x) (Some y) (Some z) = by_tests (nat_lt (distance_of z) (dist
         let last = ltb-false (distance_of y) (distance_of x) f in
         ap (λ (t : Bool). cond t (Some y) (Some x)) f ∙ sym (ap (λ (t : Bool). cond t (Some z) (Some x)) (le-ltb (distance_of z) (distance_of x) (omega (arith, first, last))))
 
-pub least_of_four : (a b c d : Option Interior) → least_of (cons_option a (cons_option b (cons_option c (cons_option d [])))) ≡ lesser (lesser a b) (lesser c d)
+least_of_four : (a b c d : Option Interior) → least_of (cons_option a (cons_option b (cons_option c (cons_option d [])))) ≡ lesser (lesser a b) (lesser c d)
 least_of_four a b c d =
     least_is_nearest (cons_option a (cons_option b (cons_option c (cons_option d []))))
     ∙ nearest_with a (cons_option b (cons_option c (cons_option d [])))
     ∙ ap (lesser a) (nearest_with b (cons_option c (cons_option d [])) ∙ ap (lesser b) (nearest_with c (cons_option d []) ∙ ap (lesser c) (nearest_with d [] ∙ lesser_none d)))
     ∙ lesser_joins a b (lesser c d)
+
+-- ---- of the live routes at each prefix
+module _ (interior : Proto → Interiors) where
+  abbrev here : Proto → Rows Interior
+  here proto = tables.get (interior proto)
+
+  pub least_two : (a b : Proto) → ◌≡◌ {A = Rows Interior} (λ p. lesser (here a p) (here b p)) (least_rows interior (a ∷ b ∷ []))
+  least_two a b i p = sym (least_of_two (here a p) (here b p)) i
+
+  pub least_four : (a b c d : Proto) → ◌≡◌ {A = Rows Interior} (λ p. lesser (lesser (here a p) (here b p)) (lesser (here c p) (here d p))) (least_rows interior (a ∷ b ∷ c ∷ d ∷ []))
+  least_four a b c d i p = sym (least_of_four (here a p) (here b p) (here c p) (here d p)) i

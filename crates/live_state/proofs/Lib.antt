@@ -1,3 +1,5 @@
 pub mod SessionLemmas
 pub mod LeastLemmas
 mod DecidedLemmas
+pub mod UpdateLemmas
+pub mod AdmittedLemmas

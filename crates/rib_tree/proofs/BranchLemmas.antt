@@ -37,7 +37,7 @@ chosen f x Rip Rip b t = refl
 chosen f x Rip other b t = refl
 
 -- what holds of the branch, and of the others in a tree
-put_each : (P : Proto → Branch → Type 0) (proto other : Proto) (b : Branch) (t : Treed) → P proto b → ((k : Proto) → same_proto k proto ≡ false → P k (branch_of k t)) → P other (branch_of other (put_branch proto b t))
+pub put_each : (P : Proto → Branch → Type 0) (proto other : Proto) (b : Branch) (t : Treed) → P proto b → ((k : Proto) → same_proto k proto ≡ false → P k (branch_of k t)) → P other (branch_of other (put_branch proto b t))
 put_each P Connected Connected b t own each = own
 put_each P Connected other b t own each = each other refl
 put_each P Static Static b t own each = own

@@ -7,3 +7,6 @@ pub mod LookupLemmas
 pub mod LawLemmas
 pub mod CountLemmas
 pub mod NewLemmas
+pub mod TreeParts
+pub mod RestLemmas
+pub mod RegionLemmas

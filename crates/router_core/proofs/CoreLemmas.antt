@@ -10,7 +10,6 @@ use Rattle.event_text.specs.Declarations.{IsDeclaration, refusal}
 use Rattle.event_text.specs.WellFormed.{IsWellFormed}
 use Rattle.link_change.proofs.RowLemmas.{empty_rows}
 use Rattle.rib_route.specs.declared.Proto.{Proto}
-use Rattle.rib_route.specs.declared.Proto.TheVariants.{Connected, Static, Ospf, Rip}
 use Rattle.rib_route.specs.declared.rows.Interior.{Interior}
 use Rattle.rib_tree.specs.Trees.{branch_of, AreNumbered}
 use Rattle.rib_tree.specs.Steps.{new_tree}
@@ -27,9 +26,9 @@ use Rattle.journal_laws.specs.Peers.{neighbours, KeepsPeers}
 use Rattle.router_core.specs.Printable.{ArePrinted, IsPrintableMoment}
 use Rattle.router_core.proofs.KeepLemmas.{acts_of}
 use Rattle.live_state.proofs.SessionLemmas.{losses_follow}
-use Rattle.router_core.proofs.LocalLemmas.{int_empty}
+use Rattle.rib_tree.proofs.NewLemmas.{of_new, int_empty}
 use Rattle.journal_laws.proofs.DeclaredPeers.{Leaves}
-use Rattle.router_core.proofs.PrintedPeers.{event_leaves}
+use Rattle.journal_laws.proofs.PrintedPeers.{event_leaves}
 use Rattle.router_core.proofs.PrintedTurns.{Fit, turn_goes}
 use Rattle.router_core.specs.declared.router.Done.{Done}
 use Rattle.router_core.specs.declared.router.Done.TheVariants.{Nothing, Taken}
@@ -109,37 +108,22 @@ module _ (old : Cored) (m : Moment) (n : ℕ) (failed : Bool) (view : record { m
   core_turned task m' before now Taken g = core_worked m' g.0 g.2.work.keeps (λ fit. (turn_goes (neighbours m.declared) n task m g.0 m' g.2.turn fit).0)
 
 -- ---- the first moment
-few_new : (proto : Proto) → length (branch_of proto new_tree).tables.deletions ≤ 16
-few_new Connected = omega arith
-few_new Static = omega arith
-few_new Ospf = omega arith
-few_new Rip = omega arith
-
-none_new : AreNumbered 0 new_tree
-none_new Connected = omega arith
-none_new Static = omega arith
-none_new Ospf = omega arith
-none_new Rip = omega arith
-
 pub first_stands : ANewTreeStands → CoreStands (cored first_moment 0)
 first_stands law = record {
   stands = record { own = own; at = at };
   printable = record { declared = refl; chains = λ k c at. absurd (let none = get-empty {X = Chained} nat_cmp k in cc); interior = new_printable };
-  numbered = none_new;
+  numbered = of_new (λ b. b.losses ≤ 0) (λ k. omega arith);
 }
   where
     new_printable : (proto : Proto) → AreTablesOf IsInteriorRow (branch_of proto new_tree).tables
-    new_printable Connected = none_printable IsInteriorRow
-    new_printable Static = none_printable IsInteriorRow
-    new_printable Ospf = none_printable IsInteriorRow
-    new_printable Rip = none_printable IsInteriorRow
+    new_printable = of_new (λ b. AreTablesOf IsInteriorRow b.tables) (λ k. none_printable IsInteriorRow)
 
     own : (claim : Claim) → Claims first_moment claim
     own EachChain = λ k c at. absurd (let none = get-empty {X = Chained} nat_cmp k in cc)
     own EachPeer = λ k. subst (StandsAt None) (sym (get-empty {X = Chained} nat_cmp k)) tt
     own OneSpeaker = λ k c at. absurd (let none = get-empty {X = Chained} nat_cmp k in cc)
     own SameCount = len-empty nat_cmp Chained
-    own InteriorTree = record { tree = law.0; full = law.1; few = few_new; waiting = λ e. refl }
+    own InteriorTree = record { tree = law.0; full = law.1; few = of_new (λ b. length b.tables.deletions ≤ 16) (λ k. omega arith); waiting = λ e. refl }
 
     at : (p : Network) (tie : Tie) → Ties (here first_moment p) tie
     at p Registered = ap (λ (rows : Rows Interior). rows p) (empty_rows {V = Interior} ∙ sym int_empty)

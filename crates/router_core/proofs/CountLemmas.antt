@@ -1,24 +1,21 @@
 -- How many turns are left, by the table of phases: what a turn makes of it, and what is over.
-use Rattle.std.proofs.Common.{◌≡◌, ◌+◌, ◌*◌, ◌≤◌, true, false, List, [], ◌∷◌, length, Option, Some, None, is_some, refl, ap, arith}
-use Rattle.std.proofs.lemmas.Bool.Decides.{nat_tests}
+use Rattle.std.proofs.Common.{◌≡◌, ◌+◌, ◌*◌, ◌≤◌, false, List, [], ◌∷◌, length, None, is_some, refl, ap, arith}
 use Rattle.std.proofs.lemmas.List.Sums.{sum_by-cons, sum_by-le-sum_by}
 use Rattle.std.specs.List.{sum_by}
 use Rattle.std.specs.FinMap as tables
 use Rattle.std.specs.Ordering.{nat_cmp}
 use Rattle.std.specs.Cmp.{nat_cmp_total}
-use Rattle.link_change.specs.Rows.{is_empty_map}
-use Rattle.policy_rules.specs.declared.rule.Rule.{Rule}
-use Rattle.pass_core.specs.Passed.{Walked}
 use Rattle.rib_route.specs.declared.Proto.{Proto}
 use Rattle.rib_route.specs.declared.Proto.TheVariants.{Connected, Static, Ospf, Rip}
-use Rattle.loss_chain.specs.Lost.{Lost}
-use Rattle.loss_chain.specs.Tables.{NoneEmpty, lost_count}
+use Rattle.loss_chain.proofs.TableLemmas.{no_table}
+use Rattle.loss_chain.specs.Tables.{lost_count}
 use Rattle.in_chain.specs.Chains.{Chained, row_count, turns_left, walk_turns}
 use Rattle.in_chain.specs.Laws.{TurnsAreBounded, TurnsAreLeft}
 use Rattle.link_region.proofs.RegionLemmas.{by_bool}
 use Rattle.peer_side.specs.Peers.{Chains, lost_of, lost_in, left_in, rows_in}
 use Rattle.peer_side.proofs.MapLemmas.{sum_none, one_of_sum, all_values, values_length}
 use Rattle.rib_tree.specs.Trees.{Treed, branch_of, tree_count}
+use Rattle.rib_tree.proofs.RestLemmas.{no_rows_left}
 use Rattle.router_core.specs.declared.router.Phase.{Phase}
 use Rattle.router_core.specs.declared.router.Phase.TheVariants.{Rdel, Del, Fin}
 use Rattle.router_core.specs.Moments.{Moment}
@@ -73,27 +70,13 @@ over_none Rdel m over =
 over_none Del m over = sum_none lost_of (tables.values m.chains) (all_values nat_cmp nat_cmp_total (λ c. lost_of c ≡ 0) m.chains (λ k c at. ap lost_count (over k c at)))
 over_none Fin m over = sum_none turns_left (tables.values m.chains) (all_values nat_cmp nat_cmp_total (λ c. turns_left c ≡ 0) m.chains (λ k c at. ap (walk_turns c.incoming.tables) (over k c at)))
 
-no_table : {R : Type 0} (ds : List (Lost R)) → NoneEmpty ds → lost_count ds ≡ 0 → ds ≡ []
-no_table [] full none = refl
-no_table (d ∷ ds) full none =
-    let some : is_empty_map d.rows ≡ false = full.0 in
-    let zero_len : tables.len d.rows ≡ 0 = omega arith in
-    absurd (let contra : is_empty_map d.rows ≡ true = grind (arith, nat_tests) in cc)
-
 no_walk : TurnsAreLeft → (c : Chained) → turns_left c ≡ 0 → c.filter.walk ≡ None
-no_walk law c none = off c.filter.walk (by_bool (is_some c.filter.walk) (λ b. b ≡ false) (λ on. absurd (let some = (law c).0 on in omega (arith, some, none))) (λ _. refl))
-  where
-    off : (w : Option (Walked (List Rule))) → is_some w ≡ false → w ≡ None
-    off None e = refl
-    off (Some w) e = absurd (cc)
+no_walk law c none = no_table c.filter.walk (by_bool (is_some c.filter.walk) (λ b. b ≡ false) (λ on. absurd (let some = (law c).0 on in omega (arith, some, none))) (λ _. refl))
 
 tree_none : (t : Treed) (proto : Proto) → tree_lost t ≡ 0 → lost_count (branch_of proto t).tables.deletions ≡ 0
-tree_none t Connected none = omega (arith, none)
-tree_none t Static none = omega (arith, none)
-tree_none t Ospf none = omega (arith, none)
-tree_none t Rip none = omega (arith, none)
+tree_none t proto none = elim proto as (λ k. lost_count (branch_of k t).tables.deletions ≡ 0) [ Connected ↦ omega (arith, none) | Static ↦ omega (arith, none) | Ospf ↦ omega (arith, none) | Rip ↦ omega (arith, none) ]
 
 pub none_over : TurnsAreLeft → (r : Phase) (m : Moment) → Stands m → counts m r ≡ 0 → IsOver r m
-none_over law Rdel m stands none = λ proto. no_table (branch_of proto m.tree).tables.deletions ((stands.own InteriorTree).full proto) (tree_none m.tree proto none)
-none_over law Del m stands none = λ k c at. no_table c.incoming.tables.deletions (stands.own EachChain k c at).full (let part = one_of_sum nat_cmp nat_cmp_total lost_of m.chains k c at in omega (arith, part, none))
+none_over law Rdel m stands none = λ proto. no_rows_left (branch_of proto m.tree).tables.deletions ((stands.own InteriorTree).full proto) (tree_none m.tree proto none)
+none_over law Del m stands none = λ k c at. no_rows_left c.incoming.tables.deletions (stands.own EachChain k c at).full (let part = one_of_sum nat_cmp nat_cmp_total lost_of m.chains k c at in omega (arith, part, none))
 none_over law Fin m stands none = λ k c at. no_walk law c (let part = one_of_sum nat_cmp nat_cmp_total turns_left m.chains k c at in omega (arith, part, none))

@@ -23,7 +23,9 @@ use Rattle.router_core.specs.Stands.{IsSilent, PeerStands, Stands, open_session}
 use Rattle.router_core.specs.Turns.{FeedsAll, journal_lines}
 use Rattle.router_core.specs.Works.{Pushes, IsUpAt, Keeps, HaveFed}
 use Rattle.router_core.proofs.RegionLemmas.{leads_inward}
-use Rattle.router_core.proofs.StandLemmas.{one_peer, peer_of, stands_with, live_routed, routes_there, routes_twice}
+use Rattle.live_state.proofs.AdmittedLemmas.{routes_twice}
+use Rattle.peer_side.proofs.MapLemmas.{one_of as one_peer}
+use Rattle.router_core.proofs.StandLemmas.{peer_of, stands_with, live_routed, routes_there}
 use Rattle.router_core.proofs.KeepLemmas.{keeps_join, pushes_join}
 
 silent_up : (up : Bool) (c : Chained) → up ≡ true → IsSilent up c

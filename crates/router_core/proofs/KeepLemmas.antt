@@ -1,13 +1,12 @@
 -- Steps one after the other, and the journal that they leave.
-use Rattle.std.proofs.Common.{◌≡◌, ℕ, ◌<◌, List, [], ◌∷◌, ◌++◌, length, get_or, refl, sym, ap, subst, ◌∙◌, append_assoc, arith, zero, suc}
-use Rattle.std.proofs.lemmas.List.{append-nil}
+use Rattle.std.proofs.Common.{◌≡◌, ℕ, List, [], ◌++◌, refl, sym, ap, subst, ◌∙◌}
 use Rattle.journal_text.specs.declared.entry.Entry.{Entry}
 use Rattle.journal_text.specs.declared.value.Value.{Value}
 use Rattle.journal_text.specs.declared.line.Line.{Line}
 use Rattle.journal_text.specs.Journals.{Journaled, with_lines, flushed}
-use Rattle.journal_text.specs.Texts.{text_of, entries_of}
+use Rattle.journal_text.specs.Texts.{entries_of}
 use Rattle.journal_text.specs.Walk.{Leads}
-use Rattle.journal_text.proofs.JournalLemmas.{text_of_append, entries_of_append, with_lines_append}
+use Rattle.journal_text.proofs.JournalLemmas.{entries_of_append, with_lines_append}
 use Rattle.journal_text.proofs.WalkLemmas.{leads_append, leads_nowhere}
 use Rattle.event_text.specs.declared.event.Event.{Event}
 use Rattle.router_core.specs.Moments.{Moment, router_links, Gives}
@@ -16,23 +15,9 @@ use Rattle.router_core.specs.Lives.{live_state}
 use Rattle.router_core.specs.Stands.{Stands}
 use Rattle.journal_laws.specs.Peers.{KeepsPeers}
 use Rattle.router_core.specs.Printable.{ArePrinted}
+use Rattle.journal_laws.proofs.ShownRows.{flushed_join, flushed_none}
 use Rattle.router_core.specs.Blocks.{IsBlock, Acts}
 use Rattle.router_core.specs.Works.{Pushes, Keeps, HasStepped}
-
--- what is read of a list where it has it, whatever is read where not
-pub get_or_any : {A : Type 0} (xs : List A) (n : ℕ) (x y : A) → n < length xs → get_or xs n x ≡ get_or xs n y
-get_or_any [] n x y below = absurd (omega (arith, below))
-get_or_any (l ∷ ls) zero x y below = refl
-get_or_any (l ∷ ls) (suc n) x y below = get_or_any ls n x y (omega (arith, below))
-
--- ---- the journal
-abbrev text_with : Journaled → List ℕ → Journaled
-text_with j text = record { text = text; pending = []; quiet = j.quiet }
-
-pub flushed_join : (j : Journaled) (a b : List Line) → flushed (with_lines (flushed (with_lines j a)) b) ≡ flushed (with_lines j (a ++ b))
-flushed_join j a b = ap (text_with j)
-    (append_assoc j.text (text_of j.quiet (j.pending ++ a)) (text_of j.quiet b) ∙ ap (λ (t : List ℕ). j.text ++ t) (sym (text_of_append j.quiet (j.pending ++ a) b))
-    ∙ ap (λ (ls : List Line). j.text ++ text_of j.quiet ls) (append_assoc j.pending a b))
 
 -- what is said first, and then
 module _ (P Q R : List Line → Type 0) (both : (xs ys : List Line) → P xs → Q ys → R (xs ++ ys)) where
@@ -47,9 +32,6 @@ module _ (P Q R : List Line → Type 0) (both : (xs ys : List Line) → P xs →
 
   pub push_gives : (a b c : Journaled) → Pushes P a b → Gives Q b c → Gives R a c
   push_gives a b c p q = (p.0 ++ q.0, q.1 ∙ ap (λ (j : Journaled). flushed (with_lines j q.0)) p.1 ∙ ap flushed (with_lines_append a p.0 q.0), both p.0 q.0 p.2 q.2)
-
-pub flushed_none : (j : Journaled) → flushed j ≡ flushed (with_lines j [])
-flushed_none j = ap (λ (ls : List Line). text_with j (j.text ++ text_of j.quiet ls)) (sym (append-nil j.pending))
 
 pub gives_none : (P : List Line → Type 0) (a b : Journaled) → P [] → b ≡ flushed a → Gives P a b
 gives_none P a b p is = ([], is ∙ flushed_none a, p)

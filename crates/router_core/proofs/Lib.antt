@@ -2,7 +2,6 @@ mod CoreLemmas
 mod LocalLemmas
 pub mod PeerLemmas
 mod ShownRows
-mod UpdateLemmas
 pub mod RegionLemmas
 pub mod StandLemmas
 pub mod ScratchLemmas
@@ -16,13 +15,11 @@ pub mod FeedLemmas
 pub mod RoomLemmas
 pub mod LossLemmas
 pub mod StepLemmas
-pub mod TreeParts
 pub mod RibLinks
 pub mod RouteLemmas
 pub mod ProtocolLosses
 pub mod RouteTurns
 pub mod RouteRoom
 pub mod RouteSteps
-pub mod PrintedPeers
 pub mod PrintedTurns
 pub mod PrintedBlocks

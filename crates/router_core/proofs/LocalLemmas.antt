@@ -1,15 +1,13 @@
 -- `local`: the links of the interior routes begin.
-use Rattle.std.proofs.Common.{◌≡◌, ℕ, ◌+◌, ◌<◌, List, [], ◌∷◌, ◌++◌, map, take, length, get_or, Option, Some, None, refl, sym, ap, ◌∙◌}
+use Rattle.std.proofs.Common.{◌≡◌, ℕ, ◌+◌, ◌<◌, List, [], ◌∷◌, map, take, length, get_or, Option, Some, None, refl, sym, ap, ◌∙◌}
 use Rattle.std.proofs.lemmas.List.{map-append, take_more}
 use Rattle.bgp_attr.specs.declared.speaker.Speaker.{Speaker}
 use Rattle.link_change.specs.Rows.{Rows, no_rows}
-use Rattle.link_change.proofs.RowLemmas.{empty_rows}
 use Rattle.rib_route.specs.declared.Proto.{Proto}
 use Rattle.rib_route.specs.declared.Proto.TheVariants.{Connected, Static, Ospf, Rip}
 use Rattle.rib_route.specs.declared.rows.Interior.{Interior}
-use Rattle.rib_merge.specs.Merging.{merged}
 use Rattle.rib_tree.specs.Branches.{org_rows}
-use Rattle.rib_tree.specs.Trees.{Treed, branch_of, low_rows, dyn_rows, int_rows, interior_distance}
+use Rattle.rib_tree.specs.Trees.{Treed, branch_of, low_rows, dyn_rows, int_rows}
 use Rattle.rib_tree.specs.Steps.{new_tree}
 use Rattle.rib_merge.specs.Forwards.{forwarded}
 use Rattle.rib_tree.specs.Forwards.{rib_links}
@@ -26,26 +24,12 @@ use Rattle.router_core.specs.Moments.{Moment, rib_by, router_links}
 use Rattle.router_core.specs.Stands.{Stands, InteriorTree}
 use Rattle.router_core.specs.Blocks.{begin_line, rib_begins, declared_speaker}
 use Rattle.router_core.proofs.PeerLemmas.{local_first, speaker_stands}
-use Rattle.router_core.proofs.ShownRows.{with_more}
+use Rattle.journal_text.proofs.JournalLemmas.{with_lines_append}
+use Rattle.rib_tree.proofs.NewLemmas.{of_new, org_empty, low_empty, dyn_empty, int_empty}
+use Rattle.loss_chain.specs.Tables.{rows_above}
+use Rattle.std.specs.Prelude.{option_map}
 use Rattle.router_core.specs.Works.{HasStepped}
 use Rattle.router_core.specs.Lives.{live_state}
-use Rattle.router_core.proofs.KeepLemmas.{get_or_any}
-
--- a tree without routes has no rows
-org_empty : (proto : Proto) → org_rows (branch_of proto new_tree) ≡ no_rows
-org_empty Connected = empty_rows {V = Interior}
-org_empty Static = empty_rows {V = Interior}
-org_empty Ospf = empty_rows {V = Interior}
-org_empty Rip = empty_rows {V = Interior}
-
-low_empty : low_rows new_tree ≡ no_rows
-low_empty i = merged interior_distance (org_empty Connected i) (org_empty Static i)
-
-dyn_empty : dyn_rows new_tree ≡ no_rows
-dyn_empty i = merged interior_distance (org_empty Ospf i) (org_empty Rip i)
-
-pub int_empty : int_rows new_tree ≡ no_rows
-int_empty i = merged interior_distance (low_empty i) (dyn_empty i)
 
 -- a link of interior routes without rows
 begins : (rows : Rows Interior) → rows ≡ no_rows → ◌≡◌ {A = Option (Rows Value)} (Some no_rows) (Some (interior_rows rows))
@@ -55,10 +39,7 @@ begins_fib : (rows : Rows Interior) → rows ≡ no_rows → ◌≡◌ {A = Opti
 begins_fib rows empty = ap (λ (r : Rows Interior). Some (fib_rows (forwarded r))) (sym empty)
 
 none_lost : (proto : Proto) (n : ℕ) → rib_links new_tree (Lost proto n) ≡ None
-none_lost Connected n = refl
-none_lost Static n = refl
-none_lost Ospf n = refl
-none_lost Rip n = refl
+none_lost proto n = of_new (λ b. option_map interior_rows (rows_above b.tables.live n b.tables.deletions) ≡ None) (λ k. refl) proto
 
 module _ (m : Moment) (words : Speaker) (first : m.declared.speaker ≡ None) (empty : m.tree ≡ new_tree) where
   none : (link : Link) → rib_by m.declared.speaker m.tree link ≡ None
@@ -106,14 +87,10 @@ local_stepped m words admitted stands =
 abbrev pub HaveBegun : List Link → ℕ → Journaled → Journaled → Type 0
 HaveBegun links n before now = now ≡ with_lines before (map begin_line (take n links))
 
-begun_more : (links : List Link) (n : ℕ) (link : Link) (before j now : Journaled) → n < length links → link ≡ get_or links n link → HaveBegun links n before j → now ≡ with_lines j (begin_line link ∷ [])
-    → HaveBegun links (n + 1) before now
-begun_more links n link before j now below is begun last =
-    let more : take (n + 1) links ≡ take n links ++ link ∷ [] = take_more links n link below ∙ ap (λ (l : Link). take n links ++ l ∷ []) (sym is) in
-    last ∙ ap (λ (x : Journaled). with_lines x (begin_line link ∷ [])) begun ∙ with_more before (map begin_line (take n links)) (begin_line link ∷ [])
-    ∙ ap (with_lines before) (sym (map-append begin_line (take n links) (link ∷ [])))
-    ∙ ap (λ (ls : List Link). with_lines before (map begin_line ls)) (sym more)
-
 pub begun_next : (links : List Link) (n : ℕ) (x : Link) (before j now : Journaled) → n < length links → HaveBegun links n before j → now ≡ with_lines j (begin_line (get_or links n x) ∷ [])
     → HaveBegun links (n + 1) before now
-begun_next links n x before j now below begun last = begun_more links n (get_or links n x) before j now below (get_or_any links n x (get_or links n x) below) begun last
+begun_next links n x before j now below begun last =
+    let link : Link = get_or links n x in
+    last ∙ ap (λ (y : Journaled). with_lines y (begin_line link ∷ [])) begun ∙ with_lines_append before (map begin_line (take n links)) (begin_line link ∷ [])
+    ∙ ap (with_lines before) (sym (map-append begin_line (take n links) (link ∷ [])))
+    ∙ ap (λ (ls : List Link). with_lines before (map begin_line ls)) (sym (take_more links n x below))

@@ -1,12 +1,10 @@
 -- The loss of a session.
-use Rattle.std.proofs.Common.{◌≡◌, ℕ, ◌+◌, Bool, true, false, cond, List, [], ◌∷◌, map, Option, Some, None, nat_eq, length, refl, sym, ap, subst, ◌∙◌, suc}
+use Rattle.std.proofs.Common.{◌≡◌, ℕ, ◌+◌, Bool, true, cond, List, Option, Some, None, refl, sym, ap, subst, ◌∙◌}
 use Rattle.journal_text.specs.declared.entry.Entry.{Entry}
 use Rattle.journal_text.specs.declared.value.Value.{Value}
 use Rattle.journal_text.specs.Journals.{Journaled, Adds, flushed}
 use Rattle.event_text.specs.declared.declared.DeclaredPeer.{DeclaredPeer}
-use Rattle.event_text.specs.Declarations.{Declaration, peer_at, ended_at, without_session}
-use Rattle.event_text.proofs.Sessions.{ended_words}
-use Rattle.loss_chain.proofs.TableLemmas.{equal_by}
+use Rattle.event_text.specs.Declarations.{Declaration, without_session}
 use Rattle.in_chain.specs.Chains.{Chained}
 use Rattle.in_chain.specs.Steps.{lost}
 use Rattle.peer_side.specs.Peers.{Chains, chain_at, overdue_at, overdue_by, AreBefore}
@@ -16,37 +14,11 @@ use Rattle.live_state.specs.Lives.{ended}
 use Rattle.router_core.specs.Stands.{PeerStands, StandsAt, Stands, open_session}
 use Rattle.router_core.specs.Turns.{journal_lines}
 use Rattle.router_core.specs.Works.{Pushes, HasRoom, IsSession, HasLost, Ends}
-use Rattle.std.specs.Prelude.{option_map}
-use Rattle.router_core.proofs.PeerLemmas.{peer_at_map}
+use Rattle.live_state.proofs.AdmittedLemmas.{down, ended_same, ended_other, ended_length}
+use Rattle.peer_side.proofs.MapLemmas.{one_of}
 use Rattle.router_core.proofs.RegionLemmas.{leads_inward}
-use Rattle.router_core.proofs.StandLemmas.{remade, one_peer, peer_of, chain_there, KeepsOthers, stands_put, live_routed}
+use Rattle.router_core.proofs.StandLemmas.{remade, peer_of, chain_there, KeepsOthers, stands_put, live_routed}
 use Rattle.router_core.proofs.KeepLemmas.{keeps_then, gives_push}
-
--- ---- the peers
-abbrev down : DeclaredPeer → DeclaredPeer
-down p = record { words = p.words; session = p.session; up = false }
-
-peer_number : (k : ℕ) (ps : List DeclaredPeer) (p : DeclaredPeer) → peer_at k ps ≡ Some p → nat_eq p.words.number k ≡ true
-peer_number k [] p at = absurd (cc)
-peer_number k (q ∷ qs) p at = by_test (nat_eq q.words.number k) refl (peer_number k qs p)
-  where
-    by_test : (b : Bool) → nat_eq q.words.number k ≡ b → (peer_at k qs ≡ Some p → nat_eq p.words.number k ≡ true) → nat_eq p.words.number k ≡ true
-    by_test true e rest = ap (λ (x : DeclaredPeer). nat_eq x.words.number k) (sym (one_peer q p (sym (ap (λ (b : Bool). cond b (Some q) (peer_at k qs)) e) ∙ at))) ∙ e
-    by_test false e rest = rest (sym (ap (λ (b : Bool). cond b (Some q) (peer_at k qs)) e) ∙ at)
-
-ended_same : (k : ℕ) (ps : List DeclaredPeer) (p : DeclaredPeer) → peer_at k ps ≡ Some p → peer_at k (map (ended_at k) ps) ≡ Some (down p)
-ended_same k ps p at = peer_at_map (ended_at k) (ended_words k) k ps ∙ ap (option_map (ended_at k)) at ∙ ap (λ (b : Bool). Some (cond b (down p) p)) (peer_number k ps p at)
-
-ended_other : (k j : ℕ) (ps : List DeclaredPeer) → nat_eq j k ≡ false → peer_at j (map (ended_at k) ps) ≡ peer_at j ps
-ended_other k j ps other = peer_at_map (ended_at k) (ended_words k) j ps ∙ by_peer (peer_at j ps) refl
-  where
-    by_peer : (o : Option DeclaredPeer) → peer_at j ps ≡ o → option_map (ended_at k) o ≡ o
-    by_peer None at = refl
-    by_peer (Some q) at = ap (λ (b : Bool). Some (cond b (down q) q)) (ap (λ (n : ℕ). nat_eq n k) (equal_by q.words.number j (peer_number j ps q at)) ∙ other)
-
-ended_length : (k : ℕ) (ps : List DeclaredPeer) → length (map (ended_at k) ps) ≡ length ps
-ended_length k [] = refl
-ended_length k (p ∷ ps) = ap suc (ended_length k ps)
 
 -- ---- what stands after the loss
 -- of a peer that is up the lost sessions are earlier than the present one
@@ -70,7 +42,7 @@ ends_one : (k s : ℕ) (m : Moment) (cs : Chains) (entries : List (Entry Value))
 ends_one k s m cs entries stands up f =
     let c : Chained = f.loses.chain in
     let peer = peer_of m stands k c f.loses.at in
-    let session : peer.0.session ≡ s = ap (λ (q : DeclaredPeer). q.session) (one_peer peer.0 up.0 (sym peer.1 ∙ up.1)) ∙ up.3 in
+    let session : peer.0.session ≡ s = ap (λ (q : DeclaredPeer). q.session) (one_of peer.0 up.0 (sym peer.1 ∙ up.1)) ∙ up.3 in
     let here : PeerStands (down peer.0) (lost s c) = record { words = peer.2.words; earlier = subst (λ (n : ℕ). AreBefore (n + 1) (lost s c)) (sym session) f.before; silent = refl } in
     record {
       between = with_chains m cs;

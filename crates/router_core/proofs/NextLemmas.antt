@@ -1,5 +1,5 @@
 -- The next task of a phase.
-use Rattle.std.proofs.Common.{◌≡◌, Bool, true, cond, List, [], ◌∷◌, ◌++◌, map, Option, Some, None, is_some, refl, sym, ap, subst, ◌∙◌, arith}
+use Rattle.std.proofs.Common.{◌≡◌, Bool, true, cond, List, [], ◌∷◌, ◌++◌, map, Option, Some, None, is_some, refl, sym, ap, subst, ◌∙◌}
 use Rattle.std.specs.Prelude.{IfNone}
 use Rattle.std.specs.List.{AllByRecursion, find}
 use Rattle.std.specs.FinMap as tables
@@ -10,9 +10,8 @@ use Rattle.rib_route.specs.declared.Proto.{Proto}
 use Rattle.rib_route.specs.declared.Proto.TheVariants.{Connected, Static, Ospf, Rip}
 use Rattle.rib_route.specs.declared.rows.Interior.{Interior}
 use Rattle.loss_chain.specs.Lost.{Lost}
-use Rattle.loss_chain.specs.Tables.{lost_count}
 use Rattle.loss_chain.specs.Steps.{first_task, table_of}
-use Rattle.loss_chain.proofs.ListLemmas.{all_any, all_so, all_both, all_made, all_flat}
+use Rattle.loss_chain.proofs.ListLemmas.{all_any, all_so, all_made, all_flat}
 use Rattle.loss_chain.proofs.TableLemmas.{all_tables}
 use Rattle.link_region.proofs.RegionLemmas.{by_bool}
 use Rattle.in_chain.specs.Chains.{Chained}
@@ -21,17 +20,14 @@ use Rattle.peer_side.proofs.TaskLemmas.{all_working, first_none}
 use Rattle.rib_tree.specs.Branches.{Branch}
 use Rattle.rib_tree.specs.BranchSteps.{branch_tasks}
 use Rattle.rib_tree.specs.Trees.{Treed, branch_of, tree_tasks}
+use Rattle.rib_tree.proofs.RestLemmas.{all_tree}
 use Rattle.router_core.specs.declared.router.Phase.{Phase}
 use Rattle.router_core.specs.declared.router.Phase.TheVariants.{Rdel, Del, Fin}
 use Rattle.router_core.specs.Moments.{Moment}
 use Rattle.router_core.specs.Stands.{Stands, InteriorTree}
-use Rattle.router_core.specs.Phases.{tree_lost, counts}
+use Rattle.router_core.specs.Phases.{counts}
+use Rattle.router_core.proofs.CountLemmas.{over_none}
 use Rattle.router_core.specs.Turns.{phase_of, phase_tasks, next_task, has_work}
-
--- of all tasks of the tree, branch by branch
-all_tree : (P : Task → Type 0) (t : Treed) → ((proto : Proto) → AllByRecursion P (branch_tasks (branch_of proto t))) → AllByRecursion P (tree_tasks t)
-all_tree P t each =
-    all_both P (branch_tasks t.connected) _ (each Connected) (all_both P (branch_tasks t.statics) _ (each Static) (all_both P (branch_tasks t.ospf) _ (each Ospf) (each Rip)))
 
 -- ---- each task is of its phase: a line for each phase
 pub all_of_phase : (r : Phase) (m : Moment) → AllByRecursion (λ t. phase_of t ≡ r) (phase_tasks r m)
@@ -66,12 +62,6 @@ next_of_peers s r m v first other is view found =
     found ∙ found_same (has_peer_work v.chains) (λ t. has_work t v) (phase_tasks s v) (all_so (λ t. phase_of t ≡ s) (λ t. has_peer_work v.chains t ≡ has_work t v) (λ t of. of_peers v t s other of) (phase_tasks s v) (all_of_phase s v))
     ∙ ap (next_task s) view ∙ ap (λ (e : Phase). next_task e m) (sym is)
 
-pub del_not_rdel : Del ≡ Rdel → ⊥
-del_not_rdel e = cc
-
-pub fin_not_rdel : Fin ≡ Rdel → ⊥
-fin_not_rdel e = cc
-
 -- ---- the stages of the tree
 -- each stage that stands has work
 next_loss : (m : Moment) → Stands m → next_task Rdel m ≡ first_task (tree_tasks m.tree)
@@ -82,21 +72,18 @@ next_loss m stands = all_working (λ t. has_work t m) (tree_tasks m.tree) (all_t
     Works t = has_work t m ≡ true
 
 -- where none stands, no row is lost
-no_loss : (t : Treed) → first_task (tree_tasks t) ≡ None → tree_lost t ≡ 0
-no_loss t e =
+no_loss : (m : Moment) → first_task (tree_tasks m.tree) ≡ None → counts m Rdel ≡ 0
+no_loss m e =
+    let t : Treed = m.tree in
     let a = first_none (task t.connected) t.connected.tables.deletions (branch_tasks t.statics ++ (branch_tasks t.ospf ++ branch_tasks t.rip)) e in
     let b = first_none (task t.statics) t.statics.tables.deletions (branch_tasks t.ospf ++ branch_tasks t.rip) a.1 in
     let c = first_none (task t.ospf) t.ospf.tables.deletions (branch_tasks t.rip) b.1 in
-    let x : lost_count t.connected.tables.deletions ≡ 0 = ap lost_count a.0 in
-    let y : lost_count t.statics.tables.deletions ≡ 0 = ap lost_count b.0 in
-    let z : lost_count t.ospf.tables.deletions ≡ 0 = ap lost_count c.0 in
-    let w : lost_count t.rip.tables.deletions ≡ 0 = ap lost_count (last t.rip.tables.deletions c.1) in
-    omega (arith, x, y, z, w)
+    over_none Rdel m (λ proto. elim proto as (λ k. (branch_of k t).tables.deletions ≡ []) [ Connected ↦ a.0 | Static ↦ b.0 | Ospf ↦ c.0 | Rip ↦ last t.rip.tables.deletions c.1 ])
   where
     task : Branch → Lost Interior → Task
     task b d = tasks.Rdel b.proto d.number
 
-    last : (ds : List (Lost Interior)) → first_task (map (task t.rip) ds) ≡ None → ds ≡ []
+    last : (ds : List (Lost Interior)) → first_task (map (task m.tree.rip) ds) ≡ None → ds ≡ []
     last [] e = refl
     last (x ∷ xs) e = absurd (cc)
 
@@ -104,5 +91,5 @@ pub next_of_tree : (r : Phase) (m v : Moment) (first : Option Task) → r ≡ Rd
 next_of_tree r m v first is view stands found = found ∙ ap (λ (n : Moment). first_task (tree_tasks n.tree)) view ∙ sym (next_loss m stands) ∙ ap (λ (e : Phase). next_task e m) (sym is)
 
 pub none_of_tree : (r : Phase) (m v : Moment) (first : Option Task) → r ≡ Rdel → v ≡ m → first ≡ first_task (tree_tasks v.tree) → IfNone first (counts m r ≡ 0)
-none_of_tree r m v None is view found = ap (counts m) is ∙ no_loss m.tree (ap (λ (n : Moment). first_task (tree_tasks n.tree)) (sym view) ∙ sym found)
+none_of_tree r m v None is view found = ap (counts m) is ∙ no_loss m (ap (λ (n : Moment). first_task (tree_tasks n.tree)) (sym view) ∙ sym found)
 none_of_tree r m v (Some task) is view found = tt

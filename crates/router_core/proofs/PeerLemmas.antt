@@ -29,7 +29,8 @@ use Rattle.router_core.specs.Blocks.{ByPeer, BeginsIf, Declares, declared_speake
 use Rattle.router_core.specs.Peers.{is_up}
 use Rattle.router_core.specs.Works.{HasStepped, Pushes}
 use Rattle.router_core.proofs.RegionLemmas.{leads_inward}
-use Rattle.router_core.proofs.StandLemmas.{one_peer, peer_of, chain_there, stands_with, live_edited}
+use Rattle.peer_side.proofs.MapLemmas.{one_of as one_peer}
+use Rattle.router_core.proofs.StandLemmas.{peer_of, chain_there, stands_with, live_edited}
 use Rattle.router_core.proofs.KeepLemmas.{steps_said}
 
 -- ---- a peer more

@@ -1,15 +1,11 @@
 -- Turns that are spent, whatever the table of phases is.
-use Rattle.std.proofs.Common.{◌≡◌, ℕ, ◌+◌, ◌-◌, ◌*◌, ◌<◌, ◌≤◌, Bool, true, false, cond, List, [], ◌∷◌, nat_lt, refl, sym, subst, arith}
+use Rattle.std.proofs.Common.{◌≡◌, ℕ, ◌+◌, ◌-◌, ◌*◌, ◌<◌, ◌≤◌, true, false, cond, List, [], ◌∷◌, nat_lt, sym, subst, arith}
 use Rattle.std.specs.List.{AllByRecursion}
 use Rattle.std.proofs.lemmas.Bool.Decides.{nat_tests}
 use Rattle.std.proofs.Math.Nat.{mul-le-mul_left}
+use Rattle.link_region.proofs.RegionLemmas.{by_bool}
 use Rattle.router_core.specs.declared.router.Phase.{Phase}
 use Rattle.router_core.specs.Phases.{Frame, Rise, Each, UpTo, Counts, rise, risen, Spends, grown, bounds}
-
--- by a test, with what it came to
-by_bool : (b : Bool) (P : Bool → Type 0) → (b ≡ true → P true) → (b ≡ false → P false) → P b
-by_bool true P yes_so no_so = yes_so refl
-by_bool false P yes_so no_so = no_so refl
 
 -- ---- the two kinds of rise: all that the rest needs of them
 pub risen_least : (x : Rise) (n c : ℕ) → c ≤ risen x n c

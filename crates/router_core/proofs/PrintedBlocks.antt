@@ -65,7 +65,7 @@ use Rattle.router_core.specs.Phases.{all_phases}
 use Rattle.router_core.specs.Turns.{journal_lines, FallsRoute}
 use Rattle.router_core.specs.Blocks.{Just, begin_line, Loses, Declares, Refilters, DropsRouteIf, LosesProtocol, CoversAddress, Hears, BeginsIf, EndsIf, HearsIf, answer_lines, Shows, ByPeer, IsBlock}
 use Rattle.router_core.proofs.StandLemmas.{peer_of}
-use Rattle.router_core.proofs.TreeParts.{put_all}
+use Rattle.rib_tree.proofs.TreeParts.{put_all}
 use Rattle.router_core.proofs.PrintedTurns.{Fit, Goes, IsSaid, feeds_go, route_goes, turns_go, phases_go, first_goes}
 
 -- what an event leaves beside the declarations, and what it says

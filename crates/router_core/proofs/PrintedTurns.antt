@@ -47,7 +47,7 @@ use Rattle.router_core.specs.Moments.{Moment, with_chains}
 use Rattle.router_core.specs.Blocks.{RunsFirst}
 use Rattle.live_state.specs.Messages.{plain}
 use Rattle.router_core.specs.Turns.{journal_lines, InPeers, FeedsAll, fib_entries, FallsRoute, IsPeerTurn, IsRouteTurn, IsTurn, Turns, Runs, RunsPhase, RunsAll}
-use Rattle.router_core.proofs.TreeParts.{put_all}
+use Rattle.rib_tree.proofs.TreeParts.{put_all}
 
 -- where no protocol has lost its routes more often than so
 module _ (peers : ℕ → Option Neighbour) (most : ℕ) where

@@ -1,5 +1,5 @@
 -- The loss of a protocol.
-use Rattle.std.proofs.Common.{◌≡◌, ◌+◌, ◌<◌, ◌≤◌, true, false, List, ◌++◌, length, Option, Some, None, IsSome, refl, sym, ap, subst, ◌∙◌, arith}
+use Rattle.std.proofs.Common.{◌≡◌, ◌+◌, ◌≤◌, List, ◌++◌, length, Some, None, IsSome, refl, sym, ap, subst, ◌∙◌}
 use Rattle.bgp_attr.specs.declared.speaker.Speaker.{Speaker}
 use Rattle.rib_route.specs.declared.Proto.{Proto}
 use Rattle.journal_text.specs.declared.entry.Entry.{Entry}
@@ -12,7 +12,7 @@ use Rattle.event_text.specs.declared.event.Event.TheVariants.{Lose}
 use Rattle.rib_tree.specs.Branches.{Branch}
 use Rattle.rib_tree.specs.BranchSteps.{lost_branch}
 use Rattle.loss_chain.specs.declared.owner.Owner.TheVariants as owners
-use Rattle.rib_tree.specs.Trees.{Treed, branch_of, int_rows, IsTree, IsFull, AreNumbered}
+use Rattle.rib_tree.specs.Trees.{Treed, branch_of, int_rows, IsTree, IsFull}
 use Rattle.rib_tree.specs.Falls.{LeadsTree}
 use Rattle.rib_tree.specs.Steps.{lost_tree, tree_loss_entries, tree_overdue}
 use Rattle.router_core.specs.Moments.{Moment, router_links, Gives, with_rib}
@@ -23,17 +23,32 @@ use Rattle.router_core.specs.Turns.{journal_lines}
 use Rattle.router_core.specs.Works.{Pushes, EndsProtocol, HasProtocolRoom, HasStepped}
 use Rattle.router_core.proofs.RibLinks.{leads_above}
 use Rattle.loss_chain.proofs.TableLemmas.{few_lost}
-use Rattle.router_core.proofs.TreeParts.{put_all}
+use Rattle.rib_tree.proofs.TreeParts.{put_all}
 use Rattle.router_core.proofs.RouteLemmas.{stands_replanted, live_lost}
 use Rattle.router_core.proofs.KeepLemmas.{keeps_then, gives_push}
-use Rattle.router_core.proofs.StandLemmas.{registered_rows}
+use Rattle.router_core.proofs.StandLemmas.{registered_rows, speaker_of}
 
 -- the loss alone
 pub protocol_ended : (proto : Proto) (m : Moment) (t : Treed) (before now : Journaled) → Stands m → tree_overdue proto m.tree ≡ None → IsSome m.declared.speaker → t ≡ lost_tree proto m.tree
     → now ≡ with_entries before (tree_loss_entries proto m.tree) → LeadsTree m.tree (tree_loss_entries proto m.tree) t → int_rows t ≡ int_rows m.tree → IsTree t → IsFull t
     → Pushes (EndsProtocol proto m (with_rib m t m.registry)) before now
-protocol_ended proto m t before now stands free since is lines leads int tree full = by_speaker m.declared.speaker refl since
+protocol_ended proto m t before now stands free since is lines leads int tree full = (
+  journal_lines entries,
+  lines,
+  record {
+    lines = refl;
+    after = ap (λ (x : Treed). with_rib m x m.registry) is;
+    keeps = record {
+      leads = subst (λ (es : List (Entry Value)). Leads (router_links m) es (router_links (with_rib m t m.registry))) (sym (entries_of_entries entries)) (leads_above m me.0 me.1 t m.registry entries leads int);
+      live = ap (λ (x : Treed). live_state (with_rib m x m.registry)) is ∙ live_lost m proto (lost_branch b) m.registry;
+      stands = stands_replanted m me.0 t m.registry stands me.1 tree full few (registered_rows m stands ∙ sym int);
+    };
+  },
+)
   where
+    me : (me : Speaker) × (m.declared.speaker ≡ Some me)
+    me = speaker_of m.declared.speaker since
+
     entries : List (Entry Value)
     entries = tree_loss_entries proto m.tree
 
@@ -44,22 +59,6 @@ protocol_ended proto m t before now stands free since is lines leads int tree fu
     few = subst (λ (x : Treed). (other : Proto) → length (branch_of other x).tables.deletions ≤ 16) (sym is)
         (put_all (λ (x : Branch). length x.tables.deletions ≤ 16) proto (lost_branch b) m.tree (few_lost (owners.Origin b.proto) (b.losses + 1) b.tables ((stands.own InteriorTree).few proto) free) (stands.own InteriorTree).few)
 
-    by_speaker : (s : Option Speaker) → m.declared.speaker ≡ s → IsSome s → Pushes (EndsProtocol proto m (with_rib m t m.registry)) before now
-    by_speaker None at some = absurd (let contra : false ≡ true = some in cc)
-    by_speaker (Some me) at some = (
-      journal_lines entries,
-      lines,
-      record {
-        lines = refl;
-        after = ap (λ (x : Treed). with_rib m x m.registry) is;
-        keeps = record {
-          leads = subst (λ (es : List (Entry Value)). Leads (router_links m) es (router_links (with_rib m t m.registry))) (sym (entries_of_entries entries)) (leads_above m me at t m.registry entries leads int);
-          live = ap (λ (x : Treed). live_state (with_rib m x m.registry)) is ∙ live_lost m proto (lost_branch b) m.registry;
-          stands = stands_replanted m me t m.registry stands at tree full few (registered_rows m stands ∙ sym int);
-        };
-      },
-    )
-
 -- both, as the event's step
 pub protocol_lost : (proto : Proto) (m room m' : Moment) (before j j' now : Journaled) → Gives (HasProtocolRoom proto m room) before j → Pushes (EndsProtocol proto room m') j j' → now ≡ flushed j'
     → Gives (HasStepped m (Lose proto) 0 m') before now
@@ -69,7 +68,3 @@ protocol_lost proto m room m' before j j' now r e is = gives_push (HasProtocolRo
   after = refl;
   keeps = keeps_then m room m' xs ys (λ l. interior_lost l proto) p.keeps q.keeps;
 }) before j j' now r e is
-
--- ---- the protocol may be lost
-pub may_lose : (proto : Proto) (t : Treed) → AreNumbered 4294967294 t → (branch_of proto t).losses < 4294967295
-may_lose proto t all = let at = all proto in omega (arith, at)

@@ -1,5 +1,5 @@
 -- A change of an interior route: what follows it, and what stands then.
-use Rattle.std.proofs.Common.{◌≡◌, ◌≤◌, true, false, not, List, ◌++◌, length, Option, Some, None, IsSome, refl, sym, ap, subst, ◌∙◌, arith, append_assoc}
+use Rattle.std.proofs.Common.{◌≡◌, ◌≤◌, not, List, ◌++◌, length, Option, Some, None, IsSome, refl, sym, ap, subst, ◌∙◌, arith, append_assoc}
 use Rattle.std.specs.FinMap as tables
 use Rattle.std.specs.FinMap.{FinMap}
 use Rattle.addr4.specs.Prefixes.{Network, prefix_cmp}
@@ -23,7 +23,7 @@ use Rattle.journal_text.proofs.WalkLemmas.{leads_append}
 use Rattle.register_interest.specs.Registers.{Registry, put_row}
 use Rattle.rib_tree.specs.Branches.{Branch}
 use Rattle.rib_tree.specs.BranchSteps.{welded_branch, fed_branch}
-use Rattle.loss_chain.specs.Steps.{live_after, without}
+use Rattle.loss_chain.specs.Steps.{live_after}
 use Rattle.rib_tree.specs.Trees.{Treed, branch_of, put_branch, int_rows, IsTree, IsFull}
 use Rattle.rib_tree.specs.Falls.{FallsTree, LeadsTree, way_of_route}
 use Rattle.rib_merge.specs.Forwards.{forwarded}
@@ -34,10 +34,10 @@ use Rattle.router_core.specs.Lives.{live_state}
 use Rattle.router_core.specs.Stands.{Stands, Claim, Claims, InteriorTree, Tie, Ties, Registered, here}
 use Rattle.router_core.specs.Turns.{journal_lines, fib_entries, FallsRoute, Registers}
 use Rattle.router_core.specs.Works.{Forwards, Follows, Settles, PushesForwarded, HasRouted, Pushes}
-use Rattle.loss_chain.proofs.TableLemmas.{few_filter, few_map}
+use Rattle.loss_chain.proofs.TableLemmas.{few_filter}
 use Rattle.router_core.proofs.RibLinks.{leads_rib, leads_above}
-use Rattle.router_core.proofs.TreeParts.{welded_put, put_seen, put_all, put_kept}
-use Rattle.router_core.proofs.StandLemmas.{registered_rows}
+use Rattle.rib_tree.proofs.TreeParts.{welded_put, put_seen, put_all, put_kept, few_fed}
+use Rattle.router_core.proofs.StandLemmas.{registered_rows, speaker_of}
 
 -- ---- the register, and `fib`
 put_is_with : (rows : FinMap prefix_cmp Interior) (p : Network) (row : Option Interior) → tables.get (put_row rows p row) ≡ with_row (tables.get rows) p row
@@ -185,14 +185,10 @@ routes_on m me proto b p way sent t m' before j now stands since at few rows add
     stands_then = stands_replanted m me (welded_tree proto t) m'.registry stands since settles.tree settles.full few_then registered
 
 -- ---- a route that is set, or goes
-few_fed : (b : Branch) (p : Network) (new : Option Interior) → length (fed_branch b p new).tables.deletions ≡ length b.tables.deletions
-few_fed b p None = refl
-few_fed b p (Some row) = few_map (without p) b.tables.deletions
-
-pub routed : (m : Moment) (me : Speaker) (proto : Proto) (p : Network) (new : Option Interior) (way : List Link) (sent : Option (Change Interior)) (t : Treed) (m' : Moment) (before j now : Journaled) → Stands m → m.declared.speaker ≡ Some me
-    → t ≡ fed_tree m.tree proto p new → IsSent (int_rows m.tree) (int_rows t) p sent → Adds (FallsTree m.tree t p way sent) before j → Settles proto sent (with_rib m t m.registry) m' j now
-    → Pushes (HasRouted m (fed_tree m.tree proto p new) proto p way (interior_fed (live_state m) proto (live_after (branch_of proto m.tree).tables.live p new)) m') before now
-routed m me proto p new way sent t m' before j now stands since at rows adds settles = (
+pub routed : (m : Moment) (proto : Proto) (p : Network) (new : Option Interior) (sent : Option (Change Interior)) (t : Treed) (m' : Moment) (before j now : Journaled) → Stands m → IsSome m.declared.speaker
+    → t ≡ fed_tree m.tree proto p new → IsSent (int_rows m.tree) (int_rows t) p sent → Adds (FallsTree m.tree t p (way_of_route proto m.tree) sent) before j → Settles proto sent (with_rib m t m.registry) m' j now
+    → Pushes (HasRouted m (fed_tree m.tree proto p new) proto p (way_of_route proto m.tree) (interior_fed (live_state m) proto (live_after (branch_of proto m.tree).tables.live p new)) m') before now
+routed m proto p new sent t m' before j now stands since at rows adds settles = (
   r.0,
   r.1,
   record {
@@ -207,15 +203,8 @@ routed m me proto p new way sent t m' before j now stands since at rows adds set
     few : length b.tables.deletions ≤ 16
     few = let same = few_fed (branch_of proto m.tree) p new in let was = (stands.own InteriorTree).few proto in omega (arith, same, was)
 
-    r : Pushes (Routes m proto b p way m') before now
-    r = routes_on m me proto b p way sent t m' before j now stands since at few rows adds settles
+    me : (me : Speaker) × (m.declared.speaker ≡ Some me)
+    me = speaker_of m.declared.speaker since
 
-pub routed_since : (m : Moment) (proto : Proto) (p : Network) (new : Option Interior) (sent : Option (Change Interior)) (t : Treed) (m' : Moment) (before j now : Journaled) → Stands m → IsSome m.declared.speaker
-    → t ≡ fed_tree m.tree proto p new → IsSent (int_rows m.tree) (int_rows t) p sent → Adds (FallsTree m.tree t p (way_of_route proto m.tree) sent) before j → Settles proto sent (with_rib m t m.registry) m' j now
-    → Pushes (HasRouted m (fed_tree m.tree proto p new) proto p (way_of_route proto m.tree) (interior_fed (live_state m) proto (live_after (branch_of proto m.tree).tables.live p new)) m') before now
-routed_since m proto p new sent t m' before j now stands since at rows adds settles = by_speaker m.declared.speaker refl since
-  where
-    by_speaker : (s : Option Speaker) → m.declared.speaker ≡ s → IsSome s
-        → Pushes (HasRouted m (fed_tree m.tree proto p new) proto p (way_of_route proto m.tree) (interior_fed (live_state m) proto (live_after (branch_of proto m.tree).tables.live p new)) m') before now
-    by_speaker None me_is some = absurd (let contra : false ≡ true = some in cc)
-    by_speaker (Some me) me_is some = routed m me proto p new (way_of_route proto m.tree) sent t m' before j now stands me_is at rows adds settles
+    r : Pushes (Routes m proto b p (way_of_route proto m.tree) m') before now
+    r = routes_on m me.0 proto b p (way_of_route proto m.tree) sent t m' before j now stands me.1 at few rows adds settles

@@ -21,7 +21,8 @@ use Rattle.router_core.specs.Turns.{Turns}
 use Rattle.router_core.specs.Blocks.{RunsFirst}
 use Rattle.router_core.specs.Works.{HasDrained, HasProtocolRoom}
 use Rattle.loss_chain.proofs.TableLemmas.{is_full, Shorter, shorter_none, shorter_more, free_of, stage_of, no_table, same_by}
-use Rattle.router_core.proofs.TreeParts.{put_here, welded_put}
+use Rattle.rib_tree.proofs.BranchLemmas.{put_own}
+use Rattle.rib_tree.proofs.TreeParts.{welded_put}
 use Rattle.router_core.proofs.KeepLemmas.{keeps_none, gives_none}
 
 abbrev stages : Proto → Moment → List (Lost Interior)
@@ -37,7 +38,7 @@ turns_shorter (suc k) proto n m said m' t = shorter_more n t.3.prefix (stages pr
 
     swept : stages proto t.2 ≡ filter is_full (map (swept_one n t.3.prefix) (stages proto m))
     swept = ap (stages proto) t.3.falls.after ∙ ap (λ (x : Treed). (branch_of proto x).tables.deletions) (welded_put proto b m.tree)
-        ∙ ap (λ (x : Branch). x.tables.deletions) (put_here proto (welded_branch b) m.tree)
+        ∙ ap (λ (x : Branch). x.tables.deletions) (put_own proto (welded_branch b) m.tree)
 
 drained_free : (proto : Proto) (m room : Moment) (task : Task) (turns : ℕ) (said : List Line) → Stands m → tree_overdue proto m.tree ≡ Some task → HasDrained task m turns room said → tree_overdue proto room.tree ≡ None
 drained_free proto m room task turns said stands over d =

@@ -5,7 +5,6 @@ use Rattle.std.specs.FinMap.{FinMap}
 use Rattle.addr4.specs.Prefixes.{Network, prefix_cmp}
 use Rattle.bgp_attr.specs.declared.speaker.Speaker.{Speaker}
 use Rattle.rib_route.specs.declared.Proto.{Proto}
-use Rattle.rib_route.specs.declared.Proto.TheVariants.{Connected, Static, Ospf, Rip}
 use Rattle.rib_route.specs.declared.rows.Interior.{Interior}
 use Rattle.link_change.specs.declared.change.Change.{Change}
 use Rattle.link_change.specs.declared.turn.Turn.{Turn}
@@ -20,7 +19,7 @@ use Rattle.loss_chain.specs.Steps.{swept_one, table_of}
 use Rattle.rib_tree.specs.Trees.{Treed, branch_of, tree_count}
 use Rattle.rib_tree.specs.Falls.{way_of_sweep}
 use Rattle.rib_tree.specs.Laws.{TurnsTakeRows, WeldsKeepRows}
-use Rattle.rib_tree.specs.Steps.{new_tree, SweepsTree, IsTakenTree, swept_tree}
+use Rattle.rib_tree.specs.Steps.{SweepsTree, IsTakenTree, swept_tree}
 use Rattle.router_core.specs.declared.router.Done.{Done}
 use Rattle.router_core.specs.declared.router.Done.TheVariants.{Nothing, Taken}
 use Rattle.router_core.specs.Moments.{Moment, with_rib}
@@ -31,20 +30,15 @@ use Rattle.loss_chain.proofs.TableLemmas.{few_map}
 use Rattle.router_core.proofs.RouteLemmas.{Routes, routes_on, live_stays}
 use Rattle.router_core.specs.Phases.{frame_of}
 use Rattle.router_core.proofs.CountLemmas.{tree_spends}
+use Rattle.rib_tree.proofs.NewLemmas.{of_new}
 
 -- ---- before `local` no stage stands
-no_table : (proto : Proto) (n : ℕ) → table_of n (branch_of proto new_tree).tables.deletions ≡ None
-no_table Connected n = refl
-no_table Static n = refl
-no_table Ospf n = refl
-no_table Rip n = refl
-
 pub since_local : (m : Moment) (proto : Proto) (n : ℕ) (table : FinMap prefix_cmp Interior) → Stands m → table_of n (branch_of proto m.tree).tables.deletions ≡ Some table → (me : Speaker) × (m.declared.speaker ≡ Some me)
 since_local m proto n table stands there = by_speaker m.declared.speaker refl
   where
     by_speaker : (s : Option Speaker) → m.declared.speaker ≡ s → (me : Speaker) × (m.declared.speaker ≡ Some me)
     by_speaker None at =
-        let none : table_of n (branch_of proto m.tree).tables.deletions ≡ None = ap (λ (t : Treed). table_of n (branch_of proto t).tables.deletions) ((stands.own InteriorTree).waiting at) ∙ no_table proto n in
+        let none : table_of n (branch_of proto m.tree).tables.deletions ≡ None = ap (λ (t : Treed). table_of n (branch_of proto t).tables.deletions) ((stands.own InteriorTree).waiting at) ∙ of_new (λ b. table_of n b.tables.deletions ≡ None) (λ k. refl) proto in
         absurd (let contra : Some table ≡ None = sym there ∙ none in cc)
     by_speaker (Some me) at = (me, at)
 

@@ -18,7 +18,7 @@ use Rattle.router_core.specs.Stands.{Stands, SameCount}
 use Rattle.router_core.specs.Phases.{Frame, Each, all_phases, counts, frame_of, rise, bounds, Spends}
 use Rattle.router_core.specs.Turns.{IsTurn, Turns, RunsPhase, RunsAll, phase_of, next_task, has_work, IsSettled}
 use Rattle.router_core.specs.Works.{Keeps, IsWork, IsUnit, HaveRun, HasDrained, HaveRunOf, HaveDrained, AllHaveDrained}
-use Rattle.router_core.proofs.KeepLemmas.{get_or_any, keeps_none, keeps_on, gives_join, gives_none, gives_so}
+use Rattle.router_core.proofs.KeepLemmas.{keeps_none, keeps_on, gives_join, gives_none, gives_so}
 use Rattle.router_core.proofs.PhaseLemmas.{spends_none, spends_join, bounds_step, over_more}
 use Rattle.router_core.proofs.CountLemmas.{counts_below, over_none, none_over}
 use Rattle.router_core.proofs.NextLemmas.{next_works}
@@ -130,11 +130,11 @@ runs_push (e ∷ rs) r n k m at now xs ys a p = (
 )
 
 -- a phase adds nothing to an earlier one: a line for each phase
-never_back : (f : Frame) (i : ℕ) → i < length all_phases → AllByRecursion (λ e. rise f (get_or all_phases i Fin) e ≡ Each 0) (take i all_phases)
-never_back f zero within = tt
-never_back f (suc zero) within = (refl, tt)
-never_back f (suc (suc zero)) within = (refl, (refl, tt))
-never_back f (suc (suc (suc i))) within = absurd (omega (arith, within))
+never_back : (f : Frame) (i : ℕ) (x : Phase) → i < length all_phases → AllByRecursion (λ e. rise f (get_or all_phases i x) e ≡ Each 0) (take i all_phases)
+never_back f zero x within = tt
+never_back f (suc zero) x within = (refl, tt)
+never_back f (suc (suc zero)) x within = (refl, (refl, tt))
+never_back f (suc (suc (suc i))) x within = absurd (omega (arith, within))
 
 each_phase : (P : Phase → Type 0) → AllByRecursion P all_phases → (r : Phase) → P r
 each_phase P all Rdel = all.0
@@ -159,23 +159,20 @@ idling_none m before j stands is = gives_none (Idling 0 0 m m) before j (record 
 
 pub idling_more : (i turns n : ℕ) (x : Phase) (m at now : Moment) (before j j' : Journaled) → i < length all_phases → Gives (Idling i turns m at) before j → Gives (HaveDrained (get_or all_phases i x) at n now) j j'
     → Gives (Idling (i + 1) (turns + n) m now) before j'
-idling_more i turns n x m at now before j j' within g d = gives_join (Idling i turns m at) (HaveDrained r at n now) (Idling (i + 1) (turns + n) m now) both before j j' g d
+idling_more i turns n z m at now before j j' within g d = gives_join (Idling i turns m at) (HaveDrained r at n now) (Idling (i + 1) (turns + n) m now) both before j j' g d
   where
     r : Phase
-    r = get_or all_phases i x
-
-    is : r ≡ get_or all_phases i Fin
-    is = get_or_any all_phases i x Fin within
+    r = get_or all_phases i z
 
     f : Frame
     f = frame_of (live_state m)
 
     both : (xs ys : List Line) → Idling i turns m at xs → HaveDrained r at n now ys → Idling (i + 1) (turns + n) m now (xs ++ ys)
     both xs ys x y =
-        let first : take i all_phases ++ r ∷ [] ≡ take (i + 1) all_phases = ap (λ (e : Phase). take i all_phases ++ e ∷ []) is ∙ sym (take_more all_phases i Fin within) in
-        let rest : drop i all_phases ≡ r ∷ drop (i + 1) all_phases = drop_more all_phases i Fin within ∙ ap (λ (e : Phase). e ∷ drop (i + 1) all_phases) (sym is) in
+        let first : take i all_phases ++ r ∷ [] ≡ take (i + 1) all_phases = sym (take_more all_phases i z within) in
+        let rest : drop i all_phases ≡ r ∷ drop (i + 1) all_phases = drop_more all_phases i z within in
         let spends : Spends f r n (counts at) (counts now) = subst (λ (l : LiveState). Spends (frame_of l) r n (counts at) (counts now)) x.keeps.live y.work.spends in
-        let flat : AllByRecursion (λ e. rise f r e ≡ Each 0) (take i all_phases) = subst (λ (p : Phase). AllByRecursion (λ e. rise f p e ≡ Each 0) (take i all_phases)) (sym is) (never_back f i within) in
+        let flat : AllByRecursion (λ e. rise f r e ≡ Each 0) (take i all_phases) = never_back f i z within in
         let step = bounds_step f r (drop (i + 1) all_phases) n (counts at) (counts now) spends in
         let was : turns + bounds f (r ∷ drop (i + 1) all_phases) (counts at) ≤ bounds f all_phases (counts m) = subst (λ (l : List Phase). turns + bounds f l (counts at) ≤ bounds f all_phases (counts m)) rest x.within in
         record {

@@ -1,9 +1,7 @@
 -- The links that no work holds up are what the live state alone asks for.
 use Rattle.std.proofs.Common.{◌≡◌, ℕ, ◌==◌, ◌&&◌, Bool, true, false, cond, List, [], ◌∷◌, Option, Some, None, is_some, nat_eq, refl, sym, ap, ◌∙◌, arith}
-use Rattle.std.specs.Prelude.{Contains, option_map}
+use Rattle.std.specs.Prelude.{option_map}
 use Rattle.std.specs.FinMap as tables
-use Rattle.std.specs.FinMap.{FinMap}
-use Rattle.addr4.specs.Prefixes.{prefix_cmp}
 use Rattle.bgp_attr.specs.declared.attrs.Attrs.{Attrs}
 use Rattle.bgp_attr.specs.declared.speaker.Speaker.{Speaker}
 use Rattle.bgp_attr.specs.declared.speaker.Neighbour.{Neighbour}
@@ -36,29 +34,14 @@ use Rattle.router_core.specs.declared.router.Phase.TheVariants as phases
 use Rattle.peer_side.specs.Peers.{chain_at, links_by, routes_of, rules_of, has_turn_in}
 use Rattle.live_state.specs.Lives.{Routes, Interiors}
 use Rattle.live_state.specs.Decided.{live_rows, judged_rows, least_rows, origins, since_local}
-use Rattle.live_state.proofs.LeastLemmas.{least_of_two, least_of_four}
+use Rattle.live_state.proofs.LeastLemmas.{least_two, least_four}
+use Rattle.rib_tree.proofs.RestLemmas.{no_stages, no_link, Rest, org_rests, two_rest, four_rest}
 use Rattle.router_core.specs.Moments.{Moment, rib_by}
 use Rattle.router_core.specs.Stands.{StandsAt, Stands, EachChain, EachPeer, OneSpeaker}
 use Rattle.router_core.specs.Scratch.{IsAtRest, IsExactAt, IsExact}
-use Rattle.loss_chain.proofs.TableLemmas.{same_by, no_table, table_here}
+use Rattle.loss_chain.proofs.TableLemmas.{same_by, no_table}
 use Rattle.peer_side.proofs.LinkLemmas.{none_by}
 use Rattle.router_core.specs.Turns.{has_work, IsSettled}
-
--- ---- stages without work
--- where no stage has a turn, none stands
-no_stages : {R : Type 0} (ds : List (Lost R)) → ((n : ℕ) → is_some (table_of n ds) ≡ false) → ds ≡ []
-no_stages [] none = refl
-no_stages (d ∷ ds) none = absurd (let clash : true ≡ false = sym (ap is_some (table_here d.number d ds refl)) ∙ none d.number in cc)
-
--- where that of a loss has none, no link leads into it
-no_link : {R : Type 0} (live : FinMap prefix_cmp R) (n : ℕ) (ds : List (Lost R)) → is_some (table_of n ds) ≡ false → rows_above live n ds ≡ None
-no_link live n [] none = refl
-no_link live n (d ∷ ds) none = by_test (d.number == n) none (λ e. no_link live n ds e)
-  where
-    by_test : (t : Bool) → is_some (cond t (Some d.rows) (table_of n ds)) ≡ false → (is_some (table_of n ds) ≡ false → rows_above live n ds ≡ None)
-        → cond t (Some (rows_below live ds)) (rows_above live n ds) ≡ None
-    by_test true some later = absurd (let clash : true ≡ false = some in cc)
-    by_test false e later = later e
 
 -- no peer, nothing to judge
 unjudged : (s : Option Speaker) (rules : List Rule) (routes : Routes) → judged_rows s None rules routes ≡ None
@@ -115,43 +98,11 @@ module _ (m : Moment) (stands : Stands m) where
   abbrev routes_in : Proto → Interiors
   routes_in proto = (branch_of proto m.tree).tables.live
 
-  abbrev org_of : Proto → Rows Interior
-  org_of proto = org_rows (branch_of proto m.tree)
+  two_are : (a b : Proto) → Rest m.tree (a ∷ b ∷ []) → merged interior_distance (org_rows (branch_of a m.tree)) (org_rows (branch_of b m.tree)) ≡ least_rows routes_in (a ∷ b ∷ [])
+  two_are a b rest = two_rest m.tree a b rest ∙ least_two routes_in a b
 
-  abbrev live_of : Proto → Rows Interior
-  live_of proto = tables.get (routes_in proto)
-
-  abbrev both : Rows Interior → Rows Interior → Rows Interior
-  both = merged interior_distance
-
-  -- no stage of these protocols has work
-  abbrev Rest : List Proto → Type 0
-  Rest protocols = (proto : Proto) → Contains protocols proto → (n : ℕ) → has_work (Rdel proto n) m ≡ false
-
-  org_is : (proto : Proto) → ((n : ℕ) → has_work (Rdel proto n) m ≡ false) → org_of proto ≡ live_of proto
-  org_is proto none = ap (rows_below (routes_in proto)) (no_stages (branch_of proto m.tree).tables.deletions none)
-
-  two_are : (a b : Proto) → Rest (a ∷ b ∷ []) → both (org_of a) (org_of b) ≡ least_rows routes_in (a ∷ b ∷ [])
-  two_are a b rest = settled ∙ least
-    where
-      settled : both (org_of a) (org_of b) ≡ both (live_of a) (live_of b)
-      settled i = both (org_is a (rest a (0, omega arith, refl)) i) (org_is b (rest b (1, omega arith, refl)) i)
-
-      least : both (live_of a) (live_of b) ≡ least_rows routes_in (a ∷ b ∷ [])
-      least i p = sym (least_of_two (live_of a p) (live_of b p)) i
-
-  four_are : (a b c d : Proto) → Rest (a ∷ b ∷ c ∷ d ∷ []) → both (both (org_of a) (org_of b)) (both (org_of c) (org_of d)) ≡ least_rows routes_in (a ∷ b ∷ c ∷ d ∷ [])
-  four_are a b c d rest = settled ∙ least
-    where
-      settled : both (both (org_of a) (org_of b)) (both (org_of c) (org_of d)) ≡ both (both (live_of a) (live_of b)) (both (live_of c) (live_of d))
-      settled i = both (both (org_is a (rest a (0, omega arith, refl)) i) (org_is b (rest b (1, omega arith, refl)) i))
-          (both (org_is c (rest c (2, omega arith, refl)) i) (org_is d (rest d (3, omega arith, refl)) i))
-
-      least : both (both (live_of a) (live_of b)) (both (live_of c) (live_of d)) ≡ least_rows routes_in (a ∷ b ∷ c ∷ d ∷ [])
-      least i p = sym (least_of_four (live_of a p) (live_of b p) (live_of c p) (live_of d p)) i
-
-  int_is : Rest (origins Int) → int_rows m.tree ≡ least_rows routes_in (origins Int)
-  int_is = four_are Connected Static Ospf Rip
+  int_is : Rest m.tree (origins Int) → int_rows m.tree ≡ least_rows routes_in (origins Int)
+  int_is rest = four_rest m.tree Connected Static Ospf Rip rest ∙ least_four routes_in Connected Static Ospf Rip
 
   -- from the link's rows to the link, which is live since `local`
   since : {V : Type 0} (value : Rows V → Rows Value) (rows now : Rows V) (link : Link) → rib_links m.tree link ≡ Some (value rows) → rows ≡ now
@@ -169,7 +120,7 @@ module _ (m : Moment) (stands : Stands m) where
   at_rest_is_exact (Peer k s) rest = peer_exact k s rest (chain_at k m.chains) refl
   at_rest_is_exact (Filt k) rest = filt_exact k rest (peer_at k m.declared.peers) (chain_at k m.chains) refl (stands.own EachPeer k)
   at_rest_is_exact (Res j) rest = none_by (Res j) (λ c. refl) (chain_at j m.chains)
-  at_rest_is_exact (Org p) rest = since interior_rows (org_of p) (live_of p) (Org p) refl (org_is p (λ n. rest (Rdel p n) (0, omega arith, refl))) m.declared.speaker
+  at_rest_is_exact (Org p) rest = since interior_rows (org_rows (branch_of p m.tree)) (tables.get (routes_in p)) (Org p) refl (org_rests m.tree p (λ n. rest (Rdel p n) (0, omega arith, refl))) m.declared.speaker
   at_rest_is_exact (LostOf p n) rest = lost_exact p n rest m.declared.speaker
   at_rest_is_exact Low rest = since interior_rows (low_rows m.tree) (least_rows routes_in (origins Low)) Low refl (two_are Connected Static (λ p of n. rest (Rdel p n) of)) m.declared.speaker
   at_rest_is_exact Dyn rest = since interior_rows (dyn_rows m.tree) (least_rows routes_in (origins Dyn)) Dyn refl (two_are Ospf Rip (λ p of n. rest (Rdel p n) of)) m.declared.speaker

@@ -1,18 +1,9 @@
 -- The rows of a link, one after the other.
-use Rattle.std.proofs.Common.{◌≡◌, ◌⊎◌, ℕ, ◌+◌, ◌^◌, ◌<◌, ◌≤◌, false, List, [], ◌∷◌, ◌++◌, map, length, Option, Some, None, refl, sym, ap, subst, ◌∙◌, inl, inr, append-nil, append_assoc, length-append, arith}
-use Rattle.std.specs.Prelude.{IsSome, is_some, Contains}
-use Rattle.std.specs.List.{AllByRecursion}
-use Rattle.std.specs.List.Sorted.{IsStrictlySortedBy}
-use Rattle.std.specs.Ordering.{ordering_reverse}
-use Rattle.std.specs.declared.cmp.Ordering.{Ordering}
-use Rattle.std.specs.declared.cmp.Ordering.TheVariants.{Less, Equal, Greater}
+use Rattle.std.proofs.Common.{◌≡◌, ℕ, ◌+◌, ◌^◌, ◌<◌, List, [], ◌∷◌, ◌++◌, length, Option, Some, None, refl, sym, ap, subst, ◌∙◌, append-nil, length-append, arith}
+use Rattle.std.specs.Prelude.{IsSome}
 use Rattle.std.proofs.lemmas.List.{map-append}
-use Rattle.std.proofs.lemmas.List.Elements.{Contains-push, Contains-append_left}
-use Rattle.addr4.specs.Prefixes.{Network, prefix_cmp, ComesBefore}
-use Rattle.addr4.specs.Places.{IsBeyond, IsShort, beyond}
-use Rattle.addr4.proofs.PrefixOrder.{prefixes_total, exact_prefixes}
-use Rattle.addr4.proofs.RankLemmas.{rank_beyond, further}
-use Rattle.loss_chain.proofs.ListLemmas.{all_appended}
+use Rattle.addr4.specs.Prefixes.{Network}
+use Rattle.loss_chain.proofs.TableLemmas.{no_table}
 use Rattle.link_change.specs.Rows.{Rows, Candidates, IsNextCandidate, CoversRows, with_rows}
 use Rattle.journal_text.specs.declared.value.Value.{Value}
 use Rattle.journal_text.specs.declared.link.Link.{Link}
@@ -21,8 +12,10 @@ use Rattle.journal_text.specs.declared.line.Line.TheVariants as lines
 use Rattle.journal_text.specs.Walk.{Links, HasRow}
 use Rattle.journal_text.specs.Texts.{entries_of}
 use Rattle.event_text.specs.declared.event.Event.TheVariants as events
-use Rattle.router_core.specs.Moments.{Moment, router_links}
+use Rattle.router_core.specs.Moments.{Moment, router_links, rib_by}
 use Rattle.journal_text.specs.Journals.{Journaled, with_lines}
+use Rattle.journal_text.proofs.JournalLemmas.{with_lines_append}
+use Rattle.journal_laws.proofs.ShownRows.{IsShown, none_shown, one_shown, none_more, none_left, with_none}
 use Rattle.router_core.specs.Blocks.{AreRows, answer_lines, Shows}
 use Rattle.router_core.specs.Lookups.{listed_at, row_lines, Counts, ShowsRow, IsCountOf, IsNextPlace}
 use Rattle.bgp_attr.specs.declared.speaker.Speaker.{Speaker}
@@ -31,115 +24,26 @@ use Rattle.rib_tree.specs.Forwards.{rib_links}
 use Rattle.link_region.specs.declared.regions.Region.TheVariants.{Inward}
 use Rattle.link_region.specs.Regions.{region_of}
 use Rattle.peer_side.specs.Peers.{peer_links, peer_candidates}
-use Rattle.router_core.specs.Moments.{rib_by}
+use Rattle.peer_side.proofs.MapLemmas.{one_of}
 use Rattle.router_core.proofs.RegionLemmas.{in_region}
 use Rattle.router_core.specs.Works.{Pushes, HasStepped}
 use Rattle.router_core.specs.Stands.{Stands}
 use Rattle.router_core.specs.Lives.{live_state}
 use Rattle.router_core.proofs.KeepLemmas.{steps_said}
 
--- a prefix lies beyond the place, or is listed
-abbrev IsAhead : Option Network → List (Network × Value) → Network → Type 0
-IsAhead place listed q = IsBeyond place q ⊎ Contains (map (λ r. r.0) listed) q
+-- the next candidate, whether it has a row or not
+next_shown : (candidates : Candidates) (rows : Rows Value) → CoversRows candidates rows → (place : Option Network) (listed : List (Network × Value)) (p : Network) (row : Option Value) → IsNextCandidate candidates place (Some p) → rows p ≡ row → IsShown rows place listed
+    → IsShown rows (Some p) (listed ++ listed_at p row)
+next_shown candidates rows covers place listed p None next here is = subst (IsShown rows (Some p)) (sym (append-nil listed)) (none_more candidates rows covers place listed p next here is)
+next_shown candidates rows covers place listed p (Some v) next here is = one_shown candidates rows covers place listed p v next here is
 
--- these are all rows up to a place
-pub record IsShown (rows : Rows Value) (place : Option Network) (listed : List (Network × Value)) : Type 0 where
-  pub order : IsStrictlySortedBy prefix_cmp (map (λ r. r.0) listed)
-  pub before : (p : Network) → IsBeyond place p → AllByRecursion (λ q. ComesBefore q p) (map (λ r. r.0) listed)
-  pub each : AllByRecursion (λ r. rows r.0 ≡ Some r.1) listed
-  pub rest : (q : Network) → IsSome (rows q) → IsBeyond place q ⊎ Contains (map (λ r. r.0) listed) q
-
-pub none_shown : (rows : Rows Value) → IsShown rows None []
-unfolding IsStrictlySortedBy
-none_shown rows = record { order = tt; before = λ p _. tt; each = tt; rest = λ q _. inl tt }
-
-sorted_push : (ks : List Network) (p : Network) → IsStrictlySortedBy prefix_cmp ks → AllByRecursion (λ q. ComesBefore q p) ks → IsStrictlySortedBy prefix_cmp (ks ++ p ∷ [])
-unfolding IsStrictlySortedBy
-sorted_push [] p sorted before = (tt, tt)
-sorted_push (k ∷ ks) p sorted before = (all_appended (λ q. prefix_cmp k q ≡ Less) (λ q. prefix_cmp k q ≡ Less) (λ q less. less) ks p sorted.0 before.0, sorted_push ks p sorted.1 before.1)
-
-prefixes_push : (listed : List (Network × Value)) (p : Network) (v : Value) → map (λ r. r.0) (listed ++ (p, v) ∷ []) ≡ map (λ r. r.0) listed ++ p ∷ []
-prefixes_push listed p v = map-append (λ r. r.0) listed ((p, v) ∷ [])
-
-module _ (candidates : Candidates) (rows : Rows Value) (covers : CoversRows candidates rows) where
-  -- one row more, at the next candidate
-  one_shown : (place : Option Network) (listed : List (Network × Value)) (p : Network) (v : Value) → IsNextCandidate candidates place (Some p) → rows p ≡ Some v → IsShown rows place listed
-      → IsShown rows (Some p) (listed ++ (p, v) ∷ [])
-  one_shown place listed p v next row is = record {
-    order = subst (IsStrictlySortedBy prefix_cmp) push (sorted_push ks p is.order (is.before p next.0));
-    before = λ q beyond. subst (AllByRecursion (λ k. ComesBefore k q)) push (all_appended (λ k. ComesBefore k q) (λ k. ComesBefore k q) (λ k less. less) ks p (is.before q (further place p q next.0 beyond)) beyond);
-    each = all_appended (λ r. rows r.0 ≡ Some r.1) (λ r. rows r.0 ≡ Some r.1) (λ r is. is) listed (p, v) is.each row;
-    rest = λ q some. by_rest q some (is.rest q some);
-  }
-    where
-      ks : List Network
-      ks = map (λ r. r.0) listed
-
-      push : ks ++ p ∷ [] ≡ map (λ r. r.0) (listed ++ (p, v) ∷ [])
-      push = sym (prefixes_push listed p v)
-
-      by_order : (q : Network) (o : Ordering) → prefix_cmp q p ≡ o → IsSome (rows q) → IsBeyond place q → IsAhead (Some p) (listed ++ (p, v) ∷ []) q
-      by_order q Less e some beyond = let none : rows q ≡ None = covers q (next.2 q beyond e) in absurd (cc)
-      by_order q Equal e some beyond = inr (subst (λ ks. Contains ks q) push (subst (λ k. Contains (ks ++ k ∷ []) q) (exact_prefixes q p e) (Contains-push ks q)))
-      by_order q Greater e some beyond = inl (prefixes_total.antisymm p q ∙ ap ordering_reverse e)
-
-      by_rest : (q : Network) → IsSome (rows q) → IsBeyond place q ⊎ Contains ks q → IsAhead (Some p) (listed ++ (p, v) ∷ []) q
-      by_rest q some (inl beyond) = by_order q (prefix_cmp q p) refl some beyond
-      by_rest q some (inr there) = inr (subst (λ ks. Contains ks q) push (Contains-append_left ks (p ∷ []) q there))
-
-  -- none more, where the next candidate has no row
-  none_more : (place : Option Network) (listed : List (Network × Value)) (p : Network) → IsNextCandidate candidates place (Some p) → rows p ≡ None → IsShown rows place listed
-      → IsShown rows (Some p) listed
-  none_more place listed p next none is = record {
-    order = is.order;
-    before = λ q beyond. is.before q (further place p q next.0 beyond);
-    each = is.each;
-    rest = λ q some. by_rest q some (is.rest q some);
-  }
-    where
-      by_order : (q : Network) (o : Ordering) → prefix_cmp q p ≡ o → IsSome (rows q) → IsBeyond place q → IsAhead (Some p) listed q
-      by_order q Less e some beyond = let none : rows q ≡ None = covers q (next.2 q beyond e) in absurd (cc)
-      by_order q Equal e some beyond = let here : rows q ≡ None = ap rows (exact_prefixes q p e) ∙ none in absurd (cc)
-      by_order q Greater e some beyond = inl (prefixes_total.antisymm p q ∙ ap ordering_reverse e)
-
-      by_rest : (q : Network) → IsSome (rows q) → IsBeyond place q ⊎ Contains (map (λ r. r.0) listed) q → IsAhead (Some p) listed q
-      by_rest q some (inl beyond) = by_order q (prefix_cmp q p) refl some beyond
-      by_rest q some (inr there) = inr there
-
-  -- the next candidate, whether it has a row or not
-  pub next_shown : (place : Option Network) (listed : List (Network × Value)) (p : Network) (row : Option Value) → IsNextCandidate candidates place (Some p) → rows p ≡ row → IsShown rows place listed
-      → IsShown rows (Some p) (listed ++ listed_at p row)
-  next_shown place listed p None next here is = subst (IsShown rows (Some p)) (sym (append-nil listed)) (none_more place listed p next here is)
-  next_shown place listed p (Some v) next here is = one_shown place listed p v next here is
-
-  -- where no candidate is left, these are all rows
-  pub all_shown : (place : Option Network) (listed : List (Network × Value)) → IsNextCandidate candidates place None → IsShown rows place listed → AreRows rows listed
-  all_shown place listed none is = record { order = is.order; each = is.each; all = λ q some. by_rest q some (is.rest q some) }
-    where
-      by_rest : (q : Network) → IsSome (rows q) → IsBeyond place q ⊎ Contains (map (λ r. r.0) listed) q → Contains (map (λ r. r.0) listed) q
-      by_rest q some (inl beyond) = let no : rows q ≡ None = covers q (none q beyond) in absurd (cc)
-      by_rest q some (inr there) = there
-
--- ---- how far a walk goes
--- a prefix of IPv4, if any
-abbrev pub IsPlaced : Option Network → Type 0
-IsPlaced None = Unit {0}
-IsPlaced (Some p) = (p.length ≤ 32) × (p.address < 2 ^ 32)
-
-pub short_place : (place : Option Network) → IsPlaced place → IsShort place
-short_place None is = tt
-short_place (Some p) is = omega (arith, is.0)
-
-pub place_rises : (place : Option Network) (p : Network) → IsPlaced place → IsBeyond place p → beyond place < beyond (Some p)
-place_rises place p is further = let le = rank_beyond place p (short_place place is) further in omega arith
+all_shown : (candidates : Candidates) (rows : Rows Value) → CoversRows candidates rows → (place : Option Network) (listed : List (Network × Value)) → IsNextCandidate candidates place None → IsShown rows place listed → AreRows rows listed
+all_shown candidates rows covers place listed none is = record { order = is.order; each = is.each; all = none_left candidates rows covers place listed none is }
 
 -- ---- a link that is live, and its walk
-one_rows : (a b : Rows Value) → Some a ≡ Some b → a ≡ b
-one_rows a b e = cc
-
 -- the row of a link, at its only map of rows
 row_here : (links : Links Value) (link : Link) (p : Network) (row : Option Value) (rows : Rows Value) → HasRow links link p row → links link ≡ Some rows → rows p ≡ row
-row_here links link p row rows has is = ap (λ (f : Rows Value). f p) (one_rows rows has.0 (sym is ∙ has.1)) ∙ has.2
+row_here links link p row rows has is = ap (λ (f : Rows Value). f p) (one_of rows has.0 (sym is ∙ has.1)) ∙ has.2
 
 length_at : (p : Network) (row : Option Value) (listed : List (Network × Value)) (m n : ℕ) → m ≡ length listed → n ≡ length (listed_at p row) → m + n ≡ length (listed ++ listed_at p row)
 length_at p row listed m n e f = let l = length-append listed (listed_at p row) in omega arith
@@ -173,12 +77,6 @@ all_counted None place n live next counted = absurd (cc)
 all_counted (Some rows) place n live next counted =
     (counted.0, all_shown next.0 rows (next.2 rows refl) place counted.0 next.1 (counted.2 rows refl), counted.1)
 
-pub with_none : (j : Journaled) → j ≡ with_lines j []
-with_none j = ap (λ pending. record { text = j.text; pending = pending; quiet = j.quiet }) (sym (append-nil j.pending))
-
-pub with_more : (j : Journaled) (a b : List Line) → with_lines (with_lines j a) b ≡ with_lines j (a ++ b)
-with_more j a b = ap (λ pending. record { text = j.text; pending = pending; quiet = j.quiet }) (append_assoc j.pending a b)
-
 -- so many rows were passed, and their lines pushed
 abbrev pub AreGiven : Link → Option (Rows Value) → Option Network → ℕ → Journaled → Journaled → Type 0
 AreGiven link of place n before now = (listed : List (Network × Value)) × (now ≡ with_lines before (row_lines link listed)) × (n ≡ length listed) × AreShown of place listed
@@ -190,7 +88,7 @@ pub one_given : (links : Links Value) (link : Link) (place : Option Network) (p 
     → IsNextPlace (links link) place (Some p) → ShowsRow links link p j now n → AreGiven link (links link) place m before j → AreGiven link (links link) (Some p) (m + n) before now
 one_given links link place p m n before j now next row given = (
   given.0 ++ listed_at p row.0,
-  row.3 ∙ ap (λ (x : Journaled). with_lines x (row_lines link (listed_at p row.0))) given.1 ∙ with_more before (row_lines link given.0) (row_lines link (listed_at p row.0))
+  row.3 ∙ ap (λ (x : Journaled). with_lines x (row_lines link (listed_at p row.0))) given.1 ∙ with_lines_append before (row_lines link given.0) (row_lines link (listed_at p row.0))
       ∙ ap (with_lines before) (sym (map-append (λ r. lines.Row link r.0 r.1) given.0 (listed_at p row.0))),
   length_at p row.0 given.0 m n given.2 row.2,
   row_shown links link place p row.0 given.0 next row.1 given.3,
@@ -202,7 +100,7 @@ rows_end link None place n before j now small live next given last = absurd (cc)
 rows_end link (Some rows) place n before j now small live next given last = (
   row_lines link given.0 ++ lines.Rows link (length given.0) ∷ [],
   last ∙ ap (λ m. with_lines j (lines.Rows link m ∷ [])) given.2 ∙ ap (λ s. with_lines s (lines.Rows link (length given.0) ∷ [])) given.1
-      ∙ with_more before (row_lines link given.0) (lines.Rows link (length given.0) ∷ []),
+      ∙ with_lines_append before (row_lines link given.0) (lines.Rows link (length given.0) ∷ []),
   (given.0, all_shown next.0 rows (next.2 rows refl) place given.0 next.1 (given.3 rows refl), refl, subst (λ (k : ℕ). k < 2 ^ 128) given.2 small),
 )
 
@@ -231,14 +129,10 @@ ask_stepped m link p (Some rows) stands is = record {
 }
 
 -- ---- a link whose candidates are its rows
-none_by_test : (o : Option Value) → is_some o ≡ false → o ≡ None
-none_by_test None e = refl
-none_by_test (Some v) e = absurd (cc)
-
 -- the next candidate of each map of rows that the link has
 next_row : (of : Option (Rows Value)) (place result : Option Network) → IsSome of → ((rows : Rows Value) → of ≡ Some rows → IsNextCandidate (with_rows rows) place result) → IsNextPlace of place result
 next_row None place result live next = absurd (cc)
-next_row (Some own) place result live next = (with_rows own, next own refl, λ rows is q lacks. ap (λ (f : Rows Value). f q) (one_rows rows own (sym is)) ∙ none_by_test (own q) lacks)
+next_row (Some own) place result live next = (with_rows own, next own refl, λ rows is q lacks. ap (λ (f : Rows Value). f q) (one_of rows own (sym is)) ∙ no_table (own q) lacks)
 
 -- by the region of the link
 pub next_inward : (m v : Moment) (link : Link) (place result : Option Network) → v ≡ m → region_of link ≡ Inward → IsNextCandidate (peer_candidates v.chains link) place result

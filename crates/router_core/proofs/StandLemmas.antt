@@ -1,5 +1,5 @@
 -- What stands after a step of one chain, and what is live then.
-use Rattle.std.proofs.Common.{◌≡◌, ℕ, Bool, true, false, cond, List, Option, Some, None, nat_eq, refl, sym, ap, subst, ◌∙◌, length}
+use Rattle.std.proofs.Common.{◌≡◌, ℕ, true, false, cond, List, Option, Some, None, nat_eq, refl, sym, ap, subst, ◌∙◌, length}
 use Rattle.std.specs.Prelude.{IsSome, is_some}
 use Rattle.std.specs.FinMap as tables
 use Rattle.bgp_attr.specs.declared.speaker.Speaker.{Speaker}
@@ -12,6 +12,7 @@ use Rattle.loss_chain.proofs.TableLemmas.{equal_by}
 use Rattle.link_region.proofs.RegionLemmas.{by_bool}
 use Rattle.peer_side.specs.Peers.{Chains, chain_at, put_chain, routes_of, rules_of, IsPeers}
 use Rattle.peer_side.proofs.PutLemmas.{at_put, put_seen, put_each, put_size}
+use Rattle.live_state.proofs.AdmittedLemmas.{rules_same, routes_same}
 use Rattle.router_core.specs.Moments.{Moment, with_chains}
 use Rattle.live_state.specs.Lives.{LiveState, Routes, with_routes, with_rules}
 use Rattle.router_core.specs.Lives.{live_state}
@@ -26,10 +27,12 @@ remade m d cs = record m { declared = d; chains = cs }
 pub registered_rows : (m : Moment) → Stands m → tables.get m.registry.rows ≡ int_rows m.tree
 registered_rows m stands i p = stands.at p Registered i
 
--- ---- one peer and its chain
-pub one_peer : (p q : DeclaredPeer) → Some p ≡ Some q → p ≡ q
-one_peer p q e = cc
+-- ---- `local` was declared
+pub speaker_of : (o : Option Speaker) → IsSome o → (me : Speaker) × (o ≡ Some me)
+speaker_of None some = absurd (let contra : false ≡ true = some in cc)
+speaker_of (Some me) some = (me, refl)
 
+-- ---- one peer and its chain
 stands_there : (c : Chained) (o : Option DeclaredPeer) → StandsAt o (Some c) → (p : DeclaredPeer) × (o ≡ Some p) × PeerStands p c
 stands_there c None stands = absurd stands
 stands_there c (Some p) stands = (p, refl, stands)
@@ -87,24 +90,6 @@ live_with m now k c' i = live_by m now (λ j. put_seen routes_of k c' m.chains j
 
 pub routes_there : (m : Moment) (k : ℕ) (c : Chained) → chain_at k m.chains ≡ Some c → (live_state m).routes k ≡ c.incoming.tables.live
 routes_there m k c at = ap routes_of at
-
--- what is set to what it is
-same_at : {A : Type 0} (all : ℕ → A) (k : ℕ) (one : A) → all k ≡ one → (j : ℕ) → cond (nat_eq j k) one (all j) ≡ all j
-same_at all k one is j = by_bool (nat_eq j k) (λ b. cond b one (all j) ≡ all j) (λ e. sym is ∙ ap all (sym (equal_by j k e))) (λ _. refl)
-
-pub routes_same : (all : ℕ → Routes) (k : ℕ) (routes : Routes) → all k ≡ routes → with_routes all k routes ≡ all
-routes_same all k routes is i j = same_at all k routes is j i
-
-pub rules_same : (all : ℕ → List Rule) (k : ℕ) (rules : List Rule) → all k ≡ rules → with_rules all k rules ≡ all
-rules_same all k rules is i j = same_at all k rules is j i
-
--- routes that are set twice
-pub routes_twice : (all : ℕ → Routes) (k : ℕ) (a b : Routes) → with_routes (with_routes all k a) k b ≡ with_routes all k b
-routes_twice all k a b i j = by_test (nat_eq j k) i
-  where
-    by_test : (t : Bool) → cond t b (cond t a (all j)) ≡ cond t b (all j)
-    by_test true = refl
-    by_test false = refl
 
 -- where the rules stay
 pub live_routed : (m : Moment) (now : Declaration) (k : ℕ) (c c' : Chained) (cs : Chains) → chain_at k m.chains ≡ Some c → cs ≡ put_chain k c' m.chains → present c'.filter ≡ present c.filter

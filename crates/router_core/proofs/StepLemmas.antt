@@ -1,6 +1,5 @@
 -- What each event comes to.
-use Rattle.std.proofs.Common.{◌≡◌, ℕ, ◌<◌, ◌^◌, Bool, true, false, not, cond, List, [], ◌∷◌, ◌++◌, Option, Some, None, refl, sym, ap, subst, ◌∙◌}
-use Rattle.bgp_attr.specs.declared.speaker.Speaker.{Speaker}
+use Rattle.std.proofs.Common.{◌≡◌, ℕ, ◌<◌, ◌^◌, Bool, true, false, cond, List, [], ◌∷◌, ◌++◌, Option, Some, refl, sym, ap, subst, ◌∙◌}
 use Rattle.bgp_wire.specs.declared.notice.Notice.{Notice}
 use Rattle.bgp_wire.specs.declared.message.Message.{Message}
 use Rattle.bgp_wire.specs.declared.message.Message.TheVariants as messages
@@ -12,7 +11,7 @@ use Rattle.journal_text.specs.Journals.{Journaled, with_lines, flushed}
 use Rattle.event_text.specs.declared.event.Event.TheVariants.{Down, Bgp, Cover, Idle, Work}
 use Rattle.event_text.specs.declared.event.Event.{Event}
 use Rattle.event_text.specs.declared.declared.DeclaredPeer.{DeclaredPeer}
-use Rattle.event_text.specs.Declarations.{Declaration, peer_at, refusal, refusal_at, undeclared}
+use Rattle.event_text.specs.Declarations.{peer_at}
 use Rattle.std.specs.FinMap as tables
 use Rattle.addr4.specs.Prefixes.{Network}
 use Rattle.link_change.specs.Rows.{Rows}
@@ -29,27 +28,6 @@ use Rattle.router_core.specs.Blocks.{AreMessageOctets, EndsIf, Hears, HearsIf, B
 use Rattle.router_core.specs.Works.{Pushes, Keeps, AreTurns, AllHaveDrained, HasLost, HasHeard, HasIdled, HasStepped}
 use Rattle.router_core.proofs.KeepLemmas.{keeps_none, keeps_said, keeps_join, keeps_on, gives_push, push_gives, gives_none, gives_so, gives_pushed, steps_pushed}
 use Rattle.router_core.proofs.StandLemmas.{registered_rows}
-
--- ---- a declared peer
-there_by : (o : Option DeclaredPeer) → undeclared o ≡ None → (p : DeclaredPeer) × (o ≡ Some p)
-there_by None e = absurd (cc)
-there_by (Some p) e = (p, refl)
-
-down_by : (s : Option Speaker) (ps : List DeclaredPeer) (k : ℕ) → refusal_at s ps (Down k) ≡ None → undeclared (peer_at k ps) ≡ None
-down_by None ps k e = absurd (cc)
-down_by (Some local) ps k e = e
-
-bgp_by : (s : Option Speaker) (ps : List DeclaredPeer) (k : ℕ) (octets : List ℕ) → refusal_at s ps (Bgp k octets) ≡ None → undeclared (peer_at k ps) ≡ None
-bgp_by None ps k octets e = absurd (cc)
-bgp_by (Some local) ps k octets e = e
-
-pub down_there : (d : Declaration) (k : ℕ) → refusal d (Down k) ≡ None → peer_at k d.peers ≡ None → ⊥
-unfolding refusal
-down_there d k e none = let p = there_by (peer_at k d.peers) (down_by d.speaker d.peers k e) in let at = p.1 in cc
-
-pub bgp_there : (d : Declaration) (k : ℕ) (octets : List ℕ) → refusal d (Bgp k octets) ≡ None → peer_at k d.peers ≡ None → ⊥
-unfolding refusal
-bgp_there d k octets e none = let p = there_by (peer_at k d.peers) (bgp_by d.speaker d.peers k octets e) in let at = p.1 in cc
 
 -- ---- `idle` and `work`
 pub idled : (m m' : Moment) (bound turns : ℕ) (before j j2 j3 now : Journaled) → Stands m → bound ≡ bound_of m → bound < 2 ^ 128 → j ≡ with_lines before (lines.Bound bound ∷ []) → Gives (AllHaveDrained m turns m') j j2
@@ -176,11 +154,3 @@ idle_stepped m m' idle before now g = gives_so (HasIdled m idle m') (HasStepped 
 -- ---- an event whose lines were pushed
 pub stepped : (m m' : Moment) (event : Event) (before j now : Journaled) → Pushes (HasStepped m event 0 m') before j → now ≡ flushed j → Gives (HasStepped m event 0 m') before now
 stepped m m' event before j now p is = gives_pushed (HasStepped m event 0 m') (HasStepped m event 0 m') (λ xs h. h) before j now p is
-
-pub is_down_by : (up : Bool) → not up ≡ true → up ≡ false
-is_down_by true e = absurd (cc)
-is_down_by false e = refl
-
-pub is_up_by : (up : Bool) → not up ≡ false → up ≡ true
-is_up_by true e = refl
-is_up_by false e = absurd (cc)

@@ -1,4 +1,4 @@
-use Rattle.router_core.proofs.PrintedPeers.{each_octet}
+use Rattle.journal_laws.proofs.PrintedPeers.{each_octet}
 use Rattle.router_core.proofs.steps.each_known.Goals as goal
 
 pub returns : goal.returns

@@ -4,7 +4,7 @@ use Rattle.std.proofs.Common.{◌∙◌, [], subst, sym, ◌∷◌}
 use Rattle.event_text.specs.declared.event.Event.TheVariants as events
 use Rattle.router_core.specs.Moments.{Moment}
 use Rattle.router_core.proofs.PeerLemmas.{begun_is, begun_stepped, ignored_stepped}
-use Rattle.router_core.proofs.ShownRows.{with_none}
+use Rattle.journal_laws.proofs.ShownRows.{with_none}
 use Rattle.router_core.proofs.network.Network.begin_session.Goals as goal
 use Rattle.router_core.specs.Works.{HasStepped}
 

@@ -1,8 +1,9 @@
-use Rattle.router_core.proofs.StepLemmas.{down_ignored, is_down_by}
+use Rattle.std.proofs.lemmas.Bool.{not-false, not-true}
+use Rattle.live_state.proofs.AdmittedLemmas.{down_there}
 use Rattle.std.proofs.Common.{◌≡◌, Some, None, subst, sym}
 use Rattle.event_text.specs.Declarations.{peer_at}
 use Rattle.router_core.specs.Moments.{Moment}
-use Rattle.router_core.proofs.StepLemmas.{down_there, lost_down, is_up_by}
+use Rattle.router_core.proofs.StepLemmas.{down_ignored, lost_down}
 use Rattle.router_core.proofs.network.Network.down.Goals as goal
 
 pub unreachable-requires : goal.unreachable-requires
@@ -13,10 +14,10 @@ unreachable-requires c =
 pub returns : goal.returns
 returns c =
     let there : peer_at c.args.number c.args.self.now.declared.peers ≡ Some c.in-Some.peer = subst (λ (m : Moment). peer_at c.args.number m.declared.peers ≡ Some c.in-Some.peer) c.self.view_is (sym c.in-Some.ensures) in
-    lost_down c.args.number c.in-Some.peer c.args.self.now c.lose.new.self c.args.journal.now c.lose.new.journal there (is_up_by c.in-Some.peer.up c.if-not-peer.false) c.in_ok-lose.ensures
+    lost_down c.args.number c.in-Some.peer c.args.self.now c.lose.new.self c.args.journal.now c.lose.new.journal there (not-false c.in-Some.peer.up c.if-not-peer.false) c.in_ok-lose.ensures
 
 pub returns-then-not-peer : goal.returns-then-not-peer
 returns-then-not-peer c =
     let there : peer_at c.args.number c.args.self.now.declared.peers ≡ Some c.in-Some.peer = subst (λ (m : Moment). peer_at c.args.number m.declared.peers ≡ Some c.in-Some.peer) c.self.view_is (sym c.in-Some.ensures) in
-    down_ignored c.args.number c.in-Some.peer c.args.self.now c.args.journal.now c.push_line.new.self c.flush.new.self c.requires.stands there (is_down_by c.in-Some.peer.up c.if-not-peer.true)
+    down_ignored c.args.number c.in-Some.peer c.args.self.now c.args.journal.now c.push_line.new.self c.flush.new.self c.requires.stands there (not-true c.in-Some.peer.up c.if-not-peer.true)
     c.in_ok-push_line.ensures c.in_ok-flush.ensures.ok

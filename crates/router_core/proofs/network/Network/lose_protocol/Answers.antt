@@ -1,6 +1,7 @@
 use Rattle.std.proofs.Common.{IsSome, sym, ap, subst}
 use Rattle.live_state.specs.Lives.{LiveState}
-use Rattle.router_core.proofs.RouteSteps.{lose_since}
+use Rattle.live_state.proofs.AdmittedLemmas.{speaker_since}
+use Rattle.event_text.specs.declared.event.Event.TheVariants.{Lose}
 use Rattle.router_core.proofs.ProtocolLosses.{protocol_lost}
 use Rattle.router_core.proofs.network.Network.lose_protocol.Goals as goal
 use Rattle.router_core.proofs.CoreLemmas.{worked_numbered}
@@ -10,7 +11,7 @@ lose_protocol_with_room-requires-clause-few c = worked_numbered c.args.self.now 
 
 pub lose_protocol_with_room-requires-clause-since : goal.lose_protocol_with_room-requires-clause-since
 lose_protocol_with_room-requires-clause-since c =
-    subst IsSome (sym (ap (λ (l : LiveState). l.declared.speaker) c.in_ok-make_protocol_room.ensures.2.keeps.live)) (lose_since c.args.self.now.declared c.args.proto c.requires.admitted)
+    subst IsSome (sym (ap (λ (l : LiveState). l.declared.speaker) c.in_ok-make_protocol_room.ensures.2.keeps.live)) (speaker_since c.args.self.now.declared (Lose c.args.proto) (λ e. cc) c.requires.admitted)
 
 pub returns : goal.returns
 returns c =

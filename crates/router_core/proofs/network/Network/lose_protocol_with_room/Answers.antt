@@ -1,9 +1,8 @@
-use Rattle.router_core.specs.Stands.{InteriorTree}
+use Rattle.router_core.specs.Stands.{InteriorTree, Stands}
 use Rattle.rib_tree.specs.Trees.{IsTree, IsFull}
 use Rattle.std.proofs.Common.{◌≡◌, None, IsSome, subst, sym}
 use Rattle.rib_tree.specs.Steps.{tree_overdue}
 use Rattle.router_core.specs.Moments.{Moment}
-use Rattle.router_core.specs.Stands.{Stands}
 use Rattle.router_core.specs.Works.{Pushes, EndsProtocol}
 use Rattle.router_core.proofs.ProtocolLosses.{protocol_ended}
 use Rattle.router_core.proofs.network.Network.lose_protocol_with_room.Goals as goal

@@ -1,9 +1,9 @@
-use Rattle.router_core.proofs.StepLemmas.{bgp_ignored}
+use Rattle.router_core.proofs.StepLemmas.{bgp_ignored, heard_up}
 use Rattle.std.proofs.Common.{◌≡◌, ℕ, List, Some, None, subst, sym}
 use Rattle.event_text.specs.Declarations.{peer_at}
 use Rattle.router_core.specs.Moments.{Moment}
 use Rattle.live_state.specs.Messages.{Says}
-use Rattle.router_core.proofs.StepLemmas.{bgp_there, heard_up}
+use Rattle.live_state.proofs.AdmittedLemmas.{bgp_there}
 use Rattle.router_core.proofs.network.Network.message.Goals as goal
 
 pub unreachable-requires : goal.unreachable-requires

@@ -1,17 +1,15 @@
-use Rattle.router_core.specs.Stands.{InteriorTree}
-use Rattle.rib_tree.specs.Trees.{IsTree, IsFull}
+use Rattle.router_core.specs.Stands.{InteriorTree, Stands}
+use Rattle.rib_tree.specs.Trees.{IsTree, IsFull, branch_of}
 use Rattle.std.proofs.Common.{◌≡◌, Option, IsSome, subst, sym}
 use Rattle.rib_route.specs.declared.rows.Interior.{Interior}
 use Rattle.loss_chain.specs.Steps.{live_after}
-use Rattle.rib_tree.specs.Trees.{branch_of}
 use Rattle.rib_tree.specs.Falls.{way_of_route}
 use Rattle.rib_tree.specs.Steps.{fed_tree}
 use Rattle.router_core.specs.Moments.{Moment}
 use Rattle.live_state.specs.Lives.{interior_fed}
 use Rattle.router_core.specs.Lives.{live_state}
-use Rattle.router_core.specs.Stands.{Stands}
 use Rattle.router_core.specs.Works.{Pushes, HasRouted}
-use Rattle.router_core.proofs.RouteLemmas.{routed_since}
+use Rattle.router_core.proofs.RouteLemmas.{routed}
 use Rattle.router_core.proofs.network.Network.route.Goals as goal
 
 pub feed-requires-clause-tree : goal.feed-requires-clause-tree
@@ -33,7 +31,7 @@ returns-in_ok-settle-in-None c =
     let p = c.args.p in
     subst (λ (m : Moment). Pushes (HasRouted m (fed_tree m.tree k p c.args.new) k p (way_of_route k m.tree) (interior_fed (live_state m) k (live_after (branch_of k m.tree).tables.live p c.args.new)) c.settle.new.self) c.args.journal.now c.settle.new.journal)
     c.self.view_is
-    (routed_since old k p c.args.new c.in_ok-sent-in-None.sent c.feed.new.self c.settle.new.self c.args.journal.now c.feed.new.journal c.settle.new.journal (subst Stands (sym c.self.view_is) c.requires.stands)
+    (routed old k p c.args.new c.in_ok-sent-in-None.sent c.feed.new.self c.settle.new.self c.args.journal.now c.feed.new.journal c.settle.new.journal (subst Stands (sym c.self.view_is) c.requires.stands)
     (subst (λ (m : Moment). IsSome m.declared.speaker) (sym c.self.view_is) c.requires.since) (subst (λ (row : Option Interior). c.feed.new.self ≡ fed_tree c.self.inside.tree k p row) (sym c.in-None.is) c.in_ok-sent-in-None.ensures.after)
     c.in_ok-sent-in-None.ensures.sent c.in_ok-sent-in-None.ensures.lines c.in_ok-settle-in-None.ensures)
 
@@ -44,6 +42,6 @@ returns-in_ok-settle-in-Some c =
     let p = c.args.p in
     subst (λ (m : Moment). Pushes (HasRouted m (fed_tree m.tree k p c.args.new) k p (way_of_route k m.tree) (interior_fed (live_state m) k (live_after (branch_of k m.tree).tables.live p c.args.new)) c.settle-in-Some.new.self) c.args.journal.now c.settle-in-Some.new.journal)
     c.self-in-Some.view_is
-    (routed_since old k p c.args.new c.in_ok-sent-in-Some.sent c.feed-in-Some.new.self c.settle-in-Some.new.self c.args.journal.now c.feed-in-Some.new.journal c.settle-in-Some.new.journal (subst Stands (sym c.self-in-Some.view_is) c.requires.stands)
+    (routed old k p c.args.new c.in_ok-sent-in-Some.sent c.feed-in-Some.new.self c.settle-in-Some.new.self c.args.journal.now c.feed-in-Some.new.journal c.settle-in-Some.new.journal (subst Stands (sym c.self-in-Some.view_is) c.requires.stands)
     (subst (λ (m : Moment). IsSome m.declared.speaker) (sym c.self-in-Some.view_is) c.requires.since) (subst (λ (row : Option Interior). c.feed-in-Some.new.self ≡ fed_tree c.self-in-Some.inside.tree k p row) (sym c.in-Some.is) c.in_ok-sent-in-Some.ensures.after)
     c.in_ok-sent-in-Some.ensures.sent c.in_ok-sent-in-Some.ensures.lines c.in_ok-settle-in-Some.ensures)

@@ -2,7 +2,9 @@ use Rattle.std.proofs.Common.{◌≡◌, ◌∙◌, true, false, is_some, sym, a
 use Rattle.std.specs.FinMap as tables
 use Rattle.rib_tree.specs.Trees.{branch_of}
 use Rattle.router_core.specs.Moments.{Moment}
-use Rattle.router_core.proofs.RouteSteps.{del_since, route_dropped, nothing_dropped}
+use Rattle.live_state.proofs.AdmittedLemmas.{speaker_since}
+use Rattle.event_text.specs.declared.event.Event.TheVariants.{RouteDel}
+use Rattle.router_core.proofs.RouteSteps.{route_dropped, nothing_dropped}
 use Rattle.router_core.proofs.network.Network.route_del.Goals as goal
 
 pub returns-then-not-has : goal.returns-then-not-has
@@ -13,7 +15,7 @@ returns-then-not-has c =
     nothing_dropped c.args.proto c.args.p c.args.self.now c.args.journal.now c.push_line.new.self c.flush.new.self c.requires.stands (sym is ∙ none) c.in_ok-push_line.ensures c.in_ok-flush.ensures.ok
 
 pub route-requires-clause-since : goal.route-requires-clause-since
-route-requires-clause-since c = del_since c.args.self.now.declared c.args.proto c.args.p c.requires.admitted
+route-requires-clause-since c = speaker_since c.args.self.now.declared (RouteDel c.args.proto c.args.p) (λ e. cc) c.requires.admitted
 
 pub returns : goal.returns
 returns c =

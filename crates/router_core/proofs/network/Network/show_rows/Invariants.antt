@@ -1,7 +1,8 @@
 use Rattle.std.proofs.Common.{◌≤◌, ◌-◌, ◌+◌, ◌^◌}
 use Rattle.addr4.specs.Places.{key_of, beyond}
 use Rattle.router_core.specs.Moments.{router_links}
-use Rattle.router_core.proofs.ShownRows.{AreGiven, IsPlaced}
+use Rattle.journal_laws.proofs.ShownRows.{IsPlaced}
+use Rattle.router_core.proofs.ShownRows.{AreGiven}
 use Rattle.router_core.proofs.network.Network.show_rows.Given as goal
 
 abbrev pub invariant-rows : goal.invariant-rows

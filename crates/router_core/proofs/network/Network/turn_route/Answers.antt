@@ -1,10 +1,9 @@
-use Rattle.router_core.specs.Stands.{InteriorTree}
+use Rattle.router_core.specs.Stands.{InteriorTree, Stands}
 use Rattle.rib_tree.specs.Trees.{IsTree, IsFull}
 use Rattle.std.proofs.Common.{IfOk, sym, subst}
 use Rattle.journal_text.specs.declared.link.Task.TheVariants as tasks
 use Rattle.router_core.specs.Works.{Comes}
 use Rattle.router_core.specs.Moments.{Moment}
-use Rattle.router_core.specs.Stands.{Stands}
 use Rattle.router_core.proofs.RouteTurns.{route_quiet, route_sent}
 use Rattle.router_core.proofs.network.Network.turn_route.Goals as goal
 
