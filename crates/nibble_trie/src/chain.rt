@@ -6,6 +6,7 @@ ghost use Rattle.slab.specs.Slab.{ContainsKey};
 ghost use Rattle.nibble_trie.specs.Keys.{prefix_in, longer_in, IsNextOf, IsChained, HasNext, IsLastBelow, IsLeafOf};
 
 use crate::node::Node;
+use addr4::Prefix;
 use slab::Slab;
 
 // The first leaf of an address from a length on, under a link to the first from a lesser one.
@@ -68,4 +69,23 @@ pub(crate) fn last_below<V>(leaves: &Slab<Node<V>>, key: usize, length: u8) -> u
         return key;
     }
     last_below(leaves, next, length)
+}
+
+// Where a prefix stands among the leaves of its address, of which the first one is shorter: the last one below it, and its
+// own.
+pub(crate) fn place_behind<V>(
+    leaves: &Slab<Node<V>>,
+    first: usize,
+    prefix: Prefix,
+) -> (usize, Option<usize>)
+    requires chained { IsChained (prefix_in leaves.now) (longer_in leaves.now) }
+    requires has { ContainsKey leaves.now first }
+    requires below { (p : Network) → prefix_in leaves.now first ≡ Some p → (p.address ≡ prefix.address) × (p.length < prefix.length) }
+    ensures last { IsLastBelow (prefix_in leaves.now) (longer_in leaves.now) prefix.address prefix.length result.0 }
+    ensures leaf { IsLeafOf (prefix_in leaves.now) prefix result.1 }
+{
+    let before = last_below(leaves, first, prefix.length());
+    let node = &leaves[before];
+    let leaf = exact(leaves, node.longer.key(), prefix.length());
+    (before, leaf)
 }

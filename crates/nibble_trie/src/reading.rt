@@ -2,8 +2,9 @@
 
 ghost use Rattle.std.specs.Prelude.{◌≡◌, ℕ, Option, Some};
 ghost use Rattle.addr4.specs.Places.{key_of};
-ghost use Rattle.nibble_trie.specs.Keys.{prefix_in, IsLeafOf, IsNextLeaf, IsFirstBehind};
-ghost use Rattle.nibble_trie.specs.Index.{Layout, IsLaid, Names, Stands, IsPlace, is_live};
+ghost use Rattle.nibble_trie.specs.Links.{IsCell};
+ghost use Rattle.nibble_trie.specs.Keys.{prefix_in, IsNextOf, IsLeafOf, IsNextLeaf, IsFirstBehind};
+ghost use Rattle.nibble_trie.specs.Index.{Layout, IsLaid, Names, Stands, IsSpotOf};
 ghost use Rattle.nibble_trie.specs.Next.{IsFirst, FromAt, FromIn, IsStart, CanStart, CanStartIn};
 ghost use Rattle.nibble_trie.specs.View.{IsWhole};
 
@@ -15,15 +16,30 @@ use crate::node::Node;
 use addr4::{Place, Prefix};
 use slab::Slab;
 
+// The place of a prefix's address in the index, and the first leaf of that address.
+pub(crate) fn first_leaf<V>(
+    index: &Index,
+    leaves: &Slab<Node<V>>,
+    prefix: Prefix,
+) -> (Spot, Option<usize>)
+    requires { IsWhole leaves.now index.now }
+    ensures way { IsSpotOf index.now prefix.address result.0 }
+    ensures cell { IsCell result.0.target }
+    ensures head { IsNextOf (prefix_in leaves.now) prefix.address 0 result.1 }
+{
+    let address = prefix.address().number();
+    let spot = index.spot_of(address);
+    let head = index.head(leaves, spot, address);
+    (spot, head)
+}
+
 // The leaf of a prefix.
 pub(crate) fn find<V>(index: &Index, leaves: &Slab<Node<V>>, prefix: Prefix) -> Option<usize>
     requires { IsWhole leaves.now index.now }
     ensures { IsLeafOf (prefix_in leaves.now) prefix result }
 {
-    let address = prefix.address().number();
-    let spot = index.spot_of(address);
-    let head = index.head(leaves, spot, address);
-    chain::find(leaves, head, prefix.length())
+    let entry = first_leaf(index, leaves, prefix);
+    chain::find(leaves, entry.1, prefix.length())
 }
 
 // The leaf of the first address from one on that has one, among the addresses of a place.
@@ -95,14 +111,12 @@ fn next_behind<V>(index: &Index, leaves: &Slab<Node<V>>, prefix: Prefix) -> Opti
     ensures { IsNextLeaf (prefix_in leaves.now) (Some prefix) result }
 {
     prefix.known();
-    let address = prefix.address().number();
-    let spot = index.spot_of(address);
-    let head = index.head(leaves, spot, address);
-    let longer = chain::seek(leaves, head, prefix.length() + 1);
+    let entry = first_leaf(index, leaves, prefix);
+    let longer = chain::seek(leaves, entry.1, prefix.length() + 1);
     if longer.is_some() {
         return longer;
     }
-    first_behind(index, leaves, address)
+    first_behind(index, leaves, prefix.address().number())
 }
 
 // The leaf of the first key beyond a place.

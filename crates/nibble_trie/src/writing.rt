@@ -11,10 +11,10 @@ ghost use Rattle.nibble_trie.specs.Index.{Layout, IsLaid, Indexes, with_head, Is
 ghost use Rattle.nibble_trie.specs.View.{rows_of, IsWhole, Joins};
 
 use crate::branch::Branch;
-use crate::chain;
 use crate::index::{Index, Spot};
 use crate::link::Link;
 use crate::node::Node;
+use crate::{chain, reading};
 use addr4::Prefix;
 use slab::Slab;
 use std::mem;
@@ -128,12 +128,11 @@ fn put_behind<V>(leaves: &mut Slab<Node<V>>, first: usize, prefix: Prefix, value
     ensures joins { Joins leaves.old leaves.new prefix (Some value) }
     ensures before { result ≡ map.get (rows_of leaves.old) prefix }
 {
-    let before = chain::last_below(leaves, first, prefix.length());
-    let node = &leaves[before];
-    match chain::exact(leaves, node.longer.key(), prefix.length()) {
+    let place = chain::place_behind(leaves, first, prefix);
+    match place.1 {
         Some(key) => Some(replace(leaves, key, value)),
         None => {
-            add_behind(leaves, before, prefix, value);
+            add_behind(leaves, place.0, prefix, value);
             None
         }
     }
@@ -156,12 +155,10 @@ pub(crate) fn put<V>(
     ensures rows { rows_of leaves.new ≡ map.insert (rows_of leaves.old) prefix value }
 {
     prefix.known();
-    let address = prefix.address().number();
-    let spot = index.spot_of(address);
-    let head = index.head(leaves, spot, address);
-    let first = match head {
+    let entry = reading::first_leaf(index, leaves, prefix);
+    let first = match entry.1 {
         None => {
-            add_first(leaves, index, spot, head, prefix, value);
+            add_first(leaves, index, entry.0, None, prefix, value);
             return None;
         }
         Some(first) => first,
@@ -174,7 +171,7 @@ pub(crate) fn put<V>(
     if length == prefix.length() {
         return Some(replace(leaves, first, value));
     }
-    add_first(leaves, index, spot, head, prefix, value);
+    add_first(leaves, index, entry.0, Some(first), prefix, value);
     None
 }
 
@@ -197,18 +194,19 @@ fn take_first<V>(
     leaves: &mut Slab<Node<V>>,
     index: &mut Index,
     spot: Spot,
-    address: u32,
+    prefix: Prefix,
     first: usize,
 ) -> V
     requires whole { IsWhole leaves.old index.old }
-    requires way { IsSpotOf index.old address spot }
+    requires way { IsSpotOf index.old prefix.address spot }
     requires cell { IsCell spot.target }
-    requires head { IsNextOf (prefix_in leaves.old) address 0 (Some first) }
+    requires head { IsNextOf (prefix_in leaves.old) prefix.address 0 (Some first) }
+    requires found { prefix_in leaves.old first ≡ Some prefix }
     ensures whole { IsWhole leaves.new index.new }
-    ensures before { (p : Network) → prefix_in leaves.old first ≡ Some p → Some result ≡ map.get (rows_of leaves.old) p }
-    ensures rows { (p : Network) → prefix_in leaves.old first ≡ Some p → rows_of leaves.new ≡ map.remove (rows_of leaves.old) p }
+    ensures before { Some result ≡ map.get (rows_of leaves.old) prefix }
+    ensures rows { rows_of leaves.new ≡ map.remove (rows_of leaves.old) prefix }
 {
-    drop_head(leaves, index, spot, address, first);
+    drop_head(leaves, index, spot, prefix.address().number(), first);
     take(leaves, first)
 }
 
@@ -235,10 +233,9 @@ fn take_behind<V>(leaves: &mut Slab<Node<V>>, first: usize, prefix: Prefix) -> O
     ensures joins { Joins leaves.old leaves.new prefix None }
     ensures before { result ≡ map.get (rows_of leaves.old) prefix }
 {
-    let before = chain::last_below(leaves, first, prefix.length());
-    let node = &leaves[before];
-    match chain::exact(leaves, node.longer.key(), prefix.length()) {
-        Some(key) => Some(unlink(leaves, before, key, prefix)),
+    let place = chain::place_behind(leaves, first, prefix);
+    match place.1 {
+        Some(key) => Some(unlink(leaves, place.0, key, prefix)),
         None => None,
     }
 }
@@ -251,9 +248,8 @@ pub(crate) fn remove<V>(leaves: &mut Slab<Node<V>>, index: &mut Index, prefix: P
     ensures rows { rows_of leaves.new ≡ map.remove (rows_of leaves.old) prefix }
 {
     prefix.known();
-    let address = prefix.address().number();
-    let spot = index.spot_of(address);
-    let first = match index.head(leaves, spot, address) {
+    let entry = reading::first_leaf(index, leaves, prefix);
+    let first = match entry.1 {
         None => return None,
         Some(first) => first,
     };
@@ -263,7 +259,7 @@ pub(crate) fn remove<V>(leaves: &mut Slab<Node<V>>, index: &mut Index, prefix: P
         return take_behind(leaves, first, prefix);
     }
     if length == prefix.length() {
-        return Some(take_first(leaves, index, spot, address, first));
+        return Some(take_first(leaves, index, entry.0, prefix, first));
     }
     None
 }
