@@ -26,3 +26,4 @@ pub mod RouteSteps
 pub mod PrintedPeers
 pub mod PrintedTurns
 pub mod PrintedBlocks
+mod WeldLemmas
