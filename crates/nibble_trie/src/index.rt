@@ -65,28 +65,20 @@ impl Index {
         }
     }
 
-    // From a place on an address's way down to the one that leads to no branch.
-    fn walk(&self, address: u32, spot: Spot) -> Spot
-        requires { HasWay self.now address spot }
-        ensures way { (heads : ℕ → Option ℕ) (layout : Layout) → IsLaid self.now heads layout → OnWay self.now layout address spot → OnWay self.now layout address result }
-        ensures cell { IsCell result.target }
-    {
-        match spot.target {
-            Target::Nothing => spot,
-            Target::Leaf(_) => spot,
-            Target::Inner(branch) => {
-                self.walk(address, self.below(branch, address, spot.level - 1))
-            }
-        }
-    }
-
-    // The place of an address.
+    // The place of an address: from the root down to where no branch is.
     pub(crate) fn spot_of(&self, address: u32) -> Spot
         requires { HasHeads self.now }
         ensures way { IsSpotOf self.now address result }
         ensures cell { IsCell result.target }
     {
-        self.walk(address, self.top())
+        let mut spot = self.top();
+        'way: loop {
+            match spot.target {
+                Target::Nothing => return spot,
+                Target::Leaf(_) => return spot,
+                Target::Inner(branch) => spot = self.below(branch, address, spot.level - 1),
+            }
+        }
     }
 
     // The first leaf of an address, at its place.
