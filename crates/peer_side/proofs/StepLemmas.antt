@@ -12,7 +12,6 @@ use Rattle.link_change.specs.declared.turn.Turn.{Turn}
 use Rattle.link_change.specs.declared.turn.Turn.TheVariants as turns
 use Rattle.policy_rules.specs.declared.rule.Rule.{Rule}
 use Rattle.journal_text.specs.declared.link.Task.{Task}
-use Rattle.journal_text.specs.declared.link.Task.TheVariants.{Del, Fin, Rdel}
 use Rattle.journal_text.specs.declared.entry.Entry.{Entry}
 use Rattle.journal_text.specs.declared.value.Value.{Value}
 use Rattle.journal_text.specs.Journals.{Journaled, with_entries, Adds}
@@ -26,9 +25,9 @@ use Rattle.in_chain.specs.Falls.{Falls, LeadsChain, way_of_feed}
 use Rattle.in_chain.specs.Incomings.{loss_entries, overdue_of}
 use Rattle.in_chain.specs.Steps.{fed, lost, welded, refiltered, new_chain, Turned, IsTaken}
 use Rattle.peer_side.specs.Peers.{Chains, chain_at, put_chain, filt_at, filt_by, lost_of, IsPeer, IsPeers, IsFallen, IsPeersBut, AreBefore, peer_of, has_turn_in}
-use Rattle.peer_side.specs.Steps.{chain_weld_entries, StepsInward, FallsInward, Changes, MayLose, FeedsInward, LosesInward, EditsInward, WeldsPeer, WeldsInward, Nears, TakesInward, ComesInward}
+use Rattle.peer_side.specs.Steps.{chain_weld_entries, StepsInward, FallsInward, Changes, MayLose, FeedsInward, LosesInward, EditsInward, WeldsInward, TakesInward, ComesInward}
 use Rattle.peer_side.proofs.MapLemmas.{one_of}
-use Rattle.peer_side.proofs.PutLemmas.{put_here, put_other, put_kept, put_each, put_beside, put_same, put_twice, put_lost, put_left}
+use Rattle.peer_side.proofs.PutLemmas.{put_here, put_other, put_kept, put_each, put_beside, put_same, put_lost, put_left}
 use Rattle.peer_side.proofs.LinkLemmas.{leads_peers, links_kept}
 use Rattle.peer_side.proofs.ChainLemmas.{Left, fed_before, fed_few, turn_leads, turn_left, weld_before, weld_few, turn_nears, turn_sent}
 use Rattle.peer_side.proofs.CountLemmas.{weld_rows, weld_turns}
@@ -142,29 +141,6 @@ weld_adds k a c c' before now at peers is lines leads rows chain full = (
 
     few : length c'.incoming.tables.deletions ≤ 16
     few = let same = ap (λ (x : Chained). length x.incoming.tables.deletions) is in let less = weld_few c in let was = own.few in omega (arith, same, less, was)
-
--- what a fall and the weld behind it made of the peer's chain
-pub fallen_at : (k : ℕ) (a fallen : Chains) (c : Chained) → fallen ≡ put_chain k c a → chain_at k fallen ≡ Some c
-fallen_at k a fallen c is = ap (chain_at k) is ∙ put_here k c a
-
-module _ (k : ℕ) (a fallen cs : Chains) (c : Chained) (entries : List (Entry Value)) (is : fallen ≡ put_chain k c a) where
-  emptied : (w : WeldsPeer k fallen cs entries) → w.chain ≡ c
-  emptied w = one_of w.chain c (sym w.at ∙ fallen_at k a fallen c is)
-
-  pub weld_lines : WeldsPeer k fallen cs entries → entries ≡ chain_weld_entries c
-  weld_lines w = w.lines ∙ ap chain_weld_entries (emptied w)
-
-  pub weld_after : WeldsPeer k fallen cs entries → cs ≡ put_chain k (welded c) a
-  weld_after w = w.after ∙ ap (λ (x : Chained). put_chain k (welded x) fallen) (emptied w) ∙ ap (put_chain k (welded c)) is ∙ put_twice k c (welded c) a
-
-  pub weld_keeps : WeldsInward k fallen cs entries → (s : ℕ) → AreBefore s c → AreBefore s (welded c)
-  weld_keeps w s = subst (λ (x : Chained). AreBefore s x → AreBefore s (welded x)) (emptied w.welds) (w.before s)
-
--- a weld gives no task more to do
-pub nears_weld : (task : Task) (k : ℕ) (a fallen cs : Chains) (entries : List (Entry Value)) → Nears task a fallen → WeldsInward k fallen cs entries → Nears task a cs
-nears_weld (Del n s) k a fallen cs entries near w = let l = near.0 in let m = near.1 in let e = w.lost in let f = w.left in (omega (arith, l, e), omega (arith, m, f))
-nears_weld (Fin n) k a fallen cs entries near w = let l = near.0 in let m = near.1 in let e = w.lost in let f = w.left in (omega (arith, l, e), omega (arith, m, f))
-nears_weld (Rdel proto n) k a fallen cs entries near w = absurd near
 
 -- ---- turns
 took_adds : (task : Task) (sent : Option (Change Route)) (a : Chains) (c less : Chained) (before now : Journaled) → chain_at (peer_of task) a ≡ Some c → IsPeers a → Adds (Turned c less task sent) before now → IsChain less

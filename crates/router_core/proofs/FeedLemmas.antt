@@ -17,14 +17,13 @@ use Rattle.loss_chain.proofs.TableLemmas.{same_by}
 use Rattle.std.specs.Prelude.{IsSome, is_some}
 use Rattle.peer_side.specs.Peers.{Chains, chain_at}
 use Rattle.peer_side.specs.Steps.{FeedsInward, WeldsInward}
-use Rattle.peer_side.proofs.StepLemmas.{fallen_at, weld_after, weld_keeps}
 use Rattle.router_core.specs.Moments.{Moment, with_chains}
 use Rattle.live_state.specs.Lives.{LiveState, Routes, with_routes, routes_after, live_fed}
 use Rattle.router_core.specs.Lives.{live_state}
 use Rattle.router_core.specs.Stands.{IsSilent, PeerStands, Stands, open_session}
 use Rattle.router_core.specs.Turns.{FeedsAll, journal_lines}
 use Rattle.router_core.specs.Works.{Pushes, IsUpAt, Keeps, HaveFed}
-use Rattle.router_core.proofs.RegionLemmas.{fall_leads, adds_both}
+use Rattle.router_core.proofs.WeldLemmas.{fallen_at, weld_after, weld_keeps, fall_leads, adds_both}
 use Rattle.live_state.proofs.AdmittedLemmas.{routes_twice}
 use Rattle.peer_side.proofs.MapLemmas.{one_of as one_peer}
 use Rattle.router_core.proofs.StandLemmas.{peer_of, stands_with, live_routed, routes_there}
@@ -48,9 +47,8 @@ fed_one k p row sent m fallen cs entries weld stands up f w =
     let is_up : peer.0.up ≡ true = ap (λ (q : DeclaredPeer). q.up) (one_peer peer.0 up.0 (sym peer.1 ∙ up.1)) ∙ up.2 in
     let earlier = weld_keeps k m.chains fallen cs (fed c p row) weld f.feeds.after w (open_session peer.0) (f.before (open_session peer.0) peer.2.earlier) in
     let here : PeerStands peer.0 c' = record { words = peer.2.words; earlier = earlier; silent = silent_up peer.0.up c' is_up } in
-    let falls = (sent, record { fallen = fallen; entries = entries; part = f.feeds; chains = cs; weld = weld; welds = w.welds; lines = refl; after = refl }) in
     record {
-      feeds = (journal_lines (entries ++ weld), [], with_chains m cs, falls, (refl, refl), sym (append-nil (journal_lines (entries ++ weld))));
+      feeds = (journal_lines (entries ++ weld), [], with_chains m cs, (sent, record { fallen = fallen; entries = entries; part = f.feeds; chains = cs; weld = weld; welds = w.welds; lines = refl; after = refl }), (refl, refl), sym (append-nil (journal_lines (entries ++ weld))));
       keeps = record {
         leads = fall_leads m fallen cs entries weld f.fall.leads w.step.leads;
         live = live_routed m m.declared k c c' cs f.feeds.at after refl ∙ ap (λ (r : Routes). live_by m (with_routes (live_state m).routes k (live_after r p row))) (sym (routes_there m k c f.feeds.at));

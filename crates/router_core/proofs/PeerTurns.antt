@@ -15,7 +15,6 @@ use Rattle.in_chain.specs.Steps.{welded}
 use Rattle.std.specs.Prelude.{IsSome, is_some}
 use Rattle.peer_side.specs.Peers.{Chains, IsPeersBut, chain_at, peer_of, has_peer_work}
 use Rattle.peer_side.specs.Steps.{Nears, TakesInward, WeldsInward, ComesInward}
-use Rattle.peer_side.proofs.StepLemmas.{fallen_at, weld_after, weld_keeps, nears_weld}
 use Rattle.rib_route.specs.declared.Proto.{Proto}
 use Rattle.router_core.specs.declared.router.Done.TheVariants.{Nothing, Taken}
 use Rattle.router_core.specs.declared.router.Phase.{Phase}
@@ -26,7 +25,7 @@ use Rattle.router_core.specs.Stands.{IsSilent, PeerStands, Stands, open_session}
 use Rattle.router_core.specs.Phases.{Frame, counts, frame_of, Spends}
 use Rattle.router_core.specs.Turns.{IsPeerTurn, IsTurn, has_work, phase_of, journal_lines}
 use Rattle.router_core.specs.Works.{IsUnit, Comes}
-use Rattle.router_core.proofs.RegionLemmas.{fall_leads, adds_both}
+use Rattle.router_core.proofs.WeldLemmas.{fallen_at, weld_after, weld_keeps, nears_weld, fall_leads, adds_both}
 use Rattle.router_core.proofs.PhaseLemmas.{spends_one}
 use Rattle.router_core.proofs.StandLemmas.{peer_of as peer_at_chain, stands_with, live_same}
 
@@ -68,9 +67,8 @@ unit_done task sent m fallen cs entries weld stands t w =
     let p = peer_at_chain m stands k c t.turn.at in
     let earlier = weld_keeps k m.chains fallen cs t.turn.turned_chain weld t.turn.after w (open_session p.0) (t.leaves.before (open_session p.0) p.2.earlier) in
     let here : PeerStands p.0 c' = record { words = t.leaves.peer ∙ p.2.words; earlier = earlier; silent = silent_as p.0.up c c' t.leaves.live p.2.silent } in
-    let falls = (sent, record { fallen = fallen; entries = entries; part = t.turn; chains = cs; weld = weld; welds = w.welds; lines = refl; after = refl }) in
     record {
-      turn = turn_of_peer task m (with_chains m cs) (journal_lines (entries ++ weld)) near falls;
+      turn = turn_of_peer task m (with_chains m cs) (journal_lines (entries ++ weld)) near (sent, record { fallen = fallen; entries = entries; part = t.turn; chains = cs; weld = weld; welds = w.welds; lines = refl; after = refl });
       work = record {
         keeps = record {
           leads = fall_leads m fallen cs entries weld t.fall.leads w.step.leads;

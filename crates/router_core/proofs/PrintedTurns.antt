@@ -35,7 +35,6 @@ use Rattle.in_chain.specs.Falls.{way_of_feed}
 use Rattle.in_chain.specs.Steps.{fed, welded, Turned}
 use Rattle.peer_side.specs.Peers.{Chains, chain_at, put_chain, peer_of}
 use Rattle.peer_side.specs.Steps.{FeedsPeer, TurnsPeer, chain_weld_entries}
-use Rattle.peer_side.proofs.StepLemmas.{weld_lines, weld_after}
 use Rattle.peer_side.proofs.PutLemmas.{put_each}
 use Rattle.rib_merge.specs.Forwards.{forwarded}
 use Rattle.rib_tree.specs.Branches.{Branch}
@@ -48,6 +47,7 @@ use Rattle.router_core.specs.Moments.{Moment, with_chains}
 use Rattle.router_core.specs.Blocks.{RunsFirst}
 use Rattle.live_state.specs.Messages.{plain}
 use Rattle.router_core.specs.Turns.{journal_lines, FallsPeer, FeedsAll, fib_entries, FallsRoute, IsPeerTurn, IsRouteTurn, IsTurn, Turns, Runs, RunsPhase, RunsAll}
+use Rattle.router_core.proofs.WeldLemmas.{weld_lines, weld_after}
 use Rattle.rib_tree.proofs.TreeParts.{put_all}
 
 -- where no protocol has lost its routes more often than so

@@ -1,13 +1,11 @@
 -- What one region's part does, whatever the others have.
-use Rattle.std.proofs.Common.{◌≡◌, ◌∙◌, ◌++◌, List, refl, sym, ap, subst}
+use Rattle.std.proofs.Common.{◌≡◌, List, refl, sym, ap, subst}
 use Rattle.journal_text.specs.declared.link.Link.{Link}
 use Rattle.journal_text.specs.declared.value.Value.{Value}
 use Rattle.journal_text.specs.declared.entry.Entry.{Entry}
 use Rattle.journal_text.specs.Walk.{Leads}
 use Rattle.journal_text.specs.Texts.{entries_of}
-use Rattle.journal_text.specs.Journals.{Journaled, with_entries}
-use Rattle.journal_text.proofs.JournalLemmas.{entries_of_entries, with_entries_append}
-use Rattle.link_region.proofs.RegionLemmas.{lead_join}
+use Rattle.journal_text.proofs.JournalLemmas.{entries_of_entries}
 use Rattle.peer_side.specs.Peers.{Chains, peer_links}
 use Rattle.rib_tree.specs.Trees.{Treed}
 use Rattle.rib_route.specs.declared.rows.Interior.{Interior as Route}
@@ -43,11 +41,3 @@ pub leads_inward : (m : Moment) (cs : Chains) (entries : List (Entry Value)) →
 leads_inward m cs entries leads =
     subst (λ (es : List (Entry Value)). Leads (router_links m) es (router_links (with_chains m cs))) (sym (entries_of_entries entries))
     (subst (λ (s : Sides). Leads (router_links m) entries (joined s)) (inward_set m cs) (leads (parts m) refl))
-
--- a fall in the peers' chains, and the weld behind it
-pub fall_leads : (m : Moment) (fallen cs : Chains) (entries weld : List (Entry Value)) → LeadsIn Inward (peer_links m.chains) entries (peer_links fallen) → LeadsIn Inward (peer_links fallen) weld (peer_links cs)
-    → Leads (router_links m) (entries_of (journal_lines (entries ++ weld))) (router_links (with_chains m cs))
-fall_leads m fallen cs entries weld falls welds = leads_inward m cs (entries ++ weld) (lead_join Inward (peer_links m.chains) (peer_links fallen) (peer_links cs) entries weld falls welds)
-
-pub adds_both : (before j now : Journaled) (entries weld : List (Entry Value)) → j ≡ with_entries before entries → now ≡ with_entries j weld → now ≡ with_entries before (entries ++ weld)
-adds_both before j now entries weld first next = next ∙ ap (λ (x : Journaled). with_entries x weld) first ∙ with_entries_append before entries weld

@@ -16,12 +16,12 @@ use Rattle.peer_side.specs.Peers.{chain_at, has_turn_in, overdue_at, overdue_by}
 use Rattle.peer_side.specs.Steps.{TurnsPeer}
 use Rattle.peer_side.proofs.MapLemmas.{one_of}
 use Rattle.peer_side.proofs.PutLemmas.{put_here}
-use Rattle.peer_side.proofs.StepLemmas.{weld_after}
 use Rattle.router_core.specs.Moments.{Moment, Gives}
 use Rattle.router_core.specs.Stands.{Stands, EachChain}
 use Rattle.router_core.specs.Turns.{Turns}
 use Rattle.router_core.specs.Blocks.{RunsFirst}
 use Rattle.router_core.specs.Works.{HasDrained, HasRoom}
+use Rattle.router_core.proofs.WeldLemmas.{weld_after}
 use Rattle.router_core.proofs.KeepLemmas.{keeps_none, gives_none}
 
 -- the chain after turns of a stage, which may have gone
