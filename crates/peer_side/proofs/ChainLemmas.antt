@@ -11,7 +11,7 @@ use Rattle.pass_core.specs.Passed.{Passed, Walked, present, latest_of, present_o
 use Rattle.pass_core.specs.Turns.{walked_on, IsSentAt}
 use Rattle.journal_text.specs.declared.link.Link.TheVariants.{In}
 use Rattle.journal_text.specs.declared.link.Task.{Task}
-use Rattle.journal_text.specs.declared.link.Task.TheVariants.{Del, Fin, Rdel}
+use Rattle.journal_text.specs.declared.link.Task.TheVariants.{Del, Fin, Nh, Rdel}
 use Rattle.journal_text.specs.declared.entry.Entry.{Entry}
 use Rattle.journal_text.specs.declared.value.Value.{Value}
 use Rattle.journal_text.specs.Journals.{Journaled, with_entries}
@@ -53,6 +53,7 @@ fall_pushed less c' entries before j now pushed w =
 pub turn_leads : (task : Task) (c less : Chained) (sent : Option (Change Route)) (entries : List (Entry Value)) → Turned c less task sent entries → LeadsChain c entries less
 turn_leads (Del k s) c less sent entries t = t.1.fall.leads
 turn_leads (Fin k) c less sent entries t = t.1.leads
+turn_leads (Nh k) c less sent entries t = absurd t
 turn_leads (Rdel proto n) c less sent entries t = absurd t
 
 -- ---- the lost sessions of a chain
@@ -124,6 +125,7 @@ turn_left (Fin k) c less sent entries t full = subst (Left c) (sym (walk_stays c
   };
   few = omega arith;
 })
+turn_left (Nh k) c less sent entries t full = absurd t
 turn_left (Rdel proto n) c less sent entries t full = absurd t
 
 pub turn_nears : (task : Task) (a : Chains) (k : ℕ) (c less : Chained) (sent : Option (Change Route)) (entries : List (Entry Value)) → chain_at k a ≡ Some c → IsChain c → NoneEmpty c.incoming.tables.deletions → Turned c less task sent entries
@@ -142,6 +144,7 @@ turn_nears (Fin n) a k c less sent entries at chain full t =
     let l = put_lost k c less a at in
     let w = put_left k c less a at in
     subst (λ (x : Chained). Nears (Fin n) a (put_chain k x a)) (sym is) (omega (arith, l, same), omega (arith, w, fewer))
+turn_nears (Nh n) a k c less sent entries at chain full t = absurd t
 turn_nears (Rdel proto n) a k c less sent entries at chain full t = absurd t
 
 -- ---- what comes out on `filt.K`
@@ -153,4 +156,5 @@ pub turn_sent : (task : Task) (c less : Chained) (sent : Option (Change Route)) 
 turn_sent (Del k s) c less sent entries t = (t.1.prefix, t.1.rows)
 turn_sent (Fin k) c less sent entries t =
     subst (λ (x : Chained). (p : Network) × IsSent (filt_rows c) (filt_rows x) p sent) (sym t.1.after) (walk_sent t.1.walks.next (filt_rows c) (filt_rows (record c { filter = less.filter })) sent t.1.walks.changes)
+turn_sent (Nh k) c less sent entries t = absurd t
 turn_sent (Rdel proto n) c less sent entries t = absurd t

@@ -77,7 +77,7 @@ fn peer_of(task: Task) -> u32
 {
     match task {
         Task::Del(number, _) => number,
-        Task::Fin(number) => number,
+        Task::Fin(number) | Task::Nh(number) => number,
         Task::Rdel(_, _) => 0,
     }
 }
