@@ -23,9 +23,12 @@ filter in 2 path 65535 reject any accept\n\
 idle\n\
 work del.1.2 0\n\
 work fin.1 3\n\
+work nh.64 0\n\
 ask in.1 192.0.2.77/24\n\
 ask filt.1 10.1.0.0/16\n\
 show filt.1\n\
+ask res.1 10.1.0.0/16\n\
+show res.64\n\
 show peer.3.4\n\
 route add static 10.1.2.3/8 direct eth0 7\n\
 route add ospf 10.0.0.0/8 via 192.0.2.9 a.b-c_d 4294967295\n\
@@ -62,6 +65,14 @@ filter in\n\
 idle 1\n\
 work del.1 0\n\
 work fin.0 3\n\
+work nh 3\n\
+work nh.0 3\n\
+work nh.1.1 3\n\
+work nh.x 3\n\
+work nh.1\n\
+work res.1 3\n\
+show nh.1\n\
+show res.0\n\
 ask in.1 192.0.2.0/33\n\
 show peer.3.4.5\n\
 show best\n\
@@ -135,7 +146,7 @@ fn refused(alloc: Global, line: &str, declared: &mut Declared) -> Result<Option<
 }
 
 /// Events in a row, each with its code.
-const EVENTS: [(&str, Option<Code>); 24] = [
+const EVENTS: [(&str, Option<Code>); 28] = [
     ("peer 65 65001 192.0.2.1 192.0.2.1", Some(Code::E4)),
     ("up 300", Some(Code::E4)),
     ("filter in 1 any accept", Some(Code::E4)),
@@ -154,7 +165,11 @@ const EVENTS: [(&str, Option<Code>); 24] = [
     ("bgp 2 ff", Some(Code::E5)),
     ("show peer.2.1", Some(Code::E5)),
     ("work fin.2 1", Some(Code::E5)),
+    ("work nh.2 1", Some(Code::E5)),
+    ("work nh.64 1", None),
     ("ask filt.2 10.1.0.0/16", Some(Code::E5)),
+    ("ask res.2 10.1.0.0/16", Some(Code::E5)),
+    ("ask res.1 10.1.0.0/16", None),
     ("filter in 2", Some(Code::E5)),
     ("route del rip 10.0.0.0/8", None),
     ("show org.rip.2", None),
