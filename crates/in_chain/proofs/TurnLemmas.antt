@@ -1,7 +1,8 @@
 -- How many turns a walk has left.
-use Rattle.std.proofs.Common.{◌≡◌, ℕ, ◌<◌, ◌≤◌, ◌+◌, ◌*◌, Bool, true, false, cond, List, [], ◌∷◌, ◌++◌, map, length, length-append, Option, Some, None, IsSome, is_some, refl, sym, ap, subst, ◌∙◌, arith, inl, inr}
+use Rattle.std.proofs.Common.{◌≡◌, ℕ, ◌<◌, ◌≤◌, ◌+◌, ◌*◌, Bool, true, false, cond, List, [], ◌∷◌, ◌++◌, map, length, length-append, Option, Some, None, IsSome, is_some, refl, sym, ap, subst, ◌∙◌, arith}
 use Rattle.std.proofs.lemmas.List.{length-map}
 use Rattle.std.specs.List.{Contains}
+use Rattle.std.proofs.lemmas.List.Elements.{Contains-append_left, Contains-append_right}
 use Rattle.std.specs.Prelude.{filter}
 use Rattle.std.specs.Ordering.{eq_by_cmp, is_lt, is_eq}
 use Rattle.std.specs.declared.cmp.Ordering.{Ordering}
@@ -19,7 +20,7 @@ use Rattle.link_change.specs.Rows.{IsNextCandidate, with_rows}
 use Rattle.loss_chain.specs.Lost.{Lost}
 use Rattle.loss_chain.specs.Covering.{row_over}
 use Rattle.policy_rules.specs.declared.rule.Rule.{Rule}
-use Rattle.pass_core.specs.Passed.{Passed, Walked, is_beyond, walk_of_waiting, walk_stepped, after_walk}
+use Rattle.pass_core.specs.Passed.{Passed, Walked, function_at, is_beyond, walk_of_waiting, walk_stepped, after_walk}
 use Rattle.pass_core.specs.Turns.{walked_on}
 use Rattle.loss_chain.specs.Tables.{Tables, rows_below, lowest_rows, lost_count, tables_count}
 use Rattle.in_chain.specs.Chains.{count_beyond, lost_beyond, left_beyond, waiting_turns, walk_turns}
@@ -212,39 +213,33 @@ candidates_are_counted c = (
 )
 
 -- ---- where rows stand
-keys : Table → List Network
+abbrev keys : Table → List Network
 keys t = map (λ e. e.0) (tables.entries t)
 
-all_keys : Table → List (Lost Attrs) → List Network
+abbrev all_keys : Table → List (Lost Attrs) → List Network
 all_keys live [] = keys live
 all_keys live (d ∷ ds) = keys d.rows ++ all_keys live ds
+
+key_later : (x p : Network) (xs : List Network) → Contains xs p → Contains (x ∷ xs) p
+key_later x p xs there = Contains-append_right (x ∷ []) xs p there
 
 key_found : (p : Network) (es : List Row) → IsSome (find prefix_cmp p es) → Contains (map (λ e. e.0) es) p
 key_found p [] there = absurd (let clash : false ≡ true = there in cc)
 key_found p (e ∷ es) there =
-    elim (eq_by_cmp prefix_cmp p e.0) as (λ b. eq_by_cmp prefix_cmp p e.0 ≡ b → IsSome (cond b (Some e.1) (find prefix_cmp p es)) → Contains (map (λ r. r.0) (e ∷ es)) p) [
-      | true ↦ λ here _. inl (sym (one_prefix p e.0 here))
-      | false ↦ λ _ rest. inr (key_found p es rest)
+    elim (eq_by_cmp prefix_cmp p e.0) as (λ b. eq_by_cmp prefix_cmp p e.0 ≡ b → IsSome (cond b (Some e.1) (find prefix_cmp p es)) → Contains (e.0 ∷ map (λ r. r.0) es) p) [
+      | true ↦ λ here _. (0, omega arith, sym (one_prefix p e.0 here))
+      | false ↦ λ _ rest. key_later e.0 p (map (λ r. r.0) es) (key_found p es rest)
     ] refl there
 
 has_key : (p : Network) (t : Table) → IsSome (tables.get t p) → Contains (keys t) p
 has_key p t there = key_found p (tables.entries t) (ap is_some (sym (get-entries t p)) ∙ there)
 
-among_first : (p : Network) (xs ys : List Network) → Contains xs p → Contains (xs ++ ys) p
-among_first p [] ys h = absurd h
-among_first p (x ∷ xs) ys (inl e) = inl e
-among_first p (x ∷ xs) ys (inr h) = inr (among_first p xs ys h)
-
-among_last : (p : Network) (xs ys : List Network) → Contains ys p → Contains (xs ++ ys) p
-among_last p [] ys h = h
-among_last p (x ∷ xs) ys h = inr (among_last p xs ys h)
-
 has_keys : (p : Network) (live : Table) (ds : List (Lost Attrs)) → IsSome (rows_below live ds p) → Contains (all_keys live ds) p
 has_keys p live [] there = has_key p live there
 has_keys p live (d ∷ ds) there =
     elim (tables.get d.rows p) as (λ o. tables.get d.rows p ≡ o → IsSome (row_over o (rows_below live ds p)) → Contains (keys d.rows ++ all_keys live ds) p) [
-      | None ↦ λ _ above. among_last p (keys d.rows) (all_keys live ds) (has_keys p live ds above)
-      | Some row ↦ λ e _. among_first p (keys d.rows) (all_keys live ds) (has_key p d.rows (ap is_some e))
+      | None ↦ λ _ above. Contains-append_right (keys d.rows) (all_keys live ds) p (has_keys p live ds above)
+      | Some row ↦ λ e _. Contains-append_left (keys d.rows) (all_keys live ds) p (has_key p d.rows (ap is_some e))
     ] refl there
 
 keys_length : (t : Table) → length (keys t) ≡ tables.len t
@@ -266,5 +261,5 @@ pub filtered_rows_are_few : FilteredRowsAreFew
 filtered_rows_are_few c = (
   all_keys c.incoming.tables.live c.incoming.tables.deletions,
   (let all = all_length c.incoming.tables.live c.incoming.tables.deletions in omega (arith, all)),
-  λ q there. has_keys q c.incoming.tables.live c.incoming.tables.deletions (judged_there c.me c.peer _ q (rows_below c.incoming.tables.live c.incoming.tables.deletions q) there),
+  λ q there. has_keys q c.incoming.tables.live c.incoming.tables.deletions (judged_there c.me c.peer (function_at c.filter q) q (rows_below c.incoming.tables.live c.incoming.tables.deletions q) there),
 )

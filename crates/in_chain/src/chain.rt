@@ -202,7 +202,8 @@ impl Chain {
                 }
                 self.walk(journal)
             }
-            Task::Nh(_) | Task::Rdel(_, _) => Ok(Turn::Nothing),
+            Task::Nh(_) => Ok(Turn::Nothing),
+            Task::Rdel(_, _) => Ok(Turn::Nothing),
         }
     }
 

@@ -23,4 +23,5 @@ pub mod RouteRoom
 pub mod RouteSteps
 pub mod PrintedTurns
 pub mod PrintedBlocks
-mod WeldLemmas
+pub mod WeldLemmas
+pub mod HopLemmas

@@ -17,3 +17,6 @@ returns-else-number-self-2-clause-one_empty c =
 
 pub returns-in-Rdel-clause-one_empty : goal.returns-in-Rdel-clause-one_empty
 returns-in-Rdel-clause-one_empty c = none_is_one _ c.requires.full
+
+pub returns-in-Nh-clause-one_empty : goal.returns-in-Nh-clause-one_empty
+returns-in-Nh-clause-one_empty c = none_is_one _ c.requires.full
