@@ -3,7 +3,7 @@ use Rattle.std.proofs.Common.{◌≡◌, ℕ, ◌^◌, ◌<◌, Bool, true, fals
 use Rattle.std.proofs.lemmas.Bool.Decides.{nat_tests}
 use Rattle.std.proofs.lemmas.List.{get_or_default}
 use Rattle.std.specs.List.{All, starts_with}
-use Rattle.std.specs.Option.{option_map}
+use Rattle.std.specs.Option.{option_and_then}
 use Rattle.std.specs.Result.{result_ok}
 use Rattle.std.specs.Str.{bytes_eq}
 use Rattle.hex.specs.Hex.{decode_of}
@@ -116,6 +116,10 @@ peer_task_ok w k h =
     either (bytes_eq w (codes "fin")) (Some (tasks.Fin k)) _ IsTask h
     (either (bytes_eq w (codes "nh")) (Some (tasks.Nh k)) None IsTask h tt)
 
+two_parts_ok : (w : List ℕ) (k : Option ℕ) → IfSome k IsNumber → IfSome (option_and_then (peer_task w) k) IsTask
+two_parts_ok w None h = tt
+two_parts_ok w (Some k) h = peer_task_ok w k h
+
 del_ok : (k s : Option ℕ) → IfSome k IsNumber → IfSome s IsNumber → IfSome (with_both (λ k s. Some (tasks.Del k s)) k s) IsTask
 del_ok None s hk hs = tt
 del_ok (Some k) None hk hs = tt
@@ -130,7 +134,7 @@ task_parts_ok : (ps : List (List ℕ)) → IfSome (task_from_parts ps) IsTask
 unfolding task_from_parts task_of_two task_of_three
 task_parts_ok [] = tt
 task_parts_ok (w ∷ []) = tt
-task_parts_ok (w ∷ a ∷ []) = and_then (name_number a) _ IsNumber IsTask (number_ok a) (peer_task_ok w)
+task_parts_ok (w ∷ a ∷ []) = two_parts_ok w (name_number a) (number_ok a)
 task_parts_ok (w ∷ a ∷ b ∷ []) =
     either (bytes_eq w (codes "del")) _ _ IsTask (del_ok (name_number a) (name_number b) (number_ok a) (number_ok b))
     (either (bytes_eq w (codes "rdel")) _ None IsTask (rdel_ok (proto_of a) (name_number b) (number_ok b)) tt)

@@ -202,8 +202,7 @@ impl Chain {
                 }
                 self.walk(journal)
             }
-            Task::Nh(_) => Ok(Turn::Nothing),
-            Task::Rdel(_, _) => Ok(Turn::Nothing),
+            Task::Nh(_) | Task::Rdel(_, _) => Ok(Turn::Nothing),
         }
     }
 
