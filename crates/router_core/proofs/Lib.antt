@@ -25,3 +25,4 @@ pub mod PrintedTurns
 pub mod PrintedBlocks
 pub mod WeldLemmas
 pub mod HopLemmas
+pub mod MostLemmas
