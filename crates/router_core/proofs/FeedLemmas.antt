@@ -1,5 +1,5 @@
 -- The prefixes of an UPDATE, one after the other.
-use Rattle.std.proofs.Common.{◌≡◌, ℕ, ◌+◌, ◌<◌, Bool, true, false, cond, List, [], ◌∷◌, ◌++◌, Option, get_or, length, take, refl, sym, ap, subst, ◌∙◌, append_assoc}
+use Rattle.std.proofs.Common.{◌≡◌, ℕ, ◌+◌, ◌<◌, Bool, true, false, cond, List, [], ◌∷◌, ◌++◌, Option, Some, get_or, length, take, refl, sym, ap, subst, ◌∙◌, append_assoc}
 use Rattle.std.proofs.lemmas.List.{append-nil, take_more}
 use Rattle.addr4.specs.Prefixes.{Network}
 use Rattle.bgp_attr.specs.declared.attrs.Attrs.{Attrs}
@@ -16,6 +16,7 @@ use Rattle.loss_chain.specs.Steps.{live_after}
 use Rattle.loss_chain.proofs.TableLemmas.{same_by}
 use Rattle.std.specs.Prelude.{IsSome, is_some}
 use Rattle.event_text.specs.Declarations.{peer_at}
+use Rattle.hop_side.specs.Resolvers.{resolver_at}
 use Rattle.hop_side.specs.Steps.{GoesOn}
 use Rattle.peer_side.specs.Peers.{Chains, chain_at, put_chain, filt_at}
 use Rattle.peer_side.specs.Steps.{FeedsInward}
@@ -49,15 +50,15 @@ fed_one k p row sent m fallen m' entries rest stands up f w =
         journal_lines said,
         [],
         after,
-        (sent, record { fallen = fallen; entries = entries; part = f.feeds; resolved = w.resolved; below = w.below.resolves; weld = w.weld; welds = w.welds.welds; lines = refl; after = refl }),
+        (sent, record { fallen = fallen; entries = entries; part = f; resolved = w.resolved; below = w.below; weld = w.weld; welds = w.welds; lines = refl; after = refl }),
         (refl, refl),
         sym (append-nil (journal_lines said)),
       );
       keeps = record {
-        leads = falls_lead m fallen m'.chains m'.registry m'.hops entries w.resolved w.weld f.fall.leads goes.1.leads w.welds.step.leads quiet;
+        leads = falls_lead m fallen m'.chains m'.registry m'.hops entries w.resolved w.weld f.fall.leads goes.leads w.welds.step.leads quiet;
         live = live_routed m m.declared k c c' m'.chains f.feeds.at put refl ∙ ap (λ (r : Routes). live_by m (with_routes (live_state m).routes k (live_after r p row))) (sym (routes_there m k c f.feeds.at));
         stands = stands_with m k c c' m'.chains m'.registry m'.hops peer.0 stands f.feeds.at put w.welds.step.sound refl peer.1 here w.below.agreed.others.rows
-            (hops_fall m k fallen m'.chains m'.registry m'.hops stands w.below.agreed goes.1.counted quiet (resolver_there m stands k c f.feeds.at) (same_peers m k c c' m'.chains f.feeds.at put));
+            (hops_fall m k fallen m'.chains m'.registry m'.hops stands w.below.agreed goes.counted quiet (resolver_there m stands k c f.feeds.at) (same_peers m k c c' m'.chains f.feeds.at put));
       };
     }))
   where
@@ -79,7 +80,7 @@ fed_one k p row sent m fallen m' entries rest stands up f w =
     quiet : filt_at m'.chains ≡ filt_at fallen
     quiet i j = w.welds.quiet j i
 
-    goes : (below : Option (Change Route)) × GoesOn k p below m.hops m'.hops w.resolved (filt_at m.chains) (filt_at fallen)
+    goes : GoesOn k p w.below.below m.hops m'.hops w.resolved (filt_at m.chains) (filt_at fallen)
     goes = w.below.goes (filt_at m.chains) (filt_at fallen) p (stands.own HopsCounted) (record { here = f.changes.rows; others = f.changes.others })
 
     peer : (q : DeclaredPeer) × (peer_at k m.declared.peers ≡ Some q) × PeerStands q f.feeds.chain
@@ -100,6 +101,10 @@ one_fed k p row sent m v fallen m' before j now view stands up f w =
 -- the chain that was fed stands there
 pub fed_there : (k : ℕ) (p : Network) (row : Option Attrs) (sent : Option (Change Route)) (a fallen : Chains) (before j : Journaled) → Adds (FeedsInward k p row sent a fallen) before j → IsSome (chain_at k fallen)
 fed_there k p row sent a fallen before j f = ap is_some (fallen_at k a fallen (fed f.2.feeds.chain p row) f.2.feeds.after)
+
+-- and it has a resolver
+pub fed_resolves : (k : ℕ) (p : Network) (row : Option Attrs) (sent : Option (Change Route)) (m v : Moment) (fallen : Chains) (before j : Journaled) → v ≡ m → Stands m → Adds (FeedsInward k p row sent v.chains fallen) before j → IsSome (resolver_at k v.hops)
+fed_resolves k p row sent m v fallen before j view stands f = resolver_there v (subst Stands (sym view) stands) k f.2.feeds.chain f.2.feeds.at
 
 -- ---- one after the other
 module _ (k : ℕ) where

@@ -18,7 +18,7 @@ use Rattle.journal_text.specs.declared.value.Value.{Value}
 use Rattle.journal_text.specs.Journals.{Journaled, with_entries, Adds}
 use Rattle.journal_text.specs.Texts.{entries_of}
 use Rattle.journal_text.specs.Walk.{Links, Leads}
-use Rattle.journal_text.proofs.JournalLemmas.{entries_of_entries, with_entries_none}
+use Rattle.journal_text.proofs.JournalLemmas.{entries_of_entries, with_entries_none, with_entries_append}
 use Rattle.journal_text.proofs.WalkLemmas.{leads_append, leads_nowhere}
 use Rattle.link_region.specs.declared.regions.Region.{Region}
 use Rattle.link_region.specs.declared.regions.Region.TheVariants.{Inward, Resolved}
@@ -31,8 +31,9 @@ use Rattle.hop_side.proofs.LawLemmas.{leads_anywhere}
 use Rattle.peer_side.specs.Peers.{Chains, chain_at, peer_links, filt_at}
 use Rattle.router_core.specs.Moments.{Moment, with_chains, with_hops, parts, router_links}
 use Rattle.router_core.specs.Stands.{Stands, EachResolver, SameResolvers, AnswersAgree, HopsCounted, NoStrangers}
-use Rattle.router_core.specs.Turns.{journal_lines}
-use Rattle.router_core.specs.Works.{ResolvesOn}
+use Rattle.peer_side.specs.Steps.{WeldsInward}
+use Rattle.router_core.specs.Turns.{ResolvesOn, journal_lines}
+use Rattle.router_core.specs.Works.{SettlesPeer}
 
 -- ---- the region of the links `res.K`
 pub res_leads : (old new : Links Value) (entries : List (Entry Value)) → LeadsRes old entries new → LeadsIn Resolved old entries new
@@ -57,33 +58,39 @@ leads_resolved m r h entries leads =
         each Resolved = refl
         each other = refl
 
+-- entries behind others
+pub leads_both : (a b c : Links Value) (xs ys : List (Entry Value)) → Leads a (entries_of (journal_lines xs)) b → Leads b (entries_of (journal_lines ys)) c → Leads a (entries_of (journal_lines (xs ++ ys))) c
+leads_both a b c xs ys first next =
+    subst (λ (es : List (Entry Value)). Leads a es c) (sym (entries_of_entries (xs ++ ys)))
+    (leads_append a b c xs ys (subst (λ (es : List (Entry Value)). Leads a es b) (entries_of_entries xs) first) (subst (λ (es : List (Entry Value)). Leads b es c) (entries_of_entries ys) next))
+
 -- a fall in the peers' chains, what goes on below it, and the weld behind both
+abbrev fallen_side : Moment → Chains → Sides
+fallen_side m fallen = with_side (parts m) Inward (peer_links fallen)
+
+abbrev gone_side : Moment → Chains → Resolvers → Sides
+gone_side m fallen h = with_side (fallen_side m fallen) Resolved (hop_links h (filt_at fallen))
+
+abbrev welded_side : Moment → Chains → Resolvers → Chains → Sides
+welded_side m fallen h cs = with_side (gone_side m fallen h) Inward (peer_links cs)
+
 pub falls_lead : (m : Moment) (fallen cs : Chains) (r : Registry Interior) (h : Resolvers) (entries resolved weld : List (Entry Value)) → LeadsIn Inward (peer_links m.chains) entries (peer_links fallen)
     → LeadsRes (hop_links m.hops (filt_at m.chains)) resolved (hop_links h (filt_at fallen)) → LeadsIn Inward (peer_links fallen) weld (peer_links cs) → filt_at cs ≡ filt_at fallen
     → Leads (router_links m) (entries_of (journal_lines (entries ++ (resolved ++ weld)))) (router_links (with_hops (with_chains m cs) r h))
 falls_lead m fallen cs r h entries resolved weld falls goes welds same =
     subst (λ (es : List (Entry Value)). Leads (router_links m) es (router_links (with_hops (with_chains m cs) r h))) (sym (entries_of_entries (entries ++ (resolved ++ weld))))
     (subst (λ (s : Sides). Leads (router_links m) (entries ++ (resolved ++ weld)) (joined s)) set
-    (leads_append (router_links m) (joined one) (joined three) entries (resolved ++ weld) (falls (parts m) refl)
-    (leads_append (joined one) (joined two) (joined three) resolved weld (res_leads _ _ resolved goes one refl) (welds two refl))))
+    (leads_append (router_links m) (joined (fallen_side m fallen)) (joined (welded_side m fallen h cs)) entries (resolved ++ weld) (falls (parts m) refl)
+    (leads_append (joined (fallen_side m fallen)) (joined (gone_side m fallen h)) (joined (welded_side m fallen h cs)) resolved weld
+    (res_leads (hop_links m.hops (filt_at m.chains)) (hop_links h (filt_at fallen)) resolved goes (fallen_side m fallen) refl) (welds (gone_side m fallen h) refl))))
   where
-    one : Sides
-    one = with_side (parts m) Inward (peer_links fallen)
+    each : (s : Region) → welded_side m fallen h cs s ≡ parts (with_hops (with_chains m cs) r h) s
+    each Inward = refl
+    each Resolved = ap (hop_links h) (sym same)
+    each other = refl
 
-    two : Sides
-    two = with_side one Resolved (hop_links h (filt_at fallen))
-
-    three : Sides
-    three = with_side two Inward (peer_links cs)
-
-    set : three ≡ parts (with_hops (with_chains m cs) r h)
-    unfolding three, two, one
+    set : welded_side m fallen h cs ≡ parts (with_hops (with_chains m cs) r h)
     set i s = each s i
-      where
-        each : (s : Region) → with_side (with_side (with_side (parts m) Inward (peer_links fallen)) Resolved (hop_links h (filt_at fallen))) Inward (peer_links cs) s ≡ parts (with_hops (with_chains m cs) r h) s
-        each Inward = refl
-        each Resolved = ap (hop_links h) (sym same)
-        each other = refl
 
 -- ---- what is claimed of the resolvers
 pub record HopsStand (a : Chains) (r : Registry Interior) (h : Resolvers) : Type 0 where
@@ -153,16 +160,18 @@ hops_reached m reached r h stands given answers below = record {
 
 -- ---- what follows a change on `filt.K`, whether one came out or not
 pub resolved_none : (k : ℕ) (r : Registry Interior) (h : Resolvers) (j : Journaled) → IsHops h → AllAgree h r → Adds (ResolvesOn k None r r h h) j j
-resolved_none k r h j sound agree = ([], with_entries_none j, record {
+resolved_none k r h j sound agree = ([], sym (with_entries_none j), record {
+  below = None;
+  lines = refl;
   resolves = (refl, refl, refl);
   agreed = record { sound = sound; agree = agree; others = record { rows = refl; interests = λ i other. refl }; peers = λ j. refl };
   goes = λ uppers now p counted comes.
       let same : now ≡ uppers = (λ i j. stays uppers now p comes j i) in
-      (None, record {
+      record {
         comes = record { here = ap (λ (u : PeerRows). res_at h u k) same; others = λ j other. ap (λ (u : PeerRows). res_at h u j) same };
         leads = λ others. leads_nowhere _ _ (ap (λ (u : PeerRows). beside others (hop_links h u)) (sym same));
         counted = subst (λ (u : PeerRows). AllCounted u h) (sym same) counted;
-      });
+      };
 })
   where
     stays : (uppers now : PeerRows) (p : Network) → ComesOn k p None uppers now → (j : ℕ) → now j ≡ uppers j
@@ -171,7 +180,38 @@ resolved_none k r h j sound agree = ([], with_entries_none j, record {
 pub resolved_some : (k : ℕ) (change : Change Route) (sent : Option (Change Route)) (r r' : Registry Interior) (h h' : Resolvers) (before now : Journaled) → Adds (TakesBelow k change sent r r' h h') before now
     → Adds (ResolvesOn k (Some change) r r' h h') before now
 resolved_some k change sent r r' h h' before now adds = (adds.0, adds.1, record {
-  resolves = (sent, adds.2.takes, adds.2.agreed.others);
+  below = sent;
+  lines = adds.2.takes.lines;
+  resolves = adds.2.takes;
   agreed = adds.2.agreed;
-  goes = λ uppers now p counted comes. (sent, adds.2.goes uppers now p counted comes);
+  goes = adds.2.goes;
 })
+
+-- by whether one came out
+pub resolved_out : (k : ℕ) (sent : Option (Change Route)) (r : Registry Interior) (h : Resolvers) (j : Journaled) → sent ≡ None → IsHops h → AllAgree h r → Adds (ResolvesOn k sent r r h h) j j
+resolved_out k sent r h j is sound agree = subst (λ (s : Option (Change Route)). Adds (ResolvesOn k s r r h h) j j) (sym is) (resolved_none k r h j sound agree)
+
+pub resolved_in : (k : ℕ) (sent : Option (Change Route)) (change : Change Route) (below : Option (Change Route)) (m v : Moment) (r : Registry Interior) (h : Resolvers) (before now : Journaled) → v ≡ m → sent ≡ Some change
+    → Adds (TakesBelow k change below v.registry r v.hops h) before now → Adds (ResolvesOn k sent m.registry r m.hops h) before now
+resolved_in k sent change below m v r h before now view is adds = subst (λ (n : Moment). Adds (ResolvesOn k sent n.registry r n.hops h) before now) view
+    (subst (λ (s : Option (Change Route)). Adds (ResolvesOn k s v.registry r v.hops h) before now) (sym is) (resolved_some k change below v.registry r v.hops h before now adds))
+
+-- what follows, and the weld behind it
+pub settled_peer : (k : ℕ) (sent : Option (Change Route)) (m m1 v : Moment) (cs : Chains) (before j now : Journaled) → v ≡ m1 → Adds (ResolvesOn k sent m.registry m1.registry m.hops m1.hops) before j → m1 ≡ with_hops m m1.registry m1.hops
+    → Adds (WeldsInward k v.chains cs) j now → Adds (SettlesPeer k sent m (record v { chains = cs })) before now
+settled_peer k sent m m1 v cs before j now view res after welds =
+    subst (λ (n : Moment). Adds (SettlesPeer k sent m (record n { chains = cs })) before now) (sym view) (
+      res.0 ++ w.0,
+      w.1 ∙ ap (λ (x : Journaled). with_entries x w.0) res.1 ∙ with_entries_append before res.0 w.0,
+      record {
+        resolved = res.0;
+        below = res.2;
+        weld = w.0;
+        welds = subst (λ (a : Chains). WeldsInward k a cs w.0) (ap (λ (x : Moment). x.chains) after) w.2;
+        lines = refl;
+        after = ap (λ (x : Moment). record x { chains = cs }) after;
+      },
+    )
+  where
+    w : Adds (WeldsInward k m1.chains cs) j now
+    w = subst (λ (n : Moment). Adds (WeldsInward k n.chains cs) j now) view welds

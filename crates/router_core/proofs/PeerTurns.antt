@@ -77,10 +77,10 @@ unit_done task sent m fallen m' entries rest stands t w =
     subst (λ (n : Moment). IsUnit task m n (journal_lines (entries ++ rest))) (sym w.after)
     (subst (λ (es : List (Entry Value)). IsUnit task m after (journal_lines (entries ++ es))) (sym w.lines) (record {
       turn = turn_of_peer task m after (journal_lines (entries ++ (w.resolved ++ w.weld))) near
-          (sent, record { fallen = fallen; entries = entries; part = t.turn; resolved = w.resolved; below = w.below.resolves; weld = w.weld; welds = w.welds.welds; lines = refl; after = refl });
+          (sent, record { fallen = fallen; entries = entries; part = t; resolved = w.resolved; below = w.below; weld = w.weld; welds = w.welds; lines = refl; after = refl });
       work = record {
         keeps = record {
-          leads = falls_lead m fallen m'.chains m'.registry m'.hops entries w.resolved w.weld t.fall.leads goes.1.leads w.welds.step.leads quiet;
+          leads = falls_lead m fallen m'.chains m'.registry m'.hops entries w.resolved w.weld t.fall.leads goes.leads w.welds.step.leads quiet;
           live = live_same m k c c' m'.chains t.turn.at put t.leaves.live t.leaves.rules;
           stands = then;
         };
@@ -110,7 +110,7 @@ unit_done task sent m fallen m' entries rest stands t w =
     near : Nears task m.chains m'.chains
     near = nears_weld task (peer_of task) m.chains fallen m'.chains w.weld t.nearer w.welds
 
-    goes : (below : Option (Change Route)) × GoesOn (peer_of task) t.changes.0 below m.hops m'.hops w.resolved (filt_at m.chains) (filt_at fallen)
+    goes : GoesOn (peer_of task) t.changes.0 w.below.below m.hops m'.hops w.resolved (filt_at m.chains) (filt_at fallen)
     goes = w.below.goes (filt_at m.chains) (filt_at fallen) t.changes.0 (stands.own HopsCounted) (record { here = t.changes.1.rows; others = t.changes.1.others })
 
     p : (q : DeclaredPeer) × (peer_at (peer_of task) m.declared.peers ≡ Some q) × PeerStands q t.turn.chain
@@ -123,7 +123,7 @@ unit_done task sent m fallen m' entries rest stands t w =
 
     then : Stands (with_hops (with_chains m m'.chains) m'.registry m'.hops)
     then = stands_with m (peer_of task) t.turn.chain (welded t.turn.turned_chain) m'.chains m'.registry m'.hops p.0 stands t.turn.at put w.welds.step.sound t.leaves.me p.1 here w.below.agreed.others.rows
-        (hops_fall m (peer_of task) fallen m'.chains m'.registry m'.hops stands w.below.agreed goes.1.counted quiet (resolver_there m stands (peer_of task) t.turn.chain t.turn.at) (same_peers m (peer_of task) t.turn.chain (welded t.turn.turned_chain) m'.chains t.turn.at put))
+        (hops_fall m (peer_of task) fallen m'.chains m'.registry m'.hops stands w.below.agreed goes.counted quiet (resolver_there m stands (peer_of task) t.turn.chain t.turn.at) (same_peers m (peer_of task) t.turn.chain (welded t.turn.turned_chain) m'.chains t.turn.at put))
 
     less : most_of (with_hops (with_chains m m'.chains) m'.registry m'.hops) ≤ most_of m
     less = most_less m (peer_of task) t.turn.chain (welded t.turn.turned_chain) m'.chains t.turn.at put t.leaves.live (lost_less task m.chains m'.chains near)

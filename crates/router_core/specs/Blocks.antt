@@ -35,7 +35,7 @@ use Rattle.in_chain.specs.Steps.{new_chain}
 use Rattle.hop_side.specs.Resolvers.{put_resolver}
 use Rattle.nexthop_resolver.specs.Resolving.{nothing_known}
 use Rattle.peer_side.specs.Peers.{Chains, chain_at, put_chain, overdue_at}
-use Rattle.peer_side.specs.Steps.{EditsPeer, LosesPeer}
+use Rattle.peer_side.specs.Steps.{EditsInward, LosesInward}
 use Rattle.router_core.specs.Moments.{Moment, with_chains, with_tree, router_links, bound_of}
 use Rattle.live_state.specs.Messages.{changes_of, Says}
 use Rattle.live_state.specs.Lives.{LiveAfter}
@@ -74,7 +74,7 @@ Declares m (Some me) k words said turns m' =
 -- the incoming filter of peer k has these rules from now on; they hold nowhere yet
 abbrev pub Refilters : ℕ → List Rule → Moment → List Line → ℕ → Moment → Type 0
 Refilters k rules m said turns m' =
-    (chains : Chains) × EditsPeer k rules m.chains chains × Just [] (with_chains m chains) said turns m'
+    (chains : Chains) × EditsInward k rules m.chains chains × Just [] (with_chains m chains) said turns m'
 
 abbrev pub begun : Moment → ℕ → Moment
 begun m k = record m { declared = with_session m.declared k }
@@ -96,7 +96,7 @@ pub record Loses (k s : ℕ) (m : Moment) (said : List Line) (m' : Moment) : Typ
   pub runs : RunsFirst (overdue_at k m.chains) m first room
   pub last : List Line
   pub between : Moment
-  pub loses : InPeers (LosesPeer k s room.chains) room last between
+  pub loses : InPeers (LosesInward k s room.chains) room last between
   pub lines : said ≡ first ++ last
   pub after : m' ≡ ended between k
 

@@ -44,6 +44,9 @@ most_of m = 3 * rows_in m.chains + 2 * tables.len m.chains
 pub record Frame : Type 0 where
   pub most : ℕ
 
+abbrev pub frame_of : Moment → Frame
+frame_of m = record { most = most_of m }
+
 -- the moment is within a frame
 abbrev pub IsWithin : Frame → Moment → Type 0
 IsWithin f m = most_of m ≤ f.most

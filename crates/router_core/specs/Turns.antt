@@ -16,11 +16,10 @@ use Rattle.journal_text.specs.declared.entry.Entry.{Entry}
 use Rattle.journal_text.specs.declared.line.Line.{Line}
 use Rattle.journal_text.specs.declared.line.Line.TheVariants as lines
 use Rattle.in_chain.specs.Chains.{Chained, filt_rows, filt_candidates}
-use Rattle.hop_side.specs.Resolvers.{Resolvers, has_hop_work, known_in}
-use Rattle.hop_side.specs.Steps.{TakesHop, TurnsHop, AllReached}
-use Rattle.nexthop_resolver.specs.Registered.{KeepsOthers}
+use Rattle.hop_side.specs.Resolvers.{Resolvers, PeerRows, AllCounted, has_hop_work, known_in}
+use Rattle.hop_side.specs.Steps.{TakesHop, TurnsBelow, ReachesBelow, KeepsAgreed, ComesOn, GoesOn, res_entries}
 use Rattle.peer_side.specs.Peers.{Chains, chain_at, peer_of, has_peer_work, deletion_tasks, filter_tasks, rows_in}
-use Rattle.peer_side.specs.Steps.{FeedsPeer, TurnsPeer, WeldsPeer}
+use Rattle.peer_side.specs.Steps.{FeedsInward, TakesInward, WeldsInward}
 use Rattle.router_core.specs.declared.router.Phase.{Phase}
 use Rattle.router_core.specs.declared.router.Phase.TheVariants as phases
 use Rattle.std.specs.FinMap as tables
@@ -40,7 +39,7 @@ use Rattle.rib_merge.specs.Forwards.{forwarded}
 use Rattle.prefix_trie.specs.Width.{width}
 use Rattle.register_interest.specs.declared.interests.Interest.{Interest}
 use Rattle.register_interest.specs.Interests.{AreReached, without}
-use Rattle.register_interest.specs.Registers.{Registry, put_row}
+use Rattle.register_interest.specs.Registers.{Registry, KeepsAnswers, put_row}
 use Rattle.router_core.specs.Moments.{Moment, with_chains, with_hops, with_tree}
 
 abbrev pub journal_lines : List (Entry Value) → List Line
@@ -54,11 +53,20 @@ pub record InPeers (P : Chains → List (Entry Value) → Type 0) (m : Moment) (
   pub lines : said ≡ journal_lines entries
   pub after : m' ≡ with_chains m chains
 
+-- A change on `filt.K` of peer k, if one came out, goes through its resolver.
+abbrev pub Resolves : ℕ → Option (Change Route) → Option (Change Route) → Registry Interior → Registry Interior → Resolvers → Resolvers → List (Entry Value) → Type 0
+Resolves k None sent r r' h h' entries = (sent ≡ None) × (r' ≡ r) × (h' ≡ h)
+Resolves k (Some change) sent r r' h h' entries = TakesHop k change sent r h h' entries
+
 -- What follows a change that came out on `filt.K` of peer k, if one did: its resolver takes it in, which asks the register about a next
--- hop that came, and forgets one that no row names any more; what goes on comes on `res.K`.
-abbrev pub Resolves : ℕ → Option (Change Route) → Registry Interior → Registry Interior → Resolvers → Resolvers → List (Entry Value) → Type 0
-Resolves k None r r' h h' entries = (entries ≡ []) × (r' ≡ r) × (h' ≡ h)
-Resolves k (Some change) r r' h h' entries = (sent : Option (Change Route)) × TakesHop k change sent r h h' entries × KeepsOthers k r r'
+-- hop that came, and forgets one that no row names any more; what goes on comes on `res.K`, whatever the rows of all `filt.K` are which
+-- the change leads on.
+pub record ResolvesOn (k : ℕ) (sent : Option (Change Route)) (r r' : Registry Interior) (h h' : Resolvers) (entries : List (Entry Value)) : Type 0 where
+  pub below : Option (Change Route)
+  pub lines : entries ≡ res_entries k below
+  pub resolves : Resolves k sent below r r' h h' entries
+  pub agreed : KeepsAgreed k r r' h h'
+  pub goes : (uppers now : PeerRows) (p : Network) → AllCounted uppers h → ComesOn k p sent uppers now → GoesOn k p below h h' entries uppers now
 
 -- A fall in the chain of peer k, of which this is said, what follows the change on `filt.K`, and behind both the weld of the stage that
 -- the fall emptied, if any.
@@ -67,15 +75,15 @@ pub record FallsPeer (k : ℕ) (sent : Option (Change Route)) (P : Chains → Li
   pub entries : List (Entry Value)
   pub part : P fallen entries
   pub resolved : List (Entry Value)
-  pub below : Resolves k sent m.registry m'.registry m.hops m'.hops resolved
+  pub below : ResolvesOn k sent m.registry m'.registry m.hops m'.hops resolved
   pub weld : List (Entry Value)
-  pub welds : WeldsPeer k fallen m'.chains weld
+  pub welds : WeldsInward k fallen m'.chains weld
   pub lines : said ≡ journal_lines (entries ++ (resolved ++ weld))
   pub after : m' ≡ with_hops (with_chains m m'.chains) m'.registry m'.hops
 
 -- One prefix of an UPDATE from peer k is announced or withdrawn.
 abbrev pub Feeds : ℕ → Network × Option Attrs → Moment → List Line → Moment → Type 0
-Feeds k change m said m' = (sent : Option (Change Route)) × FallsPeer k sent (FeedsPeer k change.0 change.1 sent m.chains) m said m'
+Feeds k change m said m' = (sent : Option (Change Route)) × FallsPeer k sent (FeedsInward k change.0 change.1 sent m.chains) m said m'
 
 -- one prefix after the other
 abbrev pub FeedsAll : ℕ → List (Network × Option Attrs) → Moment → List Line → Moment → Type 0
@@ -89,17 +97,18 @@ fib_entries None = []
 fib_entries (Some change) = valued_change fib_value Fib change
 
 -- What the register makes of a change of `int`: it has the row, and these are the interests that the change reaches, which are given
--- up; all else stays.
+-- up; all else stays, and the answers that go with kept interests are the present ones.
 pub record Registers (change : Change Interior) (reached : List Interest) (r r' : Registry Interior) : Type 0 where
   pub rows : r'.rows ≡ put_row r.rows change.prefix change.after
   pub reaches : AreReached width change.prefix (tables.get r.interests) reached
   pub interests : r'.interests ≡ without r.interests reached
+  pub answers : KeepsAnswers r r'
 
 -- What follows a change that came out on `int`, if one did: the register takes it over, and in each resolver the answers are stale
 -- that came with an interest which was given up.
 abbrev pub Invalidates : Option (Change Interior) → Registry Interior → Registry Interior → Resolvers → Resolvers → Type 0
 Invalidates None r r' h h' = (r' ≡ r) × (h' ≡ h)
-Invalidates (Some change) r r' h h' = (reached : List Interest) × Registers change reached r r' × AllReached reached h h'
+Invalidates (Some change) r r' h h' = (reached : List Interest) × Registers change reached r r' × ReachesBelow reached h h'
 
 -- A change of an interior route at a prefix made this of the tree: its messages go down to `int`, then the register, the resolvers and
 -- `fib` follow, and behind them stands the weld of the stage that it emptied, if any.
@@ -112,6 +121,7 @@ pub record FallsRoute (m : Moment) (new : Treed) (proto : Proto) (p : Network) (
   pub fib : IsSent (forwarded (int_rows m.tree)) (forwarded (int_rows new)) p below
   pub lines : said ≡ journal_lines (entries ++ (fib_entries below ++ tree_weld_entries proto new))
   pub below_int : Invalidates sent m.registry m'.registry m.hops m'.hops
+  pub int : int_rows (welded_tree proto new) ≡ int_rows new
   pub after : m' ≡ with_hops (with_tree m (welded_tree proto new)) m'.registry m'.hops
 
 -- the change that a turn sent, if it sent one
@@ -128,7 +138,7 @@ IsOfPeers other = ⊥
 
 -- One turn of a task of a peer: of the deletion stage of a session, or of the walk of a filter.
 abbrev pub IsPeerTurn : Task → Moment → List Line → Moment → Type 0
-IsPeerTurn task m said m' = (sent : Option (Change Route)) × FallsPeer (peer_of task) sent (TurnsPeer task sent m.chains) m said m'
+IsPeerTurn task m said m' = (sent : Option (Change Route)) × FallsPeer (peer_of task) sent (TakesInward task sent m.chains) m said m'
 
 -- One turn of the stage of a protocol's loss: its least row goes.
 pub record IsRouteTurn (proto : Proto) (n : ℕ) (m : Moment) (said : List Line) (m' : Moment) : Type 0 where
@@ -145,8 +155,7 @@ pub record IsHopTurn (k : ℕ) (m : Moment) (said : List Line) (m' : Moment) : T
   pub at : chain_at k m.chains ≡ Some chain
   pub sent : Option (Change Route)
   pub entries : List (Entry Value)
-  pub turn : TurnsHop k (filt_candidates chain) (filt_rows chain) sent m.registry m'.registry m.hops m'.hops entries
-  pub others : KeepsOthers k m.registry m'.registry
+  pub turn : TurnsBelow k (filt_candidates chain) (filt_rows chain) sent m.registry m'.registry m.hops m'.hops entries
   pub lines : said ≡ journal_lines entries
   pub after : m' ≡ with_hops m m'.registry m'.hops
 

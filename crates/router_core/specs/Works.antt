@@ -11,14 +11,10 @@ use Rattle.journal_text.specs.Journals.{Journaled, with_lines, with_entries, flu
 use Rattle.event_text.specs.declared.declared.DeclaredPeer.{DeclaredPeer}
 use Rattle.event_text.specs.Declarations.{peer_at}
 use Rattle.peer_side.specs.Peers.{chain_at, overdue_at}
-use Rattle.peer_side.specs.Steps.{LosesPeer, WeldsInward, Changes}
+use Rattle.peer_side.specs.Steps.{LosesInward, WeldsInward}
 use Rattle.bgp_attr.specs.declared.route.Route.{Route}
 use Rattle.journal_text.specs.declared.entry.Entry.{Entry}
 use Rattle.journal_text.specs.declared.value.Value.{Value}
-use Rattle.register_interest.specs.declared.interests.Interest.{Interest}
-use Rattle.register_interest.specs.Registers.{Registry, KeepsAnswers}
-use Rattle.hop_side.specs.Resolvers.{Resolvers, PeerRows, AllCounted}
-use Rattle.hop_side.specs.Steps.{ComesOn, GoesOn, KeepsAgreed, ReachesBelow}
 use Rattle.router_core.specs.declared.router.Done.{Done}
 use Rattle.router_core.specs.declared.router.Done.TheVariants.{Nothing, Taken}
 use Rattle.rib_route.specs.declared.Proto.{Proto}
@@ -35,7 +31,7 @@ use Rattle.router_core.specs.Scratch.{IsExact}
 use Rattle.router_core.specs.declared.router.Phase.{Phase}
 use Rattle.rib_route.specs.declared.rows.FibRow.{FibRow}
 use Rattle.rib_merge.specs.Forwards.{ForwardsOn}
-use Rattle.router_core.specs.Turns.{Registers, Resolves, Invalidates, fib_entries, journal_lines, InPeers, FeedsAll, FallsRoute, phase_of, IsTurn, Turns, Runs, RunsPhase, RunsAll, has_work, phase_bound, IsOver, IsSettled}
+use Rattle.router_core.specs.Turns.{ResolvesOn, Invalidates, fib_entries, journal_lines, InPeers, FeedsAll, FallsRoute, phase_of, IsTurn, Turns, Runs, RunsPhase, RunsAll, has_work, phase_bound, IsOver, IsSettled}
 use Rattle.router_core.specs.Phases.{Frame, IsWithin, all_phases, counts, most_of, Spends}
 use Rattle.router_core.specs.Blocks.{RunsFirst, Loses, Hears, Idles, IsBlock, ended as ended_moment}
 use Rattle.router_core.specs.declared.router.Idle.{Idle}
@@ -134,7 +130,7 @@ pub record HasLost (k s : ℕ) (m m' : Moment) (said : List Line) : Type 0 where
 -- the loss alone, where there is room
 pub record Ends (k s : ℕ) (m m' : Moment) (said : List Line) : Type 0 where
   pub between : Moment
-  pub loses : InPeers (LosesPeer k s m.chains) m said between
+  pub loses : InPeers (LosesInward k s m.chains) m said between
   pub after : m' ≡ ended_moment between k
   pub keeps : Keeps (ended (live_state m) k) m m' said
 
@@ -158,13 +154,7 @@ pub record HasHeard (k : ℕ) (p : DeclaredPeer) (m : Moment) (message : Message
 
 -- ---- next hops
 
--- What follows a change on `filt.K` of peer k, if one came out; and so it goes on for any rows of all `filt.K` which the change leads on.
-pub record ResolvesOn (k : ℕ) (sent : Option (Change Route)) (r r' : Registry Interior) (h h' : Resolvers) (entries : List (Entry Value)) : Type 0 where
-  pub resolves : Resolves k sent r r' h h' entries
-  pub agreed : KeepsAgreed k r r' h h'
-  pub goes : (uppers now : PeerRows) (p : Network) → AllCounted uppers h → ComesOn k p sent uppers now → (below : Option (Change Route)) × GoesOn k p below h h' entries uppers now
-
--- The same, and behind it the stage of the peer that was emptied goes, if there is one.
+-- What follows a change on `filt.K`, and behind it the stage of the peer that was emptied goes, if there is one.
 pub record SettlesPeer (k : ℕ) (sent : Option (Change Route)) (m m' : Moment) (entries : List (Entry Value)) : Type 0 where
   pub resolved : List (Entry Value)
   pub below : ResolvesOn k sent m.registry m'.registry m.hops m'.hops resolved
@@ -201,20 +191,10 @@ Forwards (Some change) below = ForwardsOn change below
 abbrev pub PushesForwarded : Change Interior → Journaled → Journaled → Type 0
 PushesForwarded change before now = (below : Option (Change FibRow)) × ForwardsOn change below × (now ≡ with_entries before (fib_entries below))
 
--- What the register makes of a change, and that the answers which it keeps are the present ones.
-pub record RegistersAll (change : Change Interior) (reached : List Interest) (r r' : Registry Interior) : Type 0 where
-  pub registers : Registers change reached r r'
-  pub answers : KeepsAnswers r r'
-
--- what follows it in the resolvers
-abbrev pub InvalidatesAll : Option (Change Interior) → Registry Interior → Registry Interior → Resolvers → Resolvers → Type 0
-InvalidatesAll None r r' h h' = (r' ≡ r) × (h' ≡ h)
-InvalidatesAll (Some change) r r' h h' = (reached : List Interest) × RegistersAll change reached r r' × ReachesBelow reached h h'
-
 -- What follows a change that came out on `int`, if one did: the register takes it over, the resolvers hear of the interests that it
 -- reaches, and `fib` gets what the change makes of it.
 pub record Follows (sent : Option (Change Interior)) (m m' : Moment) (before now : Journaled) : Type 0 where
-  pub below_int : InvalidatesAll sent m.registry m'.registry m.hops m'.hops
+  pub below_int : Invalidates sent m.registry m'.registry m.hops m'.hops
   pub after : m' ≡ with_hops m m'.registry m'.hops
   pub below : Option (Change FibRow)
   pub fib : Forwards sent below
@@ -222,7 +202,7 @@ pub record Follows (sent : Option (Change Interior)) (m m' : Moment) (before now
 
 -- the same, and behind it the stage of the protocol that was emptied goes, if there is one
 pub record Settles (proto : Proto) (sent : Option (Change Interior)) (m m' : Moment) (before now : Journaled) : Type 0 where
-  pub below_int : InvalidatesAll sent m.registry m'.registry m.hops m'.hops
+  pub below_int : Invalidates sent m.registry m'.registry m.hops m'.hops
   pub after : m' ≡ with_hops (with_tree m (welded_tree proto m.tree)) m'.registry m'.hops
   pub below : Option (Change FibRow)
   pub fib : Forwards sent below

@@ -7,8 +7,8 @@ ghost use Rattle.hop_side.specs.Resolvers.{resolver_at, IsHops, AllAgree};
 ghost use Rattle.peer_side.specs.Peers.{chain_at, IsPeersBut};
 ghost use Rattle.router_core.specs.Moments.{with_hops};
 ghost use Rattle.router_core.specs.Stands.{Stands};
-ghost use Rattle.router_core.specs.Turns.{IsOfPeers, sent_of};
-ghost use Rattle.router_core.specs.Works.{Comes, ResolvesOn, SettlesPeer};
+ghost use Rattle.router_core.specs.Turns.{IsOfPeers, ResolvesOn, sent_of};
+ghost use Rattle.router_core.specs.Works.{Comes, SettlesPeer};
 
 use crate::network::Network;
 use crate::router::Done;

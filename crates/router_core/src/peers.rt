@@ -63,7 +63,8 @@ impl Network {
             unreachable!()
         };
         self.chains.begin(number, me, peer.words, journal)?;
-        self.hops.begin(peer.words.number, journal)
+        self.hops.begin(peer.words.number, journal)?;
+        Ok(())
     }
 
     /// A peer's session begins; `ignored` where one is up.

@@ -15,7 +15,8 @@ ghost use Rattle.loss_chain.specs.Steps.{live_after};
 ghost use Rattle.live_state.specs.Lives.{interior_fed};
 ghost use Rattle.router_core.specs.Lives.{live_state};
 ghost use Rattle.router_core.specs.Stands.{Stands};
-ghost use Rattle.router_core.specs.Works.{Comes, RegistersAll, Follows, Settles, Turned, PushesForwarded, HasRouted, HasProtocolRoom, EndsProtocol, HasStepped, Pushes};
+ghost use Rattle.router_core.specs.Turns.{Registers};
+ghost use Rattle.router_core.specs.Works.{Comes, Follows, Settles, Turned, PushesForwarded, HasRouted, HasProtocolRoom, EndsProtocol, HasStepped, Pushes};
 
 use crate::network::Network;
 use crate::router::Done;
@@ -243,7 +244,7 @@ fn register(
     alloc: Global,
     change: &Change<Interior>,
 ) -> Result<Vec<Interest>, Memory>
-    ensures { IfOk result (λ reached. RegistersAll change.now reached.items registry.old registry.new) }
+    ensures { IfOk result (λ reached. Registers change.now reached.items registry.old registry.new) }
 {
     match change.after {
         None => registry.changed(alloc, change.prefix, None),

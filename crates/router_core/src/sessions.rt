@@ -43,7 +43,8 @@ impl Network {
         ensures { OnOk result (Pushes (HaveFed number ((prefix, row) ∷ []) self.old self.new) journal.old journal.new) }
     {
         let sent = self.chains.feed(number, prefix, row, journal)?;
-        self.settle_peer(number, sent, journal)
+        self.settle_peer(number, sent, journal)?;
+        Ok(())
     }
 
     /// Session `session` of a peer is lost. Where 16 deletion stages stand and it has routes, the oldest runs to its end

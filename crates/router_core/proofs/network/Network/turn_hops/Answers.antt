@@ -1,0 +1,13 @@
+use Rattle.std.proofs.Common.{◌∙◌, sym, ap}
+use Rattle.std.specs.Option.{option_copied}
+use Rattle.router_core.proofs.HopTurns.{hops_sound, hops_agree, no_hops}
+use Rattle.router_core.proofs.network.Network.turn_hops.Goals as goal
+
+pub returns-in_default : goal.returns-in_default
+returns-in_default c = no_hops c.args.number c.args.self.now _ c.args.journal.now c.self.view_is c.requires (sym (ap option_copied c.in_default.is) ∙ c.chain.ensures)
+
+pub turn-requires-clause-sound : goal.turn-requires-clause-sound
+turn-requires-clause-sound c = hops_sound c.args.self.now _ c.self.view_is c.requires
+
+pub turn-requires-clause-agree : goal.turn-requires-clause-agree
+turn-requires-clause-agree c = hops_agree c.args.self.now _ c.self.view_is c.requires
