@@ -134,6 +134,10 @@ took task a fallen before j turns.Nothing some t = absurd (some refl)
 took task a fallen before j turns.Quiet some t = t
 took task a fallen before j (turns.Sent change) some t = t
 
+pub settled_same : (k j : ℕ) (sent other : Option (Change Route)) (m m' : Moment) (before now : Journaled) → k ≡ j → sent ≡ other → Adds (SettlesPeer k sent m m') before now → Adds (SettlesPeer j other m m') before now
+settled_same k j sent other m m' before now same is s =
+    subst (λ (x : Option (Change Route)). Adds (SettlesPeer j x m m') before now) is (subst (λ (n : ℕ). Adds (SettlesPeer n sent m m') before now) same s)
+
 pub peer_took : (task : Task) (m v : Moment) (fallen : Chains) (m' : Moment) (before j l now : Journaled) (turn : Turn Route) → (turn ≡ turns.Nothing → ⊥) → v ≡ m → Stands m → ComesInward task v.chains fallen before j turn
     → Adds (SettlesPeer (peer_of task) (sent_of turn) (with_chains v fallen) m') j l → now ≡ flushed l → Comes task m m' before now Taken
 peer_took task m v fallen m' before j l now turn some view stands comes w is =
