@@ -4,7 +4,7 @@ use Rattle.std.proofs.lemmas.Bool.Decides.{nat_tests}
 use Rattle.addr4.specs.Prefixes.{Network}
 use Rattle.bgp_attr.specs.declared.route.Route.{Route}
 use Rattle.bgp_attr.specs.declared.speaker.Speaker.{Speaker}
-use Rattle.link_change.specs.Rows.{Rows, no_rows}
+use Rattle.link_change.specs.Rows.{Rows, no_rows, IsNextCandidate, CoversRows}
 use Rattle.link_change.specs.Changes.{IsSent}
 use Rattle.link_change.specs.declared.change.Change.{Change}
 use Rattle.journal_text.specs.declared.link.Link.{Link}
@@ -19,26 +19,67 @@ use Rattle.journal_text.proofs.WalkLemmas.{leads_sent}
 use Rattle.link_region.specs.declared.regions.Region.TheVariants.{Decided}
 use Rattle.link_region.specs.Regions.{joined, with_side, LeadsIn}
 use Rattle.link_region.proofs.RegionLemmas.{by_bool}
-use Rattle.loss_chain.proofs.TableLemmas.{equal_by, same_by}
+use Rattle.loss_chain.proofs.TableLemmas.{equal_by, same_by, other_by}
 use Rattle.decision.specs.Branches.{AllRows, best_rows, Decides, OthersStay}
 use Rattle.decision.proofs.LawLemmas.{best_is_a_branchs, best_is_of_its_prefix}
-use Rattle.hop_side.specs.Resolvers.{Resolvers, PeerRows}
+use Rattle.hop_side.specs.Resolvers.{Resolvers, PeerRows, resolver_at, rows_by}
 use Rattle.hop_side.specs.Steps.{ComesOn}
-use Rattle.peer_side.specs.Peers.{Chains}
-use Rattle.router_core.specs.Bests.{resolved_at, best_at, best_links, best_entries, DecidesOn, lent_rows}
+use Rattle.peer_side.specs.Peers.{Chains, chain_at, filt_by}
+use Rattle.router_core.specs.Bests.{resolved_at, best_at, best_links, best_entries, DecidesOn, lent_chain, lent_rows, candidates_by, lent_candidates}
+use Rattle.router_core.specs.Moments.{Moment}
+use Rattle.in_chain.specs.Chains.{Chained, filt_rows, filt_candidates}
+use Rattle.nexthop_resolver.specs.Resolving.{Resolving}
+use Rattle.nexthop_resolver.specs.declared.rows.Metric.{Metric}
 
 -- ---- the branches that there may be
-abbrev cut_rows : AllRows → AllRows
-cut_rows rows b = cond (nat_lt b 65) (rows b) no_rows
+same_best : (rows other : AllRows) → ((b : ℕ) → b < 65 → rows b ≡ other b) → best_rows rows ≡ best_rows other
+same_best rows other same i p = best_is_of_its_prefix rows other p (λ b low. ap (λ (r : Rows Route). r p) (same b low)) i
 
-cut_here : (rows : AllRows) (b : ℕ) → b < 65 → cut_rows rows b ≡ rows b
-cut_here rows b low = ap (λ t. cond t (rows b) no_rows) (is_low b low)
-  where
-    is_low : (b : ℕ) → b < 65 → nat_lt b 65 ≡ true
-    is_low b low = grind (arith, nat_tests)
+is_low : (b : ℕ) → b < 65 → nat_lt b 65 ≡ true
+is_low b low = grind (arith, nat_tests)
 
-pub cut_best : (rows : AllRows) → best_rows (cut_rows rows) ≡ best_rows rows
-cut_best rows i p = best_is_of_its_prefix (cut_rows rows) rows p (λ b low. ap (λ (r : Rows Route). r p) (cut_here rows b low)) i
+is_high : (b : ℕ) → 65 ≤ b → nat_lt b 65 ≡ false
+is_high b high = grind (arith, nat_tests)
+
+lent_here : (a : Chains) (h : Resolvers) (b : ℕ) → b < 65 → lent_rows a h b ≡ resolved_at a h b
+lent_here a h b low = ap (λ t. rows_by (resolver_at b h) (filt_by (cond t (chain_at b a) None))) (is_low b low)
+
+-- what is lent has the same best rows
+pub lent_best : (m v : Moment) (a : Chains) (h : Resolvers) → v ≡ m → a ≡ v.chains → h ≡ v.hops → best_rows (lent_rows a h) ≡ best_at m.chains m.hops
+lent_best m v a h view chains hops =
+    same_best (lent_rows a h) (resolved_at a h) (lent_here a h) ∙ ap (λ (x : Chains). best_at x h) chains ∙ ap (best_at v.chains) hops ∙ ap (λ (n : Moment). best_at n.chains n.hops) view
+
+-- a branch without a chain has nothing
+no_row : (o : Option (Resolving Metric)) (q : Network) → rows_by o no_rows q ≡ None
+no_row None q = refl
+no_row (Some s) q = refl
+
+pub no_lent_row : (a : Chains) (h : Resolvers) (b : ℕ) (q : Network) → None ≡ lent_chain a b → lent_rows a h b q ≡ None
+no_lent_row a h b q none = ap (λ (o : Option Chained). rows_by (resolver_at b h) (filt_by o) q) (sym none) ∙ no_row (resolver_at b h) q
+
+pub no_lent_candidate : (a : Chains) (b : ℕ) (q : Network) → None ≡ lent_chain a b → lent_candidates a b q ≡ false
+no_lent_candidate a b q none = ap (λ (o : Option Chained). candidates_by o q) (sym none)
+
+pub none_lent : (a : Chains) (h : Resolvers) (b : ℕ) (q : Network) → 65 ≤ b → (lent_rows a h b q ≡ None) × (lent_candidates a b q ≡ false)
+none_lent a h b q high =
+    let none : None ≡ lent_chain a b = ap (λ t. cond t (chain_at b a) None) (sym (is_high b high)) in
+    (no_lent_row a h b q none, no_lent_candidate a b q none)
+
+pub lent_next_none : (a : Chains) (b : ℕ) (place : Option Network) → None ≡ lent_chain a b → IsNextCandidate (lent_candidates a b) place None
+lent_next_none a b place none q beyond = no_lent_candidate a b q none
+
+pub lent_covers_none : (a : Chains) (h : Resolvers) (b : ℕ) → None ≡ lent_chain a b → CoversRows (lent_candidates a b) (lent_rows a h b)
+lent_covers_none a h b none q lacks = no_lent_row a h b q none
+
+-- and one that has one its own
+pub lent_asked : (a : Chains) (h : Resolvers) (b : ℕ) (c : Chained) (q : Network) → Some c ≡ lent_chain a b → rows_by (resolver_at b h) (filt_rows c) q ≡ lent_rows a h b q
+lent_asked a h b c q at = ap (λ (o : Option Chained). rows_by (resolver_at b h) (filt_by o) q) at
+
+pub lent_next : (a : Chains) (b : ℕ) (c : Chained) (place result : Option Network) → Some c ≡ lent_chain a b → IsNextCandidate (filt_candidates c) place result → IsNextCandidate (lent_candidates a b) place result
+lent_next a b c place result at next = subst (λ (o : Option Chained). IsNextCandidate (candidates_by o) place result) at next
+
+pub lent_covers : (a : Chains) (h : Resolvers) (b : ℕ) (c : Chained) → Some c ≡ lent_chain a b → CoversRows (filt_candidates c) (rows_by (resolver_at b h) (filt_rows c)) → CoversRows (lent_candidates a b) (lent_rows a h b)
+lent_covers a h b c at covers = subst (λ (o : Option Chained). CoversRows (candidates_by o) (rows_by (resolver_at b h) (filt_by o))) at covers
 
 -- where no branch has a row
 pub best_none : (rows : AllRows) → ((b : ℕ) → rows b ≡ no_rows) → best_rows rows ≡ no_rows
@@ -63,23 +104,40 @@ decided_none k sent now j is = ([], sym (with_entries_none j), record {
   decides = λ before p comes. ap best_rows (comes_none k p before now (subst (λ (s : Option (Change Route)). ComesOn k p s before now) is comes));
 })
 
-pub decided_some : (k : ℕ) (sent : Option (Change Route)) (change : Change Route) (best : Option (Change Route)) (a : Chains) (h : Resolvers) (before now : Journaled) → k ≤ 64 → sent ≡ Some change → Decides k (lent_rows a h) change best
-    → now ≡ with_entries before (best_entries best) → Adds (DecidesOn k sent (resolved_at a h)) before now
-decided_some k sent change best a h before now small is decides pushed = (best_entries best, pushed, record {
-  best = best;
-  lines = refl;
-  decides = λ was p comes.
-      let low : k < 65 = omega (arith, small) in
-      let come : ComesOn k p (Some change) was (resolved_at a h) = subst (λ (s : Option (Change Route)). ComesOn k p s was (resolved_at a h)) is comes in
-      let here : IsSent (cut_rows was k) (cut_rows (resolved_at a h) k) p (Some change) =
-      subst (λ (r : Rows Route). IsSent r (cut_rows (resolved_at a h) k) p (Some change)) (sym (cut_here was k low)) (subst (λ (r : Rows Route). IsSent (was k) r p (Some change)) (sym (cut_here (resolved_at a h) k low)) come.here) in
-      subst (λ (r : Rows Route). IsSent r (best_rows (resolved_at a h)) p best) (cut_best was)
-      (subst (λ (r : Rows Route). IsSent (best_rows (cut_rows was)) r p best) (cut_best (resolved_at a h)) (decides (cut_rows was) p (stay was p come) here));
-})
+pub decided_some : (k : ℕ) (sent : Option (Change Route)) (change : Change Route) (best : Option (Change Route)) (m v : Moment) (a : Chains) (h : Resolvers) (before now : Journaled) → k ≤ 64 → sent ≡ Some change → v ≡ m → a ≡ v.chains → h ≡ v.hops
+    → Decides k (lent_rows a h) change best → now ≡ with_entries before (best_entries best) → Adds (DecidesOn k sent (resolved_at m.chains m.hops)) before now
+decided_some k sent change best m v a h before now small is view chains hops decides pushed =
+    subst (λ (n : Moment). Adds (DecidesOn k sent (resolved_at n.chains n.hops)) before now) view
+    (subst (λ (x : Chains). Adds (DecidesOn k sent (resolved_at x v.hops)) before now) chains
+    (subst (λ (x : Resolvers). Adds (DecidesOn k sent (resolved_at a x)) before now) hops (
+      best_entries best,
+      pushed,
+      record { best = best; lines = refl; decides = λ was p comes. leads was p (subst (λ (s : Option (Change Route)). ComesOn k p s was (resolved_at a h)) is comes) },
+    )))
   where
-    stay : (was : PeerRows) (p : Network) → ComesOn k p (Some change) was (resolved_at a h) → OthersStay k (cut_rows was) (cut_rows (resolved_at a h))
-    stay was p come b other = ap (λ (r : Rows Route). cond (nat_lt b 65) r no_rows)
-        (sym (come.others b (by_bool (nat_eq b k) (λ t. t ≡ false) (λ e. absurd (other (equal_by b k e))) (λ _. refl))))
+    low : k < 65
+    low = omega (arith, small)
+
+    -- the old rows of its branch, beside the rows that are lent
+    former : PeerRows → AllRows
+    former was b = cond (nat_eq b k) (was k) (lent_rows a h b)
+
+    former_is : (was : PeerRows) (p : Network) → ComesOn k p (Some change) was (resolved_at a h) → (b : ℕ) → b < 65 → former was b ≡ was b
+    former_is was p comes b few = by_bool (nat_eq b k) (λ t. cond t (was k) (lent_rows a h b) ≡ was b) (λ e. ap was (sym (equal_by b k e))) (λ e. lent_here a h b few ∙ comes.others b e)
+
+    stay : (was : PeerRows) → OthersStay k (former was) (lent_rows a h)
+    stay was b other = ap (λ t. cond t (was k) (lent_rows a h b)) (other_by b k other)
+
+    here : (was : PeerRows) → former was k ≡ was k
+    here was = ap (λ t. cond t (was k) (lent_rows a h k)) (same_by k k refl)
+
+    leads : (was : PeerRows) (p : Network) → ComesOn k p (Some change) was (resolved_at a h) → IsSent (best_rows was) (best_rows (resolved_at a h)) p best
+    leads was p comes =
+        subst (λ (r : Rows Route). IsSent r (best_rows (resolved_at a h)) p best) (same_best (former was) was (former_is was p comes))
+        (subst (λ (r : Rows Route). IsSent (best_rows (former was)) r p best) (same_best (lent_rows a h) (resolved_at a h) (lent_here a h))
+        (decides (former was) p (stay was)
+        (subst (λ (r : Rows Route). IsSent r (lent_rows a h k) p (Some change)) (sym (here was))
+        (subst (λ (r : Rows Route). IsSent (was k) r p (Some change)) (sym (lent_here a h k low)) comes.here))))
 
 -- ---- the region of `best`
 pub best_leads : (s : Option Speaker) (me : Speaker) (old new : Rows Route) (p : Network) (best : Option (Change Route)) → s ≡ Some me → IsSent old new p best → LeadsIn Decided (best_links s old) (best_entries best) (best_links s new)

@@ -3,7 +3,7 @@ use Rattle.std.specs.Prelude.{◌≡◌, ℕ, nat_lt, cond, false, List, Option,
 use Rattle.addr4.specs.Prefixes.{Network}
 use Rattle.bgp_attr.specs.declared.route.Route.{Route}
 use Rattle.bgp_attr.specs.declared.speaker.Speaker.{Speaker}
-use Rattle.link_change.specs.Rows.{Rows, Candidates, no_rows}
+use Rattle.link_change.specs.Rows.{Rows, Candidates}
 use Rattle.link_change.specs.Changes.{IsSent}
 use Rattle.link_change.specs.declared.change.Change.{Change}
 use Rattle.journal_text.specs.declared.link.Link.TheVariants.{Best}
@@ -13,9 +13,9 @@ use Rattle.journal_text.specs.Values.{route_value, route_rows, sent_entries}
 use Rattle.journal_text.specs.Walk.{Links}
 use Rattle.decision.specs.Branches.{AllRows, best_rows}
 use Rattle.in_chain.specs.Chains.{Chained, filt_candidates}
-use Rattle.hop_side.specs.Resolvers.{Resolvers, PeerRows, res_at}
+use Rattle.hop_side.specs.Resolvers.{Resolvers, PeerRows, resolver_at, rows_by, res_at}
 use Rattle.hop_side.specs.Steps.{ComesOn}
-use Rattle.peer_side.specs.Peers.{Chains, chain_at, filt_at}
+use Rattle.peer_side.specs.Peers.{Chains, chain_at, filt_by, filt_at}
 
 -- the rows of all `res.K`
 abbrev pub resolved_at : Chains → Resolvers → PeerRows
@@ -43,15 +43,15 @@ pub record DecidesOn (k : ℕ) (sent : Option (Change Route)) (now : PeerRows) (
   pub decides : (before : PeerRows) (p : Network) → ComesOn k p sent before now → IsSent (best_rows before) (best_rows now) p best
 
 -- ---- what is lent to the decision: the peers of the numbers that there may be
+abbrev pub lent_chain : Chains → ℕ → Option Chained
+lent_chain a b = cond (nat_lt b 65) (chain_at b a) None
+
 abbrev pub lent_rows : Chains → Resolvers → AllRows
-lent_rows a h b = cond (nat_lt b 65) (resolved_at a h b) no_rows
+lent_rows a h b = rows_by (resolver_at b h) (filt_by (lent_chain a b))
 
-abbrev pub no_candidates : Candidates
-no_candidates q = false
-
-abbrev pub filt_candidates_by : Option Chained → Candidates
-filt_candidates_by None = no_candidates
-filt_candidates_by (Some c) = filt_candidates c
+abbrev pub candidates_by : Option Chained → Candidates
+candidates_by None q = false
+candidates_by (Some c) q = filt_candidates c q
 
 abbrev pub lent_candidates : Chains → ℕ → Candidates
-lent_candidates a b = cond (nat_lt b 65) (filt_candidates_by (chain_at b a)) no_candidates
+lent_candidates a b = candidates_by (lent_chain a b)

@@ -1,25 +1,43 @@
 //! What follows a change of `res.K`: the best route at its prefix, over all peers (RFC 4271, section 9.1.2).
 
 ghost use Rattle.std.specs.Prelude.{◌≡◌, ◌≤◌, IfOk, OnOk};
+ghost use Rattle.std.specs.Option.{option_copied};
 ghost use Rattle.addr4.specs.Places.{key_of};
 ghost use Rattle.journal_text.specs.Journals.{Adds};
 ghost use Rattle.link_change.specs.Rows.{IsNextCandidate, CoversRows};
 ghost use Rattle.decision.specs.Branches.{best_candidates};
-ghost use Rattle.router_core.specs.Bests.{DecidesOn, best_at, resolved_at, lent_candidates};
+ghost use Rattle.router_core.specs.Bests.{DecidesOn, best_at, resolved_at, lent_chain, lent_candidates};
 
 use crate::network::Network;
 use addr4::{Memory, Place, Prefix};
 use bgp_attr::Route;
 use decision::{Branches, asked, next_candidate, take_in};
 use hop_side::NextHops;
+use in_chain::Chain;
 use journal_text::{Journal, Link};
 use link_change::Change;
 use peer_side::Peers;
 
+/// At most how many branches there are.
+const MOST: u8 = 65;
+
 /// The links `res.K` of all peers, as they are lent to the decision. No local route is redistributed yet, so branch 0 is empty.
+#[derive(Drop)]
 struct Lent<'a> {
     chains: &'a Peers,
     hops: &'a NextHops,
+}
+
+impl<'a> Lent<'a> {
+    /// The chain of a branch, if there is one.
+    fn chain(&self, branch: u8) -> Option<&Chain>
+        ensures { option_copied result ≡ lent_chain self.now.chains.now branch }
+    {
+        if branch < MOST {
+            return self.chains.chain(u32::from(branch));
+        }
+        None
+    }
 }
 
 impl<'a> Branches for Lent<'a> {
@@ -30,29 +48,19 @@ impl<'a> Branches for Lent<'a> {
     ghost candidates = { λ l. lent_candidates l.chains.now };
 
     fn count(&self) -> u8 {
-        65
+        MOST
     }
 
     fn asked(&self, branch: u8, p: &Prefix) -> Result<Option<Route>, Memory> {
-        if branch >= 65 {
-            return Ok(None);
-        }
-        let number = u32::from(branch);
-        let Some(chain) = self.chains.chain(number) else {
+        let Some(chain) = self.chain(branch) else {
             return Ok(None);
         };
-        self.hops.asked(number, chain, *p)
+        self.hops.asked(u32::from(branch), chain, *p)
     }
 
     fn next_candidate(&self, branch: u8, after: &Place) -> Option<Prefix> {
-        if branch >= 65 {
-            return None;
-        }
-        let number = u32::from(branch);
-        let Some(chain) = self.chains.chain(number) else {
-            return None;
-        };
-        self.hops.next_candidate(number, chain, *after)
+        let chain = self.chain(branch)?;
+        self.hops.next_candidate(u32::from(branch), chain, *after)
     }
 }
 
@@ -71,7 +79,8 @@ impl Network {
             return Ok(());
         };
         let best = take_in(self.alloc, number as u8, change, &self.lent())?;
-        journal.push_sent(Link::Best, &best)
+        journal.push_sent(Link::Best, &best)?;
+        Ok(())
     }
 
     /// The best route at a prefix; None where no peer has one.

@@ -6,7 +6,6 @@ ghost use Rattle.journal_text.specs.Walk.{HasRow};
 ghost use Rattle.journal_text.specs.Journals.{with_lines};
 ghost use Rattle.hop_side.specs.Resolvers.{hop_links};
 ghost use Rattle.peer_side.specs.Peers.{filt_at};
-ghost use Rattle.journal_text.specs.Values.{route_rows};
 ghost use Rattle.router_core.specs.Bests.{best_at, best_links};
 ghost use Rattle.router_core.specs.Moments.{rib_by, router_links};
 ghost use Rattle.router_core.specs.Blocks.{answer_lines, Shows};
@@ -51,7 +50,7 @@ impl Network {
         match region_of(link) {
             Region::Inward => self.chains.asked(link, p),
             Region::Resolved => self.resolved(link, p),
-            Region::Decided => self.decided(p),
+            Region::Decided => self.decided(link, p),
             Region::InteriorRoutes => self.tree.asked(link, p),
             Region::Forward => self.tree.asked(link, p),
             Region::Elsewhere => unreachable!(),
@@ -101,8 +100,9 @@ impl Network {
     }
 
     /// The row at a prefix of `best`; None where it has none.
-    fn decided(&self, p: Prefix) -> Result<Option<Value>, Memory>
-        ensures { IfOk result (λ row. row ≡ route_rows (best_at self.now.chains self.now.hops) p) }
+    fn decided(&self, link: Link, p: Prefix) -> Result<Option<Value>, Memory>
+        requires { IsSome (best_links self.now.declared.speaker (best_at self.now.chains self.now.hops) link) }
+        ensures { IfOk result (HasRow (best_links self.now.declared.speaker (best_at self.now.chains self.now.hops)) link p) }
     {
         match self.best(p)? {
             Some(route) => Ok(Some(Value::Route(route))),
