@@ -1,5 +1,5 @@
--- A fall or a turn in a chain and the weld behind it, as one step.
-use Rattle.std.proofs.Common.{◌≡◌, ℕ, ◌<◌, ◌≤◌, List, map, length, Option, Some, None, refl, sym, ap, subst, ◌∙◌, arith}
+-- What a fall, a turn and a weld leave of a chain.
+use Rattle.std.proofs.Common.{◌≡◌, ℕ, ◌<◌, ◌≤◌, List, length, Option, Some, None, refl, sym, ap, subst, ◌∙◌, arith}
 use Rattle.std.specs.List.{AllByRecursion}
 use Rattle.addr4.specs.Prefixes.{Network}
 use Rattle.bgp_attr.specs.declared.attrs.Attrs.{Attrs}
@@ -9,45 +9,21 @@ use Rattle.link_change.specs.declared.change.Change.{Change}
 use Rattle.policy_rules.specs.declared.rule.Rule.{Rule}
 use Rattle.pass_core.specs.Passed.{Passed, Walked, present, latest_of, present_of, stepped, walk_of_waiting, after_walk}
 use Rattle.pass_core.specs.Turns.{walked_on, IsSentAt}
-use Rattle.journal_text.specs.declared.link.Link.TheVariants.{In}
 use Rattle.journal_text.specs.declared.link.Task.{Task}
 use Rattle.journal_text.specs.declared.link.Task.TheVariants.{Del, Fin, Rdel}
 use Rattle.journal_text.specs.declared.entry.Entry.{Entry}
 use Rattle.journal_text.specs.declared.value.Value.{Value}
-use Rattle.journal_text.specs.Journals.{Journaled, with_entries}
-use Rattle.journal_text.proofs.JournalLemmas.{with_entries_append}
-use Rattle.journal_text.proofs.WalkLemmas.{leads_append}
 use Rattle.loss_chain.specs.Lost.{Lost}
-use Rattle.loss_chain.specs.declared.owner.Owner.TheVariants as owners
-use Rattle.loss_chain.specs.Tables.{NoneEmpty}
-use Rattle.loss_chain.specs.Steps.{without, deletions_after, swept_one, weld_entries}
+use Rattle.loss_chain.specs.Steps.{without, deletions_after, swept_one}
 use Rattle.loss_chain.proofs.ListLemmas.{all_mapped, all_filtered}
 use Rattle.loss_chain.proofs.TableLemmas.{is_full, few_filter, few_map, swept_number}
-use Rattle.in_chain.specs.Chains.{Chained, filt_rows, beside, IsChain}
+use Rattle.in_chain.specs.Chains.{Chained, filt_rows, IsChain}
 use Rattle.in_chain.specs.Falls.{LeadsChain}
-use Rattle.in_chain.specs.Steps.{fed, welded, swept, Turned, Rewalks}
+use Rattle.in_chain.specs.Steps.{fed, welded, swept, Turned}
 use Rattle.peer_side.specs.Peers.{Chains, chain_at, put_chain, AreBefore, lost_of}
-use Rattle.peer_side.specs.Steps.{with_weld, Leaves, Nears}
-use Rattle.peer_side.proofs.CountLemmas.{swept_turns, swept_rows, weld_stays}
+use Rattle.peer_side.specs.Steps.{Leaves, Nears}
+use Rattle.peer_side.proofs.CountLemmas.{swept_turns, swept_rows}
 use Rattle.peer_side.proofs.PutLemmas.{put_lost, put_left}
-
--- what a weld leaves
-pub record Welds (less c' : Chained) (j now : Journaled) : Type 0 where
-  pub after : c' ≡ welded less
-  pub lines : now ≡ with_entries j (weld_entries (owners.Peer less.incoming.number) (In less.incoming.number) less.incoming.tables.deletions)
-  pub leads : LeadsChain less (weld_entries (owners.Peer less.incoming.number) (In less.incoming.number) less.incoming.tables.deletions) c'
-  pub rows : filt_rows c' ≡ filt_rows less
-  pub chain : IsChain c'
-  pub full : NoneEmpty c'.incoming.tables.deletions
-
-pub fall_leads : (c less c' : Chained) (entries : List (Entry Value)) (j now : Journaled) → LeadsChain c entries less → Welds less c' j now → LeadsChain c (with_weld less entries) c'
-fall_leads c less c' entries j now leads w others =
-    leads_append (beside others c) (beside others less) (beside others c') entries (weld_entries (owners.Peer less.incoming.number) (In less.incoming.number) less.incoming.tables.deletions) (leads others) (w.leads others)
-
-pub fall_pushed : (less c' : Chained) (entries : List (Entry Value)) (before j now : Journaled) → j ≡ with_entries before entries → Welds less c' j now → now ≡ with_entries before (with_weld less entries)
-fall_pushed less c' entries before j now pushed w =
-    w.lines ∙ ap (λ (x : Journaled). with_entries x (weld_entries (owners.Peer less.incoming.number) (In less.incoming.number) less.incoming.tables.deletions)) pushed
-    ∙ with_entries_append before entries (weld_entries (owners.Peer less.incoming.number) (In less.incoming.number) less.incoming.tables.deletions)
 
 -- ---- turns
 pub turn_leads : (task : Task) (c less : Chained) (sent : Option (Change Route)) (entries : List (Entry Value)) → Turned c less task sent entries → LeadsChain c entries less
@@ -61,22 +37,24 @@ thinned_before : (s : ℕ) (p : Network) (row : Option Attrs) (ds : List (Lost A
 thinned_before s p None ds all = all
 thinned_before s p (Some attrs) ds all = all_mapped (λ (d : Lost Attrs). d.number < s) (without p) (λ d lt. lt) ds all
 
-pub fed_before : (s : ℕ) (p : Network) (row : Option Attrs) (c : Chained) → AreBefore s c → AreBefore s (welded (fed c p row))
-fed_before s p row c all = all_filtered (λ (d : Lost Attrs). d.number < s) is_full (deletions_after c.incoming.tables.deletions p row) (thinned_before s p row c.incoming.tables.deletions all)
+pub fed_before : (s : ℕ) (p : Network) (row : Option Attrs) (c : Chained) → AreBefore s c → AreBefore s (fed c p row)
+fed_before s p row c all = thinned_before s p row c.incoming.tables.deletions all
 
-swept_before : (s n : ℕ) (p : Network) (c : Chained) → AreBefore s c → AreBefore s (welded (swept n p c))
-swept_before s n p c all = all_filtered (λ (d : Lost Attrs). d.number < s) is_full (map (swept_one n p) c.incoming.tables.deletions)
-    (all_mapped (λ (d : Lost Attrs). d.number < s) (swept_one n p) (λ d lt. subst (λ (m : ℕ). m < s) (sym (swept_number n p d)) lt) c.incoming.tables.deletions all)
+swept_before : (s n : ℕ) (p : Network) (c : Chained) → AreBefore s c → AreBefore s (swept n p c)
+swept_before s n p c all = all_mapped (λ (d : Lost Attrs). d.number < s) (swept_one n p) (λ d lt. subst (λ (m : ℕ). m < s) (sym (swept_number n p d)) lt) c.incoming.tables.deletions all
+
+pub weld_before : (s : ℕ) (c : Chained) → AreBefore s c → AreBefore s (welded c)
+weld_before s c all = all_filtered (λ (d : Lost Attrs). d.number < s) is_full c.incoming.tables.deletions all
+
+pub weld_few : (c : Chained) → length (welded c).incoming.tables.deletions ≤ length c.incoming.tables.deletions
+weld_few c = few_filter is_full c.incoming.tables.deletions
 
 thinned_few : (p : Network) (row : Option Attrs) (ds : List (Lost Attrs)) → length (deletions_after ds p row) ≤ length ds
 thinned_few p None ds = omega arith
 thinned_few p (Some attrs) ds = let e = few_map (without p) ds in omega (arith, e)
 
-pub fed_few : (p : Network) (row : Option Attrs) (c : Chained) → length (welded (fed c p row)).incoming.tables.deletions ≤ length c.incoming.tables.deletions
-fed_few p row c = let a = few_filter is_full (deletions_after c.incoming.tables.deletions p row) in let b = thinned_few p row c.incoming.tables.deletions in omega (arith, a, b)
-
-swept_few : (n : ℕ) (p : Network) (c : Chained) → length (welded (swept n p c)).incoming.tables.deletions ≤ length c.incoming.tables.deletions
-swept_few n p c = let a = few_filter is_full (map (swept_one n p) c.incoming.tables.deletions) in let b = few_map (swept_one n p) c.incoming.tables.deletions in omega (arith, a, b)
+pub fed_few : (p : Network) (row : Option Attrs) (c : Chained) → length (fed c p row).incoming.tables.deletions ≤ length c.incoming.tables.deletions
+fed_few p row c = thinned_few p row c.incoming.tables.deletions
 
 -- ---- the rules of the latest edit stay
 module _ {F : Type 0} where
@@ -96,24 +74,19 @@ walked_keeps : (next : Option Network) (s : Passed (List Rule)) → present (wal
 walked_keeps None s = finish_keeps s.in_force s.walk
 walked_keeps (Some p) s = step_keeps s.in_force s.walk p
 
--- ---- what a turn and the weld behind it leave
--- a turn of a walk empties no stage
-walk_stays : (c less : Chained) (sent : Option (Change Route)) (entries : List (Entry Value)) → Rewalks c less sent entries → NoneEmpty c.incoming.tables.deletions → welded less ≡ less
-walk_stays c less sent entries w full = weld_stays less (subst (λ (x : Chained). NoneEmpty x.incoming.tables.deletions) (sym w.after) full)
-
--- and no more stages stand
+-- ---- what a turn leaves, and that no more stages stand
 pub record Left (c c' : Chained) : Type 0 where
   pub number : c'.incoming.number ≡ c.incoming.number
   pub leaves : Leaves c c'
   pub few : length c'.incoming.tables.deletions ≤ length c.incoming.tables.deletions
 
-pub turn_left : (task : Task) (c less : Chained) (sent : Option (Change Route)) (entries : List (Entry Value)) → Turned c less task sent entries → NoneEmpty c.incoming.tables.deletions → Left c (welded less)
-turn_left (Del k s) c less sent entries t full = subst (λ (x : Chained). Left c (welded x)) (sym t.1.after) (record {
+pub turn_left : (task : Task) (c less : Chained) (sent : Option (Change Route)) (entries : List (Entry Value)) → Turned c less task sent entries → Left c less
+turn_left (Del k s) c less sent entries t = subst (Left c) (sym t.1.after) (record {
   number = refl;
   leaves = record { me = refl; peer = refl; live = refl; rules = refl; before = λ n. swept_before n s t.1.prefix c };
-  few = swept_few s t.1.prefix c;
+  few = let same = few_map (swept_one s t.1.prefix) c.incoming.tables.deletions in omega (arith, same);
 })
-turn_left (Fin k) c less sent entries t full = subst (Left c) (sym (walk_stays c less sent entries t.1 full ∙ t.1.after)) (record {
+turn_left (Fin k) c less sent entries t = subst (Left c) (sym t.1.after) (record {
   number = refl;
   leaves = record {
     me = refl;
@@ -124,25 +97,23 @@ turn_left (Fin k) c less sent entries t full = subst (Left c) (sym (walk_stays c
   };
   few = omega arith;
 })
-turn_left (Rdel proto n) c less sent entries t full = absurd t
+turn_left (Rdel proto n) c less sent entries t = absurd t
 
-pub turn_nears : (task : Task) (a : Chains) (k : ℕ) (c less : Chained) (sent : Option (Change Route)) (entries : List (Entry Value)) → chain_at k a ≡ Some c → IsChain c → NoneEmpty c.incoming.tables.deletions → Turned c less task sent entries
-    → Nears task a (put_chain k (welded less) a)
-turn_nears (Del n s) a k c less sent entries at chain full t =
-    let c' : Chained = welded (swept s t.1.prefix c) in
+pub turn_nears : (task : Task) (a : Chains) (k : ℕ) (c less : Chained) (sent : Option (Change Route)) (entries : List (Entry Value)) → chain_at k a ≡ Some c → IsChain c → Turned c less task sent entries → Nears task a (put_chain k less a)
+turn_nears (Del n s) a k c less sent entries at chain t =
+    let c' : Chained = swept s t.1.prefix c in
     let fewer = swept_rows s c t.1.prefix t.1.row t.1.table chain t.1.stands t.1.least.0 in
     let turns = swept_turns s c t.1.prefix (omega (arith, fewer)) in
     let l = put_lost k c c' a at in
     let w = put_left k c c' a at in
-    subst (λ (x : Chained). Nears (Del n s) a (put_chain k (welded x) a)) (sym t.1.after) (omega (arith, l, fewer), omega (arith, w, turns))
-turn_nears (Fin n) a k c less sent entries at chain full t =
-    let is : welded less ≡ less = walk_stays c less sent entries t.1 full in
+    subst (λ (x : Chained). Nears (Del n s) a (put_chain k x a)) (sym t.1.after) (omega (arith, l, fewer), omega (arith, w, turns))
+turn_nears (Fin n) a k c less sent entries at chain t =
     let same : lost_of less ≡ lost_of c = ap (λ (x : Chained). lost_of x) t.1.after in
     let fewer = t.1.fewer in
     let l = put_lost k c less a at in
     let w = put_left k c less a at in
-    subst (λ (x : Chained). Nears (Fin n) a (put_chain k x a)) (sym is) (omega (arith, l, same), omega (arith, w, fewer))
-turn_nears (Rdel proto n) a k c less sent entries at chain full t = absurd t
+    (omega (arith, l, same), omega (arith, w, fewer))
+turn_nears (Rdel proto n) a k c less sent entries at chain t = absurd t
 
 -- ---- what comes out on `filt.K`
 walk_sent : (next : Option Network) (old new : Network → Option Route) (sent : Option (Change Route)) → IsSentAt next old new sent → (p : Network) × IsSent old new p sent

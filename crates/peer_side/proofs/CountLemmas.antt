@@ -1,4 +1,4 @@
--- What a turn of a chain's stage, and the weld behind it, leave of its counts.
+-- What a turn of a chain's stage and a weld leave of its counts.
 use Rattle.std.proofs.Common.{◌≡◌, ℕ, ◌+◌, ◌≤◌, Bool, true, false, not, cond, List, [], ◌∷◌, length, map, filter, Option, Some, None, nat_eq, refl, sym, ap, subst, ◌∙◌, arith}
 use Rattle.std.specs.FinMap as tables
 use Rattle.std.specs.FinMap.{FinMap, find, is_sorted, get-entries, get-remove, get-from_sorted, entries_sorted, entries-from_sorted, same_map}
@@ -11,20 +11,19 @@ use Rattle.bgp_attr.specs.declared.attrs.Attrs.{Attrs}
 use Rattle.policy_rules.specs.declared.rule.Rule.{Rule}
 use Rattle.pass_core.specs.Passed.{Walked, is_beyond}
 use Rattle.loss_chain.specs.Lost.{Lost}
-use Rattle.loss_chain.specs.Tables.{NoneEmpty, tables_count}
+use Rattle.loss_chain.specs.Tables.{Tables, tables_count}
 use Rattle.loss_chain.specs.Steps.{without, swept_one, table_of}
-use Rattle.loss_chain.proofs.TableLemmas.{is_full, full_stay}
+use Rattle.loss_chain.proofs.TableLemmas.{is_full}
 use Rattle.loss_chain.proofs.TurnLemmas.{welded_rows, swept_rows as swept_rows_of}
-use Rattle.in_chain.specs.Chains.{Chained, IsChain, with_tables, count_beyond, lost_beyond, waiting_turns, walk_turns, turns_left}
+use Rattle.in_chain.specs.Chains.{Chained, IsChain, count_beyond, lost_beyond, left_beyond, waiting_turns, walk_turns, turns_left}
 use Rattle.in_chain.specs.Steps.{swept, welded}
 use Rattle.peer_side.specs.Peers.{lost_of}
 
-pub swept_rows : (s : ℕ) (c : Chained) (p : Network) (a : Attrs) (t : FinMap prefix_cmp Attrs) → IsChain c → table_of s c.incoming.tables.deletions ≡ Some t → tables.get t p ≡ Some a
-    → lost_of (welded (swept s p c)) + 1 ≡ lost_of c
-swept_rows s c p a t chain stands at =
-    let filtered = welded_rows (map (swept_one s p) c.incoming.tables.deletions) in
-    let less = swept_rows_of s p t a c.incoming.tables.deletions chain.rising stands at in
-    omega arith
+pub swept_rows : (s : ℕ) (c : Chained) (p : Network) (a : Attrs) (t : FinMap prefix_cmp Attrs) → IsChain c → table_of s c.incoming.tables.deletions ≡ Some t → tables.get t p ≡ Some a → lost_of (swept s p c) + 1 ≡ lost_of c
+swept_rows s c p a t chain stands at = swept_rows_of s p t a c.incoming.tables.deletions chain.rising stands at
+
+pub weld_rows : (c : Chained) → lost_of (welded c) ≡ lost_of c
+weld_rows c = welded_rows c.incoming.tables.deletions
 
 -- the entries of a table without a prefix
 entries_removed : (t : FinMap prefix_cmp Attrs) (p : Network) → tables.entries (tables.remove t p) ≡ filter (λ e. not (eq_by_cmp prefix_cmp e.0 p)) (tables.entries t)
@@ -80,17 +79,18 @@ waiting_more : (a b : ℕ) (waiting : Option (List Rule)) → a ≤ b → waitin
 waiting_more a b None most = omega arith
 waiting_more a b (Some rules) most = omega (arith, most)
 
--- and no more turns of the filter's walk
-pub swept_turns : (s : ℕ) (c : Chained) (p : Network) → lost_of (welded (swept s p c)) ≤ lost_of c → turns_left (welded (swept s p c)) ≤ turns_left c
-swept_turns s c p less = by_walk c.filter.walk
-  where
-    by_walk : (w : Option (Walked (List Rule))) → walk_turns (welded (swept s p c)).incoming.tables w ≤ walk_turns c.incoming.tables w
-    by_walk None = omega arith
-    by_walk (Some w) =
-        let a = swept_beyond w.place s p c.incoming.tables.deletions in
-        let b = full_beyond w.place (map (swept_one s p) c.incoming.tables.deletions) in
-        let d = waiting_more (tables_count (welded (swept s p c)).incoming.tables) (tables_count c.incoming.tables) w.waiting (omega (arith, less)) in
-        omega (arith, a, b, d)
+-- no more turns of the filter's walk, where no more rows lie beyond its place
+fewer_turns : (t u : Tables Attrs) (walk : Option (Walked (List Rule))) → tables_count t ≤ tables_count u → ((place : Option Network) → left_beyond place t ≤ left_beyond place u) → walk_turns t walk ≤ walk_turns u walk
+fewer_turns t u None less beyond = omega arith
+fewer_turns t u (Some w) less beyond =
+    let a = beyond w.place in
+    let b = waiting_more (tables_count t) (tables_count u) w.waiting less in
+    omega (arith, a, b)
 
-pub weld_stays : (c : Chained) → NoneEmpty c.incoming.tables.deletions → welded c ≡ c
-weld_stays c full i = with_tables c (record { live = c.incoming.tables.live; deletions = full_stay c.incoming.tables.deletions full i })
+pub swept_turns : (s : ℕ) (c : Chained) (p : Network) → lost_of (swept s p c) ≤ lost_of c → turns_left (swept s p c) ≤ turns_left c
+swept_turns s c p less = fewer_turns (swept s p c).incoming.tables c.incoming.tables c.filter.walk (omega (arith, less)) (λ place. let a = swept_beyond place s p c.incoming.tables.deletions in omega (arith, a))
+
+pub weld_turns : (c : Chained) → turns_left (welded c) ≤ turns_left c
+weld_turns c =
+    let same = weld_rows c in
+    fewer_turns (welded c).incoming.tables c.incoming.tables c.filter.walk (omega (arith, same)) (λ place. let a = full_beyond place c.incoming.tables.deletions in omega (arith, a))

@@ -30,11 +30,15 @@ put_seen f k c a j = ap f (at_put k c a j) ∙ elim (nat_eq j k) as (λ b. f (co
 pub put_kept : {A : Type 0} (f : Option Chained → A) (k : ℕ) (c : Chained) (a : Chains) → f (Some c) ≡ f (chain_at k a) → (j : ℕ) → f (chain_at j (put_chain k c a)) ≡ f (chain_at j a)
 put_kept f k c a same j = put_seen f k c a j ∙ by_bool (nat_eq j k) (λ b. cond b (f (Some c)) (f (chain_at j a)) ≡ f (chain_at j a)) (λ e. same ∙ ap (λ (n : ℕ). f (chain_at n a)) (sym (equal_by j k e))) (λ _. refl)
 
+-- what holds of each other chain and of the one that was put
+pub put_beside : (P : ℕ → Chained → Type 0) (k : ℕ) (c : Chained) (a : Chains) → P k c → ((j : ℕ) (d : Chained) → nat_eq j k ≡ false → chain_at j a ≡ Some d → P j d) → (j : ℕ) (d : Chained) → chain_at j (put_chain k c a) ≡ Some d → P j d
+put_beside P k c a own each j d at =
+    by_bool (nat_eq j k) (λ b. cond b (Some c) (chain_at j a) ≡ Some d → P j d)
+    (λ e there. subst (λ (n : ℕ). P n d) (sym (equal_by j k e)) (subst (P k) (one_of c d there) own)) (λ e there. each j d e there) (sym (at_put k c a j) ∙ at)
+
 -- what holds of each chain and of the one that was put
 pub put_each : (P : ℕ → Chained → Type 0) (k : ℕ) (c : Chained) (a : Chains) → P k c → ((j : ℕ) (d : Chained) → chain_at j a ≡ Some d → P j d) → (j : ℕ) (d : Chained) → chain_at j (put_chain k c a) ≡ Some d → P j d
-put_each P k c a own each j d at =
-    by_bool (nat_eq j k) (λ b. cond b (Some c) (chain_at j a) ≡ Some d → P j d)
-    (λ e there. subst (λ (n : ℕ). P n d) (sym (equal_by j k e)) (subst (P k) (one_of c d there) own)) (λ _ there. each j d there) (sym (at_put k c a j) ∙ at)
+put_each P k c a own each = put_beside P k c a own (λ j d _ at. each j d at)
 
 is_there : (k : ℕ) (a : Chains) (c : Chained) → chain_at k a ≡ Some c → tables.contains_key a k ≡ true
 is_there k a c at = ap is_some at
@@ -56,6 +60,14 @@ put_left k c c' a at = sum_replaced nat_cmp nat_cmp_total turns_left a k c' c at
 -- to put the chain that is there changes nothing
 pub put_same : (k : ℕ) (c : Chained) (a : Chains) → chain_at k a ≡ Some c → put_chain k c a ≡ a
 put_same k c a at = same_map nat_cmp_total nat_cmp-IsAntisymmetric (put_chain k c a) a (λ j. put_kept (λ (o : Option Chained). o) k c a (sym at) j)
+
+-- to put a chain twice
+pub put_twice : (k : ℕ) (c c' : Chained) (a : Chains) → put_chain k c' (put_chain k c a) ≡ put_chain k c' a
+put_twice k c c' a = same_map nat_cmp_total nat_cmp-IsAntisymmetric _ _ (λ j. at_put k c' (put_chain k c a) j ∙ ap (cond (nat_eq j k) (Some c')) (at_put k c a j) ∙ by_test (nat_eq j k) (chain_at j a) ∙ sym (at_put k c' a j))
+  where
+    by_test : (b : Bool) (o : Option Chained) → cond b (Some c') (cond b (Some c) o) ≡ cond b (Some c') o
+    by_test true o = refl
+    by_test false o = refl
 
 -- ---- a chain that is lent by the map that holds it
 pub read_at : (m : BTreeMap ℕ Chained) (now : Chains) (k : ℕ) → from_entries m.entries ≡ now → tree.get nat_cmp m k ≡ chain_at k now

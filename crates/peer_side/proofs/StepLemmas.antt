@@ -17,19 +17,20 @@ use Rattle.journal_text.specs.declared.value.Value.{Value}
 use Rattle.journal_text.specs.Journals.{Journaled, with_entries, Adds}
 use Rattle.loss_chain.specs.Lost.{Lost}
 use Rattle.loss_chain.specs.declared.owner.Owner.TheVariants as owners
-use Rattle.loss_chain.specs.Tables.{NoneEmpty}
+use Rattle.loss_chain.specs.Tables.{NoneEmpty, OneEmptyAtMost}
 use Rattle.loss_chain.proofs.ListLemmas.{all_so}
 use Rattle.loss_chain.proofs.TableLemmas.{few_lost, all_lost}
-use Rattle.in_chain.specs.Chains.{Chained, links_of, filt_rows, IsChain}
+use Rattle.in_chain.specs.Chains.{Chained, links_of, filt_rows, turns_left, IsChain}
 use Rattle.in_chain.specs.Falls.{Falls, LeadsChain, way_of_feed}
 use Rattle.in_chain.specs.Incomings.{loss_entries, overdue_of}
 use Rattle.in_chain.specs.Steps.{fed, lost, welded, refiltered, new_chain, Turned, IsTaken}
-use Rattle.peer_side.specs.Peers.{Chains, chain_at, put_chain, filt_at, filt_by, IsPeer, IsPeers, AreBefore, peer_of, has_turn_in}
-use Rattle.peer_side.specs.Steps.{with_weld, StepsInward, Changes, MayLose, FeedsInward, LosesInward, EditsInward, Nears, TakesInward, ComesInward}
+use Rattle.peer_side.specs.Peers.{Chains, chain_at, put_chain, filt_at, filt_by, lost_of, IsPeer, IsPeers, IsFallen, IsPeersBut, AreBefore, peer_of, has_turn_in}
+use Rattle.peer_side.specs.Steps.{chain_weld_entries, StepsInward, FallsInward, Changes, MayLose, FeedsInward, LosesInward, EditsInward, WeldsInward, TakesInward, ComesInward}
 use Rattle.peer_side.proofs.MapLemmas.{one_of}
-use Rattle.peer_side.proofs.PutLemmas.{put_here, put_other, put_kept, put_each, put_same}
+use Rattle.peer_side.proofs.PutLemmas.{put_here, put_other, put_kept, put_each, put_beside, put_same, put_lost, put_left}
 use Rattle.peer_side.proofs.LinkLemmas.{leads_peers, links_kept}
-use Rattle.peer_side.proofs.ChainLemmas.{Welds, Left, fall_leads, fall_pushed, fed_before, fed_few, turn_leads, turn_left, turn_nears, turn_sent}
+use Rattle.peer_side.proofs.ChainLemmas.{Left, fed_before, fed_few, turn_leads, turn_left, weld_before, weld_few, turn_nears, turn_sent}
+use Rattle.peer_side.proofs.CountLemmas.{weld_rows, weld_turns}
 
 module _ (a : Chains) (k : ℕ) (c : Chained) (at : chain_at k a ≡ Some c) (peers : IsPeers a) where
   is_peer : IsPeer k c
@@ -42,13 +43,15 @@ module _ (a : Chains) (k : ℕ) (c : Chained) (at : chain_at k a ≡ Some c) (pe
     sound = put_each IsPeer k c' a (record { number = same ∙ is_peer.number; chain = chain; full = full; few = few }) peers;
   }
 
-  -- a fall or a turn, and the weld behind it
-  welded_step : (less c' : Chained) (entries : List (Entry Value)) (j now : Journaled) → less.incoming.number ≡ c.incoming.number → length (welded less).incoming.tables.deletions ≤ length c.incoming.tables.deletions → LeadsChain c entries less → Welds less c' j now
-      → StepsInward a (put_chain k c' a) (with_weld less entries)
-  welded_step less c' entries j now same few leads w =
-      let after : length c'.incoming.tables.deletions ≡ length (welded less).incoming.tables.deletions = ap (λ (x : Chained). length x.incoming.tables.deletions) w.after in
-      let was = is_peer.few in
-      stepped c' (with_weld less entries) (ap (λ (x : Chained). x.incoming.number) w.after ∙ same) (omega (arith, after, few, was)) (fall_leads c less c' entries j now leads w) w.chain w.full
+  fallen : (c' : Chained) (entries : List (Entry Value)) → c'.incoming.number ≡ c.incoming.number → length c'.incoming.tables.deletions ≤ length c.incoming.tables.deletions → LeadsChain c entries c' → IsChain c'
+      → OneEmptyAtMost c'.incoming.tables.deletions → FallsInward k a (put_chain k c' a) entries
+  fallen c' entries same fewer leads chain one = record {
+    leads = leads_peers a k c c' entries at is_peer.number (same ∙ is_peer.number) leads;
+    sound = record {
+      own = λ d there. subst (IsFallen k) (one_of c' d (sym (put_here k c' a) ∙ there)) (record { number = same ∙ is_peer.number; chain = chain; one_empty = one; few = let was = is_peer.few in omega (arith, fewer, was) });
+      others = λ j d other there. peers j d (sym (put_other k c' a j other) ∙ there);
+    };
+  }
 
   changed : (c' : Chained) (p : Network) (sent : Option (Change Route)) → IsSent (filt_rows c) (filt_rows c') p sent → Changes k p sent a (put_chain k c' a)
   changed c' p sent is = record {
@@ -57,23 +60,21 @@ module _ (a : Chains) (k : ℕ) (c : Chained) (at : chain_at k a ≡ Some c) (pe
   }
 
   -- ---- a feed
-  pub fed_adds : (p : Network) (row : Option Attrs) (sent : Option (Change Route)) (less c' : Chained) (before j now : Journaled) → IsSent (filt_rows c) (filt_rows less) p sent → less ≡ fed c p row → Adds (Falls c less p (way_of_feed c.incoming) sent) before j
-      → Welds less c' j now → Adds (FeedsInward k p row sent a (put_chain k c' a)) before now
-  fed_adds p row sent less c' before j now rows is adds w = (
-    with_weld less adds.0,
-    fall_pushed less c' adds.0 before j now adds.1 w,
+  pub fed_adds : (p : Network) (row : Option Attrs) (sent : Option (Change Route)) (c' : Chained) (before now : Journaled) → IsSent (filt_rows c) (filt_rows c') p sent → c' ≡ fed c p row
+      → Adds (Falls c c' p (way_of_feed c.incoming) sent) before now → IsChain c' → OneEmptyAtMost c'.incoming.tables.deletions → Adds (FeedsInward k p row sent a (put_chain k c' a)) before now
+  fed_adds p row sent c' before now rows is adds chain one = (
+    adds.0,
+    adds.1,
     record {
       feeds = record {
         chain = c;
         at = at;
-        fall = adds.0;
         falls = subst (λ (x : Chained). Falls c x p (way_of_feed c.incoming) sent adds.0) is adds.2;
         rows = subst (λ (x : Chained). IsSent (filt_rows c) (filt_rows x) p sent) is rows;
-        lines = ap (λ (x : Chained). with_weld x adds.0) is;
-        after = ap (λ (x : Chained). put_chain k x a) (w.after ∙ ap welded is);
+        after = ap (λ (x : Chained). put_chain k x a) is;
       };
-      step = welded_step less c' adds.0 j now (ap (λ (x : Chained). x.incoming.number) is) (subst (λ (x : Chained). length (welded x).incoming.tables.deletions ≤ length c.incoming.tables.deletions) (sym is) (fed_few p row c)) adds.2.leads w;
-      changes = changed c' p sent (subst (λ (new : Rows Route). IsSent (filt_rows c) new p sent) (sym w.rows) rows);
+      fall = fallen c' adds.0 (ap (λ (x : Chained). x.incoming.number) is) (subst (λ (x : Chained). length x.incoming.tables.deletions ≤ length c.incoming.tables.deletions) (sym is) (fed_few p row c)) adds.2.leads chain one;
+      changes = changed c' p sent rows;
       before = λ s all. fed_before s p row c all;
     },
   )
@@ -113,48 +114,63 @@ may_lose_here k s a c may at = subst (λ (x : Chained). (overdue_of x.incoming �
 pub begun_sound : (a : Chains) (k : ℕ) (me : Speaker) (words : Neighbour) → words.number ≡ k → IsPeers a → IsPeers (put_chain k (new_chain me words) a)
 begun_sound a k me words own peers = put_each IsPeer k (new_chain me words) a (record { number = own; chain = record { apart = tt; rising = tt }; full = tt; few = omega arith }) peers
 
--- ---- turns
-took_adds : (task : Task) (sent : Option (Change Route)) (a : Chains) (c less c' : Chained) (before j now : Journaled) → chain_at (peer_of task) a ≡ Some c → IsPeers a → Adds (Turned c less task sent) before j → Welds less c' j now
-    → Adds (TakesInward task sent a (put_chain (peer_of task) c' a)) before now
-took_adds task sent a c less c' before j now at peers adds w = (
-  with_weld less adds.0,
-  fall_pushed less c' adds.0 before j now adds.1 w,
+-- ---- a weld
+pub weld_adds : (k : ℕ) (a : Chains) (c c' : Chained) (before now : Journaled) → chain_at k a ≡ Some c → IsPeersBut k a → c' ≡ welded c → now ≡ with_entries before (chain_weld_entries c) → LeadsChain c (chain_weld_entries c) c' → filt_rows c' ≡ filt_rows c
+    → IsChain c' → NoneEmpty c'.incoming.tables.deletions → Adds (WeldsInward k a (put_chain k c' a)) before now
+weld_adds k a c c' before now at peers is lines leads rows chain full = (
+  chain_weld_entries c,
+  lines,
   record {
-    turn = record { chain = c; at = at; turned_chain = less; fall = adds.0; turned = adds.2; lines = refl; after = ap (λ (x : Chained). put_chain k x a) w.after };
-    step = welded_step a k c at peers less c' adds.0 j now left.number left.few (turn_leads task c less sent adds.0 adds.2) w;
-    changes = (out.0, changed a k c at peers c' out.0 sent (subst (λ (rows : Rows Route). IsSent (filt_rows c) rows out.0 sent) (sym w.rows) out.1));
-    leaves = left.leaves;
-    nearer = subst (λ (x : Chained). Nears task a (put_chain k x a)) (sym w.after) (turn_nears task a k c less sent adds.0 at peer.chain peer.full adds.2);
+    welds = record { chain = c; at = at; lines = refl; after = ap (λ (x : Chained). put_chain k x a) is };
+    step = record {
+      leads = leads_peers a k c c' (chain_weld_entries c) at own.number number leads;
+      sound = put_beside IsPeer k c' a (record { number = number; chain = chain; full = full; few = few }) peers.others;
+    };
+    quiet = put_kept filt_by k c' a (rows ∙ ap filt_by (sym at));
+    before = λ s all. weld_before s c all;
+    lost = let l = put_lost k c c' a at in let same = ap (λ (x : Chained). lost_of x) is ∙ weld_rows c in omega (arith, l, same);
+    left = let l = put_left k c c' a at in let same = ap (λ (x : Chained). turns_left x) is in let less = weld_turns c in omega (arith, l, same, less);
   },
 )
   where
-    k : ℕ
-    k = peer_of task
+    own : IsFallen k c
+    own = peers.own c at
 
-    peer : IsPeer k c
-    peer = peers k c at
+    number : c'.incoming.number ≡ k
+    number = ap (λ (x : Chained). x.incoming.number) is ∙ own.number
 
-    left : Left c (welded less)
-    left = turn_left task c less sent adds.0 adds.2 peer.full
+    few : length c'.incoming.tables.deletions ≤ 16
+    few = let same = ap (λ (x : Chained). length x.incoming.tables.deletions) is in let less = weld_few c in let was = own.few in omega (arith, same, less, was)
+
+-- ---- turns
+took_adds : (task : Task) (sent : Option (Change Route)) (a : Chains) (c less : Chained) (before now : Journaled) → chain_at (peer_of task) a ≡ Some c → IsPeers a → Adds (Turned c less task sent) before now → IsChain less
+    → OneEmptyAtMost less.incoming.tables.deletions → Adds (TakesInward task sent a (put_chain (peer_of task) less a)) before now
+took_adds task sent a c less before now at peers adds chain one = (
+  adds.0,
+  adds.1,
+  record {
+    turn = record { chain = c; at = at; turned_chain = less; turned = adds.2; after = refl };
+    fall = fallen a (peer_of task) c at peers less adds.0 left.number left.few (turn_leads task c less sent adds.0 adds.2) chain one;
+    changes = (out.0, changed a (peer_of task) c at peers less out.0 sent out.1);
+    leaves = left.leaves;
+    nearer = turn_nears task a (peer_of task) c less sent adds.0 at (peers (peer_of task) c at).chain adds.2;
+  },
+)
+  where
+    left : Left c less
+    left = turn_left task c less sent adds.0 adds.2
 
     out : (p : Network) × IsSent (filt_rows c) (filt_rows less) p sent
     out = turn_sent task c less sent adds.0 adds.2
 
-module _ (task : Task) (a : Chains) (k : ℕ) (c less : Chained) (before j : Journaled) (turn : Turn Route) (taken : IsTaken c less task before j turn) (is : k ≡ peer_of task) (at : chain_at k a ≡ Some c) where
-  there : chain_at (peer_of task) a ≡ Some c
-  there = ap (λ (n : ℕ). chain_at n a) (sym is) ∙ at
+pub comes_inward : (task : Task) (a : Chains) (k : ℕ) (c less : Chained) (before now : Journaled) (turn : Turn Route) → k ≡ peer_of task → chain_at k a ≡ Some c → IsPeers a → IsTaken c less task before now turn → IsChain less
+    → OneEmptyAtMost less.incoming.tables.deletions → ComesInward task a (put_chain k less a) before now turn
+comes_inward task a k c less before now turn is at peers taken chain one = subst (λ (n : ℕ). ComesInward task a (put_chain n less a) before now turn) (sym is) (by_turn turn taken)
+  where
+    there : chain_at (peer_of task) a ≡ Some c
+    there = ap (λ (n : ℕ). chain_at n a) (sym is) ∙ at
 
-  pub rests_inward : turn ≡ turns.Nothing → ComesInward task a (put_chain k less a) before j turns.Nothing
-  rests_inward none =
-      let t = subst (IsTaken c less task before j) none taken in
-      (ap (has_turn_in task) there ∙ t.0, ap (λ (x : Chained). put_chain k x a) t.1.0 ∙ put_same k c a at, t.1.1)
-
-  -- what came out, and the weld behind it
-  took : (sent : Option (Change Route)) (c' : Chained) (now : Journaled) → Adds (Turned c less task sent) before j → IsPeers a → Welds less c' j now → Adds (TakesInward task sent a (put_chain k c' a)) before now
-  took sent c' now adds peers w = subst (λ (n : ℕ). Adds (TakesInward task sent a (put_chain n c' a)) before now) (sym is) (took_adds task sent a c less c' before j now there peers adds w)
-
-  pub quiet_inward : (c' : Chained) (now : Journaled) → turn ≡ turns.Quiet → IsPeers a → Welds less c' j now → ComesInward task a (put_chain k c' a) before now turns.Quiet
-  quiet_inward c' now quiet peers w = took None c' now (subst (IsTaken c less task before j) quiet taken) peers w
-
-  pub sent_inward : (change : Change Route) (c' : Chained) (now : Journaled) → turn ≡ turns.Sent change → IsPeers a → Welds less c' j now → ComesInward task a (put_chain k c' a) before now (turns.Sent change)
-  sent_inward change c' now out peers w = took (Some change) c' now (subst (IsTaken c less task before j) out taken) peers w
+    by_turn : (t : Turn Route) → IsTaken c less task before now t → ComesInward task a (put_chain (peer_of task) less a) before now t
+    by_turn turns.Nothing t = (ap (has_turn_in task) there ∙ t.0, ap (λ (x : Chained). put_chain (peer_of task) x a) t.1.0 ∙ put_same (peer_of task) c a there, t.1.1)
+    by_turn turns.Quiet t = took_adds task None a c less before now there peers t chain one
+    by_turn (turns.Sent change) t = took_adds task (Some change) a c less before now there peers t chain one

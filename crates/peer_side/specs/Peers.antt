@@ -1,5 +1,5 @@
 -- What contracts see of the peers' side: the chain of each peer, by the peer's number.
-use Rattle.std.specs.Prelude.{◌≡◌, ℕ, ◌<◌, ◌≤◌, length, Bool, false, is_some, if◌then◌else◌, List, [], ◌∷◌, map, Option, Some, None}
+use Rattle.std.specs.Prelude.{◌≡◌, ℕ, ◌<◌, ◌≤◌, ◌==◌, length, Bool, false, is_some, if◌then◌else◌, List, [], ◌∷◌, map, Option, Some, None}
 use Rattle.std.specs.List.{AllByRecursion, flat_map, sum_by}
 use Rattle.std.specs.Ordering.{nat_cmp}
 use Rattle.std.specs.FinMap as tables
@@ -19,7 +19,7 @@ use Rattle.journal_text.specs.declared.link.Task.TheVariants.{Del, Fin, Rdel}
 use Rattle.journal_text.specs.declared.entry.Entry.{Entry}
 use Rattle.journal_text.specs.declared.entry.Entry.TheVariants.{Begin}
 use Rattle.journal_text.specs.declared.value.Value.{Value}
-use Rattle.loss_chain.specs.Tables.{NoneEmpty, lost_count}
+use Rattle.loss_chain.specs.Tables.{NoneEmpty, OneEmptyAtMost, lost_count}
 use Rattle.in_chain.specs.Chains.{Chained, links_of, filt_rows, candidates_of, row_count, turns_left, IsChain}
 use Rattle.in_chain.specs.Incomings.{overdue_of}
 use Rattle.in_chain.specs.Steps.{has_turn}
@@ -86,6 +86,19 @@ pub record IsPeer (k : ℕ) (c : Chained) : Type 0 where
 
 abbrev pub IsPeers : Chains → Type 0
 IsPeers a = (k : ℕ) (c : Chained) → chain_at k a ≡ Some c → IsPeer k c
+
+-- ---- what holds between a fall and its weld
+-- a chain of which a fall emptied one stage at most
+pub record IsFallen (k : ℕ) (c : Chained) : Type 0 where
+  pub number : c.incoming.number ≡ k
+  pub chain : IsChain c
+  pub one_empty : OneEmptyAtMost c.incoming.tables.deletions
+  pub few : length c.incoming.tables.deletions ≤ 16
+
+-- the fall was in the chain of peer k, and the other chains stand
+pub record IsPeersBut (k : ℕ) (a : Chains) : Type 0 where
+  pub own : (c : Chained) → chain_at k a ≡ Some c → IsFallen k c
+  pub others : (j : ℕ) (c : Chained) → (j == k) ≡ false → chain_at j a ≡ Some c → IsPeer j c
 
 -- the lost sessions of a chain are earlier than this one
 abbrev pub AreBefore : ℕ → Chained → Type 0

@@ -1,5 +1,5 @@
 -- What each call makes of the peers' chains, and what it keeps.
-use Rattle.std.specs.Prelude.{◌≡◌, ℕ, ◌+◌, ◌<◌, ◌≤◌, ◌==◌, false, List, ◌++◌, Option, Some, None}
+use Rattle.std.specs.Prelude.{◌≡◌, ℕ, ◌+◌, ◌<◌, ◌≤◌, ◌==◌, false, List, Option, Some, None}
 use Rattle.addr4.specs.Prefixes.{Network}
 use Rattle.bgp_attr.specs.declared.attrs.Attrs.{Attrs}
 use Rattle.bgp_attr.specs.declared.route.Route.{Route}
@@ -23,22 +23,27 @@ use Rattle.in_chain.specs.Incomings.{loss_entries, overdue_of}
 use Rattle.in_chain.specs.Steps.{fed, lost, welded, refiltered, Turned}
 use Rattle.link_region.specs.declared.regions.Region.TheVariants.{Inward}
 use Rattle.link_region.specs.Regions.{LeadsIn}
-use Rattle.peer_side.specs.Peers.{Chains, chain_at, put_chain, peer_links, filt_at, IsPeers, AreBefore, peer_of, has_peer_work, lost_in, left_in}
+use Rattle.peer_side.specs.Peers.{Chains, chain_at, put_chain, peer_links, filt_at, IsPeers, IsPeersBut, AreBefore, peer_of, has_peer_work, lost_in, left_in}
 
 -- ---- what each call does
--- the entries of a fall in a chain, and behind them the weld of the stage that it emptied, if any
-abbrev pub with_weld : Chained → List (Entry Value) → List (Entry Value)
-with_weld c entries = entries ++ weld_entries (owners.Peer c.incoming.number) (In c.incoming.number) c.incoming.tables.deletions
+-- the weld of the stage of a chain that a fall emptied, if any
+abbrev pub chain_weld_entries : Chained → List (Entry Value)
+chain_weld_entries c = weld_entries (owners.Peer c.incoming.number) (In c.incoming.number) c.incoming.tables.deletions
 
--- One prefix is announced or withdrawn in the chain of peer k.
+-- One prefix is announced or withdrawn in the chain of peer k: the fall down to `filt.K`.
 pub record FeedsPeer (k : ℕ) (p : Network) (row : Option Attrs) (sent : Option (Change Route)) (a a' : Chains) (entries : List (Entry Value)) : Type 0 where
   pub chain : Chained
   pub at : chain_at k a ≡ Some chain
-  pub fall : List (Entry Value)
-  pub falls : Falls chain (fed chain p row) p (way_of_feed chain.incoming) sent fall
+  pub falls : Falls chain (fed chain p row) p (way_of_feed chain.incoming) sent entries
   pub rows : IsSent (filt_rows chain) (filt_rows (fed chain p row)) p sent
-  pub lines : entries ≡ with_weld (fed chain p row) fall
-  pub after : a' ≡ put_chain k (welded (fed chain p row)) a
+  pub after : a' ≡ put_chain k (fed chain p row) a
+
+-- The stage of the chain of peer k that a fall emptied goes, if there is one.
+pub record WeldsPeer (k : ℕ) (a a' : Chains) (entries : List (Entry Value)) : Type 0 where
+  pub chain : Chained
+  pub at : chain_at k a ≡ Some chain
+  pub lines : entries ≡ chain_weld_entries chain
+  pub after : a' ≡ put_chain k (welded chain) a
 
 -- Session s of peer k is lost: its routes, if there are any, go to a stage of their own.
 pub record LosesPeer (k s : ℕ) (a a' : Chains) (entries : List (Entry Value)) : Type 0 where
@@ -58,10 +63,8 @@ pub record TurnsPeer (task : Task) (sent : Option (Change Route)) (a a' : Chains
   pub chain : Chained
   pub at : chain_at (peer_of task) a ≡ Some chain
   pub turned_chain : Chained
-  pub fall : List (Entry Value)
-  pub turned : Turned chain turned_chain task sent fall
-  pub lines : entries ≡ with_weld turned_chain fall
-  pub after : a' ≡ put_chain (peer_of task) (welded turned_chain) a
+  pub turned : Turned chain turned_chain task sent entries
+  pub after : a' ≡ put_chain (peer_of task) turned_chain a
 
 -- session s of peer k may be lost
 pub record MayLose (k s : ℕ) (a : Chains) : Type 0 where
@@ -76,6 +79,11 @@ pub record StepsInward (a a' : Chains) (entries : List (Entry Value)) : Type 0 w
   pub leads : LeadsIn Inward (peer_links a) entries (peer_links a')
   pub sound : IsPeers a'
 
+-- a fall in the chain of peer k, which may leave a stage to be welded
+pub record FallsInward (k : ℕ) (a a' : Chains) (entries : List (Entry Value)) : Type 0 where
+  pub leads : LeadsIn Inward (peer_links a) entries (peer_links a')
+  pub sound : IsPeersBut k a'
+
 -- a change, if there is one, came out on `filt.K` of peer k at a prefix; the rows of every other `filt.K` stay
 pub record Changes (k : ℕ) (p : Network) (sent : Option (Change Route)) (a a' : Chains) : Type 0 where
   pub rows : IsSent (filt_at a k) (filt_at a' k) p sent
@@ -83,9 +91,9 @@ pub record Changes (k : ℕ) (p : Network) (sent : Option (Change Route)) (a a' 
 
 pub record FeedsInward (k : ℕ) (p : Network) (row : Option Attrs) (sent : Option (Change Route)) (a a' : Chains) (entries : List (Entry Value)) : Type 0 where
   pub feeds : FeedsPeer k p row sent a a' entries
-  pub step : StepsInward a a' entries
+  pub fall : FallsInward k a a' entries
   pub changes : Changes k p sent a a'
-  pub before : (s : ℕ) → AreBefore s feeds.chain → AreBefore s (welded (fed feeds.chain p row))
+  pub before : (s : ℕ) → AreBefore s feeds.chain → AreBefore s (fed feeds.chain p row)
 
 pub record LosesInward (k s : ℕ) (a a' : Chains) (entries : List (Entry Value)) : Type 0 where
   pub loses : LosesPeer k s a a' entries
@@ -113,11 +121,20 @@ Nears (Del k s) a a' = (lost_in a' + 1 ≡ lost_in a) × (left_in a' ≤ left_in
 Nears (Fin k) a a' = (lost_in a' ≡ lost_in a) × (left_in a' < left_in a)
 Nears (Rdel proto n) a a' = ⊥
 
+-- A weld is a quiet step: no row of `filt.K` changes, and no task has more to do.
+pub record WeldsInward (k : ℕ) (a a' : Chains) (entries : List (Entry Value)) : Type 0 where
+  pub welds : WeldsPeer k a a' entries
+  pub step : StepsInward a a' entries
+  pub quiet : (j : ℕ) → filt_at a' j ≡ filt_at a j
+  pub before : (s : ℕ) → AreBefore s welds.chain → AreBefore s (welded welds.chain)
+  pub lost : lost_in a' ≡ lost_in a
+  pub left : left_in a' ≤ left_in a
+
 pub record TakesInward (task : Task) (sent : Option (Change Route)) (a a' : Chains) (entries : List (Entry Value)) : Type 0 where
   pub turn : TurnsPeer task sent a a' entries
-  pub step : StepsInward a a' entries
+  pub fall : FallsInward (peer_of task) a a' entries
   pub changes : (p : Network) × Changes (peer_of task) p sent a a'
-  pub leaves : Leaves turn.chain (welded turn.turned_chain)
+  pub leaves : Leaves turn.chain turn.turned_chain
   pub nearer : Nears task a a'
 
 -- what a turn came to

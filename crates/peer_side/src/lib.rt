@@ -1,8 +1,8 @@
 //! The side of the peers: the chain of each peer, by the peer's number.
 //!
 //! [`Peers`] owns the links `peer.K.S`, `in.K` and `filt.K` of all peers, and the tasks `del.K.S` and `fin.K`. A call goes to the
-//! chain of one peer, in a descent of the map of chains; every other chain stays as it is. A fall or a turn takes out the
-//! stage that it emptied, so that between two calls none is empty.
+//! chain of one peer, in a descent of the map of chains; every other chain stays as it is. A feed or a turn may
+//! empty one stage; [`Peers::weld`] takes it out, when all that follows the change is written.
 //!
 //! What is proved of every call, alone: whatever the other regions of the network have, its entries lead by the journal's
 //! two consistency rules from the region's old links to its new ones ([`LeadsIn`](../link_region/specs/Regions.antt)); on the
@@ -19,3 +19,4 @@ mod steps;
 mod tasks;
 
 pub use peers::Peers;
+pub use steps::peer_of;

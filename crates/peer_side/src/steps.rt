@@ -2,8 +2,8 @@
 
 ghost use Rattle.std.specs.Prelude.{◌≡◌, OnOk, IfOk, IsSome};
 ghost use Rattle.journal_text.specs.Journals.{Adds};
-ghost use Rattle.peer_side.specs.Peers.{chain_at, peer_of, IsPeers};
-ghost use Rattle.peer_side.specs.Steps.{FeedsInward, LosesInward, MayLose, ComesInward};
+ghost use Rattle.peer_side.specs.Peers.{chain_at, peer_of, IsPeers, IsPeersBut};
+ghost use Rattle.peer_side.specs.Steps.{FeedsInward, WeldsInward, LosesInward, MayLose, ComesInward};
 
 use crate::peers::Peers;
 use addr4::{Memory, Prefix};
@@ -13,7 +13,7 @@ use link_change::{Change, Turn};
 
 impl Peers {
     /// A route of a peer is announced (`row` is some), or withdrawn (RFC 4271, section 3.1). Answers the change on `filt.K`:
-    /// None exactly where its map stays the same. The stage that this empties, if any, goes.
+    /// None exactly where its map stays the same. An announcement may empty a stage: weld when all has followed.
     pub fn feed(
         &mut self,
         number: u32,
@@ -29,8 +29,20 @@ impl Peers {
             unreachable!()
         };
         let sent = chain.feed(prefix, row, journal)?;
-        chain.weld(journal)?;
         Ok(sent)
+    }
+
+    /// Takes out the stage of a peer that a feed or a turn emptied, if there is one. No row of `filt.K` changes.
+    pub fn weld(&mut self, number: u32, journal: &mut Journal) -> Result<(), Memory>
+        requires sound { IsPeersBut number self.old }
+        requires there { IsSome (chain_at number self.old) }
+        ensures { OnOk result (Adds (WeldsInward number self.old self.new) journal.old journal.new) }
+    {
+        let Some(fallen) = self.chains.get_mut(&number) else {
+            unreachable!()
+        };
+        fallen.weld(journal)?;
+        Ok(())
     }
 
     /// The session of this number of a peer is lost: its routes, if there are any, go to a deletion stage directly below the
@@ -48,8 +60,8 @@ impl Peers {
     }
 
     /// One turn of a task. Of `del.K.S`: the least row of that stage goes, and its delete goes down; of `fin.K`: the walk of
-    /// the filter goes to the next prefix of `in.K`, or ends. The stage that this empties, if any, goes. Nothing exactly where
-    /// the task has no work; Quiet where no change comes out on `filt.K`.
+    /// the filter goes to the next prefix of `in.K`, or ends. A turn may empty a stage: weld when all has followed. Nothing
+    /// exactly where the task has no work; Quiet where no change comes out on `filt.K`.
     pub fn turn(&mut self, task: Task, journal: &mut Journal) -> Result<Turn<Route>, Memory>
         requires sound { IsPeers self.old }
         ensures { IfOk result (ComesInward task self.old self.new journal.old journal.new) }
@@ -57,22 +69,13 @@ impl Peers {
         let Some(chain) = self.chains.get_mut(&peer_of(task)) else {
             return Ok(Turn::Nothing);
         };
-        match chain.unit(task, journal)? {
-            Turn::Nothing => Ok(Turn::Nothing),
-            Turn::Quiet => {
-                chain.weld(journal)?;
-                Ok(Turn::Quiet)
-            }
-            Turn::Sent(change) => {
-                chain.weld(journal)?;
-                Ok(Turn::Sent(change))
-            }
-        }
+        let turn = chain.unit(task, journal)?;
+        Ok(turn)
     }
 }
 
 /// The peer whose task it is; 0 for a task of none.
-fn peer_of(task: Task) -> u32
+pub fn peer_of(task: Task) -> u32
     ensures { result ≡ peer_of task }
 {
     match task {

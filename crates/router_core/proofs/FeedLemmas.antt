@@ -14,15 +14,16 @@ use Rattle.in_chain.specs.Chains.{Chained}
 use Rattle.in_chain.specs.Steps.{fed, welded}
 use Rattle.loss_chain.specs.Steps.{live_after}
 use Rattle.loss_chain.proofs.TableLemmas.{same_by}
-use Rattle.peer_side.specs.Peers.{Chains}
-use Rattle.peer_side.specs.Steps.{FeedsInward}
+use Rattle.std.specs.Prelude.{IsSome, is_some}
+use Rattle.peer_side.specs.Peers.{Chains, chain_at}
+use Rattle.peer_side.specs.Steps.{FeedsInward, WeldsInward}
 use Rattle.router_core.specs.Moments.{Moment, with_chains}
 use Rattle.live_state.specs.Lives.{LiveState, Routes, with_routes, routes_after, live_fed}
 use Rattle.router_core.specs.Lives.{live_state}
 use Rattle.router_core.specs.Stands.{IsSilent, PeerStands, Stands, open_session}
 use Rattle.router_core.specs.Turns.{FeedsAll, journal_lines}
 use Rattle.router_core.specs.Works.{Pushes, IsUpAt, Keeps, HaveFed}
-use Rattle.router_core.proofs.RegionLemmas.{leads_inward}
+use Rattle.router_core.proofs.WeldLemmas.{fallen_at, weld_after, weld_keeps, fall_leads, adds_both}
 use Rattle.live_state.proofs.AdmittedLemmas.{routes_twice}
 use Rattle.peer_side.proofs.MapLemmas.{one_of as one_peer}
 use Rattle.router_core.proofs.StandLemmas.{peer_of, stands_with, live_routed, routes_there}
@@ -35,29 +36,35 @@ silent_up false c is = absurd (cc)
 abbrev live_by : Moment → (ℕ → Routes) → LiveState
 live_by m routes = record (live_state m) { routes = routes }
 
--- a feed of a peer's chain is one of the router
-fed_one : (k : ℕ) (p : Network) (row : Option Attrs) (sent : Option (Change Route)) (m : Moment) (cs : Chains) (entries : List (Entry Value)) → Stands m → IsUpAt k m → FeedsInward k p row sent m.chains cs entries
-    → HaveFed k ((p, row) ∷ []) m (with_chains m cs) (journal_lines entries)
-fed_one k p row sent m cs entries stands up f =
+-- a feed of a peer's chain and the weld behind it are one of the router
+fed_one : (k : ℕ) (p : Network) (row : Option Attrs) (sent : Option (Change Route)) (m : Moment) (fallen cs : Chains) (entries weld : List (Entry Value)) → Stands m → IsUpAt k m → FeedsInward k p row sent m.chains fallen entries → WeldsInward k fallen cs weld
+    → HaveFed k ((p, row) ∷ []) m (with_chains m cs) (journal_lines (entries ++ weld))
+fed_one k p row sent m fallen cs entries weld stands up f w =
     let c : Chained = f.feeds.chain in
+    let c' : Chained = welded (fed c p row) in
+    let after = weld_after k m.chains fallen cs (fed c p row) weld f.feeds.after w.welds in
     let peer = peer_of m stands k c f.feeds.at in
     let is_up : peer.0.up ≡ true = ap (λ (q : DeclaredPeer). q.up) (one_peer peer.0 up.0 (sym peer.1 ∙ up.1)) ∙ up.2 in
-    let here : PeerStands peer.0 (welded (fed c p row)) = record { words = peer.2.words; earlier = f.before (open_session peer.0) peer.2.earlier; silent = silent_up peer.0.up (welded (fed c p row)) is_up } in
+    let earlier = weld_keeps k m.chains fallen cs (fed c p row) weld f.feeds.after w (open_session peer.0) (f.before (open_session peer.0) peer.2.earlier) in
+    let here : PeerStands peer.0 c' = record { words = peer.2.words; earlier = earlier; silent = silent_up peer.0.up c' is_up } in
     record {
-      feeds = (journal_lines entries, [], with_chains m cs, (sent, record { chains = cs; entries = entries; part = f.feeds; lines = refl; after = refl }), (refl, refl), sym (append-nil (journal_lines entries)));
+      feeds = (journal_lines (entries ++ weld), [], with_chains m cs, (sent, record { fallen = fallen; entries = entries; part = f.feeds; chains = cs; weld = weld; welds = w.welds; lines = refl; after = refl }), (refl, refl), sym (append-nil (journal_lines (entries ++ weld))));
       keeps = record {
-        leads = leads_inward m cs entries f.step.leads;
-        live = live_routed m m.declared k c (welded (fed c p row)) cs f.feeds.at f.feeds.after refl
-            ∙ ap (λ (r : Routes). live_by m (with_routes (live_state m).routes k (live_after r p row))) (sym (routes_there m k c f.feeds.at));
-        stands = stands_with m k c (welded (fed c p row)) cs peer.0 stands f.feeds.at f.feeds.after f.step.sound refl peer.1 here;
+        leads = fall_leads m fallen cs entries weld f.fall.leads w.step.leads;
+        live = live_routed m m.declared k c c' cs f.feeds.at after refl ∙ ap (λ (r : Routes). live_by m (with_routes (live_state m).routes k (live_after r p row))) (sym (routes_there m k c f.feeds.at));
+        stands = stands_with m k c c' cs peer.0 stands f.feeds.at after w.step.sound refl peer.1 here;
       };
     }
 
-pub one_fed : (k : ℕ) (p : Network) (row : Option Attrs) (sent : Option (Change Route)) (m v : Moment) (cs : Chains) (before now : Journaled) → v ≡ m → Stands m → IsUpAt k m → Adds (FeedsInward k p row sent v.chains cs) before now
-    → Pushes (HaveFed k ((p, row) ∷ []) m (with_chains v cs)) before now
-one_fed k p row sent m v cs before now view stands up f =
+pub one_fed : (k : ℕ) (p : Network) (row : Option Attrs) (sent : Option (Change Route)) (m v : Moment) (fallen cs : Chains) (before j now : Journaled) → v ≡ m → Stands m → IsUpAt k m → Adds (FeedsInward k p row sent v.chains fallen) before j
+    → Adds (WeldsInward k fallen cs) j now → Pushes (HaveFed k ((p, row) ∷ []) m (with_chains v cs)) before now
+one_fed k p row sent m v fallen cs before j now view stands up f w =
     subst (λ (n : Moment). Pushes (HaveFed k ((p, row) ∷ []) n (with_chains v cs)) before now) view
-    (journal_lines f.0, f.1, fed_one k p row sent v cs f.0 (subst Stands (sym view) stands) (subst (IsUpAt k) (sym view) up) f.2)
+    (journal_lines (f.0 ++ w.0), adds_both before j now f.0 w.0 f.1 w.1, fed_one k p row sent v fallen cs f.0 w.0 (subst Stands (sym view) stands) (subst (IsUpAt k) (sym view) up) f.2 w.2)
+
+-- the chain that was fed stands there
+pub fed_there : (k : ℕ) (p : Network) (row : Option Attrs) (sent : Option (Change Route)) (a fallen : Chains) (before j : Journaled) → Adds (FeedsInward k p row sent a fallen) before j → IsSome (chain_at k fallen)
+fed_there k p row sent a fallen before j f = ap is_some (fallen_at k a fallen (fed f.2.feeds.chain p row) f.2.feeds.after)
 
 -- ---- one after the other
 module _ (k : ℕ) where

@@ -23,3 +23,4 @@ pub mod RouteRoom
 pub mod RouteSteps
 pub mod PrintedTurns
 pub mod PrintedBlocks
+mod WeldLemmas

@@ -34,7 +34,7 @@ use Rattle.in_chain.specs.Chains.{Chained}
 use Rattle.in_chain.specs.Falls.{way_of_feed}
 use Rattle.in_chain.specs.Steps.{fed, welded, Turned}
 use Rattle.peer_side.specs.Peers.{Chains, chain_at, put_chain, peer_of}
-use Rattle.peer_side.specs.Steps.{FeedsPeer, with_weld}
+use Rattle.peer_side.specs.Steps.{FeedsPeer, TurnsPeer, chain_weld_entries}
 use Rattle.peer_side.proofs.PutLemmas.{put_each}
 use Rattle.rib_merge.specs.Forwards.{forwarded}
 use Rattle.rib_tree.specs.Branches.{Branch}
@@ -46,7 +46,8 @@ use Rattle.router_core.specs.declared.router.Phase.{Phase}
 use Rattle.router_core.specs.Moments.{Moment, with_chains}
 use Rattle.router_core.specs.Blocks.{RunsFirst}
 use Rattle.live_state.specs.Messages.{plain}
-use Rattle.router_core.specs.Turns.{journal_lines, InPeers, FeedsAll, fib_entries, FallsRoute, IsPeerTurn, IsRouteTurn, IsTurn, Turns, Runs, RunsPhase, RunsAll}
+use Rattle.router_core.specs.Turns.{journal_lines, FallsPeer, FeedsAll, fib_entries, FallsRoute, IsPeerTurn, IsRouteTurn, IsTurn, Turns, Runs, RunsPhase, RunsAll}
+use Rattle.router_core.proofs.WeldLemmas.{weld_lines, weld_after}
 use Rattle.rib_tree.proofs.TreeParts.{put_all}
 
 -- where no protocol has lost its routes more often than so
@@ -78,20 +79,22 @@ module _ (peers : ℕ → Option Neighbour) (most : ℕ) where
   lines_printed said es is printed = subst (λ (l : List Line). AllByRecursion (IsPrinted peers) l) (sym is) (all_made (IsPrinted peers) (λ (e : Entry Value). lines.Journal e) es printed)
 
   -- a fall in a chain, and the weld behind it
-  chain_goes : (k : ℕ) (m : Moment) (less : Chained) (fall entries : List (Entry Value)) (a : Chains) (said : List Line) (m' : Moment) → IsFit peers plain less → less.peer.number ≡ k → ArePrintedEntries peers fall → entries ≡ with_weld less fall → a ≡ put_chain k (welded less) m.chains
-      → said ≡ journal_lines entries → m' ≡ with_chains m a → Goes m said m'
-  chain_goes k m less fall entries a said m' own number printed lines_are after is then fit =
+  chain_goes : (k : ℕ) (P : Chains → List (Entry Value) → Type 0) (m : Moment) (less : Chained) (said : List Line) (m' : Moment) → IsFit peers plain less → less.peer.number ≡ k → (f : FallsPeer k P m said m') → f.fallen ≡ put_chain k less m.chains
+      → ArePrintedEntries peers f.entries → Goes m said m'
+  chain_goes k P m less said m' own number f after printed fit =
+      let lines_are : f.weld ≡ chain_weld_entries less = weld_lines k m.chains f.fallen f.chains less f.weld after f.welds in
+      let then = weld_after k m.chains f.fallen f.chains less f.weld after f.welds in
       let welds = weld_printed peers (owners.Peer less.incoming.number) (λ n named. (own.named, named)) (In less.incoming.number) less.incoming.tables.deletions own.named own.printable.tables.losses in
       let welded_own : IsFit peers plain (welded less) = with_fit peers plain less (welded_tables less.incoming.tables) own (welded_fit (Heard peers plain less) less.incoming.tables (tables_fit peers plain less own)) in (
-        subst Fit (sym (then ∙ ap (with_chains m) after)) (record { chains = put_each (λ j c. IsFit peers plain c × (c.peer.number ≡ j)) k (welded less) m.chains (welded_own, number) fit.chains; interior = fit.interior; few = fit.few }),
-        lines_printed said entries is (subst (ArePrintedEntries peers) (sym lines_are) (all_both (λ (e : Entry Value). IsPrinted peers (lines.Journal e)) fall _ printed welds)),
+        subst Fit (sym (f.after ∙ ap (with_chains m) then)) (record { chains = put_each (λ j c. IsFit peers plain c × (c.peer.number ≡ j)) k (welded less) m.chains (welded_own, number) fit.chains; interior = fit.interior; few = fit.few }),
+        lines_printed said (f.entries ++ f.weld) f.lines (all_both (λ (e : Entry Value). IsPrinted peers (lines.Journal e)) f.entries f.weld printed (subst (ArePrintedEntries peers) (sym lines_are) welds)),
       )
 
   -- one prefix that a peer said something of
   abbrev pub IsSaid : Neighbour → Network × Option Attrs → Type 0
   IsSaid w change = IsPrefix change.0 × IfSome change.1 (WasHeard plain (not w.internal))
 
-  feed_goes : (k : ℕ) (w : Neighbour) (p : Network) (row : Option Attrs) (sent : Option (Change Route)) (m : Moment) (said : List Line) (m' : Moment) → peers k ≡ Some w → IsSaid w (p, row) → InPeers (FeedsPeer k p row sent m.chains) m said m' → Goes m said m'
+  feed_goes : (k : ℕ) (w : Neighbour) (p : Network) (row : Option Attrs) (sent : Option (Change Route)) (m : Moment) (said : List Line) (m' : Moment) → peers k ≡ Some w → IsSaid w (p, row) → FallsPeer k (FeedsPeer k p row sent m.chains) m said m' → Goes m said m'
   feed_goes k w p row sent m said m' there is i fit =
       let f = i.part in
       let own = fit.chains k f.chain f.at in
@@ -99,7 +102,7 @@ module _ (peers : ℕ → Option Neighbour) (most : ℕ) where
       let new = row_heard f.chain.peer p row (subst (λ (x : Neighbour). IsSaid x (p, row)) who is) in
       let less : Chained = fed f.chain p row in
       let less_fit : IsFit peers plain less = with_fit peers plain f.chain (fed_tables f.chain.incoming.tables p row) own.0 (fed_fit (Heard peers plain f.chain) f.chain.incoming.tables p row (tables_fit peers plain f.chain own.0) new) in
-      chain_goes k m less f.fall i.entries i.chains said m' less_fit own.1 (chain_fall peers plain f.chain own.0 less p (way_of_feed f.chain.incoming) sent f.fall less_fit is.0 (feed_once peers plain f.chain own.0) f.falls) f.lines f.after i.lines i.after fit
+      chain_goes k (FeedsPeer k p row sent m.chains) m less said m' less_fit own.1 i f.after (chain_fall peers plain f.chain own.0 less p (way_of_feed f.chain.incoming) sent i.entries less_fit is.0 (feed_once peers plain f.chain own.0) f.falls) fit
     where
       one_words : (a b : Neighbour) → Some a ≡ Some b → a ≡ b
       one_words a b e = cc
@@ -122,8 +125,8 @@ module _ (peers : ℕ → Option Neighbour) (most : ℕ) where
       let i = t.1 in
       let f = i.part in
       let own = fit.chains (peer_of task) f.chain f.at in
-      let x = turned_fit peers plain f.chain own.0 task f.turned_chain t.0 f.fall f.turned in
-      chain_goes (peer_of task) m f.turned_chain f.fall i.entries i.chains said m' x.0 (turned_peer task f.chain f.turned_chain t.0 f.fall f.turned ∙ own.1) x.1 f.lines f.after i.lines i.after fit
+      let x = turned_fit peers plain f.chain own.0 task f.turned_chain t.0 i.entries f.turned in
+      chain_goes (peer_of task) (TurnsPeer task t.0 m.chains) m f.turned_chain said m' x.0 (turned_peer task f.chain f.turned_chain t.0 i.entries f.turned ∙ own.1) i f.after x.1 fit
 
   -- ---- the tree
   pub route_goes : (m : Moment) (new : Treed) (proto : Proto) (p : Network) (way : List Link) (said : List Line) (m' : Moment) → ((other : Proto) → AreFit IsInteriorRow (branch_of other new).tables) → AreNumbered most new → IsPrefix p → AreEachOnce way

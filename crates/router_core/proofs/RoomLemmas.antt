@@ -21,6 +21,7 @@ use Rattle.router_core.specs.Stands.{Stands, EachChain}
 use Rattle.router_core.specs.Turns.{Turns}
 use Rattle.router_core.specs.Blocks.{RunsFirst}
 use Rattle.router_core.specs.Works.{HasDrained, HasRoom}
+use Rattle.router_core.proofs.WeldLemmas.{weld_after}
 use Rattle.router_core.proofs.KeepLemmas.{keeps_none, gives_none}
 
 -- the chain after turns of a stage, which may have gone
@@ -31,17 +32,18 @@ turns_shorter (suc n) k s m c said m' at t =
     let rest = turns_shorter n k s t.2 c1 t.1 m' at1 t.4 in
     (rest.0, rest.1, shorter_more s sweeps.prefix c.incoming.tables.deletions rest.0.incoming.tables.deletions rest.2)
   where
-    turn : TurnsPeer (Del k s) t.3.0 m.chains t.3.1.chains t.3.1.entries
+    turn : TurnsPeer (Del k s) t.3.0 m.chains t.3.1.fallen t.3.1.entries
     turn = t.3.1.part
 
-    sweeps : Sweeps turn.chain turn.turned_chain s t.3.0 turn.fall
+    sweeps : Sweeps turn.chain turn.turned_chain s t.3.0 t.3.1.entries
     sweeps = turn.turned.1
 
     c1 : Chained
     c1 = welded (swept s sweeps.prefix c)
 
     at1 : chain_at k t.2.chains ≡ Some c1
-    at1 = ap (λ (x : Moment). chain_at k x.chains) t.3.1.after ∙ ap (chain_at k) turn.after ∙ put_here k (welded turn.turned_chain) m.chains
+    at1 = ap (λ (x : Moment). chain_at k x.chains) t.3.1.after ∙ ap (chain_at k) (weld_after k m.chains t.3.1.fallen t.3.1.chains turn.turned_chain t.3.1.weld turn.after t.3.1.welds)
+        ∙ put_here k (welded turn.turned_chain) m.chains
         ∙ ap (λ (x : Chained). Some (welded x)) (sweeps.after ∙ ap (swept s sweeps.prefix) (one_of turn.chain c (sym turn.at ∙ at)))
 
 drained_free : (k : ℕ) (m room : Moment) (c : Chained) (task : Task) (n : ℕ) (said : List Line) → Stands m → chain_at k m.chains ≡ Some c → overdue_of c.incoming ≡ Some task → HasDrained task m n room said → overdue_at k room.chains ≡ None

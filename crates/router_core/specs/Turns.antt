@@ -14,8 +14,8 @@ use Rattle.journal_text.specs.declared.entry.Entry.{Entry}
 use Rattle.journal_text.specs.declared.line.Line.{Line}
 use Rattle.journal_text.specs.declared.line.Line.TheVariants as lines
 use Rattle.in_chain.specs.Chains.{Chained}
-use Rattle.peer_side.specs.Peers.{Chains, chain_at, has_peer_work, deletion_tasks, filter_tasks, rows_in}
-use Rattle.peer_side.specs.Steps.{FeedsPeer, TurnsPeer}
+use Rattle.peer_side.specs.Peers.{Chains, chain_at, peer_of, has_peer_work, deletion_tasks, filter_tasks, rows_in}
+use Rattle.peer_side.specs.Steps.{FeedsPeer, TurnsPeer, WeldsPeer}
 use Rattle.router_core.specs.declared.router.Phase.{Phase}
 use Rattle.router_core.specs.declared.router.Phase.TheVariants as phases
 use Rattle.std.specs.FinMap as tables
@@ -49,9 +49,20 @@ pub record InPeers (P : Chains → List (Entry Value) → Type 0) (m : Moment) (
   pub lines : said ≡ journal_lines entries
   pub after : m' ≡ with_chains m chains
 
+-- A fall in the chain of peer k, of which this is said, and behind it the weld of the stage that it emptied, if any.
+pub record FallsPeer (k : ℕ) (P : Chains → List (Entry Value) → Type 0) (m : Moment) (said : List Line) (m' : Moment) : Type 0 where
+  pub fallen : Chains
+  pub entries : List (Entry Value)
+  pub part : P fallen entries
+  pub chains : Chains
+  pub weld : List (Entry Value)
+  pub welds : WeldsPeer k fallen chains weld
+  pub lines : said ≡ journal_lines (entries ++ weld)
+  pub after : m' ≡ with_chains m chains
+
 -- One prefix of an UPDATE from peer k is announced or withdrawn.
 abbrev pub Feeds : ℕ → Network × Option Attrs → Moment → List Line → Moment → Type 0
-Feeds k change m said m' = (sent : Option (Change Route)) × InPeers (FeedsPeer k change.0 change.1 sent m.chains) m said m'
+Feeds k change m said m' = (sent : Option (Change Route)) × FallsPeer k (FeedsPeer k change.0 change.1 sent m.chains) m said m'
 
 -- one prefix after the other
 abbrev pub FeedsAll : ℕ → List (Network × Option Attrs) → Moment → List Line → Moment → Type 0
@@ -87,7 +98,7 @@ pub record FallsRoute (m : Moment) (new : Treed) (proto : Proto) (p : Network) (
 
 -- One turn of a task of a peer: of the deletion stage of a session, or of the walk of a filter.
 abbrev pub IsPeerTurn : Task → Moment → List Line → Moment → Type 0
-IsPeerTurn task m said m' = (sent : Option (Change Route)) × InPeers (TurnsPeer task sent m.chains) m said m'
+IsPeerTurn task m said m' = (sent : Option (Change Route)) × FallsPeer (peer_of task) (TurnsPeer task sent m.chains) m said m'
 
 -- One turn of the stage of a protocol's loss: its least row goes.
 pub record IsRouteTurn (proto : Proto) (n : ℕ) (m : Moment) (said : List Line) (m' : Moment) : Type 0 where

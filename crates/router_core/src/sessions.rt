@@ -43,6 +43,7 @@ impl Network {
         ensures { OnOk result (Pushes (HaveFed number ((prefix, row) ∷ []) self.old self.new) journal.old journal.new) }
     {
         self.chains.feed(number, prefix, row, journal)?;
+        self.chains.weld(number, journal)?;
         Ok(())
     }
 

@@ -13,6 +13,7 @@ use addr4::Memory;
 use in_chain::turns_are_bounded;
 use journal_text::{Journal, Task};
 use link_change::Turn;
+use peer_side::peer_of;
 
 impl Network {
     /// One turn of a task, and the text of its lines.
@@ -23,17 +24,12 @@ impl Network {
         if let Task::Rdel(proto, loss) = task {
             return self.turn_route(proto, loss, journal);
         }
-        match self.chains.turn(task, journal)? {
-            Turn::Nothing => Ok(Done::Nothing),
-            Turn::Quiet => {
-                journal.flush()?;
-                Ok(Done::Taken)
-            }
-            Turn::Sent(_) => {
-                journal.flush()?;
-                Ok(Done::Taken)
-            }
+        if let Turn::Nothing = self.chains.turn(task, journal)? {
+            return Ok(Done::Nothing);
         }
+        self.chains.weld(peer_of(task), journal)?;
+        journal.flush()?;
+        Ok(Done::Taken)
     }
 
     /// Turns of a task, at most so many; fewer where the task has no work left.

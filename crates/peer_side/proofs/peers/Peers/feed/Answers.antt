@@ -21,17 +21,9 @@ returns c =
     let a = c.args.self.now in
     let k = c.args.number in
     let old = c.in-Some.chain.now in
-    let less = c.feed.new.self in
-    let new = c.weld.new.self in
+    let new = c.feed.new.self in
     let at = sym (c.in-Some.ensures.value ∙ read_at m a k c.self.view_is) in
     let put = lent_put m (c.get_mut.follows.lender new) a k old new c.self.view_is c.in-Some.ensures.value (c.get_mut.follows.holds new) in
-    subst (λ (x : Chains). Adds (FeedsInward k c.args.prefix c.args.row c.in_ok-sent.sent a x) c.args.journal.now c.weld.new.journal) (sym put)
-    (fed_adds a k old at c.requires.sound c.args.prefix c.args.row c.in_ok-sent.sent less new c.args.journal.now c.feed.new.journal c.weld.new.journal c.in_ok-sent.ensures.sent c.in_ok-sent.ensures.after c.in_ok-sent.ensures.lines
-    (record {
-      after = c.in_ok-weld.ensures.after;
-      lines = c.in_ok-weld.ensures.lines;
-      leads = c.in_ok-weld.ensures.leads;
-      rows = c.in_ok-weld.ensures.rows;
-      chain = c.in_ok-weld.ensures.chain;
-      full = c.in_ok-weld.ensures.full;
-    }))
+    subst (λ (x : Chains). Adds (FeedsInward k c.args.prefix c.args.row c.in_ok-sent.sent a x) c.args.journal.now c.feed.new.journal) (sym put)
+    (fed_adds a k old at c.requires.sound c.args.prefix c.args.row c.in_ok-sent.sent new c.args.journal.now c.feed.new.journal c.in_ok-sent.ensures.sent c.in_ok-sent.ensures.after c.in_ok-sent.ensures.lines
+    c.in_ok-sent.ensures.chain c.in_ok-sent.ensures.one_empty)

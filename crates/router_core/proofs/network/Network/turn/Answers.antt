@@ -1,24 +1,20 @@
+use Rattle.std.proofs.Common.{ℕ, IsSome, sym, subst}
+use Rattle.journal_text.specs.Journals.{Adds}
+use Rattle.peer_side.specs.Peers.{IsPeersBut, chain_at}
+use Rattle.peer_side.specs.Steps.{WeldsInward}
 use Rattle.router_core.proofs.StandLemmas.{peers_sound}
-use Rattle.router_core.proofs.PeerTurns.{peer_rests, peer_quiet, peer_sent}
-use Rattle.router_core.proofs.network.Network.turn.Goals.{in-Nothing, in-Quiet+in_ok-flush-in-Quiet, in-Sent+in_ok-flush-in-Sent}
+use Rattle.router_core.proofs.PeerTurns.{peer_rests, peer_took, peer_fallen}
 use Rattle.router_core.proofs.network.Network.turn.Goals as goal
 
 pub turn-requires : goal.turn-requires
 turn-requires c = record { sound = peers_sound c.args.self.now _ c.self.view_is c.requires }
 
+pub weld-requires : goal.weld-requires
+weld-requires c =
+    let f = peer_fallen c.args.task _ c.turn.new.self c.args.journal.now c.turn.new.journal c.in_ok-turn.field-0 c.in_default-2.not-Nothing c.in_ok-turn.ensures in
+    record { sound = subst (λ (k : ℕ). IsPeersBut k c.turn.new.self) (sym c.peer_of.ensures) f.0; there = subst (λ (k : ℕ). IsSome (chain_at k c.turn.new.self)) (sym c.peer_of.ensures) f.1 }
+
 pub returns : goal.returns
 returns c =
-    let task = c.args.task in
-    let m = c.args.self.now in
-    elim c.match-branch-2.branch [
-      | in-Nothing w ↦
-          rw (w.result-is, w.journal-is)
-          (peer_rests task m _ c.turn.new.self c.args.journal.now c.turn.new.journal c.in_ok-turn.field-0 c.in_default.not-Rdel w.in-Nothing.is c.self.view_is c.in_ok-turn.ensures)
-      | in-Quiet+in_ok-flush-in-Quiet w ↦
-          rw (w.result-is, w.journal-is)
-          (peer_quiet task m _ c.turn.new.self c.args.journal.now c.turn.new.journal w.flush.new.self c.in_ok-turn.field-0 w.in-Quiet.is c.self.view_is c.requires c.in_ok-turn.ensures w.in_ok-flush-in-Quiet.ensures.ok)
-      | in-Sent+in_ok-flush-in-Sent w ↦
-          rw (w.result-is, w.journal-is)
-          (peer_sent task w.in-Sent.field-0 m _ c.turn.new.self c.args.journal.now c.turn.new.journal w.flush-in-Sent.new.self c.in_ok-turn.field-0 w.in-Sent.is c.self.view_is c.requires c.in_ok-turn.ensures
-          w.in_ok-flush-in-Sent.ensures.ok)
-    ]
+    peer_took c.args.task c.args.self.now _ c.turn.new.self c.weld.new.self c.args.journal.now c.turn.new.journal c.weld.new.journal c.flush.new.self c.in_ok-turn.field-0 c.in_default-2.not-Nothing c.self.view_is c.requires c.in_ok-turn.ensures
+    (subst (λ (k : ℕ). Adds (WeldsInward k c.turn.new.self c.weld.new.self) c.turn.new.journal c.weld.new.journal) c.peer_of.ensures c.in_ok-weld.ensures) c.in_ok-flush.ensures.ok
