@@ -7,7 +7,7 @@ use Rattle.register_interest.specs.declared.interests.Interest.{Interest}
 use Rattle.register_interest.specs.Interests.{Interests, interest_cmp}
 use Rattle.register_interest.specs.Registers.{Registry, KeepsAnswers}
 use Rattle.nexthop_resolver.specs.Registered.{interest_of}
-use Rattle.exit_tests.proofs.forwarding.filled.Goals as goal
+use Rattle.exit_tests.proofs.forwarding.come.Goals as goal
 
 -- an interest that is kept was kept before
 none_more : (old new : Registry Interior) (k : Interest) → old.interests ≡ map.empty → KeepsAnswers old new → (o : Option (Option Network))
@@ -21,4 +21,4 @@ none_kept : (old new : Registry Interior) → old.interests ≡ map.empty → Ke
 none_kept old new empty keeps s = none_more old new (record { subnet = s; client = 0 }) empty keeps (map.get new.interests (record { subnet = s; client = 0 })) refl
 
 pub returns : goal.returns
-returns c = none_kept c.new-register.result c.changed.new.self c.new-register.ensures.interests c.in_ok-_reached.ensures.same
+returns c = none_kept c.args.register.now c.changed.new.self c.requires c.in_ok-_reached.ensures.same
