@@ -3,7 +3,7 @@ use Rattle.std.proofs.Common.{◌≡◌, ℕ, ◌^◌, ◌<◌, Bool, true, fals
 use Rattle.std.proofs.lemmas.Bool.Decides.{nat_tests}
 use Rattle.std.proofs.lemmas.List.{get_or_default}
 use Rattle.std.specs.List.{All, starts_with}
-use Rattle.std.specs.Option.{option_map}
+use Rattle.std.specs.Option.{option_and_then}
 use Rattle.std.specs.Result.{result_ok}
 use Rattle.std.specs.Str.{bytes_eq}
 use Rattle.hex.specs.Hex.{decode_of}
@@ -11,7 +11,7 @@ use Rattle.hex.specs.declared.FromHexError.{FromHexError}
 use Rattle.hex.proofs.HexLemmas.{decode_of-ok}
 use Rattle.addr4.specs.Texts.{number_below, number_of, addr_of, prefix_of, parts}
 use Rattle.journal_text.specs.declared.link.Task.TheVariants as tasks
-use Rattle.journal_text.specs.Names.{name_number, with_both, proto_of, task_of_two, task_of_three, task_from_parts, task_of, link_of as link_named, IsNamed}
+use Rattle.journal_text.specs.Names.{name_number, with_both, proto_of, peer_task, task_of_two, task_of_three, task_from_parts, task_of, link_of as link_named, IsNamed}
 use Rattle.journal_text.proofs.ReadNames.{read_number_named, read_link_named}
 use Rattle.rib_route.specs.declared.Proto.{Proto}
 use Rattle.rib_route.specs.Ifaces.{is_iface_name, iface_of}
@@ -110,9 +110,15 @@ link_ok word =
 number_ok : (word : List ℕ) → IfSome (name_number word) IsNumber
 number_ok word = each (name_number word) IsNumber (λ n e. let h = read_number_named word n e in record { least = h.0; fits = h.1 })
 
-fin_ok : (k : Option ℕ) → IfSome k IsNumber → IfSome (option_map (λ k. tasks.Fin k) k) IsTask
-fin_ok None h = tt
-fin_ok (Some k) h = h
+peer_task_ok : (w : List ℕ) (k : ℕ) → IsNumber k → IfSome (peer_task w k) IsTask
+unfolding peer_task
+peer_task_ok w k h =
+    either (bytes_eq w (codes "fin")) (Some (tasks.Fin k)) _ IsTask h
+    (either (bytes_eq w (codes "nh")) (Some (tasks.Nh k)) None IsTask h tt)
+
+two_parts_ok : (w : List ℕ) (k : Option ℕ) → IfSome k IsNumber → IfSome (option_and_then (peer_task w) k) IsTask
+two_parts_ok w None h = tt
+two_parts_ok w (Some k) h = peer_task_ok w k h
 
 del_ok : (k s : Option ℕ) → IfSome k IsNumber → IfSome s IsNumber → IfSome (with_both (λ k s. Some (tasks.Del k s)) k s) IsTask
 del_ok None s hk hs = tt
@@ -128,7 +134,7 @@ task_parts_ok : (ps : List (List ℕ)) → IfSome (task_from_parts ps) IsTask
 unfolding task_from_parts task_of_two task_of_three
 task_parts_ok [] = tt
 task_parts_ok (w ∷ []) = tt
-task_parts_ok (w ∷ a ∷ []) = either (bytes_eq w (codes "fin")) _ None IsTask (fin_ok (name_number a) (number_ok a)) tt
+task_parts_ok (w ∷ a ∷ []) = two_parts_ok w (name_number a) (number_ok a)
 task_parts_ok (w ∷ a ∷ b ∷ []) =
     either (bytes_eq w (codes "del")) _ _ IsTask (del_ok (name_number a) (name_number b) (number_ok a) (number_ok b))
     (either (bytes_eq w (codes "rdel")) _ None IsTask (rdel_ok (proto_of a) (name_number b) (number_ok b)) tt)

@@ -7,7 +7,7 @@ use Rattle.bgp_attr.specs.Speakers.{IsSpeaker, IsNeighbourOf}
 use Rattle.journal_text.specs.declared.link.Link.{Link}
 use Rattle.journal_text.specs.declared.link.Link.TheVariants as links
 use Rattle.journal_text.specs.declared.link.Task.{Task}
-use Rattle.journal_text.specs.declared.link.Task.TheVariants.{Del, Fin, Rdel}
+use Rattle.journal_text.specs.declared.link.Task.TheVariants.{Del, Fin, Nh, Rdel}
 use Rattle.journal_text.specs.declared.line.Code.{Code}
 use Rattle.journal_text.specs.declared.line.Code.TheVariants.{E3, E4, E5, E6}
 use Rattle.event_text.specs.declared.event.Event.{Event}
@@ -63,6 +63,7 @@ rules_refusal count (Some p) = if nat_le count 64 then None else Some E6
 abbrev pub task_refusal : Task → List DeclaredPeer → Option Code
 task_refusal (Del k s) peers = undeclared (peer_at k peers)
 task_refusal (Fin k) peers = undeclared (peer_at k peers)
+task_refusal (Nh k) peers = undeclared (peer_at k peers)
 task_refusal (Rdel proto n) peers = None
 
 -- a link of a peer needs it declared; the others don't

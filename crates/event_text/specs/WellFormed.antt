@@ -8,7 +8,7 @@ use Rattle.rib_route.specs.declared.rows.Interior.{Interior}
 use Rattle.journal_text.specs.Names.{IsNamed}
 use Rattle.journal_text.specs.declared.link.Link.{Link}
 use Rattle.journal_text.specs.declared.link.Task.{Task}
-use Rattle.journal_text.specs.declared.link.Task.TheVariants.{Del, Fin, Rdel}
+use Rattle.journal_text.specs.declared.link.Task.TheVariants.{Del, Fin, Nh, Rdel}
 use Rattle.policy_rules.specs.Ranges.{AreRules}
 use Rattle.event_text.specs.declared.event.Event.{Event}
 use Rattle.event_text.specs.declared.event.Event.TheVariants as events
@@ -48,6 +48,7 @@ pub record IsAsked (link : Link) : Type 0 where
 abbrev pub IsTask : Task → Type 0
 IsTask (Del k s) = IsNumber k × IsNumber s
 IsTask (Fin k) = IsNumber k
+IsTask (Nh k) = IsNumber k
 IsTask (Rdel proto n) = IsNumber n
 
 -- its numbers, words, octets, prefix, link and task are what the grammar says

@@ -66,7 +66,7 @@ abbrev pub is_asked : Link → Bool
 is_asked (In k) = true
 is_asked (Peer k s) = true
 is_asked (Filt k) = true
-is_asked (Res k) = false
+is_asked (Res k) = true
 is_asked (Org proto) = true
 is_asked (Lost proto n) = true
 is_asked Low = true

@@ -245,7 +245,7 @@ fn task_refusal(task: Task, peers: &[DeclaredPeer]) -> Option<Code>
     ensures { result ≡ task_refusal task peers.now }
 {
     match task {
-        Task::Del(peer, _) | Task::Fin(peer) => undeclared(peer_of(peers, peer)),
+        Task::Del(peer, _) | Task::Fin(peer) | Task::Nh(peer) => undeclared(peer_of(peers, peer)),
         Task::Rdel(_, _) => None,
     }
 }

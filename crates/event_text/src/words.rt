@@ -152,14 +152,14 @@ fn is_asked(link: Link) -> bool
         Link::In(_)
         | Link::Peer(_, _)
         | Link::Filt(_)
+        | Link::Res(_)
         | Link::Org(_)
         | Link::Lost(_, _)
         | Link::Low
         | Link::Dyn
         | Link::Int
         | Link::Fib => true,
-        Link::Res(_)
-        | Link::Red
+        Link::Red
         | Link::Best
         | Link::ReadRib
         | Link::Ebgp

@@ -5,5 +5,5 @@ mod StepLemmas
 mod TurnLemmas
 mod ReachLemmas
 mod TaskLemmas
-mod LawLemmas
-mod FewLemmas
+pub mod LawLemmas
+pub mod FewLemmas

@@ -1,2 +1,2 @@
-mod TurnLemmas
+pub mod TurnLemmas
 mod FilterLemmas

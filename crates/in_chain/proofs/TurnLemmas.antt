@@ -1,5 +1,8 @@
 -- How many turns a walk has left.
-use Rattle.std.proofs.Common.{◌≡◌, ℕ, ◌<◌, ◌≤◌, ◌+◌, ◌*◌, Bool, true, false, cond, List, [], ◌∷◌, length, Option, Some, None, IsSome, is_some, refl, sym, ap, subst, ◌∙◌, arith}
+use Rattle.std.proofs.Common.{◌≡◌, ℕ, ◌<◌, ◌≤◌, ◌+◌, ◌*◌, Bool, true, false, cond, List, [], ◌∷◌, ◌++◌, map, length, length-append, Option, Some, None, IsSome, is_some, refl, sym, ap, subst, ◌∙◌, arith}
+use Rattle.std.proofs.lemmas.List.{length-map}
+use Rattle.std.specs.List.{Contains}
+use Rattle.std.proofs.lemmas.List.Elements.{Contains-append_left, Contains-append_right}
 use Rattle.std.specs.Prelude.{filter}
 use Rattle.std.specs.Ordering.{eq_by_cmp, is_lt, is_eq}
 use Rattle.std.specs.declared.cmp.Ordering.{Ordering}
@@ -10,15 +13,18 @@ use Rattle.addr4.specs.Prefixes.{Network, prefix_cmp}
 use Rattle.addr4.specs.Places.{IsBeyond}
 use Rattle.addr4.proofs.PrefixOrder.{prefixes_total, one_prefix, itself}
 use Rattle.bgp_attr.specs.declared.attrs.Attrs.{Attrs}
+use Rattle.bgp_attr.specs.declared.speaker.Speaker.{Speaker}
+use Rattle.bgp_attr.specs.declared.speaker.Neighbour.{Neighbour}
+use Rattle.filter_bank.specs.Filtered.{filtered}
 use Rattle.link_change.specs.Rows.{IsNextCandidate, with_rows}
 use Rattle.loss_chain.specs.Lost.{Lost}
 use Rattle.loss_chain.specs.Covering.{row_over}
 use Rattle.policy_rules.specs.declared.rule.Rule.{Rule}
-use Rattle.pass_core.specs.Passed.{Passed, Walked, is_beyond, walk_of_waiting, walk_stepped, after_walk}
+use Rattle.pass_core.specs.Passed.{Passed, Walked, function_at, is_beyond, walk_of_waiting, walk_stepped, after_walk}
 use Rattle.pass_core.specs.Turns.{walked_on}
 use Rattle.loss_chain.specs.Tables.{Tables, rows_below, lowest_rows, lost_count, tables_count}
 use Rattle.in_chain.specs.Chains.{count_beyond, lost_beyond, left_beyond, waiting_turns, walk_turns}
-use Rattle.in_chain.specs.Laws.{TurnsAreBounded, TurnsAreLeft}
+use Rattle.in_chain.specs.Laws.{TurnsAreBounded, TurnsAreLeft, CandidatesAreCounted, FilteredRowsAreFew}
 
 abbrev Table : Type 0
 Table = FinMap prefix_cmp Attrs
@@ -185,3 +191,75 @@ walk_left t (Some w) = (λ _. omega arith, λ e. absurd (let clash : true ≡ fa
 
 pub turns_are_left : TurnsAreLeft
 turns_are_left c = walk_left c.incoming.tables c.filter.walk
+
+-- ---- the candidates of `filt.K`
+most_of_table : (place : Option Network) (t : Table) → count_beyond place t ≤ count_beyond None t
+most_of_table place t = no_more (is_beyond place) (is_beyond None) (λ q e. refl) (tables.entries t)
+
+most_of_lost : (place : Option Network) (ds : List (Lost Attrs)) → lost_beyond place ds ≤ lost_beyond None ds
+most_of_lost place [] = omega arith
+most_of_lost place (d ∷ ds) =
+    let first = most_of_table place d.rows in
+    let rest = most_of_lost place ds in
+    omega (arith, first, rest)
+
+pub candidates_are_counted : CandidatesAreCounted
+candidates_are_counted c = (
+  record {
+    fewer = λ place p next. fewer_left place p c.incoming.tables.live c.incoming.tables.deletions next.0 next.1;
+    most = λ place. let first = most_of_table place c.incoming.tables.live in let rest = most_of_lost place c.incoming.tables.deletions in omega (arith, first, rest);
+  },
+  of_all None c.incoming.tables,
+)
+
+-- ---- where rows stand
+abbrev keys : Table → List Network
+keys t = map (λ e. e.0) (tables.entries t)
+
+abbrev all_keys : Table → List (Lost Attrs) → List Network
+all_keys live [] = keys live
+all_keys live (d ∷ ds) = keys d.rows ++ all_keys live ds
+
+key_later : (x p : Network) (xs : List Network) → Contains xs p → Contains (x ∷ xs) p
+key_later x p xs there = Contains-append_right (x ∷ []) xs p there
+
+key_found : (p : Network) (es : List Row) → IsSome (find prefix_cmp p es) → Contains (map (λ e. e.0) es) p
+key_found p [] there = absurd (let clash : false ≡ true = there in cc)
+key_found p (e ∷ es) there =
+    elim (eq_by_cmp prefix_cmp p e.0) as (λ b. eq_by_cmp prefix_cmp p e.0 ≡ b → IsSome (cond b (Some e.1) (find prefix_cmp p es)) → Contains (e.0 ∷ map (λ r. r.0) es) p) [
+      | true ↦ λ here _. (0, omega arith, sym (one_prefix p e.0 here))
+      | false ↦ λ _ rest. key_later e.0 p (map (λ r. r.0) es) (key_found p es rest)
+    ] refl there
+
+has_key : (p : Network) (t : Table) → IsSome (tables.get t p) → Contains (keys t) p
+has_key p t there = key_found p (tables.entries t) (ap is_some (sym (get-entries t p)) ∙ there)
+
+has_keys : (p : Network) (live : Table) (ds : List (Lost Attrs)) → IsSome (rows_below live ds p) → Contains (all_keys live ds) p
+has_keys p live [] there = has_key p live there
+has_keys p live (d ∷ ds) there =
+    elim (tables.get d.rows p) as (λ o. tables.get d.rows p ≡ o → IsSome (row_over o (rows_below live ds p)) → Contains (keys d.rows ++ all_keys live ds) p) [
+      | None ↦ λ _ above. Contains-append_right (keys d.rows) (all_keys live ds) p (has_keys p live ds above)
+      | Some row ↦ λ e _. Contains-append_left (keys d.rows) (all_keys live ds) p (has_key p d.rows (ap is_some e))
+    ] refl there
+
+keys_length : (t : Table) → length (keys t) ≡ tables.len t
+keys_length t = length-map (tables.entries t) (λ (e : Row). e.0) ∙ sym (len-entries t)
+
+all_length : (live : Table) (ds : List (Lost Attrs)) → length (all_keys live ds) ≡ tables.len live + lost_count ds
+all_length live [] = let l = keys_length live in omega (arith, l)
+all_length live (d ∷ ds) =
+    let l = length-append (keys d.rows) (all_keys live ds) in
+    let first = keys_length d.rows in
+    let rest = all_length live ds in
+    omega (arith, l, first, rest)
+
+judged_there : (me : Speaker) (peer : Neighbour) (rules : List Rule) (p : Network) (o : Option Attrs) → IsSome (filtered me peer rules p o) → IsSome o
+judged_there me peer rules p None there = there
+judged_there me peer rules p (Some a) there = refl
+
+pub filtered_rows_are_few : FilteredRowsAreFew
+filtered_rows_are_few c = (
+  all_keys c.incoming.tables.live c.incoming.tables.deletions,
+  (let all = all_length c.incoming.tables.live c.incoming.tables.deletions in omega (arith, all)),
+  λ q there. has_keys q c.incoming.tables.live c.incoming.tables.deletions (judged_there c.me c.peer (function_at c.filter q) q (rows_below c.incoming.tables.live c.incoming.tables.deletions q) there),
+)

@@ -8,7 +8,7 @@ use Rattle.bgp_attr.specs.declared.attrs.Attrs.{Attrs}
 use Rattle.bgp_attr.specs.declared.route.Route.{Route}
 use Rattle.bgp_attr.specs.declared.speaker.Speaker.{Speaker}
 use Rattle.bgp_attr.specs.declared.speaker.Neighbour.{Neighbour}
-use Rattle.link_change.specs.Rows.{Rows, Candidates}
+use Rattle.link_change.specs.Rows.{Rows, Candidates, with_rows}
 use Rattle.loss_chain.specs.Lost.{Lost}
 use Rattle.policy_rules.specs.declared.rule.Rule.{Rule}
 use Rattle.pass_core.specs.Passed.{Passed, Walked, is_beyond}
@@ -74,6 +74,10 @@ candidates_in (Some rows) q = is_some (rows q)
 abbrev pub candidates_of : Chained → Link → Candidates
 candidates_of c link = candidates_in (incoming_links c.incoming (upper_of link))
 
+-- those of `filt.K`
+abbrev pub filt_candidates : Chained → Candidates
+filt_candidates c = with_rows (in_rows c.incoming)
+
 -- what holds of a chain between two calls
 abbrev pub IsChain : Chained → Type 0
 IsChain c = IsLossChain c.incoming.tables
@@ -95,6 +99,9 @@ lost_beyond place (d ∷ ds) = count_beyond place d.rows + lost_beyond place ds
 -- how many rows of `in.K` lie beyond a place
 abbrev pub left_beyond : Option Network → Tables Attrs → ℕ
 left_beyond place t = count_beyond place t.live + lost_beyond place t.deletions
+
+abbrev pub filt_beyond : Chained → Option Network → ℕ
+filt_beyond c place = left_beyond place c.incoming.tables
 
 abbrev pub waiting_turns : ℕ → Option (List Rule) → ℕ
 waiting_turns rows None = 0

@@ -24,7 +24,7 @@ use addr4::{Memory, Place, Prefix};
 use bgp_attr::{Neighbour, Route, SharedAttrs, Speaker};
 use filter_bank::FilterBank;
 use journal_text::{Journal, Link, Task, Value};
-use link_change::{Change, Turn};
+use link_change::{Change, Turn, Upstream};
 use loss_chain::{LossChain, Owner, Stage};
 use policy_rules::Rules;
 use std::alloc::Global;
@@ -202,7 +202,7 @@ impl Chain {
                 }
                 self.walk(journal)
             }
-            Task::Rdel(_, _) => Ok(Turn::Nothing),
+            Task::Nh(_) | Task::Rdel(_, _) => Ok(Turn::Nothing),
         }
     }
 
@@ -303,5 +303,24 @@ impl Chain {
         ensures { result ≡ row_count self.now }
     {
         self.stages.rows()
+    }
+}
+
+/// The lowest link, `filt.K`: its candidates are the rows of `in.K`, some of which may have none on `filt.K`.
+impl Upstream for Chain {
+    type Row = Route;
+
+    ghost use Rattle.in_chain.specs.Chains.{filt_rows, filt_candidates};
+
+    ghost rows = { filt_rows };
+
+    ghost candidates = { filt_candidates };
+
+    fn asked(&self, p: &Prefix) -> Result<Option<Route>, Memory> {
+        self.filter.asked(&self.stages, *p, &self.me, &self.peer)
+    }
+
+    fn next_candidate(&self, after: &Place) -> Option<Prefix> {
+        self.filter.next_candidate(&self.stages, *after)
     }
 }

@@ -24,4 +24,4 @@ mod chain;
 mod laws;
 
 pub use chain::Chain;
-pub use laws::turns_are_bounded;
+pub use laws::{candidates_are_counted, turns_are_bounded};

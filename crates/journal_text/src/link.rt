@@ -75,6 +75,8 @@ pub enum Task {
     Del(u32, u32),
     /// `fin.K`: the walk of a peer's incoming filter.
     Fin(u32),
+    /// `nh.K`: the walk of a peer's next hops.
+    Nh(u32),
     /// `rdel.PROTO.N`: the deletes of a protocol's loss.
     Rdel(Proto, u32),
 }

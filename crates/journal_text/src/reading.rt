@@ -1,7 +1,7 @@
 //! Reading the names of links and tasks.
 
 ghost use Rattle.std.specs.Prelude.{◌≡◌};
-ghost use Rattle.journal_text.specs.Names.{inner_link, link_of, link_of_three, link_of_two, name_number, peer_link, plain_link, proto_of, session_link, task_of, task_of_three, task_of_two};
+ghost use Rattle.journal_text.specs.Names.{inner_link, link_of, link_of_three, link_of_two, name_number, peer_link, peer_task, plain_link, proto_of, session_link, task_of, task_of_three, task_of_two};
 
 use crate::link::{Link, Task};
 use addr4::{first_part, read_number};
@@ -161,16 +161,27 @@ pub(crate) fn read_link(text: &[u8]) -> Option<Link>
     link_of_three(word, part, last)
 }
 
-/// `fin.K`.
+/// `fin.K`, `nh.K`.
+#[tactic(auto, unfolding(crate::specs::Names::peer_task))]
+fn peer_task(word: &[u8], peer: u32) -> Option<Task>
+    ensures { result ≡ peer_task word.now peer }
+{
+    if word == b"fin".as_slice() {
+        Some(Task::Fin(peer))
+    } else if word == b"nh".as_slice() {
+        Some(Task::Nh(peer))
+    } else {
+        None
+    }
+}
+
+/// The task of two words.
 #[tactic(auto, unfolding(crate::specs::Names::task_of_two))]
 fn task_of_two(word: &[u8], part: &[u8]) -> Option<Task>
     ensures { result ≡ task_of_two word.now part.now }
 {
-    if word != b"fin".as_slice() {
-        return None;
-    }
     let peer = name_number(part)?;
-    Some(Task::Fin(peer))
+    peer_task(word, peer)
 }
 
 /// `del.K.S`, `rdel.PROTO.N`.

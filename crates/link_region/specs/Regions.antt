@@ -6,7 +6,7 @@ use Rattle.journal_text.specs.declared.value.Value.{Value}
 use Rattle.journal_text.specs.declared.entry.Entry.{Entry}
 use Rattle.journal_text.specs.Walk.{Links, Leads}
 use Rattle.link_region.specs.declared.regions.Region.{Region}
-use Rattle.link_region.specs.declared.regions.Region.TheVariants.{Inward, InteriorRoutes, Forward, Elsewhere}
+use Rattle.link_region.specs.declared.regions.Region.TheVariants.{Inward, Resolved, InteriorRoutes, Forward, Elsewhere}
 
 -- ---- the table: a line for each link that may be live
 
@@ -14,7 +14,7 @@ abbrev pub region_of : Link → Region
 region_of (In k) = Inward
 region_of (Peer k s) = Inward
 region_of (Filt k) = Inward
-region_of (Res k) = Inward
+region_of (Res k) = Resolved
 region_of (Org proto) = InteriorRoutes
 region_of (Lost proto n) = InteriorRoutes
 region_of Low = InteriorRoutes
@@ -25,9 +25,10 @@ region_of other = Elsewhere
 
 abbrev pub region_number : Region → ℕ
 region_number Inward = 0
-region_number InteriorRoutes = 1
-region_number Forward = 2
-region_number Elsewhere = 3
+region_number Resolved = 1
+region_number InteriorRoutes = 2
+region_number Forward = 3
+region_number Elsewhere = 4
 
 -- ---- the same for any table
 

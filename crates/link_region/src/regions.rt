@@ -8,8 +8,10 @@ use journal_text::Link;
 /// The regions of the network. Each link is of one region, and each region has a part of the router that gives its links.
 #[derive(Clone, Copy, Debug, PartialEq, Eq)]
 pub enum Region {
-    /// The peers' chains.
+    /// The peers' chains, down to the links `filt.K`.
     Inward,
+    /// The links `res.K`.
+    Resolved,
     /// The interior routes, down to `int`.
     InteriorRoutes,
     /// The forwarding table.
@@ -23,7 +25,8 @@ pub fn region_of(link: Link) -> Region
     ensures { result ≡ region_of link }
 {
     match link {
-        Link::In(_) | Link::Peer(_, _) | Link::Filt(_) | Link::Res(_) => Region::Inward,
+        Link::In(_) | Link::Peer(_, _) | Link::Filt(_) => Region::Inward,
+        Link::Res(_) => Region::Resolved,
         Link::Org(_) | Link::Lost(_, _) | Link::Low | Link::Dyn | Link::Int =>
             Region::InteriorRoutes,
         Link::Fib => Region::Forward,

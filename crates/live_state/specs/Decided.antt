@@ -1,9 +1,11 @@
 -- What is decided from the live state alone: the rows of each link, from scratch. The links of a peer are its routes (RFC 4271,
--- section 3.2) and those that the incoming filter accepts (section 9.1.1); those of the interior routes, the routes of each
--- protocol and the ones of least administrative distance (NSDI 2005, section 5.2).
-use Rattle.std.specs.Prelude.{ℕ, nat_lt, not, List, [], ◌∷◌, find, filter_map, Option, Some, None, option_map}
+-- section 3.2), those that the incoming filter accepts (section 9.1.1), and of these the ones whose next hop can be reached (section
+-- 9.1.2.1); those of the interior routes, the routes of each protocol and the ones of least administrative distance (NSDI 2005, section
+-- 5.2).
+use Rattle.std.specs.Prelude.{ℕ, zero, suc, nat_lt, not, List, [], ◌∷◌, find, filter_map, Option, Some, None, option_map}
 use Rattle.std.specs.List.{list_any}
 use Rattle.std.specs.FinMap as tables
+use Rattle.addr4.specs.Blocks.{masked_to}
 use Rattle.addr4.specs.Prefixes.{Network}
 use Rattle.bgp_attr.specs.declared.attrs.Attrs.{Attrs}
 use Rattle.bgp_attr.specs.declared.route.Route.{Route}
@@ -19,7 +21,7 @@ use Rattle.rib_route.specs.declared.rows.FibRow.{FibRow}
 use Rattle.rib_route.specs.Distances.{distance, fib_proto}
 use Rattle.rib_route.specs.Forwarding.{fib_row}
 use Rattle.journal_text.specs.declared.link.Link.{Link}
-use Rattle.journal_text.specs.declared.link.Link.TheVariants.{In, Filt, Org, Low, Dyn, Int, Fib}
+use Rattle.journal_text.specs.declared.link.Link.TheVariants.{In, Filt, Res, Org, Low, Dyn, Int, Fib}
 use Rattle.journal_text.specs.declared.value.Value.{Value}
 use Rattle.journal_text.specs.Walk.{Links}
 use Rattle.journal_text.specs.Values.{attrs_rows, route_rows, interior_rows, fib_rows}
@@ -60,18 +62,50 @@ routes_at interior protocols p = filter_map (λ proto. tables.get (interior prot
 abbrev pub least_rows : (Proto → Interiors) → List Proto → Rows Interior
 least_rows interior protocols p = least_of (routes_at interior protocols p)
 
--- the protocols whose routes come together in a link
+-- the protocols whose routes come together in a link, or tell its metrics
 abbrev pub origins : Link → List Proto
 origins (Org proto) = proto ∷ []
 origins Low = Connected ∷ Static ∷ []
 origins Dyn = Ospf ∷ Rip ∷ []
 origins Int = Connected ∷ Static ∷ Ospf ∷ Rip ∷ []
 origins Fib = Connected ∷ Static ∷ Ospf ∷ Rip ∷ []
+origins (Res k) = Connected ∷ Static ∷ Ospf ∷ Rip ∷ []
 origins other = []
 
 -- what packets are forwarded by
 abbrev pub forwarding_rows : Rows Interior → Rows FibRow
 forwarding_rows rows p = option_map fib_row (rows p)
+
+-- ---- next hops
+-- the prefix that so many bits of an address are
+abbrev pub prefix_of : ℕ → ℕ → Network
+prefix_of address n = record { address = masked_to 32 address n; length = n }
+
+abbrev pub or_else : Option Interior → Option Interior → Option Interior
+or_else None other = other
+or_else (Some row) other = Some row
+
+-- of the prefixes with at most so many bits that hold the address, the route of the longest that has one
+abbrev pub longest_within : Rows Interior → ℕ → ℕ → Option Interior
+longest_within rows address zero = rows (prefix_of address 0)
+longest_within rows address (suc n) = or_else (rows (prefix_of address (suc n))) (longest_within rows address n)
+
+-- the longest match: the interior route by which the address is reached
+abbrev pub longest_match : Rows Interior → ℕ → Option Interior
+longest_match rows address = longest_within rows address 32
+
+-- a route with the metric of the interior route to its next hop (section 9.1.2.2 e); without one it isn't resolvable
+abbrev pub with_metric_of : Route → Option Interior → Option Route
+with_metric_of r None = None
+with_metric_of r (Some way) = Some (record r { igp = Some way.metric })
+
+abbrev pub resolved_row : Rows Interior → Option Route → Option Route
+resolved_row rows None = None
+resolved_row rows (Some r) = with_metric_of r (longest_match rows r.attrs.next_hop)
+
+-- `res.K` has those of `filt.K` whose next hop can be reached
+abbrev pub resolved_rows : Rows Interior → Rows Route → Rows Route
+resolved_rows interior rows p = resolved_row interior (rows p)
 
 -- these links are live where `local` was declared
 abbrev pub since_local : {V : Type 0} → Option Speaker → Rows V → Option (Rows V)
@@ -82,6 +116,8 @@ since_local (Some me) rows = Some rows
 abbrev pub from_scratch : LiveState → Links Value
 from_scratch l (In k) = option_map attrs_rows (live_rows (peer_at k l.declared.peers) (l.routes k))
 from_scratch l (Filt k) = option_map route_rows (judged_rows l.declared.speaker (peer_at k l.declared.peers) (l.rules k) (l.routes k))
+from_scratch l (Res k) =
+    option_map route_rows (option_map (resolved_rows (least_rows l.interior (origins Int))) (judged_rows l.declared.speaker (peer_at k l.declared.peers) (l.rules k) (l.routes k)))
 from_scratch l (Org proto) = option_map interior_rows (since_local l.declared.speaker (tables.get (l.interior proto)))
 from_scratch l Low = option_map interior_rows (since_local l.declared.speaker (least_rows l.interior (origins Low)))
 from_scratch l Dyn = option_map interior_rows (since_local l.declared.speaker (least_rows l.interior (origins Dyn)))

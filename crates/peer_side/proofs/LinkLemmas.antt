@@ -10,7 +10,7 @@ use Rattle.link_change.specs.Rows.{Rows, no_rows}
 use Rattle.link_change.proofs.RowLemmas.{empty_rows, same_function}
 use Rattle.filter_bank.specs.Filtered.{filtered_rows}
 use Rattle.journal_text.specs.declared.link.Link.{Link}
-use Rattle.journal_text.specs.declared.link.Link.TheVariants.{In, Peer, Filt, Res}
+use Rattle.journal_text.specs.declared.link.Link.TheVariants.{In, Peer, Filt}
 use Rattle.journal_text.specs.declared.entry.Entry.{Entry}
 use Rattle.journal_text.specs.declared.entry.Entry.TheVariants.{Begin}
 use Rattle.journal_text.specs.declared.value.Value.{Value}
@@ -69,7 +69,6 @@ module _ (a : Chains) (k : ℕ) (c : Chained) (at : chain_at k a ≡ Some c) (ow
         each (In j) = new_at (In j) j (was (In j))
         each (Peer j s) = new_at (Peer j s) j (was (Peer j s))
         each (Filt j) = new_at (Filt j) j (was (Filt j))
-        each (Res j) = was (Res j) ∙ both_none (Res j) (λ d. refl) (chain_at j a) (chain_at j (put_chain k c' a))
         each other = refl
 
     leads_here : (entries : List (Entry Value)) → LeadsChain c entries c' → Leads (joined sides) entries (joined (with_side sides Inward (peer_links (put_chain k c' a))))

@@ -164,7 +164,7 @@ impl Tree {
     {
         match task {
             Task::Rdel(proto, loss) => self.sweep(proto, loss, journal),
-            Task::Del(..) | Task::Fin(..) => Ok(Turn::Nothing),
+            Task::Del(..) | Task::Fin(..) | Task::Nh(..) => Ok(Turn::Nothing),
         }
     }
 

@@ -1,5 +1,5 @@
 -- What holds of a core after each of its calls.
-use Rattle.std.proofs.Common.{◌≡◌, ℕ, ◌+◌, ◌<◌, ◌≤◌, Bool, false, List, length, None, refl, sym, ap, subst, ◌∙◌, arith}
+use Rattle.std.proofs.Common.{◌≡◌, ℕ, ◌+◌, ◌<◌, ◌≤◌, Bool, false, List, length, Option, None, is_some, refl, sym, ap, subst, ◌∙◌, arith}
 use Rattle.std.specs.FinMap.{get-empty, len-empty}
 use Rattle.std.specs.Ordering.{nat_cmp}
 use Rattle.in_chain.specs.Chains.{Chained}
@@ -15,7 +15,10 @@ use Rattle.rib_tree.specs.Trees.{branch_of, AreNumbered}
 use Rattle.rib_tree.specs.Steps.{new_tree}
 use Rattle.rib_tree.specs.Laws.{ANewTreeStands}
 use Rattle.router_core.specs.Moments.{Moment, Cored, first_moment, Gives}
-use Rattle.router_core.specs.Stands.{Stands, CoreStands, Claim, Claims, EachChain, EachPeer, InteriorTree, OneSpeaker, Registered, SameCount, StandsAt, Tie, Ties, here}
+use Rattle.router_core.specs.Stands.{Stands, CoreStands, Claim, Claims, EachChain, EachPeer, InteriorTree, OneSpeaker, Registered, SameCount, EachResolver, SameResolvers, AnswersAgree, HopsCounted, NoStrangers, StandsAt, Tie, Ties, here}
+use Rattle.register_interest.specs.Interests.{interest_cmp}
+use Rattle.nexthop_resolver.specs.Resolving.{Resolving}
+use Rattle.nexthop_resolver.specs.declared.rows.Metric.{Metric}
 use Rattle.router_core.specs.Blocks.{Acts}
 use Rattle.router_core.specs.Works.{Comes, HasStepped, Keeps}
 use Rattle.live_state.specs.Declared.{declared_after}
@@ -59,7 +62,7 @@ step_prints m m' event turns said follow stands printable few admitted formed h 
     let l = event_printed m stands printable few event said turns m' formed h.block in
     let is : declared_after m.declared event ≡ m'.declared = sym (ap (λ (x : LiveState). x.declared) h.keeps.live ∙ follow (live_state m) event h.live h.after) in
     let d : Leaves m.declared m'.declared = subst (Leaves m.declared) is (event_leaves m.declared event printable.declared admitted formed) in
-    record { now = record { declared = d.declared; chains = l.chains; interior = l.interior }; lines = l.printed; peers = d.peers }
+    record { now = record { declared = d.declared; chains = l.chains; interior = l.interior; hops = l.hops }; lines = l.printed; peers = d.peers }
 
 -- background work declares nothing
 pub work_prints : (m m' : Moment) (most : ℕ) → Stands m → IsPrintableMoment m → AreNumbered most m.tree → live_state m' ≡ live_state m → (Fit (neighbours m.declared) most m → Fit (neighbours m.declared) most m') → IsPrintableMoment m'
@@ -69,6 +72,7 @@ work_prints m m' most stands printable few live fits =
       declared = subst IsDeclaration (sym (ap (λ (l : LiveState). l.declared) live)) printable.declared;
       chains = λ k c there. (x.chains k c there).0.printable;
       interior = λ proto. (x.interior proto).printable;
+      hops = x.metrics;
     }
 
 -- ---- a core by its parts
@@ -111,7 +115,7 @@ module _ (old : Cored) (m : Moment) (n : ℕ) (failed : Bool) (view : record { m
 pub first_stands : ANewTreeStands → CoreStands (cored first_moment 0)
 first_stands law = record {
   stands = record { own = own; at = at };
-  printable = record { declared = refl; chains = λ k c at. absurd (let none = get-empty {X = Chained} nat_cmp k in cc); interior = new_printable };
+  printable = record { declared = refl; chains = λ k c at. absurd (let none = get-empty {X = Chained} nat_cmp k in cc); interior = new_printable; hops = λ k s at. absurd (let none = get-empty {X = Resolving Metric} nat_cmp k in cc) };
   numbered = of_new (λ b. b.losses ≤ 0) (λ k. omega arith);
 }
   where
@@ -123,6 +127,11 @@ first_stands law = record {
     own EachPeer = λ k. subst (StandsAt None) (sym (get-empty {X = Chained} nat_cmp k)) tt
     own OneSpeaker = λ k c at. absurd (let none = get-empty {X = Chained} nat_cmp k in cc)
     own SameCount = len-empty nat_cmp Chained
+    own EachResolver = λ k s at. absurd (let none = get-empty {X = Resolving Metric} nat_cmp k in cc)
+    own SameResolvers = λ k. ap is_some (get-empty {X = Resolving Metric} nat_cmp k) ∙ sym (ap is_some (get-empty {X = Chained} nat_cmp k))
+    own AnswersAgree = λ k s at. absurd (let none = get-empty {X = Resolving Metric} nat_cmp k in cc)
+    own HopsCounted = λ k s at. absurd (let none = get-empty {X = Resolving Metric} nat_cmp k in cc)
+    own NoStrangers = λ k none s. ap is_some (get-empty {X = Option Network} interest_cmp (record { subnet = s; client = k }))
     own InteriorTree = record { tree = law.0; full = law.1; few = of_new (λ b. length b.tables.deletions ≤ 16) (λ k. omega arith); waiting = λ e. refl }
 
     at : (p : Network) (tie : Tie) → Ties (here first_moment p) tie

@@ -1,5 +1,5 @@
 -- The prefixes of an UPDATE, one after the other.
-use Rattle.std.proofs.Common.{◌≡◌, ℕ, ◌+◌, ◌<◌, Bool, true, false, cond, List, [], ◌∷◌, ◌++◌, Option, get_or, length, take, refl, sym, ap, subst, ◌∙◌, append_assoc}
+use Rattle.std.proofs.Common.{◌≡◌, ℕ, ◌+◌, ◌<◌, Bool, true, false, cond, List, [], ◌∷◌, ◌++◌, Option, Some, get_or, length, take, refl, sym, ap, subst, ◌∙◌, append_assoc}
 use Rattle.std.proofs.lemmas.List.{append-nil, take_more}
 use Rattle.addr4.specs.Prefixes.{Network}
 use Rattle.bgp_attr.specs.declared.attrs.Attrs.{Attrs}
@@ -15,18 +15,22 @@ use Rattle.in_chain.specs.Steps.{fed, welded}
 use Rattle.loss_chain.specs.Steps.{live_after}
 use Rattle.loss_chain.proofs.TableLemmas.{same_by}
 use Rattle.std.specs.Prelude.{IsSome, is_some}
-use Rattle.peer_side.specs.Peers.{Chains, chain_at}
-use Rattle.peer_side.specs.Steps.{FeedsInward, WeldsInward}
-use Rattle.router_core.specs.Moments.{Moment, with_chains}
+use Rattle.event_text.specs.Declarations.{peer_at}
+use Rattle.hop_side.specs.Resolvers.{resolver_at}
+use Rattle.hop_side.specs.Steps.{GoesOn}
+use Rattle.peer_side.specs.Peers.{Chains, chain_at, put_chain, filt_at}
+use Rattle.peer_side.specs.Steps.{FeedsInward}
+use Rattle.router_core.specs.Moments.{Moment, with_chains, with_hops}
 use Rattle.live_state.specs.Lives.{LiveState, Routes, with_routes, routes_after, live_fed}
 use Rattle.router_core.specs.Lives.{live_state}
-use Rattle.router_core.specs.Stands.{IsSilent, PeerStands, Stands, open_session}
+use Rattle.router_core.specs.Stands.{IsSilent, PeerStands, Stands, HopsCounted, open_session}
 use Rattle.router_core.specs.Turns.{FeedsAll, journal_lines}
-use Rattle.router_core.specs.Works.{Pushes, IsUpAt, Keeps, HaveFed}
-use Rattle.router_core.proofs.WeldLemmas.{fallen_at, weld_after, weld_keeps, fall_leads, adds_both}
+use Rattle.router_core.specs.Works.{Pushes, IsUpAt, Keeps, HaveFed, SettlesPeer}
+use Rattle.router_core.proofs.WeldLemmas.{fallen_at, weld_after, weld_keeps, adds_both}
+use Rattle.router_core.proofs.HopLemmas.{falls_lead, hops_fall}
 use Rattle.live_state.proofs.AdmittedLemmas.{routes_twice}
 use Rattle.peer_side.proofs.MapLemmas.{one_of as one_peer}
-use Rattle.router_core.proofs.StandLemmas.{peer_of, stands_with, live_routed, routes_there}
+use Rattle.router_core.proofs.StandLemmas.{peer_of, resolver_there, same_peers, stands_with, live_routed, routes_there}
 use Rattle.router_core.proofs.KeepLemmas.{keeps_join, pushes_join}
 
 silent_up : (up : Bool) (c : Chained) → up ≡ true → IsSilent up c
@@ -36,35 +40,71 @@ silent_up false c is = absurd (cc)
 abbrev live_by : Moment → (ℕ → Routes) → LiveState
 live_by m routes = record (live_state m) { routes = routes }
 
--- a feed of a peer's chain and the weld behind it are one of the router
-fed_one : (k : ℕ) (p : Network) (row : Option Attrs) (sent : Option (Change Route)) (m : Moment) (fallen cs : Chains) (entries weld : List (Entry Value)) → Stands m → IsUpAt k m → FeedsInward k p row sent m.chains fallen entries → WeldsInward k fallen cs weld
-    → HaveFed k ((p, row) ∷ []) m (with_chains m cs) (journal_lines (entries ++ weld))
-fed_one k p row sent m fallen cs entries weld stands up f w =
-    let c : Chained = f.feeds.chain in
-    let c' : Chained = welded (fed c p row) in
-    let after = weld_after k m.chains fallen cs (fed c p row) weld f.feeds.after w.welds in
-    let peer = peer_of m stands k c f.feeds.at in
-    let is_up : peer.0.up ≡ true = ap (λ (q : DeclaredPeer). q.up) (one_peer peer.0 up.0 (sym peer.1 ∙ up.1)) ∙ up.2 in
-    let earlier = weld_keeps k m.chains fallen cs (fed c p row) weld f.feeds.after w (open_session peer.0) (f.before (open_session peer.0) peer.2.earlier) in
-    let here : PeerStands peer.0 c' = record { words = peer.2.words; earlier = earlier; silent = silent_up peer.0.up c' is_up } in
-    record {
-      feeds = (journal_lines (entries ++ weld), [], with_chains m cs, (sent, record { fallen = fallen; entries = entries; part = f.feeds; chains = cs; weld = weld; welds = w.welds; lines = refl; after = refl }), (refl, refl), sym (append-nil (journal_lines (entries ++ weld))));
+-- a feed of a peer's chain, and what follows it, are one of the router
+fed_one : (k : ℕ) (p : Network) (row : Option Attrs) (sent : Option (Change Route)) (m : Moment) (fallen : Chains) (m' : Moment) (entries rest : List (Entry Value)) → Stands m → IsUpAt k m → FeedsInward k p row sent m.chains fallen entries
+    → SettlesPeer k sent (with_chains m fallen) m' rest → HaveFed k ((p, row) ∷ []) m m' (journal_lines (entries ++ rest))
+fed_one k p row sent m fallen m' entries rest stands up f w =
+    subst (λ (n : Moment). HaveFed k ((p, row) ∷ []) m n (journal_lines (entries ++ rest))) (sym w.after)
+    (subst (λ (es : List (Entry Value)). HaveFed k ((p, row) ∷ []) m after (journal_lines (entries ++ es))) (sym w.lines) (record {
+      feeds = (
+        journal_lines said,
+        [],
+        after,
+        (sent, record { fallen = fallen; entries = entries; part = f; resolved = w.resolved; below = w.below; weld = w.weld; welds = w.welds; lines = refl; after = refl }),
+        (refl, refl),
+        sym (append-nil (journal_lines said)),
+      );
       keeps = record {
-        leads = fall_leads m fallen cs entries weld f.fall.leads w.step.leads;
-        live = live_routed m m.declared k c c' cs f.feeds.at after refl ∙ ap (λ (r : Routes). live_by m (with_routes (live_state m).routes k (live_after r p row))) (sym (routes_there m k c f.feeds.at));
-        stands = stands_with m k c c' cs peer.0 stands f.feeds.at after w.step.sound refl peer.1 here;
+        leads = falls_lead m fallen m'.chains m'.registry m'.hops entries w.resolved w.weld f.fall.leads goes.leads w.welds.step.leads quiet;
+        live = live_routed m m.declared k c c' m'.chains f.feeds.at put refl ∙ ap (λ (r : Routes). live_by m (with_routes (live_state m).routes k (live_after r p row))) (sym (routes_there m k c f.feeds.at));
+        stands = stands_with m k c c' m'.chains m'.registry m'.hops peer.0 stands f.feeds.at put w.welds.step.sound refl peer.1 here w.below.agreed.others.rows
+            (hops_fall m k fallen m'.chains m'.registry m'.hops stands w.below.agreed goes.counted quiet (resolver_there m stands k c f.feeds.at) (same_peers m k c c' m'.chains f.feeds.at put));
       };
-    }
+    }))
+  where
+    c : Chained
+    c = f.feeds.chain
 
-pub one_fed : (k : ℕ) (p : Network) (row : Option Attrs) (sent : Option (Change Route)) (m v : Moment) (fallen cs : Chains) (before j now : Journaled) → v ≡ m → Stands m → IsUpAt k m → Adds (FeedsInward k p row sent v.chains fallen) before j
-    → Adds (WeldsInward k fallen cs) j now → Pushes (HaveFed k ((p, row) ∷ []) m (with_chains v cs)) before now
-one_fed k p row sent m v fallen cs before j now view stands up f w =
-    subst (λ (n : Moment). Pushes (HaveFed k ((p, row) ∷ []) n (with_chains v cs)) before now) view
-    (journal_lines (f.0 ++ w.0), adds_both before j now f.0 w.0 f.1 w.1, fed_one k p row sent v fallen cs f.0 w.0 (subst Stands (sym view) stands) (subst (IsUpAt k) (sym view) up) f.2 w.2)
+    c' : Chained
+    c' = welded (fed f.feeds.chain p row)
+
+    said : List (Entry Value)
+    said = entries ++ (w.resolved ++ w.weld)
+
+    after : Moment
+    after = with_hops (with_chains m m'.chains) m'.registry m'.hops
+
+    put : m'.chains ≡ put_chain k (welded (fed f.feeds.chain p row)) m.chains
+    put = weld_after k m.chains fallen m'.chains (fed f.feeds.chain p row) w.weld f.feeds.after w.welds.welds
+
+    quiet : filt_at m'.chains ≡ filt_at fallen
+    quiet i j = w.welds.quiet j i
+
+    goes : GoesOn k p w.below.below m.hops m'.hops w.resolved (filt_at m.chains) (filt_at fallen)
+    goes = w.below.goes (filt_at m.chains) (filt_at fallen) p (stands.own HopsCounted) (record { here = f.changes.rows; others = f.changes.others })
+
+    peer : (q : DeclaredPeer) × (peer_at k m.declared.peers ≡ Some q) × PeerStands q f.feeds.chain
+    peer = peer_of m stands k f.feeds.chain f.feeds.at
+
+    here : PeerStands peer.0 (welded (fed f.feeds.chain p row))
+    here =
+        let is_up : peer.0.up ≡ true = ap (λ (q : DeclaredPeer). q.up) (one_peer peer.0 up.0 (sym peer.1 ∙ up.1)) ∙ up.2 in
+        let earlier = weld_keeps k m.chains fallen m'.chains (fed f.feeds.chain p row) w.weld f.feeds.after w.welds (open_session peer.0) (f.before (open_session peer.0) peer.2.earlier) in
+        record { words = peer.2.words; earlier = earlier; silent = silent_up peer.0.up (welded (fed f.feeds.chain p row)) is_up }
+
+pub one_fed : (k : ℕ) (p : Network) (row : Option Attrs) (sent : Option (Change Route)) (m v : Moment) (fallen : Chains) (m' : Moment) (before j now : Journaled) → v ≡ m → Stands m → IsUpAt k m → Adds (FeedsInward k p row sent v.chains fallen) before j
+    → Adds (SettlesPeer k sent (with_chains v fallen) m') j now → Pushes (HaveFed k ((p, row) ∷ []) m m') before now
+one_fed k p row sent m v fallen m' before j now view stands up f w =
+    subst (λ (n : Moment). Pushes (HaveFed k ((p, row) ∷ []) n m') before now) view
+    (journal_lines (f.0 ++ w.0), adds_both before j now f.0 w.0 f.1 w.1, fed_one k p row sent v fallen m' f.0 w.0 (subst Stands (sym view) stands) (subst (IsUpAt k) (sym view) up) f.2 w.2)
 
 -- the chain that was fed stands there
 pub fed_there : (k : ℕ) (p : Network) (row : Option Attrs) (sent : Option (Change Route)) (a fallen : Chains) (before j : Journaled) → Adds (FeedsInward k p row sent a fallen) before j → IsSome (chain_at k fallen)
 fed_there k p row sent a fallen before j f = ap is_some (fallen_at k a fallen (fed f.2.feeds.chain p row) f.2.feeds.after)
+
+-- and it has a resolver
+pub fed_resolves : (k : ℕ) (p : Network) (row : Option Attrs) (sent : Option (Change Route)) (m v : Moment) (fallen : Chains) (before j : Journaled) → v ≡ m → Stands m → Adds (FeedsInward k p row sent v.chains fallen) before j → IsSome (resolver_at k v.hops)
+fed_resolves k p row sent m v fallen before j view stands f = resolver_there v (subst Stands (sym view) stands) k f.2.feeds.chain f.2.feeds.at
 
 -- ---- one after the other
 module _ (k : ℕ) where

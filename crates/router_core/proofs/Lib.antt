@@ -21,6 +21,10 @@ pub mod ProtocolLosses
 pub mod RouteTurns
 pub mod RouteRoom
 pub mod RouteSteps
+pub mod PrintedHops
 pub mod PrintedTurns
 pub mod PrintedBlocks
-mod WeldLemmas
+pub mod WeldLemmas
+pub mod HopLemmas
+pub mod MostLemmas
+pub mod HopTurns

@@ -16,8 +16,9 @@ use Rattle.router_core.specs.Turns.{journal_lines}
 use Rattle.router_core.specs.Works.{Pushes, HasRoom, IsSession, HasLost, Ends}
 use Rattle.live_state.proofs.AdmittedLemmas.{down, ended_same, ended_other, ended_length}
 use Rattle.peer_side.proofs.MapLemmas.{one_of}
+use Rattle.router_core.proofs.HopLemmas.{hops_quiet}
 use Rattle.router_core.proofs.RegionLemmas.{leads_inward}
-use Rattle.router_core.proofs.StandLemmas.{remade, peer_of, chain_there, KeepsOthers, stands_put, live_routed}
+use Rattle.router_core.proofs.StandLemmas.{remade, peer_of, same_peers, chain_there, KeepsOthers, stands_put, live_routed}
 use Rattle.router_core.proofs.KeepLemmas.{keeps_then, gives_push}
 
 -- ---- what stands after the loss
@@ -46,13 +47,14 @@ ends_one k s m cs entries stands up f =
     let here : PeerStands (down peer.0) (lost s c) = record { words = peer.2.words; earlier = subst (λ (n : ℕ). AreBefore (n + 1) (lost s c)) (sym session) f.before; silent = refl } in
     record {
       between = with_chains m cs;
-      loses = record { chains = cs; entries = entries; part = f.loses; lines = refl; after = refl };
+      loses = record { chains = cs; entries = entries; part = f; lines = refl; after = refl };
       after = refl;
       keeps = record {
-        leads = leads_inward m cs entries f.step.leads;
+        leads = leads_inward m cs entries f.quiet f.step.leads;
         live = live_routed m (without_session m.declared k) k c (lost s c) cs f.loses.at f.loses.after refl;
-        stands = stands_put m (without_session m.declared k) k c (lost s c) cs stands f.loses.at f.loses.after f.step.sound refl keeps
-            (subst (λ (o : Option DeclaredPeer). StandsAt o (Some (lost s c))) (sym (ended_same k m.declared.peers peer.0 peer.1)) here);
+        stands = stands_put m (without_session m.declared k) k c (lost s c) cs m.registry m.hops stands f.loses.at f.loses.after f.step.sound refl keeps
+            (subst (λ (o : Option DeclaredPeer). StandsAt o (Some (lost s c))) (sym (ended_same k m.declared.peers peer.0 peer.1)) here) refl
+            (hops_quiet m cs stands f.quiet (same_peers m k c (lost s c) cs f.loses.at f.loses.after));
       };
     }
   where

@@ -1,6 +1,7 @@
 -- The next task of a phase.
-use Rattle.std.proofs.Common.{◌≡◌, Bool, true, cond, List, [], ◌∷◌, ◌++◌, map, Option, Some, None, is_some, refl, sym, ap, subst, ◌∙◌}
-use Rattle.std.specs.Prelude.{IfNone}
+use Rattle.std.proofs.Common.{◌≡◌, ℕ, Bool, true, false, cond, List, [], ◌∷◌, ◌++◌, map, Option, Some, None, is_some, refl, sym, ap, subst, ◌∙◌}
+use Rattle.std.specs.Prelude.{IfNone, option_map}
+use Rattle.hop_side.specs.Resolvers.{Beyonds, has_hop_work, left_in}
 use Rattle.std.specs.List.{AllByRecursion, find}
 use Rattle.std.specs.FinMap as tables
 use Rattle.bgp_attr.specs.declared.attrs.Attrs.{Attrs}
@@ -22,10 +23,10 @@ use Rattle.rib_tree.specs.BranchSteps.{branch_tasks}
 use Rattle.rib_tree.specs.Trees.{Treed, branch_of, tree_tasks}
 use Rattle.rib_tree.proofs.RestLemmas.{all_tree}
 use Rattle.router_core.specs.declared.router.Phase.{Phase}
-use Rattle.router_core.specs.declared.router.Phase.TheVariants.{Rdel, Del, Fin}
+use Rattle.router_core.specs.declared.router.Phase.TheVariants.{Rdel, Del, Fin, Nh}
 use Rattle.router_core.specs.Moments.{Moment}
 use Rattle.router_core.specs.Stands.{Stands, InteriorTree}
-use Rattle.router_core.specs.Phases.{counts}
+use Rattle.router_core.specs.Phases.{beyonds, counts}
 use Rattle.router_core.proofs.CountLemmas.{over_none}
 use Rattle.router_core.specs.Turns.{phase_of, phase_tasks, next_task, has_work}
 
@@ -35,6 +36,7 @@ all_of_phase Rdel m = all_tree (λ t. phase_of t ≡ Rdel) m.tree (λ proto. all
 all_of_phase Del m = all_flat (λ t. phase_of t ≡ Del) chain_tasks (tables.values m.chains) (all_any (λ c. AllByRecursion (λ t. phase_of t ≡ Del) (chain_tasks c))
     (λ c. all_made (λ t. phase_of t ≡ Del) (λ (d : Lost Attrs). tasks.Del c.incoming.number d.number) c.incoming.tables.deletions (all_any _ (λ d. refl) c.incoming.tables.deletions)) (tables.values m.chains))
 all_of_phase Fin m = all_made (λ t. phase_of t ≡ Fin) (λ (c : Chained). tasks.Fin c.incoming.number) (tables.values m.chains) (all_any _ (λ c. refl) (tables.values m.chains))
+all_of_phase Nh m = all_made (λ t. phase_of t ≡ Nh) (λ (k : ℕ). tasks.Nh k) (tables.keys m.hops) (all_any _ (λ k. refl) (tables.keys m.hops))
 
 -- ---- the first that has work
 at_work : (m : Moment) (P : Task → Type 0) (ts : List Task) (task : Task) → AllByRecursion P ts → find (λ t. has_work t m) ts ≡ Some task → (has_work task m ≡ true) × P task
@@ -52,15 +54,34 @@ found_same f g [] all = refl
 found_same f g (t ∷ ts) all = ap (λ (b : Bool). cond b (Some t) (find f ts)) all.0 ∙ ap (λ (o : Option Task). cond (g t) (Some t) o) (found_same f g ts all.1)
 
 -- a task of a phase of the peers
-of_peers : (m : Moment) (t : Task) (r : Phase) → (r ≡ Rdel → ⊥) → phase_of t ≡ r → has_peer_work m.chains t ≡ has_work t m
-of_peers m (tasks.Del k s) r other is = refl
-of_peers m (tasks.Fin k) r other is = refl
-of_peers m (tasks.Rdel proto n) r other is = absurd (other (sym is))
+of_peers : (m : Moment) (t : Task) (r : Phase) → (r ≡ Rdel → ⊥) → (r ≡ Nh → ⊥) → phase_of t ≡ r → has_peer_work m.chains t ≡ has_work t m
+of_peers m (tasks.Del k s) r other hops is = refl
+of_peers m (tasks.Fin k) r other hops is = refl
+of_peers m (tasks.Nh k) r other hops is = absurd (hops (sym is))
+of_peers m (tasks.Rdel proto n) r other hops is = absurd (other (sym is))
 
-pub next_of_peers : (s r : Phase) (m v : Moment) (first : Option Task) → (s ≡ Rdel → ⊥) → r ≡ s → v ≡ m → first ≡ find (has_peer_work v.chains) (phase_tasks s v) → first ≡ next_task r m
-next_of_peers s r m v first other is view found =
-    found ∙ found_same (has_peer_work v.chains) (λ t. has_work t v) (phase_tasks s v) (all_so (λ t. phase_of t ≡ s) (λ t. has_peer_work v.chains t ≡ has_work t v) (λ t of. of_peers v t s other of) (phase_tasks s v) (all_of_phase s v))
+pub next_of_peers : (s r : Phase) (m v : Moment) (first : Option Task) → (s ≡ Rdel → ⊥) → (s ≡ Nh → ⊥) → r ≡ s → v ≡ m → first ≡ find (has_peer_work v.chains) (phase_tasks s v) → first ≡ next_task r m
+next_of_peers s r m v first other hops is view found =
+    found ∙ found_same (has_peer_work v.chains) (λ t. has_work t v) (phase_tasks s v) (all_so (λ t. phase_of t ≡ s) (λ t. has_peer_work v.chains t ≡ has_work t v) (λ t of. of_peers v t s other hops of) (phase_tasks s v) (all_of_phase s v))
     ∙ ap (next_task s) view ∙ ap (λ (e : Phase). next_task e m) (sym is)
+
+-- ---- the next hops
+found_hop : (f : ℕ → Bool) (g : Task → Bool) (ks : List ℕ) → ((k : ℕ) → g (tasks.Nh k) ≡ f k) → option_map (λ k. tasks.Nh k) (find f ks) ≡ find g (map (λ k. tasks.Nh k) ks)
+found_hop f g [] same = refl
+found_hop f g (k ∷ ks) same = by_test (f k) (found_hop f g ks same) ∙ ap (λ (b : Bool). cond b (Some (tasks.Nh k)) (find g (map (λ n. tasks.Nh n) ks))) (sym (same k))
+  where
+    by_test : (b : Bool) → option_map (λ n. tasks.Nh n) (find f ks) ≡ find g (map (λ n. tasks.Nh n) ks) → option_map (λ n. tasks.Nh n) (cond b (Some k) (find f ks)) ≡ cond b (Some (tasks.Nh k)) (find g (map (λ n. tasks.Nh n) ks))
+    by_test true rest = refl
+    by_test false rest = rest
+
+pub next_of_hops : (r : Phase) (m v : Moment) (first : Option ℕ) (task : Option Task) → r ≡ Nh → v ≡ m → first ≡ find (has_hop_work v.hops) (tables.keys v.hops) → task ≡ option_map (λ k. tasks.Nh k) first → task ≡ next_task r m
+next_of_hops r m v first task is view found made =
+    made ∙ ap (option_map (λ k. tasks.Nh k)) found ∙ found_hop (has_hop_work v.hops) (λ t. has_work t v) (tables.keys v.hops) (λ k. refl) ∙ ap (next_task Nh) view ∙ ap (λ (e : Phase). next_task e m) (sym is)
+
+pub none_of_hops : (r : Phase) (m v : Moment) (first : Option ℕ) (task : Option Task) → r ≡ Nh → v ≡ m → IfNone first ((bs : Beyonds) → left_in bs v.hops ≡ 0) → task ≡ option_map (λ k. tasks.Nh k) first → IfNone task (counts m r ≡ 0)
+none_of_hops r m v None task is view none made =
+    subst (λ (o : Option Task). IfNone o (counts m r ≡ 0)) (sym made) (ap (counts m) is ∙ ap (λ (n : Moment). counts n Nh) (sym view) ∙ none (beyonds v.chains))
+none_of_hops r m v (Some k) task is view none made = subst (λ (o : Option Task). IfNone o (counts m r ≡ 0)) (sym made) tt
 
 -- ---- the stages of the tree
 -- each stage that stands has work

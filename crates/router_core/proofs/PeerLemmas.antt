@@ -11,26 +11,39 @@ use Rattle.event_text.specs.Declarations.{with_speaker, Declaration, peer_at, wo
 use Rattle.event_text.proofs.Sessions.{addable, missed, KeepsWords, begun_words}
 use Rattle.policy_rules.specs.declared.rule.Rule.{Rule}
 use Rattle.pass_core.specs.Passed.{Walked, present, edited}
-use Rattle.in_chain.specs.Chains.{Chained}
+use Rattle.in_chain.specs.Chains.{Chained, filt_rows}
 use Rattle.in_chain.specs.Steps.{new_chain, refiltered}
-use Rattle.loss_chain.proofs.TableLemmas.{equal_by, same_by, other_by}
+use Rattle.loss_chain.proofs.TableLemmas.{equal_by, same_by, other_by, no_table}
 use Rattle.link_region.specs.declared.regions.Region.TheVariants.{Inward}
 use Rattle.link_region.specs.Regions.{LeadsIn}
 use Rattle.link_region.proofs.RegionLemmas.{by_bool, lead_nothing}
-use Rattle.peer_side.specs.Peers.{Chains, chain_at, put_chain, peer_links, begin_entries, routes_of, rules_of, IsPeers, AreBefore}
+use Rattle.bgp_attr.specs.declared.attrs.Attrs.{Attrs}
+use Rattle.link_change.specs.Rows.{no_rows}
+use Rattle.link_change.proofs.RowLemmas.{empty_rows}
+use Rattle.filter_bank.specs.Filtered.{filtered_rows}
+use Rattle.rib_route.specs.declared.rows.Interior.{Interior}
+use Rattle.register_interest.specs.Registers.{Registry}
+use Rattle.nexthop_resolver.specs.Resolving.{nothing_known}
+use Rattle.nexthop_resolver.specs.declared.rows.Metric.{Metric}
+use Rattle.journal_text.proofs.JournalLemmas.{with_entries_append}
+use Rattle.hop_side.specs.Resolvers.{Resolvers, PeerRows, resolver_at, put_resolver, hop_links, IsHops, AllAgree, AllCounted}
+use Rattle.hop_side.specs.Steps.{LeadsRes, HasNoInterest, begin_entries as hop_begins}
+use Rattle.hop_side.proofs.PutLemmas.{at_put as resolver_put}
+use Rattle.peer_side.specs.Peers.{Chains, chain_at, put_chain, peer_links, filt_by, filt_at, begin_entries, routes_of, rules_of, IsPeers, AreBefore}
 use Rattle.peer_side.specs.Steps.{EditsInward}
-use Rattle.peer_side.proofs.PutLemmas.{at_put, put_each, put_kept, put_more}
-use Rattle.router_core.specs.Moments.{Moment, with_chains}
+use Rattle.peer_side.proofs.PutLemmas.{at_put, put_here, put_each, put_kept, put_more}
+use Rattle.router_core.specs.Moments.{Moment, with_chains, router_links}
 use Rattle.live_state.specs.Lives.{with_rules, begun_if_down}
 use Rattle.router_core.specs.Lives.{live_state}
-use Rattle.router_core.specs.Stands.{IsSilent, PeerStands, StandsAt, Stands, Claim, Claims, EachChain, EachPeer, InteriorTree, OneSpeaker, SameCount}
+use Rattle.router_core.specs.Stands.{IsSilent, PeerStands, StandsAt, Stands, Claim, Claims, EachChain, EachPeer, InteriorTree, OneSpeaker, SameCount, EachResolver, SameResolvers, AnswersAgree, HopsCounted, NoStrangers}
 use Rattle.router_core.specs.Turns.{journal_lines}
 use Rattle.router_core.specs.Blocks.{ByPeer, BeginsIf, Declares, declared_speaker, declared_peer, begun}
 use Rattle.router_core.specs.Peers.{is_up}
 use Rattle.router_core.specs.Works.{HasStepped, Pushes}
 use Rattle.router_core.proofs.RegionLemmas.{leads_inward}
 use Rattle.peer_side.proofs.MapLemmas.{one_of as one_peer}
-use Rattle.router_core.proofs.StandLemmas.{peer_of, chain_there, stands_with, live_edited}
+use Rattle.router_core.proofs.StandLemmas.{peer_of, chain_there, same_peers, stands_with, live_edited}
+use Rattle.router_core.proofs.HopLemmas.{leads_both, leads_resolved, hops_quiet}
 use Rattle.router_core.proofs.KeepLemmas.{steps_said}
 
 -- ---- a peer more
@@ -82,6 +95,28 @@ new_number m v after k words p view admitted added there =
     let absent : peer_at k v.declared.peers ≡ None = ap (λ (n : Moment). peer_at k n.declared.peers) view ∙ peer_absent m.declared k words admitted in
     ap (λ (q : DeclaredPeer). q.words.number) (declared_is v.declared after k words p absent added there)
 
+-- nor a resolver
+pub resolver_absent : (m v : Moment) (after : Declaration) (k : ℕ) (words : Speaker) (p : DeclaredPeer) → v ≡ m → Stands m → refusal m.declared (events.Peer k words) ≡ None → after ≡ with_peer v.declared k words → Some p ≡ peer_at k after.peers
+    → resolver_at p.words.number v.hops ≡ None
+resolver_absent m v after k words p view stands admitted added there =
+    ap (λ (n : ℕ). resolver_at n v.hops) (new_number m v after k words p view admitted added there)
+    ∙ no_table (resolver_at k v.hops) ((subst Stands (sym view) stands).own SameResolvers k ∙ ap is_some (chain_absent m v k words view stands admitted))
+
+-- what a resolver that begins keeps
+pub record BeginsWith (k : ℕ) (a a' : Resolvers) : Type 0 where
+  pub leads : (uppers : PeerRows) → uppers k ≡ no_rows → LeadsRes (hop_links a uppers) (hop_begins k) (hop_links a' uppers)
+  pub counted : (uppers : PeerRows) → uppers k ≡ no_rows → AllCounted uppers a → AllCounted uppers a'
+  pub agree : (r : Registry Interior) → HasNoInterest k r → AllAgree a r → AllAgree a' r
+  pub sound : IsHops a'
+
+pub record BeginsHops (k : ℕ) (a a' : Resolvers) (before now : Journaled) : Type 0 where
+  pub after : a' ≡ put_resolver k (nothing_known k) a
+  pub lines : now ≡ with_entries before (hop_begins k)
+  pub leads : (uppers : PeerRows) → uppers k ≡ no_rows → LeadsRes (hop_links a uppers) (hop_begins k) (hop_links a' uppers)
+  pub counted : (uppers : PeerRows) → uppers k ≡ no_rows → AllCounted uppers a → AllCounted uppers a'
+  pub agree : (r : Registry Interior) → HasNoInterest k r → AllAgree a r → AllAgree a' r
+  pub sound : IsHops a'
+
 module _ (m : Moment) (me : Speaker) (k : ℕ) (words : Speaker) (is_local : m.declared.speaker ≡ Some me) (stands : Stands m) (absent : peer_at k m.declared.peers ≡ None) where
   abbrev fresh : Chained
   fresh = new_chain me (words_of m.declared.speaker k words)
@@ -89,9 +124,33 @@ module _ (m : Moment) (me : Speaker) (k : ℕ) (words : Speaker) (is_local : m.d
   no_chain_yet : chain_at k m.chains ≡ None
   no_chain_yet = no_chain (peer_at k m.declared.peers) (chain_at k m.chains) (stands.own EachPeer k) absent
 
-  declared_stands : IsPeers (put_chain k fresh m.chains) → Stands (declared_peer m me k words)
-  declared_stands peers = record { own = own; at = stands.at }
+  -- no row stands on its `filt.K`
+  no_filtered : filt_rows fresh ≡ no_rows
+  no_filtered = ap (filtered_rows fresh.me fresh.peer []) (empty_rows {V = Attrs})
+
+  no_upper : filt_at (put_chain k fresh m.chains) k ≡ no_rows
+  no_upper = ap filt_by (put_here k fresh m.chains) ∙ no_filtered
+
+  quiet : (j : ℕ) → filt_at (put_chain k fresh m.chains) j ≡ filt_at m.chains j
+  quiet = put_kept filt_by k fresh m.chains (no_filtered ∙ ap filt_by (sym no_chain_yet))
+
+  no_resolver_yet : resolver_at k m.hops ≡ None
+  no_resolver_yet = no_table (resolver_at k m.hops) (stands.own SameResolvers k ∙ ap is_some no_chain_yet)
+
+  abbrev hops_then : Resolvers
+  hops_then = put_resolver k (nothing_known k) m.hops
+
+  declared_stands : IsPeers (put_chain k fresh m.chains) → BeginsWith k m.hops hops_then → Stands (declared_peer m me k words)
+  declared_stands peers begins = record { own = own; at = stands.at }
     where
+      both_put : (j : ℕ) → is_some (resolver_at j hops_then) ≡ is_some (chain_at j (put_chain k fresh m.chains))
+      both_put j = ap is_some (resolver_put k (nothing_known k) m.hops j) ∙ by_bool (nat_eq j k) (λ b. is_some (cond b (Some (nothing_known {A = Metric} k)) (resolver_at j m.hops)) ≡ is_some (cond b (Some fresh) (chain_at j m.chains)))
+          (λ _. refl) (λ _. stands.own SameResolvers j) ∙ sym (ap is_some (at_put k fresh m.chains j))
+
+      none_then : (j : ℕ) → resolver_at j hops_then ≡ None → resolver_at j m.hops ≡ None
+      none_then j none = by_bool (nat_eq j k) (λ b. cond b (Some (nothing_known {A = Metric} k)) (resolver_at j m.hops) ≡ None → resolver_at j m.hops ≡ None)
+          (λ _ some. absurd (cc)) (λ _ same. same) (sym (resolver_put k (nothing_known k) m.hops j) ∙ none)
+
       own : (claim : Claim) → Claims (declared_peer m me k words) claim
       own EachChain = peers
       own EachPeer = λ j. subst (λ (o : Option Chained). StandsAt (peer_at j (with_peer m.declared k words).peers) o) (sym (at_put k fresh m.chains j))
@@ -100,6 +159,11 @@ module _ (m : Moment) (me : Speaker) (k : ℕ) (words : Speaker) (is_local : m.d
           (subst (λ (o : Option DeclaredPeer). StandsAt o (Some fresh)) (sym (new_peer_at m.declared k words absent)) (record { words = refl; earlier = tt; silent = refl })))
           (λ e. subst (λ (o : Option DeclaredPeer). StandsAt o (chain_at j m.chains))
           (sym (peer_at_push_other j m.declared.peers (new_peer m.declared k words) (other_by k j (λ same. let t : true ≡ false = sym (same_by j k (sym same)) ∙ e in cc)))) (stands.own EachPeer j)))
+      own EachResolver = begins.sound
+      own SameResolvers = both_put
+      own AnswersAgree = begins.agree m.registry (stands.own NoStrangers k no_resolver_yet) (stands.own AnswersAgree)
+      own HopsCounted = begins.counted (filt_at (put_chain k fresh m.chains)) no_upper (subst (λ (u : PeerRows). AllCounted u m.hops) (λ i j. sym (quiet j) i) (stands.own HopsCounted))
+      own NoStrangers = λ j none. stands.own NoStrangers j (none_then j none)
       own OneSpeaker = put_each (λ j c. m.declared.speaker ≡ Some c.me) k fresh m.chains is_local (stands.own OneSpeaker)
       own SameCount = put_more k fresh m.chains no_chain_yet ∙ ap (λ (n : ℕ). n + 1) (stands.own SameCount) ∙ sym (length_push m.declared.peers (new_peer m.declared k words))
       own other = stands.own other
@@ -108,37 +172,48 @@ module _ (m : Moment) (me : Speaker) (k : ℕ) (words : Speaker) (is_local : m.d
   stays : {A : Type 0} (f : Option Chained → A) → f (Some fresh) ≡ f None → (j : ℕ) → f (chain_at j (put_chain k fresh m.chains)) ≡ f (chain_at j m.chains)
   stays f same = put_kept f k fresh m.chains (same ∙ ap f (sym no_chain_yet))
 
-  peer_stepped : LeadsIn Inward (peer_links m.chains) (begin_entries k) (peer_links (put_chain k fresh m.chains)) → IsPeers (put_chain k fresh m.chains) → HasStepped m (events.Peer k words) 0 (declared_peer m me k words) (journal_lines (begin_entries k))
-  peer_stepped leads peers = record {
-    block = subst (λ (s : Option Speaker). Declares m s k words (journal_lines (begin_entries k)) 0 (declared_peer m me k words)) (sym is_local) (refl, refl, refl);
+  peer_stepped : LeadsIn Inward (peer_links m.chains) (begin_entries k) (peer_links (put_chain k fresh m.chains)) → IsPeers (put_chain k fresh m.chains) → BeginsWith k m.hops hops_then
+      → HasStepped m (events.Peer k words) 0 (declared_peer m me k words) (journal_lines (begin_entries k ++ hop_begins k))
+  peer_stepped leads peers begins = record {
+    block = subst (λ (s : Option Speaker). Declares m s k words (journal_lines (begin_entries k ++ hop_begins k)) 0 (declared_peer m me k words)) (sym is_local) (refl, refl, refl);
     live = record (live_state m) { declared = with_peer m.declared k words };
     after = refl;
     keeps = record {
-      leads = leads_inward m (put_chain k fresh m.chains) (begin_entries k) leads;
+      leads = leads_both (router_links m) (router_links (with_chains m (put_chain k fresh m.chains))) (router_links (declared_peer m me k words)) (begin_entries k) (hop_begins k)
+          (leads_inward m (put_chain k fresh m.chains) (begin_entries k) quiet leads)
+          (leads_resolved (with_chains m (put_chain k fresh m.chains)) m.registry hops_then (hop_begins k) (begins.leads (filt_at (put_chain k fresh m.chains)) no_upper));
       live = λ i. record (live_state m) { declared = with_peer m.declared k words; routes = λ j. stays routes_of refl j i; rules = λ j. stays rules_of refl j i };
-      stands = declared_stands peers;
+      stands = declared_stands peers begins;
     };
   }
 
-pub peer_declared : (m v : Moment) (me : Speaker) (k : ℕ) (words : Speaker) (after : Declaration) (p : DeclaredPeer) (cs : Chains) (before now : Journaled) → v ≡ m → Stands m → refusal m.declared (events.Peer k words) ≡ None
-    → Some me ≡ v.declared.speaker → after ≡ with_peer v.declared k words → Some p ≡ peer_at k after.peers → cs ≡ put_chain k (new_chain me p.words) v.chains → now ≡ with_entries before (begin_entries k)
-    → LeadsIn Inward (peer_links v.chains) (begin_entries k) (peer_links cs) → IsPeers cs → Pushes (HasStepped m (events.Peer k words) 0 (record v { declared = after; chains = cs })) before now
-peer_declared m v me k words after p cs before now view stands admitted local added there put lines leads peers =
-    subst (λ (n : Moment). Pushes (HasStepped n (events.Peer k words) 0 (record v { declared = after; chains = cs })) before now) view (
-      journal_lines (begin_entries k),
-      lines,
-      subst (λ (n : Moment). HasStepped v (events.Peer k words) 0 n (journal_lines (begin_entries k))) (sym is)
-          (peer_stepped v me k words (sym local) (subst Stands (sym view) stands) absent (subst (λ (x : Chains). LeadsIn Inward (peer_links v.chains) (begin_entries k) (peer_links x)) chains leads) (subst IsPeers chains peers)),
+pub peer_declared : (m v : Moment) (me : Speaker) (k : ℕ) (words : Speaker) (after : Declaration) (p : DeclaredPeer) (cs : Chains) (hs : Resolvers) (before j now : Journaled) → v ≡ m → Stands m → refusal m.declared (events.Peer k words) ≡ None
+    → Some me ≡ v.declared.speaker → after ≡ with_peer v.declared k words → Some p ≡ peer_at k after.peers → cs ≡ put_chain k (new_chain me p.words) v.chains → j ≡ with_entries before (begin_entries k)
+    → LeadsIn Inward (peer_links v.chains) (begin_entries k) (peer_links cs) → IsPeers cs → BeginsHops p.words.number v.hops hs j now → Pushes (HasStepped m (events.Peer k words) 0 (record v { declared = after; chains = cs; hops = hs })) before now
+peer_declared m v me k words after p cs hs before j now view stands admitted local added there put lines leads peers begins =
+    subst (λ (n : Moment). Pushes (HasStepped n (events.Peer k words) 0 (record v { declared = after; chains = cs; hops = hs })) before now) view (
+      journal_lines (begin_entries k ++ hop_begins k),
+      hop.lines ∙ ap (λ (x : Journaled). with_entries x (hop_begins k)) lines ∙ with_entries_append before (begin_entries k) (hop_begins k),
+      subst (λ (n : Moment). HasStepped v (events.Peer k words) 0 n (journal_lines (begin_entries k ++ hop_begins k))) (sym is)
+          (peer_stepped v me k words (sym local) (subst Stands (sym view) stands) absent (subst (λ (x : Chains). LeadsIn Inward (peer_links v.chains) (begin_entries k) (peer_links x)) chains leads) (subst IsPeers chains peers)
+          (subst (λ (x : Resolvers). BeginsWith k v.hops x) hop.after (record { leads = hop.leads; counted = hop.counted; agree = hop.agree; sound = hop.sound }))),
     )
   where
     absent : peer_at k v.declared.peers ≡ None
     absent = ap (λ (n : Moment). peer_at k n.declared.peers) view ∙ peer_absent m.declared k words admitted
 
+    own : p.words.number ≡ k
+    own = ap (λ (q : DeclaredPeer). q.words.number) (declared_is v.declared after k words p absent added there)
+
+    hop : BeginsHops k v.hops hs j now
+    hop = subst (λ (n : ℕ). BeginsHops n v.hops hs j now) own begins
+
     chains : cs ≡ put_chain k (new_chain me (words_of v.declared.speaker k words)) v.chains
     chains = put ∙ ap (λ (q : DeclaredPeer). put_chain k (new_chain me q.words) v.chains) (declared_is v.declared after k words p absent added there)
 
-    is : record v { declared = after; chains = cs } ≡ declared_peer v me k words
-    is = ap (λ (d : Declaration). record v { declared = d; chains = cs }) added ∙ ap (λ (x : Chains). record v { declared = with_peer v.declared k words; chains = x }) chains
+    is : record v { declared = after; chains = cs; hops = hs } ≡ declared_peer v me k words
+    is = ap (λ (d : Declaration). record v { declared = d; chains = cs; hops = hs }) added ∙ ap (λ (x : Chains). record v { declared = with_peer v.declared k words; chains = x; hops = hs }) chains
+        ∙ ap (λ (x : Resolvers). record v { declared = with_peer v.declared k words; chains = put_chain k (new_chain me (words_of v.declared.speaker k words)) v.chains; hops = x }) hop.after
 
 -- ---- a session begins
 pub peer_at_map : (f : DeclaredPeer → DeclaredPeer) → KeepsWords f → (j : ℕ) (ps : List DeclaredPeer) → peer_at j (map f ps) ≡ option_map f (peer_at j ps)
@@ -278,14 +353,15 @@ edited_one m k rules cs stands e =
     let c : Chained = e.edits.chain in
     let p = peer_of m stands k c e.edits.at in
     record {
-      block = (cs, e.edits, (refl, refl, refl));
+      block = (cs, e, (refl, refl, refl));
       live = record (live_state m) { rules = with_rules (live_state m).rules k rules };
       after = refl;
       keeps = record {
-        leads = leads_inward m cs [] (lead_nothing Inward (peer_links m.chains) (peer_links cs) e.links);
+        leads = leads_inward m cs [] e.quiet (lead_nothing Inward (peer_links m.chains) (peer_links cs) e.links);
         live = live_edited m k c (refiltered rules c) cs e.edits.at e.edits.after refl
             ∙ ap (λ (r : List Rule). record (live_state m) { rules = with_rules (live_state m).rules k r }) (present_edited c.filter.in_force c.filter.walk rules);
-        stands = stands_with m k c (refiltered rules c) cs p.0 stands e.edits.at e.edits.after e.sound refl p.1 (record { words = p.2.words; earlier = p.2.earlier; silent = silent_edited p.0.up c rules p.2.silent });
+        stands = stands_with m k c (refiltered rules c) cs m.registry m.hops p.0 stands e.edits.at e.edits.after e.sound refl p.1 (record { words = p.2.words; earlier = p.2.earlier; silent = silent_edited p.0.up c rules p.2.silent }) refl
+            (hops_quiet m cs stands e.quiet (same_peers m k c (refiltered rules c) cs e.edits.at e.edits.after));
       };
     }
 

@@ -5,7 +5,7 @@ use Rattle.link_change.specs.declared.change.Change.{Change}
 use Rattle.link_change.specs.declared.turn.Turn.{Turn}
 use Rattle.link_change.specs.declared.turn.Turn.TheVariants as turns
 use Rattle.journal_text.specs.declared.link.Task.{Task}
-use Rattle.journal_text.specs.declared.link.Task.TheVariants.{Del, Fin, Rdel}
+use Rattle.journal_text.specs.declared.link.Task.TheVariants.{Del, Fin, Nh, Rdel}
 use Rattle.journal_text.specs.declared.entry.Entry.{Entry}
 use Rattle.journal_text.specs.declared.value.Value.{Value}
 use Rattle.journal_text.specs.declared.line.Line.{Line}
@@ -13,21 +13,25 @@ use Rattle.journal_text.specs.Journals.{Journaled, Adds, flushed}
 use Rattle.in_chain.specs.Chains.{Chained}
 use Rattle.in_chain.specs.Steps.{welded}
 use Rattle.std.specs.Prelude.{IsSome, is_some}
-use Rattle.peer_side.specs.Peers.{Chains, IsPeersBut, chain_at, peer_of, has_peer_work}
-use Rattle.peer_side.specs.Steps.{Nears, TakesInward, WeldsInward, ComesInward}
-use Rattle.rib_route.specs.declared.Proto.{Proto}
+use Rattle.event_text.specs.declared.declared.DeclaredPeer.{DeclaredPeer}
+use Rattle.event_text.specs.Declarations.{peer_at}
+use Rattle.hop_side.specs.Resolvers.{resolver_at}
+use Rattle.hop_side.specs.Steps.{GoesOn}
+use Rattle.peer_side.specs.Peers.{Chains, IsPeersBut, chain_at, put_chain, filt_at, lost_in, peer_of, has_peer_work}
+use Rattle.peer_side.specs.Steps.{Nears, TakesInward, ComesInward}
 use Rattle.router_core.specs.declared.router.Done.TheVariants.{Nothing, Taken}
 use Rattle.router_core.specs.declared.router.Phase.{Phase}
 use Rattle.router_core.specs.declared.router.Phase.TheVariants as phases
-use Rattle.router_core.specs.Moments.{Moment, with_chains}
-use Rattle.router_core.specs.Lives.{live_state}
-use Rattle.router_core.specs.Stands.{IsSilent, PeerStands, Stands, open_session}
-use Rattle.router_core.specs.Phases.{Frame, counts, frame_of, Spends}
-use Rattle.router_core.specs.Turns.{IsPeerTurn, IsTurn, has_work, phase_of, journal_lines}
-use Rattle.router_core.specs.Works.{IsUnit, Comes}
-use Rattle.router_core.proofs.WeldLemmas.{fallen_at, weld_after, weld_keeps, nears_weld, fall_leads, adds_both}
-use Rattle.router_core.proofs.PhaseLemmas.{spends_one}
-use Rattle.router_core.proofs.StandLemmas.{peer_of as peer_at_chain, stands_with, live_same}
+use Rattle.router_core.specs.Moments.{Moment, with_chains, with_hops}
+use Rattle.router_core.specs.Stands.{IsSilent, PeerStands, Stands, HopsCounted, open_session}
+use Rattle.router_core.specs.Phases.{Frame, counts, most_of, rise, risen, tree_lost, Spends}
+use Rattle.router_core.specs.Turns.{IsOfPeers, IsPeerTurn, IsTurn, sent_of, has_work, phase_of, journal_lines}
+use Rattle.router_core.specs.Works.{IsUnit, Comes, SettlesPeer}
+use Rattle.router_core.proofs.WeldLemmas.{fallen_at, weld_after, weld_keeps, nears_weld, adds_both}
+use Rattle.router_core.proofs.HopLemmas.{falls_lead, hops_fall}
+use Rattle.router_core.proofs.PhaseLemmas.{rises_to}
+use Rattle.router_core.proofs.MostLemmas.{capped, most_less}
+use Rattle.router_core.proofs.StandLemmas.{peer_of as peer_at_chain, resolver_there, same_peers, stands_with, live_same}
 
 silent_as : (up : Bool) (c c' : Chained) → c'.incoming.tables.live ≡ c.incoming.tables.live → IsSilent up c → IsSilent up c'
 silent_as true c c' same silent = tt
@@ -37,75 +41,131 @@ silent_as false c c' same silent = same ∙ silent
 turn_of_peer : (task : Task) (m m' : Moment) (said : List Line) → Nears task m.chains m'.chains → IsPeerTurn task m said m' → IsTurn task m said m'
 turn_of_peer (Del k s) m m' said nearer turn = turn
 turn_of_peer (Fin k) m m' said nearer turn = turn
+turn_of_peer (Nh n) m m' said nearer turn = absurd nearer
 turn_of_peer (Rdel proto n) m m' said nearer turn = absurd nearer
 
 -- what it spends
-peer_spends : (f : Frame) (task : Task) (m : Moment) (cs : Chains) → Nears task m.chains cs → Spends f (phase_of task) 1 (counts m) (counts (with_chains m cs))
-peer_spends f (Del n s) m cs near = spends_one f phases.Del (counts m) (counts (with_chains m cs)) (let a = near.0 in omega (arith, a)) less
+peer_spends : (f : Frame) (task : Task) (m m' : Moment) → m'.tree ≡ m.tree → Nears task m.chains m'.chains → counts m' phases.Nh ≤ f.most → Spends f (phase_of task) 1 (counts m) (counts m')
+peer_spends f (Del n s) m m' tree near capped = record { falls = let a = near.0 in omega (arith, a); rises = more }
   where
-    less : (e : Phase) → counts (with_chains m cs) e ≤ counts m e
-    less phases.Rdel = omega arith
-    less phases.Del = let a = near.0 in omega (arith, a)
-    less phases.Fin = near.1
-peer_spends f (Fin n) m cs near = spends_one f phases.Fin (counts m) (counts (with_chains m cs)) (let b = near.1 in omega (arith, b)) less
+    more : (e : Phase) → counts m' e ≤ risen (rise f phases.Del e) 1 (counts m e)
+    more phases.Rdel = let e : tree_lost m'.tree ≡ tree_lost m.tree = ap tree_lost tree in omega (arith, e)
+    more phases.Del = let a = near.0 in omega (arith, a)
+    more phases.Fin = let b = near.1 in omega (arith, b)
+    more phases.Nh = rises_to f.most (counts m' phases.Nh) (counts m phases.Nh) capped
+peer_spends f (Fin n) m m' tree near capped = record { falls = let b = near.1 in omega (arith, b); rises = more }
   where
-    less : (e : Phase) → counts (with_chains m cs) e ≤ counts m e
-    less phases.Rdel = omega arith
-    less phases.Del = let a = near.0 in omega (arith, a)
-    less phases.Fin = let b = near.1 in omega (arith, b)
-peer_spends f (Rdel proto n) m cs near = absurd near
+    more : (e : Phase) → counts m' e ≤ risen (rise f phases.Fin e) 1 (counts m e)
+    more phases.Rdel = let e : tree_lost m'.tree ≡ tree_lost m.tree = ap tree_lost tree in omega (arith, e)
+    more phases.Del = let a = near.0 in omega (arith, a)
+    more phases.Fin = let b = near.1 in omega (arith, b)
+    more phases.Nh = rises_to f.most (counts m' phases.Nh) (counts m phases.Nh) capped
+peer_spends f (Nh n) m m' tree near capped = absurd near
+peer_spends f (Rdel proto n) m m' tree near capped = absurd near
 
--- a turn in a peer's chain and the weld behind it are one of the router
-unit_done : (task : Task) (sent : Option (Change Route)) (m : Moment) (fallen cs : Chains) (entries weld : List (Entry Value)) → Stands m → TakesInward task sent m.chains fallen entries → WeldsInward (peer_of task) fallen cs weld
-    → IsUnit task m (with_chains m cs) (journal_lines (entries ++ weld))
-unit_done task sent m fallen cs entries weld stands t w =
-    let k : ℕ = peer_of task in
-    let c : Chained = t.turn.chain in
-    let c' : Chained = welded t.turn.turned_chain in
-    let after = weld_after k m.chains fallen cs t.turn.turned_chain weld t.turn.after w.welds in
-    let near : Nears task m.chains cs = nears_weld task k m.chains fallen cs weld t.nearer w in
-    let p = peer_at_chain m stands k c t.turn.at in
-    let earlier = weld_keeps k m.chains fallen cs t.turn.turned_chain weld t.turn.after w (open_session p.0) (t.leaves.before (open_session p.0) p.2.earlier) in
-    let here : PeerStands p.0 c' = record { words = t.leaves.peer ∙ p.2.words; earlier = earlier; silent = silent_as p.0.up c c' t.leaves.live p.2.silent } in
-    record {
-      turn = turn_of_peer task m (with_chains m cs) (journal_lines (entries ++ weld)) near (sent, record { fallen = fallen; entries = entries; part = t.turn; chains = cs; weld = weld; welds = w.welds; lines = refl; after = refl });
+-- no task of a peer has more rows lost than before
+lost_less : (task : Task) (a a' : Chains) → Nears task a a' → lost_in a' ≤ lost_in a
+lost_less (Del k s) a a' near = let l = near.0 in omega (arith, l)
+lost_less (Fin k) a a' near = let l = near.0 in omega (arith, l)
+lost_less (Nh k) a a' near = absurd near
+lost_less (Rdel proto n) a a' near = absurd near
+
+-- a turn in a peer's chain, and what follows it, are one of the router
+unit_done : (task : Task) (sent : Option (Change Route)) (m : Moment) (fallen : Chains) (m' : Moment) (entries rest : List (Entry Value)) → Stands m → TakesInward task sent m.chains fallen entries
+    → SettlesPeer (peer_of task) sent (with_chains m fallen) m' rest → IsUnit task m m' (journal_lines (entries ++ rest))
+unit_done task sent m fallen m' entries rest stands t w =
+    subst (λ (n : Moment). IsUnit task m n (journal_lines (entries ++ rest))) (sym w.after)
+    (subst (λ (es : List (Entry Value)). IsUnit task m after (journal_lines (entries ++ es))) (sym w.lines) (record {
+      turn = turn_of_peer task m after (journal_lines (entries ++ (w.resolved ++ w.weld))) near
+          (sent, record { fallen = fallen; entries = entries; part = t; resolved = w.resolved; below = w.below; weld = w.weld; welds = w.welds; lines = refl; after = refl });
       work = record {
         keeps = record {
-          leads = fall_leads m fallen cs entries weld t.fall.leads w.step.leads;
-          live = live_same m k c c' cs t.turn.at after t.leaves.live t.leaves.rules;
-          stands = stands_with m k c c' cs p.0 stands t.turn.at after w.step.sound t.leaves.me p.1 here;
+          leads = falls_lead m fallen m'.chains m'.registry m'.hops entries w.resolved w.weld t.fall.leads goes.leads w.welds.step.leads quiet;
+          live = live_same m k c c' m'.chains t.turn.at put t.leaves.live t.leaves.rules;
+          stands = then;
         };
-        spends = peer_spends (frame_of (live_state m)) task m cs near;
+        spends = λ f within. peer_spends f task m after refl near (let most = capped after then in omega (arith, most, less, within));
+        within = less;
       };
-    }
+    }))
+  where
+    k : ℕ
+    k = peer_of task
+
+    c : Chained
+    c = t.turn.chain
+
+    c' : Chained
+    c' = welded t.turn.turned_chain
+
+    after : Moment
+    after = with_hops (with_chains m m'.chains) m'.registry m'.hops
+
+    put : m'.chains ≡ put_chain (peer_of task) (welded t.turn.turned_chain) m.chains
+    put = weld_after (peer_of task) m.chains fallen m'.chains t.turn.turned_chain w.weld t.turn.after w.welds.welds
+
+    quiet : filt_at m'.chains ≡ filt_at fallen
+    quiet i j = w.welds.quiet j i
+
+    near : Nears task m.chains m'.chains
+    near = nears_weld task (peer_of task) m.chains fallen m'.chains w.weld t.nearer w.welds
+
+    goes : GoesOn (peer_of task) t.changes.0 w.below.below m.hops m'.hops w.resolved (filt_at m.chains) (filt_at fallen)
+    goes = w.below.goes (filt_at m.chains) (filt_at fallen) t.changes.0 (stands.own HopsCounted) (record { here = t.changes.1.rows; others = t.changes.1.others })
+
+    p : (q : DeclaredPeer) × (peer_at (peer_of task) m.declared.peers ≡ Some q) × PeerStands q t.turn.chain
+    p = peer_at_chain m stands (peer_of task) t.turn.chain t.turn.at
+
+    here : PeerStands p.0 (welded t.turn.turned_chain)
+    here =
+        let earlier = weld_keeps (peer_of task) m.chains fallen m'.chains t.turn.turned_chain w.weld t.turn.after w.welds (open_session p.0) (t.leaves.before (open_session p.0) p.2.earlier) in
+        record { words = t.leaves.peer ∙ p.2.words; earlier = earlier; silent = silent_as p.0.up t.turn.chain (welded t.turn.turned_chain) t.leaves.live p.2.silent }
+
+    then : Stands (with_hops (with_chains m m'.chains) m'.registry m'.hops)
+    then = stands_with m (peer_of task) t.turn.chain (welded t.turn.turned_chain) m'.chains m'.registry m'.hops p.0 stands t.turn.at put w.welds.step.sound t.leaves.me p.1 here w.below.agreed.others.rows
+        (hops_fall m (peer_of task) fallen m'.chains m'.registry m'.hops stands w.below.agreed goes.counted quiet (resolver_there m stands (peer_of task) t.turn.chain t.turn.at) (same_peers m (peer_of task) t.turn.chain (welded t.turn.turned_chain) m'.chains t.turn.at put))
+
+    less : most_of (with_hops (with_chains m m'.chains) m'.registry m'.hops) ≤ most_of m
+    less = most_less m (peer_of task) t.turn.chain (welded t.turn.turned_chain) m'.chains t.turn.at put t.leaves.live (lost_less task m.chains m'.chains near)
 
 -- a turn that was taken, whether a change came out on `filt.K` or not
-took : (task : Task) (a fallen : Chains) (before j : Journaled) (turn : Turn Route) → (turn ≡ turns.Nothing → ⊥) → ComesInward task a fallen before j turn → (sent : Option (Change Route)) × Adds (TakesInward task sent a fallen) before j
+took : (task : Task) (a fallen : Chains) (before j : Journaled) (turn : Turn Route) → (turn ≡ turns.Nothing → ⊥) → ComesInward task a fallen before j turn → Adds (TakesInward task (sent_of turn) a fallen) before j
 took task a fallen before j turns.Nothing some t = absurd (some refl)
-took task a fallen before j turns.Quiet some t = (None, t)
-took task a fallen before j (turns.Sent change) some t = (Some change, t)
+took task a fallen before j turns.Quiet some t = t
+took task a fallen before j (turns.Sent change) some t = t
 
-pub peer_took : (task : Task) (m v : Moment) (fallen cs : Chains) (before j l now : Journaled) (turn : Turn Route) → (turn ≡ turns.Nothing → ⊥) → v ≡ m → Stands m → ComesInward task v.chains fallen before j turn → Adds (WeldsInward (peer_of task) fallen cs) j l
-    → now ≡ flushed l → Comes task m (with_chains v cs) before now Taken
-peer_took task m v fallen cs before j l now turn some view stands comes w is =
+pub settled_same : (k j : ℕ) (sent other : Option (Change Route)) (m m' : Moment) (before now : Journaled) → k ≡ j → sent ≡ other → Adds (SettlesPeer k sent m m') before now → Adds (SettlesPeer j other m m') before now
+settled_same k j sent other m m' before now same is s =
+    subst (λ (x : Option (Change Route)). Adds (SettlesPeer j x m m') before now) is (subst (λ (n : ℕ). Adds (SettlesPeer n sent m m') before now) same s)
+
+pub peer_took : (task : Task) (m v : Moment) (fallen : Chains) (m' : Moment) (before j l now : Journaled) (turn : Turn Route) → (turn ≡ turns.Nothing → ⊥) → v ≡ m → Stands m → ComesInward task v.chains fallen before j turn
+    → Adds (SettlesPeer (peer_of task) (sent_of turn) (with_chains v fallen) m') j l → now ≡ flushed l → Comes task m m' before now Taken
+peer_took task m v fallen m' before j l now turn some view stands comes w is =
     let t = took task v.chains fallen before j turn some comes in
-    subst (λ (n : Moment). Comes task n (with_chains v cs) before now Taken) view
-    (journal_lines (t.1.0 ++ w.0), is ∙ ap flushed (adds_both before j l t.1.0 w.0 t.1.1 w.1), unit_done task t.0 v fallen cs t.1.0 w.0 (subst Stands (sym view) stands) t.1.2 w.2)
+    subst (λ (n : Moment). Comes task n m' before now Taken) view
+    (journal_lines (t.0 ++ w.0), is ∙ ap flushed (adds_both before j l t.0 w.0 t.1 w.1), unit_done task (sent_of turn) v fallen m' t.0 w.0 (subst Stands (sym view) stands) t.2 w.2)
 
--- what its weld asks for
+-- what follows it asks for
 pub peer_fallen : (task : Task) (a fallen : Chains) (before j : Journaled) (turn : Turn Route) → (turn ≡ turns.Nothing → ⊥) → ComesInward task a fallen before j turn → IsPeersBut (peer_of task) fallen × IsSome (chain_at (peer_of task) fallen)
 peer_fallen task a fallen before j turn some comes =
     let t = took task a fallen before j turn some comes in
-    (t.1.2.fall.sound, ap is_some (fallen_at (peer_of task) a fallen t.1.2.turn.turned_chain t.1.2.turn.after))
+    (t.2.fall.sound, ap is_some (fallen_at (peer_of task) a fallen t.2.turn.turned_chain t.2.turn.after))
+
+-- a peer that takes a turn has a resolver
+pub peer_resolves : (task : Task) (m v : Moment) (fallen : Chains) (before j : Journaled) (turn : Turn Route) → (turn ≡ turns.Nothing → ⊥) → v ≡ m → Stands m → ComesInward task v.chains fallen before j turn → IsSome (resolver_at (peer_of task) v.hops)
+peer_resolves task m v fallen before j turn some view stands comes =
+    let t = took task v.chains fallen before j turn some comes in
+    resolver_there v (subst Stands (sym view) stands) (peer_of task) t.2.turn.chain t.2.turn.at
 
 -- where there is no work
-rests : (task : Task) (m : Moment) → ((proto : Proto) (n : ℕ) → task ≡ Rdel proto n → ⊥) → has_peer_work m.chains task ≡ false → has_work task m ≡ false
-rests (Del k s) m other none = none
-rests (Fin k) m other none = none
-rests (Rdel proto n) m other none = absurd (other proto n refl)
+rests : (task : Task) (m : Moment) → IsOfPeers task → has_peer_work m.chains task ≡ false → has_work task m ≡ false
+rests (Del k s) m of none = none
+rests (Fin k) m of none = none
+rests (Nh k) m of none = absurd of
+rests (Rdel proto n) m of none = absurd of
 
-pub peer_rests : (task : Task) (m v : Moment) (cs : Chains) (before j : Journaled) (turn : Turn Route) → ((proto : Proto) (n : ℕ) → task ≡ Rdel proto n → ⊥) → turn ≡ turns.Nothing → v ≡ m → ComesInward task v.chains cs before j turn
+pub peer_rests : (task : Task) (m v : Moment) (cs : Chains) (before j : Journaled) (turn : Turn Route) → IsOfPeers task → turn ≡ turns.Nothing → v ≡ m → ComesInward task v.chains cs before j turn
     → Comes task m (with_chains v cs) before j Nothing
-peer_rests task m v cs before j turn other is view t =
+peer_rests task m v cs before j turn of is view t =
     let rest : ComesInward task v.chains cs before j turns.Nothing = subst (ComesInward task v.chains cs before j) is t in
-    (subst (λ (n : Moment). has_work task n ≡ false) view (rests task v other rest.0), ap (with_chains v) rest.1 ∙ view, rest.2)
+    (subst (λ (n : Moment). has_work task n ≡ false) view (rests task v of rest.0), ap (with_chains v) rest.1 ∙ view, rest.2)

@@ -65,3 +65,10 @@ over_more f r n c d (e ∷ es) x flat over = (stays_over f r e n c d flat.0 x ov
 -- a turn that adds to no phase
 pub spends_one : (f : Frame) (r : Phase) (c d : Counts) → d r + 1 ≤ c r → ((e : Phase) → d e ≤ c e) → Spends f r 1 c d
 spends_one f r c d falls rest = record { falls = falls; rises = λ e. let p = rest e in let q = risen_least (rise f r e) 1 (c e) in omega (arith, p, q) }
+
+-- up to a cap
+pub rises_to : (cap n c : ℕ) → n ≤ cap → n ≤ risen (UpTo cap) 1 c
+rises_to cap n c most = omega (arith, most)
+
+pub risen_capped : (cap n c : ℕ) → c ≤ cap → risen (UpTo cap) n c ≤ cap
+risen_capped cap n c most = elim (nat_lt 0 n) as (λ v. cond v (c + (cap - c)) c ≤ cap) [ true ↦ omega (arith, most) | false ↦ most ]

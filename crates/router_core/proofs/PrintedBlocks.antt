@@ -37,19 +37,27 @@ use Rattle.journal_text.specs.declared.value.Value.{Value}
 use Rattle.journal_check.specs.Laws.{IsPrefix, IsMatch}
 use Rattle.journal_laws.specs.Printed.{IsPrinted}
 use Rattle.journal_laws.specs.Standing.{AreTablesOf, IsInteriorRow, WasHeard, IsPrintableChain}
-use Rattle.journal_laws.proofs.PrintedRows.{AreFit, IsFit, PrintsIfAny, none_printable, fed_fit, lost_printable, edited_printable, chain_prints, rib_prints}
+use Rattle.journal_laws.proofs.PrintedRows.{AreFit, IsFit, Prints, PrintsIfAny, live_prints, filt_prints, none_printable, fed_fit, lost_printable, edited_printable, chain_prints, rib_prints}
 use Rattle.journal_laws.proofs.PrintedWays.{Heard, route_way}
 use Rattle.journal_laws.proofs.PrintedLines.{plain_printed, note_printed, answer_printed, rows_printed}
 use Rattle.journal_laws.proofs.DeclaredPeers.{IsKnown, known_peer}
 use Rattle.journal_laws.specs.Peers.{words_in, neighbours}
 use Rattle.link_region.specs.declared.regions.Region.{Region}
-use Rattle.link_region.specs.declared.regions.Region.TheVariants.{Inward, InteriorRoutes, Forward, Elsewhere}
+use Rattle.link_region.specs.declared.regions.Region.TheVariants.{Inward, Resolved, InteriorRoutes, Forward, Elsewhere}
 use Rattle.link_region.specs.Regions.{region_of}
 use Rattle.loss_chain.proofs.ListLemmas.{all_both}
 use Rattle.in_chain.specs.Chains.{Chained}
 use Rattle.policy_rules.specs.declared.rule.Rule.{Rule}
 use Rattle.policy_rules.specs.Ranges.{AreRules, IsRule}
-use Rattle.peer_side.specs.Peers.{chain_at, overdue_at, links_by}
+use Rattle.std.specs.FinMap.{get-empty}
+use Rattle.std.specs.Ordering.{nat_cmp}
+use Rattle.journal_text.specs.Values.{route_value}
+use Rattle.nexthop_known.specs.declared.answer.Hop.{Hop}
+use Rattle.nexthop_resolver.specs.declared.rows.Metric.{Metric}
+use Rattle.nexthop_resolver.specs.Resolving.{Resolving, nothing_known}
+use Rattle.hop_side.specs.Resolvers.{resolver_at, link_by, hop_links, metric_rows}
+use Rattle.router_core.proofs.PrintedHops.{AllHaveMetrics, rows_print, metrics_put}
+use Rattle.peer_side.specs.Peers.{chain_at, filt_by, filt_at, overdue_at, links_by}
 use Rattle.journal_text.specs.Links.{owner_of}
 use Rattle.peer_side.proofs.PutLemmas.{put_each}
 use Rattle.rib_tree.specs.Branches.{Branch}
@@ -60,11 +68,11 @@ use Rattle.rib_tree.specs.Trees.{branch_of, int_rows, AreNumbered}
 use Rattle.router_core.specs.Moments.{Moment, parts, rib_by, router_links}
 use Rattle.router_core.specs.Printable.{IsPrintableMoment}
 use Rattle.live_state.specs.Messages.{plain, Says, changes_of, announced_with, withdrawn_from}
-use Rattle.router_core.specs.Stands.{Stands, EachChain, InteriorTree}
+use Rattle.router_core.specs.Stands.{Stands, EachChain, InteriorTree, HopsCounted}
 use Rattle.router_core.specs.Phases.{all_phases}
 use Rattle.router_core.specs.Turns.{journal_lines, FallsRoute}
 use Rattle.router_core.specs.Blocks.{Just, begin_line, Loses, Declares, Refilters, DropsRouteIf, LosesProtocol, CoversAddress, Hears, BeginsIf, EndsIf, HearsIf, answer_lines, Shows, ByPeer, IsBlock}
-use Rattle.router_core.proofs.StandLemmas.{peer_of}
+use Rattle.router_core.proofs.StandLemmas.{peer_of, registered_rows}
 use Rattle.rib_tree.proofs.TreeParts.{put_all}
 use Rattle.router_core.proofs.PrintedTurns.{Fit, Goes, IsSaid, feeds_go, route_goes, turns_go, phases_go, first_goes}
 
@@ -72,6 +80,7 @@ use Rattle.router_core.proofs.PrintedTurns.{Fit, Goes, IsSaid, feeds_go, route_g
 pub record Leaves (peers : ℕ → Option Neighbour) (m' : Moment) (said : List Line) : Type 0 where
   pub chains : (k : ℕ) (c : Chained) → chain_at k m'.chains ≡ Some c → IsPrintableChain plain c
   pub interior : (proto : Proto) → AreTablesOf IsInteriorRow (branch_of proto m'.tree).tables
+  pub hops : AllHaveMetrics m'.hops
   pub printed : AllByRecursion (IsPrinted peers) said
 
 module _ (m : Moment) (stands : Stands m) (printable : IsPrintableMoment m) where
@@ -110,10 +119,14 @@ module _ (m : Moment) (stands : Stands m) (printable : IsPrintableMoment m) wher
     chains = chain_fit;
     interior = λ proto. record { printable = printable.interior proto; rising = ((stands.own InteriorTree).tree.each proto).chain.rising };
     few = few;
+    placed = λ k c there. (stands.own EachChain k c there).number;
+    counted = stands.own HopsCounted;
+    registered = registered_rows m stands;
+    metrics = printable.hops;
   }
 
   stays : (said : List Line) (m' : Moment) → m' ≡ m → Printed said → Leaves (neighbours m.declared) m' said
-  stays said m' same printed = subst (λ (x : Moment). Leaves (neighbours m.declared) x said) (sym same) (record { chains = printable.chains; interior = printable.interior; printed = printed })
+  stays said m' same printed = subst (λ (x : Moment). Leaves (neighbours m.declared) x said) (sym same) (record { chains = printable.chains; interior = printable.interior; hops = printable.hops; printed = printed })
 
   just : (these : List Line) (then : Moment) (said : List Line) (turns : ℕ) (m' : Moment) → Just these then said turns m' → Leaves (neighbours m.declared) then these → Leaves (neighbours m.declared) m' said
   just these then said turns m' is leaves =
@@ -137,12 +150,26 @@ module _ (m : Moment) (stands : Stands m) (printable : IsPrintableMoment m) wher
       by_chain None at = λ rows p v none is. absurd (cc)
       by_chain (Some c) at = chain_prints (neighbours m.declared) plain c (chain_fit (owner_of link) c at).0 link
 
+      by_resolver : (k : ℕ) (o : Option (Resolving Metric)) → resolver_at k m.hops ≡ o → PrintsIfAny (neighbours m.declared) (link_by o (filt_at m.chains k))
+      by_resolver k None at = λ rows p v none is. absurd (cc)
+      by_resolver k (Some s) at = live_prints (neighbours m.declared) route_value (metric_rows s (filt_at m.chains k))
+          (rows_print (neighbours m.declared) (Some s) (filt_at m.chains k) (λ t is. printable.hops k t (at ∙ is)) (by_filter k (chain_at k m.chains) refl))
+        where
+          by_filter : (k : ℕ) (o : Option Chained) → chain_at k m.chains ≡ o → Prints (neighbours m.declared) route_value (filt_by o)
+          by_filter k None at = λ p row is. absurd (cc)
+          by_filter k (Some c) at = filt_prints (neighbours m.declared) plain c (chain_fit k c at).0
+
+      by_link : (l : Link) → PrintsIfAny (neighbours m.declared) (hop_links m.hops (filt_at m.chains) l)
+      by_link (links.Res k) = by_resolver k (resolver_at k m.hops) refl
+      by_link other = λ rows p v none is. absurd (cc)
+
       by_speaker : (s : Option Speaker) → PrintsIfAny (neighbours m.declared) (rib_by s m.tree link)
       by_speaker None = λ rows p v none is. absurd (cc)
       by_speaker (Some me) = rib_prints (neighbours m.declared) m.tree printable.interior link
 
       by_region : (r : Region) → PrintsIfAny (neighbours m.declared) (parts m r link)
       by_region Inward = by_chain (chain_at (owner_of link) m.chains) refl
+      by_region Resolved = by_link link
       by_region InteriorRoutes = by_speaker m.declared.speaker
       by_region Forward = by_speaker m.declared.speaker
       by_region Elsewhere = λ rows p v none is. absurd (cc)
@@ -174,24 +201,25 @@ module _ (m : Moment) (stands : Stands m) (printable : IsPrintableMoment m) wher
     start = fit_at 4294967294 few
 
     gone : (said : List Line) (m' : Moment) → Goes (neighbours m.declared) 4294967294 m said m' → Leaves (neighbours m.declared) m' said
-    gone said m' goes = let x = goes start in record { chains = λ k c there. (x.0.chains k c there).0.printable; interior = λ proto. (x.0.interior proto).printable; printed = x.1 }
+    gone said m' goes = let x = goes start in record { chains = λ k c there. (x.0.chains k c there).0.printable; interior = λ proto. (x.0.interior proto).printable; hops = x.0.metrics; printed = x.1 }
 
     -- ---- losses of sessions
     lost : (k s : ℕ) (said : List Line) (m' : Moment) → IsNameNumber s → Loses k s m said m' → Leaves (neighbours m.declared) m' said
     lost k s said m' session l =
         let x = first_goes (neighbours m.declared) 4294967294 (overdue_at k m.chains) m l.first l.room l.runs start in
         let i = l.loses in
-        let c = i.part.chain in
-        let own = (x.0.chains k c i.part.at).0 in
-        let begins : Printed l.last = subst Printed (sym (i.lines ∙ ap journal_lines i.part.lines)) (elim (is_empty_map c.incoming.tables.live) as (λ (b : Bool). Printed (journal_lines (cond b [] (entries.Begin (links.Peer c.incoming.number s) ∷ [])))) [
+        let c = i.part.loses.chain in
+        let own = (x.0.chains k c i.part.loses.at).0 in
+        let begins : Printed l.last = subst Printed (sym (i.lines ∙ ap journal_lines i.part.loses.lines)) (elim (is_empty_map c.incoming.tables.live) as (λ (b : Bool). Printed (journal_lines (cond b [] (entries.Begin (links.Peer c.incoming.number s) ∷ [])))) [
           | true ↦ tt
           | false ↦ (begun (links.Peer c.incoming.number s) (own.named, session), tt)
         ]) in
         let chains = put_each (λ j d. IsPrintableChain plain d) k _ l.room.chains
         (record { tables = lost_printable (Heard (neighbours m.declared) plain c) s c.incoming.tables session own.printable.tables; in_force = own.printable.in_force; walk = own.printable.walk }) (λ j d there. (x.0.chains j d there).0.printable) in
         subst (λ (n : Moment). Leaves (neighbours m.declared) n said) (sym l.after) (record {
-          chains = subst (λ (n : Moment). (j : ℕ) (d : Chained) → chain_at j n.chains ≡ Some d → IsPrintableChain plain d) (sym (i.after ∙ ap (λ a. record l.room { chains = a }) i.part.after)) chains;
+          chains = subst (λ (n : Moment). (j : ℕ) (d : Chained) → chain_at j n.chains ≡ Some d → IsPrintableChain plain d) (sym (i.after ∙ ap (λ a. record l.room { chains = a }) i.part.loses.after)) chains;
           interior = subst (λ (n : Moment). (proto : Proto) → AreTablesOf IsInteriorRow (branch_of proto n.tree).tables) (sym i.after) (λ proto. (x.0.interior proto).printable);
+          hops = subst (λ (n : Moment). AllHaveMetrics n.hops) (sym i.after) x.0.metrics;
           printed = subst Printed (sym l.lines) (all_both (IsPrinted (neighbours m.declared)) l.first l.last x.1 begins);
         })
 
@@ -225,7 +253,7 @@ module _ (m : Moment) (stands : Stands m) (printable : IsPrintableMoment m) wher
     heard k p octets messages.Notification said m' at up are says hears = lost k p.session said m' (session_named k p at up) hears
     heard k p octets (messages.Notify n) said m' at up are says hears =
         let l = lost k p.session hears.0 m' (session_named k p at up) hears.2 in
-        record { chains = l.chains; interior = l.interior; printed = subst Printed (sym hears.1) (note_printed (neighbours m.declared) k _ (named_by k p at) hears.3.each hears.3.few, l.printed) }
+        record { chains = l.chains; interior = l.interior; hops = l.hops; printed = subst Printed (sym hears.1) (note_printed (neighbours m.declared) k _ (named_by k p at) hears.3.each hears.3.few, l.printed) }
 
     -- ---- interior routes
     fed : (proto : Proto) (p : Network) (row : Option Interior) (said : List Line) (m' : Moment) → IsPrefix p → IfSome row (IsInteriorRow p) → FallsRoute m (fed_tree m.tree proto p row) proto p (way_of_route proto m.tree) said m'
@@ -250,6 +278,7 @@ module _ (m : Moment) (stands : Stands m) (printable : IsPrintableMoment m) wher
         subst (λ (n : Moment). Leaves (neighbours m.declared) n said) (sym l.after) (record {
           chains = λ k c there. (x.0.chains k c there).0.printable;
           interior = put_all (λ (y : Branch). AreTablesOf IsInteriorRow y.tables) proto (lost_branch b) l.room.tree (lost_printable IsInteriorRow (b.losses + 1) b.tables named (x.0.interior proto).printable) (λ other. (x.0.interior other).printable);
+          hops = x.0.metrics;
           printed = subst Printed (sym l.lines) (all_both (IsPrinted (neighbours m.declared)) l.first _ x.1 begins);
         })
 
@@ -266,18 +295,19 @@ module _ (m : Moment) (stands : Stands m) (printable : IsPrintableMoment m) wher
     declared (Some me) k words said turns m' named is = just _ _ said turns m' is (record {
       chains = put_each (λ j c. IsPrintableChain plain c) k _ m.chains (record { tables = none_printable _; in_force = All-nil (IsRule false); walk = tt }) printable.chains;
       interior = printable.interior;
-      printed = (begun (links.In k) named, (begun (links.Filt k) named, tt));
+      hops = metrics_put k (nothing_known k) m.hops _ refl (λ a h at. absurd (let none = get-empty {X = Hop Metric} nat_cmp a in cc)) printable.hops;
+      printed = (begun (links.In k) named, (begun (links.Filt k) named, (begun (links.Res k) named, tt)));
     })
 
     refiltered : (k : ℕ) (rules : List Rule) (said : List Line) (turns : ℕ) (m' : Moment) → AreRules false rules → Refilters k rules m said turns m' → Leaves (neighbours m.declared) m' said
     refiltered k rules said turns m' are is =
-        let e = is.1 in
+        let e = is.1.edits in
         let chains = put_each (λ j c. IsPrintableChain plain c) k _ m.chains (edited_printable plain e.chain rules (printable.chains k e.chain e.at) are) printable.chains in
-        just [] _ said turns m' is.2 (record { chains = subst (λ a. (j : ℕ) (c : Chained) → chain_at j a ≡ Some c → IsPrintableChain plain c) (sym e.after) chains; interior = printable.interior; printed = tt })
+        just [] _ said turns m' is.2 (record { chains = subst (λ a. (j : ℕ) (c : Chained) → chain_at j a ≡ Some c → IsPrintableChain plain c) (sym e.after) chains; interior = printable.interior; hops = printable.hops; printed = tt })
 
     begun_if : (up : Bool) (k : ℕ) (said : List Line) (turns : ℕ) (m' : Moment) → BeginsIf up m k said turns m' → Leaves (neighbours m.declared) m' said
     begun_if true k said turns m' is = just _ m said turns m' is (stays _ m refl (ignored, tt))
-    begun_if false k said turns m' is = just [] _ said turns m' is (record { chains = printable.chains; interior = printable.interior; printed = tt })
+    begun_if false k said turns m' is = just [] _ said turns m' is (record { chains = printable.chains; interior = printable.interior; hops = printable.hops; printed = tt })
 
     ended_if : (up : Bool) (k : ℕ) (p : DeclaredPeer) (said : List Line) (turns : ℕ) (m' : Moment) → p.up ≡ up → peer_at k m.declared.peers ≡ Some p → EndsIf up m k p said turns m' → Leaves (neighbours m.declared) m' said
     ended_if true k p said turns m' up at is = lost k p.session said m' (session_named k p at up) is.1
@@ -296,6 +326,7 @@ module _ (m : Moment) (stands : Stands m) (printable : IsPrintableMoment m) wher
     event_printed (Local words) said turns m' formed is = just _ _ said turns m' is (record {
       chains = printable.chains;
       interior = printable.interior;
+      hops = printable.hops;
       printed = (begun (links.Org Connected) tt, (begun (links.Org Static) tt, (begun (links.Org Ospf) tt, (begun (links.Org Rip) tt, (begun links.Low tt, (begun links.Dyn tt, (begun links.Int tt, (begun links.Fib tt, tt))))))));
     })
     event_printed (Peer k words) said turns m' formed is = declared m.declared.speaker k words said turns m' (formed.0.least, formed.0.fits) is
@@ -317,6 +348,7 @@ module _ (m : Moment) (stands : Stands m) (printable : IsPrintableMoment m) wher
         record {
           chains = λ k c there. (x.0.chains k c there).0.printable;
           interior = λ proto. (x.0.interior proto).printable;
+          hops = x.0.metrics;
           printed = subst Printed (sym is.lines) (
             plain_printed (neighbours m.declared) _ refl refl fits,
             all_both (IsPrinted (neighbours m.declared)) is.inner (lines.Idle turns ∷ []) x.1 (plain_printed (neighbours m.declared) (lines.Idle turns) refl refl (omega (arith, within, fits)), tt),
@@ -329,6 +361,7 @@ module _ (m : Moment) (stands : Stands m) (printable : IsPrintableMoment m) wher
         record {
           chains = λ k c there. (x.0.chains k c there).0.printable;
           interior = λ proto. (x.0.interior proto).printable;
+          hops = x.0.metrics;
           printed = subst Printed (sym is.lines) (all_both (IsPrinted (neighbours m.declared)) is.inner (lines.Work turns ∷ []) x.1 (plain_printed (neighbours m.declared) (lines.Work turns) refl refl (omega (arith, most, low)), tt));
         }
     event_printed (Ask link p) said turns m' formed is = just _ m said turns m' is (stays _ m refl (asked link p formed.0.numbers (formed.1.masked, formed.1.fits) (router_links m link) refl))

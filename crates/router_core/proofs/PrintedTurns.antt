@@ -1,5 +1,5 @@
 -- What falls and turns say can be printed, and so can what stands behind them.
-use Rattle.std.proofs.Common.{◌≡◌, ℕ, zero, suc, not, ◌≤◌, List, [], ◌∷◌, ◌++◌, Option, Some, None, IfSome, sym, ap, subst, ◌∙◌, inr}
+use Rattle.std.proofs.Common.{◌≡◌, ℕ, zero, suc, not, refl, ◌≤◌, List, [], ◌∷◌, ◌++◌, Option, Some, None, IfSome, sym, ap, subst, ◌∙◌, inr}
 use Rattle.std.specs.List.{AllByRecursion}
 use Rattle.addr4.specs.Prefixes.{Network}
 use Rattle.bgp_attr.specs.declared.attrs.Attrs.{Attrs}
@@ -10,22 +10,23 @@ use Rattle.rib_route.specs.declared.rows.FibRow.{FibRow}
 use Rattle.link_change.specs.Rows.{Rows}
 use Rattle.link_change.specs.Changes.{IsSent}
 use Rattle.link_change.specs.declared.change.Change.{Change}
-use Rattle.journal_text.specs.Values.{fib_value}
+use Rattle.journal_text.specs.Names.{IsNameNumber}
+use Rattle.journal_text.specs.Values.{fib_value, route_value}
 use Rattle.journal_text.specs.Walk.{no_links}
 use Rattle.journal_text.specs.declared.entry.Entry.{Entry}
 use Rattle.journal_text.specs.declared.value.Value.{Value}
 use Rattle.journal_text.specs.declared.line.Line.{Line}
 use Rattle.journal_text.specs.declared.line.Line.TheVariants as lines
 use Rattle.journal_text.specs.declared.link.Link.{Link}
-use Rattle.journal_text.specs.declared.link.Link.TheVariants.{In, Org, Fib}
+use Rattle.journal_text.specs.declared.link.Link.TheVariants.{In, Org, Fib, Res}
 use Rattle.journal_text.specs.declared.link.Task.{Task}
-use Rattle.journal_text.specs.declared.link.Task.TheVariants.{Del, Fin, Rdel}
-use Rattle.journal_check.specs.Laws.{IsPrefix}
+use Rattle.journal_text.specs.declared.link.Task.TheVariants.{Del, Fin, Nh, Rdel}
+use Rattle.journal_check.specs.Laws.{IsPrefix, IsNumberIfAny}
 use Rattle.journal_laws.specs.Printed.{IsPrinted}
 use Rattle.journal_laws.specs.Standing.{AreTablesOf, IsInteriorRow, WasHeard, IsHeardRow}
 use Rattle.journal_laws.specs.Laws.{AreEachOnce}
 use Rattle.journal_laws.proofs.PrintedFalls.{falls_printed}
-use Rattle.journal_laws.proofs.PrintedRows.{AreFit, IsFit, Prints, fed_fit, swept_fit, welded_fit, fib_prints, beside_tree_prints}
+use Rattle.journal_laws.proofs.PrintedRows.{AreFit, IsFit, Prints, fed_fit, swept_fit, welded_fit, filt_prints, int_prints, fib_prints, beside_tree_prints}
 use Rattle.journal_laws.proofs.PrintedWays.{down_of, table_row, sweep_way, ArePrintedEntries, weld_printed, sent_printed, Heard, with_fit, tables_fit, feed_once, chain_fall, turned_fit}
 use Rattle.loss_chain.specs.declared.owner.Owner.TheVariants as owners
 use Rattle.loss_chain.specs.Steps.{fed_tables, welded_tables}
@@ -33,8 +34,15 @@ use Rattle.loss_chain.proofs.ListLemmas.{all_both, all_made}
 use Rattle.in_chain.specs.Chains.{Chained}
 use Rattle.in_chain.specs.Falls.{way_of_feed}
 use Rattle.in_chain.specs.Steps.{fed, welded, Turned}
-use Rattle.peer_side.specs.Peers.{Chains, chain_at, put_chain, peer_of}
-use Rattle.peer_side.specs.Steps.{FeedsPeer, TurnsPeer, chain_weld_entries}
+use Rattle.std.specs.FinMap as tables
+use Rattle.rib_route.specs.declared.rows.Interior.{Interior}
+use Rattle.register_interest.specs.Registers.{Registry}
+use Rattle.nexthop_resolver.specs.Kept.{metric_of}
+use Rattle.nexthop_resolver.specs.Registered.{answer_of}
+use Rattle.hop_side.specs.Resolvers.{Resolvers, PeerRows, resolver_at, res_at, AllCounted}
+use Rattle.hop_side.specs.Steps.{GoesOn, res_entries}
+use Rattle.peer_side.specs.Peers.{Chains, chain_at, put_chain, filt_by, filt_at, peer_of}
+use Rattle.peer_side.specs.Steps.{FeedsInward, TakesInward, Changes, chain_weld_entries}
 use Rattle.peer_side.proofs.PutLemmas.{put_each}
 use Rattle.rib_merge.specs.Forwards.{forwarded}
 use Rattle.rib_tree.specs.Branches.{Branch}
@@ -43,11 +51,13 @@ use Rattle.rib_tree.specs.Falls.{way_of_sweep}
 use Rattle.rib_tree.specs.Trees.{Treed, branch_of, beside_tree, int_rows, AreNumbered}
 use Rattle.rib_tree.specs.Steps.{swept_tree, tree_weld_entries}
 use Rattle.router_core.specs.declared.router.Phase.{Phase}
-use Rattle.router_core.specs.Moments.{Moment, with_chains}
+use Rattle.router_core.specs.Moments.{Moment, with_chains, with_hops}
 use Rattle.router_core.specs.Blocks.{RunsFirst}
 use Rattle.live_state.specs.Messages.{plain}
-use Rattle.router_core.specs.Turns.{journal_lines, FallsPeer, FeedsAll, fib_entries, FallsRoute, IsPeerTurn, IsRouteTurn, IsTurn, Turns, Runs, RunsPhase, RunsAll}
-use Rattle.router_core.proofs.WeldLemmas.{weld_lines, weld_after}
+use Rattle.router_core.specs.Turns.{journal_lines, Resolves, Invalidates, FallsPeer, FeedsAll, fib_entries, FallsRoute, IsPeerTurn, IsHopTurn, IsRouteTurn, IsTurn, Turns, Runs, RunsPhase, RunsAll}
+use Rattle.router_core.proofs.WeldLemmas.{fallen_at, weld_lines, weld_after}
+use Rattle.router_core.proofs.RouteLemmas.{keeps_up}
+use Rattle.router_core.proofs.PrintedHops.{AllHaveMetrics, rows_print, present_fit, metrics_kept, metrics_turned, metrics_reached, metrics_put}
 use Rattle.rib_tree.proofs.TreeParts.{put_all}
 
 -- where no protocol has lost its routes more often than so
@@ -61,6 +71,10 @@ module _ (peers : ℕ → Option Neighbour) (most : ℕ) where
     pub chains : (k : ℕ) (c : Chained) → chain_at k m.chains ≡ Some c → IsFit peers plain c × (c.peer.number ≡ k)
     pub interior : (proto : Proto) → AreFit IsInteriorRow (branch_of proto m.tree).tables
     pub few : AreNumbered most m.tree
+    pub placed : (k : ℕ) (c : Chained) → chain_at k m.chains ≡ Some c → c.incoming.number ≡ k
+    pub counted : AllCounted (filt_at m.chains) m.hops
+    pub registered : tables.get m.registry.rows ≡ int_rows m.tree
+    pub metrics : AllHaveMetrics m.hops
 
   -- from one moment to another, this is said
   abbrev pub Goes : Moment → List Line → Moment → Type 0
@@ -78,31 +92,86 @@ module _ (peers : ℕ → Option Neighbour) (most : ℕ) where
   lines_printed : (said : List Line) (es : List (Entry Value)) → said ≡ journal_lines es → ArePrintedEntries peers es → AllByRecursion (IsPrinted peers) said
   lines_printed said es is printed = subst (λ (l : List Line). AllByRecursion (IsPrinted peers) l) (sym is) (all_made (IsPrinted peers) (λ (e : Entry Value). lines.Journal e) es printed)
 
-  -- a fall in a chain, and the weld behind it
-  chain_goes : (k : ℕ) (P : Chains → List (Entry Value) → Type 0) (m : Moment) (less : Chained) (said : List Line) (m' : Moment) → IsFit peers plain less → less.peer.number ≡ k → (f : FallsPeer k P m said m') → f.fallen ≡ put_chain k less m.chains
-      → ArePrintedEntries peers f.entries → Goes m said m'
-  chain_goes k P m less said m' own number f after printed fit =
-      let lines_are : f.weld ≡ chain_weld_entries less = weld_lines k m.chains f.fallen f.chains less f.weld after f.welds in
-      let then = weld_after k m.chains f.fallen f.chains less f.weld after f.welds in
-      let welds = weld_printed peers (owners.Peer less.incoming.number) (λ n named. (own.named, named)) (In less.incoming.number) less.incoming.tables.deletions own.named own.printable.tables.losses in
-      let welded_own : IsFit peers plain (welded less) = with_fit peers plain less (welded_tables less.incoming.tables) own (welded_fit (Heard peers plain less) less.incoming.tables (tables_fit peers plain less own)) in (
-        subst Fit (sym (f.after ∙ ap (with_chains m) then)) (record { chains = put_each (λ j c. IsFit peers plain c × (c.peer.number ≡ j)) k (welded less) m.chains (welded_own, number) fit.chains; interior = fit.interior; few = fit.few }),
-        lines_printed said (f.entries ++ f.weld) f.lines (all_both (λ (e : Entry Value). IsPrinted peers (lines.Journal e)) f.entries f.weld printed (subst (ArePrintedEntries peers) (sym lines_are) welds)),
-      )
+  -- ---- next hops
+  -- the rows of `filt.K`, and what the register answers
+  filt_fit : (m : Moment) → Fit m → (k : ℕ) → Prints peers route_value (filt_at m.chains k)
+  filt_fit m fit k = by_chain (chain_at k m.chains) refl
+    where
+      by_chain : (o : Option Chained) → chain_at k m.chains ≡ o → Prints peers route_value (filt_by o)
+      by_chain None at = λ p row is. absurd (cc)
+      by_chain (Some c) at = filt_prints peers plain c (fit.chains k c at).0
+
+  answered : (m : Moment) → Fit m → (a : ℕ) → IsNumberIfAny (answer_of metric_of m.registry a).igp
+  answered m fit = present_fit peers m.registry (int_rows m.tree) fit.registered (int_prints peers m.tree (λ proto. (fit.interior proto).printable))
+
+  resolved_metrics : (k : ℕ) (sent below : Option (Change Route)) (r r' : Registry Interior) (h h' : Resolvers) (entries : List (Entry Value)) → ((a : ℕ) → IsNumberIfAny (answer_of metric_of r a).igp) → Resolves k sent below r r' h h' entries
+      → AllHaveMetrics h → AllHaveMetrics h'
+  resolved_metrics k None below r r' h h' entries fit t metrics = subst AllHaveMetrics (sym t.2) metrics
+  resolved_metrics k (Some change) below r r' h h' entries fit t metrics = metrics_put k t.taken h h' t.after (metrics_kept r t.resolver t.taken fit t.keeps (metrics k t.resolver t.at)) metrics
+
+  -- what a resolver sends, from these rows above it to those
+  res_printed : (k p' : ℕ) (p : Network) (sent : Option (Change Route)) (h h' : Resolvers) (uppers now : PeerRows) → p' ≡ k → IsNameNumber p' → AllHaveMetrics h → AllHaveMetrics h' → Prints peers route_value (uppers k) → Prints peers route_value (now k)
+      → IsSent (res_at h uppers k) (res_at h' now k) p sent → ArePrintedEntries peers (res_entries k sent)
+  res_printed k p' p sent h h' uppers now own named before then above below is = sent_printed peers route_value (Res k) (res_at h uppers k) (res_at h' now k) p sent (subst IsNameNumber own named)
+      (rows_print peers (resolver_at k h) (uppers k) (λ s at. before k s at) above) (rows_print peers (resolver_at k h') (now k) (λ s at. then k s at) below) is
+
+  -- a fall in a chain, what follows it, and the weld behind it
+  chain_goes : (k : ℕ) (sent : Option (Change Route)) (P : Chains → List (Entry Value) → Type 0) (m : Moment) (less : Chained) (said : List Line) (m' : Moment) (p : Network) → IsFit peers plain less → less.peer.number ≡ k → less.incoming.number ≡ k → (f : FallsPeer k sent P m said m')
+      → f.fallen ≡ put_chain k less m.chains → Changes k p sent m.chains f.fallen → ArePrintedEntries peers f.entries → Goes m said m'
+  chain_goes k sent P m less said m' p own number placed f put changes printed fit = (subst Fit (sym f.after) after, lines_printed said (f.entries ++ (f.resolved ++ f.weld)) f.lines (all_both Is f.entries _ printed (all_both Is f.resolved f.weld resolves (subst (ArePrintedEntries peers) (sym lines_are) welds))))
+    where
+      Is : Entry Value → Type 0
+      Is e = IsPrinted peers (lines.Journal e)
+
+      lines_are : f.weld ≡ chain_weld_entries less
+      lines_are = weld_lines k m.chains f.fallen m'.chains less f.weld put f.welds.welds
+
+      then : m'.chains ≡ put_chain k (welded less) m.chains
+      then = weld_after k m.chains f.fallen m'.chains less f.weld put f.welds.welds
+
+      welds : ArePrintedEntries peers (chain_weld_entries less)
+      welds = weld_printed peers (owners.Peer less.incoming.number) (λ n named. (own.named, named)) (In less.incoming.number) less.incoming.tables.deletions own.named own.printable.tables.losses
+
+      welded_own : IsFit peers plain (welded less)
+      welded_own = with_fit peers plain less (welded_tables less.incoming.tables) own (welded_fit (Heard peers plain less) less.incoming.tables (tables_fit peers plain less own))
+
+      goes : GoesOn k p f.below.below m.hops m'.hops f.resolved (filt_at m.chains) (filt_at f.fallen)
+      goes = f.below.goes (filt_at m.chains) (filt_at f.fallen) p fit.counted (record { here = changes.rows; others = changes.others })
+
+      metrics : AllHaveMetrics m'.hops
+      metrics = resolved_metrics k sent f.below.below m.registry m'.registry m.hops m'.hops f.resolved (answered m fit) f.below.resolves fit.metrics
+
+      fallen_prints : Prints peers route_value (filt_at f.fallen k)
+      fallen_prints = subst (λ (o : Option Chained). Prints peers route_value (filt_by o)) (sym (fallen_at k m.chains f.fallen less put)) (filt_prints peers plain less own)
+
+      resolves : ArePrintedEntries peers f.resolved
+      resolves = subst (ArePrintedEntries peers) (sym f.below.lines)
+          (res_printed k less.incoming.number p f.below.below m.hops m'.hops (filt_at m.chains) (filt_at f.fallen) placed own.named fit.metrics metrics (filt_fit m fit k) fallen_prints goes.comes.here)
+
+      after : Fit (with_hops (with_chains m m'.chains) m'.registry m'.hops)
+      after = record {
+        chains = subst (λ (a : Chains). (j : ℕ) (c : Chained) → chain_at j a ≡ Some c → IsFit peers plain c × (c.peer.number ≡ j)) (sym then) (put_each (λ j c. IsFit peers plain c × (c.peer.number ≡ j)) k (welded less) m.chains (welded_own, number) fit.chains);
+        interior = fit.interior;
+        few = fit.few;
+        placed = subst (λ (a : Chains). (j : ℕ) (c : Chained) → chain_at j a ≡ Some c → c.incoming.number ≡ j) (sym then) (put_each (λ j c. c.incoming.number ≡ j) k (welded less) m.chains placed fit.placed);
+        counted = subst (λ (u : PeerRows). AllCounted u m'.hops) (λ i j. sym (f.welds.quiet j) i) goes.counted;
+        registered = ap tables.get f.below.agreed.others.rows ∙ fit.registered;
+        metrics = metrics;
+      }
 
   -- one prefix that a peer said something of
   abbrev pub IsSaid : Neighbour → Network × Option Attrs → Type 0
   IsSaid w change = IsPrefix change.0 × IfSome change.1 (WasHeard plain (not w.internal))
 
-  feed_goes : (k : ℕ) (w : Neighbour) (p : Network) (row : Option Attrs) (sent : Option (Change Route)) (m : Moment) (said : List Line) (m' : Moment) → peers k ≡ Some w → IsSaid w (p, row) → FallsPeer k (FeedsPeer k p row sent m.chains) m said m' → Goes m said m'
+  feed_goes : (k : ℕ) (w : Neighbour) (p : Network) (row : Option Attrs) (sent : Option (Change Route)) (m : Moment) (said : List Line) (m' : Moment) → peers k ≡ Some w → IsSaid w (p, row) → FallsPeer k sent (FeedsInward k p row sent m.chains) m said m' → Goes m said m'
   feed_goes k w p row sent m said m' there is i fit =
-      let f = i.part in
+      let f = i.part.feeds in
       let own = fit.chains k f.chain f.at in
       let who : w ≡ f.chain.peer = one_words w f.chain.peer (sym there ∙ ap peers (sym own.1) ∙ own.0.known) in
       let new = row_heard f.chain.peer p row (subst (λ (x : Neighbour). IsSaid x (p, row)) who is) in
       let less : Chained = fed f.chain p row in
       let less_fit : IsFit peers plain less = with_fit peers plain f.chain (fed_tables f.chain.incoming.tables p row) own.0 (fed_fit (Heard peers plain f.chain) f.chain.incoming.tables p row (tables_fit peers plain f.chain own.0) new) in
-      chain_goes k (FeedsPeer k p row sent m.chains) m less said m' less_fit own.1 i f.after (chain_fall peers plain f.chain own.0 less p (way_of_feed f.chain.incoming) sent i.entries less_fit is.0 (feed_once peers plain f.chain own.0) f.falls) fit
+      chain_goes k sent (FeedsInward k p row sent m.chains) m less said m' p less_fit own.1 (i.part.fall.sound.own less (fallen_at k m.chains i.fallen less f.after)).number i f.after i.part.changes (chain_fall peers plain f.chain own.0 less p (way_of_feed f.chain.incoming) sent i.entries less_fit is.0 (feed_once peers plain f.chain own.0) f.falls) fit
     where
       one_words : (a b : Neighbour) → Some a ≡ Some b → a ≡ b
       one_words a b e = cc
@@ -118,17 +187,50 @@ module _ (peers : ℕ → Option Neighbour) (most : ℕ) where
   turned_peer : (task : Task) (c less : Chained) (sent : Option (Change Route)) (fall : List (Entry Value)) → Turned c less task sent fall → less.peer.number ≡ c.peer.number
   turned_peer (Del k s) c less sent fall t = ap (λ (x : Chained). x.peer.number) t.1.after
   turned_peer (Fin k) c less sent fall t = ap (λ (x : Chained). x.peer.number) t.1.after
+  turned_peer (Nh k) c less sent fall t = absurd t
   turned_peer (Rdel proto n) c less sent fall t = absurd t
 
   peer_turn_goes : (task : Task) (m : Moment) (said : List Line) (m' : Moment) → IsPeerTurn task m said m' → Goes m said m'
   peer_turn_goes task m said m' t fit =
       let i = t.1 in
-      let f = i.part in
+      let f = i.part.turn in
       let own = fit.chains (peer_of task) f.chain f.at in
       let x = turned_fit peers plain f.chain own.0 task f.turned_chain t.0 i.entries f.turned in
-      chain_goes (peer_of task) (TurnsPeer task t.0 m.chains) m f.turned_chain said m' x.0 (turned_peer task f.chain f.turned_chain t.0 i.entries f.turned ∙ own.1) i f.after x.1 fit
+      chain_goes (peer_of task) t.0 (TakesInward task t.0 m.chains) m f.turned_chain said m' i.part.changes.0 x.0 (turned_peer task f.chain f.turned_chain t.0 i.entries f.turned ∙ own.1)
+      (i.part.fall.sound.own f.turned_chain (fallen_at (peer_of task) m.chains i.fallen f.turned_chain f.after)).number i f.after i.part.changes.1 x.1 fit
+
+  -- one turn of the next hops of a peer
+  hop_turn_goes : (k : ℕ) (m : Moment) (said : List Line) (m' : Moment) → IsHopTurn k m said m' → Goes m said m'
+  hop_turn_goes k m said m' t fit =
+      let u = t.turn.turn in
+      let own = fit.chains k t.chain t.at in
+      let goes = t.turn.goes (filt_at m.chains) (ap filt_by t.at) fit.counted in
+      let metrics : AllHaveMetrics m'.hops = metrics_put k u.taken m.hops m'.hops u.after (metrics_turned _ _ m.registry m'.registry u.resolver u.taken t.sent (answered m fit) u.turned (fit.metrics k u.resolver u.at)) fit.metrics in
+      let printed = subst (ArePrintedEntries peers) (sym u.lines) (res_printed k k goes.0 t.sent m.hops m'.hops (filt_at m.chains) (filt_at m.chains) refl (named_by own.0 (fit.placed k t.chain t.at)) fit.metrics metrics (filt_fit m fit k) (filt_fit m fit k) goes.1.comes.here) in (
+        subst Fit (sym t.after) (record {
+          chains = fit.chains;
+          interior = fit.interior;
+          few = fit.few;
+          placed = fit.placed;
+          counted = goes.1.counted;
+          registered = ap tables.get t.turn.agreed.others.rows ∙ fit.registered;
+          metrics = metrics;
+        }),
+        lines_printed said t.entries t.lines printed,
+      )
+    where
+      named_by : IsFit peers plain t.chain → t.chain.incoming.number ≡ k → IsNameNumber k
+      named_by own is = subst IsNameNumber is own.named
 
   -- ---- the tree
+  invalidated_counted : (sent : Option (Change Interior)) (r r' : Registry Interior) (h h' : Resolvers) (uppers : PeerRows) → Invalidates sent r r' h h' → AllCounted uppers h → AllCounted uppers h'
+  invalidated_counted None r r' h h' uppers stays counted = subst (AllCounted uppers) (sym stays.1) counted
+  invalidated_counted (Some change) r r' h h' uppers below counted = below.2.stays.counted uppers counted
+
+  invalidated_metrics : (sent : Option (Change Interior)) (r r' : Registry Interior) (h h' : Resolvers) → Invalidates sent r r' h h' → AllHaveMetrics h → AllHaveMetrics h'
+  invalidated_metrics None r r' h h' stays metrics = subst AllHaveMetrics (sym stays.1) metrics
+  invalidated_metrics (Some change) r r' h h' below metrics = metrics_reached below.0 h h' below.2.reaches metrics
+
   pub route_goes : (m : Moment) (new : Treed) (proto : Proto) (p : Network) (way : List Link) (said : List Line) (m' : Moment) → ((other : Proto) → AreFit IsInteriorRow (branch_of other new).tables) → AreNumbered most new → IsPrefix p → AreEachOnce way
       → FallsRoute m new proto p way said m' → Goes m said m'
   route_goes m new proto p way said m' then few prefix once f fit =
@@ -144,6 +246,10 @@ module _ (peers : ℕ → Option Neighbour) (most : ℕ) where
           chains = fit.chains;
           interior = put_all (λ (b : Branch). AreFit IsInteriorRow b.tables) proto (welded_branch own) new (welded_fit IsInteriorRow own.tables (then proto)) then;
           few = put_all (λ (b : Branch). b.losses ≤ most) proto (welded_branch own) new (few proto) few;
+          placed = fit.placed;
+          counted = invalidated_counted f.sent m.registry m'.registry m.hops m'.hops (filt_at m.chains) f.below_int fit.counted;
+          registered = keeps_up m.registry m'.registry m.hops m'.hops (int_rows m.tree) (int_rows new) p f.sent f.below_int fit.registered f.rows ∙ sym f.int;
+          metrics = invalidated_metrics f.sent m.registry m'.registry m.hops m'.hops f.below_int fit.metrics;
         }),
         lines_printed said (f.entries ++ (fib_entries f.below ++ tree_weld_entries proto new)) f.lines (all_both Is f.entries _ fall (all_both Is (fib_entries f.below) _ fib weld)),
       )
@@ -162,6 +268,7 @@ module _ (peers : ℕ → Option Neighbour) (most : ℕ) where
   pub turn_goes : (task : Task) (m : Moment) (said : List Line) (m' : Moment) → IsTurn task m said m' → Goes m said m'
   turn_goes (Del k s) m said m' t = peer_turn_goes (Del k s) m said m' t
   turn_goes (Fin k) m said m' t = peer_turn_goes (Fin k) m said m' t
+  turn_goes (Nh k) m said m' t = hop_turn_goes k m said m' t
   turn_goes (Rdel proto n) m said m' t = route_turn_goes proto n m said m' t
 
   pub turns_go : (n : ℕ) (task : Task) (m : Moment) (said : List Line) (m' : Moment) → Turns n task m said m' → Goes m said m'

@@ -15,12 +15,13 @@ use Rattle.loss_chain.specs.declared.owner.Owner.TheVariants as owners
 use Rattle.rib_tree.specs.Trees.{Treed, branch_of, int_rows, IsTree, IsFull}
 use Rattle.rib_tree.specs.Falls.{LeadsTree}
 use Rattle.rib_tree.specs.Steps.{lost_tree, tree_loss_entries, tree_overdue}
-use Rattle.router_core.specs.Moments.{Moment, router_links, Gives, with_rib}
+use Rattle.router_core.specs.Moments.{Moment, router_links, Gives, with_tree}
 use Rattle.live_state.specs.Lives.{interior_lost}
 use Rattle.router_core.specs.Lives.{live_state}
 use Rattle.router_core.specs.Stands.{Stands, InteriorTree}
 use Rattle.router_core.specs.Turns.{journal_lines}
 use Rattle.router_core.specs.Works.{Pushes, EndsProtocol, HasProtocolRoom, HasStepped}
+use Rattle.router_core.proofs.HopLemmas.{hops_of}
 use Rattle.router_core.proofs.RibLinks.{leads_above}
 use Rattle.loss_chain.proofs.TableLemmas.{few_lost}
 use Rattle.rib_tree.proofs.TreeParts.{put_all}
@@ -31,17 +32,17 @@ use Rattle.router_core.proofs.StandLemmas.{registered_rows, speaker_of}
 -- the loss alone
 pub protocol_ended : (proto : Proto) (m : Moment) (t : Treed) (before now : Journaled) → Stands m → tree_overdue proto m.tree ≡ None → IsSome m.declared.speaker → t ≡ lost_tree proto m.tree
     → now ≡ with_entries before (tree_loss_entries proto m.tree) → LeadsTree m.tree (tree_loss_entries proto m.tree) t → int_rows t ≡ int_rows m.tree → IsTree t → IsFull t
-    → Pushes (EndsProtocol proto m (with_rib m t m.registry)) before now
+    → Pushes (EndsProtocol proto m (with_tree m t)) before now
 protocol_ended proto m t before now stands free since is lines leads int tree full = (
   journal_lines entries,
   lines,
   record {
     lines = refl;
-    after = ap (λ (x : Treed). with_rib m x m.registry) is;
+    after = ap (λ (x : Treed). with_tree m x) is;
     keeps = record {
-      leads = subst (λ (es : List (Entry Value)). Leads (router_links m) es (router_links (with_rib m t m.registry))) (sym (entries_of_entries entries)) (leads_above m me.0 me.1 t m.registry entries leads int);
-      live = ap (λ (x : Treed). live_state (with_rib m x m.registry)) is ∙ live_lost m proto (lost_branch b) m.registry;
-      stands = stands_replanted m me.0 t m.registry stands me.1 tree full few (registered_rows m stands ∙ sym int);
+      leads = subst (λ (es : List (Entry Value)). Leads (router_links m) es (router_links (with_tree m t))) (sym (entries_of_entries entries)) (leads_above m me.0 me.1 t entries leads int);
+      live = ap (λ (x : Treed). live_state (with_tree m x)) is ∙ live_lost m proto (lost_branch b);
+      stands = stands_replanted m me.0 t m.registry m.hops stands me.1 tree full few (registered_rows m stands ∙ sym int) (hops_of m stands);
     };
   },
 )

@@ -33,7 +33,7 @@ turns_shorter (suc n) k s m c said m' at t =
     (rest.0, rest.1, shorter_more s sweeps.prefix c.incoming.tables.deletions rest.0.incoming.tables.deletions rest.2)
   where
     turn : TurnsPeer (Del k s) t.3.0 m.chains t.3.1.fallen t.3.1.entries
-    turn = t.3.1.part
+    turn = t.3.1.part.turn
 
     sweeps : Sweeps turn.chain turn.turned_chain s t.3.0 t.3.1.entries
     sweeps = turn.turned.1
@@ -42,7 +42,7 @@ turns_shorter (suc n) k s m c said m' at t =
     c1 = welded (swept s sweeps.prefix c)
 
     at1 : chain_at k t.2.chains ≡ Some c1
-    at1 = ap (λ (x : Moment). chain_at k x.chains) t.3.1.after ∙ ap (chain_at k) (weld_after k m.chains t.3.1.fallen t.3.1.chains turn.turned_chain t.3.1.weld turn.after t.3.1.welds)
+    at1 = ap (λ (x : Moment). chain_at k x.chains) t.3.1.after ∙ ap (chain_at k) (weld_after k m.chains t.3.1.fallen t.2.chains turn.turned_chain t.3.1.weld turn.after t.3.1.welds.welds)
         ∙ put_here k (welded turn.turned_chain) m.chains
         ∙ ap (λ (x : Chained). Some (welded x)) (sweeps.after ∙ ap (swept s sweeps.prefix) (one_of turn.chain c (sym turn.at ∙ at)))
 

@@ -1,5 +1,5 @@
 -- One turn of the stage of a protocol's loss.
-use Rattle.std.proofs.Common.{◌≡◌, ℕ, ◌+◌, ◌≤◌, List, length, Option, Some, None, Result, IfOk, refl, sym, ap, subst, ◌∙◌, arith}
+use Rattle.std.proofs.Common.{◌≡◌, ℕ, ◌+◌, ◌*◌, ◌≤◌, List, length, Option, Some, None, Result, IfOk, refl, sym, ap, subst, ◌∙◌, arith}
 use Rattle.std.proofs.lemmas.Result.{IfOk-weaker}
 use Rattle.std.specs.FinMap.{FinMap}
 use Rattle.addr4.specs.Prefixes.{Network, prefix_cmp}
@@ -22,13 +22,16 @@ use Rattle.rib_tree.specs.Laws.{TurnsTakeRows, WeldsKeepRows}
 use Rattle.rib_tree.specs.Steps.{SweepsTree, IsTakenTree, swept_tree}
 use Rattle.router_core.specs.declared.router.Done.{Done}
 use Rattle.router_core.specs.declared.router.Done.TheVariants.{Nothing, Taken}
-use Rattle.router_core.specs.Moments.{Moment, with_rib}
+use Rattle.router_core.specs.Moments.{Moment, with_tree}
 use Rattle.router_core.specs.Lives.{live_state}
 use Rattle.router_core.specs.Stands.{Stands, InteriorTree}
 use Rattle.router_core.specs.Works.{Settles, Turned, IsUnit, Comes, Pushes}
 use Rattle.loss_chain.proofs.TableLemmas.{few_map}
 use Rattle.router_core.proofs.RouteLemmas.{Routes, routes_on, live_stays}
-use Rattle.router_core.specs.Phases.{frame_of}
+use Rattle.std.specs.FinMap as tables
+use Rattle.peer_side.specs.Peers.{Chains, rows_in}
+use Rattle.router_core.specs.Phases.{most_of}
+use Rattle.router_core.proofs.MostLemmas.{capped}
 use Rattle.router_core.proofs.CountLemmas.{tree_spends}
 use Rattle.rib_tree.proofs.NewLemmas.{of_new}
 
@@ -44,7 +47,7 @@ since_local m proto n table stands there = by_speaker m.declared.speaker refl
 
 -- ---- the turn
 pub route_unit : TurnsTakeRows → WeldsKeepRows → (m : Moment) (proto : Proto) (n : ℕ) (sent : Option (Change Interior)) (t : Treed) (m' : Moment) (before j j' : Journaled) → Stands m → Adds (SweepsTree m.tree t proto n sent) before j
-    → Settles proto sent (with_rib m t m.registry) m' j j' → Pushes (IsUnit (Rdel proto n) m m') before j'
+    → Settles proto sent (with_tree m t) m' j j' → Pushes (IsUnit (Rdel proto n) m m') before j'
 route_unit take keep m proto n sent t m' before j j' stands adds settles = (
   r.0,
   r.1,
@@ -52,7 +55,8 @@ route_unit take keep m proto n sent t m' before j j' stands adds settles = (
     turn = record { prefix = sweeps.prefix; row = sweeps.row; table = sweeps.table; stands = sweeps.stands; least = sweeps.least; falls = r.2.falls };
     work = record {
       keeps = record { leads = r.2.leads; live = lives; stands = r.2.stands };
-      spends = tree_spends (frame_of (live_state m)) m m' (ap (λ (x : Moment). x.chains) r.2.falls.after) lives fewer;
+      spends = λ f within. tree_spends f m m' chains lives fewer (let most = capped m' r.2.stands in let same = most_same in omega (arith, most, same, within));
+      within = (let same = most_same in omega (arith, same));
     };
   },
 )
@@ -79,7 +83,13 @@ route_unit take keep m proto n sent t m' before j j' stands adds settles = (
     r = routes_on m me.0 proto b p (way_of_sweep proto n m.tree) sent t m' before j j' stands me.1 sweeps.after few sweeps.rows (entries, adds.1, sweeps.fall) settles
 
     lives : live_state m' ≡ live_state m
-    lives = ap live_state r.2.is ∙ live_stays m proto (welded_branch b) m'.registry refl refl
+    lives = ap live_state r.2.is ∙ live_stays m proto (welded_branch b) refl refl
+
+    chains : m'.chains ≡ m.chains
+    chains = ap (λ (x : Moment). x.chains) r.2.falls.after
+
+    most_same : most_of m' ≡ most_of m
+    most_same = ap (λ (a : Chains). 3 * rows_in a + 2 * tables.len a) chains
 
     fewer : tree_count m'.tree + 1 ≡ tree_count m.tree
     fewer =
@@ -89,7 +99,7 @@ route_unit take keep m proto n sent t m' before j j' stands adds settles = (
         omega (arith, one, same)
 
 pub route_comes : TurnsTakeRows → WeldsKeepRows → (m : Moment) (proto : Proto) (n : ℕ) (sent : Option (Change Interior)) (t : Treed) (m' : Moment) (before j now : Journaled) (done : Done) → Stands m → Adds (SweepsTree m.tree t proto n sent) before j
-    → Turned proto sent (with_rib m t m.registry) m' j now done → Comes (Rdel proto n) m m' before now done
+    → Turned proto sent (with_tree m t) m' j now done → Comes (Rdel proto n) m m' before now done
 route_comes take keep m proto n sent t m' before j now Nothing stands adds turned = absurd turned
 route_comes take keep m proto n sent t m' before j now Taken stands adds turned =
     let u = route_unit take keep m proto n sent t m' before j turned.0 stands adds turned.1 in
@@ -97,13 +107,13 @@ route_comes take keep m proto n sent t m' before j now Taken stands adds turned 
 
 -- by what came out on `int`
 pub route_quiet : {E : Type 0} → TurnsTakeRows → WeldsKeepRows → (m : Moment) (proto : Proto) (n : ℕ) (turn : Turn Interior) (t : Treed) (m' : Moment) (before j now : Journaled) (result : Result Done E) → Stands m → turn ≡ Quiet
-    → IsTakenTree m.tree t (Rdel proto n) before j turn → IfOk result (Turned proto None (with_rib m t m.registry) m' j now) → IfOk result (Comes (Rdel proto n) m m' before now)
+    → IsTakenTree m.tree t (Rdel proto n) before j turn → IfOk result (Turned proto None (with_tree m t) m' j now) → IfOk result (Comes (Rdel proto n) m m' before now)
 route_quiet take keep m proto n turn t m' before j now result stands is taken turned =
     let adds : Adds (SweepsTree m.tree t proto n None) before j = subst (IsTakenTree m.tree t (Rdel proto n) before j) is taken in
-    IfOk-weaker result (Turned proto None (with_rib m t m.registry) m' j now) (Comes (Rdel proto n) m m' before now) (λ done. route_comes take keep m proto n None t m' before j now done stands adds) turned
+    IfOk-weaker result (Turned proto None (with_tree m t) m' j now) (Comes (Rdel proto n) m m' before now) (λ done. route_comes take keep m proto n None t m' before j now done stands adds) turned
 
 pub route_sent : {E : Type 0} → TurnsTakeRows → WeldsKeepRows → (m : Moment) (proto : Proto) (n : ℕ) (turn : Turn Interior) (change : Change Interior) (t : Treed) (m' : Moment) (before j now : Journaled) (result : Result Done E) → Stands m → turn ≡ Sent change
-    → IsTakenTree m.tree t (Rdel proto n) before j turn → IfOk result (Turned proto (Some change) (with_rib m t m.registry) m' j now) → IfOk result (Comes (Rdel proto n) m m' before now)
+    → IsTakenTree m.tree t (Rdel proto n) before j turn → IfOk result (Turned proto (Some change) (with_tree m t) m' j now) → IfOk result (Comes (Rdel proto n) m m' before now)
 route_sent take keep m proto n turn change t m' before j now result stands is taken turned =
     let adds : Adds (SweepsTree m.tree t proto n (Some change)) before j = subst (IsTakenTree m.tree t (Rdel proto n) before j) is taken in
-    IfOk-weaker result (Turned proto (Some change) (with_rib m t m.registry) m' j now) (Comes (Rdel proto n) m m' before now) (λ done. route_comes take keep m proto n (Some change) t m' before j now done stands adds) turned
+    IfOk-weaker result (Turned proto (Some change) (with_tree m t) m' j now) (Comes (Rdel proto n) m m' before now) (λ done. route_comes take keep m proto n (Some change) t m' before j now done stands adds) turned

@@ -9,30 +9,31 @@ use Rattle.loss_chain.proofs.ListLemmas.{all_appended}
 use Rattle.in_chain.specs.Laws.{TurnsAreBounded, TurnsAreLeft}
 use Rattle.rib_tree.specs.Trees.{tree_count}
 use Rattle.router_core.specs.declared.router.Phase.{Phase}
-use Rattle.router_core.specs.declared.router.Phase.TheVariants.{Rdel, Del, Fin}
+use Rattle.router_core.specs.declared.router.Phase.TheVariants.{Rdel, Del, Fin, Nh}
+use Rattle.hop_side.specs.Resolvers.{known_in}
 use Rattle.peer_side.specs.Peers.{rows_in}
 use Rattle.router_core.specs.Moments.{Moment, bound_of, Gives}
-use Rattle.live_state.specs.Lives.{LiveState}
 use Rattle.router_core.specs.Lives.{live_state}
 use Rattle.router_core.specs.Stands.{Stands, SameCount}
-use Rattle.router_core.specs.Phases.{Frame, Each, all_phases, counts, frame_of, rise, bounds, Spends}
+use Rattle.router_core.specs.Phases.{Frame, Each, UpTo, all_phases, counts, frame_of, most_of, rise, risen, bounds, Spends}
 use Rattle.router_core.specs.Turns.{IsTurn, Turns, RunsPhase, RunsAll, phase_of, next_task, has_work, IsSettled}
 use Rattle.router_core.specs.Works.{Keeps, IsWork, IsUnit, HaveRun, HasDrained, HaveRunOf, HaveDrained, AllHaveDrained}
 use Rattle.router_core.proofs.KeepLemmas.{keeps_none, keeps_on, gives_join, gives_none, gives_so}
-use Rattle.router_core.proofs.PhaseLemmas.{spends_none, spends_join, bounds_step, over_more}
+use Rattle.router_core.proofs.PhaseLemmas.{spends_none, spends_join, bounds_step, over_more, risen_capped}
+use Rattle.router_core.proofs.MostLemmas.{capped}
 use Rattle.router_core.proofs.CountLemmas.{counts_below, over_none, none_over}
 use Rattle.router_core.proofs.NextLemmas.{next_works}
 use Rattle.router_core.proofs.ScratchLemmas.{settled_is_exact}
 
 -- ---- work
 work_none : (r : Phase) (m : Moment) → Stands m → IsWork r 0 m m []
-work_none r m stands = record { keeps = keeps_none m stands; spends = spends_none (frame_of (live_state m)) r (counts m) }
+work_none r m stands = record { keeps = keeps_none m stands; spends = λ f within. spends_none f r (counts m); within = omega arith }
 
 work_join : (r : Phase) (n k : ℕ) (a b c : Moment) (xs ys : List Line) → IsWork r n a b xs → IsWork r k b c ys → IsWork r (n + k) a c (xs ++ ys)
 work_join r n k a b c xs ys x y = record {
   keeps = keeps_on a b c xs ys (live_state a) x.keeps y.keeps;
-  spends = spends_join (frame_of (live_state a)) r n k (counts a) (counts b) (counts c) x.spends
-      (subst (λ (l : LiveState). Spends (frame_of l) r k (counts b) (counts c)) x.keeps.live y.spends);
+  spends = λ f within. let less = x.within in spends_join f r n k (counts a) (counts b) (counts c) (x.spends f within) (y.spends f (omega (arith, less, within)));
+  within = let p = x.within in let q = y.within in omega (arith, p, q);
 }
 
 -- ---- turns of a task
@@ -63,6 +64,10 @@ pub given_more : (task : Task) (n : ℕ) (m between m' : Moment) (before j now :
     → HaveGiven task (n + 1) m m' before now
 given_more task n m between m' before j now g u = gives_join (HaveRun task m n between) (IsUnit task between m') (HaveRun task m (n + 1) m') (λ xs ys p q. run_more task n m between m' xs ys p q) before j now g u
 
+-- a turn brings the end nearer
+pub unit_less : (task : Task) (m m' : Moment) (before now : Journaled) → Gives (IsUnit task m m') before now → counts m' (phase_of task) < counts m (phase_of task)
+unit_less task m m' before now g = let falls = (g.2.work.spends (frame_of m) (omega arith)).falls in omega (arith, falls)
+
 -- ---- tasks of a phase
 abbrev pub HaveGivenOf : Phase → ℕ → Moment → Moment → Journaled → Journaled → Type 0
 HaveGivenOf r turns m now before j = Gives (HaveRunOf r m turns now) before j
@@ -87,13 +92,13 @@ phase_less r task n at now j j' next d = by_turns n (subst (λ (e : Phase). IsWo
 
     by_turns : (n : ℕ) → IsWork r n at now d.0 → Turns n task at d.0 now → counts now r < counts at r
     by_turns zero work taken = absurd (let same : has_work task at ≡ false = sym (ap (has_work task) taken.1) ∙ d.2.ended in let on = works.0 in cc)
-    by_turns (suc n) work taken = let falls = work.spends.falls in omega (arith, falls)
+    by_turns (suc n) work taken = let falls = (work.spends (frame_of at) (omega arith)).falls in omega (arith, falls)
 
-pub phase_done : TurnsAreBounded → TurnsAreLeft → (r : Phase) (m now : Moment) (turns : ℕ) (before j : Journaled) → HaveGivenOf r turns m now before j → None ≡ next_task r now → counts now r ≡ 0 → Gives (HaveDrained r m turns now) before j
-phase_done law left r m now turns before j g none gone = gives_so (HaveRunOf r m turns now) (HaveDrained r m turns now) (λ xs p. record {
+pub phase_done : TurnsAreBounded → TurnsAreLeft → (r : Phase) (m now : Moment) (turns : ℕ) (before j : Journaled) → Stands m → HaveGivenOf r turns m now before j → None ≡ next_task r now → counts now r ≡ 0 → Gives (HaveDrained r m turns now) before j
+phase_done law left r m now turns before j stands g none gone = gives_so (HaveRunOf r m turns now) (HaveDrained r m turns now) (λ xs p. record {
   runs = record { count = p.count; runs = p.runs; none = sym none };
   work = p.work;
-  most = let falls = p.work.spends.falls in let below = counts_below law m r in omega (arith, falls, below);
+  most = let falls = (p.work.spends (frame_of m) (omega arith)).falls in let below = counts_below law m r stands in omega (arith, falls, below);
   over = none_over left r now p.work.keeps.stands gone;
 }) before j g
 
@@ -102,7 +107,8 @@ phase_done law left r m now turns before j g none gone = gives_so (HaveRunOf r m
 pub record Idling (i turns : ℕ) (m now : Moment) (said : List Line) : Type 0 where
   pub runs : RunsAll (take i all_phases) m said turns now
   pub keeps : Keeps (live_state m) m now said
-  pub within : turns + bounds (frame_of (live_state m)) (drop i all_phases) (counts now) ≤ bounds (frame_of (live_state m)) all_phases (counts m)
+  pub frame : most_of now ≤ most_of m
+  pub within : turns + bounds (frame_of m) (drop i all_phases) (counts now) ≤ bounds (frame_of m) all_phases (counts m)
   pub over : AllByRecursion (λ e. counts now e ≡ 0) (take i all_phases)
 
 runs_push : (rs : List Phase) (r : Phase) (n k : ℕ) (m at now : Moment) (xs ys : List Line) → RunsAll rs m xs n at → RunsPhase r at ys k now → RunsAll (rs ++ r ∷ []) m (xs ++ ys) (n + k) now
@@ -134,28 +140,39 @@ never_back : (f : Frame) (i : ℕ) (x : Phase) → i < length all_phases → All
 never_back f zero x within = tt
 never_back f (suc zero) x within = (refl, tt)
 never_back f (suc (suc zero)) x within = (refl, (refl, tt))
-never_back f (suc (suc (suc i))) x within = absurd (omega (arith, within))
+never_back f (suc (suc (suc zero))) x within = (refl, (refl, (refl, tt)))
+never_back f (suc (suc (suc (suc i)))) x within = absurd (omega (arith, within))
 
 each_phase : (P : Phase → Type 0) → AllByRecursion P all_phases → (r : Phase) → P r
 each_phase P all Rdel = all.0
 each_phase P all Del = all.1.0
 each_phase P all Fin = all.1.1.0
+each_phase P all Nh = all.1.1.1.0
 
 -- the announced bound is above the table's
-within_all : (losses stages walks rows routes peers : ℕ) → losses ≤ routes → stages ≤ rows → walks ≤ 2 * (rows + peers) → losses + (stages + walks) ≤ (peers + 2) * (9 * (rows + routes) + 6)
-within_all losses stages walks rows routes peers a b c = grind arith
+within_all : (losses stages walks hops rows routes peers known : ℕ) → losses ≤ routes → stages ≤ rows → walks ≤ 2 * (rows + peers) → hops ≤ 3 * rows + 2 * peers
+    → losses + (stages + (walks + hops)) ≤ (peers + 2) * (9 * (rows + routes) + 2 * known + 6)
+within_all losses stages walks hops rows routes peers known a b c d =
+    let least : losses + (stages + (walks + hops)) ≤ 2 * (9 * (rows + routes) + 6) + peers * 6 = omega (arith, a, b, c, d) in
+    let rest : 2 * (9 * (rows + routes) + 6) + peers * 6 ≤ (peers + 2) * (9 * (rows + routes) + 2 * known + 6) = grind arith in
+    omega (arith, least, rest)
 
-bounds_fit : TurnsAreBounded → (m : Moment) → Stands m → bounds (frame_of (live_state m)) all_phases (counts m) ≤ bound_of m
+-- what next hops take stays below the cap
+hops_within : (cap a b c hops : ℕ) → hops ≤ cap → risen (UpTo cap) c (risen (UpTo cap) b (risen (UpTo cap) a hops)) ≤ cap
+hops_within cap a b c hops most = risen_capped cap c _ (risen_capped cap b _ (risen_capped cap a hops most))
+
+bounds_fit : TurnsAreBounded → (m : Moment) → Stands m → bounds (frame_of m) all_phases (counts m) ≤ bound_of m
 bounds_fit law m stands =
-    let a = counts_below law m Rdel in
-    let b = counts_below law m Del in
-    let c = counts_below law m Fin in
+    let a = counts_below law m Rdel stands in
+    let b = counts_below law m Del stands in
+    let c = counts_below law m Fin stands in
     let count = stands.own SameCount in
-    let all = within_all (counts m Rdel) (counts m Del) (counts m Fin) (rows_in m.chains) (tree_count m.tree) (length m.declared.peers) a b (omega (arith, c, count)) in
-    omega (arith, all)
+    let hops = hops_within (most_of m) (counts m Rdel) (risen (Each 0) (counts m Rdel) (counts m Del)) (risen (Each 0) (risen (Each 0) (counts m Rdel) (counts m Del)) (risen (Each 0) (counts m Rdel) (counts m Fin))) (counts m Nh) (capped m stands) in
+    let all = within_all (counts m Rdel) (counts m Del) (counts m Fin) (most_of m) (rows_in m.chains) (tree_count m.tree) (length m.declared.peers) (known_in m.hops) a b (omega (arith, c, count)) (omega (arith, count)) in
+    omega (arith, all, hops)
 
 pub idling_none : (m : Moment) (before j : Journaled) → Stands m → j ≡ flushed before → Gives (Idling 0 0 m m) before j
-idling_none m before j stands is = gives_none (Idling 0 0 m m) before j (record { runs = (refl, refl, refl); keeps = keeps_none m stands; within = omega arith; over = tt }) is
+idling_none m before j stands is = gives_none (Idling 0 0 m m) before j (record { runs = (refl, refl, refl); keeps = keeps_none m stands; frame = omega arith; within = omega arith; over = tt }) is
 
 pub idling_more : (i turns n : ℕ) (x : Phase) (m at now : Moment) (before j j' : Journaled) → i < length all_phases → Gives (Idling i turns m at) before j → Gives (HaveDrained (get_or all_phases i x) at n now) j j'
     → Gives (Idling (i + 1) (turns + n) m now) before j'
@@ -165,19 +182,20 @@ idling_more i turns n z m at now before j j' within g d = gives_join (Idling i t
     r = get_or all_phases i z
 
     f : Frame
-    f = frame_of (live_state m)
+    f = frame_of m
 
     both : (xs ys : List Line) → Idling i turns m at xs → HaveDrained r at n now ys → Idling (i + 1) (turns + n) m now (xs ++ ys)
     both xs ys x y =
         let first : take i all_phases ++ r ∷ [] ≡ take (i + 1) all_phases = sym (take_more all_phases i z within) in
         let rest : drop i all_phases ≡ r ∷ drop (i + 1) all_phases = drop_more all_phases i z within in
-        let spends : Spends f r n (counts at) (counts now) = subst (λ (l : LiveState). Spends (frame_of l) r n (counts at) (counts now)) x.keeps.live y.work.spends in
+        let spends : Spends f r n (counts at) (counts now) = y.work.spends f x.frame in
         let flat : AllByRecursion (λ e. rise f r e ≡ Each 0) (take i all_phases) = never_back f i z within in
         let step = bounds_step f r (drop (i + 1) all_phases) n (counts at) (counts now) spends in
         let was : turns + bounds f (r ∷ drop (i + 1) all_phases) (counts at) ≤ bounds f all_phases (counts m) = subst (λ (l : List Phase). turns + bounds f l (counts at) ≤ bounds f all_phases (counts m)) rest x.within in
         record {
           runs = subst (λ (l : List Phase). RunsAll l m (xs ++ ys) (turns + n) now) first (runs_push (take i all_phases) r turns n m at now xs ys x.runs y.runs);
           keeps = keeps_on m at now xs ys (live_state m) x.keeps y.work.keeps;
+          frame = let p = x.frame in let q = y.work.within in omega (arith, p, q);
           within = omega (arith, step, was);
           over = subst (λ (l : List Phase). AllByRecursion (λ e. counts now e ≡ 0) l) first
               (all_appended (λ e. counts now e ≡ 0) (λ e. counts now e ≡ 0) (λ e none. none) (take i all_phases) r (over_more f r n (counts at) (counts now) (take i all_phases) spends flat x.over) (over_none r now y.over));

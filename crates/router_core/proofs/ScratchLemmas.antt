@@ -1,5 +1,5 @@
 -- The links that no work holds up are what the live state alone asks for.
-use Rattle.std.proofs.Common.{◌≡◌, ℕ, ◌==◌, ◌&&◌, Bool, true, false, cond, List, [], ◌∷◌, Option, Some, None, is_some, nat_eq, refl, sym, ap, ◌∙◌, arith}
+use Rattle.std.proofs.Common.{◌≡◌, ℕ, ◌==◌, ◌&&◌, Bool, true, false, cond, List, [], ◌∷◌, Option, Some, None, is_some, nat_eq, refl, sym, ap, ◌∙◌, arith, zero, suc}
 use Rattle.std.specs.Prelude.{option_map}
 use Rattle.std.specs.FinMap as tables
 use Rattle.bgp_attr.specs.declared.attrs.Attrs.{Attrs}
@@ -12,7 +12,7 @@ use Rattle.filter_bank.specs.Filtered.{passed_rows, filtered_rows}
 use Rattle.journal_text.specs.declared.link.Link.{Link}
 use Rattle.journal_text.specs.declared.link.Link.TheVariants.{In, Peer, Filt, Res, Org, Lost as LostOf, Low, Dyn, Int, Fib}
 use Rattle.journal_text.specs.declared.link.Task.{Task}
-use Rattle.journal_text.specs.declared.link.Task.TheVariants.{Del, Fin, Rdel}
+use Rattle.journal_text.specs.declared.link.Task.TheVariants.{Del, Fin, Nh, Rdel}
 use Rattle.journal_text.specs.declared.value.Value.{Value}
 use Rattle.journal_text.specs.Values.{attrs_rows, route_rows, interior_rows, fib_rows}
 use Rattle.event_text.specs.declared.declared.DeclaredPeer.{DeclaredPeer}
@@ -31,16 +31,25 @@ use Rattle.rib_tree.specs.Trees.{branch_of, low_rows, dyn_rows, int_rows, interi
 use Rattle.rib_tree.specs.Forwards.{rib_links}
 use Rattle.rib_merge.specs.Forwards.{forwarded}
 use Rattle.router_core.specs.declared.router.Phase.TheVariants as phases
-use Rattle.peer_side.specs.Peers.{chain_at, links_by, routes_of, rules_of, has_turn_in}
+use Rattle.peer_side.specs.Peers.{chain_at, links_by, filt_by, filt_at, routes_of, rules_of, has_turn_in}
 use Rattle.live_state.specs.Lives.{Routes, Interiors}
-use Rattle.live_state.specs.Decided.{live_rows, judged_rows, least_rows, origins, since_local}
+use Rattle.live_state.specs.Decided.{live_rows, judged_rows, least_rows, origins, since_local, prefix_of, or_else, longest_within, with_metric_of, resolved_row, resolved_rows}
+use Rattle.addr4.specs.Prefixes.{Network}
+use Rattle.bgp_attr.specs.declared.route.Route.{Route}
+use Rattle.register_interest.specs.Covers.{keyed_or, longest, longest_to}
+use Rattle.nexthop_resolver.specs.declared.rows.Metric.{Metric}
+use Rattle.nexthop_resolver.specs.Kept.{route_hop, metric_of, with_metric}
+use Rattle.nexthop_resolver.specs.Resolving.{Resolving}
+use Rattle.hop_side.specs.Resolvers.{resolver_at, metric_rows, rows_by, link_by}
+use Rattle.hop_side.specs.Laws.{matched_row, res_from}
+use Rattle.hop_side.proofs.LawLemmas.{exact_without_work}
 use Rattle.live_state.proofs.LeastLemmas.{least_two, least_four}
 use Rattle.rib_tree.proofs.RestLemmas.{no_stages, no_link, Rest, org_rests, two_rest, four_rest}
 use Rattle.router_core.specs.Moments.{Moment, rib_by}
-use Rattle.router_core.specs.Stands.{StandsAt, Stands, EachChain, EachPeer, OneSpeaker}
+use Rattle.router_core.specs.Stands.{StandsAt, Stands, EachChain, EachPeer, OneSpeaker, EachResolver, SameResolvers, AnswersAgree, HopsCounted}
+use Rattle.router_core.proofs.StandLemmas.{registered_rows}
 use Rattle.router_core.specs.Scratch.{IsAtRest, IsExactAt, IsExact}
 use Rattle.loss_chain.proofs.TableLemmas.{same_by, no_table}
-use Rattle.peer_side.proofs.LinkLemmas.{none_by}
 use Rattle.router_core.specs.Turns.{has_work, IsSettled}
 
 -- no peer, nothing to judge
@@ -114,12 +123,68 @@ module _ (m : Moment) (stands : Stands m) where
   lost_exact proto n rest None = refl
   lost_exact proto n rest (Some me) = ap (option_map interior_rows) (no_link (routes_in proto) n (branch_of proto m.tree).tables.deletions (rest (Rdel proto n) (refl, refl)))
 
+  -- ---- next hops
+  found_is : (rows : Rows Interior) (a n : ℕ) → option_map (λ r. r.1) (longest_to 32 rows a n) ≡ longest_within rows a n
+  found_is rows a zero = by_row (rows (prefix_of a 0))
+    where
+      by_row : (o : Option Interior) → option_map (λ r. r.1) (keyed_or (prefix_of a 0) o None) ≡ o
+      by_row None = refl
+      by_row (Some row) = refl
+  found_is rows a (suc n) = by_row (rows (prefix_of a (suc n))) (found_is rows a n)
+    where
+      by_row : (o : Option Interior) → option_map (λ r. r.1) (longest_to 32 rows a n) ≡ longest_within rows a n → option_map (λ r. r.1) (keyed_or (prefix_of a (suc n)) o (longest_to 32 rows a n)) ≡ or_else o (longest_within rows a n)
+      by_row None rest = rest
+      by_row (Some row) rest = refl
+
+  by_match : (r : Route) (found : Option (Network × Interior)) → with_metric r (metric_of found) ≡ with_metric_of r (option_map (λ x. x.1) found)
+  by_match r None = refl
+  by_match r (Some x) = refl
+
+  -- the rows that the longest matches make are those decided from scratch
+  resolved_is : (int : Rows Interior) (upper : Rows Route) → res_from (longest 32 int) upper ≡ resolved_rows int upper
+  unfolding longest
+  resolved_is int upper i q = each (upper q) i
+    where
+      each : (o : Option Route) → matched_row (longest 32 int) o ≡ resolved_row int o
+      each None = refl
+      each (Some r) = by_match r (longest_to 32 int (route_hop r) 32) ∙ ap (with_metric_of r) (found_is int (route_hop r) 32)
+
+  res_rests : (k : ℕ) → IsAtRest m (Res k) → (s : Resolving Metric) → resolver_at k m.hops ≡ Some s → metric_rows s (filt_at m.chains k) ≡ resolved_rows (least_rows routes_in (origins Int)) (filt_at m.chains k)
+  res_rests k rest s at =
+      sym (ap (λ (o : Option (Resolving Metric)). rows_by o (filt_at m.chains k)) at)
+      ∙ exact_without_work m.hops (filt_at m.chains) m.registry k s (stands.own EachResolver) (stands.own AnswersAgree) (stands.own HopsCounted) at (rest (Nh k) refl)
+      ∙ ap (λ (rows : Rows Interior). res_from (longest 32 rows) (filt_at m.chains k)) (registered_rows m stands ∙ int_is (λ p of n. rest (Rdel p n) of))
+      ∙ resolved_is (least_rows routes_in (origins Int)) (filt_at m.chains k)
+
+  res_exact : (k : ℕ) → IsAtRest m (Res k) → (p : Option DeclaredPeer) (c : Option Chained) → chain_at k m.chains ≡ c → StandsAt p c
+      → link_by (resolver_at k m.hops) (filt_at m.chains k) ≡ option_map route_rows (option_map (resolved_rows (least_rows routes_in (origins Int))) (judged_rows m.declared.speaker p (rules_of c) (routes_of c)))
+  res_exact k rest None None at there =
+      ap (λ (o : Option (Resolving Metric)). link_by o (filt_at m.chains k)) (no_table (resolver_at k m.hops) (stands.own SameResolvers k ∙ ap is_some at))
+      ∙ sym (ap (λ (o : Option (Rows Route)). option_map route_rows (option_map (resolved_rows (least_rows routes_in (origins Int))) o)) (unjudged m.declared.speaker [] tables.empty))
+  res_exact k rest None (Some c) at there = absurd there
+  res_exact k rest (Some p) None at there = absurd there
+  res_exact k rest (Some p) (Some c) at there = by_resolver (resolver_at k m.hops) refl (stands.own SameResolvers k ∙ ap is_some at)
+    where
+      judged : Some (filt_at m.chains k) ≡ judged_rows m.declared.speaker (Some p) (present c.filter) c.incoming.tables.live
+      judged =
+          ap (λ (o : Option Chained). Some (filt_by o)) at
+          ∙ ap (λ rows. Some rows) (rows_settled c (no_stage k c at (λ s. rest (Del k s) refl)) (no_walk k c at (rest (Fin k) refl)))
+          ∙ ap (λ (w : Neighbour). Some (filtered_rows c.me w (present c.filter) (tables.get c.incoming.tables.live))) there.words
+          ∙ ap (λ (s : Option Speaker). judged_rows s (Some p) (present c.filter) c.incoming.tables.live) (sym (stands.own OneSpeaker k c at))
+
+      by_resolver : (o : Option (Resolving Metric)) → resolver_at k m.hops ≡ o → is_some o ≡ true
+          → link_by o (filt_at m.chains k) ≡ option_map route_rows (option_map (resolved_rows (least_rows routes_in (origins Int))) (judged_rows m.declared.speaker (Some p) (present c.filter) c.incoming.tables.live))
+      by_resolver None is some = absurd (let clash : false ≡ true = some in cc)
+      by_resolver (Some s) is some =
+          ap (λ (rows : Rows Route). Some (route_rows rows)) (res_rests k rest s is)
+          ∙ ap (λ (o : Option (Rows Route)). option_map route_rows (option_map (resolved_rows (least_rows routes_in (origins Int))) o)) judged
+
   -- ---- each link
   pub at_rest_is_exact : (link : Link) → IsAtRest m link → IsExactAt m link
   at_rest_is_exact (In k) rest = in_exact k rest (peer_at k m.declared.peers) (chain_at k m.chains) refl (stands.own EachPeer k)
   at_rest_is_exact (Peer k s) rest = peer_exact k s rest (chain_at k m.chains) refl
   at_rest_is_exact (Filt k) rest = filt_exact k rest (peer_at k m.declared.peers) (chain_at k m.chains) refl (stands.own EachPeer k)
-  at_rest_is_exact (Res j) rest = none_by (Res j) (λ c. refl) (chain_at j m.chains)
+  at_rest_is_exact (Res k) rest = res_exact k rest (peer_at k m.declared.peers) (chain_at k m.chains) refl (stands.own EachPeer k)
   at_rest_is_exact (Org p) rest = since interior_rows (org_rows (branch_of p m.tree)) (tables.get (routes_in p)) (Org p) refl (org_rests m.tree p (λ n. rest (Rdel p n) (0, omega arith, refl))) m.declared.speaker
   at_rest_is_exact (LostOf p n) rest = lost_exact p n rest m.declared.speaker
   at_rest_is_exact Low rest = since interior_rows (low_rows m.tree) (least_rows routes_in (origins Low)) Low refl (two_are Connected Static (λ p of n. rest (Rdel p n) of)) m.declared.speaker
@@ -144,6 +209,7 @@ no_work m settled (Fin k) = of_chain (chain_at k m.chains) refl
     of_chain : (o : Option Chained) → chain_at k m.chains ≡ o → has_turn_in (Fin k) o ≡ false
     of_chain None at = refl
     of_chain (Some c) at = ap (λ (w : Option (Walked (List Rule))). k == c.incoming.number && is_some w) (settled phases.Fin k c at) ∙ no_second (k == c.incoming.number)
+no_work m settled (Nh k) = settled phases.Nh k
 no_work m settled (Rdel proto n) = ap (λ (ds : List (Lost Interior)). is_some (table_of n ds)) (settled phases.Rdel proto)
 
 pub settled_is_exact : (m : Moment) → Stands m → IsSettled m → IsExact m

@@ -1,10 +1,16 @@
 -- The rows of a link, one after the other.
-use Rattle.std.proofs.Common.{◌≡◌, ℕ, ◌+◌, ◌^◌, ◌<◌, List, [], ◌∷◌, ◌++◌, length, Option, Some, None, refl, sym, ap, subst, ◌∙◌, append-nil, length-append, arith}
-use Rattle.std.specs.Prelude.{IsSome}
+use Rattle.std.proofs.Common.{◌≡◌, ℕ, false, ◌+◌, ◌^◌, ◌<◌, List, [], ◌∷◌, ◌++◌, length, Option, Some, None, refl, sym, ap, subst, ◌∙◌, append-nil, length-append, arith}
+use Rattle.std.specs.Prelude.{IsSome, option_map}
+use Rattle.bgp_attr.specs.declared.route.Route.{Route}
+use Rattle.nexthop_resolver.specs.declared.rows.Metric.{Metric}
+use Rattle.nexthop_resolver.specs.Resolving.{Resolving}
+use Rattle.in_chain.specs.Chains.{Chained, filt_rows, filt_candidates}
+use Rattle.journal_text.specs.declared.link.Link.TheVariants.{Res}
+use Rattle.journal_text.specs.Values.{route_value, route_rows}
 use Rattle.std.proofs.lemmas.List.{map-append}
 use Rattle.addr4.specs.Prefixes.{Network}
 use Rattle.loss_chain.proofs.TableLemmas.{no_table}
-use Rattle.link_change.specs.Rows.{Rows, Candidates, IsNextCandidate, CoversRows, with_rows}
+use Rattle.link_change.specs.Rows.{Rows, Candidates, IsNextCandidate, CoversRows, with_rows, no_rows}
 use Rattle.journal_text.specs.declared.value.Value.{Value}
 use Rattle.journal_text.specs.declared.link.Link.{Link}
 use Rattle.journal_text.specs.declared.line.Line.{Line}
@@ -21,9 +27,10 @@ use Rattle.router_core.specs.Lookups.{listed_at, row_lines, Counts, ShowsRow, Is
 use Rattle.bgp_attr.specs.declared.speaker.Speaker.{Speaker}
 use Rattle.rib_tree.specs.Trees.{Treed}
 use Rattle.rib_tree.specs.Forwards.{rib_links}
-use Rattle.link_region.specs.declared.regions.Region.TheVariants.{Inward}
+use Rattle.link_region.specs.declared.regions.Region.TheVariants.{Inward, Resolved}
 use Rattle.link_region.specs.Regions.{region_of}
-use Rattle.peer_side.specs.Peers.{peer_links, peer_candidates}
+use Rattle.hop_side.specs.Resolvers.{resolver_at, link_by, hop_links, metric_rows, rows_by}
+use Rattle.peer_side.specs.Peers.{chain_at, peer_links, peer_candidates, filt_by, filt_at}
 use Rattle.peer_side.proofs.MapLemmas.{one_of}
 use Rattle.router_core.proofs.RegionLemmas.{in_region}
 use Rattle.router_core.specs.Works.{Pushes, HasStepped}
@@ -149,3 +156,31 @@ pub next_rib : (m v : Moment) (link : Link) (place result : Option Network) → 
     → ((rows : Rows Value) → rib_links v.tree link ≡ Some rows → IsNextCandidate (with_rows rows) place result) → IsNextPlace (router_links m link) place result
 next_rib m v link place result view here live next = next_row (router_links m link) place result live (λ rows is.
     next rows (ap (λ (n : Moment). rib_links n.tree link) view ∙ sym (rib_live m.declared.speaker m.tree link (subst IsSome here live)) ∙ sym here ∙ is))
+
+-- a link `res.K`, whose candidates are those of `filt.K`
+pub next_res : (m v : Moment) (link : Link) (place result : Option Network) → v ≡ m → region_of link ≡ Resolved → IsNextPlace (hop_links v.hops (filt_at v.chains) link) place result → IsNextPlace (router_links m link) place result
+next_res m v link place result view here next =
+    subst (λ (o : Option (Rows Value)). IsNextPlace o place result) (ap (λ (n : Moment). hop_links n.hops (filt_at n.chains) link) view ∙ sym (in_region m link Resolved here)) next
+
+-- its rows, over those of `filt.K`
+res_rows_at : (m : Moment) (link : Link) (k : ℕ) (rows : Rows Value) → link ≡ Res k → hop_links m.hops (filt_at m.chains) link ≡ Some rows → (s : Resolving Metric) × (resolver_at k m.hops ≡ Some s) × (rows ≡ route_rows (metric_rows s (filt_at m.chains k)))
+res_rows_at m link k rows is at = by_resolver (resolver_at k m.hops) refl (ap (hop_links m.hops (filt_at m.chains)) (sym is) ∙ at)
+  where
+    by_resolver : (o : Option (Resolving Metric)) → resolver_at k m.hops ≡ o → link_by o (filt_at m.chains k) ≡ Some rows → (s : Resolving Metric) × (resolver_at k m.hops ≡ Some s) × (rows ≡ route_rows (metric_rows s (filt_at m.chains k)))
+    by_resolver None was e = absurd (cc)
+    by_resolver (Some s) was e = (s, was, sym (one_of (route_rows (metric_rows s (filt_at m.chains k))) rows e))
+
+-- where no row stands above it
+pub none_resolved : (m v : Moment) (link : Link) (k : ℕ) (place : Option Network) → v ≡ m → link ≡ Res k → None ≡ chain_at k v.chains → IsNextPlace (hop_links m.hops (filt_at m.chains) link) place None
+none_resolved m v link k place view is none = ((λ q. false), (λ q beyond. refl), λ rows at q lacks.
+    let own = res_rows_at m link k rows is at in
+    let upper : filt_at m.chains k ≡ no_rows = ap (λ (n : Moment). filt_at n.chains k) (sym view) ∙ ap filt_by (sym none) in
+    ap (λ (r : Rows Value). r q) own.2 ∙ ap (λ (u : Rows Route). route_rows (metric_rows own.0 u) q) upper)
+
+pub next_resolved : (m v : Moment) (link : Link) (k : ℕ) (place result : Option Network) (c : Chained) → v ≡ m → link ≡ Res k → Some c ≡ chain_at k v.chains → IsNextCandidate (filt_candidates c) place result
+    → CoversRows (filt_candidates c) (rows_by (resolver_at k v.hops) (filt_rows c)) → IsNextPlace (hop_links m.hops (filt_at m.chains) link) place result
+next_resolved m v link k place result c view is there next covers = (filt_candidates c, next, λ rows at q lacks.
+    let own = res_rows_at m link k rows is at in
+    let upper : filt_rows c ≡ filt_at m.chains k = ap filt_by there ∙ ap (λ (n : Moment). filt_at n.chains k) view in
+    let same : rows_by (resolver_at k v.hops) (filt_rows c) ≡ metric_rows own.0 (filt_at m.chains k) = ap (λ (n : Moment). rows_by (resolver_at k n.hops) (filt_rows c)) view ∙ ap (λ (o : Option (Resolving Metric)). rows_by o (filt_rows c)) own.1 ∙ ap (metric_rows own.0) upper in
+    ap (λ (r : Rows Value). r q) own.2 ∙ ap (option_map route_value) (ap (λ (r : Rows Route). r q) (sym same) ∙ covers q lacks))

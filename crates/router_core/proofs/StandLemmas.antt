@@ -11,13 +11,19 @@ use Rattle.in_chain.specs.Chains.{Chained}
 use Rattle.loss_chain.proofs.TableLemmas.{equal_by}
 use Rattle.link_region.proofs.RegionLemmas.{by_bool}
 use Rattle.peer_side.specs.Peers.{Chains, chain_at, put_chain, routes_of, rules_of, IsPeers}
-use Rattle.peer_side.proofs.PutLemmas.{at_put, put_seen, put_each, put_size}
+use Rattle.peer_side.proofs.PutLemmas.{at_put, put_kept, put_seen, put_each, put_size}
 use Rattle.live_state.proofs.AdmittedLemmas.{rules_same, routes_same}
-use Rattle.router_core.specs.Moments.{Moment, with_chains}
+use Rattle.router_core.specs.Moments.{Moment, with_chains, with_hops}
 use Rattle.live_state.specs.Lives.{LiveState, Routes, with_routes, with_rules}
 use Rattle.router_core.specs.Lives.{live_state}
 use Rattle.rib_tree.specs.Trees.{int_rows}
-use Rattle.router_core.specs.Stands.{PeerStands, StandsAt, TreeStands, Stands, Claim, Claims, EachChain, EachPeer, InteriorTree, OneSpeaker, Registered, SameCount}
+use Rattle.rib_route.specs.declared.rows.Interior.{Interior}
+use Rattle.register_interest.specs.Registers.{Registry}
+use Rattle.hop_side.specs.Resolvers.{Resolvers, resolver_at}
+use Rattle.addr4.specs.Prefixes.{Network}
+use Rattle.link_change.specs.Rows.{Rows}
+use Rattle.router_core.proofs.HopLemmas.{HopsStand}
+use Rattle.router_core.specs.Stands.{PeerStands, StandsAt, TreeStands, Stands, Claim, Claims, EachChain, EachPeer, InteriorTree, OneSpeaker, Registered, SameCount, EachResolver, SameResolvers, AnswersAgree, HopsCounted, NoStrangers, Tie, Ties, here}
 
 -- the moment with this declared, and these chains
 abbrev pub remade : Moment → Declaration → Chains → Moment
@@ -53,6 +59,10 @@ chain_is_there m v view stands k p at = subst (λ (n : Moment). IsSome (chain_at
 pub peers_sound : (m v : Moment) → v ≡ m → Stands m → IsPeers v.chains
 peers_sound m v view stands = subst (λ (n : Moment). IsPeers n.chains) (sym view) (stands.own EachChain)
 
+-- ---- a peer's resolver
+pub resolver_there : (m : Moment) → Stands m → (k : ℕ) (c : Chained) → chain_at k m.chains ≡ Some c → IsSome (resolver_at k m.hops)
+resolver_there m stands k c at = stands.own SameResolvers k ∙ ap is_some at
+
 -- ---- all peers
 -- the same speaker, as many peers, and the others' sessions as they were
 pub record KeepsOthers (k : ℕ) (before now : Declaration) : Type 0 where
@@ -60,11 +70,22 @@ pub record KeepsOthers (k : ℕ) (before now : Declaration) : Type 0 where
   pub count : length now.peers ≡ length before.peers
   pub others : (j : ℕ) → nat_eq j k ≡ false → peer_at j now.peers ≡ peer_at j before.peers
 
-pub stands_put : (m : Moment) (now : Declaration) (k : ℕ) (c c' : Chained) (cs : Chains) → Stands m → chain_at k m.chains ≡ Some c → cs ≡ put_chain k c' m.chains → IsPeers cs → c'.me ≡ c.me
-    → KeepsOthers k m.declared now → StandsAt (peer_at k now.peers) (Some c') → Stands (remade m now cs)
-stands_put m now k c c' cs stands at is peers me keeps own_peer = subst (λ (x : Chains). Stands (remade m now x)) (sym is) (record { own = own; at = stands.at })
+pub stands_put : (m : Moment) (now : Declaration) (k : ℕ) (c c' : Chained) (cs : Chains) (r : Registry Interior) (h : Resolvers) → Stands m → chain_at k m.chains ≡ Some c → cs ≡ put_chain k c' m.chains → IsPeers cs → c'.me ≡ c.me
+    → KeepsOthers k m.declared now → StandsAt (peer_at k now.peers) (Some c') → r.rows ≡ m.registry.rows → HopsStand cs r h → Stands (with_hops (remade m now cs) r h)
+stands_put m now k c c' cs r h stands at is peers me keeps own_peer rows hops_then = subst (λ (x : Chains). Stands (with_hops (remade m now x) r h)) (sym is) (record { own = own; at = ties })
   where
-    own : (claim : Claim) → Claims (remade m now (put_chain k c' m.chains)) claim
+    hops : HopsStand (put_chain k c' m.chains) r h
+    hops = subst (λ (x : Chains). HopsStand x r h) is hops_then
+
+    ties : (p : Network) (tie : Tie) → Ties (here (with_hops (remade m now (put_chain k c' m.chains)) r h) p) tie
+    ties p Registered = ap (λ t. tables.get t p) rows ∙ stands.at p Registered
+
+    own : (claim : Claim) → Claims (with_hops (remade m now (put_chain k c' m.chains)) r h) claim
+    own EachResolver = hops.sound
+    own SameResolvers = hops.same
+    own AnswersAgree = hops.agree
+    own HopsCounted = hops.counted
+    own NoStrangers = hops.strangers
     own EachChain = subst IsPeers is peers
     own EachPeer = λ j. subst (λ (o : Option Chained). StandsAt (peer_at j now.peers) o) (sym (at_put k c' m.chains j))
         (by_bool (nat_eq j k) (λ b. StandsAt (peer_at j now.peers) (cond b (Some c') (chain_at j m.chains)))
@@ -74,10 +95,14 @@ stands_put m now k c c' cs stands at is peers me keeps own_peer = subst (λ (x :
     own SameCount = put_size k c c' m.chains at ∙ stands.own SameCount ∙ sym keeps.count
     own InteriorTree = subst (λ (s : Option Speaker). TreeStands s m.tree) (sym keeps.speaker) (stands.own InteriorTree)
 
-pub stands_with : (m : Moment) (k : ℕ) (c c' : Chained) (cs : Chains) (p : DeclaredPeer) → Stands m → chain_at k m.chains ≡ Some c → cs ≡ put_chain k c' m.chains → IsPeers cs → c'.me ≡ c.me → peer_at k m.declared.peers ≡ Some p
-    → PeerStands p c' → Stands (with_chains m cs)
-stands_with m k c c' cs p stands at is peers me peer here =
-    stands_put m m.declared k c c' cs stands at is peers me (record { speaker = refl; count = refl; others = λ j e. refl }) (subst (λ (o : Option DeclaredPeer). StandsAt o (Some c')) (sym peer) here)
+pub stands_with : (m : Moment) (k : ℕ) (c c' : Chained) (cs : Chains) (r : Registry Interior) (h : Resolvers) (p : DeclaredPeer) → Stands m → chain_at k m.chains ≡ Some c → cs ≡ put_chain k c' m.chains → IsPeers cs → c'.me ≡ c.me → peer_at k m.declared.peers ≡ Some p
+    → PeerStands p c' → r.rows ≡ m.registry.rows → HopsStand cs r h → Stands (with_hops (with_chains m cs) r h)
+stands_with m k c c' cs r h p stands at is peers me peer here rows hops =
+    stands_put m m.declared k c c' cs r h stands at is peers me (record { speaker = refl; count = refl; others = λ j e. refl }) (subst (λ (o : Option DeclaredPeer). StandsAt o (Some c')) (sym peer) here) rows hops
+
+-- where another chain stands for the peer
+pub same_peers : (m : Moment) (k : ℕ) (c c' : Chained) (cs : Chains) → chain_at k m.chains ≡ Some c → cs ≡ put_chain k c' m.chains → (j : ℕ) → is_some (chain_at j cs) ≡ is_some (chain_at j m.chains)
+same_peers m k c c' cs at is j = ap (λ (x : Chains). is_some (chain_at j x)) is ∙ put_kept is_some k c' m.chains (ap is_some (sym at)) j
 
 -- ---- what is live
 abbrev pub live_by : Moment → Declaration → (ℕ → Routes) → (ℕ → List Rule) → LiveState

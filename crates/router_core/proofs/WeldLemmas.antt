@@ -1,25 +1,17 @@
 -- A fall in a peer's chain, and the weld behind it.
 use Rattle.std.proofs.Common.{◌≡◌, ℕ, ◌<◌, ◌≤◌, List, ◌++◌, Some, sym, ap, subst, ◌∙◌, arith}
 use Rattle.journal_text.specs.declared.link.Task.{Task}
-use Rattle.journal_text.specs.declared.link.Task.TheVariants.{Del, Fin, Rdel}
+use Rattle.journal_text.specs.declared.link.Task.TheVariants.{Del, Fin, Nh, Rdel}
 use Rattle.journal_text.specs.declared.entry.Entry.{Entry}
 use Rattle.journal_text.specs.declared.value.Value.{Value}
 use Rattle.journal_text.specs.Journals.{Journaled, with_entries}
-use Rattle.journal_text.specs.Texts.{entries_of}
-use Rattle.journal_text.specs.Walk.{Leads}
 use Rattle.journal_text.proofs.JournalLemmas.{with_entries_append}
-use Rattle.link_region.specs.declared.regions.Region.TheVariants.{Inward}
-use Rattle.link_region.specs.Regions.{LeadsIn}
-use Rattle.link_region.proofs.RegionLemmas.{lead_join}
 use Rattle.in_chain.specs.Chains.{Chained}
 use Rattle.in_chain.specs.Steps.{welded}
-use Rattle.peer_side.specs.Peers.{Chains, chain_at, put_chain, peer_links, AreBefore}
+use Rattle.peer_side.specs.Peers.{Chains, chain_at, put_chain, AreBefore}
 use Rattle.peer_side.specs.Steps.{chain_weld_entries, WeldsPeer, WeldsInward, Nears}
 use Rattle.peer_side.proofs.MapLemmas.{one_of}
 use Rattle.peer_side.proofs.PutLemmas.{put_here, put_twice}
-use Rattle.router_core.specs.Moments.{Moment, with_chains, router_links}
-use Rattle.router_core.specs.Turns.{journal_lines}
-use Rattle.router_core.proofs.RegionLemmas.{leads_inward}
 
 -- ---- the peer's chain
 pub fallen_at : (k : ℕ) (a fallen : Chains) (c : Chained) → fallen ≡ put_chain k c a → chain_at k fallen ≡ Some c
@@ -42,12 +34,9 @@ module _ (k : ℕ) (a fallen cs : Chains) (c : Chained) (entries : List (Entry V
 pub nears_weld : (task : Task) (k : ℕ) (a fallen cs : Chains) (entries : List (Entry Value)) → Nears task a fallen → WeldsInward k fallen cs entries → Nears task a cs
 nears_weld (Del n s) k a fallen cs entries near w = let l = near.0 in let m = near.1 in let e = w.lost in let f = w.left in (omega (arith, l, e), omega (arith, m, f))
 nears_weld (Fin n) k a fallen cs entries near w = let l = near.0 in let m = near.1 in let e = w.lost in let f = w.left in (omega (arith, l, e), omega (arith, m, f))
+nears_weld (Nh n) k a fallen cs entries near w = absurd near
 nears_weld (Rdel proto n) k a fallen cs entries near w = absurd near
 
 -- ---- what both write
-pub fall_leads : (m : Moment) (fallen cs : Chains) (entries weld : List (Entry Value)) → LeadsIn Inward (peer_links m.chains) entries (peer_links fallen) → LeadsIn Inward (peer_links fallen) weld (peer_links cs)
-    → Leads (router_links m) (entries_of (journal_lines (entries ++ weld))) (router_links (with_chains m cs))
-fall_leads m fallen cs entries weld falls welds = leads_inward m cs (entries ++ weld) (lead_join Inward (peer_links m.chains) (peer_links fallen) (peer_links cs) entries weld falls welds)
-
 pub adds_both : (before j now : Journaled) (entries weld : List (Entry Value)) → j ≡ with_entries before entries → now ≡ with_entries j weld → now ≡ with_entries before (entries ++ weld)
 adds_both before j now entries weld first next = next ∙ ap (λ (x : Journaled). with_entries x weld) first ∙ with_entries_append before entries weld

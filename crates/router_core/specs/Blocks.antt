@@ -9,7 +9,7 @@ use Rattle.bgp_wire.specs.declared.message.Message.{Message}
 use Rattle.bgp_wire.specs.declared.message.Message.TheVariants as messages
 use Rattle.bgp_wire.specs.Spelling.{notification_octets}
 use Rattle.journal_text.specs.declared.link.Link.{Link}
-use Rattle.journal_text.specs.declared.link.Link.TheVariants.{In, Filt, Org, Low, Dyn, Int, Fib}
+use Rattle.journal_text.specs.declared.link.Link.TheVariants.{In, Filt, Res, Org, Low, Dyn, Int, Fib}
 use Rattle.journal_text.specs.declared.link.Task.{Task}
 use Rattle.journal_text.specs.declared.value.Value.{Value}
 use Rattle.journal_text.specs.declared.entry.Entry.TheVariants as entries
@@ -32,9 +32,11 @@ use Rattle.rib_tree.specs.Trees.{branch_of, int_rows}
 use Rattle.rib_tree.specs.Steps.{fed_tree, lost_tree, tree_overdue, tree_loss_entries}
 use Rattle.rib_tree.specs.Falls.{way_of_route}
 use Rattle.in_chain.specs.Steps.{new_chain}
+use Rattle.hop_side.specs.Resolvers.{put_resolver}
+use Rattle.nexthop_resolver.specs.Resolving.{nothing_known}
 use Rattle.peer_side.specs.Peers.{Chains, chain_at, put_chain, overdue_at}
-use Rattle.peer_side.specs.Steps.{EditsPeer, LosesPeer}
-use Rattle.router_core.specs.Moments.{Moment, with_chains, with_rib, router_links, bound_of}
+use Rattle.peer_side.specs.Steps.{EditsInward, LosesInward}
+use Rattle.router_core.specs.Moments.{Moment, with_chains, with_tree, router_links, bound_of}
 use Rattle.live_state.specs.Messages.{changes_of, Says}
 use Rattle.live_state.specs.Lives.{LiveAfter}
 use Rattle.router_core.specs.Lives.{live_state}
@@ -61,18 +63,18 @@ declared_speaker m words = record m { declared = with_speaker m.declared words }
 
 abbrev pub declared_peer : Moment → Speaker → ℕ → Speaker → Moment
 declared_peer m me k words =
-    record m { declared = with_peer m.declared k words; chains = put_chain k (new_chain me (words_of m.declared.speaker k words)) m.chains }
+    record m { declared = with_peer m.declared k words; chains = put_chain k (new_chain me (words_of m.declared.speaker k words)) m.chains; hops = put_resolver k (nothing_known k) m.hops }
 
 -- where `local` was declared, the links of a new peer begin
 abbrev pub Declares : Moment → Option Speaker → ℕ → Speaker → List Line → ℕ → Moment → Type 0
 Declares m None k words said turns m' = ⊥
 Declares m (Some me) k words said turns m' =
-    Just (lines.Journal (entries.Begin (In k)) ∷ lines.Journal (entries.Begin (Filt k)) ∷ []) (declared_peer m me k words) said turns m'
+    Just (lines.Journal (entries.Begin (In k)) ∷ lines.Journal (entries.Begin (Filt k)) ∷ lines.Journal (entries.Begin (Res k)) ∷ []) (declared_peer m me k words) said turns m'
 
 -- the incoming filter of peer k has these rules from now on; they hold nowhere yet
 abbrev pub Refilters : ℕ → List Rule → Moment → List Line → ℕ → Moment → Type 0
 Refilters k rules m said turns m' =
-    (chains : Chains) × EditsPeer k rules m.chains chains × Just [] (with_chains m chains) said turns m'
+    (chains : Chains) × EditsInward k rules m.chains chains × Just [] (with_chains m chains) said turns m'
 
 abbrev pub begun : Moment → ℕ → Moment
 begun m k = record m { declared = with_session m.declared k }
@@ -94,7 +96,7 @@ pub record Loses (k s : ℕ) (m : Moment) (said : List Line) (m' : Moment) : Typ
   pub runs : RunsFirst (overdue_at k m.chains) m first room
   pub last : List Line
   pub between : Moment
-  pub loses : InPeers (LosesPeer k s room.chains) room last between
+  pub loses : InPeers (LosesInward k s room.chains) room last between
   pub lines : said ≡ first ++ last
   pub after : m' ≡ ended between k
 
@@ -115,7 +117,7 @@ pub record LosesProtocol (proto : Proto) (m : Moment) (said : List Line) (m' : M
   pub room : Moment
   pub runs : RunsFirst (tree_overdue proto m.tree) m first room
   pub lines : said ≡ first ++ journal_lines (tree_loss_entries proto room.tree)
-  pub after : m' ≡ with_rib room (lost_tree proto room.tree) room.registry
+  pub after : m' ≡ with_tree room (lost_tree proto room.tree)
 
 -- the longest interior route that holds the address, and the largest subnet with that answer
 pub record CoversAddress (addr : ℕ) (m : Moment) (said : List Line) : Type 0 where

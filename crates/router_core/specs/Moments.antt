@@ -13,21 +13,23 @@ use Rattle.event_text.specs.Declarations.{Declaration, no_declaration}
 use Rattle.rib_tree.specs.Trees.{Treed, tree_count}
 use Rattle.rib_tree.specs.Steps.{new_tree}
 use Rattle.rib_tree.specs.Forwards.{rib_links}
-use Rattle.link_region.specs.declared.regions.Region.TheVariants.{Inward, InteriorRoutes, Forward, Elsewhere}
+use Rattle.link_region.specs.declared.regions.Region.TheVariants.{Inward, Resolved, InteriorRoutes, Forward, Elsewhere}
 use Rattle.link_region.specs.Regions.{Sides, joined}
-use Rattle.peer_side.specs.Peers.{Chains, peer_links, rows_in}
+use Rattle.hop_side.specs.Resolvers.{Resolvers, hop_links, known_in}
+use Rattle.peer_side.specs.Peers.{Chains, peer_links, filt_at, rows_in}
 
--- what was declared, the tree of the interior routes, the register of those, and each peer's chain
+-- what was declared, the tree of the interior routes, the register of those, each peer's chain, and below it each peer's resolver
 pub record Moment : Type 0 where
   pub declared : Declaration
   pub tree : Treed
   pub registry : Registry Interior
   pub chains : Chains
+  pub hops : Resolvers
 
-abbrev pub moment_code : Coded Declaration → Coded Treed → Coded (Registry Interior) → Coded Chains → Coded Moment
-moment_code d t r c =
-    code_by ((Declaration × Treed) × (Registry Interior × Chains)) (coded× (coded× d t) (coded× r c))
-    (λ a. ((a.declared, a.tree), (a.registry, a.chains))) (λ p. record { declared = p.0.0; tree = p.0.1; registry = p.1.0; chains = p.1.1 }) (λ _. refl)
+abbrev pub moment_code : Coded Declaration → Coded Treed → Coded (Registry Interior) → Coded Chains → Coded Resolvers → Coded Moment
+moment_code d t r c h =
+    code_by ((Declaration × Treed) × (Registry Interior × (Chains × Resolvers))) (coded× (coded× d t) (coded× r (coded× c h)))
+    (λ a. ((a.declared, a.tree), (a.registry, (a.chains, a.hops)))) (λ p. record { declared = p.0.0; tree = p.0.1; registry = p.1.0; chains = p.1.1.0; hops = p.1.1.1 }) (λ _. refl)
 
 -- the moment, how many events were stepped, and whether memory ran out
 pub record Cored : Type 0 where
@@ -41,15 +43,19 @@ cored_code m =
     (λ a. (a.moment, (a.events, a.failed))) (λ p. record { moment = p.0; events = p.1.0; failed = p.1.1 }) (λ _. refl)
 
 abbrev pub first_moment : Moment
-first_moment = record { declared = no_declaration; tree = new_tree; registry = record { rows = tables.empty; interests = tables.empty }; chains = tables.empty }
+first_moment = record { declared = no_declaration; tree = new_tree; registry = record { rows = tables.empty; interests = tables.empty }; chains = tables.empty; hops = tables.empty }
 
 -- the peers' chains became these
 abbrev pub with_chains : Moment → Chains → Moment
 with_chains m a = record m { chains = a }
 
--- the interior routes and the register became these
-abbrev pub with_rib : Moment → Treed → Registry Interior → Moment
-with_rib m t r = record m { tree = t; registry = r }
+-- the resolvers became these, and the register, which they ask
+abbrev pub with_hops : Moment → Registry Interior → Resolvers → Moment
+with_hops m r h = record m { registry = r; hops = h }
+
+-- the interior routes became these
+abbrev pub with_tree : Moment → Treed → Moment
+with_tree m t = record m { tree = t }
 
 -- the links of the tree, and `fib`: they are live where `local` was declared
 abbrev pub rib_by : Option Speaker → Treed → Links Value
@@ -59,6 +65,7 @@ rib_by (Some me) t link = rib_links t link
 -- the links of each region
 abbrev pub parts : Moment → Sides
 parts m Inward = peer_links m.chains
+parts m Resolved = hop_links m.hops (filt_at m.chains)
 parts m InteriorRoutes = rib_by m.declared.speaker m.tree
 parts m Forward = rib_by m.declared.speaker m.tree
 parts m Elsewhere = no_links
@@ -69,7 +76,7 @@ router_links m = joined (parts m)
 
 -- how many turns an idle takes at most
 abbrev pub bound_of : Moment → ℕ
-bound_of m = (length m.declared.peers + 2) * (9 * (rows_in m.chains + tree_count m.tree) + 6)
+bound_of m = (length m.declared.peers + 2) * (9 * (rows_in m.chains + tree_count m.tree) + 2 * known_in m.hops + 6)
 
 -- these lines were given, in the text of the journal, and this is said of them
 abbrev pub Gives : (List Line → Type 0) → Journaled → Journaled → Type 0

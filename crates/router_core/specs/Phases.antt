@@ -1,35 +1,55 @@
 -- How many turns are left, phase by phase, and how many all take.
-use Rattle.std.specs.Prelude.{ℕ, ◌+◌, ◌-◌, ◌*◌, ◌≤◌, nat_lt, if◌then◌else◌, length, List, [], ◌∷◌}
+use Rattle.std.specs.Prelude.{ℕ, Option, None, Some, ◌+◌, ◌-◌, ◌*◌, ◌≤◌, nat_lt, if◌then◌else◌, length, List, [], ◌∷◌}
 use Rattle.loss_chain.specs.Tables.{lost_count}
-use Rattle.peer_side.specs.Peers.{lost_in, left_in}
+use Rattle.std.specs.FinMap as tables
+use Rattle.addr4.specs.Prefixes.{Network}
+use Rattle.hop_side.specs.Resolvers.{Beyonds, left_in as hops_left_in}
+use Rattle.in_chain.specs.Chains.{Chained, filt_beyond}
+use Rattle.peer_side.specs.Peers.{Chains, chain_at, rows_in, lost_in, left_in}
 use Rattle.rib_tree.specs.Trees.{Treed}
 use Rattle.router_core.specs.declared.router.Phase.{Phase}
-use Rattle.router_core.specs.declared.router.Phase.TheVariants.{Rdel, Del, Fin}
+use Rattle.router_core.specs.declared.router.Phase.TheVariants.{Rdel, Del, Fin, Nh}
 use Rattle.router_core.specs.Moments.{Moment}
-use Rattle.live_state.specs.Lives.{LiveState}
 
 -- how many rows the stages of the protocols' losses have
 abbrev pub tree_lost : Treed → ℕ
 tree_lost t = lost_count t.connected.tables.deletions + (lost_count t.statics.tables.deletions + (lost_count t.ospf.tables.deletions + lost_count t.rip.tables.deletions))
 
+-- how many rows of `in.K` lie beyond a place
+abbrev pub beyond_by : Option Chained → Option Network → ℕ
+beyond_by None place = 0
+beyond_by (Some c) place = filt_beyond c place
+
+abbrev pub beyonds : Chains → Beyonds
+beyonds a k = beyond_by (chain_at k a)
+
 -- ---- the table: a line for each phase
 
 -- the phases of an idle, in their order
 abbrev pub all_phases : List Phase
-all_phases = Rdel ∷ Del ∷ Fin ∷ []
+all_phases = Rdel ∷ Del ∷ Fin ∷ Nh ∷ []
 
 -- how many turns a phase takes, if nothing else happens
 abbrev pub counts : Moment → Phase → ℕ
 counts m Rdel = tree_lost m.tree
 counts m Del = lost_in m.chains
 counts m Fin = left_in m.chains
+counts m Nh = hops_left_in (beyonds m.chains) m.hops
 
--- what background work leaves as it is: how many peers there are
+-- What background work never adds to: the turns that next hops take at most, whatever became stale. Each names a row, and two whole
+-- walks of each peer may be left.
+abbrev pub most_of : Moment → ℕ
+most_of m = 3 * rows_in m.chains + 2 * tables.len m.chains
+
 pub record Frame : Type 0 where
-  pub peers : ℕ
+  pub most : ℕ
 
-abbrev pub frame_of : LiveState → Frame
-frame_of l = record { peers = length l.declared.peers }
+abbrev pub frame_of : Moment → Frame
+frame_of m = record { most = most_of m }
+
+-- the moment is within a frame
+abbrev pub IsWithin : Frame → Moment → Type 0
+IsWithin f m = most_of m ≤ f.most
 
 -- how turns of a phase add to the count of another: so much each, or up to a cap, however many turns they are
 pub data Rise : Type 0 where
@@ -38,6 +58,8 @@ pub data Rise : Type 0 where
 
 -- how turns of the first add to the second
 abbrev pub rise : Frame → Phase → Phase → Rise
+rise f Nh e = Each 0
+rise f r Nh = UpTo f.most
 rise f r e = Each 0
 
 -- ---- the same for any table

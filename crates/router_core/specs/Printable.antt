@@ -1,6 +1,12 @@
 -- What stands between two steps can be printed and read back: the declared peers, each row, live or lost, and the rules of filters.
 use Rattle.std.specs.Prelude.{◌≡◌, ℕ, List, Some}
 use Rattle.std.specs.List.{AllByRecursion}
+use Rattle.std.specs.FinMap as tables
+use Rattle.nexthop_known.specs.declared.answer.Hop.{Hop}
+use Rattle.nexthop_resolver.specs.declared.rows.Metric.{Metric}
+use Rattle.nexthop_resolver.specs.Resolving.{Resolving}
+use Rattle.hop_side.specs.Resolvers.{resolver_at}
+use Rattle.journal_check.specs.Laws.{IsNumberIfAny}
 use Rattle.event_text.specs.Declarations.{Declaration, IsDeclaration}
 use Rattle.journal_text.specs.declared.line.Line.{Line}
 use Rattle.journal_laws.specs.Peers.{neighbours}
@@ -17,8 +23,17 @@ use Rattle.live_state.specs.Messages.{plain}
 abbrev pub ArePrinted : Declaration → List Line → Type 0
 ArePrinted d said = AllByRecursion (IsPrinted (neighbours d)) said
 
--- The declarations; each peer's chain, whose rows, live or lost, the peer said; and the routes of each protocol, live or lost.
+-- the metrics of the answers about a next hop, that in force and the fresh one, are in their range
+abbrev pub HasMetrics : Hop Metric → Type 0
+HasMetrics h = IsNumberIfAny h.in_force.igp × IsNumberIfAny h.fresh.igp
+
+abbrev pub HaveMetrics : Resolving Metric → Type 0
+HaveMetrics s = (a : ℕ) (h : Hop Metric) → tables.get s.known a ≡ Some h → HasMetrics h
+
+-- The declarations; each peer's chain, whose rows, live or lost, the peer said; the routes of each protocol, live or lost; and the
+-- answers about next hops.
 pub record IsPrintableMoment (m : Moment) : Type 0 where
   pub declared : IsDeclaration m.declared
   pub chains : (k : ℕ) (c : Chained) → chain_at k m.chains ≡ Some c → IsPrintableChain plain c
   pub interior : (proto : Proto) → AreTablesOf IsInteriorRow (branch_of proto m.tree).tables
+  pub hops : (k : ℕ) (s : Resolving Metric) → resolver_at k m.hops ≡ Some s → HaveMetrics s

@@ -1,11 +1,13 @@
 -- What holds between two steps.
-use Rattle.std.specs.Prelude.{◌≡◌, ℕ, ◌+◌, ◌≤◌, length, Bool, true, false, if◌then◌else◌, Option, Some, None}
+use Rattle.std.specs.Prelude.{◌≡◌, ℕ, ◌+◌, ◌≤◌, length, Bool, true, false, is_some, if◌then◌else◌, Option, Some, None}
 use Rattle.std.specs.FinMap as tables
 use Rattle.bgp_attr.specs.declared.speaker.Speaker.{Speaker}
 use Rattle.event_text.specs.declared.declared.DeclaredPeer.{DeclaredPeer}
 use Rattle.event_text.specs.Declarations.{peer_at}
 use Rattle.in_chain.specs.Chains.{Chained}
-use Rattle.peer_side.specs.Peers.{chain_at, IsPeers, AreBefore}
+use Rattle.hop_side.specs.Resolvers.{resolver_at, IsHops, AllAgree, AllCounted}
+use Rattle.hop_side.specs.Steps.{HasNoInterest}
+use Rattle.peer_side.specs.Peers.{chain_at, filt_at, IsPeers, AreBefore}
 use Rattle.rib_route.specs.declared.Proto.{Proto}
 use Rattle.rib_tree.specs.Trees.{Treed, branch_of, int_rows, IsTree, IsFull, AreNumbered}
 use Rattle.rib_tree.specs.Steps.{new_tree}
@@ -45,13 +47,20 @@ pub record TreeStands (speaker : Option Speaker) (t : Treed) : Type 0 where
 -- ---- the tables: a line for each claim, and for each tie between two parts
 
 -- what is claimed: of the chains alone, of each peer and its chain, that the chains have the words of this speaker and are as many as
--- peers, and of the interior routes
+-- peers, and of the interior routes; of the resolvers alone, that exactly the peers with chains have one, that their next hops that
+-- aren't stale have the register's present answers, that the next hops which the rows of `filt.K` name are counted, and that nobody
+-- else has an interest
 pub data Claim : Type 0 where
   EachChain : Claim
   EachPeer : Claim
   OneSpeaker : Claim
   SameCount : Claim
   InteriorTree : Claim
+  EachResolver : Claim
+  SameResolvers : Claim
+  AnswersAgree : Claim
+  HopsCounted : Claim
+  NoStrangers : Claim
 
 abbrev pub Claims : Moment → Claim → Type 0
 Claims m EachChain = IsPeers m.chains
@@ -59,6 +68,11 @@ Claims m EachPeer = (k : ℕ) → StandsAt (peer_at k m.declared.peers) (chain_a
 Claims m OneSpeaker = (k : ℕ) (c : Chained) → chain_at k m.chains ≡ Some c → m.declared.speaker ≡ Some c.me
 Claims m SameCount = tables.len m.chains ≡ length m.declared.peers
 Claims m InteriorTree = TreeStands m.declared.speaker m.tree
+Claims m EachResolver = IsHops m.hops
+Claims m SameResolvers = (k : ℕ) → is_some (resolver_at k m.hops) ≡ is_some (chain_at k m.chains)
+Claims m AnswersAgree = AllAgree m.hops m.registry
+Claims m HopsCounted = AllCounted (filt_at m.chains) m.hops
+Claims m NoStrangers = (k : ℕ) → resolver_at k m.hops ≡ None → HasNoInterest k m.registry
 
 -- all that the ties read at one prefix: the row of the register, and that of `int`
 pub record Here : Type 0 where

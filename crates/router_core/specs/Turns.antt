@@ -6,6 +6,8 @@ use Rattle.bgp_attr.specs.declared.attrs.Attrs.{Attrs}
 use Rattle.bgp_attr.specs.declared.route.Route.{Route}
 use Rattle.link_change.specs.Changes.{IsSent}
 use Rattle.link_change.specs.declared.change.Change.{Change}
+use Rattle.link_change.specs.declared.turn.Turn.{Turn}
+use Rattle.link_change.specs.declared.turn.Turn.TheVariants as turns
 use Rattle.journal_text.specs.declared.link.Link.TheVariants.{Fib}
 use Rattle.journal_text.specs.declared.link.Task.{Task}
 use Rattle.journal_text.specs.declared.link.Task.TheVariants as tasks
@@ -13,9 +15,11 @@ use Rattle.journal_text.specs.declared.value.Value.{Value}
 use Rattle.journal_text.specs.declared.entry.Entry.{Entry}
 use Rattle.journal_text.specs.declared.line.Line.{Line}
 use Rattle.journal_text.specs.declared.line.Line.TheVariants as lines
-use Rattle.in_chain.specs.Chains.{Chained}
+use Rattle.in_chain.specs.Chains.{Chained, filt_rows, filt_candidates}
+use Rattle.hop_side.specs.Resolvers.{Resolvers, PeerRows, AllCounted, has_hop_work, known_in}
+use Rattle.hop_side.specs.Steps.{TakesHop, TurnsBelow, ReachesBelow, KeepsAgreed, ComesOn, GoesOn, res_entries}
 use Rattle.peer_side.specs.Peers.{Chains, chain_at, peer_of, has_peer_work, deletion_tasks, filter_tasks, rows_in}
-use Rattle.peer_side.specs.Steps.{FeedsPeer, TurnsPeer, WeldsPeer}
+use Rattle.peer_side.specs.Steps.{FeedsInward, TakesInward, WeldsInward}
 use Rattle.router_core.specs.declared.router.Phase.{Phase}
 use Rattle.router_core.specs.declared.router.Phase.TheVariants as phases
 use Rattle.std.specs.FinMap as tables
@@ -35,8 +39,8 @@ use Rattle.rib_merge.specs.Forwards.{forwarded}
 use Rattle.prefix_trie.specs.Width.{width}
 use Rattle.register_interest.specs.declared.interests.Interest.{Interest}
 use Rattle.register_interest.specs.Interests.{AreReached, without}
-use Rattle.register_interest.specs.Registers.{Registry, put_row}
-use Rattle.router_core.specs.Moments.{Moment, with_chains, with_rib}
+use Rattle.register_interest.specs.Registers.{Registry, KeepsAnswers, put_row}
+use Rattle.router_core.specs.Moments.{Moment, with_chains, with_hops, with_tree}
 
 abbrev pub journal_lines : List (Entry Value) → List Line
 journal_lines entries = map (λ e. lines.Journal e) entries
@@ -49,20 +53,37 @@ pub record InPeers (P : Chains → List (Entry Value) → Type 0) (m : Moment) (
   pub lines : said ≡ journal_lines entries
   pub after : m' ≡ with_chains m chains
 
--- A fall in the chain of peer k, of which this is said, and behind it the weld of the stage that it emptied, if any.
-pub record FallsPeer (k : ℕ) (P : Chains → List (Entry Value) → Type 0) (m : Moment) (said : List Line) (m' : Moment) : Type 0 where
+-- A change on `filt.K` of peer k, if one came out, goes through its resolver.
+abbrev pub Resolves : ℕ → Option (Change Route) → Option (Change Route) → Registry Interior → Registry Interior → Resolvers → Resolvers → List (Entry Value) → Type 0
+Resolves k None sent r r' h h' entries = (sent ≡ None) × (r' ≡ r) × (h' ≡ h)
+Resolves k (Some change) sent r r' h h' entries = TakesHop k change sent r h h' entries
+
+-- What follows a change that came out on `filt.K` of peer k, if one did: its resolver takes it in, which asks the register about a next
+-- hop that came, and forgets one that no row names any more; what goes on comes on `res.K`, whatever the rows of all `filt.K` are which
+-- the change leads on.
+pub record ResolvesOn (k : ℕ) (sent : Option (Change Route)) (r r' : Registry Interior) (h h' : Resolvers) (entries : List (Entry Value)) : Type 0 where
+  pub below : Option (Change Route)
+  pub lines : entries ≡ res_entries k below
+  pub resolves : Resolves k sent below r r' h h' entries
+  pub agreed : KeepsAgreed k r r' h h'
+  pub goes : (uppers now : PeerRows) (p : Network) → AllCounted uppers h → ComesOn k p sent uppers now → GoesOn k p below h h' entries uppers now
+
+-- A fall in the chain of peer k, of which this is said, what follows the change on `filt.K`, and behind both the weld of the stage that
+-- the fall emptied, if any.
+pub record FallsPeer (k : ℕ) (sent : Option (Change Route)) (P : Chains → List (Entry Value) → Type 0) (m : Moment) (said : List Line) (m' : Moment) : Type 0 where
   pub fallen : Chains
   pub entries : List (Entry Value)
   pub part : P fallen entries
-  pub chains : Chains
+  pub resolved : List (Entry Value)
+  pub below : ResolvesOn k sent m.registry m'.registry m.hops m'.hops resolved
   pub weld : List (Entry Value)
-  pub welds : WeldsPeer k fallen chains weld
-  pub lines : said ≡ journal_lines (entries ++ weld)
-  pub after : m' ≡ with_chains m chains
+  pub welds : WeldsInward k fallen m'.chains weld
+  pub lines : said ≡ journal_lines (entries ++ (resolved ++ weld))
+  pub after : m' ≡ with_hops (with_chains m m'.chains) m'.registry m'.hops
 
 -- One prefix of an UPDATE from peer k is announced or withdrawn.
 abbrev pub Feeds : ℕ → Network × Option Attrs → Moment → List Line → Moment → Type 0
-Feeds k change m said m' = (sent : Option (Change Route)) × FallsPeer k (FeedsPeer k change.0 change.1 sent m.chains) m said m'
+Feeds k change m said m' = (sent : Option (Change Route)) × FallsPeer k sent (FeedsInward k change.0 change.1 sent m.chains) m said m'
 
 -- one prefix after the other
 abbrev pub FeedsAll : ℕ → List (Network × Option Attrs) → Moment → List Line → Moment → Type 0
@@ -75,16 +96,22 @@ abbrev pub fib_entries : Option (Change FibRow) → List (Entry Value)
 fib_entries None = []
 fib_entries (Some change) = valued_change fib_value Fib change
 
--- What the register makes of a change of `int`, if one came out: it has the row, and the interests that the change reaches are
--- given up; all else stays.
-abbrev pub Registers : Option (Change Interior) → Registry Interior → Registry Interior → Type 0
-Registers None r r' = r' ≡ r
-Registers (Some change) r r' =
-    (r'.rows ≡ put_row r.rows change.prefix change.after)
-    × (reached : List Interest) × AreReached width change.prefix (tables.get r.interests) reached × (r'.interests ≡ without r.interests reached)
+-- What the register makes of a change of `int`: it has the row, and these are the interests that the change reaches, which are given
+-- up; all else stays, and the answers that go with kept interests are the present ones.
+pub record Registers (change : Change Interior) (reached : List Interest) (r r' : Registry Interior) : Type 0 where
+  pub rows : r'.rows ≡ put_row r.rows change.prefix change.after
+  pub reaches : AreReached width change.prefix (tables.get r.interests) reached
+  pub interests : r'.interests ≡ without r.interests reached
+  pub answers : KeepsAnswers r r'
 
--- A change of an interior route at a prefix made this of the tree: its messages go down to `int`, then the register and `fib`
--- follow, and behind them stands the weld of the stage that it emptied, if any.
+-- What follows a change that came out on `int`, if one did: the register takes it over, and in each resolver the answers are stale
+-- that came with an interest which was given up.
+abbrev pub Invalidates : Option (Change Interior) → Registry Interior → Registry Interior → Resolvers → Resolvers → Type 0
+Invalidates None r r' h h' = (r' ≡ r) × (h' ≡ h)
+Invalidates (Some change) r r' h h' = (reached : List Interest) × Registers change reached r r' × ReachesBelow reached h h'
+
+-- A change of an interior route at a prefix made this of the tree: its messages go down to `int`, then the register, the resolvers and
+-- `fib` follow, and behind them stands the weld of the stage that it emptied, if any.
 pub record FallsRoute (m : Moment) (new : Treed) (proto : Proto) (p : Network) (way : List Link) (said : List Line) (m' : Moment) : Type 0 where
   pub sent : Option (Change Interior)
   pub entries : List (Entry Value)
@@ -93,12 +120,25 @@ pub record FallsRoute (m : Moment) (new : Treed) (proto : Proto) (p : Network) (
   pub below : Option (Change FibRow)
   pub fib : IsSent (forwarded (int_rows m.tree)) (forwarded (int_rows new)) p below
   pub lines : said ≡ journal_lines (entries ++ (fib_entries below ++ tree_weld_entries proto new))
-  pub register : Registers sent m.registry m'.registry
-  pub after : m' ≡ with_rib m (welded_tree proto new) m'.registry
+  pub below_int : Invalidates sent m.registry m'.registry m.hops m'.hops
+  pub int : int_rows (welded_tree proto new) ≡ int_rows new
+  pub after : m' ≡ with_hops (with_tree m (welded_tree proto new)) m'.registry m'.hops
+
+-- the change that a turn sent, if it sent one
+abbrev pub sent_of : {R : Type 0} → Turn R → Option (Change R)
+sent_of turns.Nothing = None
+sent_of turns.Quiet = None
+sent_of (turns.Sent change) = Some change
+
+-- a task of a peer's chain
+abbrev pub IsOfPeers : Task → Type 0
+IsOfPeers (tasks.Del k s) = Unit {0}
+IsOfPeers (tasks.Fin k) = Unit {0}
+IsOfPeers other = ⊥
 
 -- One turn of a task of a peer: of the deletion stage of a session, or of the walk of a filter.
 abbrev pub IsPeerTurn : Task → Moment → List Line → Moment → Type 0
-IsPeerTurn task m said m' = (sent : Option (Change Route)) × FallsPeer (peer_of task) (TurnsPeer task sent m.chains) m said m'
+IsPeerTurn task m said m' = (sent : Option (Change Route)) × FallsPeer (peer_of task) sent (TakesInward task sent m.chains) m said m'
 
 -- One turn of the stage of a protocol's loss: its least row goes.
 pub record IsRouteTurn (proto : Proto) (n : ℕ) (m : Moment) (said : List Line) (m' : Moment) : Type 0 where
@@ -109,16 +149,28 @@ pub record IsRouteTurn (proto : Proto) (n : ℕ) (m : Moment) (said : List Line)
   pub least : IsLeastRow (tables.get table) prefix (Some row)
   pub falls : FallsRoute m (swept_tree proto n prefix m.tree) proto prefix (way_of_sweep proto n m.tree) said m'
 
+-- One turn of the next hops of peer k, over the rows of its `filt.K`.
+pub record IsHopTurn (k : ℕ) (m : Moment) (said : List Line) (m' : Moment) : Type 0 where
+  pub chain : Chained
+  pub at : chain_at k m.chains ≡ Some chain
+  pub sent : Option (Change Route)
+  pub entries : List (Entry Value)
+  pub turn : TurnsBelow k (filt_candidates chain) (filt_rows chain) sent m.registry m'.registry m.hops m'.hops entries
+  pub lines : said ≡ journal_lines entries
+  pub after : m' ≡ with_hops m m'.registry m'.hops
+
 -- one turn of a task
 abbrev pub IsTurn : Task → Moment → List Line → Moment → Type 0
 IsTurn (tasks.Del k s) m said m' = IsPeerTurn (tasks.Del k s) m said m'
 IsTurn (tasks.Fin k) m said m' = IsPeerTurn (tasks.Fin k) m said m'
+IsTurn (tasks.Nh k) m said m' = IsHopTurn k m said m'
 IsTurn (tasks.Rdel proto n) m said m' = IsRouteTurn proto n m said m'
 
 -- whether a task has work
 abbrev pub has_work : Task → Moment → Bool
 has_work (tasks.Del k s) m = has_peer_work m.chains (tasks.Del k s)
 has_work (tasks.Fin k) m = has_peer_work m.chains (tasks.Fin k)
+has_work (tasks.Nh k) m = has_hop_work m.hops k
 has_work (tasks.Rdel proto n) m = has_tree_turn m.tree (tasks.Rdel proto n)
 
 -- so many turns of a task
@@ -137,24 +189,28 @@ abbrev pub phase_of : Task → Phase
 phase_of (tasks.Rdel proto n) = phases.Rdel
 phase_of (tasks.Del k s) = phases.Del
 phase_of (tasks.Fin k) = phases.Fin
+phase_of (tasks.Nh k) = phases.Nh
 
 -- the tasks of a phase of an idle, in their order
 abbrev pub phase_tasks : Phase → Moment → List Task
 phase_tasks phases.Rdel m = tree_tasks m.tree
 phase_tasks phases.Del m = deletion_tasks m.chains
 phase_tasks phases.Fin m = filter_tasks m.chains
+phase_tasks phases.Nh m = map (λ k. tasks.Nh k) (tables.keys m.hops)
 
 -- how many turns a phase takes at most
 abbrev pub phase_bound : Phase → Moment → ℕ
 phase_bound phases.Rdel m = tree_count m.tree
 phase_bound phases.Del m = rows_in m.chains
 phase_bound phases.Fin m = 2 * (rows_in m.chains + tables.len m.chains)
+phase_bound phases.Nh m = known_in m.hops + 2 * (rows_in m.chains + tables.len m.chains)
 
--- no stage of the phase stands, and no walk of it is on
+-- no stage of the phase stands, no walk of it is on, and no next hop has work
 abbrev pub IsOver : Phase → Moment → Type 0
 IsOver phases.Rdel m = (proto : Proto) → (branch_of proto m.tree).tables.deletions ≡ []
 IsOver phases.Del m = (k : ℕ) (c : Chained) → chain_at k m.chains ≡ Some c → c.incoming.tables.deletions ≡ []
 IsOver phases.Fin m = (k : ℕ) (c : Chained) → chain_at k m.chains ≡ Some c → c.filter.walk ≡ None
+IsOver phases.Nh m = (k : ℕ) → has_hop_work m.hops k ≡ false
 
 -- ---- the same for any table
 

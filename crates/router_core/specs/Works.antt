@@ -11,7 +11,10 @@ use Rattle.journal_text.specs.Journals.{Journaled, with_lines, with_entries, flu
 use Rattle.event_text.specs.declared.declared.DeclaredPeer.{DeclaredPeer}
 use Rattle.event_text.specs.Declarations.{peer_at}
 use Rattle.peer_side.specs.Peers.{chain_at, overdue_at}
-use Rattle.peer_side.specs.Steps.{LosesPeer}
+use Rattle.peer_side.specs.Steps.{LosesInward, WeldsInward}
+use Rattle.bgp_attr.specs.declared.route.Route.{Route}
+use Rattle.journal_text.specs.declared.entry.Entry.{Entry}
+use Rattle.journal_text.specs.declared.value.Value.{Value}
 use Rattle.router_core.specs.declared.router.Done.{Done}
 use Rattle.router_core.specs.declared.router.Done.TheVariants.{Nothing, Taken}
 use Rattle.rib_route.specs.declared.Proto.{Proto}
@@ -19,7 +22,7 @@ use Rattle.rib_route.specs.declared.rows.Interior.{Interior}
 use Rattle.rib_tree.specs.Trees.{Treed, int_rows, IsTree, IsFull}
 use Rattle.rib_tree.specs.Falls.{LeadsTree}
 use Rattle.rib_tree.specs.Steps.{lost_tree, welded_tree, tree_overdue, tree_loss_entries, tree_weld_entries}
-use Rattle.router_core.specs.Moments.{Moment, with_rib, router_links, bound_of, Gives}
+use Rattle.router_core.specs.Moments.{Moment, with_chains, with_hops, with_tree, router_links, bound_of, Gives}
 use Rattle.journal_text.specs.declared.link.Link.{Link}
 use Rattle.live_state.specs.Lives.{LiveState, LiveAfter, live_fed, heard, ended, interior_lost}
 use Rattle.router_core.specs.Lives.{live_state}
@@ -28,8 +31,8 @@ use Rattle.router_core.specs.Scratch.{IsExact}
 use Rattle.router_core.specs.declared.router.Phase.{Phase}
 use Rattle.rib_route.specs.declared.rows.FibRow.{FibRow}
 use Rattle.rib_merge.specs.Forwards.{ForwardsOn}
-use Rattle.router_core.specs.Turns.{Registers, fib_entries, journal_lines, InPeers, FeedsAll, FallsRoute, phase_of, IsTurn, Turns, Runs, RunsPhase, RunsAll, has_work, phase_bound, IsOver, IsSettled}
-use Rattle.router_core.specs.Phases.{all_phases, counts, frame_of, Spends}
+use Rattle.router_core.specs.Turns.{ResolvesOn, Invalidates, fib_entries, journal_lines, InPeers, FeedsAll, FallsRoute, phase_of, IsTurn, Turns, Runs, RunsPhase, RunsAll, has_work, phase_bound, IsOver, IsSettled}
+use Rattle.router_core.specs.Phases.{Frame, IsWithin, all_phases, counts, most_of, Spends}
 use Rattle.router_core.specs.Blocks.{RunsFirst, Loses, Hears, Idles, IsBlock, ended as ended_moment}
 use Rattle.router_core.specs.declared.router.Idle.{Idle}
 use Rattle.event_text.specs.declared.event.Event.{Event}
@@ -49,7 +52,8 @@ pub record Keeps (live_then : LiveState) (m m' : Moment) (said : List Line) : Ty
 -- Background work of a phase: what is live stays, and so many turns are spent.
 pub record IsWork (phase : Phase) (turns : ℕ) (m m' : Moment) (said : List Line) : Type 0 where
   pub keeps : Keeps (live_state m) m m' said
-  pub spends : Spends (frame_of (live_state m)) phase turns (counts m) (counts m')
+  pub spends : (f : Frame) → IsWithin f m → Spends f phase turns (counts m) (counts m')
+  pub within : most_of m' ≤ most_of m
 
 -- one turn of a task
 pub record IsUnit (task : Task) (m m' : Moment) (said : List Line) : Type 0 where
@@ -126,7 +130,7 @@ pub record HasLost (k s : ℕ) (m m' : Moment) (said : List Line) : Type 0 where
 -- the loss alone, where there is room
 pub record Ends (k s : ℕ) (m m' : Moment) (said : List Line) : Type 0 where
   pub between : Moment
-  pub loses : InPeers (LosesPeer k s m.chains) m said between
+  pub loses : InPeers (LosesInward k s m.chains) m said between
   pub after : m' ≡ ended_moment between k
   pub keeps : Keeps (ended (live_state m) k) m m' said
 
@@ -148,6 +152,17 @@ pub record HasHeard (k : ℕ) (p : DeclaredPeer) (m : Moment) (message : Message
   pub hears : Hears k p m message said m'
   pub keeps : Keeps (heard (live_state m) k message) m m' said
 
+-- ---- next hops
+
+-- What follows a change on `filt.K`, and behind it the stage of the peer that was emptied goes, if there is one.
+pub record SettlesPeer (k : ℕ) (sent : Option (Change Route)) (m m' : Moment) (entries : List (Entry Value)) : Type 0 where
+  pub resolved : List (Entry Value)
+  pub below : ResolvesOn k sent m.registry m'.registry m.hops m'.hops resolved
+  pub weld : List (Entry Value)
+  pub welds : WeldsInward k m.chains m'.chains weld
+  pub lines : entries ≡ resolved ++ weld
+  pub after : m' ≡ with_hops (with_chains m m'.chains) m'.registry m'.hops
+
 -- ---- interior routes
 
 -- A change of an interior route made this of the tree.
@@ -164,7 +179,7 @@ pub record HasProtocolRoom (proto : Proto) (m room : Moment) (said : List Line) 
 -- the loss alone, where there is room
 pub record EndsProtocol (proto : Proto) (m m' : Moment) (said : List Line) : Type 0 where
   pub lines : said ≡ journal_lines (tree_loss_entries proto m.tree)
-  pub after : m' ≡ with_rib m (lost_tree proto m.tree) m.registry
+  pub after : m' ≡ with_tree m (lost_tree proto m.tree)
   pub keeps : Keeps (interior_lost (live_state m) proto) m m' said
 
 -- what comes out on `fib`, by what came out on `int`
@@ -176,18 +191,19 @@ Forwards (Some change) below = ForwardsOn change below
 abbrev pub PushesForwarded : Change Interior → Journaled → Journaled → Type 0
 PushesForwarded change before now = (below : Option (Change FibRow)) × ForwardsOn change below × (now ≡ with_entries before (fib_entries below))
 
--- What follows a change that came out on `int`, if one did: the register takes it over, and `fib` gets what the change makes of it.
+-- What follows a change that came out on `int`, if one did: the register takes it over, the resolvers hear of the interests that it
+-- reaches, and `fib` gets what the change makes of it.
 pub record Follows (sent : Option (Change Interior)) (m m' : Moment) (before now : Journaled) : Type 0 where
-  pub register : Registers sent m.registry m'.registry
-  pub after : m' ≡ with_rib m m.tree m'.registry
+  pub below_int : Invalidates sent m.registry m'.registry m.hops m'.hops
+  pub after : m' ≡ with_hops m m'.registry m'.hops
   pub below : Option (Change FibRow)
   pub fib : Forwards sent below
   pub lines : now ≡ with_entries before (fib_entries below)
 
 -- the same, and behind it the stage of the protocol that was emptied goes, if there is one
 pub record Settles (proto : Proto) (sent : Option (Change Interior)) (m m' : Moment) (before now : Journaled) : Type 0 where
-  pub register : Registers sent m.registry m'.registry
-  pub after : m' ≡ with_rib m (welded_tree proto m.tree) m'.registry
+  pub below_int : Invalidates sent m.registry m'.registry m.hops m'.hops
+  pub after : m' ≡ with_hops (with_tree m (welded_tree proto m.tree)) m'.registry m'.hops
   pub below : Option (Change FibRow)
   pub fib : Forwards sent below
   pub lines : now ≡ with_entries before (fib_entries below ++ tree_weld_entries proto m.tree)

@@ -4,6 +4,8 @@ ghost use Rattle.std.specs.Prelude.{◌≡◌, ◌≤◌, OnOk, IfOk, IsSome, is
 ghost use Rattle.addr4.specs.Places.{key_of};
 ghost use Rattle.journal_text.specs.Walk.{HasRow};
 ghost use Rattle.journal_text.specs.Journals.{with_lines};
+ghost use Rattle.hop_side.specs.Resolvers.{hop_links};
+ghost use Rattle.peer_side.specs.Peers.{filt_at};
 ghost use Rattle.router_core.specs.Moments.{rib_by, router_links};
 ghost use Rattle.router_core.specs.Blocks.{answer_lines, Shows};
 ghost use Rattle.router_core.specs.Lookups.{Counts, ShowsRow, IsCountOf, IsNextPlace};
@@ -21,6 +23,7 @@ impl Network {
     {
         match region_of(link) {
             Region::Inward => self.chains.live(link),
+            Region::Resolved => self.hops.live(link),
             Region::InteriorRoutes => self.rib_live(link),
             Region::Forward => self.rib_live(link),
             Region::Elsewhere => false,
@@ -44,6 +47,7 @@ impl Network {
     {
         match region_of(link) {
             Region::Inward => self.chains.asked(link, p),
+            Region::Resolved => self.resolved(link, p),
             Region::InteriorRoutes => self.tree.asked(link, p),
             Region::Forward => self.tree.asked(link, p),
             Region::Elsewhere => unreachable!(),
@@ -57,10 +61,42 @@ impl Network {
     {
         match region_of(link) {
             Region::Inward => self.chains.next_candidate(link, after),
+            Region::Resolved => self.next_resolved(link, after),
             Region::InteriorRoutes => self.tree.next_candidate(link, after),
             Region::Forward => self.tree.next_candidate(link, after),
             Region::Elsewhere => unreachable!(),
         }
+    }
+
+    /// The row at a prefix of `res.K`; None where it has none.
+    fn resolved(&self, link: Link, p: Prefix) -> Result<Option<Value>, Memory>
+        requires { IsSome (hop_links self.now.hops (filt_at self.now.chains) link) }
+        ensures { IfOk result (HasRow (hop_links self.now.hops (filt_at self.now.chains)) link p) }
+    {
+        let Link::Res(number) = link else {
+            unreachable!()
+        };
+        let Some(chain) = self.chains.chain(number) else {
+            return Ok(None);
+        };
+        match self.hops.asked(number, chain, p)? {
+            Some(route) => Ok(Some(Value::Route(route))),
+            None => Ok(None),
+        }
+    }
+
+    /// Where the next row of `res.K` may stand, beyond a place: at the candidates of `filt.K`.
+    fn next_resolved(&self, link: Link, after: Place) -> Option<Prefix>
+        requires { IsSome (hop_links self.now.hops (filt_at self.now.chains) link) }
+        ensures { IsNextPlace (hop_links self.now.hops (filt_at self.now.chains) link) (key_of after) result }
+    {
+        let Link::Res(number) = link else {
+            unreachable!()
+        };
+        let Some(chain) = self.chains.chain(number) else {
+            return None;
+        };
+        self.hops.next_candidate(number, chain, after)
     }
 
     /// Appends the answer of a lookup: the row at the prefix or none, or `absent` where the link isn't live.

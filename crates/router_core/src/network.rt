@@ -1,10 +1,11 @@
-//! What was declared, the interior routes, and the peers' chains.
+//! What was declared, the interior routes, the peers' chains, and the resolvers below these.
 
 ghost use Rattle.std.specs.Prelude.{◌≡◌, ◌+◌, ◌*◌, IfOk};
 ghost use Rattle.router_core.specs.Moments.{first_moment, bound_of};
 
 use addr4::Memory;
 use event_text::Declared;
+use hop_side::NextHops;
 use peer_side::Peers;
 use register_interest::Register;
 use rib_route::Interior;
@@ -20,6 +21,7 @@ pub(crate) struct Network {
     pub(crate) tree: Tree,
     pub(crate) registry: Register<Interior>,
     pub(crate) chains: Peers,
+    pub(crate) hops: NextHops,
 }
 
 impl Model for Network {
@@ -28,6 +30,7 @@ impl Model for Network {
     ghost use Rattle.event_text.specs.contracts.declared.DeclaredPeer as peer_row;
     ghost use Rattle.bgp_attr.specs.contracts.speaker.Speaker as speaker_row;
     ghost use Rattle.peer_side.specs.contracts.peers.Peers as peers_row;
+    ghost use Rattle.hop_side.specs.contracts.hops.NextHops as hops_row;
     ghost use Rattle.rib_route.specs.contracts.Proto as proto_row;
     ghost use Rattle.rib_route.specs.contracts.rows.Interior as interior_row;
     ghost use Rattle.rib_tree.specs.Branches.{branch_code};
@@ -36,9 +39,9 @@ impl Model for Network {
 
     ghost Value = { Moment };
 
-    ghost coded = { moment_code (declaration_code speaker_row.the_row.coded peer_row.the_row.coded) (treed_code (branch_code proto_row.the_row.coded interior_row.the_row.coded)) (registry_code interior_row.the_row.coded) peers_row.the_row.coded };
+    ghost coded = { moment_code (declaration_code speaker_row.the_row.coded peer_row.the_row.coded) (treed_code (branch_code proto_row.the_row.coded interior_row.the_row.coded)) (registry_code interior_row.the_row.coded) peers_row.the_row.coded hops_row.the_row.coded };
 
-    ghost view = { λ n. record { declared = n.declared; tree = n.tree; registry = n.registry; chains = n.chains } };
+    ghost view = { λ n. record { declared = n.declared; tree = n.tree; registry = n.registry; chains = n.chains; hops = n.hops } };
 }
 
 impl Network {
@@ -52,6 +55,7 @@ impl Network {
             tree: Tree::new(alloc),
             registry: Register::new(alloc),
             chains: Peers::new(alloc),
+            hops: NextHops::new(alloc),
         }
     }
 
@@ -61,7 +65,8 @@ impl Network {
     {
         let peers = plus(self.declared.peers().len() as u128, 2)?;
         let rows = plus(self.chains.rows()?, self.tree.rows())?;
-        let bound = times(peers, plus(times(9, rows)?, 6)?)?;
+        let hops = times(2, self.hops.known()?)?;
+        let bound = times(peers, plus(plus(times(9, rows)?, hops)?, 6)?)?;
         Ok(bound)
     }
 }

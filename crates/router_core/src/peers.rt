@@ -44,7 +44,7 @@ impl Network {
         begin_rib(journal)
     }
 
-    /// `peer` was declared: its chain begins, without routes and rules.
+    /// `peer` was declared: its chain and its resolver begin, without routes and rules.
     pub(crate) fn declare_peer(
         &mut self,
         number: u32,
@@ -63,6 +63,7 @@ impl Network {
             unreachable!()
         };
         self.chains.begin(number, me, peer.words, journal)?;
+        self.hops.begin(peer.words.number, journal)?;
         Ok(())
     }
 

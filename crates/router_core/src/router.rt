@@ -50,6 +50,8 @@ pub enum Phase {
     Del,
     /// The walks of the incoming filters.
     Fin,
+    /// The next hops of the resolvers: those that are asked for again, and the walks of fresh answers.
+    Nh,
 }
 
 #[derive(Drop)]
@@ -62,6 +64,7 @@ pub struct Core {
 impl Model for Core {
     ghost use Rattle.router_core.specs.Moments.{Cored, cored_code, moment_code};
     ghost use Rattle.peer_side.specs.contracts.peers.Peers as peers_row;
+    ghost use Rattle.hop_side.specs.contracts.hops.NextHops as hops_row;
     ghost use Rattle.rib_route.specs.contracts.Proto as proto_row;
     ghost use Rattle.rib_route.specs.contracts.rows.Interior as interior_row;
     ghost use Rattle.rib_tree.specs.Branches.{branch_code};
@@ -73,7 +76,7 @@ impl Model for Core {
 
     ghost Value = { Cored };
 
-    ghost coded = { cored_code (moment_code (declaration_code speaker_row.the_row.coded peer_row.the_row.coded) (treed_code (branch_code proto_row.the_row.coded interior_row.the_row.coded)) (registry_code interior_row.the_row.coded) peers_row.the_row.coded) };
+    ghost coded = { cored_code (moment_code (declaration_code speaker_row.the_row.coded peer_row.the_row.coded) (treed_code (branch_code proto_row.the_row.coded interior_row.the_row.coded)) (registry_code interior_row.the_row.coded) peers_row.the_row.coded hops_row.the_row.coded) };
 
     ghost view = { λ c. record { moment = c.network; events = c.events; failed = c.failed } };
 }

@@ -9,6 +9,7 @@ ghost use Rattle.register_interest.specs.Matches.{lent_match};
 ghost use Rattle.rib_tree.specs.Trees.{branch_of, AreNumbered, IsTree, IsFullBut};
 ghost use Rattle.rib_tree.specs.Steps.{fed_tree, tree_overdue};
 ghost use Rattle.rib_tree.specs.Falls.{way_of_route};
+ghost use Rattle.hop_side.specs.Resolvers.{IsHops};
 ghost use Rattle.router_core.specs.Moments.{Gives};
 ghost use Rattle.loss_chain.specs.Steps.{live_after};
 ghost use Rattle.live_state.specs.Lives.{interior_fed};
@@ -22,7 +23,7 @@ use crate::router::Done;
 use addr4::{Addr, Memory, Prefix};
 use journal_text::{Journal, Line, Link, Task};
 use link_change::{Change, Turn};
-use register_interest::Register;
+use register_interest::{Interest, Register};
 use rib_merge::forward;
 use rib_route::{Interior, Proto};
 use rib_tree::{turns_take_rows, welds_keep_rows};
@@ -161,6 +162,7 @@ impl Network {
     ) -> Result<(), Memory>
         requires tree { IsTree self.old.tree }
         requires full { IsFullBut proto self.old.tree }
+        requires hops { IsHops self.old.hops }
         ensures { OnOk result (Settles proto sent self.old self.new journal.old journal.new) }
     {
         self.follow(sent, journal)?;
@@ -168,18 +170,21 @@ impl Network {
         Ok(())
     }
 
-    /// What follows a change of `int`, if one came out: the register takes it over, and `fib` gets what it makes of it.
+    /// What follows a change of `int`, if one came out: the register takes it over, each resolver hears of its interests that
+    /// were given up, and `fib` gets what the change makes of it.
     fn follow(
         &mut self,
         sent: Option<Change<Interior>>,
         journal: &mut Journal,
     ) -> Result<(), Memory>
+        requires { IsHops self.old.hops }
         ensures { OnOk result (Follows sent self.old self.new journal.old journal.new) }
     {
         match sent {
             None => Ok(()),
             Some(change) => {
-                register(&mut self.registry, self.alloc, &change)?;
+                let reached = register(&mut self.registry, self.alloc, &change)?;
+                self.hops.reach(reached.as_slice());
                 push_forwarded(&change, journal)?;
                 Ok(())
             }
@@ -214,6 +219,7 @@ impl Network {
     ) -> Result<Done, Memory>
         requires tree { IsTree self.old.tree }
         requires full { IsFullBut proto self.old.tree }
+        requires hops { IsHops self.old.hops }
         ensures { IfOk result (Turned proto sent self.old self.new journal.old journal.new) }
     {
         self.settle(proto, sent, journal)?;
@@ -232,23 +238,17 @@ fn prefix_of(found: &Option<(Prefix, &Interior)>) -> Option<Prefix>
     }
 }
 
-/// The register takes a change over; nobody asks for what it reaches yet.
+/// The register takes a change over, and gives up the interests that it reaches.
 fn register(
     registry: &mut Register<Interior>,
     alloc: Global,
     change: &Change<Interior>,
-) -> Result<(), Memory>
-    ensures { OnOk result (Registers (Some change.now) registry.old registry.new) }
+) -> Result<Vec<Interest>, Memory>
+    ensures { IfOk result (λ reached. Registers change.now reached.items registry.old registry.new) }
 {
     match change.after {
-        None => {
-            let _reached = registry.changed(alloc, change.prefix, None)?;
-            Ok(())
-        }
-        Some(row) => {
-            let _reached = registry.changed(alloc, change.prefix, Some(row))?;
-            Ok(())
-        }
+        None => registry.changed(alloc, change.prefix, None),
+        Some(row) => registry.changed(alloc, change.prefix, Some(row)),
     }
 }
 

@@ -42,8 +42,8 @@ impl Network {
         requires up { IsUpAt number self.old }
         ensures { OnOk result (Pushes (HaveFed number ((prefix, row) ∷ []) self.old self.new) journal.old journal.new) }
     {
-        self.chains.feed(number, prefix, row, journal)?;
-        self.chains.weld(number, journal)?;
+        let sent = self.chains.feed(number, prefix, row, journal)?;
+        self.settle_peer(number, sent, journal)?;
         Ok(())
     }
 

@@ -1,6 +1,7 @@
 //! Turns of background work.
 
-ghost use Rattle.std.specs.Prelude.{◌≡◌, IfOk, IfNone};
+ghost use Rattle.std.specs.Prelude.{◌≡◌, IfOk, IfNone, option_map};
+ghost use Rattle.journal_text.specs.declared.link.Task.TheVariants as tasks;
 ghost use Rattle.router_core.specs.Moments.{Gives};
 ghost use Rattle.router_core.specs.Stands.{Stands};
 ghost use Rattle.router_core.specs.Phases.{counts};
@@ -12,8 +13,6 @@ use crate::router::{Done, Phase};
 use addr4::Memory;
 use in_chain::turns_are_bounded;
 use journal_text::{Journal, Task};
-use link_change::Turn;
-use peer_side::peer_of;
 
 impl Network {
     /// One turn of a task, and the text of its lines.
@@ -21,15 +20,11 @@ impl Network {
         requires { Stands self.old }
         ensures { IfOk result (Comes task self.old self.new journal.old journal.new) }
     {
-        if let Task::Rdel(proto, loss) = task {
-            return self.turn_route(proto, loss, journal);
+        match task {
+            Task::Rdel(proto, loss) => self.turn_route(proto, loss, journal),
+            Task::Nh(number) => self.turn_hops(number, journal),
+            Task::Del(_, _) | Task::Fin(_) => self.turn_peer(task, journal),
         }
-        if let Turn::Nothing = self.chains.turn(task, journal)? {
-            return Ok(Done::Nothing);
-        }
-        self.chains.weld(peer_of(task), journal)?;
-        journal.flush()?;
-        Ok(Done::Taken)
     }
 
     /// Turns of a task, at most so many; fewer where the task has no work left.
@@ -77,6 +72,7 @@ impl Network {
             Phase::Rdel => self.tree.oldest(),
             Phase::Del => self.chains.first_loss(),
             Phase::Fin => self.chains.first_walk(),
+            Phase::Nh => task_of(self.hops.first_busy()),
         }
     }
 
@@ -101,11 +97,21 @@ impl Network {
     {
         turns_are_bounded();
         journal.flush()?;
-        let phases = [Phase::Rdel, Phase::Del, Phase::Fin];
+        let phases = [Phase::Rdel, Phase::Del, Phase::Fin, Phase::Nh];
         let mut turns = 0;
         for i in 0..phases.len() {
             turns = plus(turns, self.drain(phases[i], journal)?)?;
         }
         Ok(turns)
+    }
+}
+
+/// The task of a peer's next hops.
+fn task_of(number: Option<u32>) -> Option<Task>
+    ensures { result ≡ option_map (λ k. tasks.Nh k) number }
+{
+    match number {
+        Some(number) => Some(Task::Nh(number)),
+        None => None,
     }
 }

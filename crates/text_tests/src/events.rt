@@ -23,9 +23,12 @@ filter in 2 path 65535 reject any accept\n\
 idle\n\
 work del.1.2 0\n\
 work fin.1 3\n\
+work nh.64 0\n\
 ask in.1 192.0.2.77/24\n\
 ask filt.1 10.1.0.0/16\n\
 show filt.1\n\
+ask res.1 10.1.0.0/16\n\
+show res.64\n\
 show peer.3.4\n\
 route add static 10.1.2.3/8 direct eth0 7\n\
 route add ospf 10.0.0.0/8 via 192.0.2.9 a.b-c_d 4294967295\n\
@@ -62,6 +65,14 @@ filter in\n\
 idle 1\n\
 work del.1 0\n\
 work fin.0 3\n\
+work nh 3\n\
+work nh.0 3\n\
+work nh.1.1 3\n\
+work nh.x 3\n\
+work nh.1\n\
+work res.1 3\n\
+show nh.1\n\
+show res.0\n\
 ask in.1 192.0.2.0/33\n\
 show peer.3.4.5\n\
 show best\n\
@@ -158,7 +169,11 @@ E5 up 300\n\
 E5 bgp 2 ff\n\
 E5 show peer.2.1\n\
 E5 work fin.2 1\n\
+E5 work nh.2 1\n\
+- work nh.64 1\n\
 E5 ask filt.2 10.1.0.0/16\n\
+E5 ask res.2 10.1.0.0/16\n\
+- ask res.1 10.1.0.0/16\n\
 E5 filter in 2\n\
 - route del rip 10.0.0.0/8\n\
 - show org.rip.2\n\

@@ -2,7 +2,8 @@ use Rattle.std.proofs.Common.{sym, ap, ◌∙◌}
 use Rattle.event_text.specs.Declarations.{peer_at}
 use Rattle.router_core.specs.Moments.{Moment}
 use Rattle.router_core.proofs.StandLemmas.{peers_sound}
-use Rattle.router_core.proofs.PeerLemmas.{peer_absent, peer_after, not_added, chain_absent, new_number, peer_declared}
+use Rattle.router_core.proofs.HopTurns.{hops_sound}
+use Rattle.router_core.proofs.PeerLemmas.{resolver_absent, peer_absent, peer_after, not_added, chain_absent, new_number, peer_declared}
 use Rattle.router_core.proofs.network.Network.declare_peer.Goals as goal
 
 pub unreachable-requires : goal.unreachable-requires
@@ -24,7 +25,15 @@ begin-requires-clause-absent c = chain_absent c.args.self.now _ c.args.number c.
 pub begin-requires-clause-own : goal.begin-requires-clause-own
 begin-requires-clause-own c = new_number c.args.self.now _ c.add_peer.new.self c.args.number c.args.words c.in-Some-peer.peer c.self.view_is c.requires.admitted c.in_ok-add_peer.ensures.ok c.in-Some-peer.ensures
 
+pub begin-requires-2-clause-sound : goal.begin-requires-2-clause-sound
+begin-requires-2-clause-sound c = hops_sound c.args.self.now _ c.self.view_is c.requires.stands
+
+pub begin-requires-2-clause-absent : goal.begin-requires-2-clause-absent
+begin-requires-2-clause-absent c =
+    resolver_absent c.args.self.now _ c.add_peer.new.self c.args.number c.args.words c.in-Some-peer.peer c.self.view_is c.requires.stands c.requires.admitted c.in_ok-add_peer.ensures.ok c.in-Some-peer.ensures
+
 pub returns : goal.returns
 returns c =
-    peer_declared c.args.self.now _ c.in-Some.me c.args.number c.args.words c.add_peer.new.self c.in-Some-peer.peer c.begin.new.self c.args.journal.now c.begin.new.journal c.self.view_is c.requires.stands c.requires.admitted
+    peer_declared c.args.self.now _ c.in-Some.me c.args.number c.args.words c.add_peer.new.self c.in-Some-peer.peer c.begin.new.self c.begin-2.new.self c.args.journal.now c.begin.new.journal c.begin-2.new.journal c.self.view_is c.requires.stands c.requires.admitted
     c.in-Some.ensures c.in_ok-add_peer.ensures.ok c.in-Some-peer.ensures c.in_ok-begin.ensures.after c.in_ok-begin.ensures.lines c.in_ok-begin.ensures.leads c.in_ok-begin.ensures.sound
+    (record { after = c.in_ok-begin-2.ensures.after; lines = c.in_ok-begin-2.ensures.lines; leads = c.in_ok-begin-2.ensures.leads; counted = c.in_ok-begin-2.ensures.counted; agree = c.in_ok-begin-2.ensures.agree; sound = c.in_ok-begin-2.ensures.sound })

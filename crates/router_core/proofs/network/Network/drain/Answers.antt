@@ -17,4 +17,4 @@ loop-task-preserved c =
 
 pub returns : goal.returns
 returns c =
-    phase_done c.turns_are_bounded.ensures.bounded c.turns_are_bounded.ensures.left c.args.phase c.args.self.now c.loop-task.self c.loop-task.turns c.args.journal.now c.loop-task.journal c.loop-task.invariant c.in_default.ensures.next c.in_default.ensures.none
+    phase_done c.turns_are_bounded.ensures.bounded c.turns_are_bounded.ensures.left c.args.phase c.args.self.now c.loop-task.self c.loop-task.turns c.args.journal.now c.loop-task.journal c.requires c.loop-task.invariant c.in_default.ensures.next c.in_default.ensures.none

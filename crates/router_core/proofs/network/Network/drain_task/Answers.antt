@@ -1,7 +1,7 @@
 use Rattle.std.proofs.Common.{ℕ, sym, subst}
 use Rattle.router_core.specs.declared.router.Done.{Done}
 use Rattle.router_core.specs.Works.{Comes}
-use Rattle.router_core.proofs.RunLemmas.{HaveGiven, given_none, given_more}
+use Rattle.router_core.proofs.RunLemmas.{HaveGiven, given_none, given_more, unit_less}
 use Rattle.router_core.proofs.network.Network.drain_task.Goals as goal
 
 pub rest-init : goal.rest-init
@@ -12,3 +12,7 @@ rest-preserved c =
     subst (λ (n : ℕ). HaveGiven c.args.task n c.args.self.now c.turn.new.self c.args.journal.now c.turn.new.journal) (sym c.in_ok-turns-in-Taken.ensures)
     (given_more c.args.task c.rest.turns c.args.self.now c.rest.self c.turn.new.self c.args.journal.now c.rest.journal c.turn.new.journal c.rest.invariant
     (subst (λ (d : Done). Comes c.args.task c.rest.self c.turn.new.self c.rest.journal c.turn.new.journal d) c.in-Taken.is c.in_ok-turn.ensures))
+
+pub rest-smaller : goal.rest-smaller
+rest-smaller c =
+    unit_less c.args.task c.rest.self c.turn.new.self c.rest.journal c.turn.new.journal (subst (λ (d : Done). Comes c.args.task c.rest.self c.turn.new.self c.rest.journal c.turn.new.journal d) c.in-Taken.is c.in_ok-turn.ensures)

@@ -15,8 +15,8 @@ lose-requires-clause-full c = subst (λ (m : Moment). IsFull m.tree) (sym c.self
 
 pub returns : goal.returns
 returns c =
-    let old : Moment = record { declared = c.self.inside.declared; tree = c.self.inside.tree; registry = c.self.inside.registry; chains = c.self.inside.chains } in
-    let new : Moment = record { declared = c.self.inside.declared; tree = c.lose.new.self; registry = c.self.inside.registry; chains = c.self.inside.chains } in
+    let old : Moment = record { declared = c.self.inside.declared; tree = c.self.inside.tree; registry = c.self.inside.registry; chains = c.self.inside.chains; hops = c.self.inside.hops } in
+    let new : Moment = record { declared = c.self.inside.declared; tree = c.lose.new.self; registry = c.self.inside.registry; chains = c.self.inside.chains; hops = c.self.inside.hops } in
     subst (λ (m : Moment). Pushes (EndsProtocol c.args.proto m new) c.args.journal.now c.lose.new.journal) c.self.view_is
     (protocol_ended c.args.proto old c.lose.new.self c.args.journal.now c.lose.new.journal (subst Stands (sym c.self.view_is) c.requires.stands)
     (subst (λ (m : Moment). tree_overdue c.args.proto m.tree ≡ None) (sym c.self.view_is) c.requires.free) (subst (λ (m : Moment). IsSome m.declared.speaker) (sym c.self.view_is) c.requires.since)

@@ -1,6 +1,6 @@
 use Rattle.router_core.specs.declared.router.Phase.TheVariants.{Del, Fin}
 use Rattle.router_core.proofs.StandLemmas.{peers_sound}
-use Rattle.router_core.proofs.NextLemmas.{next_of_peers, next_of_tree, none_of_tree}
+use Rattle.router_core.proofs.NextLemmas.{next_of_hops, none_of_hops, next_of_peers, next_of_tree, none_of_tree}
 use Rattle.router_core.proofs.network.Network.next.Goals as goal
 
 pub first_loss-requires : goal.first_loss-requires
@@ -16,7 +16,13 @@ pub returns-in-Rdel-clause-none : goal.returns-in-Rdel-clause-none
 returns-in-Rdel-clause-none c = none_of_tree c.args.phase c.args.self.now _ c.oldest.result c.in-Rdel.is c.self.view_is c.oldest.ensures
 
 pub returns-in-Del-clause-next : goal.returns-in-Del-clause-next
-returns-in-Del-clause-next c = next_of_peers Del c.args.phase c.args.self.now _ c.first_loss.result (λ e. cc) c.in-Del.is c.self.view_is c.first_loss.ensures.first
+returns-in-Del-clause-next c = next_of_peers Del c.args.phase c.args.self.now _ c.first_loss.result (λ e. cc) (λ e. cc) c.in-Del.is c.self.view_is c.first_loss.ensures.first
 
 pub returns-in-Fin-clause-next : goal.returns-in-Fin-clause-next
-returns-in-Fin-clause-next c = next_of_peers Fin c.args.phase c.args.self.now _ c.first_walk.result (λ e. cc) c.in-Fin.is c.self.view_is c.first_walk.ensures.first
+returns-in-Fin-clause-next c = next_of_peers Fin c.args.phase c.args.self.now _ c.first_walk.result (λ e. cc) (λ e. cc) c.in-Fin.is c.self.view_is c.first_walk.ensures.first
+
+pub returns-in-Nh-clause-next : goal.returns-in-Nh-clause-next
+returns-in-Nh-clause-next c = next_of_hops c.args.phase c.args.self.now _ c.first_busy.result c.task_of.result c.in-Nh.is c.self.view_is c.first_busy.ensures.first c.task_of.ensures
+
+pub returns-in-Nh-clause-none : goal.returns-in-Nh-clause-none
+returns-in-Nh-clause-none c = none_of_hops c.args.phase c.args.self.now _ c.first_busy.result c.task_of.result c.in-Nh.is c.self.view_is c.first_busy.ensures.none c.task_of.ensures

@@ -1,8 +1,8 @@
-use Rattle.std.proofs.Common.{◌∙◌, sym}
+use Rattle.std.proofs.Common.{◌∙◌, refl, sym}
 use Rattle.addr4.specs.Places.{key_of}
 use Rattle.link_region.specs.declared.regions.Region.TheVariants.{InteriorRoutes, Forward}
 use Rattle.router_core.proofs.RegionLemmas.{in_region}
-use Rattle.router_core.proofs.ShownRows.{next_inward, next_rib}
+use Rattle.router_core.proofs.ShownRows.{next_inward, next_res, next_rib}
 use Rattle.router_core.proofs.network.Network.next_candidate.Goals as goal
 
 pub returns-in-Inward : goal.returns-in-Inward
@@ -18,3 +18,6 @@ pub returns-in-Forward : goal.returns-in-Forward
 returns-in-Forward c =
     next_rib c.args.self.now _ c.args.link (key_of c.args.after) c.next_candidate-in-Forward.result c.self.view_is (in_region c.args.self.now c.args.link Forward (sym c.region_of.ensures ∙ c.in-Forward.is))
     c.requires c.next_candidate-in-Forward.ensures
+
+pub returns-in-Resolved : goal.returns-in-Resolved
+returns-in-Resolved c = next_res c.args.self.now c.args.self.now c.args.link (key_of c.args.after) c.next_resolved.result refl (sym c.region_of.ensures ∙ c.in-Resolved.is) c.next_resolved.ensures

@@ -9,6 +9,7 @@ use Rattle.router_core.specs.Moments.{Moment}
 use Rattle.live_state.specs.Lives.{interior_fed}
 use Rattle.router_core.specs.Lives.{live_state}
 use Rattle.router_core.specs.Works.{Pushes, HasRouted}
+use Rattle.router_core.proofs.HopTurns.{hops_sound}
 use Rattle.router_core.proofs.RouteLemmas.{routed}
 use Rattle.router_core.proofs.network.Network.route.Goals as goal
 
@@ -24,9 +25,15 @@ feed-requires-in-Some-clause-tree c = subst (λ (m : Moment). IsTree m.tree) (sy
 pub feed-requires-in-Some-clause-full : goal.feed-requires-in-Some-clause-full
 feed-requires-in-Some-clause-full c = subst (λ (m : Moment). IsFull m.tree) (sym c.self-in-Some.view_is) (c.requires.stands.own InteriorTree).full
 
+pub settle-requires-clause-hops : goal.settle-requires-clause-hops
+settle-requires-clause-hops c = hops_sound c.args.self.now _ c.self.view_is c.requires.stands
+
+pub settle-requires-in-Some-clause-hops : goal.settle-requires-in-Some-clause-hops
+settle-requires-in-Some-clause-hops c = hops_sound c.args.self.now _ c.self-in-Some.view_is c.requires.stands
+
 pub returns-in_ok-settle-in-None : goal.returns-in_ok-settle-in-None
 returns-in_ok-settle-in-None c =
-    let old : Moment = record { declared = c.self.inside.declared; tree = c.self.inside.tree; registry = c.self.inside.registry; chains = c.self.inside.chains } in
+    let old : Moment = record { declared = c.self.inside.declared; tree = c.self.inside.tree; registry = c.self.inside.registry; chains = c.self.inside.chains; hops = c.self.inside.hops } in
     let k = c.args.proto in
     let p = c.args.p in
     subst (λ (m : Moment). Pushes (HasRouted m (fed_tree m.tree k p c.args.new) k p (way_of_route k m.tree) (interior_fed (live_state m) k (live_after (branch_of k m.tree).tables.live p c.args.new)) c.settle.new.self) c.args.journal.now c.settle.new.journal)
@@ -37,7 +44,7 @@ returns-in_ok-settle-in-None c =
 
 pub returns-in_ok-settle-in-Some : goal.returns-in_ok-settle-in-Some
 returns-in_ok-settle-in-Some c =
-    let old : Moment = record { declared = c.self-in-Some.inside.declared; tree = c.self-in-Some.inside.tree; registry = c.self-in-Some.inside.registry; chains = c.self-in-Some.inside.chains } in
+    let old : Moment = record { declared = c.self-in-Some.inside.declared; tree = c.self-in-Some.inside.tree; registry = c.self-in-Some.inside.registry; chains = c.self-in-Some.inside.chains; hops = c.self-in-Some.inside.hops } in
     let k = c.args.proto in
     let p = c.args.p in
     subst (λ (m : Moment). Pushes (HasRouted m (fed_tree m.tree k p c.args.new) k p (way_of_route k m.tree) (interior_fed (live_state m) k (live_after (branch_of k m.tree).tables.live p c.args.new)) c.settle-in-Some.new.self) c.args.journal.now c.settle-in-Some.new.journal)

@@ -4,6 +4,7 @@ use Rattle.std.proofs.Common.{IfOk, sym, subst}
 use Rattle.journal_text.specs.declared.link.Task.TheVariants as tasks
 use Rattle.router_core.specs.Works.{Comes}
 use Rattle.router_core.specs.Moments.{Moment}
+use Rattle.router_core.proofs.HopTurns.{hops_sound}
 use Rattle.router_core.proofs.RouteTurns.{route_quiet, route_sent}
 use Rattle.router_core.proofs.network.Network.turn_route.Goals as goal
 
@@ -13,16 +14,22 @@ unit-requires-clause-tree c = subst (λ (m : Moment). IsTree m.tree) (sym c.self
 pub unit-requires-clause-full : goal.unit-requires-clause-full
 unit-requires-clause-full c = subst (λ (m : Moment). IsFull m.tree) (sym c.self.view_is) (c.requires.own InteriorTree).full
 
+pub turned-requires-clause-hops : goal.turned-requires-clause-hops
+turned-requires-clause-hops c = hops_sound c.args.self.now _ c.self.view_is c.requires
+
+pub turned-requires-in-Sent-clause-hops : goal.turned-requires-in-Sent-clause-hops
+turned-requires-in-Sent-clause-hops c = hops_sound c.args.self.now _ c.self.view_is c.requires
+
 pub returns-in-Quiet : goal.returns-in-Quiet
 returns-in-Quiet c =
-    let old : Moment = record { declared = c.self.inside.declared; tree = c.self.inside.tree; registry = c.self.inside.registry; chains = c.self.inside.chains } in
+    let old : Moment = record { declared = c.self.inside.declared; tree = c.self.inside.tree; registry = c.self.inside.registry; chains = c.self.inside.chains; hops = c.self.inside.hops } in
     subst (λ (m : Moment). IfOk c.turned.result (Comes (tasks.Rdel c.args.proto c.args.loss) m c.turned.new.self c.args.journal.now c.turned.new.journal)) c.self.view_is
     (route_quiet c.turns_take_rows.ensures c.welds_keep_rows.ensures old c.args.proto c.args.loss c.in_ok-unit.field-0 c.unit.new.self c.turned.new.self c.args.journal.now c.unit.new.journal c.turned.new.journal c.turned.result
     (subst Stands (sym c.self.view_is) c.requires) c.in-Quiet.is c.in_ok-unit.ensures.taken c.turned.ensures)
 
 pub returns-in-Sent : goal.returns-in-Sent
 returns-in-Sent c =
-    let old : Moment = record { declared = c.self.inside.declared; tree = c.self.inside.tree; registry = c.self.inside.registry; chains = c.self.inside.chains } in
+    let old : Moment = record { declared = c.self.inside.declared; tree = c.self.inside.tree; registry = c.self.inside.registry; chains = c.self.inside.chains; hops = c.self.inside.hops } in
     subst (λ (m : Moment). IfOk c.turned-in-Sent.result (Comes (tasks.Rdel c.args.proto c.args.loss) m c.turned-in-Sent.new.self c.args.journal.now c.turned-in-Sent.new.journal)) c.self.view_is
     (route_sent c.turns_take_rows.ensures c.welds_keep_rows.ensures old c.args.proto c.args.loss c.in_ok-unit.field-0 c.in-Sent.change c.unit.new.self c.turned-in-Sent.new.self c.args.journal.now c.unit.new.journal
     c.turned-in-Sent.new.journal c.turned-in-Sent.result (subst Stands (sym c.self.view_is) c.requires) c.in-Sent.is c.in_ok-unit.ensures.taken c.turned-in-Sent.ensures)

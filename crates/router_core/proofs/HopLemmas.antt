@@ -1,0 +1,217 @@
+-- What follows a change on `filt.K`: what the resolvers' entries lead to, and what is claimed of them then.
+use Rattle.std.proofs.Common.{◌≡◌, ◌≢◌, ℕ, nat_eq, true, false, List, [], ◌++◌, Option, Some, None, is_some, IsSome, refl, sym, ap, subst, ◌∙◌}
+use Rattle.std.specs.FinMap as tables
+use Rattle.addr4.specs.Prefixes.{Network}
+use Rattle.bgp_attr.specs.declared.route.Route.{Route}
+use Rattle.link_change.specs.declared.change.Change.{Change}
+use Rattle.rib_route.specs.declared.rows.Interior.{Interior}
+use Rattle.register_interest.specs.declared.interests.Interest.{Interest}
+use Rattle.register_interest.specs.Interests.{without}
+use Rattle.register_interest.specs.Registers.{Registry, KeepsAnswers}
+use Rattle.nexthop_resolver.specs.Resolving.{Resolving}
+use Rattle.nexthop_resolver.specs.Registered.{KeepsOthers}
+use Rattle.nexthop_resolver.specs.declared.rows.Metric.{Metric}
+use Rattle.journal_text.specs.declared.link.Link.{Link}
+use Rattle.journal_text.specs.declared.link.Link.TheVariants.{Res}
+use Rattle.journal_text.specs.declared.entry.Entry.{Entry}
+use Rattle.journal_text.specs.declared.value.Value.{Value}
+use Rattle.journal_text.specs.Journals.{Journaled, with_entries, Adds}
+use Rattle.journal_text.specs.Texts.{entries_of}
+use Rattle.journal_text.specs.Walk.{Links, Leads}
+use Rattle.journal_text.proofs.JournalLemmas.{entries_of_entries, with_entries_none, with_entries_append}
+use Rattle.journal_text.proofs.WalkLemmas.{leads_append, leads_nowhere}
+use Rattle.link_region.specs.declared.regions.Region.{Region}
+use Rattle.link_region.specs.declared.regions.Region.TheVariants.{Inward, Resolved}
+use Rattle.link_region.specs.Regions.{Sides, joined, with_side, LeadsIn}
+use Rattle.link_region.proofs.RegionLemmas.{by_bool}
+use Rattle.loss_chain.proofs.TableLemmas.{equal_by}
+use Rattle.hop_side.specs.Resolvers.{Resolvers, PeerRows, resolver_at, res_at, hop_links, is_res, beside, IsHops, AllAgree, AllCounted}
+use Rattle.hop_side.specs.Steps.{LeadsRes, ComesOn, GoesOn, KeepsAgreed, HasNoInterest, HaveSamePeers, TakesBelow, ReachesBelow}
+use Rattle.hop_side.proofs.LawLemmas.{leads_anywhere}
+use Rattle.peer_side.specs.Peers.{Chains, chain_at, peer_links, filt_at}
+use Rattle.router_core.specs.Moments.{Moment, with_chains, with_hops, parts, router_links}
+use Rattle.router_core.specs.Stands.{Stands, EachResolver, SameResolvers, AnswersAgree, HopsCounted, NoStrangers}
+use Rattle.peer_side.specs.Steps.{WeldsInward}
+use Rattle.router_core.specs.Turns.{ResolvesOn, journal_lines}
+use Rattle.router_core.specs.Works.{SettlesPeer}
+
+-- ---- the region of the links `res.K`
+pub res_leads : (old new : Links Value) (entries : List (Entry Value)) → LeadsRes old entries new → LeadsIn Resolved old entries new
+res_leads old new entries leads sides is =
+    leads_anywhere old new entries (joined sides) (joined (with_side sides Resolved new)) leads (λ k. ap (λ (l : Links Value). l (Res k)) is) (λ k. refl) stays
+  where
+    stays : (link : Link) → is_res link ≡ false → joined (with_side sides Resolved new) link ≡ joined sides link
+    stays (Res k) e = absurd (let clash : true ≡ false = e in cc)
+    stays other e = refl
+
+-- the resolvers, and the register, in the router
+pub leads_resolved : (m : Moment) (r : Registry Interior) (h : Resolvers) (entries : List (Entry Value)) → LeadsRes (hop_links m.hops (filt_at m.chains)) entries (hop_links h (filt_at m.chains))
+    → Leads (router_links m) (entries_of (journal_lines entries)) (router_links (with_hops m r h))
+leads_resolved m r h entries leads =
+    subst (λ (es : List (Entry Value)). Leads (router_links m) es (router_links (with_hops m r h))) (sym (entries_of_entries entries))
+    (subst (λ (s : Sides). Leads (router_links m) entries (joined s)) set (res_leads (hop_links m.hops (filt_at m.chains)) (hop_links h (filt_at m.chains)) entries leads (parts m) refl))
+  where
+    set : with_side (parts m) Resolved (hop_links h (filt_at m.chains)) ≡ parts (with_hops m r h)
+    set i s = each s i
+      where
+        each : (s : Region) → with_side (parts m) Resolved (hop_links h (filt_at m.chains)) s ≡ parts (with_hops m r h) s
+        each Resolved = refl
+        each other = refl
+
+-- entries behind others
+pub leads_both : (a b c : Links Value) (xs ys : List (Entry Value)) → Leads a (entries_of (journal_lines xs)) b → Leads b (entries_of (journal_lines ys)) c → Leads a (entries_of (journal_lines (xs ++ ys))) c
+leads_both a b c xs ys first next =
+    subst (λ (es : List (Entry Value)). Leads a es c) (sym (entries_of_entries (xs ++ ys)))
+    (leads_append a b c xs ys (subst (λ (es : List (Entry Value)). Leads a es b) (entries_of_entries xs) first) (subst (λ (es : List (Entry Value)). Leads b es c) (entries_of_entries ys) next))
+
+-- a fall in the peers' chains, what goes on below it, and the weld behind both
+abbrev fallen_side : Moment → Chains → Sides
+fallen_side m fallen = with_side (parts m) Inward (peer_links fallen)
+
+abbrev gone_side : Moment → Chains → Resolvers → Sides
+gone_side m fallen h = with_side (fallen_side m fallen) Resolved (hop_links h (filt_at fallen))
+
+abbrev welded_side : Moment → Chains → Resolvers → Chains → Sides
+welded_side m fallen h cs = with_side (gone_side m fallen h) Inward (peer_links cs)
+
+pub falls_lead : (m : Moment) (fallen cs : Chains) (r : Registry Interior) (h : Resolvers) (entries resolved weld : List (Entry Value)) → LeadsIn Inward (peer_links m.chains) entries (peer_links fallen)
+    → LeadsRes (hop_links m.hops (filt_at m.chains)) resolved (hop_links h (filt_at fallen)) → LeadsIn Inward (peer_links fallen) weld (peer_links cs) → filt_at cs ≡ filt_at fallen
+    → Leads (router_links m) (entries_of (journal_lines (entries ++ (resolved ++ weld)))) (router_links (with_hops (with_chains m cs) r h))
+falls_lead m fallen cs r h entries resolved weld falls goes welds same =
+    subst (λ (es : List (Entry Value)). Leads (router_links m) es (router_links (with_hops (with_chains m cs) r h))) (sym (entries_of_entries (entries ++ (resolved ++ weld))))
+    (subst (λ (s : Sides). Leads (router_links m) (entries ++ (resolved ++ weld)) (joined s)) set
+    (leads_append (router_links m) (joined (fallen_side m fallen)) (joined (welded_side m fallen h cs)) entries (resolved ++ weld) (falls (parts m) refl)
+    (leads_append (joined (fallen_side m fallen)) (joined (gone_side m fallen h)) (joined (welded_side m fallen h cs)) resolved weld
+    (res_leads (hop_links m.hops (filt_at m.chains)) (hop_links h (filt_at fallen)) resolved goes (fallen_side m fallen) refl) (welds (gone_side m fallen h) refl))))
+  where
+    each : (s : Region) → welded_side m fallen h cs s ≡ parts (with_hops (with_chains m cs) r h) s
+    each Inward = refl
+    each Resolved = ap (hop_links h) (sym same)
+    each other = refl
+
+    set : welded_side m fallen h cs ≡ parts (with_hops (with_chains m cs) r h)
+    set i s = each s i
+
+-- ---- what is claimed of the resolvers
+pub record HopsStand (a : Chains) (r : Registry Interior) (h : Resolvers) : Type 0 where
+  pub sound : IsHops h
+  pub same : (k : ℕ) → is_some (resolver_at k h) ≡ is_some (chain_at k a)
+  pub agree : AllAgree h r
+  pub counted : AllCounted (filt_at a) h
+  pub strangers : (k : ℕ) → resolver_at k h ≡ None → HasNoInterest k r
+
+pub hops_of : (m : Moment) → Stands m → HopsStand m.chains m.registry m.hops
+hops_of m stands = record {
+  sound = stands.own EachResolver;
+  same = stands.own SameResolvers;
+  agree = stands.own AnswersAgree;
+  counted = stands.own HopsCounted;
+  strangers = stands.own NoStrangers;
+}
+
+-- where no row of `filt.K` changed
+pub hops_quiet : (m : Moment) (cs : Chains) → Stands m → ((j : ℕ) → filt_at cs j ≡ filt_at m.chains j) → ((j : ℕ) → is_some (chain_at j cs) ≡ is_some (chain_at j m.chains)) → HopsStand cs m.registry m.hops
+hops_quiet m cs stands quiet same = record {
+  sound = stands.own EachResolver;
+  same = λ k. stands.own SameResolvers k ∙ sym (same k);
+  agree = stands.own AnswersAgree;
+  counted = subst (λ (u : PeerRows). AllCounted u m.hops) (λ i j. sym (quiet j) i) (stands.own HopsCounted);
+  strangers = stands.own NoStrangers;
+}
+
+no_resolver : (o p : Option (Resolving Metric)) → is_some p ≡ is_some o → p ≡ None → o ≡ None
+no_resolver None p same none = refl
+no_resolver (Some s) p same none = absurd (let clash : true ≡ false = sym same ∙ ap is_some none in cc)
+
+-- who is no peer has no interest, where another asked
+strangers_stay : (k : ℕ) (r r' : Registry Interior) (h h' : Resolvers) → KeepsOthers k r r' → HaveSamePeers h h' → IsSome (resolver_at k h) → ((j : ℕ) → resolver_at j h ≡ None → HasNoInterest j r)
+    → (j : ℕ) → resolver_at j h' ≡ None → HasNoInterest j r'
+strangers_stay k r r' h h' keeps peers there none j absent s =
+    ap is_some (keeps.interests (record { subnet = s; client = j }) (λ same. let gone : is_some (resolver_at k h) ≡ false = ap (λ (n : ℕ). is_some (resolver_at n h)) (sym same) ∙ ap is_some was in let is = there in absurd (let clash : true ≡ false = sym is ∙ gone in cc)))
+    ∙ none j was s
+  where
+    was : resolver_at j h ≡ None
+    was = no_resolver (resolver_at j h) (resolver_at j h') (peers j) absent
+
+-- where a change of `filt.K` went on
+pub hops_fall : (m : Moment) (k : ℕ) (fallen cs : Chains) (r : Registry Interior) (h : Resolvers) → Stands m → KeepsAgreed k m.registry r m.hops h → AllCounted (filt_at fallen) h → filt_at cs ≡ filt_at fallen → IsSome (resolver_at k m.hops)
+    → ((j : ℕ) → is_some (chain_at j cs) ≡ is_some (chain_at j m.chains)) → HopsStand cs r h
+hops_fall m k fallen cs r h stands agreed counted quiet there same = record {
+  sound = agreed.sound;
+  same = λ j. agreed.peers j ∙ stands.own SameResolvers j ∙ sym (same j);
+  agree = agreed.agree;
+  counted = subst (λ (u : PeerRows). AllCounted u h) (sym quiet) counted;
+  strangers = strangers_stay k m.registry r m.hops h agreed.others agreed.peers there (stands.own NoStrangers);
+}
+
+-- where the register gave interests up
+pub hops_reached : (m : Moment) (reached : List Interest) (r : Registry Interior) (h : Resolvers) → Stands m → r.interests ≡ without m.registry.interests reached → KeepsAnswers m.registry r → ReachesBelow reached m.hops h → HopsStand m.chains r h
+hops_reached m reached r h stands given answers below = record {
+  sound = below.sound;
+  same = λ k. below.stays.peers k ∙ stands.own SameResolvers k;
+  agree = below.agree m.registry r (stands.own AnswersAgree) given answers;
+  counted = below.stays.counted (filt_at m.chains) (stands.own HopsCounted);
+  strangers = λ k none s. kept (record { subnet = s; client = k }) (tables.get r.interests (record { subnet = s; client = k })) refl (stands.own NoStrangers k (no_resolver (resolver_at k m.hops) (resolver_at k h) (below.stays.peers k) none) s);
+}
+  where
+    kept : (i : Interest) (o : Option (Option Network)) → tables.get r.interests i ≡ o → is_some (tables.get m.registry.interests i) ≡ false → is_some o ≡ false
+    kept i None is none = refl
+    kept i (Some m0) is none = absurd (let was : is_some (tables.get m.registry.interests i) ≡ true = ap is_some (answers i m0 is).0 in let clash : true ≡ false = sym was ∙ none in cc)
+
+-- ---- what follows a change on `filt.K`, whether one came out or not
+pub resolved_none : (k : ℕ) (r : Registry Interior) (h : Resolvers) (j : Journaled) → IsHops h → AllAgree h r → Adds (ResolvesOn k None r r h h) j j
+resolved_none k r h j sound agree = ([], sym (with_entries_none j), record {
+  below = None;
+  lines = refl;
+  resolves = (refl, refl, refl);
+  agreed = record { sound = sound; agree = agree; others = record { rows = refl; interests = λ i other. refl }; peers = λ j. refl };
+  goes = λ uppers now p counted comes.
+      let same : now ≡ uppers = (λ i j. stays uppers now p comes j i) in
+      record {
+        comes = record { here = ap (λ (u : PeerRows). res_at h u k) same; others = λ j other. ap (λ (u : PeerRows). res_at h u j) same };
+        leads = λ others. leads_nowhere _ _ (ap (λ (u : PeerRows). beside others (hop_links h u)) (sym same));
+        counted = subst (λ (u : PeerRows). AllCounted u h) (sym same) counted;
+      };
+})
+  where
+    stays : (uppers now : PeerRows) (p : Network) → ComesOn k p None uppers now → (j : ℕ) → now j ≡ uppers j
+    stays uppers now p comes j = by_bool (nat_eq j k) (λ b. now j ≡ uppers j) (λ e. subst (λ (n : ℕ). now n ≡ uppers n) (sym (equal_by j k e)) comes.here) (λ e. comes.others j e)
+
+pub resolved_some : (k : ℕ) (change : Change Route) (sent : Option (Change Route)) (r r' : Registry Interior) (h h' : Resolvers) (before now : Journaled) → Adds (TakesBelow k change sent r r' h h') before now
+    → Adds (ResolvesOn k (Some change) r r' h h') before now
+resolved_some k change sent r r' h h' before now adds = (adds.0, adds.1, record {
+  below = sent;
+  lines = adds.2.takes.lines;
+  resolves = adds.2.takes;
+  agreed = adds.2.agreed;
+  goes = adds.2.goes;
+})
+
+-- by whether one came out
+pub resolved_out : (k : ℕ) (sent : Option (Change Route)) (r : Registry Interior) (h : Resolvers) (j : Journaled) → sent ≡ None → IsHops h → AllAgree h r → Adds (ResolvesOn k sent r r h h) j j
+resolved_out k sent r h j is sound agree = subst (λ (s : Option (Change Route)). Adds (ResolvesOn k s r r h h) j j) (sym is) (resolved_none k r h j sound agree)
+
+pub resolved_in : (k : ℕ) (sent : Option (Change Route)) (change : Change Route) (below : Option (Change Route)) (m v : Moment) (r : Registry Interior) (h : Resolvers) (before now : Journaled) → v ≡ m → sent ≡ Some change
+    → Adds (TakesBelow k change below v.registry r v.hops h) before now → Adds (ResolvesOn k sent m.registry r m.hops h) before now
+resolved_in k sent change below m v r h before now view is adds = subst (λ (n : Moment). Adds (ResolvesOn k sent n.registry r n.hops h) before now) view
+    (subst (λ (s : Option (Change Route)). Adds (ResolvesOn k s v.registry r v.hops h) before now) (sym is) (resolved_some k change below v.registry r v.hops h before now adds))
+
+-- what follows, and the weld behind it
+pub settled_peer : (k : ℕ) (sent : Option (Change Route)) (m m1 v : Moment) (cs : Chains) (before j now : Journaled) → v ≡ m1 → Adds (ResolvesOn k sent m.registry m1.registry m.hops m1.hops) before j → m1 ≡ with_hops m m1.registry m1.hops
+    → Adds (WeldsInward k v.chains cs) j now → Adds (SettlesPeer k sent m (record v { chains = cs })) before now
+settled_peer k sent m m1 v cs before j now view res after welds =
+    subst (λ (n : Moment). Adds (SettlesPeer k sent m (record n { chains = cs })) before now) (sym view) (
+      res.0 ++ w.0,
+      w.1 ∙ ap (λ (x : Journaled). with_entries x w.0) res.1 ∙ with_entries_append before res.0 w.0,
+      record {
+        resolved = res.0;
+        below = res.2;
+        weld = w.0;
+        welds = subst (λ (a : Chains). WeldsInward k a cs w.0) (ap (λ (x : Moment). x.chains) after) w.2;
+        lines = refl;
+        after = ap (λ (x : Moment). record x { chains = cs }) after;
+      },
+    )
+  where
+    w : Adds (WeldsInward k m1.chains cs) j now
+    w = subst (λ (n : Moment). Adds (WeldsInward k n.chains cs) j now) view welds

@@ -1,0 +1,111 @@
+-- One turn of the next hops of a peer.
+use Rattle.std.proofs.Common.{◌≡◌, ℕ, ◌+◌, ◌≤◌, false, List, Option, Some, None, is_some, IsSome, refl, sym, ap, subst, ◌∙◌, arith}
+use Rattle.std.specs.FinMap as tables
+use Rattle.addr4.specs.Prefixes.{Network}
+use Rattle.bgp_attr.specs.declared.route.Route.{Route}
+use Rattle.link_change.specs.declared.change.Change.{Change}
+use Rattle.link_change.specs.declared.turn.Turn.{Turn}
+use Rattle.link_change.specs.declared.turn.Turn.TheVariants as turns
+use Rattle.rib_route.specs.declared.rows.Interior.{Interior}
+use Rattle.register_interest.specs.Registers.{Registry}
+use Rattle.pass_core.specs.Left.{CountsBeyond}
+use Rattle.nexthop_resolver.specs.Resolving.{Resolving}
+use Rattle.nexthop_resolver.specs.declared.rows.Metric.{Metric}
+use Rattle.journal_text.specs.declared.link.Task.TheVariants.{Nh}
+use Rattle.journal_text.specs.declared.entry.Entry.{Entry}
+use Rattle.journal_text.specs.declared.value.Value.{Value}
+use Rattle.journal_text.specs.Journals.{Journaled, Adds, flushed}
+use Rattle.loss_chain.proofs.TableLemmas.{no_table}
+use Rattle.in_chain.specs.Chains.{Chained, filt_rows, filt_candidates, filt_beyond}
+use Rattle.in_chain.proofs.TurnLemmas.{candidates_are_counted}
+use Rattle.hop_side.specs.Resolvers.{Resolvers, resolver_at, busy_by, has_hop_work, AllAgree, IsHops}
+use Rattle.hop_side.specs.Steps.{GoesOn, TurnsBelow, ComesBelow}
+use Rattle.peer_side.specs.Peers.{chain_at, filt_by, filt_at}
+use Rattle.router_core.specs.declared.router.Done.TheVariants.{Nothing, Taken}
+use Rattle.router_core.specs.declared.router.Phase.{Phase}
+use Rattle.router_core.specs.declared.router.Phase.TheVariants as phases
+use Rattle.router_core.specs.Moments.{Moment, with_hops}
+use Rattle.router_core.specs.Phases.{Frame, beyond_by, beyonds, counts, rise, risen, Spends}
+use Rattle.router_core.specs.Stands.{Stands, Claim, Claims, EachResolver, SameResolvers, AnswersAgree, HopsCounted, NoStrangers, Tie, Ties, Registered, here}
+use Rattle.router_core.specs.Turns.{journal_lines}
+use Rattle.router_core.specs.Works.{IsUnit, Comes}
+use Rattle.router_core.proofs.HopLemmas.{HopsStand, hops_fall, leads_resolved}
+use Rattle.router_core.proofs.StandLemmas.{resolver_there}
+
+-- what the calls ask for
+pub hops_sound : (m v : Moment) → v ≡ m → Stands m → IsHops v.hops
+hops_sound m v view stands = subst (λ (n : Moment). IsHops n.hops) (sym view) (stands.own EachResolver)
+
+pub hops_agree : (m v : Moment) → v ≡ m → Stands m → AllAgree v.hops v.registry
+hops_agree m v view stands = subst (λ (n : Moment). AllAgree n.hops n.registry) (sym view) (stands.own AnswersAgree)
+
+-- what stands then
+stands_resolved : (m : Moment) (r : Registry Interior) (h : Resolvers) → Stands m → r.rows ≡ m.registry.rows → HopsStand m.chains r h → Stands (with_hops m r h)
+stands_resolved m r h stands rows hops = record { own = own; at = at }
+  where
+    own : (claim : Claim) → Claims (with_hops m r h) claim
+    own EachResolver = hops.sound
+    own SameResolvers = hops.same
+    own AnswersAgree = hops.agree
+    own HopsCounted = hops.counted
+    own NoStrangers = hops.strangers
+    own other = stands.own other
+
+    at : (p : Network) (tie : Tie) → Ties (here (with_hops m r h) p) tie
+    at p Registered = ap (λ t. tables.get t p) rows ∙ stands.at p Registered
+
+-- what it spends
+hop_spends : (f : Frame) (m : Moment) (r : Registry Interior) (h : Resolvers) → counts (with_hops m r h) phases.Nh + 1 ≤ counts m phases.Nh → Spends f phases.Nh 1 (counts m) (counts (with_hops m r h))
+hop_spends f m r h fewer = record { falls = fewer; rises = rises }
+  where
+    rises : (e : Phase) → counts (with_hops m r h) e ≤ risen (rise f phases.Nh e) 1 (counts m e)
+    rises phases.Rdel = omega arith
+    rises phases.Del = omega arith
+    rises phases.Fin = omega arith
+    rises phases.Nh = omega (arith, fewer)
+
+hop_done : (k : ℕ) (sent : Option (Change Route)) (m : Moment) (c : Chained) (r : Registry Interior) (h : Resolvers) (entries : List (Entry Value)) → Stands m → chain_at k m.chains ≡ Some c
+    → TurnsBelow k (filt_candidates c) (filt_rows c) sent m.registry r m.hops h entries → IsUnit (Nh k) m (with_hops m r h) (journal_lines entries)
+hop_done k sent m c r h entries stands at t = record {
+  turn = record { chain = c; at = at; sent = sent; entries = entries; turn = t; lines = refl; after = refl };
+  work = record {
+    keeps = record {
+      leads = leads_resolved m r h entries goes.1.leads;
+      live = refl;
+      stands = stands_resolved m r h stands t.agreed.others.rows (hops_fall m k m.chains m.chains r h stands t.agreed goes.1.counted refl (resolver_there m stands k c at) (λ j. refl));
+    };
+    spends = λ f within. hop_spends f m r h fewer;
+    within = omega arith;
+  };
+}
+  where
+    goes : (p : Network) × GoesOn k p sent m.hops h entries (filt_at m.chains) (filt_at m.chains)
+    goes = t.goes (filt_at m.chains) (ap filt_by at) (stands.own HopsCounted)
+
+    fewer : counts (with_hops m r h) phases.Nh + 1 ≤ counts m phases.Nh
+    fewer = t.fewer (beyonds m.chains) (subst (λ (o : Option Chained). CountsBeyond (filt_candidates c) (beyond_by o)) (sym at) (candidates_are_counted c).0)
+
+-- by what it came to
+hop_adds : (k : ℕ) (m : Moment) (c : Chained) (r : Registry Interior) (h : Resolvers) (before j : Journaled) (turn : Turn Route) → (turn ≡ turns.Nothing → ⊥) → ComesBelow k (filt_candidates c) (filt_rows c) m.registry r m.hops h before j turn
+    → (sent : Option (Change Route)) × Adds (TurnsBelow k (filt_candidates c) (filt_rows c) sent m.registry r m.hops h) before j
+hop_adds k m c r h before j turns.Nothing some t = absurd (some refl)
+hop_adds k m c r h before j turns.Quiet some t = (None, t)
+hop_adds k m c r h before j (turns.Sent change) some t = (Some change, t)
+
+pub hop_took : (k : ℕ) (m v : Moment) (c : Chained) (r : Registry Interior) (h : Resolvers) (before j now : Journaled) (turn : Turn Route) → (turn ≡ turns.Nothing → ⊥) → v ≡ m → Stands m → Some c ≡ chain_at k v.chains
+    → ComesBelow k (filt_candidates c) (filt_rows c) v.registry r v.hops h before j turn → now ≡ flushed j → Comes (Nh k) m (with_hops v r h) before now Taken
+hop_took k m v c r h before j now turn some view stands at comes is =
+    let t = hop_adds k v c r h before j turn some comes in
+    subst (λ (n : Moment). Comes (Nh k) n (with_hops v r h) before now Taken) view
+    (journal_lines t.1.0, is ∙ ap flushed t.1.1, hop_done k t.0 v c r h t.1.0 (subst Stands (sym view) stands) (sym at) t.1.2)
+
+pub hop_rests : (k : ℕ) (m v : Moment) (c : Chained) (r : Registry Interior) (h : Resolvers) (before j : Journaled) (turn : Turn Route) → turn ≡ turns.Nothing → v ≡ m → ComesBelow k (filt_candidates c) (filt_rows c) v.registry r v.hops h before j turn
+    → Comes (Nh k) m (with_hops v r h) before j Nothing
+hop_rests k m v c r h before j turn is view comes =
+    let t : ComesBelow k (filt_candidates c) (filt_rows c) v.registry r v.hops h before j turns.Nothing = subst (ComesBelow k (filt_candidates c) (filt_rows c) v.registry r v.hops h before j) is comes in
+    (subst (λ (n : Moment). has_hop_work n.hops k ≡ false) view t.0, ap (λ (x : Resolvers). with_hops v r x) t.1 ∙ ap (λ (x : Registry Interior). with_hops v x v.hops) t.2 ∙ view, t.3)
+
+pub no_hops : (k : ℕ) (m v : Moment) (j : Journaled) → v ≡ m → Stands m → None ≡ chain_at k v.chains → Comes (Nh k) m m j j Nothing
+no_hops k m v j view stands none =
+    let gone : chain_at k m.chains ≡ None = ap (λ (n : Moment). chain_at k n.chains) (sym view) ∙ sym none in
+    (ap busy_by (no_table (resolver_at k m.hops) (stands.own SameResolvers k ∙ ap is_some gone)), refl, refl)

@@ -1,0 +1,15 @@
+use Rattle.std.proofs.Common.{sym, subst}
+use Rattle.hop_side.specs.Resolvers.{AllAgree}
+use Rattle.router_core.specs.Moments.{Moment}
+use Rattle.router_core.proofs.HopLemmas.{resolved_out, resolved_in}
+use Rattle.router_core.proofs.network.Network.resolve.Goals as goal
+
+pub returns-in_default-clause-resolves : goal.returns-in_default-clause-resolves
+returns-in_default-clause-resolves c = resolved_out c.args.number c.args.sent c.args.self.now.registry c.args.self.now.hops c.args.journal.now c.in_default.is c.requires.hops c.requires.agree
+
+pub take_in-requires-clause-agree : goal.take_in-requires-clause-agree
+take_in-requires-clause-agree c = subst (λ (m : Moment). AllAgree m.hops m.registry) (sym c.self.view_is) c.requires.agree
+
+pub returns-clause-resolves : goal.returns-clause-resolves
+returns-clause-resolves c =
+    resolved_in c.args.number c.args.sent c.in-Some.change c.in_ok-take_in.field-0 c.args.self.now _ c.take_in.new.register c.take_in.new.self c.args.journal.now c.take_in.new.journal c.self.view_is c.in-Some.is c.in_ok-take_in.ensures.taken

@@ -1,0 +1,105 @@
+//! What follows a change in a peer's chain: its resolver takes the change in. And turns of chains and resolvers.
+
+ghost use Rattle.std.specs.Prelude.{◌≡◌, IfOk, OnOk, IsSome};
+ghost use Rattle.journal_text.specs.declared.link.Task.TheVariants as tasks;
+ghost use Rattle.journal_text.specs.Journals.{Adds};
+ghost use Rattle.hop_side.specs.Resolvers.{resolver_at, IsHops, AllAgree};
+ghost use Rattle.peer_side.specs.Peers.{chain_at, IsPeersBut};
+ghost use Rattle.router_core.specs.Moments.{with_hops};
+ghost use Rattle.router_core.specs.Stands.{Stands};
+ghost use Rattle.router_core.specs.Turns.{IsOfPeers, ResolvesOn, sent_of};
+ghost use Rattle.router_core.specs.Works.{Comes, SettlesPeer};
+
+use crate::network::Network;
+use crate::router::Done;
+use addr4::Memory;
+use bgp_attr::Route;
+use journal_text::{Journal, Task};
+use link_change::{Change, Turn};
+use peer_side::peer_of;
+
+impl Network {
+    /// What follows a change in a peer's chain, by what came out on `filt.K`: its resolver takes that in; and behind it the
+    /// stage goes that the change emptied.
+    pub(crate) fn settle_peer(
+        &mut self,
+        number: u32,
+        sent: Option<Change<Route>>,
+        journal: &mut Journal,
+    ) -> Result<(), Memory>
+        requires chains { IsPeersBut number self.old.chains }
+        requires there { IsSome (chain_at number self.old.chains) }
+        requires hops { IsHops self.old.hops }
+        requires resolver { IsSome (resolver_at number self.old.hops) }
+        requires agree { AllAgree self.old.hops self.old.registry }
+        ensures { OnOk result (Adds (SettlesPeer number sent self.old self.new) journal.old journal.new) }
+    {
+        self.resolve(number, sent, journal)?;
+        self.chains.weld(number, journal)?;
+        Ok(())
+    }
+
+    /// What follows a change on `filt.K`, if one came out.
+    fn resolve(
+        &mut self,
+        number: u32,
+        sent: Option<Change<Route>>,
+        journal: &mut Journal,
+    ) -> Result<(), Memory>
+        requires hops { IsHops self.old.hops }
+        requires resolver { IsSome (resolver_at number self.old.hops) }
+        requires agree { AllAgree self.old.hops self.old.registry }
+        ensures resolves { OnOk result (Adds (ResolvesOn number sent self.old.registry self.new.registry self.old.hops self.new.hops) journal.old journal.new) }
+        ensures after { OnOk result (self.new ≡ with_hops self.old self.new.registry self.new.hops) }
+    {
+        let Some(change) = sent else {
+            return Ok(());
+        };
+        self.hops
+            .take_in(number, change, &mut self.registry, journal)?;
+        Ok(())
+    }
+
+    /// One turn of a task of a peer's chain, and the text of its lines.
+    pub(crate) fn turn_peer(&mut self, task: Task, journal: &mut Journal) -> Result<Done, Memory>
+        requires stands { Stands self.old }
+        requires peers { IsOfPeers task }
+        ensures { IfOk result (Comes task self.old self.new journal.old journal.new) }
+    {
+        let turn = self.chains.turn(task, journal)?;
+        if let Turn::Nothing = turn {
+            return Ok(Done::Nothing);
+        }
+        self.settle_peer(peer_of(task), sent_of(turn), journal)?;
+        journal.flush()?;
+        Ok(Done::Taken)
+    }
+
+    /// One turn of the next hops of a peer, and the text of its lines.
+    pub(crate) fn turn_hops(&mut self, number: u32, journal: &mut Journal) -> Result<Done, Memory>
+        requires { Stands self.old }
+        ensures { IfOk result (Comes (tasks.Nh number) self.old self.new journal.old journal.new) }
+    {
+        let Some(chain) = self.chains.chain(number) else {
+            return Ok(Done::Nothing);
+        };
+        if let Turn::Nothing = self
+            .hops
+            .turn(number, chain, &mut self.registry, journal)?
+        {
+            return Ok(Done::Nothing);
+        }
+        journal.flush()?;
+        Ok(Done::Taken)
+    }
+}
+
+/// The change that a turn sent, if it sent one.
+fn sent_of(turn: Turn<Route>) -> Option<Change<Route>>
+    ensures { result ≡ sent_of turn }
+{
+    match turn {
+        Turn::Sent(change) => Some(change),
+        _ => None,
+    }
+}
