@@ -103,7 +103,7 @@ fn lines_are_written_before_the_next_read(rt: HostRuntime) -> Result<(), Fail> {
         Call::Read(38),
         Call::Write(74),
         Call::Read(38),
-        Call::Write(16),
+        Call::Write(24),
         Call::Read(38),
         Call::Read(38),
         Call::Write(16),

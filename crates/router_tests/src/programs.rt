@@ -70,7 +70,7 @@ fn a_read_or_a_write_fails_in_mid_stream(rt: HostRuntime) -> Result<(), Fail> {
         second,
         Vec::new(alloc),
     )?;
-    let wanted = format!(in alloc; "{BEGINS}b in.1\nb filt.1\n")?;
+    let wanted = format!(in alloc; "{BEGINS}b in.1\nb filt.1\nb res.1\n")?;
     assert!(rt; output.as_str() == wanted.as_str() && status == Status::ReadFault);
     let first = vec![in alloc; 1]?;
     let (status, output) = run_failing(
