@@ -1,5 +1,5 @@
 -- How many turns the exits take.
-use Rattle.std.proofs.Common.{◌≡◌, ◌≢◌, ℕ, ◌+◌, ◌*◌, ◌<◌, ◌≤◌, Bool, true, false, ◌||◌, List, [], ◌∷◌, ◌++◌, length, Option, Some, None, is_some, refl, sym, ap, subst, ◌∙◌, arith}
+use Rattle.std.proofs.Common.{◌≡◌, ℕ, ◌+◌, ◌*◌, ◌<◌, ◌≤◌, true, false, List, [], ◌∷◌, length, Option, Some, None, is_some, refl, sym, ap, subst, arith}
 use Rattle.std.specs.Prelude.{IsSome}
 use Rattle.std.specs.Option.{option_map}
 use Rattle.std.specs.FinMap as tables
@@ -15,7 +15,7 @@ use Rattle.pass_core.specs.Left.{CountsBeyond, walk_turns}
 use Rattle.pass_core.proofs.LeftLemmas.{left_is_bounded, left_follows}
 use Rattle.fanout_queue.specs.Queues.{Queued, AppendsToAll, IsMostUnread}
 use Rattle.fanout_queue.specs.Readers.{unread_or_none, unread_by}
-use Rattle.out_chain.specs.Chains.{OutChained, is_unread, has_out_work, out_turns_left}
+use Rattle.out_chain.specs.Chains.{OutChained, has_out_work, out_turns_left}
 use Rattle.exit_side.specs.Exits.{Exited, chain_at, with_queue, with_exit, IsExits, left_of, left_in}
 use Rattle.exit_side.proofs.MapLemmas.{sum_same, sum_more, sum_less, sum_within, sum_replaced, all_entries}
 use Rattle.exit_side.proofs.SwapLemmas.{Swaps, unread_stays}

@@ -1,5 +1,5 @@
 -- The exits, against the `BTreeMap` that holds their chains.
-use Rattle.std.proofs.Common.{◌≡◌, ℕ, Option, Some, None, is_some, refl, sym, ap, ◌∙◌}
+use Rattle.std.proofs.Common.{◌≡◌, ℕ, Some, None, is_some, refl, sym, ap, ◌∙◌}
 use Rattle.std.specs.Prelude.{IsSome}
 use Rattle.std.specs.FinMap as tables
 use Rattle.std.specs.FinMap.{from_entries}

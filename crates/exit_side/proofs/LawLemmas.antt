@@ -1,29 +1,25 @@
 -- Laws of the side of the exits.
-use Rattle.std.proofs.Common.{◌≡◌, ◌≢◌, ℕ, true, false, cond, List, [], ◌∷◌, Option, Some, None, is_some, refl, sym, ap, subst, ◌∙◌, arith}
+use Rattle.std.proofs.Common.{◌≡◌, ℕ, true, false, cond, List, [], ◌∷◌, Option, Some, None, is_some, refl, sym, ap, subst, ◌∙◌, arith}
 use Rattle.std.specs.List.{sum_by}
 use Rattle.std.specs.Map.{values_of}
 use Rattle.std.specs.FinMap as tables
 use Rattle.std.specs.FinMap.{get-empty}
 use Rattle.std.specs.Ordering.{nat_cmp}
-use Rattle.addr4.specs.Prefixes.{Network}
 use Rattle.bgp_attr.specs.declared.route.Route.{Route}
 use Rattle.bgp_attr.specs.declared.speaker.Profile.{Profile}
-use Rattle.link_change.specs.Rows.{Rows}
 use Rattle.link_change.specs.InOrder.{rows_before}
 use Rattle.link_change.specs.declared.change.Change.{Change}
 use Rattle.link_change.proofs.RowLemmas.{same_function}
 use Rattle.policy_rules.specs.declared.rule.Rule.{Rule}
 use Rattle.pass_core.specs.Passed.{Walked}
 use Rattle.fanout_queue.specs.Readers.{unread_by}
-use Rattle.journal_text.specs.declared.link.Link.{Link}
-use Rattle.journal_text.specs.declared.link.Link.TheVariants.{Read, Outf, Adv, Best}
 use Rattle.journal_text.specs.declared.value.Value.{Value}
 use Rattle.journal_text.specs.declared.entry.Entry.{Entry}
 use Rattle.journal_text.specs.Links.{owner_of}
 use Rattle.journal_text.specs.Walk.{Links, Leads}
 use Rattle.out_chain.specs.Chains.{OutChained, has_out_work}
 use Rattle.out_chain.specs.Laws as out_laws
-use Rattle.exit_side.specs.Exits.{Exited, OutChains, no_exits, chain_at, links_by, exit_links, busy_by, has_exit_work, left_of, left_in}
+use Rattle.exit_side.specs.Exits.{no_exits, chain_at, links_by, busy_by, left_of, left_in}
 use Rattle.exit_side.specs.Steps.{is_exit, beside}
 use Rattle.exit_side.specs.Laws.{StandsAtFirst, AreAmong, LeadsAnywhere, LeadsAnywhereWithBest, ExactWithoutWork, NoneLeftWithoutWork, TurnsAreBounded, LeftFollows}
 use Rattle.exit_side.proofs.MapLemmas.{no_entries, one_of_sum}

@@ -1,7 +1,6 @@
 -- A change of `best` joins the queue; and what readers do that are no peer's.
-use Rattle.std.proofs.Common.{◌≡◌, ◌≢◌, ℕ, List, Option, Some, None, refl, sym, ap, subst, ◌∙◌}
+use Rattle.std.proofs.Common.{◌≡◌, ◌≢◌, ℕ, Option, Some, None, refl, sym, ap, subst}
 use Rattle.std.specs.Prelude.{IsSome}
-use Rattle.std.specs.Option.{ForSome}
 use Rattle.std.specs.FinMap as tables
 use Rattle.addr4.specs.Prefixes.{Network}
 use Rattle.bgp_attr.specs.declared.route.Route.{Route}
@@ -16,7 +15,7 @@ use Rattle.fanout_queue.specs.Readers.{unread_or_none, KeepsOtherReaders}
 use Rattle.fanout_queue.proofs.LeadLemmas.{put_keeps_readers, put_keeps_read}
 use Rattle.out_chain.specs.Chains.{OutChained, out_links}
 use Rattle.out_chain.specs.Laws.{PutKeepsStanding, OthersKeepStanding}
-use Rattle.exit_side.specs.Exits.{Exited, chain_at, with_queue, links_by, exit_links, IsExits, AllStand}
+use Rattle.exit_side.specs.Exits.{Exited, chain_at, with_queue, links_by, IsExits}
 use Rattle.exit_side.specs.Steps.{PutsExit}
 use Rattle.exit_side.specs.Laws.{StaysWithQueue, StrangersReadOn}
 use Rattle.exit_side.proofs.LinkLemmas.{links_same}

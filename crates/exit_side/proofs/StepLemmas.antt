@@ -1,5 +1,5 @@
 -- What a session that begins or ends, new rules, and a turn make of the exits.
-use Rattle.std.proofs.Common.{◌≡◌, ◌≢◌, ℕ, ◌<◌, ◌⊎◌, inl, inr, Bool, false, cond, is_some, List, [], ◌++◌, Option, Some, None, refl, sym, ap, subst, ◌∙◌}
+use Rattle.std.proofs.Common.{◌≡◌, ◌≢◌, ℕ, ◌⊎◌, inl, inr, false, cond, is_some, List, [], ◌++◌, Option, Some, None, refl, sym, ap, subst, ◌∙◌}
 use Rattle.std.specs.Prelude.{IsSome}
 use Rattle.std.proofs.Common.{Result, Ok, Err, IfOk, OnOk}
 use Rattle.std.specs.Option.{ForSome}
@@ -24,13 +24,15 @@ use Rattle.link_change.specs.InOrder.{rows_before}
 use Rattle.journal_text.specs.declared.line.Line.{Line}
 use Rattle.journal_text.specs.declared.value.Value.{Value}
 use Rattle.journal_text.specs.declared.entry.Entry.{Entry}
-use Rattle.journal_text.specs.Walk.{Links, no_links}
+use Rattle.journal_text.specs.Walk.{no_links}
 use Rattle.journal_text.specs.Journals.{Journaled, with_entries, Adds}
 use Rattle.out_chain.specs.Chains.{OutChained, out_links, RowsMayBeHeard, OutStands, has_out_work}
-use Rattle.out_chain.specs.Steps.{exit_to, new_out, start_entries, stop_entries, LeadsOut, LeadsFromBest, with_rules, with_sent, with_filter, sending_entries, ReadsFirst, WalksNext, TurnsOut, AddsLines, IsOutTurn}
+use Rattle.out_chain.specs.Steps.{exit_to, new_out, start_entries, stop_entries, LeadsOut, LeadsFromBest, with_rules, sending_entries, ReadsFirst, WalksNext, TurnsOut, AddsLines, IsOutTurn}
 use Rattle.out_chain.specs.Laws.{OthersKeepStanding}
-use Rattle.exit_side.specs.Exits.{Exited, OutChains, chain_at, with_exit, without_exit, links_by, exit_links, IsExit, IsExits, AllStand, busy_by, has_exit_work}
-use Rattle.exit_side.specs.Steps.{BeginsExit, EndsExit, edited_by, EditsExit, TurnsExit, ComesOut}
+use Rattle.exit_side.specs.Exits.{Exited, OutChains, chain_at, with_exit, without_exit, links_by, IsExit, IsExits, AllStand, busy_by, has_exit_work}
+use Rattle.pass_core.specs.Passed.{Passed, Walked, present, present_of, latest_of, walk_stepped, walk_of_waiting, after_walk}
+use Rattle.pass_core.specs.Turns.{walked_on}
+use Rattle.exit_side.specs.Steps.{BeginsExit, EndsExit, edited_by, EditsExit, KeepsSession, TurnsExit, ComesOut}
 use Rattle.exit_side.proofs.MapLemmas.{one_of}
 use Rattle.exit_side.proofs.SwapLemmas.{by_number, Swaps, swaps_in, swaps_out, others_apart, swap_stands, links_stay, swap_sound}
 use Rattle.exit_side.proofs.LinkLemmas.{leads_exits, leads_with_best, links_same}
@@ -163,38 +165,50 @@ module _ (law : OthersKeepStanding) (e : Exited) (j : ℕ) (chain ruled : OutCha
   }))
 
 -- ---- a turn
--- who the chain is
-pub record IsSame (c taken : OutChained) : Type 0 where
-  pub peer : taken.peer ≡ c.peer
-  pub session : taken.session ≡ c.session
-  pub exit : taken.exit ≡ c.exit
-  pub reader : taken.reader ≡ c.reader
+-- a walk, and its end, leave the latest rules
+step_kept : (f : Option (List Rule)) (walk : Option (Walked (Option (List Rule)))) (p : Network) → present_of f (walk_stepped walk p) ≡ present_of f walk
+step_kept f None p = refl
+step_kept f (Some w) p = refl
+
+end_kept : (f : Option (List Rule)) (walk : Option (Walked (Option (List Rule)))) → present (after_walk f walk) ≡ present_of f walk
+end_kept f None = refl
+end_kept f (Some w) = waiting_kept w.next w.waiting
+  where
+    waiting_kept : (next : Option (List Rule)) (waiting : Option (Option (List Rule))) → present_of next (walk_of_waiting waiting) ≡ latest_of next waiting
+    waiting_kept next None = refl
+    waiting_kept next (Some g) = refl
+
+walk_kept : (next : Option Network) (s : Passed (Option (List Rule))) → present (walked_on next s) ≡ present s
+walk_kept None s = end_kept s.in_force s.walk
+walk_kept (Some p) s = step_kept s.in_force s.walk p
 
 module _ (law : OthersKeepStanding) (e : Exited) (j : ℕ) (chain taken : OutChained) (at : chain_at j e ≡ Some chain) (sound : IsExits e) (queue : Queued Route) (candidates : Candidates) (best : Rows Route)
     (all : AllStand best e) (others : KeepsOtherReaders chain.reader e.queue queue) where
   abbrev turned : Exited
   turned = with_exit j taken queue e
 
-  same_read : (entries : List (Entry Value)) (sent : Option (Change Attrs)) → ReadsFirst chain taken e.queue queue best entries sent → IsSame chain taken
+  same_read : (entries : List (Entry Value)) (sent : Option (Change Attrs)) → ReadsFirst chain taken e.queue queue best entries sent → KeepsSession chain taken
   same_read entries sent reads = record {
     peer = ap (λ (c : OutChained). c.peer) reads.after;
     session = ap (λ (c : OutChained). c.session) reads.after;
     exit = ap (λ (c : OutChained). c.exit) reads.after;
     reader = ap (λ (c : OutChained). c.reader) reads.after;
+    rules = ap (λ (c : OutChained). present c.filter) reads.after;
   }
 
-  same_walked : (entries : List (Entry Value)) (sent : Option (Change Attrs)) → WalksNext chain taken e.queue queue candidates best entries sent → IsSame chain taken
+  same_walked : (entries : List (Entry Value)) (sent : Option (Change Attrs)) → WalksNext chain taken e.queue queue candidates best entries sent → KeepsSession chain taken
   same_walked entries sent walks = record {
     peer = ap (λ (c : OutChained). c.peer) walks.after;
     session = ap (λ (c : OutChained). c.session) walks.after;
     exit = ap (λ (c : OutChained). c.exit) walks.after;
     reader = ap (λ (c : OutChained). c.reader) walks.after;
+    rules = ap present walks.walks.after ∙ walk_kept walks.walks.next chain.filter;
   }
 
-  same_chain : (sent : Option (Change Attrs)) (said : List Line) → TurnsOut chain taken e.queue queue candidates best sent said → IsSame chain taken
+  same_chain : (sent : Option (Change Attrs)) (said : List Line) → TurnsOut chain taken e.queue queue candidates best sent said → KeepsSession chain taken
   same_chain sent said turns = by_which turns.by
     where
-      by_which : ReadsFirst chain taken e.queue queue best turns.entries sent ⊎ WalksNext chain taken e.queue queue candidates best turns.entries sent → IsSame chain taken
+      by_which : ReadsFirst chain taken e.queue queue best turns.entries sent ⊎ WalksNext chain taken e.queue queue candidates best turns.entries sent → KeepsSession chain taken
       by_which (inl reads) = same_read turns.entries sent reads
       by_which (inr walks) = same_walked turns.entries sent walks
 
@@ -202,30 +216,31 @@ module _ (law : OthersKeepStanding) (e : Exited) (j : ℕ) (chain taken : OutCha
   swapped = swaps_in j chain.reader taken queue e others (others_apart e j chain sound at)
 
   module _ (stands : OutStands taken queue best) (sent : Option (Change Attrs)) (said : List Line) (turns : TurnsOut chain taken e.queue queue candidates best sent said) where
-    same : IsSame chain taken
-    same = same_chain sent said turns
+    kept : KeepsSession chain taken
+    kept = same_chain sent said turns
 
     turned_is : TurnsExit j candidates best sent e turned said
     turned_is = let was = sound.each j chain at in record {
       chain = chain;
       at = at;
       taken = taken;
+      same = kept;
       turns = turns;
       others = others;
       after = refl;
       leads = leads_exits j e turned best (links_stay j chain.reader (Some taken) e turned swapped best) (out_links chain (read_rows e.queue chain.reader best)) (out_links taken (read_rows queue chain.reader best))
-          (ap (links_by e.queue best) at) (ap (links_by queue best) swapped.here ∙ ap (λ (r : ℕ). out_links taken (read_rows queue r best)) same.reader) (turns.entries ++ sending_entries chain sent)
+          (ap (links_by e.queue best) at) (ap (links_by queue best) swapped.here ∙ ap (λ (r : ℕ). out_links taken (read_rows queue r best)) kept.reader) (turns.entries ++ sending_entries chain sent)
           (subst (λ (n : ℕ). LeadsOut n (out_links chain (read_rows e.queue chain.reader best)) (turns.entries ++ sending_entries chain sent) (out_links taken (read_rows queue chain.reader best))) was.number turns.goes.leads);
       stand = swap_stands j chain.reader (Some taken) e turned swapped law best (of_one (λ c. OutStands c queue best) taken stands) all;
       sound = swap_sound j chain.reader (Some taken) e turned swapped sound (of_one (λ c. IsExit turned j c × (c.reader ≡ chain.reader)) taken (
         record {
-          number = ap (λ (n : Neighbour). n.number) same.peer ∙ was.number;
-          profile = ap (λ x. x.profile) same.exit ∙ was.profile;
+          number = ap (λ (n : Neighbour). n.number) kept.peer ∙ was.number;
+          profile = ap (λ x. x.profile) kept.exit ∙ was.profile;
           live = stands.live;
         },
-        same.reader,
+        kept.reader,
       ));
-      fewer = λ beyond counts. turn_fewer beyond j chain taken e queue at same.reader swapped (turns.fewer beyond counts);
+      fewer = λ beyond counts. turn_fewer beyond j chain taken e queue at kept.reader swapped (turns.fewer beyond counts);
     }
 
   comes_adds : (stands : OutStands taken queue best) (sent : Option (Change Attrs)) (before now : Journaled) → AddsLines (TurnsOut chain taken e.queue queue candidates best sent) before now

@@ -11,14 +11,11 @@ use Rattle.link_change.specs.Rows.{Rows}
 use Rattle.link_change.specs.declared.change.Change.{Change}
 use Rattle.link_change.specs.InOrder.{rows_before}
 use Rattle.fanout_queue.specs.Queues.{Queued}
-use Rattle.fanout_queue.specs.Readers.{unread_or_none, unread_by, read_rows, KeepsOtherReaders}
+use Rattle.fanout_queue.specs.Readers.{unread_or_none, KeepsOtherReaders}
 use Rattle.fanout_queue.proofs.Cases.{same_number, other_number}
 use Rattle.out_chain.specs.Chains.{OutChained, out_links, OutStands}
 use Rattle.out_chain.specs.Laws.{OthersKeepStanding}
-use Rattle.journal_text.specs.declared.value.Value.{Value}
-use Rattle.journal_text.specs.Walk.{Links}
 use Rattle.exit_side.specs.Exits.{Exited, chain_at, with_exit, without_exit, links_by, IsExit, IsExits, AllStand}
-use Rattle.exit_side.proofs.MapLemmas.{one_of}
 
 -- by a test, with what it came to
 pub by_bool : (b : Bool) (P : Bool → Type 0) → (b ≡ true → P true) → (b ≡ false → P false) → P b

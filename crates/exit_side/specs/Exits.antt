@@ -1,6 +1,6 @@
 -- What contracts see of the side of the exits: one queue of the changes of `best`, and the outgoing chain of each peer that is up, by the
 -- peer's number. The rows of its links are told over any rows of `best`.
-use Rattle.std.specs.Prelude.{◌≡◌, ℕ, Bool, false, List, Option, Some, None, IsSome, refl}
+use Rattle.std.specs.Prelude.{◌≡◌, ℕ, Bool, false, Option, Some, None, IsSome, refl}
 use Rattle.std.specs.List.{sum_by}
 use Rattle.std.specs.Ordering.{nat_cmp}
 use Rattle.std.specs.Coded.{Coded, code_by, coded×}

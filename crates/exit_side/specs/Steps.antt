@@ -13,6 +13,7 @@ use Rattle.link_change.specs.declared.change.Change.{Change}
 use Rattle.link_change.specs.declared.turn.Turn.{Turn}
 use Rattle.link_change.specs.declared.turn.Turn.TheVariants.{Nothing, Quiet, Sent}
 use Rattle.policy_rules.specs.declared.rule.Rule.{Rule}
+use Rattle.pass_core.specs.Passed.{present}
 use Rattle.pass_core.specs.Left.{CountsBeyond}
 use Rattle.peer_out.specs.Changes.{MayBeHeard}
 use Rattle.fanout_queue.specs.Queues.{AppendsToAll}
@@ -95,12 +96,21 @@ pub record PutsExit (change : Change Route) (e e' : Exited) : Type 0 where
   pub sound : IsExits e'
 
 -- ---- a turn
+-- it is the same session of the same peer, and the latest rules are those that they were
+pub record KeepsSession (chain taken : OutChained) : Type 0 where
+  pub peer : taken.peer ≡ chain.peer
+  pub session : taken.session ≡ chain.session
+  pub exit : taken.exit ≡ chain.exit
+  pub reader : taken.reader ≡ chain.reader
+  pub rules : present taken.filter ≡ present chain.filter
+
 -- The chain of peer j takes a turn, over these rows of `best`; every other chain stays, and so does what its reader hasn't taken. What
 -- comes out on `adv` is told to the peer. Fewer turns are left.
 pub record TurnsExit (j : ℕ) (candidates : Candidates) (best : Rows Route) (sent : Option (Change Attrs)) (e e' : Exited) (said : List Line) : Type 0 where
   pub chain : OutChained
   pub at : chain_at j e ≡ Some chain
   pub taken : OutChained
+  pub same : KeepsSession chain taken
   pub turns : TurnsOut chain taken e.queue e'.queue candidates best sent said
   pub others : KeepsOtherReaders chain.reader e.queue e'.queue
   pub after : e' ≡ with_exit j taken e'.queue e

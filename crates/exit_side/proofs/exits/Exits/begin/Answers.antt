@@ -1,4 +1,4 @@
-use Rattle.std.proofs.Common.{◌∙◌, refl, sym, ap, subst, None, ◌≡◌}
+use Rattle.std.proofs.Common.{sym, subst, None, ◌≡◌}
 use Rattle.exit_side.specs.Exits.{Exited, IsExits, chain_at}
 use Rattle.exit_side.proofs.HeldLemmas.{held_put, seen}
 use Rattle.exit_side.proofs.StepLemmas.{begins_for}

@@ -1,7 +1,7 @@
 use Rattle.std.proofs.Common.{◌∙◌, refl, sym, ap, subst}
 use Rattle.std.specs.FinMap.{from_entries}
 use Rattle.std.specs.Ordering.{nat_cmp}
-use Rattle.exit_side.specs.Exits.{Exited, OutChains, IsExits}
+use Rattle.exit_side.specs.Exits.{Exited, IsExits}
 use Rattle.exit_side.specs.Steps.{EditsExit}
 use Rattle.exit_side.proofs.HeldLemmas.{held, held_lent, seen}
 use Rattle.exit_side.proofs.StepLemmas.{edits_none, edits_for}

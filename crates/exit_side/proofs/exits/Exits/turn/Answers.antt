@@ -1,5 +1,4 @@
 use Rattle.std.proofs.Common.{◌∙◌, refl, sym, ap, subst}
-use Rattle.std.proofs.lemmas.Result.{IfOk-weaker}
 use Rattle.std.specs.FinMap.{from_entries}
 use Rattle.std.specs.Ordering.{nat_cmp}
 use Rattle.link_change.specs.declared.turn.Turn.TheVariants as turns
