@@ -1,5 +1,5 @@
 -- The prefixes of events.
-use Rattle.std.proofs.Common.{◌≡◌, ℕ, ◌+◌, ◌*◌, ◌-◌, ◌%◌, ◌^◌, List, ◌++◌, append_assoc, refl, ap, ◌∙◌, arith}
+use Rattle.std.proofs.Common.{◌≡◌, ℕ, ◌+◌, ◌*◌, List, ◌++◌, append_assoc, ap, ◌∙◌, arith}
 use Rattle.addr4.specs.Blocks.{masked_to}
 
 pub block_masked : (x : ℕ) → masked_to 32 (167772160 + x * 65536) 16 ≡ 167772160 + x * 65536

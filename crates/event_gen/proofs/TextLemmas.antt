@@ -1,8 +1,8 @@
 -- What is left of a text, part by part, and what is left where a piece of it was written.
-use Rattle.std.proofs.Common.{◌≡◌, ℕ, zero, suc, ◌+◌, ◌-◌, ◌<◌, List, [], ◌∷◌, ◌++◌, codes, append_assoc, append-nil, refl, ap, sym, ◌∙◌, arith}
+use Rattle.std.proofs.Common.{◌≡◌, ℕ, zero, suc, ◌-◌, ◌<◌, List, [], ◌∷◌, ◌++◌, codes, append_assoc, append-nil, refl, ap, sym, ◌∙◌, arith}
 use Rattle.event_gen.specs.Draws.{next_draws, behind_draws}
 use Rattle.event_gen.specs.Events.{event_of}
-use Rattle.event_gen.specs.Lines.{opening, ended, event_words, event_line, event_lines, text_left}
+use Rattle.event_gen.specs.Lines.{opening, event_words, event_line, text_left}
 use Rattle.event_gen.specs.declared.drawn.Drawn.{Drawn}
 use Rattle.event_gen.specs.declared.drawn.Drawn.TheVariants.{Idle}
 use Rattle.event_gen.specs.declared.generator.Part.{Part}

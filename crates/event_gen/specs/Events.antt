@@ -1,4 +1,4 @@
--- Which event four draws are: its kind is k mod 16.
+-- Which event four draws are.
 use Rattle.std.specs.Prelude.{ℕ, zero, suc, ◌+◌, ◌/◌, ◌%◌, ◌==◌, nat_lt, if◌then◌else◌, List, [], ◌∷◌}
 use Rattle.bgp_attr.specs.declared.attrs.Origin as origin
 use Rattle.bgp_attr.specs.declared.attrs.Origin.TheVariants.{Igp, Egp, Incomplete}
@@ -8,6 +8,10 @@ use Rattle.event_gen.specs.declared.drawn.Work.{Work}
 use Rattle.event_gen.specs.declared.drawn.Work.TheVariants as works
 use Rattle.event_gen.specs.declared.drawn.Drawn.{Drawn}
 use Rattle.event_gen.specs.declared.drawn.Drawn.TheVariants as drawn
+
+-- the kind of an event, 0 to 15
+abbrev pub kind_of : Draws → ℕ
+kind_of d = d.k % 16
 
 -- the peer of an event, 1 to 4
 abbrev pub peer_of : Draws → ℕ
@@ -36,18 +40,18 @@ work_of d =
 -- an event that is no message, by its kind
 abbrev pub other_event : Draws → Drawn
 other_event d =
-    if d.k % 16 == 9 then drawn.Down (peer_of d)
-    else if nat_lt (d.k % 16) 12 then drawn.Up (peer_of d)
-    else if d.k % 16 == 12 then drawn.Prefer (peer_of d) (100 + d.c % 2)
-    else if d.k % 16 == 13 then host_event d
-    else if d.k % 16 == 14 then drawn.Work (work_of d) (d.b % 8)
+    if kind_of d == 9 then drawn.Down (peer_of d)
+    else if nat_lt (kind_of d) 12 then drawn.Up (peer_of d)
+    else if kind_of d == 12 then drawn.Prefer (peer_of d) (100 + d.c % 2)
+    else if kind_of d == 13 then host_event d
+    else if kind_of d == 14 then drawn.Work (work_of d) (d.b % 8)
     else drawn.Idle
 
 -- the event of four draws
 unfoldable pub event_of : Draws → Drawn
 event_of d =
-    if nat_lt (d.k % 16) 7 then drawn.Announce (peer_of d) (block_of d) (origin_of (d.c % 3)) (d.c / 3 % 4)
-    else if nat_lt (d.k % 16) 9 then drawn.Withdraw (peer_of d) (block_of d)
+    if nat_lt (kind_of d) 7 then drawn.Announce (peer_of d) (block_of d) (origin_of (d.c % 3)) (d.c / 3 % 4)
+    else if nat_lt (kind_of d) 9 then drawn.Withdraw (peer_of d) (block_of d)
     else other_event d
 
 -- so many events from a state on, four draws each

@@ -1,3 +1,4 @@
 pub mod Draws
 pub mod Events
 pub mod Lines
+pub mod Readings

@@ -1,8 +1,8 @@
 //! Drawing an event.
 
-ghost use Rattle.std.specs.Prelude.{◌≡◌, ◌^◌, ◌<◌, ◌≤◌};
+ghost use Rattle.std.specs.Prelude.{◌≡◌};
 ghost use Rattle.event_gen.specs.Draws.{stepped, number_of, next_draws, behind_draws};
-ghost use Rattle.event_gen.specs.Events.{peer_of, block_of, origin_of, host_event, work_of, other_event, event_of};
+ghost use Rattle.event_gen.specs.Events.{kind_of, peer_of, block_of, origin_of, host_event, work_of, other_event, event_of};
 
 use crate::drawn::{Drawn, Work};
 use bgp_attr::Origin;
@@ -53,6 +53,13 @@ pub(crate) fn draw_four(state: u64) -> (Draws, u64)
         c: number_of(fourth),
     };
     (draws, fourth)
+}
+
+/// The kind of an event, 0 to 15.
+fn kind_of(draws: Draws) -> u64
+    ensures { result ≡ kind_of draws }
+{
+    draws.k % 16
 }
 
 /// The peer of an event, 1 to 4.
@@ -115,7 +122,7 @@ fn other_event(draws: Draws) -> Drawn
     ensures { result ≡ other_event draws }
 {
     let peer = peer_of(draws);
-    let kind = draws.k % 16;
+    let kind = kind_of(draws);
     if kind == 9 {
         Drawn::Down(peer)
     } else if kind < 12 {
@@ -131,12 +138,12 @@ fn other_event(draws: Draws) -> Drawn
     }
 }
 
-/// The event of four draws: its kind is k mod 16.
+/// The event of four draws.
 #[tactic(auto, unfolding(crate::specs::Events::event_of))]
 pub(crate) fn event_of(draws: Draws) -> Drawn
     ensures { result ≡ event_of draws }
 {
-    let kind = draws.k % 16;
+    let kind = kind_of(draws);
     if kind < 7 {
         let origin = origin_of(draws.c % 3);
         let med = (draws.c / 3 % 4) as u8;

@@ -9,9 +9,11 @@
 mod drawn;
 mod draws;
 mod generator;
+mod laws;
 mod lines;
 mod source;
 
 pub use drawn::{Drawn, Work};
 pub use generator::Generator;
+pub use laws::lines_are_read;
 pub use source::GeneratedSource;
