@@ -73,7 +73,6 @@ over_none Rdel m over =
     let a = gone Connected in let b = gone Static in let c = gone Ospf in let d = gone Rip in omega (arith, a, b, c, d)
 over_none Del m over = sum_none lost_of (tables.values m.chains) (all_values nat_cmp nat_cmp_total (λ c. lost_of c ≡ 0) m.chains (λ k c at. ap lost_count (over k c at)))
 over_none Fin m over = sum_none turns_left (tables.values m.chains) (all_values nat_cmp nat_cmp_total (λ c. turns_left c ≡ 0) m.chains (λ k c at. ap (walk_turns c.incoming.tables) (over k c at)))
-
 over_none Nh m over = (none_left_without_work m.hops (beyonds m.chains)).0 over
 
 no_walk : TurnsAreLeft → (c : Chained) → turns_left c ≡ 0 → c.filter.walk ≡ None

@@ -160,32 +160,40 @@ hops_reached m reached r h stands given answers below = record {
 
 -- ---- what follows a change on `filt.K`, whether one came out or not
 pub resolved_none : (k : ℕ) (r : Registry Interior) (h : Resolvers) (j : Journaled) → IsHops h → AllAgree h r → Adds (ResolvesOn k None r r h h) j j
-resolved_none k r h j sound agree = ([], sym (with_entries_none j), record {
-  below = None;
-  lines = refl;
-  resolves = (refl, refl, refl);
-  agreed = record { sound = sound; agree = agree; others = record { rows = refl; interests = λ i other. refl }; peers = λ j. refl };
-  goes = λ uppers now p counted comes.
-      let same : now ≡ uppers = (λ i j. stays uppers now p comes j i) in
-      record {
-        comes = record { here = ap (λ (u : PeerRows). res_at h u k) same; others = λ j other. ap (λ (u : PeerRows). res_at h u j) same };
-        leads = λ others. leads_nowhere _ _ (ap (λ (u : PeerRows). beside others (hop_links h u)) (sym same));
-        counted = subst (λ (u : PeerRows). AllCounted u h) (sym same) counted;
-      };
-})
+resolved_none k r h j sound agree = (
+  [],
+  sym (with_entries_none j),
+  record {
+    below = None;
+    lines = refl;
+    resolves = (refl, refl, refl);
+    agreed = record { sound = sound; agree = agree; others = record { rows = refl; interests = λ i other. refl }; peers = λ j. refl };
+    goes = λ uppers now p counted comes.
+        let same : now ≡ uppers = (λ i j. stays uppers now p comes j i) in
+        record {
+          comes = record { here = ap (λ (u : PeerRows). res_at h u k) same; others = λ j other. ap (λ (u : PeerRows). res_at h u j) same };
+          leads = λ others. leads_nowhere _ _ (ap (λ (u : PeerRows). beside others (hop_links h u)) (sym same));
+          counted = subst (λ (u : PeerRows). AllCounted u h) (sym same) counted;
+        };
+  },
+)
   where
     stays : (uppers now : PeerRows) (p : Network) → ComesOn k p None uppers now → (j : ℕ) → now j ≡ uppers j
     stays uppers now p comes j = by_bool (nat_eq j k) (λ b. now j ≡ uppers j) (λ e. subst (λ (n : ℕ). now n ≡ uppers n) (sym (equal_by j k e)) comes.here) (λ e. comes.others j e)
 
 pub resolved_some : (k : ℕ) (change : Change Route) (sent : Option (Change Route)) (r r' : Registry Interior) (h h' : Resolvers) (before now : Journaled) → Adds (TakesBelow k change sent r r' h h') before now
     → Adds (ResolvesOn k (Some change) r r' h h') before now
-resolved_some k change sent r r' h h' before now adds = (adds.0, adds.1, record {
-  below = sent;
-  lines = adds.2.takes.lines;
-  resolves = adds.2.takes;
-  agreed = adds.2.agreed;
-  goes = adds.2.goes;
-})
+resolved_some k change sent r r' h h' before now adds = (
+  adds.0,
+  adds.1,
+  record {
+    below = sent;
+    lines = adds.2.takes.lines;
+    resolves = adds.2.takes;
+    agreed = adds.2.agreed;
+    goes = adds.2.goes;
+  },
+)
 
 -- by whether one came out
 pub resolved_out : (k : ℕ) (sent : Option (Change Route)) (r : Registry Interior) (h : Resolvers) (j : Journaled) → sent ≡ None → IsHops h → AllAgree h r → Adds (ResolvesOn k sent r r h h) j j

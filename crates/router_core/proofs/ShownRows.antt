@@ -172,15 +172,23 @@ res_rows_at m link k rows is at = by_resolver (resolver_at k m.hops) refl (ap (h
 
 -- where no row stands above it
 pub none_resolved : (m v : Moment) (link : Link) (k : ℕ) (place : Option Network) → v ≡ m → link ≡ Res k → None ≡ chain_at k v.chains → IsNextPlace (hop_links m.hops (filt_at m.chains) link) place None
-none_resolved m v link k place view is none = ((λ q. false), (λ q beyond. refl), λ rows at q lacks.
-    let own = res_rows_at m link k rows is at in
-    let upper : filt_at m.chains k ≡ no_rows = ap (λ (n : Moment). filt_at n.chains k) (sym view) ∙ ap filt_by (sym none) in
-    ap (λ (r : Rows Value). r q) own.2 ∙ ap (λ (u : Rows Route). route_rows (metric_rows own.0 u) q) upper)
+none_resolved m v link k place view is none = (
+  (λ q. false),
+  (λ q beyond. refl),
+  λ rows at q lacks.
+      let own = res_rows_at m link k rows is at in
+      let upper : filt_at m.chains k ≡ no_rows = ap (λ (n : Moment). filt_at n.chains k) (sym view) ∙ ap filt_by (sym none) in
+      ap (λ (r : Rows Value). r q) own.2 ∙ ap (λ (u : Rows Route). route_rows (metric_rows own.0 u) q) upper,
+)
 
 pub next_resolved : (m v : Moment) (link : Link) (k : ℕ) (place result : Option Network) (c : Chained) → v ≡ m → link ≡ Res k → Some c ≡ chain_at k v.chains → IsNextCandidate (filt_candidates c) place result
     → CoversRows (filt_candidates c) (rows_by (resolver_at k v.hops) (filt_rows c)) → IsNextPlace (hop_links m.hops (filt_at m.chains) link) place result
-next_resolved m v link k place result c view is there next covers = (filt_candidates c, next, λ rows at q lacks.
-    let own = res_rows_at m link k rows is at in
-    let upper : filt_rows c ≡ filt_at m.chains k = ap filt_by there ∙ ap (λ (n : Moment). filt_at n.chains k) view in
-    let same : rows_by (resolver_at k v.hops) (filt_rows c) ≡ metric_rows own.0 (filt_at m.chains k) = ap (λ (n : Moment). rows_by (resolver_at k n.hops) (filt_rows c)) view ∙ ap (λ (o : Option (Resolving Metric)). rows_by o (filt_rows c)) own.1 ∙ ap (metric_rows own.0) upper in
-    ap (λ (r : Rows Value). r q) own.2 ∙ ap (option_map route_value) (ap (λ (r : Rows Route). r q) (sym same) ∙ covers q lacks))
+next_resolved m v link k place result c view is there next covers = (
+  filt_candidates c,
+  next,
+  λ rows at q lacks.
+      let own = res_rows_at m link k rows is at in
+      let upper : filt_rows c ≡ filt_at m.chains k = ap filt_by there ∙ ap (λ (n : Moment). filt_at n.chains k) view in
+      let same : rows_by (resolver_at k v.hops) (filt_rows c) ≡ metric_rows own.0 (filt_at m.chains k) = ap (λ (n : Moment). rows_by (resolver_at k n.hops) (filt_rows c)) view ∙ ap (λ (o : Option (Resolving Metric)). rows_by o (filt_rows c)) own.1 ∙ ap (metric_rows own.0) upper in
+      ap (λ (r : Rows Value). r q) own.2 ∙ ap (option_map route_value) (ap (λ (r : Rows Route). r q) (sym same) ∙ covers q lacks),
+)

@@ -83,10 +83,7 @@ impl Network {
         let Some(chain) = self.chains.chain(number) else {
             return Ok(Done::Nothing);
         };
-        if let Turn::Nothing = self
-            .hops
-            .turn(number, chain, &mut self.registry, journal)?
-        {
+        if let Turn::Nothing = self.hops.turn(number, chain, &mut self.registry, journal)? {
             return Ok(Done::Nothing);
         }
         journal.flush()?;
