@@ -4,6 +4,8 @@ use Rattle.journal_text.specs.declared.link.Link.{Link}
 use Rattle.journal_text.specs.declared.link.Link.TheVariants.{In, Peer, Filt, Res}
 use Rattle.journal_text.specs.declared.value.Value.{Value}
 use Rattle.journal_text.specs.Walk.{no_links}
+use Rattle.hop_side.proofs.LawLemmas.{stands_at_first}
+use Rattle.peer_side.specs.Peers.{filt_at}
 use Rattle.peer_side.proofs.LinkLemmas.{no_peer}
 use Rattle.router_core.specs.Moments.{first_moment, router_links}
 
@@ -11,7 +13,7 @@ each : (link : Link) → no_links {V = Value} link ≡ router_links first_moment
 each (In k) = sym (no_peer (In k))
 each (Peer k s) = sym (no_peer (Peer k s))
 each (Filt k) = sym (no_peer (Filt k))
-each (Res k) = sym (no_peer (Res k))
+each (Res k) = sym (stands_at_first.links (filt_at first_moment.chains) (Res k))
 each other = refl
 
 pub none_at_first : no_links {V = Value} ≡ router_links first_moment
