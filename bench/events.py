@@ -7,20 +7,29 @@ Kinds:
   loss      the same as table, then the session is lost, and `idle` deletes every route
   interior  `route add` of so many different prefixes, half of them static and half of ospf; then `idle`
   lost      the same, then ospf is lost, and `idle` deletes its routes
+  hops      the same as table over 1,000 next hops, each with an ospf route of its own
+  kept      the same, then the route to one next hop goes over another interface, and `idle`: no answer changes
+  moved     the same as hops, then the route to one next hop has another metric, and `idle`: a walk over every route
+
+But for `hops` and what begins as it, the one next hop is in a connected network.
 
 Prefixes have lengths as in a real table (some 60 % of /24, few shorter than /16). AS paths have 2 to 6 numbers and begin with
 the peer's AS; one route in ten has a MED, one in fifty an AGGREGATOR, one in three an unrecognized attribute. Each prefix is
-announced once, by the same messages in every run.
+announced once, by the same messages in every run; next hops alone differ by kind.
 """
 import argparse
+import itertools
 import random
 import sys
 
 MARKER = b'\xff' * 16
 LENGTHS = [24] * 60 + [23] * 9 + [22] * 11 + [21] * 5 + [20] * 4 + [19] * 3 + [18] * 2 + [17] + [16] * 4 + [15, 14, 13]
 LOCAL = 'local 65000 192.0.2.254 192.0.2.254'
-PEERS = ['peer 1 65001 192.0.2.1 192.0.2.1', 'peer 2 65002 192.0.2.2 192.0.2.2', 'up 1', 'up 2']
-KINDS = ('table', 'edit', 'loss', 'interior', 'lost')
+PEERS = ['peer 1 65001 192.0.2.1 192.0.2.1', 'peer 2 65002 192.0.2.2 192.0.2.2',
+         'route add connected 192.0.2.0/24 direct eth0 1', 'up 1', 'up 2']
+KINDS = ('table', 'edit', 'loss', 'interior', 'lost', 'hops', 'kept', 'moved')
+NEAR = bytes([192, 0, 2, 1])
+HOPS = [bytes([172, 16, place // 250, 1 + place % 250]) for place in range(1000)]
 
 
 def prefixes(count, rand):
@@ -37,11 +46,15 @@ def prefixes(count, rand):
             yield bits, length
 
 
-def attributes(rand, transit):
+def text(addr):
+    return '.'.join(str(octet) for octet in addr)
+
+
+def attributes(rand, transit, hop):
     path = [65001] + [rand.choice(transit) for _ in range(rand.randrange(5))] + [rand.randrange(1, 64000)]
     out = bytes([0x40, 1, 1, 0 if rand.random() < .9 else 2])
     out += bytes([0x40, 2, 2 + 2 * len(path), 2, len(path)]) + b''.join(asn.to_bytes(2, 'big') for asn in path)
-    out += bytes([0x40, 3, 4, 192, 0, 2, 1])
+    out += bytes([0x40, 3, 4]) + hop
     if rand.random() < .1:
         out += bytes([0x80, 4, 4]) + rand.randrange(200).to_bytes(4, 'big')
     if rand.random() < .02:
@@ -52,17 +65,17 @@ def attributes(rand, transit):
     return out
 
 
-def updates(count):
-    """UPDATE messages that announce so many prefixes in all."""
+def updates(count, hops=(NEAR,)):
+    """UPDATE messages that announce so many prefixes in all; the next hops take turns."""
     rand = random.Random(1)
     transit = [rand.randrange(1, 64000) for _ in range(40)]
-    left, coming = count, prefixes(count, rand)
+    left, coming, turns = count, prefixes(count, rand), itertools.cycle(hops)
     while left:
         here = 1
         while here < min(left, 60) and rand.random() < .8:
             here += 1
         left -= here
-        said = attributes(rand, transit)
+        said = attributes(rand, transit, next(turns))
         announced = b''
         for _ in range(here):
             bits, length = next(coming)
@@ -76,8 +89,13 @@ def routes(count):
     rand = random.Random(1)
     for place, (bits, length) in enumerate(prefixes(count, rand)):
         yield 'route add %s %s/%d via 192.0.2.%d eth%d %d' % (
-            'static' if place % 2 else 'ospf', '.'.join(str(octet) for octet in bits.to_bytes(4, 'big')), length,
+            'static' if place % 2 else 'ospf', text(bits.to_bytes(4, 'big')), length,
             rand.randrange(1, 17), rand.randrange(4), rand.randrange(1000))
+
+
+def way(hop, iface, metric):
+    """The event that sets the route to a next hop."""
+    return 'route add ospf %s/32 via 192.0.2.9 %s %d' % (text(hop), iface, metric)
 
 
 def events(kind, count):
@@ -86,11 +104,14 @@ def events(kind, count):
     if kind in ('interior', 'lost'):
         yield from routes(count)
     else:
+        far = kind in ('hops', 'kept', 'moved')
         yield from PEERS
-        yield from ('bgp 1 ' + message.hex() for message in updates(count))
+        yield from (way(hop, 'eth0', 10) for hop in HOPS if far)
+        yield from ('bgp 1 ' + message.hex() for message in updates(count, HOPS if far else [NEAR]))
     yield 'idle'
     yield from {'edit': ['filter in 1 any pref 200 accept', 'idle'], 'loss': ['down 1', 'idle'],
-                'lost': ['lost ospf', 'idle']}.get(kind, [])
+                'lost': ['lost ospf', 'idle'], 'kept': [way(HOPS[7], 'eth1', 10), 'idle'],
+                'moved': [way(HOPS[7], 'eth0', 11), 'idle']}.get(kind, [])
 
 
 def write(kind, count, file):

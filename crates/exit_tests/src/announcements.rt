@@ -1,15 +1,14 @@
 //! What a peer is told of the routes of the others, and the rows that are kept of it.
 
-ghost use Rattle.std.specs.Prelude.{IfOk};
+ghost use Rattle.std.specs.Prelude.{◌≡◌, IfOk, None};
 ghost use Rattle.peer_out.specs.Changes.{MayBeHeard};
 
 use crate::given::prefix;
 use crate::heard::{PLAIN, heard, local, octets_of, row_of};
-use addr4::{Addr, Memory, Place, Prefix, Row, read_prefix};
+use addr4::{Addr, Memory, Prefix, read_prefix};
 use bgp_attr::*;
 use bgp_wire::announcement_length;
-use cache_stage::Cache;
-use link_change::{Change, Upstream};
+use link_change::Change;
 use peer_out::{PeerOut, as_sent, local_routes_may_be_heard, message};
 use std::alloc::Global;
 use std::test::Fail;
@@ -70,15 +69,29 @@ fn is_this(alloc: Global, told: Option<Vec<u8>>, wanted: &str) -> Result<bool, M
     }
 }
 
+/// Whether a peer is told this of what is announced.
+fn tells(
+    alloc: Global,
+    announced: &str,
+    to: Prefix,
+    external: bool,
+    wanted: &str,
+) -> Result<bool, Memory> {
+    let octets = octets_of(alloc, announced)?;
+    is_this(
+        alloc,
+        told_of(alloc, octets.as_slice(), to, external)?,
+        wanted,
+    )
+}
+
 /// Whether a line of the table holds.
 fn is_told(alloc: Global, line: &str) -> Result<bool, Fail> {
     let (announced, rest) = line.split_once(' ').ok_or("no message")?;
     let (to, rest) = rest.split_once(' ').ok_or("no prefix")?;
     let (kind, wanted) = rest.split_once(' ').ok_or("no kind")?;
     let to = read_prefix(to.as_bytes()).ok().ok_or("no prefix")?;
-    let octets = octets_of(alloc, announced)?;
-    let told = told_of(alloc, octets.as_slice(), to, kind == "external")?;
-    Ok(is_this(alloc, told, wanted)?)
+    Ok(tells(alloc, announced, to, kind == "external", wanted)?)
 }
 
 #[test]
@@ -109,46 +122,70 @@ fn own(alloc: Global) -> Result<Route, Memory>
     Ok(row_of(SharedAttrs::new(alloc, attrs)?, None))
 }
 
-/// What an external peer is told of an own route at the default prefix, and of one with more prepending and a metric.
-fn own_told(alloc: Global) -> Result<[Option<Vec<u8>>; 2], Memory> {
-    let mut row = own(alloc)?;
-    let plain = told(alloc, prefix(0, 0), &row, true)?;
+/// What an external peer is told of an own route at the default prefix.
+const OWN: &str = "F002a0200000012400101024002040201fde8400304c00002fe00";
+
+/// What it is told of one with more prepending and a metric.
+const PREPENDED: &str =
+    "F0037020000001d400101024002080203fde8fde8fde8400304c00002fe80040400000005100a01";
+
+/// Whether it is told so.
+fn own_told(alloc: Global, row: &mut Route) -> Result<[bool; 2], Memory>
+    requires { MayBeHeard PLAIN row.old.attrs }
+{
+    let plain = is_this(alloc, told(alloc, prefix(0, 0), row, true)?, OWN)?;
     row.prepend = 2;
     row.med = Some(5);
-    let more = told(alloc, prefix(0x0a01_0000, 16), &row, true)?;
-    Ok([plain, more])
+    let told = told(alloc, prefix(0x0a01_0000, 16), row, true)?;
+    Ok([plain, is_this(alloc, told, PREPENDED)?])
+}
+
+fn new_own_told(alloc: Global) -> Result<[bool; 2], Memory> {
+    let mut row = own(alloc)?;
+    own_told(alloc, &mut row)
 }
 
 /// The local AS goes in front as often as the rules said.
 #[test]
 fn an_own_route_is_announced(rt: HostRuntime) -> Result<(), Fail> {
-    let alloc = rt.alloc();
-    let [plain, more] = own_told(alloc)?;
-    let wanted = "F002a0200000012400101024002040201fde8400304c00002fe00";
-    assert!(rt; is_this(alloc, plain, wanted)?);
-    let wanted = "F0037020000001d400101024002080203fde8fde8fde8400304c00002fe80040400000005100a01";
-    assert!(rt; is_this(alloc, more, wanted)?);
+    assert!(rt; new_own_told(rt.alloc())? == [true; 2]);
     Ok(())
 }
 
-/// The message of a delete, and the same of a peer's exit.
-fn withdrawn(alloc: Global) -> Result<[Vec<u8>; 2], Memory> {
+/// The withdrawal of 10.1.0.0/16.
+const WITHDRAWAL: &str = "F001a020003100a010000";
+
+/// Whether this is the message of a delete, and of a peer's exit.
+fn withdrawn(
+    alloc: Global,
+    exit: &PeerOut,
+    change: &Change<SharedAttrs>,
+) -> Result<[bool; 2], Memory>
+    requires { change.now.after ≡ None }
+{
+    let said = is_this(
+        alloc,
+        Some(message(alloc, PLAIN, change, true)?),
+        WITHDRAWAL,
+    )?;
+    let of_exit = is_this(alloc, Some(exit.message(change)?), WITHDRAWAL)?;
+    Ok([said, of_exit])
+}
+
+fn own_withdrawn(alloc: Global) -> Result<[bool; 2], Memory> {
+    let attrs = own(alloc)?.attrs;
     let change = Change {
         prefix: prefix(0x0a01_0000, 16),
-        before: Some(own(alloc)?.attrs),
+        before: Some(attrs),
         after: None,
     };
-    let said = message(alloc, PLAIN, &change, true)?;
     let exit = PeerOut::new(alloc, PLAIN, local(), false);
-    Ok([said, exit.message(&change)?])
+    withdrawn(alloc, &exit, &change)
 }
 
 #[test]
 fn a_delete_is_a_withdrawal(rt: HostRuntime) -> Result<(), Fail> {
-    let alloc = rt.alloc();
-    let [said, of_exit] = withdrawn(alloc)?;
-    let wanted = octets_of(alloc, "F001a020003100a010000")?;
-    assert!(rt; said.as_slice() == wanted.as_slice() && of_exit.as_slice() == wanted.as_slice());
+    assert!(rt; own_withdrawn(rt.alloc())? == [true; 2]);
     Ok(())
 }
 
@@ -223,58 +260,5 @@ fn lengths(alloc: Global) -> Result<[u128; 2], Memory> {
 fn numbers_count_their_octets_where_they_do_not_fit(rt: HostRuntime) -> Result<(), Fail> {
     let wanted = [26 + 4 + (4 + 2 + 600) + 7, 26 + 4 + (4 + 2 + 1200) + 7];
     assert!(rt; lengths(rt.alloc())? == wanted);
-    Ok(())
-}
-
-/// A row comes to a cache or goes; whether the change that goes on has a row before and after.
-fn goes_on(
-    cache: &mut Cache<SharedAttrs>,
-    before: Option<SharedAttrs>,
-    after: Option<SharedAttrs>,
-) -> Result<[bool; 2], Memory> {
-    let change = Change {
-        prefix: prefix(0x0a01_0000, 16),
-        before,
-        after,
-    };
-    let sent = cache.take_in(change)?;
-    Ok([sent.before.is_some(), sent.after.is_some()])
-}
-
-/// Whether a cache has a row at the prefix of the change and at another one, the first prefix with a row, and how many it has.
-type Kept = ([bool; 2], Option<Prefix>, usize);
-
-fn kept(cache: &Cache<SharedAttrs>) -> Result<Kept, Memory> {
-    let there = cache.asked(&prefix(0x0a01_0000, 16))?.is_some();
-    let elsewhere = cache.asked(&prefix(0, 0))?.is_some();
-    let first = cache.next_candidate(&Place::Before);
-    Ok(([there, elsewhere], first, cache.len()))
-}
-
-/// What goes on and what is kept when a row comes, and when it goes; how many rows are handed out then.
-fn cached(
-    cache: &mut Cache<SharedAttrs>,
-    row: &SharedAttrs,
-) -> Result<([[bool; 2]; 2], [Kept; 2], usize), Memory> {
-    let add = goes_on(cache, None, Some(row.copy()?))?;
-    let with_one = kept(cache)?;
-    let delete = goes_on(cache, Some(row.copy()?), None)?;
-    let with_none = kept(cache)?;
-    Ok(([add, delete], [with_one, with_none], cache.lose().len()))
-}
-
-fn cached_in_new(alloc: Global) -> Result<([[bool; 2]; 2], [Kept; 2], usize), Memory> {
-    let attrs = own(alloc)?.attrs;
-    let mut cache = Cache::new(alloc);
-    cached(&mut cache, &attrs)
-}
-
-#[test]
-fn a_cache_keeps_what_was_sent(rt: HostRuntime) -> Result<(), Fail> {
-    let (sent, kept, lost) = cached_in_new(rt.alloc())?;
-    assert!(rt; sent == [[false, true], [true, false]]);
-    assert!(rt; kept[0] == ([true, false], Some(prefix(0x0a01_0000, 16)), 1));
-    assert!(rt; kept[1] == ([false, false], None, 0));
-    assert!(rt; lost == 0);
     Ok(())
 }

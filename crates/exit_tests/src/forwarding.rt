@@ -1,9 +1,11 @@
 //! A route of an external peer comes to the forwarding table: over the interface of the interior route that holds its next hop.
 
-ghost use Rattle.std.specs.Prelude.{◌≡◌, false, IfOk};
+ghost use Rattle.std.specs.Prelude.{◌≡◌, false, OnOk};
+ghost use Rattle.std.specs.FinMap as map;
 ghost use Rattle.addr4.specs.Prefixes.{Network};
 ghost use Rattle.nexthop_resolver.specs.Kept.{way_of};
 ghost use Rattle.nexthop_resolver.specs.Registered.{Agrees, interest_of};
+ghost use Rattle.nexthop_resolver.specs.Resolving.{nothing_known};
 
 use crate::given::{add, prefix};
 use addr4::{Addr, Memory, Prefix};
@@ -15,13 +17,18 @@ use rib_route::{External, FibProto, FibRow, Iface, Interior, Proto};
 use std::alloc::Global;
 use std::test::Fail;
 
-/// A register with this row, which nobody asked yet.
-fn filled(alloc: Global, prefix: Prefix, row: Interior) -> Result<Register<Interior>, Memory>
-    ensures { IfOk result (λ r. (s : Network) → interest_of 0 r s ≡ false) }
+/// An interior route comes to a register that nobody asked yet.
+fn come(
+    alloc: Global,
+    register: &mut Register<Interior>,
+    prefix: Prefix,
+    row: Interior,
+) -> Result<(), Memory>
+    requires { register.old.interests ≡ map.empty }
+    ensures { OnOk result ((s : Network) → interest_of 0 register.new s ≡ false) }
 {
-    let mut register = Register::new(alloc);
     let _reached = register.changed(alloc, prefix, Some(row))?;
-    Ok(register)
+    Ok(())
 }
 
 fn is_add(sent: &Option<Change<FibRow>>, row: FibRow) -> bool {
@@ -76,30 +83,45 @@ fn comes(
     Ok([came, there, rests])
 }
 
+/// What is told: of the connected subnet, and of the first peer's route; how many next hops are known then.
+type Told = ([bool; 4], u128);
+
 /// The subnet of the first peer is connected; then its route comes.
-fn story(alloc: Global, iface: Iface) -> Result<([bool; 4], u128), Memory> {
+fn follow(
+    alloc: Global,
+    iface: Iface,
+    fib: &mut ExtInt,
+    register: &mut Register<Interior>,
+    int: &mut Cache<Interior>,
+    ext: &mut Cache<External>,
+) -> Result<Told, Memory>
+    requires nothing { fib.old ≡ nothing_known 0 }
+    requires nobody { register.old.interests ≡ map.empty }
+{
     let subnet = prefix(0xc000_0200, 24);
-    let row = connected(iface);
     let direct = FibRow {
         proto: FibProto::Connected,
         gateway: None,
         iface,
     };
-    let mut register = filled(alloc, subnet, row)?;
+    come(alloc, register, subnet, connected(iface))?;
+    let first = is_add(&fib.take_int(&add(subnet, connected(iface)), ext)?, direct);
+    int.take_in(add(subnet, connected(iface)))?;
+    let [came, there, rests] = comes(fib, register, int, ext, iface)?;
+    Ok(([first, came, there, rests], fib.known()))
+}
+
+fn story(alloc: Global, iface: Iface) -> Result<Told, Memory> {
+    let mut register = Register::new(alloc);
     let mut fib = ExtInt::new(alloc);
     let mut int = Cache::new(alloc);
     let mut ext = Cache::new(alloc);
-    let first = is_add(&fib.take_int(&add(subnet, row), &ext)?, direct);
-    int.take_in(add(subnet, row))?;
-    let [came, there, rests] = comes(&mut fib, &mut register, &int, &mut ext, iface)?;
-    Ok(([first, came, there, rests], fib.known()))
+    follow(alloc, iface, &mut fib, &mut register, &mut int, &mut ext)
 }
 
 #[test]
 fn a_route_goes_over_the_interface_of_its_next_hop(rt: HostRuntime) -> Result<(), Fail> {
     let iface = Iface::read(b"eth0").ok_or("a name")?;
-    let (told, known) = story(rt.alloc(), iface)?;
-    assert_eq!(rt; told, [true; 4]);
-    assert_eq!(rt; known, 1);
+    assert!(rt; story(rt.alloc(), iface)? == ([true; 4], 1));
     Ok(())
 }

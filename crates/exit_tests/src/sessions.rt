@@ -8,7 +8,7 @@ ghost use Rattle.fanout_queue.specs.Readers.{KeepsOtherReaders};
 ghost use Rattle.out_chain.specs.Chains.{OutStands, RowsMayBeHeard};
 
 use crate::heard::{PLAIN, local, peer, written_out};
-use crate::steps::{look, run};
+use crate::steps::run;
 use addr4::Memory;
 use bgp_attr::Route;
 use cache_stage::Cache;
@@ -91,14 +91,14 @@ const SAID_OF_TWO: &str = "\
 i read.3.1 best\n\
 b outf.3.1\n\
 b adv.3.1\n\
+? read.3.1 10.1.0.0/16 -\n\
 i read.2.1 best\n\
 b outf.2.1\n\
 b adv.2.1\n\
-? read.3.1 10.1.0.0/16 -\n\
-? read.2.1 10.1.0.0/16 1:100:-:0:1:o0,p(65001),n192.0.2.1\n\
 e read.3.1\n\
 e outf.3.1\n\
 e adv.3.1\n\
+? read.2.1 10.1.0.0/16 1:100:-:0:1:o0,p(65001),n192.0.2.1\n\
 + outf.2.1 10.1.0.0/16 o0,p(65000.65001),n192.0.2.254\n\
 + adv.2.1 10.1.0.0/16 o0,p(65000.65001),n192.0.2.254\n\
 out 2 F002e0200000014400101004002060202fde8fde9400304c00002fe100a01\n\
@@ -134,6 +134,23 @@ fn begin(
     )
 }
 
+/// The steps of a session from a moment on, and its end.
+fn go_on(
+    alloc: Global,
+    script: &str,
+    mut chain: OutChain,
+    queue: &mut Queue<Route>,
+    best: &mut Cache<Route>,
+    journal: &mut Journal,
+) -> Result<(), Fail>
+    requires stands { OutStands chain queue.old (map.get best.old) }
+    requires plain { chain.exit.profile ≡ PLAIN }
+{
+    run(alloc, script, &mut chain, queue, best, journal)?;
+    chain.stop(queue, journal)?;
+    Ok(())
+}
+
 /// The session of the second peer from its beginning to its end.
 fn session(
     alloc: Global,
@@ -143,10 +160,35 @@ fn session(
 ) -> Result<(), Fail>
     requires { best.old ≡ map.empty }
 {
-    let mut chain = begin(alloc, 2, queue, journal)?;
-    run(alloc, STEPS, &mut chain, queue, best, journal)?;
-    chain.stop(queue, journal)?;
-    Ok(())
+    let chain = begin(alloc, 2, queue, journal)?;
+    go_on(alloc, STEPS, chain, queue, best, journal)
+}
+
+/// What comes to the third peer's session.
+const COMES: &str = "\
+bgp F002c0200000012400101004002040201fde9400304c0000201100a01\n\
+ask read.3.1";
+
+/// The steps of the second peer's session then.
+const LATER: &str = "\
+ask read.2.1\n\
+work 9\n\
+show adv.2.1";
+
+/// The third peer's session begins, and then the route comes.
+fn begin_early(
+    alloc: Global,
+    queue: &mut Queue<Route>,
+    best: &mut Cache<Route>,
+    journal: &mut Journal,
+) -> Result<OutChain, Fail>
+    requires { best.old ≡ map.empty }
+    ensures stands { IfOk result (λ early. OutStands early queue.new (map.get best.new)) }
+    ensures plain { IfOk result (λ early. early.exit.profile ≡ PLAIN) }
+{
+    let mut early = begin(alloc, 3, queue, journal)?;
+    run(alloc, COMES, &mut early, queue, best, journal)?;
+    Ok(early)
 }
 
 /// The second peer's session begins beside the third's.
@@ -168,40 +210,23 @@ fn begin_late(
     begin(alloc, 2, queue, journal)
 }
 
-/// What both look up, and how many changes each hasn't taken.
-fn looked_up(
-    early: &OutChain,
-    late: &OutChain,
-    queue: &Queue<Route>,
-    best: &Cache<Route>,
-    journal: &mut Journal,
-) -> Result<[u128; 2], Fail>
-    requires early { OutStands early.now queue.now (map.get best.now) }
-    requires late { OutStands late.now queue.now (map.get best.now) }
-{
-    look(early, "ask", "read.3.1", queue, best, journal)?;
-    look(late, "ask", "read.2.1", queue, best, journal)?;
-    Ok([early.waiting(queue), late.waiting(queue)])
-}
-
 /// The early session ends, and the late one goes on.
-fn goes_on(
+fn end_early(
     alloc: Global,
     early: OutChain,
-    late: &mut OutChain,
+    late: OutChain,
     queue: &mut Queue<Route>,
     best: &mut Cache<Route>,
     journal: &mut Journal,
 ) -> Result<(), Fail>
     requires early { OutStands early queue.old (map.get best.old) }
-    requires stands { OutStands late.old queue.old (map.get best.old) }
-    requires plain { late.old.exit.profile ≡ PLAIN }
-    requires apart { late.old.reader ≢ early.reader }
-    ensures { OnOk result (OutStands late.new queue.new (map.get best.new)) }
+    requires stands { OutStands late queue.old (map.get best.old) }
+    requires plain { late.exit.profile ≡ PLAIN }
+    requires apart { late.reader ≢ early.reader }
 {
     a_session_stands();
     early.stop(queue, journal)?;
-    run(alloc, "work 9\nshow adv.2.1", late, queue, best, journal)
+    go_on(alloc, LATER, late, queue, best, journal)
 }
 
 /// Two sessions, of which the one begins before the route comes and the other afterwards.
@@ -213,13 +238,10 @@ fn sessions(
 ) -> Result<[u128; 2], Fail>
     requires { best.old ≡ map.empty }
 {
-    let mut early = begin(alloc, 3, queue, journal)?;
-    let comes = "bgp F002c0200000012400101004002040201fde9400304c0000201100a01";
-    run(alloc, comes, &mut early, queue, best, journal)?;
-    let mut late = begin_late(alloc, &early, queue, best, journal)?;
-    let waiting = looked_up(&early, &late, queue, best, journal)?;
-    goes_on(alloc, early, &mut late, queue, best, journal)?;
-    late.stop(queue, journal)?;
+    let early = begin_early(alloc, queue, best, journal)?;
+    let late = begin_late(alloc, &early, queue, best, journal)?;
+    let waiting = [early.waiting(queue), late.waiting(queue)];
+    end_early(alloc, early, late, queue, best, journal)?;
     Ok(waiting)
 }
 

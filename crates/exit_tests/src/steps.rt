@@ -128,7 +128,7 @@ fn first_row(
 }
 
 /// A lookup, or the rows of a link.
-pub(crate) fn look(
+fn look(
     chain: &OutChain,
     word: &str,
     link: &str,

@@ -1,51 +1,58 @@
 //! Texts from outside, and each call that takes memory.
 
-use addr4::{Addr, push_addr, push_prefix, read_addr, read_prefix};
+use addr4::{Addr, Memory, push_addr, push_prefix, read_addr, read_prefix};
 use std::alloc::Global;
 use std::test::Fail;
 
-/// The prefix of a text, printed again; `-` where it is none.
-fn printed(alloc: Global, text: &str) -> Result<String, Fail> {
+/// Texts, and the prefix of each, printed again; `-` where it is none. The last is empty.
+const PREFIXES: &str = "\
+10.1.2.3/16 10.1.0.0/16\n\
+255.255.255.255/32 255.255.255.255/32\n\
+192.0.2.129/0 0.0.0.0/0\n\
+224.0.0.1/3 224.0.0.0/3\n\
+10.1.0.0/33 -\n\
+10.1.0.0/016 -\n\
+10.1.0/16 -\n\
+10.1.0.0.0/16 -\n\
+10.01.0.0/16 -\n\
+10.256.0.0/16 -\n\
+10.1.0.0 -\n\
+10.1.0.0/16/8 -\n\
++10.1.0.0/16 -\n\
+\x20-";
+
+/// Whether a text's prefix is printed like this.
+fn is_printed(alloc: Global, text: &str, want: &str) -> Result<bool, Memory> {
     let mut out = Vec::new(alloc);
     match read_prefix(text.as_bytes()) {
-        Ok(p) => push_prefix(&mut out, p).ok().ok_or("memory")?,
+        Ok(prefix) => push_prefix(&mut out, prefix)?,
         Err(_) => out.push(b'-')?,
     }
-    Ok(String::from_utf8(out).ok().ok_or("text")?)
+    Ok(out.as_slice() == want.as_bytes())
 }
 
 #[test]
 fn prefixes_are_masked_and_printed(rt: HostRuntime) -> Result<(), Fail> {
-    let alloc = rt.alloc();
-    for (text, want) in [
-        ("10.1.2.3/16", "10.1.0.0/16"),
-        ("255.255.255.255/32", "255.255.255.255/32"),
-        ("192.0.2.129/0", "0.0.0.0/0"),
-        ("224.0.0.1/3", "224.0.0.0/3"),
-        ("10.1.0.0/33", "-"),
-        ("10.1.0.0/016", "-"),
-        ("10.1.0/16", "-"),
-        ("10.1.0.0.0/16", "-"),
-        ("10.01.0.0/16", "-"),
-        ("10.256.0.0/16", "-"),
-        ("10.1.0.0", "-"),
-        ("10.1.0.0/16/8", "-"),
-        ("+10.1.0.0/16", "-"),
-        ("", "-"),
-    ] {
-        let got = printed(alloc, text)?;
-        assert_eq!(rt; got.as_str(), want);
+    for line in PREFIXES.split('\n') {
+        let (text, want) = line.split_once(' ').ok_or("no prefix")?;
+        if !is_printed(rt.alloc(), text, want)? {
+            return Err(Fail::from(line));
+        }
     }
     Ok(())
 }
 
+/// Whether an address is printed like this.
+fn is_text_of(alloc: Global, addr: Addr, want: &[u8]) -> Result<bool, Memory> {
+    let mut out = Vec::new(alloc);
+    push_addr(&mut out, addr)?;
+    Ok(out.as_slice() == want)
+}
+
 #[test]
 fn addresses_are_read_and_printed(rt: HostRuntime) -> Result<(), Fail> {
-    let alloc = rt.alloc();
     let addr = read_addr(b"192.0.2.254").ok().ok_or("no address")?;
-    assert_eq!(rt; addr, Addr::new(0xc000_02fe));
-    let mut out = Vec::new(alloc);
-    push_addr(&mut out, addr).ok().ok_or("memory")?;
-    assert_eq!(rt; out.as_slice(), b"192.0.2.254".as_slice());
+    assert!(rt; addr == Addr::new(0xc000_02fe));
+    assert!(rt; is_text_of(rt.alloc(), addr, b"192.0.2.254")?);
     Ok(())
 }

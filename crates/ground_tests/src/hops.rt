@@ -84,18 +84,21 @@ struct Story {
     known: u128,
 }
 
-fn told(alloc: Global, hops: [Addr; 3], subnets: [Prefix; 3]) -> Result<Story, Memory> {
-    let mut known = Known::new(alloc);
-    learn_three(&mut known, hops, subnets)?;
-    let stale = stale_ones(&mut known, hops, subnets)?;
+fn follow(
+    known: &mut Known<Metric>,
+    hops: [Addr; 3],
+    subnets: [Prefix; 3],
+) -> Result<Story, Memory> {
+    learn_three(known, hops, subnets)?;
+    let stale = stale_ones(known, hops, subnets)?;
     let differing = known.differs();
-    let before = metrics(&known, hops[1]);
+    let before = metrics(known, hops[1]);
     known.settle();
     let settled = known.differs();
-    let after = metrics(&known, hops[1]);
-    let shared = given_up(&mut known, hops[1]);
-    let own = given_up(&mut known, hops[0]);
-    let unknown = given_up(&mut known, hops[0]);
+    let after = metrics(known, hops[1]);
+    let shared = given_up(known, hops[1]);
+    let own = given_up(known, hops[0]);
+    let unknown = given_up(known, hops[0]);
     Ok(Story {
         stale,
         differs: [differing, settled],
@@ -104,6 +107,11 @@ fn told(alloc: Global, hops: [Addr; 3], subnets: [Prefix; 3]) -> Result<Story, M
         given_up: [shared, own, unknown],
         known: known.known(),
     })
+}
+
+fn told(alloc: Global, hops: [Addr; 3], subnets: [Prefix; 3]) -> Result<Story, Memory> {
+    let mut known = Known::new(alloc);
+    follow(&mut known, hops, subnets)
 }
 
 #[test]
@@ -125,8 +133,7 @@ fn the_story_of_three_next_hops(rt: HostRuntime) -> Result<(), Fail> {
 }
 
 /// Which calls say so that a next hop has its first row, or its only one goes: two rows name the one, then one the other.
-fn firsts(alloc: Global, one: Addr, other: Addr) -> Result<[bool; 6], Memory> {
-    let mut tallies = Tallies::new(alloc);
+fn firsts(tallies: &mut Tallies, one: Addr, other: Addr) -> Result<[bool; 6], Memory> {
     let first = tallies.one_more(one)?;
     let second = tallies.one_more(one)?;
     let another = tallies.one_more(other)?;
@@ -136,9 +143,14 @@ fn firsts(alloc: Global, one: Addr, other: Addr) -> Result<[bool; 6], Memory> {
     Ok([first, second, another, not_last, last, none])
 }
 
+fn firsts_of_new(alloc: Global, one: Addr, other: Addr) -> Result<[bool; 6], Memory> {
+    let mut tallies = Tallies::new(alloc);
+    firsts(&mut tallies, one, other)
+}
+
 #[test]
 fn the_first_row_and_the_last(rt: HostRuntime) -> Result<(), Fail> {
-    let told = firsts(rt.alloc(), Addr::new(1), Addr::new(2))?;
+    let told = firsts_of_new(rt.alloc(), Addr::new(1), Addr::new(2))?;
     assert!(rt; told == [true, false, true, false, true, false]);
     Ok(())
 }

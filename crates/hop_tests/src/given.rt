@@ -5,6 +5,7 @@ use bgp_attr::{
     AsPath, Attrs, Neighbour, Numbers, Origin, Route, Segment, SegmentKind, SharedAttrs,
     UnrecognizedAttrs,
 };
+use link_change::Change;
 use rib_route::{Iface, Interior, Proto};
 use std::alloc::Global;
 
@@ -26,18 +27,13 @@ fn peer(number: u8) -> Neighbour {
 }
 
 /// A route of a peer, as the incoming filter passes it: by way of the peer itself.
-pub(crate) fn route(alloc: Global, number: u8) -> Result<Route, Memory> {
+fn route(alloc: Global, number: u8) -> Result<Route, Memory> {
     let from = peer(number);
-    let mut numbers = Vec::new(alloc);
-    numbers.push(from.asn)?;
-    let mut segments = Vec::new(alloc);
-    segments.push(Segment {
-        kind: SegmentKind::Sequence,
-        numbers: Numbers::from_vec(numbers),
-    })?;
+    let numbers = Numbers::from_vec(vec![in alloc; from.asn]?);
+    let kind = SegmentKind::Sequence;
     let attrs = Attrs {
         origin: Origin::Igp,
-        path: AsPath::from_vec(segments),
+        path: AsPath::from_vec(vec![in alloc; Segment { kind, numbers }]?),
         next_hop: from.addr,
         med: None,
         local_pref: None,
@@ -52,6 +48,29 @@ pub(crate) fn route(alloc: Global, number: u8) -> Result<Route, Memory> {
         prepend: 0,
         igp: None,
         from: Some(from),
+    })
+}
+
+/// The prefix of all routes of peers.
+pub(crate) fn place() -> Prefix {
+    prefix(0x0a01_0000, 16)
+}
+
+/// A route of a peer comes.
+pub(crate) fn add(alloc: Global, number: u8) -> Result<Change<Route>, Memory> {
+    Ok(Change {
+        prefix: place(),
+        before: None,
+        after: Some(route(alloc, number)?),
+    })
+}
+
+/// A route of a peer goes.
+pub(crate) fn delete(alloc: Global, number: u8) -> Result<Change<Route>, Memory> {
+    Ok(Change {
+        prefix: place(),
+        before: Some(route(alloc, number)?),
+        after: None,
     })
 }
 

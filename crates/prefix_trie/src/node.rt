@@ -12,9 +12,10 @@ use std::mem::size_of;
 pub struct Node<V> {
     /// What the node's own key is, or would be.
     pub prefix: Prefix,
-    pub(crate) value: Option<V>,
+    // What a descent reads stands together.
     pub(crate) left: Link,
     pub(crate) right: Link,
+    pub(crate) value: Option<V>,
 }
 
 // 8 octets of prefix, 8 for each link, and 8 that tell whether there is a value: 32 beside a value of whole words.

@@ -1,10 +1,10 @@
 //! The descents that change a trie.
 
-ghost use Rattle.std.specs.Prelude.{◌≡◌, ◌+◌, ◌^◌, ◌<◌, ◌≤◌, Some, None, true, false};
+ghost use Rattle.std.specs.Prelude.{◌≡◌, ◌+◌, ◌^◌, ◌<◌, ◌≤◌, IfSome, Some, None, true, false};
 ghost use Rattle.slab.specs.Slab.{get, ContainsKey, Updates, slab_len, HasRoomFor};
 ghost use Rattle.prefix_trie.specs.Width.{width};
 ghost use Rattle.prefix_trie.specs.declared.node.Node.{Node};
-ghost use Rattle.prefix_trie.specs.Shape.{HasPlace, Inserts, Removes, Tidies};
+ghost use Rattle.prefix_trie.specs.Shape.{HasPlace, Inserts, Removes, Tidies, GoesOn, Stops, EndsAt, half, with_half};
 ghost use Rattle.prefix_trie.specs.Search.{HasTrie};
 ghost use Rattle.prefix_trie.specs.Links.{Fits};
 
@@ -114,14 +114,72 @@ fn known_link<V>(nodes: &Slab<Node<V>>, link: Option<usize>)
     let _capacity = nodes.capacity();
 }
 
-// Puts a value at a prefix under a link, and answers the new link and the value before.
-pub(crate) fn insert<V>(
+// The node at a link, where it covers the prefix and is shorter: a descent goes on there.
+fn way_on<V>(nodes: &Slab<Node<V>>, link: Option<usize>, prefix: Prefix) -> Option<usize>
+    requires { HasPlace width nodes.now link prefix }
+    ensures on { IfSome result (λ key. (link ≡ Some key) × GoesOn width nodes.now key prefix) }
+    ensures stops { result ≡ None → Stops width nodes.now link prefix }
+{
+    let key = match link {
+        None => return None,
+        Some(key) => key,
+    };
+    let node = &nodes[key];
+    if node.prefix.covers(prefix) && is_longer(node.prefix, prefix) {
+        Some(key)
+    } else {
+        None
+    }
+}
+
+// The link to a node's right half, or to its left one.
+fn half<V>(node: &Node<V>, right: bool) -> Option<usize>
+    ensures { result ≡ half node.now right }
+{
+    if right {
+        node.right.key()
+    } else {
+        node.left.key()
+    }
+}
+
+fn set_half<V>(nodes: &mut Slab<Node<V>>, key: usize, right: bool, link: Option<usize>)
+    requires has { ContainsKey nodes.old key }
+    requires fits { Fits link }
+    ensures capacity { nodes.new.capacity ≡ nodes.old.capacity }
+    ensures len { slab_len nodes.new ≡ slab_len nodes.old }
+    ensures updates { (n : Node V) → get nodes.old key ≡ Some n → Updates nodes.old nodes.new key (Some (with_half n right link)) }
+{
+    if right {
+        set_right(nodes, key, link);
+    } else {
+        set_left(nodes, key, link);
+    }
+}
+
+// The last node on the way from one that covers a prefix and is shorter, and whether the prefix lies in its right half.
+fn last_above<V>(nodes: &Slab<Node<V>>, key: usize, prefix: Prefix) -> (usize, bool)
+    requires place { HasPlace width nodes.now (Some key) prefix }
+    requires on { GoesOn width nodes.now key prefix }
+    ensures { EndsAt width nodes.now key prefix result.0 result.1 }
+{
+    let node = &nodes[key];
+    let right = is_right(node.prefix, prefix);
+    match way_on(nodes, half(node, right), prefix) {
+        None => (key, right),
+        Some(below) => last_above(nodes, below, prefix),
+    }
+}
+
+// Puts a value at a prefix under a link from which the descent doesn't go on.
+fn insert_here<V>(
     nodes: &mut Slab<Node<V>>,
     link: Option<usize>,
     prefix: Prefix,
     value: V,
 ) -> (usize, Option<V>)
     requires place { HasPlace width nodes.old link prefix }
+    requires stops { Stops width nodes.old link prefix }
     requires room { HasRoomFor nodes.old 2 }
     ensures { Inserts width nodes.old nodes.new link prefix value result.0 result.1 }
 {
@@ -133,21 +191,7 @@ pub(crate) fn insert<V>(
     let node = &nodes[key];
     let at = node.prefix;
     if at.covers(prefix) {
-        if !is_longer(at, prefix) {
-            return (key, set_value(nodes, key, value));
-        }
-        if is_right(at, prefix) {
-            let link = node.right.key();
-            let (below, before) = insert(nodes, link, prefix, value);
-            known_link(nodes, Some(below));
-            set_right(nodes, key, Some(below));
-            return (key, before);
-        }
-        let link = node.left.key();
-        let (below, before) = insert(nodes, link, prefix, value);
-        known_link(nodes, Some(below));
-        set_left(nodes, key, Some(below));
-        return (key, before);
+        return (key, set_value(nodes, key, value));
     }
     if prefix.covers(at) {
         return (
@@ -161,6 +205,30 @@ pub(crate) fn insert<V>(
         cover_one(nodes, fork, None, is_right(fork, at), key, Some(leaf)),
         None,
     )
+}
+
+// Puts a value at a prefix under a link, and answers the new link and the value before. Only the last node above it is
+// written.
+pub(crate) fn insert<V>(
+    nodes: &mut Slab<Node<V>>,
+    link: Option<usize>,
+    prefix: Prefix,
+    value: V,
+) -> (usize, Option<V>)
+    requires place { HasPlace width nodes.old link prefix }
+    requires room { HasRoomFor nodes.old 2 }
+    ensures { Inserts width nodes.old nodes.new link prefix value result.0 result.1 }
+{
+    let first = match way_on(nodes, link, prefix) {
+        None => return insert_here(nodes, link, prefix, value),
+        Some(first) => first,
+    };
+    let (last, right) = last_above(nodes, first, prefix);
+    let below = half(&nodes[last], right);
+    let (after, before) = insert_here(nodes, below, prefix, value);
+    known_link(nodes, Some(after));
+    set_half(nodes, last, right, Some(after));
+    (first, before)
 }
 
 fn take_value<V>(nodes: &mut Slab<Node<V>>, key: usize) -> Option<V>

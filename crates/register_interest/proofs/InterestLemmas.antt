@@ -1,5 +1,5 @@
 -- Interests as a finite map, their order, and those that a change reaches.
-use Rattle.std.proofs.Common.{◌≡◌, ◌⊎◌, ◌≤◌, ◌<◌, ◌+◌, ◌-◌, ◌^◌, ◌&&◌, ℕ, Bool, true, false, not, cond, List, [], ◌∷◌, ◌++◌, refl, sym, ap, ◌∙◌, subst, inl, inr, Option, None, arith, zero, suc}
+use Rattle.std.proofs.Common.{◌≡◌, ◌⊎◌, ◌≤◌, ◌<◌, ◌+◌, ◌-◌, ◌^◌, ◌&&◌, ℕ, Bool, true, false, not, cond, List, [], ◌∷◌, ◌++◌, refl, sym, ap, ◌∙◌, subst, inl, inr, Option, Some, None, length, arith, zero, suc}
 use Rattle.std.proofs.lemmas.Bool.{cases_lt, cases_eq}
 use Rattle.std.proofs.lemmas.Bool.Decides.{nat_tests}
 use Rattle.std.specs.List.{Contains}
@@ -147,6 +147,16 @@ part_hits w p m now from to seen before out ordered view part is =
       all = λ k f e hit range. is.all k f (subst (λ (x : List Kept). Contains x (k, f)) (sym part)
           (filter_contains (λ (x : Kept). test x.0) m.entries (k, f) ((btree_map_get_iff interests_total exact_interests m ordered k f).0 (sym (at k) ∙ e)) (between_in_range from to k range))) hit;
     }
+
+-- a map without entries has no interest that a change could reach
+pub none_reached : (w : ℕ) (p : Network) (es : List Kept) (now : Interests) (out : List Interest) → from_entries es ≡ now → length es ≡ 0 → out ≡ [] → AreReached w p (get now) out
+unfolding IsStrictlySortedBy
+none_reached w p [] now out view none is = record {
+  only = λ k h. absurd (let c : Contains [] k = subst (λ (l : List Interest). Contains l k) is h in omega (arith, c.1));
+  all = λ k f e hit. absurd (let n : None ≡ Some f = sym (map_read interests_total [] k) ∙ ap (λ x. get x k) view ∙ e in cc);
+  sorted = subst (λ (l : List Interest). IsStrictlySortedBy interest_cmp l) (sym is) tt;
+}
+none_reached w p (e ∷ es) now out view none is = absurd (omega (arith, none))
 
 -- ---- subnets in order
 

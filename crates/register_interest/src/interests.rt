@@ -168,6 +168,9 @@ impl Interests {
     {
         prefix.known();
         let mut out = Vec::new(alloc);
+        if self.kept.is_empty() {
+            return Ok(out);
+        }
         for length in 0..prefix.length() {
             self.push_at(&mut out, prefix, block(prefix.address(), length))?;
         }

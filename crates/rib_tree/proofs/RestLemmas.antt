@@ -32,7 +32,7 @@ all_tree P t each =
 -- ---- the first task
 first_of_four : (p q r s : Proto) (a b c d : List (Lost Interior))
     → option_or (option_or (option_or (oldest_of (Origin p) a) (oldest_of (Origin q) b)) (oldest_of (Origin r) c)) (oldest_of (Origin s) d)
-        ≡ first_task (map (λ l. tasks.Rdel p l.number) a ++ (map (λ l. tasks.Rdel q l.number) b ++ (map (λ l. tasks.Rdel r l.number) c ++ map (λ l. tasks.Rdel s l.number) d)))
+    ≡ first_task (map (λ l. tasks.Rdel p l.number) a ++ (map (λ l. tasks.Rdel q l.number) b ++ (map (λ l. tasks.Rdel r l.number) c ++ map (λ l. tasks.Rdel s l.number) d)))
 first_of_four p q r s (l ∷ a) b c d = refl
 first_of_four p q r s [] (l ∷ b) c d = refl
 first_of_four p q r s [] [] (l ∷ c) d = refl

@@ -101,9 +101,9 @@ fn lines_are_written_before_the_next_read(rt: HostRuntime) -> Result<(), Fail> {
     let (calls, status) = calls_of(rt.alloc(), "run", EVENTS, 38)?;
     let wanted = [
         Call::Read(38),
-        Call::Write(74),
+        Call::Write(81),
         Call::Read(38),
-        Call::Write(16),
+        Call::Write(24),
         Call::Read(38),
         Call::Read(38),
         Call::Write(16),

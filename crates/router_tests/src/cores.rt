@@ -13,6 +13,7 @@ use std::test::Fail;
 const SETTLED: &str = "\
 local 65000 192.0.2.254 192.0.2.254\n\
 peer 1 65001 192.0.2.1 192.0.2.1\n\
+route add connected 192.0.2.0/24 direct eth0 1\n\
 up 1\n\
 bgp 1 ffffffffffffffffffffffffffffffff002c0200000012400101004002040201fde9400304c0000201100a01\n\
 idle\n\
@@ -65,6 +66,8 @@ fn counted(alloc: Global, link: Link) -> Result<Option<u128>, Fail> {
 #[test]
 fn rows_are_counted(rt: HostRuntime) -> Result<(), Fail> {
     assert_eq!(rt; counted(rt.alloc(), Link::Filt(1))?, Some(1));
+    assert_eq!(rt; counted(rt.alloc(), Link::Res(1))?, Some(1));
+    assert_eq!(rt; counted(rt.alloc(), Link::Best)?, Some(1));
     assert_eq!(rt; counted(rt.alloc(), Link::In(2))?, None);
     Ok(())
 }

@@ -1,7 +1,8 @@
 -- What a table keeps.
 use Rattle.std.proofs.Common.{◌≡◌, ◌⊎◌, ℕ, zero, suc, ◌+◌, ◌-◌, ◌^◌, ◌<◌, Bool, true, false, cond, List, [], ◌∷◌, get_or, Option, Some, None, is_some, count_by, IsSome, refl, sym, ap, subst, ◌∙◌, inl, inr, arith}
-use Rattle.std.specs.Prelude.{not, Result, Ok, Err, IsOk}
+use Rattle.std.specs.Prelude.{not, Result, Ok, Err, IsOk, ◌==◌}
 use Rattle.std.specs.Ordering.{eq_by_cmp}
+use Rattle.std.proofs.lemmas.Bool.Decides.{nat_tests}
 use Rattle.std.specs.FinMap as map
 use Rattle.std.specs.FinMap.{FinMap, find, get-entries, get-insert, get-remove, get-empty, len-insert, len-remove, len-empty, empty_of_len, same_map}
 use Rattle.slab.specs.Slab.{Slab, get, Updates}
@@ -16,7 +17,7 @@ use Rattle.safe_table.specs.Slots.{Slot}
 use Rattle.safe_table.specs.Tables.{Rows}
 use Rattle.safe_table.specs.Fields.{iterators_of, MatchPlace, standing, live_value, readers_of, with_live, live_from, live_rows, IsKept, IsSound, Leaves}
 use Rattle.safe_table.proofs.Maps.{get-insert_same, get-insert_other, get-remove_same, get-remove_other, value_of_has}
-use Rattle.safe_table.proofs.Standing.{moved_by, standing_below, some_stand, stand}
+use Rattle.safe_table.proofs.Standing.{moved_by, standing_below, standing_le, some_stand, stand}
 
 -- a slot at p, and the others
 by_prefix : (p q : Network) → (q ≡ p) ⊎ (q ≡ p → ⊥)
@@ -396,3 +397,14 @@ module _ {V : Type 0} where
   ready_to_leave m m1 old new id x p kept has enters at updates =
       let s = value_of_has (map.get m p) has in
       leave_ready m1 (Some (At p) ∷ old.slots) new.slots x (entered_kept m m1 old.slots p s.0 kept s.1 (enters s.0 s.1)) (left_behind old new id x p at updates)
+
+none_counted : (n : ℕ) → (n == 0) ≡ true → n ≡ 0
+none_counted n e = grind (arith, nat_tests)
+
+-- where no iterator is live, none stands at a prefix
+pub unread : {V : Type 0} (rows : FinMap prefix_cmp (Slot V)) (places : List (Option Place)) (p : Network) (s : Slot V) → IsKept rows places → (count_by is_some places == 0) ≡ true → map.get rows p ≡ Some s → s.readers ≡ 0
+unread rows places p s kept none found =
+    let le = standing_le p places in
+    let counted : s.readers ≡ standing p places = ap readers_of (sym found) ∙ kept.counted p in
+    let none_live : count_by is_some places ≡ 0 = none_counted (count_by is_some places) none in
+    omega arith

@@ -3,7 +3,7 @@ use Rattle.std.proofs.Common.{◌≡◌, Bool, true, false, cond, Option, Some, 
 use Rattle.std.specs.Ordering.{eq_by_cmp}
 use Rattle.std.specs.FinMap.{FinMap, get, insert, remove, get-insert, get-remove, same_map}
 use Rattle.addr4.specs.Prefixes.{Network, prefix_cmp}
-use Rattle.addr4.proofs.PrefixOrder.{prefixes_total, exact_prefixes, itself}
+use Rattle.addr4.proofs.PrefixOrder.{prefixes_total, exact_prefixes, itself, one_prefix}
 use Rattle.addr4.proofs.RankLemmas.{another}
 
 module _ {X : Type 0} where
@@ -40,6 +40,12 @@ module _ {X : Type 0} where
       ∙ ap (cond (eq_by_cmp prefix_cmp q p) None) (get-insert prefixes_total m p x q)
       ∙ twice_none (eq_by_cmp prefix_cmp q p) x (get m q)
       ∙ sym (get-remove prefixes_total m p q))
+
+  pub remove_absent : (m : FinMap prefix_cmp X) (p : Network) → get m p ≡ None → remove m p ≡ m
+  remove_absent m p none = same_map prefixes_total exact_prefixes _ _ (λ q. elim (eq_by_cmp prefix_cmp q p) as (λ b. eq_by_cmp prefix_cmp q p ≡ b → get (remove m p) q ≡ get m q) [
+    | true ↦ λ e. get-remove prefixes_total m p q ∙ ap (λ b. cond b None (get m q)) e ∙ sym (ap (get m) (one_prefix q p e) ∙ none)
+    | false ↦ λ e. get-remove prefixes_total m p q ∙ ap (λ b. cond b None (get m q)) e
+  ] refl)
 
   pub has_from : (m : FinMap prefix_cmp X) (p : Network) (x : X) → get m p ≡ Some x → IsSome (get m p)
   has_from m p x e = subst IsSome (sym e) refl

@@ -143,13 +143,28 @@ pub(crate) fn put<V: Drop>(
     }
 }
 
-// Takes the row at a prefix, where iterators stay.
-pub(crate) fn take<V: Drop>(trie: &mut Trie<Slot<V>>, prefix: Prefix) -> Option<V>
+// Takes the slot at a prefix, at which no iterator stands.
+fn take_slot<V>(trie: &mut Trie<Slot<V>>, prefix: Prefix) -> Option<V>
+    ensures before { result ≡ live_value (map.get trie.old.rows prefix) }
+    ensures rows { trie.new.rows ≡ map.remove trie.old.rows prefix }
+{
+    match trie.remove(prefix) {
+        None => None,
+        Some(slot) => slot.into_row(),
+    }
+}
+
+// Takes the row at a prefix, where iterators stay. Where it is known that none stands there, one descent is enough.
+pub(crate) fn take<V: Drop>(trie: &mut Trie<Slot<V>>, prefix: Prefix, alone: bool) -> Option<V>
+    requires { alone ≡ true → (s : Slot V) → map.get trie.old.rows prefix ≡ Some s → s.readers ≡ 0 }
     ensures before { result ≡ live_value (map.get trie.old.rows prefix) }
     ensures absent { map.get trie.old.rows prefix ≡ None → trie.new.rows ≡ trie.old.rows }
     ensures goes { (s : Slot V) → map.get trie.old.rows prefix ≡ Some s → s.readers ≡ 0 → trie.new.rows ≡ map.remove trie.old.rows prefix }
     ensures stays { (s : Slot V) → map.get trie.old.rows prefix ≡ Some s → 0 < s.readers → trie.new.rows ≡ map.insert trie.old.rows prefix (record s { value = None }) }
 {
+    if alone {
+        return take_slot(trie, prefix);
+    }
     let slot = match trie.get_mut(prefix) {
         None => return None,
         Some(slot) => slot,

@@ -152,7 +152,8 @@ impl<V: Drop> Table<V> {
         ensures rows { self.new.rows ≡ map.remove self.old.rows prefix }
         ensures iterators { self.new.iterators ≡ self.old.iterators }
     {
-        let before = slots::take(&mut self.trie, prefix);
+        let alone = self.places.is_empty();
+        let before = slots::take(&mut self.trie, prefix, alone);
         self.count = without_row(before.is_some(), self.count);
         before
     }

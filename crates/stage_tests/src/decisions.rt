@@ -104,32 +104,66 @@ fn becomes(
     )
 }
 
-// Whose route is the best after the announcements in this order, after the third peer's loss, and how many changes were sent
-// that did not go on from the one before.
-fn story(alloc: Global, prefix: Prefix, order: [u8; 3]) -> Result<[u8; 3], Memory> {
-    let mut tries = Vec::new(alloc);
-    for _ in 0..4 {
-        tries.push(Trie::new(alloc))?;
-    }
-    let mut all = TrieBranches { tries };
-    let mut known = 0;
-    let mut broken: u8 = 0;
-    for number in order {
-        let row = route(alloc, number)?;
-        if let Some((before, after)) = becomes(alloc, &mut all, prefix, number, Some(row))? {
-            broken = broken.saturating_add(u8::from(before != known));
-            known = after;
+// What was sent of the best route: whose it is, and how many changes didn't go on from the one before.
+#[derive(Clone, Copy)]
+struct Sent {
+    known: u8,
+    broken: u8,
+}
+
+impl Sent {
+    // The next change that was sent, if one was.
+    fn then(self, change: Option<(u8, u8)>) -> Sent {
+        match change {
+            None => self,
+            Some((before, known)) => Sent {
+                known,
+                broken: self.broken.saturating_add(u8::from(before != self.known)),
+            },
         }
     }
-    let best = number_of(&asked(alloc, &all, &prefix)?);
-    broken = broken.saturating_add(u8::from(best != known));
-    if let Some((before, after)) = becomes(alloc, &mut all, prefix, 3, None)? {
-        broken = broken.saturating_add(u8::from(before != known));
-        known = after;
+
+    // What a lookup answers.
+    fn answered(self, best: u8) -> Sent {
+        Sent {
+            known: best,
+            broken: self.broken.saturating_add(u8::from(best != self.known)),
+        }
     }
-    let left = number_of(&asked(alloc, &all, &prefix)?);
-    broken = broken.saturating_add(u8::from(left != known));
-    Ok([best, left, broken])
+}
+
+// Whose route is the best after the announcements in this order, after the third peer's loss, and how many changes were sent
+// that did not go on from the one before.
+fn heard(
+    alloc: Global,
+    all: &mut TrieBranches,
+    prefix: Prefix,
+    order: [u8; 3],
+) -> Result<[u8; 3], Memory> {
+    let mut sent = Sent {
+        known: 0,
+        broken: 0,
+    };
+    for number in order {
+        let row = route(alloc, number)?;
+        sent = sent.then(becomes(alloc, all, prefix, number, Some(row))?);
+    }
+    let best = number_of(&asked(alloc, all, &prefix)?);
+    sent = sent
+        .answered(best)
+        .then(becomes(alloc, all, prefix, 3, None)?);
+    let left = number_of(&asked(alloc, all, &prefix)?);
+    Ok([best, left, sent.answered(left).broken])
+}
+
+fn story(alloc: Global, prefix: Prefix, order: [u8; 3]) -> Result<[u8; 3], Memory> {
+    let mut all = TrieBranches {
+        tries: Vec::new(alloc),
+    };
+    for _ in 0..4 {
+        all.tries.push(Trie::new(alloc))?;
+    }
+    heard(alloc, &mut all, prefix, order)
 }
 
 #[test]
@@ -144,8 +178,7 @@ fn one_route_is_best_in_every_order(rt: HostRuntime) -> Result<(), Fail> {
         [3, 2, 1],
     ];
     for order in orders {
-        let told = story(rt.alloc(), prefix, order).ok().ok_or("memory")?;
-        assert_eq!(rt; told, [3, 2, 0]);
+        assert!(rt; story(rt.alloc(), prefix, order)? == [3, 2, 0]);
     }
     Ok(())
 }

@@ -1,17 +1,12 @@
-//! Stories of stages: a chain of live rows and deletion stages, next hops, the decision, outgoing filters, redistribution and the
-//! splitter, each public call on its happy path.
+//! Stories of the stages that the router doesn't use yet, each public call on its happy path: the decision, redistribution
+//! and the splitter. What the chains of losses, the next hops and the outgoing filters do is shown where they are put
+//! together: by the stories of the crates story_tests, hop_tests and exit_tests.
 //!
 //! The crates that these tests are of have none of their own: a crate with tests is proved once more with them.
 #![tactic(auto)]
 
 #[cfg(test)]
-mod chains;
-#[cfg(test)]
 mod decisions;
-#[cfg(test)]
-mod hops;
-#[cfg(test)]
-mod outgoing;
 #[cfg(test)]
 mod prefixes;
 #[cfg(test)]

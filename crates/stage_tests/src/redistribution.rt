@@ -80,31 +80,39 @@ fn is_quiet(turn: &Turn<Route>) -> bool {
 }
 
 // Static is turned on; while the walk is on, ospf too, and static off.
-fn redistributed(alloc: Global, prefix: Prefix, iface: Iface) -> Result<[bool; 8], Memory> {
+fn redistributed(
+    prefix: Prefix,
+    row: Interior,
+    above: &mut Cache<Interior>,
+    stage: &mut Redist,
+) -> Result<[bool; 8], Memory> {
     let me = speaker();
-    let row = interior(Proto::Static, iface, 5);
-    let mut above = Cache::new(alloc);
     above.take_in(add(prefix, row))?;
-    let mut stage = Redist::new(alloc);
     let silent = stage.take_in(add(prefix, row), &me)?.is_none();
     stage.edit(Proto::Static, true);
-    let nothing = stage.asked(&above, prefix, &me)?.is_none();
-    let sent = is_add(&stage.unit(&above, &me)?);
+    let nothing = stage.asked(above, prefix, &me)?.is_none();
+    let sent = is_add(&stage.unit(above, &me)?);
     stage.edit(Proto::Ospf, true);
     stage.edit(Proto::Static, false);
     let latest = stage.protos().has(Proto::Ospf) && !stage.protos().has(Proto::Static);
-    let there = is_own(&stage.asked(&above, prefix, &me)?);
-    let ended = is_quiet(&stage.unit(&above, &me)?) && stage.busy();
-    let gone = is_delete(&stage.unit(&above, &me)?);
-    let over = is_quiet(&stage.unit(&above, &me)?) && !stage.busy();
+    let there = is_own(&stage.asked(above, prefix, &me)?);
+    let ended = is_quiet(&stage.unit(above, &me)?) && stage.busy();
+    let gone = is_delete(&stage.unit(above, &me)?);
+    let over = is_quiet(&stage.unit(above, &me)?) && !stage.busy();
     Ok([silent, nothing, sent, latest, there, ended, gone, over])
+}
+
+fn redistributed_anew(alloc: Global, prefix: Prefix, iface: Iface) -> Result<[bool; 8], Memory> {
+    let row = interior(Proto::Static, iface, 5);
+    let mut above = Cache::new(alloc);
+    let mut stage = Redist::new(alloc);
+    redistributed(prefix, row, &mut above, &mut stage)
 }
 
 #[test]
 fn a_static_route_is_redistributed(rt: HostRuntime) -> Result<(), Fail> {
     let iface = Iface::read(b"eth0").ok_or("a name")?;
-    let told = redistributed(rt.alloc(), prefix(0, 0), iface)?;
-    assert_eq!(rt; told, [true; 8]);
+    assert!(rt; redistributed_anew(rt.alloc(), prefix(0, 0), iface)? == [true; 8]);
     Ok(())
 }
 
@@ -117,32 +125,48 @@ fn internal_route(alloc: Global) -> Result<Route, Memory> {
     Ok(row)
 }
 
-// A route of an external peer is the best one, and then one of an internal peer.
-fn split(alloc: Global, prefix: Prefix) -> Result<[bool; 4], Memory> {
-    let mut splitter = Splitter::new(alloc);
-    let first = splitter.take_in(&add(prefix, route(alloc, 1)?))?;
-    let came = match first {
-        Split::One(link, change) => link == BgpLink::Ebgp && change.before.is_none(),
+fn comes_to_ebgp(split: &Split) -> bool {
+    match split {
+        Split::One(link, change) => *link == BgpLink::Ebgp && change.before.is_none(),
         _ => false,
-    };
-    let kept = splitter.rows(BgpLink::Ebgp).asked(&prefix)?.is_some();
-    let second = splitter.take_in(&Change {
-        prefix,
-        before: Some(route(alloc, 1)?),
-        after: Some(internal_route(alloc)?),
-    })?;
-    let moved = match second {
+    }
+}
+
+fn moves_to_ibgp(split: &Split) -> bool {
+    match split {
         Split::Moved(link, added, deleted) => {
-            link == BgpLink::Ibgp && added.before.is_none() && deleted.after.is_none()
+            *link == BgpLink::Ibgp && added.before.is_none() && deleted.after.is_none()
         }
         _ => false,
-    };
+    }
+}
+
+// The first peer's route is replaced by one of an internal peer.
+fn replacement(alloc: Global, prefix: Prefix) -> Result<Change<Route>, Memory> {
+    let before = route(alloc, 1)?;
+    Ok(Change {
+        prefix,
+        before: Some(before),
+        after: Some(internal_route(alloc)?),
+    })
+}
+
+// A route of an external peer is the best one, and then one of an internal peer.
+fn split(alloc: Global, prefix: Prefix, splitter: &mut Splitter) -> Result<[bool; 4], Memory> {
+    let came = comes_to_ebgp(&splitter.take_in(&add(prefix, route(alloc, 1)?))?);
+    let kept = splitter.rows(BgpLink::Ebgp).asked(&prefix)?.is_some();
+    let moved = moves_to_ibgp(&splitter.take_in(&replacement(alloc, prefix)?)?);
     let gone = splitter.rows(BgpLink::Ebgp).len() == 0 && splitter.rows(BgpLink::Ibgp).len() == 1;
     Ok([came, kept, moved, gone])
 }
 
+fn split_anew(alloc: Global, prefix: Prefix) -> Result<[bool; 4], Memory> {
+    let mut splitter = Splitter::new(alloc);
+    split(alloc, prefix, &mut splitter)
+}
+
 #[test]
 fn a_best_route_moves_between_the_links(rt: HostRuntime) -> Result<(), Fail> {
-    assert_eq!(rt; split(rt.alloc(), prefix(0x0a09_0000, 16))?, [true; 4]);
+    assert!(rt; split_anew(rt.alloc(), prefix(0x0a09_0000, 16))? == [true; 4]);
     Ok(())
 }

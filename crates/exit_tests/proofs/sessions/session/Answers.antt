@@ -3,5 +3,5 @@ use Rattle.exit_tests.specs.declared.heard.TheConstants.{PLAIN}
 use Rattle.exit_tests.proofs.EmptyRows.{none_heard}
 use Rattle.exit_tests.proofs.sessions.session.Goals as goal
 
-pub run-requires-clause-stands : goal.run-requires-clause-stands
-run-requires-clause-stands c = c.in_ok-chain.ensures.stands (map.get c.args.best.now) (none_heard PLAIN c.args.best.now c.requires)
+pub go_on-requires-clause-stands : goal.go_on-requires-clause-stands
+go_on-requires-clause-stands c = c.in_ok-chain.ensures.stands (map.get c.args.best.now) (none_heard PLAIN c.args.best.now c.requires)

@@ -4,7 +4,7 @@ use Rattle.addr4.specs.Prefixes.{Network}
 use Rattle.prefix_trie.specs.Width.{width}
 use Rattle.register_interest.specs.Covers.{block}
 use Rattle.register_interest.specs.Interests.{Appends}
-use Rattle.register_interest.proofs.InterestLemmas.{above_first, above_more, above_all}
+use Rattle.register_interest.proofs.InterestLemmas.{above_first, above_more, above_all, none_reached}
 use Rattle.register_interest.proofs.interests.Interests.reached.Goals as goal
 
 pub loop-length-init : goal.loop-length-init
@@ -21,3 +21,6 @@ pub returns : goal.returns
 returns c =
     let end = c.loop-length-test.false in
     above_all width c.loop-length.length c.args.prefix c.args.self.now c.loop-length.out.items c.push_within.new.out.items c.known.ensures.masked (let v = c.length-length-end.ensures.value in omega arith) c.requires c.loop-length.invariant c.in_ok-push_within.ensures
+
+pub returns-then-is_empty : goal.returns-then-is_empty
+returns-then-is_empty c = none_reached width c.args.prefix c.self.inside.kept.entries c.args.self.now c.new-out.result.items c.self.view_is (c.is_empty.ensures.0 c.if-is_empty.true) c.new-out.ensures.items

@@ -1,7 +1,7 @@
 use Rattle.std.proofs.Common.{◌-◌, ◌∙◌, cond, sym, ap, subst}
 use Rattle.std.specs.FinMap as map
 use Rattle.safe_table.specs.Fields.{IsSound}
-use Rattle.safe_table.proofs.Keeping.{get-live, sound_taken, rows_taken, counted_row}
+use Rattle.safe_table.proofs.Keeping.{get-live, sound_taken, rows_taken, counted_row, unread}
 use Rattle.safe_table.proofs.Keeping.{Taken}
 use Rattle.safe_table.proofs.table.Table.remove.Goals as goal
 
@@ -22,3 +22,6 @@ pub returns-clause-rows : goal.returns-clause-rows
 returns-clause-rows g c =
     let e = c.take-before.ensures in
     rows_taken c.self.inside.trie.rows c.take-before.new.trie.rows c.args.prefix (record { absent = e.absent; goes = e.goes; stays = e.stays }) ∙ ap (λ v. map.remove v.rows c.args.prefix) c.self.view_is
+
+pub take-before-requires : goal.take-before-requires
+take-before-requires g c = λ t s found. unread c.self.inside.trie.rows c.self.inside.places.slots c.args.prefix s c.self.invariant.kept (sym c.is_empty-alone.ensures ∙ t) found

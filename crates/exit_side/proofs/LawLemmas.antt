@@ -1,0 +1,97 @@
+-- Laws of the side of the exits.
+use Rattle.std.proofs.Common.{◌≡◌, ℕ, true, false, cond, List, [], ◌∷◌, Option, Some, None, is_some, refl, sym, ap, subst, ◌∙◌, arith}
+use Rattle.std.specs.List.{sum_by}
+use Rattle.std.specs.Map.{values_of}
+use Rattle.std.specs.FinMap as tables
+use Rattle.std.specs.FinMap.{get-empty}
+use Rattle.std.specs.Ordering.{nat_cmp}
+use Rattle.bgp_attr.specs.declared.route.Route.{Route}
+use Rattle.bgp_attr.specs.declared.speaker.Profile.{Profile}
+use Rattle.link_change.specs.InOrder.{rows_before}
+use Rattle.link_change.specs.declared.change.Change.{Change}
+use Rattle.link_change.proofs.RowLemmas.{same_function}
+use Rattle.policy_rules.specs.declared.rule.Rule.{Rule}
+use Rattle.pass_core.specs.Passed.{Walked}
+use Rattle.fanout_queue.specs.Readers.{unread_by}
+use Rattle.journal_text.specs.declared.value.Value.{Value}
+use Rattle.journal_text.specs.declared.entry.Entry.{Entry}
+use Rattle.journal_text.specs.Links.{owner_of}
+use Rattle.journal_text.specs.Walk.{Links, Leads}
+use Rattle.out_chain.specs.Chains.{OutChained, has_out_work}
+use Rattle.out_chain.specs.Laws as out_laws
+use Rattle.exit_side.specs.Exits.{no_exits, chain_at, links_by, busy_by, left_of, left_in}
+use Rattle.exit_side.specs.Steps.{is_exit, beside}
+use Rattle.exit_side.specs.Laws.{StandsAtFirst, AreAmong, LeadsAnywhere, LeadsAnywhereWithBest, ExactWithoutWork, NoneLeftWithoutWork, TurnsAreBounded, LeftFollows}
+use Rattle.exit_side.proofs.MapLemmas.{no_entries, one_of_sum}
+use Rattle.exit_side.proofs.SwapLemmas.{by_bool}
+use Rattle.exit_side.proofs.CountLemmas.{none_idle, all_bounded, all_follow}
+use Rattle.exit_side.proofs.TaskLemmas.{entries_idle, idle_sum}
+
+-- ---- at first
+not_there : (profile : Profile) (k : ℕ) (c : OutChained) (P : Type 0) → chain_at k (no_exits profile) ≡ Some c → P
+not_there profile k c P at = absurd (let none : chain_at k (no_exits profile) ≡ None = get-empty nat_cmp k in let clash : Some c ≡ None = sym at ∙ none in cc)
+
+pub stands_at_first : (profile : Profile) → StandsAtFirst (no_exits profile)
+stands_at_first profile = record {
+  links = λ best link. ap (λ (o : Option OutChained). links_by tables.empty best o link) (get-empty nat_cmp (owner_of link));
+  sound = record { each = λ k c at. not_there profile k c _ at; apart = λ i k c d at. not_there profile i c _ at };
+  stand = λ best k c at. not_there profile k c _ at;
+  left = λ beyond. ap (λ (es : List (ℕ × OutChained)). sum_by (left_of beyond tables.empty) (values_of es)) no_entries;
+}
+
+-- ---- links
+among_old : (old new before after : Links Value) → AreAmong old new before after → beside before old ≡ before
+among_old old new before after are = same_function _ _ (λ link.
+    by_bool (is_exit link) (λ b. cond b (old link) (before link) ≡ before link) (λ e. sym (are.was link e)) (λ _. refl))
+
+among_new : (old new before after : Links Value) → AreAmong old new before after → beside before new ≡ after
+among_new old new before after are = same_function _ _ (λ link.
+    by_bool (is_exit link) (λ b. cond b (new link) (before link) ≡ after link) (λ e. sym (are.is link e)) (λ e. sym (are.same link e)))
+
+led : (old new before after : Links Value) (entries : List (Entry Value)) → AreAmong old new before after → Leads (beside before old) entries (beside before new) → Leads before entries after
+led old new before after entries are leads =
+    subst (λ (l : Links Value). Leads l entries after) (among_old old new before after are) (subst (λ (l : Links Value). Leads (beside before old) entries l) (among_new old new before after are) leads)
+
+pub leads_anywhere : LeadsAnywhere
+leads_anywhere old new before after entries leads are = led old new before after entries are (leads before)
+
+pub leads_anywhere_with_best : LeadsAnywhereWithBest
+leads_anywhere_with_best best old new before after entries leads is are = led old new before after entries are (leads before is)
+
+-- ---- without work
+nothing_unread : (c : OutChained) (unread : List (Change Route)) → has_out_work c unread ≡ false → unread ≡ []
+nothing_unread c [] e = refl
+nothing_unread c (x ∷ unread) e = absurd (let clash : true ≡ false = e in cc)
+
+no_walk : (walk : Option (Walked (Option (List Rule)))) → is_some walk ≡ false → walk ≡ None
+no_walk None e = refl
+no_walk (Some w) e = absurd (let clash : true ≡ false = e in cc)
+
+walk_over : (c : OutChained) (unread : List (Change Route)) → has_out_work c unread ≡ false → c.filter.walk ≡ None
+walk_over c [] e = no_walk c.filter.walk e
+walk_over c (x ∷ unread) e = absurd (let clash : true ≡ false = e in cc)
+
+pub exact_without_work : out_laws.ExactWithoutWork → ExactWithoutWork
+exact_without_work law e best j c all at idle =
+    let rests : has_out_work c (unread_by e.queue c.reader) ≡ false = sym (ap (busy_by e.queue) at) ∙ idle in
+    let none = nothing_unread c (unread_by e.queue c.reader) rests in
+    (ap (λ u. rows_before u best) none, law c e.queue best none (walk_over c (unread_by e.queue c.reader) rests) (all j c at).exact)
+
+-- ---- how many turns are left
+pub none_left_without_work : NoneLeftWithoutWork
+none_left_without_work e beyond = (
+  λ idle. idle_sum e beyond (tables.entries e.chains) (entries_idle e idle),
+  λ zero j. idle_by j zero (chain_at j e) refl,
+)
+  where
+    idle_by : (j : ℕ) → left_in beyond e ≡ 0 → (o : Option OutChained) → chain_at j e ≡ o → busy_by e.queue o ≡ false
+    idle_by j zero None at = refl
+    idle_by j zero (Some c) at =
+        let part = one_of_sum (left_of beyond e.queue) e.chains j c at in
+        none_idle beyond c (unread_by e.queue c.reader) (omega (arith, part, zero))
+
+pub turns_bounded : TurnsAreBounded
+turns_bounded candidates beyond e most counts is = all_bounded beyond candidates e most counts is
+
+pub left_follow : LeftFollows
+left_follow e before now less = all_follow e before now less

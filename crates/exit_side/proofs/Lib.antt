@@ -1,0 +1,10 @@
+pub mod MapLemmas
+pub mod HeldLemmas
+pub mod SwapLemmas
+pub mod LinkLemmas
+pub mod CountLemmas
+pub mod StepLemmas
+pub mod PutLemmas
+pub mod TaskLemmas
+pub mod LookupLemmas
+pub mod LawLemmas

@@ -1,0 +1,82 @@
+-- Laws of the side of the exits, for the crates above.
+use Rattle.std.specs.Prelude.{◌≡◌, ◌≢◌, ◌↔◌, ℕ, ◌+◌, ◌*◌, ◌≤◌, true, false, List, Option, Some, None}
+use Rattle.std.specs.FinMap as tables
+use Rattle.addr4.specs.Prefixes.{Network}
+use Rattle.bgp_attr.specs.declared.route.Route.{Route}
+use Rattle.link_change.specs.Rows.{Rows, Candidates}
+use Rattle.pass_core.specs.Passed.{present}
+use Rattle.pass_core.specs.Turns.{rows_by}
+use Rattle.pass_core.specs.Left.{CountsBeyond}
+use Rattle.fanout_queue.specs.Queues.{Queued, IsMostUnread}
+use Rattle.fanout_queue.specs.Readers.{read_rows, KeepsOtherReaders}
+use Rattle.journal_text.specs.declared.link.Link.{Link}
+use Rattle.journal_text.specs.declared.link.Link.TheVariants.{Best}
+use Rattle.journal_text.specs.declared.entry.Entry.{Entry}
+use Rattle.journal_text.specs.declared.value.Value.{Value}
+use Rattle.journal_text.specs.Walk.{Links, Leads}
+use Rattle.journal_text.specs.Values.{route_rows}
+use Rattle.out_chain.specs.Chains.{OutChained, made_by}
+use Rattle.exit_side.specs.Exits.{Exited, chain_at, with_queue, exit_links, IsExits, AllStand, has_exit_work, left_in}
+use Rattle.exit_side.specs.Steps.{is_exit, LeadsExits, LeadsWithBest}
+
+-- ---- at first
+-- Where no peer is up, no link is live, and all that is claimed holds.
+pub record StandsAtFirst (e : Exited) : Type 0 where
+  pub links : (best : Rows Route) (link : Link) → exit_links e best link ≡ None
+  pub sound : IsExits e
+  pub stand : (best : Rows Route) → AllStand best e
+  pub left : (beyond : Option Network → ℕ) → left_in beyond e ≡ 0
+
+-- ---- links
+-- links that have these among them, and the same elsewhere
+pub record AreAmong (old new before after : Links Value) : Type 0 where
+  pub was : (link : Link) → is_exit link ≡ true → before link ≡ old link
+  pub is : (link : Link) → is_exit link ≡ true → after link ≡ new link
+  pub same : (link : Link) → is_exit link ≡ false → after link ≡ before link
+
+-- What leads the links of the exits on leads them on, in whatever region they are;
+abbrev pub LeadsAnywhere : Type 0
+LeadsAnywhere = (old new before after : Links Value) (entries : List (Entry Value)) → LeadsExits old entries new → AreAmong old new before after → Leads before entries after
+
+-- so does what leads them on beside `best`, where it has these rows.
+abbrev pub LeadsAnywhereWithBest : Type 0
+LeadsAnywhereWithBest =
+    (best : Rows Route) (old new before after : Links Value) (entries : List (Entry Value)) → LeadsWithBest best old entries new → before Best ≡ Some (route_rows best)
+    → AreAmong old new before after → Leads before entries after
+
+-- ---- without work
+-- Where the task of a peer's exit has no work, its reader has the rows of `best`, and the peer was sent exactly what the latest rules make
+-- of them.
+abbrev pub ExactWithoutWork : Type 0
+ExactWithoutWork =
+    (e : Exited) (best : Rows Route) (j : ℕ) (c : OutChained) → AllStand best e → chain_at j e ≡ Some c → has_exit_work e j ≡ false
+    → (read_rows e.queue c.reader best ≡ best) × (tables.get c.sent ≡ rows_by (made_by c) (present c.filter) best)
+
+-- ---- how many turns are left
+-- None exactly where no task has work,
+abbrev pub NoneLeftWithoutWork : Type 0
+NoneLeftWithoutWork = (e : Exited) (beyond : Option Network → ℕ) → ((j : ℕ) → has_exit_work e j ≡ false) ↔ (left_in beyond e ≡ 0)
+
+-- and, for each peer, at most as many as the most that a reader hasn't taken, and two whole walks.
+abbrev pub TurnsAreBounded : Type 0
+TurnsAreBounded =
+    (candidates : Candidates) (beyond : Option Network → ℕ) (e : Exited) (most : ℕ) → CountsBeyond candidates beyond → IsMostUnread e.queue most
+    → left_in beyond e ≤ tables.len e.chains * (most + 2 * (beyond None + 1))
+
+-- Where no more candidates lie beyond any place than before, no more are left.
+abbrev pub LeftFollows : Type 0
+LeftFollows =
+    (e : Exited) (before now : Option Network → ℕ) → ((place : Option Network) → now place ≤ before place) → left_in now e ≤ left_in before e
+
+-- ---- readers that are no peer's
+-- What such a reader takes, and that it joins or leaves, leaves the exits as they were.
+pub record StaysWithQueue (e : Exited) (queue : Queued Route) : Type 0 where
+  pub links : (best : Rows Route) → exit_links (with_queue queue e) best ≡ exit_links e best
+  pub stand : (best : Rows Route) → AllStand best e → AllStand best (with_queue queue e)
+  pub left : (beyond : Option Network → ℕ) → left_in beyond (with_queue queue e) ≡ left_in beyond e
+  pub sound : IsExits (with_queue queue e)
+
+abbrev pub StrangersReadOn : Type 0
+StrangersReadOn =
+    (e : Exited) (queue : Queued Route) (reader : ℕ) → IsExits e → ((j : ℕ) (c : OutChained) → chain_at j e ≡ Some c → c.reader ≢ reader)
+    → KeepsOtherReaders reader e.queue queue → StaysWithQueue e queue

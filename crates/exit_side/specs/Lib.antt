@@ -1,0 +1,4 @@
+pub mod Exits
+pub mod Steps
+pub mod Tasks
+pub mod Laws

@@ -1,0 +1,18 @@
+-- What the loop over the chains finds.
+use Rattle.std.specs.Prelude.{◌≡◌, ℕ, if◌then◌else◌, List, [], ◌∷◌, Option, Some, None, IsSome}
+use Rattle.std.specs.Ordering.{nat_cmp}
+use Rattle.std.specs.BTreeMap.{BTreeMap, get}
+use Rattle.std.specs.FinMap as tables
+use Rattle.bgp_attr.specs.declared.route.Route.{Route}
+use Rattle.fanout_queue.specs.Queues.{Queued}
+use Rattle.fanout_queue.specs.Readers.{unread_by}
+use Rattle.out_chain.specs.Chains.{OutChained, has_out_work}
+
+-- the number of the first chain that has work
+abbrev pub first_of : Queued Route → List (ℕ × OutChained) → Option ℕ
+first_of queued [] = None
+first_of queued (e ∷ es) = if has_out_work e.1 (unread_by queued e.1.reader) then Some e.0 else first_of queued es
+
+-- each chain's reader is one of the queue's
+abbrev pub HaveReaders : Queued Route → BTreeMap ℕ OutChained → Type 0
+HaveReaders queued m = (j : ℕ) (c : OutChained) → get nat_cmp m j ≡ Some c → IsSome (tables.get queued c.reader)
