@@ -1,7 +1,7 @@
 -- What is decided from the live state alone: the rows of each link, from scratch. The links of a peer are its routes (RFC 4271,
 -- section 3.2), those that the incoming filter accepts (section 9.1.1), and of these the ones whose next hop can be reached (section
--- 9.1.2.1); below them all is the best route to each prefix (section 9.1.2.2); those of the interior routes, the routes of each protocol and the ones of least administrative distance (NSDI 2005, section
--- 5.2).
+-- 9.1.2.1); below them all is the best route to each prefix (section 9.1.2); those of the interior routes, the routes of each
+-- protocol and the ones of least administrative distance (NSDI 2005, section 5.2).
 use Rattle.std.specs.Prelude.{ℕ, zero, suc, nat_lt, not, List, [], ◌∷◌, find, filter_map, Option, Some, None, option_map}
 use Rattle.std.specs.List.{list_any, range_with_len}
 use Rattle.best_path.specs.Steps.{pick}
@@ -115,7 +115,7 @@ abbrev pub rows_if_any : Option (Rows Route) → Rows Route
 rows_if_any None p = None
 rows_if_any (Some rows) p = rows p
 
--- the routes of all peers at a prefix, whose numbers are from 1 to 64
+-- the routes of all peers at a prefix: their numbers are from 1 to 64
 abbrev pub routes_of_all : (ℕ → Rows Route) → Network → List Route
 routes_of_all rows p = filter_map (λ k. rows k p) (range_with_len 0 65)
 

@@ -70,6 +70,19 @@ rows_settled c stages walk =
     ∙ ap (λ (ds : List (Lost Attrs)). filtered_rows c.me c.peer c.filter.in_force (rows_below c.incoming.tables.live ds)) stages
     ∙ ap (λ (w : Option (Walked (List Rule))). filtered_rows c.me c.peer (present_of c.filter.in_force w) (tables.get c.incoming.tables.live)) (sym walk)
 
+-- the rows of `res.K`, if it is live
+abbrev opt_rows : Option (Resolving Metric) → Rows Route → Option (Rows Route)
+opt_rows None upper = None
+opt_rows (Some s) upper = Some (metric_rows s upper)
+
+opt_link : (o : Option (Resolving Metric)) (upper : Rows Route) → link_by o upper ≡ option_map route_rows (opt_rows o upper)
+opt_link None upper = refl
+opt_link (Some s) upper = refl
+
+opt_none : (o : Option (Resolving Metric)) (upper : Rows Route) → rows_by o upper ≡ rows_if_any (opt_rows o upper)
+opt_none None upper = refl
+opt_none (Some s) upper = refl
+
 module _ (m : Moment) (stands : Stands m) where
   -- ---- peers
   here : (k : ℕ) (c : Chained) → chain_at k m.chains ≡ Some c → nat_eq k c.incoming.number ≡ true
@@ -149,24 +162,8 @@ module _ (m : Moment) (stands : Stands m) where
       ∙ ap (λ (rows : Rows Interior). res_from (longest 32 rows) (filt_at m.chains k)) (registered_rows m stands ∙ int_is (λ p of n. rest (Rdel p n) of))
       ∙ resolved_is (least_rows routes_in (origins Int)) (filt_at m.chains k)
 
-  -- the rows of `res.K`, if it is live
-  opt_rows : Option (Resolving Metric) → Rows Route → Option (Rows Route)
-  opt_rows None upper = None
-  opt_rows (Some s) upper = Some (metric_rows s upper)
-
-  opt_link : (o : Option (Resolving Metric)) (upper : Rows Route) → link_by o upper ≡ option_map route_rows (opt_rows o upper)
-  unfolding opt_rows
-  opt_link None upper = refl
-  opt_link (Some s) upper = refl
-
-  opt_none : (o : Option (Resolving Metric)) (upper : Rows Route) → rows_by o upper ≡ rows_if_any (opt_rows o upper)
-  unfolding opt_rows
-  opt_none None upper = refl
-  opt_none (Some s) upper = refl
-
   res_is : (k : ℕ) → IsAtRest m (Res k) → (p : Option DeclaredPeer) (c : Option Chained) → chain_at k m.chains ≡ c → StandsAt p c
       → opt_rows (resolver_at k m.hops) (filt_at m.chains k) ≡ option_map (resolved_rows (least_rows routes_in (origins Int))) (judged_rows m.declared.speaker p (rules_of c) (routes_of c))
-  unfolding opt_rows
   res_is k rest None None at there =
       ap (λ (o : Option (Resolving Metric)). opt_rows o (filt_at m.chains k)) (no_table (resolver_at k m.hops) (stands.own SameResolvers k ∙ ap is_some at))
       ∙ sym (ap (λ (o : Option (Rows Route)). option_map (resolved_rows (least_rows routes_in (origins Int))) o) (unjudged m.declared.speaker [] tables.empty))

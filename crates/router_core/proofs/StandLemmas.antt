@@ -1,5 +1,5 @@
 -- What stands after a step of one chain, and what is live then.
-use Rattle.std.proofs.Common.{◌≡◌, ℕ, ◌≤◌, true, false, cond, List, Option, Some, None, nat_eq, refl, sym, ap, subst, ◌∙◌, length}
+use Rattle.std.proofs.Common.{◌≡◌, ℕ, true, false, cond, List, Option, Some, None, nat_eq, refl, sym, ap, subst, ◌∙◌, length}
 use Rattle.std.specs.Prelude.{IsSome, is_some}
 use Rattle.std.specs.FinMap as tables
 use Rattle.bgp_attr.specs.declared.speaker.Speaker.{Speaker}
@@ -67,12 +67,9 @@ resolver_there m stands k c at = stands.own SameResolvers k ∙ ap is_some at
 pub same_peers : (m : Moment) (k : ℕ) (c c' : Chained) (cs : Chains) → chain_at k m.chains ≡ Some c → cs ≡ put_chain k c' m.chains → (j : ℕ) → is_some (chain_at j cs) ≡ is_some (chain_at j m.chains)
 same_peers m k c c' cs at is j = ap (λ (x : Chains). is_some (chain_at j x)) is ∙ put_kept is_some k c' m.chains (ap is_some (sym at)) j
 
--- its speaker, and its number
+-- its speaker
 pub speaker_there : (m : Moment) → Stands m → (k : ℕ) (c : Chained) → chain_at k m.chains ≡ Some c → m.declared.speaker ≡ Some c.me
 speaker_there m stands k c at = stands.own OneSpeaker k c at
-
-pub number_there : (m v : Moment) → v ≡ m → Stands m → (k : ℕ) → IsSome (chain_at k m.chains) → k ≤ 64
-number_there m v view stands k some = stands.own SmallNumbers k some
 
 -- ---- all peers
 -- the same speaker, as many peers, and the others' sessions as they were
