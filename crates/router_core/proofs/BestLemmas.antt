@@ -1,15 +1,14 @@
 -- What follows a change of `res.K`: what is decided, and what its entries lead to.
-use Rattle.std.proofs.Common.{◌≡◌, ◌≢◌, ℕ, ◌<◌, ◌≤◌, nat_eq, nat_lt, true, false, cond, List, [], ◌++◌, Option, Some, None, refl, sym, ap, subst, ◌∙◌, arith}
+use Rattle.std.proofs.Common.{◌≡◌, ℕ, ◌<◌, ◌≤◌, nat_eq, nat_lt, true, cond, [], Option, Some, None, refl, sym, ap, subst, ◌∙◌, arith}
 use Rattle.std.proofs.lemmas.Bool.Decides.{nat_tests}
 use Rattle.addr4.specs.Prefixes.{Network}
 use Rattle.bgp_attr.specs.declared.route.Route.{Route}
 use Rattle.bgp_attr.specs.declared.speaker.Speaker.{Speaker}
-use Rattle.link_change.specs.Rows.{Rows, no_rows, IsNextCandidate, CoversRows}
+use Rattle.link_change.specs.Rows.{Rows, no_rows}
 use Rattle.link_change.specs.Changes.{IsSent}
 use Rattle.link_change.specs.declared.change.Change.{Change}
 use Rattle.journal_text.specs.declared.link.Link.{Link}
 use Rattle.journal_text.specs.declared.link.Link.TheVariants.{Best}
-use Rattle.journal_text.specs.declared.entry.Entry.{Entry}
 use Rattle.journal_text.specs.declared.value.Value.{Value}
 use Rattle.journal_text.specs.Values.{route_value, route_rows}
 use Rattle.journal_text.specs.Journals.{Journaled, with_entries, Adds}
@@ -25,11 +24,8 @@ use Rattle.decision.proofs.LawLemmas.{best_is_a_branchs, best_is_of_its_prefix}
 use Rattle.hop_side.specs.Resolvers.{Resolvers, PeerRows, resolver_at, rows_by}
 use Rattle.hop_side.specs.Steps.{ComesOn}
 use Rattle.peer_side.specs.Peers.{Chains, chain_at, filt_by}
-use Rattle.router_core.specs.Bests.{resolved_at, best_at, best_links, best_entries, DecidesOn, lent_chain, lent_rows, candidates_by, lent_candidates}
+use Rattle.router_core.specs.Bests.{resolved_at, best_at, best_links, best_entries, DecidesOn, lent_rows}
 use Rattle.router_core.specs.Moments.{Moment}
-use Rattle.in_chain.specs.Chains.{Chained, filt_rows, filt_candidates}
-use Rattle.nexthop_resolver.specs.Resolving.{Resolving}
-use Rattle.nexthop_resolver.specs.declared.rows.Metric.{Metric}
 
 -- ---- the branches that there may be
 same_best : (rows other : AllRows) → ((b : ℕ) → b < 65 → rows b ≡ other b) → best_rows rows ≡ best_rows other
@@ -38,48 +34,12 @@ same_best rows other same i p = best_is_of_its_prefix rows other p (λ b low. ap
 is_low : (b : ℕ) → b < 65 → nat_lt b 65 ≡ true
 is_low b low = grind (arith, nat_tests)
 
-is_high : (b : ℕ) → 65 ≤ b → nat_lt b 65 ≡ false
-is_high b high = grind (arith, nat_tests)
-
 lent_here : (a : Chains) (h : Resolvers) (b : ℕ) → b < 65 → lent_rows a h b ≡ resolved_at a h b
 lent_here a h b low = ap (λ t. rows_by (resolver_at b h) (filt_by (cond t (chain_at b a) None))) (is_low b low)
 
 -- what is lent has the same best rows
-pub lent_best : (m v : Moment) (a : Chains) (h : Resolvers) → v ≡ m → a ≡ v.chains → h ≡ v.hops → best_rows (lent_rows a h) ≡ best_at m.chains m.hops
-lent_best m v a h view chains hops =
-    same_best (lent_rows a h) (resolved_at a h) (lent_here a h) ∙ ap (λ (x : Chains). best_at x h) chains ∙ ap (best_at v.chains) hops ∙ ap (λ (n : Moment). best_at n.chains n.hops) view
-
--- a branch without a chain has nothing
-no_row : (o : Option (Resolving Metric)) (q : Network) → rows_by o no_rows q ≡ None
-no_row None q = refl
-no_row (Some s) q = refl
-
-pub no_lent_row : (a : Chains) (h : Resolvers) (b : ℕ) (q : Network) → None ≡ lent_chain a b → lent_rows a h b q ≡ None
-no_lent_row a h b q none = ap (λ (o : Option Chained). rows_by (resolver_at b h) (filt_by o) q) (sym none) ∙ no_row (resolver_at b h) q
-
-pub no_lent_candidate : (a : Chains) (b : ℕ) (q : Network) → None ≡ lent_chain a b → lent_candidates a b q ≡ false
-no_lent_candidate a b q none = ap (λ (o : Option Chained). candidates_by o q) (sym none)
-
-pub none_lent : (a : Chains) (h : Resolvers) (b : ℕ) (q : Network) → 65 ≤ b → (lent_rows a h b q ≡ None) × (lent_candidates a b q ≡ false)
-none_lent a h b q high =
-    let none : None ≡ lent_chain a b = ap (λ t. cond t (chain_at b a) None) (sym (is_high b high)) in
-    (no_lent_row a h b q none, no_lent_candidate a b q none)
-
-pub lent_next_none : (a : Chains) (b : ℕ) (place : Option Network) → None ≡ lent_chain a b → IsNextCandidate (lent_candidates a b) place None
-lent_next_none a b place none q beyond = no_lent_candidate a b q none
-
-pub lent_covers_none : (a : Chains) (h : Resolvers) (b : ℕ) → None ≡ lent_chain a b → CoversRows (lent_candidates a b) (lent_rows a h b)
-lent_covers_none a h b none q lacks = no_lent_row a h b q none
-
--- and one that has one its own
-pub lent_asked : (a : Chains) (h : Resolvers) (b : ℕ) (c : Chained) (q : Network) → Some c ≡ lent_chain a b → rows_by (resolver_at b h) (filt_rows c) q ≡ lent_rows a h b q
-lent_asked a h b c q at = ap (λ (o : Option Chained). rows_by (resolver_at b h) (filt_by o) q) at
-
-pub lent_next : (a : Chains) (b : ℕ) (c : Chained) (place result : Option Network) → Some c ≡ lent_chain a b → IsNextCandidate (filt_candidates c) place result → IsNextCandidate (lent_candidates a b) place result
-lent_next a b c place result at next = subst (λ (o : Option Chained). IsNextCandidate (candidates_by o) place result) at next
-
-pub lent_covers : (a : Chains) (h : Resolvers) (b : ℕ) (c : Chained) → Some c ≡ lent_chain a b → CoversRows (filt_candidates c) (rows_by (resolver_at b h) (filt_rows c)) → CoversRows (lent_candidates a b) (lent_rows a h b)
-lent_covers a h b c at covers = subst (λ (o : Option Chained). CoversRows (candidates_by o) (rows_by (resolver_at b h) (filt_by o))) at covers
+pub lent_best : (m : Moment) (a : Chains) (h : Resolvers) → a ≡ m.chains → h ≡ m.hops → best_rows (lent_rows a h) ≡ best_at m.chains m.hops
+lent_best m a h chains hops = same_best (lent_rows a h) (resolved_at a h) (lent_here a h) ∙ ap (λ (x : Chains). best_at x h) chains ∙ ap (best_at m.chains) hops
 
 -- where no branch has a row
 pub best_none : (rows : AllRows) → ((b : ℕ) → rows b ≡ no_rows) → best_rows rows ≡ no_rows
@@ -104,16 +64,15 @@ decided_none k sent now j is = ([], sym (with_entries_none j), record {
   decides = λ before p comes. ap best_rows (comes_none k p before now (subst (λ (s : Option (Change Route)). ComesOn k p s before now) is comes));
 })
 
-pub decided_some : (k : ℕ) (sent : Option (Change Route)) (change : Change Route) (best : Option (Change Route)) (m v : Moment) (a : Chains) (h : Resolvers) (before now : Journaled) → k ≤ 64 → sent ≡ Some change → v ≡ m → a ≡ v.chains → h ≡ v.hops
+pub decided_some : (k : ℕ) (sent : Option (Change Route)) (change : Change Route) (best : Option (Change Route)) (m : Moment) (a : Chains) (h : Resolvers) (before now : Journaled) → k ≤ 64 → sent ≡ Some change → a ≡ m.chains → h ≡ m.hops
     → Decides k (lent_rows a h) change best → now ≡ with_entries before (best_entries best) → Adds (DecidesOn k sent (resolved_at m.chains m.hops)) before now
-decided_some k sent change best m v a h before now small is view chains hops decides pushed =
-    subst (λ (n : Moment). Adds (DecidesOn k sent (resolved_at n.chains n.hops)) before now) view
-    (subst (λ (x : Chains). Adds (DecidesOn k sent (resolved_at x v.hops)) before now) chains
+decided_some k sent change best m a h before now small is chains hops decides pushed =
+    subst (λ (x : Chains). Adds (DecidesOn k sent (resolved_at x m.hops)) before now) chains
     (subst (λ (x : Resolvers). Adds (DecidesOn k sent (resolved_at a x)) before now) hops (
       best_entries best,
       pushed,
       record { best = best; lines = refl; decides = λ was p comes. leads was p (subst (λ (s : Option (Change Route)). ComesOn k p s was (resolved_at a h)) is comes) },
-    )))
+    ))
   where
     low : k < 65
     low = omega (arith, small)

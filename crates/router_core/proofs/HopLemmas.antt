@@ -1,5 +1,5 @@
 -- What follows a change on `filt.K`: what the resolvers' entries lead to, and what is claimed of them then.
-use Rattle.std.proofs.Common.{◌≡◌, ◌≢◌, ℕ, nat_eq, true, false, List, [], ◌++◌, Option, Some, None, is_some, IsSome, refl, sym, ap, subst, ◌∙◌}
+use Rattle.std.proofs.Common.{◌≡◌, ℕ, true, false, List, [], ◌++◌, Option, Some, None, is_some, IsSome, refl, sym, ap, subst, ◌∙◌}
 use Rattle.std.specs.FinMap as tables
 use Rattle.addr4.specs.Prefixes.{Network}
 use Rattle.bgp_attr.specs.declared.route.Route.{Route}
@@ -23,10 +23,8 @@ use Rattle.journal_text.proofs.WalkLemmas.{leads_append, leads_nowhere}
 use Rattle.link_region.specs.declared.regions.Region.{Region}
 use Rattle.link_region.specs.declared.regions.Region.TheVariants.{Inward, Resolved, Decided}
 use Rattle.link_region.specs.Regions.{Sides, joined, with_side, LeadsIn}
-use Rattle.link_region.proofs.RegionLemmas.{by_bool}
-use Rattle.loss_chain.proofs.TableLemmas.{equal_by}
 use Rattle.hop_side.specs.Resolvers.{Resolvers, PeerRows, resolver_at, res_at, hop_links, is_res, beside, IsHops, AllAgree, AllCounted}
-use Rattle.hop_side.specs.Steps.{LeadsRes, ComesOn, GoesOn, KeepsAgreed, HasNoInterest, HaveSamePeers, TakesBelow, ReachesBelow}
+use Rattle.hop_side.specs.Steps.{LeadsRes, KeepsAgreed, HasNoInterest, HaveSamePeers, TakesBelow, ReachesBelow}
 use Rattle.hop_side.proofs.LawLemmas.{leads_anywhere}
 use Rattle.peer_side.specs.Peers.{Chains, chain_at, peer_links, filt_at}
 use Rattle.router_core.specs.Moments.{Moment, with_chains, with_hops, parts, router_links}
@@ -184,7 +182,6 @@ resolved_none k r h j sound agree = (
   [],
   sym (with_entries_none j),
   record {
-    below = None;
     lines = refl;
     resolves = (refl, refl, refl);
     agreed = record { sound = sound; agree = agree; others = record { rows = refl; interests = λ i other. refl }; peers = λ j. refl };
@@ -204,7 +201,6 @@ resolved_some k change sent r r' h h' before now adds = (
   adds.0,
   adds.1,
   record {
-    below = sent;
     lines = adds.2.takes.lines;
     resolves = adds.2.takes;
     agreed = adds.2.agreed;

@@ -1,5 +1,5 @@
 -- One turn of the next hops of a peer.
-use Rattle.std.proofs.Common.{◌≡◌, ℕ, ◌+◌, ◌≤◌, false, List, ◌++◌, Option, Some, None, is_some, IsSome, refl, sym, ap, subst, ◌∙◌, arith}
+use Rattle.std.proofs.Common.{◌≡◌, ℕ, ◌+◌, ◌≤◌, false, List, ◌++◌, Option, Some, None, is_some, refl, sym, ap, subst, ◌∙◌, arith}
 use Rattle.std.specs.FinMap as tables
 use Rattle.addr4.specs.Prefixes.{Network}
 use Rattle.bgp_attr.specs.declared.route.Route.{Route}
@@ -9,14 +9,12 @@ use Rattle.link_change.specs.declared.turn.Turn.TheVariants as turns
 use Rattle.rib_route.specs.declared.rows.Interior.{Interior}
 use Rattle.register_interest.specs.Registers.{Registry}
 use Rattle.pass_core.specs.Left.{CountsBeyond}
-use Rattle.nexthop_resolver.specs.Resolving.{Resolving}
-use Rattle.nexthop_resolver.specs.declared.rows.Metric.{Metric}
 use Rattle.journal_text.specs.declared.link.Task.TheVariants.{Nh}
 use Rattle.journal_text.specs.declared.entry.Entry.{Entry}
 use Rattle.journal_text.specs.declared.value.Value.{Value}
 use Rattle.journal_text.specs.Journals.{Journaled, Adds, flushed}
 use Rattle.loss_chain.proofs.TableLemmas.{no_table}
-use Rattle.in_chain.specs.Chains.{Chained, filt_rows, filt_candidates, filt_beyond}
+use Rattle.in_chain.specs.Chains.{Chained, filt_rows, filt_candidates}
 use Rattle.in_chain.proofs.TurnLemmas.{candidates_are_counted}
 use Rattle.hop_side.specs.Resolvers.{Resolvers, resolver_at, busy_by, has_hop_work, AllAgree, IsHops}
 use Rattle.hop_side.specs.Steps.{GoesOn, TurnsBelow, ComesBelow}

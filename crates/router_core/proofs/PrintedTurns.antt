@@ -153,17 +153,17 @@ module _ (peers : ℕ → Option Neighbour) (most : ℕ) where
       metrics : AllHaveMetrics m'.hops
       metrics = resolved_metrics k sent f.passed m.registry m'.registry m.hops m'.hops f.resolved (answered m fit) f.below.resolves fit.metrics
 
-      fallen_prints_all : (j : ℕ) → Prints peers route_value (filt_at f.fallen j)
-      fallen_prints_all j = by_bool (nat_eq j k) (λ b. Prints peers route_value (filt_at f.fallen j)) (λ e. subst (λ (n : ℕ). Prints peers route_value (filt_at f.fallen n)) (sym (equal_by j k e)) fallen_prints)
-          (λ e. subst (λ (rows : Rows Route). Prints peers route_value rows) (sym (changes.others j e)) (filt_fit m fit j))
-
       fallen_prints : Prints peers route_value (filt_at f.fallen k)
       fallen_prints = subst (λ (o : Option Chained). Prints peers route_value (filt_by o)) (sym (fallen_at k m.chains f.fallen less put)) (filt_prints peers plain less own)
+
+      all_fallen_print : (j : ℕ) → Prints peers route_value (filt_at f.fallen j)
+      all_fallen_print j = by_bool (nat_eq j k) (λ b. Prints peers route_value (filt_at f.fallen j)) (λ e. subst (λ (n : ℕ). Prints peers route_value (filt_at f.fallen n)) (sym (equal_by j k e)) fallen_prints)
+          (λ e. subst (λ (rows : Rows Route). Prints peers route_value rows) (sym (changes.others j e)) (filt_fit m fit j))
 
       decides : ArePrintedEntries peers f.best
       decides = subst (ArePrintedEntries peers) (sym f.decided.lines)
           (sent_printed peers route_value Best (best_at m.chains m.hops) (best_at f.fallen m'.hops) p f.decided.best tt (best_prints (resolved_at m.chains m.hops) (resolved_prints m.chains m.hops fit.metrics (filt_fit m fit)))
-          (best_prints (resolved_at f.fallen m'.hops) (resolved_prints f.fallen m'.hops metrics (fallen_prints_all))) (f.decided.decides (resolved_at m.chains m.hops) p goes.comes))
+          (best_prints (resolved_at f.fallen m'.hops) (resolved_prints f.fallen m'.hops metrics all_fallen_print)) (f.decided.decides (resolved_at m.chains m.hops) p goes.comes))
 
       resolves : ArePrintedEntries peers f.resolved
       resolves = subst (ArePrintedEntries peers) (sym f.below.lines)

@@ -7,5 +7,5 @@ returns-in_default c = decided_none c.args.number c.args.sent (resolved_at c.arg
 
 pub returns : goal.returns
 returns c =
-    decided_some c.args.number c.args.sent c.in-Some.change _ c.args.self.now _ _ _ c.args.journal.now c.push_sent.new.self c.requires c.in-Some.is c.self.view_is c.lent.ensures.chains c.lent.ensures.hops
+    decided_some c.args.number c.args.sent c.in-Some.change _ c.args.self.now _ _ c.args.journal.now c.push_sent.new.self c.requires c.in-Some.is c.lent.ensures.chains c.lent.ensures.hops
     c.in_ok-best.ensures c.in_ok-push_sent.ensures

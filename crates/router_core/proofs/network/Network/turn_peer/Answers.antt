@@ -3,7 +3,7 @@ use Rattle.hop_side.specs.Resolvers.{resolver_at}
 use Rattle.peer_side.specs.Peers.{IsPeersBut, chain_at}
 use Rattle.router_core.proofs.StandLemmas.{peers_sound}
 use Rattle.router_core.proofs.HopTurns.{hops_sound, hops_agree}
-use Rattle.router_core.proofs.PeerTurns.{peer_took, peer_fallen, peer_resolves, peer_small, peer_rests, settled_same}
+use Rattle.router_core.proofs.PeerTurns.{peer_took, peer_fallen, peer_resolves, peer_small, settled_same}
 use Rattle.router_core.proofs.network.Network.turn_peer.Goals as goal
 
 pub turn-requires : goal.turn-requires
