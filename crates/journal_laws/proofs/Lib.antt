@@ -19,3 +19,4 @@ pub mod PrintedLines
 pub mod DeclaredPeers
 pub mod PrintedPeers
 pub mod ShownRows
+pub mod PrintedHops

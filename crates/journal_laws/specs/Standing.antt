@@ -1,6 +1,11 @@
--- What stands in tables and chains and can be printed: each row, live or lost, the numbers of the losses, and the rules of filters.
+-- What stands in tables and chains and can be printed: each row, live or lost, the numbers of the losses, the rules of filters, and what
+-- is known of next hops.
 use Rattle.std.specs.Prelude.{◌≡◌, ℕ, Bool, false, not, List, Option, Some, None}
 use Rattle.std.specs.List.{AllByRecursion}
+use Rattle.std.specs.FinMap as tables
+use Rattle.nexthop_known.specs.declared.answer.Hop.{Hop}
+use Rattle.nexthop_resolver.specs.declared.rows.Metric.{Metric}
+use Rattle.nexthop_resolver.specs.Resolving.{Resolving}
 use Rattle.addr4.specs.Prefixes.{Network}
 use Rattle.bgp_attr.specs.declared.attrs.Attrs.{Attrs}
 use Rattle.bgp_attr.specs.declared.speaker.Neighbour.{Neighbour}
@@ -16,7 +21,7 @@ use Rattle.journal_text.specs.Names.{IsNameNumber}
 use Rattle.journal_text.specs.Values.{interior_value}
 use Rattle.journal_text.specs.declared.value.Value.{Value}
 use Rattle.rib_route.specs.declared.rows.Interior.{Interior}
-use Rattle.journal_check.specs.Laws.{IsPrefix}
+use Rattle.journal_check.specs.Laws.{IsPrefix, IsNumberIfAny}
 use Rattle.loss_chain.specs.Tables.{Tables}
 use Rattle.loss_chain.specs.Rows.{IsRow}
 use Rattle.in_chain.specs.Chains.{Chained}
@@ -57,3 +62,10 @@ pub record IsPrintableChain (profile : Profile) (c : Chained) : Type 0 where
   pub tables : AreTablesOf (IsHeardRow profile (not c.peer.internal)) c.incoming.tables
   pub in_force : AreRules false c.filter.in_force
   pub walk : AreRulesOfWalk c.filter.walk
+
+-- the metrics of the answers about a next hop, that in force and the fresh one, are in their range
+abbrev pub HasMetrics : Hop Metric → Type 0
+HasMetrics h = IsNumberIfAny h.in_force.igp × IsNumberIfAny h.fresh.igp
+
+abbrev pub HaveMetrics : Resolving Metric → Type 0
+HaveMetrics s = (a : ℕ) (h : Hop Metric) → tables.get s.known a ≡ Some h → HasMetrics h

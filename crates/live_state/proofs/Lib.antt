@@ -3,3 +3,4 @@ pub mod LeastLemmas
 mod DecidedLemmas
 pub mod UpdateLemmas
 pub mod AdmittedLemmas
+pub mod LongestLemmas

@@ -1,7 +1,8 @@
 -- Laws of these definitions alone, for the crates above.
-use Rattle.std.specs.Prelude.{◌≡◌, ◌≤◌, ℕ, List, Contains, Some, None}
+use Rattle.std.specs.Prelude.{◌≡◌, ◌≤◌, ◌<◌, ℕ, List, Contains, Option, Some, None}
 use Rattle.std.specs.FinMap as tables
-use Rattle.addr4.specs.Prefixes.{Network}
+use Rattle.addr4.specs.Prefixes.{Network, IsMasked, Holds}
+use Rattle.link_change.specs.Rows.{Rows}
 use Rattle.bgp_wire.specs.declared.message.Message.{Message}
 use Rattle.event_text.specs.declared.event.Event.{Event}
 use Rattle.event_text.specs.declared.declared.DeclaredPeer.{DeclaredPeer}
@@ -10,7 +11,7 @@ use Rattle.rib_route.specs.declared.rows.Interior.{Interior}
 use Rattle.live_state.specs.Messages.{Says, is_ending, ends_session}
 use Rattle.live_state.specs.Declared.{declared_after}
 use Rattle.live_state.specs.Lives.{LiveState, LiveAfter, Interiors}
-use Rattle.live_state.specs.Decided.{distance_of, least_rows}
+use Rattle.live_state.specs.Decided.{distance_of, least_rows, longest_match}
 
 -- What octets say ends the session exactly where they are seen to end it.
 abbrev pub SessionsEnd : Type 0
@@ -33,3 +34,13 @@ abbrev pub EachLiveRouteCounts : Type 0
 EachLiveRouteCounts =
     (interior : Proto → Interiors) (protocols : List Proto) (p : Network) → least_rows interior protocols p ≡ None
     → (proto : Proto) → Contains protocols proto → tables.get (interior proto) p ≡ None
+
+-- A match is the row of a prefix that holds the address, and no longer one that holds it has a row; there is none only where no
+-- prefix that holds the address has one.
+abbrev pub IsLongestMatch : Rows Interior → ℕ → Option Interior → Type 0
+IsLongestMatch rows address None = (q : Network) → IsMasked 32 q → Holds 32 q address → rows q ≡ None
+IsLongestMatch rows address (Some row) =
+    (p : Network) × IsMasked 32 p × Holds 32 p address × (rows p ≡ Some row) × ((q : Network) → IsMasked 32 q → Holds 32 q address → p.length < q.length → rows q ≡ None)
+
+abbrev pub TheLongestMatchIsDecided : Type 0
+TheLongestMatchIsDecided = (rows : Rows Interior) (address : ℕ) → IsLongestMatch rows address (longest_match rows address)

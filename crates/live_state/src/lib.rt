@@ -13,7 +13,7 @@
 //! are laws about the definitions alone: they do nothing, and have a law as their contract, which crates above call for.
 #![tactic(auto)]
 
-ghost use Rattle.live_state.specs.Laws.{SessionsEnd, DeclarationsFollow, TheLeastDistanceIsDecided, EachLiveRouteCounts};
+ghost use Rattle.live_state.specs.Laws.{SessionsEnd, DeclarationsFollow, TheLeastDistanceIsDecided, EachLiveRouteCounts, TheLongestMatchIsDecided};
 
 use bgp_wire::one_of_message_and_fault;
 
@@ -36,4 +36,9 @@ pub fn declarations_follow()
 pub fn the_least_distance_is_decided()
     ensures least { TheLeastDistanceIsDecided }
     ensures each { EachLiveRouteCounts }
+{}
+
+/// The interior route by which a next hop is reached is that of the longest prefix that holds it (RFC 4271, section 9.1.2.1).
+pub fn the_longest_match_is_decided()
+    ensures { TheLongestMatchIsDecided }
 {}

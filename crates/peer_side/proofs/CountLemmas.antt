@@ -1,9 +1,12 @@
 -- What a turn of a chain's stage and a weld leave of its counts.
-use Rattle.std.proofs.Common.{◌≡◌, ℕ, ◌+◌, ◌≤◌, Bool, true, false, not, cond, List, [], ◌∷◌, length, map, filter, Option, Some, None, nat_eq, refl, sym, ap, subst, ◌∙◌, arith}
+use Rattle.std.proofs.Common.{◌≡◌, ℕ, ◌+◌, ◌*◌, ◌≤◌, Bool, true, false, not, cond, List, [], ◌∷◌, length, map, filter, Option, Some, None, nat_eq, refl, sym, ap, subst, ◌∙◌, arith}
 use Rattle.std.specs.FinMap as tables
 use Rattle.std.specs.FinMap.{FinMap, find, is_sorted, get-entries, get-remove, get-from_sorted, entries_sorted, entries-from_sorted, same_map}
 use Rattle.std.specs.FinMap.Entries.{where_key, is_sorted-where_key, find-where_key}
-use Rattle.std.specs.Ordering.{eq_by_cmp}
+use Rattle.std.proofs.lemmas.List.Sums.{sum_by-cons, sum_by-le-sum_by}
+use Rattle.std.specs.Cmp.{nat_cmp_total}
+use Rattle.std.specs.List.{sum_by}
+use Rattle.std.specs.Ordering.{nat_cmp, eq_by_cmp}
 use Rattle.std.specs.Prelude.{T}
 use Rattle.addr4.specs.Prefixes.{Network, prefix_cmp}
 use Rattle.addr4.proofs.PrefixOrder.{prefixes_total, exact_prefixes}
@@ -15,9 +18,11 @@ use Rattle.loss_chain.specs.Tables.{Tables, tables_count}
 use Rattle.loss_chain.specs.Steps.{without, swept_one, table_of}
 use Rattle.loss_chain.proofs.TableLemmas.{is_full}
 use Rattle.loss_chain.proofs.TurnLemmas.{welded_rows, swept_rows as swept_rows_of}
-use Rattle.in_chain.specs.Chains.{Chained, IsChain, count_beyond, lost_beyond, left_beyond, waiting_turns, walk_turns, turns_left}
+use Rattle.in_chain.specs.Chains.{Chained, row_count, IsChain, count_beyond, lost_beyond, left_beyond, waiting_turns, walk_turns, turns_left}
 use Rattle.in_chain.specs.Steps.{swept, welded}
-use Rattle.peer_side.specs.Peers.{lost_of}
+use Rattle.in_chain.specs.Laws.{TurnsAreBounded}
+use Rattle.peer_side.specs.Peers.{Chains, lost_of, lost_in, left_in, rows_in}
+use Rattle.peer_side.proofs.MapLemmas.{values_length}
 
 pub swept_rows : (s : ℕ) (c : Chained) (p : Network) (a : Attrs) (t : FinMap prefix_cmp Attrs) → IsChain c → table_of s c.incoming.tables.deletions ≡ Some t → tables.get t p ≡ Some a → lost_of (swept s p c) + 1 ≡ lost_of c
 swept_rows s c p a t chain stands at = swept_rows_of s p t a c.incoming.tables.deletions chain.rising stands at
@@ -94,3 +99,19 @@ pub weld_turns : (c : Chained) → turns_left (welded c) ≤ turns_left c
 weld_turns c =
     let same = weld_rows c in
     fewer_turns (welded c).incoming.tables c.incoming.tables c.filter.walk (omega (arith, same)) (λ place. let a = full_beyond place c.incoming.tables.deletions in omega (arith, a))
+
+-- ---- how many turns walks take at most, and how many rows are lost
+left_among : TurnsAreBounded → (cs : List Chained) → sum_by turns_left cs ≤ 2 * (sum_by row_count cs + length cs)
+left_among law [] = omega arith
+left_among law (c ∷ cs) =
+    let here = law c in
+    let rest = left_among law cs in
+    let turns = sum_by-cons turns_left c cs in
+    let rows = sum_by-cons row_count c cs in
+    omega (arith, here, rest, turns, rows)
+
+pub left_below : TurnsAreBounded → (a : Chains) → left_in a ≤ 2 * (rows_in a + tables.len a)
+left_below law a = let all = left_among law (tables.values a) in let size = values_length nat_cmp nat_cmp_total a in omega (arith, all, size)
+
+pub lost_below : (a : Chains) → lost_in a ≤ rows_in a
+lost_below a = sum_by-le-sum_by lost_of row_count (tables.values a) (λ c. omega arith)

@@ -1,7 +1,8 @@
 pub mod MapLemmas
 pub mod PutLemmas
 pub mod LinkLemmas
-mod CountLemmas
+pub mod CountLemmas
 mod ChainLemmas
 mod StepLemmas
 pub mod TaskLemmas
+pub mod WeldLemmas

@@ -1,15 +1,15 @@
 -- A finite map, against the entries of the `BTreeMap` that holds it, and what is summed over its values.
 use Rattle.std.proofs.Common.{◌≡◌, ℕ, ◌+◌, ◌≤◌, Bool, true, false, ◌&&◌, cond, List, [], ◌∷◌, length, Some, None, refl, sym, ap, subst, ◌∙◌, arith, suc}
 use Rattle.std.specs.Prelude.{T}
-use Rattle.std.specs.Ordering.{eq_by_cmp, is_eq, is_lt, ordering_reverse}
+use Rattle.std.specs.Ordering.{nat_cmp, eq_by_cmp, is_eq, is_lt, ordering_reverse}
 use Rattle.std.specs.declared.cmp.Ordering.{Ordering}
 use Rattle.std.specs.declared.cmp.Ordering.TheVariants.{Less, Equal, Greater}
-use Rattle.std.specs.Cmp.{IsTotalOrder, eq_by_cmp_equiv, tied_itself}
+use Rattle.std.specs.Cmp.{IsTotalOrder, nat_cmp_total, eq_by_cmp_equiv, tied_itself}
 use Rattle.std.specs.BTreeMap.{BTreeMap, is_at, Updates, values}
 use Rattle.std.specs.Map.{lookup, keys_of, values_of}
 use Rattle.std.specs.List.{AllByRecursion, sum_by}
 use Rattle.std.specs.List.Sorted.{IsStrictlySortedBy}
-use Rattle.std.specs.FinMap.{FinMap, IsAntisymmetric, get, insert, empty, entries, entries_sorted, from_entries, find, put, is_sorted, get-from_entries, get-insert, get-entries, entries-insert, len-entries, len-empty, same_map}
+use Rattle.std.specs.FinMap.{FinMap, IsAntisymmetric, get, insert, empty, entries, entries_sorted, from_entries, find, put, is_sorted, get-from_entries, get-insert, get-entries, entries-insert, len-entries, len-empty, same_map, nat_cmp-IsAntisymmetric}
 use Rattle.std.specs.FinMap as finite
 use Rattle.std.specs.FinMap.Entries.{by_order, below_all}
 use Rattle.std.proofs.lemmas.List.Sums.{sum_by-cons}
@@ -147,3 +147,49 @@ module _ {K X : Type 0} (R : K → K → Ordering) (total : IsTotalOrder R) wher
       mapped : (es : List (K × X)) → length (values_of es) ≡ length es
       mapped [] = refl
       mapped (e ∷ es) = ap suc (mapped es)
+
+-- ---- sums over two maps, of which one has each key of the other
+module _ {X Y : Type 0} (f : X → ℕ) (g : Y → ℕ) where
+  -- each entry has a partner that is as large
+  abbrev Partner : List (ℕ × Y) → ℕ × X → Type 0
+  Partner fs e = (y : Y) × (find nat_cmp e.0 fs ≡ Some y) × (f e.1 ≤ g y)
+
+  past : (d : ℕ × Y) (fs : List (ℕ × Y)) (q : ℕ) → nat_cmp d.0 q ≡ Less → find nat_cmp q (d ∷ fs) ≡ find nat_cmp q fs
+  past d fs q less = ap (λ (o : Ordering). cond (is_eq o) (Some d.1) (find nat_cmp q fs)) (nat_cmp_total.antisymm q d.0 ∙ ap ordering_reverse less)
+
+  all_past : (d : ℕ × Y) (fs : List (ℕ × Y)) (es : List (ℕ × X)) → T (below_all nat_cmp d.0 es) → AllByRecursion (Partner (d ∷ fs)) es → AllByRecursion (Partner fs) es
+  all_past d fs [] below all = tt
+  all_past d fs (e ∷ es) below all =
+      let p = parts (is_lt (nat_cmp d.0 e.0)) (below_all nat_cmp d.0 es) below in
+      ((all.0.0, sym (past d fs e.0 (less_of (nat_cmp d.0 e.0) p.0)) ∙ all.0.1, all.0.2), all_past d fs es p.1 all.1)
+
+  within : (es : List (ℕ × X)) (fs : List (ℕ × Y)) → T (is_sorted nat_cmp es) → T (is_sorted nat_cmp fs) → AllByRecursion (Partner fs) es → sum_by f (values_of es) ≤ sum_by g (values_of fs)
+  within [] fs sorted other all = omega arith
+  within (e ∷ es) [] sorted other all = absurd (let none : None ≡ Some all.0.0 = all.0.1 in cc)
+  within (e ∷ es) (d ∷ fs) sorted other all =
+      let p = parts (below_all nat_cmp e.0 es) (is_sorted nat_cmp es) sorted in
+      let q = parts (below_all nat_cmp d.0 fs) (is_sorted nat_cmp fs) other in
+      let more = sum_by-cons g d.1 (values_of fs) in
+      elim (nat_cmp e.0 d.0) as (λ o. nat_cmp e.0 d.0 ≡ o → sum_by f (values_of (e ∷ es)) ≤ sum_by g (values_of (d ∷ fs))) [
+        | Less ↦ λ less.
+            let none : find nat_cmp e.0 (d ∷ fs) ≡ None = missing nat_cmp nat_cmp_total e.0 (d ∷ fs) (subst (λ (o : Ordering). T (is_lt o && below_all nat_cmp e.0 fs)) (sym less) (below_less nat_cmp nat_cmp_total e.0 d.0 fs less q.0)) in
+            absurd (let some = all.0.1 in let clash : None ≡ Some all.0.0 = sym none ∙ some in cc)
+        | Equal ↦ λ equal.
+            let same : e.0 ≡ d.0 = nat_cmp-IsAntisymmetric e.0 d.0 equal in
+            let here : d.1 ≡ all.0.0 = one_of d.1 all.0.0 (sym (ap (λ (o : Ordering). cond (is_eq o) (Some d.1) (find nat_cmp e.0 fs)) equal) ∙ all.0.1) in
+            let first : f e.1 ≤ g d.1 = subst (λ (y : Y). f e.1 ≤ g y) (sym here) all.0.2 in
+            let rest = within es fs p.1 q.1 (all_past d fs es (subst (λ (n : ℕ). T (below_all nat_cmp n es)) same p.0) all.1) in
+            let sum = sum_by-cons f e.1 (values_of es) in
+            omega (arith, first, rest, sum, more)
+        | Greater ↦ λ greater.
+            let less : nat_cmp d.0 e.0 ≡ Less = nat_cmp_total.antisymm d.0 e.0 ∙ ap ordering_reverse greater in
+            let rest = within (e ∷ es) fs sorted q.1 (all_past d fs (e ∷ es) (subst (λ (o : Ordering). T (is_lt o && below_all nat_cmp d.0 es)) (sym less) (below_less nat_cmp nat_cmp_total d.0 e.0 es less p.0)) all) in
+            omega (arith, rest, more)
+      ] refl
+
+  pub sums_within : (a : FinMap nat_cmp X) (b : FinMap nat_cmp Y) → ((k : ℕ) (x : X) → get a k ≡ Some x → (y : Y) × (get b k ≡ Some y) × (f x ≤ g y)) → sum_by f (finite.values a) ≤ sum_by g (finite.values b)
+  sums_within a b each = within (entries a) (entries b) (entries_sorted a) (entries_sorted b) (partners (entries a) (each_found nat_cmp nat_cmp_total (entries a) (entries_sorted a)))
+    where
+      partners : (es : List (ℕ × X)) → AllByRecursion (λ e. find nat_cmp e.0 (entries a) ≡ Some e.1) es → AllByRecursion (Partner (entries b)) es
+      partners [] all = tt
+      partners (e ∷ es) all = let y = each e.0 e.1 (get-entries a e.0 ∙ all.0) in ((y.0, sym (get-entries b e.0) ∙ y.1, y.2), partners es all.1)

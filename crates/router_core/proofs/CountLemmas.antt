@@ -13,6 +13,7 @@ use Rattle.in_chain.specs.Chains.{Chained, row_count, turns_left, walk_turns}
 use Rattle.in_chain.specs.Laws.{TurnsAreBounded, TurnsAreLeft}
 use Rattle.link_region.proofs.RegionLemmas.{by_bool}
 use Rattle.peer_side.specs.Peers.{Chains, lost_of, lost_in, left_in, rows_in}
+use Rattle.peer_side.proofs.CountLemmas.{left_below, lost_below}
 use Rattle.peer_side.proofs.MapLemmas.{sum_none, one_of_sum, all_values, values_length}
 use Rattle.rib_tree.specs.Trees.{Treed, branch_of, tree_count}
 use Rattle.rib_tree.proofs.RestLemmas.{no_rows_left}
@@ -45,21 +46,6 @@ tree_spends f m m' chains live fewer capped = record { falls = less; rises = ris
     rises Nh = rises_to f.most (counts m' Nh) (counts m Nh) capped
 
 -- ---- how many turns a phase takes at most
-left_among : TurnsAreBounded → (cs : List Chained) → sum_by turns_left cs ≤ 2 * (sum_by row_count cs + length cs)
-left_among law [] = omega arith
-left_among law (c ∷ cs) =
-    let here = law c in
-    let rest = left_among law cs in
-    let turns = sum_by-cons turns_left c cs in
-    let rows = sum_by-cons row_count c cs in
-    omega (arith, here, rest, turns, rows)
-
-left_below : TurnsAreBounded → (a : Chains) → left_in a ≤ 2 * (rows_in a + tables.len a)
-left_below law a = let all = left_among law (tables.values a) in let size = values_length nat_cmp nat_cmp_total a in omega (arith, all, size)
-
-lost_below : (a : Chains) → lost_in a ≤ rows_in a
-lost_below a = sum_by-le-sum_by lost_of row_count (tables.values a) (λ c. omega arith)
-
 pub counts_below : TurnsAreBounded → (m : Moment) (r : Phase) → Stands m → counts m r ≤ phase_bound r m
 counts_below law m Rdel stands = omega arith
 counts_below law m Del stands = lost_below m.chains

@@ -26,7 +26,7 @@ use Rattle.router_core.specs.Lives.{live_state}
 use Rattle.router_core.specs.Stands.{IsSilent, PeerStands, Stands, HopsCounted, open_session}
 use Rattle.router_core.specs.Turns.{FeedsAll, journal_lines}
 use Rattle.router_core.specs.Works.{Pushes, IsUpAt, Keeps, HaveFed, SettlesPeer}
-use Rattle.router_core.proofs.WeldLemmas.{fallen_at, weld_after, weld_keeps, adds_both}
+use Rattle.peer_side.proofs.WeldLemmas.{fallen_at, weld_after, weld_keeps, adds_both}
 use Rattle.router_core.proofs.HopLemmas.{falls_lead, hops_fall}
 use Rattle.live_state.proofs.AdmittedLemmas.{routes_twice}
 use Rattle.peer_side.proofs.MapLemmas.{one_of as one_peer}

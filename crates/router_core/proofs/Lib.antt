@@ -21,10 +21,8 @@ pub mod ProtocolLosses
 pub mod RouteTurns
 pub mod RouteRoom
 pub mod RouteSteps
-pub mod PrintedHops
 pub mod PrintedTurns
 pub mod PrintedBlocks
-pub mod WeldLemmas
 pub mod HopLemmas
 pub mod MostLemmas
 pub mod HopTurns

@@ -1,15 +1,9 @@
 -- How many turns next hops take at most, whatever became stale.
-use Rattle.std.proofs.Common.{◌≡◌, ℕ, ◌+◌, ◌*◌, ◌≤◌, Bool, true, false, ◌&&◌, cond, List, [], ◌∷◌, length, Option, Some, None, is_some, IsSome, refl, sym, ap, subst, ◌∙◌, arith}
-use Rattle.std.specs.Prelude.{T}
-use Rattle.std.specs.Ordering.{nat_cmp, is_eq, is_lt, ordering_reverse}
-use Rattle.std.specs.declared.cmp.Ordering.{Ordering}
-use Rattle.std.specs.declared.cmp.Ordering.TheVariants.{Less, Equal, Greater}
+use Rattle.std.proofs.Common.{◌≡◌, ℕ, ◌+◌, ◌*◌, ◌≤◌, true, false, List, [], ◌∷◌, length, Option, Some, None, is_some, IsSome, refl, sym, ap, subst, ◌∙◌, arith}
+use Rattle.std.specs.Ordering.{nat_cmp}
 use Rattle.std.specs.Cmp.{nat_cmp_total}
-use Rattle.std.specs.Map.{values_of}
-use Rattle.std.specs.List.{AllByRecursion, sum_by}
+use Rattle.std.specs.List.{sum_by}
 use Rattle.std.specs.FinMap as tables
-use Rattle.std.specs.FinMap.{FinMap, entries, entries_sorted, find, is_sorted, get-entries, nat_cmp-IsAntisymmetric}
-use Rattle.std.specs.FinMap.Entries.{below_all}
 use Rattle.std.proofs.lemmas.List.Sums.{sum_by-cons}
 use Rattle.addr4.specs.Prefixes.{Network}
 use Rattle.bgp_attr.specs.declared.attrs.Attrs.{Attrs}
@@ -22,78 +16,13 @@ use Rattle.in_chain.proofs.TurnLemmas.{candidates_are_counted, filtered_rows_are
 use Rattle.hop_side.specs.Resolvers.{Resolvers, resolver_at, known_of, known_in, left_in, walks_of, walks_in}
 use Rattle.hop_side.proofs.LawLemmas.{turns_bounded}
 use Rattle.hop_side.proofs.FewLemmas.{known_are_few}
-use Rattle.hop_side.proofs.MapLemmas.{all_entries}
 use Rattle.peer_side.specs.Peers.{Chains, chain_at, put_chain, filt_at, filt_by, lost_in, rows_in}
-use Rattle.peer_side.proofs.MapLemmas.{one_of, sum_replaced, values_length}
+use Rattle.peer_side.proofs.MapLemmas.{sum_replaced, sums_within, values_length}
 use Rattle.peer_side.proofs.PutLemmas.{put_lost, put_size}
 use Rattle.router_core.specs.declared.router.Phase.TheVariants.{Nh}
 use Rattle.router_core.specs.Moments.{Moment, with_chains}
 use Rattle.router_core.specs.Phases.{beyond_by, beyonds, counts, most_of}
 use Rattle.router_core.specs.Stands.{Stands, EachResolver, SameResolvers, HopsCounted}
-
--- ---- sums over two maps, of which one has each key of the other
-parts : (a b : Bool) → T (a && b) → T a × T b
-parts true b p = (tt, p)
-parts false b p = absurd p
-
-less_of : (o : Ordering) → T (is_lt o) → o ≡ Less
-less_of Less p = refl
-less_of Equal p = absurd p
-less_of Greater p = absurd p
-
-module _ {X Y : Type 0} (f : X → ℕ) (g : Y → ℕ) where
-  -- each entry has a partner that is as large
-  abbrev Partner : List (ℕ × Y) → ℕ × X → Type 0
-  Partner fs e = (y : Y) × (find nat_cmp e.0 fs ≡ Some y) × (f e.1 ≤ g y)
-
-  past : (d : ℕ × Y) (fs : List (ℕ × Y)) (q : ℕ) → nat_cmp d.0 q ≡ Less → find nat_cmp q (d ∷ fs) ≡ find nat_cmp q fs
-  past d fs q less = ap (λ (o : Ordering). cond (is_eq o) (Some d.1) (find nat_cmp q fs)) (nat_cmp_total.antisymm q d.0 ∙ ap ordering_reverse less)
-
-  all_past : (d : ℕ × Y) (fs : List (ℕ × Y)) (es : List (ℕ × X)) → T (below_all nat_cmp d.0 es) → AllByRecursion (Partner (d ∷ fs)) es → AllByRecursion (Partner fs) es
-  all_past d fs [] below all = tt
-  all_past d fs (e ∷ es) below all =
-      let p = parts (is_lt (nat_cmp d.0 e.0)) (below_all nat_cmp d.0 es) below in
-      ((all.0.0, sym (past d fs e.0 (less_of (nat_cmp d.0 e.0) p.0)) ∙ all.0.1, all.0.2), all_past d fs es p.1 all.1)
-
-  below_less : {Z : Type 0} (x y : ℕ) (es : List (ℕ × Z)) → nat_cmp x y ≡ Less → T (below_all nat_cmp y es) → T (below_all nat_cmp x es)
-  below_less x y [] less below = tt
-  below_less x y (e ∷ es) less below =
-      let p = parts (is_lt (nat_cmp y e.0)) (below_all nat_cmp y es) below in
-      subst (λ (o : Ordering). T (is_lt o && below_all nat_cmp x es)) (sym (nat_cmp_total.trans x y e.0 less (less_of (nat_cmp y e.0) p.0))) (below_less x y es less p.1)
-
-  missing : (k : ℕ) (fs : List (ℕ × Y)) → T (below_all nat_cmp k fs) → find nat_cmp k fs ≡ None
-  missing k [] below = refl
-  missing k (e ∷ es) below =
-      let p = parts (is_lt (nat_cmp k e.0)) (below_all nat_cmp k es) below in
-      ap (λ (o : Ordering). cond (is_eq o) (Some e.1) (find nat_cmp k es)) (less_of (nat_cmp k e.0) p.0) ∙ missing k es p.1
-
-  within : (es : List (ℕ × X)) (fs : List (ℕ × Y)) → T (is_sorted nat_cmp es) → T (is_sorted nat_cmp fs) → AllByRecursion (Partner fs) es → sum_by f (values_of es) ≤ sum_by g (values_of fs)
-  within [] fs sorted other all = omega arith
-  within (e ∷ es) [] sorted other all = absurd (let none : None ≡ Some all.0.0 = all.0.1 in cc)
-  within (e ∷ es) (d ∷ fs) sorted other all =
-      let p = parts (below_all nat_cmp e.0 es) (is_sorted nat_cmp es) sorted in
-      let q = parts (below_all nat_cmp d.0 fs) (is_sorted nat_cmp fs) other in
-      let more = sum_by-cons g d.1 (values_of fs) in
-      elim (nat_cmp e.0 d.0) as (λ o. nat_cmp e.0 d.0 ≡ o → sum_by f (values_of (e ∷ es)) ≤ sum_by g (values_of (d ∷ fs))) [
-        | Less ↦ λ less.
-            let none : find nat_cmp e.0 (d ∷ fs) ≡ None = missing e.0 (d ∷ fs) (subst (λ (o : Ordering). T (is_lt o && below_all nat_cmp e.0 fs)) (sym less) (below_less e.0 d.0 fs less q.0)) in
-            absurd (let some = all.0.1 in let clash : None ≡ Some all.0.0 = sym none ∙ some in cc)
-        | Equal ↦ λ equal.
-            let same : e.0 ≡ d.0 = nat_cmp-IsAntisymmetric e.0 d.0 equal in
-            let here : d.1 ≡ all.0.0 = one_of d.1 all.0.0 (sym (ap (λ (o : Ordering). cond (is_eq o) (Some d.1) (find nat_cmp e.0 fs)) equal) ∙ all.0.1) in
-            let first : f e.1 ≤ g d.1 = subst (λ (y : Y). f e.1 ≤ g y) (sym here) all.0.2 in
-            let rest = within es fs p.1 q.1 (all_past d fs es (subst (λ (n : ℕ). T (below_all nat_cmp n es)) same p.0) all.1) in
-            let sum = sum_by-cons f e.1 (values_of es) in
-            omega (arith, first, rest, sum, more)
-        | Greater ↦ λ greater.
-            let less : nat_cmp d.0 e.0 ≡ Less = nat_cmp_total.antisymm d.0 e.0 ∙ ap ordering_reverse greater in
-            let rest = within (e ∷ es) fs sorted q.1 (all_past d fs (e ∷ es) (subst (λ (o : Ordering). T (is_lt o && below_all nat_cmp d.0 es)) (sym less) (below_less d.0 e.0 es less p.0)) all) in
-            omega (arith, rest, more)
-      ] refl
-
-  pub sums_within : (a : FinMap nat_cmp X) (b : FinMap nat_cmp Y) → ((k : ℕ) (x : X) → tables.get a k ≡ Some x → (y : Y) × (tables.get b k ≡ Some y) × (f x ≤ g y)) → sum_by f (tables.values a) ≤ sum_by g (tables.values b)
-  sums_within a b each = within (entries a) (entries b) (entries_sorted a) (entries_sorted b)
-      (all_entries nat_cmp nat_cmp_total (λ k x. Partner (entries b) (k, x)) a (λ k x at. let y = each k x at in (y.0, sym (get-entries b k) ∙ y.1, y.2)))
 
 -- ---- next hops, and the rows of their peers
 chain_by : (o : Option Chained) (p : Option (Resolving Metric)) → is_some p ≡ is_some o → IsSome p → (c : Chained) × (o ≡ Some c)

@@ -112,10 +112,7 @@ pub record BeginsWith (k : ℕ) (a a' : Resolvers) : Type 0 where
 pub record BeginsHops (k : ℕ) (a a' : Resolvers) (before now : Journaled) : Type 0 where
   pub after : a' ≡ put_resolver k (nothing_known k) a
   pub lines : now ≡ with_entries before (hop_begins k)
-  pub leads : (uppers : PeerRows) → uppers k ≡ no_rows → LeadsRes (hop_links a uppers) (hop_begins k) (hop_links a' uppers)
-  pub counted : (uppers : PeerRows) → uppers k ≡ no_rows → AllCounted uppers a → AllCounted uppers a'
-  pub agree : (r : Registry Interior) → HasNoInterest k r → AllAgree a r → AllAgree a' r
-  pub sound : IsHops a'
+  pub begins : BeginsWith k a a'
 
 module _ (m : Moment) (me : Speaker) (k : ℕ) (words : Speaker) (is_local : m.declared.speaker ≡ Some me) (stands : Stands m) (absent : peer_at k m.declared.peers ≡ None) where
   abbrev fresh : Chained
@@ -196,7 +193,7 @@ peer_declared m v me k words after p cs hs before j now view stands admitted loc
       hop.lines ∙ ap (λ (x : Journaled). with_entries x (hop_begins k)) lines ∙ with_entries_append before (begin_entries k) (hop_begins k),
       subst (λ (n : Moment). HasStepped v (events.Peer k words) 0 n (journal_lines (begin_entries k ++ hop_begins k))) (sym is)
           (peer_stepped v me k words (sym local) (subst Stands (sym view) stands) absent (subst (λ (x : Chains). LeadsIn Inward (peer_links v.chains) (begin_entries k) (peer_links x)) chains leads) (subst IsPeers chains peers)
-          (subst (λ (x : Resolvers). BeginsWith k v.hops x) hop.after (record { leads = hop.leads; counted = hop.counted; agree = hop.agree; sound = hop.sound }))),
+          (subst (λ (x : Resolvers). BeginsWith k v.hops x) hop.after hop.begins)),
     )
   where
     absent : peer_at k v.declared.peers ≡ None

@@ -27,7 +27,7 @@ use Rattle.router_core.specs.Stands.{IsSilent, PeerStands, Stands, HopsCounted, 
 use Rattle.router_core.specs.Phases.{Frame, counts, most_of, rise, risen, tree_lost, Spends}
 use Rattle.router_core.specs.Turns.{IsOfPeers, IsPeerTurn, IsTurn, sent_of, has_work, phase_of, journal_lines}
 use Rattle.router_core.specs.Works.{IsUnit, Comes, SettlesPeer}
-use Rattle.router_core.proofs.WeldLemmas.{fallen_at, weld_after, weld_keeps, nears_weld, adds_both}
+use Rattle.peer_side.proofs.WeldLemmas.{fallen_at, weld_after, weld_keeps, nears_weld, adds_both}
 use Rattle.router_core.proofs.HopLemmas.{falls_lead, hops_fall}
 use Rattle.router_core.proofs.PhaseLemmas.{rises_to}
 use Rattle.router_core.proofs.MostLemmas.{capped, most_less}

@@ -56,7 +56,7 @@ use Rattle.nexthop_known.specs.declared.answer.Hop.{Hop}
 use Rattle.nexthop_resolver.specs.declared.rows.Metric.{Metric}
 use Rattle.nexthop_resolver.specs.Resolving.{Resolving, nothing_known}
 use Rattle.hop_side.specs.Resolvers.{resolver_at, link_by, hop_links, metric_rows}
-use Rattle.router_core.proofs.PrintedHops.{AllHaveMetrics, rows_print, metrics_put}
+use Rattle.journal_laws.proofs.PrintedHops.{AllHaveMetrics, rows_print, metrics_put}
 use Rattle.peer_side.specs.Peers.{chain_at, filt_by, filt_at, overdue_at, links_by}
 use Rattle.journal_text.specs.Links.{owner_of}
 use Rattle.peer_side.proofs.PutLemmas.{put_each}

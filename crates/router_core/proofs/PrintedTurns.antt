@@ -55,9 +55,9 @@ use Rattle.router_core.specs.Moments.{Moment, with_chains, with_hops}
 use Rattle.router_core.specs.Blocks.{RunsFirst}
 use Rattle.live_state.specs.Messages.{plain}
 use Rattle.router_core.specs.Turns.{journal_lines, Resolves, Invalidates, FallsPeer, FeedsAll, fib_entries, FallsRoute, IsPeerTurn, IsHopTurn, IsRouteTurn, IsTurn, Turns, Runs, RunsPhase, RunsAll}
-use Rattle.router_core.proofs.WeldLemmas.{fallen_at, weld_lines, weld_after}
+use Rattle.peer_side.proofs.WeldLemmas.{fallen_at, weld_lines, weld_after}
 use Rattle.router_core.proofs.RouteLemmas.{keeps_up}
-use Rattle.router_core.proofs.PrintedHops.{AllHaveMetrics, rows_print, present_fit, metrics_kept, metrics_turned, metrics_reached, metrics_put}
+use Rattle.journal_laws.proofs.PrintedHops.{AllHaveMetrics, rows_print, present_fit, metrics_kept, metrics_turned, metrics_reached, metrics_put}
 use Rattle.rib_tree.proofs.TreeParts.{put_all}
 
 -- where no protocol has lost its routes more often than so

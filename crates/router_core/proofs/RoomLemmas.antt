@@ -21,7 +21,7 @@ use Rattle.router_core.specs.Stands.{Stands, EachChain}
 use Rattle.router_core.specs.Turns.{Turns}
 use Rattle.router_core.specs.Blocks.{RunsFirst}
 use Rattle.router_core.specs.Works.{HasDrained, HasRoom}
-use Rattle.router_core.proofs.WeldLemmas.{weld_after}
+use Rattle.peer_side.proofs.WeldLemmas.{weld_after}
 use Rattle.router_core.proofs.KeepLemmas.{keeps_none, gives_none}
 
 -- the chain after turns of a stage, which may have gone

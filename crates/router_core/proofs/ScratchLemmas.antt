@@ -1,5 +1,5 @@
 -- The links that no work holds up are what the live state alone asks for.
-use Rattle.std.proofs.Common.{◌≡◌, ℕ, ◌==◌, ◌&&◌, Bool, true, false, cond, List, [], ◌∷◌, Option, Some, None, is_some, nat_eq, refl, sym, ap, ◌∙◌, arith, zero, suc}
+use Rattle.std.proofs.Common.{◌≡◌, ℕ, ◌==◌, ◌&&◌, Bool, true, false, cond, List, [], ◌∷◌, Option, Some, None, is_some, nat_eq, refl, sym, ap, ◌∙◌, arith}
 use Rattle.std.specs.Prelude.{option_map}
 use Rattle.std.specs.FinMap as tables
 use Rattle.bgp_attr.specs.declared.attrs.Attrs.{Attrs}
@@ -33,10 +33,11 @@ use Rattle.rib_merge.specs.Forwards.{forwarded}
 use Rattle.router_core.specs.declared.router.Phase.TheVariants as phases
 use Rattle.peer_side.specs.Peers.{chain_at, links_by, filt_by, filt_at, routes_of, rules_of, has_turn_in}
 use Rattle.live_state.specs.Lives.{Routes, Interiors}
-use Rattle.live_state.specs.Decided.{live_rows, judged_rows, least_rows, origins, since_local, prefix_of, or_else, longest_within, with_metric_of, resolved_row, resolved_rows}
+use Rattle.live_state.specs.Decided.{live_rows, judged_rows, least_rows, origins, since_local, with_metric_of, resolved_row, resolved_rows}
 use Rattle.addr4.specs.Prefixes.{Network}
 use Rattle.bgp_attr.specs.declared.route.Route.{Route}
-use Rattle.register_interest.specs.Covers.{keyed_or, longest, longest_to}
+use Rattle.register_interest.specs.Covers.{longest}
+use Rattle.live_state.proofs.LongestLemmas.{match_is}
 use Rattle.nexthop_resolver.specs.declared.rows.Metric.{Metric}
 use Rattle.nexthop_resolver.specs.Kept.{route_hop, metric_of, with_metric}
 use Rattle.nexthop_resolver.specs.Resolving.{Resolving}
@@ -124,30 +125,17 @@ module _ (m : Moment) (stands : Stands m) where
   lost_exact proto n rest (Some me) = ap (option_map interior_rows) (no_link (routes_in proto) n (branch_of proto m.tree).tables.deletions (rest (Rdel proto n) (refl, refl)))
 
   -- ---- next hops
-  found_is : (rows : Rows Interior) (a n : ℕ) → option_map (λ r. r.1) (longest_to 32 rows a n) ≡ longest_within rows a n
-  found_is rows a zero = by_row (rows (prefix_of a 0))
-    where
-      by_row : (o : Option Interior) → option_map (λ r. r.1) (keyed_or (prefix_of a 0) o None) ≡ o
-      by_row None = refl
-      by_row (Some row) = refl
-  found_is rows a (suc n) = by_row (rows (prefix_of a (suc n))) (found_is rows a n)
-    where
-      by_row : (o : Option Interior) → option_map (λ r. r.1) (longest_to 32 rows a n) ≡ longest_within rows a n → option_map (λ r. r.1) (keyed_or (prefix_of a (suc n)) o (longest_to 32 rows a n)) ≡ or_else o (longest_within rows a n)
-      by_row None rest = rest
-      by_row (Some row) rest = refl
-
   by_match : (r : Route) (found : Option (Network × Interior)) → with_metric r (metric_of found) ≡ with_metric_of r (option_map (λ x. x.1) found)
   by_match r None = refl
   by_match r (Some x) = refl
 
   -- the rows that the longest matches make are those decided from scratch
   resolved_is : (int : Rows Interior) (upper : Rows Route) → res_from (longest 32 int) upper ≡ resolved_rows int upper
-  unfolding longest
   resolved_is int upper i q = each (upper q) i
     where
       each : (o : Option Route) → matched_row (longest 32 int) o ≡ resolved_row int o
       each None = refl
-      each (Some r) = by_match r (longest_to 32 int (route_hop r) 32) ∙ ap (with_metric_of r) (found_is int (route_hop r) 32)
+      each (Some r) = by_match r (longest 32 int (route_hop r)) ∙ ap (with_metric_of r) (match_is int (route_hop r))
 
   res_rests : (k : ℕ) → IsAtRest m (Res k) → (s : Resolving Metric) → resolver_at k m.hops ≡ Some s → metric_rows s (filt_at m.chains k) ≡ resolved_rows (least_rows routes_in (origins Int)) (filt_at m.chains k)
   res_rests k rest s at =

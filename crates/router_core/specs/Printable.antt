@@ -1,17 +1,14 @@
 -- What stands between two steps can be printed and read back: the declared peers, each row, live or lost, and the rules of filters.
 use Rattle.std.specs.Prelude.{◌≡◌, ℕ, List, Some}
 use Rattle.std.specs.List.{AllByRecursion}
-use Rattle.std.specs.FinMap as tables
-use Rattle.nexthop_known.specs.declared.answer.Hop.{Hop}
 use Rattle.nexthop_resolver.specs.declared.rows.Metric.{Metric}
 use Rattle.nexthop_resolver.specs.Resolving.{Resolving}
 use Rattle.hop_side.specs.Resolvers.{resolver_at}
-use Rattle.journal_check.specs.Laws.{IsNumberIfAny}
 use Rattle.event_text.specs.Declarations.{Declaration, IsDeclaration}
 use Rattle.journal_text.specs.declared.line.Line.{Line}
 use Rattle.journal_laws.specs.Peers.{neighbours}
 use Rattle.journal_laws.specs.Printed.{IsPrinted}
-use Rattle.journal_laws.specs.Standing.{AreTablesOf, IsInteriorRow, IsPrintableChain}
+use Rattle.journal_laws.specs.Standing.{AreTablesOf, IsInteriorRow, IsPrintableChain, HaveMetrics}
 use Rattle.in_chain.specs.Chains.{Chained}
 use Rattle.peer_side.specs.Peers.{chain_at}
 use Rattle.rib_route.specs.declared.Proto.{Proto}
@@ -22,13 +19,6 @@ use Rattle.live_state.specs.Messages.{plain}
 -- each line can be printed and read back, where the peers are those that are declared
 abbrev pub ArePrinted : Declaration → List Line → Type 0
 ArePrinted d said = AllByRecursion (IsPrinted (neighbours d)) said
-
--- the metrics of the answers about a next hop, that in force and the fresh one, are in their range
-abbrev pub HasMetrics : Hop Metric → Type 0
-HasMetrics h = IsNumberIfAny h.in_force.igp × IsNumberIfAny h.fresh.igp
-
-abbrev pub HaveMetrics : Resolving Metric → Type 0
-HaveMetrics s = (a : ℕ) (h : Hop Metric) → tables.get s.known a ≡ Some h → HasMetrics h
 
 -- The declarations; each peer's chain, whose rows, live or lost, the peer said; the routes of each protocol, live or lost; and the
 -- answers about next hops.

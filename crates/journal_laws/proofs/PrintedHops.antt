@@ -33,7 +33,7 @@ use Rattle.link_region.proofs.RegionLemmas.{by_bool}
 use Rattle.hop_side.specs.Resolvers.{Resolvers, resolver_at, put_resolver, metric_rows, rows_by}
 use Rattle.hop_side.specs.Steps.{is_listed, reached_hop, ReachedAt, AllReached}
 use Rattle.hop_side.proofs.PutLemmas.{put_each}
-use Rattle.router_core.specs.Printable.{HasMetrics, HaveMetrics}
+use Rattle.journal_laws.specs.Standing.{HasMetrics, HaveMetrics}
 
 abbrev Known : Type 0
 Known = Hops Metric
