@@ -4,3 +4,4 @@ pub mod HalfLemmas
 pub mod RankLemmas
 pub mod NumberLemmas
 pub mod PartLemmas
+mod DigitLemmas

@@ -13,7 +13,7 @@ use Rattle.event_gen.specs.declared.drawn.Drawn.{Drawn}
 use Rattle.event_gen.specs.declared.drawn.Drawn.TheVariants as drawn
 use Rattle.event_gen.proofs.OctetLemmas.{announce_small, announce_long, withdraw_small, withdraw_long}
 use Rattle.event_gen.proofs.OpeningLemmas.{opening_read}
-use Rattle.event_gen.proofs.ReadingLemmas.{IsCount, host_is, up_read, down_read, idle_read, bgp_read, filter_read, add_read, del_read, work_read}
+use Rattle.event_gen.proofs.ReadingLemmas.{IsCount, host_is, up_read, down_read, idle_read, bgp_read, filter_read, add_read, del_read, fin_read, nh_read}
 
 -- ---- what is drawn
 
@@ -74,8 +74,8 @@ work_is_read : (task : Work) (n : ℕ) → IsWork task → n < 2 ^ 32 → IfSome
 unfolding IsWork event_words
 work_is_read works.ReadRib n h small = tt
 work_is_read (works.Out k) n h small = tt
-work_is_read (works.NextHops k) n h small = tt
-work_is_read (works.Filter k) n h small = work_read k n h small
+work_is_read (works.NextHops k) n h small = nh_read k n h small
+work_is_read (works.Filter k) n h small = fin_read k n h small
 
 is_read : (e : Drawn) → IsDrawn e → IfSome (meant e) (λ event. read_event (event_line e) ≡ Ok event)
 unfolding IsDrawn event_words

@@ -2,7 +2,7 @@
 use Rattle.std.proofs.Common.{◌≡◌, ℕ, ◌^◌, ◌<◌, ◌≤◌, Bool, true, false, cond, nat_eq, List, [], ◌∷◌, ◌++◌, length, Option, Some, None, Ok, refl, ap, ◌∙◌, arith, codes}
 use Rattle.std.proofs.lemmas.Bool.Decides.{nat_tests}
 use Rattle.std.specs.Fmt.{decimal}
-use Rattle.std.specs.Option.{option_map, option_and_then}
+use Rattle.std.specs.Option.{option_and_then}
 use Rattle.std.specs.Result.{result_ok}
 use Rattle.std.specs.Str.{bytes_eq}
 use Rattle.std.specs.List.{join_with_byte}
@@ -17,8 +17,9 @@ use Rattle.policy_rules.specs.declared.rule.Action.TheVariants.{Pref}
 use Rattle.policy_rules.specs.declared.rule.Verdict.TheVariants.{Accept}
 use Rattle.policy_rules.specs.Words.{◌>>=◌, verdict_of, setting_of}
 use Rattle.policy_rules.specs.Grammar.{rules_of, behind}
-use Rattle.journal_text.specs.declared.link.Task.TheVariants.{Fin}
-use Rattle.journal_text.specs.Names.{from_one as name_from_one, proto_of, name_number, task_from_parts, task_of_two, task_of}
+use Rattle.journal_text.specs.declared.link.Task.{Task}
+use Rattle.journal_text.specs.declared.link.Task.TheVariants.{Fin, Nh}
+use Rattle.journal_text.specs.Names.{from_one as name_from_one, proto_of, name_number, peer_task, task_from_parts, task_of_two, task_of}
 use Rattle.journal_check.specs.Laws.{IsPrefix}
 use Rattle.journal_check.specs.Readings.{◌>>=◌ as ◌>>>◌, as_printed, printed_prefix}
 use Rattle.journal_check.proofs.InkLemmas.{IsInk, all_append, ink_by, decimal_are, apart_alone}
@@ -124,17 +125,23 @@ name_told k h =
     let other : nat_eq k 0 ≡ false = grind (arith, nat_tests, h) in
     ap (option_and_then name_from_one) (number_told k (omega (arith, h))) ∙ ap (λ b. cond b None (Some k)) other
 
-task_told : (k : ℕ) → IsCount k → task_of (codes "fin." ++ decimal k) ≡ Some (Fin k)
-unfolding task_from_parts task_of_two
-task_told k h =
+fin_told : (k : ℕ) → IsCount k → task_of (codes "fin." ++ decimal k) ≡ Some (Fin k)
+unfolding task_from_parts task_of_two peer_task
+fin_told k h =
     ap (λ ps. task_from_parts (codes "fin" ∷ ps)) (apart_alone 46 (decimal k) (decimal_are (λ c. nat_eq c 46 ≡ false) not_dot k (omega (arith, h))))
-    ∙ ap (option_map (λ j. Fin j)) (name_told k h)
+    ∙ ap (option_and_then (λ j. Some (Fin j))) (name_told k h)
 
-work_told : (k n : ℕ) → IsCount k → n < 2 ^ 32 → event_of (codes "work" ∷ (codes "fin." ++ decimal k) ∷ decimal n ∷ []) ≡ Some (events.Work (Fin k) n)
+nh_told : (k : ℕ) → IsCount k → task_of (codes "nh." ++ decimal k) ≡ Some (Nh k)
+unfolding task_from_parts task_of_two peer_task
+nh_told k h =
+    ap (λ ps. task_from_parts (codes "nh" ∷ ps)) (apart_alone 46 (decimal k) (decimal_are (λ c. nat_eq c 46 ≡ false) not_dot k (omega (arith, h))))
+    ∙ ap (option_and_then (λ j. Some (Nh j))) (name_told k h)
+
+work_told : (word : List ℕ) (task : Task) (n : ℕ) → task_of word ≡ Some task → n < 2 ^ 32 → event_of (codes "work" ∷ word ∷ decimal n ∷ []) ≡ Some (events.Work task n)
 unfolding event_of named_event plain_event work_of
-work_told k n h small =
-    ap (λ o. o >>= λ t. number_of (decimal n) >>= λ m. Some (events.Work t m)) (task_told k h)
-    ∙ ap (λ o. o >>= λ m. Some (events.Work (Fin k) m)) (number_told n small)
+work_told word task n told small =
+    ap (λ o. o >>= λ t. number_of (decimal n) >>= λ m. Some (events.Work t m)) told
+    ∙ ap (λ o. o >>= λ m. Some (events.Work task m)) (number_told n small)
 
 -- ---- lines
 
@@ -173,12 +180,23 @@ del_read p h =
     (plain_by (codes "route") refl, (plain_by (codes "del") refl, (plain_by (codes "static") refl, (plain_prefix p h, tt)))) (omega arith)
     ∙ ap in_grammar (del_told p h)
 
-plain_task : (k : ℕ) → IsCount k → IsPlain (codes "fin." ++ decimal k)
-plain_task k h =
+plain_fin : (k : ℕ) → IsCount k → IsPlain (codes "fin." ++ decimal k)
+plain_fin k h =
     let number = plain_count k h in
     record { ink = all_append IsInk (codes "fin.") (decimal k) (ink_by (codes "fin.") refl) number.ink; some = omega arith; short = omega (arith, octet_short k (omega (arith, h))) }
 
-pub work_read : (k n : ℕ) → IsCount k → n < 2 ^ 32 → read_event (join_with_byte 32 (codes "work" ∷ (codes "fin." ++ decimal k) ∷ decimal n ∷ [])) ≡ Ok (events.Work (Fin k) n)
-work_read k n h small =
-    line_read (codes "work") ((codes "fin." ++ decimal k) ∷ decimal n ∷ []) (plain_by (codes "work") refl, (plain_task k h, (plain_decimal n small, tt))) (omega arith)
-    ∙ ap in_grammar (work_told k n h small)
+plain_nh : (k : ℕ) → IsCount k → IsPlain (codes "nh." ++ decimal k)
+plain_nh k h =
+    let number = plain_count k h in
+    record { ink = all_append IsInk (codes "nh.") (decimal k) (ink_by (codes "nh.") refl) number.ink; some = omega arith; short = omega (arith, octet_short k (omega (arith, h))) }
+
+work_read : (word : List ℕ) (task : Task) (n : ℕ) → IsPlain word → task_of word ≡ Some task → n < 2 ^ 32 → read_event (join_with_byte 32 (codes "work" ∷ word ∷ decimal n ∷ [])) ≡ Ok (events.Work task n)
+work_read word task n plain told small =
+    line_read (codes "work") (word ∷ decimal n ∷ []) (plain_by (codes "work") refl, (plain, (plain_decimal n small, tt))) (omega arith)
+    ∙ ap in_grammar (work_told word task n told small)
+
+pub fin_read : (k n : ℕ) → IsCount k → n < 2 ^ 32 → read_event (join_with_byte 32 (codes "work" ∷ (codes "fin." ++ decimal k) ∷ decimal n ∷ [])) ≡ Ok (events.Work (Fin k) n)
+fin_read k n h small = work_read (codes "fin." ++ decimal k) (Fin k) n (plain_fin k h) (fin_told k h) small
+
+pub nh_read : (k n : ℕ) → IsCount k → n < 2 ^ 32 → read_event (join_with_byte 32 (codes "work" ∷ (codes "nh." ++ decimal k) ∷ decimal n ∷ [])) ≡ Ok (events.Work (Nh k) n)
+nh_read k n h small = work_read (codes "nh." ++ decimal k) (Nh k) n (plain_nh k h) (nh_told k h) small

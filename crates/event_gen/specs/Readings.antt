@@ -1,7 +1,7 @@
 -- What the event language reads of the lines.
 use Rattle.std.specs.Prelude.{◌≡◌, ℕ, List, [], ◌∷◌, ◌++◌, map, Option, Some, None, IfSome, Ok, codes}
 use Rattle.rib_route.specs.declared.Proto.TheVariants.{Connected, Static}
-use Rattle.journal_text.specs.declared.link.Task.TheVariants.{Fin}
+use Rattle.journal_text.specs.declared.link.Task.TheVariants.{Fin, Nh}
 use Rattle.policy_rules.specs.declared.rule.Condition.TheVariants.{Any}
 use Rattle.policy_rules.specs.declared.rule.Action.TheVariants.{Pref}
 use Rattle.policy_rules.specs.declared.rule.Verdict.TheVariants.{Accept}
@@ -15,11 +15,11 @@ use Rattle.event_gen.specs.declared.drawn.Work.TheVariants as works
 use Rattle.event_gen.specs.declared.drawn.Drawn.{Drawn}
 use Rattle.event_gen.specs.declared.drawn.Drawn.TheVariants as drawn
 
--- turns of a task, where the language has its name: it has none of `rd.rib`, `out.K` and `nh.K` yet
+-- turns of a task, where the language has its name: it has none of `rd.rib` and `out.K` yet
 abbrev pub work_meant : Work → ℕ → Option Event
 work_meant works.ReadRib n = None
 work_meant (works.Out k) n = None
-work_meant (works.NextHops k) n = None
+work_meant (works.NextHops k) n = Some (events.Work (Nh k) n)
 work_meant (works.Filter k) n = Some (events.Work (Fin k) n)
 
 -- the event that a drawn one is to the language

@@ -13,6 +13,7 @@ use Rattle.link_change.proofs.RowLemmas.{same_function}
 use Rattle.policy_rules.specs.declared.rule.Rule.{Rule}
 use Rattle.pass_core.specs.Passed.{Walked}
 use Rattle.fanout_queue.specs.Readers.{unread_by}
+use Rattle.fanout_queue.proofs.Cases.{by_bool}
 use Rattle.journal_text.specs.declared.value.Value.{Value}
 use Rattle.journal_text.specs.declared.entry.Entry.{Entry}
 use Rattle.journal_text.specs.Links.{owner_of}
@@ -23,7 +24,6 @@ use Rattle.exit_side.specs.Exits.{no_exits, chain_at, links_by, busy_by, left_of
 use Rattle.exit_side.specs.Steps.{is_exit, beside}
 use Rattle.exit_side.specs.Laws.{StandsAtFirst, AreAmong, LeadsAnywhere, LeadsAnywhereWithBest, ExactWithoutWork, NoneLeftWithoutWork, TurnsAreBounded, LeftFollows}
 use Rattle.exit_side.proofs.MapLemmas.{no_entries, one_of_sum}
-use Rattle.exit_side.proofs.SwapLemmas.{by_bool}
 use Rattle.exit_side.proofs.CountLemmas.{none_idle, all_bounded, all_follow}
 use Rattle.exit_side.proofs.TaskLemmas.{entries_idle, idle_sum}
 

@@ -49,9 +49,6 @@ of_none P y is = absurd (cc)
 live_apart : (queued : Queued Route) (r s : ℕ) → IsSome (tables.get queued r) → tables.get queued s ≡ None → r ≢ s
 live_apart queued r s live none is = let gone : tables.get queued r ≡ None = ap (tables.get queued) is ∙ none in cc
 
-live_with : (queued : Queued Route) (reader : ℕ) → tables.get (tables.insert queued reader []) reader ≡ Some [] → IsSome (tables.get (tables.insert queued reader []) reader)
-live_with queued reader is = subst (λ u. IsSome u) (sym is) refl
-
 -- ---- a session begins
 module _ (law : OthersKeepStanding) (e : Exited) (me : Speaker) (peer : Neighbour) (session : ℕ) (rules : List Rule) (chain : OutChained) (queue : Queued Route) (sound : IsExits e) (absent : chain_at peer.number e ≡ None)
     (fresh : tables.get e.queue chain.reader ≡ None) (is : chain ≡ new_out (exit_to e.profile me peer) peer session chain.reader rules) (joined : queue ≡ tables.insert e.queue chain.reader [])

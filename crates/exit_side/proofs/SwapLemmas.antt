@@ -12,15 +12,10 @@ use Rattle.link_change.specs.declared.change.Change.{Change}
 use Rattle.link_change.specs.InOrder.{rows_before}
 use Rattle.fanout_queue.specs.Queues.{Queued}
 use Rattle.fanout_queue.specs.Readers.{unread_or_none, KeepsOtherReaders}
-use Rattle.fanout_queue.proofs.Cases.{same_number, other_number}
+use Rattle.fanout_queue.proofs.Cases.{by_bool, same_number, other_number}
 use Rattle.out_chain.specs.Chains.{OutChained, out_links, OutStands}
 use Rattle.out_chain.specs.Laws.{OthersKeepStanding}
 use Rattle.exit_side.specs.Exits.{Exited, chain_at, with_exit, without_exit, links_by, IsExit, IsExits, AllStand}
-
--- by a test, with what it came to
-pub by_bool : (b : Bool) (P : Bool → Type 0) → (b ≡ true → P true) → (b ≡ false → P false) → P b
-by_bool true P yes_so no_so = yes_so refl
-by_bool false P yes_so no_so = no_so refl
 
 equal_by : (m n : ℕ) → nat_eq m n ≡ true → m ≡ n
 equal_by m n e = grind (arith, nat_tests)

@@ -11,13 +11,13 @@ use Rattle.addr4.specs.Prefixes.{Network}
 use Rattle.bgp_attr.specs.declared.route.Route.{Route}
 use Rattle.fanout_queue.specs.Queues.{Queued}
 use Rattle.fanout_queue.specs.Readers.{unread_by}
+use Rattle.fanout_queue.proofs.Cases.{by_bool}
 use Rattle.out_chain.specs.Chains.{OutChained, has_out_work}
 use Rattle.exit_side.specs.Exits.{Exited, chain_at, busy_by, has_exit_work, IsExits, left_of, left_in}
 use Rattle.exit_side.specs.Tasks.{first_of, HaveReaders}
 use Rattle.exit_side.proofs.MapLemmas.{all_entries, sum_none, entries_in, read_in}
 use Rattle.bgp_attr.specs.declared.speaker.Profile.{Profile}
 use Rattle.exit_side.proofs.HeldLemmas.{held, seen}
-use Rattle.exit_side.proofs.SwapLemmas.{by_bool}
 use Rattle.exit_side.proofs.CountLemmas.{idle_none}
 
 abbrev Entries : Type 0

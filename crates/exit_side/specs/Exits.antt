@@ -71,7 +71,7 @@ abbrev pub exit_candidates : Exited → Candidates → Link → Candidates
 exit_candidates e best link = candidates_by e.queue best (chain_at (owner_of link) e) link
 
 -- ---- what holds between two calls
--- A chain stands under its peer's number, and its reader is one of the queue's.
+-- A chain stands under its peer's number; its messages are written as those of all are, and its reader is one of the queue's.
 pub record IsExit (e : Exited) (j : ℕ) (c : OutChained) : Type 0 where
   pub number : c.peer.number ≡ j
   pub profile : c.exit.profile ≡ e.profile

@@ -1,4 +1,5 @@
-//! The exits of all peers that are up, as the crates above see them: sessions begin and end, and rules are edited.
+//! The exits of all peers that are up, as the crates above see them: sessions begin and end, and
+//! rules are edited.
 
 ghost use Rattle.std.specs.Prelude.{◌≡◌, OnOk, IsSome, None};
 ghost use Rattle.std.specs.Option.{option_copied};
@@ -17,8 +18,9 @@ use std::alloc::Global;
 use std::collections::BTreeMap;
 use std::marker::Model;
 
-/// The outgoing chains of all peers that are up, and the queue that they read. Contracts see how messages are written, what each
-/// reader of the queue hasn't taken, and a finite map from the peers' numbers to their chains.
+/// The outgoing chains of all peers that are up, and the queue that they read. Contracts see how
+/// messages are written, what each reader of the queue hasn't taken, and a finite map from the
+/// peers' numbers to their chains.
 #[derive(Drop)]
 pub struct Exits {
     alloc: Global,
@@ -44,7 +46,8 @@ impl Model for Exits {
 }
 
 impl Exits {
-    /// No peer is up, and the queue has no reader. Messages are written by this profile. Takes no memory.
+    /// No peer is up, and the queue has no reader. Messages are written by this profile. Takes no
+    /// memory.
     pub fn new(alloc: Global, profile: Profile) -> Exits
         ensures { result ≡ no_exits profile }
     {
@@ -63,8 +66,8 @@ impl Exits {
         self.chains.get(&number)
     }
 
-    /// A session of a peer begins: `read.J.S` inherits `best`, `outf.J.S` and `adv.J.S` begin without rows. Nothing is sent, until
-    /// the walk to these rules comes by.
+    /// A session of a peer begins: `read.J.S` inherits `best`, `outf.J.S` and `adv.J.S` begin
+    /// without rows. Nothing is sent, until the walk to these rules comes by.
     pub fn begin(
         &mut self,
         me: &Speaker,
@@ -106,8 +109,8 @@ impl Exits {
         chain.stop(&mut self.queue, journal)
     }
 
-    /// The outgoing filter of a peer's session has new rules. They hold nowhere at first: turns bring them into force. Nothing
-    /// changes where the peer isn't up. Takes no memory.
+    /// The outgoing filter of a peer's session has new rules. They hold nowhere at first: turns
+    /// bring them into force. Nothing changes where the peer isn't up. Takes no memory.
     pub fn edit(&mut self, number: u32, rules: Rules)
         requires sound { IsExits self.old }
         ensures { EditsExit number rules self.old self.new }

@@ -1,5 +1,5 @@
-//! Laws of the side of the exits, for the proofs of the crates above. Each is a function that does nothing, whose contract is the
-//! law.
+//! Laws of the side of the exits, for the proofs of the crates above. Each is a function that does
+//! nothing, whose contract is the law.
 
 ghost use Rattle.bgp_attr.specs.declared.speaker.Profile.{Profile};
 ghost use Rattle.exit_side.specs.Exits.{no_exits};
@@ -12,28 +12,31 @@ pub fn nothing_at_first()
     ensures { (profile : Profile) → StandsAtFirst (no_exits profile) }
 {}
 
-/// What leads the links of the exits on leads any links on that have them among them, and `best` where a link inherits it.
+/// What leads the links of the exits on leads any links on that have them among them, and `best`
+/// where a link inherits it.
 pub fn leads_anywhere()
     ensures alone { LeadsAnywhere }
     ensures with_best { LeadsAnywhereWithBest }
 {}
 
-/// Where the exit of a peer has no work, the peer was sent exactly what its latest rules make of the rows of `best`.
+/// Where the exit of a peer has no work, the peer was sent exactly what its latest rules make of
+/// the rows of `best`.
 pub fn exact_without_work()
     ensures { ExactWithoutWork }
 {
     without_work_all_is_sent();
 }
 
-/// How many turns are left: none exactly without work, for each peer never more than the changes that the slowest reader hasn't
-/// taken and two walks, and no more where fewer candidates are left.
+/// How many turns are left: none exactly without work, for each peer never more than the changes
+/// that the slowest reader hasn't taken and two walks, and no more where fewer candidates are left.
 pub fn turns_are_left()
     ensures none { NoneLeftWithoutWork }
     ensures bounded { TurnsAreBounded }
     ensures follow { LeftFollows }
 {}
 
-/// What a reader of the queue that is no peer's takes, and that it joins or leaves, leaves the exits as they were.
+/// What a reader of the queue that is no peer's takes, and that it joins or leaves, leaves the
+/// exits as they were.
 pub fn strangers_read_on()
     ensures { StrangersReadOn }
 {

@@ -31,7 +31,8 @@ impl Exits {
         }
     }
 
-    /// Whether a link of a peer's exit is live: `read.J.S`, `outf.J.S` and `adv.J.S` of the session that is up; no other link is.
+    /// Whether a link of a peer's exit is live: `read.J.S`, `outf.J.S` and `adv.J.S` of the session
+    /// that is up; no other link is.
     pub fn live(&self, link: Link) -> bool
         ensures { (best : Rows Route) → result ≡ is_some (exit_links self.now best link) }
     {
@@ -41,7 +42,8 @@ impl Exits {
         }
     }
 
-    /// The row at a prefix of a link, over the rows of `best`; None where it has none. Memory where the row can't be copied.
+    /// The row at a prefix of a link, over the rows of `best`; None where it has none. Memory where
+    /// the row can't be copied.
     pub fn asked<U: Upstream<Row = Route>>(
         &self,
         link: Link,
@@ -58,8 +60,9 @@ impl Exits {
         chain.asked(link, &self.queue, best, prefix)
     }
 
-    /// The least candidate of a link that lies beyond a place: of `read.J.S` and `outf.J.S` those of `best`, and the prefixes of
-    /// the changes that the reader hasn't taken, some of which may have no row; of `adv.J.S` its rows.
+    /// The least candidate of a link that lies beyond a place: of `read.J.S` and `outf.J.S` those
+    /// of `best`, and the prefixes of the changes that the reader hasn't taken, some of which may
+    /// have no row; of `adv.J.S` its rows.
     pub fn next_candidate<U: Upstream<Row = Route>>(
         &self,
         link: Link,

@@ -12,8 +12,8 @@ use link_change::{Change, Turn, Upstream};
 use out_chain::a_session_stands;
 
 impl Exits {
-    /// A change of `best` joins the queue, once for all readers. No link of the exits changes yet. For want of memory nothing
-    /// changes.
+    /// A change of `best` joins the queue, once for all readers. No link of the exits changes yet.
+    /// For want of memory nothing changes.
     pub fn put(&mut self, change: Change<Route>) -> Result<(), Memory>
         requires sound { IsExits self.old }
         ensures put { OnOk result (PutsExit change self.old self.new) }
@@ -23,9 +23,9 @@ impl Exits {
         self.queue.put(change)
     }
 
-    /// One turn of the task `out.J` (`OutChain::unit`): where the reader has something to take, its first change goes down; else
-    /// the walk of the filter goes to the next candidate of `best`, or ends. Nothing exactly where there is no work; Quiet where no
-    /// change comes out on `adv.J.S`.
+    /// One turn of the task `out.J` (`OutChain::unit`): where the reader has something to take, its
+    /// first change goes down; else the walk of the filter goes to the next candidate of `best`, or
+    /// ends. Nothing exactly where there is no work; Quiet where no change comes out on `adv.J.S`.
     pub fn turn<U: Upstream<Row = Route>>(
         &mut self,
         number: u32,

@@ -17,7 +17,8 @@ use out_chain::OutChain;
 use std::collections::BTreeMap;
 
 impl Exits {
-    /// Whether the task of a peer's exit has work: its reader hasn't taken all, or the walk of its filter is on.
+    /// Whether the task of a peer's exit has work: its reader hasn't taken all, or the walk of its
+    /// filter is on.
     pub fn has_work(&self, number: u32) -> bool
         requires sound { IsExits self.now }
         ensures { result ≡ has_exit_work self.now number }

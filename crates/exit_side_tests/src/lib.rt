@@ -1,6 +1,7 @@
 //! A story of the side of the exits: sessions of two peers, one of which is slow.
 //!
-//! The crate that it is of has no tests of its own: a crate with tests is proved once more with them.
+//! The crate that it is of has no tests of its own: a crate with tests is proved once more with
+//! them.
 #![tactic(auto)]
 
 #[cfg(test)]

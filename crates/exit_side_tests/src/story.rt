@@ -1,5 +1,5 @@
-//! Two sessions are up while a local route comes. The one takes it at once, and has new rules; it is lost, and comes back. The other
-//! takes the route late, and is lost.
+//! Two sessions are up while a local route comes. The one takes it at once, and has new rules; it
+//! is lost, and comes back. The other takes the route late, and is lost.
 
 ghost use Rattle.std.specs.Prelude.{◌≡◌, OnOk};
 ghost use Rattle.std.specs.FinMap as map;
@@ -208,7 +208,8 @@ fn last(exits: &mut Exits, best: &Cache<Route>, journal: &mut Journal) -> Result
     work(exits, best, 2, journal)
 }
 
-/// The whole story: how many changes the slower peer hadn't taken, and who had work then and at the end.
+/// The whole story: how many changes the slower peer hadn't taken, and who had work then and at the
+/// end.
 fn follow(
     alloc: Global,
     exits: &mut Exits,
