@@ -40,7 +40,8 @@ def event_files(folder, sizes):
     for kind in events.KINDS:
         for size in sizes:
             files[kind, size] = open(os.path.join(folder, '%s-%d' % (kind, size)), 'w+b')
-            events.write(kind, size, files[kind, size])
+            each = size // 8 if kind in ('peers', 'best_lost') else size
+            events.write(kind, each, files[kind, size])
     return files
 
 

@@ -1,5 +1,5 @@
 #!/usr/bin/env python3
-"""Writes an event file: events.py KIND [--routes 200000] > FILE
+"""Writes an event file: events.py KIND [--routes 200000] [--peers 8] > FILE
 
 Kinds:
   table     peer 1 announces so many different prefixes, about five an UPDATE; then `idle`
@@ -10,6 +10,8 @@ Kinds:
   hops      the same as table over 1,000 next hops, each with an ospf route of its own
   kept      the same, then the route to one next hop goes over another interface, and `idle`: no answer changes
   moved     the same as hops, then the route to one next hop has another metric, and `idle`: a walk over every route
+  peers     so many peers announce the same prefixes, peer 1 by the shorter path; then `idle`
+  best_lost the same, then peer 1's session is lost, and `idle`: another route becomes the best at every prefix
 
 But for `hops` and what begins as it, the one next hop is in a connected network.
 
@@ -27,7 +29,7 @@ LENGTHS = [24] * 60 + [23] * 9 + [22] * 11 + [21] * 5 + [20] * 4 + [19] * 3 + [1
 LOCAL = 'local 65000 192.0.2.254 192.0.2.254'
 PEERS = ['peer 1 65001 192.0.2.1 192.0.2.1', 'peer 2 65002 192.0.2.2 192.0.2.2',
          'route add connected 192.0.2.0/24 direct eth0 1', 'up 1', 'up 2']
-KINDS = ('table', 'edit', 'loss', 'interior', 'lost', 'hops', 'kept', 'moved')
+KINDS = ('table', 'edit', 'loss', 'interior', 'lost', 'hops', 'kept', 'moved', 'peers', 'best_lost')
 NEAR = bytes([192, 0, 2, 1])
 HOPS = [bytes([172, 16, place // 250, 1 + place % 250]) for place in range(1000)]
 
@@ -50,8 +52,8 @@ def text(addr):
     return '.'.join(str(octet) for octet in addr)
 
 
-def attributes(rand, transit, hop):
-    path = [65001] + [rand.choice(transit) for _ in range(rand.randrange(5))] + [rand.randrange(1, 64000)]
+def attributes(rand, transit, hop, via):
+    path = via + [65001] + [rand.choice(transit) for _ in range(rand.randrange(5))] + [rand.randrange(1, 64000)]
     out = bytes([0x40, 1, 1, 0 if rand.random() < .9 else 2])
     out += bytes([0x40, 2, 2 + 2 * len(path), 2, len(path)]) + b''.join(asn.to_bytes(2, 'big') for asn in path)
     out += bytes([0x40, 3, 4]) + hop
@@ -65,8 +67,8 @@ def attributes(rand, transit, hop):
     return out
 
 
-def updates(count, hops=(NEAR,)):
-    """UPDATE messages that announce so many prefixes in all; the next hops take turns."""
+def updates(count, hops=(NEAR,), via=()):
+    """UPDATE messages that announce so many prefixes in all; the next hops take turns; paths begin with these numbers."""
     rand = random.Random(1)
     transit = [rand.randrange(1, 64000) for _ in range(40)]
     left, coming, turns = count, prefixes(count, rand), itertools.cycle(hops)
@@ -75,7 +77,7 @@ def updates(count, hops=(NEAR,)):
         while here < min(left, 60) and rand.random() < .8:
             here += 1
         left -= here
-        said = attributes(rand, transit, next(turns))
+        said = attributes(rand, transit, next(turns), list(via))
         announced = b''
         for _ in range(here):
             bits, length = next(coming)
@@ -98,25 +100,38 @@ def way(hop, iface, metric):
     return 'route add ospf %s/32 via 192.0.2.9 %s %d' % (text(hop), iface, metric)
 
 
-def events(kind, count):
+def peers(number, count):
+    """The events of so many peers that announce the same prefixes."""
+    yield 'route add connected 192.0.2.0/24 direct eth0 1'
+    for k in range(1, number + 1):
+        yield 'peer %d %d 192.0.2.%d 192.0.2.%d' % (k, 65000 + k, k, k)
+        yield 'up %d' % k
+    for k in range(1, number + 1):
+        via = [] if k == 1 else [65000 + k]
+        yield from ('bgp %d %s' % (k, message.hex()) for message in updates(count, via=via))
+
+
+def events(kind, count, number=8):
     """The lines of an event file."""
     yield LOCAL
     if kind in ('interior', 'lost'):
         yield from routes(count)
+    elif kind in ('peers', 'best_lost'):
+        yield from peers(number, count)
     else:
         far = kind in ('hops', 'kept', 'moved')
         yield from PEERS
         yield from (way(hop, 'eth0', 10) for hop in HOPS if far)
         yield from ('bgp 1 ' + message.hex() for message in updates(count, HOPS if far else [NEAR]))
     yield 'idle'
-    yield from {'edit': ['filter in 1 any pref 200 accept', 'idle'], 'loss': ['down 1', 'idle'],
+    yield from {'edit': ['filter in 1 any pref 200 accept', 'idle'], 'loss': ['down 1', 'idle'], 'best_lost': ['down 1', 'idle'],
                 'lost': ['lost ospf', 'idle'], 'kept': [way(HOPS[7], 'eth1', 10), 'idle'],
                 'moved': [way(HOPS[7], 'eth0', 11), 'idle']}.get(kind, [])
 
 
-def write(kind, count, file):
+def write(kind, count, file, number=8):
     """Writes the event file."""
-    for line in events(kind, count):
+    for line in events(kind, count, number):
         file.write(line.encode() + b'\n')
     file.flush()
 
@@ -125,8 +140,9 @@ def main():
     words = argparse.ArgumentParser(description=__doc__, formatter_class=argparse.RawDescriptionHelpFormatter)
     words.add_argument('kind', choices=KINDS)
     words.add_argument('--routes', type=int, default=200000)
+    words.add_argument('--peers', type=int, default=8, choices=range(1, 65), metavar='1..64')
     asked = words.parse_args()
-    write(asked.kind, asked.routes, sys.stdout.buffer)
+    write(asked.kind, asked.routes, sys.stdout.buffer, asked.peers)
 
 
 if __name__ == '__main__':
