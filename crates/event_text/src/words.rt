@@ -158,9 +158,9 @@ fn is_asked(link: Link) -> bool
         | Link::Low
         | Link::Dyn
         | Link::Int
+        | Link::Best
         | Link::Fib => true,
         Link::Red
-        | Link::Best
         | Link::ReadRib
         | Link::Ebgp
         | Link::Ibgp

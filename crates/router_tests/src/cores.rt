@@ -67,6 +67,7 @@ fn counted(alloc: Global, link: Link) -> Result<Option<u128>, Fail> {
 fn rows_are_counted(rt: HostRuntime) -> Result<(), Fail> {
     assert_eq!(rt; counted(rt.alloc(), Link::Filt(1))?, Some(1));
     assert_eq!(rt; counted(rt.alloc(), Link::Res(1))?, Some(1));
+    assert_eq!(rt; counted(rt.alloc(), Link::Best)?, Some(1));
     assert_eq!(rt; counted(rt.alloc(), Link::In(2))?, None);
     Ok(())
 }

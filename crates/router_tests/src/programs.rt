@@ -41,7 +41,7 @@ fn run_failing(
 
 /// The lines with which each journal begins.
 const BEGINS: &str =
-    "b org.connected\nb org.static\nb org.ospf\nb org.rip\nb low\nb dyn\nb int\nb fib\n";
+    "b org.connected\nb org.static\nb org.ospf\nb org.rip\nb low\nb dyn\nb int\nb best\nb fib\n";
 
 #[test]
 fn words_that_are_no_command_get_the_usage_line(rt: HostRuntime) -> Result<(), Fail> {

@@ -29,6 +29,8 @@ ask filt.1 10.1.0.0/16\n\
 show filt.1\n\
 ask res.1 10.1.0.0/16\n\
 show res.64\n\
+ask best 10.1.0.0/16\n\
+show best\n\
 show peer.3.4\n\
 route add static 10.1.2.3/8 direct eth0 7\n\
 route add ospf 10.0.0.0/8 via 192.0.2.9 a.b-c_d 4294967295\n\
@@ -75,7 +77,8 @@ show nh.1\n\
 show res.0\n\
 ask in.1 192.0.2.0/33\n\
 show peer.3.4.5\n\
-show best\n\
+show red\n\
+ask best.1 10.1.0.0/16\n\
 Up 1\n\
 route add rip 0.0.0.0/0 direct abcdefghijklmnop 0\n\
 route add rip 0.0.0.0/0 direct Eth0 0\n\
@@ -177,6 +180,7 @@ E5 ask res.2 10.1.0.0/16\n\
 E5 filter in 2\n\
 - route del rip 10.0.0.0/8\n\
 - show org.rip.2\n\
+- show best\n\
 - work rdel.rip.2 1\n\
 - down 64";
 
