@@ -58,11 +58,15 @@ comes_none k p before now comes i j = each j i
     each j = by_bool (nat_eq j k) (λ b. now j ≡ before j) (λ e. subst (λ (n : ℕ). now n ≡ before n) (sym (equal_by j k e)) comes.here) (λ e. comes.others j e)
 
 pub decided_none : (k : ℕ) (sent : Option (Change Route)) (now : PeerRows) (j : Journaled) → sent ≡ None → Adds (DecidesOn k sent now) j j
-decided_none k sent now j is = ([], sym (with_entries_none j), record {
-  best = None;
-  lines = refl;
-  decides = λ before p comes. ap best_rows (comes_none k p before now (subst (λ (s : Option (Change Route)). ComesOn k p s before now) is comes));
-})
+decided_none k sent now j is = (
+  [],
+  sym (with_entries_none j),
+  record {
+    best = None;
+    lines = refl;
+    decides = λ before p comes. ap best_rows (comes_none k p before now (subst (λ (s : Option (Change Route)). ComesOn k p s before now) is comes));
+  },
+)
 
 pub decided_some : (k : ℕ) (sent : Option (Change Route)) (change : Change Route) (best : Option (Change Route)) (m : Moment) (a : Chains) (h : Resolvers) (before now : Journaled) → k ≤ 64 → sent ≡ Some change → a ≡ m.chains → h ≡ m.hops
     → Decides k (lent_rows a h) change best → now ≡ with_entries before (best_entries best) → Adds (DecidesOn k sent (resolved_at m.chains m.hops)) before now

@@ -86,9 +86,7 @@ impl Network {
         let Some(chain) = self.chains.chain(number) else {
             return Ok(Done::Nothing);
         };
-        let turn = self
-            .hops
-            .turn(number, chain, &mut self.registry, journal)?;
+        let turn = self.hops.turn(number, chain, &mut self.registry, journal)?;
         if let Turn::Nothing = turn {
             return Ok(Done::Nothing);
         }
