@@ -1,12 +1,12 @@
 -- The links by their regions: each region has a part of the router that gives its links.
 use Rattle.std.specs.Prelude.{◌≡◌, ℕ, ◌==◌, cond, List}
 use Rattle.journal_text.specs.declared.link.Link.{Link}
-use Rattle.journal_text.specs.declared.link.Link.TheVariants.{In, Peer, Filt, Res, Org, Lost, Low, Dyn, Int, Fib}
+use Rattle.journal_text.specs.declared.link.Link.TheVariants.{In, Peer, Filt, Res, Org, Lost, Low, Dyn, Int, Best, Fib}
 use Rattle.journal_text.specs.declared.value.Value.{Value}
 use Rattle.journal_text.specs.declared.entry.Entry.{Entry}
 use Rattle.journal_text.specs.Walk.{Links, Leads}
 use Rattle.link_region.specs.declared.regions.Region.{Region}
-use Rattle.link_region.specs.declared.regions.Region.TheVariants.{Inward, Resolved, InteriorRoutes, Forward, Elsewhere}
+use Rattle.link_region.specs.declared.regions.Region.TheVariants.{Inward, Resolved, Decided, InteriorRoutes, Forward, Elsewhere}
 
 -- ---- the table: a line for each link that may be live
 
@@ -20,15 +20,17 @@ region_of (Lost proto n) = InteriorRoutes
 region_of Low = InteriorRoutes
 region_of Dyn = InteriorRoutes
 region_of Int = InteriorRoutes
+region_of Best = Decided
 region_of Fib = Forward
 region_of other = Elsewhere
 
 abbrev pub region_number : Region → ℕ
 region_number Inward = 0
 region_number Resolved = 1
-region_number InteriorRoutes = 2
-region_number Forward = 3
-region_number Elsewhere = 4
+region_number Decided = 2
+region_number InteriorRoutes = 3
+region_number Forward = 4
+region_number Elsewhere = 5
 
 -- ---- the same for any table
 

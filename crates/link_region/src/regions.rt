@@ -12,6 +12,8 @@ pub enum Region {
     Inward,
     /// The links `res.K`.
     Resolved,
+    /// The link `best`.
+    Decided,
     /// The interior routes, down to `int`.
     InteriorRoutes,
     /// The forwarding table.
@@ -29,6 +31,7 @@ pub fn region_of(link: Link) -> Region
         Link::Res(_) => Region::Resolved,
         Link::Org(_) | Link::Lost(_, _) | Link::Low | Link::Dyn | Link::Int =>
             Region::InteriorRoutes,
+        Link::Best => Region::Decided,
         Link::Fib => Region::Forward,
         _ => Region::Elsewhere,
     }

@@ -1,9 +1,10 @@
 -- What is decided from the live state alone: the rows of each link, from scratch. The links of a peer are its routes (RFC 4271,
 -- section 3.2), those that the incoming filter accepts (section 9.1.1), and of these the ones whose next hop can be reached (section
--- 9.1.2.1); those of the interior routes, the routes of each protocol and the ones of least administrative distance (NSDI 2005, section
--- 5.2).
+-- 9.1.2.1); below them all is the best route to each prefix (section 9.1.2); those of the interior routes, the routes of each
+-- protocol and the ones of least administrative distance (NSDI 2005, section 5.2).
 use Rattle.std.specs.Prelude.{ℕ, zero, suc, nat_lt, not, List, [], ◌∷◌, find, filter_map, Option, Some, None, option_map}
-use Rattle.std.specs.List.{list_any}
+use Rattle.std.specs.List.{list_any, range_with_len}
+use Rattle.best_path.specs.Steps.{pick}
 use Rattle.std.specs.FinMap as tables
 use Rattle.addr4.specs.Blocks.{masked_to}
 use Rattle.addr4.specs.Prefixes.{Network}
@@ -21,7 +22,7 @@ use Rattle.rib_route.specs.declared.rows.FibRow.{FibRow}
 use Rattle.rib_route.specs.Distances.{distance, fib_proto}
 use Rattle.rib_route.specs.Forwarding.{fib_row}
 use Rattle.journal_text.specs.declared.link.Link.{Link}
-use Rattle.journal_text.specs.declared.link.Link.TheVariants.{In, Filt, Res, Org, Low, Dyn, Int, Fib}
+use Rattle.journal_text.specs.declared.link.Link.TheVariants.{In, Filt, Res, Org, Low, Dyn, Int, Best, Fib}
 use Rattle.journal_text.specs.declared.value.Value.{Value}
 use Rattle.journal_text.specs.Walk.{Links}
 use Rattle.journal_text.specs.Values.{attrs_rows, route_rows, interior_rows, fib_rows}
@@ -70,6 +71,7 @@ origins Dyn = Ospf ∷ Rip ∷ []
 origins Int = Connected ∷ Static ∷ Ospf ∷ Rip ∷ []
 origins Fib = Connected ∷ Static ∷ Ospf ∷ Rip ∷ []
 origins (Res k) = Connected ∷ Static ∷ Ospf ∷ Rip ∷ []
+origins Best = Connected ∷ Static ∷ Ospf ∷ Rip ∷ []
 origins other = []
 
 -- what packets are forwarded by
@@ -107,17 +109,35 @@ resolved_row rows (Some r) = with_metric_of r (longest_match rows r.attrs.next_h
 abbrev pub resolved_rows : Rows Interior → Rows Route → Rows Route
 resolved_rows interior rows p = resolved_row interior (rows p)
 
+-- ---- the decision
+-- the rows of a link, or none where it isn't live
+abbrev pub rows_if_any : Option (Rows Route) → Rows Route
+rows_if_any None p = None
+rows_if_any (Some rows) p = rows p
+
+-- the routes of all peers at a prefix: their numbers are from 1 to 64
+abbrev pub routes_of_all : (ℕ → Rows Route) → Network → List Route
+routes_of_all rows p = filter_map (λ k. rows k p) (range_with_len 0 65)
+
+-- `best` has at each prefix the one that the decision process picks of them
+abbrev pub picked_rows : (ℕ → Rows Route) → Rows Route
+picked_rows rows p = pick (routes_of_all rows p)
+
 -- these links are live where `local` was declared
 abbrev pub since_local : {V : Type 0} → Option Speaker → Rows V → Option (Rows V)
 since_local None rows = None
 since_local (Some me) rows = Some rows
 
+-- ---- what a peer's routes come to behind its filter and its resolver
+abbrev pub resolved_of : LiveState → ℕ → Option (Rows Route)
+resolved_of l k = option_map (resolved_rows (least_rows l.interior (origins Int))) (judged_rows l.declared.speaker (peer_at k l.declared.peers) (l.rules k) (l.routes k))
+
 -- ---- each link: no other is live
 abbrev pub from_scratch : LiveState → Links Value
 from_scratch l (In k) = option_map attrs_rows (live_rows (peer_at k l.declared.peers) (l.routes k))
 from_scratch l (Filt k) = option_map route_rows (judged_rows l.declared.speaker (peer_at k l.declared.peers) (l.rules k) (l.routes k))
-from_scratch l (Res k) =
-    option_map route_rows (option_map (resolved_rows (least_rows l.interior (origins Int))) (judged_rows l.declared.speaker (peer_at k l.declared.peers) (l.rules k) (l.routes k)))
+from_scratch l (Res k) = option_map route_rows (resolved_of l k)
+from_scratch l Best = option_map route_rows (since_local l.declared.speaker (picked_rows (λ k. rows_if_any (resolved_of l k))))
 from_scratch l (Org proto) = option_map interior_rows (since_local l.declared.speaker (tables.get (l.interior proto)))
 from_scratch l Low = option_map interior_rows (since_local l.declared.speaker (least_rows l.interior (origins Low)))
 from_scratch l Dyn = option_map interior_rows (since_local l.declared.speaker (least_rows l.interior (origins Dyn)))

@@ -1,5 +1,5 @@
 -- What holds of a core after each of its calls.
-use Rattle.std.proofs.Common.{◌≡◌, ℕ, ◌+◌, ◌<◌, ◌≤◌, Bool, false, List, length, Option, None, is_some, refl, sym, ap, subst, ◌∙◌, arith}
+use Rattle.std.proofs.Common.{◌≡◌, ℕ, ◌+◌, ◌<◌, ◌≤◌, Bool, true, false, List, length, Option, None, is_some, refl, sym, ap, subst, ◌∙◌, arith}
 use Rattle.std.specs.FinMap.{get-empty, len-empty}
 use Rattle.std.specs.Ordering.{nat_cmp}
 use Rattle.in_chain.specs.Chains.{Chained}
@@ -15,7 +15,7 @@ use Rattle.rib_tree.specs.Trees.{branch_of, AreNumbered}
 use Rattle.rib_tree.specs.Steps.{new_tree}
 use Rattle.rib_tree.specs.Laws.{ANewTreeStands}
 use Rattle.router_core.specs.Moments.{Moment, Cored, first_moment, Gives}
-use Rattle.router_core.specs.Stands.{Stands, CoreStands, Claim, Claims, EachChain, EachPeer, InteriorTree, OneSpeaker, Registered, SameCount, EachResolver, SameResolvers, AnswersAgree, HopsCounted, NoStrangers, StandsAt, Tie, Ties, here}
+use Rattle.router_core.specs.Stands.{Stands, CoreStands, Claim, Claims, EachChain, EachPeer, InteriorTree, OneSpeaker, Registered, SameCount, EachResolver, SameResolvers, AnswersAgree, HopsCounted, NoStrangers, SmallNumbers, StandsAt, Tie, Ties, here}
 use Rattle.register_interest.specs.Interests.{interest_cmp}
 use Rattle.nexthop_resolver.specs.Resolving.{Resolving}
 use Rattle.nexthop_resolver.specs.declared.rows.Metric.{Metric}
@@ -131,6 +131,7 @@ first_stands law = record {
     own SameResolvers = λ k. ap is_some (get-empty {X = Resolving Metric} nat_cmp k) ∙ sym (ap is_some (get-empty {X = Chained} nat_cmp k))
     own AnswersAgree = λ k s at. absurd (let none = get-empty {X = Resolving Metric} nat_cmp k in cc)
     own HopsCounted = λ k s at. absurd (let none = get-empty {X = Resolving Metric} nat_cmp k in cc)
+    own SmallNumbers = λ k some. absurd (let none = get-empty {X = Chained} nat_cmp k in let clash : true ≡ false = sym some ∙ ap is_some none in cc)
     own NoStrangers = λ k none s. ap is_some (get-empty {X = Option Network} interest_cmp (record { subnet = s; client = k }))
     own InteriorTree = record { tree = law.0; full = law.1; few = of_new (λ b. length b.tables.deletions ≤ 16) (λ k. omega arith); waiting = λ e. refl }
 

@@ -1,7 +1,5 @@
 -- How many turns are left, by the table of phases: what a turn makes of it, and what is over.
-use Rattle.std.proofs.Common.{◌≡◌, ◌+◌, ◌*◌, ◌≤◌, false, List, [], ◌∷◌, length, None, is_some, refl, ap, arith}
-use Rattle.std.proofs.lemmas.List.Sums.{sum_by-cons, sum_by-le-sum_by}
-use Rattle.std.specs.List.{sum_by}
+use Rattle.std.proofs.Common.{◌≡◌, ◌+◌, ◌≤◌, false, None, is_some, refl, ap, arith}
 use Rattle.std.specs.FinMap as tables
 use Rattle.std.specs.Ordering.{nat_cmp}
 use Rattle.std.specs.Cmp.{nat_cmp_total}
@@ -9,12 +7,12 @@ use Rattle.rib_route.specs.declared.Proto.{Proto}
 use Rattle.rib_route.specs.declared.Proto.TheVariants.{Connected, Static, Ospf, Rip}
 use Rattle.loss_chain.proofs.TableLemmas.{no_table}
 use Rattle.loss_chain.specs.Tables.{lost_count}
-use Rattle.in_chain.specs.Chains.{Chained, row_count, turns_left, walk_turns}
+use Rattle.in_chain.specs.Chains.{Chained, turns_left, walk_turns}
 use Rattle.in_chain.specs.Laws.{TurnsAreBounded, TurnsAreLeft}
 use Rattle.link_region.proofs.RegionLemmas.{by_bool}
-use Rattle.peer_side.specs.Peers.{Chains, lost_of, lost_in, left_in, rows_in}
+use Rattle.peer_side.specs.Peers.{lost_of, lost_in, left_in}
 use Rattle.peer_side.proofs.CountLemmas.{left_below, lost_below}
-use Rattle.peer_side.proofs.MapLemmas.{sum_none, one_of_sum, all_values, values_length}
+use Rattle.peer_side.proofs.MapLemmas.{sum_none, one_of_sum, all_values}
 use Rattle.rib_tree.specs.Trees.{Treed, branch_of, tree_count}
 use Rattle.rib_tree.proofs.RestLemmas.{no_rows_left}
 use Rattle.router_core.specs.declared.router.Phase.{Phase}

@@ -1,5 +1,5 @@
 -- The prefixes of an UPDATE, one after the other.
-use Rattle.std.proofs.Common.{◌≡◌, ℕ, ◌+◌, ◌<◌, Bool, true, false, cond, List, [], ◌∷◌, ◌++◌, Option, Some, get_or, length, take, refl, sym, ap, subst, ◌∙◌, append_assoc}
+use Rattle.std.proofs.Common.{◌≡◌, ℕ, ◌+◌, ◌<◌, ◌≤◌, Bool, true, false, cond, List, [], ◌∷◌, ◌++◌, Option, Some, get_or, length, take, refl, sym, ap, subst, ◌∙◌, append_assoc}
 use Rattle.std.proofs.lemmas.List.{append-nil, take_more}
 use Rattle.addr4.specs.Prefixes.{Network}
 use Rattle.bgp_attr.specs.declared.attrs.Attrs.{Attrs}
@@ -20,17 +20,20 @@ use Rattle.hop_side.specs.Resolvers.{resolver_at}
 use Rattle.hop_side.specs.Steps.{GoesOn}
 use Rattle.peer_side.specs.Peers.{Chains, chain_at, put_chain, filt_at}
 use Rattle.peer_side.specs.Steps.{FeedsInward}
-use Rattle.router_core.specs.Moments.{Moment, with_chains, with_hops}
+use Rattle.journal_text.specs.Texts.{entries_of}
+use Rattle.journal_text.specs.Walk.{Leads}
+use Rattle.router_core.specs.Bests.{resolved_at}
+use Rattle.router_core.specs.Moments.{Moment, with_chains, with_hops, router_links}
 use Rattle.live_state.specs.Lives.{LiveState, Routes, with_routes, routes_after, live_fed}
 use Rattle.router_core.specs.Lives.{live_state}
-use Rattle.router_core.specs.Stands.{IsSilent, PeerStands, Stands, HopsCounted, open_session}
+use Rattle.router_core.specs.Stands.{IsSilent, PeerStands, Stands, HopsCounted, SmallNumbers, open_session}
 use Rattle.router_core.specs.Turns.{FeedsAll, journal_lines}
 use Rattle.router_core.specs.Works.{Pushes, IsUpAt, Keeps, HaveFed, SettlesPeer}
 use Rattle.peer_side.proofs.WeldLemmas.{fallen_at, weld_after, weld_keeps, adds_both}
 use Rattle.router_core.proofs.HopLemmas.{falls_lead, hops_fall}
 use Rattle.live_state.proofs.AdmittedLemmas.{routes_twice}
 use Rattle.peer_side.proofs.MapLemmas.{one_of as one_peer}
-use Rattle.router_core.proofs.StandLemmas.{peer_of, resolver_there, same_peers, stands_with, live_routed, routes_there}
+use Rattle.router_core.proofs.StandLemmas.{peer_of, resolver_there, speaker_there, same_peers, stands_with, live_routed, routes_there}
 use Rattle.router_core.proofs.KeepLemmas.{keeps_join, pushes_join}
 
 silent_up : (up : Bool) (c : Chained) → up ≡ true → IsSilent up c
@@ -50,12 +53,13 @@ fed_one k p row sent m fallen m' entries rest stands up f w =
         journal_lines said,
         [],
         after,
-        (sent, record { fallen = fallen; entries = entries; part = f; resolved = w.resolved; below = w.below; weld = w.weld; welds = w.welds; lines = refl; after = refl }),
+        (sent, record { fallen = fallen; entries = entries; part = f; resolved = w.resolved; passed = w.passed; below = w.below; best = w.best; decided = w.decided; weld = w.weld; welds = w.welds; lines = refl; after = refl }),
         (refl, refl),
         sym (append-nil (journal_lines said)),
       );
       keeps = record {
-        leads = falls_lead m fallen m'.chains m'.registry m'.hops entries w.resolved w.weld f.fall.leads goes.leads w.welds.step.leads quiet;
+        leads = subst (λ (es : List (Entry Value)). Leads (router_links m) (entries_of (journal_lines (entries ++ (w.resolved ++ (es ++ w.weld))))) (router_links after)) (sym w.decided.lines)
+            (falls_lead m c.me fallen m'.chains m'.registry m'.hops p entries w.resolved w.weld w.decided.best (speaker_there m stands k c f.feeds.at) f.fall.leads goes.leads (w.decided.decides (resolved_at m.chains m.hops) p goes.comes) w.welds.step.leads quiet);
         live = live_routed m m.declared k c c' m'.chains f.feeds.at put refl ∙ ap (λ (r : Routes). live_by m (with_routes (live_state m).routes k (live_after r p row))) (sym (routes_there m k c f.feeds.at));
         stands = stands_with m k c c' m'.chains m'.registry m'.hops peer.0 stands f.feeds.at put w.welds.step.sound refl peer.1 here w.below.agreed.others.rows
             (hops_fall m k fallen m'.chains m'.registry m'.hops stands w.below.agreed goes.counted quiet (resolver_there m stands k c f.feeds.at) (same_peers m k c c' m'.chains f.feeds.at put));
@@ -69,7 +73,7 @@ fed_one k p row sent m fallen m' entries rest stands up f w =
     c' = welded (fed f.feeds.chain p row)
 
     said : List (Entry Value)
-    said = entries ++ (w.resolved ++ w.weld)
+    said = entries ++ (w.resolved ++ (w.best ++ w.weld))
 
     after : Moment
     after = with_hops (with_chains m m'.chains) m'.registry m'.hops
@@ -80,7 +84,7 @@ fed_one k p row sent m fallen m' entries rest stands up f w =
     quiet : filt_at m'.chains ≡ filt_at fallen
     quiet i j = w.welds.quiet j i
 
-    goes : GoesOn k p w.below.below m.hops m'.hops w.resolved (filt_at m.chains) (filt_at fallen)
+    goes : GoesOn k p w.passed m.hops m'.hops w.resolved (filt_at m.chains) (filt_at fallen)
     goes = w.below.goes (filt_at m.chains) (filt_at fallen) p (stands.own HopsCounted) (record { here = f.changes.rows; others = f.changes.others })
 
     peer : (q : DeclaredPeer) × (peer_at k m.declared.peers ≡ Some q) × PeerStands q f.feeds.chain
@@ -105,6 +109,10 @@ fed_there k p row sent a fallen before j f = ap is_some (fallen_at k a fallen (f
 -- and it has a resolver
 pub fed_resolves : (k : ℕ) (p : Network) (row : Option Attrs) (sent : Option (Change Route)) (m v : Moment) (fallen : Chains) (before j : Journaled) → v ≡ m → Stands m → Adds (FeedsInward k p row sent v.chains fallen) before j → IsSome (resolver_at k v.hops)
 fed_resolves k p row sent m v fallen before j view stands f = resolver_there v (subst Stands (sym view) stands) k f.2.feeds.chain f.2.feeds.at
+
+-- and a number up to 64
+pub fed_small : (k : ℕ) (p : Network) (row : Option Attrs) (sent : Option (Change Route)) (m v : Moment) (fallen : Chains) (before j : Journaled) → v ≡ m → Stands m → Adds (FeedsInward k p row sent v.chains fallen) before j → k ≤ 64
+fed_small k p row sent m v fallen before j view stands f = (subst Stands (sym view) stands).own SmallNumbers k (ap is_some f.2.feeds.at)
 
 -- ---- one after the other
 module _ (k : ℕ) where

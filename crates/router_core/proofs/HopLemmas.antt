@@ -1,5 +1,5 @@
 -- What follows a change on `filt.K`: what the resolvers' entries lead to, and what is claimed of them then.
-use Rattle.std.proofs.Common.{◌≡◌, ◌≢◌, ℕ, nat_eq, true, false, List, [], ◌++◌, Option, Some, None, is_some, IsSome, refl, sym, ap, subst, ◌∙◌}
+use Rattle.std.proofs.Common.{◌≡◌, ℕ, true, false, List, [], ◌++◌, Option, Some, None, is_some, IsSome, refl, sym, ap, subst, ◌∙◌}
 use Rattle.std.specs.FinMap as tables
 use Rattle.addr4.specs.Prefixes.{Network}
 use Rattle.bgp_attr.specs.declared.route.Route.{Route}
@@ -21,12 +21,10 @@ use Rattle.journal_text.specs.Walk.{Links, Leads}
 use Rattle.journal_text.proofs.JournalLemmas.{entries_of_entries, with_entries_none, with_entries_append}
 use Rattle.journal_text.proofs.WalkLemmas.{leads_append, leads_nowhere}
 use Rattle.link_region.specs.declared.regions.Region.{Region}
-use Rattle.link_region.specs.declared.regions.Region.TheVariants.{Inward, Resolved}
+use Rattle.link_region.specs.declared.regions.Region.TheVariants.{Inward, Resolved, Decided}
 use Rattle.link_region.specs.Regions.{Sides, joined, with_side, LeadsIn}
-use Rattle.link_region.proofs.RegionLemmas.{by_bool}
-use Rattle.loss_chain.proofs.TableLemmas.{equal_by}
 use Rattle.hop_side.specs.Resolvers.{Resolvers, PeerRows, resolver_at, res_at, hop_links, is_res, beside, IsHops, AllAgree, AllCounted}
-use Rattle.hop_side.specs.Steps.{LeadsRes, ComesOn, GoesOn, KeepsAgreed, HasNoInterest, HaveSamePeers, TakesBelow, ReachesBelow}
+use Rattle.hop_side.specs.Steps.{LeadsRes, KeepsAgreed, HasNoInterest, HaveSamePeers, TakesBelow, ReachesBelow}
 use Rattle.hop_side.proofs.LawLemmas.{leads_anywhere}
 use Rattle.peer_side.specs.Peers.{Chains, chain_at, peer_links, filt_at}
 use Rattle.router_core.specs.Moments.{Moment, with_chains, with_hops, parts, router_links}
@@ -34,6 +32,11 @@ use Rattle.router_core.specs.Stands.{Stands, EachResolver, SameResolvers, Answer
 use Rattle.peer_side.specs.Steps.{WeldsInward}
 use Rattle.router_core.specs.Turns.{ResolvesOn, journal_lines}
 use Rattle.router_core.specs.Works.{SettlesPeer}
+use Rattle.router_core.specs.Bests.{best_at, best_entries, best_links, resolved_at, DecidesOn}
+use Rattle.router_core.proofs.BestLemmas.{best_leads, comes_none}
+use Rattle.decision.specs.Branches.{best_rows}
+use Rattle.bgp_attr.specs.declared.speaker.Speaker.{Speaker}
+use Rattle.link_change.specs.Changes.{IsSent}
 
 -- ---- the region of the links `res.K`
 pub res_leads : (old new : Links Value) (entries : List (Entry Value)) → LeadsRes old entries new → LeadsIn Resolved old entries new
@@ -44,19 +47,27 @@ res_leads old new entries leads sides is =
     stays (Res k) e = absurd (let clash : true ≡ false = e in cc)
     stays other e = refl
 
--- the resolvers, and the register, in the router
-pub leads_resolved : (m : Moment) (r : Registry Interior) (h : Resolvers) (entries : List (Entry Value)) → LeadsRes (hop_links m.hops (filt_at m.chains)) entries (hop_links h (filt_at m.chains))
-    → Leads (router_links m) (entries_of (journal_lines entries)) (router_links (with_hops m r h))
-leads_resolved m r h entries leads =
-    subst (λ (es : List (Entry Value)). Leads (router_links m) es (router_links (with_hops m r h))) (sym (entries_of_entries entries))
-    (subst (λ (s : Sides). Leads (router_links m) entries (joined s)) set (res_leads (hop_links m.hops (filt_at m.chains)) (hop_links h (filt_at m.chains)) entries leads (parts m) refl))
+-- the resolvers, and the register, in the router, and what is decided then
+abbrev gone_on : Moment → Resolvers → Sides
+gone_on m h = with_side (parts m) Resolved (hop_links h (filt_at m.chains))
+
+pub leads_resolved : (m : Moment) (me : Speaker) (r : Registry Interior) (h : Resolvers) (p : Network) (entries : List (Entry Value)) (best : Option (Change Route)) → m.declared.speaker ≡ Some me
+    → LeadsRes (hop_links m.hops (filt_at m.chains)) entries (hop_links h (filt_at m.chains)) → IsSent (best_at m.chains m.hops) (best_at m.chains h) p best
+    → Leads (router_links m) (entries_of (journal_lines (entries ++ best_entries best))) (router_links (with_hops m r h))
+leads_resolved m me r h p entries best since leads sent =
+    subst (λ (es : List (Entry Value)). Leads (router_links m) es (router_links (with_hops m r h))) (sym (entries_of_entries (entries ++ best_entries best)))
+    (subst (λ (s : Sides). Leads (router_links m) (entries ++ best_entries best) (joined s)) set
+    (leads_append (router_links m) (joined (gone_on m h)) (joined (with_side (gone_on m h) Decided (best_links m.declared.speaker (best_at m.chains h)))) entries (best_entries best)
+    (res_leads (hop_links m.hops (filt_at m.chains)) (hop_links h (filt_at m.chains)) entries leads (parts m) refl)
+    (best_leads m.declared.speaker me (best_at m.chains m.hops) (best_at m.chains h) p best since sent (gone_on m h) refl)))
   where
-    set : with_side (parts m) Resolved (hop_links h (filt_at m.chains)) ≡ parts (with_hops m r h)
+    each : (s : Region) → with_side (gone_on m h) Decided (best_links m.declared.speaker (best_at m.chains h)) s ≡ parts (with_hops m r h) s
+    each Resolved = refl
+    each Decided = refl
+    each other = refl
+
+    set : with_side (gone_on m h) Decided (best_links m.declared.speaker (best_at m.chains h)) ≡ parts (with_hops m r h)
     set i s = each s i
-      where
-        each : (s : Region) → with_side (parts m) Resolved (hop_links h (filt_at m.chains)) s ≡ parts (with_hops m r h) s
-        each Resolved = refl
-        each other = refl
 
 -- entries behind others
 pub leads_both : (a b c : Links Value) (xs ys : List (Entry Value)) → Leads a (entries_of (journal_lines xs)) b → Leads b (entries_of (journal_lines ys)) c → Leads a (entries_of (journal_lines (xs ++ ys))) c
@@ -71,22 +82,29 @@ fallen_side m fallen = with_side (parts m) Inward (peer_links fallen)
 abbrev gone_side : Moment → Chains → Resolvers → Sides
 gone_side m fallen h = with_side (fallen_side m fallen) Resolved (hop_links h (filt_at fallen))
 
-abbrev welded_side : Moment → Chains → Resolvers → Chains → Sides
-welded_side m fallen h cs = with_side (gone_side m fallen h) Inward (peer_links cs)
+abbrev chosen_side : Moment → Chains → Resolvers → Sides
+chosen_side m fallen h = with_side (gone_side m fallen h) Decided (best_links m.declared.speaker (best_at fallen h))
 
-pub falls_lead : (m : Moment) (fallen cs : Chains) (r : Registry Interior) (h : Resolvers) (entries resolved weld : List (Entry Value)) → LeadsIn Inward (peer_links m.chains) entries (peer_links fallen)
-    → LeadsRes (hop_links m.hops (filt_at m.chains)) resolved (hop_links h (filt_at fallen)) → LeadsIn Inward (peer_links fallen) weld (peer_links cs) → filt_at cs ≡ filt_at fallen
-    → Leads (router_links m) (entries_of (journal_lines (entries ++ (resolved ++ weld)))) (router_links (with_hops (with_chains m cs) r h))
-falls_lead m fallen cs r h entries resolved weld falls goes welds same =
-    subst (λ (es : List (Entry Value)). Leads (router_links m) es (router_links (with_hops (with_chains m cs) r h))) (sym (entries_of_entries (entries ++ (resolved ++ weld))))
-    (subst (λ (s : Sides). Leads (router_links m) (entries ++ (resolved ++ weld)) (joined s)) set
-    (leads_append (router_links m) (joined (fallen_side m fallen)) (joined (welded_side m fallen h cs)) entries (resolved ++ weld) (falls (parts m) refl)
-    (leads_append (joined (fallen_side m fallen)) (joined (gone_side m fallen h)) (joined (welded_side m fallen h cs)) resolved weld
-    (res_leads (hop_links m.hops (filt_at m.chains)) (hop_links h (filt_at fallen)) resolved goes (fallen_side m fallen) refl) (welds (gone_side m fallen h) refl))))
+abbrev welded_side : Moment → Chains → Resolvers → Chains → Sides
+welded_side m fallen h cs = with_side (chosen_side m fallen h) Inward (peer_links cs)
+
+pub falls_lead : (m : Moment) (me : Speaker) (fallen cs : Chains) (r : Registry Interior) (h : Resolvers) (p : Network) (entries resolved weld : List (Entry Value)) (best : Option (Change Route)) → m.declared.speaker ≡ Some me
+    → LeadsIn Inward (peer_links m.chains) entries (peer_links fallen) → LeadsRes (hop_links m.hops (filt_at m.chains)) resolved (hop_links h (filt_at fallen)) → IsSent (best_at m.chains m.hops) (best_at fallen h) p best
+    → LeadsIn Inward (peer_links fallen) weld (peer_links cs) → filt_at cs ≡ filt_at fallen
+    → Leads (router_links m) (entries_of (journal_lines (entries ++ (resolved ++ (best_entries best ++ weld))))) (router_links (with_hops (with_chains m cs) r h))
+falls_lead m me fallen cs r h p entries resolved weld best since falls goes sent welds same =
+    subst (λ (es : List (Entry Value)). Leads (router_links m) es (router_links (with_hops (with_chains m cs) r h))) (sym (entries_of_entries (entries ++ (resolved ++ (best_entries best ++ weld)))))
+    (subst (λ (s : Sides). Leads (router_links m) (entries ++ (resolved ++ (best_entries best ++ weld))) (joined s)) set
+    (leads_append (router_links m) (joined (fallen_side m fallen)) (joined (welded_side m fallen h cs)) entries (resolved ++ (best_entries best ++ weld)) (falls (parts m) refl)
+    (leads_append (joined (fallen_side m fallen)) (joined (gone_side m fallen h)) (joined (welded_side m fallen h cs)) resolved (best_entries best ++ weld)
+    (res_leads (hop_links m.hops (filt_at m.chains)) (hop_links h (filt_at fallen)) resolved goes (fallen_side m fallen) refl)
+    (leads_append (joined (gone_side m fallen h)) (joined (chosen_side m fallen h)) (joined (welded_side m fallen h cs)) (best_entries best) weld
+    (best_leads m.declared.speaker me (best_at m.chains m.hops) (best_at fallen h) p best since sent (gone_side m fallen h) refl) (welds (chosen_side m fallen h) refl)))))
   where
     each : (s : Region) → welded_side m fallen h cs s ≡ parts (with_hops (with_chains m cs) r h) s
     each Inward = refl
     each Resolved = ap (hop_links h) (sym same)
+    each Decided = ap (λ (u : PeerRows). best_links m.declared.speaker (best_rows (res_at h u))) (sym same)
     each other = refl
 
     set : welded_side m fallen h cs ≡ parts (with_hops (with_chains m cs) r h)
@@ -159,17 +177,16 @@ hops_reached m reached r h stands given answers below = record {
     kept i (Some m0) is none = absurd (let was : is_some (tables.get m.registry.interests i) ≡ true = ap is_some (answers i m0 is).0 in let clash : true ≡ false = sym was ∙ none in cc)
 
 -- ---- what follows a change on `filt.K`, whether one came out or not
-pub resolved_none : (k : ℕ) (r : Registry Interior) (h : Resolvers) (j : Journaled) → IsHops h → AllAgree h r → Adds (ResolvesOn k None r r h h) j j
+pub resolved_none : (k : ℕ) (r : Registry Interior) (h : Resolvers) (j : Journaled) → IsHops h → AllAgree h r → Adds (ResolvesOn k None None r r h h) j j
 resolved_none k r h j sound agree = (
   [],
   sym (with_entries_none j),
   record {
-    below = None;
     lines = refl;
     resolves = (refl, refl, refl);
     agreed = record { sound = sound; agree = agree; others = record { rows = refl; interests = λ i other. refl }; peers = λ j. refl };
     goes = λ uppers now p counted comes.
-        let same : now ≡ uppers = (λ i j. stays uppers now p comes j i) in
+        let same : now ≡ uppers = comes_none k p uppers now comes in
         record {
           comes = record { here = ap (λ (u : PeerRows). res_at h u k) same; others = λ j other. ap (λ (u : PeerRows). res_at h u j) same };
           leads = λ others. leads_nowhere _ _ (ap (λ (u : PeerRows). beside others (hop_links h u)) (sym same));
@@ -177,17 +194,13 @@ resolved_none k r h j sound agree = (
         };
   },
 )
-  where
-    stays : (uppers now : PeerRows) (p : Network) → ComesOn k p None uppers now → (j : ℕ) → now j ≡ uppers j
-    stays uppers now p comes j = by_bool (nat_eq j k) (λ b. now j ≡ uppers j) (λ e. subst (λ (n : ℕ). now n ≡ uppers n) (sym (equal_by j k e)) comes.here) (λ e. comes.others j e)
 
 pub resolved_some : (k : ℕ) (change : Change Route) (sent : Option (Change Route)) (r r' : Registry Interior) (h h' : Resolvers) (before now : Journaled) → Adds (TakesBelow k change sent r r' h h') before now
-    → Adds (ResolvesOn k (Some change) r r' h h') before now
+    → Adds (ResolvesOn k (Some change) sent r r' h h') before now
 resolved_some k change sent r r' h h' before now adds = (
   adds.0,
   adds.1,
   record {
-    below = sent;
     lines = adds.2.takes.lines;
     resolves = adds.2.takes;
     agreed = adds.2.agreed;
@@ -196,30 +209,36 @@ resolved_some k change sent r r' h h' before now adds = (
 )
 
 -- by whether one came out
-pub resolved_out : (k : ℕ) (sent : Option (Change Route)) (r : Registry Interior) (h : Resolvers) (j : Journaled) → sent ≡ None → IsHops h → AllAgree h r → Adds (ResolvesOn k sent r r h h) j j
-resolved_out k sent r h j is sound agree = subst (λ (s : Option (Change Route)). Adds (ResolvesOn k s r r h h) j j) (sym is) (resolved_none k r h j sound agree)
+pub resolved_out : (k : ℕ) (sent : Option (Change Route)) (r : Registry Interior) (h : Resolvers) (j : Journaled) → sent ≡ None → IsHops h → AllAgree h r → Adds (ResolvesOn k sent None r r h h) j j
+resolved_out k sent r h j is sound agree = subst (λ (s : Option (Change Route)). Adds (ResolvesOn k s None r r h h) j j) (sym is) (resolved_none k r h j sound agree)
 
 pub resolved_in : (k : ℕ) (sent : Option (Change Route)) (change : Change Route) (below : Option (Change Route)) (m v : Moment) (r : Registry Interior) (h : Resolvers) (before now : Journaled) → v ≡ m → sent ≡ Some change
-    → Adds (TakesBelow k change below v.registry r v.hops h) before now → Adds (ResolvesOn k sent m.registry r m.hops h) before now
-resolved_in k sent change below m v r h before now view is adds = subst (λ (n : Moment). Adds (ResolvesOn k sent n.registry r n.hops h) before now) view
-    (subst (λ (s : Option (Change Route)). Adds (ResolvesOn k s v.registry r v.hops h) before now) (sym is) (resolved_some k change below v.registry r v.hops h before now adds))
+    → Adds (TakesBelow k change below v.registry r v.hops h) before now → Adds (ResolvesOn k sent below m.registry r m.hops h) before now
+resolved_in k sent change below m v r h before now view is adds = subst (λ (n : Moment). Adds (ResolvesOn k sent below n.registry r n.hops h) before now) view
+    (subst (λ (s : Option (Change Route)). Adds (ResolvesOn k s below v.registry r v.hops h) before now) (sym is) (resolved_some k change below v.registry r v.hops h before now adds))
 
 -- what follows, and the weld behind it
-pub settled_peer : (k : ℕ) (sent : Option (Change Route)) (m m1 v : Moment) (cs : Chains) (before j now : Journaled) → v ≡ m1 → Adds (ResolvesOn k sent m.registry m1.registry m.hops m1.hops) before j → m1 ≡ with_hops m m1.registry m1.hops
-    → Adds (WeldsInward k v.chains cs) j now → Adds (SettlesPeer k sent m (record v { chains = cs })) before now
-settled_peer k sent m m1 v cs before j now view res after welds =
+pub settled_peer : (k : ℕ) (sent passed : Option (Change Route)) (m m1 v : Moment) (cs : Chains) (before j l now : Journaled) → v ≡ m1 → Adds (ResolvesOn k sent passed m.registry m1.registry m.hops m1.hops) before j → m1 ≡ with_hops m m1.registry m1.hops
+    → Adds (DecidesOn k passed (resolved_at m1.chains m1.hops)) j l → Adds (WeldsInward k v.chains cs) l now → Adds (SettlesPeer k sent m (record v { chains = cs })) before now
+settled_peer k sent passed m m1 v cs before j l now view res after best welds =
     subst (λ (n : Moment). Adds (SettlesPeer k sent m (record n { chains = cs })) before now) (sym view) (
-      res.0 ++ w.0,
-      w.1 ∙ ap (λ (x : Journaled). with_entries x w.0) res.1 ∙ with_entries_append before res.0 w.0,
+      res.0 ++ (best.0 ++ w.0),
+      w.1 ∙ ap (λ (x : Journaled). with_entries x w.0) (best.1 ∙ ap (λ (x : Journaled). with_entries x best.0) res.1) ∙ with_entries_append (with_entries before res.0) best.0 w.0 ∙ with_entries_append before res.0 (best.0 ++ w.0),
       record {
         resolved = res.0;
+        passed = passed;
         below = res.2;
+        best = best.0;
+        decided = subst (λ (a : Chains). DecidesOn k passed (resolved_at a m1.hops) best.0) same best.2;
         weld = w.0;
-        welds = subst (λ (a : Chains). WeldsInward k a cs w.0) (ap (λ (x : Moment). x.chains) after) w.2;
+        welds = subst (λ (a : Chains). WeldsInward k a cs w.0) same w.2;
         lines = refl;
         after = ap (λ (x : Moment). record x { chains = cs }) after;
       },
     )
   where
-    w : Adds (WeldsInward k m1.chains cs) j now
-    w = subst (λ (n : Moment). Adds (WeldsInward k n.chains cs) j now) view welds
+    same : m1.chains ≡ m.chains
+    same = ap (λ (x : Moment). x.chains) after
+
+    w : Adds (WeldsInward k m1.chains cs) l now
+    w = subst (λ (n : Moment). Adds (WeldsInward k n.chains cs) l now) view welds

@@ -1,5 +1,5 @@
 -- One turn of the next hops of a peer.
-use Rattle.std.proofs.Common.{◌≡◌, ℕ, ◌+◌, ◌≤◌, false, List, Option, Some, None, is_some, IsSome, refl, sym, ap, subst, ◌∙◌, arith}
+use Rattle.std.proofs.Common.{◌≡◌, ℕ, ◌+◌, ◌≤◌, false, List, ◌++◌, Option, Some, None, is_some, refl, sym, ap, subst, ◌∙◌, arith}
 use Rattle.std.specs.FinMap as tables
 use Rattle.addr4.specs.Prefixes.{Network}
 use Rattle.bgp_attr.specs.declared.route.Route.{Route}
@@ -9,14 +9,12 @@ use Rattle.link_change.specs.declared.turn.Turn.TheVariants as turns
 use Rattle.rib_route.specs.declared.rows.Interior.{Interior}
 use Rattle.register_interest.specs.Registers.{Registry}
 use Rattle.pass_core.specs.Left.{CountsBeyond}
-use Rattle.nexthop_resolver.specs.Resolving.{Resolving}
-use Rattle.nexthop_resolver.specs.declared.rows.Metric.{Metric}
 use Rattle.journal_text.specs.declared.link.Task.TheVariants.{Nh}
 use Rattle.journal_text.specs.declared.entry.Entry.{Entry}
 use Rattle.journal_text.specs.declared.value.Value.{Value}
 use Rattle.journal_text.specs.Journals.{Journaled, Adds, flushed}
 use Rattle.loss_chain.proofs.TableLemmas.{no_table}
-use Rattle.in_chain.specs.Chains.{Chained, filt_rows, filt_candidates, filt_beyond}
+use Rattle.in_chain.specs.Chains.{Chained, filt_rows, filt_candidates}
 use Rattle.in_chain.proofs.TurnLemmas.{candidates_are_counted}
 use Rattle.hop_side.specs.Resolvers.{Resolvers, resolver_at, busy_by, has_hop_work, AllAgree, IsHops}
 use Rattle.hop_side.specs.Steps.{GoesOn, TurnsBelow, ComesBelow}
@@ -24,13 +22,17 @@ use Rattle.peer_side.specs.Peers.{chain_at, filt_by, filt_at}
 use Rattle.router_core.specs.declared.router.Done.TheVariants.{Nothing, Taken}
 use Rattle.router_core.specs.declared.router.Phase.{Phase}
 use Rattle.router_core.specs.declared.router.Phase.TheVariants as phases
-use Rattle.router_core.specs.Moments.{Moment, with_hops}
+use Rattle.journal_text.specs.Texts.{entries_of}
+use Rattle.journal_text.specs.Walk.{Leads}
+use Rattle.peer_side.proofs.WeldLemmas.{adds_both}
+use Rattle.router_core.specs.Bests.{resolved_at, DecidesOn}
+use Rattle.router_core.specs.Moments.{Moment, with_hops, router_links}
 use Rattle.router_core.specs.Phases.{Frame, beyond_by, beyonds, counts, rise, risen, Spends}
-use Rattle.router_core.specs.Stands.{Stands, Claim, Claims, EachResolver, SameResolvers, AnswersAgree, HopsCounted, NoStrangers, Tie, Ties, Registered, here}
-use Rattle.router_core.specs.Turns.{journal_lines}
+use Rattle.router_core.specs.Stands.{Stands, Claim, Claims, EachResolver, SameResolvers, AnswersAgree, HopsCounted, NoStrangers, SmallNumbers, Tie, Ties, Registered, here}
+use Rattle.router_core.specs.Turns.{journal_lines, sent_of}
 use Rattle.router_core.specs.Works.{IsUnit, Comes}
 use Rattle.router_core.proofs.HopLemmas.{HopsStand, hops_fall, leads_resolved}
-use Rattle.router_core.proofs.StandLemmas.{resolver_there}
+use Rattle.router_core.proofs.StandLemmas.{resolver_there, speaker_there}
 
 -- what the calls ask for
 pub hops_sound : (m v : Moment) → v ≡ m → Stands m → IsHops v.hops
@@ -64,13 +66,14 @@ hop_spends f m r h fewer = record { falls = fewer; rises = rises }
     rises phases.Fin = omega arith
     rises phases.Nh = omega (arith, fewer)
 
-hop_done : (k : ℕ) (sent : Option (Change Route)) (m : Moment) (c : Chained) (r : Registry Interior) (h : Resolvers) (entries : List (Entry Value)) → Stands m → chain_at k m.chains ≡ Some c
-    → TurnsBelow k (filt_candidates c) (filt_rows c) sent m.registry r m.hops h entries → IsUnit (Nh k) m (with_hops m r h) (journal_lines entries)
-hop_done k sent m c r h entries stands at t = record {
-  turn = record { chain = c; at = at; sent = sent; entries = entries; turn = t; lines = refl; after = refl };
+hop_done : (k : ℕ) (sent : Option (Change Route)) (m : Moment) (c : Chained) (r : Registry Interior) (h : Resolvers) (entries best : List (Entry Value)) → Stands m → chain_at k m.chains ≡ Some c
+    → TurnsBelow k (filt_candidates c) (filt_rows c) sent m.registry r m.hops h entries → DecidesOn k sent (resolved_at m.chains h) best → IsUnit (Nh k) m (with_hops m r h) (journal_lines (entries ++ best))
+hop_done k sent m c r h entries best stands at t d = record {
+  turn = record { chain = c; at = at; sent = sent; entries = entries; turn = t; best = best; decided = d; lines = refl; after = refl };
   work = record {
     keeps = record {
-      leads = leads_resolved m r h entries goes.1.leads;
+      leads = subst (λ (es : List (Entry Value)). Leads (router_links m) (entries_of (journal_lines (entries ++ es))) (router_links (with_hops m r h))) (sym d.lines)
+          (leads_resolved m c.me r h goes.0 entries d.best (speaker_there m stands k c at) goes.1.leads (d.decides (resolved_at m.chains m.hops) goes.0 goes.1.comes));
       live = refl;
       stands = stands_resolved m r h stands t.agreed.others.rows (hops_fall m k m.chains m.chains r h stands t.agreed goes.1.counted refl (resolver_there m stands k c at) (λ j. refl));
     };
@@ -87,17 +90,22 @@ hop_done k sent m c r h entries stands at t = record {
 
 -- by what it came to
 hop_adds : (k : ℕ) (m : Moment) (c : Chained) (r : Registry Interior) (h : Resolvers) (before j : Journaled) (turn : Turn Route) → (turn ≡ turns.Nothing → ⊥) → ComesBelow k (filt_candidates c) (filt_rows c) m.registry r m.hops h before j turn
-    → (sent : Option (Change Route)) × Adds (TurnsBelow k (filt_candidates c) (filt_rows c) sent m.registry r m.hops h) before j
+    → Adds (TurnsBelow k (filt_candidates c) (filt_rows c) (sent_of turn) m.registry r m.hops h) before j
 hop_adds k m c r h before j turns.Nothing some t = absurd (some refl)
-hop_adds k m c r h before j turns.Quiet some t = (None, t)
-hop_adds k m c r h before j (turns.Sent change) some t = (Some change, t)
+hop_adds k m c r h before j turns.Quiet some t = t
+hop_adds k m c r h before j (turns.Sent change) some t = t
 
-pub hop_took : (k : ℕ) (m v : Moment) (c : Chained) (r : Registry Interior) (h : Resolvers) (before j now : Journaled) (turn : Turn Route) → (turn ≡ turns.Nothing → ⊥) → v ≡ m → Stands m → Some c ≡ chain_at k v.chains
-    → ComesBelow k (filt_candidates c) (filt_rows c) v.registry r v.hops h before j turn → now ≡ flushed j → Comes (Nh k) m (with_hops v r h) before now Taken
-hop_took k m v c r h before j now turn some view stands at comes is =
+pub hop_took : (k : ℕ) (m v : Moment) (c : Chained) (r : Registry Interior) (h : Resolvers) (before j l now : Journaled) (turn : Turn Route) (sent : Option (Change Route)) → (turn ≡ turns.Nothing → ⊥) → v ≡ m → Stands m → Some c ≡ chain_at k v.chains
+    → ComesBelow k (filt_candidates c) (filt_rows c) v.registry r v.hops h before j turn → sent ≡ sent_of turn → Adds (DecidesOn k sent (resolved_at v.chains h)) j l → now ≡ flushed l → Comes (Nh k) m (with_hops v r h) before now Taken
+hop_took k m v c r h before j l now turn sent some view stands at comes same best is =
     let t = hop_adds k v c r h before j turn some comes in
+    let d = subst (λ (s : Option (Change Route)). Adds (DecidesOn k s (resolved_at v.chains h)) j l) same best in
     subst (λ (n : Moment). Comes (Nh k) n (with_hops v r h) before now Taken) view
-    (journal_lines t.1.0, is ∙ ap flushed t.1.1, hop_done k t.0 v c r h t.1.0 (subst Stands (sym view) stands) (sym at) t.1.2)
+    (journal_lines (t.0 ++ d.0), is ∙ ap flushed (adds_both before j l t.0 d.0 t.1 d.1), hop_done k (sent_of turn) v c r h t.0 d.0 (subst Stands (sym view) stands) (sym at) t.2 d.2)
+
+-- a peer that takes one has a number up to 64
+pub hop_small : (k : ℕ) (m v : Moment) (c : Chained) → v ≡ m → Stands m → Some c ≡ chain_at k v.chains → k ≤ 64
+hop_small k m v c view stands at = (subst Stands (sym view) stands).own SmallNumbers k (ap is_some (sym at))
 
 pub hop_rests : (k : ℕ) (m v : Moment) (c : Chained) (r : Registry Interior) (h : Resolvers) (before j : Journaled) (turn : Turn Route) → turn ≡ turns.Nothing → v ≡ m → ComesBelow k (filt_candidates c) (filt_rows c) v.registry r v.hops h before j turn
     → Comes (Nh k) m (with_hops v r h) before j Nothing

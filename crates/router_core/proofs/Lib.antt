@@ -23,6 +23,7 @@ pub mod RouteRoom
 pub mod RouteSteps
 pub mod PrintedTurns
 pub mod PrintedBlocks
+pub mod BestLemmas
 pub mod HopLemmas
 pub mod MostLemmas
 pub mod HopTurns

@@ -6,14 +6,11 @@ use Rattle.std.specs.List.{sum_by}
 use Rattle.std.specs.FinMap as tables
 use Rattle.std.proofs.lemmas.List.Sums.{sum_by-cons}
 use Rattle.addr4.specs.Prefixes.{Network}
-use Rattle.bgp_attr.specs.declared.attrs.Attrs.{Attrs}
-use Rattle.link_change.specs.Rows.{Rows}
 use Rattle.nexthop_resolver.specs.Resolving.{Resolving}
 use Rattle.nexthop_resolver.specs.declared.rows.Metric.{Metric}
-use Rattle.pass_core.specs.Left.{CountsBeyond}
-use Rattle.in_chain.specs.Chains.{Chained, filt_rows, filt_candidates, filt_beyond, row_count}
+use Rattle.in_chain.specs.Chains.{Chained, filt_beyond, row_count}
 use Rattle.in_chain.proofs.TurnLemmas.{candidates_are_counted, filtered_rows_are_few}
-use Rattle.hop_side.specs.Resolvers.{Resolvers, resolver_at, known_of, known_in, left_in, walks_of, walks_in}
+use Rattle.hop_side.specs.Resolvers.{resolver_at, known_of, known_in, walks_of, walks_in}
 use Rattle.hop_side.proofs.LawLemmas.{turns_bounded}
 use Rattle.hop_side.proofs.FewLemmas.{known_are_few}
 use Rattle.peer_side.specs.Peers.{Chains, chain_at, put_chain, filt_at, filt_by, lost_in, rows_in}

@@ -1,5 +1,5 @@
 -- A peer that is declared, and one whose session begins.
-use Rattle.std.proofs.Common.{◌≡◌, ℕ, ◌+◌, Bool, true, false, not, ◌&&◌, cond, List, [], ◌∷◌, ◌++◌, map, length, Option, Some, None, nat_eq, refl, sym, ap, subst, ◌∙◌, suc}
+use Rattle.std.proofs.Common.{◌≡◌, ℕ, ◌+◌, ◌≤◌, Bool, true, false, not, ◌&&◌, cond, List, [], ◌∷◌, ◌++◌, map, length, Option, Some, None, nat_eq, refl, sym, ap, subst, ◌∙◌, suc}
 use Rattle.std.proofs.lemmas.List.{length_push}
 use Rattle.std.specs.Prelude.{option_map, IsSome, is_some}
 use Rattle.bgp_attr.specs.declared.speaker.Speaker.{Speaker}
@@ -18,15 +18,17 @@ use Rattle.link_region.specs.declared.regions.Region.TheVariants.{Inward}
 use Rattle.link_region.specs.Regions.{LeadsIn}
 use Rattle.link_region.proofs.RegionLemmas.{by_bool, lead_nothing}
 use Rattle.bgp_attr.specs.declared.attrs.Attrs.{Attrs}
-use Rattle.link_change.specs.Rows.{no_rows}
+use Rattle.link_change.specs.Rows.{Rows, no_rows}
 use Rattle.link_change.proofs.RowLemmas.{empty_rows}
 use Rattle.filter_bank.specs.Filtered.{filtered_rows}
 use Rattle.rib_route.specs.declared.rows.Interior.{Interior}
 use Rattle.register_interest.specs.Registers.{Registry}
-use Rattle.nexthop_resolver.specs.Resolving.{nothing_known}
+use Rattle.bgp_attr.specs.declared.route.Route.{Route}
+use Rattle.decision.specs.Branches.{best_rows}
+use Rattle.nexthop_resolver.specs.Resolving.{Resolving, nothing_known}
 use Rattle.nexthop_resolver.specs.declared.rows.Metric.{Metric}
 use Rattle.journal_text.proofs.JournalLemmas.{with_entries_append}
-use Rattle.hop_side.specs.Resolvers.{Resolvers, PeerRows, resolver_at, put_resolver, hop_links, IsHops, AllAgree, AllCounted}
+use Rattle.hop_side.specs.Resolvers.{Resolvers, PeerRows, resolver_at, put_resolver, res_at, rows_by, hop_links, IsHops, AllAgree, AllCounted}
 use Rattle.hop_side.specs.Steps.{LeadsRes, HasNoInterest, begin_entries as hop_begins}
 use Rattle.hop_side.proofs.PutLemmas.{at_put as resolver_put}
 use Rattle.peer_side.specs.Peers.{Chains, chain_at, put_chain, peer_links, filt_by, filt_at, begin_entries, routes_of, rules_of, IsPeers, AreBefore}
@@ -35,7 +37,7 @@ use Rattle.peer_side.proofs.PutLemmas.{at_put, put_here, put_each, put_kept, put
 use Rattle.router_core.specs.Moments.{Moment, with_chains, router_links}
 use Rattle.live_state.specs.Lives.{with_rules, begun_if_down}
 use Rattle.router_core.specs.Lives.{live_state}
-use Rattle.router_core.specs.Stands.{IsSilent, PeerStands, StandsAt, Stands, Claim, Claims, EachChain, EachPeer, InteriorTree, OneSpeaker, SameCount, EachResolver, SameResolvers, AnswersAgree, HopsCounted, NoStrangers}
+use Rattle.router_core.specs.Stands.{IsSilent, PeerStands, StandsAt, Stands, Claim, Claims, EachChain, EachPeer, InteriorTree, OneSpeaker, SameCount, EachResolver, SameResolvers, AnswersAgree, HopsCounted, NoStrangers, SmallNumbers}
 use Rattle.router_core.specs.Turns.{journal_lines}
 use Rattle.router_core.specs.Blocks.{ByPeer, BeginsIf, Declares, declared_speaker, declared_peer, begun}
 use Rattle.router_core.specs.Peers.{is_up}
@@ -137,8 +139,14 @@ module _ (m : Moment) (me : Speaker) (k : ℕ) (words : Speaker) (is_local : m.d
   abbrev hops_then : Resolvers
   hops_then = put_resolver k (nothing_known k) m.hops
 
-  declared_stands : IsPeers (put_chain k fresh m.chains) → BeginsWith k m.hops hops_then → Stands (declared_peer m me k words)
-  declared_stands peers begins = record { own = own; at = stands.at }
+  -- and none on its `res.K`
+  same_resolved : (j : ℕ) → res_at hops_then (filt_at (put_chain k fresh m.chains)) j ≡ res_at m.hops (filt_at (put_chain k fresh m.chains)) j
+  same_resolved j = ap (λ (o : Option (Resolving Metric)). rows_by o (filt_at (put_chain k fresh m.chains) j)) (resolver_put k (nothing_known k) m.hops j) ∙ by_bool (nat_eq j k) (λ b. rows_by (cond b (Some (nothing_known {A = Metric} k)) (resolver_at j m.hops)) (filt_at (put_chain k fresh m.chains) j) ≡ res_at m.hops (filt_at (put_chain k fresh m.chains)) j)
+      (λ e. subst (λ (n : ℕ). rows_by (Some (nothing_known {A = Metric} k)) (filt_at (put_chain k fresh m.chains) n) ≡ res_at m.hops (filt_at (put_chain k fresh m.chains)) n) (sym (equal_by j k e))
+      (ap (λ (u : Rows Route). rows_by (Some (nothing_known {A = Metric} k)) u) no_upper ∙ sym (ap (λ (o : Option (Resolving Metric)). rows_by o (filt_at (put_chain k fresh m.chains) k)) no_resolver_yet))) (λ _. refl)
+
+  declared_stands : k ≤ 64 → IsPeers (put_chain k fresh m.chains) → BeginsWith k m.hops hops_then → Stands (declared_peer m me k words)
+  declared_stands small peers begins = record { own = own; at = stands.at }
     where
       both_put : (j : ℕ) → is_some (resolver_at j hops_then) ≡ is_some (chain_at j (put_chain k fresh m.chains))
       both_put j = ap is_some (resolver_put k (nothing_known k) m.hops j) ∙ by_bool (nat_eq j k) (λ b. is_some (cond b (Some (nothing_known {A = Metric} k)) (resolver_at j m.hops)) ≡ is_some (cond b (Some fresh) (chain_at j m.chains)))
@@ -160,6 +168,8 @@ module _ (m : Moment) (me : Speaker) (k : ℕ) (words : Speaker) (is_local : m.d
       own SameResolvers = both_put
       own AnswersAgree = begins.agree m.registry (stands.own NoStrangers k no_resolver_yet) (stands.own AnswersAgree)
       own HopsCounted = begins.counted (filt_at (put_chain k fresh m.chains)) no_upper (subst (λ (u : PeerRows). AllCounted u m.hops) (λ i j. sym (quiet j) i) (stands.own HopsCounted))
+      own SmallNumbers = λ j some. by_bool (nat_eq j k) (λ b. is_some (cond b (Some fresh) (chain_at j m.chains)) ≡ true → j ≤ 64) (λ e _. subst (λ (n : ℕ). n ≤ 64) (sym (equal_by j k e)) small) (λ _ there. stands.own SmallNumbers j there)
+          (sym (ap is_some (at_put k fresh m.chains j)) ∙ some)
       own NoStrangers = λ j none. stands.own NoStrangers j (none_then j none)
       own OneSpeaker = put_each (λ j c. m.declared.speaker ≡ Some c.me) k fresh m.chains is_local (stands.own OneSpeaker)
       own SameCount = put_more k fresh m.chains no_chain_yet ∙ ap (λ (n : ℕ). n + 1) (stands.own SameCount) ∙ sym (length_push m.declared.peers (new_peer m.declared k words))
@@ -169,18 +179,18 @@ module _ (m : Moment) (me : Speaker) (k : ℕ) (words : Speaker) (is_local : m.d
   stays : {A : Type 0} (f : Option Chained → A) → f (Some fresh) ≡ f None → (j : ℕ) → f (chain_at j (put_chain k fresh m.chains)) ≡ f (chain_at j m.chains)
   stays f same = put_kept f k fresh m.chains (same ∙ ap f (sym no_chain_yet))
 
-  peer_stepped : LeadsIn Inward (peer_links m.chains) (begin_entries k) (peer_links (put_chain k fresh m.chains)) → IsPeers (put_chain k fresh m.chains) → BeginsWith k m.hops hops_then
+  peer_stepped : LeadsIn Inward (peer_links m.chains) (begin_entries k) (peer_links (put_chain k fresh m.chains)) → k ≤ 64 → IsPeers (put_chain k fresh m.chains) → BeginsWith k m.hops hops_then
       → HasStepped m (events.Peer k words) 0 (declared_peer m me k words) (journal_lines (begin_entries k ++ hop_begins k))
-  peer_stepped leads peers begins = record {
+  peer_stepped leads small peers begins = record {
     block = subst (λ (s : Option Speaker). Declares m s k words (journal_lines (begin_entries k ++ hop_begins k)) 0 (declared_peer m me k words)) (sym is_local) (refl, refl, refl);
     live = record (live_state m) { declared = with_peer m.declared k words };
     after = refl;
     keeps = record {
       leads = leads_both (router_links m) (router_links (with_chains m (put_chain k fresh m.chains))) (router_links (declared_peer m me k words)) (begin_entries k) (hop_begins k)
           (leads_inward m (put_chain k fresh m.chains) (begin_entries k) quiet leads)
-          (leads_resolved (with_chains m (put_chain k fresh m.chains)) m.registry hops_then (hop_begins k) (begins.leads (filt_at (put_chain k fresh m.chains)) no_upper));
+          (leads_resolved (with_chains m (put_chain k fresh m.chains)) me m.registry hops_then (record { address = 0; length = 0 }) (hop_begins k) None is_local (begins.leads (filt_at (put_chain k fresh m.chains)) no_upper) (ap best_rows (λ i j. same_resolved j i)));
       live = λ i. record (live_state m) { declared = with_peer m.declared k words; routes = λ j. stays routes_of refl j i; rules = λ j. stays rules_of refl j i };
-      stands = declared_stands peers begins;
+      stands = declared_stands small peers begins;
     };
   }
 
@@ -192,7 +202,7 @@ peer_declared m v me k words after p cs hs before j now view stands admitted loc
       journal_lines (begin_entries k ++ hop_begins k),
       hop.lines ∙ ap (λ (x : Journaled). with_entries x (hop_begins k)) lines ∙ with_entries_append before (begin_entries k) (hop_begins k),
       subst (λ (n : Moment). HasStepped v (events.Peer k words) 0 n (journal_lines (begin_entries k ++ hop_begins k))) (sym is)
-          (peer_stepped v me k words (sym local) (subst Stands (sym view) stands) absent (subst (λ (x : Chains). LeadsIn Inward (peer_links v.chains) (begin_entries k) (peer_links x)) chains leads) (subst IsPeers chains peers)
+          (peer_stepped v me k words (sym local) (subst Stands (sym view) stands) absent (subst (λ (x : Chains). LeadsIn Inward (peer_links v.chains) (begin_entries k) (peer_links x)) chains leads) (addable m.declared.speaker m.declared.peers k words admitted).0 (subst IsPeers chains peers)
           (subst (λ (x : Resolvers). BeginsWith k v.hops x) hop.after hop.begins)),
     )
   where

@@ -1,5 +1,5 @@
 -- One turn of a task of a peer.
-use Rattle.std.proofs.Common.{◌≡◌, ℕ, ◌≤◌, Bool, true, false, List, ◌++◌, Option, Some, None, refl, sym, ap, subst, ◌∙◌, arith}
+use Rattle.std.proofs.Common.{◌≡◌, ℕ, ◌≤◌, Bool, true, false, List, ◌++◌, Option, Some, refl, sym, ap, subst, ◌∙◌, arith}
 use Rattle.bgp_attr.specs.declared.route.Route.{Route}
 use Rattle.link_change.specs.declared.change.Change.{Change}
 use Rattle.link_change.specs.declared.turn.Turn.{Turn}
@@ -22,8 +22,11 @@ use Rattle.peer_side.specs.Steps.{Nears, TakesInward, ComesInward}
 use Rattle.router_core.specs.declared.router.Done.TheVariants.{Nothing, Taken}
 use Rattle.router_core.specs.declared.router.Phase.{Phase}
 use Rattle.router_core.specs.declared.router.Phase.TheVariants as phases
-use Rattle.router_core.specs.Moments.{Moment, with_chains, with_hops}
-use Rattle.router_core.specs.Stands.{IsSilent, PeerStands, Stands, HopsCounted, open_session}
+use Rattle.journal_text.specs.Texts.{entries_of}
+use Rattle.journal_text.specs.Walk.{Leads}
+use Rattle.router_core.specs.Bests.{resolved_at}
+use Rattle.router_core.specs.Moments.{Moment, with_chains, with_hops, router_links}
+use Rattle.router_core.specs.Stands.{IsSilent, PeerStands, Stands, HopsCounted, SmallNumbers, open_session}
 use Rattle.router_core.specs.Phases.{Frame, counts, most_of, rise, risen, tree_lost, Spends}
 use Rattle.router_core.specs.Turns.{IsOfPeers, IsPeerTurn, IsTurn, sent_of, has_work, phase_of, journal_lines}
 use Rattle.router_core.specs.Works.{IsUnit, Comes, SettlesPeer}
@@ -31,7 +34,7 @@ use Rattle.peer_side.proofs.WeldLemmas.{fallen_at, weld_after, weld_keeps, nears
 use Rattle.router_core.proofs.HopLemmas.{falls_lead, hops_fall}
 use Rattle.router_core.proofs.PhaseLemmas.{rises_to}
 use Rattle.router_core.proofs.MostLemmas.{capped, most_less}
-use Rattle.router_core.proofs.StandLemmas.{peer_of as peer_at_chain, resolver_there, same_peers, stands_with, live_same}
+use Rattle.router_core.proofs.StandLemmas.{peer_of as peer_at_chain, resolver_there, speaker_there, same_peers, stands_with, live_same}
 
 silent_as : (up : Bool) (c c' : Chained) → c'.incoming.tables.live ≡ c.incoming.tables.live → IsSilent up c → IsSilent up c'
 silent_as true c c' same silent = tt
@@ -76,11 +79,12 @@ unit_done : (task : Task) (sent : Option (Change Route)) (m : Moment) (fallen : 
 unit_done task sent m fallen m' entries rest stands t w =
     subst (λ (n : Moment). IsUnit task m n (journal_lines (entries ++ rest))) (sym w.after)
     (subst (λ (es : List (Entry Value)). IsUnit task m after (journal_lines (entries ++ es))) (sym w.lines) (record {
-      turn = turn_of_peer task m after (journal_lines (entries ++ (w.resolved ++ w.weld))) near
-          (sent, record { fallen = fallen; entries = entries; part = t; resolved = w.resolved; below = w.below; weld = w.weld; welds = w.welds; lines = refl; after = refl });
+      turn = turn_of_peer task m after (journal_lines (entries ++ (w.resolved ++ (w.best ++ w.weld)))) near
+          (sent, record { fallen = fallen; entries = entries; part = t; resolved = w.resolved; passed = w.passed; below = w.below; best = w.best; decided = w.decided; weld = w.weld; welds = w.welds; lines = refl; after = refl });
       work = record {
         keeps = record {
-          leads = falls_lead m fallen m'.chains m'.registry m'.hops entries w.resolved w.weld t.fall.leads goes.leads w.welds.step.leads quiet;
+          leads = subst (λ (es : List (Entry Value)). Leads (router_links m) (entries_of (journal_lines (entries ++ (w.resolved ++ (es ++ w.weld))))) (router_links after)) (sym w.decided.lines)
+              (falls_lead m c.me fallen m'.chains m'.registry m'.hops t.changes.0 entries w.resolved w.weld w.decided.best (speaker_there m stands k c t.turn.at) t.fall.leads goes.leads (w.decided.decides (resolved_at m.chains m.hops) t.changes.0 goes.comes) w.welds.step.leads quiet);
           live = live_same m k c c' m'.chains t.turn.at put t.leaves.live t.leaves.rules;
           stands = then;
         };
@@ -110,7 +114,7 @@ unit_done task sent m fallen m' entries rest stands t w =
     near : Nears task m.chains m'.chains
     near = nears_weld task (peer_of task) m.chains fallen m'.chains w.weld t.nearer w.welds
 
-    goes : GoesOn (peer_of task) t.changes.0 w.below.below m.hops m'.hops w.resolved (filt_at m.chains) (filt_at fallen)
+    goes : GoesOn (peer_of task) t.changes.0 w.passed m.hops m'.hops w.resolved (filt_at m.chains) (filt_at fallen)
     goes = w.below.goes (filt_at m.chains) (filt_at fallen) t.changes.0 (stands.own HopsCounted) (record { here = t.changes.1.rows; others = t.changes.1.others })
 
     p : (q : DeclaredPeer) × (peer_at (peer_of task) m.declared.peers ≡ Some q) × PeerStands q t.turn.chain
@@ -156,6 +160,11 @@ pub peer_resolves : (task : Task) (m v : Moment) (fallen : Chains) (before j : J
 peer_resolves task m v fallen before j turn some view stands comes =
     let t = took task v.chains fallen before j turn some comes in
     resolver_there v (subst Stands (sym view) stands) (peer_of task) t.2.turn.chain t.2.turn.at
+
+pub peer_small : (task : Task) (m v : Moment) (fallen : Chains) (before j : Journaled) (turn : Turn Route) → (turn ≡ turns.Nothing → ⊥) → v ≡ m → Stands m → ComesInward task v.chains fallen before j turn → peer_of task ≤ 64
+peer_small task m v fallen before j turn some view stands comes =
+    let t = took task v.chains fallen before j turn some comes in
+    (subst Stands (sym view) stands).own SmallNumbers (peer_of task) (ap is_some t.2.turn.at)
 
 -- where there is no work
 rests : (task : Task) (m : Moment) → IsOfPeers task → has_peer_work m.chains task ≡ false → has_work task m ≡ false

@@ -43,7 +43,7 @@ use Rattle.journal_laws.proofs.PrintedLines.{plain_printed, note_printed, answer
 use Rattle.journal_laws.proofs.DeclaredPeers.{IsKnown, known_peer}
 use Rattle.journal_laws.specs.Peers.{words_in, neighbours}
 use Rattle.link_region.specs.declared.regions.Region.{Region}
-use Rattle.link_region.specs.declared.regions.Region.TheVariants.{Inward, Resolved, InteriorRoutes, Forward, Elsewhere}
+use Rattle.link_region.specs.declared.regions.Region.TheVariants.{Inward, Resolved, Decided, InteriorRoutes, Forward, Elsewhere}
 use Rattle.link_region.specs.Regions.{region_of}
 use Rattle.loss_chain.proofs.ListLemmas.{all_both}
 use Rattle.in_chain.specs.Chains.{Chained}
@@ -55,6 +55,8 @@ use Rattle.journal_text.specs.Values.{route_value}
 use Rattle.nexthop_known.specs.declared.answer.Hop.{Hop}
 use Rattle.nexthop_resolver.specs.declared.rows.Metric.{Metric}
 use Rattle.nexthop_resolver.specs.Resolving.{Resolving, nothing_known}
+use Rattle.decision.proofs.LawLemmas.{best_is_a_branchs}
+use Rattle.router_core.specs.Bests.{best_at, best_links, resolved_at}
 use Rattle.hop_side.specs.Resolvers.{resolver_at, link_by, hop_links, metric_rows}
 use Rattle.journal_laws.proofs.PrintedHops.{AllHaveMetrics, rows_print, metrics_put}
 use Rattle.peer_side.specs.Peers.{chain_at, filt_by, filt_at, overdue_at, links_by}
@@ -143,6 +145,10 @@ module _ (m : Moment) (stands : Stands m) (printable : IsPrintableMoment m) wher
   absent = plain_printed (neighbours m.declared) lines.Absent refl refl tt
 
   -- ---- rows of links
+  filt_print : (k : ℕ) (o : Option Chained) → chain_at k m.chains ≡ o → Prints (neighbours m.declared) route_value (filt_by o)
+  filt_print k None at = λ p row is. absurd (cc)
+  filt_print k (Some c) at = filt_prints (neighbours m.declared) plain c (chain_fit k c at).0
+
   links_print : (link : Link) → PrintsIfAny (neighbours m.declared) (router_links m link)
   links_print link = by_region (region_of link)
     where
@@ -153,11 +159,15 @@ module _ (m : Moment) (stands : Stands m) (printable : IsPrintableMoment m) wher
       by_resolver : (k : ℕ) (o : Option (Resolving Metric)) → resolver_at k m.hops ≡ o → PrintsIfAny (neighbours m.declared) (link_by o (filt_at m.chains k))
       by_resolver k None at = λ rows p v none is. absurd (cc)
       by_resolver k (Some s) at = live_prints (neighbours m.declared) route_value (metric_rows s (filt_at m.chains k))
-          (rows_print (neighbours m.declared) (Some s) (filt_at m.chains k) (λ t is. printable.hops k t (at ∙ is)) (by_filter k (chain_at k m.chains) refl))
-        where
-          by_filter : (k : ℕ) (o : Option Chained) → chain_at k m.chains ≡ o → Prints (neighbours m.declared) route_value (filt_by o)
-          by_filter k None at = λ p row is. absurd (cc)
-          by_filter k (Some c) at = filt_prints (neighbours m.declared) plain c (chain_fit k c at).0
+          (rows_print (neighbours m.declared) (Some s) (filt_at m.chains k) (λ t is. printable.hops k t (at ∙ is)) (filt_print k (chain_at k m.chains) refl))
+
+      all_resolved : (k : ℕ) → Prints (neighbours m.declared) route_value (resolved_at m.chains m.hops k)
+      all_resolved k = rows_print (neighbours m.declared) (resolver_at k m.hops) (filt_at m.chains k) (λ t is. printable.hops k t is) (filt_print k (chain_at k m.chains) refl)
+
+      by_best : (s : Option Speaker) (l : Link) → PrintsIfAny (neighbours m.declared) (best_links s (best_at m.chains m.hops) l)
+      by_best None l = λ rows p v none is. absurd (cc)
+      by_best (Some me) links.Best = live_prints (neighbours m.declared) route_value (best_at m.chains m.hops) (λ p row is. let b = best_is_a_branchs (resolved_at m.chains m.hops) p row is in all_resolved b.0 p row b.2)
+      by_best (Some me) other = λ rows p v none is. absurd (cc)
 
       by_link : (l : Link) → PrintsIfAny (neighbours m.declared) (hop_links m.hops (filt_at m.chains) l)
       by_link (links.Res k) = by_resolver k (resolver_at k m.hops) refl
@@ -170,6 +180,7 @@ module _ (m : Moment) (stands : Stands m) (printable : IsPrintableMoment m) wher
       by_region : (r : Region) → PrintsIfAny (neighbours m.declared) (parts m r link)
       by_region Inward = by_chain (chain_at (owner_of link) m.chains) refl
       by_region Resolved = by_link link
+      by_region Decided = by_best m.declared.speaker link
       by_region InteriorRoutes = by_speaker m.declared.speaker
       by_region Forward = by_speaker m.declared.speaker
       by_region Elsewhere = λ rows p v none is. absurd (cc)
@@ -327,7 +338,7 @@ module _ (m : Moment) (stands : Stands m) (printable : IsPrintableMoment m) wher
       chains = printable.chains;
       interior = printable.interior;
       hops = printable.hops;
-      printed = (begun (links.Org Connected) tt, (begun (links.Org Static) tt, (begun (links.Org Ospf) tt, (begun (links.Org Rip) tt, (begun links.Low tt, (begun links.Dyn tt, (begun links.Int tt, (begun links.Fib tt, tt))))))));
+      printed = (begun (links.Org Connected) tt, (begun (links.Org Static) tt, (begun (links.Org Ospf) tt, (begun (links.Org Rip) tt, (begun links.Low tt, (begun links.Dyn tt, (begun links.Int tt, (begun links.Best tt, (begun links.Fib tt, tt)))))))));
     })
     event_printed (Peer k words) said turns m' formed is = declared m.declared.speaker k words said turns m' (formed.0.least, formed.0.fits) is
     event_printed (Up k) said turns m' formed is = by_peer (λ p. BeginsIf p.up m k said turns m') k _ (λ p at begins. begun_if p.up k said turns m' begins) is

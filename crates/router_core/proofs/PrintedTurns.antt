@@ -1,5 +1,5 @@
 -- What falls and turns say can be printed, and so can what stands behind them.
-use Rattle.std.proofs.Common.{◌≡◌, ℕ, zero, suc, not, refl, ◌≤◌, List, [], ◌∷◌, ◌++◌, Option, Some, None, IfSome, sym, ap, subst, ◌∙◌, inr}
+use Rattle.std.proofs.Common.{◌≡◌, ℕ, zero, suc, not, nat_eq, refl, ◌≤◌, List, [], ◌∷◌, ◌++◌, Option, Some, None, IfSome, sym, ap, subst, ◌∙◌, inr}
 use Rattle.std.specs.List.{AllByRecursion}
 use Rattle.addr4.specs.Prefixes.{Network}
 use Rattle.bgp_attr.specs.declared.attrs.Attrs.{Attrs}
@@ -18,7 +18,7 @@ use Rattle.journal_text.specs.declared.value.Value.{Value}
 use Rattle.journal_text.specs.declared.line.Line.{Line}
 use Rattle.journal_text.specs.declared.line.Line.TheVariants as lines
 use Rattle.journal_text.specs.declared.link.Link.{Link}
-use Rattle.journal_text.specs.declared.link.Link.TheVariants.{In, Org, Fib, Res}
+use Rattle.journal_text.specs.declared.link.Link.TheVariants.{In, Org, Fib, Res, Best}
 use Rattle.journal_text.specs.declared.link.Task.{Task}
 use Rattle.journal_text.specs.declared.link.Task.TheVariants.{Del, Fin, Nh, Rdel}
 use Rattle.journal_check.specs.Laws.{IsPrefix, IsNumberIfAny}
@@ -39,6 +39,11 @@ use Rattle.rib_route.specs.declared.rows.Interior.{Interior}
 use Rattle.register_interest.specs.Registers.{Registry}
 use Rattle.nexthop_resolver.specs.Kept.{metric_of}
 use Rattle.nexthop_resolver.specs.Registered.{answer_of}
+use Rattle.link_region.proofs.RegionLemmas.{by_bool}
+use Rattle.loss_chain.proofs.TableLemmas.{equal_by}
+use Rattle.decision.specs.Branches.{best_rows}
+use Rattle.decision.proofs.LawLemmas.{best_is_a_branchs}
+use Rattle.router_core.specs.Bests.{best_at, resolved_at}
 use Rattle.hop_side.specs.Resolvers.{Resolvers, PeerRows, resolver_at, res_at, AllCounted}
 use Rattle.hop_side.specs.Steps.{GoesOn, res_entries}
 use Rattle.peer_side.specs.Peers.{Chains, chain_at, put_chain, filt_by, filt_at, peer_of}
@@ -115,10 +120,17 @@ module _ (peers : ℕ → Option Neighbour) (most : ℕ) where
   res_printed k p' p sent h h' uppers now own named before then above below is = sent_printed peers route_value (Res k) (res_at h uppers k) (res_at h' now k) p sent (subst IsNameNumber own named)
       (rows_print peers (resolver_at k h) (uppers k) (λ s at. before k s at) above) (rows_print peers (resolver_at k h') (now k) (λ s at. then k s at) below) is
 
+  -- the rows of all `res.K`, and the best of them
+  resolved_prints : (a : Chains) (h : Resolvers) → AllHaveMetrics h → ((k : ℕ) → Prints peers route_value (filt_at a k)) → (k : ℕ) → Prints peers route_value (resolved_at a h k)
+  resolved_prints a h metrics above k = rows_print peers (resolver_at k h) (filt_at a k) (λ s at. metrics k s at) (above k)
+
+  best_prints : (rows : ℕ → Rows Route) → ((k : ℕ) → Prints peers route_value (rows k)) → Prints peers route_value (best_rows rows)
+  best_prints rows each p row is = let b = best_is_a_branchs rows p row is in each b.0 p row b.2
+
   -- a fall in a chain, what follows it, and the weld behind it
   chain_goes : (k : ℕ) (sent : Option (Change Route)) (P : Chains → List (Entry Value) → Type 0) (m : Moment) (less : Chained) (said : List Line) (m' : Moment) (p : Network) → IsFit peers plain less → less.peer.number ≡ k → less.incoming.number ≡ k → (f : FallsPeer k sent P m said m')
       → f.fallen ≡ put_chain k less m.chains → Changes k p sent m.chains f.fallen → ArePrintedEntries peers f.entries → Goes m said m'
-  chain_goes k sent P m less said m' p own number placed f put changes printed fit = (subst Fit (sym f.after) after, lines_printed said (f.entries ++ (f.resolved ++ f.weld)) f.lines (all_both Is f.entries _ printed (all_both Is f.resolved f.weld resolves (subst (ArePrintedEntries peers) (sym lines_are) welds))))
+  chain_goes k sent P m less said m' p own number placed f put changes printed fit = (subst Fit (sym f.after) after, lines_printed said (f.entries ++ (f.resolved ++ (f.best ++ f.weld))) f.lines (all_both Is f.entries _ printed (all_both Is f.resolved _ resolves (all_both Is f.best f.weld decides (subst (ArePrintedEntries peers) (sym lines_are) welds)))))
     where
       Is : Entry Value → Type 0
       Is e = IsPrinted peers (lines.Journal e)
@@ -135,18 +147,27 @@ module _ (peers : ℕ → Option Neighbour) (most : ℕ) where
       welded_own : IsFit peers plain (welded less)
       welded_own = with_fit peers plain less (welded_tables less.incoming.tables) own (welded_fit (Heard peers plain less) less.incoming.tables (tables_fit peers plain less own))
 
-      goes : GoesOn k p f.below.below m.hops m'.hops f.resolved (filt_at m.chains) (filt_at f.fallen)
+      goes : GoesOn k p f.passed m.hops m'.hops f.resolved (filt_at m.chains) (filt_at f.fallen)
       goes = f.below.goes (filt_at m.chains) (filt_at f.fallen) p fit.counted (record { here = changes.rows; others = changes.others })
 
       metrics : AllHaveMetrics m'.hops
-      metrics = resolved_metrics k sent f.below.below m.registry m'.registry m.hops m'.hops f.resolved (answered m fit) f.below.resolves fit.metrics
+      metrics = resolved_metrics k sent f.passed m.registry m'.registry m.hops m'.hops f.resolved (answered m fit) f.below.resolves fit.metrics
 
       fallen_prints : Prints peers route_value (filt_at f.fallen k)
       fallen_prints = subst (λ (o : Option Chained). Prints peers route_value (filt_by o)) (sym (fallen_at k m.chains f.fallen less put)) (filt_prints peers plain less own)
 
+      all_fallen_print : (j : ℕ) → Prints peers route_value (filt_at f.fallen j)
+      all_fallen_print j = by_bool (nat_eq j k) (λ b. Prints peers route_value (filt_at f.fallen j)) (λ e. subst (λ (n : ℕ). Prints peers route_value (filt_at f.fallen n)) (sym (equal_by j k e)) fallen_prints)
+          (λ e. subst (λ (rows : Rows Route). Prints peers route_value rows) (sym (changes.others j e)) (filt_fit m fit j))
+
+      decides : ArePrintedEntries peers f.best
+      decides = subst (ArePrintedEntries peers) (sym f.decided.lines)
+          (sent_printed peers route_value Best (best_at m.chains m.hops) (best_at f.fallen m'.hops) p f.decided.best tt (best_prints (resolved_at m.chains m.hops) (resolved_prints m.chains m.hops fit.metrics (filt_fit m fit)))
+          (best_prints (resolved_at f.fallen m'.hops) (resolved_prints f.fallen m'.hops metrics all_fallen_print)) (f.decided.decides (resolved_at m.chains m.hops) p goes.comes))
+
       resolves : ArePrintedEntries peers f.resolved
       resolves = subst (ArePrintedEntries peers) (sym f.below.lines)
-          (res_printed k less.incoming.number p f.below.below m.hops m'.hops (filt_at m.chains) (filt_at f.fallen) placed own.named fit.metrics metrics (filt_fit m fit k) fallen_prints goes.comes.here)
+          (res_printed k less.incoming.number p f.passed m.hops m'.hops (filt_at m.chains) (filt_at f.fallen) placed own.named fit.metrics metrics (filt_fit m fit k) fallen_prints goes.comes.here)
 
       after : Fit (with_hops (with_chains m m'.chains) m'.registry m'.hops)
       after = record {
@@ -206,6 +227,8 @@ module _ (peers : ℕ → Option Neighbour) (most : ℕ) where
       let own = fit.chains k t.chain t.at in
       let goes = t.turn.goes (filt_at m.chains) (ap filt_by t.at) fit.counted in
       let metrics : AllHaveMetrics m'.hops = metrics_put k u.taken m.hops m'.hops u.after (metrics_turned _ _ m.registry m'.registry u.resolver u.taken t.sent (answered m fit) u.turned (fit.metrics k u.resolver u.at)) fit.metrics in
+      let decides : ArePrintedEntries peers t.best = subst (ArePrintedEntries peers) (sym t.decided.lines) (sent_printed peers route_value Best (best_at m.chains m.hops) (best_at m.chains m'.hops) goes.0 t.decided.best tt (best_prints (resolved_at m.chains m.hops) (resolved_prints m.chains m.hops fit.metrics (filt_fit m fit)))
+      (best_prints (resolved_at m.chains m'.hops) (resolved_prints m.chains m'.hops metrics (filt_fit m fit))) (t.decided.decides (resolved_at m.chains m.hops) goes.0 goes.1.comes)) in
       let printed = subst (ArePrintedEntries peers) (sym u.lines) (res_printed k k goes.0 t.sent m.hops m'.hops (filt_at m.chains) (filt_at m.chains) refl (named_by own.0 (fit.placed k t.chain t.at)) fit.metrics metrics (filt_fit m fit k) (filt_fit m fit k) goes.1.comes.here) in (
         subst Fit (sym t.after) (record {
           chains = fit.chains;
@@ -216,7 +239,7 @@ module _ (peers : ℕ → Option Neighbour) (most : ℕ) where
           registered = ap tables.get t.turn.agreed.others.rows ∙ fit.registered;
           metrics = metrics;
         }),
-        lines_printed said t.entries t.lines printed,
+        lines_printed said (t.entries ++ t.best) t.lines (all_both (λ (e : Entry Value). IsPrinted peers (lines.Journal e)) t.entries t.best printed decides),
       )
     where
       named_by : IsFit peers plain t.chain → t.chain.incoming.number ≡ k → IsNameNumber k

@@ -6,11 +6,13 @@ use Rattle.journal_text.specs.declared.entry.Entry.{Entry}
 use Rattle.journal_text.specs.Walk.{Leads}
 use Rattle.journal_text.specs.Texts.{entries_of}
 use Rattle.journal_text.proofs.JournalLemmas.{entries_of_entries}
-use Rattle.hop_side.specs.Resolvers.{hop_links}
+use Rattle.decision.specs.Branches.{best_rows}
+use Rattle.hop_side.specs.Resolvers.{PeerRows, res_at, hop_links}
+use Rattle.router_core.specs.Bests.{best_links}
 use Rattle.peer_side.specs.Peers.{Chains, peer_links, filt_at}
 use Rattle.rib_tree.specs.Trees.{Treed}
 use Rattle.link_region.specs.declared.regions.Region.{Region}
-use Rattle.link_region.specs.declared.regions.Region.TheVariants.{Inward, Resolved, InteriorRoutes, Forward}
+use Rattle.link_region.specs.declared.regions.Region.TheVariants.{Inward, Resolved, Decided, InteriorRoutes, Forward}
 use Rattle.link_region.specs.Regions.{Sides, region_of, joined, with_side, LeadsIn}
 use Rattle.router_core.specs.Moments.{Moment, with_chains, with_tree, rib_by, parts, router_links}
 use Rattle.router_core.specs.Turns.{journal_lines}
@@ -27,6 +29,7 @@ inward_set m cs quiet i r = each r i
     each : (r : Region) → with_side (parts m) Inward (peer_links cs) r ≡ parts (record m { chains = cs }) r
     each Inward = refl
     each Resolved = ap (hop_links m.hops) (λ i j. sym (quiet j) i)
+    each Decided = ap (λ (u : PeerRows). best_links m.declared.speaker (best_rows (res_at m.hops u))) (λ i j. sym (quiet j) i)
     each other = refl
 
 -- `fib` follows `int`: between the two it is the old one

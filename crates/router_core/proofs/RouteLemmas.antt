@@ -22,11 +22,13 @@ use Rattle.journal_text.proofs.JournalLemmas.{with_entries_append, with_entries_
 use Rattle.journal_text.proofs.WalkLemmas.{leads_append}
 use Rattle.register_interest.specs.declared.interests.Interest.{Interest}
 use Rattle.register_interest.specs.Registers.{Registry, put_row}
-use Rattle.hop_side.specs.Resolvers.{Resolvers, hop_links}
+use Rattle.decision.specs.Branches.{best_rows}
+use Rattle.hop_side.specs.Resolvers.{Resolvers, PeerRows, res_at, hop_links}
+use Rattle.router_core.specs.Bests.{best_links}
 use Rattle.hop_side.specs.Steps.{ReachesBelow}
 use Rattle.peer_side.specs.Peers.{filt_at}
 use Rattle.link_region.specs.declared.regions.Region.{Region}
-use Rattle.link_region.specs.declared.regions.Region.TheVariants.{Resolved}
+use Rattle.link_region.specs.declared.regions.Region.TheVariants.{Resolved, Decided}
 use Rattle.link_region.specs.Regions.{joined}
 use Rattle.rib_tree.specs.Branches.{Branch}
 use Rattle.rib_tree.specs.BranchSteps.{welded_branch, fed_branch}
@@ -59,12 +61,13 @@ keeps_up r r' h h' old new p (Some change) below is sent =
     ap tables.get below.1.rows ∙ put_is_with r.rows change.prefix change.after ∙ ap (λ (x : Rows Interior). with_row x change.prefix change.after) is ∙ sym sent.2
 
 -- the resolvers then
-hops_then : (m : Moment) (sent : Option (Change Interior)) (r : Registry Interior) (h : Resolvers) → Stands m → Invalidates sent m.registry r m.hops h → HopsStand m.chains r h × (hop_links h (filt_at m.chains) ≡ hop_links m.hops (filt_at m.chains))
+hops_then : (m : Moment) (sent : Option (Change Interior)) (r : Registry Interior) (h : Resolvers) → Stands m → Invalidates sent m.registry r m.hops h → HopsStand m.chains r h × (hop_links h (filt_at m.chains) ≡ hop_links m.hops (filt_at m.chains)) × (res_at h (filt_at m.chains) ≡ res_at m.hops (filt_at m.chains))
 hops_then m None r h stands below = (
   subst (λ (x : Registry Interior). HopsStand m.chains x h) (sym below.0) (subst (λ (x : Resolvers). HopsStand m.chains m.registry x) (sym below.1) (hops_of m stands)),
   ap (λ (x : Resolvers). hop_links x (filt_at m.chains)) below.1,
+  ap (λ (x : Resolvers). res_at x (filt_at m.chains)) below.1,
 )
-hops_then m (Some change) r h stands below = (hops_reached m below.0 r h stands below.1.interests below.1.answers below.2, below.2.stays.links (filt_at m.chains))
+hops_then m (Some change) r h stands below = (hops_reached m below.0 r h stands below.1.interests below.1.answers below.2, below.2.stays.links (filt_at m.chains), below.2.stays.rows (filt_at m.chains))
 
 pub fib_sent : (old new : Rows Interior) (p : Network) (sent : Option (Change Interior)) (below : Option (Change FibRow)) → Forwards sent below → IsSent old new p sent → IsSent (forwarded old) (forwarded new) p below
 fib_sent old new p None below none same = subst (λ (b : Option (Change FibRow)). IsSent (forwarded old) (forwarded new) p b) (sym none) (ap forwarded same)
@@ -190,7 +193,7 @@ routes_on m me proto b p way sent t m' before j now stands since at few rows add
     first : Leads (router_links m) (entries ++ fib) (router_links (with_tree m t))
     first = leads_rib m me since t entries p settles.below adds.2.leads fib_is
 
-    hops : HopsStand m.chains m'.registry m'.hops × (hop_links m'.hops (filt_at m.chains) ≡ hop_links m.hops (filt_at m.chains))
+    hops : HopsStand m.chains m'.registry m'.hops × (hop_links m'.hops (filt_at m.chains) ≡ hop_links m.hops (filt_at m.chains)) × (res_at m'.hops (filt_at m.chains) ≡ res_at m.hops (filt_at m.chains))
     hops = hops_then m sent m'.registry m'.hops stands settles.below_int
 
     same : router_links (with_tree m (welded_tree proto t)) ≡ router_links (with_hops (with_tree m (welded_tree proto t)) m'.registry m'.hops)
@@ -198,6 +201,7 @@ routes_on m me proto b p way sent t m' before j now stands since at few rows add
       where
         each : (s : Region) → parts (with_tree m (welded_tree proto t)) s ≡ parts (with_hops (with_tree m (welded_tree proto t)) m'.registry m'.hops) s
         each Resolved = sym hops.1
+        each Decided = ap (λ (u : PeerRows). best_links m.declared.speaker (best_rows u)) (sym hops.2)
         each other = refl
 
     second : Leads (router_links (with_tree m t)) (tree_weld_entries proto t) (router_links (with_hops (with_tree m (welded_tree proto t)) m'.registry m'.hops))

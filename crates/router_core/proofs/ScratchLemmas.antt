@@ -10,7 +10,7 @@ use Rattle.policy_rules.specs.declared.rule.Rule.{Rule}
 use Rattle.pass_core.specs.Passed.{Walked, present, present_of}
 use Rattle.filter_bank.specs.Filtered.{passed_rows, filtered_rows}
 use Rattle.journal_text.specs.declared.link.Link.{Link}
-use Rattle.journal_text.specs.declared.link.Link.TheVariants.{In, Peer, Filt, Res, Org, Lost as LostOf, Low, Dyn, Int, Fib}
+use Rattle.journal_text.specs.declared.link.Link.TheVariants.{In, Peer, Filt, Res, Best, Org, Lost as LostOf, Low, Dyn, Int, Fib}
 use Rattle.journal_text.specs.declared.link.Task.{Task}
 use Rattle.journal_text.specs.declared.link.Task.TheVariants.{Del, Fin, Nh, Rdel}
 use Rattle.journal_text.specs.declared.value.Value.{Value}
@@ -33,7 +33,12 @@ use Rattle.rib_merge.specs.Forwards.{forwarded}
 use Rattle.router_core.specs.declared.router.Phase.TheVariants as phases
 use Rattle.peer_side.specs.Peers.{chain_at, links_by, filt_by, filt_at, routes_of, rules_of, has_turn_in}
 use Rattle.live_state.specs.Lives.{Routes, Interiors}
-use Rattle.live_state.specs.Decided.{live_rows, judged_rows, least_rows, origins, since_local, with_metric_of, resolved_row, resolved_rows}
+use Rattle.live_state.specs.Decided.{live_rows, judged_rows, least_rows, origins, since_local, with_metric_of, resolved_row, resolved_rows, rows_if_any, resolved_of, picked_rows}
+use Rattle.best_path.specs.Steps.{pick}
+use Rattle.decision.specs.Branches.{routes_below}
+use Rattle.decision.proofs.LawLemmas.{best_is_picked}
+use Rattle.router_core.specs.Bests.{best_at, best_links, resolved_at}
+use Rattle.router_core.specs.Lives.{live_state}
 use Rattle.addr4.specs.Prefixes.{Network}
 use Rattle.bgp_attr.specs.declared.route.Route.{Route}
 use Rattle.register_interest.specs.Covers.{longest}
@@ -49,7 +54,7 @@ use Rattle.rib_tree.proofs.RestLemmas.{no_stages, no_link, Rest, org_rests, two_
 use Rattle.router_core.specs.Moments.{Moment, rib_by}
 use Rattle.router_core.specs.Stands.{StandsAt, Stands, EachChain, EachPeer, OneSpeaker, EachResolver, SameResolvers, AnswersAgree, HopsCounted}
 use Rattle.router_core.proofs.StandLemmas.{registered_rows}
-use Rattle.router_core.specs.Scratch.{IsAtRest, IsExactAt, IsExact}
+use Rattle.router_core.specs.Scratch.{HoldsUp, IsAtRest, IsExactAt, IsExact}
 use Rattle.loss_chain.proofs.TableLemmas.{same_by, no_table}
 use Rattle.router_core.specs.Turns.{has_work, IsSettled}
 
@@ -64,6 +69,19 @@ rows_settled c stages walk =
     ap (λ (w : Option (Walked (List Rule))). passed_rows c.me c.peer (record { in_force = c.filter.in_force; walk = w }) (in_rows c.incoming)) walk
     ∙ ap (λ (ds : List (Lost Attrs)). filtered_rows c.me c.peer c.filter.in_force (rows_below c.incoming.tables.live ds)) stages
     ∙ ap (λ (w : Option (Walked (List Rule))). filtered_rows c.me c.peer (present_of c.filter.in_force w) (tables.get c.incoming.tables.live)) (sym walk)
+
+-- the rows of `res.K`, if it is live
+abbrev opt_rows : Option (Resolving Metric) → Rows Route → Option (Rows Route)
+opt_rows None upper = None
+opt_rows (Some s) upper = Some (metric_rows s upper)
+
+opt_link : (o : Option (Resolving Metric)) (upper : Rows Route) → link_by o upper ≡ option_map route_rows (opt_rows o upper)
+opt_link None upper = refl
+opt_link (Some s) upper = refl
+
+opt_none : (o : Option (Resolving Metric)) (upper : Rows Route) → rows_by o upper ≡ rows_if_any (opt_rows o upper)
+opt_none None upper = refl
+opt_none (Some s) upper = refl
 
 module _ (m : Moment) (stands : Stands m) where
   -- ---- peers
@@ -144,14 +162,14 @@ module _ (m : Moment) (stands : Stands m) where
       ∙ ap (λ (rows : Rows Interior). res_from (longest 32 rows) (filt_at m.chains k)) (registered_rows m stands ∙ int_is (λ p of n. rest (Rdel p n) of))
       ∙ resolved_is (least_rows routes_in (origins Int)) (filt_at m.chains k)
 
-  res_exact : (k : ℕ) → IsAtRest m (Res k) → (p : Option DeclaredPeer) (c : Option Chained) → chain_at k m.chains ≡ c → StandsAt p c
-      → link_by (resolver_at k m.hops) (filt_at m.chains k) ≡ option_map route_rows (option_map (resolved_rows (least_rows routes_in (origins Int))) (judged_rows m.declared.speaker p (rules_of c) (routes_of c)))
-  res_exact k rest None None at there =
-      ap (λ (o : Option (Resolving Metric)). link_by o (filt_at m.chains k)) (no_table (resolver_at k m.hops) (stands.own SameResolvers k ∙ ap is_some at))
-      ∙ sym (ap (λ (o : Option (Rows Route)). option_map route_rows (option_map (resolved_rows (least_rows routes_in (origins Int))) o)) (unjudged m.declared.speaker [] tables.empty))
-  res_exact k rest None (Some c) at there = absurd there
-  res_exact k rest (Some p) None at there = absurd there
-  res_exact k rest (Some p) (Some c) at there = by_resolver (resolver_at k m.hops) refl (stands.own SameResolvers k ∙ ap is_some at)
+  res_is : (k : ℕ) → IsAtRest m (Res k) → (p : Option DeclaredPeer) (c : Option Chained) → chain_at k m.chains ≡ c → StandsAt p c
+      → opt_rows (resolver_at k m.hops) (filt_at m.chains k) ≡ option_map (resolved_rows (least_rows routes_in (origins Int))) (judged_rows m.declared.speaker p (rules_of c) (routes_of c))
+  res_is k rest None None at there =
+      ap (λ (o : Option (Resolving Metric)). opt_rows o (filt_at m.chains k)) (no_table (resolver_at k m.hops) (stands.own SameResolvers k ∙ ap is_some at))
+      ∙ sym (ap (λ (o : Option (Rows Route)). option_map (resolved_rows (least_rows routes_in (origins Int))) o) (unjudged m.declared.speaker [] tables.empty))
+  res_is k rest None (Some c) at there = absurd there
+  res_is k rest (Some p) None at there = absurd there
+  res_is k rest (Some p) (Some c) at there = by_resolver (resolver_at k m.hops) refl (stands.own SameResolvers k ∙ ap is_some at)
     where
       judged : Some (filt_at m.chains k) ≡ judged_rows m.declared.speaker (Some p) (present c.filter) c.incoming.tables.live
       judged =
@@ -161,18 +179,38 @@ module _ (m : Moment) (stands : Stands m) where
           ∙ ap (λ (s : Option Speaker). judged_rows s (Some p) (present c.filter) c.incoming.tables.live) (sym (stands.own OneSpeaker k c at))
 
       by_resolver : (o : Option (Resolving Metric)) → resolver_at k m.hops ≡ o → is_some o ≡ true
-          → link_by o (filt_at m.chains k) ≡ option_map route_rows (option_map (resolved_rows (least_rows routes_in (origins Int))) (judged_rows m.declared.speaker (Some p) (present c.filter) c.incoming.tables.live))
+          → opt_rows o (filt_at m.chains k) ≡ option_map (resolved_rows (least_rows routes_in (origins Int))) (judged_rows m.declared.speaker (Some p) (present c.filter) c.incoming.tables.live)
       by_resolver None is some = absurd (let clash : false ≡ true = some in cc)
-      by_resolver (Some s) is some =
-          ap (λ (rows : Rows Route). Some (route_rows rows)) (res_rests k rest s is)
-          ∙ ap (λ (o : Option (Rows Route)). option_map route_rows (option_map (resolved_rows (least_rows routes_in (origins Int))) o)) judged
+      by_resolver (Some s) is some = ap (λ (rows : Rows Route). Some rows) (res_rests k rest s is) ∙ ap (λ (o : Option (Rows Route)). option_map (resolved_rows (least_rows routes_in (origins Int))) o) judged
+
+  res_at_rest : (k : ℕ) → IsAtRest m (Res k) → opt_rows (resolver_at k m.hops) (filt_at m.chains k) ≡ resolved_of (live_state m) k
+  res_at_rest k rest = res_is k rest (peer_at k m.declared.peers) (chain_at k m.chains) refl (stands.own EachPeer k)
+
+  -- ---- the decision
+  -- what holds a `res.K` up holds `best` up
+  best_holds : (task : Task) (k : ℕ) → HoldsUp task (Res k) → HoldsUp task Best
+  best_holds (Del j s) k holds = tt
+  best_holds (Fin j) k holds = tt
+  best_holds (Nh j) k holds = tt
+  best_holds (Rdel proto n) k holds = holds
+
+  best_is : IsAtRest m Best → best_at m.chains m.hops ≡ picked_rows (λ k. rows_if_any (resolved_of (live_state m) k))
+  best_is rest i p = (best_is_picked (resolved_at m.chains m.hops) p ∙ ap (λ (rows : ℕ → Rows Route). pick (routes_below 65 rows p)) (λ j k. same k j)) i
+    where
+      same : (k : ℕ) → resolved_at m.chains m.hops k ≡ rows_if_any (resolved_of (live_state m) k)
+      same k = opt_none (resolver_at k m.hops) (filt_at m.chains k) ∙ ap rows_if_any (res_at_rest k (λ task holds. rest task (best_holds task k holds)))
+
+  best_exact : IsAtRest m Best → (s : Option Speaker) → best_links s (best_at m.chains m.hops) Best ≡ option_map route_rows (since_local s (picked_rows (λ k. rows_if_any (resolved_of (live_state m) k))))
+  best_exact rest None = refl
+  best_exact rest (Some me) = ap (λ (rows : Rows Route). Some (route_rows rows)) (best_is rest)
 
   -- ---- each link
   pub at_rest_is_exact : (link : Link) → IsAtRest m link → IsExactAt m link
   at_rest_is_exact (In k) rest = in_exact k rest (peer_at k m.declared.peers) (chain_at k m.chains) refl (stands.own EachPeer k)
   at_rest_is_exact (Peer k s) rest = peer_exact k s rest (chain_at k m.chains) refl
   at_rest_is_exact (Filt k) rest = filt_exact k rest (peer_at k m.declared.peers) (chain_at k m.chains) refl (stands.own EachPeer k)
-  at_rest_is_exact (Res k) rest = res_exact k rest (peer_at k m.declared.peers) (chain_at k m.chains) refl (stands.own EachPeer k)
+  at_rest_is_exact (Res k) rest = opt_link (resolver_at k m.hops) (filt_at m.chains k) ∙ ap (option_map route_rows) (res_at_rest k rest)
+  at_rest_is_exact Best rest = best_exact rest m.declared.speaker
   at_rest_is_exact (Org p) rest = since interior_rows (org_rows (branch_of p m.tree)) (tables.get (routes_in p)) (Org p) refl (org_rests m.tree p (λ n. rest (Rdel p n) (0, omega arith, refl))) m.declared.speaker
   at_rest_is_exact (LostOf p n) rest = lost_exact p n rest m.declared.speaker
   at_rest_is_exact Low rest = since interior_rows (low_rows m.tree) (least_rows routes_in (origins Low)) Low refl (two_are Connected Static (λ p of n. rest (Rdel p n) of)) m.declared.speaker

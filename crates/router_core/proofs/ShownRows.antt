@@ -5,7 +5,7 @@ use Rattle.bgp_attr.specs.declared.route.Route.{Route}
 use Rattle.nexthop_resolver.specs.declared.rows.Metric.{Metric}
 use Rattle.nexthop_resolver.specs.Resolving.{Resolving}
 use Rattle.in_chain.specs.Chains.{Chained, filt_rows, filt_candidates}
-use Rattle.journal_text.specs.declared.link.Link.TheVariants.{Res}
+use Rattle.journal_text.specs.declared.link.Link.TheVariants.{Res, Best}
 use Rattle.journal_text.specs.Values.{route_value, route_rows}
 use Rattle.std.proofs.lemmas.List.{map-append}
 use Rattle.addr4.specs.Prefixes.{Network}
@@ -22,12 +22,13 @@ use Rattle.router_core.specs.Moments.{Moment, router_links, rib_by}
 use Rattle.journal_text.specs.Journals.{Journaled, with_lines}
 use Rattle.journal_text.proofs.JournalLemmas.{with_lines_append}
 use Rattle.journal_laws.proofs.ShownRows.{IsShown, none_shown, one_shown, none_more, none_left, with_none}
+use Rattle.router_core.specs.Bests.{best_at, best_links}
 use Rattle.router_core.specs.Blocks.{AreRows, answer_lines, Shows}
 use Rattle.router_core.specs.Lookups.{listed_at, row_lines, Counts, ShowsRow, IsCountOf, IsNextPlace}
 use Rattle.bgp_attr.specs.declared.speaker.Speaker.{Speaker}
 use Rattle.rib_tree.specs.Trees.{Treed}
 use Rattle.rib_tree.specs.Forwards.{rib_links}
-use Rattle.link_region.specs.declared.regions.Region.TheVariants.{Inward, Resolved}
+use Rattle.link_region.specs.declared.regions.Region.TheVariants.{Inward, Resolved, Decided}
 use Rattle.link_region.specs.Regions.{region_of}
 use Rattle.hop_side.specs.Resolvers.{resolver_at, link_by, hop_links, metric_rows, rows_by}
 use Rattle.peer_side.specs.Peers.{chain_at, peer_links, peer_candidates, filt_by, filt_at}
@@ -191,4 +192,25 @@ next_resolved m v link k place result c view is there next covers = (
       let upper : filt_rows c ≡ filt_at m.chains k = ap filt_by there ∙ ap (λ (n : Moment). filt_at n.chains k) view in
       let same : rows_by (resolver_at k v.hops) (filt_rows c) ≡ metric_rows own.0 (filt_at m.chains k) = ap (λ (n : Moment). rows_by (resolver_at k n.hops) (filt_rows c)) view ∙ ap (λ (o : Option (Resolving Metric)). rows_by o (filt_rows c)) own.1 ∙ ap (metric_rows own.0) upper in
       ap (λ (r : Rows Value). r q) own.2 ∙ ap (option_map route_value) (ap (λ (r : Rows Route). r q) (sym same) ∙ covers q lacks),
+)
+
+-- `best` where it is live, whose candidates are those of the decision
+best_rows_at : (s : Option Speaker) (rows : Rows Route) (link : Link) → IsSome (best_links s rows link) → best_links s rows link ≡ Some (route_rows rows)
+best_rows_at None rows link live = absurd (cc)
+best_rows_at (Some me) rows Best live = refl
+best_rows_at (Some me) rows other live = absurd (cc)
+
+pub has_best : (m : Moment) (link : Link) (p : Network) (row : Option Route) → IsSome (best_links m.declared.speaker (best_at m.chains m.hops) link) → row ≡ best_at m.chains m.hops p
+    → HasRow (best_links m.declared.speaker (best_at m.chains m.hops)) link p (option_map route_value row)
+has_best m link p row live is = (route_rows (best_at m.chains m.hops), best_rows_at m.declared.speaker (best_at m.chains m.hops) link live, ap (option_map route_value) (sym is))
+
+pub next_best : (m : Moment) (link : Link) (place result : Option Network) (candidates : Candidates) → region_of link ≡ Decided → IsSome (router_links m link) → IsNextCandidate candidates place result → CoversRows candidates (best_at m.chains m.hops)
+    → IsNextPlace (router_links m link) place result
+next_best m link place result candidates here live next covers = (
+  candidates,
+  next,
+  λ rows is q lacks.
+      let at : router_links m link ≡ best_links m.declared.speaker (best_at m.chains m.hops) link = in_region m link Decided here in
+      let own : Some rows ≡ Some (route_rows (best_at m.chains m.hops)) = sym is ∙ at ∙ best_rows_at m.declared.speaker (best_at m.chains m.hops) link (subst IsSome at live) in
+      ap (λ (r : Rows Value). r q) (one_of rows (route_rows (best_at m.chains m.hops)) own) ∙ ap (option_map route_value) (covers q lacks),
 )

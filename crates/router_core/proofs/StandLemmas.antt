@@ -21,9 +21,8 @@ use Rattle.rib_route.specs.declared.rows.Interior.{Interior}
 use Rattle.register_interest.specs.Registers.{Registry}
 use Rattle.hop_side.specs.Resolvers.{Resolvers, resolver_at}
 use Rattle.addr4.specs.Prefixes.{Network}
-use Rattle.link_change.specs.Rows.{Rows}
 use Rattle.router_core.proofs.HopLemmas.{HopsStand}
-use Rattle.router_core.specs.Stands.{PeerStands, StandsAt, TreeStands, Stands, Claim, Claims, EachChain, EachPeer, InteriorTree, OneSpeaker, Registered, SameCount, EachResolver, SameResolvers, AnswersAgree, HopsCounted, NoStrangers, Tie, Ties, here}
+use Rattle.router_core.specs.Stands.{PeerStands, StandsAt, TreeStands, Stands, Claim, Claims, EachChain, EachPeer, InteriorTree, OneSpeaker, Registered, SameCount, EachResolver, SameResolvers, AnswersAgree, HopsCounted, NoStrangers, SmallNumbers, Tie, Ties, here}
 
 -- the moment with this declared, and these chains
 abbrev pub remade : Moment → Declaration → Chains → Moment
@@ -63,6 +62,14 @@ peers_sound m v view stands = subst (λ (n : Moment). IsPeers n.chains) (sym vie
 pub resolver_there : (m : Moment) → Stands m → (k : ℕ) (c : Chained) → chain_at k m.chains ≡ Some c → IsSome (resolver_at k m.hops)
 resolver_there m stands k c at = stands.own SameResolvers k ∙ ap is_some at
 
+-- where another chain stands for the peer
+pub same_peers : (m : Moment) (k : ℕ) (c c' : Chained) (cs : Chains) → chain_at k m.chains ≡ Some c → cs ≡ put_chain k c' m.chains → (j : ℕ) → is_some (chain_at j cs) ≡ is_some (chain_at j m.chains)
+same_peers m k c c' cs at is j = ap (λ (x : Chains). is_some (chain_at j x)) is ∙ put_kept is_some k c' m.chains (ap is_some (sym at)) j
+
+-- its speaker
+pub speaker_there : (m : Moment) → Stands m → (k : ℕ) (c : Chained) → chain_at k m.chains ≡ Some c → m.declared.speaker ≡ Some c.me
+speaker_there m stands k c at = stands.own OneSpeaker k c at
+
 -- ---- all peers
 -- the same speaker, as many peers, and the others' sessions as they were
 pub record KeepsOthers (k : ℕ) (before now : Declaration) : Type 0 where
@@ -86,6 +93,7 @@ stands_put m now k c c' cs r h stands at is peers me keeps own_peer rows hops_th
     own AnswersAgree = hops.agree
     own HopsCounted = hops.counted
     own NoStrangers = hops.strangers
+    own SmallNumbers = λ j some. stands.own SmallNumbers j (sym (same_peers m k c c' (put_chain k c' m.chains) at refl j) ∙ some)
     own EachChain = subst IsPeers is peers
     own EachPeer = λ j. subst (λ (o : Option Chained). StandsAt (peer_at j now.peers) o) (sym (at_put k c' m.chains j))
         (by_bool (nat_eq j k) (λ b. StandsAt (peer_at j now.peers) (cond b (Some c') (chain_at j m.chains)))
@@ -99,10 +107,6 @@ pub stands_with : (m : Moment) (k : ℕ) (c c' : Chained) (cs : Chains) (r : Reg
     → PeerStands p c' → r.rows ≡ m.registry.rows → HopsStand cs r h → Stands (with_hops (with_chains m cs) r h)
 stands_with m k c c' cs r h p stands at is peers me peer here rows hops =
     stands_put m m.declared k c c' cs r h stands at is peers me (record { speaker = refl; count = refl; others = λ j e. refl }) (subst (λ (o : Option DeclaredPeer). StandsAt o (Some c')) (sym peer) here) rows hops
-
--- where another chain stands for the peer
-pub same_peers : (m : Moment) (k : ℕ) (c c' : Chained) (cs : Chains) → chain_at k m.chains ≡ Some c → cs ≡ put_chain k c' m.chains → (j : ℕ) → is_some (chain_at j cs) ≡ is_some (chain_at j m.chains)
-same_peers m k c c' cs at is j = ap (λ (x : Chains). is_some (chain_at j x)) is ∙ put_kept is_some k c' m.chains (ap is_some (sym at)) j
 
 -- ---- what is live
 abbrev pub live_by : Moment → Declaration → (ℕ → Routes) → (ℕ → List Rule) → LiveState

@@ -1,3 +1,4 @@
+pub mod Bests
 pub mod Moments
 pub mod Lives
 pub mod Phases

@@ -13,10 +13,11 @@ use Rattle.event_text.specs.Declarations.{Declaration, no_declaration}
 use Rattle.rib_tree.specs.Trees.{Treed, tree_count}
 use Rattle.rib_tree.specs.Steps.{new_tree}
 use Rattle.rib_tree.specs.Forwards.{rib_links}
-use Rattle.link_region.specs.declared.regions.Region.TheVariants.{Inward, Resolved, InteriorRoutes, Forward, Elsewhere}
+use Rattle.link_region.specs.declared.regions.Region.TheVariants.{Inward, Resolved, Decided, InteriorRoutes, Forward, Elsewhere}
 use Rattle.link_region.specs.Regions.{Sides, joined}
 use Rattle.hop_side.specs.Resolvers.{Resolvers, hop_links, known_in}
 use Rattle.peer_side.specs.Peers.{Chains, peer_links, filt_at, rows_in}
+use Rattle.router_core.specs.Bests.{best_at, best_links}
 
 -- what was declared, the tree of the interior routes, the register of those, each peer's chain, and below it each peer's resolver
 pub record Moment : Type 0 where
@@ -66,6 +67,7 @@ rib_by (Some me) t link = rib_links t link
 abbrev pub parts : Moment → Sides
 parts m Inward = peer_links m.chains
 parts m Resolved = hop_links m.hops (filt_at m.chains)
+parts m Decided = best_links m.declared.speaker (best_at m.chains m.hops)
 parts m InteriorRoutes = rib_by m.declared.speaker m.tree
 parts m Forward = rib_by m.declared.speaker m.tree
 parts m Elsewhere = no_links

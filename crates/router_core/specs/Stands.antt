@@ -1,5 +1,5 @@
 -- What holds between two steps.
-use Rattle.std.specs.Prelude.{◌≡◌, ℕ, ◌+◌, ◌≤◌, length, Bool, true, false, is_some, if◌then◌else◌, Option, Some, None}
+use Rattle.std.specs.Prelude.{◌≡◌, ℕ, ◌+◌, ◌≤◌, length, Bool, true, false, is_some, IsSome, if◌then◌else◌, Option, Some, None}
 use Rattle.std.specs.FinMap as tables
 use Rattle.bgp_attr.specs.declared.speaker.Speaker.{Speaker}
 use Rattle.event_text.specs.declared.declared.DeclaredPeer.{DeclaredPeer}
@@ -49,7 +49,7 @@ pub record TreeStands (speaker : Option Speaker) (t : Treed) : Type 0 where
 -- what is claimed: of the chains alone, of each peer and its chain, that the chains have the words of this speaker and are as many as
 -- peers, and of the interior routes; of the resolvers alone, that exactly the peers with chains have one, that their next hops that
 -- aren't stale have the register's present answers, that the next hops which the rows of `filt.K` name are counted, and that nobody
--- else has an interest
+-- else has an interest; and that the peers have numbers up to 64
 pub data Claim : Type 0 where
   EachChain : Claim
   EachPeer : Claim
@@ -61,6 +61,7 @@ pub data Claim : Type 0 where
   AnswersAgree : Claim
   HopsCounted : Claim
   NoStrangers : Claim
+  SmallNumbers : Claim
 
 abbrev pub Claims : Moment → Claim → Type 0
 Claims m EachChain = IsPeers m.chains
@@ -73,6 +74,7 @@ Claims m SameResolvers = (k : ℕ) → is_some (resolver_at k m.hops) ≡ is_som
 Claims m AnswersAgree = AllAgree m.hops m.registry
 Claims m HopsCounted = AllCounted (filt_at m.chains) m.hops
 Claims m NoStrangers = (k : ℕ) → resolver_at k m.hops ≡ None → HasNoInterest k m.registry
+Claims m SmallNumbers = (k : ℕ) → IsSome (chain_at k m.chains) → k ≤ 64
 
 -- all that the ties read at one prefix: the row of the register, and that of `int`
 pub record Here : Type 0 where

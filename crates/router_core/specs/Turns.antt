@@ -40,6 +40,7 @@ use Rattle.prefix_trie.specs.Width.{width}
 use Rattle.register_interest.specs.declared.interests.Interest.{Interest}
 use Rattle.register_interest.specs.Interests.{AreReached, without}
 use Rattle.register_interest.specs.Registers.{Registry, KeepsAnswers, put_row}
+use Rattle.router_core.specs.Bests.{resolved_at, DecidesOn}
 use Rattle.router_core.specs.Moments.{Moment, with_chains, with_hops, with_tree}
 
 abbrev pub journal_lines : List (Entry Value) → List Line
@@ -61,24 +62,26 @@ Resolves k (Some change) sent r r' h h' entries = TakesHop k change sent r h h' 
 -- What follows a change that came out on `filt.K` of peer k, if one did: its resolver takes it in, which asks the register about a next
 -- hop that came, and forgets one that no row names any more; what goes on comes on `res.K`, whatever the rows of all `filt.K` are which
 -- the change leads on.
-pub record ResolvesOn (k : ℕ) (sent : Option (Change Route)) (r r' : Registry Interior) (h h' : Resolvers) (entries : List (Entry Value)) : Type 0 where
-  pub below : Option (Change Route)
+pub record ResolvesOn (k : ℕ) (sent below : Option (Change Route)) (r r' : Registry Interior) (h h' : Resolvers) (entries : List (Entry Value)) : Type 0 where
   pub lines : entries ≡ res_entries k below
   pub resolves : Resolves k sent below r r' h h' entries
   pub agreed : KeepsAgreed k r r' h h'
   pub goes : (uppers now : PeerRows) (p : Network) → AllCounted uppers h → ComesOn k p sent uppers now → GoesOn k p below h h' entries uppers now
 
--- A fall in the chain of peer k, of which this is said, what follows the change on `filt.K`, and behind both the weld of the stage that
--- the fall emptied, if any.
+-- A fall in the chain of peer k, of which this is said, what follows the change on `filt.K`, what follows that on `res.K`, and behind
+-- them the weld of the stage that the fall emptied, if any.
 pub record FallsPeer (k : ℕ) (sent : Option (Change Route)) (P : Chains → List (Entry Value) → Type 0) (m : Moment) (said : List Line) (m' : Moment) : Type 0 where
   pub fallen : Chains
   pub entries : List (Entry Value)
   pub part : P fallen entries
   pub resolved : List (Entry Value)
-  pub below : ResolvesOn k sent m.registry m'.registry m.hops m'.hops resolved
+  pub passed : Option (Change Route)
+  pub below : ResolvesOn k sent passed m.registry m'.registry m.hops m'.hops resolved
+  pub best : List (Entry Value)
+  pub decided : DecidesOn k passed (resolved_at fallen m'.hops) best
   pub weld : List (Entry Value)
   pub welds : WeldsInward k fallen m'.chains weld
-  pub lines : said ≡ journal_lines (entries ++ (resolved ++ weld))
+  pub lines : said ≡ journal_lines (entries ++ (resolved ++ (best ++ weld)))
   pub after : m' ≡ with_hops (with_chains m m'.chains) m'.registry m'.hops
 
 -- One prefix of an UPDATE from peer k is announced or withdrawn.
@@ -149,14 +152,16 @@ pub record IsRouteTurn (proto : Proto) (n : ℕ) (m : Moment) (said : List Line)
   pub least : IsLeastRow (tables.get table) prefix (Some row)
   pub falls : FallsRoute m (swept_tree proto n prefix m.tree) proto prefix (way_of_sweep proto n m.tree) said m'
 
--- One turn of the next hops of peer k, over the rows of its `filt.K`.
+-- One turn of the next hops of peer k, over the rows of its `filt.K`, and what follows a change on `res.K`.
 pub record IsHopTurn (k : ℕ) (m : Moment) (said : List Line) (m' : Moment) : Type 0 where
   pub chain : Chained
   pub at : chain_at k m.chains ≡ Some chain
   pub sent : Option (Change Route)
   pub entries : List (Entry Value)
   pub turn : TurnsBelow k (filt_candidates chain) (filt_rows chain) sent m.registry m'.registry m.hops m'.hops entries
-  pub lines : said ≡ journal_lines entries
+  pub best : List (Entry Value)
+  pub decided : DecidesOn k sent (resolved_at m.chains m'.hops) best
+  pub lines : said ≡ journal_lines (entries ++ best)
   pub after : m' ≡ with_hops m m'.registry m'.hops
 
 -- one turn of a task

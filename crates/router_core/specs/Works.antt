@@ -22,6 +22,7 @@ use Rattle.rib_route.specs.declared.rows.Interior.{Interior}
 use Rattle.rib_tree.specs.Trees.{Treed, int_rows, IsTree, IsFull}
 use Rattle.rib_tree.specs.Falls.{LeadsTree}
 use Rattle.rib_tree.specs.Steps.{lost_tree, welded_tree, tree_overdue, tree_loss_entries, tree_weld_entries}
+use Rattle.router_core.specs.Bests.{resolved_at, DecidesOn}
 use Rattle.router_core.specs.Moments.{Moment, with_chains, with_hops, with_tree, router_links, bound_of, Gives}
 use Rattle.journal_text.specs.declared.link.Link.{Link}
 use Rattle.live_state.specs.Lives.{LiveState, LiveAfter, live_fed, heard, ended, interior_lost}
@@ -154,13 +155,16 @@ pub record HasHeard (k : ℕ) (p : DeclaredPeer) (m : Moment) (message : Message
 
 -- ---- next hops
 
--- What follows a change on `filt.K`, and behind it the stage of the peer that was emptied goes, if there is one.
+-- What follows a change on `filt.K`, what follows that on `res.K`, and behind them the stage of the peer that was emptied goes, if there is one.
 pub record SettlesPeer (k : ℕ) (sent : Option (Change Route)) (m m' : Moment) (entries : List (Entry Value)) : Type 0 where
   pub resolved : List (Entry Value)
-  pub below : ResolvesOn k sent m.registry m'.registry m.hops m'.hops resolved
+  pub passed : Option (Change Route)
+  pub below : ResolvesOn k sent passed m.registry m'.registry m.hops m'.hops resolved
+  pub best : List (Entry Value)
+  pub decided : DecidesOn k passed (resolved_at m.chains m'.hops) best
   pub weld : List (Entry Value)
   pub welds : WeldsInward k m.chains m'.chains weld
-  pub lines : entries ≡ resolved ++ weld
+  pub lines : entries ≡ resolved ++ (best ++ weld)
   pub after : m' ≡ with_hops (with_chains m m'.chains) m'.registry m'.hops
 
 -- ---- interior routes

@@ -1,6 +1,6 @@
 //! What follows a change in a peer's chain: its resolver takes the change in. And turns of chains and resolvers.
 
-ghost use Rattle.std.specs.Prelude.{◌≡◌, IfOk, OnOk, IsSome};
+ghost use Rattle.std.specs.Prelude.{◌≡◌, ◌≤◌, IfOk, OnOk, IsSome};
 ghost use Rattle.journal_text.specs.declared.link.Task.TheVariants as tasks;
 ghost use Rattle.journal_text.specs.Journals.{Adds};
 ghost use Rattle.hop_side.specs.Resolvers.{resolver_at, IsHops, AllAgree};
@@ -19,8 +19,8 @@ use link_change::{Change, Turn};
 use peer_side::peer_of;
 
 impl Network {
-    /// What follows a change in a peer's chain, by what came out on `filt.K`: its resolver takes that in; and behind it the
-    /// stage goes that the change emptied.
+    /// What follows a change in a peer's chain, by what came out on `filt.K`: its resolver takes that in, the best route is
+    /// decided anew where `res.K` changes, and behind it the stage goes that the change emptied.
     pub(crate) fn settle_peer(
         &mut self,
         number: u32,
@@ -32,32 +32,35 @@ impl Network {
         requires hops { IsHops self.old.hops }
         requires resolver { IsSome (resolver_at number self.old.hops) }
         requires agree { AllAgree self.old.hops self.old.registry }
+        requires small { number ≤ 64 }
         ensures { OnOk result (Adds (SettlesPeer number sent self.old self.new) journal.old journal.new) }
     {
-        self.resolve(number, sent, journal)?;
+        let passed = self.resolve(number, sent, journal)?;
+        self.decide(number, passed, journal)?;
         self.chains.weld(number, journal)?;
         Ok(())
     }
 
-    /// What follows a change on `filt.K`, if one came out.
+    /// What follows a change on `filt.K`, if one came out. Answers the change on `res.K`, if there is one.
     fn resolve(
         &mut self,
         number: u32,
         sent: Option<Change<Route>>,
         journal: &mut Journal,
-    ) -> Result<(), Memory>
+    ) -> Result<Option<Change<Route>>, Memory>
         requires hops { IsHops self.old.hops }
         requires resolver { IsSome (resolver_at number self.old.hops) }
         requires agree { AllAgree self.old.hops self.old.registry }
-        ensures resolves { OnOk result (Adds (ResolvesOn number sent self.old.registry self.new.registry self.old.hops self.new.hops) journal.old journal.new) }
+        ensures resolves { IfOk result (λ passed. Adds (ResolvesOn number sent passed self.old.registry self.new.registry self.old.hops self.new.hops) journal.old journal.new) }
         ensures after { OnOk result (self.new ≡ with_hops self.old self.new.registry self.new.hops) }
     {
         let Some(change) = sent else {
-            return Ok(());
+            return Ok(None);
         };
-        self.hops
+        let passed = self
+            .hops
             .take_in(number, change, &mut self.registry, journal)?;
-        Ok(())
+        Ok(passed)
     }
 
     /// One turn of a task of a peer's chain, and the text of its lines.
@@ -83,9 +86,11 @@ impl Network {
         let Some(chain) = self.chains.chain(number) else {
             return Ok(Done::Nothing);
         };
-        if let Turn::Nothing = self.hops.turn(number, chain, &mut self.registry, journal)? {
+        let turn = self.hops.turn(number, chain, &mut self.registry, journal)?;
+        if let Turn::Nothing = turn {
             return Ok(Done::Nothing);
         }
+        self.decide(number, sent_of(turn), journal)?;
         journal.flush()?;
         Ok(Done::Taken)
     }

@@ -18,6 +18,7 @@
 //! For want of memory a call answers `Memory`, and from then on each further call does: what was half done is never seen.
 #![tactic(auto)]
 
+mod best;
 mod hops;
 mod laws;
 mod lookups;

@@ -6,6 +6,7 @@ ghost use Rattle.journal_text.specs.Walk.{HasRow};
 ghost use Rattle.journal_text.specs.Journals.{with_lines};
 ghost use Rattle.hop_side.specs.Resolvers.{hop_links};
 ghost use Rattle.peer_side.specs.Peers.{filt_at};
+ghost use Rattle.router_core.specs.Bests.{best_at, best_links};
 ghost use Rattle.router_core.specs.Moments.{rib_by, router_links};
 ghost use Rattle.router_core.specs.Blocks.{answer_lines, Shows};
 ghost use Rattle.router_core.specs.Lookups.{Counts, ShowsRow, IsCountOf, IsNextPlace};
@@ -24,6 +25,7 @@ impl Network {
         match region_of(link) {
             Region::Inward => self.chains.live(link),
             Region::Resolved => self.hops.live(link),
+            Region::Decided => self.best_live(link),
             Region::InteriorRoutes => self.rib_live(link),
             Region::Forward => self.rib_live(link),
             Region::Elsewhere => false,
@@ -48,6 +50,7 @@ impl Network {
         match region_of(link) {
             Region::Inward => self.chains.asked(link, p),
             Region::Resolved => self.resolved(link, p),
+            Region::Decided => self.decided(link, p),
             Region::InteriorRoutes => self.tree.asked(link, p),
             Region::Forward => self.tree.asked(link, p),
             Region::Elsewhere => unreachable!(),
@@ -62,6 +65,7 @@ impl Network {
         match region_of(link) {
             Region::Inward => self.chains.next_candidate(link, after),
             Region::Resolved => self.next_resolved(link, after),
+            Region::Decided => self.next_best(after),
             Region::InteriorRoutes => self.tree.next_candidate(link, after),
             Region::Forward => self.tree.next_candidate(link, after),
             Region::Elsewhere => unreachable!(),
@@ -80,6 +84,27 @@ impl Network {
             return Ok(None);
         };
         match self.hops.asked(number, chain, p)? {
+            Some(route) => Ok(Some(Value::Route(route))),
+            None => Ok(None),
+        }
+    }
+
+    /// Whether `best` is live.
+    fn best_live(&self, link: Link) -> bool
+        ensures { result ≡ is_some (best_links self.now.declared.speaker (best_at self.now.chains self.now.hops) link) }
+    {
+        match link {
+            Link::Best => self.declared.speaker().is_some(),
+            _ => false,
+        }
+    }
+
+    /// The row at a prefix of `best`; None where it has none.
+    fn decided(&self, link: Link, p: Prefix) -> Result<Option<Value>, Memory>
+        requires { IsSome (best_links self.now.declared.speaker (best_at self.now.chains self.now.hops) link) }
+        ensures { IfOk result (HasRow (best_links self.now.declared.speaker (best_at self.now.chains self.now.hops)) link p) }
+    {
+        match self.best(p)? {
             Some(route) => Ok(Some(Value::Route(route))),
             None => Ok(None),
         }

@@ -120,6 +120,7 @@ fn begin_rib(journal: &mut Journal) -> Result<(), Memory>
         Link::Low,
         Link::Dyn,
         Link::Int,
+        Link::Best,
         Link::Fib,
     ];
     begin_all(&links, journal)

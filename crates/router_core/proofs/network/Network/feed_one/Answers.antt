@@ -1,6 +1,6 @@
 use Rattle.router_core.proofs.StandLemmas.{chain_is_there, peers_sound}
 use Rattle.router_core.proofs.HopTurns.{hops_sound, hops_agree}
-use Rattle.router_core.proofs.FeedLemmas.{one_fed, fed_there, fed_resolves}
+use Rattle.router_core.proofs.FeedLemmas.{one_fed, fed_there, fed_resolves, fed_small}
 use Rattle.router_core.proofs.network.Network.feed_one.Goals as goal
 
 pub feed-requires-clause-sound : goal.feed-requires-clause-sound
@@ -23,6 +23,9 @@ settle_peer-requires-clause-resolver c = fed_resolves c.args.number c.args.prefi
 
 pub settle_peer-requires-clause-agree : goal.settle_peer-requires-clause-agree
 settle_peer-requires-clause-agree c = hops_agree c.args.self.now _ c.self.view_is c.requires.stands
+
+pub settle_peer-requires-clause-small : goal.settle_peer-requires-clause-small
+settle_peer-requires-clause-small c = fed_small c.args.number c.args.prefix c.args.row _ c.args.self.now _ c.feed.new.self c.args.journal.now c.feed.new.journal c.self.view_is c.requires.stands c.in_ok-sent.ensures
 
 pub returns : goal.returns
 returns c =

@@ -2,7 +2,7 @@ use Rattle.std.proofs.Common.{◌∙◌, refl, sym}
 use Rattle.addr4.specs.Places.{key_of}
 use Rattle.link_region.specs.declared.regions.Region.TheVariants.{InteriorRoutes, Forward}
 use Rattle.router_core.proofs.RegionLemmas.{in_region}
-use Rattle.router_core.proofs.ShownRows.{next_inward, next_res, next_rib}
+use Rattle.router_core.proofs.ShownRows.{next_inward, next_res, next_best, next_rib}
 use Rattle.router_core.proofs.network.Network.next_candidate.Goals as goal
 
 pub returns-in-Inward : goal.returns-in-Inward
@@ -21,3 +21,6 @@ returns-in-Forward c =
 
 pub returns-in-Resolved : goal.returns-in-Resolved
 returns-in-Resolved c = next_res c.args.self.now c.args.self.now c.args.link (key_of c.args.after) c.next_resolved.result refl (sym c.region_of.ensures ∙ c.in-Resolved.is) c.next_resolved.ensures
+
+pub returns-in-Decided : goal.returns-in-Decided
+returns-in-Decided c = next_best c.args.self.now c.args.link (key_of c.args.after) c.next_best.result _ (sym c.region_of.ensures ∙ c.in-Decided.is) c.requires c.next_best.ensures.next c.next_best.ensures.covers

@@ -12,4 +12,4 @@ take_in-requires-clause-agree c = subst (λ (m : Moment). AllAgree m.hops m.regi
 
 pub returns-clause-resolves : goal.returns-clause-resolves
 returns-clause-resolves c =
-    resolved_in c.args.number c.args.sent c.in-Some.change c.in_ok-take_in.field-0 c.args.self.now _ c.take_in.new.register c.take_in.new.self c.args.journal.now c.take_in.new.journal c.self.view_is c.in-Some.is c.in_ok-take_in.ensures.taken
+    resolved_in c.args.number c.args.sent c.in-Some.change _ c.args.self.now _ c.take_in.new.register c.take_in.new.self c.args.journal.now c.take_in.new.journal c.self.view_is c.in-Some.is c.in_ok-passed.ensures.taken

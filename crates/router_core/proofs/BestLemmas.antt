@@ -1,0 +1,113 @@
+-- What follows a change of `res.K`: what is decided, and what its entries lead to.
+use Rattle.std.proofs.Common.{◌≡◌, ℕ, ◌<◌, ◌≤◌, nat_eq, nat_lt, true, cond, [], Option, Some, None, refl, sym, ap, subst, ◌∙◌, arith}
+use Rattle.std.proofs.lemmas.Bool.Decides.{nat_tests}
+use Rattle.addr4.specs.Prefixes.{Network}
+use Rattle.bgp_attr.specs.declared.route.Route.{Route}
+use Rattle.bgp_attr.specs.declared.speaker.Speaker.{Speaker}
+use Rattle.link_change.specs.Rows.{Rows, no_rows}
+use Rattle.link_change.specs.Changes.{IsSent}
+use Rattle.link_change.specs.declared.change.Change.{Change}
+use Rattle.journal_text.specs.declared.link.Link.{Link}
+use Rattle.journal_text.specs.declared.link.Link.TheVariants.{Best}
+use Rattle.journal_text.specs.declared.value.Value.{Value}
+use Rattle.journal_text.specs.Values.{route_value, route_rows}
+use Rattle.journal_text.specs.Journals.{Journaled, with_entries, Adds}
+use Rattle.journal_text.specs.Walk.{Links, with_link, Leads}
+use Rattle.journal_text.proofs.JournalLemmas.{with_entries_none}
+use Rattle.journal_text.proofs.WalkLemmas.{leads_sent}
+use Rattle.link_region.specs.declared.regions.Region.TheVariants.{Decided}
+use Rattle.link_region.specs.Regions.{joined, with_side, LeadsIn}
+use Rattle.link_region.proofs.RegionLemmas.{by_bool}
+use Rattle.loss_chain.proofs.TableLemmas.{equal_by, same_by, other_by}
+use Rattle.decision.specs.Branches.{AllRows, best_rows, Decides, OthersStay}
+use Rattle.decision.proofs.LawLemmas.{best_is_a_branchs, best_is_of_its_prefix}
+use Rattle.hop_side.specs.Resolvers.{Resolvers, PeerRows, resolver_at, rows_by}
+use Rattle.hop_side.specs.Steps.{ComesOn}
+use Rattle.peer_side.specs.Peers.{Chains, chain_at, filt_by}
+use Rattle.router_core.specs.Bests.{resolved_at, best_at, best_links, best_entries, DecidesOn, lent_rows}
+use Rattle.router_core.specs.Moments.{Moment}
+
+-- ---- the branches that there may be
+same_best : (rows other : AllRows) → ((b : ℕ) → b < 65 → rows b ≡ other b) → best_rows rows ≡ best_rows other
+same_best rows other same i p = best_is_of_its_prefix rows other p (λ b low. ap (λ (r : Rows Route). r p) (same b low)) i
+
+is_low : (b : ℕ) → b < 65 → nat_lt b 65 ≡ true
+is_low b low = grind (arith, nat_tests)
+
+lent_here : (a : Chains) (h : Resolvers) (b : ℕ) → b < 65 → lent_rows a h b ≡ resolved_at a h b
+lent_here a h b low = ap (λ t. rows_by (resolver_at b h) (filt_by (cond t (chain_at b a) None))) (is_low b low)
+
+-- what is lent has the same best rows
+pub lent_best : (m : Moment) (a : Chains) (h : Resolvers) → a ≡ m.chains → h ≡ m.hops → best_rows (lent_rows a h) ≡ best_at m.chains m.hops
+lent_best m a h chains hops = same_best (lent_rows a h) (resolved_at a h) (lent_here a h) ∙ ap (λ (x : Chains). best_at x h) chains ∙ ap (best_at m.chains) hops
+
+-- where no branch has a row
+pub best_none : (rows : AllRows) → ((b : ℕ) → rows b ≡ no_rows) → best_rows rows ≡ no_rows
+best_none rows none i p = by_row (best_rows rows p) refl i
+  where
+    by_row : (o : Option Route) → best_rows rows p ≡ o → best_rows rows p ≡ None
+    by_row None is = is
+    by_row (Some r) is = let b = best_is_a_branchs rows p r is in absurd (let clash : None ≡ Some r = sym (ap (λ (x : Rows Route). x p) (none b.0)) ∙ b.2 in cc)
+
+-- ---- what is decided
+-- the same rows, where nothing came
+pub comes_none : (k : ℕ) (p : Network) (before now : PeerRows) → ComesOn k p None before now → now ≡ before
+comes_none k p before now comes i j = each j i
+  where
+    each : (j : ℕ) → now j ≡ before j
+    each j = by_bool (nat_eq j k) (λ b. now j ≡ before j) (λ e. subst (λ (n : ℕ). now n ≡ before n) (sym (equal_by j k e)) comes.here) (λ e. comes.others j e)
+
+pub decided_none : (k : ℕ) (sent : Option (Change Route)) (now : PeerRows) (j : Journaled) → sent ≡ None → Adds (DecidesOn k sent now) j j
+decided_none k sent now j is = (
+  [],
+  sym (with_entries_none j),
+  record {
+    best = None;
+    lines = refl;
+    decides = λ before p comes. ap best_rows (comes_none k p before now (subst (λ (s : Option (Change Route)). ComesOn k p s before now) is comes));
+  },
+)
+
+pub decided_some : (k : ℕ) (sent : Option (Change Route)) (change : Change Route) (best : Option (Change Route)) (m : Moment) (a : Chains) (h : Resolvers) (before now : Journaled) → k ≤ 64 → sent ≡ Some change → a ≡ m.chains → h ≡ m.hops
+    → Decides k (lent_rows a h) change best → now ≡ with_entries before (best_entries best) → Adds (DecidesOn k sent (resolved_at m.chains m.hops)) before now
+decided_some k sent change best m a h before now small is chains hops decides pushed =
+    subst (λ (x : Chains). Adds (DecidesOn k sent (resolved_at x m.hops)) before now) chains
+    (subst (λ (x : Resolvers). Adds (DecidesOn k sent (resolved_at a x)) before now) hops (
+      best_entries best,
+      pushed,
+      record { best = best; lines = refl; decides = λ was p comes. leads was p (subst (λ (s : Option (Change Route)). ComesOn k p s was (resolved_at a h)) is comes) },
+    ))
+  where
+    low : k < 65
+    low = omega (arith, small)
+
+    -- the old rows of its branch, beside the rows that are lent
+    former : PeerRows → AllRows
+    former was b = cond (nat_eq b k) (was k) (lent_rows a h b)
+
+    former_is : (was : PeerRows) (p : Network) → ComesOn k p (Some change) was (resolved_at a h) → (b : ℕ) → b < 65 → former was b ≡ was b
+    former_is was p comes b few = by_bool (nat_eq b k) (λ t. cond t (was k) (lent_rows a h b) ≡ was b) (λ e. ap was (sym (equal_by b k e))) (λ e. lent_here a h b few ∙ comes.others b e)
+
+    stay : (was : PeerRows) → OthersStay k (former was) (lent_rows a h)
+    stay was b other = ap (λ t. cond t (was k) (lent_rows a h b)) (other_by b k other)
+
+    here : (was : PeerRows) → former was k ≡ was k
+    here was = ap (λ t. cond t (was k) (lent_rows a h k)) (same_by k k refl)
+
+    leads : (was : PeerRows) (p : Network) → ComesOn k p (Some change) was (resolved_at a h) → IsSent (best_rows was) (best_rows (resolved_at a h)) p best
+    leads was p comes =
+        subst (λ (r : Rows Route). IsSent r (best_rows (resolved_at a h)) p best) (same_best (former was) was (former_is was p comes))
+        (subst (λ (r : Rows Route). IsSent (best_rows (former was)) r p best) (same_best (lent_rows a h) (resolved_at a h) (lent_here a h))
+        (decides (former was) p (stay was)
+        (subst (λ (r : Rows Route). IsSent r (lent_rows a h k) p (Some change)) (sym (here was))
+        (subst (λ (r : Rows Route). IsSent (was k) r p (Some change)) (sym (lent_here a h k low)) comes.here))))
+
+-- ---- the region of `best`
+pub best_leads : (s : Option Speaker) (me : Speaker) (old new : Rows Route) (p : Network) (best : Option (Change Route)) → s ≡ Some me → IsSent old new p best → LeadsIn Decided (best_links s old) (best_entries best) (best_links s new)
+best_leads s me old new p best since sent sides is =
+    subst (λ (l : Links Value). Leads (joined sides) (best_entries best) l) (λ i link. each link i)
+    (leads_sent route_value (λ a b e. cc) (joined sides) Best old new p best (ap (λ (l : Links Value). l Best) is ∙ ap (λ (x : Option Speaker). best_links x old Best) since) sent)
+  where
+    each : (link : Link) → with_link (joined sides) Best (Some (route_rows new)) link ≡ joined (with_side sides Decided (best_links s new)) link
+    each Best = ap (λ (x : Option Speaker). best_links x new Best) (sym since)
+    each other = refl

@@ -1,0 +1,57 @@
+-- What the decision makes of the rows of all `res.K` (RFC 4271, section 9.1.2).
+use Rattle.std.specs.Prelude.{◌≡◌, ℕ, nat_lt, cond, false, List, Option, Some, None}
+use Rattle.addr4.specs.Prefixes.{Network}
+use Rattle.bgp_attr.specs.declared.route.Route.{Route}
+use Rattle.bgp_attr.specs.declared.speaker.Speaker.{Speaker}
+use Rattle.link_change.specs.Rows.{Rows, Candidates}
+use Rattle.link_change.specs.Changes.{IsSent}
+use Rattle.link_change.specs.declared.change.Change.{Change}
+use Rattle.journal_text.specs.declared.link.Link.TheVariants.{Best}
+use Rattle.journal_text.specs.declared.entry.Entry.{Entry}
+use Rattle.journal_text.specs.declared.value.Value.{Value}
+use Rattle.journal_text.specs.Values.{route_value, route_rows, sent_entries}
+use Rattle.journal_text.specs.Walk.{Links}
+use Rattle.decision.specs.Branches.{AllRows, best_rows}
+use Rattle.in_chain.specs.Chains.{Chained, filt_candidates}
+use Rattle.hop_side.specs.Resolvers.{Resolvers, PeerRows, resolver_at, rows_by, res_at}
+use Rattle.hop_side.specs.Steps.{ComesOn}
+use Rattle.peer_side.specs.Peers.{Chains, chain_at, filt_by, filt_at}
+
+-- the rows of all `res.K`
+abbrev pub resolved_at : Chains → Resolvers → PeerRows
+resolved_at a h = res_at h (filt_at a)
+
+-- the best of them
+abbrev pub best_at : Chains → Resolvers → Rows Route
+best_at a h = best_rows (resolved_at a h)
+
+-- the link `best`, which is live where `local` was declared
+abbrev pub best_links : Option Speaker → Rows Route → Links Value
+best_links None rows link = None
+best_links (Some me) rows Best = Some (route_rows rows)
+best_links (Some me) rows other = None
+
+-- the entry of what the decision sends
+abbrev pub best_entries : Option (Change Route) → List (Entry Value)
+best_entries = sent_entries route_value Best
+
+-- What follows a change that came on `res.K` of peer k, if one did: the best route at its prefix is decided anew over all peers, and where
+-- it changes, that comes on `best`, whatever the rows of all `res.K` were from which the change led to these.
+pub record DecidesOn (k : ℕ) (sent : Option (Change Route)) (now : PeerRows) (entries : List (Entry Value)) : Type 0 where
+  pub best : Option (Change Route)
+  pub lines : entries ≡ best_entries best
+  pub decides : (before : PeerRows) (p : Network) → ComesOn k p sent before now → IsSent (best_rows before) (best_rows now) p best
+
+-- ---- what is lent to the decision: the peers of the numbers that there may be
+abbrev pub lent_chain : Chains → ℕ → Option Chained
+lent_chain a b = cond (nat_lt b 65) (chain_at b a) None
+
+abbrev pub lent_rows : Chains → Resolvers → AllRows
+lent_rows a h b = rows_by (resolver_at b h) (filt_by (lent_chain a b))
+
+abbrev pub candidates_by : Option Chained → Candidates
+candidates_by None q = false
+candidates_by (Some c) q = filt_candidates c q
+
+abbrev pub lent_candidates : Chains → ℕ → Candidates
+lent_candidates a b = candidates_by (lent_chain a b)
