@@ -42,6 +42,11 @@ pub record DecidesOn (k : ℕ) (sent : Option (Change Route)) (now : PeerRows) (
   pub lines : entries ≡ best_entries best
   pub decides : (before : PeerRows) (p : Network) → ComesOn k p sent before now → IsSent (best_rows before) (best_rows now) p best
 
+-- What follows a change that came on `best`, if one did: it joins what each reader of the queue hasn't taken. No link changes by that.
+abbrev pub Queues : Option (Change Route) → Exited → Exited → Type 0
+Queues None e e' = e' ≡ e
+Queues (Some change) e e' = PutsExit change e e'
+
 -- ---- what is lent to the decision: the peers of the numbers that there may be
 abbrev pub lent_chain : Chains → ℕ → Option Chained
 lent_chain a b = cond (nat_lt b 65) (chain_at b a) None

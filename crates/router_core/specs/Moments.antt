@@ -19,13 +19,24 @@ use Rattle.hop_side.specs.Resolvers.{Resolvers, hop_links, known_in}
 use Rattle.peer_side.specs.Peers.{Chains, peer_links, filt_at, rows_in}
 use Rattle.router_core.specs.Bests.{best_at, best_links}
 
--- what was declared, the tree of the interior routes, the register of those, each peer's chain, and below it each peer's resolver
+-- the latest rules of each peer's outgoing filter
+abbrev pub Policies : Type 0
+Policies = FinMap nat_cmp (List Rule)
+
+abbrev pub rules_to : ℕ → Policies → List Rule
+rules_to j policies = or_none (tables.get policies j)
+
+-- what was declared, the tree of the interior routes, the register of those, each peer's chain, below it each peer's resolver, the
+-- rules of the outgoing filters, the exits of the peers that are up, and the reader of the forwarding side, from `local` on
 pub record Moment : Type 0 where
   pub declared : Declaration
   pub tree : Treed
   pub registry : Registry Interior
   pub chains : Chains
   pub hops : Resolvers
+  pub outgoing : Policies
+  pub exits : Exited
+  pub reader : Option ℕ
 
 abbrev pub moment_code : Coded Declaration → Coded Treed → Coded (Registry Interior) → Coded Chains → Coded Resolvers → Coded Moment
 moment_code d t r c h =
@@ -54,6 +65,10 @@ with_chains m a = record m { chains = a }
 abbrev pub with_hops : Moment → Registry Interior → Resolvers → Moment
 with_hops m r h = record m { registry = r; hops = h }
 
+-- the exits became these
+abbrev pub with_exits : Moment → Exited → Moment
+with_exits m e = record m { exits = e }
+
 -- the interior routes became these
 abbrev pub with_tree : Moment → Treed → Moment
 with_tree m t = record m { tree = t }
@@ -70,6 +85,8 @@ parts m Resolved = hop_links m.hops (filt_at m.chains)
 parts m Decided = best_links m.declared.speaker (best_at m.chains m.hops)
 parts m InteriorRoutes = rib_by m.declared.speaker m.tree
 parts m Forward = rib_by m.declared.speaker m.tree
+parts m External = read_links m.exits.queue m.reader (best_at m.chains m.hops)
+parts m Outward = exit_links m.exits (best_at m.chains m.hops)
 parts m Elsewhere = no_links
 
 -- the live links and their rows
@@ -78,7 +95,7 @@ router_links m = joined (parts m)
 
 -- how many turns an idle takes at most
 abbrev pub bound_of : Moment → ℕ
-bound_of m = (length m.declared.peers + 2) * (9 * (rows_in m.chains + tree_count m.tree) + 2 * known_in m.hops + 6)
+bound_of m = (length m.declared.peers + 2) * (most_unread m.exits + 9 * (rows_in m.chains + tree_count m.tree) + 2 * known_in m.hops + 6)
 
 -- these lines were given, in the text of the journal, and this is said of them
 abbrev pub Gives : (List Line → Type 0) → Journaled → Journaled → Type 0

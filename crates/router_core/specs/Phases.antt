@@ -8,7 +8,7 @@ use Rattle.in_chain.specs.Chains.{Chained, filt_beyond}
 use Rattle.peer_side.specs.Peers.{Chains, chain_at, rows_in, lost_in, left_in}
 use Rattle.rib_tree.specs.Trees.{Treed}
 use Rattle.router_core.specs.declared.router.Phase.{Phase}
-use Rattle.router_core.specs.declared.router.Phase.TheVariants.{Rdel, Del, Fin, Nh}
+use Rattle.router_core.specs.declared.router.Phase.TheVariants.{Rdel, Del, Fin, Nh, ReadRib, Out}
 use Rattle.router_core.specs.Moments.{Moment}
 
 -- how many rows the stages of the protocols' losses have
@@ -27,7 +27,7 @@ beyonds a k = beyond_by (chain_at k a)
 
 -- the phases of an idle, in their order
 abbrev pub all_phases : List Phase
-all_phases = Rdel ∷ Del ∷ Fin ∷ Nh ∷ []
+all_phases = Rdel ∷ Del ∷ Fin ∷ Nh ∷ ReadRib ∷ Out ∷ []
 
 -- how many turns a phase takes, if nothing else happens
 abbrev pub counts : Moment → Phase → ℕ
@@ -35,6 +35,8 @@ counts m Rdel = tree_lost m.tree
 counts m Del = lost_in m.chains
 counts m Fin = left_in m.chains
 counts m Nh = hops_left_in (beyonds m.chains) m.hops
+counts m ReadRib = length (unread_if m.exits.queue m.reader)
+counts m Out = exits_left_in (best_beyond m.chains) m.exits
 
 -- What background work never adds to: the turns that next hops take at most, whatever became stale. Each names a row, and two whole
 -- walks of each peer may be left.

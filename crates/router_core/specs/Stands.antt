@@ -37,6 +37,31 @@ StandsAt None None = Unit {0}
 StandsAt (Some p) (Some c) = PeerStands p c
 StandsAt p c = ⊥
 
+-- Exactly the peers that are up have an exit: that of the present session, by the peer's words and this speaker's, under the latest rules
+-- of the peer's outgoing filter.
+pub record IsExitOf (me : Speaker) (rules : List Rule) (p : DeclaredPeer) (c : OutChained) : Type 0 where
+  pub up : p.up ≡ true
+  pub session : c.session ≡ p.session
+  pub words : c.peer ≡ p.words
+  pub me : c.exit.me ≡ me
+  pub rules : present c.filter ≡ Some rules
+
+abbrev pub ExitsAt : Option Speaker → Policies → ℕ → Option DeclaredPeer → Option OutChained → Type 0
+ExitsAt (Some me) policies k (Some p) (Some c) = IsExitOf me (rules_to k policies) p c
+ExitsAt s policies k (Some p) None = p.up ≡ false
+ExitsAt s policies k None None = Unit {0}
+ExitsAt s policies k p c = ⊥
+
+-- The forwarding side reads from `local` on, by a reader that is no peer's.
+pub record ReadsAs (reader : ℕ) (e : Exited) : Type 0 where
+  pub live : IsSome (tables.get e.queue reader)
+  pub own : (j : ℕ) (c : OutChained) → exit_at j e ≡ Some c → c.reader ≢ reader
+
+abbrev pub ReadsOn : Option Speaker → Option ℕ → Exited → Type 0
+ReadsOn (Some me) (Some reader) e = ReadsAs reader e
+ReadsOn None None e = Unit {0}
+ReadsOn s reader e = ⊥
+
 -- the tree may take a step, and has no route before `local`; no protocol has more than 16 deletion stages
 pub record TreeStands (speaker : Option Speaker) (t : Treed) : Type 0 where
   pub tree : IsTree t
@@ -62,6 +87,11 @@ pub data Claim : Type 0 where
   HopsCounted : Claim
   NoStrangers : Claim
   SmallNumbers : Claim
+  EachExit : Claim
+  ExitsRead : Claim
+  ExitsHear : Claim
+  SameSessions : Claim
+  OneReader : Claim
 
 abbrev pub Claims : Moment → Claim → Type 0
 Claims m EachChain = IsPeers m.chains
@@ -75,6 +105,11 @@ Claims m AnswersAgree = AllAgree m.hops m.registry
 Claims m HopsCounted = AllCounted (filt_at m.chains) m.hops
 Claims m NoStrangers = (k : ℕ) → resolver_at k m.hops ≡ None → HasNoInterest k m.registry
 Claims m SmallNumbers = (k : ℕ) → IsSome (chain_at k m.chains) → k ≤ 64
+Claims m EachExit = IsExits m.exits
+Claims m ExitsRead = AllStand (best_at m.chains m.hops) m.exits
+Claims m ExitsHear = RowsMayBeHeard m.exits.profile (best_at m.chains m.hops)
+Claims m SameSessions = (k : ℕ) → ExitsAt m.declared.speaker m.outgoing k (peer_at k m.declared.peers) (exit_at k m.exits)
+Claims m OneReader = ReadsOn m.declared.speaker m.reader m.exits
 
 -- all that the ties read at one prefix: the row of the register, and that of `int`
 pub record Here : Type 0 where
