@@ -15,6 +15,8 @@ use Rattle.decision.specs.Branches.{AllRows, best_rows}
 use Rattle.in_chain.specs.Chains.{Chained, filt_candidates}
 use Rattle.hop_side.specs.Resolvers.{Resolvers, PeerRows, resolver_at, rows_by, res_at}
 use Rattle.hop_side.specs.Steps.{ComesOn}
+use Rattle.exit_side.specs.Exits.{Exited}
+use Rattle.exit_side.specs.Steps.{PutsExit}
 use Rattle.peer_side.specs.Peers.{Chains, chain_at, filt_by, filt_at}
 
 -- the rows of all `res.K`

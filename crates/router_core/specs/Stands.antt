@@ -1,5 +1,5 @@
 -- What holds between two steps.
-use Rattle.std.specs.Prelude.{◌≡◌, ℕ, ◌+◌, ◌≤◌, length, Bool, true, false, is_some, IsSome, if◌then◌else◌, Option, Some, None}
+use Rattle.std.specs.Prelude.{◌≡◌, ◌≢◌, ℕ, ◌+◌, ◌≤◌, length, Bool, true, false, is_some, IsSome, if◌then◌else◌, Option, Some, None}
 use Rattle.std.specs.FinMap as tables
 use Rattle.bgp_attr.specs.declared.speaker.Speaker.{Speaker}
 use Rattle.event_text.specs.declared.declared.DeclaredPeer.{DeclaredPeer}
@@ -11,7 +11,12 @@ use Rattle.peer_side.specs.Peers.{chain_at, filt_at, IsPeers, AreBefore}
 use Rattle.rib_route.specs.declared.Proto.{Proto}
 use Rattle.rib_tree.specs.Trees.{Treed, branch_of, int_rows, IsTree, IsFull, AreNumbered}
 use Rattle.rib_tree.specs.Steps.{new_tree}
-use Rattle.router_core.specs.Moments.{Moment, Cored}
+use Rattle.pass_core.specs.Passed.{present}
+use Rattle.policy_rules.specs.declared.rule.Rule.{Rule}
+use Rattle.out_chain.specs.Chains.{OutChained, RowsMayBeHeard}
+use Rattle.exit_side.specs.Exits.{Exited, IsExits, AllStand, chain_at as exit_at}
+use Rattle.router_core.specs.Bests.{best_at}
+use Rattle.router_core.specs.Moments.{Moment, Cored, Policies, rules_to}
 use Rattle.router_core.specs.Printable.{IsPrintableMoment}
 use Rattle.addr4.specs.Prefixes.{Network}
 use Rattle.rib_route.specs.declared.rows.Interior.{Interior}

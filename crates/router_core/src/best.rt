@@ -23,9 +23,9 @@ const MOST: u8 = 65;
 
 /// The links `res.K` of all peers, as they are lent to the decision. No local route is redistributed yet, so branch 0 is empty.
 #[derive(Drop)]
-struct Lent<'a> {
-    chains: &'a Peers,
-    hops: &'a NextHops,
+pub(crate) struct Lent<'a> {
+    pub(crate) chains: &'a Peers,
+    pub(crate) hops: &'a NextHops,
 }
 
 impl<'a> Lent<'a> {
@@ -67,7 +67,7 @@ impl<'a> Branches for Lent<'a> {
 impl Network {
     /// What follows a change of `res.K` of a peer, if one came: the change of `best`, if there is one.
     pub(crate) fn decide(
-        &self,
+        &mut self,
         number: u32,
         sent: Option<Change<Route>>,
         journal: &mut Journal,
@@ -80,7 +80,7 @@ impl Network {
         };
         let best = take_in(self.alloc, number as u8, change, &self.lent())?;
         journal.push_sent(Link::Best, &best)?;
-        Ok(())
+        self.queue(best)
     }
 
     /// The best route at a prefix; None where no peer has one.
@@ -98,7 +98,7 @@ impl Network {
         next_candidate(&self.lent(), &after)
     }
 
-    fn lent(&self) -> Lent<'_>
+    pub(crate) fn lent(&self) -> Lent<'_>
         ensures chains { result.chains.now ≡ self.now.chains }
         ensures hops { result.hops.now ≡ self.now.hops }
     {

@@ -94,6 +94,7 @@ impl Network {
         requires free { overdue_at number self.old.chains ≡ None }
         ensures { OnOk result (Pushes (Ends number session self.old self.new) journal.old journal.new) }
     {
+        self.exits.end(number, journal)?;
         self.chains.lose(number, session, journal)?;
         self.declared.end_session(number);
         Ok(())
