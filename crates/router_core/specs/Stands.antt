@@ -42,7 +42,7 @@ StandsAt None None = Unit {0}
 StandsAt (Some p) (Some c) = PeerStands p c
 StandsAt p c = ⊥
 
--- Exactly the peers that are up have an exit: that of the present session, by the peer's words and this speaker's, under the latest rules
+-- Only peers that are up have an exit, that of the present session, by the peer's words and this speaker's, under the latest rules
 -- of the peer's outgoing filter.
 pub record IsExitOf (me : Speaker) (rules : List Rule) (p : DeclaredPeer) (c : OutChained) : Type 0 where
   pub up : p.up ≡ true
@@ -53,8 +53,7 @@ pub record IsExitOf (me : Speaker) (rules : List Rule) (p : DeclaredPeer) (c : O
 
 abbrev pub ExitsAt : Option Speaker → Policies → ℕ → Option DeclaredPeer → Option OutChained → Type 0
 ExitsAt (Some me) policies k (Some p) (Some c) = IsExitOf me (rules_to k policies) p c
-ExitsAt s policies k (Some p) None = p.up ≡ false
-ExitsAt s policies k None None = Unit {0}
+ExitsAt s policies k p None = Unit {0}
 ExitsAt s policies k p c = ⊥
 
 -- The forwarding side reads from `local` on, by a reader that is no peer's.
@@ -137,8 +136,13 @@ pub record Stands (m : Moment) : Type 0 where
   pub own : (claim : Claim) → Claims m claim
   pub at : (p : Network) → (tie : Tie) → Ties (here m p) tie
 
+-- Each peer that is up has an exit. Within a loss this doesn't hold: the exit ends first, before the oldest stage runs to its end.
+abbrev pub AllHaveExits : Moment → Type 0
+AllHaveExits m = (k : ℕ) (p : DeclaredPeer) → peer_at k m.declared.peers ≡ Some p → p.up ≡ true → IsSome (exit_at k m.exits)
+
 -- What holds of a core between two calls, unless memory ran out: all that stands can be printed, and losses are counted by events.
 pub record CoreStands (c : Cored) : Type 0 where
   pub stands : Stands c.moment
   pub printable : IsPrintableMoment c.moment
+  pub exits : AllHaveExits c.moment
   pub numbered : AreNumbered c.events c.moment.tree

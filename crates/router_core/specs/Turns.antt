@@ -45,7 +45,7 @@ use Rattle.fanout_queue.specs.Queues.{Takes}
 use Rattle.exit_side.specs.Exits.{with_queue, has_exit_work}
 use Rattle.exit_side.specs.Steps.{TurnsExit}
 use Rattle.journal_text.specs.Values.{route_value, sent_entries}
-use Rattle.router_core.specs.Bests.{resolved_at, best_at, lent_candidates, DecidesOn}
+use Rattle.router_core.specs.Bests.{resolved_at, best_at, lent_candidates, DecidesOn, Queues}
 use Rattle.router_core.specs.Phases.{unread_if}
 use Rattle.router_core.specs.Moments.{Moment, most_unread, with_chains, with_hops, with_tree, with_exits}
 
@@ -87,8 +87,9 @@ pub record FallsPeer (k : ℕ) (sent : Option (Change Route)) (P : Chains → Li
   pub decided : DecidesOn k passed (resolved_at fallen m'.hops) best
   pub weld : List (Entry Value)
   pub welds : WeldsInward k fallen m'.chains weld
+  pub queued : Queues decided.best m.exits m'.exits
   pub lines : said ≡ journal_lines (entries ++ (resolved ++ (best ++ weld)))
-  pub after : m' ≡ with_hops (with_chains m m'.chains) m'.registry m'.hops
+  pub after : m' ≡ with_exits (with_hops (with_chains m m'.chains) m'.registry m'.hops) m'.exits
 
 -- One prefix of an UPDATE from peer k is announced or withdrawn.
 abbrev pub Feeds : ℕ → Network × Option Attrs → Moment → List Line → Moment → Type 0
@@ -167,8 +168,9 @@ pub record IsHopTurn (k : ℕ) (m : Moment) (said : List Line) (m' : Moment) : T
   pub turn : TurnsBelow k (filt_candidates chain) (filt_rows chain) sent m.registry m'.registry m.hops m'.hops entries
   pub best : List (Entry Value)
   pub decided : DecidesOn k sent (resolved_at m.chains m'.hops) best
+  pub queued : Queues decided.best m.exits m'.exits
   pub lines : said ≡ journal_lines (entries ++ best)
-  pub after : m' ≡ with_hops m m'.registry m'.hops
+  pub after : m' ≡ with_exits (with_hops m m'.registry m'.hops) m'.exits
 
 -- One turn of the exit of peer k, over the rows of `best`: what it says is its links' entries, and the UPDATE that the peer is sent.
 pub record IsOutTurn (k : ℕ) (m : Moment) (said : List Line) (m' : Moment) : Type 0 where

@@ -22,8 +22,8 @@ use Rattle.rib_route.specs.declared.rows.Interior.{Interior}
 use Rattle.rib_tree.specs.Trees.{Treed, int_rows, IsTree, IsFull}
 use Rattle.rib_tree.specs.Falls.{LeadsTree}
 use Rattle.rib_tree.specs.Steps.{lost_tree, welded_tree, tree_overdue, tree_loss_entries, tree_weld_entries}
-use Rattle.router_core.specs.Bests.{resolved_at, DecidesOn}
-use Rattle.router_core.specs.Moments.{Moment, with_chains, with_hops, with_tree, router_links, bound_of, Gives}
+use Rattle.router_core.specs.Bests.{resolved_at, DecidesOn, Queues}
+use Rattle.router_core.specs.Moments.{Moment, with_chains, with_hops, with_tree, with_exits, router_links, bound_of, Gives}
 use Rattle.journal_text.specs.declared.link.Link.{Link}
 use Rattle.live_state.specs.Lives.{LiveState, LiveAfter, live_fed, heard, ended, interior_lost}
 use Rattle.router_core.specs.Lives.{live_state}
@@ -164,8 +164,15 @@ pub record SettlesPeer (k : ℕ) (sent : Option (Change Route)) (m m' : Moment) 
   pub decided : DecidesOn k passed (resolved_at m.chains m'.hops) best
   pub weld : List (Entry Value)
   pub welds : WeldsInward k m.chains m'.chains weld
+  pub queued : Queues decided.best m.exits m'.exits
   pub lines : entries ≡ resolved ++ (best ++ weld)
-  pub after : m' ≡ with_hops (with_chains m m'.chains) m'.registry m'.hops
+  pub after : m' ≡ with_exits (with_hops (with_chains m m'.chains) m'.registry m'.hops) m'.exits
+
+-- What follows a change that came on `res.K`, if one did: the decision, and the queue.
+pub record Decides (k : ℕ) (sent : Option (Change Route)) (m m' : Moment) (entries : List (Entry Value)) : Type 0 where
+  pub decided : DecidesOn k sent (resolved_at m.chains m.hops) entries
+  pub queued : Queues decided.best m.exits m'.exits
+  pub after : m' ≡ with_exits m m'.exits
 
 -- ---- interior routes
 

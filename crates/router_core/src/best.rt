@@ -6,7 +6,8 @@ ghost use Rattle.addr4.specs.Places.{key_of};
 ghost use Rattle.journal_text.specs.Journals.{Adds};
 ghost use Rattle.link_change.specs.Rows.{IsNextCandidate, CoversRows};
 ghost use Rattle.decision.specs.Branches.{best_candidates};
-ghost use Rattle.router_core.specs.Bests.{DecidesOn, best_at, resolved_at, lent_chain, lent_candidates};
+ghost use Rattle.router_core.specs.Works.{Decides};
+ghost use Rattle.router_core.specs.Bests.{best_at, lent_chain, lent_candidates};
 
 use crate::network::Network;
 use addr4::{Memory, Place, Prefix};
@@ -73,7 +74,7 @@ impl Network {
         journal: &mut Journal,
     ) -> Result<(), Memory>
         requires { number ≤ 64 }
-        ensures { OnOk result (Adds (DecidesOn number sent (resolved_at self.now.chains self.now.hops)) journal.old journal.new) }
+        ensures { OnOk result (Adds (Decides number sent self.old self.new) journal.old journal.new) }
     {
         let Some(change) = sent else {
             return Ok(());
