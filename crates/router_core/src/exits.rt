@@ -1,7 +1,18 @@
 //! What peers are sent, and what the forwarding side reads of `best`: both read the queue of its changes (NSDI 2005, section 5.1).
 
-ghost use Rattle.std.specs.Prelude.{◌≡◌, IfOk, OnOk};
-ghost use Rattle.router_core.specs.Moments.{rules_to};
+ghost use Rattle.std.specs.Prelude.{◌≡◌, [], None, IfOk, OnOk, IsSome};
+ghost use Rattle.std.specs.FinMap as map;
+ghost use Rattle.journal_text.specs.Journals.{Adds};
+ghost use Rattle.journal_text.specs.declared.link.Task.TheVariants as tasks;
+ghost use Rattle.event_text.specs.declared.event.Event.TheVariants as events;
+ghost use Rattle.event_text.specs.Declarations.{peer_at, refusal};
+ghost use Rattle.exit_side.specs.Exits.{IsExits, chain_at as exit_at};
+ghost use Rattle.router_core.specs.declared.router.Phase.TheVariants as phases;
+ghost use Rattle.router_core.specs.Bests.{Queues};
+ghost use Rattle.router_core.specs.Moments.{rules_to, with_exits};
+ghost use Rattle.router_core.specs.Stands.{Stands};
+ghost use Rattle.router_core.specs.Turns.{has_work, next_task};
+ghost use Rattle.router_core.specs.Works.{Comes, HasStepped, BeginsReading, BeginsSession, SendsAs};
 
 use crate::best::Lent;
 use crate::network::Network;
@@ -39,19 +50,25 @@ impl Model for Policies {
 }
 
 impl Policies {
-    pub(crate) fn new(alloc: Global) -> Policies {
+    pub(crate) fn new(alloc: Global) -> Policies
+        ensures { result ≡ map.empty }
+    {
         Policies {
             rules: BTreeMap::new(alloc),
         }
     }
 
-    fn set(&mut self, number: u32, rules: Rules) -> Result<(), Memory> {
+    fn set(&mut self, number: u32, rules: Rules) -> Result<(), Memory>
+        ensures { OnOk result (self.new ≡ map.insert self.old number rules) }
+    {
         self.rules.insert(number, rules)?;
         Ok(())
     }
 
     /// The rules of a peer's filter; none where it was never edited.
-    fn rules(&self, alloc: Global, number: u32) -> Result<Rules, Memory> {
+    fn rules(&self, alloc: Global, number: u32) -> Result<Rules, Memory>
+        ensures { IfOk result (λ rules. rules ≡ rules_to number self.now) }
+    {
         match self.rules.get(&number) {
             Some(rules) => rules.copy(alloc),
             None => Ok(Rules::new(alloc)),
@@ -61,14 +78,22 @@ impl Policies {
 
 impl Network {
     /// With `local` the forwarding side begins to read: `read.rib` inherits `best`.
-    pub(crate) fn begin_reading(&mut self, journal: &mut Journal) -> Result<(), Memory> {
+    pub(crate) fn begin_reading(&mut self, journal: &mut Journal) -> Result<(), Memory>
+        ensures { OnOk result (Adds (BeginsReading self.old self.new) journal.old journal.new) }
+    {
         let reader = self.exits.join()?;
         self.reader = Some(reader);
         journal.push_entry(Entry::Inherit(Link::ReadRib, Link::Best))
     }
 
     /// A session of a peer begins: its three links begin.
-    pub(crate) fn begin_exit(&mut self, number: u32, journal: &mut Journal) -> Result<(), Memory> {
+    pub(crate) fn begin_exit(&mut self, number: u32, journal: &mut Journal) -> Result<(), Memory>
+        requires sound { IsExits self.old.exits }
+        requires sender { SendsAs self.old.declared.speaker self.old.exits.profile }
+        requires there { IsSome (peer_at number self.old.declared.peers) }
+        requires absent { exit_at number self.old.exits ≡ None }
+        ensures { OnOk result (Adds (BeginsSession number self.old self.new) journal.old journal.new) }
+    {
         let Some(me) = self.declared.speaker() else {
             unreachable!()
         };
@@ -80,13 +105,21 @@ impl Network {
     }
 
     /// A peer's outgoing filter has new rules, in its session or from its next one on.
-    pub(crate) fn edit_outgoing(&mut self, number: u32, rules: Rules) -> Result<(), Memory> {
+    pub(crate) fn edit_outgoing(&mut self, number: u32, rules: Rules) -> Result<(), Memory>
+        requires admitted { refusal self.old.declared (events.FilterOut number rules) ≡ None }
+        requires stands { Stands self.old }
+        ensures { OnOk result (HasStepped self.old (events.FilterOut number rules) 0 self.new []) }
+    {
         self.exits.edit(number, rules.copy(self.alloc)?);
         self.outgoing.set(number, rules)
     }
 
     /// What follows a change of `best`, if one came: it joins the queue.
-    pub(crate) fn queue(&mut self, sent: Option<Change<Route>>) -> Result<(), Memory> {
+    pub(crate) fn queue(&mut self, sent: Option<Change<Route>>) -> Result<(), Memory>
+        requires { IsExits self.old.exits }
+        ensures queues { OnOk result (Queues sent self.old.exits self.new.exits) }
+        ensures after { OnOk result (self.new ≡ with_exits self.old self.new.exits) }
+    {
         match sent {
             Some(change) => self.exits.put(change),
             None => Ok(()),
@@ -94,7 +127,10 @@ impl Network {
     }
 
     /// One turn of a peer's exit, and the text of its lines.
-    pub(crate) fn turn_exit(&mut self, number: u32, journal: &mut Journal) -> Result<Done, Memory> {
+    pub(crate) fn turn_exit(&mut self, number: u32, journal: &mut Journal) -> Result<Done, Memory>
+        requires { Stands self.old }
+        ensures { IfOk result (Comes (tasks.Out number) self.old self.new journal.old journal.new) }
+    {
         let lent = Lent {
             chains: &self.chains,
             hops: &self.hops,
@@ -112,7 +148,10 @@ impl Network {
     }
 
     /// One turn of the forwarding side: the first change that it hasn't read comes on `read.rib`.
-    pub(crate) fn turn_reader(&mut self, journal: &mut Journal) -> Result<Done, Memory> {
+    pub(crate) fn turn_reader(&mut self, journal: &mut Journal) -> Result<Done, Memory>
+        requires { Stands self.old }
+        ensures { IfOk result (Comes tasks.ReadRib self.old self.new journal.old journal.new) }
+    {
         let Some(reader) = &mut self.reader else {
             return Ok(Done::Nothing);
         };
@@ -125,7 +164,10 @@ impl Network {
     }
 
     /// Whether the forwarding side has something to read.
-    pub(crate) fn reads(&self) -> bool {
+    pub(crate) fn reads(&self) -> bool
+        requires { Stands self.now }
+        ensures { result ≡ has_work tasks.ReadRib self.now }
+    {
         match &self.reader {
             Some(reader) => self.exits.waiting(reader) > 0,
             None => false,
@@ -133,7 +175,10 @@ impl Network {
     }
 
     /// The task of the forwarding side, where it has something to read.
-    pub(crate) fn next_reader(&self) -> Option<Task> {
+    pub(crate) fn next_reader(&self) -> Option<Task>
+        requires { Stands self.now }
+        ensures { result ≡ next_task phases.ReadRib self.now }
+    {
         if self.reads() {
             return Some(Task::ReadRib);
         }
