@@ -146,9 +146,13 @@ fn go_on(
     requires stands { OutStands chain queue.old (map.get best.old) }
     requires plain { chain.exit.profile ≡ PLAIN }
 {
-    run(alloc, script, &mut chain, queue, best, journal)?;
-    chain.stop(queue, journal)?;
-    Ok(())
+    match run(alloc, script, &mut chain, queue, best, journal) {
+        Ok(()) => Ok(chain.stop(queue, journal)?),
+        Err(fail) => {
+            drop(chain);
+            Err(fail)
+        }
+    }
 }
 
 /// The session of the second peer from its beginning to its end.
@@ -187,8 +191,13 @@ fn begin_early(
     ensures plain { IfOk result (λ early. early.exit.profile ≡ PLAIN) }
 {
     let mut early = begin(alloc, 3, queue, journal)?;
-    run(alloc, COMES, &mut early, queue, best, journal)?;
-    Ok(early)
+    match run(alloc, COMES, &mut early, queue, best, journal) {
+        Ok(()) => Ok(early),
+        Err(fail) => {
+            drop(early);
+            Err(fail)
+        }
+    }
 }
 
 /// The second peer's session begins beside the third's.
@@ -225,8 +234,13 @@ fn end_early(
     requires apart { late.reader ≢ early.reader }
 {
     a_session_stands();
-    early.stop(queue, journal)?;
-    go_on(alloc, LATER, late, queue, best, journal)
+    match early.stop(queue, journal) {
+        Ok(()) => go_on(alloc, LATER, late, queue, best, journal),
+        Err(memory) => {
+            drop(late);
+            Err(memory.into())
+        }
+    }
 }
 
 /// Two sessions, of which the one begins before the route comes and the other afterwards.
@@ -239,10 +253,17 @@ fn sessions(
     requires { best.old ≡ map.empty }
 {
     let early = begin_early(alloc, queue, best, journal)?;
-    let late = begin_late(alloc, &early, queue, best, journal)?;
-    let waiting = [early.waiting(queue), late.waiting(queue)];
-    end_early(alloc, early, late, queue, best, journal)?;
-    Ok(waiting)
+    match begin_late(alloc, &early, queue, best, journal) {
+        Ok(late) => {
+            let waiting = [early.waiting(queue), late.waiting(queue)];
+            end_early(alloc, early, late, queue, best, journal)?;
+            Ok(waiting)
+        }
+        Err(memory) => {
+            drop(early);
+            Err(memory.into())
+        }
+    }
 }
 
 /// What the journal says of a session, and of two, and how many changes the two haven't taken.
