@@ -3,7 +3,7 @@
 use crate::paths::path;
 use addr4::{Addr, Memory, Prefix, Row, read_prefix};
 use bgp_attr::{Attrs, Neighbour, Octets, Origin, Route, SharedAttrs, UnrecognizedAttrs};
-use journal_text::{Code, Entry, Journal, Line, Link, Task, Value};
+use journal_text::{Code, Entry, Journal, Line, Link, Task, Value, Valued};
 use link_change::Change;
 use rib_route::{External, FibRow, Iface, Interior, Proto};
 use std::alloc::Global;
@@ -193,6 +193,43 @@ fn push_others(alloc: Global, journal: &mut Journal) -> Result<(), Fail> {
     journal.push_line(Line::Ignored)?;
     journal.push_line(Line::Absent)?;
     journal.push_line(Line::Refused(2, Code::E5))?;
+    Ok(())
+}
+
+/// A row of each kind, as its value.
+const ROWS: &str = "\
+row in.1 10.1.0.0/16 o0,p(65001),n192.0.2.1\n\
+row filt.1 10.1.0.0/16 1:100:-:0:-:o0,p(65001),n192.0.2.1\n\
+row int 10.1.0.0/16 ospf:192.0.2.9:eth0:5\n\
+row ext 10.1.0.0/16 ibgp:192.0.2.1\n\
+row fib 10.1.0.0/16 ospf:192.0.2.9:eth0\n";
+
+fn push_row<R: Valued>(journal: &mut Journal, link: Link, row: &R) -> Result<(), Fail> {
+    journal.push_line(Line::Row(link, prefix()?, row.to_value()?))?;
+    Ok(())
+}
+
+/// Whether the rows' lines are those.
+fn are_values(journal: &mut Journal, route: &Route) -> Result<bool, Fail> {
+    let interior = interior(Proto::Ospf, Some(Addr::new(0xc000_0209)), b"eth0", 5)?;
+    push_row(journal, Link::In(1), &route.attrs)?;
+    push_row(journal, Link::Filt(1), route)?;
+    push_row(journal, Link::Int, &interior)?;
+    push_row(journal, Link::Ext, &external(true))?;
+    push_row(journal, Link::Fib, &forwarded(&interior))?;
+    journal.flush()?;
+    Ok(journal.text() == ROWS.as_bytes())
+}
+
+fn are_new_values(alloc: Global) -> Result<bool, Fail> {
+    let route = peers_route(attrs(alloc, Origin::Igp)?);
+    let mut journal = Journal::new(alloc, false);
+    are_values(&mut journal, &route)
+}
+
+#[test]
+fn each_kind_of_row_is_a_value(rt: HostRuntime) -> Result<(), Fail> {
+    assert!(rt; are_new_values(rt.alloc())?);
     Ok(())
 }
 
