@@ -64,6 +64,39 @@ impl Sink for NotedSink {
     }
 }
 
+/// The calls and the status of a run.
+fn run(
+    alloc: Global,
+    words: &[String],
+    source: &mut NotedSource,
+    sink: &mut NotedSink,
+) -> Result<(Vec<Call>, Status), Fail> {
+    let status = replay(alloc, words, source, sink);
+    let calls = sink
+        .record
+        .try_replace(Vec::new(alloc))
+        .ok()
+        .ok_or("in use")?;
+    Ok((calls, status))
+}
+
+fn words_of(alloc: Global, command: &str) -> Result<Vec<String>, Fail> {
+    let mut words = Vec::new(alloc);
+    words.push(String::from_str(alloc, "replay")?)?;
+    words.push(String::from_str(alloc, command)?)?;
+    Ok(words)
+}
+
+fn noted(alloc: Global, text: &str, size: usize, record: &Record) -> Result<NotedSource, Fail> {
+    let bytes = Vec::from_slice(alloc, text.as_bytes())?;
+    let record = record.clone()?;
+    Ok(NotedSource {
+        inner: MemorySource::new(bytes, Vec::new(alloc)),
+        size,
+        record,
+    })
+}
+
 /// The calls and the status of a command, over a text of which one read gives so many bytes.
 fn calls_of(
     alloc: Global,
@@ -71,22 +104,12 @@ fn calls_of(
     text: &str,
     size: usize,
 ) -> Result<(Vec<Call>, Status), Fail> {
-    let mut words = Vec::new(alloc);
-    words.push(String::from_str(alloc, "replay")?)?;
-    words.push(String::from_str(alloc, command)?)?;
+    let words = words_of(alloc, command)?;
     let record: Record = Rc::new(alloc, RefCell::new(Vec::new(alloc)))?;
-    let mut source = NotedSource {
-        inner: MemorySource::new(Vec::from_slice(alloc, text.as_bytes())?, Vec::new(alloc)),
-        size,
-        record: record.clone()?,
-    };
-    let mut sink = NotedSink {
-        inner: MemorySink::new(Vec::new(alloc), Vec::new(alloc)),
-        record: record.clone()?,
-    };
-    let status = replay(alloc, words.as_slice(), &mut source, &mut sink);
-    let calls = record.try_replace(Vec::new(alloc)).ok().ok_or("in use")?;
-    Ok((calls, status))
+    let mut source = noted(alloc, text, size, &record)?;
+    let inner = MemorySink::new(Vec::new(alloc), Vec::new(alloc));
+    let mut sink = NotedSink { inner, record };
+    run(alloc, words.as_slice(), &mut source, &mut sink)
 }
 
 /// Each line has 38 bytes, and so has each read: `local` and `peer` have an output, the others have none.

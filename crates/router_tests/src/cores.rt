@@ -24,9 +24,7 @@ fn step_line(alloc: Global, core: &mut Core, line: &[u8], journal: &mut Journal)
     requires { CoreStands core.old }
     ensures { OnOk result (CoreStands core.new) }
 {
-    let Ok(event) = parse(alloc, line)? else {
-        return Err(Fail::from("the line is refused"));
-    };
+    let event = parse(alloc, line)?.ok().ok_or("the line is refused")?;
     if admit(&event, core.declared()).is_some() || core.events() > 1000 {
         return Err(Fail::from("the event is refused"));
     }
@@ -45,22 +43,19 @@ fn run(alloc: Global, script: &str, core: &mut Core, journal: &mut Journal) -> R
 }
 
 /// How many rows a link has after a script; None where it isn't there.
-fn rows_after(
-    alloc: Global,
-    link: Link,
-    core: &mut Core,
-    journal: &mut Journal,
-) -> Result<Option<u128>, Fail>
+fn rows_after(alloc: Global, link: Link, core: &mut Core) -> Result<Option<u128>, Fail>
     requires { CoreStands core.old }
 {
-    run(alloc, SETTLED, core, journal)?;
+    let mut journal = Journal::new(alloc, true);
+    run(alloc, SETTLED, core, &mut journal)?;
     Ok(core.count(link)?)
 }
 
 fn counted(alloc: Global, link: Link) -> Result<Option<u128>, Fail> {
     let mut core = Core::new(alloc);
-    let mut journal = Journal::new(alloc, true);
-    rows_after(alloc, link, &mut core, &mut journal)
+    let counted = rows_after(alloc, link, &mut core);
+    drop(core);
+    counted
 }
 
 #[test]

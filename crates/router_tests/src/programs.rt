@@ -24,7 +24,18 @@ fn text_of(alloc: Global, sink: &MemorySink) -> Result<String, Fail> {
     Ok(String::from_utf8(bytes).ok().ok_or("text")?)
 }
 
-/// The status and the output on a text. The calls that are to fail are given by their numbers.
+/// The status and the output of a run.
+fn run(
+    alloc: Global,
+    words: &[String],
+    source: &mut MemorySource,
+    sink: &mut MemorySink,
+) -> Result<(Status, String), Fail> {
+    let status = replay(alloc, words, source, sink);
+    Ok((status, text_of(alloc, sink)?))
+}
+
+/// The same on a text. The calls that are to fail are given by their numbers.
 fn run_failing(
     alloc: Global,
     words: &[&str],
@@ -35,8 +46,7 @@ fn run_failing(
     let words = owned(alloc, words)?;
     let mut source = MemorySource::new(Vec::from_slice(alloc, text.as_bytes())?, reads);
     let mut sink = MemorySink::new(Vec::new(alloc), writes);
-    let status = replay(alloc, words.as_slice(), &mut source, &mut sink);
-    Ok((status, text_of(alloc, &sink)?))
+    run(alloc, words.as_slice(), &mut source, &mut sink)
 }
 
 /// The lines with which each journal begins.
