@@ -8,6 +8,7 @@ use link_change::Upstream;
 use std::alloc::Global;
 
 /// The link `best`: the best route at each prefix over these branches.
+#[derive(Drop)]
 pub struct Best<'a, B: Branches> {
     pub alloc: Global,
     pub all: &'a B,

@@ -1,11 +1,12 @@
 -- Each line of a seed is read as the event that it is.
-use Rattle.std.proofs.Common.{◌≡◌, ℕ, zero, suc, ◌+◌, ◌/◌, ◌%◌, ◌==◌, ◌^◌, ◌<◌, Bool, true, false, cond, nat_lt, List, [], ◌∷◌, ◌++◌, map, Option, Some, Ok, IfSome, arith}
+use Rattle.std.proofs.Common.{◌≡◌, ℕ, zero, suc, ◌+◌, ◌/◌, ◌%◌, ◌==◌, ◌^◌, ◌<◌, Bool, true, false, cond, nat_lt, List, [], ◌∷◌, ◌++◌, map, Ok, arith}
 use Rattle.event_text.specs.declared.event.Event.{Event}
+use Rattle.event_text.specs.declared.event.Event.TheVariants as events
 use Rattle.event_text.specs.Events.{read_event}
 use Rattle.event_gen.specs.Draws.{next_draws, behind_draws}
 use Rattle.event_gen.specs.Events.{kind_of, peer_of, block_of, origin_of, host_event, work_of, other_event, event_of, events_from}
 use Rattle.event_gen.specs.Lines.{host, announce_octets, withdraw_octets, event_words, event_line, opening}
-use Rattle.event_gen.specs.Readings.{work_meant, meant, opening_events, AreReadAs, LinesAreRead}
+use Rattle.event_gen.specs.Readings.{task_meant, meant, opening_events, AreReadAs, LinesAreRead}
 use Rattle.event_gen.specs.declared.draws.Draws.{Draws}
 use Rattle.event_gen.specs.declared.drawn.Work.{Work}
 use Rattle.event_gen.specs.declared.drawn.Work.TheVariants as works
@@ -13,7 +14,7 @@ use Rattle.event_gen.specs.declared.drawn.Drawn.{Drawn}
 use Rattle.event_gen.specs.declared.drawn.Drawn.TheVariants as drawn
 use Rattle.event_gen.proofs.OctetLemmas.{announce_small, announce_long, withdraw_small, withdraw_long}
 use Rattle.event_gen.proofs.OpeningLemmas.{opening_read}
-use Rattle.event_gen.proofs.ReadingLemmas.{IsCount, host_is, up_read, down_read, idle_read, bgp_read, filter_read, add_read, del_read, fin_read, nh_read}
+use Rattle.event_gen.proofs.ReadingLemmas.{IsCount, host_is, up_read, down_read, idle_read, bgp_read, filter_read, add_read, del_read, fin_read, nh_read, out_read, rib_read}
 
 -- ---- what is drawn
 
@@ -70,14 +71,14 @@ is_drawn d =
 
 -- ---- what is read
 
-work_is_read : (task : Work) (n : ℕ) → IsWork task → n < 2 ^ 32 → IfSome (work_meant task n) (λ e. read_event (event_line (drawn.Work task n)) ≡ Ok e)
+work_is_read : (task : Work) (n : ℕ) → IsWork task → n < 2 ^ 32 → read_event (event_line (drawn.Work task n)) ≡ Ok (events.Work (task_meant task) n)
 unfolding IsWork event_words
-work_is_read works.ReadRib n h small = tt
-work_is_read (works.Out k) n h small = tt
+work_is_read works.ReadRib n h small = rib_read n small
+work_is_read (works.Out k) n h small = out_read k n h small
 work_is_read (works.NextHops k) n h small = nh_read k n h small
 work_is_read (works.Filter k) n h small = fin_read k n h small
 
-is_read : (e : Drawn) → IsDrawn e → IfSome (meant e) (λ event. read_event (event_line e) ≡ Ok event)
+is_read : (e : Drawn) → IsDrawn e → read_event (event_line e) ≡ Ok (meant e)
 unfolding IsDrawn event_words
 is_read (drawn.Announce k x origin med) h =
     let long = announce_long k x origin med in
@@ -97,11 +98,11 @@ unfolding IsDrawn
 events_read zero x = (is_read drawn.Idle tt, tt)
 events_read (suc n) x = (is_read (event_of (next_draws x)) (is_drawn (next_draws x)), events_read n (behind_draws x))
 
-both_read : (ls : List (List ℕ)) (es : List (Option Event)) (ls' : List (List ℕ)) (es' : List (Option Event)) → AreReadAs ls es → AreReadAs ls' es' → AreReadAs (ls ++ ls') (es ++ es')
+both_read : (ls : List (List ℕ)) (es : List Event) (ls' : List (List ℕ)) (es' : List Event) → AreReadAs ls es → AreReadAs ls' es' → AreReadAs (ls ++ ls') (es ++ es')
 both_read [] [] ls' es' g h = h
 both_read [] (e ∷ es) ls' es' g h = absurd g
 both_read (l ∷ ls) [] ls' es' g h = absurd g
 both_read (l ∷ ls) (e ∷ es) ls' es' g h = (g.0, both_read ls es ls' es' g.1 h)
 
 pub lines_are_read : LinesAreRead
-lines_are_read seed n = both_read opening (map (λ e. Some e) opening_events) (map event_line (events_from n seed ++ drawn.Idle ∷ [])) (map meant (events_from n seed ++ drawn.Idle ∷ [])) opening_read (events_read n seed)
+lines_are_read seed n = both_read opening opening_events (map event_line (events_from n seed ++ drawn.Idle ∷ [])) (map meant (events_from n seed ++ drawn.Idle ∷ [])) opening_read (events_read n seed)

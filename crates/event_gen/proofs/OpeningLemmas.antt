@@ -1,5 +1,5 @@
 -- The lines of the opening are read as they are.
-use Rattle.std.proofs.Common.{◌≡◌, ℕ, List, map, Some, None, Ok, refl, codes}
+use Rattle.std.proofs.Common.{◌≡◌, ℕ, List, None, Ok, refl, codes}
 use Rattle.addr4.specs.Texts.{number_below, addr_of, prefix_of}
 use Rattle.rib_route.specs.declared.Proto.TheVariants.{Connected}
 use Rattle.journal_text.specs.Names.{proto_of}
@@ -34,7 +34,7 @@ ups_read : IsReadAs (codes "up 1") (events.Up 1) × IsReadAs (codes "up 2") (eve
 unfolding read_event is_clean words event_of named_event plain_event one_number from_one number_below
 ups_read = (refl, refl, refl, refl)
 
-pub opening_read : AreReadAs opening (map (λ e. Some e) opening_events)
+pub opening_read : AreReadAs opening opening_events
 unfolding opening
 opening_read =
     let p = peers_read in

@@ -18,7 +18,7 @@ use Rattle.policy_rules.specs.declared.rule.Verdict.TheVariants.{Accept}
 use Rattle.policy_rules.specs.Words.{◌>>=◌, verdict_of, setting_of}
 use Rattle.policy_rules.specs.Grammar.{rules_of, behind}
 use Rattle.journal_text.specs.declared.link.Task.{Task}
-use Rattle.journal_text.specs.declared.link.Task.TheVariants.{Fin, Nh}
+use Rattle.journal_text.specs.declared.link.Task.TheVariants.{Fin, Nh, ReadRib, Out}
 use Rattle.journal_text.specs.Names.{from_one as name_from_one, proto_of, name_number, peer_task, task_from_parts, task_of_two, task_of}
 use Rattle.journal_check.specs.Laws.{IsPrefix}
 use Rattle.journal_check.specs.Readings.{◌>>=◌ as ◌>>>◌, as_printed, printed_prefix}
@@ -26,7 +26,7 @@ use Rattle.journal_check.proofs.InkLemmas.{IsInk, all_append, ink_by, decimal_ar
 use Rattle.journal_check.proofs.PrefixBack.{number_back, printed_back}
 use Rattle.event_text.specs.declared.event.Event.TheVariants as events
 use Rattle.event_text.specs.Words.{from_one, octets_of, way_out, interior_of}
-use Rattle.event_text.specs.Events.{one_number, bgp_of, filter_of, route_add_of, route_del_of, route_of, interior_event, work_of, plain_event, named_event, event_of, in_grammar, read_event}
+use Rattle.event_text.specs.Events.{one_number, bgp_of, filter_on, filter_of, route_add_of, route_del_of, route_of, interior_event, work_of, plain_event, named_event, event_of, in_grammar, read_event}
 use Rattle.event_gen.specs.Lines.{host}
 use Rattle.event_gen.proofs.OctetLemmas.{AreOctets, bytes}
 use Rattle.event_gen.proofs.WordLemmas.{IsPlain, plain_by, plain_decimal, plain_hex, plain_prefix, octet_short, line_read}
@@ -93,7 +93,7 @@ unfolding rules_of verdict_of setting_of
 rules_told n small = ap (λ o. (o >>= λ m. Some (Pref m)) >>= λ a. behind false Any (a ∷ []) (codes "accept" ∷ [])) (number_told n small)
 
 filter_told : (k n : ℕ) → IsCount k → n < 2 ^ 32 → event_of (codes "filter" ∷ codes "in" ∷ decimal k ∷ codes "any" ∷ codes "pref" ∷ decimal n ∷ codes "accept" ∷ []) ≡ Some (events.FilterIn k (record { condition = Any; actions = Pref n ∷ []; verdict = Accept } ∷ []))
-unfolding event_of named_event filter_of
+unfolding event_of named_event filter_of filter_on
 filter_told k n h small =
     ap (λ o. o >>= λ m. rules_of false (codes "any" ∷ codes "pref" ∷ decimal n ∷ codes "accept" ∷ []) >>= λ rules. Some (events.FilterIn m rules)) (from_one_told k h)
     ∙ ap (λ o. o >>= λ rules. Some (events.FilterIn k rules)) (rules_told n small)
@@ -136,6 +136,16 @@ unfolding task_from_parts task_of_two peer_task
 nh_told k h =
     ap (λ ps. task_from_parts (codes "nh" ∷ ps)) (apart_alone 46 (decimal k) (decimal_are (λ c. nat_eq c 46 ≡ false) not_dot k (omega (arith, h))))
     ∙ ap (option_and_then (λ j. Some (Nh j))) (name_told k h)
+
+out_told : (k : ℕ) → IsCount k → task_of (codes "out." ++ decimal k) ≡ Some (Out k)
+unfolding task_from_parts task_of_two peer_task
+out_told k h =
+    ap (λ ps. task_from_parts (codes "out" ∷ ps)) (apart_alone 46 (decimal k) (decimal_are (λ c. nat_eq c 46 ≡ false) not_dot k (omega (arith, h))))
+    ∙ ap (option_and_then (λ j. Some (Out j))) (name_told k h)
+
+rib_told : task_of (codes "rd.rib") ≡ Some ReadRib
+unfolding task_from_parts task_of_two
+rib_told = refl
 
 work_told : (word : List ℕ) (task : Task) (n : ℕ) → task_of word ≡ Some task → n < 2 ^ 32 → event_of (codes "work" ∷ word ∷ decimal n ∷ []) ≡ Some (events.Work task n)
 unfolding event_of named_event plain_event work_of
@@ -190,6 +200,11 @@ plain_nh k h =
     let number = plain_count k h in
     record { ink = all_append IsInk (codes "nh.") (decimal k) (ink_by (codes "nh.") refl) number.ink; some = omega arith; short = omega (arith, octet_short k (omega (arith, h))) }
 
+plain_out : (k : ℕ) → IsCount k → IsPlain (codes "out." ++ decimal k)
+plain_out k h =
+    let number = plain_count k h in
+    record { ink = all_append IsInk (codes "out.") (decimal k) (ink_by (codes "out.") refl) number.ink; some = omega arith; short = omega (arith, octet_short k (omega (arith, h))) }
+
 work_read : (word : List ℕ) (task : Task) (n : ℕ) → IsPlain word → task_of word ≡ Some task → n < 2 ^ 32 → read_event (join_with_byte 32 (codes "work" ∷ word ∷ decimal n ∷ [])) ≡ Ok (events.Work task n)
 work_read word task n plain told small =
     line_read (codes "work") (word ∷ decimal n ∷ []) (plain_by (codes "work") refl, (plain, (plain_decimal n small, tt))) (omega arith)
@@ -200,3 +215,9 @@ fin_read k n h small = work_read (codes "fin." ++ decimal k) (Fin k) n (plain_fi
 
 pub nh_read : (k n : ℕ) → IsCount k → n < 2 ^ 32 → read_event (join_with_byte 32 (codes "work" ∷ (codes "nh." ++ decimal k) ∷ decimal n ∷ [])) ≡ Ok (events.Work (Nh k) n)
 nh_read k n h small = work_read (codes "nh." ++ decimal k) (Nh k) n (plain_nh k h) (nh_told k h) small
+
+pub out_read : (k n : ℕ) → IsCount k → n < 2 ^ 32 → read_event (join_with_byte 32 (codes "work" ∷ (codes "out." ++ decimal k) ∷ decimal n ∷ [])) ≡ Ok (events.Work (Out k) n)
+out_read k n h small = work_read (codes "out." ++ decimal k) (Out k) n (plain_out k h) (out_told k h) small
+
+pub rib_read : (n : ℕ) → n < 2 ^ 32 → read_event (join_with_byte 32 (codes "work" ∷ codes "rd.rib" ∷ decimal n ∷ [])) ≡ Ok (events.Work ReadRib n)
+rib_read n small = work_read (codes "rd.rib") ReadRib n (plain_by (codes "rd.rib") refl) rib_told small

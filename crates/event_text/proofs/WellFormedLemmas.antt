@@ -16,6 +16,7 @@ use Rattle.journal_text.proofs.ReadNames.{read_number_named, read_link_named}
 use Rattle.rib_route.specs.declared.Proto.{Proto}
 use Rattle.rib_route.specs.Ifaces.{is_iface_name, iface_of}
 use Rattle.event_text.specs.declared.event.Event.TheVariants as events
+use Rattle.policy_rules.specs.declared.rule.Rule.{Rule}
 use Rattle.policy_rules.specs.Ranges.{AreRules}
 use Rattle.policy_rules.specs.Grammar.{rules_of}
 use Rattle.policy_rules.proofs.RangeLemmas.{and_then, either, below, addr_fits, prefix_ok, rules_ok}
@@ -23,7 +24,7 @@ use Rattle.addr4.specs.Prefixes.{Network, IsMasked}
 use Rattle.bgp_attr.specs.Hosts.{is_host}
 use Rattle.bgp_attr.specs.Speakers.{IsSpeaker}
 use Rattle.event_text.specs.Words.{from_one, speaker_of, octets_of, way_out, way_over, interior_of, is_asked, link_of}
-use Rattle.event_text.specs.Events.{local_of, peer_of, one_number, bgp_of, filter_of, route_add_of, route_del_of, route_of, lost_of, cover_of, interior_event, work_of, ask_of, show_of, plain_event, named_event, event_of}
+use Rattle.event_text.specs.Events.{local_of, peer_of, one_number, bgp_of, filter_on, filter_of, route_add_of, route_del_of, route_of, lost_of, cover_of, interior_event, work_of, ask_of, show_of, plain_event, named_event, event_of}
 use Rattle.event_text.specs.WellFormed.{IsNumber, IsMessage, IsPrefix, IsGateway, IsInterior, IsAsked, IsTask, IsWellFormed}
 
 -- ---- steps that may fail
@@ -114,11 +115,18 @@ peer_task_ok : (w : List ℕ) (k : ℕ) → IsNumber k → IfSome (peer_task w k
 unfolding peer_task
 peer_task_ok w k h =
     either (bytes_eq w (codes "fin")) (Some (tasks.Fin k)) _ IsTask h
-    (either (bytes_eq w (codes "nh")) (Some (tasks.Nh k)) None IsTask h tt)
+    (either (bytes_eq w (codes "nh")) (Some (tasks.Nh k)) _ IsTask h
+    (either (bytes_eq w (codes "out")) (Some (tasks.Out k)) None IsTask h tt))
 
-two_parts_ok : (w : List ℕ) (k : Option ℕ) → IfSome k IsNumber → IfSome (option_and_then (peer_task w) k) IsTask
-two_parts_ok w None h = tt
-two_parts_ok w (Some k) h = peer_task_ok w k h
+number_task_ok : (w : List ℕ) (k : Option ℕ) → IfSome k IsNumber → IfSome (option_and_then (peer_task w) k) IsTask
+number_task_ok w None h = tt
+number_task_ok w (Some k) h = peer_task_ok w k h
+
+two_parts_ok : (w a : List ℕ) → IfSome (task_of_two w a) IsTask
+unfolding task_of_two
+two_parts_ok w a =
+    either (bytes_eq w (codes "rd")) _ _ IsTask (either (bytes_eq a (codes "rib")) (Some tasks.ReadRib) None IsTask tt tt)
+    (number_task_ok w (name_number a) (number_ok a))
 
 del_ok : (k s : Option ℕ) → IfSome k IsNumber → IfSome s IsNumber → IfSome (with_both (λ k s. Some (tasks.Del k s)) k s) IsTask
 del_ok None s hk hs = tt
@@ -131,10 +139,10 @@ rdel_ok (Some proto) None h = tt
 rdel_ok (Some proto) (Some n) h = h
 
 task_parts_ok : (ps : List (List ℕ)) → IfSome (task_from_parts ps) IsTask
-unfolding task_from_parts task_of_two task_of_three
+unfolding task_from_parts task_of_three
 task_parts_ok [] = tt
 task_parts_ok (w ∷ []) = tt
-task_parts_ok (w ∷ a ∷ []) = two_parts_ok w (name_number a) (number_ok a)
+task_parts_ok (w ∷ a ∷ []) = two_parts_ok w a
 task_parts_ok (w ∷ a ∷ b ∷ []) =
     either (bytes_eq w (codes "del")) _ _ IsTask (del_ok (name_number a) (name_number b) (number_ok a) (number_ok b))
     (either (bytes_eq w (codes "rdel")) _ None IsTask (rdel_ok (proto_of a) (name_number b) (number_ok b)) tt)
@@ -166,14 +174,19 @@ bgp_ok (k ∷ []) = tt
 bgp_ok (k ∷ digits ∷ []) = and_then (from_one k) _ IsNumber IsWellFormed (from_one_ok k) (λ n hn. and_then (octets_of digits) _ IsMessage IsWellFormed (octets_ok digits) (λ octets ho. (hn, ho)))
 bgp_ok (k ∷ digits ∷ x ∷ more) = tt
 
+filter_on_ok : (side : List ℕ) (k : ℕ) (rules : List Rule) → IsNumber k → AreRules false rules → IfSome (filter_on side k rules) IsWellFormed
+unfolding filter_on
+filter_on_ok side k rules hk hr =
+    either (bytes_eq side (codes "in")) (Some (events.FilterIn k rules)) _ IsWellFormed (hk, hr)
+    (either (bytes_eq side (codes "out")) (Some (events.FilterOut k rules)) None IsWellFormed (hk, hr) tt)
+
 filter_ok : (ws : List (List ℕ)) → IfSome (filter_of ws) IsWellFormed
 unfolding filter_of
 filter_ok [] = tt
 filter_ok (side ∷ []) = tt
 filter_ok (side ∷ k ∷ ws) =
-    either (bytes_eq side (codes "in")) _ None IsWellFormed
-    (and_then (from_one k) _ IsNumber IsWellFormed (from_one_ok k) (λ n hn. and_then (rules_of false ws) _ (AreRules false) IsWellFormed (rules_ok false ws) (λ rules hr. (hn, hr))))
-    tt
+    and_then (from_one k) _ IsNumber IsWellFormed (from_one_ok k) (λ n hn.
+    and_then (rules_of false ws) _ (AreRules false) IsWellFormed (rules_ok false ws) (λ rules hr. filter_on_ok side n rules hn hr))
 
 route_add_ok : (ws : List (List ℕ)) → IfSome (route_add_of ws) IsWellFormed
 unfolding route_add_of

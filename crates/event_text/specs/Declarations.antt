@@ -7,11 +7,11 @@ use Rattle.bgp_attr.specs.Speakers.{IsSpeaker, IsNeighbourOf}
 use Rattle.journal_text.specs.declared.link.Link.{Link}
 use Rattle.journal_text.specs.declared.link.Link.TheVariants as links
 use Rattle.journal_text.specs.declared.link.Task.{Task}
-use Rattle.journal_text.specs.declared.link.Task.TheVariants.{Del, Fin, Nh, Rdel}
+use Rattle.journal_text.specs.declared.link.Task.TheVariants.{Del, Fin, Nh, ReadRib, Out, Rdel}
 use Rattle.journal_text.specs.declared.line.Code.{Code}
 use Rattle.journal_text.specs.declared.line.Code.TheVariants.{E3, E4, E5, E6}
 use Rattle.event_text.specs.declared.event.Event.{Event}
-use Rattle.event_text.specs.declared.event.Event.TheVariants.{Nothing, Local, Peer, Up, Down, Bgp, FilterIn, RouteAdd, RouteDel, Lose, Cover, Idle, Work, Ask, Show}
+use Rattle.event_text.specs.declared.event.Event.TheVariants.{Nothing, Local, Peer, Up, Down, Bgp, FilterIn, FilterOut, RouteAdd, RouteDel, Lose, Cover, Idle, Work, Ask, Show}
 use Rattle.event_text.specs.declared.declared.DeclaredPeer.{DeclaredPeer}
 
 pub record Declaration : Type 0 where
@@ -59,11 +59,13 @@ abbrev pub rules_refusal : ℕ → Option DeclaredPeer → Option Code
 rules_refusal count None = Some E5
 rules_refusal count (Some p) = if nat_le count 64 then None else Some E6
 
--- a task of a peer needs it declared; one of a protocol doesn't
+-- a task of a peer needs it declared; one of a protocol or of the forwarding side doesn't
 abbrev pub task_refusal : Task → List DeclaredPeer → Option Code
 task_refusal (Del k s) peers = undeclared (peer_at k peers)
 task_refusal (Fin k) peers = undeclared (peer_at k peers)
 task_refusal (Nh k) peers = undeclared (peer_at k peers)
+task_refusal ReadRib peers = None
+task_refusal (Out k) peers = undeclared (peer_at k peers)
 task_refusal (Rdel proto n) peers = None
 
 -- a link of a peer needs it declared; the others don't
@@ -97,6 +99,7 @@ refusal_by local peers (Up k) = session_refusal (peer_at k peers)
 refusal_by local peers (Down k) = undeclared (peer_at k peers)
 refusal_by local peers (Bgp k octets) = undeclared (peer_at k peers)
 refusal_by local peers (FilterIn k rules) = rules_refusal (length rules) (peer_at k peers)
+refusal_by local peers (FilterOut k rules) = rules_refusal (length rules) (peer_at k peers)
 refusal_by local peers (RouteAdd p row) = None
 refusal_by local peers (RouteDel proto p) = None
 refusal_by local peers (Lose proto) = None
@@ -115,6 +118,7 @@ refusal_first (Up k) = Some E4
 refusal_first (Down k) = Some E4
 refusal_first (Bgp k octets) = Some E4
 refusal_first (FilterIn k rules) = Some E4
+refusal_first (FilterOut k rules) = Some E4
 refusal_first (RouteAdd p row) = Some E4
 refusal_first (RouteDel proto p) = Some E4
 refusal_first (Lose proto) = Some E4

@@ -6,10 +6,11 @@ use Rattle.addr4.specs.Texts.{number_of, addr_of, prefix_of}
 use Rattle.journal_text.specs.Names.{proto_of, task_of}
 use Rattle.journal_text.specs.declared.line.Code.{Code}
 use Rattle.journal_text.specs.declared.line.Code.TheVariants.{E1, E2}
+use Rattle.policy_rules.specs.declared.rule.Rule.{Rule}
 use Rattle.policy_rules.specs.Words.{◌>>=◌, words}
 use Rattle.policy_rules.specs.Grammar.{rules_of}
 use Rattle.event_text.specs.declared.event.Event.{Event}
-use Rattle.event_text.specs.declared.event.Event.TheVariants.{Nothing, Local, Peer, Up, Down, Bgp, FilterIn, RouteAdd, RouteDel, Lose, Cover, Idle, Work, Ask, Show}
+use Rattle.event_text.specs.declared.event.Event.TheVariants.{Nothing, Local, Peer, Up, Down, Bgp, FilterIn, FilterOut, RouteAdd, RouteDel, Lose, Cover, Idle, Work, Ask, Show}
 use Rattle.event_text.specs.Words.{is_clean, from_one, speaker_of, octets_of, interior_of, link_of}
 
 -- what follows `local`
@@ -37,15 +38,19 @@ bgp_of (k ∷ digits ∷ []) = do
   Some (Bgp n octets)
 bgp_of other = None
 
--- what follows `filter`: the word `in`, a peer's number, and rules, perhaps none
-unfoldable pub filter_of : List (List ℕ) → Option Event
-filter_of (side ∷ k ∷ ws) =
-    if bytes_eq side (codes "in")
-    then (do
-      n ← from_one k
-      rules ← rules_of false ws
-      Some (FilterIn n rules))
+-- new rules of a peer's filter, on the side of this word: `in` or `out`
+unfoldable pub filter_on : List ℕ → ℕ → List Rule → Option Event
+filter_on side k rules =
+    if bytes_eq side (codes "in") then Some (FilterIn k rules)
+    else if bytes_eq side (codes "out") then Some (FilterOut k rules)
     else None
+
+-- what follows `filter`: a side, a peer's number, and rules, perhaps none
+unfoldable pub filter_of : List (List ℕ) → Option Event
+filter_of (side ∷ k ∷ ws) = do
+  n ← from_one k
+  rules ← rules_of false ws
+  filter_on side n rules
 filter_of other = None
 
 -- what follows `route add`: a protocol, a prefix, and where the route goes

@@ -8,7 +8,7 @@ use Rattle.rib_route.specs.declared.rows.Interior.{Interior}
 use Rattle.journal_text.specs.Names.{IsNamed}
 use Rattle.journal_text.specs.declared.link.Link.{Link}
 use Rattle.journal_text.specs.declared.link.Task.{Task}
-use Rattle.journal_text.specs.declared.link.Task.TheVariants.{Del, Fin, Nh, Rdel}
+use Rattle.journal_text.specs.declared.link.Task.TheVariants.{Del, Fin, Nh, ReadRib, Out, Rdel}
 use Rattle.policy_rules.specs.Ranges.{AreRules}
 use Rattle.event_text.specs.declared.event.Event.{Event}
 use Rattle.event_text.specs.declared.event.Event.TheVariants as events
@@ -49,6 +49,8 @@ abbrev pub IsTask : Task → Type 0
 IsTask (Del k s) = IsNumber k × IsNumber s
 IsTask (Fin k) = IsNumber k
 IsTask (Nh k) = IsNumber k
+IsTask ReadRib = Unit {0}
+IsTask (Out k) = IsNumber k
 IsTask (Rdel proto n) = IsNumber n
 
 -- its numbers, words, octets, prefix, link and task are what the grammar says
@@ -60,6 +62,7 @@ IsWellFormed (events.Up k) = IsNumber k
 IsWellFormed (events.Down k) = IsNumber k
 IsWellFormed (events.Bgp k octets) = IsNumber k × IsMessage octets
 IsWellFormed (events.FilterIn k rules) = IsNumber k × AreRules false rules
+IsWellFormed (events.FilterOut k rules) = IsNumber k × AreRules false rules
 IsWellFormed (events.RouteAdd p row) = IsPrefix p × IsInterior row
 IsWellFormed (events.RouteDel proto p) = IsPrefix p
 IsWellFormed (events.Lose proto) = Unit {0}

@@ -61,7 +61,7 @@ interior_of proto (way ∷ ws) =
     else if bytes_eq way (codes "via") then way_over proto ws
     else None
 
--- events may name the link: those from the peers to behind the incoming filters, and those of the interior routes
+-- events may name the link: those from the peers to `best`, those to the peers, and those of the interior routes
 abbrev pub is_asked : Link → Bool
 is_asked (In k) = true
 is_asked (Peer k s) = true
@@ -74,14 +74,14 @@ is_asked Dyn = true
 is_asked Int = true
 is_asked Red = false
 is_asked Best = true
-is_asked ReadRib = false
+is_asked ReadRib = true
 is_asked Ebgp = false
 is_asked Ibgp = false
 is_asked Ext = false
 is_asked Fib = true
-is_asked (Read j s) = false
-is_asked (Outf j s) = false
-is_asked (Adv j s) = false
+is_asked (Read j s) = true
+is_asked (Outf j s) = true
+is_asked (Adv j s) = true
 
 -- the link of a name, if events may name it
 unfoldable pub link_of : List ℕ → Option Link

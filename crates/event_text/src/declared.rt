@@ -245,8 +245,10 @@ fn task_refusal(task: Task, peers: &[DeclaredPeer]) -> Option<Code>
     ensures { result ≡ task_refusal task peers.now }
 {
     match task {
-        Task::Del(peer, _) | Task::Fin(peer) | Task::Nh(peer) => undeclared(peer_of(peers, peer)),
-        Task::Rdel(_, _) => None,
+        Task::Del(peer, _) | Task::Fin(peer) | Task::Nh(peer) | Task::Out(peer) => {
+            undeclared(peer_of(peers, peer))
+        }
+        Task::ReadRib | Task::Rdel(_, _) => None,
     }
 }
 
@@ -304,6 +306,7 @@ fn refusal_by(local: Speaker, peers: &[DeclaredPeer], event: &Event) -> Option<C
         Event::Down(number) => undeclared(peer_of(peers, *number)),
         Event::Bgp(number, _) => undeclared(peer_of(peers, *number)),
         Event::FilterIn(number, rules) => rules_refusal(rules.len(), peer_of(peers, *number)),
+        Event::FilterOut(number, rules) => rules_refusal(rules.len(), peer_of(peers, *number)),
         Event::Work(task, _) => task_refusal(*task, peers),
         Event::Ask(link, _) => link_refusal(*link, peers),
         Event::Show(link) => link_refusal(*link, peers),

@@ -23,6 +23,9 @@ pub enum Event {
     Bgp(u32, Octets),
     /// `filter in K RULES`: the peer's incoming filter has these rules from now on.
     FilterIn(u32, Rules),
+    /// `filter out K RULES`: the peer's outgoing filter has these rules from now on, in its session or, where it is down, from its
+    /// next one on.
+    FilterOut(u32, Rules),
     /// `route add PROTO PREFIX direct IF METRIC`, or `via GATEWAY` in the place of `direct`: the protocol's route at the prefix is
     /// this one from now on.
     RouteAdd(Prefix, Interior),

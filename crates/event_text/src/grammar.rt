@@ -2,7 +2,7 @@
 
 ghost use Rattle.std.specs.Prelude.{◌≡◌, IfOk};
 ghost use Rattle.policy_rules.specs.Words.{words};
-ghost use Rattle.event_text.specs.Events.{local_of, peer_of, one_number, bgp_of, filter_of, route_add_of, route_del_of, route_of, lost_of, cover_of, interior_event, work_of, ask_of, show_of, plain_event, named_event, event_of, read_event};
+ghost use Rattle.event_text.specs.Events.{local_of, peer_of, one_number, bgp_of, filter_on, filter_of, route_add_of, route_del_of, route_of, lost_of, cover_of, interior_event, work_of, ask_of, show_of, plain_event, named_event, event_of, read_event};
 ghost use Rattle.event_text.specs.WellFormed.{IsWellFormed};
 
 use crate::event::Event;
@@ -10,7 +10,7 @@ use crate::words::{from_one, interior, is_clean, is_end, link, octets, protocol,
 use addr4::{Memory, read_addr, read_number, read_prefix};
 use bgp_attr::Profile;
 use journal_text::{Code, Task};
-use policy_rules::{first_word, read_rules};
+use policy_rules::{Rules, first_word, read_rules};
 use std::alloc::Global;
 
 /// AS numbers have two octets, and errors are handled by RFC 4271, section 6.3.
@@ -124,15 +124,26 @@ fn filter(alloc: Global, rest: &[u8]) -> Result<Option<Event>, Memory>
     let Some((number, rest)) = first_word(rest) else {
         return Ok(None);
     };
-    if side != b"in".as_slice() {
-        return Ok(None);
-    }
     let Some(number) = from_one(number) else {
         return Ok(None);
     };
     match read_rules(alloc, TWO_OCTETS, rest)? {
-        Ok(rules) => Ok(Some(Event::FilterIn(number, rules))),
+        Ok(rules) => Ok(filter_on(side, number, rules)),
         Err(_) => Ok(None),
+    }
+}
+
+/// New rules of a peer's filter on the side of the word.
+#[tactic(auto, unfolding(crate::specs::Events::filter_on))]
+fn filter_on(side: &[u8], number: u32, rules: Rules) -> Option<Event>
+    ensures { result ≡ filter_on side.now number rules }
+{
+    if side == b"in".as_slice() {
+        Some(Event::FilterIn(number, rules))
+    } else if side == b"out".as_slice() {
+        Some(Event::FilterOut(number, rules))
+    } else {
+        None
     }
 }
 

@@ -159,15 +159,12 @@ fn is_asked(link: Link) -> bool
         | Link::Dyn
         | Link::Int
         | Link::Best
-        | Link::Fib => true,
-        Link::Red
         | Link::ReadRib
-        | Link::Ebgp
-        | Link::Ibgp
-        | Link::Ext
+        | Link::Fib
         | Link::Read(_, _)
         | Link::Outf(_, _)
-        | Link::Adv(_, _) => false,
+        | Link::Adv(_, _) => true,
+        Link::Red | Link::Ebgp | Link::Ibgp | Link::Ext => false,
     }
 }
 

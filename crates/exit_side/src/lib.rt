@@ -25,6 +25,7 @@ mod exits;
 pub mod laws;
 mod lookups;
 mod steps;
+mod strangers;
 mod tasks;
 
 pub use exits::Exits;

@@ -8,7 +8,7 @@ use Rattle.rib_route.specs.declared.Proto.TheVariants.{Connected, Static, Ospf, 
 use Rattle.journal_text.specs.declared.link.Link.{Link}
 use Rattle.journal_text.specs.declared.link.Link.TheVariants.{In, Peer, Filt, Res, Org, Lost, Low, Dyn, Int, Red, Best, ReadRib, Ebgp, Ibgp, Ext, Fib, Read, Outf, Adv}
 use Rattle.journal_text.specs.declared.link.Task.{Task}
-use Rattle.journal_text.specs.declared.link.Task.TheVariants.{Del, Fin, Nh, Rdel}
+use Rattle.journal_text.specs.declared.link.Task.TheVariants.{Del, Fin, Nh, ReadRib as RibReads, Out, Rdel}
 
 -- the number, if it is not 0
 abbrev pub from_one : ℕ → Option ℕ
@@ -92,16 +92,19 @@ link_from_parts other = None
 abbrev pub link_of : List ℕ → Option Link
 link_of text = link_from_parts (parts 46 text)
 
--- `fin`, `nh` of a peer
+-- `fin`, `nh`, `out` of a peer
 unfoldable pub peer_task : List ℕ → ℕ → Option Task
 peer_task w k =
     if bytes_eq w (codes "fin") then Some (Fin k)
     else if bytes_eq w (codes "nh") then Some (Nh k)
+    else if bytes_eq w (codes "out") then Some (Out k)
     else None
 
--- two words: a word and a peer's number
+-- two words: `rd.rib`, or a word and a peer's number
 unfoldable pub task_of_two : List ℕ → List ℕ → Option Task
-task_of_two w a = option_and_then (peer_task w) (name_number a)
+task_of_two w a =
+    if bytes_eq w (codes "rd") then (if bytes_eq a (codes "rib") then Some RibReads else None)
+    else option_and_then (peer_task w) (name_number a)
 
 -- three words: `del`, a peer's number and a session's; or `rdel`, a protocol and the number of its loss
 unfoldable pub task_of_three : List ℕ → List ℕ → List ℕ → Option Task

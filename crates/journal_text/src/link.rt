@@ -77,6 +77,10 @@ pub enum Task {
     Fin(u32),
     /// `nh.K`: the walk of a peer's next hops.
     Nh(u32),
+    /// `rd.rib`: what the forwarding side has yet to read of `best`.
+    ReadRib,
+    /// `out.J`: what a peer has yet to read of `best`, and the walk of its outgoing filter.
+    Out(u32),
     /// `rdel.PROTO.N`: the deletes of a protocol's loss.
     Rdel(Proto, u32),
 }

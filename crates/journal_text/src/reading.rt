@@ -161,7 +161,7 @@ pub(crate) fn read_link(text: &[u8]) -> Option<Link>
     link_of_three(word, part, last)
 }
 
-/// `fin.K`, `nh.K`.
+/// `fin.K`, `nh.K`, `out.J`.
 #[tactic(auto, unfolding(crate::specs::Names::peer_task))]
 fn peer_task(word: &[u8], peer: u32) -> Option<Task>
     ensures { result ≡ peer_task word.now peer }
@@ -170,6 +170,8 @@ fn peer_task(word: &[u8], peer: u32) -> Option<Task>
         Some(Task::Fin(peer))
     } else if word == b"nh".as_slice() {
         Some(Task::Nh(peer))
+    } else if word == b"out".as_slice() {
+        Some(Task::Out(peer))
     } else {
         None
     }
@@ -180,6 +182,13 @@ fn peer_task(word: &[u8], peer: u32) -> Option<Task>
 fn task_of_two(word: &[u8], part: &[u8]) -> Option<Task>
     ensures { result ≡ task_of_two word.now part.now }
 {
+    if word == b"rd".as_slice() {
+        return if part == b"rib".as_slice() {
+            Some(Task::ReadRib)
+        } else {
+            None
+        };
+    }
     let peer = name_number(part)?;
     peer_task(word, peer)
 }

@@ -12,7 +12,7 @@ use Rattle.journal_text.specs.Walk.{Links, with_link, Leads}
 use Rattle.journal_text.proofs.LinkLemmas.{same_link-yes}
 use Rattle.journal_text.proofs.WalkLemmas.{leads_nowhere, leads_append, leads_begin}
 use Rattle.link_region.specs.declared.regions.Region.{Region}
-use Rattle.link_region.specs.declared.regions.Region.TheVariants.{Inward, Resolved, Decided, InteriorRoutes, Forward, Elsewhere}
+use Rattle.link_region.specs.declared.regions.Region.TheVariants.{Inward, Resolved, Decided, InteriorRoutes, Forward, External, Outward, Elsewhere}
 use Rattle.link_region.specs.Regions.{region_of, region_number, Sides, joined, with_side, LeadsIn}
 
 -- by a test, with what it came to
@@ -24,7 +24,7 @@ equal_numbers : (m n : ℕ) → nat_eq m n ≡ true → m ≡ n
 equal_numbers m n e = grind (arith, nat_tests)
 
 abbrev region_by : ℕ → Region
-region_by n = cond (nat_eq n 0) Inward (cond (nat_eq n 1) Resolved (cond (nat_eq n 2) Decided (cond (nat_eq n 3) InteriorRoutes (cond (nat_eq n 4) Forward Elsewhere))))
+region_by n = cond (nat_eq n 0) Inward (cond (nat_eq n 1) Resolved (cond (nat_eq n 2) Decided (cond (nat_eq n 3) InteriorRoutes (cond (nat_eq n 4) Forward (cond (nat_eq n 5) External (cond (nat_eq n 6) Outward Elsewhere))))))
 
 region_back : (r : Region) → region_by (region_number r) ≡ r
 region_back Inward = refl
@@ -32,6 +32,8 @@ region_back Resolved = refl
 region_back Decided = refl
 region_back InteriorRoutes = refl
 region_back Forward = refl
+region_back External = refl
+region_back Outward = refl
 region_back Elsewhere = refl
 
 same_region : (a b : Region) → nat_eq (region_number a) (region_number b) ≡ true → a ≡ b
@@ -43,6 +45,8 @@ itself Resolved = refl
 itself Decided = refl
 itself InteriorRoutes = refl
 itself Forward = refl
+itself External = refl
+itself Outward = refl
 itself Elsewhere = refl
 
 -- ---- another part in one region

@@ -18,6 +18,10 @@ pub enum Region {
     InteriorRoutes,
     /// The forwarding table.
     Forward,
+    /// What the forwarding side reads of `best`.
+    External,
+    /// The peers' exits.
+    Outward,
     /// Links that aren't live yet, in no state.
     Elsewhere,
 }
@@ -33,6 +37,8 @@ pub fn region_of(link: Link) -> Region
             Region::InteriorRoutes,
         Link::Best => Region::Decided,
         Link::Fib => Region::Forward,
+        Link::ReadRib => Region::External,
+        Link::Read(_, _) | Link::Outf(_, _) | Link::Adv(_, _) => Region::Outward,
         _ => Region::Elsewhere,
     }
 }

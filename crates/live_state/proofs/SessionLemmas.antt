@@ -5,7 +5,7 @@ use Rattle.bgp_wire.specs.declared.message.Message.{Message}
 use Rattle.bgp_wire.specs.declared.message.Message.TheVariants as messages
 use Rattle.bgp_wire.specs.Updates.{fault}
 use Rattle.bgp_wire.specs.Grammar.{IsFrame, Reads, OneAnswer}
-use Rattle.event_text.specs.declared.event.Event.TheVariants.{Nothing, Local, Peer, Up, Down, Bgp, FilterIn, RouteAdd, RouteDel, Lose, Cover, Idle, Work, Ask, Show}
+use Rattle.event_text.specs.declared.event.Event.TheVariants.{Nothing, Local, Peer, Up, Down, Bgp, FilterIn, FilterOut, RouteAdd, RouteDel, Lose, Cover, Idle, Work, Ask, Show}
 use Rattle.event_text.specs.declared.declared.DeclaredPeer.{DeclaredPeer}
 use Rattle.event_text.specs.Declarations.{peer_at, with_session, without_session}
 use Rattle.link_change.specs.Rows.{is_empty_map}
@@ -84,6 +84,7 @@ follows law l (Up k) l' after = ap (λ s. s.declared) after ∙ up_follows l k (
 follows law l (Down k) l' after = ap (λ s. s.declared) after ∙ down_follows l k (peer_at k l.declared.peers)
 follows law l (Bgp k octets) l' after = heard_follows l k (peer_at k l.declared.peers) octets l' law after
 follows law l (FilterIn k rules) l' after = ap (λ s. s.declared) after
+follows law l (FilterOut k rules) l' after = ap (λ s. s.declared) after
 follows law l (RouteAdd p row) l' after = ap (λ s. s.declared) after
 follows law l (RouteDel proto p) l' after = ap (λ s. s.declared) after
 follows law l (Lose proto) l' after = ap (λ s. s.declared) after
@@ -143,6 +144,7 @@ losses_follow l (Up k) l' after = session_losses l l' (ap (λ s. s.losses) after
 losses_follow l (Down k) l' after = session_losses l l' (ap (λ s. s.losses) after ∙ down_losses l k (peer_at k l.declared.peers))
 losses_follow l (Bgp k octets) l' after = session_losses l l' (from_losses l l' k (peer_at k l.declared.peers) octets after)
 losses_follow l (FilterIn k rules) l' after = session_losses l l' (ap (λ s. s.losses) after)
+losses_follow l (FilterOut k rules) l' after = session_losses l l' (ap (λ s. s.losses) after)
 losses_follow l (RouteAdd p row) l' after = session_losses l l' (ap (λ s. s.losses) after)
 losses_follow l (RouteDel proto p) l' after = session_losses l l' (ap (λ s. s.losses) after)
 losses_follow l (Lose lost) l' after = λ proto.

@@ -2,7 +2,7 @@
 -- section 3.2), those that the incoming filter accepts (section 9.1.1), and of these the ones whose next hop can be reached (section
 -- 9.1.2.1); below them all is the best route to each prefix (section 9.1.2); those of the interior routes, the routes of each
 -- protocol and the ones of least administrative distance (NSDI 2005, section 5.2).
-use Rattle.std.specs.Prelude.{ℕ, zero, suc, nat_lt, not, List, [], ◌∷◌, find, filter_map, Option, Some, None, option_map}
+use Rattle.std.specs.Prelude.{ℕ, zero, suc, nat_lt, not, ◌==◌, ◌&&◌, if◌then◌else◌, List, [], ◌∷◌, find, filter_map, Option, Some, None, option_map}
 use Rattle.std.specs.List.{list_any, range_with_len}
 use Rattle.best_path.specs.Steps.{pick}
 use Rattle.std.specs.FinMap as tables
@@ -15,6 +15,9 @@ use Rattle.bgp_attr.specs.declared.speaker.Neighbour.{Neighbour}
 use Rattle.link_change.specs.Rows.{Rows}
 use Rattle.policy_rules.specs.declared.rule.Rule.{Rule}
 use Rattle.filter_bank.specs.Filtered.{filtered}
+use Rattle.filter_bank.specs.Outgoing.{outgoing}
+use Rattle.peer_out.specs.Forms.{as_sent}
+use Rattle.live_state.specs.Messages.{plain}
 use Rattle.rib_route.specs.declared.Proto.{Proto}
 use Rattle.rib_route.specs.declared.Proto.TheVariants.{Connected, Static, Ospf, Rip}
 use Rattle.rib_route.specs.declared.rows.Interior.{Interior}
@@ -22,7 +25,7 @@ use Rattle.rib_route.specs.declared.rows.FibRow.{FibRow}
 use Rattle.rib_route.specs.Distances.{distance, fib_proto}
 use Rattle.rib_route.specs.Forwarding.{fib_row}
 use Rattle.journal_text.specs.declared.link.Link.{Link}
-use Rattle.journal_text.specs.declared.link.Link.TheVariants.{In, Filt, Res, Org, Low, Dyn, Int, Best, Fib}
+use Rattle.journal_text.specs.declared.link.Link.TheVariants.{In, Filt, Res, Org, Low, Dyn, Int, Best, ReadRib, Read, Outf, Adv, Fib}
 use Rattle.journal_text.specs.declared.value.Value.{Value}
 use Rattle.journal_text.specs.Walk.{Links}
 use Rattle.journal_text.specs.Values.{attrs_rows, route_rows, interior_rows, fib_rows}
@@ -72,6 +75,10 @@ origins Int = Connected ∷ Static ∷ Ospf ∷ Rip ∷ []
 origins Fib = Connected ∷ Static ∷ Ospf ∷ Rip ∷ []
 origins (Res k) = Connected ∷ Static ∷ Ospf ∷ Rip ∷ []
 origins Best = Connected ∷ Static ∷ Ospf ∷ Rip ∷ []
+origins ReadRib = Connected ∷ Static ∷ Ospf ∷ Rip ∷ []
+origins (Read j s) = Connected ∷ Static ∷ Ospf ∷ Rip ∷ []
+origins (Outf j s) = Connected ∷ Static ∷ Ospf ∷ Rip ∷ []
+origins (Adv j s) = Connected ∷ Static ∷ Ospf ∷ Rip ∷ []
 origins other = []
 
 -- what packets are forwarded by
@@ -128,16 +135,34 @@ abbrev pub since_local : {V : Type 0} → Option Speaker → Rows V → Option (
 since_local None rows = None
 since_local (Some me) rows = Some rows
 
+-- ---- what peers are sent
+-- by the words of this speaker and of the peer, and by the latest rules of its outgoing filter (sections 9.1.3 and 9.2)
+abbrev pub sent_rows : Speaker → Neighbour → List Rule → Rows Route → Rows Attrs
+sent_rows me peer rules best p = outgoing (as_sent plain me (not peer.internal)) peer (Some rules) p (best p)
+
+-- the links of a session are live while it is up
+abbrev pub in_session : {V : Type 0} → Option Speaker → Option DeclaredPeer → ℕ → (Speaker → Neighbour → Rows V) → Option (Rows V)
+in_session (Some me) (Some p) s rows = if p.up && (p.session == s) then Some (rows me p.words) else None
+in_session local peer s rows = None
+
 -- ---- what a peer's routes come to behind its filter and its resolver
 abbrev pub resolved_of : LiveState → ℕ → Option (Rows Route)
 resolved_of l k = option_map (resolved_rows (least_rows l.interior (origins Int))) (judged_rows l.declared.speaker (peer_at k l.declared.peers) (l.rules k) (l.routes k))
+
+-- the best of all peers' routes
+abbrev pub best_of : LiveState → Rows Route
+best_of l = picked_rows (λ k. rows_if_any (resolved_of l k))
 
 -- ---- each link: no other is live
 abbrev pub from_scratch : LiveState → Links Value
 from_scratch l (In k) = option_map attrs_rows (live_rows (peer_at k l.declared.peers) (l.routes k))
 from_scratch l (Filt k) = option_map route_rows (judged_rows l.declared.speaker (peer_at k l.declared.peers) (l.rules k) (l.routes k))
 from_scratch l (Res k) = option_map route_rows (resolved_of l k)
-from_scratch l Best = option_map route_rows (since_local l.declared.speaker (picked_rows (λ k. rows_if_any (resolved_of l k))))
+from_scratch l Best = option_map route_rows (since_local l.declared.speaker (best_of l))
+from_scratch l ReadRib = option_map route_rows (since_local l.declared.speaker (best_of l))
+from_scratch l (Read j s) = option_map route_rows (in_session l.declared.speaker (peer_at j l.declared.peers) s (λ me w. best_of l))
+from_scratch l (Outf j s) = option_map attrs_rows (in_session l.declared.speaker (peer_at j l.declared.peers) s (λ me w. sent_rows me w (l.outgoing j) (best_of l)))
+from_scratch l (Adv j s) = option_map attrs_rows (in_session l.declared.speaker (peer_at j l.declared.peers) s (λ me w. sent_rows me w (l.outgoing j) (best_of l)))
 from_scratch l (Org proto) = option_map interior_rows (since_local l.declared.speaker (tables.get (l.interior proto)))
 from_scratch l Low = option_map interior_rows (since_local l.declared.speaker (least_rows l.interior (origins Low)))
 from_scratch l Dyn = option_map interior_rows (since_local l.declared.speaker (least_rows l.interior (origins Dyn)))

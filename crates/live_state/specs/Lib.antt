@@ -3,3 +3,4 @@ pub mod Declared
 pub mod Lives
 pub mod Decided
 pub mod Laws
+pub mod Heard

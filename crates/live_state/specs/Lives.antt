@@ -8,7 +8,7 @@ use Rattle.bgp_attr.specs.declared.attrs.Attrs.{Attrs}
 use Rattle.bgp_wire.specs.declared.message.Message.{Message}
 use Rattle.bgp_wire.specs.declared.message.Message.TheVariants as messages
 use Rattle.event_text.specs.declared.event.Event.{Event}
-use Rattle.event_text.specs.declared.event.Event.TheVariants.{Nothing, Local, Peer, Up, Down, Bgp, FilterIn, RouteAdd, RouteDel, Lose, Cover, Idle, Work, Ask, Show}
+use Rattle.event_text.specs.declared.event.Event.TheVariants.{Nothing, Local, Peer, Up, Down, Bgp, FilterIn, FilterOut, RouteAdd, RouteDel, Lose, Cover, Idle, Work, Ask, Show}
 use Rattle.event_text.specs.declared.declared.DeclaredPeer.{DeclaredPeer}
 use Rattle.event_text.specs.Declarations.{Declaration, no_declaration, peer_at, with_speaker, with_peer, with_session, without_session}
 use Rattle.policy_rules.specs.declared.rule.Rule.{Rule}
@@ -31,12 +31,14 @@ pub record LiveState : Type 0 where
   pub routes : ℕ → Routes
   -- of the incoming filters
   pub rules : ℕ → List Rule
+  -- of the outgoing filters
+  pub outgoing : ℕ → List Rule
   pub interior : Proto → Interiors
   -- how many losses of each protocol found a route
   pub losses : Proto → ℕ
 
 abbrev pub first_live : LiveState
-first_live = record { declared = no_declaration; routes = λ k. tables.empty; rules = λ k. []; interior = λ proto. tables.empty; losses = λ proto. 0 }
+first_live = record { declared = no_declaration; routes = λ k. tables.empty; rules = λ k. []; outgoing = λ k. []; interior = λ proto. tables.empty; losses = λ proto. 0 }
 
 -- ---- the routes of peers
 -- with this route at a prefix, in the place of the one that stood there, or with none (RFC 4271, section 3.1)
@@ -120,6 +122,7 @@ LiveAfter l (Up k) l' = l' ≡ begun_if_down l k (peer_at k l.declared.peers)
 LiveAfter l (Down k) l' = l' ≡ ended_if_up l k (peer_at k l.declared.peers)
 LiveAfter l (Bgp k octets) l' = HearsFrom l k (peer_at k l.declared.peers) octets l'
 LiveAfter l (FilterIn k rules) l' = l' ≡ record l { rules = with_rules l.rules k rules }
+LiveAfter l (FilterOut k rules) l' = l' ≡ record l { outgoing = with_rules l.outgoing k rules }
 LiveAfter l (RouteAdd p row) l' = l' ≡ interior_fed l row.proto (tables.insert (l.interior row.proto) p row)
 LiveAfter l (RouteDel proto p) l' = l' ≡ interior_fed l proto (tables.remove (l.interior proto) p)
 LiveAfter l (Lose proto) l' = l' ≡ interior_lost l proto

@@ -15,7 +15,7 @@ use Rattle.journal_text.specs.Walk.{Links}
 use Rattle.journal_text.specs.declared.link.Link.{Link}
 use Rattle.journal_text.specs.declared.link.Link.TheVariants.{In, Filt}
 use Rattle.journal_text.specs.declared.link.Task.{Task}
-use Rattle.journal_text.specs.declared.link.Task.TheVariants.{Del, Fin, Nh, Rdel}
+use Rattle.journal_text.specs.declared.link.Task.TheVariants.{Del, Fin, Nh, ReadRib, Out, Rdel}
 use Rattle.journal_text.specs.declared.entry.Entry.{Entry}
 use Rattle.journal_text.specs.declared.entry.Entry.TheVariants.{Begin}
 use Rattle.journal_text.specs.declared.value.Value.{Value}
@@ -110,6 +110,8 @@ abbrev pub peer_of : Task → ℕ
 peer_of (Del k s) = k
 peer_of (Fin k) = k
 peer_of (Nh k) = k
+peer_of ReadRib = 0
+peer_of (Out k) = k
 peer_of (Rdel proto n) = 0
 
 abbrev pub has_turn_in : Task → Option Chained → Bool

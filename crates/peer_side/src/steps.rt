@@ -80,7 +80,7 @@ pub fn peer_of(task: Task) -> u32
 {
     match task {
         Task::Del(number, _) => number,
-        Task::Fin(number) | Task::Nh(number) => number,
-        Task::Rdel(_, _) => 0,
+        Task::Fin(number) | Task::Nh(number) | Task::Out(number) => number,
+        Task::ReadRib | Task::Rdel(_, _) => 0,
     }
 }

@@ -1,8 +1,8 @@
 //! Rules.
 
-ghost use Rattle.std.specs.Prelude.{◌≡◌, [], length};
+ghost use Rattle.std.specs.Prelude.{◌≡◌, [], length, IfOk};
 
-use addr4::Prefix;
+use addr4::{Memory, Prefix};
 use bgp_attr::Origin;
 use std::alloc::Global;
 use std::marker::Model;
@@ -67,6 +67,16 @@ impl Actions {
         Actions { items }
     }
 
+    pub fn copy(&self, alloc: Global) -> Result<Actions, Memory>
+        ensures { IfOk result (λ copied. copied ≡ self.now) }
+    {
+        let mut items = Vec::new(alloc);
+        for action in self.items.as_slice() {
+            items.push(*action)?;
+        }
+        Ok(Actions { items })
+    }
+
     pub fn as_slice(&self) -> &[Action]
         ensures { result.now ≡ self.now }
     {
@@ -80,6 +90,18 @@ pub struct Rule {
     pub condition: Condition,
     pub actions: Actions,
     pub verdict: Verdict,
+}
+
+impl Rule {
+    pub fn copy(&self, alloc: Global) -> Result<Rule, Memory>
+        ensures { IfOk result (λ copied. copied ≡ self.now) }
+    {
+        Ok(Rule {
+            condition: self.condition,
+            actions: self.actions.copy(alloc)?,
+            verdict: self.verdict,
+        })
+    }
 }
 
 /// A list of rules, perhaps empty.
@@ -112,6 +134,17 @@ impl Rules {
         ensures { result ≡ items.items }
     {
         Rules { items }
+    }
+
+    /// The same rules again.
+    pub fn copy(&self, alloc: Global) -> Result<Rules, Memory>
+        ensures { IfOk result (λ copied. copied ≡ self.now) }
+    {
+        let mut items = Vec::new(alloc);
+        for rule in self.items.as_slice() {
+            items.push(rule.copy(alloc)?)?;
+        }
+        Ok(Rules { items })
     }
 
     /// How many rules there are.

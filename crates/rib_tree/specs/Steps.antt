@@ -13,7 +13,7 @@ use Rattle.link_change.specs.declared.turn.Turn.TheVariants.{Nothing, Quiet, Sen
 use Rattle.loss_chain.specs.Covering.{IsLeastRow}
 use Rattle.journal_text.specs.declared.link.Link.TheVariants.{Org}
 use Rattle.journal_text.specs.declared.link.Task.{Task}
-use Rattle.journal_text.specs.declared.link.Task.TheVariants.{Del, Fin, Nh, Rdel}
+use Rattle.journal_text.specs.declared.link.Task.TheVariants.{Del, Fin, Nh, ReadRib, Out, Rdel}
 use Rattle.journal_text.specs.declared.value.Value.{Value}
 use Rattle.journal_text.specs.declared.entry.Entry.{Entry}
 use Rattle.journal_text.specs.Journals.{Journaled, Adds}
@@ -70,6 +70,8 @@ has_tree_turn t (Rdel proto n) = is_some (table_of n (branch_of proto t).tables.
 has_tree_turn t (Del k s) = false
 has_tree_turn t (Fin k) = false
 has_tree_turn t (Nh k) = false
+has_tree_turn t ReadRib = false
+has_tree_turn t (Out k) = false
 
 -- a turn of a task of the tree
 abbrev pub TurnedTree : Treed → Treed → Task → Option (Change Interior) → List (Entry Value) → Type 0
@@ -77,6 +79,8 @@ TurnedTree old new (Rdel proto n) sent entries = SweepsTree old new proto n sent
 TurnedTree old new (Del k s) sent entries = ⊥
 TurnedTree old new (Fin k) sent entries = ⊥
 TurnedTree old new (Nh k) sent entries = ⊥
+TurnedTree old new ReadRib sent entries = ⊥
+TurnedTree old new (Out k) sent entries = ⊥
 
 -- What a turn that came to this made of the tree and of the journal.
 abbrev pub IsTakenTree : Treed → Treed → Task → Journaled → Journaled → Turn Interior → Type 0
@@ -90,3 +94,5 @@ IsFullAfter (Rdel proto n) t = IsFullBut proto t
 IsFullAfter (Del k s) t = IsFull t
 IsFullAfter (Fin k) t = IsFull t
 IsFullAfter (Nh k) t = IsFull t
+IsFullAfter ReadRib t = IsFull t
+IsFullAfter (Out k) t = IsFull t

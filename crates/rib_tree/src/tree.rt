@@ -164,7 +164,9 @@ impl Tree {
     {
         match task {
             Task::Rdel(proto, loss) => self.sweep(proto, loss, journal),
-            Task::Del(..) | Task::Fin(..) | Task::Nh(..) => Ok(Turn::Nothing),
+            Task::Del(..) | Task::Fin(..) | Task::Nh(..) | Task::ReadRib | Task::Out(..) => {
+                Ok(Turn::Nothing)
+            }
         }
     }
 

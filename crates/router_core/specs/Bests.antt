@@ -15,6 +15,8 @@ use Rattle.decision.specs.Branches.{AllRows, best_rows}
 use Rattle.in_chain.specs.Chains.{Chained, filt_candidates}
 use Rattle.hop_side.specs.Resolvers.{Resolvers, PeerRows, resolver_at, rows_by, res_at}
 use Rattle.hop_side.specs.Steps.{ComesOn}
+use Rattle.exit_side.specs.Exits.{Exited}
+use Rattle.exit_side.specs.Steps.{PutsExit}
 use Rattle.peer_side.specs.Peers.{Chains, chain_at, filt_by, filt_at}
 
 -- the rows of all `res.K`
@@ -41,6 +43,11 @@ pub record DecidesOn (k : ℕ) (sent : Option (Change Route)) (now : PeerRows) (
   pub best : Option (Change Route)
   pub lines : entries ≡ best_entries best
   pub decides : (before : PeerRows) (p : Network) → ComesOn k p sent before now → IsSent (best_rows before) (best_rows now) p best
+
+-- What follows a change that came on `best`, if one did: it joins what each reader of the queue hasn't taken. No link changes by that.
+abbrev pub Queues : Option (Change Route) → Exited → Exited → Type 0
+Queues None e e' = e' ≡ e
+Queues (Some change) e e' = PutsExit change e e'
 
 -- ---- what is lent to the decision: the peers of the numbers that there may be
 abbrev pub lent_chain : Chains → ℕ → Option Chained

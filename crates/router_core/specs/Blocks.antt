@@ -56,7 +56,7 @@ begin_line link = lines.Journal (entries.Begin link)
 
 -- the links that begin with `local`
 abbrev pub rib_begins : List Line
-rib_begins = map begin_line (Org Connected ∷ Org Static ∷ Org Ospf ∷ Org Rip ∷ Low ∷ Dyn ∷ Int ∷ Best ∷ Fib ∷ [])
+rib_begins = map begin_line (Org Connected ∷ Org Static ∷ Org Ospf ∷ Org Rip ∷ Low ∷ Dyn ∷ Int ∷ Best ∷ []) ++ lines.Journal (entries.Inherit ReadRib Best) ∷ begin_line Fib ∷ []
 
 abbrev pub declared_speaker : Moment → Speaker → Moment
 declared_speaker m words = record m { declared = with_speaker m.declared words }
@@ -76,8 +76,27 @@ abbrev pub Refilters : ℕ → List Rule → Moment → List Line → ℕ → Mo
 Refilters k rules m said turns m' =
     (chains : Chains) × EditsInward k rules m.chains chains × Just [] (with_chains m chains) said turns m'
 
+-- With `local` the forwarding side begins to read, by a reader that nobody had.
+pub record Localizes (words : Speaker) (m : Moment) (said : List Line) (m' : Moment) : Type 0 where
+  pub reader : ℕ
+  pub fresh : tables.get m.exits.queue reader ≡ None
+  pub lines : said ≡ rib_begins
+  pub after : m' ≡ record (declared_speaker m words) { exits = with_queue (tables.insert m.exits.queue reader []) m.exits; reader = Some reader }
+
+-- The outgoing filter of peer k has these rules from now on, in its session or from its next one on; they hold nowhere yet.
+abbrev pub Redirects : ℕ → List Rule → Moment → List Line → ℕ → Moment → Type 0
+Redirects k rules m said turns m' =
+    (exits : Exited) × EditsExit k rules m.exits exits × Just [] (record m { outgoing = tables.insert m.outgoing k rules; exits = exits }) said turns m'
+
 abbrev pub begun : Moment → ℕ → Moment
 begun m k = record m { declared = with_session m.declared k }
+
+-- A session of peer p begins: its three links begin, under the latest rules of its outgoing filter.
+pub record Begins (me : Speaker) (k : ℕ) (p : DeclaredPeer) (m : Moment) (said : List Line) (m' : Moment) : Type 0 where
+  pub entries : List (Entry Value)
+  pub begins : BeginsExit me p.words (p.session + 1) (rules_to k m.outgoing) m.exits m'.exits entries
+  pub lines : said ≡ journal_lines entries
+  pub after : m' ≡ with_exits (begun m k) m'.exits
 
 abbrev pub ended : Moment → ℕ → Moment
 ended m k = record m { declared = without_session m.declared k }
@@ -87,17 +106,20 @@ abbrev pub RunsFirst : Option Task → Moment → List Line → Moment → Type 
 RunsFirst None m said m' = (said ≡ []) × (m' ≡ m)
 RunsFirst (Some task) m said m' = (turns : ℕ) × Drains task m said turns m'
 
--- Session s of peer k is lost: where 16 deletion stages stand and the routes to be lost are some, the oldest stage runs to its
+-- Session s of peer k is lost: its exit ends; where 16 deletion stages stand and the routes to be lost are some, the oldest stage runs to its
 -- end first; then the routes go to a stage of their own.
 pub record Loses (k s : ℕ) (m : Moment) (said : List Line) (m' : Moment) : Type 0 where
   pub there : IsSome (chain_at k m.chains)
+  pub silenced : Exited
+  pub entries : List (Entry Value)
+  pub ends : EndsExit k m.exits silenced entries
   pub first : List Line
   pub room : Moment
-  pub runs : RunsFirst (overdue_at k m.chains) m first room
+  pub runs : RunsFirst (overdue_at k m.chains) (with_exits m silenced) first room
   pub last : List Line
   pub between : Moment
   pub loses : InPeers (LosesInward k s room.chains) room last between
-  pub lines : said ≡ first ++ last
+  pub lines : said ≡ journal_lines entries ++ (first ++ last)
   pub after : m' ≡ ended between k
 
 -- A route of a protocol is the one of the event from now on; an equal one sends nothing.
@@ -144,9 +166,13 @@ Hears k p m messages.Notification said m' = Loses k p.session m said m'
 Hears k p m (messages.Notify n) said m' = Notifies k p.session (notification_octets n.code n.subcode n.octets) m said m'
 
 -- by whether the peer is up
-abbrev pub BeginsIf : Bool → Moment → ℕ → List Line → ℕ → Moment → Type 0
-BeginsIf true m k said turns m' = Just (lines.Ignored ∷ []) m said turns m'
-BeginsIf false m k said turns m' = Just [] (begun m k) said turns m'
+abbrev pub BySpeaker : (Speaker → Type 0) → Option Speaker → Type 0
+BySpeaker P None = ⊥
+BySpeaker P (Some me) = P me
+
+abbrev pub BeginsIf : Bool → Moment → ℕ → DeclaredPeer → List Line → ℕ → Moment → Type 0
+BeginsIf true m k p said turns m' = Just (lines.Ignored ∷ []) m said turns m'
+BeginsIf false m k p said turns m' = (turns ≡ 0) × BySpeaker (λ me. Begins me k p m said m') m.declared.speaker
 
 abbrev pub EndsIf : Bool → Moment → ℕ → DeclaredPeer → List Line → ℕ → Moment → Type 0
 EndsIf false m k p said turns m' = Just (lines.Ignored ∷ []) m said turns m'
@@ -198,12 +224,13 @@ ByPeer P (Some p) = P p
 
 abbrev pub IsBlock : Moment → Event → List Line → ℕ → Moment → Type 0
 IsBlock m Nothing said turns m' = Just [] m said turns m'
-IsBlock m (Local words) said turns m' = Just rib_begins (declared_speaker m words) said turns m'
+IsBlock m (Local words) said turns m' = (turns ≡ 0) × Localizes words m said m'
 IsBlock m (Peer k words) said turns m' = Declares m m.declared.speaker k words said turns m'
-IsBlock m (Up k) said turns m' = ByPeer (λ p. BeginsIf p.up m k said turns m') (peer_at k m.declared.peers)
+IsBlock m (Up k) said turns m' = ByPeer (λ p. BeginsIf p.up m k p said turns m') (peer_at k m.declared.peers)
 IsBlock m (Down k) said turns m' = ByPeer (λ p. EndsIf p.up m k p said turns m') (peer_at k m.declared.peers)
 IsBlock m (Bgp k octets) said turns m' = ByPeer (λ p. HearsIf p.up m k p octets said turns m') (peer_at k m.declared.peers)
 IsBlock m (FilterIn k rules) said turns m' = Refilters k rules m said turns m'
+IsBlock m (FilterOut k rules) said turns m' = Redirects k rules m said turns m'
 IsBlock m (RouteAdd p row) said turns m' = (turns ≡ 0) × AddsRoute p row m said m'
 IsBlock m (RouteDel proto p) said turns m' = DropsRouteIf (is_some (tables.get (branch_of proto m.tree).tables.live p)) proto p m said turns m'
 IsBlock m (Lose proto) said turns m' = (turns ≡ 0) × LosesProtocol proto m said m'

@@ -2,13 +2,14 @@
 use Rattle.rib_tree.specs.Trees.{branch_of}
 use Rattle.peer_side.specs.Peers.{chain_at, routes_of, rules_of}
 use Rattle.live_state.specs.Lives.{LiveState}
-use Rattle.router_core.specs.Moments.{Moment}
+use Rattle.router_core.specs.Moments.{Moment, rules_to}
 
 abbrev pub live_state : Moment → LiveState
 live_state m = record {
   declared = m.declared;
   routes = λ k. routes_of (chain_at k m.chains);
   rules = λ k. rules_of (chain_at k m.chains);
+  outgoing = λ k. rules_to k m.outgoing;
   interior = λ proto. (branch_of proto m.tree).tables.live;
   losses = λ proto. (branch_of proto m.tree).losses;
 }

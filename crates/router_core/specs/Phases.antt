@@ -1,5 +1,5 @@
 -- How many turns are left, phase by phase, and how many all take.
-use Rattle.std.specs.Prelude.{ℕ, Option, None, Some, ◌+◌, ◌-◌, ◌*◌, ◌≤◌, nat_lt, if◌then◌else◌, List, [], ◌∷◌}
+use Rattle.std.specs.Prelude.{ℕ, length, Option, None, Some, ◌+◌, ◌-◌, ◌*◌, ◌≤◌, nat_lt, if◌then◌else◌, List, [], ◌∷◌}
 use Rattle.loss_chain.specs.Tables.{lost_count}
 use Rattle.std.specs.FinMap as tables
 use Rattle.addr4.specs.Prefixes.{Network}
@@ -8,8 +8,14 @@ use Rattle.in_chain.specs.Chains.{Chained, filt_beyond}
 use Rattle.peer_side.specs.Peers.{Chains, chain_at, rows_in, lost_in, left_in}
 use Rattle.rib_tree.specs.Trees.{Treed}
 use Rattle.router_core.specs.declared.router.Phase.{Phase}
-use Rattle.router_core.specs.declared.router.Phase.TheVariants.{Rdel, Del, Fin, Nh}
+use Rattle.router_core.specs.declared.router.Phase.TheVariants.{Rdel, Del, Fin, Nh, ReadRib, Out}
 use Rattle.router_core.specs.Moments.{Moment}
+use Rattle.std.specs.List.{sum_by}
+use Rattle.bgp_attr.specs.declared.route.Route.{Route}
+use Rattle.link_change.specs.declared.change.Change.{Change}
+use Rattle.fanout_queue.specs.Queues.{Queued}
+use Rattle.fanout_queue.specs.Readers.{unread_by}
+use Rattle.exit_side.specs.Exits.{left_in as exits_left_in}
 
 -- how many rows the stages of the protocols' losses have
 abbrev pub tree_lost : Treed → ℕ
@@ -27,7 +33,16 @@ beyonds a k = beyond_by (chain_at k a)
 
 -- the phases of an idle, in their order
 abbrev pub all_phases : List Phase
-all_phases = Rdel ∷ Del ∷ Fin ∷ Nh ∷ []
+all_phases = Rdel ∷ Del ∷ Fin ∷ Nh ∷ ReadRib ∷ Out ∷ []
+
+-- how many changes of `best` the forwarding side hasn't read
+abbrev pub unread_if : Queued Route → Option ℕ → List (Change Route)
+unread_if queued None = []
+unread_if queued (Some reader) = unread_by queued reader
+
+-- how many candidates of `best` lie beyond a place, at most: those of each peer
+abbrev pub best_beyond : Chains → Option Network → ℕ
+best_beyond a place = sum_by (λ c. filt_beyond c place) (tables.values a)
 
 -- how many turns a phase takes, if nothing else happens
 abbrev pub counts : Moment → Phase → ℕ
@@ -35,6 +50,8 @@ counts m Rdel = tree_lost m.tree
 counts m Del = lost_in m.chains
 counts m Fin = left_in m.chains
 counts m Nh = hops_left_in (beyonds m.chains) m.hops
+counts m ReadRib = length (unread_if m.exits.queue m.reader)
+counts m Out = exits_left_in (best_beyond m.chains) m.exits
 
 -- What background work never adds to: the turns that next hops take at most, whatever became stale. Each names a row, and two whole
 -- walks of each peer may be left.

@@ -1,5 +1,5 @@
 -- What holds between two steps.
-use Rattle.std.specs.Prelude.{◌≡◌, ℕ, ◌+◌, ◌≤◌, length, Bool, true, false, is_some, IsSome, if◌then◌else◌, Option, Some, None}
+use Rattle.std.specs.Prelude.{◌≡◌, ◌≢◌, ℕ, ◌+◌, ◌≤◌, length, Bool, true, false, is_some, IsSome, if◌then◌else◌, Option, Some, None}
 use Rattle.std.specs.FinMap as tables
 use Rattle.bgp_attr.specs.declared.speaker.Speaker.{Speaker}
 use Rattle.event_text.specs.declared.declared.DeclaredPeer.{DeclaredPeer}
@@ -11,7 +11,12 @@ use Rattle.peer_side.specs.Peers.{chain_at, filt_at, IsPeers, AreBefore}
 use Rattle.rib_route.specs.declared.Proto.{Proto}
 use Rattle.rib_tree.specs.Trees.{Treed, branch_of, int_rows, IsTree, IsFull, AreNumbered}
 use Rattle.rib_tree.specs.Steps.{new_tree}
-use Rattle.router_core.specs.Moments.{Moment, Cored}
+use Rattle.pass_core.specs.Passed.{present}
+use Rattle.policy_rules.specs.declared.rule.Rule.{Rule}
+use Rattle.out_chain.specs.Chains.{OutChained, RowsMayBeHeard}
+use Rattle.exit_side.specs.Exits.{Exited, IsExits, AllStand, chain_at as exit_at}
+use Rattle.router_core.specs.Bests.{best_at}
+use Rattle.router_core.specs.Moments.{Moment, Cored, Policies, rules_to}
 use Rattle.router_core.specs.Printable.{IsPrintableMoment}
 use Rattle.addr4.specs.Prefixes.{Network}
 use Rattle.rib_route.specs.declared.rows.Interior.{Interior}
@@ -36,6 +41,30 @@ abbrev pub StandsAt : Option DeclaredPeer → Option Chained → Type 0
 StandsAt None None = Unit {0}
 StandsAt (Some p) (Some c) = PeerStands p c
 StandsAt p c = ⊥
+
+-- Only peers that are up have an exit, that of the present session, by the peer's words and this speaker's, under the latest rules
+-- of the peer's outgoing filter.
+pub record IsExitOf (me : Speaker) (rules : List Rule) (p : DeclaredPeer) (c : OutChained) : Type 0 where
+  pub up : p.up ≡ true
+  pub session : c.session ≡ p.session
+  pub words : c.peer ≡ p.words
+  pub me : c.exit.me ≡ me
+  pub rules : present c.filter ≡ Some rules
+
+abbrev pub ExitsAt : Option Speaker → Policies → ℕ → Option DeclaredPeer → Option OutChained → Type 0
+ExitsAt (Some me) policies k (Some p) (Some c) = IsExitOf me (rules_to k policies) p c
+ExitsAt s policies k p None = Unit {0}
+ExitsAt s policies k p c = ⊥
+
+-- The forwarding side reads from `local` on, by a reader that is no peer's.
+pub record ReadsAs (reader : ℕ) (e : Exited) : Type 0 where
+  pub live : IsSome (tables.get e.queue reader)
+  pub own : (j : ℕ) (c : OutChained) → exit_at j e ≡ Some c → c.reader ≢ reader
+
+abbrev pub ReadsOn : Option Speaker → Option ℕ → Exited → Type 0
+ReadsOn (Some me) (Some reader) e = ReadsAs reader e
+ReadsOn None None e = Unit {0}
+ReadsOn s reader e = ⊥
 
 -- the tree may take a step, and has no route before `local`; no protocol has more than 16 deletion stages
 pub record TreeStands (speaker : Option Speaker) (t : Treed) : Type 0 where
@@ -62,6 +91,11 @@ pub data Claim : Type 0 where
   HopsCounted : Claim
   NoStrangers : Claim
   SmallNumbers : Claim
+  EachExit : Claim
+  ExitsRead : Claim
+  ExitsHear : Claim
+  SameSessions : Claim
+  OneReader : Claim
 
 abbrev pub Claims : Moment → Claim → Type 0
 Claims m EachChain = IsPeers m.chains
@@ -75,6 +109,11 @@ Claims m AnswersAgree = AllAgree m.hops m.registry
 Claims m HopsCounted = AllCounted (filt_at m.chains) m.hops
 Claims m NoStrangers = (k : ℕ) → resolver_at k m.hops ≡ None → HasNoInterest k m.registry
 Claims m SmallNumbers = (k : ℕ) → IsSome (chain_at k m.chains) → k ≤ 64
+Claims m EachExit = IsExits m.exits
+Claims m ExitsRead = AllStand (best_at m.chains m.hops) m.exits
+Claims m ExitsHear = RowsMayBeHeard m.exits.profile (best_at m.chains m.hops)
+Claims m SameSessions = (k : ℕ) → ExitsAt m.declared.speaker m.outgoing k (peer_at k m.declared.peers) (exit_at k m.exits)
+Claims m OneReader = ReadsOn m.declared.speaker m.reader m.exits
 
 -- all that the ties read at one prefix: the row of the register, and that of `int`
 pub record Here : Type 0 where
@@ -97,8 +136,13 @@ pub record Stands (m : Moment) : Type 0 where
   pub own : (claim : Claim) → Claims m claim
   pub at : (p : Network) → (tie : Tie) → Ties (here m p) tie
 
+-- Each peer that is up has an exit. Within a loss this doesn't hold: the exit ends first, before the oldest stage runs to its end.
+abbrev pub AllHaveExits : Moment → Type 0
+AllHaveExits m = (k : ℕ) (p : DeclaredPeer) → peer_at k m.declared.peers ≡ Some p → p.up ≡ true → IsSome (exit_at k m.exits)
+
 -- What holds of a core between two calls, unless memory ran out: all that stands can be printed, and losses are counted by events.
 pub record CoreStands (c : Cored) : Type 0 where
   pub stands : Stands c.moment
   pub printable : IsPrintableMoment c.moment
+  pub exits : AllHaveExits c.moment
   pub numbered : AreNumbered c.events c.moment.tree

@@ -8,7 +8,7 @@ use Rattle.link_change.specs.Changes.{IsSent}
 use Rattle.link_change.specs.declared.change.Change.{Change}
 use Rattle.link_change.specs.declared.turn.Turn.{Turn}
 use Rattle.link_change.specs.declared.turn.Turn.TheVariants as turns
-use Rattle.journal_text.specs.declared.link.Link.TheVariants.{Fib}
+use Rattle.journal_text.specs.declared.link.Link.TheVariants.{Fib, ReadRib}
 use Rattle.journal_text.specs.declared.link.Task.{Task}
 use Rattle.journal_text.specs.declared.link.Task.TheVariants as tasks
 use Rattle.journal_text.specs.declared.value.Value.{Value}
@@ -40,8 +40,14 @@ use Rattle.prefix_trie.specs.Width.{width}
 use Rattle.register_interest.specs.declared.interests.Interest.{Interest}
 use Rattle.register_interest.specs.Interests.{AreReached, without}
 use Rattle.register_interest.specs.Registers.{Registry, KeepsAnswers, put_row}
-use Rattle.router_core.specs.Bests.{resolved_at, DecidesOn}
-use Rattle.router_core.specs.Moments.{Moment, with_chains, with_hops, with_tree}
+use Rattle.decision.specs.Branches.{best_candidates}
+use Rattle.fanout_queue.specs.Queues.{Takes}
+use Rattle.exit_side.specs.Exits.{with_queue, has_exit_work}
+use Rattle.exit_side.specs.Steps.{TurnsExit}
+use Rattle.journal_text.specs.Values.{route_value, sent_entries}
+use Rattle.router_core.specs.Bests.{resolved_at, best_at, lent_candidates, DecidesOn, Queues}
+use Rattle.router_core.specs.Phases.{unread_if}
+use Rattle.router_core.specs.Moments.{Moment, most_unread, with_chains, with_hops, with_tree, with_exits}
 
 abbrev pub journal_lines : List (Entry Value) → List Line
 journal_lines entries = map (λ e. lines.Journal e) entries
@@ -81,8 +87,9 @@ pub record FallsPeer (k : ℕ) (sent : Option (Change Route)) (P : Chains → Li
   pub decided : DecidesOn k passed (resolved_at fallen m'.hops) best
   pub weld : List (Entry Value)
   pub welds : WeldsInward k fallen m'.chains weld
+  pub queued : Queues decided.best m.exits m'.exits
   pub lines : said ≡ journal_lines (entries ++ (resolved ++ (best ++ weld)))
-  pub after : m' ≡ with_hops (with_chains m m'.chains) m'.registry m'.hops
+  pub after : m' ≡ with_exits (with_hops (with_chains m m'.chains) m'.registry m'.hops) m'.exits
 
 -- One prefix of an UPDATE from peer k is announced or withdrawn.
 abbrev pub Feeds : ℕ → Network × Option Attrs → Moment → List Line → Moment → Type 0
@@ -161,14 +168,32 @@ pub record IsHopTurn (k : ℕ) (m : Moment) (said : List Line) (m' : Moment) : T
   pub turn : TurnsBelow k (filt_candidates chain) (filt_rows chain) sent m.registry m'.registry m.hops m'.hops entries
   pub best : List (Entry Value)
   pub decided : DecidesOn k sent (resolved_at m.chains m'.hops) best
+  pub queued : Queues decided.best m.exits m'.exits
   pub lines : said ≡ journal_lines (entries ++ best)
-  pub after : m' ≡ with_hops m m'.registry m'.hops
+  pub after : m' ≡ with_exits (with_hops m m'.registry m'.hops) m'.exits
+
+-- One turn of the exit of peer k, over the rows of `best`: what it says is its links' entries, and the UPDATE that the peer is sent.
+pub record IsOutTurn (k : ℕ) (m : Moment) (said : List Line) (m' : Moment) : Type 0 where
+  pub sent : Option (Change Attrs)
+  pub turn : TurnsExit k (best_candidates (lent_candidates m.chains)) (best_at m.chains m.hops) sent m.exits m'.exits said
+  pub after : m' ≡ with_exits m m'.exits
+
+-- One turn of the forwarding side: the first change that it hasn't read comes on `read.rib`.
+pub record IsReadTurn (m : Moment) (said : List Line) (m' : Moment) : Type 0 where
+  pub reader : ℕ
+  pub reads : m.reader ≡ Some reader
+  pub change : Change Route
+  pub takes : Takes m.exits.queue m'.exits.queue reader (Some change)
+  pub lines : said ≡ journal_lines (sent_entries route_value ReadRib (Some change))
+  pub after : m' ≡ with_exits m (with_queue m'.exits.queue m.exits)
 
 -- one turn of a task
 abbrev pub IsTurn : Task → Moment → List Line → Moment → Type 0
 IsTurn (tasks.Del k s) m said m' = IsPeerTurn (tasks.Del k s) m said m'
 IsTurn (tasks.Fin k) m said m' = IsPeerTurn (tasks.Fin k) m said m'
 IsTurn (tasks.Nh k) m said m' = IsHopTurn k m said m'
+IsTurn tasks.ReadRib m said m' = IsReadTurn m said m'
+IsTurn (tasks.Out k) m said m' = IsOutTurn k m said m'
 IsTurn (tasks.Rdel proto n) m said m' = IsRouteTurn proto n m said m'
 
 -- whether a task has work
@@ -176,6 +201,8 @@ abbrev pub has_work : Task → Moment → Bool
 has_work (tasks.Del k s) m = has_peer_work m.chains (tasks.Del k s)
 has_work (tasks.Fin k) m = has_peer_work m.chains (tasks.Fin k)
 has_work (tasks.Nh k) m = has_hop_work m.hops k
+has_work tasks.ReadRib m = not (is_nil (unread_if m.exits.queue m.reader))
+has_work (tasks.Out k) m = has_exit_work m.exits k
 has_work (tasks.Rdel proto n) m = has_tree_turn m.tree (tasks.Rdel proto n)
 
 -- so many turns of a task
@@ -195,6 +222,8 @@ phase_of (tasks.Rdel proto n) = phases.Rdel
 phase_of (tasks.Del k s) = phases.Del
 phase_of (tasks.Fin k) = phases.Fin
 phase_of (tasks.Nh k) = phases.Nh
+phase_of tasks.ReadRib = phases.ReadRib
+phase_of (tasks.Out k) = phases.Out
 
 -- the tasks of a phase of an idle, in their order
 abbrev pub phase_tasks : Phase → Moment → List Task
@@ -202,6 +231,8 @@ phase_tasks phases.Rdel m = tree_tasks m.tree
 phase_tasks phases.Del m = deletion_tasks m.chains
 phase_tasks phases.Fin m = filter_tasks m.chains
 phase_tasks phases.Nh m = map (λ k. tasks.Nh k) (tables.keys m.hops)
+phase_tasks phases.ReadRib m = tasks.ReadRib ∷ []
+phase_tasks phases.Out m = map (λ k. tasks.Out k) (tables.keys m.exits.chains)
 
 -- how many turns a phase takes at most
 abbrev pub phase_bound : Phase → Moment → ℕ
@@ -209,6 +240,8 @@ phase_bound phases.Rdel m = tree_count m.tree
 phase_bound phases.Del m = rows_in m.chains
 phase_bound phases.Fin m = 2 * (rows_in m.chains + tables.len m.chains)
 phase_bound phases.Nh m = known_in m.hops + 2 * (rows_in m.chains + tables.len m.chains)
+phase_bound phases.ReadRib m = most_unread m.exits
+phase_bound phases.Out m = tables.len m.exits.chains * (most_unread m.exits + 2 * (rows_in m.chains + 1))
 
 -- no stage of the phase stands, no walk of it is on, and no next hop has work
 abbrev pub IsOver : Phase → Moment → Type 0
@@ -216,6 +249,8 @@ IsOver phases.Rdel m = (proto : Proto) → (branch_of proto m.tree).tables.delet
 IsOver phases.Del m = (k : ℕ) (c : Chained) → chain_at k m.chains ≡ Some c → c.incoming.tables.deletions ≡ []
 IsOver phases.Fin m = (k : ℕ) (c : Chained) → chain_at k m.chains ≡ Some c → c.filter.walk ≡ None
 IsOver phases.Nh m = (k : ℕ) → has_hop_work m.hops k ≡ false
+IsOver phases.ReadRib m = unread_if m.exits.queue m.reader ≡ []
+IsOver phases.Out m = (k : ℕ) → has_exit_work m.exits k ≡ false
 
 -- ---- the same for any table
 

@@ -22,8 +22,16 @@ use Rattle.rib_route.specs.declared.rows.Interior.{Interior}
 use Rattle.rib_tree.specs.Trees.{Treed, int_rows, IsTree, IsFull}
 use Rattle.rib_tree.specs.Falls.{LeadsTree}
 use Rattle.rib_tree.specs.Steps.{lost_tree, welded_tree, tree_overdue, tree_loss_entries, tree_weld_entries}
-use Rattle.router_core.specs.Bests.{resolved_at, DecidesOn}
-use Rattle.router_core.specs.Moments.{Moment, with_chains, with_hops, with_tree, router_links, bound_of, Gives}
+use Rattle.std.specs.FinMap as tables
+use Rattle.bgp_attr.specs.declared.speaker.Speaker.{Speaker}
+use Rattle.bgp_attr.specs.declared.speaker.Profile.{Profile}
+use Rattle.peer_out.specs.Changes.{IsSender}
+use Rattle.journal_text.specs.declared.link.Link.TheVariants.{Best, ReadRib}
+use Rattle.journal_text.specs.declared.entry.Entry.TheVariants.{Inherit}
+use Rattle.exit_side.specs.Exits.{with_queue}
+use Rattle.exit_side.specs.Steps.{BeginsExit}
+use Rattle.router_core.specs.Bests.{resolved_at, DecidesOn, Queues}
+use Rattle.router_core.specs.Moments.{Moment, with_chains, with_hops, with_tree, with_exits, rules_to, router_links, bound_of, Gives}
 use Rattle.journal_text.specs.declared.link.Link.{Link}
 use Rattle.live_state.specs.Lives.{LiveState, LiveAfter, live_fed, heard, ended, interior_lost}
 use Rattle.router_core.specs.Lives.{live_state}
@@ -164,8 +172,15 @@ pub record SettlesPeer (k : ℕ) (sent : Option (Change Route)) (m m' : Moment) 
   pub decided : DecidesOn k passed (resolved_at m.chains m'.hops) best
   pub weld : List (Entry Value)
   pub welds : WeldsInward k m.chains m'.chains weld
+  pub queued : Queues decided.best m.exits m'.exits
   pub lines : entries ≡ resolved ++ (best ++ weld)
-  pub after : m' ≡ with_hops (with_chains m m'.chains) m'.registry m'.hops
+  pub after : m' ≡ with_exits (with_hops (with_chains m m'.chains) m'.registry m'.hops) m'.exits
+
+-- What follows a change that came on `res.K`, if one did: the decision, and the queue.
+pub record Decides (k : ℕ) (sent : Option (Change Route)) (m m' : Moment) (entries : List (Entry Value)) : Type 0 where
+  pub decided : DecidesOn k sent (resolved_at m.chains m.hops) entries
+  pub queued : Queues decided.best m.exits m'.exits
+  pub after : m' ≡ with_exits m m'.exits
 
 -- ---- interior routes
 
@@ -220,3 +235,25 @@ pub record Settles (proto : Proto) (sent : Option (Change Interior)) (m m' : Mom
 abbrev pub Turned : Proto → Option (Change Interior) → Moment → Moment → Journaled → Journaled → Done → Type 0
 Turned proto sent m m' before now Nothing = ⊥
 Turned proto sent m m' before now Taken = (j : Journaled) × Settles proto sent m m' before j × (now ≡ flushed j)
+
+-- ---- what reads `best`
+-- With `local` the forwarding side begins to read: `read.rib` inherits `best`.
+pub record BeginsReading (m m' : Moment) (entries : List (Entry Value)) : Type 0 where
+  pub reader : ℕ
+  pub fresh : tables.get m.exits.queue reader ≡ None
+  pub lines : entries ≡ Inherit ReadRib Best ∷ []
+  pub after : m' ≡ record m { exits = with_queue (tables.insert m.exits.queue reader []) m.exits; reader = Some reader }
+
+-- messages may be written by this speaker
+abbrev pub SendsAs : Option Speaker → Profile → Type 0
+SendsAs None profile = ⊥
+SendsAs (Some me) profile = IsSender profile me
+
+-- the session of a peer that was declared up begins
+pub record BeginsSession (k : ℕ) (m m' : Moment) (entries : List (Entry Value)) : Type 0 where
+  pub me : Speaker
+  pub local : m.declared.speaker ≡ Some me
+  pub peer : DeclaredPeer
+  pub at : peer_at k m.declared.peers ≡ Some peer
+  pub begins : BeginsExit me peer.words peer.session (rules_to k m.outgoing) m.exits m'.exits entries
+  pub after : m' ≡ with_exits m m'.exits

@@ -6,7 +6,8 @@ ghost use Rattle.addr4.specs.Places.{key_of};
 ghost use Rattle.journal_text.specs.Journals.{Adds};
 ghost use Rattle.link_change.specs.Rows.{IsNextCandidate, CoversRows};
 ghost use Rattle.decision.specs.Branches.{best_candidates};
-ghost use Rattle.router_core.specs.Bests.{DecidesOn, best_at, resolved_at, lent_chain, lent_candidates};
+ghost use Rattle.router_core.specs.Works.{Decides};
+ghost use Rattle.router_core.specs.Bests.{best_at, lent_chain, lent_candidates};
 
 use crate::network::Network;
 use addr4::{Memory, Place, Prefix};
@@ -23,9 +24,9 @@ const MOST: u8 = 65;
 
 /// The links `res.K` of all peers, as they are lent to the decision. No local route is redistributed yet, so branch 0 is empty.
 #[derive(Drop)]
-struct Lent<'a> {
-    chains: &'a Peers,
-    hops: &'a NextHops,
+pub(crate) struct Lent<'a> {
+    pub(crate) chains: &'a Peers,
+    pub(crate) hops: &'a NextHops,
 }
 
 impl<'a> Lent<'a> {
@@ -67,20 +68,20 @@ impl<'a> Branches for Lent<'a> {
 impl Network {
     /// What follows a change of `res.K` of a peer, if one came: the change of `best`, if there is one.
     pub(crate) fn decide(
-        &self,
+        &mut self,
         number: u32,
         sent: Option<Change<Route>>,
         journal: &mut Journal,
     ) -> Result<(), Memory>
         requires { number ≤ 64 }
-        ensures { OnOk result (Adds (DecidesOn number sent (resolved_at self.now.chains self.now.hops)) journal.old journal.new) }
+        ensures { OnOk result (Adds (Decides number sent self.old self.new) journal.old journal.new) }
     {
         let Some(change) = sent else {
             return Ok(());
         };
         let best = take_in(self.alloc, number as u8, change, &self.lent())?;
         journal.push_sent(Link::Best, &best)?;
-        Ok(())
+        self.queue(best)
     }
 
     /// The best route at a prefix; None where no peer has one.
@@ -98,7 +99,7 @@ impl Network {
         next_candidate(&self.lent(), &after)
     }
 
-    fn lent(&self) -> Lent<'_>
+    pub(crate) fn lent(&self) -> Lent<'_>
         ensures chains { result.chains.now ≡ self.now.chains }
         ensures hops { result.hops.now ≡ self.now.hops }
     {

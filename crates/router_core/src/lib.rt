@@ -19,6 +19,7 @@
 #![tactic(auto)]
 
 mod best;
+mod exits;
 mod hops;
 mod laws;
 mod lookups;

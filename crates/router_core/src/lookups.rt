@@ -28,6 +28,8 @@ impl Network {
             Region::Decided => self.best_live(link),
             Region::InteriorRoutes => self.rib_live(link),
             Region::Forward => self.rib_live(link),
+            Region::External => self.reader.is_some(),
+            Region::Outward => self.exits.live(link),
             Region::Elsewhere => false,
         }
     }
@@ -53,6 +55,8 @@ impl Network {
             Region::Decided => self.decided(link, p),
             Region::InteriorRoutes => self.tree.asked(link, p),
             Region::Forward => self.tree.asked(link, p),
+            Region::External => self.read(p),
+            Region::Outward => self.sent(link, p),
             Region::Elsewhere => unreachable!(),
         }
     }
@@ -68,6 +72,8 @@ impl Network {
             Region::Decided => self.next_best(after),
             Region::InteriorRoutes => self.tree.next_candidate(link, after),
             Region::Forward => self.tree.next_candidate(link, after),
+            Region::External => self.next_read(after),
+            Region::Outward => self.next_sent(link, after),
             Region::Elsewhere => unreachable!(),
         }
     }

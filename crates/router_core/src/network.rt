@@ -5,6 +5,10 @@ ghost use Rattle.router_core.specs.Moments.{first_moment, bound_of};
 
 use addr4::Memory;
 use event_text::Declared;
+use crate::exits::Policies;
+use crate::peers::PLAIN;
+use exit_side::Exits;
+use fanout_queue::Reader;
 use hop_side::NextHops;
 use peer_side::Peers;
 use register_interest::Register;
@@ -22,6 +26,9 @@ pub(crate) struct Network {
     pub(crate) registry: Register<Interior>,
     pub(crate) chains: Peers,
     pub(crate) hops: NextHops,
+    pub(crate) outgoing: Policies,
+    pub(crate) exits: Exits,
+    pub(crate) reader: Option<Reader>,
 }
 
 impl Model for Network {
@@ -36,12 +43,16 @@ impl Model for Network {
     ghost use Rattle.rib_tree.specs.Branches.{branch_code};
     ghost use Rattle.rib_tree.specs.Trees.{treed_code};
     ghost use Rattle.register_interest.specs.Registers.{registry_code};
+    ghost use Rattle.router_core.specs.contracts.exits.Policies as policies_row;
+    ghost use Rattle.exit_side.specs.contracts.exits.Exits as exits_row;
+    ghost use Rattle.fanout_queue.specs.contracts.reader.Reader as reader_row;
+    ghost use Rattle.std.specs.Coded.{coded_option};
 
     ghost Value = { Moment };
 
-    ghost coded = { moment_code (declaration_code speaker_row.the_row.coded peer_row.the_row.coded) (treed_code (branch_code proto_row.the_row.coded interior_row.the_row.coded)) (registry_code interior_row.the_row.coded) peers_row.the_row.coded hops_row.the_row.coded };
+    ghost coded = { moment_code (declaration_code speaker_row.the_row.coded peer_row.the_row.coded) (treed_code (branch_code proto_row.the_row.coded interior_row.the_row.coded)) (registry_code interior_row.the_row.coded) peers_row.the_row.coded hops_row.the_row.coded policies_row.the_row.coded exits_row.the_row.coded (coded_option reader_row.the_row.coded) };
 
-    ghost view = { λ n. record { declared = n.declared; tree = n.tree; registry = n.registry; chains = n.chains; hops = n.hops } };
+    ghost view = { λ n. record { declared = n.declared; tree = n.tree; registry = n.registry; chains = n.chains; hops = n.hops; outgoing = n.outgoing; exits = n.exits; reader = n.reader } };
 }
 
 impl Network {
@@ -56,6 +67,9 @@ impl Network {
             registry: Register::new(alloc),
             chains: Peers::new(alloc),
             hops: NextHops::new(alloc),
+            outgoing: Policies::new(alloc),
+            exits: Exits::new(alloc, PLAIN),
+            reader: None,
         }
     }
 
@@ -66,7 +80,7 @@ impl Network {
         let peers = plus(self.declared.peers().len() as u128, 2)?;
         let rows = plus(self.chains.rows()?, self.tree.rows())?;
         let hops = times(2, self.hops.known()?)?;
-        let bound = times(peers, plus(plus(times(9, rows)?, hops)?, 6)?)?;
+        let bound = times(peers, plus(plus(plus(times(9, rows)?, hops)?, self.exits.most_unread())?, 6)?)?;
         Ok(bound)
     }
 }

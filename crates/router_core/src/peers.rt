@@ -24,7 +24,7 @@ use rib_route::Proto;
 use std::alloc::Global;
 
 /// AS numbers have two octets, and errors are handled by RFC 4271, section 6.3.
-const PLAIN: Profile = Profile {
+pub(crate) const PLAIN: Profile = Profile {
     as4: false,
     revised: false,
 };
@@ -41,7 +41,9 @@ impl Network {
         ensures { OnOk result (Pushes (HasStepped self.old (events.Local words) 0 self.new) journal.old journal.new) }
     {
         self.declared.set_speaker(words);
-        begin_rib(journal)
+        begin_rib(journal)?;
+        self.begin_reading(journal)?;
+        journal.push_entry(Entry::Begin(Link::Fib))
     }
 
     /// `peer` was declared: its chain and its resolver begin, without routes and rules.
@@ -77,7 +79,7 @@ impl Network {
             return journal.push_line(Line::Ignored);
         }
         self.declared.begin_session(number);
-        Ok(())
+        self.begin_exit(number, journal)
     }
 
     /// A peer's incoming filter has new rules. Takes no memory.
@@ -121,7 +123,6 @@ fn begin_rib(journal: &mut Journal) -> Result<(), Memory>
         Link::Dyn,
         Link::Int,
         Link::Best,
-        Link::Fib,
     ];
     begin_all(&links, journal)
 }

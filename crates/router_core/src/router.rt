@@ -52,6 +52,10 @@ pub enum Phase {
     Fin,
     /// The next hops of the resolvers: those that are asked for again, and the walks of fresh answers.
     Nh,
+    /// What the forwarding side has yet to read of `best`.
+    ReadRib,
+    /// The exits of peers: what their readers haven't taken, and the walks of the outgoing filters.
+    Out,
 }
 
 #[derive(Drop)]

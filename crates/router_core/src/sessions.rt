@@ -59,6 +59,7 @@ impl Network {
         requires up { IsSession number session self.old }
         ensures { OnOk result (Gives (HasLost number session self.old self.new) journal.old journal.new) }
     {
+        self.exits.end(number, journal)?;
         self.make_room(number, journal)?;
         self.lose_with_room(number, session, journal)?;
         journal.flush()?;

@@ -41,6 +41,7 @@ impl Network {
             Event::Down(number) => self.down(number, journal),
             Event::Bgp(number, octets) => self.message(number, octets, journal),
             Event::FilterIn(number, rules) => self.filter_in(number, rules, journal),
+            Event::FilterOut(number, rules) => self.filter_out(number, rules, journal),
             Event::RouteAdd(p, row) => self.route_add(p, row, journal),
             Event::RouteDel(proto, p) => self.route_del(proto, p, journal),
             Event::Lose(proto) => self.lose_protocol(proto, journal),
@@ -102,6 +103,21 @@ impl Network {
         ensures { IfOk result (λ turns. Gives (HasStepped self.old (events.FilterIn number rules) turns self.new) journal.old journal.new) }
     {
         self.edit_incoming(number, rules);
+        journal.flush()?;
+        Ok(0)
+    }
+
+    fn filter_out(
+        &mut self,
+        number: u32,
+        rules: Rules,
+        journal: &mut Journal,
+    ) -> Result<u128, Memory>
+        requires admitted { refusal self.old.declared (events.FilterOut number rules) ≡ None }
+        requires stands { Stands self.old }
+        ensures { IfOk result (λ turns. Gives (HasStepped self.old (events.FilterOut number rules) turns self.new) journal.old journal.new) }
+    {
+        self.edit_outgoing(number, rules)?;
         journal.flush()?;
         Ok(0)
     }

@@ -23,6 +23,8 @@ impl Network {
         match task {
             Task::Rdel(proto, loss) => self.turn_route(proto, loss, journal),
             Task::Nh(number) => self.turn_hops(number, journal),
+            Task::ReadRib => self.turn_reader(journal),
+            Task::Out(number) => self.turn_exit(number, journal),
             Task::Del(_, _) | Task::Fin(_) => self.turn_peer(task, journal),
         }
     }
@@ -73,6 +75,8 @@ impl Network {
             Phase::Del => self.chains.first_loss(),
             Phase::Fin => self.chains.first_walk(),
             Phase::Nh => task_of(self.hops.first_busy()),
+            Phase::ReadRib => self.next_reader(),
+            Phase::Out => exit_of(self.exits.first_busy()),
         }
     }
 
@@ -97,12 +101,22 @@ impl Network {
     {
         turns_are_bounded();
         journal.flush()?;
-        let phases = [Phase::Rdel, Phase::Del, Phase::Fin, Phase::Nh];
+        let phases = [Phase::Rdel, Phase::Del, Phase::Fin, Phase::Nh, Phase::ReadRib, Phase::Out];
         let mut turns = 0;
         for i in 0..phases.len() {
             turns = plus(turns, self.drain(phases[i], journal)?)?;
         }
         Ok(turns)
+    }
+}
+
+/// The task of a peer's exit.
+fn exit_of(number: Option<u32>) -> Option<Task>
+    ensures { result ≡ option_map (λ k. tasks.Out k) number }
+{
+    match number {
+        Some(number) => Some(Task::Out(number)),
+        None => None,
     }
 }
 

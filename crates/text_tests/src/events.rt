@@ -20,10 +20,14 @@ bgp 1 fF0a\n\
 filter in 1\n\
 filter in 1 any pref 200 accept\n\
 filter in 2 path 65535 reject any accept\n\
+filter out 1\n\
+filter out 1 any nomed prepend 16 next origin 2 reject\n\
 idle\n\
 work del.1.2 0\n\
 work fin.1 3\n\
 work nh.64 0\n\
+work rd.rib 3\n\
+work out.64 3\n\
 ask in.1 192.0.2.77/24\n\
 ask filt.1 10.1.0.0/16\n\
 show filt.1\n\
@@ -31,6 +35,10 @@ ask res.1 10.1.0.0/16\n\
 show res.64\n\
 ask best 10.1.0.0/16\n\
 show best\n\
+ask read.rib 10.1.0.0/16\n\
+show read.2.1\n\
+ask outf.2.1 10.1.0.0/16\n\
+show adv.2.1\n\
 show peer.3.4\n\
 route add static 10.1.2.3/8 direct eth0 7\n\
 route add ospf 10.0.0.0/8 via 192.0.2.9 a.b-c_d 4294967295\n\
@@ -61,7 +69,16 @@ bgp 1 fff\n\
 bgp 1 0g\n\
 filter in 1 path 65536 reject\n\
 filter in 0 any accept\n\
-filter out 1 any accept\n\
+filter out 0 any accept\n\
+filter out 1 any prepend 17 accept\n\
+filter out\n\
+filter to 1 any accept\n\
+work rd 3\n\
+work rd.1 3\n\
+work out.0 3\n\
+work out.rib 3\n\
+show adv.2\n\
+show read.2\n\
 filter in 1 any pref\n\
 filter in\n\
 idle 1\n\
@@ -157,6 +174,7 @@ const EVENTS: &str = "\
 E4 peer 65 65001 192.0.2.1 192.0.2.1\n\
 E4 up 300\n\
 E4 filter in 1 any accept\n\
+E4 filter out 1 any accept\n\
 E4 cover 9.9.9.9\n\
 E4 idle\n\
 - # local\n\
@@ -178,6 +196,15 @@ E5 ask filt.2 10.1.0.0/16\n\
 E5 ask res.2 10.1.0.0/16\n\
 - ask res.1 10.1.0.0/16\n\
 E5 filter in 2\n\
+E5 filter out 2 any accept\n\
+- filter out 64 any accept\n\
+E5 work out.2 1\n\
+- work out.64 1\n\
+- work rd.rib 1\n\
+E5 show adv.2.1\n\
+E5 ask read.2.1 10.1.0.0/16\n\
+- ask outf.64.9 10.1.0.0/16\n\
+- show read.rib\n\
 - route del rip 10.0.0.0/8\n\
 - show org.rip.2\n\
 - show best\n\

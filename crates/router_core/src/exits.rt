@@ -1,0 +1,236 @@
+//! What peers are sent, and what the forwarding side reads of `best`: both read the queue of its changes (NSDI 2005, section 5.1).
+
+ghost use Rattle.std.specs.Prelude.{◌≡◌, [], None, IfOk, OnOk, IsSome};
+ghost use Rattle.std.specs.FinMap as map;
+ghost use Rattle.journal_text.specs.Journals.{Adds};
+ghost use Rattle.journal_text.specs.declared.link.Task.TheVariants as tasks;
+ghost use Rattle.event_text.specs.declared.event.Event.TheVariants as events;
+ghost use Rattle.event_text.specs.Declarations.{peer_at, refusal};
+ghost use Rattle.exit_side.specs.Exits.{IsExits, chain_at as exit_at};
+ghost use Rattle.router_core.specs.declared.router.Phase.TheVariants as phases;
+ghost use Rattle.router_core.specs.Bests.{Queues};
+ghost use Rattle.router_core.specs.Moments.{rules_to, with_exits};
+ghost use Rattle.router_core.specs.Stands.{Stands};
+ghost use Rattle.router_core.specs.Turns.{has_work, next_task};
+ghost use Rattle.router_core.specs.Works.{Comes, HasStepped, BeginsReading, BeginsSession, SendsAs};
+
+use crate::best::Lent;
+use crate::network::Network;
+use crate::peers::PLAIN;
+use crate::router::Done;
+use addr4::{Memory, Place, Prefix};
+use bgp_attr::Route;
+use decision::Best;
+use exit_side::Exits;
+use fanout_queue::Reader;
+use journal_text::{Entry, Journal, Link, Task, Value};
+use link_change::{Change, Turn};
+use policy_rules::Rules;
+use std::alloc::Global;
+use std::collections::BTreeMap;
+use std::marker::Model;
+
+/// The latest rules of each peer's outgoing filter, whether it is up or not.
+#[derive(Drop)]
+pub(crate) struct Policies {
+    rules: BTreeMap<u32, Rules>,
+}
+
+impl Model for Policies {
+    ghost use Rattle.std.specs.Coded.{coded_ℕ};
+    ghost use Rattle.std.specs.FinMap as map;
+    ghost use Rattle.policy_rules.specs.contracts.rule.Rules as rules_row;
+    ghost use Rattle.router_core.specs.Moments.{Policies};
+
+    ghost Value = { Policies };
+
+    ghost coded = { map.code coded_ℕ rules_row.the_row.coded };
+
+    ghost view = { λ p. map.from_entries p.rules.entries };
+}
+
+impl Policies {
+    pub(crate) fn new(alloc: Global) -> Policies
+        ensures { result ≡ map.empty }
+    {
+        Policies {
+            rules: BTreeMap::new(alloc),
+        }
+    }
+
+    fn set(&mut self, number: u32, rules: Rules) -> Result<(), Memory>
+        ensures { OnOk result (self.new ≡ map.insert self.old number rules) }
+    {
+        self.rules.insert(number, rules)?;
+        Ok(())
+    }
+
+    /// The rules of a peer's filter; none where it was never edited.
+    fn rules(&self, alloc: Global, number: u32) -> Result<Rules, Memory>
+        ensures { IfOk result (λ rules. rules ≡ rules_to number self.now) }
+    {
+        match self.rules.get(&number) {
+            Some(rules) => rules.copy(alloc),
+            None => Ok(Rules::new(alloc)),
+        }
+    }
+}
+
+impl Network {
+    /// With `local` the forwarding side begins to read: `read.rib` inherits `best`.
+    pub(crate) fn begin_reading(&mut self, journal: &mut Journal) -> Result<(), Memory>
+        ensures { OnOk result (Adds (BeginsReading self.old self.new) journal.old journal.new) }
+    {
+        let reader = self.exits.join()?;
+        self.reader = Some(reader);
+        journal.push_entry(Entry::Inherit(Link::ReadRib, Link::Best))
+    }
+
+    /// A session of a peer begins: its three links begin.
+    pub(crate) fn begin_exit(&mut self, number: u32, journal: &mut Journal) -> Result<(), Memory>
+        requires sound { IsExits self.old.exits }
+        requires sender { SendsAs self.old.declared.speaker self.old.exits.profile }
+        requires there { IsSome (peer_at number self.old.declared.peers) }
+        requires absent { exit_at number self.old.exits ≡ None }
+        ensures { OnOk result (Adds (BeginsSession number self.old self.new) journal.old journal.new) }
+    {
+        let Some(me) = self.declared.speaker() else {
+            unreachable!()
+        };
+        let Some(peer) = self.declared.peer(number) else {
+            unreachable!()
+        };
+        let rules = self.outgoing.rules(self.alloc, number)?;
+        self.exits.begin(&me, &peer.words, peer.session, rules, journal)
+    }
+
+    /// A peer's outgoing filter has new rules, in its session or from its next one on.
+    pub(crate) fn edit_outgoing(&mut self, number: u32, rules: Rules) -> Result<(), Memory>
+        requires admitted { refusal self.old.declared (events.FilterOut number rules) ≡ None }
+        requires stands { Stands self.old }
+        ensures { OnOk result (HasStepped self.old (events.FilterOut number rules) 0 self.new []) }
+    {
+        self.exits.edit(number, rules.copy(self.alloc)?);
+        self.outgoing.set(number, rules)
+    }
+
+    /// What follows a change of `best`, if one came: it joins the queue.
+    pub(crate) fn queue(&mut self, sent: Option<Change<Route>>) -> Result<(), Memory>
+        requires { IsExits self.old.exits }
+        ensures queues { OnOk result (Queues sent self.old.exits self.new.exits) }
+        ensures after { OnOk result (self.new ≡ with_exits self.old self.new.exits) }
+    {
+        match sent {
+            Some(change) => self.exits.put(change),
+            None => Ok(()),
+        }
+    }
+
+    /// One turn of a peer's exit, and the text of its lines.
+    pub(crate) fn turn_exit(&mut self, number: u32, journal: &mut Journal) -> Result<Done, Memory>
+        requires { Stands self.old }
+        ensures { IfOk result (Comes (tasks.Out number) self.old self.new journal.old journal.new) }
+    {
+        let lent = Lent {
+            chains: &self.chains,
+            hops: &self.hops,
+        };
+        let best = Best {
+            alloc: self.alloc,
+            all: &lent,
+        };
+        let turn = self.exits.turn(number, &best, journal)?;
+        if let Turn::Nothing = turn {
+            return Ok(Done::Nothing);
+        }
+        journal.flush()?;
+        Ok(Done::Taken)
+    }
+
+    /// One turn of the forwarding side: the first change that it hasn't read comes on `read.rib`.
+    pub(crate) fn turn_reader(&mut self, journal: &mut Journal) -> Result<Done, Memory>
+        requires { Stands self.old }
+        ensures { IfOk result (Comes tasks.ReadRib self.old self.new journal.old journal.new) }
+    {
+        let Some(reader) = &mut self.reader else {
+            return Ok(Done::Nothing);
+        };
+        let Some(change) = self.exits.take(reader)? else {
+            return Ok(Done::Nothing);
+        };
+        journal.push_change(Link::ReadRib, &change)?;
+        journal.flush()?;
+        Ok(Done::Taken)
+    }
+
+    /// Whether the forwarding side has something to read.
+    pub(crate) fn reads(&self) -> bool
+        requires { Stands self.now }
+        ensures { result ≡ has_work tasks.ReadRib self.now }
+    {
+        match &self.reader {
+            Some(reader) => self.exits.waiting(reader) > 0,
+            None => false,
+        }
+    }
+
+    /// The task of the forwarding side, where it has something to read.
+    pub(crate) fn next_reader(&self) -> Option<Task>
+        requires { Stands self.now }
+        ensures { result ≡ next_task phases.ReadRib self.now }
+    {
+        if self.reads() {
+            return Some(Task::ReadRib);
+        }
+        None
+    }
+
+    /// The row at a prefix of `read.rib`.
+    pub(crate) fn read(&self, p: Prefix) -> Result<Option<Value>, Memory> {
+        let Some(reader) = &self.reader else {
+            return Ok(None);
+        };
+        let lent = self.lent();
+        let best = Best {
+            alloc: self.alloc,
+            all: &lent,
+        };
+        match self.exits.read(reader, &best, p)? {
+            Some(route) => Ok(Some(Value::Route(route))),
+            None => Ok(None),
+        }
+    }
+
+    /// Where the next row of `read.rib` may stand, beyond a place.
+    pub(crate) fn next_read(&self, after: Place) -> Option<Prefix> {
+        let Some(reader) = &self.reader else {
+            return None;
+        };
+        let lent = self.lent();
+        let best = Best {
+            alloc: self.alloc,
+            all: &lent,
+        };
+        self.exits.next_read(reader, &best, after)
+    }
+
+    /// The row at a prefix of a link of a peer's exit.
+    pub(crate) fn sent(&self, link: Link, p: Prefix) -> Result<Option<Value>, Memory> {
+        let lent = self.lent();
+        let best = Best {
+            alloc: self.alloc,
+            all: &lent,
+        };
+        self.exits.asked(link, &best, p)
+    }
+
+    /// Where the next row of a link of a peer's exit may stand, beyond a place.
+    pub(crate) fn next_sent(&self, link: Link, after: Place) -> Option<Prefix> {
+        let lent = self.lent();
+        let best = Best {
+            alloc: self.alloc,
+            all: &lent,
+        };
+        self.exits.next_candidate(link, &best, after)
+    }
+}
