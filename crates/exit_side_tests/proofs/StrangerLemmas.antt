@@ -1,5 +1,5 @@
 -- What a reader that is no peer's does, and what comes, in the story.
-use Rattle.std.proofs.Common.{◌≡◌, ℕ, cond, [], Option, Some, refl, sym, ap, subst, ◌∙◌}
+use Rattle.std.proofs.Common.{◌≡◌, ℕ, cond, [], Option, Some, None, refl, sym, ap, subst, ◌∙◌}
 use Rattle.std.proofs.Common.{Result, Ok, Err, IfOk}
 use Rattle.std.specs.Prelude.{IsSome}
 use Rattle.std.specs.FinMap as map

@@ -97,9 +97,9 @@ fn told(alloc: Global) -> Result<([Seen; 2], [Option<bool>; 2]), Memory> {
 
 #[test]
 fn a_reader_has_a_route_when_it_takes_it(rt: HostRuntime) -> Result<(), Fail> {
-    let (seen, taken) = told(rt.alloc())?;
-    let at = Some(prefix());
-    assert!(rt; seen == [(1, false, at), (0, true, at)]);
+    let ([late, then], taken) = told(rt.alloc())?;
+    assert!(rt; late == (1, false, Some(prefix())));
+    assert!(rt; then == (0, true, Some(prefix())));
     assert!(rt; taken == [Some(true), None]);
     Ok(())
 }
