@@ -17,8 +17,8 @@
 //! ([`LeadsExits`](specs/Steps.antt)), in whatever region these are. Readers of the queue that are
 //! no peer's are let be: nothing here says that there are none.
 //!
-//! For want of memory a call may stop half way, [`put`](Exits::put) aside, which then changes
-//! nothing. The value may then only be dropped: nothing is said of it.
+//! For want of memory a call may stop half way, [`put`](Exits::put), `join` and `take` aside, which
+//! then change nothing. The value may then only be dropped: nothing is said of it.
 #![tactic(auto)]
 
 mod exits;
