@@ -155,7 +155,8 @@ fn is_judged(alloc: Global, line: &str) -> Result<bool, Fail> {
     let (want, rules) = rest.split_once(' ').ok_or("no rules")?;
     let prefix = read_prefix(prefix.as_bytes()).ok().ok_or("no prefix")?;
     let want = verdict_of(want);
-    Ok(judged(alloc, rules, prefix)? == [want, want])
+    let [own, copied] = judged(alloc, rules, prefix)?;
+    Ok(own == want && copied == want)
 }
 
 #[test]
