@@ -3,9 +3,10 @@
 
 It builds nothing: a program that isn't built is named, and its rows are left out (README.md says how each is built). Rows are
 work, columns are numbers of routes. A figure is CPU seconds of user and system, the median of some runs, and peak memory in
-MiB (in three rows the memory at that moment, of one run); behind them stand the seconds beside those of `table` at the same size, and how much longer the greatest size takes than
-the one before it, by route (1.0 would be linear). Real daemons (bird2, frr, openbgpd) are measured in the same run where
-they are installed and the script is root. With `perf` a profile of `table` stands below. All of it goes to a JSON file too.
+MiB (in three rows the memory at that moment, of one run); behind them stand the seconds beside those of `table` at the same
+size, and how much longer the greatest size takes than the one before it, by route (1.0 would be linear). Real daemons (bird2,
+frr, openbgpd) are measured in the same run where they are installed and the script is root. With `perf` a profile of `table`
+stands below. All of it goes to a JSON file too.
 
 Figures of different machines don't compare, nor do those of a busy machine: the load when it began is printed with them.
 """
