@@ -1,5 +1,5 @@
 -- One row more or less names a next hop.
-use Rattle.std.proofs.Common.{◌≡◌, ◌≢◌, ℕ, zero, suc, Bool, true, false, not, refl, sym, ap, ◌∙◌, subst, inl, inr, Option, Some, None, is_some, arith, ◌==◌, eqb-true}
+use Rattle.std.proofs.Common.{◌≡◌, ◌≢◌, ℕ, zero, suc, Bool, true, false, not, refl, sym, ap, ◌∙◌, subst, inl, inr, Option, Some, None, IsSome, is_some, arith, ◌==◌, eqb-true}
 use Rattle.std.specs.FinMap.{get, insert, remove, empty, get-empty}
 use Rattle.std.specs.FinMap as map
 use Rattle.std.specs.Option.{option_map, option_eq}
@@ -81,6 +81,7 @@ module _ {A : Type 0} where
             unknown = ap (get known) at ∙ none_of (get known a) unknown;
             in_force = sym (ap (λ (x : Hop A). x.in_force) same) ∙ ap answer (sym at);
             fresh = sym (ap (λ (x : Hop A). x.fresh) same) ∙ ap answer (sym at);
+            came = subst (λ (x : Hop A). IsSome x.came) same refl;
           })
       | inr ne ↦ inl (sym (ap (λ (m : Hops A). get m b) is ∙ set_apart known a (learnt s (answer a)) b ne) ∙ e)
     ]

@@ -1,5 +1,5 @@
 -- What a change from above makes of a resolver, and what goes on below.
-use Rattle.std.specs.Prelude.{◌≡◌, ◌⊎◌, ℕ, Option, Some, None}
+use Rattle.std.specs.Prelude.{◌≡◌, ◌⊎◌, ℕ, Option, Some, None, IsSome}
 use Rattle.std.specs.FinMap as map
 use Rattle.addr4.specs.Prefixes.{Network}
 use Rattle.link_change.specs.Rows.{Rows}
@@ -11,11 +11,12 @@ use Rattle.nexthop_known.specs.Counts.{AreCounted, Recounts}
 use Rattle.nexthop_resolver.specs.Resolving.{Resolving, named_by, res_rows}
 
 module _ {A : Type 0} where
-  -- a next hop that wasn't known has this answer, for both
+  -- a next hop that wasn't known has this answer, for both, and it isn't stale
   pub record IsNew (answer : ℕ → A) (old : Hops A) (a : ℕ) (h : Hop A) : Type 0 where
     pub unknown : map.get old a ≡ None
     pub in_force : h.in_force ≡ answer a
     pub fresh : h.fresh ≡ answer a
+    pub came : IsSome h.came
 
   -- what is known was known, with the same answers
   abbrev pub KeepsOnly : Hops A → Hops A → Type 0

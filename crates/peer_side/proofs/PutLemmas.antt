@@ -1,12 +1,14 @@
 -- Peers' chains by number, where one was put.
-use Rattle.std.proofs.Common.{◌≡◌, ℕ, ◌+◌, Bool, true, false, cond, Option, Some, None, is_some, nat_eq, refl, sym, ap, subst, ◌∙◌}
+use Rattle.std.proofs.Common.{◌≡◌, ℕ, ◌+◌, ◌<◌, ◌==◌, Bool, true, false, cond, nat_lt, List, [], ◌∷◌, length, arith, Option, Some, None, is_some, nat_eq, refl, sym, ap, subst, ◌∙◌}
 use Rattle.std.specs.FinMap as tables
-use Rattle.std.specs.FinMap.{from_entries, get-insert, len-insert, same_map, nat_cmp-IsAntisymmetric}
+use Rattle.std.specs.FinMap.{from_entries, get-empty, get-insert, len-insert, same_map, nat_cmp-IsAntisymmetric}
 use Rattle.std.specs.BTreeMap as tree
 use Rattle.std.specs.BTreeMap.{BTreeMap, WritesThrough}
 use Rattle.std.specs.Prelude.{IsSome}
 use Rattle.std.specs.Cmp.{nat_cmp_total, unsigned_tied}
-use Rattle.std.specs.Ordering.{nat_cmp}
+use Rattle.std.specs.Ordering.{nat_cmp, is_lt}
+use Rattle.std.specs.declared.cmp.Ordering.TheVariants.{Less, Equal, Greater}
+use Rattle.std.proofs.lemmas.Bool.Decides.{nat_tests}
 use Rattle.link_region.proofs.RegionLemmas.{by_bool}
 use Rattle.loss_chain.proofs.TableLemmas.{equal_by, same_by}
 use Rattle.in_chain.specs.Chains.{Chained, turns_left}
@@ -82,3 +84,24 @@ lent_put m n now k c c' view at written = map_set nat_cmp nat_cmp_total nat_cmp-
 -- and one that is new
 pub set_put : (m n : BTreeMap ℕ Chained) (now : Chains) (k : ℕ) (c : Chained) → from_entries m.entries ≡ now → tree.Updates nat_cmp m n k (Some c) → from_entries {R = nat_cmp} n.entries ≡ put_chain k c now
 set_put m n now k c view updates = map_set nat_cmp nat_cmp_total nat_cmp-IsAntisymmetric m n now k c view updates
+
+-- no peer is beyond the greatest number, and none where there are no entries
+pub none_beyond : (m : BTreeMap ℕ Chained) (now : Chains) (last k : ℕ) → from_entries m.entries ≡ now → tree.IsUpperBound nat_cmp m last → last < k → chain_at k now ≡ None
+none_beyond m now last k view bound high = by_some (tree.get nat_cmp m k) refl
+  where
+    low : nat_lt last k ≡ true
+    low = grind (arith, nat_tests, high)
+
+    is_less : is_lt (nat_cmp last k) ≡ true
+    is_less = ap (λ (b : Bool). is_lt (cond b Less (cond (last == k) Equal Greater))) low
+
+    by_some : (o : Option Chained) → tree.get nat_cmp m k ≡ o → chain_at k now ≡ None
+    by_some None e = sym (read_at m now k view) ∙ e
+    by_some (Some c) e = absurd (let never : is_lt (nat_cmp last k) ≡ false = bound k (ap is_some e) in let clash : true ≡ false = sym is_less ∙ never in cc)
+
+pub none_in_empty : (m : BTreeMap ℕ Chained) (now : Chains) (k : ℕ) → from_entries m.entries ≡ now → (0 < tree.btree_map_len m → ⊥) → chain_at k now ≡ None
+none_in_empty m now k view none = by_entries m.entries view none
+  where
+    by_entries : (es : List (ℕ × Chained)) → from_entries {R = nat_cmp} es ≡ now → (0 < length es → ⊥) → chain_at k now ≡ None
+    by_entries [] is none = ap (chain_at k) (sym is) ∙ get-empty nat_cmp k
+    by_entries (e ∷ es) is none = absurd (none (omega arith))

@@ -1,6 +1,6 @@
 //! The peers' chains, as the crates above see them: declared, and with new rules.
 
-ghost use Rattle.std.specs.Prelude.{◌≡◌, OnOk, IsSome, None};
+ghost use Rattle.std.specs.Prelude.{◌≡◌, ◌<◌, ℕ, OnOk, IsSome, None};
 ghost use Rattle.std.specs.Option.{option_copied};
 ghost use Rattle.std.specs.FinMap as map;
 ghost use Rattle.journal_text.specs.Journals.{with_entries};
@@ -55,6 +55,17 @@ impl Peers {
         ensures { option_copied result ≡ chain_at number self.now }
     {
         self.chains.get(&number)
+    }
+
+    /// The greatest number of a peer; 0 where there is none.
+    pub fn last(&self) -> u32
+        ensures beyond { (k : ℕ) → result < k → chain_at k self.now ≡ None }
+        ensures there { 0 < result → IsSome (chain_at result self.now) }
+    {
+        match self.chains.last_key_value() {
+            Some((number, _)) => *number,
+            None => 0,
+        }
     }
 
     /// A peer is declared, by the words of this speaker and its own: its links begin, without routes and rules.

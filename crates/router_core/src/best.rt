@@ -48,7 +48,12 @@ impl<'a> Branches for Lent<'a> {
 
     ghost candidates = { λ l. lent_candidates l.chains.now };
 
+    // No number beyond the greatest one of a peer.
     fn count(&self) -> u8 {
+        let last = self.chains.last();
+        if last < u32::from(MOST) {
+            return last as u8 + 1;
+        }
         MOST
     }
 
