@@ -28,6 +28,7 @@ use Rattle.link_region.specs.Regions.{region_number, LeadsIn}
 use Rattle.out_chain.specs.Chains.{OutChained}
 use Rattle.exit_side.specs.Exits.{Exited, chain_at, with_queue, exit_links, IsExits, AllStand}
 use Rattle.exit_side.specs.Steps.{BeginsExit, EndsExit, EditsExit, PutsExit, TurnsExit}
+use Rattle.live_state.specs.Lives.{with_routes}
 use Rattle.live_state.specs.Heard.{Views, Hears}
 use Rattle.exit_laws.specs.Views.{views_of, AreDeclared, AreUnheard, entry_lines}
 use Rattle.exit_laws.specs.Printable.{AreBestRows, IsBestChange, AreBestChanges, ArePrintableExits}
@@ -52,7 +53,7 @@ NothingIsHeard = (peers : ℕ → Option Neighbour) (v : Views) (lines : List Li
 -- Such are the lines of entries that lead the links of any other region on, whatever the peers' outgoing links are,
 abbrev pub OthersAreUnheard : Type 0
 OthersAreUnheard =
-    (region : Region) (old new : Links Value) (entries : List (Entry Value)) → (region_number region == region_number Outward) ≡ false
+    (region : Region) (old new : Links Value) (entries : List (Entry Value)) → (region_number Outward == region_number region) ≡ false
     → LeadsIn region old entries new → AreUnheard (entry_lines entries)
 
 -- and those of the change of a row, on any link.
@@ -82,6 +83,12 @@ abbrev pub TurnIsHeard : Type 0
 TurnIsHeard =
     (peers : ℕ → Option Neighbour) (j : ℕ) (candidates : Candidates) (best : Rows Route) (sent : Option (Change Attrs)) (e e' : Exited) (said : List Line)
     → AreDeclared peers e → TurnsExit j candidates best sent e e' said → Hears peers (views_of e) said (views_of e')
+
+-- The same of any views in which the peer has heard what it was sent: those of the others stay.
+abbrev pub TurnIsHeardFrom : Type 0
+TurnIsHeardFrom =
+    (peers : ℕ → Option Neighbour) (j : ℕ) (candidates : Candidates) (best : Rows Route) (sent : Option (Change Attrs)) (e e' : Exited) (said : List Line) (v : Views)
+    → AreDeclared peers e → (turn : TurnsExit j candidates best sent e e' said) → v j ≡ turn.chain.sent → Hears peers v said (with_routes v j turn.taken.sent)
 
 -- New rules, and a change that joins the queue, leave what was sent.
 abbrev pub EditKeepsViews : Type 0

@@ -9,6 +9,7 @@ use Rattle.bgp_attr.specs.declared.route.Route.{Route}
 use Rattle.bgp_attr.specs.declared.speaker.Neighbour.{Neighbour}
 use Rattle.link_change.specs.Rows.{Rows}
 use Rattle.link_change.specs.declared.change.Change.{Change}
+use Rattle.peer_out.specs.Changes.{MayBeHeard}
 use Rattle.fanout_queue.specs.Queues.{Queued}
 use Rattle.fanout_queue.specs.Readers.{unread_by}
 use Rattle.journal_text.specs.Names.{IsNamed}
@@ -18,10 +19,12 @@ use Rattle.journal_check.specs.Laws.{IsPrefix}
 use Rattle.journal_laws.specs.Printed.{IsPrintable}
 use Rattle.out_chain.specs.Chains.{OutChained}
 use Rattle.exit_side.specs.Exits.{Exited, chain_at}
+use Rattle.live_state.specs.Messages.{plain}
 
--- a row of `best` that can be printed at its prefix, where these are the peers
+-- a row of `best` that can be said to a peer, and printed at its prefix, where these are the peers
 pub record IsPrintableBest (peers : ℕ → Option Neighbour) (p : Network) (row : Route) : Type 0 where
   pub prefix : IsPrefix p
+  pub heard : MayBeHeard plain row.attrs
   pub printed : IsPrintable peers (route_value row)
 
 -- each row is such,
