@@ -88,7 +88,7 @@ module _ (peers : ℕ → Option Neighbour) where
   pub each_put : (j : ℕ) (c : OutChained) (queue : Queued Route) (e : Exited) → IsPrintableExit peers j c → EachChain e → EachChain (with_exit j c queue e)
   each_put j c queue e own each k d at = by_number k j (λ (b : Bool). IsPrintableExit peers k d)
       (λ is. subst (λ (n : ℕ). IsPrintableExit peers n d) (sym is)
-          (subst (IsPrintableExit peers j) (same_chain c d (chain_at j (with_exit j c queue e)) (put_here j c queue e) (ap (λ (n : ℕ). chain_at n (with_exit j c queue e)) (sym is) ∙ at)) own))
+      (subst (IsPrintableExit peers j) (same_chain c d (chain_at j (with_exit j c queue e)) (put_here j c queue e) (ap (λ (n : ℕ). chain_at n (with_exit j c queue e)) (sym is) ∙ at)) own))
       (λ differ. each k d (sym (put_other j k c queue e differ) ∙ at))
 
   each_gone : (j : ℕ) (queue : Queued Route) (e : Exited) → EachChain e → EachChain (without_exit j queue e)

@@ -279,8 +279,8 @@ module _ (peers : ℕ → Option Neighbour) (j : ℕ) (candidates : Candidates) 
       let outf = sent_entries attrs_value (Outf c.peer.number c.session) sent in
       let adv = sent_entries attrs_value (Adv c.peer.number c.session) sent in
       let all : AllByRecursion (λ x. IsPrinted peers (Journal x)) (turn.turns.entries ++ (outf ++ adv)) =
-          all_append (λ x. IsPrinted peers (Journal x)) turn.turns.entries (outf ++ adv) entries_are
-          (all_append (λ x. IsPrinted peers (Journal x)) outf adv (sent_printed peers (Outf c.peer.number c.session) sent names each_sayable) (sent_printed peers (Adv c.peer.number c.session) sent names each_sayable)) in
+      all_append (λ x. IsPrinted peers (Journal x)) turn.turns.entries (outf ++ adv) entries_are
+      (all_append (λ x. IsPrinted peers (Journal x)) outf adv (sent_printed peers (Outf c.peer.number c.session) sent names each_sayable) (sent_printed peers (Adv c.peer.number c.session) sent names each_sayable)) in
       all_append (IsPrinted peers) (entry_lines (turn.turns.entries ++ (outf ++ adv))) (message_lines c sent) (entries_printed peers (turn.turns.entries ++ (outf ++ adv)) all)
       (message_printed peers c sent names.0.1 turn.turns.goes.told each_sayable)
 
