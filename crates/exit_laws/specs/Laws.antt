@@ -36,7 +36,9 @@ use Rattle.exit_laws.specs.Printable.{AreBestRows, IsBestChange, AreBestChanges,
 -- ---- the walk
 -- What is heard of some lines and then of others is heard of both, one after the other;
 abbrev pub HearingJoins : Type 0
-HearingJoins = (peers : ℕ → Option Neighbour) (a b c : Views) (xs ys : List Line) → Hears peers a xs b → Hears peers b ys c → Hears peers a (xs ++ ys) c
+HearingJoins =
+    (peers : ℕ → Option Neighbour) (a b c : Views) (xs ys : List Line) → Hears peers a xs b → Hears peers b ys c
+    → Hears peers a (xs ++ ys) c
 
 -- there is one thing alone to be heard of lines;
 abbrev pub HearingIsOne : Type 0
@@ -44,7 +46,9 @@ HearingIsOne = (peers : ℕ → Option Neighbour) (v a b : Views) (lines : List 
 
 -- it is the same where more peers were declared since;
 abbrev pub HearingStays : Type 0
-HearingStays = (before now : Declaration) (v v' : Views) (lines : List Line) → KeepsPeers before now → Hears (neighbours before) v lines v' → Hears (neighbours now) v lines v'
+HearingStays =
+    (before now : Declaration) (v v' : Views) (lines : List Line) → KeepsPeers before now → Hears (neighbours before) v lines v'
+    → Hears (neighbours now) v lines v'
 
 -- and of lines by which nobody hears anything, nothing is heard.
 abbrev pub NothingIsHeard : Type 0
@@ -58,7 +62,8 @@ OthersAreUnheard =
 
 -- and those of the change of a row, on any link.
 abbrev pub ChangesAreUnheard : Type 0
-ChangesAreUnheard = (link : Link) (p : Network) (before after : Option Value) → AreUnheard (entry_lines (change_entries link p before after))
+ChangesAreUnheard =
+    (link : Link) (p : Network) (before after : Option Value) → AreUnheard (entry_lines (change_entries link p before after))
 
 -- ---- the steps
 -- What a peer that is up has heard are the rows of its `adv.J.S`.
@@ -76,7 +81,8 @@ BeginningIsHeard =
 -- where it ends, nothing is left of what it has heard;
 abbrev pub EndIsHeard : Type 0
 EndIsHeard =
-    (peers : ℕ → Option Neighbour) (j : ℕ) (e e' : Exited) (entries : List (Entry Value)) → EndsExit j e e' entries → Hears peers (views_of e) (entry_lines entries) (views_of e')
+    (peers : ℕ → Option Neighbour) (j : ℕ) (e e' : Exited) (entries : List (Entry Value)) → EndsExit j e e' entries
+    → Hears peers (views_of e) (entry_lines entries) (views_of e')
 
 -- and a turn of its exit leads from what it was sent before to what it was sent then, by the octets of the turn's lines.
 abbrev pub TurnIsHeard : Type 0
@@ -88,7 +94,8 @@ TurnIsHeard =
 abbrev pub TurnIsHeardFrom : Type 0
 TurnIsHeardFrom =
     (peers : ℕ → Option Neighbour) (j : ℕ) (candidates : Candidates) (best : Rows Route) (sent : Option (Change Attrs)) (e e' : Exited) (said : List Line) (v : Views)
-    → AreDeclared peers e → (turn : TurnsExit j candidates best sent e e' said) → v j ≡ turn.chain.sent → Hears peers v said (with_routes v j turn.taken.sent)
+    → AreDeclared peers e → (turn : TurnsExit j candidates best sent e e' said) → v j ≡ turn.chain.sent
+    → Hears peers v said (with_routes v j turn.taken.sent)
 
 -- New rules, and a change that joins the queue, leave what was sent.
 abbrev pub EditKeepsViews : Type 0
@@ -110,34 +117,46 @@ pub record PrintsOn (peers : ℕ → Option Neighbour) (e' : Exited) (said : Lis
 abbrev pub BeginningIsPrinted : Type 0
 BeginningIsPrinted =
     (peers : ℕ → Option Neighbour) (me : Speaker) (peer : Neighbour) (session : ℕ) (rules : List Rule) (e e' : Exited) (entries : List (Entry Value))
-    → IsNamed (Adv peer.number session) → ArePrintableExits peers e → BeginsExit me peer session rules e e' entries → PrintsOn peers e' (entry_lines entries)
+    → IsNamed (Adv peer.number session) → ArePrintableExits peers e → BeginsExit me peer session rules e e' entries
+    → PrintsOn peers e' (entry_lines entries)
 
 abbrev pub EndIsPrinted : Type 0
 EndIsPrinted =
-    (peers : ℕ → Option Neighbour) (j : ℕ) (e e' : Exited) (entries : List (Entry Value)) → ArePrintableExits peers e → EndsExit j e e' entries → PrintsOn peers e' (entry_lines entries)
+    (peers : ℕ → Option Neighbour) (j : ℕ) (e e' : Exited) (entries : List (Entry Value)) → ArePrintableExits peers e
+    → EndsExit j e e' entries → PrintsOn peers e' (entry_lines entries)
 
 abbrev pub TurnIsPrinted : Type 0
 TurnIsPrinted =
     (peers : ℕ → Option Neighbour) (j : ℕ) (candidates : Candidates) (best : Rows Route) (sent : Option (Change Attrs)) (e e' : Exited) (said : List Line)
-    → AreDeclared peers e → AllStand best e → AreBestRows peers best → ArePrintableExits peers e → TurnsExit j candidates best sent e e' said → PrintsOn peers e' said
+    → AreDeclared peers e → AllStand best e → AreBestRows peers best → ArePrintableExits peers e
+    → TurnsExit j candidates best sent e e' said → PrintsOn peers e' said
 
 -- so it is with new rules,
 abbrev pub EditIsPrinted : Type 0
-EditIsPrinted = (peers : ℕ → Option Neighbour) (j : ℕ) (rules : List Rule) (e e' : Exited) → ArePrintableExits peers e → EditsExit j rules e e' → ArePrintableExits peers e'
+EditIsPrinted =
+    (peers : ℕ → Option Neighbour) (j : ℕ) (rules : List Rule) (e e' : Exited) → ArePrintableExits peers e → EditsExit j rules e e'
+    → ArePrintableExits peers e'
 
 -- with a change of such rows that joins the queue,
 abbrev pub PutIsPrinted : Type 0
-PutIsPrinted = (peers : ℕ → Option Neighbour) (change : Change Route) (e e' : Exited) → IsBestChange peers change → ArePrintableExits peers e → PutsExit change e e' → ArePrintableExits peers e'
+PutIsPrinted =
+    (peers : ℕ → Option Neighbour) (change : Change Route) (e e' : Exited) → IsBestChange peers change → ArePrintableExits peers e
+    → PutsExit change e e' → ArePrintableExits peers e'
 
 -- with a reader that is no peer's, who joins, or takes a change, whose entry can be printed,
 abbrev pub JoinIsPrinted : Type 0
-JoinIsPrinted = (peers : ℕ → Option Neighbour) (reader : ℕ) (e : Exited) → ArePrintableExits peers e → ArePrintableExits peers (with_queue (tables.insert e.queue reader []) e)
+JoinIsPrinted =
+    (peers : ℕ → Option Neighbour) (reader : ℕ) (e : Exited) → ArePrintableExits peers e
+    → ArePrintableExits peers (with_queue (tables.insert e.queue reader []) e)
 
 abbrev pub TakeIsPrinted : Type 0
 TakeIsPrinted =
-    (peers : ℕ → Option Neighbour) (link : Link) (reader : ℕ) (change : Change Route) (e : Exited) (queue : Queued Route) → IsNamed link → ArePrintableExits peers e
+    (peers : ℕ → Option Neighbour) (link : Link) (reader : ℕ) (change : Change Route) (e : Exited) (queue : Queued Route) → IsNamed link
+    → ArePrintableExits peers e
     → Takes e.queue queue reader (Some change) → PrintsOn peers (with_queue queue e) (entry_lines (valued_change route_value link change))
 
 -- and where more peers were declared since.
 abbrev pub PrintingStays : Type 0
-PrintingStays = (before now : Declaration) (e : Exited) → KeepsPeers before now → ArePrintableExits (neighbours before) e → ArePrintableExits (neighbours now) e
+PrintingStays =
+    (before now : Declaration) (e : Exited) → KeepsPeers before now → ArePrintableExits (neighbours before) e
+    → ArePrintableExits (neighbours now) e
