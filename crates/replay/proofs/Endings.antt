@@ -4,6 +4,7 @@ use Rattle.std.proofs.lemmas.List.{append-nil}
 use Rattle.std.proofs.Math.Seq.{take-append_seam, take-length}
 use Rattle.std.specs.Io.KnownBytes.{Appends, Consumes, IsAtEnd, Keeps}
 use Rattle.replay.proofs.FirstLinks.{none_at_first}
+use Rattle.replay.proofs.HeardLemmas.{nobody_hears, nothing_sent}
 use Rattle.replay.specs.declared.words.Command.{Command}
 use Rattle.replay.specs.declared.words.Command.TheVariants.{Run, Check}
 use Rattle.replay.specs.Answers.{HasFirst}
@@ -39,7 +40,7 @@ stepped_front quiet read number m pending output s more =
     let front : take (length (lines_in s.done)) (lines_of (read ++ more)) ≡ lines_in s.done = ap (take (length (lines_in s.done))) (lines_behind read s.done pending more s.cut) ∙ take-append_seam (lines_in s.done) (lines_of (pending ++ more)) in
     record {
       count = length (lines_in s.done);
-      output = subst (λ (ls : List (List ℕ)). IsOutput quiet ls output) (sym front) (record { out = s.out; end = m; run = s.run; lawful = s.lawful; stands = s.stands; text = s.written });
+      output = subst (λ (ls : List (List ℕ)). IsOutput quiet ls output) (sym front) (record { out = s.out; end = m; run = s.run; lawful = s.lawful; heard = s.heard; sent = s.sent; stands = s.stands; text = s.written });
     }
 
 -- no memory for a piece that was read
@@ -59,7 +60,7 @@ took_ended quiet left0 left now taken0 taken number m pending short p same = (
   record {
     lines = lines_in p.stepped.done;
     ended = record { done = p.stepped.done; pending = pending; cut = p.stepped.cut; short = short; same = refl };
-    output = record { out = p.stepped.out; end = m; run = p.stepped.run; lawful = p.stepped.lawful; stands = p.stepped.stands; text = p.stepped.written };
+    output = record { out = p.stepped.out; end = m; run = p.stepped.run; lawful = p.stepped.lawful; heard = p.stepped.heard; sent = p.stepped.sent; stands = p.stepped.stands; text = p.stepped.written };
   },
 )
 
@@ -158,6 +159,8 @@ first_output stands quiet text = record {
     end = first_moment;
     run = (refl, refl);
     lawful = record { lawful = tt; ends = none_at_first };
+    heard = nobody_hears;
+    sent = nothing_sent;
     stands = stands;
     text = refl;
   };

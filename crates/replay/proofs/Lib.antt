@@ -7,4 +7,5 @@ pub mod GoingOn
 pub mod Endings
 pub mod WordLemmas
 mod SettledLinks
+pub mod HeardLemmas
 pub mod Checked

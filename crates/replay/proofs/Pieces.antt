@@ -16,6 +16,7 @@ use Rattle.event_text.specs.Declarations.{no_declaration}
 use Rattle.router_core.specs.Moments.{Moment, first_moment, router_links}
 use Rattle.router_core.specs.Stands.{Stands}
 use Rattle.replay.proofs.FirstLinks.{none_at_first}
+use Rattle.replay.proofs.HeardLemmas.{nobody_hears, nothing_sent}
 use Rattle.replay.specs.Judging.{judge, verdict_from}
 use Rattle.check_run.specs.Lines.{IsPart, lines_of, lines_in}
 use Rattle.replay.specs.Output.{Run, IsOutput, IsRefusedOutput}
@@ -35,6 +36,8 @@ stepped_nothing quiet stands = record {
   out = [];
   run = (refl, refl);
   lawful = record { lawful = tt; ends = none_at_first };
+  heard = nobody_hears;
+  sent = nothing_sent;
   written = refl;
 }
 
@@ -48,6 +51,8 @@ stepped_part quiet read n m pending output part other s = record {
   out = s.out;
   run = s.run;
   lawful = s.lawful;
+  heard = s.heard;
+  sent = s.sent;
   written = s.written;
 }
 
@@ -75,6 +80,8 @@ stepped_line quiet read taken n m new pending before now s l = record {
   out = s.out ++ l.said;
   run = subst (λ (ls : List (List ℕ)). Run 1 first_moment ls (s.out ++ l.said) new) (sym (map-append strip_carriage_return s.done (pending ∷ []))) (run_line quiet n m new s.done s.out (strip_carriage_return pending) before now s.count s.run l);
   lawful = lawful_more s.out l.said m new (l.leads (entries_of s.out) s.lawful);
+  heard = l.hears s.out s.heard;
+  sent = l.step.sent;
   written = written_more quiet s.out l.said taken before now s.written l.written;
 }
 
@@ -88,7 +95,7 @@ refused_next quiet text read taken n m pending before now line more code s lines
       code = code;
       refused = ap (verdict_from 1 no_declaration) lines ∙ verdict_behind 1 n first_moment m (lines_in s.done) s.out line more code (omega (arith, s.count, length-map s.done strip_carriage_return)) s.run refused;
       earlier = taken ++ before;
-      output = subst (λ (ls : List (List ℕ)). IsOutput quiet ls (taken ++ before)) (sym front) (record { out = s.out; end = m; run = s.run; lawful = s.lawful; stands = s.stands; text = s.written });
+      output = subst (λ (ls : List (List ℕ)). IsOutput quiet ls (taken ++ before)) (sym front) (record { out = s.out; end = m; run = s.run; lawful = s.lawful; heard = s.heard; sent = s.sent; stands = s.stands; text = s.written });
       written = ap (λ t. taken ++ t) written ∙ sym (append_assoc taken before (line_text (Refused n code)));
     }
 
@@ -110,7 +117,7 @@ refused_long quiet read taken n m pending before now part other long was e = λ 
 -- the input ends with a whole line
 pub ends_clean : (quiet : Bool) (read : List ℕ) (n : ℕ) (m : Moment) (pending output : List ℕ) → length pending ≡ 0 → HasStepped quiet read n m pending output → IsOutput quiet (lines_of read) output
 ends_clean quiet read n m pending output none s =
-    record { out = s.out; end = m; run = subst (λ (ls : List (List ℕ)). Run 1 first_moment ls s.out m) (sym (all_ended read s.done pending none s.cut)) s.run; lawful = s.lawful; stands = s.stands; text = s.written }
+    record { out = s.out; end = m; run = subst (λ (ls : List (List ℕ)). Run 1 first_moment ls s.out m) (sym (all_ended read s.done pending none s.cut)) s.run; lawful = s.lawful; heard = s.heard; sent = s.sent; stands = s.stands; text = s.written }
 
 -- the last line has no LF, and is accepted
 pub ends_line : (quiet : Bool) (read taken : List ℕ) (n : ℕ) (m new : Moment) (pending before now : List ℕ) → 0 < length pending → HasStepped quiet read n m pending (taken ++ before) → StepsLine quiet n m pending before now new → IsOutput quiet (lines_of read) (taken ++ now)
@@ -119,6 +126,8 @@ ends_line quiet read taken n m new pending before now some s l = record {
   end = new;
   run = subst (λ (ls : List (List ℕ)). Run 1 first_moment ls (s.out ++ l.said) new) (sym (pending_is_last read s.done pending some s.cut)) (run_line quiet n m new s.done s.out pending before now s.count s.run l);
   lawful = lawful_more s.out l.said m new (l.leads (entries_of s.out) s.lawful);
+  heard = l.hears s.out s.heard;
+  sent = l.step.sent;
   stands = l.stands;
   text = written_more quiet s.out l.said taken before now s.written l.written;
 }

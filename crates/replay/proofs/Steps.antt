@@ -11,13 +11,15 @@ use Rattle.journal_text.specs.Texts.{line_text, shown, text_of, entries_of}
 use Rattle.journal_text.specs.Walk.{LeadsOn, no_links}
 use Rattle.event_text.specs.declared.event.Event.{Event}
 use Rattle.router_core.specs.Moments.{Moment, Gives, router_links}
-use Rattle.router_core.specs.Stands.{Stands}
+use Rattle.router_core.specs.Stands.{Stands, AllHaveExits}
 use Rattle.router_core.specs.Lives.{live_state}
 use Rattle.live_state.specs.Laws.{DeclarationsFollow}
 use Rattle.router_core.specs.Scratch.{IsExactAtRest}
 use Rattle.router_core.specs.Blocks.{Acts}
 use Rattle.replay.specs.Judging.{judge}
+use Rattle.exit_laws.specs.Laws.{HearingJoins, HearingStays, HeardIsSent}
 use Rattle.replay.proofs.SettledLinks.{idle_exact}
+use Rattle.replay.proofs.HeardLemmas.{are_sent, are_best, hears_on}
 use Rattle.replay.specs.Stream.{StepsLine, made}
 
 -- a journal with more lines
@@ -38,8 +40,9 @@ pub made_refused : (j : Journaled) (n : ℕ) (code : Code) → made (with_lines 
 made_refused j n code = made_more j (Refused n code ∷ []) ∙ ap (λ t. made j ++ t) (refused_text j.quiet n code)
 
 -- a line's event was stepped
-pub steps_line : (n : ℕ) (old new : Moment) (line : List ℕ) (event : Event) (turns : ℕ) (before now : Journaled) → judge n old.declared line ≡ Ok event → Gives (Acts old event turns new) before now → Stands new → IsExactAtRest new → DeclarationsFollow → LeadsOn Value → StepsLine before.quiet n old line (made before) (made now) new
-steps_line n old new line event turns before now accepted gives stands rest follow join = record {
+pub steps_line : (n : ℕ) (old new : Moment) (line : List ℕ) (event : Event) (turns : ℕ) (before now : Journaled) → judge n old.declared line ≡ Ok event → Gives (Acts old event turns new) before now → Stands new → AllHaveExits new → IsExactAtRest new → DeclarationsFollow → LeadsOn Value
+    → HearingJoins → HearingStays → HeardIsSent → StepsLine before.quiet n old line (made before) (made now) new
+steps_line n old new line event turns before now accepted gives stands exits rest follow join joins stays law = record {
   said = gives.0;
   step = record {
     event = event;
@@ -49,8 +52,11 @@ steps_line n old new line event turns before now accepted gives stands rest foll
     declared = follow (live_state old) event (live_state new) gives.2.live;
     rest = rest;
     idle = idle_exact old event gives.0 turns new gives.2.block;
+    sent = are_sent law new stands exits;
+    best = λ is. are_best new (are_sent law new stands exits) (idle_exact old event gives.0 turns new gives.2.block is);
   };
   leads = λ earlier lawful. join no_links (router_links old) (router_links new) earlier (entries_of gives.0) lawful gives.2.leads;
+  hears = λ earlier before. hears_on joins stays old new earlier gives.0 gives.2.peers gives.2.heard before;
   stands = stands;
   written = ap made gives.1 ∙ (made_flushed (with_lines before gives.0) ∙ made_more before gives.0);
 }

@@ -1,4 +1,5 @@
 pub mod Judging
+pub mod Heard
 pub mod Output
 pub mod Stream
 pub mod Streams

@@ -12,7 +12,10 @@ use Rattle.router_core.specs.Stands.{Stands}
 use Rattle.live_state.specs.Declared.{declared_after}
 use Rattle.router_core.specs.Scratch.{IsExact, IsExactAtRest}
 use Rattle.router_core.specs.Blocks.{Acts}
+use Rattle.exit_laws.specs.Views.{views_of}
+use Rattle.router_core.specs.Lives.{live_state}
 use Rattle.replay.specs.Judging.{judge, verdict}
+use Rattle.replay.specs.Heard.{AreHeard, AreSent, AreBest}
 use Rattle.check_run.specs.Lines.{AreEnded, lines_of}
 
 -- Line n is accepted, and its event acts as it is defined to: this is said, and leads from one moment to the next.
@@ -25,6 +28,9 @@ pub record Step (n : ℕ) (m : Moment) (line : List ℕ) (said : List Line) (nex
   -- each link that no work holds up is what the live state alone asks for, and after an idle every link is
   pub rest : IsExactAtRest next
   pub idle : event ≡ Idle → IsExact next
+  -- what each peer has heard are the rows of its `adv.J.S`, and after an idle what the live state alone asks for
+  pub sent : AreSent next (views_of next.exits)
+  pub best : event ≡ Idle → AreBest (live_state next) (views_of next.exits)
 
 -- Lines from number n on are accepted and stepped, and this is said, from one moment to another.
 abbrev pub Run : ℕ → Moment → List (List ℕ) → List Line → Moment → Type 0
@@ -32,12 +38,15 @@ Run n m [] out end = (out ≡ []) × (end ≡ m)
 Run n m (line ∷ lines) out end = (said rest : List Line) × (next : Moment) × Step n m line said next × (out ≡ said ++ rest) × Run (n + 1) next lines rest end
 
 -- An allowed output for lines that are all accepted. Its whole journal obeys the rules, from no link at all to the links at
--- the end. Where the output is quiet, the journal's lines aren't printed.
+-- the end. What each peer hears in it, by the octets that it is sent, are at the end the rows of its `adv.J.S`. Where the output is
+-- quiet, the journal's lines aren't printed.
 pub record IsOutput (quiet : Bool) (lines : List (List ℕ)) (bytes : List ℕ) : Type 0 where
   pub out : List Line
   pub end : Moment
   pub run : Run 1 first_moment lines out end
   pub lawful : Leads no_links (entries_of out) (router_links end)
+  pub heard : AreHeard out end
+  pub sent : AreSent end (views_of end.exits)
   pub stands : Stands end
   pub text : bytes ≡ text_of quiet out
 

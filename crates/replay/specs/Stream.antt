@@ -10,7 +10,9 @@ use Rattle.journal_text.specs.Texts.{line_text, text_of, entries_of}
 use Rattle.journal_text.specs.Walk.{Leads, no_links}
 use Rattle.router_core.specs.Moments.{Moment, Cored, first_moment, router_links}
 use Rattle.router_core.specs.Stands.{Stands, CoreStands}
+use Rattle.exit_laws.specs.Views.{views_of}
 use Rattle.replay.specs.Judging.{judge}
+use Rattle.replay.specs.Heard.{AreHeard, AreSent}
 use Rattle.check_run.specs.Lines.{IsCut, lines_in}
 use Rattle.replay.specs.Output.{Step, Run, IsRefusedOutput, IsFrontOfOutput}
 
@@ -34,6 +36,8 @@ pub record HasStepped (quiet : Bool) (read : List ℕ) (number : ℕ) (m : Momen
   pub out : List Line
   pub run : Run 1 first_moment (lines_in done) out m
   pub lawful : Leads no_links (entries_of out) (router_links m)
+  pub heard : AreHeard out m
+  pub sent : AreSent m (views_of m.exits)
   pub written : output ≡ text_of quiet out
 
 -- However the text goes on, a line of it is refused, with this output.
@@ -44,11 +48,13 @@ IsRefusedAt quiet read output = (more : List ℕ) → IsRefusedOutput quiet (rea
 abbrev pub IsFrontAt : Bool → List ℕ → List ℕ → Type 0
 IsFrontAt quiet read output = (more : List ℕ) → IsFrontOfOutput quiet (read ++ more) output
 
--- Line n was accepted and stepped, and what it says was written. A lawful journal before it is one with its entries, too.
+-- Line n was accepted and stepped, and what it says was written. A lawful journal before it is one with its entries, too, and what peers
+-- heard before it leads on with its lines.
 pub record StepsLine (quiet : Bool) (n : ℕ) (old : Moment) (line before now : List ℕ) (new : Moment) : Type 0 where
   pub said : List Line
   pub step : Step n old line said new
   pub leads : (earlier : List (Entry Value)) → Leads no_links earlier (router_links old) → Leads no_links (earlier ++ entries_of said) (router_links new)
+  pub hears : (earlier : List Line) → AreHeard earlier old → AreHeard (earlier ++ said) new
   pub stands : Stands new
   pub written : now ≡ before ++ text_of quiet said
 

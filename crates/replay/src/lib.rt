@@ -8,7 +8,8 @@
 //! Whatever the source gives, and however it cuts its bytes, the output is an allowed one for the whole lines that were
 //! read: the journal in it obeys the rules of consistency on every link, the live state is what the events alone make of
 //! it, and after each `idle`, within the number of turns that it announced, no work is left and each link is what is decided
-//! from scratch over the live state.
+//! from scratch over the live state. What each peer hears in it, by reading the octets that it is sent, is at every moment what
+//! stands on its link `adv.J.S`.
 #![tactic(auto)]
 
 mod commands;

@@ -7,6 +7,7 @@ ghost use Rattle.replay.specs.Stream.{IsReady, StepsLine, RefusesLine, made};
 
 use addr4::Memory;
 use event_text::{Event, admit, parse};
+use exit_laws::{steps_are_heard, what_is_heard};
 use journal_text::{Code, Journal, Line, Value, journals_join};
 use live_state::declarations_follow;
 use router_core::Core;
@@ -59,6 +60,8 @@ pub fn step_line(
             core.step(event, journal)?;
             declarations_follow();
             journals_join::<Value>();
+            what_is_heard();
+            steps_are_heard();
             Ok(true)
         }
         Err(code) => {

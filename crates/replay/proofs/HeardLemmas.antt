@@ -1,0 +1,120 @@
+-- What peers have heard are the rows of their links, at first, after each step, and after an idle.
+use Rattle.std.proofs.Common.{◌≡◌, ℕ, ◌&&◌, Bool, true, false, cond, nat_eq, List, [], ◌++◌, Option, Some, None, is_some, refl, sym, ap, subst, ◌∙◌, arith}
+use Rattle.std.specs.Prelude.{IsSome, option_map}
+use Rattle.std.specs.FinMap as tables
+use Rattle.std.specs.FinMap.{get-empty}
+use Rattle.std.specs.Ordering.{nat_cmp}
+use Rattle.std.proofs.lemmas.Bool.Decides.{nat_tests}
+use Rattle.addr4.specs.Prefixes.{Network}
+use Rattle.bgp_attr.specs.declared.attrs.Attrs.{Attrs}
+use Rattle.bgp_attr.specs.declared.speaker.Speaker.{Speaker}
+use Rattle.bgp_attr.specs.declared.speaker.Neighbour.{Neighbour}
+use Rattle.link_change.specs.Rows.{Rows}
+use Rattle.link_change.proofs.RowLemmas.{same_function}
+use Rattle.journal_text.specs.declared.line.Line.{Line}
+use Rattle.journal_text.specs.declared.link.Link.TheVariants.{Adv}
+use Rattle.journal_text.specs.declared.value.Value.{Value}
+use Rattle.journal_text.specs.Values.{attrs_value, attrs_rows}
+use Rattle.event_text.specs.declared.event.Event.{Event}
+use Rattle.event_text.specs.declared.event.Event.TheVariants.{Idle}
+use Rattle.event_text.specs.declared.declared.DeclaredPeer.{DeclaredPeer}
+use Rattle.event_text.specs.Declarations.{peer_at}
+use Rattle.journal_laws.specs.Peers.{neighbours, KeepsPeers}
+use Rattle.live_state.specs.Decided.{sent_rows, in_session, best_of, from_scratch}
+use Rattle.live_state.specs.Heard.{no_views, Hears}
+use Rattle.out_chain.specs.Chains.{OutChained}
+use Rattle.exit_side.specs.Exits.{no_exits, chain_at as exit_at}
+use Rattle.exit_laws.specs.Views.{sent_by, views_of}
+use Rattle.exit_laws.specs.Laws.{HearingJoins, HearingStays, HeardIsSent}
+use Rattle.router_core.specs.Bests.{best_at}
+use Rattle.router_core.specs.Moments.{Moment, Policies, first_moment, router_links, rules_to}
+use Rattle.router_core.specs.Peers.{is_up}
+use Rattle.router_core.specs.Stands.{Stands, IsExitOf, ExitsAt, AllHaveExits}
+use Rattle.router_core.specs.Stands.Claim.{EachExit, SameSessions}
+use Rattle.router_core.specs.Lives.{live_state}
+use Rattle.router_core.specs.Scratch.{IsExact}
+use Rattle.replay.specs.Heard.{AreHeard, AreSent, AreBest}
+
+-- ---- at first
+no_view : (j : ℕ) → views_of first_moment.exits j ≡ tables.empty
+no_view j = ap sent_by (get-empty nat_cmp j)
+
+pub nobody_hears : AreHeard [] first_moment
+nobody_hears = same_function _ _ no_view
+
+pub nothing_sent : AreSent first_moment (views_of first_moment.exits)
+nothing_sent = record {
+  up = λ j p there up. absurd (let clash : ◌≡◌ {A = Option DeclaredPeer} None (Some p) = there in cc);
+  down = λ j down. no_view j;
+}
+
+-- ---- at any moment
+-- whose session an exit is
+exit_of : (s : Option Speaker) (policies : Policies) (j : ℕ) (o : Option DeclaredPeer) (c : OutChained) → ExitsAt s policies j o (Some c) → (p : DeclaredPeer) × (o ≡ Some p) × (p.up ≡ true) × (c.session ≡ p.session)
+exit_of None policies j o c is = absurd is
+exit_of (Some me) policies j None c is = absurd is
+exit_of (Some me) policies j (Some p) c is = (p, refl, is.up, is.session)
+
+module _ (law : HeardIsSent) (m : Moment) (stands : Stands m) (all : AllHaveExits m) where
+  of_exit : (j : ℕ) (c : OutChained) → exit_at j m.exits ≡ Some c → (p : DeclaredPeer) × (peer_at j m.declared.peers ≡ Some p) × (p.up ≡ true) × (c.session ≡ p.session)
+  of_exit j c at = exit_of m.declared.speaker m.outgoing j (peer_at j m.declared.peers) c (subst (ExitsAt m.declared.speaker m.outgoing j (peer_at j m.declared.peers)) at (stands.own SameSessions j))
+
+  there_is : (o : Option OutChained) → IsSome o → (c : OutChained) × (o ≡ Some c)
+  there_is None is = absurd (let clash : false ≡ true = is in cc)
+  there_is (Some c) is = (c, refl)
+
+  sent_up : (j : ℕ) (p : DeclaredPeer) → peer_at j m.declared.peers ≡ Some p → p.up ≡ true → router_links m (Adv j p.session) ≡ Some (attrs_rows (tables.get (views_of m.exits j)))
+  sent_up j p there up =
+      let chain = there_is (exit_at j m.exits) (all j p there up) in
+      let own = of_exit j chain.0 chain.1 in
+      let same : own.0 ≡ p = (let e : Some own.0 ≡ Some p = sym own.1 ∙ there in cc) in
+      let session : chain.0.session ≡ p.session = own.3 ∙ ap (λ (q : DeclaredPeer). q.session) same in
+      subst (λ (s : ℕ). router_links m (Adv j s) ≡ Some (attrs_rows (tables.get (views_of m.exits j)))) session
+      (law m.exits (best_at m.chains m.hops) j chain.0 (stands.own EachExit) chain.1)
+
+  sent_down : (j : ℕ) → is_up (peer_at j m.declared.peers) ≡ false → views_of m.exits j ≡ tables.empty
+  sent_down j down = by_chain (exit_at j m.exits) refl
+    where
+      by_chain : (o : Option OutChained) → exit_at j m.exits ≡ o → sent_by o ≡ tables.empty
+      by_chain None at = refl
+      by_chain (Some c) at =
+          let own = of_exit j c at in
+          absurd (let up : is_up (peer_at j m.declared.peers) ≡ true = ap is_up own.1 ∙ own.2 in let clash : true ≡ false = sym up ∙ down in cc)
+
+  pub are_sent : AreSent m (views_of m.exits)
+  are_sent = record { up = sent_up; down = sent_down }
+
+-- ---- after an idle
+same_attrs : (a b : Option Attrs) → option_map attrs_value a ≡ option_map attrs_value b → a ≡ b
+same_attrs None None e = refl
+same_attrs None (Some b) e = absurd (let clash : ◌≡◌ {A = Option Value} None (Some (attrs_value b)) = e in cc)
+same_attrs (Some a) None e = absurd (let clash : ◌≡◌ {A = Option Value} (Some (attrs_value a)) None = e in cc)
+same_attrs (Some a) (Some b) e = cc
+
+same_rows : (a b : Rows Attrs) → ◌≡◌ {A = Option (Rows Value)} (Some (attrs_rows a)) (Some (attrs_rows b)) → a ≡ b
+same_rows a b e = same_function _ _ (λ p. same_attrs (a p) (b p) (let rows : attrs_rows a ≡ attrs_rows b = cc in ap (λ (r : Rows Value). r p) rows))
+
+-- what is decided from scratch, where the session is up
+from_there : (m : Moment) (me : Speaker) (j : ℕ) (p : DeclaredPeer) → m.declared.speaker ≡ Some me → peer_at j m.declared.peers ≡ Some p → p.up ≡ true
+    → from_scratch (live_state m) (Adv j p.session) ≡ Some (attrs_rows (sent_rows me p.words (rules_to j m.outgoing) (best_of (live_state m))))
+from_there m me j p local there up =
+    let make = λ (s : Speaker) (w : Neighbour). sent_rows s w (rules_to j m.outgoing) (best_of (live_state m)) in
+    let rows = make me p.words in
+    let tests : (p.up && nat_eq p.session p.session) ≡ true = (let same : nat_eq p.session p.session ≡ true = grind (arith, nat_tests) in ap (λ (b : Bool). b && nat_eq p.session p.session) up ∙ same) in
+    ap (λ (s : Option Speaker). option_map attrs_rows (in_session s (peer_at j m.declared.peers) p.session make)) local
+    ∙ ap (λ (o : Option DeclaredPeer). option_map attrs_rows (in_session (Some me) o p.session make)) there
+    ∙ ap (λ (b : Bool). option_map attrs_rows (cond b (Some rows) None)) tests
+
+pub are_best : (m : Moment) → AreSent m (views_of m.exits) → IsExact m → AreBest (live_state m) (views_of m.exits)
+are_best m sent exact me j p local there up =
+    let rows = sent_rows me p.words (rules_to j m.outgoing) (best_of (live_state m)) in
+    let scratch : from_scratch (live_state m) (Adv j p.session) ≡ Some (attrs_rows rows) = from_there m me j p local there up in
+    same_rows (tables.get (views_of m.exits j)) rows (sym (sent.up j p there up) ∙ exact (Adv j p.session) ∙ scratch)
+
+-- ---- one line after the other
+pub hears_on : HearingJoins → HearingStays → (old new : Moment) (earlier said : List Line) → KeepsPeers old.declared new.declared
+    → Hears (neighbours old.declared) (views_of old.exits) said (views_of new.exits) → AreHeard earlier old → AreHeard (earlier ++ said) new
+hears_on joins stays old new earlier said keeps heard before =
+    joins (neighbours new.declared) no_views (views_of old.exits) (views_of new.exits) earlier said
+    (stays old.declared new.declared no_views (views_of old.exits) earlier keeps before)
+    (stays old.declared new.declared (views_of old.exits) (views_of new.exits) said keeps heard)
