@@ -1,6 +1,6 @@
 -- The lines of a turn can be printed: what is sent is the form of a row that can be, and its octets are octets.
-use Rattle.std.proofs.Common.{◌≡◌, ◌≢◌, ℕ, ◌+◌, ◌^◌, ◌<◌, ◌≤◌, Bool, true, false, not, cond, List, [], ◌∷◌, ◌++◌, length, Option, Some, None, IfSome, inl, inr, refl, sym, ap, subst, ◌∙◌, arith}
-use Rattle.std.specs.Prelude.{option_map, map, nat_le, All}
+use Rattle.std.proofs.Common.{◌≡◌, ◌≢◌, ℕ, ◌+◌, ◌^◌, ◌<◌, Bool, true, false, cond, List, [], ◌∷◌, ◌++◌, Option, Some, None, IfSome, inl, inr, refl, sym, ap, subst, ◌∙◌}
+use Rattle.std.specs.Prelude.{option_map, nat_le, All}
 use Rattle.std.specs.Option.{ForSome}
 use Rattle.std.specs.List.{AllByRecursion}
 use Rattle.std.specs.FinMap as tables
@@ -11,7 +11,6 @@ use Rattle.bgp_attr.specs.declared.path.Segment.{Segment}
 use Rattle.bgp_attr.specs.declared.unrecognized.Unrecognized.{Unrecognized}
 use Rattle.bgp_attr.specs.declared.route.Route.{Route}
 use Rattle.bgp_attr.specs.declared.speaker.Profile.{Profile}
-use Rattle.bgp_attr.specs.declared.speaker.Speaker.{Speaker}
 use Rattle.bgp_attr.specs.declared.speaker.Neighbour.{Neighbour}
 use Rattle.bgp_wire.specs.Lengths.{announcement_length}
 use Rattle.bgp_wire.specs.Paths.{width_of}
@@ -27,10 +26,10 @@ use Rattle.policy_rules.specs.Judged.{KeepsSource}
 use Rattle.policy_rules.specs.Verdicts.{judged_by}
 use Rattle.policy_rules.proofs.KeptLemmas.{judged_keeps}
 use Rattle.policy_rules.proofs.VerdictLemmas.{answer_is_judged}
-use Rattle.pass_core.specs.Passed.{Passed, function_at}
+use Rattle.pass_core.specs.Passed.{function_at}
 use Rattle.pass_core.specs.Turns.{passed_rows, IsSentAt}
 use Rattle.filter_bank.specs.Outgoing.{Form, may_go, first_out, let_by, formed, outgoing}
-use Rattle.fanout_queue.specs.Queues.{Queued, Takes}
+use Rattle.fanout_queue.specs.Queues.{Queued}
 use Rattle.fanout_queue.specs.Readers.{unread_or_none, unread_by, read_rows}
 use Rattle.journal_check.proofs.InkLemmas.{all_append, all_mapped}
 use Rattle.journal_check.specs.Laws.{IsPrefix}
@@ -39,7 +38,7 @@ use Rattle.journal_text.specs.Values.{attrs_value, route_value, valued_change, s
 use Rattle.journal_text.specs.declared.entry.Entry.{Entry}
 use Rattle.journal_text.specs.declared.entry.Entry.TheVariants as entries
 use Rattle.journal_text.specs.declared.line.Line.{Line}
-use Rattle.journal_text.specs.declared.line.Line.TheVariants.{Out, Journal}
+use Rattle.journal_text.specs.declared.line.Line.TheVariants.{Journal}
 use Rattle.journal_text.specs.declared.link.Link.{Link}
 use Rattle.journal_text.specs.declared.link.Link.TheVariants.{Read, Outf, Adv, Best}
 use Rattle.journal_text.specs.declared.value.Value.{Value}
@@ -50,13 +49,13 @@ use Rattle.journal_laws.specs.Printed.{IsPrintable, IsPrinted}
 use Rattle.journal_laws.proofs.ReadAttrs.{read_printable}
 use Rattle.journal_laws.proofs.PrintedFalls.{changes_printed}
 use Rattle.journal_laws.proofs.PrintedLines.{plain_printed}
-use Rattle.peer_out.specs.Forms.{sent_form, as_sent}
+use Rattle.peer_out.specs.Forms.{sent_form}
 use Rattle.peer_out.specs.Remembered.{Exit}
 use Rattle.peer_out.specs.Changes.{saying, message_octets}
 use Rattle.out_chain.specs.Chains.{OutChained, IsOutChain, form_of, made_by, outf_rows, HasSent}
-use Rattle.out_chain.specs.Steps.{exit_to, new_out, start_entries, stop_entries, read_entries, sending_entries, message_lines, said_of, sent_after, ReadsFirst, WalksNext, TurnsOut, IsTold}
-use Rattle.exit_side.specs.Exits.{Exited, chain_at, with_queue, AllStand}
-use Rattle.exit_side.specs.Steps.{BeginsExit, EndsExit, TurnsExit}
+use Rattle.out_chain.specs.Steps.{exit_to, new_out, message_lines, said_of, sent_after, ReadsFirst, WalksNext, IsTold}
+use Rattle.exit_side.specs.Exits.{Exited, chain_at, AllStand}
+use Rattle.exit_side.specs.Steps.{TurnsExit}
 use Rattle.live_state.specs.Messages.{plain}
 use Rattle.exit_laws.specs.Views.{AreDeclared, entry_lines}
 use Rattle.exit_laws.specs.Printable.{IsPrintableBest, AreBestRows, IsBestChange, AreBestChanges, IsPrintableSent, IsPrintableExit, ArePrintableExits}

@@ -1,5 +1,5 @@
 -- Laws of what peers hear, and of the lines that the exits say.
-use Rattle.std.specs.Prelude.{◌≡◌, ℕ, ◌==◌, false, List, [], ◌++◌, Option, Some, None}
+use Rattle.std.specs.Prelude.{◌≡◌, ℕ, ◌==◌, false, List, [], ◌++◌, Option, Some}
 use Rattle.std.specs.List.{AllByRecursion}
 use Rattle.std.specs.FinMap as tables
 use Rattle.addr4.specs.Prefixes.{Network}
@@ -31,7 +31,7 @@ use Rattle.exit_side.specs.Steps.{BeginsExit, EndsExit, EditsExit, PutsExit, Tur
 use Rattle.live_state.specs.Lives.{with_routes}
 use Rattle.live_state.specs.Heard.{Views, Hears}
 use Rattle.exit_laws.specs.Views.{views_of, AreDeclared, AreUnheard, entry_lines}
-use Rattle.exit_laws.specs.Printable.{AreBestRows, IsBestChange, AreBestChanges, ArePrintableExits}
+use Rattle.exit_laws.specs.Printable.{AreBestRows, IsBestChange, ArePrintableExits}
 
 -- ---- the walk
 -- What is heard of some lines and then of others is heard of both, one after the other;
