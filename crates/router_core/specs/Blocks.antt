@@ -9,7 +9,7 @@ use Rattle.bgp_wire.specs.declared.message.Message.{Message}
 use Rattle.bgp_wire.specs.declared.message.Message.TheVariants as messages
 use Rattle.bgp_wire.specs.Spelling.{notification_octets}
 use Rattle.journal_text.specs.declared.link.Link.{Link}
-use Rattle.journal_text.specs.declared.link.Link.TheVariants.{In, Filt, Res, Org, Low, Dyn, Int, Best, Fib}
+use Rattle.journal_text.specs.declared.link.Link.TheVariants.{In, Filt, Res, Org, Low, Dyn, Int, Best, ReadRib, Fib}
 use Rattle.journal_text.specs.declared.link.Task.{Task}
 use Rattle.journal_text.specs.declared.value.Value.{Value}
 use Rattle.journal_text.specs.declared.entry.Entry.TheVariants as entries
@@ -18,7 +18,7 @@ use Rattle.journal_text.specs.declared.line.Line.TheVariants as lines
 use Rattle.journal_text.specs.Walk.{Leads}
 use Rattle.journal_text.specs.Texts.{entries_of}
 use Rattle.event_text.specs.declared.event.Event.{Event}
-use Rattle.event_text.specs.declared.event.Event.TheVariants.{Nothing, Local, Peer, Up, Down, Bgp, FilterIn, RouteAdd, RouteDel, Lose, Cover, Idle, Work, Ask, Show}
+use Rattle.event_text.specs.declared.event.Event.TheVariants.{Nothing, Local, Peer, Up, Down, Bgp, FilterIn, FilterOut, RouteAdd, RouteDel, Lose, Cover, Idle, Work, Ask, Show}
 use Rattle.event_text.specs.declared.declared.DeclaredPeer.{DeclaredPeer}
 use Rattle.policy_rules.specs.declared.rule.Rule.{Rule}
 use Rattle.event_text.specs.Declarations.{peer_at, words_of, with_speaker, with_peer, with_session, without_session}
@@ -36,7 +36,11 @@ use Rattle.hop_side.specs.Resolvers.{put_resolver}
 use Rattle.nexthop_resolver.specs.Resolving.{nothing_known}
 use Rattle.peer_side.specs.Peers.{Chains, chain_at, put_chain, overdue_at}
 use Rattle.peer_side.specs.Steps.{EditsInward, LosesInward}
-use Rattle.router_core.specs.Moments.{Moment, with_chains, with_tree, router_links, bound_of}
+use Rattle.out_chain.specs.Chains.{OutChained}
+use Rattle.exit_side.specs.Exits.{Exited, chain_at as exit_at, with_queue}
+use Rattle.exit_side.specs.Steps.{BeginsExit, EndsExit, EditsExit}
+use Rattle.live_state.specs.Heard.{Views, Hears as HearLines}
+use Rattle.router_core.specs.Moments.{Moment, with_chains, with_tree, with_exits, rules_to, router_links, bound_of}
 use Rattle.live_state.specs.Messages.{changes_of, Says}
 use Rattle.live_state.specs.Lives.{LiveAfter}
 use Rattle.router_core.specs.Lives.{live_state}
@@ -240,9 +244,18 @@ IsBlock m (Work task n) said turns m' = Works task n m said turns m'
 IsBlock m (Ask link p) said turns m' = Just (answer_lines link p (router_links m link)) m said turns m'
 IsBlock m (Show link) said turns m' = (turns ≡ 0) × (m' ≡ m) × Shows link (router_links m link) said
 
+-- what each peer in a session has heard is what it was sent
+abbrev pub HaveHeard : Views → Moment → Type 0
+HaveHeard v m = (j : ℕ) (c : OutChained) → exit_at j m.exits ≡ Some c → v j ≡ c.sent
+
+-- The octets of the lines, read as the peers read them, lead from such views to such.
+abbrev pub TellsPeers : Moment → List Line → Moment → Type 0
+TellsPeers m said m' = (v : Views) → HaveHeard v m → (v' : Views) × HearLines (λ k. peer_at k m.declared.peers) v said v' × HaveHeard v' m'
+
 -- An event was stepped: its lines are as its block says, its entries obey the rules of the journal and lead from the links
 -- before it to those after it, the live state is what the events alone make of it, and what holds between two steps holds. Each
--- line can be printed and read back, and the peers are known by their numbers then as before.
+-- line can be printed and read back, the peers are known by their numbers then as before, and what they reach by reading the octets of
+-- what they are sent is what stands on their links `adv.J.S`.
 pub record Acts (m : Moment) (event : Event) (turns : ℕ) (m' : Moment) (said : List Line) : Type 0 where
   pub block : IsBlock m event said turns m'
   pub leads : Leads (router_links m) (entries_of said) (router_links m')
@@ -250,3 +263,4 @@ pub record Acts (m : Moment) (event : Event) (turns : ℕ) (m' : Moment) (said :
   pub stands : Stands m'
   pub printed : ArePrinted m.declared said
   pub peers : KeepsPeers m.declared m'.declared
+  pub hears : TellsPeers m said m'
