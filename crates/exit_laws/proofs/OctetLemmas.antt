@@ -1,0 +1,178 @@
+-- The octets of an UPDATE of one prefix are octets.
+use Rattle.std.proofs.Common.{◌≡◌, ℕ, zero, suc, ◌+◌, ◌/◌, ◌^◌, ◌<◌, ◌≤◌, Bool, true, false, cond, nat_lt, nat_eq, List, [], ◌∷◌, ◌++◌, length, take, Option, Some, None, refl, arith}
+use Rattle.std.specs.Prelude.{replicate, map, filter, All}
+use Rattle.std.proofs.lemmas.Bool.Decides.{nat_tests}
+use Rattle.std.proofs.lemmas.Nat.{mod_below}
+use Rattle.std.specs.Int.{byte_at, bytes_high_first}
+use Rattle.std.specs.List.{AllByRecursion, list_all, flat_map}
+use mathlib.Core.Bool.{beq}
+use Rattle.addr4.specs.Prefixes.{Network}
+use Rattle.bgp_attr.specs.declared.attrs.Aggregator.{Aggregator}
+use Rattle.bgp_attr.specs.declared.attrs.Attrs.{Attrs}
+use Rattle.bgp_attr.specs.declared.attrs.Origin.{Origin}
+use Rattle.bgp_attr.specs.declared.attrs.Origin.TheVariants.{Igp, Egp, Incomplete}
+use Rattle.bgp_attr.specs.declared.path.Segment.{Segment}
+use Rattle.bgp_attr.specs.declared.path.SegmentKind.{SegmentKind}
+use Rattle.bgp_attr.specs.declared.path.SegmentKind.TheVariants.{Set, Sequence}
+use Rattle.bgp_attr.specs.declared.unrecognized.Unrecognized.{Unrecognized}
+use Rattle.bgp_wire.specs.Attributes.{Attribute}
+use Rattle.bgp_wire.specs.Paths.{width_of, code_of}
+use Rattle.bgp_wire.specs.Prefixes.{octets_for}
+use Rattle.bgp_wire.specs.Readable.{withdrawal, announcement}
+use Rattle.bgp_wire.specs.Routes.{code_of_origin}
+use Rattle.bgp_wire.specs.Spelling.{prefix_octets, segment_octets, path_octets, is_long, spelled_octets, spelled, optional, aggregator_value, aggregator_flags, comes_first, unrecognized_attributes, mandatory_attributes, further_attributes, sent_attributes, octets_of, attrs_octets, prefixes_octets, framed, fields_octets, update_octets}
+use Rattle.journal_check.proofs.InkLemmas.{all_append, all_flat}
+
+abbrev pub AreSmall : List ℕ → Type 0
+AreSmall octets = AllByRecursion (λ b. b < 2 ^ 8) octets
+
+-- as `bgp_wire` says it
+pub each_small : (octets : List ℕ) → AreSmall octets → All (λ b. b < 256) octets
+each_small [] small k d lt = absurd (omega arith)
+each_small (b ∷ octets) small zero d lt = let low = small.0 in omega (arith, low)
+each_small (b ∷ octets) small (suc k) d lt = each_small octets small.1 k d (omega arith)
+
+both : (xs ys : List ℕ) → AreSmall xs → AreSmall ys → AreSmall (xs ++ ys)
+both xs ys g h = all_append (λ b. b < 2 ^ 8) xs ys g h
+
+front : (n : ℕ) (xs : List ℕ) → AreSmall xs → AreSmall (take n xs)
+front zero xs small = tt
+front (suc n) [] small = tt
+front (suc n) (x ∷ xs) small = (small.0, front n xs small.1)
+
+low : (b : ℕ) → nat_lt b 256 ≡ true → b < 2 ^ 8
+low b e = grind (arith, nat_tests)
+
+ones : (n : ℕ) → AreSmall (replicate n 255)
+ones zero = tt
+ones (suc n) = (omega arith, ones n)
+
+octet : (k n : ℕ) → byte_at k n < 2 ^ 8
+octet zero n = let small = mod_below n 256 (omega arith) in omega arith
+octet (suc k) n = let small = mod_below (n / 256 ^ suc k) 256 (omega arith) in omega arith
+
+number : (k n : ℕ) → AreSmall (bytes_high_first k n)
+number zero n = tt
+number (suc k) n = (octet k n, number k n)
+
+numbers : (width : ℕ) (ns : List ℕ) → AreSmall (flat_map (bytes_high_first width) ns)
+numbers width [] = tt
+numbers width (n ∷ ns) = both (bytes_high_first width n) (flat_map (bytes_high_first width) ns) (number width n) (numbers width ns)
+
+-- ---- the parts of a message
+prefix : (p : Network) → p.length ≤ 32 → AreSmall (prefix_octets p)
+prefix p few = (omega (arith, few), front (octets_for p.length) (bytes_high_first 4 p.address) (number 4 p.address))
+
+one_prefix : (p : Network) → p.length ≤ 32 → AreSmall (prefixes_octets (p ∷ []))
+one_prefix p few = both (prefix_octets p) [] (prefix p few) tt
+
+kind_small : (kind : SegmentKind) → code_of kind < 2 ^ 8
+kind_small Set = omega arith
+kind_small Sequence = omega arith
+
+segment : (width : ℕ) (s : Segment) → length s.numbers ≤ 255 → AreSmall (segment_octets width s)
+segment width s few = (kind_small s.kind, (omega (arith, few), numbers width s.numbers))
+
+abbrev pub HasFewNumbers : Segment → Type 0
+HasFewNumbers s = length s.numbers ≤ 255
+
+path : (width : ℕ) (ss : List Segment) → AllByRecursion HasFewNumbers ss → AreSmall (path_octets width ss)
+path width ss few = all_flat HasFewNumbers (λ b. b < 2 ^ 8) (segment_octets width) (segment width) ss few
+
+short : (n : ℕ) → nat_lt 255 n ≡ false → n < 2 ^ 8
+short n e = grind (arith, nat_tests)
+
+spelled_small : (flags kind : ℕ) (value : List ℕ) → flags < 240 → kind < 2 ^ 8 → AreSmall value → AreSmall (spelled flags kind value).octets
+spelled_small flags kind value high small each = by_length (is_long value) refl
+  where
+    by_length : (long : Bool) → is_long value ≡ long → AreSmall (spelled_octets long flags kind value)
+    by_length false e = (omega (arith, high), (small, (short (length value) e, each)))
+    by_length true e = (omega (arith, high), (small, both (bytes_high_first 2 (length value)) value (number 2 (length value)) each))
+
+-- ---- attributes
+abbrev pub IsSmall : Attribute → Type 0
+IsSmall a = AreSmall a.octets
+
+origin : (o : Origin) → code_of_origin o < 2 ^ 8
+origin Igp = omega arith
+origin Egp = omega arith
+origin Incomplete = omega arith
+
+mandatory : (as4 : Bool) (a : Attrs) → AllByRecursion HasFewNumbers a.path → AllByRecursion IsSmall (mandatory_attributes as4 a)
+mandatory as4 a few = (
+  spelled_small 64 1 (code_of_origin a.origin ∷ []) (omega arith) (omega arith) (origin a.origin, tt),
+  (spelled_small 64 2 (path_octets (width_of as4) a.path) (omega arith) (omega arith) (path (width_of as4) a.path few),
+  (spelled_small 64 3 (bytes_high_first 4 a.next_hop) (omega arith) (omega arith) (number 4 a.next_hop), tt)),
+)
+
+optional_small : {A : Type 0} (f : A → Attribute) (o : Option A) → ((x : A) → IsSmall (f x)) → AllByRecursion IsSmall (optional f o)
+optional_small f None each = tt
+optional_small f (Some x) each = (each x, tt)
+
+flags_low : (partial : Bool) → aggregator_flags partial < 240
+flags_low true = omega arith
+flags_low false = omega arith
+
+atomic_small : (atomic : Bool) → AllByRecursion IsSmall (cond atomic (spelled 64 6 [] ∷ []) [])
+atomic_small true = (spelled_small 64 6 [] (omega arith) (omega arith) tt, tt)
+atomic_small false = tt
+
+further : (as4 : Bool) (a : Attrs) → AllByRecursion IsSmall (further_attributes as4 a)
+further as4 a =
+    let med = optional (λ n. spelled 128 4 (bytes_high_first 4 n)) a.med in
+    let pref = optional (λ n. spelled 64 5 (bytes_high_first 4 n)) a.local_pref in
+    let atomic : List Attribute = cond a.atomic (spelled 64 6 [] ∷ []) [] in
+    let aggregator = optional (λ (g : Aggregator). spelled (aggregator_flags g.partial) 7 (aggregator_value as4 g)) a.aggregator in
+    all_append IsSmall ((med ++ pref) ++ atomic) aggregator
+    (all_append IsSmall (med ++ pref) atomic
+    (all_append IsSmall med pref (optional_small _ a.med (λ n. spelled_small 128 4 (bytes_high_first 4 n) (omega arith) (omega arith) (number 4 n)))
+    (optional_small _ a.local_pref (λ n. spelled_small 64 5 (bytes_high_first 4 n) (omega arith) (omega arith) (number 4 n))))
+    (atomic_small a.atomic))
+    (optional_small _ a.aggregator (λ (g : Aggregator). spelled_small (aggregator_flags g.partial) 7 (aggregator_value as4 g) (flags_low g.partial) (omega arith)
+        (both (bytes_high_first (width_of as4) g.asn) (bytes_high_first 4 g.addr) (number (width_of as4) g.asn) (number 4 g.addr))))
+
+abbrev pub IsKnown : Unrecognized → Type 0
+IsKnown u = (u.kind < 2 ^ 8) × AreSmall u.value
+
+unrecognized : (first : Bool) (us : List Unrecognized) → AllByRecursion IsKnown us → AllByRecursion IsSmall (unrecognized_attributes first us)
+unrecognized first [] known = tt
+unrecognized first (u ∷ us) known =
+    let rest = unrecognized first us known.1 in
+    elim (beq (comes_first u) first) as (λ (b : Bool). AllByRecursion IsSmall (map (λ (w : Unrecognized). spelled 224 w.kind w.value) (cond b (u ∷ filter (λ w. beq (comes_first w) first) us) (filter (λ w. beq (comes_first w) first) us)))) [
+      | true ↦ (spelled_small 224 u.kind u.value (omega arith) known.0.0 known.0.1, rest)
+      | false ↦ rest
+    ]
+
+-- the numbers of the segments have their count, and the unrecognized attributes are octets
+pub record CanBeSpelled (a : Attrs) : Type 0 where
+  pub path : AllByRecursion HasFewNumbers a.path
+  pub unrecognized : AllByRecursion IsKnown a.unrecognized
+
+attributes : (as4 : Bool) (a : Attrs) → CanBeSpelled a → AreSmall (attrs_octets as4 (Some a))
+attributes as4 a can =
+    let first = unrecognized_attributes true a.unrecognized in
+    let last = unrecognized_attributes false a.unrecognized in
+    let own = mandatory_attributes as4 a in
+    let more = further_attributes as4 a in
+    all_flat IsSmall (λ b. b < 2 ^ 8) (λ (x : Attribute). x.octets) (λ x is. is) (sent_attributes as4 a)
+    (all_append IsSmall ((first ++ own) ++ more) last
+    (all_append IsSmall (first ++ own) more (all_append IsSmall first own (unrecognized true a.unrecognized can.unrecognized) (mandatory as4 a can.path)) (further as4 a))
+    (unrecognized false a.unrecognized can.unrecognized))
+
+-- ---- messages
+frame : (body : List ℕ) → AreSmall body → AreSmall (framed 2 body)
+frame body each = both (replicate 16 255) (bytes_high_first 2 (19 + length body) ++ 2 ∷ body) (ones 16) (both (bytes_high_first 2 (19 + length body)) (2 ∷ body) (number 2 (19 + length body)) (omega arith, each))
+
+fields : (w a p : List ℕ) → AreSmall w → AreSmall a → AreSmall p → AreSmall (fields_octets w a p)
+fields w a p hw ha hp =
+    let lw = bytes_high_first 2 (length w) in
+    let la = bytes_high_first 2 (length a) in
+    both (((lw ++ w) ++ la) ++ a) p
+    (both ((lw ++ w) ++ la) a (both (lw ++ w) la (both lw w (number 2 (length w)) hw) (number 2 (length a))) ha) hp
+
+pub withdrawal_small : (as4 : Bool) (p : Network) → p.length ≤ 32 → AreSmall (update_octets as4 (withdrawal p))
+withdrawal_small as4 p few = frame (fields_octets (prefixes_octets (p ∷ [])) [] []) (fields (prefixes_octets (p ∷ [])) [] [] (one_prefix p few) tt tt)
+
+pub announcement_small : (as4 : Bool) (p : Network) (a : Attrs) → p.length ≤ 32 → CanBeSpelled a → AreSmall (update_octets as4 (announcement p a))
+announcement_small as4 p a few can =
+    frame (fields_octets [] (attrs_octets as4 (Some a)) (prefixes_octets (p ∷ []))) (fields [] (attrs_octets as4 (Some a)) (prefixes_octets (p ∷ [])) tt (attributes as4 a can) (one_prefix p few))

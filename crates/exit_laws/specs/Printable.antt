@@ -1,0 +1,57 @@
+-- What stands in the exits and can be printed and read back.
+use Rattle.std.specs.Prelude.{◌≡◌, ℕ, List, Option, Some}
+use Rattle.std.specs.Option.{ForSome}
+use Rattle.std.specs.List.{AllByRecursion}
+use Rattle.std.specs.FinMap as tables
+use Rattle.addr4.specs.Prefixes.{Network}
+use Rattle.bgp_attr.specs.declared.attrs.Attrs.{Attrs}
+use Rattle.bgp_attr.specs.declared.route.Route.{Route}
+use Rattle.bgp_attr.specs.declared.speaker.Neighbour.{Neighbour}
+use Rattle.link_change.specs.Rows.{Rows}
+use Rattle.link_change.specs.declared.change.Change.{Change}
+use Rattle.peer_out.specs.Changes.{MayBeHeard}
+use Rattle.fanout_queue.specs.Queues.{Queued}
+use Rattle.fanout_queue.specs.Readers.{unread_by}
+use Rattle.journal_text.specs.Names.{IsNamed}
+use Rattle.journal_text.specs.Values.{attrs_value, route_value}
+use Rattle.journal_text.specs.declared.link.Link.TheVariants.{Adv}
+use Rattle.journal_check.specs.Laws.{IsPrefix}
+use Rattle.journal_laws.specs.Printed.{IsPrintable}
+use Rattle.out_chain.specs.Chains.{OutChained}
+use Rattle.exit_side.specs.Exits.{Exited, chain_at}
+use Rattle.live_state.specs.Messages.{plain}
+
+-- a row of `best` that can be said to a peer, and printed at its prefix, where these are the peers
+pub record IsPrintableBest (peers : ℕ → Option Neighbour) (p : Network) (row : Route) : Type 0 where
+  pub prefix : IsPrefix p
+  pub heard : MayBeHeard plain row.attrs
+  pub printed : IsPrintable peers (route_value row)
+
+-- each row is such,
+abbrev pub AreBestRows : (ℕ → Option Neighbour) → Rows Route → Type 0
+AreBestRows peers best = (p : Network) → ForSome (best p) (IsPrintableBest peers p)
+
+-- and so are those before and after a change.
+pub record IsBestChange (peers : ℕ → Option Neighbour) (change : Change Route) : Type 0 where
+  pub prefix : IsPrefix change.prefix
+  pub before : ForSome change.before (IsPrintableBest peers change.prefix)
+  pub after : ForSome change.after (IsPrintableBest peers change.prefix)
+
+-- each change that a reader hasn't taken is such
+abbrev pub AreBestChanges : (ℕ → Option Neighbour) → Queued Route → Type 0
+AreBestChanges peers queued = (reader : ℕ) → AllByRecursion (IsBestChange peers) (unread_by queued reader)
+
+-- what was sent at a prefix can be printed
+pub record IsPrintableSent (peers : ℕ → Option Neighbour) (p : Network) (attrs : Attrs) : Type 0 where
+  pub prefix : IsPrefix p
+  pub printed : IsPrintable peers (attrs_value attrs)
+
+-- a chain whose links can be named, and all of whose rows can be printed
+pub record IsPrintableExit (peers : ℕ → Option Neighbour) (j : ℕ) (c : OutChained) : Type 0 where
+  pub named : IsNamed (Adv j c.session)
+  pub sent : (p : Network) → ForSome (tables.get c.sent p) (IsPrintableSent peers p)
+
+-- Each chain of the exits is such, and each change that a reader hasn't taken.
+pub record ArePrintableExits (peers : ℕ → Option Neighbour) (e : Exited) : Type 0 where
+  pub unread : AreBestChanges peers e.queue
+  pub each : (j : ℕ) (c : OutChained) → chain_at j e ≡ Some c → IsPrintableExit peers j c
