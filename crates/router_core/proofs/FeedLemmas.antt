@@ -27,7 +27,9 @@ use Rattle.link_change.specs.Changes.{IsSent}
 use Rattle.decision.specs.Branches.{best_rows}
 use Rattle.hop_side.specs.Resolvers.{PeerRows, res_at}
 use Rattle.peer_out.specs.Changes.{MayBeHeard}
-use Rattle.router_core.specs.Bests.{best_at, resolved_at}
+use Rattle.router_core.specs.Bests.{best_at, best_entries, resolved_at}
+use Rattle.router_core.specs.Printable.{IsHeard}
+use Rattle.router_core.proofs.HeardSteps.{heard_quiet, queue_views, falls_unheard}
 use Rattle.router_core.specs.Moments.{Moment, plain, with_chains, with_hops, with_exits, router_links}
 use Rattle.router_core.proofs.HeardRows.{fed_heard, weld_heard, put_heard}
 use Rattle.router_core.proofs.QueueLemmas.{reader_live, exits_fall}
@@ -68,6 +70,8 @@ fed_one k p row sent m fallen m' entries rest stands up heard f w =
         leads = subst (λ (es : List (Entry Value)). Leads (router_links m) (entries_of (journal_lines (entries ++ (w.resolved ++ (es ++ w.weld))))) (router_links after)) (sym w.decided.lines)
             (falls_lead m c.me fallen m'.chains m'.registry m'.hops m'.exits p entries w.resolved w.weld w.decided.best (speaker_there m stands k c f.feeds.at) (reader_live m stands) f.fall.leads goes.leads decides w.welds.step.leads quiet w.queued);
         live = live_routed m m.declared k c c' m'.chains f.feeds.at put refl ∙ ap (λ (r : Routes). live_by m (with_routes (live_state m).routes k (live_after r p row))) (sym (routes_there m k c f.feeds.at));
+        heard = subst (λ (es : List (Entry Value)). IsHeard m (journal_lines (entries ++ (w.resolved ++ (es ++ w.weld)))) after) (sym w.decided.lines)
+            (heard_quiet m after (journal_lines (entries ++ (w.resolved ++ (best_entries w.decided.best ++ w.weld)))) (falls_unheard _ _ _ _ _ _ entries w.resolved w.weld w.decided.best f.fall.leads goes.leads w.welds.step.leads) (queue_views w.decided.best m.exits m'.exits w.queued));
         stands = stands_with m k c c' m'.chains m'.registry m'.hops m'.exits peer.0 stands f.feeds.at put w.welds.step.sound refl peer.1 here w.below.agreed.others.rows
             (hops_fall m k fallen m'.chains m'.registry m'.hops stands w.below.agreed goes.counted quiet (resolver_there m stands k c f.feeds.at) (same_peers m k c c' m'.chains f.feeds.at put))
             (exits_fall m m'.chains m'.hops m'.exits after w.decided.best p stands
@@ -155,7 +159,7 @@ module _ (k : ℕ) where
   fed_join xs ys m between m' a b f g = record {
     feeds = feeds_join xs ys m between m' a b f.feeds g.feeds;
     keeps = subst (λ (l : LiveState). Keeps l m m' (a ++ b)) (ap (λ (l : LiveState). live_fed l k ys) f.keeps.live ∙ live_join (live_state m) xs ys)
-        (keeps_join m between m' a b (live_fed (live_state m) k xs) (live_fed (live_state between) k ys) f.keeps g.keeps);
+        (keeps_join m between m' a b (live_fed (live_state m) k xs) (live_fed (live_state between) k ys) refl f.keeps g.keeps);
   }
 
   pub pushed_more : (xs : List (Network × Option Attrs)) (x : Network × Option Attrs) (m between m' : Moment) (before j now : Journaled) → Pushes (HaveFed k xs m between) before j

@@ -29,7 +29,9 @@ use Rattle.decision.specs.Branches.{best_rows}
 use Rattle.exit_side.specs.Exits.{Exited, IsExits}
 use Rattle.hop_side.specs.Steps.{ComesOn}
 use Rattle.hop_side.specs.Resolvers.{PeerRows, left_in}
-use Rattle.router_core.specs.Bests.{best_at, resolved_at, DecidesOn, Queues}
+use Rattle.router_core.specs.Bests.{best_at, best_entries, resolved_at, DecidesOn, Queues}
+use Rattle.router_core.specs.Printable.{IsHeard}
+use Rattle.router_core.proofs.HeardSteps.{heard_quiet, queue_views, hops_unheard}
 use Rattle.router_core.specs.Moments.{Moment, with_hops, with_exits, router_links}
 use Rattle.router_core.specs.Phases.{beyond_by, beyonds}
 use Rattle.router_core.proofs.BestLemmas.{best_of_none}
@@ -83,6 +85,8 @@ hop_done k sent m m1 m' c r h entries best stands at t between d =
           leads = subst (λ (es : List (Entry Value)). Leads (router_links m) (entries_of (journal_lines (entries ++ es))) (router_links (with_exits (with_hops m r h) m'.exits))) (sym d.decided.lines)
               (leads_resolved m c.me r h m'.exits goes.0 entries d.decided.best (speaker_there m stands k c at) (reader_live m stands) goes.1.leads chosen queued);
           live = refl;
+          heard = subst (λ (es : List (Entry Value)). IsHeard m (journal_lines (entries ++ es)) (with_exits (with_hops m r h) m'.exits)) (sym d.decided.lines)
+              (heard_quiet m (with_exits (with_hops m r h) m'.exits) (journal_lines (entries ++ best_entries d.decided.best)) (hops_unheard _ _ entries d.decided.best goes.1.leads) (queue_views d.decided.best m.exits m'.exits queued));
           stands = stands_resolved m r h m'.exits stands t.agreed.others.rows (hops_fall m k m.chains m.chains r h stands t.agreed goes.1.counted refl (resolver_there m stands k c at) (λ j. refl))
               (exits_fall m m.chains h m'.exits (with_exits (with_hops m r h) m'.exits) d.decided.best goes.0 stands (stands.own EachRow) queued chosen refl refl refl refl refl refl);
         };

@@ -9,12 +9,12 @@ pub mod PeerTurns
 pub mod KeepLemmas
 pub mod HeardRows
 pub mod QueueLemmas
+pub mod HeardSteps
 pub mod ReadingLemmas
 pub mod SpendLemmas
 pub mod ExitTurns
 pub mod SessionLemmas
 pub mod TurnWalks
-pub mod HeardBlocks
 pub mod CountLemmas
 pub mod NextLemmas
 pub mod RunLemmas

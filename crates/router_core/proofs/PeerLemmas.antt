@@ -288,7 +288,7 @@ begun_stepped m k stands admitted down = record {
     live (Some p) e down = sym (ap (λ (u : Bool). cond u (live_state m) (live_state (begun m k))) down)
 
 pub ignored_stepped : (m : Moment) (k : ℕ) → Stands m → is_up (peer_at k m.declared.peers) ≡ true → HasStepped m (events.Up k) 0 m (lines.Ignored ∷ [])
-ignored_stepped m k stands up = steps_said m (events.Up k) 0 (lines.Ignored ∷ []) stands (block (peer_at k m.declared.peers) up) (live (peer_at k m.declared.peers) up) refl
+ignored_stepped m k stands up = steps_said m (events.Up k) 0 (lines.Ignored ∷ []) stands (block (peer_at k m.declared.peers) up) (live (peer_at k m.declared.peers) up) (refl, (refl, tt))
   where
     block : (o : Option DeclaredPeer) → is_up o ≡ true → ByPeer (λ p. BeginsIf p.up m k (lines.Ignored ∷ []) 0 m) o
     block None up = absurd (cc)

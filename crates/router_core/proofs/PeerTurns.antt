@@ -30,7 +30,9 @@ use Rattle.decision.specs.Branches.{best_rows}
 use Rattle.exit_side.specs.Exits.{OutChains}
 use Rattle.hop_side.specs.Resolvers.{Resolvers, PeerRows, res_at}
 use Rattle.peer_side.proofs.PutLemmas.{put_size}
-use Rattle.router_core.specs.Bests.{best_at, resolved_at}
+use Rattle.router_core.specs.Bests.{best_at, best_entries, resolved_at}
+use Rattle.router_core.specs.Printable.{IsHeard}
+use Rattle.router_core.proofs.HeardSteps.{heard_quiet, queue_views, falls_unheard}
 use Rattle.router_core.specs.Moments.{Moment, with_chains, with_hops, with_exits, router_links}
 use Rattle.router_core.specs.Stands.{IsSilent, PeerStands, Stands, HopsCounted, SmallNumbers, EachRow, open_session}
 use Rattle.router_core.specs.Turns.{Resolves, IsOfPeers, IsPeerTurn, IsTurn, sent_of, has_work, phase_of, journal_lines}
@@ -85,6 +87,8 @@ unit_done task sent m fallen m' entries rest stands t w =
               (falls_lead m c.me fallen m'.chains m'.registry m'.hops m'.exits t.changes.0 entries w.resolved w.weld w.decided.best (speaker_there m stands k c t.turn.at) (reader_live m stands) t.fall.leads goes.leads decides w.welds.step.leads quiet w.queued);
           live = live_same m k c c' m'.chains t.turn.at put t.leaves.live t.leaves.rules;
           stands = then;
+          heard = subst (λ (es : List (Entry Value)). IsHeard m (journal_lines (entries ++ (w.resolved ++ (es ++ w.weld)))) after) (sym w.decided.lines)
+              (heard_quiet m after (journal_lines (entries ++ (w.resolved ++ (best_entries w.decided.best ++ w.weld)))) (falls_unheard _ _ _ _ _ _ entries w.resolved w.weld w.decided.best t.fall.leads goes.leads w.welds.step.leads) (queue_views w.decided.best m.exits m'.exits w.queued));
         };
         falls = (peer_spends task m after refl near sends).0;
         left = (peer_spends task m after refl near sends).1;

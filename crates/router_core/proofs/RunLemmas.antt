@@ -41,7 +41,7 @@ no_more_then a b c (e ∷ es) x y = (let p = x.0 in let q = y.0 in omega (arith,
 
 work_join : (r : Phase) (n k : ℕ) (a b c : Moment) (xs ys : List Line) → IsWork r n a b xs → IsWork r k b c ys → IsWork r (n + k) a c (xs ++ ys)
 work_join r n k a b c xs ys x y = record {
-  keeps = keeps_on a b c xs ys (live_state a) x.keeps y.keeps;
+  keeps = keeps_on a b c xs ys (live_state a) refl x.keeps y.keeps;
   falls = let p = x.falls in let q = y.falls in omega (arith, p, q);
   left = let p = x.left in let q = y.left in omega (arith, p, q);
   earlier = no_more_then a b c (earlier r) x.earlier y.earlier;
@@ -227,7 +227,7 @@ idling_more i turns n z m at now before j j' within g d = gives_join (Idling i t
         let next = next_less i z now within y.work.keeps.stands in
         record {
           runs = subst (λ (l : List Phase). RunsAll l m (xs ++ ys) (turns + n) now) first (runs_push (take i all_phases) r turns n m at now xs ys x.runs y.runs);
-          keeps = keeps_on m at now xs ys (live_state m) x.keeps y.work.keeps;
+          keeps = keeps_on m at now xs ys (live_state m) refl x.keeps y.work.keeps;
           within = omega (arith, was, left, next);
           over = subst (λ (l : List Phase). AllByRecursion (λ e. counts now e ≡ 0) l) first
               (all_appended (λ e. counts now e ≡ 0) (λ e. counts now e ≡ 0) (λ e none. none) (take i all_phases) r (over_more at now (take i all_phases) less x.over) (over_none r now y.over));

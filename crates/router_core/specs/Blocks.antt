@@ -36,17 +36,15 @@ use Rattle.hop_side.specs.Resolvers.{put_resolver}
 use Rattle.nexthop_resolver.specs.Resolving.{nothing_known}
 use Rattle.peer_side.specs.Peers.{Chains, chain_at, put_chain, overdue_at}
 use Rattle.peer_side.specs.Steps.{EditsInward, LosesInward}
-use Rattle.out_chain.specs.Chains.{OutChained}
-use Rattle.exit_side.specs.Exits.{Exited, chain_at as exit_at, with_queue}
+use Rattle.exit_side.specs.Exits.{Exited, with_queue}
 use Rattle.exit_side.specs.Steps.{BeginsExit, EndsExit, EditsExit}
-use Rattle.live_state.specs.Heard.{Views, Hears as HearLines}
 use Rattle.router_core.specs.Moments.{Moment, with_chains, with_tree, with_exits, rules_to, router_links, bound_of}
 use Rattle.live_state.specs.Messages.{changes_of, Says}
 use Rattle.live_state.specs.Lives.{LiveAfter}
 use Rattle.router_core.specs.Lives.{live_state}
 use Rattle.router_core.specs.Stands.{Stands}
 use Rattle.journal_laws.specs.Peers.{KeepsPeers}
-use Rattle.router_core.specs.Printable.{ArePrinted}
+use Rattle.router_core.specs.Printable.{ArePrinted, IsHeard}
 use Rattle.router_core.specs.Phases.{all_phases}
 use Rattle.router_core.specs.Scratch.{IsExact}
 use Rattle.router_core.specs.Turns.{journal_lines, InPeers, FeedsAll, FallsRoute, Turns, Drains, RunsAll, IsSettled, has_work}
@@ -244,14 +242,6 @@ IsBlock m (Work task n) said turns m' = Works task n m said turns m'
 IsBlock m (Ask link p) said turns m' = Just (answer_lines link p (router_links m link)) m said turns m'
 IsBlock m (Show link) said turns m' = (turns ≡ 0) × (m' ≡ m) × Shows link (router_links m link) said
 
--- what each peer in a session has heard is what it was sent
-abbrev pub HaveHeard : Views → Moment → Type 0
-HaveHeard v m = (j : ℕ) (c : OutChained) → exit_at j m.exits ≡ Some c → v j ≡ c.sent
-
--- The octets of the lines, read as the peers read them, lead from such views to such.
-abbrev pub TellsPeers : Moment → List Line → Moment → Type 0
-TellsPeers m said m' = (v : Views) → HaveHeard v m → (v' : Views) × HearLines (λ k. peer_at k m.declared.peers) v said v' × HaveHeard v' m'
-
 -- An event was stepped: its lines are as its block says, its entries obey the rules of the journal and lead from the links
 -- before it to those after it, the live state is what the events alone make of it, and what holds between two steps holds. Each
 -- line can be printed and read back, the peers are known by their numbers then as before, and what they reach by reading the octets of
@@ -263,4 +253,4 @@ pub record Acts (m : Moment) (event : Event) (turns : ℕ) (m' : Moment) (said :
   pub stands : Stands m'
   pub printed : ArePrinted m.declared said
   pub peers : KeepsPeers m.declared m'.declared
-  pub hears : TellsPeers m said m'
+  pub heard : IsHeard m said m'

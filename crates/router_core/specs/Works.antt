@@ -1,6 +1,6 @@
 -- What the router's own calls make of chains and moments, with what they keep.
 use Rattle.std.specs.List.{AllByRecursion}
-use Rattle.std.specs.Prelude.{◌≡◌, ℕ, ◌+◌, ◌≤◌, ◌⊎◌, true, false, List, ◌++◌, Option, Some, None, IsSome}
+use Rattle.std.specs.Prelude.{◌≡◌, ℕ, ◌+◌, ◌≤◌, ◌⊎◌, true, false, is_some, List, ◌++◌, Option, Some, None, IsSome}
 use Rattle.addr4.specs.Prefixes.{Network}
 use Rattle.bgp_attr.specs.declared.attrs.Attrs.{Attrs}
 use Rattle.link_change.specs.declared.change.Change.{Change}
@@ -29,7 +29,8 @@ use Rattle.bgp_attr.specs.declared.speaker.Profile.{Profile}
 use Rattle.peer_out.specs.Changes.{IsSender, MayBeHeard}
 use Rattle.journal_text.specs.declared.link.Link.TheVariants.{Best, ReadRib}
 use Rattle.journal_text.specs.declared.entry.Entry.TheVariants.{Inherit}
-use Rattle.exit_side.specs.Exits.{with_queue}
+use Rattle.std.specs.Prelude.{[], ◌∷◌}
+use Rattle.exit_side.specs.Exits.{with_queue, chain_at as exit_at}
 use Rattle.exit_side.specs.Steps.{BeginsExit}
 use Rattle.router_core.specs.Bests.{resolved_at, DecidesOn, Queues}
 use Rattle.router_core.specs.Moments.{Moment, plain, with_chains, with_hops, with_tree, with_exits, rules_to, router_links, bound_of, Gives}
@@ -37,6 +38,7 @@ use Rattle.journal_text.specs.declared.link.Link.{Link}
 use Rattle.live_state.specs.Lives.{LiveState, LiveAfter, live_fed, heard, ended, interior_lost}
 use Rattle.router_core.specs.Lives.{live_state}
 use Rattle.router_core.specs.Stands.{Stands}
+use Rattle.router_core.specs.Printable.{IsHeard}
 use Rattle.router_core.specs.Scratch.{IsExact}
 use Rattle.router_core.specs.declared.router.Phase.{Phase}
 use Rattle.rib_route.specs.declared.rows.FibRow.{FibRow}
@@ -54,12 +56,13 @@ use Rattle.bgp_wire.specs.declared.message.Message.TheVariants as messages
 abbrev pub Pushes : (List Line → Type 0) → Journaled → Journaled → Type 0
 Pushes P before now = (lines : List Line) × (now ≡ with_lines before lines) × P lines
 
--- What every step keeps: its entries lead from the old links to the new ones by the rules of the journal, this is live then, and
--- what holds between two steps holds.
+-- What every step keeps: its entries lead from the old links to the new ones by the rules of the journal, this is live then, what
+-- holds between two steps holds, and the peers hear what they are sent.
 pub record Keeps (live_then : LiveState) (m m' : Moment) (said : List Line) : Type 0 where
   pub leads : Leads (router_links m) (entries_of said) (router_links m')
   pub live : live_state m' ≡ live_then
   pub stands : Stands m'
+  pub heard : IsHeard m said m'
 
 -- Background work of a phase: what is live stays, and so many turns are spent, of the phase and of an idle from that phase on. Nothing is
 -- added to an earlier phase.
@@ -134,12 +137,17 @@ pub record HaveFed (k : ℕ) (changes : List (Network × Option Attrs)) (m m' : 
   pub feeds : FeedsAll k changes m said m'
   pub keeps : Keeps (live_fed (live_state m) k changes) m m' said
 
+-- the same peers have exits
+abbrev pub HaveSameExits : Moment → Moment → Type 0
+HaveSameExits m m' = (k : ℕ) → is_some (exit_at k m'.exits) ≡ is_some (exit_at k m.exits)
+
 -- There is room for the loss of a session in the chain of peer k.
 pub record HasRoom (k : ℕ) (m room : Moment) (said : List Line) : Type 0 where
   pub there : IsSome (chain_at k m.chains)
   pub runs : RunsFirst (overdue_at k m.chains) m said room
   pub keeps : Keeps (live_state m) m room said
   pub free : overdue_at k room.chains ≡ None
+  pub same : HaveSameExits m room
 
 -- session s of the peer is up
 abbrev pub IsSession : ℕ → ℕ → Moment → Type 0

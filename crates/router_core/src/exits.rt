@@ -87,7 +87,8 @@ impl Network {
     {
         let reader = self.exits.join()?;
         self.reader = Some(reader);
-        journal.push_entry(Entry::Inherit(Link::ReadRib, Link::Best))
+        journal.push_entry(Entry::Inherit(Link::ReadRib, Link::Best))?;
+        Ok(())
     }
 
     /// A session of a peer begins: its three links begin.
@@ -105,7 +106,8 @@ impl Network {
             unreachable!()
         };
         let rules = self.outgoing.rules(self.alloc, number)?;
-        self.exits.begin(&me, &peer.words, peer.session, rules, journal)
+        self.exits.begin(&me, &peer.words, peer.session, rules, journal)?;
+        Ok(())
     }
 
     /// A peer's outgoing filter has new rules, in its session or from its next one on.
@@ -115,7 +117,8 @@ impl Network {
         ensures { OnOk result (HasStepped self.old (events.FilterOut number rules) 0 self.new []) }
     {
         self.exits.edit(number, rules.copy(self.alloc)?);
-        self.outgoing.set(number, rules)
+        self.outgoing.set(number, rules)?;
+        Ok(())
     }
 
     /// What follows a change of `best`, if one came: it joins the queue.

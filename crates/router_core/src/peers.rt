@@ -45,7 +45,8 @@ impl Network {
         self.declared.set_speaker(words);
         begin_rib(journal)?;
         self.begin_reading(journal)?;
-        journal.push_entry(Entry::Begin(Link::Fib))
+        journal.push_entry(Entry::Begin(Link::Fib))?;
+        Ok(())
     }
 
     /// `peer` was declared: its chain and its resolver begin, without routes and rules.
@@ -81,7 +82,8 @@ impl Network {
             return journal.push_line(Line::Ignored);
         }
         self.declared.begin_session(number);
-        self.begin_exit(number, journal)
+        self.begin_exit(number, journal)?;
+        Ok(())
     }
 
     /// A peer's incoming filter has new rules. Takes no memory.

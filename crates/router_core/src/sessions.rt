@@ -99,6 +99,7 @@ impl Network {
         requires stands { Stands self.old }
         requires up { IsSession number session self.old }
         requires free { overdue_at number self.old.chains ≡ None }
+        requires silent { exit_at number self.old.exits ≡ None }
         ensures { OnOk result (Pushes (Ends number session self.old self.new) journal.old journal.new) }
     {
         self.chains.lose(number, session, journal)?;
