@@ -101,8 +101,10 @@ origin Incomplete = omega arith
 mandatory : (as4 : Bool) (a : Attrs) → AllByRecursion HasFewNumbers a.path → AllByRecursion IsSmall (mandatory_attributes as4 a)
 mandatory as4 a few = (
   spelled_small 64 1 (code_of_origin a.origin ∷ []) (omega arith) (omega arith) (origin a.origin, tt),
-  (spelled_small 64 2 (path_octets (width_of as4) a.path) (omega arith) (omega arith) (path (width_of as4) a.path few),
-  (spelled_small 64 3 (bytes_high_first 4 a.next_hop) (omega arith) (omega arith) (number 4 a.next_hop), tt)),
+  (
+    spelled_small 64 2 (path_octets (width_of as4) a.path) (omega arith) (omega arith) (path (width_of as4) a.path few),
+    (spelled_small 64 3 (bytes_high_first 4 a.next_hop) (omega arith) (omega arith) (number 4 a.next_hop), tt),
+  ),
 )
 
 optional_small : {A : Type 0} (f : A → Attribute) (o : Option A) → ((x : A) → IsSmall (f x)) → AllByRecursion IsSmall (optional f o)
@@ -129,7 +131,7 @@ further as4 a =
     (optional_small _ a.local_pref (λ n. spelled_small 64 5 (bytes_high_first 4 n) (omega arith) (omega arith) (number 4 n))))
     (atomic_small a.atomic))
     (optional_small _ a.aggregator (λ (g : Aggregator). spelled_small (aggregator_flags g.partial) 7 (aggregator_value as4 g) (flags_low g.partial) (omega arith)
-        (both (bytes_high_first (width_of as4) g.asn) (bytes_high_first 4 g.addr) (number (width_of as4) g.asn) (number 4 g.addr))))
+    (both (bytes_high_first (width_of as4) g.asn) (bytes_high_first 4 g.addr) (number (width_of as4) g.asn) (number 4 g.addr))))
 
 abbrev pub IsKnown : Unrecognized → Type 0
 IsKnown u = (u.kind < 2 ^ 8) × AreSmall u.value

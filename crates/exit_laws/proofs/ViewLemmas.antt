@@ -191,9 +191,9 @@ turn_is_heard_from peers j candidates best sent e e' said v declared turn is =
     let after = turned_sent chain taken e.queue e'.queue candidates best sent said turn.turns in
     let entries = turn.turns.entries ++ sending_entries chain sent in
     let quiet = nothing_is_heard peers v (entry_lines entries)
-        (unheard_joins turn.turns.entries (sending_entries chain sent) (entries_unheard chain taken e.queue e'.queue candidates best sent said turn.turns) (sending_unheard chain sent)) in
+    (unheard_joins turn.turns.entries (sending_entries chain sent) (entries_unheard chain taken e.queue e'.queue candidates best sent said turn.turns) (sending_unheard chain sent)) in
     let message = hears_message peers j chain v number (declared.words j chain turn.at) profile kind is sent taken.sent after turn.turns.goes.told
-        (λ change sends. sent_hosts taken _ chain.sent change turn.turns.goes.exact (after ∙ ap (sent_after chain.sent) sends)) in
+    (λ change sends. sent_hosts taken _ chain.sent change turn.turns.goes.exact (after ∙ ap (sent_after chain.sent) sends)) in
     subst (λ (ls : List Line). Hears peers v ls (with_routes v j taken.sent)) (sym turn.turns.goes.lines)
     (hearing_joins peers v v (with_routes v j taken.sent) (entry_lines entries) (message_lines chain sent) quiet message)
 

@@ -1,0 +1,6 @@
+pub mod OctetLemmas
+pub mod HearLemmas
+pub mod OtherLemmas
+pub mod ViewLemmas
+pub mod KeptLemmas
+pub mod PrintLemmas

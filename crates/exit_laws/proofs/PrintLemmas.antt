@@ -1,0 +1,358 @@
+-- The lines of a turn can be printed: what is sent is the form of a row that can be, and its octets are octets.
+use Rattle.std.proofs.Common.{◌≡◌, ◌≢◌, ℕ, ◌+◌, ◌^◌, ◌<◌, ◌≤◌, Bool, true, false, not, cond, List, [], ◌∷◌, ◌++◌, length, Option, Some, None, IfSome, inl, inr, refl, sym, ap, subst, ◌∙◌, arith}
+use Rattle.std.specs.Prelude.{option_map, map, nat_le, All}
+use Rattle.std.specs.Option.{ForSome}
+use Rattle.std.specs.List.{AllByRecursion}
+use Rattle.std.specs.FinMap as tables
+use Rattle.addr4.specs.Prefixes.{Network}
+use Rattle.bgp_attr.specs.Paths.{times_in_front}
+use Rattle.bgp_attr.specs.declared.attrs.Attrs.{Attrs}
+use Rattle.bgp_attr.specs.declared.path.Segment.{Segment}
+use Rattle.bgp_attr.specs.declared.unrecognized.Unrecognized.{Unrecognized}
+use Rattle.bgp_attr.specs.declared.route.Route.{Route}
+use Rattle.bgp_attr.specs.declared.speaker.Profile.{Profile}
+use Rattle.bgp_attr.specs.declared.speaker.Speaker.{Speaker}
+use Rattle.bgp_attr.specs.declared.speaker.Neighbour.{Neighbour}
+use Rattle.bgp_wire.specs.Lengths.{announcement_length}
+use Rattle.bgp_wire.specs.Paths.{width_of}
+use Rattle.bgp_wire.specs.Readable.{IsReadableSegment}
+use Rattle.bgp_wire.specs.Spelling.{update_octets}
+use Rattle.bgp_wire.proofs.ReadableLaws.{Every, all_every}
+use Rattle.wire_laws.proofs.Prepended.{prepended_is_readable}
+use Rattle.link_change.specs.Rows.{Rows, Candidates}
+use Rattle.link_change.specs.InOrder.{rows_before}
+use Rattle.link_change.specs.declared.change.Change.{Change}
+use Rattle.policy_rules.specs.declared.rule.Rule.{Rule}
+use Rattle.policy_rules.specs.Judged.{KeepsSource}
+use Rattle.policy_rules.specs.Verdicts.{judged_by}
+use Rattle.policy_rules.proofs.KeptLemmas.{judged_keeps}
+use Rattle.policy_rules.proofs.VerdictLemmas.{answer_is_judged}
+use Rattle.pass_core.specs.Passed.{Passed, function_at}
+use Rattle.pass_core.specs.Turns.{passed_rows, IsSentAt}
+use Rattle.filter_bank.specs.Outgoing.{Form, may_go, first_out, let_by, formed, outgoing}
+use Rattle.fanout_queue.specs.Queues.{Queued, Takes}
+use Rattle.fanout_queue.specs.Readers.{unread_or_none, unread_by, read_rows}
+use Rattle.journal_check.proofs.InkLemmas.{all_append, all_mapped}
+use Rattle.journal_check.specs.Laws.{IsPrefix}
+use Rattle.journal_text.specs.Names.{IsNamed}
+use Rattle.journal_text.specs.Values.{attrs_value, route_value, valued_change, sent_entries}
+use Rattle.journal_text.specs.declared.entry.Entry.{Entry}
+use Rattle.journal_text.specs.declared.entry.Entry.TheVariants as entries
+use Rattle.journal_text.specs.declared.line.Line.{Line}
+use Rattle.journal_text.specs.declared.line.Line.TheVariants.{Out, Journal}
+use Rattle.journal_text.specs.declared.link.Link.{Link}
+use Rattle.journal_text.specs.declared.link.Link.TheVariants.{Read, Outf, Adv, Best}
+use Rattle.journal_text.specs.declared.value.Value.{Value}
+use Rattle.event_text.specs.Declarations.{Declaration}
+use Rattle.journal_text.specs.Texts.{sender_number}
+use Rattle.journal_laws.specs.Peers.{neighbours, KeepsPeers}
+use Rattle.journal_laws.specs.Printed.{IsPrintable, IsPrinted}
+use Rattle.journal_laws.proofs.ReadAttrs.{read_printable}
+use Rattle.journal_laws.proofs.PrintedFalls.{changes_printed}
+use Rattle.journal_laws.proofs.PrintedLines.{plain_printed}
+use Rattle.peer_out.specs.Forms.{sent_form, as_sent}
+use Rattle.peer_out.specs.Remembered.{Exit}
+use Rattle.peer_out.specs.Changes.{saying, message_octets}
+use Rattle.out_chain.specs.Chains.{OutChained, IsOutChain, form_of, made_by, outf_rows, HasSent}
+use Rattle.out_chain.specs.Steps.{exit_to, new_out, start_entries, stop_entries, read_entries, sending_entries, message_lines, said_of, sent_after, ReadsFirst, WalksNext, TurnsOut, IsTold}
+use Rattle.exit_side.specs.Exits.{Exited, chain_at, with_queue, AllStand}
+use Rattle.exit_side.specs.Steps.{BeginsExit, EndsExit, TurnsExit}
+use Rattle.live_state.specs.Messages.{plain}
+use Rattle.exit_laws.specs.Views.{AreDeclared, entry_lines}
+use Rattle.exit_laws.specs.Printable.{IsPrintableBest, AreBestRows, IsBestChange, AreBestChanges, IsPrintableSent, IsPrintableExit, ArePrintableExits}
+use Rattle.exit_laws.specs.Laws.{ArePrinted, PrintsOn, BeginningIsPrinted, EndIsPrinted, TurnIsPrinted, TakeIsPrinted, PrintingStays}
+use Rattle.exit_laws.proofs.OctetLemmas.{AreSmall, HasFewNumbers, CanBeSpelled, each_small, withdrawal_small, announcement_small}
+use Rattle.exit_laws.proofs.ViewLemmas.{put_here, turned_sent}
+use Rattle.exit_laws.proofs.KeptLemmas.{rows_read, taken_change, queue_taken, each_put, sent_there, sent_kept, begun_exits, ended_exits, with_unread}
+
+-- ---- what is sent of a row is the form of a route with its attributes
+record IsFormOfOne (exit : Exit) (row : Route) (a : Attrs) : Type 0 where
+  route : Route
+  is : a ≡ sent_form exit.me exit.external route
+  attrs : route.attrs ≡ row.attrs
+
+first_keeps : (peer : Neighbour) (row : Route) → (first_out peer row).attrs ≡ row.attrs
+first_keeps peer row = elim peer.internal as (λ (b : Bool). (cond b row (record row { med = None })).attrs ≡ row.attrs) [ true ↦ refl | false ↦ refl ]
+
+module _ (exit : Exit) (p : Network) (row : Route) (a : Attrs) where
+  of_fitting : (r : Route) (fits : Bool) → r.attrs ≡ row.attrs → cond fits (Some (sent_form exit.me exit.external r)) None ≡ Some a → IsFormOfOne exit row a
+  of_fitting r true keeps e = record { route = r; is = let same : Some (sent_form exit.me exit.external r) ≡ Some a = e in cc; attrs = keeps }
+  of_fitting r false keeps e = absurd (let clash : ◌≡◌ {A = Option Attrs} None (Some a) = e in cc)
+
+  of_judged : (first : Route) (judged : Option Route) → first.attrs ≡ row.attrs → IfSome judged (KeepsSource first) → formed (form_of exit) p judged ≡ Some a → IsFormOfOne exit row a
+  of_judged first None keeps judged e = absurd (let clash : ◌≡◌ {A = Option Attrs} None (Some a) = e in cc)
+  of_judged first (Some r) keeps judged e =
+      of_fitting r (nat_le (announcement_length exit.profile.as4 p (sent_form exit.me exit.external r)) 4096) (judged.attrs ∙ keeps) e
+
+  of_rules : (first : Route) (rules : Option (List Rule)) → first.attrs ≡ row.attrs → formed (form_of exit) p (let_by rules p first) ≡ Some a → IsFormOfOne exit row a
+  of_rules first None keeps e = absurd (let clash : ◌≡◌ {A = Option Attrs} None (Some a) = e in cc)
+  of_rules first (Some rules) keeps e = of_judged first (judged_by rules p first) keeps (judged_keeps p rules first (judged_by rules p first) (answer_is_judged rules p first)) e
+
+  of_let : (may : Bool) (peer : Neighbour) (rules : Option (List Rule)) → formed (form_of exit) p (cond may (let_by rules p (first_out peer row)) None) ≡ Some a → IsFormOfOne exit row a
+  of_let true peer rules e = of_rules (first_out peer row) rules (first_keeps peer row) e
+  of_let false peer rules e = absurd (let clash : ◌≡◌ {A = Option Attrs} None (Some a) = e in cc)
+
+  is_form : (peer : Neighbour) (rules : Option (List Rule)) → outgoing (form_of exit) peer rules p (Some row) ≡ Some a → IsFormOfOne exit row a
+  is_form peer rules e = of_let (may_go peer p row) peer rules e
+
+-- ---- so it can be spelled
+few_of : (as4 : Bool) (path : List Segment) → Every (IsReadableSegment as4) path → AllByRecursion HasFewNumbers path
+few_of as4 [] each = tt
+few_of as4 (s ∷ path) each = (each.0.few, few_of as4 path each.1)
+
+few_numbers : (as4 : Bool) (path : List Segment) → All (IsReadableSegment as4) path → AllByRecursion HasFewNumbers path
+few_numbers as4 path each = few_of as4 path (all_every (IsReadableSegment as4) path each)
+
+sent_few : (external : Bool) (n asn : ℕ) (path : List Segment) → asn < 256 ^ width_of false → All (IsReadableSegment false) path → AllByRecursion HasFewNumbers (cond external (times_in_front n asn path) path)
+sent_few true n asn path fits each = few_numbers false (times_in_front n asn path) (prepended_is_readable false n asn path fits each)
+sent_few false n asn path fits each = few_numbers false path each
+
+can_be_spelled : (peers : ℕ → Option Neighbour) (exit : Exit) (p : Network) (row : Route) (a : Attrs) → exit.me.asn < 256 ^ width_of false → IsPrintableBest peers p row → IsFormOfOne exit row a → CanBeSpelled a
+can_be_spelled peers exit p row a fits best form =
+    let r = form.route in
+    let few = sent_few exit.external (1 + r.prepend) exit.me.asn r.attrs.path fits (subst (λ x. All (IsReadableSegment false) x.path) (sym form.attrs) best.heard.path) in
+    subst CanBeSpelled (sym form.is) (record { path = few; unrecognized = subst (λ x. AllByRecursion (λ (u : Unrecognized). (u.kind < 2 ^ 8) × AreSmall u.value) x.unrecognized) (sym form.attrs) best.printed.well_told.ranges.attrs.unrecognized })
+
+-- the octets of a change
+octets_small : (as4 : Bool) (p : Network) (after : Option Attrs) → IsPrefix p → ForSome after CanBeSpelled → AreSmall (update_octets as4 (saying p after))
+octets_small as4 p None prefix can = withdrawal_small as4 p prefix.0.0
+octets_small as4 p (Some a) prefix can = announcement_small as4 p a prefix.0.0 (can a refl)
+
+-- ---- lines
+module _ (peers : ℕ → Option Neighbour) where
+  pub entries_printed : (es : List (Entry Value)) → AllByRecursion (λ e. IsPrinted peers (Journal e)) es → ArePrinted peers (entry_lines es)
+  entries_printed [] all = tt
+  entries_printed (e ∷ es) all = (all.0, entries_printed es all.1)
+
+  route_if : (p : Network) (o : Option Route) → ForSome o (IsPrintableBest peers p) → IfSome (option_map route_value o) (IsPrintable peers)
+  route_if p None each = tt
+  route_if p (Some r) each = (each r refl).printed
+
+  attrs_if : (p : Network) (o : Option Attrs) → ForSome o (IsPrintableSent peers p) → IfSome (option_map attrs_value o) (IsPrintable peers)
+  attrs_if p None each = tt
+  attrs_if p (Some a) each = (each a refl).printed
+
+  -- the entry of a change of `best`, on any link
+  best_printed : (link : Link) (change : Change Route) → IsNamed link → IsBestChange peers change → AllByRecursion (λ e. IsPrinted peers (Journal e)) (valued_change route_value link change)
+  best_printed link change named is =
+      changes_printed peers link change.prefix (option_map route_value change.before) (option_map route_value change.after) named is.prefix
+      (route_if change.prefix change.before is.before) (route_if change.prefix change.after is.after)
+
+  -- what is known of a change that is sent
+  record IsSayable (change : Change Attrs) : Type 0 where
+    prefix : IsPrefix change.prefix
+    before : ForSome change.before (IsPrintableSent peers change.prefix)
+    after : ForSome change.after (IsPrintableSent peers change.prefix)
+    octets : (as4 : Bool) → AreSmall (update_octets as4 (saying change.prefix change.after))
+
+  sent_printed : (link : Link) (sent : Option (Change Attrs)) → IsNamed link → ((change : Change Attrs) → sent ≡ Some change → IsSayable change)
+      → AllByRecursion (λ e. IsPrinted peers (Journal e)) (sent_entries attrs_value link sent)
+  sent_printed link None named each = tt
+  sent_printed link (Some change) named each =
+      let is = each change refl in
+      changes_printed peers link change.prefix (option_map attrs_value change.before) (option_map attrs_value change.after) named is.prefix
+      (attrs_if change.prefix change.before is.before) (attrs_if change.prefix change.after is.after)
+
+  message_printed : (c : OutChained) (sent : Option (Change Attrs)) → c.peer.number < 2 ^ 32 → ForSome sent (IsTold c.exit) → ((change : Change Attrs) → sent ≡ Some change → IsSayable change)
+      → ArePrinted peers (message_lines c sent)
+  message_printed c None small told each = tt
+  message_printed c (Some change) small told each =
+      (record { short = record { ranges = (small, (each change refl).octets c.exit.profile.as4); values = tt; octets = (told change refl).reads.1.frame.top }; told = tt }, tt)
+
+-- ---- a turn
+-- what the change that a turn sends came from
+record SendsFrom (old : OutChained) (change : Change Attrs) : Type 0 where
+  was : tables.get old.sent change.prefix ≡ change.before
+  differs : change.after ≢ change.before
+
+module _ (old new : OutChained) (queued left : Queued Route) (candidates : Candidates) (best : Rows Route) (entries : List (Entry Value)) (change : Change Attrs) (exact : HasSent old (read_rows queued old.reader best)) where
+  by_read : ReadsFirst old new queued left best entries (Some change) → SendsFrom old change
+  by_read reads = record { was = ap (λ (r : Rows Attrs). r change.prefix) exact ∙ reads.filters.1.0; differs = reads.filters.1.1 }
+
+  by_walk : WalksNext old new queued left candidates best entries (Some change) → SendsFrom old change
+  by_walk walks = at_next walks.walks.next walks.walks.changes
+    where
+      all_read : read_rows queued old.reader best ≡ best
+      all_read = ap (λ (o : Option (List (Change Route))). rows_before (unread_or_none o) best) walks.takes.0
+
+      at_next : (next : Option Network) → IsSentAt next (passed_rows (made_by old) old.filter best) (passed_rows (made_by old) new.filter best) (Some change) → SendsFrom old change
+      at_next None is = absurd (let clash : ◌≡◌ {A = Option (Change Attrs)} (Some change) None = is.0 in cc)
+      at_next (Some p) is = record { was = ap (λ (r : Rows Attrs). r change.prefix) (exact ∙ ap (outf_rows old) all_read) ∙ is.1.0; differs = is.1.1 }
+
+prefix_of_one : (p : Network) (before after : Option Attrs) → after ≢ before → ((b : Attrs) → before ≡ Some b → IsPrefix p) → ((a : Attrs) → after ≡ Some a → IsPrefix p) → IsPrefix p
+prefix_of_one p None None differs was is = absurd (differs refl)
+prefix_of_one p (Some b) after differs was is = was b refl
+prefix_of_one p None (Some a) differs was is = is a refl
+
+row_there : (form : Form) (peer : Neighbour) (rules : Option (List Rule)) (p : Network) (o : Option Route) (a : Attrs) → outgoing form peer rules p o ≡ Some a → (row : Route) × (o ≡ Some row) × (outgoing form peer rules p (Some row) ≡ Some a)
+row_there form peer rules p None a e = absurd (let clash : ◌≡◌ {A = Option Attrs} None (Some a) = e in cc)
+row_there form peer rules p (Some row) a e = (row, refl, e)
+
+-- the change that a turn sends can be said and printed
+module _ (peers : ℕ → Option Neighbour) (old new : OutChained) (now : Rows Route) (rows : AreBestRows peers now) (exact : HasSent new now) (chain : IsOutChain new) (profile : new.exit.profile ≡ plain) (same : new.exit ≡ old.exit) where
+  fits : new.exit.me.asn < 256 ^ width_of false
+  fits = subst (λ (p : Profile). new.exit.me.asn < 256 ^ width_of p.as4) profile chain.sender.asn
+
+  module _ (change : Change Attrs) (told : IsTold old.exit change) (at : tables.get new.sent change.prefix ≡ change.after) where
+    from_row : (a : Attrs) → change.after ≡ Some a → IsPrefix change.prefix × CanBeSpelled a
+    from_row a is =
+        let p = change.prefix in
+        let made : outf_rows new now p ≡ Some a = ap (λ (r : Rows Attrs). r p) (sym exact) ∙ at ∙ is in
+        let row = row_there (form_of new.exit) new.peer (function_at new.filter p) p (now p) a made in
+        let own = rows p row.0 row.1 in
+        (own.prefix, can_be_spelled peers new.exit p row.0 a fits own (is_form new.exit p row.0 a new.peer (function_at new.filter p) row.2))
+
+    after_printed : (a : Attrs) → change.after ≡ Some a → IsPrintableSent peers change.prefix a
+    after_printed a is =
+        let own = from_row a is in
+        let octets = octets_small old.exit.profile.as4 change.prefix change.after own.0 (λ b b_is. subst CanBeSpelled (let e : Some a ≡ Some b = sym is ∙ b_is in let same : a ≡ b = cc in same) own.1) in
+        record {
+          prefix = own.0;
+          printed = read_printable peers old.exit.profile old.exit.external (message_octets old.exit.profile.as4 change) (saying change.prefix change.after) a (each_small (message_octets old.exit.profile.as4 change) octets) told.reads (said change.after is);
+        }
+      where
+        said : (o : Option Attrs) → o ≡ Some a → (saying change.prefix o).attrs ≡ Some a
+        said None e = e
+        said (Some b) e = e
+
+    sayable : SendsFrom old change → ((p : Network) → ForSome (tables.get old.sent p) (IsPrintableSent peers p)) → IsSayable peers change
+    sayable from was =
+        let before : ForSome change.before (IsPrintableSent peers change.prefix) = λ b is. was change.prefix b (from.was ∙ is) in
+        let prefix : IsPrefix change.prefix = prefix_of_one change.prefix change.before change.after from.differs (λ b is. (before b is).prefix) (λ a is. (from_row a is).0) in
+        record { prefix = prefix; before = before; after = after_printed; octets = λ as4. octets_small as4 change.prefix change.after prefix (λ a is. (from_row a is).1) }
+
+-- ---- the steps
+module _ (peers : ℕ → Option Neighbour) (j : ℕ) (candidates : Candidates) (best : Rows Route) (sent : Option (Change Attrs)) (e e' : Exited) (said : List Line)
+    (declared : AreDeclared peers e) (stand : AllStand best e) (rows : AreBestRows peers best) (are : ArePrintableExits peers e) (turn : TurnsExit j candidates best sent e e' said) where
+  abbrev now : Rows Route
+  now = read_rows e'.queue turn.chain.reader best
+
+  at : chain_at j e' ≡ Some turn.taken
+  at = ap (chain_at j) turn.after ∙ put_here j turn.taken e'.queue e
+
+  number : turn.chain.peer.number ≡ j
+  number = ap (λ (w : Neighbour). w.number) (sym turn.same.peer) ∙ (turn.sound.each j turn.taken at).number
+
+  profile : turn.taken.exit.profile ≡ plain
+  profile = (turn.sound.each j turn.taken at).profile ∙ ap (λ (x : Exited). x.profile) turn.after ∙ declared.plain
+
+  own : IsPrintableExit peers j turn.chain
+  own = are.each j turn.chain turn.at
+
+  names : IsNamed (Adv turn.chain.peer.number turn.chain.session)
+  names = subst (λ (n : ℕ). IsNamed (Adv n turn.chain.session)) (sym number) own.named
+
+  queue : AreBestChanges peers e'.queue
+  queue = elim turn.turns.by as (λ _. AreBestChanges peers e'.queue) [
+    | inl reads ↦ queue_taken peers e.queue e'.queue turn.chain.reader (Some reads.change) are.unread reads.takes
+    | inr walks ↦ queue_taken peers e.queue e'.queue turn.chain.reader None are.unread walks.takes
+  ]
+
+  entries_are : AllByRecursion (λ x. IsPrinted peers (Journal x)) turn.turns.entries
+  entries_are = elim turn.turns.by as (λ _. AllByRecursion (λ x. IsPrinted peers (Journal x)) turn.turns.entries) [
+    | inl reads ↦ subst (λ (es : List (Entry Value)). AllByRecursion (λ x. IsPrinted peers (Journal x)) es) (sym reads.entry)
+        (best_printed peers (Read turn.chain.peer.number turn.chain.session) reads.change names (taken_change peers e.queue e'.queue turn.chain.reader reads.change are.unread reads.takes))
+    | inr walks ↦ subst (λ (es : List (Entry Value)). AllByRecursion (λ x. IsPrinted peers (Journal x)) es) (sym walks.entry) tt
+  ]
+
+  kept : turn.taken.sent ≡ sent_after turn.chain.sent sent
+  kept = turned_sent turn.chain turn.taken e.queue e'.queue candidates best sent said turn.turns
+
+  each_sayable : (change : Change Attrs) → sent ≡ Some change → IsSayable peers change
+  each_sayable change is =
+      sayable peers turn.chain turn.taken now (rows_read peers _ best (queue turn.chain.reader) rows) turn.turns.goes.exact (turn.stand j turn.taken at).chain profile turn.same.exit change
+      (turn.turns.goes.told change is)
+      (ap (λ r. tables.get r change.prefix) (kept ∙ ap (sent_after turn.chain.sent) is) ∙ sent_there peers turn.chain.sent change)
+      (from is) own.sent
+    where
+      from : sent ≡ Some change → SendsFrom turn.chain change
+      from is = elim turn.turns.by as (λ _. SendsFrom turn.chain change) [
+        | inl reads ↦ by_read turn.chain turn.taken e.queue e'.queue candidates best turn.turns.entries change (stand j turn.chain turn.at).exact
+            (subst (ReadsFirst turn.chain turn.taken e.queue e'.queue best turn.turns.entries) is reads)
+        | inr walks ↦ by_walk turn.chain turn.taken e.queue e'.queue candidates best turn.turns.entries change (stand j turn.chain turn.at).exact
+            (subst (WalksNext turn.chain turn.taken e.queue e'.queue candidates best turn.turns.entries) is walks)
+      ]
+
+  lines_are : ArePrinted peers (said_of turn.chain turn.turns.entries sent)
+  lines_are =
+      let c = turn.chain in
+      let outf = sent_entries attrs_value (Outf c.peer.number c.session) sent in
+      let adv = sent_entries attrs_value (Adv c.peer.number c.session) sent in
+      let all : AllByRecursion (λ x. IsPrinted peers (Journal x)) (turn.turns.entries ++ (outf ++ adv)) =
+      all_append (λ x. IsPrinted peers (Journal x)) turn.turns.entries (outf ++ adv) entries_are
+      (all_append (λ x. IsPrinted peers (Journal x)) outf adv (sent_printed peers (Outf c.peer.number c.session) sent names each_sayable) (sent_printed peers (Adv c.peer.number c.session) sent names each_sayable)) in
+      all_append (IsPrinted peers) (entry_lines (turn.turns.entries ++ (outf ++ adv))) (message_lines c sent) (entries_printed peers (turn.turns.entries ++ (outf ++ adv)) all)
+      (message_printed peers c sent names.0.1 turn.turns.goes.told each_sayable)
+
+  chain_is : IsPrintableExit peers j turn.taken
+  chain_is = record {
+    named = subst (λ (s : ℕ). IsNamed (Adv j s)) (sym turn.same.session) own.named;
+    sent = subst (λ r. (p : Network) → ForSome (tables.get r p) (IsPrintableSent peers p)) (sym kept) (sent_kept peers turn.chain.sent sent own.sent (λ change is. (each_sayable change is).after));
+  }
+
+  turn_prints : PrintsOn peers e' said
+  turn_prints = record {
+    lines = subst (ArePrinted peers) (sym turn.turns.goes.lines) lines_are;
+    exits = subst (ArePrintableExits peers) (sym turn.after) (record { unread = queue; each = each_put peers j turn.taken e'.queue e chain_is are.each });
+  }
+
+pub turn_is_printed : TurnIsPrinted
+turn_is_printed peers j candidates best sent e e' said declared stand rows are turn = turn_prints peers j candidates best sent e e' said declared stand rows are turn
+
+plain_entry : (peers : ℕ → Option Neighbour) (link : Link) → IsNamed link → IsPrinted peers (Journal (entries.Begin link)) × IsPrinted peers (Journal (entries.End link))
+plain_entry peers link named = (plain_printed peers (Journal (entries.Begin link)) refl refl named, plain_printed peers (Journal (entries.End link)) refl refl named)
+
+pub beginning_is_printed : BeginningIsPrinted
+beginning_is_printed peers me peer session rules e e' es named are begins = record {
+  lines = subst (λ (xs : List (Entry Value)). ArePrinted peers (entry_lines xs)) (sym begins.lines) (
+    plain_printed peers (Journal (entries.Inherit (Read peer.number session) Best)) refl refl (named, tt),
+    ((plain_entry peers (Outf peer.number session) named).0, ((plain_entry peers (Adv peer.number session) named).0, tt)),
+  );
+  exits = subst (ArePrintableExits peers) (sym begins.after) (begun_exits peers peer.number begins.reader (new_out (exit_to e.profile me peer) peer session begins.reader rules) e refl named are);
+}
+
+pub end_is_printed : EndIsPrinted
+end_is_printed peers j e e' es are ends =
+    let named = (are.each j ends.chain ends.at).named in
+    record {
+      lines = subst (λ (xs : List (Entry Value)). ArePrinted peers (entry_lines xs)) (sym ends.lines) (
+        (plain_entry peers (Read j ends.chain.session) named).1,
+        ((plain_entry peers (Outf j ends.chain.session) named).1, ((plain_entry peers (Adv j ends.chain.session) named).1, tt)),
+      );
+      exits = subst (ArePrintableExits peers) (sym ends.after) (ended_exits peers j ends.chain.reader e are);
+    }
+
+pub take_is_printed : TakeIsPrinted
+take_is_printed peers link reader change e queue named are takes = record {
+  lines = entries_printed peers (valued_change route_value link change) (best_printed peers link change named (taken_change peers e.queue queue reader change are.unread takes));
+  exits = with_unread peers queue e (queue_taken peers e.queue queue reader (Some change) are.unread takes) are;
+}
+
+-- ---- more peers
+module _ (before now : Declaration) (keeps : KeepsPeers before now) where
+  from_stays : (from : Option Neighbour) → from ≡ neighbours before (sender_number from) → from ≡ neighbours now (sender_number from)
+  from_stays None is = sym keeps.nobody
+  from_stays (Some w) is = sym (keeps.words w.number w (sym is))
+
+  best_stays : (p : Network) (row : Route) → IsPrintableBest (neighbours before) p row → IsPrintableBest (neighbours now) p row
+  best_stays p row is = record {
+    prefix = is.prefix;
+    heard = is.heard;
+    printed = record { well_told = record { ranges = is.printed.well_told.ranges; told = (is.printed.well_told.told.0, from_stays row.from is.printed.well_told.told.1) }; short = is.printed.short };
+  }
+
+  change_stays : (change : Change Route) → IsBestChange (neighbours before) change → IsBestChange (neighbours now) change
+  change_stays change is = record {
+    prefix = is.prefix;
+    before = λ r there. best_stays change.prefix r (is.before r there);
+    after = λ r there. best_stays change.prefix r (is.after r there);
+  }
+
+  sent_stays : (p : Network) (a : Attrs) → IsPrintableSent (neighbours before) p a → IsPrintableSent (neighbours now) p a
+  sent_stays p a is = record { prefix = is.prefix; printed = record { well_told = record { ranges = is.printed.well_told.ranges; told = is.printed.well_told.told }; short = is.printed.short } }
+
+pub printing_stays : PrintingStays
+printing_stays before now e keeps are = record {
+  unread = λ reader. all_mapped (IsBestChange (neighbours before)) (IsBestChange (neighbours now)) (change_stays before now keeps) (unread_by e.queue reader) (are.unread reader);
+  each = λ j c at. record { named = (are.each j c at).named; sent = λ p a is. sent_stays before now keeps p a ((are.each j c at).sent p a is) };
+}
