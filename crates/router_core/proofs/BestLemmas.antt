@@ -91,7 +91,7 @@ decides_some k sent change best m m' a h before now small is chains hops decides
   },
 )
   where
-    abbrev LeadsBy : Chains → Resolvers → Type 0
+    LeadsBy : Chains → Resolvers → Type 0
     LeadsBy x y = (was : PeerRows) (p : Network) → ComesOn k p sent was (resolved_at x y) → IsSent (best_rows was) (best_rows (resolved_at x y)) p best
 
     low : k < 65

@@ -92,9 +92,6 @@ fed_one k p row sent m fallen m' entries rest stands up heard f w =
     after : Moment
     after = with_exits (with_hops (with_chains m m'.chains) m'.registry m'.hops) m'.exits
 
-    decides : IsSent (best_at m.chains m.hops) (best_at fallen m'.hops) p w.decided.best
-    decides = w.decided.decides (resolved_at m.chains m.hops) p goes.comes
-
     put : m'.chains ≡ put_chain k (welded (fed f.feeds.chain p row)) m.chains
     put = weld_after k m.chains fallen m'.chains (fed f.feeds.chain p row) w.weld f.feeds.after w.welds.welds
 
@@ -103,6 +100,9 @@ fed_one k p row sent m fallen m' entries rest stands up heard f w =
 
     goes : GoesOn k p w.passed m.hops m'.hops w.resolved (filt_at m.chains) (filt_at fallen)
     goes = w.below.goes (filt_at m.chains) (filt_at fallen) p (stands.own HopsCounted) (record { here = f.changes.rows; others = f.changes.others })
+
+    decides : IsSent (best_at m.chains m.hops) (best_at fallen m'.hops) p w.decided.best
+    decides = w.decided.decides (resolved_at m.chains m.hops) p goes.comes
 
     peer : (q : DeclaredPeer) × (peer_at k m.declared.peers ≡ Some q) × PeerStands q f.feeds.chain
     peer = peer_of m stands k f.feeds.chain f.feeds.at

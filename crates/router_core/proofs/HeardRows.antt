@@ -91,7 +91,7 @@ heard_filt_at a k each = by_chain (chain_at k a) refl
   where
     by_chain : (o : Option Chained) → chain_at k a ≡ o → RowsMayBeHeard plain (filt_by o)
     by_chain None at p r is = absurd (cc)
-    by_chain (Some c) at = heard_filt c (each k c at)
+    by_chain (Some c) at p r is = heard_filt c (each k c at) p r is
 
 with_heard : (r row : Route) (igp : Option ℕ) → with_igp r igp ≡ Some row → MayBeHeard plain r.attrs → MayBeHeard plain row.attrs
 with_heard r row None is h = absurd (cc)
@@ -128,7 +128,7 @@ changes_heard u own =
 
 -- what octets say may be heard
 pub message_heard : (external : Bool) (octets : List ℕ) (message : Message) → AreOctets octets → Reads plain external octets message → IsHeardMessage message
-message_heard external octets (messages.Update u) are reads a at = read_may_be_heard plain external octets u a are reads at
+message_heard external octets (messages.Update u) are reads = λ a at. read_may_be_heard plain external octets u a are reads at
 message_heard external octets messages.Keepalive are reads = tt
 message_heard external octets messages.Notification are reads = tt
 message_heard external octets messages.Skip are reads = tt

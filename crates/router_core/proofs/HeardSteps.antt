@@ -48,7 +48,7 @@ heard_join a b c xs ys same x y =
     (subst (λ (d : Declaration). Hears (neighbours d) (views_of b.exits) ys (views_of c.exits)) same y)
 
 pub same_views : (e e' : Exited) → e'.chains ≡ e.chains → views_of e' ≡ views_of e
-same_views e e' same = ap (λ (a : OutChains) (j : ℕ). sent_by (tables.get a j)) same
+same_views e e' same = ap {B = Views} (λ (a : OutChains) (j : ℕ). sent_by (tables.get a j)) same
 
 pub queue_views : (best : Option (Change Route)) (e e' : Exited) → Queues best e e' → views_of e' ≡ views_of e
 queue_views best e e' q = same_views e e' (queue_chains e e' best q)

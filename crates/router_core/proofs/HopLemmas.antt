@@ -254,7 +254,7 @@ settled_peer k sent passed m m1 m2 v cs before j l now view res after best welds
     same : m1.chains ≡ m.chains
     same = ap (λ (x : Moment). x.chains) after
 
-    abbrev LeadsBy : Chains → Type 0
+    LeadsBy : Chains → Type 0
     LeadsBy a = (was : PeerRows) (p : Network) → ComesOn k p passed was (resolved_at a m1.hops) → IsSent (best_rows was) (best_rows (resolved_at a m1.hops)) p best.2.decided.best
 
     w : Adds (WeldsInward k m.chains cs) l now

@@ -37,7 +37,7 @@ use Rattle.router_core.specs.Phases.{beyond_by, beyonds}
 use Rattle.router_core.proofs.BestLemmas.{best_of_none}
 use Rattle.router_core.proofs.QueueLemmas.{ExitsStand, reader_live, exits_fall}
 use Rattle.router_core.proofs.SpendLemmas.{Spent, hop_spends}
-use Rattle.router_core.specs.Stands.{Stands, Claim, Claims, EachResolver, SameResolvers, AnswersAgree, HopsCounted, NoStrangers, SmallNumbers, EachRow, EachExit, ExitsRead, PlainExits, OneSender, SameSessions, OneReader, Tie, Ties, Registered, here}
+use Rattle.router_core.specs.Stands.{Stands, Claim, Claims, EachResolver, SameResolvers, AnswersAgree, HopsCounted, NoStrangers, SmallNumbers, EachRow, EachExit, QueueLeads, ExitsRead, PlainExits, OneSender, SameSessions, OneReader, Tie, Ties, Registered, here}
 use Rattle.router_core.specs.Turns.{journal_lines, sent_of}
 use Rattle.router_core.specs.Works.{IsUnit, Comes, Decides}
 use Rattle.router_core.proofs.HopLemmas.{HopsStand, hops_fall, leads_resolved}
@@ -65,6 +65,7 @@ stands_resolved m r h e stands rows hops exits = record { own = own; at = at }
     own NoStrangers = hops.strangers
     own EachRow = exits.rows
     own EachExit = exits.each
+    own QueueLeads = exits.all
     own ExitsRead = exits.read
     own PlainExits = exits.plain
     own OneSender = exits.sender

@@ -1,5 +1,5 @@
 -- The next task of a phase.
-use Rattle.std.proofs.Common.{◌≡◌, ℕ, Bool, true, false, not, is_nil, length, cond, List, [], ◌∷◌, ◌++◌, map, Option, Some, None, is_some, refl, sym, ap, subst, ◌∙◌}
+use Rattle.std.proofs.Common.{◌≡◌, ℕ, Bool, true, false, length, cond, List, [], ◌∷◌, ◌++◌, map, Option, Some, None, is_some, refl, sym, ap, subst, ◌∙◌}
 use Rattle.std.specs.Prelude.{IfNone, option_map}
 use Rattle.hop_side.specs.Resolvers.{Beyonds, has_hop_work, left_in}
 use Rattle.std.specs.List.{AllByRecursion, find}
@@ -29,6 +29,7 @@ use Rattle.router_core.specs.Stands.{Stands, InteriorTree}
 use Rattle.addr4.specs.Prefixes.{Network}
 use Rattle.bgp_attr.specs.declared.route.Route.{Route}
 use Rattle.link_change.specs.declared.change.Change.{Change}
+use Rattle.out_chain.specs.Chains.{is_unread}
 use Rattle.exit_side.specs.Exits.{has_exit_work, left_in as exits_left_in}
 use Rattle.router_core.specs.Phases.{beyonds, best_beyond, unread_if, counts}
 use Rattle.router_core.proofs.CountLemmas.{over_none}
@@ -121,7 +122,7 @@ next_of_reader r m task is next = next ∙ ap (λ (e : Phase). next_task e m) (s
 pub none_of_reader : (r : Phase) (m : Moment) (task : Option Task) → r ≡ ReadRib → task ≡ next_task ReadRib m → IfNone task (counts m r ≡ 0)
 none_of_reader r m task is next = subst (λ (o : Option Task). IfNone o (counts m r ≡ 0)) (sym next) (by_unread (unread_if m.exits.queue m.reader) refl)
   where
-    by_unread : (u : List (Change Route)) → unread_if m.exits.queue m.reader ≡ u → IfNone (cond (not (is_nil u)) (Some tasks.ReadRib) None) (counts m r ≡ 0)
+    by_unread : (u : List (Change Route)) → unread_if m.exits.queue m.reader ≡ u → IfNone (cond (is_unread u) (Some tasks.ReadRib) None) (counts m r ≡ 0)
     by_unread [] at = ap (counts m) is ∙ ap (λ (l : List (Change Route)). length l) at
     by_unread (x ∷ u) at = tt
 

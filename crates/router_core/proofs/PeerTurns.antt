@@ -108,9 +108,6 @@ unit_done task sent m fallen m' entries rest stands t w =
     after : Moment
     after = with_exits (with_hops (with_chains m m'.chains) m'.registry m'.hops) m'.exits
 
-    decides : IsSent (best_at m.chains m.hops) (best_at fallen m'.hops) t.changes.0 w.decided.best
-    decides = w.decided.decides (resolved_at m.chains m.hops) t.changes.0 goes.comes
-
     put : m'.chains ≡ put_chain (peer_of task) (welded t.turn.turned_chain) m.chains
     put = weld_after (peer_of task) m.chains fallen m'.chains t.turn.turned_chain w.weld t.turn.after w.welds.welds
 
@@ -122,6 +119,9 @@ unit_done task sent m fallen m' entries rest stands t w =
 
     goes : GoesOn (peer_of task) t.changes.0 w.passed m.hops m'.hops w.resolved (filt_at m.chains) (filt_at fallen)
     goes = w.below.goes (filt_at m.chains) (filt_at fallen) t.changes.0 (stands.own HopsCounted) (record { here = t.changes.1.rows; others = t.changes.1.others })
+
+    decides : IsSent (best_at m.chains m.hops) (best_at fallen m'.hops) t.changes.0 w.decided.best
+    decides = w.decided.decides (resolved_at m.chains m.hops) t.changes.0 goes.comes
 
     p : (q : DeclaredPeer) × (peer_at (peer_of task) m.declared.peers ≡ Some q) × PeerStands q t.turn.chain
     p = peer_at_chain m stands (peer_of task) t.turn.chain t.turn.at

@@ -12,12 +12,13 @@ use Rattle.bgp_attr.specs.declared.speaker.Profile.{Profile}
 use Rattle.link_change.specs.Rows.{Rows}
 use Rattle.link_change.specs.Changes.{IsSent}
 use Rattle.link_change.specs.declared.change.Change.{Change}
+use Rattle.event_text.specs.declared.declared.DeclaredPeer.{DeclaredPeer}
 use Rattle.event_text.specs.Declarations.{peer_at}
 use Rattle.journal_text.specs.declared.link.Link.{Link}
 use Rattle.journal_text.specs.declared.link.Link.TheVariants.{ReadRib}
 use Rattle.journal_text.specs.Values.{route_rows}
-use Rattle.fanout_queue.specs.Queues.{Queued}
-use Rattle.fanout_queue.proofs.LeadLemmas.{put_keeps_read, put_keeps_readers}
+use Rattle.fanout_queue.specs.Queues.{Queued, AllLead}
+use Rattle.fanout_queue.proofs.LeadLemmas.{put_keeps_read, put_keeps_readers, put_keeps_leading}
 use Rattle.peer_out.specs.Changes.{MayBeHeard}
 use Rattle.out_chain.specs.Chains.{OutChained, RowsMayBeHeard}
 use Rattle.exit_side.specs.Exits.{Exited, OutChains, chain_at as exit_at, with_queue, exit_links, IsExits, AllStand, left_in}
@@ -25,14 +26,39 @@ use Rattle.exit_side.specs.Steps.{PutsExit}
 use Rattle.hop_side.specs.Resolvers.{Resolvers}
 use Rattle.peer_side.specs.Peers.{Chains}
 use Rattle.router_core.specs.Bests.{best_at, Queues}
-use Rattle.router_core.specs.Moments.{Moment, read_by, read_links, plain, rules_to}
-use Rattle.router_core.specs.Stands.{Stands, Claim, Claims, EachRow, EachExit, ExitsRead, PlainExits, OneSender, SameSessions, OneReader, RowsWereHeard, MaySend, ExitsAt, ReadsAs, ReadsOn}
+use Rattle.router_core.specs.Moments.{Moment, Policies, read_by, read_links, plain, rules_to}
+use Rattle.router_core.specs.Stands.{Stands, Claim, Claims, EachRow, EachExit, QueueLeads, ExitsRead, PlainExits, OneSender, SameSessions, OneReader, RowsWereHeard, MaySend, IsExitOf, ExitsAt, ReadsAs, ReadsOn}
 use Rattle.router_core.proofs.HeardRows.{heard_best}
+
+-- ---- who has none
+pub exits_none : (s : Option Speaker) (policies : Policies) (k : ℕ) (p : Option DeclaredPeer) → ExitsAt s policies k p None
+exits_none (Some me) policies k (Some p) = tt
+exits_none (Some me) policies k None = tt
+exits_none None policies k p = tt
+
+pub none_before : (policies : Policies) (k : ℕ) (p : Option DeclaredPeer) (o : Option OutChained) → ExitsAt None policies k p o → o ≡ None
+none_before policies k p None is = refl
+none_before policies k p (Some c) is = absurd is
+
+-- a peer that is up has its own
+pub exit_of : (s : Option Speaker) (policies : Policies) (k : ℕ) (p : DeclaredPeer) (c : OutChained) → ExitsAt s policies k (Some p) (Some c) → (me : Speaker) × (s ≡ Some me) × IsExitOf me (rules_to k policies) p c
+exit_of (Some me) policies k p c is = (me, refl, is)
+exit_of None policies k p c is = absurd is
+
+pub no_exit_down : (s : Option Speaker) (policies : Policies) (k : ℕ) (p : DeclaredPeer) (o : Option OutChained) → p.up ≡ false → ExitsAt s policies k (Some p) o → o ≡ None
+no_exit_down s policies k p None down is = refl
+no_exit_down s policies k p (Some c) down is = let x = exit_of s policies k p c is in let up = x.2.up in absurd (let clash : true ≡ false = sym up ∙ down in cc)
+
+pub undeclared_none : (s : Option Speaker) (policies : Policies) (k : ℕ) (o : Option OutChained) → ExitsAt s policies k None o → o ≡ None
+undeclared_none s policies k None is = refl
+undeclared_none (Some me) policies k (Some c) is = absurd is
+undeclared_none None policies k (Some c) is = absurd is
 
 -- ---- what is claimed of the exits, and of what is sent
 pub record ExitsStand (m : Moment) : Type 0 where
   pub rows : RowsWereHeard m.chains
   pub each : IsExits m.exits
+  pub all : AllLead m.exits.queue (best_at m.chains m.hops)
   pub read : AllStand (best_at m.chains m.hops) m.exits
   pub plain : m.exits.profile ≡ plain
   pub sender : MaySend m.declared.speaker
@@ -43,6 +69,7 @@ pub exits_of : (m : Moment) → Stands m → ExitsStand m
 exits_of m stands = record {
   rows = stands.own EachRow;
   each = stands.own EachExit;
+  all = stands.own QueueLeads;
   read = stands.own ExitsRead;
   plain = stands.own PlainExits;
   sender = stands.own OneSender;
@@ -63,9 +90,9 @@ reader_live m stands = reads_live m.declared.speaker m.reader m.exits (stands.ow
 -- and no peer's
 reads_apart : (s : Option Speaker) (reader : Option ℕ) (e : Exited) → ReadsOn s reader e → (r : ℕ) → reader ≡ Some r → (j : ℕ) (c : OutChained) → exit_at j e ≡ Some c → c.reader ≢ r
 reads_apart (Some me) (Some q) e on r is j c at = let same : q ≡ r = cc in subst (λ (n : ℕ). c.reader ≢ n) same (on.own j c at)
-reads_apart (Some me) None e on r is = absurd on
-reads_apart None (Some q) e on r is = absurd on
-reads_apart None None e on r is = absurd (cc)
+reads_apart (Some me) None e on r is j c at = absurd on
+reads_apart None (Some q) e on r is j c at = absurd on
+reads_apart None None e on r is j c at = absurd (cc)
 
 pub reader_apart : (m : Moment) → Stands m → (r : ℕ) → m.reader ≡ Some r → (j : ℕ) (c : OutChained) → exit_at j m.exits ≡ Some c → c.reader ≢ r
 reader_apart m stands = reads_apart m.declared.speaker m.reader m.exits (stands.own OneReader)
@@ -113,6 +140,10 @@ module _ (e e' : Exited) where
       each ReadRib = queue_read best reader old new p live q sent
       each other = refl
 
+  queue_all : (best : Option (Change Route)) (old new : Rows Route) (p : Network) → Queues best e e' → IsSent old new p best → AllLead e.queue old → AllLead e'.queue new
+  queue_all None old new p q sent all = subst (λ (x : Exited). AllLead x.queue new) (sym q) (subst (λ (rows : Rows Route). AllLead e.queue rows) (sym sent) all)
+  queue_all (Some c) old new p q sent all = put_keeps_leading e.queue e'.queue old new p c q.appends sent all
+
   queue_stand : (best : Option (Change Route)) (old new : Rows Route) (p : Network) → e.profile ≡ plain → RowsMayBeHeard plain new → Queues best e e' → IsSent old new p best → AllStand old e → AllStand new e'
   queue_stand None old new p is heard q sent all = subst (λ (x : Exited). AllStand new x) (sym q) (subst (λ (rows : Rows Route). AllStand rows e) (sym sent) all)
   queue_stand (Some c) old new p is heard q sent all = q.stand old new p sent own all
@@ -127,6 +158,8 @@ pub exits_fall : (m : Moment) (a : Chains) (h : Resolvers) (e : Exited) (now : M
 exits_fall m a h e now best p stands rows q sent declared outgoing reader chains hops exits = record {
   rows = subst RowsWereHeard (sym chains) rows;
   each = subst IsExits (sym exits) (queue_sound m.exits e best q (stands.own EachExit));
+  all = subst (λ (x : Exited). AllLead x.queue (best_at now.chains now.hops)) (sym exits) (subst (λ (x : Chains). AllLead e.queue (best_at x now.hops)) (sym chains) (subst (λ (x : Resolvers). AllLead e.queue (best_at a x)) (sym hops)
+      (queue_all m.exits e best (best_at m.chains m.hops) (best_at a h) p q sent (stands.own QueueLeads))));
   read = subst (λ (x : Exited). AllStand (best_at now.chains now.hops) x) (sym exits) (subst (λ (x : Chains). AllStand (best_at x now.hops) e) (sym chains) (subst (λ (x : Resolvers). AllStand (best_at a x) e) (sym hops)
       (queue_stand m.exits e best (best_at m.chains m.hops) (best_at a h) p (stands.own PlainExits) (heard_best a h rows) q sent (stands.own ExitsRead))));
   plain = ap (λ (x : Exited). x.profile) exits ∙ queue_profile m.exits e best q ∙ stands.own PlainExits;

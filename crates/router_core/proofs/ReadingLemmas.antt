@@ -91,7 +91,7 @@ unread_is e n is = by_bool (nat_eq n 0) (λ b. n ≡ most_unread e)
     omega (arith, low, high, same))
 
 -- a change that is put adds one at most
-pub sent_count : Option (Change Route) → ℕ
+abbrev pub sent_count : Option (Change Route) → ℕ
 sent_count None = 0
 sent_count (Some c) = 1
 
@@ -204,14 +204,14 @@ module _ {X : Type 0} (f g : X → ℕ) where
 -- ---- the branches
 any_at : (test : ℕ → Bool) (a n : ℕ) → list_any test (range_with_len a n) ≡ true → (b : ℕ) × (test b ≡ true)
 any_at test a zero is = absurd (cc)
-any_at test a (suc n) is = by_bool (test a) (λ t. (t || list_any test (range_with_len (suc a) n)) ≡ true → (b : ℕ) × (test b ≡ true)) (λ e _. (a, e)) (λ _ rest. any_at test (suc a) n rest) is
+any_at test a (suc n) is = by_bool (test a) (λ t. (t || list_any test (range_with_len (a + 1) n)) ≡ true → (b : ℕ) × (test b ≡ true)) (λ e _. (a, e)) (λ _ rest. any_at test (a + 1) n rest) is
 
 none_at : (test : ℕ → Bool) (a n : ℕ) → list_any test (range_with_len a n) ≡ false → (b : ℕ) → a ≤ b → b < a + n → test b ≡ false
 none_at test a zero is b from to = absurd (omega (arith, from, to))
 none_at test a (suc n) is b from to =
-    by_bool (test a) (λ t. (t || list_any test (range_with_len (suc a) n)) ≡ false → test a ≡ t → test b ≡ false) (λ _ clash _. absurd (cc))
+    by_bool (test a) (λ t. (t || list_any test (range_with_len (a + 1) n)) ≡ false → test a ≡ t → test b ≡ false) (λ _ clash _. absurd (cc))
     (λ _ rest here. by_bool (nat_eq b a) (λ u. test b ≡ false) (λ e. let same : b ≡ a = grind (arith, nat_tests) in ap test same ∙ here)
-    (λ e. let apart : b ≢ a = λ same. let clash : nat_eq b a ≡ true = grind (arith, nat_tests) in cc in none_at test (suc a) n rest b (omega (arith, from, apart)) (omega (arith, to))))
+    (λ e. let apart : b ≢ a = λ same. let clash : nat_eq b a ≡ true = grind (arith, nat_tests) in cc in none_at test (a + 1) n rest b (omega (arith, from, apart)) (omega (arith, to))))
     is refl
 
 module _ (a : Chains) (small : (k : ℕ) → IsSome (chain_at k a) → k ≤ 64) where

@@ -33,7 +33,8 @@ use Rattle.journal_laws.specs.Peers.{neighbours}
 use Rattle.event_text.specs.declared.declared.DeclaredPeer.{DeclaredPeer}
 use Rattle.event_text.specs.declared.event.Event.TheVariants as events
 use Rattle.event_text.specs.Declarations.{Declaration, peer_at, begun_at, with_session, refusal, refusal_at, rules_refusal, session_refusal}
-use Rattle.fanout_queue.specs.Queues.{Queued}
+use Rattle.fanout_queue.specs.Queues.{Queued, AllLead}
+use Rattle.fanout_queue.proofs.LeadLemmas.{join_keeps_leading, drop_keeps_leading}
 use Rattle.peer_out.specs.Changes.{IsSender}
 use Rattle.out_chain.specs.Chains.{OutChained, RowsMayBeHeard}
 use Rattle.exit_side.specs.Exits.{Exited, OutChains, chain_at as exit_at, with_exit, without_exit, with_queue, exit_links, IsExits, AllStand}
@@ -50,7 +51,7 @@ use Rattle.live_state.specs.Lives.{LiveState, with_rules, begun_if_down}
 use Rattle.router_core.specs.Bests.{best_at, best_links}
 use Rattle.router_core.specs.Moments.{Moment, Policies, plain, with_exits, read_by, read_links, router_links, rules_to, rules_by}
 use Rattle.router_core.specs.Lives.{live_state}
-use Rattle.router_core.specs.Stands.{Stands, Claim, Claims, EachExit, ExitsRead, PlainExits, OneSender, SameSessions, OneReader, EachRow, OneSpeaker, InteriorTree, MaySend, IsExitOf, ExitsAt, ReadsAs, ReadsOn, AllHaveExits}
+use Rattle.router_core.specs.Stands.{Stands, Claim, Claims, EachExit, QueueLeads, ExitsRead, PlainExits, OneSender, SameSessions, OneReader, EachRow, OneSpeaker, InteriorTree, MaySend, IsExitOf, ExitsAt, ReadsAs, ReadsOn, AllHaveExits}
 use Rattle.router_core.specs.Turns.{journal_lines}
 use Rattle.router_core.specs.Blocks.{begun, ByPeer, BeginsIf, BySpeaker, Begins, Redirects}
 use Rattle.router_core.specs.Peers.{is_up}
@@ -58,11 +59,12 @@ use Rattle.router_core.specs.Works.{Keeps, HasStepped, BeginsSession, SendsAs, P
 use Rattle.router_core.specs.Printable.{IsHeard}
 use Rattle.router_core.proofs.HeardRows.{heard_best}
 use Rattle.router_core.proofs.HeardSteps.{heard_quiet}
+use Rattle.router_core.proofs.QueueLemmas.{exits_none, none_before, exit_of, no_exit_down}
 use Rattle.router_core.proofs.PeerLemmas.{begun_stands, may_begin, peer_at_map}
 use Rattle.event_text.proofs.Sessions.{begun_words}
 
 -- ---- a chain at a number, and at another
-exit_here : (j : ℕ) (c : OutChained) (queue : Queued Route) (e : Exited) → exit_at j (with_exit j c queue e) ≡ Some c
+pub exit_here : (j : ℕ) (c : OutChained) (queue : Queued Route) (e : Exited) → exit_at j (with_exit j c queue e) ≡ Some c
 exit_here j c queue e = get-insert nat_cmp_total e.chains j c j ∙ ap (λ b. cond b (Some c) (exit_at j e)) (same_key j)
   where
     same_key : (k : ℕ) → eq_by_cmp nat_cmp k k ≡ true
@@ -71,7 +73,7 @@ exit_here j c queue e = get-insert nat_cmp_total e.chains j c j ∙ ap (λ b. co
 key_apart : (k j : ℕ) → nat_eq k j ≡ false → eq_by_cmp nat_cmp k j ≡ false
 key_apart k j apart = grind (arith, nat_tests)
 
-exit_elsewhere : (j k : ℕ) (c : OutChained) (queue : Queued Route) (e : Exited) → nat_eq k j ≡ false → exit_at k (with_exit j c queue e) ≡ exit_at k e
+pub exit_elsewhere : (j k : ℕ) (c : OutChained) (queue : Queued Route) (e : Exited) → nat_eq k j ≡ false → exit_at k (with_exit j c queue e) ≡ exit_at k e
 exit_elsewhere j k c queue e apart = get-insert nat_cmp_total e.chains j c k ∙ ap (λ b. cond b (Some c) (exit_at k e)) (key_apart k j apart)
 
 key_same : (k : ℕ) → eq_by_cmp nat_cmp k k ≡ true
@@ -83,32 +85,14 @@ exit_gone j queue e = get-remove nat_cmp_total e.chains j j ∙ ap (λ b. cond b
 exit_left : (j k : ℕ) (queue : Queued Route) (e : Exited) → nat_eq k j ≡ false → exit_at k (without_exit j queue e) ≡ exit_at k e
 exit_left j k queue e apart = get-remove nat_cmp_total e.chains j k ∙ ap (λ b. cond b None (exit_at k e)) (key_apart k j apart)
 
--- ---- who has none
-pub exits_none : (s : Option Speaker) (policies : Policies) (k : ℕ) (p : Option DeclaredPeer) → ExitsAt s policies k p None
-exits_none (Some me) policies k (Some p) = tt
-exits_none (Some me) policies k None = tt
-exits_none None policies k p = tt
-
-none_before : (policies : Policies) (k : ℕ) (p : Option DeclaredPeer) (o : Option OutChained) → ExitsAt None policies k p o → o ≡ None
-none_before policies k p None is = refl
-none_before policies k p (Some c) is = absurd is
-
--- a peer that is up has its own
-exit_of : (s : Option Speaker) (policies : Policies) (k : ℕ) (p : DeclaredPeer) (c : OutChained) → ExitsAt s policies k (Some p) (Some c) → (me : Speaker) × (s ≡ Some me) × IsExitOf me (rules_to k policies) p c
-exit_of (Some me) policies k p c is = (me, refl, is)
-exit_of None policies k p c is = absurd is
-
-no_exit_down : (s : Option Speaker) (policies : Policies) (k : ℕ) (p : DeclaredPeer) (o : Option OutChained) → p.up ≡ false → ExitsAt s policies k (Some p) o → o ≡ None
-no_exit_down s policies k p None down is = refl
-no_exit_down s policies k p (Some c) down is = let x = exit_of s policies k p c is in let up = x.2.up in absurd (let clash : true ≡ false = sym up ∙ down in cc)
-
 -- ---- the exits became these
-pub stands_exits : (m : Moment) (e : Exited) → Stands m → IsExits e → AllStand (best_at m.chains m.hops) e → e.profile ≡ plain → ((k : ℕ) → ExitsAt m.declared.speaker m.outgoing k (peer_at k m.declared.peers) (exit_at k e)) → ReadsOn m.declared.speaker m.reader e
+pub stands_exits : (m : Moment) (e : Exited) → Stands m → IsExits e → AllLead e.queue (best_at m.chains m.hops) → AllStand (best_at m.chains m.hops) e → e.profile ≡ plain → ((k : ℕ) → ExitsAt m.declared.speaker m.outgoing k (peer_at k m.declared.peers) (exit_at k e)) → ReadsOn m.declared.speaker m.reader e
     → Stands (with_exits m e)
-stands_exits m e stands sound stand profile sessions reader = record { own = own; at = stands.at }
+stands_exits m e stands sound all stand profile sessions reader = record { own = own; at = stands.at }
   where
     own : (claim : Claim) → Claims (with_exits m e) claim
     own EachExit = sound
+    own QueueLeads = all
     own ExitsRead = stand
     own PlainExits = profile
     own SameSessions = sessions
@@ -169,7 +153,7 @@ silenced k m e entries stands ends = record {
   leads = subst (λ (es : List (Entry Value)). Leads (router_links m) es (router_links (with_exits m e))) (sym (entries_of_entries entries))
       (exits_lead m e entries (λ r is. (kept r is).unread) (ends.leads (best_at m.chains m.hops)));
   live = refl;
-  stands = stands_exits m e stands ends.sound (ends.stand (best_at m.chains m.hops) (stands.own ExitsRead)) (ap (λ (x : Exited). x.profile) ends.after ∙ stands.own PlainExits) sessions
+  stands = stands_exits m e stands ends.sound (subst (λ (x : Exited). AllLead x.queue (best_at m.chains m.hops)) (sym ends.after) (drop_keeps_leading m.exits.queue (best_at m.chains m.hops) ends.chain.reader (stands.own QueueLeads))) (ends.stand (best_at m.chains m.hops) (stands.own ExitsRead)) (ap (λ (x : Exited). x.profile) ends.after ∙ stands.own PlainExits) sessions
       (strangers_read m.declared.speaker m.reader m.exits e kept (stands.own OneReader));
   heard = end_is_heard (neighbours m.declared) k m.exits e entries ends;
 }
@@ -216,7 +200,7 @@ module _ (k : ℕ) (m m' : Moment) (p : DeclaredPeer) (entries : List (Entry Val
       (λ same. subst (λ (n : ℕ). ExitsAt m.declared.speaker m.outgoing n (peer_at n (with_session m.declared k).peers) (exit_at n (with_exit k new (tables.insert m.exits.queue begins.reader []) m.exits))) (sym (equal_by j k same))
       (subst (λ (o : Option OutChained). ExitsAt m.declared.speaker m.outgoing k (peer_at k (with_session m.declared k).peers) o) (sym (exit_here k new (tables.insert m.exits.queue begins.reader []) m.exits))
       (subst (λ (o : Option DeclaredPeer). ExitsAt m.declared.speaker m.outgoing k o (Some new)) (sym (b.at ∙ ap Some peer_is))
-      (subst (λ (s : Option Speaker). ExitsAt s m.outgoing k (Some (record { words = p.words; session = p.session + 1; up = true })) (Some new)) (sym b.local) (record { up = refl; session = refl; words = refl; me = refl; rules = refl })))))
+      (subst (λ (s : Option Speaker). ExitsAt s m.outgoing k (Some (record { words = p.words; session = p.session + 1; up = true })) (Some new)) (sym b.local) (record { up = refl; session = refl; words = refl; speaker = refl; latest = refl })))))
       (λ apart. subst (λ (o : Option OutChained). ExitsAt m.declared.speaker m.outgoing j (peer_at j (with_session m.declared k).peers) o) (sym (exit_elsewhere k j new (tables.insert m.exits.queue begins.reader []) m.exits apart)) (stands.own SameSessions j)))
     where
       new : OutChained
@@ -232,6 +216,7 @@ module _ (k : ℕ) (m m' : Moment) (p : DeclaredPeer) (entries : List (Entry Val
     leads = begun_leads;
     live = refl;
     stands = stands_exits (begun m k) m'.exits stands begins.sound
+        (subst (λ (x : Exited). AllLead x.queue (best_at m.chains m.hops)) (sym begins.after) (join_keeps_leading m.exits.queue (best_at m.chains m.hops) begins.reader (stands.own QueueLeads)))
         (begins.stand (best_at m.chains m.hops) (subst (λ (x : Profile). RowsMayBeHeard x (best_at m.chains m.hops)) (sym (stands.own PlainExits)) (heard_best m.chains m.hops (stands.own EachRow))) (stands.own ExitsRead))
         (ap (λ (x : Exited). x.profile) begins.after ∙ stands.own PlainExits) sessions_then (strangers_read m.declared.speaker m.reader m.exits m'.exits kept_by (stands.own OneReader));
     heard = beginning_is_heard (neighbours m.declared) b.me p.words (p.session + 1) (rules_to k m.outgoing) m.exits m'.exits entries begins;
@@ -329,7 +314,7 @@ module _ (m : Moment) (k : ℕ) (rules : List Rule) (e : Exited) (stands : Stand
   here_at : (s : Option Speaker) (p : Option DeclaredPeer) (o : Option OutChained) → exit_at k m.exits ≡ o → ExitsAt s m.outgoing k p o → ExitsAt s (tables.insert m.outgoing k rules) k p (exit_at k (edited_by k rules o m.exits))
   here_at s p None at is = subst (λ (x : Option OutChained). ExitsAt s (tables.insert m.outgoing k rules) k p x) (sym at) (exits_none s (tables.insert m.outgoing k rules) k p)
   here_at (Some me) (Some p) (Some c) at is = subst (λ (x : Option OutChained). ExitsAt (Some me) (tables.insert m.outgoing k rules) k (Some p) x) (sym (exit_here k (with_rules_out rules c) m.exits.queue m.exits))
-      (record { up = is.up; session = is.session; words = is.words; me = is.me; rules = edited_present c.filter.in_force c.filter.walk rules ∙ ap Some (sym (rules_same m.outgoing k rules)) })
+      (record { up = is.up; session = is.session; words = is.words; speaker = is.speaker; latest = edited_present c.filter.in_force c.filter.walk rules ∙ ap Some (sym (rules_same m.outgoing k rules)) })
   here_at (Some me) None (Some c) at is = absurd is
   here_at None p (Some c) at is = absurd is
 
@@ -352,6 +337,7 @@ module _ (m : Moment) (k : ℕ) (rules : List Rule) (e : Exited) (stands : Stand
     where
       own : (claim : Claim) → Claims redirected claim
       own EachExit = edits.sound
+      own QueueLeads = subst (λ (x : Queued Route). AllLead x (best_at m.chains m.hops)) (sym (ap (λ (x : Exited). x.queue) edits.after ∙ edited_queue k rules (exit_at k m.exits) m.exits)) (stands.own QueueLeads)
       own ExitsRead = edits.stand (best_at m.chains m.hops) (stands.own ExitsRead)
       own PlainExits = ap (λ (x : Exited). x.profile) edits.after ∙ edited_profile k rules (exit_at k m.exits) m.exits ∙ stands.own PlainExits
       own SameSessions = sessions_edited
@@ -374,7 +360,7 @@ module _ (m : Moment) (k : ℕ) (rules : List Rule) (e : Exited) (stands : Stand
     live = record (live_state m) { outgoing = with_rules (live_state m).outgoing k rules };
     after = refl;
     keeps = record {
-      leads = leads_nowhere (router_links m) (router_links redirected) same_links;
+      leads = leads_nowhere (router_links m) (router_links redirected) (sym same_links);
       live = λ i. record (live_state m) { outgoing = λ j. rules_then m.outgoing k j rules i };
       stands = redirected_stands;
       heard = heard_quiet m redirected [] tt (edit_keeps_views k rules m.exits e edits);

@@ -51,15 +51,15 @@ use Rattle.router_core.proofs.QueueLemmas.{queue_chains}
 use Rattle.router_core.proofs.ReadingLemmas.{sent_count, queue_most, reading_less}
 
 -- ---- walks of filters: candidates, and ends
-waiting_ends : Option (List Rule) → ℕ
+abbrev pub waiting_ends : Option (List Rule) → ℕ
 waiting_ends None = 0
 waiting_ends (Some rules) = 1
 
-walk_ends : Option (Walked (List Rule)) → ℕ
+abbrev pub walk_ends : Option (Walked (List Rule)) → ℕ
 walk_ends None = 0
 walk_ends (Some w) = 1 + waiting_ends w.waiting
 
-ends_of : Chained → ℕ
+abbrev pub ends_of : Chained → ℕ
 ends_of c = walk_ends c.filter.walk
 
 waits : (rows x : ℕ) (o : Option (List Rule)) → x + 1 + waiting_turns rows o ≡ x + waiting_candidates rows o + (1 + waiting_ends o)
@@ -73,12 +73,12 @@ turns_parted c = by_walk c.filter.walk
     t = c.incoming.tables
 
     by_walk : (o : Option (Walked (List Rule))) → walk_turns t o ≡ walk_candidates t o + walk_ends o
-    by_walk None = refl
+    by_walk None = omega arith
     by_walk (Some w) = waits (tables_count t) (left_beyond w.place t) w.waiting
 
 module _ {X : Type 0} (f g h : X → ℕ) (parted : (x : X) → f x ≡ g x + h x) where
   sum_parts : (xs : List X) → sum_by f xs ≡ sum_by g xs + sum_by h xs
-  sum_parts [] = refl
+  sum_parts [] = omega arith
   sum_parts (x ∷ xs) =
       let one = sum_by-cons f x xs in
       let two = sum_by-cons g x xs in
@@ -87,7 +87,7 @@ module _ {X : Type 0} (f g h : X → ℕ) (parted : (x : X) → f x ≡ g x + h 
       let rest = sum_parts xs in
       omega (arith, one, two, three, here, rest)
 
-fin_ends : Chains → ℕ
+abbrev pub fin_ends : Chains → ℕ
 fin_ends a = sum_by ends_of (tables.values a)
 
 left_parted : (a : Chains) → left_in a ≡ fin_sends a + fin_ends a
@@ -106,17 +106,22 @@ finished_ends : (in_force : List Rule) (walk : Option (Walked (List Rule))) (w :
 finished_ends in_force None w on = absurd (cc)
 finished_ends in_force (Some v) w on = let same = begun_ends v.waiting in omega (arith, same)
 
+-- where it ends, nothing is sent
+none_sent : {B : Type 0} (next : Option Network) (old new : Rows B) (sent : Option (Change B)) → IsSentAt next old new sent → next ≡ None → sent ≡ None
+none_sent None old new sent is e = is.0
+none_sent (Some p) old new sent is e = absurd (cc)
+
 -- it ends and sends nothing, or goes to a candidate
 pub chain_ends : (task : Task) (c less : Chained) (sent : Option (Change Route)) (fall : List (Entry Value)) → Turned c less task sent fall
     → (ends_of less ≡ ends_of c) ⊎ ((sent ≡ None) × (ends_of less + 1 ≡ ends_of c) × ((k s : ℕ) → task ≢ Del k s))
 chain_ends (Del k s) c less sent fall t = inl (ap ends_of t.1.after)
-chain_ends (Fin k) c less sent fall t = by_next t.1.walks.next t.1.walks.after t.1.walks.changes
+chain_ends (Fin k) c less sent fall t = by_next t.1.walks.next t.1.walks.after (none_sent t.1.walks.next _ _ sent t.1.walks.changes)
   where
-    by_next : (next : Option Network) → less.filter ≡ walked_on next c.filter → IsSentAt next _ _ sent → (ends_of less ≡ ends_of c) ⊎ ((sent ≡ None) × (ends_of less + 1 ≡ ends_of c) × ((k' s : ℕ) → Fin k ≢ Del k' s))
+    by_next : (next : Option Network) → less.filter ≡ walked_on next c.filter → (next ≡ None → sent ≡ None) → (ends_of less ≡ ends_of c) ⊎ ((sent ≡ None) × (ends_of less + 1 ≡ ends_of c) × ((k' s : ℕ) → Fin k ≢ Del k' s))
     by_next None is changes =
         let less_is : ends_of less ≡ walk_ends (walked_on None c.filter).walk = ap (λ (f : Passed (List Rule)). walk_ends f.walk) is in
         let over = finished_ends c.filter.in_force c.filter.walk t.1.walks.walk t.1.walks.on in
-        inr (changes.0, omega (arith, less_is, over), λ k' s e. cc)
+        inr (changes refl, omega (arith, less_is, over), λ k' s e. cc)
     by_next (Some p) is changes = inl (ap (λ (f : Passed (List Rule)). walk_ends f.walk) is ∙ stepped_ends c.filter.walk p)
 chain_ends (Nh k) c less sent fall t = absurd t
 chain_ends ReadRib c less sent fall t = absurd t
@@ -129,9 +134,6 @@ pub record Sends (m m' : Moment) : Type 0 where
   pub size : tables.len m'.chains ≡ tables.len m.chains
   pub exits : tables.len m'.exits.chains ≡ tables.len m.exits.chains
   pub fewer : most_unread m'.exits + (lost_in m'.chains + fin_sends m'.chains) ≤ most_unread m.exits + (lost_in m.chains + fin_sends m.chains)
-
-abbrev pub count_of : Option (Change Route) → ℕ
-count_of = sent_count
 
 few_sent : (o : Option (Change Route)) → sent_count o ≤ 1
 few_sent None = omega arith
@@ -206,15 +208,15 @@ peer_spends (Out n) m m' tree near sends = absurd near
 peer_spends (Rdel proto n) m m' tree near sends = absurd near
 
 -- ---- walks of next hops: candidates, and ends
-need_ends : Bool → ℕ
+abbrev pub need_ends : Bool → ℕ
 need_ends true = 1
 need_ends false = 0
 
-place_ends : Option (Option Network) → ℕ
+abbrev pub place_ends : Option (Option Network) → ℕ
 place_ends None = 0
 place_ends (Some place) = 1
 
-hop_ends : Resolving Metric → ℕ
+abbrev pub hop_ends : Resolving Metric → ℕ
 hop_ends s = place_ends s.walk + need_ends (is_needed (is_some s.walk) (stale_count s.known) (differing_count same_metric s.known))
 
 few_needed : (b : Bool) → need_ends b ≤ 1
@@ -223,12 +225,12 @@ few_needed false = omega arith
 
 module _ (beyond : Option Network → ℕ) where
   place_parted : (o : Option (Option Network)) → hop_walk_turns beyond o ≡ place_candidates beyond o + place_ends o
-  place_parted None = refl
-  place_parted (Some place) = refl
+  place_parted None = omega arith
+  place_parted (Some place) = omega arith
 
   next_parted : (b : Bool) → next_walk beyond b ≡ next_candidates beyond b + need_ends b
-  next_parted true = refl
-  next_parted false = refl
+  next_parted true = omega arith
+  next_parted false = omega arith
 
 hops_parted : (b : Beyonds) (s : Resolving Metric) → left_of b s ≡ nh_sends_of b s + hop_ends s
 hops_parted b s =
@@ -236,7 +238,7 @@ hops_parted b s =
     let next = next_parted (b s.client) (is_needed (is_some s.walk) (stale_count s.known) (differing_count same_metric s.known)) in
     omega (arith, place, next)
 
-nh_ends : Resolvers → ℕ
+abbrev pub nh_ends : Resolvers → ℕ
 nh_ends a = sum_by hop_ends (tables.values a)
 
 nh_parted : (b : Beyonds) (a : Resolvers) → hops_left_in b a ≡ nh_sends b a + nh_ends a
@@ -266,7 +268,7 @@ ends_more stale stale' differing same = by_bool (nat_lt 0 stale) (λ b. need_end
 module _ (candidates : Candidates) (upper : Rows Route) where
   -- a step of a walk
   step_ends : (old new : Resolving Metric) (sent : Option (Change Route)) → Steps route_hop with_metric candidates upper old new sent → (hop_ends old ≤ hop_ends new) ⊎ ((sent ≡ None) × (hop_ends old ≤ hop_ends new + 1))
-  step_ends old new sent s = by_next s.walks.next s.walks.after s.walks.changes
+  step_ends old new sent s = by_next s.walks.next s.walks.after (none_sent s.walks.next _ _ sent s.walks.changes)
     where
       was : (place : Option Network) × (old.walk ≡ Some place) × (s.walks.walk.waiting ≡ None)
       was = on_at (fresh_by old.known) old.walk s.walks.walk s.walks.on
@@ -274,15 +276,15 @@ module _ (candidates : Candidates) (upper : Rows Route) where
       old_ends : hop_ends old ≡ 1 + need_ends (nat_lt 0 (stale_count old.known))
       old_ends = ap (λ w. place_ends w + need_ends (is_needed (is_some w) (stale_count old.known) (differing_count same_metric old.known))) was.1
 
-      by_next : (next : Option Network) → passes new ≡ walked_on next (passes old) → IsSentAt next _ _ sent → (hop_ends old ≤ hop_ends new) ⊎ ((sent ≡ None) × (hop_ends old ≤ hop_ends new + 1))
+      by_next : (next : Option Network) → passes new ≡ walked_on next (passes old) → (next ≡ None → sent ≡ None) → (hop_ends old ≤ hop_ends new) ⊎ ((sent ≡ None) × (hop_ends old ≤ hop_ends new + 1))
       by_next None is changes =
           let over : walk_to (fresh_by new.known) new.walk ≡ None = ap (λ (x : Passed (Answers Metric)). x.walk) is ∙ ap (λ (o : Option (Walked (Answers Metric))). (after_walk (in_force_by old.known) o).walk) s.walks.on ∙ ap walk_of_waiting was.2 in
           let off = off_at (fresh_by new.known) new.walk over in
           let known = as_many_stale old.known new.known (subst (λ w. KnownAfter w old.known new.known) off s.known) in
-          let new_ends : hop_ends new ≡ need_ends (nat_lt 0 (stale_count new.known + differing_count same_metric new.known)) = ap (λ w. place_ends w + need_ends (is_needed (is_some w) (stale_count new.known) (differing_count same_metric new.known))) off in
+          let new_ends : hop_ends new ≡ 0 + need_ends (nat_lt 0 (stale_count new.known + differing_count same_metric new.known)) = ap (λ w. place_ends w + need_ends (is_needed (is_some w) (stale_count new.known) (differing_count same_metric new.known))) off in
           let more = ends_more (stale_count old.known) (stale_count new.known) (differing_count same_metric new.known) known in
           let was_ends = old_ends in
-          inr (changes.0, omega (arith, was_ends, new_ends, more))
+          inr (changes refl, omega (arith, was_ends, new_ends, more))
       by_next (Some p) is changes =
           let on : walk_to (fresh_by new.known) new.walk ≡ walk_stepped (Some s.walks.walk) p = ap (λ (x : Passed (Answers Metric)). x.walk) is ∙ ap (λ o. walk_stepped o p) s.walks.on in
           let now = on_at (fresh_by new.known) new.walk (record s.walks.walk { place = Some p }) on in
@@ -303,13 +305,13 @@ module _ (candidates : Candidates) (upper : Rows Route) where
       → (hop_ends old ≤ hop_ends new) ⊎ ((sent ≡ None) × (hop_ends old ≤ hop_ends new + 1))
   turn_ends was is old new sent (inl goes) = step_ends old new sent goes.steps
   turn_ends was is old new sent (inr (inl asks)) = let few = off_ends old asks.off in inr (asks.none_sent, omega (arith, few))
-  turn_ends was is old new sent (inr (inr begins)) = by_next begins.steps.walks.next begins.steps.walks.after begins.steps.walks.changes
+  turn_ends was is old new sent (inr (inr begins)) = by_next begins.steps.walks.next begins.steps.walks.after (none_sent begins.steps.walks.next _ _ sent begins.steps.walks.changes)
     where
       few : hop_ends old ≤ 1
       few = off_ends old begins.off
 
-      by_next : (next : Option Network) → passes new ≡ walked_on next (passes (begun old)) → IsSentAt next _ _ sent → (hop_ends old ≤ hop_ends new) ⊎ ((sent ≡ None) × (hop_ends old ≤ hop_ends new + 1))
-      by_next None is changes = let f = few in inr (changes.0, omega (arith, f))
+      by_next : (next : Option Network) → passes new ≡ walked_on next (passes (begun old)) → (next ≡ None → sent ≡ None) → (hop_ends old ≤ hop_ends new) ⊎ ((sent ≡ None) × (hop_ends old ≤ hop_ends new + 1))
+      by_next None is changes = let f = few in inr (changes refl, omega (arith, f))
       by_next (Some p) is changes =
           let on : walk_to (fresh_by new.known) new.walk ≡ walk_stepped (Some begins.steps.walks.walk) p = ap (λ (x : Passed (Answers Metric)). x.walk) is ∙ ap (λ o. walk_stepped o p) begins.steps.walks.on in
           let now = on_at (fresh_by new.known) new.walk (record begins.steps.walks.walk { place = Some p }) on in

@@ -24,7 +24,7 @@ use Rattle.hop_side.specs.Resolvers.{Resolvers, resolver_at}
 use Rattle.addr4.specs.Prefixes.{Network}
 use Rattle.router_core.proofs.HopLemmas.{HopsStand}
 use Rattle.router_core.proofs.QueueLemmas.{ExitsStand}
-use Rattle.router_core.specs.Stands.{PeerStands, StandsAt, TreeStands, Stands, Claim, Claims, EachChain, EachPeer, InteriorTree, OneSpeaker, Registered, SameCount, EachResolver, SameResolvers, AnswersAgree, HopsCounted, NoStrangers, SmallNumbers, EachRow, EachExit, ExitsRead, PlainExits, OneSender, SameSessions, OneReader, Tie, Ties, here}
+use Rattle.router_core.specs.Stands.{PeerStands, StandsAt, TreeStands, Stands, Claim, Claims, EachChain, EachPeer, InteriorTree, OneSpeaker, Registered, SameCount, EachResolver, SameResolvers, AnswersAgree, HopsCounted, NoStrangers, SmallNumbers, EachRow, EachExit, QueueLeads, ExitsRead, PlainExits, OneSender, SameSessions, OneReader, Tie, Ties, here}
 
 -- the moment with this declared, and these chains
 abbrev pub remade : Moment → Declaration → Chains → Moment
@@ -96,6 +96,7 @@ stands_put m now k c c' cs r h e stands at is peers me keeps own_peer rows hops_
     own : (claim : Claim) → Claims (with_exits (with_hops (remade m now (put_chain k c' m.chains)) r h) e) claim
     own EachRow = exits.rows
     own EachExit = exits.each
+    own QueueLeads = exits.all
     own ExitsRead = exits.read
     own PlainExits = exits.plain
     own OneSender = exits.sender

@@ -1,5 +1,5 @@
 -- What holds between two steps.
-use Rattle.std.specs.Prelude.{◌≡◌, ◌≢◌, ℕ, ◌+◌, ◌≤◌, length, Bool, true, false, is_some, IsSome, if◌then◌else◌, Option, Some, None}
+use Rattle.std.specs.Prelude.{◌≡◌, ◌≢◌, ℕ, ◌+◌, ◌≤◌, length, Bool, true, false, is_some, IsSome, if◌then◌else◌, List, Option, Some, None}
 use Rattle.std.specs.FinMap as tables
 use Rattle.bgp_attr.specs.declared.speaker.Speaker.{Speaker}
 use Rattle.event_text.specs.declared.declared.DeclaredPeer.{DeclaredPeer}
@@ -14,6 +14,7 @@ use Rattle.rib_tree.specs.Steps.{new_tree}
 use Rattle.pass_core.specs.Passed.{present}
 use Rattle.policy_rules.specs.declared.rule.Rule.{Rule}
 use Rattle.loss_chain.specs.Rows.{AllRows}
+use Rattle.fanout_queue.specs.Queues.{AllLead}
 use Rattle.peer_out.specs.Changes.{MayBeHeard, IsSender}
 use Rattle.out_chain.specs.Chains.{OutChained}
 use Rattle.exit_side.specs.Exits.{Exited, IsExits, AllStand, chain_at as exit_at}
@@ -50,8 +51,8 @@ pub record IsExitOf (me : Speaker) (rules : List Rule) (p : DeclaredPeer) (c : O
   pub up : p.up ≡ true
   pub session : c.session ≡ p.session
   pub words : c.peer ≡ p.words
-  pub me : c.exit.me ≡ me
-  pub rules : present c.filter ≡ Some rules
+  pub speaker : c.exit.me ≡ me
+  pub latest : present c.filter ≡ Some rules
 
 abbrev pub ExitsAt : Option Speaker → Policies → ℕ → Option DeclaredPeer → Option OutChained → Type 0
 ExitsAt (Some me) policies k (Some p) (Some c) = IsExitOf me (rules_to k policies) p c
@@ -90,7 +91,7 @@ pub record TreeStands (speaker : Option Speaker) (t : Treed) : Type 0 where
 -- peers, and of the interior routes; of the resolvers alone, that exactly the peers with chains have one, that their next hops that
 -- aren't stale have the register's present answers, that the next hops which the rows of `filt.K` name are counted, and that nobody
 -- else has an interest; that the peers have numbers up to 64; that each row, live or lost, is one that octets may hold; of the exits
--- alone, that what each peer's reader hasn't taken leads to the rows of `best`, how messages are written and that this speaker's words
+-- alone, that what each reader hasn't taken leads to the rows of `best`, and what each peer was sent, how messages are written and that this speaker's words
 -- can be said, whose sessions they are, and who reads for the forwarding side
 pub data Claim : Type 0 where
   EachChain : Claim
@@ -106,6 +107,7 @@ pub data Claim : Type 0 where
   SmallNumbers : Claim
   EachRow : Claim
   EachExit : Claim
+  QueueLeads : Claim
   ExitsRead : Claim
   PlainExits : Claim
   OneSender : Claim
@@ -126,6 +128,7 @@ Claims m NoStrangers = (k : ℕ) → resolver_at k m.hops ≡ None → HasNoInte
 Claims m SmallNumbers = (k : ℕ) → IsSome (chain_at k m.chains) → k ≤ 64
 Claims m EachRow = RowsWereHeard m.chains
 Claims m EachExit = IsExits m.exits
+Claims m QueueLeads = AllLead m.exits.queue (best_at m.chains m.hops)
 Claims m ExitsRead = AllStand (best_at m.chains m.hops) m.exits
 Claims m PlainExits = m.exits.profile ≡ plain
 Claims m OneSender = MaySend m.declared.speaker

@@ -29,7 +29,7 @@ pub returns-in-Nh-clause-none : goal.returns-in-Nh-clause-none
 returns-in-Nh-clause-none c = none_of_hops c.args.phase c.args.self.now _ c.first_busy.result c.task_of.result c.in-Nh.is c.self.view_is c.first_busy.ensures.none c.task_of.ensures
 
 pub first_busy-requires-in-Out : goal.first_busy-requires-in-Out
-first_busy-requires-in-Out c = exits_sound c.args.self.now _ c.self.view_is c.requires
+first_busy-requires-in-Out c = record { sound = exits_sound c.args.self.now _ c.self.view_is c.requires }
 
 pub returns-in-ReadRib-clause-next : goal.returns-in-ReadRib-clause-next
 returns-in-ReadRib-clause-next c = next_of_reader c.args.phase c.args.self.now c.next_reader.result c.in-ReadRib.is c.next_reader.ensures
