@@ -5,6 +5,7 @@ pub mod LinkLemmas
 pub mod CountLemmas
 pub mod StepLemmas
 pub mod PutLemmas
+pub mod StrangerLemmas
 pub mod TaskLemmas
 pub mod LookupLemmas
 pub mod LawLemmas

@@ -46,7 +46,7 @@ pub of_none : {A : Type 0} (P : A → Type 0) → ForSome None P
 of_none P y is = absurd (cc)
 
 -- a reader that is live isn't one that nobody has
-live_apart : (queued : Queued Route) (r s : ℕ) → IsSome (tables.get queued r) → tables.get queued s ≡ None → r ≢ s
+pub live_apart : (queued : Queued Route) (r s : ℕ) → IsSome (tables.get queued r) → tables.get queued s ≡ None → r ≢ s
 live_apart queued r s live none is = let gone : tables.get queued r ≡ None = ap (tables.get queued) is ∙ none in cc
 
 -- ---- a session begins

@@ -1,23 +1,29 @@
 -- Laws of the side of the exits, for the crates above.
-use Rattle.std.specs.Prelude.{◌≡◌, ◌≢◌, ◌↔◌, ℕ, ◌+◌, ◌*◌, ◌≤◌, true, false, List, Option, Some, None}
+use Rattle.std.specs.Prelude.{◌≡◌, ◌≢◌, ◌↔◌, ℕ, ◌+◌, ◌*◌, ◌≤◌, true, false, List, [], Option, Some, None, IsSome}
 use Rattle.std.specs.FinMap as tables
 use Rattle.addr4.specs.Prefixes.{Network}
+use Rattle.bgp_attr.specs.declared.attrs.Attrs.{Attrs}
 use Rattle.bgp_attr.specs.declared.route.Route.{Route}
+use Rattle.bgp_attr.specs.declared.speaker.Speaker.{Speaker}
+use Rattle.bgp_attr.specs.declared.speaker.Neighbour.{Neighbour}
 use Rattle.link_change.specs.Rows.{Rows, Candidates}
+use Rattle.link_change.specs.declared.change.Change.{Change}
+use Rattle.policy_rules.specs.declared.rule.Rule.{Rule}
 use Rattle.pass_core.specs.Passed.{present}
 use Rattle.pass_core.specs.Turns.{rows_by}
 use Rattle.pass_core.specs.Left.{CountsBeyond}
-use Rattle.fanout_queue.specs.Queues.{Queued, IsMostUnread}
+use Rattle.fanout_queue.specs.Queues.{Queued, Takes, IsMostUnread}
 use Rattle.fanout_queue.specs.Readers.{read_rows, KeepsOtherReaders}
 use Rattle.journal_text.specs.declared.link.Link.{Link}
 use Rattle.journal_text.specs.declared.link.Link.TheVariants.{Best}
+use Rattle.journal_text.specs.declared.line.Line.{Line}
 use Rattle.journal_text.specs.declared.entry.Entry.{Entry}
 use Rattle.journal_text.specs.declared.value.Value.{Value}
 use Rattle.journal_text.specs.Walk.{Links, Leads}
 use Rattle.journal_text.specs.Values.{route_rows}
 use Rattle.out_chain.specs.Chains.{OutChained, made_by}
 use Rattle.exit_side.specs.Exits.{Exited, chain_at, with_queue, exit_links, IsExits, AllStand, has_exit_work, left_in}
-use Rattle.exit_side.specs.Steps.{is_exit, LeadsExits, LeadsWithBest}
+use Rattle.exit_side.specs.Steps.{is_exit, LeadsExits, LeadsWithBest, BeginsExit, EndsExit, EditsExit, PutsExit, TurnsExit}
 
 -- ---- at first
 -- Where no peer is up, no link is live, and all that is claimed holds.
@@ -69,6 +75,9 @@ LeftFollows =
     (e : Exited) (before now : Option Network → ℕ) → ((place : Option Network) → now place ≤ before place) → left_in now e ≤ left_in before e
 
 -- ---- readers that are no peer's
+abbrev pub IsStranger : ℕ → Exited → Type 0
+IsStranger reader e = (j : ℕ) (c : OutChained) → chain_at j e ≡ Some c → c.reader ≢ reader
+
 -- What such a reader takes, and that it joins or leaves, leaves the exits as they were.
 pub record StaysWithQueue (e : Exited) (queue : Queued Route) : Type 0 where
   pub links : (best : Rows Route) → exit_links (with_queue queue e) best ≡ exit_links e best
@@ -78,5 +87,41 @@ pub record StaysWithQueue (e : Exited) (queue : Queued Route) : Type 0 where
 
 abbrev pub StrangersReadOn : Type 0
 StrangersReadOn =
-    (e : Exited) (queue : Queued Route) (reader : ℕ) → IsExits e → ((j : ℕ) (c : OutChained) → chain_at j e ≡ Some c → c.reader ≢ reader)
-    → KeepsOtherReaders reader e.queue queue → StaysWithQueue e queue
+    (e : Exited) (queue : Queued Route) (reader : ℕ) → IsExits e → IsStranger reader e → KeepsOtherReaders reader e.queue queue → StaysWithQueue e queue
+
+-- A reader that joins by itself is no peer's.
+abbrev pub StrangersJoin : Type 0
+StrangersJoin =
+    (e : Exited) (reader : ℕ) → IsExits e → tables.get e.queue reader ≡ None → IsStranger reader e × StaysWithQueue e (tables.insert e.queue reader [])
+
+abbrev pub StrangersTake : Type 0
+StrangersTake =
+    (e : Exited) (queue : Queued Route) (reader : ℕ) (result : Option (Change Route)) → IsExits e → IsStranger reader e → Takes e.queue queue reader result → StaysWithQueue e queue
+
+-- It stays no peer's, and hasn't taken what it hadn't taken, when a session begins,
+pub record KeepsStranger (reader : ℕ) (e e' : Exited) : Type 0 where
+  pub own : IsStranger reader e'
+  pub unread : tables.get e'.queue reader ≡ tables.get e.queue reader
+
+abbrev pub BeginKeepsStrangers : Type 0
+BeginKeepsStrangers =
+    (reader : ℕ) (me : Speaker) (peer : Neighbour) (session : ℕ) (rules : List Rule) (e e' : Exited) (entries : List (Entry Value)) → IsExits e → IsStranger reader e
+    → IsSome (tables.get e.queue reader) → BeginsExit me peer session rules e e' entries → KeepsStranger reader e e'
+
+-- when one ends,
+abbrev pub EndKeepsStrangers : Type 0
+EndKeepsStrangers =
+    (reader j : ℕ) (e e' : Exited) (entries : List (Entry Value)) → IsExits e → IsStranger reader e → EndsExit j e e' entries → KeepsStranger reader e e'
+
+-- when rules are edited,
+abbrev pub EditKeepsStrangers : Type 0
+EditKeepsStrangers = (reader j : ℕ) (rules : List Rule) (e e' : Exited) → IsExits e → IsStranger reader e → EditsExit j rules e e' → KeepsStranger reader e e'
+
+-- and when a peer's exit takes a turn. A change of `best` joins what it hasn't taken.
+abbrev pub TurnKeepsStrangers : Type 0
+TurnKeepsStrangers =
+    (reader j : ℕ) (candidates : Candidates) (best : Rows Route) (sent : Option (Change Attrs)) (e e' : Exited) (said : List Line) → IsExits e → IsStranger reader e
+    → TurnsExit j candidates best sent e e' said → KeepsStranger reader e e'
+
+abbrev pub PutKeepsStrangers : Type 0
+PutKeepsStrangers = (reader : ℕ) (change : Change Route) (e e' : Exited) → IsStranger reader e → PutsExit change e e' → IsStranger reader e'

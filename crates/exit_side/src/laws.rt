@@ -3,7 +3,7 @@
 
 ghost use Rattle.bgp_attr.specs.declared.speaker.Profile.{Profile};
 ghost use Rattle.exit_side.specs.Exits.{no_exits};
-ghost use Rattle.exit_side.specs.Laws.{StandsAtFirst, LeadsAnywhere, LeadsAnywhereWithBest, ExactWithoutWork, NoneLeftWithoutWork, TurnsAreBounded, LeftFollows, StrangersReadOn};
+ghost use Rattle.exit_side.specs.Laws.{StandsAtFirst, LeadsAnywhere, LeadsAnywhereWithBest, ExactWithoutWork, NoneLeftWithoutWork, TurnsAreBounded, LeftFollows, StrangersReadOn, StrangersJoin, StrangersTake, BeginKeepsStrangers, EndKeepsStrangers, EditKeepsStrangers, TurnKeepsStrangers, PutKeepsStrangers};
 
 use out_chain::{a_session_stands, without_work_all_is_sent};
 
@@ -42,3 +42,21 @@ pub fn strangers_read_on()
 {
     a_session_stands();
 }
+
+/// The same of one that joins, which is no peer's, and of what it takes.
+pub fn a_stranger_reads()
+    ensures joins { StrangersJoin }
+    ensures takes { StrangersTake }
+{
+    a_session_stands();
+}
+
+/// Whatever is done with the exits leaves alone what such a reader hasn't taken, but for a change
+/// of `best`, which joins it.
+pub fn strangers_are_left()
+    ensures begin { BeginKeepsStrangers }
+    ensures end { EndKeepsStrangers }
+    ensures edit { EditKeepsStrangers }
+    ensures turn { TurnKeepsStrangers }
+    ensures put { PutKeepsStrangers }
+{}

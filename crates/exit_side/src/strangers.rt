@@ -1,10 +1,10 @@
-//! Readers of the queue that are no peer's, as that of the forwarding side. They leave the exits as they were
-//! ([`StrangersReadOn`](../specs/Laws.antt)).
+//! Readers of the queue that are no peer's, as that of the forwarding side. They leave the exits as
+//! they were ([`StrangersReadOn`](../specs/Laws.antt)).
 
-ghost use Rattle.std.specs.Prelude.{◌≡◌, IfOk, OnErr, IfSome, IsSome, length, [], Option};
+ghost use Rattle.std.specs.Prelude.{◌≡◌, IfOk, OnErr, IfSome, IsSome, length, [], None};
 ghost use Rattle.std.specs.FinMap as map;
 ghost use Rattle.addr4.specs.Places.{key_of};
-ghost use Rattle.link_change.specs.Rows.{IsNextCandidate, CoversRows, together};
+ghost use Rattle.link_change.specs.Rows.{IsNextCandidate, CoversRows};
 ghost use Rattle.fanout_queue.specs.Queues.{Takes};
 ghost use Rattle.fanout_queue.specs.Readers.{read_rows, read_candidates};
 ghost use Rattle.exit_side.specs.Exits.{with_queue};
@@ -25,12 +25,14 @@ impl Exits {
         self.queue.join_reader()
     }
 
-    /// Takes the first change that the reader hasn't taken. None exactly where there is none.
+    /// Takes the first change that the reader hasn't taken. None exactly where there is none. For
+    /// want of memory nothing changes.
     pub fn take(&mut self, reader: &mut Reader) -> Result<Option<Change<Route>>, Memory>
         requires { IsSome (map.get self.old.queue reader.old) }
         ensures same { reader.new ≡ reader.old }
         ensures ok { IfOk result (Takes self.old.queue self.new.queue reader.old) }
         ensures after { self.new ≡ with_queue self.new.queue self.old }
+        ensures memory { OnErr result (self.new ≡ self.old) }
     {
         self.queue.take(reader)
     }

@@ -67,11 +67,12 @@ impl Actions {
         Actions { items }
     }
 
+    /// The same actions again.
     pub fn copy(&self, alloc: Global) -> Result<Actions, Memory>
         ensures { IfOk result (λ copied. copied ≡ self.now) }
     {
-        let mut items = Vec::new(alloc);
-        for action in self.items.as_slice() {
+        let mut items = Vec::with_capacity(alloc, self.items.len())?;
+        for action in &self.items {
             items.push(*action)?;
         }
         Ok(Actions { items })
@@ -93,6 +94,7 @@ pub struct Rule {
 }
 
 impl Rule {
+    /// The same rule again.
     pub fn copy(&self, alloc: Global) -> Result<Rule, Memory>
         ensures { IfOk result (λ copied. copied ≡ self.now) }
     {
@@ -140,8 +142,8 @@ impl Rules {
     pub fn copy(&self, alloc: Global) -> Result<Rules, Memory>
         ensures { IfOk result (λ copied. copied ≡ self.now) }
     {
-        let mut items = Vec::new(alloc);
-        for rule in self.items.as_slice() {
+        let mut items = Vec::with_capacity(alloc, self.items.len())?;
+        for rule in &self.items {
             items.push(rule.copy(alloc)?)?;
         }
         Ok(Rules { items })

@@ -113,9 +113,14 @@ fn verdict(rules: &Rules, prefix: Prefix, route: Route) -> Verdict {
     Some((route.pref, route.med, route.prepend))
 }
 
-fn judged(alloc: Global, rules: &str, prefix: Prefix) -> Result<Verdict, Fail> {
+/// The verdict of rules, and of the same rules copied.
+fn judged(alloc: Global, rules: &str, prefix: Prefix) -> Result<[Verdict; 2], Fail> {
     let rules = rules_of(alloc, rules)?;
-    Ok(verdict(&rules, prefix, route(alloc)?))
+    let copied = rules.copy(alloc)?;
+    Ok([
+        verdict(&rules, prefix, route(alloc)?),
+        verdict(&copied, prefix, route(alloc)?),
+    ])
 }
 
 /// The verdict of a text, as `100:10:0`; a metric that isn't there is `-`, and so is the verdict on a route that is rejected.
@@ -149,7 +154,8 @@ fn is_judged(alloc: Global, line: &str) -> Result<bool, Fail> {
     let (prefix, rest) = line.split_once(' ').ok_or("no verdict")?;
     let (want, rules) = rest.split_once(' ').ok_or("no rules")?;
     let prefix = read_prefix(prefix.as_bytes()).ok().ok_or("no prefix")?;
-    Ok(judged(alloc, rules, prefix)? == verdict_of(want))
+    let want = verdict_of(want);
+    Ok(judged(alloc, rules, prefix)? == [want, want])
 }
 
 #[test]
