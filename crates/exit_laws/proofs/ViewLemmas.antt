@@ -72,7 +72,7 @@ routes_same : (v : Views) (j : ℕ) (routes : Routes) → v j ≡ routes → wit
 routes_same v j routes is = same_function _ _ (λ k. by_number k j (λ b. cond b routes (v k) ≡ v k) (λ at. sym is ∙ ap v (sym at)) (λ _. refl))
 
 -- ---- what was heard is `adv`
-numbered : (k s : ℕ) (rows : Rows Value) → cond (nat_eq k k && nat_eq s s) (Some rows) None ≡ Some rows
+pub numbered : (k s : ℕ) (rows : Rows Value) → cond (nat_eq k k && nat_eq s s) (Some rows) None ≡ Some rows
 numbered k s rows = ap (λ (b : Bool). cond b (Some rows) None) (let a : nat_eq k k ≡ true = grind (arith, nat_tests) in let b : nat_eq s s ≡ true = grind (arith, nat_tests) in ap (λ (x : Bool). x && nat_eq s s) a ∙ b)
 
 pub heard_is_sent : HeardIsSent
