@@ -151,7 +151,7 @@ module _ (peers : ℕ → Option Neighbour) (most : ℕ) where
       let printed = best_prints (resolved_at a h) (resolved_prints a h metrics above) p row is in
       record { prefix = printed.0; heard = heard_best a h heard p row is; printed = printed.1 }
 
-  best_fit : (m : Moment) → Fit m → AreBestRows peers (best_at m.chains m.hops)
+  pub best_fit : (m : Moment) → Fit m → AreBestRows peers (best_at m.chains m.hops)
   best_fit m fit = best_rows_are m.chains m.hops (rows_heard m fit) fit.metrics (filt_fit m fit)
 
   prefix_of_one : (p : Network) (before after : Option Route) → after ≢ before → ((r : Route) → before ≡ Some r → IsPrefix p) → ((r : Route) → after ≡ Some r → IsPrefix p) → IsPrefix p
@@ -350,7 +350,7 @@ module _ (peers : ℕ → Option Neighbour) (most : ℕ) where
 
   -- ---- the exits
   -- the moment with other exits
-  with_fit_exits : (m : Moment) (e : Exited) → Fit m → e.profile ≡ plain → ArePrintableExits peers e → Fit (with_exits m e)
+  pub with_fit_exits : (m : Moment) (e : Exited) → Fit m → e.profile ≡ plain → ArePrintableExits peers e → Fit (with_exits m e)
   with_fit_exits m e fit profile exits = record {
     chains = fit.chains;
     interior = fit.interior;
