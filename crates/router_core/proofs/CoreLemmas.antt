@@ -18,7 +18,7 @@ use Rattle.rib_tree.specs.Laws.{ANewTreeStands}
 use Rattle.router_core.specs.Moments.{Moment, Cored, first_moment, Gives}
 use Rattle.router_core.specs.Laws.{LinksAtRestAreExact}
 use Rattle.router_core.specs.Scratch.{IsExactAtRest}
-use Rattle.router_core.specs.Stands.{Stands, AllHaveExits, CoreStands, Claim, Claims, EachChain, EachPeer, InteriorTree, OneSpeaker, Registered, SameCount, EachResolver, SameResolvers, AnswersAgree, HopsCounted, NoStrangers, SmallNumbers, EachRow, EachExit, QueueLeads, ExitsRead, PlainExits, OneSender, SameSessions, OneReader, StandsAt, ExitsAt, Tie, Ties, here}
+use Rattle.router_core.specs.Stands.{Stands, AllHaveExits, HaveReaders, CoreStands, Claim, Claims, EachChain, EachPeer, InteriorTree, OneSpeaker, Registered, SameCount, EachResolver, SameResolvers, AnswersAgree, HopsCounted, NoStrangers, SmallNumbers, EachRow, EachExit, QueueLeads, ExitsRead, PlainExits, OneSender, SameSessions, OneReader, StandsAt, ExitsAt, Tie, Ties, here}
 use Rattle.register_interest.specs.Interests.{interest_cmp}
 use Rattle.nexthop_resolver.specs.Resolving.{Resolving}
 use Rattle.nexthop_resolver.specs.declared.rows.Metric.{Metric}
@@ -33,6 +33,7 @@ use Rattle.router_core.specs.Printable.{ArePrinted, IsPrintableMoment}
 use Rattle.router_core.proofs.KeepLemmas.{acts_of}
 use Rattle.router_core.proofs.TurnWalks.{turn_same}
 use Rattle.router_core.proofs.ExitsUp.{event_exits}
+use Rattle.router_core.proofs.SessionLemmas.{reads_as}
 use Rattle.live_state.proofs.SessionLemmas.{losses_follow}
 use Rattle.rib_tree.proofs.NewLemmas.{of_new, int_empty}
 use Rattle.journal_laws.proofs.DeclaredPeers.{Leaves}
@@ -95,6 +96,14 @@ work_prints m m' most stands printable few live fits =
       exits = subst (λ (d : Declaration). ArePrintableExits (neighbours d) m'.exits) (sym (ap (λ (l : LiveState). l.declared) live)) x.exits;
     }
 
+-- each link that no work holds up is the one from scratch
+pub exact_after : LinksAtRestAreExact → (m' : Moment) (k : ℕ) → CoreStands (cored m' k) → IsExactAtRest m'
+exact_after law m' k after = law m' after.stands after.exits
+
+-- what lookups ask for
+pub readers_of : (m : Moment) → Stands m → HaveReaders m
+readers_of m stands = record { exits = stands.own EachExit; reader = λ r is. (reads_as m stands r is).live }
+
 -- ---- a core by its parts
 module _ (old : Cored) (m : Moment) (n : ℕ) (failed : Bool) (view : record { moment = m; events = n; failed = failed } ≡ old) (off : failed ≡ false) (stands : old.failed ≡ false → CoreStands old) where
   stood : CoreStands (record { moment = m; events = n; failed = failed })
@@ -135,10 +144,6 @@ module _ (old : Cored) (m : Moment) (n : ℕ) (failed : Bool) (view : record { m
     exits = λ k p at up. same k ∙ stood.exits k p (ap (λ (l : LiveState). peer_at k l.declared.peers) (sym work.live) ∙ at) up;
     numbered = worked_numbered m m' said n work stood.numbered;
   }
-
-  -- so each link that no work holds up is the one from scratch
-  pub exact_after : LinksAtRestAreExact → (m' : Moment) (k : ℕ) → CoreStands (cored m' k) → IsExactAtRest m'
-  exact_after law m' k after = law m' after.stands after.exits
 
   pub core_turned : (task : Task) (m' : Moment) (before now : Journaled) (done : Done) → Comes task m m' before now done → CoreStands (cored m' n)
   core_turned task m' before now Nothing comes = subst (λ (x : Moment). CoreStands (cored x n)) (sym comes.1) (record { stands = stood.stands; printable = stood.printable; exits = stood.exits; numbered = stood.numbered })

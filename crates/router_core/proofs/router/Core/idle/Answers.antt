@@ -1,6 +1,6 @@
 use Rattle.router_core.specs.Phases.{all_phases}
 use Rattle.journal_laws.specs.Peers.{neighbours}
-use Rattle.router_core.proofs.CoreLemmas.{moment_exits, core_worked, exact_after}
+use Rattle.router_core.proofs.CoreLemmas.{moment_exits, core_worked, exact_after, readers_of}
 use Rattle.router_core.proofs.PrintedTurns.{phases_go}
 use Rattle.router_core.proofs.TurnWalks.{phases_same}
 use Rattle.router_core.proofs.router.Core.idle.Goals as goal
@@ -24,3 +24,12 @@ returns-clause-exact c =
     exact_after c.links_at_rest_are_exact.ensures c.idle.new.self n
     (core_worked c.args.self.now m n c.self.inside.failed c.self.view_is c.if-self.false c.requires.stands c.idle.new.self c.in_ok-idle.ensures.0
     c.in_ok-idle.ensures.2.keeps (phases_same all_phases m idles.inner _ c.idle.new.self idles.runs) (λ fit. (phases_go (neighbours m.declared) n all_phases m idles.inner _ c.idle.new.self idles.runs fit).0))
+
+pub invariant_of-self-2 : goal.invariant_of-self-2
+invariant_of-self-2 c =
+    let m = c.self.inside.network in
+    let n = c.self.inside.events in
+    let idles = c.in_ok-idle.ensures.2.idles in
+    λ _. readers_of c.idle.new.self
+    (core_worked c.args.self.now m n c.self.inside.failed c.self.view_is c.if-self.false c.requires.stands c.idle.new.self c.in_ok-idle.ensures.0
+    c.in_ok-idle.ensures.2.keeps (phases_same all_phases m idles.inner _ c.idle.new.self idles.runs) (λ fit. (phases_go (neighbours m.declared) n all_phases m idles.inner _ c.idle.new.self idles.runs fit).0)).stands
