@@ -1,24 +1,17 @@
 -- The walk of what is heard: it joins, there is one, and most lines leave it.
 use Rattle.std.proofs.Common.{◌≡◌, ℕ, not, Bool, true, false, List, [], ◌∷◌, ◌++◌, Option, Some, None, inl, inr, refl, sym, ap, subst, ◌∙◌}
-use Rattle.std.specs.List.{AllByRecursion}
-use Rattle.addr4.specs.Prefixes.{Network}
 use Rattle.bgp_attr.specs.declared.speaker.Neighbour.{Neighbour}
 use Rattle.bgp_attr.specs.declared.speaker.Profile.{Profile}
 use Rattle.bgp_wire.specs.declared.message.Update.{Update as Updated}
-use Rattle.bgp_wire.specs.declared.message.Message.{Message}
 use Rattle.bgp_wire.specs.declared.message.Message.TheVariants.{Update}
 use Rattle.bgp_wire.specs.Grammar.{Reads, OneAnswer}
 use Rattle.journal_text.specs.declared.line.Line.{Line}
 use Rattle.journal_text.specs.declared.line.Line.TheVariants.{Out, Journal}
 use Rattle.journal_text.specs.declared.entry.Entry.{Entry}
 use Rattle.journal_text.specs.declared.entry.Entry.TheVariants.{Begin, End}
-use Rattle.journal_text.specs.declared.link.Link.{Link}
 use Rattle.journal_text.specs.declared.link.Link.TheVariants.{Adv}
 use Rattle.journal_text.specs.declared.value.Value.{Value}
-use Rattle.journal_text.specs.Walk.{change_entries}
-use Rattle.journal_check.proofs.InkLemmas.{all_append}
-use Rattle.event_text.specs.Declarations.{Declaration}
-use Rattle.journal_laws.specs.Peers.{neighbours, KeepsPeers}
+use Rattle.journal_laws.specs.Peers.{neighbours}
 use Rattle.live_state.specs.Messages.{plain, changes_of}
 use Rattle.live_state.specs.Lives.{with_routes, routes_after}
 use Rattle.live_state.specs.Heard.{Views, HearsOctets, HearsLine, Hears}

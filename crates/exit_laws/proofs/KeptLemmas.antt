@@ -1,11 +1,11 @@
 -- What stands in the exits and can be printed, kept by each step.
-use Rattle.std.proofs.Common.{◌≡◌, ◌≢◌, ℕ, Bool, true, false, cond, List, [], ◌∷◌, ◌++◌, Option, Some, None, inl, inr, refl, sym, ap, subst, ◌∙◌}
+use Rattle.std.proofs.Common.{◌≡◌, ℕ, Bool, cond, List, [], ◌∷◌, Option, Some, None, refl, sym, ap, subst, ◌∙◌}
 use Rattle.std.specs.Prelude.{option_map}
 use Rattle.std.specs.Option.{ForSome}
 use Rattle.std.specs.List.{AllByRecursion}
 use Rattle.std.specs.FinMap as tables
 use Rattle.std.specs.FinMap.{get-insert, get-remove, get-empty}
-use Rattle.std.specs.Ordering.{nat_cmp, eq_by_cmp}
+use Rattle.std.specs.Ordering.{eq_by_cmp}
 use Rattle.std.specs.Cmp.{nat_cmp_total}
 use Rattle.addr4.specs.Prefixes.{Network, prefix_cmp}
 use Rattle.addr4.proofs.PrefixOrder.{prefixes_total, itself, by_prefix}
@@ -18,16 +18,16 @@ use Rattle.link_change.specs.declared.change.Change.{Change}
 use Rattle.policy_rules.specs.declared.rule.Rule.{Rule}
 use Rattle.cache_stage.specs.Caches.{kept_after}
 use Rattle.fanout_queue.specs.Queues.{Queued, Takes, AppendsToAll}
-use Rattle.fanout_queue.specs.Readers.{unread_or_none, unread_by, read_rows}
+use Rattle.fanout_queue.specs.Readers.{unread_or_none}
 use Rattle.fanout_queue.proofs.Cases.{by_number as at_number}
 use Rattle.journal_check.proofs.InkLemmas.{all_append}
 use Rattle.journal_text.specs.Names.{IsNamed}
 use Rattle.journal_text.specs.declared.link.Link.TheVariants.{Adv}
 use Rattle.live_state.specs.Lives.{Routes}
 use Rattle.out_chain.specs.Chains.{OutChained}
-use Rattle.out_chain.specs.Steps.{exit_to, new_out, with_rules, sent_after}
+use Rattle.out_chain.specs.Steps.{with_rules, sent_after}
 use Rattle.exit_side.specs.Exits.{Exited, chain_at, with_queue, with_exit, without_exit}
-use Rattle.exit_side.specs.Steps.{BeginsExit, EndsExit, EditsExit, PutsExit, edited_by}
+use Rattle.exit_side.specs.Steps.{edited_by}
 use Rattle.exit_side.proofs.SwapLemmas.{by_number}
 use Rattle.exit_laws.specs.Printable.{IsPrintableBest, AreBestRows, IsBestChange, AreBestChanges, IsPrintableSent, IsPrintableExit, ArePrintableExits}
 use Rattle.exit_laws.specs.Laws.{EditIsPrinted, PutIsPrinted, JoinIsPrinted}

@@ -1,10 +1,10 @@
 -- The octets of an UPDATE of one prefix are octets.
-use Rattle.std.proofs.Common.{◌≡◌, ℕ, zero, suc, ◌+◌, ◌/◌, ◌^◌, ◌<◌, ◌≤◌, Bool, true, false, cond, nat_lt, nat_eq, List, [], ◌∷◌, ◌++◌, length, take, Option, Some, None, refl, arith}
+use Rattle.std.proofs.Common.{◌≡◌, ℕ, zero, suc, ◌+◌, ◌/◌, ◌^◌, ◌<◌, ◌≤◌, Bool, true, false, cond, nat_lt, List, [], ◌∷◌, ◌++◌, length, take, Option, Some, None, refl, arith}
 use Rattle.std.specs.Prelude.{replicate, map, filter, All}
 use Rattle.std.proofs.lemmas.Bool.Decides.{nat_tests}
 use Rattle.std.proofs.lemmas.Nat.{mod_below}
 use Rattle.std.specs.Int.{byte_at, bytes_high_first}
-use Rattle.std.specs.List.{AllByRecursion, list_all, flat_map}
+use Rattle.std.specs.List.{AllByRecursion, flat_map}
 use mathlib.Core.Bool.{beq}
 use Rattle.addr4.specs.Prefixes.{Network}
 use Rattle.bgp_attr.specs.declared.attrs.Aggregator.{Aggregator}
@@ -20,7 +20,7 @@ use Rattle.bgp_wire.specs.Paths.{width_of, code_of}
 use Rattle.bgp_wire.specs.Prefixes.{octets_for}
 use Rattle.bgp_wire.specs.Readable.{withdrawal, announcement}
 use Rattle.bgp_wire.specs.Routes.{code_of_origin}
-use Rattle.bgp_wire.specs.Spelling.{prefix_octets, segment_octets, path_octets, is_long, spelled_octets, spelled, optional, aggregator_value, aggregator_flags, comes_first, unrecognized_attributes, mandatory_attributes, further_attributes, sent_attributes, octets_of, attrs_octets, prefixes_octets, framed, fields_octets, update_octets}
+use Rattle.bgp_wire.specs.Spelling.{prefix_octets, segment_octets, path_octets, is_long, spelled_octets, spelled, optional, aggregator_value, aggregator_flags, comes_first, unrecognized_attributes, mandatory_attributes, further_attributes, sent_attributes, attrs_octets, prefixes_octets, framed, fields_octets, update_octets}
 use Rattle.journal_check.proofs.InkLemmas.{all_append, all_flat}
 
 abbrev pub AreSmall : List ℕ → Type 0

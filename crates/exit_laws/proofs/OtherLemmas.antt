@@ -2,7 +2,7 @@
 use Rattle.std.proofs.Common.{◌≡◌, ℕ, ◌==◌, Bool, true, false, cond, List, [], ◌∷◌, Option, Some, None, IsSome, is_some, refl, sym, ap, subst, ◌∙◌}
 use Rattle.link_change.specs.Rows.{Rows, no_rows}
 use Rattle.journal_text.specs.Links.{same_link}
-use Rattle.journal_text.specs.Walk.{Links, with_link, HasRow, HaveSameRows, Demands, after, IsLawful, Leads}
+use Rattle.journal_text.specs.Walk.{Links, with_link, Demands, after, IsLawful}
 use Rattle.journal_text.specs.declared.entry.Entry.{Entry}
 use Rattle.journal_text.specs.declared.entry.Entry.TheVariants.{Begin, Inherit, Add, Delete, Replace, Asked, Weld, End}
 use Rattle.journal_text.specs.declared.line.Line.TheVariants.{Journal}
@@ -11,7 +11,7 @@ use Rattle.journal_text.specs.declared.link.Link.TheVariants.{Adv}
 use Rattle.journal_text.specs.declared.value.Value.{Value}
 use Rattle.link_region.specs.declared.regions.Region.{Region}
 use Rattle.link_region.specs.declared.regions.Region.TheVariants.{Outward}
-use Rattle.link_region.specs.Regions.{region_number, Sides, joined, with_side, LeadsIn}
+use Rattle.link_region.specs.Regions.{region_number, Sides, joined, with_side}
 use Rattle.link_region.proofs.RegionLemmas.{with_side_here}
 use Rattle.exit_laws.specs.Views.{is_heard, AreUnheard, entry_lines}
 use Rattle.exit_laws.specs.Laws.{OthersAreUnheard}

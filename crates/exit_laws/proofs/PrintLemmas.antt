@@ -1,6 +1,6 @@
 -- The lines of a turn can be printed: what is sent is the form of a row that can be, and its octets are octets.
-use Rattle.std.proofs.Common.{◌≡◌, ◌≢◌, ℕ, ◌+◌, ◌^◌, ◌<◌, ◌≤◌, Bool, true, false, not, cond, List, [], ◌∷◌, ◌++◌, length, Option, Some, None, IfSome, inl, inr, refl, sym, ap, subst, ◌∙◌, arith}
-use Rattle.std.specs.Prelude.{option_map, map, nat_le, All}
+use Rattle.std.proofs.Common.{◌≡◌, ◌≢◌, ℕ, ◌+◌, ◌^◌, ◌<◌, Bool, true, false, cond, nat_eq, ◌&&◌, List, [], ◌∷◌, ◌++◌, Option, Some, None, IfSome, inl, inr, refl, sym, ap, subst, ◌∙◌, append_assoc}
+use Rattle.std.specs.Prelude.{option_map, nat_le, All}
 use Rattle.std.specs.Option.{ForSome}
 use Rattle.std.specs.List.{AllByRecursion}
 use Rattle.std.specs.FinMap as tables
@@ -11,7 +11,6 @@ use Rattle.bgp_attr.specs.declared.path.Segment.{Segment}
 use Rattle.bgp_attr.specs.declared.unrecognized.Unrecognized.{Unrecognized}
 use Rattle.bgp_attr.specs.declared.route.Route.{Route}
 use Rattle.bgp_attr.specs.declared.speaker.Profile.{Profile}
-use Rattle.bgp_attr.specs.declared.speaker.Speaker.{Speaker}
 use Rattle.bgp_attr.specs.declared.speaker.Neighbour.{Neighbour}
 use Rattle.bgp_wire.specs.Lengths.{announcement_length}
 use Rattle.bgp_wire.specs.Paths.{width_of}
@@ -19,27 +18,28 @@ use Rattle.bgp_wire.specs.Readable.{IsReadableSegment}
 use Rattle.bgp_wire.specs.Spelling.{update_octets}
 use Rattle.bgp_wire.proofs.ReadableLaws.{Every, all_every}
 use Rattle.wire_laws.proofs.Prepended.{prepended_is_readable}
-use Rattle.link_change.specs.Rows.{Rows, Candidates}
-use Rattle.link_change.specs.InOrder.{rows_before}
+use Rattle.link_change.specs.Rows.{Rows, Candidates, with_row}
 use Rattle.link_change.specs.declared.change.Change.{Change}
 use Rattle.policy_rules.specs.declared.rule.Rule.{Rule}
 use Rattle.policy_rules.specs.Judged.{KeepsSource}
 use Rattle.policy_rules.specs.Verdicts.{judged_by}
 use Rattle.policy_rules.proofs.KeptLemmas.{judged_keeps}
 use Rattle.policy_rules.proofs.VerdictLemmas.{answer_is_judged}
-use Rattle.pass_core.specs.Passed.{Passed, function_at}
+use Rattle.pass_core.specs.Passed.{function_at}
 use Rattle.pass_core.specs.Turns.{passed_rows, IsSentAt}
 use Rattle.filter_bank.specs.Outgoing.{Form, may_go, first_out, let_by, formed, outgoing}
-use Rattle.fanout_queue.specs.Queues.{Queued, Takes}
-use Rattle.fanout_queue.specs.Readers.{unread_or_none, unread_by, read_rows}
+use Rattle.fanout_queue.specs.Queues.{Queued}
+use Rattle.fanout_queue.specs.Readers.{unread_by, read_rows}
 use Rattle.journal_check.proofs.InkLemmas.{all_append, all_mapped}
 use Rattle.journal_check.specs.Laws.{IsPrefix}
 use Rattle.journal_text.specs.Names.{IsNamed}
-use Rattle.journal_text.specs.Values.{attrs_value, route_value, valued_change, sent_entries}
+use Rattle.journal_text.specs.Links.{same_link}
+use Rattle.journal_text.specs.Values.{attrs_value, route_value, attrs_rows, valued_change, sent_entries}
+use Rattle.journal_text.specs.Walk.{Links, no_links, HasRow, after, IsLawful, fold_links, change_entries}
 use Rattle.journal_text.specs.declared.entry.Entry.{Entry}
 use Rattle.journal_text.specs.declared.entry.Entry.TheVariants as entries
 use Rattle.journal_text.specs.declared.line.Line.{Line}
-use Rattle.journal_text.specs.declared.line.Line.TheVariants.{Out, Journal}
+use Rattle.journal_text.specs.declared.line.Line.TheVariants.{Journal}
 use Rattle.journal_text.specs.declared.link.Link.{Link}
 use Rattle.journal_text.specs.declared.link.Link.TheVariants.{Read, Outf, Adv, Best}
 use Rattle.journal_text.specs.declared.value.Value.{Value}
@@ -50,19 +50,19 @@ use Rattle.journal_laws.specs.Printed.{IsPrintable, IsPrinted}
 use Rattle.journal_laws.proofs.ReadAttrs.{read_printable}
 use Rattle.journal_laws.proofs.PrintedFalls.{changes_printed}
 use Rattle.journal_laws.proofs.PrintedLines.{plain_printed}
-use Rattle.peer_out.specs.Forms.{sent_form, as_sent}
+use Rattle.peer_out.specs.Forms.{sent_form}
 use Rattle.peer_out.specs.Remembered.{Exit}
 use Rattle.peer_out.specs.Changes.{saying, message_octets}
 use Rattle.out_chain.specs.Chains.{OutChained, IsOutChain, form_of, made_by, outf_rows, HasSent}
-use Rattle.out_chain.specs.Steps.{exit_to, new_out, start_entries, stop_entries, read_entries, sending_entries, message_lines, said_of, sent_after, ReadsFirst, WalksNext, TurnsOut, IsTold}
-use Rattle.exit_side.specs.Exits.{Exited, chain_at, with_queue, AllStand}
-use Rattle.exit_side.specs.Steps.{BeginsExit, EndsExit, TurnsExit}
+use Rattle.out_chain.specs.Steps.{exit_to, new_out, sending_entries, message_lines, said_of, sent_after, ReadsFirst, WalksNext, IsTold}
+use Rattle.exit_side.specs.Exits.{Exited, chain_at, links_by, exit_links}
+use Rattle.exit_side.specs.Steps.{TurnsExit, beside}
 use Rattle.live_state.specs.Messages.{plain}
-use Rattle.exit_laws.specs.Views.{AreDeclared, entry_lines}
+use Rattle.exit_laws.specs.Views.{entry_lines}
 use Rattle.exit_laws.specs.Printable.{IsPrintableBest, AreBestRows, IsBestChange, AreBestChanges, IsPrintableSent, IsPrintableExit, ArePrintableExits}
 use Rattle.exit_laws.specs.Laws.{ArePrinted, PrintsOn, BeginningIsPrinted, EndIsPrinted, TurnIsPrinted, TakeIsPrinted, PrintingStays}
 use Rattle.exit_laws.proofs.OctetLemmas.{AreSmall, HasFewNumbers, CanBeSpelled, each_small, withdrawal_small, announcement_small}
-use Rattle.exit_laws.proofs.ViewLemmas.{put_here, turned_sent}
+use Rattle.exit_laws.proofs.ViewLemmas.{put_here, numbered, turned_sent}
 use Rattle.exit_laws.proofs.KeptLemmas.{rows_read, taken_change, queue_taken, each_put, sent_there, sent_kept, begun_exits, ended_exits, with_unread}
 
 -- ---- what is sent of a row is the form of a route with its attributes
@@ -162,22 +162,56 @@ module _ (peers : ℕ → Option Neighbour) where
 -- ---- a turn
 -- what the change that a turn sends came from
 record SendsFrom (old : OutChained) (change : Change Attrs) : Type 0 where
-  was : tables.get old.sent change.prefix ≡ change.before
+  was : ForSome change.before (λ a. tables.get old.sent change.prefix ≡ Some a)
   differs : change.after ≢ change.before
 
-module _ (old new : OutChained) (queued left : Queued Route) (candidates : Candidates) (best : Rows Route) (entries : List (Entry Value)) (change : Change Attrs) (exact : HasSent old (read_rows queued old.reader best)) where
-  by_read : ReadsFirst old new queued left best entries (Some change) → SendsFrom old change
-  by_read reads = record { was = ap (λ (r : Rows Attrs). r change.prefix) exact ∙ reads.filters.1.0; differs = reads.filters.1.1 }
+module _ (old new : OutChained) (queued left : Queued Route) (candidates : Candidates) (best : Rows Route) (entries : List (Entry Value)) (change : Change Attrs) where
+  by_read : ReadsFirst old new queued left best entries (Some change) → change.after ≢ change.before
+  by_read reads = reads.filters.1.1
 
-  by_walk : WalksNext old new queued left candidates best entries (Some change) → SendsFrom old change
+  by_walk : WalksNext old new queued left candidates best entries (Some change) → change.after ≢ change.before
   by_walk walks = at_next walks.walks.next walks.walks.changes
     where
-      all_read : read_rows queued old.reader best ≡ best
-      all_read = ap (λ (o : Option (List (Change Route))). rows_before (unread_or_none o) best) walks.takes.0
-
-      at_next : (next : Option Network) → IsSentAt next (passed_rows (made_by old) old.filter best) (passed_rows (made_by old) new.filter best) (Some change) → SendsFrom old change
+      at_next : (next : Option Network) → IsSentAt next (passed_rows (made_by old) old.filter best) (passed_rows (made_by old) new.filter best) (Some change) → change.after ≢ change.before
       at_next None is = absurd (let clash : ◌≡◌ {A = Option (Change Attrs)} (Some change) None = is.0 in cc)
-      at_next (Some p) is = record { was = ap (λ (r : Rows Attrs). r change.prefix) (exact ∙ ap (outf_rows old) all_read) ∙ is.1.0; differs = is.1.1 }
+      at_next (Some p) is = is.1.1
+
+-- the entries of a lawful walk are one from where those before them led
+lawful_rest : (links : Links Value) (xs ys : List (Entry Value)) → IsLawful links (xs ++ ys) → IsLawful (fold_links links xs) ys
+lawful_rest links [] ys lawful = lawful
+lawful_rest links (x ∷ xs) ys lawful = lawful_rest (after links x) xs ys lawful.1
+
+fold_both : (links : Links Value) (xs ys : List (Entry Value)) → fold_links links (xs ++ ys) ≡ fold_links (fold_links links xs) ys
+fold_both links [] ys = refl
+fold_both links (x ∷ xs) ys = fold_both (after links x) xs ys
+
+-- changes on another link leave the rows of one
+others_stay : (links : Links Value) (link other : Link) (p : Network) (before then : Option Value) → same_link link other ≡ false → fold_links links (change_entries other p before then) link ≡ links link
+others_stay links link other p None None apart = refl
+others_stay links link other p None (Some new) apart = ap (λ (b : Bool). cond b (option_map (λ rows. with_row rows p (Some new)) (links other)) (links link)) apart
+others_stay links link other p (Some old) None apart = ap (λ (b : Bool). cond b (option_map (λ rows. with_row rows p None) (links other)) (links link)) apart
+others_stay links link other p (Some old) (Some new) apart = ap (λ (b : Bool). cond b (option_map (λ rows. with_row rows p (Some new)) (links other)) (links link)) apart
+
+-- what a lawful change takes away stood there
+row_is : (links : Links Value) (link : Link) (rows : Rows Value) (p : Network) (old : Value) → links link ≡ Some rows → HasRow links link p (Some old) → rows p ≡ Some old
+row_is links link rows p old is has = let same : rows ≡ has.0 = (let e : Some rows ≡ Some has.0 = sym is ∙ has.1 in cc) in ap (λ (r : Rows Value). r p) same ∙ has.2
+
+stood : (links : Links Value) (link : Link) (rows : Rows Value) (p : Network) (old : Value) (then : Option Value) → links link ≡ Some rows → IsLawful links (change_entries link p (Some old) then) → rows p ≡ Some old
+stood links link rows p old None is lawful = row_is links link rows p old is lawful.0
+stood links link rows p old (Some new) is lawful = row_is links link rows p old is lawful.0.0
+
+value_back : (o : Option Attrs) (a : Attrs) → option_map attrs_value o ≡ Some (attrs_value a) → o ≡ Some a
+value_back None a e = absurd (let clash : ◌≡◌ {A = Option Value} None (Some (attrs_value a)) = e in cc)
+value_back (Some b) a e = cc
+
+-- so what a lawful change of `adv.J.S` takes away had been sent, where the entries before it are changes of other links
+module _ (links : Links Value) (rows : Rows Attrs) (n t : ℕ) (is : links (Adv n t) ≡ Some (attrs_rows rows)) where
+  was_sent : (first : List (Entry Value)) (change : Change Attrs) → fold_links links first (Adv n t) ≡ links (Adv n t) → IsLawful links (first ++ valued_change attrs_value (Adv n t) change)
+      → ForSome change.before (λ a. rows change.prefix ≡ Some a)
+  was_sent first change stays lawful a before =
+      let own = lawful_rest links first (valued_change attrs_value (Adv n t) change) lawful in
+      let there = subst (λ (o : Option Attrs). IsLawful (fold_links links first) (change_entries (Adv n t) change.prefix (option_map attrs_value o) (option_map attrs_value change.after))) before own in
+      value_back (rows change.prefix) a (stood (fold_links links first) (Adv n t) (attrs_rows rows) change.prefix (attrs_value a) (option_map attrs_value change.after) (stays ∙ is) there)
 
 prefix_of_one : (p : Network) (before after : Option Attrs) → after ≢ before → ((b : Attrs) → before ≡ Some b → IsPrefix p) → ((a : Attrs) → after ≡ Some a → IsPrefix p) → IsPrefix p
 prefix_of_one p None None differs was is = absurd (differs refl)
@@ -217,13 +251,13 @@ module _ (peers : ℕ → Option Neighbour) (old new : OutChained) (now : Rows R
 
     sayable : SendsFrom old change → ((p : Network) → ForSome (tables.get old.sent p) (IsPrintableSent peers p)) → IsSayable peers change
     sayable from was =
-        let before : ForSome change.before (IsPrintableSent peers change.prefix) = λ b is. was change.prefix b (from.was ∙ is) in
+        let before : ForSome change.before (IsPrintableSent peers change.prefix) = λ b is. was change.prefix b (from.was b is) in
         let prefix : IsPrefix change.prefix = prefix_of_one change.prefix change.before change.after from.differs (λ b is. (before b is).prefix) (λ a is. (from_row a is).0) in
         record { prefix = prefix; before = before; after = after_printed; octets = λ as4. octets_small as4 change.prefix change.after prefix (λ a is. (from_row a is).1) }
 
 -- ---- the steps
 module _ (peers : ℕ → Option Neighbour) (j : ℕ) (candidates : Candidates) (best : Rows Route) (sent : Option (Change Attrs)) (e e' : Exited) (said : List Line)
-    (declared : AreDeclared peers e) (stand : AllStand best e) (rows : AreBestRows peers best) (are : ArePrintableExits peers e) (turn : TurnsExit j candidates best sent e e' said) where
+    (plain_is : e.profile ≡ plain) (rows : AreBestRows peers best) (are : ArePrintableExits peers e) (turn : TurnsExit j candidates best sent e e' said) where
   abbrev now : Rows Route
   now = read_rows e'.queue turn.chain.reader best
 
@@ -234,7 +268,7 @@ module _ (peers : ℕ → Option Neighbour) (j : ℕ) (candidates : Candidates) 
   number = ap (λ (w : Neighbour). w.number) (sym turn.same.peer) ∙ (turn.sound.each j turn.taken at).number
 
   profile : turn.taken.exit.profile ≡ plain
-  profile = (turn.sound.each j turn.taken at).profile ∙ ap (λ (x : Exited). x.profile) turn.after ∙ declared.plain
+  profile = (turn.sound.each j turn.taken at).profile ∙ ap (λ (x : Exited). x.profile) turn.after ∙ plain_is
 
   own : IsPrintableExit peers j turn.chain
   own = are.each j turn.chain turn.at
@@ -258,6 +292,31 @@ module _ (peers : ℕ → Option Neighbour) (j : ℕ) (candidates : Candidates) 
   kept : turn.taken.sent ≡ sent_after turn.chain.sent sent
   kept = turned_sent turn.chain turn.taken e.queue e'.queue candidates best sent said turn.turns
 
+  -- the links before the turn
+  abbrev links : Links Value
+  links = beside no_links (exit_links e best)
+
+  adv_is : links (Adv turn.chain.peer.number turn.chain.session) ≡ Some (attrs_rows (tables.get turn.chain.sent))
+  adv_is =
+      subst (λ (n : ℕ). exit_links e best (Adv n turn.chain.session) ≡ Some (attrs_rows (tables.get turn.chain.sent))) (sym number)
+      (ap (λ (o : Option OutChained). links_by e.queue best o (Adv j turn.chain.session)) turn.at
+      ∙ ap (λ (n : ℕ). cond (nat_eq j n && nat_eq turn.chain.session turn.chain.session) (Some (attrs_rows (tables.get turn.chain.sent))) None) number
+      ∙ numbered j turn.chain.session (attrs_rows (tables.get turn.chain.sent)))
+
+  read_stays : fold_links links turn.turns.entries (Adv turn.chain.peer.number turn.chain.session) ≡ links (Adv turn.chain.peer.number turn.chain.session)
+  read_stays = elim turn.turns.by as (λ _. fold_links links turn.turns.entries (Adv turn.chain.peer.number turn.chain.session) ≡ links (Adv turn.chain.peer.number turn.chain.session)) [
+    | inl reads ↦ ap (λ (es : List (Entry Value)). fold_links links es (Adv turn.chain.peer.number turn.chain.session)) reads.entry
+        ∙ others_stay links (Adv turn.chain.peer.number turn.chain.session) (Read turn.chain.peer.number turn.chain.session) reads.change.prefix (option_map route_value reads.change.before) (option_map route_value reads.change.after) refl
+    | inr walks ↦ ap (λ (es : List (Entry Value)). fold_links links es (Adv turn.chain.peer.number turn.chain.session)) walks.entry
+  ]
+
+  first_stays : (change : Change Attrs)
+      → fold_links links (turn.turns.entries ++ valued_change attrs_value (Outf turn.chain.peer.number turn.chain.session) change) (Adv turn.chain.peer.number turn.chain.session) ≡ links (Adv turn.chain.peer.number turn.chain.session)
+  first_stays change =
+      ap (λ (l : Links Value). l (Adv turn.chain.peer.number turn.chain.session)) (fold_both links turn.turns.entries (valued_change attrs_value (Outf turn.chain.peer.number turn.chain.session) change))
+      ∙ others_stay (fold_links links turn.turns.entries) (Adv turn.chain.peer.number turn.chain.session) (Outf turn.chain.peer.number turn.chain.session) change.prefix (option_map attrs_value change.before) (option_map attrs_value change.after) refl
+      ∙ read_stays
+
   each_sayable : (change : Change Attrs) → sent ≡ Some change → IsSayable peers change
   each_sayable change is =
       sayable peers turn.chain turn.taken now (rows_read peers _ best (queue turn.chain.reader) rows) turn.turns.goes.exact (turn.stand j turn.taken at).chain profile turn.same.exit change
@@ -265,13 +324,21 @@ module _ (peers : ℕ → Option Neighbour) (j : ℕ) (candidates : Candidates) 
       (ap (λ r. tables.get r change.prefix) (kept ∙ ap (sent_after turn.chain.sent) is) ∙ sent_there peers turn.chain.sent change)
       (from is) own.sent
     where
-      from : sent ≡ Some change → SendsFrom turn.chain change
-      from is = elim turn.turns.by as (λ _. SendsFrom turn.chain change) [
-        | inl reads ↦ by_read turn.chain turn.taken e.queue e'.queue candidates best turn.turns.entries change (stand j turn.chain turn.at).exact
-            (subst (ReadsFirst turn.chain turn.taken e.queue e'.queue best turn.turns.entries) is reads)
-        | inr walks ↦ by_walk turn.chain turn.taken e.queue e'.queue candidates best turn.turns.entries change (stand j turn.chain turn.at).exact
-            (subst (WalksNext turn.chain turn.taken e.queue e'.queue candidates best turn.turns.entries) is walks)
+      differs : sent ≡ Some change → change.after ≢ change.before
+      differs is = elim turn.turns.by as (λ _. change.after ≢ change.before) [
+        | inl reads ↦ by_read turn.chain turn.taken e.queue e'.queue candidates best turn.turns.entries change (subst (ReadsFirst turn.chain turn.taken e.queue e'.queue best turn.turns.entries) is reads)
+        | inr walks ↦ by_walk turn.chain turn.taken e.queue e'.queue candidates best turn.turns.entries change (subst (WalksNext turn.chain turn.taken e.queue e'.queue candidates best turn.turns.entries) is walks)
       ]
+
+      was : sent ≡ Some change → ForSome change.before (λ a. tables.get turn.chain.sent change.prefix ≡ Some a)
+      was is =
+          let first = turn.turns.entries ++ valued_change attrs_value (Outf turn.chain.peer.number turn.chain.session) change in
+          let lawful : IsLawful links ((turn.turns.entries ++ sending_entries turn.chain (Some change))) = subst (λ (o : Option (Change Attrs)). IsLawful links (turn.turns.entries ++ sending_entries turn.chain o)) is (turn.leads no_links).lawful in
+          was_sent links (tables.get turn.chain.sent) turn.chain.peer.number turn.chain.session adv_is first change (first_stays change)
+          (subst (λ (es : List (Entry Value)). IsLawful links es) (sym (append_assoc turn.turns.entries (valued_change attrs_value (Outf turn.chain.peer.number turn.chain.session) change) (valued_change attrs_value (Adv turn.chain.peer.number turn.chain.session) change))) lawful)
+
+      from : sent ≡ Some change → SendsFrom turn.chain change
+      from is = record { was = was is; differs = differs is }
 
   lines_are : ArePrinted peers (said_of turn.chain turn.turns.entries sent)
   lines_are =
@@ -297,7 +364,7 @@ module _ (peers : ℕ → Option Neighbour) (j : ℕ) (candidates : Candidates) 
   }
 
 pub turn_is_printed : TurnIsPrinted
-turn_is_printed peers j candidates best sent e e' said declared stand rows are turn = turn_prints peers j candidates best sent e e' said declared stand rows are turn
+turn_is_printed peers j candidates best sent e e' said plain_is rows are turn = turn_prints peers j candidates best sent e e' said plain_is rows are turn
 
 plain_entry : (peers : ℕ → Option Neighbour) (link : Link) → IsNamed link → IsPrinted peers (Journal (entries.Begin link)) × IsPrinted peers (Journal (entries.End link))
 plain_entry peers link named = (plain_printed peers (Journal (entries.Begin link)) refl refl named, plain_printed peers (Journal (entries.End link)) refl refl named)

@@ -3,10 +3,9 @@ use Rattle.std.proofs.Common.{◌≡◌, ◌≢◌, ℕ, ◌&&◌, not, Bool, tr
 use Rattle.std.specs.Prelude.{map}
 use Rattle.std.specs.FinMap as tables
 use Rattle.std.specs.FinMap.{get-insert, get-remove}
-use Rattle.std.specs.Ordering.{nat_cmp, eq_by_cmp}
 use Rattle.std.specs.Cmp.{nat_cmp_total}
 use Rattle.std.proofs.lemmas.Bool.Decides.{nat_tests}
-use Rattle.addr4.specs.Prefixes.{Network, prefix_cmp}
+use Rattle.addr4.specs.Prefixes.{Network}
 use Rattle.addr4.proofs.PrefixOrder.{prefixes_total, itself}
 use Rattle.bgp_attr.specs.Hosts.{is_host_prefix}
 use Rattle.bgp_attr.specs.declared.attrs.Attrs.{Attrs}
@@ -20,7 +19,7 @@ use Rattle.link_change.specs.declared.change.Change.{Change}
 use Rattle.link_change.proofs.RowLemmas.{same_function}
 use Rattle.policy_rules.specs.declared.rule.Rule.{Rule}
 use Rattle.pass_core.specs.Passed.{function_at}
-use Rattle.filter_bank.specs.Outgoing.{Form, may_go, first_out, let_by, formed, outgoing}
+use Rattle.filter_bank.specs.Outgoing.{Form, first_out, let_by, formed, outgoing}
 use Rattle.cache_stage.specs.Caches.{kept_after}
 use Rattle.fanout_queue.specs.Queues.{Queued}
 use Rattle.fanout_queue.proofs.Cases.{same_number, other_number}
@@ -32,15 +31,15 @@ use Rattle.journal_text.specs.declared.link.Link.{Link}
 use Rattle.journal_text.specs.declared.link.Link.TheVariants.{Outf, Adv}
 use Rattle.journal_text.specs.declared.value.Value.{Value}
 use Rattle.peer_out.specs.Changes.{saying, message_octets}
-use Rattle.out_chain.specs.Chains.{OutChained, form_of, outf_rows, out_links, HasSent}
-use Rattle.out_chain.specs.Steps.{exit_to, new_out, sending_entries, message_lines, said_of, sent_after, with_sent, with_filter, ReadsFirst, WalksNext, TurnsOut, IsTold}
-use Rattle.exit_side.specs.Exits.{Exited, chain_at, with_exit, without_exit, links_by, exit_links, IsExits}
-use Rattle.exit_side.specs.Steps.{BeginsExit, EndsExit, EditsExit, PutsExit, TurnsExit, edited_by}
+use Rattle.out_chain.specs.Chains.{OutChained, form_of, outf_rows, HasSent}
+use Rattle.out_chain.specs.Steps.{exit_to, new_out, sending_entries, message_lines, sent_after, TurnsOut, IsTold}
+use Rattle.exit_side.specs.Exits.{Exited, chain_at, with_exit, without_exit, links_by}
+use Rattle.exit_side.specs.Steps.{edited_by}
 use Rattle.exit_side.proofs.SwapLemmas.{by_number}
 use Rattle.live_state.specs.Messages.{plain, changes_of}
 use Rattle.live_state.specs.Lives.{Routes, with_routes, routes_after}
 use Rattle.live_state.specs.Heard.{Views, HearsOctets, Hears}
-use Rattle.exit_laws.specs.Views.{sent_by, views_of, AreDeclared, AreUnheard, entry_lines}
+use Rattle.exit_laws.specs.Views.{sent_by, views_of, AreUnheard, entry_lines}
 use Rattle.exit_laws.specs.Laws.{HeardIsSent, BeginningIsHeard, EndIsHeard, TurnIsHeard, TurnIsHeardFrom, EditKeepsViews, PutKeepsViews}
 use Rattle.exit_laws.proofs.HearLemmas.{hearing_joins, nothing_is_heard, changes_are_unheard, unheard_joins}
 
@@ -73,7 +72,7 @@ routes_same : (v : Views) (j : ℕ) (routes : Routes) → v j ≡ routes → wit
 routes_same v j routes is = same_function _ _ (λ k. by_number k j (λ b. cond b routes (v k) ≡ v k) (λ at. sym is ∙ ap v (sym at)) (λ _. refl))
 
 -- ---- what was heard is `adv`
-numbered : (k s : ℕ) (rows : Rows Value) → cond (nat_eq k k && nat_eq s s) (Some rows) None ≡ Some rows
+pub numbered : (k s : ℕ) (rows : Rows Value) → cond (nat_eq k k && nat_eq s s) (Some rows) None ≡ Some rows
 numbered k s rows = ap (λ (b : Bool). cond b (Some rows) None) (let a : nat_eq k k ≡ true = grind (arith, nat_tests) in let b : nat_eq s s ≡ true = grind (arith, nat_tests) in ap (λ (x : Bool). x && nat_eq s s) a ∙ b)
 
 pub heard_is_sent : HeardIsSent

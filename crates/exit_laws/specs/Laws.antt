@@ -1,5 +1,5 @@
 -- Laws of what peers hear, and of the lines that the exits say.
-use Rattle.std.specs.Prelude.{◌≡◌, ℕ, ◌==◌, false, List, [], ◌++◌, Option, Some, None}
+use Rattle.std.specs.Prelude.{◌≡◌, ℕ, ◌==◌, false, List, [], ◌++◌, Option, Some}
 use Rattle.std.specs.List.{AllByRecursion}
 use Rattle.std.specs.FinMap as tables
 use Rattle.addr4.specs.Prefixes.{Network}
@@ -26,12 +26,13 @@ use Rattle.link_region.specs.declared.regions.Region.{Region}
 use Rattle.link_region.specs.declared.regions.Region.TheVariants.{Outward}
 use Rattle.link_region.specs.Regions.{region_number, LeadsIn}
 use Rattle.out_chain.specs.Chains.{OutChained}
-use Rattle.exit_side.specs.Exits.{Exited, chain_at, with_queue, exit_links, IsExits, AllStand}
+use Rattle.exit_side.specs.Exits.{Exited, chain_at, with_queue, exit_links, IsExits}
 use Rattle.exit_side.specs.Steps.{BeginsExit, EndsExit, EditsExit, PutsExit, TurnsExit}
+use Rattle.live_state.specs.Messages.{plain}
 use Rattle.live_state.specs.Lives.{with_routes}
 use Rattle.live_state.specs.Heard.{Views, Hears}
 use Rattle.exit_laws.specs.Views.{views_of, AreDeclared, AreUnheard, entry_lines}
-use Rattle.exit_laws.specs.Printable.{AreBestRows, IsBestChange, AreBestChanges, ArePrintableExits}
+use Rattle.exit_laws.specs.Printable.{AreBestRows, IsBestChange, ArePrintableExits}
 
 -- ---- the walk
 -- What is heard of some lines and then of others is heard of both, one after the other;
@@ -128,7 +129,7 @@ EndIsPrinted =
 abbrev pub TurnIsPrinted : Type 0
 TurnIsPrinted =
     (peers : ℕ → Option Neighbour) (j : ℕ) (candidates : Candidates) (best : Rows Route) (sent : Option (Change Attrs)) (e e' : Exited) (said : List Line)
-    → AreDeclared peers e → AllStand best e → AreBestRows peers best → ArePrintableExits peers e
+    → e.profile ≡ plain → AreBestRows peers best → ArePrintableExits peers e
     → TurnsExit j candidates best sent e e' said → PrintsOn peers e' said
 
 -- so it is with new rules,

@@ -1,11 +1,10 @@
 -- What peers have heard are the rows of their links, at first, after each step, and after an idle.
-use Rattle.std.proofs.Common.{◌≡◌, ℕ, ◌&&◌, Bool, true, false, cond, nat_eq, List, [], ◌++◌, Option, Some, None, is_some, refl, sym, ap, subst, ◌∙◌, arith}
+use Rattle.std.proofs.Common.{◌≡◌, ℕ, ◌&&◌, Bool, true, false, cond, nat_eq, List, [], ◌++◌, Option, Some, None, refl, sym, ap, subst, ◌∙◌, arith}
 use Rattle.std.specs.Prelude.{IsSome, option_map}
 use Rattle.std.specs.FinMap as tables
 use Rattle.std.specs.FinMap.{get-empty}
 use Rattle.std.specs.Ordering.{nat_cmp}
 use Rattle.std.proofs.lemmas.Bool.Decides.{nat_tests}
-use Rattle.addr4.specs.Prefixes.{Network}
 use Rattle.bgp_attr.specs.declared.attrs.Attrs.{Attrs}
 use Rattle.bgp_attr.specs.declared.speaker.Speaker.{Speaker}
 use Rattle.bgp_attr.specs.declared.speaker.Neighbour.{Neighbour}
@@ -15,21 +14,19 @@ use Rattle.journal_text.specs.declared.line.Line.{Line}
 use Rattle.journal_text.specs.declared.link.Link.TheVariants.{Adv}
 use Rattle.journal_text.specs.declared.value.Value.{Value}
 use Rattle.journal_text.specs.Values.{attrs_value, attrs_rows}
-use Rattle.event_text.specs.declared.event.Event.{Event}
-use Rattle.event_text.specs.declared.event.Event.TheVariants.{Idle}
 use Rattle.event_text.specs.declared.declared.DeclaredPeer.{DeclaredPeer}
 use Rattle.event_text.specs.Declarations.{peer_at}
 use Rattle.journal_laws.specs.Peers.{neighbours, KeepsPeers}
 use Rattle.live_state.specs.Decided.{sent_rows, in_session, best_of, from_scratch}
 use Rattle.live_state.specs.Heard.{no_views, Hears}
 use Rattle.out_chain.specs.Chains.{OutChained}
-use Rattle.exit_side.specs.Exits.{no_exits, chain_at as exit_at}
+use Rattle.exit_side.specs.Exits.{chain_at as exit_at}
 use Rattle.exit_laws.specs.Views.{sent_by, views_of}
 use Rattle.exit_laws.specs.Laws.{HearingJoins, HearingStays, HeardIsSent}
 use Rattle.router_core.specs.Bests.{best_at}
 use Rattle.router_core.specs.Moments.{Moment, Policies, first_moment, router_links, rules_to}
 use Rattle.router_core.specs.Peers.{is_up}
-use Rattle.router_core.specs.Stands.{Stands, IsExitOf, ExitsAt, AllHaveExits}
+use Rattle.router_core.specs.Stands.{Stands, ExitsAt, AllHaveExits}
 use Rattle.router_core.specs.Stands.Claim.{EachExit, SameSessions}
 use Rattle.router_core.specs.Lives.{live_state}
 use Rattle.router_core.specs.Scratch.{IsExact}

@@ -1,5 +1,5 @@
 -- What follows a change of `res.K`: what is decided, and what its entries lead to.
-use Rattle.std.proofs.Common.{◌≡◌, ℕ, ◌<◌, ◌≤◌, nat_eq, nat_lt, true, cond, [], Option, Some, None, refl, sym, ap, subst, ◌∙◌, arith}
+use Rattle.std.proofs.Common.{◌≡◌, ℕ, ◌<◌, ◌≤◌, nat_eq, nat_lt, true, cond, List, [], Option, Some, None, refl, sym, ap, subst, ◌∙◌, arith}
 use Rattle.std.proofs.lemmas.Bool.Decides.{nat_tests}
 use Rattle.addr4.specs.Prefixes.{Network}
 use Rattle.bgp_attr.specs.declared.route.Route.{Route}
@@ -19,13 +19,16 @@ use Rattle.link_region.specs.declared.regions.Region.TheVariants.{Decided}
 use Rattle.link_region.specs.Regions.{joined, with_side, LeadsIn}
 use Rattle.link_region.proofs.RegionLemmas.{by_bool}
 use Rattle.loss_chain.proofs.TableLemmas.{equal_by, same_by, other_by}
-use Rattle.decision.specs.Branches.{AllRows, best_rows, Decides, OthersStay}
+use Rattle.decision.specs.Branches.{AllRows, best_rows, Decides as DecidesOver, OthersStay}
 use Rattle.decision.proofs.LawLemmas.{best_is_a_branchs, best_is_of_its_prefix}
 use Rattle.hop_side.specs.Resolvers.{Resolvers, PeerRows, resolver_at, rows_by}
 use Rattle.hop_side.specs.Steps.{ComesOn}
 use Rattle.peer_side.specs.Peers.{Chains, chain_at, filt_by}
-use Rattle.router_core.specs.Bests.{resolved_at, best_at, best_links, best_entries, DecidesOn, lent_rows}
-use Rattle.router_core.specs.Moments.{Moment}
+use Rattle.addr4.proofs.PrefixOrder.{itself}
+use Rattle.journal_text.specs.declared.entry.Entry.{Entry}
+use Rattle.router_core.specs.Bests.{resolved_at, best_at, best_links, best_entries, lent_rows, DecidesOn, Queues}
+use Rattle.router_core.specs.Moments.{Moment, with_exits}
+use Rattle.router_core.specs.Works.{Decides}
 
 -- ---- the branches that there may be
 same_best : (rows other : AllRows) → ((b : ℕ) → b < 65 → rows b ≡ other b) → best_rows rows ≡ best_rows other
@@ -57,27 +60,40 @@ comes_none k p before now comes i j = each j i
     each : (j : ℕ) → now j ≡ before j
     each j = by_bool (nat_eq j k) (λ b. now j ≡ before j) (λ e. subst (λ (n : ℕ). now n ≡ before n) (sym (equal_by j k e)) comes.here) (λ e. comes.others j e)
 
-pub decided_none : (k : ℕ) (sent : Option (Change Route)) (now : PeerRows) (j : Journaled) → sent ≡ None → Adds (DecidesOn k sent now) j j
-decided_none k sent now j is = (
+pub decides_none : (k : ℕ) (sent : Option (Change Route)) (m : Moment) (j : Journaled) → sent ≡ None → Adds (Decides k sent m m) j j
+decides_none k sent m j is = (
   [],
   sym (with_entries_none j),
   record {
-    best = None;
-    lines = refl;
-    decides = λ before p comes. ap best_rows (comes_none k p before now (subst (λ (s : Option (Change Route)). ComesOn k p s before now) is comes));
+    decided = record {
+      best = None;
+      lines = refl;
+      decides = λ before p comes. ap best_rows (comes_none k p before (resolved_at m.chains m.hops) (subst (λ (s : Option (Change Route)). ComesOn k p s before (resolved_at m.chains m.hops)) is comes));
+    };
+    queued = refl;
+    after = refl;
   },
 )
 
-pub decided_some : (k : ℕ) (sent : Option (Change Route)) (change : Change Route) (best : Option (Change Route)) (m : Moment) (a : Chains) (h : Resolvers) (before now : Journaled) → k ≤ 64 → sent ≡ Some change → a ≡ m.chains → h ≡ m.hops
-    → Decides k (lent_rows a h) change best → now ≡ with_entries before (best_entries best) → Adds (DecidesOn k sent (resolved_at m.chains m.hops)) before now
-decided_some k sent change best m a h before now small is chains hops decides pushed =
-    subst (λ (x : Chains). Adds (DecidesOn k sent (resolved_at x m.hops)) before now) chains
-    (subst (λ (x : Resolvers). Adds (DecidesOn k sent (resolved_at a x)) before now) hops (
-      best_entries best,
-      pushed,
-      record { best = best; lines = refl; decides = λ was p comes. leads was p (subst (λ (s : Option (Change Route)). ComesOn k p s was (resolved_at a h)) is comes) },
-    ))
+pub decides_some : (k : ℕ) (sent : Option (Change Route)) (change : Change Route) (best : Option (Change Route)) (m m' : Moment) (a : Chains) (h : Resolvers) (before now : Journaled) → k ≤ 64 → sent ≡ Some change → a ≡ m.chains → h ≡ m.hops
+    → DecidesOver k (lent_rows a h) change best → now ≡ with_entries before (best_entries best) → Queues best m.exits m'.exits → m' ≡ with_exits m m'.exits → Adds (Decides k sent m m') before now
+decides_some k sent change best m m' a h before now small is chains hops decides pushed queued after = (
+  best_entries best,
+  pushed,
+  record {
+    decided = record {
+      best = best;
+      lines = refl;
+      decides = subst (λ (x : Chains). LeadsBy x m.hops) chains (subst (λ (x : Resolvers). LeadsBy a x) hops (λ was p comes. leads was p (subst (λ (s : Option (Change Route)). ComesOn k p s was (resolved_at a h)) is comes)));
+    };
+    queued = queued;
+    after = after;
+  },
+)
   where
+    LeadsBy : Chains → Resolvers → Type 0
+    LeadsBy x y = (was : PeerRows) (p : Network) → ComesOn k p sent was (resolved_at x y) → IsSent (best_rows was) (best_rows (resolved_at x y)) p best
+
     low : k < 65
     low = omega (arith, small)
 
@@ -111,3 +127,19 @@ best_leads s me old new p best since sent sides is =
     each : (link : Link) → with_link (joined sides) Best (Some (route_rows new)) link ≡ joined (with_side sides Decided (best_links s new)) link
     each Best = ap (λ (x : Option Speaker). best_links x new Best) (sym since)
     each other = refl
+
+-- of nothing nothing is decided
+pub best_of_none : (k : ℕ) (passed : Option (Change Route)) (now : PeerRows) (entries : List (Entry Value)) (d : DecidesOn k passed now entries) → passed ≡ None → d.best ≡ None
+best_of_none k passed now entries d none = by_best d.best refl
+  where
+    nowhere : Network
+    nowhere = record { address = 0; length = 0 }
+
+    sent : IsSent (best_rows now) (best_rows now) nowhere d.best
+    sent = d.decides now nowhere (record { here = subst (λ (s : Option (Change Route)). IsSent (now k) (now k) nowhere s) (sym none) refl; others = λ j e. refl })
+
+    by_best : (o : Option (Change Route)) → d.best ≡ o → o ≡ None
+    by_best None is = refl
+    by_best (Some c) is =
+        let x : IsSent (best_rows now) (best_rows now) nowhere (Some c) = subst (IsSent (best_rows now) (best_rows now) nowhere) is sent in
+        absurd (x.1.1 (sym (ap (λ b. cond b c.after (best_rows now c.prefix)) (itself c.prefix)) ∙ sym (ap (λ (rows : Rows Route). rows c.prefix) x.2) ∙ x.1.0))

@@ -1,12 +1,13 @@
 -- What holds of a core after each of its calls.
-use Rattle.std.proofs.Common.{◌≡◌, ℕ, ◌+◌, ◌<◌, ◌≤◌, Bool, true, false, List, length, Option, None, is_some, refl, sym, ap, subst, ◌∙◌, arith}
+use Rattle.std.proofs.Common.{◌≡◌, ℕ, ◌+◌, ◌<◌, ◌≤◌, Bool, true, false, List, length, Option, Some, None, is_some, refl, sym, ap, subst, ◌∙◌, arith}
 use Rattle.std.specs.FinMap.{get-empty, len-empty}
 use Rattle.std.specs.Ordering.{nat_cmp}
 use Rattle.in_chain.specs.Chains.{Chained}
 use Rattle.journal_text.specs.declared.line.Line.{Line}
 use Rattle.journal_text.specs.Journals.{Journaled}
 use Rattle.event_text.specs.declared.event.Event.{Event}
-use Rattle.event_text.specs.Declarations.{IsDeclaration, refusal}
+use Rattle.event_text.specs.Declarations.{Declaration, IsDeclaration, peer_at, refusal}
+use Rattle.event_text.specs.declared.declared.DeclaredPeer.{DeclaredPeer}
 use Rattle.event_text.specs.WellFormed.{IsWellFormed}
 use Rattle.link_change.proofs.RowLemmas.{empty_rows}
 use Rattle.rib_route.specs.declared.Proto.{Proto}
@@ -15,12 +16,14 @@ use Rattle.rib_tree.specs.Trees.{branch_of, AreNumbered}
 use Rattle.rib_tree.specs.Steps.{new_tree}
 use Rattle.rib_tree.specs.Laws.{ANewTreeStands}
 use Rattle.router_core.specs.Moments.{Moment, Cored, first_moment, Gives}
-use Rattle.router_core.specs.Stands.{Stands, CoreStands, Claim, Claims, EachChain, EachPeer, InteriorTree, OneSpeaker, Registered, SameCount, EachResolver, SameResolvers, AnswersAgree, HopsCounted, NoStrangers, SmallNumbers, StandsAt, Tie, Ties, here}
+use Rattle.router_core.specs.Laws.{LinksAtRestAreExact}
+use Rattle.router_core.specs.Scratch.{IsExactAtRest}
+use Rattle.router_core.specs.Stands.{Stands, AllHaveExits, HaveReaders, CoreStands, Claim, Claims, EachChain, EachPeer, InteriorTree, OneSpeaker, Registered, SameCount, EachResolver, SameResolvers, AnswersAgree, HopsCounted, NoStrangers, SmallNumbers, EachRow, EachExit, QueueLeads, ExitsRead, PlainExits, OneSender, SameSessions, OneReader, StandsAt, ExitsAt, Tie, Ties, here}
 use Rattle.register_interest.specs.Interests.{interest_cmp}
 use Rattle.nexthop_resolver.specs.Resolving.{Resolving}
 use Rattle.nexthop_resolver.specs.declared.rows.Metric.{Metric}
 use Rattle.router_core.specs.Blocks.{Acts}
-use Rattle.router_core.specs.Works.{Comes, HasStepped, Keeps}
+use Rattle.router_core.specs.Works.{Comes, HasStepped, Keeps, HaveSameExits}
 use Rattle.live_state.specs.Declared.{declared_after}
 use Rattle.live_state.specs.Lives.{LiveState}
 use Rattle.router_core.specs.Lives.{live_state}
@@ -28,6 +31,9 @@ use Rattle.live_state.specs.Laws.{DeclarationsFollow}
 use Rattle.journal_laws.specs.Peers.{neighbours, KeepsPeers}
 use Rattle.router_core.specs.Printable.{ArePrinted, IsPrintableMoment}
 use Rattle.router_core.proofs.KeepLemmas.{acts_of}
+use Rattle.router_core.proofs.TurnWalks.{turn_same}
+use Rattle.router_core.proofs.ExitsUp.{event_exits}
+use Rattle.router_core.proofs.SessionLemmas.{reads_as}
 use Rattle.live_state.proofs.SessionLemmas.{losses_follow}
 use Rattle.rib_tree.proofs.NewLemmas.{of_new, int_empty}
 use Rattle.journal_laws.proofs.DeclaredPeers.{Leaves}
@@ -40,7 +46,17 @@ use Rattle.router_core.proofs.PrintedBlocks.{fit_at, event_printed}
 use Rattle.journal_laws.proofs.PrintedRows.{none_printable}
 use Rattle.journal_laws.specs.Standing.{AreTablesOf, IsInteriorRow}
 use Rattle.addr4.specs.Prefixes.{Network}
+use Rattle.std.specs.List.{AllByRecursion}
+use Rattle.bgp_attr.specs.declared.route.Route.{Route}
+use Rattle.fanout_queue.specs.Readers.{unread_or_none}
+use Rattle.out_chain.specs.Chains.{OutChained}
+use Rattle.exit_side.proofs.LawLemmas.{stands_at_first as exits_at_first}
+use Rattle.exit_laws.specs.Printable.{IsBestChange, AreBestChanges, ArePrintableExits}
+use Rattle.exit_laws.proofs.PrintLemmas.{printing_stays}
+use Rattle.live_state.specs.Messages.{plain}
+use Rattle.router_core.specs.Bests.{best_at}
 use Rattle.link_change.specs.Rows.{Rows}
+use Rattle.link_change.specs.declared.change.Change.{Change}
 
 abbrev pub cored : Moment → ℕ → Cored
 cored m n = record { moment = m; events = n; failed = false }
@@ -62,7 +78,11 @@ step_prints m m' event turns said follow stands printable few admitted formed h 
     let l = event_printed m stands printable few event said turns m' formed h.block in
     let is : declared_after m.declared event ≡ m'.declared = sym (ap (λ (x : LiveState). x.declared) h.keeps.live ∙ follow (live_state m) event h.live h.after) in
     let d : Leaves m.declared m'.declared = subst (Leaves m.declared) is (event_leaves m.declared event printable.declared admitted formed) in
-    record { now = record { declared = d.declared; chains = l.chains; interior = l.interior; hops = l.hops }; lines = l.printed; peers = d.peers }
+    record {
+      now = record { declared = d.declared; chains = l.chains; interior = l.interior; hops = l.hops; exits = printing_stays m.declared m'.declared m'.exits d.peers l.exits };
+      lines = l.printed;
+      peers = d.peers;
+    }
 
 -- background work declares nothing
 pub work_prints : (m m' : Moment) (most : ℕ) → Stands m → IsPrintableMoment m → AreNumbered most m.tree → live_state m' ≡ live_state m → (Fit (neighbours m.declared) most m → Fit (neighbours m.declared) most m') → IsPrintableMoment m'
@@ -73,7 +93,16 @@ work_prints m m' most stands printable few live fits =
       chains = λ k c there. (x.chains k c there).0.printable;
       interior = λ proto. (x.interior proto).printable;
       hops = x.metrics;
+      exits = subst (λ (d : Declaration). ArePrintableExits (neighbours d) m'.exits) (sym (ap (λ (l : LiveState). l.declared) live)) x.exits;
     }
+
+-- each link that no work holds up is the one from scratch
+pub exact_after : LinksAtRestAreExact → (m' : Moment) (k : ℕ) → CoreStands (cored m' k) → IsExactAtRest m'
+exact_after law m' k after = law m' after.stands after.exits
+
+-- what lookups ask for
+pub readers_of : (m : Moment) → Stands m → HaveReaders m
+readers_of m stands = record { exits = stands.own EachExit; reader = λ r is. (reads_as m stands r is).live }
 
 -- ---- a core by its parts
 module _ (old : Cored) (m : Moment) (n : ℕ) (failed : Bool) (view : record { moment = m; events = n; failed = failed } ≡ old) (off : failed ≡ false) (stands : old.failed ≡ false → CoreStands old) where
@@ -82,6 +111,9 @@ module _ (old : Cored) (m : Moment) (n : ℕ) (failed : Bool) (view : record { m
 
   pub moment_stands : Stands m
   moment_stands = stood.stands
+
+  pub moment_exits : AllHaveExits m
+  moment_exits = stood.exits
 
   pub few_losses : n < 4294967295 → AreNumbered 4294967294 m.tree
   few_losses few proto = let most = stood.numbered proto in omega (arith, few, most)
@@ -94,6 +126,7 @@ module _ (old : Cored) (m : Moment) (n : ℕ) (failed : Bool) (view : record { m
     core_stepped = record {
       stands = g.2.keeps.stands;
       printable = prints.now;
+      exits = event_exits m m' stood.exits event g.0 turns (ap (λ (l : LiveState). l.declared) g.2.keeps.live ∙ follow (live_state m) event g.2.live g.2.after) g.2.block;
       numbered = λ proto.
           let was = stood.numbered proto in
           let more = losses_follow (live_state m) event g.2.live g.2.after proto in
@@ -104,23 +137,38 @@ module _ (old : Cored) (m : Moment) (n : ℕ) (failed : Bool) (view : record { m
     pub core_acts : Gives (Acts old.moment event turns m') before now
     core_acts = (g.0, g.1, subst (λ (c : Cored). Acts c.moment event turns m' g.0) view (acts_of m m' event turns g.0 g.2 prints.lines prints.peers))
 
-  pub core_worked : (m' : Moment) (said : List Line) → Keeps (live_state m) m m' said → (Fit (neighbours m.declared) n m → Fit (neighbours m.declared) n m') → CoreStands (cored m' n)
-  core_worked m' said work fits = record { stands = work.stands; printable = work_prints m m' n stood.stands stood.printable stood.numbered work.live fits; numbered = worked_numbered m m' said n work stood.numbered }
+  pub core_worked : (m' : Moment) (said : List Line) → Keeps (live_state m) m m' said → HaveSameExits m m' → (Fit (neighbours m.declared) n m → Fit (neighbours m.declared) n m') → CoreStands (cored m' n)
+  core_worked m' said work same fits = record {
+    stands = work.stands;
+    printable = work_prints m m' n stood.stands stood.printable stood.numbered work.live fits;
+    exits = λ k p at up. same k ∙ stood.exits k p (ap (λ (l : LiveState). peer_at k l.declared.peers) (sym work.live) ∙ at) up;
+    numbered = worked_numbered m m' said n work stood.numbered;
+  }
 
   pub core_turned : (task : Task) (m' : Moment) (before now : Journaled) (done : Done) → Comes task m m' before now done → CoreStands (cored m' n)
-  core_turned task m' before now Nothing comes = subst (λ (x : Moment). CoreStands (cored x n)) (sym comes.1) (record { stands = stood.stands; printable = stood.printable; numbered = stood.numbered })
-  core_turned task m' before now Taken g = core_worked m' g.0 g.2.work.keeps (λ fit. (turn_goes (neighbours m.declared) n task m g.0 m' g.2.turn fit).0)
+  core_turned task m' before now Nothing comes = subst (λ (x : Moment). CoreStands (cored x n)) (sym comes.1) (record { stands = stood.stands; printable = stood.printable; exits = stood.exits; numbered = stood.numbered })
+  core_turned task m' before now Taken g = core_worked m' g.0 g.2.work.keeps (turn_same task m g.0 m' g.2.turn) (λ fit. (turn_goes (neighbours m.declared) n task m g.0 m' g.2.turn fit).0)
 
 -- ---- the first moment
 pub first_stands : ANewTreeStands → CoreStands (cored first_moment 0)
 first_stands law = record {
   stands = record { own = own; at = at };
-  printable = record { declared = refl; chains = λ k c at. absurd (let none = get-empty {X = Chained} nat_cmp k in cc); interior = new_printable; hops = λ k s at. absurd (let none = get-empty {X = Resolving Metric} nat_cmp k in cc) };
+  printable = record {
+    declared = refl;
+    chains = λ k c at. absurd (let none = get-empty {X = Chained} nat_cmp k in cc);
+    interior = new_printable;
+    hops = λ k s at. absurd (let none = get-empty {X = Resolving Metric} nat_cmp k in cc);
+    exits = record { unread = nothing_unread; each = λ j c at. absurd (let none = get-empty {X = OutChained} nat_cmp j in cc) };
+  };
+  exits = λ k p there up. absurd (let clash : ◌≡◌ {A = Option DeclaredPeer} None (Some p) = there in cc);
   numbered = of_new (λ b. b.losses ≤ 0) (λ k. omega arith);
 }
   where
     new_printable : (proto : Proto) → AreTablesOf IsInteriorRow (branch_of proto new_tree).tables
     new_printable = of_new (λ b. AreTablesOf IsInteriorRow b.tables) (λ k. none_printable IsInteriorRow)
+
+    nothing_unread : AreBestChanges (neighbours first_moment.declared) first_moment.exits.queue
+    nothing_unread reader = subst (λ (o : Option (List (Change Route))). AllByRecursion (IsBestChange (neighbours first_moment.declared)) (unread_or_none o)) (sym (get-empty nat_cmp reader)) tt
 
     own : (claim : Claim) → Claims first_moment claim
     own EachChain = λ k c at. absurd (let none = get-empty {X = Chained} nat_cmp k in cc)
@@ -133,6 +181,14 @@ first_stands law = record {
     own HopsCounted = λ k s at. absurd (let none = get-empty {X = Resolving Metric} nat_cmp k in cc)
     own SmallNumbers = λ k some. absurd (let none = get-empty {X = Chained} nat_cmp k in let clash : true ≡ false = sym some ∙ ap is_some none in cc)
     own NoStrangers = λ k none s. ap is_some (get-empty {X = Option Network} interest_cmp (record { subnet = s; client = k }))
+    own EachRow = λ k c at. absurd (let none = get-empty {X = Chained} nat_cmp k in cc)
+    own EachExit = (exits_at_first plain).sound
+    own QueueLeads = λ reader unread at. absurd (let none = get-empty {X = List (Change Route)} nat_cmp reader in cc)
+    own ExitsRead = (exits_at_first plain).stand (best_at first_moment.chains first_moment.hops)
+    own PlainExits = refl
+    own OneSender = tt
+    own SameSessions = λ k. subst (λ (o : Option OutChained). ExitsAt None first_moment.outgoing k None o) (sym (get-empty {X = OutChained} nat_cmp k)) tt
+    own OneReader = tt
     own InteriorTree = record { tree = law.0; full = law.1; few = of_new (λ b. length b.tables.deletions ≤ 16) (λ k. omega arith); waiting = λ e. refl }
 
     at : (p : Network) (tie : Tie) → Ties (here first_moment p) tie

@@ -1,5 +1,5 @@
 -- The prefixes of an UPDATE, one after the other.
-use Rattle.std.proofs.Common.{◌≡◌, ℕ, ◌+◌, ◌<◌, ◌≤◌, Bool, true, false, cond, List, [], ◌∷◌, ◌++◌, Option, Some, get_or, length, take, refl, sym, ap, subst, ◌∙◌, append_assoc}
+use Rattle.std.proofs.Common.{◌≡◌, ℕ, ◌+◌, ◌<◌, ◌≤◌, zero, suc, arith, Bool, true, false, cond, List, [], ◌∷◌, ◌++◌, Option, Some, get_or, length, take, refl, sym, ap, subst, ◌∙◌, append_assoc}
 use Rattle.std.proofs.lemmas.List.{append-nil, take_more}
 use Rattle.addr4.specs.Prefixes.{Network}
 use Rattle.bgp_attr.specs.declared.attrs.Attrs.{Attrs}
@@ -22,13 +22,22 @@ use Rattle.peer_side.specs.Peers.{Chains, chain_at, put_chain, filt_at}
 use Rattle.peer_side.specs.Steps.{FeedsInward}
 use Rattle.journal_text.specs.Texts.{entries_of}
 use Rattle.journal_text.specs.Walk.{Leads}
-use Rattle.router_core.specs.Bests.{resolved_at}
-use Rattle.router_core.specs.Moments.{Moment, with_chains, with_hops, router_links}
+use Rattle.std.specs.Option.{ForSome}
+use Rattle.link_change.specs.Changes.{IsSent}
+use Rattle.decision.specs.Branches.{best_rows}
+use Rattle.hop_side.specs.Resolvers.{PeerRows, res_at}
+use Rattle.peer_out.specs.Changes.{MayBeHeard}
+use Rattle.router_core.specs.Bests.{best_at, best_entries, resolved_at}
+use Rattle.router_core.specs.Printable.{IsHeard}
+use Rattle.router_core.proofs.HeardSteps.{heard_quiet, queue_views, falls_unheard}
+use Rattle.router_core.specs.Moments.{Moment, plain, with_chains, with_hops, with_exits, router_links}
+use Rattle.router_core.proofs.HeardRows.{fed_heard, weld_heard, put_heard}
+use Rattle.router_core.proofs.QueueLemmas.{reader_live, exits_fall}
 use Rattle.live_state.specs.Lives.{LiveState, Routes, with_routes, routes_after, live_fed}
 use Rattle.router_core.specs.Lives.{live_state}
-use Rattle.router_core.specs.Stands.{IsSilent, PeerStands, Stands, HopsCounted, SmallNumbers, open_session}
+use Rattle.router_core.specs.Stands.{IsSilent, PeerStands, Stands, HopsCounted, SmallNumbers, EachRow, open_session}
 use Rattle.router_core.specs.Turns.{FeedsAll, journal_lines}
-use Rattle.router_core.specs.Works.{Pushes, IsUpAt, Keeps, HaveFed, SettlesPeer}
+use Rattle.router_core.specs.Works.{Pushes, AreHeard, IsUpAt, Keeps, HaveFed, SettlesPeer}
 use Rattle.peer_side.proofs.WeldLemmas.{fallen_at, weld_after, weld_keeps, adds_both}
 use Rattle.router_core.proofs.HopLemmas.{falls_lead, hops_fall}
 use Rattle.live_state.proofs.AdmittedLemmas.{routes_twice}
@@ -44,25 +53,30 @@ abbrev live_by : Moment → (ℕ → Routes) → LiveState
 live_by m routes = record (live_state m) { routes = routes }
 
 -- a feed of a peer's chain, and what follows it, are one of the router
-fed_one : (k : ℕ) (p : Network) (row : Option Attrs) (sent : Option (Change Route)) (m : Moment) (fallen : Chains) (m' : Moment) (entries rest : List (Entry Value)) → Stands m → IsUpAt k m → FeedsInward k p row sent m.chains fallen entries
+fed_one : (k : ℕ) (p : Network) (row : Option Attrs) (sent : Option (Change Route)) (m : Moment) (fallen : Chains) (m' : Moment) (entries rest : List (Entry Value)) → Stands m → IsUpAt k m → ForSome row (MayBeHeard plain) → FeedsInward k p row sent m.chains fallen entries
     → SettlesPeer k sent (with_chains m fallen) m' rest → HaveFed k ((p, row) ∷ []) m m' (journal_lines (entries ++ rest))
-fed_one k p row sent m fallen m' entries rest stands up f w =
+fed_one k p row sent m fallen m' entries rest stands up heard f w =
     subst (λ (n : Moment). HaveFed k ((p, row) ∷ []) m n (journal_lines (entries ++ rest))) (sym w.after)
     (subst (λ (es : List (Entry Value)). HaveFed k ((p, row) ∷ []) m after (journal_lines (entries ++ es))) (sym w.lines) (record {
       feeds = (
         journal_lines said,
         [],
         after,
-        (sent, record { fallen = fallen; entries = entries; part = f; resolved = w.resolved; passed = w.passed; below = w.below; best = w.best; decided = w.decided; weld = w.weld; welds = w.welds; lines = refl; after = refl }),
+        (sent, record { fallen = fallen; entries = entries; part = f; resolved = w.resolved; passed = w.passed; below = w.below; best = w.best; decided = w.decided; weld = w.weld; welds = w.welds; queued = w.queued; lines = refl; after = refl }),
         (refl, refl),
         sym (append-nil (journal_lines said)),
       );
       keeps = record {
         leads = subst (λ (es : List (Entry Value)). Leads (router_links m) (entries_of (journal_lines (entries ++ (w.resolved ++ (es ++ w.weld))))) (router_links after)) (sym w.decided.lines)
-            (falls_lead m c.me fallen m'.chains m'.registry m'.hops p entries w.resolved w.weld w.decided.best (speaker_there m stands k c f.feeds.at) f.fall.leads goes.leads (w.decided.decides (resolved_at m.chains m.hops) p goes.comes) w.welds.step.leads quiet);
+            (falls_lead m c.me fallen m'.chains m'.registry m'.hops m'.exits p entries w.resolved w.weld w.decided.best (speaker_there m stands k c f.feeds.at) (reader_live m stands) f.fall.leads goes.leads decides w.welds.step.leads quiet w.queued);
         live = live_routed m m.declared k c c' m'.chains f.feeds.at put refl ∙ ap (λ (r : Routes). live_by m (with_routes (live_state m).routes k (live_after r p row))) (sym (routes_there m k c f.feeds.at));
-        stands = stands_with m k c c' m'.chains m'.registry m'.hops peer.0 stands f.feeds.at put w.welds.step.sound refl peer.1 here w.below.agreed.others.rows
-            (hops_fall m k fallen m'.chains m'.registry m'.hops stands w.below.agreed goes.counted quiet (resolver_there m stands k c f.feeds.at) (same_peers m k c c' m'.chains f.feeds.at put));
+        heard = subst (λ (es : List (Entry Value)). IsHeard m (journal_lines (entries ++ (w.resolved ++ (es ++ w.weld)))) after) (sym w.decided.lines)
+            (heard_quiet m after (journal_lines (entries ++ (w.resolved ++ (best_entries w.decided.best ++ w.weld)))) (falls_unheard _ _ _ _ _ _ entries w.resolved w.weld w.decided.best f.fall.leads goes.leads w.welds.step.leads) (queue_views w.decided.best m.exits m'.exits w.queued));
+        stands = stands_with m k c c' m'.chains m'.registry m'.hops m'.exits peer.0 stands f.feeds.at put w.welds.step.sound refl peer.1 here w.below.agreed.others.rows
+            (hops_fall m k fallen m'.chains m'.registry m'.hops stands w.below.agreed goes.counted quiet (resolver_there m stands k c f.feeds.at) (same_peers m k c c' m'.chains f.feeds.at put))
+            (exits_fall m m'.chains m'.hops m'.exits after w.decided.best p stands
+            (put_heard k c' m.chains m'.chains put (weld_heard (fed c p row) (fed_heard c p row heard (stands.own EachRow k c f.feeds.at))) (stands.own EachRow)) w.queued
+            (subst (λ (u : PeerRows). IsSent (best_at m.chains m.hops) (best_rows (res_at m'.hops u)) p w.decided.best) (sym quiet) decides) refl refl refl refl refl refl);
       };
     }))
   where
@@ -76,7 +90,7 @@ fed_one k p row sent m fallen m' entries rest stands up f w =
     said = entries ++ (w.resolved ++ (w.best ++ w.weld))
 
     after : Moment
-    after = with_hops (with_chains m m'.chains) m'.registry m'.hops
+    after = with_exits (with_hops (with_chains m m'.chains) m'.registry m'.hops) m'.exits
 
     put : m'.chains ≡ put_chain k (welded (fed f.feeds.chain p row)) m.chains
     put = weld_after k m.chains fallen m'.chains (fed f.feeds.chain p row) w.weld f.feeds.after w.welds.welds
@@ -87,6 +101,9 @@ fed_one k p row sent m fallen m' entries rest stands up f w =
     goes : GoesOn k p w.passed m.hops m'.hops w.resolved (filt_at m.chains) (filt_at fallen)
     goes = w.below.goes (filt_at m.chains) (filt_at fallen) p (stands.own HopsCounted) (record { here = f.changes.rows; others = f.changes.others })
 
+    decides : IsSent (best_at m.chains m.hops) (best_at fallen m'.hops) p w.decided.best
+    decides = w.decided.decides (resolved_at m.chains m.hops) p goes.comes
+
     peer : (q : DeclaredPeer) × (peer_at k m.declared.peers ≡ Some q) × PeerStands q f.feeds.chain
     peer = peer_of m stands k f.feeds.chain f.feeds.at
 
@@ -96,11 +113,11 @@ fed_one k p row sent m fallen m' entries rest stands up f w =
         let earlier = weld_keeps k m.chains fallen m'.chains (fed f.feeds.chain p row) w.weld f.feeds.after w.welds (open_session peer.0) (f.before (open_session peer.0) peer.2.earlier) in
         record { words = peer.2.words; earlier = earlier; silent = silent_up peer.0.up (welded (fed f.feeds.chain p row)) is_up }
 
-pub one_fed : (k : ℕ) (p : Network) (row : Option Attrs) (sent : Option (Change Route)) (m v : Moment) (fallen : Chains) (m' : Moment) (before j now : Journaled) → v ≡ m → Stands m → IsUpAt k m → Adds (FeedsInward k p row sent v.chains fallen) before j
+pub one_fed : (k : ℕ) (p : Network) (row : Option Attrs) (sent : Option (Change Route)) (m v : Moment) (fallen : Chains) (m' : Moment) (before j now : Journaled) → v ≡ m → Stands m → IsUpAt k m → ForSome row (MayBeHeard plain) → Adds (FeedsInward k p row sent v.chains fallen) before j
     → Adds (SettlesPeer k sent (with_chains v fallen) m') j now → Pushes (HaveFed k ((p, row) ∷ []) m m') before now
-one_fed k p row sent m v fallen m' before j now view stands up f w =
+one_fed k p row sent m v fallen m' before j now view stands up heard f w =
     subst (λ (n : Moment). Pushes (HaveFed k ((p, row) ∷ []) n m') before now) view
-    (journal_lines (f.0 ++ w.0), adds_both before j now f.0 w.0 f.1 w.1, fed_one k p row sent v fallen m' f.0 w.0 (subst Stands (sym view) stands) (subst (IsUpAt k) (sym view) up) f.2 w.2)
+    (journal_lines (f.0 ++ w.0), adds_both before j now f.0 w.0 f.1 w.1, fed_one k p row sent v fallen m' f.0 w.0 (subst Stands (sym view) stands) (subst (IsUpAt k) (sym view) up) heard f.2 w.2)
 
 -- the chain that was fed stands there
 pub fed_there : (k : ℕ) (p : Network) (row : Option Attrs) (sent : Option (Change Route)) (a fallen : Chains) (before j : Journaled) → Adds (FeedsInward k p row sent a fallen) before j → IsSome (chain_at k fallen)
@@ -142,7 +159,7 @@ module _ (k : ℕ) where
   fed_join xs ys m between m' a b f g = record {
     feeds = feeds_join xs ys m between m' a b f.feeds g.feeds;
     keeps = subst (λ (l : LiveState). Keeps l m m' (a ++ b)) (ap (λ (l : LiveState). live_fed l k ys) f.keeps.live ∙ live_join (live_state m) xs ys)
-        (keeps_join m between m' a b (live_fed (live_state m) k xs) (live_fed (live_state between) k ys) f.keeps g.keeps);
+        (keeps_join m between m' a b (live_fed (live_state m) k xs) (live_fed (live_state between) k ys) refl f.keeps g.keeps);
   }
 
   pub pushed_more : (xs : List (Network × Option Attrs)) (x : Network × Option Attrs) (m between m' : Moment) (before j now : Journaled) → Pushes (HaveFed k xs m between) before j
@@ -156,3 +173,9 @@ pub take_pair : (xs : List (Network × Option Attrs)) (i : ℕ) (x : Network × 
 take_pair xs i x row below is same =
     take_more xs i x below ∙ ap (λ (y : Network × Option Attrs). take i xs ++ y ∷ []) (sym is)
     ∙ ap (λ (r : Option Attrs). take i xs ++ (x.0, r) ∷ []) (sym same)
+
+-- and so is each of the prefixes
+pub heard_at : (xs : List (Network × Option Attrs)) (i : ℕ) (x : Network × Option Attrs) (row : Option Attrs) → i < length xs → x ≡ get_or xs i x → row ≡ x.1 → AreHeard xs → ForSome row (MayBeHeard plain)
+heard_at [] i x row below is same heard = absurd (omega (arith, below))
+heard_at (y ∷ xs) zero x row below is same heard = subst (λ (o : Option Attrs). ForSome o (MayBeHeard plain)) (sym (same ∙ ap (λ (z : Network × Option Attrs). z.1) is)) heard.0
+heard_at (y ∷ xs) (suc i) x row below is same heard = heard_at xs i x row (omega (arith, below)) is same heard.1

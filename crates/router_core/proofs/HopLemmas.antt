@@ -21,22 +21,28 @@ use Rattle.journal_text.specs.Walk.{Links, Leads}
 use Rattle.journal_text.proofs.JournalLemmas.{entries_of_entries, with_entries_none, with_entries_append}
 use Rattle.journal_text.proofs.WalkLemmas.{leads_append, leads_nowhere}
 use Rattle.link_region.specs.declared.regions.Region.{Region}
-use Rattle.link_region.specs.declared.regions.Region.TheVariants.{Inward, Resolved, Decided}
+use Rattle.link_region.specs.declared.regions.Region.TheVariants.{Inward, Resolved, Decided, External, Outward}
 use Rattle.link_region.specs.Regions.{Sides, joined, with_side, LeadsIn}
 use Rattle.hop_side.specs.Resolvers.{Resolvers, PeerRows, resolver_at, res_at, hop_links, is_res, beside, IsHops, AllAgree, AllCounted}
-use Rattle.hop_side.specs.Steps.{LeadsRes, KeepsAgreed, HasNoInterest, HaveSamePeers, TakesBelow, ReachesBelow}
+use Rattle.hop_side.specs.Steps.{ComesOn, LeadsRes, KeepsAgreed, HasNoInterest, HaveSamePeers, TakesBelow, ReachesBelow}
 use Rattle.hop_side.proofs.LawLemmas.{leads_anywhere}
 use Rattle.peer_side.specs.Peers.{Chains, chain_at, peer_links, filt_at}
-use Rattle.router_core.specs.Moments.{Moment, with_chains, with_hops, parts, router_links}
+use Rattle.exit_side.specs.Exits.{Exited}
+use Rattle.router_core.specs.Moments.{Moment, with_chains, with_hops, with_exits, parts, router_links}
 use Rattle.router_core.specs.Stands.{Stands, EachResolver, SameResolvers, AnswersAgree, HopsCounted, NoStrangers}
 use Rattle.peer_side.specs.Steps.{WeldsInward}
 use Rattle.router_core.specs.Turns.{ResolvesOn, journal_lines}
-use Rattle.router_core.specs.Works.{SettlesPeer}
-use Rattle.router_core.specs.Bests.{best_at, best_entries, best_links, resolved_at, DecidesOn}
+use Rattle.router_core.specs.Works.{Decides, SettlesPeer}
+use Rattle.router_core.specs.Bests.{best_at, best_entries, best_links, resolved_at, DecidesOn, Queues}
 use Rattle.router_core.proofs.BestLemmas.{best_leads, comes_none}
+use Rattle.router_core.proofs.QueueLemmas.{queue_external, queue_links}
 use Rattle.decision.specs.Branches.{best_rows}
 use Rattle.bgp_attr.specs.declared.speaker.Speaker.{Speaker}
 use Rattle.link_change.specs.Changes.{IsSent}
+
+-- the reader of the forwarding side, if there is one, is one of the queue's
+abbrev pub HasReader : Moment → Type 0
+HasReader m = (r : ℕ) → m.reader ≡ Some r → IsSome (tables.get m.exits.queue r)
 
 -- ---- the region of the links `res.K`
 pub res_leads : (old new : Links Value) (entries : List (Entry Value)) → LeadsRes old entries new → LeadsIn Resolved old entries new
@@ -51,22 +57,24 @@ res_leads old new entries leads sides is =
 abbrev gone_on : Moment → Resolvers → Sides
 gone_on m h = with_side (parts m) Resolved (hop_links h (filt_at m.chains))
 
-pub leads_resolved : (m : Moment) (me : Speaker) (r : Registry Interior) (h : Resolvers) (p : Network) (entries : List (Entry Value)) (best : Option (Change Route)) → m.declared.speaker ≡ Some me
-    → LeadsRes (hop_links m.hops (filt_at m.chains)) entries (hop_links h (filt_at m.chains)) → IsSent (best_at m.chains m.hops) (best_at m.chains h) p best
-    → Leads (router_links m) (entries_of (journal_lines (entries ++ best_entries best))) (router_links (with_hops m r h))
-leads_resolved m me r h p entries best since leads sent =
-    subst (λ (es : List (Entry Value)). Leads (router_links m) es (router_links (with_hops m r h))) (sym (entries_of_entries (entries ++ best_entries best)))
+pub leads_resolved : (m : Moment) (me : Speaker) (r : Registry Interior) (h : Resolvers) (e : Exited) (p : Network) (entries : List (Entry Value)) (best : Option (Change Route)) → m.declared.speaker ≡ Some me → HasReader m
+    → LeadsRes (hop_links m.hops (filt_at m.chains)) entries (hop_links h (filt_at m.chains)) → IsSent (best_at m.chains m.hops) (best_at m.chains h) p best → Queues best m.exits e
+    → Leads (router_links m) (entries_of (journal_lines (entries ++ best_entries best))) (router_links (with_exits (with_hops m r h) e))
+leads_resolved m me r h e p entries best since live leads sent queued =
+    subst (λ (es : List (Entry Value)). Leads (router_links m) es (router_links (with_exits (with_hops m r h) e))) (sym (entries_of_entries (entries ++ best_entries best)))
     (subst (λ (s : Sides). Leads (router_links m) (entries ++ best_entries best) (joined s)) set
     (leads_append (router_links m) (joined (gone_on m h)) (joined (with_side (gone_on m h) Decided (best_links m.declared.speaker (best_at m.chains h)))) entries (best_entries best)
     (res_leads (hop_links m.hops (filt_at m.chains)) (hop_links h (filt_at m.chains)) entries leads (parts m) refl)
     (best_leads m.declared.speaker me (best_at m.chains m.hops) (best_at m.chains h) p best since sent (gone_on m h) refl)))
   where
-    each : (s : Region) → with_side (gone_on m h) Decided (best_links m.declared.speaker (best_at m.chains h)) s ≡ parts (with_hops m r h) s
+    each : (s : Region) → with_side (gone_on m h) Decided (best_links m.declared.speaker (best_at m.chains h)) s ≡ parts (with_exits (with_hops m r h) e) s
     each Resolved = refl
     each Decided = refl
+    each External = sym (queue_external m.exits e best m.reader (best_at m.chains m.hops) (best_at m.chains h) p live queued sent)
+    each Outward = sym (queue_links m.exits e best (best_at m.chains m.hops) (best_at m.chains h) p queued sent)
     each other = refl
 
-    set : with_side (gone_on m h) Decided (best_links m.declared.speaker (best_at m.chains h)) ≡ parts (with_hops m r h)
+    set : with_side (gone_on m h) Decided (best_links m.declared.speaker (best_at m.chains h)) ≡ parts (with_exits (with_hops m r h) e)
     set i s = each s i
 
 -- entries behind others
@@ -88,12 +96,12 @@ chosen_side m fallen h = with_side (gone_side m fallen h) Decided (best_links m.
 abbrev welded_side : Moment → Chains → Resolvers → Chains → Sides
 welded_side m fallen h cs = with_side (chosen_side m fallen h) Inward (peer_links cs)
 
-pub falls_lead : (m : Moment) (me : Speaker) (fallen cs : Chains) (r : Registry Interior) (h : Resolvers) (p : Network) (entries resolved weld : List (Entry Value)) (best : Option (Change Route)) → m.declared.speaker ≡ Some me
+pub falls_lead : (m : Moment) (me : Speaker) (fallen cs : Chains) (r : Registry Interior) (h : Resolvers) (e : Exited) (p : Network) (entries resolved weld : List (Entry Value)) (best : Option (Change Route)) → m.declared.speaker ≡ Some me → HasReader m
     → LeadsIn Inward (peer_links m.chains) entries (peer_links fallen) → LeadsRes (hop_links m.hops (filt_at m.chains)) resolved (hop_links h (filt_at fallen)) → IsSent (best_at m.chains m.hops) (best_at fallen h) p best
-    → LeadsIn Inward (peer_links fallen) weld (peer_links cs) → filt_at cs ≡ filt_at fallen
-    → Leads (router_links m) (entries_of (journal_lines (entries ++ (resolved ++ (best_entries best ++ weld))))) (router_links (with_hops (with_chains m cs) r h))
-falls_lead m me fallen cs r h p entries resolved weld best since falls goes sent welds same =
-    subst (λ (es : List (Entry Value)). Leads (router_links m) es (router_links (with_hops (with_chains m cs) r h))) (sym (entries_of_entries (entries ++ (resolved ++ (best_entries best ++ weld)))))
+    → LeadsIn Inward (peer_links fallen) weld (peer_links cs) → filt_at cs ≡ filt_at fallen → Queues best m.exits e
+    → Leads (router_links m) (entries_of (journal_lines (entries ++ (resolved ++ (best_entries best ++ weld))))) (router_links (with_exits (with_hops (with_chains m cs) r h) e))
+falls_lead m me fallen cs r h e p entries resolved weld best since live falls goes sent welds same queued =
+    subst (λ (es : List (Entry Value)). Leads (router_links m) es (router_links (with_exits (with_hops (with_chains m cs) r h) e))) (sym (entries_of_entries (entries ++ (resolved ++ (best_entries best ++ weld)))))
     (subst (λ (s : Sides). Leads (router_links m) (entries ++ (resolved ++ (best_entries best ++ weld))) (joined s)) set
     (leads_append (router_links m) (joined (fallen_side m fallen)) (joined (welded_side m fallen h cs)) entries (resolved ++ (best_entries best ++ weld)) (falls (parts m) refl)
     (leads_append (joined (fallen_side m fallen)) (joined (gone_side m fallen h)) (joined (welded_side m fallen h cs)) resolved (best_entries best ++ weld)
@@ -101,13 +109,18 @@ falls_lead m me fallen cs r h p entries resolved weld best since falls goes sent
     (leads_append (joined (gone_side m fallen h)) (joined (chosen_side m fallen h)) (joined (welded_side m fallen h cs)) (best_entries best) weld
     (best_leads m.declared.speaker me (best_at m.chains m.hops) (best_at fallen h) p best since sent (gone_side m fallen h) refl) (welds (chosen_side m fallen h) refl)))))
   where
-    each : (s : Region) → welded_side m fallen h cs s ≡ parts (with_hops (with_chains m cs) r h) s
+    after : IsSent (best_at m.chains m.hops) (best_at cs h) p best
+    after = subst (λ (u : PeerRows). IsSent (best_at m.chains m.hops) (best_rows (res_at h u)) p best) (sym same) sent
+
+    each : (s : Region) → welded_side m fallen h cs s ≡ parts (with_exits (with_hops (with_chains m cs) r h) e) s
     each Inward = refl
     each Resolved = ap (hop_links h) (sym same)
     each Decided = ap (λ (u : PeerRows). best_links m.declared.speaker (best_rows (res_at h u))) (sym same)
+    each External = sym (queue_external m.exits e best m.reader (best_at m.chains m.hops) (best_at cs h) p live queued after)
+    each Outward = sym (queue_links m.exits e best (best_at m.chains m.hops) (best_at cs h) p queued after)
     each other = refl
 
-    set : welded_side m fallen h cs ≡ parts (with_hops (with_chains m cs) r h)
+    set : welded_side m fallen h cs ≡ parts (with_exits (with_hops (with_chains m cs) r h) e)
     set i s = each s i
 
 -- ---- what is claimed of the resolvers
@@ -218,10 +231,10 @@ resolved_in k sent change below m v r h before now view is adds = subst (λ (n :
     (subst (λ (s : Option (Change Route)). Adds (ResolvesOn k s below v.registry r v.hops h) before now) (sym is) (resolved_some k change below v.registry r v.hops h before now adds))
 
 -- what follows, and the weld behind it
-pub settled_peer : (k : ℕ) (sent passed : Option (Change Route)) (m m1 v : Moment) (cs : Chains) (before j l now : Journaled) → v ≡ m1 → Adds (ResolvesOn k sent passed m.registry m1.registry m.hops m1.hops) before j → m1 ≡ with_hops m m1.registry m1.hops
-    → Adds (DecidesOn k passed (resolved_at m1.chains m1.hops)) j l → Adds (WeldsInward k v.chains cs) l now → Adds (SettlesPeer k sent m (record v { chains = cs })) before now
-settled_peer k sent passed m m1 v cs before j l now view res after best welds =
-    subst (λ (n : Moment). Adds (SettlesPeer k sent m (record n { chains = cs })) before now) (sym view) (
+pub settled_peer : (k : ℕ) (sent passed : Option (Change Route)) (m m1 m2 v : Moment) (cs : Chains) (before j l now : Journaled) → v ≡ m2 → Adds (ResolvesOn k sent passed m.registry m1.registry m.hops m1.hops) before j → m1 ≡ with_hops m m1.registry m1.hops
+    → Adds (Decides k passed m1 m2) j l → Adds (WeldsInward k v.chains cs) l now → Adds (SettlesPeer k sent m (record v { chains = cs })) before now
+settled_peer k sent passed m m1 m2 v cs before j l now view res after best welds =
+    subst (λ (n : Moment). Adds (SettlesPeer k sent m (record n { chains = cs })) before now) (sym (view ∙ best.2.after)) (
       res.0 ++ (best.0 ++ w.0),
       w.1 ∙ ap (λ (x : Journaled). with_entries x w.0) (best.1 ∙ ap (λ (x : Journaled). with_entries x best.0) res.1) ∙ with_entries_append (with_entries before res.0) best.0 w.0 ∙ with_entries_append before res.0 (best.0 ++ w.0),
       record {
@@ -229,16 +242,20 @@ settled_peer k sent passed m m1 v cs before j l now view res after best welds =
         passed = passed;
         below = res.2;
         best = best.0;
-        decided = subst (λ (a : Chains). DecidesOn k passed (resolved_at a m1.hops) best.0) same best.2;
+        decided = record { best = best.2.decided.best; lines = best.2.decided.lines; decides = subst (λ (a : Chains). LeadsBy a) same best.2.decided.decides };
         weld = w.0;
-        welds = subst (λ (a : Chains). WeldsInward k a cs w.0) same w.2;
+        welds = w.2;
+        queued = subst (λ (e : Exited). Queues best.2.decided.best e m2.exits) (ap (λ (x : Moment). x.exits) after) best.2.queued;
         lines = refl;
-        after = ap (λ (x : Moment). record x { chains = cs }) after;
+        after = ap (λ (x : Moment). record x { chains = cs; exits = m2.exits }) after;
       },
     )
   where
     same : m1.chains ≡ m.chains
     same = ap (λ (x : Moment). x.chains) after
 
-    w : Adds (WeldsInward k m1.chains cs) l now
-    w = subst (λ (n : Moment). Adds (WeldsInward k n.chains cs) l now) view welds
+    LeadsBy : Chains → Type 0
+    LeadsBy a = (was : PeerRows) (p : Network) → ComesOn k p passed was (resolved_at a m1.hops) → IsSent (best_rows was) (best_rows (resolved_at a m1.hops)) p best.2.decided.best
+
+    w : Adds (WeldsInward k m.chains cs) l now
+    w = subst (λ (a : Chains). Adds (WeldsInward k a cs) l now) (ap (λ (x : Moment). x.chains) view ∙ ap (λ (x : Moment). x.chains) best.2.after ∙ same) welds

@@ -20,17 +20,26 @@ use Rattle.hop_side.specs.Resolvers.{Resolvers, resolver_at, busy_by, has_hop_wo
 use Rattle.hop_side.specs.Steps.{GoesOn, TurnsBelow, ComesBelow}
 use Rattle.peer_side.specs.Peers.{chain_at, filt_by, filt_at}
 use Rattle.router_core.specs.declared.router.Done.TheVariants.{Nothing, Taken}
-use Rattle.router_core.specs.declared.router.Phase.{Phase}
 use Rattle.router_core.specs.declared.router.Phase.TheVariants as phases
 use Rattle.journal_text.specs.Texts.{entries_of}
 use Rattle.journal_text.specs.Walk.{Leads}
 use Rattle.peer_side.proofs.WeldLemmas.{adds_both}
-use Rattle.router_core.specs.Bests.{resolved_at, DecidesOn}
-use Rattle.router_core.specs.Moments.{Moment, with_hops, router_links}
-use Rattle.router_core.specs.Phases.{Frame, beyond_by, beyonds, counts, rise, risen, Spends}
-use Rattle.router_core.specs.Stands.{Stands, Claim, Claims, EachResolver, SameResolvers, AnswersAgree, HopsCounted, NoStrangers, SmallNumbers, Tie, Ties, Registered, here}
+use Rattle.link_change.specs.Changes.{IsSent}
+use Rattle.decision.specs.Branches.{best_rows}
+use Rattle.exit_side.specs.Exits.{Exited, IsExits}
+use Rattle.hop_side.specs.Steps.{ComesOn}
+use Rattle.hop_side.specs.Resolvers.{PeerRows, left_in}
+use Rattle.router_core.specs.Bests.{best_at, best_entries, resolved_at, DecidesOn, Queues}
+use Rattle.router_core.specs.Printable.{IsHeard}
+use Rattle.router_core.proofs.HeardSteps.{heard_quiet, queue_views, hops_unheard}
+use Rattle.router_core.specs.Moments.{Moment, with_hops, with_exits, router_links}
+use Rattle.router_core.specs.Phases.{beyond_by, beyonds}
+use Rattle.router_core.proofs.BestLemmas.{best_of_none}
+use Rattle.router_core.proofs.QueueLemmas.{ExitsStand, reader_live, exits_fall}
+use Rattle.router_core.proofs.SpendLemmas.{Spent, hop_spends}
+use Rattle.router_core.specs.Stands.{Stands, Claim, Claims, EachResolver, SameResolvers, AnswersAgree, HopsCounted, NoStrangers, SmallNumbers, EachRow, EachExit, QueueLeads, ExitsRead, PlainExits, OneSender, SameSessions, OneReader, Tie, Ties, Registered, here}
 use Rattle.router_core.specs.Turns.{journal_lines, sent_of}
-use Rattle.router_core.specs.Works.{IsUnit, Comes}
+use Rattle.router_core.specs.Works.{IsUnit, Comes, Decides}
 use Rattle.router_core.proofs.HopLemmas.{HopsStand, hops_fall, leads_resolved}
 use Rattle.router_core.proofs.StandLemmas.{resolver_there, speaker_there}
 
@@ -41,52 +50,75 @@ hops_sound m v view stands = subst (λ (n : Moment). IsHops n.hops) (sym view) (
 pub hops_agree : (m v : Moment) → v ≡ m → Stands m → AllAgree v.hops v.registry
 hops_agree m v view stands = subst (λ (n : Moment). AllAgree n.hops n.registry) (sym view) (stands.own AnswersAgree)
 
+pub exits_sound : (m v : Moment) → v ≡ m → Stands m → IsExits v.exits
+exits_sound m v view stands = subst (λ (n : Moment). IsExits n.exits) (sym view) (stands.own EachExit)
+
 -- what stands then
-stands_resolved : (m : Moment) (r : Registry Interior) (h : Resolvers) → Stands m → r.rows ≡ m.registry.rows → HopsStand m.chains r h → Stands (with_hops m r h)
-stands_resolved m r h stands rows hops = record { own = own; at = at }
+stands_resolved : (m : Moment) (r : Registry Interior) (h : Resolvers) (e : Exited) → Stands m → r.rows ≡ m.registry.rows → HopsStand m.chains r h → ExitsStand (with_exits (with_hops m r h) e) → Stands (with_exits (with_hops m r h) e)
+stands_resolved m r h e stands rows hops exits = record { own = own; at = at }
   where
-    own : (claim : Claim) → Claims (with_hops m r h) claim
+    own : (claim : Claim) → Claims (with_exits (with_hops m r h) e) claim
     own EachResolver = hops.sound
     own SameResolvers = hops.same
     own AnswersAgree = hops.agree
     own HopsCounted = hops.counted
     own NoStrangers = hops.strangers
+    own EachRow = exits.rows
+    own EachExit = exits.each
+    own QueueLeads = exits.all
+    own ExitsRead = exits.read
+    own PlainExits = exits.plain
+    own OneSender = exits.sender
+    own SameSessions = exits.sessions
+    own OneReader = exits.one
     own other = stands.own other
 
-    at : (p : Network) (tie : Tie) → Ties (here (with_hops m r h) p) tie
+    at : (p : Network) (tie : Tie) → Ties (here (with_exits (with_hops m r h) e) p) tie
     at p Registered = ap (λ t. tables.get t p) rows ∙ stands.at p Registered
 
--- what it spends
-hop_spends : (f : Frame) (m : Moment) (r : Registry Interior) (h : Resolvers) → counts (with_hops m r h) phases.Nh + 1 ≤ counts m phases.Nh → Spends f phases.Nh 1 (counts m) (counts (with_hops m r h))
-hop_spends f m r h fewer = record { falls = fewer; rises = rises }
-  where
-    rises : (e : Phase) → counts (with_hops m r h) e ≤ risen (rise f phases.Nh e) 1 (counts m e)
-    rises phases.Rdel = omega arith
-    rises phases.Del = omega arith
-    rises phases.Fin = omega arith
-    rises phases.Nh = omega (arith, fewer)
-
-hop_done : (k : ℕ) (sent : Option (Change Route)) (m : Moment) (c : Chained) (r : Registry Interior) (h : Resolvers) (entries best : List (Entry Value)) → Stands m → chain_at k m.chains ≡ Some c
-    → TurnsBelow k (filt_candidates c) (filt_rows c) sent m.registry r m.hops h entries → DecidesOn k sent (resolved_at m.chains h) best → IsUnit (Nh k) m (with_hops m r h) (journal_lines (entries ++ best))
-hop_done k sent m c r h entries best stands at t d = record {
-  turn = record { chain = c; at = at; sent = sent; entries = entries; turn = t; best = best; decided = d; lines = refl; after = refl };
-  work = record {
-    keeps = record {
-      leads = subst (λ (es : List (Entry Value)). Leads (router_links m) (entries_of (journal_lines (entries ++ es))) (router_links (with_hops m r h))) (sym d.lines)
-          (leads_resolved m c.me r h goes.0 entries d.best (speaker_there m stands k c at) goes.1.leads (d.decides (resolved_at m.chains m.hops) goes.0 goes.1.comes));
-      live = refl;
-      stands = stands_resolved m r h stands t.agreed.others.rows (hops_fall m k m.chains m.chains r h stands t.agreed goes.1.counted refl (resolver_there m stands k c at) (λ j. refl));
-    };
-    spends = λ f within. hop_spends f m r h fewer;
-    within = omega arith;
-  };
-}
+hop_done : (k : ℕ) (sent : Option (Change Route)) (m m1 m' : Moment) (c : Chained) (r : Registry Interior) (h : Resolvers) (entries best : List (Entry Value)) → Stands m → chain_at k m.chains ≡ Some c
+    → TurnsBelow k (filt_candidates c) (filt_rows c) sent m.registry r m.hops h entries → m1 ≡ with_hops m r h → Decides k sent m1 m' best → IsUnit (Nh k) m m' (journal_lines (entries ++ best))
+hop_done k sent m m1 m' c r h entries best stands at t between d =
+    subst (λ (n : Moment). IsUnit (Nh k) m n (journal_lines (entries ++ best))) (sym (d.after ∙ ap (λ (x : Moment). with_exits x m'.exits) between)) (record {
+      turn = record { chain = c; at = at; sent = sent; entries = entries; turn = t; best = best; decided = decided; queued = queued; lines = refl; after = refl };
+      work = record {
+        keeps = record {
+          leads = subst (λ (es : List (Entry Value)). Leads (router_links m) (entries_of (journal_lines (entries ++ es))) (router_links (with_exits (with_hops m r h) m'.exits))) (sym d.decided.lines)
+              (leads_resolved m c.me r h m'.exits goes.0 entries d.decided.best (speaker_there m stands k c at) (reader_live m stands) goes.1.leads chosen queued);
+          live = refl;
+          heard = subst (λ (es : List (Entry Value)). IsHeard m (journal_lines (entries ++ es)) (with_exits (with_hops m r h) m'.exits)) (sym d.decided.lines)
+              (heard_quiet m (with_exits (with_hops m r h) m'.exits) (journal_lines (entries ++ best_entries d.decided.best)) (hops_unheard _ _ entries d.decided.best goes.1.leads) (queue_views d.decided.best m.exits m'.exits queued));
+          stands = stands_resolved m r h m'.exits stands t.agreed.others.rows (hops_fall m k m.chains m.chains r h stands t.agreed goes.1.counted refl (resolver_there m stands k c at) (λ j. refl))
+              (exits_fall m m.chains h m'.exits (with_exits (with_hops m r h) m'.exits) d.decided.best goes.0 stands (stands.own EachRow) queued chosen refl refl refl refl refl refl);
+        };
+        falls = spent.0;
+        left = spent.1;
+        earlier = spent.2;
+      };
+    })
   where
     goes : (p : Network) × GoesOn k p sent m.hops h entries (filt_at m.chains) (filt_at m.chains)
     goes = t.goes (filt_at m.chains) (ap filt_by at) (stands.own HopsCounted)
 
-    fewer : counts (with_hops m r h) phases.Nh + 1 ≤ counts m phases.Nh
+    decided : DecidesOn k sent (resolved_at m.chains h) best
+    decided = record {
+      best = d.decided.best;
+      lines = d.decided.lines;
+      decides = subst (λ (n : Moment). (was : PeerRows) (p : Network) → ComesOn k p sent was (resolved_at n.chains n.hops) → IsSent (best_rows was) (best_rows (resolved_at n.chains n.hops)) p d.decided.best) between d.decided.decides;
+    }
+
+    queued : Queues d.decided.best m.exits m'.exits
+    queued = subst (λ (n : Moment). Queues d.decided.best n.exits m'.exits) between d.queued
+
+    chosen : IsSent (best_at m.chains m.hops) (best_at m.chains h) goes.0 d.decided.best
+    chosen = decided.decides (resolved_at m.chains m.hops) goes.0 goes.1.comes
+
+    fewer : left_in (beyonds m.chains) h + 1 ≤ left_in (beyonds m.chains) m.hops
     fewer = t.fewer (beyonds m.chains) (subst (λ (o : Option Chained). CountsBeyond (filt_candidates c) (beyond_by o)) (sym at) (candidates_are_counted c).0)
+
+    spent : Spent phases.Nh m (with_exits (with_hops m r h) m'.exits)
+    spent = hop_spends m k (filt_candidates c) (filt_rows c) r h m'.exits t.turn.resolver t.turn.taken sent d.decided.best t.turn.at t.turn.turned t.turn.after
+        (λ none. best_of_none k sent (resolved_at m.chains h) best decided none) queued fewer
 
 -- by what it came to
 hop_adds : (k : ℕ) (m : Moment) (c : Chained) (r : Registry Interior) (h : Resolvers) (before j : Journaled) (turn : Turn Route) → (turn ≡ turns.Nothing → ⊥) → ComesBelow k (filt_candidates c) (filt_rows c) m.registry r m.hops h before j turn
@@ -95,13 +127,13 @@ hop_adds k m c r h before j turns.Nothing some t = absurd (some refl)
 hop_adds k m c r h before j turns.Quiet some t = t
 hop_adds k m c r h before j (turns.Sent change) some t = t
 
-pub hop_took : (k : ℕ) (m v : Moment) (c : Chained) (r : Registry Interior) (h : Resolvers) (before j l now : Journaled) (turn : Turn Route) (sent : Option (Change Route)) → (turn ≡ turns.Nothing → ⊥) → v ≡ m → Stands m → Some c ≡ chain_at k v.chains
-    → ComesBelow k (filt_candidates c) (filt_rows c) v.registry r v.hops h before j turn → sent ≡ sent_of turn → Adds (DecidesOn k sent (resolved_at v.chains h)) j l → now ≡ flushed l → Comes (Nh k) m (with_hops v r h) before now Taken
-hop_took k m v c r h before j l now turn sent some view stands at comes same best is =
+pub hop_took : (k : ℕ) (m v m1 m' : Moment) (c : Chained) (r : Registry Interior) (h : Resolvers) (before j l now : Journaled) (turn : Turn Route) (sent : Option (Change Route)) → (turn ≡ turns.Nothing → ⊥) → v ≡ m → Stands m → Some c ≡ chain_at k v.chains
+    → ComesBelow k (filt_candidates c) (filt_rows c) v.registry r v.hops h before j turn → sent ≡ sent_of turn → m1 ≡ with_hops v r h → Adds (Decides k sent m1 m') j l → now ≡ flushed l → Comes (Nh k) m m' before now Taken
+hop_took k m v m1 m' c r h before j l now turn sent some view stands at comes same between best is =
     let t = hop_adds k v c r h before j turn some comes in
-    let d = subst (λ (s : Option (Change Route)). Adds (DecidesOn k s (resolved_at v.chains h)) j l) same best in
-    subst (λ (n : Moment). Comes (Nh k) n (with_hops v r h) before now Taken) view
-    (journal_lines (t.0 ++ d.0), is ∙ ap flushed (adds_both before j l t.0 d.0 t.1 d.1), hop_done k (sent_of turn) v c r h t.0 d.0 (subst Stands (sym view) stands) (sym at) t.2 d.2)
+    let d = subst (λ (s : Option (Change Route)). Adds (Decides k s m1 m') j l) same best in
+    subst (λ (n : Moment). Comes (Nh k) n m' before now Taken) view
+    (journal_lines (t.0 ++ d.0), is ∙ ap flushed (adds_both before j l t.0 d.0 t.1 d.1), hop_done k (sent_of turn) v m1 m' c r h t.0 d.0 (subst Stands (sym view) stands) (sym at) t.2 between d.2)
 
 -- a peer that takes one has a number up to 64
 pub hop_small : (k : ℕ) (m v : Moment) (c : Chained) → v ≡ m → Stands m → Some c ≡ chain_at k v.chains → k ≤ 64

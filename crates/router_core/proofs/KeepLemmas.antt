@@ -18,6 +18,7 @@ use Rattle.router_core.specs.Printable.{ArePrinted}
 use Rattle.journal_laws.proofs.ShownRows.{flushed_join, flushed_none}
 use Rattle.router_core.specs.Blocks.{IsBlock, Acts}
 use Rattle.router_core.specs.Works.{Pushes, Keeps, HasStepped}
+use Rattle.router_core.proofs.HeardSteps.{AreQuiet, heard_quiet, heard_join}
 
 -- what is said first, and then
 module _ (P Q R : List Line → Type 0) (both : (xs ys : List Line) → P xs → Q ys → R (xs ++ ys)) where
@@ -44,32 +45,34 @@ gives_so P Q to a b p = (p.0, p.1, to p.0 p.2)
 
 -- ---- what is kept
 -- lines without entries
-pub keeps_said : (m : Moment) (said : List Line) → Stands m → entries_of said ≡ [] → Keeps (live_state m) m m said
-keeps_said m said stands none = record {
-  leads = subst (λ (es : List (Entry Value)). Leads (router_links m) es (router_links m)) (sym none) (leads_nowhere (router_links m) (router_links m) refl);
+pub keeps_said : (m : Moment) (said : List Line) → Stands m → AreQuiet said → Keeps (live_state m) m m said
+keeps_said m said stands quiet = record {
+  leads = subst (λ (es : List (Entry Value)). Leads (router_links m) es (router_links m)) (sym quiet.0) (leads_nowhere (router_links m) (router_links m) refl);
   live = refl;
   stands = stands;
+  heard = heard_quiet m m said quiet.1 refl;
 }
 
 pub keeps_none : (m : Moment) → Stands m → Keeps (live_state m) m m []
-keeps_none m stands = keeps_said m [] stands refl
+keeps_none m stands = keeps_said m [] stands (refl, tt)
 
 module _ (a b c : Moment) (xs ys : List Line) where
-  pub keeps_join : (l l' : LiveState) → Keeps l a b xs → Keeps l' b c ys → Keeps l' a c (xs ++ ys)
-  keeps_join l l' p q = record {
+  pub keeps_join : (l l' : LiveState) → l.declared ≡ a.declared → Keeps l a b xs → Keeps l' b c ys → Keeps l' a c (xs ++ ys)
+  keeps_join l l' same p q = record {
     leads = subst (λ (es : List (Entry Value)). Leads (router_links a) es (router_links c)) (sym (entries_of_append xs ys))
         (leads_append (router_links a) (router_links b) (router_links c) (entries_of xs) (entries_of ys) p.leads q.leads);
     live = q.live;
     stands = q.stands;
+    heard = heard_join a b c xs ys (ap (λ (x : LiveState). x.declared) p.live ∙ same) p.heard q.heard;
   }
 
   -- work behind it
-  pub keeps_on : (l : LiveState) → Keeps l a b xs → Keeps (live_state b) b c ys → Keeps l a c (xs ++ ys)
-  keeps_on l p q = subst (λ (x : LiveState). Keeps x a c (xs ++ ys)) p.live (keeps_join l (live_state b) p q)
+  pub keeps_on : (l : LiveState) → l.declared ≡ a.declared → Keeps l a b xs → Keeps (live_state b) b c ys → Keeps l a c (xs ++ ys)
+  keeps_on l same p q = subst (λ (x : LiveState). Keeps x a c (xs ++ ys)) p.live (keeps_join l (live_state b) same p q)
 
   -- a change behind work
   pub keeps_then : (f : LiveState → LiveState) → Keeps (live_state a) a b xs → Keeps (f (live_state b)) b c ys → Keeps (f (live_state a)) a c (xs ++ ys)
-  keeps_then f p q = subst (λ (x : LiveState). Keeps (f x) a c (xs ++ ys)) p.live (keeps_join (live_state a) (f (live_state b)) p q)
+  keeps_then f p q = subst (λ (x : LiveState). Keeps (f x) a c (xs ++ ys)) p.live (keeps_join (live_state a) (f (live_state b)) refl p q)
 
 -- ---- events
 pub acts_of : (m m' : Moment) (event : Event) (turns : ℕ) (said : List Line) → HasStepped m event turns m' said → ArePrinted m.declared said → KeepsPeers m.declared m'.declared → Acts m event turns m' said
@@ -80,12 +83,13 @@ acts_of m m' event turns said h printed peers = record {
   stands = h.keeps.stands;
   printed = printed;
   peers = peers;
+  heard = h.keeps.heard;
 }
 
 -- an event that leaves the router as it is
-pub steps_said : (m : Moment) (event : Event) (turns : ℕ) (said : List Line) → Stands m → IsBlock m event said turns m → LiveAfter (live_state m) event (live_state m) → entries_of said ≡ [] → HasStepped m event turns m said
+pub steps_said : (m : Moment) (event : Event) (turns : ℕ) (said : List Line) → Stands m → IsBlock m event said turns m → LiveAfter (live_state m) event (live_state m) → AreQuiet said → HasStepped m event turns m said
 steps_said m event turns said stands block after none = record { block = block; live = live_state m; after = after; keeps = keeps_said m said stands none }
 
-pub steps_pushed : (m : Moment) (event : Event) (said : List Line) (before j now : Journaled) → Stands m → IsBlock m event said 0 m → LiveAfter (live_state m) event (live_state m) → entries_of said ≡ [] → j ≡ with_lines before said → now ≡ flushed j
+pub steps_pushed : (m : Moment) (event : Event) (said : List Line) (before j now : Journaled) → Stands m → IsBlock m event said 0 m → LiveAfter (live_state m) event (live_state m) → AreQuiet said → j ≡ with_lines before said → now ≡ flushed j
     → Gives (HasStepped m event 0 m) before now
 steps_pushed m event said before j now stands block after none pushed is = (said, is ∙ ap flushed pushed, steps_said m event 0 said stands block after none)

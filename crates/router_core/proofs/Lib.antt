@@ -7,7 +7,14 @@ pub mod StandLemmas
 pub mod ScratchLemmas
 pub mod PeerTurns
 pub mod KeepLemmas
-pub mod PhaseLemmas
+pub mod HeardRows
+pub mod QueueLemmas
+pub mod HeardSteps
+pub mod ReadingLemmas
+pub mod SpendLemmas
+pub mod ExitTurns
+pub mod SessionLemmas
+pub mod TurnWalks
 pub mod CountLemmas
 pub mod NextLemmas
 pub mod RunLemmas

@@ -1,5 +1,5 @@
 -- The next task of a phase.
-use Rattle.std.proofs.Common.{◌≡◌, ℕ, Bool, true, false, cond, List, [], ◌∷◌, ◌++◌, map, Option, Some, None, is_some, refl, sym, ap, subst, ◌∙◌}
+use Rattle.std.proofs.Common.{◌≡◌, ℕ, Bool, true, false, length, cond, List, [], ◌∷◌, ◌++◌, map, Option, Some, None, is_some, refl, sym, ap, subst, ◌∙◌}
 use Rattle.std.specs.Prelude.{IfNone, option_map}
 use Rattle.hop_side.specs.Resolvers.{Beyonds, has_hop_work, left_in}
 use Rattle.std.specs.List.{AllByRecursion, find}
@@ -23,10 +23,15 @@ use Rattle.rib_tree.specs.BranchSteps.{branch_tasks}
 use Rattle.rib_tree.specs.Trees.{Treed, branch_of, tree_tasks}
 use Rattle.rib_tree.proofs.RestLemmas.{all_tree}
 use Rattle.router_core.specs.declared.router.Phase.{Phase}
-use Rattle.router_core.specs.declared.router.Phase.TheVariants.{Rdel, Del, Fin, Nh}
+use Rattle.router_core.specs.declared.router.Phase.TheVariants.{Rdel, Del, Fin, Nh, ReadRib, Out}
 use Rattle.router_core.specs.Moments.{Moment}
 use Rattle.router_core.specs.Stands.{Stands, InteriorTree}
-use Rattle.router_core.specs.Phases.{beyonds, counts}
+use Rattle.addr4.specs.Prefixes.{Network}
+use Rattle.bgp_attr.specs.declared.route.Route.{Route}
+use Rattle.link_change.specs.declared.change.Change.{Change}
+use Rattle.out_chain.specs.Chains.{is_unread}
+use Rattle.exit_side.specs.Exits.{has_exit_work, left_in as exits_left_in}
+use Rattle.router_core.specs.Phases.{beyonds, best_beyond, unread_if, counts}
 use Rattle.router_core.proofs.CountLemmas.{over_none}
 use Rattle.router_core.specs.Turns.{phase_of, phase_tasks, next_task, has_work}
 
@@ -37,6 +42,9 @@ all_of_phase Del m = all_flat (λ t. phase_of t ≡ Del) chain_tasks (tables.val
     (λ c. all_made (λ t. phase_of t ≡ Del) (λ (d : Lost Attrs). tasks.Del c.incoming.number d.number) c.incoming.tables.deletions (all_any _ (λ d. refl) c.incoming.tables.deletions)) (tables.values m.chains))
 all_of_phase Fin m = all_made (λ t. phase_of t ≡ Fin) (λ (c : Chained). tasks.Fin c.incoming.number) (tables.values m.chains) (all_any _ (λ c. refl) (tables.values m.chains))
 all_of_phase Nh m = all_made (λ t. phase_of t ≡ Nh) (λ (k : ℕ). tasks.Nh k) (tables.keys m.hops) (all_any _ (λ k. refl) (tables.keys m.hops))
+
+all_of_phase ReadRib m = (refl, tt)
+all_of_phase Out m = all_made (λ t. phase_of t ≡ Out) (λ (k : ℕ). tasks.Out k) (tables.keys m.exits.chains) (all_any _ (λ k. refl) (tables.keys m.exits.chains))
 
 -- ---- the first that has work
 at_work : (m : Moment) (P : Task → Type 0) (ts : List Task) (task : Task) → AllByRecursion P ts → find (λ t. has_work t m) ts ≡ Some task → (has_work task m ≡ true) × P task
@@ -54,15 +62,22 @@ found_same f g [] all = refl
 found_same f g (t ∷ ts) all = ap (λ (b : Bool). cond b (Some t) (find f ts)) all.0 ∙ ap (λ (o : Option Task). cond (g t) (Some t) o) (found_same f g ts all.1)
 
 -- a task of a phase of the peers
-of_peers : (m : Moment) (t : Task) (r : Phase) → (r ≡ Rdel → ⊥) → (r ≡ Nh → ⊥) → phase_of t ≡ r → has_peer_work m.chains t ≡ has_work t m
-of_peers m (tasks.Del k s) r other hops is = refl
-of_peers m (tasks.Fin k) r other hops is = refl
-of_peers m (tasks.Nh k) r other hops is = absurd (hops (sym is))
-of_peers m (tasks.Rdel proto n) r other hops is = absurd (other (sym is))
+abbrev pub IsOfPeers : Phase → Type 0
+IsOfPeers Del = Unit {0}
+IsOfPeers Fin = Unit {0}
+IsOfPeers other = ⊥
 
-pub next_of_peers : (s r : Phase) (m v : Moment) (first : Option Task) → (s ≡ Rdel → ⊥) → (s ≡ Nh → ⊥) → r ≡ s → v ≡ m → first ≡ find (has_peer_work v.chains) (phase_tasks s v) → first ≡ next_task r m
-next_of_peers s r m v first other hops is view found =
-    found ∙ found_same (has_peer_work v.chains) (λ t. has_work t v) (phase_tasks s v) (all_so (λ t. phase_of t ≡ s) (λ t. has_peer_work v.chains t ≡ has_work t v) (λ t of. of_peers v t s other hops of) (phase_tasks s v) (all_of_phase s v))
+of_peers : (m : Moment) (t : Task) (r : Phase) → IsOfPeers r → phase_of t ≡ r → has_peer_work m.chains t ≡ has_work t m
+of_peers m (tasks.Del k s) r of is = refl
+of_peers m (tasks.Fin k) r of is = refl
+of_peers m (tasks.Nh k) r of is = absurd (subst IsOfPeers (sym is) of)
+of_peers m tasks.ReadRib r of is = absurd (subst IsOfPeers (sym is) of)
+of_peers m (tasks.Out k) r of is = absurd (subst IsOfPeers (sym is) of)
+of_peers m (tasks.Rdel proto n) r of is = absurd (subst IsOfPeers (sym is) of)
+
+pub next_of_peers : (s r : Phase) (m v : Moment) (first : Option Task) → IsOfPeers s → r ≡ s → v ≡ m → first ≡ find (has_peer_work v.chains) (phase_tasks s v) → first ≡ next_task r m
+next_of_peers s r m v first peers is view found =
+    found ∙ found_same (has_peer_work v.chains) (λ t. has_work t v) (phase_tasks s v) (all_so (λ t. phase_of t ≡ s) (λ t. has_peer_work v.chains t ≡ has_work t v) (λ t of. of_peers v t s peers of) (phase_tasks s v) (all_of_phase s v))
     ∙ ap (next_task s) view ∙ ap (λ (e : Phase). next_task e m) (sym is)
 
 -- ---- the next hops
@@ -82,6 +97,34 @@ pub none_of_hops : (r : Phase) (m v : Moment) (first : Option ℕ) (task : Optio
 none_of_hops r m v None task is view none made =
     subst (λ (o : Option Task). IfNone o (counts m r ≡ 0)) (sym made) (ap (counts m) is ∙ ap (λ (n : Moment). counts n Nh) (sym view) ∙ none (beyonds v.chains))
 none_of_hops r m v (Some k) task is view none made = subst (λ (o : Option Task). IfNone o (counts m r ≡ 0)) (sym made) tt
+
+-- ---- what reads `best`
+found_exit : (f : ℕ → Bool) (g : Task → Bool) (ks : List ℕ) → ((k : ℕ) → g (tasks.Out k) ≡ f k) → option_map (λ k. tasks.Out k) (find f ks) ≡ find g (map (λ k. tasks.Out k) ks)
+found_exit f g [] same = refl
+found_exit f g (k ∷ ks) same = by_test (f k) (found_exit f g ks same) ∙ ap (λ (b : Bool). cond b (Some (tasks.Out k)) (find g (map (λ n. tasks.Out n) ks))) (sym (same k))
+  where
+    by_test : (b : Bool) → option_map (λ n. tasks.Out n) (find f ks) ≡ find g (map (λ n. tasks.Out n) ks) → option_map (λ n. tasks.Out n) (cond b (Some k) (find f ks)) ≡ cond b (Some (tasks.Out k)) (find g (map (λ n. tasks.Out n) ks))
+    by_test true rest = refl
+    by_test false rest = rest
+
+pub next_of_exits : (r : Phase) (m v : Moment) (first : Option ℕ) (task : Option Task) → r ≡ Out → v ≡ m → first ≡ find (has_exit_work v.exits) (tables.keys v.exits.chains) → task ≡ option_map (λ k. tasks.Out k) first → task ≡ next_task r m
+next_of_exits r m v first task is view found made =
+    made ∙ ap (option_map (λ k. tasks.Out k)) found ∙ found_exit (has_exit_work v.exits) (λ t. has_work t v) (tables.keys v.exits.chains) (λ k. refl) ∙ ap (next_task Out) view ∙ ap (λ (e : Phase). next_task e m) (sym is)
+
+pub none_of_exits : (r : Phase) (m v : Moment) (first : Option ℕ) (task : Option Task) → r ≡ Out → v ≡ m → IfNone first ((beyond : Option Network → ℕ) → exits_left_in beyond v.exits ≡ 0) → task ≡ option_map (λ k. tasks.Out k) first → IfNone task (counts m r ≡ 0)
+none_of_exits r m v None task is view none made =
+    subst (λ (o : Option Task). IfNone o (counts m r ≡ 0)) (sym made) (ap (counts m) is ∙ ap (λ (n : Moment). counts n Out) (sym view) ∙ none (best_beyond v.chains))
+none_of_exits r m v (Some k) task is view none made = subst (λ (o : Option Task). IfNone o (counts m r ≡ 0)) (sym made) tt
+
+pub next_of_reader : (r : Phase) (m : Moment) (task : Option Task) → r ≡ ReadRib → task ≡ next_task ReadRib m → task ≡ next_task r m
+next_of_reader r m task is next = next ∙ ap (λ (e : Phase). next_task e m) (sym is)
+
+pub none_of_reader : (r : Phase) (m : Moment) (task : Option Task) → r ≡ ReadRib → task ≡ next_task ReadRib m → IfNone task (counts m r ≡ 0)
+none_of_reader r m task is next = subst (λ (o : Option Task). IfNone o (counts m r ≡ 0)) (sym next) (by_unread (unread_if m.exits.queue m.reader) refl)
+  where
+    by_unread : (u : List (Change Route)) → unread_if m.exits.queue m.reader ≡ u → IfNone (cond (is_unread u) (Some tasks.ReadRib) None) (counts m r ≡ 0)
+    by_unread [] at = ap (counts m) is ∙ ap (λ (l : List (Change Route)). length l) at
+    by_unread (x ∷ u) at = tt
 
 -- ---- the stages of the tree
 -- each stage that stands has work

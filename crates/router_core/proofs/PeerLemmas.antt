@@ -34,10 +34,11 @@ use Rattle.hop_side.proofs.PutLemmas.{at_put as resolver_put}
 use Rattle.peer_side.specs.Peers.{Chains, chain_at, put_chain, peer_links, filt_by, filt_at, begin_entries, routes_of, rules_of, IsPeers, AreBefore}
 use Rattle.peer_side.specs.Steps.{EditsInward}
 use Rattle.peer_side.proofs.PutLemmas.{at_put, put_here, put_each, put_kept, put_more}
-use Rattle.router_core.specs.Moments.{Moment, with_chains, router_links}
+use Rattle.router_core.specs.Bests.{best_at}
+use Rattle.router_core.specs.Moments.{Moment, Policies, with_chains, router_links}
 use Rattle.live_state.specs.Lives.{with_rules, begun_if_down}
 use Rattle.router_core.specs.Lives.{live_state}
-use Rattle.router_core.specs.Stands.{IsSilent, PeerStands, StandsAt, Stands, Claim, Claims, EachChain, EachPeer, InteriorTree, OneSpeaker, SameCount, EachResolver, SameResolvers, AnswersAgree, HopsCounted, NoStrangers, SmallNumbers}
+use Rattle.router_core.specs.Stands.{IsSilent, PeerStands, StandsAt, Stands, Claim, Claims, EachChain, EachPeer, InteriorTree, OneSpeaker, SameCount, EachResolver, SameResolvers, AnswersAgree, HopsCounted, NoStrangers, SmallNumbers, EachRow, QueueLeads, ExitsRead, SameSessions, ExitsAt}
 use Rattle.router_core.specs.Turns.{journal_lines}
 use Rattle.router_core.specs.Blocks.{ByPeer, BeginsIf, Declares, declared_speaker, declared_peer, begun}
 use Rattle.router_core.specs.Peers.{is_up}
@@ -45,6 +46,13 @@ use Rattle.router_core.specs.Works.{HasStepped, Pushes}
 use Rattle.router_core.proofs.RegionLemmas.{leads_inward}
 use Rattle.peer_side.proofs.MapLemmas.{one_of as one_peer}
 use Rattle.router_core.proofs.StandLemmas.{peer_of, chain_there, same_peers, stands_with, live_edited}
+use Rattle.fanout_queue.specs.Queues.{AllLead}
+use Rattle.loss_chain.proofs.FeedLemmas.{no_row_at_first}
+use Rattle.out_chain.specs.Chains.{OutChained}
+use Rattle.exit_side.specs.Exits.{AllStand, chain_at as exit_at}
+use Rattle.router_core.proofs.HeardRows.{put_heard}
+use Rattle.router_core.proofs.HeardSteps.{heard_quiet}
+use Rattle.router_core.proofs.QueueLemmas.{exits_none, undeclared_none, reader_live, exits_stay}
 use Rattle.router_core.proofs.HopLemmas.{leads_both, leads_resolved, hops_quiet}
 use Rattle.router_core.proofs.KeepLemmas.{steps_said}
 
@@ -145,6 +153,10 @@ module _ (m : Moment) (me : Speaker) (k : ℕ) (words : Speaker) (is_local : m.d
       (λ e. subst (λ (n : ℕ). rows_by (Some (nothing_known {A = Metric} k)) (filt_at (put_chain k fresh m.chains) n) ≡ res_at m.hops (filt_at (put_chain k fresh m.chains)) n) (sym (equal_by j k e))
       (ap (λ (u : Rows Route). rows_by (Some (nothing_known {A = Metric} k)) u) no_upper ∙ sym (ap (λ (o : Option (Resolving Metric)). rows_by o (filt_at (put_chain k fresh m.chains) k)) no_resolver_yet))) (λ _. refl)
 
+  -- and so the best ones stay
+  same_best : best_at (put_chain k fresh m.chains) hops_then ≡ best_at m.chains m.hops
+  same_best = ap best_rows (λ i j. same_resolved j i) ∙ ap (λ (u : PeerRows). best_rows (res_at m.hops u)) (λ i j. quiet j i)
+
   declared_stands : k ≤ 64 → IsPeers (put_chain k fresh m.chains) → BeginsWith k m.hops hops_then → Stands (declared_peer m me k words)
   declared_stands small peers begins = record { own = own; at = stands.at }
     where
@@ -164,6 +176,16 @@ module _ (m : Moment) (me : Speaker) (k : ℕ) (words : Speaker) (is_local : m.d
           (subst (λ (o : Option DeclaredPeer). StandsAt o (Some fresh)) (sym (new_peer_at m.declared k words absent)) (record { words = refl; earlier = tt; silent = refl })))
           (λ e. subst (λ (o : Option DeclaredPeer). StandsAt o (chain_at j m.chains))
           (sym (peer_at_push_other j m.declared.peers (new_peer m.declared k words) (other_by k j (λ same. let t : true ≡ false = sym (same_by j k (sym same)) ∙ e in cc)))) (stands.own EachPeer j)))
+      own EachRow = put_heard k fresh m.chains (put_chain k fresh m.chains) refl (λ p row is. absurd (no_row_at_first p row is)) (stands.own EachRow)
+      own QueueLeads = subst (λ (rows : Rows Route). AllLead m.exits.queue rows) (sym same_best) (stands.own QueueLeads)
+      own ExitsRead = subst (λ (rows : Rows Route). AllStand rows m.exits) (sym same_best) (stands.own ExitsRead)
+      own SameSessions = λ j. by_bool (nat_eq j k) (λ b. ExitsAt m.declared.speaker m.outgoing j (peer_at j (with_peer m.declared k words).peers) (exit_at j m.exits))
+          (λ e. subst (λ (n : ℕ). ExitsAt m.declared.speaker m.outgoing n (peer_at n (with_peer m.declared k words).peers) (exit_at n m.exits)) (sym (equal_by j k e))
+          (subst (λ (o : Option OutChained). ExitsAt m.declared.speaker m.outgoing k (peer_at k (with_peer m.declared k words).peers) o)
+          (sym (undeclared_none m.declared.speaker m.outgoing k (exit_at k m.exits) (subst (λ (o : Option DeclaredPeer). ExitsAt m.declared.speaker m.outgoing k o (exit_at k m.exits)) absent (stands.own SameSessions k))))
+          (exits_none m.declared.speaker m.outgoing k (peer_at k (with_peer m.declared k words).peers))))
+          (λ e. subst (λ (o : Option DeclaredPeer). ExitsAt m.declared.speaker m.outgoing j o (exit_at j m.exits))
+          (sym (peer_at_push_other j m.declared.peers (new_peer m.declared k words) (other_by k j (λ same. let t : true ≡ false = sym (same_by j k (sym same)) ∙ e in cc)))) (stands.own SameSessions j))
       own EachResolver = begins.sound
       own SameResolvers = both_put
       own AnswersAgree = begins.agree m.registry (stands.own NoStrangers k no_resolver_yet) (stands.own AnswersAgree)
@@ -188,9 +210,10 @@ module _ (m : Moment) (me : Speaker) (k : ℕ) (words : Speaker) (is_local : m.d
     keeps = record {
       leads = leads_both (router_links m) (router_links (with_chains m (put_chain k fresh m.chains))) (router_links (declared_peer m me k words)) (begin_entries k) (hop_begins k)
           (leads_inward m (put_chain k fresh m.chains) (begin_entries k) quiet leads)
-          (leads_resolved (with_chains m (put_chain k fresh m.chains)) me m.registry hops_then (record { address = 0; length = 0 }) (hop_begins k) None is_local (begins.leads (filt_at (put_chain k fresh m.chains)) no_upper) (ap best_rows (λ i j. same_resolved j i)));
+          (leads_resolved (with_chains m (put_chain k fresh m.chains)) me m.registry hops_then m.exits (record { address = 0; length = 0 }) (hop_begins k) None is_local (reader_live m stands) (begins.leads (filt_at (put_chain k fresh m.chains)) no_upper) (ap best_rows (λ i j. same_resolved j i)) refl);
       live = λ i. record (live_state m) { declared = with_peer m.declared k words; routes = λ j. stays routes_of refl j i; rules = λ j. stays rules_of refl j i };
       stands = declared_stands small peers begins;
+      heard = heard_quiet m (declared_peer m me k words) (journal_lines (begin_entries k ++ hop_begins k)) (refl, (refl, (refl, tt))) refl;
     };
   }
 
@@ -255,15 +278,30 @@ begun_length : (k : ℕ) (ps : List DeclaredPeer) → length (map (begun_at k) p
 begun_length k [] = refl
 begun_length k (p ∷ ps) = ap suc (begun_length k ps)
 
+-- a peer that has an exit is up
+begun_up : (k : ℕ) (p : DeclaredPeer) → p.up ≡ true → begun_at k p ≡ p
+begun_up k p up = ap (λ (u : Bool). cond (nat_eq p.words.number k && not u) (record { words = p.words; session = p.session + 1; up = true }) p) up ∙ by_test (nat_eq p.words.number k)
+  where
+    by_test : (b : Bool) → cond (b && false) (record { words = p.words; session = p.session + 1; up = true }) p ≡ p
+    by_test true = refl
+    by_test false = refl
+
+begun_exit : (k : ℕ) (s : Option Speaker) (policies : Policies) (j : ℕ) (p : Option DeclaredPeer) (o : Option OutChained) → ExitsAt s policies j p o → ExitsAt s policies j (option_map (begun_at k) p) o
+begun_exit k s policies j p None is = exits_none s policies j (option_map (begun_at k) p)
+begun_exit k (Some me) policies j (Some p) (Some c) is = subst (λ (q : DeclaredPeer). ExitsAt (Some me) policies j (Some q) (Some c)) (sym (begun_up k p is.up)) is
+begun_exit k (Some me) policies j None (Some c) is = absurd is
+begun_exit k None policies j p (Some c) is = absurd is
+
 pub begun_stands : (m : Moment) (k : ℕ) → Stands m → Stands (begun m k)
 begun_stands m k stands = record { own = own; at = stands.at }
   where
     own : (claim : Claim) → Claims (begun m k) claim
     own EachPeer = λ j. subst (λ (o : Option DeclaredPeer). StandsAt o (chain_at j m.chains)) (sym (peer_at_map (begun_at k) (begun_words k) j m.declared.peers)) (begun_one k (peer_at j m.declared.peers) (chain_at j m.chains) (stands.own EachPeer j))
     own SameCount = stands.own SameCount ∙ sym (begun_length k m.declared.peers)
+    own SameSessions = λ j. subst (λ (o : Option DeclaredPeer). ExitsAt m.declared.speaker m.outgoing j o (exit_at j m.exits)) (sym (peer_at_map (begun_at k) (begun_words k) j m.declared.peers)) (begun_exit k m.declared.speaker m.outgoing j (peer_at j m.declared.peers) (exit_at j m.exits) (stands.own SameSessions j))
     own other = stands.own other
 
-may_begin : (d : Declaration) (k : ℕ) → refusal d (events.Up k) ≡ None → session_refusal (peer_at k d.peers) ≡ None
+pub may_begin : (d : Declaration) (k : ℕ) → refusal d (events.Up k) ≡ None → session_refusal (peer_at k d.peers) ≡ None
 unfolding refusal
 may_begin d k e = by_speaker d.speaker e
   where
@@ -271,37 +309,18 @@ may_begin d k e = by_speaker d.speaker e
     by_speaker None e = absurd (cc)
     by_speaker (Some local) e = e
 
-pub begun_stepped : (m : Moment) (k : ℕ) → Stands m → refusal m.declared (events.Up k) ≡ None → is_up (peer_at k m.declared.peers) ≡ false → HasStepped m (events.Up k) 0 (begun m k) []
-begun_stepped m k stands admitted down = record {
-  block = block (peer_at k m.declared.peers) (may_begin m.declared k admitted) down;
-  live = live_state (begun m k);
-  after = live (peer_at k m.declared.peers) (may_begin m.declared k admitted) down;
-  keeps = record { leads = record { lawful = tt; ends = refl }; live = refl; stands = begun_stands m k stands };
-}
-  where
-    block : (o : Option DeclaredPeer) → session_refusal o ≡ None → is_up o ≡ false → ByPeer (λ p. BeginsIf p.up m k [] 0 (begun m k)) o
-    block None e down = absurd (cc)
-    block (Some p) e down = subst (λ (u : Bool). BeginsIf u m k [] 0 (begun m k)) (sym down) (refl, refl, refl)
-
-    live : (o : Option DeclaredPeer) → session_refusal o ≡ None → is_up o ≡ false → live_state (begun m k) ≡ begun_if_down (live_state m) k o
-    live None e down = absurd (cc)
-    live (Some p) e down = sym (ap (λ (u : Bool). cond u (live_state m) (live_state (begun m k))) down)
-
 pub ignored_stepped : (m : Moment) (k : ℕ) → Stands m → is_up (peer_at k m.declared.peers) ≡ true → HasStepped m (events.Up k) 0 m (lines.Ignored ∷ [])
-ignored_stepped m k stands up = steps_said m (events.Up k) 0 (lines.Ignored ∷ []) stands (block (peer_at k m.declared.peers) up) (live (peer_at k m.declared.peers) up) refl
+ignored_stepped m k stands up = steps_said m (events.Up k) 0 (lines.Ignored ∷ []) stands (block (peer_at k m.declared.peers) up) (live (peer_at k m.declared.peers) up) (refl, (refl, tt))
   where
-    block : (o : Option DeclaredPeer) → is_up o ≡ true → ByPeer (λ p. BeginsIf p.up m k (lines.Ignored ∷ []) 0 m) o
+    block : (o : Option DeclaredPeer) → is_up o ≡ true → ByPeer (λ p. BeginsIf p.up m k p (lines.Ignored ∷ []) 0 m) o
     block None up = absurd (cc)
-    block (Some p) up = subst (λ (u : Bool). BeginsIf u m k (lines.Ignored ∷ []) 0 m) (sym up) (refl, refl, refl)
+    block (Some p) up = subst (λ (u : Bool). BeginsIf u m k p (lines.Ignored ∷ []) 0 m) (sym up) (refl, refl, refl)
 
     live : (o : Option DeclaredPeer) → is_up o ≡ true → live_state m ≡ begun_if_down (live_state m) k o
     live None up = absurd (cc)
     live (Some p) up = sym (ap (λ (u : Bool). cond u (live_state m) (live_state (begun m k))) up)
 
 -- ---- the moment after it, from its parts
-pub speaker_is : (m v : Moment) (words : Speaker) (after : Declaration) → v ≡ m → after ≡ with_speaker v.declared words → record v { declared = after } ≡ declared_speaker m words
-speaker_is m v words after view said = ap (λ (d : Declaration). record v { declared = d }) said ∙ ap (λ (n : Moment). declared_speaker n words) view
-
 pub begun_is : (m v : Moment) (k : ℕ) (after : Declaration) → v ≡ m → after ≡ with_session v.declared k → record v { declared = after } ≡ begun m k
 begun_is m v k after view began = ap (λ (d : Declaration). record v { declared = d }) began ∙ ap (λ (n : Moment). begun n k) view
 
@@ -321,18 +340,6 @@ peer_after d k words e none = by_speaker d.speaker e none
     by_speaker : (s : Option Speaker) → refusal_at s d.peers (events.Peer k words) ≡ None → None ≡ s → ⊥
     by_speaker None e none = absurd (cc)
     by_speaker (Some me) e none = absurd (cc)
-
--- no chain stands before it
-pub speaker_stands : (m : Moment) (words : Speaker) → refusal m.declared (events.Local words) ≡ None → Stands m → Stands (declared_speaker m words)
-speaker_stands m words admitted stands = record { own = own; at = stands.at }
-  where
-    first : m.declared.speaker ≡ None
-    first = local_first m.declared words admitted
-
-    own : (claim : Claim) → Claims (declared_speaker m words) claim
-    own OneSpeaker = λ k c at. absurd (let one : m.declared.speaker ≡ Some c.me = stands.own OneSpeaker k c at in let none = first in cc)
-    own InteriorTree = let t = stands.own InteriorTree in record { tree = t.tree; full = t.full; few = t.few; waiting = λ e. absurd (cc) }
-    own other = stands.own other
 
 -- ---- new rules
 pub rules_there : (d : Declaration) (k : ℕ) (rules : List Rule) → refusal d (events.FilterIn k rules) ≡ None → (p : DeclaredPeer) × (peer_at k d.peers ≡ Some p)
@@ -367,8 +374,10 @@ edited_one m k rules cs stands e =
         leads = leads_inward m cs [] e.quiet (lead_nothing Inward (peer_links m.chains) (peer_links cs) e.links);
         live = live_edited m k c (refiltered rules c) cs e.edits.at e.edits.after refl
             ∙ ap (λ (r : List Rule). record (live_state m) { rules = with_rules (live_state m).rules k r }) (present_edited c.filter.in_force c.filter.walk rules);
-        stands = stands_with m k c (refiltered rules c) cs m.registry m.hops p.0 stands e.edits.at e.edits.after e.sound refl p.1 (record { words = p.2.words; earlier = p.2.earlier; silent = silent_edited p.0.up c rules p.2.silent }) refl
-            (hops_quiet m cs stands e.quiet (same_peers m k c (refiltered rules c) cs e.edits.at e.edits.after));
+        heard = heard_quiet m (with_chains m cs) [] tt refl;
+        stands = stands_with m k c (refiltered rules c) cs m.registry m.hops m.exits p.0 stands e.edits.at e.edits.after e.sound refl p.1 (record { words = p.2.words; earlier = p.2.earlier; silent = silent_edited p.0.up c rules p.2.silent }) refl
+            (hops_quiet m cs stands e.quiet (same_peers m k c (refiltered rules c) cs e.edits.at e.edits.after))
+            (exits_stay m (with_chains m cs) stands (put_heard k (refiltered rules c) m.chains cs e.edits.after (stands.own EachRow k c e.edits.at) (stands.own EachRow)) (ap (λ (u : PeerRows). best_rows (res_at m.hops u)) (λ i j. e.quiet j i)) refl refl refl refl);
       };
     }
 

@@ -1,11 +1,11 @@
 -- One turn of a task of a peer.
-use Rattle.std.proofs.Common.{◌≡◌, ℕ, ◌≤◌, Bool, true, false, List, ◌++◌, Option, Some, refl, sym, ap, subst, ◌∙◌, arith}
+use Rattle.std.proofs.Common.{◌≡◌, ℕ, ◌≤◌, Bool, true, false, List, ◌++◌, Option, Some, None, refl, sym, ap, subst, ◌∙◌, arith}
 use Rattle.bgp_attr.specs.declared.route.Route.{Route}
 use Rattle.link_change.specs.declared.change.Change.{Change}
 use Rattle.link_change.specs.declared.turn.Turn.{Turn}
 use Rattle.link_change.specs.declared.turn.Turn.TheVariants as turns
 use Rattle.journal_text.specs.declared.link.Task.{Task}
-use Rattle.journal_text.specs.declared.link.Task.TheVariants.{Del, Fin, Nh, Rdel}
+use Rattle.journal_text.specs.declared.link.Task.TheVariants.{Del, Fin, Nh, ReadRib, Out, Rdel}
 use Rattle.journal_text.specs.declared.entry.Entry.{Entry}
 use Rattle.journal_text.specs.declared.value.Value.{Value}
 use Rattle.journal_text.specs.declared.line.Line.{Line}
@@ -20,20 +20,30 @@ use Rattle.hop_side.specs.Steps.{GoesOn}
 use Rattle.peer_side.specs.Peers.{Chains, IsPeersBut, chain_at, put_chain, filt_at, lost_in, peer_of, has_peer_work}
 use Rattle.peer_side.specs.Steps.{Nears, TakesInward, ComesInward}
 use Rattle.router_core.specs.declared.router.Done.TheVariants.{Nothing, Taken}
-use Rattle.router_core.specs.declared.router.Phase.{Phase}
-use Rattle.router_core.specs.declared.router.Phase.TheVariants as phases
 use Rattle.journal_text.specs.Texts.{entries_of}
 use Rattle.journal_text.specs.Walk.{Leads}
-use Rattle.router_core.specs.Bests.{resolved_at}
-use Rattle.router_core.specs.Moments.{Moment, with_chains, with_hops, router_links}
-use Rattle.router_core.specs.Stands.{IsSilent, PeerStands, Stands, HopsCounted, SmallNumbers, open_session}
-use Rattle.router_core.specs.Phases.{Frame, counts, most_of, rise, risen, tree_lost, Spends}
-use Rattle.router_core.specs.Turns.{IsOfPeers, IsPeerTurn, IsTurn, sent_of, has_work, phase_of, journal_lines}
+use Rattle.std.specs.FinMap as tables
+use Rattle.link_change.specs.Changes.{IsSent}
+use Rattle.rib_route.specs.declared.rows.Interior.{Interior}
+use Rattle.register_interest.specs.Registers.{Registry}
+use Rattle.decision.specs.Branches.{best_rows}
+use Rattle.exit_side.specs.Exits.{OutChains}
+use Rattle.hop_side.specs.Resolvers.{Resolvers, PeerRows, res_at}
+use Rattle.peer_side.proofs.PutLemmas.{put_size}
+use Rattle.router_core.specs.Bests.{best_at, best_entries, resolved_at}
+use Rattle.router_core.specs.Printable.{IsHeard}
+use Rattle.router_core.proofs.HeardSteps.{heard_quiet, queue_views, falls_unheard}
+use Rattle.router_core.specs.Moments.{Moment, with_chains, with_hops, with_exits, router_links}
+use Rattle.router_core.specs.Stands.{IsSilent, PeerStands, Stands, HopsCounted, SmallNumbers, EachRow, open_session}
+use Rattle.router_core.specs.Turns.{Resolves, IsOfPeers, IsPeerTurn, IsTurn, sent_of, has_work, phase_of, journal_lines}
 use Rattle.router_core.specs.Works.{IsUnit, Comes, SettlesPeer}
 use Rattle.peer_side.proofs.WeldLemmas.{fallen_at, weld_after, weld_keeps, nears_weld, adds_both}
 use Rattle.router_core.proofs.HopLemmas.{falls_lead, hops_fall}
-use Rattle.router_core.proofs.PhaseLemmas.{rises_to}
-use Rattle.router_core.proofs.MostLemmas.{capped, most_less}
+use Rattle.router_core.proofs.BestLemmas.{best_of_none}
+use Rattle.router_core.proofs.HeardRows.{weld_heard, turned_heard, put_heard}
+use Rattle.router_core.proofs.QueueLemmas.{reader_live, queue_chains, exits_fall}
+use Rattle.router_core.proofs.MostLemmas.{rows_less}
+use Rattle.router_core.proofs.SpendLemmas.{Sends, turn_sends, peer_spends}
 use Rattle.router_core.proofs.StandLemmas.{peer_of as peer_at_chain, resolver_there, speaker_there, same_peers, stands_with, live_same}
 
 silent_as : (up : Bool) (c c' : Chained) → c'.incoming.tables.live ≡ c.incoming.tables.live → IsSilent up c → IsSilent up c'
@@ -45,32 +55,22 @@ turn_of_peer : (task : Task) (m m' : Moment) (said : List Line) → Nears task m
 turn_of_peer (Del k s) m m' said nearer turn = turn
 turn_of_peer (Fin k) m m' said nearer turn = turn
 turn_of_peer (Nh n) m m' said nearer turn = absurd nearer
+turn_of_peer ReadRib m m' said nearer turn = absurd nearer
+turn_of_peer (Out n) m m' said nearer turn = absurd nearer
 turn_of_peer (Rdel proto n) m m' said nearer turn = absurd nearer
 
--- what it spends
-peer_spends : (f : Frame) (task : Task) (m m' : Moment) → m'.tree ≡ m.tree → Nears task m.chains m'.chains → counts m' phases.Nh ≤ f.most → Spends f (phase_of task) 1 (counts m) (counts m')
-peer_spends f (Del n s) m m' tree near capped = record { falls = let a = near.0 in omega (arith, a); rises = more }
-  where
-    more : (e : Phase) → counts m' e ≤ risen (rise f phases.Del e) 1 (counts m e)
-    more phases.Rdel = let e : tree_lost m'.tree ≡ tree_lost m.tree = ap tree_lost tree in omega (arith, e)
-    more phases.Del = let a = near.0 in omega (arith, a)
-    more phases.Fin = let b = near.1 in omega (arith, b)
-    more phases.Nh = rises_to f.most (counts m' phases.Nh) (counts m phases.Nh) capped
-peer_spends f (Fin n) m m' tree near capped = record { falls = let b = near.1 in omega (arith, b); rises = more }
-  where
-    more : (e : Phase) → counts m' e ≤ risen (rise f phases.Fin e) 1 (counts m e)
-    more phases.Rdel = let e : tree_lost m'.tree ≡ tree_lost m.tree = ap tree_lost tree in omega (arith, e)
-    more phases.Del = let a = near.0 in omega (arith, a)
-    more phases.Fin = let b = near.1 in omega (arith, b)
-    more phases.Nh = rises_to f.most (counts m' phases.Nh) (counts m phases.Nh) capped
-peer_spends f (Nh n) m m' tree near capped = absurd near
-peer_spends f (Rdel proto n) m m' tree near capped = absurd near
+-- nothing goes on where nothing came
+passed_none : (k : ℕ) (sent passed : Option (Change Route)) (r r' : Registry Interior) (h h' : Resolvers) (entries : List (Entry Value)) → sent ≡ None → Resolves k sent passed r r' h h' entries → passed ≡ None
+passed_none k None passed r r' h h' entries none t = t.0
+passed_none k (Some change) passed r r' h h' entries none t = absurd (cc)
 
 -- no task of a peer has more rows lost than before
 lost_less : (task : Task) (a a' : Chains) → Nears task a a' → lost_in a' ≤ lost_in a
 lost_less (Del k s) a a' near = let l = near.0 in omega (arith, l)
 lost_less (Fin k) a a' near = let l = near.0 in omega (arith, l)
 lost_less (Nh k) a a' near = absurd near
+lost_less ReadRib a a' near = absurd near
+lost_less (Out k) a a' near = absurd near
 lost_less (Rdel proto n) a a' near = absurd near
 
 -- a turn in a peer's chain, and what follows it, are one of the router
@@ -80,16 +80,19 @@ unit_done task sent m fallen m' entries rest stands t w =
     subst (λ (n : Moment). IsUnit task m n (journal_lines (entries ++ rest))) (sym w.after)
     (subst (λ (es : List (Entry Value)). IsUnit task m after (journal_lines (entries ++ es))) (sym w.lines) (record {
       turn = turn_of_peer task m after (journal_lines (entries ++ (w.resolved ++ (w.best ++ w.weld)))) near
-          (sent, record { fallen = fallen; entries = entries; part = t; resolved = w.resolved; passed = w.passed; below = w.below; best = w.best; decided = w.decided; weld = w.weld; welds = w.welds; lines = refl; after = refl });
+          (sent, record { fallen = fallen; entries = entries; part = t; resolved = w.resolved; passed = w.passed; below = w.below; best = w.best; decided = w.decided; weld = w.weld; welds = w.welds; queued = w.queued; lines = refl; after = refl });
       work = record {
         keeps = record {
           leads = subst (λ (es : List (Entry Value)). Leads (router_links m) (entries_of (journal_lines (entries ++ (w.resolved ++ (es ++ w.weld))))) (router_links after)) (sym w.decided.lines)
-              (falls_lead m c.me fallen m'.chains m'.registry m'.hops t.changes.0 entries w.resolved w.weld w.decided.best (speaker_there m stands k c t.turn.at) t.fall.leads goes.leads (w.decided.decides (resolved_at m.chains m.hops) t.changes.0 goes.comes) w.welds.step.leads quiet);
+              (falls_lead m c.me fallen m'.chains m'.registry m'.hops m'.exits t.changes.0 entries w.resolved w.weld w.decided.best (speaker_there m stands k c t.turn.at) (reader_live m stands) t.fall.leads goes.leads decides w.welds.step.leads quiet w.queued);
           live = live_same m k c c' m'.chains t.turn.at put t.leaves.live t.leaves.rules;
           stands = then;
+          heard = subst (λ (es : List (Entry Value)). IsHeard m (journal_lines (entries ++ (w.resolved ++ (es ++ w.weld)))) after) (sym w.decided.lines)
+              (heard_quiet m after (journal_lines (entries ++ (w.resolved ++ (best_entries w.decided.best ++ w.weld)))) (falls_unheard _ _ _ _ _ _ entries w.resolved w.weld w.decided.best t.fall.leads goes.leads w.welds.step.leads) (queue_views w.decided.best m.exits m'.exits w.queued));
         };
-        spends = λ f within. peer_spends f task m after refl near (let most = capped after then in omega (arith, most, less, within));
-        within = less;
+        falls = (peer_spends task m after refl near sends).0;
+        left = (peer_spends task m after refl near sends).1;
+        earlier = (peer_spends task m after refl near sends).2;
       };
     }))
   where
@@ -103,7 +106,7 @@ unit_done task sent m fallen m' entries rest stands t w =
     c' = welded t.turn.turned_chain
 
     after : Moment
-    after = with_hops (with_chains m m'.chains) m'.registry m'.hops
+    after = with_exits (with_hops (with_chains m m'.chains) m'.registry m'.hops) m'.exits
 
     put : m'.chains ≡ put_chain (peer_of task) (welded t.turn.turned_chain) m.chains
     put = weld_after (peer_of task) m.chains fallen m'.chains t.turn.turned_chain w.weld t.turn.after w.welds.welds
@@ -117,6 +120,9 @@ unit_done task sent m fallen m' entries rest stands t w =
     goes : GoesOn (peer_of task) t.changes.0 w.passed m.hops m'.hops w.resolved (filt_at m.chains) (filt_at fallen)
     goes = w.below.goes (filt_at m.chains) (filt_at fallen) t.changes.0 (stands.own HopsCounted) (record { here = t.changes.1.rows; others = t.changes.1.others })
 
+    decides : IsSent (best_at m.chains m.hops) (best_at fallen m'.hops) t.changes.0 w.decided.best
+    decides = w.decided.decides (resolved_at m.chains m.hops) t.changes.0 goes.comes
+
     p : (q : DeclaredPeer) × (peer_at (peer_of task) m.declared.peers ≡ Some q) × PeerStands q t.turn.chain
     p = peer_at_chain m stands (peer_of task) t.turn.chain t.turn.at
 
@@ -125,12 +131,24 @@ unit_done task sent m fallen m' entries rest stands t w =
         let earlier = weld_keeps (peer_of task) m.chains fallen m'.chains t.turn.turned_chain w.weld t.turn.after w.welds (open_session p.0) (t.leaves.before (open_session p.0) p.2.earlier) in
         record { words = t.leaves.peer ∙ p.2.words; earlier = earlier; silent = silent_as p.0.up t.turn.chain (welded t.turn.turned_chain) t.leaves.live p.2.silent }
 
-    then : Stands (with_hops (with_chains m m'.chains) m'.registry m'.hops)
-    then = stands_with m (peer_of task) t.turn.chain (welded t.turn.turned_chain) m'.chains m'.registry m'.hops p.0 stands t.turn.at put w.welds.step.sound t.leaves.me p.1 here w.below.agreed.others.rows
+    then : Stands (with_exits (with_hops (with_chains m m'.chains) m'.registry m'.hops) m'.exits)
+    then = stands_with m (peer_of task) t.turn.chain (welded t.turn.turned_chain) m'.chains m'.registry m'.hops m'.exits p.0 stands t.turn.at put w.welds.step.sound t.leaves.me p.1 here w.below.agreed.others.rows
         (hops_fall m (peer_of task) fallen m'.chains m'.registry m'.hops stands w.below.agreed goes.counted quiet (resolver_there m stands (peer_of task) t.turn.chain t.turn.at) (same_peers m (peer_of task) t.turn.chain (welded t.turn.turned_chain) m'.chains t.turn.at put))
+        (exits_fall m m'.chains m'.hops m'.exits (with_exits (with_hops (with_chains m m'.chains) m'.registry m'.hops) m'.exits) w.decided.best t.changes.0 stands
+        (put_heard (peer_of task) (welded t.turn.turned_chain) m.chains m'.chains put (weld_heard t.turn.turned_chain (turned_heard task t.turn.chain t.turn.turned_chain sent entries t.turn.turned (stands.own EachRow (peer_of task) t.turn.chain t.turn.at))) (stands.own EachRow)) w.queued
+        (subst (λ (u : PeerRows). IsSent (best_at m.chains m.hops) (best_rows (res_at m'.hops u)) t.changes.0 w.decided.best) (sym quiet) decides) refl refl refl refl refl refl)
 
-    less : most_of (with_hops (with_chains m m'.chains) m'.registry m'.hops) ≤ most_of m
-    less = most_less m (peer_of task) t.turn.chain (welded t.turn.turned_chain) m'.chains t.turn.at put t.leaves.live (lost_less task m.chains m'.chains near)
+    -- where nothing comes out on `filt.K`, nothing is decided
+    quiet_below : sent ≡ None → w.decided.best ≡ None
+    quiet_below none = best_of_none (peer_of task) w.passed (resolved_at fallen m'.hops) w.best w.decided (passed_none (peer_of task) sent w.passed m.registry m'.registry m.hops m'.hops w.resolved none w.below.resolves)
+
+    sends : Sends m (with_exits (with_hops (with_chains m m'.chains) m'.registry m'.hops) m'.exits)
+    sends = record {
+      rows = rows_less m (peer_of task) t.turn.chain (welded t.turn.turned_chain) m'.chains t.turn.at put t.leaves.live (lost_less task m.chains m'.chains near);
+      size = ap (λ (a : Chains). tables.len a) put ∙ put_size (peer_of task) t.turn.chain (welded t.turn.turned_chain) m.chains t.turn.at;
+      exits = ap (λ (a : OutChains). tables.len a) (queue_chains m.exits m'.exits w.decided.best w.queued);
+      fewer = turn_sends task m (peer_of task) t.turn.chain t.turn.turned_chain sent w.decided.best entries m'.chains m'.exits t.turn.at put t.turn.turned quiet_below w.queued near;
+    }
 
 -- a turn that was taken, whether a change came out on `filt.K` or not
 took : (task : Task) (a fallen : Chains) (before j : Journaled) (turn : Turn Route) → (turn ≡ turns.Nothing → ⊥) → ComesInward task a fallen before j turn → Adds (TakesInward task (sent_of turn) a fallen) before j
@@ -171,6 +189,8 @@ rests : (task : Task) (m : Moment) → IsOfPeers task → has_peer_work m.chains
 rests (Del k s) m of none = none
 rests (Fin k) m of none = none
 rests (Nh k) m of none = absurd of
+rests ReadRib m of none = absurd of
+rests (Out k) m of none = absurd of
 rests (Rdel proto n) m of none = absurd of
 
 pub peer_rests : (task : Task) (m v : Moment) (cs : Chains) (before j : Journaled) (turn : Turn Route) → IsOfPeers task → turn ≡ turns.Nothing → v ≡ m → ComesInward task v.chains cs before j turn

@@ -1,5 +1,5 @@
 -- What each event says can be printed, and so can what stands behind it.
-use Rattle.std.proofs.Common.{◌≡◌, ℕ, ◌+◌, ◌<◌, ◌≤◌, ◌^◌, Bool, true, false, cond, not, List, [], ◌∷◌, map, Option, Some, None, IfSome, refl, sym, ap, subst, ◌∙◌, arith}
+use Rattle.std.proofs.Common.{◌≡◌, ℕ, ◌+◌, ◌<◌, ◌≤◌, ◌^◌, Bool, true, false, cond, not, ◌==◌, ◌&&◌, List, [], ◌∷◌, ◌++◌, map, Option, Some, None, IfSome, refl, sym, ap, subst, ◌∙◌, arith}
 use Rattle.std.specs.Prelude.{filter}
 use Rattle.std.specs.List.{AllByRecursion}
 use Rattle.std.proofs.lemmas.List.Elements.{All-nil}
@@ -17,7 +17,7 @@ use Rattle.bgp_wire.proofs.ReadableLaws.{Every, all_every, every_filter}
 use Rattle.bgp_wire.proofs.ReadableMessages.{read_is_readable}
 use Rattle.event_text.specs.declared.declared.DeclaredPeer.{DeclaredPeer}
 use Rattle.event_text.specs.declared.event.Event.{Event}
-use Rattle.event_text.specs.declared.event.Event.TheVariants.{Nothing, Local, Peer, Up, Down, Bgp, FilterIn, RouteAdd, RouteDel, Lose, Cover, Idle, Work, Ask, Show}
+use Rattle.event_text.specs.declared.event.Event.TheVariants.{Nothing, Local, Peer, Up, Down, Bgp, FilterIn, FilterOut, RouteAdd, RouteDel, Lose, Cover, Idle, Work, Ask, Show}
 use Rattle.event_text.specs.Declarations.{peer_at}
 use Rattle.event_text.specs.WellFormed.{IsWellFormed}
 use Rattle.link_change.specs.Rows.{Rows, is_empty_map}
@@ -43,7 +43,7 @@ use Rattle.journal_laws.proofs.PrintedLines.{plain_printed, note_printed, answer
 use Rattle.journal_laws.proofs.DeclaredPeers.{IsKnown, known_peer}
 use Rattle.journal_laws.specs.Peers.{words_in, neighbours}
 use Rattle.link_region.specs.declared.regions.Region.{Region}
-use Rattle.link_region.specs.declared.regions.Region.TheVariants.{Inward, Resolved, Decided, InteriorRoutes, Forward, Elsewhere}
+use Rattle.link_region.specs.declared.regions.Region.TheVariants.{Inward, Resolved, Decided, InteriorRoutes, Forward, External, Outward, Elsewhere}
 use Rattle.link_region.specs.Regions.{region_of}
 use Rattle.loss_chain.proofs.ListLemmas.{all_both}
 use Rattle.in_chain.specs.Chains.{Chained}
@@ -51,7 +51,7 @@ use Rattle.policy_rules.specs.declared.rule.Rule.{Rule}
 use Rattle.policy_rules.specs.Ranges.{AreRules, IsRule}
 use Rattle.std.specs.FinMap.{get-empty}
 use Rattle.std.specs.Ordering.{nat_cmp}
-use Rattle.journal_text.specs.Values.{route_value}
+use Rattle.journal_text.specs.Values.{route_value, attrs_value}
 use Rattle.nexthop_known.specs.declared.answer.Hop.{Hop}
 use Rattle.nexthop_resolver.specs.declared.rows.Metric.{Metric}
 use Rattle.nexthop_resolver.specs.Resolving.{Resolving, nothing_known}
@@ -67,22 +67,31 @@ use Rattle.rib_tree.specs.BranchSteps.{lost_branch, fed_branch}
 use Rattle.rib_tree.specs.Falls.{way_of_route}
 use Rattle.rib_tree.specs.Steps.{fed_tree, tree_overdue, tree_loss_entries}
 use Rattle.rib_tree.specs.Trees.{branch_of, int_rows, AreNumbered}
-use Rattle.router_core.specs.Moments.{Moment, parts, rib_by, router_links}
+use Rattle.router_core.specs.Moments.{Moment, parts, rib_by, read_by, read_links, router_links, rules_to, with_exits}
 use Rattle.router_core.specs.Printable.{IsPrintableMoment}
 use Rattle.live_state.specs.Messages.{plain, Says, changes_of, announced_with, withdrawn_from}
-use Rattle.router_core.specs.Stands.{Stands, EachChain, InteriorTree, HopsCounted}
+use Rattle.router_core.specs.Stands.{Stands, EachChain, InteriorTree, HopsCounted, EachRow, PlainExits, ExitsRead}
 use Rattle.router_core.specs.Phases.{all_phases}
 use Rattle.router_core.specs.Turns.{journal_lines, FallsRoute}
-use Rattle.router_core.specs.Blocks.{Just, begin_line, Loses, Declares, Refilters, DropsRouteIf, LosesProtocol, CoversAddress, Hears, BeginsIf, EndsIf, HearsIf, answer_lines, Shows, ByPeer, IsBlock}
+use Rattle.router_core.specs.Blocks.{Just, begin_line, BySpeaker, Begins, Loses, Declares, Refilters, Redirects, DropsRouteIf, LosesProtocol, CoversAddress, Hears, BeginsIf, EndsIf, HearsIf, answer_lines, Shows, ByPeer, IsBlock}
 use Rattle.router_core.proofs.StandLemmas.{peer_of, registered_rows}
 use Rattle.rib_tree.proofs.TreeParts.{put_all}
-use Rattle.router_core.proofs.PrintedTurns.{Fit, Goes, IsSaid, feeds_go, route_goes, turns_go, phases_go, first_goes}
+use Rattle.std.specs.FinMap as tables
+use Rattle.fanout_queue.specs.Readers.{unread_by, read_rows}
+use Rattle.out_chain.specs.Chains.{OutChained, outf_rows}
+use Rattle.exit_side.specs.Exits.{Exited, chain_at as exit_at, links_by as exit_links_by}
+use Rattle.exit_laws.specs.Printable.{AreBestRows, ArePrintableExits}
+use Rattle.exit_laws.proofs.KeptLemmas.{rows_read, edit_is_printed, join_is_printed}
+use Rattle.exit_laws.proofs.PrintLemmas.{beginning_is_printed, end_is_printed}
+use Rattle.router_core.proofs.HeardRows.{heard_best}
+use Rattle.router_core.proofs.PrintedTurns.{Fit, Goes, with_fit_exits, IsSaid, feeds_go, route_goes, turns_go, phases_go, first_goes}
 
 -- what an event leaves beside the declarations, and what it says
 pub record Leaves (peers : ℕ → Option Neighbour) (m' : Moment) (said : List Line) : Type 0 where
   pub chains : (k : ℕ) (c : Chained) → chain_at k m'.chains ≡ Some c → IsPrintableChain plain c
   pub interior : (proto : Proto) → AreTablesOf IsInteriorRow (branch_of proto m'.tree).tables
   pub hops : AllHaveMetrics m'.hops
+  pub exits : ArePrintableExits peers m'.exits
   pub printed : AllByRecursion (IsPrinted peers) said
 
 module _ (m : Moment) (stands : Stands m) (printable : IsPrintableMoment m) where
@@ -125,10 +134,12 @@ module _ (m : Moment) (stands : Stands m) (printable : IsPrintableMoment m) wher
     counted = stands.own HopsCounted;
     registered = registered_rows m stands;
     metrics = printable.hops;
+    profile = stands.own PlainExits;
+    exits = printable.exits;
   }
 
   stays : (said : List Line) (m' : Moment) → m' ≡ m → Printed said → Leaves (neighbours m.declared) m' said
-  stays said m' same printed = subst (λ (x : Moment). Leaves (neighbours m.declared) x said) (sym same) (record { chains = printable.chains; interior = printable.interior; hops = printable.hops; printed = printed })
+  stays said m' same printed = subst (λ (x : Moment). Leaves (neighbours m.declared) x said) (sym same) (record { chains = printable.chains; interior = printable.interior; hops = printable.hops; exits = printable.exits; printed = printed })
 
   just : (these : List Line) (then : Moment) (said : List Line) (turns : ℕ) (m' : Moment) → Just these then said turns m' → Leaves (neighbours m.declared) then these → Leaves (neighbours m.declared) m' said
   just these then said turns m' is leaves =
@@ -177,12 +188,46 @@ module _ (m : Moment) (stands : Stands m) (printable : IsPrintableMoment m) wher
       by_speaker None = λ rows p v none is. absurd (cc)
       by_speaker (Some me) = rib_prints (neighbours m.declared) m.tree printable.interior link
 
+      best_rows_are : AreBestRows (neighbours m.declared) (best_at m.chains m.hops)
+      best_rows_are p row is =
+          let b = best_is_a_branchs (resolved_at m.chains m.hops) p row is in
+          let printed = all_resolved b.0 p row b.2 in
+          record { prefix = printed.0; heard = heard_best m.chains m.hops (stands.own EachRow) p row is; printed = printed.1 }
+
+      by_reader : (reader : ℕ) → Prints (neighbours m.declared) route_value (read_rows m.exits.queue reader (best_at m.chains m.hops))
+      by_reader reader p row is = let own = rows_read (neighbours m.declared) (unread_by m.exits.queue reader) (best_at m.chains m.hops) (printable.exits.unread reader) best_rows_are p row is in (own.prefix, own.printed)
+
+      by_read : (o : Option ℕ) → PrintsIfAny (neighbours m.declared) (read_by m.exits.queue o (best_at m.chains m.hops))
+      by_read None = λ rows p v none is. absurd (cc)
+      by_read (Some reader) = live_prints (neighbours m.declared) route_value (read_rows m.exits.queue reader (best_at m.chains m.hops)) (by_reader reader)
+
+      by_rib : (l : Link) → PrintsIfAny (neighbours m.declared) (read_links m.exits.queue m.reader (best_at m.chains m.hops) l)
+      by_rib links.ReadRib = by_read m.reader
+      by_rib other = λ rows p v none is. absurd (cc)
+
+      sent_prints : (j : ℕ) (c : OutChained) → exit_at j m.exits ≡ Some c → Prints (neighbours m.declared) attrs_value (tables.get c.sent)
+      sent_prints j c at p a is = let own = (printable.exits.each j c at).sent p a is in (own.prefix, own.printed)
+
+      if_live : (b : Bool) (of : Rows Value) → PrintsIfAny (neighbours m.declared) (Some of) → PrintsIfAny (neighbours m.declared) (cond b (Some of) None)
+      if_live true of own = own
+      if_live false of own = λ rows p v none is. absurd (cc)
+
+      by_exit : (l : Link) (o : Option OutChained) → exit_at (owner_of l) m.exits ≡ o → PrintsIfAny (neighbours m.declared) (exit_links_by m.exits.queue (best_at m.chains m.hops) o l)
+      by_exit l None at = λ rows p v none is. absurd (cc)
+      by_exit (links.Read k t) (Some c) at = if_live (k == c.peer.number && t == c.session) _ (live_prints (neighbours m.declared) route_value (read_rows m.exits.queue c.reader (best_at m.chains m.hops)) (by_reader c.reader))
+      by_exit (links.Outf k t) (Some c) at = if_live (k == c.peer.number && t == c.session) _ (live_prints (neighbours m.declared) attrs_value (outf_rows c (read_rows m.exits.queue c.reader (best_at m.chains m.hops)))
+          (subst (λ (rows : Rows Attrs). Prints (neighbours m.declared) attrs_value rows) (stands.own ExitsRead k c at).exact (sent_prints k c at)))
+      by_exit (links.Adv k t) (Some c) at = if_live (k == c.peer.number && t == c.session) _ (live_prints (neighbours m.declared) attrs_value (tables.get c.sent) (sent_prints k c at))
+      by_exit other (Some c) at = λ rows p v none is. absurd (cc)
+
       by_region : (r : Region) → PrintsIfAny (neighbours m.declared) (parts m r link)
       by_region Inward = by_chain (chain_at (owner_of link) m.chains) refl
       by_region Resolved = by_link link
       by_region Decided = by_best m.declared.speaker link
       by_region InteriorRoutes = by_speaker m.declared.speaker
       by_region Forward = by_speaker m.declared.speaker
+      by_region External = by_rib link
+      by_region Outward = by_exit link (exit_at (owner_of link) m.exits) refl
       by_region Elsewhere = λ rows p v none is. absurd (cc)
 
   asked : (link : Link) (p : Network) → IsNamed link → IsPrefix p → (of : Option (Rows Value)) → router_links m link ≡ of → Printed (answer_lines link p of)
@@ -212,12 +257,14 @@ module _ (m : Moment) (stands : Stands m) (printable : IsPrintableMoment m) wher
     start = fit_at 4294967294 few
 
     gone : (said : List Line) (m' : Moment) → Goes (neighbours m.declared) 4294967294 m said m' → Leaves (neighbours m.declared) m' said
-    gone said m' goes = let x = goes start in record { chains = λ k c there. (x.0.chains k c there).0.printable; interior = λ proto. (x.0.interior proto).printable; hops = x.0.metrics; printed = x.1 }
+    gone said m' goes = let x = goes start in record { chains = λ k c there. (x.0.chains k c there).0.printable; interior = λ proto. (x.0.interior proto).printable; hops = x.0.metrics; exits = x.0.exits; printed = x.1 }
 
     -- ---- losses of sessions
     lost : (k s : ℕ) (said : List Line) (m' : Moment) → IsNameNumber s → Loses k s m said m' → Leaves (neighbours m.declared) m' said
     lost k s said m' session l =
-        let x = first_goes (neighbours m.declared) 4294967294 (overdue_at k m.chains) m l.first l.room l.runs start in
+        let silent = end_is_printed (neighbours m.declared) k m.exits l.silenced l.entries printable.exits l.ends in
+        let profile : l.silenced.profile ≡ plain = ap (λ (e : Exited). e.profile) l.ends.after ∙ stands.own PlainExits in
+        let x = first_goes (neighbours m.declared) 4294967294 (overdue_at k m.chains) (with_exits m l.silenced) l.first l.room l.runs (with_fit_exits (neighbours m.declared) 4294967294 m l.silenced start profile silent.exits) in
         let i = l.loses in
         let c = i.part.loses.chain in
         let own = (x.0.chains k c i.part.loses.at).0 in
@@ -231,7 +278,8 @@ module _ (m : Moment) (stands : Stands m) (printable : IsPrintableMoment m) wher
           chains = subst (λ (n : Moment). (j : ℕ) (d : Chained) → chain_at j n.chains ≡ Some d → IsPrintableChain plain d) (sym (i.after ∙ ap (λ a. record l.room { chains = a }) i.part.loses.after)) chains;
           interior = subst (λ (n : Moment). (proto : Proto) → AreTablesOf IsInteriorRow (branch_of proto n.tree).tables) (sym i.after) (λ proto. (x.0.interior proto).printable);
           hops = subst (λ (n : Moment). AllHaveMetrics n.hops) (sym i.after) x.0.metrics;
-          printed = subst Printed (sym l.lines) (all_both (IsPrinted (neighbours m.declared)) l.first l.last x.1 begins);
+          exits = subst (λ (n : Moment). ArePrintableExits (neighbours m.declared) n.exits) (sym i.after) x.0.exits;
+          printed = subst Printed (sym l.lines) (all_both (IsPrinted (neighbours m.declared)) (journal_lines l.entries) (l.first ++ l.last) silent.lines (all_both (IsPrinted (neighbours m.declared)) l.first l.last x.1 begins));
         })
 
     -- ---- messages
@@ -264,7 +312,7 @@ module _ (m : Moment) (stands : Stands m) (printable : IsPrintableMoment m) wher
     heard k p octets messages.Notification said m' at up are says hears = lost k p.session said m' (session_named k p at up) hears
     heard k p octets (messages.Notify n) said m' at up are says hears =
         let l = lost k p.session hears.0 m' (session_named k p at up) hears.2 in
-        record { chains = l.chains; interior = l.interior; hops = l.hops; printed = subst Printed (sym hears.1) (note_printed (neighbours m.declared) k _ (named_by k p at) hears.3.each hears.3.few, l.printed) }
+        record { chains = l.chains; interior = l.interior; hops = l.hops; exits = l.exits; printed = subst Printed (sym hears.1) (note_printed (neighbours m.declared) k _ (named_by k p at) hears.3.each hears.3.few, l.printed) }
 
     -- ---- interior routes
     fed : (proto : Proto) (p : Network) (row : Option Interior) (said : List Line) (m' : Moment) → IsPrefix p → IfSome row (IsInteriorRow p) → FallsRoute m (fed_tree m.tree proto p row) proto p (way_of_route proto m.tree) said m'
@@ -290,6 +338,7 @@ module _ (m : Moment) (stands : Stands m) (printable : IsPrintableMoment m) wher
           chains = λ k c there. (x.0.chains k c there).0.printable;
           interior = put_all (λ (y : Branch). AreTablesOf IsInteriorRow y.tables) proto (lost_branch b) l.room.tree (lost_printable IsInteriorRow (b.losses + 1) b.tables named (x.0.interior proto).printable) (λ other. (x.0.interior other).printable);
           hops = x.0.metrics;
+          exits = x.0.exits;
           printed = subst Printed (sym l.lines) (all_both (IsPrinted (neighbours m.declared)) l.first _ x.1 begins);
         })
 
@@ -307,6 +356,7 @@ module _ (m : Moment) (stands : Stands m) (printable : IsPrintableMoment m) wher
       chains = put_each (λ j c. IsPrintableChain plain c) k _ m.chains (record { tables = none_printable _; in_force = All-nil (IsRule false); walk = tt }) printable.chains;
       interior = printable.interior;
       hops = metrics_put k (nothing_known k) m.hops _ refl (λ a h at. absurd (let none = get-empty {X = Hop Metric} nat_cmp a in cc)) printable.hops;
+      exits = printable.exits;
       printed = (begun (links.In k) named, (begun (links.Filt k) named, (begun (links.Res k) named, tt)));
     })
 
@@ -314,11 +364,39 @@ module _ (m : Moment) (stands : Stands m) (printable : IsPrintableMoment m) wher
     refiltered k rules said turns m' are is =
         let e = is.1.edits in
         let chains = put_each (λ j c. IsPrintableChain plain c) k _ m.chains (edited_printable plain e.chain rules (printable.chains k e.chain e.at) are) printable.chains in
-        just [] _ said turns m' is.2 (record { chains = subst (λ a. (j : ℕ) (c : Chained) → chain_at j a ≡ Some c → IsPrintableChain plain c) (sym e.after) chains; interior = printable.interior; hops = printable.hops; printed = tt })
+        just [] _ said turns m' is.2 (record { chains = subst (λ a. (j : ℕ) (c : Chained) → chain_at j a ≡ Some c → IsPrintableChain plain c) (sym e.after) chains; interior = printable.interior; hops = printable.hops; exits = printable.exits; printed = tt })
 
-    begun_if : (up : Bool) (k : ℕ) (said : List Line) (turns : ℕ) (m' : Moment) → BeginsIf up m k said turns m' → Leaves (neighbours m.declared) m' said
-    begun_if true k said turns m' is = just _ m said turns m' is (stays _ m refl (ignored, tt))
-    begun_if false k said turns m' is = just [] _ said turns m' is (record { chains = printable.chains; interior = printable.interior; hops = printable.hops; printed = tt })
+    -- ---- the exits
+    redirected : (k : ℕ) (rules : List Rule) (said : List Line) (turns : ℕ) (m' : Moment) → Redirects k rules m said turns m' → Leaves (neighbours m.declared) m' said
+    redirected k rules said turns m' is = just [] _ said turns m' is.2 (record {
+      chains = printable.chains;
+      interior = printable.interior;
+      hops = printable.hops;
+      exits = edit_is_printed (neighbours m.declared) k rules m.exits is.0 printable.exits is.1;
+      printed = tt;
+    })
+
+    begins : (me : Speaker) (k : ℕ) (p : DeclaredPeer) (said : List Line) (m' : Moment) → peer_at k m.declared.peers ≡ Some p → Begins me k p m said m' → Leaves (neighbours m.declared) m' said
+    begins me k p said m' at b =
+        let known = known_at k p at in
+        let most = known.session in
+        let named : IsNamed (links.Adv p.words.number (p.session + 1)) = (subst IsNameNumber (sym known.number) (named_by k p at), (omega arith, omega (arith, most))) in
+        let x = beginning_is_printed (neighbours m.declared) me p.words (p.session + 1) (rules_to k m.outgoing) m.exits m'.exits b.entries named printable.exits b.begins in
+        subst (λ (n : Moment). Leaves (neighbours m.declared) n said) (sym b.after) (record {
+          chains = printable.chains;
+          interior = printable.interior;
+          hops = printable.hops;
+          exits = x.exits;
+          printed = subst Printed (sym b.lines) x.lines;
+        })
+
+    begun_by : (s : Option Speaker) (k : ℕ) (p : DeclaredPeer) (said : List Line) (m' : Moment) → peer_at k m.declared.peers ≡ Some p → BySpeaker (λ me. Begins me k p m said m') s → Leaves (neighbours m.declared) m' said
+    begun_by None k p said m' at is = absurd is
+    begun_by (Some me) k p said m' at is = begins me k p said m' at is
+
+    begun_if : (up : Bool) (k : ℕ) (p : DeclaredPeer) (said : List Line) (turns : ℕ) (m' : Moment) → peer_at k m.declared.peers ≡ Some p → BeginsIf up m k p said turns m' → Leaves (neighbours m.declared) m' said
+    begun_if true k p said turns m' at is = just _ m said turns m' is (stays _ m refl (ignored, tt))
+    begun_if false k p said turns m' at is = begun_by m.declared.speaker k p said m' at is.1
 
     ended_if : (up : Bool) (k : ℕ) (p : DeclaredPeer) (said : List Line) (turns : ℕ) (m' : Moment) → p.up ≡ up → peer_at k m.declared.peers ≡ Some p → EndsIf up m k p said turns m' → Leaves (neighbours m.declared) m' said
     ended_if true k p said turns m' up at is = lost k p.session said m' (session_named k p at up) is.1
@@ -334,17 +412,22 @@ module _ (m : Moment) (stands : Stands m) (printable : IsPrintableMoment m) wher
 
     pub event_printed : (event : Event) (said : List Line) (turns : ℕ) (m' : Moment) → IsWellFormed event → IsBlock m event said turns m' → Leaves (neighbours m.declared) m' said
     event_printed Nothing said turns m' formed is = just [] m said turns m' is (stays [] m refl tt)
-    event_printed (Local words) said turns m' formed is = just _ _ said turns m' is (record {
-      chains = printable.chains;
-      interior = printable.interior;
-      hops = printable.hops;
-      printed = (begun (links.Org Connected) tt, (begun (links.Org Static) tt, (begun (links.Org Ospf) tt, (begun (links.Org Rip) tt, (begun links.Low tt, (begun links.Dyn tt, (begun links.Int tt, (begun links.Best tt, (begun links.Fib tt, tt)))))))));
-    })
+    event_printed (Local words) said turns m' formed is =
+        let l = is.1 in
+        let inherits = plain_printed (neighbours m.declared) (lines.Journal (entries.Inherit links.ReadRib links.Best)) refl refl (tt, tt) in
+        subst (λ (n : Moment). Leaves (neighbours m.declared) n said) (sym l.after) (record {
+          chains = printable.chains;
+          interior = printable.interior;
+          hops = printable.hops;
+          exits = join_is_printed (neighbours m.declared) l.reader m.exits printable.exits;
+          printed = subst Printed (sym l.lines) (begun (links.Org Connected) tt, (begun (links.Org Static) tt, (begun (links.Org Ospf) tt, (begun (links.Org Rip) tt, (begun links.Low tt, (begun links.Dyn tt, (begun links.Int tt, (begun links.Best tt, (inherits, (begun links.Fib tt, tt))))))))));
+        })
     event_printed (Peer k words) said turns m' formed is = declared m.declared.speaker k words said turns m' (formed.0.least, formed.0.fits) is
-    event_printed (Up k) said turns m' formed is = by_peer (λ p. BeginsIf p.up m k said turns m') k _ (λ p at begins. begun_if p.up k said turns m' begins) is
+    event_printed (Up k) said turns m' formed is = by_peer (λ p. BeginsIf p.up m k p said turns m') k _ (λ p at begins. begun_if p.up k p said turns m' at begins) is
     event_printed (Down k) said turns m' formed is = by_peer (λ p. EndsIf p.up m k p said turns m') k _ (λ p at ends. ended_if p.up k p said turns m' refl at ends) is
     event_printed (Bgp k octets) said turns m' formed is = by_peer (λ p. HearsIf p.up m k p octets said turns m') k _ (λ p at hears. heard_if p.up k p octets said turns m' refl at formed.1.bytes hears) is
     event_printed (FilterIn k rules) said turns m' formed is = refiltered k rules said turns m' formed.1 is
+    event_printed (FilterOut k rules) said turns m' formed is = redirected k rules said turns m' is
     event_printed (RouteAdd p row) said turns m' formed is =
         let prefix : IsPrefix p = (formed.0.masked, formed.0.fits) in
         let own = formed.1 in
@@ -360,6 +443,7 @@ module _ (m : Moment) (stands : Stands m) (printable : IsPrintableMoment m) wher
           chains = λ k c there. (x.0.chains k c there).0.printable;
           interior = λ proto. (x.0.interior proto).printable;
           hops = x.0.metrics;
+          exits = x.0.exits;
           printed = subst Printed (sym is.lines) (
             plain_printed (neighbours m.declared) _ refl refl fits,
             all_both (IsPrinted (neighbours m.declared)) is.inner (lines.Idle turns ∷ []) x.1 (plain_printed (neighbours m.declared) (lines.Idle turns) refl refl (omega (arith, within, fits)), tt),
@@ -373,6 +457,7 @@ module _ (m : Moment) (stands : Stands m) (printable : IsPrintableMoment m) wher
           chains = λ k c there. (x.0.chains k c there).0.printable;
           interior = λ proto. (x.0.interior proto).printable;
           hops = x.0.metrics;
+          exits = x.0.exits;
           printed = subst Printed (sym is.lines) (all_both (IsPrinted (neighbours m.declared)) is.inner (lines.Work turns ∷ []) x.1 (plain_printed (neighbours m.declared) (lines.Work turns) refl refl (omega (arith, most, low)), tt));
         }
     event_printed (Ask link p) said turns m' formed is = just _ m said turns m' is (stays _ m refl (asked link p formed.0.numbers (formed.1.masked, formed.1.fits) (router_links m link) refl))

@@ -1,5 +1,5 @@
 -- What falls and turns say can be printed, and so can what stands behind them.
-use Rattle.std.proofs.Common.{◌≡◌, ℕ, zero, suc, not, nat_eq, refl, ◌≤◌, List, [], ◌∷◌, ◌++◌, Option, Some, None, IfSome, sym, ap, subst, ◌∙◌, inr}
+use Rattle.std.proofs.Common.{◌≡◌, ◌≢◌, ℕ, zero, suc, not, nat_eq, refl, ◌≤◌, List, [], ◌∷◌, ◌++◌, Option, Some, None, IfSome, sym, ap, subst, ◌∙◌, inr}
 use Rattle.std.specs.List.{AllByRecursion}
 use Rattle.addr4.specs.Prefixes.{Network}
 use Rattle.bgp_attr.specs.declared.attrs.Attrs.{Attrs}
@@ -18,9 +18,10 @@ use Rattle.journal_text.specs.declared.value.Value.{Value}
 use Rattle.journal_text.specs.declared.line.Line.{Line}
 use Rattle.journal_text.specs.declared.line.Line.TheVariants as lines
 use Rattle.journal_text.specs.declared.link.Link.{Link}
-use Rattle.journal_text.specs.declared.link.Link.TheVariants.{In, Org, Fib, Res, Best}
+use Rattle.journal_text.specs.declared.link.Link.TheVariants.{In, Org, Fib, Res, Best, ReadRib}
 use Rattle.journal_text.specs.declared.link.Task.{Task}
-use Rattle.journal_text.specs.declared.link.Task.TheVariants.{Del, Fin, Nh, Rdel}
+use Rattle.journal_text.specs.declared.link.Task.TheVariants.{Del, Fin, Nh, Out, Rdel}
+use Rattle.journal_text.specs.declared.link.Task.TheVariants as tasks
 use Rattle.journal_check.specs.Laws.{IsPrefix, IsNumberIfAny}
 use Rattle.journal_laws.specs.Printed.{IsPrinted}
 use Rattle.journal_laws.specs.Standing.{AreTablesOf, IsInteriorRow, WasHeard, IsHeardRow}
@@ -41,9 +42,17 @@ use Rattle.nexthop_resolver.specs.Kept.{metric_of}
 use Rattle.nexthop_resolver.specs.Registered.{answer_of}
 use Rattle.link_region.proofs.RegionLemmas.{by_bool}
 use Rattle.loss_chain.proofs.TableLemmas.{equal_by}
-use Rattle.decision.specs.Branches.{best_rows}
+use Rattle.decision.specs.Branches.{best_rows, best_candidates}
 use Rattle.decision.proofs.LawLemmas.{best_is_a_branchs}
-use Rattle.router_core.specs.Bests.{best_at, resolved_at}
+use Rattle.peer_out.proofs.SentLemmas.{read_may_be_heard}
+use Rattle.link_change.proofs.RowLemmas.{with_row_here}
+use Rattle.exit_side.specs.Exits.{Exited, with_queue}
+use Rattle.exit_laws.specs.Printable.{AreBestRows, IsBestChange, ArePrintableExits}
+use Rattle.exit_laws.proofs.KeptLemmas.{put_is_printed}
+use Rattle.exit_laws.proofs.PrintLemmas.{turn_is_printed, take_is_printed}
+use Rattle.router_core.specs.Bests.{best_at, resolved_at, lent_candidates, Queues}
+use Rattle.router_core.specs.Stands.{RowsWereHeard}
+use Rattle.router_core.proofs.HeardRows.{IsHeardChain, heard_best, put_heard}
 use Rattle.hop_side.specs.Resolvers.{Resolvers, PeerRows, resolver_at, res_at, AllCounted}
 use Rattle.hop_side.specs.Steps.{GoesOn, res_entries}
 use Rattle.peer_side.specs.Peers.{Chains, chain_at, put_chain, filt_by, filt_at, peer_of}
@@ -56,10 +65,10 @@ use Rattle.rib_tree.specs.Falls.{way_of_sweep}
 use Rattle.rib_tree.specs.Trees.{Treed, branch_of, beside_tree, int_rows, AreNumbered}
 use Rattle.rib_tree.specs.Steps.{swept_tree, tree_weld_entries}
 use Rattle.router_core.specs.declared.router.Phase.{Phase}
-use Rattle.router_core.specs.Moments.{Moment, with_chains, with_hops}
+use Rattle.router_core.specs.Moments.{Moment, with_chains, with_hops, with_exits}
 use Rattle.router_core.specs.Blocks.{RunsFirst}
 use Rattle.live_state.specs.Messages.{plain}
-use Rattle.router_core.specs.Turns.{journal_lines, Resolves, Invalidates, FallsPeer, FeedsAll, fib_entries, FallsRoute, IsPeerTurn, IsHopTurn, IsRouteTurn, IsTurn, Turns, Runs, RunsPhase, RunsAll}
+use Rattle.router_core.specs.Turns.{journal_lines, Resolves, Invalidates, FallsPeer, FeedsAll, fib_entries, FallsRoute, IsPeerTurn, IsHopTurn, IsRouteTurn, IsOutTurn, IsReadTurn, IsTurn, Turns, Runs, RunsPhase, RunsAll}
 use Rattle.peer_side.proofs.WeldLemmas.{fallen_at, weld_lines, weld_after}
 use Rattle.router_core.proofs.RouteLemmas.{keeps_up}
 use Rattle.journal_laws.proofs.PrintedHops.{AllHaveMetrics, rows_print, present_fit, metrics_kept, metrics_turned, metrics_reached, metrics_put}
@@ -80,6 +89,8 @@ module _ (peers : ℕ → Option Neighbour) (most : ℕ) where
     pub counted : AllCounted (filt_at m.chains) m.hops
     pub registered : tables.get m.registry.rows ≡ int_rows m.tree
     pub metrics : AllHaveMetrics m.hops
+    pub profile : m.exits.profile ≡ plain
+    pub exits : ArePrintableExits peers m.exits
 
   -- from one moment to another, this is said
   abbrev pub Goes : Moment → List Line → Moment → Type 0
@@ -127,6 +138,41 @@ module _ (peers : ℕ → Option Neighbour) (most : ℕ) where
   best_prints : (rows : ℕ → Rows Route) → ((k : ℕ) → Prints peers route_value (rows k)) → Prints peers route_value (best_rows rows)
   best_prints rows each p row is = let b = best_is_a_branchs rows p row is in each b.0 p row b.2
 
+  -- the rows of a chain were heard of its peer
+  chain_heard : (c : Chained) → IsFit peers plain c → IsHeardChain c
+  chain_heard c own p row is = let heard = (own.printable.tables.rows p row is).1 in read_may_be_heard plain (not c.peer.internal) heard.0 heard.1 row heard.2 heard.3 heard.4
+
+  rows_heard : (m : Moment) → Fit m → RowsWereHeard m.chains
+  rows_heard m fit k c at = chain_heard c (fit.chains k c at).0
+
+  -- the rows of `best`, which can be said to peers, and printed
+  best_rows_are : (a : Chains) (h : Resolvers) → RowsWereHeard a → AllHaveMetrics h → ((k : ℕ) → Prints peers route_value (filt_at a k)) → AreBestRows peers (best_at a h)
+  best_rows_are a h heard metrics above p row is =
+      let printed = best_prints (resolved_at a h) (resolved_prints a h metrics above) p row is in
+      record { prefix = printed.0; heard = heard_best a h heard p row is; printed = printed.1 }
+
+  pub best_fit : (m : Moment) → Fit m → AreBestRows peers (best_at m.chains m.hops)
+  best_fit m fit = best_rows_are m.chains m.hops (rows_heard m fit) fit.metrics (filt_fit m fit)
+
+  prefix_of_one : (p : Network) (before after : Option Route) → after ≢ before → ((r : Route) → before ≡ Some r → IsPrefix p) → ((r : Route) → after ≡ Some r → IsPrefix p) → IsPrefix p
+  prefix_of_one p None None differs was is = absurd (differs refl)
+  prefix_of_one p (Some r) after differs was is = was r refl
+  prefix_of_one p None (Some r) differs was is = is r refl
+
+  -- a change from such rows to such
+  best_change : (old new : Rows Route) (p : Network) (change : Change Route) → AreBestRows peers old → AreBestRows peers new → IsSent old new p (Some change) → IsBestChange peers change
+  best_change old new p change before after is =
+      let was = λ (r : Route) (r_is : change.before ≡ Some r). before change.prefix r (is.1.0 ∙ r_is) in
+      let then = λ (r : Route) (r_is : change.after ≡ Some r). after change.prefix r (ap (λ (rows : Rows Route). rows change.prefix) is.2 ∙ with_row_here old change.prefix change.after ∙ r_is) in
+      record { prefix = prefix_of_one change.prefix change.before change.after is.1.1 (λ r r_is. (was r r_is).prefix) (λ r r_is. (then r r_is).prefix); before = was; after = then }
+
+  -- such a change joins the queue, if one came
+  queued_fit : (old new : Rows Route) (p : Network) (best : Option (Change Route)) (e e' : Exited) → AreBestRows peers old → AreBestRows peers new → IsSent old new p best → Queues best e e'
+      → e.profile ≡ plain → ArePrintableExits peers e → (e'.profile ≡ plain) × ArePrintableExits peers e'
+  queued_fit old new p None e e' before after is queues profile exits = (ap (λ (x : Exited). x.profile) queues ∙ profile, subst (ArePrintableExits peers) (sym queues) exits)
+  queued_fit old new p (Some change) e e' before after is queues profile exits =
+      (ap (λ (x : Exited). x.profile) queues.after ∙ profile, put_is_printed peers change e e' (best_change old new p change before after is) exits queues)
+
   -- a fall in a chain, what follows it, and the weld behind it
   chain_goes : (k : ℕ) (sent : Option (Change Route)) (P : Chains → List (Entry Value) → Type 0) (m : Moment) (less : Chained) (said : List Line) (m' : Moment) (p : Network) → IsFit peers plain less → less.peer.number ≡ k → less.incoming.number ≡ k → (f : FallsPeer k sent P m said m')
       → f.fallen ≡ put_chain k less m.chains → Changes k p sent m.chains f.fallen → ArePrintedEntries peers f.entries → Goes m said m'
@@ -169,7 +215,12 @@ module _ (peers : ℕ → Option Neighbour) (most : ℕ) where
       resolves = subst (ArePrintedEntries peers) (sym f.below.lines)
           (res_printed k less.incoming.number p f.passed m.hops m'.hops (filt_at m.chains) (filt_at f.fallen) placed own.named fit.metrics metrics (filt_fit m fit k) fallen_prints goes.comes.here)
 
-      after : Fit (with_hops (with_chains m m'.chains) m'.registry m'.hops)
+      queued : (m'.exits.profile ≡ plain) × ArePrintableExits peers m'.exits
+      queued = queued_fit (best_at m.chains m.hops) (best_at f.fallen m'.hops) p f.decided.best m.exits m'.exits (best_fit m fit)
+          (best_rows_are f.fallen m'.hops (put_heard k less m.chains f.fallen put (chain_heard less own) (rows_heard m fit)) metrics all_fallen_print)
+          (f.decided.decides (resolved_at m.chains m.hops) p goes.comes) f.queued fit.profile fit.exits
+
+      after : Fit (with_exits (with_hops (with_chains m m'.chains) m'.registry m'.hops) m'.exits)
       after = record {
         chains = subst (λ (a : Chains). (j : ℕ) (c : Chained) → chain_at j a ≡ Some c → IsFit peers plain c × (c.peer.number ≡ j)) (sym then) (put_each (λ j c. IsFit peers plain c × (c.peer.number ≡ j)) k (welded less) m.chains (welded_own, number) fit.chains);
         interior = fit.interior;
@@ -178,6 +229,8 @@ module _ (peers : ℕ → Option Neighbour) (most : ℕ) where
         counted = subst (λ (u : PeerRows). AllCounted u m'.hops) (λ i j. sym (f.welds.quiet j) i) goes.counted;
         registered = ap tables.get f.below.agreed.others.rows ∙ fit.registered;
         metrics = metrics;
+        profile = queued.0;
+        exits = queued.1;
       }
 
   -- one prefix that a peer said something of
@@ -209,6 +262,8 @@ module _ (peers : ℕ → Option Neighbour) (most : ℕ) where
   turned_peer (Del k s) c less sent fall t = ap (λ (x : Chained). x.peer.number) t.1.after
   turned_peer (Fin k) c less sent fall t = ap (λ (x : Chained). x.peer.number) t.1.after
   turned_peer (Nh k) c less sent fall t = absurd t
+  turned_peer tasks.ReadRib c less sent fall t = absurd t
+  turned_peer (Out k) c less sent fall t = absurd t
   turned_peer (Rdel proto n) c less sent fall t = absurd t
 
   peer_turn_goes : (task : Task) (m : Moment) (said : List Line) (m' : Moment) → IsPeerTurn task m said m' → Goes m said m'
@@ -229,6 +284,8 @@ module _ (peers : ℕ → Option Neighbour) (most : ℕ) where
       let metrics : AllHaveMetrics m'.hops = metrics_put k u.taken m.hops m'.hops u.after (metrics_turned _ _ m.registry m'.registry u.resolver u.taken t.sent (answered m fit) u.turned (fit.metrics k u.resolver u.at)) fit.metrics in
       let decides : ArePrintedEntries peers t.best = subst (ArePrintedEntries peers) (sym t.decided.lines) (sent_printed peers route_value Best (best_at m.chains m.hops) (best_at m.chains m'.hops) goes.0 t.decided.best tt (best_prints (resolved_at m.chains m.hops) (resolved_prints m.chains m.hops fit.metrics (filt_fit m fit)))
       (best_prints (resolved_at m.chains m'.hops) (resolved_prints m.chains m'.hops metrics (filt_fit m fit))) (t.decided.decides (resolved_at m.chains m.hops) goes.0 goes.1.comes)) in
+      let queued = queued_fit (best_at m.chains m.hops) (best_at m.chains m'.hops) goes.0 t.decided.best m.exits m'.exits (best_fit m fit) (best_rows_are m.chains m'.hops (rows_heard m fit) metrics (filt_fit m fit))
+          (t.decided.decides (resolved_at m.chains m.hops) goes.0 goes.1.comes) t.queued fit.profile fit.exits in
       let printed = subst (ArePrintedEntries peers) (sym u.lines) (res_printed k k goes.0 t.sent m.hops m'.hops (filt_at m.chains) (filt_at m.chains) refl (named_by own.0 (fit.placed k t.chain t.at)) fit.metrics metrics (filt_fit m fit k) (filt_fit m fit k) goes.1.comes.here) in (
         subst Fit (sym t.after) (record {
           chains = fit.chains;
@@ -238,6 +295,8 @@ module _ (peers : ℕ → Option Neighbour) (most : ℕ) where
           counted = goes.1.counted;
           registered = ap tables.get t.turn.agreed.others.rows ∙ fit.registered;
           metrics = metrics;
+          profile = queued.0;
+          exits = queued.1;
         }),
         lines_printed said (t.entries ++ t.best) t.lines (all_both (λ (e : Entry Value). IsPrinted peers (lines.Journal e)) t.entries t.best printed decides),
       )
@@ -273,6 +332,8 @@ module _ (peers : ℕ → Option Neighbour) (most : ℕ) where
           counted = invalidated_counted f.sent m.registry m'.registry m.hops m'.hops (filt_at m.chains) f.below_int fit.counted;
           registered = keeps_up m.registry m'.registry m.hops m'.hops (int_rows m.tree) (int_rows new) p f.sent f.below_int fit.registered f.rows ∙ sym f.int;
           metrics = invalidated_metrics f.sent m.registry m'.registry m.hops m'.hops f.below_int fit.metrics;
+          profile = fit.profile;
+          exits = fit.exits;
         }),
         lines_printed said (f.entries ++ (fib_entries f.below ++ tree_weld_entries proto new)) f.lines (all_both Is f.entries _ fall (all_both Is (fib_entries f.below) _ fib weld)),
       )
@@ -287,11 +348,38 @@ module _ (peers : ℕ → Option Neighbour) (most : ℕ) where
       (put_all (λ (x : Branch). AreFit IsInteriorRow x.tables) proto (swept_branch n t.prefix b) m.tree (swept_fit IsInteriorRow n t.prefix b.tables own) fit.interior)
       (put_all (λ (x : Branch). x.losses ≤ most) proto (swept_branch n t.prefix b) m.tree (fit.few proto) fit.few) shown.prefix once t.falls fit
 
+  -- ---- the exits
+  -- the moment with other exits
+  pub with_fit_exits : (m : Moment) (e : Exited) → Fit m → e.profile ≡ plain → ArePrintableExits peers e → Fit (with_exits m e)
+  with_fit_exits m e fit profile exits = record {
+    chains = fit.chains;
+    interior = fit.interior;
+    few = fit.few;
+    placed = fit.placed;
+    counted = fit.counted;
+    registered = fit.registered;
+    metrics = fit.metrics;
+    profile = profile;
+    exits = exits;
+  }
+
+  out_turn_goes : (k : ℕ) (m : Moment) (said : List Line) (m' : Moment) → IsOutTurn k m said m' → Goes m said m'
+  out_turn_goes k m said m' t fit =
+      let x = turn_is_printed peers k (best_candidates (lent_candidates m.chains)) (best_at m.chains m.hops) t.sent m.exits m'.exits said fit.profile (best_fit m fit) fit.exits t.turn in
+      (subst Fit (sym t.after) (with_fit_exits m m'.exits fit (ap (λ (e : Exited). e.profile) t.turn.after ∙ fit.profile) x.exits), x.lines)
+
+  read_turn_goes : (m : Moment) (said : List Line) (m' : Moment) → IsReadTurn m said m' → Goes m said m'
+  read_turn_goes m said m' t fit =
+      let x = take_is_printed peers ReadRib t.reader t.change m.exits m'.exits.queue tt fit.exits t.takes in
+      (subst Fit (sym t.after) (with_fit_exits m (with_queue m'.exits.queue m.exits) fit fit.profile x.exits), subst (λ (l : List Line). AllByRecursion (IsPrinted peers) l) (sym t.lines) x.lines)
+
   -- ---- turns, and many of them
   pub turn_goes : (task : Task) (m : Moment) (said : List Line) (m' : Moment) → IsTurn task m said m' → Goes m said m'
   turn_goes (Del k s) m said m' t = peer_turn_goes (Del k s) m said m' t
   turn_goes (Fin k) m said m' t = peer_turn_goes (Fin k) m said m' t
   turn_goes (Nh k) m said m' t = hop_turn_goes k m said m' t
+  turn_goes tasks.ReadRib m said m' t = read_turn_goes m said m' t
+  turn_goes (Out k) m said m' t = out_turn_goes k m said m' t
   turn_goes (Rdel proto n) m said m' t = route_turn_goes proto n m said m' t
 
   pub turns_go : (n : ℕ) (task : Task) (m : Moment) (said : List Line) (m' : Moment) → Turns n task m said m' → Goes m said m'

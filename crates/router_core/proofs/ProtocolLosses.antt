@@ -21,6 +21,11 @@ use Rattle.router_core.specs.Lives.{live_state}
 use Rattle.router_core.specs.Stands.{Stands, InteriorTree}
 use Rattle.router_core.specs.Turns.{journal_lines}
 use Rattle.router_core.specs.Works.{Pushes, EndsProtocol, HasProtocolRoom, HasStepped}
+use Rattle.exit_laws.proofs.OtherLemmas.{others_are_unheard}
+use Rattle.link_region.specs.declared.regions.Region.TheVariants.{InteriorRoutes}
+use Rattle.rib_tree.specs.Forwards.{rib_links}
+use Rattle.rib_tree.proofs.RegionLemmas.{tree_leads}
+use Rattle.router_core.proofs.HeardSteps.{heard_quiet}
 use Rattle.router_core.proofs.HopLemmas.{hops_of}
 use Rattle.router_core.proofs.RibLinks.{leads_above}
 use Rattle.loss_chain.proofs.TableLemmas.{few_lost}
@@ -42,7 +47,8 @@ protocol_ended proto m t before now stands free since is lines leads int tree fu
     keeps = record {
       leads = subst (λ (es : List (Entry Value)). Leads (router_links m) es (router_links (with_tree m t))) (sym (entries_of_entries entries)) (leads_above m me.0 me.1 t entries leads int);
       live = ap (λ (x : Treed). live_state (with_tree m x)) is ∙ live_lost m proto (lost_branch b);
-      stands = stands_replanted m me.0 t m.registry m.hops stands me.1 tree full few (registered_rows m stands ∙ sym int) (hops_of m stands);
+      stands = stands_replanted m me.0 t m.registry m.hops stands me.1 tree full few (registered_rows m stands ∙ sym int) (hops_of m stands) refl;
+      heard = heard_quiet m (with_tree m t) (journal_lines entries) (others_are_unheard InteriorRoutes (rib_links m.tree) (rib_links t) entries refl (tree_leads m.tree t entries leads)) refl;
     };
   },
 )

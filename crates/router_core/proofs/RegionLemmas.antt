@@ -12,9 +12,10 @@ use Rattle.router_core.specs.Bests.{best_links}
 use Rattle.peer_side.specs.Peers.{Chains, peer_links, filt_at}
 use Rattle.rib_tree.specs.Trees.{Treed}
 use Rattle.link_region.specs.declared.regions.Region.{Region}
-use Rattle.link_region.specs.declared.regions.Region.TheVariants.{Inward, Resolved, Decided, InteriorRoutes, Forward}
+use Rattle.link_region.specs.declared.regions.Region.TheVariants.{Inward, Resolved, Decided, InteriorRoutes, Forward, External, Outward}
 use Rattle.link_region.specs.Regions.{Sides, region_of, joined, with_side, LeadsIn}
-use Rattle.router_core.specs.Moments.{Moment, with_chains, with_tree, rib_by, parts, router_links}
+use Rattle.exit_side.specs.Exits.{exit_links}
+use Rattle.router_core.specs.Moments.{Moment, with_chains, with_tree, rib_by, read_links, parts, router_links}
 use Rattle.router_core.specs.Turns.{journal_lines}
 
 -- a link, by its region
@@ -30,6 +31,8 @@ inward_set m cs quiet i r = each r i
     each Inward = refl
     each Resolved = ap (hop_links m.hops) (λ i j. sym (quiet j) i)
     each Decided = ap (λ (u : PeerRows). best_links m.declared.speaker (best_rows (res_at m.hops u))) (λ i j. sym (quiet j) i)
+    each External = ap (λ (u : PeerRows). read_links m.exits.queue m.reader (best_rows (res_at m.hops u))) (λ i j. sym (quiet j) i)
+    each Outward = ap (λ (u : PeerRows). exit_links m.exits (best_rows (res_at m.hops u))) (λ i j. sym (quiet j) i)
     each other = refl
 
 -- `fib` follows `int`: between the two it is the old one

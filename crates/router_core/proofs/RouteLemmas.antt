@@ -24,11 +24,24 @@ use Rattle.register_interest.specs.declared.interests.Interest.{Interest}
 use Rattle.register_interest.specs.Registers.{Registry, put_row}
 use Rattle.decision.specs.Branches.{best_rows}
 use Rattle.hop_side.specs.Resolvers.{Resolvers, PeerRows, res_at, hop_links}
-use Rattle.router_core.specs.Bests.{best_links}
+use Rattle.std.proofs.Common.{option_map}
+use Rattle.bgp_attr.specs.declared.route.Route.{Route}
+use Rattle.journal_text.specs.declared.link.Link.TheVariants.{Fib}
+use Rattle.journal_text.specs.Values.{fib_value}
+use Rattle.fanout_queue.specs.Queues.{AllLead}
+use Rattle.exit_side.specs.Exits.{exit_links, AllStand}
+use Rattle.exit_laws.specs.Views.{AreUnheard}
+use Rattle.exit_laws.proofs.HearLemmas.{changes_are_unheard, unheard_joins}
+use Rattle.exit_laws.proofs.OtherLemmas.{others_are_unheard}
+use Rattle.rib_tree.specs.Forwards.{rib_links}
+use Rattle.rib_tree.proofs.RegionLemmas.{tree_leads}
+use Rattle.router_core.specs.Printable.{IsHeard}
+use Rattle.router_core.proofs.HeardSteps.{heard_quiet, same_views}
+use Rattle.router_core.specs.Bests.{best_at, best_links}
 use Rattle.hop_side.specs.Steps.{ReachesBelow}
 use Rattle.peer_side.specs.Peers.{filt_at}
 use Rattle.link_region.specs.declared.regions.Region.{Region}
-use Rattle.link_region.specs.declared.regions.Region.TheVariants.{Resolved, Decided}
+use Rattle.link_region.specs.declared.regions.Region.TheVariants.{Resolved, Decided, InteriorRoutes, External, Outward}
 use Rattle.link_region.specs.Regions.{joined}
 use Rattle.rib_tree.specs.Branches.{Branch}
 use Rattle.rib_tree.specs.BranchSteps.{welded_branch, fed_branch}
@@ -37,10 +50,10 @@ use Rattle.rib_tree.specs.Trees.{Treed, branch_of, put_branch, int_rows, IsTree,
 use Rattle.rib_tree.specs.Falls.{FallsTree, LeadsTree, way_of_route}
 use Rattle.rib_merge.specs.Forwards.{forwarded}
 use Rattle.rib_tree.specs.Steps.{welded_tree, fed_tree, tree_weld_entries}
-use Rattle.router_core.specs.Moments.{with_hops, with_tree, Moment, parts, router_links}
+use Rattle.router_core.specs.Moments.{with_hops, with_tree, Moment, parts, read_links, router_links}
 use Rattle.live_state.specs.Lives.{with_interior, with_losses, interior_fed}
 use Rattle.router_core.specs.Lives.{live_state}
-use Rattle.router_core.specs.Stands.{Stands, Claim, Claims, InteriorTree, EachResolver, SameResolvers, AnswersAgree, HopsCounted, NoStrangers, Tie, Ties, Registered, here}
+use Rattle.router_core.specs.Stands.{Stands, Claim, Claims, InteriorTree, EachResolver, SameResolvers, AnswersAgree, HopsCounted, NoStrangers, QueueLeads, ExitsRead, Tie, Ties, Registered, here}
 use Rattle.router_core.specs.Turns.{journal_lines, fib_entries, FallsRoute, Registers, Invalidates}
 use Rattle.router_core.specs.Works.{Forwards, Follows, Settles, PushesForwarded, HasRouted, Pushes}
 use Rattle.loss_chain.proofs.TableLemmas.{few_filter}
@@ -101,8 +114,8 @@ settled proto sent m m1 t before j now follows is lines leads int tree full = re
 
 -- ---- what stands where the tree became another
 pub stands_replanted : (m : Moment) (me : Speaker) (t : Treed) (r : Registry Interior) (h : Resolvers) → Stands m → m.declared.speaker ≡ Some me → IsTree t → IsFull t → ((proto : Proto) → length (branch_of proto t).tables.deletions ≤ 16)
-    → tables.get r.rows ≡ int_rows t → HopsStand m.chains r h → Stands (with_hops (with_tree m t) r h)
-stands_replanted m me t r h stands since tree full few registered hops = record { own = own; at = at }
+    → tables.get r.rows ≡ int_rows t → HopsStand m.chains r h → best_at m.chains h ≡ best_at m.chains m.hops → Stands (with_hops (with_tree m t) r h)
+stands_replanted m me t r h stands since tree full few registered hops same = record { own = own; at = at }
   where
     own : (claim : Claim) → Claims (with_hops (with_tree m t) r h) claim
     own InteriorTree = record { tree = tree; full = full; few = few; waiting = λ none. absurd (let contra : Some me ≡ None = sym since ∙ none in cc) }
@@ -111,6 +124,8 @@ stands_replanted m me t r h stands since tree full few registered hops = record 
     own AnswersAgree = hops.agree
     own HopsCounted = hops.counted
     own NoStrangers = hops.strangers
+    own QueueLeads = subst (λ (rows : Rows Route). AllLead m.exits.queue rows) (sym same) (stands.own QueueLeads)
+    own ExitsRead = subst (λ (rows : Rows Route). AllStand rows m.exits) (sym same) (stands.own ExitsRead)
     own other = stands.own other
 
     at : (p : Network) (tie : Tie) → Ties (here (with_hops (with_tree m t) r h) p) tie
@@ -136,6 +151,10 @@ live_lost m proto b i = record (live_state m) {
   losses = λ other. put_seen (λ (x : Branch). x.losses) proto other b m.tree i;
 }
 
+fib_unheard : (below : Option (Change FibRow)) → AreUnheard (journal_lines (fib_entries below))
+fib_unheard None = tt
+fib_unheard (Some c) = changes_are_unheard Fib c.prefix (option_map fib_value c.before) (option_map fib_value c.after)
+
 -- ---- a change, what follows it, and the weld
 -- What was made of the branch of a protocol, and what stands after all of it.
 pub record Routes (m : Moment) (proto : Proto) (b : Branch) (p : Network) (way : List Link) (m' : Moment) (said : List Line) : Type 0 where
@@ -143,6 +162,7 @@ pub record Routes (m : Moment) (proto : Proto) (b : Branch) (p : Network) (way :
   pub is : m' ≡ with_hops (with_tree m (put_branch proto (welded_branch b) m.tree)) m'.registry m'.hops
   pub leads : Leads (router_links m) (entries_of said) (router_links m')
   pub stands : Stands m'
+  pub heard : IsHeard m said m'
 
 pub routes_on : (m : Moment) (me : Speaker) (proto : Proto) (b : Branch) (p : Network) (way : List Link) (sent : Option (Change Interior)) (t : Treed) (m' : Moment) (before j now : Journaled) → Stands m → m.declared.speaker ≡ Some me
     → t ≡ put_branch proto b m.tree → length b.tables.deletions ≤ 16 → IsSent (int_rows m.tree) (int_rows t) p sent → Adds (FallsTree m.tree t p way sent) before j → Settles proto sent (with_tree m t) m' j now
@@ -155,6 +175,10 @@ routes_on m me proto b p way sent t m' before j now stands since at few rows add
     is = is ∙ ap (λ (x : Treed). with_hops (with_tree m x) m'.registry m'.hops) (ap (welded_tree proto) at ∙ welded_put proto b m.tree);
     leads = subst (λ (es : List (Entry Value)). Leads (router_links m) es (router_links m')) (sym (entries_of_entries all)) leads;
     stands = subst Stands (sym is) stands_then;
+    heard = heard_quiet m m' (journal_lines all)
+        (unheard_joins entries after (others_are_unheard InteriorRoutes (rib_links m.tree) (rib_links t) entries refl (tree_leads m.tree t entries adds.2.leads))
+        (unheard_joins fib (tree_weld_entries proto t) (fib_unheard settles.below) (others_are_unheard InteriorRoutes (rib_links t) (rib_links (welded_tree proto t)) (tree_weld_entries proto t) refl (tree_leads t (welded_tree proto t) (tree_weld_entries proto t) settles.leads))))
+        (same_views m.exits m'.exits (ap (λ (x : Moment). x.exits.chains) is));
   },
 )
   where
@@ -202,6 +226,8 @@ routes_on m me proto b p way sent t m' before j now stands since at few rows add
         each : (s : Region) → parts (with_tree m (welded_tree proto t)) s ≡ parts (with_hops (with_tree m (welded_tree proto t)) m'.registry m'.hops) s
         each Resolved = sym hops.1
         each Decided = ap (λ (u : PeerRows). best_links m.declared.speaker (best_rows u)) (sym hops.2)
+        each External = ap (λ (u : PeerRows). read_links m.exits.queue m.reader (best_rows u)) (sym hops.2)
+        each Outward = ap (λ (u : PeerRows). exit_links m.exits (best_rows u)) (sym hops.2)
         each other = refl
 
     second : Leads (router_links (with_tree m t)) (tree_weld_entries proto t) (router_links (with_hops (with_tree m (welded_tree proto t)) m'.registry m'.hops))
@@ -221,7 +247,7 @@ routes_on m me proto b p way sent t m' before j now stands since at few rows add
     registered = keeps_up m.registry m'.registry m.hops m'.hops (int_rows m.tree) (int_rows t) p sent settles.below_int (registered_rows m stands) rows ∙ sym settles.int
 
     stands_then : Stands (with_hops (with_tree m (welded_tree proto t)) m'.registry m'.hops)
-    stands_then = stands_replanted m me (welded_tree proto t) m'.registry m'.hops stands since settles.tree settles.full few_then registered hops.0
+    stands_then = stands_replanted m me (welded_tree proto t) m'.registry m'.hops stands since settles.tree settles.full few_then registered hops.0 (ap best_rows hops.2)
 
 -- ---- a route that is set, or goes
 pub routed : (m : Moment) (proto : Proto) (p : Network) (new : Option Interior) (sent : Option (Change Interior)) (t : Treed) (m' : Moment) (before j now : Journaled) → Stands m → IsSome m.declared.speaker
@@ -232,7 +258,7 @@ routed m proto p new sent t m' before j now stands since at rows adds settles = 
   r.1,
   record {
     falls = r.2.falls;
-    keeps = record { leads = r.2.leads; live = ap live_state r.2.is ∙ live_replanted m proto (welded_branch b) refl; stands = r.2.stands };
+    keeps = record { leads = r.2.leads; live = ap live_state r.2.is ∙ live_replanted m proto (welded_branch b) refl; stands = r.2.stands; heard = r.2.heard };
   },
 )
   where

@@ -44,4 +44,4 @@ pub nothing_dropped : (proto : Proto) (p : Network) (m : Moment) (before j now :
     → Gives (HasStepped m (RouteDel proto p) 0 m) before now
 nothing_dropped proto p m before j now stands has pushed is = steps_pushed m (RouteDel proto p) (lines.Ignored ∷ []) before j now stands
     (subst (λ (b : Bool). DropsRouteIf b proto p m (lines.Ignored ∷ []) 0 m) (sym has) (refl, refl, refl))
-    (live_as_it_was (live_state m) proto (tables.remove (branch_of proto m.tree).tables.live p) (remove_absent (branch_of proto m.tree).tables.live p (no_table (tables.get (branch_of proto m.tree).tables.live p) has))) refl pushed is
+    (live_as_it_was (live_state m) proto (tables.remove (branch_of proto m.tree).tables.live p) (remove_absent (branch_of proto m.tree).tables.live p (no_table (tables.get (branch_of proto m.tree).tables.live p) has))) (refl, (refl, tt)) pushed is

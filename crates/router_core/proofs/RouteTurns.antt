@@ -28,10 +28,8 @@ use Rattle.router_core.specs.Stands.{Stands, InteriorTree}
 use Rattle.router_core.specs.Works.{Settles, Turned, IsUnit, Comes, Pushes}
 use Rattle.loss_chain.proofs.TableLemmas.{few_map}
 use Rattle.router_core.proofs.RouteLemmas.{Routes, routes_on, live_stays}
-use Rattle.std.specs.FinMap as tables
-use Rattle.peer_side.specs.Peers.{Chains, rows_in}
-use Rattle.router_core.specs.Phases.{most_of}
-use Rattle.router_core.proofs.MostLemmas.{capped}
+use Rattle.router_core.specs.declared.router.Phase.TheVariants.{Rdel as RdelPhase}
+use Rattle.router_core.proofs.SpendLemmas.{Spent}
 use Rattle.router_core.proofs.CountLemmas.{tree_spends}
 use Rattle.rib_tree.proofs.NewLemmas.{of_new}
 
@@ -54,9 +52,10 @@ route_unit take keep m proto n sent t m' before j j' stands adds settles = (
   record {
     turn = record { prefix = sweeps.prefix; row = sweeps.row; table = sweeps.table; stands = sweeps.stands; least = sweeps.least; falls = r.2.falls };
     work = record {
-      keeps = record { leads = r.2.leads; live = lives; stands = r.2.stands };
-      spends = λ f within. tree_spends f m m' chains lives fewer (let most = capped m' r.2.stands in let same = most_same in omega (arith, most, same, within));
-      within = (let same = most_same in omega (arith, same));
+      keeps = record { leads = r.2.leads; live = lives; stands = r.2.stands; heard = r.2.heard };
+      falls = spent.0;
+      left = spent.1;
+      earlier = spent.2;
     };
   },
 )
@@ -88,15 +87,15 @@ route_unit take keep m proto n sent t m' before j j' stands adds settles = (
     chains : m'.chains ≡ m.chains
     chains = ap (λ (x : Moment). x.chains) r.2.falls.after
 
-    most_same : most_of m' ≡ most_of m
-    most_same = ap (λ (a : Chains). 3 * rows_in a + 2 * tables.len a) chains
-
     fewer : tree_count m'.tree + 1 ≡ tree_count m.tree
     fewer =
         let one = take m.tree proto n p sweeps.table sweeps.row (stands.own InteriorTree).tree sweeps.stands sweeps.least.0 in
         let same : tree_count m'.tree ≡ tree_count (swept_tree proto n p m.tree) =
         ap (λ (x : Moment). tree_count x.tree) settles.after ∙ keep t proto ∙ ap tree_count sweeps.after in
         omega (arith, one, same)
+
+    spent : Spent RdelPhase m m'
+    spent = tree_spends m m' chains (ap (λ (x : Moment). x.exits) r.2.falls.after) lives fewer
 
 pub route_comes : TurnsTakeRows → WeldsKeepRows → (m : Moment) (proto : Proto) (n : ℕ) (sent : Option (Change Interior)) (t : Treed) (m' : Moment) (before j now : Journaled) (done : Done) → Stands m → Adds (SweepsTree m.tree t proto n sent) before j
     → Turned proto sent (with_tree m t) m' j now done → Comes (Rdel proto n) m m' before now done

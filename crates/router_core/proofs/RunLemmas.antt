@@ -6,34 +6,45 @@ use Rattle.journal_text.specs.declared.link.Task.{Task}
 use Rattle.journal_text.specs.declared.line.Line.{Line}
 use Rattle.journal_text.specs.Journals.{Journaled, flushed}
 use Rattle.loss_chain.proofs.ListLemmas.{all_appended}
+use Rattle.std.specs.FinMap as tables
 use Rattle.in_chain.specs.Laws.{TurnsAreBounded, TurnsAreLeft}
+use Rattle.in_chain.proofs.TurnLemmas.{turns_are_bounded as bounded_turns}
 use Rattle.rib_tree.specs.Trees.{tree_count}
 use Rattle.router_core.specs.declared.router.Phase.{Phase}
-use Rattle.router_core.specs.declared.router.Phase.TheVariants.{Rdel, Del, Fin, Nh}
+use Rattle.router_core.specs.declared.router.Phase.TheVariants.{Rdel, Del, Fin, Nh, ReadRib, Out}
 use Rattle.hop_side.specs.Resolvers.{known_in}
 use Rattle.peer_side.specs.Peers.{rows_in}
-use Rattle.router_core.specs.Moments.{Moment, bound_of, Gives}
+use Rattle.router_core.specs.Moments.{Moment, most_unread, bound_of, Gives}
 use Rattle.router_core.specs.Lives.{live_state}
 use Rattle.router_core.specs.Stands.{Stands, SameCount}
-use Rattle.router_core.specs.Phases.{Frame, Each, UpTo, all_phases, counts, frame_of, most_of, rise, risen, bounds, Spends}
+use Rattle.router_core.specs.Phases.{all_phases, beyonds, counts, earlier, left_from, most_of, fin_sends, nh_sends}
 use Rattle.router_core.specs.Turns.{IsTurn, Turns, RunsPhase, RunsAll, phase_of, next_task, has_work, IsSettled}
 use Rattle.router_core.specs.Works.{Keeps, IsWork, IsUnit, HaveRun, HasDrained, HaveRunOf, HaveDrained, AllHaveDrained}
 use Rattle.router_core.proofs.KeepLemmas.{keeps_none, keeps_on, gives_join, gives_none, gives_so}
-use Rattle.router_core.proofs.PhaseLemmas.{spends_none, spends_join, bounds_step, over_more, risen_capped}
-use Rattle.router_core.proofs.MostLemmas.{capped}
+use Rattle.router_core.proofs.MostLemmas.{capped, sends_below, fin_sends_below, few_exits}
+use Rattle.router_core.proofs.ReadingLemmas.{reading_less, readers_within, announced_fits}
 use Rattle.router_core.proofs.CountLemmas.{counts_below, over_none, none_over}
 use Rattle.router_core.proofs.NextLemmas.{next_works}
 use Rattle.router_core.proofs.ScratchLemmas.{settled_is_exact}
 
 -- ---- work
+none_more : (m : Moment) (es : List Phase) → AllByRecursion (λ e. counts m e ≤ counts m e) es
+none_more m [] = tt
+none_more m (e ∷ es) = (omega arith, none_more m es)
+
 work_none : (r : Phase) (m : Moment) → Stands m → IsWork r 0 m m []
-work_none r m stands = record { keeps = keeps_none m stands; spends = λ f within. spends_none f r (counts m); within = omega arith }
+work_none r m stands = record { keeps = keeps_none m stands; falls = omega arith; left = omega arith; earlier = none_more m (earlier r) }
+
+no_more_then : (a b c : Moment) (es : List Phase) → AllByRecursion (λ e. counts b e ≤ counts a e) es → AllByRecursion (λ e. counts c e ≤ counts b e) es → AllByRecursion (λ e. counts c e ≤ counts a e) es
+no_more_then a b c [] x y = tt
+no_more_then a b c (e ∷ es) x y = (let p = x.0 in let q = y.0 in omega (arith, p, q), no_more_then a b c es x.1 y.1)
 
 work_join : (r : Phase) (n k : ℕ) (a b c : Moment) (xs ys : List Line) → IsWork r n a b xs → IsWork r k b c ys → IsWork r (n + k) a c (xs ++ ys)
 work_join r n k a b c xs ys x y = record {
-  keeps = keeps_on a b c xs ys (live_state a) x.keeps y.keeps;
-  spends = λ f within. let less = x.within in spends_join f r n k (counts a) (counts b) (counts c) (x.spends f within) (y.spends f (omega (arith, less, within)));
-  within = let p = x.within in let q = y.within in omega (arith, p, q);
+  keeps = keeps_on a b c xs ys (live_state a) refl x.keeps y.keeps;
+  falls = let p = x.falls in let q = y.falls in omega (arith, p, q);
+  left = let p = x.left in let q = y.left in omega (arith, p, q);
+  earlier = no_more_then a b c (earlier r) x.earlier y.earlier;
 }
 
 -- ---- turns of a task
@@ -66,7 +77,7 @@ given_more task n m between m' before j now g u = gives_join (HaveRun task m n b
 
 -- a turn brings the end nearer
 pub unit_less : (task : Task) (m m' : Moment) (before now : Journaled) → Gives (IsUnit task m m') before now → counts m' (phase_of task) < counts m (phase_of task)
-unit_less task m m' before now g = let falls = (g.2.work.spends (frame_of m) (omega arith)).falls in omega (arith, falls)
+unit_less task m m' before now g = let falls = g.2.work.falls in omega (arith, falls)
 
 -- ---- tasks of a phase
 abbrev pub HaveGivenOf : Phase → ℕ → Moment → Moment → Journaled → Journaled → Type 0
@@ -92,23 +103,27 @@ phase_less r task n at now j j' next d = by_turns n (subst (λ (e : Phase). IsWo
 
     by_turns : (n : ℕ) → IsWork r n at now d.0 → Turns n task at d.0 now → counts now r < counts at r
     by_turns zero work taken = absurd (let same : has_work task at ≡ false = sym (ap (has_work task) taken.1) ∙ d.2.ended in let on = works.0 in cc)
-    by_turns (suc n) work taken = let falls = (work.spends (frame_of at) (omega arith)).falls in omega (arith, falls)
+    by_turns (suc n) work taken = let falls = work.falls in omega (arith, falls)
 
 pub phase_done : TurnsAreBounded → TurnsAreLeft → (r : Phase) (m now : Moment) (turns : ℕ) (before j : Journaled) → Stands m → HaveGivenOf r turns m now before j → None ≡ next_task r now → counts now r ≡ 0 → Gives (HaveDrained r m turns now) before j
 phase_done law left r m now turns before j stands g none gone = gives_so (HaveRunOf r m turns now) (HaveDrained r m turns now) (λ xs p. record {
   runs = record { count = p.count; runs = p.runs; none = sym none };
   work = p.work;
-  most = let falls = (p.work.spends (frame_of m) (omega arith)).falls in let below = counts_below law m r stands in omega (arith, falls, below);
+  most = let falls = p.work.falls in let below = counts_below law m r stands in omega (arith, falls, below);
   over = none_over left r now p.work.keeps.stands gone;
 }) before j g
 
 -- ---- all phases, whatever the table is
+-- how many turns the phases that are left take at most
+abbrev pub rest_from : List Phase → Moment → ℕ
+rest_from [] m = 0
+rest_from (r ∷ rs) m = left_from r m
+
 -- what was done before phase i
 pub record Idling (i turns : ℕ) (m now : Moment) (said : List Line) : Type 0 where
   pub runs : RunsAll (take i all_phases) m said turns now
   pub keeps : Keeps (live_state m) m now said
-  pub frame : most_of now ≤ most_of m
-  pub within : turns + bounds (frame_of m) (drop i all_phases) (counts now) ≤ bounds (frame_of m) all_phases (counts m)
+  pub within : turns + rest_from (drop i all_phases) now ≤ left_from Rdel m
   pub over : AllByRecursion (λ e. counts now e ≡ 0) (take i all_phases)
 
 runs_push : (rs : List Phase) (r : Phase) (n k : ℕ) (m at now : Moment) (xs ys : List Line) → RunsAll rs m xs n at → RunsPhase r at ys k now → RunsAll (rs ++ r ∷ []) m (xs ++ ys) (n + k) now
@@ -135,44 +150,65 @@ runs_push (e ∷ rs) r n k m at now xs ys a p = (
   (let sum = a.8 in omega (arith, sum)),
 )
 
--- a phase adds nothing to an earlier one: a line for each phase
-never_back : (f : Frame) (i : ℕ) (x : Phase) → i < length all_phases → AllByRecursion (λ e. rise f (get_or all_phases i x) e ≡ Each 0) (take i all_phases)
-never_back f zero x within = tt
-never_back f (suc zero) x within = (refl, tt)
-never_back f (suc (suc zero)) x within = (refl, (refl, tt))
-never_back f (suc (suc (suc zero))) x within = (refl, (refl, (refl, tt)))
-never_back f (suc (suc (suc (suc i)))) x within = absurd (omega (arith, within))
+-- a line for each phase: the earlier ones,
+earlier_are : (i : ℕ) (x : Phase) → i < length all_phases → earlier (get_or all_phases i x) ≡ take i all_phases
+earlier_are zero x within = refl
+earlier_are (suc zero) x within = refl
+earlier_are (suc (suc zero)) x within = refl
+earlier_are (suc (suc (suc zero))) x within = refl
+earlier_are (suc (suc (suc (suc zero)))) x within = refl
+earlier_are (suc (suc (suc (suc (suc zero))))) x within = refl
+earlier_are (suc (suc (suc (suc (suc (suc i)))))) x within = absurd (omega (arith, within))
+
+-- and how many turns an idle takes from the next one on
+next_less : (i : ℕ) (x : Phase) (m : Moment) → i < length all_phases → Stands m → rest_from (drop (i + 1) all_phases) m ≤ left_from (get_or all_phases i x) m
+next_less zero x m within stands = omega arith
+next_less (suc zero) x m within stands =
+    let read = reading_less (tables.len m.exits.chains) (tables.len m.exits.chains) (most_unread m.exits) (most_unread m.exits) (rows_in m.chains) (rows_in m.chains)
+    (counts m Del + fin_sends m.chains + 3 * rows_in m.chains) (fin_sends m.chains + 3 * rows_in m.chains) (omega arith) (omega arith) (omega arith) in
+    omega (arith, read)
+next_less (suc (suc zero)) x m within stands =
+    let hops = capped m stands in
+    let sends = sends_below m stands in
+    let read = reading_less (tables.len m.exits.chains) (tables.len m.exits.chains) (most_unread m.exits) (most_unread m.exits) (rows_in m.chains) (rows_in m.chains)
+    (fin_sends m.chains + 3 * rows_in m.chains) (nh_sends (beyonds m.chains) m.hops) (omega arith) (omega arith) (omega (arith, sends)) in
+    omega (arith, hops, read)
+next_less (suc (suc (suc zero))) x m within stands =
+    let reader : counts m ReadRib ≤ most_unread m.exits = counts_below bounded_turns m ReadRib stands in
+    let exits = counts_below bounded_turns m Out stands in
+    let all = readers_within (tables.len m.exits.chains) (most_unread m.exits) (rows_in m.chains) (nh_sends (beyonds m.chains) m.hops) (counts m ReadRib) (counts m Out) reader exits in
+    omega (arith, all)
+next_less (suc (suc (suc (suc zero)))) x m within stands = omega arith
+next_less (suc (suc (suc (suc (suc zero))))) x m within stands = omega arith
+next_less (suc (suc (suc (suc (suc (suc i)))))) x m within stands = absurd (omega (arith, within))
 
 each_phase : (P : Phase → Type 0) → AllByRecursion P all_phases → (r : Phase) → P r
 each_phase P all Rdel = all.0
 each_phase P all Del = all.1.0
 each_phase P all Fin = all.1.1.0
 each_phase P all Nh = all.1.1.1.0
+each_phase P all ReadRib = all.1.1.1.1.0
+each_phase P all Out = all.1.1.1.1.1.0
 
--- the announced bound is above the table's
-within_all : (losses stages walks hops rows routes peers known : ℕ) → losses ≤ routes → stages ≤ rows → walks ≤ 2 * (rows + peers) → hops ≤ 3 * rows + 2 * peers
-    → losses + (stages + (walks + hops)) ≤ (peers + 2) * (9 * (rows + routes) + 2 * known + 6)
-within_all losses stages walks hops rows routes peers known a b c d =
-    let least : losses + (stages + (walks + hops)) ≤ 2 * (9 * (rows + routes) + 6) + peers * 6 = omega (arith, a, b, c, d) in
-    let rest : 2 * (9 * (rows + routes) + 6) + peers * 6 ≤ (peers + 2) * (9 * (rows + routes) + 2 * known + 6) = grind arith in
-    omega (arith, least, rest)
+-- all of these are still over
+over_more : (m m' : Moment) (es : List Phase) → AllByRecursion (λ e. counts m' e ≤ counts m e) es → AllByRecursion (λ e. counts m e ≡ 0) es → AllByRecursion (λ e. counts m' e ≡ 0) es
+over_more m m' [] less over = tt
+over_more m m' (e ∷ es) less over = (let p = less.0 in let q = over.0 in omega (arith, p, q), over_more m m' es less.1 over.1)
 
--- what next hops take stays below the cap
-hops_within : (cap a b c hops : ℕ) → hops ≤ cap → risen (UpTo cap) c (risen (UpTo cap) b (risen (UpTo cap) a hops)) ≤ cap
-hops_within cap a b c hops most = risen_capped cap c _ (risen_capped cap b _ (risen_capped cap a hops most))
-
-bounds_fit : TurnsAreBounded → (m : Moment) → Stands m → bounds (frame_of m) all_phases (counts m) ≤ bound_of m
-bounds_fit law m stands =
-    let a = counts_below law m Rdel stands in
-    let b = counts_below law m Del stands in
-    let c = counts_below law m Fin stands in
+-- the announced bound is above the turns of the first phase on
+bounds_fit : (m : Moment) → Stands m → left_from Rdel m ≤ bound_of m
+bounds_fit m stands =
+    let a = counts_below bounded_turns m Rdel stands in
+    let b = counts_below bounded_turns m Del stands in
+    let c = counts_below bounded_turns m Fin stands in
     let count = stands.own SameCount in
-    let hops = hops_within (most_of m) (counts m Rdel) (risen (Each 0) (counts m Rdel) (counts m Del)) (risen (Each 0) (risen (Each 0) (counts m Rdel) (counts m Del)) (risen (Each 0) (counts m Rdel) (counts m Fin))) (counts m Nh) (capped m stands) in
-    let all = within_all (counts m Rdel) (counts m Del) (counts m Fin) (most_of m) (rows_in m.chains) (tree_count m.tree) (length m.declared.peers) (known_in m.hops) a b (omega (arith, c, count)) (omega (arith, count)) in
-    omega (arith, all, hops)
+    let walks = fin_sends_below m.chains in
+    let few = few_exits m stands in
+    announced_fits (counts m Rdel) (counts m Del) (counts m Fin) (most_of m) (fin_sends m.chains) (tables.len m.exits.chains) (most_unread m.exits) (rows_in m.chains) (tree_count m.tree) (length m.declared.peers) (known_in m.hops)
+    a b (omega (arith, c, count)) (omega (arith, count)) walks (omega (arith, few, count))
 
 pub idling_none : (m : Moment) (before j : Journaled) → Stands m → j ≡ flushed before → Gives (Idling 0 0 m m) before j
-idling_none m before j stands is = gives_none (Idling 0 0 m m) before j (record { runs = (refl, refl, refl); keeps = keeps_none m stands; frame = omega arith; within = omega arith; over = tt }) is
+idling_none m before j stands is = gives_none (Idling 0 0 m m) before j (record { runs = (refl, refl, refl); keeps = keeps_none m stands; within = omega arith; over = tt }) is
 
 pub idling_more : (i turns n : ℕ) (x : Phase) (m at now : Moment) (before j j' : Journaled) → i < length all_phases → Gives (Idling i turns m at) before j → Gives (HaveDrained (get_or all_phases i x) at n now) j j'
     → Gives (Idling (i + 1) (turns + n) m now) before j'
@@ -181,24 +217,20 @@ idling_more i turns n z m at now before j j' within g d = gives_join (Idling i t
     r : Phase
     r = get_or all_phases i z
 
-    f : Frame
-    f = frame_of m
-
     both : (xs ys : List Line) → Idling i turns m at xs → HaveDrained r at n now ys → Idling (i + 1) (turns + n) m now (xs ++ ys)
     both xs ys x y =
         let first : take i all_phases ++ r ∷ [] ≡ take (i + 1) all_phases = sym (take_more all_phases i z within) in
         let rest : drop i all_phases ≡ r ∷ drop (i + 1) all_phases = drop_more all_phases i z within in
-        let spends : Spends f r n (counts at) (counts now) = y.work.spends f x.frame in
-        let flat : AllByRecursion (λ e. rise f r e ≡ Each 0) (take i all_phases) = never_back f i z within in
-        let step = bounds_step f r (drop (i + 1) all_phases) n (counts at) (counts now) spends in
-        let was : turns + bounds f (r ∷ drop (i + 1) all_phases) (counts at) ≤ bounds f all_phases (counts m) = subst (λ (l : List Phase). turns + bounds f l (counts at) ≤ bounds f all_phases (counts m)) rest x.within in
+        let less : AllByRecursion (λ e. counts now e ≤ counts at e) (take i all_phases) = subst (λ (l : List Phase). AllByRecursion (λ e. counts now e ≤ counts at e) l) (earlier_are i z within) y.work.earlier in
+        let was : turns + left_from r at ≤ left_from Rdel m = subst (λ (l : List Phase). turns + rest_from l at ≤ left_from Rdel m) rest x.within in
+        let left = y.work.left in
+        let next = next_less i z now within y.work.keeps.stands in
         record {
           runs = subst (λ (l : List Phase). RunsAll l m (xs ++ ys) (turns + n) now) first (runs_push (take i all_phases) r turns n m at now xs ys x.runs y.runs);
-          keeps = keeps_on m at now xs ys (live_state m) x.keeps y.work.keeps;
-          frame = let p = x.frame in let q = y.work.within in omega (arith, p, q);
-          within = omega (arith, step, was);
+          keeps = keeps_on m at now xs ys (live_state m) refl x.keeps y.work.keeps;
+          within = omega (arith, was, left, next);
           over = subst (λ (l : List Phase). AllByRecursion (λ e. counts now e ≡ 0) l) first
-              (all_appended (λ e. counts now e ≡ 0) (λ e. counts now e ≡ 0) (λ e none. none) (take i all_phases) r (over_more f r n (counts at) (counts now) (take i all_phases) spends flat x.over) (over_none r now y.over));
+              (all_appended (λ e. counts now e ≡ 0) (λ e. counts now e ≡ 0) (λ e none. none) (take i all_phases) r (over_more at now (take i all_phases) less x.over) (over_none r now y.over));
         }
 
 pub idling_done : TurnsAreBounded → TurnsAreLeft → (i turns : ℕ) (m now : Moment) (before j : Journaled) → Stands m → length all_phases ≤ i → Gives (Idling i turns m now) before j → Gives (AllHaveDrained m turns now) before j
@@ -207,7 +239,7 @@ idling_done bounded left i turns m now before j stands past g = gives_so (Idling
     let over = subst (λ (l : List Phase). AllByRecursion (λ e. counts now e ≡ 0) l) all x.over in
     let settled : IsSettled now = λ r. none_over left r now x.keeps.stands (each_phase (λ e. counts now e ≡ 0) over r) in
     let within = x.within in
-    let fits = bounds_fit bounded m stands in
+    let fits = bounds_fit m stands in
     record {
       runs = subst (λ (l : List Phase). RunsAll l m xs turns now) all x.runs;
       keeps = x.keeps;

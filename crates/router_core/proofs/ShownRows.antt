@@ -37,6 +37,8 @@ use Rattle.router_core.proofs.RegionLemmas.{in_region}
 use Rattle.router_core.specs.Works.{Pushes, HasStepped}
 use Rattle.router_core.specs.Stands.{Stands}
 use Rattle.router_core.specs.Lives.{live_state}
+use Rattle.exit_laws.specs.Views.{AreUnheard}
+use Rattle.router_core.proofs.HeardSteps.{heard_quiet}
 use Rattle.router_core.proofs.KeepLemmas.{steps_said}
 
 -- the next candidate, whether it has a row or not
@@ -121,19 +123,27 @@ shows_no_entries : (link : Link) (of : Option (Rows Value)) (said : List Line) �
 shows_no_entries link None said shows = ap entries_of shows
 shows_no_entries link (Some rows) said shows = ap entries_of shows.2 ∙ no_entries link shows.0 (length shows.0)
 
+rows_unheard : (link : Link) (listed : List (Network × Value)) (count : ℕ) → AreUnheard (map (λ r. lines.Row link r.0 r.1) listed ++ lines.Rows link count ∷ [])
+rows_unheard link [] count = (refl, tt)
+rows_unheard link (r ∷ listed) count = (refl, rows_unheard link listed count)
+
+shows_unheard : (link : Link) (of : Option (Rows Value)) (said : List Line) → Shows link of said → AreUnheard said
+shows_unheard link None said shows = subst AreUnheard (sym shows) (refl, tt)
+shows_unheard link (Some rows) said shows = subst AreUnheard (sym shows.2) (rows_unheard link shows.0 (length shows.0))
+
 pub show_stepped : (m : Moment) (link : Link) (of : Option (Rows Value)) (said : List Line) → Stands m → router_links m link ≡ of → Shows link of said → HasStepped m (events.Show link) 0 m said
 show_stepped m link of said stands is shows =
     let here : Shows link (router_links m link) said = subst (λ (o : Option (Rows Value)). Shows link o said) (sym is) shows in
-    steps_said m (events.Show link) 0 said stands (refl, refl, here) refl (shows_no_entries link of said shows)
+    steps_said m (events.Show link) 0 said stands (refl, refl, here) refl (shows_no_entries link of said shows, shows_unheard link of said shows)
 
 -- ---- a lookup as an event
 pub ask_stepped : (m : Moment) (link : Link) (p : Network) (of : Option (Rows Value)) → Stands m → router_links m link ≡ of → HasStepped m (events.Ask link p) 0 m (answer_lines link p of)
-ask_stepped m link p None stands is = steps_said m (events.Ask link p) 0 (lines.Absent ∷ []) stands (ap (answer_lines link p) (sym is), refl, refl) refl refl
+ask_stepped m link p None stands is = steps_said m (events.Ask link p) 0 (lines.Absent ∷ []) stands (ap (answer_lines link p) (sym is), refl, refl) refl (refl, (refl, tt))
 ask_stepped m link p (Some rows) stands is = record {
   block = (ap (answer_lines link p) (sym is), refl, refl);
   live = live_state m;
   after = refl;
-  keeps = record { leads = record { lawful = ((rows, is, refl), tt); ends = refl }; live = refl; stands = stands };
+  keeps = record { leads = record { lawful = ((rows, is, refl), tt); ends = refl }; live = refl; stands = stands; heard = heard_quiet m m (answer_lines link p (Some rows)) (refl, tt) refl };
 }
 
 -- ---- a link whose candidates are its rows

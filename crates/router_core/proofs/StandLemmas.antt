@@ -13,7 +13,8 @@ use Rattle.link_region.proofs.RegionLemmas.{by_bool}
 use Rattle.peer_side.specs.Peers.{Chains, chain_at, put_chain, routes_of, rules_of, IsPeers}
 use Rattle.peer_side.proofs.PutLemmas.{at_put, put_kept, put_seen, put_each, put_size}
 use Rattle.live_state.proofs.AdmittedLemmas.{rules_same, routes_same}
-use Rattle.router_core.specs.Moments.{Moment, with_chains, with_hops}
+use Rattle.exit_side.specs.Exits.{Exited}
+use Rattle.router_core.specs.Moments.{Moment, with_chains, with_hops, with_exits}
 use Rattle.live_state.specs.Lives.{LiveState, Routes, with_routes, with_rules}
 use Rattle.router_core.specs.Lives.{live_state}
 use Rattle.rib_tree.specs.Trees.{int_rows}
@@ -22,7 +23,8 @@ use Rattle.register_interest.specs.Registers.{Registry}
 use Rattle.hop_side.specs.Resolvers.{Resolvers, resolver_at}
 use Rattle.addr4.specs.Prefixes.{Network}
 use Rattle.router_core.proofs.HopLemmas.{HopsStand}
-use Rattle.router_core.specs.Stands.{PeerStands, StandsAt, TreeStands, Stands, Claim, Claims, EachChain, EachPeer, InteriorTree, OneSpeaker, Registered, SameCount, EachResolver, SameResolvers, AnswersAgree, HopsCounted, NoStrangers, SmallNumbers, Tie, Ties, here}
+use Rattle.router_core.proofs.QueueLemmas.{ExitsStand}
+use Rattle.router_core.specs.Stands.{PeerStands, StandsAt, TreeStands, Stands, Claim, Claims, EachChain, EachPeer, InteriorTree, OneSpeaker, Registered, SameCount, EachResolver, SameResolvers, AnswersAgree, HopsCounted, NoStrangers, SmallNumbers, EachRow, EachExit, QueueLeads, ExitsRead, PlainExits, OneSender, SameSessions, OneReader, Tie, Ties, here}
 
 -- the moment with this declared, and these chains
 abbrev pub remade : Moment → Declaration → Chains → Moment
@@ -77,17 +79,29 @@ pub record KeepsOthers (k : ℕ) (before now : Declaration) : Type 0 where
   pub count : length now.peers ≡ length before.peers
   pub others : (j : ℕ) → nat_eq j k ≡ false → peer_at j now.peers ≡ peer_at j before.peers
 
-pub stands_put : (m : Moment) (now : Declaration) (k : ℕ) (c c' : Chained) (cs : Chains) (r : Registry Interior) (h : Resolvers) → Stands m → chain_at k m.chains ≡ Some c → cs ≡ put_chain k c' m.chains → IsPeers cs → c'.me ≡ c.me
-    → KeepsOthers k m.declared now → StandsAt (peer_at k now.peers) (Some c') → r.rows ≡ m.registry.rows → HopsStand cs r h → Stands (with_hops (remade m now cs) r h)
-stands_put m now k c c' cs r h stands at is peers me keeps own_peer rows hops_then = subst (λ (x : Chains). Stands (with_hops (remade m now x) r h)) (sym is) (record { own = own; at = ties })
+pub stands_put : (m : Moment) (now : Declaration) (k : ℕ) (c c' : Chained) (cs : Chains) (r : Registry Interior) (h : Resolvers) (e : Exited) → Stands m → chain_at k m.chains ≡ Some c → cs ≡ put_chain k c' m.chains → IsPeers cs → c'.me ≡ c.me
+    → KeepsOthers k m.declared now → StandsAt (peer_at k now.peers) (Some c') → r.rows ≡ m.registry.rows → HopsStand cs r h
+    → ExitsStand (with_exits (with_hops (remade m now cs) r h) e) → Stands (with_exits (with_hops (remade m now cs) r h) e)
+stands_put m now k c c' cs r h e stands at is peers me keeps own_peer rows hops_then exits_then = subst (λ (x : Chains). Stands (with_exits (with_hops (remade m now x) r h) e)) (sym is) (record { own = own; at = ties })
   where
+    exits : ExitsStand (with_exits (with_hops (remade m now (put_chain k c' m.chains)) r h) e)
+    exits = subst (λ (x : Chains). ExitsStand (with_exits (with_hops (remade m now x) r h) e)) is exits_then
+
     hops : HopsStand (put_chain k c' m.chains) r h
     hops = subst (λ (x : Chains). HopsStand x r h) is hops_then
 
-    ties : (p : Network) (tie : Tie) → Ties (here (with_hops (remade m now (put_chain k c' m.chains)) r h) p) tie
+    ties : (p : Network) (tie : Tie) → Ties (here (with_exits (with_hops (remade m now (put_chain k c' m.chains)) r h) e) p) tie
     ties p Registered = ap (λ t. tables.get t p) rows ∙ stands.at p Registered
 
-    own : (claim : Claim) → Claims (with_hops (remade m now (put_chain k c' m.chains)) r h) claim
+    own : (claim : Claim) → Claims (with_exits (with_hops (remade m now (put_chain k c' m.chains)) r h) e) claim
+    own EachRow = exits.rows
+    own EachExit = exits.each
+    own QueueLeads = exits.all
+    own ExitsRead = exits.read
+    own PlainExits = exits.plain
+    own OneSender = exits.sender
+    own SameSessions = exits.sessions
+    own OneReader = exits.one
     own EachResolver = hops.sound
     own SameResolvers = hops.same
     own AnswersAgree = hops.agree
@@ -103,10 +117,10 @@ stands_put m now k c c' cs r h stands at is peers me keeps own_peer rows hops_th
     own SameCount = put_size k c c' m.chains at ∙ stands.own SameCount ∙ sym keeps.count
     own InteriorTree = subst (λ (s : Option Speaker). TreeStands s m.tree) (sym keeps.speaker) (stands.own InteriorTree)
 
-pub stands_with : (m : Moment) (k : ℕ) (c c' : Chained) (cs : Chains) (r : Registry Interior) (h : Resolvers) (p : DeclaredPeer) → Stands m → chain_at k m.chains ≡ Some c → cs ≡ put_chain k c' m.chains → IsPeers cs → c'.me ≡ c.me → peer_at k m.declared.peers ≡ Some p
-    → PeerStands p c' → r.rows ≡ m.registry.rows → HopsStand cs r h → Stands (with_hops (with_chains m cs) r h)
-stands_with m k c c' cs r h p stands at is peers me peer here rows hops =
-    stands_put m m.declared k c c' cs r h stands at is peers me (record { speaker = refl; count = refl; others = λ j e. refl }) (subst (λ (o : Option DeclaredPeer). StandsAt o (Some c')) (sym peer) here) rows hops
+pub stands_with : (m : Moment) (k : ℕ) (c c' : Chained) (cs : Chains) (r : Registry Interior) (h : Resolvers) (e : Exited) (p : DeclaredPeer) → Stands m → chain_at k m.chains ≡ Some c → cs ≡ put_chain k c' m.chains → IsPeers cs → c'.me ≡ c.me → peer_at k m.declared.peers ≡ Some p
+    → PeerStands p c' → r.rows ≡ m.registry.rows → HopsStand cs r h → ExitsStand (with_exits (with_hops (with_chains m cs) r h) e) → Stands (with_exits (with_hops (with_chains m cs) r h) e)
+stands_with m k c c' cs r h e p stands at is peers me peer here rows hops exits =
+    stands_put m m.declared k c c' cs r h e stands at is peers me (record { speaker = refl; count = refl; others = λ j e. refl }) (subst (λ (o : Option DeclaredPeer). StandsAt o (Some c')) (sym peer) here) rows hops exits
 
 -- ---- what is live
 abbrev pub live_by : Moment → Declaration → (ℕ → Routes) → (ℕ → List Rule) → LiveState

@@ -57,8 +57,8 @@ idled m m' bound turns before j j2 j3 now stands same small first g last is =
         exact = p.2.exact;
       };
       bound = same;
-      keeps = keeps_on m m m' (lines.Bound bound ∷ []) (p.0 ++ lines.Idle turns ∷ []) (live_state m) (keeps_said m (lines.Bound bound ∷ []) stands refl)
-          (keeps_on m m' m' p.0 (lines.Idle turns ∷ []) (live_state m) p.2.keeps (keeps_said m' (lines.Idle turns ∷ []) p.2.keeps.stands refl));
+      keeps = keeps_on m m m' (lines.Bound bound ∷ []) (p.0 ++ lines.Idle turns ∷ []) (live_state m) refl (keeps_said m (lines.Bound bound ∷ []) stands (refl, (refl, tt)))
+          (keeps_on m m' m' p.0 (lines.Idle turns ∷ []) (live_state m) refl p.2.keeps (keeps_said m' (lines.Idle turns ∷ []) p.2.keeps.stands (refl, (refl, tt))));
     })
 
 pub worked : (m m' : Moment) (task : Task) (most turns : ℕ) (before j j2 now : Journaled) → Gives (AreTurns task most m turns m') before j → j2 ≡ with_lines j (lines.Work turns ∷ []) → now ≡ flushed j2
@@ -74,14 +74,14 @@ worked m m' task most turns before j j2 now g last is =
       block = record { inner = xs; taken = p.run.taken; most = p.most; ended = p.ended; lines = refl };
       live = live_state m;
       after = refl;
-      keeps = keeps_on m m' m' xs (lines.Work turns ∷ []) (live_state m) p.run.work.keeps (keeps_said m' (lines.Work turns ∷ []) p.run.work.keeps.stands refl);
+      keeps = keeps_on m m' m' xs (lines.Work turns ∷ []) (live_state m) refl p.run.work.keeps (keeps_said m' (lines.Work turns ∷ []) p.run.work.keeps.stands (refl, (refl, tt)));
     })
 
 -- ---- `cover`
 pub covered : (m : Moment) (addr : ℕ) (found : Option (Network × Interior)) (subnet : Network) (prefix : Option Network) (before j now : Journaled) → Stands m → IsCover width (tables.get m.registry.rows) addr found subnet
     → prefix ≡ matched found → j ≡ with_lines before (lines.Cover addr prefix subnet ∷ []) → now ≡ flushed j → Gives (HasStepped m (Cover addr) 0 m) before now
 covered m addr found subnet prefix before j now stands cover is pushed flush = steps_pushed m (Cover addr) (lines.Cover addr (matched found) subnet ∷ []) before j now stands
-    (refl, refl, record { found = found; subnet = subnet; cover = subst (λ (rows : Rows Interior). IsCover width rows addr found subnet) (registered_rows m stands) cover; line = refl }) refl refl
+    (refl, refl, record { found = found; subnet = subnet; cover = subst (λ (rows : Rows Interior). IsCover width rows addr found subnet) (registered_rows m stands) cover; line = refl }) refl (refl, (refl, tt))
     (pushed ∙ ap (λ (p : Option Network). with_lines before (lines.Cover addr p subnet ∷ [])) is) flush
 
 -- ---- what a message does
@@ -110,7 +110,7 @@ fault_heard k p m m' message n octets before j now stands same spelled whole pus
     both : (xs ys : List Line) → Noted xs → HasLost k p.session m m' ys → HasHeard k p m (messages.Notify n) m' (xs ++ ys)
     both xs ys noted h = subst (λ (l : List Line). HasHeard k p m (messages.Notify n) m' (l ++ ys)) (sym noted) (record {
       hears = (ys, refl, h.loses, subst AreMessageOctets spelled whole);
-      keeps = keeps_join m m m' (note ∷ []) ys (live_state m) (ended (live_state m) k) (keeps_said m (note ∷ []) stands refl) h.keeps;
+      keeps = keeps_join m m m' (note ∷ []) ys (live_state m) (ended (live_state m) k) refl (keeps_said m (note ∷ []) stands (refl, (refl, tt))) h.keeps;
     })
 
 -- ---- a peer that is up, or down
@@ -139,13 +139,13 @@ pub down_ignored : (k : ℕ) (p : DeclaredPeer) (m : Moment) (before j now : Jou
     → Gives (HasStepped m (Down k) 0 m) before now
 down_ignored k p m before j now stands at down pushed is = steps_pushed m (Down k) (lines.Ignored ∷ []) before j now stands
     (subst (λ (o : Option DeclaredPeer). ByPeer (λ q. EndsIf q.up m k q (lines.Ignored ∷ []) 0 m) o) (sym at) (subst (λ (u : Bool). EndsIf u m k p (lines.Ignored ∷ []) 0 m) (sym down) (refl, refl, refl)))
-    (sym (ap (ended_if_up (live_state m) k) at ∙ ap (λ (u : Bool). cond u (ended (live_state m) k) (live_state m)) down)) refl pushed is
+    (sym (ap (ended_if_up (live_state m) k) at ∙ ap (λ (u : Bool). cond u (ended (live_state m) k) (live_state m)) down)) (refl, (refl, tt)) pushed is
 
 pub bgp_ignored : (k : ℕ) (octets : List ℕ) (p : DeclaredPeer) (m : Moment) (before j now : Journaled) → Stands m → peer_at k m.declared.peers ≡ Some p → p.up ≡ false → j ≡ with_lines before (lines.Ignored ∷ []) → now ≡ flushed j
     → Gives (HasStepped m (Bgp k octets) 0 m) before now
 bgp_ignored k octets p m before j now stands at down pushed is = steps_pushed m (Bgp k octets) (lines.Ignored ∷ []) before j now stands
     (subst (λ (o : Option DeclaredPeer). ByPeer (λ q. HearsIf q.up m k q octets (lines.Ignored ∷ []) 0 m) o) (sym at) (subst (λ (u : Bool). HearsIf u m k p octets (lines.Ignored ∷ []) 0 m) (sym down) (refl, refl, refl)))
-    (subst (λ (o : Option DeclaredPeer). HearsFrom (live_state m) k o octets (live_state m)) (sym at) (subst (λ (u : Bool). HearsIfUp (live_state m) k p octets u (live_state m)) (sym down) refl)) refl pushed is
+    (subst (λ (o : Option DeclaredPeer). HearsFrom (live_state m) k o octets (live_state m)) (sym at) (subst (λ (u : Bool). HearsIfUp (live_state m) k p octets u (live_state m)) (sym down) refl)) (refl, (refl, tt)) pushed is
 
 -- ---- every task
 pub idle_stepped : (m m' : Moment) (idle : Answer) (before now : Journaled) → Gives (HasIdled m idle m') before now → Gives (HasStepped m Idle idle.turns m') before now

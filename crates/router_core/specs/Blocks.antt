@@ -1,5 +1,5 @@
 -- What each event does, and the lines that it gives (NSDI 2005, sections 5.1 and 5.2; of messages RFC 4271, sections 3.1 and 6).
-use Rattle.std.specs.Prelude.{◌≡◌, ℕ, ◌≤◌, ◌<◌, ◌^◌, ◌⊎◌, Bool, true, false, List, [], ◌∷◌, ◌++◌, map, length, Contains, Option, Some, None, IsSome, is_some}
+use Rattle.std.specs.Prelude.{◌≡◌, ℕ, ◌+◌, ◌≤◌, ◌<◌, ◌^◌, ◌⊎◌, Bool, true, false, List, [], ◌∷◌, ◌++◌, map, length, Contains, Option, Some, None, IsSome, is_some}
 use Rattle.std.specs.List.{AllByRecursion}
 use Rattle.std.specs.List.Sorted.{IsStrictlySortedBy}
 use Rattle.addr4.specs.Prefixes.{Network, prefix_cmp}
@@ -9,16 +9,17 @@ use Rattle.bgp_wire.specs.declared.message.Message.{Message}
 use Rattle.bgp_wire.specs.declared.message.Message.TheVariants as messages
 use Rattle.bgp_wire.specs.Spelling.{notification_octets}
 use Rattle.journal_text.specs.declared.link.Link.{Link}
-use Rattle.journal_text.specs.declared.link.Link.TheVariants.{In, Filt, Res, Org, Low, Dyn, Int, Best, Fib}
+use Rattle.journal_text.specs.declared.link.Link.TheVariants.{In, Filt, Res, Org, Low, Dyn, Int, Best, ReadRib, Fib}
 use Rattle.journal_text.specs.declared.link.Task.{Task}
 use Rattle.journal_text.specs.declared.value.Value.{Value}
+use Rattle.journal_text.specs.declared.entry.Entry.{Entry}
 use Rattle.journal_text.specs.declared.entry.Entry.TheVariants as entries
 use Rattle.journal_text.specs.declared.line.Line.{Line}
 use Rattle.journal_text.specs.declared.line.Line.TheVariants as lines
 use Rattle.journal_text.specs.Walk.{Leads}
 use Rattle.journal_text.specs.Texts.{entries_of}
 use Rattle.event_text.specs.declared.event.Event.{Event}
-use Rattle.event_text.specs.declared.event.Event.TheVariants.{Nothing, Local, Peer, Up, Down, Bgp, FilterIn, RouteAdd, RouteDel, Lose, Cover, Idle, Work, Ask, Show}
+use Rattle.event_text.specs.declared.event.Event.TheVariants.{Nothing, Local, Peer, Up, Down, Bgp, FilterIn, FilterOut, RouteAdd, RouteDel, Lose, Cover, Idle, Work, Ask, Show}
 use Rattle.event_text.specs.declared.declared.DeclaredPeer.{DeclaredPeer}
 use Rattle.policy_rules.specs.declared.rule.Rule.{Rule}
 use Rattle.event_text.specs.Declarations.{peer_at, words_of, with_speaker, with_peer, with_session, without_session}
@@ -36,13 +37,15 @@ use Rattle.hop_side.specs.Resolvers.{put_resolver}
 use Rattle.nexthop_resolver.specs.Resolving.{nothing_known}
 use Rattle.peer_side.specs.Peers.{Chains, chain_at, put_chain, overdue_at}
 use Rattle.peer_side.specs.Steps.{EditsInward, LosesInward}
-use Rattle.router_core.specs.Moments.{Moment, with_chains, with_tree, router_links, bound_of}
+use Rattle.exit_side.specs.Exits.{Exited, with_queue}
+use Rattle.exit_side.specs.Steps.{BeginsExit, EndsExit, EditsExit}
+use Rattle.router_core.specs.Moments.{Moment, with_chains, with_tree, with_exits, rules_to, router_links, bound_of}
 use Rattle.live_state.specs.Messages.{changes_of, Says}
 use Rattle.live_state.specs.Lives.{LiveAfter}
 use Rattle.router_core.specs.Lives.{live_state}
 use Rattle.router_core.specs.Stands.{Stands}
 use Rattle.journal_laws.specs.Peers.{KeepsPeers}
-use Rattle.router_core.specs.Printable.{ArePrinted}
+use Rattle.router_core.specs.Printable.{ArePrinted, IsHeard}
 use Rattle.router_core.specs.Phases.{all_phases}
 use Rattle.router_core.specs.Scratch.{IsExact}
 use Rattle.router_core.specs.Turns.{journal_lines, InPeers, FeedsAll, FallsRoute, Turns, Drains, RunsAll, IsSettled, has_work}
@@ -242,7 +245,8 @@ IsBlock m (Show link) said turns m' = (turns ≡ 0) × (m' ≡ m) × Shows link 
 
 -- An event was stepped: its lines are as its block says, its entries obey the rules of the journal and lead from the links
 -- before it to those after it, the live state is what the events alone make of it, and what holds between two steps holds. Each
--- line can be printed and read back, and the peers are known by their numbers then as before.
+-- line can be printed and read back, the peers are known by their numbers then as before, and what they reach by reading the octets of
+-- what they are sent is what stands on their links `adv.J.S`.
 pub record Acts (m : Moment) (event : Event) (turns : ℕ) (m' : Moment) (said : List Line) : Type 0 where
   pub block : IsBlock m event said turns m'
   pub leads : Leads (router_links m) (entries_of said) (router_links m')
@@ -250,3 +254,4 @@ pub record Acts (m : Moment) (event : Event) (turns : ℕ) (m' : Moment) (said :
   pub stands : Stands m'
   pub printed : ArePrinted m.declared said
   pub peers : KeepsPeers m.declared m'.declared
+  pub heard : IsHeard m said m'

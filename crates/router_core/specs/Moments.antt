@@ -35,12 +35,12 @@ use Rattle.exit_side.specs.Exits.{Exited, no_exits, exit_links}
 abbrev pub Policies : Type 0
 Policies = FinMap nat_cmp (List Rule)
 
-abbrev pub rules_to : ℕ → Policies → List Rule
-rules_to j policies = rules_by (tables.get policies j)
-
 abbrev pub rules_by : Option (List Rule) → List Rule
 rules_by None = []
 rules_by (Some rules) = rules
+
+abbrev pub rules_to : ℕ → Policies → List Rule
+rules_to j policies = rules_by (tables.get policies j)
 
 -- what was declared, the tree of the interior routes, the register of those, each peer's chain, below it each peer's resolver, the
 -- rules of the outgoing filters, the exits of the peers that are up, and the reader of the forwarding side, from `local` on

@@ -1,15 +1,22 @@
--- How many turns are left, phase by phase, and how many all take.
-use Rattle.std.specs.Prelude.{ℕ, length, Option, None, Some, ◌+◌, ◌-◌, ◌*◌, ◌≤◌, nat_lt, if◌then◌else◌, List, [], ◌∷◌}
-use Rattle.loss_chain.specs.Tables.{lost_count}
+-- How many turns are left, phase by phase, and how many an idle takes from a phase on.
+use Rattle.std.specs.Prelude.{ℕ, length, Option, None, Some, is_some, Bool, true, false, ◌+◌, ◌*◌, List, [], ◌∷◌}
+use Rattle.bgp_attr.specs.declared.attrs.Attrs.{Attrs}
+use Rattle.policy_rules.specs.declared.rule.Rule.{Rule}
+use Rattle.pass_core.specs.Passed.{Walked}
+use Rattle.loss_chain.specs.Tables.{Tables, lost_count, tables_count}
+use Rattle.nexthop_known.specs.Hops.{stale_count}
+use Rattle.nexthop_resolver.specs.declared.rows.Metric.{Metric}
+use Rattle.nexthop_resolver.specs.Resolving.{Resolving}
+use Rattle.nexthop_resolver.specs.Left.{differing_count, is_needed}
 use Rattle.std.specs.FinMap as tables
 use Rattle.addr4.specs.Prefixes.{Network}
-use Rattle.hop_side.specs.Resolvers.{Beyonds, left_in as hops_left_in}
-use Rattle.in_chain.specs.Chains.{Chained, filt_beyond}
+use Rattle.hop_side.specs.Resolvers.{Resolvers, Beyonds, same_metric, left_in as hops_left_in}
+use Rattle.in_chain.specs.Chains.{Chained, filt_beyond, left_beyond}
 use Rattle.peer_side.specs.Peers.{Chains, chain_at, rows_in, lost_in, left_in}
 use Rattle.rib_tree.specs.Trees.{Treed}
 use Rattle.router_core.specs.declared.router.Phase.{Phase}
 use Rattle.router_core.specs.declared.router.Phase.TheVariants.{Rdel, Del, Fin, Nh, ReadRib, Out}
-use Rattle.router_core.specs.Moments.{Moment}
+use Rattle.router_core.specs.Moments.{Moment, most_unread}
 use Rattle.std.specs.List.{sum_by}
 use Rattle.bgp_attr.specs.declared.route.Route.{Route}
 use Rattle.link_change.specs.declared.change.Change.{Change}
@@ -53,52 +60,66 @@ counts m Nh = hops_left_in (beyonds m.chains) m.hops
 counts m ReadRib = length (unread_if m.exits.queue m.reader)
 counts m Out = exits_left_in (best_beyond m.chains) m.exits
 
--- What background work never adds to: the turns that next hops take at most, whatever became stale. Each names a row, and two whole
--- walks of each peer may be left.
+-- how many turns next hops take at most, whatever became stale: each names a row, and two whole walks of each peer may be left
 abbrev pub most_of : Moment → ℕ
 most_of m = 3 * rows_in m.chains + 2 * tables.len m.chains
 
-pub record Frame : Type 0 where
-  pub most : ℕ
+-- ---- how many changes of `best` may come yet: no more than lost rows, and candidates that walks have yet to go to
+abbrev pub waiting_candidates : ℕ → Option (List Rule) → ℕ
+waiting_candidates rows None = 0
+waiting_candidates rows (Some rules) = rows
 
-abbrev pub frame_of : Moment → Frame
-frame_of m = record { most = most_of m }
+abbrev pub walk_candidates : Tables Attrs → Option (Walked (List Rule)) → ℕ
+walk_candidates t None = 0
+walk_candidates t (Some w) = left_beyond w.place t + waiting_candidates (tables_count t) w.waiting
 
--- the moment is within a frame
-abbrev pub IsWithin : Frame → Moment → Type 0
-IsWithin f m = most_of m ≤ f.most
+-- of the walk of a filter, and of the one that waits
+abbrev pub fin_sends_of : Chained → ℕ
+fin_sends_of c = walk_candidates c.incoming.tables c.filter.walk
 
--- how turns of a phase add to the count of another: so much each, or up to a cap, however many turns they are
-pub data Rise : Type 0 where
-  Each : ℕ → Rise
-  UpTo : ℕ → Rise
+abbrev pub fin_sends : Chains → ℕ
+fin_sends a = sum_by fin_sends_of (tables.values a)
 
--- how turns of the first add to the second
-abbrev pub rise : Frame → Phase → Phase → Rise
-rise f Nh e = Each 0
-rise f r Nh = UpTo f.most
-rise f r e = Each 0
+abbrev pub place_candidates : (Option Network → ℕ) → Option (Option Network) → ℕ
+place_candidates beyond None = 0
+place_candidates beyond (Some place) = beyond place
 
--- ---- the same for any table
+abbrev pub next_candidates : (Option Network → ℕ) → Bool → ℕ
+next_candidates beyond true = beyond None
+next_candidates beyond false = 0
 
-abbrev pub Counts : Type 0
-Counts = Phase → ℕ
+-- of the walk of a peer's next hops, and of the one that comes next; a next hop that is asked for again is counted, too
+abbrev pub nh_sends_of : Beyonds → Resolving Metric → ℕ
+nh_sends_of beyonds s =
+    place_candidates (beyonds s.client) s.walk + stale_count s.known
+    + next_candidates (beyonds s.client) (is_needed (is_some s.walk) (stale_count s.known) (differing_count same_metric s.known))
 
--- a count, after so many turns of another phase
-abbrev pub risen : Rise → ℕ → ℕ → ℕ
-risen (Each x) n c = c + x * n
-risen (UpTo cap) n c = if nat_lt 0 n then c + (cap - c) else c
+abbrev pub nh_sends : Beyonds → Resolvers → ℕ
+nh_sends beyonds a = sum_by (nh_sends_of beyonds) (tables.values a)
 
--- so many turns of a phase were taken
-pub record Spends (f : Frame) (r : Phase) (n : ℕ) (c c' : Counts) : Type 0 where
-  pub falls : c' r + n ≤ c r
-  pub rises : (e : Phase) → c' e ≤ risen (rise f r e) n (c e)
+-- ---- a line for each phase
 
--- where a phase is run to its end
-abbrev pub grown : Frame → Phase → Counts → Counts
-grown f r c e = risen (rise f r e) (c r) (c e)
+-- how many turns all readers take at most, where so many changes of `best` may come: each change once, and two whole walks
+abbrev pub reading : ℕ → ℕ → ℕ → ℕ → ℕ
+reading exits unread rows sends = (1 + exits) * (unread + sends) + 2 * (exits * (rows + 1))
 
--- how many turns these phases take at most, one after the other
-abbrev pub bounds : Frame → List Phase → Counts → ℕ
-bounds f [] c = 0
-bounds f (r ∷ rs) c = c r + bounds f rs (grown f r c)
+abbrev pub reading_of : Moment → ℕ → ℕ
+reading_of m sends = reading (tables.len m.exits.chains) (most_unread m.exits) (rows_in m.chains) sends
+
+-- how many turns an idle takes at most from a phase on
+abbrev pub left_from : Phase → Moment → ℕ
+left_from Rdel m = counts m Rdel + (counts m Del + counts m Fin + most_of m + reading_of m (counts m Del + fin_sends m.chains + 3 * rows_in m.chains))
+left_from Del m = counts m Del + counts m Fin + most_of m + reading_of m (counts m Del + fin_sends m.chains + 3 * rows_in m.chains)
+left_from Fin m = counts m Fin + most_of m + reading_of m (fin_sends m.chains + 3 * rows_in m.chains)
+left_from Nh m = counts m Nh + reading_of m (nh_sends (beyonds m.chains) m.hops)
+left_from ReadRib m = counts m ReadRib + counts m Out
+left_from Out m = counts m Out
+
+-- the phases before this one, to which its turns add nothing
+abbrev pub earlier : Phase → List Phase
+earlier Rdel = []
+earlier Del = Rdel ∷ []
+earlier Fin = Rdel ∷ Del ∷ []
+earlier Nh = Rdel ∷ Del ∷ Fin ∷ []
+earlier ReadRib = Rdel ∷ Del ∷ Fin ∷ Nh ∷ []
+earlier Out = Rdel ∷ Del ∷ Fin ∷ Nh ∷ ReadRib ∷ []

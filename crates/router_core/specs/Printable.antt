@@ -1,6 +1,9 @@
--- What stands between two steps can be printed and read back: the declared peers, each row, live or lost, and the rules of filters.
+-- What peers hear of a step; and what stands between two steps can be printed and read back: the declared peers, each row, live or lost, and the rules of filters.
 use Rattle.std.specs.Prelude.{◌≡◌, ℕ, List, Some}
 use Rattle.std.specs.List.{AllByRecursion}
+use Rattle.live_state.specs.Heard.{Hears}
+use Rattle.exit_laws.specs.Views.{views_of}
+use Rattle.exit_laws.specs.Printable.{ArePrintableExits}
 use Rattle.nexthop_resolver.specs.declared.rows.Metric.{Metric}
 use Rattle.nexthop_resolver.specs.Resolving.{Resolving}
 use Rattle.hop_side.specs.Resolvers.{resolver_at}
@@ -20,10 +23,15 @@ use Rattle.live_state.specs.Messages.{plain}
 abbrev pub ArePrinted : Declaration → List Line → Type 0
 ArePrinted d said = AllByRecursion (IsPrinted (neighbours d)) said
 
--- The declarations; each peer's chain, whose rows, live or lost, the peer said; the routes of each protocol, live or lost; and the
--- answers about next hops.
+-- The octets of the lines, read as the peers read them, lead from what each was sent before to what it was sent then.
+abbrev pub IsHeard : Moment → List Line → Moment → Type 0
+IsHeard m said m' = Hears (neighbours m.declared) (views_of m.exits) said (views_of m'.exits)
+
+-- The declarations; each peer's chain, whose rows, live or lost, the peer said; the routes of each protocol, live or lost; the
+-- answers about next hops; the changes of `best` that readers haven't taken, and the rows that peers were sent.
 pub record IsPrintableMoment (m : Moment) : Type 0 where
   pub declared : IsDeclaration m.declared
   pub chains : (k : ℕ) (c : Chained) → chain_at k m.chains ≡ Some c → IsPrintableChain plain c
   pub interior : (proto : Proto) → AreTablesOf IsInteriorRow (branch_of proto m.tree).tables
   pub hops : (k : ℕ) (s : Resolving Metric) → resolver_at k m.hops ≡ Some s → HaveMetrics s
+  pub exits : ArePrintableExits (neighbours m.declared) m.exits

@@ -1,5 +1,5 @@
 -- What holds between two steps.
-use Rattle.std.specs.Prelude.{◌≡◌, ◌≢◌, ℕ, ◌+◌, ◌≤◌, length, Bool, true, false, is_some, IsSome, if◌then◌else◌, Option, Some, None}
+use Rattle.std.specs.Prelude.{◌≡◌, ◌≢◌, ℕ, ◌+◌, ◌≤◌, length, Bool, true, false, is_some, IsSome, if◌then◌else◌, List, Option, Some, None}
 use Rattle.std.specs.FinMap as tables
 use Rattle.bgp_attr.specs.declared.speaker.Speaker.{Speaker}
 use Rattle.event_text.specs.declared.declared.DeclaredPeer.{DeclaredPeer}
@@ -7,16 +7,19 @@ use Rattle.event_text.specs.Declarations.{peer_at}
 use Rattle.in_chain.specs.Chains.{Chained}
 use Rattle.hop_side.specs.Resolvers.{resolver_at, IsHops, AllAgree, AllCounted}
 use Rattle.hop_side.specs.Steps.{HasNoInterest}
-use Rattle.peer_side.specs.Peers.{chain_at, filt_at, IsPeers, AreBefore}
+use Rattle.peer_side.specs.Peers.{Chains, chain_at, filt_at, IsPeers, AreBefore}
 use Rattle.rib_route.specs.declared.Proto.{Proto}
 use Rattle.rib_tree.specs.Trees.{Treed, branch_of, int_rows, IsTree, IsFull, AreNumbered}
 use Rattle.rib_tree.specs.Steps.{new_tree}
 use Rattle.pass_core.specs.Passed.{present}
 use Rattle.policy_rules.specs.declared.rule.Rule.{Rule}
-use Rattle.out_chain.specs.Chains.{OutChained, RowsMayBeHeard}
+use Rattle.loss_chain.specs.Rows.{AllRows}
+use Rattle.fanout_queue.specs.Queues.{AllLead}
+use Rattle.peer_out.specs.Changes.{MayBeHeard, IsSender}
+use Rattle.out_chain.specs.Chains.{OutChained}
 use Rattle.exit_side.specs.Exits.{Exited, IsExits, AllStand, chain_at as exit_at}
 use Rattle.router_core.specs.Bests.{best_at}
-use Rattle.router_core.specs.Moments.{Moment, Cored, Policies, rules_to}
+use Rattle.router_core.specs.Moments.{Moment, Cored, Policies, plain, rules_to}
 use Rattle.router_core.specs.Printable.{IsPrintableMoment}
 use Rattle.addr4.specs.Prefixes.{Network}
 use Rattle.rib_route.specs.declared.rows.Interior.{Interior}
@@ -48,13 +51,22 @@ pub record IsExitOf (me : Speaker) (rules : List Rule) (p : DeclaredPeer) (c : O
   pub up : p.up ≡ true
   pub session : c.session ≡ p.session
   pub words : c.peer ≡ p.words
-  pub me : c.exit.me ≡ me
-  pub rules : present c.filter ≡ Some rules
+  pub speaker : c.exit.me ≡ me
+  pub latest : present c.filter ≡ Some rules
 
 abbrev pub ExitsAt : Option Speaker → Policies → ℕ → Option DeclaredPeer → Option OutChained → Type 0
 ExitsAt (Some me) policies k (Some p) (Some c) = IsExitOf me (rules_to k policies) p c
 ExitsAt s policies k p None = Unit {0}
 ExitsAt s policies k p c = ⊥
+
+-- Each row of a chain, live or lost, has attributes that some neighbour's octets may hold: so what is sent of it can be read.
+abbrev pub RowsWereHeard : Chains → Type 0
+RowsWereHeard a = (k : ℕ) (c : Chained) → chain_at k a ≡ Some c → AllRows (MayBeHeard plain) c.incoming.tables
+
+-- This speaker's words can be said.
+abbrev pub MaySend : Option Speaker → Type 0
+MaySend None = Unit {0}
+MaySend (Some me) = IsSender plain me
 
 -- The forwarding side reads from `local` on, by a reader that is no peer's.
 pub record ReadsAs (reader : ℕ) (e : Exited) : Type 0 where
@@ -78,7 +90,9 @@ pub record TreeStands (speaker : Option Speaker) (t : Treed) : Type 0 where
 -- what is claimed: of the chains alone, of each peer and its chain, that the chains have the words of this speaker and are as many as
 -- peers, and of the interior routes; of the resolvers alone, that exactly the peers with chains have one, that their next hops that
 -- aren't stale have the register's present answers, that the next hops which the rows of `filt.K` name are counted, and that nobody
--- else has an interest; and that the peers have numbers up to 64
+-- else has an interest; that the peers have numbers up to 64; that each row, live or lost, is one that octets may hold; of the exits
+-- alone, that what each reader hasn't taken leads to the rows of `best`, and what each peer was sent, how messages are written and that this speaker's words
+-- can be said, whose sessions they are, and who reads for the forwarding side
 pub data Claim : Type 0 where
   EachChain : Claim
   EachPeer : Claim
@@ -91,9 +105,12 @@ pub data Claim : Type 0 where
   HopsCounted : Claim
   NoStrangers : Claim
   SmallNumbers : Claim
+  EachRow : Claim
   EachExit : Claim
+  QueueLeads : Claim
   ExitsRead : Claim
-  ExitsHear : Claim
+  PlainExits : Claim
+  OneSender : Claim
   SameSessions : Claim
   OneReader : Claim
 
@@ -109,9 +126,12 @@ Claims m AnswersAgree = AllAgree m.hops m.registry
 Claims m HopsCounted = AllCounted (filt_at m.chains) m.hops
 Claims m NoStrangers = (k : ℕ) → resolver_at k m.hops ≡ None → HasNoInterest k m.registry
 Claims m SmallNumbers = (k : ℕ) → IsSome (chain_at k m.chains) → k ≤ 64
+Claims m EachRow = RowsWereHeard m.chains
 Claims m EachExit = IsExits m.exits
+Claims m QueueLeads = AllLead m.exits.queue (best_at m.chains m.hops)
 Claims m ExitsRead = AllStand (best_at m.chains m.hops) m.exits
-Claims m ExitsHear = RowsMayBeHeard m.exits.profile (best_at m.chains m.hops)
+Claims m PlainExits = m.exits.profile ≡ plain
+Claims m OneSender = MaySend m.declared.speaker
 Claims m SameSessions = (k : ℕ) → ExitsAt m.declared.speaker m.outgoing k (peer_at k m.declared.peers) (exit_at k m.exits)
 Claims m OneReader = ReadsOn m.declared.speaker m.reader m.exits
 
@@ -139,6 +159,11 @@ pub record Stands (m : Moment) : Type 0 where
 -- Each peer that is up has an exit. Within a loss this doesn't hold: the exit ends first, before the oldest stage runs to its end.
 abbrev pub AllHaveExits : Moment → Type 0
 AllHaveExits m = (k : ℕ) (p : DeclaredPeer) → peer_at k m.declared.peers ≡ Some p → p.up ≡ true → IsSome (exit_at k m.exits)
+
+-- What lookups ask for: each reader is one of the queue's.
+pub record HaveReaders (m : Moment) : Type 0 where
+  pub exits : IsExits m.exits
+  pub reader : (r : ℕ) → m.reader ≡ Some r → IsSome (tables.get m.exits.queue r)
 
 -- What holds of a core between two calls, unless memory ran out: all that stands can be printed, and losses are counted by events.
 pub record CoreStands (c : Cored) : Type 0 where

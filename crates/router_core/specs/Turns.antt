@@ -42,6 +42,7 @@ use Rattle.register_interest.specs.Interests.{AreReached, without}
 use Rattle.register_interest.specs.Registers.{Registry, KeepsAnswers, put_row}
 use Rattle.decision.specs.Branches.{best_candidates}
 use Rattle.fanout_queue.specs.Queues.{Takes}
+use Rattle.out_chain.specs.Chains.{is_unread}
 use Rattle.exit_side.specs.Exits.{with_queue, has_exit_work}
 use Rattle.exit_side.specs.Steps.{TurnsExit}
 use Rattle.journal_text.specs.Values.{route_value, sent_entries}
@@ -201,7 +202,7 @@ abbrev pub has_work : Task → Moment → Bool
 has_work (tasks.Del k s) m = has_peer_work m.chains (tasks.Del k s)
 has_work (tasks.Fin k) m = has_peer_work m.chains (tasks.Fin k)
 has_work (tasks.Nh k) m = has_hop_work m.hops k
-has_work tasks.ReadRib m = not (is_nil (unread_if m.exits.queue m.reader))
+has_work tasks.ReadRib m = is_unread (unread_if m.exits.queue m.reader)
 has_work (tasks.Out k) m = has_exit_work m.exits k
 has_work (tasks.Rdel proto n) m = has_tree_turn m.tree (tasks.Rdel proto n)
 

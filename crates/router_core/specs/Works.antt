@@ -1,5 +1,6 @@
 -- What the router's own calls make of chains and moments, with what they keep.
-use Rattle.std.specs.Prelude.{◌≡◌, ℕ, ◌≤◌, ◌⊎◌, true, false, List, ◌++◌, Option, Some, None, IsSome}
+use Rattle.std.specs.List.{AllByRecursion}
+use Rattle.std.specs.Prelude.{◌≡◌, ℕ, ◌+◌, ◌≤◌, ◌⊎◌, true, false, is_some, List, ◌++◌, Option, Some, None, IsSome}
 use Rattle.addr4.specs.Prefixes.{Network}
 use Rattle.bgp_attr.specs.declared.attrs.Attrs.{Attrs}
 use Rattle.link_change.specs.declared.change.Change.{Change}
@@ -25,44 +26,51 @@ use Rattle.rib_tree.specs.Steps.{lost_tree, welded_tree, tree_overdue, tree_loss
 use Rattle.std.specs.FinMap as tables
 use Rattle.bgp_attr.specs.declared.speaker.Speaker.{Speaker}
 use Rattle.bgp_attr.specs.declared.speaker.Profile.{Profile}
-use Rattle.peer_out.specs.Changes.{IsSender}
+use Rattle.peer_out.specs.Changes.{IsSender, MayBeHeard}
 use Rattle.journal_text.specs.declared.link.Link.TheVariants.{Best, ReadRib}
 use Rattle.journal_text.specs.declared.entry.Entry.TheVariants.{Inherit}
-use Rattle.exit_side.specs.Exits.{with_queue}
+use Rattle.std.specs.Prelude.{[], ◌∷◌}
+use Rattle.exit_side.specs.Exits.{with_queue, chain_at as exit_at}
 use Rattle.exit_side.specs.Steps.{BeginsExit}
 use Rattle.router_core.specs.Bests.{resolved_at, DecidesOn, Queues}
-use Rattle.router_core.specs.Moments.{Moment, with_chains, with_hops, with_tree, with_exits, rules_to, router_links, bound_of, Gives}
+use Rattle.router_core.specs.Moments.{Moment, plain, with_chains, with_hops, with_tree, with_exits, rules_to, router_links, bound_of, Gives}
 use Rattle.journal_text.specs.declared.link.Link.{Link}
 use Rattle.live_state.specs.Lives.{LiveState, LiveAfter, live_fed, heard, ended, interior_lost}
 use Rattle.router_core.specs.Lives.{live_state}
 use Rattle.router_core.specs.Stands.{Stands}
+use Rattle.router_core.specs.Printable.{IsHeard}
 use Rattle.router_core.specs.Scratch.{IsExact}
 use Rattle.router_core.specs.declared.router.Phase.{Phase}
 use Rattle.rib_route.specs.declared.rows.FibRow.{FibRow}
 use Rattle.rib_merge.specs.Forwards.{ForwardsOn}
 use Rattle.router_core.specs.Turns.{ResolvesOn, Invalidates, fib_entries, journal_lines, InPeers, FeedsAll, FallsRoute, phase_of, IsTurn, Turns, Runs, RunsPhase, RunsAll, has_work, phase_bound, IsOver, IsSettled}
-use Rattle.router_core.specs.Phases.{Frame, IsWithin, all_phases, counts, most_of, Spends}
+use Rattle.router_core.specs.Phases.{all_phases, counts, earlier, left_from}
 use Rattle.router_core.specs.Blocks.{RunsFirst, Loses, Hears, Idles, IsBlock, ended as ended_moment}
 use Rattle.router_core.specs.declared.router.Idle.{Idle}
 use Rattle.event_text.specs.declared.event.Event.{Event}
+use Rattle.std.specs.Option.{ForSome}
 use Rattle.bgp_wire.specs.declared.message.Message.{Message}
+use Rattle.bgp_wire.specs.declared.message.Message.TheVariants as messages
 
 -- these lines were pushed, and this is said of them
 abbrev pub Pushes : (List Line → Type 0) → Journaled → Journaled → Type 0
 Pushes P before now = (lines : List Line) × (now ≡ with_lines before lines) × P lines
 
--- What every step keeps: its entries lead from the old links to the new ones by the rules of the journal, this is live then, and
--- what holds between two steps holds.
+-- What every step keeps: its entries lead from the old links to the new ones by the rules of the journal, this is live then, what
+-- holds between two steps holds, and the peers hear what they are sent.
 pub record Keeps (live_then : LiveState) (m m' : Moment) (said : List Line) : Type 0 where
   pub leads : Leads (router_links m) (entries_of said) (router_links m')
   pub live : live_state m' ≡ live_then
   pub stands : Stands m'
+  pub heard : IsHeard m said m'
 
--- Background work of a phase: what is live stays, and so many turns are spent.
+-- Background work of a phase: what is live stays, and so many turns are spent, of the phase and of an idle from that phase on. Nothing is
+-- added to an earlier phase.
 pub record IsWork (phase : Phase) (turns : ℕ) (m m' : Moment) (said : List Line) : Type 0 where
   pub keeps : Keeps (live_state m) m m' said
-  pub spends : (f : Frame) → IsWithin f m → Spends f phase turns (counts m) (counts m')
-  pub within : most_of m' ≤ most_of m
+  pub falls : counts m' phase + turns ≤ counts m phase
+  pub left : left_from phase m' + turns ≤ left_from phase m
+  pub earlier : AllByRecursion (λ e. counts m' e ≤ counts m e) (earlier phase)
 
 -- one turn of a task
 pub record IsUnit (task : Task) (m m' : Moment) (said : List Line) : Type 0 where
@@ -115,10 +123,23 @@ pub record AllHaveDrained (m : Moment) (turns : ℕ) (m' : Moment) (said : List 
 abbrev pub IsUpAt : ℕ → Moment → Type 0
 IsUpAt k m = (p : DeclaredPeer) × (peer_at k m.declared.peers ≡ Some p) × (p.up ≡ true)
 
+-- the attributes of each announcement are some that a neighbour's octets may hold
+abbrev pub AreHeard : List (Network × Option Attrs) → Type 0
+AreHeard changes = AllByRecursion (λ c. ForSome c.1 (MayBeHeard plain)) changes
+
+-- and so are those of an UPDATE
+abbrev pub IsHeardMessage : Message → Type 0
+IsHeardMessage (messages.Update u) = ForSome u.attrs (MayBeHeard plain)
+IsHeardMessage other = Unit {0}
+
 -- The prefixes of an UPDATE from peer k were announced and withdrawn, one after the other.
 pub record HaveFed (k : ℕ) (changes : List (Network × Option Attrs)) (m m' : Moment) (said : List Line) : Type 0 where
   pub feeds : FeedsAll k changes m said m'
   pub keeps : Keeps (live_fed (live_state m) k changes) m m' said
+
+-- the same peers have exits
+abbrev pub HaveSameExits : Moment → Moment → Type 0
+HaveSameExits m m' = (k : ℕ) → is_some (exit_at k m'.exits) ≡ is_some (exit_at k m.exits)
 
 -- There is room for the loss of a session in the chain of peer k.
 pub record HasRoom (k : ℕ) (m room : Moment) (said : List Line) : Type 0 where
@@ -126,6 +147,7 @@ pub record HasRoom (k : ℕ) (m room : Moment) (said : List Line) : Type 0 where
   pub runs : RunsFirst (overdue_at k m.chains) m said room
   pub keeps : Keeps (live_state m) m room said
   pub free : overdue_at k room.chains ≡ None
+  pub same : HaveSameExits m room
 
 -- session s of the peer is up
 abbrev pub IsSession : ℕ → ℕ → Moment → Type 0

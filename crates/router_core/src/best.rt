@@ -6,6 +6,7 @@ ghost use Rattle.addr4.specs.Places.{key_of};
 ghost use Rattle.journal_text.specs.Journals.{Adds};
 ghost use Rattle.link_change.specs.Rows.{IsNextCandidate, CoversRows};
 ghost use Rattle.decision.specs.Branches.{best_candidates};
+ghost use Rattle.exit_side.specs.Exits.{IsExits};
 ghost use Rattle.router_core.specs.Works.{Decides};
 ghost use Rattle.router_core.specs.Bests.{best_at, lent_chain, lent_candidates};
 
@@ -78,7 +79,8 @@ impl Network {
         sent: Option<Change<Route>>,
         journal: &mut Journal,
     ) -> Result<(), Memory>
-        requires { number ≤ 64 }
+        requires small { number ≤ 64 }
+        requires exits { IsExits self.old.exits }
         ensures { OnOk result (Adds (Decides number sent self.old self.new) journal.old journal.new) }
     {
         let Some(change) = sent else {
@@ -86,7 +88,8 @@ impl Network {
         };
         let best = take_in(self.alloc, number as u8, change, &self.lent())?;
         journal.push_sent(Link::Best, &best)?;
-        self.queue(best)
+        self.queue(best)?;
+        Ok(())
     }
 
     /// The best route at a prefix; None where no peer has one.

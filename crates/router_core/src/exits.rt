@@ -2,15 +2,19 @@
 
 ghost use Rattle.std.specs.Prelude.{◌≡◌, [], None, IfOk, OnOk, IsSome};
 ghost use Rattle.std.specs.FinMap as map;
+ghost use Rattle.addr4.specs.Places.{key_of};
 ghost use Rattle.journal_text.specs.Journals.{Adds};
+ghost use Rattle.journal_text.specs.Walk.{HasRow};
+ghost use Rattle.journal_text.specs.declared.link.Link.TheVariants as links;
 ghost use Rattle.journal_text.specs.declared.link.Task.TheVariants as tasks;
 ghost use Rattle.event_text.specs.declared.event.Event.TheVariants as events;
 ghost use Rattle.event_text.specs.Declarations.{peer_at, refusal};
-ghost use Rattle.exit_side.specs.Exits.{IsExits, chain_at as exit_at};
+ghost use Rattle.exit_side.specs.Exits.{IsExits, exit_links, chain_at as exit_at};
 ghost use Rattle.router_core.specs.declared.router.Phase.TheVariants as phases;
-ghost use Rattle.router_core.specs.Bests.{Queues};
-ghost use Rattle.router_core.specs.Moments.{rules_to, with_exits};
-ghost use Rattle.router_core.specs.Stands.{Stands};
+ghost use Rattle.router_core.specs.Bests.{best_at, Queues};
+ghost use Rattle.router_core.specs.Moments.{read_links, rules_to, with_exits};
+ghost use Rattle.router_core.specs.Stands.{Stands, HaveReaders};
+ghost use Rattle.router_core.specs.Lookups.{IsNextPlace};
 ghost use Rattle.router_core.specs.Turns.{has_work, next_task};
 ghost use Rattle.router_core.specs.Works.{Comes, HasStepped, BeginsReading, BeginsSession, SendsAs};
 
@@ -83,7 +87,8 @@ impl Network {
     {
         let reader = self.exits.join()?;
         self.reader = Some(reader);
-        journal.push_entry(Entry::Inherit(Link::ReadRib, Link::Best))
+        journal.push_entry(Entry::Inherit(Link::ReadRib, Link::Best))?;
+        Ok(())
     }
 
     /// A session of a peer begins: its three links begin.
@@ -101,7 +106,8 @@ impl Network {
             unreachable!()
         };
         let rules = self.outgoing.rules(self.alloc, number)?;
-        self.exits.begin(&me, &peer.words, peer.session, rules, journal)
+        self.exits.begin(&me, &peer.words, peer.session, rules, journal)?;
+        Ok(())
     }
 
     /// A peer's outgoing filter has new rules, in its session or from its next one on.
@@ -111,7 +117,8 @@ impl Network {
         ensures { OnOk result (HasStepped self.old (events.FilterOut number rules) 0 self.new []) }
     {
         self.exits.edit(number, rules.copy(self.alloc)?);
-        self.outgoing.set(number, rules)
+        self.outgoing.set(number, rules)?;
+        Ok(())
     }
 
     /// What follows a change of `best`, if one came: it joins the queue.
@@ -186,7 +193,11 @@ impl Network {
     }
 
     /// The row at a prefix of `read.rib`.
-    pub(crate) fn read(&self, p: Prefix) -> Result<Option<Value>, Memory> {
+    pub(crate) fn read(&self, p: Prefix) -> Result<Option<Value>, Memory>
+        requires readers { HaveReaders self.now }
+        requires live { IsSome (read_links self.now.exits.queue self.now.reader (best_at self.now.chains self.now.hops) links.ReadRib) }
+        ensures { IfOk result (HasRow (read_links self.now.exits.queue self.now.reader (best_at self.now.chains self.now.hops)) links.ReadRib p) }
+    {
         let Some(reader) = &self.reader else {
             return Ok(None);
         };
@@ -202,7 +213,11 @@ impl Network {
     }
 
     /// Where the next row of `read.rib` may stand, beyond a place.
-    pub(crate) fn next_read(&self, after: Place) -> Option<Prefix> {
+    pub(crate) fn next_read(&self, after: Place) -> Option<Prefix>
+        requires readers { HaveReaders self.now }
+        requires live { IsSome (read_links self.now.exits.queue self.now.reader (best_at self.now.chains self.now.hops) links.ReadRib) }
+        ensures { IsNextPlace (read_links self.now.exits.queue self.now.reader (best_at self.now.chains self.now.hops) links.ReadRib) (key_of after) result }
+    {
         let Some(reader) = &self.reader else {
             return None;
         };
@@ -215,7 +230,11 @@ impl Network {
     }
 
     /// The row at a prefix of a link of a peer's exit.
-    pub(crate) fn sent(&self, link: Link, p: Prefix) -> Result<Option<Value>, Memory> {
+    pub(crate) fn sent(&self, link: Link, p: Prefix) -> Result<Option<Value>, Memory>
+        requires readers { HaveReaders self.now }
+        requires live { IsSome (exit_links self.now.exits (best_at self.now.chains self.now.hops) link) }
+        ensures { IfOk result (HasRow (exit_links self.now.exits (best_at self.now.chains self.now.hops)) link p) }
+    {
         let lent = self.lent();
         let best = Best {
             alloc: self.alloc,
@@ -225,7 +244,11 @@ impl Network {
     }
 
     /// Where the next row of a link of a peer's exit may stand, beyond a place.
-    pub(crate) fn next_sent(&self, link: Link, after: Place) -> Option<Prefix> {
+    pub(crate) fn next_sent(&self, link: Link, after: Place) -> Option<Prefix>
+        requires readers { HaveReaders self.now }
+        requires live { IsSome (exit_links self.now.exits (best_at self.now.chains self.now.hops) link) }
+        ensures { IsNextPlace (exit_links self.now.exits (best_at self.now.chains self.now.hops) link) (key_of after) result }
+    {
         let lent = self.lent();
         let best = Best {
             alloc: self.alloc,

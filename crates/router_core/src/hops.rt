@@ -4,6 +4,7 @@ ghost use Rattle.std.specs.Prelude.{◌≡◌, ◌≤◌, IfOk, OnOk, IsSome};
 ghost use Rattle.journal_text.specs.declared.link.Task.TheVariants as tasks;
 ghost use Rattle.journal_text.specs.Journals.{Adds};
 ghost use Rattle.hop_side.specs.Resolvers.{resolver_at, IsHops, AllAgree};
+ghost use Rattle.exit_side.specs.Exits.{IsExits};
 ghost use Rattle.peer_side.specs.Peers.{chain_at, IsPeersBut};
 ghost use Rattle.router_core.specs.Moments.{with_hops};
 ghost use Rattle.router_core.specs.Stands.{Stands};
@@ -33,6 +34,7 @@ impl Network {
         requires resolver { IsSome (resolver_at number self.old.hops) }
         requires agree { AllAgree self.old.hops self.old.registry }
         requires small { number ≤ 64 }
+        requires exits { IsExits self.old.exits }
         ensures { OnOk result (Adds (SettlesPeer number sent self.old self.new) journal.old journal.new) }
     {
         let passed = self.resolve(number, sent, journal)?;

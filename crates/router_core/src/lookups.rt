@@ -8,6 +8,7 @@ ghost use Rattle.hop_side.specs.Resolvers.{hop_links};
 ghost use Rattle.peer_side.specs.Peers.{filt_at};
 ghost use Rattle.router_core.specs.Bests.{best_at, best_links};
 ghost use Rattle.router_core.specs.Moments.{rib_by, router_links};
+ghost use Rattle.router_core.specs.Stands.{HaveReaders};
 ghost use Rattle.router_core.specs.Blocks.{answer_lines, Shows};
 ghost use Rattle.router_core.specs.Lookups.{Counts, ShowsRow, IsCountOf, IsNextPlace};
 ghost use Rattle.router_core.specs.Works.{Pushes};
@@ -46,7 +47,8 @@ impl Network {
 
     /// The row at a prefix of a live link; None where it has none.
     fn asked(&self, link: Link, p: Prefix) -> Result<Option<Value>, Memory>
-        requires { IsSome (router_links self.now link) }
+        requires readers { HaveReaders self.now }
+        requires live { IsSome (router_links self.now link) }
         ensures { IfOk result (HasRow (router_links self.now) link p) }
     {
         match region_of(link) {
@@ -63,7 +65,8 @@ impl Network {
 
     /// Where the next row of a live link may stand, beyond a place.
     fn next_candidate(&self, link: Link, after: Place) -> Option<Prefix>
-        requires { IsSome (router_links self.now link) }
+        requires readers { HaveReaders self.now }
+        requires live { IsSome (router_links self.now link) }
         ensures { IsNextPlace (router_links self.now link) (key_of after) result }
     {
         match region_of(link) {
@@ -132,6 +135,7 @@ impl Network {
 
     /// Appends the answer of a lookup: the row at the prefix or none, or `absent` where the link isn't live.
     pub(crate) fn ask(&self, link: Link, p: Prefix, journal: &mut Journal) -> Result<(), Memory>
+        requires { HaveReaders self.now }
         ensures { OnOk result (journal.new ≡ with_lines journal.old (answer_lines link p (router_links self.now link))) }
     {
         if !self.live(link) {
@@ -143,6 +147,7 @@ impl Network {
 
     /// Appends all rows of a link by prefix, and their number; or `absent` where the link isn't live.
     pub(crate) fn show(&self, link: Link, journal: &mut Journal) -> Result<(), Memory>
+        requires { HaveReaders self.now }
         ensures { OnOk result (Pushes (Shows link (router_links self.now link)) journal.old journal.new) }
     {
         if !self.live(link) {
@@ -153,7 +158,8 @@ impl Network {
 
     /// All rows of a live link, and their number.
     fn show_rows(&self, link: Link, journal: &mut Journal) -> Result<(), Memory>
-        requires { IsSome (router_links self.now link) }
+        requires readers { HaveReaders self.now }
+        requires live { IsSome (router_links self.now link) }
         ensures { OnOk result (Pushes (Shows link (router_links self.now link)) journal.old journal.new) }
     {
         let mut count: u128 = 0;
@@ -169,7 +175,8 @@ impl Network {
 
     /// The row at a prefix, if there is one; answers how many there are.
     fn show_row(&self, link: Link, p: Prefix, journal: &mut Journal) -> Result<u128, Memory>
-        requires { IsSome (router_links self.now link) }
+        requires readers { HaveReaders self.now }
+        requires live { IsSome (router_links self.now link) }
         ensures shows { IfOk result (ShowsRow (router_links self.now) link p journal.old journal.new) }
         ensures few { IfOk result (λ count. count ≤ 1) }
     {
@@ -184,6 +191,7 @@ impl Network {
 
     /// How many rows a link has; None where it isn't live.
     pub(crate) fn count(&self, link: Link) -> Result<Option<u128>, Memory>
+        requires { HaveReaders self.now }
         ensures { IfOk result (IsCountOf (router_links self.now link)) }
     {
         if !self.live(link) {
@@ -194,7 +202,8 @@ impl Network {
 
     /// How many rows a live link has.
     fn count_rows(&self, link: Link) -> Result<u128, Memory>
-        requires { IsSome (router_links self.now link) }
+        requires readers { HaveReaders self.now }
+        requires live { IsSome (router_links self.now link) }
         ensures { IfOk result (λ count. IsCountOf (router_links self.now link) (Some count)) }
     {
         let mut count: u128 = 0;
@@ -210,7 +219,8 @@ impl Network {
 
     /// How many rows stand at a prefix: one or none.
     fn count_row(&self, link: Link, p: Prefix) -> Result<u128, Memory>
-        requires { IsSome (router_links self.now link) }
+        requires readers { HaveReaders self.now }
+        requires live { IsSome (router_links self.now link) }
         ensures counts { IfOk result (Counts (router_links self.now) link p) }
         ensures few { IfOk result (λ count. count ≤ 1) }
     {

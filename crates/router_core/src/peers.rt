@@ -5,6 +5,7 @@ ghost use Rattle.event_text.specs.declared.event.Event.TheVariants as events;
 ghost use Rattle.event_text.specs.Declarations.{peer_at, refusal};
 ghost use Rattle.peer_side.specs.Peers.{chain_at};
 ghost use Rattle.live_state.specs.Messages.{Says};
+ghost use Rattle.event_text.specs.WellFormed.{IsWellFormed};
 ghost use Rattle.router_core.specs.Stands.{Stands};
 ghost use Rattle.router_core.specs.Blocks.{begin_line, rib_begins};
 ghost use Rattle.journal_text.specs.Journals.{with_lines};
@@ -38,12 +39,14 @@ impl Network {
     ) -> Result<(), Memory>
         requires admitted { refusal self.old.declared (events.Local words) ≡ None }
         requires stands { Stands self.old }
+        requires formed { IsWellFormed (events.Local words) }
         ensures { OnOk result (Pushes (HasStepped self.old (events.Local words) 0 self.new) journal.old journal.new) }
     {
         self.declared.set_speaker(words);
         begin_rib(journal)?;
         self.begin_reading(journal)?;
-        journal.push_entry(Entry::Begin(Link::Fib))
+        journal.push_entry(Entry::Begin(Link::Fib))?;
+        Ok(())
     }
 
     /// `peer` was declared: its chain and its resolver begin, without routes and rules.
@@ -79,7 +82,8 @@ impl Network {
             return journal.push_line(Line::Ignored);
         }
         self.declared.begin_session(number);
-        self.begin_exit(number, journal)
+        self.begin_exit(number, journal)?;
+        Ok(())
     }
 
     /// A peer's incoming filter has new rules. Takes no memory.

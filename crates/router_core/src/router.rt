@@ -66,7 +66,13 @@ pub struct Core {
 }
 
 impl Model for Core {
+    ghost use Rattle.std.specs.Prelude.{◌≡◌, false};
+    ghost use Rattle.std.specs.Coded.{coded_option};
+    ghost use Rattle.router_core.specs.Stands.{HaveReaders};
     ghost use Rattle.router_core.specs.Moments.{Cored, cored_code, moment_code};
+    ghost use Rattle.router_core.specs.contracts.exits.Policies as policies_row;
+    ghost use Rattle.exit_side.specs.contracts.exits.Exits as exits_row;
+    ghost use Rattle.fanout_queue.specs.contracts.reader.Reader as reader_row;
     ghost use Rattle.peer_side.specs.contracts.peers.Peers as peers_row;
     ghost use Rattle.hop_side.specs.contracts.hops.NextHops as hops_row;
     ghost use Rattle.rib_route.specs.contracts.Proto as proto_row;
@@ -80,9 +86,11 @@ impl Model for Core {
 
     ghost Value = { Cored };
 
-    ghost coded = { cored_code (moment_code (declaration_code speaker_row.the_row.coded peer_row.the_row.coded) (treed_code (branch_code proto_row.the_row.coded interior_row.the_row.coded)) (registry_code interior_row.the_row.coded) peers_row.the_row.coded hops_row.the_row.coded) };
+    ghost coded = { cored_code (moment_code (declaration_code speaker_row.the_row.coded peer_row.the_row.coded) (treed_code (branch_code proto_row.the_row.coded interior_row.the_row.coded)) (registry_code interior_row.the_row.coded) peers_row.the_row.coded hops_row.the_row.coded policies_row.the_row.coded exits_row.the_row.coded (coded_option reader_row.the_row.coded)) };
 
     ghost view = { λ c. record { moment = c.network; events = c.events; failed = c.failed } };
+
+    ghost invariant = { λ c. c.failed ≡ false → HaveReaders c.network };
 }
 
 impl Core {

@@ -2,9 +2,12 @@
 
 ghost use Rattle.std.specs.Prelude.{◌≡◌, [], ◌∷◌, OnOk, IsSome, None};
 ghost use Rattle.peer_side.specs.Peers.{chain_at, overdue_at};
-ghost use Rattle.router_core.specs.Moments.{Gives};
+ghost use Rattle.std.specs.Option.{ForSome};
+ghost use Rattle.peer_out.specs.Changes.{MayBeHeard};
+ghost use Rattle.exit_side.specs.Exits.{chain_at as exit_at};
+ghost use Rattle.router_core.specs.Moments.{Gives, plain};
 ghost use Rattle.router_core.specs.Stands.{Stands};
-ghost use Rattle.router_core.specs.Works.{Pushes, IsUpAt, IsSession, HaveFed, HasLost, HasRoom, Ends};
+ghost use Rattle.router_core.specs.Works.{Pushes, AreHeard, IsUpAt, IsSession, HaveFed, HasLost, HasRoom, Ends};
 
 use crate::network::Network;
 use crate::updates::again;
@@ -22,6 +25,7 @@ impl Network {
     ) -> Result<(), Memory>
         requires stands { Stands self.old }
         requires up { IsUpAt number self.old }
+        requires heard { AreHeard changes.now }
         ensures { OnOk result (Pushes (HaveFed number changes.now self.old self.new) journal.old journal.new) }
     {
         for change in changes {
@@ -40,6 +44,7 @@ impl Network {
     ) -> Result<(), Memory>
         requires stands { Stands self.old }
         requires up { IsUpAt number self.old }
+        requires heard { ForSome row (MayBeHeard plain) }
         ensures { OnOk result (Pushes (HaveFed number ((prefix, row) ∷ []) self.old self.new) journal.old journal.new) }
     {
         let sent = self.chains.feed(number, prefix, row, journal)?;
@@ -57,6 +62,7 @@ impl Network {
     ) -> Result<(), Memory>
         requires stands { Stands self.old }
         requires up { IsSession number session self.old }
+        requires exit { IsSome (exit_at number self.old.exits) }
         ensures { OnOk result (Gives (HasLost number session self.old self.new) journal.old journal.new) }
     {
         self.exits.end(number, journal)?;
@@ -93,6 +99,7 @@ impl Network {
         requires stands { Stands self.old }
         requires up { IsSession number session self.old }
         requires free { overdue_at number self.old.chains ≡ None }
+        requires silent { exit_at number self.old.exits ≡ None }
         ensures { OnOk result (Pushes (Ends number session self.old self.new) journal.old journal.new) }
     {
         self.chains.lose(number, session, journal)?;

@@ -10,8 +10,10 @@ ghost use Rattle.router_core.specs.Moments.{Gives};
 ghost use Rattle.live_state.specs.Messages.{Says};
 ghost use Rattle.router_core.specs.Blocks.{AreMessageOctets};
 ghost use Rattle.bgp_wire.specs.Notices.{HasShortNotice};
-ghost use Rattle.router_core.specs.Stands.{Stands};
-ghost use Rattle.router_core.specs.Works.{HasStepped, HasIdled, HasHeard, IsSession};
+ghost use Rattle.event_text.specs.WellFormed.{IsWellFormed};
+ghost use Rattle.exit_side.specs.Exits.{chain_at as exit_at};
+ghost use Rattle.router_core.specs.Stands.{Stands, AllHaveExits};
+ghost use Rattle.router_core.specs.Works.{HasStepped, HasIdled, HasHeard, IsHeardMessage, IsSession};
 
 use crate::network::Network;
 use crate::peers::said;
@@ -31,6 +33,8 @@ impl Network {
         requires admitted { refusal self.old.declared event ≡ None }
         requires few { AreNumbered 4294967294 self.old.tree }
         requires stands { Stands self.old }
+        requires formed { IsWellFormed event }
+        requires exits { AllHaveExits self.old }
         ensures { IfOk result (λ turns. Gives (HasStepped self.old event turns self.new) journal.old journal.new) }
     {
         match event {
@@ -65,6 +69,7 @@ impl Network {
     fn local(&mut self, words: Speaker, journal: &mut Journal) -> Result<u128, Memory>
         requires admitted { refusal self.old.declared (events.Local words) ≡ None }
         requires stands { Stands self.old }
+        requires formed { IsWellFormed (events.Local words) }
         ensures { IfOk result (λ turns. Gives (HasStepped self.old (events.Local words) turns self.new) journal.old journal.new) }
     {
         self.declare_speaker(words, journal)?;
@@ -152,6 +157,7 @@ impl Network {
     fn down(&mut self, number: u32, journal: &mut Journal) -> Result<u128, Memory>
         requires admitted { refusal self.old.declared (events.Down number) ≡ None }
         requires stands { Stands self.old }
+        requires exits { AllHaveExits self.old }
         ensures { IfOk result (λ turns. Gives (HasStepped self.old (events.Down number) turns self.new) journal.old journal.new) }
     {
         let Some(peer) = self.declared.peer(number) else {
@@ -175,6 +181,8 @@ impl Network {
     ) -> Result<u128, Memory>
         requires admitted { refusal self.old.declared (events.Bgp number octets) ≡ None }
         requires stands { Stands self.old }
+        requires formed { IsWellFormed (events.Bgp number octets) }
+        requires exits { AllHaveExits self.old }
         ensures { IfOk result (λ turns. Gives (HasStepped self.old (events.Bgp number octets) turns self.new) journal.old journal.new) }
     {
         let Some(peer) = self.declared.peer(number) else {
@@ -202,6 +210,8 @@ impl Network {
         requires there { peer_at number self.old.declared.peers ≡ Some peer }
         requires up { peer.up ≡ true }
         requires short { HasShortNotice message }
+        requires heard { IsHeardMessage message }
+        requires exit { IsSome (exit_at number self.old.exits) }
         ensures { OnOk result (Gives (HasHeard number peer self.old message self.new) journal.old journal.new) }
     {
         match message {

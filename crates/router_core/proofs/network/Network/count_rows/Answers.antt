@@ -20,4 +20,4 @@ rows-preserved c =
     }
 
 pub returns : goal.returns
-returns c = all_counted (router_links c.args.self.now c.args.link) (key_of c.rows.place) c.rows.count c.requires c.in_default.ensures c.rows.invariant.shown
+returns c = all_counted (router_links c.args.self.now c.args.link) (key_of c.rows.place) c.rows.count c.requires.live c.in_default.ensures c.rows.invariant.shown

@@ -3,7 +3,7 @@ use Rattle.addr4.specs.Prefixes.{Network}
 use Rattle.bgp_attr.specs.declared.attrs.Attrs.{Attrs}
 use Rattle.std.specs.Prelude.{Option}
 use Rattle.router_core.specs.Works.{Pushes, HaveFed}
-use Rattle.router_core.proofs.FeedLemmas.{pushed_more, take_pair}
+use Rattle.router_core.proofs.FeedLemmas.{pushed_more, take_pair, heard_at}
 use Rattle.router_core.proofs.network.Network.feed.Goals as goal
 
 pub loop-change-preserved : goal.loop-change-preserved
@@ -12,3 +12,6 @@ loop-change-preserved c =
     subst (λ (xs : List (Network × Option Attrs)). Pushes (HaveFed c.args.number xs c.args.self.now c.feed_one.new.self) c.args.journal.now c.feed_one.new.journal) (sym more)
     (pushed_more c.args.number (take c.loop-change.change-index c.args.changes.now) (c.change-item.result.0, c.in_ok-row.row) c.args.self.now c.loop-change.self c.feed_one.new.self
     c.args.journal.now c.loop-change.journal c.feed_one.new.journal c.loop-change.invariant c.in_ok-feed_one.ensures)
+
+pub feed_one-requires-clause-heard : goal.feed_one-requires-clause-heard
+feed_one-requires-clause-heard c = heard_at c.args.changes.now c.loop-change.change-index c.change-item.result c.in_ok-row.row c.loop-change-test.true c.change-item.is c.in_ok-row.ensures c.requires.heard

@@ -1,5 +1,5 @@
 use Rattle.router_core.proofs.StandLemmas.{chain_is_there, peers_sound}
-use Rattle.router_core.proofs.HopTurns.{hops_sound, hops_agree}
+use Rattle.router_core.proofs.HopTurns.{hops_sound, hops_agree, exits_sound}
 use Rattle.router_core.proofs.FeedLemmas.{one_fed, fed_there, fed_resolves, fed_small}
 use Rattle.router_core.proofs.network.Network.feed_one.Goals as goal
 
@@ -27,7 +27,10 @@ settle_peer-requires-clause-agree c = hops_agree c.args.self.now _ c.self.view_i
 pub settle_peer-requires-clause-small : goal.settle_peer-requires-clause-small
 settle_peer-requires-clause-small c = fed_small c.args.number c.args.prefix c.args.row _ c.args.self.now _ c.feed.new.self c.args.journal.now c.feed.new.journal c.self.view_is c.requires.stands c.in_ok-sent.ensures
 
+pub settle_peer-requires-clause-exits : goal.settle_peer-requires-clause-exits
+settle_peer-requires-clause-exits c = exits_sound c.args.self.now _ c.self.view_is c.requires.stands
+
 pub returns : goal.returns
 returns c =
-    one_fed c.args.number c.args.prefix c.args.row _ c.args.self.now _ c.feed.new.self c.settle_peer.new.self c.args.journal.now c.feed.new.journal c.settle_peer.new.journal c.self.view_is c.requires.stands c.requires.up c.in_ok-sent.ensures
+    one_fed c.args.number c.args.prefix c.args.row _ c.args.self.now _ c.feed.new.self c.settle_peer.new.self c.args.journal.now c.feed.new.journal c.settle_peer.new.journal c.self.view_is c.requires.stands c.requires.up c.requires.heard c.in_ok-sent.ensures
     c.in_ok-settle_peer.ensures

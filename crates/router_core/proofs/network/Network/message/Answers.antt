@@ -1,8 +1,14 @@
 use Rattle.router_core.proofs.StepLemmas.{bgp_ignored, heard_up}
-use Rattle.std.proofs.Common.{◌≡◌, ℕ, List, Some, None, subst, sym}
+use Rattle.std.proofs.Common.{◌≡◌, ℕ, Bool, not, List, Some, None, subst, sym}
+use Rattle.bgp_wire.specs.Grammar.{Answers}
+use Rattle.bgp_wire.specs.Readable.{AreOctets}
+use Rattle.bgp_wire.specs.declared.message.Message.{Message}
+use Rattle.bgp_wire.specs.declared.message.Message.TheVariants as messages
+use Rattle.router_core.specs.Works.{IsHeardMessage}
+use Rattle.router_core.proofs.HeardRows.{message_heard}
 use Rattle.event_text.specs.Declarations.{peer_at}
 use Rattle.router_core.specs.Moments.{Moment}
-use Rattle.live_state.specs.Messages.{Says}
+use Rattle.live_state.specs.Messages.{plain, Says}
 use Rattle.live_state.proofs.AdmittedLemmas.{bgp_there}
 use Rattle.router_core.proofs.network.Network.message.Goals as goal
 
@@ -10,6 +16,19 @@ pub unreachable-requires : goal.unreachable-requires
 unreachable-requires c =
     bgp_there c.args.self.now.declared c.args.number c.args.octets c.requires.admitted
     (subst (λ (m : Moment). peer_at c.args.number m.declared.peers ≡ None) c.self.view_is (sym c.in_default.ensures))
+
+-- what octets say may be heard
+said_heard : (external : Bool) (octets : List ℕ) (message : Message) → AreOctets octets → Answers plain external octets message → IsHeardMessage message
+said_heard external octets (messages.Update u) are says = message_heard external octets (messages.Update u) are says
+said_heard external octets messages.Keepalive are says = tt
+said_heard external octets messages.Skip are says = tt
+said_heard external octets messages.Notification are says = tt
+said_heard external octets (messages.Notify n) are says = tt
+
+pub hear-requires-clause-heard : goal.hear-requires-clause-heard
+hear-requires-clause-heard c =
+    let says : Says c.in-Some.peer c.args.octets c.in_ok-message.message = subst (λ (octets : List ℕ). Says c.in-Some.peer octets c.in_ok-message.message) c.as_slice.ensures c.in_ok-message.ensures.says in
+    said_heard (not c.in-Some.peer.words.internal) c.args.octets c.in_ok-message.message c.requires.formed.1.bytes says
 
 pub returns : goal.returns
 returns c =

@@ -1,6 +1,7 @@
 use Rattle.router_core.specs.declared.router.Phase.TheVariants.{Del, Fin}
 use Rattle.router_core.proofs.StandLemmas.{peers_sound}
-use Rattle.router_core.proofs.NextLemmas.{next_of_hops, none_of_hops, next_of_peers, next_of_tree, none_of_tree}
+use Rattle.router_core.proofs.HopTurns.{exits_sound}
+use Rattle.router_core.proofs.NextLemmas.{next_of_hops, none_of_hops, next_of_exits, none_of_exits, next_of_reader, none_of_reader, next_of_peers, next_of_tree, none_of_tree}
 use Rattle.router_core.proofs.network.Network.next.Goals as goal
 
 pub first_loss-requires : goal.first_loss-requires
@@ -16,13 +17,28 @@ pub returns-in-Rdel-clause-none : goal.returns-in-Rdel-clause-none
 returns-in-Rdel-clause-none c = none_of_tree c.args.phase c.args.self.now _ c.oldest.result c.in-Rdel.is c.self.view_is c.oldest.ensures
 
 pub returns-in-Del-clause-next : goal.returns-in-Del-clause-next
-returns-in-Del-clause-next c = next_of_peers Del c.args.phase c.args.self.now _ c.first_loss.result (λ e. cc) (λ e. cc) c.in-Del.is c.self.view_is c.first_loss.ensures.first
+returns-in-Del-clause-next c = next_of_peers Del c.args.phase c.args.self.now _ c.first_loss.result tt c.in-Del.is c.self.view_is c.first_loss.ensures.first
 
 pub returns-in-Fin-clause-next : goal.returns-in-Fin-clause-next
-returns-in-Fin-clause-next c = next_of_peers Fin c.args.phase c.args.self.now _ c.first_walk.result (λ e. cc) (λ e. cc) c.in-Fin.is c.self.view_is c.first_walk.ensures.first
+returns-in-Fin-clause-next c = next_of_peers Fin c.args.phase c.args.self.now _ c.first_walk.result tt c.in-Fin.is c.self.view_is c.first_walk.ensures.first
 
 pub returns-in-Nh-clause-next : goal.returns-in-Nh-clause-next
 returns-in-Nh-clause-next c = next_of_hops c.args.phase c.args.self.now _ c.first_busy.result c.task_of.result c.in-Nh.is c.self.view_is c.first_busy.ensures.first c.task_of.ensures
 
 pub returns-in-Nh-clause-none : goal.returns-in-Nh-clause-none
 returns-in-Nh-clause-none c = none_of_hops c.args.phase c.args.self.now _ c.first_busy.result c.task_of.result c.in-Nh.is c.self.view_is c.first_busy.ensures.none c.task_of.ensures
+
+pub first_busy-requires-in-Out : goal.first_busy-requires-in-Out
+first_busy-requires-in-Out c = record { sound = exits_sound c.args.self.now _ c.self.view_is c.requires }
+
+pub returns-in-ReadRib-clause-next : goal.returns-in-ReadRib-clause-next
+returns-in-ReadRib-clause-next c = next_of_reader c.args.phase c.args.self.now c.next_reader.result c.in-ReadRib.is c.next_reader.ensures
+
+pub returns-in-ReadRib-clause-none : goal.returns-in-ReadRib-clause-none
+returns-in-ReadRib-clause-none c = none_of_reader c.args.phase c.args.self.now c.next_reader.result c.in-ReadRib.is c.next_reader.ensures
+
+pub returns-in-Out-clause-next : goal.returns-in-Out-clause-next
+returns-in-Out-clause-next c = next_of_exits c.args.phase c.args.self.now _ c.first_busy-in-Out.result c.exit_of.result c.in-Out.is c.self.view_is c.first_busy-in-Out.ensures.first c.exit_of.ensures
+
+pub returns-in-Out-clause-none : goal.returns-in-Out-clause-none
+returns-in-Out-clause-none c = none_of_exits c.args.phase c.args.self.now _ c.first_busy-in-Out.result c.exit_of.result c.in-Out.is c.self.view_is c.first_busy-in-Out.ensures.none c.exit_of.ensures

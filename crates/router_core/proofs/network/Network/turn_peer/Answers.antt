@@ -2,7 +2,7 @@ use Rattle.std.proofs.Common.{ℕ, ◌≤◌, IsSome, sym, subst}
 use Rattle.hop_side.specs.Resolvers.{resolver_at}
 use Rattle.peer_side.specs.Peers.{IsPeersBut, chain_at}
 use Rattle.router_core.proofs.StandLemmas.{peers_sound}
-use Rattle.router_core.proofs.HopTurns.{hops_sound, hops_agree}
+use Rattle.router_core.proofs.HopTurns.{hops_sound, hops_agree, exits_sound}
 use Rattle.router_core.proofs.PeerTurns.{peer_took, peer_fallen, peer_resolves, peer_small, settled_same}
 use Rattle.router_core.proofs.network.Network.turn_peer.Goals as goal
 
@@ -19,6 +19,7 @@ settle_peer-requires c =
       resolver = subst (λ (k : ℕ). IsSome (resolver_at k c.self.inside.hops)) (sym c.peer_of.ensures)
           (peer_resolves c.args.task c.args.self.now _ c.turn.new.self c.args.journal.now c.turn.new.journal c.in_ok-turn.turn c.in_default.not-Nothing c.self.view_is c.requires.stands c.in_ok-turn.ensures);
       agree = hops_agree c.args.self.now _ c.self.view_is c.requires.stands;
+      exits = exits_sound c.args.self.now _ c.self.view_is c.requires.stands;
       small = subst (λ (k : ℕ). k ≤ 64) (sym c.peer_of.ensures)
           (peer_small c.args.task c.args.self.now _ c.turn.new.self c.args.journal.now c.turn.new.journal c.in_ok-turn.turn c.in_default.not-Nothing c.self.view_is c.requires.stands c.in_ok-turn.ensures);
     }

@@ -22,14 +22,14 @@ turned-requires-in-Sent-clause-hops c = hops_sound c.args.self.now _ c.self.view
 
 pub returns-in-Quiet : goal.returns-in-Quiet
 returns-in-Quiet c =
-    let old : Moment = record { declared = c.self.inside.declared; tree = c.self.inside.tree; registry = c.self.inside.registry; chains = c.self.inside.chains; hops = c.self.inside.hops } in
+    let old : Moment = record { declared = c.self.inside.declared; tree = c.self.inside.tree; registry = c.self.inside.registry; chains = c.self.inside.chains; hops = c.self.inside.hops; outgoing = c.self.inside.outgoing; exits = c.self.inside.exits; reader = c.self.inside.reader } in
     subst (λ (m : Moment). IfOk c.turned.result (Comes (tasks.Rdel c.args.proto c.args.loss) m c.turned.new.self c.args.journal.now c.turned.new.journal)) c.self.view_is
     (route_quiet c.turns_take_rows.ensures c.welds_keep_rows.ensures old c.args.proto c.args.loss c.in_ok-unit.field-0 c.unit.new.self c.turned.new.self c.args.journal.now c.unit.new.journal c.turned.new.journal c.turned.result
     (subst Stands (sym c.self.view_is) c.requires) c.in-Quiet.is c.in_ok-unit.ensures.taken c.turned.ensures)
 
 pub returns-in-Sent : goal.returns-in-Sent
 returns-in-Sent c =
-    let old : Moment = record { declared = c.self.inside.declared; tree = c.self.inside.tree; registry = c.self.inside.registry; chains = c.self.inside.chains; hops = c.self.inside.hops } in
+    let old : Moment = record { declared = c.self.inside.declared; tree = c.self.inside.tree; registry = c.self.inside.registry; chains = c.self.inside.chains; hops = c.self.inside.hops; outgoing = c.self.inside.outgoing; exits = c.self.inside.exits; reader = c.self.inside.reader } in
     subst (λ (m : Moment). IfOk c.turned-in-Sent.result (Comes (tasks.Rdel c.args.proto c.args.loss) m c.turned-in-Sent.new.self c.args.journal.now c.turned-in-Sent.new.journal)) c.self.view_is
     (route_sent c.turns_take_rows.ensures c.welds_keep_rows.ensures old c.args.proto c.args.loss c.in_ok-unit.field-0 c.in-Sent.change c.unit.new.self c.turned-in-Sent.new.self c.args.journal.now c.unit.new.journal
     c.turned-in-Sent.new.journal c.turned-in-Sent.result (subst Stands (sym c.self.view_is) c.requires) c.in-Sent.is c.in_ok-unit.ensures.taken c.turned-in-Sent.ensures)

@@ -1,6 +1,6 @@
-use Rattle.std.proofs.Common.{◌<◌, subst, sym}
+use Rattle.std.proofs.Common.{◌+◌, ◌<◌, subst, sym}
 use Rattle.router_core.specs.Moments.{Cored}
-use Rattle.router_core.proofs.CoreLemmas.{few_losses, moment_stands, core_acts, core_stepped}
+use Rattle.router_core.proofs.CoreLemmas.{few_losses, moment_stands, moment_exits, core_acts, core_stepped, exact_after, readers_of}
 use Rattle.router_core.proofs.router.Core.step.Goals as goal
 
 pub step-requires-clause-few : goal.step-requires-clause-few
@@ -11,6 +11,9 @@ step-requires-clause-few c =
 pub step-requires-clause-stands : goal.step-requires-clause-stands
 step-requires-clause-stands c = moment_stands c.args.self.now c.self.inside.network c.self.inside.events c.self.inside.failed c.self.view_is c.if-self.false c.requires.stands
 
+pub step-requires-clause-exits : goal.step-requires-clause-exits
+step-requires-clause-exits c = moment_exits c.args.self.now c.self.inside.network c.self.inside.events c.self.inside.failed c.self.view_is c.if-self.false c.requires.stands
+
 pub returns-clause-acts : goal.returns-clause-acts
 returns-clause-acts c =
     core_acts c.args.self.now c.self.inside.network c.self.inside.events c.self.inside.failed c.self.view_is c.if-self.false c.requires.stands c.args.event c.in_ok-turns.turns c.step.new.self
@@ -20,3 +23,15 @@ pub returns-clause-stands : goal.returns-clause-stands
 returns-clause-stands c =
     core_stepped c.args.self.now c.self.inside.network c.self.inside.events c.self.inside.failed c.self.view_is c.if-self.false c.requires.stands c.args.event c.in_ok-turns.turns c.step.new.self
     c.args.journal.now c.step.new.journal c.requires.few c.requires.admitted c.requires.formed c.declarations_follow.ensures c.in_ok-turns.ensures
+
+pub returns-clause-exact : goal.returns-clause-exact
+returns-clause-exact c =
+    exact_after c.links_at_rest_are_exact.ensures c.step.new.self (c.self.inside.events + 1)
+    (core_stepped c.args.self.now c.self.inside.network c.self.inside.events c.self.inside.failed c.self.view_is c.if-self.false c.requires.stands c.args.event c.in_ok-turns.turns c.step.new.self
+    c.args.journal.now c.step.new.journal c.requires.few c.requires.admitted c.requires.formed c.declarations_follow.ensures c.in_ok-turns.ensures)
+
+pub invariant_of-self-2 : goal.invariant_of-self-2
+invariant_of-self-2 c =
+    λ _. readers_of c.step.new.self
+    (core_stepped c.args.self.now c.self.inside.network c.self.inside.events c.self.inside.failed c.self.view_is c.if-self.false c.requires.stands c.args.event c.in_ok-turns.turns c.step.new.self
+    c.args.journal.now c.step.new.journal c.requires.few c.requires.admitted c.requires.formed c.declarations_follow.ensures c.in_ok-turns.ensures).stands

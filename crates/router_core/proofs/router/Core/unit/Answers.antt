@@ -1,7 +1,19 @@
-use Rattle.router_core.proofs.CoreLemmas.{core_turned}
+use Rattle.router_core.proofs.CoreLemmas.{core_turned, exact_after, readers_of}
 use Rattle.router_core.proofs.router.Core.unit.Goals as goal
 
 pub returns-clause-stands : goal.returns-clause-stands
 returns-clause-stands c =
     core_turned c.args.self.now c.self.inside.network c.self.inside.events c.self.inside.failed c.self.view_is c.if-self.false c.requires.stands c.args.task c.turn.new.self
     c.args.journal.now c.turn.new.journal c.in_ok-done.done c.in_ok-done.ensures
+
+pub returns-clause-exact : goal.returns-clause-exact
+returns-clause-exact c =
+    exact_after c.links_at_rest_are_exact.ensures c.turn.new.self c.self.inside.events
+    (core_turned c.args.self.now c.self.inside.network c.self.inside.events c.self.inside.failed c.self.view_is c.if-self.false c.requires.stands c.args.task c.turn.new.self
+    c.args.journal.now c.turn.new.journal c.in_ok-done.done c.in_ok-done.ensures)
+
+pub invariant_of-self-2 : goal.invariant_of-self-2
+invariant_of-self-2 c =
+    λ _. readers_of c.turn.new.self
+    (core_turned c.args.self.now c.self.inside.network c.self.inside.events c.self.inside.failed c.self.view_is c.if-self.false c.requires.stands c.args.task c.turn.new.self
+    c.args.journal.now c.turn.new.journal c.in_ok-done.done c.in_ok-done.ensures).stands

@@ -1,0 +1,259 @@
+-- One turn of what reads `best`: of the forwarding side, and of a peer's exit.
+use Rattle.std.proofs.Common.{◌≡◌, ◌≢◌, ℕ, ◌+◌, ◌≤◌, nat_eq, nat_lt, Bool, true, false, cond, List, [], ◌∷◌, ◌++◌, map, length, Option, Some, None, is_some, IsSome, IfSome, refl, sym, ap, subst, ◌∙◌, arith, inl, inr}
+use Rattle.std.proofs.lemmas.Bool.Decides.{nat_tests}
+use Rattle.std.proofs.lemmas.List.{append-nil}
+use Rattle.std.specs.List.{AllByRecursion}
+use Rattle.std.specs.FinMap as tables
+use Rattle.std.specs.FinMap.{get-insert}
+use Rattle.std.specs.Ordering.{nat_cmp, eq_by_cmp}
+use Rattle.std.specs.Cmp.{nat_cmp_total}
+use Rattle.addr4.specs.Prefixes.{Network}
+use Rattle.bgp_attr.specs.declared.attrs.Attrs.{Attrs}
+use Rattle.bgp_attr.specs.declared.route.Route.{Route}
+use Rattle.bgp_attr.specs.declared.speaker.Speaker.{Speaker}
+use Rattle.link_change.specs.Rows.{Rows, Candidates}
+use Rattle.link_change.specs.Changes.{IsSent}
+use Rattle.link_change.specs.InOrder.{rows_before, ChangesLead}
+use Rattle.link_change.proofs.InOrderLemmas.{before_is_old}
+use Rattle.link_change.specs.declared.change.Change.{Change}
+use Rattle.link_change.specs.declared.turn.Turn.{Turn}
+use Rattle.link_change.specs.declared.turn.Turn.TheVariants as turns
+use Rattle.journal_text.specs.declared.link.Link.{Link}
+use Rattle.journal_text.specs.declared.link.Link.TheVariants as links
+use Rattle.journal_text.specs.declared.link.Task.TheVariants as tasks
+use Rattle.journal_text.specs.declared.entry.Entry.{Entry}
+use Rattle.journal_text.specs.declared.value.Value.{Value}
+use Rattle.journal_text.specs.declared.line.Line.{Line}
+use Rattle.journal_text.specs.Journals.{Journaled, with_entries, with_lines, flushed}
+use Rattle.journal_text.specs.Texts.{entries_of}
+use Rattle.journal_text.specs.Values.{route_value, route_rows, valued_change}
+use Rattle.journal_text.specs.Walk.{Links, Leads, with_link}
+use Rattle.journal_text.proofs.JournalLemmas.{entries_of_entries, entries_of_append}
+use Rattle.journal_text.proofs.WalkLemmas.{leads_sent}
+use Rattle.journal_laws.specs.Peers.{neighbours}
+use Rattle.event_text.specs.declared.declared.DeclaredPeer.{DeclaredPeer}
+use Rattle.event_text.specs.Declarations.{peer_at}
+use Rattle.loss_chain.proofs.TableLemmas.{equal_by}
+use Rattle.link_region.proofs.RegionLemmas.{by_bool}
+use Rattle.fanout_queue.specs.Queues.{Queued, Takes, AllLead}
+use Rattle.fanout_queue.specs.Readers.{unread_or_none, unread_by, read_rows}
+use Rattle.fanout_queue.proofs.LeadLemmas.{take_keeps_leading, each_reader_leads}
+use Rattle.out_chain.specs.Chains.{OutChained, is_unread}
+use Rattle.out_chain.specs.Steps.{sending_entries, said_of, message_lines}
+use Rattle.exit_side.specs.Exits.{Exited, OutChains, chain_at as exit_at, with_exit, with_queue, IsExits, AllStand, has_exit_work}
+use Rattle.exit_side.specs.Steps.{TurnsExit, ComesOut}
+use Rattle.exit_side.specs.Laws.{IsStranger, KeepsStranger, StaysWithQueue, StrangersTake}
+use Rattle.exit_side.proofs.StrangerLemmas.{turn_keeps}
+use Rattle.exit_laws.specs.Views.{views_of}
+use Rattle.exit_laws.proofs.HearLemmas.{changes_are_unheard}
+use Rattle.exit_laws.proofs.ViewLemmas.{turn_is_heard}
+use Rattle.decision.specs.Branches.{best_rows, best_candidates}
+use Rattle.hop_side.specs.Resolvers.{Resolvers}
+use Rattle.peer_side.specs.Peers.{Chains}
+use Rattle.router_core.specs.declared.router.Done.TheVariants.{Nothing, Taken}
+use Rattle.router_core.specs.declared.router.Phase.TheVariants as phases
+use Rattle.router_core.specs.Bests.{best_at, lent_rows, lent_candidates}
+use Rattle.router_core.specs.Moments.{Moment, Policies, with_exits, read_links, router_links}
+use Rattle.router_core.specs.Lives.{live_state}
+use Rattle.router_core.specs.Phases.{counts, unread_if, best_beyond}
+use Rattle.router_core.specs.Stands.{Stands, EachExit, QueueLeads, ExitsRead, PlainExits, SameSessions, OneReader, SmallNumbers, ExitsAt, IsExitOf, ReadsAs, ReadsOn}
+use Rattle.router_core.specs.Turns.{journal_lines, has_work}
+use Rattle.router_core.specs.Works.{Keeps, IsUnit, Comes}
+use Rattle.router_core.proofs.BestLemmas.{lent_best}
+use Rattle.router_core.proofs.QueueLemmas.{reader_live, reader_apart}
+use Rattle.router_core.proofs.HeardSteps.{heard_quiet, exits_declared}
+use Rattle.router_core.proofs.ReadingLemmas.{best_counted}
+use Rattle.router_core.proofs.SessionLemmas.{stands_exits, strangers_read, reads_as, exits_lead, exit_here, exit_elsewhere}
+
+-- ---- whether the forwarding side has something to read
+pub reader_is : (m v : Moment) → v ≡ m → Stands m → (r : ℕ) → v.reader ≡ Some r → IsSome (tables.get v.exits.queue r)
+reader_is m v view stands r is = subst (λ (n : Moment). IsSome (tables.get n.exits.queue r)) (sym view) (reader_live m stands r (ap (λ (n : Moment). n.reader) (sym view) ∙ is))
+
+counted : (o : Option (List (Change Route))) (n : ℕ) → IsSome o → IfSome o (λ u. n ≡ length u) → nat_lt 0 n ≡ is_unread (unread_or_none o)
+counted None n live is = absurd (let clash : false ≡ true = live in cc)
+counted (Some []) n live is = ap (nat_lt 0) is
+counted (Some (x ∷ u)) n live is = let more : 0 + 1 ≤ n = omega (arith, is) in grind (arith, nat_tests)
+
+pub reads_is : (m v : Moment) (r n : ℕ) → v ≡ m → Stands m → v.reader ≡ Some r → IfSome (tables.get v.exits.queue r) (λ u. n ≡ length u) → nat_lt 0 n ≡ is_unread (unread_if m.exits.queue m.reader)
+reads_is m v r n view stands is waiting =
+    counted (tables.get v.exits.queue r) n (reader_is m v view stands r is) waiting ∙ ap (λ (o : Option ℕ). is_unread (unread_if v.exits.queue o)) (sym is) ∙ ap (λ (x : Moment). is_unread (unread_if x.exits.queue x.reader)) view
+
+pub reads_nothing : (m v : Moment) → v ≡ m → v.reader ≡ None → false ≡ is_unread (unread_if m.exits.queue m.reader)
+reads_nothing m v view none = ap (λ (o : Option ℕ). is_unread (unread_if v.exits.queue o)) (sym none) ∙ ap (λ (x : Moment). is_unread (unread_if x.exits.queue x.reader)) view
+
+-- ---- a turn of the forwarding side
+key_same : (k : ℕ) → eq_by_cmp nat_cmp k k ≡ true
+key_same k = grind (arith, nat_tests)
+
+module _ (law : StrangersTake) (m : Moment) (r : ℕ) (change : Change Route) (queue : Queued Route) (stands : Stands m) (reads : m.reader ≡ Some r) (takes : Takes m.exits.queue queue r (Some change)) where
+  abbrev now : Moment
+  now = with_exits m (with_queue queue m.exits)
+
+  best : Rows Route
+  best = best_at m.chains m.hops
+
+  own : ReadsAs r m.exits
+  own = reads_as m stands r reads
+
+  stays : StaysWithQueue m.exits queue
+  stays = law m.exits queue r (Some change) (stands.own EachExit) own.own takes
+
+  was : tables.get m.exits.queue r ≡ Some (change ∷ takes.0)
+  was = takes.1
+
+  is : tables.get queue r ≡ Some takes.0
+  is = ap (λ (x : Queued Route). tables.get x r) takes.2 ∙ get-insert nat_cmp_total m.exits.queue r takes.0 r ∙ ap (λ b. cond b (Some takes.0) (tables.get m.exits.queue r)) (key_same r)
+
+  all : AllLead queue (best_at m.chains m.hops)
+  all = take_keeps_leading m.exits.queue queue (best_at m.chains m.hops) r (Some change) takes (stands.own QueueLeads)
+
+  -- the change leads from the rows that it had to those that it has
+  lead : ChangesLead (rows_before (change ∷ takes.0) (best_at m.chains m.hops)) (change ∷ takes.0) (best_at m.chains m.hops)
+  lead = subst (λ (u : List (Change Route)). ChangesLead (rows_before u (best_at m.chains m.hops)) u (best_at m.chains m.hops)) (ap unread_or_none was) (each_reader_leads m.exits.queue (best_at m.chains m.hops) r (stands.own QueueLeads))
+
+  sent : IsSent (read_rows m.exits.queue r (best_at m.chains m.hops)) (read_rows queue r (best_at m.chains m.hops)) change.prefix (Some change)
+  sent = subst (λ (rows : Rows Route). IsSent rows (read_rows queue r (best_at m.chains m.hops)) change.prefix (Some change)) (ap (λ u. rows_before (unread_or_none u) (best_at m.chains m.hops)) (sym was))
+      (subst (λ (rows : Rows Route). IsSent (rows_before (change ∷ takes.0) (best_at m.chains m.hops)) rows change.prefix (Some change)) (ap (λ u. rows_before (unread_or_none u) (best_at m.chains m.hops)) (sym is))
+      (refl, lead.0, before_is_old _ (best_at m.chains m.hops) takes.0 lead.1))
+
+  leads : Leads (router_links m) (valued_change route_value links.ReadRib change) (router_links now)
+  leads = subst (λ (l : Links Value). Leads (router_links m) (valued_change route_value links.ReadRib change) l) (λ i link. each link i)
+      (leads_sent route_value (λ a b e. cc) (router_links m) links.ReadRib (read_rows m.exits.queue r (best_at m.chains m.hops)) (read_rows queue r (best_at m.chains m.hops)) change.prefix (Some change)
+      (ap (λ (o : Option ℕ). read_links m.exits.queue o (best_at m.chains m.hops) links.ReadRib) reads) sent)
+    where
+      each : (link : Link) → with_link (router_links m) links.ReadRib (Some (route_rows (read_rows queue r (best_at m.chains m.hops)))) link ≡ router_links now link
+      each links.ReadRib = ap (λ (o : Option ℕ). read_links queue o (best_at m.chains m.hops) links.ReadRib) (sym reads)
+      each (links.Read j s) = ap (λ (l : Links Value). l (links.Read j s)) (sym (stays.links (best_at m.chains m.hops)))
+      each (links.Outf j s) = ap (λ (l : Links Value). l (links.Outf j s)) (sym (stays.links (best_at m.chains m.hops)))
+      each (links.Adv j s) = ap (λ (l : Links Value). l (links.Adv j s)) (sym (stays.links (best_at m.chains m.hops)))
+      each other = refl
+
+  reads_then : ReadsOn m.declared.speaker m.reader (with_queue queue m.exits)
+  reads_then = by_speaker m.declared.speaker m.reader reads (stands.own OneReader)
+    where
+      by_speaker : (s : Option Speaker) (o : Option ℕ) → o ≡ Some r → ReadsOn s o m.exits → ReadsOn s o (with_queue queue m.exits)
+      by_speaker (Some me) (Some q) same on = let e : q ≡ r = cc in record { live = subst (λ (n : ℕ). IsSome (tables.get queue n)) (sym e) (ap is_some is); own = on.own }
+      by_speaker (Some me) None same on = absurd on
+      by_speaker None (Some q) same on = absurd on
+      by_speaker None None same on = absurd (cc)
+
+  fewer : counts now phases.ReadRib + 1 ≤ counts m phases.ReadRib
+  fewer =
+      let a : length (unread_if queue m.reader) ≡ length takes.0 = ap (λ (o : Option ℕ). length (unread_if queue o)) reads ∙ ap (λ u. length (unread_or_none u)) is in
+      let b : length (unread_if m.exits.queue m.reader) ≡ length (change ∷ takes.0) = ap (λ (o : Option ℕ). length (unread_if m.exits.queue o)) reads ∙ ap (λ u. length (unread_or_none u)) was in
+      omega (arith, a, b)
+
+  pub read_done : IsUnit tasks.ReadRib m now (journal_lines (valued_change route_value links.ReadRib change))
+  read_done = record {
+    turn = record { reader = r; reads = reads; change = change; takes = takes; lines = refl; after = refl };
+    work = record {
+      keeps = record {
+        leads = subst (λ (es : List (Entry Value)). Leads (router_links m) es (router_links now)) (sym (entries_of_entries (valued_change route_value links.ReadRib change))) leads;
+        live = refl;
+        stands = stands_exits m (with_queue queue m.exits) stands stays.sound all (stays.stand (best_at m.chains m.hops) (stands.own ExitsRead)) (stands.own PlainExits) (stands.own SameSessions) reads_then;
+        heard = heard_quiet m now (journal_lines (valued_change route_value links.ReadRib change)) (changes_are_unheard links.ReadRib change.prefix _ _) refl;
+      };
+      falls = fewer;
+      left = let a = fewer in let b : counts now phases.Out ≡ counts m phases.Out = stays.left (best_beyond m.chains) in omega (arith, a, b);
+      earlier = (omega arith, (omega arith, (omega arith, (omega arith, tt))));
+    };
+  }
+
+pub reader_took : StrangersTake → (m v m' : Moment) (r : ℕ) (change : Change Route) (e : Exited) (before j now : Journaled) → v ≡ m → Stands m → v.reader ≡ Some r → Takes v.exits.queue e.queue r (Some change) → e ≡ with_queue e.queue v.exits → m' ≡ with_exits v e
+    → j ≡ with_entries before (valued_change route_value links.ReadRib change) → now ≡ flushed j → Comes tasks.ReadRib m m' before now Taken
+reader_took law m v m' r change e before j now view stands reads takes after is pushed flush =
+    subst (λ (n : Moment). Comes tasks.ReadRib n m' before now Taken) view
+    (journal_lines (valued_change route_value links.ReadRib change), flush ∙ ap flushed pushed,
+    subst (λ (n : Moment). IsUnit tasks.ReadRib v n (journal_lines (valued_change route_value links.ReadRib change))) (sym (is ∙ ap (with_exits v) after)) (read_done law v r change e.queue (subst Stands (sym view) stands) reads takes))
+
+pub reader_rests : (m v m' : Moment) (before : Journaled) → v ≡ m → v.reader ≡ None → m' ≡ v → Comes tasks.ReadRib m m' before before Nothing
+reader_rests m v m' before view none same = (sym (reads_nothing m v view none), same ∙ view, refl)
+
+pub nothing_unread : (m v m' : Moment) (r : ℕ) (e : Exited) (before : Journaled) → v ≡ m → v.reader ≡ Some r → Takes v.exits.queue e.queue r None → e ≡ with_queue e.queue v.exits → m' ≡ with_exits v e → Comes tasks.ReadRib m m' before before Nothing
+nothing_unread m v m' r e before view reads takes after is = (
+  ap (λ (x : Moment). is_unread (unread_if x.exits.queue x.reader)) (sym view) ∙ ap (λ (o : Option ℕ). is_unread (unread_if v.exits.queue o)) reads ∙ ap (λ u. is_unread (unread_or_none u)) takes.0,
+  is ∙ ap (with_exits v) (after ∙ ap (λ (q : Queued Route). with_queue q v.exits) takes.1) ∙ view,
+  refl,
+)
+
+-- ---- a turn of a peer's exit
+no_message : (c : OutChained) (sent : Option (Change Attrs)) → entries_of (message_lines c sent) ≡ []
+no_message c None = refl
+no_message c (Some change) = refl
+
+said_entries : (c : OutChained) (entries : List (Entry Value)) (sent : Option (Change Attrs)) → entries_of (said_of c entries sent) ≡ entries ++ sending_entries c sent
+said_entries c entries sent =
+    entries_of_append (journal_lines (entries ++ sending_entries c sent)) (message_lines c sent) ∙ ap (λ (es : List (Entry Value)). entries_of (journal_lines (entries ++ sending_entries c sent)) ++ es) (no_message c sent)
+    ∙ append-nil (entries_of (journal_lines (entries ++ sending_entries c sent))) ∙ entries_of_entries (entries ++ sending_entries c sent)
+
+module _ (m : Moment) (k : ℕ) (sent : Option (Change Attrs)) (e : Exited) (said : List Line) (stands : Stands m) (t : TurnsExit k (best_candidates (lent_candidates m.chains)) (best_at m.chains m.hops) sent m.exits e said) where
+  kept : (r : ℕ) → m.reader ≡ Some r → KeepsStranger r m.exits e
+  kept r is = turn_keeps r k (best_candidates (lent_candidates m.chains)) (best_at m.chains m.hops) sent m.exits e said (stands.own EachExit) (reads_as m stands r is).own t
+
+  -- the change that it takes, or none
+  all_lead : AllLead e.queue (best_at m.chains m.hops)
+  all_lead = elim t.turns.by as (λ _. AllLead e.queue (best_at m.chains m.hops)) [
+    | inl first ↦ take_keeps_leading m.exits.queue e.queue (best_at m.chains m.hops) t.chain.reader (Some first.change) first.takes (stands.own QueueLeads)
+    | inr walks ↦ take_keeps_leading m.exits.queue e.queue (best_at m.chains m.hops) t.chain.reader None walks.takes (stands.own QueueLeads)
+  ]
+
+  same_session : (s : Option Speaker) (p : Option DeclaredPeer) → ExitsAt s m.outgoing k p (Some t.chain) → ExitsAt s m.outgoing k p (Some t.taken)
+  same_session (Some me) (Some p) is = record { up = is.up; session = t.same.session ∙ is.session; words = t.same.peer ∙ is.words; speaker = ap (λ x. x.me) t.same.exit ∙ is.speaker; latest = t.same.rules ∙ is.latest }
+  same_session (Some me) None is = absurd is
+  same_session None p is = absurd is
+
+  sessions : (j : ℕ) → ExitsAt m.declared.speaker m.outgoing j (peer_at j m.declared.peers) (exit_at j e)
+  sessions j = subst (λ (o : Option OutChained). ExitsAt m.declared.speaker m.outgoing j (peer_at j m.declared.peers) o) (sym (ap (exit_at j) t.after))
+      (by_bool (nat_eq j k) (λ b. ExitsAt m.declared.speaker m.outgoing j (peer_at j m.declared.peers) (exit_at j (with_exit k t.taken e.queue m.exits)))
+      (λ same. subst (λ (n : ℕ). ExitsAt m.declared.speaker m.outgoing n (peer_at n m.declared.peers) (exit_at n (with_exit k t.taken e.queue m.exits))) (sym (equal_by j k same))
+      (subst (λ (o : Option OutChained). ExitsAt m.declared.speaker m.outgoing k (peer_at k m.declared.peers) o) (sym (exit_here k t.taken e.queue m.exits))
+      (same_session m.declared.speaker (peer_at k m.declared.peers) (subst (λ (o : Option OutChained). ExitsAt m.declared.speaker m.outgoing k (peer_at k m.declared.peers) o) t.at (stands.own SameSessions k)))))
+      (λ apart. subst (λ (o : Option OutChained). ExitsAt m.declared.speaker m.outgoing j (peer_at j m.declared.peers) o) (sym (exit_elsewhere k j t.taken e.queue m.exits apart)) (stands.own SameSessions j)))
+
+  fewer_left : counts (with_exits m e) phases.Out + 1 ≤ counts m phases.Out
+  fewer_left = t.fewer (best_beyond m.chains) (best_counted m.chains (stands.own SmallNumbers))
+
+  read_same : (o : Option ℕ) → ((r : ℕ) → o ≡ Some r → tables.get e.queue r ≡ tables.get m.exits.queue r) → length (unread_if e.queue o) ≡ length (unread_if m.exits.queue o)
+  read_same None same = refl
+  read_same (Some r) same = ap (λ u. length (unread_or_none u)) (same r refl)
+
+  pub exit_done : IsUnit (tasks.Out k) m (with_exits m e) said
+  exit_done = record {
+    turn = record { sent = sent; turn = t; after = refl };
+    work = record {
+      keeps = record {
+        leads = subst (λ (es : List (Entry Value)). Leads (router_links m) es (router_links (with_exits m e))) (sym (ap entries_of t.turns.goes.lines ∙ said_entries t.chain t.turns.entries sent))
+            (exits_lead m e (t.turns.entries ++ sending_entries t.chain sent) (λ r is. (kept r is).unread) t.leads);
+        live = refl;
+        stands = stands_exits m e stands t.sound all_lead t.stand (ap (λ (x : Exited). x.profile) t.after ∙ stands.own PlainExits) sessions (strangers_read m.declared.speaker m.reader m.exits e kept (stands.own OneReader));
+        heard = turn_is_heard (neighbours m.declared) k (best_candidates (lent_candidates m.chains)) (best_at m.chains m.hops) sent m.exits e said (exits_declared m stands) t;
+      };
+      falls = fewer_left;
+      left = fewer_left;
+      earlier = (omega arith, (omega arith, (omega arith, (omega arith, (let same = read_same m.reader (λ r is. (kept r is).unread) in omega (arith, same), tt)))));
+    };
+  }
+
+-- by what it came to
+pub exit_took : (m v : Moment) (k : ℕ) (e : Exited) (a : Chains) (h : Resolvers) (before j now : Journaled) (turn : Turn Attrs) → (turn ≡ turns.Nothing → ⊥) → v ≡ m → Stands m → a ≡ v.chains → h ≡ v.hops
+    → ComesOut k (best_candidates (lent_candidates a)) (best_rows (lent_rows a h)) v.exits e before j turn → now ≡ flushed j → Comes (tasks.Out k) m (with_exits v e) before now Taken
+exit_took m v k e a h before j now turn some view stands chains hops comes is =
+    subst (λ (n : Moment). Comes (tasks.Out k) n (with_exits v e) before now Taken) view (by_turn turn some here)
+  where
+    here : ComesOut k (best_candidates (lent_candidates v.chains)) (best_at v.chains v.hops) v.exits e before j turn
+    here = subst (λ (rows : Rows Route). ComesOut k (best_candidates (lent_candidates v.chains)) rows v.exits e before j turn) (lent_best v a h chains hops)
+        (subst (λ (x : Chains). ComesOut k (best_candidates (lent_candidates x)) (best_rows (lent_rows a h)) v.exits e before j turn) chains comes)
+
+    by_turn : (t : Turn Attrs) → (t ≡ turns.Nothing → ⊥) → ComesOut k (best_candidates (lent_candidates v.chains)) (best_at v.chains v.hops) v.exits e before j t → Comes (tasks.Out k) v (with_exits v e) before now Taken
+    by_turn turns.Nothing other c = absurd (other refl)
+    by_turn turns.Quiet other c = (c.0, is ∙ ap flushed c.1, exit_done v k None e c.0 (subst Stands (sym view) stands) c.2)
+    by_turn (turns.Sent change) other c = (c.0, is ∙ ap flushed c.1, exit_done v k (Some change) e c.0 (subst Stands (sym view) stands) c.2)
+
+pub exit_rests : (m v : Moment) (k : ℕ) (e : Exited) (candidates : Candidates) (best : Rows Route) (before j : Journaled) (turn : Turn Attrs) → turn ≡ turns.Nothing → v ≡ m → ComesOut k candidates best v.exits e before j turn → Comes (tasks.Out k) m (with_exits v e) before j Nothing
+exit_rests m v k e candidates best before j turn is view comes =
+    let c : ComesOut k candidates best v.exits e before j turns.Nothing = subst (ComesOut k candidates best v.exits e before j) is comes in
+    (ap (λ (x : Moment). has_exit_work x.exits k) (sym view) ∙ c.0, ap (with_exits v) c.1 ∙ view, c.2)
+
+-- what the turn asks for
+pub exits_stand : (m v : Moment) (a : Chains) (h : Resolvers) → v ≡ m → Stands m → a ≡ v.chains → h ≡ v.hops → AllStand (best_rows (lent_rows a h)) v.exits
+exits_stand m v a h view stands chains hops = subst (λ (rows : Rows Route). AllStand rows v.exits) (sym (lent_best v a h chains hops)) ((subst Stands (sym view) stands).own ExitsRead)

@@ -1,0 +1,135 @@
+-- Rows whose attributes may be heard: those of the chains, and so those of `best`.
+use Rattle.std.proofs.Common.{◌≡◌, ℕ, Bool, true, false, List, Option, Some, None, refl, sym, ap, subst, ◌∙◌, inl, inr}
+use Rattle.std.specs.List.{AllByRecursion}
+use Rattle.std.specs.Option.{ForSome}
+use Rattle.std.specs.Prelude.{filter, map, ◌++◌, [], ◌∷◌}
+use Rattle.addr4.specs.Prefixes.{Network}
+use Rattle.bgp_attr.specs.Hosts.{is_host_prefix}
+use Rattle.bgp_attr.specs.declared.attrs.Attrs.{Attrs}
+use Rattle.bgp_attr.specs.declared.route.Route.{Route}
+use Rattle.bgp_wire.specs.Grammar.{Reads, without}
+use Rattle.bgp_wire.specs.Readable.{AreOctets}
+use Rattle.bgp_wire.specs.declared.message.Message.{Message}
+use Rattle.bgp_wire.specs.declared.message.Message.TheVariants as messages
+use Rattle.bgp_wire.specs.declared.message.Update.{Update}
+use Rattle.link_change.specs.Rows.{Rows}
+use Rattle.link_change.specs.declared.change.Change.{Change}
+use Rattle.loss_chain.specs.Rows.{IsRow, AllRows}
+use Rattle.loss_chain.specs.Tables.{Tables}
+use Rattle.loss_chain.specs.Steps.{fed_tables, lost_tables, welded_tables, swept_tables}
+use Rattle.loss_chain.proofs.FeedLemmas.{feeds_bring_one_row, losses_bring_no_row, welds_bring_no_row, turns_bring_no_row, lowest_rows_are_rows}
+use Rattle.loss_chain.proofs.ListLemmas.{all_both}
+use Rattle.policy_rules.specs.declared.rule.Rule.{Rule}
+use Rattle.pass_core.specs.Passed.{function_at, function_of}
+use Rattle.filter_bank.specs.Filtered.{filtered}
+use Rattle.filter_bank.proofs.LawLemmas.{filtered_keeps_attrs}
+use Rattle.nexthop_resolver.specs.declared.rows.Metric.{Metric}
+use Rattle.nexthop_resolver.specs.Kept.{route_hop, with_igp, with_metric}
+use Rattle.nexthop_resolver.specs.Resolving.{Resolving, Answers, in_force_by, fresh_by, walk_to, goes_on, made_by}
+use Rattle.journal_text.specs.declared.link.Task.{Task}
+use Rattle.journal_text.specs.declared.link.Task.TheVariants.{Del, Fin, Nh, ReadRib, Out, Rdel}
+use Rattle.journal_text.specs.declared.entry.Entry.{Entry}
+use Rattle.journal_text.specs.declared.value.Value.{Value}
+use Rattle.in_chain.specs.Chains.{Chained, filt_rows}
+use Rattle.in_chain.specs.Incomings.{in_rows}
+use Rattle.in_chain.specs.Steps.{fed, lost, welded, swept, Turned}
+use Rattle.peer_out.specs.Changes.{MayBeHeard}
+use Rattle.peer_out.proofs.SentLemmas.{read_may_be_heard}
+use Rattle.out_chain.specs.Chains.{RowsMayBeHeard}
+use Rattle.decision.specs.Branches.{best_rows}
+use Rattle.decision.proofs.LawLemmas.{best_is_a_branchs}
+use Rattle.hop_side.specs.Resolvers.{Resolvers, resolver_at, metric_rows, rows_by}
+use Rattle.peer_side.specs.Peers.{Chains, chain_at, put_chain, filt_by, filt_at}
+use Rattle.peer_side.proofs.PutLemmas.{put_each}
+use Rattle.live_state.specs.Messages.{changes_of, announced_with, withdrawn_from}
+use Rattle.router_core.specs.Bests.{best_at, resolved_at}
+use Rattle.router_core.specs.Moments.{plain}
+use Rattle.router_core.specs.Stands.{RowsWereHeard}
+use Rattle.router_core.specs.Works.{AreHeard, IsHeardMessage}
+
+-- ---- the rows of a chain
+abbrev pub IsHeardChain : Chained → Type 0
+IsHeardChain c = AllRows (MayBeHeard plain) c.incoming.tables
+
+pub fed_heard : (c : Chained) (p : Network) (row : Option Attrs) → ForSome row (MayBeHeard plain) → IsHeardChain c → IsHeardChain (fed c p row)
+fed_heard c p row new heard q r is = elim (feeds_bring_one_row c.incoming.tables p row q r is) as (λ _. MayBeHeard plain r) [
+  | inl old ↦ heard q r old
+  | inr own ↦ new r own.1
+]
+
+pub lost_heard : (s : ℕ) (c : Chained) → IsHeardChain c → IsHeardChain (lost s c)
+lost_heard s c heard q r is = heard q r (losses_bring_no_row s c.incoming.tables q r is)
+
+pub weld_heard : (c : Chained) → IsHeardChain c → IsHeardChain (welded c)
+weld_heard c heard q r is = heard q r (welds_bring_no_row c.incoming.tables q r is)
+
+swept_heard : (s : ℕ) (p : Network) (c : Chained) → IsHeardChain c → IsHeardChain (swept s p c)
+swept_heard s p c heard q r is = heard q r (turns_bring_no_row s p c.incoming.tables q r is)
+
+pub turned_heard : (task : Task) (c less : Chained) (sent : Option (Change Route)) (fall : List (Entry Value)) → Turned c less task sent fall → IsHeardChain c → IsHeardChain less
+turned_heard (Del k s) c less sent fall t heard = subst IsHeardChain (sym t.1.after) (swept_heard s t.1.prefix c heard)
+turned_heard (Fin k) c less sent fall t heard = subst IsHeardChain (sym t.1.after) heard
+turned_heard (Nh k) c less sent fall t heard = absurd t
+turned_heard ReadRib c less sent fall t heard = absurd t
+turned_heard (Out k) c less sent fall t heard = absurd t
+turned_heard (Rdel proto n) c less sent fall t heard = absurd t
+
+-- and of all chains, where another stands for a peer
+pub put_heard : (k : ℕ) (c' : Chained) (a cs : Chains) → cs ≡ put_chain k c' a → IsHeardChain c' → RowsWereHeard a → RowsWereHeard cs
+put_heard k c' a cs is own each = subst RowsWereHeard (sym is) (put_each (λ j c. IsHeardChain c) k c' a own each)
+
+-- ---- the rows below
+heard_filt : (c : Chained) → IsHeardChain c → RowsMayBeHeard plain (filt_rows c)
+heard_filt c heard p r is = by_attrs (in_rows c.incoming p) refl is
+  where
+    by_attrs : (o : Option Attrs) → in_rows c.incoming p ≡ o → filtered c.me c.peer (function_at c.filter p) p o ≡ Some r → MayBeHeard plain r.attrs
+    by_attrs None at is = absurd (cc)
+    by_attrs (Some a) at is = subst (MayBeHeard plain) (sym (filtered_keeps_attrs c.me c.peer (function_at c.filter p) p a r is).same_attrs) (heard p a (lowest_rows_are_rows c.incoming.tables p a at))
+
+heard_filt_at : (a : Chains) (k : ℕ) → RowsWereHeard a → RowsMayBeHeard plain (filt_at a k)
+heard_filt_at a k each = by_chain (chain_at k a) refl
+  where
+    by_chain : (o : Option Chained) → chain_at k a ≡ o → RowsMayBeHeard plain (filt_by o)
+    by_chain None at p r is = absurd (cc)
+    by_chain (Some c) at p r is = heard_filt c (each k c at) p r is
+
+with_heard : (r row : Route) (igp : Option ℕ) → with_igp r igp ≡ Some row → MayBeHeard plain r.attrs → MayBeHeard plain row.attrs
+with_heard r row None is h = absurd (cc)
+with_heard r row (Some n) is h = let same : record r { igp = Some n } ≡ row = cc in subst (λ (x : Route). MayBeHeard plain x.attrs) same h
+
+goes_heard : (answers : Answers Metric) (o : Option Route) (row : Route) → ForSome o (λ r. MayBeHeard plain r.attrs) → goes_on route_hop with_metric answers o ≡ Some row → MayBeHeard plain row.attrs
+goes_heard answers None row each is = absurd (cc)
+goes_heard answers (Some r) row each is = by_answer (answers (route_hop r)) is
+  where
+    by_answer : (x : Option Metric) → made_by route_hop with_metric r x ≡ Some row → MayBeHeard plain row.attrs
+    by_answer None is = absurd (cc)
+    by_answer (Some x) is = with_heard r row x.igp is (each r refl)
+
+heard_res : (o : Option (Resolving Metric)) (upper : Rows Route) → RowsMayBeHeard plain upper → RowsMayBeHeard plain (rows_by o upper)
+heard_res None upper above p row is = absurd (cc)
+heard_res (Some s) upper above p row is = goes_heard (function_of (in_force_by s.known) (walk_to (fresh_by s.known) s.walk) p) (upper p) row (above p) is
+
+pub heard_best : (a : Chains) (h : Resolvers) → RowsWereHeard a → RowsMayBeHeard plain (best_at a h)
+heard_best a h each p r is = let b = best_is_a_branchs (resolved_at a h) p r is in heard_res (resolver_at b.0 h) (filt_at a b.0) (heard_filt_at a b.0 each) p r b.2
+
+-- ---- what an UPDATE announces
+announced_heard : (o : Option Attrs) → ForSome o (MayBeHeard plain) → (ns : List Network) → AreHeard (map (announced_with o) ns)
+announced_heard o own [] = tt
+announced_heard o own (n ∷ ns) = (own, announced_heard o own ns)
+
+withdrawn_heard : (ns : List Network) → AreHeard (map withdrawn_from ns)
+withdrawn_heard [] = tt
+withdrawn_heard (n ∷ ns) = ((λ a is. absurd (cc)), withdrawn_heard ns)
+
+pub changes_heard : (u : Update) → ForSome u.attrs (MayBeHeard plain) → AreHeard (changes_of u)
+changes_heard u own =
+    all_both (λ c. ForSome c.1 (MayBeHeard plain)) (map withdrawn_from (without u.announced u.withdrawn)) (map (announced_with u.attrs) (filter is_host_prefix u.announced))
+    (withdrawn_heard (without u.announced u.withdrawn)) (announced_heard u.attrs own (filter is_host_prefix u.announced))
+
+-- what octets say may be heard
+pub message_heard : (external : Bool) (octets : List ℕ) (message : Message) → AreOctets octets → Reads plain external octets message → IsHeardMessage message
+message_heard external octets (messages.Update u) are reads = λ a at. read_may_be_heard plain external octets u a are reads at
+message_heard external octets messages.Keepalive are reads = tt
+message_heard external octets messages.Notification are reads = tt
+message_heard external octets messages.Skip are reads = tt
+message_heard external octets (messages.Notify n) are reads = tt

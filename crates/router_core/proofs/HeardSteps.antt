@@ -1,0 +1,82 @@
+-- What peers hear of a step: of the lines of all other parts nothing.
+use Rattle.std.proofs.Common.{◌≡◌, ℕ, List, [], ◌∷◌, ◌++◌, Option, Some, None, option_map, refl, sym, ap, subst, ◌∙◌}
+use Rattle.addr4.specs.Prefixes.{Network}
+use Rattle.std.specs.FinMap as tables
+use Rattle.bgp_attr.specs.declared.route.Route.{Route}
+use Rattle.bgp_attr.specs.declared.speaker.Speaker.{Speaker}
+use Rattle.bgp_attr.specs.declared.speaker.Neighbour.{Neighbour}
+use Rattle.rib_route.specs.declared.rows.FibRow.{FibRow}
+use Rattle.link_change.specs.declared.change.Change.{Change}
+use Rattle.event_text.specs.declared.declared.DeclaredPeer.{DeclaredPeer}
+use Rattle.event_text.specs.Declarations.{Declaration, peer_at}
+use Rattle.journal_text.specs.declared.link.Link.{Link}
+use Rattle.journal_text.specs.declared.link.Link.TheVariants.{Best, Fib, ReadRib}
+use Rattle.journal_text.specs.declared.value.Value.{Value}
+use Rattle.journal_text.specs.declared.entry.Entry.{Entry}
+use Rattle.journal_text.specs.declared.line.Line.{Line}
+use Rattle.journal_text.specs.Texts.{entries_of}
+use Rattle.journal_text.specs.Values.{sent_entries}
+use Rattle.journal_text.specs.Walk.{Links}
+use Rattle.journal_laws.specs.Peers.{words_in, neighbours}
+use Rattle.link_region.specs.declared.regions.Region.TheVariants.{Inward, Resolved}
+use Rattle.link_region.specs.Regions.{LeadsIn}
+use Rattle.out_chain.specs.Chains.{OutChained}
+use Rattle.exit_side.specs.Exits.{Exited, OutChains, chain_at as exit_at}
+use Rattle.exit_laws.specs.Views.{views_of, sent_by, AreDeclared, AreUnheard, entry_lines}
+use Rattle.exit_laws.proofs.HearLemmas.{hearing_joins, nothing_is_heard, changes_are_unheard, unheard_joins}
+use Rattle.exit_laws.proofs.OtherLemmas.{others_are_unheard}
+use Rattle.live_state.specs.Heard.{Hears, Views}
+use Rattle.hop_side.specs.Steps.{LeadsRes}
+use Rattle.router_core.specs.Bests.{best_entries, Queues}
+use Rattle.router_core.specs.Moments.{Moment, Policies}
+use Rattle.router_core.specs.Printable.{IsHeard}
+use Rattle.router_core.specs.Stands.{Stands, PlainExits, SameSessions, ExitsAt}
+use Rattle.router_core.specs.Turns.{journal_lines}
+use Rattle.router_core.proofs.HopLemmas.{res_leads}
+use Rattle.router_core.proofs.QueueLemmas.{queue_chains}
+
+-- lines without entries, of which nobody hears anything
+abbrev pub AreQuiet : List Line → Type 0
+AreQuiet said = (entries_of said ≡ []) × AreUnheard said
+
+pub heard_quiet : (m m' : Moment) (said : List Line) → AreUnheard said → views_of m'.exits ≡ views_of m.exits → IsHeard m said m'
+heard_quiet m m' said unheard same = subst (λ (v : Views). Hears (neighbours m.declared) (views_of m.exits) said v) (sym same) (nothing_is_heard (neighbours m.declared) (views_of m.exits) said unheard)
+
+pub heard_join : (a b c : Moment) (xs ys : List Line) → b.declared ≡ a.declared → IsHeard a xs b → IsHeard b ys c → IsHeard a (xs ++ ys) c
+heard_join a b c xs ys same x y =
+    hearing_joins (neighbours a.declared) (views_of a.exits) (views_of b.exits) (views_of c.exits) xs ys x
+    (subst (λ (d : Declaration). Hears (neighbours d) (views_of b.exits) ys (views_of c.exits)) same y)
+
+pub same_views : (e e' : Exited) → e'.chains ≡ e.chains → views_of e' ≡ views_of e
+same_views e e' same = ap {B = Views} (λ (a : OutChains) (j : ℕ). sent_by (tables.get a j)) same
+
+pub queue_views : (best : Option (Change Route)) (e e' : Exited) → Queues best e e' → views_of e' ≡ views_of e
+queue_views best e e' q = same_views e e' (queue_chains e e' best q)
+
+-- each exit is a declared peer's
+exit_words : (s : Option Speaker) (policies : Policies) (j : ℕ) (p : Option DeclaredPeer) (c : OutChained) → ExitsAt s policies j p (Some c) → words_in p ≡ Some c.peer
+exit_words (Some me) policies j (Some p) c is = ap Some (sym is.words)
+exit_words (Some me) policies j None c is = absurd is
+exit_words None policies j p c is = absurd is
+
+pub exits_declared : (m : Moment) → Stands m → AreDeclared (neighbours m.declared) m.exits
+exits_declared m stands = record {
+  plain = stands.own PlainExits;
+  words = λ j c at. exit_words m.declared.speaker m.outgoing j (peer_at j m.declared.peers) c (subst (λ (o : Option OutChained). ExitsAt m.declared.speaker m.outgoing j (peer_at j m.declared.peers) o) at (stands.own SameSessions j));
+}
+
+-- ---- of what the decision sends, and `fib` and `read.rib` get
+pub sent_unheard : {R : Type 0} (value : R → Value) (link : Link) (sent : Option (Change R)) → AreUnheard (journal_lines (sent_entries value link sent))
+sent_unheard value link None = tt
+sent_unheard value link (Some c) = changes_are_unheard link c.prefix (option_map value c.before) (option_map value c.after)
+
+-- of a fall in a peer's chain, what goes on below it, and the weld behind both
+pub falls_unheard : (a b c d : Links Value) (r r' : Links Value) (entries resolved weld : List (Entry Value)) (best : Option (Change Route)) → LeadsIn Inward a entries b → LeadsRes r resolved r' → LeadsIn Inward c weld d
+    → AreUnheard (journal_lines (entries ++ (resolved ++ (best_entries best ++ weld))))
+falls_unheard a b c d r r' entries resolved weld best falls goes welds =
+    unheard_joins entries (resolved ++ (best_entries best ++ weld)) (others_are_unheard Inward a b entries refl falls)
+    (unheard_joins resolved (best_entries best ++ weld) (others_are_unheard Resolved r r' resolved refl (res_leads r r' resolved goes))
+    (unheard_joins (best_entries best) weld (sent_unheard _ Best best) (others_are_unheard Inward c d weld refl welds)))
+
+pub hops_unheard : (r r' : Links Value) (resolved : List (Entry Value)) (best : Option (Change Route)) → LeadsRes r resolved r' → AreUnheard (journal_lines (resolved ++ best_entries best))
+hops_unheard r r' resolved best goes = unheard_joins resolved (best_entries best) (others_are_unheard Resolved r r' resolved refl (res_leads r r' resolved goes)) (sent_unheard _ Best best)

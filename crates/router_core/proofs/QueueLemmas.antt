@@ -1,0 +1,177 @@
+-- What a change of `best` makes of what reads it: it joins the queue, and no link of theirs changes.
+use Rattle.std.proofs.Common.{◌≡◌, ◌≢◌, ℕ, ◌+◌, ◌*◌, ◌≤◌, cond, true, false, List, [], ◌∷◌, length, Option, Some, None, is_some, refl, sym, ap, subst, ◌∙◌, arith}
+use Rattle.std.specs.Prelude.{IsSome}
+use Rattle.std.specs.Option.{ForSome}
+use Rattle.std.specs.FinMap as tables
+use Rattle.std.specs.Ordering.{eq_by_cmp}
+use Rattle.addr4.specs.Prefixes.{Network, prefix_cmp}
+use Rattle.addr4.proofs.PrefixOrder.{itself}
+use Rattle.bgp_attr.specs.declared.route.Route.{Route}
+use Rattle.bgp_attr.specs.declared.speaker.Speaker.{Speaker}
+use Rattle.bgp_attr.specs.declared.speaker.Profile.{Profile}
+use Rattle.link_change.specs.Rows.{Rows}
+use Rattle.link_change.specs.Changes.{IsSent}
+use Rattle.link_change.specs.declared.change.Change.{Change}
+use Rattle.event_text.specs.declared.declared.DeclaredPeer.{DeclaredPeer}
+use Rattle.event_text.specs.Declarations.{peer_at}
+use Rattle.journal_text.specs.declared.link.Link.{Link}
+use Rattle.journal_text.specs.declared.link.Link.TheVariants.{ReadRib}
+use Rattle.journal_text.specs.Values.{route_rows}
+use Rattle.fanout_queue.specs.Queues.{Queued, AllLead}
+use Rattle.fanout_queue.proofs.LeadLemmas.{put_keeps_read, put_keeps_readers, put_keeps_leading}
+use Rattle.peer_out.specs.Changes.{MayBeHeard}
+use Rattle.out_chain.specs.Chains.{OutChained, RowsMayBeHeard}
+use Rattle.exit_side.specs.Exits.{Exited, OutChains, chain_at as exit_at, with_queue, exit_links, IsExits, AllStand, left_in}
+use Rattle.exit_side.specs.Steps.{PutsExit}
+use Rattle.hop_side.specs.Resolvers.{Resolvers}
+use Rattle.peer_side.specs.Peers.{Chains}
+use Rattle.router_core.specs.Bests.{best_at, Queues}
+use Rattle.router_core.specs.Moments.{Moment, Policies, read_by, read_links, plain, rules_to}
+use Rattle.router_core.specs.Stands.{Stands, Claim, Claims, EachRow, EachExit, QueueLeads, ExitsRead, PlainExits, OneSender, SameSessions, OneReader, RowsWereHeard, MaySend, IsExitOf, ExitsAt, ReadsAs, ReadsOn}
+use Rattle.router_core.proofs.HeardRows.{heard_best}
+
+-- ---- who has none
+pub exits_none : (s : Option Speaker) (policies : Policies) (k : ℕ) (p : Option DeclaredPeer) → ExitsAt s policies k p None
+exits_none (Some me) policies k (Some p) = tt
+exits_none (Some me) policies k None = tt
+exits_none None policies k p = tt
+
+pub none_before : (policies : Policies) (k : ℕ) (p : Option DeclaredPeer) (o : Option OutChained) → ExitsAt None policies k p o → o ≡ None
+none_before policies k p None is = refl
+none_before policies k p (Some c) is = absurd is
+
+-- a peer that is up has its own
+pub exit_of : (s : Option Speaker) (policies : Policies) (k : ℕ) (p : DeclaredPeer) (c : OutChained) → ExitsAt s policies k (Some p) (Some c) → (me : Speaker) × (s ≡ Some me) × IsExitOf me (rules_to k policies) p c
+exit_of (Some me) policies k p c is = (me, refl, is)
+exit_of None policies k p c is = absurd is
+
+pub no_exit_down : (s : Option Speaker) (policies : Policies) (k : ℕ) (p : DeclaredPeer) (o : Option OutChained) → p.up ≡ false → ExitsAt s policies k (Some p) o → o ≡ None
+no_exit_down s policies k p None down is = refl
+no_exit_down s policies k p (Some c) down is = let x = exit_of s policies k p c is in let up = x.2.up in absurd (let clash : true ≡ false = sym up ∙ down in cc)
+
+pub undeclared_none : (s : Option Speaker) (policies : Policies) (k : ℕ) (o : Option OutChained) → ExitsAt s policies k None o → o ≡ None
+undeclared_none s policies k None is = refl
+undeclared_none (Some me) policies k (Some c) is = absurd is
+undeclared_none None policies k (Some c) is = absurd is
+
+-- ---- what is claimed of the exits, and of what is sent
+pub record ExitsStand (m : Moment) : Type 0 where
+  pub rows : RowsWereHeard m.chains
+  pub each : IsExits m.exits
+  pub all : AllLead m.exits.queue (best_at m.chains m.hops)
+  pub read : AllStand (best_at m.chains m.hops) m.exits
+  pub plain : m.exits.profile ≡ plain
+  pub sender : MaySend m.declared.speaker
+  pub sessions : (k : ℕ) → ExitsAt m.declared.speaker m.outgoing k (peer_at k m.declared.peers) (exit_at k m.exits)
+  pub one : ReadsOn m.declared.speaker m.reader m.exits
+
+pub exits_of : (m : Moment) → Stands m → ExitsStand m
+exits_of m stands = record {
+  rows = stands.own EachRow;
+  each = stands.own EachExit;
+  all = stands.own QueueLeads;
+  read = stands.own ExitsRead;
+  plain = stands.own PlainExits;
+  sender = stands.own OneSender;
+  sessions = stands.own SameSessions;
+  one = stands.own OneReader;
+}
+
+-- the reader of the forwarding side is one of the queue's
+reads_live : (s : Option Speaker) (reader : Option ℕ) (e : Exited) → ReadsOn s reader e → (r : ℕ) → reader ≡ Some r → IsSome (tables.get e.queue r)
+reads_live (Some me) (Some q) e on r is = let same : q ≡ r = cc in subst (λ (n : ℕ). IsSome (tables.get e.queue n)) same on.live
+reads_live (Some me) None e on r is = absurd on
+reads_live None (Some q) e on r is = absurd on
+reads_live None None e on r is = absurd (cc)
+
+pub reader_live : (m : Moment) → Stands m → (r : ℕ) → m.reader ≡ Some r → IsSome (tables.get m.exits.queue r)
+reader_live m stands = reads_live m.declared.speaker m.reader m.exits (stands.own OneReader)
+
+-- and no peer's
+reads_apart : (s : Option Speaker) (reader : Option ℕ) (e : Exited) → ReadsOn s reader e → (r : ℕ) → reader ≡ Some r → (j : ℕ) (c : OutChained) → exit_at j e ≡ Some c → c.reader ≢ r
+reads_apart (Some me) (Some q) e on r is j c at = let same : q ≡ r = cc in subst (λ (n : ℕ). c.reader ≢ n) same (on.own j c at)
+reads_apart (Some me) None e on r is j c at = absurd on
+reads_apart None (Some q) e on r is j c at = absurd on
+reads_apart None None e on r is j c at = absurd (cc)
+
+pub reader_apart : (m : Moment) → Stands m → (r : ℕ) → m.reader ≡ Some r → (j : ℕ) (c : OutChained) → exit_at j m.exits ≡ Some c → c.reader ≢ r
+reader_apart m stands = reads_apart m.declared.speaker m.reader m.exits (stands.own OneReader)
+
+-- where each reader stays live, and each chain keeps its reader
+pub reads_on : (s : Option Speaker) (reader : Option ℕ) (e e' : Exited) → e'.chains ≡ e.chains → ((r : ℕ) → IsSome (tables.get e.queue r) → IsSome (tables.get e'.queue r)) → ReadsOn s reader e → ReadsOn s reader e'
+reads_on (Some me) (Some r) e e' same live on = record { live = live r on.live; own = λ j c at. on.own j c (ap (λ (a : OutChains). tables.get a j) (sym same) ∙ at) }
+reads_on (Some me) None e e' same live on = absurd on
+reads_on None (Some r) e e' same live on = absurd on
+reads_on None None e e' same live on = tt
+
+-- ---- a change of `best`, or none
+module _ (e e' : Exited) where
+  pub queue_chains : (best : Option (Change Route)) → Queues best e e' → e'.chains ≡ e.chains
+  queue_chains None q = ap (λ (x : Exited). x.chains) q
+  queue_chains (Some c) q = ap (λ (x : Exited). x.chains) q.after
+
+  queue_profile : (best : Option (Change Route)) → Queues best e e' → e'.profile ≡ e.profile
+  queue_profile None q = ap (λ (x : Exited). x.profile) q
+  queue_profile (Some c) q = ap (λ (x : Exited). x.profile) q.after
+
+  pub queue_live : (best : Option (Change Route)) → Queues best e e' → (r : ℕ) → IsSome (tables.get e.queue r) → IsSome (tables.get e'.queue r)
+  queue_live None q r live = subst (λ (x : Exited). IsSome (tables.get x.queue r)) (sym q) live
+  queue_live (Some c) q r live = put_keeps_readers e.queue e'.queue c q.appends r live
+
+  queue_sound : (best : Option (Change Route)) → Queues best e e' → IsExits e → IsExits e'
+  queue_sound None q sound = subst IsExits (sym q) sound
+  queue_sound (Some c) q sound = q.sound
+
+  pub queue_links : (best : Option (Change Route)) (old new : Rows Route) (p : Network) → Queues best e e' → IsSent old new p best → exit_links e' new ≡ exit_links e old
+  queue_links None old new p q sent = ap (λ (x : Exited). exit_links x new) q ∙ ap (exit_links e) sent
+  queue_links (Some c) old new p q sent = q.links old new p sent
+
+  queue_read : (best : Option (Change Route)) (reader : Option ℕ) (old new : Rows Route) (p : Network) → ((r : ℕ) → reader ≡ Some r → IsSome (tables.get e.queue r)) → Queues best e e' → IsSent old new p best
+      → read_by e'.queue reader new ≡ read_by e.queue reader old
+  queue_read best None old new p live q sent = refl
+  queue_read None (Some r) old new p live q sent = ap (λ (x : Exited). read_by x.queue (Some r) new) q ∙ ap (read_by e.queue (Some r)) sent
+  queue_read (Some c) (Some r) old new p live q sent = ap (λ (rows : Rows Route). Some (route_rows rows)) (put_keeps_read e.queue e'.queue old new p c r q.appends sent (live r refl))
+
+  pub queue_external : (best : Option (Change Route)) (reader : Option ℕ) (old new : Rows Route) (p : Network) → ((r : ℕ) → reader ≡ Some r → IsSome (tables.get e.queue r)) → Queues best e e' → IsSent old new p best
+      → read_links e'.queue reader new ≡ read_links e.queue reader old
+  queue_external best reader old new p live q sent i link = each link i
+    where
+      each : (link : Link) → read_links e'.queue reader new link ≡ read_links e.queue reader old link
+      each ReadRib = queue_read best reader old new p live q sent
+      each other = refl
+
+  queue_all : (best : Option (Change Route)) (old new : Rows Route) (p : Network) → Queues best e e' → IsSent old new p best → AllLead e.queue old → AllLead e'.queue new
+  queue_all None old new p q sent all = subst (λ (x : Exited). AllLead x.queue new) (sym q) (subst (λ (rows : Rows Route). AllLead e.queue rows) (sym sent) all)
+  queue_all (Some c) old new p q sent all = put_keeps_leading e.queue e'.queue old new p c q.appends sent all
+
+  queue_stand : (best : Option (Change Route)) (old new : Rows Route) (p : Network) → e.profile ≡ plain → RowsMayBeHeard plain new → Queues best e e' → IsSent old new p best → AllStand old e → AllStand new e'
+  queue_stand None old new p is heard q sent all = subst (λ (x : Exited). AllStand new x) (sym q) (subst (λ (rows : Rows Route). AllStand rows e) (sym sent) all)
+  queue_stand (Some c) old new p is heard q sent all = q.stand old new p sent own all
+    where
+      own : ForSome c.after (λ r. MayBeHeard e.profile r.attrs)
+      own r at = subst (λ (profile : Profile). MayBeHeard profile r.attrs) (sym is)
+          (heard c.prefix r (ap (λ (rows : Rows Route). rows c.prefix) sent.2 ∙ ap (λ b. cond b c.after (old c.prefix)) (itself c.prefix) ∙ at))
+
+-- ---- what stands then
+pub exits_fall : (m : Moment) (a : Chains) (h : Resolvers) (e : Exited) (now : Moment) (best : Option (Change Route)) (p : Network) → Stands m → RowsWereHeard a → Queues best m.exits e → IsSent (best_at m.chains m.hops) (best_at a h) p best
+    → now.declared ≡ m.declared → now.outgoing ≡ m.outgoing → now.reader ≡ m.reader → now.chains ≡ a → now.hops ≡ h → now.exits ≡ e → ExitsStand now
+exits_fall m a h e now best p stands rows q sent declared outgoing reader chains hops exits = record {
+  rows = subst RowsWereHeard (sym chains) rows;
+  each = subst IsExits (sym exits) (queue_sound m.exits e best q (stands.own EachExit));
+  all = subst (λ (x : Exited). AllLead x.queue (best_at now.chains now.hops)) (sym exits) (subst (λ (x : Chains). AllLead e.queue (best_at x now.hops)) (sym chains) (subst (λ (x : Resolvers). AllLead e.queue (best_at a x)) (sym hops)
+      (queue_all m.exits e best (best_at m.chains m.hops) (best_at a h) p q sent (stands.own QueueLeads))));
+  read = subst (λ (x : Exited). AllStand (best_at now.chains now.hops) x) (sym exits) (subst (λ (x : Chains). AllStand (best_at x now.hops) e) (sym chains) (subst (λ (x : Resolvers). AllStand (best_at a x) e) (sym hops)
+      (queue_stand m.exits e best (best_at m.chains m.hops) (best_at a h) p (stands.own PlainExits) (heard_best a h rows) q sent (stands.own ExitsRead))));
+  plain = ap (λ (x : Exited). x.profile) exits ∙ queue_profile m.exits e best q ∙ stands.own PlainExits;
+  sender = subst (λ d. MaySend d.speaker) (sym declared) (stands.own OneSender);
+  sessions = λ k. subst (λ d. ExitsAt d.speaker now.outgoing k (peer_at k d.peers) (exit_at k now.exits)) (sym declared)
+      (subst (λ x. ExitsAt m.declared.speaker x k (peer_at k m.declared.peers) (exit_at k now.exits)) (sym outgoing)
+      (subst (λ o. ExitsAt m.declared.speaker m.outgoing k (peer_at k m.declared.peers) o) (sym (ap (λ (x : Exited). exit_at k x) exits ∙ ap (λ (a : OutChains). tables.get a k) (queue_chains m.exits e best q))) (stands.own SameSessions k)));
+  one = subst (λ d. ReadsOn d.speaker now.reader now.exits) (sym declared) (subst (λ x. ReadsOn m.declared.speaker x now.exits) (sym reader) (subst (λ x. ReadsOn m.declared.speaker m.reader x) (sym exits)
+      (reads_on m.declared.speaker m.reader m.exits e (queue_chains m.exits e best q) (queue_live m.exits e best q) (stands.own OneReader))));
+}
+
+-- where nothing of the exits changes, nor `best`
+pub exits_stay : (m now : Moment) → Stands m → RowsWereHeard now.chains → best_at now.chains now.hops ≡ best_at m.chains m.hops → now.declared ≡ m.declared → now.outgoing ≡ m.outgoing → now.reader ≡ m.reader → now.exits ≡ m.exits → ExitsStand now
+exits_stay m now stands rows same declared outgoing reader exits =
+    exits_fall m now.chains now.hops m.exits now None (record { address = 0; length = 0 }) stands rows refl same declared outgoing reader refl refl exits

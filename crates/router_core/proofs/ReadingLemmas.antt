@@ -1,0 +1,251 @@
+-- How many turns readers of `best` take: the most that one hasn't taken, and how many candidates of `best` lie beyond a place.
+use Rattle.std.proofs.Common.{◌≡◌, ◌≢◌, ℕ, zero, suc, ◌+◌, ◌-◌, ◌*◌, ◌<◌, ◌≤◌, nat_lt, nat_eq, Bool, true, false, ◌||◌, cond, List, [], ◌∷◌, length, Option, Some, None, is_some, refl, sym, ap, subst, ◌∙◌, arith}
+use Rattle.std.specs.Prelude.{IsSome, filter}
+use Rattle.std.specs.List.{AllByRecursion, sum_by, list_any, range_with_len}
+use Rattle.std.specs.Option.{option_map}
+use Rattle.std.specs.FinMap as tables
+use Rattle.std.specs.FinMap.{FinMap}
+use Rattle.std.specs.Ordering.{nat_cmp, is_lt, is_eq}
+use Rattle.std.specs.declared.cmp.Ordering.{Ordering}
+use Rattle.std.specs.declared.cmp.Ordering.TheVariants.{Less, Equal, Greater}
+use Rattle.std.specs.Cmp.{nat_cmp_total}
+use Rattle.std.proofs.lemmas.List.Sums.{sum_by-cons}
+use Rattle.std.proofs.lemmas.Bool.Decides.{nat_tests}
+use Rattle.std.proofs.Math.Nat.{mul-le-mul, mul-le-mul_left}
+use Rattle.addr4.specs.Prefixes.{Network, prefix_cmp, ComesBefore}
+use Rattle.addr4.specs.Places.{IsBeyond}
+use Rattle.addr4.proofs.PrefixOrder.{prefixes_total}
+use Rattle.bgp_attr.specs.declared.attrs.Attrs.{Attrs}
+use Rattle.bgp_attr.specs.declared.route.Route.{Route}
+use Rattle.link_change.specs.Rows.{Candidates, IsNextCandidate}
+use Rattle.link_change.specs.InOrder.{with_last}
+use Rattle.link_change.specs.declared.change.Change.{Change}
+use Rattle.link_region.proofs.RegionLemmas.{by_bool}
+use Rattle.loss_chain.specs.Lost.{Lost}
+use Rattle.pass_core.specs.Passed.{is_beyond}
+use Rattle.pass_core.specs.Left.{CountsBeyond}
+use Rattle.fanout_queue.specs.Queues.{Queued, AppendsToAll, IsMostUnread}
+use Rattle.exit_side.specs.Exits.{Exited}
+use Rattle.in_chain.specs.Chains.{Chained, filt_beyond, filt_candidates, count_beyond, lost_beyond, row_count}
+use Rattle.in_chain.proofs.TurnLemmas.{candidates_are_counted}
+use Rattle.decision.specs.Branches.{best_candidates, candidates_below}
+use Rattle.peer_side.specs.Peers.{Chains, chain_at, rows_in}
+use Rattle.peer_side.proofs.MapLemmas.{all_values, one_of_sum, sum_none}
+use Rattle.router_core.specs.Bests.{lent_chain, candidates_by, lent_candidates, Queues}
+use Rattle.router_core.specs.Moments.{Moment, longest_of, most_unread}
+use Rattle.router_core.specs.Phases.{best_beyond, reading}
+
+-- ---- the most that a reader hasn't taken
+longest_bounds : (xs : List (List (Change Route))) → AllByRecursion (λ u. length u ≤ longest_of xs) xs
+longest_bounds [] = tt
+longest_bounds (x ∷ xs) =
+    by_bool (nat_lt (length x) (longest_of xs)) (λ b. AllByRecursion (λ u. length u ≤ cond b (longest_of xs) (length x)) (x ∷ xs))
+    (λ e. let less : length x < longest_of xs = grind (arith, nat_tests) in (omega (arith, less), longest_bounds xs))
+    (λ e. let more : longest_of xs ≤ length x = grind (arith, nat_tests) in (omega arith, weaker xs (longest_bounds xs) more))
+  where
+    weaker : (ys : List (List (Change Route))) → AllByRecursion (λ u. length u ≤ longest_of xs) ys → longest_of xs ≤ length x → AllByRecursion (λ u. length u ≤ length x) ys
+    weaker [] each more = tt
+    weaker (y ∷ ys) each more = (let here = each.0 in omega (arith, here, more), weaker ys each.1 more)
+
+longest_within : (n : ℕ) (xs : List (List (Change Route))) → AllByRecursion (λ u. length u ≤ n) xs → longest_of xs ≤ n
+longest_within n [] each = omega arith
+longest_within n (x ∷ xs) each = elim (nat_lt (length x) (longest_of xs)) as (λ b. cond b (longest_of xs) (length x) ≤ n) [ true ↦ longest_within n xs each.1 | false ↦ each.0 ]
+
+none_above : (n : ℕ) (xs : List (List (Change Route))) → AllByRecursion (λ u. length u ≤ n) xs → AllByRecursion (λ u. length u - n ≡ 0) xs
+none_above n [] each = tt
+none_above n (x ∷ xs) each = (let here = each.0 in omega (arith, here), none_above n xs each.1)
+
+pub unread_most : (queued : Queued Route) (r : ℕ) (u : List (Change Route)) → tables.get queued r ≡ Some u → length u ≤ longest_of (tables.values queued)
+unread_most queued r u at =
+    let n : ℕ = longest_of (tables.values queued) in
+    let one = one_of_sum nat_cmp nat_cmp_total (λ (v : List (Change Route)). length v - n) queued r u at in
+    let all = sum_none (λ (v : List (Change Route)). length v - n) (tables.values queued) (none_above n (tables.values queued) (longest_bounds (tables.values queued))) in
+    omega (arith, one, all)
+
+pub unread_within : (queued : Queued Route) (n : ℕ) → ((r : ℕ) (u : List (Change Route)) → tables.get queued r ≡ Some u → length u ≤ n) → longest_of (tables.values queued) ≤ n
+unread_within queued n each = longest_within n (tables.values queued) (all_values nat_cmp nat_cmp_total (λ (u : List (Change Route)). length u ≤ n) queued each)
+
+-- it is what the queue answers
+pub most_unread_is : (e : Exited) → IsMostUnread e.queue (most_unread e)
+most_unread_is e = record { most = λ r u at. unread_most e.queue r u at; some = some_reader }
+  where
+    Found : ℕ → Type 0
+    Found n = (r : ℕ) × (u : List (Change Route)) × (tables.get e.queue r ≡ Some u) × (length u ≡ n)
+
+    found : (n : ℕ) (xs : List (List (Change Route))) → AllByRecursion (λ u. length u ≡ n → Found n) xs → longest_of xs ≡ n → n ≢ 0 → Found n
+    found n [] each is some = absurd (some (sym is))
+    found n (x ∷ xs) each is some = by_bool (nat_lt (length x) (longest_of xs)) (λ b. cond b (longest_of xs) (length x) ≡ n → Found n) (λ _ later. found n xs each.1 later some) (λ _ here. each.0 here) is
+
+    some_reader : most_unread e ≢ 0 → Found (most_unread e)
+    some_reader some = found (most_unread e) (tables.values e.queue)
+        (all_values nat_cmp nat_cmp_total (λ (u : List (Change Route)). length u ≡ most_unread e → Found (most_unread e)) e.queue (λ r u at same. (r, u, at, same))) refl some
+
+-- what the queue answers is that
+pub unread_is : (e : Exited) (n : ℕ) → IsMostUnread e.queue n → n ≡ most_unread e
+unread_is e n is = by_bool (nat_eq n 0) (λ b. n ≡ most_unread e)
+    (λ e0. let none : n ≡ 0 = grind (arith, nat_tests) in let low = unread_within e.queue n is.most in omega (arith, none, low))
+    (λ e1. let some = is.some (λ z. let clash : nat_eq n 0 ≡ true = ap (λ k. nat_eq k 0) z in cc) in
+    let low = unread_within e.queue n is.most in
+    let high = unread_most e.queue some.0 some.1 some.2 in
+    let same = some.3 in
+    omega (arith, low, high, same))
+
+-- a change that is put adds one at most
+abbrev pub sent_count : Option (Change Route) → ℕ
+sent_count None = 0
+sent_count (Some c) = 1
+
+longer : (change : Change Route) (u : List (Change Route)) → length (with_last change u) ≡ length u + 1
+longer change [] = refl
+longer change (x ∷ u) = let rest = longer change u in omega (arith, rest)
+
+put_longer : (c : Change Route) (old new : Queued Route) → AppendsToAll c old new → (r : ℕ) (u : List (Change Route)) → tables.get new r ≡ Some u → length u ≤ longest_of (tables.values old) + 1
+put_longer c old new appends r u at = by_old (tables.get old r) refl (sym (appends r) ∙ at)
+  where
+    by_old : (o : Option (List (Change Route))) → tables.get old r ≡ o → option_map (with_last c) o ≡ Some u → length u ≤ longest_of (tables.values old) + 1
+    by_old None was is = absurd (cc)
+    by_old (Some v) was is =
+        let same : with_last c v ≡ u = cc in
+        let size : length u ≡ length v + 1 = ap (λ (l : List (Change Route)). length l) (sym same) ∙ longer c v in
+        let most = unread_most old r v was in
+        omega (arith, size, most)
+
+pub queue_most : (best : Option (Change Route)) (e e' : Exited) → Queues best e e' → most_unread e' ≤ most_unread e + sent_count best
+queue_most None e e' q = let same : most_unread e' ≡ most_unread e = ap most_unread q in omega (arith, same)
+queue_most (Some c) e e' q = unread_within e'.queue (most_unread e + 1) (put_longer c e.queue e'.queue q.appends)
+
+-- ---- the readers' turns, by their parts
+pub reading_less : (exits exits' unread unread' rows rows' sends sends' : ℕ) → exits' ≤ exits → rows' ≤ rows → unread' + sends' ≤ unread + sends → reading exits' unread' rows' sends' ≤ reading exits unread rows sends
+reading_less exits exits' unread unread' rows rows' sends sends' fewer less spent =
+    let once : 1 + exits' ≤ 1 + exits = omega (arith, fewer) in
+    let wide : rows' + 1 ≤ rows + 1 = omega (arith, less) in
+    let a = mul-le-mul once spent in
+    let b = mul-le-mul fewer wide in
+    omega (arith, a, b)
+
+-- the turns of both readers' phases are within it
+pub readers_within : (exits unread rows sends reader out : ℕ) → reader ≤ unread → out ≤ exits * (unread + 2 * (rows + 1)) → reader + out ≤ reading exits unread rows sends
+readers_within exits unread rows sends reader out few less =
+    let more : (1 + exits) * unread ≤ (1 + exits) * (unread + sends) = mul-le-mul_left (1 + exits) (omega arith) in
+    let parts : (1 + exits) * unread + 2 * (exits * (rows + 1)) ≡ unread + exits * (unread + 2 * (rows + 1)) = grind arith in
+    omega (arith, few, less, more, parts)
+
+-- the bound that is announced
+pub announced_fits : (losses stages walks hops sends exits unread rows routes peers known : ℕ) → losses ≤ routes → stages ≤ rows → walks ≤ 2 * (rows + peers) → hops ≤ 3 * rows + 2 * peers → sends ≤ 2 * rows → exits ≤ peers
+    → losses + (stages + walks + hops + reading exits unread rows (stages + sends + 3 * rows)) ≤ (peers + 2) * (unread + 9 * (rows + routes) + 2 * known + 6)
+announced_fits losses stages walks hops sends exits unread rows routes peers known a b c d e few =
+    let read = reading_less peers exits unread unread rows rows (6 * rows) (stages + sends + 3 * rows) few (omega arith) (omega (arith, b, e)) in
+    let parts : reading peers unread rows (6 * rows) ≡ unread + 6 * rows + peers * (unread + 8 * rows + 2) = grind arith in
+    let more : peers * (unread + 8 * rows + 6) ≤ peers * (unread + 9 * (rows + routes) + 2 * known + 6) = mul-le-mul_left peers (omega arith) in
+    let split : peers * (unread + 8 * rows + 6) ≡ peers * (unread + 8 * rows + 2) + 4 * peers = grind arith in
+    let all : (peers + 2) * (unread + 9 * (rows + routes) + 2 * known + 6) ≡ peers * (unread + 9 * (rows + routes) + 2 * known + 6) + 2 * (unread + 9 * (rows + routes) + 2 * known + 6) = grind arith in
+    omega (arith, a, b, c, d, read, parts, more, split, all)
+
+-- ---- the candidates of `best` beyond a place
+module _ {X : Type 0} (test other : X → Bool) where
+  shorter : ((x : X) → test x ≡ true → other x ≡ true) → (xs : List X) → length (filter test xs) ≤ length (filter other xs)
+  shorter so [] = omega arith
+  shorter so (x ∷ xs) =
+      let rest = shorter so xs in
+      by_bool (test x) (λ b. length (cond b (x ∷ filter test xs) (filter test xs)) ≤ length (filter other (x ∷ xs)))
+      (λ e. subst (λ b. length (x ∷ filter test xs) ≤ length (cond b (x ∷ filter other xs) (filter other xs))) (sym (so x e)) (omega (arith, rest)))
+      (λ _. elim (other x) as (λ b. length (filter test xs) ≤ length (cond b (x ∷ filter other xs) (filter other xs))) [ true ↦ omega (arith, rest) | false ↦ rest ])
+
+further : (place : Option Network) (p q : Network) → IsBeyond place p → is_beyond (Some p) q ≡ true → is_beyond place q ≡ true
+further None p q h e = refl
+further (Some l) p q h e = ap is_lt (prefixes_total.trans l p q h (less_of (prefix_cmp p q) e))
+  where
+    less_of : (o : Ordering) → is_lt o ≡ true → o ≡ Less
+    less_of Less e = refl
+    less_of Equal e = absurd (cc)
+    less_of Greater e = absurd (cc)
+
+lost_further : (place : Option Network) (p : Network) (ds : List (Lost Attrs)) → IsBeyond place p → lost_beyond (Some p) ds ≤ lost_beyond place ds
+lost_further place p [] h = omega arith
+lost_further place p (d ∷ ds) h =
+    let first : count_beyond (Some p) d.rows ≤ count_beyond place d.rows = shorter (λ (e : Network × Attrs). is_beyond (Some p) e.0) (λ e. is_beyond place e.0) (λ e. further place p e.0 h) (tables.entries d.rows) in
+    let rest = lost_further place p ds h in
+    omega (arith, first, rest)
+
+chain_further : (place : Option Network) (p : Network) (c : Chained) → IsBeyond place p → filt_beyond c (Some p) ≤ filt_beyond c place
+chain_further place p c h =
+    let first : count_beyond (Some p) c.incoming.tables.live ≤ count_beyond place c.incoming.tables.live = shorter (λ (e : Network × Attrs). is_beyond (Some p) e.0) (λ e. is_beyond place e.0) (λ e. further place p e.0 h) (tables.entries c.incoming.tables.live) in
+    let rest = lost_further place p c.incoming.tables.deletions h in
+    omega (arith, first, rest)
+
+-- ---- sums
+module _ {X : Type 0} (f g : X → ℕ) where
+  pub sum_fewer : ((x : X) → g x ≤ f x) → (xs : List X) → sum_by g xs ≤ sum_by f xs
+  sum_fewer less [] = omega arith
+  sum_fewer less (x ∷ xs) =
+      let one = sum_by-cons f x xs in
+      let two = sum_by-cons g x xs in
+      let here = less x in
+      let rest = sum_fewer less xs in
+      omega (arith, one, two, here, rest)
+
+  sum_parted : ((x : X) → g x ≤ f x) → (xs : List X) → sum_by f xs ≡ sum_by g xs + sum_by (λ x. f x - g x) xs
+  sum_parted less [] = omega arith
+  sum_parted less (x ∷ xs) =
+      let one = sum_by-cons f x xs in
+      let two = sum_by-cons g x xs in
+      let three = sum_by-cons (λ (y : X). f y - g y) x xs in
+      let here = less x in
+      let rest = sum_parted less xs in
+      omega (arith, one, two, three, here, rest)
+
+  -- one is fewer, and none is more
+  pub sum_one_fewer : ((x : X) → g x ≤ f x) → (a : FinMap nat_cmp X) (k : ℕ) (d : X) → tables.get a k ≡ Some d → g d < f d → sum_by g (tables.values a) < sum_by f (tables.values a)
+  sum_one_fewer less a k d at here =
+      let parts = sum_parted less (tables.values a) in
+      let one = one_of_sum nat_cmp nat_cmp_total (λ (y : X). f y - g y) a k d at in
+      omega (arith, parts, one, here)
+
+-- ---- the branches
+any_at : (test : ℕ → Bool) (a n : ℕ) → list_any test (range_with_len a n) ≡ true → (b : ℕ) × (test b ≡ true)
+any_at test a zero is = absurd (cc)
+any_at test a (suc n) is = by_bool (test a) (λ t. (t || list_any test (range_with_len (a + 1) n)) ≡ true → (b : ℕ) × (test b ≡ true)) (λ e _. (a, e)) (λ _ rest. any_at test (a + 1) n rest) is
+
+none_at : (test : ℕ → Bool) (a n : ℕ) → list_any test (range_with_len a n) ≡ false → (b : ℕ) → a ≤ b → b < a + n → test b ≡ false
+none_at test a zero is b from to = absurd (omega (arith, from, to))
+none_at test a (suc n) is b from to =
+    by_bool (test a) (λ t. (t || list_any test (range_with_len (a + 1) n)) ≡ false → test a ≡ t → test b ≡ false) (λ _ clash _. absurd (cc))
+    (λ _ rest here. by_bool (nat_eq b a) (λ u. test b ≡ false) (λ e. let same : b ≡ a = grind (arith, nat_tests) in ap test same ∙ here)
+    (λ e. let apart : b ≢ a = λ same. let clash : nat_eq b a ≡ true = grind (arith, nat_tests) in cc in none_at test (a + 1) n rest b (omega (arith, from, apart)) (omega (arith, to))))
+    is refl
+
+module _ (a : Chains) (small : (k : ℕ) → IsSome (chain_at k a) → k ≤ 64) where
+  lent_is : (k : ℕ) → k < 65 → lent_candidates a k ≡ candidates_by (chain_at k a)
+  lent_is k low = ap (λ t. candidates_by (cond t (chain_at k a) None)) (let is : nat_lt k 65 ≡ true = grind (arith, nat_tests) in is)
+
+  -- of a candidate the chain
+  chain_of : (k : ℕ) (p : Network) → lent_candidates a k p ≡ true → (c : Chained) × (chain_at k a ≡ Some c) × (filt_candidates c p ≡ true)
+  chain_of k p is = by_low (nat_lt k 65) is
+    where
+      by_chain : (o : Option Chained) → chain_at k a ≡ o → candidates_by o p ≡ true → (c : Chained) × (chain_at k a ≡ Some c) × (filt_candidates c p ≡ true)
+      by_chain None at is = absurd (cc)
+      by_chain (Some c) at is = (c, at, is)
+
+      by_low : (t : Bool) → candidates_by (cond t (chain_at k a) None) p ≡ true → (c : Chained) × (chain_at k a ≡ Some c) × (filt_candidates c p ≡ true)
+      by_low true is = by_chain (chain_at k a) refl is
+      by_low false is = absurd (cc)
+
+  other_none : (k : ℕ) (c : Chained) (q : Network) → chain_at k a ≡ Some c → candidates_below 65 (lent_candidates a) q ≡ false → filt_candidates c q ≡ false
+  other_none k c q at none =
+      let low = small k (ap is_some at) in
+      let here = none_at (λ b. lent_candidates a b q) 0 65 none k (omega arith) (omega (arith, low)) in
+      sym (ap (λ (o : Option Chained). candidates_by o q) at) ∙ sym (ap (λ (t : Candidates). t q) (lent_is k (omega (arith, low)))) ∙ here
+
+  pub best_counted : CountsBeyond (best_candidates (lent_candidates a)) (best_beyond a)
+  unfolding best_candidates
+  best_counted = record { fewer = fewer; most = λ place. sum_fewer (λ (c : Chained). filt_beyond c None) (λ c. filt_beyond c place) (λ c. (candidates_are_counted c).0.most place) (tables.values a) }
+    where
+      fewer : (place : Option Network) (p : Network) → IsNextCandidate (candidates_below 65 (lent_candidates a)) place (Some p) → best_beyond a (Some p) < best_beyond a place
+      fewer place p next =
+          let any = any_at (λ b. lent_candidates a b p) 0 65 next.1 in
+          let c = chain_of any.0 p any.1 in
+          sum_one_fewer (λ (d : Chained). filt_beyond d place) (λ d. filt_beyond d (Some p)) (λ d. chain_further place p d next.0) a any.0 c.0 c.1
+          ((candidates_are_counted c.0).0.fewer place p (next.0, c.2, λ q beyond before. other_none any.0 c.0 q c.1 (next.2 q beyond before)))
+
+pub beyond_within : (a : Chains) → best_beyond a None ≤ rows_in a
+beyond_within a = sum_fewer row_count (λ c. filt_beyond c None) (λ c. (candidates_are_counted c).1) (tables.values a)

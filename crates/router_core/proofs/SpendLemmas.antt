@@ -1,0 +1,345 @@
+-- What a turn spends, of its phase and of an idle from that phase on: where a change of `best` may come, one candidate fewer is left.
+use Rattle.std.proofs.Common.{◌≡◌, ◌≢◌, ℕ, ◌+◌, ◌*◌, ◌<◌, ◌≤◌, ◌⊎◌, Bool, true, false, nat_lt, List, [], ◌∷◌, length, Option, Some, None, is_some, refl, sym, ap, subst, ◌∙◌, inl, inr, arith}
+use Rattle.std.specs.List.{AllByRecursion, sum_by}
+use Rattle.std.specs.Option.{option_map}
+use Rattle.std.proofs.lemmas.Bool.Decides.{nat_tests}
+use Rattle.link_region.proofs.RegionLemmas.{by_bool}
+use Rattle.std.specs.FinMap as tables
+use Rattle.std.specs.FinMap.{FinMap}
+use Rattle.std.specs.Ordering.{nat_cmp}
+use Rattle.std.specs.Cmp.{nat_cmp_total}
+use Rattle.std.proofs.lemmas.List.Sums.{sum_by-cons}
+use Rattle.addr4.specs.Prefixes.{Network}
+use Rattle.bgp_attr.specs.declared.attrs.Attrs.{Attrs}
+use Rattle.bgp_attr.specs.declared.route.Route.{Route}
+use Rattle.link_change.specs.Rows.{Rows, Candidates}
+use Rattle.link_change.specs.declared.change.Change.{Change}
+use Rattle.loss_chain.specs.Tables.{Tables, tables_count, lost_count}
+use Rattle.policy_rules.specs.declared.rule.Rule.{Rule}
+use Rattle.pass_core.specs.Passed.{Passed, Walked, walk_stepped, walk_of_waiting, after_walk}
+use Rattle.pass_core.specs.Turns.{walked_on, IsSentAt}
+use Rattle.journal_text.specs.declared.link.Task.{Task}
+use Rattle.journal_text.specs.declared.link.Task.TheVariants.{Del, Fin, Nh, ReadRib, Out, Rdel}
+use Rattle.journal_text.specs.declared.entry.Entry.{Entry}
+use Rattle.journal_text.specs.declared.value.Value.{Value}
+use Rattle.nexthop_known.specs.Hops.{Hops, is_stale_at, stale_count, settled, IsMapped}
+use Rattle.nexthop_known.specs.declared.answer.Hop.{Hop}
+use Rattle.nexthop_known.proofs.StaleLemmas.{same_count}
+use Rattle.nexthop_resolver.specs.declared.rows.Metric.{Metric}
+use Rattle.nexthop_resolver.specs.Kept.{route_hop, metric_of, with_metric}
+use Rattle.nexthop_resolver.specs.Resolving.{Resolving, Answers, walk_to, fresh_by, in_force_by, passes, begun}
+use Rattle.nexthop_resolver.specs.Left.{is_needed, differing_count, walk_turns as hop_walk_turns, next_walk}
+use Rattle.nexthop_resolver.specs.Turns.{KnownAfter, Steps, Turned as HopTurned}
+use Rattle.register_interest.specs.Registers.{Registry}
+use Rattle.rib_route.specs.declared.rows.Interior.{Interior}
+use Rattle.hop_side.specs.Resolvers.{Resolvers, Beyonds, resolver_at, put_resolver, same_metric, left_of, left_in as hops_left_in}
+use Rattle.in_chain.specs.Chains.{Chained, left_beyond, turns_left, waiting_turns, walk_turns}
+use Rattle.in_chain.specs.Steps.{welded, Turned}
+use Rattle.peer_side.specs.Peers.{Chains, chain_at, put_chain, lost_in, left_in, rows_in, peer_of}
+use Rattle.peer_side.specs.Steps.{Nears, TakesInward}
+use Rattle.peer_side.proofs.MapLemmas.{sum_replaced}
+use Rattle.peer_side.proofs.PutLemmas.{put_size}
+use Rattle.exit_side.specs.Exits.{Exited, OutChains}
+use Rattle.router_core.specs.declared.router.Phase.{Phase}
+use Rattle.router_core.specs.declared.router.Phase.TheVariants as phases
+use Rattle.router_core.specs.Bests.{DecidesOn, Queues}
+use Rattle.router_core.specs.Moments.{Moment, with_hops, with_exits, most_unread}
+use Rattle.router_core.specs.Phases.{beyonds, counts, most_of, tree_lost, earlier, left_from, reading, reading_of, fin_sends, fin_sends_of, walk_candidates, waiting_candidates, nh_sends, nh_sends_of, place_candidates, next_candidates}
+use Rattle.router_core.specs.Turns.{phase_of}
+use Rattle.router_core.proofs.BestLemmas.{best_of_none}
+use Rattle.router_core.proofs.QueueLemmas.{queue_chains}
+use Rattle.router_core.proofs.ReadingLemmas.{sent_count, queue_most, reading_less}
+
+-- ---- walks of filters: candidates, and ends
+abbrev pub waiting_ends : Option (List Rule) → ℕ
+waiting_ends None = 0
+waiting_ends (Some rules) = 1
+
+abbrev pub walk_ends : Option (Walked (List Rule)) → ℕ
+walk_ends None = 0
+walk_ends (Some w) = 1 + waiting_ends w.waiting
+
+abbrev pub ends_of : Chained → ℕ
+ends_of c = walk_ends c.filter.walk
+
+waits : (rows x : ℕ) (o : Option (List Rule)) → x + 1 + waiting_turns rows o ≡ x + waiting_candidates rows o + (1 + waiting_ends o)
+waits rows x None = omega arith
+waits rows x (Some rules) = omega arith
+
+turns_parted : (c : Chained) → turns_left c ≡ fin_sends_of c + ends_of c
+turns_parted c = by_walk c.filter.walk
+  where
+    t : Tables Attrs
+    t = c.incoming.tables
+
+    by_walk : (o : Option (Walked (List Rule))) → walk_turns t o ≡ walk_candidates t o + walk_ends o
+    by_walk None = omega arith
+    by_walk (Some w) = waits (tables_count t) (left_beyond w.place t) w.waiting
+
+module _ {X : Type 0} (f g h : X → ℕ) (parted : (x : X) → f x ≡ g x + h x) where
+  sum_parts : (xs : List X) → sum_by f xs ≡ sum_by g xs + sum_by h xs
+  sum_parts [] = omega arith
+  sum_parts (x ∷ xs) =
+      let one = sum_by-cons f x xs in
+      let two = sum_by-cons g x xs in
+      let three = sum_by-cons h x xs in
+      let here = parted x in
+      let rest = sum_parts xs in
+      omega (arith, one, two, three, here, rest)
+
+abbrev pub fin_ends : Chains → ℕ
+fin_ends a = sum_by ends_of (tables.values a)
+
+left_parted : (a : Chains) → left_in a ≡ fin_sends a + fin_ends a
+left_parted a = sum_parts turns_left fin_sends_of ends_of turns_parted (tables.values a)
+
+-- a walk that is on takes a turn
+stepped_ends : (walk : Option (Walked (List Rule))) (p : Network) → walk_ends (walk_stepped walk p) ≡ walk_ends walk
+stepped_ends None p = refl
+stepped_ends (Some w) p = refl
+
+begun_ends : (o : Option (List Rule)) → walk_ends (walk_of_waiting o) ≡ waiting_ends o
+begun_ends None = refl
+begun_ends (Some rules) = refl
+
+finished_ends : (in_force : List Rule) (walk : Option (Walked (List Rule))) (w : Walked (List Rule)) → walk ≡ Some w → walk_ends (after_walk in_force walk).walk + 1 ≡ walk_ends walk
+finished_ends in_force None w on = absurd (cc)
+finished_ends in_force (Some v) w on = let same = begun_ends v.waiting in omega (arith, same)
+
+-- where it ends, nothing is sent
+none_sent : {B : Type 0} (next : Option Network) (old new : Rows B) (sent : Option (Change B)) → IsSentAt next old new sent → next ≡ None → sent ≡ None
+none_sent None old new sent is e = is.0
+none_sent (Some p) old new sent is e = absurd (cc)
+
+-- it ends and sends nothing, or goes to a candidate
+pub chain_ends : (task : Task) (c less : Chained) (sent : Option (Change Route)) (fall : List (Entry Value)) → Turned c less task sent fall
+    → (ends_of less ≡ ends_of c) ⊎ ((sent ≡ None) × (ends_of less + 1 ≡ ends_of c) × ((k s : ℕ) → task ≢ Del k s))
+chain_ends (Del k s) c less sent fall t = inl (ap ends_of t.1.after)
+chain_ends (Fin k) c less sent fall t = by_next t.1.walks.next t.1.walks.after (none_sent t.1.walks.next _ _ sent t.1.walks.changes)
+  where
+    by_next : (next : Option Network) → less.filter ≡ walked_on next c.filter → (next ≡ None → sent ≡ None) → (ends_of less ≡ ends_of c) ⊎ ((sent ≡ None) × (ends_of less + 1 ≡ ends_of c) × ((k' s : ℕ) → Fin k ≢ Del k' s))
+    by_next None is changes =
+        let less_is : ends_of less ≡ walk_ends (walked_on None c.filter).walk = ap (λ (f : Passed (List Rule)). walk_ends f.walk) is in
+        let over = finished_ends c.filter.in_force c.filter.walk t.1.walks.walk t.1.walks.on in
+        inr (changes refl, omega (arith, less_is, over), λ k' s e. cc)
+    by_next (Some p) is changes = inl (ap (λ (f : Passed (List Rule)). walk_ends f.walk) is ∙ stepped_ends c.filter.walk p)
+chain_ends (Nh k) c less sent fall t = absurd t
+chain_ends ReadRib c less sent fall t = absurd t
+chain_ends (Out k) c less sent fall t = absurd t
+chain_ends (Rdel proto n) c less sent fall t = absurd t
+
+-- ---- what a turn of a peer's task makes of what may be sent
+pub record Sends (m m' : Moment) : Type 0 where
+  pub rows : rows_in m'.chains ≤ rows_in m.chains
+  pub size : tables.len m'.chains ≡ tables.len m.chains
+  pub exits : tables.len m'.exits.chains ≡ tables.len m.exits.chains
+  pub fewer : most_unread m'.exits + (lost_in m'.chains + fin_sends m'.chains) ≤ most_unread m.exits + (lost_in m.chains + fin_sends m.chains)
+
+few_sent : (o : Option (Change Route)) → sent_count o ≤ 1
+few_sent None = omega arith
+few_sent (Some c) = omega arith
+
+pub turn_sends : (task : Task) (m : Moment) (k : ℕ) (c less : Chained) (sent best : Option (Change Route)) (fall : List (Entry Value)) (cs : Chains) (e : Exited) → chain_at k m.chains ≡ Some c → cs ≡ put_chain k (welded less) m.chains
+    → Turned c less task sent fall → (sent ≡ None → best ≡ None) → Queues best m.exits e → Nears task m.chains cs → most_unread e + (lost_in cs + fin_sends cs) ≤ most_unread m.exits + (lost_in m.chains + fin_sends m.chains)
+turn_sends task m k c less sent best fall cs e at put turned quiet queued near =
+    let most = queue_most best m.exits e queued in
+    let one = few_sent best in
+    let now = left_parted cs in
+    let was = left_parted m.chains in
+    elim (chain_ends task c less sent fall turned) as (λ _. most_unread e + (lost_in cs + fin_sends cs) ≤ most_unread m.exits + (lost_in m.chains + fin_sends m.chains)) [
+      | inl same ↦ let ends = ends_same same in let fewer = nearer task near in omega (arith, most, one, now, was, ends, fewer)
+      | inr over ↦ let ends = ends_fewer over.1 in let none : sent_count best ≡ 0 = ap sent_count (quiet over.0) in let fewer = walks task over.2 near in omega (arith, most, none, now, was, ends, fewer)
+    ]
+  where
+    replaced : fin_ends cs + ends_of c ≡ fin_ends m.chains + ends_of less
+    replaced = subst (λ (x : Chains). fin_ends x + ends_of c ≡ fin_ends m.chains + ends_of less) (sym put) (sum_replaced nat_cmp nat_cmp_total ends_of m.chains k (welded less) c at)
+
+    ends_same : ends_of less ≡ ends_of c → fin_ends cs ≡ fin_ends m.chains
+    ends_same same = let r = replaced in omega (arith, r, same)
+
+    ends_fewer : ends_of less + 1 ≡ ends_of c → fin_ends cs + 1 ≡ fin_ends m.chains
+    ends_fewer over = let r = replaced in omega (arith, r, over)
+
+    nearer : (t : Task) → Nears t m.chains cs → lost_in cs + left_in cs + 1 ≤ lost_in m.chains + left_in m.chains
+    nearer (Del j s) n = let a = n.0 in let b = n.1 in omega (arith, a, b)
+    nearer (Fin j) n = let a = n.0 in let b = n.1 in omega (arith, a, b)
+    nearer (Nh j) n = absurd n
+    nearer ReadRib n = absurd n
+    nearer (Out j) n = absurd n
+    nearer (Rdel proto j) n = absurd n
+
+    walks : (t : Task) → ((j s : ℕ) → t ≢ Del j s) → Nears t m.chains cs → lost_in cs + left_in cs + 1 ≤ lost_in m.chains + left_in m.chains
+    walks t other n = nearer t n
+
+-- what a turn of a peer's task spends
+abbrev pub Spent : Phase → Moment → Moment → Type 0
+Spent r m m' = (counts m' r + 1 ≤ counts m r) × (left_from r m' + 1 ≤ left_from r m) × AllByRecursion (λ e. counts m' e ≤ counts m e) (earlier r)
+
+same_lost : (m m' : Moment) → m'.tree ≡ m.tree → counts m' phases.Rdel ≤ counts m phases.Rdel
+same_lost m m' tree = let e : tree_lost m'.tree ≡ tree_lost m.tree = ap tree_lost tree in omega (arith, e)
+
+most_same : (m m' : Moment) → Sends m m' → most_of m' ≤ most_of m
+most_same m m' s = let rows = s.rows in let size = s.size in omega (arith, rows, size)
+
+pub peer_spends : (task : Task) (m m' : Moment) → m'.tree ≡ m.tree → Nears task m.chains m'.chains → Sends m m' → Spent (phase_of task) m m'
+peer_spends (Del n s) m m' tree near sends =
+    let a = near.0 in
+    let b = near.1 in
+    let most = most_same m m' sends in
+    let fewer = sends.fewer in
+    let rows = sends.rows in
+    let exits = sends.exits in
+    let read = reading_less (tables.len m.exits.chains) (tables.len m'.exits.chains) (most_unread m.exits) (most_unread m'.exits) (rows_in m.chains) (rows_in m'.chains)
+    (lost_in m.chains + fin_sends m.chains + 3 * rows_in m.chains) (lost_in m'.chains + fin_sends m'.chains + 3 * rows_in m'.chains) (omega (arith, exits)) rows (omega (arith, fewer, rows)) in
+    (omega (arith, a), omega (arith, a, b, most, read), (same_lost m m' tree, tt))
+peer_spends (Fin n) m m' tree near sends =
+    let a = near.0 in
+    let b = near.1 in
+    let most = most_same m m' sends in
+    let fewer = sends.fewer in
+    let rows = sends.rows in
+    let exits = sends.exits in
+    let read = reading_less (tables.len m.exits.chains) (tables.len m'.exits.chains) (most_unread m.exits) (most_unread m'.exits) (rows_in m.chains) (rows_in m'.chains)
+    (fin_sends m.chains + 3 * rows_in m.chains) (fin_sends m'.chains + 3 * rows_in m'.chains) (omega (arith, exits)) rows (omega (arith, fewer, rows, a)) in
+    (omega (arith, b), omega (arith, b, most, read), (same_lost m m' tree, (omega (arith, a), tt)))
+peer_spends (Nh n) m m' tree near sends = absurd near
+peer_spends ReadRib m m' tree near sends = absurd near
+peer_spends (Out n) m m' tree near sends = absurd near
+peer_spends (Rdel proto n) m m' tree near sends = absurd near
+
+-- ---- walks of next hops: candidates, and ends
+abbrev pub need_ends : Bool → ℕ
+need_ends true = 1
+need_ends false = 0
+
+abbrev pub place_ends : Option (Option Network) → ℕ
+place_ends None = 0
+place_ends (Some place) = 1
+
+abbrev pub hop_ends : Resolving Metric → ℕ
+hop_ends s = place_ends s.walk + need_ends (is_needed (is_some s.walk) (stale_count s.known) (differing_count same_metric s.known))
+
+few_needed : (b : Bool) → need_ends b ≤ 1
+few_needed true = omega arith
+few_needed false = omega arith
+
+module _ (beyond : Option Network → ℕ) where
+  place_parted : (o : Option (Option Network)) → hop_walk_turns beyond o ≡ place_candidates beyond o + place_ends o
+  place_parted None = omega arith
+  place_parted (Some place) = omega arith
+
+  next_parted : (b : Bool) → next_walk beyond b ≡ next_candidates beyond b + need_ends b
+  next_parted true = omega arith
+  next_parted false = omega arith
+
+hops_parted : (b : Beyonds) (s : Resolving Metric) → left_of b s ≡ nh_sends_of b s + hop_ends s
+hops_parted b s =
+    let place = place_parted (b s.client) s.walk in
+    let next = next_parted (b s.client) (is_needed (is_some s.walk) (stale_count s.known) (differing_count same_metric s.known)) in
+    omega (arith, place, next)
+
+abbrev pub nh_ends : Resolvers → ℕ
+nh_ends a = sum_by hop_ends (tables.values a)
+
+nh_parted : (b : Beyonds) (a : Resolvers) → hops_left_in b a ≡ nh_sends b a + nh_ends a
+nh_parted b a = sum_parts (left_of b) (nh_sends_of b) hop_ends (hops_parted b) (tables.values a)
+
+settled_stale : (o : Option (Hop Metric)) → is_stale_at (option_map settled o) ≡ is_stale_at o
+settled_stale None = refl
+settled_stale (Some h) = refl
+
+as_many_stale : (old new : Hops Metric) → IsMapped settled old new → stale_count new ≡ stale_count old
+as_many_stale old new mapped = same_count is_stale_at old new refl (λ a. ap (λ o. is_stale_at o) (mapped a) ∙ settled_stale (tables.get old a))
+
+-- a walk that is on, seen in the answers
+on_at : (fresh : Answers Metric) (walk : Option (Option Network)) (w : Walked (Answers Metric)) → walk_to fresh walk ≡ Some w → (place : Option Network) × (walk ≡ Some place) × (w.waiting ≡ None)
+on_at fresh None w on = absurd (cc)
+on_at fresh (Some place) w on = let same : record { next = fresh; place = place; waiting = None } ≡ w = cc in (place, refl, ap (λ (x : Walked (Answers Metric)). x.waiting) (sym same))
+
+off_at : (fresh : Answers Metric) (walk : Option (Option Network)) → walk_to fresh walk ≡ None → walk ≡ None
+off_at fresh None off = refl
+off_at fresh (Some place) off = absurd (cc)
+
+ends_more : (stale stale' differing : ℕ) → stale' ≡ stale → need_ends (nat_lt 0 stale) ≤ need_ends (nat_lt 0 (stale' + differing))
+ends_more stale stale' differing same = by_bool (nat_lt 0 stale) (λ b. need_ends b ≤ need_ends (nat_lt 0 (stale' + differing)))
+    (λ e. let more : nat_lt 0 (stale' + differing) ≡ true = (let lt : 0 < stale = grind (arith, nat_tests) in let lt' : 0 < stale' + differing = omega (arith, lt, same) in grind (arith, nat_tests)) in subst (λ b. 1 ≤ need_ends b) (sym more) (omega arith))
+    (λ _. omega arith)
+
+module _ (candidates : Candidates) (upper : Rows Route) where
+  -- a step of a walk
+  step_ends : (old new : Resolving Metric) (sent : Option (Change Route)) → Steps route_hop with_metric candidates upper old new sent → (hop_ends old ≤ hop_ends new) ⊎ ((sent ≡ None) × (hop_ends old ≤ hop_ends new + 1))
+  step_ends old new sent s = by_next s.walks.next s.walks.after (none_sent s.walks.next _ _ sent s.walks.changes)
+    where
+      was : (place : Option Network) × (old.walk ≡ Some place) × (s.walks.walk.waiting ≡ None)
+      was = on_at (fresh_by old.known) old.walk s.walks.walk s.walks.on
+
+      old_ends : hop_ends old ≡ 1 + need_ends (nat_lt 0 (stale_count old.known))
+      old_ends = ap (λ w. place_ends w + need_ends (is_needed (is_some w) (stale_count old.known) (differing_count same_metric old.known))) was.1
+
+      by_next : (next : Option Network) → passes new ≡ walked_on next (passes old) → (next ≡ None → sent ≡ None) → (hop_ends old ≤ hop_ends new) ⊎ ((sent ≡ None) × (hop_ends old ≤ hop_ends new + 1))
+      by_next None is changes =
+          let over : walk_to (fresh_by new.known) new.walk ≡ None = ap (λ (x : Passed (Answers Metric)). x.walk) is ∙ ap (λ (o : Option (Walked (Answers Metric))). (after_walk (in_force_by old.known) o).walk) s.walks.on ∙ ap walk_of_waiting was.2 in
+          let off = off_at (fresh_by new.known) new.walk over in
+          let known = as_many_stale old.known new.known (subst (λ w. KnownAfter w old.known new.known) off s.known) in
+          let new_ends : hop_ends new ≡ 0 + need_ends (nat_lt 0 (stale_count new.known + differing_count same_metric new.known)) = ap (λ w. place_ends w + need_ends (is_needed (is_some w) (stale_count new.known) (differing_count same_metric new.known))) off in
+          let more = ends_more (stale_count old.known) (stale_count new.known) (differing_count same_metric new.known) known in
+          let was_ends = old_ends in
+          inr (changes refl, omega (arith, was_ends, new_ends, more))
+      by_next (Some p) is changes =
+          let on : walk_to (fresh_by new.known) new.walk ≡ walk_stepped (Some s.walks.walk) p = ap (λ (x : Passed (Answers Metric)). x.walk) is ∙ ap (λ o. walk_stepped o p) s.walks.on in
+          let now = on_at (fresh_by new.known) new.walk (record s.walks.walk { place = Some p }) on in
+          let known : new.known ≡ old.known = subst (λ w. KnownAfter w old.known new.known) now.1 s.known in
+          let new_ends : hop_ends new ≡ 1 + need_ends (nat_lt 0 (stale_count new.known)) = ap (λ w. place_ends w + need_ends (is_needed (is_some w) (stale_count new.known) (differing_count same_metric new.known))) now.1 in
+          let same : need_ends (nat_lt 0 (stale_count new.known)) ≡ need_ends (nat_lt 0 (stale_count old.known)) = ap (λ (h : Hops Metric). need_ends (nat_lt 0 (stale_count h))) known in
+          let was_ends = old_ends in
+          inl (omega (arith, was_ends, new_ends, same))
+
+  -- where none is on, one end at most is left
+  off_ends : (old : Resolving Metric) → old.walk ≡ None → hop_ends old ≤ 1
+  off_ends old off =
+      let few = few_needed (is_needed (is_some old.walk) (stale_count old.known) (differing_count same_metric old.known)) in
+      let none : place_ends old.walk ≡ 0 = ap place_ends off in
+      omega (arith, few, none)
+
+  turn_ends : (was is : Registry Interior) (old new : Resolving Metric) (sent : Option (Change Route)) → HopTurned route_hop with_metric candidates upper metric_of was is old new sent
+      → (hop_ends old ≤ hop_ends new) ⊎ ((sent ≡ None) × (hop_ends old ≤ hop_ends new + 1))
+  turn_ends was is old new sent (inl goes) = step_ends old new sent goes.steps
+  turn_ends was is old new sent (inr (inl asks)) = let few = off_ends old asks.off in inr (asks.none_sent, omega (arith, few))
+  turn_ends was is old new sent (inr (inr begins)) = by_next begins.steps.walks.next begins.steps.walks.after (none_sent begins.steps.walks.next _ _ sent begins.steps.walks.changes)
+    where
+      few : hop_ends old ≤ 1
+      few = off_ends old begins.off
+
+      by_next : (next : Option Network) → passes new ≡ walked_on next (passes (begun old)) → (next ≡ None → sent ≡ None) → (hop_ends old ≤ hop_ends new) ⊎ ((sent ≡ None) × (hop_ends old ≤ hop_ends new + 1))
+      by_next None is changes = let f = few in inr (changes refl, omega (arith, f))
+      by_next (Some p) is changes =
+          let on : walk_to (fresh_by new.known) new.walk ≡ walk_stepped (Some begins.steps.walks.walk) p = ap (λ (x : Passed (Answers Metric)). x.walk) is ∙ ap (λ o. walk_stepped o p) begins.steps.walks.on in
+          let now = on_at (fresh_by new.known) new.walk (record begins.steps.walks.walk { place = Some p }) on in
+          let one : place_ends new.walk ≡ 1 = ap place_ends now.1 in
+          let f = few in
+          inl (omega (arith, f, one))
+
+pub hop_spends : (m : Moment) (k : ℕ) (candidates : Candidates) (upper : Rows Route) (r : Registry Interior) (h : Resolvers) (e : Exited) (resolver taken : Resolving Metric) (sent best : Option (Change Route)) → resolver_at k m.hops ≡ Some resolver
+    → HopTurned route_hop with_metric candidates upper metric_of m.registry r resolver taken sent → h ≡ put_resolver k taken m.hops → (sent ≡ None → best ≡ None) → Queues best m.exits e → hops_left_in (beyonds m.chains) h + 1 ≤ hops_left_in (beyonds m.chains) m.hops
+    → Spent phases.Nh m (with_exits (with_hops m r h) e)
+hop_spends m k candidates upper r h e resolver taken sent best at turned after quiet queued fewer =
+    let read = reading_less (tables.len m.exits.chains) (tables.len e.chains) (most_unread m.exits) (most_unread e) (rows_in m.chains) (rows_in m.chains) (nh_sends (beyonds m.chains) m.hops) (nh_sends (beyonds m.chains) h) exits (omega arith) spent in
+    (fewer, omega (arith, fewer, read), (omega arith, (omega arith, (omega arith, tt))))
+  where
+    exits : tables.len e.chains ≤ tables.len m.exits.chains
+    exits = let same : tables.len e.chains ≡ tables.len m.exits.chains = ap (λ (a : OutChains). tables.len a) (queue_chains m.exits e best queued) in omega (arith, same)
+
+    replaced : nh_ends h + hop_ends resolver ≡ nh_ends m.hops + hop_ends taken
+    replaced = subst (λ (x : Resolvers). nh_ends x + hop_ends resolver ≡ nh_ends m.hops + hop_ends taken) (sym after) (sum_replaced nat_cmp nat_cmp_total hop_ends m.hops k taken resolver at)
+
+    spent : most_unread e + nh_sends (beyonds m.chains) h ≤ most_unread m.exits + nh_sends (beyonds m.chains) m.hops
+    spent =
+        let most = queue_most best m.exits e queued in
+        let one = few_sent best in
+        let now = nh_parted (beyonds m.chains) h in
+        let was = nh_parted (beyonds m.chains) m.hops in
+        let ends = replaced in
+        elim (turn_ends candidates upper m.registry r resolver taken sent turned) as (λ _. most_unread e + nh_sends (beyonds m.chains) h ≤ most_unread m.exits + nh_sends (beyonds m.chains) m.hops) [
+          | inl more ↦ omega (arith, most, one, now, was, ends, more, fewer)
+          | inr over ↦ let none : sent_count best ≡ 0 = ap sent_count (quiet over.0) in let less = over.1 in omega (arith, most, none, now, was, ends, less, fewer)
+        ]

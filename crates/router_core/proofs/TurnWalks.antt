@@ -1,0 +1,90 @@
+-- What each turn keeps, many turns keep: of a task, of a phase, and of all phases. So the same peers have exits.
+use Rattle.std.proofs.Common.{◌≡◌, ℕ, zero, suc, nat_eq, List, [], ◌∷◌, ◌++◌, Option, Some, None, is_some, refl, sym, ap, subst, ◌∙◌}
+use Rattle.std.specs.FinMap as tables
+use Rattle.std.specs.FinMap.{get-insert}
+use Rattle.std.specs.Ordering.{nat_cmp, eq_by_cmp}
+use Rattle.std.specs.Cmp.{nat_cmp_total}
+use Rattle.link_change.specs.declared.change.Change.{Change}
+use Rattle.addr4.specs.Prefixes.{Network}
+use Rattle.bgp_attr.specs.declared.attrs.Attrs.{Attrs}
+use Rattle.journal_text.specs.declared.link.Task.{Task}
+use Rattle.journal_text.specs.declared.link.Task.TheVariants.{Del, Fin, Nh, ReadRib, Out, Rdel}
+use Rattle.journal_text.specs.declared.line.Line.{Line}
+use Rattle.link_region.proofs.RegionLemmas.{by_bool}
+use Rattle.loss_chain.proofs.TableLemmas.{equal_by}
+use Rattle.event_text.specs.Declarations.{Declaration}
+use Rattle.exit_side.specs.Exits.{Exited, OutChains, chain_at as exit_at, with_exit}
+use Rattle.router_core.specs.declared.router.Phase.{Phase}
+use Rattle.router_core.specs.Moments.{Moment}
+use Rattle.router_core.specs.Turns.{IsPeerTurn, IsTurn, Turns, Runs, RunsPhase, RunsAll, FeedsAll}
+use Rattle.router_core.specs.Blocks.{RunsFirst}
+use Rattle.router_core.specs.Works.{HaveSameExits}
+use Rattle.router_core.proofs.QueueLemmas.{queue_chains}
+use Rattle.router_core.proofs.SessionLemmas.{exit_here, exit_elsewhere}
+
+-- ---- of any relation between moments
+module _ (G : Moment → List Line → Moment → Type 0) (nowhere : (m m' : Moment) (said : List Line) → said ≡ [] → m' ≡ m → G m said m') (then : (a b c : Moment) (xs ys said : List Line) → G a xs b → G b ys c → said ≡ xs ++ ys → G a said c)
+    (turn : (task : Task) (m : Moment) (said : List Line) (m' : Moment) → IsTurn task m said m' → G m said m') where
+  pub turns_along : (n : ℕ) (task : Task) (m : Moment) (said : List Line) (m' : Moment) → Turns n task m said m' → G m said m'
+  turns_along zero task m said m' t = nowhere m m' said t.0 t.1
+  turns_along (suc n) task m said m' t = then m t.2 m' t.0 t.1 said (turn task m t.0 t.2 t.3) (turns_along n task t.2 t.1 m' t.4) t.5
+
+  runs_along : (phase : Phase) (n : ℕ) (m : Moment) (said : List Line) (turns : ℕ) (m' : Moment) → Runs phase n m said turns m' → G m said m'
+  runs_along phase zero m said turns m' r = nowhere m m' said r.0 r.2
+  runs_along phase (suc n) m said turns m' r = then m r.4 m' r.0 r.1 said (runs_along phase n m r.0 r.2 r.4 r.5) (turns_along r.3 r.6.0 r.4 r.1 m' r.6.2.0) r.7
+
+  pub phase_along : (phase : Phase) (m : Moment) (said : List Line) (turns : ℕ) (m' : Moment) → RunsPhase phase m said turns m' → G m said m'
+  phase_along phase m said turns m' r = runs_along phase r.count m said turns m' r.runs
+
+  pub phases_along : (phases : List Phase) (m : Moment) (said : List Line) (turns : ℕ) (m' : Moment) → RunsAll phases m said turns m' → G m said m'
+  phases_along [] m said turns m' r = nowhere m m' said r.0 r.2
+  phases_along (phase ∷ later) m said turns m' r = then m r.4 m' r.0 r.1 said (phase_along phase m r.0 r.2 r.4 r.5) (phases_along later r.4 r.1 r.3 m' r.6) r.7
+
+  pub first_along : (task : Option Task) (m : Moment) (said : List Line) (m' : Moment) → RunsFirst task m said m' → G m said m'
+  first_along None m said m' r = nowhere m m' said r.0 r.1
+  first_along (Some task) m said m' r = turns_along r.0 task m said m' r.1.0
+
+-- ---- the same peers have exits
+chains_same : (m m' : Moment) → m'.exits.chains ≡ m.exits.chains → HaveSameExits m m'
+chains_same m m' same k = ap (λ (a : OutChains). is_some (tables.get a k)) same
+
+abbrev pub SameAlong : Moment → List Line → Moment → Type 0
+SameAlong m said m' = HaveSameExits m m'
+
+same_nowhere : (m m' : Moment) (said : List Line) → said ≡ [] → m' ≡ m → SameAlong m said m'
+same_nowhere m m' said none same k = ap (λ (x : Moment). is_some (exit_at k x.exits)) same
+
+same_then : (a b c : Moment) (xs ys said : List Line) → SameAlong a xs b → SameAlong b ys c → said ≡ xs ++ ys → SameAlong a said c
+same_then a b c xs ys said f g is k = g k ∙ f k
+
+peer_same : (task : Task) (m : Moment) (said : List Line) (m' : Moment) → IsPeerTurn task m said m' → SameAlong m said m'
+peer_same task m said m' t = chains_same m m' (queue_chains m.exits m'.exits t.1.decided.best t.1.queued)
+
+same_turn : (task : Task) (m : Moment) (said : List Line) (m' : Moment) → IsTurn task m said m' → SameAlong m said m'
+same_turn (Del k s) m said m' t = peer_same (Del k s) m said m' t
+same_turn (Fin k) m said m' t = peer_same (Fin k) m said m' t
+same_turn (Nh k) m said m' t = chains_same m m' (queue_chains m.exits m'.exits t.decided.best t.queued)
+same_turn ReadRib m said m' t = chains_same m m' (ap (λ (x : Moment). x.exits.chains) t.after)
+same_turn (Out k) m said m' t = λ j. ap (λ (e : Exited). is_some (exit_at j e)) t.turn.after ∙ by_bool (nat_eq j k) (λ b. is_some (exit_at j (with_exit k t.turn.taken m'.exits.queue m.exits)) ≡ is_some (exit_at j m.exits))
+    (λ same. subst (λ (n : ℕ). is_some (exit_at n (with_exit k t.turn.taken m'.exits.queue m.exits)) ≡ is_some (exit_at n m.exits)) (sym (equal_by j k same)) (ap is_some (exit_here k t.turn.taken m'.exits.queue m.exits) ∙ sym (ap is_some t.turn.at)))
+    (λ apart. ap is_some (exit_elsewhere k j t.turn.taken m'.exits.queue m.exits apart))
+same_turn (Rdel proto n) m said m' t = chains_same m m' (ap (λ (x : Moment). x.exits.chains) t.falls.after)
+
+pub turns_same : (n : ℕ) (task : Task) (m : Moment) (said : List Line) (m' : Moment) → Turns n task m said m' → HaveSameExits m m'
+turns_same = turns_along SameAlong same_nowhere same_then same_turn
+
+pub turn_same : (task : Task) (m : Moment) (said : List Line) (m' : Moment) → IsTurn task m said m' → HaveSameExits m m'
+turn_same = same_turn
+
+pub phase_same : (phase : Phase) (m : Moment) (said : List Line) (turns : ℕ) (m' : Moment) → RunsPhase phase m said turns m' → HaveSameExits m m'
+phase_same = phase_along SameAlong same_nowhere same_then same_turn
+
+pub phases_same : (phases : List Phase) (m : Moment) (said : List Line) (turns : ℕ) (m' : Moment) → RunsAll phases m said turns m' → HaveSameExits m m'
+phases_same = phases_along SameAlong same_nowhere same_then same_turn
+
+pub first_same : (task : Option Task) (m : Moment) (said : List Line) (m' : Moment) → RunsFirst task m said m' → HaveSameExits m m'
+first_same = first_along SameAlong same_nowhere same_then same_turn
+
+pub feeds_same : (k : ℕ) (cs : List (Network × Option Attrs)) (m : Moment) (said : List Line) (m' : Moment) → FeedsAll k cs m said m' → HaveSameExits m m'
+feeds_same k [] m said m' f = same_nowhere m m' said f.0 f.1
+feeds_same k (c ∷ cs) m said m' f = same_then m f.2 m' f.0 f.1 said (chains_same m f.2 (queue_chains m.exits f.2.exits f.3.1.decided.best f.3.1.queued)) (feeds_same k cs f.2 f.1 m' f.4) f.5
