@@ -166,6 +166,10 @@ reader_took law m v m' r change e before j now view stands reads takes after is 
     (journal_lines (valued_change route_value links.ReadRib change), flush ∙ ap flushed pushed,
     subst (λ (n : Moment). IsUnit tasks.ReadRib v n (journal_lines (valued_change route_value links.ReadRib change))) (sym (is ∙ ap (with_exits v) after)) (read_done law v r change e.queue (subst Stands (sym view) stands) reads takes))
 
+-- its reader is numbered as before
+pub reader_same : (v : Moment) (e : Exited) (o : Option ℕ) → o ≡ v.reader → record v { exits = e; reader = o } ≡ with_exits v e
+reader_same v e o same = ap (λ (x : Option ℕ). record v { exits = e; reader = x }) same
+
 pub reader_rests : (m v m' : Moment) (before : Journaled) → v ≡ m → v.reader ≡ None → m' ≡ v → Comes tasks.ReadRib m m' before before Nothing
 reader_rests m v m' before view none same = (sym (reads_nothing m v view none), same ∙ view, refl)
 

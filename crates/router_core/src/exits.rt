@@ -26,6 +26,7 @@ use addr4::{Memory, Place, Prefix};
 use bgp_attr::Route;
 use decision::Best;
 use exit_side::Exits;
+use exit_side::laws::a_stranger_reads;
 use fanout_queue::Reader;
 use journal_text::{Entry, Journal, Link, Task, Value};
 use link_change::{Change, Turn};
@@ -162,6 +163,7 @@ impl Network {
         let Some(reader) = &mut self.reader else {
             return Ok(Done::Nothing);
         };
+        a_stranger_reads();
         let Some(change) = self.exits.take(reader)? else {
             return Ok(Done::Nothing);
         };
