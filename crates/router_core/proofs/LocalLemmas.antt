@@ -1,5 +1,5 @@
 -- `local`: the links of the interior routes begin.
-use Rattle.std.proofs.Common.{◌≡◌, ℕ, ◌+◌, ◌<◌, nat_eq, List, [], ◌∷◌, ◌++◌, map, take, length, get_or, Option, Some, None, is_some, true, false, cond, refl, sym, ap, subst, ◌∙◌, arith}
+use Rattle.std.proofs.Common.{◌≡◌, ℕ, ◌+◌, ◌<◌, List, [], ◌∷◌, ◌++◌, map, take, length, get_or, Option, Some, None, is_some, true, false, cond, refl, sym, ap, subst, ◌∙◌, arith}
 use Rattle.std.proofs.lemmas.Bool.Decides.{nat_tests}
 use Rattle.std.specs.FinMap as tables
 use Rattle.std.specs.FinMap.{get-insert}
@@ -165,8 +165,31 @@ module _ (law : StrangersJoin) (m : Moment) (words : Speaker) (reader : ℕ) (ad
 
   begun_leads : Leads (router_links m) (entries_of rib_begins) (router_links then)
   begun_leads = record {
-    lawful = (none (Org Connected), (none (Org Static), (none (Org Ospf), (none (Org Rip), (none Low, (none Dyn, (none Int, (ap (λ (s : Option Speaker). best_links s (best_at m.chains m.hops) Best) first,
-        ((ap (λ (o : Option ℕ). read_by m.exits.queue o (best_at m.chains m.hops)) no_reader, refl), (none Fib, tt))))))))));
+    lawful = (
+      none (Org Connected),
+      (
+        none (Org Static),
+        (
+          none (Org Ospf),
+          (
+            none (Org Rip),
+            (
+              none Low,
+              (
+                none Dyn,
+                (
+                  none Int,
+                  (
+                    ap (λ (s : Option Speaker). best_links s (best_at m.chains m.hops) Best) first,
+                    ((ap (λ (o : Option ℕ). read_by m.exits.queue o (best_at m.chains m.hops)) no_reader, refl), (none Fib, tt)),
+                  ),
+                ),
+              ),
+            ),
+          ),
+        ),
+      ),
+    );
     ends = links_then;
   }
 

@@ -1,5 +1,5 @@
 -- The rules of outgoing filters, against the `BTreeMap` that holds them.
-use Rattle.std.proofs.Common.{◌≡◌, ℕ, List, Option, Some, None, sym, ap, ◌∙◌}
+use Rattle.std.proofs.Common.{◌≡◌, ℕ, List, Option, Some, sym, ap, ◌∙◌}
 use Rattle.std.specs.FinMap as tables
 use Rattle.std.specs.FinMap.{from_entries}
 use Rattle.std.specs.BTreeMap as tree

@@ -1,7 +1,6 @@
 -- Lookups in what reads `best`.
-use Rattle.std.proofs.Common.{◌≡◌, ℕ, false, Option, Some, None, refl, sym, ap, subst, ◌∙◌}
+use Rattle.std.proofs.Common.{◌≡◌, ℕ, Option, Some, sym, ap, subst, ◌∙◌}
 use Rattle.std.specs.Prelude.{IsSome, option_map}
-use Rattle.std.specs.FinMap as tables
 use Rattle.addr4.specs.Prefixes.{Network}
 use Rattle.bgp_attr.specs.declared.route.Route.{Route}
 use Rattle.link_change.specs.Rows.{Rows, Candidates, IsNextCandidate, CoversRows}
@@ -52,5 +51,9 @@ module _ (m v : Moment) (a : Chains) (h : Resolvers) (view : v ≡ m) (chains : 
 
   pub read_next : (r : ℕ) (place result : Option Network) (candidates : Candidates) → v.reader ≡ Some r → IsNextCandidate candidates place result → CoversRows candidates (read_rows v.exits.queue r lent)
       → IsNextPlace (read_links m.exits.queue m.reader (best_at m.chains m.hops) ReadRib) place result
-  read_next r place result candidates reads next covers = (candidates, next, λ rows is q lacks.
-      ap (λ (x : Rows Value). x q) (one_of rows (route_rows (read_rows v.exits.queue r lent)) (sym is ∙ read_is r reads)) ∙ ap (option_map route_value) (covers q lacks))
+  read_next r place result candidates reads next covers = (
+    candidates,
+    next,
+    λ rows is q lacks.
+        ap (λ (x : Rows Value). x q) (one_of rows (route_rows (read_rows v.exits.queue r lent)) (sym is ∙ read_is r reads)) ∙ ap (option_map route_value) (covers q lacks),
+  )

@@ -5,14 +5,14 @@ use Rattle.std.specs.List.{AllByRecursion, sum_by, list_any, range_with_len}
 use Rattle.std.specs.Option.{option_map}
 use Rattle.std.specs.FinMap as tables
 use Rattle.std.specs.FinMap.{FinMap}
-use Rattle.std.specs.Ordering.{nat_cmp, is_lt, is_eq}
+use Rattle.std.specs.Ordering.{nat_cmp, is_lt}
 use Rattle.std.specs.declared.cmp.Ordering.{Ordering}
 use Rattle.std.specs.declared.cmp.Ordering.TheVariants.{Less, Equal, Greater}
 use Rattle.std.specs.Cmp.{nat_cmp_total}
 use Rattle.std.proofs.lemmas.List.Sums.{sum_by-cons}
 use Rattle.std.proofs.lemmas.Bool.Decides.{nat_tests}
 use Rattle.std.proofs.Math.Nat.{mul-le-mul, mul-le-mul_left}
-use Rattle.addr4.specs.Prefixes.{Network, prefix_cmp, ComesBefore}
+use Rattle.addr4.specs.Prefixes.{Network, prefix_cmp}
 use Rattle.addr4.specs.Places.{IsBeyond}
 use Rattle.addr4.proofs.PrefixOrder.{prefixes_total}
 use Rattle.bgp_attr.specs.declared.attrs.Attrs.{Attrs}
@@ -31,7 +31,7 @@ use Rattle.in_chain.proofs.TurnLemmas.{candidates_are_counted}
 use Rattle.decision.specs.Branches.{best_candidates, candidates_below}
 use Rattle.peer_side.specs.Peers.{Chains, chain_at, rows_in}
 use Rattle.peer_side.proofs.MapLemmas.{all_values, one_of_sum, sum_none}
-use Rattle.router_core.specs.Bests.{lent_chain, candidates_by, lent_candidates, Queues}
+use Rattle.router_core.specs.Bests.{candidates_by, lent_candidates, Queues}
 use Rattle.hop_side.specs.Resolvers.{known_in}
 use Rattle.rib_tree.specs.Trees.{tree_count}
 use Rattle.router_core.specs.Moments.{Moment, longest_of, most_unread, bound_of}

@@ -37,7 +37,7 @@ use Rattle.rib_merge.specs.Forwards.{forwarded}
 use Rattle.router_core.specs.declared.router.Phase.TheVariants as phases
 use Rattle.peer_side.specs.Peers.{chain_at, links_by, filt_by, filt_at, routes_of, rules_of, has_turn_in}
 use Rattle.live_state.specs.Lives.{Routes, Interiors}
-use Rattle.live_state.specs.Decided.{live_rows, judged_rows, least_rows, origins, since_local, with_metric_of, resolved_row, resolved_rows, rows_if_any, resolved_of, picked_rows, best_of, sent_rows, in_session, from_scratch}
+use Rattle.live_state.specs.Decided.{live_rows, judged_rows, least_rows, origins, since_local, with_metric_of, resolved_row, resolved_rows, rows_if_any, resolved_of, picked_rows, best_of, sent_rows, in_session}
 use Rattle.best_path.specs.Steps.{pick}
 use Rattle.decision.specs.Branches.{routes_below}
 use Rattle.decision.proofs.LawLemmas.{best_is_picked}
@@ -54,9 +54,8 @@ use Rattle.hop_side.specs.Resolvers.{resolver_at, metric_rows, rows_by, link_by}
 use Rattle.hop_side.specs.Laws.{matched_row, res_from}
 use Rattle.hop_side.proofs.LawLemmas.{exact_without_work}
 use Rattle.exit_side.specs.Laws.{ExactWithoutWork}
-use Rattle.exit_side.specs.Exits.{Exited, chain_at as exit_at, links_by as exit_link, exit_links, busy_by, AllStand}
+use Rattle.exit_side.specs.Exits.{chain_at as exit_at, links_by as exit_link}
 use Rattle.out_chain.specs.Chains.{OutChained, made_by, outf_rows, is_unread}
-use Rattle.fanout_queue.specs.Queues.{Queued}
 use Rattle.fanout_queue.specs.Readers.{read_rows, unread_by}
 use Rattle.link_change.specs.InOrder.{rows_before}
 use Rattle.link_change.specs.declared.change.Change.{Change}
@@ -64,7 +63,7 @@ use Rattle.link_region.proofs.RegionLemmas.{by_bool}
 use Rattle.std.proofs.lemmas.Bool.Decides.{nat_tests}
 use Rattle.live_state.proofs.LeastLemmas.{least_two, least_four}
 use Rattle.rib_tree.proofs.RestLemmas.{no_stages, no_link, Rest, org_rests, two_rest, four_rest}
-use Rattle.router_core.specs.Moments.{Moment, Policies, plain, rib_by, read_links, read_by, rules_to}
+use Rattle.router_core.specs.Moments.{Moment, plain, rib_by, read_by, rules_to}
 use Rattle.router_core.specs.Phases.{unread_if}
 use Rattle.router_core.specs.Stands.{StandsAt, Stands, AllHaveExits, ExitsAt, IsExitOf, ReadsOn, EachChain, EachPeer, OneSpeaker, EachResolver, SameResolvers, AnswersAgree, HopsCounted, EachExit, ExitsRead, PlainExits, SameSessions, OneReader}
 use Rattle.router_core.proofs.StandLemmas.{registered_rows}
@@ -343,19 +342,19 @@ module _ (law : ExactWithoutWork) (m : Moment) (stands : Stands m) (all : AllHav
   read_exact j s rest =
       read_link (exit_at j m.exits) j s
       ∙ session_exact (Route) route_rows j s (λ c. read_rows m.exits.queue c.reader (best_at m.chains m.hops)) (λ me w. picked) m.declared.speaker (peer_at j m.declared.peers) (exit_at j m.exits) (stands.own SameSessions j) (all j) (numbered j)
-        (λ c me p at local is. (exit_rests j (rest (Out j) refl) (best_rests j s rest) c at).0)
+      (λ c me p at local is. (exit_rests j (rest (Out j) refl) (best_rests j s rest) c at).0)
 
   outf_exact : (j s : ℕ) → IsAtRest m (Outf j s) → IsExactAt m (Outf j s)
   outf_exact j s rest =
       outf_link (exit_at j m.exits) j s
       ∙ session_exact (Attrs) attrs_rows j s (λ c. outf_rows c (read_rows m.exits.queue c.reader (best_at m.chains m.hops))) (λ me w. sent_rows me w (rules_to j m.outgoing) picked) m.declared.speaker (peer_at j m.declared.peers) (exit_at j m.exits) (stands.own SameSessions j) (all j) (numbered j)
-        (λ c me p at local is. outf_is j (rest (Out j) refl) (best_rests j s (λ task holds. rest task (outf_holds j s task holds))) c me p at is)
+      (λ c me p at local is. outf_is j (rest (Out j) refl) (best_rests j s (λ task holds. rest task (outf_holds j s task holds))) c me p at is)
 
   adv_exact : (j s : ℕ) → IsAtRest m (Adv j s) → IsExactAt m (Adv j s)
   adv_exact j s rest =
       adv_link (exit_at j m.exits) j s
       ∙ session_exact (Attrs) attrs_rows j s (λ c. tables.get c.sent) (λ me w. sent_rows me w (rules_to j m.outgoing) picked) m.declared.speaker (peer_at j m.declared.peers) (exit_at j m.exits) (stands.own SameSessions j) (all j) (numbered j)
-        (λ c me p at local is. sent_is j (rest (Out j) refl) (best_rests j s (λ task holds. rest task (adv_holds j s task holds))) c me p at is)
+      (λ c me p at local is. sent_is j (rest (Out j) refl) (best_rests j s (λ task holds. rest task (adv_holds j s task holds))) c me p at is)
 
   -- ---- each link
   pub at_rest_is_exact : (link : Link) → IsAtRest m link → IsExactAt m link

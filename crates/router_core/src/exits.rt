@@ -107,7 +107,8 @@ impl Network {
             unreachable!()
         };
         let rules = self.outgoing.rules(self.alloc, number)?;
-        self.exits.begin(&me, &peer.words, peer.session, rules, journal)?;
+        self.exits
+            .begin(&me, &peer.words, peer.session, rules, journal)?;
         Ok(())
     }
 

@@ -104,7 +104,14 @@ impl Network {
         turns_are_bounded();
         exact_without_work();
         journal.flush()?;
-        let phases = [Phase::Rdel, Phase::Del, Phase::Fin, Phase::Nh, Phase::ReadRib, Phase::Out];
+        let phases = [
+            Phase::Rdel,
+            Phase::Del,
+            Phase::Fin,
+            Phase::Nh,
+            Phase::ReadRib,
+            Phase::Out,
+        ];
         let mut turns = 0;
         for i in 0..phases.len() {
             turns = plus(turns, self.drain(phases[i], journal)?)?;
