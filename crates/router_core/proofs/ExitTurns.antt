@@ -1,13 +1,11 @@
 -- One turn of what reads `best`: of the forwarding side, and of a peer's exit.
-use Rattle.std.proofs.Common.{◌≡◌, ◌≢◌, ℕ, ◌+◌, ◌≤◌, nat_eq, nat_lt, Bool, true, false, cond, List, [], ◌∷◌, ◌++◌, map, length, Option, Some, None, is_some, IsSome, IfSome, refl, sym, ap, subst, ◌∙◌, arith, inl, inr}
+use Rattle.std.proofs.Common.{◌≡◌, ℕ, ◌+◌, ◌≤◌, nat_eq, nat_lt, true, false, cond, List, [], ◌∷◌, ◌++◌, length, Option, Some, None, is_some, IsSome, IfSome, refl, sym, ap, subst, ◌∙◌, arith, inl, inr}
 use Rattle.std.proofs.lemmas.Bool.Decides.{nat_tests}
 use Rattle.std.proofs.lemmas.List.{append-nil}
-use Rattle.std.specs.List.{AllByRecursion}
 use Rattle.std.specs.FinMap as tables
 use Rattle.std.specs.FinMap.{get-insert}
 use Rattle.std.specs.Ordering.{nat_cmp, eq_by_cmp}
 use Rattle.std.specs.Cmp.{nat_cmp_total}
-use Rattle.addr4.specs.Prefixes.{Network}
 use Rattle.bgp_attr.specs.declared.attrs.Attrs.{Attrs}
 use Rattle.bgp_attr.specs.declared.route.Route.{Route}
 use Rattle.bgp_attr.specs.declared.speaker.Speaker.{Speaker}
@@ -24,7 +22,7 @@ use Rattle.journal_text.specs.declared.link.Task.TheVariants as tasks
 use Rattle.journal_text.specs.declared.entry.Entry.{Entry}
 use Rattle.journal_text.specs.declared.value.Value.{Value}
 use Rattle.journal_text.specs.declared.line.Line.{Line}
-use Rattle.journal_text.specs.Journals.{Journaled, with_entries, with_lines, flushed}
+use Rattle.journal_text.specs.Journals.{Journaled, with_entries, flushed}
 use Rattle.journal_text.specs.Texts.{entries_of}
 use Rattle.journal_text.specs.Values.{route_value, route_rows, valued_change}
 use Rattle.journal_text.specs.Walk.{Links, Leads, with_link}
@@ -36,15 +34,14 @@ use Rattle.event_text.specs.Declarations.{peer_at}
 use Rattle.loss_chain.proofs.TableLemmas.{equal_by}
 use Rattle.link_region.proofs.RegionLemmas.{by_bool}
 use Rattle.fanout_queue.specs.Queues.{Queued, Takes, AllLead}
-use Rattle.fanout_queue.specs.Readers.{unread_or_none, unread_by, read_rows}
+use Rattle.fanout_queue.specs.Readers.{unread_or_none, read_rows}
 use Rattle.fanout_queue.proofs.LeadLemmas.{take_keeps_leading, each_reader_leads}
 use Rattle.out_chain.specs.Chains.{OutChained, is_unread}
 use Rattle.out_chain.specs.Steps.{sending_entries, said_of, message_lines}
-use Rattle.exit_side.specs.Exits.{Exited, OutChains, chain_at as exit_at, with_exit, with_queue, IsExits, AllStand, has_exit_work}
+use Rattle.exit_side.specs.Exits.{Exited, chain_at as exit_at, with_exit, with_queue, AllStand, has_exit_work}
 use Rattle.exit_side.specs.Steps.{TurnsExit, ComesOut}
-use Rattle.exit_side.specs.Laws.{IsStranger, KeepsStranger, StaysWithQueue, StrangersTake}
+use Rattle.exit_side.specs.Laws.{KeepsStranger, StaysWithQueue, StrangersTake}
 use Rattle.exit_side.proofs.StrangerLemmas.{turn_keeps}
-use Rattle.exit_laws.specs.Views.{views_of}
 use Rattle.exit_laws.proofs.HearLemmas.{changes_are_unheard}
 use Rattle.exit_laws.proofs.ViewLemmas.{turn_is_heard}
 use Rattle.decision.specs.Branches.{best_rows, best_candidates}
@@ -53,14 +50,13 @@ use Rattle.peer_side.specs.Peers.{Chains}
 use Rattle.router_core.specs.declared.router.Done.TheVariants.{Nothing, Taken}
 use Rattle.router_core.specs.declared.router.Phase.TheVariants as phases
 use Rattle.router_core.specs.Bests.{best_at, lent_rows, lent_candidates}
-use Rattle.router_core.specs.Moments.{Moment, Policies, with_exits, read_links, router_links}
-use Rattle.router_core.specs.Lives.{live_state}
+use Rattle.router_core.specs.Moments.{Moment, with_exits, read_links, router_links}
 use Rattle.router_core.specs.Phases.{counts, unread_if, best_beyond}
-use Rattle.router_core.specs.Stands.{Stands, EachExit, QueueLeads, ExitsRead, PlainExits, SameSessions, OneReader, SmallNumbers, ExitsAt, IsExitOf, ReadsAs, ReadsOn}
-use Rattle.router_core.specs.Turns.{journal_lines, has_work}
-use Rattle.router_core.specs.Works.{Keeps, IsUnit, Comes}
+use Rattle.router_core.specs.Stands.{Stands, EachExit, QueueLeads, ExitsRead, PlainExits, SameSessions, OneReader, SmallNumbers, ExitsAt, ReadsAs, ReadsOn}
+use Rattle.router_core.specs.Turns.{journal_lines}
+use Rattle.router_core.specs.Works.{IsUnit, Comes}
 use Rattle.router_core.proofs.BestLemmas.{lent_best}
-use Rattle.router_core.proofs.QueueLemmas.{reader_live, reader_apart}
+use Rattle.router_core.proofs.QueueLemmas.{reader_live}
 use Rattle.router_core.proofs.HeardSteps.{heard_quiet, exits_declared}
 use Rattle.router_core.proofs.ReadingLemmas.{best_counted}
 use Rattle.router_core.proofs.SessionLemmas.{stands_exits, strangers_read, reads_as, exits_lead, exit_here, exit_elsewhere}
@@ -162,9 +158,15 @@ module _ (law : StrangersTake) (m : Moment) (r : ℕ) (change : Change Route) (q
 pub reader_took : StrangersTake → (m v m' : Moment) (r : ℕ) (change : Change Route) (e : Exited) (before j now : Journaled) → v ≡ m → Stands m → v.reader ≡ Some r → Takes v.exits.queue e.queue r (Some change) → e ≡ with_queue e.queue v.exits → m' ≡ with_exits v e
     → j ≡ with_entries before (valued_change route_value links.ReadRib change) → now ≡ flushed j → Comes tasks.ReadRib m m' before now Taken
 reader_took law m v m' r change e before j now view stands reads takes after is pushed flush =
-    subst (λ (n : Moment). Comes tasks.ReadRib n m' before now Taken) view
-    (journal_lines (valued_change route_value links.ReadRib change), flush ∙ ap flushed pushed,
-    subst (λ (n : Moment). IsUnit tasks.ReadRib v n (journal_lines (valued_change route_value links.ReadRib change))) (sym (is ∙ ap (with_exits v) after)) (read_done law v r change e.queue (subst Stands (sym view) stands) reads takes))
+    subst (λ (n : Moment). Comes tasks.ReadRib n m' before now Taken) view (
+      journal_lines (valued_change route_value links.ReadRib change),
+      flush ∙ ap flushed pushed,
+      subst (λ (n : Moment). IsUnit tasks.ReadRib v n (journal_lines (valued_change route_value links.ReadRib change))) (sym (is ∙ ap (with_exits v) after)) (read_done law v r change e.queue (subst Stands (sym view) stands) reads takes),
+    )
+
+-- its reader is numbered as before
+pub reader_same : (v : Moment) (e : Exited) (o : Option ℕ) → o ≡ v.reader → record v { exits = e; reader = o } ≡ with_exits v e
+reader_same v e o same = ap (λ (x : Option ℕ). record v { exits = e; reader = x }) same
 
 pub reader_rests : (m v m' : Moment) (before : Journaled) → v ≡ m → v.reader ≡ None → m' ≡ v → Comes tasks.ReadRib m m' before before Nothing
 reader_rests m v m' before view none same = (sym (reads_nothing m v view none), same ∙ view, refl)

@@ -18,7 +18,7 @@ use Rattle.event_text.specs.declared.declared.DeclaredPeer.{DeclaredPeer}
 use Rattle.event_text.specs.Declarations.{Declaration, peer_at, words_of, with_session, without_session, begun_at, ended_at}
 use Rattle.event_text.proofs.Sessions.{KeepsWords, begun_words, ended_words}
 use Rattle.live_state.specs.Messages.{ends_session, changes_of}
-use Rattle.live_state.specs.Declared.{declared_after, declared_up, declared_down, declared_heard}
+use Rattle.live_state.specs.Declared.{declared_after, declared_down, declared_heard}
 use Rattle.out_chain.specs.Chains.{OutChained}
 use Rattle.out_chain.specs.Steps.{exit_to, new_out, with_rules}
 use Rattle.exit_side.specs.Exits.{Exited, chain_at as exit_at, with_exit}
@@ -30,7 +30,7 @@ use Rattle.rib_tree.specs.Steps.{tree_overdue}
 use Rattle.router_core.specs.Moments.{Moment, with_exits, rules_to}
 use Rattle.router_core.specs.Stands.{AllHaveExits}
 use Rattle.router_core.specs.Phases.{all_phases}
-use Rattle.router_core.specs.Blocks.{Declares, BySpeaker, Begins, Loses, ByPeer, BeginsIf, EndsIf, HearsIf, Hears, DropsRouteIf, IsBlock, ended}
+use Rattle.router_core.specs.Blocks.{Declares, BySpeaker, Begins, Loses, ByPeer, BeginsIf, EndsIf, HearsIf, Hears, DropsRouteIf, IsBlock}
 use Rattle.router_core.specs.Works.{HaveSameExits}
 use Rattle.router_core.proofs.PeerLemmas.{peer_at_map}
 use Rattle.router_core.proofs.TurnWalks.{turns_same, phases_same, first_same, feeds_same}

@@ -1,8 +1,7 @@
 -- Rows whose attributes may be heard: those of the chains, and so those of `best`.
-use Rattle.std.proofs.Common.{◌≡◌, ℕ, Bool, true, false, List, Option, Some, None, refl, sym, ap, subst, ◌∙◌, inl, inr}
-use Rattle.std.specs.List.{AllByRecursion}
+use Rattle.std.proofs.Common.{◌≡◌, ℕ, Bool, List, Option, Some, None, refl, sym, subst, inl, inr}
 use Rattle.std.specs.Option.{ForSome}
-use Rattle.std.specs.Prelude.{filter, map, ◌++◌, [], ◌∷◌}
+use Rattle.std.specs.Prelude.{filter, map, [], ◌∷◌}
 use Rattle.addr4.specs.Prefixes.{Network}
 use Rattle.bgp_attr.specs.Hosts.{is_host_prefix}
 use Rattle.bgp_attr.specs.declared.attrs.Attrs.{Attrs}
@@ -14,12 +13,9 @@ use Rattle.bgp_wire.specs.declared.message.Message.TheVariants as messages
 use Rattle.bgp_wire.specs.declared.message.Update.{Update}
 use Rattle.link_change.specs.Rows.{Rows}
 use Rattle.link_change.specs.declared.change.Change.{Change}
-use Rattle.loss_chain.specs.Rows.{IsRow, AllRows}
-use Rattle.loss_chain.specs.Tables.{Tables}
-use Rattle.loss_chain.specs.Steps.{fed_tables, lost_tables, welded_tables, swept_tables}
+use Rattle.loss_chain.specs.Rows.{AllRows}
 use Rattle.loss_chain.proofs.FeedLemmas.{feeds_bring_one_row, losses_bring_no_row, welds_bring_no_row, turns_bring_no_row, lowest_rows_are_rows}
 use Rattle.loss_chain.proofs.ListLemmas.{all_both}
-use Rattle.policy_rules.specs.declared.rule.Rule.{Rule}
 use Rattle.pass_core.specs.Passed.{function_at, function_of}
 use Rattle.filter_bank.specs.Filtered.{filtered}
 use Rattle.filter_bank.proofs.LawLemmas.{filtered_keeps_attrs}
@@ -36,9 +32,8 @@ use Rattle.in_chain.specs.Steps.{fed, lost, welded, swept, Turned}
 use Rattle.peer_out.specs.Changes.{MayBeHeard}
 use Rattle.peer_out.proofs.SentLemmas.{read_may_be_heard}
 use Rattle.out_chain.specs.Chains.{RowsMayBeHeard}
-use Rattle.decision.specs.Branches.{best_rows}
 use Rattle.decision.proofs.LawLemmas.{best_is_a_branchs}
-use Rattle.hop_side.specs.Resolvers.{Resolvers, resolver_at, metric_rows, rows_by}
+use Rattle.hop_side.specs.Resolvers.{Resolvers, resolver_at, rows_by}
 use Rattle.peer_side.specs.Peers.{Chains, chain_at, put_chain, filt_by, filt_at}
 use Rattle.peer_side.proofs.PutLemmas.{put_each}
 use Rattle.live_state.specs.Messages.{changes_of, announced_with, withdrawn_from}

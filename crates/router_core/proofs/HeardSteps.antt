@@ -1,16 +1,13 @@
 -- What peers hear of a step: of the lines of all other parts nothing.
-use Rattle.std.proofs.Common.{◌≡◌, ℕ, List, [], ◌∷◌, ◌++◌, Option, Some, None, option_map, refl, sym, ap, subst, ◌∙◌}
-use Rattle.addr4.specs.Prefixes.{Network}
+use Rattle.std.proofs.Common.{◌≡◌, ℕ, List, [], ◌++◌, Option, Some, None, option_map, refl, sym, ap, subst}
 use Rattle.std.specs.FinMap as tables
 use Rattle.bgp_attr.specs.declared.route.Route.{Route}
 use Rattle.bgp_attr.specs.declared.speaker.Speaker.{Speaker}
-use Rattle.bgp_attr.specs.declared.speaker.Neighbour.{Neighbour}
-use Rattle.rib_route.specs.declared.rows.FibRow.{FibRow}
 use Rattle.link_change.specs.declared.change.Change.{Change}
 use Rattle.event_text.specs.declared.declared.DeclaredPeer.{DeclaredPeer}
 use Rattle.event_text.specs.Declarations.{Declaration, peer_at}
 use Rattle.journal_text.specs.declared.link.Link.{Link}
-use Rattle.journal_text.specs.declared.link.Link.TheVariants.{Best, Fib, ReadRib}
+use Rattle.journal_text.specs.declared.link.Link.TheVariants.{Best}
 use Rattle.journal_text.specs.declared.value.Value.{Value}
 use Rattle.journal_text.specs.declared.entry.Entry.{Entry}
 use Rattle.journal_text.specs.declared.line.Line.{Line}
@@ -21,8 +18,8 @@ use Rattle.journal_laws.specs.Peers.{words_in, neighbours}
 use Rattle.link_region.specs.declared.regions.Region.TheVariants.{Inward, Resolved}
 use Rattle.link_region.specs.Regions.{LeadsIn}
 use Rattle.out_chain.specs.Chains.{OutChained}
-use Rattle.exit_side.specs.Exits.{Exited, OutChains, chain_at as exit_at}
-use Rattle.exit_laws.specs.Views.{views_of, sent_by, AreDeclared, AreUnheard, entry_lines}
+use Rattle.exit_side.specs.Exits.{Exited, OutChains}
+use Rattle.exit_laws.specs.Views.{views_of, sent_by, AreDeclared, AreUnheard}
 use Rattle.exit_laws.proofs.HearLemmas.{hearing_joins, nothing_is_heard, changes_are_unheard, unheard_joins}
 use Rattle.exit_laws.proofs.OtherLemmas.{others_are_unheard}
 use Rattle.live_state.specs.Heard.{Hears, Views}

@@ -33,7 +33,7 @@ use Rattle.router_core.specs.Stands.{Stands, EachResolver, SameResolvers, Answer
 use Rattle.peer_side.specs.Steps.{WeldsInward}
 use Rattle.router_core.specs.Turns.{ResolvesOn, journal_lines}
 use Rattle.router_core.specs.Works.{Decides, SettlesPeer}
-use Rattle.router_core.specs.Bests.{best_at, best_entries, best_links, resolved_at, DecidesOn, Queues}
+use Rattle.router_core.specs.Bests.{best_at, best_entries, best_links, resolved_at, Queues}
 use Rattle.router_core.proofs.BestLemmas.{best_leads, comes_none}
 use Rattle.router_core.proofs.QueueLemmas.{queue_external, queue_links}
 use Rattle.decision.specs.Branches.{best_rows}

@@ -34,3 +34,6 @@ pub mod BestLemmas
 pub mod HopLemmas
 pub mod MostLemmas
 pub mod HopTurns
+pub mod PolicyLemmas
+pub mod ReadLemmas
+pub mod ExitsUp

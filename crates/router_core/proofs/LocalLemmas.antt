@@ -1,5 +1,10 @@
 -- `local`: the links of the interior routes begin.
-use Rattle.std.proofs.Common.{◌≡◌, ℕ, ◌+◌, ◌<◌, List, [], ◌∷◌, map, take, length, get_or, Option, Some, None, is_some, true, false, refl, sym, ap, ◌∙◌}
+use Rattle.std.proofs.Common.{◌≡◌, ℕ, ◌+◌, ◌<◌, List, [], ◌∷◌, ◌++◌, map, take, length, get_or, Option, Some, None, is_some, true, false, cond, refl, sym, ap, subst, ◌∙◌, arith}
+use Rattle.std.proofs.lemmas.Bool.Decides.{nat_tests}
+use Rattle.std.specs.FinMap as tables
+use Rattle.std.specs.FinMap.{get-insert}
+use Rattle.std.specs.Ordering.{nat_cmp, eq_by_cmp}
+use Rattle.std.specs.Cmp.{nat_cmp_total}
 use Rattle.std.proofs.lemmas.List.{map-append, take_more}
 use Rattle.bgp_attr.specs.declared.speaker.Speaker.{Speaker}
 use Rattle.link_change.specs.Rows.{Rows, no_rows}
@@ -12,11 +17,12 @@ use Rattle.rib_tree.specs.Steps.{new_tree}
 use Rattle.rib_merge.specs.Forwards.{forwarded}
 use Rattle.rib_tree.specs.Forwards.{rib_links}
 use Rattle.journal_text.specs.declared.link.Link.{Link}
-use Rattle.journal_text.specs.declared.link.Link.TheVariants.{Org, Lost, Low, Dyn, Int, Best, Fib}
+use Rattle.journal_text.specs.declared.link.Link.TheVariants.{Org, Lost, Low, Dyn, Int, Best, Fib, ReadRib, Read, Outf, Adv}
+use Rattle.journal_text.specs.declared.entry.Entry.TheVariants.{Begin, Inherit}
 use Rattle.journal_text.specs.declared.value.Value.{Value}
 use Rattle.journal_text.specs.Texts.{entries_of}
-use Rattle.journal_text.specs.Walk.{Leads, fold_links}
-use Rattle.journal_text.specs.Journals.{Journaled, with_lines}
+use Rattle.journal_text.specs.Walk.{Links, Leads, fold_links}
+use Rattle.journal_text.specs.Journals.{Journaled, Adds, with_lines, with_entries}
 use Rattle.bgp_attr.specs.declared.route.Route.{Route}
 use Rattle.nexthop_resolver.specs.Resolving.{Resolving}
 use Rattle.nexthop_resolver.specs.declared.rows.Metric.{Metric}
@@ -27,17 +33,33 @@ use Rattle.router_core.specs.Bests.{best_at, best_links, resolved_at}
 use Rattle.router_core.proofs.BestLemmas.{best_none}
 use Rattle.journal_text.specs.Values.{interior_rows, fib_rows, route_rows}
 use Rattle.event_text.specs.declared.event.Event.TheVariants as events
-use Rattle.event_text.specs.Declarations.{refusal}
-use Rattle.router_core.specs.Moments.{Moment, rib_by, router_links}
-use Rattle.router_core.specs.Stands.{Stands, InteriorTree, OneSpeaker, SameResolvers}
-use Rattle.router_core.specs.Blocks.{begin_line, rib_begins, declared_speaker}
-use Rattle.router_core.proofs.PeerLemmas.{local_first, speaker_stands}
+use Rattle.event_text.specs.Declarations.{Declaration, refusal, peer_at, with_speaker}
+use Rattle.router_core.specs.Moments.{Moment, plain, rib_by, read_by, router_links}
+use Rattle.router_core.specs.Stands.{Stands, Claim, Claims, ExitsAt, ReadsOn, InteriorTree, OneSpeaker, SameResolvers, EachExit, QueueLeads, ExitsRead, OneSender, SameSessions, OneReader}
+use Rattle.router_core.specs.Blocks.{begin_line, first_begins, rib_begins, declared_speaker}
+use Rattle.router_core.proofs.PeerLemmas.{local_first}
+use Rattle.bgp_attr.specs.Speakers.{IsSpeaker}
+use Rattle.peer_out.specs.Changes.{IsSender}
+use Rattle.link_change.specs.InOrder.{rows_before}
+use Rattle.fanout_queue.specs.Queues.{Queued}
+use Rattle.fanout_queue.specs.Readers.{unread_or_none}
+use Rattle.fanout_queue.proofs.LeadLemmas.{join_keeps_leading}
+use Rattle.out_chain.specs.Chains.{OutChained}
+use Rattle.exit_side.specs.Exits.{with_queue, chain_at as exit_at}
+use Rattle.exit_side.specs.Laws.{IsStranger, StaysWithQueue, StrangersJoin}
+use Rattle.router_core.specs.Turns.{journal_lines}
+use Rattle.router_core.proofs.HeardSteps.{heard_quiet}
+use Rattle.router_core.proofs.QueueLemmas.{none_before, exits_none}
+use Rattle.router_core.proofs.SessionLemmas.{may_send}
 use Rattle.journal_text.proofs.JournalLemmas.{with_lines_append}
 use Rattle.rib_tree.proofs.NewLemmas.{of_new, org_empty, low_empty, dyn_empty, int_empty}
 use Rattle.loss_chain.specs.Tables.{rows_above}
 use Rattle.std.specs.Prelude.{option_map}
-use Rattle.router_core.specs.Works.{HasStepped}
+use Rattle.router_core.specs.Works.{Pushes, HasStepped, BeginsReading}
 use Rattle.router_core.specs.Lives.{live_state}
+
+same_key : (k : ℕ) → eq_by_cmp nat_cmp k k ≡ true
+same_key k = grind (arith, nat_tests)
 
 -- a link of interior routes without rows
 begins : (rows : Rows Interior) → rows ≡ no_rows → ◌≡◌ {A = Option (Rows Value)} (Some no_rows) (Some (interior_rows rows))
@@ -48,38 +70,6 @@ begins_fib rows empty = ap (λ (r : Rows Interior). Some (fib_rows (forwarded r)
 
 none_lost : (proto : Proto) (n : ℕ) → rib_links new_tree (Lost proto n) ≡ None
 none_lost proto n = of_new (λ b. option_map interior_rows (rows_above b.tables.live n b.tables.deletions) ≡ None) (λ k. refl) proto
-
-module _ (m : Moment) (words : Speaker) (first : m.declared.speaker ≡ None) (empty : m.tree ≡ new_tree) (decided : best_at m.chains m.hops ≡ no_rows) where
-  none : (link : Link) → rib_by m.declared.speaker m.tree link ≡ None
-  none link = ap (λ (s : Option Speaker). rib_by s m.tree link) first
-
-  in_tree : (link : Link) (own : Option (Rows Value)) → own ≡ rib_links new_tree link → own ≡ rib_links m.tree link
-  in_tree link own is = is ∙ ap (λ (t : Treed). rib_links t link) (sym empty)
-
-  begin_org : (proto : Proto) → fold_links (router_links m) (entries_of rib_begins) (Org proto) ≡ rib_links m.tree (Org proto)
-  begin_org Connected = in_tree (Org Connected) (Some no_rows) (begins (org_rows (branch_of Connected new_tree)) (org_empty Connected))
-  begin_org Static = in_tree (Org Static) (Some no_rows) (begins (org_rows (branch_of Static new_tree)) (org_empty Static))
-  begin_org Ospf = in_tree (Org Ospf) (Some no_rows) (begins (org_rows (branch_of Ospf new_tree)) (org_empty Ospf))
-  begin_org Rip = in_tree (Org Rip) (Some no_rows) (begins (org_rows (branch_of Rip new_tree)) (org_empty Rip))
-
-  links_then : fold_links (router_links m) (entries_of rib_begins) ≡ router_links (declared_speaker m words)
-  links_then i link = each link i
-    where
-      each : (link : Link) → fold_links (router_links m) (entries_of rib_begins) link ≡ router_links (declared_speaker m words) link
-      each (Org p) = begin_org p
-      each (Lost p n) = none (Lost p n) ∙ in_tree (Lost p n) None (sym (none_lost p n))
-      each Low = in_tree Low (Some no_rows) (begins (low_rows new_tree) low_empty)
-      each Dyn = in_tree Dyn (Some no_rows) (begins (dyn_rows new_tree) dyn_empty)
-      each Int = in_tree Int (Some no_rows) (begins (int_rows new_tree) int_empty)
-      each Best = ap (λ (rows : Rows Route). Some (route_rows rows)) (sym decided)
-      each Fib = in_tree Fib (Some no_rows) (begins_fib (int_rows new_tree) int_empty)
-      each other = refl
-
-  begun_leads : Leads (router_links m) (entries_of rib_begins) (router_links (declared_speaker m words))
-  begun_leads = record {
-    lawful = (none (Org Connected), (none (Org Static), (none (Org Ospf), (none (Org Rip), (none Low, (none Dyn, (none Int, (ap (λ (s : Option Speaker). best_links s (best_at m.chains m.hops) Best) first, (none Fib, tt)))))))));
-    ends = links_then;
-  }
 
 -- no peer is declared before it
 none_decided : (m : Moment) → Stands m → m.declared.speaker ≡ None → best_at m.chains m.hops ≡ no_rows
@@ -93,15 +83,140 @@ none_decided m stands first = best_none (resolved_at m.chains m.hops) (λ k. by_
     by_resolver k None at = refl
     by_resolver k (Some s) at = absurd (by_chain k (chain_at k m.chains) refl (sym (stands.own SameResolvers k) ∙ ap is_some at))
 
-pub local_stepped : (m : Moment) (words : Speaker) → refusal m.declared (events.Local words) ≡ None → Stands m → HasStepped m (events.Local words) 0 (declared_speaker m words) rib_begins
-local_stepped m words admitted stands =
-    let first = local_first m.declared words admitted in
-    record {
-      block = (refl, refl, refl);
-      live = live_state (declared_speaker m words);
-      after = refl;
-      keeps = record { leads = begun_leads m words first ((stands.own InteriorTree).waiting first) (none_decided m stands first); live = refl; stands = speaker_stands m words admitted stands };
-    }
+module _ (law : StrangersJoin) (m : Moment) (words : Speaker) (reader : ℕ) (admitted : refusal m.declared (events.Local words) ≡ None) (stands : Stands m) (sender : IsSender plain words) (fresh : tables.get m.exits.queue reader ≡ None) where
+  abbrev queue : Queued Route
+  queue = tables.insert m.exits.queue reader []
+
+  abbrev then : Moment
+  then = record (declared_speaker m words) { exits = with_queue queue m.exits; reader = Some reader }
+
+  first : m.declared.speaker ≡ None
+  first = local_first m.declared words admitted
+
+  empty : m.tree ≡ new_tree
+  empty = (stands.own InteriorTree).waiting first
+
+  decided : best_at m.chains m.hops ≡ no_rows
+  decided = none_decided m stands first
+
+  -- nobody reads before
+  joins : IsStranger reader m.exits × StaysWithQueue m.exits queue
+  joins = law m.exits reader (stands.own EachExit) fresh
+
+  joined : tables.get queue reader ≡ Some []
+  joined = get-insert nat_cmp_total m.exits.queue reader [] reader ∙ ap (λ b. cond b (Some []) (tables.get m.exits.queue reader)) (same_key reader)
+
+  no_reader : m.reader ≡ None
+  no_reader = by_reader m.declared.speaker m.reader first (stands.own OneReader)
+    where
+      by_reader : (s : Option Speaker) (o : Option ℕ) → s ≡ None → ReadsOn s o m.exits → o ≡ None
+      by_reader None None is on = refl
+      by_reader None (Some r) is on = absurd on
+      by_reader (Some me) o is on = absurd (cc)
+
+  no_exit : (k : ℕ) → exit_at k m.exits ≡ None
+  no_exit k = none_before m.outgoing k (peer_at k m.declared.peers) (exit_at k m.exits) (subst (λ (s : Option Speaker). ExitsAt s m.outgoing k (peer_at k m.declared.peers) (exit_at k m.exits)) first (stands.own SameSessions k))
+
+  then_stands : Stands then
+  then_stands = record { own = own; at = stands.at }
+    where
+      own : (claim : Claim) → Claims then claim
+      own OneSpeaker = λ k c at. absurd (let one : m.declared.speaker ≡ Some c.me = stands.own OneSpeaker k c at in let none = first in cc)
+      own InteriorTree = let t = stands.own InteriorTree in record { tree = t.tree; full = t.full; few = t.few; waiting = λ e. absurd (cc) }
+      own EachExit = joins.1.sound
+      own QueueLeads = join_keeps_leading m.exits.queue (best_at m.chains m.hops) reader (stands.own QueueLeads)
+      own ExitsRead = joins.1.stand (best_at m.chains m.hops) (stands.own ExitsRead)
+      own OneSender = sender
+      own SameSessions = λ k. subst (λ (o : Option OutChained). ExitsAt (Some words) m.outgoing k (peer_at k m.declared.peers) o) (sym (no_exit k)) (exits_none (Some words) m.outgoing k (peer_at k m.declared.peers))
+      own OneReader = record { live = ap is_some joined; own = joins.0 }
+      own other = stands.own other
+
+  none : (link : Link) → rib_by m.declared.speaker m.tree link ≡ None
+  none link = ap (λ (s : Option Speaker). rib_by s m.tree link) first
+
+  in_tree : (link : Link) (own : Option (Rows Value)) → own ≡ rib_links new_tree link → own ≡ rib_links m.tree link
+  in_tree link own is = is ∙ ap (λ (t : Treed). rib_links t link) (sym empty)
+
+  begin_org : (proto : Proto) → fold_links (router_links m) (entries_of rib_begins) (Org proto) ≡ rib_links m.tree (Org proto)
+  begin_org Connected = in_tree (Org Connected) (Some no_rows) (begins (org_rows (branch_of Connected new_tree)) (org_empty Connected))
+  begin_org Static = in_tree (Org Static) (Some no_rows) (begins (org_rows (branch_of Static new_tree)) (org_empty Static))
+  begin_org Ospf = in_tree (Org Ospf) (Some no_rows) (begins (org_rows (branch_of Ospf new_tree)) (org_empty Ospf))
+  begin_org Rip = in_tree (Org Rip) (Some no_rows) (begins (org_rows (branch_of Rip new_tree)) (org_empty Rip))
+
+  best_begins : ◌≡◌ {A = Option (Rows Value)} (Some no_rows) (Some (route_rows (best_at m.chains m.hops)))
+  best_begins = ap (λ (rows : Rows Route). Some (route_rows rows)) (sym decided)
+
+  links_then : fold_links (router_links m) (entries_of rib_begins) ≡ router_links then
+  links_then i link = each link i
+    where
+      each : (link : Link) → fold_links (router_links m) (entries_of rib_begins) link ≡ router_links then link
+      each (Org p) = begin_org p
+      each (Lost p n) = none (Lost p n) ∙ in_tree (Lost p n) None (sym (none_lost p n))
+      each Low = in_tree Low (Some no_rows) (begins (low_rows new_tree) low_empty)
+      each Dyn = in_tree Dyn (Some no_rows) (begins (dyn_rows new_tree) dyn_empty)
+      each Int = in_tree Int (Some no_rows) (begins (int_rows new_tree) int_empty)
+      each Best = best_begins
+      each ReadRib = best_begins ∙ ap (λ u. Some (route_rows (rows_before (unread_or_none u) (best_at m.chains m.hops)))) (sym joined)
+      each (Read j s) = ap (λ (l : Links Value). l (Read j s)) (sym (joins.1.links (best_at m.chains m.hops)))
+      each (Outf j s) = ap (λ (l : Links Value). l (Outf j s)) (sym (joins.1.links (best_at m.chains m.hops)))
+      each (Adv j s) = ap (λ (l : Links Value). l (Adv j s)) (sym (joins.1.links (best_at m.chains m.hops)))
+      each Fib = in_tree Fib (Some no_rows) (begins_fib (int_rows new_tree) int_empty)
+      each other = refl
+
+  begun_leads : Leads (router_links m) (entries_of rib_begins) (router_links then)
+  begun_leads = record {
+    lawful = (
+      none (Org Connected),
+      (
+        none (Org Static),
+        (
+          none (Org Ospf),
+          (
+            none (Org Rip),
+            (
+              none Low,
+              (
+                none Dyn,
+                (
+                  none Int,
+                  (
+                    ap (λ (s : Option Speaker). best_links s (best_at m.chains m.hops) Best) first,
+                    ((ap (λ (o : Option ℕ). read_by m.exits.queue o (best_at m.chains m.hops)) no_reader, refl), (none Fib, tt)),
+                  ),
+                ),
+              ),
+            ),
+          ),
+        ),
+      ),
+    );
+    ends = links_then;
+  }
+
+  local_stepped : HasStepped m (events.Local words) 0 then rib_begins
+  local_stepped = record {
+    block = (refl, record { reader = reader; fresh = fresh; lines = refl; after = refl });
+    live = live_state then;
+    after = refl;
+    keeps = record { leads = begun_leads; live = refl; stands = then_stands; heard = heard_quiet m then rib_begins (refl, (refl, (refl, (refl, (refl, (refl, (refl, (refl, (refl, (refl, tt)))))))))) refl };
+  }
+
+pub speaker_is : (m v : Moment) (words : Speaker) (after : Declaration) → v ≡ m → after ≡ with_speaker v.declared words → record v { declared = after } ≡ declared_speaker m words
+speaker_is m v words after view said = ap (λ (d : Declaration). record v { declared = d }) said ∙ ap (λ (n : Moment). declared_speaker n words) view
+
+pub local_declared : StrangersJoin → (m n n' : Moment) (words : Speaker) (before j1 j2 now : Journaled) → Stands m → refusal m.declared (events.Local words) ≡ None → IsSpeaker words → n ≡ declared_speaker m words → j1 ≡ with_lines before first_begins
+    → Adds (BeginsReading n n') j1 j2 → now ≡ with_entries j2 (Begin Fib ∷ []) → Pushes (HasStepped m (events.Local words) 0 n') before now
+local_declared law m n n' words before j1 j2 now stands admitted formed is begins adds last = (rib_begins, lines, here)
+  where
+    lines : now ≡ with_lines before rib_begins
+    lines = last ∙ ap (λ (j : Journaled). with_entries j (Begin Fib ∷ [])) (adds.1 ∙ ap (with_entries j1) adds.2.lines ∙ ap (λ (j : Journaled). with_entries j (Inherit ReadRib Best ∷ [])) begins ∙ with_lines_append before first_begins (journal_lines (Inherit ReadRib Best ∷ [])))
+        ∙ with_lines_append before (first_begins ++ journal_lines (Inherit ReadRib Best ∷ [])) (journal_lines (Begin Fib ∷ []))
+
+    reads : BeginsReading (declared_speaker m words) n' adds.0
+    reads = subst (λ (x : Moment). BeginsReading x n' adds.0) is adds.2
+
+    here : HasStepped m (events.Local words) 0 n' rib_begins
+    here = subst (λ (x : Moment). HasStepped m (events.Local words) 0 x rib_begins) (sym reads.after) (local_stepped law m words reads.reader admitted stands (may_send words formed) reads.fresh)
 
 -- ---- one link after the other
 -- the first so many of these links have begun

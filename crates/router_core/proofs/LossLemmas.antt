@@ -1,5 +1,8 @@
 -- The loss of a session.
-use Rattle.std.proofs.Common.{◌≡◌, ℕ, ◌+◌, Bool, true, cond, List, Option, Some, None, refl, sym, ap, subst, ◌∙◌}
+use Rattle.std.proofs.Common.{◌≡◌, ℕ, ◌+◌, nat_eq, Bool, true, cond, List, ◌++◌, Option, Some, None, is_some, refl, sym, ap, subst, ◌∙◌}
+use Rattle.std.specs.FinMap as tables
+use Rattle.journal_text.specs.declared.line.Line.{Line}
+use Rattle.event_text.specs.Declarations.{peer_at}
 use Rattle.journal_text.specs.declared.entry.Entry.{Entry}
 use Rattle.journal_text.specs.declared.value.Value.{Value}
 use Rattle.journal_text.specs.Journals.{Journaled, Adds, flushed}
@@ -7,19 +10,33 @@ use Rattle.event_text.specs.declared.declared.DeclaredPeer.{DeclaredPeer}
 use Rattle.event_text.specs.Declarations.{Declaration, without_session}
 use Rattle.in_chain.specs.Chains.{Chained}
 use Rattle.in_chain.specs.Steps.{lost}
-use Rattle.peer_side.specs.Peers.{Chains, chain_at, overdue_at, overdue_by, AreBefore}
+use Rattle.peer_side.specs.Peers.{Chains, chain_at, peer_links, overdue_at, overdue_by, AreBefore}
 use Rattle.peer_side.specs.Steps.{MayLose, LosesInward}
-use Rattle.router_core.specs.Moments.{Moment, Gives, with_chains}
-use Rattle.live_state.specs.Lives.{ended}
-use Rattle.router_core.specs.Stands.{PeerStands, StandsAt, Stands, open_session}
+use Rattle.router_core.specs.Moments.{Moment, Gives, with_chains, with_exits}
+use Rattle.hop_side.specs.Resolvers.{PeerRows, res_at}
+use Rattle.decision.specs.Branches.{best_rows}
+use Rattle.loss_chain.proofs.TableLemmas.{equal_by, no_table}
+use Rattle.link_region.proofs.RegionLemmas.{by_bool}
+use Rattle.out_chain.specs.Chains.{OutChained}
+use Rattle.exit_side.specs.Exits.{Exited, chain_at as exit_at}
+use Rattle.exit_side.specs.Steps.{EndsExit}
+use Rattle.exit_laws.proofs.OtherLemmas.{others_are_unheard}
+use Rattle.link_region.specs.declared.regions.Region.TheVariants.{Inward}
+use Rattle.live_state.specs.Lives.{LiveState, ended}
+use Rattle.router_core.specs.Lives.{live_state}
+use Rattle.router_core.specs.Stands.{PeerStands, StandsAt, Stands, ExitsAt, EachRow, SameSessions, open_session}
 use Rattle.router_core.specs.Turns.{journal_lines}
-use Rattle.router_core.specs.Works.{Pushes, HasRoom, IsSession, HasLost, Ends}
+use Rattle.router_core.specs.Works.{Keeps, Pushes, HasRoom, IsSession, HasLost, Ends}
 use Rattle.live_state.proofs.AdmittedLemmas.{down, ended_same, ended_other, ended_length}
 use Rattle.peer_side.proofs.MapLemmas.{one_of}
 use Rattle.router_core.proofs.HopLemmas.{hops_quiet}
 use Rattle.router_core.proofs.RegionLemmas.{leads_inward}
 use Rattle.router_core.proofs.StandLemmas.{remade, peer_of, same_peers, chain_there, KeepsOthers, stands_put, live_routed}
-use Rattle.router_core.proofs.KeepLemmas.{keeps_then, gives_push}
+use Rattle.router_core.proofs.KeepLemmas.{keeps_then, gives_push, push_gives}
+use Rattle.router_core.proofs.HeardRows.{put_heard, lost_heard}
+use Rattle.router_core.proofs.HeardSteps.{heard_quiet}
+use Rattle.router_core.proofs.QueueLemmas.{ExitsStand, exits_none, exits_stay}
+use Rattle.router_core.proofs.SessionLemmas.{silenced, exit_gone}
 
 -- ---- what stands after the loss
 -- of a peer that is up the lost sessions are earlier than the present one
@@ -39,8 +56,8 @@ may_lose k s m v view stands up free = subst (λ (n : Moment). MayLose k s n.cha
     there = chain_there m stands k up.0 up.1
 
 -- the loss in a peer's chain is one of the router
-ends_one : (k s : ℕ) (m : Moment) (cs : Chains) (entries : List (Entry Value)) → Stands m → IsSession k s m → LosesInward k s m.chains cs entries → Ends k s m (remade m (without_session m.declared k) cs) (journal_lines entries)
-ends_one k s m cs entries stands up f =
+ends_one : (k s : ℕ) (m : Moment) (cs : Chains) (entries : List (Entry Value)) → Stands m → IsSession k s m → exit_at k m.exits ≡ None → LosesInward k s m.chains cs entries → Ends k s m (remade m (without_session m.declared k) cs) (journal_lines entries)
+ends_one k s m cs entries stands up silent f =
     let c : Chained = f.loses.chain in
     let peer = peer_of m stands k c f.loses.at in
     let session : peer.0.session ≡ s = ap (λ (q : DeclaredPeer). q.session) (one_of peer.0 up.0 (sym peer.1 ∙ up.1)) ∙ up.3 in
@@ -52,35 +69,80 @@ ends_one k s m cs entries stands up f =
       keeps = record {
         leads = leads_inward m cs entries f.quiet f.step.leads;
         live = live_routed m (without_session m.declared k) k c (lost s c) cs f.loses.at f.loses.after refl;
-        stands = stands_put m (without_session m.declared k) k c (lost s c) cs m.registry m.hops stands f.loses.at f.loses.after f.step.sound refl keeps
+        stands = stands_put m (without_session m.declared k) k c (lost s c) cs m.registry m.hops m.exits stands f.loses.at f.loses.after f.step.sound refl keeps
             (subst (λ (o : Option DeclaredPeer). StandsAt o (Some (lost s c))) (sym (ended_same k m.declared.peers peer.0 peer.1)) here) refl
-            (hops_quiet m cs stands f.quiet (same_peers m k c (lost s c) cs f.loses.at f.loses.after));
+            (hops_quiet m cs stands f.quiet (same_peers m k c (lost s c) cs f.loses.at f.loses.after))
+            (still c (exits_stay m (with_chains m cs) stands (put_heard k (lost s c) m.chains cs f.loses.after (lost_heard s c (stands.own EachRow k c f.loses.at)) (stands.own EachRow))
+            (ap (λ (u : PeerRows). best_rows (res_at m.hops u)) (λ i j. f.quiet j i)) refl refl refl refl));
+        heard = heard_quiet m (remade m (without_session m.declared k) cs) (journal_lines entries) (others_are_unheard Inward (peer_links m.chains) (peer_links cs) entries refl f.step.leads) refl;
       };
     }
   where
+    -- no exit of the peer is left
+    sessions : (j : ℕ) → ExitsAt m.declared.speaker m.outgoing j (peer_at j (without_session m.declared k).peers) (exit_at j m.exits)
+    sessions j = by_bool (nat_eq j k) (λ b. ExitsAt m.declared.speaker m.outgoing j (peer_at j (without_session m.declared k).peers) (exit_at j m.exits))
+        (λ same. subst (λ (n : ℕ). ExitsAt m.declared.speaker m.outgoing n (peer_at n (without_session m.declared k).peers) (exit_at n m.exits)) (sym (equal_by j k same))
+        (subst (λ (o : Option OutChained). ExitsAt m.declared.speaker m.outgoing k (peer_at k (without_session m.declared k).peers) o) (sym silent) (exits_none m.declared.speaker m.outgoing k (peer_at k (without_session m.declared k).peers))))
+        (λ apart. subst (λ (o : Option DeclaredPeer). ExitsAt m.declared.speaker m.outgoing j o (exit_at j m.exits)) (sym (ended_other k j m.declared.peers apart)) (stands.own SameSessions j))
+
+    still : (c : Chained) → ExitsStand (with_chains m cs) → ExitsStand (remade m (without_session m.declared k) cs)
+    still c x = record { rows = x.rows; each = x.each; all = x.all; read = x.read; plain = x.plain; sender = x.sender; sessions = sessions; one = x.one }
+
     keeps : KeepsOthers k m.declared (without_session m.declared k)
     keeps = record { speaker = refl; count = ended_length k m.declared.peers; others = λ j e. ended_other k j m.declared.peers e }
 
-pub one_ended : (k s : ℕ) (m v : Moment) (now : Declaration) (cs : Chains) (before after : Journaled) → v ≡ m → Stands m → IsSession k s m → now ≡ without_session v.declared k → Adds (LosesInward k s v.chains cs) before after
+pub one_ended : (k s : ℕ) (m v : Moment) (now : Declaration) (cs : Chains) (before after : Journaled) → v ≡ m → Stands m → IsSession k s m → exit_at k m.exits ≡ None → now ≡ without_session v.declared k → Adds (LosesInward k s v.chains cs) before after
     → Pushes (Ends k s m (remade v now cs)) before after
-one_ended k s m v now cs before after view stands up is f =
+one_ended k s m v now cs before after view stands up silent is f =
     subst (λ (n : Moment). Pushes (Ends k s n (remade v now cs)) before after) view
     (subst (λ (d : Declaration). Pushes (Ends k s v (remade v d cs)) before after) (sym is)
-    (journal_lines f.0, f.1, ends_one k s v cs f.0 (subst Stands (sym view) stands) (subst (IsSession k s) (sym view) up) f.2))
+    (journal_lines f.0, f.1, ends_one k s v cs f.0 (subst Stands (sym view) stands) (subst (IsSession k s) (sym view) up) (ap (λ (x : Moment). exit_at k x.exits) view ∙ silent) f.2))
 
 -- ---- both
-pub lost_all : (k s : ℕ) (m room m' : Moment) (before j j' now : Journaled) → Gives (HasRoom k m room) before j → Pushes (Ends k s room m') j j' → now ≡ flushed j' → Gives (HasLost k s m m') before now
-lost_all k s m room m' before j j' now r e is = gives_push (HasRoom k m room) (Ends k s room m') (HasLost k s m m') (λ xs ys p q. record {
-  loses = record {
-    there = p.there;
-    first = xs;
-    room = room;
-    runs = p.runs;
-    last = ys;
-    between = q.between;
-    loses = q.loses;
-    lines = refl;
-    after = q.after;
-  };
-  keeps = keeps_then m room m' xs ys (λ l. ended l k) p.keeps q.keeps;
-}) before j j' now r e is
+-- the exit ended: so the peer is still up, and has none
+pub up_then : (k s : ℕ) (m v : Moment) (e : Exited) → v ≡ m → IsSession k s m → IsSession k s (with_exits v e)
+up_then k s m v e view up = subst (λ (x : Moment). IsSession k s (with_exits x e)) (sym view) up
+
+pub silenced_stands : (k : ℕ) (m v : Moment) (e : Exited) (entries : List (Entry Value)) → v ≡ m → Stands m → EndsExit k v.exits e entries → Stands (with_exits v e)
+silenced_stands k m v e entries view stands ends = (silenced k v e entries (subst Stands (sym view) stands) ends).stands
+
+-- and so it is where there is room
+pub room_up : (k s : ℕ) (m room : Moment) (before now : Journaled) → IsSession k s m → Gives (HasRoom k m room) before now → IsSession k s room
+room_up k s m room before now up r = (up.0, ap (λ (l : LiveState). peer_at k l.declared.peers) r.2.keeps.live ∙ up.1, up.2, up.3)
+
+pub room_silent : (k : ℕ) (m room : Moment) (e : Exited) (entries : List (Entry Value)) (before now : Journaled) → EndsExit k m.exits e entries → Gives (HasRoom k (with_exits m e) room) before now → exit_at k room.exits ≡ None
+room_silent k m room e entries before now ends r = no_table (exit_at k room.exits) (r.2.same k ∙ ap is_some (ap (exit_at k) ends.after ∙ exit_gone k (tables.remove m.exits.queue ends.chain.reader) m.exits))
+
+pub lost_all : (k s : ℕ) (m v room m' : Moment) (e : Exited) (before first j j' now : Journaled) → v ≡ m → Stands m → Adds (EndsExit k v.exits e) before first → Gives (HasRoom k (with_exits v e) room) first j → Pushes (Ends k s room m') j j' → now ≡ flushed j'
+    → Gives (HasLost k s m m') before now
+lost_all k s m v room m' e before first j j' now view stands ends r gone is =
+    subst (λ (x : Moment). Gives (HasLost k s x m') before now) view
+    (push_gives (λ xs. Σ_is xs) (Falls) (HasLost k s v m') all before first now (journal_lines ends.0, ends.1, refl)
+    (gives_push (HasRoom k (with_exits v e) room) (Ends k s room m') (Falls) (λ xs ys p q. (xs, ys, p, q, refl)) first j j' now r gone is))
+  where
+    Σ_is : List Line → Type 0
+    Σ_is xs = xs ≡ journal_lines ends.0
+
+    Falls : List Line → Type 0
+    Falls said = (xs ys : List Line) × HasRoom k (with_exits v e) room xs × Ends k s room m' ys × (said ≡ xs ++ ys)
+
+    all : (zs said : List Line) → Σ_is zs → Falls said → HasLost k s v m' (zs ++ said)
+    all zs said own f = record {
+      loses = record {
+        there = f.2.there;
+        silenced = e;
+        entries = ends.0;
+        ends = ends.2;
+        first = f.0;
+        room = room;
+        runs = f.2.runs;
+        last = f.1;
+        between = f.3.between;
+        loses = f.3.loses;
+        lines = ap (λ (l : List Line). l ++ said) own ∙ ap (λ (l : List Line). journal_lines ends.0 ++ l) f.4;
+        after = f.3.after;
+      };
+      keeps = subst (λ (l : List Line). Keeps (ended (live_state v) k) v m' (l ++ said)) (sym own)
+          (keeps_then v (with_exits v e) m' (journal_lines ends.0) said (λ l. ended l k) (silenced k v e ends.0 (subst Stands (sym view) stands) ends.2)
+          (subst (λ (l : List Line). Keeps (ended (live_state v) k) (with_exits v e) m' l) (sym f.4) (keeps_then (with_exits v e) room m' f.0 f.1 (λ l. ended l k) f.2.keeps f.3.keeps)));
+    }

@@ -42,7 +42,6 @@ all_of_phase Del m = all_flat (λ t. phase_of t ≡ Del) chain_tasks (tables.val
     (λ c. all_made (λ t. phase_of t ≡ Del) (λ (d : Lost Attrs). tasks.Del c.incoming.number d.number) c.incoming.tables.deletions (all_any _ (λ d. refl) c.incoming.tables.deletions)) (tables.values m.chains))
 all_of_phase Fin m = all_made (λ t. phase_of t ≡ Fin) (λ (c : Chained). tasks.Fin c.incoming.number) (tables.values m.chains) (all_any _ (λ c. refl) (tables.values m.chains))
 all_of_phase Nh m = all_made (λ t. phase_of t ≡ Nh) (λ (k : ℕ). tasks.Nh k) (tables.keys m.hops) (all_any _ (λ k. refl) (tables.keys m.hops))
-
 all_of_phase ReadRib m = (refl, tt)
 all_of_phase Out m = all_made (λ t. phase_of t ≡ Out) (λ (k : ℕ). tasks.Out k) (tables.keys m.exits.chains) (all_any _ (λ k. refl) (tables.keys m.exits.chains))
 

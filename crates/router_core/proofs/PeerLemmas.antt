@@ -7,7 +7,7 @@ use Rattle.journal_text.specs.declared.line.Line.TheVariants as lines
 use Rattle.journal_text.specs.Journals.{Journaled, with_entries}
 use Rattle.event_text.specs.declared.event.Event.TheVariants as events
 use Rattle.event_text.specs.declared.declared.DeclaredPeer.{DeclaredPeer}
-use Rattle.event_text.specs.Declarations.{with_speaker, Declaration, peer_at, words_of, with_peer, with_session, begun_at, refusal, refusal_at, rules_refusal, session_refusal}
+use Rattle.event_text.specs.Declarations.{Declaration, peer_at, words_of, with_peer, with_session, begun_at, refusal, refusal_at, rules_refusal, session_refusal}
 use Rattle.event_text.proofs.Sessions.{addable, missed, KeepsWords, begun_words}
 use Rattle.policy_rules.specs.declared.rule.Rule.{Rule}
 use Rattle.pass_core.specs.Passed.{Walked, present, edited}
@@ -38,9 +38,9 @@ use Rattle.router_core.specs.Bests.{best_at}
 use Rattle.router_core.specs.Moments.{Moment, Policies, with_chains, router_links}
 use Rattle.live_state.specs.Lives.{with_rules, begun_if_down}
 use Rattle.router_core.specs.Lives.{live_state}
-use Rattle.router_core.specs.Stands.{IsSilent, PeerStands, StandsAt, Stands, Claim, Claims, EachChain, EachPeer, InteriorTree, OneSpeaker, SameCount, EachResolver, SameResolvers, AnswersAgree, HopsCounted, NoStrangers, SmallNumbers, EachRow, QueueLeads, ExitsRead, SameSessions, ExitsAt}
+use Rattle.router_core.specs.Stands.{IsSilent, PeerStands, StandsAt, Stands, Claim, Claims, EachChain, EachPeer, OneSpeaker, SameCount, EachResolver, SameResolvers, AnswersAgree, HopsCounted, NoStrangers, SmallNumbers, EachRow, QueueLeads, ExitsRead, SameSessions, ExitsAt}
 use Rattle.router_core.specs.Turns.{journal_lines}
-use Rattle.router_core.specs.Blocks.{ByPeer, BeginsIf, Declares, declared_speaker, declared_peer, begun}
+use Rattle.router_core.specs.Blocks.{ByPeer, BeginsIf, Declares, declared_peer, begun}
 use Rattle.router_core.specs.Peers.{is_up}
 use Rattle.router_core.specs.Works.{HasStepped, Pushes}
 use Rattle.router_core.proofs.RegionLemmas.{leads_inward}

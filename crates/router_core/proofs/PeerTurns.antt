@@ -35,7 +35,7 @@ use Rattle.router_core.specs.Printable.{IsHeard}
 use Rattle.router_core.proofs.HeardSteps.{heard_quiet, queue_views, falls_unheard}
 use Rattle.router_core.specs.Moments.{Moment, with_chains, with_hops, with_exits, router_links}
 use Rattle.router_core.specs.Stands.{IsSilent, PeerStands, Stands, HopsCounted, SmallNumbers, EachRow, open_session}
-use Rattle.router_core.specs.Turns.{Resolves, IsOfPeers, IsPeerTurn, IsTurn, sent_of, has_work, phase_of, journal_lines}
+use Rattle.router_core.specs.Turns.{Resolves, IsOfPeers, IsPeerTurn, IsTurn, sent_of, has_work, journal_lines}
 use Rattle.router_core.specs.Works.{IsUnit, Comes, SettlesPeer}
 use Rattle.peer_side.proofs.WeldLemmas.{fallen_at, weld_after, weld_keeps, nears_weld, adds_both}
 use Rattle.router_core.proofs.HopLemmas.{falls_lead, hops_fall}

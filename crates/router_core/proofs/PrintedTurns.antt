@@ -285,7 +285,7 @@ module _ (peers : ℕ → Option Neighbour) (most : ℕ) where
       let decides : ArePrintedEntries peers t.best = subst (ArePrintedEntries peers) (sym t.decided.lines) (sent_printed peers route_value Best (best_at m.chains m.hops) (best_at m.chains m'.hops) goes.0 t.decided.best tt (best_prints (resolved_at m.chains m.hops) (resolved_prints m.chains m.hops fit.metrics (filt_fit m fit)))
       (best_prints (resolved_at m.chains m'.hops) (resolved_prints m.chains m'.hops metrics (filt_fit m fit))) (t.decided.decides (resolved_at m.chains m.hops) goes.0 goes.1.comes)) in
       let queued = queued_fit (best_at m.chains m.hops) (best_at m.chains m'.hops) goes.0 t.decided.best m.exits m'.exits (best_fit m fit) (best_rows_are m.chains m'.hops (rows_heard m fit) metrics (filt_fit m fit))
-          (t.decided.decides (resolved_at m.chains m.hops) goes.0 goes.1.comes) t.queued fit.profile fit.exits in
+      (t.decided.decides (resolved_at m.chains m.hops) goes.0 goes.1.comes) t.queued fit.profile fit.exits in
       let printed = subst (ArePrintedEntries peers) (sym u.lines) (res_printed k k goes.0 t.sent m.hops m'.hops (filt_at m.chains) (filt_at m.chains) refl (named_by own.0 (fit.placed k t.chain t.at)) fit.metrics metrics (filt_fit m fit k) (filt_fit m fit k) goes.1.comes.here) in (
         subst Fit (sym t.after) (record {
           chains = fit.chains;

@@ -1,10 +1,9 @@
 -- What a change of `best` makes of what reads it: it joins the queue, and no link of theirs changes.
-use Rattle.std.proofs.Common.{◌≡◌, ◌≢◌, ℕ, ◌+◌, ◌*◌, ◌≤◌, cond, true, false, List, [], ◌∷◌, length, Option, Some, None, is_some, refl, sym, ap, subst, ◌∙◌, arith}
+use Rattle.std.proofs.Common.{◌≡◌, ◌≢◌, ℕ, cond, true, false, length, Option, Some, None, refl, sym, ap, subst, ◌∙◌}
 use Rattle.std.specs.Prelude.{IsSome}
 use Rattle.std.specs.Option.{ForSome}
 use Rattle.std.specs.FinMap as tables
-use Rattle.std.specs.Ordering.{eq_by_cmp}
-use Rattle.addr4.specs.Prefixes.{Network, prefix_cmp}
+use Rattle.addr4.specs.Prefixes.{Network}
 use Rattle.addr4.proofs.PrefixOrder.{itself}
 use Rattle.bgp_attr.specs.declared.route.Route.{Route}
 use Rattle.bgp_attr.specs.declared.speaker.Speaker.{Speaker}
@@ -17,17 +16,16 @@ use Rattle.event_text.specs.Declarations.{peer_at}
 use Rattle.journal_text.specs.declared.link.Link.{Link}
 use Rattle.journal_text.specs.declared.link.Link.TheVariants.{ReadRib}
 use Rattle.journal_text.specs.Values.{route_rows}
-use Rattle.fanout_queue.specs.Queues.{Queued, AllLead}
+use Rattle.fanout_queue.specs.Queues.{AllLead}
 use Rattle.fanout_queue.proofs.LeadLemmas.{put_keeps_read, put_keeps_readers, put_keeps_leading}
 use Rattle.peer_out.specs.Changes.{MayBeHeard}
 use Rattle.out_chain.specs.Chains.{OutChained, RowsMayBeHeard}
-use Rattle.exit_side.specs.Exits.{Exited, OutChains, chain_at as exit_at, with_queue, exit_links, IsExits, AllStand, left_in}
-use Rattle.exit_side.specs.Steps.{PutsExit}
+use Rattle.exit_side.specs.Exits.{Exited, OutChains, chain_at as exit_at, exit_links, IsExits, AllStand}
 use Rattle.hop_side.specs.Resolvers.{Resolvers}
 use Rattle.peer_side.specs.Peers.{Chains}
 use Rattle.router_core.specs.Bests.{best_at, Queues}
 use Rattle.router_core.specs.Moments.{Moment, Policies, read_by, read_links, plain, rules_to}
-use Rattle.router_core.specs.Stands.{Stands, Claim, Claims, EachRow, EachExit, QueueLeads, ExitsRead, PlainExits, OneSender, SameSessions, OneReader, RowsWereHeard, MaySend, IsExitOf, ExitsAt, ReadsAs, ReadsOn}
+use Rattle.router_core.specs.Stands.{Stands, EachRow, EachExit, QueueLeads, ExitsRead, PlainExits, OneSender, SameSessions, OneReader, RowsWereHeard, MaySend, IsExitOf, ExitsAt, ReadsOn}
 use Rattle.router_core.proofs.HeardRows.{heard_best}
 
 -- ---- who has none

@@ -5,14 +5,14 @@ use Rattle.std.specs.List.{AllByRecursion, sum_by, list_any, range_with_len}
 use Rattle.std.specs.Option.{option_map}
 use Rattle.std.specs.FinMap as tables
 use Rattle.std.specs.FinMap.{FinMap}
-use Rattle.std.specs.Ordering.{nat_cmp, is_lt, is_eq}
+use Rattle.std.specs.Ordering.{nat_cmp, is_lt}
 use Rattle.std.specs.declared.cmp.Ordering.{Ordering}
 use Rattle.std.specs.declared.cmp.Ordering.TheVariants.{Less, Equal, Greater}
 use Rattle.std.specs.Cmp.{nat_cmp_total}
 use Rattle.std.proofs.lemmas.List.Sums.{sum_by-cons}
 use Rattle.std.proofs.lemmas.Bool.Decides.{nat_tests}
 use Rattle.std.proofs.Math.Nat.{mul-le-mul, mul-le-mul_left}
-use Rattle.addr4.specs.Prefixes.{Network, prefix_cmp, ComesBefore}
+use Rattle.addr4.specs.Prefixes.{Network, prefix_cmp}
 use Rattle.addr4.specs.Places.{IsBeyond}
 use Rattle.addr4.proofs.PrefixOrder.{prefixes_total}
 use Rattle.bgp_attr.specs.declared.attrs.Attrs.{Attrs}
@@ -31,8 +31,10 @@ use Rattle.in_chain.proofs.TurnLemmas.{candidates_are_counted}
 use Rattle.decision.specs.Branches.{best_candidates, candidates_below}
 use Rattle.peer_side.specs.Peers.{Chains, chain_at, rows_in}
 use Rattle.peer_side.proofs.MapLemmas.{all_values, one_of_sum, sum_none}
-use Rattle.router_core.specs.Bests.{lent_chain, candidates_by, lent_candidates, Queues}
-use Rattle.router_core.specs.Moments.{Moment, longest_of, most_unread}
+use Rattle.router_core.specs.Bests.{candidates_by, lent_candidates, Queues}
+use Rattle.hop_side.specs.Resolvers.{known_in}
+use Rattle.rib_tree.specs.Trees.{tree_count}
+use Rattle.router_core.specs.Moments.{Moment, longest_of, most_unread, bound_of}
 use Rattle.router_core.specs.Phases.{best_beyond, reading}
 
 -- ---- the most that a reader hasn't taken
@@ -249,3 +251,11 @@ module _ (a : Chains) (small : (k : ℕ) → IsSome (chain_at k a) → k ≤ 64)
 
 pub beyond_within : (a : Chains) → best_beyond a None ≤ rows_in a
 beyond_within a = sum_fewer row_count (λ c. filt_beyond c None) (λ c. (candidates_are_counted c).1) (tables.values a)
+
+-- ---- the announced number is computed as it is told
+pub bound_is : (m v : Moment) (peers rows all known hops nine a b c unread bound : ℕ) → v ≡ m → peers ≡ length v.declared.peers + 2 → rows ≡ rows_in v.chains → all ≡ rows + tree_count v.tree → known ≡ known_in v.hops → hops ≡ 2 * known
+    → nine ≡ 9 * all → a ≡ nine + hops → IsMostUnread v.exits.queue unread → b ≡ a + unread → c ≡ b + 6 → bound ≡ peers * c → bound ≡ bound_of m
+bound_is m v peers rows all known hops nine a b c unread bound view e1 e2 e3 e4 e5 e6 e7 most e8 e9 e10 =
+    let e11 = unread_is v.exits unread most in
+    let sum : c ≡ most_unread v.exits + 9 * (rows_in v.chains + tree_count v.tree) + 2 * known_in v.hops + 6 = omega (arith, e2, e3, e4, e5, e6, e7, e8, e9, e11) in
+    e10 ∙ ap (λ (n : ℕ). n * c) e1 ∙ ap (λ (n : ℕ). (length v.declared.peers + 2) * n) sum ∙ ap bound_of view

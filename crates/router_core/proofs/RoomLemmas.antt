@@ -23,6 +23,7 @@ use Rattle.router_core.specs.Blocks.{RunsFirst}
 use Rattle.router_core.specs.Works.{HasDrained, HasRoom}
 use Rattle.peer_side.proofs.WeldLemmas.{weld_after}
 use Rattle.router_core.proofs.KeepLemmas.{keeps_none, gives_none}
+use Rattle.router_core.proofs.TurnWalks.{turns_same}
 
 -- the chain after turns of a stage, which may have gone
 turns_shorter : (n k s : ℕ) (m : Moment) (c : Chained) (said : List Line) (m' : Moment) → chain_at k m.chains ≡ Some c → Turns n (Del k s) m said m'
@@ -74,6 +75,7 @@ room_drained k m v room task n before now view stands over g = (
     runs = subst (λ (o : Option Task). RunsFirst o m g.0 room) is (n, (g.2.run.taken, g.2.ended));
     keeps = g.2.run.work.keeps;
     free = drained_free k m room c.0 task n g.0 stands c.1 c.2 g.2;
+    same = turns_same n task m g.0 room g.2.run.taken;
   },
 )
   where
@@ -86,4 +88,4 @@ room_drained k m v room task n before now view stands over g = (
 pub room_there : (k : ℕ) (m v : Moment) (before now : Journaled) → v ≡ m → Stands m → IsSome (chain_at k m.chains) → None ≡ overdue_at k v.chains → now ≡ flushed before → Gives (HasRoom k m m) before now
 room_there k m v before now view stands there over is =
     let none : None ≡ overdue_at k m.chains = over ∙ ap (λ (x : Moment). overdue_at k x.chains) view in
-    gives_none (HasRoom k m m) before now (record { there = there; runs = subst (λ (o : Option Task). RunsFirst o m [] m) none (refl, refl); keeps = keeps_none m stands; free = sym none }) is
+    gives_none (HasRoom k m m) before now (record { there = there; runs = subst (λ (o : Option Task). RunsFirst o m [] m) none (refl, refl); keeps = keeps_none m stands; free = sym none; same = λ j. refl }) is

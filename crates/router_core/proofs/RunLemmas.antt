@@ -16,7 +16,7 @@ use Rattle.hop_side.specs.Resolvers.{known_in}
 use Rattle.peer_side.specs.Peers.{rows_in}
 use Rattle.router_core.specs.Moments.{Moment, most_unread, bound_of, Gives}
 use Rattle.router_core.specs.Lives.{live_state}
-use Rattle.router_core.specs.Stands.{Stands, SameCount}
+use Rattle.router_core.specs.Stands.{Stands, AllHaveExits, SameCount}
 use Rattle.router_core.specs.Phases.{all_phases, beyonds, counts, earlier, left_from, most_of, fin_sends, nh_sends}
 use Rattle.router_core.specs.Turns.{IsTurn, Turns, RunsPhase, RunsAll, phase_of, next_task, has_work, IsSettled}
 use Rattle.router_core.specs.Works.{Keeps, IsWork, IsUnit, HaveRun, HasDrained, HaveRunOf, HaveDrained, AllHaveDrained}
@@ -26,6 +26,9 @@ use Rattle.router_core.proofs.ReadingLemmas.{reading_less, readers_within, annou
 use Rattle.router_core.proofs.CountLemmas.{counts_below, over_none, none_over}
 use Rattle.router_core.proofs.NextLemmas.{next_works}
 use Rattle.router_core.proofs.ScratchLemmas.{settled_is_exact}
+use Rattle.router_core.proofs.TurnWalks.{phases_same, all_have_on}
+use Rattle.exit_side.specs.Laws.{ExactWithoutWork}
+use Rattle.live_state.specs.Lives.{LiveState}
 
 -- ---- work
 none_more : (m : Moment) (es : List Phase) → AllByRecursion (λ e. counts m e ≤ counts m e) es
@@ -233,8 +236,8 @@ idling_more i turns n z m at now before j j' within g d = gives_join (Idling i t
               (all_appended (λ e. counts now e ≡ 0) (λ e. counts now e ≡ 0) (λ e none. none) (take i all_phases) r (over_more at now (take i all_phases) less x.over) (over_none r now y.over));
         }
 
-pub idling_done : TurnsAreBounded → TurnsAreLeft → (i turns : ℕ) (m now : Moment) (before j : Journaled) → Stands m → length all_phases ≤ i → Gives (Idling i turns m now) before j → Gives (AllHaveDrained m turns now) before j
-idling_done bounded left i turns m now before j stands past g = gives_so (Idling i turns m now) (AllHaveDrained m turns now) (λ xs x.
+pub idling_done : TurnsAreBounded → TurnsAreLeft → ExactWithoutWork → (i turns : ℕ) (m now : Moment) (before j : Journaled) → Stands m → AllHaveExits m → length all_phases ≤ i → Gives (Idling i turns m now) before j → Gives (AllHaveDrained m turns now) before j
+idling_done bounded left exact i turns m now before j stands exits past g = gives_so (Idling i turns m now) (AllHaveDrained m turns now) (λ xs x.
     let all : take i all_phases ≡ all_phases = take_all i all_phases past in
     let over = subst (λ (l : List Phase). AllByRecursion (λ e. counts now e ≡ 0) l) all x.over in
     let settled : IsSettled now = λ r. none_over left r now x.keeps.stands (each_phase (λ e. counts now e ≡ 0) over r) in
@@ -245,5 +248,5 @@ idling_done bounded left i turns m now before j stands past g = gives_so (Idling
       keeps = x.keeps;
       most = omega (arith, within, fits);
       settled = settled;
-      exact = settled_is_exact now x.keeps.stands settled;
+      exact = settled_is_exact exact now x.keeps.stands (all_have_on m now (ap (λ (l : LiveState). l.declared) x.keeps.live) (phases_same all_phases m xs turns now (subst (λ (l : List Phase). RunsAll l m xs turns now) all x.runs)) exits) settled;
     }) before j g

@@ -1,6 +1,6 @@
 -- The links that no work holds up are what the live state alone asks for.
-use Rattle.std.proofs.Common.{◌≡◌, ℕ, ◌==◌, ◌&&◌, Bool, true, false, cond, List, [], ◌∷◌, Option, Some, None, is_some, nat_eq, refl, sym, ap, ◌∙◌, arith}
-use Rattle.std.specs.Prelude.{option_map}
+use Rattle.std.proofs.Common.{◌≡◌, ℕ, ◌==◌, ◌&&◌, not, Bool, true, false, cond, List, [], ◌∷◌, Option, Some, None, is_some, nat_eq, refl, sym, ap, ◌∙◌, arith}
+use Rattle.std.specs.Prelude.{option_map, IsSome}
 use Rattle.std.specs.FinMap as tables
 use Rattle.bgp_attr.specs.declared.attrs.Attrs.{Attrs}
 use Rattle.bgp_attr.specs.declared.speaker.Speaker.{Speaker}
@@ -8,11 +8,15 @@ use Rattle.bgp_attr.specs.declared.speaker.Neighbour.{Neighbour}
 use Rattle.loss_chain.specs.Lost.{Lost}
 use Rattle.policy_rules.specs.declared.rule.Rule.{Rule}
 use Rattle.pass_core.specs.Passed.{Walked, present, present_of}
+use Rattle.pass_core.specs.Turns.{rows_by as passed_by}
+use Rattle.bgp_attr.specs.declared.speaker.Profile.{Profile}
+use Rattle.peer_out.specs.Forms.{as_sent}
+use Rattle.filter_bank.specs.Outgoing.{outgoing}
 use Rattle.filter_bank.specs.Filtered.{passed_rows, filtered_rows}
 use Rattle.journal_text.specs.declared.link.Link.{Link}
-use Rattle.journal_text.specs.declared.link.Link.TheVariants.{In, Peer, Filt, Res, Best, Org, Lost as LostOf, Low, Dyn, Int, Fib}
+use Rattle.journal_text.specs.declared.link.Link.TheVariants.{In, Peer, Filt, Res, Best, ReadRib, Read, Outf, Adv, Org, Lost as LostOf, Low, Dyn, Int, Fib}
 use Rattle.journal_text.specs.declared.link.Task.{Task}
-use Rattle.journal_text.specs.declared.link.Task.TheVariants.{Del, Fin, Nh, Rdel}
+use Rattle.journal_text.specs.declared.link.Task.TheVariants.{Del, Fin, Nh, ReadRib as Reading, Out, Rdel}
 use Rattle.journal_text.specs.declared.value.Value.{Value}
 use Rattle.journal_text.specs.Values.{attrs_rows, route_rows, interior_rows, fib_rows}
 use Rattle.event_text.specs.declared.declared.DeclaredPeer.{DeclaredPeer}
@@ -33,7 +37,7 @@ use Rattle.rib_merge.specs.Forwards.{forwarded}
 use Rattle.router_core.specs.declared.router.Phase.TheVariants as phases
 use Rattle.peer_side.specs.Peers.{chain_at, links_by, filt_by, filt_at, routes_of, rules_of, has_turn_in}
 use Rattle.live_state.specs.Lives.{Routes, Interiors}
-use Rattle.live_state.specs.Decided.{live_rows, judged_rows, least_rows, origins, since_local, with_metric_of, resolved_row, resolved_rows, rows_if_any, resolved_of, picked_rows}
+use Rattle.live_state.specs.Decided.{live_rows, judged_rows, least_rows, origins, since_local, with_metric_of, resolved_row, resolved_rows, rows_if_any, resolved_of, picked_rows, best_of, sent_rows, in_session}
 use Rattle.best_path.specs.Steps.{pick}
 use Rattle.decision.specs.Branches.{routes_below}
 use Rattle.decision.proofs.LawLemmas.{best_is_picked}
@@ -49,10 +53,19 @@ use Rattle.nexthop_resolver.specs.Resolving.{Resolving}
 use Rattle.hop_side.specs.Resolvers.{resolver_at, metric_rows, rows_by, link_by}
 use Rattle.hop_side.specs.Laws.{matched_row, res_from}
 use Rattle.hop_side.proofs.LawLemmas.{exact_without_work}
+use Rattle.exit_side.specs.Laws.{ExactWithoutWork}
+use Rattle.exit_side.specs.Exits.{chain_at as exit_at, links_by as exit_link}
+use Rattle.out_chain.specs.Chains.{OutChained, made_by, outf_rows, is_unread}
+use Rattle.fanout_queue.specs.Readers.{read_rows, unread_by}
+use Rattle.link_change.specs.InOrder.{rows_before}
+use Rattle.link_change.specs.declared.change.Change.{Change}
+use Rattle.link_region.proofs.RegionLemmas.{by_bool}
+use Rattle.std.proofs.lemmas.Bool.Decides.{nat_tests}
 use Rattle.live_state.proofs.LeastLemmas.{least_two, least_four}
 use Rattle.rib_tree.proofs.RestLemmas.{no_stages, no_link, Rest, org_rests, two_rest, four_rest}
-use Rattle.router_core.specs.Moments.{Moment, rib_by}
-use Rattle.router_core.specs.Stands.{StandsAt, Stands, EachChain, EachPeer, OneSpeaker, EachResolver, SameResolvers, AnswersAgree, HopsCounted}
+use Rattle.router_core.specs.Moments.{Moment, plain, rib_by, read_by, rules_to}
+use Rattle.router_core.specs.Phases.{unread_if}
+use Rattle.router_core.specs.Stands.{StandsAt, Stands, AllHaveExits, ExitsAt, IsExitOf, ReadsOn, EachChain, EachPeer, OneSpeaker, EachResolver, SameResolvers, AnswersAgree, HopsCounted, EachExit, ExitsRead, PlainExits, SameSessions, OneReader}
 use Rattle.router_core.proofs.StandLemmas.{registered_rows}
 use Rattle.router_core.specs.Scratch.{HoldsUp, IsAtRest, IsExactAt, IsExact}
 use Rattle.loss_chain.proofs.TableLemmas.{same_by, no_table}
@@ -83,7 +96,7 @@ opt_none : (o : Option (Resolving Metric)) (upper : Rows Route) → rows_by o up
 opt_none None upper = refl
 opt_none (Some s) upper = refl
 
-module _ (m : Moment) (stands : Stands m) where
+module _ (law : ExactWithoutWork) (m : Moment) (stands : Stands m) (all : AllHaveExits m) where
   -- ---- peers
   here : (k : ℕ) (c : Chained) → chain_at k m.chains ≡ Some c → nat_eq k c.incoming.number ≡ true
   here k c at = same_by k c.incoming.number (sym (stands.own EachChain k c at).number)
@@ -193,6 +206,8 @@ module _ (m : Moment) (stands : Stands m) where
   best_holds (Fin j) k holds = tt
   best_holds (Nh j) k holds = tt
   best_holds (Rdel proto n) k holds = holds
+  best_holds Reading k holds = holds
+  best_holds (Out j) k holds = holds
 
   best_is : IsAtRest m Best → best_at m.chains m.hops ≡ picked_rows (λ k. rows_if_any (resolved_of (live_state m) k))
   best_is rest i p = (best_is_picked (resolved_at m.chains m.hops) p ∙ ap (λ (rows : ℕ → Rows Route). pick (routes_below 65 rows p)) (λ j k. same k j)) i
@@ -204,6 +219,143 @@ module _ (m : Moment) (stands : Stands m) where
   best_exact rest None = refl
   best_exact rest (Some me) = ap (λ (rows : Rows Route). Some (route_rows rows)) (best_is rest)
 
+  -- ---- what reads `best`
+  abbrev picked : Rows Route
+  picked = best_of (live_state m)
+
+  rib_holds : (task : Task) → HoldsUp task Best → HoldsUp task ReadRib
+  rib_holds (Del j s) holds = tt
+  rib_holds (Fin j) holds = tt
+  rib_holds (Nh j) holds = tt
+  rib_holds (Rdel proto n) holds = holds
+  rib_holds Reading holds = tt
+  rib_holds (Out j) holds = absurd holds
+
+  none_unread : (u : List (Change Route)) (best : Rows Route) → is_unread u ≡ false → rows_before u best ≡ best
+  none_unread [] best none = refl
+  none_unread (x ∷ u) best none = absurd (let clash : true ≡ false = none in cc)
+
+  reader_exact : IsAtRest m ReadRib → (s : Option Speaker) (o : Option ℕ) → m.reader ≡ o → ReadsOn s o m.exits → read_by m.exits.queue o (best_at m.chains m.hops) ≡ option_map route_rows (since_local s picked)
+  reader_exact rest (Some me) (Some r) is on =
+      ap (λ (rows : Rows Route). Some (route_rows rows))
+      (none_unread (unread_by m.exits.queue r) (best_at m.chains m.hops) (ap (λ (o : Option ℕ). is_unread (unread_if m.exits.queue o)) (sym is) ∙ rest Reading tt) ∙ best_is (λ task holds. rest task (rib_holds task holds)))
+  reader_exact rest (Some me) None is on = absurd on
+  reader_exact rest None (Some r) is on = absurd on
+  reader_exact rest None None is on = refl
+
+  -- ---- the links of sessions
+  same_session : (a b : ℕ) → nat_eq a b ≡ nat_eq b a
+  same_session a b = by_bool (nat_eq a b) (λ x. x ≡ nat_eq b a) (λ same. grind (arith, nat_tests, same)) (λ apart. grind (arith, nat_tests, apart))
+
+  module _ (V : Type 0) (value : Rows V → Rows Value) (j s : ℕ) (got : OutChained → Rows V) (want : Speaker → Neighbour → Rows V) where
+    abbrev link_of : Option OutChained → Option (Rows Value)
+    link_of None = None
+    link_of (Some c) = cond ((j == c.peer.number) && (s == c.session)) (Some (value (got c))) None
+
+    in_time : (b : Bool) (x : Rows V) → cond b (Some (value x)) None ≡ option_map value (cond b (Some x) None)
+    in_time true x = refl
+    in_time false x = refl
+
+    session_exact : (sp : Option Speaker) (p : Option DeclaredPeer) (o : Option OutChained) → ExitsAt sp m.outgoing j p o → ((q : DeclaredPeer) → p ≡ Some q → q.up ≡ true → IsSome o) → ((c : OutChained) → o ≡ Some c → c.peer.number ≡ j)
+        → ((c : OutChained) (me : Speaker) (q : DeclaredPeer) → o ≡ Some c → sp ≡ Some me → IsExitOf me (rules_to j m.outgoing) q c → got c ≡ want me q.words) → link_of o ≡ option_map value (in_session sp p s want)
+    session_exact (Some me) (Some p) (Some c) is each number rows =
+        ap (λ (b : Bool). cond (b && (s == c.session)) (Some (value (got c))) None) (same_by j c.peer.number (sym (number c refl)))
+        ∙ ap (λ (b : Bool). cond b (Some (value (got c))) None) (ap (nat_eq s) is.session ∙ same_session s p.session ∙ ap (λ (b : Bool). b && (p.session == s)) (sym is.up))
+        ∙ ap (λ (x : Rows V). cond (p.up && (p.session == s)) (Some (value x)) None) (rows c me p refl refl is)
+        ∙ in_time (p.up && (p.session == s)) (want me p.words)
+    session_exact (Some me) (Some p) None is each number rows = by_up p.up refl
+      where
+        by_up : (b : Bool) → p.up ≡ b → None ≡ option_map value (cond (p.up && (p.session == s)) (Some (want me p.words)) None)
+        by_up true up = absurd (let clash : false ≡ true = each p refl up in cc)
+        by_up false up = ap (λ (b : Bool). option_map value (cond (b && (p.session == s)) (Some (want me p.words)) None)) (sym up)
+    session_exact (Some me) None (Some c) is each number rows = absurd is
+    session_exact (Some me) None None is each number rows = refl
+    session_exact None p (Some c) is each number rows = absurd is
+    session_exact None p None is each number rows = refl
+
+  -- the rows that the peer's reader has, and those that it was sent
+  exit_rests : (j : ℕ) → has_work (Out j) m ≡ false → IsAtRest m Best → (c : OutChained) → exit_at j m.exits ≡ Some c
+      → (read_rows m.exits.queue c.reader (best_at m.chains m.hops) ≡ picked) × (tables.get c.sent ≡ passed_by (made_by c) (present c.filter) (best_at m.chains m.hops))
+  exit_rests j rest best c at = let x = law m.exits (best_at m.chains m.hops) j c (stands.own ExitsRead) at rest in (x.0 ∙ best_is best, x.1)
+
+  made_as : (j : ℕ) (c : OutChained) (me : Speaker) (p : DeclaredPeer) → exit_at j m.exits ≡ Some c → IsExitOf me (rules_to j m.outgoing) p c → (rows : Rows Route) → passed_by (made_by c) (present c.filter) rows ≡ sent_rows me p.words (rules_to j m.outgoing) rows
+  made_as j c me p at is rows =
+      ap (λ (r : Option (List Rule)). passed_by (made_by c) r rows) is.latest
+      ∙ ap (λ (f : Profile). passed_by (outgoing (as_sent f c.exit.me c.exit.external) c.peer) (Some (rules_to j m.outgoing)) rows) ((stands.own EachExit).each j c at).profile
+      ∙ ap (λ (f : Profile). passed_by (outgoing (as_sent f c.exit.me c.exit.external) c.peer) (Some (rules_to j m.outgoing)) rows) (stands.own PlainExits)
+      ∙ ap (λ (b : Bool). passed_by (outgoing (as_sent plain c.exit.me b) c.peer) (Some (rules_to j m.outgoing)) rows) (stands.own ExitsRead j c at).chain.kind
+      ∙ ap (λ (x : Speaker). passed_by (outgoing (as_sent plain x (not c.peer.internal)) c.peer) (Some (rules_to j m.outgoing)) rows) is.speaker
+      ∙ ap (λ (w : Neighbour). passed_by (outgoing (as_sent plain me (not w.internal)) w) (Some (rules_to j m.outgoing)) rows) is.words
+
+  numbered : (j : ℕ) (c : OutChained) → exit_at j m.exits ≡ Some c → c.peer.number ≡ j
+  numbered j c at = ((stands.own EachExit).each j c at).number
+
+  sent_is : (j : ℕ) → has_work (Out j) m ≡ false → IsAtRest m Best → (c : OutChained) (me : Speaker) (p : DeclaredPeer) → exit_at j m.exits ≡ Some c → IsExitOf me (rules_to j m.outgoing) p c
+      → tables.get c.sent ≡ sent_rows me p.words (rules_to j m.outgoing) picked
+  sent_is j rest best c me p at is = (exit_rests j rest best c at).1 ∙ ap (λ (rows : Rows Route). passed_by (made_by c) (present c.filter) rows) (best_is best) ∙ made_as j c me p at is picked
+
+  outf_is : (j : ℕ) → has_work (Out j) m ≡ false → IsAtRest m Best → (c : OutChained) (me : Speaker) (p : DeclaredPeer) → exit_at j m.exits ≡ Some c → IsExitOf me (rules_to j m.outgoing) p c
+      → outf_rows c (read_rows m.exits.queue c.reader (best_at m.chains m.hops)) ≡ sent_rows me p.words (rules_to j m.outgoing) picked
+  outf_is j rest best c me p at is = sym (stands.own ExitsRead j c at).exact ∙ sent_is j rest best c me p at is
+
+  -- whatever holds `best` up holds the links of sessions up
+  read_holds : (j s : ℕ) (task : Task) → HoldsUp task Best → HoldsUp task (Read j s)
+  read_holds j s (Del k t) holds = tt
+  read_holds j s (Fin k) holds = tt
+  read_holds j s (Nh k) holds = tt
+  read_holds j s (Rdel proto n) holds = holds
+  read_holds j s Reading holds = absurd holds
+  read_holds j s (Out k) holds = absurd holds
+
+  outf_holds : (j s : ℕ) (task : Task) → HoldsUp task (Read j s) → HoldsUp task (Outf j s)
+  outf_holds j s (Del k t) holds = tt
+  outf_holds j s (Fin k) holds = tt
+  outf_holds j s (Nh k) holds = tt
+  outf_holds j s (Rdel proto n) holds = holds
+  outf_holds j s Reading holds = absurd holds
+  outf_holds j s (Out k) holds = holds
+
+  adv_holds : (j s : ℕ) (task : Task) → HoldsUp task (Read j s) → HoldsUp task (Adv j s)
+  adv_holds j s (Del k t) holds = tt
+  adv_holds j s (Fin k) holds = tt
+  adv_holds j s (Nh k) holds = tt
+  adv_holds j s (Rdel proto n) holds = holds
+  adv_holds j s Reading holds = absurd holds
+  adv_holds j s (Out k) holds = holds
+
+  best_rests : (j s : ℕ) → IsAtRest m (Read j s) → IsAtRest m Best
+  best_rests j s rest task holds = rest task (read_holds j s task holds)
+
+  read_link : (o : Option OutChained) (j s : ℕ) → exit_link m.exits.queue (best_at m.chains m.hops) o (Read j s) ≡ link_of (Route) route_rows j s (λ c. read_rows m.exits.queue c.reader (best_at m.chains m.hops)) (λ me w. picked) o
+  read_link None j s = refl
+  read_link (Some c) j s = refl
+
+  outf_link : (o : Option OutChained) (j s : ℕ) → exit_link m.exits.queue (best_at m.chains m.hops) o (Outf j s) ≡ link_of (Attrs) attrs_rows j s (λ c. outf_rows c (read_rows m.exits.queue c.reader (best_at m.chains m.hops))) (λ me w. sent_rows me w (rules_to j m.outgoing) picked) o
+  outf_link None j s = refl
+  outf_link (Some c) j s = refl
+
+  adv_link : (o : Option OutChained) (j s : ℕ) → exit_link m.exits.queue (best_at m.chains m.hops) o (Adv j s) ≡ link_of (Attrs) attrs_rows j s (λ c. tables.get c.sent) (λ me w. sent_rows me w (rules_to j m.outgoing) picked) o
+  adv_link None j s = refl
+  adv_link (Some c) j s = refl
+
+  read_exact : (j s : ℕ) → IsAtRest m (Read j s) → IsExactAt m (Read j s)
+  read_exact j s rest =
+      read_link (exit_at j m.exits) j s
+      ∙ session_exact (Route) route_rows j s (λ c. read_rows m.exits.queue c.reader (best_at m.chains m.hops)) (λ me w. picked) m.declared.speaker (peer_at j m.declared.peers) (exit_at j m.exits) (stands.own SameSessions j) (all j) (numbered j)
+      (λ c me p at local is. (exit_rests j (rest (Out j) refl) (best_rests j s rest) c at).0)
+
+  outf_exact : (j s : ℕ) → IsAtRest m (Outf j s) → IsExactAt m (Outf j s)
+  outf_exact j s rest =
+      outf_link (exit_at j m.exits) j s
+      ∙ session_exact (Attrs) attrs_rows j s (λ c. outf_rows c (read_rows m.exits.queue c.reader (best_at m.chains m.hops))) (λ me w. sent_rows me w (rules_to j m.outgoing) picked) m.declared.speaker (peer_at j m.declared.peers) (exit_at j m.exits) (stands.own SameSessions j) (all j) (numbered j)
+      (λ c me p at local is. outf_is j (rest (Out j) refl) (best_rests j s (λ task holds. rest task (outf_holds j s task holds))) c me p at is)
+
+  adv_exact : (j s : ℕ) → IsAtRest m (Adv j s) → IsExactAt m (Adv j s)
+  adv_exact j s rest =
+      adv_link (exit_at j m.exits) j s
+      ∙ session_exact (Attrs) attrs_rows j s (λ c. tables.get c.sent) (λ me w. sent_rows me w (rules_to j m.outgoing) picked) m.declared.speaker (peer_at j m.declared.peers) (exit_at j m.exits) (stands.own SameSessions j) (all j) (numbered j)
+      (λ c me p at local is. sent_is j (rest (Out j) refl) (best_rests j s (λ task holds. rest task (adv_holds j s task holds))) c me p at is)
+
   -- ---- each link
   pub at_rest_is_exact : (link : Link) → IsAtRest m link → IsExactAt m link
   at_rest_is_exact (In k) rest = in_exact k rest (peer_at k m.declared.peers) (chain_at k m.chains) refl (stands.own EachPeer k)
@@ -211,6 +363,10 @@ module _ (m : Moment) (stands : Stands m) where
   at_rest_is_exact (Filt k) rest = filt_exact k rest (peer_at k m.declared.peers) (chain_at k m.chains) refl (stands.own EachPeer k)
   at_rest_is_exact (Res k) rest = opt_link (resolver_at k m.hops) (filt_at m.chains k) ∙ ap (option_map route_rows) (res_at_rest k rest)
   at_rest_is_exact Best rest = best_exact rest m.declared.speaker
+  at_rest_is_exact ReadRib rest = reader_exact rest m.declared.speaker m.reader refl (stands.own OneReader)
+  at_rest_is_exact (Read j s) rest = read_exact j s rest
+  at_rest_is_exact (Outf j s) rest = outf_exact j s rest
+  at_rest_is_exact (Adv j s) rest = adv_exact j s rest
   at_rest_is_exact (Org p) rest = since interior_rows (org_rows (branch_of p m.tree)) (tables.get (routes_in p)) (Org p) refl (org_rests m.tree p (λ n. rest (Rdel p n) (0, omega arith, refl))) m.declared.speaker
   at_rest_is_exact (LostOf p n) rest = lost_exact p n rest m.declared.speaker
   at_rest_is_exact Low rest = since interior_rows (low_rows m.tree) (least_rows routes_in (origins Low)) Low refl (two_are Connected Static (λ p of n. rest (Rdel p n) of)) m.declared.speaker
@@ -237,6 +393,8 @@ no_work m settled (Fin k) = of_chain (chain_at k m.chains) refl
     of_chain (Some c) at = ap (λ (w : Option (Walked (List Rule))). k == c.incoming.number && is_some w) (settled phases.Fin k c at) ∙ no_second (k == c.incoming.number)
 no_work m settled (Nh k) = settled phases.Nh k
 no_work m settled (Rdel proto n) = ap (λ (ds : List (Lost Interior)). is_some (table_of n ds)) (settled phases.Rdel proto)
+no_work m settled Reading = ap is_unread (settled phases.ReadRib)
+no_work m settled (Out k) = settled phases.Out k
 
-pub settled_is_exact : (m : Moment) → Stands m → IsSettled m → IsExact m
-settled_is_exact m stands settled link = at_rest_is_exact m stands link (λ task holds. no_work m settled task)
+pub settled_is_exact : ExactWithoutWork → (m : Moment) → Stands m → AllHaveExits m → IsSettled m → IsExact m
+settled_is_exact law m stands all settled link = at_rest_is_exact law m stands all link (λ task holds. no_work m settled task)

@@ -1,5 +1,5 @@
 -- The rows of a link, one after the other.
-use Rattle.std.proofs.Common.{◌≡◌, ℕ, false, ◌+◌, ◌^◌, ◌<◌, List, [], ◌∷◌, ◌++◌, length, Option, Some, None, refl, sym, ap, subst, ◌∙◌, append-nil, length-append, arith}
+use Rattle.std.proofs.Common.{◌≡◌, ℕ, false, ◌+◌, ◌^◌, ◌<◌, List, [], ◌∷◌, ◌++◌, map, length, Option, Some, None, refl, sym, ap, subst, ◌∙◌, append-nil, length-append, arith}
 use Rattle.std.specs.Prelude.{IsSome, option_map}
 use Rattle.bgp_attr.specs.declared.route.Route.{Route}
 use Rattle.nexthop_resolver.specs.declared.rows.Metric.{Metric}

@@ -12,12 +12,13 @@ use Rattle.journal_text.specs.declared.link.Task.TheVariants.{Del, Fin, Nh, Read
 use Rattle.journal_text.specs.declared.line.Line.{Line}
 use Rattle.link_region.proofs.RegionLemmas.{by_bool}
 use Rattle.loss_chain.proofs.TableLemmas.{equal_by}
-use Rattle.event_text.specs.Declarations.{Declaration}
+use Rattle.event_text.specs.Declarations.{Declaration, peer_at}
 use Rattle.exit_side.specs.Exits.{Exited, OutChains, chain_at as exit_at, with_exit}
 use Rattle.router_core.specs.declared.router.Phase.{Phase}
 use Rattle.router_core.specs.Moments.{Moment}
 use Rattle.router_core.specs.Turns.{IsPeerTurn, IsTurn, Turns, Runs, RunsPhase, RunsAll, FeedsAll}
 use Rattle.router_core.specs.Blocks.{RunsFirst}
+use Rattle.router_core.specs.Stands.{AllHaveExits}
 use Rattle.router_core.specs.Works.{HaveSameExits}
 use Rattle.router_core.proofs.QueueLemmas.{queue_chains}
 use Rattle.router_core.proofs.SessionLemmas.{exit_here, exit_elsewhere}
@@ -84,6 +85,9 @@ phases_same = phases_along SameAlong same_nowhere same_then same_turn
 
 pub first_same : (task : Option Task) (m : Moment) (said : List Line) (m' : Moment) → RunsFirst task m said m' → HaveSameExits m m'
 first_same = first_along SameAlong same_nowhere same_then same_turn
+
+pub all_have_on : (m m' : Moment) → m'.declared ≡ m.declared → HaveSameExits m m' → AllHaveExits m → AllHaveExits m'
+all_have_on m m' declared same all k p at up = same k ∙ all k p (ap (λ (d : Declaration). peer_at k d.peers) (sym declared) ∙ at) up
 
 pub feeds_same : (k : ℕ) (cs : List (Network × Option Attrs)) (m : Moment) (said : List Line) (m' : Moment) → FeedsAll k cs m said m' → HaveSameExits m m'
 feeds_same k [] m said m' f = same_nowhere m m' said f.0 f.1

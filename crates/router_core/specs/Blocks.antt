@@ -57,9 +57,12 @@ Just these then said turns m' = (said ≡ these) × (turns ≡ 0) × (m' ≡ the
 abbrev pub begin_line : Link → Line
 begin_line link = lines.Journal (entries.Begin link)
 
--- the links that begin with `local`
+-- the links that begin with `local`: of interior routes, and `best`; behind them the forwarding side begins to read, and `fib` begins
+abbrev pub first_begins : List Line
+first_begins = map begin_line (Org Connected ∷ Org Static ∷ Org Ospf ∷ Org Rip ∷ Low ∷ Dyn ∷ Int ∷ Best ∷ [])
+
 abbrev pub rib_begins : List Line
-rib_begins = map begin_line (Org Connected ∷ Org Static ∷ Org Ospf ∷ Org Rip ∷ Low ∷ Dyn ∷ Int ∷ Best ∷ []) ++ lines.Journal (entries.Inherit ReadRib Best) ∷ begin_line Fib ∷ []
+rib_begins = first_begins ++ lines.Journal (entries.Inherit ReadRib Best) ∷ begin_line Fib ∷ []
 
 abbrev pub declared_speaker : Moment → Speaker → Moment
 declared_speaker m words = record m { declared = with_speaker m.declared words }

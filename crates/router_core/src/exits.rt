@@ -26,6 +26,7 @@ use addr4::{Memory, Place, Prefix};
 use bgp_attr::Route;
 use decision::Best;
 use exit_side::Exits;
+use exit_side::laws::a_stranger_reads;
 use fanout_queue::Reader;
 use journal_text::{Entry, Journal, Link, Task, Value};
 use link_change::{Change, Turn};
@@ -106,7 +107,8 @@ impl Network {
             unreachable!()
         };
         let rules = self.outgoing.rules(self.alloc, number)?;
-        self.exits.begin(&me, &peer.words, peer.session, rules, journal)?;
+        self.exits
+            .begin(&me, &peer.words, peer.session, rules, journal)?;
         Ok(())
     }
 
@@ -162,6 +164,7 @@ impl Network {
         let Some(reader) = &mut self.reader else {
             return Ok(Done::Nothing);
         };
+        a_stranger_reads();
         let Some(change) = self.exits.take(reader)? else {
             return Ok(Done::Nothing);
         };

@@ -2,6 +2,7 @@
 
 ghost use Rattle.router_core.specs.Laws.{FirstStands, LinksAtRestAreExact};
 
+use exit_side::laws::exact_without_work;
 use rib_tree::a_new_tree_stands;
 
 /// What holds between two steps holds before the first.
@@ -11,7 +12,9 @@ pub fn first_moment_stands()
     a_new_tree_stands();
 }
 
-/// At any moment each link that no work holds up is what the live state alone asks for.
+/// At any moment where each peer that is up has an exit, each link that no work holds up is what the live state alone asks for.
 pub fn links_at_rest_are_exact()
     ensures { LinksAtRestAreExact }
-{}
+{
+    exact_without_work();
+}

@@ -3,10 +3,10 @@
 ghost use Rattle.std.specs.Prelude.{◌≡◌, ◌+◌, ◌*◌, IfOk};
 ghost use Rattle.router_core.specs.Moments.{first_moment, bound_of};
 
-use addr4::Memory;
-use event_text::Declared;
 use crate::exits::Policies;
 use crate::peers::PLAIN;
+use addr4::Memory;
+use event_text::Declared;
 use exit_side::Exits;
 use fanout_queue::Reader;
 use hop_side::NextHops;
@@ -80,7 +80,13 @@ impl Network {
         let peers = plus(self.declared.peers().len() as u128, 2)?;
         let rows = plus(self.chains.rows()?, self.tree.rows())?;
         let hops = times(2, self.hops.known()?)?;
-        let bound = times(peers, plus(plus(plus(times(9, rows)?, hops)?, self.exits.most_unread())?, 6)?)?;
+        let bound = times(
+            peers,
+            plus(
+                plus(plus(times(9, rows)?, hops)?, self.exits.most_unread())?,
+                6,
+            )?,
+        )?;
         Ok(bound)
     }
 }

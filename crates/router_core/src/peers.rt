@@ -7,7 +7,7 @@ ghost use Rattle.peer_side.specs.Peers.{chain_at};
 ghost use Rattle.live_state.specs.Messages.{Says};
 ghost use Rattle.event_text.specs.WellFormed.{IsWellFormed};
 ghost use Rattle.router_core.specs.Stands.{Stands};
-ghost use Rattle.router_core.specs.Blocks.{begin_line, rib_begins};
+ghost use Rattle.router_core.specs.Blocks.{begin_line, first_begins};
 ghost use Rattle.journal_text.specs.Journals.{with_lines};
 ghost use Rattle.router_core.specs.Peers.{is_up};
 ghost use Rattle.bgp_wire.specs.Notices.{HasShortNotice};
@@ -18,6 +18,7 @@ use addr4::Memory;
 use bgp_attr::{Profile, Speaker};
 use bgp_wire::{Message, read_message};
 use event_text::DeclaredPeer;
+use exit_side::laws::a_stranger_reads;
 use in_chain::Chain;
 use journal_text::{Entry, Journal, Line, Link};
 use policy_rules::Rules;
@@ -42,6 +43,7 @@ impl Network {
         requires formed { IsWellFormed (events.Local words) }
         ensures { OnOk result (Pushes (HasStepped self.old (events.Local words) 0 self.new) journal.old journal.new) }
     {
+        a_stranger_reads();
         self.declared.set_speaker(words);
         begin_rib(journal)?;
         self.begin_reading(journal)?;
@@ -114,9 +116,9 @@ impl Network {
     }
 }
 
-/// The links that begin with `local`.
+/// The links of interior routes, and `best`.
 fn begin_rib(journal: &mut Journal) -> Result<(), Memory>
-    ensures { OnOk result (journal.new ≡ with_lines journal.old rib_begins) }
+    ensures { OnOk result (journal.new ≡ with_lines journal.old first_begins) }
 {
     let links = [
         Link::Org(Proto::Connected),

@@ -146,7 +146,8 @@ impl Network {
     }
 
     fn idle_turns(&mut self, journal: &mut Journal) -> Result<u128, Memory>
-        requires { Stands self.old }
+        requires stands { Stands self.old }
+        requires exits { AllHaveExits self.old }
         ensures { IfOk result (λ turns. Gives (HasStepped self.old events.Idle turns self.new) journal.old journal.new) }
     {
         let idle = self.idle(journal)?;
@@ -244,7 +245,8 @@ impl Network {
 
     /// Every task runs to its end.
     pub(crate) fn idle(&mut self, journal: &mut Journal) -> Result<Idle, Memory>
-        requires { Stands self.old }
+        requires stands { Stands self.old }
+        requires exits { AllHaveExits self.old }
         ensures { IfOk result (λ idle. Gives (HasIdled self.old idle self.new) journal.old journal.new) }
     {
         let bound = self.bound()?;

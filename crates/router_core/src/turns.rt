@@ -3,7 +3,7 @@
 ghost use Rattle.std.specs.Prelude.{◌≡◌, IfOk, IfNone, option_map};
 ghost use Rattle.journal_text.specs.declared.link.Task.TheVariants as tasks;
 ghost use Rattle.router_core.specs.Moments.{Gives};
-ghost use Rattle.router_core.specs.Stands.{Stands};
+ghost use Rattle.router_core.specs.Stands.{Stands, AllHaveExits};
 ghost use Rattle.router_core.specs.Phases.{counts};
 ghost use Rattle.router_core.specs.Turns.{next_task};
 ghost use Rattle.router_core.specs.Works.{Comes, AreTurns, HasDrained, HaveDrained, AllHaveDrained};
@@ -11,6 +11,7 @@ ghost use Rattle.router_core.specs.Works.{Comes, AreTurns, HasDrained, HaveDrain
 use crate::network::{Network, plus};
 use crate::router::{Done, Phase};
 use addr4::Memory;
+use exit_side::laws::exact_without_work;
 use in_chain::turns_are_bounded;
 use journal_text::{Journal, Task};
 
@@ -96,12 +97,21 @@ impl Network {
 
     /// Phase after phase, each to its end.
     pub(crate) fn drain_all(&mut self, journal: &mut Journal) -> Result<u128, Memory>
-        requires { Stands self.old }
+        requires stands { Stands self.old }
+        requires exits { AllHaveExits self.old }
         ensures { IfOk result (λ turns. Gives (AllHaveDrained self.old turns self.new) journal.old journal.new) }
     {
         turns_are_bounded();
+        exact_without_work();
         journal.flush()?;
-        let phases = [Phase::Rdel, Phase::Del, Phase::Fin, Phase::Nh, Phase::ReadRib, Phase::Out];
+        let phases = [
+            Phase::Rdel,
+            Phase::Del,
+            Phase::Fin,
+            Phase::Nh,
+            Phase::ReadRib,
+            Phase::Out,
+        ];
         let mut turns = 0;
         for i in 0..phases.len() {
             turns = plus(turns, self.drain(phases[i], journal)?)?;

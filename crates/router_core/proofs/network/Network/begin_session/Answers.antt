@@ -1,17 +1,26 @@
+use Rattle.std.proofs.Common.{◌∙◌, [], sym, ◌∷◌}
 use Rattle.std.proofs.lemmas.Result.{on_ok_weaker}
 use Rattle.journal_text.specs.declared.line.Line.TheVariants as lines
-use Rattle.std.proofs.Common.{◌∙◌, [], subst, sym, ◌∷◌}
-use Rattle.event_text.specs.declared.event.Event.TheVariants as events
-use Rattle.router_core.specs.Moments.{Moment}
-use Rattle.router_core.proofs.PeerLemmas.{begun_is, begun_stepped, ignored_stepped}
-use Rattle.journal_laws.proofs.ShownRows.{with_none}
+use Rattle.router_core.proofs.PeerLemmas.{begun_is, ignored_stepped}
+use Rattle.router_core.proofs.SessionLemmas.{session_begun, begins_there, begins_absent, begins_sender, begins_sound}
 use Rattle.router_core.proofs.network.Network.begin_session.Goals as goal
-use Rattle.router_core.specs.Works.{HasStepped}
+
+pub begin_exit-requires-clause-sound : goal.begin_exit-requires-clause-sound
+begin_exit-requires-clause-sound c = begins_sound c.args.number c.args.self.now _ c.requires.stands (begun_is c.args.self.now _ c.args.number c.begin_session.new.self c.self.view_is c.begin_session.ensures.value)
+
+pub begin_exit-requires-clause-sender : goal.begin_exit-requires-clause-sender
+begin_exit-requires-clause-sender c = begins_sender c.args.number c.args.self.now _ c.requires.stands c.requires.admitted (begun_is c.args.self.now _ c.args.number c.begin_session.new.self c.self.view_is c.begin_session.ensures.value)
+
+pub begin_exit-requires-clause-there : goal.begin_exit-requires-clause-there
+begin_exit-requires-clause-there c = begins_there c.args.number c.args.self.now _ c.requires.admitted (begun_is c.args.self.now _ c.args.number c.begin_session.new.self c.self.view_is c.begin_session.ensures.value)
+
+pub begin_exit-requires-clause-absent : goal.begin_exit-requires-clause-absent
+begin_exit-requires-clause-absent c = begins_absent c.args.number c.args.self.now _ c.requires.stands c.requires.admitted (sym c.is_up.ensures ∙ c.if-is_up.false) (begun_is c.args.self.now _ c.args.number c.begin_session.new.self c.self.view_is c.begin_session.ensures.value)
 
 pub returns : goal.returns
 returns c =
-    let is = begun_is c.args.self.now _ c.args.number c.begin_session.new.self c.self.view_is c.begin_session.ensures.value in
-    ([], with_none c.args.journal.now, subst (λ (n : Moment). HasStepped c.args.self.now (events.Up c.args.number) 0 n []) (sym is) (begun_stepped c.args.self.now c.args.number c.requires.stands c.requires.admitted (sym c.is_up.ensures ∙ c.if-is_up.false)))
+    session_begun c.args.number c.args.self.now _ c.begin_exit.new.self c.args.journal.now c.begin_exit.new.journal c.requires.stands c.requires.admitted (sym c.is_up.ensures ∙ c.if-is_up.false)
+    (begun_is c.args.self.now _ c.args.number c.begin_session.new.self c.self.view_is c.begin_session.ensures.value) c.in_ok-begin_exit.ensures
 
 pub returns-then-is_up : goal.returns-then-is_up
 returns-then-is_up c =

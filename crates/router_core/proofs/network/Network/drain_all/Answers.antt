@@ -5,7 +5,7 @@ use Rattle.router_core.proofs.RunLemmas.{Idling, idling_none, idling_more, idlin
 use Rattle.router_core.proofs.network.Network.drain_all.Goals as goal
 
 pub loop-i-init : goal.loop-i-init
-loop-i-init c = idling_none c.args.self.now c.args.journal.now c.flush.new.self c.requires c.in_ok-flush.ensures.ok
+loop-i-init c = idling_none c.args.self.now c.args.journal.now c.flush.new.self c.requires.stands c.in_ok-flush.ensures.ok
 
 pub loop-i-preserved : goal.loop-i-preserved
 loop-i-preserved c =
@@ -15,5 +15,5 @@ loop-i-preserved c =
 
 pub returns : goal.returns
 returns c =
-    idling_done c.turns_are_bounded.ensures.bounded c.turns_are_bounded.ensures.left c.loop-i.i c.loop-i.turns c.args.self.now c.loop-i.self c.args.journal.now c.loop-i.journal c.requires
+    idling_done c.turns_are_bounded.ensures.bounded c.turns_are_bounded.ensures.left c.exact_without_work.ensures c.loop-i.i c.loop-i.turns c.args.self.now c.loop-i.self c.args.journal.now c.loop-i.journal c.requires.stands c.requires.exits
     c.loop-i-test.false c.loop-i.invariant

@@ -5,7 +5,11 @@ use Rattle.router_core.specs.Blocks.{Shows}
 use Rattle.router_core.specs.Works.{HasStepped}
 use Rattle.router_core.proofs.KeepLemmas.{gives_pushed}
 use Rattle.router_core.proofs.ShownRows.{show_stepped}
+use Rattle.router_core.proofs.ReadLemmas.{have_readers}
 use Rattle.router_core.proofs.network.Network.list.Goals as goal
+
+pub show-requires : goal.show-requires
+show-requires c = have_readers c.args.self.now c.requires
 
 pub returns : goal.returns
 returns c =

@@ -3,7 +3,11 @@ use Rattle.journal_text.specs.Journals.{flushed}
 use Rattle.router_core.specs.Moments.{router_links}
 use Rattle.router_core.specs.Blocks.{answer_lines}
 use Rattle.router_core.proofs.ShownRows.{ask_stepped}
+use Rattle.router_core.proofs.ReadLemmas.{have_readers}
 use Rattle.router_core.proofs.network.Network.look_up.Goals as goal
+
+pub ask-requires : goal.ask-requires
+ask-requires c = have_readers c.args.self.now c.requires
 
 pub returns : goal.returns
 returns c =

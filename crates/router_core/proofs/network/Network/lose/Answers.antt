@@ -1,12 +1,24 @@
 use Rattle.std.proofs.Common.{refl}
+use Rattle.router_core.specs.contracts.network.Network.{the_view}
+use Rattle.router_core.proofs.HopTurns.{exits_sound}
 use Rattle.router_core.proofs.StandLemmas.{chain_is_there}
-use Rattle.router_core.proofs.LossLemmas.{lost_all}
+use Rattle.router_core.proofs.LossLemmas.{lost_all, silenced_stands, room_silent}
 use Rattle.router_core.proofs.network.Network.lose.Goals as goal
 
+pub end-requires-clause-sound : goal.end-requires-clause-sound
+end-requires-clause-sound c = exits_sound c.args.self.now _ c.self.view_is c.requires.stands
+
+pub make_room-requires-clause-stands : goal.make_room-requires-clause-stands
+make_room-requires-clause-stands c = silenced_stands c.args.number c.args.self.now (the_view c.self.inside) c.end.new.self c.in_ok-end.ensures.0 c.self.view_is c.requires.stands c.in_ok-end.ensures.2
+
 pub make_room-requires-clause-there : goal.make_room-requires-clause-there
-make_room-requires-clause-there c = chain_is_there c.args.self.now c.args.self.now refl c.requires.stands c.args.number c.requires.up.0 c.requires.up.1
+make_room-requires-clause-there c = chain_is_there c.args.self.now (the_view c.self.inside) c.self.view_is c.requires.stands c.args.number c.requires.up.0 c.requires.up.1
+
+pub lose_with_room-requires-clause-silent : goal.lose_with_room-requires-clause-silent
+lose_with_room-requires-clause-silent c =
+    room_silent c.args.number (the_view c.self.inside) c.make_room.new.self c.end.new.self c.in_ok-end.ensures.0 c.end.new.journal c.make_room.new.journal c.in_ok-end.ensures.2 c.in_ok-make_room.ensures
 
 pub returns : goal.returns
 returns c =
-    lost_all c.args.number c.args.session c.args.self.now c.make_room.new.self c.lose_with_room.new.self c.args.journal.now c.make_room.new.journal c.lose_with_room.new.journal c.flush.new.self
-    c.in_ok-make_room.ensures c.in_ok-lose_with_room.ensures c.in_ok-flush.ensures.ok
+    lost_all c.args.number c.args.session c.args.self.now (the_view c.self.inside) c.make_room.new.self c.lose_with_room.new.self c.end.new.self c.args.journal.now c.end.new.journal c.make_room.new.journal c.lose_with_room.new.journal c.flush.new.self
+    c.self.view_is c.requires.stands c.in_ok-end.ensures c.in_ok-make_room.ensures c.in_ok-lose_with_room.ensures c.in_ok-flush.ensures.ok

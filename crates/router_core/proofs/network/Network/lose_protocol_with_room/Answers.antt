@@ -2,7 +2,8 @@ use Rattle.router_core.specs.Stands.{InteriorTree, Stands}
 use Rattle.rib_tree.specs.Trees.{IsTree, IsFull}
 use Rattle.std.proofs.Common.{◌≡◌, None, IsSome, subst, sym}
 use Rattle.rib_tree.specs.Steps.{tree_overdue}
-use Rattle.router_core.specs.Moments.{Moment}
+use Rattle.router_core.specs.Moments.{Moment, with_tree}
+use Rattle.router_core.specs.contracts.network.Network.{the_view}
 use Rattle.router_core.specs.Works.{Pushes, EndsProtocol}
 use Rattle.router_core.proofs.ProtocolLosses.{protocol_ended}
 use Rattle.router_core.proofs.network.Network.lose_protocol_with_room.Goals as goal
@@ -15,8 +16,8 @@ lose-requires-clause-full c = subst (λ (m : Moment). IsFull m.tree) (sym c.self
 
 pub returns : goal.returns
 returns c =
-    let old : Moment = record { declared = c.self.inside.declared; tree = c.self.inside.tree; registry = c.self.inside.registry; chains = c.self.inside.chains; hops = c.self.inside.hops } in
-    let new : Moment = record { declared = c.self.inside.declared; tree = c.lose.new.self; registry = c.self.inside.registry; chains = c.self.inside.chains; hops = c.self.inside.hops } in
+    let old : Moment = the_view c.self.inside in
+    let new : Moment = with_tree (the_view c.self.inside) c.lose.new.self in
     subst (λ (m : Moment). Pushes (EndsProtocol c.args.proto m new) c.args.journal.now c.lose.new.journal) c.self.view_is
     (protocol_ended c.args.proto old c.lose.new.self c.args.journal.now c.lose.new.journal (subst Stands (sym c.self.view_is) c.requires.stands)
     (subst (λ (m : Moment). tree_overdue c.args.proto m.tree ≡ None) (sym c.self.view_is) c.requires.free) (subst (λ (m : Moment). IsSome m.declared.speaker) (sym c.self.view_is) c.requires.since)

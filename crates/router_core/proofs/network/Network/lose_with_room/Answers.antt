@@ -10,5 +10,5 @@ lose-requires-clause-may c = may_lose c.args.number c.args.session c.args.self.n
 
 pub returns : goal.returns
 returns c =
-    one_ended c.args.number c.args.session c.args.self.now _ c.end_session.new.self c.lose.new.self c.args.journal.now c.lose.new.journal c.self.view_is c.requires.stands c.requires.up
+    one_ended c.args.number c.args.session c.args.self.now _ c.end_session.new.self c.lose.new.self c.args.journal.now c.lose.new.journal c.self.view_is c.requires.stands c.requires.up c.requires.silent
     c.end_session.ensures.value c.in_ok-lose.ensures

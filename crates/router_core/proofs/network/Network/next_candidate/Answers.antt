@@ -12,15 +12,15 @@ returns-in-Inward c =
 pub returns-in-InteriorRoutes : goal.returns-in-InteriorRoutes
 returns-in-InteriorRoutes c =
     next_rib c.args.self.now _ c.args.link (key_of c.args.after) c.next_candidate-in-InteriorRoutes.result c.self.view_is (in_region c.args.self.now c.args.link InteriorRoutes (sym c.region_of.ensures ∙ c.in-InteriorRoutes.is))
-    c.requires c.next_candidate-in-InteriorRoutes.ensures
+    c.requires.live c.next_candidate-in-InteriorRoutes.ensures
 
 pub returns-in-Forward : goal.returns-in-Forward
 returns-in-Forward c =
     next_rib c.args.self.now _ c.args.link (key_of c.args.after) c.next_candidate-in-Forward.result c.self.view_is (in_region c.args.self.now c.args.link Forward (sym c.region_of.ensures ∙ c.in-Forward.is))
-    c.requires c.next_candidate-in-Forward.ensures
+    c.requires.live c.next_candidate-in-Forward.ensures
 
 pub returns-in-Resolved : goal.returns-in-Resolved
 returns-in-Resolved c = next_res c.args.self.now c.args.self.now c.args.link (key_of c.args.after) c.next_resolved.result refl (sym c.region_of.ensures ∙ c.in-Resolved.is) c.next_resolved.ensures
 
 pub returns-in-Decided : goal.returns-in-Decided
-returns-in-Decided c = next_best c.args.self.now c.args.link (key_of c.args.after) c.next_best.result _ (sym c.region_of.ensures ∙ c.in-Decided.is) c.requires c.next_best.ensures.next c.next_best.ensures.covers
+returns-in-Decided c = next_best c.args.self.now c.args.link (key_of c.args.after) c.next_best.result _ (sym c.region_of.ensures ∙ c.in-Decided.is) c.requires.live c.next_best.ensures.next c.next_best.ensures.covers

@@ -12,6 +12,7 @@ use Rattle.router_core.specs.Works.{Pushes, HasRouted}
 use Rattle.router_core.proofs.HopTurns.{hops_sound}
 use Rattle.router_core.proofs.RouteLemmas.{routed}
 use Rattle.router_core.proofs.network.Network.route.Goals as goal
+use Rattle.router_core.specs.contracts.network.Network.{the_view}
 
 pub feed-requires-clause-tree : goal.feed-requires-clause-tree
 feed-requires-clause-tree c = subst (λ (m : Moment). IsTree m.tree) (sym c.self.view_is) (c.requires.stands.own InteriorTree).tree
@@ -33,7 +34,7 @@ settle-requires-in-Some-clause-hops c = hops_sound c.args.self.now _ c.self-in-S
 
 pub returns-in_ok-settle-in-None : goal.returns-in_ok-settle-in-None
 returns-in_ok-settle-in-None c =
-    let old : Moment = record { declared = c.self.inside.declared; tree = c.self.inside.tree; registry = c.self.inside.registry; chains = c.self.inside.chains; hops = c.self.inside.hops } in
+    let old : Moment = the_view c.self.inside in
     let k = c.args.proto in
     let p = c.args.p in
     subst (λ (m : Moment). Pushes (HasRouted m (fed_tree m.tree k p c.args.new) k p (way_of_route k m.tree) (interior_fed (live_state m) k (live_after (branch_of k m.tree).tables.live p c.args.new)) c.settle.new.self) c.args.journal.now c.settle.new.journal)
@@ -44,7 +45,7 @@ returns-in_ok-settle-in-None c =
 
 pub returns-in_ok-settle-in-Some : goal.returns-in_ok-settle-in-Some
 returns-in_ok-settle-in-Some c =
-    let old : Moment = record { declared = c.self-in-Some.inside.declared; tree = c.self-in-Some.inside.tree; registry = c.self-in-Some.inside.registry; chains = c.self-in-Some.inside.chains; hops = c.self-in-Some.inside.hops } in
+    let old : Moment = the_view c.self-in-Some.inside in
     let k = c.args.proto in
     let p = c.args.p in
     subst (λ (m : Moment). Pushes (HasRouted m (fed_tree m.tree k p c.args.new) k p (way_of_route k m.tree) (interior_fed (live_state m) k (live_after (branch_of k m.tree).tables.live p c.args.new)) c.settle-in-Some.new.self) c.args.journal.now c.settle-in-Some.new.journal)

@@ -25,5 +25,5 @@ pub returns : goal.returns
 returns c =
     on_ok_weaker c.push_line.result
     (λ last. rows_end c.args.link (router_links c.args.self.now c.args.link) (key_of c.rows.place) c.rows.count c.args.journal.now c.rows.journal c.push_line.new.self
-    (omega arith) c.requires c.in_default.ensures c.rows.invariant.given last)
+    (omega arith) c.requires.live c.in_default.ensures c.rows.invariant.given last)
     c.push_line.ensures

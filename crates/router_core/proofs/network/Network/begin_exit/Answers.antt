@@ -1,0 +1,9 @@
+use Rattle.std.proofs.Common.{ℕ, None, ◌≡◌, sym, ap, ◌∙◌}
+use Rattle.exit_side.specs.Exits.{chain_at as exit_at}
+use Rattle.router_core.specs.Moments.{Moment}
+use Rattle.router_core.proofs.SessionLemmas.{number_at}
+use Rattle.router_core.proofs.network.Network.begin_exit.Goals as goal
+
+pub begin-requires-clause-absent : goal.begin-requires-clause-absent
+begin-requires-clause-absent c =
+    ap (λ (n : ℕ). exit_at n c.self.inside.exits) (number_at c.args.number c.self.inside.declared.peers c.in-Some-peer.peer (sym c.in-Some-peer.ensures)) ∙ ap (λ (x : Moment). exit_at c.args.number x.exits) c.self.view_is ∙ c.requires.absent

@@ -1,0 +1,11 @@
+use Rattle.router_core.specs.contracts.network.Network.{the_view}
+use Rattle.router_core.proofs.HopTurns.{exits_sound}
+use Rattle.router_core.proofs.SessionLemmas.{outgoing_edited}
+use Rattle.router_core.proofs.network.Network.edit_outgoing.Goals as goal
+
+pub edit-requires : goal.edit-requires
+edit-requires c = record { sound = exits_sound c.args.self.now _ c.self.view_is c.requires.stands }
+
+pub returns : goal.returns
+returns c =
+    outgoing_edited c.args.self.now (the_view c.self.inside) c.args.number c.args.rules c.in_ok-copy.field-0 c.set.new.self c.edit.new.self c.self.view_is c.requires.stands c.in_ok-copy.ensures c.in_ok-set.ensures c.edit.ensures

@@ -1,0 +1,8 @@
+use Rattle.addr4.specs.Places.{key_of}
+use Rattle.router_core.specs.contracts.network.Network.{the_view}
+use Rattle.router_core.proofs.ReadLemmas.{read_next}
+use Rattle.router_core.proofs.network.Network.next_read.Goals as goal
+
+pub returns : goal.returns
+returns c =
+    read_next c.args.self.now (the_view c.self.inside) _ _ c.self.view_is c.lent-lent.ensures.chains c.lent-lent.ensures.hops c.in-Some.reader (key_of c.args.after) c.next_read.result _ c.in-Some.is c.next_read.ensures.next c.next_read.ensures.covers

@@ -1,0 +1,10 @@
+use Rattle.std.proofs.Common.{subst, IfOk}
+use Rattle.journal_text.specs.declared.value.Value.{Value}
+use Rattle.journal_text.specs.Walk.{Links, HasRow}
+use Rattle.router_core.specs.contracts.network.Network.{the_view}
+use Rattle.router_core.proofs.ReadLemmas.{sent_links}
+use Rattle.router_core.proofs.network.Network.sent.Goals as goal
+
+pub returns : goal.returns
+returns c =
+    subst (λ (l : Links Value). IfOk c.asked.result (HasRow l c.args.link c.args.p)) (sent_links c.args.self.now (the_view c.self.inside) _ _ c.self.view_is c.lent-lent.ensures.chains c.lent-lent.ensures.hops) c.asked.ensures
