@@ -1,5 +1,5 @@
 -- Sessions that begin and end, the rules of outgoing filters, and what reads `best` from `local` on.
-use Rattle.std.proofs.Common.{◌≡◌, ◌≢◌, ℕ, ◌+◌, ◌*◌, ◌<◌, ◌≤◌, ◌^◌, nat_eq, nat_le, ◌/◌, ◌==◌, Bool, true, false, not, ◌&&◌, cond, List, [], ◌∷◌, ◌++◌, map, Option, Some, None, is_some, IsSome, refl, sym, ap, subst, ◌∙◌, arith}
+use Rattle.std.proofs.Common.{◌≡◌, ℕ, ◌+◌, nat_eq, nat_le, ◌/◌, ◌==◌, Bool, true, false, not, ◌&&◌, cond, List, [], ◌∷◌, Option, Some, None, is_some, IsSome, refl, sym, ap, subst, ◌∙◌, arith}
 use Rattle.std.proofs.lemmas.Bool.Decides.{nat_tests}
 use Rattle.std.specs.Prelude.{option_map}
 use Rattle.std.specs.FinMap as tables
@@ -10,19 +10,17 @@ use Rattle.out_chain.specs.Steps.{new_out, exit_to, with_rules as with_rules_out
 use Rattle.bgp_wire.specs.Attributes.{is_no_host}
 use Rattle.std.specs.Ordering.{nat_cmp, eq_by_cmp}
 use Rattle.std.specs.Cmp.{nat_cmp_total}
-use Rattle.addr4.specs.Prefixes.{Network}
 use Rattle.bgp_attr.specs.declared.route.Route.{Route}
 use Rattle.bgp_attr.specs.declared.speaker.Profile.{Profile}
 use Rattle.bgp_attr.specs.declared.speaker.Speaker.{Speaker}
 use Rattle.bgp_attr.specs.Speakers.{IsSpeaker}
 use Rattle.link_change.specs.Rows.{Rows}
 use Rattle.policy_rules.specs.declared.rule.Rule.{Rule}
-use Rattle.pass_core.specs.Passed.{Walked, Passed, present, edited}
+use Rattle.pass_core.specs.Passed.{Walked, present, edited}
 use Rattle.journal_text.specs.declared.link.Link.{Link}
 use Rattle.journal_text.specs.declared.link.Link.TheVariants.{Best, ReadRib, Read, Outf, Adv}
 use Rattle.journal_text.specs.declared.entry.Entry.{Entry}
 use Rattle.journal_text.specs.declared.value.Value.{Value}
-use Rattle.journal_text.specs.declared.line.Line.{Line}
 use Rattle.journal_text.specs.Journals.{Journaled, Adds}
 use Rattle.journal_text.specs.Texts.{entries_of}
 use Rattle.journal_text.specs.Values.{route_rows}
@@ -32,34 +30,31 @@ use Rattle.journal_text.proofs.WalkLemmas.{leads_nowhere}
 use Rattle.journal_laws.specs.Peers.{neighbours}
 use Rattle.event_text.specs.declared.declared.DeclaredPeer.{DeclaredPeer}
 use Rattle.event_text.specs.declared.event.Event.TheVariants as events
-use Rattle.event_text.specs.Declarations.{Declaration, peer_at, begun_at, with_session, refusal, refusal_at, rules_refusal, session_refusal}
+use Rattle.event_text.specs.Declarations.{Declaration, peer_at, begun_at, with_session, refusal, refusal_at, session_refusal}
 use Rattle.fanout_queue.specs.Queues.{Queued, AllLead}
 use Rattle.fanout_queue.proofs.LeadLemmas.{join_keeps_leading, drop_keeps_leading}
 use Rattle.peer_out.specs.Changes.{IsSender}
 use Rattle.out_chain.specs.Chains.{OutChained, RowsMayBeHeard}
-use Rattle.exit_side.specs.Exits.{Exited, OutChains, chain_at as exit_at, with_exit, without_exit, with_queue, exit_links, IsExits, AllStand}
-use Rattle.exit_side.specs.Steps.{is_exit, LeadsExits, LeadsWithBest, BeginsExit, EndsExit, EditsExit, edited_by}
-use Rattle.exit_side.specs.Laws.{AreAmong, IsStranger, KeepsStranger}
+use Rattle.exit_side.specs.Exits.{Exited, chain_at as exit_at, with_exit, without_exit, exit_links, IsExits, AllStand}
+use Rattle.exit_side.specs.Steps.{is_exit, LeadsExits, BeginsExit, EndsExit, EditsExit, edited_by}
+use Rattle.exit_side.specs.Laws.{AreAmong, KeepsStranger}
 use Rattle.exit_side.proofs.LawLemmas.{leads_anywhere, leads_anywhere_with_best}
 use Rattle.exit_side.proofs.StrangerLemmas.{begin_keeps, end_keeps, edit_keeps}
-use Rattle.exit_laws.specs.Views.{views_of}
 use Rattle.exit_laws.proofs.ViewLemmas.{beginning_is_heard, end_is_heard, edit_keeps_views}
 use Rattle.link_region.proofs.RegionLemmas.{by_bool}
-use Rattle.loss_chain.proofs.TableLemmas.{equal_by, same_by, other_by, no_table}
-use Rattle.live_state.specs.Heard.{Hears}
-use Rattle.live_state.specs.Lives.{LiveState, with_rules, begun_if_down}
+use Rattle.loss_chain.proofs.TableLemmas.{equal_by, same_by}
+use Rattle.live_state.specs.Lives.{with_rules, begun_if_down}
 use Rattle.router_core.specs.Bests.{best_at, best_links}
-use Rattle.router_core.specs.Moments.{Moment, Policies, plain, with_exits, read_by, read_links, router_links, rules_to, rules_by}
+use Rattle.router_core.specs.Moments.{Moment, Policies, plain, with_exits, read_by, router_links, rules_to, rules_by}
 use Rattle.router_core.specs.Lives.{live_state}
-use Rattle.router_core.specs.Stands.{Stands, Claim, Claims, EachExit, QueueLeads, ExitsRead, PlainExits, OneSender, SameSessions, OneReader, EachRow, OneSpeaker, InteriorTree, MaySend, IsExitOf, ExitsAt, ReadsAs, ReadsOn, AllHaveExits}
+use Rattle.router_core.specs.Stands.{Stands, Claim, Claims, EachExit, QueueLeads, ExitsRead, PlainExits, OneSender, SameSessions, OneReader, EachRow, MaySend, IsExitOf, ExitsAt, ReadsAs, ReadsOn}
 use Rattle.router_core.specs.Turns.{journal_lines}
-use Rattle.router_core.specs.Blocks.{begun, ByPeer, BeginsIf, BySpeaker, Begins, Redirects}
+use Rattle.router_core.specs.Blocks.{begun, ByPeer, BeginsIf, BySpeaker, Begins}
 use Rattle.router_core.specs.Peers.{is_up}
 use Rattle.router_core.specs.Works.{Keeps, HasStepped, BeginsSession, SendsAs, Pushes}
-use Rattle.router_core.specs.Printable.{IsHeard}
 use Rattle.router_core.proofs.HeardRows.{heard_best}
 use Rattle.router_core.proofs.HeardSteps.{heard_quiet}
-use Rattle.router_core.proofs.QueueLemmas.{exits_none, none_before, exit_of, no_exit_down}
+use Rattle.router_core.proofs.QueueLemmas.{exits_none, no_exit_down}
 use Rattle.router_core.proofs.PeerLemmas.{begun_stands, may_begin, peer_at_map}
 use Rattle.event_text.proofs.Sessions.{begun_words}
 

@@ -1,11 +1,10 @@
 -- What a turn spends, of its phase and of an idle from that phase on: where a change of `best` may come, one candidate fewer is left.
-use Rattle.std.proofs.Common.{◌≡◌, ◌≢◌, ℕ, ◌+◌, ◌*◌, ◌<◌, ◌≤◌, ◌⊎◌, Bool, true, false, nat_lt, List, [], ◌∷◌, length, Option, Some, None, is_some, refl, sym, ap, subst, ◌∙◌, inl, inr, arith}
+use Rattle.std.proofs.Common.{◌≡◌, ◌≢◌, ℕ, ◌+◌, ◌*◌, ◌<◌, ◌≤◌, ◌⊎◌, Bool, true, false, nat_lt, List, [], ◌∷◌, Option, Some, None, is_some, refl, sym, ap, subst, ◌∙◌, inl, inr, arith}
 use Rattle.std.specs.List.{AllByRecursion, sum_by}
 use Rattle.std.specs.Option.{option_map}
 use Rattle.std.proofs.lemmas.Bool.Decides.{nat_tests}
 use Rattle.link_region.proofs.RegionLemmas.{by_bool}
 use Rattle.std.specs.FinMap as tables
-use Rattle.std.specs.FinMap.{FinMap}
 use Rattle.std.specs.Ordering.{nat_cmp}
 use Rattle.std.specs.Cmp.{nat_cmp_total}
 use Rattle.std.proofs.lemmas.List.Sums.{sum_by-cons}
@@ -14,7 +13,7 @@ use Rattle.bgp_attr.specs.declared.attrs.Attrs.{Attrs}
 use Rattle.bgp_attr.specs.declared.route.Route.{Route}
 use Rattle.link_change.specs.Rows.{Rows, Candidates}
 use Rattle.link_change.specs.declared.change.Change.{Change}
-use Rattle.loss_chain.specs.Tables.{Tables, tables_count, lost_count}
+use Rattle.loss_chain.specs.Tables.{Tables, tables_count}
 use Rattle.policy_rules.specs.declared.rule.Rule.{Rule}
 use Rattle.pass_core.specs.Passed.{Passed, Walked, walk_stepped, walk_of_waiting, after_walk}
 use Rattle.pass_core.specs.Turns.{walked_on, IsSentAt}
@@ -35,18 +34,16 @@ use Rattle.rib_route.specs.declared.rows.Interior.{Interior}
 use Rattle.hop_side.specs.Resolvers.{Resolvers, Beyonds, resolver_at, put_resolver, same_metric, left_of, left_in as hops_left_in}
 use Rattle.in_chain.specs.Chains.{Chained, left_beyond, turns_left, waiting_turns, walk_turns}
 use Rattle.in_chain.specs.Steps.{welded, Turned}
-use Rattle.peer_side.specs.Peers.{Chains, chain_at, put_chain, lost_in, left_in, rows_in, peer_of}
-use Rattle.peer_side.specs.Steps.{Nears, TakesInward}
+use Rattle.peer_side.specs.Peers.{Chains, chain_at, put_chain, lost_in, left_in, rows_in}
+use Rattle.peer_side.specs.Steps.{Nears}
 use Rattle.peer_side.proofs.MapLemmas.{sum_replaced}
-use Rattle.peer_side.proofs.PutLemmas.{put_size}
 use Rattle.exit_side.specs.Exits.{Exited, OutChains}
 use Rattle.router_core.specs.declared.router.Phase.{Phase}
 use Rattle.router_core.specs.declared.router.Phase.TheVariants as phases
-use Rattle.router_core.specs.Bests.{DecidesOn, Queues}
+use Rattle.router_core.specs.Bests.{Queues}
 use Rattle.router_core.specs.Moments.{Moment, with_hops, with_exits, most_unread}
-use Rattle.router_core.specs.Phases.{beyonds, counts, most_of, tree_lost, earlier, left_from, reading, reading_of, fin_sends, fin_sends_of, walk_candidates, waiting_candidates, nh_sends, nh_sends_of, place_candidates, next_candidates}
+use Rattle.router_core.specs.Phases.{beyonds, counts, most_of, tree_lost, earlier, left_from, fin_sends, fin_sends_of, walk_candidates, waiting_candidates, nh_sends, nh_sends_of, place_candidates, next_candidates}
 use Rattle.router_core.specs.Turns.{phase_of}
-use Rattle.router_core.proofs.BestLemmas.{best_of_none}
 use Rattle.router_core.proofs.QueueLemmas.{queue_chains}
 use Rattle.router_core.proofs.ReadingLemmas.{sent_count, queue_most, reading_less}
 

@@ -1,4 +1,4 @@
-use Rattle.std.proofs.Common.{ℕ, None, ◌≡◌, sym, ap, ◌∙◌}
+use Rattle.std.proofs.Common.{ℕ, sym, ap, ◌∙◌}
 use Rattle.exit_side.specs.Exits.{chain_at as exit_at}
 use Rattle.router_core.specs.Moments.{Moment}
 use Rattle.router_core.proofs.SessionLemmas.{number_at}

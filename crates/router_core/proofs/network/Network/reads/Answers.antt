@@ -1,4 +1,3 @@
-use Rattle.std.proofs.Common.{sym}
 use Rattle.router_core.proofs.ExitTurns.{reader_is, reads_is, reads_nothing}
 use Rattle.router_core.proofs.network.Network.reads.Goals as goal
 

@@ -1,6 +1,6 @@
 use Rattle.std.proofs.Common.{refl}
 use Rattle.router_core.proofs.HopTurns.{exits_sound}
-use Rattle.router_core.proofs.ExitTurns.{exits_stand, exit_took, exit_rests}
+use Rattle.router_core.proofs.ExitTurns.{exits_stand, exit_took}
 use Rattle.router_core.proofs.network.Network.turn_exit.Goals as goal
 
 pub turn-requires-clause-sound : goal.turn-requires-clause-sound
