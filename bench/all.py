@@ -3,9 +3,10 @@
 
 It builds nothing: a program that isn't built is named, and its rows are left out (README.md says how each is built). Rows are
 work, columns are numbers of routes. A figure is CPU seconds of user and system, the median of some runs, and peak memory in
-MiB; behind them stand the seconds beside those of `table` at the same size, and how much longer the greatest size takes than
-the one before it, by route (1.0 would be linear). Real daemons (bird2, frr, openbgpd) are measured in the same run where
-they are installed and the script is root. With `perf` a profile of `table` stands below. All of it goes to a JSON file too.
+MiB (in three rows the memory at that moment, of one run); behind them stand the seconds beside those of `table` at the same
+size, and how much longer the greatest size takes than the one before it, by route (1.0 would be linear). Real daemons (bird2,
+frr, openbgpd) are measured in the same run where they are installed and the script is root. With `perf` a profile of `table`
+stands below. All of it goes to a JSON file too.
 
 Figures of different machines don't compare, nor do those of a busy machine: the load when it began is printed with them.
 """
@@ -30,6 +31,12 @@ def program(name):
     return os.path.join(TOP, 'crates', name, 'out', name)
 
 
+# how many peers there are, where not two, and which share of the routes one announces, where not one of these
+NUMBERS = {'peers': 8, 'best_lost': 8, 'exits': 64}
+SHARES = {'exits': 20}
+# an event that looks at nothing of the queue, and the line that it gives: how far the program has come
+LOOK, LOOKED = b'cover 192.0.2.1\n', b'cover 192.0.2.1 192.0.2.0/24 192.0.2.0/24\n'
+
 # the work of the program: its name, what it reads, and the words
 RUNS = [(kind, kind, ['run', '--quiet']) for kind in events.KINDS] + [('journal', 'table', ['run'])]
 
@@ -40,8 +47,8 @@ def event_files(folder, sizes):
     for kind in events.KINDS:
         for size in sizes:
             files[kind, size] = open(os.path.join(folder, '%s-%d' % (kind, size)), 'w+b')
-            each = size // 8 if kind in ('peers', 'best_lost') else size
-            events.write(kind, each, files[kind, size])
+            number = NUMBERS.get(kind, 1)
+            events.write(kind, size // SHARES.get(kind, number), files[kind, size], number)
     return files
 
 
@@ -60,6 +67,17 @@ def work_of_check(files, sizes, runs, folder):
         measure.once(files['table', size], [replay, 'run'], path)
         with open(path, 'rb') as journal:
             yield 'check', size, measure.median(journal, [replay, 'check'], runs)
+
+
+def work_of_queue(files, sizes):
+    """Memory of a table whose changes nobody has read, when everyone has, and when all routes are gone again."""
+    replay = program('replay_main')
+    for size in sizes:
+        files['table', size].seek(0)
+        lines = files['table', size].readlines()
+        parts = [lines[:-1] + [LOOK], [b'idle\n', LOOK], [b'down 1\n', b'idle\n', LOOK]]
+        for name, seen in zip(('unread', 'read', 'gone'), measure.stops(parts, [replay, 'run', '--quiet'], LOOKED)):
+            yield name, size, seen
 
 
 def work_of_messages(files, sizes, runs):
@@ -147,6 +165,7 @@ def collect(asked, sizes, folder):
     files = event_files(folder, sizes)
     kinds = [('replay_main', work_of_the_program(files, sizes, asked.runs)),
              ('replay_main', work_of_check(files, sizes, asked.runs, folder)),
+             ('replay_main', work_of_queue(files, sizes)),
              ('bench_messages', work_of_messages(files, sizes, asked.runs)),
              ('bench_tables', work_of_tables(sizes, asked.runs)),
              ('bench_exits', work_of_exits(sizes, asked.runs))]

@@ -3,8 +3,8 @@
 A daemon runs in a network namespace of its own, with one interface and no routes of the kernel; beside it two speakers of this
 script: AS 65001 sends the table, AS 65002 receives it. CPU is user and system time of all the daemon's processes, from its
 start until the receiver has every prefix (and then from the sender's loss until it has every withdrawal); memory is the
-sum of their peak resident sets. Needs root and `ip netns`. A daemon packs prefixes into an UPDATE, decides, and runs a filter
-that accepts all: it does more than this program does so far.
+sum of their peak resident sets. Needs root and `ip netns`. A daemon decides, runs a filter that accepts all, and packs prefixes
+of equal attributes into one UPDATE.
 """
 import ctypes
 import os

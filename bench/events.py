@@ -2,9 +2,13 @@
 """Writes an event file: events.py KIND [--routes 200000] [--peers 8] > FILE
 
 Kinds:
-  table     peer 1 announces so many different prefixes, about five an UPDATE; then `idle`
+  table     peer 1 announces so many different prefixes, about five an UPDATE; then `idle`, and peer 2 is sent them
+  alone     the same, but peer 2 is down: nothing is sent
+  rejected  the same as table, but a rule rejects every route that peer 2 would be sent
+  paced     the same as table, but behind each message all that it causes is read and sent: nobody falls behind
   edit      the same, then a rule for peer 1's incoming filter that changes every route, and `idle`
-  loss      the same as table, then the session is lost, and `idle` deletes every route
+  loss      the same as table, then peer 1's session is lost, and `idle` deletes every route, also from peer 2
+  rules     the same as table, then a rule for peer 2's outgoing filter that changes every route, and `idle`
   interior  `route add` of so many different prefixes, half of them static and half of ospf; then `idle`
   lost      the same, then ospf is lost, and `idle` deletes its routes
   hops      the same as table over 1,000 next hops, each with an ospf route of its own
@@ -12,6 +16,7 @@ Kinds:
   moved     the same as hops, then the route to one next hop has another metric, and `idle`: a walk over every route
   peers     so many peers announce the same prefixes, peer 1 by the shorter path; then `idle`
   best_lost the same, then peer 1's session is lost, and `idle`: another route becomes the best at every prefix
+  exits     so many peers are up, peer 1 announces the prefixes, and `idle` sends them to all others
 
 But for `hops` and what begins as it, the one next hop is in a connected network.
 
@@ -29,7 +34,9 @@ LENGTHS = [24] * 60 + [23] * 9 + [22] * 11 + [21] * 5 + [20] * 4 + [19] * 3 + [1
 LOCAL = 'local 65000 192.0.2.254 192.0.2.254'
 PEERS = ['peer 1 65001 192.0.2.1 192.0.2.1', 'peer 2 65002 192.0.2.2 192.0.2.2',
          'route add connected 192.0.2.0/24 direct eth0 1', 'up 1', 'up 2']
-KINDS = ('table', 'edit', 'loss', 'interior', 'lost', 'hops', 'kept', 'moved', 'peers', 'best_lost')
+KINDS = ('table', 'alone', 'rejected', 'paced', 'edit', 'rules', 'loss', 'interior', 'lost', 'hops', 'kept', 'moved', 'peers',
+         'best_lost', 'exits')
+READ = ['work rd.rib 99', 'work out.1 99', 'work out.2 99']
 NEAR = bytes([192, 0, 2, 1])
 HOPS = [bytes([172, 16, place // 250, 1 + place % 250]) for place in range(1000)]
 
@@ -100,13 +107,13 @@ def way(hop, iface, metric):
     return 'route add ospf %s/32 via 192.0.2.9 %s %d' % (text(hop), iface, metric)
 
 
-def peers(number, count):
-    """The events of so many peers that announce the same prefixes."""
+def peers(number, count, senders):
+    """The events of so many peers, of which some announce the same prefixes."""
     yield 'route add connected 192.0.2.0/24 direct eth0 1'
     for k in range(1, number + 1):
         yield 'peer %d %d 192.0.2.%d 192.0.2.%d' % (k, 65000 + k, k, k)
         yield 'up %d' % k
-    for k in range(1, number + 1):
+    for k in range(1, senders + 1):
         via = [] if k == 1 else [65000 + k]
         yield from ('bgp %d %s' % (k, message.hex()) for message in updates(count, via=via))
 
@@ -117,14 +124,20 @@ def events(kind, count, number=8):
     if kind in ('interior', 'lost'):
         yield from routes(count)
     elif kind in ('peers', 'best_lost'):
-        yield from peers(number, count)
+        yield from peers(number, count, number)
+    elif kind == 'exits':
+        yield from peers(number, count, 1)
     else:
         far = kind in ('hops', 'kept', 'moved')
         yield from PEERS
+        yield from {'alone': ['down 2'], 'rejected': ['down 2', 'filter out 2 any reject', 'up 2']}.get(kind, [])
         yield from (way(hop, 'eth0', 10) for hop in HOPS if far)
-        yield from ('bgp 1 ' + message.hex() for message in updates(count, HOPS if far else [NEAR]))
+        for message in updates(count, HOPS if far else [NEAR]):
+            yield 'bgp 1 ' + message.hex()
+            yield from READ if kind == 'paced' else ()
     yield 'idle'
-    yield from {'edit': ['filter in 1 any pref 200 accept', 'idle'], 'loss': ['down 1', 'idle'], 'best_lost': ['down 1', 'idle'],
+    yield from {'edit': ['filter in 1 any pref 200 accept', 'idle'], 'rules': ['filter out 2 any med 7 accept', 'idle'],
+                'loss': ['down 1', 'idle'], 'best_lost': ['down 1', 'idle'],
                 'lost': ['lost ospf', 'idle'], 'kept': [way(HOPS[7], 'eth1', 10), 'idle'],
                 'moved': [way(HOPS[7], 'eth0', 11), 'idle']}.get(kind, [])
 

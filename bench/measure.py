@@ -1,8 +1,9 @@
-"""CPU seconds and peak memory of a command."""
+"""CPU seconds and memory of a command."""
 import os
 import statistics
 import subprocess
 import sys
+import threading
 
 # Peak memory counts what a process had before it became the command, so a small one starts it.
 STARTER = """
@@ -30,3 +31,42 @@ def median(file, command, runs):
     if any(status for _, _, status in seen):
         raise RuntimeError('%s: status %d' % (' '.join(command), max(status for _, _, status in seen)))
     return {'seconds': statistics.median(seconds for seconds, _, _ in seen), 'mib': max(mib for _, mib, _ in seen)}
+
+
+def seconds_of(pid):
+    """User and system seconds of a process so far."""
+    with open('/proc/%d/stat' % pid, encoding='ascii') as file:
+        fields = file.read().rpartition(')')[2].split()
+    return (int(fields[11]) + int(fields[12])) / os.sysconf('SC_CLK_TCK')
+
+
+def resident(pid):
+    """Resident MiB of a process now."""
+    with open('/proc/%d/statm' % pid, encoding='ascii') as file:
+        return int(file.read().split()[1]) * os.sysconf('SC_PAGE_SIZE') / 2 ** 20
+
+
+def stops(parts, command, mark):
+    """Of each part of a text, as `once` would run it whole: seconds and resident MiB when the line `mark` was printed that its last
+    event gives. Between two parts the command waits for its input."""
+    with subprocess.Popen(command, stdin=subprocess.PIPE, stdout=subprocess.PIPE) as ran:
+        for part in parts:
+            writer = threading.Thread(target=feed, args=(ran.stdin, part))
+            writer.start()
+            for line in ran.stdout:
+                if line == mark:
+                    break
+            else:
+                raise EOFError('%s ended early' % ' '.join(command))
+            writer.join()
+            yield {'seconds': seconds_of(ran.pid), 'mib': resident(ran.pid)}
+        ran.stdin.close()
+        ran.stdout.read()
+    if ran.returncode:
+        raise RuntimeError('%s: status %d' % (' '.join(command), ran.returncode))
+
+
+def feed(stdin, part):
+    for line in part:
+        stdin.write(line)
+    stdin.flush()

@@ -1,5 +1,5 @@
 -- What holds of each event that was read.
-use Rattle.std.specs.Prelude.{◌≡◌, ℕ, ◌^◌, ◌<◌, ◌≤◌, List, length, Option, Some, None, true, false}
+use Rattle.std.specs.Prelude.{◌≡◌, ℕ, ◌^◌, ◌<◌, List, length, Option, Some, None, true, false}
 use Rattle.std.specs.List.{All}
 use Rattle.addr4.specs.Prefixes.{Network, IsMasked}
 use Rattle.bgp_attr.specs.Speakers.{IsSpeaker}

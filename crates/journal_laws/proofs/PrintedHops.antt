@@ -1,5 +1,5 @@
 -- The rows of `res.K` can be printed: they are those of `filt.K` with metrics in their range.
-use Rattle.std.proofs.Common.{◌≡◌, ℕ, ◌<◌, ◌^◌, true, false, cond, List, Option, Some, None, nat_eq, refl, sym, ap, subst, ◌∙◌, inl, inr}
+use Rattle.std.proofs.Common.{◌≡◌, ℕ, cond, List, Option, Some, None, refl, sym, ap, subst, ◌∙◌, inl, inr}
 use Rattle.std.specs.Prelude.{option_map}
 use Rattle.std.specs.Ordering.{nat_cmp, eq_by_cmp}
 use Rattle.std.specs.Cmp.{nat_cmp_total}
@@ -8,7 +8,7 @@ use Rattle.std.specs.FinMap.{get-insert}
 use Rattle.addr4.specs.Prefixes.{Network}
 use Rattle.bgp_attr.specs.declared.route.Route.{Route}
 use Rattle.bgp_attr.specs.declared.speaker.Neighbour.{Neighbour}
-use Rattle.link_change.specs.Rows.{Rows, Candidates, no_rows}
+use Rattle.link_change.specs.Rows.{Rows, Candidates}
 use Rattle.link_change.specs.declared.change.Change.{Change}
 use Rattle.prefix_trie.specs.Width.{width}
 use Rattle.rib_route.specs.declared.rows.Interior.{Interior}
@@ -21,7 +21,7 @@ use Rattle.nexthop_known.specs.declared.answer.Hop.{Hop}
 use Rattle.nexthop_known.specs.Hops.{Hops, IsMapped, settled, renewed, in_force_or}
 use Rattle.nexthop_resolver.specs.declared.rows.Metric.{Metric}
 use Rattle.nexthop_resolver.specs.Kept.{route_hop, metric_of, with_igp, with_metric}
-use Rattle.nexthop_resolver.specs.Resolving.{Resolving, in_force_by, fresh_by, walk_to, goes_on, made_by, nothing_known}
+use Rattle.nexthop_resolver.specs.Resolving.{Resolving, in_force_by, fresh_by, walk_to, goes_on, made_by}
 use Rattle.nexthop_resolver.specs.Registered.{answer_of}
 use Rattle.nexthop_resolver.specs.Takes.{Keeps}
 use Rattle.nexthop_resolver.specs.Turns.{KnownAfter, Turned}
@@ -31,7 +31,7 @@ use Rattle.journal_laws.specs.Printed.{IsPrintable}
 use Rattle.journal_laws.proofs.PrintedRows.{Prints}
 use Rattle.link_region.proofs.RegionLemmas.{by_bool}
 use Rattle.hop_side.specs.Resolvers.{Resolvers, resolver_at, put_resolver, metric_rows, rows_by}
-use Rattle.hop_side.specs.Steps.{is_listed, reached_hop, ReachedAt, AllReached}
+use Rattle.hop_side.specs.Steps.{reached_hop, ReachedAt, AllReached}
 use Rattle.hop_side.proofs.PutLemmas.{put_each}
 use Rattle.journal_laws.specs.Standing.{HasMetrics, HaveMetrics}
 

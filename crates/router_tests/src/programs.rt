@@ -40,8 +40,17 @@ fn run_failing(
 }
 
 /// The lines with which each journal begins.
-const BEGINS: &str =
-    "b org.connected\nb org.static\nb org.ospf\nb org.rip\nb low\nb dyn\nb int\nb best\nb fib\n";
+const BEGINS: &str = "\
+b org.connected\n\
+b org.static\n\
+b org.ospf\n\
+b org.rip\n\
+b low\n\
+b dyn\n\
+b int\n\
+b best\n\
+i read.rib best\n\
+b fib\n";
 
 #[test]
 fn words_that_are_no_command_get_the_usage_line(rt: HostRuntime) -> Result<(), Fail> {
