@@ -202,7 +202,12 @@ impl Chain {
                 }
                 self.walk(journal)
             }
-            Task::Nh(_) | Task::ReadRib | Task::Out(_) | Task::Rdel(_, _) => Ok(Turn::Nothing),
+            Task::Nh(_)
+            | Task::ReadRib
+            | Task::Out(_)
+            | Task::Rdel(_, _)
+            | Task::Red
+            | Task::Ext => Ok(Turn::Nothing),
         }
     }
 
