@@ -11,7 +11,7 @@ use Rattle.hex.specs.declared.FromHexError.{FromHexError}
 use Rattle.hex.proofs.HexLemmas.{decode_of-ok}
 use Rattle.addr4.specs.Texts.{number_below, number_of, addr_of, prefix_of, parts}
 use Rattle.journal_text.specs.declared.link.Task.TheVariants as tasks
-use Rattle.journal_text.specs.Names.{name_number, with_both, proto_of, peer_task, task_of_two, task_of_three, task_from_parts, task_of, link_of as link_named, IsNamed}
+use Rattle.journal_text.specs.Names.{name_number, with_both, proto_of, plain_task, peer_task, task_of_two, task_of_three, task_from_parts, task_of, link_of, IsNamed}
 use Rattle.journal_text.proofs.ReadNames.{read_number_named, read_link_named}
 use Rattle.rib_route.specs.declared.Proto.{Proto}
 use Rattle.rib_route.specs.Ifaces.{is_iface_name, iface_of}
@@ -23,9 +23,9 @@ use Rattle.policy_rules.proofs.RangeLemmas.{and_then, either, below, addr_fits, 
 use Rattle.addr4.specs.Prefixes.{Network, IsMasked}
 use Rattle.bgp_attr.specs.Hosts.{is_host}
 use Rattle.bgp_attr.specs.Speakers.{IsSpeaker}
-use Rattle.event_text.specs.Words.{from_one, speaker_of, octets_of, way_out, way_over, interior_of, is_asked, link_of}
-use Rattle.event_text.specs.Events.{local_of, peer_of, one_number, bgp_of, filter_on, filter_of, route_add_of, route_del_of, route_of, lost_of, cover_of, interior_event, work_of, ask_of, show_of, plain_event, named_event, event_of}
-use Rattle.event_text.specs.WellFormed.{IsNumber, IsMessage, IsPrefix, IsGateway, IsInterior, IsAsked, IsTask, IsWellFormed}
+use Rattle.event_text.specs.Words.{from_one, speaker_of, octets_of, way_out, way_over, interior_of, switch_of}
+use Rattle.event_text.specs.Events.{local_of, peer_of, one_number, bgp_of, filter_on, filter_of, route_add_of, route_del_of, route_of, lost_of, redist_of, cover_of, interior_event, work_of, ask_of, show_of, plain_event, named_event, event_of}
+use Rattle.event_text.specs.WellFormed.{IsNumber, IsMessage, IsPrefix, IsGateway, IsInterior, IsTask, IsWellFormed}
 
 -- ---- steps that may fail
 told : {A : Type 0} (b : Bool) (x y : Option A) (P : A → Type 0) → (b ≡ true → IfSome x P) → (b ≡ false → IfSome y P) → IfSome (cond b x y) P
@@ -102,14 +102,15 @@ each : {A : Type 0} (o : Option A) (P : A → Type 0) → ((x : A) → o ≡ Som
 each None P h = tt
 each (Some x) P h = h x refl
 
-link_ok : (word : List ℕ) → IfSome (link_of word) IsAsked
-unfolding link_of
-link_ok word =
-    and_then (link_named word) _ IsNamed IsAsked (each (link_named word) IsNamed (read_link_named word)) (λ link h.
-    told (is_asked link) (Some link) None IsAsked (λ asked. record { asked = asked; numbers = h }) (λ _. tt))
+link_ok : (word : List ℕ) → IfSome (link_of word) IsNamed
+link_ok word = each (link_of word) IsNamed (read_link_named word)
 
 number_ok : (word : List ℕ) → IfSome (name_number word) IsNumber
 number_ok word = each (name_number word) IsNumber (λ n e. let h = read_number_named word n e in record { least = h.0; fits = h.1 })
+
+plain_task_ok : (w : List ℕ) → IfSome (plain_task w) IsTask
+unfolding plain_task
+plain_task_ok w = either (bytes_eq w (codes "red")) (Some tasks.Red) _ IsTask tt (either (bytes_eq w (codes "ext")) (Some tasks.Ext) None IsTask tt tt)
 
 peer_task_ok : (w : List ℕ) (k : ℕ) → IsNumber k → IfSome (peer_task w k) IsTask
 unfolding peer_task
@@ -141,7 +142,7 @@ rdel_ok (Some proto) (Some n) h = h
 task_parts_ok : (ps : List (List ℕ)) → IfSome (task_from_parts ps) IsTask
 unfolding task_from_parts task_of_three
 task_parts_ok [] = tt
-task_parts_ok (w ∷ []) = tt
+task_parts_ok (w ∷ []) = plain_task_ok w
 task_parts_ok (w ∷ a ∷ []) = two_parts_ok w a
 task_parts_ok (w ∷ a ∷ b ∷ []) =
     either (bytes_eq w (codes "del")) _ _ IsTask (del_ok (name_number a) (name_number b) (number_ok a) (number_ok b))
@@ -219,6 +220,15 @@ lost_ok [] = tt
 lost_ok (proto ∷ []) = and_then (proto_of proto) _ (λ _. Unit {0}) IsWellFormed (each (proto_of proto) (λ _. Unit {0}) (λ _ _. tt)) (λ o _. tt)
 lost_ok (proto ∷ x ∷ more) = tt
 
+redist_ok : (ws : List (List ℕ)) → IfSome (redist_of ws) IsWellFormed
+unfolding redist_of
+redist_ok [] = tt
+redist_ok (proto ∷ []) = tt
+redist_ok (proto ∷ state ∷ []) =
+    and_then (proto_of proto) _ (λ _. Unit {0}) IsWellFormed (each (proto_of proto) (λ _. Unit {0}) (λ _ _. tt)) (λ o _.
+    and_then (switch_of state) _ (λ _. Unit {0}) IsWellFormed (each (switch_of state) (λ _. Unit {0}) (λ _ _. tt)) (λ on _. tt))
+redist_ok (proto ∷ state ∷ x ∷ more) = tt
+
 cover_ok : (ws : List (List ℕ)) → IfSome (cover_of ws) IsWellFormed
 unfolding cover_of
 cover_ok [] = tt
@@ -230,7 +240,8 @@ unfolding interior_event
 interior_event_ok w ws =
     either (bytes_eq w (codes "route")) _ _ IsWellFormed (route_ok ws)
     (either (bytes_eq w (codes "lost")) _ _ IsWellFormed (lost_ok ws)
-    (either (bytes_eq w (codes "cover")) _ None IsWellFormed (cover_ok ws) tt))
+    (either (bytes_eq w (codes "redist")) _ _ IsWellFormed (redist_ok ws)
+    (either (bytes_eq w (codes "cover")) _ None IsWellFormed (cover_ok ws) tt)))
 
 work_ok : (ws : List (List ℕ)) → IfSome (work_of ws) IsWellFormed
 unfolding work_of
@@ -243,13 +254,13 @@ ask_ok : (ws : List (List ℕ)) → IfSome (ask_of ws) IsWellFormed
 unfolding ask_of
 ask_ok [] = tt
 ask_ok (link ∷ []) = tt
-ask_ok (link ∷ p ∷ []) = and_then (link_of link) _ IsAsked IsWellFormed (link_ok link) (λ l hl. and_then (prefix_of 32 p) _ IsPrefix IsWellFormed (is_prefix p) (λ n hn. (hl, hn)))
+ask_ok (link ∷ p ∷ []) = and_then (link_of link) _ IsNamed IsWellFormed (link_ok link) (λ l hl. and_then (prefix_of 32 p) _ IsPrefix IsWellFormed (is_prefix p) (λ n hn. (hl, hn)))
 ask_ok (link ∷ p ∷ x ∷ more) = tt
 
 show_ok : (ws : List (List ℕ)) → IfSome (show_of ws) IsWellFormed
 unfolding show_of
 show_ok [] = tt
-show_ok (link ∷ []) = and_then (link_of link) _ IsAsked IsWellFormed (link_ok link) (λ l hl. hl)
+show_ok (link ∷ []) = and_then (link_of link) _ IsNamed IsWellFormed (link_ok link) (λ l hl. hl)
 show_ok (link ∷ x ∷ more) = tt
 
 plain_ok : (w : List ℕ) (ws : List (List ℕ)) → IfSome (plain_event w ws) IsWellFormed

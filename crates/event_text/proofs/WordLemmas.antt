@@ -7,7 +7,7 @@ use Rattle.rib_route.specs.declared.Proto.TheVariants.{Connected, Static, Ospf, 
 use Rattle.journal_text.specs.Names.{proto_of}
 use Rattle.policy_rules.specs.Words.{words}
 use Rattle.event_text.specs.Words.{speaker_of, way_out}
-use Rattle.event_text.specs.Events.{one_number, bgp_of, route_del_of, lost_of, cover_of, work_of, ask_of, show_of}
+use Rattle.event_text.specs.Events.{one_number, bgp_of, route_del_of, lost_of, redist_of, cover_of, work_of, ask_of, show_of}
 
 four : (a b c : List ℕ) (more : List (List ℕ)) → nat_eq (length more) 0 ≡ false → speaker_of (a ∷ b ∷ c ∷ more) ≡ None
 unfolding speaker_of
@@ -80,6 +80,14 @@ behind_protocol a (d ∷ more) some = refl
 
 pub no_word_behind_protocol : (a r : List ℕ) → nat_eq (length (words r)) 0 ≡ false → lost_of (a ∷ words r) ≡ None
 no_word_behind_protocol a r some = behind_protocol a (words r) some
+
+behind_switch : (a b : List ℕ) (more : List (List ℕ)) → nat_eq (length more) 0 ≡ false → redist_of (a ∷ b ∷ more) ≡ None
+unfolding redist_of
+behind_switch a b [] some = absurd (cc)
+behind_switch a b (d ∷ more) some = refl
+
+pub no_word_behind_switch : (a b r : List ℕ) → nat_eq (length (words r)) 0 ≡ false → redist_of (a ∷ b ∷ words r) ≡ None
+no_word_behind_switch a b r some = behind_switch a b (words r) some
 
 behind_addr : (a : List ℕ) (more : List (List ℕ)) → nat_eq (length more) 0 ≡ false → cover_of (a ∷ more) ≡ None
 unfolding cover_of

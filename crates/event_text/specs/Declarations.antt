@@ -7,11 +7,11 @@ use Rattle.bgp_attr.specs.Speakers.{IsSpeaker, IsNeighbourOf}
 use Rattle.journal_text.specs.declared.link.Link.{Link}
 use Rattle.journal_text.specs.declared.link.Link.TheVariants as links
 use Rattle.journal_text.specs.declared.link.Task.{Task}
-use Rattle.journal_text.specs.declared.link.Task.TheVariants.{Del, Fin, Nh, ReadRib, Out, Rdel}
+use Rattle.journal_text.specs.declared.link.Task.TheVariants.{Del, Fin, Nh, ReadRib, Out, Rdel, Red, Ext}
 use Rattle.journal_text.specs.declared.line.Code.{Code}
 use Rattle.journal_text.specs.declared.line.Code.TheVariants.{E3, E4, E5, E6}
 use Rattle.event_text.specs.declared.event.Event.{Event}
-use Rattle.event_text.specs.declared.event.Event.TheVariants.{Nothing, Local, Peer, Up, Down, Bgp, FilterIn, FilterOut, RouteAdd, RouteDel, Lose, Cover, Idle, Work, Ask, Show}
+use Rattle.event_text.specs.declared.event.Event.TheVariants.{Nothing, Local, Peer, Up, Down, Bgp, FilterIn, FilterOut, RouteAdd, RouteDel, Lose, Redist, Cover, Idle, Work, Ask, Show}
 use Rattle.event_text.specs.declared.declared.DeclaredPeer.{DeclaredPeer}
 
 pub record Declaration : Type 0 where
@@ -59,12 +59,14 @@ abbrev pub rules_refusal : ℕ → Option DeclaredPeer → Option Code
 rules_refusal count None = Some E5
 rules_refusal count (Some p) = if nat_le count 64 then None else Some E6
 
--- a task of a peer needs it declared; one of a protocol or of the forwarding side doesn't
+-- a task of a peer needs it declared; one of a protocol, of redistribution or of the forwarding side doesn't
 abbrev pub task_refusal : Task → List DeclaredPeer → Option Code
 task_refusal (Del k s) peers = undeclared (peer_at k peers)
 task_refusal (Fin k) peers = undeclared (peer_at k peers)
 task_refusal (Nh k) peers = undeclared (peer_at k peers)
 task_refusal ReadRib peers = None
+task_refusal Red peers = None
+task_refusal Ext peers = None
 task_refusal (Out k) peers = undeclared (peer_at k peers)
 task_refusal (Rdel proto n) peers = None
 
@@ -103,6 +105,7 @@ refusal_by local peers (FilterOut k rules) = rules_refusal (length rules) (peer_
 refusal_by local peers (RouteAdd p row) = None
 refusal_by local peers (RouteDel proto p) = None
 refusal_by local peers (Lose proto) = None
+refusal_by local peers (Redist proto on) = None
 refusal_by local peers (Cover addr) = None
 refusal_by local peers Idle = None
 refusal_by local peers (Work task n) = task_refusal task peers
@@ -122,6 +125,7 @@ refusal_first (FilterOut k rules) = Some E4
 refusal_first (RouteAdd p row) = Some E4
 refusal_first (RouteDel proto p) = Some E4
 refusal_first (Lose proto) = Some E4
+refusal_first (Redist proto on) = Some E4
 refusal_first (Cover addr) = Some E4
 refusal_first Idle = Some E4
 refusal_first (Work task n) = Some E4

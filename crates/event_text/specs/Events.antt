@@ -3,15 +3,15 @@ use Rattle.std.specs.Prelude.{ℕ, false, if◌then◌else◌, ◌==◌, List, [
 use Rattle.std.specs.Str.{bytes_eq}
 use Rattle.std.specs.List.{starts_with}
 use Rattle.addr4.specs.Texts.{number_of, addr_of, prefix_of}
-use Rattle.journal_text.specs.Names.{proto_of, task_of}
+use Rattle.journal_text.specs.Names.{proto_of, task_of, link_of}
 use Rattle.journal_text.specs.declared.line.Code.{Code}
 use Rattle.journal_text.specs.declared.line.Code.TheVariants.{E1, E2}
 use Rattle.policy_rules.specs.declared.rule.Rule.{Rule}
 use Rattle.policy_rules.specs.Words.{◌>>=◌, words}
 use Rattle.policy_rules.specs.Grammar.{rules_of}
 use Rattle.event_text.specs.declared.event.Event.{Event}
-use Rattle.event_text.specs.declared.event.Event.TheVariants.{Nothing, Local, Peer, Up, Down, Bgp, FilterIn, FilterOut, RouteAdd, RouteDel, Lose, Cover, Idle, Work, Ask, Show}
-use Rattle.event_text.specs.Words.{is_clean, from_one, speaker_of, octets_of, interior_of, link_of}
+use Rattle.event_text.specs.declared.event.Event.TheVariants.{Nothing, Local, Peer, Up, Down, Bgp, FilterIn, FilterOut, RouteAdd, RouteDel, Lose, Redist, Cover, Idle, Work, Ask, Show}
+use Rattle.event_text.specs.Words.{is_clean, from_one, speaker_of, octets_of, interior_of, switch_of}
 
 -- what follows `local`
 unfoldable pub local_of : List (List ℕ) → Option Event
@@ -83,6 +83,14 @@ unfoldable pub lost_of : List (List ℕ) → Option Event
 lost_of (proto ∷ []) = proto_of proto >>= λ o. Some (Lose o)
 lost_of other = None
 
+-- what follows `redist`: a protocol, and `on` or `off`
+unfoldable pub redist_of : List (List ℕ) → Option Event
+redist_of (proto ∷ state ∷ []) = do
+  o ← proto_of proto
+  on ← switch_of state
+  Some (Redist o on)
+redist_of other = None
+
 -- what follows `cover`
 unfoldable pub cover_of : List (List ℕ) → Option Event
 cover_of (addr ∷ []) = addr_of addr >>= λ a. Some (Cover a)
@@ -93,6 +101,7 @@ unfoldable pub interior_event : List ℕ → List (List ℕ) → Option Event
 interior_event w ws =
     if bytes_eq w (codes "route") then route_of ws
     else if bytes_eq w (codes "lost") then lost_of ws
+    else if bytes_eq w (codes "redist") then redist_of ws
     else if bytes_eq w (codes "cover") then cover_of ws
     else None
 

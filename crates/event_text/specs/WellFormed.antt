@@ -6,13 +6,11 @@ use Rattle.bgp_attr.specs.Speakers.{IsSpeaker}
 use Rattle.rib_route.specs.Ifaces.{is_iface_name}
 use Rattle.rib_route.specs.declared.rows.Interior.{Interior}
 use Rattle.journal_text.specs.Names.{IsNamed}
-use Rattle.journal_text.specs.declared.link.Link.{Link}
 use Rattle.journal_text.specs.declared.link.Task.{Task}
-use Rattle.journal_text.specs.declared.link.Task.TheVariants.{Del, Fin, Nh, ReadRib, Out, Rdel}
+use Rattle.journal_text.specs.declared.link.Task.TheVariants.{Del, Fin, Nh, ReadRib, Out, Rdel, Red, Ext}
 use Rattle.policy_rules.specs.Ranges.{AreRules}
 use Rattle.event_text.specs.declared.event.Event.{Event}
 use Rattle.event_text.specs.declared.event.Event.TheVariants as events
-use Rattle.event_text.specs.Words.{is_asked}
 
 -- a number from 1 of 32 bits
 pub record IsNumber (n : ℕ) : Type 0 where
@@ -40,16 +38,13 @@ pub record IsInterior (row : Interior) : Type 0 where
   pub name : is_iface_name row.iface ≡ true
   pub metric : row.metric < 2 ^ 32
 
--- a link that events may name, its numbers from 1 and of 32 bits
-pub record IsAsked (link : Link) : Type 0 where
-  pub asked : is_asked link ≡ true
-  pub numbers : IsNamed link
-
 abbrev pub IsTask : Task → Type 0
 IsTask (Del k s) = IsNumber k × IsNumber s
 IsTask (Fin k) = IsNumber k
 IsTask (Nh k) = IsNumber k
 IsTask ReadRib = Unit {0}
+IsTask Red = Unit {0}
+IsTask Ext = Unit {0}
 IsTask (Out k) = IsNumber k
 IsTask (Rdel proto n) = IsNumber n
 
@@ -66,8 +61,9 @@ IsWellFormed (events.FilterOut k rules) = IsNumber k × AreRules false rules
 IsWellFormed (events.RouteAdd p row) = IsPrefix p × IsInterior row
 IsWellFormed (events.RouteDel proto p) = IsPrefix p
 IsWellFormed (events.Lose proto) = Unit {0}
+IsWellFormed (events.Redist proto on) = Unit {0}
 IsWellFormed (events.Cover addr) = addr < 2 ^ 32
 IsWellFormed events.Idle = Unit {0}
 IsWellFormed (events.Work task n) = IsTask task × (n < 2 ^ 32)
-IsWellFormed (events.Ask link p) = IsAsked link × IsPrefix p
-IsWellFormed (events.Show link) = IsAsked link
+IsWellFormed (events.Ask link p) = IsNamed link × IsPrefix p
+IsWellFormed (events.Show link) = IsNamed link

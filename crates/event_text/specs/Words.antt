@@ -10,9 +10,6 @@ use Rattle.bgp_attr.specs.declared.speaker.Speaker.{Speaker}
 use Rattle.rib_route.specs.Ifaces.{iface_of}
 use Rattle.rib_route.specs.declared.Proto.{Proto}
 use Rattle.rib_route.specs.declared.rows.Interior.{Interior}
-use Rattle.journal_text.specs.Names.{link_of as link_named}
-use Rattle.journal_text.specs.declared.link.Link.{Link}
-use Rattle.journal_text.specs.declared.link.Link.TheVariants.{In, Peer, Filt, Res, Org, Lost, Low, Dyn, Int, Red, Best, ReadRib, Ebgp, Ibgp, Ext, Fib, Read, Outf, Adv}
 use Rattle.policy_rules.specs.Words.{◌>>=◌}
 
 -- at most 16,384 bytes, all from 32 to 126
@@ -61,30 +58,9 @@ interior_of proto (way ∷ ws) =
     else if bytes_eq way (codes "via") then way_over proto ws
     else None
 
--- events may name the link: those from the peers to `best`, those to the peers, and those of the interior routes
-abbrev pub is_asked : Link → Bool
-is_asked (In k) = true
-is_asked (Peer k s) = true
-is_asked (Filt k) = true
-is_asked (Res k) = true
-is_asked (Org proto) = true
-is_asked (Lost proto n) = true
-is_asked Low = true
-is_asked Dyn = true
-is_asked Int = true
-is_asked Red = false
-is_asked Best = true
-is_asked ReadRib = true
-is_asked Ebgp = false
-is_asked Ibgp = false
-is_asked Ext = false
-is_asked Fib = true
-is_asked (Read j s) = true
-is_asked (Outf j s) = true
-is_asked (Adv j s) = true
-
--- the link of a name, if events may name it
-unfoldable pub link_of : List ℕ → Option Link
-link_of word = do
-  link ← link_named word
-  if is_asked link then Some link else None
+-- `on` or `off`
+unfoldable pub switch_of : List ℕ → Option Bool
+switch_of word =
+    if bytes_eq word (codes "on") then Some true
+    else if bytes_eq word (codes "off") then Some false
+    else None

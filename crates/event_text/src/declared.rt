@@ -248,7 +248,7 @@ fn task_refusal(task: Task, peers: &[DeclaredPeer]) -> Option<Code>
         Task::Del(peer, _) | Task::Fin(peer) | Task::Nh(peer) | Task::Out(peer) => {
             undeclared(peer_of(peers, peer))
         }
-        Task::ReadRib | Task::Rdel(_, _) => None,
+        Task::ReadRib | Task::Rdel(_, _) | Task::Red | Task::Ext => None,
     }
 }
 
@@ -298,6 +298,7 @@ fn refusal_by(local: Speaker, peers: &[DeclaredPeer], event: &Event) -> Option<C
         | Event::RouteAdd(_, _)
         | Event::RouteDel(_, _)
         | Event::Lose(_)
+        | Event::Redist(_, _)
         | Event::Cover(_)
         | Event::Idle => None,
         Event::Local(_) => Some(Code::E3),

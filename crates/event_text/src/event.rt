@@ -33,6 +33,8 @@ pub enum Event {
     RouteDel(Proto, Prefix),
     /// `lost PROTO`: the protocol is lost, and its routes with it.
     Lose(Proto),
+    /// `redist PROTO on`, `redist PROTO off`: from now on the protocol's routes are redistributed into BGP, or aren't.
+    Redist(Proto, bool),
     /// `cover ADDR`: which interior route holds the address, and for which subnet that answer holds.
     Cover(Addr),
     /// `idle`

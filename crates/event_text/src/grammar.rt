@@ -2,14 +2,14 @@
 
 ghost use Rattle.std.specs.Prelude.{◌≡◌, IfOk};
 ghost use Rattle.policy_rules.specs.Words.{words};
-ghost use Rattle.event_text.specs.Events.{local_of, peer_of, one_number, bgp_of, filter_on, filter_of, route_add_of, route_del_of, route_of, lost_of, cover_of, interior_event, work_of, ask_of, show_of, plain_event, named_event, event_of, read_event};
+ghost use Rattle.event_text.specs.Events.{local_of, peer_of, one_number, bgp_of, filter_on, filter_of, route_add_of, route_del_of, route_of, lost_of, redist_of, cover_of, interior_event, work_of, ask_of, show_of, plain_event, named_event, event_of, read_event};
 ghost use Rattle.event_text.specs.WellFormed.{IsWellFormed};
 
 use crate::event::Event;
-use crate::words::{from_one, interior, is_clean, is_end, link, octets, protocol, speaker};
+use crate::words::{from_one, interior, is_clean, is_end, octets, protocol, speaker, switch};
 use addr4::{Memory, read_addr, read_number, read_prefix};
 use bgp_attr::Profile;
-use journal_text::{Code, Task};
+use journal_text::{Code, Link, Task};
 use policy_rules::{Rules, first_word, read_rules};
 use std::alloc::Global;
 
@@ -177,7 +177,7 @@ fn plain_event(word: &[u8], rest: &[u8]) -> Option<Event>
     interior_event(word, rest)
 }
 
-/// The events `route`, `lost` and `cover`.
+/// The events `route`, `lost`, `redist` and `cover`.
 #[tactic(auto, unfolding(crate::specs::Events::interior_event))]
 fn interior_event(word: &[u8], rest: &[u8]) -> Option<Event>
     ensures { result ≡ interior_event word.now (words rest.now) }
@@ -187,6 +187,9 @@ fn interior_event(word: &[u8], rest: &[u8]) -> Option<Event>
     }
     if word == b"lost".as_slice() {
         return lost(rest);
+    }
+    if word == b"redist".as_slice() {
+        return redist(rest);
     }
     if word == b"cover".as_slice() {
         return cover(rest);
@@ -250,6 +253,21 @@ fn lost(rest: &[u8]) -> Option<Event>
     Some(Event::Lose(proto))
 }
 
+/// What follows `redist`.
+#[tactic(auto, using(crate::proofs::WordLemmas::no_word_behind_switch), unfolding(crate::specs::Events::redist_of))]
+fn redist(rest: &[u8]) -> Option<Event>
+    ensures { result ≡ redist_of (words rest.now) }
+{
+    let (name, rest) = first_word(rest)?;
+    let (state, rest) = first_word(rest)?;
+    if !is_end(rest) {
+        return None;
+    }
+    let proto = protocol(name)?;
+    let on = switch(state)?;
+    Some(Event::Redist(proto, on))
+}
+
 /// What follows `cover`.
 #[tactic(auto, using(crate::proofs::WordLemmas::no_word_behind_addr), unfolding(crate::specs::Events::cover_of))]
 fn cover(rest: &[u8]) -> Option<Event>
@@ -300,7 +318,7 @@ fn ask(rest: &[u8]) -> Option<Event>
     if !is_end(rest) {
         return None;
     }
-    let link = link(name)?;
+    let link = Link::read(name)?;
     let prefix = read_prefix(prefix).ok()?;
     Some(Event::Ask(link, prefix))
 }
@@ -314,6 +332,6 @@ fn show(rest: &[u8]) -> Option<Event>
     if !is_end(rest) {
         return None;
     }
-    let link = link(name)?;
+    let link = Link::read(name)?;
     Some(Event::Show(link))
 }

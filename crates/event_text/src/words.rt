@@ -4,12 +4,11 @@ ghost use Rattle.std.specs.Prelude.{◌≡◌, ◌&&◌, ◌==◌, nat_le, lengt
 ghost use Rattle.std.specs.List.{list_all};
 ghost use Rattle.journal_text.specs.Names.{proto_of};
 ghost use Rattle.policy_rules.specs.Words.{words};
-ghost use Rattle.event_text.specs.Words.{is_clean, from_one, speaker_of, octets_of, way_out, way_over, interior_of, is_asked, link_of};
+ghost use Rattle.event_text.specs.Words.{is_clean, from_one, speaker_of, octets_of, way_out, way_over, interior_of, switch_of};
 
 use addr4::{Addr, Memory, read_addr, read_number, read_number_below};
 use bgp_attr::{Octets, Speaker, is_host};
 use hex::FromHexError;
-use journal_text::Link;
 use policy_rules::first_word;
 use rib_route::{Iface, Interior, Proto};
 use std::alloc::Global;
@@ -144,35 +143,16 @@ pub fn interior(proto: Proto, rest: &[u8]) -> Option<Interior>
     None
 }
 
-/// Whether events may name the link.
-fn is_asked(link: Link) -> bool
-    ensures { result ≡ is_asked link }
+/// `on` or `off`.
+#[tactic(auto, unfolding(crate::specs::Words::switch_of))]
+pub fn switch(word: &[u8]) -> Option<bool>
+    ensures { result ≡ switch_of word.now }
 {
-    match link {
-        Link::In(_)
-        | Link::Peer(_, _)
-        | Link::Filt(_)
-        | Link::Res(_)
-        | Link::Org(_)
-        | Link::Lost(_, _)
-        | Link::Low
-        | Link::Dyn
-        | Link::Int
-        | Link::Best
-        | Link::ReadRib
-        | Link::Fib
-        | Link::Read(_, _)
-        | Link::Outf(_, _)
-        | Link::Adv(_, _) => true,
-        Link::Red | Link::Ebgp | Link::Ibgp | Link::Ext => false,
+    if word == b"on".as_slice() {
+        Some(true)
+    } else if word == b"off".as_slice() {
+        Some(false)
+    } else {
+        None
     }
-}
-
-/// The link of a name, if events may name it.
-#[tactic(auto, unfolding(crate::specs::Words::link_of))]
-pub fn link(word: &[u8]) -> Option<Link>
-    ensures { result ≡ link_of word.now }
-{
-    let link = Link::read(word)?;
-    if is_asked(link) { Some(link) } else { None }
 }

@@ -18,7 +18,7 @@ use Rattle.pass_core.specs.Passed.{edited}
 use Rattle.filter_bank.specs.Walks.{Walks}
 use Rattle.journal_text.specs.declared.link.Link.TheVariants.{Filt}
 use Rattle.journal_text.specs.declared.link.Task.{Task}
-use Rattle.journal_text.specs.declared.link.Task.TheVariants.{Del, Fin, Nh, ReadRib, Out, Rdel}
+use Rattle.journal_text.specs.declared.link.Task.TheVariants.{Del, Fin, Nh, ReadRib, Out, Rdel, Red, Ext}
 use Rattle.journal_text.specs.declared.value.Value.{Value}
 use Rattle.journal_text.specs.declared.entry.Entry.{Entry}
 use Rattle.journal_text.specs.Journals.{Journaled, Adds}
@@ -85,6 +85,8 @@ has_turn c (Del k s) = k == c.incoming.number && is_some (table_of s c.incoming.
 has_turn c (Fin k) = k == c.incoming.number && is_some c.filter.walk
 has_turn c (Nh k) = false
 has_turn c ReadRib = false
+has_turn c Red = false
+has_turn c Ext = false
 has_turn c (Out k) = false
 has_turn c (Rdel proto n) = false
 
@@ -94,6 +96,8 @@ Turned old new (Del k s) sent entries = (k ≡ old.incoming.number) × Sweeps ol
 Turned old new (Fin k) sent entries = (k ≡ old.incoming.number) × Rewalks old new sent entries
 Turned old new (Nh k) sent entries = ⊥
 Turned old new ReadRib sent entries = ⊥
+Turned old new Red sent entries = ⊥
+Turned old new Ext sent entries = ⊥
 Turned old new (Out k) sent entries = ⊥
 Turned old new (Rdel proto n) sent entries = ⊥
 

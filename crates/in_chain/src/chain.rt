@@ -202,7 +202,8 @@ impl Chain {
                 }
                 self.walk(journal)
             }
-            Task::Nh(_) | Task::ReadRib | Task::Out(_) | Task::Rdel(_, _) => Ok(Turn::Nothing),
+            Task::Nh(_) | Task::ReadRib | Task::Out(_) | Task::Rdel(_, _) | Task::Red | Task::Ext =>
+                Ok(Turn::Nothing),
         }
     }
 

@@ -28,7 +28,7 @@ use Rattle.journal_text.specs.declared.line.Line.TheVariants as lines
 use Rattle.journal_text.specs.declared.link.Link.{Link}
 use Rattle.journal_text.specs.declared.link.Link.TheVariants.{In, Peer, Filt, Org, Lost as LostLink, Low, Dyn, Int}
 use Rattle.journal_text.specs.declared.link.Task.{Task}
-use Rattle.journal_text.specs.declared.link.Task.TheVariants.{Del, Fin, Nh, ReadRib, Out, Rdel}
+use Rattle.journal_text.specs.declared.link.Task.TheVariants.{Del, Fin, Nh, ReadRib, Out, Rdel, Red, Ext}
 use Rattle.journal_text.specs.declared.value.Value.{Value}
 use Rattle.journal_text.proofs.LinkLemmas.{same_link-yes}
 use Rattle.journal_check.specs.Laws.{IsPrefix}
@@ -250,5 +250,7 @@ module _ (peers : ℕ → Option Neighbour) where
           by_next (Some p) new then is = sent_printed route_value (Filt c.incoming.number) (filt_rows c) new p sent fit.named (filt_prints peers profile c fit) then is
       turned_fit (Nh k) less sent fall t = absurd t
       turned_fit ReadRib less sent fall t = absurd t
+      turned_fit Red less sent fall t = absurd t
+      turned_fit Ext less sent fall t = absurd t
       turned_fit (Out k) less sent fall t = absurd t
       turned_fit (Rdel proto n) less sent fall t = absurd t

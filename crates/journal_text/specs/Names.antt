@@ -8,7 +8,7 @@ use Rattle.rib_route.specs.declared.Proto.TheVariants.{Connected, Static, Ospf, 
 use Rattle.journal_text.specs.declared.link.Link.{Link}
 use Rattle.journal_text.specs.declared.link.Link.TheVariants.{In, Peer, Filt, Res, Org, Lost, Low, Dyn, Int, Red, Best, ReadRib, Ebgp, Ibgp, Ext, Fib, Read, Outf, Adv}
 use Rattle.journal_text.specs.declared.link.Task.{Task}
-use Rattle.journal_text.specs.declared.link.Task.TheVariants.{Del, Fin, Nh, ReadRib as RibReads, Out, Rdel}
+use Rattle.journal_text.specs.declared.link.Task.TheVariants.{Del, Fin, Nh, ReadRib as RibReads, Out, Rdel, Red as RedWalks, Ext as ExtWalks}
 
 -- the number, if it is not 0
 abbrev pub from_one : ℕ → Option ℕ
@@ -92,6 +92,13 @@ link_from_parts other = None
 abbrev pub link_of : List ℕ → Option Link
 link_of text = link_from_parts (parts 46 text)
 
+-- `red`, `ext`
+unfoldable pub plain_task : List ℕ → Option Task
+plain_task w =
+    if bytes_eq w (codes "red") then Some RedWalks
+    else if bytes_eq w (codes "ext") then Some ExtWalks
+    else None
+
 -- `fin`, `nh`, `out` of a peer
 unfoldable pub peer_task : List ℕ → ℕ → Option Task
 peer_task w k =
@@ -114,6 +121,7 @@ task_of_three w a b =
     else None
 
 unfoldable pub task_from_parts : List (List ℕ) → Option Task
+task_from_parts (w ∷ []) = plain_task w
 task_from_parts (w ∷ a ∷ []) = task_of_two w a
 task_from_parts (w ∷ a ∷ b ∷ []) = task_of_three w a b
 task_from_parts other = None

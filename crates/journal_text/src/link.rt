@@ -83,6 +83,10 @@ pub enum Task {
     Out(u32),
     /// `rdel.PROTO.N`: the deletes of a protocol's loss.
     Rdel(Proto, u32),
+    /// `red`: the walk of redistribution.
+    Red,
+    /// `ext`: the walk of the forwarding side's next hops.
+    Ext,
 }
 
 impl Task {

@@ -1,7 +1,7 @@
 //! Reading the names of links and tasks.
 
 ghost use Rattle.std.specs.Prelude.{◌≡◌};
-ghost use Rattle.journal_text.specs.Names.{inner_link, link_of, link_of_three, link_of_two, name_number, peer_link, peer_task, plain_link, proto_of, session_link, task_of, task_of_three, task_of_two};
+ghost use Rattle.journal_text.specs.Names.{inner_link, link_of, link_of_three, link_of_two, name_number, peer_link, peer_task, plain_link, plain_task, proto_of, session_link, task_of, task_of_three, task_of_two};
 
 use crate::link::{Link, Task};
 use addr4::{first_part, read_number};
@@ -177,6 +177,20 @@ fn peer_task(word: &[u8], peer: u32) -> Option<Task>
     }
 }
 
+/// `red`, `ext`.
+#[tactic(auto, unfolding(crate::specs::Names::plain_task))]
+fn plain_task(word: &[u8]) -> Option<Task>
+    ensures { result ≡ plain_task word.now }
+{
+    if word == b"red".as_slice() {
+        Some(Task::Red)
+    } else if word == b"ext".as_slice() {
+        Some(Task::Ext)
+    } else {
+        None
+    }
+}
+
 /// The task of two words.
 #[tactic(auto, unfolding(crate::specs::Names::task_of_two))]
 fn task_of_two(word: &[u8], part: &[u8]) -> Option<Task>
@@ -217,7 +231,10 @@ pub(crate) fn read_task(text: &[u8]) -> Option<Task>
     ensures { result ≡ task_of text.now }
 {
     let (word, rest) = first_part(text, b'.');
-    let (part, rest) = first_part(rest?, b'.');
+    let Some(rest) = rest else {
+        return plain_task(word);
+    };
+    let (part, rest) = first_part(rest, b'.');
     let Some(rest) = rest else {
         return task_of_two(word, part);
     };

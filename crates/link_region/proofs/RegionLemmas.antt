@@ -12,7 +12,7 @@ use Rattle.journal_text.specs.Walk.{Links, with_link, Leads}
 use Rattle.journal_text.proofs.LinkLemmas.{same_link-yes}
 use Rattle.journal_text.proofs.WalkLemmas.{leads_nowhere, leads_append, leads_begin}
 use Rattle.link_region.specs.declared.regions.Region.{Region}
-use Rattle.link_region.specs.declared.regions.Region.TheVariants.{Inward, Resolved, Decided, InteriorRoutes, Forward, External, Outward, Elsewhere}
+use Rattle.link_region.specs.declared.regions.Region.TheVariants.{Inward, Resolved, Decided, InteriorRoutes, Redistributed, External, Forward, Outward}
 use Rattle.link_region.specs.Regions.{region_of, region_number, Sides, joined, with_side, LeadsIn}
 
 -- by a test, with what it came to
@@ -24,17 +24,17 @@ equal_numbers : (m n : ℕ) → nat_eq m n ≡ true → m ≡ n
 equal_numbers m n e = grind (arith, nat_tests)
 
 abbrev region_by : ℕ → Region
-region_by n = cond (nat_eq n 0) Inward (cond (nat_eq n 1) Resolved (cond (nat_eq n 2) Decided (cond (nat_eq n 3) InteriorRoutes (cond (nat_eq n 4) Forward (cond (nat_eq n 5) External (cond (nat_eq n 6) Outward Elsewhere))))))
+region_by n = cond (nat_eq n 0) Inward (cond (nat_eq n 1) Resolved (cond (nat_eq n 2) Decided (cond (nat_eq n 3) InteriorRoutes (cond (nat_eq n 4) Redistributed (cond (nat_eq n 5) External (cond (nat_eq n 6) Forward Outward))))))
 
 region_back : (r : Region) → region_by (region_number r) ≡ r
 region_back Inward = refl
 region_back Resolved = refl
 region_back Decided = refl
 region_back InteriorRoutes = refl
-region_back Forward = refl
+region_back Redistributed = refl
 region_back External = refl
+region_back Forward = refl
 region_back Outward = refl
-region_back Elsewhere = refl
 
 same_region : (a b : Region) → nat_eq (region_number a) (region_number b) ≡ true → a ≡ b
 same_region a b e = sym (region_back a) ∙ ap region_by (equal_numbers (region_number a) (region_number b) e) ∙ region_back b
@@ -44,10 +44,10 @@ itself Inward = refl
 itself Resolved = refl
 itself Decided = refl
 itself InteriorRoutes = refl
-itself Forward = refl
+itself Redistributed = refl
 itself External = refl
+itself Forward = refl
 itself Outward = refl
-itself Elsewhere = refl
 
 -- ---- another part in one region
 pub with_side_here : (sides : Sides) (r : Region) (links : Links Value) → with_side sides r links r ≡ links

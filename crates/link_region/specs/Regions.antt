@@ -1,12 +1,12 @@
 -- The links by their regions: each region has a part of the router that gives its links.
 use Rattle.std.specs.Prelude.{◌≡◌, ℕ, ◌==◌, cond, List}
 use Rattle.journal_text.specs.declared.link.Link.{Link}
-use Rattle.journal_text.specs.declared.link.Link.TheVariants.{In, Peer, Filt, Res, Org, Lost, Low, Dyn, Int, Best, ReadRib, Read, Outf, Adv, Fib}
+use Rattle.journal_text.specs.declared.link.Link.TheVariants.{In, Peer, Filt, Res, Org, Lost, Low, Dyn, Int, Red, Best, ReadRib, Ebgp, Ibgp, Ext, Fib, Read, Outf, Adv}
 use Rattle.journal_text.specs.declared.value.Value.{Value}
 use Rattle.journal_text.specs.declared.entry.Entry.{Entry}
 use Rattle.journal_text.specs.Walk.{Links, Leads}
 use Rattle.link_region.specs.declared.regions.Region.{Region}
-use Rattle.link_region.specs.declared.regions.Region.TheVariants.{Inward, Resolved, Decided, InteriorRoutes, Forward, External, Outward, Elsewhere}
+use Rattle.link_region.specs.declared.regions.Region.TheVariants.{Inward, Resolved, Decided, InteriorRoutes, Redistributed, External, Forward, Outward}
 
 -- ---- the table: a line for each link that may be live
 
@@ -20,23 +20,26 @@ region_of (Lost proto n) = InteriorRoutes
 region_of Low = InteriorRoutes
 region_of Dyn = InteriorRoutes
 region_of Int = InteriorRoutes
+region_of Red = Redistributed
 region_of Best = Decided
-region_of Fib = Forward
 region_of ReadRib = External
+region_of Ebgp = Forward
+region_of Ibgp = Forward
+region_of Ext = Forward
+region_of Fib = Forward
 region_of (Read j s) = Outward
 region_of (Outf j s) = Outward
 region_of (Adv j s) = Outward
-region_of other = Elsewhere
 
 abbrev pub region_number : Region → ℕ
 region_number Inward = 0
 region_number Resolved = 1
 region_number Decided = 2
 region_number InteriorRoutes = 3
-region_number Forward = 4
+region_number Redistributed = 4
 region_number External = 5
-region_number Outward = 6
-region_number Elsewhere = 7
+region_number Forward = 6
+region_number Outward = 7
 
 -- ---- the same for any table
 

@@ -16,14 +16,14 @@ pub enum Region {
     Decided,
     /// The interior routes, down to `int`.
     InteriorRoutes,
-    /// The forwarding table.
-    Forward,
+    /// The routes of this speaker's own, which redistribution makes: the link `red`.
+    Redistributed,
     /// What the forwarding side reads of `best`.
     External,
+    /// The external routes and the forwarding table: from `ebgp` and `ibgp` down to `fib`.
+    Forward,
     /// The peers' exits.
     Outward,
-    /// Links that aren't live yet, in no state.
-    Elsewhere,
 }
 
 /// The region of a link.
@@ -35,10 +35,10 @@ pub fn region_of(link: Link) -> Region
         Link::Res(_) => Region::Resolved,
         Link::Org(_) | Link::Lost(_, _) | Link::Low | Link::Dyn | Link::Int =>
             Region::InteriorRoutes,
+        Link::Red => Region::Redistributed,
         Link::Best => Region::Decided,
-        Link::Fib => Region::Forward,
         Link::ReadRib => Region::External,
+        Link::Ebgp | Link::Ibgp | Link::Ext | Link::Fib => Region::Forward,
         Link::Read(_, _) | Link::Outf(_, _) | Link::Adv(_, _) => Region::Outward,
-        _ => Region::Elsewhere,
     }
 }

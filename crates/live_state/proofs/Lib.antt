@@ -4,3 +4,4 @@ mod DecidedLemmas
 pub mod UpdateLemmas
 pub mod AdmittedLemmas
 pub mod LongestLemmas
+pub mod ForwardingLemmas

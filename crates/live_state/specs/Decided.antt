@@ -1,8 +1,9 @@
 -- What is decided from the live state alone: the rows of each link, from scratch. The links of a peer are its routes (RFC 4271,
 -- section 3.2), those that the incoming filter accepts (section 9.1.1), and of these the ones whose next hop can be reached (section
--- 9.1.2.1); below them all is the best route to each prefix (section 9.1.2); those of the interior routes, the routes of each
--- protocol and the ones of least administrative distance (NSDI 2005, section 5.2).
-use Rattle.std.specs.Prelude.{ℕ, zero, suc, nat_lt, not, ◌==◌, ◌&&◌, if◌then◌else◌, List, [], ◌∷◌, find, filter_map, Option, Some, None, option_map}
+-- 9.1.2.1); below them all is the best route to each prefix (section 9.1.2), of these and of this speaker's own (section 9.4); those of
+-- the interior routes, the routes of each protocol and the ones of least administrative distance; those of the forwarding side, the best
+-- routes of external and of internal peers, and what packets are forwarded by (NSDI 2005, section 5.2).
+use Rattle.std.specs.Prelude.{ℕ, zero, suc, nat_lt, Bool, true, not, ◌==◌, ◌&&◌, if◌then◌else◌, List, [], ◌∷◌, find, filter_map, Option, Some, None, option_map}
 use Rattle.std.specs.List.{list_any, range_with_len}
 use Rattle.best_path.specs.Steps.{pick}
 use Rattle.std.specs.FinMap as tables
@@ -21,14 +22,16 @@ use Rattle.live_state.specs.Messages.{plain}
 use Rattle.rib_route.specs.declared.Proto.{Proto}
 use Rattle.rib_route.specs.declared.Proto.TheVariants.{Connected, Static, Ospf, Rip}
 use Rattle.rib_route.specs.declared.rows.Interior.{Interior}
+use Rattle.rib_route.specs.declared.rows.External.{External}
 use Rattle.rib_route.specs.declared.rows.FibRow.{FibRow}
-use Rattle.rib_route.specs.Distances.{distance, fib_proto}
+use Rattle.rib_route.specs.Distances.{distance, fib_proto, external_proto}
 use Rattle.rib_route.specs.Forwarding.{fib_row}
+use Rattle.redist.specs.Local.{local_route}
 use Rattle.journal_text.specs.declared.link.Link.{Link}
-use Rattle.journal_text.specs.declared.link.Link.TheVariants.{In, Filt, Res, Org, Low, Dyn, Int, Best, ReadRib, Read, Outf, Adv, Fib}
+use Rattle.journal_text.specs.declared.link.Link.TheVariants.{In, Filt, Res, Org, Low, Dyn, Int, Red, Best, ReadRib, Ebgp, Ibgp, Ext, Read, Outf, Adv, Fib}
 use Rattle.journal_text.specs.declared.value.Value.{Value}
 use Rattle.journal_text.specs.Walk.{Links}
-use Rattle.journal_text.specs.Values.{attrs_rows, route_rows, interior_rows, fib_rows}
+use Rattle.journal_text.specs.Values.{valued, attrs_rows, route_rows, interior_rows, external_value, fib_rows}
 use Rattle.event_text.specs.declared.declared.DeclaredPeer.{DeclaredPeer}
 use Rattle.event_text.specs.Declarations.{peer_at}
 use Rattle.live_state.specs.Lives.{LiveState, Routes, Interiors}
@@ -72,6 +75,10 @@ origins (Org proto) = proto ∷ []
 origins Low = Connected ∷ Static ∷ []
 origins Dyn = Ospf ∷ Rip ∷ []
 origins Int = Connected ∷ Static ∷ Ospf ∷ Rip ∷ []
+origins Red = Connected ∷ Static ∷ Ospf ∷ Rip ∷ []
+origins Ebgp = Connected ∷ Static ∷ Ospf ∷ Rip ∷ []
+origins Ibgp = Connected ∷ Static ∷ Ospf ∷ Rip ∷ []
+origins Ext = Connected ∷ Static ∷ Ospf ∷ Rip ∷ []
 origins Fib = Connected ∷ Static ∷ Ospf ∷ Rip ∷ []
 origins (Res k) = Connected ∷ Static ∷ Ospf ∷ Rip ∷ []
 origins Best = Connected ∷ Static ∷ Ospf ∷ Rip ∷ []
@@ -80,10 +87,6 @@ origins (Read j s) = Connected ∷ Static ∷ Ospf ∷ Rip ∷ []
 origins (Outf j s) = Connected ∷ Static ∷ Ospf ∷ Rip ∷ []
 origins (Adv j s) = Connected ∷ Static ∷ Ospf ∷ Rip ∷ []
 origins other = []
-
--- what packets are forwarded by
-abbrev pub forwarding_rows : Rows Interior → Rows FibRow
-forwarding_rows rows p = option_map fib_row (rows p)
 
 -- ---- next hops
 -- the prefix that so many bits of an address are
@@ -116,13 +119,24 @@ resolved_row rows (Some r) = with_metric_of r (longest_match rows r.attrs.next_h
 abbrev pub resolved_rows : Rows Interior → Rows Route → Rows Route
 resolved_rows interior rows p = resolved_row interior (rows p)
 
+-- ---- this speaker's own routes
+-- redistribution makes one where the interior route at a prefix is of a protocol that is redistributed (section 9.4)
+abbrev pub own_row : Speaker → (Proto → Bool) → Option Interior → Option Route
+own_row me redistributed None = None
+own_row me redistributed (Some row) = if redistributed row.proto then Some (local_route me) else None
+
+-- `red` has these, where `local` was declared
+abbrev pub own_rows : Option Speaker → (Proto → Bool) → Rows Interior → Option (Rows Route)
+own_rows None redistributed interior = None
+own_rows (Some me) redistributed interior = Some (λ p. own_row me redistributed (interior p))
+
 -- ---- the decision
 -- the rows of a link, or none where it isn't live
 abbrev pub rows_if_any : Option (Rows Route) → Rows Route
 rows_if_any None p = None
 rows_if_any (Some rows) p = rows p
 
--- the routes of all peers at a prefix: their numbers are from 1 to 64
+-- the routes at a prefix: this speaker's own has number 0, and that of a peer its number, from 1 to 64
 abbrev pub routes_of_all : (ℕ → Rows Route) → Network → List Route
 routes_of_all rows p = filter_map (λ k. rows k p) (range_with_len 0 65)
 
@@ -145,21 +159,73 @@ abbrev pub in_session : {V : Type 0} → Option Speaker → Option DeclaredPeer 
 in_session (Some me) (Some p) s rows = if p.up && (p.session == s) then Some (rows me p.words) else None
 in_session local peer s rows = None
 
+-- ---- the forwarding side
+-- what forwarding needs of a route that a peer of this kind sent; nothing of one of this speaker's own
+abbrev pub sent_by : (Neighbour → Bool) → ℕ → Option Neighbour → Option External
+sent_by kind next_hop None = None
+sent_by kind next_hop (Some peer) = if kind peer then Some (record { internal = peer.internal; next_hop = next_hop }) else None
+
+abbrev pub external_row : (Neighbour → Bool) → Option Route → Option External
+external_row kind None = None
+external_row kind (Some r) = sent_by kind r.attrs.next_hop r.from
+
+abbrev pub external_rows : (Neighbour → Bool) → Rows Route → Rows External
+external_rows kind best p = external_row kind (best p)
+
+-- packets go to the gateway of the interior route, or to the next hop itself where that is reached directly
+abbrev pub first_router : Option ℕ → ℕ → ℕ
+first_router None next_hop = next_hop
+first_router (Some gateway) next_hop = gateway
+
+abbrev pub over_interior : External → Option Interior → Option FibRow
+over_interior r None = None
+over_interior r (Some way) = Some (record { proto = external_proto r; gateway = Some (first_router way.gateway r.next_hop); iface = way.iface })
+
+-- an external route is forwarded by the interior route to its next hop, and not at all without one
+abbrev pub reached_row : Rows Interior → Option External → Option FibRow
+reached_row interior None = None
+reached_row interior (Some r) = over_interior r (longest_match interior r.next_hop)
+
+-- of two rows that of lesser distance
+abbrev pub lesser_of : Option FibRow → Option FibRow → Option FibRow
+lesser_of None other = other
+lesser_of (Some one) None = Some one
+lesser_of (Some one) (Some other) = if nat_lt (distance other.proto) (distance one.proto) then Some other else Some one
+
+-- what packets are forwarded by: of the interior and the external route to a prefix that of lesser distance
+abbrev pub forwarding_rows : Rows Interior → Rows External → Rows FibRow
+forwarding_rows interior external p = lesser_of (option_map fib_row (interior p)) (reached_row interior (external p))
+
 -- ---- what a peer's routes come to behind its filter and its resolver
 abbrev pub resolved_of : LiveState → ℕ → Option (Rows Route)
 resolved_of l k = option_map (resolved_rows (least_rows l.interior (origins Int))) (judged_rows l.declared.speaker (peer_at k l.declared.peers) (l.rules k) (l.routes k))
 
--- the best of all peers' routes
+-- ---- this speaker's own routes, and the best of all
+abbrev pub own_of : LiveState → Option (Rows Route)
+own_of l = own_rows l.declared.speaker l.redistributed (least_rows l.interior (origins Red))
+
+abbrev pub candidates_of : LiveState → ℕ → Rows Route
+candidates_of l zero = rows_if_any (own_of l)
+candidates_of l (suc k) = rows_if_any (resolved_of l (suc k))
+
 abbrev pub best_of : LiveState → Rows Route
-best_of l = picked_rows (λ k. rows_if_any (resolved_of l k))
+best_of l = picked_rows (candidates_of l)
+
+-- the best routes of peers of this kind
+abbrev pub external_of : LiveState → (Neighbour → Bool) → Rows External
+external_of l kind = external_rows kind (best_of l)
 
 -- ---- each link: no other is live
 abbrev pub from_scratch : LiveState → Links Value
 from_scratch l (In k) = option_map attrs_rows (live_rows (peer_at k l.declared.peers) (l.routes k))
 from_scratch l (Filt k) = option_map route_rows (judged_rows l.declared.speaker (peer_at k l.declared.peers) (l.rules k) (l.routes k))
 from_scratch l (Res k) = option_map route_rows (resolved_of l k)
+from_scratch l Red = option_map route_rows (own_of l)
 from_scratch l Best = option_map route_rows (since_local l.declared.speaker (best_of l))
 from_scratch l ReadRib = option_map route_rows (since_local l.declared.speaker (best_of l))
+from_scratch l Ebgp = option_map (valued external_value) (since_local l.declared.speaker (external_of l (λ w. not w.internal)))
+from_scratch l Ibgp = option_map (valued external_value) (since_local l.declared.speaker (external_of l (λ w. w.internal)))
+from_scratch l Ext = option_map (valued external_value) (since_local l.declared.speaker (external_of l (λ w. true)))
 from_scratch l (Read j s) = option_map route_rows (in_session l.declared.speaker (peer_at j l.declared.peers) s (λ me w. best_of l))
 from_scratch l (Outf j s) = option_map attrs_rows (in_session l.declared.speaker (peer_at j l.declared.peers) s (λ me w. sent_rows me w (l.outgoing j) (best_of l)))
 from_scratch l (Adv j s) = option_map attrs_rows (in_session l.declared.speaker (peer_at j l.declared.peers) s (λ me w. sent_rows me w (l.outgoing j) (best_of l)))
@@ -167,5 +233,5 @@ from_scratch l (Org proto) = option_map interior_rows (since_local l.declared.sp
 from_scratch l Low = option_map interior_rows (since_local l.declared.speaker (least_rows l.interior (origins Low)))
 from_scratch l Dyn = option_map interior_rows (since_local l.declared.speaker (least_rows l.interior (origins Dyn)))
 from_scratch l Int = option_map interior_rows (since_local l.declared.speaker (least_rows l.interior (origins Int)))
-from_scratch l Fib = option_map fib_rows (since_local l.declared.speaker (forwarding_rows (least_rows l.interior (origins Fib))))
+from_scratch l Fib = option_map fib_rows (since_local l.declared.speaker (forwarding_rows (least_rows l.interior (origins Fib)) (external_of l (λ w. true))))
 from_scratch l other = None

@@ -1,5 +1,5 @@
 -- Laws of these definitions alone, for the crates above.
-use Rattle.std.specs.Prelude.{◌≡◌, ◌≤◌, ◌<◌, ℕ, List, Contains, Option, Some, None}
+use Rattle.std.specs.Prelude.{◌≡◌, ◌≤◌, ◌<◌, ◌⊎◌, ℕ, List, Contains, Option, Some, None}
 use Rattle.std.specs.FinMap as tables
 use Rattle.addr4.specs.Prefixes.{Network, IsMasked, Holds}
 use Rattle.link_change.specs.Rows.{Rows}
@@ -8,10 +8,12 @@ use Rattle.event_text.specs.declared.event.Event.{Event}
 use Rattle.event_text.specs.declared.declared.DeclaredPeer.{DeclaredPeer}
 use Rattle.rib_route.specs.declared.Proto.{Proto}
 use Rattle.rib_route.specs.declared.rows.Interior.{Interior}
+use Rattle.rib_route.specs.declared.rows.FibRow.{FibRow}
+use Rattle.rib_route.specs.Distances.{distance}
 use Rattle.live_state.specs.Messages.{Says, is_ending, ends_session}
 use Rattle.live_state.specs.Declared.{declared_after}
 use Rattle.live_state.specs.Lives.{LiveState, LiveAfter, Interiors}
-use Rattle.live_state.specs.Decided.{distance_of, least_rows, longest_match}
+use Rattle.live_state.specs.Decided.{distance_of, least_rows, longest_match, lesser_of}
 
 -- What octets say ends the session exactly where they are seen to end it.
 abbrev pub SessionsEnd : Type 0
@@ -44,3 +46,13 @@ IsLongestMatch rows address (Some row) =
 
 abbrev pub TheLongestMatchIsDecided : Type 0
 TheLongestMatchIsDecided = (rows : Rows Interior) (address : ℕ) → IsLongestMatch rows address (longest_match rows address)
+
+-- What packets are forwarded by is one of the two rows, and neither is of lesser distance;
+abbrev pub TheLesserDistanceForwards : Type 0
+TheLesserDistanceForwards =
+    (one other : Option FibRow) (row : FibRow) → lesser_of one other ≡ Some row
+    → ((one ≡ Some row) ⊎ (other ≡ Some row)) × ((x : FibRow) → (one ≡ Some x) ⊎ (other ≡ Some x) → distance row.proto ≤ distance x.proto)
+
+-- there is none only where neither is there.
+abbrev pub EachRowForwards : Type 0
+EachRowForwards = (one other : Option FibRow) → lesser_of one other ≡ None → (one ≡ None) × (other ≡ None)

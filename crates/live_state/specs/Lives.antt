@@ -1,5 +1,6 @@
--- The live state: what the events alone make of the declarations, the sessions, each peer's live routes and its rules, and the
--- interior routes and their losses, whatever work was done or not (RFC 4271, sections 3.1, 3.2 and 6; NSDI 2005, section 5.2).
+-- The live state: what the events alone make of the declarations, the sessions, each peer's live routes and its rules, the
+-- interior routes and their losses, and the protocols that are redistributed, whatever work was done or not (RFC 4271, sections 3.1,
+-- 3.2 and 6; NSDI 2005, section 5.2).
 use Rattle.std.specs.Prelude.{◌≡◌, ℕ, ◌+◌, ◌==◌, Bool, true, false, if◌then◌else◌, List, [], ◌∷◌, Option, Some, None}
 use Rattle.std.specs.FinMap as tables
 use Rattle.std.specs.FinMap.{FinMap}
@@ -8,7 +9,7 @@ use Rattle.bgp_attr.specs.declared.attrs.Attrs.{Attrs}
 use Rattle.bgp_wire.specs.declared.message.Message.{Message}
 use Rattle.bgp_wire.specs.declared.message.Message.TheVariants as messages
 use Rattle.event_text.specs.declared.event.Event.{Event}
-use Rattle.event_text.specs.declared.event.Event.TheVariants.{Nothing, Local, Peer, Up, Down, Bgp, FilterIn, FilterOut, RouteAdd, RouteDel, Lose, Cover, Idle, Work, Ask, Show}
+use Rattle.event_text.specs.declared.event.Event.TheVariants.{Nothing, Local, Peer, Up, Down, Bgp, FilterIn, FilterOut, RouteAdd, RouteDel, Lose, Redist, Cover, Idle, Work, Ask, Show}
 use Rattle.event_text.specs.declared.declared.DeclaredPeer.{DeclaredPeer}
 use Rattle.event_text.specs.Declarations.{Declaration, no_declaration, peer_at, with_speaker, with_peer, with_session, without_session}
 use Rattle.policy_rules.specs.declared.rule.Rule.{Rule}
@@ -36,9 +37,11 @@ pub record LiveState : Type 0 where
   pub interior : Proto → Interiors
   -- how many losses of each protocol found a route
   pub losses : Proto → ℕ
+  -- whether its routes are redistributed into BGP
+  pub redistributed : Proto → Bool
 
 abbrev pub first_live : LiveState
-first_live = record { declared = no_declaration; routes = λ k. tables.empty; rules = λ k. []; outgoing = λ k. []; interior = λ proto. tables.empty; losses = λ proto. 0 }
+first_live = record { declared = no_declaration; routes = λ k. tables.empty; rules = λ k. []; outgoing = λ k. []; interior = λ proto. tables.empty; losses = λ proto. 0; redistributed = λ proto. false }
 
 -- ---- the routes of peers
 -- with this route at a prefix, in the place of the one that stood there, or with none (RFC 4271, section 3.1)
@@ -96,6 +99,10 @@ interior_lost l proto = record l {
   losses = with_losses l.losses proto (if is_empty_map (l.interior proto) then l.losses proto else l.losses proto + 1);
 }
 
+-- a protocol's routes are redistributed from now on, or aren't
+abbrev pub with_redistributed : (Proto → Bool) → Proto → Bool → Proto → Bool
+with_redistributed all proto on other = if same_protocol other proto then on else all other
+
 -- ---- events
 abbrev pub HearsIfUp : LiveState → ℕ → DeclaredPeer → List ℕ → Bool → LiveState → Type 0
 HearsIfUp l k p octets false l' = l' ≡ l
@@ -126,6 +133,7 @@ LiveAfter l (FilterOut k rules) l' = l' ≡ record l { outgoing = with_rules l.o
 LiveAfter l (RouteAdd p row) l' = l' ≡ interior_fed l row.proto (tables.insert (l.interior row.proto) p row)
 LiveAfter l (RouteDel proto p) l' = l' ≡ interior_fed l proto (tables.remove (l.interior proto) p)
 LiveAfter l (Lose proto) l' = l' ≡ interior_lost l proto
+LiveAfter l (Redist proto on) l' = l' ≡ record l { redistributed = with_redistributed l.redistributed proto on }
 LiveAfter l (Cover addr) l' = l' ≡ l
 LiveAfter l Idle l' = l' ≡ l
 LiveAfter l (Work task n) l' = l' ≡ l

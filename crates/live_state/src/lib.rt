@@ -5,15 +5,15 @@
 //!
 //! 1. [`Messages`](specs/Messages.antt): what octets from a peer say, what an UPDATE does, which messages end a session;
 //! 2. [`Declared`](specs/Declared.antt): what each event makes of the declarations and the sessions;
-//! 3. [`Lives`](specs/Lives.antt): what the events alone make of the live routes, the filters' rules and the interior routes,
-//!    whatever work was done between them;
+//! 3. [`Lives`](specs/Lives.antt): what the events alone make of the live routes, the filters' rules, the interior routes and the
+//!    protocols that are redistributed, whatever work was done between them;
 //! 4. [`Decided`](specs/Decided.antt): the rows of each link, decided from scratch over what is live.
 //!
 //! The router has these rows after an idle, and on each link that no work holds up at any moment (`router_core`). The functions
 //! are laws about the definitions alone: they do nothing, and have a law as their contract, which crates above call for.
 #![tactic(auto)]
 
-ghost use Rattle.live_state.specs.Laws.{SessionsEnd, DeclarationsFollow, TheLeastDistanceIsDecided, EachLiveRouteCounts, TheLongestMatchIsDecided};
+ghost use Rattle.live_state.specs.Laws.{SessionsEnd, DeclarationsFollow, TheLeastDistanceIsDecided, EachLiveRouteCounts, TheLongestMatchIsDecided, TheLesserDistanceForwards, EachRowForwards};
 
 use bgp_wire::one_of_message_and_fault;
 
@@ -41,4 +41,11 @@ pub fn the_least_distance_is_decided()
 /// The interior route by which a next hop is reached is that of the longest prefix that holds it (RFC 4271, section 9.1.2.1).
 pub fn the_longest_match_is_decided()
     ensures { TheLongestMatchIsDecided }
+{}
+
+/// Packets are forwarded by the interior or the external route to a prefix, whichever has the lesser administrative distance (NSDI
+/// 2005, section 5.2).
+pub fn the_lesser_distance_forwards()
+    ensures least { TheLesserDistanceForwards }
+    ensures each { EachRowForwards }
 {}

@@ -10,7 +10,7 @@ use Rattle.policy_rules.specs.declared.rule.Rule.{Rule}
 use Rattle.pass_core.specs.Passed.{Passed, Walked, present, latest_of, present_of, stepped, walk_of_waiting, after_walk}
 use Rattle.pass_core.specs.Turns.{walked_on, IsSentAt}
 use Rattle.journal_text.specs.declared.link.Task.{Task}
-use Rattle.journal_text.specs.declared.link.Task.TheVariants.{Del, Fin, Nh, ReadRib, Out, Rdel}
+use Rattle.journal_text.specs.declared.link.Task.TheVariants.{Del, Fin, Nh, ReadRib, Out, Rdel, Red, Ext}
 use Rattle.journal_text.specs.declared.entry.Entry.{Entry}
 use Rattle.journal_text.specs.declared.value.Value.{Value}
 use Rattle.loss_chain.specs.Lost.{Lost}
@@ -31,6 +31,8 @@ turn_leads (Del k s) c less sent entries t = t.1.fall.leads
 turn_leads (Fin k) c less sent entries t = t.1.leads
 turn_leads (Nh k) c less sent entries t = absurd t
 turn_leads ReadRib c less sent entries t = absurd t
+turn_leads Red c less sent entries t = absurd t
+turn_leads Ext c less sent entries t = absurd t
 turn_leads (Out k) c less sent entries t = absurd t
 turn_leads (Rdel proto n) c less sent entries t = absurd t
 
@@ -102,6 +104,8 @@ turn_left (Fin k) c less sent entries t = subst (Left c) (sym t.1.after) (record
 })
 turn_left (Nh k) c less sent entries t = absurd t
 turn_left ReadRib c less sent entries t = absurd t
+turn_left Red c less sent entries t = absurd t
+turn_left Ext c less sent entries t = absurd t
 turn_left (Out k) c less sent entries t = absurd t
 turn_left (Rdel proto n) c less sent entries t = absurd t
 
@@ -121,6 +125,8 @@ turn_nears (Fin n) a k c less sent entries at chain t =
     (omega (arith, l, same), omega (arith, w, fewer))
 turn_nears (Nh n) a k c less sent entries at chain t = absurd t
 turn_nears ReadRib a k c less sent entries at chain t = absurd t
+turn_nears Red a k c less sent entries at chain t = absurd t
+turn_nears Ext a k c less sent entries at chain t = absurd t
 turn_nears (Out n) a k c less sent entries at chain t = absurd t
 turn_nears (Rdel proto n) a k c less sent entries at chain t = absurd t
 
@@ -135,5 +141,7 @@ turn_sent (Fin k) c less sent entries t =
     subst (λ (x : Chained). (p : Network) × IsSent (filt_rows c) (filt_rows x) p sent) (sym t.1.after) (walk_sent t.1.walks.next (filt_rows c) (filt_rows (record c { filter = less.filter })) sent t.1.walks.changes)
 turn_sent (Nh k) c less sent entries t = absurd t
 turn_sent ReadRib c less sent entries t = absurd t
+turn_sent Red c less sent entries t = absurd t
+turn_sent Ext c less sent entries t = absurd t
 turn_sent (Out k) c less sent entries t = absurd t
 turn_sent (Rdel proto n) c less sent entries t = absurd t

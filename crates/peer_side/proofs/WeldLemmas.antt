@@ -1,7 +1,7 @@
 -- A fall in a peer's chain, and the weld behind it.
 use Rattle.std.proofs.Common.{◌≡◌, ℕ, ◌<◌, ◌≤◌, List, ◌++◌, Some, sym, ap, subst, ◌∙◌, arith}
 use Rattle.journal_text.specs.declared.link.Task.{Task}
-use Rattle.journal_text.specs.declared.link.Task.TheVariants.{Del, Fin, Nh, ReadRib, Out, Rdel}
+use Rattle.journal_text.specs.declared.link.Task.TheVariants.{Del, Fin, Nh, ReadRib, Out, Rdel, Red, Ext}
 use Rattle.journal_text.specs.declared.entry.Entry.{Entry}
 use Rattle.journal_text.specs.declared.value.Value.{Value}
 use Rattle.journal_text.specs.Journals.{Journaled, with_entries}
@@ -36,6 +36,8 @@ nears_weld (Del n s) k a fallen cs entries near w = let l = near.0 in let m = ne
 nears_weld (Fin n) k a fallen cs entries near w = let l = near.0 in let m = near.1 in let e = w.lost in let f = w.left in (omega (arith, l, e), omega (arith, m, f))
 nears_weld (Nh n) k a fallen cs entries near w = absurd near
 nears_weld ReadRib k a fallen cs entries near w = absurd near
+nears_weld Red k a fallen cs entries near w = absurd near
+nears_weld Ext k a fallen cs entries near w = absurd near
 nears_weld (Out n) k a fallen cs entries near w = absurd near
 nears_weld (Rdel proto n) k a fallen cs entries near w = absurd near
 

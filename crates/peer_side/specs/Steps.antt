@@ -11,7 +11,7 @@ use Rattle.policy_rules.specs.declared.rule.Rule.{Rule}
 use Rattle.pass_core.specs.Passed.{present}
 use Rattle.journal_text.specs.declared.link.Link.TheVariants.{In}
 use Rattle.journal_text.specs.declared.link.Task.{Task}
-use Rattle.journal_text.specs.declared.link.Task.TheVariants.{Del, Fin, Nh, ReadRib, Out, Rdel}
+use Rattle.journal_text.specs.declared.link.Task.TheVariants.{Del, Fin, Nh, ReadRib, Out, Rdel, Red, Ext}
 use Rattle.journal_text.specs.declared.entry.Entry.{Entry}
 use Rattle.journal_text.specs.declared.value.Value.{Value}
 use Rattle.journal_text.specs.Journals.{Journaled, Adds}
@@ -121,6 +121,8 @@ Nears (Del k s) a a' = (lost_in a' + 1 ≡ lost_in a) × (left_in a' ≤ left_in
 Nears (Fin k) a a' = (lost_in a' ≡ lost_in a) × (left_in a' < left_in a)
 Nears (Nh k) a a' = ⊥
 Nears ReadRib a a' = ⊥
+Nears Red a a' = ⊥
+Nears Ext a a' = ⊥
 Nears (Out k) a a' = ⊥
 Nears (Rdel proto n) a a' = ⊥
 

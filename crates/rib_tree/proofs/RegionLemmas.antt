@@ -6,7 +6,7 @@ use Rattle.link_change.specs.Rows.{Rows}
 use Rattle.link_change.specs.Changes.{IsSent}
 use Rattle.link_change.specs.declared.change.Change.{Change}
 use Rattle.journal_text.specs.declared.link.Link.{Link}
-use Rattle.journal_text.specs.declared.link.Link.TheVariants.{Org, Lost, Low, Dyn, Int, Fib}
+use Rattle.journal_text.specs.declared.link.Link.TheVariants.{Org, Lost, Low, Dyn, Int, Ebgp, Ibgp, Ext, Fib}
 use Rattle.journal_text.specs.declared.entry.Entry.{Entry}
 use Rattle.journal_text.specs.declared.value.Value.{Value}
 use Rattle.journal_text.specs.Values.{fib_rows, fib_value, valued_change}
@@ -46,6 +46,9 @@ module _ (t t' : Treed) where
     where
       each : (link : Link) → joined sides link ≡ joined (with_side sides Forward (rib_links t')) link
       each Fib = ap (λ (l : Links Value). l Fib) is ∙ ap (λ (rows : Rows FibRow). Some (fib_rows rows)) (sym same)
+      each Ebgp = ap (λ (l : Links Value). l Ebgp) is
+      each Ibgp = ap (λ (l : Links Value). l Ibgp) is
+      each Ext = ap (λ (l : Links Value). l Ext) is
       each other = refl
 
   pub fib_leads : (p : Network) (change : Change FibRow) → IsSent (forwarded (int_rows t)) (forwarded (int_rows t')) p (Some change) → LeadsIn Forward (rib_links t) (valued_change fib_value Fib change) (rib_links t')
@@ -55,4 +58,7 @@ module _ (t t' : Treed) where
     where
       each : (link : Link) → with_link (joined sides) Fib (Some (fib_rows (forwarded (int_rows t')))) link ≡ joined (with_side sides Forward (rib_links t')) link
       each Fib = refl
+      each Ebgp = ap (λ (l : Links Value). l Ebgp) is
+      each Ibgp = ap (λ (l : Links Value). l Ibgp) is
+      each Ext = ap (λ (l : Links Value). l Ext) is
       each other = refl

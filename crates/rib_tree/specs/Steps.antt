@@ -13,7 +13,7 @@ use Rattle.link_change.specs.declared.turn.Turn.TheVariants.{Nothing, Quiet, Sen
 use Rattle.loss_chain.specs.Covering.{IsLeastRow}
 use Rattle.journal_text.specs.declared.link.Link.TheVariants.{Org}
 use Rattle.journal_text.specs.declared.link.Task.{Task}
-use Rattle.journal_text.specs.declared.link.Task.TheVariants.{Del, Fin, Nh, ReadRib, Out, Rdel}
+use Rattle.journal_text.specs.declared.link.Task.TheVariants.{Del, Fin, Nh, ReadRib, Out, Rdel, Red, Ext}
 use Rattle.journal_text.specs.declared.value.Value.{Value}
 use Rattle.journal_text.specs.declared.entry.Entry.{Entry}
 use Rattle.journal_text.specs.Journals.{Journaled, Adds}
@@ -71,6 +71,8 @@ has_tree_turn t (Del k s) = false
 has_tree_turn t (Fin k) = false
 has_tree_turn t (Nh k) = false
 has_tree_turn t ReadRib = false
+has_tree_turn t Red = false
+has_tree_turn t Ext = false
 has_tree_turn t (Out k) = false
 
 -- a turn of a task of the tree
@@ -80,6 +82,8 @@ TurnedTree old new (Del k s) sent entries = ⊥
 TurnedTree old new (Fin k) sent entries = ⊥
 TurnedTree old new (Nh k) sent entries = ⊥
 TurnedTree old new ReadRib sent entries = ⊥
+TurnedTree old new Red sent entries = ⊥
+TurnedTree old new Ext sent entries = ⊥
 TurnedTree old new (Out k) sent entries = ⊥
 
 -- What a turn that came to this made of the tree and of the journal.
@@ -95,4 +99,6 @@ IsFullAfter (Del k s) t = IsFull t
 IsFullAfter (Fin k) t = IsFull t
 IsFullAfter (Nh k) t = IsFull t
 IsFullAfter ReadRib t = IsFull t
+IsFullAfter Red t = IsFull t
+IsFullAfter Ext t = IsFull t
 IsFullAfter (Out k) t = IsFull t

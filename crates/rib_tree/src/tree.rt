@@ -164,9 +164,13 @@ impl Tree {
     {
         match task {
             Task::Rdel(proto, loss) => self.sweep(proto, loss, journal),
-            Task::Del(..) | Task::Fin(..) | Task::Nh(..) | Task::ReadRib | Task::Out(..) => {
-                Ok(Turn::Nothing)
-            }
+            Task::Del(..)
+            | Task::Fin(..)
+            | Task::Nh(..)
+            | Task::ReadRib
+            | Task::Out(..)
+            | Task::Red
+            | Task::Ext => Ok(Turn::Nothing),
         }
     }
 

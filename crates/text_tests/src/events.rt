@@ -46,8 +46,17 @@ route add rip 0.0.0.0/0 direct abcdefghijklmno 0\n\
 route del connected 10.1.2.3/16\n\
 lost rip\n\
 cover 9.9.9.9\n\
+redist ospf on\n\
+redist  static  off \n\
 work rdel.ospf.2 3\n\
+work red 4294967295\n\
+work ext 0\n\
 show org.rip.1\n\
+show red\n\
+ask red 0.0.0.0/0\n\
+show ebgp\n\
+ask ibgp 10.1.0.0/16\n\
+show ext\n\
 show fib";
 
 /// Lines that are no events.
@@ -94,7 +103,9 @@ show nh.1\n\
 show res.0\n\
 ask in.1 192.0.2.0/33\n\
 show peer.3.4.5\n\
-show red\n\
+show red.1\n\
+show red.static\n\
+ask ebgp.1 10.1.0.0/16\n\
 ask best.1 10.1.0.0/16\n\
 Up 1\n\
 route add rip 0.0.0.0/0 direct abcdefghijklmnop 0\n\
@@ -108,6 +119,17 @@ route del rip\n\
 lost\n\
 cover 9.9.9.9/32\n\
 work rdel.rip.0 3\n\
+work red.1 3\n\
+work red.static 3\n\
+work ext.rib 3\n\
+work ebgp 3\n\
+redist rip\n\
+redist rip On\n\
+redist rip on off\n\
+redist bgp on\n\
+redist on rip\n\
+redist off\n\
+redist\n\
 show org.bgp";
 
 /// Lines with an octet that no line has.
@@ -176,6 +198,7 @@ E4 up 300\n\
 E4 filter in 1 any accept\n\
 E4 filter out 1 any accept\n\
 E4 cover 9.9.9.9\n\
+E4 redist static on\n\
 E4 idle\n\
 - # local\n\
 - local 65000 192.0.2.254 192.0.2.254\n\
@@ -209,6 +232,11 @@ E5 ask read.2.1 10.1.0.0/16\n\
 - show org.rip.2\n\
 - show best\n\
 - work rdel.rip.2 1\n\
+- redist rip off\n\
+- work red 1\n\
+- work ext 1\n\
+- show red\n\
+- ask ext 10.1.0.0/16\n\
 - down 64";
 
 /// The code of a word; none of any other.

@@ -268,11 +268,11 @@ const NO_LINKS: &str =
     ";in;in.;in.0;in.01;in.1.1;in.4294967296;peer.1;peer.1.0;peer.1.1.1;org;org.bgp;best.1;read.1;read.rib.1;In.1; in.1";
 
 /// Names of tasks.
-const TASKS: &str = "del.2.1;fin.1;nh.64;rd.rib;out.64;rdel.rip.2";
+const TASKS: &str = "del.2.1;fin.1;nh.64;rd.rib;out.64;rdel.rip.2;red;ext";
 
 /// Texts that name no task.
 const NO_TASKS: &str =
-    "del.2;del.0.1;fin.1.1;nh;nh.;nh.0;nh.01;nh.1.1;nh.x;nh.4294967296;Nh.1;nhs.1;rdel.2.1;rdel.rip.0;rd;rd.1;rd.rib.1;rd.Rib;out;out.0;out.1.1;out.rib;read.rib";
+    "del.2;del.0.1;fin.1.1;nh;nh.;nh.0;nh.01;nh.1.1;nh.x;nh.4294967296;Nh.1;nhs.1;rdel.2.1;rdel.rip.0;rd;rd.1;rd.rib.1;rd.Rib;out;out.0;out.1.1;out.rib;read.rib;red.;red.1;red.rip;Red;ext.1;ext.rib;ebgp;";
 
 #[test]
 fn names_are_read(rt: HostRuntime) {
@@ -303,4 +303,6 @@ fn names_are_read(rt: HostRuntime) {
     assert!(rt; Task::read(b"nh.3") == Some(Task::Nh(3)));
     assert!(rt; Task::read(b"out.3") == Some(Task::Out(3)));
     assert!(rt; Task::read(b"rd.rib") == Some(Task::ReadRib));
+    assert!(rt; Task::read(b"red") == Some(Task::Red));
+    assert!(rt; Task::read(b"ext") == Some(Task::Ext));
 }
