@@ -3,6 +3,8 @@
 ghost use Rattle.rib_exit.specs.Exits.{nothing_yet};
 ghost use Rattle.rib_exit.specs.Laws.{StandsAtFirst, LeadsAnywhere, ExtIsOfBest, ExactWithoutWork, StrangersAgree, NoneLeftWithoutWork, TurnsAreBounded, LeftFollows, CandidatesAreOfBest, KnownAreFew};
 
+use ext_int::exact_at_rest;
+
 /// At first no row stands on a link, nothing is left to do, and all that is claimed holds.
 pub fn nothing_at_first()
     ensures { StandsAtFirst nothing_yet }
@@ -23,7 +25,9 @@ pub fn the_rows_are_of_best()
 /// hops.
 pub fn exact_without_work()
     ensures { ExactWithoutWork }
-{}
+{
+    exact_at_rest();
+}
 
 /// What another client of the register does leaves the exit's agreement with it.
 pub fn strangers_agree()
