@@ -1,5 +1,5 @@
 -- When the task has work, and how many turns are left of it.
-use Rattle.std.proofs.Common.{◌≡◌, ℕ, ◌+◌, ◌*◌, ◌≤◌, nat_eq, nat_lt, Bool, true, false, not, ◌&&◌, ◌||◌, Option, Some, None, is_some, refl, sym, ap, ◌∙◌, inl, inr, MatchBool, arith}
+use Rattle.std.proofs.Common.{◌≡◌, ℕ, ◌+◌, ◌≤◌, nat_eq, nat_lt, Bool, true, false, not, ◌&&◌, ◌||◌, Option, Some, None, is_some, refl, sym, ap, ◌∙◌, inl, inr, MatchBool, arith}
 use Rattle.std.proofs.lemmas.Bool.Decides.{nat_tests}
 use Rattle.std.proofs.lemmas.Slice.Eq.{bytes_eq-Decides}
 use Rattle.std.specs.Option.{option_eq}
@@ -15,9 +15,8 @@ use Rattle.nexthop_resolver.specs.Resolving.{Resolving}
 use Rattle.nexthop_resolver.specs.Turns.{Rests, HasWork}
 use Rattle.nexthop_resolver.specs.Left.{TellsAlike, differing_count, walk_turns, is_needed, next_walk, turns_left}
 use Rattle.nexthop_resolver.proofs.LeftLemmas.{none_left_at_rest}
-use Rattle.rib_exit.specs.declared.exit.RibExit.{RibExit}
-use Rattle.rib_exit.specs.Exits.{same_outlet, same_way, is_busy, left_in, stale_in, known_in}
-use Rattle.rib_exit.specs.Laws.{NoneLeftWithoutWork, IsBounded, TurnsAreBounded, LeftFollows}
+use Rattle.rib_exit.specs.Exits.{same_outlet, same_way, is_busy}
+use Rattle.rib_exit.specs.Laws.{NoneLeftWithoutWork, TurnsAreBounded, LeftFollows}
 
 -- by a test, with what it came to
 pub by_bool : (b : Bool) (P : Bool → Type 0) → (b ≡ true → P true) → (b ≡ false → P false) → P b

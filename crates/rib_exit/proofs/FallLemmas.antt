@@ -30,14 +30,14 @@ use Rattle.rib_split.proofs.MergedLemmas.{moved_changes_once}
 use Rattle.ext_int.specs.Fibs.{fib_table, TakesOver}
 use Rattle.journal_text.specs.declared.entry.Entry.{Entry}
 use Rattle.journal_text.specs.declared.value.Value.{Value}
-use Rattle.journal_text.specs.Walk.{Links, Leads}
-use Rattle.journal_text.specs.Journals.{Journaled, with_entries, Adds}
+use Rattle.journal_text.specs.Walk.{Leads}
+use Rattle.journal_text.specs.Journals.{Journaled, Adds}
 use Rattle.journal_text.proofs.WalkLemmas.{leads_nowhere, leads_append}
 use Rattle.journal_text.proofs.JournalLemmas.{with_entries_none}
 use Rattle.rib_exit.specs.declared.exit.RibExit.{RibExit}
 use Rattle.rib_exit.specs.Exits.{links_of, beside, IsExit, AgreesWith, StandsOver}
 use Rattle.rib_exit.specs.Passing.{Caused, nothing_caused, part_entries, PassesDown, PassesBoth}
-use Rattle.rib_exit.specs.Steps.{LeadsExit, KeepsAgreed, FallsOn, TakesExternal}
+use Rattle.rib_exit.specs.Steps.{LeadsExit, KeepsAgreed, CausesOn, FallsOn, TakesExternal}
 use Rattle.rib_exit.proofs.PassLemmas.{none_sent, passed_ext, passed_over, passed_leads, caused_keeps, caused_none, caused_same}
 
 pub if_ok : {X E : Type 0} {P Q : X → Type 0} (r : Result X E) → ((x : X) → P x → Q x) → IfOk r P → IfOk r Q
@@ -53,7 +53,8 @@ keeps_same : (was : Registry Interior) (s : Resolving Way) → Keeps (answer_of 
 keeps_same was s = record { client = refl; walk = refl; hops = λ a h at. inl at }
 
 -- the same, over the rows of the two links
-pub record FallsOver (p : Network) (int : Rows Interior) (first second : Caused) (was : Registry Interior) (hops hops' : Resolving Way) (entries : List (Entry Value)) (rows now : Parted) : Type 0 where
+pub record FallsOver (p : Network) (int : Rows Interior) (split : Split) (first second : Caused) (was : Registry Interior) (hops hops' : Resolving Way) (entries : List (Entry Value)) (rows now : Parted) : Type 0 where
+  pub causes : CausesOn p split first.ext second.ext rows now
   pub ext : IsSent (merged_links rows) (merged_links now) p (option_or first.ext second.ext)
   pub fib : IsSent (fib_table hops int (merged_links rows)) (fib_table hops' int (merged_links now)) p (option_or first.fib second.fib)
   pub once : (first.ext ≡ None) ⊎ (second.ext ≡ None)
@@ -65,8 +66,9 @@ pub record FallsOver (p : Network) (int : Rows Interior) (first second : Caused)
 
 -- ---- neither link changes
 pub falls_nowhere : (p : Network) (int : Rows Interior) (was : Registry Interior) (hops : Resolving Way) (rows now : Parted) → now ≡ rows → AreCounted (named_by external_hop (merged_links rows)) hops.counts
-    → FallsOver p int nothing_caused nothing_caused was hops hops [] rows now
+    → FallsOver p int Neither nothing_caused nothing_caused was hops hops [] rows now
 falls_nowhere p int was hops rows now same counted = record {
+  causes = (refl, refl);
   ext = ap merged_links same;
   fib = ap (λ (r : Parted). fib_table hops int (merged_links r)) same;
   once = inl refl;
@@ -81,11 +83,13 @@ falls_nowhere p int was hops rows now same counted = record {
 pub falls_one : (p : Network) (int : Rows Interior) (was : Registry Interior) (hops hops' : Resolving Way) (link : BgpLink) (change : Change External) (row : Option External)
     (sent : Option (Change FibRow)) (entries : List (Entry Value)) (d : PassesDown link change row int was hops hops' sent entries) (rows now : Parted) → IsSentOn link rows now p change
     → rows (other link) change.prefix ≡ row → AreCounted (named_by external_hop (merged_links rows)) hops.counts
-    → FallsOver p int d.caused nothing_caused was hops hops' entries rows now
+    → FallsOver p int (One link change) d.caused nothing_caused was hops hops' entries rows now
 falls_one p int was hops hops' link change row sent entries d rows now is at counted =
     let over = passed_over int was hops hops' link change row sent entries d rows now p is at counted in
+    let ext = passed_ext int was hops hops' link change row sent entries d rows now p is at counted in
     record {
-      ext = subst (λ (o : Option (Change External)). IsSent (merged_links rows) (merged_links now) p o) (sym (else_none d.caused.ext)) (passed_ext int was hops hops' link change row sent entries d rows now p is at counted);
+      causes = (ext, refl);
+      ext = subst (λ (o : Option (Change External)). IsSent (merged_links rows) (merged_links now) p o) (sym (else_none d.caused.ext)) ext;
       fib = subst (λ (o : Option (Change FibRow)). IsSent (fib_table hops int (merged_links rows)) (fib_table hops' int (merged_links now)) p o) (sym (else_none d.caused.fib)) over.sent_is;
       once = inr refl;
       first_by = caused_none int was hops hops' d.caused.ext d.caused.fib d.takes;
@@ -153,12 +157,13 @@ module _ (p : Network) (int : Rows Interior) (was : Registry Interior) (hops hop
   second_caused = caused_none int d.between d.mid hops' d.second.caused.ext d.second.caused.fib d.second.takes
 
   -- the add stops at its link, and the delete goes on
-  add_stops : merged_links half ≡ merged_links rows → FallsOver p int d.first.caused d.second.caused was hops hops' entries rows then_rows
+  add_stops : merged_links half ≡ merged_links rows → FallsOver p int (Moved link add delete) d.first.caused d.second.caused was hops hops' entries rows then_rows
   add_stops same =
       let none = none_sent (merged_links rows) (merged_links half) p d.first.caused.ext same ext_1 in
       let kept = caused_same int was hops d.mid d.first.caused.ext d.first.caused.fib d.first.takes none in
       let keeps = caused_keeps int d.between d.mid hops' d.second.caused.ext d.second.caused.fib d.second.takes in
       record {
+        causes = (ext_1, ext_2);
         ext = subst (λ (o : Option (Change External)). IsSent (merged_links rows) (merged_links then_rows) p (option_or o d.second.caused.ext)) (sym none)
             (subst (λ (r : Rows External). IsSent r (merged_links then_rows) p d.second.caused.ext) same ext_2);
         fib = subst (λ (o : Option (Change FibRow)). IsSent (fib_table hops int (merged_links rows)) (fib_table hops' int (merged_links then_rows)) p (option_or o d.second.caused.fib)) (sym (first_caused none))
@@ -174,12 +179,13 @@ module _ (p : Network) (int : Rows Interior) (was : Registry Interior) (hops hop
       }
 
   -- the add goes on, and the delete stops at its link
-  delete_stops : merged_links then_rows ≡ merged_links half → FallsOver p int d.first.caused d.second.caused was hops hops' entries rows then_rows
+  delete_stops : merged_links then_rows ≡ merged_links half → FallsOver p int (Moved link add delete) d.first.caused d.second.caused was hops hops' entries rows then_rows
   delete_stops same =
       let none = none_sent (merged_links half) (merged_links then_rows) p d.second.caused.ext same ext_2 in
       let kept = caused_same int d.between d.mid hops' d.second.caused.ext d.second.caused.fib d.second.takes none in
       let keeps = caused_keeps int was hops d.mid d.first.caused.ext d.first.caused.fib d.first.takes in
       record {
+        causes = (ext_1, ext_2);
         ext = subst (λ (o : Option (Change External)). IsSent (merged_links rows) (merged_links then_rows) p o) (sym (ap (option_or d.first.caused.ext) none ∙ else_none d.first.caused.ext))
             (subst (λ (r : Rows External). IsSent (merged_links rows) r p d.first.caused.ext) (sym same) ext_1);
         fib = subst (λ (o : Option (Change FibRow)). IsSent (fib_table hops int (merged_links rows)) (fib_table hops' int (merged_links then_rows)) p o) (sym (ap (option_or d.first.caused.fib) (second_caused none) ∙ else_none d.first.caused.fib))
@@ -193,7 +199,7 @@ module _ (p : Network) (int : Rows Interior) (was : Registry Interior) (hops hop
         counted = over_2.counted;
       }
 
-  pub falls_both : FallsOver p int d.first.caused d.second.caused was hops hops' entries rows then_rows
+  pub falls_both : FallsOver p int (Moved link add delete) d.first.caused d.second.caused was hops hops' entries rows then_rows
   falls_both = elim (moved_changes_once best now link p add delete m) [
     | inl same ↦ add_stops same
     | inr same ↦ delete_stops same
@@ -213,13 +219,14 @@ module _ (int : Rows Interior) (was is : Registry Interior) (e : RibExit) (s' : 
   }
 
   falls_on : (p : Network) (split : Split) (first second : Caused) (entries : List (Entry Value)) (best now : Rows Route) → Splits (split_rows best) (split_rows now) p split
-      → kept_rows e.splitter ≡ split_rows best → kept_rows s' ≡ split_rows now → FallsOver p int first second was e.forwarding hops' entries (split_rows best) (split_rows now)
+      → kept_rows e.splitter ≡ split_rows best → kept_rows s' ≡ split_rows now → FallsOver p int split first second was e.forwarding hops' entries (split_rows best) (split_rows now)
       → FallsOn p int split first second was e e' entries best now
   falls_on p split first second entries best now splits had has over =
-      let o = subst (λ (r : Parted). FallsOver p int first second was e.forwarding hops' entries r (kept_rows s')) (sym had)
-      (subst (λ (r : Parted). FallsOver p int first second was e.forwarding hops' entries (split_rows best) r) (sym has) over) in
+      let o = subst (λ (r : Parted). FallsOver p int split first second was e.forwarding hops' entries r (kept_rows s')) (sym had)
+      (subst (λ (r : Parted). FallsOver p int split first second was e.forwarding hops' entries (split_rows best) r) (sym has) over) in
       record {
         splits = splits;
+        causes = over.causes;
         ext = o.ext;
         fib = o.fib;
         once = o.once;

@@ -1,17 +1,15 @@
 -- Laws of the RIB's exit.
-use Rattle.std.proofs.Common.{◌≡◌, ◌≢◌, ℕ, Bool, true, false, not, ◌||◌, cond, List, Option, Some, None, Result, Ok, Err, OnOk, is_some, refl, sym, ap, subst, ◌∙◌}
+use Rattle.std.proofs.Common.{◌≡◌, ℕ, Bool, true, false, not, ◌||◌, cond, Option, Some, None, Result, Ok, Err, OnOk, is_some, refl, sym, ap, subst, ◌∙◌}
 use Rattle.std.specs.FinMap as map
-use Rattle.std.specs.FinMap.{FinMap, get-empty, len-empty}
+use Rattle.std.specs.FinMap.{get-empty, len-empty}
 use Rattle.std.specs.Ordering.{nat_cmp}
-use Rattle.addr4.specs.Prefixes.{Network, prefix_cmp}
+use Rattle.addr4.specs.Prefixes.{prefix_cmp}
 use Rattle.bgp_attr.specs.declared.route.Route.{Route}
-use Rattle.link_change.specs.Rows.{Rows, Candidates, no_rows}
+use Rattle.link_change.specs.Rows.{Rows, no_rows}
 use Rattle.link_change.proofs.RowLemmas.{same_function, empty_rows}
-use Rattle.rib_route.specs.declared.rows.Interior.{Interior}
 use Rattle.rib_route.specs.declared.rows.External.{External}
 use Rattle.rib_route.specs.declared.rows.FibRow.{FibRow}
 use Rattle.rib_merge.specs.Merging.{row_of_both, merged}
-use Rattle.register_interest.specs.Registers.{Registry}
 use Rattle.nexthop_known.specs.declared.answer.Hop.{Hop}
 use Rattle.nexthop_known.specs.Counts.{AreCounted}
 use Rattle.nexthop_known.proofs.CountLemmas.{nothing_is_counted}
@@ -23,8 +21,7 @@ use Rattle.nexthop_resolver.proofs.MoveLemmas.{same_some, clash_some}
 use Rattle.nexthop_resolver.proofs.RowLemmas.{no_rows_at_first}
 use Rattle.nexthop_resolver.proofs.PendLemmas.{nothing_yet as none_asked, others_agree}
 use Rattle.rib_split.specs.declared.split.BgpLink.TheVariants as sides
-use Rattle.rib_split.specs.Splitting.{Parted, external_row, on_link, split_rows}
-use Rattle.rib_split.specs.Tables.{kept_rows}
+use Rattle.rib_split.specs.Splitting.{Parted, external_row, on_link}
 use Rattle.rib_split.specs.Laws.{merged_links}
 use Rattle.rib_split.proofs.TableLemmas.{tables_begin_empty}
 use Rattle.ext_int.specs.Fibs.{forwarding_table, fib_table}
@@ -32,15 +29,13 @@ use Rattle.ext_int.specs.Laws.{ExactAtRest, table_from}
 use Rattle.ext_int.proofs.FibLemmas.{empty_table}
 use Rattle.journal_text.specs.declared.link.Link.{Link}
 use Rattle.journal_text.specs.declared.link.Link.TheVariants.{Ebgp, Ibgp, Ext, Fib}
-use Rattle.journal_text.specs.declared.entry.Entry.{Entry}
 use Rattle.journal_text.specs.declared.value.Value.{Value}
 use Rattle.journal_text.specs.Walk.{Links, Leads, fold_links, no_links}
 use Rattle.journal_text.specs.Values.{fib_rows}
-use Rattle.rib_exit.specs.declared.exit.RibExit.{RibExit}
-use Rattle.rib_exit.specs.Exits.{nothing_yet, ext_rows, ext_candidates, external_rows, exit_links, is_exit_link, beside, StandsOver}
+use Rattle.rib_exit.specs.Exits.{nothing_yet, ext_rows, external_rows, exit_links, is_exit_link, beside}
 use Rattle.rib_exit.specs.Passing.{external_distance}
 use Rattle.rib_exit.specs.Steps.{LeadsExit, begin_entries}
-use Rattle.rib_exit.specs.Laws.{StandsAtFirst, AreAmong, LeadsAnywhere, ExtIsOfBest, ExactWithoutWork, StrangersAgree, CandidatesAreOfBest}
+use Rattle.rib_exit.specs.Laws.{StandsAtFirst, LeadsAnywhere, ExtIsOfBest, ExactWithoutWork, StrangersAgree, CandidatesAreOfBest}
 use Rattle.rib_exit.proofs.BusyLemmas.{by_bool, idle_rests, rests_idle, none_left_without_work}
 
 -- what holds at any rate

@@ -1,7 +1,7 @@
 -- The four links beside others, set one after the other.
-use Rattle.std.proofs.Common.{◌≡◌, true, false, List, ◌++◌, Option, Some, refl, sym, ap, subst, ◌∙◌}
+use Rattle.std.proofs.Common.{◌≡◌, Option, Some, refl, sym, ap, subst}
 use Rattle.addr4.specs.Prefixes.{Network}
-use Rattle.link_change.specs.Rows.{Rows, no_rows}
+use Rattle.link_change.specs.Rows.{Rows}
 use Rattle.link_change.specs.Changes.{IsSent}
 use Rattle.link_change.specs.declared.change.Change.{Change}
 use Rattle.link_change.proofs.RowLemmas.{same_function}
@@ -17,7 +17,6 @@ use Rattle.rib_split.specs.Laws.{merged_links}
 use Rattle.ext_int.specs.Fibs.{fib_table}
 use Rattle.journal_text.specs.declared.link.Link.{Link}
 use Rattle.journal_text.specs.declared.link.Link.TheVariants.{Ebgp, Ibgp, Ext, Fib}
-use Rattle.journal_text.specs.declared.entry.Entry.{Entry}
 use Rattle.journal_text.specs.declared.value.Value.{Value}
 use Rattle.journal_text.specs.Walk.{Links, with_link, Leads}
 use Rattle.journal_text.specs.Values.{external_value, fib_value, fib_rows, valued_change, sent_entries}

@@ -1,5 +1,5 @@
 -- One change of `ebgp` or `ibgp`, as it goes down.
-use Rattle.std.proofs.Common.{◌≡◌, ℕ, List, ◌++◌, Option, Some, None, refl, sym, ap, subst, ◌∙◌, inl}
+use Rattle.std.proofs.Common.{◌≡◌, List, ◌++◌, Option, Some, None, refl, sym, ap, subst, ◌∙◌, inl}
 use Rattle.std.proofs.lemmas.List.{append-nil}
 use Rattle.std.specs.Option.{option_or}
 use Rattle.std.specs.FinMap as map
@@ -29,7 +29,7 @@ use Rattle.journal_text.specs.declared.link.Link.{Link}
 use Rattle.journal_text.specs.declared.link.Link.TheVariants.{Ext, Fib}
 use Rattle.journal_text.specs.declared.entry.Entry.{Entry}
 use Rattle.journal_text.specs.declared.value.Value.{Value}
-use Rattle.journal_text.specs.Walk.{Links, Leads}
+use Rattle.journal_text.specs.Walk.{Leads}
 use Rattle.journal_text.specs.Journals.{Journaled, with_entries, Adds}
 use Rattle.journal_text.specs.Values.{external_value, fib_value, valued_change, sent_entries}
 use Rattle.journal_text.proofs.FallLemmas.{and_then}

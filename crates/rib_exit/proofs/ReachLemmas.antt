@@ -6,7 +6,6 @@ use Rattle.std.proofs.lemmas.Bool.Decides.{nat_tests}
 use Rattle.std.specs.Option.{option_map}
 use Rattle.std.specs.FinMap as map
 use Rattle.addr4.specs.Prefixes.{Network}
-use Rattle.bgp_attr.specs.declared.route.Route.{Route}
 use Rattle.link_change.specs.Rows.{Rows}
 use Rattle.link_change.proofs.RowLemmas.{same_function}
 use Rattle.rib_route.specs.declared.rows.Interior.{Interior}
@@ -25,7 +24,6 @@ use Rattle.nexthop_resolver.specs.Takes.{Invalidates}
 use Rattle.nexthop_resolver.proofs.RowLemmas.{invalidating_keeps_rows}
 use Rattle.nexthop_resolver.proofs.PendLemmas.{change_pends, pends_invalidated, others_pend, none_pends}
 use Rattle.ext_int.specs.Fibs.{forwarding_table, fib_table}
-use Rattle.rib_split.specs.Tables.{kept_rows}
 use Rattle.journal_text.specs.declared.link.Link.{Link}
 use Rattle.journal_text.specs.declared.link.Link.TheVariants.{Ebgp, Ibgp, Ext, Fib}
 use Rattle.journal_text.specs.Values.{fib_rows}

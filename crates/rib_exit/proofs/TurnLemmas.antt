@@ -1,11 +1,10 @@
 -- A turn of the task.
-use Rattle.std.proofs.Common.{◌≡◌, ℕ, ◌+◌, ◌≤◌, Bool, cond, List, Option, Some, None, is_some, refl, sym, ap, subst, ◌∙◌, inl, inr}
+use Rattle.std.proofs.Common.{◌≡◌, ◌+◌, Bool, cond, Option, Some, None, is_some, refl, sym, ap, subst, ◌∙◌, inl, inr}
 use Rattle.std.specs.Option.{option_map}
 use Rattle.std.specs.FinMap as map
 use Rattle.std.specs.FinMap.{FinMap, len-insert}
 use Rattle.std.specs.Cmp.{nat_cmp_total}
 use Rattle.addr4.specs.Prefixes.{Network, prefix_cmp}
-use Rattle.bgp_attr.specs.declared.route.Route.{Route}
 use Rattle.link_change.specs.Rows.{Rows, Candidates, with_rows, together}
 use Rattle.link_change.specs.Changes.{IsSent}
 use Rattle.link_change.specs.Turns.{IsTurned, taken_turn}
@@ -21,7 +20,6 @@ use Rattle.nexthop_known.specs.declared.answer.Hop.{Hop}
 use Rattle.nexthop_known.specs.Hops.{Hops, settled}
 use Rattle.nexthop_known.specs.Counts.{Counts, AreCounted}
 use Rattle.nexthop_known.proofs.StaleLemmas.{same_len}
-use Rattle.pass_core.specs.Left.{CountsBeyond}
 use Rattle.nexthop_resolver.specs.declared.rows.Way.{Way}
 use Rattle.nexthop_resolver.specs.Kept.{external_hop, over, way_of}
 use Rattle.nexthop_resolver.specs.Resolving.{Resolving, AreNamed, named_by}
@@ -37,7 +35,7 @@ use Rattle.ext_int.proofs.FibLemmas.{turn_leads}
 use Rattle.journal_text.specs.Journals.{Journaled, with_entries, Adds}
 use Rattle.journal_text.proofs.JournalLemmas.{with_entries_none}
 use Rattle.rib_exit.specs.declared.exit.RibExit.{RibExit}
-use Rattle.rib_exit.specs.Exits.{ext_rows, ext_candidates, IsExit, StandsOver, same_way, left_in}
+use Rattle.rib_exit.specs.Exits.{ext_rows, ext_candidates, IsExit, same_way}
 use Rattle.rib_exit.specs.Passing.{external_distance}
 use Rattle.rib_exit.specs.Steps.{fib_entries, TakesInterior, TurnsExit, ComesOut}
 use Rattle.rib_exit.proofs.LinkLemmas.{fib_leads}

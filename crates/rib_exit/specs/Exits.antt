@@ -1,5 +1,5 @@
--- What contracts see of the RIB's exit: the rows of `ebgp` and `ibgp`, and what is known of the next hops that rows of `ext` name. The rows
--- of `int`, with which those of `ext` come together in `fib`, are told over any rows.
+-- What contracts see of the RIB's exit: the rows of `ebgp` and `ibgp`, and what is known of the next hops that rows of `ext`
+-- name. What stands on `int`, with which `ext` comes together in `fib`, is told over any rows.
 use Rattle.std.specs.Prelude.{◌≡◌, ℕ, ◌==◌, nat_lt, Bool, true, false, ◌||◌, ◌&&◌, cond, is_some, Option, Some, None}
 use Rattle.std.specs.Option.{option_eq}
 use Rattle.std.specs.Str.{bytes_eq}
@@ -95,13 +95,13 @@ pub record IsExit (e : RibExit) : Type 0 where
   pub client : e.forwarding.client ≡ 0
   pub named : AreNamed e.forwarding.counts e.forwarding.known
 
--- the next hops that aren't stale have the register's present answers and their interests, and no interest of the exit is without such a
--- next hop
+-- the next hops that aren't stale have the register's present answers and their interests, and no interest of the exit is
+-- without such a next hop
 abbrev pub AgreesWith : RibExit → Registry Interior → Type 0
 AgreesWith e r = Agrees way_of e.forwarding.client e.forwarding.known r
 
--- What ties the exit to the best routes that its reader has: `ebgp` has those from external peers and `ibgp` those from internal ones, and the
--- next hops that the rows of `ext` name are counted.
+-- What ties the exit to the best routes that its reader has: `ebgp` has those from external peers and `ibgp` those from
+-- internal ones, and the next hops that the rows of `ext` name are counted.
 pub record StandsOver (best : Rows Route) (e : RibExit) : Type 0 where
   pub links : kept_rows e.splitter ≡ split_rows best
   pub counted : AreCounted (named_by external_hop (ext_rows e)) e.forwarding.counts

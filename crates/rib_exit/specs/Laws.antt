@@ -7,7 +7,6 @@ use Rattle.prefix_trie.specs.Width.{width}
 use Rattle.bgp_attr.specs.declared.route.Route.{Route}
 use Rattle.link_change.specs.Rows.{Rows, Candidates, no_rows, CoversRows}
 use Rattle.rib_route.specs.declared.rows.Interior.{Interior}
-use Rattle.rib_route.specs.declared.rows.External.{External}
 use Rattle.register_interest.specs.Covers.{longest}
 use Rattle.register_interest.specs.Registers.{Registry}
 use Rattle.nexthop_resolver.specs.Registered.{interest_of, KeepsOthers}
@@ -47,8 +46,8 @@ LeadsAnywhere = (old new before after : Links Value) (entries : List (Entry Valu
 abbrev pub ExtIsOfBest : Type 0
 ExtIsOfBest = (e : RibExit) (best : Rows Route) → StandsOver best e → ext_rows e ≡ (λ q. external_row (best q))
 
--- Where the task has no work, the forwarding table has, of the interior route and of the best route that a peer sent, over the longest interior route that
--- holds its next hop, the one of least distance.
+-- Where the task has no work, the forwarding table has, of the interior route and of the best route that a peer sent, over the
+-- longest interior route that holds its next hop, the one of least distance.
 abbrev pub ExactWithoutWork : Type 0
 ExactWithoutWork =
     (e : RibExit) (best : Rows Route) (int : Rows Interior) (r : Registry Interior) → IsExit e → StandsOver best e → AgreesWith e r → has_ext_work e ≡ false

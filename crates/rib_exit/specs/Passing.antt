@@ -45,8 +45,8 @@ caused_entries caused = sent_entries external_value Ext caused.ext ++ sent_entri
 abbrev pub part_entries : BgpLink → Change External → Caused → List (Entry Value)
 part_entries link change caused = valued_change external_value (journal_link link) change ++ caused_entries caused
 
--- Of a change of the best routes: the change of the one link that changes; or, where a route moves from one link to the other, the add with all
--- that it causes, and then the delete with all that that causes.
+-- Of a change of the best routes: the change of the one link that changes, and what it causes; or, where a route moves from one
+-- link to the other, the add with all that it causes, and then the delete with all that that causes.
 abbrev pub fall_entries : Split → Caused → Caused → List (Entry Value)
 fall_entries Neither first second = []
 fall_entries (One link change) first second = part_entries link change first
@@ -74,8 +74,8 @@ pub record PassesDown (link : BgpLink) (change : Change External) (row : Option 
   pub merges : MergesOn external_distance (side_of link) change row caused.ext
   pub takes : TakesCaused int was old new caused.ext caused.fib
 
--- A route moves to this link from the other: the add goes down, where the other link has still the row that is deleted then; and then the delete, where
--- this link has the row that was added.
+-- A route moves to this link from the other: the add goes down, where the other link has still the row that is deleted then; and
+-- then the delete, where this link has the row that was added.
 pub record PassesBoth (link : BgpLink) (add delete : Change External) (int : Rows Interior) (was : Registry Interior) (old new : Resolving Way) (sent : Option (Change FibRow)) (entries : List (Entry Value)) : Type 0 where
   pub mid : Resolving Way
   pub between : Registry Interior

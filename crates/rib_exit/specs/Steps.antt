@@ -10,6 +10,7 @@ use Rattle.link_change.specs.declared.change.Change.{Change}
 use Rattle.link_change.specs.declared.turn.Turn.{Turn}
 use Rattle.link_change.specs.declared.turn.Turn.TheVariants.{Nothing, Quiet, Sent}
 use Rattle.rib_route.specs.declared.rows.Interior.{Interior}
+use Rattle.rib_route.specs.declared.rows.External.{External}
 use Rattle.rib_route.specs.declared.rows.FibRow.{FibRow}
 use Rattle.register_interest.specs.declared.interests.Interest.{Interest}
 use Rattle.register_interest.specs.Interests.{without}
@@ -24,13 +25,14 @@ use Rattle.nexthop_resolver.specs.Registered.{answer_of, KeepsOthers}
 use Rattle.nexthop_resolver.specs.Takes.{Keeps, Invalidates}
 use Rattle.nexthop_resolver.specs.Turns.{Turned}
 use Rattle.rib_split.specs.declared.split.Split.{Split}
-use Rattle.rib_split.specs.Splitting.{split_rows, Splits}
-use Rattle.ext_int.specs.Fibs.{FollowsExt}
+use Rattle.rib_split.specs.declared.split.Split.TheVariants.{Neither, One, Moved}
+use Rattle.rib_split.specs.Splitting.{Parted, split_rows, first_on, Splits}
+use Rattle.rib_split.specs.Laws.{merged_links}
 use Rattle.journal_text.specs.declared.link.Link.TheVariants.{Ebgp, Ibgp, Ext, Fib}
 use Rattle.journal_text.specs.declared.entry.Entry.{Entry}
 use Rattle.journal_text.specs.declared.entry.Entry.TheVariants.{Begin}
 use Rattle.journal_text.specs.declared.value.Value.{Value}
-use Rattle.journal_text.specs.Walk.{Links, Leads, no_links}
+use Rattle.journal_text.specs.Walk.{Links, Leads}
 use Rattle.journal_text.specs.Journals.{Journaled, Adds}
 use Rattle.journal_text.specs.Values.{fib_value, sent_entries}
 use Rattle.rib_exit.specs.declared.exit.RibExit.{RibExit}
@@ -57,11 +59,19 @@ pub record KeepsAgreed (was is : Registry Interior) (e' : RibExit) : Type 0 wher
   pub others : KeepsOthers 0 was is
 
 -- ---- what a change of the best routes makes
--- From these best routes to those, beside these rows of `int`: what the splitter sends leads from their rows on `ebgp` and `ibgp` to the new ones; each
--- of the two parts causes at most one change of `ext`, and only that one of `fib`; both together change `ext` and `fib` once at most; and the
--- lines lead on.
+-- What each part of it causes on `ext`: nothing, or the change of the merged rows, as the two links are before the part and after it.
+abbrev pub CausesOn : Network → Split → Option (Change External) → Option (Change External) → Parted → Parted → Type 0
+CausesOn p Neither first second old new = (first ≡ None) × (second ≡ None)
+CausesOn p (One link change) first second old new = IsSent (merged_links old) (merged_links new) p first × (second ≡ None)
+CausesOn p (Moved link add delete) first second old new =
+    IsSent (merged_links old) (merged_links (first_on link old new)) p first × IsSent (merged_links (first_on link old new)) (merged_links new) p second
+
+-- From these best routes to those, beside these rows of `int`: what the splitter sends leads from their rows on `ebgp` and
+-- `ibgp` to the new ones; each of the two parts causes what it does to `ext`, and only that a change of `fib`; both together
+-- change `ext` and `fib` once at most; and the lines lead on.
 pub record FallsOn (p : Network) (int : Rows Interior) (split : Split) (first second : Caused) (was : Registry Interior) (e e' : RibExit) (entries : List (Entry Value)) (best now : Rows Route) : Type 0 where
   pub splits : Splits (split_rows best) (split_rows now) p split
+  pub causes : CausesOn p split first.ext second.ext (split_rows best) (split_rows now)
   pub ext : IsSent (ext_rows e) (ext_rows e') p (option_or first.ext second.ext)
   pub fib : IsSent (fib_over e int) (fib_over e' int) p (option_or first.fib second.fib)
   pub once : (first.ext ≡ None) ⊎ (second.ext ≡ None)
@@ -93,8 +103,9 @@ pub record TakesInterior (change : Change Interior) (sent : Option (Change FibRo
   pub goes : (int now : Rows Interior) (p : Network) → IsSent int now p (Some change) → FollowsOn p sent e entries int now
 
 -- ---- what a turn makes
--- The task takes a turn: a walk goes to its next candidate or ends, else the least stale next hop is asked for, else a walk begins. What comes of the
--- external rows comes together with these rows of `int`. Fewer turns are left, and as many next hops are known.
+-- The task takes a turn: a walk goes to its next candidate or ends, else the least stale next hop is asked for, else a walk
+-- begins. What comes of the external rows comes together with these rows of `int`. Fewer turns are left, and as many next hops
+-- are known.
 pub record TurnsExit (int : Rows Interior) (sent : Option (Change FibRow)) (was is : Registry Interior) (e e' : RibExit) (entries : List (Entry Value)) : Type 0 where
   pub resolved : Option (Change FibRow)
   pub turned : Turned external_hop over (ext_candidates e) (ext_rows e) way_of was is e.forwarding e'.forwarding resolved

@@ -13,8 +13,8 @@ use journal_text::{Entry, Journal, Link};
 use rib_split::Splitter;
 use std::alloc::Global;
 
-/// The RIB's exit: the splitter with the rows of `ebgp` and `ibgp`, and the merge into the forwarding table with what is known of next
-/// hops.
+/// The RIB's exit: the splitter with the rows of `ebgp` and `ibgp`, and the merge into the forwarding table with what is known
+/// of next hops.
 #[derive(Drop)]
 pub struct RibExit {
     pub(crate) splitter: Splitter,

@@ -1,4 +1,5 @@
-//! Laws of the RIB's exit, for the proofs of the crates above. Each is a function that does nothing, whose contract is the law.
+//! Laws of the RIB's exit, for the proofs of the crates above. Each is a function that does nothing, whose contract is the
+//! law.
 
 ghost use Rattle.rib_exit.specs.Exits.{nothing_yet};
 ghost use Rattle.rib_exit.specs.Laws.{StandsAtFirst, LeadsAnywhere, ExtIsOfBest, ExactWithoutWork, StrangersAgree, NoneLeftWithoutWork, TurnsAreBounded, LeftFollows, CandidatesAreOfBest, KnownAreFew};
@@ -21,8 +22,8 @@ pub fn the_rows_are_of_best()
     ensures candidates { CandidatesAreOfBest }
 {}
 
-/// Where the task has no work, the forwarding table is the one that the interior routes and the best routes make, by the longest matches of next
-/// hops.
+/// Where the task has no work, the forwarding table is the one that the interior routes and the best routes make, by the longest
+/// matches of next hops.
 pub fn exact_without_work()
     ensures { ExactWithoutWork }
 {

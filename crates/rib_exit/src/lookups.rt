@@ -78,8 +78,8 @@ impl RibExit {
         }
     }
 
-    /// The least candidate of a link that lies beyond a place: of `ebgp` and `ibgp` its rows, of `ext` the rows of both, and of `fib`
-    /// these and the candidates of `int`, some of which may have no row.
+    /// The least candidate of a link that lies beyond a place: of `ebgp` and `ibgp` its rows, of `ext` the rows of both, and of
+    /// `fib` these and the candidates of `int`, some of which may have no row.
     pub fn next_candidate<I: Upstream<Row = Interior>>(
         &self,
         link: Link,

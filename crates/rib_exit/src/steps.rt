@@ -18,9 +18,9 @@ use rib_route::{FibRow, Interior};
 use rib_split::Split;
 
 impl RibExit {
-    /// A change of the best routes, which the reader took: it goes through the splitter, and each part that this sends goes down,
-    /// the add first. A next hop that comes is asked for at once, and one that no row of `ext` names any more is forgotten. Answers
-    /// the change of `fib`: None exactly where its map stays the same.
+    /// A change of the best routes, which the reader took: it goes through the splitter, and each part that this sends goes
+    /// down, the add first. A next hop that comes is asked for at once, and one that no row of `ext` names any more is forgotten.
+    /// Answers the change of `fib`: None exactly where its map stays the same.
     pub fn take_external<I: Upstream<Row = Interior>>(
         &mut self,
         change: &Change<Route>,
@@ -48,7 +48,7 @@ impl RibExit {
     }
 
     /// A change of the interior routes, as it comes out on `fib`; None exactly where its map stays the same. What the register
-    /// gave up with it was told before ([`reach`](RibExit::reach)).
+    /// gave up with it is told by another call ([`reach`](RibExit::reach)).
     pub fn take_interior(
         &self,
         change: &Change<Interior>,
@@ -63,8 +63,8 @@ impl RibExit {
         Ok(sent)
     }
 
-    /// The register gave up these interests with a change of the interior routes: the answers that came with those of the exit
-    /// are stale. No row changes, and nothing is said. Takes no memory.
+    /// The register gave up these interests with a change of the interior routes: the answers that came with those of the
+    /// exit are stale. No row changes, and nothing is said. Takes no memory.
     pub fn reach(&mut self, reached: &[Interest])
         requires sound { IsExit self.old }
         ensures { ReachesExit reached.now self.old self.new }
@@ -76,8 +76,8 @@ impl RibExit {
         }
     }
 
-    /// The answers that came with the subnet are stale: the register gave up the interest in it. No row changes, and nothing is
-    /// said. Takes no memory.
+    /// The answers that came with the subnet are stale: the register gave up the interest in it. No row changes, and nothing
+    /// is said. Takes no memory.
     pub fn invalidate(&mut self, subnet: Prefix)
         requires sound { IsExit self.old }
         ensures { Stales subnet self.old self.new }
@@ -86,9 +86,9 @@ impl RibExit {
         self.forwarding.are_named();
     }
 
-    /// One turn of the task `ext` (`ExtInt::unit`): a walk goes to the next candidate of `ext`, or ends; else the least stale next
-    /// hop is asked for again; else a walk begins. Nothing exactly where there is no work; Quiet where no change comes out on
-    /// `fib`.
+    /// One turn of the task `ext` (`ExtInt::unit`): a walk goes to the next candidate of `ext`, or ends; else the least stale
+    /// next hop is asked for again; else a walk begins. Nothing exactly where there is no work; Quiet where no change comes out
+    /// on `fib`.
     pub fn turn<I: Upstream<Row = Interior>>(
         &mut self,
         int: &I,

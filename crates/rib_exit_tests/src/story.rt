@@ -1,5 +1,5 @@
-//! A route of an external peer goes into the forwarding table; an internal peer's stands in its place, and then the first again; a
-//! longer interior route comes, and with turns the route goes over its interface; then the route goes.
+//! A route of an external peer goes into the forwarding table; an internal peer's stands in its place, and then the first again;
+//! a longer interior route comes, and with turns the route goes over its interface; then the route goes.
 
 ghost use Rattle.std.specs.Prelude.{◌≡◌, ℕ, OnOk};
 ghost use Rattle.addr4.specs.Prefixes.{Network};
@@ -158,8 +158,8 @@ fn candidates(exit: &RibExit, int: &Cache<Interior>) -> u8 {
     9
 }
 
-/// How many next hops are known after each change of the best routes, how many interests the longer interior route reaches, how many turns
-/// are taken, and how many candidates `fib` has then.
+/// How many next hops are known after each change of the best routes, how many interests the longer interior route reaches, how
+/// many turns are taken, and how many candidates `fib` has then.
 type Story = ([u128; 4], usize, u8, u8);
 
 fn follow(
