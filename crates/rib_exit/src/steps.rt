@@ -100,9 +100,8 @@ impl RibExit {
         ensures taken { IfOk result (ComesOut (I.rows int.now) register.old register.new self.old self.new journal.old journal.new) }
         ensures memory { OnErr result (KeepsOthers 0 register.old register.new) }
     {
-        let turn = self
-            .forwarding
-            .unit(int, &merged_rows(&self.splitter), register)?;
+        let ext = merged_rows(&self.splitter);
+        let turn = self.forwarding.unit(int, &ext, register)?;
         self.forwarding.are_named();
         match turn {
             Turn::Nothing => Ok(Turn::Nothing),

@@ -37,7 +37,10 @@ b fib\n\
 = fib 10.1.0.0/16 ibgp:192.0.2.2:eth0 ebgp:192.0.2.1:eth0\n\
 - ibgp 10.1.0.0/16 ibgp:192.0.2.2\n\
 + fib 192.0.2.0/28 static:direct:eth1\n\
+? fib 10.1.0.0/16 ebgp:192.0.2.1:eth0\n\
 = fib 10.1.0.0/16 ebgp:192.0.2.1:eth0 ebgp:192.0.2.1:eth1\n\
+? fib 10.1.0.0/16 ebgp:192.0.2.1:eth1\n\
+? fib 10.1.0.0/16 ebgp:192.0.2.1:eth1\n\
 ? ebgp 10.1.0.0/16 ebgp:192.0.2.1\n\
 ? ibgp 10.1.0.0/16 -\n\
 ? ext 10.1.0.0/16 ebgp:192.0.2.1\n\
@@ -99,7 +102,8 @@ fn moves(
     Ok(exit.known())
 }
 
-/// A turn of the task; false where it has no work.
+/// A turn of the task, and what `fib` has at the prefix of the routes then; false where the task has no work, or a change elsewhere
+/// comes out.
 fn turn(
     exit: &mut RibExit,
     int: &Cache<Interior>,
@@ -109,10 +113,16 @@ fn turn(
     requires { Ready exit.old register.old }
     ensures { OnOk result (Ready exit.new register.new) }
 {
-    match exit.turn(int, register, journal)? {
+    if !exit.busy() {
+        return Ok(false);
+    }
+    let turn = exit.turn(int, register, journal)?;
+    let row = exit.asked(Link::Fib, int, place())?;
+    journal.push_entry(Entry::Asked(Link::Fib, place(), row))?;
+    match turn {
         Turn::Nothing => Ok(false),
         Turn::Quiet => Ok(true),
-        Turn::Sent(_) => Ok(true),
+        Turn::Sent(change) => Ok(change.prefix == place()),
     }
 }
 
