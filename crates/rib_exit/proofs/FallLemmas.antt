@@ -1,7 +1,9 @@
 -- What comes of a change of the best routes.
 use Rattle.std.proofs.Common.{◌≡◌, ◌⊎◌, ℕ, List, [], ◌++◌, Option, Some, None, Result, Ok, Err, IfOk, refl, sym, ap, subst, ◌∙◌, inl, inr}
 use Rattle.std.specs.Option.{option_or}
-use Rattle.addr4.specs.Prefixes.{Network}
+use Rattle.std.specs.FinMap as map
+use Rattle.std.specs.FinMap.{FinMap}
+use Rattle.addr4.specs.Prefixes.{Network, prefix_cmp}
 use Rattle.bgp_attr.specs.declared.route.Route.{Route}
 use Rattle.link_change.specs.Rows.{Rows}
 use Rattle.link_change.specs.Changes.{IsSent}
@@ -24,7 +26,7 @@ use Rattle.rib_split.specs.declared.split.Split.{Split}
 use Rattle.rib_split.specs.declared.split.Split.TheVariants.{Neither, One, Moved}
 use Rattle.rib_split.specs.declared.splitter.Splitter.{Splitter}
 use Rattle.rib_split.specs.Splitting.{Parted, split_rows, other, first_on, IsSentOn, Moves, Splits}
-use Rattle.rib_split.specs.Tables.{kept_rows, SplitsOn}
+use Rattle.rib_split.specs.Tables.{table_of, kept_rows, SplitsOn}
 use Rattle.rib_split.specs.Laws.{merged_links}
 use Rattle.rib_split.proofs.MergedLemmas.{moved_changes_once}
 use Rattle.ext_int.specs.Fibs.{fib_table, TakesOver}
@@ -47,6 +49,11 @@ if_ok (Err e) f p = tt
 pub else_none : {X : Type 0} (o : Option X) → option_or o None ≡ o
 else_none None = refl
 else_none (Some x) = refl
+
+-- the row of the other link, as it is looked up
+pub row_lent : (s : Splitter) (link side : BgpLink) (m : FinMap prefix_cmp External) (p : Network) (row : Option External) → row ≡ map.get m p → m ≡ table_of s side → side ≡ other link
+    → row ≡ kept_rows s (other link) p
+row_lent s link side m p row at is on = at ∙ ap (λ (t : FinMap prefix_cmp External). map.get t p) (is ∙ ap (table_of s) on)
 
 -- what is kept of next hops that stay
 keeps_same : (was : Registry Interior) (s : Resolving Way) → Keeps (answer_of way_of was) s s

@@ -70,7 +70,8 @@ impl RibExit {
         ensures { ReachesExit reached.now self.old self.new }
     {
         for interest in reached {
-            if interest.client == 0 {
+            let own = interest.client == 0;
+            if own {
                 self.invalidate(interest.subnet);
             }
         }

@@ -1,11 +1,7 @@
-use Rattle.std.proofs.Common.{ap, subst, ◌∙◌}
-use Rattle.std.specs.FinMap as map
-use Rattle.std.specs.FinMap.{FinMap}
-use Rattle.addr4.specs.Prefixes.{prefix_cmp}
-use Rattle.rib_route.specs.declared.rows.External.{External}
+use Rattle.std.proofs.Common.{subst}
 use Rattle.rib_split.specs.declared.split.Split.{Split}
-use Rattle.rib_split.specs.Tables.{table_of, SplitsOn}
-use Rattle.rib_exit.proofs.FallLemmas.{if_ok, agreed, takes_neither, takes_one, takes_both}
+use Rattle.rib_split.specs.Tables.{SplitsOn}
+use Rattle.rib_exit.proofs.FallLemmas.{if_ok, row_lent, agreed, takes_neither, takes_one, takes_both}
 use Rattle.rib_exit.proofs.exit.RibExit.take_external.Goals as goal
 
 pub returns-in-Neither-clause-taken : goal.returns-in-Neither-clause-taken
@@ -23,7 +19,7 @@ returns-in_ok-other-in-One-clause-taken g c =
     let hops' = c.pass.new.hops in
     let change = c.args.change.now in
     let law = subst (λ (split : Split). SplitsOn e.splitter s' change split) c.in-One.is c.in_ok-take_in.ensures.law in
-    let at = c.in_ok-other-in-One.ensures ∙ ap (λ (m : FinMap prefix_cmp External). map.get m c.in-One.change.prefix) (c.rows.ensures ∙ ap (table_of s') c.other.ensures) in
+    let at = row_lent s' c.in-One.link c.other.result c.rows.result.now c.in-One.change.prefix c.in_ok-other-in-One.other c.in_ok-other-in-One.ensures c.rows.ensures c.other.ensures in
     let kept = agreed int was is e s' hops' c.requires.sound c.pass.ensures.client c.pass.ensures.named c.pass.ensures.agrees c.pass.ensures.others in
     if_ok c.pass.result (λ sent passed. takes_one int was is e s' hops' change kept c.args.journal.now c.pass.new.journal c.in-One.link c.in-One.change c.in_ok-other-in-One.other sent law at passed)
     c.pass.ensures.passed
