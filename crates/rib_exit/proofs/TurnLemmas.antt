@@ -1,0 +1,184 @@
+-- A turn of the task.
+use Rattle.std.proofs.Common.{◌≡◌, ◌+◌, Bool, cond, Option, Some, None, is_some, refl, sym, ap, subst, ◌∙◌, inl, inr}
+use Rattle.std.specs.Option.{option_map}
+use Rattle.std.specs.FinMap as map
+use Rattle.std.specs.FinMap.{FinMap, len-insert}
+use Rattle.std.specs.Cmp.{nat_cmp_total}
+use Rattle.addr4.specs.Prefixes.{Network, prefix_cmp}
+use Rattle.link_change.specs.Rows.{Rows, Candidates, with_rows, together}
+use Rattle.link_change.specs.Changes.{IsSent}
+use Rattle.link_change.specs.Turns.{IsTurned, taken_turn}
+use Rattle.link_change.specs.declared.change.Change.{Change}
+use Rattle.link_change.specs.declared.turn.Turn.{Turn}
+use Rattle.link_change.specs.declared.turn.Turn.TheVariants as turns
+use Rattle.rib_route.specs.declared.rows.Interior.{Interior}
+use Rattle.rib_route.specs.declared.rows.External.{External}
+use Rattle.rib_route.specs.declared.rows.FibRow.{FibRow}
+use Rattle.rib_merge.specs.Merging.{merged}
+use Rattle.register_interest.specs.Registers.{Registry}
+use Rattle.nexthop_known.specs.declared.answer.Hop.{Hop}
+use Rattle.nexthop_known.specs.Hops.{Hops, settled}
+use Rattle.nexthop_known.specs.Counts.{Counts, AreCounted}
+use Rattle.nexthop_known.proofs.StaleLemmas.{same_len}
+use Rattle.nexthop_resolver.specs.declared.rows.Way.{Way}
+use Rattle.nexthop_resolver.specs.Kept.{external_hop, over, way_of}
+use Rattle.nexthop_resolver.specs.Resolving.{Resolving, AreNamed, named_by}
+use Rattle.nexthop_resolver.specs.Registered.{Agrees, KeepsOthers}
+use Rattle.nexthop_resolver.specs.Turns.{KnownAfter, Rests, Turned, IsTurn}
+use Rattle.nexthop_resolver.proofs.TurnLemmas as resolver
+use Rattle.nexthop_resolver.proofs.LeftLemmas.{turns_fall}
+use Rattle.rib_split.specs.declared.splitter.Splitter.{Splitter}
+use Rattle.rib_split.specs.Tables.{kept_rows}
+use Rattle.rib_split.specs.Laws.{merged_links}
+use Rattle.ext_int.specs.Fibs.{resolved_rows, fib_table, FollowsInt, FollowsTurn, TakesTurn}
+use Rattle.ext_int.proofs.FibLemmas.{turn_leads}
+use Rattle.journal_text.specs.Journals.{Journaled, with_entries, Adds}
+use Rattle.journal_text.proofs.JournalLemmas.{with_entries_none}
+use Rattle.rib_exit.specs.declared.exit.RibExit.{RibExit}
+use Rattle.rib_exit.specs.Exits.{ext_rows, ext_candidates, IsExit, same_way}
+use Rattle.rib_exit.specs.Passing.{external_distance}
+use Rattle.rib_exit.specs.Steps.{fib_entries, TakesInterior, TurnsExit, ComesOut}
+use Rattle.rib_exit.proofs.LinkLemmas.{fib_leads}
+use Rattle.rib_exit.proofs.FallLemmas.{agreed}
+use Rattle.rib_exit.proofs.BusyLemmas.{tells_ways, rests_idle}
+
+-- ---- the link `ext` as it is lent
+pub rows_lent : (s : Splitter) (a b : FinMap prefix_cmp External) → a ≡ s.ebgp → b ≡ s.ibgp → merged external_distance (map.get a) (map.get b) ≡ merged_links (kept_rows s)
+rows_lent s a b first second = ap (λ (m : FinMap prefix_cmp External). merged external_distance (map.get m) (map.get b)) first ∙ ap (λ (m : FinMap prefix_cmp External). merged external_distance (map.get s.ebgp) (map.get m)) second
+
+pub candidates_lent : (s : Splitter) (hops : Resolving Way) (a b : FinMap prefix_cmp External) → a ≡ s.ebgp → b ≡ s.ibgp
+    → together (with_rows (map.get a)) (with_rows (map.get b)) ≡ ext_candidates (record { splitter = s; forwarding = hops })
+candidates_lent s hops a b first second =
+    ap (λ (m : FinMap prefix_cmp External). together (with_rows (map.get m)) (with_rows (map.get b))) first ∙ ap (λ (m : FinMap prefix_cmp External). together (with_rows (map.get s.ebgp)) (with_rows (map.get m))) second
+
+pub takes_lent : (int : Rows Interior) (was is : Registry Interior) (e : RibExit) (hops' : Resolving Way) (turn : Turn FibRow) (a b : FinMap prefix_cmp External) → a ≡ e.splitter.ebgp → b ≡ e.splitter.ibgp
+    → TakesTurn int (together (with_rows (map.get a)) (with_rows (map.get b))) (merged external_distance (map.get a) (map.get b)) was is e.forwarding hops' turn
+    → TakesTurn int (ext_candidates e) (ext_rows e) was is e.forwarding hops' turn
+takes_lent int was is e hops' turn a b first second t =
+    subst (λ (c : Candidates). TakesTurn int c (ext_rows e) was is e.forwarding hops' turn) (candidates_lent e.splitter e.forwarding a b first second)
+    (subst (λ (r : Rows External). TakesTurn int (together (with_rows (map.get a)) (with_rows (map.get b))) r was is e.forwarding hops' turn) (rows_lent e.splitter a b first second) t)
+
+-- a change of the interior routes
+pub follows_lent : (e : RibExit) (change : Change Interior) (sent : Option (Change FibRow)) (a b : FinMap prefix_cmp External) → a ≡ e.splitter.ebgp → b ≡ e.splitter.ibgp
+    → FollowsInt (resolved_rows e.forwarding (merged external_distance (map.get a) (map.get b))) change sent → FollowsInt (resolved_rows e.forwarding (ext_rows e)) change sent
+follows_lent e change sent a b first second follows =
+    subst (λ (r : Rows External). FollowsInt (resolved_rows e.forwarding r) change sent) (rows_lent e.splitter a b first second) follows
+
+pub takes_interior : (e : RibExit) (change : Change Interior) (sent : Option (Change FibRow)) (before after : Journaled) → FollowsInt (resolved_rows e.forwarding (ext_rows e)) change sent
+    → after ≡ with_entries before (fib_entries sent) → Adds (TakesInterior change sent e) before after
+takes_interior e change sent before after follows line = (
+  fib_entries sent,
+  line,
+  record {
+    lines = refl;
+    goes = λ int now p is. record {
+      fib = follows int now p is;
+      leads = λ others. fib_leads others (kept_rows e.splitter) e.forwarding e.forwarding int now p sent (follows int now p is);
+    };
+  },
+)
+
+-- ---- how many next hops are known
+settled_there : (o : Option (Hop Way)) → is_some (option_map settled o) ≡ is_some o
+settled_there None = refl
+settled_there (Some h) = refl
+
+as_many_after : (w : Option (Option Network)) (old new : Hops Way) → KnownAfter w old new → map.len new ≡ map.len old
+as_many_after (Some place) old new is = ap map.len is
+as_many_after None old new is = same_len new old (λ q. ap is_some (is q) ∙ settled_there (map.get old q))
+
+module _ (int : Rows Interior) (was is : Registry Interior) (e : RibExit) (hops' : Resolving Way) where
+  abbrev e' : RibExit
+  e' = record { splitter = e.splitter; forwarding = hops' }
+
+  abbrev Turns : Option (Change FibRow) → Type 0
+  Turns resolved = Turned external_hop over (ext_candidates e) (ext_rows e) way_of was is e.forwarding hops' resolved
+
+  abbrev Takes : Turn FibRow → Type 0
+  Takes turn = TakesTurn int (ext_candidates e) (ext_rows e) was is e.forwarding hops' turn
+
+  turned_client : (resolved : Option (Change FibRow)) → Turns resolved → hops'.client ≡ e.forwarding.client
+  turned_client resolved (inl goes) = goes.steps.client
+  turned_client resolved (inr (inl asks)) = asks.client
+  turned_client resolved (inr (inr begins)) = begins.steps.client
+
+  turned_counts : (resolved : Option (Change FibRow)) → Turns resolved → hops'.counts ≡ e.forwarding.counts
+  turned_counts resolved (inl goes) = goes.steps.counts
+  turned_counts resolved (inr (inl asks)) = asks.counts
+  turned_counts resolved (inr (inr begins)) = begins.steps.counts
+
+  turned_known : (resolved : Option (Change FibRow)) → Turns resolved → map.len hops'.known ≡ map.len e.forwarding.known
+  turned_known resolved (inl goes) = as_many_after hops'.walk e.forwarding.known hops'.known goes.steps.known
+  turned_known resolved (inr (inl asks)) =
+      ap map.len asks.renews.1 ∙ len-insert nat_cmp_total e.forwarding.known asks.next_hop _
+      ∙ ap (λ (b : Bool). cond b (map.len e.forwarding.known) (map.len e.forwarding.known + 1)) (ap is_some asks.least.0.1)
+  turned_known resolved (inr (inr begins)) = as_many_after hops'.walk e.forwarding.known hops'.known begins.steps.known
+
+  -- ---- what came out
+  abbrev IsInner : Turn FibRow → Type 0
+  IsInner inner = IsTurn external_hop over (ext_candidates e) (ext_rows e) way_of was is e.forwarding hops' inner
+
+  nothing_by : (inner turn : Turn FibRow) → IsInner inner → FollowsTurn int inner turn → turn ≡ turns.Nothing → Rests e.forwarding × (hops' ≡ e.forwarding) × (is ≡ was)
+  nothing_by turns.Nothing turn r follows none = r
+  nothing_by turns.Quiet turn r follows none = absurd (let clash : turns.Quiet ≡ turns.Nothing = sym follows ∙ none in cc)
+  nothing_by (turns.Sent change) turn r follows none = not_taken follows.0 (sym follows.1 ∙ none)
+    where
+      not_taken : (sent : Option (Change FibRow)) → taken_turn sent ≡ turns.Nothing → Rests e.forwarding × (hops' ≡ e.forwarding) × (is ≡ was)
+      not_taken None same = absurd (let clash : turns.Quiet ≡ turns.Nothing = same in cc)
+      not_taken (Some c) same = absurd (let clash : turns.Sent c ≡ turns.Nothing = same in cc)
+
+  never_nothing : (sent : Option (Change FibRow)) → taken_turn sent ≡ turns.Nothing → ⊥
+  never_nothing None same = let clash : turns.Quiet ≡ turns.Nothing = same in cc
+  never_nothing (Some c) same = let clash : turns.Sent c ≡ turns.Nothing = same in cc
+
+  taken_by : (sent : Option (Change FibRow)) (inner turn : Turn FibRow) → IsInner inner → FollowsTurn int inner turn → turn ≡ taken_turn sent → (resolved : Option (Change FibRow)) × Turns resolved
+  taken_by sent turns.Nothing turn r follows taken = absurd (never_nothing sent (sym taken ∙ follows))
+  taken_by sent turns.Quiet turn r follows taken = (None, r)
+  taken_by sent (turns.Sent change) turn r follows taken = (Some change, r)
+
+  turned_rows : (sent : Option (Change FibRow)) → IsTurned (fib_table e.forwarding int (ext_rows e)) (fib_table hops' int (ext_rows e)) (taken_turn sent)
+      → (p : Network) × IsSent (fib_table e.forwarding int (ext_rows e)) (fib_table hops' int (ext_rows e)) p sent
+  turned_rows None led = (record { address = 0; length = 0 }, led)
+  turned_rows (Some change) led = (change.prefix, led)
+
+  led_by : (turn : Turn FibRow) → Takes turn → IsTurned (fib_table e.forwarding int (ext_rows e)) (fib_table hops' int (ext_rows e)) turn
+  led_by turn t =
+      turn_leads int _ _ t.inner turn (resolver.turn_leads external_hop over (ext_candidates e) (ext_rows e) way_of was is e.forwarding hops' t.inner t.resolves) t.follows
+
+  module _ (sound : IsExit e) (named : AreNamed hops'.counts hops'.known) (here : Agrees way_of hops'.client hops'.known is) (others : KeepsOthers e.forwarding.client was is) (before : Journaled) where
+    taken : (sent : Option (Change FibRow)) (now : Journaled) (turn : Turn FibRow) → Takes turn → turn ≡ taken_turn sent → now ≡ with_entries before (fib_entries sent)
+        → Adds (TurnsExit int sent was is e e') before now
+    taken sent now turn t came lines =
+        let inner = taken_by sent t.inner turn t.resolves t.follows came in
+        let led = turned_rows sent (subst (λ (x : Turn FibRow). IsTurned (fib_table e.forwarding int (ext_rows e)) (fib_table hops' int (ext_rows e)) x) came (led_by turn t)) in (
+          fib_entries sent,
+          lines,
+          record {
+            resolved = inner.0;
+            turned = inner.1;
+            rows = refl;
+            lines = refl;
+            fib = led;
+            leads = λ links. fib_leads links (kept_rows e.splitter) e.forwarding hops' int int led.0 sent led.1;
+            agreed = agreed int was is e e.splitter hops' sound (turned_client inner.0 inner.1) named here others;
+            stands = λ best stands. record {
+              links = stands.links;
+              counted = subst (λ (n : Counts). AreCounted (named_by external_hop (ext_rows e)) n) (sym (turned_counts inner.0 inner.1)) stands.counted;
+            };
+            fewer = λ beyond counts.
+                turns_fall external_hop over (ext_candidates e) (ext_rows e) way_of was is same_way beyond tells_ways counts e.forwarding hops' inner.0 inner.1;
+            known = turned_known inner.0 inner.1;
+          },
+        )
+
+    pub rests_out : (turn : Turn FibRow) → Takes turn → turn ≡ turns.Nothing → ComesOut int was is e e' before before turns.Nothing
+    rests_out turn t none =
+        let r = nothing_by t.inner turn t.resolves t.follows none in
+        (rests_idle e.forwarding r.0, ap (λ (s : Resolving Way). record { splitter = e.splitter; forwarding = s }) r.1, r.2, refl)
+
+    pub quiet_out : (turn : Turn FibRow) → Takes turn → turn ≡ turns.Quiet → ComesOut int was is e e' before before turns.Quiet
+    quiet_out turn t quiet = taken None before turn t quiet (sym (with_entries_none before))
+
+    pub sent_out : (turn : Turn FibRow) → Takes turn → (change : Change FibRow) (now : Journaled) → turn ≡ turns.Sent change → now ≡ with_entries before (fib_entries (Some change))
+        → ComesOut int was is e e' before now (turns.Sent change)
+    sent_out turn t change now out lines = taken (Some change) now turn t out lines

@@ -1,0 +1,4 @@
+pub mod Exits
+pub mod Passing
+pub mod Steps
+pub mod Laws

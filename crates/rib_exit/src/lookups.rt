@@ -1,0 +1,103 @@
+//! Lookups: whether a link is live, its row at a prefix, and where its rows may stand.
+
+ghost use Rattle.std.specs.Prelude.{◌≡◌, IfOk, IsSome, is_some, option_map, Some};
+ghost use Rattle.addr4.specs.Places.{key_of};
+ghost use Rattle.link_change.specs.Rows.{Rows, IsNextCandidate, CoversRows};
+ghost use Rattle.rib_route.specs.declared.rows.Interior.{Interior};
+ghost use Rattle.journal_text.specs.declared.value.Value.{Value};
+ghost use Rattle.journal_text.specs.Walk.{HasRow};
+ghost use Rattle.journal_text.specs.Values.{external_value, fib_value};
+ghost use Rattle.rib_exit.specs.Exits.{exit_links, exit_candidates};
+
+use crate::exit::RibExit;
+use crate::merged::merged_rows;
+use addr4::{Memory, Place, Prefix};
+use journal_text::{Link, Value};
+use link_change::Upstream;
+use rib_route::{External, FibRow, Interior};
+use rib_split::BgpLink;
+
+// The value of an external row, if there is one.
+fn external_value(row: Option<External>) -> Option<Value>
+    ensures { result ≡ option_map external_value row }
+{
+    match row {
+        Some(row) => Some(Value::External(row)),
+        None => None,
+    }
+}
+
+// The value of a forwarding row, if there is one.
+fn fib_value(row: Option<FibRow>) -> Option<Value>
+    ensures { result ≡ option_map fib_value row }
+{
+    match row {
+        Some(row) => Some(Value::FibRow(row)),
+        None => None,
+    }
+}
+
+impl RibExit {
+    /// Whether a link of the exit is live: `ebgp`, `ibgp`, `ext` and `fib`; no other link is.
+    pub fn live(&self, link: Link) -> bool
+        ensures { (int : Rows Interior) → result ≡ is_some (exit_links self.now int link) }
+    {
+        matches!(link, Link::Ebgp | Link::Ibgp | Link::Ext | Link::Fib)
+    }
+
+    /// The row at a prefix of a link, over the rows of `int`; None where it has none. Memory only for want of memory.
+    pub fn asked<I: Upstream<Row = Interior>>(
+        &self,
+        link: Link,
+        int: &I,
+        prefix: Prefix,
+    ) -> Result<Option<Value>, Memory>
+        requires own { IsSome (exit_links self.now (I.rows int.now) link) }
+        ensures { IfOk result (HasRow (exit_links self.now (I.rows int.now)) link prefix) }
+    {
+        match link {
+            Link::Ebgp => {
+                let row = self.splitter.rows(BgpLink::Ebgp).asked(&prefix)?;
+                Ok(external_value(row))
+            }
+            Link::Ibgp => {
+                let row = self.splitter.rows(BgpLink::Ibgp).asked(&prefix)?;
+                Ok(external_value(row))
+            }
+            Link::Ext => {
+                let row = merged_rows(&self.splitter).asked(&prefix)?;
+                Ok(external_value(row))
+            }
+            Link::Fib => {
+                let row = self
+                    .forwarding
+                    .asked(int, &merged_rows(&self.splitter), prefix)?;
+                Ok(fib_value(row))
+            }
+            _ => unreachable!(),
+        }
+    }
+
+    /// The least candidate of a link that lies beyond a place: of `ebgp` and `ibgp` its rows, of `ext` the rows of both, and of
+    /// `fib` these and the candidates of `int`, some of which may have no row.
+    pub fn next_candidate<I: Upstream<Row = Interior>>(
+        &self,
+        link: Link,
+        int: &I,
+        after: Place,
+    ) -> Option<Prefix>
+        requires own { IsSome (exit_links self.now (I.rows int.now) link) }
+        ensures next { IsNextCandidate (exit_candidates self.now (I.candidates int.now) link) (key_of after) result }
+        ensures covers { (rows : Rows Value) → exit_links self.now (I.rows int.now) link ≡ Some rows → CoversRows (exit_candidates self.now (I.candidates int.now) link) rows }
+    {
+        match link {
+            Link::Ebgp => self.splitter.rows(BgpLink::Ebgp).next_candidate(&after),
+            Link::Ibgp => self.splitter.rows(BgpLink::Ibgp).next_candidate(&after),
+            Link::Ext => merged_rows(&self.splitter).next_candidate(&after),
+            Link::Fib => self
+                .forwarding
+                .next_candidate(int, &merged_rows(&self.splitter), after),
+            _ => unreachable!(),
+        }
+    }
+}

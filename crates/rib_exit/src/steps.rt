@@ -1,0 +1,116 @@
+//! What comes from above, and from the register; and turns of background work.
+
+ghost use Rattle.std.specs.Prelude.{◌≡◌, IfOk, OnErr};
+ghost use Rattle.nexthop_resolver.specs.Registered.{KeepsOthers};
+ghost use Rattle.journal_text.specs.Journals.{Adds};
+ghost use Rattle.rib_exit.specs.Exits.{IsExit, AgreesWith};
+ghost use Rattle.rib_exit.specs.Steps.{TakesExternal, TakesInterior, ComesOut, Stales, ReachesExit};
+
+use crate::exit::RibExit;
+use crate::merged::merged_rows;
+use crate::passing::{pass, pass_both};
+use addr4::{Memory, Prefix};
+use bgp_attr::Route;
+use journal_text::{Journal, Link};
+use link_change::{Change, Turn, Upstream};
+use register_interest::{Interest, Register};
+use rib_route::{FibRow, Interior};
+use rib_split::Split;
+
+impl RibExit {
+    /// A change of the best routes, which the reader took: it goes through the splitter, and each part that this sends goes
+    /// down, the add first. A next hop that comes is asked for at once, and one that no row of `ext` names any more is forgotten.
+    /// Answers the change of `fib`: None exactly where its map stays the same.
+    pub fn take_external<I: Upstream<Row = Interior>>(
+        &mut self,
+        change: &Change<Route>,
+        int: &I,
+        register: &mut Register<Interior>,
+        journal: &mut Journal,
+    ) -> Result<Option<Change<FibRow>>, Memory>
+        requires sound { IsExit self.old }
+        requires agree { AgreesWith self.old register.old }
+        ensures taken { IfOk result (λ sent. Adds (TakesExternal change.now (I.rows int.now) sent register.old register.new self.old self.new) journal.old journal.new) }
+        ensures memory { OnErr result (KeepsOthers 0 register.old register.new) }
+    {
+        match self.splitter.take_in(change)? {
+            Split::Neither => Ok(None),
+            Split::One(link, change) => {
+                let other = self.splitter.rows(link.other()).asked(&change.prefix)?;
+                let hops = &mut self.forwarding;
+                pass(hops, link, change, other, int, register, journal)
+            }
+            Split::Moved(link, add, delete) => {
+                let hops = &mut self.forwarding;
+                pass_both(hops, link, add, delete, int, register, journal)
+            }
+        }
+    }
+
+    /// A change of the interior routes, as it comes out on `fib`; None exactly where its map stays the same. What the register
+    /// gave up with it is told by another call ([`reach`](RibExit::reach)).
+    pub fn take_interior(
+        &self,
+        change: &Change<Interior>,
+        journal: &mut Journal,
+    ) -> Result<Option<Change<FibRow>>, Memory>
+        ensures { IfOk result (λ sent. Adds (TakesInterior change.now sent self.now) journal.old journal.new) }
+    {
+        let sent = self
+            .forwarding
+            .take_int(change, &merged_rows(&self.splitter))?;
+        journal.push_sent(Link::Fib, &sent)?;
+        Ok(sent)
+    }
+
+    /// The register gave up these interests with a change of the interior routes: the answers that came with those of the
+    /// exit are stale. No row changes, and nothing is said. Takes no memory.
+    pub fn reach(&mut self, reached: &[Interest])
+        requires sound { IsExit self.old }
+        ensures { ReachesExit reached.now self.old self.new }
+    {
+        for interest in reached {
+            let own = interest.client == 0;
+            if own {
+                self.invalidate(interest.subnet);
+            }
+        }
+    }
+
+    /// The answers that came with the subnet are stale: the register gave up the interest in it. No row changes, and nothing
+    /// is said. Takes no memory.
+    pub fn invalidate(&mut self, subnet: Prefix)
+        requires sound { IsExit self.old }
+        ensures { Stales subnet self.old self.new }
+    {
+        self.forwarding.invalidate(subnet);
+        self.forwarding.are_named();
+    }
+
+    /// One turn of the task `ext` (`ExtInt::unit`): a walk goes to the next candidate of `ext`, or ends; else the least stale
+    /// next hop is asked for again; else a walk begins. Nothing exactly where there is no work; Quiet where no change comes out
+    /// on `fib`.
+    pub fn turn<I: Upstream<Row = Interior>>(
+        &mut self,
+        int: &I,
+        register: &mut Register<Interior>,
+        journal: &mut Journal,
+    ) -> Result<Turn<FibRow>, Memory>
+        requires sound { IsExit self.old }
+        requires agree { AgreesWith self.old register.old }
+        ensures taken { IfOk result (ComesOut (I.rows int.now) register.old register.new self.old self.new journal.old journal.new) }
+        ensures memory { OnErr result (KeepsOthers 0 register.old register.new) }
+    {
+        let ext = merged_rows(&self.splitter);
+        let turn = self.forwarding.unit(int, &ext, register)?;
+        self.forwarding.are_named();
+        match turn {
+            Turn::Nothing => Ok(Turn::Nothing),
+            Turn::Quiet => Ok(Turn::Quiet),
+            Turn::Sent(change) => {
+                journal.push_change(Link::Fib, &change)?;
+                Ok(Turn::Sent(change))
+            }
+        }
+    }
+}
