@@ -4,5 +4,4 @@ pub mod Trees
 pub mod Falls
 pub mod Steps
 pub mod Merges
-pub mod Forwards
 pub mod Laws

@@ -1,11 +1,11 @@
 //! The RIB's tree of the interior routes: the branch of each interior protocol, and below them the merges of their links,
-//! down to `int` and the forwarding table (NSDI 2005, section 5.2).
+//! down to `int` (NSDI 2005, section 5.2).
 //!
 //! ```text
 //! org.connected --+
 //!                 +-- low --+
 //! org.static -----+         |
-//!                           +-- int -- fib
+//!                           +-- int
 //! org.ospf -------+         |
 //!                 +-- dyn --+
 //! org.rip --------+
@@ -14,8 +14,7 @@
 //! A [`Tree`] holds a [`Branch`] for each protocol: its live routes, and a deletion stage for each of
 //! its losses whose routes aren't deleted yet, in boxes ([`Branch::lowest`] lends them). Two merges bring the four links together in two, `low` and `dyn`, and a
 //! third these in `int`: at each prefix the row of the least administrative distance stands. The merges hold no rows:
-//! beside a change they ask the other link for its row at the prefix. `fib` has the rows of `int` as what packets are forwarded by
-//! ([`rib_merge::forward`]).
+//! beside a change they ask the other link for its row at the prefix.
 //!
 //! What is proved of every call: whatever other links there are, its entries lead by the journal's two consistency rules
 //! from the maps of the tree's old links to those of its new ones; a change goes down from the branch of its protocol, link

@@ -9,14 +9,13 @@ ghost use Rattle.journal_text.specs.declared.value.Value.{Value};
 ghost use Rattle.journal_text.specs.declared.value.Value.TheVariants as values;
 ghost use Rattle.journal_text.specs.Walk.{HasRow};
 ghost use Rattle.rib_tree.specs.Trees.{low_rows, dyn_rows, int_rows, int_candidates, tree_links};
-ghost use Rattle.rib_tree.specs.Forwards.{rib_links};
 
 use crate::tree::Tree;
 use addr4::{Memory, Place, Prefix};
 use journal_text::{Link, Value};
 use link_change::{Upstream, nearer};
-use rib_merge::{forwarded, preferred};
-use rib_route::{FibRow, Interior};
+use rib_merge::preferred;
+use rib_route::Interior;
 
 // The value of a route, if there is one.
 fn interior_value(row: Option<Interior>) -> Option<Value>
@@ -28,24 +27,14 @@ fn interior_value(row: Option<Interior>) -> Option<Value>
     }
 }
 
-// The value of a forwarding row, if there is one.
-fn fib_value(row: Option<FibRow>) -> Option<Value>
-    ensures { result ≡ option_map (λ r. values.FibRow r) row }
-{
-    match row {
-        Some(row) => Some(Value::FibRow(row)),
-        None => None,
-    }
-}
-
 impl Tree {
-    /// Whether the link is one of the tree's, or `fib`: `org.PROTO`, `org.PROTO.N` above the deletion stage of a protocol's
+    /// Whether the link is one of the tree's: `org.PROTO`, `org.PROTO.N` above the deletion stage of a protocol's
     /// Nth loss, `low`, `dyn` and `int`.
     pub fn live(&self, link: Link) -> bool
-        ensures { result ≡ is_some (rib_links self.now link) }
+        ensures { result ≡ is_some (tree_links self.now link) }
     {
         match link {
-            Link::Org(_) | Link::Low | Link::Dyn | Link::Int | Link::Fib => true,
+            Link::Org(_) | Link::Low | Link::Dyn | Link::Int => true,
             Link::Lost(proto, loss) => {
                 let branch = self.branch(proto);
                 branch.live(Link::Lost(branch.proto(), loss))
@@ -54,16 +43,12 @@ impl Tree {
         }
     }
 
-    /// The row at a prefix of a link of the tree, or of `fib`; None where it has none. Memory only for want of memory.
+    /// The row at a prefix of a link of the tree; None where it has none. Memory only for want of memory.
     pub fn asked(&self, link: Link, p: Prefix) -> Result<Option<Value>, Memory>
-        requires { IsSome (rib_links self.now link) }
-        ensures { IfOk result (HasRow (rib_links self.now) link p) }
+        requires { IsSome (tree_links self.now link) }
+        ensures { IfOk result (HasRow (tree_links self.now) link p) }
     {
         match link {
-            Link::Fib => {
-                let row = self.int_row(p)?;
-                Ok(fib_value(forwarded(&row)))
-            }
             Link::Lost(proto, loss) => {
                 let branch = self.branch(proto);
                 let row = branch.asked(Link::Lost(branch.proto(), loss), p)?;
@@ -100,10 +85,10 @@ impl Tree {
         Ok(preferred(low, dynamic))
     }
 
-    /// The least prefix beyond a place that has a row on a link of the tree, or on `fib`.
+    /// The least prefix beyond a place that has a row on a link of the tree.
     pub fn next_candidate(&self, link: Link, after: Place) -> Option<Prefix>
-        requires { IsSome (rib_links self.now link) }
-        ensures { (rows : Rows Value) → rib_links self.now link ≡ Some rows → IsNextCandidate (with_rows rows) (key_of after) result }
+        requires { IsSome (tree_links self.now link) }
+        ensures { (rows : Rows Value) → tree_links self.now link ≡ Some rows → IsNextCandidate (with_rows rows) (key_of after) result }
     {
         match link {
             Link::Org(proto) => Upstream::next_candidate(self.branch(proto), &after),
@@ -113,7 +98,7 @@ impl Tree {
             }
             Link::Low => self.low_next(&after),
             Link::Dyn => self.dyn_next(&after),
-            Link::Int | Link::Fib => self.int_next(&after),
+            Link::Int => self.int_next(&after),
             _ => unreachable!(),
         }
     }

@@ -9,7 +9,7 @@ use Rattle.bgp_wire.specs.declared.message.Message.{Message}
 use Rattle.bgp_wire.specs.declared.message.Message.TheVariants as messages
 use Rattle.bgp_wire.specs.Spelling.{notification_octets}
 use Rattle.journal_text.specs.declared.link.Link.{Link}
-use Rattle.journal_text.specs.declared.link.Link.TheVariants.{In, Filt, Res, Org, Low, Dyn, Int, Best, ReadRib, Fib}
+use Rattle.journal_text.specs.declared.link.Link.TheVariants.{In, Filt, Res, Org, Low, Dyn, Int, Red, Best, ReadRib}
 use Rattle.journal_text.specs.declared.link.Task.{Task}
 use Rattle.journal_text.specs.declared.value.Value.{Value}
 use Rattle.journal_text.specs.declared.entry.Entry.{Entry}
@@ -19,7 +19,7 @@ use Rattle.journal_text.specs.declared.line.Line.TheVariants as lines
 use Rattle.journal_text.specs.Walk.{Leads}
 use Rattle.journal_text.specs.Texts.{entries_of}
 use Rattle.event_text.specs.declared.event.Event.{Event}
-use Rattle.event_text.specs.declared.event.Event.TheVariants.{Nothing, Local, Peer, Up, Down, Bgp, FilterIn, FilterOut, RouteAdd, RouteDel, Lose, Cover, Idle, Work, Ask, Show}
+use Rattle.event_text.specs.declared.event.Event.TheVariants.{Nothing, Local, Peer, Up, Down, Bgp, FilterIn, FilterOut, RouteAdd, RouteDel, Lose, Redist, Cover, Idle, Work, Ask, Show}
 use Rattle.event_text.specs.declared.declared.DeclaredPeer.{DeclaredPeer}
 use Rattle.policy_rules.specs.declared.rule.Rule.{Rule}
 use Rattle.event_text.specs.Declarations.{peer_at, words_of, with_speaker, with_peer, with_session, without_session}
@@ -38,8 +38,11 @@ use Rattle.nexthop_resolver.specs.Resolving.{nothing_known}
 use Rattle.peer_side.specs.Peers.{Chains, chain_at, put_chain, overdue_at}
 use Rattle.peer_side.specs.Steps.{EditsInward, LosesInward}
 use Rattle.exit_side.specs.Exits.{Exited, with_queue}
+use Rattle.pass_core.specs.Passed.{edited, present}
+use Rattle.redist.specs.Protocols.{with_proto}
+use Rattle.rib_exit.specs.Steps.{begin_entries}
 use Rattle.exit_side.specs.Steps.{BeginsExit, EndsExit, EditsExit}
-use Rattle.router_core.specs.Moments.{Moment, with_chains, with_tree, with_exits, rules_to, router_links, bound_of}
+use Rattle.router_core.specs.Moments.{Moment, with_chains, with_tree, with_exits, with_redist, rules_to, router_links, bound_of}
 use Rattle.live_state.specs.Messages.{changes_of, Says}
 use Rattle.live_state.specs.Lives.{LiveAfter}
 use Rattle.router_core.specs.Lives.{live_state}
@@ -57,12 +60,13 @@ Just these then said turns m' = (said ≡ these) × (turns ≡ 0) × (m' ≡ the
 abbrev pub begin_line : Link → Line
 begin_line link = lines.Journal (entries.Begin link)
 
--- the links that begin with `local`: of interior routes, and `best`; behind them the forwarding side begins to read, and `fib` begins
+-- the links that begin with `local`: of interior routes, `red` and `best`; behind them the forwarding side begins to read, and its own
+-- links begin, down to `fib`
 abbrev pub first_begins : List Line
-first_begins = map begin_line (Org Connected ∷ Org Static ∷ Org Ospf ∷ Org Rip ∷ Low ∷ Dyn ∷ Int ∷ Best ∷ [])
+first_begins = map begin_line (Org Connected ∷ Org Static ∷ Org Ospf ∷ Org Rip ∷ Low ∷ Dyn ∷ Int ∷ Red ∷ Best ∷ [])
 
 abbrev pub rib_begins : List Line
-rib_begins = first_begins ++ lines.Journal (entries.Inherit ReadRib Best) ∷ begin_line Fib ∷ []
+rib_begins = first_begins ++ lines.Journal (entries.Inherit ReadRib Best) ∷ journal_lines begin_entries
 
 abbrev pub declared_speaker : Moment → Speaker → Moment
 declared_speaker m words = record m { declared = with_speaker m.declared words }
@@ -240,6 +244,7 @@ IsBlock m (FilterOut k rules) said turns m' = Redirects k rules m said turns m'
 IsBlock m (RouteAdd p row) said turns m' = (turns ≡ 0) × AddsRoute p row m said m'
 IsBlock m (RouteDel proto p) said turns m' = DropsRouteIf (is_some (tables.get (branch_of proto m.tree).tables.live p)) proto p m said turns m'
 IsBlock m (Lose proto) said turns m' = (turns ≡ 0) × LosesProtocol proto m said m'
+IsBlock m (Redist proto on) said turns m' = Just [] (with_redist m (edited m.redist (with_proto (present m.redist) proto on))) said turns m'
 IsBlock m (Cover addr) said turns m' = (turns ≡ 0) × (m' ≡ m) × CoversAddress addr m said
 IsBlock m Idle said turns m' = Idles m said turns m'
 IsBlock m (Work task n) said turns m' = Works task n m said turns m'

@@ -3,6 +3,9 @@ use Rattle.std.specs.Prelude.{ℕ, length, Option, None, Some, is_some, Bool, tr
 use Rattle.bgp_attr.specs.declared.attrs.Attrs.{Attrs}
 use Rattle.policy_rules.specs.declared.rule.Rule.{Rule}
 use Rattle.pass_core.specs.Passed.{Walked}
+use Rattle.pass_core.specs.Left.{turns_left as own_left}
+use Rattle.rib_exit.specs.Exits.{left_in as external_left, known_in as external_known, stale_in as external_stale}
+use Rattle.redist.specs.declared.protos.Protos.{Protos}
 use Rattle.loss_chain.specs.Tables.{Tables, lost_count, tables_count}
 use Rattle.nexthop_known.specs.Hops.{stale_count}
 use Rattle.nexthop_resolver.specs.declared.rows.Metric.{Metric}
@@ -13,9 +16,9 @@ use Rattle.addr4.specs.Prefixes.{Network}
 use Rattle.hop_side.specs.Resolvers.{Resolvers, Beyonds, same_metric, left_in as hops_left_in}
 use Rattle.in_chain.specs.Chains.{Chained, filt_beyond, left_beyond}
 use Rattle.peer_side.specs.Peers.{Chains, chain_at, rows_in, lost_in, left_in}
-use Rattle.rib_tree.specs.Trees.{Treed}
+use Rattle.rib_tree.specs.Trees.{Treed, tree_count}
 use Rattle.router_core.specs.declared.router.Phase.{Phase}
-use Rattle.router_core.specs.declared.router.Phase.TheVariants.{Rdel, Del, Fin, Nh, ReadRib, Out}
+use Rattle.router_core.specs.declared.router.Phase.TheVariants.{Rdel, Red, Del, Fin, Nh, ReadRib, Out, Ext}
 use Rattle.router_core.specs.Moments.{Moment, most_unread}
 use Rattle.std.specs.List.{sum_by}
 use Rattle.bgp_attr.specs.declared.route.Route.{Route}
@@ -40,25 +43,32 @@ beyonds a k = beyond_by (chain_at k a)
 
 -- the phases of an idle, in their order
 abbrev pub all_phases : List Phase
-all_phases = Rdel ∷ Del ∷ Fin ∷ Nh ∷ ReadRib ∷ Out ∷ []
+all_phases = Rdel ∷ Red ∷ Del ∷ Fin ∷ Nh ∷ ReadRib ∷ Out ∷ Ext ∷ []
 
 -- how many changes of `best` the forwarding side hasn't read
 abbrev pub unread_if : Queued Route → Option ℕ → List (Change Route)
 unread_if queued None = []
 unread_if queued (Some reader) = unread_by queued reader
 
--- how many candidates of `best` lie beyond a place, at most: those of each peer
-abbrev pub best_beyond : Chains → Option Network → ℕ
-best_beyond a place = sum_by (λ c. filt_beyond c place) (tables.values a)
+-- how many rows of the four `org.PROTO` lie beyond a place: so many candidates of `int` there are at most
+abbrev pub tree_beyond : Treed → Option Network → ℕ
+tree_beyond t place =
+    left_beyond place t.connected.tables + (left_beyond place t.statics.tables + (left_beyond place t.ospf.tables + left_beyond place t.rip.tables))
+
+-- how many candidates of `best` lie beyond a place, at most: those of each peer, and those of `int`
+abbrev pub best_beyond : Chains → Treed → Option Network → ℕ
+best_beyond a t place = sum_by (λ c. filt_beyond c place) (tables.values a) + tree_beyond t place
 
 -- how many turns a phase takes, if nothing else happens
 abbrev pub counts : Moment → Phase → ℕ
 counts m Rdel = tree_lost m.tree
+counts m Red = own_left (tree_beyond m.tree) m.redist
 counts m Del = lost_in m.chains
 counts m Fin = left_in m.chains
 counts m Nh = hops_left_in (beyonds m.chains) m.hops
 counts m ReadRib = length (unread_if m.exits.queue m.reader)
-counts m Out = exits_left_in (best_beyond m.chains) m.exits
+counts m Out = exits_left_in (best_beyond m.chains m.tree) m.exits
+counts m Ext = external_left (best_beyond m.chains m.tree) m.rib
 
 -- how many turns next hops take at most, whatever became stale: each names a row, and two whole walks of each peer may be left
 abbrev pub most_of : Moment → ℕ
@@ -104,22 +114,53 @@ abbrev pub reading : ℕ → ℕ → ℕ → ℕ → ℕ
 reading exits unread rows sends = (1 + exits) * (unread + sends) + 2 * (exits * (rows + 1))
 
 abbrev pub reading_of : Moment → ℕ → ℕ
-reading_of m sends = reading (tables.len m.exits.chains) (most_unread m.exits) (rows_in m.chains) sends
+reading_of m sends = reading (tables.len m.exits.chains) (most_unread m.exits) (rows_in m.chains + tree_count m.tree) sends
+
+-- how many changes of `red` the walk of redistribution may make, and the one that waits
+abbrev pub own_waiting : ℕ → Option Protos → ℕ
+own_waiting rows None = 0
+own_waiting rows (Some on) = rows
+
+abbrev pub own_sends_by : Treed → Option (Walked Protos) → ℕ
+own_sends_by t None = 0
+own_sends_by t (Some w) = tree_beyond t w.place + own_waiting (tree_beyond t None) w.waiting
+
+abbrev pub own_sends : Moment → ℕ
+own_sends m = own_sends_by m.tree m.redist.walk
+
+-- how many turns the task of external next hops takes at most, whatever becomes stale and whatever is read: each of them names a
+-- row of `ext`, which is one of `best` or of its past, and two whole walks may be left
+abbrev pub external_most : Moment → ℕ
+external_most m = 3 * (rows_in m.chains + tree_count m.tree) + external_known m.rib + 2
+
+-- how many changes of `best` the phases from each on may make
+abbrev pub sends_from_fin : Moment → ℕ
+sends_from_fin m = fin_sends m.chains + 3 * rows_in m.chains
+
+abbrev pub sends_from_del : Moment → ℕ
+sends_from_del m = counts m Del + sends_from_fin m
+
+abbrev pub sends_from_red : Moment → ℕ
+sends_from_red m = own_sends m + sends_from_del m
 
 -- how many turns an idle takes at most from a phase on
 abbrev pub left_from : Phase → Moment → ℕ
-left_from Rdel m = counts m Rdel + (counts m Del + counts m Fin + most_of m + reading_of m (counts m Del + fin_sends m.chains + 3 * rows_in m.chains))
-left_from Del m = counts m Del + counts m Fin + most_of m + reading_of m (counts m Del + fin_sends m.chains + 3 * rows_in m.chains)
-left_from Fin m = counts m Fin + most_of m + reading_of m (fin_sends m.chains + 3 * rows_in m.chains)
-left_from Nh m = counts m Nh + reading_of m (nh_sends (beyonds m.chains) m.hops)
-left_from ReadRib m = counts m ReadRib + counts m Out
-left_from Out m = counts m Out
+left_from Rdel m = counts m Rdel + (counts m Red + counts m Del + counts m Fin + most_of m + reading_of m (counts m Rdel + sends_from_red m) + external_most m)
+left_from Red m = counts m Red + counts m Del + counts m Fin + most_of m + reading_of m (sends_from_red m) + external_most m
+left_from Del m = counts m Del + counts m Fin + most_of m + reading_of m (sends_from_del m) + external_most m
+left_from Fin m = counts m Fin + most_of m + reading_of m (sends_from_fin m) + external_most m
+left_from Nh m = counts m Nh + reading_of m (nh_sends (beyonds m.chains) m.hops) + external_most m
+left_from ReadRib m = counts m ReadRib + counts m Out + external_most m
+left_from Out m = counts m Out + counts m Ext
+left_from Ext m = counts m Ext
 
 -- the phases before this one, to which its turns add nothing
 abbrev pub earlier : Phase → List Phase
 earlier Rdel = []
-earlier Del = Rdel ∷ []
-earlier Fin = Rdel ∷ Del ∷ []
-earlier Nh = Rdel ∷ Del ∷ Fin ∷ []
-earlier ReadRib = Rdel ∷ Del ∷ Fin ∷ Nh ∷ []
-earlier Out = Rdel ∷ Del ∷ Fin ∷ Nh ∷ ReadRib ∷ []
+earlier Red = Rdel ∷ []
+earlier Del = Rdel ∷ Red ∷ []
+earlier Fin = Rdel ∷ Red ∷ Del ∷ []
+earlier Nh = Rdel ∷ Red ∷ Del ∷ Fin ∷ []
+earlier ReadRib = Rdel ∷ Red ∷ Del ∷ Fin ∷ Nh ∷ []
+earlier Out = Rdel ∷ Red ∷ Del ∷ Fin ∷ Nh ∷ ReadRib ∷ []
+earlier Ext = Rdel ∷ Red ∷ Del ∷ Fin ∷ Nh ∷ ReadRib ∷ Out ∷ []

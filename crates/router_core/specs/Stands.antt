@@ -18,8 +18,9 @@ use Rattle.fanout_queue.specs.Queues.{AllLead}
 use Rattle.peer_out.specs.Changes.{MayBeHeard, IsSender}
 use Rattle.out_chain.specs.Chains.{OutChained}
 use Rattle.exit_side.specs.Exits.{Exited, IsExits, AllStand, chain_at as exit_at}
-use Rattle.router_core.specs.Bests.{best_at}
-use Rattle.router_core.specs.Moments.{Moment, Cored, Policies, plain, rules_to}
+use Rattle.rib_exit.specs.Exits.{IsExit, AgreesWith, StandsOver}
+use Rattle.redist.specs.Protocols.{no_protos}
+use Rattle.router_core.specs.Moments.{Moment, Cored, Policies, plain, rules_to, best_of, read_of}
 use Rattle.router_core.specs.Printable.{IsPrintableMoment}
 use Rattle.addr4.specs.Prefixes.{Network}
 use Rattle.rib_route.specs.declared.rows.Interior.{Interior}
@@ -90,9 +91,11 @@ pub record TreeStands (speaker : Option Speaker) (t : Treed) : Type 0 where
 -- what is claimed: of the chains alone, of each peer and its chain, that the chains have the words of this speaker and are as many as
 -- peers, and of the interior routes; of the resolvers alone, that exactly the peers with chains have one, that their next hops that
 -- aren't stale have the register's present answers, that the next hops which the rows of `filt.K` name are counted, and that nobody
--- else has an interest; that the peers have numbers up to 64; that each row, live or lost, is one that octets may hold; of the exits
+-- else but the RIB's exit, client 0, has an interest; that the peers have numbers from 1 to 64; that each row, live or lost, is one that octets may hold; of the exits
 -- alone, that what each reader hasn't taken leads to the rows of `best`, and what each peer was sent, how messages are written and that this speaker's words
--- can be said, whose sessions they are, and who reads for the forwarding side
+-- can be said, whose sessions they are, and who reads for the forwarding side; of the RIB's exit alone, that its next hops that aren't
+-- stale have the register's present answers, and that `ebgp` and `ibgp` are the parts of what the reader has; and that nothing is
+-- redistributed before `local`
 pub data Claim : Type 0 where
   EachChain : Claim
   EachPeer : Claim
@@ -113,6 +116,10 @@ pub data Claim : Type 0 where
   OneSender : Claim
   SameSessions : Claim
   OneReader : Claim
+  ExternalExit : Claim
+  ExternalAgrees : Claim
+  ExternalStands : Claim
+  NothingOwn : Claim
 
 abbrev pub Claims : Moment → Claim → Type 0
 Claims m EachChain = IsPeers m.chains
@@ -124,16 +131,20 @@ Claims m EachResolver = IsHops m.hops
 Claims m SameResolvers = (k : ℕ) → is_some (resolver_at k m.hops) ≡ is_some (chain_at k m.chains)
 Claims m AnswersAgree = AllAgree m.hops m.registry
 Claims m HopsCounted = AllCounted (filt_at m.chains) m.hops
-Claims m NoStrangers = (k : ℕ) → resolver_at k m.hops ≡ None → HasNoInterest k m.registry
-Claims m SmallNumbers = (k : ℕ) → IsSome (chain_at k m.chains) → k ≤ 64
+Claims m NoStrangers = (k : ℕ) → k ≢ 0 → resolver_at k m.hops ≡ None → HasNoInterest k m.registry
+Claims m SmallNumbers = (k : ℕ) → IsSome (chain_at k m.chains) → (1 ≤ k) × (k ≤ 64)
 Claims m EachRow = RowsWereHeard m.chains
 Claims m EachExit = IsExits m.exits
-Claims m QueueLeads = AllLead m.exits.queue (best_at m.chains m.hops)
-Claims m ExitsRead = AllStand (best_at m.chains m.hops) m.exits
+Claims m QueueLeads = AllLead m.exits.queue (best_of m)
+Claims m ExitsRead = AllStand (best_of m) m.exits
 Claims m PlainExits = m.exits.profile ≡ plain
 Claims m OneSender = MaySend m.declared.speaker
 Claims m SameSessions = (k : ℕ) → ExitsAt m.declared.speaker m.outgoing k (peer_at k m.declared.peers) (exit_at k m.exits)
 Claims m OneReader = ReadsOn m.declared.speaker m.reader m.exits
+Claims m ExternalExit = IsExit m.rib
+Claims m ExternalAgrees = AgreesWith m.rib m.registry
+Claims m ExternalStands = StandsOver (read_of m) m.rib
+Claims m NothingOwn = m.declared.speaker ≡ None → m.redist ≡ record { in_force = no_protos; walk = None }
 
 -- all that the ties read at one prefix: the row of the register, and that of `int`
 pub record Here : Type 0 where

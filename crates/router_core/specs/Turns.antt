@@ -1,5 +1,5 @@
 -- Turns of background work, and the falls of messages (NSDI 2005, sections 5.1 and 5.1.2).
-use Rattle.std.specs.Prelude.{◌≡◌, ℕ, zero, suc, ◌+◌, ◌*◌, Bool, false, List, [], ◌∷◌, ◌++◌, map, Option, Some, None}
+use Rattle.std.specs.Prelude.{◌≡◌, ℕ, zero, suc, ◌+◌, ◌*◌, Bool, false, List, [], ◌∷◌, ◌++◌, map, Option, Some, None, is_some}
 use Rattle.std.specs.List.{find}
 use Rattle.addr4.specs.Prefixes.{Network}
 use Rattle.bgp_attr.specs.declared.attrs.Attrs.{Attrs}
@@ -8,7 +8,7 @@ use Rattle.link_change.specs.Changes.{IsSent}
 use Rattle.link_change.specs.declared.change.Change.{Change}
 use Rattle.link_change.specs.declared.turn.Turn.{Turn}
 use Rattle.link_change.specs.declared.turn.Turn.TheVariants as turns
-use Rattle.journal_text.specs.declared.link.Link.TheVariants.{Fib, ReadRib}
+use Rattle.journal_text.specs.declared.link.Link.TheVariants.{ReadRib}
 use Rattle.journal_text.specs.declared.link.Task.{Task}
 use Rattle.journal_text.specs.declared.link.Task.TheVariants as tasks
 use Rattle.journal_text.specs.declared.value.Value.{Value}
@@ -30,25 +30,31 @@ use Rattle.rib_route.specs.declared.Proto.{Proto}
 use Rattle.rib_route.specs.declared.rows.Interior.{Interior}
 use Rattle.rib_route.specs.declared.rows.FibRow.{FibRow}
 use Rattle.journal_text.specs.declared.link.Link.{Link}
-use Rattle.journal_text.specs.Values.{fib_value, valued_change}
 use Rattle.loss_chain.specs.Steps.{table_of}
-use Rattle.rib_tree.specs.Trees.{Treed, branch_of, int_rows, tree_count, tree_tasks}
+use Rattle.rib_tree.specs.Trees.{Treed, branch_of, int_rows, int_candidates, tree_count, tree_tasks}
 use Rattle.rib_tree.specs.Steps.{welded_tree, swept_tree, tree_weld_entries, has_tree_turn}
 use Rattle.rib_tree.specs.Falls.{FallsTree, way_of_sweep}
-use Rattle.rib_merge.specs.Forwards.{forwarded}
 use Rattle.prefix_trie.specs.Width.{width}
 use Rattle.register_interest.specs.declared.interests.Interest.{Interest}
 use Rattle.register_interest.specs.Interests.{AreReached, without}
 use Rattle.register_interest.specs.Registers.{Registry, KeepsAnswers, put_row}
-use Rattle.decision.specs.Branches.{best_candidates}
+use Rattle.bgp_attr.specs.declared.speaker.Speaker.{Speaker}
+use Rattle.link_change.specs.Rows.{Rows}
+use Rattle.pass_core.specs.Passed.{Passed}
+use Rattle.pass_core.specs.Turns.{IsPassedOn, Walks, passed_rows}
+use Rattle.redist.specs.declared.protos.Protos.{Protos}
+use Rattle.redist.specs.Local.{redistributed}
+use Rattle.rib_exit.specs.declared.exit.RibExit.{RibExit}
+use Rattle.rib_exit.specs.Exits.{has_ext_work, known_in as external_known}
+use Rattle.rib_exit.specs.Steps.{TakesExternal, TakesInterior, ReachesExit, TurnsExit as TurnsExternal}
 use Rattle.fanout_queue.specs.Queues.{Takes}
 use Rattle.out_chain.specs.Chains.{is_unread}
-use Rattle.exit_side.specs.Exits.{with_queue, has_exit_work}
+use Rattle.exit_side.specs.Exits.{Exited, with_queue, has_exit_work}
 use Rattle.exit_side.specs.Steps.{TurnsExit}
 use Rattle.journal_text.specs.Values.{route_value, sent_entries}
-use Rattle.router_core.specs.Bests.{resolved_at, best_at, lent_candidates, DecidesOn, Queues}
+use Rattle.router_core.specs.Bests.{all_at, own_entries, DecidesOn, Queues}
 use Rattle.router_core.specs.Phases.{unread_if}
-use Rattle.router_core.specs.Moments.{Moment, most_unread, with_chains, with_hops, with_tree, with_exits}
+use Rattle.router_core.specs.Moments.{Moment, own_of, best_of, candidates_of, most_unread, with_chains, with_hops, with_tree, with_exits, with_redist, with_rib}
 
 abbrev pub journal_lines : List (Entry Value) → List Line
 journal_lines entries = map (λ e. lines.Journal e) entries
@@ -85,7 +91,7 @@ pub record FallsPeer (k : ℕ) (sent : Option (Change Route)) (P : Chains → Li
   pub passed : Option (Change Route)
   pub below : ResolvesOn k sent passed m.registry m'.registry m.hops m'.hops resolved
   pub best : List (Entry Value)
-  pub decided : DecidesOn k passed (resolved_at fallen m'.hops) best
+  pub decided : DecidesOn k passed (all_at (own_of m) fallen m'.hops) best
   pub weld : List (Entry Value)
   pub welds : WeldsInward k fallen m'.chains weld
   pub queued : Queues decided.best m.exits m'.exits
@@ -102,11 +108,6 @@ FeedsAll k [] m said m' = (said ≡ []) × (m' ≡ m)
 FeedsAll k (c ∷ cs) m said m' =
     (first rest : List Line) × (between : Moment) × Feeds k c m first between × FeedsAll k cs between rest m' × (said ≡ first ++ rest)
 
--- the entry of what `fib` gets
-abbrev pub fib_entries : Option (Change FibRow) → List (Entry Value)
-fib_entries None = []
-fib_entries (Some change) = valued_change fib_value Fib change
-
 -- What the register makes of a change of `int`: it has the row, and these are the interests that the change reaches, which are given
 -- up; all else stays, and the answers that go with kept interests are the present ones.
 pub record Registers (change : Change Interior) (reached : List Interest) (r r' : Registry Interior) : Type 0 where
@@ -115,25 +116,56 @@ pub record Registers (change : Change Interior) (reached : List Interest) (r r' 
   pub interests : r'.interests ≡ without r.interests reached
   pub answers : KeepsAnswers r r'
 
--- What follows a change that came out on `int`, if one did: the register takes it over, and in each resolver the answers are stale
--- that came with an interest which was given up.
-abbrev pub Invalidates : Option (Change Interior) → Registry Interior → Registry Interior → Resolvers → Resolvers → Type 0
-Invalidates None r r' h h' = (r' ≡ r) × (h' ≡ h)
-Invalidates (Some change) r r' h h' = (reached : List Interest) × Registers change reached r r' × ReachesBelow reached h h'
+-- What the register makes of a change of `int`, and its clients of what they hear: each of its own interests that were given up, the
+-- resolvers and the RIB's exit. The answers that came with those are stale.
+pub record Invalidates (change : Change Interior) (r r' : Registry Interior) (h h' : Resolvers) (x x' : RibExit) : Type 0 where
+  pub reached : List Interest
+  pub registers : Registers change reached r r'
+  pub resolvers : ReachesBelow reached h h'
+  pub external : ReachesExit reached x x'
 
--- A change of an interior route at a prefix made this of the tree: its messages go down to `int`, then the register, the resolvers and
--- `fib` follow, and behind them stands the weld of the stage that it emptied, if any.
+-- What redistribution makes of a change of `int`, from whatever rows it leads: a change of `red`, if one comes, and the decision over
+-- this speaker's own rows and these of all `res.K`; what comes on `best` joins the queue.
+pub record FollowsOwn (me : Speaker) (change : Change Interior) (s : Passed Protos) (chains : Chains) (h : Resolvers) (int : Rows Interior) (e e' : Exited) (entries : List (Entry Value)) : Type 0 where
+  pub own : Option (Change Route)
+  pub passed : IsPassedOn (redistributed me) s change own
+  pub best : List (Entry Value)
+  pub decided : DecidesOn 0 own (all_at (passed_rows (redistributed me) s int) chains h) best
+  pub queued : Queues decided.best e e'
+  pub lines : entries ≡ own_entries own ++ best
+
+-- What follows a change that came out on `int`, where it has these rows now: the register and its clients, which say nothing; then
+-- redistribution and all that it causes; then `fib`.
+pub record FollowsInt (change : Change Interior) (int : Rows Interior) (m m' : Moment) (entries : List (Entry Value)) : Type 0 where
+  pub me : Speaker
+  pub local : m.declared.speaker ≡ Some me
+  pub informed : Invalidates change m.registry m'.registry m.hops m'.hops m.rib m'.rib
+  pub own_lines : List (Entry Value)
+  pub own : FollowsOwn me change m.redist m.chains m'.hops int m.exits m'.exits own_lines
+  pub fib : Option (Change FibRow)
+  pub fib_lines : List (Entry Value)
+  pub forwards : TakesInterior change fib m'.rib fib_lines
+  pub lines : entries ≡ own_lines ++ fib_lines
+
+-- without a change nothing follows
+abbrev pub BelowInt : Option (Change Interior) → Rows Interior → Moment → Moment → List (Entry Value) → Type 0
+BelowInt None int m m' entries = (m' ≡ m) × (entries ≡ [])
+BelowInt (Some change) int m m' entries =
+    FollowsInt change int m m' entries × (m' ≡ record m { registry = m'.registry; hops = m'.hops; exits = m'.exits; rib = m'.rib })
+
+-- A change of an interior route at a prefix made this of the tree: its messages go down to `int`, then all follows that is below, and
+-- behind that stands the weld of the stage that it emptied, if any.
 pub record FallsRoute (m : Moment) (new : Treed) (proto : Proto) (p : Network) (way : List Link) (said : List Line) (m' : Moment) : Type 0 where
   pub sent : Option (Change Interior)
   pub entries : List (Entry Value)
   pub falls : FallsTree m.tree new p way sent entries
   pub rows : IsSent (int_rows m.tree) (int_rows new) p sent
-  pub below : Option (Change FibRow)
-  pub fib : IsSent (forwarded (int_rows m.tree)) (forwarded (int_rows new)) p below
-  pub lines : said ≡ journal_lines (entries ++ (fib_entries below ++ tree_weld_entries proto new))
-  pub below_int : Invalidates sent m.registry m'.registry m.hops m'.hops
+  pub followed : Moment
+  pub below : List (Entry Value)
+  pub below_int : BelowInt sent (int_rows new) (with_tree m new) followed below
+  pub lines : said ≡ journal_lines (entries ++ (below ++ tree_weld_entries proto new))
   pub int : int_rows (welded_tree proto new) ≡ int_rows new
-  pub after : m' ≡ with_hops (with_tree m (welded_tree proto new)) m'.registry m'.hops
+  pub after : m' ≡ with_tree followed (welded_tree proto new)
 
 -- the change that a turn sent, if it sent one
 abbrev pub sent_of : {R : Type 0} → Turn R → Option (Change R)
@@ -168,7 +200,7 @@ pub record IsHopTurn (k : ℕ) (m : Moment) (said : List Line) (m' : Moment) : T
   pub entries : List (Entry Value)
   pub turn : TurnsBelow k (filt_candidates chain) (filt_rows chain) sent m.registry m'.registry m.hops m'.hops entries
   pub best : List (Entry Value)
-  pub decided : DecidesOn k sent (resolved_at m.chains m'.hops) best
+  pub decided : DecidesOn k sent (all_at (own_of m) m.chains m'.hops) best
   pub queued : Queues decided.best m.exits m'.exits
   pub lines : said ≡ journal_lines (entries ++ best)
   pub after : m' ≡ with_exits (with_hops m m'.registry m'.hops) m'.exits
@@ -176,17 +208,40 @@ pub record IsHopTurn (k : ℕ) (m : Moment) (said : List Line) (m' : Moment) : T
 -- One turn of the exit of peer k, over the rows of `best`: what it says is its links' entries, and the UPDATE that the peer is sent.
 pub record IsOutTurn (k : ℕ) (m : Moment) (said : List Line) (m' : Moment) : Type 0 where
   pub sent : Option (Change Attrs)
-  pub turn : TurnsExit k (best_candidates (lent_candidates m.chains)) (best_at m.chains m.hops) sent m.exits m'.exits said
+  pub turn : TurnsExit k (candidates_of m) (best_of m) sent m.exits m'.exits said
   pub after : m' ≡ with_exits m m'.exits
 
--- One turn of the forwarding side: the first change that it hasn't read comes on `read.rib`.
+-- One turn of the forwarding side: the first change that it hasn't read comes on `read.rib`, and goes down through the RIB's exit.
 pub record IsReadTurn (m : Moment) (said : List Line) (m' : Moment) : Type 0 where
   pub reader : ℕ
   pub reads : m.reader ≡ Some reader
   pub change : Change Route
   pub takes : Takes m.exits.queue m'.exits.queue reader (Some change)
-  pub lines : said ≡ journal_lines (sent_entries route_value ReadRib (Some change))
-  pub after : m' ≡ with_exits m (with_queue m'.exits.queue m.exits)
+  pub fib : Option (Change FibRow)
+  pub entries : List (Entry Value)
+  pub external : TakesExternal change (int_rows m.tree) fib m.registry m'.registry m.rib m'.rib entries
+  pub lines : said ≡ journal_lines (sent_entries route_value ReadRib (Some change) ++ entries)
+  pub after : m' ≡ with_rib (with_exits m (with_queue m'.exits.queue m.exits)) m'.registry m'.rib
+
+-- One turn of the walk of redistribution, over the rows of `int`, and what follows a change of `red`.
+pub record IsOwnTurn (m : Moment) (said : List Line) (m' : Moment) : Type 0 where
+  pub me : Speaker
+  pub local : m.declared.speaker ≡ Some me
+  pub own : Option (Change Route)
+  pub walks : Walks (redistributed me) (int_candidates m.tree) (int_rows m.tree) m.redist m'.redist own
+  pub best : List (Entry Value)
+  pub decided : DecidesOn 0 own (all_at (own_of m') m.chains m.hops) best
+  pub queued : Queues decided.best m.exits m'.exits
+  pub lines : said ≡ journal_lines (own_entries own ++ best)
+  pub after : m' ≡ with_exits (with_redist m m'.redist) m'.exits
+
+-- One turn of the next hops of external routes.
+pub record IsExternalTurn (m : Moment) (said : List Line) (m' : Moment) : Type 0 where
+  pub fib : Option (Change FibRow)
+  pub entries : List (Entry Value)
+  pub turn : TurnsExternal (int_rows m.tree) fib m.registry m'.registry m.rib m'.rib entries
+  pub lines : said ≡ journal_lines entries
+  pub after : m' ≡ with_rib m m'.registry m'.rib
 
 -- one turn of a task
 abbrev pub IsTurn : Task → Moment → List Line → Moment → Type 0
@@ -196,6 +251,8 @@ IsTurn (tasks.Nh k) m said m' = IsHopTurn k m said m'
 IsTurn tasks.ReadRib m said m' = IsReadTurn m said m'
 IsTurn (tasks.Out k) m said m' = IsOutTurn k m said m'
 IsTurn (tasks.Rdel proto n) m said m' = IsRouteTurn proto n m said m'
+IsTurn tasks.Red m said m' = IsOwnTurn m said m'
+IsTurn tasks.Ext m said m' = IsExternalTurn m said m'
 
 -- whether a task has work
 abbrev pub has_work : Task → Moment → Bool
@@ -205,6 +262,8 @@ has_work (tasks.Nh k) m = has_hop_work m.hops k
 has_work tasks.ReadRib m = is_unread (unread_if m.exits.queue m.reader)
 has_work (tasks.Out k) m = has_exit_work m.exits k
 has_work (tasks.Rdel proto n) m = has_tree_turn m.tree (tasks.Rdel proto n)
+has_work tasks.Red m = is_some m.redist.walk
+has_work tasks.Ext m = has_ext_work m.rib
 
 -- so many turns of a task
 abbrev pub Turns : ℕ → Task → Moment → List Line → Moment → Type 0
@@ -220,38 +279,46 @@ Drains task m said turns m' = Turns turns task m said m' × (has_work task m' �
 
 abbrev pub phase_of : Task → Phase
 phase_of (tasks.Rdel proto n) = phases.Rdel
+phase_of tasks.Red = phases.Red
 phase_of (tasks.Del k s) = phases.Del
 phase_of (tasks.Fin k) = phases.Fin
 phase_of (tasks.Nh k) = phases.Nh
 phase_of tasks.ReadRib = phases.ReadRib
 phase_of (tasks.Out k) = phases.Out
+phase_of tasks.Ext = phases.Ext
 
 -- the tasks of a phase of an idle, in their order
 abbrev pub phase_tasks : Phase → Moment → List Task
 phase_tasks phases.Rdel m = tree_tasks m.tree
+phase_tasks phases.Red m = tasks.Red ∷ []
 phase_tasks phases.Del m = deletion_tasks m.chains
 phase_tasks phases.Fin m = filter_tasks m.chains
 phase_tasks phases.Nh m = map (λ k. tasks.Nh k) (tables.keys m.hops)
 phase_tasks phases.ReadRib m = tasks.ReadRib ∷ []
 phase_tasks phases.Out m = map (λ k. tasks.Out k) (tables.keys m.exits.chains)
+phase_tasks phases.Ext m = tasks.Ext ∷ []
 
 -- how many turns a phase takes at most
 abbrev pub phase_bound : Phase → Moment → ℕ
 phase_bound phases.Rdel m = tree_count m.tree
+phase_bound phases.Red m = 2 * (tree_count m.tree + 1)
 phase_bound phases.Del m = rows_in m.chains
 phase_bound phases.Fin m = 2 * (rows_in m.chains + tables.len m.chains)
 phase_bound phases.Nh m = known_in m.hops + 2 * (rows_in m.chains + tables.len m.chains)
 phase_bound phases.ReadRib m = most_unread m.exits
-phase_bound phases.Out m = tables.len m.exits.chains * (most_unread m.exits + 2 * (rows_in m.chains + 1))
+phase_bound phases.Out m = tables.len m.exits.chains * (most_unread m.exits + 2 * (rows_in m.chains + tree_count m.tree + 1))
+phase_bound phases.Ext m = external_known m.rib + 2 * (rows_in m.chains + tree_count m.tree + 1)
 
 -- no stage of the phase stands, no walk of it is on, and no next hop has work
 abbrev pub IsOver : Phase → Moment → Type 0
 IsOver phases.Rdel m = (proto : Proto) → (branch_of proto m.tree).tables.deletions ≡ []
+IsOver phases.Red m = m.redist.walk ≡ None
 IsOver phases.Del m = (k : ℕ) (c : Chained) → chain_at k m.chains ≡ Some c → c.incoming.tables.deletions ≡ []
 IsOver phases.Fin m = (k : ℕ) (c : Chained) → chain_at k m.chains ≡ Some c → c.filter.walk ≡ None
 IsOver phases.Nh m = (k : ℕ) → has_hop_work m.hops k ≡ false
 IsOver phases.ReadRib m = unread_if m.exits.queue m.reader ≡ []
 IsOver phases.Out m = (k : ℕ) → has_exit_work m.exits k ≡ false
+IsOver phases.Ext m = has_ext_work m.rib ≡ false
 
 -- ---- the same for any table
 

@@ -32,8 +32,8 @@ use Rattle.journal_text.specs.declared.entry.Entry.TheVariants.{Inherit}
 use Rattle.std.specs.Prelude.{[], ◌∷◌}
 use Rattle.exit_side.specs.Exits.{with_queue, chain_at as exit_at}
 use Rattle.exit_side.specs.Steps.{BeginsExit}
-use Rattle.router_core.specs.Bests.{resolved_at, DecidesOn, Queues}
-use Rattle.router_core.specs.Moments.{Moment, plain, with_chains, with_hops, with_tree, with_exits, rules_to, router_links, bound_of, Gives}
+use Rattle.router_core.specs.Bests.{all_at, DecidesOn, Queues}
+use Rattle.router_core.specs.Moments.{Moment, plain, own_of, with_chains, with_hops, with_tree, with_exits, rules_to, router_links, bound_of, Gives}
 use Rattle.journal_text.specs.declared.link.Link.{Link}
 use Rattle.live_state.specs.Lives.{LiveState, LiveAfter, live_fed, heard, ended, interior_lost}
 use Rattle.router_core.specs.Lives.{live_state}
@@ -42,8 +42,10 @@ use Rattle.router_core.specs.Printable.{IsHeard}
 use Rattle.router_core.specs.Scratch.{IsExact}
 use Rattle.router_core.specs.declared.router.Phase.{Phase}
 use Rattle.rib_route.specs.declared.rows.FibRow.{FibRow}
-use Rattle.rib_merge.specs.Forwards.{ForwardsOn}
-use Rattle.router_core.specs.Turns.{ResolvesOn, Invalidates, fib_entries, journal_lines, InPeers, FeedsAll, FallsRoute, phase_of, IsTurn, Turns, Runs, RunsPhase, RunsAll, has_work, phase_bound, IsOver, IsSettled}
+use Rattle.rib_exit.specs.Steps.{TakesInterior}
+use Rattle.pass_core.specs.Turns.{IsPassedOn}
+use Rattle.redist.specs.Local.{redistributed}
+use Rattle.router_core.specs.Turns.{ResolvesOn, Invalidates, FollowsOwn, BelowInt, journal_lines, InPeers, FeedsAll, FallsRoute, phase_of, IsTurn, Turns, Runs, RunsPhase, RunsAll, has_work, phase_bound, IsOver, IsSettled}
 use Rattle.router_core.specs.Phases.{all_phases, counts, earlier, left_from}
 use Rattle.router_core.specs.Blocks.{RunsFirst, Loses, Hears, Idles, IsBlock, ended as ended_moment}
 use Rattle.router_core.specs.declared.router.Idle.{Idle}
@@ -191,16 +193,16 @@ pub record SettlesPeer (k : ℕ) (sent : Option (Change Route)) (m m' : Moment) 
   pub passed : Option (Change Route)
   pub below : ResolvesOn k sent passed m.registry m'.registry m.hops m'.hops resolved
   pub best : List (Entry Value)
-  pub decided : DecidesOn k passed (resolved_at m.chains m'.hops) best
+  pub decided : DecidesOn k passed (all_at (own_of m) m.chains m'.hops) best
   pub weld : List (Entry Value)
   pub welds : WeldsInward k m.chains m'.chains weld
   pub queued : Queues decided.best m.exits m'.exits
   pub lines : entries ≡ resolved ++ (best ++ weld)
   pub after : m' ≡ with_exits (with_hops (with_chains m m'.chains) m'.registry m'.hops) m'.exits
 
--- What follows a change that came on `res.K`, if one did: the decision, and the queue.
+-- What follows a change that came on `res.K`, or on `red` (0), if one did: the decision, and the queue.
 pub record Decides (k : ℕ) (sent : Option (Change Route)) (m m' : Moment) (entries : List (Entry Value)) : Type 0 where
-  pub decided : DecidesOn k sent (resolved_at m.chains m.hops) entries
+  pub decided : DecidesOn k sent (all_at (own_of m) m.chains m.hops) entries
   pub queued : Queues decided.best m.exits m'.exits
   pub after : m' ≡ with_exits m m'.exits
 
@@ -223,31 +225,29 @@ pub record EndsProtocol (proto : Proto) (m m' : Moment) (said : List Line) : Typ
   pub after : m' ≡ with_tree m (lost_tree proto m.tree)
   pub keeps : Keeps (interior_lost (live_state m) proto) m m' said
 
--- what comes out on `fib`, by what came out on `int`
-abbrev pub Forwards : Option (Change Interior) → Option (Change FibRow) → Type 0
-Forwards None below = below ≡ None
-Forwards (Some change) below = ForwardsOn change below
+-- The register and its clients heard of a change of `int`.
+pub record Informs (change : Change Interior) (m m' : Moment) : Type 0 where
+  pub informed : Invalidates change m.registry m'.registry m.hops m'.hops m.rib m'.rib
+  pub after : m' ≡ record m { registry = m'.registry; hops = m'.hops; rib = m'.rib }
 
--- the entries of that were pushed
-abbrev pub PushesForwarded : Change Interior → Journaled → Journaled → Type 0
-PushesForwarded change before now = (below : Option (Change FibRow)) × ForwardsOn change below × (now ≡ with_entries before (fib_entries below))
+-- A change of `int` went on through redistribution.
+pub record Redistributes (change : Change Interior) (m m' : Moment) (entries : List (Entry Value)) : Type 0 where
+  pub me : Speaker
+  pub local : m.declared.speaker ≡ Some me
+  pub own : FollowsOwn me change m.redist m.chains m.hops (int_rows m.tree) m.exits m'.exits entries
+  pub after : m' ≡ with_exits m m'.exits
 
--- What follows a change that came out on `int`, if one did: the register takes it over, the resolvers hear of the interests that it
--- reaches, and `fib` gets what the change makes of it.
-pub record Follows (sent : Option (Change Interior)) (m m' : Moment) (before now : Journaled) : Type 0 where
-  pub below_int : Invalidates sent m.registry m'.registry m.hops m'.hops
-  pub after : m' ≡ with_hops m m'.registry m'.hops
-  pub below : Option (Change FibRow)
-  pub fib : Forwards sent below
-  pub lines : now ≡ with_entries before (fib_entries below)
+-- What follows a change that came out on `int`, if one did.
+abbrev pub Follows : Option (Change Interior) → Moment → Moment → List (Entry Value) → Type 0
+Follows sent m m' entries = BelowInt sent (int_rows m.tree) m m' entries
 
 -- the same, and behind it the stage of the protocol that was emptied goes, if there is one
-pub record Settles (proto : Proto) (sent : Option (Change Interior)) (m m' : Moment) (before now : Journaled) : Type 0 where
-  pub below_int : Invalidates sent m.registry m'.registry m.hops m'.hops
-  pub after : m' ≡ with_hops (with_tree m (welded_tree proto m.tree)) m'.registry m'.hops
-  pub below : Option (Change FibRow)
-  pub fib : Forwards sent below
-  pub lines : now ≡ with_entries before (fib_entries below ++ tree_weld_entries proto m.tree)
+pub record Settles (proto : Proto) (sent : Option (Change Interior)) (m m' : Moment) (entries : List (Entry Value)) : Type 0 where
+  pub followed : Moment
+  pub below : List (Entry Value)
+  pub below_int : BelowInt sent (int_rows m.tree) m followed below
+  pub after : m' ≡ with_tree followed (welded_tree proto m.tree)
+  pub lines : entries ≡ below ++ tree_weld_entries proto m.tree
   pub leads : LeadsTree m.tree (tree_weld_entries proto m.tree) (welded_tree proto m.tree)
   pub int : int_rows (welded_tree proto m.tree) ≡ int_rows m.tree
   pub tree : IsTree (welded_tree proto m.tree)
@@ -256,7 +256,7 @@ pub record Settles (proto : Proto) (sent : Option (Change Interior)) (m m' : Mom
 -- the same, and the text of its lines
 abbrev pub Turned : Proto → Option (Change Interior) → Moment → Moment → Journaled → Journaled → Done → Type 0
 Turned proto sent m m' before now Nothing = ⊥
-Turned proto sent m m' before now Taken = (j : Journaled) × Settles proto sent m m' before j × (now ≡ flushed j)
+Turned proto sent m m' before now Taken = (entries : List (Entry Value)) × Settles proto sent m m' entries × (now ≡ flushed (with_entries before entries))
 
 -- ---- what reads `best`
 -- With `local` the forwarding side begins to read: `read.rib` inherits `best`.

@@ -1,31 +1,38 @@
-//! What follows a change of `res.K`: the best route at its prefix, over all peers (RFC 4271, section 9.1.2).
+//! What follows a change of `res.K` or `red`: the best route at its prefix, over all peers and this speaker's own (RFC 4271, section 9.1.2).
 
 ghost use Rattle.std.specs.Prelude.{◌≡◌, ◌≤◌, IfOk, OnOk};
 ghost use Rattle.std.specs.Option.{option_copied};
 ghost use Rattle.addr4.specs.Places.{key_of};
 ghost use Rattle.journal_text.specs.Journals.{Adds};
 ghost use Rattle.link_change.specs.Rows.{IsNextCandidate, CoversRows};
-ghost use Rattle.decision.specs.Branches.{best_candidates};
 ghost use Rattle.exit_side.specs.Exits.{IsExits};
 ghost use Rattle.router_core.specs.Works.{Decides};
-ghost use Rattle.router_core.specs.Bests.{best_at, lent_chain, lent_candidates};
+ghost use Rattle.rib_tree.specs.Trees.{int_rows};
+ghost use Rattle.router_core.specs.Bests.{own_rows, lent_chain, lent_resolved, candidates_by};
+ghost use Rattle.router_core.specs.Moments.{best_of, candidates_of};
 
 use crate::network::Network;
 use addr4::{Memory, Place, Prefix};
 use bgp_attr::Route;
 use decision::{Branches, asked, next_candidate, take_in};
+use event_text::Declared;
 use hop_side::NextHops;
 use in_chain::Chain;
 use journal_text::{Journal, Link};
-use link_change::Change;
+use link_change::{Change, Upstream};
 use peer_side::Peers;
+use redist::Redist;
+use rib_tree::Tree;
 
 /// At most how many branches there are.
 const MOST: u8 = 65;
 
-/// The links `res.K` of all peers, as they are lent to the decision. No local route is redistributed yet, so branch 0 is empty.
+/// The links `res.K` of all peers, and as branch 0 the link `red`, as they are lent to the decision.
 #[derive(Drop)]
 pub(crate) struct Lent<'a> {
+    pub(crate) declared: &'a Declared,
+    pub(crate) tree: &'a Tree,
+    pub(crate) redist: &'a Redist,
     pub(crate) chains: &'a Peers,
     pub(crate) hops: &'a NextHops,
 }
@@ -40,14 +47,44 @@ impl<'a> Lent<'a> {
         }
         None
     }
+
+    /// The row of `red` at a prefix; none before `local`.
+    pub(crate) fn own(&self, p: &Prefix) -> Result<Option<Route>, Memory>
+        ensures { IfOk result (λ row. row ≡ own_rows self.now.declared.now.speaker self.now.redist.now (int_rows self.now.tree.now) p.now) }
+    {
+        match self.declared.speaker() {
+            Some(me) => self.redist.asked(self.tree, *p, &me),
+            None => Ok(None),
+        }
+    }
+
+    /// The row of `res.K` of a peer at a prefix.
+    fn resolved(&self, branch: u8, p: &Prefix) -> Result<Option<Route>, Memory>
+        ensures { IfOk result (λ row. row ≡ lent_resolved self.now.chains.now self.now.hops.now branch p.now) }
+    {
+        let Some(chain) = self.chain(branch) else {
+            return Ok(None);
+        };
+        self.hops.asked(u32::from(branch), chain, *p)
+    }
+
+    /// Where the next row of `res.K` may stand, beyond a place.
+    fn next_resolved(&self, branch: u8, after: &Place) -> Option<Prefix>
+        ensures next { IsNextCandidate (candidates_by (lent_chain self.now.chains.now branch)) (key_of after.now) result }
+        ensures covers { CoversRows (candidates_by (lent_chain self.now.chains.now branch)) (lent_resolved self.now.chains.now self.now.hops.now branch) }
+    {
+        let chain = self.chain(branch)?;
+        self.hops.next_candidate(u32::from(branch), chain, *after)
+    }
 }
 
 impl<'a> Branches for Lent<'a> {
-    ghost use Rattle.router_core.specs.Bests.{lent_rows, lent_candidates};
+    ghost use Rattle.rib_tree.specs.Trees.{int_rows, int_candidates};
+    ghost use Rattle.router_core.specs.Bests.{own_rows, lent_rows, lent_candidates};
 
-    ghost rows = { λ l. lent_rows l.chains.now l.hops.now };
+    ghost rows = { λ l. lent_rows (own_rows l.declared.now.speaker l.redist.now (int_rows l.tree.now)) l.chains.now l.hops.now };
 
-    ghost candidates = { λ l. lent_candidates l.chains.now };
+    ghost candidates = { λ l. lent_candidates (int_candidates l.tree.now) l.chains.now };
 
     // No number beyond the greatest one of a peer.
     fn count(&self) -> u8 {
@@ -59,20 +96,22 @@ impl<'a> Branches for Lent<'a> {
     }
 
     fn asked(&self, branch: u8, p: &Prefix) -> Result<Option<Route>, Memory> {
-        let Some(chain) = self.chain(branch) else {
-            return Ok(None);
-        };
-        self.hops.asked(u32::from(branch), chain, *p)
+        if branch == 0 {
+            return self.own(p);
+        }
+        self.resolved(branch, p)
     }
 
     fn next_candidate(&self, branch: u8, after: &Place) -> Option<Prefix> {
-        let chain = self.chain(branch)?;
-        self.hops.next_candidate(u32::from(branch), chain, *after)
+        if branch == 0 {
+            return self.redist.next_candidate(self.tree, *after);
+        }
+        self.next_resolved(branch, after)
     }
 }
 
 impl Network {
-    /// What follows a change of `res.K` of a peer, if one came: the change of `best`, if there is one.
+    /// What follows a change of `res.K` of a peer, or of `red` (number 0), if one came: the change of `best`, if there is one.
     pub(crate) fn decide(
         &mut self,
         number: u32,
@@ -92,26 +131,32 @@ impl Network {
         Ok(())
     }
 
-    /// The best route at a prefix; None where no peer has one.
+    /// The best route at a prefix; None where neither a peer nor this speaker has one.
     pub(crate) fn best(&self, p: Prefix) -> Result<Option<Route>, Memory>
-        ensures { IfOk result (λ row. row ≡ best_at self.now.chains self.now.hops p) }
+        ensures { IfOk result (λ row. row ≡ best_of self.now p) }
     {
         asked(self.alloc, &self.lent(), &p)
     }
 
     /// Where the next best route may stand, beyond a place.
     pub(crate) fn next_best(&self, after: Place) -> Option<Prefix>
-        ensures next { IsNextCandidate (best_candidates (lent_candidates self.now.chains)) (key_of after) result }
-        ensures covers { CoversRows (best_candidates (lent_candidates self.now.chains)) (best_at self.now.chains self.now.hops) }
+        ensures next { IsNextCandidate (candidates_of self.now) (key_of after) result }
+        ensures covers { CoversRows (candidates_of self.now) (best_of self.now) }
     {
         next_candidate(&self.lent(), &after)
     }
 
     pub(crate) fn lent(&self) -> Lent<'_>
+        ensures declared { result.declared.now ≡ self.now.declared }
+        ensures tree { result.tree.now ≡ self.now.tree }
+        ensures redist { result.redist.now ≡ self.now.redist }
         ensures chains { result.chains.now ≡ self.now.chains }
         ensures hops { result.hops.now ≡ self.now.hops }
     {
         Lent {
+            declared: &self.declared,
+            tree: &self.tree,
+            redist: &self.redist,
             chains: &self.chains,
             hops: &self.hops,
         }

@@ -11,8 +11,8 @@ ghost use Rattle.event_text.specs.declared.event.Event.TheVariants as events;
 ghost use Rattle.event_text.specs.Declarations.{peer_at, refusal};
 ghost use Rattle.exit_side.specs.Exits.{IsExits, exit_links, chain_at as exit_at};
 ghost use Rattle.router_core.specs.declared.router.Phase.TheVariants as phases;
-ghost use Rattle.router_core.specs.Bests.{best_at, Queues};
-ghost use Rattle.router_core.specs.Moments.{read_links, rules_to, with_exits};
+ghost use Rattle.router_core.specs.Bests.{Queues};
+ghost use Rattle.router_core.specs.Moments.{best_of, read_links, rules_to, with_exits};
 ghost use Rattle.router_core.specs.Stands.{Stands, HaveReaders};
 ghost use Rattle.router_core.specs.Lookups.{IsNextPlace};
 ghost use Rattle.router_core.specs.Turns.{has_work, next_task};
@@ -141,6 +141,9 @@ impl Network {
         ensures { IfOk result (Comes (tasks.Out number) self.old self.new journal.old journal.new) }
     {
         let lent = Lent {
+            declared: &self.declared,
+            tree: &self.tree,
+            redist: &self.redist,
             chains: &self.chains,
             hops: &self.hops,
         };
@@ -156,7 +159,8 @@ impl Network {
         Ok(Done::Taken)
     }
 
-    /// One turn of the forwarding side: the first change that it hasn't read comes on `read.rib`.
+    /// One turn of the forwarding side: the first change that it hasn't read comes on `read.rib`, and goes down through the RIB's
+    /// exit to `fib`.
     pub(crate) fn turn_reader(&mut self, journal: &mut Journal) -> Result<Done, Memory>
         requires { Stands self.old }
         ensures { IfOk result (Comes tasks.ReadRib self.old self.new journal.old journal.new) }
@@ -169,8 +173,33 @@ impl Network {
             return Ok(Done::Nothing);
         };
         journal.push_change(Link::ReadRib, &change)?;
+        self.rib
+            .take_external(&change, &self.tree, &mut self.registry, journal)?;
         journal.flush()?;
         Ok(Done::Taken)
+    }
+
+    /// One turn of the next hops of external routes.
+    pub(crate) fn turn_external(&mut self, journal: &mut Journal) -> Result<Done, Memory>
+        requires { Stands self.old }
+        ensures { IfOk result (Comes tasks.Ext self.old self.new journal.old journal.new) }
+    {
+        let turn = self.rib.turn(&self.tree, &mut self.registry, journal)?;
+        if let Turn::Nothing = turn {
+            return Ok(Done::Nothing);
+        }
+        journal.flush()?;
+        Ok(Done::Taken)
+    }
+
+    /// The task of the external routes' next hops, where it has work.
+    pub(crate) fn next_external(&self) -> Option<Task>
+        ensures { result ≡ next_task phases.Ext self.now }
+    {
+        if self.rib.busy() {
+            return Some(Task::Ext);
+        }
+        None
     }
 
     /// Whether the forwarding side has something to read.
@@ -198,8 +227,8 @@ impl Network {
     /// The row at a prefix of `read.rib`.
     pub(crate) fn read(&self, p: Prefix) -> Result<Option<Value>, Memory>
         requires readers { HaveReaders self.now }
-        requires live { IsSome (read_links self.now.exits.queue self.now.reader (best_at self.now.chains self.now.hops) links.ReadRib) }
-        ensures { IfOk result (HasRow (read_links self.now.exits.queue self.now.reader (best_at self.now.chains self.now.hops)) links.ReadRib p) }
+        requires live { IsSome (read_links self.now.exits.queue self.now.reader (best_of self.now) links.ReadRib) }
+        ensures { IfOk result (HasRow (read_links self.now.exits.queue self.now.reader (best_of self.now)) links.ReadRib p) }
     {
         let Some(reader) = &self.reader else {
             return Ok(None);
@@ -218,8 +247,8 @@ impl Network {
     /// Where the next row of `read.rib` may stand, beyond a place.
     pub(crate) fn next_read(&self, after: Place) -> Option<Prefix>
         requires readers { HaveReaders self.now }
-        requires live { IsSome (read_links self.now.exits.queue self.now.reader (best_at self.now.chains self.now.hops) links.ReadRib) }
-        ensures { IsNextPlace (read_links self.now.exits.queue self.now.reader (best_at self.now.chains self.now.hops) links.ReadRib) (key_of after) result }
+        requires live { IsSome (read_links self.now.exits.queue self.now.reader (best_of self.now) links.ReadRib) }
+        ensures { IsNextPlace (read_links self.now.exits.queue self.now.reader (best_of self.now) links.ReadRib) (key_of after) result }
     {
         let Some(reader) = &self.reader else {
             return None;
@@ -235,8 +264,8 @@ impl Network {
     /// The row at a prefix of a link of a peer's exit.
     pub(crate) fn sent(&self, link: Link, p: Prefix) -> Result<Option<Value>, Memory>
         requires readers { HaveReaders self.now }
-        requires live { IsSome (exit_links self.now.exits (best_at self.now.chains self.now.hops) link) }
-        ensures { IfOk result (HasRow (exit_links self.now.exits (best_at self.now.chains self.now.hops)) link p) }
+        requires live { IsSome (exit_links self.now.exits (best_of self.now) link) }
+        ensures { IfOk result (HasRow (exit_links self.now.exits (best_of self.now)) link p) }
     {
         let lent = self.lent();
         let best = Best {
@@ -249,8 +278,8 @@ impl Network {
     /// Where the next row of a link of a peer's exit may stand, beyond a place.
     pub(crate) fn next_sent(&self, link: Link, after: Place) -> Option<Prefix>
         requires readers { HaveReaders self.now }
-        requires live { IsSome (exit_links self.now.exits (best_at self.now.chains self.now.hops) link) }
-        ensures { IsNextPlace (exit_links self.now.exits (best_at self.now.chains self.now.hops) link) (key_of after) result }
+        requires live { IsSome (exit_links self.now.exits (best_of self.now) link) }
+        ensures { IsNextPlace (exit_links self.now.exits (best_of self.now) link) (key_of after) result }
     {
         let lent = self.lent();
         let best = Best {

@@ -24,6 +24,7 @@ mod hops;
 mod laws;
 mod lookups;
 mod network;
+mod own;
 mod peers;
 mod router;
 mod routes;

@@ -6,8 +6,9 @@ ghost use Rattle.journal_text.specs.Walk.{HasRow};
 ghost use Rattle.journal_text.specs.Journals.{with_lines};
 ghost use Rattle.hop_side.specs.Resolvers.{hop_links};
 ghost use Rattle.peer_side.specs.Peers.{filt_at};
-ghost use Rattle.router_core.specs.Bests.{best_at, best_links};
-ghost use Rattle.router_core.specs.Moments.{rib_by, router_links};
+ghost use Rattle.rib_tree.specs.Trees.{int_rows};
+ghost use Rattle.router_core.specs.Bests.{own_links, best_links};
+ghost use Rattle.router_core.specs.Moments.{own_of, best_of, tree_by, forward_by, router_links};
 ghost use Rattle.router_core.specs.Stands.{HaveReaders};
 ghost use Rattle.router_core.specs.Blocks.{answer_lines, Shows};
 ghost use Rattle.router_core.specs.Lookups.{Counts, ShowsRow, IsCountOf, IsNextPlace};
@@ -27,21 +28,41 @@ impl Network {
             Region::Inward => self.chains.live(link),
             Region::Resolved => self.hops.live(link),
             Region::Decided => self.best_live(link),
-            Region::InteriorRoutes => self.rib_live(link),
-            Region::Forward => self.rib_live(link),
+            Region::InteriorRoutes => self.tree_live(link),
+            Region::Redistributed => self.own_live(link),
             Region::External => self.reader.is_some(),
+            Region::Forward => self.forward_live(link),
             Region::Outward => self.exits.live(link),
-            Region::Elsewhere => false,
         }
     }
 
-    /// Whether a link of the interior routes, or `fib`, is live.
-    fn rib_live(&self, link: Link) -> bool
-        ensures { result ≡ is_some (rib_by self.now.declared.speaker self.now.tree link) }
+    /// Whether a link of the interior routes is live.
+    fn tree_live(&self, link: Link) -> bool
+        ensures { result ≡ is_some (tree_by self.now.declared.speaker self.now.tree link) }
     {
         match self.declared.speaker() {
             Some(_) => self.tree.live(link),
             None => false,
+        }
+    }
+
+    /// Whether a link of the external routes, or `fib`, is live.
+    fn forward_live(&self, link: Link) -> bool
+        ensures { result ≡ is_some (forward_by self.now.declared.speaker self.now.rib (int_rows self.now.tree) link) }
+    {
+        match self.declared.speaker() {
+            Some(_) => self.rib.live(link),
+            None => false,
+        }
+    }
+
+    /// Whether `red` is live.
+    fn own_live(&self, link: Link) -> bool
+        ensures { result ≡ is_some (own_links self.now.declared.speaker (own_of self.now) link) }
+    {
+        match link {
+            Link::Red => self.declared.speaker().is_some(),
+            _ => false,
         }
     }
 
@@ -56,10 +77,10 @@ impl Network {
             Region::Resolved => self.resolved(link, p),
             Region::Decided => self.decided(link, p),
             Region::InteriorRoutes => self.tree.asked(link, p),
-            Region::Forward => self.tree.asked(link, p),
+            Region::Redistributed => self.own(link, p),
             Region::External => self.read(p),
+            Region::Forward => self.rib.asked(link, &self.tree, p),
             Region::Outward => self.sent(link, p),
-            Region::Elsewhere => unreachable!(),
         }
     }
 
@@ -74,10 +95,10 @@ impl Network {
             Region::Resolved => self.next_resolved(link, after),
             Region::Decided => self.next_best(after),
             Region::InteriorRoutes => self.tree.next_candidate(link, after),
-            Region::Forward => self.tree.next_candidate(link, after),
+            Region::Redistributed => self.redist.next_candidate(&self.tree, after),
             Region::External => self.next_read(after),
+            Region::Forward => self.rib.next_candidate(link, &self.tree, after),
             Region::Outward => self.next_sent(link, after),
-            Region::Elsewhere => unreachable!(),
         }
     }
 
@@ -100,7 +121,7 @@ impl Network {
 
     /// Whether `best` is live.
     fn best_live(&self, link: Link) -> bool
-        ensures { result ≡ is_some (best_links self.now.declared.speaker (best_at self.now.chains self.now.hops) link) }
+        ensures { result ≡ is_some (best_links self.now.declared.speaker (best_of self.now) link) }
     {
         match link {
             Link::Best => self.declared.speaker().is_some(),
@@ -110,10 +131,21 @@ impl Network {
 
     /// The row at a prefix of `best`; None where it has none.
     fn decided(&self, link: Link, p: Prefix) -> Result<Option<Value>, Memory>
-        requires { IsSome (best_links self.now.declared.speaker (best_at self.now.chains self.now.hops) link) }
-        ensures { IfOk result (HasRow (best_links self.now.declared.speaker (best_at self.now.chains self.now.hops)) link p) }
+        requires { IsSome (best_links self.now.declared.speaker (best_of self.now) link) }
+        ensures { IfOk result (HasRow (best_links self.now.declared.speaker (best_of self.now)) link p) }
     {
         match self.best(p)? {
+            Some(route) => Ok(Some(Value::Route(route))),
+            None => Ok(None),
+        }
+    }
+
+    /// The row at a prefix of `red`; None where it has none.
+    fn own(&self, link: Link, p: Prefix) -> Result<Option<Value>, Memory>
+        requires { IsSome (own_links self.now.declared.speaker (own_of self.now) link) }
+        ensures { IfOk result (HasRow (own_links self.now.declared.speaker (own_of self.now)) link p) }
+    {
+        match self.lent().own(&p)? {
             Some(route) => Ok(Some(Value::Route(route))),
             None => Ok(None),
         }

@@ -1,4 +1,4 @@
-//! What was declared, the interior routes, the peers' chains, and the resolvers below these.
+//! What was declared, the interior routes, the peers' chains, and what follows these down to the peers and the forwarding table.
 
 ghost use Rattle.std.specs.Prelude.{◌≡◌, ◌+◌, ◌*◌, IfOk};
 ghost use Rattle.router_core.specs.Moments.{first_moment, bound_of};
@@ -11,7 +11,9 @@ use exit_side::Exits;
 use fanout_queue::Reader;
 use hop_side::NextHops;
 use peer_side::Peers;
+use redist::Redist;
 use register_interest::Register;
+use rib_exit::RibExit;
 use rib_route::Interior;
 use rib_tree::Tree;
 use std::alloc::Global;
@@ -29,6 +31,8 @@ pub(crate) struct Network {
     pub(crate) outgoing: Policies,
     pub(crate) exits: Exits,
     pub(crate) reader: Option<Reader>,
+    pub(crate) redist: Redist,
+    pub(crate) rib: RibExit,
 }
 
 impl Model for Network {
@@ -47,12 +51,14 @@ impl Model for Network {
     ghost use Rattle.exit_side.specs.contracts.exits.Exits as exits_row;
     ghost use Rattle.fanout_queue.specs.contracts.reader.Reader as reader_row;
     ghost use Rattle.std.specs.Coded.{coded_option};
+    ghost use Rattle.redist.specs.contracts.stage.Redist as redist_row;
+    ghost use Rattle.rib_exit.specs.contracts.exit.RibExit as rib_row;
 
     ghost Value = { Moment };
 
-    ghost coded = { moment_code (declaration_code speaker_row.the_row.coded peer_row.the_row.coded) (treed_code (branch_code proto_row.the_row.coded interior_row.the_row.coded)) (registry_code interior_row.the_row.coded) peers_row.the_row.coded hops_row.the_row.coded policies_row.the_row.coded exits_row.the_row.coded (coded_option reader_row.the_row.coded) };
+    ghost coded = { moment_code (declaration_code speaker_row.the_row.coded peer_row.the_row.coded) (treed_code (branch_code proto_row.the_row.coded interior_row.the_row.coded)) (registry_code interior_row.the_row.coded) peers_row.the_row.coded hops_row.the_row.coded policies_row.the_row.coded exits_row.the_row.coded (coded_option reader_row.the_row.coded) redist_row.the_row.coded rib_row.the_row.coded };
 
-    ghost view = { λ n. record { declared = n.declared; tree = n.tree; registry = n.registry; chains = n.chains; hops = n.hops; outgoing = n.outgoing; exits = n.exits; reader = n.reader } };
+    ghost view = { λ n. record { declared = n.declared; tree = n.tree; registry = n.registry; chains = n.chains; hops = n.hops; outgoing = n.outgoing; exits = n.exits; reader = n.reader; redist = n.redist; rib = n.rib } };
 }
 
 impl Network {
@@ -70,6 +76,8 @@ impl Network {
             outgoing: Policies::new(alloc),
             exits: Exits::new(alloc, PLAIN),
             reader: None,
+            redist: Redist::new(alloc),
+            rib: RibExit::new(alloc),
         }
     }
 
@@ -79,7 +87,7 @@ impl Network {
     {
         let peers = plus(self.declared.peers().len() as u128, 2)?;
         let rows = plus(self.chains.rows()?, self.tree.rows())?;
-        let hops = times(2, self.hops.known()?)?;
+        let hops = times(2, plus(self.hops.known()?, self.rib.known())?)?;
         let bound = times(
             peers,
             plus(

@@ -47,7 +47,7 @@ impl Network {
         self.declared.set_speaker(words);
         begin_rib(journal)?;
         self.begin_reading(journal)?;
-        journal.push_entry(Entry::Begin(Link::Fib))?;
+        self.rib.begin(journal)?;
         Ok(())
     }
 
@@ -116,7 +116,7 @@ impl Network {
     }
 }
 
-/// The links of interior routes, and `best`.
+/// The links of interior routes, `red` and `best`.
 fn begin_rib(journal: &mut Journal) -> Result<(), Memory>
     ensures { OnOk result (journal.new ≡ with_lines journal.old first_begins) }
 {
@@ -128,6 +128,7 @@ fn begin_rib(journal: &mut Journal) -> Result<(), Memory>
         Link::Low,
         Link::Dyn,
         Link::Int,
+        Link::Red,
         Link::Best,
     ];
     begin_all(&links, journal)

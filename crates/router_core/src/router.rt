@@ -46,6 +46,8 @@ pub struct Idle {
 pub enum Phase {
     /// The deletion stages of the interior protocols' losses.
     Rdel,
+    /// The walk of redistribution.
+    Red,
     /// The deletion stages of lost sessions.
     Del,
     /// The walks of the incoming filters.
@@ -56,6 +58,8 @@ pub enum Phase {
     ReadRib,
     /// The exits of peers: what their readers haven't taken, and the walks of the outgoing filters.
     Out,
+    /// The next hops of external routes: those that are asked for again, and the walks of fresh answers.
+    Ext,
 }
 
 #[derive(Drop)]
@@ -73,6 +77,8 @@ impl Model for Core {
     ghost use Rattle.router_core.specs.contracts.exits.Policies as policies_row;
     ghost use Rattle.exit_side.specs.contracts.exits.Exits as exits_row;
     ghost use Rattle.fanout_queue.specs.contracts.reader.Reader as reader_row;
+    ghost use Rattle.redist.specs.contracts.stage.Redist as redist_row;
+    ghost use Rattle.rib_exit.specs.contracts.exit.RibExit as rib_row;
     ghost use Rattle.peer_side.specs.contracts.peers.Peers as peers_row;
     ghost use Rattle.hop_side.specs.contracts.hops.NextHops as hops_row;
     ghost use Rattle.rib_route.specs.contracts.Proto as proto_row;
@@ -86,7 +92,7 @@ impl Model for Core {
 
     ghost Value = { Cored };
 
-    ghost coded = { cored_code (moment_code (declaration_code speaker_row.the_row.coded peer_row.the_row.coded) (treed_code (branch_code proto_row.the_row.coded interior_row.the_row.coded)) (registry_code interior_row.the_row.coded) peers_row.the_row.coded hops_row.the_row.coded policies_row.the_row.coded exits_row.the_row.coded (coded_option reader_row.the_row.coded)) };
+    ghost coded = { cored_code (moment_code (declaration_code speaker_row.the_row.coded peer_row.the_row.coded) (treed_code (branch_code proto_row.the_row.coded interior_row.the_row.coded)) (registry_code interior_row.the_row.coded) peers_row.the_row.coded hops_row.the_row.coded policies_row.the_row.coded exits_row.the_row.coded (coded_option reader_row.the_row.coded) redist_row.the_row.coded rib_row.the_row.coded) };
 
     ghost view = { λ c. record { moment = c.network; events = c.events; failed = c.failed } };
 

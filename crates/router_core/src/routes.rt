@@ -10,21 +10,23 @@ ghost use Rattle.rib_tree.specs.Trees.{branch_of, AreNumbered, IsTree, IsFullBut
 ghost use Rattle.rib_tree.specs.Steps.{fed_tree, tree_overdue};
 ghost use Rattle.rib_tree.specs.Falls.{way_of_route};
 ghost use Rattle.hop_side.specs.Resolvers.{IsHops};
+ghost use Rattle.exit_side.specs.Exits.{IsExits};
+ghost use Rattle.rib_exit.specs.Exits.{IsExit};
+ghost use Rattle.journal_text.specs.Journals.{Adds};
 ghost use Rattle.router_core.specs.Moments.{Gives};
 ghost use Rattle.loss_chain.specs.Steps.{live_after};
 ghost use Rattle.live_state.specs.Lives.{interior_fed};
 ghost use Rattle.router_core.specs.Lives.{live_state};
 ghost use Rattle.router_core.specs.Stands.{Stands};
 ghost use Rattle.router_core.specs.Turns.{Registers};
-ghost use Rattle.router_core.specs.Works.{Comes, Follows, Settles, Turned, PushesForwarded, HasRouted, HasProtocolRoom, EndsProtocol, HasStepped, Pushes};
+ghost use Rattle.router_core.specs.Works.{Comes, Informs, Follows, Settles, Turned, HasRouted, HasProtocolRoom, EndsProtocol, HasStepped, Pushes};
 
 use crate::network::Network;
 use crate::router::Done;
 use addr4::{Addr, Memory, Prefix};
-use journal_text::{Journal, Line, Link, Task};
+use journal_text::{Journal, Line, Task};
 use link_change::{Change, Turn};
 use register_interest::{Interest, Register};
-use rib_merge::forward;
 use rib_route::{Interior, Proto};
 use rib_tree::{turns_take_rows, welds_keep_rows};
 use std::alloc::Global;
@@ -163,32 +165,50 @@ impl Network {
         requires tree { IsTree self.old.tree }
         requires full { IsFullBut proto self.old.tree }
         requires hops { IsHops self.old.hops }
-        ensures { OnOk result (Settles proto sent self.old self.new journal.old journal.new) }
+        requires rib { IsExit self.old.rib }
+        requires exits { IsExits self.old.exits }
+        requires since { IsSome self.old.declared.speaker }
+        ensures { OnOk result (Adds (Settles proto sent self.old self.new) journal.old journal.new) }
     {
         self.follow(sent, journal)?;
         self.tree.weld(proto, journal)?;
         Ok(())
     }
 
-    /// What follows a change of `int`, if one came out: the register takes it over, each resolver hears of its interests that
-    /// were given up, and `fib` gets what the change makes of it.
+    /// What follows a change of `int`, if one came out: the register takes it over, and each client hears of its interests that
+    /// were given up, the resolvers and the RIB's exit; then redistribution and all that it causes follow, and then `fib`.
     fn follow(
         &mut self,
         sent: Option<Change<Interior>>,
         journal: &mut Journal,
     ) -> Result<(), Memory>
-        requires { IsHops self.old.hops }
-        ensures { OnOk result (Follows sent self.old self.new journal.old journal.new) }
+        requires hops { IsHops self.old.hops }
+        requires rib { IsExit self.old.rib }
+        requires exits { IsExits self.old.exits }
+        requires since { IsSome self.old.declared.speaker }
+        ensures { OnOk result (Adds (Follows sent self.old self.new) journal.old journal.new) }
     {
         match sent {
             None => Ok(()),
             Some(change) => {
-                let reached = register(&mut self.registry, self.alloc, &change)?;
-                self.hops.reach(reached.as_slice());
-                push_forwarded(&change, journal)?;
+                self.inform(&change)?;
+                self.redistribute(&change, journal)?;
+                self.rib.take_interior(&change, journal)?;
                 Ok(())
             }
         }
+    }
+
+    /// The register takes a change of `int` over, and each client hears of its interests that were given up. Nothing is said.
+    fn inform(&mut self, change: &Change<Interior>) -> Result<(), Memory>
+        requires hops { IsHops self.old.hops }
+        requires rib { IsExit self.old.rib }
+        ensures { OnOk result (Informs change.now self.old self.new) }
+    {
+        let reached = register(&mut self.registry, self.alloc, change)?;
+        self.hops.reach(reached.as_slice());
+        self.rib.reach(reached.as_slice());
+        Ok(())
     }
 
     /// One turn of the stage of a protocol's loss, and the text of its lines.
@@ -220,6 +240,9 @@ impl Network {
         requires tree { IsTree self.old.tree }
         requires full { IsFullBut proto self.old.tree }
         requires hops { IsHops self.old.hops }
+        requires rib { IsExit self.old.rib }
+        requires exits { IsExits self.old.exits }
+        requires since { IsSome self.old.declared.speaker }
         ensures { IfOk result (Turned proto sent self.old self.new journal.old journal.new) }
     {
         self.settle(proto, sent, journal)?;
@@ -249,15 +272,5 @@ fn register(
     match change.after {
         None => registry.changed(alloc, change.prefix, None),
         Some(row) => registry.changed(alloc, change.prefix, Some(row)),
-    }
-}
-
-/// Appends what `fib` gets of a change of `int`.
-fn push_forwarded(change: &Change<Interior>, journal: &mut Journal) -> Result<(), Memory>
-    ensures { OnOk result (PushesForwarded change.now journal.old journal.new) }
-{
-    match forward(change) {
-        None => Ok(()),
-        Some(sent) => journal.push_change(Link::Fib, &sent),
     }
 }

@@ -25,6 +25,7 @@ use bgp_wire::{Message, Notice, write_notification};
 use event_text::{DeclaredPeer, Event};
 use journal_text::{Journal, Line, Link, Task};
 use policy_rules::Rules;
+use rib_route::Proto;
 use std::alloc::Global;
 
 impl Network {
@@ -49,6 +50,7 @@ impl Network {
             Event::RouteAdd(p, row) => self.route_add(p, row, journal),
             Event::RouteDel(proto, p) => self.route_del(proto, p, journal),
             Event::Lose(proto) => self.lose_protocol(proto, journal),
+            Event::Redist(proto, on) => self.redist(proto, on, journal),
             Event::Cover(address) => self.cover(address, journal),
             Event::Idle => self.idle_turns(journal),
             Event::Work(task, most) => self.work(task, most, journal),
@@ -123,6 +125,21 @@ impl Network {
         ensures { IfOk result (λ turns. Gives (HasStepped self.old (events.FilterOut number rules) turns self.new) journal.old journal.new) }
     {
         self.edit_outgoing(number, rules)?;
+        journal.flush()?;
+        Ok(0)
+    }
+
+    fn redist(
+        &mut self,
+        proto: Proto,
+        on: bool,
+        journal: &mut Journal,
+    ) -> Result<u128, Memory>
+        requires admitted { refusal self.old.declared (events.Redist proto on) ≡ None }
+        requires stands { Stands self.old }
+        ensures { IfOk result (λ turns. Gives (HasStepped self.old (events.Redist proto on) turns self.new) journal.old journal.new) }
+    {
+        self.edit_own(proto, on);
         journal.flush()?;
         Ok(0)
     }

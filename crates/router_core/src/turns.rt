@@ -24,6 +24,8 @@ impl Network {
         match task {
             Task::Rdel(proto, loss) => self.turn_route(proto, loss, journal),
             Task::Nh(number) => self.turn_hops(number, journal),
+            Task::Red => self.turn_own(journal),
+            Task::Ext => self.turn_external(journal),
             Task::ReadRib => self.turn_reader(journal),
             Task::Out(number) => self.turn_exit(number, journal),
             Task::Del(_, _) | Task::Fin(_) => self.turn_peer(task, journal),
@@ -73,11 +75,13 @@ impl Network {
     {
         match phase {
             Phase::Rdel => self.tree.oldest(),
+            Phase::Red => self.next_own(),
             Phase::Del => self.chains.first_loss(),
             Phase::Fin => self.chains.first_walk(),
             Phase::Nh => task_of(self.hops.first_busy()),
             Phase::ReadRib => self.next_reader(),
             Phase::Out => exit_of(self.exits.first_busy()),
+            Phase::Ext => self.next_external(),
         }
     }
 
@@ -106,11 +110,13 @@ impl Network {
         journal.flush()?;
         let phases = [
             Phase::Rdel,
+            Phase::Red,
             Phase::Del,
             Phase::Fin,
             Phase::Nh,
             Phase::ReadRib,
             Phase::Out,
+            Phase::Ext,
         ];
         let mut turns = 0;
         for i in 0..phases.len() {

@@ -1,0 +1,78 @@
+//! Redistribution: the interior routes that this speaker announces as its own (RFC 4271, section 9.4).
+
+ghost use Rattle.std.specs.Prelude.{◌≡◌, [], None, IfOk, OnOk, IsSome};
+ghost use Rattle.journal_text.specs.declared.link.Task.TheVariants as tasks;
+ghost use Rattle.journal_text.specs.Journals.{Adds};
+ghost use Rattle.event_text.specs.declared.event.Event.TheVariants as events;
+ghost use Rattle.event_text.specs.Declarations.{refusal};
+ghost use Rattle.exit_side.specs.Exits.{IsExits};
+ghost use Rattle.router_core.specs.declared.router.Phase.TheVariants as phases;
+ghost use Rattle.router_core.specs.Stands.{Stands};
+ghost use Rattle.router_core.specs.Turns.{next_task};
+ghost use Rattle.router_core.specs.Works.{Comes, HasStepped, Redistributes};
+
+use crate::hops::sent_of;
+use crate::network::Network;
+use crate::router::Done;
+use addr4::Memory;
+use journal_text::{Journal, Link, Task};
+use link_change::{Change, Turn};
+use rib_route::{Interior, Proto};
+
+impl Network {
+    /// A protocol's routes are redistributed from now on, or aren't; a walk brings that into force. Takes no memory.
+    pub(crate) fn edit_own(&mut self, proto: Proto, on: bool)
+        requires admitted { refusal self.old.declared (events.Redist proto on) ≡ None }
+        requires stands { Stands self.old }
+        ensures { HasStepped self.old (events.Redist proto on) 0 self.new [] }
+    {
+        self.redist.edit(proto, on);
+    }
+
+    /// A change of `int` goes on through redistribution; where `red` changes, the best route is decided anew.
+    pub(crate) fn redistribute(
+        &mut self,
+        change: &Change<Interior>,
+        journal: &mut Journal,
+    ) -> Result<(), Memory>
+        requires exits { IsExits self.old.exits }
+        requires since { IsSome self.old.declared.speaker }
+        ensures { OnOk result (Adds (Redistributes change.now self.old self.new) journal.old journal.new) }
+    {
+        let Some(me) = self.declared.speaker() else {
+            unreachable!()
+        };
+        let sent = self.redist.take_in(change.copy()?, &me)?;
+        journal.push_sent(Link::Red, &sent)?;
+        self.decide(0, sent, journal)
+    }
+
+    /// One turn of the walk of redistribution, and the text of its lines.
+    pub(crate) fn turn_own(&mut self, journal: &mut Journal) -> Result<Done, Memory>
+        requires { Stands self.old }
+        ensures { IfOk result (Comes tasks.Red self.old self.new journal.old journal.new) }
+    {
+        let Some(me) = self.declared.speaker() else {
+            return Ok(Done::Nothing);
+        };
+        let turn = self.redist.unit(&self.tree, &me)?;
+        if let Turn::Nothing = turn {
+            return Ok(Done::Nothing);
+        }
+        let sent = sent_of(turn);
+        journal.push_sent(Link::Red, &sent)?;
+        self.decide(0, sent, journal)?;
+        journal.flush()?;
+        Ok(Done::Taken)
+    }
+
+    /// The task of redistribution, where a walk is on.
+    pub(crate) fn next_own(&self) -> Option<Task>
+        ensures { result ≡ next_task phases.Red self.now }
+    {
+        if self.redist.busy() {
+            return Some(Task::Red);
+        }
+        None
+    }
+}
