@@ -1,10 +1,11 @@
 -- How many turns are left, phase by phase, and how many an idle takes from a phase on.
-use Rattle.std.specs.Prelude.{ℕ, length, Option, None, Some, is_some, Bool, true, false, ◌+◌, ◌*◌, List, [], ◌∷◌}
+use Rattle.std.specs.Prelude.{ℕ, length, Option, None, Some, is_some, Bool, true, false, ◌+◌, ◌*◌, List, [], ◌∷◌, filter}
 use Rattle.bgp_attr.specs.declared.attrs.Attrs.{Attrs}
 use Rattle.policy_rules.specs.declared.rule.Rule.{Rule}
-use Rattle.pass_core.specs.Passed.{Walked}
+use Rattle.pass_core.specs.Passed.{Walked, is_beyond}
 use Rattle.pass_core.specs.Left.{turns_left as own_left}
-use Rattle.rib_exit.specs.Exits.{left_in as external_left, known_in as external_known, stale_in as external_stale}
+use Rattle.rib_exit.specs.declared.exit.RibExit.{RibExit}
+use Rattle.rib_exit.specs.Exits.{left_in as external_left}
 use Rattle.redist.specs.declared.protos.Protos.{Protos}
 use Rattle.loss_chain.specs.Tables.{Tables, lost_count, tables_count}
 use Rattle.nexthop_known.specs.Hops.{stale_count}
@@ -12,11 +13,15 @@ use Rattle.nexthop_resolver.specs.declared.rows.Metric.{Metric}
 use Rattle.nexthop_resolver.specs.Resolving.{Resolving}
 use Rattle.nexthop_resolver.specs.Left.{differing_count, is_needed}
 use Rattle.std.specs.FinMap as tables
-use Rattle.addr4.specs.Prefixes.{Network}
+use Rattle.std.specs.FinMap.{FinMap}
+use Rattle.addr4.specs.Prefixes.{Network, prefix_cmp}
 use Rattle.hop_side.specs.Resolvers.{Resolvers, Beyonds, same_metric, left_in as hops_left_in}
 use Rattle.in_chain.specs.Chains.{Chained, filt_beyond, left_beyond}
 use Rattle.peer_side.specs.Peers.{Chains, chain_at, rows_in, lost_in, left_in}
+use Rattle.rib_tree.specs.Branches.{Branch}
 use Rattle.rib_tree.specs.Trees.{Treed, tree_count}
+use Rattle.rib_route.specs.declared.rows.Interior.{Interior}
+use Rattle.loss_chain.specs.Lost.{Lost}
 use Rattle.router_core.specs.declared.router.Phase.{Phase}
 use Rattle.router_core.specs.declared.router.Phase.TheVariants.{Rdel, Red, Del, Fin, Nh, ReadRib, Out, Ext}
 use Rattle.router_core.specs.Moments.{Moment, most_unread}
@@ -50,10 +55,24 @@ abbrev pub unread_if : Queued Route → Option ℕ → List (Change Route)
 unread_if queued None = []
 unread_if queued (Some reader) = unread_by queued reader
 
+-- how many rows of a table lie beyond a place
+abbrev pub table_beyond : {V : Type 0} → Option Network → FinMap prefix_cmp V → ℕ
+table_beyond place t = length (filter (λ e. is_beyond place e.0) (tables.entries t))
+
+abbrev pub lost_beyond : Option Network → List (Lost Interior) → ℕ
+lost_beyond place [] = 0
+lost_beyond place (d ∷ ds) = table_beyond place d.rows + lost_beyond place ds
+
+abbrev pub branch_beyond : Option Network → Branch → ℕ
+branch_beyond place b = table_beyond place b.tables.live + lost_beyond place b.tables.deletions
+
 -- how many rows of the four `org.PROTO` lie beyond a place: so many candidates of `int` there are at most
 abbrev pub tree_beyond : Treed → Option Network → ℕ
-tree_beyond t place =
-    left_beyond place t.connected.tables + (left_beyond place t.statics.tables + (left_beyond place t.ospf.tables + left_beyond place t.rip.tables))
+tree_beyond t place = branch_beyond place t.connected + (branch_beyond place t.statics + (branch_beyond place t.ospf + branch_beyond place t.rip))
+
+-- how many rows of `ebgp` and `ibgp` lie beyond a place: so many candidates of `ext` there are at most
+abbrev pub external_beyond : RibExit → Option Network → ℕ
+external_beyond x place = table_beyond place x.splitter.ebgp + table_beyond place x.splitter.ibgp
 
 -- how many candidates of `best` lie beyond a place, at most: those of each peer, and those of `int`
 abbrev pub best_beyond : Chains → Treed → Option Network → ℕ
@@ -68,7 +87,7 @@ counts m Fin = left_in m.chains
 counts m Nh = hops_left_in (beyonds m.chains) m.hops
 counts m ReadRib = length (unread_if m.exits.queue m.reader)
 counts m Out = exits_left_in (best_beyond m.chains m.tree) m.exits
-counts m Ext = external_left (best_beyond m.chains m.tree) m.rib
+counts m Ext = external_left (external_beyond m.rib) m.rib
 
 -- how many turns next hops take at most, whatever became stale: each names a row, and two whole walks of each peer may be left
 abbrev pub most_of : Moment → ℕ
@@ -128,10 +147,10 @@ own_sends_by t (Some w) = tree_beyond t w.place + own_waiting (tree_beyond t Non
 abbrev pub own_sends : Moment → ℕ
 own_sends m = own_sends_by m.tree m.redist.walk
 
--- how many turns the task of external next hops takes at most, whatever becomes stale and whatever is read: each of them names a
--- row of `ext`, which is one of `best` or of its past, and two whole walks may be left
+-- how many turns the task of external next hops takes at most behind all reads, whatever became stale: `ext` then has no more rows
+-- than `best`, each next hop names one, and two whole walks may be left
 abbrev pub external_most : Moment → ℕ
-external_most m = 3 * (rows_in m.chains + tree_count m.tree) + external_known m.rib + 2
+external_most m = 3 * (rows_in m.chains + tree_count m.tree) + 2
 
 -- how many changes of `best` the phases from each on may make
 abbrev pub sends_from_fin : Moment → ℕ

@@ -53,7 +53,7 @@ use Rattle.exit_side.specs.Exits.{Exited, with_queue, has_exit_work}
 use Rattle.exit_side.specs.Steps.{TurnsExit}
 use Rattle.journal_text.specs.Values.{route_value, sent_entries}
 use Rattle.router_core.specs.Bests.{all_at, own_entries, DecidesOn, Queues}
-use Rattle.router_core.specs.Phases.{unread_if}
+use Rattle.router_core.specs.Phases.{unread_if, external_beyond}
 use Rattle.router_core.specs.Moments.{Moment, own_of, best_of, candidates_of, most_unread, with_chains, with_hops, with_tree, with_exits, with_redist, with_rib}
 
 abbrev pub journal_lines : List (Entry Value) → List Line
@@ -307,7 +307,7 @@ phase_bound phases.Fin m = 2 * (rows_in m.chains + tables.len m.chains)
 phase_bound phases.Nh m = known_in m.hops + 2 * (rows_in m.chains + tables.len m.chains)
 phase_bound phases.ReadRib m = most_unread m.exits
 phase_bound phases.Out m = tables.len m.exits.chains * (most_unread m.exits + 2 * (rows_in m.chains + tree_count m.tree + 1))
-phase_bound phases.Ext m = external_known m.rib + 2 * (rows_in m.chains + tree_count m.tree + 1)
+phase_bound phases.Ext m = external_known m.rib + 2 * (external_beyond m.rib None + 1)
 
 -- no stage of the phase stands, no walk of it is on, and no next hop has work
 abbrev pub IsOver : Phase → Moment → Type 0

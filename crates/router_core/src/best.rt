@@ -19,7 +19,7 @@ use event_text::Declared;
 use hop_side::NextHops;
 use in_chain::Chain;
 use journal_text::{Journal, Link};
-use link_change::{Change, Upstream};
+use link_change::Change;
 use peer_side::Peers;
 use redist::Redist;
 use rib_tree::Tree;

@@ -50,7 +50,7 @@ impl Network {
             Event::RouteAdd(p, row) => self.route_add(p, row, journal),
             Event::RouteDel(proto, p) => self.route_del(proto, p, journal),
             Event::Lose(proto) => self.lose_protocol(proto, journal),
-            Event::Redist(proto, on) => self.redist(proto, on, journal),
+            Event::Redist(proto, on) => self.redistribution(proto, on, journal),
             Event::Cover(address) => self.cover(address, journal),
             Event::Idle => self.idle_turns(journal),
             Event::Work(task, most) => self.work(task, most, journal),
@@ -129,7 +129,7 @@ impl Network {
         Ok(0)
     }
 
-    fn redist(
+    fn redistribution(
         &mut self,
         proto: Proto,
         on: bool,
