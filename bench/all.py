@@ -69,6 +69,13 @@ def work_of_check(files, sizes, runs, folder):
             yield 'check', size, measure.median(journal, [replay, 'check'], runs)
 
 
+def work_of_gen(sizes, runs):
+    """So many generated events in three tenths of each size, and all that they do."""
+    with open(os.devnull, 'rb') as nothing:
+        for size in sizes:
+            yield 'gen', size, measure.median(nothing, [program('replay_main'), 'gen', '7', str(size * 3 // 10), '--quiet'], runs)
+
+
 def work_of_queue(files, sizes):
     """Memory of a table whose changes nobody has read, when everyone has, and when all routes are gone again."""
     replay = program('replay_main')
@@ -166,6 +173,7 @@ def collect(asked, sizes, folder):
     kinds = [('replay_main', work_of_the_program(files, sizes, asked.runs)),
              ('replay_main', work_of_check(files, sizes, asked.runs, folder)),
              ('replay_main', work_of_queue(files, sizes)),
+             ('replay_main', work_of_gen(sizes, asked.runs)),
              ('bench_messages', work_of_messages(files, sizes, asked.runs)),
              ('bench_tables', work_of_tables(sizes, asked.runs)),
              ('bench_exits', work_of_exits(sizes, asked.runs))]

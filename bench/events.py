@@ -17,6 +17,7 @@ Kinds:
   peers     so many peers announce the same prefixes, peer 1 by the shorter path; then `idle`
   best_lost the same, then peer 1's session is lost, and `idle`: another route becomes the best at every prefix
   exits     so many peers are up, peer 1 announces the prefixes, and `idle` sends them to all others
+  own       the same as table, and 1,000 static routes are redistributed: they go to peer 2, too, and stand in the forwarding table
 
 But for `hops` and what begins as it, the one next hop is in a connected network.
 
@@ -35,7 +36,7 @@ LOCAL = 'local 65000 192.0.2.254 192.0.2.254'
 PEERS = ['peer 1 65001 192.0.2.1 192.0.2.1', 'peer 2 65002 192.0.2.2 192.0.2.2',
          'route add connected 192.0.2.0/24 direct eth0 1', 'up 1', 'up 2']
 KINDS = ('table', 'alone', 'rejected', 'paced', 'edit', 'rules', 'loss', 'interior', 'lost', 'hops', 'kept', 'moved', 'peers',
-         'best_lost', 'exits')
+         'best_lost', 'exits', 'own')
 READ = ['work rd.rib 99', 'work out.1 99', 'work out.2 99']
 NEAR = bytes([192, 0, 2, 1])
 HOPS = [bytes([172, 16, place // 250, 1 + place % 250]) for place in range(1000)]
@@ -107,6 +108,12 @@ def way(hop, iface, metric):
     return 'route add ospf %s/32 via 192.0.2.9 %s %d' % (text(hop), iface, metric)
 
 
+def own(count):
+    """The events that redistribute so many static routes."""
+    yield 'redist static on'
+    yield from ('route add static 10.%d.%d.0/24 via 192.0.2.9 eth0 1' % (place // 250, place % 250) for place in range(count))
+
+
 def peers(number, count, senders):
     """The events of so many peers, of which some announce the same prefixes."""
     yield 'route add connected 192.0.2.0/24 direct eth0 1'
@@ -132,6 +139,7 @@ def events(kind, count, number=8):
         yield from PEERS
         yield from {'alone': ['down 2'], 'rejected': ['down 2', 'filter out 2 any reject', 'up 2']}.get(kind, [])
         yield from (way(hop, 'eth0', 10) for hop in HOPS if far)
+        yield from own(1000) if kind == 'own' else ()
         for message in updates(count, HOPS if far else [NEAR]):
             yield 'bgp 1 ' + message.hex()
             yield from READ if kind == 'paced' else ()
