@@ -18,7 +18,7 @@ use Rattle.fanout_queue.specs.Queues.{AllLead}
 use Rattle.peer_out.specs.Changes.{MayBeHeard, IsSender}
 use Rattle.out_chain.specs.Chains.{OutChained}
 use Rattle.exit_side.specs.Exits.{Exited, IsExits, AllStand, chain_at as exit_at}
-use Rattle.rib_exit.specs.Exits.{IsExit, AgreesWith, StandsOver}
+use Rattle.rib_exit.specs.Exits.{nothing_yet, IsExit, AgreesWith, StandsOver}
 use Rattle.redist.specs.Protocols.{no_protos}
 use Rattle.router_core.specs.Moments.{Moment, Cored, Policies, plain, rules_to, best_of, read_of}
 use Rattle.router_core.specs.Printable.{IsPrintableMoment}
@@ -94,8 +94,8 @@ pub record TreeStands (speaker : Option Speaker) (t : Treed) : Type 0 where
 -- else but the RIB's exit, client 0, has an interest; that the peers have numbers from 1 to 64; that each row, live or lost, is one that octets may hold; of the exits
 -- alone, that what each reader hasn't taken leads to the rows of `best`, and what each peer was sent, how messages are written and that this speaker's words
 -- can be said, whose sessions they are, and who reads for the forwarding side; of the RIB's exit alone, that its next hops that aren't
--- stale have the register's present answers, and that `ebgp` and `ibgp` are the parts of what the reader has; and that nothing is
--- redistributed before `local`
+-- stale have the register's present answers, and that `ebgp` and `ibgp` are the parts of what the reader has; and that before `local`
+-- nothing is redistributed, and nothing stands in the RIB's exit
 pub data Claim : Type 0 where
   EachChain : Claim
   EachPeer : Claim
@@ -120,6 +120,7 @@ pub data Claim : Type 0 where
   ExternalAgrees : Claim
   ExternalStands : Claim
   NothingOwn : Claim
+  NothingExternal : Claim
 
 abbrev pub Claims : Moment → Claim → Type 0
 Claims m EachChain = IsPeers m.chains
@@ -145,6 +146,7 @@ Claims m ExternalExit = IsExit m.rib
 Claims m ExternalAgrees = AgreesWith m.rib m.registry
 Claims m ExternalStands = StandsOver (read_of m) m.rib
 Claims m NothingOwn = m.declared.speaker ≡ None → m.redist ≡ record { in_force = no_protos; walk = None }
+Claims m NothingExternal = m.declared.speaker ≡ None → m.rib ≡ nothing_yet
 
 -- all that the ties read at one prefix: the row of the register, and that of `int`
 pub record Here : Type 0 where
