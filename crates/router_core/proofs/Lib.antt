@@ -4,6 +4,7 @@ pub mod PeerLemmas
 mod ShownRows
 pub mod RegionLemmas
 pub mod StandLemmas
+pub mod ForwardLemmas
 pub mod ScratchLemmas
 pub mod PeerTurns
 pub mod KeepLemmas

@@ -3,6 +3,7 @@
 ghost use Rattle.router_core.specs.Laws.{FirstStands, LinksAtRestAreExact};
 
 use exit_side::laws::exact_without_work;
+use rib_exit::laws::exact_without_work as external_is_exact;
 use rib_tree::a_new_tree_stands;
 
 /// What holds between two steps holds before the first.
@@ -17,4 +18,5 @@ pub fn links_at_rest_are_exact()
     ensures { LinksAtRestAreExact }
 {
     exact_without_work();
+    external_is_exact();
 }

@@ -8,10 +8,10 @@ ghost use Rattle.router_core.specs.Phases.{counts};
 ghost use Rattle.router_core.specs.Turns.{next_task};
 ghost use Rattle.router_core.specs.Works.{Comes, AreTurns, HasDrained, HaveDrained, AllHaveDrained};
 
+use crate::laws::links_at_rest_are_exact;
 use crate::network::{Network, plus};
 use crate::router::{Done, Phase};
 use addr4::Memory;
-use exit_side::laws::exact_without_work;
 use in_chain::turns_are_bounded;
 use journal_text::{Journal, Task};
 
@@ -106,7 +106,7 @@ impl Network {
         ensures { IfOk result (λ turns. Gives (AllHaveDrained self.old turns self.new) journal.old journal.new) }
     {
         turns_are_bounded();
-        exact_without_work();
+        links_at_rest_are_exact();
         journal.flush()?;
         let phases = [
             Phase::Rdel,
