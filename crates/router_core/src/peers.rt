@@ -60,6 +60,7 @@ impl Network {
     ) -> Result<(), Memory>
         requires admitted { refusal self.old.declared (events.Peer number words) ≡ None }
         requires stands { Stands self.old }
+        requires formed { IsWellFormed (events.Peer number words) }
         ensures { OnOk result (Pushes (HasStepped self.old (events.Peer number words) 0 self.new) journal.old journal.new) }
     {
         let Some(me) = self.declared.speaker() else {

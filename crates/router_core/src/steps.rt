@@ -82,6 +82,7 @@ impl Network {
     fn peer(&mut self, number: u32, words: Speaker, journal: &mut Journal) -> Result<u128, Memory>
         requires admitted { refusal self.old.declared (events.Peer number words) ≡ None }
         requires stands { Stands self.old }
+        requires formed { IsWellFormed (events.Peer number words) }
         ensures { IfOk result (λ turns. Gives (HasStepped self.old (events.Peer number words) turns self.new) journal.old journal.new) }
     {
         self.declare_peer(number, words, journal)?;
