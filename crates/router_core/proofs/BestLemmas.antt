@@ -1,5 +1,5 @@
 -- What follows a change of `res.K`: what is decided, and what its entries lead to.
-use Rattle.std.proofs.Common.{◌≡◌, ℕ, ◌<◌, ◌≤◌, nat_eq, nat_lt, true, cond, List, [], Option, Some, None, refl, sym, ap, subst, ◌∙◌, arith}
+use Rattle.std.proofs.Common.{◌≡◌, ℕ, ◌<◌, ◌≤◌, nat_eq, nat_lt, true, cond, List, [], Option, Some, None, refl, sym, ap, subst, ◌∙◌, arith, zero, suc}
 use Rattle.std.proofs.lemmas.Bool.Decides.{nat_tests}
 use Rattle.addr4.specs.Prefixes.{Network}
 use Rattle.bgp_attr.specs.declared.route.Route.{Route}
@@ -23,16 +23,28 @@ use Rattle.decision.specs.Branches.{AllRows, best_rows, Decides as DecidesOver, 
 use Rattle.decision.proofs.LawLemmas.{best_is_a_branchs, best_is_of_its_prefix}
 use Rattle.hop_side.specs.Resolvers.{Resolvers, PeerRows, resolver_at, rows_by}
 use Rattle.hop_side.specs.Steps.{ComesOn}
-use Rattle.peer_side.specs.Peers.{Chains, chain_at, filt_by}
+use Rattle.peer_side.specs.Peers.{Chains, chain_at, filt_by, filt_at}
 use Rattle.addr4.proofs.PrefixOrder.{itself}
 use Rattle.journal_text.specs.declared.entry.Entry.{Entry}
-use Rattle.router_core.specs.Bests.{resolved_at, best_at, best_links, best_entries, lent_rows, DecidesOn, Queues}
+use Rattle.router_core.specs.Bests.{all_at, resolved_at, best_at, best_links, best_entries, lent_rows, DecidesOn, Queues}
 use Rattle.router_core.specs.Moments.{Moment, with_exits}
 use Rattle.router_core.specs.Works.{Decides}
 
 -- ---- the branches that there may be
 same_best : (rows other : AllRows) → ((b : ℕ) → b < 65 → rows b ≡ other b) → best_rows rows ≡ best_rows other
 same_best rows other same i p = best_is_of_its_prefix rows other p (λ b low. ap (λ (r : Rows Route). r p) (same b low)) i
+
+-- where the rows of each `res.K` stay
+pub same_all : (own : Rows Route) (a a' : Chains) (h h' : Resolvers) → ((j : ℕ) → resolved_at a' h' j ≡ resolved_at a h j) → best_at own a' h' ≡ best_at own a h
+same_all own a a' h h' same = ap best_rows (λ i j. each j i)
+  where
+    each : (j : ℕ) → all_at own a' h' j ≡ all_at own a h j
+    each zero = refl
+    each (suc k) = same (suc k)
+
+-- so where those of each `filt.K` do
+pub best_quiet : (own : Rows Route) (a a' : Chains) (h : Resolvers) → ((j : ℕ) → filt_at a' j ≡ filt_at a j) → best_at own a' h ≡ best_at own a h
+best_quiet own a a' h quiet = same_all own a a' h h (λ j. ap (λ (rows : Rows Route). rows_by (resolver_at j h) rows) (quiet j))
 
 is_low : (b : ℕ) → b < 65 → nat_lt b 65 ≡ true
 is_low b low = grind (arith, nat_tests)

@@ -21,12 +21,12 @@ use Rattle.fanout_queue.proofs.LeadLemmas.{put_keeps_read, put_keeps_readers, pu
 use Rattle.peer_out.specs.Changes.{MayBeHeard}
 use Rattle.out_chain.specs.Chains.{OutChained, RowsMayBeHeard}
 use Rattle.exit_side.specs.Exits.{Exited, OutChains, chain_at as exit_at, exit_links, IsExits, AllStand}
-use Rattle.hop_side.specs.Resolvers.{Resolvers}
-use Rattle.peer_side.specs.Peers.{Chains}
-use Rattle.router_core.specs.Bests.{best_at, Queues}
-use Rattle.router_core.specs.Moments.{Moment, Policies, read_by, read_links, plain, rules_to}
-use Rattle.router_core.specs.Stands.{Stands, EachRow, EachExit, QueueLeads, ExitsRead, PlainExits, OneSender, SameSessions, OneReader, RowsWereHeard, MaySend, IsExitOf, ExitsAt, ReadsOn}
-use Rattle.router_core.proofs.HeardRows.{heard_best}
+use Rattle.rib_tree.specs.Trees.{int_rows}
+use Rattle.rib_exit.specs.Exits.{StandsOver}
+use Rattle.router_core.specs.Bests.{Queues}
+use Rattle.router_core.specs.Moments.{Moment, Policies, own_of, best_of, read_by, read_links, read_rows_by, read_of, plain, rules_to}
+use Rattle.router_core.specs.Stands.{Stands, EachRow, EachExit, QueueLeads, ExitsRead, PlainExits, OneSender, SameSessions, OneReader, ExternalStands, RowsWereHeard, MaySend, IsExitOf, ExitsAt, ReadsOn}
+use Rattle.router_core.proofs.HeardRows.{heard_best, heard_own_rows}
 
 -- ---- who has none
 pub exits_none : (s : Option Speaker) (policies : Policies) (k : ℕ) (p : Option DeclaredPeer) → ExitsAt s policies k p None
@@ -56,12 +56,13 @@ undeclared_none None policies k (Some c) is = absurd is
 pub record ExitsStand (m : Moment) : Type 0 where
   pub rows : RowsWereHeard m.chains
   pub each : IsExits m.exits
-  pub all : AllLead m.exits.queue (best_at m.chains m.hops)
-  pub read : AllStand (best_at m.chains m.hops) m.exits
+  pub all : AllLead m.exits.queue (best_of m)
+  pub read : AllStand (best_of m) m.exits
   pub plain : m.exits.profile ≡ plain
   pub sender : MaySend m.declared.speaker
   pub sessions : (k : ℕ) → ExitsAt m.declared.speaker m.outgoing k (peer_at k m.declared.peers) (exit_at k m.exits)
   pub one : ReadsOn m.declared.speaker m.reader m.exits
+  pub external : StandsOver (read_of m) m.rib
 
 pub exits_of : (m : Moment) → Stands m → ExitsStand m
 exits_of m stands = record {
@@ -73,6 +74,7 @@ exits_of m stands = record {
   sender = stands.own OneSender;
   sessions = stands.own SameSessions;
   one = stands.own OneReader;
+  external = stands.own ExternalStands;
 }
 
 -- the reader of the forwarding side is one of the queue's
@@ -124,11 +126,17 @@ module _ (e e' : Exited) where
   queue_links None old new p q sent = ap (λ (x : Exited). exit_links x new) q ∙ ap (exit_links e) sent
   queue_links (Some c) old new p q sent = q.links old new p sent
 
+  -- what the reader of the forwarding side has stays
+  pub queue_rows : (best : Option (Change Route)) (reader : Option ℕ) (old new : Rows Route) (p : Network) → ((r : ℕ) → reader ≡ Some r → IsSome (tables.get e.queue r)) → Queues best e e' → IsSent old new p best
+      → read_rows_by e'.queue reader new ≡ read_rows_by e.queue reader old
+  queue_rows best None old new p live q sent = refl
+  queue_rows None (Some r) old new p live q sent = ap (λ (x : Exited). read_rows_by x.queue (Some r) new) q ∙ ap (read_rows_by e.queue (Some r)) sent
+  queue_rows (Some c) (Some r) old new p live q sent = put_keeps_read e.queue e'.queue old new p c r q.appends sent (live r refl)
+
   queue_read : (best : Option (Change Route)) (reader : Option ℕ) (old new : Rows Route) (p : Network) → ((r : ℕ) → reader ≡ Some r → IsSome (tables.get e.queue r)) → Queues best e e' → IsSent old new p best
       → read_by e'.queue reader new ≡ read_by e.queue reader old
   queue_read best None old new p live q sent = refl
-  queue_read None (Some r) old new p live q sent = ap (λ (x : Exited). read_by x.queue (Some r) new) q ∙ ap (read_by e.queue (Some r)) sent
-  queue_read (Some c) (Some r) old new p live q sent = ap (λ (rows : Rows Route). Some (route_rows rows)) (put_keeps_read e.queue e'.queue old new p c r q.appends sent (live r refl))
+  queue_read best (Some r) old new p live q sent = ap (λ (rows : Rows Route). Some (route_rows rows)) (queue_rows best (Some r) old new p live q sent)
 
   pub queue_external : (best : Option (Change Route)) (reader : Option ℕ) (old new : Rows Route) (p : Network) → ((r : ℕ) → reader ≡ Some r → IsSome (tables.get e.queue r)) → Queues best e e' → IsSent old new p best
       → read_links e'.queue reader new ≡ read_links e.queue reader old
@@ -151,25 +159,31 @@ module _ (e e' : Exited) where
           (heard c.prefix r (ap (λ (rows : Rows Route). rows c.prefix) sent.2 ∙ ap (λ b. cond b c.after (old c.prefix)) (itself c.prefix) ∙ at))
 
 -- ---- what stands then
-pub exits_fall : (m : Moment) (a : Chains) (h : Resolvers) (e : Exited) (now : Moment) (best : Option (Change Route)) (p : Network) → Stands m → RowsWereHeard a → Queues best m.exits e → IsSent (best_at m.chains m.hops) (best_at a h) p best
-    → now.declared ≡ m.declared → now.outgoing ≡ m.outgoing → now.reader ≡ m.reader → now.chains ≡ a → now.hops ≡ h → now.exits ≡ e → ExitsStand now
-exits_fall m a h e now best p stands rows q sent declared outgoing reader chains hops exits = record {
-  rows = subst RowsWereHeard (sym chains) rows;
-  each = subst IsExits (sym exits) (queue_sound m.exits e best q (stands.own EachExit));
-  all = subst (λ (x : Exited). AllLead x.queue (best_at now.chains now.hops)) (sym exits) (subst (λ (x : Chains). AllLead e.queue (best_at x now.hops)) (sym chains) (subst (λ (x : Resolvers). AllLead e.queue (best_at a x)) (sym hops)
-      (queue_all m.exits e best (best_at m.chains m.hops) (best_at a h) p q sent (stands.own QueueLeads))));
-  read = subst (λ (x : Exited). AllStand (best_at now.chains now.hops) x) (sym exits) (subst (λ (x : Chains). AllStand (best_at x now.hops) e) (sym chains) (subst (λ (x : Resolvers). AllStand (best_at a x) e) (sym hops)
-      (queue_stand m.exits e best (best_at m.chains m.hops) (best_at a h) p (stands.own PlainExits) (heard_best a h rows) q sent (stands.own ExitsRead))));
-  plain = ap (λ (x : Exited). x.profile) exits ∙ queue_profile m.exits e best q ∙ stands.own PlainExits;
-  sender = subst (λ d. MaySend d.speaker) (sym declared) (stands.own OneSender);
+-- where a change of `best` joined the queue, if one came, and the RIB's exit stands over all rows over which it stood
+pub exits_fall : (m now : Moment) (best : Option (Change Route)) (p : Network) → Stands m → RowsWereHeard now.chains → Queues best m.exits now.exits → IsSent (best_of m) (best_of now) p best
+    → now.declared ≡ m.declared → now.outgoing ≡ m.outgoing → now.reader ≡ m.reader → ((rows : Rows Route) → StandsOver rows m.rib → StandsOver rows now.rib) → ExitsStand now
+exits_fall m now best p stands rows q sent declared outgoing reader over = record {
+  rows = rows;
+  each = queue_sound m.exits now.exits best q (stands.own EachExit);
+  all = queue_all m.exits now.exits best (best_of m) (best_of now) p q sent (stands.own QueueLeads);
+  read = queue_stand m.exits now.exits best (best_of m) (best_of now) p (stands.own PlainExits) (heard_best (own_of now) now.chains now.hops (heard_own_rows now.declared.speaker now.redist (int_rows now.tree) sender) rows) q sent (stands.own ExitsRead);
+  plain = queue_profile m.exits now.exits best q ∙ stands.own PlainExits;
+  sender = sender;
   sessions = λ k. subst (λ d. ExitsAt d.speaker now.outgoing k (peer_at k d.peers) (exit_at k now.exits)) (sym declared)
       (subst (λ x. ExitsAt m.declared.speaker x k (peer_at k m.declared.peers) (exit_at k now.exits)) (sym outgoing)
-      (subst (λ o. ExitsAt m.declared.speaker m.outgoing k (peer_at k m.declared.peers) o) (sym (ap (λ (x : Exited). exit_at k x) exits ∙ ap (λ (a : OutChains). tables.get a k) (queue_chains m.exits e best q))) (stands.own SameSessions k)));
-  one = subst (λ d. ReadsOn d.speaker now.reader now.exits) (sym declared) (subst (λ x. ReadsOn m.declared.speaker x now.exits) (sym reader) (subst (λ x. ReadsOn m.declared.speaker m.reader x) (sym exits)
-      (reads_on m.declared.speaker m.reader m.exits e (queue_chains m.exits e best q) (queue_live m.exits e best q) (stands.own OneReader))));
+      (subst (λ o. ExitsAt m.declared.speaker m.outgoing k (peer_at k m.declared.peers) o) (sym (ap (λ (a : OutChains). tables.get a k) (queue_chains m.exits now.exits best q))) (stands.own SameSessions k)));
+  one = subst (λ d. ReadsOn d.speaker now.reader now.exits) (sym declared) (subst (λ x. ReadsOn m.declared.speaker x now.exits) (sym reader)
+      (reads_on m.declared.speaker m.reader m.exits now.exits (queue_chains m.exits now.exits best q) (queue_live m.exits now.exits best q) (stands.own OneReader)));
+  external = subst (λ (r : Option ℕ). StandsOver (read_rows_by now.exits.queue r (best_of now)) now.rib) (sym reader)
+      (over (read_rows_by now.exits.queue m.reader (best_of now))
+      (subst (λ (x : Rows Route). StandsOver x m.rib) (sym (queue_rows m.exits now.exits best m.reader (best_of m) (best_of now) p (reader_live m stands) q sent)) (stands.own ExternalStands)));
 }
+  where
+    sender : MaySend now.declared.speaker
+    sender = subst (λ d. MaySend d.speaker) (sym declared) (stands.own OneSender)
 
 -- where nothing of the exits changes, nor `best`
-pub exits_stay : (m now : Moment) → Stands m → RowsWereHeard now.chains → best_at now.chains now.hops ≡ best_at m.chains m.hops → now.declared ≡ m.declared → now.outgoing ≡ m.outgoing → now.reader ≡ m.reader → now.exits ≡ m.exits → ExitsStand now
-exits_stay m now stands rows same declared outgoing reader exits =
-    exits_fall m now.chains now.hops m.exits now None (record { address = 0; length = 0 }) stands rows refl same declared outgoing reader refl refl exits
+pub exits_stay : (m now : Moment) → Stands m → RowsWereHeard now.chains → best_of now ≡ best_of m → now.declared ≡ m.declared → now.outgoing ≡ m.outgoing → now.reader ≡ m.reader → now.exits ≡ m.exits
+    → ((rows : Rows Route) → StandsOver rows m.rib → StandsOver rows now.rib) → ExitsStand now
+exits_stay m now stands rows same declared outgoing reader exits over =
+    exits_fall m now None (record { address = 0; length = 0 }) stands rows exits same declared outgoing reader over

@@ -6,16 +6,18 @@ use Rattle.journal_text.specs.declared.entry.Entry.{Entry}
 use Rattle.journal_text.specs.Walk.{Leads}
 use Rattle.journal_text.specs.Texts.{entries_of}
 use Rattle.journal_text.proofs.JournalLemmas.{entries_of_entries}
-use Rattle.decision.specs.Branches.{best_rows}
-use Rattle.hop_side.specs.Resolvers.{PeerRows, res_at, hop_links}
-use Rattle.router_core.specs.Bests.{best_links}
+use Rattle.bgp_attr.specs.declared.route.Route.{Route}
+use Rattle.link_change.specs.Rows.{Rows}
+use Rattle.hop_side.specs.Resolvers.{hop_links}
 use Rattle.peer_side.specs.Peers.{Chains, peer_links, filt_at}
-use Rattle.rib_tree.specs.Trees.{Treed}
+use Rattle.rib_tree.specs.Trees.{Treed, int_rows}
 use Rattle.link_region.specs.declared.regions.Region.{Region}
-use Rattle.link_region.specs.declared.regions.Region.TheVariants.{Inward, Resolved, Decided, InteriorRoutes, Forward, External, Outward}
+use Rattle.link_region.specs.declared.regions.Region.TheVariants.{Inward, Resolved, Decided, InteriorRoutes, Redistributed, Forward, External, Outward}
 use Rattle.link_region.specs.Regions.{Sides, region_of, joined, with_side, LeadsIn}
 use Rattle.exit_side.specs.Exits.{exit_links}
-use Rattle.router_core.specs.Moments.{Moment, with_chains, with_tree, rib_by, read_links, parts, router_links}
+use Rattle.router_core.specs.Bests.{own_rows, own_links, best_at, best_links}
+use Rattle.router_core.specs.Moments.{Moment, with_chains, with_tree, tree_by, forward_by, own_of, best_of, read_links, parts, router_links}
+use Rattle.router_core.proofs.BestLemmas.{best_quiet}
 use Rattle.router_core.specs.Turns.{journal_lines}
 
 -- a link, by its region
@@ -24,23 +26,37 @@ in_region m link r is = ap (λ (e : Region). parts m e link) is
 
 -- ---- the part of one region set in `parts`: a line for each side
 -- the rows of `res.K` follow those of `filt.K`, which stay here
-pub inward_set : (m : Moment) (cs : Chains) → ((j : ℕ) → filt_at cs j ≡ filt_at m.chains j) → with_side (parts m) Inward (peer_links cs) ≡ parts (record m { chains = cs })
+pub inward_set : (m : Moment) (cs : Chains) → ((j : ℕ) → filt_at cs j ≡ filt_at m.chains j) → with_side (parts m) Inward (peer_links cs) ≡ parts (with_chains m cs)
 inward_set m cs quiet i r = each r i
   where
-    each : (r : Region) → with_side (parts m) Inward (peer_links cs) r ≡ parts (record m { chains = cs }) r
+    same : best_of m ≡ best_at (own_of m) cs m.hops
+    same = sym (best_quiet (own_of m) m.chains cs m.hops quiet)
+
+    each : (r : Region) → with_side (parts m) Inward (peer_links cs) r ≡ parts (with_chains m cs) r
     each Inward = refl
     each Resolved = ap (hop_links m.hops) (λ i j. sym (quiet j) i)
-    each Decided = ap (λ (u : PeerRows). best_links m.declared.speaker (best_rows (res_at m.hops u))) (λ i j. sym (quiet j) i)
-    each External = ap (λ (u : PeerRows). read_links m.exits.queue m.reader (best_rows (res_at m.hops u))) (λ i j. sym (quiet j) i)
-    each Outward = ap (λ (u : PeerRows). exit_links m.exits (best_rows (res_at m.hops u))) (λ i j. sym (quiet j) i)
+    each Decided = ap (best_links m.declared.speaker) same
+    each External = ap (read_links m.exits.queue m.reader) same
+    each Outward = ap (exit_links m.exits) same
     each other = refl
 
--- `fib` follows `int`: between the two it is the old one
-pub interior_set : (m : Moment) (t : Treed) → with_side (with_side (parts m) InteriorRoutes (rib_by m.declared.speaker t)) Forward (rib_by m.declared.speaker t) ≡ parts (with_tree m t)
-interior_set m t i s = each s i
+-- where the rows of `int` stay, all that is below does
+pub interior_set : (m : Moment) (t : Treed) → int_rows t ≡ int_rows m.tree → with_side (parts m) InteriorRoutes (tree_by m.declared.speaker t) ≡ parts (with_tree m t)
+interior_set m t quiet i s = each s i
   where
-    each : (s : Region) → with_side (with_side (parts m) InteriorRoutes (rib_by m.declared.speaker t)) Forward (rib_by m.declared.speaker t) s ≡ parts (with_tree m t) s
+    own : own_of m ≡ own_of (with_tree m t)
+    own = ap (own_rows m.declared.speaker m.redist) (sym quiet)
+
+    same : best_of m ≡ best_of (with_tree m t)
+    same = ap (λ (rows : Rows Route). best_at rows m.chains m.hops) own
+
+    each : (s : Region) → with_side (parts m) InteriorRoutes (tree_by m.declared.speaker t) s ≡ parts (with_tree m t) s
     each InteriorRoutes = refl
+    each Redistributed = ap (own_links m.declared.speaker) own
+    each Decided = ap (best_links m.declared.speaker) same
+    each External = ap (read_links m.exits.queue m.reader) same
+    each Forward = ap (forward_by m.declared.speaker m.rib) (sym quiet)
+    each Outward = ap (exit_links m.exits) same
     each other = refl
 
 -- ---- in the router

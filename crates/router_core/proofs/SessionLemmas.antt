@@ -16,7 +16,6 @@ use Rattle.bgp_attr.specs.declared.speaker.Speaker.{Speaker}
 use Rattle.bgp_attr.specs.Speakers.{IsSpeaker}
 use Rattle.link_change.specs.Rows.{Rows}
 use Rattle.policy_rules.specs.declared.rule.Rule.{Rule}
-use Rattle.pass_core.specs.Passed.{Walked, present, edited}
 use Rattle.journal_text.specs.declared.link.Link.{Link}
 use Rattle.journal_text.specs.declared.link.Link.TheVariants.{Best, ReadRib, Read, Outf, Adv}
 use Rattle.journal_text.specs.declared.entry.Entry.{Entry}
@@ -38,24 +37,25 @@ use Rattle.out_chain.specs.Chains.{OutChained, RowsMayBeHeard}
 use Rattle.exit_side.specs.Exits.{Exited, chain_at as exit_at, with_exit, without_exit, exit_links, IsExits, AllStand}
 use Rattle.exit_side.specs.Steps.{is_exit, LeadsExits, BeginsExit, EndsExit, EditsExit, edited_by}
 use Rattle.exit_side.specs.Laws.{AreAmong, KeepsStranger}
+use Rattle.rib_exit.specs.Exits.{StandsOver}
 use Rattle.exit_side.proofs.LawLemmas.{leads_anywhere, leads_anywhere_with_best}
 use Rattle.exit_side.proofs.StrangerLemmas.{begin_keeps, end_keeps, edit_keeps}
 use Rattle.exit_laws.proofs.ViewLemmas.{beginning_is_heard, end_is_heard, edit_keeps_views}
 use Rattle.link_region.proofs.RegionLemmas.{by_bool}
 use Rattle.loss_chain.proofs.TableLemmas.{equal_by, same_by}
 use Rattle.live_state.specs.Lives.{with_rules, begun_if_down}
-use Rattle.router_core.specs.Bests.{best_at, best_links}
-use Rattle.router_core.specs.Moments.{Moment, Policies, plain, with_exits, read_by, router_links, rules_to, rules_by}
+use Rattle.router_core.specs.Bests.{best_links}
+use Rattle.router_core.specs.Moments.{Moment, Policies, plain, with_exits, best_of, read_by, read_rows_by, router_links, rules_to, rules_by}
 use Rattle.router_core.specs.Lives.{live_state}
-use Rattle.router_core.specs.Stands.{Stands, Claim, Claims, EachExit, QueueLeads, ExitsRead, PlainExits, OneSender, SameSessions, OneReader, EachRow, MaySend, IsExitOf, ExitsAt, ReadsAs, ReadsOn}
+use Rattle.router_core.specs.Stands.{Stands, Claim, Claims, EachExit, QueueLeads, ExitsRead, PlainExits, OneSender, SameSessions, OneReader, ExternalStands, MaySend, IsExitOf, ExitsAt, ReadsAs, ReadsOn}
 use Rattle.router_core.specs.Turns.{journal_lines}
 use Rattle.router_core.specs.Blocks.{begun, ByPeer, BeginsIf, BySpeaker, Begins}
 use Rattle.router_core.specs.Peers.{is_up}
 use Rattle.router_core.specs.Works.{Keeps, HasStepped, BeginsSession, SendsAs, Pushes}
-use Rattle.router_core.proofs.HeardRows.{heard_best}
+use Rattle.router_core.proofs.HeardRows.{heard_of}
 use Rattle.router_core.proofs.HeardSteps.{heard_quiet}
 use Rattle.router_core.proofs.QueueLemmas.{exits_none, no_exit_down}
-use Rattle.router_core.proofs.PeerLemmas.{begun_stands, may_begin, peer_at_map}
+use Rattle.router_core.proofs.PeerLemmas.{begun_stands, may_begin, peer_at_map, present_edited}
 use Rattle.event_text.proofs.Sessions.{begun_words}
 
 -- ---- a chain at a number, and at another
@@ -81,9 +81,9 @@ exit_left : (j k : ℕ) (queue : Queued Route) (e : Exited) → nat_eq k j ≡ f
 exit_left j k queue e apart = get-remove nat_cmp_total e.chains j k ∙ ap (λ b. cond b None (exit_at k e)) (key_apart k j apart)
 
 -- ---- the exits became these
-pub stands_exits : (m : Moment) (e : Exited) → Stands m → IsExits e → AllLead e.queue (best_at m.chains m.hops) → AllStand (best_at m.chains m.hops) e → e.profile ≡ plain → ((k : ℕ) → ExitsAt m.declared.speaker m.outgoing k (peer_at k m.declared.peers) (exit_at k e)) → ReadsOn m.declared.speaker m.reader e
-    → Stands (with_exits m e)
-stands_exits m e stands sound all stand profile sessions reader = record { own = own; at = stands.at }
+pub stands_exits : (m : Moment) (e : Exited) → Stands m → IsExits e → AllLead e.queue (best_of m) → AllStand (best_of m) e → e.profile ≡ plain → ((k : ℕ) → ExitsAt m.declared.speaker m.outgoing k (peer_at k m.declared.peers) (exit_at k e)) → ReadsOn m.declared.speaker m.reader e
+    → StandsOver (read_rows_by e.queue m.reader (best_of m)) m.rib → Stands (with_exits m e)
+stands_exits m e stands sound all stand profile sessions reader external = record { own = own; at = stands.at }
   where
     own : (claim : Claim) → Claims (with_exits m e) claim
     own EachExit = sound
@@ -92,6 +92,7 @@ stands_exits m e stands sound all stand profile sessions reader = record { own =
     own PlainExits = profile
     own SameSessions = sessions
     own OneReader = reader
+    own ExternalStands = external
     own other = stands.own other
 
 -- the forwarding side reads on
@@ -114,17 +115,25 @@ same_read : (a b : Queued Route) (reader : Option ℕ) (best : Rows Route) → (
 same_read a b None best same = refl
 same_read a b (Some r) best same = ap (λ u. Some (route_rows (rows_before (unread_or_none u) best))) (same r refl)
 
+-- what it has, where it hasn't taken what it hadn't
+same_rows : (a b : Queued Route) (reader : Option ℕ) (best : Rows Route) → ((r : ℕ) → reader ≡ Some r → tables.get b r ≡ tables.get a r) → read_rows_by b reader best ≡ read_rows_by a reader best
+same_rows a b None best same = refl
+same_rows a b (Some r) best same = ap (λ u. rows_before (unread_or_none u) best) (same r refl)
+
+pub external_kept : (m : Moment) (e : Exited) → Stands m → ((r : ℕ) → m.reader ≡ Some r → tables.get e.queue r ≡ tables.get m.exits.queue r) → StandsOver (read_rows_by e.queue m.reader (best_of m)) m.rib
+external_kept m e stands unread = subst (λ (rows : Rows Route). StandsOver rows m.rib) (sym (same_rows m.exits.queue e.queue m.reader (best_of m) unread)) (stands.own ExternalStands)
+
 -- ---- their links among all
-among : (m : Moment) (e : Exited) → ((r : ℕ) → m.reader ≡ Some r → tables.get e.queue r ≡ tables.get m.exits.queue r) → AreAmong (exit_links m.exits (best_at m.chains m.hops)) (exit_links e (best_at m.chains m.hops)) (router_links m) (router_links (with_exits m e))
+among : (m : Moment) (e : Exited) → ((r : ℕ) → m.reader ≡ Some r → tables.get e.queue r ≡ tables.get m.exits.queue r) → AreAmong (exit_links m.exits (best_of m)) (exit_links e (best_of m)) (router_links m) (router_links (with_exits m e))
 among m e unread = record { was = was; is = is; same = same }
   where
-    was : (link : Link) → is_exit link ≡ true → router_links m link ≡ exit_links m.exits (best_at m.chains m.hops) link
+    was : (link : Link) → is_exit link ≡ true → router_links m link ≡ exit_links m.exits (best_of m) link
     was (Read j s) at = refl
     was (Outf j s) at = refl
     was (Adv j s) at = refl
     was other at = absurd (let clash : false ≡ true = at in cc)
 
-    is : (link : Link) → is_exit link ≡ true → router_links (with_exits m e) link ≡ exit_links e (best_at m.chains m.hops) link
+    is : (link : Link) → is_exit link ≡ true → router_links (with_exits m e) link ≡ exit_links e (best_of m) link
     is (Read j s) at = refl
     is (Outf j s) at = refl
     is (Adv j s) at = refl
@@ -134,22 +143,22 @@ among m e unread = record { was = was; is = is; same = same }
     same (Read j s) at = absurd (let clash : true ≡ false = at in cc)
     same (Outf j s) at = absurd (let clash : true ≡ false = at in cc)
     same (Adv j s) at = absurd (let clash : true ≡ false = at in cc)
-    same ReadRib at = same_read m.exits.queue e.queue m.reader (best_at m.chains m.hops) unread
+    same ReadRib at = same_read m.exits.queue e.queue m.reader (best_of m) unread
     same other at = refl
 
 pub exits_lead : (m : Moment) (e : Exited) (entries : List (Entry Value)) → ((r : ℕ) → m.reader ≡ Some r → tables.get e.queue r ≡ tables.get m.exits.queue r)
-    → LeadsExits (exit_links m.exits (best_at m.chains m.hops)) entries (exit_links e (best_at m.chains m.hops)) → Leads (router_links m) entries (router_links (with_exits m e))
+    → LeadsExits (exit_links m.exits (best_of m)) entries (exit_links e (best_of m)) → Leads (router_links m) entries (router_links (with_exits m e))
 exits_lead m e entries unread leads =
-    leads_anywhere (exit_links m.exits (best_at m.chains m.hops)) (exit_links e (best_at m.chains m.hops)) (router_links m) (router_links (with_exits m e)) entries leads (among m e unread)
+    leads_anywhere (exit_links m.exits (best_of m)) (exit_links e (best_of m)) (router_links m) (router_links (with_exits m e)) entries leads (among m e unread)
 
 -- ---- a session ends
 pub silenced : (k : ℕ) (m : Moment) (e : Exited) (entries : List (Entry Value)) → Stands m → EndsExit k m.exits e entries → Keeps (live_state m) m (with_exits m e) (journal_lines entries)
 silenced k m e entries stands ends = record {
   leads = subst (λ (es : List (Entry Value)). Leads (router_links m) es (router_links (with_exits m e))) (sym (entries_of_entries entries))
-      (exits_lead m e entries (λ r is. (kept r is).unread) (ends.leads (best_at m.chains m.hops)));
+      (exits_lead m e entries (λ r is. (kept r is).unread) (ends.leads (best_of m)));
   live = refl;
-  stands = stands_exits m e stands ends.sound (subst (λ (x : Exited). AllLead x.queue (best_at m.chains m.hops)) (sym ends.after) (drop_keeps_leading m.exits.queue (best_at m.chains m.hops) ends.chain.reader (stands.own QueueLeads))) (ends.stand (best_at m.chains m.hops) (stands.own ExitsRead)) (ap (λ (x : Exited). x.profile) ends.after ∙ stands.own PlainExits) sessions
-      (strangers_read m.declared.speaker m.reader m.exits e kept (stands.own OneReader));
+  stands = stands_exits m e stands ends.sound (subst (λ (x : Exited). AllLead x.queue (best_of m)) (sym ends.after) (drop_keeps_leading m.exits.queue (best_of m) ends.chain.reader (stands.own QueueLeads))) (ends.stand (best_of m) (stands.own ExitsRead)) (ap (λ (x : Exited). x.profile) ends.after ∙ stands.own PlainExits) sessions
+      (strangers_read m.declared.speaker m.reader m.exits e kept (stands.own OneReader)) (external_kept m e stands (λ r is. (kept r is).unread));
   heard = end_is_heard (neighbours m.declared) k m.exits e entries ends;
 }
   where
@@ -203,17 +212,18 @@ module _ (k : ℕ) (m m' : Moment) (p : DeclaredPeer) (entries : List (Entry Val
 
   begun_leads : Leads (router_links m) (entries_of (journal_lines entries)) (router_links (with_exits (begun m k) m'.exits))
   begun_leads = subst (λ (es : List (Entry Value)). Leads (router_links m) es (router_links (with_exits (begun m k) m'.exits))) (sym (entries_of_entries entries))
-      (leads_anywhere_with_best (best_at m.chains m.hops) (exit_links m.exits (best_at m.chains m.hops)) (exit_links m'.exits (best_at m.chains m.hops)) (router_links m) (router_links (with_exits (begun m k) m'.exits)) entries
-      (begins.leads (best_at m.chains m.hops)) (ap (λ (s : Option Speaker). best_links s (best_at m.chains m.hops) Best) b.local) (among (begun m k) m'.exits (λ r is. (kept_by r is).unread)))
+      (leads_anywhere_with_best (best_of m) (exit_links m.exits (best_of m)) (exit_links m'.exits (best_of m)) (router_links m) (router_links (with_exits (begun m k) m'.exits)) entries
+      (begins.leads (best_of m)) (ap (λ (s : Option Speaker). best_links s (best_of m) Best) b.local) (among (begun m k) m'.exits (λ r is. (kept_by r is).unread)))
 
   begun_keeps : Keeps (live_state (begun m k)) m (with_exits (begun m k) m'.exits) (journal_lines entries)
   begun_keeps = record {
     leads = begun_leads;
     live = refl;
     stands = stands_exits (begun m k) m'.exits stands begins.sound
-        (subst (λ (x : Exited). AllLead x.queue (best_at m.chains m.hops)) (sym begins.after) (join_keeps_leading m.exits.queue (best_at m.chains m.hops) begins.reader (stands.own QueueLeads)))
-        (begins.stand (best_at m.chains m.hops) (subst (λ (x : Profile). RowsMayBeHeard x (best_at m.chains m.hops)) (sym (stands.own PlainExits)) (heard_best m.chains m.hops (stands.own EachRow))) (stands.own ExitsRead))
-        (ap (λ (x : Exited). x.profile) begins.after ∙ stands.own PlainExits) sessions_then (strangers_read m.declared.speaker m.reader m.exits m'.exits kept_by (stands.own OneReader));
+        (subst (λ (x : Exited). AllLead x.queue (best_of m)) (sym begins.after) (join_keeps_leading m.exits.queue (best_of m) begins.reader (stands.own QueueLeads)))
+        (begins.stand (best_of m) (subst (λ (x : Profile). RowsMayBeHeard x (best_of m)) (sym (stands.own PlainExits)) (heard_of (begun m k) stands)) (stands.own ExitsRead))
+        (ap (λ (x : Exited). x.profile) begins.after ∙ stands.own PlainExits) sessions_then (strangers_read m.declared.speaker m.reader m.exits m'.exits kept_by (stands.own OneReader))
+        (external_kept (begun m k) m'.exits stands (λ r is. (kept_by r is).unread));
     heard = beginning_is_heard (neighbours m.declared) b.me p.words (p.session + 1) (rules_to k m.outgoing) m.exits m'.exits entries begins;
   }
 
@@ -283,10 +293,6 @@ rules_then : (policies : Policies) (k j : ℕ) (rules : List Rule) → rules_to 
 rules_then policies k j rules = by_bool (nat_eq j k) (λ b. rules_to j (tables.insert policies k rules) ≡ cond b rules (rules_to j policies))
     (λ same. ap (λ (n : ℕ). rules_to n (tables.insert policies k rules)) (equal_by j k same) ∙ rules_same policies k rules) (λ apart. rules_other policies k j rules apart)
 
-edited_present : (in_force : Option (List Rule)) (walk : Option (Walked (Option (List Rule)))) (rules : List Rule) → present (edited (record { in_force = in_force; walk = walk }) (Some rules)) ≡ Some rules
-edited_present in_force None rules = refl
-edited_present in_force (Some w) rules = refl
-
 edited_queue : (k : ℕ) (rules : List Rule) (o : Option OutChained) (e : Exited) → (edited_by k rules o e).queue ≡ e.queue
 edited_queue k rules None e = refl
 edited_queue k rules (Some c) e = refl
@@ -309,7 +315,7 @@ module _ (m : Moment) (k : ℕ) (rules : List Rule) (e : Exited) (stands : Stand
   here_at : (s : Option Speaker) (p : Option DeclaredPeer) (o : Option OutChained) → exit_at k m.exits ≡ o → ExitsAt s m.outgoing k p o → ExitsAt s (tables.insert m.outgoing k rules) k p (exit_at k (edited_by k rules o m.exits))
   here_at s p None at is = subst (λ (x : Option OutChained). ExitsAt s (tables.insert m.outgoing k rules) k p x) (sym at) (exits_none s (tables.insert m.outgoing k rules) k p)
   here_at (Some me) (Some p) (Some c) at is = subst (λ (x : Option OutChained). ExitsAt (Some me) (tables.insert m.outgoing k rules) k (Some p) x) (sym (exit_here k (with_rules_out rules c) m.exits.queue m.exits))
-      (record { up = is.up; session = is.session; words = is.words; speaker = is.speaker; latest = edited_present c.filter.in_force c.filter.walk rules ∙ ap Some (sym (rules_same m.outgoing k rules)) })
+      (record { up = is.up; session = is.session; words = is.words; speaker = is.speaker; latest = present_edited c.filter.in_force c.filter.walk (Some rules) ∙ ap Some (sym (rules_same m.outgoing k rules)) })
   here_at (Some me) None (Some c) at is = absurd is
   here_at None p (Some c) at is = absurd is
 
@@ -332,21 +338,22 @@ module _ (m : Moment) (k : ℕ) (rules : List Rule) (e : Exited) (stands : Stand
     where
       own : (claim : Claim) → Claims redirected claim
       own EachExit = edits.sound
-      own QueueLeads = subst (λ (x : Queued Route). AllLead x (best_at m.chains m.hops)) (sym (ap (λ (x : Exited). x.queue) edits.after ∙ edited_queue k rules (exit_at k m.exits) m.exits)) (stands.own QueueLeads)
-      own ExitsRead = edits.stand (best_at m.chains m.hops) (stands.own ExitsRead)
+      own QueueLeads = subst (λ (x : Queued Route). AllLead x (best_of m)) (sym (ap (λ (x : Exited). x.queue) edits.after ∙ edited_queue k rules (exit_at k m.exits) m.exits)) (stands.own QueueLeads)
+      own ExitsRead = edits.stand (best_of m) (stands.own ExitsRead)
       own PlainExits = ap (λ (x : Exited). x.profile) edits.after ∙ edited_profile k rules (exit_at k m.exits) m.exits ∙ stands.own PlainExits
       own SameSessions = sessions_edited
       own OneReader = strangers_read m.declared.speaker m.reader m.exits e kept_edit (stands.own OneReader)
+      own ExternalStands = external_kept m e stands (λ r is. (kept_edit r is).unread)
       own other = stands.own other
 
   same_links : router_links redirected ≡ router_links m
   same_links i link = each link i
     where
       each : (link : Link) → router_links redirected link ≡ router_links m link
-      each (Read j s) = ap (λ (l : Links Value). l (Read j s)) (edits.links (best_at m.chains m.hops))
-      each (Outf j s) = ap (λ (l : Links Value). l (Outf j s)) (edits.links (best_at m.chains m.hops))
-      each (Adv j s) = ap (λ (l : Links Value). l (Adv j s)) (edits.links (best_at m.chains m.hops))
-      each ReadRib = same_read m.exits.queue e.queue m.reader (best_at m.chains m.hops) (λ r is. (kept_edit r is).unread)
+      each (Read j s) = ap (λ (l : Links Value). l (Read j s)) (edits.links (best_of m))
+      each (Outf j s) = ap (λ (l : Links Value). l (Outf j s)) (edits.links (best_of m))
+      each (Adv j s) = ap (λ (l : Links Value). l (Adv j s)) (edits.links (best_of m))
+      each ReadRib = same_read m.exits.queue e.queue m.reader (best_of m) (λ r is. (kept_edit r is).unread)
       each other = refl
 
   pub redirects : HasStepped m (events.FilterOut k rules) 0 redirected []

@@ -1,5 +1,5 @@
 -- What stands after a step of one chain, and what is live then.
-use Rattle.std.proofs.Common.{◌≡◌, ℕ, true, false, cond, List, Option, Some, None, nat_eq, refl, sym, ap, subst, ◌∙◌, length}
+use Rattle.std.proofs.Common.{◌≡◌, ◌≢◌, ℕ, ◌≤◌, true, false, cond, List, Option, Some, None, nat_eq, refl, sym, ap, subst, ◌∙◌, length, arith}
 use Rattle.std.specs.Prelude.{IsSome, is_some}
 use Rattle.std.specs.FinMap as tables
 use Rattle.bgp_attr.specs.declared.speaker.Speaker.{Speaker}
@@ -20,11 +20,14 @@ use Rattle.router_core.specs.Lives.{live_state}
 use Rattle.rib_tree.specs.Trees.{int_rows}
 use Rattle.rib_route.specs.declared.rows.Interior.{Interior}
 use Rattle.register_interest.specs.Registers.{Registry}
+use Rattle.nexthop_resolver.specs.Registered.{KeepsOthers}
+use Rattle.rib_exit.specs.Exits.{AgreesWith}
+use Rattle.rib_exit.proofs.LawLemmas.{strangers_agree}
 use Rattle.hop_side.specs.Resolvers.{Resolvers, resolver_at}
 use Rattle.addr4.specs.Prefixes.{Network}
 use Rattle.router_core.proofs.HopLemmas.{HopsStand}
 use Rattle.router_core.proofs.QueueLemmas.{ExitsStand}
-use Rattle.router_core.specs.Stands.{PeerStands, StandsAt, TreeStands, Stands, Claim, Claims, EachChain, EachPeer, InteriorTree, OneSpeaker, Registered, SameCount, EachResolver, SameResolvers, AnswersAgree, HopsCounted, NoStrangers, SmallNumbers, EachRow, EachExit, QueueLeads, ExitsRead, PlainExits, OneSender, SameSessions, OneReader, Tie, Ties, here}
+use Rattle.router_core.specs.Stands.{PeerStands, StandsAt, TreeStands, Stands, Claim, Claims, EachChain, EachPeer, InteriorTree, OneSpeaker, Registered, SameCount, EachResolver, SameResolvers, AnswersAgree, HopsCounted, NoStrangers, SmallNumbers, EachRow, EachExit, QueueLeads, ExitsRead, PlainExits, OneSender, SameSessions, OneReader, ExternalExit, ExternalAgrees, ExternalStands, NothingOwn, NothingExternal, Tie, Ties, here}
 
 -- the moment with this declared, and these chains
 abbrev pub remade : Moment → Declaration → Chains → Moment
@@ -72,6 +75,13 @@ same_peers m k c c' cs at is j = ap (λ (x : Chains). is_some (chain_at j x)) is
 pub speaker_there : (m : Moment) → Stands m → (k : ℕ) (c : Chained) → chain_at k m.chains ≡ Some c → m.declared.speaker ≡ Some c.me
 speaker_there m stands k c at = stands.own OneSpeaker k c at
 
+-- ---- the RIB's exit, beside peers that ask the register
+pub not_zero : (k : ℕ) → 1 ≤ k → k ≢ 0
+not_zero k low none = let least : 1 ≤ 0 = subst (λ (n : ℕ). 1 ≤ n) none low in absurd (omega (arith, least))
+
+pub external_agrees : (m : Moment) → Stands m → (k : ℕ) (c : Chained) (r : Registry Interior) → chain_at k m.chains ≡ Some c → KeepsOthers k m.registry r → AgreesWith m.rib r
+external_agrees m stands k c r at keeps = strangers_agree m.rib k m.registry r (stands.own ExternalExit) (not_zero k (stands.own SmallNumbers k (ap is_some at)).0) keeps (stands.own ExternalAgrees)
+
 -- ---- all peers
 -- the same speaker, as many peers, and the others' sessions as they were
 pub record KeepsOthers (k : ℕ) (before now : Declaration) : Type 0 where
@@ -80,9 +90,9 @@ pub record KeepsOthers (k : ℕ) (before now : Declaration) : Type 0 where
   pub others : (j : ℕ) → nat_eq j k ≡ false → peer_at j now.peers ≡ peer_at j before.peers
 
 pub stands_put : (m : Moment) (now : Declaration) (k : ℕ) (c c' : Chained) (cs : Chains) (r : Registry Interior) (h : Resolvers) (e : Exited) → Stands m → chain_at k m.chains ≡ Some c → cs ≡ put_chain k c' m.chains → IsPeers cs → c'.me ≡ c.me
-    → KeepsOthers k m.declared now → StandsAt (peer_at k now.peers) (Some c') → r.rows ≡ m.registry.rows → HopsStand cs r h
+    → KeepsOthers k m.declared now → StandsAt (peer_at k now.peers) (Some c') → r.rows ≡ m.registry.rows → AgreesWith m.rib r → HopsStand cs r h
     → ExitsStand (with_exits (with_hops (remade m now cs) r h) e) → Stands (with_exits (with_hops (remade m now cs) r h) e)
-stands_put m now k c c' cs r h e stands at is peers me keeps own_peer rows hops_then exits_then = subst (λ (x : Chains). Stands (with_exits (with_hops (remade m now x) r h) e)) (sym is) (record { own = own; at = ties })
+stands_put m now k c c' cs r h e stands at is peers me keeps own_peer rows agrees hops_then exits_then = subst (λ (x : Chains). Stands (with_exits (with_hops (remade m now x) r h) e)) (sym is) (record { own = own; at = ties })
   where
     exits : ExitsStand (with_exits (with_hops (remade m now (put_chain k c' m.chains)) r h) e)
     exits = subst (λ (x : Chains). ExitsStand (with_exits (with_hops (remade m now x) r h) e)) is exits_then
@@ -102,6 +112,11 @@ stands_put m now k c c' cs r h e stands at is peers me keeps own_peer rows hops_
     own OneSender = exits.sender
     own SameSessions = exits.sessions
     own OneReader = exits.one
+    own ExternalExit = stands.own ExternalExit
+    own ExternalAgrees = agrees
+    own ExternalStands = exits.external
+    own NothingOwn = λ none. stands.own NothingOwn (sym keeps.speaker ∙ none)
+    own NothingExternal = λ none. stands.own NothingExternal (sym keeps.speaker ∙ none)
     own EachResolver = hops.sound
     own SameResolvers = hops.same
     own AnswersAgree = hops.agree
@@ -118,9 +133,9 @@ stands_put m now k c c' cs r h e stands at is peers me keeps own_peer rows hops_
     own InteriorTree = subst (λ (s : Option Speaker). TreeStands s m.tree) (sym keeps.speaker) (stands.own InteriorTree)
 
 pub stands_with : (m : Moment) (k : ℕ) (c c' : Chained) (cs : Chains) (r : Registry Interior) (h : Resolvers) (e : Exited) (p : DeclaredPeer) → Stands m → chain_at k m.chains ≡ Some c → cs ≡ put_chain k c' m.chains → IsPeers cs → c'.me ≡ c.me → peer_at k m.declared.peers ≡ Some p
-    → PeerStands p c' → r.rows ≡ m.registry.rows → HopsStand cs r h → ExitsStand (with_exits (with_hops (with_chains m cs) r h) e) → Stands (with_exits (with_hops (with_chains m cs) r h) e)
-stands_with m k c c' cs r h e p stands at is peers me peer here rows hops exits =
-    stands_put m m.declared k c c' cs r h e stands at is peers me (record { speaker = refl; count = refl; others = λ j e. refl }) (subst (λ (o : Option DeclaredPeer). StandsAt o (Some c')) (sym peer) here) rows hops exits
+    → PeerStands p c' → r.rows ≡ m.registry.rows → AgreesWith m.rib r → HopsStand cs r h → ExitsStand (with_exits (with_hops (with_chains m cs) r h) e) → Stands (with_exits (with_hops (with_chains m cs) r h) e)
+stands_with m k c c' cs r h e p stands at is peers me peer here rows agrees hops exits =
+    stands_put m m.declared k c c' cs r h e stands at is peers me (record { speaker = refl; count = refl; others = λ j e. refl }) (subst (λ (o : Option DeclaredPeer). StandsAt o (Some c')) (sym peer) here) rows agrees hops exits
 
 -- ---- what is live
 abbrev pub live_by : Moment → Declaration → (ℕ → Routes) → (ℕ → List Rule) → LiveState
