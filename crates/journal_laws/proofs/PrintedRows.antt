@@ -40,7 +40,6 @@ use Rattle.in_chain.specs.Chains.{Chained, filt_rows, links_of, is_named, beside
 use Rattle.in_chain.specs.Incomings.{in_rows}
 use Rattle.rib_tree.specs.Branches.{org_rows}
 use Rattle.rib_tree.specs.Trees.{Treed, branch_of, tree_links, is_tree_link, beside_tree, low_rows, dyn_rows, int_rows, interior_distance}
-use Rattle.rib_tree.specs.Forwards.{rib_links}
 use Rattle.journal_laws.specs.Standing.{IsHeardRow, IsInteriorRow, AreTablesOf, AreRulesIfAny, AreRulesOfWalk, IsPrintableChain}
 use Rattle.journal_laws.proofs.ReadAttrs.{read_printable}
 
@@ -207,19 +206,33 @@ module _ (peers : ℕ → Option Neighbour) where
     pub beside_prints : (c : Chained) → IsFit c → (link : Link) → PrintsIfAny peers (beside no_links c link)
     beside_prints c fit link = if_prints (is_named c.incoming.number link) (links_of c link) (chain_prints c fit link)
 
-  -- ---- the tree
-  merged_print : (left right : Rows Interior) → Prints peers interior_value left → Prints peers interior_value right → Prints peers interior_value (merged interior_distance left right)
-  merged_print left right one other p row is = by_rows (left p) (right p) refl refl is
-    where
-      by_rows : (a b : Option Interior) → left p ≡ a → right p ≡ b → row_of_both interior_distance a b ≡ Some row → IsPrefix p × IsPrintable peers (interior_value row)
-      by_rows None b l r is = other p row (r ∙ is)
-      by_rows (Some a) None l r is = one p row (l ∙ is)
-      by_rows (Some a) (Some b) l r is = by_test _ is
-        where
-          by_test : (t : Bool) → cond t (Some b) (Some a) ≡ Some row → IsPrefix p × IsPrintable peers (interior_value row)
-          by_test true is = other p row (r ∙ is)
-          by_test false is = one p row (l ∙ is)
+  -- ---- merged rows
+  module _ {R : Type 0} (value : R → Value) (distance : R → ℕ) where
+    pub merged_print : (left right : Rows R) → Prints peers value left → Prints peers value right → Prints peers value (merged distance left right)
+    merged_print left right one other p row is = by_rows (left p) (right p) refl refl is
+      where
+        by_rows : (a b : Option R) → left p ≡ a → right p ≡ b → row_of_both distance a b ≡ Some row → IsPrefix p × IsPrintable peers (value row)
+        by_rows None b l r is = other p row (r ∙ is)
+        by_rows (Some a) None l r is = one p row (l ∙ is)
+        by_rows (Some a) (Some b) l r is = by_test _ is
+          where
+            by_test : (t : Bool) → cond t (Some b) (Some a) ≡ Some row → IsPrefix p × IsPrintable peers (value row)
+            by_test true is = other p row (r ∙ is)
+            by_test false is = one p row (l ∙ is)
 
+  -- interior rows, as what packets are forwarded by
+  pub forwarded_print : (int : Rows Interior) → Prints peers interior_value int → Prints peers fib_value (forwarded int)
+  forwarded_print int prints p row is = by_row (int p) refl is
+    where
+      by_row : (o : Option Interior) → int p ≡ o → option_map fib_row o ≡ Some row → IsPrefix p × IsPrintable peers (fib_value row)
+      by_row None at is = absurd (cc)
+      by_row (Some route) at is =
+          let own = prints p route at in
+          let same : fib_row route ≡ row = cc in
+          subst (λ (x : FibRow). IsPrefix p × IsPrintable peers (fib_value x)) same
+          (own.0, record { well_told = record { ranges = own.1.well_told.ranges.0; told = own.1.well_told.told }; short = tt })
+
+  -- ---- the tree
   module _ (t : Treed) (each : (proto : Proto) → AreTablesOf IsInteriorRow (branch_of proto t).tables) where
     interior_prints : (p : Network) (row : Interior) → IsInteriorRow p row → IsPrefix p × IsPrintable peers (interior_value row)
     interior_prints p row h = (h.prefix, h.printed peers)
@@ -227,31 +240,22 @@ module _ (peers : ℕ → Option Neighbour) where
     org_prints : (proto : Proto) → Prints peers interior_value (org_rows (branch_of proto t))
     org_prints proto = tables_print interior_value IsInteriorRow interior_prints (branch_of proto t).tables (each proto)
 
-    pub int_prints : Prints peers interior_value (int_rows t)
-    int_prints = merged_print (low_rows t) (dyn_rows t) (merged_print _ _ (org_prints Connected) (org_prints Static)) (merged_print _ _ (org_prints Ospf) (org_prints Rip))
+    low_prints : Prints peers interior_value (low_rows t)
+    low_prints = merged_print interior_value interior_distance _ _ (org_prints Connected) (org_prints Static)
 
-    pub fib_prints : Prints peers fib_value (forwarded (int_rows t))
-    fib_prints p row is = by_row (int_rows t p) refl is
-      where
-        by_row : (o : Option Interior) → int_rows t p ≡ o → option_map fib_row o ≡ Some row → IsPrefix p × IsPrintable peers (fib_value row)
-        by_row None at is = absurd (cc)
-        by_row (Some route) at is =
-            let own = int_prints p route at in
-            let same : fib_row route ≡ row = cc in
-            subst (λ (x : FibRow). IsPrefix p × IsPrintable peers (fib_value x)) same
-            (own.0, record { well_told = record { ranges = own.1.well_told.ranges.0; told = own.1.well_told.told }; short = tt })
+    dyn_prints : Prints peers interior_value (dyn_rows t)
+    dyn_prints = merged_print interior_value interior_distance _ _ (org_prints Ospf) (org_prints Rip)
+
+    pub int_prints : Prints peers interior_value (int_rows t)
+    int_prints = merged_print interior_value interior_distance (low_rows t) (dyn_rows t) low_prints dyn_prints
 
     pub tree_prints : (link : Link) → PrintsIfAny peers (tree_links t link)
     tree_prints (names.Org proto) = live_prints interior_value _ (org_prints proto)
     tree_prints (names.Lost proto n) = above_prints interior_value IsInteriorRow interior_prints (branch_of proto t).tables.live n (branch_of proto t).tables.deletions (each proto).rows
-    tree_prints names.Low = live_prints interior_value _ (merged_print _ _ (org_prints Connected) (org_prints Static))
-    tree_prints names.Dyn = live_prints interior_value _ (merged_print _ _ (org_prints Ospf) (org_prints Rip))
+    tree_prints names.Low = live_prints interior_value _ low_prints
+    tree_prints names.Dyn = live_prints interior_value _ dyn_prints
     tree_prints names.Int = live_prints interior_value _ int_prints
     tree_prints other = none_prints
-
-    pub rib_prints : (link : Link) → PrintsIfAny peers (rib_links t link)
-    rib_prints names.Fib = live_prints fib_value _ fib_prints
-    rib_prints other = tree_prints other
 
     pub beside_tree_prints : (link : Link) → PrintsIfAny peers (beside_tree no_links t link)
     beside_tree_prints link = if_prints (is_tree_link link) (tree_links t link) (tree_prints link)

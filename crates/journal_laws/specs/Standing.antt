@@ -1,10 +1,13 @@
 -- What stands in tables and chains and can be printed: each row, live or lost, the numbers of the losses, the rules of filters, and what
 -- is known of next hops.
-use Rattle.std.specs.Prelude.{◌≡◌, ℕ, Bool, false, not, List, Option, Some, None}
+use Rattle.std.specs.Prelude.{◌≡◌, ℕ, Bool, true, false, not, List, Option, Some, None}
 use Rattle.std.specs.List.{AllByRecursion}
 use Rattle.std.specs.FinMap as tables
 use Rattle.nexthop_known.specs.declared.answer.Hop.{Hop}
+use Rattle.nexthop_known.specs.Hops.{Hops}
 use Rattle.nexthop_resolver.specs.declared.rows.Metric.{Metric}
+use Rattle.nexthop_resolver.specs.declared.rows.Outlet.{Outlet}
+use Rattle.nexthop_resolver.specs.declared.rows.Way.{Way}
 use Rattle.nexthop_resolver.specs.Resolving.{Resolving}
 use Rattle.addr4.specs.Prefixes.{Network}
 use Rattle.bgp_attr.specs.declared.attrs.Attrs.{Attrs}
@@ -20,12 +23,13 @@ use Rattle.pass_core.specs.Passed.{Walked}
 use Rattle.journal_text.specs.Names.{IsNameNumber}
 use Rattle.journal_text.specs.Values.{interior_value}
 use Rattle.journal_text.specs.declared.value.Value.{Value}
+use Rattle.rib_route.specs.Ifaces.{is_iface_name}
 use Rattle.rib_route.specs.declared.rows.Interior.{Interior}
 use Rattle.journal_check.specs.Laws.{IsPrefix, IsNumberIfAny}
 use Rattle.loss_chain.specs.Tables.{Tables}
 use Rattle.loss_chain.specs.Rows.{IsRow}
 use Rattle.in_chain.specs.Chains.{Chained}
-use Rattle.journal_laws.specs.Printed.{IsPrintable}
+use Rattle.journal_laws.specs.Printed.{IsPrintable, IsAddressIfAny}
 
 -- a row that can be printed at its prefix, whoever the peers are
 pub record IsPrintableRow (p : Network) (value : Value) : Type 0 where
@@ -63,9 +67,24 @@ pub record IsPrintableChain (profile : Profile) (c : Chained) : Type 0 where
   pub in_force : AreRules false c.filter.in_force
   pub walk : AreRulesOfWalk c.filter.walk
 
--- the metrics of the answers about a next hop, that in force and the fresh one, are in their range
-abbrev pub HasMetrics : Hop Metric → Type 0
-HasMetrics h = IsNumberIfAny h.in_force.igp × IsNumberIfAny h.fresh.igp
+-- the answers about each next hop, that in force and the fresh one, are such
+abbrev pub AreAnswers : {A : Type 0} → (A → Type 0) → Hops A → Type 0
+AreAnswers {A} Is known = (a : ℕ) (h : Hop A) → tables.get known a ≡ Some h → Is h.in_force × Is h.fresh
+
+-- their metrics are in their range
+abbrev pub IsMetric : Metric → Type 0
+IsMetric m = IsNumberIfAny m.igp
 
 abbrev pub HaveMetrics : Resolving Metric → Type 0
-HaveMetrics s = (a : ℕ) (h : Hop Metric) → tables.get s.known a ≡ Some h → HasMetrics h
+HaveMetrics s = AreAnswers IsMetric s.known
+
+-- a gateway is an address, and an interface has a name
+abbrev pub IsOutletIfAny : Option Outlet → Type 0
+IsOutletIfAny None = Unit {0}
+IsOutletIfAny (Some o) = (is_iface_name o.iface ≡ true) × IsAddressIfAny o.gateway
+
+abbrev pub IsWay : Way → Type 0
+IsWay w = IsOutletIfAny w.outlet
+
+abbrev pub HaveWays : Resolving Way → Type 0
+HaveWays s = AreAnswers IsWay s.known
