@@ -22,16 +22,24 @@ use Rattle.journal_text.specs.declared.link.Task.TheVariants as tasks
 use Rattle.journal_text.specs.declared.entry.Entry.{Entry}
 use Rattle.journal_text.specs.declared.value.Value.{Value}
 use Rattle.journal_text.specs.declared.line.Line.{Line}
-use Rattle.journal_text.specs.Journals.{Journaled, with_entries, flushed}
+use Rattle.journal_text.specs.Journals.{Journaled, Adds, with_entries, flushed}
 use Rattle.journal_text.specs.Texts.{entries_of}
 use Rattle.journal_text.specs.Values.{route_value, route_rows, valued_change}
 use Rattle.journal_text.specs.Walk.{Links, Leads, with_link}
 use Rattle.journal_text.proofs.JournalLemmas.{entries_of_entries, entries_of_append}
-use Rattle.journal_text.proofs.WalkLemmas.{leads_sent}
+use Rattle.journal_text.proofs.WalkLemmas.{leads_append, leads_sent}
 use Rattle.journal_laws.specs.Peers.{neighbours}
 use Rattle.event_text.specs.declared.declared.DeclaredPeer.{DeclaredPeer}
 use Rattle.event_text.specs.Declarations.{peer_at}
 use Rattle.loss_chain.proofs.TableLemmas.{equal_by}
+use Rattle.peer_side.proofs.WeldLemmas.{adds_both}
+use Rattle.rib_route.specs.declared.rows.Interior.{Interior}
+use Rattle.rib_route.specs.declared.rows.FibRow.{FibRow}
+use Rattle.register_interest.specs.Registers.{Registry}
+use Rattle.rib_tree.specs.Trees.{int_rows}
+use Rattle.rib_exit.specs.declared.exit.RibExit.{RibExit}
+use Rattle.rib_exit.specs.Exits.{StandsOver}
+use Rattle.rib_exit.specs.Steps.{TakesExternal, FallsOn}
 use Rattle.link_region.proofs.RegionLemmas.{by_bool}
 use Rattle.fanout_queue.specs.Queues.{Queued, Takes, AllLead}
 use Rattle.fanout_queue.specs.Readers.{unread_or_none, read_rows}
@@ -42,24 +50,23 @@ use Rattle.exit_side.specs.Exits.{Exited, chain_at as exit_at, with_exit, with_q
 use Rattle.exit_side.specs.Steps.{TurnsExit, ComesOut}
 use Rattle.exit_side.specs.Laws.{KeepsStranger, StaysWithQueue, StrangersTake}
 use Rattle.exit_side.proofs.StrangerLemmas.{turn_keeps}
-use Rattle.exit_laws.proofs.HearLemmas.{changes_are_unheard}
+use Rattle.exit_laws.proofs.HearLemmas.{changes_are_unheard, unheard_joins}
 use Rattle.exit_laws.proofs.ViewLemmas.{turn_is_heard}
-use Rattle.decision.specs.Branches.{best_rows, best_candidates}
-use Rattle.hop_side.specs.Resolvers.{Resolvers}
-use Rattle.peer_side.specs.Peers.{Chains}
+use Rattle.decision.specs.Branches.{best_rows}
 use Rattle.router_core.specs.declared.router.Done.TheVariants.{Nothing, Taken}
 use Rattle.router_core.specs.declared.router.Phase.TheVariants as phases
-use Rattle.router_core.specs.Bests.{best_at, lent_rows, lent_candidates}
-use Rattle.router_core.specs.Moments.{Moment, with_exits, read_links, router_links}
+use Rattle.router_core.specs.Bests.{lent_rows}
+use Rattle.router_core.specs.Moments.{Moment, own_of, best_of, candidates_of, read_rows_by, read_links, router_links, with_exits, with_rib}
 use Rattle.router_core.specs.Phases.{counts, unread_if, best_beyond}
-use Rattle.router_core.specs.Stands.{Stands, EachExit, QueueLeads, ExitsRead, PlainExits, SameSessions, OneReader, SmallNumbers, ExitsAt, ReadsAs, ReadsOn}
+use Rattle.router_core.specs.Stands.{Stands, EachExit, QueueLeads, ExitsRead, PlainExits, SameSessions, OneReader, ExternalStands, ExitsAt, ReadsAs, ReadsOn}
 use Rattle.router_core.specs.Turns.{journal_lines}
 use Rattle.router_core.specs.Works.{IsUnit, Comes}
-use Rattle.router_core.proofs.BestLemmas.{lent_best}
+use Rattle.router_core.proofs.BestLemmas.{lent_is}
 use Rattle.router_core.proofs.QueueLemmas.{reader_live}
 use Rattle.router_core.proofs.HeardSteps.{heard_quiet, exits_declared}
 use Rattle.router_core.proofs.ReadingLemmas.{best_counted}
-use Rattle.router_core.proofs.SessionLemmas.{stands_exits, strangers_read, reads_as, exits_lead, exit_here, exit_elsewhere}
+use Rattle.router_core.proofs.SessionLemmas.{stands_exits, external_kept, strangers_read, reads_as, exits_lead, exit_here, exit_elsewhere}
+use Rattle.router_core.proofs.ExternalTurns.{forward_leads, exit_unheard, stands_forward}
 
 -- ---- whether the forwarding side has something to read
 pub reader_is : (m v : Moment) → v ≡ m → Stands m → (r : ℕ) → v.reader ≡ Some r → IsSome (tables.get v.exits.queue r)
@@ -81,12 +88,15 @@ reads_nothing m v view none = ap (λ (o : Option ℕ). is_unread (unread_if v.ex
 key_same : (k : ℕ) → eq_by_cmp nat_cmp k k ≡ true
 key_same k = grind (arith, nat_tests)
 
-module _ (law : StrangersTake) (m : Moment) (r : ℕ) (change : Change Route) (queue : Queued Route) (stands : Stands m) (reads : m.reader ≡ Some r) (takes : Takes m.exits.queue queue r (Some change)) where
-  abbrev now : Moment
-  now = with_exits m (with_queue queue m.exits)
+-- it reads from `local` on
+reads_since : (s : Option Speaker) (o : Option ℕ) (e : Exited) (r : ℕ) → o ≡ Some r → ReadsOn s o e → (me : Speaker) × (s ≡ Some me)
+reads_since (Some me) o e r is on = (me, refl)
+reads_since None None e r is on = absurd (cc)
+reads_since None (Some q) e r is on = absurd on
 
-  best : Rows Route
-  best = best_at m.chains m.hops
+module _ (law : StrangersTake) (m : Moment) (r : ℕ) (change : Change Route) (queue : Queued Route) (stands : Stands m) (reads : m.reader ≡ Some r) (takes : Takes m.exits.queue queue r (Some change)) where
+  abbrev taken : Exited
+  taken = with_queue queue m.exits
 
   own : ReadsAs r m.exits
   own = reads_as m stands r reads
@@ -100,73 +110,98 @@ module _ (law : StrangersTake) (m : Moment) (r : ℕ) (change : Change Route) (q
   is : tables.get queue r ≡ Some takes.0
   is = ap (λ (x : Queued Route). tables.get x r) takes.2 ∙ get-insert nat_cmp_total m.exits.queue r takes.0 r ∙ ap (λ b. cond b (Some takes.0) (tables.get m.exits.queue r)) (key_same r)
 
-  all : AllLead queue (best_at m.chains m.hops)
-  all = take_keeps_leading m.exits.queue queue (best_at m.chains m.hops) r (Some change) takes (stands.own QueueLeads)
+  all : AllLead queue (best_of m)
+  all = take_keeps_leading m.exits.queue queue (best_of m) r (Some change) takes (stands.own QueueLeads)
 
   -- the change leads from the rows that it had to those that it has
-  lead : ChangesLead (rows_before (change ∷ takes.0) (best_at m.chains m.hops)) (change ∷ takes.0) (best_at m.chains m.hops)
-  lead = subst (λ (u : List (Change Route)). ChangesLead (rows_before u (best_at m.chains m.hops)) u (best_at m.chains m.hops)) (ap unread_or_none was) (each_reader_leads m.exits.queue (best_at m.chains m.hops) r (stands.own QueueLeads))
+  lead : ChangesLead (rows_before (change ∷ takes.0) (best_of m)) (change ∷ takes.0) (best_of m)
+  lead = subst (λ (u : List (Change Route)). ChangesLead (rows_before u (best_of m)) u (best_of m)) (ap unread_or_none was) (each_reader_leads m.exits.queue (best_of m) r (stands.own QueueLeads))
 
-  sent : IsSent (read_rows m.exits.queue r (best_at m.chains m.hops)) (read_rows queue r (best_at m.chains m.hops)) change.prefix (Some change)
-  sent = subst (λ (rows : Rows Route). IsSent rows (read_rows queue r (best_at m.chains m.hops)) change.prefix (Some change)) (ap (λ u. rows_before (unread_or_none u) (best_at m.chains m.hops)) (sym was))
-      (subst (λ (rows : Rows Route). IsSent (rows_before (change ∷ takes.0) (best_at m.chains m.hops)) rows change.prefix (Some change)) (ap (λ u. rows_before (unread_or_none u) (best_at m.chains m.hops)) (sym is))
-      (refl, lead.0, before_is_old _ (best_at m.chains m.hops) takes.0 lead.1))
+  sent : IsSent (read_rows m.exits.queue r (best_of m)) (read_rows queue r (best_of m)) change.prefix (Some change)
+  sent = subst (λ (rows : Rows Route). IsSent rows (read_rows queue r (best_of m)) change.prefix (Some change)) (ap (λ u. rows_before (unread_or_none u) (best_of m)) (sym was))
+      (subst (λ (rows : Rows Route). IsSent (rows_before (change ∷ takes.0) (best_of m)) rows change.prefix (Some change)) (ap (λ u. rows_before (unread_or_none u) (best_of m)) (sym is))
+      (refl, lead.0, before_is_old _ (best_of m) takes.0 lead.1))
 
-  leads : Leads (router_links m) (valued_change route_value links.ReadRib change) (router_links now)
-  leads = subst (λ (l : Links Value). Leads (router_links m) (valued_change route_value links.ReadRib change) l) (λ i link. each link i)
-      (leads_sent route_value (λ a b e. cc) (router_links m) links.ReadRib (read_rows m.exits.queue r (best_at m.chains m.hops)) (read_rows queue r (best_at m.chains m.hops)) change.prefix (Some change)
-      (ap (λ (o : Option ℕ). read_links m.exits.queue o (best_at m.chains m.hops) links.ReadRib) reads) sent)
+  read_leads : Leads (router_links m) (valued_change route_value links.ReadRib change) (router_links (with_exits m taken))
+  read_leads = subst (λ (l : Links Value). Leads (router_links m) (valued_change route_value links.ReadRib change) l) (λ i link. each link i)
+      (leads_sent route_value (λ a b e. cc) (router_links m) links.ReadRib (read_rows m.exits.queue r (best_of m)) (read_rows queue r (best_of m)) change.prefix (Some change)
+      (ap (λ (o : Option ℕ). read_links m.exits.queue o (best_of m) links.ReadRib) reads) sent)
     where
-      each : (link : Link) → with_link (router_links m) links.ReadRib (Some (route_rows (read_rows queue r (best_at m.chains m.hops)))) link ≡ router_links now link
-      each links.ReadRib = ap (λ (o : Option ℕ). read_links queue o (best_at m.chains m.hops) links.ReadRib) (sym reads)
-      each (links.Read j s) = ap (λ (l : Links Value). l (links.Read j s)) (sym (stays.links (best_at m.chains m.hops)))
-      each (links.Outf j s) = ap (λ (l : Links Value). l (links.Outf j s)) (sym (stays.links (best_at m.chains m.hops)))
-      each (links.Adv j s) = ap (λ (l : Links Value). l (links.Adv j s)) (sym (stays.links (best_at m.chains m.hops)))
+      each : (link : Link) → with_link (router_links m) links.ReadRib (Some (route_rows (read_rows queue r (best_of m)))) link ≡ router_links (with_exits m taken) link
+      each links.ReadRib = ap (λ (o : Option ℕ). read_links queue o (best_of m) links.ReadRib) (sym reads)
+      each (links.Read j s) = ap (λ (l : Links Value). l (links.Read j s)) (sym (stays.links (best_of m)))
+      each (links.Outf j s) = ap (λ (l : Links Value). l (links.Outf j s)) (sym (stays.links (best_of m)))
+      each (links.Adv j s) = ap (λ (l : Links Value). l (links.Adv j s)) (sym (stays.links (best_of m)))
       each other = refl
 
-  reads_then : ReadsOn m.declared.speaker m.reader (with_queue queue m.exits)
+  reads_then : ReadsOn m.declared.speaker m.reader taken
   reads_then = by_speaker m.declared.speaker m.reader reads (stands.own OneReader)
     where
-      by_speaker : (s : Option Speaker) (o : Option ℕ) → o ≡ Some r → ReadsOn s o m.exits → ReadsOn s o (with_queue queue m.exits)
+      by_speaker : (s : Option Speaker) (o : Option ℕ) → o ≡ Some r → ReadsOn s o m.exits → ReadsOn s o taken
       by_speaker (Some me) (Some q) same on = let e : q ≡ r = cc in record { live = subst (λ (n : ℕ). IsSome (tables.get queue n)) (sym e) (ap is_some is); own = on.own }
       by_speaker (Some me) None same on = absurd on
       by_speaker None (Some q) same on = absurd on
       by_speaker None None same on = absurd (cc)
 
-  fewer : counts now phases.ReadRib + 1 ≤ counts m phases.ReadRib
+  fewer : counts (with_exits m taken) phases.ReadRib + 1 ≤ counts m phases.ReadRib
   fewer =
       let a : length (unread_if queue m.reader) ≡ length takes.0 = ap (λ (o : Option ℕ). length (unread_if queue o)) reads ∙ ap (λ u. length (unread_or_none u)) is in
       let b : length (unread_if m.exits.queue m.reader) ≡ length (change ∷ takes.0) = ap (λ (o : Option ℕ). length (unread_if m.exits.queue o)) reads ∙ ap (λ u. length (unread_or_none u)) was in
       omega (arith, a, b)
 
-  pub read_done : IsUnit tasks.ReadRib m now (journal_lines (valued_change route_value links.ReadRib change))
-  read_done = record {
-    turn = record { reader = r; reads = reads; change = change; takes = takes; lines = refl; after = refl };
-    work = record {
-      keeps = record {
-        leads = subst (λ (es : List (Entry Value)). Leads (router_links m) es (router_links now)) (sym (entries_of_entries (valued_change route_value links.ReadRib change))) leads;
-        live = refl;
-        stands = stands_exits m (with_queue queue m.exits) stands stays.sound all (stays.stand (best_at m.chains m.hops) (stands.own ExitsRead)) (stands.own PlainExits) (stands.own SameSessions) reads_then;
-        heard = heard_quiet m now (journal_lines (valued_change route_value links.ReadRib change)) (changes_are_unheard links.ReadRib change.prefix _ _) refl;
-      };
-      falls = fewer;
-      left = let a = fewer in let b : counts now phases.Out ≡ counts m phases.Out = stays.left (best_beyond m.chains) in omega (arith, a, b);
-      earlier = (omega arith, (omega arith, (omega arith, (omega arith, tt))));
-    };
-  }
+  -- it goes down through the RIB's exit
+  module _ (registry : Registry Interior) (x : RibExit) (fib : Option (Change FibRow)) (entries : List (Entry Value)) (t : TakesExternal change (int_rows m.tree) fib m.registry registry m.rib x entries) where
+    abbrev now : Moment
+    now = with_rib (with_exits m taken) registry x
 
-pub reader_took : StrangersTake → (m v m' : Moment) (r : ℕ) (change : Change Route) (e : Exited) (before j now : Journaled) → v ≡ m → Stands m → v.reader ≡ Some r → Takes v.exits.queue e.queue r (Some change) → e ≡ with_queue e.queue v.exits → m' ≡ with_exits v e
-    → j ≡ with_entries before (valued_change route_value links.ReadRib change) → now ≡ flushed j → Comes tasks.ReadRib m m' before now Taken
-reader_took law m v m' r change e before j now view stands reads takes after is pushed flush =
+    abbrev lines : List (Entry Value)
+    lines = valued_change route_value links.ReadRib change ++ entries
+
+    stood : StandsOver (read_rows m.exits.queue r (best_of m)) m.rib
+    stood = subst (λ (rows : Rows Route). StandsOver rows m.rib) (ap (λ (o : Option ℕ). read_rows_by m.exits.queue o (best_of m)) reads) (stands.own ExternalStands)
+
+    falls : FallsOn change.prefix (int_rows m.tree) t.split t.first t.second m.registry m.rib x entries (read_rows m.exits.queue r (best_of m)) (read_rows queue r (best_of m))
+    falls = t.goes (read_rows m.exits.queue r (best_of m)) (read_rows queue r (best_of m)) change.prefix stood sent
+
+    local : (me : Speaker) × (m.declared.speaker ≡ Some me)
+    local = reads_since m.declared.speaker m.reader m.exits r reads (stands.own OneReader)
+
+    leads : Leads (router_links m) lines (router_links now)
+    leads = leads_append (router_links m) (router_links (with_exits m taken)) (router_links now) (valued_change route_value links.ReadRib change) entries read_leads
+        (forward_leads (with_exits m taken) local.0 registry x entries local.1 falls.leads)
+
+    external : StandsOver (read_rows_by queue m.reader (best_of m)) x
+    external = subst (λ (rows : Rows Route). StandsOver rows x) (ap (λ (o : Option ℕ). read_rows_by queue o (best_of m)) (sym reads)) falls.stands
+
+    pub read_done : IsUnit tasks.ReadRib m now (journal_lines lines)
+    read_done = record {
+      turn = record { reader = r; reads = reads; change = change; takes = takes; fib = fib; entries = entries; external = t; lines = refl; after = refl };
+      work = record {
+        keeps = record {
+          leads = subst (λ (es : List (Entry Value)). Leads (router_links m) es (router_links now)) (sym (entries_of_entries lines)) leads;
+          live = refl;
+          stands = stands_forward m local.0 taken registry x stands local.1 t.agreed stays.sound all (stays.stand (best_of m) (stands.own ExitsRead)) (stands.own PlainExits) (stands.own SameSessions) reads_then external;
+          heard = heard_quiet m now (journal_lines lines) (unheard_joins (valued_change route_value links.ReadRib change) entries (changes_are_unheard links.ReadRib change.prefix _ _) (exit_unheard _ _ entries falls.leads)) refl;
+        };
+        falls = fewer;
+        left = let a = fewer in let b : counts now phases.Out ≡ counts m phases.Out = stays.left (best_beyond m.chains m.tree) in omega (arith, a, b);
+        earlier = (omega arith, (omega arith, (omega arith, (omega arith, (omega arith, tt)))));
+      };
+    }
+
+pub reader_took : StrangersTake → (m v m' : Moment) (r : ℕ) (change : Change Route) (e : Exited) (registry : Registry Interior) (x : RibExit) (fib : Option (Change FibRow)) (before j l now : Journaled) → v ≡ m → Stands m → v.reader ≡ Some r → Takes v.exits.queue e.queue r (Some change)
+    → e ≡ with_queue e.queue v.exits → m' ≡ with_rib (with_exits v e) registry x → j ≡ with_entries before (valued_change route_value links.ReadRib change) → Adds (TakesExternal change (int_rows v.tree) fib v.registry registry v.rib x) j l → now ≡ flushed l → Comes tasks.ReadRib m m' before now Taken
+reader_took law m v m' r change e registry x fib before j l now view stands reads takes after is pushed adds flush =
     subst (λ (n : Moment). Comes tasks.ReadRib n m' before now Taken) view (
-      journal_lines (valued_change route_value links.ReadRib change),
-      flush ∙ ap flushed pushed,
-      subst (λ (n : Moment). IsUnit tasks.ReadRib v n (journal_lines (valued_change route_value links.ReadRib change))) (sym (is ∙ ap (with_exits v) after)) (read_done law v r change e.queue (subst Stands (sym view) stands) reads takes),
+      journal_lines (valued_change route_value links.ReadRib change ++ adds.0),
+      flush ∙ ap flushed (adds_both before j l (valued_change route_value links.ReadRib change) adds.0 pushed adds.1),
+      subst (λ (n : Moment). IsUnit tasks.ReadRib v n (journal_lines (valued_change route_value links.ReadRib change ++ adds.0))) (sym (is ∙ ap (λ (y : Exited). with_rib (with_exits v y) registry x) after))
+          (read_done law v r change e.queue (subst Stands (sym view) stands) reads takes registry x fib adds.0 adds.2),
     )
 
 -- its reader is numbered as before
-pub reader_same : (v : Moment) (e : Exited) (o : Option ℕ) → o ≡ v.reader → record v { exits = e; reader = o } ≡ with_exits v e
-reader_same v e o same = ap (λ (x : Option ℕ). record v { exits = e; reader = x }) same
+pub reader_same : (v : Moment) (e : Exited) (registry : Registry Interior) (x : RibExit) (o : Option ℕ) → o ≡ v.reader → record v { registry = registry; exits = e; reader = o; rib = x } ≡ with_rib (with_exits v e) registry x
+reader_same v e registry x o same = ap (λ (q : Option ℕ). record v { registry = registry; exits = e; reader = q; rib = x }) same
 
 pub reader_rests : (m v m' : Moment) (before : Journaled) → v ≡ m → v.reader ≡ None → m' ≡ v → Comes tasks.ReadRib m m' before before Nothing
 reader_rests m v m' before view none same = (sym (reads_nothing m v view none), same ∙ view, refl)
@@ -188,15 +223,15 @@ said_entries c entries sent =
     entries_of_append (journal_lines (entries ++ sending_entries c sent)) (message_lines c sent) ∙ ap (λ (es : List (Entry Value)). entries_of (journal_lines (entries ++ sending_entries c sent)) ++ es) (no_message c sent)
     ∙ append-nil (entries_of (journal_lines (entries ++ sending_entries c sent))) ∙ entries_of_entries (entries ++ sending_entries c sent)
 
-module _ (m : Moment) (k : ℕ) (sent : Option (Change Attrs)) (e : Exited) (said : List Line) (stands : Stands m) (t : TurnsExit k (best_candidates (lent_candidates m.chains)) (best_at m.chains m.hops) sent m.exits e said) where
+module _ (m : Moment) (k : ℕ) (sent : Option (Change Attrs)) (e : Exited) (said : List Line) (stands : Stands m) (t : TurnsExit k (candidates_of m) (best_of m) sent m.exits e said) where
   kept : (r : ℕ) → m.reader ≡ Some r → KeepsStranger r m.exits e
-  kept r is = turn_keeps r k (best_candidates (lent_candidates m.chains)) (best_at m.chains m.hops) sent m.exits e said (stands.own EachExit) (reads_as m stands r is).own t
+  kept r is = turn_keeps r k (candidates_of m) (best_of m) sent m.exits e said (stands.own EachExit) (reads_as m stands r is).own t
 
   -- the change that it takes, or none
-  all_lead : AllLead e.queue (best_at m.chains m.hops)
-  all_lead = elim t.turns.by as (λ _. AllLead e.queue (best_at m.chains m.hops)) [
-    | inl first ↦ take_keeps_leading m.exits.queue e.queue (best_at m.chains m.hops) t.chain.reader (Some first.change) first.takes (stands.own QueueLeads)
-    | inr walks ↦ take_keeps_leading m.exits.queue e.queue (best_at m.chains m.hops) t.chain.reader None walks.takes (stands.own QueueLeads)
+  all_lead : AllLead e.queue (best_of m)
+  all_lead = elim t.turns.by as (λ _. AllLead e.queue (best_of m)) [
+    | inl first ↦ take_keeps_leading m.exits.queue e.queue (best_of m) t.chain.reader (Some first.change) first.takes (stands.own QueueLeads)
+    | inr walks ↦ take_keeps_leading m.exits.queue e.queue (best_of m) t.chain.reader None walks.takes (stands.own QueueLeads)
   ]
 
   same_session : (s : Option Speaker) (p : Option DeclaredPeer) → ExitsAt s m.outgoing k p (Some t.chain) → ExitsAt s m.outgoing k p (Some t.taken)
@@ -213,7 +248,7 @@ module _ (m : Moment) (k : ℕ) (sent : Option (Change Attrs)) (e : Exited) (sai
       (λ apart. subst (λ (o : Option OutChained). ExitsAt m.declared.speaker m.outgoing j (peer_at j m.declared.peers) o) (sym (exit_elsewhere k j t.taken e.queue m.exits apart)) (stands.own SameSessions j)))
 
   fewer_left : counts (with_exits m e) phases.Out + 1 ≤ counts m phases.Out
-  fewer_left = t.fewer (best_beyond m.chains) (best_counted m.chains (stands.own SmallNumbers))
+  fewer_left = t.fewer (best_beyond m.chains m.tree) (best_counted m stands)
 
   read_same : (o : Option ℕ) → ((r : ℕ) → o ≡ Some r → tables.get e.queue r ≡ tables.get m.exits.queue r) → length (unread_if e.queue o) ≡ length (unread_if m.exits.queue o)
   read_same None same = refl
@@ -227,26 +262,24 @@ module _ (m : Moment) (k : ℕ) (sent : Option (Change Attrs)) (e : Exited) (sai
         leads = subst (λ (es : List (Entry Value)). Leads (router_links m) es (router_links (with_exits m e))) (sym (ap entries_of t.turns.goes.lines ∙ said_entries t.chain t.turns.entries sent))
             (exits_lead m e (t.turns.entries ++ sending_entries t.chain sent) (λ r is. (kept r is).unread) t.leads);
         live = refl;
-        stands = stands_exits m e stands t.sound all_lead t.stand (ap (λ (x : Exited). x.profile) t.after ∙ stands.own PlainExits) sessions (strangers_read m.declared.speaker m.reader m.exits e kept (stands.own OneReader));
-        heard = turn_is_heard (neighbours m.declared) k (best_candidates (lent_candidates m.chains)) (best_at m.chains m.hops) sent m.exits e said (exits_declared m stands) t;
+        stands = stands_exits m e stands t.sound all_lead t.stand (ap (λ (x : Exited). x.profile) t.after ∙ stands.own PlainExits) sessions (strangers_read m.declared.speaker m.reader m.exits e kept (stands.own OneReader))
+            (external_kept m e stands (λ r is. (kept r is).unread));
+        heard = turn_is_heard (neighbours m.declared) k (candidates_of m) (best_of m) sent m.exits e said (exits_declared m stands) t;
       };
       falls = fewer_left;
-      left = fewer_left;
-      earlier = (omega arith, (omega arith, (omega arith, (omega arith, (let same = read_same m.reader (λ r is. (kept r is).unread) in omega (arith, same), tt)))));
+      left = let a = fewer_left in omega (arith, a);
+      earlier = (omega arith, (omega arith, (omega arith, (omega arith, (omega arith, (let same = read_same m.reader (λ r is. (kept r is).unread) in omega (arith, same), tt))))));
     };
   }
 
--- by what it came to
-pub exit_took : (m v : Moment) (k : ℕ) (e : Exited) (a : Chains) (h : Resolvers) (before j now : Journaled) (turn : Turn Attrs) → (turn ≡ turns.Nothing → ⊥) → v ≡ m → Stands m → a ≡ v.chains → h ≡ v.hops
-    → ComesOut k (best_candidates (lent_candidates a)) (best_rows (lent_rows a h)) v.exits e before j turn → now ≡ flushed j → Comes (tasks.Out k) m (with_exits v e) before now Taken
-exit_took m v k e a h before j now turn some view stands chains hops comes is =
-    subst (λ (n : Moment). Comes (tasks.Out k) n (with_exits v e) before now Taken) view (by_turn turn some here)
+-- by what it came to, over the rows that are lent
+pub exit_took : (m v : Moment) (k : ℕ) (e : Exited) (before j now : Journaled) (turn : Turn Attrs) → (turn ≡ turns.Nothing → ⊥) → v ≡ m → Stands m
+    → ComesOut k (candidates_of v) (best_rows (lent_rows (own_of v) v.chains v.hops)) v.exits e before j turn → now ≡ flushed j → Comes (tasks.Out k) m (with_exits v e) before now Taken
+exit_took m v k e before j now turn some view stands comes is =
+    subst (λ (n : Moment). Comes (tasks.Out k) n (with_exits v e) before now Taken) view
+    (by_turn turn some (subst (λ (rows : Rows Route). ComesOut k (candidates_of v) rows v.exits e before j turn) (lent_is (own_of v) v.chains v.hops) comes))
   where
-    here : ComesOut k (best_candidates (lent_candidates v.chains)) (best_at v.chains v.hops) v.exits e before j turn
-    here = subst (λ (rows : Rows Route). ComesOut k (best_candidates (lent_candidates v.chains)) rows v.exits e before j turn) (lent_best v a h chains hops)
-        (subst (λ (x : Chains). ComesOut k (best_candidates (lent_candidates x)) (best_rows (lent_rows a h)) v.exits e before j turn) chains comes)
-
-    by_turn : (t : Turn Attrs) → (t ≡ turns.Nothing → ⊥) → ComesOut k (best_candidates (lent_candidates v.chains)) (best_at v.chains v.hops) v.exits e before j t → Comes (tasks.Out k) v (with_exits v e) before now Taken
+    by_turn : (t : Turn Attrs) → (t ≡ turns.Nothing → ⊥) → ComesOut k (candidates_of v) (best_of v) v.exits e before j t → Comes (tasks.Out k) v (with_exits v e) before now Taken
     by_turn turns.Nothing other c = absurd (other refl)
     by_turn turns.Quiet other c = (c.0, is ∙ ap flushed c.1, exit_done v k None e c.0 (subst Stands (sym view) stands) c.2)
     by_turn (turns.Sent change) other c = (c.0, is ∙ ap flushed c.1, exit_done v k (Some change) e c.0 (subst Stands (sym view) stands) c.2)
@@ -257,5 +290,5 @@ exit_rests m v k e candidates best before j turn is view comes =
     (ap (λ (x : Moment). has_exit_work x.exits k) (sym view) ∙ c.0, ap (with_exits v) c.1 ∙ view, c.2)
 
 -- what the turn asks for
-pub exits_stand : (m v : Moment) (a : Chains) (h : Resolvers) → v ≡ m → Stands m → a ≡ v.chains → h ≡ v.hops → AllStand (best_rows (lent_rows a h)) v.exits
-exits_stand m v a h view stands chains hops = subst (λ (rows : Rows Route). AllStand rows v.exits) (sym (lent_best v a h chains hops)) ((subst Stands (sym view) stands).own ExitsRead)
+pub exits_stand : (m v : Moment) → v ≡ m → Stands m → AllStand (best_rows (lent_rows (own_of v) v.chains v.hops)) v.exits
+exits_stand m v view stands = subst (λ (rows : Rows Route). AllStand rows v.exits) (sym (lent_is (own_of v) v.chains v.hops)) ((subst Stands (sym view) stands).own ExitsRead)

@@ -13,6 +13,7 @@ pub mod QueueLemmas
 pub mod HeardSteps
 pub mod ReadingLemmas
 pub mod SpendLemmas
+pub mod ExternalTurns
 pub mod ExitTurns
 pub mod SessionLemmas
 pub mod TurnWalks

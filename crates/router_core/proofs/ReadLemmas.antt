@@ -13,10 +13,14 @@ use Rattle.fanout_queue.specs.Readers.{read_rows}
 use Rattle.decision.specs.Branches.{best_rows}
 use Rattle.exit_side.specs.Exits.{exit_links}
 use Rattle.hop_side.specs.Resolvers.{Resolvers}
+use Rattle.event_text.specs.Declarations.{Declaration}
+use Rattle.pass_core.specs.Passed.{Passed}
+use Rattle.redist.specs.declared.protos.Protos.{Protos}
+use Rattle.rib_tree.specs.Trees.{Treed, int_rows}
 use Rattle.peer_side.specs.Peers.{Chains}
 use Rattle.peer_side.proofs.MapLemmas.{one_of}
-use Rattle.router_core.specs.Bests.{best_at, lent_rows}
-use Rattle.router_core.specs.Moments.{Moment, read_by, read_links}
+use Rattle.router_core.specs.Bests.{own_rows, lent_rows}
+use Rattle.router_core.specs.Moments.{Moment, best_of, read_by, read_links}
 use Rattle.router_core.specs.Stands.{Stands, HaveReaders, EachExit}
 use Rattle.router_core.specs.Lookups.{IsNextPlace}
 use Rattle.router_core.proofs.BestLemmas.{lent_best}
@@ -25,32 +29,35 @@ use Rattle.router_core.proofs.QueueLemmas.{reader_live}
 pub have_readers : (m : Moment) → Stands m → HaveReaders m
 have_readers m stands = record { exits = stands.own EachExit; reader = reader_live m stands }
 
-module _ (m v : Moment) (a : Chains) (h : Resolvers) (view : v ≡ m) (chains : a ≡ m.chains) (hops : h ≡ m.hops) where
+module _ (m v : Moment) (d : Declaration) (t : Treed) (s : Passed Protos) (a : Chains) (h : Resolvers) (view : v ≡ m) (declared : d ≡ m.declared) (tree : t ≡ m.tree) (redist : s ≡ m.redist) (chains : a ≡ m.chains) (hops : h ≡ m.hops) where
   abbrev lent : Rows Route
-  lent = best_rows (lent_rows a h)
+  lent = best_rows (lent_rows (own_rows d.speaker s (int_rows t)) a h)
+
+  lent_is : lent ≡ best_of m
+  lent_is = lent_best m d t s a h declared tree redist chains hops
 
   -- ---- links of exits
-  pub sent_links : exit_links v.exits lent ≡ exit_links m.exits (best_at m.chains m.hops)
-  sent_links = ap (exit_links v.exits) (lent_best m a h chains hops) ∙ ap (λ (x : Moment). exit_links x.exits (best_at m.chains m.hops)) view
+  pub sent_links : exit_links v.exits lent ≡ exit_links m.exits (best_of m)
+  sent_links = ap (exit_links v.exits) lent_is ∙ ap (λ (x : Moment). exit_links x.exits (best_of m)) view
 
-  pub sent_live : (link : Link) → IsSome (exit_links m.exits (best_at m.chains m.hops) link) → IsSome (exit_links v.exits lent link)
+  pub sent_live : (link : Link) → IsSome (exit_links m.exits (best_of m) link) → IsSome (exit_links v.exits lent link)
   sent_live link live = subst (λ (l : Links Value). IsSome (l link)) (sym sent_links) live
 
   pub sent_next : (link : Link) (place result : Option Network) (candidates : Candidates) → IsNextCandidate candidates place result → ((rows : Rows Value) → exit_links v.exits lent link ≡ Some rows → CoversRows candidates rows)
-      → IsNextPlace (exit_links m.exits (best_at m.chains m.hops) link) place result
+      → IsNextPlace (exit_links m.exits (best_of m) link) place result
   sent_next link place result candidates next covers = (candidates, next, λ rows is. covers rows (ap (λ (l : Links Value). l link) sent_links ∙ is))
 
   -- ---- `read.rib`
-  read_is : (r : ℕ) → v.reader ≡ Some r → read_by m.exits.queue m.reader (best_at m.chains m.hops) ≡ Some (route_rows (read_rows v.exits.queue r lent))
+  read_is : (r : ℕ) → v.reader ≡ Some r → read_by m.exits.queue m.reader (best_of m) ≡ Some (route_rows (read_rows v.exits.queue r lent))
   read_is r is =
-      ap (λ (x : Moment). read_by x.exits.queue x.reader (best_at m.chains m.hops)) (sym view) ∙ ap (λ (o : Option ℕ). read_by v.exits.queue o (best_at m.chains m.hops)) is
-      ∙ ap (λ (rows : Rows Route). Some (route_rows (read_rows v.exits.queue r rows))) (sym (lent_best m a h chains hops))
+      ap (λ (x : Moment). read_by x.exits.queue x.reader (best_of m)) (sym view) ∙ ap (λ (o : Option ℕ). read_by v.exits.queue o (best_of m)) is
+      ∙ ap (λ (rows : Rows Route). Some (route_rows (read_rows v.exits.queue r rows))) (sym lent_is)
 
-  pub read_has : (r : ℕ) (p : Network) (row : Option Route) → v.reader ≡ Some r → row ≡ read_rows v.exits.queue r lent p → HasRow (read_links m.exits.queue m.reader (best_at m.chains m.hops)) ReadRib p (option_map route_value row)
+  pub read_has : (r : ℕ) (p : Network) (row : Option Route) → v.reader ≡ Some r → row ≡ read_rows v.exits.queue r lent p → HasRow (read_links m.exits.queue m.reader (best_of m)) ReadRib p (option_map route_value row)
   read_has r p row reads is = (route_rows (read_rows v.exits.queue r lent), read_is r reads, ap (option_map route_value) (sym is))
 
   pub read_next : (r : ℕ) (place result : Option Network) (candidates : Candidates) → v.reader ≡ Some r → IsNextCandidate candidates place result → CoversRows candidates (read_rows v.exits.queue r lent)
-      → IsNextPlace (read_links m.exits.queue m.reader (best_at m.chains m.hops) ReadRib) place result
+      → IsNextPlace (read_links m.exits.queue m.reader (best_of m) ReadRib) place result
   read_next r place result candidates reads next covers = (
     candidates,
     next,

@@ -5,7 +5,7 @@ use Rattle.bgp_attr.specs.declared.route.Route.{Route}
 use Rattle.nexthop_resolver.specs.declared.rows.Metric.{Metric}
 use Rattle.nexthop_resolver.specs.Resolving.{Resolving}
 use Rattle.in_chain.specs.Chains.{Chained, filt_rows, filt_candidates}
-use Rattle.journal_text.specs.declared.link.Link.TheVariants.{Res, Best}
+use Rattle.journal_text.specs.declared.link.Link.TheVariants.{Res, Best, Red}
 use Rattle.journal_text.specs.Values.{route_value, route_rows}
 use Rattle.std.proofs.lemmas.List.{map-append}
 use Rattle.addr4.specs.Prefixes.{Network}
@@ -18,17 +18,23 @@ use Rattle.journal_text.specs.declared.line.Line.TheVariants as lines
 use Rattle.journal_text.specs.Walk.{Links, HasRow}
 use Rattle.journal_text.specs.Texts.{entries_of}
 use Rattle.event_text.specs.declared.event.Event.TheVariants as events
-use Rattle.router_core.specs.Moments.{Moment, router_links, rib_by}
+use Rattle.router_core.specs.Moments.{Moment, own_of, best_of, router_links, tree_by, forward_by}
 use Rattle.journal_text.specs.Journals.{Journaled, with_lines}
 use Rattle.journal_text.proofs.JournalLemmas.{with_lines_append}
 use Rattle.journal_laws.proofs.ShownRows.{IsShown, none_shown, one_shown, none_more, none_left, with_none}
-use Rattle.router_core.specs.Bests.{best_at, best_links}
+use Rattle.router_core.specs.Bests.{own_rows, own_links, best_links}
 use Rattle.router_core.specs.Blocks.{AreRows, answer_lines, Shows}
 use Rattle.router_core.specs.Lookups.{listed_at, row_lines, Counts, ShowsRow, IsCountOf, IsNextPlace}
 use Rattle.bgp_attr.specs.declared.speaker.Speaker.{Speaker}
-use Rattle.rib_tree.specs.Trees.{Treed}
-use Rattle.rib_tree.specs.Forwards.{rib_links}
-use Rattle.link_region.specs.declared.regions.Region.TheVariants.{Inward, Resolved, Decided}
+use Rattle.rib_route.specs.declared.rows.Interior.{Interior}
+use Rattle.pass_core.specs.Passed.{Passed}
+use Rattle.pass_core.specs.Turns.{passed_rows}
+use Rattle.redist.specs.declared.protos.Protos.{Protos}
+use Rattle.redist.specs.Local.{redistributed}
+use Rattle.rib_exit.specs.declared.exit.RibExit.{RibExit}
+use Rattle.rib_exit.specs.Exits.{exit_links as external_links}
+use Rattle.rib_tree.specs.Trees.{Treed, int_rows, tree_links}
+use Rattle.link_region.specs.declared.regions.Region.TheVariants.{Inward, Resolved, Decided, InteriorRoutes, Redistributed, Forward}
 use Rattle.link_region.specs.Regions.{region_of}
 use Rattle.hop_side.specs.Resolvers.{resolver_at, link_by, hop_links, metric_rows, rows_by}
 use Rattle.peer_side.specs.Peers.{chain_at, peer_links, peer_candidates, filt_by, filt_at}
@@ -159,14 +165,64 @@ next_inward m v link place result view here next covers =
     (peer_candidates v.chains link, next, λ rows is. covers rows (ap (λ (n : Moment). peer_links n.chains link) view ∙ sym (in_region m link Inward here) ∙ is))
 
 -- a link of the interior routes that is live
-rib_live : (s : Option Speaker) (t : Treed) (link : Link) → IsSome (rib_by s t link) → rib_by s t link ≡ rib_links t link
-rib_live None t link live = absurd (cc)
-rib_live (Some me) t link live = refl
+tree_here : (s : Option Speaker) (t : Treed) (link : Link) → IsSome (tree_by s t link) → tree_by s t link ≡ tree_links t link
+tree_here None t link live = absurd (cc)
+tree_here (Some me) t link live = refl
 
-pub next_rib : (m v : Moment) (link : Link) (place result : Option Network) → v ≡ m → router_links m link ≡ rib_by m.declared.speaker m.tree link → IsSome (router_links m link)
-    → ((rows : Rows Value) → rib_links v.tree link ≡ Some rows → IsNextCandidate (with_rows rows) place result) → IsNextPlace (router_links m link) place result
-next_rib m v link place result view here live next = next_row (router_links m link) place result live (λ rows is.
-    next rows (ap (λ (n : Moment). rib_links n.tree link) view ∙ sym (rib_live m.declared.speaker m.tree link (subst IsSome here live)) ∙ sym here ∙ is))
+tree_is : (m v : Moment) (link : Link) → v ≡ m → region_of link ≡ InteriorRoutes → IsSome (router_links m link) → router_links m link ≡ tree_links v.tree link
+tree_is m v link view here live =
+    let at : router_links m link ≡ tree_by m.declared.speaker m.tree link = in_region m link InteriorRoutes here in
+    at ∙ tree_here m.declared.speaker m.tree link (subst IsSome at live) ∙ ap (λ (n : Moment). tree_links n.tree link) (sym view)
+
+pub next_tree : (m v : Moment) (link : Link) (place result : Option Network) → v ≡ m → region_of link ≡ InteriorRoutes → IsSome (router_links m link)
+    → ((rows : Rows Value) → tree_links v.tree link ≡ Some rows → IsNextCandidate (with_rows rows) place result) → IsNextPlace (router_links m link) place result
+next_tree m v link place result view here live next = next_row (router_links m link) place result live (λ rows is. next rows (sym (tree_is m v link view here live) ∙ is))
+
+-- a link of the external routes that is, or `fib`
+forward_here : (s : Option Speaker) (x : RibExit) (int : Rows Interior) (link : Link) → IsSome (forward_by s x int link) → forward_by s x int link ≡ external_links x int link
+forward_here None x int link live = absurd (cc)
+forward_here (Some me) x int link live = refl
+
+forward_is : (m v : Moment) (link : Link) → v ≡ m → region_of link ≡ Forward → IsSome (router_links m link) → router_links m link ≡ external_links v.rib (int_rows v.tree) link
+forward_is m v link view here live =
+    let at : router_links m link ≡ forward_by m.declared.speaker m.rib (int_rows m.tree) link = in_region m link Forward here in
+    at ∙ forward_here m.declared.speaker m.rib (int_rows m.tree) link (subst IsSome at live) ∙ ap (λ (n : Moment). external_links n.rib (int_rows n.tree) link) (sym view)
+
+pub forward_live : (m v : Moment) (link : Link) → v ≡ m → region_of link ≡ Forward → IsSome (router_links m link) → IsSome (external_links v.rib (int_rows v.tree) link)
+forward_live m v link view here live = subst IsSome (forward_is m v link view here live) live
+
+pub has_forward : (m v : Moment) (link : Link) (p : Network) (row : Option Value) → v ≡ m → region_of link ≡ Forward → IsSome (router_links m link) → HasRow (external_links v.rib (int_rows v.tree)) link p row → HasRow (router_links m) link p row
+has_forward m v link p row view here live has = (has.0, forward_is m v link view here live ∙ has.1, has.2)
+
+pub next_forward : (m v : Moment) (link : Link) (place result : Option Network) (candidates : Candidates) → v ≡ m → region_of link ≡ Forward → IsSome (router_links m link) → IsNextCandidate candidates place result
+    → ((rows : Rows Value) → external_links v.rib (int_rows v.tree) link ≡ Some rows → CoversRows candidates rows) → IsNextPlace (router_links m link) place result
+next_forward m v link place result candidates view here live next covers = (candidates, next, λ rows is. covers rows (sym (forward_is m v link view here live) ∙ is))
+
+-- `red` where it is live: some of its candidates have no row
+own_here : (s : Option Speaker) (rows : Rows Route) (link : Link) → IsSome (own_links s rows link) → own_links s rows link ≡ Some (route_rows rows)
+own_here None rows link live = absurd (cc)
+own_here (Some me) rows Red live = refl
+own_here (Some me) rows other live = absurd (cc)
+
+pub has_own : (m : Moment) (link : Link) (p : Network) (row : Option Route) → IsSome (own_links m.declared.speaker (own_of m) link) → row ≡ own_of m p → HasRow (own_links m.declared.speaker (own_of m)) link p (option_map route_value row)
+has_own m link p row live is = (route_rows (own_of m), own_here m.declared.speaker (own_of m) link live, ap (option_map route_value) (sym is))
+
+-- its rows, by whoever this speaker is
+own_covered : (s : Option Speaker) (redist : Passed Protos) (int : Rows Interior) (candidates : Candidates) → ((me : Speaker) → CoversRows candidates (passed_rows (redistributed me) redist int)) → CoversRows candidates (own_rows s redist int)
+own_covered None redist int candidates covers q lacks = refl
+own_covered (Some me) redist int candidates covers q lacks = covers me q lacks
+
+pub next_own : (m v : Moment) (link : Link) (place result : Option Network) (candidates : Candidates) → v ≡ m → region_of link ≡ Redistributed → IsSome (router_links m link) → IsNextCandidate candidates place result
+    → ((me : Speaker) → CoversRows candidates (passed_rows (redistributed me) v.redist (int_rows v.tree))) → IsNextPlace (router_links m link) place result
+next_own m v link place result candidates view here live next covers = (
+  candidates,
+  next,
+  λ rows is q lacks.
+      let at : router_links m link ≡ own_links m.declared.speaker (own_of m) link = in_region m link Redistributed here in
+      let own : Some rows ≡ Some (route_rows (own_of m)) = sym is ∙ at ∙ own_here m.declared.speaker (own_of m) link (subst IsSome at live) in
+      let none : own_of m q ≡ None = ap (λ (n : Moment). own_of n q) (sym view) ∙ own_covered v.declared.speaker v.redist (int_rows v.tree) candidates covers q lacks in
+      ap (λ (r : Rows Value). r q) (one_of rows (route_rows (own_of m)) own) ∙ ap (option_map route_value) none,
+)
 
 -- a link `res.K`, whose candidates are those of `filt.K`
 pub next_res : (m v : Moment) (link : Link) (place result : Option Network) → v ≡ m → region_of link ≡ Resolved → IsNextPlace (hop_links v.hops (filt_at v.chains) link) place result → IsNextPlace (router_links m link) place result
@@ -210,17 +266,17 @@ best_rows_at None rows link live = absurd (cc)
 best_rows_at (Some me) rows Best live = refl
 best_rows_at (Some me) rows other live = absurd (cc)
 
-pub has_best : (m : Moment) (link : Link) (p : Network) (row : Option Route) → IsSome (best_links m.declared.speaker (best_at m.chains m.hops) link) → row ≡ best_at m.chains m.hops p
-    → HasRow (best_links m.declared.speaker (best_at m.chains m.hops)) link p (option_map route_value row)
-has_best m link p row live is = (route_rows (best_at m.chains m.hops), best_rows_at m.declared.speaker (best_at m.chains m.hops) link live, ap (option_map route_value) (sym is))
+pub has_best : (m : Moment) (link : Link) (p : Network) (row : Option Route) → IsSome (best_links m.declared.speaker (best_of m) link) → row ≡ best_of m p
+    → HasRow (best_links m.declared.speaker (best_of m)) link p (option_map route_value row)
+has_best m link p row live is = (route_rows (best_of m), best_rows_at m.declared.speaker (best_of m) link live, ap (option_map route_value) (sym is))
 
-pub next_best : (m : Moment) (link : Link) (place result : Option Network) (candidates : Candidates) → region_of link ≡ Decided → IsSome (router_links m link) → IsNextCandidate candidates place result → CoversRows candidates (best_at m.chains m.hops)
+pub next_best : (m : Moment) (link : Link) (place result : Option Network) (candidates : Candidates) → region_of link ≡ Decided → IsSome (router_links m link) → IsNextCandidate candidates place result → CoversRows candidates (best_of m)
     → IsNextPlace (router_links m link) place result
 next_best m link place result candidates here live next covers = (
   candidates,
   next,
   λ rows is q lacks.
-      let at : router_links m link ≡ best_links m.declared.speaker (best_at m.chains m.hops) link = in_region m link Decided here in
-      let own : Some rows ≡ Some (route_rows (best_at m.chains m.hops)) = sym is ∙ at ∙ best_rows_at m.declared.speaker (best_at m.chains m.hops) link (subst IsSome at live) in
-      ap (λ (r : Rows Value). r q) (one_of rows (route_rows (best_at m.chains m.hops)) own) ∙ ap (option_map route_value) (covers q lacks),
+      let at : router_links m link ≡ best_links m.declared.speaker (best_of m) link = in_region m link Decided here in
+      let own : Some rows ≡ Some (route_rows (best_of m)) = sym is ∙ at ∙ best_rows_at m.declared.speaker (best_of m) link (subst IsSome at live) in
+      ap (λ (r : Rows Value). r q) (one_of rows (route_rows (best_of m)) own) ∙ ap (option_map route_value) (covers q lacks),
 )

@@ -1,26 +1,31 @@
 use Rattle.std.proofs.Common.{◌∙◌, refl, sym}
 use Rattle.addr4.specs.Places.{key_of}
-use Rattle.link_region.specs.declared.regions.Region.TheVariants.{InteriorRoutes, Forward}
-use Rattle.router_core.proofs.RegionLemmas.{in_region}
-use Rattle.router_core.proofs.ShownRows.{next_inward, next_res, next_best, next_rib}
+use Rattle.router_core.proofs.ShownRows.{next_inward, next_res, next_best, next_tree, next_own, next_forward, forward_live}
 use Rattle.router_core.proofs.network.Network.next_candidate.Goals as goal
 
 pub returns-in-Inward : goal.returns-in-Inward
 returns-in-Inward c =
     next_inward c.args.self.now _ c.args.link (key_of c.args.after) c.next_candidate.result c.self.view_is (sym c.region_of.ensures ∙ c.in-Inward.is) c.next_candidate.ensures.next c.next_candidate.ensures.covers
 
-pub returns-in-InteriorRoutes : goal.returns-in-InteriorRoutes
-returns-in-InteriorRoutes c =
-    next_rib c.args.self.now _ c.args.link (key_of c.args.after) c.next_candidate-in-InteriorRoutes.result c.self.view_is (in_region c.args.self.now c.args.link InteriorRoutes (sym c.region_of.ensures ∙ c.in-InteriorRoutes.is))
-    c.requires.live c.next_candidate-in-InteriorRoutes.ensures
-
-pub returns-in-Forward : goal.returns-in-Forward
-returns-in-Forward c =
-    next_rib c.args.self.now _ c.args.link (key_of c.args.after) c.next_candidate-in-Forward.result c.self.view_is (in_region c.args.self.now c.args.link Forward (sym c.region_of.ensures ∙ c.in-Forward.is))
-    c.requires.live c.next_candidate-in-Forward.ensures
-
 pub returns-in-Resolved : goal.returns-in-Resolved
 returns-in-Resolved c = next_res c.args.self.now c.args.self.now c.args.link (key_of c.args.after) c.next_resolved.result refl (sym c.region_of.ensures ∙ c.in-Resolved.is) c.next_resolved.ensures
 
 pub returns-in-Decided : goal.returns-in-Decided
 returns-in-Decided c = next_best c.args.self.now c.args.link (key_of c.args.after) c.next_best.result _ (sym c.region_of.ensures ∙ c.in-Decided.is) c.requires.live c.next_best.ensures.next c.next_best.ensures.covers
+
+pub returns-in-InteriorRoutes : goal.returns-in-InteriorRoutes
+returns-in-InteriorRoutes c =
+    next_tree c.args.self.now _ c.args.link (key_of c.args.after) c.next_candidate-in-InteriorRoutes.result c.self.view_is (sym c.region_of.ensures ∙ c.in-InteriorRoutes.is) c.requires.live c.next_candidate-in-InteriorRoutes.ensures
+
+pub returns-in-Redistributed : goal.returns-in-Redistributed
+returns-in-Redistributed c =
+    next_own c.args.self.now _ c.args.link (key_of c.args.after) c.next_candidate-in-Redistributed.result _ c.self.view_is (sym c.region_of.ensures ∙ c.in-Redistributed.is) c.requires.live c.next_candidate-in-Redistributed.ensures.next
+    c.next_candidate-in-Redistributed.ensures.covers
+
+pub next_candidate-in-Forward-requires : goal.next_candidate-in-Forward-requires
+next_candidate-in-Forward-requires c = forward_live c.args.self.now _ c.args.link c.self.view_is (sym c.region_of.ensures ∙ c.in-Forward.is) c.requires.live
+
+pub returns-in-Forward : goal.returns-in-Forward
+returns-in-Forward c =
+    next_forward c.args.self.now _ c.args.link (key_of c.args.after) c.next_candidate-in-Forward.result _ c.self.view_is (sym c.region_of.ensures ∙ c.in-Forward.is) c.requires.live c.next_candidate-in-Forward.ensures.next
+    c.next_candidate-in-Forward.ensures.covers

@@ -5,4 +5,4 @@ use Rattle.router_core.proofs.network.Network.next_read.Goals as goal
 
 pub returns : goal.returns
 returns c =
-    read_next c.args.self.now (the_view c.self.inside) _ _ c.self.view_is c.lent-lent.ensures.chains c.lent-lent.ensures.hops c.in-Some.reader (key_of c.args.after) c.next_read.result _ c.in-Some.is c.next_read.ensures.next c.next_read.ensures.covers
+    read_next c.args.self.now (the_view c.self.inside) _ _ _ _ _ c.self.view_is c.lent-lent.ensures.declared c.lent-lent.ensures.tree c.lent-lent.ensures.redist c.lent-lent.ensures.chains c.lent-lent.ensures.hops c.in-Some.reader (key_of c.args.after) c.next_read.result _ c.in-Some.is c.next_read.ensures.next c.next_read.ensures.covers

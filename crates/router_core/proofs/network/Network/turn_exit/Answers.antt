@@ -1,4 +1,3 @@
-use Rattle.std.proofs.Common.{refl}
 use Rattle.router_core.proofs.HopTurns.{exits_sound}
 use Rattle.router_core.proofs.ExitTurns.{exits_stand, exit_took}
 use Rattle.router_core.proofs.network.Network.turn_exit.Goals as goal
@@ -7,8 +6,8 @@ pub turn-requires-clause-sound : goal.turn-requires-clause-sound
 turn-requires-clause-sound c = exits_sound c.args.self.now _ c.self.view_is c.requires
 
 pub turn-requires-clause-stand : goal.turn-requires-clause-stand
-turn-requires-clause-stand c = exits_stand c.args.self.now _ _ _ c.self.view_is c.requires refl refl
+turn-requires-clause-stand c = exits_stand c.args.self.now _ c.self.view_is c.requires
 
 pub returns : goal.returns
 returns c =
-    exit_took c.args.self.now _ c.args.number c.turn.new.self _ _ c.args.journal.now c.turn.new.journal c.flush.new.self c.in_ok-turn.turn c.in_default.not-Nothing c.self.view_is c.requires refl refl c.in_ok-turn.ensures c.in_ok-flush.ensures.ok
+    exit_took c.args.self.now _ c.args.number c.turn.new.self c.args.journal.now c.turn.new.journal c.flush.new.self c.in_ok-turn.turn c.in_default.not-Nothing c.self.view_is c.requires c.in_ok-turn.ensures c.in_ok-flush.ensures.ok

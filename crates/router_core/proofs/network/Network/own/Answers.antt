@@ -1,0 +1,9 @@
+use Rattle.std.proofs.Common.{Some, None, sym, ◌∙◌}
+use Rattle.router_core.proofs.ShownRows.{has_own}
+use Rattle.router_core.proofs.network.Network.own.Goals as goal
+
+pub returns-in-Some : goal.returns-in-Some
+returns-in-Some c = has_own c.args.self.now c.args.link c.args.p (Some c.in-Some.route) c.requires (sym c.in-Some.is ∙ c.in_ok-route.ensures)
+
+pub returns-in-None : goal.returns-in-None
+returns-in-None c = has_own c.args.self.now c.args.link c.args.p None c.requires (sym c.in-None.is ∙ c.in_ok-route.ensures)
