@@ -1,5 +1,5 @@
 -- What follows a change of `res.K`: what is decided, and what its entries lead to.
-use Rattle.std.proofs.Common.{◌≡◌, ℕ, ◌<◌, ◌≤◌, nat_eq, nat_lt, true, cond, List, [], Option, Some, None, refl, sym, ap, subst, ◌∙◌, arith, zero, suc}
+use Rattle.std.proofs.Common.{◌≡◌, ℕ, zero, suc, ◌<◌, ◌≤◌, nat_eq, nat_lt, true, cond, List, [], Option, Some, None, refl, sym, ap, subst, ◌∙◌, arith}
 use Rattle.std.proofs.lemmas.Bool.Decides.{nat_tests}
 use Rattle.addr4.specs.Prefixes.{Network}
 use Rattle.bgp_attr.specs.declared.route.Route.{Route}
@@ -19,15 +19,19 @@ use Rattle.link_region.specs.declared.regions.Region.TheVariants.{Decided}
 use Rattle.link_region.specs.Regions.{joined, with_side, LeadsIn}
 use Rattle.link_region.proofs.RegionLemmas.{by_bool}
 use Rattle.loss_chain.proofs.TableLemmas.{equal_by, same_by, other_by}
-use Rattle.decision.specs.Branches.{AllRows, best_rows, Decides as DecidesOver, OthersStay}
+use Rattle.decision.specs.Branches.{AllRows, best_rows, best_candidates, Decides as DecidesOver}
 use Rattle.decision.proofs.LawLemmas.{best_is_a_branchs, best_is_of_its_prefix}
 use Rattle.hop_side.specs.Resolvers.{Resolvers, PeerRows, resolver_at, rows_by}
 use Rattle.hop_side.specs.Steps.{ComesOn}
 use Rattle.peer_side.specs.Peers.{Chains, chain_at, filt_by, filt_at}
 use Rattle.addr4.proofs.PrefixOrder.{itself}
+use Rattle.event_text.specs.Declarations.{Declaration}
+use Rattle.pass_core.specs.Passed.{Passed}
+use Rattle.redist.specs.declared.protos.Protos.{Protos}
+use Rattle.rib_tree.specs.Trees.{Treed, int_rows, int_candidates}
 use Rattle.journal_text.specs.declared.entry.Entry.{Entry}
-use Rattle.router_core.specs.Bests.{all_at, resolved_at, best_at, best_links, best_entries, lent_rows, DecidesOn, Queues}
-use Rattle.router_core.specs.Moments.{Moment, with_exits}
+use Rattle.router_core.specs.Bests.{resolved_at, all_at, best_at, best_links, best_entries, own_rows, lent_rows, lent_candidates, DecidesOn, Queues}
+use Rattle.router_core.specs.Moments.{Moment, own_of, best_of, candidates_of, with_exits}
 use Rattle.router_core.specs.Works.{Decides}
 
 -- ---- the branches that there may be
@@ -49,12 +53,30 @@ best_quiet own a a' h quiet = same_all own a a' h h (λ j. ap (λ (rows : Rows R
 is_low : (b : ℕ) → b < 65 → nat_lt b 65 ≡ true
 is_low b low = grind (arith, nat_tests)
 
-lent_here : (a : Chains) (h : Resolvers) (b : ℕ) → b < 65 → lent_rows a h b ≡ resolved_at a h b
-lent_here a h b low = ap (λ t. rows_by (resolver_at b h) (filt_by (cond t (chain_at b a) None))) (is_low b low)
+lent_here : (own : Rows Route) (a : Chains) (h : Resolvers) (b : ℕ) → b < 65 → lent_rows own a h b ≡ all_at own a h b
+lent_here own a h zero low = refl
+lent_here own a h (suc b) low = ap (λ t. rows_by (resolver_at (suc b) h) (filt_by (cond t (chain_at (suc b) a) None))) (is_low (suc b) low)
 
 -- what is lent has the same best rows
-pub lent_best : (m : Moment) (a : Chains) (h : Resolvers) → a ≡ m.chains → h ≡ m.hops → best_rows (lent_rows a h) ≡ best_at m.chains m.hops
-lent_best m a h chains hops = same_best (lent_rows a h) (resolved_at a h) (lent_here a h) ∙ ap (λ (x : Chains). best_at x h) chains ∙ ap (best_at m.chains) hops
+pub lent_is : (own : Rows Route) (a : Chains) (h : Resolvers) → best_rows (lent_rows own a h) ≡ best_at own a h
+lent_is own a h = same_best (lent_rows own a h) (all_at own a h) (lent_here own a h)
+
+-- ---- the parts of the router that are lent
+module _ (m : Moment) (d : Declaration) (t : Treed) (s : Passed Protos) (a : Chains) (h : Resolvers) (declared : d ≡ m.declared) (tree : t ≡ m.tree) (redist : s ≡ m.redist) (chains : a ≡ m.chains) (hops : h ≡ m.hops) where
+  abbrev lent_own : Rows Route
+  lent_own = own_rows d.speaker s (int_rows t)
+
+  pub own_is : lent_own ≡ own_of m
+  own_is = ap (λ (x : Declaration). own_rows x.speaker s (int_rows t)) declared ∙ ap (λ (x : Treed). own_rows m.declared.speaker s (int_rows x)) tree ∙ ap (λ (x : Passed Protos). own_rows m.declared.speaker x (int_rows m.tree)) redist
+
+  all_is : all_at lent_own a h ≡ all_at (own_of m) m.chains m.hops
+  all_is = ap (λ (x : Rows Route). all_at x a h) own_is ∙ ap (λ (x : Chains). all_at (own_of m) x h) chains ∙ ap (all_at (own_of m) m.chains) hops
+
+  pub lent_best : best_rows (lent_rows lent_own a h) ≡ best_of m
+  lent_best = lent_is lent_own a h ∙ ap best_rows all_is
+
+  pub lent_at : best_candidates (lent_candidates (int_candidates t) a) ≡ candidates_of m
+  lent_at = ap (λ (x : Treed). best_candidates (lent_candidates (int_candidates x) a)) tree ∙ ap (λ (x : Chains). best_candidates (lent_candidates (int_candidates m.tree) x)) chains
 
 -- where no branch has a row
 pub best_none : (rows : AllRows) → ((b : ℕ) → rows b ≡ no_rows) → best_rows rows ≡ no_rows
@@ -80,55 +102,49 @@ decides_none k sent m j is = (
     decided = record {
       best = None;
       lines = refl;
-      decides = λ before p comes. ap best_rows (comes_none k p before (resolved_at m.chains m.hops) (subst (λ (s : Option (Change Route)). ComesOn k p s before (resolved_at m.chains m.hops)) is comes));
+      decides = λ before p comes. ap best_rows (comes_none k p before (all_at (own_of m) m.chains m.hops) (subst (λ (s : Option (Change Route)). ComesOn k p s before (all_at (own_of m) m.chains m.hops)) is comes));
     };
     queued = refl;
     after = refl;
   },
 )
 
-pub decides_some : (k : ℕ) (sent : Option (Change Route)) (change : Change Route) (best : Option (Change Route)) (m m' : Moment) (a : Chains) (h : Resolvers) (before now : Journaled) → k ≤ 64 → sent ≡ Some change → a ≡ m.chains → h ≡ m.hops
-    → DecidesOver k (lent_rows a h) change best → now ≡ with_entries before (best_entries best) → Queues best m.exits m'.exits → m' ≡ with_exits m m'.exits → Adds (Decides k sent m m') before now
-decides_some k sent change best m m' a h before now small is chains hops decides pushed queued after = (
+-- over the rows that are lent, what leads leads for those of all branches
+leads_by : (k : ℕ) (own : Rows Route) (a : Chains) (h : Resolvers) (change : Change Route) (best : Option (Change Route)) → k ≤ 64 → DecidesOver k (lent_rows own a h) change best → (was : PeerRows) (p : Network) → ComesOn k p (Some change) was (all_at own a h)
+    → IsSent (best_rows was) (best_rows (all_at own a h)) p best
+leads_by k own a h change best small decides was p comes =
+    subst (λ (r : Rows Route). IsSent r (best_rows (all_at own a h)) p best) (same_best former was former_is)
+    (subst (λ (r : Rows Route). IsSent (best_rows former) r p best) (lent_is own a h)
+    (decides former p (λ b other. ap (λ t. cond t (was k) (lent_rows own a h b)) (other_by b k other))
+    (subst (λ (r : Rows Route). IsSent r (lent_rows own a h k) p (Some change)) (sym (ap (λ t. cond t (was k) (lent_rows own a h k)) (same_by k k refl)))
+    (subst (λ (r : Rows Route). IsSent (was k) r p (Some change)) (sym (lent_here own a h k (omega (arith, small)))) comes.here))))
+  where
+    -- the old rows of its branch, beside the rows that are lent
+    former : AllRows
+    former b = cond (nat_eq b k) (was k) (lent_rows own a h b)
+
+    former_is : (b : ℕ) → b < 65 → former b ≡ was b
+    former_is b few = by_bool (nat_eq b k) (λ t. cond t (was k) (lent_rows own a h b) ≡ was b) (λ e. ap was (sym (equal_by b k e))) (λ e. lent_here own a h b few ∙ comes.others b e)
+
+pub decides_some : (k : ℕ) (sent : Option (Change Route)) (change : Change Route) (best : Option (Change Route)) (m m' : Moment) (d : Declaration) (t : Treed) (s : Passed Protos) (a : Chains) (h : Resolvers) (before now : Journaled) → k ≤ 64 → sent ≡ Some change
+    → d ≡ m.declared → t ≡ m.tree → s ≡ m.redist → a ≡ m.chains → h ≡ m.hops → DecidesOver k (lent_rows (own_rows d.speaker s (int_rows t)) a h) change best → now ≡ with_entries before (best_entries best) → Queues best m.exits m'.exits
+    → m' ≡ with_exits m m'.exits → Adds (Decides k sent m m') before now
+decides_some k sent change best m m' d t s a h before now small is declared tree redist chains hops decides pushed queued after = (
   best_entries best,
   pushed,
   record {
     decided = record {
       best = best;
       lines = refl;
-      decides = subst (λ (x : Chains). LeadsBy x m.hops) chains (subst (λ (x : Resolvers). LeadsBy a x) hops (λ was p comes. leads was p (subst (λ (s : Option (Change Route)). ComesOn k p s was (resolved_at a h)) is comes)));
+      decides = subst (λ (o : Option (Change Route)). LeadsTo o (all_at (own_of m) m.chains m.hops)) (sym is) (subst (LeadsTo (Some change)) (all_is m d t s a h declared tree redist chains hops) (leads_by k (own_rows d.speaker s (int_rows t)) a h change best small decides));
     };
     queued = queued;
     after = after;
   },
 )
   where
-    LeadsBy : Chains → Resolvers → Type 0
-    LeadsBy x y = (was : PeerRows) (p : Network) → ComesOn k p sent was (resolved_at x y) → IsSent (best_rows was) (best_rows (resolved_at x y)) p best
-
-    low : k < 65
-    low = omega (arith, small)
-
-    -- the old rows of its branch, beside the rows that are lent
-    former : PeerRows → AllRows
-    former was b = cond (nat_eq b k) (was k) (lent_rows a h b)
-
-    former_is : (was : PeerRows) (p : Network) → ComesOn k p (Some change) was (resolved_at a h) → (b : ℕ) → b < 65 → former was b ≡ was b
-    former_is was p comes b few = by_bool (nat_eq b k) (λ t. cond t (was k) (lent_rows a h b) ≡ was b) (λ e. ap was (sym (equal_by b k e))) (λ e. lent_here a h b few ∙ comes.others b e)
-
-    stay : (was : PeerRows) → OthersStay k (former was) (lent_rows a h)
-    stay was b other = ap (λ t. cond t (was k) (lent_rows a h b)) (other_by b k other)
-
-    here : (was : PeerRows) → former was k ≡ was k
-    here was = ap (λ t. cond t (was k) (lent_rows a h k)) (same_by k k refl)
-
-    leads : (was : PeerRows) (p : Network) → ComesOn k p (Some change) was (resolved_at a h) → IsSent (best_rows was) (best_rows (resolved_at a h)) p best
-    leads was p comes =
-        subst (λ (r : Rows Route). IsSent r (best_rows (resolved_at a h)) p best) (same_best (former was) was (former_is was p comes))
-        (subst (λ (r : Rows Route). IsSent (best_rows (former was)) r p best) (same_best (lent_rows a h) (resolved_at a h) (lent_here a h))
-        (decides (former was) p (stay was)
-        (subst (λ (r : Rows Route). IsSent r (lent_rows a h k) p (Some change)) (sym (here was))
-        (subst (λ (r : Rows Route). IsSent (was k) r p (Some change)) (sym (lent_here a h k low)) comes.here))))
+    LeadsTo : Option (Change Route) → PeerRows → Type 0
+    LeadsTo o now = (was : PeerRows) (p : Network) → ComesOn k p o was now → IsSent (best_rows was) (best_rows now) p best
 
 -- ---- the region of `best`
 pub best_leads : (s : Option Speaker) (me : Speaker) (old new : Rows Route) (p : Network) (best : Option (Change Route)) → s ≡ Some me → IsSent old new p best → LeadsIn Decided (best_links s old) (best_entries best) (best_links s new)

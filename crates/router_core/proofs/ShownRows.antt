@@ -1,6 +1,7 @@
 -- The rows of a link, one after the other.
 use Rattle.std.proofs.Common.{◌≡◌, ℕ, false, ◌+◌, ◌^◌, ◌<◌, List, [], ◌∷◌, ◌++◌, map, length, Option, Some, None, refl, sym, ap, subst, ◌∙◌, append-nil, length-append, arith}
-use Rattle.std.specs.Prelude.{IsSome, option_map}
+use Rattle.std.proofs.lemmas.Result.{IfOk-weaker}
+use Rattle.std.specs.Prelude.{IsSome, option_map, Result, IfOk}
 use Rattle.bgp_attr.specs.declared.route.Route.{Route}
 use Rattle.nexthop_resolver.specs.declared.rows.Metric.{Metric}
 use Rattle.nexthop_resolver.specs.Resolving.{Resolving}
@@ -191,8 +192,9 @@ forward_is m v link view here live =
 pub forward_live : (m v : Moment) (link : Link) → v ≡ m → region_of link ≡ Forward → IsSome (router_links m link) → IsSome (external_links v.rib (int_rows v.tree) link)
 forward_live m v link view here live = subst IsSome (forward_is m v link view here live) live
 
-pub has_forward : (m v : Moment) (link : Link) (p : Network) (row : Option Value) → v ≡ m → region_of link ≡ Forward → IsSome (router_links m link) → HasRow (external_links v.rib (int_rows v.tree)) link p row → HasRow (router_links m) link p row
-has_forward m v link p row view here live has = (has.0, forward_is m v link view here live ∙ has.1, has.2)
+pub has_forward : {E : Type 0} (m v : Moment) (link : Link) (p : Network) (result : Result (Option Value) E) → v ≡ m → region_of link ≡ Forward → IsSome (router_links m link) → IfOk result (HasRow (external_links v.rib (int_rows v.tree)) link p) → IfOk result (HasRow (router_links m) link p)
+has_forward m v link p result view here live has =
+    IfOk-weaker result (HasRow (external_links v.rib (int_rows v.tree)) link p) (HasRow (router_links m) link p) (λ row is. (is.0, forward_is m v link view here live ∙ is.1, is.2)) has
 
 pub next_forward : (m v : Moment) (link : Link) (place result : Option Network) (candidates : Candidates) → v ≡ m → region_of link ≡ Forward → IsSome (router_links m link) → IsNextCandidate candidates place result
     → ((rows : Rows Value) → external_links v.rib (int_rows v.tree) link ≡ Some rows → CoversRows candidates rows) → IsNextPlace (router_links m link) place result

@@ -6,4 +6,6 @@ use Rattle.router_core.proofs.BestLemmas.{lent_best}
 use Rattle.router_core.proofs.network.Network.best.Goals as goal
 
 pub returns : goal.returns
-returns c = subst (λ (r : Rows Route). IfOk c.asked.result (λ row. row ≡ r c.args.p)) (lent_best c.args.self.now _ _ c.lent.ensures.chains c.lent.ensures.hops) c.asked.ensures
+returns c =
+    let lent = c.lent.ensures in
+    subst (λ (r : Rows Route). IfOk c.asked.result (λ row. row ≡ r c.args.p)) (lent_best c.args.self.now _ _ _ _ _ lent.declared lent.tree lent.redist lent.chains lent.hops) c.asked.ensures
