@@ -1,13 +1,17 @@
--- Rows whose attributes may be heard: those of the chains, and so those of `best`.
-use Rattle.std.proofs.Common.{◌≡◌, ℕ, Bool, List, Option, Some, None, refl, sym, subst, inl, inr}
+-- Rows whose attributes may be heard: those of the chains, this speaker's own, and so those of `best`.
+use Rattle.std.proofs.Common.{◌≡◌, ℕ, zero, suc, Bool, true, false, List, Option, Some, None, refl, sym, subst, inl, inr}
+use Rattle.std.proofs.lemmas.List.Elements.{All-nil}
 use Rattle.std.specs.Option.{ForSome}
 use Rattle.std.specs.Prelude.{filter, map, [], ◌∷◌}
 use Rattle.addr4.specs.Prefixes.{Network}
 use Rattle.bgp_attr.specs.Hosts.{is_host_prefix}
 use Rattle.bgp_attr.specs.declared.attrs.Attrs.{Attrs}
 use Rattle.bgp_attr.specs.declared.route.Route.{Route}
+use Rattle.bgp_attr.specs.declared.speaker.Speaker.{Speaker}
 use Rattle.bgp_wire.specs.Grammar.{Reads, without}
-use Rattle.bgp_wire.specs.Readable.{AreOctets}
+use Rattle.bgp_wire.specs.Attributes.{is_old_form}
+use Rattle.bgp_wire.specs.Readable.{AreOctets, IsReadableSegment}
+use Rattle.bgp_wire.specs.Routes.{is_unrecognized}
 use Rattle.bgp_wire.specs.declared.message.Message.{Message}
 use Rattle.bgp_wire.specs.declared.message.Message.TheVariants as messages
 use Rattle.bgp_wire.specs.declared.message.Update.{Update}
@@ -16,20 +20,20 @@ use Rattle.link_change.specs.declared.change.Change.{Change}
 use Rattle.loss_chain.specs.Rows.{AllRows}
 use Rattle.loss_chain.proofs.FeedLemmas.{feeds_bring_one_row, losses_bring_no_row, welds_bring_no_row, turns_bring_no_row, lowest_rows_are_rows}
 use Rattle.loss_chain.proofs.ListLemmas.{all_both}
-use Rattle.pass_core.specs.Passed.{function_at, function_of}
+use Rattle.pass_core.specs.Passed.{Passed, function_at, function_of}
 use Rattle.filter_bank.specs.Filtered.{filtered}
 use Rattle.filter_bank.proofs.LawLemmas.{filtered_keeps_attrs}
 use Rattle.nexthop_resolver.specs.declared.rows.Metric.{Metric}
 use Rattle.nexthop_resolver.specs.Kept.{route_hop, with_igp, with_metric}
 use Rattle.nexthop_resolver.specs.Resolving.{Resolving, Answers, in_force_by, fresh_by, walk_to, goes_on, made_by}
 use Rattle.journal_text.specs.declared.link.Task.{Task}
-use Rattle.journal_text.specs.declared.link.Task.TheVariants.{Del, Fin, Nh, ReadRib, Out, Rdel}
+use Rattle.journal_text.specs.declared.link.Task.TheVariants.{Del, Fin, Nh, ReadRib, Out, Rdel, Red, Ext}
 use Rattle.journal_text.specs.declared.entry.Entry.{Entry}
 use Rattle.journal_text.specs.declared.value.Value.{Value}
 use Rattle.in_chain.specs.Chains.{Chained, filt_rows}
 use Rattle.in_chain.specs.Incomings.{in_rows}
 use Rattle.in_chain.specs.Steps.{fed, lost, welded, swept, Turned}
-use Rattle.peer_out.specs.Changes.{MayBeHeard}
+use Rattle.peer_out.specs.Changes.{MayBeHeard, IsSender}
 use Rattle.peer_out.proofs.SentLemmas.{read_may_be_heard}
 use Rattle.out_chain.specs.Chains.{RowsMayBeHeard}
 use Rattle.decision.proofs.LawLemmas.{best_is_a_branchs}
@@ -37,9 +41,14 @@ use Rattle.hop_side.specs.Resolvers.{Resolvers, resolver_at, rows_by}
 use Rattle.peer_side.specs.Peers.{Chains, chain_at, put_chain, filt_by, filt_at}
 use Rattle.peer_side.proofs.PutLemmas.{put_each}
 use Rattle.live_state.specs.Messages.{changes_of, announced_with, withdrawn_from}
-use Rattle.router_core.specs.Bests.{best_at, resolved_at}
-use Rattle.router_core.specs.Moments.{plain}
-use Rattle.router_core.specs.Stands.{RowsWereHeard}
+use Rattle.redist.specs.declared.protos.Protos.{Protos}
+use Rattle.redist.specs.Local.{local_attrs}
+use Rattle.redist.proofs.LawLemmas.{only_own_routes}
+use Rattle.rib_route.specs.declared.rows.Interior.{Interior}
+use Rattle.rib_tree.specs.Trees.{int_rows}
+use Rattle.router_core.specs.Bests.{own_rows, all_at, best_at}
+use Rattle.router_core.specs.Moments.{Moment, plain, own_of, best_of}
+use Rattle.router_core.specs.Stands.{Stands, EachRow, OneSender, RowsWereHeard, MaySend}
 use Rattle.router_core.specs.Works.{AreHeard, IsHeardMessage}
 
 -- ---- the rows of a chain
@@ -68,6 +77,8 @@ turned_heard (Nh k) c less sent fall t heard = absurd t
 turned_heard ReadRib c less sent fall t heard = absurd t
 turned_heard (Out k) c less sent fall t heard = absurd t
 turned_heard (Rdel proto n) c less sent fall t heard = absurd t
+turned_heard Red c less sent fall t heard = absurd t
+turned_heard Ext c less sent fall t heard = absurd t
 
 -- and of all chains, where another stands for a peer
 pub put_heard : (k : ℕ) (c' : Chained) (a cs : Chains) → cs ≡ put_chain k c' a → IsHeardChain c' → RowsWereHeard a → RowsWereHeard cs
@@ -104,8 +115,35 @@ heard_res : (o : Option (Resolving Metric)) (upper : Rows Route) → RowsMayBeHe
 heard_res None upper above p row is = absurd (cc)
 heard_res (Some s) upper above p row is = goes_heard (function_of (in_force_by s.known) (walk_to (fresh_by s.known) s.walk) p) (upper p) row (above p) is
 
-pub heard_best : (a : Chains) (h : Resolvers) → RowsWereHeard a → RowsMayBeHeard plain (best_at a h)
-heard_best a h each p r is = let b = best_is_a_branchs (resolved_at a h) p r is in heard_res (resolver_at b.0 h) (filt_at a b.0) (heard_filt_at a b.0 each) p r b.2
+-- ---- this speaker's own
+local_heard : (me : Speaker) → IsSender plain me → MayBeHeard plain (local_attrs me.addr)
+local_heard me sender = record {
+  path = All-nil (IsReadableSegment false);
+  next_hop = sender.addr;
+  med = λ n is. absurd (cc);
+  local_pref = λ n is. absurd (cc);
+  aggregator = λ g is. absurd (cc);
+  order = tt;
+  types = All-nil (λ u. (is_unrecognized u.kind ≡ true) × (is_old_form plain u.kind ≡ false));
+}
+
+pub heard_own_rows : (speaker : Option Speaker) (s : Passed Protos) (int : Rows Interior) → MaySend speaker → RowsMayBeHeard plain (own_rows speaker s int)
+heard_own_rows None s int sender p r is = absurd (cc)
+heard_own_rows (Some me) s int sender p r is = subst (λ (x : Route). MayBeHeard plain x.attrs) (sym (only_own_routes me (function_at s p) p (int p) r is)) (local_heard me sender)
+
+pub heard_own : (m : Moment) → Stands m → RowsMayBeHeard plain (own_of m)
+heard_own m stands = heard_own_rows m.declared.speaker m.redist (int_rows m.tree) (stands.own OneSender)
+
+-- ---- the best of all
+heard_all : (own : Rows Route) (a : Chains) (h : Resolvers) → RowsMayBeHeard plain own → RowsWereHeard a → (k : ℕ) → RowsMayBeHeard plain (all_at own a h k)
+heard_all own a h mine each zero p r is = mine p r is
+heard_all own a h mine each (suc k) p r is = heard_res (resolver_at (suc k) h) (filt_at a (suc k)) (heard_filt_at a (suc k) each) p r is
+
+pub heard_best : (own : Rows Route) (a : Chains) (h : Resolvers) → RowsMayBeHeard plain own → RowsWereHeard a → RowsMayBeHeard plain (best_at own a h)
+heard_best own a h mine each p r is = let b = best_is_a_branchs (all_at own a h) p r is in heard_all own a h mine each b.0 p r b.2
+
+pub heard_of : (m : Moment) → Stands m → RowsMayBeHeard plain (best_of m)
+heard_of m stands = heard_best (own_of m) m.chains m.hops (heard_own m stands) (stands.own EachRow)
 
 -- ---- what an UPDATE announces
 announced_heard : (o : Option Attrs) → ForSome o (MayBeHeard plain) → (ns : List Network) → AreHeard (map (announced_with o) ns)

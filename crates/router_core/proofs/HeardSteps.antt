@@ -7,12 +7,12 @@ use Rattle.link_change.specs.declared.change.Change.{Change}
 use Rattle.event_text.specs.declared.declared.DeclaredPeer.{DeclaredPeer}
 use Rattle.event_text.specs.Declarations.{Declaration, peer_at}
 use Rattle.journal_text.specs.declared.link.Link.{Link}
-use Rattle.journal_text.specs.declared.link.Link.TheVariants.{Best}
+use Rattle.journal_text.specs.declared.link.Link.TheVariants.{Red, Best, Ext, Fib}
 use Rattle.journal_text.specs.declared.value.Value.{Value}
 use Rattle.journal_text.specs.declared.entry.Entry.{Entry}
 use Rattle.journal_text.specs.declared.line.Line.{Line}
 use Rattle.journal_text.specs.Texts.{entries_of}
-use Rattle.journal_text.specs.Values.{sent_entries}
+use Rattle.journal_text.specs.Values.{external_value, fib_value, valued_change, sent_entries}
 use Rattle.journal_text.specs.Walk.{Links}
 use Rattle.journal_laws.specs.Peers.{words_in, neighbours}
 use Rattle.link_region.specs.declared.regions.Region.TheVariants.{Inward, Resolved}
@@ -24,11 +24,22 @@ use Rattle.exit_laws.proofs.HearLemmas.{hearing_joins, nothing_is_heard, changes
 use Rattle.exit_laws.proofs.OtherLemmas.{others_are_unheard}
 use Rattle.live_state.specs.Heard.{Hears, Views}
 use Rattle.hop_side.specs.Steps.{LeadsRes}
-use Rattle.router_core.specs.Bests.{best_entries, Queues}
+use Rattle.link_change.specs.Rows.{Rows}
+use Rattle.rib_route.specs.declared.rows.Interior.{Interior}
+use Rattle.rib_route.specs.declared.rows.External.{External}
+use Rattle.rib_route.specs.declared.rows.FibRow.{FibRow}
+use Rattle.rib_split.specs.declared.split.BgpLink.{BgpLink}
+use Rattle.rib_split.specs.declared.split.Split.{Split}
+use Rattle.rib_split.specs.declared.split.Split.TheVariants.{Neither, One, Moved}
+use Rattle.rib_split.specs.Splitting.{other}
+use Rattle.rib_exit.specs.Exits.{journal_link}
+use Rattle.rib_exit.specs.Passing.{Caused, caused_entries, part_entries, fall_entries}
+use Rattle.rib_exit.specs.Steps.{fib_entries}
+use Rattle.router_core.specs.Bests.{own_entries, best_entries, Queues}
 use Rattle.router_core.specs.Moments.{Moment, Policies}
 use Rattle.router_core.specs.Printable.{IsHeard}
 use Rattle.router_core.specs.Stands.{Stands, PlainExits, SameSessions, ExitsAt}
-use Rattle.router_core.specs.Turns.{journal_lines}
+use Rattle.router_core.specs.Turns.{journal_lines, BelowInt}
 use Rattle.router_core.proofs.HopLemmas.{res_leads}
 use Rattle.router_core.proofs.QueueLemmas.{queue_chains}
 
@@ -62,7 +73,7 @@ exits_declared m stands = record {
   words = λ j c at. exit_words m.declared.speaker m.outgoing j (peer_at j m.declared.peers) c (subst (λ (o : Option OutChained). ExitsAt m.declared.speaker m.outgoing j (peer_at j m.declared.peers) o) at (stands.own SameSessions j));
 }
 
--- ---- of what the decision sends, and `fib` and `read.rib` get
+-- ---- of what a stage sends
 pub sent_unheard : {R : Type 0} (value : R → Value) (link : Link) (sent : Option (Change R)) → AreUnheard (journal_lines (sent_entries value link sent))
 sent_unheard value link None = tt
 sent_unheard value link (Some c) = changes_are_unheard link c.prefix (option_map value c.before) (option_map value c.after)
@@ -77,3 +88,34 @@ falls_unheard a b c d r r' entries resolved weld best falls goes welds =
 
 pub hops_unheard : (r r' : Links Value) (resolved : List (Entry Value)) (best : Option (Change Route)) → LeadsRes r resolved r' → AreUnheard (journal_lines (resolved ++ best_entries best))
 hops_unheard r r' resolved best goes = unheard_joins resolved (best_entries best) (others_are_unheard Resolved r r' resolved refl (res_leads r r' resolved goes)) (sent_unheard _ Best best)
+
+-- ---- of a change of this speaker's own routes, and what follows it
+pub own_unheard : (own best : Option (Change Route)) → AreUnheard (journal_lines (own_entries own ++ best_entries best))
+own_unheard own best = unheard_joins (own_entries own) (best_entries best) (sent_unheard _ Red own) (sent_unheard _ Best best)
+
+-- ---- of what goes on to `fib`: from the splitter, with all that each part causes,
+part_unheard : (link : BgpLink) (change : Change External) (caused : Caused) → AreUnheard (journal_lines (part_entries link change caused))
+part_unheard link change caused =
+    unheard_joins (valued_change external_value (journal_link link) change) (caused_entries caused) (sent_unheard external_value (journal_link link) (Some change))
+    (unheard_joins (sent_entries external_value Ext caused.ext) (sent_entries fib_value Fib caused.fib) (sent_unheard external_value Ext caused.ext) (sent_unheard fib_value Fib caused.fib))
+
+pub external_unheard : (split : Split) (first second : Caused) → AreUnheard (journal_lines (fall_entries split first second))
+external_unheard Neither first second = tt
+external_unheard (One link change) first second = part_unheard link change first
+external_unheard (Moved link add delete) first second = unheard_joins (part_entries link add first) (part_entries (other link) delete second) (part_unheard link add first) (part_unheard (other link) delete second)
+
+-- and from `int`
+pub fib_unheard : (fib : Option (Change FibRow)) → AreUnheard (journal_lines (fib_entries fib))
+fib_unheard fib = sent_unheard fib_value Fib fib
+
+-- ---- of what follows a change of `int`
+pub below_unheard : (sent : Option (Change Interior)) (int : Rows Interior) (m m' : Moment) (entries : List (Entry Value)) → BelowInt sent int m m' entries → AreUnheard (journal_lines entries)
+below_unheard None int m m' entries below = subst (λ (es : List (Entry Value)). AreUnheard (journal_lines es)) (sym below.1) tt
+below_unheard (Some change) int m m' entries below =
+    let f = below.0 in
+    let lines : entries ≡ (own_entries f.own.own ++ best_entries f.own.decided.best) ++ fib_entries f.fib =
+        f.lines
+        ∙ ap (λ (es : List (Entry Value)). es ++ f.fib_lines) (f.own.lines ∙ ap (λ (es : List (Entry Value)). own_entries f.own.own ++ es) f.own.decided.lines)
+        ∙ ap (λ (es : List (Entry Value)). (own_entries f.own.own ++ best_entries f.own.decided.best) ++ es) f.forwards.lines in
+    subst (λ (es : List (Entry Value)). AreUnheard (journal_lines es)) (sym lines)
+    (unheard_joins (own_entries f.own.own ++ best_entries f.own.decided.best) (fib_entries f.fib) (own_unheard f.own.own f.own.decided.best) (fib_unheard f.fib))
