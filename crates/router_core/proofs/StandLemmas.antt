@@ -20,7 +20,7 @@ use Rattle.router_core.specs.Lives.{live_state}
 use Rattle.rib_tree.specs.Trees.{int_rows}
 use Rattle.rib_route.specs.declared.rows.Interior.{Interior}
 use Rattle.register_interest.specs.Registers.{Registry}
-use Rattle.nexthop_resolver.specs.Registered.{KeepsOthers}
+use Rattle.nexthop_resolver.specs.Registered.{KeepsOthers as OthersKept}
 use Rattle.rib_exit.specs.Exits.{AgreesWith}
 use Rattle.rib_exit.proofs.LawLemmas.{strangers_agree}
 use Rattle.hop_side.specs.Resolvers.{Resolvers, resolver_at}
@@ -79,7 +79,7 @@ speaker_there m stands k c at = stands.own OneSpeaker k c at
 pub not_zero : (k : ℕ) → 1 ≤ k → k ≢ 0
 not_zero k low none = let least : 1 ≤ 0 = subst (λ (n : ℕ). 1 ≤ n) none low in absurd (omega (arith, least))
 
-pub external_agrees : (m : Moment) → Stands m → (k : ℕ) (c : Chained) (r : Registry Interior) → chain_at k m.chains ≡ Some c → KeepsOthers k m.registry r → AgreesWith m.rib r
+pub external_agrees : (m : Moment) → Stands m → (k : ℕ) (c : Chained) (r : Registry Interior) → chain_at k m.chains ≡ Some c → OthersKept k m.registry r → AgreesWith m.rib r
 external_agrees m stands k c r at keeps = strangers_agree m.rib k m.registry r (stands.own ExternalExit) (not_zero k (stands.own SmallNumbers k (ap is_some at)).0) keeps (stands.own ExternalAgrees)
 
 -- ---- all peers
