@@ -4,6 +4,7 @@ use Rattle.std.proofs.lemmas.List.{append-nil, take_more}
 use Rattle.addr4.specs.Prefixes.{Network}
 use Rattle.bgp_attr.specs.declared.attrs.Attrs.{Attrs}
 use Rattle.bgp_attr.specs.declared.route.Route.{Route}
+use Rattle.link_change.specs.Rows.{Rows}
 use Rattle.link_change.specs.declared.change.Change.{Change}
 use Rattle.journal_text.specs.declared.entry.Entry.{Entry}
 use Rattle.journal_text.specs.declared.value.Value.{Value}
@@ -27,10 +28,11 @@ use Rattle.link_change.specs.Changes.{IsSent}
 use Rattle.decision.specs.Branches.{best_rows}
 use Rattle.hop_side.specs.Resolvers.{PeerRows, res_at}
 use Rattle.peer_out.specs.Changes.{MayBeHeard}
-use Rattle.router_core.specs.Bests.{best_at, best_entries, resolved_at}
+use Rattle.router_core.specs.Bests.{all_at, best_at, best_entries}
+use Rattle.router_core.proofs.BestLemmas.{best_quiet}
 use Rattle.router_core.specs.Printable.{IsHeard}
 use Rattle.router_core.proofs.HeardSteps.{heard_quiet, queue_views, falls_unheard}
-use Rattle.router_core.specs.Moments.{Moment, plain, with_chains, with_hops, with_exits, router_links}
+use Rattle.router_core.specs.Moments.{Moment, plain, own_of, best_of, with_chains, with_hops, with_exits, router_links}
 use Rattle.router_core.proofs.HeardRows.{fed_heard, weld_heard, put_heard}
 use Rattle.router_core.proofs.QueueLemmas.{reader_live, exits_fall}
 use Rattle.live_state.specs.Lives.{LiveState, Routes, with_routes, routes_after, live_fed}
@@ -39,10 +41,10 @@ use Rattle.router_core.specs.Stands.{IsSilent, PeerStands, Stands, HopsCounted, 
 use Rattle.router_core.specs.Turns.{FeedsAll, journal_lines}
 use Rattle.router_core.specs.Works.{Pushes, AreHeard, IsUpAt, Keeps, HaveFed, SettlesPeer}
 use Rattle.peer_side.proofs.WeldLemmas.{fallen_at, weld_after, weld_keeps, adds_both}
-use Rattle.router_core.proofs.HopLemmas.{falls_lead, hops_fall}
+use Rattle.router_core.proofs.HopLemmas.{all_comes, falls_lead, hops_fall}
 use Rattle.live_state.proofs.AdmittedLemmas.{routes_twice}
 use Rattle.peer_side.proofs.MapLemmas.{one_of as one_peer}
-use Rattle.router_core.proofs.StandLemmas.{peer_of, resolver_there, speaker_there, same_peers, stands_with, live_routed, routes_there}
+use Rattle.router_core.proofs.StandLemmas.{peer_of, resolver_there, speaker_there, same_peers, not_zero, external_agrees, stands_with, live_routed, routes_there}
 use Rattle.router_core.proofs.KeepLemmas.{keeps_join, pushes_join}
 
 silent_up : (up : Bool) (c : Chained) → up ≡ true → IsSilent up c
@@ -73,10 +75,11 @@ fed_one k p row sent m fallen m' entries rest stands up heard f w =
         heard = subst (λ (es : List (Entry Value)). IsHeard m (journal_lines (entries ++ (w.resolved ++ (es ++ w.weld)))) after) (sym w.decided.lines)
             (heard_quiet m after (journal_lines (entries ++ (w.resolved ++ (best_entries w.decided.best ++ w.weld)))) (falls_unheard _ _ _ _ _ _ entries w.resolved w.weld w.decided.best f.fall.leads goes.leads w.welds.step.leads) (queue_views w.decided.best m.exits m'.exits w.queued));
         stands = stands_with m k c c' m'.chains m'.registry m'.hops m'.exits peer.0 stands f.feeds.at put w.welds.step.sound refl peer.1 here w.below.agreed.others.rows
+            (external_agrees m stands k c m'.registry f.feeds.at w.below.agreed.others)
             (hops_fall m k fallen m'.chains m'.registry m'.hops stands w.below.agreed goes.counted quiet (resolver_there m stands k c f.feeds.at) (same_peers m k c c' m'.chains f.feeds.at put))
-            (exits_fall m m'.chains m'.hops m'.exits after w.decided.best p stands
+            (exits_fall m after w.decided.best p stands
             (put_heard k c' m.chains m'.chains put (weld_heard (fed c p row) (fed_heard c p row heard (stands.own EachRow k c f.feeds.at))) (stands.own EachRow)) w.queued
-            (subst (λ (u : PeerRows). IsSent (best_at m.chains m.hops) (best_rows (res_at m'.hops u)) p w.decided.best) (sym quiet) decides) refl refl refl refl refl refl);
+            (subst (λ (rows : Rows Route). IsSent (best_of m) rows p w.decided.best) (sym (best_quiet (own_of m) fallen m'.chains m'.hops w.welds.quiet)) decides) refl refl refl (λ rows over. over));
       };
     }))
   where
@@ -101,8 +104,9 @@ fed_one k p row sent m fallen m' entries rest stands up heard f w =
     goes : GoesOn k p w.passed m.hops m'.hops w.resolved (filt_at m.chains) (filt_at fallen)
     goes = w.below.goes (filt_at m.chains) (filt_at fallen) p (stands.own HopsCounted) (record { here = f.changes.rows; others = f.changes.others })
 
-    decides : IsSent (best_at m.chains m.hops) (best_at fallen m'.hops) p w.decided.best
-    decides = w.decided.decides (resolved_at m.chains m.hops) p goes.comes
+    decides : IsSent (best_of m) (best_at (own_of m) fallen m'.hops) p w.decided.best
+    decides = w.decided.decides (all_at (own_of m) m.chains m.hops) p
+        (all_comes (own_of m) m.chains fallen m.hops m'.hops k p w.passed (not_zero k (stands.own SmallNumbers k (ap is_some f.feeds.at)).0) goes.comes)
 
     peer : (q : DeclaredPeer) × (peer_at k m.declared.peers ≡ Some q) × PeerStands q f.feeds.chain
     peer = peer_of m stands k f.feeds.chain f.feeds.at

@@ -1,8 +1,9 @@
 -- What follows a change on `filt.K`: what the resolvers' entries lead to, and what is claimed of them then.
-use Rattle.std.proofs.Common.{◌≡◌, ℕ, true, false, List, [], ◌++◌, Option, Some, None, is_some, IsSome, refl, sym, ap, subst, ◌∙◌}
+use Rattle.std.proofs.Common.{◌≡◌, ◌≢◌, ℕ, zero, suc, nat_eq, true, false, List, [], ◌++◌, Option, Some, None, is_some, IsSome, refl, sym, ap, subst, ◌∙◌}
 use Rattle.std.specs.FinMap as tables
 use Rattle.addr4.specs.Prefixes.{Network}
 use Rattle.bgp_attr.specs.declared.route.Route.{Route}
+use Rattle.link_change.specs.Rows.{Rows}
 use Rattle.link_change.specs.declared.change.Change.{Change}
 use Rattle.rib_route.specs.declared.rows.Interior.{Interior}
 use Rattle.register_interest.specs.declared.interests.Interest.{Interest}
@@ -28,17 +29,26 @@ use Rattle.hop_side.specs.Steps.{ComesOn, LeadsRes, KeepsAgreed, HasNoInterest, 
 use Rattle.hop_side.proofs.LawLemmas.{leads_anywhere}
 use Rattle.peer_side.specs.Peers.{Chains, chain_at, peer_links, filt_at}
 use Rattle.exit_side.specs.Exits.{Exited}
-use Rattle.router_core.specs.Moments.{Moment, with_chains, with_hops, with_exits, parts, router_links}
+use Rattle.router_core.specs.Moments.{Moment, own_of, best_of, with_chains, with_hops, with_exits, parts, router_links}
 use Rattle.router_core.specs.Stands.{Stands, EachResolver, SameResolvers, AnswersAgree, HopsCounted, NoStrangers}
 use Rattle.peer_side.specs.Steps.{WeldsInward}
 use Rattle.router_core.specs.Turns.{ResolvesOn, journal_lines}
 use Rattle.router_core.specs.Works.{Decides, SettlesPeer}
-use Rattle.router_core.specs.Bests.{best_at, best_entries, best_links, resolved_at, Queues}
-use Rattle.router_core.proofs.BestLemmas.{best_leads, comes_none}
+use Rattle.router_core.specs.Bests.{all_at, best_at, best_entries, best_links, resolved_at, Queues}
+use Rattle.router_core.proofs.BestLemmas.{best_leads, best_quiet, comes_none}
 use Rattle.router_core.proofs.QueueLemmas.{queue_external, queue_links}
 use Rattle.decision.specs.Branches.{best_rows}
 use Rattle.bgp_attr.specs.declared.speaker.Speaker.{Speaker}
 use Rattle.link_change.specs.Changes.{IsSent}
+
+-- A change on `res.K` of a peer comes among all branches, since this speaker's own rows stay; no peer's number is 0.
+pub all_comes : (own : Rows Route) (a a' : Chains) (h h' : Resolvers) (k : ℕ) (p : Network) (sent : Option (Change Route)) → k ≢ 0 → ComesOn k p sent (resolved_at a h) (resolved_at a' h') → ComesOn k p sent (all_at own a h) (all_at own a' h')
+all_comes own a a' h h' zero p sent peer comes = absurd (peer refl)
+all_comes own a a' h h' (suc k) p sent peer comes = record { here = comes.here; others = others }
+  where
+    others : (j : ℕ) → nat_eq j (suc k) ≡ false → all_at own a' h' j ≡ all_at own a h j
+    others zero e = refl
+    others (suc j) e = comes.others (suc j) e
 
 -- the reader of the forwarding side, if there is one, is one of the queue's
 abbrev pub HasReader : Moment → Type 0
@@ -58,23 +68,23 @@ abbrev gone_on : Moment → Resolvers → Sides
 gone_on m h = with_side (parts m) Resolved (hop_links h (filt_at m.chains))
 
 pub leads_resolved : (m : Moment) (me : Speaker) (r : Registry Interior) (h : Resolvers) (e : Exited) (p : Network) (entries : List (Entry Value)) (best : Option (Change Route)) → m.declared.speaker ≡ Some me → HasReader m
-    → LeadsRes (hop_links m.hops (filt_at m.chains)) entries (hop_links h (filt_at m.chains)) → IsSent (best_at m.chains m.hops) (best_at m.chains h) p best → Queues best m.exits e
+    → LeadsRes (hop_links m.hops (filt_at m.chains)) entries (hop_links h (filt_at m.chains)) → IsSent (best_of m) (best_at (own_of m) m.chains h) p best → Queues best m.exits e
     → Leads (router_links m) (entries_of (journal_lines (entries ++ best_entries best))) (router_links (with_exits (with_hops m r h) e))
 leads_resolved m me r h e p entries best since live leads sent queued =
     subst (λ (es : List (Entry Value)). Leads (router_links m) es (router_links (with_exits (with_hops m r h) e))) (sym (entries_of_entries (entries ++ best_entries best)))
     (subst (λ (s : Sides). Leads (router_links m) (entries ++ best_entries best) (joined s)) set
-    (leads_append (router_links m) (joined (gone_on m h)) (joined (with_side (gone_on m h) Decided (best_links m.declared.speaker (best_at m.chains h)))) entries (best_entries best)
+    (leads_append (router_links m) (joined (gone_on m h)) (joined (with_side (gone_on m h) Decided (best_links m.declared.speaker (best_at (own_of m) m.chains h)))) entries (best_entries best)
     (res_leads (hop_links m.hops (filt_at m.chains)) (hop_links h (filt_at m.chains)) entries leads (parts m) refl)
-    (best_leads m.declared.speaker me (best_at m.chains m.hops) (best_at m.chains h) p best since sent (gone_on m h) refl)))
+    (best_leads m.declared.speaker me (best_of m) (best_at (own_of m) m.chains h) p best since sent (gone_on m h) refl)))
   where
-    each : (s : Region) → with_side (gone_on m h) Decided (best_links m.declared.speaker (best_at m.chains h)) s ≡ parts (with_exits (with_hops m r h) e) s
+    each : (s : Region) → with_side (gone_on m h) Decided (best_links m.declared.speaker (best_at (own_of m) m.chains h)) s ≡ parts (with_exits (with_hops m r h) e) s
     each Resolved = refl
     each Decided = refl
-    each External = sym (queue_external m.exits e best m.reader (best_at m.chains m.hops) (best_at m.chains h) p live queued sent)
-    each Outward = sym (queue_links m.exits e best (best_at m.chains m.hops) (best_at m.chains h) p queued sent)
+    each External = sym (queue_external m.exits e best m.reader (best_of m) (best_at (own_of m) m.chains h) p live queued sent)
+    each Outward = sym (queue_links m.exits e best (best_of m) (best_at (own_of m) m.chains h) p queued sent)
     each other = refl
 
-    set : with_side (gone_on m h) Decided (best_links m.declared.speaker (best_at m.chains h)) ≡ parts (with_exits (with_hops m r h) e)
+    set : with_side (gone_on m h) Decided (best_links m.declared.speaker (best_at (own_of m) m.chains h)) ≡ parts (with_exits (with_hops m r h) e)
     set i s = each s i
 
 -- entries behind others
@@ -91,13 +101,13 @@ abbrev gone_side : Moment → Chains → Resolvers → Sides
 gone_side m fallen h = with_side (fallen_side m fallen) Resolved (hop_links h (filt_at fallen))
 
 abbrev chosen_side : Moment → Chains → Resolvers → Sides
-chosen_side m fallen h = with_side (gone_side m fallen h) Decided (best_links m.declared.speaker (best_at fallen h))
+chosen_side m fallen h = with_side (gone_side m fallen h) Decided (best_links m.declared.speaker (best_at (own_of m) fallen h))
 
 abbrev welded_side : Moment → Chains → Resolvers → Chains → Sides
 welded_side m fallen h cs = with_side (chosen_side m fallen h) Inward (peer_links cs)
 
 pub falls_lead : (m : Moment) (me : Speaker) (fallen cs : Chains) (r : Registry Interior) (h : Resolvers) (e : Exited) (p : Network) (entries resolved weld : List (Entry Value)) (best : Option (Change Route)) → m.declared.speaker ≡ Some me → HasReader m
-    → LeadsIn Inward (peer_links m.chains) entries (peer_links fallen) → LeadsRes (hop_links m.hops (filt_at m.chains)) resolved (hop_links h (filt_at fallen)) → IsSent (best_at m.chains m.hops) (best_at fallen h) p best
+    → LeadsIn Inward (peer_links m.chains) entries (peer_links fallen) → LeadsRes (hop_links m.hops (filt_at m.chains)) resolved (hop_links h (filt_at fallen)) → IsSent (best_of m) (best_at (own_of m) fallen h) p best
     → LeadsIn Inward (peer_links fallen) weld (peer_links cs) → filt_at cs ≡ filt_at fallen → Queues best m.exits e
     → Leads (router_links m) (entries_of (journal_lines (entries ++ (resolved ++ (best_entries best ++ weld))))) (router_links (with_exits (with_hops (with_chains m cs) r h) e))
 falls_lead m me fallen cs r h e p entries resolved weld best since live falls goes sent welds same queued =
@@ -107,17 +117,20 @@ falls_lead m me fallen cs r h e p entries resolved weld best since live falls go
     (leads_append (joined (fallen_side m fallen)) (joined (gone_side m fallen h)) (joined (welded_side m fallen h cs)) resolved (best_entries best ++ weld)
     (res_leads (hop_links m.hops (filt_at m.chains)) (hop_links h (filt_at fallen)) resolved goes (fallen_side m fallen) refl)
     (leads_append (joined (gone_side m fallen h)) (joined (chosen_side m fallen h)) (joined (welded_side m fallen h cs)) (best_entries best) weld
-    (best_leads m.declared.speaker me (best_at m.chains m.hops) (best_at fallen h) p best since sent (gone_side m fallen h) refl) (welds (chosen_side m fallen h) refl)))))
+    (best_leads m.declared.speaker me (best_of m) (best_at (own_of m) fallen h) p best since sent (gone_side m fallen h) refl) (welds (chosen_side m fallen h) refl)))))
   where
-    after : IsSent (best_at m.chains m.hops) (best_at cs h) p best
-    after = subst (λ (u : PeerRows). IsSent (best_at m.chains m.hops) (best_rows (res_at h u)) p best) (sym same) sent
+    kept : best_at (own_of m) cs h ≡ best_at (own_of m) fallen h
+    kept = best_quiet (own_of m) fallen cs h (λ j. ap (λ (u : PeerRows). u j) same)
+
+    after : IsSent (best_of m) (best_at (own_of m) cs h) p best
+    after = subst (λ (rows : Rows Route). IsSent (best_of m) rows p best) (sym kept) sent
 
     each : (s : Region) → welded_side m fallen h cs s ≡ parts (with_exits (with_hops (with_chains m cs) r h) e) s
     each Inward = refl
     each Resolved = ap (hop_links h) (sym same)
-    each Decided = ap (λ (u : PeerRows). best_links m.declared.speaker (best_rows (res_at h u))) (sym same)
-    each External = sym (queue_external m.exits e best m.reader (best_at m.chains m.hops) (best_at cs h) p live queued after)
-    each Outward = sym (queue_links m.exits e best (best_at m.chains m.hops) (best_at cs h) p queued after)
+    each Decided = ap (best_links m.declared.speaker) (sym kept)
+    each External = sym (queue_external m.exits e best m.reader (best_of m) (best_at (own_of m) cs h) p live queued after)
+    each Outward = sym (queue_links m.exits e best (best_of m) (best_at (own_of m) cs h) p queued after)
     each other = refl
 
     set : welded_side m fallen h cs ≡ parts (with_exits (with_hops (with_chains m cs) r h) e)
@@ -129,7 +142,7 @@ pub record HopsStand (a : Chains) (r : Registry Interior) (h : Resolvers) : Type
   pub same : (k : ℕ) → is_some (resolver_at k h) ≡ is_some (chain_at k a)
   pub agree : AllAgree h r
   pub counted : AllCounted (filt_at a) h
-  pub strangers : (k : ℕ) → resolver_at k h ≡ None → HasNoInterest k r
+  pub strangers : (k : ℕ) → k ≢ 0 → resolver_at k h ≡ None → HasNoInterest k r
 
 pub hops_of : (m : Moment) → Stands m → HopsStand m.chains m.registry m.hops
 hops_of m stands = record {
@@ -155,11 +168,11 @@ no_resolver None p same none = refl
 no_resolver (Some s) p same none = absurd (let clash : true ≡ false = sym same ∙ ap is_some none in cc)
 
 -- who is no peer has no interest, where another asked
-strangers_stay : (k : ℕ) (r r' : Registry Interior) (h h' : Resolvers) → KeepsOthers k r r' → HaveSamePeers h h' → IsSome (resolver_at k h) → ((j : ℕ) → resolver_at j h ≡ None → HasNoInterest j r)
-    → (j : ℕ) → resolver_at j h' ≡ None → HasNoInterest j r'
-strangers_stay k r r' h h' keeps peers there none j absent s =
+strangers_stay : (k : ℕ) (r r' : Registry Interior) (h h' : Resolvers) → KeepsOthers k r r' → HaveSamePeers h h' → IsSome (resolver_at k h) → ((j : ℕ) → j ≢ 0 → resolver_at j h ≡ None → HasNoInterest j r)
+    → (j : ℕ) → j ≢ 0 → resolver_at j h' ≡ None → HasNoInterest j r'
+strangers_stay k r r' h h' keeps peers there none j own absent s =
     ap is_some (keeps.interests (record { subnet = s; client = j }) (λ same. let gone : is_some (resolver_at k h) ≡ false = ap (λ (n : ℕ). is_some (resolver_at n h)) (sym same) ∙ ap is_some was in let is = there in absurd (let clash : true ≡ false = sym is ∙ gone in cc)))
-    ∙ none j was s
+    ∙ none j own was s
   where
     was : resolver_at j h ≡ None
     was = no_resolver (resolver_at j h) (resolver_at j h') (peers j) absent
@@ -182,7 +195,7 @@ hops_reached m reached r h stands given answers below = record {
   same = λ k. below.stays.peers k ∙ stands.own SameResolvers k;
   agree = below.agree m.registry r (stands.own AnswersAgree) given answers;
   counted = below.stays.counted (filt_at m.chains) (stands.own HopsCounted);
-  strangers = λ k none s. kept (record { subnet = s; client = k }) (tables.get r.interests (record { subnet = s; client = k })) refl (stands.own NoStrangers k (no_resolver (resolver_at k m.hops) (resolver_at k h) (below.stays.peers k) none) s);
+  strangers = λ k own none s. kept (record { subnet = s; client = k }) (tables.get r.interests (record { subnet = s; client = k })) refl (stands.own NoStrangers k own (no_resolver (resolver_at k m.hops) (resolver_at k h) (below.stays.peers k) none) s);
 }
   where
     kept : (i : Interest) (o : Option (Option Network)) → tables.get r.interests i ≡ o → is_some (tables.get m.registry.interests i) ≡ false → is_some o ≡ false
@@ -242,7 +255,7 @@ settled_peer k sent passed m m1 m2 v cs before j l now view res after best welds
         passed = passed;
         below = res.2;
         best = best.0;
-        decided = record { best = best.2.decided.best; lines = best.2.decided.lines; decides = subst (λ (a : Chains). LeadsBy a) same best.2.decided.decides };
+        decided = record { best = best.2.decided.best; lines = best.2.decided.lines; decides = subst LeadsBy after best.2.decided.decides };
         weld = w.0;
         welds = w.2;
         queued = subst (λ (e : Exited). Queues best.2.decided.best e m2.exits) (ap (λ (x : Moment). x.exits) after) best.2.queued;
@@ -254,8 +267,8 @@ settled_peer k sent passed m m1 m2 v cs before j l now view res after best welds
     same : m1.chains ≡ m.chains
     same = ap (λ (x : Moment). x.chains) after
 
-    LeadsBy : Chains → Type 0
-    LeadsBy a = (was : PeerRows) (p : Network) → ComesOn k p passed was (resolved_at a m1.hops) → IsSent (best_rows was) (best_rows (resolved_at a m1.hops)) p best.2.decided.best
+    LeadsBy : Moment → Type 0
+    LeadsBy x = (was : PeerRows) (p : Network) → ComesOn k p passed was (all_at (own_of x) x.chains m1.hops) → IsSent (best_rows was) (best_at (own_of x) x.chains m1.hops) p best.2.decided.best
 
     w : Adds (WeldsInward k m.chains cs) l now
     w = subst (λ (a : Chains). Adds (WeldsInward k a cs) l now) (ap (λ (x : Moment). x.chains) view ∙ ap (λ (x : Moment). x.chains) best.2.after ∙ same) welds

@@ -29,19 +29,20 @@ use Rattle.decision.specs.Branches.{best_rows}
 use Rattle.exit_side.specs.Exits.{Exited, IsExits}
 use Rattle.hop_side.specs.Steps.{ComesOn}
 use Rattle.hop_side.specs.Resolvers.{PeerRows, left_in}
-use Rattle.router_core.specs.Bests.{best_at, best_entries, resolved_at, DecidesOn, Queues}
+use Rattle.router_core.specs.Bests.{all_at, best_at, best_entries, DecidesOn, Queues}
 use Rattle.router_core.specs.Printable.{IsHeard}
 use Rattle.router_core.proofs.HeardSteps.{heard_quiet, queue_views, hops_unheard}
-use Rattle.router_core.specs.Moments.{Moment, with_hops, with_exits, router_links}
+use Rattle.router_core.specs.Moments.{Moment, own_of, best_of, with_hops, with_exits, router_links}
 use Rattle.router_core.specs.Phases.{beyond_by, beyonds}
 use Rattle.router_core.proofs.BestLemmas.{best_of_none}
 use Rattle.router_core.proofs.QueueLemmas.{ExitsStand, reader_live, exits_fall}
 use Rattle.router_core.proofs.SpendLemmas.{Spent, hop_spends}
-use Rattle.router_core.specs.Stands.{Stands, Claim, Claims, EachResolver, SameResolvers, AnswersAgree, HopsCounted, NoStrangers, SmallNumbers, EachRow, EachExit, QueueLeads, ExitsRead, PlainExits, OneSender, SameSessions, OneReader, Tie, Ties, Registered, here}
+use Rattle.router_core.specs.Stands.{Stands, Claim, Claims, EachResolver, SameResolvers, AnswersAgree, HopsCounted, NoStrangers, SmallNumbers, EachRow, EachExit, QueueLeads, ExitsRead, PlainExits, OneSender, SameSessions, OneReader, ExternalAgrees, ExternalStands, Tie, Ties, Registered, here}
 use Rattle.router_core.specs.Turns.{journal_lines, sent_of}
 use Rattle.router_core.specs.Works.{IsUnit, Comes, Decides}
-use Rattle.router_core.proofs.HopLemmas.{HopsStand, hops_fall, leads_resolved}
-use Rattle.router_core.proofs.StandLemmas.{resolver_there, speaker_there}
+use Rattle.rib_exit.specs.Exits.{AgreesWith}
+use Rattle.router_core.proofs.HopLemmas.{HopsStand, all_comes, hops_fall, leads_resolved}
+use Rattle.router_core.proofs.StandLemmas.{resolver_there, speaker_there, not_zero, external_agrees}
 
 -- what the calls ask for
 pub hops_sound : (m v : Moment) → v ≡ m → Stands m → IsHops v.hops
@@ -54,8 +55,8 @@ pub exits_sound : (m v : Moment) → v ≡ m → Stands m → IsExits v.exits
 exits_sound m v view stands = subst (λ (n : Moment). IsExits n.exits) (sym view) (stands.own EachExit)
 
 -- what stands then
-stands_resolved : (m : Moment) (r : Registry Interior) (h : Resolvers) (e : Exited) → Stands m → r.rows ≡ m.registry.rows → HopsStand m.chains r h → ExitsStand (with_exits (with_hops m r h) e) → Stands (with_exits (with_hops m r h) e)
-stands_resolved m r h e stands rows hops exits = record { own = own; at = at }
+stands_resolved : (m : Moment) (r : Registry Interior) (h : Resolvers) (e : Exited) → Stands m → r.rows ≡ m.registry.rows → AgreesWith m.rib r → HopsStand m.chains r h → ExitsStand (with_exits (with_hops m r h) e) → Stands (with_exits (with_hops m r h) e)
+stands_resolved m r h e stands rows agrees hops exits = record { own = own; at = at }
   where
     own : (claim : Claim) → Claims (with_exits (with_hops m r h) e) claim
     own EachResolver = hops.sound
@@ -71,6 +72,8 @@ stands_resolved m r h e stands rows hops exits = record { own = own; at = at }
     own OneSender = exits.sender
     own SameSessions = exits.sessions
     own OneReader = exits.one
+    own ExternalAgrees = agrees
+    own ExternalStands = exits.external
     own other = stands.own other
 
     at : (p : Network) (tie : Tie) → Ties (here (with_exits (with_hops m r h) e) p) tie
@@ -88,8 +91,8 @@ hop_done k sent m m1 m' c r h entries best stands at t between d =
           live = refl;
           heard = subst (λ (es : List (Entry Value)). IsHeard m (journal_lines (entries ++ es)) (with_exits (with_hops m r h) m'.exits)) (sym d.decided.lines)
               (heard_quiet m (with_exits (with_hops m r h) m'.exits) (journal_lines (entries ++ best_entries d.decided.best)) (hops_unheard _ _ entries d.decided.best goes.1.leads) (queue_views d.decided.best m.exits m'.exits queued));
-          stands = stands_resolved m r h m'.exits stands t.agreed.others.rows (hops_fall m k m.chains m.chains r h stands t.agreed goes.1.counted refl (resolver_there m stands k c at) (λ j. refl))
-              (exits_fall m m.chains h m'.exits (with_exits (with_hops m r h) m'.exits) d.decided.best goes.0 stands (stands.own EachRow) queued chosen refl refl refl refl refl refl);
+          stands = stands_resolved m r h m'.exits stands t.agreed.others.rows (external_agrees m stands k c r at t.agreed.others) (hops_fall m k m.chains m.chains r h stands t.agreed goes.1.counted refl (resolver_there m stands k c at) (λ j. refl))
+              (exits_fall m (with_exits (with_hops m r h) m'.exits) d.decided.best goes.0 stands (stands.own EachRow) queued chosen refl refl refl (λ rows over. over));
         };
         falls = spent.0;
         left = spent.1;
@@ -100,25 +103,25 @@ hop_done k sent m m1 m' c r h entries best stands at t between d =
     goes : (p : Network) × GoesOn k p sent m.hops h entries (filt_at m.chains) (filt_at m.chains)
     goes = t.goes (filt_at m.chains) (ap filt_by at) (stands.own HopsCounted)
 
-    decided : DecidesOn k sent (resolved_at m.chains h) best
+    decided : DecidesOn k sent (all_at (own_of m) m.chains h) best
     decided = record {
       best = d.decided.best;
       lines = d.decided.lines;
-      decides = subst (λ (n : Moment). (was : PeerRows) (p : Network) → ComesOn k p sent was (resolved_at n.chains n.hops) → IsSent (best_rows was) (best_rows (resolved_at n.chains n.hops)) p d.decided.best) between d.decided.decides;
+      decides = subst (λ (n : Moment). (was : PeerRows) (p : Network) → ComesOn k p sent was (all_at (own_of n) n.chains n.hops) → IsSent (best_rows was) (best_of n) p d.decided.best) between d.decided.decides;
     }
 
     queued : Queues d.decided.best m.exits m'.exits
     queued = subst (λ (n : Moment). Queues d.decided.best n.exits m'.exits) between d.queued
 
-    chosen : IsSent (best_at m.chains m.hops) (best_at m.chains h) goes.0 d.decided.best
-    chosen = decided.decides (resolved_at m.chains m.hops) goes.0 goes.1.comes
+    chosen : IsSent (best_of m) (best_at (own_of m) m.chains h) goes.0 d.decided.best
+    chosen = decided.decides (all_at (own_of m) m.chains m.hops) goes.0 (all_comes (own_of m) m.chains m.chains m.hops h k goes.0 sent (not_zero k (stands.own SmallNumbers k (ap is_some at)).0) goes.1.comes)
 
     fewer : left_in (beyonds m.chains) h + 1 ≤ left_in (beyonds m.chains) m.hops
     fewer = t.fewer (beyonds m.chains) (subst (λ (o : Option Chained). CountsBeyond (filt_candidates c) (beyond_by o)) (sym at) (candidates_are_counted c).0)
 
     spent : Spent phases.Nh m (with_exits (with_hops m r h) m'.exits)
     spent = hop_spends m k (filt_candidates c) (filt_rows c) r h m'.exits t.turn.resolver t.turn.taken sent d.decided.best t.turn.at t.turn.turned t.turn.after
-        (λ none. best_of_none k sent (resolved_at m.chains h) best decided none) queued fewer
+        (λ none. best_of_none k sent (all_at (own_of m) m.chains h) best decided none) queued fewer
 
 -- by what it came to
 hop_adds : (k : ℕ) (m : Moment) (c : Chained) (r : Registry Interior) (h : Resolvers) (before j : Journaled) (turn : Turn Route) → (turn ≡ turns.Nothing → ⊥) → ComesBelow k (filt_candidates c) (filt_rows c) m.registry r m.hops h before j turn

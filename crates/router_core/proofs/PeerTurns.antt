@@ -1,11 +1,12 @@
 -- One turn of a task of a peer.
 use Rattle.std.proofs.Common.{◌≡◌, ℕ, ◌≤◌, Bool, true, false, List, ◌++◌, Option, Some, None, refl, sym, ap, subst, ◌∙◌, arith}
 use Rattle.bgp_attr.specs.declared.route.Route.{Route}
+use Rattle.link_change.specs.Rows.{Rows}
 use Rattle.link_change.specs.declared.change.Change.{Change}
 use Rattle.link_change.specs.declared.turn.Turn.{Turn}
 use Rattle.link_change.specs.declared.turn.Turn.TheVariants as turns
 use Rattle.journal_text.specs.declared.link.Task.{Task}
-use Rattle.journal_text.specs.declared.link.Task.TheVariants.{Del, Fin, Nh, ReadRib, Out, Rdel}
+use Rattle.journal_text.specs.declared.link.Task.TheVariants.{Del, Fin, Nh, ReadRib, Out, Rdel, Red, Ext}
 use Rattle.journal_text.specs.declared.entry.Entry.{Entry}
 use Rattle.journal_text.specs.declared.value.Value.{Value}
 use Rattle.journal_text.specs.declared.line.Line.{Line}
@@ -30,21 +31,21 @@ use Rattle.decision.specs.Branches.{best_rows}
 use Rattle.exit_side.specs.Exits.{OutChains}
 use Rattle.hop_side.specs.Resolvers.{Resolvers, PeerRows, res_at}
 use Rattle.peer_side.proofs.PutLemmas.{put_size}
-use Rattle.router_core.specs.Bests.{best_at, best_entries, resolved_at}
+use Rattle.router_core.specs.Bests.{all_at, best_at, best_entries}
 use Rattle.router_core.specs.Printable.{IsHeard}
 use Rattle.router_core.proofs.HeardSteps.{heard_quiet, queue_views, falls_unheard}
-use Rattle.router_core.specs.Moments.{Moment, with_chains, with_hops, with_exits, router_links}
+use Rattle.router_core.specs.Moments.{Moment, own_of, best_of, with_chains, with_hops, with_exits, router_links}
 use Rattle.router_core.specs.Stands.{IsSilent, PeerStands, Stands, HopsCounted, SmallNumbers, EachRow, open_session}
 use Rattle.router_core.specs.Turns.{Resolves, IsOfPeers, IsPeerTurn, IsTurn, sent_of, has_work, journal_lines}
 use Rattle.router_core.specs.Works.{IsUnit, Comes, SettlesPeer}
 use Rattle.peer_side.proofs.WeldLemmas.{fallen_at, weld_after, weld_keeps, nears_weld, adds_both}
-use Rattle.router_core.proofs.HopLemmas.{falls_lead, hops_fall}
-use Rattle.router_core.proofs.BestLemmas.{best_of_none}
+use Rattle.router_core.proofs.HopLemmas.{all_comes, falls_lead, hops_fall}
+use Rattle.router_core.proofs.BestLemmas.{best_of_none, best_quiet}
 use Rattle.router_core.proofs.HeardRows.{weld_heard, turned_heard, put_heard}
 use Rattle.router_core.proofs.QueueLemmas.{reader_live, queue_chains, exits_fall}
 use Rattle.router_core.proofs.MostLemmas.{rows_less}
 use Rattle.router_core.proofs.SpendLemmas.{Sends, turn_sends, peer_spends}
-use Rattle.router_core.proofs.StandLemmas.{peer_of as peer_at_chain, resolver_there, speaker_there, same_peers, stands_with, live_same}
+use Rattle.router_core.proofs.StandLemmas.{peer_of as peer_at_chain, resolver_there, speaker_there, same_peers, not_zero, external_agrees, stands_with, live_same}
 
 silent_as : (up : Bool) (c c' : Chained) → c'.incoming.tables.live ≡ c.incoming.tables.live → IsSilent up c → IsSilent up c'
 silent_as true c c' same silent = tt
@@ -58,6 +59,8 @@ turn_of_peer (Nh n) m m' said nearer turn = absurd nearer
 turn_of_peer ReadRib m m' said nearer turn = absurd nearer
 turn_of_peer (Out n) m m' said nearer turn = absurd nearer
 turn_of_peer (Rdel proto n) m m' said nearer turn = absurd nearer
+turn_of_peer Red m m' said nearer turn = absurd nearer
+turn_of_peer Ext m m' said nearer turn = absurd nearer
 
 -- nothing goes on where nothing came
 passed_none : (k : ℕ) (sent passed : Option (Change Route)) (r r' : Registry Interior) (h h' : Resolvers) (entries : List (Entry Value)) → sent ≡ None → Resolves k sent passed r r' h h' entries → passed ≡ None
@@ -72,6 +75,8 @@ lost_less (Nh k) a a' near = absurd near
 lost_less ReadRib a a' near = absurd near
 lost_less (Out k) a a' near = absurd near
 lost_less (Rdel proto n) a a' near = absurd near
+lost_less Red a a' near = absurd near
+lost_less Ext a a' near = absurd near
 
 -- a turn in a peer's chain, and what follows it, are one of the router
 unit_done : (task : Task) (sent : Option (Change Route)) (m : Moment) (fallen : Chains) (m' : Moment) (entries rest : List (Entry Value)) → Stands m → TakesInward task sent m.chains fallen entries
@@ -90,9 +95,9 @@ unit_done task sent m fallen m' entries rest stands t w =
           heard = subst (λ (es : List (Entry Value)). IsHeard m (journal_lines (entries ++ (w.resolved ++ (es ++ w.weld)))) after) (sym w.decided.lines)
               (heard_quiet m after (journal_lines (entries ++ (w.resolved ++ (best_entries w.decided.best ++ w.weld)))) (falls_unheard _ _ _ _ _ _ entries w.resolved w.weld w.decided.best t.fall.leads goes.leads w.welds.step.leads) (queue_views w.decided.best m.exits m'.exits w.queued));
         };
-        falls = (peer_spends task m after refl near sends).0;
-        left = (peer_spends task m after refl near sends).1;
-        earlier = (peer_spends task m after refl near sends).2;
+        falls = (peer_spends task m after refl refl near sends).0;
+        left = (peer_spends task m after refl refl near sends).1;
+        earlier = (peer_spends task m after refl refl near sends).2;
       };
     }))
   where
@@ -120,8 +125,9 @@ unit_done task sent m fallen m' entries rest stands t w =
     goes : GoesOn (peer_of task) t.changes.0 w.passed m.hops m'.hops w.resolved (filt_at m.chains) (filt_at fallen)
     goes = w.below.goes (filt_at m.chains) (filt_at fallen) t.changes.0 (stands.own HopsCounted) (record { here = t.changes.1.rows; others = t.changes.1.others })
 
-    decides : IsSent (best_at m.chains m.hops) (best_at fallen m'.hops) t.changes.0 w.decided.best
-    decides = w.decided.decides (resolved_at m.chains m.hops) t.changes.0 goes.comes
+    decides : IsSent (best_of m) (best_at (own_of m) fallen m'.hops) t.changes.0 w.decided.best
+    decides = w.decided.decides (all_at (own_of m) m.chains m.hops) t.changes.0
+        (all_comes (own_of m) m.chains fallen m.hops m'.hops (peer_of task) t.changes.0 w.passed (not_zero (peer_of task) (stands.own SmallNumbers (peer_of task) (ap is_some t.turn.at)).0) goes.comes)
 
     p : (q : DeclaredPeer) × (peer_at (peer_of task) m.declared.peers ≡ Some q) × PeerStands q t.turn.chain
     p = peer_at_chain m stands (peer_of task) t.turn.chain t.turn.at
@@ -133,14 +139,15 @@ unit_done task sent m fallen m' entries rest stands t w =
 
     then : Stands (with_exits (with_hops (with_chains m m'.chains) m'.registry m'.hops) m'.exits)
     then = stands_with m (peer_of task) t.turn.chain (welded t.turn.turned_chain) m'.chains m'.registry m'.hops m'.exits p.0 stands t.turn.at put w.welds.step.sound t.leaves.me p.1 here w.below.agreed.others.rows
+        (external_agrees m stands (peer_of task) t.turn.chain m'.registry t.turn.at w.below.agreed.others)
         (hops_fall m (peer_of task) fallen m'.chains m'.registry m'.hops stands w.below.agreed goes.counted quiet (resolver_there m stands (peer_of task) t.turn.chain t.turn.at) (same_peers m (peer_of task) t.turn.chain (welded t.turn.turned_chain) m'.chains t.turn.at put))
-        (exits_fall m m'.chains m'.hops m'.exits (with_exits (with_hops (with_chains m m'.chains) m'.registry m'.hops) m'.exits) w.decided.best t.changes.0 stands
+        (exits_fall m (with_exits (with_hops (with_chains m m'.chains) m'.registry m'.hops) m'.exits) w.decided.best t.changes.0 stands
         (put_heard (peer_of task) (welded t.turn.turned_chain) m.chains m'.chains put (weld_heard t.turn.turned_chain (turned_heard task t.turn.chain t.turn.turned_chain sent entries t.turn.turned (stands.own EachRow (peer_of task) t.turn.chain t.turn.at))) (stands.own EachRow)) w.queued
-        (subst (λ (u : PeerRows). IsSent (best_at m.chains m.hops) (best_rows (res_at m'.hops u)) t.changes.0 w.decided.best) (sym quiet) decides) refl refl refl refl refl refl)
+        (subst (λ (rows : Rows Route). IsSent (best_of m) rows t.changes.0 w.decided.best) (sym (best_quiet (own_of m) fallen m'.chains m'.hops w.welds.quiet)) decides) refl refl refl (λ rows over. over))
 
     -- where nothing comes out on `filt.K`, nothing is decided
     quiet_below : sent ≡ None → w.decided.best ≡ None
-    quiet_below none = best_of_none (peer_of task) w.passed (resolved_at fallen m'.hops) w.best w.decided (passed_none (peer_of task) sent w.passed m.registry m'.registry m.hops m'.hops w.resolved none w.below.resolves)
+    quiet_below none = best_of_none (peer_of task) w.passed (all_at (own_of m) fallen m'.hops) w.best w.decided (passed_none (peer_of task) sent w.passed m.registry m'.registry m.hops m'.hops w.resolved none w.below.resolves)
 
     sends : Sends m (with_exits (with_hops (with_chains m m'.chains) m'.registry m'.hops) m'.exits)
     sends = record {
@@ -192,6 +199,8 @@ rests (Nh k) m of none = absurd of
 rests ReadRib m of none = absurd of
 rests (Out k) m of none = absurd of
 rests (Rdel proto n) m of none = absurd of
+rests Red m of none = absurd of
+rests Ext m of none = absurd of
 
 pub peer_rests : (task : Task) (m v : Moment) (cs : Chains) (before j : Journaled) (turn : Turn Route) → IsOfPeers task → turn ≡ turns.Nothing → v ≡ m → ComesInward task v.chains cs before j turn
     → Comes task m (with_chains v cs) before j Nothing
