@@ -15,4 +15,4 @@ pub returns-clause-covers : goal.returns-clause-covers
 returns-clause-covers c =
     let lent = c.lent.ensures in
     subst (λ (r : Rows Route). CoversRows (candidates_of c.args.self.now) r) (lent_best c.args.self.now _ _ _ _ _ lent.declared lent.tree lent.redist lent.chains lent.hops)
-    (subst (λ (q : Candidates). CoversRows q _) (lent_at c.args.self.now _ _ _ _ _ lent.declared lent.tree lent.redist lent.chains lent.hops) c.next_candidate.ensures.covers)
+    (subst (λ (q : Candidates). CoversRows {V = Route} q _) (lent_at c.args.self.now _ _ _ _ _ lent.declared lent.tree lent.redist lent.chains lent.hops) c.next_candidate.ensures.covers)
