@@ -133,7 +133,7 @@ fed_resolves k p row sent m v fallen before j view stands f = resolver_there v (
 
 -- and a number up to 64
 pub fed_small : (k : ℕ) (p : Network) (row : Option Attrs) (sent : Option (Change Route)) (m v : Moment) (fallen : Chains) (before j : Journaled) → v ≡ m → Stands m → Adds (FeedsInward k p row sent v.chains fallen) before j → k ≤ 64
-fed_small k p row sent m v fallen before j view stands f = (subst Stands (sym view) stands).own SmallNumbers k (ap is_some f.2.feeds.at)
+fed_small k p row sent m v fallen before j view stands f = ((subst Stands (sym view) stands).own SmallNumbers k (ap is_some f.2.feeds.at)).1
 
 -- ---- one after the other
 module _ (k : ℕ) where

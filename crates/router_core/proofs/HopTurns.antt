@@ -140,7 +140,7 @@ hop_took k m v m1 m' c r h before j l now turn sent some view stands at comes sa
 
 -- a peer that takes one has a number up to 64
 pub hop_small : (k : ℕ) (m v : Moment) (c : Chained) → v ≡ m → Stands m → Some c ≡ chain_at k v.chains → k ≤ 64
-hop_small k m v c view stands at = (subst Stands (sym view) stands).own SmallNumbers k (ap is_some (sym at))
+hop_small k m v c view stands at = ((subst Stands (sym view) stands).own SmallNumbers k (ap is_some (sym at))).1
 
 pub hop_rests : (k : ℕ) (m v : Moment) (c : Chained) (r : Registry Interior) (h : Resolvers) (before j : Journaled) (turn : Turn Route) → turn ≡ turns.Nothing → v ≡ m → ComesBelow k (filt_candidates c) (filt_rows c) v.registry r v.hops h before j turn
     → Comes (Nh k) m (with_hops v r h) before j Nothing

@@ -189,7 +189,7 @@ peer_resolves task m v fallen before j turn some view stands comes =
 pub peer_small : (task : Task) (m v : Moment) (fallen : Chains) (before j : Journaled) (turn : Turn Route) → (turn ≡ turns.Nothing → ⊥) → v ≡ m → Stands m → ComesInward task v.chains fallen before j turn → peer_of task ≤ 64
 peer_small task m v fallen before j turn some view stands comes =
     let t = took task v.chains fallen before j turn some comes in
-    (subst Stands (sym view) stands).own SmallNumbers (peer_of task) (ap is_some t.2.turn.at)
+    ((subst Stands (sym view) stands).own SmallNumbers (peer_of task) (ap is_some t.2.turn.at)).1
 
 -- where there is no work
 rests : (task : Task) (m : Moment) → IsOfPeers task → has_peer_work m.chains task ≡ false → has_work task m ≡ false

@@ -2,6 +2,9 @@ use Rattle.std.proofs.Common.{subst}
 use Rattle.addr4.specs.Places.{key_of}
 use Rattle.bgp_attr.specs.declared.route.Route.{Route}
 use Rattle.link_change.specs.Rows.{Rows, Candidates, IsNextCandidate, CoversRows}
+use Rattle.decision.specs.Branches.{best_rows}
+use Rattle.rib_tree.specs.Trees.{int_rows}
+use Rattle.router_core.specs.Bests.{own_rows, lent_rows}
 use Rattle.router_core.specs.Moments.{candidates_of}
 use Rattle.router_core.proofs.BestLemmas.{lent_best, lent_at}
 use Rattle.router_core.proofs.network.Network.next_best.Goals as goal
@@ -15,4 +18,4 @@ pub returns-clause-covers : goal.returns-clause-covers
 returns-clause-covers c =
     let lent = c.lent.ensures in
     subst (λ (r : Rows Route). CoversRows (candidates_of c.args.self.now) r) (lent_best c.args.self.now _ _ _ _ _ lent.declared lent.tree lent.redist lent.chains lent.hops)
-    (subst (λ (q : Candidates). CoversRows {V = Route} q _) (lent_at c.args.self.now _ _ _ _ _ lent.declared lent.tree lent.redist lent.chains lent.hops) c.next_candidate.ensures.covers)
+    (subst (λ (q : Candidates). CoversRows q (best_rows (lent_rows (own_rows c.lent.result.declared.now.speaker c.lent.result.redist.now (int_rows c.lent.result.tree.now)) c.lent.result.chains.now c.lent.result.hops.now))) (lent_at c.args.self.now _ _ _ _ _ lent.declared lent.tree lent.redist lent.chains lent.hops) c.next_candidate.ensures.covers)
