@@ -11,6 +11,7 @@ pub mod KeepLemmas
 pub mod HeardRows
 pub mod QueueLemmas
 pub mod HeardSteps
+pub mod BeyondLemmas
 pub mod ReadingLemmas
 pub mod SpendLemmas
 pub mod ExternalTurns

@@ -1,37 +1,62 @@
 -- How many turns next hops take at most, whatever became stale.
-use Rattle.std.proofs.Common.{◌≡◌, ℕ, ◌+◌, ◌*◌, ◌≤◌, Bool, true, false, List, [], ◌∷◌, length, Option, Some, None, is_some, IsSome, refl, sym, ap, subst, ◌∙◌, arith}
-use Rattle.std.specs.Ordering.{nat_cmp}
+use Rattle.std.proofs.Common.{◌≡◌, ℕ, ◌+◌, ◌*◌, ◌≤◌, Bool, true, false, List, [], ◌∷◌, ◌++◌, map, length, length-append, cond, not, if◌then◌else◌, zero, suc, Option, Some, None, is_some, IsSome, refl, sym, ap, subst, ◌∙◌, arith}
+use Rattle.std.specs.Ordering.{nat_cmp, eq_by_cmp}
 use Rattle.std.specs.Cmp.{nat_cmp_total}
-use Rattle.std.specs.List.{sum_by}
+use Rattle.std.specs.List.{sum_by, Contains}
+use Rattle.std.proofs.lemmas.List.Elements.{Contains-append_left, Contains-append_right}
 use Rattle.std.specs.FinMap as tables
+use Rattle.std.specs.FinMap.{find, get-entries}
 use Rattle.std.proofs.lemmas.List.Sums.{sum_by-cons}
 use Rattle.addr4.specs.Prefixes.{Network}
-use Rattle.nexthop_resolver.specs.Resolving.{Resolving}
+use Rattle.nexthop_resolver.specs.Resolving.{Resolving, Answers, resolved, passes}
+use Rattle.nexthop_resolver.specs.Kept.{route_hop, with_metric}
 use Rattle.nexthop_resolver.specs.declared.rows.Metric.{Metric}
-use Rattle.in_chain.specs.Chains.{Chained, filt_beyond, left_beyond, row_count}
+use Rattle.in_chain.specs.Chains.{Chained, filt_beyond, filt_rows, left_beyond, row_count}
 use Rattle.in_chain.proofs.TurnLemmas.{candidates_are_counted, filtered_rows_are_few}
-use Rattle.hop_side.specs.Resolvers.{resolver_at, known_of, known_in, walks_of, walks_in}
+use Rattle.hop_side.specs.Resolvers.{resolver_at, rows_by, known_of, known_in, walks_of, walks_in}
 use Rattle.hop_side.proofs.LawLemmas.{turns_bounded}
 use Rattle.hop_side.proofs.FewLemmas.{known_are_few}
 use Rattle.peer_side.specs.Peers.{Chains, chain_at, put_chain, filt_at, filt_by, lost_in, rows_in}
 use Rattle.peer_side.proofs.MapLemmas.{sum_replaced, sums_within, values_length}
 use Rattle.peer_side.proofs.PutLemmas.{put_lost}
-use Rattle.router_core.specs.declared.router.Phase.TheVariants.{Nh}
-use Rattle.router_core.specs.Moments.{Moment}
+use Rattle.router_core.specs.declared.router.Phase.TheVariants.{Nh, Ext}
+use Rattle.router_core.specs.Moments.{Moment, own_of, best_of, read_of, read_rows_by}
+use Rattle.router_core.specs.Bests.{own_rows, all_at}
 use Rattle.nexthop_known.specs.Hops.{is_stale_at, stale_count}
 use Rattle.nexthop_known.proofs.StaleLemmas.{known_count}
 use Rattle.nexthop_resolver.specs.Left.{is_needed, differing_count}
 use Rattle.hop_side.specs.Resolvers.{same_metric}
-use Rattle.router_core.specs.Phases.{beyond_by, beyonds, counts, most_of, nh_sends, nh_sends_of, place_candidates, next_candidates, fin_sends, fin_sends_of, walk_candidates, waiting_candidates}
+use Rattle.router_core.specs.Phases.{beyond_by, beyonds, counts, most_of, external_most, external_beyond, tree_beyond, unread_if, own_sends, own_sends_by, own_waiting, nh_sends, nh_sends_of, place_candidates, next_candidates, fin_sends, fin_sends_of, walk_candidates, waiting_candidates}
 use Rattle.bgp_attr.specs.declared.speaker.Speaker.{Speaker}
 use Rattle.policy_rules.specs.declared.rule.Rule.{Rule}
-use Rattle.pass_core.specs.Passed.{Walked}
+use Rattle.pass_core.specs.Passed.{Passed, Walked, function_at}
+use Rattle.redist.specs.declared.protos.Protos.{Protos}
+use Rattle.redist.specs.Local.{redistributed}
+use Rattle.bgp_attr.specs.declared.route.Route.{Route}
+use Rattle.link_change.specs.Rows.{Rows}
+use Rattle.link_change.specs.InOrder.{rows_before}
+use Rattle.link_change.specs.declared.change.Change.{Change}
+use Rattle.link_region.proofs.RegionLemmas.{by_bool}
+use Rattle.fanout_queue.specs.Queues.{Queued}
+use Rattle.decision.proofs.LawLemmas.{best_is_a_branchs}
+use Rattle.rib_route.specs.declared.rows.Interior.{Interior}
+use Rattle.rib_route.specs.declared.rows.External.{External}
+use Rattle.rib_tree.specs.Trees.{tree_count, int_rows}
+use Rattle.rib_split.specs.declared.split.BgpLink.{BgpLink}
+use Rattle.rib_split.specs.declared.split.BgpLink.TheVariants.{Ebgp, Ibgp}
+use Rattle.rib_split.specs.Splitting.{Parted, external_row, on_link}
+use Rattle.rib_split.specs.Tables.{kept_rows}
+use Rattle.rib_exit.specs.Exits.{known_in as external_known}
+use Rattle.rib_exit.proofs.BusyLemmas.{turns_are_bounded as external_bounded}
+use Rattle.rib_exit.proofs.FewLemmas.{known_are_few as external_are_few}
+use Rattle.rib_exit.proofs.LawLemmas.{ext_is_of_best}
 use Rattle.event_text.specs.declared.declared.DeclaredPeer.{DeclaredPeer}
 use Rattle.event_text.specs.Declarations.{peer_at}
 use Rattle.out_chain.specs.Chains.{OutChained}
 use Rattle.exit_side.specs.Exits.{chain_at as exit_at}
+use Rattle.router_core.proofs.BeyondLemmas.{table_within, tree_within, tree_keys, tree_length, has_tree_key, few_both, external_counted}
 use Rattle.router_core.proofs.ReadingLemmas.{sum_fewer}
-use Rattle.router_core.specs.Stands.{Stands, StandsAt, ExitsAt, EachPeer, EachResolver, SameResolvers, HopsCounted, SameSessions}
+use Rattle.router_core.specs.Stands.{Stands, StandsAt, ExitsAt, EachPeer, EachResolver, SameResolvers, HopsCounted, SameSessions, ExternalExit, ExternalStands}
 
 -- ---- next hops, and the rows of their peers
 chain_by : (o : Option Chained) (p : Option (Resolving Metric)) → is_some p ≡ is_some o → IsSome p → (c : Chained) × (o ≡ Some c)
@@ -188,3 +213,139 @@ few_exits m stands =
 
     chain_of : (k : ℕ) (c : OutChained) → exit_at k m.exits ≡ Some c → (x : Chained) × (chain_at k m.chains ≡ Some x)
     chain_of k c at = by_peer k c m.declared.speaker (peer_at k m.declared.peers) (chain_at k m.chains) (subst (λ (o : Option OutChained). ExitsAt m.declared.speaker m.outgoing k (peer_at k m.declared.peers) o) at (stands.own SameSessions k)) (stands.own EachPeer k)
+
+-- ---- how many changes of `red` the walk of redistribution may make
+pub own_sends_below : (m : Moment) → own_sends m ≤ 2 * tree_count m.tree
+own_sends_below m = by_walk m.redist.walk
+  where
+    by_walk : (o : Option (Walked Protos)) → own_sends_by m.tree o ≤ 2 * tree_count m.tree
+    by_walk None = omega arith
+    by_walk (Some w) = let here = tree_within m.tree w.place in let later = by_waiting w.waiting in omega (arith, here, later)
+      where
+        by_waiting : (o : Option Protos) → own_waiting (tree_beyond m.tree None) o ≤ tree_count m.tree
+        by_waiting None = omega arith
+        by_waiting (Some on) = tree_within m.tree None
+
+-- ---- the prefixes that rows of `best` may have
+-- where those of a peer stand
+abbrev chain_keys : Chained → List Network
+chain_keys c = (filtered_rows_are_few c).0
+
+entry_keys : List (ℕ × Chained) → List Network
+entry_keys [] = []
+entry_keys (e ∷ es) = chain_keys e.1 ++ entry_keys es
+
+entries_length : (es : List (ℕ × Chained)) → length (entry_keys es) ≤ sum_by row_count (map (λ (e : ℕ × Chained). e.1) es)
+entries_length [] = omega arith
+entries_length (e ∷ es) =
+    let all = length-append (chain_keys e.1) (entry_keys es) in
+    let few = (filtered_rows_are_few e.1).1 in
+    let rest = entries_length es in
+    let sum = sum_by-cons row_count e.1 (map (λ (x : ℕ × Chained). x.1) es) in
+    omega (arith, all, few, rest, sum)
+
+has_entry_key : (k : ℕ) (c : Chained) (q : Network) (es : List (ℕ × Chained)) → find nat_cmp k es ≡ Some c → IsSome (filt_rows c q) → Contains (entry_keys es) q
+has_entry_key k c q [] at there = absurd (cc)
+has_entry_key k c q (e ∷ es) at there =
+    by_bool (eq_by_cmp nat_cmp k e.0) (λ b. cond b (Some e.1) (find nat_cmp k es) ≡ Some c → Contains (chain_keys e.1 ++ entry_keys es) q)
+    (λ _ here. let same : c ≡ e.1 = cc in Contains-append_left (chain_keys e.1) (entry_keys es) q ((filtered_rows_are_few e.1).2 q (subst (λ (d : Chained). IsSome (filt_rows d q)) same there)))
+    (λ _ rest. Contains-append_right (chain_keys e.1) (entry_keys es) q (has_entry_key k c q es rest there)) at
+
+abbrev best_keys : Moment → List Network
+best_keys m = entry_keys (tables.entries m.chains) ++ tree_keys m.tree
+
+keys_few : (m : Moment) → length (best_keys m) ≤ rows_in m.chains + tree_count m.tree
+keys_few m =
+    let all = length-append (entry_keys (tables.entries m.chains)) (tree_keys m.tree) in
+    let peers = entries_length (tables.entries m.chains) in
+    let own = tree_length m.tree in
+    omega (arith, all, peers, own)
+
+-- a row below is made of one above
+row_there : (me : Speaker) (on : Protos) (q : Network) (o : Option Interior) (r : Route) → redistributed me on q o ≡ Some r → IsSome o
+row_there me on q None r is = absurd (cc)
+row_there me on q (Some row) r is = refl
+
+own_there : (s : Option Speaker) (redist : Passed Protos) (int : Rows Interior) (q : Network) (r : Route) → own_rows s redist int q ≡ Some r → IsSome (int q)
+own_there None redist int q r is = absurd (cc)
+own_there (Some me) redist int q r is = row_there me (function_at redist q) q (int q) r is
+
+metric_there : (f : Answers Metric) (q : Network) (o : Option Route) (r : Route) → resolved route_hop with_metric f q o ≡ Some r → IsSome o
+metric_there f q None r is = absurd (cc)
+metric_there f q (Some row) r is = refl
+
+resolved_there : (o : Option (Resolving Metric)) (upper : Rows Route) (q : Network) (r : Route) → rows_by o upper q ≡ Some r → IsSome (upper q)
+resolved_there None upper q r is = absurd (cc)
+resolved_there (Some s) upper q r is = metric_there (function_at (passes s) q) q (upper q) r is
+
+filt_there : (m : Moment) (k : ℕ) (q : Network) → IsSome (filt_at m.chains k q) → Contains (best_keys m) q
+filt_there m k q there = by_chain (chain_at k m.chains) refl there
+  where
+    by_chain : (o : Option Chained) → chain_at k m.chains ≡ o → IsSome (filt_by o q) → Contains (best_keys m) q
+    by_chain None at some = absurd (let clash : false ≡ true = some in cc)
+    by_chain (Some c) at some = Contains-append_left (entry_keys (tables.entries m.chains)) (tree_keys m.tree) q (has_entry_key k c q (tables.entries m.chains) (sym (get-entries m.chains k) ∙ at) some)
+
+branch_there : (m : Moment) (b : ℕ) (q : Network) (r : Route) → all_at (own_of m) m.chains m.hops b q ≡ Some r → Contains (best_keys m) q
+branch_there m zero q r is = Contains-append_right (entry_keys (tables.entries m.chains)) (tree_keys m.tree) q (has_tree_key m.tree q (own_there m.declared.speaker m.redist (int_rows m.tree) q r is))
+branch_there m (suc k) q r is = filt_there m (suc k) q (resolved_there (resolver_at (suc k) m.hops) (filt_at m.chains (suc k)) q r is)
+
+best_there : (m : Moment) (q : Network) → IsSome (best_of m q) → Contains (best_keys m) q
+best_there m q there = by_row (best_of m q) refl there
+  where
+    by_row : (o : Option Route) → best_of m q ≡ o → IsSome o → Contains (best_keys m) q
+    by_row None is some = absurd (let clash : false ≡ true = some in cc)
+    by_row (Some r) is some = let b = best_is_a_branchs (all_at (own_of m) m.chains m.hops) q r is in branch_there m b.0 q r b.1
+
+-- ---- the external routes, where the forwarding side has read all of `best`
+read_there : (queue : Queued Route) (reader : Option ℕ) (best : Rows Route) (q : Network) → unread_if queue reader ≡ [] → IsSome (read_rows_by queue reader best q) → IsSome (best q)
+read_there queue None best q over there = absurd (let clash : false ≡ true = there in cc)
+read_there queue (Some r) best q over there = subst (λ (u : List (Change Route)). IsSome (rows_before u best q)) over there
+
+external_there : (o : Option Route) → IsSome (external_row o) → IsSome o
+external_there None there = there
+external_there (Some r) there = refl
+
+side_there : (side : BgpLink) (o : Option External) → IsSome (on_link side o) → IsSome o
+side_there side None there = there
+side_there side (Some r) there = refl
+
+one_side : (o : Option External) → IsSome (on_link Ebgp o) → IsSome (on_link Ibgp o) → ⊥
+one_side None a b = let clash : false ≡ true = a in cc
+one_side (Some r) a b = elim r.internal as (λ i. IsSome {T = External} (if not i then Some r else None) → IsSome {T = External} (if i then Some r else None) → ⊥) [ true ↦ λ x _. let clash : false ≡ true = x in cc | false ↦ λ _ y. let clash : false ≡ true = y in cc ] a b
+
+module _ (m : Moment) (stands : Stands m) (over : unread_if m.exits.queue m.reader ≡ []) where
+  read_key : (q : Network) → IsSome (read_of m q) → Contains (best_keys m) q
+  read_key q there = best_there m q (read_there m.exits.queue m.reader (best_of m) q over there)
+
+  side_at : (side : BgpLink) (q : Network) → kept_rows m.rib.splitter side q ≡ on_link side (external_row (read_of m q))
+  side_at side q = ap (λ (p : Parted). p side q) (stands.own ExternalStands).links
+
+  side_key : (side : BgpLink) (q : Network) → IsSome (kept_rows m.rib.splitter side q) → Contains (best_keys m) q
+  side_key side q there = read_key q (external_there (read_of m q) (side_there side (external_row (read_of m q)) (ap is_some (sym (side_at side q)) ∙ there)))
+
+  -- no more rows stand on `ebgp` and `ibgp` than there are prefixes of `best`,
+  external_few : external_beyond m.rib None ≤ rows_in m.chains + tree_count m.tree
+  external_few =
+      let few = few_both (best_keys m) m.rib.splitter.ebgp m.rib.splitter.ibgp
+      (λ q a b. one_side (external_row (read_of m q)) (ap is_some (sym (side_at Ebgp q)) ∙ a) (ap is_some (sym (side_at Ibgp q)) ∙ b)) (side_key Ebgp) (side_key Ibgp) in
+      let ebgp = table_within None m.rib.splitter.ebgp in
+      let ibgp = table_within None m.rib.splitter.ibgp in
+      let keys = keys_few m in
+      omega (arith, few, ebgp, ibgp, keys)
+
+  -- and no more next hops are known
+  external_known_few : external_known m.rib ≤ rows_in m.chains + tree_count m.tree
+  external_known_few =
+      let few = external_are_few m.rib (read_of m) (best_keys m) (stands.own ExternalExit) (stands.own ExternalStands)
+      (λ q there. read_key q (external_there (read_of m q) (ap is_some (sym (ap (λ (rows : Rows External). rows q) (ext_is_of_best m.rib (read_of m) (stands.own ExternalStands)))) ∙ there))) in
+      let keys = keys_few m in
+      omega (arith, few, keys)
+
+  pub external_capped : counts m Ext ≤ external_most m
+  external_capped =
+      let most = external_bounded m.rib (external_beyond m.rib) (external_counted m.rib).most in
+      let turns = most.turns in
+      let stale = most.stale in
+      let rows = external_few in
+      let known = external_known_few in
+      omega (arith, turns, stale, rows, known)

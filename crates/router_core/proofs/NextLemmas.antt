@@ -23,13 +23,16 @@ use Rattle.rib_tree.specs.BranchSteps.{branch_tasks}
 use Rattle.rib_tree.specs.Trees.{Treed, branch_of, tree_tasks}
 use Rattle.rib_tree.proofs.RestLemmas.{all_tree}
 use Rattle.router_core.specs.declared.router.Phase.{Phase}
-use Rattle.router_core.specs.declared.router.Phase.TheVariants.{Rdel, Del, Fin, Nh, ReadRib, Out}
+use Rattle.router_core.specs.declared.router.Phase.TheVariants.{Rdel, Red, Del, Fin, Nh, ReadRib, Out, Ext}
 use Rattle.router_core.specs.Moments.{Moment}
 use Rattle.router_core.specs.Stands.{Stands, InteriorTree}
 use Rattle.addr4.specs.Prefixes.{Network}
 use Rattle.bgp_attr.specs.declared.route.Route.{Route}
 use Rattle.link_change.specs.declared.change.Change.{Change}
 use Rattle.out_chain.specs.Chains.{is_unread}
+use Rattle.pass_core.specs.Passed.{Walked}
+use Rattle.redist.specs.declared.protos.Protos.{Protos}
+use Rattle.rib_exit.specs.Exits.{has_ext_work}
 use Rattle.exit_side.specs.Exits.{has_exit_work, left_in as exits_left_in}
 use Rattle.router_core.specs.Phases.{beyonds, best_beyond, unread_if, counts}
 use Rattle.router_core.proofs.CountLemmas.{over_none}
@@ -38,12 +41,14 @@ use Rattle.router_core.specs.Turns.{phase_of, phase_tasks, next_task, has_work}
 -- ---- each task is of its phase: a line for each phase
 pub all_of_phase : (r : Phase) (m : Moment) → AllByRecursion (λ t. phase_of t ≡ r) (phase_tasks r m)
 all_of_phase Rdel m = all_tree (λ t. phase_of t ≡ Rdel) m.tree (λ proto. all_made (λ t. phase_of t ≡ Rdel) (λ (d : Lost Interior). tasks.Rdel (branch_of proto m.tree).proto d.number) (branch_of proto m.tree).tables.deletions (all_any _ (λ d. refl) (branch_of proto m.tree).tables.deletions))
+all_of_phase Red m = (refl, tt)
 all_of_phase Del m = all_flat (λ t. phase_of t ≡ Del) chain_tasks (tables.values m.chains) (all_any (λ c. AllByRecursion (λ t. phase_of t ≡ Del) (chain_tasks c))
     (λ c. all_made (λ t. phase_of t ≡ Del) (λ (d : Lost Attrs). tasks.Del c.incoming.number d.number) c.incoming.tables.deletions (all_any _ (λ d. refl) c.incoming.tables.deletions)) (tables.values m.chains))
 all_of_phase Fin m = all_made (λ t. phase_of t ≡ Fin) (λ (c : Chained). tasks.Fin c.incoming.number) (tables.values m.chains) (all_any _ (λ c. refl) (tables.values m.chains))
 all_of_phase Nh m = all_made (λ t. phase_of t ≡ Nh) (λ (k : ℕ). tasks.Nh k) (tables.keys m.hops) (all_any _ (λ k. refl) (tables.keys m.hops))
 all_of_phase ReadRib m = (refl, tt)
 all_of_phase Out m = all_made (λ t. phase_of t ≡ Out) (λ (k : ℕ). tasks.Out k) (tables.keys m.exits.chains) (all_any _ (λ k. refl) (tables.keys m.exits.chains))
+all_of_phase Ext m = (refl, tt)
 
 -- ---- the first that has work
 at_work : (m : Moment) (P : Task → Type 0) (ts : List Task) (task : Task) → AllByRecursion P ts → find (λ t. has_work t m) ts ≡ Some task → (has_work task m ≡ true) × P task
@@ -73,6 +78,8 @@ of_peers m (tasks.Nh k) r of is = absurd (subst IsOfPeers (sym is) of)
 of_peers m tasks.ReadRib r of is = absurd (subst IsOfPeers (sym is) of)
 of_peers m (tasks.Out k) r of is = absurd (subst IsOfPeers (sym is) of)
 of_peers m (tasks.Rdel proto n) r of is = absurd (subst IsOfPeers (sym is) of)
+of_peers m tasks.Red r of is = absurd (subst IsOfPeers (sym is) of)
+of_peers m tasks.Ext r of is = absurd (subst IsOfPeers (sym is) of)
 
 pub next_of_peers : (s r : Phase) (m v : Moment) (first : Option Task) → IsOfPeers s → r ≡ s → v ≡ m → first ≡ find (has_peer_work v.chains) (phase_tasks s v) → first ≡ next_task r m
 next_of_peers s r m v first peers is view found =
@@ -112,11 +119,8 @@ next_of_exits r m v first task is view found made =
 
 pub none_of_exits : (r : Phase) (m v : Moment) (first : Option ℕ) (task : Option Task) → r ≡ Out → v ≡ m → IfNone first ((beyond : Option Network → ℕ) → exits_left_in beyond v.exits ≡ 0) → task ≡ option_map (λ k. tasks.Out k) first → IfNone task (counts m r ≡ 0)
 none_of_exits r m v None task is view none made =
-    subst (λ (o : Option Task). IfNone o (counts m r ≡ 0)) (sym made) (ap (counts m) is ∙ ap (λ (n : Moment). counts n Out) (sym view) ∙ none (best_beyond v.chains))
+    subst (λ (o : Option Task). IfNone o (counts m r ≡ 0)) (sym made) (ap (counts m) is ∙ ap (λ (n : Moment). counts n Out) (sym view) ∙ none (best_beyond v.chains v.tree))
 none_of_exits r m v (Some k) task is view none made = subst (λ (o : Option Task). IfNone o (counts m r ≡ 0)) (sym made) tt
-
-pub next_of_reader : (r : Phase) (m : Moment) (task : Option Task) → r ≡ ReadRib → task ≡ next_task ReadRib m → task ≡ next_task r m
-next_of_reader r m task is next = next ∙ ap (λ (e : Phase). next_task e m) (sym is)
 
 pub none_of_reader : (r : Phase) (m : Moment) (task : Option Task) → r ≡ ReadRib → task ≡ next_task ReadRib m → IfNone task (counts m r ≡ 0)
 none_of_reader r m task is next = subst (λ (o : Option Task). IfNone o (counts m r ≡ 0)) (sym next) (by_unread (unread_if m.exits.queue m.reader) refl)
@@ -124,6 +128,24 @@ none_of_reader r m task is next = subst (λ (o : Option Task). IfNone o (counts 
     by_unread : (u : List (Change Route)) → unread_if m.exits.queue m.reader ≡ u → IfNone (cond (is_unread u) (Some tasks.ReadRib) None) (counts m r ≡ 0)
     by_unread [] at = ap (counts m) is ∙ ap (λ (l : List (Change Route)). length l) at
     by_unread (x ∷ u) at = tt
+
+-- ---- the phases of one task
+pub next_of_one : (s r : Phase) (m : Moment) (task : Option Task) → r ≡ s → task ≡ next_task s m → task ≡ next_task r m
+next_of_one s r m task is next = next ∙ ap (λ (e : Phase). next_task e m) (sym is)
+
+pub none_of_own : (r : Phase) (m : Moment) (task : Option Task) → r ≡ Red → task ≡ next_task Red m → IfNone task (counts m r ≡ 0)
+none_of_own r m task is next = subst (λ (o : Option Task). IfNone o (counts m r ≡ 0)) (sym next) (by_walk m.redist.walk refl)
+  where
+    by_walk : (w : Option (Walked Protos)) → m.redist.walk ≡ w → IfNone (cond (is_some w) (Some tasks.Red) None) (counts m r ≡ 0)
+    by_walk None off = ap (counts m) is ∙ over_none Red m off
+    by_walk (Some w) on = tt
+
+pub none_of_external : (r : Phase) (m : Moment) (task : Option Task) → r ≡ Ext → task ≡ next_task Ext m → IfNone task (counts m r ≡ 0)
+none_of_external r m task is next = subst (λ (o : Option Task). IfNone o (counts m r ≡ 0)) (sym next) (by_work (has_ext_work m.rib) refl)
+  where
+    by_work : (b : Bool) → has_ext_work m.rib ≡ b → IfNone (cond b (Some tasks.Ext) None) (counts m r ≡ 0)
+    by_work false none = ap (counts m) is ∙ over_none Ext m none
+    by_work true some = tt
 
 -- ---- the stages of the tree
 -- each stage that stands has work

@@ -1,20 +1,17 @@
 -- How many turns readers of `best` take: the most that one hasn't taken, and how many candidates of `best` lie beyond a place.
 use Rattle.std.proofs.Common.{◌≡◌, ◌≢◌, ℕ, zero, suc, ◌+◌, ◌-◌, ◌*◌, ◌<◌, ◌≤◌, nat_lt, nat_eq, Bool, true, false, ◌||◌, cond, List, [], ◌∷◌, length, Option, Some, None, is_some, refl, sym, ap, subst, ◌∙◌, arith}
-use Rattle.std.specs.Prelude.{IsSome, filter}
+use Rattle.std.specs.Prelude.{IsSome}
 use Rattle.std.specs.List.{AllByRecursion, sum_by, list_any, range_with_len}
 use Rattle.std.specs.Option.{option_map}
 use Rattle.std.specs.FinMap as tables
 use Rattle.std.specs.FinMap.{FinMap}
-use Rattle.std.specs.Ordering.{nat_cmp, is_lt}
-use Rattle.std.specs.declared.cmp.Ordering.{Ordering}
-use Rattle.std.specs.declared.cmp.Ordering.TheVariants.{Less, Equal, Greater}
+use Rattle.std.specs.Ordering.{nat_cmp}
 use Rattle.std.specs.Cmp.{nat_cmp_total}
 use Rattle.std.proofs.lemmas.List.Sums.{sum_by-cons}
 use Rattle.std.proofs.lemmas.Bool.Decides.{nat_tests}
 use Rattle.std.proofs.Math.Nat.{mul-le-mul, mul-le-mul_left}
-use Rattle.addr4.specs.Prefixes.{Network, prefix_cmp}
+use Rattle.addr4.specs.Prefixes.{Network}
 use Rattle.addr4.specs.Places.{IsBeyond}
-use Rattle.addr4.proofs.PrefixOrder.{prefixes_total}
 use Rattle.bgp_attr.specs.declared.attrs.Attrs.{Attrs}
 use Rattle.bgp_attr.specs.declared.route.Route.{Route}
 use Rattle.link_change.specs.Rows.{Candidates, IsNextCandidate}
@@ -22,7 +19,6 @@ use Rattle.link_change.specs.InOrder.{with_last}
 use Rattle.link_change.specs.declared.change.Change.{Change}
 use Rattle.link_region.proofs.RegionLemmas.{by_bool}
 use Rattle.loss_chain.specs.Lost.{Lost}
-use Rattle.pass_core.specs.Passed.{is_beyond}
 use Rattle.pass_core.specs.Left.{CountsBeyond}
 use Rattle.fanout_queue.specs.Queues.{Queued, AppendsToAll, IsMostUnread}
 use Rattle.exit_side.specs.Exits.{Exited}
@@ -31,11 +27,14 @@ use Rattle.in_chain.proofs.TurnLemmas.{candidates_are_counted}
 use Rattle.decision.specs.Branches.{best_candidates, candidates_below}
 use Rattle.peer_side.specs.Peers.{Chains, chain_at, rows_in}
 use Rattle.peer_side.proofs.MapLemmas.{all_values, one_of_sum, sum_none}
-use Rattle.router_core.specs.Bests.{candidates_by, lent_candidates, Queues}
+use Rattle.router_core.specs.Bests.{candidates_by, lent_chain, lent_candidates, Queues}
 use Rattle.hop_side.specs.Resolvers.{known_in}
-use Rattle.rib_tree.specs.Trees.{tree_count}
-use Rattle.router_core.specs.Moments.{Moment, longest_of, most_unread, bound_of}
-use Rattle.router_core.specs.Phases.{best_beyond, reading}
+use Rattle.rib_tree.specs.Trees.{Treed, int_candidates, tree_count}
+use Rattle.rib_exit.specs.Exits.{known_in as external_known}
+use Rattle.router_core.specs.Moments.{Moment, longest_of, most_unread, bound_of, candidates_of}
+use Rattle.router_core.specs.Phases.{best_beyond, tree_beyond, reading}
+use Rattle.router_core.specs.Stands.{Stands, SmallNumbers}
+use Rattle.router_core.proofs.BeyondLemmas.{table_further, tree_most, tree_within, tree_further, tree_fewer}
 
 -- ---- the most that a reader hasn't taken
 longest_bounds : (xs : List (List (Change Route))) → AllByRecursion (λ u. length u ≤ longest_of xs) xs
@@ -133,45 +132,28 @@ readers_within exits unread rows sends reader out few less =
     omega (arith, few, less, more, parts)
 
 -- the bound that is announced
-pub announced_fits : (losses stages walks hops sends exits unread rows routes peers known : ℕ) → losses ≤ routes → stages ≤ rows → walks ≤ 2 * (rows + peers) → hops ≤ 3 * rows + 2 * peers → sends ≤ 2 * rows → exits ≤ peers
-    → losses + (stages + walks + hops + reading exits unread rows (stages + sends + 3 * rows)) ≤ (peers + 2) * (unread + 9 * (rows + routes) + 2 * known + 6)
-announced_fits losses stages walks hops sends exits unread rows routes peers known a b c d e few =
-    let read = reading_less peers exits unread unread rows rows (6 * rows) (stages + sends + 3 * rows) few (omega arith) (omega (arith, b, e)) in
-    let parts : reading peers unread rows (6 * rows) ≡ unread + 6 * rows + peers * (unread + 8 * rows + 2) = grind arith in
-    let more : peers * (unread + 8 * rows + 6) ≤ peers * (unread + 9 * (rows + routes) + 2 * known + 6) = mul-le-mul_left peers (omega arith) in
-    let split : peers * (unread + 8 * rows + 6) ≡ peers * (unread + 8 * rows + 2) + 4 * peers = grind arith in
+pub announced_fits : (losses own stages walks hops changes sends exits unread rows routes peers known : ℕ) → losses ≤ routes → own ≤ 2 * (routes + 1) → stages ≤ rows → walks ≤ 2 * (rows + peers) → hops ≤ 3 * rows + 2 * peers
+    → changes ≤ 2 * routes → sends ≤ 2 * rows → exits ≤ peers
+    → losses + (own + stages + walks + hops + reading exits unread (rows + routes) (losses + (changes + (stages + (sends + 3 * rows)))) + (3 * (rows + routes) + 2)) ≤ (peers + 2) * (unread + 9 * (rows + routes) + 2 * known + 6)
+announced_fits losses own stages walks hops changes sends exits unread rows routes peers known a b c d e f g few =
+    let read = reading_less peers exits unread unread (rows + routes) (rows + routes) (6 * rows + 3 * routes) (losses + (changes + (stages + (sends + 3 * rows)))) few (omega arith) (omega (arith, a, c, f, g)) in
+    let parts : reading peers unread (rows + routes) (6 * rows + 3 * routes) ≡ unread + 6 * rows + 3 * routes + peers * (unread + 8 * rows + 5 * routes + 2) = grind arith in
+    let more : peers * (unread + 8 * rows + 5 * routes + 6) ≤ peers * (unread + 9 * (rows + routes) + 2 * known + 6) = mul-le-mul_left peers (omega arith) in
+    let split : peers * (unread + 8 * rows + 5 * routes + 6) ≡ peers * (unread + 8 * rows + 5 * routes + 2) + 4 * peers = grind arith in
     let all : (peers + 2) * (unread + 9 * (rows + routes) + 2 * known + 6) ≡ peers * (unread + 9 * (rows + routes) + 2 * known + 6) + 2 * (unread + 9 * (rows + routes) + 2 * known + 6) = grind arith in
-    omega (arith, a, b, c, d, read, parts, more, split, all)
+    omega (arith, a, b, c, d, e, read, parts, more, split, all)
 
 -- ---- the candidates of `best` beyond a place
-module _ {X : Type 0} (test other : X → Bool) where
-  shorter : ((x : X) → test x ≡ true → other x ≡ true) → (xs : List X) → length (filter test xs) ≤ length (filter other xs)
-  shorter so [] = omega arith
-  shorter so (x ∷ xs) =
-      let rest = shorter so xs in
-      by_bool (test x) (λ b. length (cond b (x ∷ filter test xs) (filter test xs)) ≤ length (filter other (x ∷ xs)))
-      (λ e. subst (λ b. length (x ∷ filter test xs) ≤ length (cond b (x ∷ filter other xs) (filter other xs))) (sym (so x e)) (omega (arith, rest)))
-      (λ _. elim (other x) as (λ b. length (filter test xs) ≤ length (cond b (x ∷ filter other xs) (filter other xs))) [ true ↦ omega (arith, rest) | false ↦ rest ])
-
-further : (place : Option Network) (p q : Network) → IsBeyond place p → is_beyond (Some p) q ≡ true → is_beyond place q ≡ true
-further None p q h e = refl
-further (Some l) p q h e = ap is_lt (prefixes_total.trans l p q h (less_of (prefix_cmp p q) e))
-  where
-    less_of : (o : Ordering) → is_lt o ≡ true → o ≡ Less
-    less_of Less e = refl
-    less_of Equal e = absurd (cc)
-    less_of Greater e = absurd (cc)
-
 lost_further : (place : Option Network) (p : Network) (ds : List (Lost Attrs)) → IsBeyond place p → lost_beyond (Some p) ds ≤ lost_beyond place ds
 lost_further place p [] h = omega arith
 lost_further place p (d ∷ ds) h =
-    let first : count_beyond (Some p) d.rows ≤ count_beyond place d.rows = shorter (λ (e : Network × Attrs). is_beyond (Some p) e.0) (λ e. is_beyond place e.0) (λ e. further place p e.0 h) (tables.entries d.rows) in
+    let first : count_beyond (Some p) d.rows ≤ count_beyond place d.rows = table_further place p d.rows h in
     let rest = lost_further place p ds h in
     omega (arith, first, rest)
 
 chain_further : (place : Option Network) (p : Network) (c : Chained) → IsBeyond place p → filt_beyond c (Some p) ≤ filt_beyond c place
 chain_further place p c h =
-    let first : count_beyond (Some p) c.incoming.tables.live ≤ count_beyond place c.incoming.tables.live = shorter (λ (e : Network × Attrs). is_beyond (Some p) e.0) (λ e. is_beyond place e.0) (λ e. further place p e.0 h) (tables.entries c.incoming.tables.live) in
+    let first : count_beyond (Some p) c.incoming.tables.live ≤ count_beyond place c.incoming.tables.live = table_further place p c.incoming.tables.live h in
     let rest = lost_further place p c.incoming.tables.deletions h in
     omega (arith, first, rest)
 
@@ -216,46 +198,76 @@ none_at test a (suc n) is b from to =
     (λ e. let apart : b ≢ a = λ same. let clash : nat_eq b a ≡ true = grind (arith, nat_tests) in cc in none_at test (a + 1) n rest b (omega (arith, from, apart)) (omega (arith, to))))
     is refl
 
-module _ (a : Chains) (small : (k : ℕ) → IsSome (chain_at k a) → k ≤ 64) where
-  lent_is : (k : ℕ) → k < 65 → lent_candidates a k ≡ candidates_by (chain_at k a)
-  lent_is k low = ap (λ t. candidates_by (cond t (chain_at k a) None)) (let is : nat_lt k 65 ≡ true = grind (arith, nat_tests) in is)
+module _ (a : Chains) (t : Treed) (small : (k : ℕ) → IsSome (chain_at k a) → (1 ≤ k) × (k ≤ 64)) where
+  lent_is : (k : ℕ) → 1 ≤ k → k < 65 → lent_candidates (int_candidates t) a k ≡ candidates_by (chain_at k a)
+  lent_is zero some low = absurd (omega (arith, some))
+  lent_is (suc k) some low = ap (λ b. candidates_by (cond b (chain_at (suc k) a) None)) (let is : nat_lt (suc k) 65 ≡ true = grind (arith, nat_tests) in is)
 
-  -- of a candidate the chain
-  chain_of : (k : ℕ) (p : Network) → lent_candidates a k p ≡ true → (c : Chained) × (chain_at k a ≡ Some c) × (filt_candidates c p ≡ true)
+  -- of a candidate of a peer the chain
+  chain_of : (k : ℕ) (p : Network) → candidates_by (lent_chain a k) p ≡ true → (c : Chained) × (chain_at k a ≡ Some c) × (filt_candidates c p ≡ true)
   chain_of k p is = by_low (nat_lt k 65) is
     where
       by_chain : (o : Option Chained) → chain_at k a ≡ o → candidates_by o p ≡ true → (c : Chained) × (chain_at k a ≡ Some c) × (filt_candidates c p ≡ true)
       by_chain None at is = absurd (cc)
       by_chain (Some c) at is = (c, at, is)
 
-      by_low : (t : Bool) → candidates_by (cond t (chain_at k a) None) p ≡ true → (c : Chained) × (chain_at k a ≡ Some c) × (filt_candidates c p ≡ true)
+      by_low : (b : Bool) → candidates_by (cond b (chain_at k a) None) p ≡ true → (c : Chained) × (chain_at k a ≡ Some c) × (filt_candidates c p ≡ true)
       by_low true is = by_chain (chain_at k a) refl is
       by_low false is = absurd (cc)
 
-  other_none : (k : ℕ) (c : Chained) (q : Network) → chain_at k a ≡ Some c → candidates_below 65 (lent_candidates a) q ≡ false → filt_candidates c q ≡ false
+  -- a candidate is of a peer, or of `int`
+  candidate_of : (P : Type 0) (k : ℕ) (p : Network) → ((c : Chained) → chain_at k a ≡ Some c → filt_candidates c p ≡ true → P) → (int_candidates t p ≡ true → P) → lent_candidates (int_candidates t) a k p ≡ true → P
+  candidate_of P zero p chain own is = own is
+  candidate_of P (suc k) p chain own is = let c = chain_of (suc k) p is in chain c.0 c.1 c.2
+
+  other_none : (k : ℕ) (c : Chained) (q : Network) → chain_at k a ≡ Some c → candidates_below 65 (lent_candidates (int_candidates t) a) q ≡ false → filt_candidates c q ≡ false
   other_none k c q at none =
       let low = small k (ap is_some at) in
-      let here = none_at (λ b. lent_candidates a b q) 0 65 none k (omega arith) (omega (arith, low)) in
-      sym (ap (λ (o : Option Chained). candidates_by o q) at) ∙ sym (ap (λ (t : Candidates). t q) (lent_is k (omega (arith, low)))) ∙ here
+      let from = low.0 in
+      let to = low.1 in
+      let here = none_at (λ b. lent_candidates (int_candidates t) a b q) 0 65 none k (omega arith) (omega (arith, to)) in
+      sym (ap (λ (o : Option Chained). candidates_by o q) at) ∙ sym (ap (λ (x : Candidates). x q) (lent_is k from (omega (arith, to)))) ∙ here
 
-  pub best_counted : CountsBeyond (best_candidates (lent_candidates a)) (best_beyond a)
+  pub best_counted_by : CountsBeyond (best_candidates (lent_candidates (int_candidates t) a)) (best_beyond a t)
   unfolding best_candidates
-  best_counted = record { fewer = fewer; most = λ place. sum_fewer (λ (c : Chained). filt_beyond c None) (λ c. filt_beyond c place) (λ c. (candidates_are_counted c).0.most place) (tables.values a) }
+  best_counted_by = record { fewer = fewer; most = most }
     where
-      fewer : (place : Option Network) (p : Network) → IsNextCandidate (candidates_below 65 (lent_candidates a)) place (Some p) → best_beyond a (Some p) < best_beyond a place
-      fewer place p next =
-          let any = any_at (λ b. lent_candidates a b p) 0 65 next.1 in
-          let c = chain_of any.0 p any.1 in
-          sum_one_fewer (λ (d : Chained). filt_beyond d place) (λ d. filt_beyond d (Some p)) (λ d. chain_further place p d next.0) a any.0 c.0 c.1
-          ((candidates_are_counted c.0).0.fewer place p (next.0, c.2, λ q beyond before. other_none any.0 c.0 q c.1 (next.2 q beyond before)))
+      most : (place : Option Network) → best_beyond a t place ≤ best_beyond a t None
+      most place =
+          let peers = sum_fewer (λ (c : Chained). filt_beyond c None) (λ c. filt_beyond c place) (λ c. (candidates_are_counted c).0.most place) (tables.values a) in
+          let own = tree_most t place in
+          omega (arith, peers, own)
 
-pub beyond_within : (a : Chains) → best_beyond a None ≤ rows_in a
-beyond_within a = sum_fewer row_count (λ c. filt_beyond c None) (λ c. (candidates_are_counted c).1) (tables.values a)
+      fewer : (place : Option Network) (p : Network) → IsNextCandidate (candidates_below 65 (lent_candidates (int_candidates t) a)) place (Some p) → best_beyond a t (Some p) < best_beyond a t place
+      fewer place p next =
+          let any = any_at (λ b. lent_candidates (int_candidates t) a b p) 0 65 next.1 in
+          candidate_of (best_beyond a t (Some p) < best_beyond a t place) any.0 p (λ c at is.
+          let peers = sum_one_fewer (λ (d : Chained). filt_beyond d place) (λ d. filt_beyond d (Some p)) (λ d. chain_further place p d next.0) a any.0 c at
+          ((candidates_are_counted c).0.fewer place p (next.0, is, λ q beyond before. other_none any.0 c q at (next.2 q beyond before))) in
+          let own = tree_further t place p next.0 in
+          omega (arith, peers, own)) (λ is.
+          let peers = sum_fewer (λ (d : Chained). filt_beyond d place) (λ d. filt_beyond d (Some p)) (λ d. chain_further place p d next.0) (tables.values a) in
+          let own = tree_fewer t place p next.0 is in
+          omega (arith, peers, own)) any.1
+
+-- of a moment
+pub best_counted : (m : Moment) → Stands m → CountsBeyond (candidates_of m) (best_beyond m.chains m.tree)
+best_counted m stands = best_counted_by m.chains m.tree (stands.own SmallNumbers)
+
+pub beyond_within : (a : Chains) (t : Treed) → best_beyond a t None ≤ rows_in a + tree_count t
+beyond_within a t =
+    let peers = sum_fewer row_count (λ c. filt_beyond c None) (λ c. (candidates_are_counted c).1) (tables.values a) in
+    let own = tree_within t None in
+    omega (arith, peers, own)
+
+-- where no more lie beyond any place in the tree
+pub best_less : (a : Chains) (t t' : Treed) → ((place : Option Network) → tree_beyond t' place ≤ tree_beyond t place) → (place : Option Network) → best_beyond a t' place ≤ best_beyond a t place
+best_less a t t' less place = let own = less place in omega (arith, own)
 
 -- ---- the announced number is computed as it is told
-pub bound_is : (m v : Moment) (peers rows all known hops nine a b c unread bound : ℕ) → v ≡ m → peers ≡ length v.declared.peers + 2 → rows ≡ rows_in v.chains → all ≡ rows + tree_count v.tree → known ≡ known_in v.hops → hops ≡ 2 * known
-    → nine ≡ 9 * all → a ≡ nine + hops → IsMostUnread v.exits.queue unread → b ≡ a + unread → c ≡ b + 6 → bound ≡ peers * c → bound ≡ bound_of m
-bound_is m v peers rows all known hops nine a b c unread bound view e1 e2 e3 e4 e5 e6 e7 most e8 e9 e10 =
-    let e11 = unread_is v.exits unread most in
-    let sum : c ≡ most_unread v.exits + 9 * (rows_in v.chains + tree_count v.tree) + 2 * known_in v.hops + 6 = omega (arith, e2, e3, e4, e5, e6, e7, e8, e9, e11) in
-    e10 ∙ ap (λ (n : ℕ). n * c) e1 ∙ ap (λ (n : ℕ). (length v.declared.peers + 2) * n) sum ∙ ap bound_of view
+pub bound_is : (m v : Moment) (peers rows all resolvers external known hops nine a b c unread bound : ℕ) → v ≡ m → peers ≡ length v.declared.peers + 2 → rows ≡ rows_in v.chains → all ≡ rows + tree_count v.tree → resolvers ≡ known_in v.hops
+    → external ≡ external_known v.rib → known ≡ resolvers + external → hops ≡ 2 * known → nine ≡ 9 * all → a ≡ nine + hops → IsMostUnread v.exits.queue unread → b ≡ a + unread → c ≡ b + 6 → bound ≡ peers * c → bound ≡ bound_of m
+bound_is m v peers rows all resolvers external known hops nine a b c unread bound view e1 e2 e3 e4 e5 e6 e7 e8 e9 most e10 e11 e12 =
+    let same = unread_is v.exits unread most in
+    let sum : c ≡ most_unread v.exits + 9 * (rows_in v.chains + tree_count v.tree) + 2 * (known_in v.hops + external_known v.rib) + 6 = omega (arith, e2, e3, e4, e5, e6, e7, e8, e9, e10, e11, same) in
+    e12 ∙ ap (λ (n : ℕ). n * c) e1 ∙ ap (λ (n : ℕ). (length v.declared.peers + 2) * n) sum ∙ ap bound_of view

@@ -11,23 +11,24 @@ use Rattle.in_chain.specs.Laws.{TurnsAreBounded, TurnsAreLeft}
 use Rattle.in_chain.proofs.TurnLemmas.{turns_are_bounded as bounded_turns}
 use Rattle.rib_tree.specs.Trees.{tree_count}
 use Rattle.router_core.specs.declared.router.Phase.{Phase}
-use Rattle.router_core.specs.declared.router.Phase.TheVariants.{Rdel, Del, Fin, Nh, ReadRib, Out}
+use Rattle.router_core.specs.declared.router.Phase.TheVariants.{Rdel, Red, Del, Fin, Nh, ReadRib, Out, Ext}
 use Rattle.hop_side.specs.Resolvers.{known_in}
+use Rattle.rib_exit.specs.Exits.{known_in as external_known}
 use Rattle.peer_side.specs.Peers.{rows_in}
 use Rattle.router_core.specs.Moments.{Moment, most_unread, bound_of, Gives}
 use Rattle.router_core.specs.Lives.{live_state}
 use Rattle.router_core.specs.Stands.{Stands, AllHaveExits, SameCount}
-use Rattle.router_core.specs.Phases.{all_phases, beyonds, counts, earlier, left_from, most_of, fin_sends, nh_sends}
-use Rattle.router_core.specs.Turns.{IsTurn, Turns, RunsPhase, RunsAll, phase_of, next_task, has_work, IsSettled}
+use Rattle.router_core.specs.Phases.{all_phases, beyonds, counts, earlier, left_from, most_of, reading_of, own_sends, sends_from_red, sends_from_del, sends_from_fin, fin_sends, nh_sends}
+use Rattle.router_core.specs.Turns.{IsTurn, Turns, RunsPhase, RunsAll, phase_of, next_task, has_work, IsOver, IsSettled}
 use Rattle.router_core.specs.Works.{Keeps, IsWork, IsUnit, HaveRun, HasDrained, HaveRunOf, HaveDrained, AllHaveDrained}
 use Rattle.router_core.proofs.KeepLemmas.{keeps_none, keeps_on, gives_join, gives_none, gives_so}
-use Rattle.router_core.proofs.MostLemmas.{capped, sends_below, fin_sends_below, few_exits}
+use Rattle.router_core.proofs.MostLemmas.{capped, external_capped, sends_below, own_sends_below, fin_sends_below, few_exits}
 use Rattle.router_core.proofs.ReadingLemmas.{reading_less, readers_within, announced_fits}
 use Rattle.router_core.proofs.CountLemmas.{counts_below, over_none, none_over}
 use Rattle.router_core.proofs.NextLemmas.{next_works}
 use Rattle.router_core.proofs.ScratchLemmas.{settled_is_exact}
 use Rattle.router_core.proofs.TurnWalks.{phases_same, all_have_on}
-use Rattle.exit_side.specs.Laws.{ExactWithoutWork}
+use Rattle.router_core.specs.Laws.{LinksAtRestAreExact}
 use Rattle.live_state.specs.Lives.{LiveState}
 
 -- ---- work
@@ -161,37 +162,44 @@ earlier_are (suc (suc zero)) x within = refl
 earlier_are (suc (suc (suc zero))) x within = refl
 earlier_are (suc (suc (suc (suc zero)))) x within = refl
 earlier_are (suc (suc (suc (suc (suc zero))))) x within = refl
-earlier_are (suc (suc (suc (suc (suc (suc i)))))) x within = absurd (omega (arith, within))
+earlier_are (suc (suc (suc (suc (suc (suc zero)))))) x within = refl
+earlier_are (suc (suc (suc (suc (suc (suc (suc zero))))))) x within = refl
+earlier_are (suc (suc (suc (suc (suc (suc (suc (suc i)))))))) x within = absurd (omega (arith, within))
 
--- and how many turns an idle takes from the next one on
-next_less : (i : ℕ) (x : Phase) (m : Moment) → i < length all_phases → Stands m → rest_from (drop (i + 1) all_phases) m ≤ left_from (get_or all_phases i x) m
-next_less zero x m within stands = omega arith
-next_less (suc zero) x m within stands =
-    let read = reading_less (tables.len m.exits.chains) (tables.len m.exits.chains) (most_unread m.exits) (most_unread m.exits) (rows_in m.chains) (rows_in m.chains)
-    (counts m Del + fin_sends m.chains + 3 * rows_in m.chains) (fin_sends m.chains + 3 * rows_in m.chains) (omega arith) (omega arith) (omega arith) in
-    omega (arith, read)
-next_less (suc (suc zero)) x m within stands =
+-- how many turns readers take is no more with fewer changes to come
+read_less : (m : Moment) (sends sends' : ℕ) → sends' ≤ sends → reading_of m sends' ≤ reading_of m sends
+read_less m sends sends' less =
+    reading_less (tables.len m.exits.chains) (tables.len m.exits.chains) (most_unread m.exits) (most_unread m.exits) (rows_in m.chains + tree_count m.tree) (rows_in m.chains + tree_count m.tree) sends sends' (omega arith) (omega arith) (omega (arith, less))
+
+-- and how many turns an idle takes from the next one on, where this one is over
+next_less : (i : ℕ) (x : Phase) (m : Moment) → i < length all_phases → Stands m → IsOver (get_or all_phases i x) m → rest_from (drop (i + 1) all_phases) m ≤ left_from (get_or all_phases i x) m
+next_less zero x m within stands over = let read = read_less m (counts m Rdel + sends_from_red m) (sends_from_red m) (omega arith) in omega (arith, read)
+next_less (suc zero) x m within stands over = let read = read_less m (sends_from_red m) (sends_from_del m) (omega arith) in omega (arith, read)
+next_less (suc (suc zero)) x m within stands over = let read = read_less m (sends_from_del m) (sends_from_fin m) (omega arith) in omega (arith, read)
+next_less (suc (suc (suc zero))) x m within stands over =
     let hops = capped m stands in
     let sends = sends_below m stands in
-    let read = reading_less (tables.len m.exits.chains) (tables.len m.exits.chains) (most_unread m.exits) (most_unread m.exits) (rows_in m.chains) (rows_in m.chains)
-    (fin_sends m.chains + 3 * rows_in m.chains) (nh_sends (beyonds m.chains) m.hops) (omega arith) (omega arith) (omega (arith, sends)) in
+    let read = read_less m (sends_from_fin m) (nh_sends (beyonds m.chains) m.hops) (omega (arith, sends)) in
     omega (arith, hops, read)
-next_less (suc (suc (suc zero))) x m within stands =
+next_less (suc (suc (suc (suc zero)))) x m within stands over =
     let reader : counts m ReadRib ≤ most_unread m.exits = counts_below bounded_turns m ReadRib stands in
     let exits = counts_below bounded_turns m Out stands in
-    let all = readers_within (tables.len m.exits.chains) (most_unread m.exits) (rows_in m.chains) (nh_sends (beyonds m.chains) m.hops) (counts m ReadRib) (counts m Out) reader exits in
+    let all = readers_within (tables.len m.exits.chains) (most_unread m.exits) (rows_in m.chains + tree_count m.tree) (nh_sends (beyonds m.chains) m.hops) (counts m ReadRib) (counts m Out) reader exits in
     omega (arith, all)
-next_less (suc (suc (suc (suc zero)))) x m within stands = omega arith
-next_less (suc (suc (suc (suc (suc zero))))) x m within stands = omega arith
-next_less (suc (suc (suc (suc (suc (suc i)))))) x m within stands = absurd (omega (arith, within))
+next_less (suc (suc (suc (suc (suc zero))))) x m within stands over = let external = external_capped m stands over in omega (arith, external)
+next_less (suc (suc (suc (suc (suc (suc zero)))))) x m within stands over = omega arith
+next_less (suc (suc (suc (suc (suc (suc (suc zero))))))) x m within stands over = omega arith
+next_less (suc (suc (suc (suc (suc (suc (suc (suc i)))))))) x m within stands over = absurd (omega (arith, within))
 
 each_phase : (P : Phase → Type 0) → AllByRecursion P all_phases → (r : Phase) → P r
 each_phase P all Rdel = all.0
-each_phase P all Del = all.1.0
-each_phase P all Fin = all.1.1.0
-each_phase P all Nh = all.1.1.1.0
-each_phase P all ReadRib = all.1.1.1.1.0
-each_phase P all Out = all.1.1.1.1.1.0
+each_phase P all Red = all.1.0
+each_phase P all Del = all.1.1.0
+each_phase P all Fin = all.1.1.1.0
+each_phase P all Nh = all.1.1.1.1.0
+each_phase P all ReadRib = all.1.1.1.1.1.0
+each_phase P all Out = all.1.1.1.1.1.1.0
+each_phase P all Ext = all.1.1.1.1.1.1.1.0
 
 -- all of these are still over
 over_more : (m m' : Moment) (es : List Phase) → AllByRecursion (λ e. counts m' e ≤ counts m e) es → AllByRecursion (λ e. counts m e ≡ 0) es → AllByRecursion (λ e. counts m' e ≡ 0) es
@@ -202,13 +210,15 @@ over_more m m' (e ∷ es) less over = (let p = less.0 in let q = over.0 in omega
 bounds_fit : (m : Moment) → Stands m → left_from Rdel m ≤ bound_of m
 bounds_fit m stands =
     let a = counts_below bounded_turns m Rdel stands in
-    let b = counts_below bounded_turns m Del stands in
-    let c = counts_below bounded_turns m Fin stands in
+    let b = counts_below bounded_turns m Red stands in
+    let c = counts_below bounded_turns m Del stands in
+    let d = counts_below bounded_turns m Fin stands in
     let count = stands.own SameCount in
+    let own = own_sends_below m in
     let walks = fin_sends_below m.chains in
     let few = few_exits m stands in
-    announced_fits (counts m Rdel) (counts m Del) (counts m Fin) (most_of m) (fin_sends m.chains) (tables.len m.exits.chains) (most_unread m.exits) (rows_in m.chains) (tree_count m.tree) (length m.declared.peers) (known_in m.hops)
-    a b (omega (arith, c, count)) (omega (arith, count)) walks (omega (arith, few, count))
+    announced_fits (counts m Rdel) (counts m Red) (counts m Del) (counts m Fin) (most_of m) (own_sends m) (fin_sends m.chains) (tables.len m.exits.chains) (most_unread m.exits) (rows_in m.chains) (tree_count m.tree) (length m.declared.peers)
+    (known_in m.hops + external_known m.rib) a b c (omega (arith, d, count)) (omega (arith, count)) own walks (omega (arith, few, count))
 
 pub idling_none : (m : Moment) (before j : Journaled) → Stands m → j ≡ flushed before → Gives (Idling 0 0 m m) before j
 idling_none m before j stands is = gives_none (Idling 0 0 m m) before j (record { runs = (refl, refl, refl); keeps = keeps_none m stands; within = omega arith; over = tt }) is
@@ -227,7 +237,7 @@ idling_more i turns n z m at now before j j' within g d = gives_join (Idling i t
         let less : AllByRecursion (λ e. counts now e ≤ counts at e) (take i all_phases) = subst (λ (l : List Phase). AllByRecursion (λ e. counts now e ≤ counts at e) l) (earlier_are i z within) y.work.earlier in
         let was : turns + left_from r at ≤ left_from Rdel m = subst (λ (l : List Phase). turns + rest_from l at ≤ left_from Rdel m) rest x.within in
         let left = y.work.left in
-        let next = next_less i z now within y.work.keeps.stands in
+        let next = next_less i z now within y.work.keeps.stands y.over in
         record {
           runs = subst (λ (l : List Phase). RunsAll l m (xs ++ ys) (turns + n) now) first (runs_push (take i all_phases) r turns n m at now xs ys x.runs y.runs);
           keeps = keeps_on m at now xs ys (live_state m) refl x.keeps y.work.keeps;
@@ -236,7 +246,7 @@ idling_more i turns n z m at now before j j' within g d = gives_join (Idling i t
               (all_appended (λ e. counts now e ≡ 0) (λ e. counts now e ≡ 0) (λ e none. none) (take i all_phases) r (over_more at now (take i all_phases) less x.over) (over_none r now y.over));
         }
 
-pub idling_done : TurnsAreBounded → TurnsAreLeft → ExactWithoutWork → (i turns : ℕ) (m now : Moment) (before j : Journaled) → Stands m → AllHaveExits m → length all_phases ≤ i → Gives (Idling i turns m now) before j → Gives (AllHaveDrained m turns now) before j
+pub idling_done : TurnsAreBounded → TurnsAreLeft → LinksAtRestAreExact → (i turns : ℕ) (m now : Moment) (before j : Journaled) → Stands m → AllHaveExits m → length all_phases ≤ i → Gives (Idling i turns m now) before j → Gives (AllHaveDrained m turns now) before j
 idling_done bounded left exact i turns m now before j stands exits past g = gives_so (Idling i turns m now) (AllHaveDrained m turns now) (λ xs x.
     let all : take i all_phases ≡ all_phases = take_all i all_phases past in
     let over = subst (λ (l : List Phase). AllByRecursion (λ e. counts now e ≡ 0) l) all x.over in

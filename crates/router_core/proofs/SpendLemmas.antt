@@ -11,14 +11,20 @@ use Rattle.std.proofs.lemmas.List.Sums.{sum_by-cons}
 use Rattle.addr4.specs.Prefixes.{Network}
 use Rattle.bgp_attr.specs.declared.attrs.Attrs.{Attrs}
 use Rattle.bgp_attr.specs.declared.route.Route.{Route}
-use Rattle.link_change.specs.Rows.{Rows, Candidates}
+use Rattle.link_change.specs.Rows.{Rows, Candidates, IsNextCandidate}
 use Rattle.link_change.specs.declared.change.Change.{Change}
 use Rattle.loss_chain.specs.Tables.{Tables, tables_count}
 use Rattle.policy_rules.specs.declared.rule.Rule.{Rule}
 use Rattle.pass_core.specs.Passed.{Passed, Walked, walk_stepped, walk_of_waiting, after_walk}
-use Rattle.pass_core.specs.Turns.{walked_on, IsSentAt}
+use Rattle.pass_core.specs.Turns.{walked_on, IsSentAt, Walks}
+use Rattle.pass_core.specs.Left.{turns_left as own_left}
+use Rattle.pass_core.proofs.LeftLemmas.{walk_is_spent}
+use Rattle.redist.specs.declared.protos.Protos.{Protos}
+use Rattle.redist.specs.Local.{redistributed}
+use Rattle.bgp_attr.specs.declared.speaker.Speaker.{Speaker}
+use Rattle.rib_tree.specs.Trees.{Treed, tree_count, int_rows, int_candidates}
 use Rattle.journal_text.specs.declared.link.Task.{Task}
-use Rattle.journal_text.specs.declared.link.Task.TheVariants.{Del, Fin, Nh, ReadRib, Out, Rdel}
+use Rattle.journal_text.specs.declared.link.Task.TheVariants.{Del, Fin, Nh, ReadRib, Out, Rdel, Red, Ext}
 use Rattle.journal_text.specs.declared.entry.Entry.{Entry}
 use Rattle.journal_text.specs.declared.value.Value.{Value}
 use Rattle.nexthop_known.specs.Hops.{Hops, is_stale_at, stale_count, settled, IsMapped}
@@ -41,10 +47,11 @@ use Rattle.exit_side.specs.Exits.{Exited, OutChains}
 use Rattle.router_core.specs.declared.router.Phase.{Phase}
 use Rattle.router_core.specs.declared.router.Phase.TheVariants as phases
 use Rattle.router_core.specs.Bests.{Queues}
-use Rattle.router_core.specs.Moments.{Moment, with_hops, with_exits, most_unread}
-use Rattle.router_core.specs.Phases.{beyonds, counts, most_of, tree_lost, earlier, left_from, fin_sends, fin_sends_of, walk_candidates, waiting_candidates, nh_sends, nh_sends_of, place_candidates, next_candidates}
+use Rattle.router_core.specs.Moments.{Moment, with_hops, with_exits, with_redist, most_unread}
+use Rattle.router_core.specs.Phases.{beyonds, counts, most_of, tree_lost, tree_beyond, earlier, left_from, own_waiting, own_sends_by, sends_from_fin, sends_from_del, fin_sends, fin_sends_of, walk_candidates, waiting_candidates, nh_sends, nh_sends_of, place_candidates, next_candidates}
 use Rattle.router_core.specs.Turns.{phase_of}
 use Rattle.router_core.proofs.QueueLemmas.{queue_chains}
+use Rattle.router_core.proofs.BeyondLemmas.{tree_counted}
 use Rattle.router_core.proofs.ReadingLemmas.{sent_count, queue_most, reading_less}
 
 -- ---- walks of filters: candidates, and ends
@@ -124,6 +131,8 @@ chain_ends (Nh k) c less sent fall t = absurd t
 chain_ends ReadRib c less sent fall t = absurd t
 chain_ends (Out k) c less sent fall t = absurd t
 chain_ends (Rdel proto n) c less sent fall t = absurd t
+chain_ends Red c less sent fall t = absurd t
+chain_ends Ext c less sent fall t = absurd t
 
 -- ---- what a turn of a peer's task makes of what may be sent
 pub record Sends (m m' : Moment) : Type 0 where
@@ -132,7 +141,7 @@ pub record Sends (m m' : Moment) : Type 0 where
   pub exits : tables.len m'.exits.chains ≡ tables.len m.exits.chains
   pub fewer : most_unread m'.exits + (lost_in m'.chains + fin_sends m'.chains) ≤ most_unread m.exits + (lost_in m.chains + fin_sends m.chains)
 
-few_sent : (o : Option (Change Route)) → sent_count o ≤ 1
+pub few_sent : (o : Option (Change Route)) → sent_count o ≤ 1
 few_sent None = omega arith
 few_sent (Some c) = omega arith
 
@@ -164,45 +173,90 @@ turn_sends task m k c less sent best fall cs e at put turned quiet queued near =
     nearer ReadRib n = absurd n
     nearer (Out j) n = absurd n
     nearer (Rdel proto j) n = absurd n
+    nearer Red n = absurd n
+    nearer Ext n = absurd n
 
     walks : (t : Task) → ((j s : ℕ) → t ≢ Del j s) → Nears t m.chains cs → lost_in cs + left_in cs + 1 ≤ lost_in m.chains + left_in m.chains
     walks t other n = nearer t n
 
--- what a turn of a peer's task spends
+-- what a turn of a task spends
 abbrev pub Spent : Phase → Moment → Moment → Type 0
 Spent r m m' = (counts m' r + 1 ≤ counts m r) × (left_from r m' + 1 ≤ left_from r m) × AllByRecursion (λ e. counts m' e ≤ counts m e) (earlier r)
 
 same_lost : (m m' : Moment) → m'.tree ≡ m.tree → counts m' phases.Rdel ≤ counts m phases.Rdel
 same_lost m m' tree = let e : tree_lost m'.tree ≡ tree_lost m.tree = ap tree_lost tree in omega (arith, e)
 
+same_own : (m m' : Moment) → m'.tree ≡ m.tree → m'.redist ≡ m.redist → counts m' phases.Red ≤ counts m phases.Red
+same_own m m' tree redist =
+    let e : own_left (tree_beyond m'.tree) m'.redist ≡ own_left (tree_beyond m.tree) m.redist = ap (λ (t : Treed). own_left (tree_beyond t) m'.redist) tree ∙ ap (own_left (tree_beyond m.tree)) redist in
+    omega (arith, e)
+
+same_count : (m m' : Moment) → m'.tree ≡ m.tree → tree_count m'.tree ≡ tree_count m.tree
+same_count m m' tree = ap tree_count tree
+
 most_same : (m m' : Moment) → Sends m m' → most_of m' ≤ most_of m
 most_same m m' s = let rows = s.rows in let size = s.size in omega (arith, rows, size)
 
-pub peer_spends : (task : Task) (m m' : Moment) → m'.tree ≡ m.tree → Nears task m.chains m'.chains → Sends m m' → Spent (phase_of task) m m'
-peer_spends (Del n s) m m' tree near sends =
+pub peer_spends : (task : Task) (m m' : Moment) → m'.tree ≡ m.tree → m'.redist ≡ m.redist → Nears task m.chains m'.chains → Sends m m' → Spent (phase_of task) m m'
+peer_spends (Del n s) m m' tree redist near sends =
     let a = near.0 in
     let b = near.1 in
     let most = most_same m m' sends in
     let fewer = sends.fewer in
     let rows = sends.rows in
     let exits = sends.exits in
-    let read = reading_less (tables.len m.exits.chains) (tables.len m'.exits.chains) (most_unread m.exits) (most_unread m'.exits) (rows_in m.chains) (rows_in m'.chains)
-    (lost_in m.chains + fin_sends m.chains + 3 * rows_in m.chains) (lost_in m'.chains + fin_sends m'.chains + 3 * rows_in m'.chains) (omega (arith, exits)) rows (omega (arith, fewer, rows)) in
-    (omega (arith, a), omega (arith, a, b, most, read), (same_lost m m' tree, tt))
-peer_spends (Fin n) m m' tree near sends =
+    let routes = same_count m m' tree in
+    let read = reading_less (tables.len m.exits.chains) (tables.len m'.exits.chains) (most_unread m.exits) (most_unread m'.exits) (rows_in m.chains + tree_count m.tree) (rows_in m'.chains + tree_count m'.tree)
+    (sends_from_del m) (sends_from_del m') (omega (arith, exits)) (omega (arith, rows, routes)) (omega (arith, fewer, rows)) in
+    (omega (arith, a), omega (arith, a, b, most, rows, routes, read), (same_lost m m' tree, (same_own m m' tree redist, tt)))
+peer_spends (Fin n) m m' tree redist near sends =
     let a = near.0 in
     let b = near.1 in
     let most = most_same m m' sends in
     let fewer = sends.fewer in
     let rows = sends.rows in
     let exits = sends.exits in
-    let read = reading_less (tables.len m.exits.chains) (tables.len m'.exits.chains) (most_unread m.exits) (most_unread m'.exits) (rows_in m.chains) (rows_in m'.chains)
-    (fin_sends m.chains + 3 * rows_in m.chains) (fin_sends m'.chains + 3 * rows_in m'.chains) (omega (arith, exits)) rows (omega (arith, fewer, rows, a)) in
-    (omega (arith, b), omega (arith, b, most, read), (same_lost m m' tree, (omega (arith, a), tt)))
-peer_spends (Nh n) m m' tree near sends = absurd near
-peer_spends ReadRib m m' tree near sends = absurd near
-peer_spends (Out n) m m' tree near sends = absurd near
-peer_spends (Rdel proto n) m m' tree near sends = absurd near
+    let routes = same_count m m' tree in
+    let read = reading_less (tables.len m.exits.chains) (tables.len m'.exits.chains) (most_unread m.exits) (most_unread m'.exits) (rows_in m.chains + tree_count m.tree) (rows_in m'.chains + tree_count m'.tree)
+    (sends_from_fin m) (sends_from_fin m') (omega (arith, exits)) (omega (arith, rows, routes)) (omega (arith, fewer, rows, a)) in
+    (omega (arith, b), omega (arith, b, most, rows, routes, read), (same_lost m m' tree, (same_own m m' tree redist, (omega (arith, a), tt))))
+peer_spends (Nh n) m m' tree redist near sends = absurd near
+peer_spends ReadRib m m' tree redist near sends = absurd near
+peer_spends (Out n) m m' tree redist near sends = absurd near
+peer_spends (Rdel proto n) m m' tree redist near sends = absurd near
+peer_spends Red m m' tree redist near sends = absurd near
+peer_spends Ext m m' tree redist near sends = absurd near
+
+-- ---- the walk of redistribution: each turn goes to a candidate, or ends and sends nothing
+own_fewer : (t : Treed) (s s' : Passed Protos) (w : Walked Protos) (next : Option Network) (own best : Option (Change Route)) → s.walk ≡ Some w → s' ≡ walked_on next s → IsNextCandidate (int_candidates t) w.place next → (next ≡ None → own ≡ None)
+    → (own ≡ None → best ≡ None) → own_sends_by t s'.walk + sent_count best ≤ own_sends_by t s.walk
+own_fewer t s s' w None own best on after least ended quiet =
+    let was : own_sends_by t s.walk ≡ own_sends_by t (Some w) = ap (own_sends_by t) on in
+    let is : own_sends_by t s'.walk ≡ own_sends_by t (walk_of_waiting w.waiting) = ap (λ (x : Passed Protos). own_sends_by t x.walk) after ∙ ap (λ o. own_sends_by t (after_walk s.in_force o).walk) on in
+    let none : sent_count best ≡ 0 = ap sent_count (quiet (ended refl)) in
+    let begun = waiting_sends w.waiting in
+    omega (arith, was, is, none, begun)
+  where
+    waiting_sends : (o : Option Protos) → own_sends_by t (walk_of_waiting o) ≤ own_waiting (tree_beyond t None) o
+    waiting_sends None = omega arith
+    waiting_sends (Some on) = omega arith
+own_fewer t s s' w (Some p) own best on after least ended quiet =
+    let was : own_sends_by t s.walk ≡ own_sends_by t (Some w) = ap (own_sends_by t) on in
+    let is : own_sends_by t s'.walk ≡ own_sends_by t (Some (record w { place = Some p })) = ap (λ (x : Passed Protos). own_sends_by t x.walk) after ∙ ap (λ o. own_sends_by t (walk_stepped o p)) on in
+    let one = few_sent best in
+    let fewer = (tree_counted t).fewer w.place p least in
+    omega (arith, was, is, one, fewer)
+
+pub own_spends : (me : Speaker) (m : Moment) (s : Passed Protos) (own best : Option (Change Route)) (e : Exited) → Walks (redistributed me) (int_candidates m.tree) (int_rows m.tree) m.redist s own → (own ≡ None → best ≡ None) → Queues best m.exits e
+    → Spent phases.Red m (with_exits (with_redist m s) e)
+own_spends me m s own best e walks quiet queued =
+    let fewer = walk_is_spent (redistributed me) (int_candidates m.tree) (int_rows m.tree) (tree_beyond m.tree) m.redist s own (tree_counted m.tree) walks in
+    let sends = own_fewer m.tree m.redist s walks.walk walks.next own best walks.on walks.after walks.least (none_sent walks.next _ _ own walks.changes) quiet in
+    let most = queue_most best m.exits e queued in
+    let exits : tables.len e.chains ≡ tables.len m.exits.chains = ap (λ (a : OutChains). tables.len a) (queue_chains m.exits e best queued) in
+    let read = reading_less (tables.len m.exits.chains) (tables.len e.chains) (most_unread m.exits) (most_unread e) (rows_in m.chains + tree_count m.tree) (rows_in m.chains + tree_count m.tree)
+    (own_sends_by m.tree m.redist.walk + sends_from_del m) (own_sends_by m.tree s.walk + sends_from_del m) (omega (arith, exits)) (omega arith) (omega (arith, sends, most)) in
+    (omega (arith, fewer), omega (arith, fewer, read), (omega arith, tt))
 
 -- ---- walks of next hops: candidates, and ends
 abbrev pub need_ends : Bool → ℕ
@@ -320,8 +374,8 @@ pub hop_spends : (m : Moment) (k : ℕ) (candidates : Candidates) (upper : Rows 
     → HopTurned route_hop with_metric candidates upper metric_of m.registry r resolver taken sent → h ≡ put_resolver k taken m.hops → (sent ≡ None → best ≡ None) → Queues best m.exits e → hops_left_in (beyonds m.chains) h + 1 ≤ hops_left_in (beyonds m.chains) m.hops
     → Spent phases.Nh m (with_exits (with_hops m r h) e)
 hop_spends m k candidates upper r h e resolver taken sent best at turned after quiet queued fewer =
-    let read = reading_less (tables.len m.exits.chains) (tables.len e.chains) (most_unread m.exits) (most_unread e) (rows_in m.chains) (rows_in m.chains) (nh_sends (beyonds m.chains) m.hops) (nh_sends (beyonds m.chains) h) exits (omega arith) spent in
-    (fewer, omega (arith, fewer, read), (omega arith, (omega arith, (omega arith, tt))))
+    let read = reading_less (tables.len m.exits.chains) (tables.len e.chains) (most_unread m.exits) (most_unread e) (rows_in m.chains + tree_count m.tree) (rows_in m.chains + tree_count m.tree) (nh_sends (beyonds m.chains) m.hops) (nh_sends (beyonds m.chains) h) exits (omega arith) spent in
+    (fewer, omega (arith, fewer, read), (omega arith, (omega arith, (omega arith, (omega arith, tt)))))
   where
     exits : tables.len e.chains ≤ tables.len m.exits.chains
     exits = let same : tables.len e.chains ≡ tables.len m.exits.chains = ap (λ (a : OutChains). tables.len a) (queue_chains m.exits e best queued) in omega (arith, same)

@@ -4,15 +4,20 @@ use Rattle.std.specs.FinMap as tables
 use Rattle.addr4.specs.Prefixes.{Network}
 use Rattle.bgp_attr.specs.declared.attrs.Attrs.{Attrs}
 use Rattle.journal_text.specs.declared.link.Task.{Task}
-use Rattle.journal_text.specs.declared.link.Task.TheVariants.{Del, Fin, Nh, ReadRib, Out, Rdel}
+use Rattle.journal_text.specs.declared.link.Task.TheVariants.{Del, Fin, Nh, ReadRib, Out, Rdel, Red, Ext}
 use Rattle.journal_text.specs.declared.line.Line.{Line}
+use Rattle.journal_text.specs.declared.entry.Entry.{Entry}
+use Rattle.journal_text.specs.declared.value.Value.{Value}
+use Rattle.link_change.specs.Rows.{Rows}
+use Rattle.link_change.specs.declared.change.Change.{Change}
+use Rattle.rib_route.specs.declared.rows.Interior.{Interior}
 use Rattle.link_region.proofs.RegionLemmas.{by_bool}
 use Rattle.loss_chain.proofs.TableLemmas.{equal_by}
 use Rattle.event_text.specs.Declarations.{Declaration, peer_at}
 use Rattle.exit_side.specs.Exits.{Exited, OutChains, chain_at as exit_at, with_exit}
 use Rattle.router_core.specs.declared.router.Phase.{Phase}
 use Rattle.router_core.specs.Moments.{Moment}
-use Rattle.router_core.specs.Turns.{IsPeerTurn, IsTurn, Turns, Runs, RunsPhase, RunsAll, FeedsAll}
+use Rattle.router_core.specs.Turns.{BelowInt, IsPeerTurn, IsTurn, Turns, Runs, RunsPhase, RunsAll, FeedsAll}
 use Rattle.router_core.specs.Blocks.{RunsFirst}
 use Rattle.router_core.specs.Stands.{AllHaveExits}
 use Rattle.router_core.specs.Works.{HaveSameExits}
@@ -57,6 +62,11 @@ same_then a b c xs ys said f g is k = g k ∙ f k
 peer_same : (task : Task) (m : Moment) (said : List Line) (m' : Moment) → IsPeerTurn task m said m' → SameAlong m said m'
 peer_same task m said m' t = chains_same m m' (queue_chains m.exits m'.exits t.1.decided.best t.1.queued)
 
+-- what follows a change of `int` joins the queue
+pub below_same : (sent : Option (Change Interior)) (int : Rows Interior) (m m' : Moment) (entries : List (Entry Value)) → BelowInt sent int m m' entries → m'.exits.chains ≡ m.exits.chains
+below_same None int m m' entries b = ap (λ (x : Moment). x.exits.chains) b.0
+below_same (Some change) int m m' entries b = queue_chains m.exits m'.exits b.0.own.decided.best b.0.own.queued
+
 same_turn : (task : Task) (m : Moment) (said : List Line) (m' : Moment) → IsTurn task m said m' → SameAlong m said m'
 same_turn (Del k s) m said m' t = peer_same (Del k s) m said m' t
 same_turn (Fin k) m said m' t = peer_same (Fin k) m said m' t
@@ -65,7 +75,9 @@ same_turn ReadRib m said m' t = chains_same m m' (ap (λ (x : Moment). x.exits.c
 same_turn (Out k) m said m' t = λ j. ap (λ (e : Exited). is_some (exit_at j e)) t.turn.after ∙ by_bool (nat_eq j k) (λ b. is_some (exit_at j (with_exit k t.turn.taken m'.exits.queue m.exits)) ≡ is_some (exit_at j m.exits))
     (λ same. subst (λ (n : ℕ). is_some (exit_at n (with_exit k t.turn.taken m'.exits.queue m.exits)) ≡ is_some (exit_at n m.exits)) (sym (equal_by j k same)) (ap is_some (exit_here k t.turn.taken m'.exits.queue m.exits) ∙ sym (ap is_some t.turn.at)))
     (λ apart. ap is_some (exit_elsewhere k j t.turn.taken m'.exits.queue m.exits apart))
-same_turn (Rdel proto n) m said m' t = chains_same m m' (ap (λ (x : Moment). x.exits.chains) t.falls.after)
+same_turn (Rdel proto n) m said m' t = chains_same m m' (ap (λ (x : Moment). x.exits.chains) t.falls.after ∙ below_same t.falls.sent _ _ t.falls.followed t.falls.below t.falls.below_int)
+same_turn Red m said m' t = chains_same m m' (queue_chains m.exits m'.exits t.decided.best t.queued)
+same_turn Ext m said m' t = chains_same m m' (ap (λ (x : Moment). x.exits.chains) t.after)
 
 pub turns_same : (n : ℕ) (task : Task) (m : Moment) (said : List Line) (m' : Moment) → Turns n task m said m' → HaveSameExits m m'
 turns_same = turns_along SameAlong same_nowhere same_then same_turn

@@ -1,7 +1,7 @@
-use Rattle.router_core.specs.declared.router.Phase.TheVariants.{Del, Fin}
+use Rattle.router_core.specs.declared.router.Phase.TheVariants.{Red, Del, Fin, ReadRib, Ext}
 use Rattle.router_core.proofs.StandLemmas.{peers_sound}
 use Rattle.router_core.proofs.HopTurns.{exits_sound}
-use Rattle.router_core.proofs.NextLemmas.{next_of_hops, none_of_hops, next_of_exits, none_of_exits, next_of_reader, none_of_reader, next_of_peers, next_of_tree, none_of_tree}
+use Rattle.router_core.proofs.NextLemmas.{next_of_hops, none_of_hops, next_of_exits, none_of_exits, next_of_one, none_of_reader, none_of_own, none_of_external, next_of_peers, next_of_tree, none_of_tree}
 use Rattle.router_core.proofs.network.Network.next.Goals as goal
 
 pub first_loss-requires : goal.first_loss-requires
@@ -32,7 +32,7 @@ pub first_busy-requires-in-Out : goal.first_busy-requires-in-Out
 first_busy-requires-in-Out c = record { sound = exits_sound c.args.self.now _ c.self.view_is c.requires }
 
 pub returns-in-ReadRib-clause-next : goal.returns-in-ReadRib-clause-next
-returns-in-ReadRib-clause-next c = next_of_reader c.args.phase c.args.self.now c.next_reader.result c.in-ReadRib.is c.next_reader.ensures
+returns-in-ReadRib-clause-next c = next_of_one ReadRib c.args.phase c.args.self.now c.next_reader.result c.in-ReadRib.is c.next_reader.ensures
 
 pub returns-in-ReadRib-clause-none : goal.returns-in-ReadRib-clause-none
 returns-in-ReadRib-clause-none c = none_of_reader c.args.phase c.args.self.now c.next_reader.result c.in-ReadRib.is c.next_reader.ensures
@@ -42,3 +42,15 @@ returns-in-Out-clause-next c = next_of_exits c.args.phase c.args.self.now _ c.fi
 
 pub returns-in-Out-clause-none : goal.returns-in-Out-clause-none
 returns-in-Out-clause-none c = none_of_exits c.args.phase c.args.self.now _ c.first_busy-in-Out.result c.exit_of.result c.in-Out.is c.self.view_is c.first_busy-in-Out.ensures.none c.exit_of.ensures
+
+pub returns-in-Red-clause-next : goal.returns-in-Red-clause-next
+returns-in-Red-clause-next c = next_of_one Red c.args.phase c.args.self.now c.next_own.result c.in-Red.is c.next_own.ensures
+
+pub returns-in-Red-clause-none : goal.returns-in-Red-clause-none
+returns-in-Red-clause-none c = none_of_own c.args.phase c.args.self.now c.next_own.result c.in-Red.is c.next_own.ensures
+
+pub returns-in-Ext-clause-next : goal.returns-in-Ext-clause-next
+returns-in-Ext-clause-next c = next_of_one Ext c.args.phase c.args.self.now c.next_external.result c.in-Ext.is c.next_external.ensures
+
+pub returns-in-Ext-clause-none : goal.returns-in-Ext-clause-none
+returns-in-Ext-clause-none c = none_of_external c.args.phase c.args.self.now c.next_external.result c.in-Ext.is c.next_external.ensures
