@@ -1,6 +1,6 @@
 -- How many rows of tables lie beyond a place, whatever rows they are: those of the tree, and those of `ebgp` and `ibgp`; and where they stand.
-use Rattle.std.proofs.Common.{◌≡◌, ℕ, ◌+◌, ◌-◌, ◌<◌, ◌≤◌, Bool, true, false, not, ◌||◌, cond, T, zero, suc, List, [], ◌∷◌, ◌++◌, map, length, length-append, Option, Some, None, is_some, IsSome, refl, sym, ap, subst, ◌∙◌, arith}
-use Rattle.std.specs.Prelude.{filter, ◌⊎◌, inl, inr}
+use Rattle.std.proofs.Common.{◌≡◌, ℕ, ◌+◌, ◌-◌, ◌<◌, ◌≤◌, ◌⊎◌, inl, inr, Bool, true, false, not, ◌||◌, cond, T, zero, suc, List, [], ◌∷◌, ◌++◌, map, length, length-append, Option, Some, None, is_some, IsSome, refl, sym, ap, subst, ◌∙◌, arith}
+use Rattle.std.specs.Prelude.{filter, ◌==◌}
 use Rattle.std.specs.List.{Contains}
 use Rattle.std.proofs.lemmas.List.{length-map}
 use Rattle.std.proofs.lemmas.List.Elements.{Contains-append_left, Contains-append_right}
@@ -144,7 +144,7 @@ module _ {V : Type 0} where
 
   -- ---- a row goes
   removed_entries : (t : FinMap prefix_cmp V) (p : Network) → tables.entries (remove t p) ≡ filter (λ (e : Network × V). not (eq_by_cmp prefix_cmp p e.0)) (tables.entries t)
-  removed_entries t p = ap (λ (m : FinMap prefix_cmp V). tables.entries m) (same_map prefixes_total exact_prefixes (remove t p) (from_sorted kept) each) ∙ entries-from_sorted prefix_cmp kept sorted
+  removed_entries t p = ap (λ (m : FinMap prefix_cmp V). tables.entries m) (same_map prefixes_total exact_prefixes (remove t p) (from_sorted {R = prefix_cmp} kept) each) ∙ entries-from_sorted prefix_cmp kept sorted
     where
       keep : Network → Bool
       keep q = not (eq_by_cmp prefix_cmp p q)
@@ -155,7 +155,7 @@ module _ {V : Type 0} where
       sorted : T (is_sorted prefix_cmp kept)
       sorted = is_sorted-where_key prefix_cmp keep (tables.entries t) (entries_sorted t)
 
-      each : (q : Network) → get (remove t p) q ≡ get (from_sorted kept) q
+      each : (q : Network) → get (remove t p) q ≡ get (from_sorted {R = prefix_cmp} kept) q
       each q =
           get-remove prefixes_total t p q ∙ ap (λ b. cond b None (get t q)) ((eq_by_cmp_equiv prefixes_total).symm q p) ∙ sym (turned (eq_by_cmp prefix_cmp p q) (get t q) None)
           ∙ ap (λ (o : Option V). cond (keep q) o None) (get-entries t q) ∙ sym (find-where_key prefix_cmp keep q (λ x e. ap keep (sym (exact_prefixes q x e))) (tables.entries t))
