@@ -1,5 +1,5 @@
 -- This speaker's own routes, and the links of the forwarding side, are those that are decided from scratch.
-use Rattle.std.proofs.Common.{◌≡◌, ℕ, Bool, true, false, not, Option, Some, None, refl, sym, ap, ◌∙◌}
+use Rattle.std.proofs.Common.{◌≡◌, ℕ, true, false, not, Option, Some, None, refl, sym, ap, ◌∙◌}
 use Rattle.std.specs.Prelude.{option_map}
 use Rattle.std.specs.FinMap as tables
 use Rattle.addr4.specs.Prefixes.{Network}
@@ -43,7 +43,7 @@ pub own_is : (me : Speaker) (s : Passed Protos) (int : Rows Interior) → s.walk
 own_is me s int walk =
     ap (λ (w : Option (Walked Protos)). passed_rows (redistributed me) (record { in_force = s.in_force; walk = w }) int) walk
     ∙ (λ i p. own_at me s.in_force p (int p) i)
-    ∙ ap (λ (w : Option (Walked Protos)) (p : Network). own_row me (has (present_of s.in_force w)) (int p)) (sym walk)
+    ∙ ap {B = Rows Route} (λ (w : Option (Walked Protos)) (p : Network). own_row me (has (present_of s.in_force w)) (int p)) (sym walk)
 
 -- ---- the links behind the splitter
 external_sent : (hop : ℕ) (from : Option Neighbour) → on_link sides.Ebgp (external_of from hop) ≡ sent_by (λ w. not w.internal) hop from

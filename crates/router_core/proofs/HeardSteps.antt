@@ -114,8 +114,8 @@ below_unheard None int m m' entries below = subst (λ (es : List (Entry Value)).
 below_unheard (Some change) int m m' entries below =
     let f = below.0 in
     let lines : entries ≡ (own_entries f.own.own ++ best_entries f.own.decided.best) ++ fib_entries f.fib =
-        f.lines
-        ∙ ap (λ (es : List (Entry Value)). es ++ f.fib_lines) (f.own.lines ∙ ap (λ (es : List (Entry Value)). own_entries f.own.own ++ es) f.own.decided.lines)
-        ∙ ap (λ (es : List (Entry Value)). (own_entries f.own.own ++ best_entries f.own.decided.best) ++ es) f.forwards.lines in
+    f.lines
+    ∙ ap (λ (es : List (Entry Value)). es ++ f.fib_lines) (f.own.lines ∙ ap (λ (es : List (Entry Value)). own_entries f.own.own ++ es) f.own.decided.lines)
+    ∙ ap (λ (es : List (Entry Value)). (own_entries f.own.own ++ best_entries f.own.decided.best) ++ es) f.forwards.lines in
     subst (λ (es : List (Entry Value)). AreUnheard (journal_lines es)) (sym lines)
     (unheard_joins (own_entries f.own.own ++ best_entries f.own.decided.best) (fib_entries f.fib) (own_unheard f.own.own f.own.decided.best) (fib_unheard f.fib))

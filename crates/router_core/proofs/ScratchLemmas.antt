@@ -35,11 +35,11 @@ use Rattle.rib_tree.specs.Trees.{branch_of, low_rows, dyn_rows, int_rows, interi
 use Rattle.router_core.specs.declared.router.Phase.TheVariants as phases
 use Rattle.peer_side.specs.Peers.{chain_at, links_by, filt_by, filt_at, routes_of, rules_of, has_turn_in}
 use Rattle.live_state.specs.Lives.{Routes, Interiors}
-use Rattle.live_state.specs.Decided.{live_rows, judged_rows, least_rows, origins, since_local, with_metric_of, resolved_row, resolved_rows, rows_if_any, resolved_of, own_row, own_of as live_own, own_rows as live_own_rows, candidates_of as live_candidates, best_of as live_best, external_rows, forwarding_rows, sent_rows, in_session}
+use Rattle.live_state.specs.Decided.{live_rows, judged_rows, least_rows, origins, since_local, with_metric_of, resolved_row, resolved_rows, rows_if_any, resolved_of, own_row, own_rows as live_own_rows, candidates_of as live_candidates, best_of as live_best, external_rows, forwarding_rows, sent_rows, in_session}
 use Rattle.best_path.specs.Steps.{pick}
 use Rattle.decision.specs.Branches.{routes_below}
 use Rattle.decision.proofs.LawLemmas.{best_is_picked}
-use Rattle.router_core.specs.Bests.{own_rows, own_links, all_at, best_links, resolved_at}
+use Rattle.router_core.specs.Bests.{own_rows, own_links, all_at, best_links}
 use Rattle.router_core.specs.Lives.{live_state}
 use Rattle.addr4.specs.Prefixes.{Network}
 use Rattle.bgp_attr.specs.declared.route.Route.{Route}
@@ -232,7 +232,7 @@ module _ (law : ExactWithoutWork) (external : ExternalIsExact) (m : Moment) (sta
   own_at_rest rest None = refl
   own_at_rest rest (Some me) =
       own_is me m.redist (int_rows m.tree) (no_table m.redist.walk (rest Own tt))
-      ∙ ap (λ (rows : Rows Interior) (p : Network). own_row me (has (present m.redist)) (rows p)) (int_is (λ p of n. rest (Rdel p n) of))
+      ∙ ap {B = Rows Route} (λ (rows : Rows Interior) (p : Network). own_row me (has (present m.redist)) (rows p)) (int_is (λ p of n. rest (Rdel p n) of))
 
   red_exact : IsAtRest m Red → (s : Option Speaker) → own_links s (own_rows s m.redist (int_rows m.tree)) Red ≡ option_map route_rows (live_own_rows s (has (present m.redist)) (least_rows routes_in (origins Red)))
   red_exact rest None = refl
@@ -471,7 +471,6 @@ module _ (law : ExactWithoutWork) (external : ExternalIsExact) (m : Moment) (sta
   at_rest_is_exact Low rest = since interior_rows (low_rows m.tree) (least_rows routes_in (origins Low)) Low refl (two_are Connected Static (λ p of n. rest (Rdel p n) of)) m.declared.speaker
   at_rest_is_exact Dyn rest = since interior_rows (dyn_rows m.tree) (least_rows routes_in (origins Dyn)) Dyn refl (two_are Ospf Rip (λ p of n. rest (Rdel p n) of)) m.declared.speaker
   at_rest_is_exact Int rest = since interior_rows (int_rows m.tree) (least_rows routes_in (origins Int)) Int refl (int_is (λ p of n. rest (Rdel p n) of)) m.declared.speaker
-  at_rest_is_exact other rest = refl
 
 -- ---- where no task has work
 no_second : (a : Bool) → (a && false) ≡ false
