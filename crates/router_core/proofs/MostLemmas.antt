@@ -231,7 +231,7 @@ own_sends_below m = by_walk m.redist.walk
 abbrev chain_keys : Chained → List Network
 chain_keys c = (filtered_rows_are_few c).0
 
-entry_keys : List (ℕ × Chained) → List Network
+abbrev entry_keys : List (ℕ × Chained) → List Network
 entry_keys [] = []
 entry_keys (e ∷ es) = chain_keys e.1 ++ entry_keys es
 
@@ -294,7 +294,7 @@ best_there m q there = by_row (best_of m q) refl there
   where
     by_row : (o : Option Route) → best_of m q ≡ o → IsSome o → Contains (best_keys m) q
     by_row None is some = absurd (let clash : false ≡ true = some in cc)
-    by_row (Some r) is some = let b = best_is_a_branchs (all_at (own_of m) m.chains m.hops) q r is in branch_there m b.0 q r b.1
+    by_row (Some r) is some = let b = best_is_a_branchs (all_at (own_of m) m.chains m.hops) q r is in branch_there m b.0 q r b.2
 
 -- ---- the external routes, where the forwarding side has read all of `best`
 read_there : (queue : Queued Route) (reader : Option ℕ) (best : Rows Route) (q : Network) → unread_if queue reader ≡ [] → IsSome (read_rows_by queue reader best q) → IsSome (best q)

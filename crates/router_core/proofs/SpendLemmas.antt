@@ -191,8 +191,8 @@ same_own m m' tree redist =
     let e : own_left (tree_beyond m'.tree) m'.redist ≡ own_left (tree_beyond m.tree) m.redist = ap (λ (t : Treed). own_left (tree_beyond t) m'.redist) tree ∙ ap (own_left (tree_beyond m.tree)) redist in
     omega (arith, e)
 
-same_count : (m m' : Moment) → m'.tree ≡ m.tree → tree_count m'.tree ≡ tree_count m.tree
-same_count m m' tree = ap tree_count tree
+same_routes : (m m' : Moment) → m'.tree ≡ m.tree → tree_count m'.tree ≡ tree_count m.tree
+same_routes m m' tree = ap tree_count tree
 
 most_same : (m m' : Moment) → Sends m m' → most_of m' ≤ most_of m
 most_same m m' s = let rows = s.rows in let size = s.size in omega (arith, rows, size)
@@ -205,7 +205,7 @@ peer_spends (Del n s) m m' tree redist near sends =
     let fewer = sends.fewer in
     let rows = sends.rows in
     let exits = sends.exits in
-    let routes = same_count m m' tree in
+    let routes = same_routes m m' tree in
     let read = reading_less (tables.len m.exits.chains) (tables.len m'.exits.chains) (most_unread m.exits) (most_unread m'.exits) (rows_in m.chains + tree_count m.tree) (rows_in m'.chains + tree_count m'.tree)
     (sends_from_del m) (sends_from_del m') (omega (arith, exits)) (omega (arith, rows, routes)) (omega (arith, fewer, rows)) in
     (omega (arith, a), omega (arith, a, b, most, rows, routes, read), (same_lost m m' tree, (same_own m m' tree redist, tt)))
@@ -216,7 +216,7 @@ peer_spends (Fin n) m m' tree redist near sends =
     let fewer = sends.fewer in
     let rows = sends.rows in
     let exits = sends.exits in
-    let routes = same_count m m' tree in
+    let routes = same_routes m m' tree in
     let read = reading_less (tables.len m.exits.chains) (tables.len m'.exits.chains) (most_unread m.exits) (most_unread m'.exits) (rows_in m.chains + tree_count m.tree) (rows_in m'.chains + tree_count m'.tree)
     (sends_from_fin m) (sends_from_fin m') (omega (arith, exits)) (omega (arith, rows, routes)) (omega (arith, fewer, rows, a)) in
     (omega (arith, b), omega (arith, b, most, rows, routes, read), (same_lost m m' tree, (same_own m m' tree redist, (omega (arith, a), tt))))
