@@ -13,7 +13,7 @@ use Rattle.journal_text.specs.declared.line.Line.{Line}
 use Rattle.rib_route.specs.declared.Proto.{Proto}
 use Rattle.addr4.specs.Prefixes.{Network}
 use Rattle.event_text.specs.declared.event.Event.{Event}
-use Rattle.event_text.specs.declared.event.Event.TheVariants.{Nothing, Local, Peer, Up, Down, Bgp, FilterIn, FilterOut, RouteAdd, RouteDel, Lose, Cover, Idle, Work, Ask, Show}
+use Rattle.event_text.specs.declared.event.Event.TheVariants.{Nothing, Local, Peer, Up, Down, Bgp, FilterIn, FilterOut, RouteAdd, RouteDel, Lose, Redist, Cover, Idle, Work, Ask, Show}
 use Rattle.event_text.specs.declared.declared.DeclaredPeer.{DeclaredPeer}
 use Rattle.event_text.specs.Declarations.{Declaration, peer_at, words_of, with_session, without_session, begun_at, ended_at}
 use Rattle.event_text.proofs.Sessions.{KeepsWords, begun_words, ended_words}
@@ -33,7 +33,7 @@ use Rattle.router_core.specs.Phases.{all_phases}
 use Rattle.router_core.specs.Blocks.{Declares, BySpeaker, Begins, Loses, ByPeer, BeginsIf, EndsIf, HearsIf, Hears, DropsRouteIf, IsBlock}
 use Rattle.router_core.specs.Works.{HaveSameExits}
 use Rattle.router_core.proofs.PeerLemmas.{peer_at_map}
-use Rattle.router_core.proofs.TurnWalks.{turns_same, phases_same, first_same, feeds_same}
+use Rattle.router_core.proofs.TurnWalks.{turns_same, phases_same, first_same, feeds_same, route_same}
 
 -- ---- who is up
 abbrev IsUpIn : ℕ → Declaration → Type 0
@@ -196,7 +196,7 @@ module _ (m m' : Moment) (all : AllHaveExits m) where
   heard_if false k p octets said turns ups is = stays is.2
 
   dropped_if : (has : Bool) (proto : Proto) (p : Network) (said : List Line) (turns : ℕ) → OnlyUp m.declared m'.declared → DropsRouteIf has proto p m said turns m' → AllHaveExits m'
-  dropped_if true proto p said turns ups is = by_same m m' all ups (exits_same m m' (ap (λ (x : Moment). x.exits) is.1.after))
+  dropped_if true proto p said turns ups is = by_same m m' all ups (route_same m _ proto p _ said m' is.1)
   dropped_if false proto p said turns ups is = stays is.2
 
   pub event_exits : (event : Event) (said : List Line) (turns : ℕ) → m'.declared ≡ declared_after m.declared event → IsBlock m event said turns m' → AllHaveExits m'
@@ -211,10 +211,11 @@ module _ (m m' : Moment) (all : AllHaveExits m) where
   event_exits (FilterIn k rules) said turns declared is = by_same m m' all (λ j up. subst (IsUpIn j) declared up) (exits_same m m' (ap (λ (x : Moment). x.exits) is.2.2))
   event_exits (FilterOut k rules) said turns declared is = by_same m m' all (λ j up. subst (IsUpIn j) declared up)
       (λ i. ap (λ (x : Moment). is_some (exit_at i x.exits)) is.2.2 ∙ ap (λ (e : Exited). is_some (exit_at i e)) is.1.after ∙ same_edited k rules (exit_at k m.exits) m.exits refl i)
-  event_exits (RouteAdd p row) said turns declared is = by_same m m' all (λ j up. subst (IsUpIn j) declared up) (exits_same m m' (ap (λ (x : Moment). x.exits) is.1.after))
+  event_exits (RouteAdd p row) said turns declared is = by_same m m' all (λ j up. subst (IsUpIn j) declared up) (route_same m _ row.proto p _ said m' is.1)
   event_exits (RouteDel proto p) said turns declared is = dropped_if _ proto p said turns (λ j up. subst (IsUpIn j) declared up) is
   event_exits (Lose proto) said turns declared is = by_same m m' all (λ j up. subst (IsUpIn j) declared up)
       (λ k. ap (λ (x : Moment). is_some (exit_at k x.exits)) is.1.after ∙ first_same (tree_overdue proto m.tree) m is.1.first is.1.room is.1.runs k)
+  event_exits (Redist proto on) said turns declared is = by_same m m' all (λ j up. subst (IsUpIn j) declared up) (exits_same m m' (ap (λ (x : Moment). x.exits) is.2))
   event_exits (Cover addr) said turns declared is = stays is.1
   event_exits Idle said turns declared is = by_same m m' all (λ j up. subst (IsUpIn j) declared up) (phases_same all_phases m is.inner turns m' is.runs)
   event_exits (Work task n) said turns declared is = by_same m m' all (λ j up. subst (IsUpIn j) declared up) (turns_same turns task m is.inner m' is.taken)

@@ -40,3 +40,4 @@ pub mod HopTurns
 pub mod PolicyLemmas
 pub mod ReadLemmas
 pub mod ExitsUp
+pub mod RedistEdits

@@ -1,5 +1,5 @@
 -- `local`: the links of the interior routes begin.
-use Rattle.std.proofs.Common.{◌≡◌, ℕ, ◌+◌, ◌<◌, List, [], ◌∷◌, ◌++◌, map, take, length, get_or, Option, Some, None, is_some, true, false, cond, refl, sym, ap, subst, ◌∙◌, arith}
+use Rattle.std.proofs.Common.{◌≡◌, ℕ, ◌+◌, ◌<◌, List, [], ◌∷◌, ◌++◌, map, take, length, get_or, Option, Some, None, is_some, true, false, cond, refl, sym, ap, subst, ◌∙◌, arith, zero, suc}
 use Rattle.std.proofs.lemmas.Bool.Decides.{nat_tests}
 use Rattle.std.specs.FinMap as tables
 use Rattle.std.specs.FinMap.{get-insert}
@@ -12,13 +12,11 @@ use Rattle.rib_route.specs.declared.Proto.{Proto}
 use Rattle.rib_route.specs.declared.Proto.TheVariants.{Connected, Static, Ospf, Rip}
 use Rattle.rib_route.specs.declared.rows.Interior.{Interior}
 use Rattle.rib_tree.specs.Branches.{org_rows}
-use Rattle.rib_tree.specs.Trees.{Treed, branch_of, low_rows, dyn_rows, int_rows}
+use Rattle.rib_tree.specs.Trees.{Treed, branch_of, low_rows, dyn_rows, int_rows, tree_links}
 use Rattle.rib_tree.specs.Steps.{new_tree}
-use Rattle.rib_merge.specs.Forwards.{forwarded}
-use Rattle.rib_tree.specs.Forwards.{rib_links}
 use Rattle.journal_text.specs.declared.link.Link.{Link}
-use Rattle.journal_text.specs.declared.link.Link.TheVariants.{Org, Lost, Low, Dyn, Int, Best, Fib, ReadRib, Read, Outf, Adv}
-use Rattle.journal_text.specs.declared.entry.Entry.TheVariants.{Begin, Inherit}
+use Rattle.journal_text.specs.declared.link.Link.TheVariants.{Org, Lost, Low, Dyn, Int, Red, Best, Ebgp, Ibgp, Ext, Fib, ReadRib, Read, Outf, Adv}
+use Rattle.journal_text.specs.declared.entry.Entry.TheVariants.{Inherit}
 use Rattle.journal_text.specs.declared.value.Value.{Value}
 use Rattle.journal_text.specs.Texts.{entries_of}
 use Rattle.journal_text.specs.Walk.{Links, Leads, fold_links}
@@ -29,23 +27,30 @@ use Rattle.nexthop_resolver.specs.declared.rows.Metric.{Metric}
 use Rattle.in_chain.specs.Chains.{Chained}
 use Rattle.hop_side.specs.Resolvers.{resolver_at, rows_by}
 use Rattle.peer_side.specs.Peers.{chain_at, filt_at}
-use Rattle.router_core.specs.Bests.{best_at, best_links, resolved_at}
+use Rattle.pass_core.specs.Passed.{Passed}
+use Rattle.redist.specs.declared.protos.Protos.{Protos}
+use Rattle.redist.proofs.LawLemmas.{nothing_at_first}
+use Rattle.rib_exit.specs.declared.exit.RibExit.{RibExit}
+use Rattle.rib_exit.specs.Exits.{nothing_yet, exit_links, StandsOver}
+use Rattle.rib_exit.specs.Steps.{begin_entries}
+use Rattle.rib_exit.proofs.LawLemmas.{stands_at_first}
+use Rattle.router_core.specs.Bests.{own_rows, own_links, all_at, best_at, best_links}
 use Rattle.router_core.proofs.BestLemmas.{best_none}
-use Rattle.journal_text.specs.Values.{interior_rows, fib_rows, route_rows}
+use Rattle.journal_text.specs.Values.{interior_rows, route_rows}
 use Rattle.event_text.specs.declared.event.Event.TheVariants as events
 use Rattle.event_text.specs.Declarations.{Declaration, refusal, peer_at, with_speaker}
-use Rattle.router_core.specs.Moments.{Moment, plain, rib_by, read_by, router_links}
-use Rattle.router_core.specs.Stands.{Stands, Claim, Claims, ExitsAt, ReadsOn, InteriorTree, OneSpeaker, SameResolvers, EachExit, QueueLeads, ExitsRead, OneSender, SameSessions, OneReader}
+use Rattle.router_core.specs.Moments.{Moment, plain, tree_by, forward_by, own_of, best_of, read_by, read_rows_by, read_of, router_links}
+use Rattle.router_core.specs.Stands.{Stands, Claim, Claims, ExitsAt, ReadsOn, InteriorTree, OneSpeaker, SameResolvers, EachExit, QueueLeads, ExitsRead, OneSender, SameSessions, OneReader, ExternalStands, NothingOwn, NothingExternal}
 use Rattle.router_core.specs.Blocks.{begin_line, first_begins, rib_begins, declared_speaker}
 use Rattle.router_core.proofs.PeerLemmas.{local_first}
 use Rattle.bgp_attr.specs.Speakers.{IsSpeaker}
 use Rattle.peer_out.specs.Changes.{IsSender}
 use Rattle.link_change.specs.InOrder.{rows_before}
-use Rattle.fanout_queue.specs.Queues.{Queued}
+use Rattle.fanout_queue.specs.Queues.{Queued, AllLead}
 use Rattle.fanout_queue.specs.Readers.{unread_or_none}
 use Rattle.fanout_queue.proofs.LeadLemmas.{join_keeps_leading}
 use Rattle.out_chain.specs.Chains.{OutChained}
-use Rattle.exit_side.specs.Exits.{with_queue, chain_at as exit_at}
+use Rattle.exit_side.specs.Exits.{AllStand, with_queue, chain_at as exit_at, exit_links as exit_links_of}
 use Rattle.exit_side.specs.Laws.{IsStranger, StaysWithQueue, StrangersJoin}
 use Rattle.router_core.specs.Turns.{journal_lines}
 use Rattle.router_core.proofs.HeardSteps.{heard_quiet}
@@ -65,15 +70,12 @@ same_key k = grind (arith, nat_tests)
 begins : (rows : Rows Interior) → rows ≡ no_rows → ◌≡◌ {A = Option (Rows Value)} (Some no_rows) (Some (interior_rows rows))
 begins rows empty = ap (λ (r : Rows Interior). Some (interior_rows r)) (sym empty)
 
-begins_fib : (rows : Rows Interior) → rows ≡ no_rows → ◌≡◌ {A = Option (Rows Value)} (Some no_rows) (Some (fib_rows (forwarded rows)))
-begins_fib rows empty = ap (λ (r : Rows Interior). Some (fib_rows (forwarded r))) (sym empty)
-
-none_lost : (proto : Proto) (n : ℕ) → rib_links new_tree (Lost proto n) ≡ None
+none_lost : (proto : Proto) (n : ℕ) → tree_links new_tree (Lost proto n) ≡ None
 none_lost proto n = of_new (λ b. option_map interior_rows (rows_above b.tables.live n b.tables.deletions) ≡ None) (λ k. refl) proto
 
--- no peer is declared before it
-none_decided : (m : Moment) → Stands m → m.declared.speaker ≡ None → best_at m.chains m.hops ≡ no_rows
-none_decided m stands first = best_none (resolved_at m.chains m.hops) (λ k. by_resolver k (resolver_at k m.hops) refl)
+-- no peer is declared before it, so where this speaker's own rows are none, no row is the best
+none_decided : (m : Moment) (own : Rows Route) → Stands m → m.declared.speaker ≡ None → own ≡ no_rows → best_at own m.chains m.hops ≡ no_rows
+none_decided m own stands first none = best_none (all_at own m.chains m.hops) by_branch
   where
     by_chain : (k : ℕ) (o : Option Chained) → chain_at k m.chains ≡ o → is_some o ≡ true → ⊥
     by_chain k None at some = let clash : false ≡ true = some in cc
@@ -82,6 +84,21 @@ none_decided m stands first = best_none (resolved_at m.chains m.hops) (λ k. by_
     by_resolver : (k : ℕ) (o : Option (Resolving Metric)) → resolver_at k m.hops ≡ o → rows_by o (filt_at m.chains k) ≡ no_rows
     by_resolver k None at = refl
     by_resolver k (Some s) at = absurd (by_chain k (chain_at k m.chains) refl (sym (stands.own SameResolvers k) ∙ ap is_some at))
+
+    by_branch : (k : ℕ) → all_at own m.chains m.hops k ≡ no_rows
+    by_branch zero = none
+    by_branch (suc k) = by_resolver (suc k) (resolver_at (suc k) m.hops) refl
+
+-- nothing is redistributed before it, and so nothing at first
+own_before : (m : Moment) → m.declared.speaker ≡ None → own_of m ≡ no_rows
+own_before m first = ap (λ (s : Option Speaker). own_rows s m.redist (int_rows m.tree)) first
+
+own_then : (m : Moment) (words : Speaker) → Stands m → m.declared.speaker ≡ None → own_rows (Some words) m.redist (int_rows m.tree) ≡ no_rows
+own_then m words stands first = ap (λ (s : Passed Protos). own_rows (Some words) s (int_rows m.tree)) (stands.own NothingOwn first) ∙ nothing_at_first words (int_rows m.tree)
+
+-- a link of external routes without rows
+begins_external : (link : Link) (rows : Rows Value) → exit_links nothing_yet no_rows link ≡ Some rows → Some no_rows ≡ exit_links nothing_yet no_rows link
+begins_external link rows is = ap (λ (r : Rows Value). Some r) (sym (stands_at_first.rows link rows is)) ∙ sym is
 
 module _ (law : StrangersJoin) (m : Moment) (words : Speaker) (reader : ℕ) (admitted : refusal m.declared (events.Local words) ≡ None) (stands : Stands m) (sender : IsSender plain words) (fresh : tables.get m.exits.queue reader ≡ None) where
   abbrev queue : Queued Route
@@ -96,8 +113,15 @@ module _ (law : StrangersJoin) (m : Moment) (words : Speaker) (reader : ℕ) (ad
   empty : m.tree ≡ new_tree
   empty = (stands.own InteriorTree).waiting first
 
-  decided : best_at m.chains m.hops ≡ no_rows
-  decided = none_decided m stands first
+  -- no row is the best, before it and then
+  decided : best_of m ≡ no_rows
+  decided = none_decided m (own_of m) stands first (own_before m first)
+
+  decided_then : best_of then ≡ no_rows
+  decided_then = none_decided m (own_of then) stands first (own_then m words stands first)
+
+  same_best : best_of m ≡ best_of then
+  same_best = decided ∙ sym decided_then
 
   -- nobody reads before
   joins : IsStranger reader m.exits × StaysWithQueue m.exits queue
@@ -117,6 +141,13 @@ module _ (law : StrangersJoin) (m : Moment) (words : Speaker) (reader : ℕ) (ad
   no_exit : (k : ℕ) → exit_at k m.exits ≡ None
   no_exit k = none_before m.outgoing k (peer_at k m.declared.peers) (exit_at k m.exits) (subst (λ (s : Option Speaker). ExitsAt s m.outgoing k (peer_at k m.declared.peers) (exit_at k m.exits)) first (stands.own SameSessions k))
 
+  -- what the forwarding side has read: nothing
+  read_before : read_of m ≡ no_rows
+  read_before = ap (λ (o : Option ℕ). read_rows_by m.exits.queue o (best_of m)) no_reader
+
+  read_then : read_of then ≡ no_rows
+  read_then = ap (λ u. rows_before (unread_or_none u) (best_of then)) joined ∙ decided_then
+
   then_stands : Stands then
   then_stands = record { own = own; at = stands.at }
     where
@@ -124,27 +155,42 @@ module _ (law : StrangersJoin) (m : Moment) (words : Speaker) (reader : ℕ) (ad
       own OneSpeaker = λ k c at. absurd (let one : m.declared.speaker ≡ Some c.me = stands.own OneSpeaker k c at in let none = first in cc)
       own InteriorTree = let t = stands.own InteriorTree in record { tree = t.tree; full = t.full; few = t.few; waiting = λ e. absurd (cc) }
       own EachExit = joins.1.sound
-      own QueueLeads = join_keeps_leading m.exits.queue (best_at m.chains m.hops) reader (stands.own QueueLeads)
-      own ExitsRead = joins.1.stand (best_at m.chains m.hops) (stands.own ExitsRead)
+      own QueueLeads = subst (λ (rows : Rows Route). AllLead queue rows) same_best (join_keeps_leading m.exits.queue (best_of m) reader (stands.own QueueLeads))
+      own ExitsRead = subst (λ (rows : Rows Route). AllStand rows (with_queue queue m.exits)) same_best (joins.1.stand (best_of m) (stands.own ExitsRead))
       own OneSender = sender
       own SameSessions = λ k. subst (λ (o : Option OutChained). ExitsAt (Some words) m.outgoing k (peer_at k m.declared.peers) o) (sym (no_exit k)) (exits_none (Some words) m.outgoing k (peer_at k m.declared.peers))
       own OneReader = record { live = ap is_some joined; own = joins.0 }
+      own ExternalStands = subst (λ (rows : Rows Route). StandsOver rows m.rib) (read_before ∙ sym read_then) (stands.own ExternalStands)
+      own NothingOwn = λ e. absurd (cc)
+      own NothingExternal = λ e. absurd (cc)
       own other = stands.own other
 
-  none : (link : Link) → rib_by m.declared.speaker m.tree link ≡ None
-  none link = ap (λ (s : Option Speaker). rib_by s m.tree link) first
+  none : (link : Link) → tree_by m.declared.speaker m.tree link ≡ None
+  none link = ap (λ (s : Option Speaker). tree_by s m.tree link) first
 
-  in_tree : (link : Link) (own : Option (Rows Value)) → own ≡ rib_links new_tree link → own ≡ rib_links m.tree link
-  in_tree link own is = is ∙ ap (λ (t : Treed). rib_links t link) (sym empty)
+  no_forward : (link : Link) → forward_by m.declared.speaker m.rib (int_rows m.tree) link ≡ None
+  no_forward link = ap (λ (s : Option Speaker). forward_by s m.rib (int_rows m.tree) link) first
 
-  begin_org : (proto : Proto) → fold_links (router_links m) (entries_of rib_begins) (Org proto) ≡ rib_links m.tree (Org proto)
+  in_tree : (link : Link) (own : Option (Rows Value)) → own ≡ tree_links new_tree link → own ≡ tree_links m.tree link
+  in_tree link own is = is ∙ ap (λ (t : Treed). tree_links t link) (sym empty)
+
+  begin_org : (proto : Proto) → fold_links (router_links m) (entries_of rib_begins) (Org proto) ≡ tree_links m.tree (Org proto)
   begin_org Connected = in_tree (Org Connected) (Some no_rows) (begins (org_rows (branch_of Connected new_tree)) (org_empty Connected))
   begin_org Static = in_tree (Org Static) (Some no_rows) (begins (org_rows (branch_of Static new_tree)) (org_empty Static))
   begin_org Ospf = in_tree (Org Ospf) (Some no_rows) (begins (org_rows (branch_of Ospf new_tree)) (org_empty Ospf))
   begin_org Rip = in_tree (Org Rip) (Some no_rows) (begins (org_rows (branch_of Rip new_tree)) (org_empty Rip))
 
-  best_begins : ◌≡◌ {A = Option (Rows Value)} (Some no_rows) (Some (route_rows (best_at m.chains m.hops)))
-  best_begins = ap (λ (rows : Rows Route). Some (route_rows rows)) (sym decided)
+  in_forward : (link : Link) (own : Option (Rows Value)) → own ≡ exit_links nothing_yet no_rows link → own ≡ exit_links m.rib (int_rows m.tree) link
+  in_forward link own is = is ∙ ap (λ (rows : Rows Interior). exit_links nothing_yet rows link) (sym (ap int_rows empty ∙ int_empty)) ∙ ap (λ (x : RibExit). exit_links x (int_rows m.tree) link) (sym (stands.own NothingExternal first))
+
+  own_begins : ◌≡◌ {A = Option (Rows Value)} (Some no_rows) (Some (route_rows (own_of then)))
+  own_begins = ap (λ (rows : Rows Route). Some (route_rows rows)) (sym (own_then m words stands first))
+
+  best_begins : ◌≡◌ {A = Option (Rows Value)} (Some no_rows) (Some (route_rows (best_of then)))
+  best_begins = ap (λ (rows : Rows Route). Some (route_rows rows)) (sym decided_then)
+
+  exits_stay_put : exit_links_of m.exits (best_of m) ≡ exit_links_of (with_queue queue m.exits) (best_of then)
+  exits_stay_put = ap (exit_links_of m.exits) same_best ∙ sym (joins.1.links (best_of then))
 
   links_then : fold_links (router_links m) (entries_of rib_begins) ≡ router_links then
   links_then i link = each link i
@@ -155,12 +201,16 @@ module _ (law : StrangersJoin) (m : Moment) (words : Speaker) (reader : ℕ) (ad
       each Low = in_tree Low (Some no_rows) (begins (low_rows new_tree) low_empty)
       each Dyn = in_tree Dyn (Some no_rows) (begins (dyn_rows new_tree) dyn_empty)
       each Int = in_tree Int (Some no_rows) (begins (int_rows new_tree) int_empty)
+      each Red = own_begins
       each Best = best_begins
-      each ReadRib = best_begins ∙ ap (λ u. Some (route_rows (rows_before (unread_or_none u) (best_at m.chains m.hops)))) (sym joined)
-      each (Read j s) = ap (λ (l : Links Value). l (Read j s)) (sym (joins.1.links (best_at m.chains m.hops)))
-      each (Outf j s) = ap (λ (l : Links Value). l (Outf j s)) (sym (joins.1.links (best_at m.chains m.hops)))
-      each (Adv j s) = ap (λ (l : Links Value). l (Adv j s)) (sym (joins.1.links (best_at m.chains m.hops)))
-      each Fib = in_tree Fib (Some no_rows) (begins_fib (int_rows new_tree) int_empty)
+      each ReadRib = best_begins ∙ ap (λ u. Some (route_rows (rows_before (unread_or_none u) (best_of then)))) (sym joined)
+      each (Read j s) = ap (λ (l : Links Value). l (Read j s)) exits_stay_put
+      each (Outf j s) = ap (λ (l : Links Value). l (Outf j s)) exits_stay_put
+      each (Adv j s) = ap (λ (l : Links Value). l (Adv j s)) exits_stay_put
+      each Ebgp = in_forward Ebgp (Some no_rows) (begins_external Ebgp _ refl)
+      each Ibgp = in_forward Ibgp (Some no_rows) (begins_external Ibgp _ refl)
+      each Ext = in_forward Ext (Some no_rows) (begins_external Ext _ refl)
+      each Fib = in_forward Fib (Some no_rows) (begins_external Fib _ refl)
       each other = refl
 
   begun_leads : Leads (router_links m) (entries_of rib_begins) (router_links then)
@@ -180,8 +230,14 @@ module _ (law : StrangersJoin) (m : Moment) (words : Speaker) (reader : ℕ) (ad
                 (
                   none Int,
                   (
-                    ap (λ (s : Option Speaker). best_links s (best_at m.chains m.hops) Best) first,
-                    ((ap (λ (o : Option ℕ). read_by m.exits.queue o (best_at m.chains m.hops)) no_reader, refl), (none Fib, tt)),
+                    ap (λ (s : Option Speaker). own_links s (own_of m) Red) first,
+                    (
+                      ap (λ (s : Option Speaker). best_links s (best_of m) Best) first,
+                      (
+                        (ap (λ (o : Option ℕ). read_by m.exits.queue o (best_of m)) no_reader, refl),
+                        (no_forward Ebgp, (no_forward Ibgp, (no_forward Ext, (no_forward Fib, tt)))),
+                      ),
+                    ),
                   ),
                 ),
               ),
@@ -198,19 +254,24 @@ module _ (law : StrangersJoin) (m : Moment) (words : Speaker) (reader : ℕ) (ad
     block = (refl, record { reader = reader; fresh = fresh; lines = refl; after = refl });
     live = live_state then;
     after = refl;
-    keeps = record { leads = begun_leads; live = refl; stands = then_stands; heard = heard_quiet m then rib_begins (refl, (refl, (refl, (refl, (refl, (refl, (refl, (refl, (refl, (refl, tt)))))))))) refl };
+    keeps = record { leads = begun_leads; live = refl; stands = then_stands; heard = heard_quiet m then rib_begins (refl, (refl, (refl, (refl, (refl, (refl, (refl, (refl, (refl, (refl, (refl, (refl, (refl, (refl, tt)))))))))))))) refl };
   }
 
 pub speaker_is : (m v : Moment) (words : Speaker) (after : Declaration) → v ≡ m → after ≡ with_speaker v.declared words → record v { declared = after } ≡ declared_speaker m words
 speaker_is m v words after view said = ap (λ (d : Declaration). record v { declared = d }) said ∙ ap (λ (n : Moment). declared_speaker n words) view
 
+-- the RIB's exit, as its links begin
+pub nothing_external : (m n n' : Moment) (words : Speaker) (before now : Journaled) → Stands m → refusal m.declared (events.Local words) ≡ None → n ≡ declared_speaker m words → Adds (BeginsReading n n') before now → n'.rib ≡ nothing_yet
+nothing_external m n n' words before now stands admitted is adds =
+    ap (λ (x : Moment). x.rib) adds.2.after ∙ ap (λ (x : Moment). x.rib) is ∙ stands.own NothingExternal (local_first m.declared words admitted)
+
 pub local_declared : StrangersJoin → (m n n' : Moment) (words : Speaker) (before j1 j2 now : Journaled) → Stands m → refusal m.declared (events.Local words) ≡ None → IsSpeaker words → n ≡ declared_speaker m words → j1 ≡ with_lines before first_begins
-    → Adds (BeginsReading n n') j1 j2 → now ≡ with_entries j2 (Begin Fib ∷ []) → Pushes (HasStepped m (events.Local words) 0 n') before now
+    → Adds (BeginsReading n n') j1 j2 → now ≡ with_entries j2 begin_entries → Pushes (HasStepped m (events.Local words) 0 n') before now
 local_declared law m n n' words before j1 j2 now stands admitted formed is begins adds last = (rib_begins, lines, here)
   where
     lines : now ≡ with_lines before rib_begins
-    lines = last ∙ ap (λ (j : Journaled). with_entries j (Begin Fib ∷ [])) (adds.1 ∙ ap (with_entries j1) adds.2.lines ∙ ap (λ (j : Journaled). with_entries j (Inherit ReadRib Best ∷ [])) begins ∙ with_lines_append before first_begins (journal_lines (Inherit ReadRib Best ∷ [])))
-        ∙ with_lines_append before (first_begins ++ journal_lines (Inherit ReadRib Best ∷ [])) (journal_lines (Begin Fib ∷ []))
+    lines = last ∙ ap (λ (j : Journaled). with_entries j begin_entries) (adds.1 ∙ ap (with_entries j1) adds.2.lines ∙ ap (λ (j : Journaled). with_entries j (Inherit ReadRib Best ∷ [])) begins ∙ with_lines_append before first_begins (journal_lines (Inherit ReadRib Best ∷ [])))
+        ∙ with_lines_append before (first_begins ++ journal_lines (Inherit ReadRib Best ∷ [])) (journal_lines begin_entries)
 
     reads : BeginsReading (declared_speaker m words) n' adds.0
     reads = subst (λ (x : Moment). BeginsReading x n' adds.0) is adds.2

@@ -12,9 +12,7 @@ use Rattle.in_chain.specs.Chains.{Chained}
 use Rattle.in_chain.specs.Steps.{lost}
 use Rattle.peer_side.specs.Peers.{Chains, chain_at, peer_links, overdue_at, overdue_by, AreBefore}
 use Rattle.peer_side.specs.Steps.{MayLose, LosesInward}
-use Rattle.router_core.specs.Moments.{Moment, Gives, with_chains, with_exits}
-use Rattle.hop_side.specs.Resolvers.{PeerRows, res_at}
-use Rattle.decision.specs.Branches.{best_rows}
+use Rattle.router_core.specs.Moments.{Moment, Gives, own_of, with_chains, with_exits}
 use Rattle.loss_chain.proofs.TableLemmas.{equal_by, no_table}
 use Rattle.link_region.proofs.RegionLemmas.{by_bool}
 use Rattle.out_chain.specs.Chains.{OutChained}
@@ -24,11 +22,12 @@ use Rattle.exit_laws.proofs.OtherLemmas.{others_are_unheard}
 use Rattle.link_region.specs.declared.regions.Region.TheVariants.{Inward}
 use Rattle.live_state.specs.Lives.{LiveState, ended}
 use Rattle.router_core.specs.Lives.{live_state}
-use Rattle.router_core.specs.Stands.{PeerStands, StandsAt, Stands, ExitsAt, EachRow, SameSessions, open_session}
+use Rattle.router_core.specs.Stands.{PeerStands, StandsAt, Stands, ExitsAt, EachRow, SameSessions, ExternalAgrees, open_session}
 use Rattle.router_core.specs.Turns.{journal_lines}
 use Rattle.router_core.specs.Works.{Keeps, Pushes, HasRoom, IsSession, HasLost, Ends}
 use Rattle.live_state.proofs.AdmittedLemmas.{down, ended_same, ended_other, ended_length}
 use Rattle.peer_side.proofs.MapLemmas.{one_of}
+use Rattle.router_core.proofs.BestLemmas.{best_quiet}
 use Rattle.router_core.proofs.HopLemmas.{hops_quiet}
 use Rattle.router_core.proofs.RegionLemmas.{leads_inward}
 use Rattle.router_core.proofs.StandLemmas.{remade, peer_of, same_peers, chain_there, KeepsOthers, stands_put, live_routed}
@@ -70,10 +69,10 @@ ends_one k s m cs entries stands up silent f =
         leads = leads_inward m cs entries f.quiet f.step.leads;
         live = live_routed m (without_session m.declared k) k c (lost s c) cs f.loses.at f.loses.after refl;
         stands = stands_put m (without_session m.declared k) k c (lost s c) cs m.registry m.hops m.exits stands f.loses.at f.loses.after f.step.sound refl keeps
-            (subst (λ (o : Option DeclaredPeer). StandsAt o (Some (lost s c))) (sym (ended_same k m.declared.peers peer.0 peer.1)) here) refl
+            (subst (λ (o : Option DeclaredPeer). StandsAt o (Some (lost s c))) (sym (ended_same k m.declared.peers peer.0 peer.1)) here) refl (stands.own ExternalAgrees)
             (hops_quiet m cs stands f.quiet (same_peers m k c (lost s c) cs f.loses.at f.loses.after))
             (still c (exits_stay m (with_chains m cs) stands (put_heard k (lost s c) m.chains cs f.loses.after (lost_heard s c (stands.own EachRow k c f.loses.at)) (stands.own EachRow))
-            (ap (λ (u : PeerRows). best_rows (res_at m.hops u)) (λ i j. f.quiet j i)) refl refl refl refl));
+            (best_quiet (own_of m) m.chains cs m.hops f.quiet) refl refl refl refl (λ rows over. over)));
         heard = heard_quiet m (remade m (without_session m.declared k) cs) (journal_lines entries) (others_are_unheard Inward (peer_links m.chains) (peer_links cs) entries refl f.step.leads) refl;
       };
     }
@@ -86,7 +85,7 @@ ends_one k s m cs entries stands up silent f =
         (λ apart. subst (λ (o : Option DeclaredPeer). ExitsAt m.declared.speaker m.outgoing j o (exit_at j m.exits)) (sym (ended_other k j m.declared.peers apart)) (stands.own SameSessions j))
 
     still : (c : Chained) → ExitsStand (with_chains m cs) → ExitsStand (remade m (without_session m.declared k) cs)
-    still c x = record { rows = x.rows; each = x.each; all = x.all; read = x.read; plain = x.plain; sender = x.sender; sessions = sessions; one = x.one }
+    still c x = record { rows = x.rows; each = x.each; all = x.all; read = x.read; plain = x.plain; sender = x.sender; sessions = sessions; one = x.one; external = x.external }
 
     keeps : KeepsOthers k m.declared (without_session m.declared k)
     keeps = record { speaker = refl; count = ended_length k m.declared.peers; others = λ j e. ended_other k j m.declared.peers e }

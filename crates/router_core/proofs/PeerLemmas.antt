@@ -1,11 +1,12 @@
 -- A peer that is declared, and one whose session begins.
-use Rattle.std.proofs.Common.{◌≡◌, ℕ, ◌+◌, ◌≤◌, Bool, true, false, not, ◌&&◌, cond, List, [], ◌∷◌, ◌++◌, map, length, Option, Some, None, nat_eq, refl, sym, ap, subst, ◌∙◌, suc}
+use Rattle.std.proofs.Common.{◌≡◌, ℕ, ◌+◌, ◌≤◌, Bool, true, false, not, ◌&&◌, cond, List, [], ◌∷◌, ◌++◌, map, length, Option, Some, None, nat_eq, refl, sym, ap, subst, ◌∙◌, suc, arith}
 use Rattle.std.proofs.lemmas.List.{length_push}
 use Rattle.std.specs.Prelude.{option_map, IsSome, is_some}
 use Rattle.bgp_attr.specs.declared.speaker.Speaker.{Speaker}
 use Rattle.journal_text.specs.declared.line.Line.TheVariants as lines
 use Rattle.journal_text.specs.Journals.{Journaled, with_entries}
 use Rattle.event_text.specs.declared.event.Event.TheVariants as events
+use Rattle.event_text.specs.WellFormed.{IsWellFormed}
 use Rattle.event_text.specs.declared.declared.DeclaredPeer.{DeclaredPeer}
 use Rattle.event_text.specs.Declarations.{Declaration, peer_at, words_of, with_peer, with_session, begun_at, refusal, refusal_at, rules_refusal, session_refusal}
 use Rattle.event_text.proofs.Sessions.{addable, missed, KeepsWords, begun_words}
@@ -24,7 +25,6 @@ use Rattle.filter_bank.specs.Filtered.{filtered_rows}
 use Rattle.rib_route.specs.declared.rows.Interior.{Interior}
 use Rattle.register_interest.specs.Registers.{Registry}
 use Rattle.bgp_attr.specs.declared.route.Route.{Route}
-use Rattle.decision.specs.Branches.{best_rows}
 use Rattle.nexthop_resolver.specs.Resolving.{Resolving, nothing_known}
 use Rattle.nexthop_resolver.specs.declared.rows.Metric.{Metric}
 use Rattle.journal_text.proofs.JournalLemmas.{with_entries_append}
@@ -35,21 +35,23 @@ use Rattle.peer_side.specs.Peers.{Chains, chain_at, put_chain, peer_links, filt_
 use Rattle.peer_side.specs.Steps.{EditsInward}
 use Rattle.peer_side.proofs.PutLemmas.{at_put, put_here, put_each, put_kept, put_more}
 use Rattle.router_core.specs.Bests.{best_at}
-use Rattle.router_core.specs.Moments.{Moment, Policies, with_chains, router_links}
+use Rattle.router_core.specs.Moments.{Moment, Policies, own_of, best_of, read_rows_by, with_chains, router_links}
 use Rattle.live_state.specs.Lives.{with_rules, begun_if_down}
 use Rattle.router_core.specs.Lives.{live_state}
-use Rattle.router_core.specs.Stands.{IsSilent, PeerStands, StandsAt, Stands, Claim, Claims, EachChain, EachPeer, OneSpeaker, SameCount, EachResolver, SameResolvers, AnswersAgree, HopsCounted, NoStrangers, SmallNumbers, EachRow, QueueLeads, ExitsRead, SameSessions, ExitsAt}
+use Rattle.router_core.specs.Stands.{IsSilent, PeerStands, StandsAt, Stands, Claim, Claims, EachChain, EachPeer, OneSpeaker, SameCount, EachResolver, SameResolvers, AnswersAgree, HopsCounted, NoStrangers, SmallNumbers, EachRow, QueueLeads, ExitsRead, SameSessions, ExternalAgrees, ExternalStands, ExitsAt}
 use Rattle.router_core.specs.Turns.{journal_lines}
 use Rattle.router_core.specs.Blocks.{ByPeer, BeginsIf, Declares, declared_peer, begun}
 use Rattle.router_core.specs.Peers.{is_up}
 use Rattle.router_core.specs.Works.{HasStepped, Pushes}
+use Rattle.router_core.proofs.BestLemmas.{same_all, best_quiet}
 use Rattle.router_core.proofs.RegionLemmas.{leads_inward}
 use Rattle.peer_side.proofs.MapLemmas.{one_of as one_peer}
-use Rattle.router_core.proofs.StandLemmas.{peer_of, chain_there, same_peers, stands_with, live_edited}
+use Rattle.router_core.proofs.StandLemmas.{peer_of, chain_there, same_peers, not_zero, stands_with, live_edited}
 use Rattle.fanout_queue.specs.Queues.{AllLead}
 use Rattle.loss_chain.proofs.FeedLemmas.{no_row_at_first}
 use Rattle.out_chain.specs.Chains.{OutChained}
 use Rattle.exit_side.specs.Exits.{AllStand, chain_at as exit_at}
+use Rattle.rib_exit.specs.Exits.{StandsOver}
 use Rattle.router_core.proofs.HeardRows.{put_heard}
 use Rattle.router_core.proofs.HeardSteps.{heard_quiet}
 use Rattle.router_core.proofs.QueueLemmas.{exits_none, undeclared_none, reader_live, exits_stay}
@@ -153,11 +155,14 @@ module _ (m : Moment) (me : Speaker) (k : ℕ) (words : Speaker) (is_local : m.d
       (λ e. subst (λ (n : ℕ). rows_by (Some (nothing_known {A = Metric} k)) (filt_at (put_chain k fresh m.chains) n) ≡ res_at m.hops (filt_at (put_chain k fresh m.chains)) n) (sym (equal_by j k e))
       (ap (λ (u : Rows Route). rows_by (Some (nothing_known {A = Metric} k)) u) no_upper ∙ sym (ap (λ (o : Option (Resolving Metric)). rows_by o (filt_at (put_chain k fresh m.chains) k)) no_resolver_yet))) (λ _. refl)
 
-  -- and so the best ones stay
-  same_best : best_at (put_chain k fresh m.chains) hops_then ≡ best_at m.chains m.hops
-  same_best = ap best_rows (λ i j. same_resolved j i) ∙ ap (λ (u : PeerRows). best_rows (res_at m.hops u)) (λ i j. quiet j i)
+  same_decided : best_at (own_of m) (put_chain k fresh m.chains) hops_then ≡ best_at (own_of m) (put_chain k fresh m.chains) m.hops
+  same_decided = same_all (own_of m) (put_chain k fresh m.chains) (put_chain k fresh m.chains) m.hops hops_then same_resolved
 
-  declared_stands : k ≤ 64 → IsPeers (put_chain k fresh m.chains) → BeginsWith k m.hops hops_then → Stands (declared_peer m me k words)
+  -- and so the best ones stay
+  same_best : best_at (own_of m) (put_chain k fresh m.chains) hops_then ≡ best_of m
+  same_best = same_decided ∙ best_quiet (own_of m) m.chains (put_chain k fresh m.chains) m.hops quiet
+
+  declared_stands : (1 ≤ k) × (k ≤ 64) → IsPeers (put_chain k fresh m.chains) → BeginsWith k m.hops hops_then → Stands (declared_peer m me k words)
   declared_stands small peers begins = record { own = own; at = stands.at }
     where
       both_put : (j : ℕ) → is_some (resolver_at j hops_then) ≡ is_some (chain_at j (put_chain k fresh m.chains))
@@ -188,12 +193,13 @@ module _ (m : Moment) (me : Speaker) (k : ℕ) (words : Speaker) (is_local : m.d
           (sym (peer_at_push_other j m.declared.peers (new_peer m.declared k words) (other_by k j (λ same. let t : true ≡ false = sym (same_by j k (sym same)) ∙ e in cc)))) (stands.own SameSessions j))
       own EachResolver = begins.sound
       own SameResolvers = both_put
-      own AnswersAgree = begins.agree m.registry (stands.own NoStrangers k no_resolver_yet) (stands.own AnswersAgree)
+      own AnswersAgree = begins.agree m.registry (stands.own NoStrangers k (not_zero k small.0) no_resolver_yet) (stands.own AnswersAgree)
       own HopsCounted = begins.counted (filt_at (put_chain k fresh m.chains)) no_upper (subst (λ (u : PeerRows). AllCounted u m.hops) (λ i j. sym (quiet j) i) (stands.own HopsCounted))
-      own SmallNumbers = λ j some. by_bool (nat_eq j k) (λ b. is_some (cond b (Some fresh) (chain_at j m.chains)) ≡ true → j ≤ 64) (λ e _. subst (λ (n : ℕ). n ≤ 64) (sym (equal_by j k e)) small) (λ _ there. stands.own SmallNumbers j there)
+      own SmallNumbers = λ j some. by_bool (nat_eq j k) (λ b. is_some (cond b (Some fresh) (chain_at j m.chains)) ≡ true → (1 ≤ j) × (j ≤ 64)) (λ e _. subst (λ (n : ℕ). (1 ≤ n) × (n ≤ 64)) (sym (equal_by j k e)) small) (λ _ there. stands.own SmallNumbers j there)
           (sym (ap is_some (at_put k fresh m.chains j)) ∙ some)
-      own NoStrangers = λ j none. stands.own NoStrangers j (none_then j none)
+      own NoStrangers = λ j positive none. stands.own NoStrangers j positive (none_then j none)
       own OneSpeaker = put_each (λ j c. m.declared.speaker ≡ Some c.me) k fresh m.chains is_local (stands.own OneSpeaker)
+      own ExternalStands = subst (λ (rows : Rows Route). StandsOver (read_rows_by m.exits.queue m.reader rows) m.rib) (sym same_best) (stands.own ExternalStands)
       own SameCount = put_more k fresh m.chains no_chain_yet ∙ ap (λ (n : ℕ). n + 1) (stands.own SameCount) ∙ sym (length_push m.declared.peers (new_peer m.declared k words))
       own other = stands.own other
 
@@ -201,7 +207,7 @@ module _ (m : Moment) (me : Speaker) (k : ℕ) (words : Speaker) (is_local : m.d
   stays : {A : Type 0} (f : Option Chained → A) → f (Some fresh) ≡ f None → (j : ℕ) → f (chain_at j (put_chain k fresh m.chains)) ≡ f (chain_at j m.chains)
   stays f same = put_kept f k fresh m.chains (same ∙ ap f (sym no_chain_yet))
 
-  peer_stepped : LeadsIn Inward (peer_links m.chains) (begin_entries k) (peer_links (put_chain k fresh m.chains)) → k ≤ 64 → IsPeers (put_chain k fresh m.chains) → BeginsWith k m.hops hops_then
+  peer_stepped : LeadsIn Inward (peer_links m.chains) (begin_entries k) (peer_links (put_chain k fresh m.chains)) → (1 ≤ k) × (k ≤ 64) → IsPeers (put_chain k fresh m.chains) → BeginsWith k m.hops hops_then
       → HasStepped m (events.Peer k words) 0 (declared_peer m me k words) (journal_lines (begin_entries k ++ hop_begins k))
   peer_stepped leads small peers begins = record {
     block = subst (λ (s : Option Speaker). Declares m s k words (journal_lines (begin_entries k ++ hop_begins k)) 0 (declared_peer m me k words)) (sym is_local) (refl, refl, refl);
@@ -210,22 +216,22 @@ module _ (m : Moment) (me : Speaker) (k : ℕ) (words : Speaker) (is_local : m.d
     keeps = record {
       leads = leads_both (router_links m) (router_links (with_chains m (put_chain k fresh m.chains))) (router_links (declared_peer m me k words)) (begin_entries k) (hop_begins k)
           (leads_inward m (put_chain k fresh m.chains) (begin_entries k) quiet leads)
-          (leads_resolved (with_chains m (put_chain k fresh m.chains)) me m.registry hops_then m.exits (record { address = 0; length = 0 }) (hop_begins k) None is_local (reader_live m stands) (begins.leads (filt_at (put_chain k fresh m.chains)) no_upper) (ap best_rows (λ i j. same_resolved j i)) refl);
+          (leads_resolved (with_chains m (put_chain k fresh m.chains)) me m.registry hops_then m.exits (record { address = 0; length = 0 }) (hop_begins k) None is_local (reader_live m stands) (begins.leads (filt_at (put_chain k fresh m.chains)) no_upper) same_decided refl);
       live = λ i. record (live_state m) { declared = with_peer m.declared k words; routes = λ j. stays routes_of refl j i; rules = λ j. stays rules_of refl j i };
       stands = declared_stands small peers begins;
       heard = heard_quiet m (declared_peer m me k words) (journal_lines (begin_entries k ++ hop_begins k)) (refl, (refl, (refl, tt))) refl;
     };
   }
 
-pub peer_declared : (m v : Moment) (me : Speaker) (k : ℕ) (words : Speaker) (after : Declaration) (p : DeclaredPeer) (cs : Chains) (hs : Resolvers) (before j now : Journaled) → v ≡ m → Stands m → refusal m.declared (events.Peer k words) ≡ None
+pub peer_declared : (m v : Moment) (me : Speaker) (k : ℕ) (words : Speaker) (after : Declaration) (p : DeclaredPeer) (cs : Chains) (hs : Resolvers) (before j now : Journaled) → v ≡ m → Stands m → refusal m.declared (events.Peer k words) ≡ None → IsWellFormed (events.Peer k words)
     → Some me ≡ v.declared.speaker → after ≡ with_peer v.declared k words → Some p ≡ peer_at k after.peers → cs ≡ put_chain k (new_chain me p.words) v.chains → j ≡ with_entries before (begin_entries k)
     → LeadsIn Inward (peer_links v.chains) (begin_entries k) (peer_links cs) → IsPeers cs → BeginsHops p.words.number v.hops hs j now → Pushes (HasStepped m (events.Peer k words) 0 (record v { declared = after; chains = cs; hops = hs })) before now
-peer_declared m v me k words after p cs hs before j now view stands admitted local added there put lines leads peers begins =
+peer_declared m v me k words after p cs hs before j now view stands admitted formed local added there put lines leads peers begins =
     subst (λ (n : Moment). Pushes (HasStepped n (events.Peer k words) 0 (record v { declared = after; chains = cs; hops = hs })) before now) view (
       journal_lines (begin_entries k ++ hop_begins k),
       hop.lines ∙ ap (λ (x : Journaled). with_entries x (hop_begins k)) lines ∙ with_entries_append before (begin_entries k) (hop_begins k),
       subst (λ (n : Moment). HasStepped v (events.Peer k words) 0 n (journal_lines (begin_entries k ++ hop_begins k))) (sym is)
-          (peer_stepped v me k words (sym local) (subst Stands (sym view) stands) absent (subst (λ (x : Chains). LeadsIn Inward (peer_links v.chains) (begin_entries k) (peer_links x)) chains leads) (addable m.declared.speaker m.declared.peers k words admitted).0 (subst IsPeers chains peers)
+          (peer_stepped v me k words (sym local) (subst Stands (sym view) stands) absent (subst (λ (x : Chains). LeadsIn Inward (peer_links v.chains) (begin_entries k) (peer_links x)) chains leads) (let least = formed.0.least in omega (arith, least), (addable m.declared.speaker m.declared.peers k words admitted).0) (subst IsPeers chains peers)
           (subst (λ (x : Resolvers). BeginsWith k v.hops x) hop.after hop.begins)),
     )
   where
@@ -354,9 +360,10 @@ rules_there d k rules e = by_speaker d.speaker e
     by_speaker None e = absurd (cc)
     by_speaker (Some me) e = by_peer (peer_at k d.peers) e
 
-present_edited : (in_force : List Rule) (walk : Option (Walked (List Rule))) (rules : List Rule) → present (edited (record { in_force = in_force; walk = walk }) rules) ≡ rules
-present_edited in_force None rules = refl
-present_edited in_force (Some w) rules = refl
+-- what is edited is the latest
+pub present_edited : {F : Type 0} (in_force : F) (walk : Option (Walked F)) (latest : F) → present (edited (record { in_force = in_force; walk = walk }) latest) ≡ latest
+present_edited in_force None latest = refl
+present_edited in_force (Some w) latest = refl
 
 silent_edited : (up : Bool) (c : Chained) (rules : List Rule) → IsSilent up c → IsSilent up (refiltered rules c)
 silent_edited true c rules silent = tt
@@ -375,9 +382,9 @@ edited_one m k rules cs stands e =
         live = live_edited m k c (refiltered rules c) cs e.edits.at e.edits.after refl
             ∙ ap (λ (r : List Rule). record (live_state m) { rules = with_rules (live_state m).rules k r }) (present_edited c.filter.in_force c.filter.walk rules);
         heard = heard_quiet m (with_chains m cs) [] tt refl;
-        stands = stands_with m k c (refiltered rules c) cs m.registry m.hops m.exits p.0 stands e.edits.at e.edits.after e.sound refl p.1 (record { words = p.2.words; earlier = p.2.earlier; silent = silent_edited p.0.up c rules p.2.silent }) refl
+        stands = stands_with m k c (refiltered rules c) cs m.registry m.hops m.exits p.0 stands e.edits.at e.edits.after e.sound refl p.1 (record { words = p.2.words; earlier = p.2.earlier; silent = silent_edited p.0.up c rules p.2.silent }) refl (stands.own ExternalAgrees)
             (hops_quiet m cs stands e.quiet (same_peers m k c (refiltered rules c) cs e.edits.at e.edits.after))
-            (exits_stay m (with_chains m cs) stands (put_heard k (refiltered rules c) m.chains cs e.edits.after (stands.own EachRow k c e.edits.at) (stands.own EachRow)) (ap (λ (u : PeerRows). best_rows (res_at m.hops u)) (λ i j. e.quiet j i)) refl refl refl refl);
+            (exits_stay m (with_chains m cs) stands (put_heard k (refiltered rules c) m.chains cs e.edits.after (stands.own EachRow k c e.edits.at) (stands.own EachRow)) (best_quiet (own_of m) m.chains cs m.hops e.quiet) refl refl refl refl (λ rows over. over));
       };
     }
 

@@ -34,6 +34,6 @@ begin-requires-2-clause-absent c =
 
 pub returns : goal.returns
 returns c =
-    peer_declared c.args.self.now _ c.in-Some.me c.args.number c.args.words c.add_peer.new.self c.in-Some-peer.peer c.begin.new.self c.begin-2.new.self c.args.journal.now c.begin.new.journal c.begin-2.new.journal c.self.view_is c.requires.stands c.requires.admitted
+    peer_declared c.args.self.now _ c.in-Some.me c.args.number c.args.words c.add_peer.new.self c.in-Some-peer.peer c.begin.new.self c.begin-2.new.self c.args.journal.now c.begin.new.journal c.begin-2.new.journal c.self.view_is c.requires.stands c.requires.admitted c.requires.formed
     c.in-Some.ensures c.in_ok-add_peer.ensures.ok c.in-Some-peer.ensures c.in_ok-begin.ensures.after c.in_ok-begin.ensures.lines c.in_ok-begin.ensures.leads c.in_ok-begin.ensures.sound
     (record { after = c.in_ok-begin-2.ensures.after; lines = c.in_ok-begin-2.ensures.lines; begins = record { leads = c.in_ok-begin-2.ensures.leads; counted = c.in_ok-begin-2.ensures.counted; agree = c.in_ok-begin-2.ensures.agree; sound = c.in_ok-begin-2.ensures.sound } })
