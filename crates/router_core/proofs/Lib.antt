@@ -31,6 +31,8 @@ pub mod ProtocolLosses
 pub mod RouteTurns
 pub mod RouteRoom
 pub mod RouteSteps
+pub mod PrintedForwards
+pub mod PrintedReaders
 pub mod PrintedTurns
 pub mod PrintedBlocks
 pub mod BestLemmas

@@ -78,7 +78,7 @@ exits_of m stands = record {
 }
 
 -- the reader of the forwarding side is one of the queue's
-reads_live : (s : Option Speaker) (reader : Option ℕ) (e : Exited) → ReadsOn s reader e → (r : ℕ) → reader ≡ Some r → IsSome (tables.get e.queue r)
+pub reads_live : (s : Option Speaker) (reader : Option ℕ) (e : Exited) → ReadsOn s reader e → (r : ℕ) → reader ≡ Some r → IsSome (tables.get e.queue r)
 reads_live (Some me) (Some q) e on r is = let same : q ≡ r = cc in subst (λ (n : ℕ). IsSome (tables.get e.queue n)) same on.live
 reads_live (Some me) None e on r is = absurd on
 reads_live None (Some q) e on r is = absurd on
@@ -88,7 +88,7 @@ pub reader_live : (m : Moment) → Stands m → (r : ℕ) → m.reader ≡ Some 
 reader_live m stands = reads_live m.declared.speaker m.reader m.exits (stands.own OneReader)
 
 -- and no peer's
-reads_apart : (s : Option Speaker) (reader : Option ℕ) (e : Exited) → ReadsOn s reader e → (r : ℕ) → reader ≡ Some r → (j : ℕ) (c : OutChained) → exit_at j e ≡ Some c → c.reader ≢ r
+pub reads_apart : (s : Option Speaker) (reader : Option ℕ) (e : Exited) → ReadsOn s reader e → (r : ℕ) → reader ≡ Some r → (j : ℕ) (c : OutChained) → exit_at j e ≡ Some c → c.reader ≢ r
 reads_apart (Some me) (Some q) e on r is j c at = let same : q ≡ r = cc in subst (λ (n : ℕ). c.reader ≢ n) same (on.own j c at)
 reads_apart (Some me) None e on r is j c at = absurd on
 reads_apart None (Some q) e on r is j c at = absurd on
@@ -110,7 +110,7 @@ module _ (e e' : Exited) where
   queue_chains None q = ap (λ (x : Exited). x.chains) q
   queue_chains (Some c) q = ap (λ (x : Exited). x.chains) q.after
 
-  queue_profile : (best : Option (Change Route)) → Queues best e e' → e'.profile ≡ e.profile
+  pub queue_profile : (best : Option (Change Route)) → Queues best e e' → e'.profile ≡ e.profile
   queue_profile None q = ap (λ (x : Exited). x.profile) q
   queue_profile (Some c) q = ap (λ (x : Exited). x.profile) q.after
 
@@ -118,7 +118,7 @@ module _ (e e' : Exited) where
   queue_live None q r live = subst (λ (x : Exited). IsSome (tables.get x.queue r)) (sym q) live
   queue_live (Some c) q r live = put_keeps_readers e.queue e'.queue c q.appends r live
 
-  queue_sound : (best : Option (Change Route)) → Queues best e e' → IsExits e → IsExits e'
+  pub queue_sound : (best : Option (Change Route)) → Queues best e e' → IsExits e → IsExits e'
   queue_sound None q sound = subst IsExits (sym q) sound
   queue_sound (Some c) q sound = q.sound
 
@@ -146,7 +146,7 @@ module _ (e e' : Exited) where
       each ReadRib = queue_read best reader old new p live q sent
       each other = refl
 
-  queue_all : (best : Option (Change Route)) (old new : Rows Route) (p : Network) → Queues best e e' → IsSent old new p best → AllLead e.queue old → AllLead e'.queue new
+  pub queue_all : (best : Option (Change Route)) (old new : Rows Route) (p : Network) → Queues best e e' → IsSent old new p best → AllLead e.queue old → AllLead e'.queue new
   queue_all None old new p q sent all = subst (λ (x : Exited). AllLead x.queue new) (sym q) (subst (λ (rows : Rows Route). AllLead e.queue rows) (sym sent) all)
   queue_all (Some c) old new p q sent all = put_keeps_leading e.queue e'.queue old new p c q.appends sent all
 

@@ -116,7 +116,7 @@ same_read a b None best same = refl
 same_read a b (Some r) best same = ap (λ u. Some (route_rows (rows_before (unread_or_none u) best))) (same r refl)
 
 -- what it has, where it hasn't taken what it hadn't
-same_rows : (a b : Queued Route) (reader : Option ℕ) (best : Rows Route) → ((r : ℕ) → reader ≡ Some r → tables.get b r ≡ tables.get a r) → read_rows_by b reader best ≡ read_rows_by a reader best
+pub same_rows : (a b : Queued Route) (reader : Option ℕ) (best : Rows Route) → ((r : ℕ) → reader ≡ Some r → tables.get b r ≡ tables.get a r) → read_rows_by b reader best ≡ read_rows_by a reader best
 same_rows a b None best same = refl
 same_rows a b (Some r) best same = ap (λ u. rows_before (unread_or_none u) best) (same r refl)
 

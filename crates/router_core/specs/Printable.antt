@@ -11,7 +11,7 @@ use Rattle.event_text.specs.Declarations.{Declaration, IsDeclaration}
 use Rattle.journal_text.specs.declared.line.Line.{Line}
 use Rattle.journal_laws.specs.Peers.{neighbours}
 use Rattle.journal_laws.specs.Printed.{IsPrinted}
-use Rattle.journal_laws.specs.Standing.{AreTablesOf, IsInteriorRow, IsPrintableChain, HaveMetrics}
+use Rattle.journal_laws.specs.Standing.{AreTablesOf, IsInteriorRow, IsPrintableChain, HaveMetrics, HaveWays}
 use Rattle.in_chain.specs.Chains.{Chained}
 use Rattle.peer_side.specs.Peers.{chain_at}
 use Rattle.rib_route.specs.declared.Proto.{Proto}
@@ -28,10 +28,12 @@ abbrev pub IsHeard : Moment → List Line → Moment → Type 0
 IsHeard m said m' = Hears (neighbours m.declared) (views_of m.exits) said (views_of m'.exits)
 
 -- The declarations; each peer's chain, whose rows, live or lost, the peer said; the routes of each protocol, live or lost; the
--- answers about next hops; the changes of `best` that readers haven't taken, and the rows that peers were sent.
+-- answers about next hops of peers' routes, and of external ones; the changes of `best` that readers haven't taken, and the rows that
+-- peers were sent.
 pub record IsPrintableMoment (m : Moment) : Type 0 where
   pub declared : IsDeclaration m.declared
   pub chains : (k : ℕ) (c : Chained) → chain_at k m.chains ≡ Some c → IsPrintableChain plain c
   pub interior : (proto : Proto) → AreTablesOf IsInteriorRow (branch_of proto m.tree).tables
   pub hops : (k : ℕ) (s : Resolving Metric) → resolver_at k m.hops ≡ Some s → HaveMetrics s
+  pub ways : HaveWays m.rib.forwarding
   pub exits : ArePrintableExits (neighbours m.declared) m.exits
