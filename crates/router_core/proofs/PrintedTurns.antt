@@ -1,33 +1,32 @@
 -- What falls and turns say can be printed, and so can what stands behind them.
-use Rattle.std.proofs.Common.{◌≡◌, ◌≢◌, ℕ, zero, suc, not, nat_eq, refl, ◌≤◌, List, [], ◌∷◌, ◌++◌, Option, Some, None, IfSome, sym, ap, subst, ◌∙◌, inr}
+use Rattle.std.proofs.Common.{◌≡◌, ◌≢◌, ℕ, zero, suc, true, false, not, nat_eq, refl, arith, ◌≤◌, List, [], ◌∷◌, ◌++◌, Option, Some, None, IfSome, sym, ap, subst, ◌∙◌, inr}
 use Rattle.std.specs.List.{AllByRecursion}
 use Rattle.addr4.specs.Prefixes.{Network}
 use Rattle.bgp_attr.specs.declared.attrs.Attrs.{Attrs}
 use Rattle.bgp_attr.specs.declared.route.Route.{Route}
 use Rattle.bgp_attr.specs.declared.speaker.Neighbour.{Neighbour}
 use Rattle.rib_route.specs.declared.Proto.{Proto}
-use Rattle.rib_route.specs.declared.rows.FibRow.{FibRow}
 use Rattle.link_change.specs.Rows.{Rows}
 use Rattle.link_change.specs.Changes.{IsSent}
 use Rattle.link_change.specs.declared.change.Change.{Change}
 use Rattle.journal_text.specs.Names.{IsNameNumber}
-use Rattle.journal_text.specs.Values.{fib_value, route_value}
+use Rattle.journal_text.specs.Values.{interior_value, route_value, sent_entries}
 use Rattle.journal_text.specs.Walk.{no_links}
 use Rattle.journal_text.specs.declared.entry.Entry.{Entry}
 use Rattle.journal_text.specs.declared.value.Value.{Value}
 use Rattle.journal_text.specs.declared.line.Line.{Line}
 use Rattle.journal_text.specs.declared.line.Line.TheVariants as lines
 use Rattle.journal_text.specs.declared.link.Link.{Link}
-use Rattle.journal_text.specs.declared.link.Link.TheVariants.{In, Org, Fib, Res, Best, ReadRib}
+use Rattle.journal_text.specs.declared.link.Link.TheVariants.{In, Org, Res, Red, Best, ReadRib}
 use Rattle.journal_text.specs.declared.link.Task.{Task}
 use Rattle.journal_text.specs.declared.link.Task.TheVariants.{Del, Fin, Nh, Out, Rdel}
 use Rattle.journal_text.specs.declared.link.Task.TheVariants as tasks
-use Rattle.journal_check.specs.Laws.{IsPrefix, IsNumberIfAny}
+use Rattle.journal_check.specs.Laws.{IsPrefix}
 use Rattle.journal_laws.specs.Printed.{IsPrinted}
-use Rattle.journal_laws.specs.Standing.{AreTablesOf, IsInteriorRow, WasHeard, IsHeardRow}
+use Rattle.journal_laws.specs.Standing.{AreTablesOf, IsInteriorRow, WasHeard, IsHeardRow, IsMetric, IsWay, HaveWays}
 use Rattle.journal_laws.specs.Laws.{AreEachOnce}
 use Rattle.journal_laws.proofs.PrintedFalls.{falls_printed}
-use Rattle.journal_laws.proofs.PrintedRows.{AreFit, IsFit, Prints, fed_fit, swept_fit, welded_fit, filt_prints, int_prints, fib_prints, beside_tree_prints}
+use Rattle.journal_laws.proofs.PrintedRows.{AreFit, IsFit, Prints, fed_fit, swept_fit, welded_fit, filt_prints, int_prints, beside_tree_prints}
 use Rattle.journal_laws.proofs.PrintedWays.{down_of, table_row, sweep_way, ArePrintedEntries, weld_printed, sent_printed, Heard, with_fit, tables_fit, feed_once, chain_fall, turned_fit}
 use Rattle.loss_chain.specs.declared.owner.Owner.TheVariants as owners
 use Rattle.loss_chain.specs.Steps.{fed_tables, welded_tables}
@@ -37,48 +36,61 @@ use Rattle.in_chain.specs.Falls.{way_of_feed}
 use Rattle.in_chain.specs.Steps.{fed, welded, Turned}
 use Rattle.std.specs.FinMap as tables
 use Rattle.rib_route.specs.declared.rows.Interior.{Interior}
-use Rattle.register_interest.specs.Registers.{Registry}
-use Rattle.nexthop_resolver.specs.Kept.{metric_of}
-use Rattle.nexthop_resolver.specs.Registered.{answer_of}
+use Rattle.register_interest.specs.Registers.{Registry, put_row}
+use Rattle.nexthop_resolver.specs.Kept.{route_hop, with_metric, metric_of, external_hop, over, way_of}
+use Rattle.nexthop_resolver.specs.Registered.{answer_of, KeepsOthers}
 use Rattle.link_region.proofs.RegionLemmas.{by_bool}
 use Rattle.loss_chain.proofs.TableLemmas.{equal_by}
-use Rattle.decision.specs.Branches.{best_rows, best_candidates}
 use Rattle.decision.proofs.LawLemmas.{best_is_a_branchs}
 use Rattle.peer_out.proofs.SentLemmas.{read_may_be_heard}
-use Rattle.link_change.proofs.RowLemmas.{with_row_here}
 use Rattle.exit_side.specs.Exits.{Exited, with_queue}
-use Rattle.exit_laws.specs.Printable.{AreBestRows, IsBestChange, ArePrintableExits}
-use Rattle.exit_laws.proofs.KeptLemmas.{put_is_printed}
-use Rattle.exit_laws.proofs.PrintLemmas.{turn_is_printed, take_is_printed}
-use Rattle.router_core.specs.Bests.{best_at, resolved_at, lent_candidates, Queues}
-use Rattle.router_core.specs.Stands.{RowsWereHeard}
-use Rattle.router_core.proofs.HeardRows.{IsHeardChain, heard_best, put_heard}
+use Rattle.exit_laws.specs.Printable.{AreBestRows}
+use Rattle.bgp_attr.specs.declared.speaker.Speaker.{Speaker}
+use Rattle.std.specs.FinMap.{FinMap}
+use Rattle.addr4.specs.Prefixes.{prefix_cmp}
+use Rattle.link_change.specs.Rows.{with_row}
+use Rattle.link_change.proofs.RowLemmas.{rows_inserted, rows_removed}
+use Rattle.pass_core.specs.Turns.{IsSentAt, passed_rows}
+use Rattle.redist.specs.Local.{redistributed}
+use Rattle.rib_exit.specs.declared.exit.RibExit.{RibExit}
+use Rattle.rib_exit.specs.Exits.{fib_over, StandsOver}
+use Rattle.rib_exit.specs.Steps.{FallsOn, reached_hop}
+use Rattle.out_chain.specs.Chains.{RowsMayBeHeard}
+use Rattle.router_core.specs.Bests.{own_rows, all_at, best_at, own_entries, best_entries}
+use Rattle.router_core.specs.Stands.{RowsWereHeard, MaySend}
+use Rattle.router_core.proofs.BestLemmas.{same_all, best_quiet}
+use Rattle.router_core.proofs.HopLemmas.{all_comes}
+use Rattle.router_core.proofs.HeardRows.{IsHeardChain, heard_best, heard_own_rows, put_heard}
+use Rattle.router_core.proofs.PrintedForwards.{own_print, fib_print, fib_printed, external_printed}
+use Rattle.router_core.proofs.PrintedReaders.{FitReaders, read_rows_are, queued_readers, out_readers, taken_goes, taken_are, taken_readers}
 use Rattle.hop_side.specs.Resolvers.{Resolvers, PeerRows, resolver_at, res_at, AllCounted}
-use Rattle.hop_side.specs.Steps.{GoesOn, res_entries}
+use Rattle.hop_side.specs.Steps.{GoesOn, ComesOn, res_entries}
 use Rattle.peer_side.specs.Peers.{Chains, chain_at, put_chain, filt_by, filt_at, peer_of}
 use Rattle.peer_side.specs.Steps.{FeedsInward, TakesInward, Changes, chain_weld_entries}
 use Rattle.peer_side.proofs.PutLemmas.{put_each}
-use Rattle.rib_merge.specs.Forwards.{forwarded}
 use Rattle.rib_tree.specs.Branches.{Branch}
 use Rattle.rib_tree.specs.BranchSteps.{welded_branch, swept_branch}
 use Rattle.rib_tree.specs.Falls.{way_of_sweep}
 use Rattle.rib_tree.specs.Trees.{Treed, branch_of, beside_tree, int_rows, AreNumbered}
-use Rattle.rib_tree.specs.Steps.{swept_tree, tree_weld_entries}
+use Rattle.rib_tree.specs.Steps.{welded_tree, swept_tree, tree_weld_entries}
 use Rattle.router_core.specs.declared.router.Phase.{Phase}
-use Rattle.router_core.specs.Moments.{Moment, with_chains, with_hops, with_exits}
+use Rattle.router_core.specs.Moments.{Moment, own_of, best_of, read_of, read_rows_by, with_chains, with_hops, with_tree, with_exits, with_redist, with_rib}
 use Rattle.router_core.specs.Blocks.{RunsFirst}
 use Rattle.live_state.specs.Messages.{plain}
-use Rattle.router_core.specs.Turns.{journal_lines, Resolves, Invalidates, FallsPeer, FeedsAll, fib_entries, FallsRoute, IsPeerTurn, IsHopTurn, IsRouteTurn, IsOutTurn, IsReadTurn, IsTurn, Turns, Runs, RunsPhase, RunsAll}
+use Rattle.router_core.specs.Turns.{journal_lines, Resolves, FallsPeer, FeedsAll, FollowsInt, BelowInt, FallsRoute, IsPeerTurn, IsHopTurn, IsRouteTurn, IsOutTurn, IsReadTurn, IsOwnTurn, IsExternalTurn, IsTurn, Turns, Runs, RunsPhase, RunsAll}
 use Rattle.peer_side.proofs.WeldLemmas.{fallen_at, weld_lines, weld_after}
-use Rattle.router_core.proofs.RouteLemmas.{keeps_up}
-use Rattle.journal_laws.proofs.PrintedHops.{AllHaveMetrics, rows_print, present_fit, metrics_kept, metrics_turned, metrics_reached, metrics_put}
+use Rattle.journal_laws.proofs.PrintedHops.{AllHaveMetrics, rows_print, metrics_fit, ways_fit, answers_kept, answers_mapped, answers_turned, metrics_reached, metrics_put}
 use Rattle.rib_tree.proofs.TreeParts.{put_all}
+
+-- the register's rows with one that was put
+put_is_with : (rows : FinMap prefix_cmp Interior) (p : Network) (row : Option Interior) → tables.get (put_row rows p row) ≡ with_row (tables.get rows) p row
+put_is_with rows p None = rows_removed rows p
+put_is_with rows p (Some row) = rows_inserted rows p row
 
 -- where no protocol has lost its routes more often than so
 module _ (peers : ℕ → Option Neighbour) (most : ℕ) where
-  fib_printed : (old new : Rows FibRow) (p : Network) (below : Option (Change FibRow)) → Prints peers fib_value old → Prints peers fib_value new → IsSent old new p below → ArePrintedEntries peers (fib_entries below)
-  fib_printed old new p None before then is = tt
-  fib_printed old new p (Some change) before then is = sent_printed peers fib_value Fib old new p (Some change) tt before then is
+  abbrev Is : Entry Value → Type 0
+  Is e = IsPrinted peers (lines.Journal e)
 
   -- ---- what stands within a step
   pub record Fit (m : Moment) : Type 0 where
@@ -89,8 +101,10 @@ module _ (peers : ℕ → Option Neighbour) (most : ℕ) where
     pub counted : AllCounted (filt_at m.chains) m.hops
     pub registered : tables.get m.registry.rows ≡ int_rows m.tree
     pub metrics : AllHaveMetrics m.hops
-    pub profile : m.exits.profile ≡ plain
-    pub exits : ArePrintableExits peers m.exits
+    pub ways : HaveWays m.rib.forwarding
+    pub nobody : peers 0 ≡ None
+    pub sender : MaySend m.declared.speaker
+    pub readers : FitReaders peers m
 
   -- from one moment to another, this is said
   abbrev pub Goes : Moment → List Line → Moment → Type 0
@@ -117,13 +131,19 @@ module _ (peers : ℕ → Option Neighbour) (most : ℕ) where
       by_chain None at = λ p row is. absurd (cc)
       by_chain (Some c) at = filt_prints peers plain c (fit.chains k c at).0
 
-  answered : (m : Moment) → Fit m → (a : ℕ) → IsNumberIfAny (answer_of metric_of m.registry a).igp
-  answered m fit = present_fit peers m.registry (int_rows m.tree) fit.registered (int_prints peers m.tree (λ proto. (fit.interior proto).printable))
+  int_fit : (m : Moment) → Fit m → Prints peers interior_value (int_rows m.tree)
+  int_fit m fit = int_prints peers m.tree (λ proto. (fit.interior proto).printable)
 
-  resolved_metrics : (k : ℕ) (sent below : Option (Change Route)) (r r' : Registry Interior) (h h' : Resolvers) (entries : List (Entry Value)) → ((a : ℕ) → IsNumberIfAny (answer_of metric_of r a).igp) → Resolves k sent below r r' h h' entries
+  answered : (m : Moment) → Fit m → (a : ℕ) → IsMetric (answer_of metric_of m.registry a)
+  answered m fit = metrics_fit peers m.registry (int_rows m.tree) fit.registered (int_fit m fit)
+
+  answered_ways : (m : Moment) → Fit m → (a : ℕ) → IsWay (answer_of way_of m.registry a)
+  answered_ways m fit = ways_fit peers m.registry (int_rows m.tree) fit.registered (int_fit m fit)
+
+  resolved_metrics : (k : ℕ) (sent below : Option (Change Route)) (r r' : Registry Interior) (h h' : Resolvers) (entries : List (Entry Value)) → ((a : ℕ) → IsMetric (answer_of metric_of r a)) → Resolves k sent below r r' h h' entries
       → AllHaveMetrics h → AllHaveMetrics h'
   resolved_metrics k None below r r' h h' entries fit t metrics = subst AllHaveMetrics (sym t.2) metrics
-  resolved_metrics k (Some change) below r r' h h' entries fit t metrics = metrics_put k t.taken h h' t.after (metrics_kept r t.resolver t.taken fit t.keeps (metrics k t.resolver t.at)) metrics
+  resolved_metrics k (Some change) below r r' h h' entries fit t metrics = metrics_put k t.taken h h' t.after (answers_kept IsMetric (answer_of metric_of r) t.resolver t.taken fit t.keeps (metrics k t.resolver t.at)) metrics
 
   -- what a resolver sends, from these rows above it to those
   res_printed : (k p' : ℕ) (p : Network) (sent : Option (Change Route)) (h h' : Resolvers) (uppers now : PeerRows) → p' ≡ k → IsNameNumber p' → AllHaveMetrics h → AllHaveMetrics h' → Prints peers route_value (uppers k) → Prints peers route_value (now k)
@@ -131,12 +151,11 @@ module _ (peers : ℕ → Option Neighbour) (most : ℕ) where
   res_printed k p' p sent h h' uppers now own named before then above below is = sent_printed peers route_value (Res k) (res_at h uppers k) (res_at h' now k) p sent (subst IsNameNumber own named)
       (rows_print peers (resolver_at k h) (uppers k) (λ s at. before k s at) above) (rows_print peers (resolver_at k h') (now k) (λ s at. then k s at) below) is
 
-  -- the rows of all `res.K`, and the best of them
-  resolved_prints : (a : Chains) (h : Resolvers) → AllHaveMetrics h → ((k : ℕ) → Prints peers route_value (filt_at a k)) → (k : ℕ) → Prints peers route_value (resolved_at a h k)
-  resolved_prints a h metrics above k = rows_print peers (resolver_at k h) (filt_at a k) (λ s at. metrics k s at) (above k)
-
-  best_prints : (rows : ℕ → Rows Route) → ((k : ℕ) → Prints peers route_value (rows k)) → Prints peers route_value (best_rows rows)
-  best_prints rows each p row is = let b = best_is_a_branchs rows p row is in each b.0 p row b.2
+  -- ---- the decision
+  -- the rows of all branches
+  all_print : (own : Rows Route) (a : Chains) (h : Resolvers) → Prints peers route_value own → AllHaveMetrics h → ((k : ℕ) → Prints peers route_value (filt_at a k)) → (k : ℕ) → Prints peers route_value (all_at own a h k)
+  all_print own a h mine metrics above zero = mine
+  all_print own a h mine metrics above (suc k) = rows_print peers (resolver_at (suc k) h) (filt_at a (suc k)) (λ s at. metrics (suc k) s at) (above (suc k))
 
   -- the rows of a chain were heard of its peer
   chain_heard : (c : Chained) → IsFit peers plain c → IsHeardChain c
@@ -145,42 +164,41 @@ module _ (peers : ℕ → Option Neighbour) (most : ℕ) where
   rows_heard : (m : Moment) → Fit m → RowsWereHeard m.chains
   rows_heard m fit k c at = chain_heard c (fit.chains k c at).0
 
-  -- the rows of `best`, which can be said to peers, and printed
-  best_rows_are : (a : Chains) (h : Resolvers) → RowsWereHeard a → AllHaveMetrics h → ((k : ℕ) → Prints peers route_value (filt_at a k)) → AreBestRows peers (best_at a h)
-  best_rows_are a h heard metrics above p row is =
-      let printed = best_prints (resolved_at a h) (resolved_prints a h metrics above) p row is in
-      record { prefix = printed.0; heard = heard_best a h heard p row is; printed = printed.1 }
+  -- the best of them, which can be said to peers, and printed
+  best_rows_are : (own : Rows Route) (a : Chains) (h : Resolvers) → Prints peers route_value own → RowsMayBeHeard plain own → RowsWereHeard a → AllHaveMetrics h → ((k : ℕ) → Prints peers route_value (filt_at a k)) → AreBestRows peers (best_at own a h)
+  best_rows_are own a h mine said heard metrics above p row is =
+      let b = best_is_a_branchs (all_at own a h) p row is in
+      let printed = all_print own a h mine metrics above b.0 p row b.2 in
+      record { prefix = printed.0; heard = heard_best own a h said heard p row is; printed = printed.1 }
 
-  pub best_fit : (m : Moment) → Fit m → AreBestRows peers (best_at m.chains m.hops)
-  best_fit m fit = best_rows_are m.chains m.hops (rows_heard m fit) fit.metrics (filt_fit m fit)
+  -- this speaker's own, and the best, of a moment
+  pub own_prints : (m : Moment) → Fit m → Prints peers route_value (own_of m)
+  own_prints m fit = own_print peers fit.nobody m.declared.speaker m.redist (int_rows m.tree) fit.sender (int_fit m fit)
 
-  prefix_of_one : (p : Network) (before after : Option Route) → after ≢ before → ((r : Route) → before ≡ Some r → IsPrefix p) → ((r : Route) → after ≡ Some r → IsPrefix p) → IsPrefix p
-  prefix_of_one p None None differs was is = absurd (differs refl)
-  prefix_of_one p (Some r) after differs was is = was r refl
-  prefix_of_one p None (Some r) differs was is = is r refl
+  own_heard : (m : Moment) → Fit m → RowsMayBeHeard plain (own_of m)
+  own_heard m fit = heard_own_rows m.declared.speaker m.redist (int_rows m.tree) fit.sender
 
-  -- a change from such rows to such
-  best_change : (old new : Rows Route) (p : Network) (change : Change Route) → AreBestRows peers old → AreBestRows peers new → IsSent old new p (Some change) → IsBestChange peers change
-  best_change old new p change before after is =
-      let was = λ (r : Route) (r_is : change.before ≡ Some r). before change.prefix r (is.1.0 ∙ r_is) in
-      let then = λ (r : Route) (r_is : change.after ≡ Some r). after change.prefix r (ap (λ (rows : Rows Route). rows change.prefix) is.2 ∙ with_row_here old change.prefix change.after ∙ r_is) in
-      record { prefix = prefix_of_one change.prefix change.before change.after is.1.1 (λ r r_is. (was r r_is).prefix) (λ r r_is. (then r r_is).prefix); before = was; after = then }
+  pub best_fit : (m : Moment) → Fit m → AreBestRows peers (best_of m)
+  best_fit m fit = best_rows_are (own_of m) m.chains m.hops (own_prints m fit) (own_heard m fit) (rows_heard m fit) fit.metrics (filt_fit m fit)
 
-  -- such a change joins the queue, if one came
-  queued_fit : (old new : Rows Route) (p : Network) (best : Option (Change Route)) (e e' : Exited) → AreBestRows peers old → AreBestRows peers new → IsSent old new p best → Queues best e e'
-      → e.profile ≡ plain → ArePrintableExits peers e → (e'.profile ≡ plain) × ArePrintableExits peers e'
-  queued_fit old new p None e e' before after is queues profile exits = (ap (λ (x : Exited). x.profile) queues ∙ profile, subst (ArePrintableExits peers) (sym queues) exits)
-  queued_fit old new p (Some change) e e' before after is queues profile exits =
-      (ap (λ (x : Exited). x.profile) queues.after ∙ profile, put_is_printed peers change e e' (best_change old new p change before after is) exits queues)
+  pub read_fit : (m : Moment) → Fit m → AreBestRows peers (read_of m)
+  read_fit m fit = read_rows_are peers m fit.readers (best_fit m fit)
+
+  best_shown : (rows : Rows Route) → AreBestRows peers rows → Prints peers route_value rows
+  best_shown rows are p row is = let own = are p row is in (own.prefix, own.printed)
+
+  -- what the decision sends
+  decided_printed : (old new : Rows Route) (p : Network) (best : Option (Change Route)) → AreBestRows peers old → AreBestRows peers new → IsSent old new p best → ArePrintedEntries peers (best_entries best)
+  decided_printed old new p best before then is = sent_printed peers route_value Best old new p best tt (best_shown old before) (best_shown new then) is
+
+  no_peer : (k : ℕ) → IsNameNumber k → k ≢ 0
+  no_peer k named is = let some = named.0 in absurd (omega (arith, some, is))
 
   -- a fall in a chain, what follows it, and the weld behind it
   chain_goes : (k : ℕ) (sent : Option (Change Route)) (P : Chains → List (Entry Value) → Type 0) (m : Moment) (less : Chained) (said : List Line) (m' : Moment) (p : Network) → IsFit peers plain less → less.peer.number ≡ k → less.incoming.number ≡ k → (f : FallsPeer k sent P m said m')
       → f.fallen ≡ put_chain k less m.chains → Changes k p sent m.chains f.fallen → ArePrintedEntries peers f.entries → Goes m said m'
   chain_goes k sent P m less said m' p own number placed f put changes printed fit = (subst Fit (sym f.after) after, lines_printed said (f.entries ++ (f.resolved ++ (f.best ++ f.weld))) f.lines (all_both Is f.entries _ printed (all_both Is f.resolved _ resolves (all_both Is f.best f.weld decides (subst (ArePrintedEntries peers) (sym lines_are) welds)))))
     where
-      Is : Entry Value → Type 0
-      Is e = IsPrinted peers (lines.Journal e)
-
       lines_are : f.weld ≡ chain_weld_entries less
       lines_are = weld_lines k m.chains f.fallen m'.chains less f.weld put f.welds.welds
 
@@ -206,19 +224,22 @@ module _ (peers : ℕ → Option Neighbour) (most : ℕ) where
       all_fallen_print j = by_bool (nat_eq j k) (λ b. Prints peers route_value (filt_at f.fallen j)) (λ e. subst (λ (n : ℕ). Prints peers route_value (filt_at f.fallen n)) (sym (equal_by j k e)) fallen_prints)
           (λ e. subst (λ (rows : Rows Route). Prints peers route_value rows) (sym (changes.others j e)) (filt_fit m fit j))
 
+      best_then : AreBestRows peers (best_at (own_of m) f.fallen m'.hops)
+      best_then = best_rows_are (own_of m) f.fallen m'.hops (own_prints m fit) (own_heard m fit) (put_heard k less m.chains f.fallen put (chain_heard less own) (rows_heard m fit)) metrics all_fallen_print
+
+      decided : IsSent (best_of m) (best_at (own_of m) f.fallen m'.hops) p f.decided.best
+      decided = f.decided.decides (all_at (own_of m) m.chains m.hops) p (all_comes (own_of m) m.chains f.fallen m.hops m'.hops k p f.passed (no_peer k (subst IsNameNumber placed own.named)) goes.comes)
+
       decides : ArePrintedEntries peers f.best
-      decides = subst (ArePrintedEntries peers) (sym f.decided.lines)
-          (sent_printed peers route_value Best (best_at m.chains m.hops) (best_at f.fallen m'.hops) p f.decided.best tt (best_prints (resolved_at m.chains m.hops) (resolved_prints m.chains m.hops fit.metrics (filt_fit m fit)))
-          (best_prints (resolved_at f.fallen m'.hops) (resolved_prints f.fallen m'.hops metrics all_fallen_print)) (f.decided.decides (resolved_at m.chains m.hops) p goes.comes))
+      decides = subst (ArePrintedEntries peers) (sym f.decided.lines) (decided_printed (best_of m) (best_at (own_of m) f.fallen m'.hops) p f.decided.best (best_fit m fit) best_then decided)
 
       resolves : ArePrintedEntries peers f.resolved
       resolves = subst (ArePrintedEntries peers) (sym f.below.lines)
           (res_printed k less.incoming.number p f.passed m.hops m'.hops (filt_at m.chains) (filt_at f.fallen) placed own.named fit.metrics metrics (filt_fit m fit k) fallen_prints goes.comes.here)
 
-      queued : (m'.exits.profile ≡ plain) × ArePrintableExits peers m'.exits
-      queued = queued_fit (best_at m.chains m.hops) (best_at f.fallen m'.hops) p f.decided.best m.exits m'.exits (best_fit m fit)
-          (best_rows_are f.fallen m'.hops (put_heard k less m.chains f.fallen put (chain_heard less own) (rows_heard m fit)) metrics all_fallen_print)
-          (f.decided.decides (resolved_at m.chains m.hops) p goes.comes) f.queued fit.profile fit.exits
+      -- behind the weld
+      same : best_at (own_of m) m'.chains m'.hops ≡ best_at (own_of m) f.fallen m'.hops
+      same = best_quiet (own_of m) f.fallen m'.chains m'.hops f.welds.quiet
 
       after : Fit (with_exits (with_hops (with_chains m m'.chains) m'.registry m'.hops) m'.exits)
       after = record {
@@ -229,8 +250,11 @@ module _ (peers : ℕ → Option Neighbour) (most : ℕ) where
         counted = subst (λ (u : PeerRows). AllCounted u m'.hops) (λ i j. sym (f.welds.quiet j) i) goes.counted;
         registered = ap tables.get f.below.agreed.others.rows ∙ fit.registered;
         metrics = metrics;
-        profile = queued.0;
-        exits = queued.1;
+        ways = fit.ways;
+        nobody = fit.nobody;
+        sender = fit.sender;
+        readers = queued_readers peers m (with_exits (with_hops (with_chains m m'.chains) m'.registry m'.hops) m'.exits) p f.decided.best (best_fit m fit) (subst (AreBestRows peers) (sym same) best_then)
+            (subst (λ (rows : Rows Route). IsSent (best_of m) rows p f.decided.best) (sym same) decided) f.queued refl refl (λ rows over. over) fit.readers;
       }
 
   -- one prefix that a peer said something of
@@ -265,6 +289,8 @@ module _ (peers : ℕ → Option Neighbour) (most : ℕ) where
   turned_peer tasks.ReadRib c less sent fall t = absurd t
   turned_peer (Out k) c less sent fall t = absurd t
   turned_peer (Rdel proto n) c less sent fall t = absurd t
+  turned_peer tasks.Red c less sent fall t = absurd t
+  turned_peer tasks.Ext c less sent fall t = absurd t
 
   peer_turn_goes : (task : Task) (m : Moment) (said : List Line) (m' : Moment) → IsPeerTurn task m said m' → Goes m said m'
   peer_turn_goes task m said m' t fit =
@@ -281,12 +307,14 @@ module _ (peers : ℕ → Option Neighbour) (most : ℕ) where
       let u = t.turn.turn in
       let own = fit.chains k t.chain t.at in
       let goes = t.turn.goes (filt_at m.chains) (ap filt_by t.at) fit.counted in
-      let metrics : AllHaveMetrics m'.hops = metrics_put k u.taken m.hops m'.hops u.after (metrics_turned _ _ m.registry m'.registry u.resolver u.taken t.sent (answered m fit) u.turned (fit.metrics k u.resolver u.at)) fit.metrics in
-      let decides : ArePrintedEntries peers t.best = subst (ArePrintedEntries peers) (sym t.decided.lines) (sent_printed peers route_value Best (best_at m.chains m.hops) (best_at m.chains m'.hops) goes.0 t.decided.best tt (best_prints (resolved_at m.chains m.hops) (resolved_prints m.chains m.hops fit.metrics (filt_fit m fit)))
-      (best_prints (resolved_at m.chains m'.hops) (resolved_prints m.chains m'.hops metrics (filt_fit m fit))) (t.decided.decides (resolved_at m.chains m.hops) goes.0 goes.1.comes)) in
-      let queued = queued_fit (best_at m.chains m.hops) (best_at m.chains m'.hops) goes.0 t.decided.best m.exits m'.exits (best_fit m fit) (best_rows_are m.chains m'.hops (rows_heard m fit) metrics (filt_fit m fit))
-      (t.decided.decides (resolved_at m.chains m.hops) goes.0 goes.1.comes) t.queued fit.profile fit.exits in
-      let printed = subst (ArePrintedEntries peers) (sym u.lines) (res_printed k k goes.0 t.sent m.hops m'.hops (filt_at m.chains) (filt_at m.chains) refl (named_by own.0 (fit.placed k t.chain t.at)) fit.metrics metrics (filt_fit m fit k) (filt_fit m fit k) goes.1.comes.here) in (
+      let metrics : AllHaveMetrics m'.hops = metrics_put k u.taken m.hops m'.hops u.after
+      (answers_turned IsMetric route_hop with_metric metric_of _ _ m.registry m'.registry u.resolver u.taken t.sent (answered m fit) u.turned (fit.metrics k u.resolver u.at)) fit.metrics in
+      let named = named_by own.0 (fit.placed k t.chain t.at) in
+      let then = best_rows_are (own_of m) m.chains m'.hops (own_prints m fit) (own_heard m fit) (rows_heard m fit) metrics (filt_fit m fit) in
+      let decided : IsSent (best_of m) (best_at (own_of m) m.chains m'.hops) goes.0 t.decided.best =
+      t.decided.decides (all_at (own_of m) m.chains m.hops) goes.0 (all_comes (own_of m) m.chains m.chains m.hops m'.hops k goes.0 t.sent (no_peer k named) goes.1.comes) in
+      let decides : ArePrintedEntries peers t.best = subst (ArePrintedEntries peers) (sym t.decided.lines) (decided_printed (best_of m) (best_at (own_of m) m.chains m'.hops) goes.0 t.decided.best (best_fit m fit) then decided) in
+      let printed = subst (ArePrintedEntries peers) (sym u.lines) (res_printed k k goes.0 t.sent m.hops m'.hops (filt_at m.chains) (filt_at m.chains) refl named fit.metrics metrics (filt_fit m fit k) (filt_fit m fit k) goes.1.comes.here) in (
         subst Fit (sym t.after) (record {
           chains = fit.chains;
           interior = fit.interior;
@@ -295,23 +323,124 @@ module _ (peers : ℕ → Option Neighbour) (most : ℕ) where
           counted = goes.1.counted;
           registered = ap tables.get t.turn.agreed.others.rows ∙ fit.registered;
           metrics = metrics;
-          profile = queued.0;
-          exits = queued.1;
+          ways = fit.ways;
+          nobody = fit.nobody;
+          sender = fit.sender;
+          readers = queued_readers peers m (with_exits (with_hops m m'.registry m'.hops) m'.exits) goes.0 t.decided.best (best_fit m fit) then decided t.queued refl refl (λ rows over. over) fit.readers;
         }),
-        lines_printed said (t.entries ++ t.best) t.lines (all_both (λ (e : Entry Value). IsPrinted peers (lines.Journal e)) t.entries t.best printed decides),
+        lines_printed said (t.entries ++ t.best) t.lines (all_both Is t.entries t.best printed decides),
       )
     where
       named_by : IsFit peers plain t.chain → t.chain.incoming.number ≡ k → IsNameNumber k
       named_by own is = subst IsNameNumber is own.named
 
-  -- ---- the tree
-  invalidated_counted : (sent : Option (Change Interior)) (r r' : Registry Interior) (h h' : Resolvers) (uppers : PeerRows) → Invalidates sent r r' h h' → AllCounted uppers h → AllCounted uppers h'
-  invalidated_counted None r r' h h' uppers stays counted = subst (AllCounted uppers) (sym stays.1) counted
-  invalidated_counted (Some change) r r' h h' uppers below counted = below.2.stays.counted uppers counted
+  -- ---- this speaker's own routes
+  -- What follows a change of them, or none: over these rows of all `res.K`.
+  own_decided : (own now : Rows Route) (a : Chains) (h : Resolvers) (p : Network) (sent : Option (Change Route)) → IsSent own now p sent → ComesOn 0 p sent (all_at own a h) (all_at now a h)
+  own_decided own now a h p sent is = record { here = is; others = others }
+    where
+      others : (j : ℕ) → nat_eq j 0 ≡ false → all_at now a h j ≡ all_at own a h j
+      others zero e = absurd (let clash : true ≡ false = e in cc)
+      others (suc k) e = refl
 
-  invalidated_metrics : (sent : Option (Change Interior)) (r r' : Registry Interior) (h h' : Resolvers) → Invalidates sent r r' h h' → AllHaveMetrics h → AllHaveMetrics h'
-  invalidated_metrics None r r' h h' stays metrics = subst AllHaveMetrics (sym stays.1) metrics
-  invalidated_metrics (Some change) r r' h h' below metrics = metrics_reached below.0 h h' below.2.reaches metrics
+  -- ---- the tree
+  -- it became another, with the same rows of `int`
+  replanted : (m : Moment) (new : Treed) → ((other : Proto) → AreFit IsInteriorRow (branch_of other new).tables) → AreNumbered most new → int_rows new ≡ int_rows m.tree → Fit m → Fit (with_tree m new)
+  replanted m new then few same fit = record {
+    chains = fit.chains;
+    interior = then;
+    few = few;
+    placed = fit.placed;
+    counted = fit.counted;
+    registered = fit.registered ∙ sym same;
+    metrics = fit.metrics;
+    ways = fit.ways;
+    nobody = fit.nobody;
+    sender = fit.sender;
+    readers = queued_readers peers m (with_tree m new) nowhere None (best_fit m fit) (subst (AreBestRows peers) (sym best) (best_fit m fit)) best refl refl refl (λ rows over. over) fit.readers;
+  }
+    where
+      nowhere : Network
+      nowhere = record { address = 0; length = 0 }
+
+      best : best_of (with_tree m new) ≡ best_of m
+      best = ap (λ (int : Rows Interior). best_at (own_rows m.declared.speaker m.redist int) m.chains m.hops) same
+
+  -- What follows a change of `int`: where a tree with this change stands already, what reads it comes after it.
+  module _ (m : Moment) (new : Treed) (p : Network) (change : Change Interior) (m' : Moment) (entries : List (Entry Value)) (then : (other : Proto) → AreFit IsInteriorRow (branch_of other new).tables) (few : AreNumbered most new)
+      (rows : IsSent (int_rows m.tree) (int_rows new) p (Some change)) (f : FollowsInt change (int_rows new) (with_tree m new) m' entries) (fit : Fit m) where
+    abbrev after : Moment
+    after = record (with_tree m new) { registry = m'.registry; hops = m'.hops; exits = m'.exits; rib = m'.rib }
+
+    int_then : Prints peers interior_value (int_rows new)
+    int_then = int_prints peers new (λ proto. (then proto).printable)
+
+    own_sent : IsSent (own_of m) (own_of after) p f.own.own
+    own_sent = subst (λ (s : Option Speaker). IsSent (own_rows s m.redist (int_rows m.tree)) (own_rows s m.redist (int_rows new)) p f.own.own) (sym f.local) (f.own.passed (int_rows m.tree) (int_rows new) p rows)
+
+    -- the resolvers keep their rows
+    was : best_at (own_of m) m.chains m'.hops ≡ best_of m
+    was = same_all (own_of m) m.chains m.chains m.hops m'.hops (λ j i. f.informed.resolvers.stays.rows (filt_at m.chains) i j)
+
+    decided : IsSent (best_of m) (best_of after) p f.own.decided.best
+    decided = subst (λ (x : Rows Route). IsSent x (best_of after) p f.own.decided.best) was
+        (subst (λ (s : Option Speaker). IsSent (best_at (own_rows s m.redist (int_rows m.tree)) m.chains m'.hops) (best_at (own_rows s m.redist (int_rows new)) m.chains m'.hops) p f.own.decided.best) (sym f.local)
+        (f.own.decided.decides (all_at (own_rows (Some f.me) m.redist (int_rows m.tree)) m.chains m'.hops) p (own_decided _ _ m.chains m'.hops p f.own.own (f.own.passed (int_rows m.tree) (int_rows new) p rows))))
+
+    metrics : AllHaveMetrics m'.hops
+    metrics = metrics_reached f.informed.reached m.hops m'.hops f.informed.resolvers.reaches fit.metrics
+
+    ways : HaveWays m'.rib.forwarding
+    ways = answers_mapped IsWay (reached_hop f.informed.reached) (λ h own. own) m.rib.forwarding.known m'.rib.forwarding.known f.informed.external.reaches.known fit.ways
+
+    own_then : Prints peers route_value (own_of after)
+    own_then = own_print peers fit.nobody m.declared.speaker m.redist (int_rows new) fit.sender int_then
+
+    best_then : AreBestRows peers (best_of after)
+    best_then = best_rows_are (own_of after) m.chains m'.hops own_then (heard_own_rows m.declared.speaker m.redist (int_rows new) fit.sender) (rows_heard m fit) metrics (filt_fit m fit)
+
+    external : StandsOver (read_of m) m'.rib
+    external = f.informed.external.stays.stands (read_of m) fit.readers.external
+
+    registered : tables.get m'.registry.rows ≡ int_rows new
+    registered =
+        ap tables.get f.informed.registers.rows ∙ put_is_with m.registry.rows change.prefix change.after
+        ∙ ap (λ (x : Rows Interior). with_row x change.prefix change.after) fit.registered ∙ sym rows.2
+
+    followed_fit : Fit after
+    followed_fit = record {
+      chains = fit.chains;
+      interior = then;
+      few = few;
+      placed = fit.placed;
+      counted = f.informed.resolvers.stays.counted (filt_at m.chains) fit.counted;
+      registered = registered;
+      metrics = metrics;
+      ways = ways;
+      nobody = fit.nobody;
+      sender = fit.sender;
+      readers = queued_readers peers m after p f.own.decided.best (best_fit m fit) best_then decided f.own.queued refl refl f.informed.external.stays.stands fit.readers;
+    }
+
+    followed_printed : ArePrintedEntries peers entries
+    followed_printed = subst (ArePrintedEntries peers) (sym f.lines) (all_both Is f.own_lines f.fib_lines
+        (subst (ArePrintedEntries peers) (sym f.own.lines) (all_both Is (own_entries f.own.own) f.own.best (sent_printed peers route_value Red (own_of m) (own_of after) p f.own.own tt (own_prints m fit) own_then own_sent)
+        (subst (ArePrintedEntries peers) (sym f.own.decided.lines) (decided_printed (best_of m) (best_of after) p f.own.decided.best (best_fit m fit) best_then decided))))
+        (subst (ArePrintedEntries peers) (sym f.forwards.lines) (fib_printed peers (fib_over m'.rib (int_rows m.tree)) (fib_over m'.rib (int_rows new)) p f.fib
+        (fib_print peers m'.rib (read_of m) (int_rows m.tree) external (read_fit m fit) ways (int_fit m fit)) (fib_print peers m'.rib (read_of m) (int_rows new) external (read_fit m fit) ways int_then)
+        (f.forwards.goes (int_rows m.tree) (int_rows new) p rows).fib)))
+
+  -- or of none
+  below_goes : (m : Moment) (new : Treed) (p : Network) (sent : Option (Change Interior)) (m' : Moment) (entries : List (Entry Value)) → ((other : Proto) → AreFit IsInteriorRow (branch_of other new).tables) → AreNumbered most new
+      → IsSent (int_rows m.tree) (int_rows new) p sent → BelowInt sent (int_rows new) (with_tree m new) m' entries → Fit m → Fit m' × ArePrintedEntries peers entries
+  below_goes m new p None m' entries then few rows below fit = (subst Fit (sym below.0) (replanted m new then few rows fit), subst (ArePrintedEntries peers) (sym below.1) tt)
+  below_goes m new p (Some change) m' entries then few rows below fit =
+      (subst Fit (sym below.1) (followed_fit m new p change m' entries then few rows below.0 fit), followed_printed m new p change m' entries then few rows below.0 fit)
+
+  -- none of it touches the tree
+  below_tree : (sent : Option (Change Interior)) (int : Rows Interior) (m m' : Moment) (entries : List (Entry Value)) → BelowInt sent int m m' entries → m'.tree ≡ m.tree
+  below_tree None int m m' entries below = ap (λ (x : Moment). x.tree) below.0
+  below_tree (Some change) int m m' entries below = ap (λ (x : Moment). x.tree) below.1
 
   pub route_goes : (m : Moment) (new : Treed) (proto : Proto) (p : Network) (way : List Link) (said : List Line) (m' : Moment) → ((other : Proto) → AreFit IsInteriorRow (branch_of other new).tables) → AreNumbered most new → IsPrefix p → AreEachOnce way
       → FallsRoute m new proto p way said m' → Goes m said m'
@@ -321,21 +450,13 @@ module _ (peers : ℕ → Option Neighbour) (most : ℕ) where
       let behind : (other : Proto) → AreTablesOf IsInteriorRow (branch_of other new).tables = λ other. (then other).printable in
       let fall = falls_printed peers p way f.entries (beside_tree no_links m.tree) (beside_tree no_links new) prefix once (down_of p way f.sent f.entries f.falls.down) (f.falls.leads no_links)
       (λ link rows v at is. (beside_tree_prints peers m.tree before link rows p v at is).1) (λ link rows v at is. (beside_tree_prints peers new behind link rows p v at is).1) in
-      let fib = fib_printed (forwarded (int_rows m.tree)) (forwarded (int_rows new)) p f.below (fib_prints peers m.tree before) (fib_prints peers new behind) f.fib in
       let weld = weld_printed peers (owners.Origin proto) (λ n named. named) (Org proto) own.tables.deletions tt (then proto).printable.losses in
-      let Is : Entry Value → Type 0 = λ e. IsPrinted peers (lines.Journal e) in (
-        subst Fit (sym f.after) (record {
-          chains = fit.chains;
-          interior = put_all (λ (b : Branch). AreFit IsInteriorRow b.tables) proto (welded_branch own) new (welded_fit IsInteriorRow own.tables (then proto)) then;
-          few = put_all (λ (b : Branch). b.losses ≤ most) proto (welded_branch own) new (few proto) few;
-          placed = fit.placed;
-          counted = invalidated_counted f.sent m.registry m'.registry m.hops m'.hops (filt_at m.chains) f.below_int fit.counted;
-          registered = keeps_up m.registry m'.registry m.hops m'.hops (int_rows m.tree) (int_rows new) p f.sent f.below_int fit.registered f.rows ∙ sym f.int;
-          metrics = invalidated_metrics f.sent m.registry m'.registry m.hops m'.hops f.below_int fit.metrics;
-          profile = fit.profile;
-          exits = fit.exits;
-        }),
-        lines_printed said (f.entries ++ (fib_entries f.below ++ tree_weld_entries proto new)) f.lines (all_both Is f.entries _ fall (all_both Is (fib_entries f.below) _ fib weld)),
+      let below = below_goes m new p f.sent f.followed f.below then few f.rows f.below_int fit in (
+        subst Fit (sym f.after) (replanted f.followed (welded_tree proto new)
+            (put_all (λ (b : Branch). AreFit IsInteriorRow b.tables) proto (welded_branch own) new (welded_fit IsInteriorRow own.tables (then proto)) then)
+            (put_all (λ (b : Branch). b.losses ≤ most) proto (welded_branch own) new (few proto) few)
+            (f.int ∙ sym (ap int_rows (below_tree f.sent (int_rows new) (with_tree m new) f.followed f.below f.below_int))) below.0),
+        lines_printed said (f.entries ++ (f.below ++ tree_weld_entries proto new)) f.lines (all_both Is f.entries _ fall (all_both Is f.below _ below.1 weld)),
       )
 
   route_turn_goes : (proto : Proto) (n : ℕ) (m : Moment) (said : List Line) (m' : Moment) → IsRouteTurn proto n m said m' → Goes m said m'
@@ -348,10 +469,61 @@ module _ (peers : ℕ → Option Neighbour) (most : ℕ) where
       (put_all (λ (x : Branch). AreFit IsInteriorRow x.tables) proto (swept_branch n t.prefix b) m.tree (swept_fit IsInteriorRow n t.prefix b.tables own) fit.interior)
       (put_all (λ (x : Branch). x.losses ≤ most) proto (swept_branch n t.prefix b) m.tree (fit.few proto) fit.few) shown.prefix once t.falls fit
 
-  -- ---- the exits
+  -- ---- the walk of redistribution
+  sent_at : (next : Option Network) (old new : Rows Route) (sent : Option (Change Route)) → IsSentAt next old new sent → (p : Network) × IsSent old new p sent
+  sent_at None old new sent is = (record { address = 0; length = 0 }, subst (λ (s : Option (Change Route)). IsSent old new (record { address = 0; length = 0 }) s) (sym is.0) is.1)
+  sent_at (Some p) old new sent is = (p, is)
+
+  own_turn_goes : (m : Moment) (said : List Line) (m' : Moment) → IsOwnTurn m said m' → Goes m said m'
+  own_turn_goes m said m' t fit = (subst Fit (sym t.after) then, lines_printed said (own_entries t.own ++ t.best) t.lines (all_both Is (own_entries t.own) t.best own decides))
+    where
+      now : Moment
+      now = with_exits (with_redist m m'.redist) m'.exits
+
+      walks : (p : Network) × IsSent (passed_rows (redistributed t.me) m.redist (int_rows m.tree)) (passed_rows (redistributed t.me) m'.redist (int_rows m.tree)) p t.own
+      walks = sent_at t.walks.next _ _ t.own t.walks.changes
+
+      sent : IsSent (own_of m) (own_of now) walks.0 t.own
+      sent = subst (λ (s : Option Speaker). IsSent (own_rows s m.redist (int_rows m.tree)) (own_rows s m'.redist (int_rows m.tree)) walks.0 t.own) (sym t.local) walks.1
+
+      own_then : Prints peers route_value (own_of now)
+      own_then = own_print peers fit.nobody m.declared.speaker m'.redist (int_rows m.tree) fit.sender (int_fit m fit)
+
+      own : ArePrintedEntries peers (own_entries t.own)
+      own = sent_printed peers route_value Red (own_of m) (own_of now) walks.0 t.own tt (own_prints m fit) own_then sent
+
+      best_then : AreBestRows peers (best_of now)
+      best_then = best_rows_are (own_of now) m.chains m.hops own_then (heard_own_rows m.declared.speaker m'.redist (int_rows m.tree) fit.sender) (rows_heard m fit) fit.metrics (filt_fit m fit)
+
+      same : own_of m' ≡ own_of now
+      same = ap own_of t.after
+
+      decided : IsSent (best_of m) (best_of now) walks.0 t.decided.best
+      decided = subst (λ (own : Rows Route). IsSent (best_of m) (best_at own m.chains m.hops) walks.0 t.decided.best) same
+          (t.decided.decides (all_at (own_of m) m.chains m.hops) walks.0 (own_decided (own_of m) (own_of m') m.chains m.hops walks.0 t.own (subst (λ (own : Rows Route). IsSent (own_of m) own walks.0 t.own) (sym same) sent)))
+
+      decides : ArePrintedEntries peers t.best
+      decides = subst (ArePrintedEntries peers) (sym t.decided.lines) (decided_printed (best_of m) (best_of now) walks.0 t.decided.best (best_fit m fit) best_then decided)
+
+      then : Fit now
+      then = record {
+        chains = fit.chains;
+        interior = fit.interior;
+        few = fit.few;
+        placed = fit.placed;
+        counted = fit.counted;
+        registered = fit.registered;
+        metrics = fit.metrics;
+        ways = fit.ways;
+        nobody = fit.nobody;
+        sender = fit.sender;
+        readers = queued_readers peers m now walks.0 t.decided.best (best_fit m fit) best_then decided t.queued refl refl (λ rows over. over) fit.readers;
+      }
+
+  -- ---- what reads `best`
   -- the moment with other exits
-  pub with_fit_exits : (m : Moment) (e : Exited) → Fit m → e.profile ≡ plain → ArePrintableExits peers e → Fit (with_exits m e)
-  with_fit_exits m e fit profile exits = record {
+  pub with_fit_exits : (m : Moment) (e : Exited) → Fit m → FitReaders peers (with_exits m e) → Fit (with_exits m e)
+  with_fit_exits m e fit readers = record {
     chains = fit.chains;
     interior = fit.interior;
     few = fit.few;
@@ -359,19 +531,78 @@ module _ (peers : ℕ → Option Neighbour) (most : ℕ) where
     counted = fit.counted;
     registered = fit.registered;
     metrics = fit.metrics;
-    profile = profile;
-    exits = exits;
+    ways = fit.ways;
+    nobody = fit.nobody;
+    sender = fit.sender;
+    readers = readers;
   }
 
   out_turn_goes : (k : ℕ) (m : Moment) (said : List Line) (m' : Moment) → IsOutTurn k m said m' → Goes m said m'
   out_turn_goes k m said m' t fit =
-      let x = turn_is_printed peers k (best_candidates (lent_candidates m.chains)) (best_at m.chains m.hops) t.sent m.exits m'.exits said fit.profile (best_fit m fit) fit.exits t.turn in
-      (subst Fit (sym t.after) (with_fit_exits m m'.exits fit (ap (λ (e : Exited). e.profile) t.turn.after ∙ fit.profile) x.exits), x.lines)
+      let x = out_readers peers m k t.sent m'.exits said fit.readers (best_fit m fit) t.turn in
+      (subst Fit (sym t.after) (with_fit_exits m m'.exits fit x.0), x.1)
+
+  -- with another RIB's exit, and what it asked the register
+  with_fit_rib : (m : Moment) (r : Registry Interior) (x : RibExit) → Fit m → KeepsOthers 0 m.registry r → HaveWays x.forwarding → FitReaders peers (with_rib m r x) → Fit (with_rib m r x)
+  with_fit_rib m r x fit others ways readers = record {
+    chains = fit.chains;
+    interior = fit.interior;
+    few = fit.few;
+    placed = fit.placed;
+    counted = fit.counted;
+    registered = ap tables.get others.rows ∙ fit.registered;
+    metrics = fit.metrics;
+    ways = ways;
+    nobody = fit.nobody;
+    sender = fit.sender;
+    readers = readers;
+  }
 
   read_turn_goes : (m : Moment) (said : List Line) (m' : Moment) → IsReadTurn m said m' → Goes m said m'
-  read_turn_goes m said m' t fit =
-      let x = take_is_printed peers ReadRib t.reader t.change m.exits m'.exits.queue tt fit.exits t.takes in
-      (subst Fit (sym t.after) (with_fit_exits m (with_queue m'.exits.queue m.exits) fit fit.profile x.exits), subst (λ (l : List Line). AllByRecursion (IsPrinted peers) l) (sym t.lines) x.lines)
+  read_turn_goes m said m' t fit = (
+    subst Fit (sym t.after) (record {
+      chains = fit.chains;
+      interior = fit.interior;
+      few = fit.few;
+      placed = fit.placed;
+      counted = fit.counted;
+      registered = ap tables.get t.external.agreed.others.rows ∙ fit.registered;
+      metrics = fit.metrics;
+      ways = ways;
+      nobody = fit.nobody;
+      sender = fit.sender;
+      readers = taken_readers peers m t.reader t.change m'.exits.queue fit.readers (best_fit m fit) t.reads t.takes (with_rib (with_exits m (with_queue m'.exits.queue m.exits)) m'.registry m'.rib) refl refl refl refl goes.stands;
+    }),
+    lines_printed said (sent_entries route_value ReadRib (Some t.change) ++ t.entries) t.lines (all_both Is (sent_entries route_value ReadRib (Some t.change)) t.entries
+        (sent_printed peers route_value ReadRib (read_of m) now t.change.prefix (Some t.change) tt (best_shown (read_of m) (read_fit m fit)) (best_shown now are) sent)
+        (subst (ArePrintedEntries peers) (sym t.external.lines)
+        (external_printed peers t.change.prefix (int_rows m.tree) t.external.split t.external.first t.external.second m.registry m.rib m'.rib t.entries (read_of m) now fit.readers.external (read_fit m fit) are fit.ways ways (int_fit m fit) goes))),
+  )
+    where
+      now : Rows Route
+      now = read_rows_by m'.exits.queue m.reader (best_of m)
+
+      sent : IsSent (read_of m) now t.change.prefix (Some t.change)
+      sent = taken_goes peers m t.reader t.change m'.exits.queue fit.readers (best_fit m fit) t.reads t.takes
+
+      are : AreBestRows peers now
+      are = taken_are peers m t.reader t.change m'.exits.queue fit.readers (best_fit m fit) t.reads t.takes
+
+      goes : FallsOn t.change.prefix (int_rows m.tree) t.external.split t.external.first t.external.second m.registry m.rib m'.rib t.entries (read_of m) now
+      goes = t.external.goes (read_of m) now t.change.prefix fit.readers.external sent
+
+      ways : HaveWays m'.rib.forwarding
+      ways = answers_kept IsWay (answer_of way_of m.registry) m.rib.forwarding m'.rib.forwarding (answered_ways m fit) goes.keeps fit.ways
+
+  external_turn_goes : (m : Moment) (said : List Line) (m' : Moment) → IsExternalTurn m said m' → Goes m said m'
+  external_turn_goes m said m' t fit =
+      let ways : HaveWays m'.rib.forwarding = answers_turned IsWay external_hop over way_of _ _ m.registry m'.registry m.rib.forwarding m'.rib.forwarding t.turn.resolved (answered_ways m fit) t.turn.turned fit.ways in
+      let r = fit.readers in
+      let then = t.turn.stands (read_of m) r.external in (
+        subst Fit (sym t.after) (with_fit_rib m m'.registry m'.rib fit t.turn.agreed.others ways (record { sound = r.sound; profile = r.profile; exits = r.exits; leads = r.leads; reads = r.reads; external = then })),
+        lines_printed said t.entries t.lines (subst (ArePrintedEntries peers) (sym t.turn.lines) (fib_printed peers (fib_over m.rib (int_rows m.tree)) (fib_over m'.rib (int_rows m.tree)) t.turn.fib.0 t.fib
+            (fib_print peers m.rib (read_of m) (int_rows m.tree) r.external (read_fit m fit) fit.ways (int_fit m fit)) (fib_print peers m'.rib (read_of m) (int_rows m.tree) then (read_fit m fit) ways (int_fit m fit)) t.turn.fib.1)),
+      )
 
   -- ---- turns, and many of them
   pub turn_goes : (task : Task) (m : Moment) (said : List Line) (m' : Moment) → IsTurn task m said m' → Goes m said m'
@@ -381,6 +612,8 @@ module _ (peers : ℕ → Option Neighbour) (most : ℕ) where
   turn_goes tasks.ReadRib m said m' t = read_turn_goes m said m' t
   turn_goes (Out k) m said m' t = out_turn_goes k m said m' t
   turn_goes (Rdel proto n) m said m' t = route_turn_goes proto n m said m' t
+  turn_goes tasks.Red m said m' t = own_turn_goes m said m' t
+  turn_goes tasks.Ext m said m' t = external_turn_goes m said m' t
 
   pub turns_go : (n : ℕ) (task : Task) (m : Moment) (said : List Line) (m' : Moment) → Turns n task m said m' → Goes m said m'
   turns_go zero task m said m' t = goes_nowhere m m' said t.0 t.1
