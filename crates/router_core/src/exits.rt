@@ -184,10 +184,10 @@ impl Network {
         requires { Stands self.old }
         ensures { IfOk result (Comes tasks.Ext self.old self.new journal.old journal.new) }
     {
-        let turn = self.rib.turn(&self.tree, &mut self.registry, journal)?;
-        if let Turn::Nothing = turn {
+        if !self.rib.busy() {
             return Ok(Done::Nothing);
         }
+        self.rib.turn(&self.tree, &mut self.registry, journal)?;
         journal.flush()?;
         Ok(Done::Taken)
     }
