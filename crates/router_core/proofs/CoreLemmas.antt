@@ -15,10 +15,10 @@ use Rattle.rib_route.specs.declared.rows.Interior.{Interior}
 use Rattle.rib_tree.specs.Trees.{branch_of, AreNumbered}
 use Rattle.rib_tree.specs.Steps.{new_tree}
 use Rattle.rib_tree.specs.Laws.{ANewTreeStands}
-use Rattle.router_core.specs.Moments.{Moment, Cored, first_moment, Gives}
+use Rattle.router_core.specs.Moments.{Moment, Cored, first_moment, best_of, Gives}
 use Rattle.router_core.specs.Laws.{LinksAtRestAreExact}
 use Rattle.router_core.specs.Scratch.{IsExactAtRest}
-use Rattle.router_core.specs.Stands.{Stands, AllHaveExits, HaveReaders, CoreStands, Claim, Claims, EachChain, EachPeer, InteriorTree, OneSpeaker, Registered, SameCount, EachResolver, SameResolvers, AnswersAgree, HopsCounted, NoStrangers, SmallNumbers, EachRow, EachExit, QueueLeads, ExitsRead, PlainExits, OneSender, SameSessions, OneReader, StandsAt, ExitsAt, Tie, Ties, here}
+use Rattle.router_core.specs.Stands.{Stands, AllHaveExits, HaveReaders, CoreStands, Claim, Claims, EachChain, EachPeer, InteriorTree, OneSpeaker, Registered, SameCount, EachResolver, SameResolvers, AnswersAgree, HopsCounted, NoStrangers, SmallNumbers, EachRow, EachExit, QueueLeads, ExitsRead, PlainExits, OneSender, SameSessions, OneReader, ExternalExit, ExternalAgrees, ExternalStands, NothingOwn, NothingExternal, StandsAt, ExitsAt, Tie, Ties, here}
 use Rattle.register_interest.specs.Interests.{interest_cmp}
 use Rattle.nexthop_resolver.specs.Resolving.{Resolving}
 use Rattle.nexthop_resolver.specs.declared.rows.Metric.{Metric}
@@ -54,8 +54,10 @@ use Rattle.exit_side.proofs.LawLemmas.{stands_at_first as exits_at_first}
 use Rattle.exit_laws.specs.Printable.{IsBestChange, AreBestChanges, ArePrintableExits}
 use Rattle.exit_laws.proofs.PrintLemmas.{printing_stays}
 use Rattle.live_state.specs.Messages.{plain}
-use Rattle.router_core.specs.Bests.{best_at}
 use Rattle.link_change.specs.Rows.{Rows}
+use Rattle.nexthop_known.specs.declared.answer.Hop.{Hop}
+use Rattle.nexthop_resolver.specs.declared.rows.Way.{Way}
+use Rattle.rib_exit.proofs.LawLemmas.{stands_at_first as external_at_first}
 use Rattle.link_change.specs.declared.change.Change.{Change}
 
 abbrev pub cored : Moment → ℕ → Cored
@@ -79,7 +81,7 @@ step_prints m m' event turns said follow stands printable few admitted formed h 
     let is : declared_after m.declared event ≡ m'.declared = sym (ap (λ (x : LiveState). x.declared) h.keeps.live ∙ follow (live_state m) event h.live h.after) in
     let d : Leaves m.declared m'.declared = subst (Leaves m.declared) is (event_leaves m.declared event printable.declared admitted formed) in
     record {
-      now = record { declared = d.declared; chains = l.chains; interior = l.interior; hops = l.hops; exits = printing_stays m.declared m'.declared m'.exits d.peers l.exits };
+      now = record { declared = d.declared; chains = l.chains; interior = l.interior; hops = l.hops; ways = l.ways; exits = printing_stays m.declared m'.declared m'.exits d.peers l.exits };
       lines = l.printed;
       peers = d.peers;
     }
@@ -93,7 +95,8 @@ work_prints m m' most stands printable few live fits =
       chains = λ k c there. (x.chains k c there).0.printable;
       interior = λ proto. (x.interior proto).printable;
       hops = x.metrics;
-      exits = subst (λ (d : Declaration). ArePrintableExits (neighbours d) m'.exits) (sym (ap (λ (l : LiveState). l.declared) live)) x.exits;
+      ways = x.ways;
+      exits = subst (λ (d : Declaration). ArePrintableExits (neighbours d) m'.exits) (sym (ap (λ (l : LiveState). l.declared) live)) x.readers.exits;
     }
 
 -- each link that no work holds up is the one from scratch
@@ -158,6 +161,7 @@ first_stands law = record {
     chains = λ k c at. absurd (let none = get-empty {X = Chained} nat_cmp k in cc);
     interior = new_printable;
     hops = λ k s at. absurd (let none = get-empty {X = Resolving Metric} nat_cmp k in cc);
+    ways = λ a h at. absurd (let none = get-empty {X = Hop Way} nat_cmp a in cc);
     exits = record { unread = nothing_unread; each = λ j c at. absurd (let none = get-empty {X = OutChained} nat_cmp j in cc) };
   };
   exits = λ k p there up. absurd (let clash : ◌≡◌ {A = Option DeclaredPeer} None (Some p) = there in cc);
@@ -180,15 +184,20 @@ first_stands law = record {
     own AnswersAgree = λ k s at. absurd (let none = get-empty {X = Resolving Metric} nat_cmp k in cc)
     own HopsCounted = λ k s at. absurd (let none = get-empty {X = Resolving Metric} nat_cmp k in cc)
     own SmallNumbers = λ k some. absurd (let none = get-empty {X = Chained} nat_cmp k in let clash : true ≡ false = sym some ∙ ap is_some none in cc)
-    own NoStrangers = λ k none s. ap is_some (get-empty {X = Option Network} interest_cmp (record { subnet = s; client = k }))
+    own NoStrangers = λ k peer none s. ap is_some (get-empty {X = Option Network} interest_cmp (record { subnet = s; client = k }))
     own EachRow = λ k c at. absurd (let none = get-empty {X = Chained} nat_cmp k in cc)
     own EachExit = (exits_at_first plain).sound
     own QueueLeads = λ reader unread at. absurd (let none = get-empty {X = List (Change Route)} nat_cmp reader in cc)
-    own ExitsRead = (exits_at_first plain).stand (best_at first_moment.chains first_moment.hops)
+    own ExitsRead = (exits_at_first plain).stand (best_of first_moment)
     own PlainExits = refl
     own OneSender = tt
     own SameSessions = λ k. subst (λ (o : Option OutChained). ExitsAt None first_moment.outgoing k None o) (sym (get-empty {X = OutChained} nat_cmp k)) tt
     own OneReader = tt
+    own ExternalExit = external_at_first.sound
+    own ExternalAgrees = external_at_first.agree first_moment.registry (λ s. ap is_some (get-empty {X = Option Network} interest_cmp (record { subnet = s; client = 0 })))
+    own ExternalStands = external_at_first.stands
+    own NothingOwn = λ before. refl
+    own NothingExternal = λ before. refl
     own InteriorTree = record { tree = law.0; full = law.1; few = of_new (λ b. length b.tables.deletions ≤ 16) (λ k. omega arith); waiting = λ e. refl }
 
     at : (p : Network) (tie : Tie) → Ties (here first_moment p) tie

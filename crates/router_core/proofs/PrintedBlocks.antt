@@ -17,7 +17,7 @@ use Rattle.bgp_wire.proofs.ReadableLaws.{Every, all_every, every_filter}
 use Rattle.bgp_wire.proofs.ReadableMessages.{read_is_readable}
 use Rattle.event_text.specs.declared.declared.DeclaredPeer.{DeclaredPeer}
 use Rattle.event_text.specs.declared.event.Event.{Event}
-use Rattle.event_text.specs.declared.event.Event.TheVariants.{Nothing, Local, Peer, Up, Down, Bgp, FilterIn, FilterOut, RouteAdd, RouteDel, Lose, Cover, Idle, Work, Ask, Show}
+use Rattle.event_text.specs.declared.event.Event.TheVariants.{Nothing, Local, Peer, Up, Down, Bgp, FilterIn, FilterOut, RouteAdd, RouteDel, Lose, Redist, Cover, Idle, Work, Ask, Show}
 use Rattle.event_text.specs.Declarations.{peer_at}
 use Rattle.event_text.specs.WellFormed.{IsWellFormed}
 use Rattle.link_change.specs.Rows.{Rows, is_empty_map}
@@ -36,14 +36,14 @@ use Rattle.journal_text.specs.declared.link.Link.TheVariants as links
 use Rattle.journal_text.specs.declared.value.Value.{Value}
 use Rattle.journal_check.specs.Laws.{IsPrefix, IsMatch}
 use Rattle.journal_laws.specs.Printed.{IsPrinted}
-use Rattle.journal_laws.specs.Standing.{AreTablesOf, IsInteriorRow, WasHeard, IsPrintableChain}
-use Rattle.journal_laws.proofs.PrintedRows.{AreFit, IsFit, Prints, PrintsIfAny, live_prints, filt_prints, none_printable, fed_fit, lost_printable, edited_printable, chain_prints, rib_prints}
+use Rattle.journal_laws.specs.Standing.{AreTablesOf, IsInteriorRow, WasHeard, IsPrintableChain, HaveWays}
+use Rattle.journal_laws.proofs.PrintedRows.{AreFit, IsFit, Prints, PrintsIfAny, live_prints, filt_prints, int_prints, tree_prints, none_printable, fed_fit, lost_printable, edited_printable, chain_prints}
 use Rattle.journal_laws.proofs.PrintedWays.{Heard, route_way}
 use Rattle.journal_laws.proofs.PrintedLines.{plain_printed, note_printed, answer_printed, rows_printed}
-use Rattle.journal_laws.proofs.DeclaredPeers.{IsKnown, known_peer}
+use Rattle.journal_laws.proofs.DeclaredPeers.{IsKnown, known_peer, leaves_all}
 use Rattle.journal_laws.specs.Peers.{words_in, neighbours}
 use Rattle.link_region.specs.declared.regions.Region.{Region}
-use Rattle.link_region.specs.declared.regions.Region.TheVariants.{Inward, Resolved, Decided, InteriorRoutes, Forward, External, Outward, Elsewhere}
+use Rattle.link_region.specs.declared.regions.Region.TheVariants.{Inward, Resolved, Decided, InteriorRoutes, Redistributed, Forward, External, Outward}
 use Rattle.link_region.specs.Regions.{region_of}
 use Rattle.loss_chain.proofs.ListLemmas.{all_both}
 use Rattle.in_chain.specs.Chains.{Chained}
@@ -51,12 +51,12 @@ use Rattle.policy_rules.specs.declared.rule.Rule.{Rule}
 use Rattle.policy_rules.specs.Ranges.{AreRules, IsRule}
 use Rattle.std.specs.FinMap.{get-empty}
 use Rattle.std.specs.Ordering.{nat_cmp}
-use Rattle.journal_text.specs.Values.{route_value, attrs_value}
+use Rattle.journal_text.specs.Values.{route_value, attrs_value, external_value, fib_value}
 use Rattle.nexthop_known.specs.declared.answer.Hop.{Hop}
 use Rattle.nexthop_resolver.specs.declared.rows.Metric.{Metric}
 use Rattle.nexthop_resolver.specs.Resolving.{Resolving, nothing_known}
-use Rattle.decision.proofs.LawLemmas.{best_is_a_branchs}
-use Rattle.router_core.specs.Bests.{best_at, best_links, resolved_at}
+use Rattle.bgp_attr.specs.declared.route.Route.{Route}
+use Rattle.router_core.specs.Bests.{best_links, own_links}
 use Rattle.hop_side.specs.Resolvers.{resolver_at, link_by, hop_links, metric_rows}
 use Rattle.journal_laws.proofs.PrintedHops.{AllHaveMetrics, rows_print, metrics_put}
 use Rattle.peer_side.specs.Peers.{chain_at, filt_by, filt_at, overdue_at, links_by}
@@ -67,10 +67,15 @@ use Rattle.rib_tree.specs.BranchSteps.{lost_branch, fed_branch}
 use Rattle.rib_tree.specs.Falls.{way_of_route}
 use Rattle.rib_tree.specs.Steps.{fed_tree, tree_overdue, tree_loss_entries}
 use Rattle.rib_tree.specs.Trees.{branch_of, int_rows, AreNumbered}
-use Rattle.router_core.specs.Moments.{Moment, parts, rib_by, read_by, read_links, router_links, rules_to, with_exits}
+use Rattle.rib_split.specs.declared.split.BgpLink.{BgpLink}
+use Rattle.rib_split.specs.declared.split.BgpLink.TheVariants as sides
+use Rattle.rib_split.specs.Splitting.{Parted}
+use Rattle.rib_split.specs.Tables.{kept_rows}
+use Rattle.rib_exit.specs.Exits.{ext_rows, fib_over}
+use Rattle.router_core.specs.Moments.{Moment, parts, tree_by, forward_by, own_of, best_of, read_of, read_by, read_links, router_links, rules_to, with_exits}
 use Rattle.router_core.specs.Printable.{IsPrintableMoment}
 use Rattle.live_state.specs.Messages.{plain, Says, changes_of, announced_with, withdrawn_from}
-use Rattle.router_core.specs.Stands.{Stands, EachChain, InteriorTree, HopsCounted, EachRow, PlainExits, ExitsRead}
+use Rattle.router_core.specs.Stands.{Stands, EachChain, InteriorTree, HopsCounted, EachExit, QueueLeads, ExitsRead, PlainExits, OneSender, OneReader, ExternalStands}
 use Rattle.router_core.specs.Phases.{all_phases}
 use Rattle.router_core.specs.Turns.{journal_lines, FallsRoute}
 use Rattle.router_core.specs.Blocks.{Just, begin_line, BySpeaker, Begins, Loses, Declares, Refilters, Redirects, DropsRouteIf, LosesProtocol, CoversAddress, Hears, BeginsIf, EndsIf, HearsIf, answer_lines, Shows, ByPeer, IsBlock}
@@ -79,20 +84,34 @@ use Rattle.rib_tree.proofs.TreeParts.{put_all}
 use Rattle.std.specs.FinMap as tables
 use Rattle.fanout_queue.specs.Readers.{unread_by, read_rows}
 use Rattle.out_chain.specs.Chains.{OutChained, outf_rows}
-use Rattle.exit_side.specs.Exits.{Exited, chain_at as exit_at, links_by as exit_links_by}
+use Rattle.exit_side.specs.Exits.{chain_at as exit_at, links_by as exit_links_by}
 use Rattle.exit_laws.specs.Printable.{AreBestRows, ArePrintableExits}
 use Rattle.exit_laws.proofs.KeptLemmas.{rows_read, edit_is_printed, join_is_printed}
 use Rattle.exit_laws.proofs.PrintLemmas.{beginning_is_printed, end_is_printed}
-use Rattle.router_core.proofs.HeardRows.{heard_best}
-use Rattle.router_core.proofs.PrintedTurns.{Fit, Goes, with_fit_exits, IsSaid, feeds_go, route_goes, turns_go, phases_go, first_goes}
+use Rattle.router_core.proofs.SessionLemmas.{silenced}
+use Rattle.router_core.proofs.PrintedForwards.{side_print, ext_print, fib_print}
+use Rattle.router_core.proofs.PrintedReaders.{FitReaders}
+use Rattle.router_core.proofs.PrintedTurns.{Fit, Goes, IsSaid, own_prints, best_fit, read_fit, feeds_go, route_goes, turns_go, phases_go, first_goes}
 
 -- what an event leaves beside the declarations, and what it says
 pub record Leaves (peers : ℕ → Option Neighbour) (m' : Moment) (said : List Line) : Type 0 where
   pub chains : (k : ℕ) (c : Chained) → chain_at k m'.chains ≡ Some c → IsPrintableChain plain c
   pub interior : (proto : Proto) → AreTablesOf IsInteriorRow (branch_of proto m'.tree).tables
   pub hops : AllHaveMetrics m'.hops
+  pub ways : HaveWays m'.rib.forwarding
   pub exits : ArePrintableExits peers m'.exits
   pub printed : AllByRecursion (IsPrinted peers) said
+
+-- what reads `best` stands
+readers_fit : (peers : ℕ → Option Neighbour) (m : Moment) → Stands m → ArePrintableExits peers m.exits → FitReaders peers m
+readers_fit peers m stands exits = record {
+  sound = stands.own EachExit;
+  profile = stands.own PlainExits;
+  exits = exits;
+  leads = stands.own QueueLeads;
+  reads = stands.own OneReader;
+  external = stands.own ExternalStands;
+}
 
 module _ (m : Moment) (stands : Stands m) (printable : IsPrintableMoment m) where
   abbrev Printed : List Line → Type 0
@@ -134,12 +153,14 @@ module _ (m : Moment) (stands : Stands m) (printable : IsPrintableMoment m) wher
     counted = stands.own HopsCounted;
     registered = registered_rows m stands;
     metrics = printable.hops;
-    profile = stands.own PlainExits;
-    exits = printable.exits;
+    ways = printable.ways;
+    nobody = (leaves_all m.declared printable.declared).peers.nobody;
+    sender = stands.own OneSender;
+    readers = readers_fit (neighbours m.declared) m stands printable.exits;
   }
 
   stays : (said : List Line) (m' : Moment) → m' ≡ m → Printed said → Leaves (neighbours m.declared) m' said
-  stays said m' same printed = subst (λ (x : Moment). Leaves (neighbours m.declared) x said) (sym same) (record { chains = printable.chains; interior = printable.interior; hops = printable.hops; exits = printable.exits; printed = printed })
+  stays said m' same printed = subst (λ (x : Moment). Leaves (neighbours m.declared) x said) (sym same) (record { chains = printable.chains; interior = printable.interior; hops = printable.hops; ways = printable.ways; exits = printable.exits; printed = printed })
 
   just : (these : List Line) (then : Moment) (said : List Line) (turns : ℕ) (m' : Moment) → Just these then said turns m' → Leaves (neighbours m.declared) then these → Leaves (neighbours m.declared) m' said
   just these then said turns m' is leaves =
@@ -155,89 +176,10 @@ module _ (m : Moment) (stands : Stands m) (printable : IsPrintableMoment m) wher
   absent : IsPrinted (neighbours m.declared) lines.Absent
   absent = plain_printed (neighbours m.declared) lines.Absent refl refl tt
 
-  -- ---- rows of links
+  -- ---- rows of the links `filt.K`
   filt_print : (k : ℕ) (o : Option Chained) → chain_at k m.chains ≡ o → Prints (neighbours m.declared) route_value (filt_by o)
   filt_print k None at = λ p row is. absurd (cc)
   filt_print k (Some c) at = filt_prints (neighbours m.declared) plain c (chain_fit k c at).0
-
-  links_print : (link : Link) → PrintsIfAny (neighbours m.declared) (router_links m link)
-  links_print link = by_region (region_of link)
-    where
-      by_chain : (o : Option Chained) → chain_at (owner_of link) m.chains ≡ o → PrintsIfAny (neighbours m.declared) (links_by o link)
-      by_chain None at = λ rows p v none is. absurd (cc)
-      by_chain (Some c) at = chain_prints (neighbours m.declared) plain c (chain_fit (owner_of link) c at).0 link
-
-      by_resolver : (k : ℕ) (o : Option (Resolving Metric)) → resolver_at k m.hops ≡ o → PrintsIfAny (neighbours m.declared) (link_by o (filt_at m.chains k))
-      by_resolver k None at = λ rows p v none is. absurd (cc)
-      by_resolver k (Some s) at = live_prints (neighbours m.declared) route_value (metric_rows s (filt_at m.chains k))
-          (rows_print (neighbours m.declared) (Some s) (filt_at m.chains k) (λ t is. printable.hops k t (at ∙ is)) (filt_print k (chain_at k m.chains) refl))
-
-      all_resolved : (k : ℕ) → Prints (neighbours m.declared) route_value (resolved_at m.chains m.hops k)
-      all_resolved k = rows_print (neighbours m.declared) (resolver_at k m.hops) (filt_at m.chains k) (λ t is. printable.hops k t is) (filt_print k (chain_at k m.chains) refl)
-
-      by_best : (s : Option Speaker) (l : Link) → PrintsIfAny (neighbours m.declared) (best_links s (best_at m.chains m.hops) l)
-      by_best None l = λ rows p v none is. absurd (cc)
-      by_best (Some me) links.Best = live_prints (neighbours m.declared) route_value (best_at m.chains m.hops) (λ p row is. let b = best_is_a_branchs (resolved_at m.chains m.hops) p row is in all_resolved b.0 p row b.2)
-      by_best (Some me) other = λ rows p v none is. absurd (cc)
-
-      by_link : (l : Link) → PrintsIfAny (neighbours m.declared) (hop_links m.hops (filt_at m.chains) l)
-      by_link (links.Res k) = by_resolver k (resolver_at k m.hops) refl
-      by_link other = λ rows p v none is. absurd (cc)
-
-      by_speaker : (s : Option Speaker) → PrintsIfAny (neighbours m.declared) (rib_by s m.tree link)
-      by_speaker None = λ rows p v none is. absurd (cc)
-      by_speaker (Some me) = rib_prints (neighbours m.declared) m.tree printable.interior link
-
-      best_rows_are : AreBestRows (neighbours m.declared) (best_at m.chains m.hops)
-      best_rows_are p row is =
-          let b = best_is_a_branchs (resolved_at m.chains m.hops) p row is in
-          let printed = all_resolved b.0 p row b.2 in
-          record { prefix = printed.0; heard = heard_best m.chains m.hops (stands.own EachRow) p row is; printed = printed.1 }
-
-      by_reader : (reader : ℕ) → Prints (neighbours m.declared) route_value (read_rows m.exits.queue reader (best_at m.chains m.hops))
-      by_reader reader p row is = let own = rows_read (neighbours m.declared) (unread_by m.exits.queue reader) (best_at m.chains m.hops) (printable.exits.unread reader) best_rows_are p row is in (own.prefix, own.printed)
-
-      by_read : (o : Option ℕ) → PrintsIfAny (neighbours m.declared) (read_by m.exits.queue o (best_at m.chains m.hops))
-      by_read None = λ rows p v none is. absurd (cc)
-      by_read (Some reader) = live_prints (neighbours m.declared) route_value (read_rows m.exits.queue reader (best_at m.chains m.hops)) (by_reader reader)
-
-      by_rib : (l : Link) → PrintsIfAny (neighbours m.declared) (read_links m.exits.queue m.reader (best_at m.chains m.hops) l)
-      by_rib links.ReadRib = by_read m.reader
-      by_rib other = λ rows p v none is. absurd (cc)
-
-      sent_prints : (j : ℕ) (c : OutChained) → exit_at j m.exits ≡ Some c → Prints (neighbours m.declared) attrs_value (tables.get c.sent)
-      sent_prints j c at p a is = let own = (printable.exits.each j c at).sent p a is in (own.prefix, own.printed)
-
-      if_live : (b : Bool) (of : Rows Value) → PrintsIfAny (neighbours m.declared) (Some of) → PrintsIfAny (neighbours m.declared) (cond b (Some of) None)
-      if_live true of own = own
-      if_live false of own = λ rows p v none is. absurd (cc)
-
-      by_exit : (l : Link) (o : Option OutChained) → exit_at (owner_of l) m.exits ≡ o → PrintsIfAny (neighbours m.declared) (exit_links_by m.exits.queue (best_at m.chains m.hops) o l)
-      by_exit l None at = λ rows p v none is. absurd (cc)
-      by_exit (links.Read k t) (Some c) at = if_live (k == c.peer.number && t == c.session) _ (live_prints (neighbours m.declared) route_value (read_rows m.exits.queue c.reader (best_at m.chains m.hops)) (by_reader c.reader))
-      by_exit (links.Outf k t) (Some c) at = if_live (k == c.peer.number && t == c.session) _ (live_prints (neighbours m.declared) attrs_value (outf_rows c (read_rows m.exits.queue c.reader (best_at m.chains m.hops)))
-          (subst (λ (rows : Rows Attrs). Prints (neighbours m.declared) attrs_value rows) (stands.own ExitsRead k c at).exact (sent_prints k c at)))
-      by_exit (links.Adv k t) (Some c) at = if_live (k == c.peer.number && t == c.session) _ (live_prints (neighbours m.declared) attrs_value (tables.get c.sent) (sent_prints k c at))
-      by_exit other (Some c) at = λ rows p v none is. absurd (cc)
-
-      by_region : (r : Region) → PrintsIfAny (neighbours m.declared) (parts m r link)
-      by_region Inward = by_chain (chain_at (owner_of link) m.chains) refl
-      by_region Resolved = by_link link
-      by_region Decided = by_best m.declared.speaker link
-      by_region InteriorRoutes = by_speaker m.declared.speaker
-      by_region Forward = by_speaker m.declared.speaker
-      by_region External = by_rib link
-      by_region Outward = by_exit link (exit_at (owner_of link) m.exits) refl
-      by_region Elsewhere = λ rows p v none is. absurd (cc)
-
-  asked : (link : Link) (p : Network) → IsNamed link → IsPrefix p → (of : Option (Rows Value)) → router_links m link ≡ of → Printed (answer_lines link p of)
-  asked link p named prefix None at = (absent, tt)
-  asked link p named prefix (Some rows) at = (answer_printed (neighbours m.declared) link rows named (λ q v is. links_print link rows q v at is) p prefix, tt)
-
-  shown : (link : Link) → IsNamed link → (of : Option (Rows Value)) → router_links m link ≡ of → (said : List Line) → Shows link of said → Printed said
-  shown link named None at said is = subst Printed (sym is) (absent, tt)
-  shown link named (Some rows) at said is =
-      subst Printed (sym is.2) (all_both (IsPrinted (neighbours m.declared)) _ _ (rows_printed (neighbours m.declared) link rows named (λ p v here. links_print link rows p v at here) is.0 is.1.each) (plain_printed (neighbours m.declared) _ refl refl (named, is.3), tt))
 
   covered : (addr : ℕ) (said : List Line) → addr < 2 ^ 32 → CoversAddress addr m said → Printed said
   covered addr said fits covers =
@@ -256,15 +198,125 @@ module _ (m : Moment) (stands : Stands m) (printable : IsPrintableMoment m) wher
     start : Fit (neighbours m.declared) 4294967294 m
     start = fit_at 4294967294 few
 
+    -- ---- rows of links
+    links_print : (link : Link) → PrintsIfAny (neighbours m.declared) (router_links m link)
+    links_print link = by_region (region_of link)
+      where
+        by_chain : (o : Option Chained) → chain_at (owner_of link) m.chains ≡ o → PrintsIfAny (neighbours m.declared) (links_by o link)
+        by_chain None at = λ rows p v none is. absurd (cc)
+        by_chain (Some c) at = chain_prints (neighbours m.declared) plain c (chain_fit (owner_of link) c at).0 link
+
+        by_resolver : (k : ℕ) (o : Option (Resolving Metric)) → resolver_at k m.hops ≡ o → PrintsIfAny (neighbours m.declared) (link_by o (filt_at m.chains k))
+        by_resolver k None at = λ rows p v none is. absurd (cc)
+        by_resolver k (Some s) at = live_prints (neighbours m.declared) route_value (metric_rows s (filt_at m.chains k))
+            (rows_print (neighbours m.declared) (Some s) (filt_at m.chains k) (λ t is. printable.hops k t (at ∙ is)) (filt_print k (chain_at k m.chains) refl))
+
+        by_link : (l : Link) → PrintsIfAny (neighbours m.declared) (hop_links m.hops (filt_at m.chains) l)
+        by_link (links.Res k) = by_resolver k (resolver_at k m.hops) refl
+        by_link other = λ rows p v none is. absurd (cc)
+
+        best_are : AreBestRows (neighbours m.declared) (best_of m)
+        best_are = best_fit (neighbours m.declared) 4294967294 m start
+
+        read_are : AreBestRows (neighbours m.declared) (read_of m)
+        read_are = read_fit (neighbours m.declared) 4294967294 m start
+
+        rows_are : (best : Rows Route) → AreBestRows (neighbours m.declared) best → Prints (neighbours m.declared) route_value best
+        rows_are best are p row is = let own = are p row is in (own.prefix, own.printed)
+
+        by_best : (s : Option Speaker) (l : Link) → PrintsIfAny (neighbours m.declared) (best_links s (best_of m) l)
+        by_best None l = λ rows p v none is. absurd (cc)
+        by_best (Some me) links.Best = live_prints (neighbours m.declared) route_value (best_of m) (rows_are (best_of m) best_are)
+        by_best (Some me) other = λ rows p v none is. absurd (cc)
+
+        by_own : (s : Option Speaker) (l : Link) → PrintsIfAny (neighbours m.declared) (own_links s (own_of m) l)
+        by_own None l = λ rows p v none is. absurd (cc)
+        by_own (Some me) links.Red = live_prints (neighbours m.declared) route_value (own_of m) (own_prints (neighbours m.declared) 4294967294 m start)
+        by_own (Some me) other = λ rows p v none is. absurd (cc)
+
+        by_tree : (s : Option Speaker) → PrintsIfAny (neighbours m.declared) (tree_by s m.tree link)
+        by_tree None = λ rows p v none is. absurd (cc)
+        by_tree (Some me) = tree_prints (neighbours m.declared) m.tree printable.interior link
+
+        -- the external routes, and what packets are forwarded by
+        side_rows : (side : BgpLink) → Prints (neighbours m.declared) external_value (kept_rows m.rib.splitter side)
+        side_rows side = subst (λ (rows : Parted). Prints (neighbours m.declared) external_value (rows side)) (sym (stands.own ExternalStands).links) (side_print (neighbours m.declared) side (read_of m) read_are)
+
+        by_forward : (s : Option Speaker) (l : Link) → PrintsIfAny (neighbours m.declared) (forward_by s m.rib (int_rows m.tree) l)
+        by_forward None l = λ rows p v none is. absurd (cc)
+        by_forward (Some me) links.Ebgp = live_prints (neighbours m.declared) external_value (kept_rows m.rib.splitter sides.Ebgp) (side_rows sides.Ebgp)
+        by_forward (Some me) links.Ibgp = live_prints (neighbours m.declared) external_value (kept_rows m.rib.splitter sides.Ibgp) (side_rows sides.Ibgp)
+        by_forward (Some me) links.Ext = live_prints (neighbours m.declared) external_value (ext_rows m.rib) (ext_print (neighbours m.declared) m.rib (read_of m) (stands.own ExternalStands) read_are)
+        by_forward (Some me) links.Fib = live_prints (neighbours m.declared) fib_value (fib_over m.rib (int_rows m.tree))
+            (fib_print (neighbours m.declared) m.rib (read_of m) (int_rows m.tree) (stands.own ExternalStands) read_are printable.ways (int_prints (neighbours m.declared) m.tree printable.interior))
+        by_forward (Some me) other = λ rows p v none is. absurd (cc)
+
+        by_reader : (reader : ℕ) → Prints (neighbours m.declared) route_value (read_rows m.exits.queue reader (best_of m))
+        by_reader reader p row is = let own = rows_read (neighbours m.declared) (unread_by m.exits.queue reader) (best_of m) (printable.exits.unread reader) best_are p row is in (own.prefix, own.printed)
+
+        by_read : (o : Option ℕ) → PrintsIfAny (neighbours m.declared) (read_by m.exits.queue o (best_of m))
+        by_read None = λ rows p v none is. absurd (cc)
+        by_read (Some reader) = live_prints (neighbours m.declared) route_value (read_rows m.exits.queue reader (best_of m)) (by_reader reader)
+
+        by_rib : (l : Link) → PrintsIfAny (neighbours m.declared) (read_links m.exits.queue m.reader (best_of m) l)
+        by_rib links.ReadRib = by_read m.reader
+        by_rib other = λ rows p v none is. absurd (cc)
+
+        sent_prints : (j : ℕ) (c : OutChained) → exit_at j m.exits ≡ Some c → Prints (neighbours m.declared) attrs_value (tables.get c.sent)
+        sent_prints j c at p a is = let own = (printable.exits.each j c at).sent p a is in (own.prefix, own.printed)
+
+        if_live : (b : Bool) (of : Rows Value) → PrintsIfAny (neighbours m.declared) (Some of) → PrintsIfAny (neighbours m.declared) (cond b (Some of) None)
+        if_live true of own = own
+        if_live false of own = λ rows p v none is. absurd (cc)
+
+        by_exit : (l : Link) (o : Option OutChained) → exit_at (owner_of l) m.exits ≡ o → PrintsIfAny (neighbours m.declared) (exit_links_by m.exits.queue (best_of m) o l)
+        by_exit l None at = λ rows p v none is. absurd (cc)
+        by_exit (links.Read k t) (Some c) at = if_live (k == c.peer.number && t == c.session) _ (live_prints (neighbours m.declared) route_value (read_rows m.exits.queue c.reader (best_of m)) (by_reader c.reader))
+        by_exit (links.Outf k t) (Some c) at = if_live (k == c.peer.number && t == c.session) _ (live_prints (neighbours m.declared) attrs_value (outf_rows c (read_rows m.exits.queue c.reader (best_of m)))
+            (subst (λ (rows : Rows Attrs). Prints (neighbours m.declared) attrs_value rows) (stands.own ExitsRead k c at).exact (sent_prints k c at)))
+        by_exit (links.Adv k t) (Some c) at = if_live (k == c.peer.number && t == c.session) _ (live_prints (neighbours m.declared) attrs_value (tables.get c.sent) (sent_prints k c at))
+        by_exit other (Some c) at = λ rows p v none is. absurd (cc)
+
+        by_region : (r : Region) → PrintsIfAny (neighbours m.declared) (parts m r link)
+        by_region Inward = by_chain (chain_at (owner_of link) m.chains) refl
+        by_region Resolved = by_link link
+        by_region Decided = by_best m.declared.speaker link
+        by_region InteriorRoutes = by_tree m.declared.speaker
+        by_region Redistributed = by_own m.declared.speaker link
+        by_region Forward = by_forward m.declared.speaker link
+        by_region External = by_rib link
+        by_region Outward = by_exit link (exit_at (owner_of link) m.exits) refl
+
+    asked : (link : Link) (p : Network) → IsNamed link → IsPrefix p → (of : Option (Rows Value)) → router_links m link ≡ of → Printed (answer_lines link p of)
+    asked link p named prefix None at = (absent, tt)
+    asked link p named prefix (Some rows) at = (answer_printed (neighbours m.declared) link rows named (λ q v is. links_print link rows q v at is) p prefix, tt)
+
+    shown : (link : Link) → IsNamed link → (of : Option (Rows Value)) → router_links m link ≡ of → (said : List Line) → Shows link of said → Printed said
+    shown link named None at said is = subst Printed (sym is) (absent, tt)
+    shown link named (Some rows) at said is =
+        subst Printed (sym is.2) (all_both (IsPrinted (neighbours m.declared)) _ _ (rows_printed (neighbours m.declared) link rows named (λ p v here. links_print link rows p v at here) is.0 is.1.each) (plain_printed (neighbours m.declared) _ refl refl (named, is.3), tt))
+
     gone : (said : List Line) (m' : Moment) → Goes (neighbours m.declared) 4294967294 m said m' → Leaves (neighbours m.declared) m' said
-    gone said m' goes = let x = goes start in record { chains = λ k c there. (x.0.chains k c there).0.printable; interior = λ proto. (x.0.interior proto).printable; hops = x.0.metrics; exits = x.0.exits; printed = x.1 }
+    gone said m' goes = let x = goes start in record { chains = λ k c there. (x.0.chains k c there).0.printable; interior = λ proto. (x.0.interior proto).printable; hops = x.0.metrics; ways = x.0.ways; exits = x.0.readers.exits; printed = x.1 }
 
     -- ---- losses of sessions
     lost : (k s : ℕ) (said : List Line) (m' : Moment) → IsNameNumber s → Loses k s m said m' → Leaves (neighbours m.declared) m' said
     lost k s said m' session l =
         let silent = end_is_printed (neighbours m.declared) k m.exits l.silenced l.entries printable.exits l.ends in
-        let profile : l.silenced.profile ≡ plain = ap (λ (e : Exited). e.profile) l.ends.after ∙ stands.own PlainExits in
-        let x = first_goes (neighbours m.declared) 4294967294 (overdue_at k m.chains) (with_exits m l.silenced) l.first l.room l.runs (with_fit_exits (neighbours m.declared) 4294967294 m l.silenced start profile silent.exits) in
+        let ended = (silenced k m l.silenced l.entries stands l.ends).stands in
+        let x = first_goes (neighbours m.declared) 4294967294 (overdue_at k m.chains) (with_exits m l.silenced) l.first l.room l.runs (record {
+          chains = start.chains;
+          interior = start.interior;
+          few = few;
+          placed = start.placed;
+          counted = start.counted;
+          registered = start.registered;
+          metrics = start.metrics;
+          ways = start.ways;
+          nobody = start.nobody;
+          sender = start.sender;
+          readers = readers_fit (neighbours m.declared) (with_exits m l.silenced) ended silent.exits;
+        }) in
         let i = l.loses in
         let c = i.part.loses.chain in
         let own = (x.0.chains k c i.part.loses.at).0 in
@@ -278,7 +330,8 @@ module _ (m : Moment) (stands : Stands m) (printable : IsPrintableMoment m) wher
           chains = subst (λ (n : Moment). (j : ℕ) (d : Chained) → chain_at j n.chains ≡ Some d → IsPrintableChain plain d) (sym (i.after ∙ ap (λ a. record l.room { chains = a }) i.part.loses.after)) chains;
           interior = subst (λ (n : Moment). (proto : Proto) → AreTablesOf IsInteriorRow (branch_of proto n.tree).tables) (sym i.after) (λ proto. (x.0.interior proto).printable);
           hops = subst (λ (n : Moment). AllHaveMetrics n.hops) (sym i.after) x.0.metrics;
-          exits = subst (λ (n : Moment). ArePrintableExits (neighbours m.declared) n.exits) (sym i.after) x.0.exits;
+          ways = subst (λ (n : Moment). HaveWays n.rib.forwarding) (sym i.after) x.0.ways;
+          exits = subst (λ (n : Moment). ArePrintableExits (neighbours m.declared) n.exits) (sym i.after) x.0.readers.exits;
           printed = subst Printed (sym l.lines) (all_both (IsPrinted (neighbours m.declared)) (journal_lines l.entries) (l.first ++ l.last) silent.lines (all_both (IsPrinted (neighbours m.declared)) l.first l.last x.1 begins));
         })
 
@@ -312,7 +365,7 @@ module _ (m : Moment) (stands : Stands m) (printable : IsPrintableMoment m) wher
     heard k p octets messages.Notification said m' at up are says hears = lost k p.session said m' (session_named k p at up) hears
     heard k p octets (messages.Notify n) said m' at up are says hears =
         let l = lost k p.session hears.0 m' (session_named k p at up) hears.2 in
-        record { chains = l.chains; interior = l.interior; hops = l.hops; exits = l.exits; printed = subst Printed (sym hears.1) (note_printed (neighbours m.declared) k _ (named_by k p at) hears.3.each hears.3.few, l.printed) }
+        record { chains = l.chains; interior = l.interior; hops = l.hops; ways = l.ways; exits = l.exits; printed = subst Printed (sym hears.1) (note_printed (neighbours m.declared) k _ (named_by k p at) hears.3.each hears.3.few, l.printed) }
 
     -- ---- interior routes
     fed : (proto : Proto) (p : Network) (row : Option Interior) (said : List Line) (m' : Moment) → IsPrefix p → IfSome row (IsInteriorRow p) → FallsRoute m (fed_tree m.tree proto p row) proto p (way_of_route proto m.tree) said m'
@@ -338,7 +391,8 @@ module _ (m : Moment) (stands : Stands m) (printable : IsPrintableMoment m) wher
           chains = λ k c there. (x.0.chains k c there).0.printable;
           interior = put_all (λ (y : Branch). AreTablesOf IsInteriorRow y.tables) proto (lost_branch b) l.room.tree (lost_printable IsInteriorRow (b.losses + 1) b.tables named (x.0.interior proto).printable) (λ other. (x.0.interior other).printable);
           hops = x.0.metrics;
-          exits = x.0.exits;
+          ways = x.0.ways;
+          exits = x.0.readers.exits;
           printed = subst Printed (sym l.lines) (all_both (IsPrinted (neighbours m.declared)) l.first _ x.1 begins);
         })
 
@@ -356,6 +410,7 @@ module _ (m : Moment) (stands : Stands m) (printable : IsPrintableMoment m) wher
       chains = put_each (λ j c. IsPrintableChain plain c) k _ m.chains (record { tables = none_printable _; in_force = All-nil (IsRule false); walk = tt }) printable.chains;
       interior = printable.interior;
       hops = metrics_put k (nothing_known k) m.hops _ refl (λ a h at. absurd (let none = get-empty {X = Hop Metric} nat_cmp a in cc)) printable.hops;
+      ways = printable.ways;
       exits = printable.exits;
       printed = (begun (links.In k) named, (begun (links.Filt k) named, (begun (links.Res k) named, tt)));
     })
@@ -364,7 +419,7 @@ module _ (m : Moment) (stands : Stands m) (printable : IsPrintableMoment m) wher
     refiltered k rules said turns m' are is =
         let e = is.1.edits in
         let chains = put_each (λ j c. IsPrintableChain plain c) k _ m.chains (edited_printable plain e.chain rules (printable.chains k e.chain e.at) are) printable.chains in
-        just [] _ said turns m' is.2 (record { chains = subst (λ a. (j : ℕ) (c : Chained) → chain_at j a ≡ Some c → IsPrintableChain plain c) (sym e.after) chains; interior = printable.interior; hops = printable.hops; exits = printable.exits; printed = tt })
+        just [] _ said turns m' is.2 (record { chains = subst (λ a. (j : ℕ) (c : Chained) → chain_at j a ≡ Some c → IsPrintableChain plain c) (sym e.after) chains; interior = printable.interior; hops = printable.hops; ways = printable.ways; exits = printable.exits; printed = tt })
 
     -- ---- the exits
     redirected : (k : ℕ) (rules : List Rule) (said : List Line) (turns : ℕ) (m' : Moment) → Redirects k rules m said turns m' → Leaves (neighbours m.declared) m' said
@@ -372,6 +427,7 @@ module _ (m : Moment) (stands : Stands m) (printable : IsPrintableMoment m) wher
       chains = printable.chains;
       interior = printable.interior;
       hops = printable.hops;
+      ways = printable.ways;
       exits = edit_is_printed (neighbours m.declared) k rules m.exits is.0 printable.exits is.1;
       printed = tt;
     })
@@ -386,6 +442,7 @@ module _ (m : Moment) (stands : Stands m) (printable : IsPrintableMoment m) wher
           chains = printable.chains;
           interior = printable.interior;
           hops = printable.hops;
+          ways = printable.ways;
           exits = x.exits;
           printed = subst Printed (sym b.lines) x.lines;
         })
@@ -419,8 +476,9 @@ module _ (m : Moment) (stands : Stands m) (printable : IsPrintableMoment m) wher
           chains = printable.chains;
           interior = printable.interior;
           hops = printable.hops;
+          ways = printable.ways;
           exits = join_is_printed (neighbours m.declared) l.reader m.exits printable.exits;
-          printed = subst Printed (sym l.lines) (begun (links.Org Connected) tt, (begun (links.Org Static) tt, (begun (links.Org Ospf) tt, (begun (links.Org Rip) tt, (begun links.Low tt, (begun links.Dyn tt, (begun links.Int tt, (begun links.Best tt, (inherits, (begun links.Fib tt, tt))))))))));
+          printed = subst Printed (sym l.lines) (begun (links.Org Connected) tt, (begun (links.Org Static) tt, (begun (links.Org Ospf) tt, (begun (links.Org Rip) tt, (begun links.Low tt, (begun links.Dyn tt, (begun links.Int tt, (begun links.Red tt, (begun links.Best tt, (inherits, (begun links.Ebgp tt, (begun links.Ibgp tt, (begun links.Ext tt, (begun links.Fib tt, tt))))))))))))));
         })
     event_printed (Peer k words) said turns m' formed is = declared m.declared.speaker k words said turns m' (formed.0.least, formed.0.fits) is
     event_printed (Up k) said turns m' formed is = by_peer (λ p. BeginsIf p.up m k p said turns m') k _ (λ p at begins. begun_if p.up k p said turns m' at begins) is
@@ -434,6 +492,7 @@ module _ (m : Moment) (stands : Stands m) (printable : IsPrintableMoment m) wher
         fed row.proto p (Some row) said m' prefix (record { prefix = prefix; printed = λ all. record { well_told = record { ranges = (own.name, own.metric); told = own.gateway }; short = tt } }) is.1
     event_printed (RouteDel proto p) said turns m' formed is = dropped_if _ proto p said turns m' (formed.masked, formed.fits) is
     event_printed (Lose proto) said turns m' formed is = protocol_lost proto said m' is.1
+    event_printed (Redist proto on) said turns m' formed is = just [] _ said turns m' is (record { chains = printable.chains; interior = printable.interior; hops = printable.hops; ways = printable.ways; exits = printable.exits; printed = tt })
     event_printed (Cover addr) said turns m' formed is = stays said m' is.1 (covered addr said formed is.2)
     event_printed Idle said turns m' formed is =
         let x = phases_go (neighbours m.declared) 4294967294 all_phases m is.inner turns m' is.runs start in
@@ -443,7 +502,8 @@ module _ (m : Moment) (stands : Stands m) (printable : IsPrintableMoment m) wher
           chains = λ k c there. (x.0.chains k c there).0.printable;
           interior = λ proto. (x.0.interior proto).printable;
           hops = x.0.metrics;
-          exits = x.0.exits;
+          ways = x.0.ways;
+          exits = x.0.readers.exits;
           printed = subst Printed (sym is.lines) (
             plain_printed (neighbours m.declared) _ refl refl fits,
             all_both (IsPrinted (neighbours m.declared)) is.inner (lines.Idle turns ∷ []) x.1 (plain_printed (neighbours m.declared) (lines.Idle turns) refl refl (omega (arith, within, fits)), tt),
@@ -457,8 +517,9 @@ module _ (m : Moment) (stands : Stands m) (printable : IsPrintableMoment m) wher
           chains = λ k c there. (x.0.chains k c there).0.printable;
           interior = λ proto. (x.0.interior proto).printable;
           hops = x.0.metrics;
-          exits = x.0.exits;
+          ways = x.0.ways;
+          exits = x.0.readers.exits;
           printed = subst Printed (sym is.lines) (all_both (IsPrinted (neighbours m.declared)) is.inner (lines.Work turns ∷ []) x.1 (plain_printed (neighbours m.declared) (lines.Work turns) refl refl (omega (arith, most, low)), tt));
         }
-    event_printed (Ask link p) said turns m' formed is = just _ m said turns m' is (stays _ m refl (asked link p formed.0.numbers (formed.1.masked, formed.1.fits) (router_links m link) refl))
-    event_printed (Show link) said turns m' formed is = stays said m' is.1 (shown link formed.numbers (router_links m link) refl said is.2)
+    event_printed (Ask link p) said turns m' formed is = just _ m said turns m' is (stays _ m refl (asked link p formed.0 (formed.1.masked, formed.1.fits) (router_links m link) refl))
+    event_printed (Show link) said turns m' formed is = stays said m' is.1 (shown link formed (router_links m link) refl said is.2)
