@@ -16,8 +16,11 @@ use Rattle.loss_chain.proofs.TableLemmas.{equal_by}
 use Rattle.event_text.specs.Declarations.{Declaration, peer_at}
 use Rattle.exit_side.specs.Exits.{Exited, OutChains, chain_at as exit_at, with_exit}
 use Rattle.router_core.specs.declared.router.Phase.{Phase}
-use Rattle.router_core.specs.Moments.{Moment}
-use Rattle.router_core.specs.Turns.{BelowInt, IsPeerTurn, IsTurn, Turns, Runs, RunsPhase, RunsAll, FeedsAll}
+use Rattle.router_core.specs.Moments.{Moment, with_tree}
+use Rattle.rib_route.specs.declared.Proto.{Proto}
+use Rattle.rib_tree.specs.Trees.{Treed, int_rows}
+use Rattle.journal_text.specs.declared.link.Link.{Link}
+use Rattle.router_core.specs.Turns.{BelowInt, FallsRoute, IsPeerTurn, IsTurn, Turns, Runs, RunsPhase, RunsAll, FeedsAll}
 use Rattle.router_core.specs.Blocks.{RunsFirst}
 use Rattle.router_core.specs.Stands.{AllHaveExits}
 use Rattle.router_core.specs.Works.{HaveSameExits}
@@ -67,6 +70,9 @@ pub below_same : (sent : Option (Change Interior)) (int : Rows Interior) (m m' :
 below_same None int m m' entries b = ap (λ (x : Moment). x.exits.chains) b.0
 below_same (Some change) int m m' entries b = queue_chains m.exits m'.exits b.0.own.decided.best b.0.own.queued
 
+pub route_same : (m : Moment) (new : Treed) (proto : Proto) (p : Network) (way : List Link) (said : List Line) (m' : Moment) → FallsRoute m new proto p way said m' → HaveSameExits m m'
+route_same m new proto p way said m' f = chains_same m m' (ap (λ (x : Moment). x.exits.chains) f.after ∙ below_same f.sent (int_rows new) (with_tree m new) f.followed f.below f.below_int)
+
 same_turn : (task : Task) (m : Moment) (said : List Line) (m' : Moment) → IsTurn task m said m' → SameAlong m said m'
 same_turn (Del k s) m said m' t = peer_same (Del k s) m said m' t
 same_turn (Fin k) m said m' t = peer_same (Fin k) m said m' t
@@ -75,7 +81,7 @@ same_turn ReadRib m said m' t = chains_same m m' (ap (λ (x : Moment). x.exits.c
 same_turn (Out k) m said m' t = λ j. ap (λ (e : Exited). is_some (exit_at j e)) t.turn.after ∙ by_bool (nat_eq j k) (λ b. is_some (exit_at j (with_exit k t.turn.taken m'.exits.queue m.exits)) ≡ is_some (exit_at j m.exits))
     (λ same. subst (λ (n : ℕ). is_some (exit_at n (with_exit k t.turn.taken m'.exits.queue m.exits)) ≡ is_some (exit_at n m.exits)) (sym (equal_by j k same)) (ap is_some (exit_here k t.turn.taken m'.exits.queue m.exits) ∙ sym (ap is_some t.turn.at)))
     (λ apart. ap is_some (exit_elsewhere k j t.turn.taken m'.exits.queue m.exits apart))
-same_turn (Rdel proto n) m said m' t = chains_same m m' (ap (λ (x : Moment). x.exits.chains) t.falls.after ∙ below_same t.falls.sent _ _ t.falls.followed t.falls.below t.falls.below_int)
+same_turn (Rdel proto n) m said m' t = route_same m _ proto t.prefix _ said m' t.falls
 same_turn Red m said m' t = chains_same m m' (queue_chains m.exits m'.exits t.decided.best t.queued)
 same_turn Ext m said m' t = chains_same m m' (ap (λ (x : Moment). x.exits.chains) t.after)
 
