@@ -35,8 +35,8 @@ took_all (Some text) None taken0 taken read bytes P c e a h = absurd c
 took_all (Some text) (Some more) taken0 taken read bytes P c e a h = (read, bytes, sym (c ∙ (ap (λ t. read ++ t) e ∙ append-nil read)), a, h)
 
 -- what was stepped is an allowed output of some first lines, however the text goes on
-pub stepped_front : (quiet : Bool) (read : List ℕ) (number : ℕ) (m : Moment) (pending output : List ℕ) → HasStepped quiet read number m pending output → (more : List ℕ) → IsOutputOfFront quiet (read ++ more) output
-stepped_front quiet read number m pending output s more =
+pub stepped_front : (quiet : Bool) (read : List ℕ) (number : ℕ) (m : Moment) (turns : ℕ) (pending output : List ℕ) → HasStepped quiet read number m turns pending output → (more : List ℕ) → IsOutputOfFront quiet (read ++ more) output
+stepped_front quiet read number m turns pending output s more =
     let front : take (length (lines_in s.done)) (lines_of (read ++ more)) ≡ lines_in s.done = ap (take (length (lines_in s.done))) (lines_behind read s.done pending more s.cut) ∙ take-append_seam (lines_in s.done) (lines_of (pending ++ more)) in
     record {
       count = length (lines_in s.done);
@@ -44,15 +44,15 @@ stepped_front quiet read number m pending output s more =
     }
 
 -- no memory for a piece that was read
-pub took_front : (quiet : Bool) (left0 left now taken0 taken taken' : Option (List ℕ)) (number : ℕ) (m : Moment) (pending piece : List ℕ) → Progress quiet left0 left taken0 taken number m pending → Consumes left now piece → taken' ≡ taken → Took left0 taken0 taken' (IsOutputOfFront quiet)
-took_front quiet left0 left now taken0 taken taken' number m pending piece p c same =
+pub took_front : (quiet : Bool) (left0 left now taken0 taken taken' : Option (List ℕ)) (number : ℕ) (m : Moment) (turns : ℕ) (pending piece : List ℕ) → Progress quiet left0 left taken0 taken number m turns pending → Consumes left now piece → taken' ≡ taken → Took left0 taken0 taken' (IsOutputOfFront quiet)
+took_front quiet left0 left now taken0 taken taken' number m turns pending piece p c same =
     subst (λ (t : Option (List ℕ)). Took left0 taken0 t (IsOutputOfFront quiet)) (sym same)
     (took_read left0 now taken0 taken (p.read ++ piece) p.written (IsOutputOfFront quiet) (consumes_then left0 left now p.read piece p.consumed c) p.appended
-    (λ more. subst (λ (t : List ℕ). IsOutputOfFront quiet t p.written) (sym (append_assoc p.read piece more)) (stepped_front quiet p.read number m pending p.written p.stepped (piece ++ more))))
+    (λ more. subst (λ (t : List ℕ). IsOutputOfFront quiet t p.written) (sym (append_assoc p.read piece more)) (stepped_front quiet p.read number m turns pending p.written p.stepped (piece ++ more))))
 
 -- a read that failed
-pub took_ended : (quiet : Bool) (left0 left now taken0 taken : Option (List ℕ)) (number : ℕ) (m : Moment) (pending : List ℕ) → length pending < 16386 → Progress quiet left0 left taken0 taken number m pending → Keeps left now → ReadsAndWrites left0 now taken0 taken (IsOutputOfEnded quiet)
-took_ended quiet left0 left now taken0 taken number m pending short p same = (
+pub took_ended : (quiet : Bool) (left0 left now taken0 taken : Option (List ℕ)) (number : ℕ) (m : Moment) (turns : ℕ) (pending : List ℕ) → length pending < 16386 → Progress quiet left0 left taken0 taken number m turns pending → Keeps left now → ReadsAndWrites left0 now taken0 taken (IsOutputOfEnded quiet)
+took_ended quiet left0 left now taken0 taken number m turns pending short p same = (
   p.read,
   p.written,
   consumes_kept left0 left now p.read p.consumed same,
@@ -65,12 +65,12 @@ took_ended quiet left0 left now taken0 taken number m pending short p same = (
 )
 
 -- a front of what was to be written for lines that were stepped, or refused
-pub written_front : (quiet accepted : Bool) (read taken : List ℕ) (piece before now more rest : List ℕ) (old new : ℕ × Moment × List ℕ) → GoesOn quiet accepted old piece before now new → HasStepped quiet read old.0 old.1 old.2 (taken ++ before) → now ≡ more ++ rest → IsFrontAt quiet (read ++ piece) (taken ++ more)
+pub written_front : (quiet accepted : Bool) (read taken : List ℕ) (piece before now more rest : List ℕ) (old new : ℕ × Moment × ℕ × List ℕ) → GoesOn quiet accepted old piece before now new → HasStepped quiet read old.0 old.1 old.2 old.3 (taken ++ before) → now ≡ more ++ rest → IsFrontAt quiet (read ++ piece) (taken ++ more)
 written_front quiet true read taken piece before now more rest old new f s e = λ later. record {
   whole = taken ++ now;
   rest = rest;
   front = ap (λ t. taken ++ t) e ∙ sym (append_assoc taken more rest);
-  allowed = inl (stepped_front quiet (read ++ piece) new.0 new.1 new.2 (taken ++ now) (f read taken s) later);
+  allowed = inl (stepped_front quiet (read ++ piece) new.0 new.1 new.2 new.3 (taken ++ now) (f read taken s) later);
 }
 written_front quiet false read taken piece before now more rest old new f s e = λ later. record {
   whole = taken ++ now;
@@ -101,8 +101,8 @@ pub ended_front : (quiet accepted : Bool) (text taken more rest out : List ℕ) 
 ended_front quiet true text taken more rest out f g e = front_output quiet text taken more rest out (f refl) e
 ended_front quiet false text taken more rest out f g e = front_refused quiet text taken more rest out (g refl) e
 
-pub no_progress : (quiet : Bool) (left taken : Option (List ℕ)) (number : ℕ) (m : Moment) (pending : List ℕ) → HasStepped quiet [] number m pending [] → Progress quiet left left taken taken number m pending
-no_progress quiet left taken number m pending s = record { read = []; written = []; consumed = consumes_nothing left; appended = appends_nothing taken; stepped = s }
+pub no_progress : (quiet : Bool) (left taken : Option (List ℕ)) (number : ℕ) (m : Moment) (turns : ℕ) (pending : List ℕ) → HasStepped quiet [] number m turns pending [] → Progress quiet left left taken taken number m turns pending
+no_progress quiet left taken number m turns pending s = record { read = []; written = []; consumed = consumes_nothing left; appended = appends_nothing taken; stepped = s }
 
 -- the read that met the end of the input
 pub read_nothing : (a b c : Option (List ℕ)) (read buf : List ℕ) (count : ℕ) → count ≡ 0 → Consumes a b read → Consumes b c (take count buf) → Consumes a c read
@@ -147,8 +147,8 @@ text_decides status None b u r w d = tt
 text_decides status (Some text) b u r w d = by_cases status (status_of (verdict text)) b u r w d
 
 -- the same, by what is known of the journal
-pub stepped_as : (quiet other : Bool) (read : List ℕ) (number : ℕ) (m : Moment) (pending output : List ℕ) → other ≡ quiet → HasStepped quiet read number m pending output → HasStepped other read number m pending output
-stepped_as quiet other read number m pending output e s = subst (λ (q : Bool). HasStepped q read number m pending output) (sym e) s
+pub stepped_as : (quiet other : Bool) (read : List ℕ) (number : ℕ) (m : Moment) (turns : ℕ) (pending output : List ℕ) → other ≡ quiet → HasStepped quiet read number m turns pending output → HasStepped other read number m turns pending output
+stepped_as quiet other read number m turns pending output e s = subst (λ (q : Bool). HasStepped q read number m turns pending output) (sym e) s
 
 -- no line was stepped
 first_output : Stands first_moment → (quiet : Bool) (text : List ℕ) → IsOutputOfFront quiet text []

@@ -1,14 +1,15 @@
 -- Runs of lines, and what is said of them.
-use Rattle.std.proofs.Common.{◌≡◌, ℕ, ◌+◌, List, [], ◌∷◌, ◌++◌, length, Some, None, Result, Err, refl, sym, ap, ◌∙◌, arith, subst, append_assoc}
+use Rattle.std.proofs.Common.{◌≡◌, ℕ, ◌+◌, List, [], ◌∷◌, ◌++◌, length, Some, None, Result, Ok, Err, refl, sym, ap, ◌∙◌, arith, subst, append_assoc}
 use Rattle.std.proofs.lemmas.List.{append-nil}
 use Rattle.journal_text.specs.declared.line.Code.{Code}
 use Rattle.journal_text.specs.declared.line.Line.{Line}
 use Rattle.event_text.specs.declared.event.Event.{Event}
 use Rattle.event_text.specs.Declarations.{Declaration}
 use Rattle.router_core.specs.Moments.{Moment}
+use Rattle.router_core.specs.Blocks.{Acts}
 use Rattle.live_state.specs.Declared.{declared_after}
 use Rattle.replay.specs.Judging.{judge, verdict_from, refused_or}
-use Rattle.replay.specs.Output.{Step, Run}
+use Rattle.replay.specs.Output.{Step, Run, RunIn}
 
 -- one more line
 pub run_more : (n k : ℕ) (m mid next : Moment) (done : List (List ℕ)) (out : List Line) (line : List ℕ) (said : List Line) → k ≡ n + length done → Run n m done out mid → Step k mid line said next → Run n m (done ++ line ∷ []) (out ++ said) next
@@ -28,6 +29,40 @@ run_more n k m mid next (d ∷ done) out line said at run step = (
   run.3,
   rw run.4 (append_assoc run.0 run.1 said),
   run_more (n + 1) k run.2 mid next done run.1 line said (omega (arith, at)) run.5 step,
+)
+
+-- one more line, and its turns
+pub run_in_more : (n k : ℕ) (m mid next : Moment) (turns more : ℕ) (done : List (List ℕ)) (out : List Line) (line : List ℕ) (said : List Line) → k ≡ n + length done → RunIn n m done out mid turns → (step : Step k mid line said next) → step.turns ≡ more → RunIn n m (done ++ line ∷ []) (out ++ said) next (turns + more)
+run_in_more n k m mid next turns more [] out line said at run step took =
+    let here : k ≡ n = omega (arith, at) in (
+      said,
+      [],
+      next,
+      0,
+      record {
+        event = step.event;
+        turns = step.turns;
+        accepted = subst (λ (x : Moment). judge n x.declared line ≡ Ok step.event) run.1 (subst (λ (j : ℕ). judge j mid.declared line ≡ Ok step.event) here step.accepted);
+        acts = subst (λ (x : Moment). Acts x step.event step.turns next said) run.1 step.acts;
+        declared = subst (λ (x : Moment). next.declared ≡ declared_after x.declared step.event) run.1 step.declared;
+        rest = step.rest;
+        idle = step.idle;
+        sent = step.sent;
+        best = step.best;
+      },
+      rw run.0 (sym (append-nil said)),
+      omega (arith, run.2, took),
+      (refl, refl, refl),
+    )
+run_in_more n k m mid next turns more (d ∷ done) out line said at run step took = (
+  run.0,
+  run.1 ++ said,
+  run.2,
+  run.3 + more,
+  run.4,
+  rw run.5 (append_assoc run.0 run.1 said),
+  omega (arith, run.6),
+  run_in_more (n + 1) k run.2 mid next run.3 more done run.1 line said (omega (arith, at)) run.7 step took,
 )
 
 -- lines that were all accepted, and a refused one behind them

@@ -1,5 +1,5 @@
 -- Lines that were stepped, and the text of a journal.
-use Rattle.std.proofs.Common.{◌≡◌, ℕ, Bool, true, false, List, ◌∷◌, ◌++◌, [], Ok, sym, ap, ◌∙◌, append_assoc}
+use Rattle.std.proofs.Common.{◌≡◌, ℕ, Bool, true, false, List, ◌∷◌, ◌++◌, [], Ok, refl, sym, ap, ◌∙◌, append_assoc}
 use Rattle.std.proofs.lemmas.List.{append-nil}
 use Rattle.std.proofs.lemmas.List.Concat.{flat_map-append}
 use Rattle.journal_text.specs.declared.line.Code.{Code}
@@ -41,7 +41,7 @@ made_refused j n code = made_more j (Refused n code ∷ []) ∙ ap (λ t. made j
 
 -- a line's event was stepped
 pub steps_line : (n : ℕ) (old new : Moment) (line : List ℕ) (event : Event) (turns : ℕ) (before now : Journaled) → judge n old.declared line ≡ Ok event → Gives (Acts old event turns new) before now → Stands new → AllHaveExits new → IsExactAtRest new → DeclarationsFollow → LeadsOn Value
-    → HearingJoins → HearingStays → HeardIsSent → StepsLine before.quiet n old line (made before) (made now) new
+    → HearingJoins → HearingStays → HeardIsSent → StepsLine before.quiet n old line (made before) (made now) new turns
 steps_line n old new line event turns before now accepted gives stands exits rest follow join joins stays law = record {
   said = gives.0;
   step = record {
@@ -55,6 +55,7 @@ steps_line n old new line event turns before now accepted gives stands exits res
     sent = are_sent law new stands exits;
     best = λ is. are_best new (are_sent law new stands exits) (idle_exact old event gives.0 turns new gives.2.block is);
   };
+  took = refl;
   leads = λ earlier lawful. join no_links (router_links old) (router_links new) earlier (entries_of gives.0) lawful gives.2.leads;
   hears = λ earlier before. hears_on joins stays old new earlier gives.0 gives.2.peers gives.2.heard before;
   stands = stands;

@@ -1,5 +1,6 @@
 -- What the program reads and writes, by its command.
-use Rattle.std.specs.Prelude.{◌≡◌, ◌⊎◌, ℕ, ◌^◌, ◌<◌, List, length, Option, Some, None, IfSome, ⊤}
+use Rattle.std.specs.Prelude.{◌≡◌, ◌⊎◌, ℕ, ◌^◌, ◌<◌, ◌≤◌, List, length, Option, Some, None, IfSome, ⊤}
+use Rattle.std.specs.Io.KnownBytes.{IsAtEnd}
 use Rattle.journal_check.specs.Judged.{IsChecked}
 use Rattle.journal_check.specs.declared.checked.Checked.TheVariants.{Lawful}
 use Rattle.check_run.specs.declared.ending.Ending.{Ending}
@@ -10,14 +11,18 @@ use Rattle.check_run.specs.Answers.{Judges, Ends, IsFrontOfAnswer}
 use Rattle.replay.specs.declared.status.Status.{Status}
 use Rattle.replay.specs.declared.status.Status.TheVariants as statuses
 use Rattle.replay.specs.declared.words.Command.{Command}
-use Rattle.replay.specs.declared.words.Command.TheVariants.{Run, Check}
-use Rattle.replay.specs.Commands.{usage_line}
+use Rattle.replay.specs.declared.words.Command.TheVariants.{Run, Gen, Check}
+use Rattle.event_gen.specs.Lines.{text}
+use Rattle.replay.specs.Commands.{most_events, usage_line}
 use Rattle.replay.specs.Judging.{verdict, status_of}
 use Rattle.replay.specs.Output.{IsOutput, IsRefusedOutput, IsOutputOfFront, IsOutputOfEnded, IsFrontOfOutput}
+use Rattle.replay.specs.Totals.{IsTotalledOutput, IsFrontOfTotalled}
 
--- What was written where status 0 answers: an allowed output for all lines of the text; or that the text is a lawful journal.
+-- What was written where status 0 answers: an allowed output for all lines of the text, that of a seed with its totals; or that the
+-- text is a lawful journal.
 abbrev pub HasDone : Option Command → Option (List ℕ) → Option (List ℕ) → Option (List ℕ) → Type 0
 HasDone (Some (Run quiet)) left0 taken0 taken = Took left0 taken0 taken (λ text bytes. IsOutput quiet (lines_of text) bytes)
+HasDone (Some (Gen seed count quiet)) left0 taken0 taken = Writes taken0 taken (IsTotalledOutput quiet (text seed count))
 HasDone (Some Check) left0 taken0 taken = Took left0 taken0 taken (λ text bytes. Judges text bytes endings.Lawful)
 HasDone None left0 taken0 taken = ⊥
 
@@ -25,6 +30,7 @@ HasDone None left0 taken0 taken = ⊥
 -- line is none of a journal.
 abbrev pub HasRefused : Option Command → Option (List ℕ) → Option (List ℕ) → Option (List ℕ) → Type 0
 HasRefused (Some (Run quiet)) left0 taken0 taken = Took left0 taken0 taken (IsRefusedOutput quiet)
+HasRefused (Some (Gen seed count quiet)) left0 taken0 taken = Writes taken0 taken (IsRefusedOutput quiet (text seed count))
 HasRefused (Some Check) left0 taken0 taken = Took left0 taken0 taken (λ text bytes. Judges text bytes endings.Refused)
 HasRefused None left0 taken0 taken = ⊥
 
@@ -36,12 +42,14 @@ IsLawfulToCheck bytes = length (lines_of bytes) < 2 ^ 32 → IsChecked (lines_of
 -- what `check` says of what was written for all lines of the text, or for those before a refused one and that it is refused
 abbrev pub HasLawful : Option Command → Option (List ℕ) → Option (List ℕ) → Option (List ℕ) → Type 0
 HasLawful (Some (Run quiet)) left0 taken0 taken = Took left0 taken0 taken (λ text bytes. (IsOutput quiet (lines_of text) bytes ⊎ IsRefusedOutput quiet text bytes) × IsLawfulToCheck bytes)
+HasLawful (Some (Gen seed count quiet)) left0 taken0 taken = ⊤
 HasLawful (Some Check) left0 taken0 taken = ⊤
 HasLawful None left0 taken0 taken = ⊤
 
 -- what was written where a journal breaks a rule, which `check` alone says
 abbrev pub HasBroken : Option Command → Option (List ℕ) → Option (List ℕ) → Option (List ℕ) → Type 0
 HasBroken (Some (Run quiet)) left0 taken0 taken = ⊥
+HasBroken (Some (Gen seed count quiet)) left0 taken0 taken = ⊥
 HasBroken (Some Check) left0 taken0 taken = Took left0 taken0 taken (λ text bytes. Judges text bytes endings.Broken)
 HasBroken None left0 taken0 taken = ⊥
 
@@ -49,18 +57,21 @@ HasBroken None left0 taken0 taken = ⊥
 -- a check.
 abbrev pub HasSoFar : Option Command → Option (List ℕ) → Option (List ℕ) → Option (List ℕ) → Option (List ℕ) → Type 0
 HasSoFar (Some (Run quiet)) left0 left taken0 taken = ReadsAndWrites left0 left taken0 taken (IsOutputOfEnded quiet)
+HasSoFar (Some (Gen seed count quiet)) left0 left taken0 taken = ⊥
 HasSoFar (Some Check) left0 left taken0 taken = taken ≡ taken0
 HasSoFar None left0 left taken0 taken = ⊥
 
 -- what was written where there was no memory: an allowed output of some first lines; else nothing
 abbrev pub HasFirst : Option Command → Option (List ℕ) → Option (List ℕ) → Option (List ℕ) → Type 0
 HasFirst (Some (Run quiet)) left0 taken0 taken = Took left0 taken0 taken (IsOutputOfFront quiet)
+HasFirst (Some (Gen seed count quiet)) left0 taken0 taken = Writes taken0 taken (IsOutputOfFront quiet (text seed count))
 HasFirst (Some Check) left0 taken0 taken = taken ≡ taken0
 HasFirst None left0 taken0 taken = taken ≡ taken0
 
 -- what was written where a write failed: a front of what may be written
 abbrev pub HasFront : Option Command → Option (List ℕ) → Option (List ℕ) → Option (List ℕ) → Type 0
 HasFront (Some (Run quiet)) left0 taken0 taken = Took left0 taken0 taken (IsFrontOfOutput quiet)
+HasFront (Some (Gen seed count quiet)) left0 taken0 taken = Writes taken0 taken (IsFrontOfTotalled quiet (text seed count))
 HasFront (Some Check) left0 taken0 taken = Took left0 taken0 taken IsFrontOfAnswer
 HasFront None left0 taken0 taken = Writes taken0 taken (IsFrontOf usage_line)
 
@@ -79,14 +90,27 @@ pub record IsJudged (text : List ℕ) (status : Status) : Type 0 where
   pub ends : Ends text ending
   pub gives : status ≡ status_for ending
 
+-- `run` and `check` read all that there is where the answer is 0; `gen` reads nothing
+abbrev pub HasRead : Option Command → Option (List ℕ) → Type 0
+HasRead (Some (Run quiet)) left = IsAtEnd left
+HasRead (Some (Gen seed count quiet)) left = ⊤
+HasRead (Some Check) left = IsAtEnd left
+HasRead None left = ⊤
+
+-- No line of a seed is refused, with as many events as there may be.
+abbrev pub SeedsAreAccepted : Type 0
+SeedsAreAccepted = (seed count : ℕ) → count ≤ most_events → verdict (text seed count) ≡ None
+
 -- where the answer is 0, 1 or 3, the text alone decides which
 abbrev pub IsByText : Option Command → Option (List ℕ) → Status → Type 0
 IsByText (Some (Run quiet)) left0 status = IfSome left0 (λ text. status ≡ status_of (verdict text))
+IsByText (Some (Gen seed count quiet)) left0 status = status ≡ status_of (verdict (text seed count))
 IsByText (Some Check) left0 status = IfSome left0 (λ text. IsJudged text status)
 IsByText None left0 status = ⊤
 
 -- the answers of a command where no read and no write failed
 abbrev pub IsUnfailing : Option Command → Option (List ℕ) → Status → Type 0
 IsUnfailing (Some (Run quiet)) left0 status = IfSome left0 (λ text. (status ≡ status_of (verdict text)) ⊎ (status ≡ statuses.Memory))
+IsUnfailing (Some (Gen seed count quiet)) left0 status = (status ≡ status_of (verdict (text seed count))) ⊎ (status ≡ statuses.Memory)
 IsUnfailing (Some Check) left0 status = IfSome left0 (λ text. IsJudged text status ⊎ (status ≡ statuses.Memory))
 IsUnfailing None left0 status = (status ≡ statuses.Usage) ⊎ (status ≡ statuses.Memory)

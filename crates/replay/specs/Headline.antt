@@ -5,9 +5,9 @@ use Rattle.router_core.specs.Moments.{Moment}
 use Rattle.replay.specs.Stream.{HasStepped}
 
 -- what was read of a source, and what a sink took, up to now
-pub record Progress (quiet : Bool) (left0 left taken0 taken : Option (List ℕ)) (number : ℕ) (m : Moment) (pending : List ℕ) : Type 0 where
+pub record Progress (quiet : Bool) (left0 left taken0 taken : Option (List ℕ)) (number : ℕ) (m : Moment) (turns : ℕ) (pending : List ℕ) : Type 0 where
   pub read : List ℕ
   pub written : List ℕ
   pub consumed : Consumes left0 left read
   pub appended : Appends taken0 taken written
-  pub stepped : HasStepped quiet read number m pending written
+  pub stepped : HasStepped quiet read number m turns pending written

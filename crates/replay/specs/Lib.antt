@@ -5,4 +5,5 @@ pub mod Stream
 pub mod Streams
 pub mod Headline
 pub mod Commands
+pub mod Totals
 pub mod Answers

@@ -37,6 +37,13 @@ abbrev pub Run : ℕ → Moment → List (List ℕ) → List Line → Moment →
 Run n m [] out end = (out ≡ []) × (end ≡ m)
 Run n m (line ∷ lines) out end = (said rest : List Line) × (next : Moment) × Step n m line said next × (out ≡ said ++ rest) × Run (n + 1) next lines rest end
 
+-- The same, and their events took so many turns: `work` and `idle` take some, all others none.
+abbrev pub RunIn : ℕ → Moment → List (List ℕ) → List Line → Moment → ℕ → Type 0
+RunIn n m [] out end turns = (out ≡ []) × (end ≡ m) × (turns ≡ 0)
+RunIn n m (line ∷ lines) out end turns =
+    (said rest : List Line) × (next : Moment) × (more : ℕ) × (step : Step n m line said next) × (out ≡ said ++ rest) × (turns ≡ step.turns + more)
+    × RunIn (n + 1) next lines rest end more
+
 -- An allowed output for lines that are all accepted. Its whole journal obeys the rules, from no link at all to the links at
 -- the end. What each peer hears in it, by the octets that it is sent, are at the end the rows of its `adv.J.S`. Where the output is
 -- quiet, the journal's lines aren't printed.
@@ -49,6 +56,12 @@ pub record IsOutput (quiet : Bool) (lines : List (List ℕ)) (bytes : List ℕ) 
   pub sent : AreSent end (views_of end.exits)
   pub stands : Stands end
   pub text : bytes ≡ text_of quiet out
+
+-- An allowed output that leads to this moment, in so many turns.
+pub record IsOutputTo (quiet : Bool) (lines : List (List ℕ)) (bytes : List ℕ) (m : Moment) (turns : ℕ) : Type 0 where
+  pub output : IsOutput quiet lines bytes
+  pub at : output.end ≡ m
+  pub taken : RunIn 1 first_moment lines output.out output.end turns
 
 -- The output for a text with a refused line: an allowed one for the lines before it, and then that it is refused.
 pub record IsRefusedOutput (quiet : Bool) (text bytes : List ℕ) : Type 0 where

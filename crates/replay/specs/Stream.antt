@@ -14,7 +14,7 @@ use Rattle.exit_laws.specs.Views.{views_of}
 use Rattle.replay.specs.Judging.{judge}
 use Rattle.replay.specs.Heard.{AreHeard, AreSent}
 use Rattle.check_run.specs.Lines.{IsCut, lines_in}
-use Rattle.replay.specs.Output.{Step, Run, IsRefusedOutput, IsFrontOfOutput}
+use Rattle.replay.specs.Output.{Step, Run, RunIn, IsRefusedOutput, IsFrontOfOutput}
 
 -- a router that may step line n: memory never ran out, its state is sound, and it has stepped the lines before
 pub record IsReady (n : ℕ) (core : Cored) : Type 0 where
@@ -27,14 +27,15 @@ pub record IsReady (n : ℕ) (core : Cored) : Type 0 where
 abbrev pub made : Journaled → List ℕ
 made j = j.text ++ text_of j.quiet j.pending
 
--- What was read is whole lines, which were all stepped and whose output is this, and then a part of a line.
-pub record HasStepped (quiet : Bool) (read : List ℕ) (number : ℕ) (m : Moment) (pending output : List ℕ) : Type 0 where
+-- What was read is whole lines, which were all stepped, in so many turns, and whose output is this, and then a part of a line.
+pub record HasStepped (quiet : Bool) (read : List ℕ) (number : ℕ) (m : Moment) (turns : ℕ) (pending output : List ℕ) : Type 0 where
   pub done : List (List ℕ)
   pub cut : IsCut read done pending
   pub count : number ≡ length done + 1
   pub stands : Stands m
   pub out : List Line
   pub run : Run 1 first_moment (lines_in done) out m
+  pub taken : RunIn 1 first_moment (lines_in done) out m turns
   pub lawful : Leads no_links (entries_of out) (router_links m)
   pub heard : AreHeard out m
   pub sent : AreSent m (views_of m.exits)
@@ -48,11 +49,12 @@ IsRefusedAt quiet read output = (more : List ℕ) → IsRefusedOutput quiet (rea
 abbrev pub IsFrontAt : Bool → List ℕ → List ℕ → Type 0
 IsFrontAt quiet read output = (more : List ℕ) → IsFrontOfOutput quiet (read ++ more) output
 
--- Line n was accepted and stepped, and what it says was written. A lawful journal before it is one with its entries, too, and what peers
+-- Line n was accepted and stepped, in so many turns, and what it says was written. A lawful journal before it is one with its entries, too, and what peers
 -- heard before it leads on with its lines.
-pub record StepsLine (quiet : Bool) (n : ℕ) (old : Moment) (line before now : List ℕ) (new : Moment) : Type 0 where
+pub record StepsLine (quiet : Bool) (n : ℕ) (old : Moment) (line before now : List ℕ) (new : Moment) (turns : ℕ) : Type 0 where
   pub said : List Line
   pub step : Step n old line said new
+  pub took : step.turns ≡ turns
   pub leads : (earlier : List (Entry Value)) → Leads no_links earlier (router_links old) → Leads no_links (earlier ++ entries_of said) (router_links new)
   pub hears : (earlier : List Line) → AreHeard earlier old → AreHeard (earlier ++ said) new
   pub stands : Stands new
@@ -65,16 +67,16 @@ pub record RefusesLine (n : ℕ) (old : Moment) (line before now : List ℕ) : T
   pub written : now ≡ before ++ line_text (Refused n code)
 
 -- what a step of the stream says of all that was read and written so far, where taken was written earlier
-abbrev pub GoesOn : Bool → Bool → (ℕ × Moment × List ℕ) → List ℕ → List ℕ → List ℕ → (ℕ × Moment × List ℕ) → Type 0
-GoesOn quiet true old piece before now new = (read taken : List ℕ) → HasStepped quiet read old.0 old.1 old.2 (taken ++ before) → HasStepped quiet (read ++ piece) new.0 new.1 new.2 (taken ++ now)
-GoesOn quiet false old piece before now new = (read taken : List ℕ) → HasStepped quiet read old.0 old.1 old.2 (taken ++ before) → IsRefusedAt quiet (read ++ piece) (taken ++ now)
+abbrev pub GoesOn : Bool → Bool → (ℕ × Moment × ℕ × List ℕ) → List ℕ → List ℕ → List ℕ → (ℕ × Moment × ℕ × List ℕ) → Type 0
+GoesOn quiet true old piece before now new = (read taken : List ℕ) → HasStepped quiet read old.0 old.1 old.2 old.3 (taken ++ before) → HasStepped quiet (read ++ piece) new.0 new.1 new.2 new.3 (taken ++ now)
+GoesOn quiet false old piece before now new = (read taken : List ℕ) → HasStepped quiet read old.0 old.1 old.2 old.3 (taken ++ before) → IsRefusedAt quiet (read ++ piece) (taken ++ now)
 
 -- The lines or the bytes that may still come are fewer: a line ended, or so many bytes came.
-abbrev pub IsNearer : ℕ → (ℕ × Moment × List ℕ) → (ℕ × Moment × List ℕ) → Type 0
-IsNearer count old new = (old.0 < new.0) ⊎ ((new.0 ≡ old.0) × (length new.2 ≡ length old.2 + count))
+abbrev pub IsNearer : ℕ → (ℕ × Moment × ℕ × List ℕ) → (ℕ × Moment × ℕ × List ℕ) → Type 0
+IsNearer count old new = (old.0 < new.0) ⊎ ((new.0 ≡ old.0) × (length new.3 ≡ length old.3 + count))
 
 -- A front of the piece was taken, and the rest is left.
-pub record HasTaken (quiet : Bool) (old : ℕ × Moment × List ℕ) (piece rest before now : List ℕ) (new : ℕ × Moment × List ℕ) : Type 0 where
+pub record HasTaken (quiet : Bool) (old : ℕ × Moment × ℕ × List ℕ) (piece rest before now : List ℕ) (new : ℕ × Moment × ℕ × List ℕ) : Type 0 where
   pub front : List ℕ
   pub split : piece ≡ front ++ rest
   pub goes_on : GoesOn quiet true old front before now new

@@ -1,12 +1,13 @@
 //! The commands.
 
-ghost use Rattle.std.specs.Prelude.{◌≡◌, ◌≢◌, ◌≤◌, ◌⊎◌, ℕ, List, Option, Some, None};
+ghost use Rattle.std.specs.Prelude.{◌≡◌, ◌≢◌, ◌≤◌, ◌⊎◌, ℕ, List, Option, Some, None, false};
 ghost use Rattle.std.specs.Io.KnownBytes.{Appends, IsAtEnd};
 ghost use Rattle.edge_io.specs.Causes.{Rose};
-ghost use Rattle.replay.specs.Commands.{usage_line};
-ghost use Rattle.replay.specs.Answers.{HasDone, HasRefused, HasBroken, HasSoFar, HasFirst, HasFront, IsByText, IsUnfailing};
+ghost use Rattle.replay.specs.Commands.{reads_source, usage_line};
+ghost use Rattle.replay.specs.Answers.{HasDone, HasRead, HasRefused, HasBroken, HasSoFar, HasFirst, HasFront, IsByText, IsUnfailing};
 ghost use Rattle.replay.specs.declared.words.Command.TheVariants as commands;
 
+use crate::generated::run_generated;
 use crate::run::run_events;
 use crate::status::Status;
 use crate::words::Command;
@@ -21,7 +22,10 @@ fn show_usage<K: Sink>(sink: &mut K) -> Status
     ensures write_fault { result ≡ Status.WriteFault → Rose (K.faults sink.old) (K.faults sink.new) }
     ensures others { (result ≡ Status.Usage) ⊎ (result ≡ Status.WriteFault) }
 {
-    match write_all(sink, b"usage: replay run [--quiet] / replay check\n") {
+    match write_all(
+        sink,
+        b"usage: replay run [--quiet] / replay gen SEED COUNT [--quiet] / replay check\n",
+    ) {
         Ok(()) => Status::Usage,
         Err(_) => Status::WriteFault,
     }
@@ -59,7 +63,7 @@ pub fn obey<S: Source, K: Sink>(
     sink: &mut K,
 ) -> Status
     ensures ok { result ≡ Status.Ok → HasDone command (S.left source.old) (K.taken sink.old) (K.taken sink.new) }
-    ensures all_read { result ≡ Status.Ok → IsAtEnd (S.left source.new) }
+    ensures all_read { result ≡ Status.Ok → HasRead command (S.left source.new) }
     ensures refused { result ≡ Status.Refused → HasRefused command (S.left source.old) (K.taken sink.old) (K.taken sink.new) }
     ensures broken { result ≡ Status.Broken → HasBroken command (S.left source.old) (K.taken sink.old) (K.taken sink.new) }
     ensures by_text { (result ≡ Status.Ok) ⊎ (result ≡ Status.Broken) ⊎ (result ≡ Status.Refused) → IsByText command (S.left source.old) result }
@@ -73,10 +77,11 @@ pub fn obey<S: Source, K: Sink>(
     ensures command { command ≢ None → result ≢ Status.Usage }
     ensures by_check { result ≡ Status.Broken → command ≡ Some commands.Check }
     ensures no_command { command ≡ None → (result ≡ Status.Usage) ⊎ (result ≡ Status.WriteFault) }
-    ensures unread { command ≡ None → source.new ≡ source.old }
+    ensures unread { reads_source command ≡ false → source.new ≡ source.old }
 {
     match command {
         Some(Command::Run(quiet)) => run_events(alloc, quiet, source, sink),
+        Some(Command::Gen(seed, count, quiet)) => run_generated(alloc, seed, count, quiet, sink),
         Some(Command::Check) => check_journal(alloc, source, sink),
         None => show_usage(sink),
     }

@@ -13,19 +13,21 @@
 #![tactic(auto)]
 
 mod commands;
+mod generated;
 mod output;
 mod run;
 mod status;
 mod stepping;
 mod stream;
+mod totals;
 mod words;
 
-ghost use Rattle.std.specs.Prelude.{◌≡◌, ◌≢◌, ◌⊎◌, ℕ, List, map, Some, None};
+ghost use Rattle.std.specs.Prelude.{◌≡◌, ◌≢◌, ◌⊎◌, ℕ, List, map, Some, None, false};
 ghost use Rattle.std.specs.String.{string_bytes};
-ghost use Rattle.std.specs.Io.KnownBytes.{Appends, IsAtEnd};
+ghost use Rattle.std.specs.Io.KnownBytes.{Appends};
 ghost use Rattle.edge_io.specs.Causes.{Rose};
-ghost use Rattle.replay.specs.Commands.{command_of, usage_line};
-ghost use Rattle.replay.specs.Answers.{HasDone, HasRefused, HasLawful, HasBroken, HasSoFar, HasFirst, HasFront, IsByText, IsUnfailing};
+ghost use Rattle.replay.specs.Commands.{command_of, reads_source, usage_line};
+ghost use Rattle.replay.specs.Answers.{HasDone, HasRead, HasRefused, HasLawful, HasBroken, HasSoFar, HasFirst, HasFront, IsByText, IsUnfailing};
 ghost use Rattle.replay.specs.declared.words.Command.TheVariants.{Check};
 
 use crate::commands::obey;
@@ -37,19 +39,20 @@ use std::alloc::Global;
 
 /// All that the program does: reads the words, and does what they ask for.
 ///
-/// What the words ask for is told by the definition of the command: `run`, `run --quiet` or `check`. All other words, and those
-/// that ask for help, are answered by the usage line. `run` steps all whole lines of what was read and writes their output
-/// before the next read; `check` reads all that it needs, and then writes one line. The first failure ends it.
+/// What the words ask for is told by the definition of the command: `run`, `gen SEED COUNT`, either with `--quiet`, or `check`. All
+/// other words, and those that ask for help, are answered by the usage line. `run` steps all whole lines of what was read and writes
+/// their output before the next read; `gen` steps the events of a seed, and then writes totals; `check` reads all that it needs, and
+/// then writes one line. The first failure ends it.
 pub fn replay<S: Source, K: Sink>(
     alloc: Global,
     words: &[String],
     source: &mut S,
     sink: &mut K,
 ) -> Status
-    // Every line of the text was accepted, all of it was read, and the sink took exactly an allowed output; or the text is a
-    // lawful journal.
+    // Every line of the text was accepted, all of it was read, and the sink took exactly an allowed output; or every line of the
+    // seed, and the sink took the totals, too; or the text is a lawful journal.
     ensures ok { result ≡ Status.Ok → HasDone (command_of (map string_bytes words.now)) (S.left source.old) (K.taken sink.old) (K.taken sink.new) }
-    ensures all_read { result ≡ Status.Ok → IsAtEnd (S.left source.new) }
+    ensures all_read { result ≡ Status.Ok → HasRead (command_of (map string_bytes words.now)) (S.left source.new) }
 
     // A line was refused, and the sink took an allowed output of the lines before it, and then that it was refused; or the
     // line is none of a journal.
@@ -70,7 +73,7 @@ pub fn replay<S: Source, K: Sink>(
     ensures usage { result ≡ Status.Usage → Appends (K.taken sink.old) (K.taken sink.new) usage_line }
     ensures command { command_of (map string_bytes words.now) ≢ None → result ≢ Status.Usage }
     ensures no_command { command_of (map string_bytes words.now) ≡ None → (result ≡ Status.Usage) ⊎ (result ≡ Status.WriteFault) ⊎ (result ≡ Status.Memory) }
-    ensures unread { command_of (map string_bytes words.now) ≡ None → source.new ≡ source.old }
+    ensures unread { reads_source (command_of (map string_bytes words.now)) ≡ false → source.new ≡ source.old }
 
     // A read failed, and the sink took an allowed output of the lines that had ended in what was read; nothing of a check.
     ensures read_fault { result ≡ Status.ReadFault → Rose (S.faults source.old) (S.faults source.new) }

@@ -5,7 +5,7 @@ ghost use Rattle.edge_io.specs.Causes.{Rose};
 ghost use Rattle.replay.specs.Stream.{HasStepped, GoesOn, IsRefusedAt, IsFrontAt, IsNearer, IsReady};
 ghost use Rattle.replay.specs.Streams.{state};
 ghost use Rattle.check_run.specs.Lines.{lines_of};
-ghost use Rattle.replay.specs.Output.{IsOutput, IsRefusedOutput, IsFrontOfOutput};
+ghost use Rattle.replay.specs.Output.{IsOutputTo, IsRefusedOutput, IsFrontOfOutput};
 ghost use Rattle.check_run.specs.Runs.{Writes, IsFrontOf};
 
 use crate::status::Status;
@@ -37,9 +37,9 @@ fn step_last(stream: &mut Stream, journal: &mut Journal) -> Result<bool, Memory>
     requires ready { IsReady stream.old.number stream.old.core }
     requires empty { journal.old.pending ≡ [] }
     ensures accepted { IfOk result (λ accepted. accepted ≡ true → (read written : List ℕ) →
-        HasStepped journal.old.quiet read stream.old.number stream.old.core.moment stream.old.pending.items written → IsOutput journal.old.quiet (lines_of read) (written ++ journal.new.text)) }
+        HasStepped journal.old.quiet read stream.old.number stream.old.core.moment stream.old.turns stream.old.pending.items written → IsOutputTo journal.old.quiet (lines_of read) (written ++ journal.new.text) stream.new.core.moment stream.new.turns) }
     ensures refused { IfOk result (λ accepted. accepted ≡ false → (read written : List ℕ) →
-        HasStepped journal.old.quiet read stream.old.number stream.old.core.moment stream.old.pending.items written → IsRefusedOutput journal.old.quiet read (written ++ journal.new.text)) }
+        HasStepped journal.old.quiet read stream.old.number stream.old.core.moment stream.old.turns stream.old.pending.items written → IsRefusedOutput journal.old.quiet read (written ++ journal.new.text)) }
 {
     journal.clear();
     let accepted = stream.finish(journal)?;
@@ -56,16 +56,16 @@ pub fn turn<K: Sink>(
 ) -> Option<Status>
     requires ready { IsReady stream.old.number stream.old.core }
     requires empty { journal.old.pending ≡ [] }
-    ensures goes_on { result ≡ None → (read written : List ℕ) → HasStepped journal.old.quiet read stream.old.number stream.old.core.moment stream.old.pending.items written →
-        Writes (K.taken sink.old) (K.taken sink.new) (λ more. HasStepped journal.old.quiet (read ++ piece.now) stream.new.number stream.new.core.moment stream.new.pending.items (written ++ more)) }
+    ensures goes_on { result ≡ None → (read written : List ℕ) → HasStepped journal.old.quiet read stream.old.number stream.old.core.moment stream.old.turns stream.old.pending.items written →
+        Writes (K.taken sink.old) (K.taken sink.new) (λ more. HasStepped journal.old.quiet (read ++ piece.now) stream.new.number stream.new.core.moment stream.new.turns stream.new.pending.items (written ++ more)) }
     ensures nearer { result ≡ None → IsNearer (length piece.now) (state stream.old) (state stream.new) }
     ensures ready { result ≡ None → IsReady stream.new.number stream.new.core }
     ensures empty { result ≡ None → journal.new.pending ≡ [] }
     ensures quiet { result ≡ None → journal.new.quiet ≡ journal.old.quiet }
-    ensures refused { result ≡ Some Status.Refused → (read written : List ℕ) → HasStepped journal.old.quiet read stream.old.number stream.old.core.moment stream.old.pending.items written →
+    ensures refused { result ≡ Some Status.Refused → (read written : List ℕ) → HasStepped journal.old.quiet read stream.old.number stream.old.core.moment stream.old.turns stream.old.pending.items written →
         Writes (K.taken sink.old) (K.taken sink.new) (λ more. IsRefusedAt journal.old.quiet (read ++ piece.now) (written ++ more)) }
     ensures memory { result ≡ Some Status.Memory → K.taken sink.new ≡ K.taken sink.old }
-    ensures front { result ≡ Some Status.WriteFault → (read written : List ℕ) → HasStepped journal.old.quiet read stream.old.number stream.old.core.moment stream.old.pending.items written →
+    ensures front { result ≡ Some Status.WriteFault → (read written : List ℕ) → HasStepped journal.old.quiet read stream.old.number stream.old.core.moment stream.old.turns stream.old.pending.items written →
         Writes (K.taken sink.old) (K.taken sink.new) (λ more. IsFrontAt journal.old.quiet (read ++ piece.now) (written ++ more)) }
     ensures write_fault { result ≡ Some Status.WriteFault → Rose (K.faults sink.old) (K.faults sink.new) }
     ensures later { K.faults sink.old ≤ K.faults sink.new }
@@ -88,12 +88,12 @@ pub fn turn<K: Sink>(
 pub fn finish<K: Sink>(stream: &mut Stream, journal: &mut Journal, sink: &mut K) -> Status
     requires ready { IsReady stream.old.number stream.old.core }
     requires empty { journal.old.pending ≡ [] }
-    ensures ok { result ≡ Status.Ok → (read written : List ℕ) → HasStepped journal.old.quiet read stream.old.number stream.old.core.moment stream.old.pending.items written →
-        Writes (K.taken sink.old) (K.taken sink.new) (λ more. IsOutput journal.old.quiet (lines_of read) (written ++ more)) }
-    ensures refused { result ≡ Status.Refused → (read written : List ℕ) → HasStepped journal.old.quiet read stream.old.number stream.old.core.moment stream.old.pending.items written →
+    ensures ok { result ≡ Status.Ok → (read written : List ℕ) → HasStepped journal.old.quiet read stream.old.number stream.old.core.moment stream.old.turns stream.old.pending.items written →
+        Writes (K.taken sink.old) (K.taken sink.new) (λ more. IsOutputTo journal.old.quiet (lines_of read) (written ++ more) stream.new.core.moment stream.new.turns) }
+    ensures refused { result ≡ Status.Refused → (read written : List ℕ) → HasStepped journal.old.quiet read stream.old.number stream.old.core.moment stream.old.turns stream.old.pending.items written →
         Writes (K.taken sink.old) (K.taken sink.new) (λ more. IsRefusedOutput journal.old.quiet read (written ++ more)) }
     ensures memory { result ≡ Status.Memory → K.taken sink.new ≡ K.taken sink.old }
-    ensures front { result ≡ Status.WriteFault → (read written : List ℕ) → HasStepped journal.old.quiet read stream.old.number stream.old.core.moment stream.old.pending.items written →
+    ensures front { result ≡ Status.WriteFault → (read written : List ℕ) → HasStepped journal.old.quiet read stream.old.number stream.old.core.moment stream.old.turns stream.old.pending.items written →
         Writes (K.taken sink.old) (K.taken sink.new) (λ more. IsFrontOfOutput journal.old.quiet read (written ++ more)) }
     ensures write_fault { result ≡ Status.WriteFault → Rose (K.faults sink.old) (K.faults sink.new) }
     ensures later { K.faults sink.old ≤ K.faults sink.new }

@@ -5,7 +5,7 @@ ghost use Rattle.std.specs.Io.KnownBytes.{IsAtEnd};
 ghost use Rattle.edge_io.specs.Causes.{Rose};
 ghost use Rattle.check_run.specs.Lines.{lines_of};
 ghost use Rattle.replay.specs.Judging.{verdict, status_of};
-ghost use Rattle.replay.specs.Output.{IsOutput, IsRefusedOutput, IsOutputOfFront, IsOutputOfEnded, IsFrontOfOutput};
+ghost use Rattle.replay.specs.Output.{IsOutput, IsOutputTo, IsRefusedOutput, IsOutputOfFront, IsOutputOfEnded, IsFrontOfOutput};
 ghost use Rattle.check_run.specs.Runs.{Took, ReadsAndWrites};
 ghost use Rattle.replay.specs.Stream.{HasStepped, IsReady};
 
@@ -43,16 +43,16 @@ pub fn run_events<S: Source, K: Sink>(
 }
 
 /// Steps the events of the source in a stream and a journal that have none yet.
-fn run_stream<S: Source, K: Sink>(
+pub fn run_stream<S: Source, K: Sink>(
     stream: &mut Stream,
     journal: &mut Journal,
     source: &mut S,
     sink: &mut K,
 ) -> Status
-    requires stepped { HasStepped journal.old.quiet [] stream.old.number stream.old.core.moment stream.old.pending.items [] }
+    requires stepped { HasStepped journal.old.quiet [] stream.old.number stream.old.core.moment stream.old.turns stream.old.pending.items [] }
     requires ready { IsReady stream.old.number stream.old.core }
     requires empty { journal.old.pending ≡ [] }
-    ensures ok { result ≡ Status.Ok → Took (S.left source.old) (K.taken sink.old) (K.taken sink.new) (λ text bytes. IsOutput journal.old.quiet (lines_of text) bytes) }
+    ensures ok { result ≡ Status.Ok → Took (S.left source.old) (K.taken sink.old) (K.taken sink.new) (λ text bytes. IsOutputTo journal.old.quiet (lines_of text) bytes stream.new.core.moment stream.new.turns) }
     ensures all_read { result ≡ Status.Ok → IsAtEnd (S.left source.new) }
     ensures refused { result ≡ Status.Refused → Took (S.left source.old) (K.taken sink.old) (K.taken sink.new) (IsRefusedOutput journal.old.quiet) }
     ensures so_far { result ≡ Status.ReadFault → ReadsAndWrites (S.left source.old) (S.left source.new) (K.taken sink.old) (K.taken sink.new) (IsOutputOfEnded journal.old.quiet) }

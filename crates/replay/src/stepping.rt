@@ -1,6 +1,6 @@
 //! Stepping a line.
 
-ghost use Rattle.std.specs.Prelude.{◌≡◌, ◌+◌, true, false, IfOk, OnOk};
+ghost use Rattle.std.specs.Prelude.{◌≡◌, ◌≢◌, ◌+◌, ℕ, Some, None, IfOk, OnOk};
 ghost use Rattle.event_text.specs.WellFormed.{IsWellFormed};
 ghost use Rattle.replay.specs.Judging.{judge};
 ghost use Rattle.replay.specs.Stream.{IsReady, StepsLine, RefusesLine, made};
@@ -40,7 +40,7 @@ fn judge(
     Ok(Ok(event))
 }
 
-/// Steps a line, or writes that it is refused. Answers whether it was accepted.
+/// Steps a line, and answers how many turns its event took; or writes that it is refused, and answers None.
 #[tactic(auto, using(crate::proofs::Lines::accepted_is_admitted, crate::proofs::Lines::accepted_in_time))]
 pub fn step_line(
     alloc: Global,
@@ -48,25 +48,25 @@ pub fn step_line(
     number: u64,
     line: &[u8],
     journal: &mut Journal,
-) -> Result<bool, Memory>
+) -> Result<Option<u128>, Memory>
     requires { IsReady number core.old }
-    ensures accepted { IfOk result (λ accepted. accepted ≡ true → StepsLine journal.old.quiet number core.old.moment line.now (made journal.old) (made journal.new) core.new.moment) }
-    ensures ready { IfOk result (λ accepted. accepted ≡ true → IsReady (number + 1) core.new) }
-    ensures refused { IfOk result (λ accepted. accepted ≡ false → RefusesLine number core.old.moment line.now (made journal.old) (made journal.new)) }
+    ensures accepted { IfOk result (λ turns. (taken : ℕ) → turns ≡ Some taken → StepsLine journal.old.quiet number core.old.moment line.now (made journal.old) (made journal.new) core.new.moment taken) }
+    ensures ready { IfOk result (λ turns. turns ≢ None → IsReady (number + 1) core.new) }
+    ensures refused { IfOk result (λ turns. turns ≡ None → RefusesLine number core.old.moment line.now (made journal.old) (made journal.new)) }
     ensures quiet { OnOk result (journal.new.quiet ≡ journal.old.quiet) }
 {
     match judge(alloc, core, number, line)? {
         Ok(event) => {
-            core.step(event, journal)?;
+            let turns = core.step(event, journal)?;
             declarations_follow();
             journals_join::<Value>();
             what_is_heard();
             steps_are_heard();
-            Ok(true)
+            Ok(Some(turns))
         }
         Err(code) => {
             journal.push_line(Line::Refused(number, code))?;
-            Ok(false)
+            Ok(None)
         }
     }
 }

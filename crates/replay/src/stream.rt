@@ -2,7 +2,7 @@
 
 ghost use Rattle.std.specs.Prelude.{◌≡◌, ◌++◌, ◌∷◌, [], ◌<◌, ◌≤◌, ◌+◌, ◌^◌, ◌⊎◌, List, ℕ, IfOk, OnOk, length, true, false};
 ghost use Rattle.check_run.specs.Lines.{IsPart, lines_of};
-ghost use Rattle.replay.specs.Output.{IsOutput, IsRefusedOutput};
+ghost use Rattle.replay.specs.Output.{IsOutputTo, IsRefusedOutput};
 ghost use Rattle.replay.specs.Stream.{IsReady, GoesOn, IsNearer, HasStepped, made};
 
 use crate::stepping::step_line;
@@ -24,15 +24,27 @@ pub struct Stream {
     number: u64,
     /// What was read of it.
     pending: Vec<u8>,
+    /// How many turns the events took.
+    turns: u128,
     ghost few: { number ≤ 2 ^ 32 },
     ghost short: { length pending.items < 16386 },
+}
+
+/// The sum of two counts. Past 2^128 there is none, which is answered as want of memory.
+fn sum_of(count: u128, more: u128) -> Result<u128, Memory>
+    ensures { IfOk result (λ sum. sum ≡ count + more) }
+{
+    match count.checked_add(more) {
+        Some(sum) => Ok(sum),
+        None => Err(Memory),
+    }
 }
 
 impl Stream {
     ghost use Rattle.replay.specs.Streams.{state};
 
     pub fn new(alloc: Global, quiet: bool) -> Stream
-        ensures stepped { HasStepped quiet [] result.number result.core.moment result.pending.items [] }
+        ensures stepped { HasStepped quiet [] result.number result.core.moment result.turns result.pending.items [] }
         ensures ready { IsReady result.number result.core }
     {
         first_moment_stands();
@@ -41,7 +53,22 @@ impl Stream {
             core: Core::new(alloc),
             number: 1,
             pending: Vec::new(alloc),
+            turns: 0,
         }
+    }
+
+    /// The router, behind all whole lines.
+    pub fn core(&self) -> &Core
+        ensures { result.now ≡ self.now.core }
+    {
+        &self.core
+    }
+
+    /// How many turns the events took.
+    pub fn turns(&self) -> u128
+        ensures { result ≡ self.now.turns }
+    {
+        self.turns
     }
 
     /// Takes what follows of the line that has begun. Answers whether the text so far is accepted.
@@ -70,9 +97,10 @@ impl Stream {
         ensures quiet { OnOk result (journal.new.quiet ≡ journal.old.quiet) }
     {
         let line = without_return(self.pending.as_slice());
-        if !step_line(self.alloc, &mut self.core, self.number, line, journal)? {
+        let Some(turns) = step_line(self.alloc, &mut self.core, self.number, line, journal)? else {
             return Ok(false);
-        }
+        };
+        self.turns = sum_of(self.turns, turns)?;
         self.pending.clear();
         self.number += 1;
         Ok(true)
@@ -107,16 +135,19 @@ impl Stream {
     pub fn finish(&mut self, journal: &mut Journal) -> Result<bool, Memory>
         requires { IsReady self.old.number self.old.core }
         ensures accepted { IfOk result (λ accepted. accepted ≡ true → (read taken : List ℕ) →
-            HasStepped journal.old.quiet read self.old.number self.old.core.moment self.old.pending.items (taken ++ made journal.old) → IsOutput journal.old.quiet (lines_of read) (taken ++ made journal.new)) }
+            HasStepped journal.old.quiet read self.old.number self.old.core.moment self.old.turns self.old.pending.items (taken ++ made journal.old) → IsOutputTo journal.old.quiet (lines_of read) (taken ++ made journal.new) self.new.core.moment self.new.turns) }
         ensures refused { IfOk result (λ accepted. accepted ≡ false → (read taken : List ℕ) →
-            HasStepped journal.old.quiet read self.old.number self.old.core.moment self.old.pending.items (taken ++ made journal.old) → IsRefusedOutput journal.old.quiet read (taken ++ made journal.new)) }
+            HasStepped journal.old.quiet read self.old.number self.old.core.moment self.old.turns self.old.pending.items (taken ++ made journal.old) → IsRefusedOutput journal.old.quiet read (taken ++ made journal.new)) }
         ensures quiet { OnOk result (journal.new.quiet ≡ journal.old.quiet) }
     {
         if self.pending.is_empty() {
             return Ok(true);
         }
         let line = self.pending.as_slice();
-        let accepted = step_line(self.alloc, &mut self.core, self.number, line, journal)?;
-        Ok(accepted)
+        let Some(turns) = step_line(self.alloc, &mut self.core, self.number, line, journal)? else {
+            return Ok(false);
+        };
+        self.turns = sum_of(self.turns, turns)?;
+        Ok(true)
     }
 }

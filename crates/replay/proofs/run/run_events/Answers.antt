@@ -9,7 +9,7 @@ pub returns-clause-ok : goal.returns-clause-ok
 returns-clause-ok g c = λ is. subst
     (λ (q : Bool). Took (g.S.Source.left c.args.source.now) (g.K.Sink.taken c.args.sink.now) (g.K.Sink.taken c.run_stream.new.sink) (λ text bytes. IsOutput q (lines_of text) bytes))
     (ap (λ (j : Journaled). j.quiet) c.new-journal.ensures)
-    (c.run_stream.ensures.ok is)
+    (let w = c.run_stream.ensures.ok is in (w.0, w.1, w.2, w.3, w.4.output))
 
 pub returns-clause-refused : goal.returns-clause-refused
 returns-clause-refused g c = λ is. subst

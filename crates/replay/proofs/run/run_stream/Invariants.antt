@@ -5,7 +5,7 @@ use Rattle.replay.proofs.run.run_stream.Given as goal
 
 abbrev pub invariant-reading : goal.invariant-reading
 invariant-reading g l = record {
-  progress : Progress l.fn.journal.quiet (g.S.Source.left l.fn.source) (g.S.Source.left l.source) (g.K.Sink.taken l.fn.sink) (g.K.Sink.taken l.sink) l.stream.number l.stream.core.moment l.stream.pending.items;
+  progress : Progress l.fn.journal.quiet (g.S.Source.left l.fn.source) (g.S.Source.left l.source) (g.K.Sink.taken l.fn.sink) (g.K.Sink.taken l.sink) l.stream.number l.stream.core.moment l.stream.turns l.stream.pending.items;
   ready : IsReady l.stream.number l.stream.core;
   empty : l.journal.pending ≡ [];
   same : l.journal.quiet ≡ l.fn.journal.quiet;

@@ -1,0 +1,98 @@
+//! The totals that end the output of generated events.
+
+ghost use Rattle.std.specs.Prelude.{◌≡◌, ◌++◌, ℕ, List, OnOk, IfOk, option_map};
+ghost use Rattle.journal_text.specs.Texts.{line_text};
+ghost use Rattle.journal_text.specs.declared.line.Line.TheVariants as lines;
+ghost use Rattle.event_text.specs.Declarations.{peer_at};
+ghost use Rattle.router_core.specs.Moments.{router_links};
+ghost use Rattle.replay.specs.Totals.{Adds, AreTotals, AreTotalsOf, IsTotal, rows_line, sent_link, total_links, turns_line};
+
+use addr4::Memory;
+use event_text::Declared;
+use journal_text::{Journal, Line, Link};
+use router_core::Core;
+use std::alloc::Global;
+
+/// So many bytes has the first word of a line `rows ..` or `work ..`.
+const FIRST_WORD: usize = 4;
+
+/// The text of a line that is no entry.
+fn text_of_line(alloc: Global, line: Line) -> Result<Journal, Memory>
+    ensures { IfOk result (λ journal. journal.text ≡ text_of false (line.entry ∷ [])) }
+{
+    let mut journal = Journal::new(alloc, false);
+    journal.push_line(line)?;
+    journal.flush()?;
+    Ok(journal)
+}
+
+/// Appends `total turns T`, whose number is written as that of `work T` is.
+fn push_turns(alloc: Global, out: &mut Vec<u8>, turns: u128) -> Result<(), Memory>
+    ensures { OnOk result (out.new.items ≡ out.old.items ++ turns_line turns) }
+{
+    let line = text_of_line(alloc, Line::Work(turns))?;
+    out.extend_from_slice(b"total turns")?;
+    out.extend_from_slice(&line.text()[FIRST_WORD..])?;
+    Ok(())
+}
+
+/// Appends `total LINK ROWS`, whose words are those of `rows LINK ROWS` but for the first.
+fn push_count(alloc: Global, out: &mut Vec<u8>, link: Link, rows: u128) -> Result<(), Memory>
+    ensures { OnOk result (out.new.items ≡ out.old.items ++ rows_line link rows) }
+{
+    let line = text_of_line(alloc, Line::Rows(link, rows))?;
+    out.extend_from_slice(b"total")?;
+    out.extend_from_slice(&line.text()[FIRST_WORD..])?;
+    Ok(())
+}
+
+/// Appends the line of a link, where it is live.
+fn push_total(alloc: Global, core: &Core, link: Link, out: &mut Vec<u8>) -> Result<(), Memory>
+    ensures { OnOk result (Adds (IsTotal link (router_links core.now.moment link)) out.old.items out.new.items) }
+{
+    match core.count(link)? {
+        Some(rows) => push_count(alloc, out, link, rows),
+        None => Ok(()),
+    }
+}
+
+/// Appends what a peer is sent in its last session.
+fn push_sent_link(links: &mut Vec<Link>, declared: &Declared, number: u32) -> Result<(), Memory>
+    ensures { OnOk result (links.new.items ≡ links.old.items ++ sent_link number (peer_at number declared.now.peers)) }
+{
+    if let Some(peer) = declared.peer(number) {
+        links.push(Link::Adv(number, peer.session))?;
+    }
+    Ok(())
+}
+
+/// The links whose rows are counted.
+fn total_links(alloc: Global, declared: &Declared) -> Result<Vec<Link>, Memory>
+    ensures { IfOk result (λ links. links.items ≡ total_links declared.now.peers) }
+{
+    let mut links = vec![in alloc;
+        Link::In(1),
+        Link::In(2),
+        Link::In(3),
+        Link::In(4),
+        Link::Best,
+        Link::Fib,
+    ]?;
+    push_sent_link(&mut links, declared, 1)?;
+    push_sent_link(&mut links, declared, 2)?;
+    push_sent_link(&mut links, declared, 3)?;
+    push_sent_link(&mut links, declared, 4)?;
+    Ok(links)
+}
+
+/// Appends the totals of a router whose events took so many turns.
+pub fn push_totals(alloc: Global, core: &Core, turns: u128, out: &mut Vec<u8>) -> Result<(), Memory>
+    ensures { OnOk result (Adds (AreTotals core.now.moment turns) out.old.items out.new.items) }
+{
+    push_turns(alloc, out, turns)?;
+    let links = total_links(alloc, core.declared())?;
+    'links: for link in &links {
+        push_total(alloc, core, *link, out)?;
+    }
+    Ok(())
+}
