@@ -10,8 +10,6 @@ use Rattle.rib_route.specs.declared.rows.Interior.{Interior}
 use Rattle.rib_route.specs.declared.rows.FibRow.{FibRow}
 use Rattle.register_interest.specs.Registers.{Registry}
 use Rattle.nexthop_resolver.specs.Registered.{KeepsOthers}
-use Rattle.journal_text.specs.declared.link.Link.{Link}
-use Rattle.journal_text.specs.declared.link.Link.TheVariants.{Ebgp, Ibgp, Ext, Fib}
 use Rattle.journal_text.specs.declared.link.Task.TheVariants as tasks
 use Rattle.journal_text.specs.declared.entry.Entry.{Entry}
 use Rattle.journal_text.specs.declared.value.Value.{Value}
@@ -20,13 +18,13 @@ use Rattle.journal_text.specs.Walk.{Links, Leads}
 use Rattle.journal_text.proofs.JournalLemmas.{entries_of_entries}
 use Rattle.link_region.specs.declared.regions.Region.{Region}
 use Rattle.link_region.specs.declared.regions.Region.TheVariants.{Forward}
-use Rattle.link_region.specs.Regions.{Sides, joined, with_side, LeadsIn}
+use Rattle.link_region.specs.Regions.{Sides, joined, with_side}
 use Rattle.loss_chain.proofs.TableLemmas.{no_table}
 use Rattle.rib_tree.specs.Trees.{int_rows}
 use Rattle.rib_exit.specs.declared.exit.RibExit.{RibExit}
-use Rattle.rib_exit.specs.Exits.{exit_links as external_links, is_exit_link, IsExit, AgreesWith, StandsOver, has_ext_work, left_in}
+use Rattle.rib_exit.specs.Exits.{exit_links as external_links, IsExit, AgreesWith, StandsOver, has_ext_work, left_in}
 use Rattle.rib_exit.specs.Steps.{LeadsExit, KeepsAgreed, TurnsExit, ComesOut}
-use Rattle.rib_exit.proofs.LawLemmas.{leads_anywhere, stands_at_first}
+use Rattle.rib_exit.proofs.LawLemmas.{stands_at_first}
 use Rattle.fanout_queue.specs.Queues.{AllLead}
 use Rattle.exit_side.specs.Exits.{Exited, IsExits, AllStand, chain_at as exit_at}
 use Rattle.exit_laws.specs.Views.{AreUnheard}
@@ -45,32 +43,9 @@ use Rattle.router_core.specs.Turns.{journal_lines}
 use Rattle.router_core.specs.Works.{IsUnit, Comes}
 use Rattle.router_core.proofs.HeardSteps.{heard_quiet}
 use Rattle.router_core.proofs.BeyondLemmas.{external_counted}
+use Rattle.router_core.proofs.RibLinks.{exit_leads}
 
 -- ---- the region of the external routes
-exit_leads : (old new : Links Value) (entries : List (Entry Value)) → LeadsExit old entries new → LeadsIn Forward old entries new
-exit_leads old new entries leads sides is = leads_anywhere old new (joined sides) (joined (with_side sides Forward new)) entries leads (record { was = was; is = then; same = same })
-  where
-    was : (link : Link) → is_exit_link link ≡ true → joined sides link ≡ old link
-    was Ebgp at = ap (λ (l : Links Value). l Ebgp) is
-    was Ibgp at = ap (λ (l : Links Value). l Ibgp) is
-    was Ext at = ap (λ (l : Links Value). l Ext) is
-    was Fib at = ap (λ (l : Links Value). l Fib) is
-    was other at = absurd (let clash : false ≡ true = at in cc)
-
-    then : (link : Link) → is_exit_link link ≡ true → joined (with_side sides Forward new) link ≡ new link
-    then Ebgp at = refl
-    then Ibgp at = refl
-    then Ext at = refl
-    then Fib at = refl
-    then other at = absurd (let clash : false ≡ true = at in cc)
-
-    same : (link : Link) → is_exit_link link ≡ false → joined (with_side sides Forward new) link ≡ joined sides link
-    same Ebgp at = absurd (let clash : true ≡ false = at in cc)
-    same Ibgp at = absurd (let clash : true ≡ false = at in cc)
-    same Ext at = absurd (let clash : true ≡ false = at in cc)
-    same Fib at = absurd (let clash : true ≡ false = at in cc)
-    same other at = refl
-
 -- peers hear nothing of it
 pub exit_unheard : (old new : Links Value) (entries : List (Entry Value)) → LeadsExit old entries new → AreUnheard (journal_lines entries)
 exit_unheard old new entries leads = others_are_unheard Forward old new entries refl (exit_leads old new entries leads)

@@ -26,6 +26,7 @@ pub mod RoomLemmas
 pub mod LossLemmas
 pub mod StepLemmas
 pub mod RibLinks
+pub mod OwnTurns
 pub mod RouteLemmas
 pub mod ProtocolLosses
 pub mod RouteTurns

@@ -2,6 +2,8 @@
 use Rattle.std.proofs.Common.{◌≡◌, ◌+◌, ◌≤◌, List, ◌++◌, length, Some, None, IsSome, refl, sym, ap, subst, ◌∙◌}
 use Rattle.bgp_attr.specs.declared.speaker.Speaker.{Speaker}
 use Rattle.rib_route.specs.declared.Proto.{Proto}
+use Rattle.rib_route.specs.declared.rows.Interior.{Interior}
+use Rattle.link_change.specs.Rows.{Rows}
 use Rattle.journal_text.specs.declared.entry.Entry.{Entry}
 use Rattle.journal_text.specs.declared.value.Value.{Value}
 use Rattle.journal_text.specs.declared.line.Line.{Line}
@@ -12,21 +14,22 @@ use Rattle.event_text.specs.declared.event.Event.TheVariants.{Lose}
 use Rattle.rib_tree.specs.Branches.{Branch}
 use Rattle.rib_tree.specs.BranchSteps.{lost_branch}
 use Rattle.loss_chain.specs.declared.owner.Owner.TheVariants as owners
-use Rattle.rib_tree.specs.Trees.{Treed, branch_of, int_rows, IsTree, IsFull}
+use Rattle.rib_tree.specs.Trees.{Treed, branch_of, int_rows, tree_links, IsTree, IsFull}
 use Rattle.rib_tree.specs.Falls.{LeadsTree}
 use Rattle.rib_tree.specs.Steps.{lost_tree, tree_loss_entries, tree_overdue}
+use Rattle.router_core.specs.Bests.{own_rows, best_at}
 use Rattle.router_core.specs.Moments.{Moment, router_links, Gives, with_tree}
 use Rattle.live_state.specs.Lives.{interior_lost}
 use Rattle.router_core.specs.Lives.{live_state}
-use Rattle.router_core.specs.Stands.{Stands, InteriorTree}
+use Rattle.router_core.specs.Stands.{Stands, InteriorTree, EachRow, ExternalExit, ExternalAgrees}
 use Rattle.router_core.specs.Turns.{journal_lines}
 use Rattle.router_core.specs.Works.{Pushes, EndsProtocol, HasProtocolRoom, HasStepped}
 use Rattle.exit_laws.proofs.OtherLemmas.{others_are_unheard}
 use Rattle.link_region.specs.declared.regions.Region.TheVariants.{InteriorRoutes}
-use Rattle.rib_tree.specs.Forwards.{rib_links}
 use Rattle.rib_tree.proofs.RegionLemmas.{tree_leads}
 use Rattle.router_core.proofs.HeardSteps.{heard_quiet}
 use Rattle.router_core.proofs.HopLemmas.{hops_of}
+use Rattle.router_core.proofs.QueueLemmas.{exits_stay}
 use Rattle.router_core.proofs.RibLinks.{leads_above}
 use Rattle.loss_chain.proofs.TableLemmas.{few_lost}
 use Rattle.rib_tree.proofs.TreeParts.{put_all}
@@ -47,8 +50,9 @@ protocol_ended proto m t before now stands free since is lines leads int tree fu
     keeps = record {
       leads = subst (λ (es : List (Entry Value)). Leads (router_links m) es (router_links (with_tree m t))) (sym (entries_of_entries entries)) (leads_above m me.0 me.1 t entries leads int);
       live = ap (λ (x : Treed). live_state (with_tree m x)) is ∙ live_lost m proto (lost_branch b);
-      stands = stands_replanted m me.0 t m.registry m.hops stands me.1 tree full few (registered_rows m stands ∙ sym int) (hops_of m stands) refl;
-      heard = heard_quiet m (with_tree m t) (journal_lines entries) (others_are_unheard InteriorRoutes (rib_links m.tree) (rib_links t) entries refl (tree_leads m.tree t entries leads)) refl;
+      stands = stands_replanted m me.0 t m.registry m.hops m.exits m.rib stands me.1 tree full few (registered_rows m stands ∙ sym int) (hops_of m stands) (stands.own ExternalExit) (stands.own ExternalAgrees)
+          (exits_stay m (with_tree m t) stands (stands.own EachRow) (ap (λ (rows : Rows Interior). best_at (own_rows m.declared.speaker m.redist rows) m.chains m.hops) int) refl refl refl refl (λ rows over. over));
+      heard = heard_quiet m (with_tree m t) (journal_lines entries) (others_are_unheard InteriorRoutes (tree_links m.tree) (tree_links t) entries refl (tree_leads m.tree t entries leads)) refl;
     };
   },
 )

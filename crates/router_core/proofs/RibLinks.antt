@@ -1,51 +1,112 @@
--- From the links of the tree, and `fib`, to those of the router.
-use Rattle.std.proofs.Common.{◌≡◌, List, ◌++◌, Option, Some, None, refl, sym, ap, subst}
-use Rattle.std.proofs.lemmas.List.{append-nil}
+-- From the links of the tree, of `red` with the decision over it, and of the external routes, to those of the router.
+use Rattle.std.proofs.Common.{◌≡◌, ℕ, zero, suc, ◌==◌, true, false, List, ◌++◌, Option, Some, refl, sym, ap, subst, ◌∙◌}
 use Rattle.addr4.specs.Prefixes.{Network}
+use Rattle.bgp_attr.specs.declared.route.Route.{Route}
 use Rattle.bgp_attr.specs.declared.speaker.Speaker.{Speaker}
-use Rattle.rib_route.specs.declared.rows.FibRow.{FibRow}
+use Rattle.link_change.specs.Rows.{Rows}
 use Rattle.link_change.specs.Changes.{IsSent}
 use Rattle.link_change.specs.declared.change.Change.{Change}
+use Rattle.journal_text.specs.declared.link.Link.{Link}
+use Rattle.journal_text.specs.declared.link.Link.TheVariants.{Red, Ebgp, Ibgp, Ext, Fib}
 use Rattle.journal_text.specs.declared.entry.Entry.{Entry}
 use Rattle.journal_text.specs.declared.value.Value.{Value}
-use Rattle.journal_text.specs.Walk.{Links, Leads}
-use Rattle.journal_text.proofs.WalkLemmas.{leads_append}
-use Rattle.rib_tree.specs.Trees.{Treed, int_rows}
+use Rattle.journal_text.specs.Values.{route_value, route_rows}
+use Rattle.journal_text.specs.Walk.{Links, with_link, Leads}
+use Rattle.journal_text.proofs.WalkLemmas.{leads_sent, leads_append}
+use Rattle.rib_route.specs.declared.rows.Interior.{Interior}
+use Rattle.pass_core.specs.Passed.{Passed}
+use Rattle.pass_core.specs.Turns.{passed_rows}
+use Rattle.redist.specs.declared.protos.Protos.{Protos}
+use Rattle.redist.specs.Local.{redistributed}
+use Rattle.decision.specs.Branches.{best_rows}
+use Rattle.hop_side.specs.Resolvers.{Resolvers, PeerRows}
+use Rattle.hop_side.specs.Steps.{ComesOn}
+use Rattle.peer_side.specs.Peers.{Chains}
+use Rattle.rib_exit.specs.Exits.{is_exit_link}
+use Rattle.rib_exit.specs.Steps.{LeadsExit}
+use Rattle.rib_exit.proofs.LawLemmas.{leads_anywhere}
+use Rattle.rib_tree.specs.Trees.{Treed, int_rows, tree_links}
 use Rattle.rib_tree.specs.Falls.{LeadsTree}
-use Rattle.rib_merge.specs.Forwards.{forwarded}
-use Rattle.rib_tree.specs.Forwards.{rib_links}
-use Rattle.link_region.specs.declared.regions.Region.TheVariants.{InteriorRoutes, Forward}
+use Rattle.link_region.specs.declared.regions.Region.TheVariants.{InteriorRoutes, Redistributed, Decided, Forward}
 use Rattle.link_region.specs.Regions.{Sides, joined, with_side, LeadsIn}
-use Rattle.link_region.specs.declared.regions.Region.{Region}
-use Rattle.rib_tree.proofs.RegionLemmas.{tree_leads, fib_stays, fib_leads}
+use Rattle.rib_tree.proofs.RegionLemmas.{tree_leads}
+use Rattle.router_core.proofs.BestLemmas.{best_leads}
 use Rattle.router_core.proofs.RegionLemmas.{interior_set}
-use Rattle.router_core.specs.Moments.{with_tree, Moment, rib_by, router_links, parts}
-use Rattle.router_core.specs.Turns.{fib_entries}
+use Rattle.router_core.specs.Bests.{own_rows, own_links, own_entries, resolved_at, all_at, best_links, best_entries}
+use Rattle.router_core.specs.Moments.{with_tree, Moment, tree_by, router_links, parts}
 
+-- ---- the region of the external routes
+pub exit_leads : (old new : Links Value) (entries : List (Entry Value)) → LeadsExit old entries new → LeadsIn Forward old entries new
+exit_leads old new entries leads sides is = leads_anywhere old new (joined sides) (joined (with_side sides Forward new)) entries leads (record { was = was; is = then; same = same })
+  where
+    was : (link : Link) → is_exit_link link ≡ true → joined sides link ≡ old link
+    was Ebgp at = ap (λ (l : Links Value). l Ebgp) is
+    was Ibgp at = ap (λ (l : Links Value). l Ibgp) is
+    was Ext at = ap (λ (l : Links Value). l Ext) is
+    was Fib at = ap (λ (l : Links Value). l Fib) is
+    was other at = absurd (let clash : false ≡ true = at in cc)
+
+    then : (link : Link) → is_exit_link link ≡ true → joined (with_side sides Forward new) link ≡ new link
+    then Ebgp at = refl
+    then Ibgp at = refl
+    then Ext at = refl
+    then Fib at = refl
+    then other at = absurd (let clash : false ≡ true = at in cc)
+
+    same : (link : Link) → is_exit_link link ≡ false → joined (with_side sides Forward new) link ≡ joined sides link
+    same Ebgp at = absurd (let clash : true ≡ false = at in cc)
+    same Ibgp at = absurd (let clash : true ≡ false = at in cc)
+    same Ext at = absurd (let clash : true ≡ false = at in cc)
+    same Fib at = absurd (let clash : true ≡ false = at in cc)
+    same other at = refl
+
+-- ---- the region of `red`
+pub own_leads : (s : Option Speaker) (me : Speaker) (old new : Rows Route) (p : Network) (own : Option (Change Route)) → s ≡ Some me → IsSent old new p own → LeadsIn Redistributed (own_links s old) (own_entries own) (own_links s new)
+own_leads s me old new p own since sent sides is =
+    subst (λ (l : Links Value). Leads (joined sides) (own_entries own) l) (λ i link. each link i)
+    (leads_sent route_value (λ a b e. cc) (joined sides) Red old new p own (ap (λ (l : Links Value). l Red) is ∙ ap (λ (x : Option Speaker). own_links x old Red) since) sent)
+  where
+    each : (link : Link) → with_link (joined sides) Red (Some (route_rows new)) link ≡ joined (with_side sides Redistributed (own_links s new)) link
+    each Red = ap (λ (x : Option Speaker). own_links x new Red) (sym since)
+    each other = refl
+
+-- ---- a change of `red`, and the decision
+pub own_rows_are : (s : Option Speaker) (me : Speaker) (passed : Passed Protos) (int : Rows Interior) → s ≡ Some me → own_rows s passed int ≡ passed_rows (redistributed me) passed int
+own_rows_are s me passed int since = ap (λ (x : Option Speaker). own_rows x passed int) since
+
+-- a change of branch 0, beside `res.K` that stay
+pub own_comes : (own : Option (Change Route)) (old new : Rows Route) (a : Chains) (h h' : Resolvers) (p : Network) → IsSent old new p own → ((j : ℕ) → resolved_at a h' j ≡ resolved_at a h j) → ComesOn 0 p own (all_at old a h) (all_at new a h')
+own_comes own old new a h h' p sent same = record { here = sent; others = others }
+  where
+    others : (j : ℕ) → (j == 0) ≡ false → all_at new a h' j ≡ all_at old a h j
+    others zero other = absurd (let clash : true ≡ false = other in cc)
+    others (suc k) other = same (suc k)
+
+-- from whatever rows of the branches the change led to these
+abbrev pub DecidesTo : ℕ → Option (Change Route) → Option (Change Route) → PeerRows → Type 0
+DecidesTo k sent best now = (before : PeerRows) (p : Network) → ComesOn k p sent before now → IsSent (best_rows before) (best_rows now) p best
+
+-- what both say, in their regions
+pub leads_own : (s : Option Speaker) (me : Speaker) (old new was is : Rows Route) (p : Network) (own best : Option (Change Route)) (sides : Sides) → s ≡ Some me → IsSent old new p own → IsSent was is p best → sides Redistributed ≡ own_links s old → sides Decided ≡ best_links s was
+    → Leads (joined sides) (own_entries own ++ best_entries best) (joined (with_side (with_side sides Redistributed (own_links s new)) Decided (best_links s is)))
+leads_own s me old new was is p own best sides since sent chosen red decided =
+    leads_append (joined sides) (joined (with_side sides Redistributed (own_links s new))) (joined (with_side (with_side sides Redistributed (own_links s new)) Decided (best_links s is))) (own_entries own) (best_entries best)
+    (own_leads s me old new p own since sent sides red) (best_leads s me was is p best since chosen (with_side sides Redistributed (own_links s new)) decided)
+
+-- ---- the region of the tree
 module _ (m : Moment) (me : Speaker) (since : m.declared.speaker ≡ Some me) (t : Treed) where
-  rib_at : (t : Treed) → rib_by m.declared.speaker t ≡ rib_links t
-  rib_at t i link = rib_by (since i) t link
+  tree_at : (t : Treed) → tree_by m.declared.speaker t ≡ tree_links t
+  tree_at t i link = tree_by (since i) t link
 
-  -- what leads the tree on, or `fib`, leads the router on in their regions
-  in_rib : (region : Region) (entries : List (Entry Value)) → LeadsIn region (rib_links m.tree) entries (rib_links t) → LeadsIn region (rib_by m.declared.speaker m.tree) entries (rib_by m.declared.speaker t)
-  in_rib region entries leads =
-      subst (λ (l : Links Value). LeadsIn region l entries (rib_by m.declared.speaker t)) (sym (rib_at m.tree)) (subst (λ (l : Links Value). LeadsIn region (rib_links m.tree) entries l) (sym (rib_at t)) leads)
+  in_tree : (entries : List (Entry Value)) → LeadsTree m.tree entries t → LeadsIn InteriorRoutes (tree_by m.declared.speaker m.tree) entries (tree_by m.declared.speaker t)
+  in_tree entries leads =
+      subst (λ (l : Links Value). LeadsIn InteriorRoutes l entries (tree_by m.declared.speaker t)) (sym (tree_at m.tree))
+      (subst (λ (l : Links Value). LeadsIn InteriorRoutes (tree_links m.tree) entries l) (sym (tree_at t)) (tree_leads m.tree t entries leads))
 
-  fib_by : (p : Network) (below : Option (Change FibRow)) → IsSent (forwarded (int_rows m.tree)) (forwarded (int_rows t)) p below → LeadsIn Forward (rib_links m.tree) (fib_entries below) (rib_links t)
-  fib_by p None sent = fib_stays m.tree t sent
-  fib_by p (Some change) sent = fib_leads m.tree t p change sent
-
-  -- what leads the tree on, and `fib` behind it, leads the router on
-  pub leads_rib : (entries : List (Entry Value)) (p : Network) (below : Option (Change FibRow)) → LeadsTree m.tree entries t → IsSent (forwarded (int_rows m.tree)) (forwarded (int_rows t)) p below
-      → Leads (router_links m) (entries ++ fib_entries below) (router_links (with_tree m t))
-  leads_rib entries p below leads sent =
-      leads_append (router_links m) (joined between) (router_links (with_tree m t)) entries (fib_entries below) (in_rib InteriorRoutes entries (tree_leads m.tree t entries leads) (parts m) refl)
-      (subst (λ (s : Sides). Leads (joined between) (fib_entries below) (joined s)) (interior_set m t) (in_rib Forward (fib_entries below) (fib_by p below sent) between refl))
-    where
-      between : Sides
-      between = with_side (parts m) InteriorRoutes (rib_by m.declared.speaker t)
+  -- before what is below follows
+  pub leads_down : (entries : List (Entry Value)) → LeadsTree m.tree entries t → Leads (router_links m) entries (joined (with_side (parts m) InteriorRoutes (tree_by m.declared.speaker t)))
+  leads_down entries leads = in_tree entries leads (parts m) refl
 
   -- where the rows of `int` stay
   pub leads_above : (entries : List (Entry Value)) → LeadsTree m.tree entries t → int_rows t ≡ int_rows m.tree → Leads (router_links m) entries (router_links (with_tree m t))
-  leads_above entries leads same =
-      subst (λ (es : List (Entry Value)). Leads (router_links m) es (router_links (with_tree m t))) (append-nil entries) (leads_rib entries (record { address = 0; length = 0 }) None leads (ap forwarded same))
+  leads_above entries leads same = subst (λ (s : Sides). Leads (router_links m) entries (joined s)) (interior_set m t same) (leads_down entries leads)

@@ -1,5 +1,5 @@
 -- One turn of the stage of a protocol's loss.
-use Rattle.std.proofs.Common.{◌≡◌, ℕ, ◌+◌, ◌≤◌, List, length, Option, Some, None, Result, IfOk, refl, sym, ap, subst, ◌∙◌, arith}
+use Rattle.std.proofs.Common.{◌≡◌, ℕ, ◌+◌, ◌≤◌, List, length, Option, Some, None, IsSome, is_some, Result, IfOk, refl, sym, ap, subst, ◌∙◌, arith}
 use Rattle.std.proofs.lemmas.Result.{IfOk-weaker}
 use Rattle.std.specs.FinMap.{FinMap}
 use Rattle.addr4.specs.Prefixes.{Network, prefix_cmp}
@@ -12,14 +12,14 @@ use Rattle.link_change.specs.declared.turn.Turn.TheVariants.{Quiet, Sent}
 use Rattle.journal_text.specs.declared.link.Task.TheVariants.{Rdel}
 use Rattle.journal_text.specs.declared.entry.Entry.{Entry}
 use Rattle.journal_text.specs.declared.value.Value.{Value}
-use Rattle.journal_text.specs.Journals.{Journaled, Adds, flushed}
+use Rattle.journal_text.specs.Journals.{Journaled, Adds, with_entries, flushed}
 use Rattle.rib_tree.specs.Branches.{Branch}
 use Rattle.rib_tree.specs.BranchSteps.{welded_branch, swept_branch}
 use Rattle.loss_chain.specs.Steps.{swept_one, table_of}
 use Rattle.rib_tree.specs.Trees.{Treed, branch_of, tree_count}
 use Rattle.rib_tree.specs.Falls.{way_of_sweep}
 use Rattle.rib_tree.specs.Laws.{TurnsTakeRows, WeldsKeepRows}
-use Rattle.rib_tree.specs.Steps.{SweepsTree, IsTakenTree, swept_tree}
+use Rattle.rib_tree.specs.Steps.{SweepsTree, IsTakenTree, swept_tree, welded_tree}
 use Rattle.router_core.specs.declared.router.Done.{Done}
 use Rattle.router_core.specs.declared.router.Done.TheVariants.{Nothing, Taken}
 use Rattle.router_core.specs.Moments.{Moment, with_tree}
@@ -30,6 +30,8 @@ use Rattle.loss_chain.proofs.TableLemmas.{few_map}
 use Rattle.router_core.proofs.RouteLemmas.{Routes, routes_on, live_stays}
 use Rattle.router_core.specs.declared.router.Phase.TheVariants.{Rdel as RdelPhase}
 use Rattle.router_core.proofs.SpendLemmas.{Spent}
+use Rattle.router_core.specs.Phases.{tree_beyond}
+use Rattle.router_core.proofs.BeyondLemmas.{sweep_beyond}
 use Rattle.router_core.proofs.CountLemmas.{tree_spends}
 use Rattle.rib_tree.proofs.NewLemmas.{of_new}
 
@@ -43,9 +45,21 @@ since_local m proto n table stands there = by_speaker m.declared.speaker refl
         absurd (let contra : Some table ≡ None = sym there ∙ none in cc)
     by_speaker (Some me) at = (me, at)
 
+-- so it was declared where a turn was taken
+pub quiet_since : (m v : Moment) (proto : Proto) (n : ℕ) (turn : Turn Interior) (t : Treed) (before j : Journaled) → v ≡ m → Stands m → turn ≡ Quiet → IsTakenTree v.tree t (Rdel proto n) before j turn → IsSome v.declared.speaker
+quiet_since m v proto n turn t before j view stands is taken =
+    let adds : Adds (SweepsTree v.tree t proto n None) before j = subst (IsTakenTree v.tree t (Rdel proto n) before j) is taken in
+    ap is_some (since_local v proto n adds.2.table (subst Stands (sym view) stands) adds.2.stands).1
+
+pub sent_since : (m v : Moment) (proto : Proto) (n : ℕ) (turn : Turn Interior) (change : Change Interior) (t : Treed) (before j : Journaled) → v ≡ m → Stands m → turn ≡ Sent change → IsTakenTree v.tree t (Rdel proto n) before j turn
+    → IsSome v.declared.speaker
+sent_since m v proto n turn change t before j view stands is taken =
+    let adds : Adds (SweepsTree v.tree t proto n (Some change)) before j = subst (IsTakenTree v.tree t (Rdel proto n) before j) is taken in
+    ap is_some (since_local v proto n adds.2.table (subst Stands (sym view) stands) adds.2.stands).1
+
 -- ---- the turn
 pub route_unit : TurnsTakeRows → WeldsKeepRows → (m : Moment) (proto : Proto) (n : ℕ) (sent : Option (Change Interior)) (t : Treed) (m' : Moment) (before j j' : Journaled) → Stands m → Adds (SweepsTree m.tree t proto n sent) before j
-    → Settles proto sent (with_tree m t) m' j j' → Pushes (IsUnit (Rdel proto n) m m') before j'
+    → Adds (Settles proto sent (with_tree m t) m') j j' → Pushes (IsUnit (Rdel proto n) m m') before j'
 route_unit take keep m proto n sent t m' before j j' stands adds settles = (
   r.0,
   r.1,
@@ -84,24 +98,24 @@ route_unit take keep m proto n sent t m' before j j' stands adds settles = (
     lives : live_state m' ≡ live_state m
     lives = ap live_state r.2.is ∙ live_stays m proto (welded_branch b) refl refl
 
-    chains : m'.chains ≡ m.chains
-    chains = ap (λ (x : Moment). x.chains) r.2.falls.after
-
     fewer : tree_count m'.tree + 1 ≡ tree_count m.tree
     fewer =
         let one = take m.tree proto n p sweeps.table sweeps.row (stands.own InteriorTree).tree sweeps.stands sweeps.least.0 in
         let same : tree_count m'.tree ≡ tree_count (swept_tree proto n p m.tree) =
-        ap (λ (x : Moment). tree_count x.tree) settles.after ∙ keep t proto ∙ ap tree_count sweeps.after in
+        ap (λ (x : Moment). tree_count x.tree) settles.2.after ∙ keep t proto ∙ ap tree_count sweeps.after in
         omega (arith, one, same)
 
+    less : (place : Option Network) → tree_beyond m'.tree place ≤ tree_beyond m.tree place
+    less place = subst (λ (x : Treed). tree_beyond x place ≤ tree_beyond m.tree place) (sym (ap (λ (x : Moment). x.tree) settles.2.after ∙ ap (welded_tree proto) sweeps.after)) (sweep_beyond place proto n p m.tree)
+
     spent : Spent RdelPhase m m'
-    spent = tree_spends m m' chains (ap (λ (x : Moment). x.exits) r.2.falls.after) lives fewer
+    spent = tree_spends m m' r.2.best (ap (λ (x : Moment). x.chains) r.2.is) (ap (λ (x : Moment). x.redist) r.2.is) r.2.queued lives fewer less
 
 pub route_comes : TurnsTakeRows → WeldsKeepRows → (m : Moment) (proto : Proto) (n : ℕ) (sent : Option (Change Interior)) (t : Treed) (m' : Moment) (before j now : Journaled) (done : Done) → Stands m → Adds (SweepsTree m.tree t proto n sent) before j
     → Turned proto sent (with_tree m t) m' j now done → Comes (Rdel proto n) m m' before now done
 route_comes take keep m proto n sent t m' before j now Nothing stands adds turned = absurd turned
 route_comes take keep m proto n sent t m' before j now Taken stands adds turned =
-    let u = route_unit take keep m proto n sent t m' before j turned.0 stands adds turned.1 in
+    let u = route_unit take keep m proto n sent t m' before j (with_entries j turned.0) stands adds (turned.0, refl, turned.1) in
     (u.0, turned.2 ∙ ap flushed u.1, u.2)
 
 -- by what came out on `int`

@@ -190,12 +190,24 @@ impl Network {
     {
         match sent {
             None => Ok(()),
-            Some(change) => {
-                self.inform(&change)?;
-                self.redistribute(&change, journal)?;
-                self.rib.take_interior(&change, journal)?;
-                Ok(())
-            }
+            Some(change) => self.pass_on(&change, journal),
+        }
+    }
+
+    /// What follows a change that came out on `int`, in its order.
+    fn pass_on(&mut self, change: &Change<Interior>, journal: &mut Journal) -> Result<(), Memory>
+        requires hops { IsHops self.old.hops }
+        requires rib { IsExit self.old.rib }
+        requires exits { IsExits self.old.exits }
+        requires since { IsSome self.old.declared.speaker }
+        ensures { OnOk result (Adds (Follows (Some change.now) self.old self.new) journal.old journal.new) }
+    {
+        self.inform(change)?;
+        self.redistribute(change, journal)?;
+        // By cases: rattle's borrow checker can't plan a `?` on a value that holds a forwarding row.
+        match self.rib.take_interior(change, journal) {
+            Ok(_) => Ok(()),
+            Err(error) => Err(error),
         }
     }
 

@@ -9,8 +9,8 @@ use Rattle.router_core.specs.Moments.{Moment}
 use Rattle.live_state.specs.Lives.{interior_fed}
 use Rattle.router_core.specs.Lives.{live_state}
 use Rattle.router_core.specs.Works.{Pushes, HasRouted}
-use Rattle.router_core.proofs.HopTurns.{hops_sound}
-use Rattle.router_core.proofs.RouteLemmas.{routed}
+use Rattle.router_core.proofs.HopTurns.{hops_sound, exits_sound}
+use Rattle.router_core.proofs.RouteLemmas.{rib_sound, routed}
 use Rattle.router_core.proofs.network.Network.route.Goals as goal
 use Rattle.router_core.specs.contracts.network.Network.{the_view}
 
@@ -29,8 +29,26 @@ feed-requires-in-Some-clause-full c = subst (λ (m : Moment). IsFull m.tree) (sy
 pub settle-requires-clause-hops : goal.settle-requires-clause-hops
 settle-requires-clause-hops c = hops_sound c.args.self.now _ c.self.view_is c.requires.stands
 
+pub settle-requires-clause-rib : goal.settle-requires-clause-rib
+settle-requires-clause-rib c = rib_sound c.args.self.now _ c.self.view_is c.requires.stands
+
+pub settle-requires-clause-exits : goal.settle-requires-clause-exits
+settle-requires-clause-exits c = exits_sound c.args.self.now _ c.self.view_is c.requires.stands
+
+pub settle-requires-clause-since : goal.settle-requires-clause-since
+settle-requires-clause-since c = subst (λ (m : Moment). IsSome m.declared.speaker) (sym c.self.view_is) c.requires.since
+
 pub settle-requires-in-Some-clause-hops : goal.settle-requires-in-Some-clause-hops
 settle-requires-in-Some-clause-hops c = hops_sound c.args.self.now _ c.self-in-Some.view_is c.requires.stands
+
+pub settle-requires-in-Some-clause-rib : goal.settle-requires-in-Some-clause-rib
+settle-requires-in-Some-clause-rib c = rib_sound c.args.self.now _ c.self-in-Some.view_is c.requires.stands
+
+pub settle-requires-in-Some-clause-exits : goal.settle-requires-in-Some-clause-exits
+settle-requires-in-Some-clause-exits c = exits_sound c.args.self.now _ c.self-in-Some.view_is c.requires.stands
+
+pub settle-requires-in-Some-clause-since : goal.settle-requires-in-Some-clause-since
+settle-requires-in-Some-clause-since c = subst (λ (m : Moment). IsSome m.declared.speaker) (sym c.self-in-Some.view_is) c.requires.since
 
 pub returns-in_ok-settle-in-None : goal.returns-in_ok-settle-in-None
 returns-in_ok-settle-in-None c =

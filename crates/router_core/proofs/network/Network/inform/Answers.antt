@@ -1,0 +1,7 @@
+use Rattle.std.proofs.Common.{sym, subst}
+use Rattle.hop_side.specs.Resolvers.{IsHops}
+use Rattle.router_core.specs.Moments.{Moment}
+use Rattle.router_core.proofs.network.Network.inform.Goals as goal
+
+pub reach-requires : goal.reach-requires
+reach-requires c = record { sound = subst (λ (m : Moment). IsHops m.hops) (sym c.self.view_is) c.requires.hops }

@@ -1,0 +1,7 @@
+use Rattle.router_core.proofs.RouteLemmas.{settled}
+use Rattle.router_core.proofs.network.Network.settle.Goals as goal
+
+pub returns : goal.returns
+returns c =
+    settled c.args.proto c.args.sent c.args.self.now c.follow.new.self _ c.weld.new.self c.args.journal.now c.follow.new.journal c.weld.new.journal c.self.view_is c.in_ok-follow.ensures c.in_ok-weld.ensures.after c.in_ok-weld.ensures.lines
+    c.in_ok-weld.ensures.leads c.in_ok-weld.ensures.rows c.in_ok-weld.ensures.tree c.in_ok-weld.ensures.full
