@@ -14,14 +14,14 @@ use Rattle.std.specs.declared.cmp.Ordering.TheVariants.{Less, Equal, Greater}
 use Rattle.addr4.specs.Prefixes.{Network, prefix_cmp}
 use Rattle.addr4.specs.Places.{IsBeyond}
 use Rattle.addr4.proofs.PrefixOrder.{prefixes_total, exact_prefixes, one_prefix, itself}
-use Rattle.link_change.specs.Rows.{Rows, IsNextCandidate, is_empty_map}
+use Rattle.link_change.specs.Rows.{is_empty_map}
 use Rattle.link_region.proofs.RegionLemmas.{by_bool}
 use Rattle.pass_core.specs.Passed.{is_beyond}
 use Rattle.pass_core.specs.Left.{CountsBeyond}
 use Rattle.loss_chain.specs.Lost.{Lost}
 use Rattle.loss_chain.specs.Covering.{row_over}
 use Rattle.loss_chain.specs.Steps.{swept_one, without}
-use Rattle.loss_chain.specs.Tables.{Tables, rows_below, lowest_rows, lost_count, tables_count}
+use Rattle.loss_chain.specs.Tables.{rows_below, lost_count, tables_count}
 use Rattle.rib_route.specs.declared.Proto.{Proto}
 use Rattle.rib_route.specs.declared.Proto.TheVariants.{Connected, Static, Ospf, Rip}
 use Rattle.rib_route.specs.declared.rows.Interior.{Interior}
