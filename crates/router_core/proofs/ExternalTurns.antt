@@ -1,5 +1,6 @@
 -- The RIB's exit in the router: what its entries lead to, what stands then, and one turn of the external routes' next hops.
 use Rattle.std.proofs.Common.{◌≡◌, ◌≢◌, ℕ, ◌+◌, ◌≤◌, Bool, true, false, List, Option, Some, None, is_some, refl, sym, ap, subst, ◌∙◌, arith}
+use Rattle.std.specs.Prelude.{MatchBool}
 use Rattle.std.specs.FinMap as tables
 use Rattle.addr4.specs.Prefixes.{Network}
 use Rattle.bgp_attr.specs.declared.speaker.Speaker.{Speaker}
@@ -137,18 +138,22 @@ module _ (m : Moment) (r : Registry Interior) (x : RibExit) (sent : Option (Chan
   }
 
 -- by what it came to
-pub external_took : (m v m' : Moment) (r : Registry Interior) (x : RibExit) (before j now : Journaled) (turn : Turn FibRow) → has_ext_work v.rib ≡ true → v ≡ m → Stands m → ComesOut (int_rows v.tree) v.registry r v.rib x before j turn
-    → m' ≡ with_rib v r x → now ≡ flushed j → Comes tasks.Ext m m' before now Taken
-external_took m v m' r x before j now turn busy view stands comes is flush =
-    subst (λ (n : Moment). Comes tasks.Ext n m' before now Taken) view (subst (λ (n : Moment). Comes tasks.Ext v n before now Taken) (sym is) (by_turn turn comes))
+pub external_took : (m v m' : Moment) (r : Registry Interior) (x : RibExit) (before j now : Journaled) (turn : Turn FibRow) (rested : Bool) → MatchBool rested (turn ≡ turns.Nothing) (turn ≢ turns.Nothing) → rested ≡ false → v ≡ m → Stands m
+    → ComesOut (int_rows v.tree) v.registry r v.rib x before j turn → m' ≡ with_rib v r x → now ≡ flushed j → Comes tasks.Ext m m' before now Taken
+external_took m v m' r x before j now turn rested is some view stands comes after flush =
+    subst (λ (n : Moment). Comes tasks.Ext n m' before now Taken) view (subst (λ (n : Moment). Comes tasks.Ext v n before now Taken) (sym after) (by_turn turn (subst (λ (b : Bool). MatchBool b (turn ≡ turns.Nothing) (turn ≢ turns.Nothing)) some is) comes))
   where
-    by_turn : (t : Turn FibRow) → ComesOut (int_rows v.tree) v.registry r v.rib x before j t → Comes tasks.Ext v (with_rib v r x) before now Taken
-    by_turn turns.Nothing c = absurd (let clash : true ≡ false = sym busy ∙ c.0 in cc)
-    by_turn turns.Quiet c = (journal_lines c.0, flush ∙ ap flushed c.1, external_done v r x None c.0 (subst Stands (sym view) stands) c.2)
-    by_turn (turns.Sent change) c = (journal_lines c.0, flush ∙ ap flushed c.1, external_done v r x (Some change) c.0 (subst Stands (sym view) stands) c.2)
+    by_turn : (t : Turn FibRow) → t ≢ turns.Nothing → ComesOut (int_rows v.tree) v.registry r v.rib x before j t → Comes tasks.Ext v (with_rib v r x) before now Taken
+    by_turn turns.Nothing other c = absurd (other refl)
+    by_turn turns.Quiet other c = (journal_lines c.0, flush ∙ ap flushed c.1, external_done v r x None c.0 (subst Stands (sym view) stands) c.2)
+    by_turn (turns.Sent change) other c = (journal_lines c.0, flush ∙ ap flushed c.1, external_done v r x (Some change) c.0 (subst Stands (sym view) stands) c.2)
 
-pub external_rests : (m v : Moment) (j : Journaled) → v ≡ m → has_ext_work v.rib ≡ false → Comes tasks.Ext m m j j Nothing
-external_rests m v j view idle = (ap (λ (n : Moment). has_ext_work n.rib) (sym view) ∙ idle, refl, refl)
+pub external_rests : (m v m' : Moment) (r : Registry Interior) (x : RibExit) (before j : Journaled) (turn : Turn FibRow) (rested : Bool) → MatchBool rested (turn ≡ turns.Nothing) (turn ≢ turns.Nothing) → rested ≡ true → v ≡ m
+    → ComesOut (int_rows v.tree) v.registry r v.rib x before j turn → m' ≡ with_rib v r x → Comes tasks.Ext m m' before j Nothing
+external_rests m v m' r x before j turn rested is none view comes after =
+    let idle : turn ≡ turns.Nothing = subst (λ (b : Bool). MatchBool b (turn ≡ turns.Nothing) (turn ≢ turns.Nothing)) none is in
+    let c : ComesOut (int_rows v.tree) v.registry r v.rib x before j turns.Nothing = subst (ComesOut (int_rows v.tree) v.registry r v.rib x before j) idle comes in
+    (ap (λ (n : Moment). has_ext_work n.rib) (sym view) ∙ c.0, after ∙ ap (λ (y : RibExit). with_rib v r y) c.1 ∙ ap (λ (y : Registry Interior). with_rib v y v.rib) c.2 ∙ view, c.3)
 
 -- what the calls ask for
 pub rib_sound : (m v : Moment) → v ≡ m → Stands m → IsExit v.rib

@@ -1,8 +1,9 @@
 //! What peers are sent, and what the forwarding side reads of `best`: both read the queue of its changes (NSDI 2005, section 5.1).
 
-ghost use Rattle.std.specs.Prelude.{◌≡◌, [], None, IfOk, OnOk, IsSome};
+ghost use Rattle.std.specs.Prelude.{◌≡◌, ◌≢◌, [], None, IfOk, OnOk, IsSome, MatchBool};
 ghost use Rattle.std.specs.FinMap as map;
 ghost use Rattle.addr4.specs.Places.{key_of};
+ghost use Rattle.link_change.specs.declared.turn.Turn.TheVariants as turns;
 ghost use Rattle.journal_text.specs.Journals.{Adds};
 ghost use Rattle.journal_text.specs.Walk.{HasRow};
 ghost use Rattle.journal_text.specs.declared.link.Link.TheVariants as links;
@@ -78,6 +79,16 @@ impl Policies {
             Some(rules) => rules.copy(alloc),
             None => Ok(Rules::new(alloc)),
         }
+    }
+}
+
+// Whether a task had no work.
+fn rested<R: Drop>(turn: Turn<R>) -> bool
+    ensures { MatchBool result (turn ≡ turns.Nothing) (turn ≢ turns.Nothing) }
+{
+    match turn {
+        Turn::Nothing => true,
+        Turn::Quiet | Turn::Sent(_) => false,
     }
 }
 
@@ -184,10 +195,10 @@ impl Network {
         requires { Stands self.old }
         ensures { IfOk result (Comes tasks.Ext self.old self.new journal.old journal.new) }
     {
-        if !self.rib.busy() {
+        let turn = self.rib.turn(&self.tree, &mut self.registry, journal)?;
+        if rested(turn) {
             return Ok(Done::Nothing);
         }
-        self.rib.turn(&self.tree, &mut self.registry, journal)?;
         journal.flush()?;
         Ok(Done::Taken)
     }
