@@ -9,3 +9,4 @@ pub mod WordLemmas
 mod SettledLinks
 pub mod HeardLemmas
 pub mod Checked
+pub mod Seeds

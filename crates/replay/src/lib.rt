@@ -14,6 +14,7 @@
 
 mod commands;
 mod generated;
+mod laws;
 mod output;
 mod run;
 mod status;
@@ -27,10 +28,11 @@ ghost use Rattle.std.specs.String.{string_bytes};
 ghost use Rattle.std.specs.Io.KnownBytes.{Appends};
 ghost use Rattle.edge_io.specs.Causes.{Rose};
 ghost use Rattle.replay.specs.Commands.{command_of, reads_source, usage_line};
-ghost use Rattle.replay.specs.Answers.{HasDone, HasRead, HasRefused, HasLawful, HasBroken, HasSoFar, HasFirst, HasFront, IsByText, IsUnfailing};
+ghost use Rattle.replay.specs.Answers.{HasDone, HasRead, HasRefused, HasLawful, HasBroken, HasSoFar, HasFirst, HasFront, IsByText, IsUnfailing, SeedsAreAccepted};
 ghost use Rattle.replay.specs.declared.words.Command.TheVariants.{Check};
 
 use crate::commands::obey;
+use crate::laws::seeds_are_accepted;
 use crate::words::read_command;
 use edge_io::{Sink, Source};
 use router_core::first_moment_stands;
@@ -69,6 +71,9 @@ pub fn replay<S: Source, K: Sink>(
     ensures by_text { (result ≡ Status.Ok) ⊎ (result ≡ Status.Broken) ⊎ (result ≡ Status.Refused) → IsByText (command_of (map string_bytes words.now)) (S.left source.old) result }
     ensures complete { ¬ Rose (S.faults source.old) (S.faults source.new) → ¬ Rose (K.faults sink.old) (K.faults sink.new) → IsUnfailing (command_of (map string_bytes words.now)) (S.left source.old) result }
 
+    // No line of a seed is refused: `gen` ends with status 0, unless a write fails or there is no memory.
+    ensures seeds { SeedsAreAccepted }
+
     // The words are no command, and the usage line was written.
     ensures usage { result ≡ Status.Usage → Appends (K.taken sink.old) (K.taken sink.new) usage_line }
     ensures command { command_of (map string_bytes words.now) ≢ None → result ≢ Status.Usage }
@@ -87,6 +92,7 @@ pub fn replay<S: Source, K: Sink>(
     ensures front { result ≡ Status.WriteFault → HasFront (command_of (map string_bytes words.now)) (S.left source.old) (K.taken sink.old) (K.taken sink.new) }
 {
     first_moment_stands();
+    seeds_are_accepted();
     let Ok(command) = read_command(alloc, words) else {
         return Status::Memory;
     };
