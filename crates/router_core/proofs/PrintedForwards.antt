@@ -1,8 +1,7 @@
 -- This speaker's own routes, the external rows, and what packets are forwarded by can be printed, and so can what goes on to `fib`.
-use Rattle.std.proofs.Common.{◌≡◌, ◌⊎◌, inl, inr, ℕ, zero, ◌<◌, ◌≤◌, ◌^◌, Bool, true, false, cond, not, List, [], ◌++◌, Option, Some, None, refl, sym, ap, subst, ◌∙◌, arith}
+use Rattle.std.proofs.Common.{◌≡◌, ◌⊎◌, inl, inr, ℕ, ◌<◌, ◌≤◌, ◌^◌, Bool, true, false, cond, List, Option, Some, None, refl, sym, subst, ◌∙◌, arith}
 use Rattle.std.specs.Option.{option_or}
 use Rattle.addr4.specs.Prefixes.{Network}
-use Rattle.bgp_attr.specs.declared.attrs.Attrs.{Attrs}
 use Rattle.bgp_attr.specs.declared.route.Route.{Route}
 use Rattle.bgp_attr.specs.declared.speaker.Neighbour.{Neighbour}
 use Rattle.bgp_attr.specs.declared.speaker.Speaker.{Speaker}
@@ -10,7 +9,6 @@ use Rattle.bgp_wire.specs.Lengths.{attributes_length}
 use Rattle.link_change.specs.Rows.{Rows}
 use Rattle.link_change.specs.Changes.{IsSent}
 use Rattle.link_change.specs.declared.change.Change.{Change}
-use Rattle.rib_route.specs.Ifaces.{is_iface_name}
 use Rattle.rib_route.specs.Distances.{external_proto}
 use Rattle.rib_route.specs.declared.rows.Interior.{Interior}
 use Rattle.rib_route.specs.declared.rows.External.{External}
@@ -30,7 +28,7 @@ use Rattle.rib_split.specs.declared.split.BgpLink.{BgpLink}
 use Rattle.rib_split.specs.declared.split.BgpLink.TheVariants as sides
 use Rattle.rib_split.specs.declared.split.Split.{Split}
 use Rattle.rib_split.specs.declared.split.Split.TheVariants.{Neither, One, Moved}
-use Rattle.rib_split.specs.Splitting.{Parted, external_of, external_row, is_of, on_link, other, split_rows, first_on, IsSentOn, Splits}
+use Rattle.rib_split.specs.Splitting.{Parted, external_of, external_row, is_of, on_link, other, split_rows, first_on, Splits}
 use Rattle.rib_split.specs.Laws.{merged_links}
 use Rattle.ext_int.specs.Fibs.{fib_distance, resolved_rows, fib_table}
 use Rattle.rib_exit.specs.declared.exit.RibExit.{RibExit}

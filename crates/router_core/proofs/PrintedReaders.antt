@@ -1,6 +1,5 @@
 -- What reads `best` stands and can be printed, and so it is kept: where a change of `best` joins the queue, and in turns of those who read.
-use Rattle.std.proofs.Common.{◌≡◌, ◌≢◌, inl, inr, ℕ, cond, List, [], ◌∷◌, Option, Some, None, refl, sym, ap, subst, ◌∙◌}
-use Rattle.std.proofs.lemmas.Bool.Decides.{nat_tests}
+use Rattle.std.proofs.Common.{◌≡◌, ◌≢◌, inl, inr, ℕ, cond, List, ◌∷◌, Option, Some, None, refl, sym, ap, subst, ◌∙◌}
 use Rattle.std.specs.Cmp.{nat_cmp_total}
 use Rattle.std.specs.FinMap as tables
 use Rattle.std.specs.FinMap.{get-insert}
@@ -20,8 +19,8 @@ use Rattle.fanout_queue.proofs.Cases.{same_number}
 use Rattle.fanout_queue.proofs.LeadLemmas.{take_keeps_leading, take_keeps_readers}
 use Rattle.journal_text.specs.declared.line.Line.{Line}
 use Rattle.journal_check.specs.Laws.{IsPrefix}
-use Rattle.exit_side.specs.Exits.{Exited, IsExits, chain_at as exit_at, with_queue}
-use Rattle.exit_side.specs.Laws.{IsStranger, KeepsStranger}
+use Rattle.exit_side.specs.Exits.{Exited, IsExits, with_queue}
+use Rattle.exit_side.specs.Laws.{KeepsStranger}
 use Rattle.exit_side.specs.Steps.{TurnsExit}
 use Rattle.exit_side.proofs.StrangerLemmas.{turn_keeps}
 use Rattle.exit_laws.specs.Laws.{ArePrinted}
