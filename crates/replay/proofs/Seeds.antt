@@ -1,6 +1,6 @@
 -- No line of a seed is refused.
 use Rattle.std.proofs.Common.{◌≡◌, ℕ, zero, suc, ◌+◌, ◌-◌, ◌%◌, ◌<◌, ◌≤◌, ◌&&◌, Bool, true, false, not, cond, nat_eq, List, [], ◌∷◌, ◌++◌, map, length, take, get_or, Option, Some, None, is_some, Result, Ok, Err, refl, sym, ap, subst, ◌∙◌, arith, length-append}
-use Rattle.std.specs.Prelude.{nat_le}
+use Rattle.std.specs.Prelude.{◌/◌, nat_le, nat_lt}
 use Rattle.std.specs.List.{AllByRecursion, flat_map, list_all}
 use Rattle.std.specs.Str.Lines.{strip_carriage_return}
 use Rattle.std.proofs.lemmas.List.{append-nil, length-map}
@@ -14,7 +14,8 @@ use Rattle.journal_text.specs.declared.line.Code.TheVariants.{E1, E6}
 use Rattle.event_text.specs.declared.event.Event.{Event}
 use Rattle.event_text.specs.declared.event.Event.TheVariants as events
 use Rattle.event_text.specs.declared.declared.DeclaredPeer.{DeclaredPeer}
-use Rattle.event_text.specs.Words.{is_clean, words}
+use Rattle.event_text.specs.Words.{is_clean}
+use Rattle.policy_rules.specs.Words.{words}
 use Rattle.event_text.specs.Events.{read_event, in_grammar, event_of}
 use Rattle.event_text.specs.Declarations.{Declaration, no_declaration, refusal, refusal_at, refusal_by, session_refusal, undeclared, rules_refusal, peer_at, begun_at, ended_at, with_session, without_session}
 use Rattle.live_state.specs.Declared.{declared_after, declared_up, declared_down, declared_heard}
@@ -23,7 +24,6 @@ use Rattle.event_gen.specs.Draws.{next_draws, behind_draws}
 use Rattle.event_gen.specs.Events as draws
 use Rattle.event_gen.specs.Lines.{text, lines, announce_octets, withdraw_octets}
 use Rattle.event_gen.specs.Readings.{AreReadAs, LinesAreRead, meanings, meant, opening_events, task_meant}
-use Rattle.event_gen.specs.declared.draws.Draws.{Draws}
 use Rattle.event_gen.specs.declared.drawn.Work.{Work}
 use Rattle.event_gen.specs.declared.drawn.Work.TheVariants as works
 use Rattle.event_gen.specs.declared.drawn.Drawn.{Drawn}
@@ -116,11 +116,11 @@ record Ready (c : ℕ) (d : Declaration) : Type 0 where
 known_map : (f : DeclaredPeer → DeclaredPeer) → ((p : DeclaredPeer) → (f p).words ≡ p.words) → (k : ℕ) (ps : List DeclaredPeer) → is_some (peer_at k (map f ps)) ≡ is_some (peer_at k ps)
 known_map f keeps k [] = refl
 known_map f keeps k (p ∷ ps) =
-    ap (λ (w : Neighbour). is_some (cond (nat_eq w.number k) (Some (f p)) (peer_at k (map f ps)))) (keeps p) ∙ by (nat_eq p.words.number k)
+    ap (λ (w : Neighbour). is_some (cond (nat_eq w.number k) (Some (f p)) (peer_at k (map f ps)))) (keeps p) ∙ by (nat_eq p.words.number k) (known_map f keeps k ps)
   where
-    by : (b : Bool) → is_some (cond b (Some (f p)) (peer_at k (map f ps))) ≡ is_some (cond b (Some p) (peer_at k ps))
-    by true = refl
-    by false = known_map f keeps k ps
+    by : (b : Bool) → is_some (peer_at k (map f ps)) ≡ is_some (peer_at k ps) → is_some (cond b (Some (f p)) (peer_at k (map f ps))) ≡ is_some (cond b (Some p) (peer_at k ps))
+    by true later = refl
+    by false later = later
 
 few_map : (f : DeclaredPeer → DeclaredPeer) (c : ℕ) → ((p : DeclaredPeer) → p.session ≤ c → (f p).session ≤ suc c) → (ps : List DeclaredPeer) → AllByRecursion (λ (p : DeclaredPeer). p.session ≤ c) ps → AllByRecursion (λ (p : DeclaredPeer). p.session ≤ suc c) (map f ps)
 few_map f c more [] h = tt
@@ -132,11 +132,11 @@ few_more c (p ∷ ps) h = (omega (arith, h.0), few_more c ps h.1)
 
 few_at : (c k : ℕ) (ps : List DeclaredPeer) (p : DeclaredPeer) → AllByRecursion (λ (q : DeclaredPeer). q.session ≤ c) ps → peer_at k ps ≡ Some p → p.session ≤ c
 few_at c k [] p h e = absurd (let clash : ◌≡◌ {A = Option DeclaredPeer} None (Some p) = e in cc)
-few_at c k (q ∷ ps) p h e = by (nat_eq q.words.number k) e
+few_at c k (q ∷ ps) p h e = by (nat_eq q.words.number k) (few_at c k ps p h.1) e
   where
-    by : (b : Bool) → cond b (Some q) (peer_at k ps) ≡ Some p → p.session ≤ c
-    by true e = let same : q ≡ p = cc in subst (λ (x : DeclaredPeer). x.session ≤ c) same h.0
-    by false e = few_at c k ps p h.1 e
+    by : (b : Bool) → (peer_at k ps ≡ Some p → p.session ≤ c) → cond b (Some q) (peer_at k ps) ≡ Some p → p.session ≤ c
+    by true later is = let same : q ≡ p = cc in subst (λ (x : DeclaredPeer). x.session ≤ c) same h.0
+    by false later is = later is
 
 begun_words : (k : ℕ) (p : DeclaredPeer) → (begun_at k p).words ≡ p.words
 begun_words k p = by (nat_eq p.words.number k && not p.up)
@@ -277,31 +277,56 @@ pick_work : (b : Bool) (x y : Work) (n : ℕ) → IsOfFour (drawn.Work x n) → 
 pick_work true x y n f g = f
 pick_work false x y n f g = g
 
-peer_of_four : (d : Draws) → (1 ≤ draws.peer_of d) × (draws.peer_of d ≤ 4)
-peer_of_four d = (omega arith, omega arith)
+peer_of_four : (x : ℕ) → (1 ≤ draws.peer_of (next_draws x)) × (draws.peer_of (next_draws x) ≤ 4)
+peer_of_four x = (omega arith, omega arith)
 
-work_of_four : (d : Draws) (n : ℕ) → IsOfFour (drawn.Work (draws.work_of d) n)
-work_of_four d n =
-    let k = peer_of_four d in
-    pick_work (nat_eq (d.c % 4) 0) _ _ n tt (pick_work (nat_eq (d.c % 4) 1) _ _ n k (pick_work (nat_eq (d.c % 4) 2) _ _ n k k))
+work_of_four : (x n : ℕ) → IsOfFour (drawn.Work (draws.work_of (next_draws x)) n)
+work_of_four x n =
+    let d = next_draws x in
+    let k = draws.peer_of d in
+    let h = peer_of_four x in
+    let third = cond (nat_eq (d.c % 4) 2) (works.NextHops k) (works.Filter k) in
+    let second = cond (nat_eq (d.c % 4) 1) (works.Out k) third in
+    pick_work (nat_eq (d.c % 4) 0) works.ReadRib second n tt (pick_work (nat_eq (d.c % 4) 1) (works.Out k) third n h (pick_work (nat_eq (d.c % 4) 2) (works.NextHops k) (works.Filter k) n h h))
 
-other_of_four : (d : Draws) → IsOfFour (draws.other_event d)
-other_of_four d =
-    let k = peer_of_four d in
-    pick _ _ _ k (pick _ _ _ k (pick _ _ _ k (pick _ _ _ (pick _ _ _ tt tt) (pick _ _ _ (work_of_four d (d.b % 8)) tt))))
+other_of_four : (x : ℕ) → IsOfFour (draws.other_event (next_draws x))
+other_of_four x =
+    let d = next_draws x in
+    let k = draws.peer_of d in
+    let kind = draws.kind_of d in
+    let h = peer_of_four x in
+    let work = drawn.Work (draws.work_of d) (d.b % 8) in
+    let add = drawn.AddHost k (1 + d.b % 8) in
+    let prefer = drawn.Prefer k (100 + d.c % 2) in
+    let fifth = cond (nat_eq kind 14) work drawn.Idle in
+    let fourth = cond (nat_eq kind 13) (draws.host_event d) fifth in
+    let third = cond (nat_eq kind 12) prefer fourth in
+    let second = cond (nat_lt kind 12) (drawn.Up k) third in
+    pick (nat_eq kind 9) (drawn.Down k) second h
+    (pick (nat_lt kind 12) (drawn.Up k) third h
+    (pick (nat_eq kind 12) prefer fourth h
+    (pick (nat_eq kind 13) (draws.host_event d) fifth (pick (nat_eq (d.c % 2) 0) add (drawn.DeleteHost k) tt tt)
+    (pick (nat_eq kind 14) work drawn.Idle (work_of_four x (d.b % 8)) tt))))
 
-of_four : (d : Draws) → IsOfFour (draws.event_of d)
+of_four : (x : ℕ) → IsOfFour (draws.event_of (next_draws x))
 unfolding draws.event_of
-of_four d = let k = peer_of_four d in pick _ _ _ k (pick _ _ _ k (other_of_four d))
+of_four x =
+    let d = next_draws x in
+    let k = draws.peer_of d in
+    let h = peer_of_four x in
+    let withdraw = drawn.Withdraw k (draws.block_of d) in
+    let second = cond (nat_lt (draws.kind_of d) 9) withdraw (draws.other_event d) in
+    pick (nat_lt (draws.kind_of d) 7) (drawn.Announce k (draws.block_of d) (draws.origin_of (d.c % 3)) (d.c / 3 % 4)) second h
+    (pick (nat_lt (draws.kind_of d) 9) withdraw (draws.other_event d) h (other_of_four x))
 
 drawn_admitted : (n x c : ℕ) (d : Declaration) → Ready c d → c + n < 65535 → AreAdmitted d (map meant (draws.events_from n x ++ drawn.Idle ∷ []))
 drawn_admitted zero x c d r few = (admits c d r drawn.Idle (omega (arith, few)) tt, tt)
 drawn_admitted (suc n) x c d r few =
     let e = draws.event_of (next_draws x) in
-    (admits c d r e (omega (arith, few)) (of_four (next_draws x)), drawn_admitted n (behind_draws x) (suc c) (declared_after d (meant e)) (after c d r e) (omega (arith, few)))
+    (admits c d r e (omega (arith, few)) (of_four x), drawn_admitted n (behind_draws x) (suc c) (declared_after d (meant e)) (after c d r e) (omega (arith, few)))
 
 -- ---- behind the opening
-after_all : Declaration → List Event → Declaration
+abbrev after_all : Declaration → List Event → Declaration
 after_all d [] = d
 after_all d (e ∷ es) = after_all (declared_after d e) es
 
@@ -311,7 +336,7 @@ admitted_then d (x ∷ xs) ys f g = (f.0, admitted_then (declared_after d x) xs 
 
 opening_admitted : AreAdmitted no_declaration opening_events
 unfolding refusal
-opening_admitted = (refl, refl, refl, refl, refl, refl, refl, refl, refl, refl, tt)
+opening_admitted = (refl, (refl, (refl, (refl, (refl, (refl, (refl, (refl, (refl, (refl, tt))))))))))
 
 known_then : (k : ℕ) → 1 ≤ k → k ≤ 4 → is_some (peer_at k (after_all no_declaration opening_events).peers) ≡ true
 known_then zero low high = absurd (omega (arith, low))
@@ -322,7 +347,7 @@ known_then (suc (suc (suc (suc zero)))) low high = refl
 known_then (suc (suc (suc (suc (suc k))))) low high = absurd (omega (arith, high))
 
 opened : Ready 1 (after_all no_declaration opening_events)
-opened = record { me = _; speaker = refl; known = known_then; few = (omega arith, omega arith, omega arith, omega arith, tt) }
+opened = record { me = _; speaker = refl; known = known_then; few = (omega arith, (omega arith, (omega arith, (omega arith, tt)))) }
 
 admitted : (seed count : ℕ) → count ≤ most_events → AreAdmitted no_declaration (meanings seed count)
 admitted seed count few =
