@@ -1,6 +1,8 @@
 -- What each event comes to.
 use Rattle.std.proofs.Common.{◌≡◌, ℕ, ◌<◌, ◌^◌, Bool, true, false, cond, List, [], ◌∷◌, ◌++◌, Option, Some, refl, sym, ap, subst, ◌∙◌}
 use Rattle.bgp_wire.specs.declared.notice.Notice.{Notice}
+use Rattle.bgp_attr.specs.declared.attrs.Attrs.{Attrs}
+use Rattle.bgp_wire.specs.declared.message.Update.{Update}
 use Rattle.bgp_wire.specs.declared.message.Message.{Message}
 use Rattle.bgp_wire.specs.declared.message.Message.TheVariants as messages
 use Rattle.bgp_wire.specs.Spelling.{notification_octets}
@@ -20,12 +22,12 @@ use Rattle.prefix_trie.specs.Width.{width}
 use Rattle.register_interest.specs.Covers.{matched, IsCover}
 use Rattle.router_core.specs.Moments.{Moment, bound_of, Gives}
 use Rattle.router_core.specs.declared.router.Idle.{Idle as Answer}
-use Rattle.live_state.specs.Messages.{Says}
+use Rattle.live_state.specs.Messages.{Says, changes_of}
 use Rattle.live_state.specs.Lives.{LiveState, heard, ended, ended_if_up, HearsIfUp, HearsFrom}
 use Rattle.router_core.specs.Lives.{live_state}
 use Rattle.router_core.specs.Stands.{Stands}
 use Rattle.router_core.specs.Blocks.{AreMessageOctets, EndsIf, Hears, HearsIf, ByPeer}
-use Rattle.router_core.specs.Works.{Pushes, Keeps, AreTurns, AllHaveDrained, HasLost, HasHeard, HasIdled, HasStepped}
+use Rattle.router_core.specs.Works.{Pushes, Keeps, AreTurns, AllHaveDrained, HasLost, HasHeard, HasIdled, HasStepped, HaveFed}
 use Rattle.router_core.proofs.KeepLemmas.{keeps_none, keeps_said, keeps_join, keeps_on, gives_push, push_gives, gives_none, gives_so, gives_pushed, steps_pushed}
 use Rattle.router_core.proofs.StandLemmas.{registered_rows}
 
@@ -90,6 +92,13 @@ pub nothing_heard : (k : ℕ) (p : DeclaredPeer) (m : Moment) (message quiet : M
     → heard (live_state m) k quiet ≡ live_state m → now ≡ flushed before → Gives (HasHeard k p m message m) before now
 nothing_heard k p m message quiet before now stands same hears live is = subst (λ (x : Message). Gives (HasHeard k p m x m) before now) (sym same)
     (gives_none (HasHeard k p m quiet m) before now (record { hears = hears; keeps = subst (λ (l : LiveState). Keeps l m m []) (sym live) (keeps_none m stands) }) is)
+
+-- the prefixes of an UPDATE were announced and withdrawn
+pub update_heard : (k : ℕ) (p : DeclaredPeer) (m m' : Moment) (message : Message) (update : Update) (changes : List (Network × Option Attrs)) (before j now : Journaled) → message ≡ messages.Update update → changes ≡ changes_of update
+    → Pushes (HaveFed k changes m m') before j → now ≡ flushed j → Gives (HasHeard k p m message m') before now
+update_heard k p m m' message update changes before j now same is fed flush = subst (λ (x : Message). Gives (HasHeard k p m x m') before now) (sym same)
+    (gives_pushed (HaveFed k (changes_of update) m m') (HasHeard k p m (messages.Update update) m') (λ xs h. record { hears = h.feeds; keeps = h.keeps }) before j now
+    (subst (λ (c : List (Network × Option Attrs)). Pushes (HaveFed k c m m') before j) is fed) flush)
 
 pub end_heard : (k : ℕ) (p : DeclaredPeer) (m m' : Moment) (message : Message) (before now : Journaled) → message ≡ messages.Notification → Gives (HasLost k p.session m m') before now
     → Gives (HasHeard k p m message m') before now

@@ -1,14 +1,19 @@
-use Rattle.std.proofs.Common.{refl, sym, subst}
+use Rattle.std.proofs.Common.{refl, sym, subst, ◌∙◌}
 use Rattle.bgp_wire.specs.declared.message.Message.TheVariants as messages
 use Rattle.router_core.specs.Works.{AreHeard, IsHeardMessage}
 use Rattle.router_core.proofs.HeardRows.{changes_heard}
-use Rattle.router_core.proofs.StepLemmas.{nothing_heard, end_heard, fault_heard}
+use Rattle.router_core.proofs.StepLemmas.{nothing_heard, update_heard, end_heard, fault_heard}
 use Rattle.router_core.proofs.network.Network.hear.Goals as goal
 
 pub feed-requires-clause-heard : goal.feed-requires-clause-heard
 feed-requires-clause-heard c =
     subst AreHeard (sym c.as_slice.ensures.value)
     (subst AreHeard (sym c.in_ok-changes-in-Update.ensures) (changes_heard c.in-Update.update (subst IsHeardMessage c.in-Update.is c.requires.heard)))
+
+pub returns-in_ok-flush-in-Update : goal.returns-in_ok-flush-in-Update
+returns-in_ok-flush-in-Update c =
+    update_heard c.args.number c.args.peer c.args.self.now c.feed.new.self c.args.message c.in-Update.update c.as_slice.result.now c.args.journal.now c.feed.new.journal c.flush.new.self c.in-Update.is
+    (c.as_slice.ensures.value ∙ c.in_ok-changes-in-Update.ensures) c.in_ok-feed-in-Update.ensures c.in_ok-flush-in-Update.ensures.ok
 
 pub returns-in_ok-flush-in-Keepalive : goal.returns-in_ok-flush-in-Keepalive
 returns-in_ok-flush-in-Keepalive c =
