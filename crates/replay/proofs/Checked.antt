@@ -101,10 +101,12 @@ took_so left0 taken0 taken P Q so t = (t.0, t.1, t.2, t.3, so t.0 t.1 t.4)
 
 pub done_lawful : (command : Option Command) (left0 taken0 taken : Option (List ℕ)) → HasDone command left0 taken0 taken → HasLawful command left0 taken0 taken
 done_lawful (Some (commands.Run quiet)) left0 taken0 taken h = took_so left0 taken0 taken _ _ (λ text bytes is. (inl is, output_lawful quiet (lines_of text) bytes is)) h
+done_lawful (Some (commands.Gen seed count quiet)) left0 taken0 taken h = tt
 done_lawful (Some commands.Check) left0 taken0 taken h = tt
 done_lawful None left0 taken0 taken h = tt
 
 pub refusal_lawful : (command : Option Command) (left0 taken0 taken : Option (List ℕ)) → HasRefused command left0 taken0 taken → HasLawful command left0 taken0 taken
 refusal_lawful (Some (commands.Run quiet)) left0 taken0 taken h = took_so left0 taken0 taken _ _ (λ text bytes is. (inr is, refused_lawful quiet text bytes is)) h
+refusal_lawful (Some (commands.Gen seed count quiet)) left0 taken0 taken h = tt
 refusal_lawful (Some commands.Check) left0 taken0 taken h = tt
 refusal_lawful None left0 taken0 taken h = tt

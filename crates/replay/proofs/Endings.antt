@@ -6,7 +6,8 @@ use Rattle.std.specs.Io.KnownBytes.{Appends, Consumes, IsAtEnd, Keeps}
 use Rattle.replay.proofs.FirstLinks.{none_at_first}
 use Rattle.replay.proofs.HeardLemmas.{nobody_hears, nothing_sent}
 use Rattle.replay.specs.declared.words.Command.{Command}
-use Rattle.replay.specs.declared.words.Command.TheVariants.{Run, Check}
+use Rattle.replay.specs.declared.words.Command.TheVariants.{Run, Gen, Check}
+use Rattle.event_gen.specs.Lines.{text}
 use Rattle.replay.specs.Answers.{HasFirst}
 use Rattle.replay.specs.declared.status.Status.{Status}
 use Rattle.replay.specs.declared.status.Status.TheVariants as statuses
@@ -79,13 +80,17 @@ written_front quiet false read taken piece before now more rest old new f s e = 
   allowed = inr (f read taken s later);
 }
 
+-- an output of all lines is one of some first lines
+pub whole_front : (quiet : Bool) (text bytes : List ℕ) → IsOutput quiet (lines_of text) bytes → IsOutputOfFront quiet text bytes
+whole_front quiet text bytes s = record { count = length (lines_of text); output = subst (λ (ls : List (List ℕ)). IsOutput quiet ls bytes) (sym (take-length (lines_of text))) s }
+
 -- a front of what was to be written for the whole text
 front_output : (quiet : Bool) (text taken more rest out : List ℕ) → IsOutput quiet (lines_of text) (taken ++ out) → out ≡ more ++ rest → IsFrontOfOutput quiet text (taken ++ more)
 front_output quiet text taken more rest out s e = record {
   whole = taken ++ out;
   rest = rest;
   front = ap (λ t. taken ++ t) e ∙ sym (append_assoc taken more rest);
-  allowed = inl (record { count = length (lines_of text); output = subst (λ (ls : List (List ℕ)). IsOutput quiet ls (taken ++ out)) (sym (take-length (lines_of text))) s });
+  allowed = inl (whole_front quiet text (taken ++ out) s);
 }
 
 front_refused : (quiet : Bool) (text taken more rest out : List ℕ) → IsRefusedOutput quiet text (taken ++ out) → out ≡ more ++ rest → IsFrontOfOutput quiet text (taken ++ more)
@@ -173,5 +178,6 @@ took_first stands quiet (Some text) taken = (text, [], refl, appends_nothing tak
 -- there was no memory for the words
 pub no_words : Stands first_moment → (command : Option Command) (left taken : Option (List ℕ)) → HasFirst command left taken taken
 no_words stands (Some (Run quiet)) left taken = took_first stands quiet left taken
+no_words stands (Some (Gen seed count quiet)) left taken = ([], appends_nothing taken, first_output stands quiet (text seed count))
 no_words stands (Some Check) left taken = refl
 no_words stands None left taken = refl

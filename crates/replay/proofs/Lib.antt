@@ -10,3 +10,5 @@ mod SettledLinks
 pub mod HeardLemmas
 pub mod Checked
 pub mod Seeds
+pub mod TotalLemmas
+pub mod GeneratedLemmas

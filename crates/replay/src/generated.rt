@@ -1,12 +1,12 @@
 //! The command `gen`.
 
-ghost use Rattle.std.specs.Prelude.{◌≡◌, ◌≢◌, ◌⊎◌, ℕ, List};
+ghost use Rattle.std.specs.Prelude.{◌≡◌, ◌≢◌, ◌≤◌, ◌⊎◌, ℕ, List, IfOk};
 ghost use Rattle.edge_io.specs.Causes.{Rose};
 ghost use Rattle.event_gen.specs.Lines.{text};
-ghost use Rattle.check_run.specs.Runs.{Writes};
+ghost use Rattle.check_run.specs.Runs.{Writes, IsFrontOf};
 ghost use Rattle.replay.specs.Judging.{verdict, status_of};
 ghost use Rattle.replay.specs.Output.{IsRefusedOutput, IsOutputOfFront};
-ghost use Rattle.replay.specs.Totals.{IsTotalledOutput, IsFrontOfTotalled, IsTotalledFrom};
+ghost use Rattle.replay.specs.Totals.{AreTotals, IsTotalledOutput, IsFrontOfTotalled};
 
 use crate::run::run_stream;
 use crate::status::Status;

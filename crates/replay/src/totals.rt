@@ -1,11 +1,10 @@
 //! The totals that end the output of generated events.
 
-ghost use Rattle.std.specs.Prelude.{◌≡◌, ◌++◌, ℕ, List, OnOk, IfOk, option_map};
-ghost use Rattle.journal_text.specs.Texts.{line_text};
-ghost use Rattle.journal_text.specs.declared.line.Line.TheVariants as lines;
+ghost use Rattle.std.specs.Prelude.{◌≡◌, ◌++◌, ◌∷◌, [], false, OnOk, IfOk};
+ghost use Rattle.journal_text.specs.Texts.{text_of};
 ghost use Rattle.event_text.specs.Declarations.{peer_at};
 ghost use Rattle.router_core.specs.Moments.{router_links};
-ghost use Rattle.replay.specs.Totals.{Adds, AreTotals, AreTotalsOf, IsTotal, rows_line, sent_link, total_links, turns_line};
+ghost use Rattle.replay.specs.Totals.{Adds, AreTotals, IsTotal, rows_line, sent_link, total_links, turns_line};
 
 use addr4::Memory;
 use event_text::Declared;
@@ -18,7 +17,7 @@ const FIRST_WORD: usize = 4;
 
 /// The text of a line that is no entry.
 fn text_of_line(alloc: Global, line: Line) -> Result<Journal, Memory>
-    ensures { IfOk result (λ journal. journal.text ≡ text_of false (line.entry ∷ [])) }
+    ensures { IfOk result (λ journal. journal.text ≡ text_of false (line ∷ [])) }
 {
     let mut journal = Journal::new(alloc, false);
     journal.push_line(line)?;
@@ -27,6 +26,7 @@ fn text_of_line(alloc: Global, line: Line) -> Result<Journal, Memory>
 }
 
 /// Appends `total turns T`, whose number is written as that of `work T` is.
+#[tactic(auto, using(crate::proofs::TotalLemmas::behind_work, crate::proofs::TotalLemmas::long_work))]
 fn push_turns(alloc: Global, out: &mut Vec<u8>, turns: u128) -> Result<(), Memory>
     ensures { OnOk result (out.new.items ≡ out.old.items ++ turns_line turns) }
 {
@@ -37,6 +37,7 @@ fn push_turns(alloc: Global, out: &mut Vec<u8>, turns: u128) -> Result<(), Memor
 }
 
 /// Appends `total LINK ROWS`, whose words are those of `rows LINK ROWS` but for the first.
+#[tactic(auto, using(crate::proofs::TotalLemmas::behind_rows, crate::proofs::TotalLemmas::long_rows))]
 fn push_count(alloc: Global, out: &mut Vec<u8>, link: Link, rows: u128) -> Result<(), Memory>
     ensures { OnOk result (out.new.items ≡ out.old.items ++ rows_line link rows) }
 {

@@ -1,0 +1,43 @@
+-- How a run of generated events ends.
+use Rattle.std.proofs.Common.{◌≡◌, ◌⊎◌, ℕ, Bool, List, [], ◌++◌, Option, Some, inl, inr, ⊎_elim, refl, sym, ap, subst, ◌∙◌, append_assoc}
+use Rattle.std.specs.Io.KnownBytes.{Appends}
+use Rattle.check_run.specs.Lines.{lines_of}
+use Rattle.check_run.specs.Runs.{Took, Writes, IsFrontOf}
+use Rattle.check_run.proofs.Known.{appends_then}
+use Rattle.router_core.specs.Moments.{Moment}
+use Rattle.replay.specs.Output.{IsOutputTo, IsRefusedOutput, IsOutputOfFront, IsFrontOfOutput}
+use Rattle.replay.specs.Totals.{AreTotals, IsTotalledOutput, IsFrontOfTotalled}
+use Rattle.replay.proofs.Endings.{whole_front}
+
+-- of a source that tells its text
+pub of_told : (text : List ℕ) (before now : Option (List ℕ)) (P : List ℕ → List ℕ → Type 0) → Took (Some text) before now P → Writes before now (P text)
+of_told text before now P t = (t.1, t.3, subst (λ (x : List ℕ). P x t.1) t.2 t.4)
+
+-- the output of all events, and the totals behind it
+pub totalled : (quiet : Bool) (text : List ℕ) (m : Moment) (turns : ℕ) (a b c : Option (List ℕ)) → Writes a b (λ bytes. IsOutputTo quiet (lines_of text) bytes m turns) → Writes b c (AreTotals m turns) → Writes a c (IsTotalledOutput quiet text)
+totalled quiet text m turns a b c f g = (
+  f.0 ++ g.0,
+  appends_then a b c f.0 g.0 f.1 g.1,
+  record { end = m; turns = turns; earlier = f.0; output = f.2; totals = g.0; counted = g.2; written = refl },
+)
+
+-- no memory for the totals
+pub untotalled : (quiet : Bool) (text : List ℕ) (m : Moment) (turns : ℕ) (a b c : Option (List ℕ)) → Writes a b (λ bytes. IsOutputTo quiet (lines_of text) bytes m turns) → c ≡ b → Writes a c (IsOutputOfFront quiet text)
+untotalled quiet text m turns a b c f same = (f.0, subst (λ (t : Option (List ℕ)). Appends a t f.0) (sym same) f.1, whole_front quiet text f.0 f.2.output)
+
+-- a write of the totals that failed
+pub front_totalled : (quiet : Bool) (text : List ℕ) (m : Moment) (turns : ℕ) (a b c : Option (List ℕ)) → Writes a b (λ bytes. IsOutputTo quiet (lines_of text) bytes m turns) → Writes b c (λ more. (totals : List ℕ) × AreTotals m turns totals × IsFrontOf totals more) → Writes a c (IsFrontOfTotalled quiet text)
+front_totalled quiet text m turns a b c f g = (
+  f.0 ++ g.0,
+  appends_then a b c f.0 g.0 f.1 g.1,
+  record {
+    whole = f.0 ++ g.2;
+    rest = g.4.0;
+    front = ap (λ t. f.0 ++ t) g.4.1 ∙ sym (append_assoc f.0 g.0 g.4.0);
+    allowed = inr (inr (record { end = m; turns = turns; earlier = f.0; output = f.2; totals = g.2; counted = g.3; written = refl }));
+  },
+)
+
+-- a write of the output that failed
+pub front_of_run : (quiet : Bool) (text : List ℕ) (a c : Option (List ℕ)) → Writes a c (IsFrontOfOutput quiet text) → Writes a c (IsFrontOfTotalled quiet text)
+front_of_run quiet text a c f = (f.0, f.1, record { whole = f.2.whole; rest = f.2.rest; front = f.2.front; allowed = ⊎_elim inl (λ r. inr (inl r)) f.2.allowed })

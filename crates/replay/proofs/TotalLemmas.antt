@@ -1,0 +1,53 @@
+-- The texts of totals.
+use Rattle.std.proofs.Common.{◌≡◌, ℕ, ◌≤◌, false, List, [], ◌∷◌, ◌++◌, length, drop, codes, refl, sym, ap, ◌∙◌, arith, subst, append_assoc}
+use Rattle.std.specs.Fmt.{decimal}
+use Rattle.std.proofs.lemmas.List.{append-nil}
+use Rattle.journal_text.specs.declared.line.Line.{Line}
+use Rattle.journal_text.specs.declared.line.Line.TheVariants.{Rows, Work}
+use Rattle.journal_text.specs.declared.link.Link.{Link}
+use Rattle.journal_text.specs.Texts.{line_text, link_text, text_of}
+use Rattle.router_core.specs.Moments.{Moment, router_links}
+use Rattle.replay.specs.Totals.{Adds, AreTotals, AreTotalsOf, IsTotal, rows_line, total_links, turns_line}
+
+-- a line's text begins with its first word, here one of four bytes
+work_text : (turns : ℕ) → text_of false (Work turns ∷ []) ≡ line_text (Work turns)
+work_text turns = append-nil (line_text (Work turns))
+
+rows_text : (link : Link) (rows : ℕ) → text_of false (Rows link rows ∷ []) ≡ line_text (Rows link rows)
+rows_text link rows = append-nil (line_text (Rows link rows))
+
+pub long_work : (turns : ℕ) → 4 ≤ length (text_of false (Work turns ∷ []))
+long_work turns = subst (λ (t : List ℕ). 4 ≤ length t) (sym (work_text turns)) (omega arith)
+
+pub long_rows : (link : Link) (rows : ℕ) → 4 ≤ length (text_of false (Rows link rows ∷ []))
+long_rows link rows = subst (λ (t : List ℕ). 4 ≤ length t) (sym (rows_text link rows)) (omega arith)
+
+-- another first word
+pub behind_work : (turns : ℕ) → codes "total turns" ++ drop 4 (text_of false (Work turns ∷ [])) ≡ turns_line turns
+behind_work turns = ap (λ t. codes "total turns" ++ drop 4 t) (work_text turns)
+
+pub behind_rows : (link : Link) (rows : ℕ) → codes "total" ++ drop 4 (text_of false (Rows link rows ∷ [])) ≡ rows_line link rows
+behind_rows link rows = ap (λ t. codes "total" ++ drop 4 t) (rows_text link rows)
+
+-- ---- links, one after the other
+
+-- the totals of some links, and of one more
+totals_more : (m : Moment) (done : List Link) (link : Link) (a b : List ℕ) → AreTotalsOf m done a → IsTotal link (router_links m link) b → AreTotalsOf m (done ++ link ∷ []) (a ++ b)
+totals_more m [] link a b e is = (b, [], is, refl, ap (λ t. t ++ b) e ∙ sym (append-nil b))
+totals_more m (d ∷ done) link a b h is = (h.0, h.1 ++ b, h.2, totals_more m done link h.1 b h.3 is, ap (λ t. t ++ b) h.4 ∙ append_assoc h.0 h.1 b)
+
+-- so far the totals of these links were appended
+abbrev pub HaveTotals : Moment → List Link → List ℕ → List ℕ → Type 0
+HaveTotals m done before now = Adds (AreTotalsOf m done) before now
+
+pub totals_none : (m : Moment) (out : List ℕ) → HaveTotals m [] out out
+totals_none m out = ([], refl, sym (append-nil out))
+
+pub totals_then : (m : Moment) (done : List Link) (link : Link) (before middle now : List ℕ) → HaveTotals m done before middle → Adds (IsTotal link (router_links m link)) middle now → HaveTotals m (done ++ link ∷ []) before now
+totals_then m done link before middle now f g =
+    (f.0 ++ g.0, totals_more m done link f.0 g.0 f.1 g.1, g.2 ∙ (ap (λ t. t ++ g.0) f.2 ∙ append_assoc before f.0 g.0))
+
+-- all of them, behind the turns
+pub totals_all : (m : Moment) (turns : ℕ) (before middle now : List ℕ) → middle ≡ before ++ turns_line turns → HaveTotals m (total_links m.declared.peers) middle now → Adds (AreTotals m turns) before now
+totals_all m turns before middle now e h =
+    (turns_line turns ++ h.0, (h.0, h.1, refl), h.2 ∙ (ap (λ t. t ++ h.0) e ∙ append_assoc before (turns_line turns) h.0))
