@@ -72,10 +72,6 @@ keeps_up (Some change) old int m m1 entries p below is sent =
     ap tables.get below.0.informed.registers.rows ∙ put_is_with m.registry.rows change.prefix change.after ∙ ap (λ (x : Rows Interior). with_row x change.prefix change.after) is ∙ sym sent.2
 
 -- ---- the calls one after the other
--- what they ask for
-pub rib_sound : (m v : Moment) → v ≡ m → Stands m → IsExit v.rib
-rib_sound m v view stands = subst (λ (n : Moment). IsExit n.rib) (sym view) (stands.own ExternalExit)
-
 -- what follows a change that came out on `int`
 pub followed : (change : Change Interior) (fib : Option (Change FibRow)) (m m1 m2 v : Moment) (before j now : Journaled) → Informs change m m1 → Adds (Redistributes change m1 m2) before j → v ≡ m2 → Adds (TakesInterior change fib v.rib) j now
     → Adds (Follows (Some change) m m2) before now

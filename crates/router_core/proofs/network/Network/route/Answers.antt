@@ -10,7 +10,8 @@ use Rattle.live_state.specs.Lives.{interior_fed}
 use Rattle.router_core.specs.Lives.{live_state}
 use Rattle.router_core.specs.Works.{Pushes, HasRouted}
 use Rattle.router_core.proofs.HopTurns.{hops_sound, exits_sound}
-use Rattle.router_core.proofs.RouteLemmas.{rib_sound, routed}
+use Rattle.router_core.proofs.RouteLemmas.{routed}
+use Rattle.router_core.proofs.ExternalTurns.{rib_sound}
 use Rattle.router_core.proofs.network.Network.route.Goals as goal
 use Rattle.router_core.specs.contracts.network.Network.{the_view}
 

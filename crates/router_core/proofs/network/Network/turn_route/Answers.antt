@@ -6,7 +6,7 @@ use Rattle.router_core.specs.Works.{Comes}
 use Rattle.router_core.specs.Moments.{Moment}
 use Rattle.router_core.specs.contracts.network.Network.{the_view}
 use Rattle.router_core.proofs.HopTurns.{hops_sound, exits_sound}
-use Rattle.router_core.proofs.RouteLemmas.{rib_sound}
+use Rattle.router_core.proofs.ExternalTurns.{rib_sound}
 use Rattle.router_core.proofs.RouteTurns.{quiet_since, sent_since, route_quiet, route_sent}
 use Rattle.router_core.proofs.network.Network.turn_route.Goals as goal
 
