@@ -12,7 +12,6 @@ use Rattle.pass_core.proofs.TurnLemmas.{an_edit_keeps_the_rows}
 use Rattle.redist.specs.declared.protos.Protos.{Protos}
 use Rattle.redist.specs.Protocols.{has, with_proto}
 use Rattle.redist.specs.Local.{redistributed}
-use Rattle.journal_text.specs.Walk.{Links}
 use Rattle.journal_text.proofs.WalkLemmas.{leads_nowhere}
 use Rattle.event_text.specs.declared.event.Event.TheVariants.{Redist}
 use Rattle.event_text.specs.Declarations.{refusal}
@@ -21,7 +20,7 @@ use Rattle.exit_side.specs.Exits.{AllStand, exit_links}
 use Rattle.rib_exit.specs.Exits.{StandsOver}
 use Rattle.link_region.specs.declared.regions.Region.{Region}
 use Rattle.link_region.specs.declared.regions.Region.TheVariants.{Decided, Redistributed, External, Outward}
-use Rattle.link_region.specs.Regions.{Sides, joined}
+use Rattle.link_region.specs.Regions.{joined}
 use Rattle.live_state.specs.Lives.{with_redistributed, same_protocol}
 use Rattle.live_state.proofs.AdmittedLemmas.{speaker_since}
 use Rattle.router_core.specs.Bests.{own_rows, own_links, best_at, best_links}
