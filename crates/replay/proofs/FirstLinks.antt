@@ -9,12 +9,11 @@ use Rattle.exit_side.proofs.LawLemmas.{stands_at_first as exits_at_first}
 use Rattle.hop_side.proofs.LawLemmas.{stands_at_first}
 use Rattle.peer_side.specs.Peers.{filt_at}
 use Rattle.peer_side.proofs.LinkLemmas.{no_peer}
-use Rattle.router_core.specs.Bests.{best_at}
-use Rattle.router_core.specs.Moments.{first_moment, router_links}
+use Rattle.router_core.specs.Moments.{first_moment, best_of, router_links}
 
 -- nobody is up
-no_exit : (link : Link) → exit_links first_moment.exits (best_at first_moment.chains first_moment.hops) link ≡ None
-no_exit link = (exits_at_first first_moment.exits.profile).links (best_at first_moment.chains first_moment.hops) link
+no_exit : (link : Link) → exit_links first_moment.exits (best_of first_moment) link ≡ None
+no_exit link = (exits_at_first first_moment.exits.profile).links (best_of first_moment) link
 
 each : (link : Link) → no_links {V = Value} link ≡ router_links first_moment link
 each (In k) = sym (no_peer (In k))

@@ -23,8 +23,7 @@ use Rattle.out_chain.specs.Chains.{OutChained}
 use Rattle.exit_side.specs.Exits.{chain_at as exit_at}
 use Rattle.exit_laws.specs.Views.{sent_by, views_of}
 use Rattle.exit_laws.specs.Laws.{HearingJoins, HearingStays, HeardIsSent}
-use Rattle.router_core.specs.Bests.{best_at}
-use Rattle.router_core.specs.Moments.{Moment, Policies, first_moment, router_links, rules_to}
+use Rattle.router_core.specs.Moments.{Moment, Policies, first_moment, best_of as best_now, router_links, rules_to}
 use Rattle.router_core.specs.Peers.{is_up}
 use Rattle.router_core.specs.Stands.{Stands, ExitsAt, AllHaveExits}
 use Rattle.router_core.specs.Stands.Claim.{EachExit, SameSessions}
@@ -67,7 +66,7 @@ module _ (law : HeardIsSent) (m : Moment) (stands : Stands m) (all : AllHaveExit
       let same : own.0 ≡ p = (let e : Some own.0 ≡ Some p = sym own.1 ∙ there in cc) in
       let session : chain.0.session ≡ p.session = own.3 ∙ ap (λ (q : DeclaredPeer). q.session) same in
       subst (λ (s : ℕ). router_links m (Adv j s) ≡ Some (attrs_rows (tables.get (views_of m.exits j)))) session
-      (law m.exits (best_at m.chains m.hops) j chain.0 (stands.own EachExit) chain.1)
+      (law m.exits (best_now m) j chain.0 (stands.own EachExit) chain.1)
 
   sent_down : (j : ℕ) → is_up (peer_at j m.declared.peers) ≡ false → views_of m.exits j ≡ tables.empty
   sent_down j down = by_chain (exit_at j m.exits) refl

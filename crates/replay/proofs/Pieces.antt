@@ -117,7 +117,7 @@ pub refused_long : (quiet : Bool) (read taken : List ℕ) (n : ℕ) (m : Moment)
 refused_long quiet read taken n m turns pending before now part other long was e = λ more.
     let s = stepped_part quiet read n m turns pending (taken ++ before) part other was in
     let g = goes_into (pending ++ part) more (omega (arith, length-append pending part)) s.cut.part in
-    refused_next quiet ((read ++ part) ++ more) (read ++ part) taken n m (pending ++ part) before now g.first g.others E1 s
+    refused_next quiet ((read ++ part) ++ more) (read ++ part) taken n m turns (pending ++ part) before now g.first g.others E1 s
     (lines_behind (read ++ part) s.done (pending ++ part) more s.cut ∙ ap (λ t. lines_in s.done ++ t) g.lines)
     (too_long n m.declared g.first (omega (arith, length-append pending part, g.long))) e
 
