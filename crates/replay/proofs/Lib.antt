@@ -12,3 +12,4 @@ pub mod Checked
 pub mod Seeds
 pub mod TotalLemmas
 pub mod GeneratedLemmas
+pub mod NumberLemmas

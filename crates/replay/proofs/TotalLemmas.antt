@@ -1,7 +1,8 @@
 -- The texts of totals.
-use Rattle.std.proofs.Common.{◌≡◌, ℕ, ◌≤◌, false, List, [], ◌∷◌, ◌++◌, length, drop, codes, refl, sym, ap, ◌∙◌, arith, subst, append_assoc}
+use Rattle.std.proofs.Common.{◌≡◌, ℕ, suc, ◌+◌, ◌-◌, ◌<◌, ◌≤◌, false, List, [], ◌∷◌, ◌++◌, length, take, drop, get_or, codes, refl, sym, ap, ◌∙◌, arith, subst, append_assoc}
 use Rattle.std.specs.Fmt.{decimal}
-use Rattle.std.proofs.lemmas.List.{append-nil}
+use Rattle.std.proofs.lemmas.List.{append-nil, length-drop}
+use Rattle.std.proofs.Math.Seq.{take-length, take-suc}
 use Rattle.journal_text.specs.declared.line.Line.{Line}
 use Rattle.journal_text.specs.declared.line.Line.TheVariants.{Rows, Work}
 use Rattle.journal_text.specs.declared.link.Link.{Link}
@@ -17,17 +18,25 @@ rows_text : (link : Link) (rows : ℕ) → text_of false (Rows link rows ∷ [])
 rows_text link rows = append-nil (line_text (Rows link rows))
 
 pub long_work : (turns : ℕ) → 4 ≤ length (text_of false (Work turns ∷ []))
+unfolding line_text
 long_work turns = subst (λ (t : List ℕ). 4 ≤ length t) (sym (work_text turns)) (omega arith)
 
 pub long_rows : (link : Link) (rows : ℕ) → 4 ≤ length (text_of false (Rows link rows ∷ []))
+unfolding line_text
 long_rows link rows = subst (λ (t : List ℕ). 4 ≤ length t) (sym (rows_text link rows)) (omega arith)
 
 -- another first word
 pub behind_work : (turns : ℕ) → codes "total turns" ++ drop 4 (text_of false (Work turns ∷ [])) ≡ turns_line turns
+unfolding line_text
 behind_work turns = ap (λ t. codes "total turns" ++ drop 4 t) (work_text turns)
 
 pub behind_rows : (link : Link) (rows : ℕ) → codes "total" ++ drop 4 (text_of false (Rows link rows ∷ [])) ≡ rows_line link rows
+unfolding line_text
 behind_rows link rows = ap (λ t. codes "total" ++ drop 4 t) (rows_text link rows)
+
+-- what stands behind the first bytes
+pub slice_rest : (n : ℕ) (t : List ℕ) → take (length t - n) (drop n t) ≡ drop n t
+slice_rest n t = ap (λ k. take k (drop n t)) (sym (length-drop n t)) ∙ take-length (drop n t)
 
 -- ---- links, one after the other
 
@@ -36,18 +45,19 @@ totals_more : (m : Moment) (done : List Link) (link : Link) (a b : List ℕ) →
 totals_more m [] link a b e is = (b, [], is, refl, ap (λ t. t ++ b) e ∙ sym (append-nil b))
 totals_more m (d ∷ done) link a b h is = (h.0, h.1 ++ b, h.2, totals_more m done link h.1 b h.3 is, ap (λ t. t ++ b) h.4 ∙ append_assoc h.0 h.1 b)
 
--- so far the totals of these links were appended
-abbrev pub HaveTotals : Moment → List Link → List ℕ → List ℕ → Type 0
-HaveTotals m done before now = Adds (AreTotalsOf m done) before now
+pub each_none : (m : Moment) (out : List ℕ) → Adds (AreTotalsOf m []) out out
+each_none m out = ([], refl, sym (append-nil out))
 
-pub totals_none : (m : Moment) (out : List ℕ) → HaveTotals m [] out out
-totals_none m out = ([], refl, sym (append-nil out))
+pub each_then : (m : Moment) (done : List Link) (link : Link) (before middle now : List ℕ) → Adds (AreTotalsOf m done) before middle → Adds (IsTotal link (router_links m link)) middle now → Adds (AreTotalsOf m (done ++ link ∷ [])) before now
+each_then m done link before middle now f g = (f.0 ++ g.0, totals_more m done link f.0 g.0 f.1 g.1, g.2 ∙ (ap (λ t. t ++ g.0) f.2 ∙ append_assoc before f.0 g.0))
 
-pub totals_then : (m : Moment) (done : List Link) (link : Link) (before middle now : List ℕ) → HaveTotals m done before middle → Adds (IsTotal link (router_links m link)) middle now → HaveTotals m (done ++ link ∷ []) before now
-totals_then m done link before middle now f g =
-    (f.0 ++ g.0, totals_more m done link f.0 g.0 f.1 g.1, g.2 ∙ (ap (λ t. t ++ g.0) f.2 ∙ append_assoc before f.0 g.0))
+-- the same, by index
+pub each_at : (m : Moment) (links : List Link) (at : ℕ) (link : Link) (before middle now : List ℕ) → at < length links → get_or links at link ≡ link → Adds (AreTotalsOf m (take at links)) before middle → Adds (IsTotal link (router_links m link)) middle now → Adds (AreTotalsOf m (take (at + 1) links)) before now
+each_at m links at link before middle now below is f g =
+    let next : suc at ≡ at + 1 = omega arith in
+    let more : take at links ++ link ∷ [] ≡ take (at + 1) links = sym (take-suc links at link below ∙ ap (λ (x : Link). take at links ++ x ∷ []) is) ∙ ap (λ k. take k links) next in
+    subst (λ (ls : List Link). Adds (AreTotalsOf m ls) before now) more (each_then m (take at links) link before middle now f g)
 
 -- all of them, behind the turns
-pub totals_all : (m : Moment) (turns : ℕ) (before middle now : List ℕ) → middle ≡ before ++ turns_line turns → HaveTotals m (total_links m.declared.peers) middle now → Adds (AreTotals m turns) before now
-totals_all m turns before middle now e h =
-    (turns_line turns ++ h.0, (h.0, h.1, refl), h.2 ∙ (ap (λ t. t ++ h.0) e ∙ append_assoc before (turns_line turns) h.0))
+pub totals_all : (m : Moment) (turns : ℕ) (before middle now : List ℕ) → middle ≡ before ++ turns_line turns → Adds (AreTotalsOf m (total_links m.declared.peers)) middle now → Adds (AreTotals m turns) before now
+totals_all m turns before middle now e h = (turns_line turns ++ h.0, (h.0, h.1, refl), h.2 ∙ (ap (λ t. t ++ h.0) e ∙ append_assoc before (turns_line turns) h.0))

@@ -4,7 +4,7 @@ ghost use Rattle.std.specs.Prelude.{◌≡◌, ◌++◌, ◌∷◌, [], false, O
 ghost use Rattle.journal_text.specs.Texts.{text_of};
 ghost use Rattle.event_text.specs.Declarations.{peer_at};
 ghost use Rattle.router_core.specs.Moments.{router_links};
-ghost use Rattle.replay.specs.Totals.{Adds, AreTotals, IsTotal, rows_line, sent_link, total_links, turns_line};
+ghost use Rattle.replay.specs.Totals.{Adds, AreTotals, AreTotalsOf, IsTotal, rows_line, sent_link, total_links, turns_line};
 
 use addr4::Memory;
 use event_text::Declared;
@@ -26,7 +26,7 @@ fn text_of_line(alloc: Global, line: Line) -> Result<Journal, Memory>
 }
 
 /// Appends `total turns T`, whose number is written as that of `work T` is.
-#[tactic(auto, using(crate::proofs::TotalLemmas::behind_work, crate::proofs::TotalLemmas::long_work))]
+#[tactic(auto, using(crate::proofs::TotalLemmas::long_work))]
 fn push_turns(alloc: Global, out: &mut Vec<u8>, turns: u128) -> Result<(), Memory>
     ensures { OnOk result (out.new.items ≡ out.old.items ++ turns_line turns) }
 {
@@ -37,7 +37,7 @@ fn push_turns(alloc: Global, out: &mut Vec<u8>, turns: u128) -> Result<(), Memor
 }
 
 /// Appends `total LINK ROWS`, whose words are those of `rows LINK ROWS` but for the first.
-#[tactic(auto, using(crate::proofs::TotalLemmas::behind_rows, crate::proofs::TotalLemmas::long_rows))]
+#[tactic(auto, using(crate::proofs::TotalLemmas::long_rows))]
 fn push_count(alloc: Global, out: &mut Vec<u8>, link: Link, rows: u128) -> Result<(), Memory>
     ensures { OnOk result (out.new.items ≡ out.old.items ++ rows_line link rows) }
 {
@@ -55,6 +55,21 @@ fn push_total(alloc: Global, core: &Core, link: Link, out: &mut Vec<u8>) -> Resu
         Some(rows) => push_count(alloc, out, link, rows),
         None => Ok(()),
     }
+}
+
+/// Appends the lines of links, of those that are live.
+fn push_each(
+    alloc: Global,
+    core: &Core,
+    links: &[Link],
+    out: &mut Vec<u8>,
+) -> Result<(), Memory>
+    ensures { OnOk result (Adds (AreTotalsOf core.now.moment links.now) out.old.items out.new.items) }
+{
+    'counting: for link in links {
+        push_total(alloc, core, *link, out)?;
+    }
+    Ok(())
 }
 
 /// Appends what a peer is sent in its last session.
@@ -92,8 +107,6 @@ pub fn push_totals(alloc: Global, core: &Core, turns: u128, out: &mut Vec<u8>) -
 {
     push_turns(alloc, out, turns)?;
     let links = total_links(alloc, core.declared())?;
-    'links: for link in &links {
-        push_total(alloc, core, *link, out)?;
-    }
+    push_each(alloc, core, links.as_slice(), out)?;
     Ok(())
 }

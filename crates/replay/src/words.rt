@@ -1,9 +1,10 @@
 //! The words of the command line.
 
-ghost use Rattle.std.specs.Prelude.{◌≡◌, map, option_map, IfOk};
+ghost use Rattle.std.specs.Prelude.{◌≡◌, ◌≤◌, false, map, IfOk, IfSome};
 ghost use Rattle.std.specs.String.{string_bytes};
-ghost use Rattle.clap.specs.Words.{app_of, found_of, first_value, rows_of, rule_of, subcommand_rows_of};
-ghost use Rattle.replay.specs.Commands.{replay_app, number_rule, generated, is_quiet, named, number_to, command_of};
+ghost use Rattle.clap.specs.Words.{app_of, first_of, found_of, rows_of, rule_of, subcommand_rows_of};
+ghost use Rattle.clap.specs.declared.builder.command.Command.TheViews.{out-Command as fields_of};
+ghost use Rattle.replay.specs.Commands.{replay_app, run_app, gen_app, number_rule, quiet_rule, generated, is_quiet, named, number_in, number_to, command_of};
 
 use addr4::Memory;
 use clap::builder::ValueParser;
@@ -27,7 +28,8 @@ const MOST_EVENTS: u64 = 60_000;
 
 /// A number that must be there.
 fn number<'a>(alloc: Global, id: &'a str, most: u64) -> Arg<'a>
-    ensures { rule_of result ≡ number_rule id.now most }
+    ensures rule { rule_of result ≡ number_rule id.now most }
+    ensures local { result.global ≡ false }
 {
     Arg::new(alloc, id)
         .required(true)
@@ -35,26 +37,43 @@ fn number<'a>(alloc: Global, id: &'a str, most: u64) -> Arg<'a>
         .value_parser(ValueParser::Unsigned(0, most))
 }
 
+/// The flag `--quiet`.
+fn quiet<'a>(alloc: Global) -> Arg<'a>
+    ensures rule { rule_of result ≡ quiet_rule }
+    ensures local { result.global ≡ false }
+{
+    Arg::new(alloc, "quiet")
+        .long("quiet")
+        .action(ArgAction::SetTrue)
+}
+
+/// `run [--quiet]`
+fn run_command<'a>(alloc: Global) -> Result<clap::Command<'a>, AllocError>
+    ensures app { IfOk result (λ command. app_of command ≡ run_app) }
+    ensures local { IfOk result (λ command. (fields_of command).has_globals ≡ false) }
+{
+    clap::Command::new(alloc, "run").arg(quiet(alloc))
+}
+
+/// `gen SEED COUNT [--quiet]`
+fn gen_command<'a>(alloc: Global) -> Result<clap::Command<'a>, AllocError>
+    ensures app { IfOk result (λ command. app_of command ≡ gen_app) }
+    ensures local { IfOk result (λ command. (fields_of command).has_globals ≡ false) }
+{
+    clap::Command::new(alloc, "gen")
+        .arg(number(alloc, "seed", u64::MAX))?
+        .arg(number(alloc, "count", MOST_EVENTS))?
+        .arg(quiet(alloc))
+}
+
 /// What the command line may be.
 fn replay_command<'a>(alloc: Global) -> Result<clap::Command<'a>, AllocError>
     ensures { IfOk result (λ command. app_of command ≡ replay_app) }
 {
-    let run_quiet = Arg::new(alloc, "quiet")
-        .long("quiet")
-        .action(ArgAction::SetTrue);
-    let run = clap::Command::new(alloc, "run").arg(run_quiet)?;
-    let gen_quiet = Arg::new(alloc, "quiet")
-        .long("quiet")
-        .action(ArgAction::SetTrue);
-    let generate = clap::Command::new(alloc, "gen")
-        .arg(number(alloc, "seed", u64::MAX))?
-        .arg(number(alloc, "count", MOST_EVENTS))?
-        .arg(gen_quiet)?;
-    let check = clap::Command::new(alloc, "check");
     let command = clap::Command::new(alloc, "replay")
-        .subcommand(run)?
-        .subcommand(generate)?
-        .subcommand(check)?;
+        .subcommand(run_command(alloc)?)?
+        .subcommand(gen_command(alloc)?)?
+        .subcommand(clap::Command::new(alloc, "check"))?;
     Ok(command)
 }
 
@@ -69,20 +88,37 @@ fn is_quiet(matches: &ArgMatches) -> bool
 }
 
 /// The number that a text is, where it is one that is at most so large.
-fn number_to(text: Option<&str>, most: u64) -> Option<u64>
-    ensures { result ≡ number_to most (option_map (λ t. t.now) text) }
+fn number_in(text: &str, most: u64) -> Option<u64>
+    ensures value { result ≡ number_in most text.now }
+    ensures most { IfSome result (λ number. number ≤ most) }
 {
-    let number = text?.parse::<u64>().ok()?;
-    if number <= most { Some(number) } else { None }
+    match text.parse::<u64>() {
+        Ok(number) if number <= most => Some(number),
+        _ => None,
+    }
+}
+
+/// The number of an argument, where it is one that is at most so large.
+fn number_of(matches: &ArgMatches, id: &str, most: u64) -> Option<u64>
+    ensures value { result ≡ number_to most (first_of id.now (rows_of (found_of matches.now))) }
+    ensures most { IfSome result (λ number. number ≤ most) }
+{
+    match matches.get_str(id) {
+        Some(text) => number_in(text, most),
+        None => None,
+    }
 }
 
 /// `gen` with its numbers.
 fn generated(matches: &ArgMatches) -> Option<Command>
     ensures { result ≡ generated (rows_of (found_of matches.now)) }
 {
-    let seed = number_to(matches.get_str("seed"), u64::MAX)?;
-    let count = number_to(matches.get_str("count"), MOST_EVENTS)?;
-    Some(Command::Gen(seed, count as u32, is_quiet(matches)))
+    let seed = number_of(matches, "seed", u64::MAX);
+    let count = number_of(matches, "count", MOST_EVENTS);
+    match (seed, count) {
+        (Some(seed), Some(count)) => Some(Command::Gen(seed, count as u32, is_quiet(matches))),
+        _ => None,
+    }
 }
 
 /// The command that was met.
