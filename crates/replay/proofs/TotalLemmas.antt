@@ -52,11 +52,11 @@ pub each_then : (m : Moment) (done : List Link) (link : Link) (before middle now
 each_then m done link before middle now f g = (f.0 ++ g.0, totals_more m done link f.0 g.0 f.1 g.1, g.2 ∙ (ap (λ t. t ++ g.0) f.2 ∙ append_assoc before f.0 g.0))
 
 -- the same, by index
-pub each_at : (m : Moment) (links : List Link) (at : ℕ) (link : Link) (before middle now : List ℕ) → at < length links → get_or links at link ≡ link → Adds (AreTotalsOf m (take at links)) before middle → Adds (IsTotal link (router_links m link)) middle now → Adds (AreTotalsOf m (take (at + 1) links)) before now
-each_at m links at link before middle now below is f g =
+pub each_at : (m : Moment) (links : List Link) (at : ℕ) (d : Link) (before middle now : List ℕ) → at < length links → Adds (AreTotalsOf m (take at links)) before middle → Adds (IsTotal (get_or links at d) (router_links m (get_or links at d))) middle now → Adds (AreTotalsOf m (take (at + 1) links)) before now
+each_at m links at d before middle now below f g =
     let next : suc at ≡ at + 1 = omega arith in
-    let more : take at links ++ link ∷ [] ≡ take (at + 1) links = sym (take-suc links at link below ∙ ap (λ (x : Link). take at links ++ x ∷ []) is) ∙ ap (λ k. take k links) next in
-    subst (λ (ls : List Link). Adds (AreTotalsOf m ls) before now) more (each_then m (take at links) link before middle now f g)
+    let more : take at links ++ get_or links at d ∷ [] ≡ take (at + 1) links = sym (take-suc links at d below) ∙ ap (λ k. take k links) next in
+    subst (λ (ls : List Link). Adds (AreTotalsOf m ls) before now) more (each_then m (take at links) (get_or links at d) before middle now f g)
 
 -- all of them, behind the turns
 pub totals_all : (m : Moment) (turns : ℕ) (before middle now : List ℕ) → middle ≡ before ++ turns_line turns → Adds (AreTotalsOf m (total_links m.declared.peers)) middle now → Adds (AreTotals m turns) before now

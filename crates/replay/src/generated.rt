@@ -1,11 +1,12 @@
 //! The command `gen`.
 
-ghost use Rattle.std.specs.Prelude.{◌≡◌, ◌≢◌, ◌≤◌, ◌⊎◌, ℕ, List, IfOk};
+ghost use Rattle.std.specs.Prelude.{◌≡◌, ◌≢◌, ◌≤◌, ◌⊎◌, ℕ, List, [], IfOk};
 ghost use Rattle.edge_io.specs.Causes.{Rose};
 ghost use Rattle.event_gen.specs.Lines.{text};
 ghost use Rattle.check_run.specs.Runs.{Writes, IsFrontOf};
 ghost use Rattle.replay.specs.Judging.{verdict, status_of};
 ghost use Rattle.replay.specs.Output.{IsRefusedOutput, IsOutputOfFront};
+ghost use Rattle.replay.specs.Stream.{HasStepped, IsReady};
 ghost use Rattle.replay.specs.Totals.{AreTotals, IsTotalledOutput, IsFrontOfTotalled};
 
 use crate::run::run_stream;
@@ -46,7 +47,34 @@ fn write_totals<K: Sink>(alloc: Global, stream: &Stream, sink: &mut K) -> Status
     }
 }
 
-/// Steps the events of a seed, writes their output, and then the totals. The source of these events fails for want of memory alone.
+/// Steps the events of a source in a stream and a journal that have none yet, writes their output, and then the totals. The source
+/// fails for want of memory alone.
+fn run_seed<K: Sink>(
+    alloc: Global,
+    stream: &mut Stream,
+    journal: &mut Journal,
+    source: &mut GeneratedSource,
+    sink: &mut K,
+) -> Status
+    requires stepped { HasStepped journal.old.quiet [] stream.old.number stream.old.core.moment stream.old.turns stream.old.pending.items [] }
+    requires ready { IsReady stream.old.number stream.old.core }
+    requires empty { journal.old.pending ≡ [] }
+    ensures ok { result ≡ Status.Ok → Writes (K.taken sink.old) (K.taken sink.new) (IsTotalledOutput journal.old.quiet source.old.left) }
+    ensures refused { result ≡ Status.Refused → Writes (K.taken sink.old) (K.taken sink.new) (IsRefusedOutput journal.old.quiet source.old.left) }
+    ensures memory { result ≡ Status.Memory → Writes (K.taken sink.old) (K.taken sink.new) (IsOutputOfFront journal.old.quiet source.old.left) }
+    ensures front { result ≡ Status.WriteFault → Writes (K.taken sink.old) (K.taken sink.new) (IsFrontOfTotalled journal.old.quiet source.old.left) }
+    ensures write_fault { result ≡ Status.WriteFault → Rose (K.faults sink.old) (K.faults sink.new) }
+    ensures by_text { (result ≡ Status.Ok) ⊎ (result ≡ Status.Refused) → result ≡ status_of (verdict source.old.left) }
+    ensures no_other { (result ≢ Status.Broken) × (result ≢ Status.Usage) × (result ≢ Status.ReadFault) }
+{
+    match run_stream(stream, journal, source, sink) {
+        Status::Ok => write_totals(alloc, stream, sink),
+        Status::ReadFault => Status::Memory,
+        status => status,
+    }
+}
+
+/// Steps the events of a seed, writes their output, and then the totals.
 pub fn run_generated<K: Sink>(
     alloc: Global,
     seed: u64,
@@ -65,9 +93,5 @@ pub fn run_generated<K: Sink>(
     let mut source = GeneratedSource::new(alloc, seed, count);
     let mut stream = Stream::new(alloc, quiet);
     let mut journal = Journal::new(alloc, quiet);
-    match run_stream(&mut stream, &mut journal, &mut source, sink) {
-        Status::Ok => write_totals(alloc, &stream, sink),
-        Status::ReadFault => Status::Memory,
-        status => status,
-    }
+    run_seed(alloc, &mut stream, &mut journal, &mut source, sink)
 }
