@@ -1,11 +1,13 @@
 -- How a run of generated events ends.
-use Rattle.std.proofs.Common.{◌≡◌, ◌⊎◌, ℕ, Bool, List, [], ◌++◌, Option, Some, inl, inr, ⊎_elim, refl, sym, ap, subst, ◌∙◌, append_assoc}
+use Rattle.std.proofs.Common.{◌≡◌, ◌⊎◌, ℕ, Bool, List, ◌++◌, length, take, Option, Some, inl, inr, ⊎_elim, refl, sym, ap, subst, ◌∙◌, append_assoc}
 use Rattle.std.specs.Io.KnownBytes.{Appends}
-use Rattle.check_run.specs.Lines.{lines_of}
-use Rattle.check_run.specs.Runs.{Took, Writes, IsFrontOf}
+use Rattle.check_run.specs.Lines.{lines_of, lines_in}
+use Rattle.check_run.proofs.Pieces.{lines_behind}
+use Rattle.std.proofs.Math.Seq.{take-append_seam}
+use Rattle.check_run.specs.Runs.{Took, Writes, ReadsAndWrites, IsFrontOf}
 use Rattle.check_run.proofs.Known.{appends_then}
 use Rattle.router_core.specs.Moments.{Moment}
-use Rattle.replay.specs.Output.{IsOutputTo, IsRefusedOutput, IsOutputOfFront, IsFrontOfOutput}
+use Rattle.replay.specs.Output.{IsOutput, IsOutputTo, IsRefusedOutput, IsOutputOfFront, IsOutputOfEnded, IsFrontOfOutput}
 use Rattle.replay.specs.Totals.{AreTotals, IsTotalledOutput, IsFrontOfTotalled}
 use Rattle.replay.proofs.Endings.{whole_front}
 
@@ -41,3 +43,14 @@ front_totalled quiet text m turns a b c f g = (
 -- a write of the output that failed
 pub front_of_run : (quiet : Bool) (text : List ℕ) (a c : Option (List ℕ)) → Writes a c (IsFrontOfOutput quiet text) → Writes a c (IsFrontOfTotalled quiet text)
 front_of_run quiet text a c f = (f.0, f.1, record { whole = f.2.whole; rest = f.2.rest; front = f.2.front; allowed = ⊎_elim inl (λ r. inr (inl r)) f.2.allowed })
+
+-- an output of the lines that have ended is one of some first lines, however the text goes on
+front_of_ended : (quiet : Bool) (read more bytes : List ℕ) → IsOutputOfEnded quiet read bytes → IsOutputOfFront quiet (read ++ more) bytes
+front_of_ended quiet read more bytes o =
+    let e = o.ended in
+    let front : take (length (lines_in e.done)) (lines_of (read ++ more)) ≡ lines_in e.done = ap (take (length (lines_in e.done))) (lines_behind read e.done e.pending more e.cut) ∙ take-append_seam (lines_in e.done) (lines_of (e.pending ++ more)) in
+    record { count = length (lines_in e.done); output = subst (λ (ls : List (List ℕ)). IsOutput quiet ls bytes) (e.same ∙ sym front) o.output }
+
+-- no memory for the next lines of the source
+pub first_lines : (quiet : Bool) (text left : List ℕ) (a c : Option (List ℕ)) → ReadsAndWrites (Some text) (Some left) a c (IsOutputOfEnded quiet) → Writes a c (IsOutputOfFront quiet text)
+first_lines quiet text left a c r = (r.1, r.3, subst (λ (t : List ℕ). IsOutputOfFront quiet t r.1) (sym r.2) (front_of_ended quiet r.0 left r.1 r.4))

@@ -61,6 +61,7 @@ pub fn run_stream<S: Source, K: Sink>(
     ensures read_fault { result ≡ Status.ReadFault → Rose (S.faults source.old) (S.faults source.new) }
     ensures write_fault { result ≡ Status.WriteFault → Rose (K.faults sink.old) (K.faults sink.new) }
     ensures by_text { (result ≡ Status.Ok) ⊎ (result ≡ Status.Refused) → IfSome (S.left source.old) (λ text. result ≡ status_of (verdict text)) }
+    ensures later { K.faults sink.old ≤ K.faults sink.new }
     ensures no_other { (result ≢ Status.Broken) × (result ≢ Status.Usage) }
 {
     let mut buf = [0u8; READ_SIZE];
