@@ -36,9 +36,8 @@ use Rattle.hop_side.proofs.LawLemmas.{strangers_agree}
 use Rattle.peer_side.specs.Peers.{chain_at}
 use Rattle.event_text.specs.Declarations.{peer_at}
 use Rattle.router_core.specs.declared.router.Done.TheVariants.{Nothing, Taken}
-use Rattle.router_core.specs.declared.router.Phase.TheVariants as phases
 use Rattle.router_core.specs.Moments.{Moment, plain, best_of, read_of, read_rows_by, forward_by, parts, router_links, with_exits, with_rib}
-use Rattle.router_core.specs.Phases.{counts, table_beyond, external_beyond}
+use Rattle.router_core.specs.Phases.{table_beyond, external_beyond}
 use Rattle.router_core.specs.Stands.{Stands, Claim, Claims, EachResolver, SameResolvers, AnswersAgree, NoStrangers, SmallNumbers, EachExit, QueueLeads, ExitsRead, PlainExits, SameSessions, OneReader, ExternalExit, ExternalAgrees, ExternalStands, NothingExternal, Tie, Ties, Registered, here, ExitsAt, ReadsOn}
 use Rattle.router_core.specs.Turns.{journal_lines}
 use Rattle.router_core.specs.Works.{IsUnit, Comes}

@@ -1,5 +1,5 @@
 -- What a change of `best` makes of what reads it: it joins the queue, and no link of theirs changes.
-use Rattle.std.proofs.Common.{◌≡◌, ◌≢◌, ℕ, cond, true, false, length, Option, Some, None, refl, sym, ap, subst, ◌∙◌}
+use Rattle.std.proofs.Common.{◌≡◌, ◌≢◌, ℕ, cond, true, false, Option, Some, None, refl, sym, ap, subst, ◌∙◌}
 use Rattle.std.specs.Prelude.{IsSome}
 use Rattle.std.specs.Option.{ForSome}
 use Rattle.std.specs.FinMap as tables

@@ -41,10 +41,6 @@ use Rattle.router_core.specs.Stands.{Stands}
 use Rattle.router_core.specs.Printable.{IsHeard}
 use Rattle.router_core.specs.Scratch.{IsExact}
 use Rattle.router_core.specs.declared.router.Phase.{Phase}
-use Rattle.rib_route.specs.declared.rows.FibRow.{FibRow}
-use Rattle.rib_exit.specs.Steps.{TakesInterior}
-use Rattle.pass_core.specs.Turns.{IsPassedOn}
-use Rattle.redist.specs.Local.{redistributed}
 use Rattle.router_core.specs.Turns.{ResolvesOn, Invalidates, FollowsOwn, BelowInt, journal_lines, InPeers, FeedsAll, FallsRoute, phase_of, IsTurn, Turns, Runs, RunsPhase, RunsAll, has_work, phase_bound, IsOver, IsSettled}
 use Rattle.router_core.specs.Phases.{all_phases, counts, earlier, left_from}
 use Rattle.router_core.specs.Blocks.{RunsFirst, Loses, Hears, Idles, IsBlock, ended as ended_moment}
