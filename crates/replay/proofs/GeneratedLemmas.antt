@@ -29,16 +29,18 @@ untotalled quiet text m turns a b c f same = (f.0, subst (λ (t : Option (List �
 
 -- a write of the totals that failed
 pub front_totalled : (quiet : Bool) (text : List ℕ) (m : Moment) (turns : ℕ) (a b c : Option (List ℕ)) → Writes a b (λ bytes. IsOutputTo quiet (lines_of text) bytes m turns) → Writes b c (λ more. (totals : List ℕ) × AreTotals m turns totals × IsFrontOf totals more) → Writes a c (IsFrontOfTotalled quiet text)
-front_totalled quiet text m turns a b c f g = (
-  f.0 ++ g.0,
-  appends_then a b c f.0 g.0 f.1 g.1,
-  record {
-    whole = f.0 ++ g.2;
-    rest = g.4.0;
-    front = ap (λ t. f.0 ++ t) g.4.1 ∙ sym (append_assoc f.0 g.0 g.4.0);
-    allowed = inr (inr (record { end = m; turns = turns; earlier = f.0; output = f.2; totals = g.2; counted = g.3; written = refl }));
-  },
-)
+front_totalled quiet text m turns a b c f g =
+    let totals = g.2.0 in
+    let front = g.2.2 in (
+      f.0 ++ g.0,
+      appends_then a b c f.0 g.0 f.1 g.1,
+      record {
+        whole = f.0 ++ totals;
+        rest = front.0;
+        front = ap (λ t. f.0 ++ t) front.1 ∙ sym (append_assoc f.0 g.0 front.0);
+        allowed = inr (inr (record { end = m; turns = turns; earlier = f.0; output = f.2; totals = totals; counted = g.2.1; written = refl }));
+      },
+    )
 
 -- a write of the output that failed
 pub front_of_run : (quiet : Bool) (text : List ℕ) (a c : Option (List ℕ)) → Writes a c (IsFrontOfOutput quiet text) → Writes a c (IsFrontOfTotalled quiet text)
