@@ -101,7 +101,7 @@ fn lines_are_written_before_the_next_read(rt: HostRuntime) -> Result<(), Fail> {
     let (calls, status) = calls_of(rt.alloc(), "run", EVENTS, 38)?;
     let wanted = [
         Call::Read(38),
-        Call::Write(97),
+        Call::Write(123),
         Call::Read(38),
         Call::Write(24),
         Call::Read(38),

@@ -70,6 +70,9 @@ fn rows_are_counted(rt: HostRuntime) -> Result<(), Fail> {
     assert_eq!(rt; counted(rt.alloc(), Link::Best)?, Some(1));
     assert_eq!(rt; counted(rt.alloc(), Link::Read(1, 1))?, Some(1));
     assert_eq!(rt; counted(rt.alloc(), Link::Adv(1, 1))?, Some(0));
+    assert_eq!(rt; counted(rt.alloc(), Link::Red)?, Some(0));
+    assert_eq!(rt; counted(rt.alloc(), Link::Ext)?, Some(1));
+    assert_eq!(rt; counted(rt.alloc(), Link::Fib)?, Some(2));
     assert_eq!(rt; counted(rt.alloc(), Link::In(2))?, None);
     Ok(())
 }

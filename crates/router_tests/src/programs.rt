@@ -48,8 +48,12 @@ b org.rip\n\
 b low\n\
 b dyn\n\
 b int\n\
+b red\n\
 b best\n\
 i read.rib best\n\
+b ebgp\n\
+b ibgp\n\
+b ext\n\
 b fib\n";
 
 #[test]
@@ -60,7 +64,7 @@ fn words_that_are_no_command_get_the_usage_line(rt: HostRuntime) -> Result<(), F
     let (status, output) = run_failing(alloc, words.as_slice(), "", none, Vec::new(alloc))?;
     assert_eq!(rt;
         output.as_str(),
-        "usage: replay run [--quiet] / replay check\n"
+        "usage: replay run [--quiet] / replay gen SEED COUNT [--quiet] / replay check\n"
     );
     assert!(rt; status == Status::Usage);
     Ok(())
