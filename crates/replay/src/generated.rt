@@ -74,6 +74,26 @@ fn run_seed<K: Sink>(
     }
 }
 
+/// The same, in a stream and a journal of its own.
+fn run_source<K: Sink>(
+    alloc: Global,
+    quiet: bool,
+    source: &mut GeneratedSource,
+    sink: &mut K,
+) -> Status
+    ensures ok { result ≡ Status.Ok → Writes (K.taken sink.old) (K.taken sink.new) (IsTotalledOutput quiet source.old.left) }
+    ensures refused { result ≡ Status.Refused → Writes (K.taken sink.old) (K.taken sink.new) (IsRefusedOutput quiet source.old.left) }
+    ensures memory { result ≡ Status.Memory → Writes (K.taken sink.old) (K.taken sink.new) (IsOutputOfFront quiet source.old.left) }
+    ensures front { result ≡ Status.WriteFault → Writes (K.taken sink.old) (K.taken sink.new) (IsFrontOfTotalled quiet source.old.left) }
+    ensures write_fault { result ≡ Status.WriteFault → Rose (K.faults sink.old) (K.faults sink.new) }
+    ensures by_text { (result ≡ Status.Ok) ⊎ (result ≡ Status.Refused) → result ≡ status_of (verdict source.old.left) }
+    ensures no_other { (result ≢ Status.Broken) × (result ≢ Status.Usage) × (result ≢ Status.ReadFault) }
+{
+    let mut stream = Stream::new(alloc, quiet);
+    let mut journal = Journal::new(alloc, quiet);
+    run_seed(alloc, &mut stream, &mut journal, source, sink)
+}
+
 /// Steps the events of a seed, writes their output, and then the totals.
 pub fn run_generated<K: Sink>(
     alloc: Global,
@@ -91,7 +111,5 @@ pub fn run_generated<K: Sink>(
     ensures no_other { (result ≢ Status.Broken) × (result ≢ Status.Usage) × (result ≢ Status.ReadFault) }
 {
     let mut source = GeneratedSource::new(alloc, seed, count);
-    let mut stream = Stream::new(alloc, quiet);
-    let mut journal = Journal::new(alloc, quiet);
-    run_seed(alloc, &mut stream, &mut journal, &mut source, sink)
+    run_source(alloc, quiet, &mut source, sink)
 }
