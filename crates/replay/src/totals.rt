@@ -58,12 +58,7 @@ fn push_total(alloc: Global, core: &Core, link: Link, out: &mut Vec<u8>) -> Resu
 }
 
 /// Appends the lines of links, of those that are live.
-fn push_each(
-    alloc: Global,
-    core: &Core,
-    links: &[Link],
-    out: &mut Vec<u8>,
-) -> Result<(), Memory>
+fn push_each(alloc: Global, core: &Core, links: &[Link], out: &mut Vec<u8>) -> Result<(), Memory>
     ensures { OnOk result (Adds (AreTotalsOf core.now.moment links.now) out.old.items out.new.items) }
 {
     'counting: for link in links {
