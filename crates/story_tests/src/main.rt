@@ -1,18 +1,21 @@
 //! Runs the program on stories: files in the folder that the first word names, each with the output that it must have.
 //!
-//! `NAME.events` is an event file, for `replay run`; `NAME.journal` is a journal, for `replay check`. `NAME.out` is what must
-//! be written, and the status is told by its last line. The outputs come from a program of another hand, never from this one.
+//! `NAME.events` is an event file, for `replay run`; `NAME.journal` is a journal, for `replay check`; `NAME.commands` has whole
+//! command lines, with nothing to read. `NAME.out` is what must be written, and the status is told by its last line. The outputs come from a program of another hand, never from this one.
 //! An event file is read in one piece, and again byte by byte; with `--quiet` it must give the same lines without those
-//! of the journal; and its whole output, judged by `check`, must be lawful.
+//! of the journal; and its whole output, judged by `check`, must be lawful. Two of them are read line by line, too, while each
+//! read fails once, and each write.
 //!
 //! It prints the name of each file whose answers are right. Of another it says which line differs first, on standard error,
 //! and ends with status 1. The examples in the documents are some of these files.
 #![tactic(auto)]
 
 mod answer;
+mod failing;
 mod lines;
 
 use crate::answer::{Pace, answer_to};
+use crate::failing::{fault_of_reads, fault_of_writes};
 use crate::lines::{first_difference, without_journal};
 use anyhow::{Context, bail};
 use std::alloc::Global;
@@ -52,10 +55,44 @@ fn fault_of_run(alloc: Global, events: &str, wanted: &str) -> anyhow::Result<Opt
     fault_of_check(alloc, wanted, "lawful\n")
 }
 
+/// The same of an event file that is also run with a read or a write that fails, each call once.
+fn fault_of_failing(alloc: Global, events: &str, wanted: &str) -> anyhow::Result<Option<String>> {
+    if let Some(fault) = fault_of_run(alloc, events, wanted)? {
+        return Ok(Some(fault));
+    }
+    if let Some(fault) = fault_of_reads(alloc, events)? {
+        return Ok(Some(fault));
+    }
+    fault_of_writes(alloc, events, wanted)
+}
+
 /// What is wrong with the verdict on a journal, if anything.
 fn fault_of_check(alloc: Global, journal: &str, wanted: &str) -> anyhow::Result<Option<String>> {
     let check = ["replay", "check"];
     fault_of(alloc, check.as_slice(), Pace::Bytes, journal, wanted)
+}
+
+/// What is wrong with the answers to command lines, if anything. Nothing is there to be read.
+fn fault_of_commands(
+    alloc: Global,
+    commands: &str,
+    wanted: &str,
+) -> anyhow::Result<Option<String>> {
+    let mut output = String::new(alloc);
+    for command in commands.lines() {
+        let words: Vec<&str> = command.split(' ').collect(alloc)?;
+        let answer = answer_to(alloc, words.as_slice(), Pace::Whole, "")?;
+        if !answer.has_status_of(answer.output.as_str()) {
+            return Ok(Some(format!(in alloc; "{command}: the status is {:?}", answer.status)?));
+        }
+        output.push_str(answer.output.as_str())?;
+    }
+    first_difference(alloc, wanted, output.as_str())
+}
+
+/// Whether a story is one in which each read and each write fails once.
+fn is_to_fail(name: &str) -> bool {
+    matches!(name, "to_the_forwarding_table" | "own_routes_go_out")
 }
 
 /// What is done with the text of a story.
@@ -63,12 +100,16 @@ fn fault_of_check(alloc: Global, journal: &str, wanted: &str) -> anyhow::Result<
 enum Kind {
     Run,
     Check,
+    Commands,
 }
 
 /// The name of a story and its kind, by the name of its file; None of another file.
 fn story_of(file: &str) -> Option<(&str, Kind)> {
     if let Some(name) = file.strip_suffix(".events") {
         return Some((name, Kind::Run));
+    }
+    if let Some(name) = file.strip_suffix(".commands") {
+        return Some((name, Kind::Commands));
     }
     let name = file.strip_suffix(".journal")?;
     Some((name, Kind::Check))
@@ -88,7 +129,9 @@ fn fault_of_story(
     let path = format!(in alloc; "{folder}/{file}")?;
     let text = fs::read_to_string(rt, path.as_str())?;
     match kind {
+        Kind::Run if is_to_fail(name) => fault_of_failing(alloc, text.as_str(), wanted.as_str()),
         Kind::Run => fault_of_run(alloc, text.as_str(), wanted.as_str()),
+        Kind::Commands => fault_of_commands(alloc, text.as_str(), wanted.as_str()),
         Kind::Check => fault_of_check(alloc, text.as_str(), wanted.as_str()),
     }
 }
