@@ -1,10 +1,11 @@
 //! Runs the program on stories: files in the folder that the first word names, each with the output that it must have.
 //!
 //! `NAME.events` is an event file, for `replay run`; `NAME.journal` is a journal, for `replay check`; `NAME.commands` has whole
-//! command lines, with nothing to read. `NAME.out` is what must be written, and the status is told by its last line. The outputs come from a program of another hand, never from this one.
+//! command lines, with nothing to read. `NAME.out` is what must be written, and the status is told by its last line. The outputs
+//! come from a program of another hand, never from this one.
 //! An event file is read in one piece, and again byte by byte; with `--quiet` it must give the same lines without those
 //! of the journal; and its whole output, judged by `check`, must be lawful. Two of them are read line by line, too, while each
-//! read fails once, and each write.
+//! read fails once, and each write. The sessions of a peer, as many as it may have, are a story that no file holds.
 //!
 //! It prints the name of each file whose answers are right. Of another it says which line differs first, on standard error,
 //! and ends with status 1. The examples in the documents are some of these files.
@@ -13,10 +14,12 @@
 mod answer;
 mod failing;
 mod lines;
+mod sessions;
 
 use crate::answer::{Pace, answer_to};
 use crate::failing::{fault_of_reads, fault_of_writes};
 use crate::lines::{first_difference, without_journal};
+use crate::sessions::{events_of_sessions, output_of_sessions};
 use anyhow::{Context, bail};
 use std::alloc::Global;
 use std::{env, fs};
@@ -95,6 +98,19 @@ fn is_to_fail(name: &str) -> bool {
     matches!(name, "to_the_forwarding_table" | "own_routes_go_out")
 }
 
+/// What is wrong with the answers to the sessions of a peer, if anything, up to the last that it may have.
+fn fault_of_sessions(alloc: Global) -> anyhow::Result<Option<String>> {
+    let events = events_of_sessions(alloc)?;
+    let wanted = output_of_sessions(alloc)?;
+    let run = ["replay", "run"];
+    let fault = fault_of(alloc, run.as_slice(), Pace::Whole, events.as_str(), wanted.as_str())?;
+    if fault.is_some() {
+        return Ok(fault);
+    }
+    let check = ["replay", "check"];
+    fault_of(alloc, check.as_slice(), Pace::Whole, wanted.as_str(), "lawful\n")
+}
+
 /// What is done with the text of a story.
 #[derive(Clone, Copy)]
 enum Kind {
@@ -160,6 +176,13 @@ fn main(rt: HostRuntime) -> anyhow::Result<()> {
                 eprintln!(rt; "{file}: {fault}")?;
                 wrong = wrong.wrapping_add(1);
             }
+        }
+    }
+    match fault_of_sessions(rt.alloc())? {
+        None => println!(rt; "65535 sessions")?,
+        Some(fault) => {
+            eprintln!(rt; "65535 sessions: {fault}")?;
+            wrong = wrong.wrapping_add(1);
         }
     }
     if wrong > 0 {
