@@ -9,6 +9,7 @@ mod streams;
 use crate::streams::{Reading, Writing};
 use replay::{Status, replay};
 use std::env;
+use std::io::ErrorKind;
 use std::process::ExitCode;
 
 /// The exit status of an answer.
@@ -27,12 +28,19 @@ fn code(status: Status) -> u8 {
 fn main(rt: HostRuntime) -> ExitCode {
     let alloc = rt.alloc();
     let mut words = Vec::new(alloc);
-    if let Ok(args) = env::args(&rt) {
-        for word in args {
-            if words.push(word).is_err() {
-                return ExitCode::from(code(Status::Memory));
+    match env::args(&rt) {
+        Ok(args) => {
+            for word in args {
+                if words.push(word).is_err() {
+                    return ExitCode::from(code(Status::Memory));
+                }
             }
         }
+        Err(error) if error.kind() == ErrorKind::OutOfMemory => {
+            return ExitCode::from(code(Status::Memory));
+        }
+        // A word that is no text is no command's.
+        Err(_) => {}
     }
     let mut source = Reading::new(rt.stdin());
     let mut sink = Writing::new(rt.stdout());
