@@ -103,12 +103,24 @@ fn fault_of_sessions(alloc: Global) -> anyhow::Result<Option<String>> {
     let events = events_of_sessions(alloc)?;
     let wanted = output_of_sessions(alloc)?;
     let run = ["replay", "run"];
-    let fault = fault_of(alloc, run.as_slice(), Pace::Whole, events.as_str(), wanted.as_str())?;
+    let fault = fault_of(
+        alloc,
+        run.as_slice(),
+        Pace::Whole,
+        events.as_str(),
+        wanted.as_str(),
+    )?;
     if fault.is_some() {
         return Ok(fault);
     }
     let check = ["replay", "check"];
-    fault_of(alloc, check.as_slice(), Pace::Whole, wanted.as_str(), "lawful\n")
+    fault_of(
+        alloc,
+        check.as_slice(),
+        Pace::Whole,
+        wanted.as_str(),
+        "lawful\n",
+    )
 }
 
 /// What is done with the text of a story.

@@ -45,8 +45,12 @@ pub fn output_of_sessions(alloc: Global) -> anyhow::Result<String> {
     let mut output = String::from_str(alloc, BEGUN)?;
     for before in 0..MOST {
         let session = before.wrapping_add(1);
-        let begun = format!(in alloc; "i read.1.{session} best\nb outf.1.{session}\nb adv.1.{session}\n")?;
-        let ended = format!(in alloc; "e read.1.{session}\ne outf.1.{session}\ne adv.1.{session}\n")?;
+        let begun = format!(in alloc;
+            "i read.1.{session} best\nb outf.1.{session}\nb adv.1.{session}\n"
+        )?;
+        let ended = format!(in alloc;
+            "e read.1.{session}\ne outf.1.{session}\ne adv.1.{session}\n"
+        )?;
         output.push_str(begun.as_str())?;
         output.push_str(ended.as_str())?;
     }
