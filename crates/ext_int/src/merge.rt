@@ -8,7 +8,7 @@ ghost use Rattle.link_change.specs.declared.turn.Turn.{Turn};
 ghost use Rattle.rib_route.specs.declared.rows.FibRow.{FibRow};
 ghost use Rattle.nexthop_resolver.specs.Kept.{way_of};
 ghost use Rattle.nexthop_resolver.specs.Resolving.{nothing_known, AreNamed};
-ghost use Rattle.nexthop_resolver.specs.Registered.{answer_of, Agrees, KeepsOthers};
+ghost use Rattle.nexthop_resolver.specs.Registered.{Agrees, KeepsOthers, told_of};
 ghost use Rattle.nexthop_resolver.specs.Takes.{Keeps, Invalidates};
 ghost use Rattle.nexthop_resolver.specs.Turns.{Rests, HasWork};
 ghost use Rattle.ext_int.specs.Fibs.{resolved_rows, fib_table, FollowsInt, FollowsTurn, TakesExt, TakesTurn, StopsInTurn};
@@ -124,7 +124,7 @@ impl ExtInt {
     ) -> Result<Option<Change<FibRow>>, Memory>
         requires agrees { Agrees way_of self.old.client self.old.known register.old }
         ensures taken { IfOk result (TakesExt (I.rows int.now) self.old self.new change) }
-        ensures keeps { OnOk result (Keeps (answer_of way_of register.old) self.old self.new) }
+        ensures keeps { OnOk result (Keeps (told_of way_of register.old) self.old self.new) }
         ensures agrees { Agrees way_of self.new.client self.new.known register.new }
         ensures others { KeepsOthers self.old.client register.old register.new }
         ensures memory { OnErr result (self.new ≡ self.old) }

@@ -13,7 +13,7 @@ use Rattle.nexthop_known.proofs.CountLemmas.{nothing_is_counted}
 use Rattle.nexthop_resolver.specs.declared.rows.Metric.{Metric}
 use Rattle.nexthop_resolver.specs.Kept.{route_hop, metric_of, with_metric}
 use Rattle.nexthop_resolver.specs.Resolving.{Resolving, AreNamed, nothing_known, named_by}
-use Rattle.nexthop_resolver.specs.Registered.{answer_of, Agrees, KeepsOthers}
+use Rattle.nexthop_resolver.specs.Registered.{Agrees, KeepsOthers, told_of}
 use Rattle.nexthop_resolver.specs.Takes.{Keeps, TakesIn}
 use Rattle.nexthop_resolver.proofs.RowLemmas.{no_rows_at_first}
 use Rattle.nexthop_resolver.proofs.PendLemmas.{others_agree, nothing_yet}
@@ -88,7 +88,7 @@ module _ (a : Resolvers) (k : ℕ) (s s' : Resolving Metric) (at : resolver_at k
 
     -- ---- a change from above
     pub took : (change : Change Route) (sent : Option (Change Route)) (was is : Registry Interior) (before now : Journaled) → AllAgree a was → TakesIn route_hop with_metric s s' change sent
-        → Keeps (answer_of metric_of was) s s' → AreNamed s'.counts s'.known → Agrees metric_of s'.client s'.known is → KeepsOthers s.client was is → now ≡ with_entries before (res_entries k sent)
+        → Keeps (told_of metric_of was) s s' → AreNamed s'.counts s'.known → Agrees metric_of s'.client s'.known is → KeepsOthers s.client was is → now ≡ with_entries before (res_entries k sent)
         → Adds (TakesBelow k change sent was is a new) before now
     took change sent was is before now agree takes keeps named here others lines = (
       res_entries k sent,

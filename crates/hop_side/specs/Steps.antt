@@ -18,7 +18,7 @@ use Rattle.pass_core.specs.Left.{CountsBeyond}
 use Rattle.nexthop_resolver.specs.declared.rows.Metric.{Metric}
 use Rattle.nexthop_resolver.specs.Kept.{route_hop, metric_of, with_metric}
 use Rattle.nexthop_resolver.specs.Resolving.{Resolving}
-use Rattle.nexthop_resolver.specs.Registered.{answer_of, interest_of, KeepsOthers}
+use Rattle.nexthop_resolver.specs.Registered.{interest_of, KeepsOthers, told_of}
 use Rattle.nexthop_resolver.specs.Takes.{Keeps, TakesIn, Invalidates}
 use Rattle.nexthop_resolver.specs.Turns.{Turned}
 use Rattle.journal_text.specs.declared.link.Link.TheVariants.{Res}
@@ -69,7 +69,7 @@ pub record TakesHop (k : ℕ) (change : Change Route) (sent : Option (Change Rou
   pub at : resolver_at k a ≡ Some resolver
   pub taken : Resolving Metric
   pub takes : TakesIn route_hop with_metric resolver taken change sent
-  pub keeps : Keeps (answer_of metric_of was) resolver taken
+  pub keeps : Keeps (told_of metric_of was) resolver taken
   pub lines : entries ≡ res_entries k sent
   pub after : a' ≡ put_resolver k taken a
 

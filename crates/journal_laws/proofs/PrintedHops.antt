@@ -22,7 +22,7 @@ use Rattle.nexthop_known.specs.Hops.{Hops, IsMapped, settled, renewed, in_force_
 use Rattle.nexthop_resolver.specs.declared.rows.Metric.{Metric}
 use Rattle.nexthop_resolver.specs.Kept.{route_hop, metric_of, way_of, with_igp, with_metric}
 use Rattle.nexthop_resolver.specs.Resolving.{Resolving, in_force_by, fresh_by, walk_to, goes_on, made_by}
-use Rattle.nexthop_resolver.specs.Registered.{answer_of}
+use Rattle.nexthop_resolver.specs.Registered.{answer_of, told_of}
 use Rattle.nexthop_resolver.specs.Takes.{Keeps}
 use Rattle.nexthop_resolver.specs.Turns.{KnownAfter, Turned}
 use Rattle.journal_text.specs.Values.{route_value, interior_value}
@@ -49,10 +49,11 @@ module _ {A : Type 0} (Is : A → Type 0) where
       (λ _ e. by_hop (λ h. h.in_force) (tables.get known a) x (λ h at. (each a h at).0) e) (λ _ e. by_hop (λ h. h.fresh) (tables.get known a) x (λ h at. (each a h at).1) e) is
 
   -- those that stay known, and those that came
-  pub answers_kept : (answer : ℕ → A) (old new : Resolving A) → ((a : ℕ) → Is (answer a)) → Keeps answer old new → AreAnswers Is old.known → AreAnswers Is new.known
-  answers_kept answer old new fit keeps each a h at = elim (keeps.hops a h at) as (λ _. Is h.in_force × Is h.fresh) [
+  pub answers_kept : (kept : Option (Network × Interior) → A) (r : Registry Interior) (old new : Resolving A) → ((a : ℕ) → Is (answer_of kept r a)) → Keeps (told_of kept r) old new
+      → AreAnswers Is old.known → AreAnswers Is new.known
+  answers_kept kept r old new fit keeps each a h at = elim (keeps.hops a h at) as (λ _. Is h.in_force × Is h.fresh) [
     | inl was ↦ each a h was
-    | inr is ↦ (subst Is (sym is.in_force) (fit a), subst Is (sym is.fresh) (fit a))
+    | inr is ↦ (subst Is (sym is.is_told.in_force) (fit a), subst Is (sym is.is_told.fresh) (fit a))
   ]
 
   pub answers_mapped : (f : Hop A → Hop A) → ((h : Hop A) → Is h.in_force × Is h.fresh → Is (f h).in_force × Is (f h).fresh) → (old new : Hops A) → IsMapped f old new → AreAnswers Is old → AreAnswers Is new

@@ -5,7 +5,7 @@ use Rattle.std.specs.FinMap as map
 use Rattle.addr4.specs.Prefixes.{Network, Holds}
 use Rattle.prefix_trie.specs.Width.{width}
 use Rattle.rib_route.specs.declared.rows.Interior.{Interior}
-use Rattle.register_interest.specs.Covers.{longest}
+use Rattle.register_interest.specs.Covers.{longest, matched, IsSubnet, IsCover}
 use Rattle.register_interest.specs.declared.interests.Interest.{Interest}
 use Rattle.register_interest.specs.Registers.{Registry}
 use Rattle.register_interest.proofs.InterestLemmas.{interests_total, exact_interests}
@@ -15,7 +15,7 @@ use Rattle.nexthop_known.specs.Hops.{Hops, came_at, is_stale_at, learnt, renewed
 use Rattle.nexthop_known.specs.Agreement.{Agree, IsInterestIn, GivesUp}
 use Rattle.nexthop_known.proofs.CountLemmas.{set_here, set_apart, unset_here, unset_apart}
 use Rattle.nexthop_known.proofs.AgreeLemmas.{answered_agrees, early_agrees, early_is_given_up, forgotten_agrees}
-use Rattle.nexthop_resolver.specs.Registered.{answer_of, interest_of, Agrees, IsEarly, KeepsOthers}
+use Rattle.nexthop_resolver.specs.Registered.{answer_of, interest_of, told_of, Agrees, IsEarly, IsLargest, IsToldBy, KeepsOthers}
 
 pub some_of : {X : Type 0} (o : Option X) → IsSome o → (x : X) × (o ≡ Some x)
 some_of None s = absurd (let clash : false ≡ true = s in cc)
@@ -72,9 +72,16 @@ module _ {R : Type 0} where
       interests = λ k ne. ap (λ x. get x k) ints ∙ removed_apart interests_total exact_interests was.interests (own s) k (λ e. ne (ap (λ (x : Interest). x.client) e));
     }
 
+-- the subnet of a cover is the largest one for its longest match
+pub largest_of : (r : Registry Interior) (a : ℕ) (m : Option (Network × Interior)) (s : Network) → IsCover width (get r.rows) a m s → IsLargest (get r.rows) a s
+largest_of r a m s c = subst (λ (o : Option (Network × Interior)). IsSubnet width (get r.rows) a (matched o) s) c.longest_is c.subnet
+
 module _ {A : Type 0} (kept : Option (Network × Interior) → A) where
   pub same_answers : (was is : Registry Interior) → is.rows ≡ was.rows → answer_of kept is ≡ answer_of kept was
   same_answers was is rows = λ i a. kept (longest width (get (rows i)) a)
+
+  pub same_told : (was is : Registry Interior) → is.rows ≡ was.rows → told_of kept is ≡ told_of kept was
+  same_told was is rows = λ i. IsToldBy kept (get (rows i))
 
   pub same_agrees : (client : ℕ) (known : Hops A) (was is : Registry Interior) → is ≡ was → Agrees kept client known was → Agrees kept client known is
   same_agrees client known was is e agree = subst (λ (r : Registry Interior). Agrees kept client known r) (sym e) agree

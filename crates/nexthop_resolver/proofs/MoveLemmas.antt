@@ -43,8 +43,8 @@ module _ {A : Type 0} where
   abbrev with_parts : ℕ → Counts → Hops A → Option (Option Network) → Resolving A
   with_parts client counts known walk = record { client = client; counts = counts; known = known; walk = walk }
 
-  keeps_known : (answer : ℕ → A) (known : Hops A) → KeepsOrLearns answer known known
-  keeps_known answer known a h e = inl e
+  keeps_known : (told : ℕ → Hop A → Type 0) (known : Hops A) → KeepsOrLearns told known known
+  keeps_known told known a h e = inl e
 
   -- ---- which are named
   pub nothing_named : (counts : Counts) (known : Hops A) → counts ≡ empty → known ≡ empty → AreNamed counts known
@@ -58,49 +58,47 @@ module _ {A : Type 0} where
     | inr ne ↦ apart b ne ∙ named b ∙ sym (ap is_some (set_apart counts a (counted counts a) b ne))
   ]
 
-  module _ (answer : ℕ → A) (client : ℕ) (counts : Counts) (known : Hops A) (walk : Option (Option Network)) (named : AreNamed counts known) (a : ℕ) where
+  module _ (told : ℕ → Hop A → Type 0) (client : ℕ) (counts : Counts) (known : Hops A) (walk : Option (Option Network)) (named : AreNamed counts known) (a : ℕ) where
     -- ---- one more
     pub noted_again : (counts' : Counts) → map.contains_key counts a ≡ true → counts' ≡ one_more counts a
-        → Moves answer None (Some a) (with_parts client counts known walk) (with_parts client counts' known walk)
+        → Moves told None (Some a) (with_parts client counts known walk) (with_parts client counts' known walk)
     noted_again counts' has is = record {
       client = refl;
       walk = refl;
       counts = subst (λ (m : Counts). Recounts None (Some a) counts m) (sym is) (one_more_counts counts a);
-      hops = keeps_known answer known;
+      hops = keeps_known told known;
     }
 
     pub noted_again_named : (counts' : Counts) → map.contains_key counts a ≡ true → counts' ≡ one_more counts a → AreNamed counts' known
     noted_again_named counts' has is =
         subst (λ (m : Counts). AreNamed m known) (sym is) (more_named counts known a (map.contains_key known) named (named a ∙ has) (λ b ne. refl))
 
-    learns_hops : (known' : Hops A) (s : Network) → map.contains_key known a ≡ false → known' ≡ insert known a (learnt s (answer a)) → KeepsOrLearns answer known known'
-    learns_hops known' s unknown is b h e = elim (cases_eq b a) [
+    learns_hops : (known' : Hops A) (new : Hop A) → map.contains_key known a ≡ false → told a new → known' ≡ insert known a new → KeepsOrLearns told known known'
+    learns_hops known' new unknown is_told is b h e = elim (cases_eq b a) [
       | inl at ↦
-          let same : learnt s (answer a) ≡ h = same_some (learnt s (answer a)) h (sym (ap (λ (m : Hops A). get m b) is ∙ ap (get (insert known a (learnt s (answer a)))) at ∙ set_here known a (learnt s (answer a))) ∙ e) in
+          let same : new ≡ h = same_some new h (sym (ap (λ (m : Hops A). get m b) is ∙ ap (get (insert known a new)) at ∙ set_here known a new) ∙ e) in
           inr (record {
             unknown = ap (get known) at ∙ none_of (get known a) unknown;
-            in_force = sym (ap (λ (x : Hop A). x.in_force) same) ∙ ap answer (sym at);
-            fresh = sym (ap (λ (x : Hop A). x.fresh) same) ∙ ap answer (sym at);
-            came = subst (λ (x : Hop A). IsSome x.came) same refl;
+            is_told = subst (λ (k : ℕ). told k h) (sym at) (subst (told a) same is_told);
           })
-      | inr ne ↦ inl (sym (ap (λ (m : Hops A). get m b) is ∙ set_apart known a (learnt s (answer a)) b ne) ∙ e)
+      | inr ne ↦ inl (sym (ap (λ (m : Hops A). get m b) is ∙ set_apart known a new b ne) ∙ e)
     ]
 
-    pub noted_first : (counts' : Counts) (known' : Hops A) (s : Network) → map.contains_key counts a ≡ false → counts' ≡ one_more counts a
-        → known' ≡ insert known a (learnt s (answer a)) → Moves answer None (Some a) (with_parts client counts known walk) (with_parts client counts' known' walk)
-    noted_first counts' known' s none is learns = record {
+    pub noted_first : (counts' : Counts) (known' : Hops A) (new : Hop A) → map.contains_key counts a ≡ false → counts' ≡ one_more counts a
+        → told a new → known' ≡ insert known a new → Moves told None (Some a) (with_parts client counts known walk) (with_parts client counts' known' walk)
+    noted_first counts' known' new none is is_told learns = record {
       client = refl;
       walk = refl;
       counts = subst (λ (m : Counts). Recounts None (Some a) counts m) (sym is) (one_more_counts counts a);
-      hops = learns_hops known' s (named a ∙ none) learns;
+      hops = learns_hops known' new (named a ∙ none) is_told learns;
     }
 
-    pub noted_first_named : (counts' : Counts) (known' : Hops A) (s : Network) → counts' ≡ one_more counts a → known' ≡ insert known a (learnt s (answer a)) → AreNamed counts' known'
-    noted_first_named counts' known' s is learns =
+    pub noted_first_named : (counts' : Counts) (known' : Hops A) (new : Hop A) → counts' ≡ one_more counts a → known' ≡ insert known a new → AreNamed counts' known'
+    noted_first_named counts' known' new is learns =
         subst (λ (m : Counts). AreNamed m known') (sym is)
         (more_named counts known a (map.contains_key known') named
-        (ap (λ (m : Hops A). map.contains_key m a) learns ∙ ap is_some (set_here known a (learnt s (answer a))))
-        (λ b ne. ap (λ (m : Hops A). map.contains_key m b) learns ∙ ap is_some (set_apart known a (learnt s (answer a)) b ne)))
+        (ap (λ (m : Hops A). map.contains_key m a) learns ∙ ap is_some (set_here known a new))
+        (λ b ne. ap (λ (m : Hops A). map.contains_key m b) learns ∙ ap is_some (set_apart known a new b ne)))
 
     -- ---- one less
     less_named : (o : Option ℕ) → get counts a ≡ o → is_one o ≡ false → AreNamed (one_less_of counts a o) known
@@ -112,12 +110,12 @@ module _ {A : Type 0} where
     ]
 
     pub released_more : (counts' : Counts) → is_one (get counts a) ≡ false → counts' ≡ one_less counts a
-        → Moves answer (Some a) None (with_parts client counts known walk) (with_parts client counts' known walk)
+        → Moves told (Some a) None (with_parts client counts known walk) (with_parts client counts' known walk)
     released_more counts' more is = record {
       client = refl;
       walk = refl;
       counts = subst (λ (m : Counts). Recounts (Some a) None counts m) (sym is) (one_less_counts counts a);
-      hops = keeps_known answer known;
+      hops = keeps_known told known;
     }
 
     pub released_more_named : (counts' : Counts) → is_one (get counts a) ≡ false → counts' ≡ one_less counts a → AreNamed counts' known
@@ -142,7 +140,7 @@ module _ {A : Type 0} where
     ]
 
     pub released_last : (counts' : Counts) (known' : Hops A) → is_one (get counts a) ≡ true → counts' ≡ one_less counts a → known' ≡ remove known a
-        → Moves answer (Some a) None (with_parts client counts known walk) (with_parts client counts' known' walk)
+        → Moves told (Some a) None (with_parts client counts known walk) (with_parts client counts' known' walk)
     released_last counts' known' one is forgets = record {
       client = refl;
       walk = refl;
@@ -161,25 +159,25 @@ module _ {A : Type 0} where
   back_same client walk counts more back known known' a m b same = λ i. with_parts client (back_counts counts more back a m b i) (same i) walk
 
   -- ---- one for another
-  pub moves_none : (answer : ℕ → A) (o : Option ℕ) (old : Resolving A) → Moves answer o o old old
-  moves_none answer o old = record {
+  pub moves_none : (told : ℕ → Hop A → Type 0) (o : Option ℕ) (old : Resolving A) → Moves told o o old old
+  moves_none told o old = record {
     client = refl;
     walk = refl;
     counts = λ a. let n = counted old.counts a in let m = once o a in omega arith;
-    hops = keeps_known answer old.known;
+    hops = keeps_known told old.known;
   }
 
-  pub swapped : (answer later : ℕ → A) (before after : Option ℕ) (old mid new : Resolving A) → Moves answer None after old mid → Moves later before None mid new
-      → KeepsOnly mid.known new.known → Moves answer before after old new
-  swapped answer later before after old mid new more less only = record {
+  pub swapped : (told later : ℕ → Hop A → Type 0) (before after : Option ℕ) (old mid new : Resolving A) → Moves told None after old mid → Moves later before None mid new
+      → KeepsOnly mid.known new.known → Moves told before after old new
+  swapped told later before after old mid new more less only = record {
     client = less.client ∙ more.client;
     walk = less.walk ∙ more.walk;
     counts = one_for_another old.counts mid.counts new.counts before after more.counts less.counts;
     hops = λ a h e. more.hops a h (only a h e);
   }
 
-  pub keeps_of : (answer : ℕ → A) (before after : Option ℕ) (old new : Resolving A) → Moves answer before after old new → Keeps answer old new
-  keeps_of answer before after old new m = record { client = m.client; walk = m.walk; hops = m.hops }
+  pub keeps_of : (told : ℕ → Hop A → Type 0) (before after : Option ℕ) (old new : Resolving A) → Moves told before after old new → Keeps told old new
+  keeps_of told before after old new m = record { client = m.client; walk = m.walk; hops = m.hops }
 
   -- where one is asked for again, or answers become stale, the same next hops are known
   pub renewed_named : (counts : Counts) (known new : Hops A) (a : ℕ) (s : Network) (x : A) → AreNamed counts known → is_some (get known a) ≡ true → IsRenewed known new a s x

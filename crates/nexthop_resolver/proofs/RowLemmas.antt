@@ -55,9 +55,9 @@ module _ {A : Type 0} where
       holds_at new.known new.walk q a ∙ (λ i. told (is_in_force (walk i) q) (known i)) ∙ sym (holds_at old.known old.walk q a)
 
   -- where rows name it before and after, it stayed known with its answers
-  stayed : (answer : ℕ → A) (old new : Hops A) (a : ℕ) → KeepsOrLearns answer old new → map.contains_key old a ≡ true → map.contains_key new a ≡ true
+  stayed : (told : ℕ → Hop A → Type 0) (old new : Hops A) (a : ℕ) → KeepsOrLearns told old new → map.contains_key old a ≡ true → map.contains_key new a ≡ true
       → get new a ≡ get old a
-  stayed answer old new a keeps was is =
+  stayed told old new a keeps was is =
       let o = some_of (get old a) was in
       let n = some_of (get new a) is in
       elim (keeps a n.0 n.1) [
@@ -82,8 +82,8 @@ module _ {A R L : Type 0} (hop : R → ℕ) (made : R → A → Option L) where
   named_after upper p row = same_function _ _ (λ q.
       by_prefix q p (λ b. option_map hop (cond b row (upper q)) ≡ cond b (option_map hop row) (option_map hop (upper q))) (λ _. refl) (λ _. refl))
 
-  module _ (answer : ℕ → A) (old new : Resolving A) (was_named : AreNamed old.counts old.known) (is_named : AreNamed new.counts new.known) (upper : Rows R) (p : Network) (before after : Option R)
-      (at : upper p ≡ before) (counted : AreCounted (named_by hop upper) old.counts) (moves : Moves answer (option_map hop before) (option_map hop after) old new) where
+  module _ (told_now : ℕ → Hop A → Type 0) (old new : Resolving A) (was_named : AreNamed old.counts old.known) (is_named : AreNamed new.counts new.known) (upper : Rows R) (p : Network) (before after : Option R)
+      (at : upper p ≡ before) (counted : AreCounted (named_by hop upper) old.counts) (moves : Moves told_now (option_map hop before) (option_map hop after) old new) where
     counted_after : AreCounted (named_by hop (with_row upper p after)) new.counts
     counted_after =
         subst (λ (rows : Rows ℕ). AreCounted rows new.counts) (sym (named_after upper p after))
@@ -92,7 +92,7 @@ module _ {A R L : Type 0} (hop : R → ℕ) (made : R → A → Option L) where
 
     elsewhere : (q : Network) → q ≢ p → passed (resolved hop made) (passes new) q (upper q) ≡ passed (resolved hop made) (passes old) q (upper q)
     elsewhere q ne = same_row (function_at (passes new) q) (function_at (passes old) q) (upper q) (λ a names.
-        same_answer old new q a moves.walk (stayed answer old.known new.known a moves.hops
+        same_answer old new q a moves.walk (stayed told_now old.known new.known a moves.hops
         (was_named a ∙ named_is_counted (named_by hop upper) old.counts q a counted names)
         (is_named a ∙ named_is_counted (named_by hop (with_row upper p after)) new.counts q a counted_after (ap (option_map hop) (with_row_elsewhere upper p after q ne) ∙ names))))
 
@@ -109,16 +109,16 @@ module _ {A R L : Type 0} (hop : R → ℕ) (made : R → A → Option L) where
       sent_is = change_sent _ _ p _ _ sent (ap (passed (resolved hop made) (passes old) p) at) rows_after is;
     }
 
-  pub takes_in : (answer : ℕ → A) (old new : Resolving A) (change : Change R) (before after : Option L) (sent : Option (Change L)) → AreNamed old.counts old.known → AreNamed new.counts new.known
-      → Moves answer (option_map hop change.before) (option_map hop change.after) old new
+  pub takes_in : (told_now : ℕ → Hop A → Type 0) (old new : Resolving A) (change : Change R) (before after : Option L) (sent : Option (Change L)) → AreNamed old.counts old.known → AreNamed new.counts new.known
+      → Moves told_now (option_map hop change.before) (option_map hop change.after) old new
       → before ≡ passed (resolved hop made) (passes old) change.prefix change.before → after ≡ passed (resolved hop made) (passes new) change.prefix change.after
       → IsChangeOf change.prefix before after sent → TakesIn hop made old new change sent
-  takes_in answer old new change before after sent named named_now moves b a is upper now p counted led =
+  takes_in told_now old new change before after sent named named_now moves b a is upper now p counted led =
       let told_is : IsChangeOf change.prefix (passed (resolved hop made) (passes old) change.prefix change.before) (passed (resolved hop made) (passes new) change.prefix change.after) sent =
       subst (λ o. IsChangeOf change.prefix o (passed (resolved hop made) (passes new) change.prefix change.after) sent) b (subst (λ o. IsChangeOf change.prefix before o sent) a is) in
       subst (λ (rows : Rows R). TakesOver hop made old new upper rows p sent) (sym led.2)
       (subst (λ k. TakesOver hop made old new upper (with_row upper change.prefix change.after) k sent) led.0
-      (takes_over answer old new named named_now upper change.prefix change.before change.after led.1.0 counted moves sent told_is))
+      (takes_over told_now old new named named_now upper change.prefix change.before change.after led.1.0 counted moves sent told_is))
 
   -- ---- where answers become stale, and at first
   same_told : (s : Network) (b : Bool) (o : Option (Hop A)) → told b (option_map (staled s) o) ≡ told b o

@@ -3,9 +3,10 @@ use Rattle.std.specs.Prelude.{◌≡◌, ◌≢◌, ◌⊎◌, ℕ, Bool, true, 
 use Rattle.std.specs.List.{Contains}
 use Rattle.std.specs.FinMap as map
 use Rattle.addr4.specs.Prefixes.{Network}
+use Rattle.link_change.specs.Rows.{Rows}
 use Rattle.prefix_trie.specs.Width.{width}
 use Rattle.rib_route.specs.declared.rows.Interior.{Interior}
-use Rattle.register_interest.specs.Covers.{longest}
+use Rattle.register_interest.specs.Covers.{longest, matched, IsSubnet}
 use Rattle.register_interest.specs.declared.interests.Interest.{Interest}
 use Rattle.register_interest.specs.Registers.{Registry}
 use Rattle.nexthop_known.specs.declared.answer.Hop.{Hop}
@@ -21,7 +22,23 @@ pub record KeepsOthers {R : Type 0} (client : ℕ) (old new : Registry R) : Type
   pub rows : new.rows ≡ old.rows
   pub interests : (k : Interest) → k.client ≢ client → map.get new.interests k ≡ map.get old.interests k
 
+-- the largest subnet that holds an address and in which each has its longest match
+abbrev pub IsLargest : Rows Interior → ℕ → Network → Type 0
+IsLargest rows a s = IsSubnet width rows a (matched (longest width rows a)) s
+
 module _ {A : Type 0} (kept : Option (Network × Interior) → A) where
+  -- A next hop has what is kept of the answer about its address, for both, and that came with the largest subnet for which it holds.
+  pub record IsToldBy (rows : Rows Interior) (a : ℕ) (h : Hop A) : Type 0 where
+    pub in_force : h.in_force ≡ kept (longest width rows a)
+    pub fresh : h.fresh ≡ kept (longest width rows a)
+    pub subnet : Network
+    pub came : h.came ≡ Some subnet
+    pub largest : IsLargest rows a subnet
+
+  -- so it is told by the register
+  abbrev pub told_of : Registry Interior → ℕ → Hop A → Type 0
+  told_of r = IsToldBy (map.get r.rows)
+
   -- what is kept of the register's answer about each address
   abbrev pub answer_of : Registry Interior → ℕ → A
   answer_of r a = kept (longest width (map.get r.rows) a)
@@ -36,13 +53,13 @@ module _ {A : Type 0} (kept : Option (Network × Interior) → A) where
     pub agree : Agree (answer_of r) before (map.get known)
     pub comes : IsInterestIn before (interest_of client r) s true
 
-  -- an unknown next hop has the register's answer, for both
+  -- an unknown next hop has the register's answer, for both, with the largest subnet for which it holds
   abbrev pub Learns : Registry Interior → Hops A → Hops A → ℕ → Type 0
-  Learns r old new a = (s : Network) × (new ≡ map.insert old a (learnt s (answer_of r a)))
+  Learns r old new a = (s : Network) × (new ≡ map.insert old a (learnt s (answer_of r a))) × IsLargest (map.get r.rows) a s
 
   -- a stale one has it as its fresh answer
   abbrev pub Renews : Registry Interior → Hops A → Hops A → ℕ → Type 0
-  Renews r old new a = (s : Network) × IsRenewed old new a s (answer_of r a)
+  Renews r old new a = (s : Network) × IsRenewed old new a s (answer_of r a) × IsLargest (map.get r.rows) a s
 
   -- ---- after a change of the interior routes
   -- Each next hop that isn't stale has the present answer, or its interest was given up and is still listed; and each interest that is

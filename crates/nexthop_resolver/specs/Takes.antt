@@ -1,5 +1,5 @@
 -- What a change from above makes of a resolver, and what goes on below.
-use Rattle.std.specs.Prelude.{◌≡◌, ◌⊎◌, ℕ, Option, Some, None, IsSome}
+use Rattle.std.specs.Prelude.{◌≡◌, ◌⊎◌, ℕ, Option, Some, None}
 use Rattle.std.specs.FinMap as map
 use Rattle.addr4.specs.Prefixes.{Network}
 use Rattle.link_change.specs.Rows.{Rows}
@@ -11,33 +11,31 @@ use Rattle.nexthop_known.specs.Counts.{AreCounted, Recounts}
 use Rattle.nexthop_resolver.specs.Resolving.{Resolving, named_by, res_rows}
 
 module _ {A : Type 0} where
-  -- a next hop that wasn't known has this answer, for both, and it isn't stale
-  pub record IsNew (answer : ℕ → A) (old : Hops A) (a : ℕ) (h : Hop A) : Type 0 where
+  -- a next hop that wasn't known is told what there is to tell
+  pub record IsNew (told : ℕ → Hop A → Type 0) (old : Hops A) (a : ℕ) (h : Hop A) : Type 0 where
     pub unknown : map.get old a ≡ None
-    pub in_force : h.in_force ≡ answer a
-    pub fresh : h.fresh ≡ answer a
-    pub came : IsSome h.came
+    pub is_told : told a h
 
   -- what is known was known, with the same answers
   abbrev pub KeepsOnly : Hops A → Hops A → Type 0
   KeepsOnly old new = (a : ℕ) (h : Hop A) → map.get new a ≡ Some h → map.get old a ≡ Some h
 
   -- or it is new
-  abbrev pub KeepsOrLearns : (ℕ → A) → Hops A → Hops A → Type 0
-  KeepsOrLearns answer old new = (a : ℕ) (h : Hop A) → map.get new a ≡ Some h → (map.get old a ≡ Some h) ⊎ IsNew answer old a h
+  abbrev pub KeepsOrLearns : (ℕ → Hop A → Type 0) → Hops A → Hops A → Type 0
+  KeepsOrLearns told old new = (a : ℕ) (h : Hop A) → map.get new a ≡ Some h → (map.get old a ≡ Some h) ⊎ IsNew told old a h
 
   -- a row that named the first next hop, or none, names the second now, or none
-  pub record Moves (answer : ℕ → A) (before after : Option ℕ) (old new : Resolving A) : Type 0 where
+  pub record Moves (told : ℕ → Hop A → Type 0) (before after : Option ℕ) (old new : Resolving A) : Type 0 where
     pub client : new.client ≡ old.client
     pub walk : new.walk ≡ old.walk
     pub counts : Recounts before after old.counts new.counts
-    pub hops : KeepsOrLearns answer old.known new.known
+    pub hops : KeepsOrLearns told old.known new.known
 
   -- what one change leaves: the client, the walk, and the next hops that stay known with their answers
-  pub record Keeps (answer : ℕ → A) (old new : Resolving A) : Type 0 where
+  pub record Keeps (told : ℕ → Hop A → Type 0) (old new : Resolving A) : Type 0 where
     pub client : new.client ≡ old.client
     pub walk : new.walk ≡ old.walk
-    pub hops : KeepsOrLearns answer old.known new.known
+    pub hops : KeepsOrLearns told old.known new.known
 
   -- the answers that came with the subnet are stale, and all else is as it was
   pub record Invalidates (s : Network) (old new : Resolving A) : Type 0 where

@@ -2,11 +2,9 @@
 
 ghost use Rattle.std.specs.Prelude.{◌≡◌, true, IfOk, OnOk, OnErr, IsNone, IsSome};
 ghost use Rattle.std.specs.FinMap as map;
-ghost use Rattle.addr4.specs.Prefixes.{Holds};
-ghost use Rattle.prefix_trie.specs.Width.{width};
 ghost use Rattle.nexthop_known.specs.Hops.{is_stale_at};
 ghost use Rattle.nexthop_known.specs.Agreement.{IsInterestIn};
-ghost use Rattle.nexthop_resolver.specs.Registered.{answer_of, interest_of, Agrees, IsEarly, KeepsOthers, Learns, Renews};
+ghost use Rattle.nexthop_resolver.specs.Registered.{answer_of, interest_of, IsLargest, Agrees, IsEarly, KeepsOthers, Learns, Renews};
 
 use crate::rows::FromMatch;
 use addr4::{Addr, Memory, Prefix};
@@ -22,7 +20,7 @@ fn ask<A: FromMatch>(
     register: &mut Register<Interior>,
 ) -> Result<(A, Prefix), Memory>
     ensures answer { IfOk result (λ r. r.0 ≡ answer_of A.kept_of register.old hop) }
-    ensures holds { IfOk result (λ r. Holds width r.1 hop) }
+    ensures largest { IfOk result (λ r. IsLargest (map.get register.old.rows) hop r.1) }
     ensures interest { IfOk result (λ r. IsInterestIn (interest_of client register.old) (interest_of client register.new) r.1 true) }
     ensures others { KeepsOthers client register.old register.new }
     ensures memory { OnErr result (register.new ≡ register.old) }

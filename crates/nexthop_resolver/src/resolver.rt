@@ -7,7 +7,7 @@ ghost use Rattle.addr4.specs.Places.{key_of};
 ghost use Rattle.link_change.specs.Rows.{IsNextCandidate, CoversRows};
 ghost use Rattle.pass_core.specs.Turns.{passed};
 ghost use Rattle.nexthop_resolver.specs.Resolving.{AreNamed, nothing_known, in_force_by, fresh_by, passes, made_by, goes_on, resolved, res_rows, at_place, is_in_force};
-ghost use Rattle.nexthop_resolver.specs.Registered.{answer_of, Agrees, KeepsOthers};
+ghost use Rattle.nexthop_resolver.specs.Registered.{Agrees, KeepsOthers, told_of};
 ghost use Rattle.nexthop_resolver.specs.Takes.{Moves, Keeps, KeepsOnly, Invalidates, TakesIn};
 ghost use Rattle.nexthop_resolver.specs.Turns.{Rests, HasWork, IsStep, IsTurn};
 
@@ -162,7 +162,7 @@ impl<A: FromMatch> Resolver<A> {
     // One row more names the next hop. For want of memory nothing changes.
     fn note(&mut self, hop: Addr, register: &mut Register<Interior>) -> Result<(), Memory>
         requires agrees { Agrees A.kept_of self.old.client self.old.known register.old }
-        ensures moves { OnOk result (Moves (answer_of A.kept_of register.old) None (Some hop) self.old self.new) }
+        ensures moves { OnOk result (Moves (told_of A.kept_of register.old) None (Some hop) self.old self.new) }
         ensures agrees { Agrees A.kept_of self.new.client self.new.known register.new }
         ensures others { KeepsOthers self.old.client register.old register.new }
         ensures memory { OnErr result (self.new ≡ self.old) }
@@ -182,7 +182,7 @@ impl<A: FromMatch> Resolver<A> {
     // One row less names the next hop.
     fn release(&mut self, hop: Addr, register: &mut Register<Interior>)
         requires agrees { Agrees A.kept_of self.old.client self.old.known register.old }
-        ensures moves { Moves (answer_of A.kept_of register.old) (Some hop) None self.old self.new }
+        ensures moves { Moves (told_of A.kept_of register.old) (Some hop) None self.old self.new }
         ensures only { KeepsOnly self.old.known self.new.known }
         ensures agrees { Agrees A.kept_of self.new.client self.new.known register.new }
         ensures others { KeepsOthers self.old.client register.old register.new }
@@ -199,7 +199,7 @@ impl<A: FromMatch> Resolver<A> {
         register: &mut Register<Interior>,
     ) -> Result<(), Memory>
         requires agrees { Agrees A.kept_of self.old.client self.old.known register.old }
-        ensures moves { OnOk result (Moves (answer_of A.kept_of register.old) None after self.old self.new) }
+        ensures moves { OnOk result (Moves (told_of A.kept_of register.old) None after self.old self.new) }
         ensures agrees { Agrees A.kept_of self.new.client self.new.known register.new }
         ensures others { KeepsOthers self.old.client register.old register.new }
         ensures memory { OnErr result (self.new ≡ self.old) }
@@ -216,7 +216,7 @@ impl<A: FromMatch> Resolver<A> {
     // One row less, which named a next hop or none.
     fn release_row(&mut self, before: Option<Addr>, register: &mut Register<Interior>)
         requires agrees { Agrees A.kept_of self.old.client self.old.known register.old }
-        ensures moves { Moves (answer_of A.kept_of register.old) before None self.old self.new }
+        ensures moves { Moves (told_of A.kept_of register.old) before None self.old self.new }
         ensures only { KeepsOnly self.old.known self.new.known }
         ensures agrees { Agrees A.kept_of self.new.client self.new.known register.new }
         ensures others { KeepsOthers self.old.client register.old register.new }
@@ -236,7 +236,7 @@ impl<A: FromMatch> Resolver<A> {
         register: &mut Register<Interior>,
     ) -> Result<(), Memory>
         requires agrees { Agrees A.kept_of self.old.client self.old.known register.old }
-        ensures moves { OnOk result (Moves (answer_of A.kept_of register.old) before after self.old self.new) }
+        ensures moves { OnOk result (Moves (told_of A.kept_of register.old) before after self.old self.new) }
         ensures agrees { Agrees A.kept_of self.new.client self.new.known register.new }
         ensures others { KeepsOthers self.old.client register.old register.new }
         ensures memory { OnErr result (self.new ≡ self.old) }
@@ -259,7 +259,7 @@ impl<A: FromMatch> Resolver<A> {
     ) -> Result<Option<Change<R::Lower>>, Memory>
         requires agrees { Agrees A.kept_of self.old.client self.old.known register.old }
         ensures taken { IfOk result (TakesIn R.hop R.made self.old self.new change) }
-        ensures keeps { OnOk result (Keeps (answer_of A.kept_of register.old) self.old self.new) }
+        ensures keeps { OnOk result (Keeps (told_of A.kept_of register.old) self.old self.new) }
         ensures agrees { Agrees A.kept_of self.new.client self.new.known register.new }
         ensures others { KeepsOthers self.old.client register.old register.new }
         ensures memory { OnErr result (self.new ≡ self.old) }

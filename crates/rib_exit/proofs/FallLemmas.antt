@@ -17,9 +17,10 @@ use Rattle.nexthop_known.specs.Counts.{AreCounted}
 use Rattle.nexthop_resolver.specs.declared.rows.Way.{Way}
 use Rattle.nexthop_resolver.specs.Kept.{external_hop, way_of}
 use Rattle.nexthop_resolver.specs.Resolving.{Resolving, AreNamed, named_by}
-use Rattle.nexthop_resolver.specs.Registered.{answer_of, Agrees, KeepsOthers}
+use Rattle.nexthop_known.specs.declared.answer.Hop.{Hop}
+use Rattle.nexthop_resolver.specs.Registered.{Agrees, KeepsOthers, told_of}
 use Rattle.nexthop_resolver.specs.Takes.{Keeps}
-use Rattle.nexthop_resolver.proofs.AskLemmas.{same_answers, keeps_all}
+use Rattle.nexthop_resolver.proofs.AskLemmas.{same_told, keeps_all}
 use Rattle.rib_split.specs.declared.split.BgpLink.{BgpLink}
 use Rattle.rib_split.specs.declared.split.BgpLink.TheVariants as sides
 use Rattle.rib_split.specs.declared.split.Split.{Split}
@@ -56,7 +57,7 @@ pub row_lent : (s : Splitter) (link side : BgpLink) (m : FinMap prefix_cmp Exter
 row_lent s link side m p row at is on = at ∙ ap (λ (t : FinMap prefix_cmp External). map.get t p) (is ∙ ap (table_of s) on)
 
 -- what is kept of next hops that stay
-keeps_same : (was : Registry Interior) (s : Resolving Way) → Keeps (answer_of way_of was) s s
+keeps_same : (was : Registry Interior) (s : Resolving Way) → Keeps (told_of way_of was) s s
 keeps_same was s = record { client = refl; walk = refl; hops = λ a h at. inl at }
 
 -- the same, over the rows of the two links
@@ -67,7 +68,7 @@ pub record FallsOver (p : Network) (int : Rows Interior) (split : Split) (first 
   pub once : (first.ext ≡ None) ⊎ (second.ext ≡ None)
   pub first_by : first.ext ≡ None → first.fib ≡ None
   pub second_by : second.ext ≡ None → second.fib ≡ None
-  pub keeps : Keeps (answer_of way_of was) hops hops'
+  pub keeps : Keeps (told_of way_of was) hops hops'
   pub leads : LeadsExit (links_of rows hops int) entries (links_of now hops' int)
   pub counted : AreCounted (named_by external_hop (merged_links now)) hops'.counts
 
@@ -179,8 +180,8 @@ module _ (p : Network) (int : Rows Interior) (was : Registry Interior) (hops hop
         once = inl none;
         first_by = first_caused;
         second_by = second_caused;
-        keeps = subst (λ (s : Resolving Way). Keeps (answer_of way_of was) s hops') kept
-            (subst (λ (answer : ℕ → Way). Keeps answer d.mid hops') (same_answers way_of was d.between d.same_rows) keeps);
+        keeps = subst (λ (s : Resolving Way). Keeps (told_of way_of was) s hops') kept
+            (subst (λ (told : ℕ → Hop Way → Type 0). Keeps told d.mid hops') (same_told way_of was d.between d.same_rows) keeps);
         leads = both_lead;
         counted = over_2.counted;
       }
@@ -201,7 +202,7 @@ module _ (p : Network) (int : Rows Interior) (was : Registry Interior) (hops hop
         once = inr none;
         first_by = first_caused;
         second_by = second_caused;
-        keeps = subst (λ (s : Resolving Way). Keeps (answer_of way_of was) hops s) (sym kept) keeps;
+        keeps = subst (λ (s : Resolving Way). Keeps (told_of way_of was) hops s) (sym kept) keeps;
         leads = both_lead;
         counted = over_2.counted;
       }

@@ -18,7 +18,7 @@ use Rattle.nexthop_known.specs.Counts.{Counts, AreCounted}
 use Rattle.nexthop_resolver.specs.declared.rows.Way.{Way}
 use Rattle.nexthop_resolver.specs.Kept.{external_hop, way_of}
 use Rattle.nexthop_resolver.specs.Resolving.{Resolving, named_by}
-use Rattle.nexthop_resolver.specs.Registered.{answer_of}
+use Rattle.nexthop_resolver.specs.Registered.{told_of}
 use Rattle.nexthop_resolver.specs.Takes.{Keeps}
 use Rattle.rib_split.specs.declared.split.BgpLink.{BgpLink}
 use Rattle.rib_split.specs.declared.split.BgpLink.TheVariants as sides
@@ -67,7 +67,7 @@ module _ (int : Rows Interior) (was : Registry Interior) (old new : Resolving Wa
   }
   caused_over rows now p (Some change) fib counted is takes = takes.0 rows now p counted is
 
-  pub caused_keeps : (ext : Option (Change External)) (fib : Option (Change FibRow)) → TakesCaused int was old new ext fib → Keeps (answer_of way_of was) old new
+  pub caused_keeps : (ext : Option (Change External)) (fib : Option (Change FibRow)) → TakesCaused int was old new ext fib → Keeps (told_of way_of was) old new
   caused_keeps None fib kept = record {
     client = ap (λ (s : Resolving Way). s.client) kept.0;
     walk = ap (λ (s : Resolving Way). s.walk) kept.0;
@@ -116,7 +116,7 @@ module _ (link : BgpLink) (name : Link) (named : name ≡ journal_link link) (si
 
   -- it changes
   pub passes_on : (merged : Change External) (new : Resolving Way) (sent : Option (Change FibRow)) (then_ after : Journaled) → MergesOn external_distance side change row (Some merged)
-      → TakesExt int old new merged sent → Keeps (answer_of way_of was) old new → then_ ≡ with_entries mid (valued_change external_value Ext merged)
+      → TakesExt int old new merged sent → Keeps (told_of way_of was) old new → then_ ≡ with_entries mid (valued_change external_value Ext merged)
       → after ≡ with_entries then_ (sent_entries fib_value Fib sent) → Adds (PassesDown link change row int was old new sent) before after
   passes_on merged new sent then_ after merges takes keeps second third =
       let caused : Caused = record { ext = Some merged; fib = sent } in (

@@ -14,7 +14,7 @@ use Rattle.register_interest.specs.Registers.{Registry}
 use Rattle.nexthop_resolver.specs.declared.rows.Way.{Way}
 use Rattle.nexthop_resolver.specs.Kept.{way_of}
 use Rattle.nexthop_resolver.specs.Resolving.{Resolving}
-use Rattle.nexthop_resolver.specs.Registered.{answer_of}
+use Rattle.nexthop_resolver.specs.Registered.{told_of}
 use Rattle.nexthop_resolver.specs.Takes.{Keeps}
 use Rattle.rib_split.specs.declared.split.BgpLink.{BgpLink}
 use Rattle.rib_split.specs.declared.split.BgpLink.TheVariants as sides
@@ -64,7 +64,7 @@ external_distance r = distance (external_proto r)
 -- a change of `ext` goes on through what is known of next hops; without one all stays
 abbrev pub TakesCaused : Rows Interior → Registry Interior → Resolving Way → Resolving Way → Option (Change External) → Option (Change FibRow) → Type 0
 TakesCaused int was old new None sent = (new ≡ old) × (sent ≡ None)
-TakesCaused int was old new (Some merged) sent = TakesExt int old new merged sent × Keeps (answer_of way_of was) old new
+TakesCaused int was old new (Some merged) sent = TakesExt int old new merged sent × Keeps (told_of way_of was) old new
 
 -- A change of a link goes down, where the other link has this row at its prefix.
 pub record PassesDown (link : BgpLink) (change : Change External) (row : Option External) (int : Rows Interior) (was : Registry Interior) (old new : Resolving Way) (sent : Option (Change FibRow)) (entries : List (Entry Value)) : Type 0 where

@@ -21,7 +21,7 @@ use Rattle.pass_core.specs.Left.{CountsBeyond}
 use Rattle.nexthop_resolver.specs.declared.rows.Way.{Way}
 use Rattle.nexthop_resolver.specs.Kept.{external_hop, over, way_of}
 use Rattle.nexthop_resolver.specs.Resolving.{Resolving}
-use Rattle.nexthop_resolver.specs.Registered.{answer_of, KeepsOthers}
+use Rattle.nexthop_resolver.specs.Registered.{KeepsOthers, told_of}
 use Rattle.nexthop_resolver.specs.Takes.{Keeps, Invalidates}
 use Rattle.nexthop_resolver.specs.Turns.{Turned}
 use Rattle.rib_split.specs.declared.split.Split.{Split}
@@ -77,7 +77,7 @@ pub record FallsOn (p : Network) (int : Rows Interior) (split : Split) (first se
   pub once : (first.ext ≡ None) ⊎ (second.ext ≡ None)
   pub first_by : first.ext ≡ None → first.fib ≡ None
   pub second_by : second.ext ≡ None → second.fib ≡ None
-  pub keeps : Keeps (answer_of way_of was) e.forwarding e'.forwarding
+  pub keeps : Keeps (told_of way_of was) e.forwarding e'.forwarding
   pub leads : LeadsExit (exit_links e int) entries (exit_links e' int)
   pub stands : StandsOver now e'
 

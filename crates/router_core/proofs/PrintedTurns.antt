@@ -143,7 +143,7 @@ module _ (peers : ℕ → Option Neighbour) (most : ℕ) where
   resolved_metrics : (k : ℕ) (sent below : Option (Change Route)) (r r' : Registry Interior) (h h' : Resolvers) (entries : List (Entry Value)) → ((a : ℕ) → IsMetric (answer_of metric_of r a)) → Resolves k sent below r r' h h' entries
       → AllHaveMetrics h → AllHaveMetrics h'
   resolved_metrics k None below r r' h h' entries fit t metrics = subst AllHaveMetrics (sym t.2) metrics
-  resolved_metrics k (Some change) below r r' h h' entries fit t metrics = metrics_put k t.taken h h' t.after (answers_kept IsMetric (answer_of metric_of r) t.resolver t.taken fit t.keeps (metrics k t.resolver t.at)) metrics
+  resolved_metrics k (Some change) below r r' h h' entries fit t metrics = metrics_put k t.taken h h' t.after (answers_kept IsMetric metric_of r t.resolver t.taken fit t.keeps (metrics k t.resolver t.at)) metrics
 
   -- what a resolver sends, from these rows above it to those
   res_printed : (k p' : ℕ) (p : Network) (sent : Option (Change Route)) (h h' : Resolvers) (uppers now : PeerRows) → p' ≡ k → IsNameNumber p' → AllHaveMetrics h → AllHaveMetrics h' → Prints peers route_value (uppers k) → Prints peers route_value (now k)
@@ -592,7 +592,7 @@ module _ (peers : ℕ → Option Neighbour) (most : ℕ) where
       goes = t.external.goes (read_of m) now t.change.prefix fit.readers.external sent
 
       ways : HaveWays m'.rib.forwarding
-      ways = answers_kept IsWay (answer_of way_of m.registry) m.rib.forwarding m'.rib.forwarding (answered_ways m fit) goes.keeps fit.ways
+      ways = answers_kept IsWay way_of m.registry m.rib.forwarding m'.rib.forwarding (answered_ways m fit) goes.keeps fit.ways
 
   external_turn_goes : (m : Moment) (said : List Line) (m' : Moment) → IsExternalTurn m said m' → Goes m said m'
   external_turn_goes m said m' t fit =

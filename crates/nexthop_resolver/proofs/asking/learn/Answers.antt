@@ -14,4 +14,4 @@ pub returns-in-Ok-clause-agrees : goal.returns-in-Ok-clause-agrees
 returns-in-Ok-clause-agrees g c =
     learnt_agrees g.A.FromMatch.kept_of c.args.client c.args.known.now c.learn.new.self c.args.register.now c.ask.new.register c.args.hop c.in_ok-answer.subnet
     c.in_ok-answer.answer c.requires.agrees c.in_ok-answer.ensures.others.rows c.in_ok-answer.ensures.interest c.requires.unknown
-    c.in-Ok.ensures.ok c.in_ok-answer.ensures.answer c.in_ok-answer.ensures.holds
+    c.in-Ok.ensures.ok c.in_ok-answer.ensures.answer c.in_ok-answer.ensures.largest.holds
