@@ -35,13 +35,13 @@ use Rattle.router_core.specs.Moments.{Moment, most_unread, candidates_of}
 use Rattle.router_core.specs.Stands.{Stands, InteriorTree, EachChain}
 use Rattle.live_state.specs.Lives.{LiveState}
 use Rattle.router_core.specs.Lives.{live_state}
-use Rattle.router_core.specs.Phases.{tree_lost, tree_beyond, counts, beyonds, unread_if, best_beyond, external_beyond, own_waiting, own_sends_by, own_sends, sends_from_red, fin_sends}
-use Rattle.router_core.specs.Turns.{phase_bound, IsOver}
+use Rattle.router_core.specs.Phases.{tree_lost, tree_beyond, counts, beyonds, unread_if, best_beyond, external_beyond, changes_left, own_waiting, own_sends_by, own_sends, sends_from_red, fin_sends}
+use Rattle.router_core.specs.Turns.{phase_bound, rise_bound, IsOver}
 use Rattle.router_core.proofs.BeyondLemmas.{tree_counted, tree_within, external_counted}
 use Rattle.router_core.proofs.QueueLemmas.{queue_chains}
 use Rattle.router_core.proofs.ReadingLemmas.{unread_most, most_unread_is, best_counted, beyond_within, queue_most, reading_less}
 use Rattle.router_core.proofs.SpendLemmas.{Spent, few_sent}
-use Rattle.router_core.proofs.MostLemmas.{left_below as hops_below, walks_below}
+use Rattle.router_core.proofs.MostLemmas.{left_below as hops_below, walks_below, sends_below, own_sends_below, fin_sends_below}
 use Rattle.hop_side.proofs.LawLemmas.{none_left_without_work}
 
 -- ---- what a turn spends of the stage of a protocol's loss
@@ -89,7 +89,7 @@ module _ (m m' : Moment) (best : Option (Change Route)) (chains : m'.chains ≡ 
       let one = few_sent best in
       let read = reading_less (tables.len m.exits.chains) (tables.len m'.exits.chains) (most_unread m.exits) (most_unread m'.exits) (rows_in m.chains + tree_count m.tree) (rows_in m'.chains + tree_count m'.tree)
       (counts m Rdel + sends_from_red m) (counts m' Rdel + sends_from_red m') (omega (arith, exits)) (omega (arith, rows, fewer)) (omega (arith, most, one, lost, sends, del, filters, rows)) in
-      (lost, omega (arith, lost, turns, del, fin, rows, size, fewer, read), tt)
+      (lost, omega (arith, lost, turns, del, fin, rows, size, fewer, read), tt, record { peers = omega (arith, rows); protocols = omega (arith, fewer) }, omega (arith, most, one, lost))
 
 -- ---- how many turns a phase takes at most
 pub counts_below : TurnsAreBounded → (m : Moment) (r : Phase) → Stands m → counts m r ≤ phase_bound r m
@@ -115,7 +115,18 @@ counts_below law m Out stands =
   where
     within : best_beyond m.chains m.tree None ≤ rows_in m.chains + tree_count m.tree → most_unread m.exits + 2 * (best_beyond m.chains m.tree None + 1) ≤ most_unread m.exits + 2 * (rows_in m.chains + tree_count m.tree + 1)
     within b = omega (arith, b)
-counts_below law m Ext stands = let most = external_bounded m.rib (external_beyond m.rib) (external_counted m.rib).most in let turns = most.turns in let stale = most.stale in omega (arith, turns, stale)
+counts_below law m Ext stands = let turns = (external_bounded m.rib (external_beyond m.rib) (external_counted m.rib).most).turns in omega (arith, turns)
+
+-- ---- how many changes of `best` a phase makes at most
+pub changes_below : (m : Moment) (r : Phase) → Stands m → changes_left r m ≤ rise_bound r m
+changes_below m Rdel stands = omega arith
+changes_below m Red stands = own_sends_below m
+changes_below m Del stands = lost_below m.chains
+changes_below m Fin stands = fin_sends_below m.chains
+changes_below m Nh stands = sends_below m stands
+changes_below m ReadRib stands = omega arith
+changes_below m Out stands = omega arith
+changes_below m Ext stands = omega arith
 
 -- ---- a phase is over exactly where no turn of it is left
 pub over_none : (r : Phase) (m : Moment) → IsOver r m → counts m r ≡ 0

@@ -56,7 +56,7 @@ use Rattle.decision.specs.Branches.{best_rows}
 use Rattle.router_core.specs.declared.router.Done.TheVariants.{Nothing, Taken}
 use Rattle.router_core.specs.declared.router.Phase.TheVariants as phases
 use Rattle.router_core.specs.Bests.{lent_rows}
-use Rattle.router_core.specs.Moments.{Moment, own_of, best_of, candidates_of, read_rows_by, read_links, router_links, with_exits, with_rib}
+use Rattle.router_core.specs.Moments.{Moment, own_of, best_of, candidates_of, most_unread, read_rows_by, read_links, router_links, with_exits, with_rib}
 use Rattle.router_core.specs.Phases.{counts, unread_if, best_beyond}
 use Rattle.router_core.specs.Stands.{Stands, EachExit, QueueLeads, ExitsRead, PlainExits, SameSessions, OneReader, ExternalStands, ExitsAt, ReadsAs, ReadsOn}
 use Rattle.router_core.specs.Turns.{journal_lines}
@@ -64,7 +64,7 @@ use Rattle.router_core.specs.Works.{IsUnit, Comes}
 use Rattle.router_core.proofs.BestLemmas.{lent_is}
 use Rattle.router_core.proofs.QueueLemmas.{reader_live}
 use Rattle.router_core.proofs.HeardSteps.{heard_quiet, exits_declared}
-use Rattle.router_core.proofs.ReadingLemmas.{best_counted}
+use Rattle.router_core.proofs.ReadingLemmas.{best_counted, take_most}
 use Rattle.router_core.proofs.SessionLemmas.{stands_exits, external_kept, strangers_read, reads_as, exits_lead, exit_here, exit_elsewhere}
 use Rattle.router_core.proofs.ExternalTurns.{forward_leads, exit_unheard, stands_forward}
 
@@ -186,6 +186,9 @@ module _ (law : StrangersTake) (m : Moment) (r : ℕ) (change : Change Route) (q
         falls = fewer;
         left = let a = fewer in let b : counts now phases.Out ≡ counts m phases.Out = stays.left (best_beyond m.chains m.tree) in omega (arith, a, b);
         earlier = (omega arith, (omega arith, (omega arith, (omega arith, (omega arith, tt)))));
+        rows = record { peers = omega arith; protocols = omega arith };
+        known = omega arith;
+        unread = let most = take_most m.exits.queue queue r (Some change) takes in omega (arith, most);
       };
     }
 
@@ -254,6 +257,12 @@ module _ (m : Moment) (k : ℕ) (sent : Option (Change Attrs)) (e : Exited) (sai
   read_same None same = refl
   read_same (Some r) same = ap (λ u. length (unread_or_none u)) (same r refl)
 
+  read_less : most_unread e ≤ most_unread m.exits
+  read_less = elim t.turns.by as (λ _. most_unread e ≤ most_unread m.exits) [
+    | inl first ↦ take_most m.exits.queue e.queue t.chain.reader (Some first.change) first.takes
+    | inr walks ↦ take_most m.exits.queue e.queue t.chain.reader None walks.takes
+  ]
+
   pub exit_done : IsUnit (tasks.Out k) m (with_exits m e) said
   exit_done = record {
     turn = record { sent = sent; turn = t; after = refl };
@@ -269,6 +278,9 @@ module _ (m : Moment) (k : ℕ) (sent : Option (Change Attrs)) (e : Exited) (sai
       falls = fewer_left;
       left = let a = fewer_left in omega (arith, a);
       earlier = (omega arith, (omega arith, (omega arith, (omega arith, (omega arith, (let same = read_same m.reader (λ r is. (kept r is).unread) in omega (arith, same), tt))))));
+      rows = record { peers = omega arith; protocols = omega arith };
+      known = (omega arith, omega arith);
+      unread = let most = read_less in omega (arith, most);
     };
   }
 

@@ -133,6 +133,9 @@ module _ (m : Moment) (r : Registry Interior) (x : RibExit) (sent : Option (Chan
       falls = fewer;
       left = fewer;
       earlier = (omega arith, (omega arith, (omega arith, (omega arith, (omega arith, (omega arith, (omega arith, tt)))))));
+      rows = record { peers = omega arith; protocols = omega arith };
+      known = (omega arith, let same = t.known in omega (arith, same));
+      unread = omega arith;
     };
   }
 

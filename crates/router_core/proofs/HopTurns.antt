@@ -1,5 +1,5 @@
 -- One turn of the next hops of a peer.
-use Rattle.std.proofs.Common.{◌≡◌, ℕ, ◌+◌, ◌≤◌, false, List, ◌++◌, Option, Some, None, is_some, refl, sym, ap, subst, ◌∙◌}
+use Rattle.std.proofs.Common.{◌≡◌, ℕ, ◌+◌, ◌≤◌, false, List, ◌++◌, Option, Some, None, is_some, refl, sym, ap, subst, ◌∙◌, arith}
 use Rattle.std.specs.FinMap as tables
 use Rattle.addr4.specs.Prefixes.{Network}
 use Rattle.bgp_attr.specs.declared.route.Route.{Route}
@@ -97,6 +97,9 @@ hop_done k sent m m1 m' c r h entries best stands at t between d =
         falls = spent.0;
         left = spent.1;
         earlier = spent.2;
+        rows = spent.3;
+        known = (let same = t.known in omega (arith, same), omega arith);
+        unread = spent.4;
       };
     })
   where

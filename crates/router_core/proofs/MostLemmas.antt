@@ -13,8 +13,8 @@ use Rattle.nexthop_resolver.specs.Kept.{route_hop, with_metric}
 use Rattle.nexthop_resolver.specs.declared.rows.Metric.{Metric}
 use Rattle.in_chain.specs.Chains.{Chained, filt_beyond, filt_rows, left_beyond, row_count}
 use Rattle.in_chain.proofs.TurnLemmas.{candidates_are_counted, filtered_rows_are_few}
-use Rattle.hop_side.specs.Resolvers.{resolver_at, rows_by, known_of, known_in, walks_of, walks_in}
-use Rattle.hop_side.proofs.LawLemmas.{turns_bounded}
+use Rattle.hop_side.specs.Resolvers.{Resolvers, resolver_at, rows_by, known_of, known_in, left_of, walks_of, walks_in}
+use Rattle.hop_side.proofs.MapLemmas.{sum_within}
 use Rattle.hop_side.proofs.FewLemmas.{known_are_few}
 use Rattle.peer_side.specs.Peers.{Chains, chain_at, put_chain, filt_at, filt_by, lost_in, rows_in}
 use Rattle.peer_side.proofs.MapLemmas.{sum_replaced, sums_within, values_length}
@@ -24,9 +24,9 @@ use Rattle.router_core.specs.Moments.{Moment, own_of, best_of, read_of, read_row
 use Rattle.router_core.specs.Bests.{own_rows, all_at}
 use Rattle.nexthop_known.specs.Hops.{is_stale_at, stale_count}
 use Rattle.nexthop_known.proofs.StaleLemmas.{known_count}
-use Rattle.nexthop_resolver.specs.Left.{is_needed, differing_count}
+use Rattle.nexthop_resolver.specs.Left.{is_needed, differing_count, walk_turns, next_walk}
 use Rattle.hop_side.specs.Resolvers.{same_metric}
-use Rattle.router_core.specs.Phases.{beyond_by, beyonds, counts, most_of, external_most, external_beyond, tree_beyond, unread_if, own_sends, own_sends_by, own_waiting, nh_sends, nh_sends_of, place_candidates, next_candidates, fin_sends, fin_sends_of, walk_candidates, waiting_candidates}
+use Rattle.router_core.specs.Phases.{beyond_by, beyonds, counts, most_of, external_most, external_beyond, tree_beyond, unread_if, stale_of, stale_in, own_sends, own_sends_by, own_waiting, nh_sends, nh_sends_of, place_candidates, next_candidates, fin_sends, fin_sends_of, walk_candidates, waiting_candidates}
 use Rattle.bgp_attr.specs.declared.speaker.Speaker.{Speaker}
 use Rattle.policy_rules.specs.declared.rule.Rule.{Rule}
 use Rattle.pass_core.specs.Passed.{Passed, Walked, function_at}
@@ -62,6 +62,18 @@ use Rattle.router_core.specs.Stands.{Stands, StandsAt, ExitsAt, EachPeer, EachRe
 chain_by : (o : Option Chained) (p : Option (Resolving Metric)) → is_some p ≡ is_some o → IsSome p → (c : Chained) × (o ≡ Some c)
 chain_by None p same some = absurd (let clash : false ≡ true = sym same ∙ some in cc)
 chain_by (Some c) p same some = (c, refl)
+
+rows_twice : (cs : List Chained) → sum_by (λ (c : Chained). 2 * row_count c) cs ≡ 2 * sum_by row_count cs
+rows_twice [] = refl
+rows_twice (c ∷ cs) =
+    let rest = rows_twice cs in
+    let one = sum_by-cons (λ (d : Chained). 2 * row_count d) c cs in
+    let rows = sum_by-cons row_count c cs in
+    omega (arith, rest, one, rows)
+
+-- no more are stale than known
+stale_below : (a : Resolvers) → stale_in a ≤ known_in a
+stale_below a = sum_fewer known_of stale_of (λ s. known_count is_stale_at s.known) (tables.values a)
 
 module _ (m : Moment) (stands : Stands m) where
   chain_of : (k : ℕ) (s : Resolving Metric) → resolver_at k m.hops ≡ Some s → (c : Chained) × (chain_at k m.chains ≡ Some c)
@@ -107,27 +119,16 @@ module _ (m : Moment) (stands : Stands m) where
       by_chain (Some c) = (candidates_are_counted c).0.most place
 
   -- how many changes they send
-  pub sends_below : nh_sends (beyonds m.chains) m.hops ≤ 3 * rows_in m.chains
+  pub sends_below : nh_sends (beyonds m.chains) m.hops ≤ 2 * rows_in m.chains
   sends_below =
-      let each = sums_within (nh_sends_of (beyonds m.chains)) (λ (c : Chained). 3 * row_count c) m.hops m.chains (λ k s at.
+      let each = sums_within (nh_sends_of (beyonds m.chains)) (λ (c : Chained). 2 * row_count c) m.hops m.chains (λ k s at.
       let c = chain_of k s at in
-      let few = filtered_rows_are_few c.0 in
-      let known = known_are_few m.hops (filt_at m.chains) k s few.0 (stands.own EachResolver) (stands.own HopsCounted) at (λ q some. few.2 q (subst (λ (o : Option Chained). IsSome (filt_by o q)) c.1 some)) in
-      let rows = few.1 in
       let beyond = beyond_at k s c.0 at c.1 in
       let sends = one_sends s in
-      (c.0, c.1, omega (arith, known, rows, beyond, sends))) in
-      let all = sum_thrice (tables.values m.chains) in
+      (c.0, c.1, omega (arith, beyond, sends))) in
+      let all = rows_twice (tables.values m.chains) in
       omega (arith, each, all)
     where
-      sum_thrice : (cs : List Chained) → sum_by (λ (c : Chained). 3 * row_count c) cs ≡ 3 * sum_by row_count cs
-      sum_thrice [] = refl
-      sum_thrice (c ∷ cs) =
-          let rest = sum_thrice cs in
-          let one = sum_by-cons (λ (d : Chained). 3 * row_count d) c cs in
-          let rows = sum_by-cons row_count c cs in
-          omega (arith, rest, one, rows)
-
       place_within : (k : ℕ) (walk : Option (Option Network)) → place_candidates (beyonds m.chains k) walk ≤ beyonds m.chains k None
       place_within k None = omega arith
       place_within k (Some place) = most_beyond k place
@@ -136,18 +137,29 @@ module _ (m : Moment) (stands : Stands m) where
       next_within k true = omega arith
       next_within k false = omega arith
 
-      one_sends : (s : Resolving Metric) → nh_sends_of (beyonds m.chains) s ≤ known_of s + 2 * beyonds m.chains s.client None
+      one_sends : (s : Resolving Metric) → nh_sends_of (beyonds m.chains) s ≤ 2 * beyonds m.chains s.client None
       one_sends s =
           let place = place_within s.client s.walk in
-          let stale = known_count is_stale_at s.known in
           let next = next_within s.client (is_needed (is_some s.walk) (stale_count s.known) (differing_count same_metric s.known)) in
-          omega (arith, place, stale, next)
+          omega (arith, place, next)
 
-  pub left_below : counts m Nh ≤ known_in m.hops + walks_in (beyonds m.chains) m.hops
-  left_below = turns_bounded m.hops (beyonds m.chains) most_beyond
+  -- each stale one takes a turn, beside those of the walks
+  pub left_below : counts m Nh ≤ stale_in m.hops + walks_in (beyonds m.chains) m.hops
+  left_below = sum_within (left_of (beyonds m.chains)) stale_of (walks_of (beyonds m.chains)) (tables.values m.hops) (λ s.
+      let walk = walk_within s.client s.walk in
+      let later = later_within s.client (is_needed (is_some s.walk) (stale_count s.known) (differing_count same_metric s.known)) in
+      omega (arith, walk, later))
+    where
+      walk_within : (k : ℕ) (walk : Option (Option Network)) → walk_turns (beyonds m.chains k) walk ≤ beyonds m.chains k None + 1
+      walk_within k None = omega arith
+      walk_within k (Some place) = let most = most_beyond k place in omega (arith, most)
+
+      later_within : (k : ℕ) (b : Bool) → next_walk (beyonds m.chains k) b ≤ beyonds m.chains k None + 1
+      later_within k true = omega arith
+      later_within k false = omega arith
 
   pub capped : counts m Nh ≤ most_of m
-  capped = let left = left_below in let known = known_below in let walks = walks_below in omega (arith, left, known, walks)
+  capped = let left = left_below in let stale = stale_below m.hops in let known = known_below in let walks = walks_below in omega (arith, left, stale, known, walks)
 
 -- a chain with no more lost rows, and the same live ones
 pub rows_less : (m : Moment) (k : ℕ) (c c' : Chained) (cs : Chains) → chain_at k m.chains ≡ Some c → cs ≡ put_chain k c' m.chains → c'.incoming.tables.live ≡ c.incoming.tables.live → lost_in cs ≤ lost_in m.chains → rows_in cs ≤ rows_in m.chains
@@ -180,16 +192,8 @@ fin_below c = by_walk c.filter.walk
 pub fin_sends_below : (a : Chains) → fin_sends a ≤ 2 * rows_in a
 fin_sends_below a =
     let each = sum_fewer (λ (c : Chained). 2 * row_count c) fin_sends_of fin_below (tables.values a) in
-    let twice = sum_twice (tables.values a) in
+    let twice = rows_twice (tables.values a) in
     omega (arith, each, twice)
-  where
-    sum_twice : (cs : List Chained) → sum_by (λ (c : Chained). 2 * row_count c) cs ≡ 2 * sum_by row_count cs
-    sum_twice [] = refl
-    sum_twice (c ∷ cs) =
-        let rest = sum_twice cs in
-        let one = sum_by-cons (λ (d : Chained). 2 * row_count d) c cs in
-        let rows = sum_by-cons row_count c cs in
-        omega (arith, rest, one, rows)
 
 -- no more peers have exits than chains
 pub few_exits : (m : Moment) → Stands m → tables.len m.exits.chains ≤ tables.len m.chains
@@ -334,7 +338,7 @@ module _ (m : Moment) (stands : Stands m) (over : unread_if m.exits.queue m.read
       omega (arith, few, ebgp, ibgp, keys)
 
   -- and no more next hops are known
-  external_known_few : external_known m.rib ≤ rows_in m.chains + tree_count m.tree
+  pub external_known_few : external_known m.rib ≤ rows_in m.chains + tree_count m.tree
   external_known_few =
       let few = external_are_few m.rib (read_of m) (best_keys m) (stands.own ExternalExit) (stands.own ExternalStands)
       (λ q there. read_key q (external_there (read_of m q) (ap is_some (sym (ap (λ (rows : Rows External). rows q) (ext_is_of_best m.rib (read_of m) (stands.own ExternalStands)))) ∙ there))) in

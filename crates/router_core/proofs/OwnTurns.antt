@@ -1,5 +1,5 @@
 -- This speaker's own routes: what a change of them makes, and one turn of the walk of redistribution.
-use Rattle.std.proofs.Common.{◌≡◌, List, ◌++◌, Option, Some, None, is_some, Result, refl, sym, ap, subst, ◌∙◌}
+use Rattle.std.proofs.Common.{◌≡◌, List, ◌++◌, Option, Some, None, is_some, Result, refl, sym, ap, subst, ◌∙◌, arith}
 use Rattle.std.specs.Result.{OnOk}
 use Rattle.std.proofs.lemmas.Result.{on_ok_weaker}
 use Rattle.addr4.specs.Prefixes.{Network}
@@ -133,6 +133,9 @@ own_done me m m1 m' s own best stands since walks between d =
         falls = spent.0;
         left = spent.1;
         earlier = spent.2;
+        rows = spent.3;
+        known = (omega arith, omega arith);
+        unread = spent.4;
       };
     })
   where

@@ -36,15 +36,17 @@ use Rattle.router_core.specs.Printable.{IsHeard}
 use Rattle.router_core.proofs.HeardSteps.{heard_quiet, queue_views, falls_unheard}
 use Rattle.router_core.specs.Moments.{Moment, own_of, best_of, with_chains, with_hops, with_exits, router_links}
 use Rattle.router_core.specs.Stands.{IsSilent, PeerStands, Stands, HopsCounted, SmallNumbers, EachRow, open_session}
-use Rattle.router_core.specs.Turns.{Resolves, IsOfPeers, IsPeerTurn, IsTurn, sent_of, has_work, journal_lines}
-use Rattle.router_core.specs.Works.{IsUnit, Comes, SettlesPeer}
+use Rattle.router_core.specs.Turns.{Resolves, IsOfPeers, IsPeerTurn, IsTurn, phase_of, sent_of, has_work, journal_lines}
+use Rattle.router_core.specs.Works.{KnowsNoMore, IsUnit, Comes, SettlesPeer}
 use Rattle.peer_side.proofs.WeldLemmas.{fallen_at, weld_after, weld_keeps, nears_weld, adds_both}
 use Rattle.router_core.proofs.HopLemmas.{all_comes, falls_lead, hops_fall}
 use Rattle.router_core.proofs.BestLemmas.{best_of_none, best_quiet}
 use Rattle.router_core.proofs.HeardRows.{weld_heard, turned_heard, put_heard}
 use Rattle.router_core.proofs.QueueLemmas.{reader_live, queue_chains, exits_fall}
 use Rattle.router_core.proofs.MostLemmas.{rows_less}
-use Rattle.router_core.proofs.SpendLemmas.{Sends, turn_sends, peer_spends}
+use Rattle.router_core.proofs.SpendLemmas.{Sends, few_sent, turn_sends, peer_spends}
+use Rattle.router_core.proofs.ReadingLemmas.{queue_most}
+use Rattle.rib_exit.specs.Exits.{known_in as external_known}
 use Rattle.router_core.proofs.StandLemmas.{peer_of as peer_at_chain, resolver_there, speaker_there, same_peers, not_zero, external_agrees, stands_with, live_same}
 
 silent_as : (up : Bool) (c c' : Chained) → c'.incoming.tables.live ≡ c.incoming.tables.live → IsSilent up c → IsSilent up c'
@@ -78,6 +80,17 @@ lost_less (Rdel proto n) a a' near = absurd near
 lost_less Red a a' near = absurd near
 lost_less Ext a a' near = absurd near
 
+-- and none asks for the next hops of external routes
+peer_knows : (task : Task) (m m' : Moment) → m'.rib ≡ m.rib → Nears task m.chains m'.chains → KnowsNoMore (phase_of task) m m'
+peer_knows (Del k s) m m' same near = let e : external_known m'.rib ≡ external_known m.rib = ap external_known same in omega (arith, e)
+peer_knows (Fin k) m m' same near = let e : external_known m'.rib ≡ external_known m.rib = ap external_known same in omega (arith, e)
+peer_knows (Nh k) m m' same near = absurd near
+peer_knows ReadRib m m' same near = absurd near
+peer_knows (Out k) m m' same near = absurd near
+peer_knows (Rdel proto n) m m' same near = absurd near
+peer_knows Red m m' same near = absurd near
+peer_knows Ext m m' same near = absurd near
+
 -- a turn in a peer's chain, and what follows it, are one of the router
 unit_done : (task : Task) (sent : Option (Change Route)) (m : Moment) (fallen : Chains) (m' : Moment) (entries rest : List (Entry Value)) → Stands m → TakesInward task sent m.chains fallen entries
     → SettlesPeer (peer_of task) sent (with_chains m fallen) m' rest → IsUnit task m m' (journal_lines (entries ++ rest))
@@ -98,6 +111,9 @@ unit_done task sent m fallen m' entries rest stands t w =
         falls = (peer_spends task m after refl refl near sends).0;
         left = (peer_spends task m after refl refl near sends).1;
         earlier = (peer_spends task m after refl refl near sends).2;
+        rows = (peer_spends task m after refl refl near sends).3;
+        known = peer_knows task m after refl near;
+        unread = (peer_spends task m after refl refl near sends).4;
       };
     }))
   where
@@ -155,6 +171,7 @@ unit_done task sent m fallen m' entries rest stands t w =
       size = ap (λ (a : Chains). tables.len a) put ∙ put_size (peer_of task) t.turn.chain (welded t.turn.turned_chain) m.chains t.turn.at;
       exits = ap (λ (a : OutChains). tables.len a) (queue_chains m.exits m'.exits w.decided.best w.queued);
       fewer = turn_sends task m (peer_of task) t.turn.chain t.turn.turned_chain sent w.decided.best entries m'.chains m'.exits t.turn.at put t.turn.turned quiet_below w.queued near;
+      once = let most = queue_most w.decided.best m.exits m'.exits w.queued in let one = few_sent w.decided.best in omega (arith, most, one);
     }
 
 -- a turn that was taken, whether a change came out on `filt.K` or not

@@ -4,8 +4,8 @@ use Rattle.std.specs.Prelude.{IsSome}
 use Rattle.std.specs.List.{AllByRecursion, sum_by, list_any, range_with_len}
 use Rattle.std.specs.Option.{option_map}
 use Rattle.std.specs.FinMap as tables
-use Rattle.std.specs.FinMap.{FinMap}
-use Rattle.std.specs.Ordering.{nat_cmp}
+use Rattle.std.specs.FinMap.{FinMap, get-insert}
+use Rattle.std.specs.Ordering.{nat_cmp, eq_by_cmp}
 use Rattle.std.specs.Cmp.{nat_cmp_total}
 use Rattle.std.proofs.lemmas.List.Sums.{sum_by-cons}
 use Rattle.std.proofs.lemmas.Bool.Decides.{nat_tests}
@@ -20,7 +20,7 @@ use Rattle.link_change.specs.declared.change.Change.{Change}
 use Rattle.link_region.proofs.RegionLemmas.{by_bool}
 use Rattle.loss_chain.specs.Lost.{Lost}
 use Rattle.pass_core.specs.Left.{CountsBeyond}
-use Rattle.fanout_queue.specs.Queues.{Queued, AppendsToAll, IsMostUnread}
+use Rattle.fanout_queue.specs.Queues.{Queued, AppendsToAll, Takes, IsMostUnread}
 use Rattle.exit_side.specs.Exits.{Exited}
 use Rattle.in_chain.specs.Chains.{Chained, filt_beyond, filt_candidates, count_beyond, lost_beyond, row_count}
 use Rattle.in_chain.proofs.TurnLemmas.{candidates_are_counted}
@@ -115,6 +115,19 @@ pub queue_most : (best : Option (Change Route)) (e e' : Exited) → Queues best 
 queue_most None e e' q = let same : most_unread e' ≡ most_unread e = ap most_unread q in omega (arith, same)
 queue_most (Some c) e e' q = unread_within e'.queue (most_unread e + 1) (put_longer c e.queue e'.queue q.appends)
 
+-- what a reader takes leaves no more
+pub take_most : (queued after : Queued Route) (r : ℕ) (change : Option (Change Route)) → Takes queued after r change → longest_of (tables.values after) ≤ longest_of (tables.values queued)
+take_most queued after r None takes = let same : longest_of (tables.values after) ≡ longest_of (tables.values queued) = ap (λ (q : Queued Route). longest_of (tables.values q)) takes.1 in omega (arith, same)
+take_most queued after r (Some change) takes = unread_within after (longest_of (tables.values queued)) (λ j u at.
+    by_bool (eq_by_cmp nat_cmp j r) (λ b. cond b (Some takes.0) (tables.get queued j) ≡ Some u → length u ≤ longest_of (tables.values queued))
+    (λ _ here.
+    let same : takes.0 ≡ u = cc in
+    let size : length takes.0 ≡ length u = ap (λ (l : List (Change Route)). length l) same in
+    let was = unread_most queued r (change ∷ takes.0) takes.1 in
+    omega (arith, size, was))
+    (λ _ there. unread_most queued j u there)
+    (sym (get-insert nat_cmp_total queued r takes.0 j) ∙ ap (λ (q : Queued Route). tables.get q j) (sym takes.2) ∙ at))
+
 -- ---- the readers' turns, by their parts
 pub reading_less : (exits exits' unread unread' rows rows' sends sends' : ℕ) → exits' ≤ exits → rows' ≤ rows → unread' + sends' ≤ unread + sends → reading exits' unread' rows' sends' ≤ reading exits unread rows sends
 reading_less exits exits' unread unread' rows rows' sends sends' fewer less spent =
@@ -134,9 +147,9 @@ readers_within exits unread rows sends reader out few less =
 -- the bound that is announced
 pub announced_fits : (losses own stages walks hops changes sends exits unread rows routes peers known : ℕ) → losses ≤ routes → own ≤ 2 * (routes + 1) → stages ≤ rows → walks ≤ 2 * (rows + peers) → hops ≤ 3 * rows + 2 * peers
     → changes ≤ 2 * routes → sends ≤ 2 * rows → exits ≤ peers
-    → losses + (own + stages + walks + hops + reading exits unread (rows + routes) (losses + (changes + (stages + (sends + 3 * rows)))) + (3 * (rows + routes) + 2)) ≤ (peers + 2) * (unread + 9 * (rows + routes) + 2 * known + 6)
+    → losses + (own + stages + walks + hops + reading exits unread (rows + routes) (losses + (changes + (stages + (sends + 2 * rows)))) + (3 * (rows + routes) + 2)) ≤ (peers + 2) * (unread + 9 * (rows + routes) + 2 * known + 6)
 announced_fits losses own stages walks hops changes sends exits unread rows routes peers known a b c d e f g few =
-    let read = reading_less peers exits unread unread (rows + routes) (rows + routes) (6 * rows + 3 * routes) (losses + (changes + (stages + (sends + 3 * rows)))) few (omega arith) (omega (arith, a, c, f, g)) in
+    let read = reading_less peers exits unread unread (rows + routes) (rows + routes) (6 * rows + 3 * routes) (losses + (changes + (stages + (sends + 2 * rows)))) few (omega arith) (omega (arith, a, c, f, g)) in
     let parts : reading peers unread (rows + routes) (6 * rows + 3 * routes) ≡ unread + 6 * rows + 3 * routes + peers * (unread + 8 * rows + 5 * routes + 2) = grind arith in
     let more : peers * (unread + 8 * rows + 5 * routes + 6) ≤ peers * (unread + 9 * (rows + routes) + 2 * known + 6) = mul-le-mul_left peers (omega arith) in
     let split : peers * (unread + 8 * rows + 5 * routes + 6) ≡ peers * (unread + 8 * rows + 5 * routes + 2) + 4 * peers = grind arith in

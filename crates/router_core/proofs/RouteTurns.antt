@@ -16,7 +16,11 @@ use Rattle.journal_text.specs.Journals.{Journaled, Adds, with_entries, flushed}
 use Rattle.rib_tree.specs.Branches.{Branch}
 use Rattle.rib_tree.specs.BranchSteps.{welded_branch, swept_branch}
 use Rattle.loss_chain.specs.Steps.{swept_one, table_of}
-use Rattle.rib_tree.specs.Trees.{Treed, branch_of, tree_count}
+use Rattle.link_change.specs.Rows.{Rows}
+use Rattle.hop_side.specs.Resolvers.{known_in}
+use Rattle.rib_exit.specs.Exits.{known_in as external_known}
+use Rattle.rib_tree.specs.Trees.{Treed, branch_of, tree_count, int_rows}
+use Rattle.router_core.specs.Turns.{BelowInt}
 use Rattle.rib_tree.specs.Falls.{way_of_sweep}
 use Rattle.rib_tree.specs.Laws.{TurnsTakeRows, WeldsKeepRows}
 use Rattle.rib_tree.specs.Steps.{SweepsTree, IsTakenTree, swept_tree, welded_tree}
@@ -34,6 +38,11 @@ use Rattle.router_core.specs.Phases.{tree_beyond}
 use Rattle.router_core.proofs.BeyondLemmas.{sweep_beyond}
 use Rattle.router_core.proofs.CountLemmas.{tree_spends}
 use Rattle.rib_tree.proofs.NewLemmas.{of_new}
+
+-- ---- what follows a change of `int` asks for no next hop
+below_knows : (sent : Option (Change Interior)) (int : Rows Interior) (m m' : Moment) (entries : List (Entry Value)) → BelowInt sent int m m' entries → (known_in m'.hops ≤ known_in m.hops) × (external_known m'.rib ≤ external_known m.rib)
+below_knows None int m m' entries b = (let e : known_in m'.hops ≡ known_in m.hops = ap (λ (x : Moment). known_in x.hops) b.0 in omega (arith, e), let e : external_known m'.rib ≡ external_known m.rib = ap (λ (x : Moment). external_known x.rib) b.0 in omega (arith, e))
+below_knows (Some change) int m m' entries b = (let e = b.0.informed.resolvers.stays.known in omega (arith, e), let e = b.0.informed.external.stays.known in omega (arith, e))
 
 -- ---- before `local` no stage stands
 pub since_local : (m : Moment) (proto : Proto) (n : ℕ) (table : FinMap prefix_cmp Interior) → Stands m → table_of n (branch_of proto m.tree).tables.deletions ≡ Some table → (me : Speaker) × (m.declared.speaker ≡ Some me)
@@ -70,6 +79,9 @@ route_unit take keep m proto n sent t m' before j j' stands adds settles = (
       falls = spent.0;
       left = spent.1;
       earlier = spent.2;
+      rows = spent.3;
+      known = known;
+      unread = spent.4;
     };
   },
 )
@@ -107,6 +119,11 @@ route_unit take keep m proto n sent t m' before j j' stands adds settles = (
 
     less : (place : Option Network) → tree_beyond m'.tree place ≤ tree_beyond m.tree place
     less place = subst (λ (x : Treed). tree_beyond x place ≤ tree_beyond m.tree place) (sym (ap (λ (x : Moment). x.tree) settles.2.after ∙ ap (welded_tree proto) sweeps.after)) (sweep_beyond place proto n p m.tree)
+
+    -- what follows asks for no next hop
+    known : (known_in m'.hops ≤ known_in m.hops) × (external_known m'.rib ≤ external_known m.rib)
+    known = subst (λ (x : Moment). (known_in x.hops ≤ known_in m.hops) × (external_known x.rib ≤ external_known m.rib)) (sym settles.2.after)
+        (below_knows sent (int_rows t) (with_tree m t) settles.2.followed settles.2.below settles.2.below_int)
 
     spent : Spent RdelPhase m m'
     spent = tree_spends m m' r.2.best (ap (λ (x : Moment). x.chains) r.2.is) (ap (λ (x : Moment). x.redist) r.2.is) r.2.queued lives fewer less

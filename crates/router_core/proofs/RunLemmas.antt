@@ -20,11 +20,12 @@ use Rattle.router_core.specs.Lives.{live_state}
 use Rattle.router_core.specs.Stands.{Stands, AllHaveExits, SameCount}
 use Rattle.router_core.specs.Phases.{all_phases, beyonds, counts, earlier, left_from, most_of, reading_of, own_sends, sends_from_red, sends_from_del, sends_from_fin, fin_sends, nh_sends}
 use Rattle.router_core.specs.Turns.{IsTurn, Turns, RunsPhase, RunsAll, phase_of, next_task, has_work, IsOver, IsSettled}
-use Rattle.router_core.specs.Works.{Keeps, IsWork, IsUnit, HaveRun, HasDrained, HaveRunOf, HaveDrained, AllHaveDrained}
+use Rattle.router_core.specs.Works.{Keeps, AddsNoRows, KnowsNoMore, IsWork, IsUnit, HaveRun, HasDrained, HaveRunOf, HaveDrained, AllHaveDrained}
 use Rattle.router_core.proofs.KeepLemmas.{keeps_none, keeps_on, gives_join, gives_none, gives_so}
 use Rattle.router_core.proofs.MostLemmas.{capped, external_capped, sends_below, own_sends_below, fin_sends_below, few_exits}
 use Rattle.router_core.proofs.ReadingLemmas.{reading_less, readers_within, announced_fits}
-use Rattle.router_core.proofs.CountLemmas.{counts_below, over_none, none_over}
+use Rattle.router_core.proofs.CountLemmas.{counts_below, changes_below, over_none, none_over}
+use Rattle.router_core.proofs.SpendLemmas.{same_rows}
 use Rattle.router_core.proofs.NextLemmas.{next_works}
 use Rattle.router_core.proofs.ScratchLemmas.{settled_is_exact}
 use Rattle.router_core.proofs.TurnWalks.{phases_same, all_have_on}
@@ -37,11 +38,41 @@ none_more m [] = tt
 none_more m (e ∷ es) = (omega arith, none_more m es)
 
 work_none : (r : Phase) (m : Moment) → Stands m → IsWork r 0 m m []
-work_none r m stands = record { keeps = keeps_none m stands; falls = omega arith; left = omega arith; earlier = none_more m (earlier r) }
+work_none r m stands = record { keeps = keeps_none m stands; falls = omega arith; left = omega arith; earlier = none_more m (earlier r); rows = same_rows m m refl refl; known = none_known r; unread = omega arith }
+  where
+    none_known : (e : Phase) → KnowsNoMore e m m
+    none_known Del = omega arith
+    none_known Fin = omega arith
+    none_known ReadRib = omega arith
+    none_known Rdel = (omega arith, omega arith)
+    none_known Red = (omega arith, omega arith)
+    none_known Nh = (omega arith, omega arith)
+    none_known Out = (omega arith, omega arith)
+    none_known Ext = (omega arith, omega arith)
 
 no_more_then : (a b c : Moment) (es : List Phase) → AllByRecursion (λ e. counts b e ≤ counts a e) es → AllByRecursion (λ e. counts c e ≤ counts b e) es → AllByRecursion (λ e. counts c e ≤ counts a e) es
 no_more_then a b c [] x y = tt
 no_more_then a b c (e ∷ es) x y = (let p = x.0 in let q = y.0 in omega (arith, p, q), no_more_then a b c es x.1 y.1)
+
+rows_then : (a b c : Moment) → AddsNoRows a b → AddsNoRows b c → AddsNoRows a c
+rows_then a b c x y = record {
+  peers = let p = x.peers in let q = y.peers in omega (arith, p, q);
+  protocols = let p = x.protocols in let q = y.protocols in omega (arith, p, q);
+}
+
+both_less : (a b c : Moment) → (known_in b.hops ≤ known_in a.hops) × (external_known b.rib ≤ external_known a.rib) → (known_in c.hops ≤ known_in b.hops) × (external_known c.rib ≤ external_known b.rib)
+    → (known_in c.hops ≤ known_in a.hops) × (external_known c.rib ≤ external_known a.rib)
+both_less a b c x y = (let p = x.0 in let q = y.0 in omega (arith, p, q), let p = x.1 in let q = y.1 in omega (arith, p, q))
+
+known_then : (r : Phase) (a b c : Moment) → KnowsNoMore r a b → KnowsNoMore r b c → KnowsNoMore r a c
+known_then Del a b c x y = omega (arith, x, y)
+known_then Fin a b c x y = omega (arith, x, y)
+known_then ReadRib a b c x y = omega (arith, x, y)
+known_then Rdel a b c x y = both_less a b c x y
+known_then Red a b c x y = both_less a b c x y
+known_then Nh a b c x y = both_less a b c x y
+known_then Out a b c x y = both_less a b c x y
+known_then Ext a b c x y = both_less a b c x y
 
 work_join : (r : Phase) (n k : ℕ) (a b c : Moment) (xs ys : List Line) → IsWork r n a b xs → IsWork r k b c ys → IsWork r (n + k) a c (xs ++ ys)
 work_join r n k a b c xs ys x y = record {
@@ -49,6 +80,9 @@ work_join r n k a b c xs ys x y = record {
   falls = let p = x.falls in let q = y.falls in omega (arith, p, q);
   left = let p = x.left in let q = y.left in omega (arith, p, q);
   earlier = no_more_then a b c (earlier r) x.earlier y.earlier;
+  rows = rows_then a b c x.rows y.rows;
+  known = known_then r a b c x.known y.known;
+  unread = let p = x.unread in let q = y.unread in omega (arith, p, q);
 }
 
 -- ---- turns of a task
@@ -114,6 +148,7 @@ phase_done law left r m now turns before j stands g none gone = gives_so (HaveRu
   runs = record { count = p.count; runs = p.runs; none = sym none };
   work = p.work;
   most = let falls = p.work.falls in let below = counts_below law m r stands in omega (arith, falls, below);
+  rises = let unread = p.work.unread in let below = changes_below m r stands in omega (arith, unread, below);
   over = none_over left r now p.work.keeps.stands gone;
 }) before j g
 
@@ -127,6 +162,7 @@ rest_from (r ∷ rs) m = left_from r m
 pub record Idling (i turns : ℕ) (m now : Moment) (said : List Line) : Type 0 where
   pub runs : RunsAll (take i all_phases) m said turns now
   pub keeps : Keeps (live_state m) m now said
+  pub rows : AddsNoRows m now
   pub within : turns + rest_from (drop i all_phases) now ≤ left_from Rdel m
   pub over : AllByRecursion (λ e. counts now e ≡ 0) (take i all_phases)
 
@@ -221,7 +257,7 @@ bounds_fit m stands =
     (known_in m.hops + external_known m.rib) a b c (omega (arith, d, count)) (omega (arith, count)) own walks (omega (arith, few, count))
 
 pub idling_none : (m : Moment) (before j : Journaled) → Stands m → j ≡ flushed before → Gives (Idling 0 0 m m) before j
-idling_none m before j stands is = gives_none (Idling 0 0 m m) before j (record { runs = (refl, refl, refl); keeps = keeps_none m stands; within = omega arith; over = tt }) is
+idling_none m before j stands is = gives_none (Idling 0 0 m m) before j (record { runs = (refl, refl, refl); keeps = keeps_none m stands; rows = same_rows m m refl refl; within = omega arith; over = tt }) is
 
 pub idling_more : (i turns n : ℕ) (x : Phase) (m at now : Moment) (before j j' : Journaled) → i < length all_phases → Gives (Idling i turns m at) before j → Gives (HaveDrained (get_or all_phases i x) at n now) j j'
     → Gives (Idling (i + 1) (turns + n) m now) before j'
@@ -241,6 +277,7 @@ idling_more i turns n z m at now before j j' within g d = gives_join (Idling i t
         record {
           runs = subst (λ (l : List Phase). RunsAll l m (xs ++ ys) (turns + n) now) first (runs_push (take i all_phases) r turns n m at now xs ys x.runs y.runs);
           keeps = keeps_on m at now xs ys (live_state m) refl x.keeps y.work.keeps;
+          rows = rows_then m at now x.rows y.work.rows;
           within = omega (arith, was, left, next);
           over = subst (λ (l : List Phase). AllByRecursion (λ e. counts now e ≡ 0) l) first
               (all_appended (λ e. counts now e ≡ 0) (λ e. counts now e ≡ 0) (λ e none. none) (take i all_phases) r (over_more at now (take i all_phases) less x.over) (over_none r now y.over));
@@ -257,6 +294,7 @@ idling_done bounded left exact i turns m now before j stands exits past g = give
       runs = subst (λ (l : List Phase). RunsAll l m xs turns now) all x.runs;
       keeps = x.keeps;
       most = omega (arith, within, fits);
+      rows = x.rows;
       settled = settled;
       exact = settled_is_exact exact now x.keeps.stands (all_have_on m now (ap (λ (l : LiveState). l.declared) x.keeps.live) (phases_same all_phases m xs turns now (subst (λ (l : List Phase). RunsAll l m xs turns now) all x.runs)) exits) settled;
     }) before j g

@@ -1,5 +1,5 @@
 -- What a turn spends, of its phase and of an idle from that phase on: where a change of `best` may come, one candidate fewer is left.
-use Rattle.std.proofs.Common.{◌≡◌, ◌≢◌, ℕ, ◌+◌, ◌<◌, ◌≤◌, ◌⊎◌, Bool, true, false, nat_lt, List, [], ◌∷◌, Option, Some, None, is_some, refl, sym, ap, subst, ◌∙◌, inl, inr, arith}
+use Rattle.std.proofs.Common.{◌≡◌, ◌≢◌, ℕ, ◌+◌, ◌<◌, ◌≤◌, ◌⊎◌, Bool, true, false, not, nat_lt, List, [], ◌∷◌, Option, Some, None, is_some, refl, sym, ap, subst, ◌∙◌, inl, inr, arith}
 use Rattle.std.specs.List.{AllByRecursion, sum_by}
 use Rattle.std.specs.Option.{option_map}
 use Rattle.std.proofs.lemmas.Bool.Decides.{nat_tests}
@@ -27,9 +27,9 @@ use Rattle.journal_text.specs.declared.link.Task.{Task}
 use Rattle.journal_text.specs.declared.link.Task.TheVariants.{Del, Fin, Nh, ReadRib, Out, Rdel, Red, Ext}
 use Rattle.journal_text.specs.declared.entry.Entry.{Entry}
 use Rattle.journal_text.specs.declared.value.Value.{Value}
-use Rattle.nexthop_known.specs.Hops.{Hops, is_stale_at, stale_count, settled, IsMapped}
+use Rattle.nexthop_known.specs.Hops.{Hops, is_stale_at, stale_count, settled, IsMapped, IsLeastStale}
 use Rattle.nexthop_known.specs.declared.answer.Hop.{Hop}
-use Rattle.nexthop_known.proofs.StaleLemmas.{same_count}
+use Rattle.nexthop_known.proofs.StaleLemmas.{same_count, some_counts, none_stale}
 use Rattle.nexthop_resolver.specs.declared.rows.Metric.{Metric}
 use Rattle.nexthop_resolver.specs.Kept.{route_hop, metric_of, with_metric}
 use Rattle.nexthop_resolver.specs.Resolving.{Resolving, Answers, walk_to, fresh_by, in_force_by, passes, begun}
@@ -48,8 +48,9 @@ use Rattle.router_core.specs.declared.router.Phase.{Phase}
 use Rattle.router_core.specs.declared.router.Phase.TheVariants as phases
 use Rattle.router_core.specs.Bests.{Queues}
 use Rattle.router_core.specs.Moments.{Moment, with_hops, with_exits, with_redist, most_unread}
-use Rattle.router_core.specs.Phases.{beyonds, counts, most_of, tree_lost, tree_beyond, earlier, left_from, own_waiting, own_sends_by, sends_from_fin, sends_from_del, fin_sends, fin_sends_of, walk_candidates, waiting_candidates, nh_sends, nh_sends_of, place_candidates, next_candidates}
+use Rattle.router_core.specs.Phases.{beyonds, counts, most_of, tree_lost, tree_beyond, earlier, left_from, changes_left, own_waiting, own_sends_by, sends_from_fin, sends_from_del, fin_sends, fin_sends_of, walk_candidates, waiting_candidates, nh_sends, nh_sends_of, place_candidates, next_candidates}
 use Rattle.router_core.specs.Turns.{phase_of}
+use Rattle.router_core.specs.Works.{AddsNoRows}
 use Rattle.router_core.proofs.QueueLemmas.{queue_chains}
 use Rattle.router_core.proofs.BeyondLemmas.{tree_counted}
 use Rattle.router_core.proofs.ReadingLemmas.{sent_count, queue_most, reading_less}
@@ -140,6 +141,7 @@ pub record Sends (m m' : Moment) : Type 0 where
   pub size : tables.len m'.chains ≡ tables.len m.chains
   pub exits : tables.len m'.exits.chains ≡ tables.len m.exits.chains
   pub fewer : most_unread m'.exits + (lost_in m'.chains + fin_sends m'.chains) ≤ most_unread m.exits + (lost_in m.chains + fin_sends m.chains)
+  pub once : most_unread m'.exits ≤ most_unread m.exits + 1
 
 pub few_sent : (o : Option (Change Route)) → sent_count o ≤ 1
 few_sent None = omega arith
@@ -179,9 +181,21 @@ turn_sends task m k c less sent best fall cs e at put turned quiet queued near =
     walks : (t : Task) → ((j s : ℕ) → t ≢ Del j s) → Nears t m.chains cs → lost_in cs + left_in cs + 1 ≤ lost_in m.chains + left_in m.chains
     walks t other n = nearer t n
 
--- what a turn of a task spends
+-- what a turn of a task spends, and that it adds no row, and no more changes than it spends
 abbrev pub Spent : Phase → Moment → Moment → Type 0
-Spent r m m' = (counts m' r + 1 ≤ counts m r) × (left_from r m' + 1 ≤ left_from r m) × AllByRecursion (λ e. counts m' e ≤ counts m e) (earlier r)
+Spent r m m' =
+    (counts m' r + 1 ≤ counts m r) × (left_from r m' + 1 ≤ left_from r m) × AllByRecursion (λ e. counts m' e ≤ counts m e) (earlier r) × AddsNoRows m m'
+    × (most_unread m'.exits + changes_left r m' ≤ most_unread m.exits + changes_left r m)
+
+-- where the chains and the tree stay, and no reader has more to read
+pub same_rows : (m m' : Moment) → m'.chains ≡ m.chains → m'.tree ≡ m.tree → AddsNoRows m m'
+same_rows m m' chains tree = record {
+  peers = let e : rows_in m'.chains ≡ rows_in m.chains = ap rows_in chains in omega (arith, e);
+  protocols = let e : tree_count m'.tree ≡ tree_count m.tree = ap tree_count tree in omega (arith, e);
+}
+
+peer_rows : (m m' : Moment) → m'.tree ≡ m.tree → Sends m m' → AddsNoRows m m'
+peer_rows m m' tree s = record { peers = s.rows; protocols = let e : tree_count m'.tree ≡ tree_count m.tree = ap tree_count tree in omega (arith, e) }
 
 same_lost : (m m' : Moment) → m'.tree ≡ m.tree → counts m' phases.Rdel ≤ counts m phases.Rdel
 same_lost m m' tree = let e : tree_lost m'.tree ≡ tree_lost m.tree = ap tree_lost tree in omega (arith, e)
@@ -208,7 +222,8 @@ peer_spends (Del n s) m m' tree redist near sends =
     let routes = same_routes m m' tree in
     let read = reading_less (tables.len m.exits.chains) (tables.len m'.exits.chains) (most_unread m.exits) (most_unread m'.exits) (rows_in m.chains + tree_count m.tree) (rows_in m'.chains + tree_count m'.tree)
     (sends_from_del m) (sends_from_del m') (omega (arith, exits)) (omega (arith, rows, routes)) (omega (arith, fewer, rows)) in
-    (omega (arith, a), omega (arith, a, b, most, rows, routes, read), (same_lost m m' tree, (same_own m m' tree redist, tt)))
+    let once = sends.once in
+    (omega (arith, a), omega (arith, a, b, most, rows, routes, read), (same_lost m m' tree, (same_own m m' tree redist, tt)), peer_rows m m' tree sends, omega (arith, once, a))
 peer_spends (Fin n) m m' tree redist near sends =
     let a = near.0 in
     let b = near.1 in
@@ -219,7 +234,7 @@ peer_spends (Fin n) m m' tree redist near sends =
     let routes = same_routes m m' tree in
     let read = reading_less (tables.len m.exits.chains) (tables.len m'.exits.chains) (most_unread m.exits) (most_unread m'.exits) (rows_in m.chains + tree_count m.tree) (rows_in m'.chains + tree_count m'.tree)
     (sends_from_fin m) (sends_from_fin m') (omega (arith, exits)) (omega (arith, rows, routes)) (omega (arith, fewer, rows, a)) in
-    (omega (arith, b), omega (arith, b, most, rows, routes, read), (same_lost m m' tree, (same_own m m' tree redist, (omega (arith, a), tt))))
+    (omega (arith, b), omega (arith, b, most, rows, routes, read), (same_lost m m' tree, (same_own m m' tree redist, (omega (arith, a), tt))), peer_rows m m' tree sends, omega (arith, fewer, a))
 peer_spends (Nh n) m m' tree redist near sends = absurd near
 peer_spends ReadRib m m' tree redist near sends = absurd near
 peer_spends (Out n) m m' tree redist near sends = absurd near
@@ -256,9 +271,9 @@ own_spends me m s own best e walks quiet queued =
     let exits : tables.len e.chains ≡ tables.len m.exits.chains = ap (λ (a : OutChains). tables.len a) (queue_chains m.exits e best queued) in
     let read = reading_less (tables.len m.exits.chains) (tables.len e.chains) (most_unread m.exits) (most_unread e) (rows_in m.chains + tree_count m.tree) (rows_in m.chains + tree_count m.tree)
     (own_sends_by m.tree m.redist.walk + sends_from_del m) (own_sends_by m.tree s.walk + sends_from_del m) (omega (arith, exits)) (omega arith) (omega (arith, sends, most)) in
-    (omega (arith, fewer), omega (arith, fewer, read), (omega arith, tt))
+    (omega (arith, fewer), omega (arith, fewer, read), (omega arith, tt), record { peers = omega arith; protocols = omega arith }, omega (arith, sends, most))
 
--- ---- walks of next hops: candidates, and ends
+-- ---- walks of next hops: candidates, stale ones, and ends
 abbrev pub need_ends : Bool → ℕ
 need_ends true = 1
 need_ends false = 0
@@ -268,7 +283,7 @@ place_ends None = 0
 place_ends (Some place) = 1
 
 abbrev pub hop_ends : Resolving Metric → ℕ
-hop_ends s = place_ends s.walk + need_ends (is_needed (is_some s.walk) (stale_count s.known) (differing_count same_metric s.known))
+hop_ends s = place_ends s.walk + stale_count s.known + need_ends (is_needed (is_some s.walk) (stale_count s.known) (differing_count same_metric s.known))
 
 few_needed : (b : Bool) → need_ends b ≤ 1
 few_needed true = omega arith
@@ -316,6 +331,28 @@ ends_more stale stale' differing same = by_bool (nat_lt 0 stale) (λ b. need_end
     (λ e. let more : nat_lt 0 (stale' + differing) ≡ true = (let lt : 0 < stale = grind (arith, nat_tests) in let lt' : 0 < stale' + differing = omega (arith, lt, same) in grind (arith, nat_tests)) in subst (λ b. 1 ≤ need_ends b) (sym more) (omega arith))
     (λ _. omega arith)
 
+-- where one is asked for again, no walk is on, before and after, and one was to come
+asked_sends : (b : Beyonds) (old new : Resolving Metric) (a : ℕ) → old.walk ≡ None → new.walk ≡ None → new.client ≡ old.client → IsLeastStale (tables.get old.known) (Some a) → nh_sends_of b new ≤ nh_sends_of b old
+asked_sends b old new a off still client least =
+    let some = some_counts is_stale_at old.known a refl (ap (λ o. is_stale_at o) least.0.1 ∙ ap (λ c. not (is_some c)) least.0.2) in
+    let due : nat_lt 0 (stale_count old.known + differing_count same_metric old.known) ≡ true = (let lt : 0 < stale_count old.known + differing_count same_metric old.known = omega (arith, some) in grind (arith, nat_tests)) in
+    let was : nh_sends_of b old ≡ 0 + next_candidates (b old.client) (nat_lt 0 (stale_count old.known + differing_count same_metric old.known)) =
+    ap (λ w. place_candidates (b old.client) w + next_candidates (b old.client) (is_needed (is_some w) (stale_count old.known) (differing_count same_metric old.known))) off in
+    let all : next_candidates (b old.client) (nat_lt 0 (stale_count old.known + differing_count same_metric old.known)) ≡ b old.client None = ap (next_candidates (b old.client)) due in
+    let is : nh_sends_of b new ≡ 0 + next_candidates (b new.client) (nat_lt 0 (stale_count new.known + differing_count same_metric new.known)) =
+    ap (λ w. place_candidates (b new.client) w + next_candidates (b new.client) (is_needed (is_some w) (stale_count new.known) (differing_count same_metric new.known))) still in
+    let most = at_most (b new.client) (nat_lt 0 (stale_count new.known + differing_count same_metric new.known)) in
+    let same : b new.client None ≡ b old.client None = ap (λ (k : ℕ). b k None) client in
+    omega (arith, was, all, is, most, same)
+  where
+    at_most : (beyond : Option Network → ℕ) (needed : Bool) → next_candidates beyond needed ≤ beyond None
+    at_most beyond true = omega arith
+    at_most beyond false = omega arith
+
+-- a turn goes to a candidate, or sends nothing: then it ends a walk, or asks for a next hop again
+abbrev TurnEnds : Resolving Metric → Resolving Metric → Option (Change Route) → Type 0
+TurnEnds old new sent = (hop_ends old ≤ hop_ends new) ⊎ (((sent ≡ None) × (hop_ends old ≤ hop_ends new + 1)) ⊎ ((sent ≡ None) × ((b : Beyonds) → nh_sends_of b new ≤ nh_sends_of b old)))
+
 module _ (candidates : Candidates) (upper : Rows Route) where
   -- a step of a walk
   step_ends : (old new : Resolving Metric) (sent : Option (Change Route)) → Steps route_hop with_metric candidates upper old new sent → (hop_ends old ≤ hop_ends new) ⊎ ((sent ≡ None) × (hop_ends old ≤ hop_ends new + 1))
@@ -324,45 +361,45 @@ module _ (candidates : Candidates) (upper : Rows Route) where
       was : (place : Option Network) × (old.walk ≡ Some place) × (s.walks.walk.waiting ≡ None)
       was = on_at (fresh_by old.known) old.walk s.walks.walk s.walks.on
 
-      old_ends : hop_ends old ≡ 1 + need_ends (nat_lt 0 (stale_count old.known))
-      old_ends = ap (λ w. place_ends w + need_ends (is_needed (is_some w) (stale_count old.known) (differing_count same_metric old.known))) was.1
+      old_ends : hop_ends old ≡ 1 + stale_count old.known + need_ends (nat_lt 0 (stale_count old.known))
+      old_ends = ap (λ w. place_ends w + stale_count old.known + need_ends (is_needed (is_some w) (stale_count old.known) (differing_count same_metric old.known))) was.1
 
       by_next : (next : Option Network) → passes new ≡ walked_on next (passes old) → (next ≡ None → sent ≡ None) → (hop_ends old ≤ hop_ends new) ⊎ ((sent ≡ None) × (hop_ends old ≤ hop_ends new + 1))
       by_next None is changes =
           let over : walk_to (fresh_by new.known) new.walk ≡ None = ap (λ (x : Passed (Answers Metric)). x.walk) is ∙ ap (λ (o : Option (Walked (Answers Metric))). (after_walk (in_force_by old.known) o).walk) s.walks.on ∙ ap walk_of_waiting was.2 in
           let off = off_at (fresh_by new.known) new.walk over in
           let known = as_many_stale old.known new.known (subst (λ w. KnownAfter w old.known new.known) off s.known) in
-          let new_ends : hop_ends new ≡ 0 + need_ends (nat_lt 0 (stale_count new.known + differing_count same_metric new.known)) = ap (λ w. place_ends w + need_ends (is_needed (is_some w) (stale_count new.known) (differing_count same_metric new.known))) off in
+          let new_ends : hop_ends new ≡ 0 + stale_count new.known + need_ends (nat_lt 0 (stale_count new.known + differing_count same_metric new.known)) = ap (λ w. place_ends w + stale_count new.known + need_ends (is_needed (is_some w) (stale_count new.known) (differing_count same_metric new.known))) off in
           let more = ends_more (stale_count old.known) (stale_count new.known) (differing_count same_metric new.known) known in
           let was_ends = old_ends in
-          inr (changes refl, omega (arith, was_ends, new_ends, more))
+          inr (changes refl, omega (arith, was_ends, new_ends, more, known))
       by_next (Some p) is changes =
           let on : walk_to (fresh_by new.known) new.walk ≡ walk_stepped (Some s.walks.walk) p = ap (λ (x : Passed (Answers Metric)). x.walk) is ∙ ap (λ o. walk_stepped o p) s.walks.on in
           let now = on_at (fresh_by new.known) new.walk (record s.walks.walk { place = Some p }) on in
           let known : new.known ≡ old.known = subst (λ w. KnownAfter w old.known new.known) now.1 s.known in
-          let new_ends : hop_ends new ≡ 1 + need_ends (nat_lt 0 (stale_count new.known)) = ap (λ w. place_ends w + need_ends (is_needed (is_some w) (stale_count new.known) (differing_count same_metric new.known))) now.1 in
+          let new_ends : hop_ends new ≡ 1 + stale_count new.known + need_ends (nat_lt 0 (stale_count new.known)) = ap (λ w. place_ends w + stale_count new.known + need_ends (is_needed (is_some w) (stale_count new.known) (differing_count same_metric new.known))) now.1 in
           let same : need_ends (nat_lt 0 (stale_count new.known)) ≡ need_ends (nat_lt 0 (stale_count old.known)) = ap (λ (h : Hops Metric). need_ends (nat_lt 0 (stale_count h))) known in
+          let stale : stale_count new.known ≡ stale_count old.known = ap (λ (h : Hops Metric). stale_count h) known in
           let was_ends = old_ends in
-          inl (omega (arith, was_ends, new_ends, same))
+          inl (omega (arith, was_ends, new_ends, same, stale))
 
-  -- where none is on, one end at most is left
-  off_ends : (old : Resolving Metric) → old.walk ≡ None → hop_ends old ≤ 1
-  off_ends old off =
+  -- where none is on and none is stale, one end at most is left
+  off_ends : (old : Resolving Metric) → old.walk ≡ None → stale_count old.known ≡ 0 → hop_ends old ≤ 1
+  off_ends old off fresh =
       let few = few_needed (is_needed (is_some old.walk) (stale_count old.known) (differing_count same_metric old.known)) in
       let none : place_ends old.walk ≡ 0 = ap place_ends off in
-      omega (arith, few, none)
+      omega (arith, few, none, fresh)
 
-  turn_ends : (was is : Registry Interior) (old new : Resolving Metric) (sent : Option (Change Route)) → HopTurned route_hop with_metric candidates upper metric_of was is old new sent
-      → (hop_ends old ≤ hop_ends new) ⊎ ((sent ≡ None) × (hop_ends old ≤ hop_ends new + 1))
-  turn_ends was is old new sent (inl goes) = step_ends old new sent goes.steps
-  turn_ends was is old new sent (inr (inl asks)) = let few = off_ends old asks.off in inr (asks.none_sent, omega (arith, few))
+  turn_ends : (was is : Registry Interior) (old new : Resolving Metric) (sent : Option (Change Route)) → HopTurned route_hop with_metric candidates upper metric_of was is old new sent → TurnEnds old new sent
+  turn_ends was is old new sent (inl goes) = elim (step_ends old new sent goes.steps) as (λ _. TurnEnds old new sent) [ inl more ↦ inl more | inr over ↦ inr (inl over) ]
+  turn_ends was is old new sent (inr (inl asks)) = inr (inr (asks.none_sent, λ b. asked_sends b old new asks.next_hop asks.off asks.walk asks.client asks.least))
   turn_ends was is old new sent (inr (inr begins)) = by_next begins.steps.walks.next begins.steps.walks.after (none_sent begins.steps.walks.next _ _ sent begins.steps.walks.changes)
     where
       few : hop_ends old ≤ 1
-      few = off_ends old begins.off
+      few = off_ends old begins.off ((none_stale old.known).0 begins.none_stale)
 
-      by_next : (next : Option Network) → passes new ≡ walked_on next (passes (begun old)) → (next ≡ None → sent ≡ None) → (hop_ends old ≤ hop_ends new) ⊎ ((sent ≡ None) × (hop_ends old ≤ hop_ends new + 1))
-      by_next None is changes = let f = few in inr (changes refl, omega (arith, f))
+      by_next : (next : Option Network) → passes new ≡ walked_on next (passes (begun old)) → (next ≡ None → sent ≡ None) → TurnEnds old new sent
+      by_next None is changes = let f = few in inr (inl (changes refl, omega (arith, f)))
       by_next (Some p) is changes =
           let on : walk_to (fresh_by new.known) new.walk ≡ walk_stepped (Some begins.steps.walks.walk) p = ap (λ (x : Passed (Answers Metric)). x.walk) is ∙ ap (λ o. walk_stepped o p) begins.steps.walks.on in
           let now = on_at (fresh_by new.known) new.walk (record begins.steps.walks.walk { place = Some p }) on in
@@ -375,13 +412,18 @@ pub hop_spends : (m : Moment) (k : ℕ) (candidates : Candidates) (upper : Rows 
     → Spent phases.Nh m (with_exits (with_hops m r h) e)
 hop_spends m k candidates upper r h e resolver taken sent best at turned after quiet queued fewer =
     let read = reading_less (tables.len m.exits.chains) (tables.len e.chains) (most_unread m.exits) (most_unread e) (rows_in m.chains + tree_count m.tree) (rows_in m.chains + tree_count m.tree) (nh_sends (beyonds m.chains) m.hops) (nh_sends (beyonds m.chains) h) exits (omega arith) spent in
-    (fewer, omega (arith, fewer, read), (omega arith, (omega arith, (omega arith, (omega arith, tt)))))
+    let sends = spent in
+    (fewer, omega (arith, fewer, read), (omega arith, (omega arith, (omega arith, (omega arith, tt)))), record { peers = omega arith; protocols = omega arith }, sends)
   where
     exits : tables.len e.chains ≤ tables.len m.exits.chains
     exits = let same : tables.len e.chains ≡ tables.len m.exits.chains = ap (λ (a : OutChains). tables.len a) (queue_chains m.exits e best queued) in omega (arith, same)
 
     replaced : nh_ends h + hop_ends resolver ≡ nh_ends m.hops + hop_ends taken
     replaced = subst (λ (x : Resolvers). nh_ends x + hop_ends resolver ≡ nh_ends m.hops + hop_ends taken) (sym after) (sum_replaced nat_cmp nat_cmp_total hop_ends m.hops k taken resolver at)
+
+    sends_replaced : nh_sends (beyonds m.chains) h + nh_sends_of (beyonds m.chains) resolver ≡ nh_sends (beyonds m.chains) m.hops + nh_sends_of (beyonds m.chains) taken
+    sends_replaced = subst (λ (x : Resolvers). nh_sends (beyonds m.chains) x + nh_sends_of (beyonds m.chains) resolver ≡ nh_sends (beyonds m.chains) m.hops + nh_sends_of (beyonds m.chains) taken) (sym after)
+        (sum_replaced nat_cmp nat_cmp_total (nh_sends_of (beyonds m.chains)) m.hops k taken resolver at)
 
     spent : most_unread e + nh_sends (beyonds m.chains) h ≤ most_unread m.exits + nh_sends (beyonds m.chains) m.hops
     spent =
@@ -390,7 +432,15 @@ hop_spends m k candidates upper r h e resolver taken sent best at turned after q
         let now = nh_parted (beyonds m.chains) h in
         let was = nh_parted (beyonds m.chains) m.hops in
         let ends = replaced in
-        elim (turn_ends candidates upper m.registry r resolver taken sent turned) as (λ _. most_unread e + nh_sends (beyonds m.chains) h ≤ most_unread m.exits + nh_sends (beyonds m.chains) m.hops) [
-          | inl more ↦ omega (arith, most, one, now, was, ends, more, fewer)
-          | inr over ↦ let none : sent_count best ≡ 0 = ap sent_count (quiet over.0) in let less = over.1 in omega (arith, most, none, now, was, ends, less, fewer)
-        ]
+        by_ends most one now was ends (turn_ends candidates upper m.registry r resolver taken sent turned)
+      where
+        by_ends : most_unread e ≤ most_unread m.exits + sent_count best → sent_count best ≤ 1 → hops_left_in (beyonds m.chains) h ≡ nh_sends (beyonds m.chains) h + nh_ends h
+            → hops_left_in (beyonds m.chains) m.hops ≡ nh_sends (beyonds m.chains) m.hops + nh_ends m.hops → nh_ends h + hop_ends resolver ≡ nh_ends m.hops + hop_ends taken → TurnEnds resolver taken sent
+            → most_unread e + nh_sends (beyonds m.chains) h ≤ most_unread m.exits + nh_sends (beyonds m.chains) m.hops
+        by_ends most one now was ends (inl more) = omega (arith, most, one, now, was, ends, more, fewer)
+        by_ends most one now was ends (inr (inl over)) = let none : sent_count best ≡ 0 = ap sent_count (quiet over.0) in let less = over.1 in omega (arith, most, none, now, was, ends, less, fewer)
+        by_ends most one now was ends (inr (inr asked)) =
+            let none : sent_count best ≡ 0 = ap sent_count (quiet asked.0) in
+            let less = asked.1 (beyonds m.chains) in
+            let sum = sends_replaced in
+            omega (arith, most, none, less, sum)

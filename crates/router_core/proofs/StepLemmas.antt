@@ -61,6 +61,7 @@ idled m m' bound turns before j j2 j3 now stands same small first g last is =
       bound = same;
       keeps = keeps_on m m m' (lines.Bound bound ∷ []) (p.0 ++ lines.Idle turns ∷ []) (live_state m) refl (keeps_said m (lines.Bound bound ∷ []) stands (refl, (refl, tt)))
           (keeps_on m m' m' p.0 (lines.Idle turns ∷ []) (live_state m) refl p.2.keeps (keeps_said m' (lines.Idle turns ∷ []) p.2.keeps.stands (refl, (refl, tt))));
+      rows = p.2.rows;
     })
 
 pub worked : (m m' : Moment) (task : Task) (most turns : ℕ) (before j j2 now : Journaled) → Gives (AreTurns task most m turns m') before j → j2 ≡ with_lines j (lines.Work turns ∷ []) → now ≡ flushed j2

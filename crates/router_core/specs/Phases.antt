@@ -89,6 +89,13 @@ counts m ReadRib = length (unread_if m.exits.queue m.reader)
 counts m Out = exits_left_in (best_beyond m.chains m.tree) m.exits
 counts m Ext = external_left (external_beyond m.rib) m.rib
 
+-- how many next hops of a peer are stale, and how many those of all peers are, each peer's its own
+abbrev pub stale_of : Resolving Metric → ℕ
+stale_of s = stale_count s.known
+
+abbrev pub stale_in : Resolvers → ℕ
+stale_in a = sum_by stale_of (tables.values a)
+
 -- how many turns next hops take at most, whatever became stale: each names a row, and two whole walks of each peer may be left
 abbrev pub most_of : Moment → ℕ
 most_of m = 3 * rows_in m.chains + 2 * tables.len m.chains
@@ -117,11 +124,10 @@ abbrev pub next_candidates : (Option Network → ℕ) → Bool → ℕ
 next_candidates beyond true = beyond None
 next_candidates beyond false = 0
 
--- of the walk of a peer's next hops, and of the one that comes next; a next hop that is asked for again is counted, too
+-- of the walk of a peer's next hops, and of the one that comes next: nothing is sent where a next hop is asked for again
 abbrev pub nh_sends_of : Beyonds → Resolving Metric → ℕ
 nh_sends_of beyonds s =
-    place_candidates (beyonds s.client) s.walk + stale_count s.known
-    + next_candidates (beyonds s.client) (is_needed (is_some s.walk) (stale_count s.known) (differing_count same_metric s.known))
+    place_candidates (beyonds s.client) s.walk + next_candidates (beyonds s.client) (is_needed (is_some s.walk) (stale_count s.known) (differing_count same_metric s.known))
 
 abbrev pub nh_sends : Beyonds → Resolvers → ℕ
 nh_sends beyonds a = sum_by (nh_sends_of beyonds) (tables.values a)
@@ -154,13 +160,24 @@ external_most m = 3 * (rows_in m.chains + tree_count m.tree) + 2
 
 -- how many changes of `best` the phases from each on may make
 abbrev pub sends_from_fin : Moment → ℕ
-sends_from_fin m = fin_sends m.chains + 3 * rows_in m.chains
+sends_from_fin m = fin_sends m.chains + 2 * rows_in m.chains
 
 abbrev pub sends_from_del : Moment → ℕ
 sends_from_del m = counts m Del + sends_from_fin m
 
 abbrev pub sends_from_red : Moment → ℕ
 sends_from_red m = own_sends m + sends_from_del m
+
+-- how many changes of `best` a phase may make
+abbrev pub changes_left : Phase → Moment → ℕ
+changes_left Rdel m = counts m Rdel
+changes_left Red m = own_sends m
+changes_left Del m = counts m Del
+changes_left Fin m = fin_sends m.chains
+changes_left Nh m = nh_sends (beyonds m.chains) m.hops
+changes_left ReadRib m = 0
+changes_left Out m = 0
+changes_left Ext m = 0
 
 -- how many turns an idle takes at most from a phase on
 abbrev pub left_from : Phase → Moment → ℕ

@@ -16,7 +16,7 @@ use Rattle.journal_text.specs.declared.entry.Entry.{Entry}
 use Rattle.journal_text.specs.declared.line.Line.{Line}
 use Rattle.journal_text.specs.declared.line.Line.TheVariants as lines
 use Rattle.in_chain.specs.Chains.{Chained, filt_rows, filt_candidates}
-use Rattle.hop_side.specs.Resolvers.{Resolvers, PeerRows, AllCounted, has_hop_work, known_in}
+use Rattle.hop_side.specs.Resolvers.{Resolvers, PeerRows, AllCounted, has_hop_work}
 use Rattle.hop_side.specs.Steps.{TakesHop, TurnsBelow, ReachesBelow, KeepsAgreed, ComesOn, GoesOn, res_entries}
 use Rattle.peer_side.specs.Peers.{Chains, chain_at, peer_of, has_peer_work, deletion_tasks, filter_tasks, rows_in}
 use Rattle.peer_side.specs.Steps.{FeedsInward, TakesInward, WeldsInward}
@@ -45,7 +45,7 @@ use Rattle.pass_core.specs.Turns.{IsPassedOn, Walks, passed_rows}
 use Rattle.redist.specs.declared.protos.Protos.{Protos}
 use Rattle.redist.specs.Local.{redistributed}
 use Rattle.rib_exit.specs.declared.exit.RibExit.{RibExit}
-use Rattle.rib_exit.specs.Exits.{has_ext_work, known_in as external_known}
+use Rattle.rib_exit.specs.Exits.{has_ext_work, stale_in as external_stale}
 use Rattle.rib_exit.specs.Steps.{TakesExternal, TakesInterior, ReachesExit, TurnsExit as TurnsExternal}
 use Rattle.fanout_queue.specs.Queues.{Takes}
 use Rattle.out_chain.specs.Chains.{is_unread}
@@ -53,7 +53,7 @@ use Rattle.exit_side.specs.Exits.{Exited, with_queue, has_exit_work}
 use Rattle.exit_side.specs.Steps.{TurnsExit}
 use Rattle.journal_text.specs.Values.{route_value, sent_entries}
 use Rattle.router_core.specs.Bests.{all_at, own_entries, DecidesOn, Queues}
-use Rattle.router_core.specs.Phases.{unread_if, external_beyond}
+use Rattle.router_core.specs.Phases.{unread_if, external_beyond, stale_in}
 use Rattle.router_core.specs.Moments.{Moment, own_of, best_of, candidates_of, most_unread, with_chains, with_hops, with_tree, with_exits, with_redist, with_rib}
 
 abbrev pub journal_lines : List (Entry Value) → List Line
@@ -304,10 +304,21 @@ phase_bound phases.Rdel m = tree_count m.tree
 phase_bound phases.Red m = 2 * (tree_count m.tree + 1)
 phase_bound phases.Del m = rows_in m.chains
 phase_bound phases.Fin m = 2 * (rows_in m.chains + tables.len m.chains)
-phase_bound phases.Nh m = known_in m.hops + 2 * (rows_in m.chains + tables.len m.chains)
+phase_bound phases.Nh m = stale_in m.hops + 2 * (rows_in m.chains + tables.len m.chains)
 phase_bound phases.ReadRib m = most_unread m.exits
 phase_bound phases.Out m = tables.len m.exits.chains * (most_unread m.exits + 2 * (rows_in m.chains + tree_count m.tree + 1))
-phase_bound phases.Ext m = external_known m.rib + 2 * (external_beyond m.rib None + 1)
+phase_bound phases.Ext m = external_stale m.rib + 2 * (external_beyond m.rib None + 1)
+
+-- by how much the most changes that a reader hasn't taken rise in a phase at most
+abbrev pub rise_bound : Phase → Moment → ℕ
+rise_bound phases.Rdel m = tree_count m.tree
+rise_bound phases.Red m = 2 * tree_count m.tree
+rise_bound phases.Del m = rows_in m.chains
+rise_bound phases.Fin m = 2 * rows_in m.chains
+rise_bound phases.Nh m = 2 * rows_in m.chains
+rise_bound phases.ReadRib m = 0
+rise_bound phases.Out m = 0
+rise_bound phases.Ext m = 0
 
 -- no stage of the phase stands, no walk of it is on, and no next hop has work
 abbrev pub IsOver : Phase → Moment → Type 0

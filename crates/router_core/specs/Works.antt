@@ -11,7 +11,9 @@ use Rattle.journal_text.specs.Texts.{entries_of}
 use Rattle.journal_text.specs.Journals.{Journaled, with_lines, with_entries, flushed}
 use Rattle.event_text.specs.declared.declared.DeclaredPeer.{DeclaredPeer}
 use Rattle.event_text.specs.Declarations.{peer_at}
-use Rattle.peer_side.specs.Peers.{chain_at, overdue_at}
+use Rattle.peer_side.specs.Peers.{chain_at, overdue_at, rows_in}
+use Rattle.hop_side.specs.Resolvers.{known_in}
+use Rattle.rib_exit.specs.Exits.{known_in as external_known}
 use Rattle.peer_side.specs.Steps.{LosesInward, WeldsInward}
 use Rattle.bgp_attr.specs.declared.route.Route.{Route}
 use Rattle.journal_text.specs.declared.entry.Entry.{Entry}
@@ -20,7 +22,7 @@ use Rattle.router_core.specs.declared.router.Done.{Done}
 use Rattle.router_core.specs.declared.router.Done.TheVariants.{Nothing, Taken}
 use Rattle.rib_route.specs.declared.Proto.{Proto}
 use Rattle.rib_route.specs.declared.rows.Interior.{Interior}
-use Rattle.rib_tree.specs.Trees.{Treed, int_rows, IsTree, IsFull}
+use Rattle.rib_tree.specs.Trees.{Treed, int_rows, tree_count, IsTree, IsFull}
 use Rattle.rib_tree.specs.Falls.{LeadsTree}
 use Rattle.rib_tree.specs.Steps.{lost_tree, welded_tree, tree_overdue, tree_loss_entries, tree_weld_entries}
 use Rattle.std.specs.FinMap as tables
@@ -33,7 +35,7 @@ use Rattle.std.specs.Prelude.{[], ◌∷◌}
 use Rattle.exit_side.specs.Exits.{with_queue, chain_at as exit_at}
 use Rattle.exit_side.specs.Steps.{BeginsExit}
 use Rattle.router_core.specs.Bests.{all_at, DecidesOn, Queues}
-use Rattle.router_core.specs.Moments.{Moment, plain, own_of, with_chains, with_hops, with_tree, with_exits, rules_to, router_links, bound_of, Gives}
+use Rattle.router_core.specs.Moments.{Moment, plain, own_of, most_unread, with_chains, with_hops, with_tree, with_exits, rules_to, router_links, bound_of, Gives}
 use Rattle.journal_text.specs.declared.link.Link.{Link}
 use Rattle.live_state.specs.Lives.{LiveState, LiveAfter, live_fed, heard, ended, interior_lost}
 use Rattle.router_core.specs.Lives.{live_state}
@@ -41,8 +43,9 @@ use Rattle.router_core.specs.Stands.{Stands}
 use Rattle.router_core.specs.Printable.{IsHeard}
 use Rattle.router_core.specs.Scratch.{IsExact}
 use Rattle.router_core.specs.declared.router.Phase.{Phase}
-use Rattle.router_core.specs.Turns.{ResolvesOn, Invalidates, FollowsOwn, BelowInt, journal_lines, InPeers, FeedsAll, FallsRoute, phase_of, IsTurn, Turns, Runs, RunsPhase, RunsAll, has_work, phase_bound, IsOver, IsSettled}
-use Rattle.router_core.specs.Phases.{all_phases, counts, earlier, left_from}
+use Rattle.router_core.specs.declared.router.Phase.TheVariants as phases
+use Rattle.router_core.specs.Turns.{ResolvesOn, Invalidates, FollowsOwn, BelowInt, journal_lines, InPeers, FeedsAll, FallsRoute, phase_of, IsTurn, Turns, Runs, RunsPhase, RunsAll, has_work, phase_bound, rise_bound, IsOver, IsSettled}
+use Rattle.router_core.specs.Phases.{all_phases, counts, changes_left, earlier, left_from}
 use Rattle.router_core.specs.Blocks.{RunsFirst, Loses, Hears, Idles, IsBlock, ended as ended_moment}
 use Rattle.router_core.specs.declared.router.Idle.{Idle}
 use Rattle.event_text.specs.declared.event.Event.{Event}
@@ -62,13 +65,29 @@ pub record Keeps (live_then : LiveState) (m m' : Moment) (said : List Line) : Ty
   pub stands : Stands m'
   pub heard : IsHeard m said m'
 
+-- No row of a peer or of a protocol is added, live or in a deletion stage.
+pub record AddsNoRows (m m' : Moment) : Type 0 where
+  pub peers : rows_in m'.chains ≤ rows_in m.chains
+  pub protocols : tree_count m'.tree ≤ tree_count m.tree
+
+-- No more next hops are known than before. But a row that new rules let through to `filt.K`, or that the forwarding side reads, may name a
+-- new one: so of peers no claim is made in turns of their chains, nor of external rows in the forwarding side's turns.
+abbrev pub KnowsNoMore : Phase → Moment → Moment → Type 0
+KnowsNoMore phases.Del m m' = external_known m'.rib ≤ external_known m.rib
+KnowsNoMore phases.Fin m m' = external_known m'.rib ≤ external_known m.rib
+KnowsNoMore phases.ReadRib m m' = known_in m'.hops ≤ known_in m.hops
+KnowsNoMore other m m' = (known_in m'.hops ≤ known_in m.hops) × (external_known m'.rib ≤ external_known m.rib)
+
 -- Background work of a phase: what is live stays, and so many turns are spent, of the phase and of an idle from that phase on. Nothing is
--- added to an earlier phase.
+-- added to an earlier phase, and no row; and what the slowest reader hasn't taken grows by no more changes than the phase has yet to make.
 pub record IsWork (phase : Phase) (turns : ℕ) (m m' : Moment) (said : List Line) : Type 0 where
   pub keeps : Keeps (live_state m) m m' said
   pub falls : counts m' phase + turns ≤ counts m phase
   pub left : left_from phase m' + turns ≤ left_from phase m
   pub earlier : AllByRecursion (λ e. counts m' e ≤ counts m e) (earlier phase)
+  pub rows : AddsNoRows m m'
+  pub known : KnowsNoMore phase m m'
+  pub unread : most_unread m'.exits + changes_left phase m' ≤ most_unread m.exits + changes_left phase m
 
 -- one turn of a task
 pub record IsUnit (task : Task) (m m' : Moment) (said : List Line) : Type 0 where
@@ -107,6 +126,7 @@ pub record HaveDrained (phase : Phase) (m : Moment) (turns : ℕ) (m' : Moment) 
   pub runs : RunsPhase phase m said turns m'
   pub work : IsWork phase turns m m' said
   pub most : turns ≤ phase_bound phase m
+  pub rises : most_unread m'.exits ≤ most_unread m.exits + rise_bound phase m
   pub over : IsOver phase m'
 
 -- every task has run to its end
@@ -114,6 +134,7 @@ pub record AllHaveDrained (m : Moment) (turns : ℕ) (m' : Moment) (said : List 
   pub runs : RunsAll all_phases m said turns m'
   pub keeps : Keeps (live_state m) m m' said
   pub most : turns ≤ bound_of m
+  pub rows : AddsNoRows m m'
   pub settled : IsSettled m'
   pub exact : IsExact m'
 
@@ -168,6 +189,7 @@ pub record HasIdled (m : Moment) (idle : Idle) (m' : Moment) (said : List Line) 
   pub idles : Idles m said idle.turns m'
   pub bound : idle.bound ≡ bound_of m
   pub keeps : Keeps (live_state m) m m' said
+  pub rows : AddsNoRows m m'
 
 -- an event was stepped, and what stands then
 pub record HasStepped (m : Moment) (event : Event) (turns : ℕ) (m' : Moment) (said : List Line) : Type 0 where

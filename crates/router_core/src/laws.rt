@@ -1,6 +1,6 @@
 //! Laws of moments, for the proofs of the crates above. Each is a function that does nothing, whose contract is the law.
 
-ghost use Rattle.router_core.specs.Laws.{FirstStands, LinksAtRestAreExact};
+ghost use Rattle.router_core.specs.Laws.{FirstStands, LinksAtRestAreExact, KnownNextHopsAreFew};
 
 use exit_side::laws::exact_without_work;
 use rib_exit::laws::exact_without_work as external_is_exact;
@@ -20,3 +20,8 @@ pub fn links_at_rest_are_exact()
     exact_without_work();
     external_is_exact();
 }
+
+/// At any moment no more next hops are known than there are rows which name them.
+pub fn known_next_hops_are_few()
+    ensures { KnownNextHopsAreFew }
+{}

@@ -3,8 +3,8 @@
 //! A [`Core`] has what was declared, a chain of stages for each peer, the tree of the interior routes, and the register of
 //! these. [`Core::step`] steps an event, and its lines go into the text of a journal; it asks that the event may stand there,
 //! as `event_text` judges. [`Core::unit`], [`Core::drain`] and [`Core::idle`] do background work alone: one turn of a task, a
-//! phase of an idle, all of it. [`Core::chain`], [`Core::tree`] and [`Core::count`] look at what is there. Each turn's lines
-//! are made into text at once, so that a long idle holds few lines.
+//! phase of an idle, all of it. [`Core::chain`], [`Core::resolver`], [`Core::tree`], [`Core::external`] and [`Core::count`] look
+//! at what is there. Each turn's lines are made into text at once, so that a long idle holds few lines.
 //!
 //! What contracts see is in `specs/`: the moment ([`Moments`](specs/Moments.antt)), what holds between two steps (`Stands`),
 //! what each event does and the lines that it gives (`Blocks`), and the live state (`Lives`), which is what the events alone make
@@ -33,5 +33,5 @@ mod steps;
 mod turns;
 mod updates;
 
-pub use laws::{first_moment_stands, links_at_rest_are_exact};
+pub use laws::{first_moment_stands, known_next_hops_are_few, links_at_rest_are_exact};
 pub use router::{Core, Done, Idle, Phase};

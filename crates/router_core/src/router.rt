@@ -6,6 +6,8 @@ ghost use Rattle.journal_text.specs.Walk.{Leads};
 ghost use Rattle.event_text.specs.declared.event.Event.TheVariants as events;
 ghost use Rattle.event_text.specs.Declarations.{refusal};
 ghost use Rattle.event_text.specs.WellFormed.{IsWellFormed};
+ghost use Rattle.std.specs.Option.{option_copied};
+ghost use Rattle.hop_side.specs.Resolvers.{resolver_at};
 ghost use Rattle.peer_side.specs.Peers.{chain_at};
 ghost use Rattle.router_core.specs.Moments.{first_moment, router_links, Gives};
 ghost use Rattle.router_core.specs.Scratch.{IsExactAtRest};
@@ -22,6 +24,8 @@ use event_text::{Declared, Event};
 use in_chain::Chain;
 use journal_text::{Journal, Link, Task};
 use live_state::declarations_follow;
+use nexthop_resolver::{Metric, Resolver};
+use rib_exit::RibExit;
 use rib_tree::{Tree, a_new_tree_stands};
 use std::alloc::Global;
 use std::marker::Model;
@@ -140,6 +144,22 @@ impl Core {
         ensures { result.now ≡ self.now.moment.tree }
     {
         &self.network.tree
+    }
+
+    /// The next hops of a peer's routes, which are known exactly where rows of its `filt.K` name them, with the metrics by
+    /// which they are reached (RFC 4271, section 9.1.2.1). None exactly where no such peer is declared.
+    pub fn resolver(&self, number: u32) -> Option<&Resolver<Metric>>
+        ensures { option_copied result ≡ resolver_at number self.now.moment.hops }
+    {
+        self.network.hops.resolver(number)
+    }
+
+    /// The external routes on their way to the forwarding table: their rows, and the next hops that these name, with the
+    /// interior routes by which they are reached.
+    pub fn external(&self) -> &RibExit
+        ensures { result.now ≡ self.now.moment.rib }
+    {
+        &self.network.rib
     }
 
     /// How many rows a link has; None exactly where it isn't live. Memory for want of memory: each row of `filt.K` is judged.
