@@ -117,9 +117,8 @@ fn first_local(candidates: &[Candidate]) -> Option<usize>
     None
 }
 
-/// The place of the best candidate: of any routes whose candidates these are, that of the route which the decision process
-/// picks. None exactly for the empty list. Takes no memory.
-pub fn best(candidates: &[Candidate]) -> Option<usize>
+// The same of any number of candidates: the steps are needed only where there are several.
+fn best_by_steps(candidates: &[Candidate]) -> Option<usize>
     requires { length candidates.now ≤ 65 }
     ensures { (routes : List Route) → map candidate_of routes ≡ candidates.now → IsPlaceOfBest routes result }
 {
@@ -135,4 +134,17 @@ pub fn best(candidates: &[Candidate]) -> Option<usize>
     let identified = keep_level(Step::Identifier, candidates, &nearest);
     let left = keep_level(Step::Address, candidates, &identified);
     first_marked(candidates, &left)
+}
+
+/// The place of the best candidate: of any routes whose candidates these are, that of the route which the decision process
+/// picks. None exactly for the empty list. Takes no memory.
+pub fn best(candidates: &[Candidate]) -> Option<usize>
+    requires { length candidates.now ≤ 65 }
+    ensures { (routes : List Route) → map candidate_of routes ≡ candidates.now → IsPlaceOfBest routes result }
+{
+    match candidates.len() {
+        0 => None,
+        1 => Some(0),
+        _ => best_by_steps(candidates),
+    }
 }
