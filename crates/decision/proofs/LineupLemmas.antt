@@ -17,9 +17,12 @@ use Rattle.best_path.specs.Steps.{pick}
 use Rattle.best_path.proofs.LawLemmas.{one_is_its_own_best}
 use Rattle.decision.specs.declared.lineup.Lineup.{Lineup}
 use Rattle.decision.specs.declared.lineup.Others.{Others}
+use Rattle.decision.specs.declared.heard.Said.{Said}
+use Rattle.decision.specs.declared.heard.Heard.{Heard}
+use Rattle.std.specs.Prelude.{MatchOption}
 use Rattle.addr4.specs.Prefixes.{Network}
 use Rattle.decision.specs.Branches.{AllRows}
-use Rattle.decision.specs.Lineups.{routes_of, at_prefix, with_own, chosen, candidate_at, LinesUp, Beside, HasRoom}
+use Rattle.decision.specs.Lineups.{routes_of, at_prefix, with_own, chosen, candidate_at, LinesUp, Beside, HasRoom, HearsNone, HearsLast, Hears}
 
 -- ---- numbers in their order
 pub range_more : (a n : ℕ) → range_with_len a (suc n) ≡ range_with_len a n ++ (a + n) ∷ []
@@ -349,3 +352,63 @@ lines_up_again branch here candidate others put new room keys numbers keys_again
     let same_numbers : new.branches.items ≡ others.line.branches.items = numbers_again ∙ ap (λ l. remove l others.place) numbers
     ∙ remove_inserted others.line.branches.items others.place branch (omega (arith, room.place, room.beside)) in
     record { keys = h.lined.keys ∙ sym same; numbers = ap (map (with_own branch None here)) same_numbers ∙ h.lined.numbers }
+
+-- ---- what was heard
+hears_without_case : (n : ℕ) (here : ℕ → Option Route) (line : Lineup) (last : Option Said) → here n ≡ None
+    → MatchOption last (HearsNone n here line) (HearsLast n here line) → MatchOption last (HearsNone (n + 1) here line) (HearsLast (n + 1) here line)
+hears_without_case n here line None is h = record { none = routes_without n here is ∙ h.none; lined = h.lined }
+hears_without_case n here line (Some said) is h =
+    record { below = omega (arith, h.below); row = h.row; lined = h.lined; all = routes_without n here is ∙ h.all }
+
+pub hears_without : (n : ℕ) (here : ℕ → Option Route) (heard : Heard) → here n ≡ None → Hears n here heard → Hears (n + 1) here heard
+hears_without n here heard is h = hears_without_case n here heard.line heard.last is h
+
+lined_as : (n m : ℕ) (here : ℕ → Option Route) (line : Lineup) → routes_of n here ≡ routes_of m here → LinesUp m here line → LinesUp n here line
+lined_as n m here line same h = record { keys = ap (map candidate_of) same ∙ h.keys; numbers = h.numbers ∙ ap (map Some) (sym same) }
+
+pub hears_first : (n : ℕ) (here : ℕ → Option Route) (line : Lineup) (route : Route) → here n ≡ Some route → HearsNone n here line
+    → HearsLast (n + 1) here line (record { branch = n; route = route })
+hears_first n here line route is h =
+    record { below = omega arith; row = is; lined = lined_as n 0 here line h.none h.lined; all = routes_with n here route is }
+
+pub hears_next : (n : ℕ) (here : ℕ → Option Route) (line new : Lineup) (said : Said) (route : Route) → here n ≡ Some route
+    → HearsLast n here line said → (Some (candidate_of said.route) ≡ candidate_at (here said.branch) → LinesUp said.branch here line → LinesUp (said.branch + 1) here new)
+    → HearsLast (n + 1) here new (record { branch = n; route = route })
+hears_next n here line new said route is h entered = record {
+  below = omega arith;
+  row = is;
+  lined = lined_as n (said.branch + 1) here new (h.all ∙ sym (routes_with said.branch here said.route h.row))
+      (entered (ap candidate_at (sym h.row)) h.lined);
+  all = routes_with n here route is;
+}
+
+few_heard_case : (n : ℕ) (here : ℕ → Option Route) (line : Lineup) (last : Option Said) → n ≤ 65
+    → MatchOption last (HearsNone n here line) (HearsLast n here line) → length line.candidates.items ≤ 64
+few_heard_case n here line None few h = omega (arith, few_candidates 0 here line h.lined)
+few_heard_case n here line (Some said) few h = omega (arith, few, h.below, few_candidates said.branch here line h.lined)
+
+pub few_heard : (n : ℕ) (here : ℕ → Option Route) (heard : Heard) → n ≤ 65 → Hears n here heard → length heard.line.candidates.items ≤ 64
+few_heard n here heard few h = few_heard_case n here heard.line heard.last few h
+
+-- the last row alone is the best
+pub heard_alone : (n : ℕ) (here : ℕ → Option Route) (line : Lineup) (said : Said) → line.candidates.items ≡ [] → HearsLast n here line said
+    → Some said.route ≡ pick (routes_of n here)
+heard_alone n here line said empty h =
+    pick_alone (Some said.route)
+    ∙ sym (ap pick (h.all ∙ ap (λ l. l ++ said.route ∷ []) (no_keys (routes_of said.branch here) (h.lined.keys ∙ empty))))
+
+chosen_own : (branch : ℕ) (row : Option Route) (here : ℕ → Option Route) (winner : Option ℕ) → here branch ≡ row
+    → chosen (with_own branch row here) winner ≡ chosen here winner
+chosen_own branch row here None is = refl
+chosen_own branch row here (Some b) is =
+    by_number b branch (λ t. (if t then row else here b) ≡ here b) (λ same. sym (ap here same ∙ is)) (λ differ. refl)
+
+-- the winner's row, where the last one's is at hand
+pub heard_winner : (n : ℕ) (here : ℕ → Option Route) (line new : Lineup) (said : Said) (winner : Option ℕ) (row : Option Route)
+    → (Some (candidate_of said.route) ≡ candidate_at (here said.branch) → LinesUp said.branch here line → LinesUp (said.branch + 1) here new)
+    → (LinesUp n here new → chosen here winner ≡ pick (routes_of n here))
+    → row ≡ chosen (with_own said.branch (Some said.route) here) winner → HearsLast n here line said → row ≡ pick (routes_of n here)
+heard_winner n here line new said winner row entered best is h =
+    is ∙ chosen_own said.branch (Some said.route) here winner h.row
+    ∙ best (lined_as n (said.branch + 1) here new (h.all ∙ sym (routes_with said.branch here said.route h.row))
+    (entered (ap candidate_at (sym h.row)) h.lined))

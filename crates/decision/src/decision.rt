@@ -1,14 +1,17 @@
 //! The decision over all branches.
 
-ghost use Rattle.std.specs.Prelude.{◌≡◌, ◌<◌, IfOk};
+ghost use Rattle.std.specs.Prelude.{◌≡◌, ◌<◌, ◌≤◌, ℕ, length, IfOk};
 ghost use Rattle.addr4.specs.Places.{key_of};
 ghost use Rattle.link_change.specs.Rows.{IsNextCandidate, CoversRows};
 ghost use Rattle.decision.specs.Branches.{best_rows, best_candidates, Decides};
-ghost use Rattle.decision.specs.Lineups.{Beside, at_prefix, with_own, chosen};
+ghost use Rattle.decision.specs.Lineups.{Beside, Hears, at_prefix, routes_of, with_own, chosen};
+ghost use Rattle.best_path.specs.Steps.{pick};
 
 use crate::branches::Branches;
+use crate::heard::Heard;
 use crate::lineup::{Lineup, Others, candidate};
 use addr4::{Memory, Place, Prefix};
+use best_path::Candidate;
 use bgp_attr::Route;
 use link_change::{Change, nearer};
 use std::alloc::Global;
@@ -80,18 +83,31 @@ pub fn take_in<B: Branches>(
     Ok(Change::between(change.prefix, before, after))
 }
 
-/// The best route at a prefix; none where no branch has one.
+// The best of the rows that were heard: another row than the last one is asked for again.
+fn best_of<B: Branches>(heard: Heard, prefix: &Prefix, all: &B) -> Result<Option<Route>, Memory>
+    requires { length heard.line.candidates.items ≤ 64 }
+    ensures { IfOk result (λ row. (n : ℕ) → Hears n (at_prefix (B.rows all.now) prefix.now) heard → row ≡ pick (routes_of n (at_prefix (B.rows all.now) prefix.now))) }
+{
+    let Heard { mut line, last } = heard;
+    let Some(said) = last else {
+        return Ok(None);
+    };
+    if line.is_empty() {
+        return Ok(Some(said.route));
+    }
+    line.enter(said.branch, Some(Candidate::of(&said.route)))?;
+    row_of(line.winner(), said.branch, Some(said.route), prefix, all)
+}
+
+/// The best route at a prefix; none where no branch has one. Takes no memory where one branch alone has a row.
 pub fn asked<B: Branches>(alloc: Global, all: &B, prefix: &Prefix) -> Result<Option<Route>, Memory>
     ensures { IfOk result (λ row. row ≡ best_rows (B.rows all.now) prefix.now) }
 {
-    let mut line = Lineup::new(alloc);
+    let mut heard = Heard::new(alloc);
     for number in 0..all.count() {
-        line.enter(number, candidate(&all.asked(number, prefix)?))?;
+        heard.hear(number, all.asked(number, prefix)?)?;
     }
-    match line.winner() {
-        Some(number) => all.asked(number, prefix),
-        None => Ok(None),
-    }
+    best_of(heard, prefix, all)
 }
 
 /// The least of all branches' candidates beyond a place. Every best route stands at one.

@@ -42,7 +42,8 @@ impl Lineup {
 
     /// The next branch has this candidate.
     pub(crate) fn enter(&mut self, branch: u8, candidate: Option<Candidate>) -> Result<(), Memory>
-        ensures { OnOk result ((here : ℕ → Option Route) → candidate ≡ candidate_at (here branch) → LinesUp branch here self.old → LinesUp (branch + 1) here self.new) }
+        ensures few { OnOk result (length self.new.candidates.items ≤ length self.old.candidates.items + 1) }
+        ensures lines { OnOk result ((here : ℕ → Option Route) → candidate ≡ candidate_at (here branch) → LinesUp branch here self.old → LinesUp (branch + 1) here self.new) }
     {
         if let Some(candidate) = candidate {
             self.candidates.push(candidate)?;
@@ -58,6 +59,13 @@ impl Lineup {
     {
         let place = best(self.candidates.as_slice())?;
         self.branches.get(place).copied()
+    }
+
+    /// Whether there is no candidate.
+    pub(crate) fn is_empty(&self) -> bool
+        ensures { result ≡ true → self.now.candidates.items ≡ [] }
+    {
+        self.candidates.is_empty()
     }
 
     /// How many candidates there are.
@@ -103,7 +111,7 @@ impl Others {
     pub(crate) fn is_empty(&self) -> bool
         ensures { result ≡ true → self.now.line.candidates.items ≡ [] }
     {
-        self.line.len() == 0
+        self.line.is_empty()
     }
 
     /// The branch whose candidate is the best where the one left out has this one; none where there is no candidate.

@@ -1,4 +1,4 @@
-use Rattle.std.proofs.Common.{◌≡◌, ◌≤◌, ◌<◌, None, length, sym, ◌∙◌, ap, subst, arith, ◌+◌}
+use Rattle.std.proofs.Common.{◌≤◌, ◌<◌, None, length, sym, ◌∙◌, ap, subst, arith, ◌+◌}
 use Rattle.std.proofs.lemmas.List.{length-map}
 use Rattle.best_path.specs.Keys.{candidate_of}
 use Rattle.decision.specs.Lineups.{LinesUp, at_prefix, with_own, routes_of, candidate_at}
@@ -24,14 +24,14 @@ loop-number-preserved g c =
       }
       | else-number-branch+in_ok-asked+in_ok-enter+in-Some-1 w ↦ record {
         lined = subst (LinesUp (n + 1) others) (sym w.line-is)
-            (w.in_ok-enter.ensures others
+            (w.in_ok-enter.ensures.lines others
             (w.candidate.ensures ∙ ap candidate_at (w.in_ok-asked.ensures ∙ sym (own_elsewhere branch None here n w.if-number-branch.false)))
             c.loop-number.invariant.lined);
         place = λ below. w.place-is ∙ c.loop-number.invariant.place (omega (arith, below, w.if-number-branch.false));
       }
       | else-number-branch+in_ok-asked+in_ok-enter+in-None-1 w ↦ record {
         lined = subst (LinesUp (n + 1) others) (sym w.line-is)
-            (w.in_ok-enter.ensures others
+            (w.in_ok-enter.ensures.lines others
             (w.candidate.ensures ∙ ap candidate_at (w.in_ok-asked.ensures ∙ sym (own_elsewhere branch None here n w.if-number-branch.false)))
             c.loop-number.invariant.lined);
         place = λ below. w.place-is ∙ c.loop-number.invariant.place (omega (arith, below, w.if-number-branch.false));
