@@ -9,7 +9,7 @@ use Rattle.best_path.specs.declared.step.Step.{Step}
 use Rattle.best_path.specs.declared.step.Step.TheVariants.{Preference, PathLength, Origin, Med, External, InteriorMetric, Identifier, Address}
 use Rattle.best_path.specs.Keys.{is_local, peer_address, candidate_of}
 use Rattle.best_path.specs.Marks.{first_of}
-use Rattle.best_path.specs.Steps.{beats_by, kept_by, highest_preference, shortest_path, lowest_origin, lowest_med_within_neighbour_as, external_over_internal, lowest_interior_metric, lowest_identifier, left_by_all, local_or, pick}
+use Rattle.best_path.specs.Steps.{beats_by, kept_by, highest_preference, shortest_path, lowest_origin, lowest_med_within_neighbour_as, external_over_internal, lowest_interior_metric, lowest_identifier, left_by_all, local_or, pick, IsPlaceOfBest}
 use Rattle.best_path.specs.Laws.{PickIsOneOfThem, NoneOnlyOfNothing, OneIsItsOwnBest, AtMostOneIsLeft, OrderDoesNotMatter}
 use Rattle.best_path.proofs.StepLemmas.{Has, passed, passes}
 use Rattle.best_path.proofs.PickLemmas.{leaves_one}
@@ -79,6 +79,12 @@ only_one one (Some u) e =
 
 pub one_is_its_own_best : OneIsItsOwnBest
 one_is_its_own_best one = only_one one (pick (one ∷ [])) refl
+
+-- so its place is that of the best
+pub picked_only : (list : List Route) → length list ≡ 1 → IsPlaceOfBest list (Some 0)
+picked_only [] h = absurd (omega (arith, h))
+picked_only (r ∷ []) h = (omega arith, one_is_its_own_best r)
+picked_only (r ∷ s ∷ rs) h = absurd (omega (arith, h))
 
 -- ---- at most one is left
 pub neither_left : (a b : Bool) → (a || b) ≡ false → a ≡ false

@@ -5,7 +5,10 @@ use Rattle.std.specs.List.{list_any}
 use Rattle.std.proofs.lemmas.List.Elements.{filter-append}
 use Rattle.std.proofs.lemmas.List.Folds.{list_any-append}
 use Rattle.std.proofs.lemmas.List.{length-map, take_all, take_more}
-use Rattle.best_path.specs.Marks.{marked, first_of, IsPlaceOfFirst}
+use Rattle.std.specs.Prelude.{MatchOption, Option, None, is_some}
+use Rattle.std.proofs.lemmas.List.{append-nil}
+use Rattle.std.proofs.lemmas.Option.{slice_get-get_or}
+use Rattle.best_path.specs.Marks.{marked, first_of, IsPlaceOfFirst, IsPlaceOfOnly}
 
 -- one element, if its mark is true
 abbrev pub one_if : {X : Type 0} → Bool → X → List X
@@ -192,3 +195,44 @@ module _ {X Y : Type 0} (f : X → Y) (xs : List X) (ys : List Y) (is : map f xs
   pub marked_first_of : (ms : List Bool) (i : ℕ) → i < length ys → marked (take i xs) ms ≡ [] → slice_index_or ms i false ≡ true
       → IsPlaceOfFirst xs (marked xs ms) (Some i)
   marked_first_of ms i h before m = (omega (arith, as_many, h), marked_first xs ms i (omega (arith, as_many, h)) before m)
+
+  -- one more without a mark
+  pub same_more_of : (ms : List Bool) (i : ℕ) (y : Y) → i < length ys → y ≡ slice_index_or ys i y → slice_index_or ms i false ≡ false
+      → marked (take (i + 1) xs) ms ≡ marked (take i xs) ms
+  same_more_of ms i y h e m =
+      let x = made_of i y h e in
+      marked_more xs ms i x.0 (omega (arith, as_many, h)) x.1.0 ∙ ap (λ b. marked (take i xs) ms ++ one_if b x.0) m
+      ∙ append-nil (marked (take i xs) ms)
+
+  -- the first one with a mark
+  pub only_more_of : (ms : List Bool) (i : ℕ) (y : Y) → i < length ys → y ≡ slice_index_or ys i y → slice_index_or ms i false ≡ true
+      → marked (take i xs) ms ≡ [] → IsPlaceOfOnly xs (marked (take (i + 1) xs) ms) i
+  only_more_of ms i y h e m before =
+      let x = made_of i y h e in
+      let within : i < length xs = omega (arith, as_many, h) in (
+        within,
+        ap (map Some) (marked_more xs ms i x.0 within x.1.0 ∙ ap2 before (ap (λ b. one_if b x.0) m))
+            ∙ ap (λ o. o ∷ []) (ap Some x.1.0 ∙ sym (slice_get-get_or xs i x.0 within)),
+      )
+
+-- what is marked in the front: nothing, or just the one that was found
+abbrev pub OnlyFront : {X : Type 0} → List X → List Bool → ℕ → Option ℕ → Type 0
+OnlyFront xs ms i only = MatchOption only (marked (take i xs) ms ≡ []) (IsPlaceOfOnly xs (marked (take i xs) ms))
+
+only_same_case : {X : Type 0} → (xs now next : List X) (only : Option ℕ) → next ≡ now
+    → MatchOption only (now ≡ []) (IsPlaceOfOnly xs now) → MatchOption only (next ≡ []) (IsPlaceOfOnly xs next)
+only_same_case xs now next None e h = e ∙ h
+only_same_case xs now next (Some p) e h = (h.0, ap (map Some) e ∙ h.1)
+
+pub only_same : {X : Type 0} → (xs : List X) (ms : List Bool) (i j : ℕ) (only : Option ℕ) → marked (take j xs) ms ≡ marked (take i xs) ms
+    → OnlyFront xs ms i only → OnlyFront xs ms j only
+only_same xs ms i j only e h = only_same_case xs (marked (take i xs) ms) (marked (take j xs) ms) only e h
+
+pub only_all : {X : Type 0} → (xs : List X) (ms : List Bool) (i : ℕ) (place : ℕ) → take i xs ≡ xs → OnlyFront xs ms i (Some place)
+    → IsPlaceOfOnly xs (marked xs ms) place
+only_all xs ms i place all h = (h.0, ap (λ l. map Some (marked l ms)) (sym all) ∙ h.1)
+
+pub only_none : {X : Type 0} → (xs : List X) (ms : List Bool) (i : ℕ) (only : Option ℕ) (found : Bool) → found ≡ is_some only → found ≡ false
+    → OnlyFront xs ms i only → marked (take i xs) ms ≡ []
+only_none xs ms i None found is isnt h = h
+only_none xs ms i (Some p) found is isnt h = absurd (let e : true ≡ false = sym is ∙ isnt in cc)

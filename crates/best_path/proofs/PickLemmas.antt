@@ -1,12 +1,12 @@
 -- What is picked.
-use Rattle.std.proofs.Common.{◌≡◌, ℕ, zero, suc, ◌<◌, List, [], ◌∷◌, length, slice_get, Option, Some, None, sym, ◌∙◌, ap, arith}
+use Rattle.std.proofs.Common.{◌≡◌, ℕ, zero, suc, ◌<◌, List, [], ◌∷◌, length, slice_get, Option, Some, None, map, sym, ◌∙◌, ap, arith}
 use Rattle.std.specs.Prelude.{filter}
 use Rattle.bgp_attr.specs.declared.route.Route.{Route}
 use Rattle.best_path.specs.declared.step.Step.TheVariants.{Preference, PathLength, Origin, Med, External, InteriorMetric, Identifier, Address}
 use Rattle.best_path.specs.Keys.{is_local}
-use Rattle.best_path.specs.Marks.{first_of, IsPlaceOfFirst}
-use Rattle.best_path.specs.Steps.{highest_preference, shortest_path, lowest_origin, lowest_med_within_neighbour_as, external_over_internal, lowest_interior_metric, lowest_identifier, left_by_all, local_or, IsPlaceOfBest}
-use Rattle.best_path.proofs.StepLemmas.{keeps_one}
+use Rattle.best_path.specs.Marks.{first_of, IsPlaceOfFirst, IsPlaceOfOnly}
+use Rattle.best_path.specs.Steps.{highest_preference, shortest_path, lowest_origin, lowest_med_within_neighbour_as, external_over_internal, lowest_interior_metric, lowest_identifier, left_by_all, local_or, kept_by, IsPlaceOfBest}
+use Rattle.best_path.proofs.StepLemmas.{keeps_one, keeps_alone}
 
 first_not_past : (list : List Route) (i : ℕ) → i < length list → slice_get list i ≡ None → ⊥
 first_not_past [] i h e = omega (arith, h)
@@ -39,3 +39,29 @@ pub picked_left : (list : List Route) (result : Option ℕ) → filter is_local 
     → IsPlaceOfBest list result
 picked_left list None n h = leaves_one list h
 picked_left list (Some i) n h = (h.0, ap (λ l. local_or l (left_by_all list)) n ∙ h.1)
+
+-- ---- where one is left before the steps are through
+first_is : (r : Route) (o : Option Route) → Some r ∷ [] ≡ o ∷ [] → Some r ≡ o
+first_is r o e = cc
+
+one_stays : (list : List Route) (o : Option Route) → map Some list ≡ o ∷ [] →
+    first_of (kept_by Address (kept_by Identifier (kept_by InteriorMetric (kept_by External (kept_by Med (kept_by Origin list)))))) ≡ o
+one_stays [] o e = absurd (let f : [] ≡ o ∷ [] = e in cc)
+one_stays (r ∷ []) o e =
+    ap first_of
+    (ap (λ l. kept_by Address (kept_by Identifier (kept_by InteriorMetric (kept_by External (kept_by Med l))))) (keeps_alone Origin r)
+    ∙ ap (λ l. kept_by Address (kept_by Identifier (kept_by InteriorMetric (kept_by External l)))) (keeps_alone Med r)
+    ∙ ap (λ l. kept_by Address (kept_by Identifier (kept_by InteriorMetric l))) (keeps_alone External r)
+    ∙ ap (λ l. kept_by Address (kept_by Identifier l)) (keeps_alone InteriorMetric r)
+    ∙ ap (kept_by Address) (keeps_alone Identifier r)
+    ∙ keeps_alone Address r)
+    ∙ first_is r o e
+one_stays (r ∷ s ∷ rs) o e = absurd (let f : Some r ∷ Some s ∷ map Some rs ≡ o ∷ [] = e in cc)
+
+-- where none is local, and the first two steps leave one, its place is that of the best
+pub picked_early : (list : List Route) (place : ℕ) → filter is_local list ≡ []
+    → IsPlaceOfOnly list (kept_by PathLength (kept_by Preference list)) place → IsPlaceOfBest list (Some place)
+picked_early list place n h = (
+  h.0,
+  ap (λ l. local_or l (left_by_all list)) n ∙ one_stays (kept_by PathLength (kept_by Preference list)) (slice_get list place) h.1,
+)

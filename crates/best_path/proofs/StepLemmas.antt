@@ -168,3 +168,7 @@ keeps_one step list h =
       never_itself = λ r. (strict step).never_itself (candidate_of r);
       along = λ r s t h k. (strict step).along (candidate_of r) (candidate_of s) (candidate_of t) h k;
     }) list h
+
+-- a step keeps one alone
+pub keeps_alone : (step : Step) (r : Route) → kept_by step (r ∷ []) ≡ r ∷ []
+keeps_alone step r = rw ((strict step).never_itself (candidate_of r)) refl

@@ -30,6 +30,15 @@ abbrev pub FindsFirst : (List Route → List Route) → List Candidate → Optio
 FindsFirst some candidates result =
     (routes : List Route) → map candidate_of routes ≡ candidates → IsPlaceOfFirst routes (some routes) result
 
+-- the place is that of the one element of some of the list
+abbrev pub IsPlaceOfOnly : {X : Type 0} → List X → List X → ℕ → Type 0
+IsPlaceOfOnly list some place = (place < length list) × (map Some some ≡ slice_get list place ∷ [])
+
+-- the same of some of any routes whose candidates these are
+abbrev pub FindsOnly : (List Route → List Route) → List Candidate → ℕ → Type 0
+FindsOnly some candidates place =
+    (routes : List Route) → map candidate_of routes ≡ candidates → IsPlaceOfOnly routes (some routes) place
+
 abbrev pub those_marked : List Bool → List Route → List Route
 those_marked marks routes = marked routes marks
 

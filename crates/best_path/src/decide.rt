@@ -1,12 +1,12 @@
 //! The best candidate.
 
-ghost use Rattle.std.specs.Prelude.{◌≡◌, ◌≤◌, if◌then◌else◌, true, [], List, length, map, MatchOption};
+ghost use Rattle.std.specs.Prelude.{◌≡◌, ◌≤◌, if◌then◌else◌, true, [], List, length, map, MatchOption, IfSome};
 ghost use Rattle.std.specs.List.{list_any};
 ghost use Rattle.bgp_attr.specs.declared.route.Route.{Route};
 ghost use Rattle.best_path.specs.Keys.{is_local, candidate_of};
 ghost use Rattle.best_path.specs.Steps.{beats_by, kept_by, unbeaten_by, is_level, IsPlaceOfBest};
 ghost use Rattle.best_path.specs.Leaders.{Leads};
-ghost use Rattle.best_path.specs.Marks.{marked, Keeps, FindsFirst, those_marked, those_local};
+ghost use Rattle.best_path.specs.Marks.{marked, Keeps, FindsFirst, FindsOnly, those_marked, those_local};
 
 use crate::candidate::Candidate;
 use crate::step::{Step, beats};
@@ -105,6 +105,23 @@ fn first_marked(candidates: &[Candidate], marks: &[bool; MOST]) -> Option<usize>
     None
 }
 
+// The place of the one marked candidate, where just one is marked.
+fn only_marked(candidates: &[Candidate], marks: &[bool; MOST]) -> Option<usize>
+    requires { length candidates.now ≤ 65 }
+    ensures { IfSome result (FindsOnly (those_marked marks.now) candidates.now) }
+{
+    let mut only = None;
+    for (i, _) in candidates.iter().enumerate() {
+        if marks[i] {
+            if only.is_some() {
+                return None;
+            }
+            only = Some(i);
+        }
+    }
+    only
+}
+
 // The place of the first local candidate.
 fn first_local(candidates: &[Candidate]) -> Option<usize>
     ensures { FindsFirst those_local candidates.now result }
@@ -117,9 +134,8 @@ fn first_local(candidates: &[Candidate]) -> Option<usize>
     None
 }
 
-/// The place of the best candidate: of any routes whose candidates these are, that of the route which the decision process
-/// picks. None exactly for the empty list. Takes no memory.
-pub fn best(candidates: &[Candidate]) -> Option<usize>
+// The same of any number of candidates: the steps are needed only where there are several.
+fn best_by_steps(candidates: &[Candidate]) -> Option<usize>
     requires { length candidates.now ≤ 65 }
     ensures { (routes : List Route) → map candidate_of routes ≡ candidates.now → IsPlaceOfBest routes result }
 {
@@ -128,6 +144,10 @@ pub fn best(candidates: &[Candidate]) -> Option<usize>
     }
     let preferred = keep_level(Step::Preference, candidates, &[true; MOST]);
     let shortest = keep_level(Step::PathLength, candidates, &preferred);
+    // The steps behind keep the only one that is left.
+    if let Some(place) = only_marked(candidates, &shortest) {
+        return Some(place);
+    }
     let originated = keep_level(Step::Origin, candidates, &shortest);
     let discriminated = keep_pairwise(Step::Med, candidates, &originated);
     let external = keep_level(Step::External, candidates, &discriminated);
@@ -135,4 +155,17 @@ pub fn best(candidates: &[Candidate]) -> Option<usize>
     let identified = keep_level(Step::Identifier, candidates, &nearest);
     let left = keep_level(Step::Address, candidates, &identified);
     first_marked(candidates, &left)
+}
+
+/// The place of the best candidate: of any routes whose candidates these are, that of the route which the decision process
+/// picks. None exactly for the empty list. Takes no memory.
+pub fn best(candidates: &[Candidate]) -> Option<usize>
+    requires { length candidates.now ≤ 65 }
+    ensures { (routes : List Route) → map candidate_of routes ≡ candidates.now → IsPlaceOfBest routes result }
+{
+    match candidates.len() {
+        0 => None,
+        1 => Some(0),
+        _ => best_by_steps(candidates),
+    }
 }

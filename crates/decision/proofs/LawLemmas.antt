@@ -7,7 +7,7 @@ use Rattle.best_path.proofs.StepLemmas.{Has}
 use Rattle.best_path.proofs.LawLemmas.{contains_has, pick_is_one_of_them, none_only_of_nothing}
 use Rattle.decision.specs.Lineups.{at_prefix, routes_of}
 use Rattle.decision.specs.Laws.{BestIsPicked, BestIsABranchs, NoBestOnlyWithoutRoutes, BestIsOfItsPrefix}
-use Rattle.decision.proofs.LineupLemmas.{by_number, routes_more}
+use Rattle.decision.proofs.LineupLemmas.{by_number, routes_more, same_routes}
 use Rattle.decision.proofs.BestLemmas.{best_is}
 
 pub best_is_picked : BestIsPicked
@@ -54,15 +54,6 @@ no_best_only_without_routes rows p none b below =
     no_row 65 (at_prefix rows p) (none_only_of_nothing (routes_of 65 (at_prefix rows p)) (sym (best_is rows p) ∙ none)) b below
 
 -- ---- what it is made of
-same_routes : (n : ℕ) (here other : ℕ → Option Route) → ((b : ℕ) → b < n → here b ≡ other b) → routes_of n here ≡ routes_of n other
-same_routes zero here other same = refl
-same_routes (suc n) here other same =
-    let e : suc n ≡ n + 1 = omega arith in
-    ap (λ m. routes_of m here) e ∙ routes_more n here
-    ∙ ap (λ l. l ++ cons_option (here n) []) (same_routes n here other (λ b below. same b (omega (arith, below))))
-    ∙ ap (λ r. routes_of n other ++ cons_option r []) (same n (omega arith))
-    ∙ sym (routes_more n other) ∙ ap (λ m. routes_of m other) (sym e)
-
 pub best_is_of_its_prefix : BestIsOfItsPrefix
 best_is_of_its_prefix rows other p same =
     best_is rows p ∙ ap pick (same_routes 65 (at_prefix rows p) (at_prefix other p) same) ∙ sym (best_is other p)

@@ -1,5 +1,5 @@
 -- The candidates of the branches at one prefix.
-use Rattle.std.specs.Prelude.{◌≡◌, ℕ, ◌==◌, if◌then◌else◌, List, map, Option, Some, option_and_then}
+use Rattle.std.specs.Prelude.{◌≡◌, ◌≤◌, ◌<◌, ℕ, ◌==◌, if◌then◌else◌, List, [], ◌∷◌, ◌++◌, map, length, Option, Some, None, option_and_then, MatchOption}
 use Rattle.std.specs.List.{filter_map, range_with_len}
 use Rattle.std.specs.Option.{option_map}
 use Rattle.addr4.specs.Prefixes.{Network}
@@ -7,6 +7,9 @@ use Rattle.bgp_attr.specs.declared.route.Route.{Route}
 use Rattle.best_path.specs.declared.candidate.Candidate.{Candidate}
 use Rattle.best_path.specs.Keys.{candidate_of}
 use Rattle.decision.specs.declared.lineup.Lineup.{Lineup}
+use Rattle.decision.specs.declared.lineup.Others.{Others}
+use Rattle.decision.specs.declared.heard.Said.{Said}
+use Rattle.decision.specs.declared.heard.Heard.{Heard}
 use Rattle.decision.specs.Branches.{AllRows}
 
 -- the row of each branch at a prefix
@@ -32,3 +35,30 @@ candidate_at row = option_map candidate_of row
 pub record LinesUp (n : ℕ) (here : ℕ → Option Route) (line : Lineup) : Type 0 where
   pub keys : map candidate_of (routes_of n here) ≡ line.candidates.items
   pub numbers : map here line.branches.items ≡ map Some (routes_of n here)
+
+-- these are the candidates of all branches but one, and that one's own would stand behind those of the branches before it
+pub record Beside (branch : ℕ) (here : ℕ → Option Route) (others : Others) : Type 0 where
+  pub lined : LinesUp 65 (with_own branch None here) others.line
+  pub place : others.place ≡ length (routes_of branch (with_own branch None here))
+
+-- one candidate more may stand at its place
+pub record HasRoom (others : Others) : Type 0 where
+  pub place : others.place ≤ length others.line.candidates.items
+  pub few : length others.line.candidates.items ≤ 64
+  pub beside : length others.line.branches.items ≡ length others.line.candidates.items
+
+-- none of the branches below n has a row
+pub record HearsNone (n : ℕ) (here : ℕ → Option Route) (line : Lineup) : Type 0 where
+  pub none : routes_of n here ≡ []
+  pub lined : LinesUp 0 here line
+
+-- this is the last row of the branches below n, and these are the candidates of the branches before it
+pub record HearsLast (n : ℕ) (here : ℕ → Option Route) (line : Lineup) (said : Said) : Type 0 where
+  pub below : said.branch < n
+  pub row : here said.branch ≡ Some said.route
+  pub lined : LinesUp said.branch here line
+  pub all : routes_of n here ≡ routes_of said.branch here ++ said.route ∷ []
+
+-- what the branches below n have said
+abbrev pub Hears : ℕ → (ℕ → Option Route) → Heard → Type 0
+Hears n here heard = MatchOption heard.last (HearsNone n here heard.line) (HearsLast n here heard.line)

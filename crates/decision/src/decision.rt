@@ -1,49 +1,41 @@
 //! The decision over all branches.
 
-ghost use Rattle.std.specs.Prelude.{◌≡◌, ◌<◌, IfOk};
+ghost use Rattle.std.specs.Prelude.{◌≡◌, ◌<◌, ◌≤◌, ℕ, length, IfOk};
 ghost use Rattle.addr4.specs.Places.{key_of};
 ghost use Rattle.link_change.specs.Rows.{IsNextCandidate, CoversRows};
 ghost use Rattle.decision.specs.Branches.{best_rows, best_candidates, Decides};
-ghost use Rattle.decision.specs.Lineups.{LinesUp, at_prefix, with_own, chosen};
+ghost use Rattle.decision.specs.Lineups.{Beside, Hears, at_prefix, routes_of, with_own, chosen};
+ghost use Rattle.best_path.specs.Steps.{pick};
 
 use crate::branches::Branches;
-use crate::lineup::{Lineup, candidate};
+use crate::heard::Heard;
+use crate::lineup::{Lineup, Others, candidate};
 use addr4::{Memory, Place, Prefix};
+use best_path::Candidate;
 use bgp_attr::Route;
 use link_change::{Change, nearer};
 use std::alloc::Global;
 
-/// The candidates before a branch's change, and after it.
-#[derive(Drop)]
-struct Lineups {
-    before: Lineup,
-    after: Lineup,
-}
-
-// Each other branch is asked once.
+// The candidates of the other branches, each of which is asked once. Takes no memory where none has a row.
 fn line_up<B: Branches>(
     alloc: Global,
     branch: u8,
-    change: &Change<Route>,
+    prefix: &Prefix,
     all: &B,
-) -> Result<Lineups, Memory>
+) -> Result<Others, Memory>
     requires { branch < 65 }
-    ensures before { IfOk result (λ lines. LinesUp 65 (with_own branch change.now.before (at_prefix (B.rows all.now) change.now.prefix)) lines.before) }
-    ensures after { IfOk result (λ lines. LinesUp 65 (with_own branch change.now.after (at_prefix (B.rows all.now) change.now.prefix)) lines.after) }
+    ensures { IfOk result (Beside branch (at_prefix (B.rows all.now) prefix.now)) }
 {
-    let mut before = Lineup::new(alloc);
-    let mut after = Lineup::new(alloc);
+    let mut line = Lineup::new(alloc);
+    let mut place = 0;
     for number in 0..all.count().max(branch + 1) {
         if number == branch {
-            before.enter(number, candidate(&change.before))?;
-            after.enter(number, candidate(&change.after))?;
+            place = line.len();
         } else {
-            let other = candidate(&all.asked(number, &change.prefix)?);
-            before.enter(number, other)?;
-            after.enter(number, other)?;
+            line.enter(number, candidate(&all.asked(number, prefix)?))?;
         }
     }
-    Ok(Lineups { before, after })
+    Ok(Others { line, place })
 }
 
 // The row of the branch that wins, where one branch has this own row.
@@ -77,9 +69,12 @@ pub fn take_in<B: Branches>(
     requires { branch < 65 }
     ensures { IfOk result (Decides branch (B.rows all.now) change) }
 {
-    let lines = line_up(alloc, branch, &change, all)?;
-    let former = lines.before.winner();
-    let latter = lines.after.winner();
+    let mut others = line_up(alloc, branch, &change.prefix, all)?;
+    if others.is_empty() {
+        return Ok(Some(change));
+    }
+    let former = others.winner_with(branch, candidate(&change.before))?;
+    let latter = others.winner_with(branch, candidate(&change.after))?;
     if former == latter && latter != Some(branch) {
         return Ok(None);
     }
@@ -88,18 +83,31 @@ pub fn take_in<B: Branches>(
     Ok(Change::between(change.prefix, before, after))
 }
 
-/// The best route at a prefix; none where no branch has one.
+// The best of the rows that were heard: another row than the last one is asked for again.
+fn best_of<B: Branches>(heard: Heard, prefix: &Prefix, all: &B) -> Result<Option<Route>, Memory>
+    requires { length heard.line.candidates.items ≤ 64 }
+    ensures { IfOk result (λ row. (n : ℕ) → Hears n (at_prefix (B.rows all.now) prefix.now) heard → row ≡ pick (routes_of n (at_prefix (B.rows all.now) prefix.now))) }
+{
+    let Heard { mut line, last } = heard;
+    let Some(said) = last else {
+        return Ok(None);
+    };
+    if line.is_empty() {
+        return Ok(Some(said.route));
+    }
+    line.enter(said.branch, Some(Candidate::of(&said.route)))?;
+    row_of(line.winner(), said.branch, Some(said.route), prefix, all)
+}
+
+/// The best route at a prefix; none where no branch has one. Takes no memory where one branch alone has a row.
 pub fn asked<B: Branches>(alloc: Global, all: &B, prefix: &Prefix) -> Result<Option<Route>, Memory>
     ensures { IfOk result (λ row. row ≡ best_rows (B.rows all.now) prefix.now) }
 {
-    let mut line = Lineup::new(alloc);
+    let mut heard = Heard::new(alloc);
     for number in 0..all.count() {
-        line.enter(number, candidate(&all.asked(number, prefix)?))?;
+        heard.hear(number, all.asked(number, prefix)?)?;
     }
-    match line.winner() {
-        Some(number) => all.asked(number, prefix),
-        None => Ok(None),
-    }
+    best_of(heard, prefix, all)
 }
 
 /// The least of all branches' candidates beyond a place. Every best route stands at one.

@@ -10,13 +10,16 @@
 //! What is kept true: where a change leads from a branch's old rows to its new ones, and all other branches stay, what
 //! [`take_in`] sends leads from the best rows of the old branches to those of the new ones; nothing is sent where they
 //! stay the same. [`asked`] and [`next_candidate`] are the same rows, looked up and walked, and [`Best`] is the link as the
-//! stages below see it. Of the routes that lose nothing is copied: the decision compares their [`best_path::Candidate`]s.
+//! stages below see it. Of the routes that lose nothing is kept: the decision compares their [`best_path::Candidate`]s.
+//! Where one branch alone has a row at a prefix nothing is compared and no memory is taken: its change goes on as it is, and
+//! a lookup answers its row.
 //! The router's core lends the branches ([`Branches`]); the queue below takes the changes.
 #![tactic(auto)]
 
 mod best;
 mod branches;
 mod decision;
+mod heard;
 mod laws;
 mod lineup;
 

@@ -1,8 +1,9 @@
 //! Candidates in line.
 
-ghost use Rattle.std.specs.Prelude.{◌≡◌, ◌≤◌, ◌<◌, ◌+◌, ℕ, Option, length, OnOk};
+ghost use Rattle.std.specs.Prelude.{◌≡◌, ◌≤◌, ◌<◌, ◌+◌, ℕ, Option, [], true, length, OnOk, IfOk};
+ghost use Rattle.std.specs.List.{insert, remove};
 ghost use Rattle.bgp_attr.specs.declared.route.Route.{Route};
-ghost use Rattle.decision.specs.Lineups.{LinesUp, candidate_at, routes_of, chosen};
+ghost use Rattle.decision.specs.Lineups.{LinesUp, Beside, HasRoom, candidate_at, routes_of, chosen, with_own};
 ghost use Rattle.best_path.specs.Steps.{pick};
 
 use addr4::Memory;
@@ -41,7 +42,8 @@ impl Lineup {
 
     /// The next branch has this candidate.
     pub(crate) fn enter(&mut self, branch: u8, candidate: Option<Candidate>) -> Result<(), Memory>
-        ensures { OnOk result ((here : ℕ → Option Route) → candidate ≡ candidate_at (here branch) → LinesUp branch here self.old → LinesUp (branch + 1) here self.new) }
+        ensures few { OnOk result (length self.new.candidates.items ≤ length self.old.candidates.items + 1) }
+        ensures lines { OnOk result ((here : ℕ → Option Route) → candidate ≡ candidate_at (here branch) → LinesUp branch here self.old → LinesUp (branch + 1) here self.new) }
     {
         if let Some(candidate) = candidate {
             self.candidates.push(candidate)?;
@@ -57,5 +59,78 @@ impl Lineup {
     {
         let place = best(self.candidates.as_slice())?;
         self.branches.get(place).copied()
+    }
+
+    /// Whether there is no candidate.
+    pub(crate) fn is_empty(&self) -> bool
+        ensures { result ≡ true → self.now.candidates.items ≡ [] }
+    {
+        self.candidates.is_empty()
+    }
+
+    /// How many candidates there are.
+    pub(crate) fn len(&self) -> usize
+        ensures { result ≡ length self.now.candidates.items }
+    {
+        self.candidates.len()
+    }
+
+    /// A branch has this candidate, which comes before those from a place on.
+    fn put(&mut self, place: usize, branch: u8, candidate: Candidate) -> Result<(), Memory>
+        requires place { place ≤ length self.old.candidates.items }
+        requires beside { place ≤ length self.old.branches.items }
+        ensures candidates { OnOk result (self.new.candidates.items ≡ insert self.old.candidates.items place candidate) }
+        ensures branches { OnOk result (self.new.branches.items ≡ insert self.old.branches.items place branch) }
+    {
+        self.candidates.insert(place, candidate)?;
+        self.branches.insert(place, branch)?;
+        Ok(())
+    }
+
+    /// Takes the candidate at a place out.
+    fn cut(&mut self, place: usize)
+        requires place { place < length self.old.candidates.items }
+        requires beside { place < length self.old.branches.items }
+        ensures candidates { self.new.candidates.items ≡ remove self.old.candidates.items place }
+        ensures branches { self.new.branches.items ≡ remove self.old.branches.items place }
+    {
+        self.candidates.remove(place);
+        self.branches.remove(place);
+    }
+}
+
+/// The candidates of all branches but one, and the place among them where that one's own would stand.
+#[derive(Drop)]
+pub(crate) struct Others {
+    pub(crate) line: Lineup,
+    pub(crate) place: usize,
+}
+
+impl Others {
+    /// Whether no other branch has a candidate.
+    pub(crate) fn is_empty(&self) -> bool
+        ensures { result ≡ true → self.now.line.candidates.items ≡ [] }
+    {
+        self.line.is_empty()
+    }
+
+    /// The branch whose candidate is the best where the one left out has this one; none where there is no candidate.
+    pub(crate) fn winner_with(
+        &mut self,
+        branch: u8,
+        own: Option<Candidate>,
+    ) -> Result<Option<u8>, Memory>
+        requires { HasRoom self.old }
+        ensures best { IfOk result (λ winner. (here : ℕ → Option Route) (row : Option Route) → branch < 65 → own ≡ candidate_at row → Beside branch here self.old → chosen (with_own branch row here) winner ≡ pick (routes_of 65 (with_own branch row here))) }
+        ensures stays { OnOk result ((here : ℕ → Option Route) → Beside branch here self.old → Beside branch here self.new) }
+        ensures room { OnOk result (HasRoom self.new) }
+    {
+        let Some(own) = own else {
+            return Ok(self.line.winner());
+        };
+        self.line.put(self.place, branch, own)?;
+        let winner = self.line.winner();
+        self.line.cut(self.place);
+        Ok(winner)
     }
 }

@@ -1,25 +1,9 @@
-use Rattle.std.proofs.Common.{◌≡◌, ◌≤◌, ◌∙◌, ap, subst, length, arith}
-use Rattle.best_path.specs.declared.step.Step.TheVariants.{Preference, PathLength, Origin, Med, External, InteriorMetric, Identifier, Address}
+use Rattle.std.proofs.Common.{◌∙◌}
 use Rattle.best_path.specs.Keys.{candidate_of}
-use Rattle.best_path.specs.Marks.{marked, IsPlaceOfFirst}
-use Rattle.best_path.specs.Steps.{kept_by, left_by_all}
-use Rattle.best_path.proofs.MarkLemmas.{marked_all, as_many}
-use Rattle.best_path.proofs.PickLemmas.{picked_local, picked_left}
+use Rattle.best_path.proofs.MarkLemmas.{as_many}
+use Rattle.best_path.proofs.LawLemmas.{picked_only}
 use Rattle.best_path.proofs.decide.best.Goals as goal
 
-pub returns-in-Some : goal.returns-in-Some
-returns-in-Some c = λ routes is. picked_local routes c.in-Some.place (c.in-Some.ensures routes is)
-
-pub returns : goal.returns
-returns c = λ routes is.
-    let few : length routes ≤ 65 = omega (arith, as_many candidate_of routes c.args.candidates.now is, c.requires) in
-    let e1 = c.keep_level-preferred.ensures routes is ∙ ap (kept_by Preference) (marked_all routes 65 few) in
-    let e2 = c.keep_level-shortest.ensures routes is ∙ ap (kept_by PathLength) e1 in
-    let e3 = c.keep_level-originated.ensures routes is ∙ ap (kept_by Origin) e2 in
-    let e4 = c.keep_pairwise-discriminated.ensures routes is ∙ ap (kept_by Med) e3 in
-    let e5 = c.keep_level-external.ensures routes is ∙ ap (kept_by External) e4 in
-    let e6 = c.keep_level-nearest.ensures routes is ∙ ap (kept_by InteriorMetric) e5 in
-    let e7 = c.keep_level-identified.ensures routes is ∙ ap (kept_by Identifier) e6 in
-    let e8 : marked routes c.keep_level-left.result ≡ left_by_all routes = c.keep_level-left.ensures routes is ∙ ap (kept_by Address) e7 in
-    picked_left routes c.first_marked.result (c.in_default.ensures routes is)
-    (subst (λ l. IsPlaceOfFirst routes l c.first_marked.result) e8 (c.first_marked.ensures routes is))
+pub returns-in-1 : goal.returns-in-1
+returns-in-1 c = λ routes is.
+    picked_only routes (as_many candidate_of routes c.args.candidates.now is ∙ c.in-1.is)

@@ -1,53 +1,50 @@
-use Rattle.std.proofs.Common.{◌≤◌, ◌<◌, sym, ◌∙◌, ap, subst, arith, ◌+◌}
-use Rattle.decision.specs.Lineups.{LinesUp, at_prefix, with_own, candidate_at}
-use Rattle.decision.proofs.LineupLemmas.{own_at, own_elsewhere, none_past, lines_up_to}
+use Rattle.std.proofs.Common.{◌≤◌, ◌<◌, None, length, sym, ◌∙◌, ap, subst, arith, ◌+◌}
+use Rattle.std.proofs.lemmas.List.{length-map}
+use Rattle.best_path.specs.Keys.{candidate_of}
+use Rattle.decision.specs.Lineups.{LinesUp, at_prefix, with_own, routes_of, candidate_at}
+use Rattle.decision.proofs.LineupLemmas.{own_at, own_elsewhere, none_past, lines_up_none, lines_up_to}
 use Rattle.decision.proofs.decision.line_up.Goals as goal
-use Rattle.decision.proofs.decision.line_up.Goals.{then-number-branch+in_ok-enter+in_ok-enter-2, else-number-branch+in_ok-asked+in_ok-enter-3+in_ok-enter-4}
+use Rattle.decision.proofs.decision.line_up.Goals.{then-number-branch, else-number-branch+in_ok-asked+in_ok-enter+in-Some-1, else-number-branch+in_ok-asked+in_ok-enter+in-None-1}
 
 pub loop-number-init : goal.loop-number-init
-loop-number-init g c = record { before = c.new-before.ensures _; after = c.new-after.ensures _ }
+loop-number-init g c = record { lined = c.new-line.ensures _; place = λ below. absurd (omega (arith, below)) }
 
 pub loop-number-preserved : goal.loop-number-preserved
 loop-number-preserved g c =
     let n = c.loop-number.number in
     let branch = c.args.branch in
-    let change = c.args.change.now in
-    let here = at_prefix (g.B.Branches.rows c.args.all.now) change.prefix in
+    let here = at_prefix (g.B.Branches.rows c.args.all.now) c.args.prefix.now in
+    let others = with_own branch None here in
     elim c.if-number-branch.branch [
-      | then-number-branch+in_ok-enter+in_ok-enter-2 w ↦ record {
-        before = subst (LinesUp (n + 1) (with_own branch change.before here)) (sym w.before-is)
-            (w.in_ok-enter.ensures (with_own branch change.before here)
-            (w.candidate.ensures ∙ ap candidate_at (sym (own_at branch change.before here n w.if-number-branch.true))) c.loop-number.invariant.before);
-        after = subst (LinesUp (n + 1) (with_own branch change.after here)) (sym w.after-is)
-            (w.in_ok-enter-2.ensures (with_own branch change.after here)
-            (w.candidate-then-number-branch.ensures ∙ ap candidate_at (sym (own_at branch change.after here n w.if-number-branch.true))) c.loop-number.invariant.after);
+      | then-number-branch w ↦ record {
+        lined = subst (LinesUp (n + 1) others) (sym w.line-is)
+            (lines_up_none n others c.loop-number.line (ap candidate_at (sym (own_at branch None here n w.if-number-branch.true))) c.loop-number.invariant.lined);
+        place = λ below. w.place-is ∙ w.len-place.ensures ∙ sym (ap length c.loop-number.invariant.lined.keys)
+            ∙ length-map (routes_of n others) candidate_of ∙ ap (λ m. length (routes_of m others)) w.if-number-branch.true;
       }
-      | else-number-branch+in_ok-asked+in_ok-enter-3+in_ok-enter-4 w ↦ record {
-        before = subst (LinesUp (n + 1) (with_own branch change.before here)) (sym w.before-is)
-            (w.in_ok-enter-3.ensures (with_own branch change.before here)
-            (w.candidate-other.ensures ∙ ap candidate_at (w.in_ok-asked.ensures ∙ sym (own_elsewhere branch change.before here n w.if-number-branch.false)))
-            c.loop-number.invariant.before);
-        after = subst (LinesUp (n + 1) (with_own branch change.after here)) (sym w.after-is)
-            (w.in_ok-enter-4.ensures (with_own branch change.after here)
-            (w.candidate-other.ensures ∙ ap candidate_at (w.in_ok-asked.ensures ∙ sym (own_elsewhere branch change.after here n w.if-number-branch.false)))
-            c.loop-number.invariant.after);
+      | else-number-branch+in_ok-asked+in_ok-enter+in-Some-1 w ↦ record {
+        lined = subst (LinesUp (n + 1) others) (sym w.line-is)
+            (w.in_ok-enter.ensures.lines others
+            (w.candidate.ensures ∙ ap candidate_at (w.in_ok-asked.ensures ∙ sym (own_elsewhere branch None here n w.if-number-branch.false)))
+            c.loop-number.invariant.lined);
+        place = λ below. w.place-is ∙ c.loop-number.invariant.place (omega (arith, below, w.if-number-branch.false));
+      }
+      | else-number-branch+in_ok-asked+in_ok-enter+in-None-1 w ↦ record {
+        lined = subst (LinesUp (n + 1) others) (sym w.line-is)
+            (w.in_ok-enter.ensures.lines others
+            (w.candidate.ensures ∙ ap candidate_at (w.in_ok-asked.ensures ∙ sym (own_elsewhere branch None here n w.if-number-branch.false)))
+            c.loop-number.invariant.lined);
+        place = λ below. w.place-is ∙ c.loop-number.invariant.place (omega (arith, below, w.if-number-branch.false));
       }
     ]
 
-pub returns-clause-before : goal.returns-clause-before
-returns-clause-before g c =
+pub returns : goal.returns
+returns g c =
     let few : c.loop-number.number ≤ 65 = omega (arith, c.count.ensures.few, c.max-number-end.ensures, c.requires) in
     let own : c.args.branch < c.loop-number.number = omega (arith, c.max-number-end.ensures) in
-    let change = c.args.change.now in
-    lines_up_to c.loop-number.number 65 _ c.loop-number.before few
-    (none_past c.args.branch c.loop-number.number change.before (g.B.Branches.rows c.args.all.now) change.prefix own
-    (λ b past. (c.count.ensures.none b change.prefix (omega (arith, past, c.max-number-end.ensures))).0)) c.loop-number.invariant.before
-
-pub returns-clause-after : goal.returns-clause-after
-returns-clause-after g c =
-    let few : c.loop-number.number ≤ 65 = omega (arith, c.count.ensures.few, c.max-number-end.ensures, c.requires) in
-    let own : c.args.branch < c.loop-number.number = omega (arith, c.max-number-end.ensures) in
-    let change = c.args.change.now in
-    lines_up_to c.loop-number.number 65 _ c.loop-number.after few
-    (none_past c.args.branch c.loop-number.number change.after (g.B.Branches.rows c.args.all.now) change.prefix own
-    (λ b past. (c.count.ensures.none b change.prefix (omega (arith, past, c.max-number-end.ensures))).0)) c.loop-number.invariant.after
+    record {
+      lined = lines_up_to c.loop-number.number 65 _ c.loop-number.line few
+          (none_past c.args.branch c.loop-number.number None (g.B.Branches.rows c.args.all.now) c.args.prefix.now own
+          (λ b past. (c.count.ensures.none b c.args.prefix.now (omega (arith, past, c.max-number-end.ensures))).0)) c.loop-number.invariant.lined;
+      place = c.loop-number.invariant.place own;
+    }

@@ -1,30 +1,36 @@
-use Rattle.std.proofs.Common.{◌∙◌, None, sym, ap}
+use Rattle.std.proofs.Common.{◌∙◌, refl, sym, ap, Some, None}
 use Rattle.decision.specs.Lineups.{at_prefix, with_own, chosen}
-use Rattle.decision.proofs.LineupLemmas.{few_candidates, chosen_beside, same_winner, other_winner}
+use Rattle.decision.proofs.LineupLemmas.{has_room, best_alone, chosen_beside, same_winner, other_winner}
 use Rattle.decision.proofs.BestLemmas.{decides}
 use Rattle.decision.proofs.decision.take_in.Goals as goal
 
-pub winner-former-requires : goal.winner-former-requires
-winner-former-requires g c = few_candidates 65 _ c.in_ok-lines.lines.before c.in_ok-lines.ensures.before
+pub winner_with-requires : goal.winner_with-requires
+winner_with-requires g c =
+    has_room c.args.branch (at_prefix (g.B.Branches.rows c.args.all.now) c.args.change.prefix) c.in_ok-others.others c.requires c.in_ok-others.ensures
 
-pub winner-latter-requires : goal.winner-latter-requires
-winner-latter-requires g c = few_candidates 65 _ c.in_ok-lines.lines.after c.in_ok-lines.ensures.after
+pub returns-then-is_empty : goal.returns-then-is_empty
+returns-then-is_empty g c = λ before p stay sent.
+    let here = at_prefix (g.B.Branches.rows c.args.all.now) c.args.change.prefix in
+    let alone = best_alone c.args.branch here c.in_ok-others.others c.requires c.in_ok-others.ensures (c.is_empty.ensures c.if-is_empty.true) in
+    decides c.args.branch (g.B.Branches.rows c.args.all.now) c.args.change c.args.change.before c.args.change.after (Some c.args.change)
+    (alone c.args.change.before) (alone c.args.change.after) (refl, refl, refl, sent.1.1) before p stay sent
 
 pub returns-then-ne : goal.returns-then-ne
 returns-then-ne g c =
     let here = at_prefix (g.B.Branches.rows c.args.all.now) c.args.change.prefix in
-    let same = same_winner c.winner-former.result c.winner-latter.result c.if-eq.ensures in
+    let same = same_winner c.in_ok-former.former c.in_ok-latter.latter c.if-eq.ensures in
     decides c.args.branch (g.B.Branches.rows c.args.all.now) c.args.change _ _ None
-    (c.winner-former.ensures 65 (with_own c.args.branch c.args.change.before here) c.in_ok-lines.ensures.before)
-    (c.winner-latter.ensures 65 (with_own c.args.branch c.args.change.after here) c.in_ok-lines.ensures.after)
-    (chosen_beside c.args.branch c.args.change.after c.args.change.before here c.winner-latter.result
-    (other_winner c.winner-latter.result c.args.branch c.if-ne.ensures)
+    (c.in_ok-former.ensures.best here c.args.change.before c.requires c.candidate.ensures c.in_ok-others.ensures)
+    (c.in_ok-latter.ensures.best here c.args.change.after c.requires c.candidate-2.ensures (c.in_ok-former.ensures.stays here c.in_ok-others.ensures))
+    (chosen_beside c.args.branch c.args.change.after c.args.change.before here c.in_ok-latter.latter
+    (other_winner c.in_ok-latter.latter c.args.branch c.if-ne.ensures)
     ∙ ap (chosen (with_own c.args.branch c.args.change.before here)) (sym same))
 
 pub returns : goal.returns
 returns g c =
     let here = at_prefix (g.B.Branches.rows c.args.all.now) c.args.change.prefix in
     decides c.args.branch (g.B.Branches.rows c.args.all.now) c.args.change c.in_ok-before.before c.in_ok-after.after c.between.result
-    (c.in_ok-before.ensures ∙ c.winner-former.ensures 65 (with_own c.args.branch c.args.change.before here) c.in_ok-lines.ensures.before)
-    (c.in_ok-after.ensures ∙ c.winner-latter.ensures 65 (with_own c.args.branch c.args.change.after here) c.in_ok-lines.ensures.after)
+    (c.in_ok-before.ensures ∙ c.in_ok-former.ensures.best here c.args.change.before c.requires c.candidate.ensures c.in_ok-others.ensures)
+    (c.in_ok-after.ensures
+    ∙ c.in_ok-latter.ensures.best here c.args.change.after c.requires c.candidate-2.ensures (c.in_ok-former.ensures.stays here c.in_ok-others.ensures))
     c.between.ensures

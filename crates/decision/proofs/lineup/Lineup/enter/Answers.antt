@@ -2,10 +2,10 @@ use Rattle.std.proofs.Common.{sym, ◌∙◌}
 use Rattle.decision.proofs.LineupLemmas.{lines_up_some, lines_up_none}
 use Rattle.decision.proofs.lineup.Lineup.enter.Goals as goal
 
-pub returns-in_ok-push-2 : goal.returns-in_ok-push-2
-returns-in_ok-push-2 c = λ here is lines.
+pub returns-in_ok-push-2-clause-lines : goal.returns-in_ok-push-2-clause-lines
+returns-in_ok-push-2-clause-lines c = λ here is lines.
     lines_up_some c.args.branch here c.args.self.now _ c.in-Some.candidate (sym c.in-Some.is ∙ is) c.in_ok-push.ensures.items
     c.in_ok-push-2.ensures.items lines
 
-pub returns-in_default : goal.returns-in_default
-returns-in_default c = λ here is lines. lines_up_none c.args.branch here c.args.self.now (sym c.in_default.is ∙ is) lines
+pub returns-in_default-clause-lines : goal.returns-in_default-clause-lines
+returns-in_default-clause-lines c = λ here is lines. lines_up_none c.args.branch here c.args.self.now (sym c.in_default.is ∙ is) lines
