@@ -1,5 +1,5 @@
-//! Stories of what leaves the router: what peers are told, sessions from their beginning to their end, and the forwarding
-//! table's rows; each public call on its happy path.
+//! What a route becomes on its way to a peer, and a copy of attributes, as calls by themselves: what the router's own calls give is
+//! shown by the stories of the crate story_tests.
 //!
 //! The crates that these tests are of have none of their own: a crate with tests is proved once more with them.
 #![tactic(auto)]
@@ -7,12 +7,4 @@
 #[cfg(test)]
 mod announcements;
 #[cfg(test)]
-mod forwarding;
-#[cfg(test)]
-mod given;
-#[cfg(test)]
-mod heard;
-#[cfg(test)]
-mod sessions;
-#[cfg(test)]
-mod steps;
+mod attributes;

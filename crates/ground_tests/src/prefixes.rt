@@ -1,9 +1,8 @@
-//! Prefixes of texts.
+//! Prefixes of numbers.
 
-use addr4::{Prefix, read_prefix};
-use std::test::Fail;
+use addr4::{Addr, Prefix};
 
-/// The prefix that a text names.
-pub(crate) fn prefix(text: &str) -> Result<Prefix, Fail> {
-    Ok(read_prefix(text.as_bytes()).ok().ok_or("no prefix")?)
+/// The prefix of this length, at most 32, that the address lies in.
+pub(crate) fn prefix(address: u32, length: u8) -> Prefix {
+    Prefix::new(Addr::new(address), length % 33).unwrap()
 }

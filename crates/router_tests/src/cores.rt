@@ -5,19 +5,9 @@ ghost use Rattle.router_core.specs.Stands.{CoreStands};
 
 use event_text::{admit, parse};
 use journal_text::{Journal, Link, Task};
-use router_core::{Core, Done, Idle, Phase};
+use router_core::{Core, Done, Phase};
 use std::alloc::Global;
 use std::test::Fail;
-
-/// A route comes, and nothing is left to be done.
-const SETTLED: &str = "\
-local 65000 192.0.2.254 192.0.2.254\n\
-peer 1 65001 192.0.2.1 192.0.2.1\n\
-route add connected 192.0.2.0/24 direct eth0 1\n\
-up 1\n\
-bgp 1 ffffffffffffffffffffffffffffffff002c0200000012400101004002040201fde9400304c0000201100a01\n\
-idle\n\
-show in.1\n";
 
 /// Three routes come, and nothing has read them yet.
 const UNREAD: &str = "\
@@ -27,7 +17,7 @@ peer 2 65002 192.0.2.2 192.0.2.2\n\
 route add connected 192.0.2.0/24 direct eth0 1\n\
 up 1\n\
 up 2\n\
-bgp 1 ffffffffffffffffffffffffffffffff00320200000012400101004002040201fde9400304c0000201100a01100a02100a03\n";
+bgp 1 ffffffffffffffffffffffffffffffff00320200000012400101004002040201fde9400304c0000201100a01100a02100a03";
 
 /// Steps the event of a line.
 fn step_line(alloc: Global, core: &mut Core, line: &[u8], journal: &mut Journal) -> Result<(), Fail>
@@ -55,78 +45,84 @@ fn run(alloc: Global, script: &str, core: &mut Core, journal: &mut Journal) -> R
     Ok(())
 }
 
-/// How many rows a link has after a script; None where it isn't there.
-fn rows_after(
-    alloc: Global,
-    link: Link,
-    core: &mut Core,
-    journal: &mut Journal,
-) -> Result<Option<u128>, Fail>
-    requires { CoreStands core.old }
-{
-    run(alloc, SETTLED, core, journal)?;
-    Ok(core.count(link)?)
+/// Links, and how many rows each has once all is done; `-` where it isn't there.
+const COUNTS: &str = "\
+in.2 0\n\
+in.3 -\n\
+filt.1 3\n\
+res.1 3\n\
+best 3\n\
+read.1.1 3\n\
+adv.1.1 0\n\
+adv.2.1 3\n\
+red 0\n\
+ext 3\n\
+fib 4";
+
+/// Whether a line of the table holds.
+fn is_counted(core: &Core, line: &str) -> Result<bool, Fail> {
+    let (link, rows) = line.split_once(' ').ok_or("no number")?;
+    let link = Link::read(link.as_bytes()).ok_or("no link")?;
+    Ok(core.count(link)? == rows.parse::<u128>().ok())
 }
 
-fn counted(alloc: Global, link: Link) -> Result<Option<u128>, Fail> {
-    let mut core = Core::new(alloc);
-    let mut journal = Journal::new(alloc, true);
-    rows_after(alloc, link, &mut core, &mut journal)
-}
-
-#[test]
-fn rows_are_counted(rt: HostRuntime) -> Result<(), Fail> {
-    assert_eq!(rt; counted(rt.alloc(), Link::Filt(1))?, Some(1));
-    assert_eq!(rt; counted(rt.alloc(), Link::Res(1))?, Some(1));
-    assert_eq!(rt; counted(rt.alloc(), Link::Best)?, Some(1));
-    assert_eq!(rt; counted(rt.alloc(), Link::Read(1, 1))?, Some(1));
-    assert_eq!(rt; counted(rt.alloc(), Link::Adv(1, 1))?, Some(0));
-    assert_eq!(rt; counted(rt.alloc(), Link::Red)?, Some(0));
-    assert_eq!(rt; counted(rt.alloc(), Link::Ext)?, Some(1));
-    assert_eq!(rt; counted(rt.alloc(), Link::Fib)?, Some(2));
-    assert_eq!(rt; counted(rt.alloc(), Link::In(2))?, None);
+/// Fails at the first link that has another number of rows.
+fn are_counted(core: &Core) -> Result<(), Fail> {
+    for line in COUNTS.split('\n') {
+        if !is_counted(core, line)? {
+            return Err(Fail::from(line));
+        }
+    }
     Ok(())
 }
 
-/// What the calls that take turns answer.
-#[derive(Clone, Copy, Debug, PartialEq, Eq, Drop)]
-struct Turns {
-    first: Done,
-    others: u128,
-    after: Done,
-    idle: Idle,
-    again: Idle,
+/// Takes turns of the forwarding side's reader: whether the first is taken, how many others a phase takes, and whether nothing
+/// is left then.
+fn read_all(core: &mut Core, journal: &mut Journal) -> Result<(bool, u128, bool), Fail>
+    requires { CoreStands core.old }
+    ensures { OnOk result (CoreStands core.new) }
+{
+    let first = core.unit(Task::ReadRib, journal)? == Done::Taken;
+    let others = core.drain(Phase::ReadRib, journal)?;
+    let over = core.unit(Task::ReadRib, journal)? == Done::Nothing;
+    Ok((first, others, over))
 }
 
-/// A turn of the forwarding side's reader, its other turns, one more, and two idles, after a script.
-fn turns_after(alloc: Global, core: &mut Core, journal: &mut Journal) -> Result<Turns, Fail>
+/// What an idle announces, and how many turns it takes.
+fn idled(core: &mut Core, journal: &mut Journal) -> Result<[u128; 2], Fail>
+    requires { CoreStands core.old }
+    ensures { OnOk result (CoreStands core.new) }
+{
+    let idle = core.idle(journal)?;
+    Ok([idle.bound, idle.turns])
+}
+
+/// What the reader's turns answer, and two idles.
+type Turns = ((bool, u128, bool), [[u128; 2]; 2]);
+
+fn follow(alloc: Global, core: &mut Core, journal: &mut Journal) -> Result<Turns, Fail>
     requires { CoreStands core.old }
 {
     run(alloc, UNREAD, core, journal)?;
-    Ok(Turns {
-        first: core.unit(Task::ReadRib, journal)?,
-        others: core.drain(Phase::ReadRib, journal)?,
-        after: core.unit(Task::ReadRib, journal)?,
-        idle: core.idle(journal)?,
-        again: core.idle(journal)?,
-    })
+    let read = read_all(core, journal)?;
+    let first = idled(core, journal)?;
+    let again = idled(core, journal)?;
+    are_counted(core)?;
+    Ok((read, [first, again]))
 }
 
-fn turned(alloc: Global) -> Result<Turns, Fail> {
+fn told(alloc: Global) -> Result<Turns, Fail> {
     let mut core = Core::new(alloc);
     let mut journal = Journal::new(alloc, true);
-    turns_after(alloc, &mut core, &mut journal)
+    let turns = follow(alloc, &mut core, &mut journal);
+    drop(journal);
+    drop(core);
+    turns
 }
 
 #[test]
 fn turns_are_taken_until_nothing_is_left(rt: HostRuntime) -> Result<(), Fail> {
-    let turns = turned(rt.alloc())?;
-    assert_eq!(rt; turns.first, Done::Taken);
-    assert_eq!(rt; turns.others, 2);
-    assert_eq!(rt; turns.after, Done::Nothing);
-    assert_eq!(rt; turns.idle.bound, 196);
-    assert_eq!(rt; turns.idle.turns, 16);
-    assert_eq!(rt; turns.again.bound, 184);
-    assert_eq!(rt; turns.again.turns, 0);
+    let turns = told(rt.alloc())?;
+    assert!(rt; turns == ((true, 2, true), [[196, 16], [184, 0]]));
     Ok(())
 }

@@ -2,13 +2,12 @@
 
 ghost use Rattle.std.specs.Prelude.{◌<◌, Some};
 
-use anyhow::Context;
 use edge_io::{Failed, MemorySink, MemorySource, Source};
 use replay::{Status, replay};
-use std::alloc::Global;
+use std::alloc::{AllocError, Global};
 
 /// How much of a text one read gives.
-#[derive(Clone, Copy, Debug, PartialEq, Eq)]
+#[derive(Clone, Copy, PartialEq, Eq)]
 pub enum Pace {
     /// All that there is room for.
     Whole,
@@ -26,6 +25,8 @@ struct Paced {
     text: Vec<u8>,
     /// How much of it was asked for.
     place: usize,
+    /// How many reads there were.
+    reads: u64,
     inner: MemorySource,
 }
 
@@ -57,63 +58,77 @@ impl Source for Paced {
         let rest = self.text.get(self.place..).unwrap_or(&[]);
         let count = room(self.pace, rest).min(buf.len());
         self.place = self.place.saturating_add(count);
+        self.reads = self.reads.saturating_add(1);
         self.inner.read(&mut buf[..count])
     }
 }
 
-/// What the program answered, and what it wrote.
-#[derive(Debug, Drop)]
-pub struct Answer {
-    pub status: Status,
-    pub output: String,
-}
-
-impl Answer {
-    /// Whether the status is the one that an output's last line tells.
-    pub fn has_status_of(&self, output: &str) -> bool {
-        let last = output.lines().last().unwrap_or("");
-        self.status
-            == match last.split(' ').next() {
-                Some("refused") => Status::Refused,
-                Some("broken") => Status::Broken,
-                Some("usage:") => Status::Usage,
-                _ => Status::Ok,
-            }
-    }
-}
-
-fn owned(alloc: Global, words: &[&str]) -> anyhow::Result<Vec<String>> {
-    let mut all = Vec::new(alloc);
-    for word in words {
-        all.push(String::from_str(alloc, word)?)?;
-    }
-    Ok(all)
-}
-
-/// The answer to a text.
-pub fn answer_to(alloc: Global, words: &[&str], pace: Pace, text: &str) -> anyhow::Result<Answer> {
-    answer_failing(alloc, words, pace, text, Vec::new(alloc), Vec::new(alloc))
-}
-
-/// The answer to a text, where the reads and writes with these numbers fail.
-pub fn answer_failing(
-    alloc: Global,
-    words: &[&str],
-    pace: Pace,
-    text: &str,
-    reads: Vec<u64>,
-    writes: Vec<u64>,
-) -> anyhow::Result<Answer> {
-    let words = owned(alloc, words)?;
-    let mut source = Paced {
+/// A source of a text, whose read with this number fails; number 0 is none.
+fn source_of(alloc: Global, pace: Pace, text: &str, read: u64) -> Result<Paced, AllocError> {
+    let reads = vec![in alloc; read]?;
+    let inner = MemorySource::new(Vec::from_slice(alloc, text.as_bytes())?, reads);
+    Ok(Paced {
         pace,
         text: Vec::from_slice(alloc, text.as_bytes())?,
         place: 0,
-        inner: MemorySource::new(Vec::from_slice(alloc, text.as_bytes())?, reads),
-    };
-    let mut sink = MemorySink::new(Vec::new(alloc), writes);
-    let status = replay(alloc, words.as_slice(), &mut source, &mut sink);
-    let written = Vec::from_slice(alloc, sink.bytes())?;
-    let output = String::from_utf8(written).ok().context("no text")?;
-    Ok(Answer { status, output })
+        reads: 0,
+        inner,
+    })
+}
+
+/// The words of a command line.
+fn words_of(alloc: Global, command: &str) -> Result<Vec<String>, AllocError> {
+    let mut words = Vec::new(alloc);
+    for word in command.split(' ') {
+        words.push(String::from_str(alloc, word)?)?;
+    }
+    Ok(words)
+}
+
+/// What the program answered, what it wrote, and how many reads it made.
+#[derive(Drop)]
+pub struct Answer {
+    pub status: Status,
+    pub output: Vec<u8>,
+    pub reads: u64,
+}
+
+/// What the program answers to a source.
+fn answer_of(
+    alloc: Global,
+    words: &[String],
+    source: &mut Paced,
+    sink: &mut MemorySink,
+) -> Result<Answer, AllocError> {
+    let status = replay(alloc, words, source, sink);
+    Ok(Answer {
+        status,
+        output: Vec::from_slice(alloc, sink.bytes())?,
+        reads: source.reads,
+    })
+}
+
+/// The answer of a command to a text.
+pub fn answer_to(
+    alloc: Global,
+    command: &str,
+    pace: Pace,
+    text: &str,
+) -> Result<Answer, AllocError> {
+    answer_failing(alloc, command, pace, text, 0, 0)
+}
+
+/// The answer to a text, where the read and the write with these numbers fail; number 0 is none.
+pub fn answer_failing(
+    alloc: Global,
+    command: &str,
+    pace: Pace,
+    text: &str,
+    read: u64,
+    write: u64,
+) -> Result<Answer, AllocError> {
+    let mut sink = MemorySink::new(Vec::new(alloc), vec![in alloc; write]?);
+    let mut source = source_of(alloc, pace, text, read)?;
+    let words = words_of(alloc, command)?;
+    answer_of(alloc, words.as_slice(), &mut source, &mut sink)
 }

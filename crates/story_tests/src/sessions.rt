@@ -2,7 +2,7 @@
 //!
 //! What a program of another hand prints for its 131,073 lines was compared with the output that is made here.
 
-use std::alloc::Global;
+use std::alloc::{AllocError, Global};
 
 /// The most sessions that a peer may have.
 const MOST: u32 = 65_535;
@@ -30,30 +30,36 @@ b in.1\n\
 b filt.1\n\
 b res.1\n";
 
+/// What a session gives, with its number in the place of `#`.
+const SESSION: &str = "\
+i read.1.# best\n\
+b outf.1.#\n\
+b adv.1.#\n\
+e read.1.#\n\
+e outf.1.#\n\
+e adv.1.#\n";
+
 /// The events: all sessions that there may be, and one more.
-pub fn events_of_sessions(alloc: Global) -> anyhow::Result<String> {
-    let mut events = String::from_str(alloc, DECLARED)?;
+pub fn push_events(events: &mut String) -> Result<(), AllocError> {
+    events.push_str(DECLARED)?;
     for _ in 0..MOST {
         events.push_str("up 1\ndown 1\n")?;
     }
-    events.push_str("up 1\n")?;
-    Ok(events)
+    events.push_str("up 1\n")
+}
+
+/// What the session with this number gives.
+fn push_session(alloc: Global, number: u32, output: &mut String) -> Result<(), AllocError> {
+    let number = format!(in alloc; "{number}")?;
+    let session = SESSION.replace(alloc, '#', number.as_str())?;
+    output.push_str(session.as_str())
 }
 
 /// Their output: of each session, links that begin and end; the one more is refused.
-pub fn output_of_sessions(alloc: Global) -> anyhow::Result<String> {
-    let mut output = String::from_str(alloc, BEGUN)?;
+pub fn push_output(alloc: Global, output: &mut String) -> Result<(), AllocError> {
+    output.push_str(BEGUN)?;
     for before in 0..MOST {
-        let session = before.wrapping_add(1);
-        let begun = format!(in alloc;
-            "i read.1.{session} best\nb outf.1.{session}\nb adv.1.{session}\n"
-        )?;
-        let ended = format!(in alloc;
-            "e read.1.{session}\ne outf.1.{session}\ne adv.1.{session}\n"
-        )?;
-        output.push_str(begun.as_str())?;
-        output.push_str(ended.as_str())?;
+        push_session(alloc, before.wrapping_add(1), output)?;
     }
-    output.push_str("refused 131073 E6\n")?;
-    Ok(output)
+    output.push_str("refused 131073 E6\n")
 }

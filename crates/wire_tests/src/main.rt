@@ -8,6 +8,8 @@
 //! It prints each row that gets another answer, and then how many rows there were and how many were wrong.
 #![tactic(auto)]
 
+ghost use Rattle.bgp_wire.specs.Readable.{IsReadableMessage};
+
 mod octets;
 mod texts;
 mod written;
@@ -18,11 +20,28 @@ use crate::written::push_written;
 use addr4::Memory;
 use anyhow::Context;
 use bgp_attr::Profile;
-use bgp_wire::read_message;
+use bgp_wire::{Message, read_message};
 use std::alloc::Global;
-use std::io::{BufRead, BufReader};
+use std::io;
 
-/// The answer to octets, in words or as what is sent.
+/// What was read, in words or as what is sent.
+fn push_told(
+    out: &mut Vec<u8>,
+    flags: &str,
+    profile: Profile,
+    external: bool,
+    message: &Message,
+) -> Result<(), Memory>
+    requires { IsReadableMessage profile external message.now }
+{
+    if is_sent(flags) {
+        push_written(out, profile, external, message, flags.contains('W'))
+    } else {
+        push_message(out, message)
+    }
+}
+
+/// The answer to octets.
 fn push_answer(out: &mut Vec<u8>, flags: &str, octets: &[u8]) -> Result<(), Memory> {
     let profile = Profile {
         as4: flags.contains('4'),
@@ -30,11 +49,7 @@ fn push_answer(out: &mut Vec<u8>, flags: &str, octets: &[u8]) -> Result<(), Memo
     };
     let external = flags.contains('x');
     let message = read_message(*out.allocator(), profile, octets, external)?;
-    if is_sent(flags) {
-        push_written(out, profile, external, &message, flags.contains('W'))
-    } else {
-        push_message(out, &message)
-    }
+    push_told(out, flags, profile, external, &message)
 }
 
 /// Whether the answer is what is sent.
@@ -51,13 +66,18 @@ fn wanted_answer(alloc: Global, flags: &str, wanted: &str) -> anyhow::Result<Vec
 }
 
 /// Whether octets get the answer that is wanted.
+fn is_answered(alloc: Global, flags: &str, octets: &[u8], wanted: &[u8]) -> Result<bool, Memory> {
+    let mut out = Vec::new(alloc);
+    push_answer(&mut out, flags, octets)?;
+    Ok(out.as_slice() == wanted)
+}
+
+/// The same of octets and an answer in words.
 fn is_right(alloc: Global, flags: &str, words: &str, wanted: &str) -> anyhow::Result<bool> {
     let octets = octets_of(alloc, words)?;
-    let mut out = Vec::new(alloc);
-    push_answer(&mut out, flags, octets.as_slice())
-        .ok()
-        .context("no memory")?;
-    Ok(out.as_slice() == wanted_answer(alloc, flags, wanted)?.as_slice())
+    let wanted = wanted_answer(alloc, flags, wanted)?;
+    let answered = is_answered(alloc, flags, octets.as_slice(), wanted.as_slice());
+    answered.ok().context("no memory")
 }
 
 /// Whether a row gets the answer that it wants.
@@ -67,22 +87,26 @@ fn row_is_right(alloc: Global, row: &str) -> anyhow::Result<bool> {
     is_right(alloc, flags, words, wanted)
 }
 
-fn main(rt: HostRuntime) -> anyhow::Result<()> {
-    let alloc = rt.alloc();
+/// Prints each row of a text that gets another answer; how many rows there are, and how many are wrong.
+fn judge(rt: &HostRuntime, text: &str) -> anyhow::Result<[u64; 2]> {
     let mut rows = 0u64;
     let mut wrong = 0u64;
-    for line in BufReader::new(alloc, rt.reader())?.lines(alloc) {
-        let line = line?;
-        let row = line.as_str();
+    for row in text.lines() {
         if row.is_empty() || row.starts_with('#') {
             continue;
         }
         rows = rows.wrapping_add(1);
-        if !row_is_right(alloc, row)? {
+        if !row_is_right(rt.alloc(), row)? {
             wrong = wrong.wrapping_add(1);
             println!(rt; "{row}")?;
         }
     }
+    Ok([rows, wrong])
+}
+
+fn main(rt: HostRuntime) -> anyhow::Result<()> {
+    let text = io::read_to_string(rt.alloc(), rt.reader())?;
+    let [rows, wrong] = judge(&rt, text.as_str())?;
     println!(rt; "{rows} rows, {wrong} wrong")?;
     Ok(())
 }

@@ -1,2 +1,0 @@
-pub mod ReadyLemmas
-pub mod StrangerLemmas
