@@ -25,8 +25,6 @@ use Rattle.journal_text.specs.Texts.{entries_of}
 use Rattle.journal_text.specs.Walk.{Leads}
 use Rattle.std.specs.Option.{ForSome}
 use Rattle.link_change.specs.Changes.{IsSent}
-use Rattle.decision.specs.Branches.{best_rows}
-use Rattle.hop_side.specs.Resolvers.{PeerRows, res_at}
 use Rattle.peer_out.specs.Changes.{MayBeHeard}
 use Rattle.router_core.specs.Bests.{all_at, best_at, best_entries}
 use Rattle.router_core.proofs.BestLemmas.{best_quiet}

@@ -6,6 +6,7 @@ pub mod RegionLemmas
 pub mod StandLemmas
 pub mod ForwardLemmas
 pub mod ScratchLemmas
+pub mod KnownLemmas
 pub mod PeerTurns
 pub mod KeepLemmas
 pub mod HeardRows

@@ -1,5 +1,6 @@
 -- One turn of a task of a peer.
 use Rattle.std.proofs.Common.{◌≡◌, ℕ, ◌≤◌, Bool, true, false, List, ◌++◌, Option, Some, None, refl, sym, ap, subst, ◌∙◌, arith}
+use Rattle.addr4.specs.Prefixes.{Network}
 use Rattle.bgp_attr.specs.declared.route.Route.{Route}
 use Rattle.link_change.specs.Rows.{Rows}
 use Rattle.link_change.specs.declared.change.Change.{Change}
@@ -11,14 +12,14 @@ use Rattle.journal_text.specs.declared.entry.Entry.{Entry}
 use Rattle.journal_text.specs.declared.value.Value.{Value}
 use Rattle.journal_text.specs.declared.line.Line.{Line}
 use Rattle.journal_text.specs.Journals.{Journaled, Adds, flushed}
-use Rattle.in_chain.specs.Chains.{Chained}
-use Rattle.in_chain.specs.Steps.{welded}
+use Rattle.in_chain.specs.Chains.{Chained, filt_rows}
+use Rattle.in_chain.specs.Steps.{welded, Turned}
 use Rattle.std.specs.Prelude.{IsSome, is_some}
 use Rattle.event_text.specs.declared.declared.DeclaredPeer.{DeclaredPeer}
 use Rattle.event_text.specs.Declarations.{peer_at}
-use Rattle.hop_side.specs.Resolvers.{resolver_at}
+use Rattle.hop_side.specs.Resolvers.{resolver_at, known_in}
 use Rattle.hop_side.specs.Steps.{GoesOn}
-use Rattle.peer_side.specs.Peers.{Chains, IsPeersBut, chain_at, put_chain, filt_at, lost_in, peer_of, has_peer_work}
+use Rattle.peer_side.specs.Peers.{Chains, IsPeersBut, chain_at, put_chain, filt_by, filt_at, lost_in, peer_of, has_peer_work}
 use Rattle.peer_side.specs.Steps.{Nears, TakesInward, ComesInward}
 use Rattle.router_core.specs.declared.router.Done.TheVariants.{Nothing, Taken}
 use Rattle.journal_text.specs.Texts.{entries_of}
@@ -27,15 +28,14 @@ use Rattle.std.specs.FinMap as tables
 use Rattle.link_change.specs.Changes.{IsSent}
 use Rattle.rib_route.specs.declared.rows.Interior.{Interior}
 use Rattle.register_interest.specs.Registers.{Registry}
-use Rattle.decision.specs.Branches.{best_rows}
 use Rattle.exit_side.specs.Exits.{OutChains}
-use Rattle.hop_side.specs.Resolvers.{Resolvers, PeerRows, res_at}
+use Rattle.hop_side.specs.Resolvers.{Resolvers}
 use Rattle.peer_side.proofs.PutLemmas.{put_size}
 use Rattle.router_core.specs.Bests.{all_at, best_at, best_entries}
 use Rattle.router_core.specs.Printable.{IsHeard}
 use Rattle.router_core.proofs.HeardSteps.{heard_quiet, queue_views, falls_unheard}
 use Rattle.router_core.specs.Moments.{Moment, own_of, best_of, with_chains, with_hops, with_exits, router_links}
-use Rattle.router_core.specs.Stands.{IsSilent, PeerStands, Stands, HopsCounted, SmallNumbers, EachRow, open_session}
+use Rattle.router_core.specs.Stands.{IsSilent, PeerStands, Stands, EachChain, EachResolver, HopsCounted, SmallNumbers, EachRow, open_session}
 use Rattle.router_core.specs.Turns.{Resolves, IsOfPeers, IsPeerTurn, IsTurn, phase_of, sent_of, has_work, journal_lines}
 use Rattle.router_core.specs.Works.{KnowsNoMore, IsUnit, Comes, SettlesPeer}
 use Rattle.peer_side.proofs.WeldLemmas.{fallen_at, weld_after, weld_keeps, nears_weld, adds_both}
@@ -47,6 +47,7 @@ use Rattle.router_core.proofs.MostLemmas.{rows_less}
 use Rattle.router_core.proofs.SpendLemmas.{Sends, few_sent, turn_sends, peer_spends}
 use Rattle.router_core.proofs.ReadingLemmas.{queue_most}
 use Rattle.rib_exit.specs.Exits.{known_in as external_known}
+use Rattle.router_core.proofs.KnownLemmas.{knows_no_more, swept_stood}
 use Rattle.router_core.proofs.StandLemmas.{peer_of as peer_at_chain, resolver_there, speaker_there, same_peers, not_zero, external_agrees, stands_with, live_same}
 
 silent_as : (up : Bool) (c c' : Chained) → c'.incoming.tables.live ≡ c.incoming.tables.live → IsSilent up c → IsSilent up c'
@@ -81,15 +82,15 @@ lost_less Red a a' near = absurd near
 lost_less Ext a a' near = absurd near
 
 -- and none asks for the next hops of external routes
-peer_knows : (task : Task) (m m' : Moment) → m'.rib ≡ m.rib → Nears task m.chains m'.chains → KnowsNoMore (phase_of task) m m'
-peer_knows (Del k s) m m' same near = let e : external_known m'.rib ≡ external_known m.rib = ap external_known same in omega (arith, e)
-peer_knows (Fin k) m m' same near = let e : external_known m'.rib ≡ external_known m.rib = ap external_known same in omega (arith, e)
-peer_knows (Nh k) m m' same near = absurd near
-peer_knows ReadRib m m' same near = absurd near
-peer_knows (Out k) m m' same near = absurd near
-peer_knows (Rdel proto n) m m' same near = absurd near
-peer_knows Red m m' same near = absurd near
-peer_knows Ext m m' same near = absurd near
+peer_knows : (task : Task) (m m' : Moment) → m'.rib ≡ m.rib → Nears task m.chains m'.chains → ((k s : ℕ) → task ≡ Del k s → known_in m'.hops ≤ known_in m.hops) → KnowsNoMore (phase_of task) m m'
+peer_knows (Del k s) m m' same near fewer = (fewer k s refl, let e : external_known m'.rib ≡ external_known m.rib = ap external_known same in omega (arith, e))
+peer_knows (Fin k) m m' same near fewer = let e : external_known m'.rib ≡ external_known m.rib = ap external_known same in omega (arith, e)
+peer_knows (Nh k) m m' same near fewer = absurd near
+peer_knows ReadRib m m' same near fewer = absurd near
+peer_knows (Out k) m m' same near fewer = absurd near
+peer_knows (Rdel proto n) m m' same near fewer = absurd near
+peer_knows Red m m' same near fewer = absurd near
+peer_knows Ext m m' same near fewer = absurd near
 
 -- a turn in a peer's chain, and what follows it, are one of the router
 unit_done : (task : Task) (sent : Option (Change Route)) (m : Moment) (fallen : Chains) (m' : Moment) (entries rest : List (Entry Value)) → Stands m → TakesInward task sent m.chains fallen entries
@@ -112,7 +113,7 @@ unit_done task sent m fallen m' entries rest stands t w =
         left = (peer_spends task m after refl refl near sends).1;
         earlier = (peer_spends task m after refl refl near sends).2;
         rows = (peer_spends task m after refl refl near sends).3;
-        known = peer_knows task m after refl near;
+        known = peer_knows task m after refl near fewer_known;
         unread = (peer_spends task m after refl refl near sends).4;
       };
     }))
@@ -160,6 +161,19 @@ unit_done task sent m fallen m' entries rest stands t w =
         (exits_fall m (with_exits (with_hops (with_chains m m'.chains) m'.registry m'.hops) m'.exits) w.decided.best t.changes.0 stands
         (put_heard (peer_of task) (welded t.turn.turned_chain) m.chains m'.chains put (weld_heard t.turn.turned_chain (turned_heard task t.turn.chain t.turn.turned_chain sent entries t.turn.turned (stands.own EachRow (peer_of task) t.turn.chain t.turn.at))) (stands.own EachRow)) w.queued
         (subst (λ (rows : Rows Route). IsSent (best_of m) rows t.changes.0 w.decided.best) (sym (best_quiet (own_of m) fallen m'.chains m'.hops w.welds.quiet)) decides) refl refl refl (λ rows over. over))
+
+    -- of a deletion stage no row comes on `filt.K`
+    fewer_known : (j s : ℕ) → task ≡ Del j s → known_in m'.hops ≤ known_in m.hops
+    fewer_known j s is =
+        knows_no_more (peer_of task) (filt_at m.chains) (filt_at fallen) stood m.hops m'.hops (stands.own EachResolver) w.below.agreed.sound (stands.own HopsCounted) goes.counted sent w.passed m.registry m'.registry w.resolved
+        w.below.resolves
+      where
+        stood : (q : Network) → IsSome (filt_at fallen (peer_of task) q) → filt_at fallen (peer_of task) q ≡ filt_at m.chains (peer_of task) q
+        stood q some =
+            let old : filt_at m.chains (peer_of task) q ≡ filt_rows t.turn.chain q = ap (λ (o : Option Chained). filt_by o q) t.turn.at in
+            let new : filt_at fallen (peer_of task) q ≡ filt_rows t.turn.turned_chain q = ap (λ (o : Option Chained). filt_by o q) (fallen_at (peer_of task) m.chains fallen t.turn.turned_chain t.turn.after) in
+            new ∙ swept_stood t.turn.chain t.turn.turned_chain s sent entries (stands.own EachChain (peer_of task) t.turn.chain t.turn.at).chain (subst (λ (x : Task). Turned t.turn.chain t.turn.turned_chain x sent entries) is t.turn.turned).1 q (ap is_some (sym new) ∙ some)
+            ∙ sym old
 
     -- where nothing comes out on `filt.K`, nothing is decided
     quiet_below : sent ≡ None → w.decided.best ≡ None

@@ -29,7 +29,6 @@ use Rattle.rib_exit.specs.declared.exit.RibExit.{RibExit}
 use Rattle.rib_exit.specs.Exits.{exit_links as external_links, IsExit, AgreesWith, StandsOver}
 use Rattle.rib_exit.specs.Steps.{TakesInterior, FollowsOn}
 use Rattle.exit_side.specs.Exits.{Exited}
-use Rattle.exit_laws.specs.Views.{AreUnheard}
 use Rattle.exit_laws.proofs.HearLemmas.{unheard_joins}
 use Rattle.exit_laws.proofs.OtherLemmas.{others_are_unheard}
 use Rattle.link_region.specs.declared.regions.Region.{Region}

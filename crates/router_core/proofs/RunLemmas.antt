@@ -41,7 +41,7 @@ work_none : (r : Phase) (m : Moment) → Stands m → IsWork r 0 m m []
 work_none r m stands = record { keeps = keeps_none m stands; falls = omega arith; left = omega arith; earlier = none_more m (earlier r); rows = same_rows m m refl refl; known = none_known r; unread = omega arith }
   where
     none_known : (e : Phase) → KnowsNoMore e m m
-    none_known Del = omega arith
+    none_known Del = (omega arith, omega arith)
     none_known Fin = omega arith
     none_known ReadRib = omega arith
     none_known Rdel = (omega arith, omega arith)
@@ -65,7 +65,7 @@ both_less : (a b c : Moment) → (known_in b.hops ≤ known_in a.hops) × (exter
 both_less a b c x y = (let p = x.0 in let q = y.0 in omega (arith, p, q), let p = x.1 in let q = y.1 in omega (arith, p, q))
 
 known_then : (r : Phase) (a b c : Moment) → KnowsNoMore r a b → KnowsNoMore r b c → KnowsNoMore r a c
-known_then Del a b c x y = omega (arith, x, y)
+known_then Del a b c x y = both_less a b c x y
 known_then Fin a b c x y = omega (arith, x, y)
 known_then ReadRib a b c x y = omega (arith, x, y)
 known_then Rdel a b c x y = both_less a b c x y

@@ -71,9 +71,8 @@ pub record AddsNoRows (m m' : Moment) : Type 0 where
   pub protocols : tree_count m'.tree ≤ tree_count m.tree
 
 -- No more next hops are known than before. But a row that new rules let through to `filt.K`, or that the forwarding side reads, may name a
--- new one: so of peers no claim is made in turns of their chains, nor of external rows in the forwarding side's turns.
+-- new one: so of peers no claim is made in walks of filters, nor of external rows in the forwarding side's turns.
 abbrev pub KnowsNoMore : Phase → Moment → Moment → Type 0
-KnowsNoMore phases.Del m m' = external_known m'.rib ≤ external_known m.rib
 KnowsNoMore phases.Fin m m' = external_known m'.rib ≤ external_known m.rib
 KnowsNoMore phases.ReadRib m m' = known_in m'.hops ≤ known_in m.hops
 KnowsNoMore other m m' = (known_in m'.hops ≤ known_in m.hops) × (external_known m'.rib ≤ external_known m.rib)
