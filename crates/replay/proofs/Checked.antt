@@ -10,18 +10,22 @@ use Rattle.journal_text.specs.declared.value.Value.{Value}
 use Rattle.journal_text.specs.declared.value.Value.TheVariants as values
 use Rattle.journal_laws.specs.Printed.{IsTold, IsPrinted, values_in}
 use Rattle.journal_laws.proofs.LawfulTexts.{printed_judged, refused_judged, lawful_ends}
-use Rattle.event_text.specs.Declarations.{Declaration, no_declaration}
+use Rattle.event_gen.specs.Lines.{text}
+use Rattle.event_text.specs.Declarations.{Declaration, no_declaration, IsCounted}
 use Rattle.router_core.specs.Moments.{Moment, first_moment}
 use Rattle.live_state.specs.Declared.{declared_after}
 use Rattle.journal_laws.specs.Peers.{neighbours, KeepsPeers}
 use Rattle.check_run.specs.Lines.{lines_of}
 use Rattle.check_run.specs.Runs.{Took}
-use Rattle.replay.specs.declared.words.Command.{Command}
-use Rattle.replay.specs.declared.words.Command.TheVariants as commands
+use Rattle.command_line.specs.declared.words.Command.{Command}
+use Rattle.command_line.specs.declared.words.Command.TheVariants as commands
 use Rattle.replay.specs.Judging.{judge, verdict_from, refused_or}
 use Rattle.replay.specs.Output.{Run, IsOutput, IsRefusedOutput}
 use Rattle.replay.specs.Answers.{IsLawfulToCheck, HasDone, HasRefused, HasLawful}
+use Rattle.replay.specs.Totals.{IsTotalledOutput}
 use Rattle.replay.proofs.Lines.{accepted_in_time}
+use Rattle.replay.proofs.SkippedTexts.{EndsWhole, text_ended, lawful_behind}
+use Rattle.replay.proofs.Totalled.{totals_skipped, run_counted}
 
 -- ---- lines are printed, where more peers are declared
 module _ (before now : Declaration) (keeps : KeepsPeers before now) where
@@ -95,18 +99,33 @@ refused_lawful quiet text bytes r = subst IsLawfulToCheck (sym (r.written ∙ ap
     low : r.number ≤ 4294967296
     low = verdict_low 1 no_declaration (lines_of text) r.number r.code r.refused (omega arith)
 
+-- with totals behind it
+totalled_lawful : (quiet : Bool) (text bytes : List ℕ) → IsTotalledOutput quiet text bytes → IsLawfulToCheck bytes
+totalled_lawful quiet text bytes t = subst IsLawfulToCheck (sym t.written) (λ few.
+    let is = lawful_behind t.earlier t.totals ends (totals_skipped t.end t.turns t.totals counted t.counted) (λ fewer. (output_lawful quiet (lines_of text) t.earlier o fewer).0) few in
+    (is, λ ending judged. lawful_ends (t.earlier ++ t.totals) ending is judged))
+  where
+    o : IsOutput quiet (lines_of text) t.earlier
+    o = t.output.output
+
+    ends : EndsWhole t.earlier
+    ends = subst EndsWhole (sym o.text) (text_ended quiet o.out)
+
+    counted : IsCounted t.end.declared.peers
+    counted = subst (λ (m : Moment). IsCounted m.declared.peers) t.output.at (run_counted 1 first_moment o.end (lines_of text) o.out tt o.run)
+
 -- ---- commands
 took_so : (left0 taken0 taken : Option (List ℕ)) (P Q : List ℕ → List ℕ → Type 0) → ((text bytes : List ℕ) → P text bytes → Q text bytes) → Took left0 taken0 taken P → Took left0 taken0 taken Q
 took_so left0 taken0 taken P Q so t = (t.0, t.1, t.2, t.3, so t.0 t.1 t.4)
 
 pub done_lawful : (command : Option Command) (left0 taken0 taken : Option (List ℕ)) → HasDone command left0 taken0 taken → HasLawful command left0 taken0 taken
 done_lawful (Some (commands.Run quiet)) left0 taken0 taken h = took_so left0 taken0 taken _ _ (λ text bytes is. (inl is, output_lawful quiet (lines_of text) bytes is)) h
-done_lawful (Some (commands.Gen seed count quiet)) left0 taken0 taken h = tt
+done_lawful (Some (commands.Gen seed count quiet)) left0 taken0 taken h = (h.0, h.1, (inl h.2, totalled_lawful quiet (text seed count) h.0 h.2))
 done_lawful (Some commands.Check) left0 taken0 taken h = tt
 done_lawful None left0 taken0 taken h = tt
 
 pub refusal_lawful : (command : Option Command) (left0 taken0 taken : Option (List ℕ)) → HasRefused command left0 taken0 taken → HasLawful command left0 taken0 taken
 refusal_lawful (Some (commands.Run quiet)) left0 taken0 taken h = took_so left0 taken0 taken _ _ (λ text bytes is. (inr is, refused_lawful quiet text bytes is)) h
-refusal_lawful (Some (commands.Gen seed count quiet)) left0 taken0 taken h = tt
+refusal_lawful (Some (commands.Gen seed count quiet)) left0 taken0 taken h = (h.0, h.1, (inr h.2, refused_lawful quiet (text seed count) h.0 h.2))
 refusal_lawful (Some commands.Check) left0 taken0 taken h = tt
 refusal_lawful None left0 taken0 taken h = tt

@@ -5,8 +5,8 @@ use Rattle.std.proofs.Math.Seq.{take-append_seam, take-length}
 use Rattle.std.specs.Io.KnownBytes.{Appends, Consumes, IsAtEnd, Keeps}
 use Rattle.replay.proofs.FirstLinks.{none_at_first}
 use Rattle.replay.proofs.HeardLemmas.{nobody_hears, nothing_sent}
-use Rattle.replay.specs.declared.words.Command.{Command}
-use Rattle.replay.specs.declared.words.Command.TheVariants.{Run, Gen, Check}
+use Rattle.command_line.specs.declared.words.Command.{Command}
+use Rattle.command_line.specs.declared.words.Command.TheVariants.{Run, Gen, Check}
 use Rattle.event_gen.specs.Lines.{text}
 use Rattle.replay.specs.Answers.{HasFirst}
 use Rattle.replay.specs.declared.status.Status.{Status}

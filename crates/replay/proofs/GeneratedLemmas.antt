@@ -1,5 +1,5 @@
--- How a run of generated events ends.
-use Rattle.std.proofs.Common.{◌≡◌, ◌⊎◌, ℕ, Bool, List, ◌++◌, length, take, Option, Some, inl, inr, ⊎_elim, refl, sym, ap, subst, ◌∙◌, append_assoc}
+-- How a run ends where totals are asked for, and one of generated events.
+use Rattle.std.proofs.Common.{◌≡◌, ℕ, Bool, true, false, List, ◌++◌, length, take, Option, Some, inl, inr, ⊎_elim, refl, sym, ap, subst, ◌∙◌, append_assoc}
 use Rattle.std.specs.Io.KnownBytes.{Appends}
 use Rattle.check_run.specs.Lines.{lines_of, lines_in}
 use Rattle.check_run.proofs.Pieces.{lines_behind}
@@ -7,44 +7,57 @@ use Rattle.std.proofs.Math.Seq.{take-append_seam}
 use Rattle.check_run.specs.Runs.{Took, Writes, ReadsAndWrites, IsFrontOf}
 use Rattle.check_run.proofs.Known.{appends_then}
 use Rattle.router_core.specs.Moments.{Moment}
-use Rattle.replay.specs.Output.{IsOutput, IsOutputTo, IsRefusedOutput, IsOutputOfFront, IsOutputOfEnded, IsFrontOfOutput}
-use Rattle.replay.specs.Totals.{AreTotals, IsTotalledOutput, IsFrontOfTotalled}
+use Rattle.replay.specs.Output.{IsOutput, IsOutputTo, IsOutputOfFront, IsOutputOfEnded, IsFrontOfOutput}
+use Rattle.replay.specs.Totals.{AreTotals, IsWholeOutput, IsFrontOfWhole}
 use Rattle.replay.proofs.Endings.{whole_front}
 
 -- of a source that tells its text
 pub of_told : (text : List ℕ) (before now : Option (List ℕ)) (P : List ℕ → List ℕ → Type 0) → Took (Some text) before now P → Writes before now (P text)
 of_told text before now P t = (t.1, t.3, subst (λ (x : List ℕ). P x t.1) t.2 t.4)
 
+-- without totals
+pub plain_whole : (totalled quiet : Bool) (left a b : Option (List ℕ)) (m : Moment) (turns : ℕ) → totalled ≡ false → Took left a b (λ text bytes. IsOutputTo quiet (lines_of text) bytes m turns) → Took left a b (IsWholeOutput totalled quiet)
+plain_whole totalled quiet left a b m turns none f = subst (λ (t : Bool). Took left a b (IsWholeOutput t quiet)) (sym none) (f.0, f.1, f.2, f.3, f.4.output)
+
+pub plain_front : (totalled quiet : Bool) (left a b : Option (List ℕ)) → totalled ≡ false → Took left a b (IsFrontOfOutput quiet) → Took left a b (IsFrontOfWhole totalled quiet)
+plain_front totalled quiet left a b none f = subst (λ (t : Bool). Took left a b (IsFrontOfWhole t quiet)) (sym none) f
+
 -- the output of all events, and the totals behind it
-pub totalled : (quiet : Bool) (text : List ℕ) (m : Moment) (turns : ℕ) (a b c : Option (List ℕ)) → Writes a b (λ bytes. IsOutputTo quiet (lines_of text) bytes m turns) → Writes b c (AreTotals m turns) → Writes a c (IsTotalledOutput quiet text)
-totalled quiet text m turns a b c f g = (
-  f.0 ++ g.0,
-  appends_then a b c f.0 g.0 f.1 g.1,
-  record { end = m; turns = turns; earlier = f.0; output = f.2; totals = g.0; counted = g.2; written = refl },
+pub totalled_whole : (totalled quiet : Bool) (left a b c : Option (List ℕ)) (m : Moment) (turns : ℕ) → totalled ≡ true → Took left a b (λ text bytes. IsOutputTo quiet (lines_of text) bytes m turns) → Writes b c (AreTotals m turns) → Took left a c (IsWholeOutput totalled quiet)
+totalled_whole totalled quiet left a b c m turns asked f g = subst (λ (t : Bool). Took left a c (IsWholeOutput t quiet)) (sym asked) (
+  f.0,
+  f.1 ++ g.0,
+  f.2,
+  appends_then a b c f.1 g.0 f.3 g.1,
+  record { end = m; turns = turns; earlier = f.1; output = f.4; totals = g.0; counted = g.2; written = refl },
 )
 
 -- no memory for the totals
-pub untotalled : (quiet : Bool) (text : List ℕ) (m : Moment) (turns : ℕ) (a b c : Option (List ℕ)) → Writes a b (λ bytes. IsOutputTo quiet (lines_of text) bytes m turns) → c ≡ b → Writes a c (IsOutputOfFront quiet text)
-untotalled quiet text m turns a b c f same = (f.0, subst (λ (t : Option (List ℕ)). Appends a t f.0) (sym same) f.1, whole_front quiet text f.0 f.2.output)
+pub untotalled : (quiet : Bool) (left a b c : Option (List ℕ)) (m : Moment) (turns : ℕ) → Took left a b (λ text bytes. IsOutputTo quiet (lines_of text) bytes m turns) → c ≡ b → Took left a c (IsOutputOfFront quiet)
+untotalled quiet left a b c m turns f same = (f.0, f.1, f.2, subst (λ (t : Option (List ℕ)). Appends a t f.1) (sym same) f.3, whole_front quiet f.0 f.1 f.4.output)
 
 -- a write of the totals that failed
-pub front_totalled : (quiet : Bool) (text : List ℕ) (m : Moment) (turns : ℕ) (a b c : Option (List ℕ)) → Writes a b (λ bytes. IsOutputTo quiet (lines_of text) bytes m turns) → Writes b c (λ more. (totals : List ℕ) × AreTotals m turns totals × IsFrontOf totals more) → Writes a c (IsFrontOfTotalled quiet text)
-front_totalled quiet text m turns a b c f g =
-    let totals = g.2.0 in
+pub totalled_front : (totalled quiet : Bool) (left a b c : Option (List ℕ)) (m : Moment) (turns : ℕ) → totalled ≡ true → Took left a b (λ text bytes. IsOutputTo quiet (lines_of text) bytes m turns)
+    → Writes b c (λ more. (totals : List ℕ) × AreTotals m turns totals × IsFrontOf totals more) → Took left a c (IsFrontOfWhole totalled quiet)
+totalled_front totalled quiet left a b c m turns asked f g = subst (λ (t : Bool). Took left a c (IsFrontOfWhole t quiet)) (sym asked)
+    (let totals = g.2.0 in
     let front = g.2.2 in (
-      f.0 ++ g.0,
-      appends_then a b c f.0 g.0 f.1 g.1,
+      f.0,
+      f.1 ++ g.0,
+      f.2,
+      appends_then a b c f.1 g.0 f.3 g.1,
       record {
-        whole = f.0 ++ totals;
+        whole = f.1 ++ totals;
         rest = front.0;
-        front = ap (λ t. f.0 ++ t) front.1 ∙ sym (append_assoc f.0 g.0 front.0);
-        allowed = inr (inr (record { end = m; turns = turns; earlier = f.0; output = f.2; totals = totals; counted = g.2.1; written = refl }));
+        front = ap (λ t. f.1 ++ t) front.1 ∙ sym (append_assoc f.1 g.0 front.0);
+        allowed = inr (inr (record { end = m; turns = turns; earlier = f.1; output = f.4; totals = totals; counted = g.2.1; written = refl }));
       },
-    )
+    ))
 
--- a write of the output that failed
-pub front_of_run : (quiet : Bool) (text : List ℕ) (a c : Option (List ℕ)) → Writes a c (IsFrontOfOutput quiet text) → Writes a c (IsFrontOfTotalled quiet text)
-front_of_run quiet text a c f = (f.0, f.1, record { whole = f.2.whole; rest = f.2.rest; front = f.2.front; allowed = ⊎_elim inl (λ r. inr (inl r)) f.2.allowed })
+-- a write of the output that failed, whether totals are asked for or not
+pub front_of_run : (totalled quiet : Bool) (left a c : Option (List ℕ)) → Took left a c (IsFrontOfOutput quiet) → Took left a c (IsFrontOfWhole totalled quiet)
+front_of_run false quiet left a c f = f
+front_of_run true quiet left a c f = (f.0, f.1, f.2, f.3, record { whole = f.4.whole; rest = f.4.rest; front = f.4.front; allowed = ⊎_elim inl (λ r. inr (inl r)) f.4.allowed })
 
 -- an output of the lines that have ended is one of some first lines, however the text goes on
 front_of_ended : (quiet : Bool) (read more bytes : List ℕ) → IsOutputOfEnded quiet read bytes → IsOutputOfFront quiet (read ++ more) bytes

@@ -5,11 +5,12 @@ pub mod Steps
 pub mod Pieces
 pub mod GoingOn
 pub mod Endings
-pub mod WordLemmas
 mod SettledLinks
 pub mod HeardLemmas
+pub mod Counted
+pub mod SkippedTexts
+pub mod Totalled
 pub mod Checked
 pub mod Seeds
 pub mod TotalLemmas
 pub mod GeneratedLemmas
-pub mod NumberLemmas

@@ -12,7 +12,6 @@ use Rattle.journal_check.proofs.InkLemmas.{both_true}
 use Rattle.journal_text.specs.declared.line.Code.{Code}
 use Rattle.journal_text.specs.declared.line.Code.TheVariants.{E1, E6}
 use Rattle.event_text.specs.declared.event.Event.{Event}
-use Rattle.event_text.specs.declared.event.Event.TheVariants as events
 use Rattle.event_text.specs.declared.declared.DeclaredPeer.{DeclaredPeer}
 use Rattle.event_text.specs.Words.{is_clean}
 use Rattle.policy_rules.specs.Words.{words}
@@ -22,17 +21,17 @@ use Rattle.live_state.specs.Declared.{declared_after, declared_up, declared_down
 use Rattle.live_state.specs.Messages.{ends_session}
 use Rattle.event_gen.specs.Draws.{next_draws, behind_draws}
 use Rattle.event_gen.specs.Events as draws
-use Rattle.event_gen.specs.Lines.{text, lines, announce_octets, withdraw_octets}
-use Rattle.event_gen.specs.Readings.{AreReadAs, LinesAreRead, meanings, meant, opening_events, task_meant}
+use Rattle.event_gen.specs.Lines.{lines, announce_octets, withdraw_octets}
+use Rattle.event_gen.specs.Readings.{AreReadAs, LinesAreRead, meanings, meant, opening_events}
 use Rattle.event_gen.specs.declared.drawn.Work.{Work}
 use Rattle.event_gen.specs.declared.drawn.Work.TheVariants as works
 use Rattle.event_gen.specs.declared.drawn.Drawn.{Drawn}
 use Rattle.event_gen.specs.declared.drawn.Drawn.TheVariants as drawn
 use Rattle.check_run.specs.Lines.{IsPart, lines_of, lines_in, ended}
 use Rattle.check_run.proofs.Cuts.{lines_done}
-use Rattle.replay.specs.Judging.{judge, judged, placed, verdict, verdict_from, refused_or}
+use Rattle.replay.specs.Judging.{judge, judged, placed, verdict_from, refused_or}
 use Rattle.replay.specs.Answers.{SeedsAreAccepted}
-use Rattle.replay.specs.Commands.{most_events}
+use Rattle.command_line.specs.Commands.{most_events}
 
 -- ---- the lines of a text whose lines are read
 

@@ -1,12 +1,13 @@
 -- The texts of totals.
-use Rattle.std.proofs.Common.{◌≡◌, ℕ, suc, ◌+◌, ◌-◌, ◌<◌, ◌≤◌, false, List, [], ◌∷◌, ◌++◌, length, take, drop, get_or, codes, refl, sym, ap, ◌∙◌, arith, subst, append_assoc}
-use Rattle.std.specs.Fmt.{decimal}
+use Rattle.std.proofs.Common.{◌≡◌, ℕ, suc, ◌+◌, ◌-◌, ◌^◌, ◌<◌, ◌≤◌, false, List, [], ◌∷◌, ◌++◌, length, take, drop, get_or, codes, refl, sym, ap, ◌∙◌, arith, subst, append_assoc, Option, Some, None}
 use Rattle.std.proofs.lemmas.List.{append-nil, length-drop}
 use Rattle.std.proofs.Math.Seq.{take-length, take-suc}
-use Rattle.journal_text.specs.declared.line.Line.{Line}
 use Rattle.journal_text.specs.declared.line.Line.TheVariants.{Rows, Work}
 use Rattle.journal_text.specs.declared.link.Link.{Link}
-use Rattle.journal_text.specs.Texts.{line_text, link_text, text_of}
+use Rattle.journal_text.specs.Texts.{line_text, text_of}
+use Rattle.link_change.specs.Rows.{Rows as LinkRows}
+use Rattle.journal_text.specs.declared.value.Value.{Value}
+use Rattle.router_core.specs.Lookups.{IsCountOf}
 use Rattle.router_core.specs.Moments.{Moment, router_links}
 use Rattle.replay.specs.Totals.{Adds, AreTotals, AreTotalsOf, IsTotal, rows_line, total_links, turns_line}
 
@@ -40,6 +41,12 @@ slice_rest n t = ap (λ k. take k (drop n t)) (sym (length-drop n t)) ∙ take-l
 
 -- ---- links, one after the other
 
+-- the rows of a link that is live
+pub total_some : (link : Link) (rows : Option (LinkRows Value)) (count : ℕ) (before now : List ℕ) → IsCountOf rows (Some count) → count < 2 ^ 128 → now ≡ before ++ rows_line link count → Adds (IsTotal link rows) before now
+total_some link None count before now is small e = absurd is
+total_some link (Some rows) count before now is small e =
+    (rows_line link count, (is.0, is.1, subst (λ (n : ℕ). n < 2 ^ 128) is.2 small, ap (rows_line link) is.2), e)
+
 -- the totals of some links, and of one more
 totals_more : (m : Moment) (done : List Link) (link : Link) (a b : List ℕ) → AreTotalsOf m done a → IsTotal link (router_links m link) b → AreTotalsOf m (done ++ link ∷ []) (a ++ b)
 totals_more m [] link a b e is = (b, [], is, refl, ap (λ t. t ++ b) e ∙ sym (append-nil b))
@@ -59,5 +66,5 @@ each_at m links at d before middle now below f g =
     subst (λ (ls : List Link). Adds (AreTotalsOf m ls) before now) more (each_then m (take at links) (get_or links at d) before middle now f g)
 
 -- all of them, behind the turns
-pub totals_all : (m : Moment) (turns : ℕ) (before middle now : List ℕ) → middle ≡ before ++ turns_line turns → Adds (AreTotalsOf m (total_links m.declared.peers)) middle now → Adds (AreTotals m turns) before now
-totals_all m turns before middle now e h = (turns_line turns ++ h.0, (h.0, h.1, refl), h.2 ∙ (ap (λ t. t ++ h.0) e ∙ append_assoc before (turns_line turns) h.0))
+pub totals_all : (m : Moment) (turns : ℕ) (before middle now : List ℕ) → turns < 2 ^ 128 → middle ≡ before ++ turns_line turns → Adds (AreTotalsOf m (total_links m.declared.peers)) middle now → Adds (AreTotals m turns) before now
+totals_all m turns before middle now small e h = (turns_line turns ++ h.0, (h.0, h.1, small, refl), h.2 ∙ (ap (λ t. t ++ h.0) e ∙ append_assoc before (turns_line turns) h.0))

@@ -10,10 +10,11 @@ use Rattle.check_run.specs.Runs.{Took, Writes, ReadsAndWrites, IsFrontOf}
 use Rattle.check_run.specs.Answers.{Judges, Ends, IsFrontOfAnswer}
 use Rattle.replay.specs.declared.status.Status.{Status}
 use Rattle.replay.specs.declared.status.Status.TheVariants as statuses
-use Rattle.replay.specs.declared.words.Command.{Command}
-use Rattle.replay.specs.declared.words.Command.TheVariants.{Run, Gen, Check}
+use Rattle.command_line.specs.declared.words.Command.{Command}
+use Rattle.command_line.specs.declared.words.Command.TheVariants.{Run, Gen, Check}
 use Rattle.event_gen.specs.Lines.{text}
-use Rattle.replay.specs.Commands.{most_events, usage_line}
+use Rattle.command_line.specs.Commands.{most_events}
+use Rattle.replay.specs.Commands.{usage_line}
 use Rattle.replay.specs.Judging.{verdict, status_of}
 use Rattle.replay.specs.Output.{IsOutput, IsRefusedOutput, IsOutputOfFront, IsOutputOfEnded, IsFrontOfOutput}
 use Rattle.replay.specs.Totals.{IsTotalledOutput, IsFrontOfTotalled}
@@ -39,10 +40,11 @@ HasRefused None left0 taken0 taken = ⊥
 abbrev pub IsLawfulToCheck : List ℕ → Type 0
 IsLawfulToCheck bytes = length (lines_of bytes) < 2 ^ 32 → IsChecked (lines_of bytes) Lawful × ((ending : Ending) → Ends bytes ending → ending ≡ endings.Lawful)
 
--- what `check` says of what was written for all lines of the text, or for those before a refused one and that it is refused
+-- what `check` says of what was written for all lines of the text, of those of a seed with the totals, or for those before a refused
+-- one and that it is refused
 abbrev pub HasLawful : Option Command → Option (List ℕ) → Option (List ℕ) → Option (List ℕ) → Type 0
 HasLawful (Some (Run quiet)) left0 taken0 taken = Took left0 taken0 taken (λ text bytes. (IsOutput quiet (lines_of text) bytes ⊎ IsRefusedOutput quiet text bytes) × IsLawfulToCheck bytes)
-HasLawful (Some (Gen seed count quiet)) left0 taken0 taken = ⊤
+HasLawful (Some (Gen seed count quiet)) left0 taken0 taken = Writes taken0 taken (λ bytes. (IsTotalledOutput quiet (text seed count) bytes ⊎ IsRefusedOutput quiet (text seed count) bytes) × IsLawfulToCheck bytes)
 HasLawful (Some Check) left0 taken0 taken = ⊤
 HasLawful None left0 taken0 taken = ⊤
 

@@ -1,5 +1,5 @@
 -- What `gen` writes behind its run: how many turns its events took, and how many rows some links then have.
-use Rattle.std.specs.Prelude.{◌≡◌, ℕ, Bool, List, [], ◌∷◌, ◌++◌, length, Option, Some, None, codes, ◌⊎◌}
+use Rattle.std.specs.Prelude.{◌≡◌, ℕ, ◌^◌, ◌<◌, Bool, true, false, List, [], ◌∷◌, ◌++◌, length, Option, Some, None, codes, ◌⊎◌}
 use Rattle.std.specs.Fmt.{decimal}
 use Rattle.addr4.specs.Prefixes.{Network}
 use Rattle.link_change.specs.Rows.{Rows}
@@ -12,7 +12,7 @@ use Rattle.event_text.specs.Declarations.{peer_at}
 use Rattle.router_core.specs.Blocks.{AreRows}
 use Rattle.router_core.specs.Moments.{Moment, router_links}
 use Rattle.check_run.specs.Lines.{lines_of}
-use Rattle.replay.specs.Output.{IsOutputTo, IsRefusedOutput, IsOutputOfFront}
+use Rattle.replay.specs.Output.{IsOutput, IsOutputTo, IsRefusedOutput, IsOutputOfFront, IsFrontOfOutput}
 
 -- `total turns T`
 abbrev pub turns_line : ℕ → List ℕ
@@ -29,7 +29,7 @@ Adds P before now = (more : List ℕ) × P more × (now ≡ before ++ more)
 -- the line of a link, where it is live
 abbrev pub IsTotal : Link → Option (Rows Value) → List ℕ → Type 0
 IsTotal link None bytes = bytes ≡ []
-IsTotal link (Some rows) bytes = (listed : List (Network × Value)) × AreRows rows listed × (bytes ≡ rows_line link (length listed))
+IsTotal link (Some rows) bytes = (listed : List (Network × Value)) × AreRows rows listed × (length listed < 2 ^ 128) × (bytes ≡ rows_line link (length listed))
 
 -- the lines of links, those of them that are live
 abbrev pub AreTotalsOf : Moment → List Link → List ℕ → Type 0
@@ -49,7 +49,7 @@ total_links peers =
 
 -- all totals of a moment to which so many turns led
 abbrev pub AreTotals : Moment → ℕ → List ℕ → Type 0
-AreTotals m turns bytes = (rest : List ℕ) × AreTotalsOf m (total_links m.declared.peers) rest × (bytes ≡ turns_line turns ++ rest)
+AreTotals m turns bytes = (rest : List ℕ) × AreTotalsOf m (total_links m.declared.peers) rest × (turns < 2 ^ 128) × (bytes ≡ turns_line turns ++ rest)
 
 -- The output for generated events: an allowed one for all their lines, and the totals.
 pub record IsTotalledOutput (quiet : Bool) (text bytes : List ℕ) : Type 0 where
@@ -67,3 +67,13 @@ pub record IsFrontOfTotalled (quiet : Bool) (text bytes : List ℕ) : Type 0 whe
   pub rest : List ℕ
   pub front : whole ≡ bytes ++ rest
   pub allowed : IsOutputOfFront quiet text whole ⊎ (IsRefusedOutput quiet text whole ⊎ IsTotalledOutput quiet text whole)
+
+-- The output for all lines of a text, with the totals where they are asked for.
+abbrev pub IsWholeOutput : Bool → Bool → List ℕ → List ℕ → Type 0
+IsWholeOutput false quiet text bytes = IsOutput quiet (lines_of text) bytes
+IsWholeOutput true quiet text bytes = IsTotalledOutput quiet text bytes
+
+-- A front of what may be written then.
+abbrev pub IsFrontOfWhole : Bool → Bool → List ℕ → List ℕ → Type 0
+IsFrontOfWhole false quiet text bytes = IsFrontOfOutput quiet text bytes
+IsFrontOfWhole true quiet text bytes = IsFrontOfTotalled quiet text bytes

@@ -5,13 +5,13 @@ ghost use Rattle.std.specs.Io.KnownBytes.{Appends, IsAtEnd};
 ghost use Rattle.edge_io.specs.Causes.{Rose};
 ghost use Rattle.replay.specs.Commands.{reads_source, usage_line};
 ghost use Rattle.replay.specs.Answers.{HasDone, HasRead, HasRefused, HasBroken, HasSoFar, HasFirst, HasFront, IsByText, IsUnfailing};
-ghost use Rattle.replay.specs.declared.words.Command.TheVariants as commands;
+ghost use Rattle.command_line.specs.declared.words.Command.TheVariants as commands;
 
 use crate::generated::run_generated;
 use crate::run::run_events;
 use crate::status::Status;
-use crate::words::Command;
 use check_run::{Ending, check, write_all};
+use command_line::Command;
 use edge_io::{Sink, Source};
 use std::alloc::Global;
 
@@ -80,7 +80,7 @@ pub fn obey<S: Source, K: Sink>(
     ensures unread { reads_source command ≡ false → source.new ≡ source.old }
 {
     match command {
-        Some(Command::Run(quiet)) => run_events(alloc, quiet, source, sink),
+        Some(Command::Run(quiet)) => run_events(alloc, quiet, false, source, sink),
         Some(Command::Gen(seed, count, quiet)) => run_generated(alloc, seed, count, quiet, sink),
         Some(Command::Check) => check_journal(alloc, source, sink),
         None => show_usage(sink),

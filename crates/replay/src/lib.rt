@@ -1,9 +1,10 @@
 //! Replays a file of events of a BGP router, and writes what happens to its routes; or judges what was written.
 //!
-//! [`replay`] is all that the program does: it reads the words of the command line, reads events from a source, steps
-//! them one after another, and writes their output to a sink (`run`); or it judges the journal that the source is (`check`).
-//! The parts are private: `words` reads the command line, `stepping` steps one line in the router of the crate router_core,
-//! `stream` takes text that comes in pieces line by line, and `output` writes what a piece gave before the next one is read.
+//! [`replay`] is all that the program does: it reads the words of the command line (by the crate command_line), reads events from a
+//! source, steps them one after another, and writes their output to a sink (`run`); or it does so with the events of a seed, and
+//! writes totals behind them (`gen`); or it judges the journal that the source is (`check`).
+//! The parts are private: `stepping` steps one line in the router of the crate router_core, `stream` takes text that comes in pieces
+//! line by line, `output` writes what a piece gave before the next one is read, and `run` goes on so to the end of a source.
 //!
 //! Whatever the source gives, and however it cuts its bytes, the output is an allowed one for the whole lines that were
 //! read: the journal in it obeys the rules of consistency on every link, the live state is what the events alone make of
@@ -21,19 +22,19 @@ mod status;
 mod stepping;
 mod stream;
 mod totals;
-mod words;
 
 ghost use Rattle.std.specs.Prelude.{◌≡◌, ◌≢◌, ◌⊎◌, ℕ, List, map, Some, None, false};
 ghost use Rattle.std.specs.String.{string_bytes};
 ghost use Rattle.std.specs.Io.KnownBytes.{Appends};
 ghost use Rattle.edge_io.specs.Causes.{Rose};
-ghost use Rattle.replay.specs.Commands.{command_of, reads_source, usage_line};
+ghost use Rattle.command_line.specs.Commands.{command_of};
+ghost use Rattle.replay.specs.Commands.{reads_source, usage_line};
 ghost use Rattle.replay.specs.Answers.{HasDone, HasRead, HasRefused, HasLawful, HasBroken, HasSoFar, HasFirst, HasFront, IsByText, IsUnfailing, SeedsAreAccepted};
-ghost use Rattle.replay.specs.declared.words.Command.TheVariants.{Check};
+ghost use Rattle.command_line.specs.declared.words.Command.TheVariants.{Check};
 
 use crate::commands::obey;
 use crate::laws::seeds_are_accepted;
-use crate::words::read_command;
+use command_line::read_command;
 use edge_io::{Sink, Source};
 use router_core::first_moment_stands;
 pub use status::Status;
@@ -60,7 +61,7 @@ pub fn replay<S: Source, K: Sink>(
     // line is none of a journal.
     ensures refused { result ≡ Status.Refused → HasRefused (command_of (map string_bytes words.now)) (S.left source.old) (K.taken sink.old) (K.taken sink.new) }
 
-    // What `check` says of what `run` wrote is that it is lawful, quiet or not, and also where a line was refused.
+    // What `check` says of what `run` or `gen` wrote is that it is lawful, quiet or not, totals or none, and also where a line was refused.
     ensures lawful { (result ≡ Status.Ok) ⊎ (result ≡ Status.Refused) → HasLawful (command_of (map string_bytes words.now)) (S.left source.old) (K.taken sink.old) (K.taken sink.new) }
 
     // The journal breaks a rule, and the sink took which, and where. That is said by `check` alone.

@@ -1,12 +1,18 @@
 //! The totals that end the output of generated events.
 
-ghost use Rattle.std.specs.Prelude.{◌≡◌, ◌++◌, ◌∷◌, [], false, OnOk, IfOk};
+ghost use Rattle.std.specs.Prelude.{◌≡◌, ◌≤◌, ◌⊎◌, ◌++◌, ◌∷◌, [], ℕ, List, false, OnOk, IfOk};
+ghost use Rattle.edge_io.specs.Causes.{Rose};
+ghost use Rattle.check_run.specs.Runs.{Writes, IsFrontOf};
 ghost use Rattle.journal_text.specs.Texts.{text_of};
 ghost use Rattle.event_text.specs.Declarations.{peer_at};
 ghost use Rattle.router_core.specs.Moments.{router_links};
 ghost use Rattle.replay.specs.Totals.{Adds, AreTotals, AreTotalsOf, IsTotal, rows_line, sent_link, total_links, turns_line};
 
+use crate::status::Status;
+use crate::stream::Stream;
 use addr4::Memory;
+use check_run::write_all;
+use edge_io::Sink;
 use event_text::Declared;
 use journal_text::{Journal, Line, Link};
 use router_core::Core;
@@ -97,11 +103,38 @@ fn total_links(alloc: Global, declared: &Declared) -> Result<Vec<Link>, Memory>
 }
 
 /// Appends the totals of a router whose events took so many turns.
-pub fn push_totals(alloc: Global, core: &Core, turns: u128, out: &mut Vec<u8>) -> Result<(), Memory>
+fn push_totals(alloc: Global, core: &Core, turns: u128, out: &mut Vec<u8>) -> Result<(), Memory>
     ensures { OnOk result (Adds (AreTotals core.now.moment turns) out.old.items out.new.items) }
 {
     push_turns(alloc, out, turns)?;
     let links = total_links(alloc, core.declared())?;
     push_each(alloc, core, links.as_slice(), out)?;
     Ok(())
+}
+
+/// The totals of a stream that has stepped all its events.
+fn totals_of(alloc: Global, stream: &Stream) -> Result<Vec<u8>, Memory>
+    ensures { IfOk result (λ totals. AreTotals stream.now.core.moment stream.now.turns totals.items) }
+{
+    let mut out = Vec::new(alloc);
+    push_totals(alloc, stream.core(), stream.turns(), &mut out)?;
+    Ok(out)
+}
+
+/// Writes the totals of a stream that has stepped all its events.
+pub fn write_totals<K: Sink>(alloc: Global, stream: &Stream, sink: &mut K) -> Status
+    ensures ok { result ≡ Status.Ok → Writes (K.taken sink.old) (K.taken sink.new) (AreTotals stream.now.core.moment stream.now.turns) }
+    ensures memory { result ≡ Status.Memory → K.taken sink.new ≡ K.taken sink.old }
+    ensures front { result ≡ Status.WriteFault → Writes (K.taken sink.old) (K.taken sink.new) (λ more. (totals : List ℕ) × AreTotals stream.now.core.moment stream.now.turns totals × IsFrontOf totals more) }
+    ensures write_fault { result ≡ Status.WriteFault → Rose (K.faults sink.old) (K.faults sink.new) }
+    ensures later { K.faults sink.old ≤ K.faults sink.new }
+    ensures others { (result ≡ Status.Ok) ⊎ (result ≡ Status.Memory) ⊎ (result ≡ Status.WriteFault) }
+{
+    let Ok(totals) = totals_of(alloc, stream) else {
+        return Status::Memory;
+    };
+    match write_all(sink, totals.as_slice()) {
+        Ok(()) => Status::Ok,
+        Err(_) => Status::WriteFault,
+    }
 }

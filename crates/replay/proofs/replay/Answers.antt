@@ -1,5 +1,5 @@
 use Rattle.std.proofs.Common.{Option, ⊎_elim, subst}
-use Rattle.replay.specs.declared.words.Command.{Command}
+use Rattle.command_line.specs.declared.words.Command.{Command}
 use Rattle.replay.specs.Answers.{HasLawful}
 use Rattle.replay.proofs.Checked.{done_lawful, refusal_lawful}
 use Rattle.replay.proofs.Endings.{no_words}

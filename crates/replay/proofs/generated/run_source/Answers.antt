@@ -1,30 +1,19 @@
-use Rattle.std.proofs.Common.{Bool, ap, subst}
-use Rattle.check_run.specs.Runs.{Writes}
-use Rattle.journal_text.specs.Journals.{Journaled}
 use Rattle.replay.specs.Output.{IsRefusedOutput, IsOutputOfFront}
 use Rattle.replay.specs.Totals.{IsTotalledOutput, IsFrontOfTotalled}
+use Rattle.replay.proofs.GeneratedLemmas.{of_told, first_lines}
 use Rattle.replay.proofs.generated.run_source.Goals as goal
 
-pub returns-clause-ok : goal.returns-clause-ok
-returns-clause-ok g c = λ is. subst
-    (λ (q : Bool). Writes (g.K.Sink.taken c.args.sink.now) (g.K.Sink.taken c.run_seed.new.sink) (IsTotalledOutput q c.args.source.now.left))
-    (ap (λ (j : Journaled). j.quiet) c.new-journal.ensures)
-    (c.run_seed.ensures.ok is)
+pub returns-in-ReadFault-clause-memory : goal.returns-in-ReadFault-clause-memory
+returns-in-ReadFault-clause-memory g c = λ is. first_lines c.args.quiet c.args.source.now.left c.run_events.new.source.left _ _ (c.run_events.ensures.so_far c.in-ReadFault.is)
 
-pub returns-clause-refused : goal.returns-clause-refused
-returns-clause-refused g c = λ is. subst
-    (λ (q : Bool). Writes (g.K.Sink.taken c.args.sink.now) (g.K.Sink.taken c.run_seed.new.sink) (IsRefusedOutput q c.args.source.now.left))
-    (ap (λ (j : Journaled). j.quiet) c.new-journal.ensures)
-    (c.run_seed.ensures.refused is)
+pub returns-in_default-clause-ok : goal.returns-in_default-clause-ok
+returns-in_default-clause-ok g c = λ is. of_told _ _ _ (IsTotalledOutput c.args.quiet) (c.run_events.ensures.ok is)
 
-pub returns-clause-memory : goal.returns-clause-memory
-returns-clause-memory g c = λ is. subst
-    (λ (q : Bool). Writes (g.K.Sink.taken c.args.sink.now) (g.K.Sink.taken c.run_seed.new.sink) (IsOutputOfFront q c.args.source.now.left))
-    (ap (λ (j : Journaled). j.quiet) c.new-journal.ensures)
-    (c.run_seed.ensures.memory is)
+pub returns-in_default-clause-refused : goal.returns-in_default-clause-refused
+returns-in_default-clause-refused g c = λ is. of_told _ _ _ (IsRefusedOutput c.args.quiet) (c.run_events.ensures.refused is)
 
-pub returns-clause-front : goal.returns-clause-front
-returns-clause-front g c = λ is. subst
-    (λ (q : Bool). Writes (g.K.Sink.taken c.args.sink.now) (g.K.Sink.taken c.run_seed.new.sink) (IsFrontOfTotalled q c.args.source.now.left))
-    (ap (λ (j : Journaled). j.quiet) c.new-journal.ensures)
-    (c.run_seed.ensures.front is)
+pub returns-in_default-clause-memory : goal.returns-in_default-clause-memory
+returns-in_default-clause-memory g c = λ is. of_told _ _ _ (IsOutputOfFront c.args.quiet) (c.run_events.ensures.memory is)
+
+pub returns-in_default-clause-front : goal.returns-in_default-clause-front
+returns-in_default-clause-front g c = λ is. of_told _ _ _ (IsFrontOfTotalled c.args.quiet) (c.run_events.ensures.front is)

@@ -1,4 +1,4 @@
-use Rattle.std.proofs.Common.{ℕ, Some, sym, subst, ◌∙◌}
+use Rattle.std.proofs.Common.{ℕ, sym, subst, ◌∙◌}
 use Rattle.replay.specs.Stream.{StepsLine, made}
 use Rattle.replay.proofs.Steps.{steps_line}
 use Rattle.replay.proofs.stepping.step_line.Goals as goal

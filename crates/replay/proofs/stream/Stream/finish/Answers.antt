@@ -1,4 +1,4 @@
-use Rattle.std.proofs.Common.{◌≡◌, ◌+◌, ◌++◌, ◌<◌, List, ℕ, arith, subst, sym, length}
+use Rattle.std.proofs.Common.{◌≡◌, ◌++◌, ◌<◌, List, ℕ, arith, subst, sym, length}
 use Rattle.std.proofs.lemmas.Bool.Decides.{nat_tests}
 use Rattle.check_run.specs.Lines.{lines_of}
 use Rattle.replay.specs.Output.{IsOutputTo}

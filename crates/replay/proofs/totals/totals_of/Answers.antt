@@ -1,7 +1,7 @@
 use Rattle.std.proofs.Common.{◌++◌, ℕ, ap, sym, subst, subst₂, ◌∙◌}
 use Rattle.router_core.specs.Moments.{Cored}
 use Rattle.replay.specs.Totals.{AreTotals}
-use Rattle.replay.proofs.generated.totals.Goals as goal
+use Rattle.replay.proofs.totals.totals_of.Goals as goal
 
 pub returns : goal.returns
 returns c =

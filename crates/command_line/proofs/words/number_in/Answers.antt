@@ -1,6 +1,6 @@
 use Rattle.std.proofs.Common.{◌≡◌, ◌<◌, ℕ, Ok, arith, sym, ◌∙◌}
-use Rattle.replay.proofs.NumberLemmas.{number_read, number_not_read}
-use Rattle.replay.proofs.words.number_in.Goals as goal
+use Rattle.command_line.proofs.NumberLemmas.{number_read, number_not_read}
+use Rattle.command_line.proofs.words.number_in.Goals as goal
 
 pub returns-in-Ok-clause-value : goal.returns-in-Ok-clause-value
 returns-in-Ok-clause-value c = number_read c.args.most c.in-Ok.number c.args.text.now c.parse.result c.parse.ensures.value.0 c.in-Ok.is c.if-number-most.true

@@ -1,5 +1,5 @@
 use Rattle.std.proofs.Common.{sym, ◌∙◌}
-use Rattle.replay.proofs.generated.write_totals.Goals as goal
+use Rattle.replay.proofs.totals.write_totals.Goals as goal
 
 pub returns-clause-front : goal.returns-clause-front
 returns-clause-front g c = λ is.

@@ -4,7 +4,7 @@ ghost use Rattle.std.specs.Prelude.{◌≡◌, ◌≤◌, false, map, IfOk, IfSo
 ghost use Rattle.std.specs.String.{string_bytes};
 ghost use Rattle.clap.specs.Words.{app_of, first_of, found_of, rows_of, rule_of, subcommand_rows_of};
 ghost use Rattle.clap.specs.declared.builder.command.Command.TheViews.{out-Command as fields_of};
-ghost use Rattle.replay.specs.Commands.{replay_app, run_app, gen_app, number_rule, quiet_rule, generated, is_quiet, named, number_in, number_to, command_of};
+ghost use Rattle.command_line.specs.Commands.{replay_app, run_app, gen_app, number_rule, quiet_rule, generated, is_quiet, named, number_in, number_to, command_of};
 
 use addr4::Memory;
 use clap::builder::ValueParser;

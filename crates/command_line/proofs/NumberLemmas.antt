@@ -5,7 +5,7 @@ use Rattle.clap.specs.Words.{IsUnsignedIn}
 use Rattle.clap.specs.ValueTests.{is_unsigned_in}
 use Rattle.clap.specs.declared.builder.value_parser.ValueParser.TheVariants.{Unsigned}
 use Rattle.clap.proofs.ValueTestLemmas.{accepts-Accepts, Accepts-accepts}
-use Rattle.replay.specs.Commands.{number_in}
+use Rattle.command_line.specs.Commands.{number_in}
 
 refused : (most : ℕ) (text : List ℕ) → (IsUnsignedIn 0 most text → ⊥) → is_unsigned_in 0 most text ≡ false
 refused most text none = by (is_unsigned_in 0 most text) refl

@@ -5,7 +5,7 @@ use Rattle.clap.specs.declared.parser.matches.ArgMatches.{ArgMatches}
 use Rattle.clap.specs.declared.error.Error.{Error}
 use Rattle.clap.specs.declared.error.ErrorKind.TheVariants as kinds
 use Rattle.clap.proofs.OnLiterals.{clap_on_literals}
-use Rattle.replay.specs.Commands.{replay_app, named, command_of, unless_faulty}
+use Rattle.command_line.specs.Commands.{replay_app, named, command_of, unless_faulty}
 
 simple : is_simple replay_app ≡ true
 unfolding clap_on_literals

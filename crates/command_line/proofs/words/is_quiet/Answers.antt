@@ -1,8 +1,8 @@
 use Rattle.std.proofs.Common.{ap, ◌∙◌, codes}
 use Rattle.clap.specs.Words.{found_of}
 use Rattle.clap.proofs.WalkLemmas.{first_value-rows}
-use Rattle.replay.specs.Commands.{is_true}
-use Rattle.replay.proofs.words.is_quiet.Goals as goal
+use Rattle.command_line.specs.Commands.{is_true}
+use Rattle.command_line.proofs.words.is_quiet.Goals as goal
 
 pub returns-in-Some : goal.returns-in-Some
 returns-in-Some c = c.eq.ensures ∙ ap is_true (c.in-Some.ensures ∙ first_value-rows (found_of c.args.matches.now) (codes "quiet"))
