@@ -65,14 +65,14 @@ fn peer(branch: u8) -> Neighbour {
 }
 
 /// What was measured.
-#[derive(Clone, Copy, Debug)]
+#[derive(Clone, Copy)]
 struct Measured {
     sent: u64,
     sum: u64,
 }
 
 /// What is to be done.
-#[derive(Clone, Copy, Debug)]
+#[derive(Clone, Copy)]
 struct Work {
     branches: u8,
     prefixes: u32,
@@ -167,19 +167,31 @@ fn run(alloc: Global, work: &Work) -> Result<Measured, Memory> {
     Ok(measured)
 }
 
-fn main(rt: HostRuntime) -> anyhow::Result<()> {
-    let mut words = env::args(&rt)?;
-    let _program = words.next();
-    let kind = words.next().context("no kind")?;
-    let branches = words.next().context("no branches")?.parse::<u8>()?;
-    let prefixes = words.next().context("no prefixes")?.parse::<u32>()?;
-    let changes = words.next().context("no changes")?.parse::<u64>()?;
-    let work = Work {
+fn word_of(rt: &HostRuntime, place: usize) -> anyhow::Result<String> {
+    env::args(rt)?.nth(place).context("a word is missing")
+}
+
+fn number_of(rt: &HostRuntime, place: usize) -> anyhow::Result<u64> {
+    let word = word_of(rt, place)?;
+    Ok(word.parse::<u64>()?)
+}
+
+/// What the words say.
+fn work_of(rt: &HostRuntime) -> anyhow::Result<Work> {
+    let branches = u8::try_from(number_of(rt, 2)?)?;
+    let prefixes = u32::try_from(number_of(rt, 3)?)?;
+    let changes = number_of(rt, 4)?;
+    let kind = word_of(rt, 1)?;
+    Ok(Work {
         branches,
         prefixes,
         changes,
         decides: kind.as_str() == "decide",
-    };
+    })
+}
+
+fn main(rt: HostRuntime) -> anyhow::Result<()> {
+    let work = work_of(&rt)?;
     let measured = run(rt.alloc(), &work).ok().context("no memory")?;
     println!(rt; "{} {}", measured.sent, measured.sum)?;
     Ok(())

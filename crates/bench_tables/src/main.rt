@@ -11,6 +11,7 @@ use addr4::{Addr, Memory, Prefix};
 use anyhow::Context;
 use prefix_trie::Trie;
 use safe_table::Table;
+use std::alloc::Global;
 use std::collections::BTreeMap;
 use std::env;
 use stores::Store;
@@ -84,18 +85,43 @@ fn run<S: Store>(store: &mut S, count: u64, steps: u64) -> Result<u64, Memory> {
     Ok(sum)
 }
 
+fn sum_in_trie(alloc: Global, count: u64, steps: u64) -> Result<u64, Memory> {
+    let mut trie = Trie::new(alloc);
+    run(&mut trie, count, steps)
+}
+
+fn sum_in_table(alloc: Global, count: u64, steps: u64) -> Result<u64, Memory> {
+    let mut table = Table::new(alloc);
+    run(&mut table, count, steps)
+}
+
+fn sum_in_map(alloc: Global, count: u64, steps: u64) -> Result<u64, Memory> {
+    let mut map = BTreeMap::new(alloc);
+    run(&mut map, count, steps)
+}
+
+fn sum_in(alloc: Global, kind: &str, count: u64, steps: u64) -> Result<u64, Memory> {
+    match kind {
+        "trie" => sum_in_trie(alloc, count, steps),
+        "table" => sum_in_table(alloc, count, steps),
+        _ => sum_in_map(alloc, count, steps),
+    }
+}
+
+fn word_of(rt: &HostRuntime, place: usize) -> anyhow::Result<String> {
+    env::args(rt)?.nth(place).context("a word is missing")
+}
+
+fn number_of(rt: &HostRuntime, place: usize) -> anyhow::Result<u64> {
+    let word = word_of(rt, place)?;
+    Ok(word.parse::<u64>()?)
+}
+
 fn main(rt: HostRuntime) -> anyhow::Result<()> {
-    let mut words = env::args(&rt)?;
-    let _program = words.next();
-    let kind = words.next().context("no kind")?;
-    let count = words.next().context("no count")?.parse::<u64>()?;
-    let steps = words.next().context("no steps")?.parse::<u64>()?;
-    let sum = match kind.as_str() {
-        "trie" => run(&mut Trie::new(rt.alloc()), count, steps),
-        "table" => run(&mut Table::new(rt.alloc()), count, steps),
-        _ => run(&mut BTreeMap::new(rt.alloc()), count, steps),
-    };
-    let sum = sum.ok().context("no memory")?;
-    println!(rt; "{sum}")?;
+    let count = number_of(&rt, 2)?;
+    let steps = number_of(&rt, 3)?;
+    let kind = word_of(&rt, 1)?;
+    let sum = sum_in(rt.alloc(), kind.as_str(), count, steps);
+    println!(rt; "{}", sum.ok().context("no memory")?)?;
     Ok(())
 }

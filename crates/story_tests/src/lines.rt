@@ -8,13 +8,12 @@ pub fn first_difference(wanted: &[u8], printed: &[u8]) -> Option<u64> {
         return None;
     }
     let mut number = 1u64;
-    for (byte, other) in wanted.iter().zip(printed.iter()) {
-        if byte != other {
-            return Some(number);
+    let mut others = printed.iter();
+    for byte in wanted {
+        if others.next() != Some(byte) {
+            break;
         }
-        if *byte == b'\n' {
-            number = number.wrapping_add(1);
-        }
+        number = number.wrapping_add(u64::from(*byte == b'\n'));
     }
     Some(number)
 }

@@ -22,10 +22,9 @@ use crate::answer::{Answer, Pace, answer_to};
 use crate::failing::{fault_of_long_lines, fault_of_reads, fault_of_writes};
 use crate::fault::{Fault, fault_of, status_of};
 use crate::lines::{first_difference, without_journal};
-use crate::sessions::{push_events, push_output};
-use anyhow::{Context, bail};
+use crate::sessions::{events_of_sessions, output_of_sessions};
 use std::alloc::{AllocError, Global};
-use std::{env, fs};
+use std::{env, fs, io};
 
 const RUN: &str = "replay run";
 
@@ -109,10 +108,8 @@ fn fault_of_commands(
 
 /// What is wrong with the answers to the sessions of a peer, if anything, up to the last that it may have.
 fn fault_of_sessions(alloc: Global) -> Result<Option<Fault>, AllocError> {
-    let mut events = String::new(alloc);
-    push_events(&mut events)?;
-    let mut wanted = String::new(alloc);
-    push_output(alloc, &mut wanted)?;
+    let events = events_of_sessions(alloc)?;
+    let wanted = output_of_sessions(alloc)?;
     let run = fault_of(alloc, RUN, Pace::Whole, events.as_str(), wanted.as_str())?;
     let check = fault_of_check(alloc, wanted.as_str(), "lawful\n")?;
     Ok(run.or(check))
@@ -129,20 +126,26 @@ enum Kind {
 }
 
 /// Whether a story is one in which each read and each write fails once.
-fn is_to_fail(name: &str) -> bool {
-    name == "to_the_forwarding_table" || name == "own_routes_go_out"
+fn is_to_fail(file: &str) -> bool {
+    file == "to_the_forwarding_table.events" || file == "own_routes_go_out.events"
 }
 
-/// The name of a story and its kind, by the name of its file; None of another file.
-fn story_of(file: &str) -> Option<(&str, Kind)> {
-    let (name, ending) = file.split_once('.')?;
-    match ending {
-        "events" if is_to_fail(name) => Some((name, Kind::Failing)),
-        "events" => Some((name, Kind::Run)),
-        "commands" => Some((name, Kind::Commands)),
-        "journal" => Some((name, Kind::Check)),
-        _ => None,
+/// What is done with a file; None where it is no story.
+fn kind_of(file: &str) -> Option<Kind> {
+    if file.ends_with(".events") {
+        return Some(if is_to_fail(file) {
+            Kind::Failing
+        } else {
+            Kind::Run
+        });
     }
+    if file.ends_with(".journal") {
+        return Some(Kind::Check);
+    }
+    if file.ends_with(".commands") {
+        return Some(Kind::Commands);
+    }
+    None
 }
 
 /// What is wrong with a story, if anything.
@@ -161,9 +164,16 @@ fn fault_of_kind(
 }
 
 /// The text of a file in a folder.
-fn text_of(rt: &HostRuntime, folder: &str, file: &str, ending: &str) -> anyhow::Result<String> {
-    let path = format!(in rt.alloc(); "{folder}/{file}{ending}")?;
-    Ok(fs::read_to_string(rt, path.as_str())?)
+fn text_of(rt: &HostRuntime, folder: &str, file: &str) -> io::Result<String> {
+    let path = format!(in rt.alloc(); "{folder}/{file}")?;
+    fs::read_to_string(rt, path.as_str())
+}
+
+/// The output that a story must have.
+fn wanted_of(rt: &HostRuntime, folder: &str, file: &str) -> io::Result<String> {
+    let name = file.split('.').next().unwrap_or("");
+    let path = format!(in rt.alloc(); "{folder}/{name}.out")?;
+    fs::read_to_string(rt, path.as_str())
 }
 
 /// What is wrong with the story of a file, if anything.
@@ -171,16 +181,16 @@ fn fault_of_story(
     rt: &HostRuntime,
     folder: &str,
     file: &str,
-    name: &str,
     kind: Kind,
-) -> anyhow::Result<Option<Fault>> {
-    let wanted = text_of(rt, folder, name, ".out")?;
-    let text = text_of(rt, folder, file, "")?;
-    Ok(fault_of_kind(rt.alloc(), kind, text.as_str(), wanted.as_str())?)
+) -> io::Result<Option<Fault>> {
+    let wanted = wanted_of(rt, folder, file)?;
+    let text = text_of(rt, folder, file)?;
+    let fault = fault_of_kind(rt.alloc(), kind, text.as_str(), wanted.as_str())?;
+    Ok(fault)
 }
 
 /// The names of the files in a folder, in order.
-fn files(rt: &HostRuntime, folder: &str) -> anyhow::Result<Vec<String>> {
+fn files(rt: &HostRuntime, folder: &str) -> io::Result<Vec<String>> {
     let alloc = rt.alloc();
     let mut names = Vec::new(alloc);
     for entry in fs::read_dir(rt, folder)? {
@@ -191,7 +201,7 @@ fn files(rt: &HostRuntime, folder: &str) -> anyhow::Result<Vec<String>> {
 }
 
 /// Prints the name of what is right, or what is wrong with it; how many things are wrong.
-fn tell(rt: &HostRuntime, name: &str, fault: Option<Fault>) -> anyhow::Result<u64> {
+fn tell(rt: &HostRuntime, name: &str, fault: Option<Fault>) -> io::Result<u64> {
     match fault {
         None => {
             println!(rt; "{name}")?;
@@ -205,32 +215,37 @@ fn tell(rt: &HostRuntime, name: &str, fault: Option<Fault>) -> anyhow::Result<u6
 }
 
 /// Tells of each story in a folder; how many are wrong.
-fn tell_stories(rt: &HostRuntime, folder: &str, files: &[String]) -> anyhow::Result<u64> {
+fn tell_stories(rt: &HostRuntime, folder: &str, files: &[String]) -> io::Result<u64> {
     let mut wrong = 0u64;
     for file in files {
-        let file = file.as_str();
-        if let Some((name, kind)) = story_of(file) {
-            let fault = fault_of_story(rt, folder, file, name, kind)?;
-            wrong = wrong.wrapping_add(tell(rt, file, fault)?);
+        if let Some(kind) = kind_of(file.as_str()) {
+            let fault = fault_of_story(rt, folder, file.as_str(), kind)?;
+            wrong = wrong.wrapping_add(tell(rt, file.as_str(), fault)?);
         }
     }
     Ok(wrong)
 }
 
-/// Tells of the stories in a folder, and of those that no file holds; how many are wrong.
-fn tell_all(rt: &HostRuntime, folder: &str) -> anyhow::Result<u64> {
-    let files = files(rt, folder)?;
-    let stories = tell_stories(rt, folder, files.as_slice())?;
+/// Tells of the stories that no file holds; how many are wrong.
+fn tell_others(rt: &HostRuntime) -> io::Result<u64> {
     let lines = tell(rt, "lines too long", fault_of_long_lines(rt.alloc())?)?;
     let sessions = tell(rt, "65535 sessions", fault_of_sessions(rt.alloc())?)?;
-    Ok(stories.wrapping_add(lines).wrapping_add(sessions))
+    Ok(lines.wrapping_add(sessions))
 }
 
-fn main(rt: HostRuntime) -> anyhow::Result<()> {
-    let folder = env::args(&rt)?.nth(1).context("no folder")?;
-    let wrong = tell_all(&rt, folder.as_str())?;
-    if wrong > 0 {
-        bail!("stories with other answers than they must have: {wrong}");
+/// Tells of the stories in a folder, and of the others; how many are wrong.
+fn tell_all(rt: &HostRuntime, folder: &str) -> io::Result<u64> {
+    let files = files(rt, folder)?;
+    let stories = tell_stories(rt, folder, files.as_slice())?;
+    Ok(stories.wrapping_add(tell_others(rt)?))
+}
+
+fn main(rt: HostRuntime) -> io::Result<()> {
+    let Some(folder) = env::args(&rt)?.nth(1) else {
+        return Err(io::Error::from(io::ErrorKind::InvalidInput));
+    };
+    match tell_all(&rt, folder.as_str())? {
+        0 => Ok(()),
+        _ => Err(io::Error::from(io::ErrorKind::InvalidData)),
     }
-    Ok(())
 }

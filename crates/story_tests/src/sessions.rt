@@ -5,7 +5,7 @@
 use std::alloc::{AllocError, Global};
 
 /// The most sessions that a peer may have.
-const MOST: u32 = 65_535;
+const MOST: usize = 65_535;
 
 /// The first lines.
 const DECLARED: &str = "local 65000 192.0.2.254 192.0.2.254\npeer 1 65001 192.0.2.1 192.0.2.1\n";
@@ -40,26 +40,24 @@ e outf.1.#\n\
 e adv.1.#\n";
 
 /// The events: all sessions that there may be, and one more.
-pub fn push_events(events: &mut String) -> Result<(), AllocError> {
-    events.push_str(DECLARED)?;
-    for _ in 0..MOST {
-        events.push_str("up 1\ndown 1\n")?;
-    }
-    events.push_str("up 1\n")
+pub fn events_of_sessions(alloc: Global) -> Result<String, AllocError> {
+    let sessions = "up 1\ndown 1\n".repeat(alloc, MOST)?;
+    format!(in alloc; "{DECLARED}{sessions}up 1\n")
 }
 
 /// What the session with this number gives.
-fn push_session(alloc: Global, number: u32, output: &mut String) -> Result<(), AllocError> {
+fn push_session(alloc: Global, number: usize, output: &mut String) -> Result<(), AllocError> {
     let number = format!(in alloc; "{number}")?;
     let session = SESSION.replace(alloc, '#', number.as_str())?;
     output.push_str(session.as_str())
 }
 
 /// Their output: of each session, links that begin and end; the one more is refused.
-pub fn push_output(alloc: Global, output: &mut String) -> Result<(), AllocError> {
-    output.push_str(BEGUN)?;
-    for before in 0..MOST {
-        push_session(alloc, before.wrapping_add(1), output)?;
+pub fn output_of_sessions(alloc: Global) -> Result<String, AllocError> {
+    let mut output = String::from_str(alloc, BEGUN)?;
+    for number in 1..=MOST {
+        push_session(alloc, number, &mut output)?;
     }
-    output.push_str("refused 131073 E6\n")
+    output.push_str("refused 131073 E6\n")?;
+    Ok(output)
 }
