@@ -225,7 +225,9 @@ impl Core {
     }
 
     /// A phase of an idle: each of its tasks runs to its end. Answers how many turns that took: of deletion stages at most
-    /// as many as there are rows, of the walks at most two for each row and two for each peer.
+    /// as many as there are rows, of the walks at most two for each row and two for each peer, and of next hops one more for
+    /// each that is stale as the phase begins. No row is added; what the slowest reader hasn't taken grows by at most one
+    /// change for each row in a phase of deletion stages, two in one of walks, and none where readers read.
     pub fn drain(&mut self, phase: Phase, journal: &mut Journal) -> Result<u128, Memory>
         requires stands { self.old.failed ≡ false → CoreStands self.old }
         ensures drained { IfOk result (λ turns. Gives (HaveDrained phase self.old.moment turns self.new.moment) journal.old journal.new) }
