@@ -6,12 +6,10 @@
 use anyhow::Context;
 use edge_io::Source;
 use event_gen::GeneratedSource;
+use std::alloc::Global;
 use std::io::Write;
 
-/// The seeds and counts whose texts are printed. The second has events of each kind.
-const WHOLE: [(u64, u32); 4] = [(7, 20), (140, 39), (18_446_744_073_709_551_615, 3), (1, 0)];
-
-/// Prints the text of a seed, some bytes at a time.
+/// Prints the text of a source, some bytes at a time.
 fn print_text<W: Write>(out: &mut W, source: &mut GeneratedSource) -> anyhow::Result<()> {
     let mut buf = [0u8; 1000];
     for _ in 0..u64::MAX {
@@ -42,13 +40,25 @@ fn sum_of(source: &mut GeneratedSource) -> anyhow::Result<(u64, u64)> {
     Ok((size, sum))
 }
 
+/// Prints the text of a seed and a count.
+fn print_seed(rt: &HostRuntime, seed: u64, count: u32) -> anyhow::Result<()> {
+    let mut source = GeneratedSource::new(rt.alloc(), seed, count);
+    print_text(&mut rt.stdout(), &mut source)
+}
+
+/// The size and the checksum of the text of a seed and a count.
+fn sum_of_seed(alloc: Global, seed: u64, count: u32) -> anyhow::Result<(u64, u64)> {
+    let mut source = GeneratedSource::new(alloc, seed, count);
+    sum_of(&mut source)
+}
+
+/// The second seed's text has events of each kind.
 fn main(rt: HostRuntime) -> anyhow::Result<()> {
-    let alloc = rt.alloc();
-    let mut out = rt.stdout();
-    for (seed, count) in WHOLE {
-        print_text(&mut out, &mut GeneratedSource::new(alloc, seed, count))?;
-    }
-    let (size, sum) = sum_of(&mut GeneratedSource::new(alloc, 7, 60_000))?;
+    print_seed(&rt, 7, 20)?;
+    print_seed(&rt, 140, 39)?;
+    print_seed(&rt, u64::MAX, 3)?;
+    print_seed(&rt, 1, 0)?;
+    let (size, sum) = sum_of_seed(rt.alloc(), 7, 60_000)?;
     println!(rt; "{size} {sum}")?;
     Ok(())
 }

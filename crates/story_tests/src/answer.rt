@@ -7,7 +7,7 @@ use replay::{Status, replay};
 use std::alloc::{AllocError, Global};
 
 /// How much of a text one read gives.
-#[derive(Clone, Copy, PartialEq, Eq)]
+#[derive(Clone, Copy)]
 pub enum Pace {
     /// All that there is room for.
     Whole,

@@ -111,7 +111,13 @@ fn fault_of_sessions(alloc: Global) -> Result<Option<Fault>, AllocError> {
     let events = events_of_sessions(alloc)?;
     let wanted = output_of_sessions(alloc)?;
     let run = fault_of(alloc, RUN, Pace::Whole, events.as_str(), wanted.as_str())?;
-    let check = fault_of_check(alloc, wanted.as_str(), "lawful\n")?;
+    let check = fault_of(
+        alloc,
+        "replay check",
+        Pace::Whole,
+        wanted.as_str(),
+        "lawful\n",
+    )?;
     Ok(run.or(check))
 }
 
