@@ -1,5 +1,5 @@
 -- One row more or less names a next hop.
-use Rattle.std.proofs.Common.{◌≡◌, ◌≢◌, ℕ, zero, suc, Bool, true, false, not, refl, sym, ap, ◌∙◌, subst, inl, inr, Option, Some, None, IsSome, is_some, arith, ◌==◌, eqb-true}
+use Rattle.std.proofs.Common.{◌≡◌, ◌≢◌, ℕ, zero, suc, Bool, true, false, not, refl, sym, ap, ◌∙◌, subst, inl, inr, Option, Some, None, is_some, arith, ◌==◌, eqb-true}
 use Rattle.std.specs.FinMap.{get, insert, remove, empty, get-empty}
 use Rattle.std.specs.FinMap as map
 use Rattle.std.specs.Option.{option_map, option_eq}
@@ -7,7 +7,7 @@ use Rattle.std.specs.Ordering.{nat_cmp}
 use Rattle.std.proofs.lemmas.Bool.{cases_eq}
 use Rattle.addr4.specs.Prefixes.{Network}
 use Rattle.nexthop_known.specs.declared.answer.Hop.{Hop}
-use Rattle.nexthop_known.specs.Hops.{Hops, learnt, renewed, staled, IsMapped, IsRenewed}
+use Rattle.nexthop_known.specs.Hops.{Hops, renewed, staled, IsMapped, IsRenewed}
 use Rattle.nexthop_known.specs.Counts.{Counts, counted, one_more, one_less, one_less_of, is_one, once, Recounts}
 use Rattle.nexthop_known.proofs.CountLemmas.{set_here, set_apart, unset_here, unset_apart, one_more_counts, one_less_counts, one_for_another, more_and_less}
 use Rattle.nexthop_resolver.specs.Resolving.{Resolving, AreNamed}
