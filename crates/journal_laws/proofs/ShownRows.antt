@@ -115,11 +115,11 @@ text_with j text = record { text = text; pending = []; quiet = j.quiet }
 
 pub flushed_join : (j : Journaled) (a b : List Line) → flushed (with_lines (flushed (with_lines j a)) b) ≡ flushed (with_lines j (a ++ b))
 flushed_join j a b = ap (text_with j)
-    (append_assoc j.text (text_of j.quiet (j.pending ++ a)) (text_of j.quiet b) ∙ ap (λ (t : List ℕ). j.text ++ t) (sym (text_of_append j.quiet (j.pending ++ a) b))
-    ∙ ap (λ (ls : List Line). j.text ++ text_of j.quiet ls) (append_assoc j.pending a b))
+    (append_assoc j.text (j.pending ++ text_of j.quiet a) (text_of j.quiet b)
+    ∙ ap (λ (t : List ℕ). j.text ++ t) (append_assoc j.pending (text_of j.quiet a) (text_of j.quiet b) ∙ ap (λ (t : List ℕ). j.pending ++ t) (sym (text_of_append j.quiet a b))))
 
 pub flushed_none : (j : Journaled) → flushed j ≡ flushed (with_lines j [])
-flushed_none j = ap (λ (ls : List Line). text_with j (j.text ++ text_of j.quiet ls)) (sym (append-nil j.pending))
+flushed_none j = ap (λ (t : List ℕ). text_with j (j.text ++ t)) (sym (append-nil j.pending))
 
 pub with_none : (j : Journaled) → j ≡ with_lines j []
 with_none j = ap (λ pending. record { text = j.text; pending = pending; quiet = j.quiet }) (sym (append-nil j.pending))

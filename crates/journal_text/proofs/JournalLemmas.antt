@@ -15,21 +15,34 @@ pub as_lines_append : (a b : List (Entry Value)) → as_lines (a ++ b) ≡ as_li
 as_lines_append [] b = refl
 as_lines_append (e ∷ a) b = ap (λ (t : List Line). lines.Journal e ∷ t) (as_lines_append a b)
 
-abbrev with_pending : Journaled → List Line → Journaled
+pub text_of_append : (quiet : Bool) (a b : List Line) → text_of quiet (a ++ b) ≡ text_of quiet a ++ text_of quiet b
+text_of_append quiet [] b = refl
+text_of_append quiet (line ∷ a) b = ap (λ (t : List ℕ). shown quiet line ++ t) (text_of_append quiet a b) ∙ sym (append_assoc (shown quiet line) (text_of quiet a) (text_of quiet b))
+
+-- a quiet journal prints nothing of its entries
+pub quiet_entries : (entries : List (Entry Value)) → text_of true (as_lines entries) ≡ []
+quiet_entries [] = refl
+quiet_entries (e ∷ entries) = quiet_entries entries
+
+abbrev with_pending : Journaled → List ℕ → Journaled
 with_pending j pending = record { text = j.text; pending = pending; quiet = j.quiet }
 
 pub with_lines_append : (j : Journaled) (a b : List Line) → with_lines (with_lines j a) b ≡ with_lines j (a ++ b)
-with_lines_append j a b = ap (with_pending j) (append_assoc j.pending a b)
+with_lines_append j a b =
+    ap (with_pending j) (append_assoc j.pending (text_of j.quiet a) (text_of j.quiet b) ∙ ap (λ (t : List ℕ). j.pending ++ t) (sym (text_of_append j.quiet a b)))
+
+-- lines of which nothing is printed leave the journal as it is
+pub with_unprinted : (j : Journaled) (a : List Line) → text_of j.quiet a ≡ [] → with_lines j a ≡ j
+with_unprinted j a none = ap (λ (t : List ℕ). with_pending j (j.pending ++ t)) none ∙ ap (with_pending j) (append-nil j.pending)
 
 pub with_entries_append : (j : Journaled) (a b : List (Entry Value)) → with_entries (with_entries j a) b ≡ with_entries j (a ++ b)
 with_entries_append j a b = with_lines_append j (as_lines a) (as_lines b) ∙ ap (with_lines j) (sym (as_lines_append a b))
 
 pub with_entries_none : (j : Journaled) → with_entries j [] ≡ j
-with_entries_none j = ap (with_pending j) (append-nil j.pending)
+with_entries_none j = with_unprinted j [] refl
 
-pub text_of_append : (quiet : Bool) (a b : List Line) → text_of quiet (a ++ b) ≡ text_of quiet a ++ text_of quiet b
-text_of_append quiet [] b = refl
-text_of_append quiet (line ∷ a) b = ap (λ (t : List ℕ). shown quiet line ++ t) (text_of_append quiet a b) ∙ sym (append_assoc (shown quiet line) (text_of quiet a) (text_of quiet b))
+pub quiet_stays : (j : Journaled) (entries : List (Entry Value)) → j.quiet ≡ true → j ≡ with_entries j entries
+quiet_stays j entries quiet = sym (with_unprinted j (as_lines entries) (ap (λ (q : Bool). text_of q (as_lines entries)) quiet ∙ quiet_entries entries))
 
 pub entries_of_append : (a b : List Line) → entries_of (a ++ b) ≡ entries_of a ++ entries_of b
 entries_of_append [] b = refl
@@ -39,11 +52,3 @@ entries_of_append (line ∷ a) b = ap (λ (t : List (Entry Value)). entry_list l
 pub entries_of_entries : (entries : List (Entry Value)) → entries_of (as_lines entries) ≡ entries
 entries_of_entries [] = refl
 entries_of_entries (e ∷ entries) = ap (λ (t : List (Entry Value)). e ∷ t) (entries_of_entries entries)
-
--- a quiet journal prints nothing of its entries
-pub quiet_entries : (entries : List (Entry Value)) → text_of true (as_lines entries) ≡ []
-quiet_entries [] = refl
-quiet_entries (e ∷ entries) = quiet_entries entries
-
-pub entries_of_grown : (j : Journaled) (a : List (Entry Value)) → entries_of (with_entries j a).pending ≡ entries_of j.pending ++ a
-entries_of_grown j a = entries_of_append j.pending (as_lines a) ∙ ap (λ (t : List (Entry Value)). entries_of j.pending ++ t) (entries_of_entries a)

@@ -7,28 +7,28 @@ use Rattle.journal_text.specs.declared.entry.Entry.{Entry}
 use Rattle.journal_text.specs.declared.line.Line.{Line}
 use Rattle.journal_text.specs.declared.line.Line.TheVariants as lines
 
--- the text that is ready, the lines whose text isn't made yet, and whether the journal's own lines are left out
+-- the text that is ready, the text of the lines behind it, and whether the journal's own lines are left out
 pub record Journaled : Type 0 where
   pub text : List ℕ
-  pub pending : List Line
+  pub pending : List ℕ
   pub quiet : Bool
 
-abbrev pub journaled_code : Coded Line → Coded Journaled
-journaled_code c =
-    code_by (List ℕ × (List Line × Bool)) (coded× (coded_list coded_ℕ) (coded× (coded_list c) coded_bool))
+abbrev pub journaled_code : Coded Journaled
+journaled_code =
+    code_by (List ℕ × (List ℕ × Bool)) (coded× (coded_list coded_ℕ) (coded× (coded_list coded_ℕ) coded_bool))
     (λ j. (j.text, (j.pending, j.quiet))) (λ p. record { text = p.0; pending = p.1.0; quiet = p.1.1 }) (λ _. refl)
 
--- the journal with these lines after its own
+-- the journal with these lines after its own, of which a quiet one has the text of those that aren't the journal's
 abbrev pub with_lines : Journaled → List Line → Journaled
-with_lines j lines = record { text = j.text; pending = j.pending ++ lines; quiet = j.quiet }
+with_lines j lines = record { text = j.text; pending = j.pending ++ text_of j.quiet lines; quiet = j.quiet }
 
 -- the journal with these entries after its lines
 abbrev pub with_entries : Journaled → List (Entry Value) → Journaled
 with_entries j entries = with_lines j (map (λ e. lines.Journal e) entries)
 
--- the journal with all of its text made
+-- the journal with all of its text ready
 abbrev pub flushed : Journaled → Journaled
-flushed j = record { text = j.text ++ text_of j.quiet j.pending; pending = []; quiet = j.quiet }
+flushed j = record { text = j.text ++ j.pending; pending = []; quiet = j.quiet }
 
 -- these entries were appended, and this is said of them
 abbrev pub Adds : (List (Entry Value) → Type 0) → Journaled → Journaled → Type 0

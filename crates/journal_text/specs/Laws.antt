@@ -6,7 +6,7 @@ use Rattle.link_change.specs.Changes.{IsSent}
 use Rattle.link_change.specs.declared.change.Change.{Change}
 use Rattle.journal_text.specs.Links.{same_link}
 use Rattle.journal_text.specs.Names.{IsNamed, link_of}
-use Rattle.journal_text.specs.Texts.{link_text, entries_of}
+use Rattle.journal_text.specs.Texts.{link_text}
 use Rattle.journal_text.specs.Walk.{Links, with_link, Leads}
 use Rattle.journal_text.specs.Journals.{Journaled, with_entries}
 use Rattle.journal_text.specs.Values.{valued, valued_change}
@@ -42,10 +42,6 @@ LinksReadBack = (link : Link) → IsNamed link → link_of (link_text link) ≡ 
 -- Entries that are appended one after another are appended as one.
 abbrev pub EntriesJoin : Type 0
 EntriesJoin = (j : Journaled) (a b : List (Entry Value)) → with_entries (with_entries j a) b ≡ with_entries j (a ++ b)
-
--- The entries among a journal's lines grow by those that are appended.
-abbrev pub EntriesGrow : Type 0
-EntriesGrow = (j : Journaled) (a : List (Entry Value)) → entries_of (with_entries j a).pending ≡ entries_of j.pending ++ a
 
 -- A name that is read has numbers that can stand in a name.
 abbrev pub ReadLinksAreNamed : Type 0

@@ -9,7 +9,7 @@ ghost use Rattle.journal_text.specs.Values.{valued_change, sent_entries};
 
 use crate::entry::Entry;
 use crate::line::Line;
-use crate::lines::push_lines;
+use crate::lines::{is_entry, push_lines};
 use crate::link::Link;
 use crate::value::Value;
 use crate::valued::{Valued, value_of};
@@ -18,25 +18,26 @@ use link_change::Change;
 use std::alloc::Global;
 use std::marker::Model;
 
-/// The lines that the router gives, and their text as it is made. Where the output is quiet, the journal's own lines give
-/// no text.
+/// The text of the lines that the router gives, as it is made. Where the output is quiet, the journal's own lines give no
+/// text, and nothing is kept of them.
 #[derive(Drop)]
 pub struct Journal {
     alloc: Global,
     text: Vec<u8>,
+    // The lines whose text isn't made yet; none of the journal's own where it is quiet.
     pending: Vec<Line>,
     quiet: bool,
 }
 
 impl Model for Journal {
     ghost use Rattle.journal_text.specs.Journals.{Journaled, journaled_code};
-    ghost use Rattle.journal_text.specs.contracts.line.Line as line_row;
+    ghost use Rattle.journal_text.specs.Texts.{text_of};
 
     ghost Value = { Journaled };
 
-    ghost coded = { journaled_code line_row.the_row.coded };
+    ghost coded = { journaled_code };
 
-    ghost view = { λ j. record { text = j.text.items; pending = j.pending.items; quiet = j.quiet } };
+    ghost view = { λ j. record { text = j.text.items; pending = text_of j.quiet j.pending.items; quiet = j.quiet } };
 }
 
 impl Journal {
@@ -56,6 +57,9 @@ impl Journal {
     pub fn push_line(&mut self, line: Line) -> Result<(), Memory>
         ensures { OnOk result (self.new ≡ with_lines self.old (line ∷ [])) }
     {
+        if self.quiet && is_entry(&line) {
+            return Ok(());
+        }
         self.pending.push(line)?;
         Ok(())
     }
@@ -71,6 +75,9 @@ impl Journal {
     pub fn push_change<R: Valued>(&mut self, link: Link, change: &Change<R>) -> Result<(), Memory>
         ensures { OnOk result (self.new ≡ with_entries self.old (valued_change R.value link change.now)) }
     {
+        if self.quiet {
+            return Ok(());
+        }
         let before = value_of(&change.before)?;
         let after = value_of(&change.after)?;
         self.push_values(link, change.prefix, before, after)

@@ -2,7 +2,7 @@
 //! the law.
 
 ghost use Rattle.journal_text.specs.Walk.{LeadsOn};
-ghost use Rattle.journal_text.specs.Laws.{ChangesLead, EachLinkIsItself, LinksAreSetInEitherOrder, EntriesGrow, EntriesJoin, LinksReadBack, ReadLinksAreNamed, SameLinksAreEqual};
+ghost use Rattle.journal_text.specs.Laws.{ChangesLead, EachLinkIsItself, LinksAreSetInEitherOrder, EntriesJoin, LinksReadBack, ReadLinksAreNamed, SameLinksAreEqual};
 
 use crate::valued::Valued;
 
@@ -39,6 +39,5 @@ pub fn read_links_are_named()
 
 /// A journal has the entries that were appended to it, in their order.
 pub fn entries_are_appended()
-    ensures join { EntriesJoin }
-    ensures grow { EntriesGrow }
+    ensures { EntriesJoin }
 {}

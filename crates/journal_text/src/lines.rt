@@ -244,7 +244,7 @@ fn push_line(alloc: Global, out: &mut Vec<u8>, line: &Line) -> Result<(), Memory
 }
 
 /// Whether a line is one of the journal.
-fn is_entry(line: &Line) -> bool
+pub(crate) fn is_entry(line: &Line) -> bool
     ensures { result ≡ is_entry line.now }
 {
     matches!(line, Line::Journal(_))

@@ -28,7 +28,7 @@ use Rattle.pass_core.proofs.LeftLemmas.{walk_is_spent}
 use Rattle.filter_bank.specs.Outgoing.{first_walk}
 use Rattle.filter_bank.proofs.OutLemmas.{nothing_at_first}
 use Rattle.peer_out.specs.Remembered.{Exit}
-use Rattle.peer_out.specs.Changes.{IsSender}
+use Rattle.peer_out.specs.Changes.{IsSender, message_octets}
 use Rattle.cache_stage.specs.Caches.{kept_after}
 use Rattle.cache_stage.proofs.KeptLemmas.{keeps}
 use Rattle.fanout_queue.specs.Queues.{Queued, Takes}
@@ -41,8 +41,8 @@ use Rattle.journal_text.specs.declared.value.Value.{Value}
 use Rattle.journal_text.specs.declared.entry.Entry.{Entry}
 use Rattle.journal_text.specs.Journals.{Journaled, with_lines, with_entries}
 use Rattle.journal_text.specs.Walk.{Leads, no_links}
-use Rattle.journal_text.specs.Values.{route_value, route_rows, attrs_rows, sent_entries}
-use Rattle.journal_text.specs.declared.link.Link.TheVariants.{Read}
+use Rattle.journal_text.specs.Values.{attrs_value, route_value, route_rows, attrs_rows, sent_entries, valued_change}
+use Rattle.journal_text.specs.declared.link.Link.TheVariants.{Read, Outf, Adv}
 use Rattle.journal_text.proofs.JournalLemmas.{as_lines, with_lines_append, as_lines_append}
 use Rattle.out_chain.specs.Chains.{OutChained, form_of, made_by, outf_rows, session_links, out_links, beside_out, HasSent, RowsMayBeHeard, ChangesMayBeHeard, OutStands}
 use Rattle.out_chain.specs.Steps.{exit_to, new_out, start_entries, stop_entries, LeadsOut, LeadsFromBest, with_rules, sent_after, with_sent, with_filter, read_entries, sending_entries, message_lines, said_of, IsTold, GoesOut, PassesOut, WalksOut, IsWalkedOut, ReadsFirst, WalksNext, TurnsOut, AddsLines, IsOutTurn}
@@ -93,6 +93,17 @@ said_all j mid end now outf adv line mid_is end_is now_is =
     now_is ∙ ap (λ (m : Journaled). with_lines m (line ∷ [])) end_is ∙ with_lines_append mid (as_lines adv) (line ∷ [])
     ∙ ap (λ (m : Journaled). with_lines m (as_lines adv ++ line ∷ [])) mid_is ∙ with_lines_append j (as_lines outf) (as_lines adv ++ line ∷ [])
     ∙ ap (with_lines j) (sym (append_assoc (as_lines outf) (as_lines adv) (line ∷ [])) ∙ ap (λ (l : List Line). l ++ line ∷ []) (sym (as_lines_append outf adv)))
+
+-- the lines of what the filter sends, one after another
+pub sent_lines : (c v : OutChained) → v ≡ c → (change sent : Change Attrs) (n : ℕ) (octets : List ℕ) (j mid end now : Journaled) → n ≡ v.peer.number → sent ≡ change → octets ≡ message_octets v.exit.profile.as4 sent
+    → mid ≡ with_entries j (valued_change attrs_value (Outf n v.session) change) → end ≡ with_entries mid (valued_change attrs_value (Adv n v.session) sent) → now ≡ with_lines end (lines.Out n octets ∷ [])
+    → now ≡ with_lines j (said_of c [] (Some change))
+sent_lines c v is change sent n octets j mid end now number same told outf adv out = subst (λ (x : OutChained). now ≡ with_lines j (said_of x [] (Some change))) is (
+    said_all j mid end now (valued_change attrs_value (Outf v.peer.number v.session) change) (valued_change attrs_value (Adv v.peer.number v.session) change) (lines.Out v.peer.number (message_octets v.exit.profile.as4 change))
+    (outf ∙ ap (λ (m : ℕ). with_entries j (valued_change attrs_value (Outf m v.session) change)) number)
+    (adv ∙ ap (λ (m : ℕ). with_entries mid (valued_change attrs_value (Adv m v.session) sent)) number ∙ ap (λ (s : Change Attrs). with_entries mid (valued_change attrs_value (Adv v.peer.number v.session) s)) same)
+    (out ∙ ap (λ (m : ℕ). with_lines end (lines.Out m octets ∷ [])) number
+      ∙ ap (λ (o : List ℕ). with_lines end (lines.Out v.peer.number o ∷ [])) (told ∙ ap (message_octets v.exit.profile.as4) same)))
 
 -- ---- what the reader hasn't taken, before and after a turn
 module _ (queued left : Queued Route) (reader : ℕ) where

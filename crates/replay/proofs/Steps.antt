@@ -24,7 +24,7 @@ use Rattle.replay.specs.Stream.{StepsLine, made}
 
 -- a journal with more lines
 pub made_more : (j : Journaled) (lines : List Line) → made (with_lines j lines) ≡ made j ++ text_of j.quiet lines
-made_more j lines = ap (λ t. j.text ++ t) (flat_map-append (shown j.quiet) j.pending lines) ∙ sym (append_assoc j.text (text_of j.quiet j.pending) (text_of j.quiet lines))
+made_more j lines = sym (append_assoc j.text j.pending (text_of j.quiet lines))
 
 -- to make the text changes nothing of it
 pub made_flushed : (j : Journaled) → made (flushed j) ≡ made j

@@ -25,7 +25,7 @@ pub record IsReady (n : ℕ) (core : Cored) : Type 0 where
 
 -- the text of all lines of a journal, whether it was made or not
 abbrev pub made : Journaled → List ℕ
-made j = j.text ++ text_of j.quiet j.pending
+made j = j.text ++ j.pending
 
 -- What was read is whole lines, which were all stepped, in so many turns, and whose output is this, and then a part of a line.
 pub record HasStepped (quiet : Bool) (read : List ℕ) (number : ℕ) (m : Moment) (turns : ℕ) (pending output : List ℕ) : Type 0 where
