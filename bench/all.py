@@ -89,7 +89,7 @@ def work_of_queue(files, sizes):
 
 def work_of_messages(files, sizes, runs):
     for size in sizes:
-        yield 'messages', size, measure.median(files['table', size], [program('bench_messages')], runs)
+        yield 'messages', size, measure.median(files['table', size], [program('bench_rows'), 'messages'], runs)
 
 
 def work_of_exits(sizes, runs):
@@ -97,7 +97,7 @@ def work_of_exits(sizes, runs):
     with open(os.devnull, 'rb') as nothing:
         for kind in ('queue', 'octets'):
             for size in sizes:
-                yield kind, size, measure.median(nothing, [program('bench_exits'), kind, str(size)], runs)
+                yield kind, size, measure.median(nothing, [program('bench_rows'), kind, str(size)], runs)
 
 
 def work_of_tables(sizes, runs):
@@ -107,7 +107,7 @@ def work_of_tables(sizes, runs):
             for size in sizes:
                 before = 0
                 for steps, step in enumerate(STEPS, 1):
-                    seen = measure.median(nothing, [program('bench_tables'), kind, str(size), str(steps)], runs)
+                    seen = measure.median(nothing, [program('bench_rows'), kind, str(size), str(steps)], runs)
                     here = {'seconds': max(seen['seconds'] - before, 0), 'mib': seen['mib']}
                     before = seen['seconds']
                     yield '%s: %s' % (kind, step), size, here
@@ -174,9 +174,9 @@ def collect(asked, sizes, folder):
              ('replay_main', work_of_check(files, sizes, asked.runs, folder)),
              ('replay_main', work_of_queue(files, sizes)),
              ('replay_main', work_of_gen(sizes, asked.runs)),
-             ('bench_messages', work_of_messages(files, sizes, asked.runs)),
-             ('bench_tables', work_of_tables(sizes, asked.runs)),
-             ('bench_exits', work_of_exits(sizes, asked.runs))]
+             ('bench_rows', work_of_messages(files, sizes, asked.runs)),
+             ('bench_rows', work_of_tables(sizes, asked.runs)),
+             ('bench_rows', work_of_exits(sizes, asked.runs))]
     rows = {}
     for name, work in kinds:
         if not os.path.exists(program(name)):

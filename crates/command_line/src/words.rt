@@ -1,10 +1,10 @@
 //! The words of the command line.
 
-ghost use Rattle.std.specs.Prelude.{◌≡◌, ◌≤◌, false, map, IfOk, IfSome};
+ghost use Rattle.std.specs.Prelude.{◌≡◌, ◌≤◌, codes, false, map, IfOk, IfSome};
 ghost use Rattle.std.specs.String.{string_bytes};
-ghost use Rattle.clap.specs.Words.{app_of, first_of, found_of, rows_of, rule_of, subcommand_rows_of};
+ghost use Rattle.clap.specs.Words.{app_of, first_of, found_of, new_app, rows_of, rule_of, subcommand_rows_of, with_rule, with_subcommand};
 ghost use Rattle.clap.specs.declared.builder.command.Command.TheViews.{out-Command as fields_of};
-ghost use Rattle.command_line.specs.Commands.{replay_app, run_app, gen_app, number_rule, quiet_rule, generated, is_quiet, named, number_in, number_to, command_of};
+ghost use Rattle.command_line.specs.Commands.{replay_app, run_app, gen_app, number_rule, quiet_rule, largest_seed, most_events, generated, is_quiet, named, number_in, number_to, command_of};
 
 use addr4::Memory;
 use clap::builder::ValueParser;
@@ -13,7 +13,7 @@ use clap::{Arg, ArgAction, ArgMatches};
 use std::alloc::{AllocError, Global};
 
 /// A command of the program.
-#[derive(Clone, Copy, Debug, PartialEq, Eq)]
+#[derive(Clone, Copy, PartialEq, Eq)]
 pub enum Command {
     /// `run`, quiet where `--quiet` follows.
     Run(bool),
@@ -55,26 +55,53 @@ fn run_command<'a>(alloc: Global) -> Result<clap::Command<'a>, AllocError>
     clap::Command::new(alloc, "run").arg(quiet(alloc))
 }
 
+/// `gen SEED COUNT`
+fn numbers_command<'a>(alloc: Global) -> Result<clap::Command<'a>, AllocError>
+    ensures app { IfOk result (λ command. app_of command ≡ with_rule (with_rule (new_app (codes "gen")) (number_rule (codes "seed") largest_seed)) (number_rule (codes "count") most_events)) }
+    ensures local { IfOk result (λ command. (fields_of command).has_globals ≡ false) }
+{
+    clap::Command::new(alloc, "gen")
+        .arg(number(alloc, "seed", u64::MAX))?
+        .arg(number(alloc, "count", MOST_EVENTS))
+}
+
 /// `gen SEED COUNT [--quiet]`
 fn gen_command<'a>(alloc: Global) -> Result<clap::Command<'a>, AllocError>
     ensures app { IfOk result (λ command. app_of command ≡ gen_app) }
     ensures local { IfOk result (λ command. (fields_of command).has_globals ≡ false) }
 {
-    clap::Command::new(alloc, "gen")
-        .arg(number(alloc, "seed", u64::MAX))?
-        .arg(number(alloc, "count", MOST_EVENTS))?
-        .arg(quiet(alloc))
+    let command = numbers_command(alloc)?;
+    command.arg(quiet(alloc))
+}
+
+/// `replay` with `run`.
+fn with_run<'a>(alloc: Global) -> Result<clap::Command<'a>, AllocError>
+    ensures { IfOk result (λ command. app_of command ≡ with_subcommand (new_app (codes "replay")) run_app.top) }
+{
+    let run = run_command(alloc)?;
+    clap::Command::new(alloc, "replay").subcommand(run)
+}
+
+/// `replay` with `run` and `gen`.
+fn with_gen<'a>(alloc: Global) -> Result<clap::Command<'a>, AllocError>
+    ensures { IfOk result (λ command. app_of command ≡ with_subcommand (with_subcommand (new_app (codes "replay")) run_app.top) gen_app.top) }
+{
+    let command = with_run(alloc)?;
+    match gen_command(alloc) {
+        Ok(generated) => command.subcommand(generated),
+        Err(fault) => {
+            drop(command);
+            Err(fault)
+        }
+    }
 }
 
 /// What the command line may be.
 fn replay_command<'a>(alloc: Global) -> Result<clap::Command<'a>, AllocError>
     ensures { IfOk result (λ command. app_of command ≡ replay_app) }
 {
-    let command = clap::Command::new(alloc, "replay")
-        .subcommand(run_command(alloc)?)?
-        .subcommand(gen_command(alloc)?)?
-        .subcommand(clap::Command::new(alloc, "check"))?;
-    Ok(command)
+    let command = with_gen(alloc)?;
+    command.subcommand(clap::Command::new(alloc, "check"))
 }
 
 /// Whether the flag stands among the words of a command.
@@ -145,10 +172,18 @@ pub fn read_command(alloc: Global, words: &[String]) -> Result<Option<Command>, 
 {
     let command = replay_command(alloc)?;
     match command.try_get_matches_from(words) {
-        Ok(matches) => Ok(named(&matches)),
-        Err(error) => match error.kind() {
-            ErrorKind::OutOfMemory => Err(Memory),
-            _ => Ok(None),
-        },
+        Ok(matches) => {
+            let command = named(&matches);
+            drop(matches);
+            Ok(command)
+        }
+        Err(error) => {
+            let kind = error.kind();
+            drop(error);
+            match kind {
+                ErrorKind::OutOfMemory => Err(Memory),
+                _ => Ok(None),
+            }
+        }
     }
 }

@@ -1,6 +1,0 @@
-use Rattle.std.proofs.Common.{◌≡◌, length}
-use Rattle.bench_exits.specs.Live.{AreLive}
-use Rattle.bench_exits.proofs.reading.take_turns.Given as goal
-
-abbrev pub invariant-loop-index : goal.invariant-loop-index
-invariant-loop-index l = record { same : l.readers ≡ l.fn.readers; end : l.index-end ≡ length l.readers; live : AreLive l.queue l.readers }

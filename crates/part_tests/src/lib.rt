@@ -1,0 +1,23 @@
+//! Calls of single crates that no event file makes by themselves: texts in and outside the languages, changes that are applied
+//! to a map, the nodes of a table, what a route becomes on its way to a peer, and the router's own turns. What event files
+//! give is shown by the stories of the crate story_tests.
+//!
+//! The crates that these tests are of have none of their own: a crate with tests is proved once more with them.
+#![tactic(auto)]
+
+#[cfg(test)]
+mod announcements;
+#[cfg(test)]
+mod attributes;
+#[cfg(test)]
+mod changes;
+#[cfg(test)]
+mod cores;
+#[cfg(test)]
+mod events;
+#[cfg(test)]
+mod prefixes;
+#[cfg(test)]
+mod rules;
+#[cfg(test)]
+mod tables;
