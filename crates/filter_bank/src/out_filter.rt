@@ -8,11 +8,11 @@ ghost use Rattle.pass_core.specs.Passed.{edited, waits};
 ghost use Rattle.pass_core.specs.Turns.{passed, passed_rows, IsPassedOn, IsWalked};
 ghost use Rattle.filter_bank.specs.Outgoing.{Form, outgoing, first_walk};
 
-use crate::outgoing::{asked_row, sent_row};
+use crate::outgoing::{asked_row, sent_before, sent_row};
 use crate::sent::Sent;
 use addr4::{Memory, Place, Prefix};
 use bgp_attr::{Neighbour, Route, SharedAttrs};
-use link_change::{Change, Turn, Upstream, copy_row};
+use link_change::{Change, Turn, Upstream};
 use pass_core::Pass;
 use policy_rules::Rules;
 use std::marker::Model;
@@ -105,9 +105,8 @@ impl OutFilter {
             return Ok(Turn::Quiet);
         };
         let row = upper.asked(&prefix)?;
-        let again = copy_row(&row)?;
-        let before = sent_row(form, peer, self.pass.at(prefix), prefix, row)?;
-        let after = sent_row(form, peer, self.pass.coming(), prefix, again)?;
+        let before = sent_before(form, peer, self.pass.at(prefix), prefix, &row)?;
+        let after = sent_row(form, peer, self.pass.coming(), prefix, row)?;
         self.pass.step_to(prefix);
         Ok(Turn::taken(Change::between(prefix, before, after)))
     }

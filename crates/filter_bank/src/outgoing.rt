@@ -1,10 +1,10 @@
 //! What the outgoing filter makes of one route.
 
 ghost use Rattle.std.specs.Prelude.{◌≡◌, IfOk};
-ghost use Rattle.filter_bank.specs.Outgoing.{is_kept_from, may_go, first_out, let_by, let_out, outgoing};
+ghost use Rattle.filter_bank.specs.Outgoing.{is_kept_from, may_go, first_out, let_out, outgoing};
 
 use crate::sent::Sent;
-use addr4::{Memory, Prefix};
+use addr4::{Memory, Prefix, Row};
 use bgp_attr::{Neighbour, Route, SharedAttrs, is_host_prefix};
 use policy_rules::{Rules, judge};
 
@@ -36,17 +36,7 @@ fn first_out(peer: &Neighbour, route: Route) -> Route
     route
 }
 
-/// What the rules make of a route; without rules nothing goes out.
-fn let_by(rules: &Option<Rules>, prefix: Prefix, route: Route) -> Option<Route>
-    ensures { result ≡ let_by rules.now prefix route }
-{
-    match rules {
-        None => None,
-        Some(rules) => judge(rules, prefix, route),
-    }
-}
-
-/// The route that goes out.
+/// The route that goes out; without rules none does.
 fn let_out(
     peer: &Neighbour,
     rules: &Option<Rules>,
@@ -55,14 +45,14 @@ fn let_out(
 ) -> Option<Route>
     ensures { result ≡ let_out peer.now rules.now prefix row }
 {
-    match row {
-        None => None,
-        Some(route) => {
+    match (rules, row) {
+        (Some(rules), Some(route)) => {
             if !may_go(peer, prefix, &route) {
                 return None;
             }
-            let_by(rules, prefix, first_out(peer, route))
+            judge(rules, prefix, first_out(peer, route))
         }
+        _ => None,
     }
 }
 
@@ -80,6 +70,23 @@ pub(crate) fn sent_row<S: Sent>(
     match let_out(peer, rules, prefix, row) {
         None => Ok(None),
         Some(route) => form.sent(&prefix, &route),
+    }
+}
+
+/// The same of a row that is needed again. It is copied only where there are rules.
+pub(crate) fn sent_before<S: Sent>(
+    form: &mut S,
+    peer: &Neighbour,
+    rules: &Option<Rules>,
+    prefix: Prefix,
+    row: &Option<Route>,
+) -> Result<Option<SharedAttrs>, Memory>
+    ensures sent { IfOk result (λ sent. sent ≡ outgoing (S.form form.old) peer.now rules.now prefix row.now) }
+    ensures same { form.new ≡ form.old }
+{
+    match (rules, row) {
+        (Some(_), Some(route)) => sent_row(form, peer, rules, prefix, Some(route.copy()?)),
+        _ => Ok(None),
     }
 }
 

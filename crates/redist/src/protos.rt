@@ -1,6 +1,6 @@
 //! Sets of interior protocols.
 
-ghost use Rattle.std.specs.Prelude.{◌≡◌};
+ghost use Rattle.std.specs.Prelude.{◌≡◌, ◌↔◌, IsTrue};
 ghost use Rattle.redist.specs.Protocols.{no_protos, has, with_proto};
 
 use rib_route::Proto;
@@ -25,6 +25,13 @@ impl Protos {
             ospf: false,
             rip: false,
         }
+    }
+
+    /// Whether no protocol is in the set.
+    pub fn is_empty(self) -> bool
+        ensures { IsTrue result ↔ (self ≡ no_protos) }
+    {
+        self == Protos::none()
     }
 
     /// Whether the protocol is in the set.

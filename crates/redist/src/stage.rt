@@ -128,7 +128,8 @@ impl Redist {
         Ok(Turn::taken(Change::between(prefix, before, after)))
     }
 
-    /// The row at a prefix of the link below. Memory only for want of memory.
+    /// The row at a prefix of the link below. Where no protocol is in the set that holds there, the link above isn't asked.
+    /// Memory only for want of memory.
     pub fn asked<U: Upstream<Row = Interior>>(
         &self,
         upper: &U,
@@ -137,8 +138,12 @@ impl Redist {
     ) -> Result<Option<Route>, Memory>
         ensures { IfOk result (λ row. row ≡ passed_rows (redistributed me.now) self.now (U.rows upper.now) prefix) }
     {
+        let on = *self.pass.at(prefix);
+        if on.is_empty() {
+            return Ok(None);
+        }
         let row = upper.asked(&prefix)?;
-        self.maker.asked(*self.pass.at(prefix), &row, me)
+        self.maker.asked(on, &row, me)
     }
 
     /// The least candidate of the link below beyond a place: those of the link above, of which some may have no row below.

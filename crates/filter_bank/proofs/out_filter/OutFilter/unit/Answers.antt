@@ -20,16 +20,15 @@ returns-clause-taken g c =
     let p = c.in-Some.prefix in
     let busy : is_some old.walk ≡ true = search rules in
     let row : c.in_ok-row.row ≡ upper p = c.in_ok-row.ensures in
-    let again : c.in_ok-again.again ≡ upper p = c.in_ok-again.ensures ∙ row in
-    let kept : g.S.Sent.form c.sent_row.new.form ≡ form = ap g.S.Sent.form c.sent_row.ensures.same in
+    let kept : g.S.Sent.form c.sent_before.new.form ≡ form = ap g.S.Sent.form c.sent_before.ensures.same in
     let before : c.in_ok-before.before ≡ outgoing form peer (function_at old p) p (upper p) =
     c.in_ok-before.ensures.sent ∙ ap (λ (f : Option (List Rule)). outgoing form peer f p c.in_ok-row.row) c.at.ensures
     ∙ ap (outgoing form peer (function_at old p) p) row in
     let coming : c.coming.result.now ≡ function_at new p = coming_at old new p c.coming.result.now busy c.coming.ensures c.step_to.ensures in
     let after : c.in_ok-after.after ≡ outgoing form peer (function_at new p) p (upper p) =
-    c.in_ok-after.ensures.sent ∙ ap (λ f. outgoing f peer c.coming.result.now p c.in_ok-again.again) kept
-    ∙ ap (λ (f : Option (List Rule)). outgoing form peer f p c.in_ok-again.again) coming
-    ∙ ap (outgoing form peer (function_at new p) p) again in
+    c.in_ok-after.ensures.sent ∙ ap (λ f. outgoing f peer c.coming.result.now p c.in_ok-row.row) kept
+    ∙ ap (λ (f : Option (List Rule)). outgoing form peer f p c.in_ok-row.row) coming
+    ∙ ap (outgoing form peer (function_at new p) p) row in
     rw c.taken.ensures
     (subst (λ (s : Passed (Option (List Rule))). IsWalked (outgoing form peer) candidates upper s new (taken_turn c.between.result)) c.self.view_is
     (goes_on (outgoing form peer) (makes_none_out form peer) candidates upper c.in-Some.ensures.covers old new (key_of c.place.result) p
