@@ -1,5 +1,5 @@
 -- What the descents to a key and to the next one find.
-use Rattle.std.proofs.Common.{◌≡◌, ◌≢◌, ◌⊎◌, ℕ, ◌+◌, ◌-◌, ◌*◌, ◌%◌, ◌^◌, ◌<◌, ◌≤◌, true, false, Option, Some, None, IsSome, is_some, option_map, refl, sym, ap, subst, ◌∙◌, inl, inr, arith}
+use Rattle.std.proofs.Common.{◌≡◌, ◌≢◌, ◌⊎◌, ℕ, ◌+◌, ◌-◌, ◌*◌, ◌%◌, ◌^◌, ◌<◌, ◌≤◌, true, false, Option, Some, None, IsSome, is_some, option_map, option_and_then, refl, sym, ap, subst, ◌∙◌, inl, inr, arith}
 use Rattle.std.proofs.lemmas.Nat.{mod_below}
 use Rattle.std.proofs.lemmas.Bool.{cases_eq, cases_lt}
 use Rattle.slab.specs.Slab.{Slab, get, ContainsKey}
@@ -12,7 +12,7 @@ use Rattle.nibble_trie.specs.declared.link.Target.{Target}
 use Rattle.nibble_trie.specs.declared.link.Target.TheVariants.{Nothing, Leaf, Inner}
 use Rattle.nibble_trie.specs.declared.index.Index.{Index}
 use Rattle.nibble_trie.specs.declared.index.Spot.{Spot}
-use Rattle.nibble_trie.specs.Links.{leads}
+use Rattle.nibble_trie.specs.Links.{leads, leaf_of}
 use Rattle.nibble_trie.specs.Keys.{prefix_in, longer_in, IsNextOf, IsSmall, IsChained, HasNext, IsFirstBehind, IsNextLeaf, IsLeafOf, IsHeadOf, rest_of, rest_behind}
 use Rattle.nibble_trie.specs.Index.{Layout, high, IsLaid, Names, Stands, is_live, Lies, IsPlace, link_at}
 use Rattle.nibble_trie.specs.Next.{IsFirst, FromAt, FromIn, IsStart, CanStart, CanStartIn}
@@ -180,6 +180,10 @@ leaf_at keys p a length r ea el leaf = subst (λ q. IsLeafOf keys q r) (one_netw
 
 pub next_at : (keys : ℕ → Option Network) (p : Network) (a length : ℕ) (r : Option ℕ) → a ≡ p.address → length ≡ p.length → IsNextOf keys a (length + 1) r → IsNextOf keys p.address (p.length + 1) r
 next_at keys p a length r ea el next = subst (λ n. IsNextOf keys p.address n r) (ap (λ n. n + 1) el) (subst (λ b. IsNextOf keys b (length + 1) r) ea next)
+
+-- the link of a prefix's leaf leads to the next one
+pub longer_in_node : {V : Type 0} (leaves : Slab (Node V)) (k : ℕ) (n : Node V) (p : Network) (r : Option ℕ) → IsChained (prefix_in leaves) (longer_in leaves) → get leaves k ≡ Some n → prefix_in leaves k ≡ Some p → r ≡ leaf_of (leads n.longer) → IsNextOf (prefix_in leaves) p.address (p.length + 1) r
+longer_in_node leaves k n p r chained found is e = subst (λ l. IsNextOf (prefix_in leaves) p.address (p.length + 1) l) (ap (option_and_then (λ (m : Node _). leaf_of (leads m.longer))) found ∙ sym e) (chained.linked k p is)
 
 -- ---- the root's place
 pub top_stands : (index : Index) (layout : Layout) → Stands index layout (record { at = None; level = 8; target = leads index.root })

@@ -1,6 +1,6 @@
 -- What a link's word tells, and the links of a branch.
 use Rattle.std.proofs.Common.{◌≡◌, ◌≢◌, ℕ, ◌+◌, ◌-◌, ◌<◌, ◌≤◌, true, false, cond, List, length, get_or, set, replicate, Option, Some, None, nat_eq, nat_lt, refl, sym, ap, subst, ◌∙◌, inl, inr, arith, get_or-set_same, get_or-set_other}
-use Rattle.std.proofs.lemmas.Bool.{cases_eq, ne_eqb, cond_below, cond_above}
+use Rattle.std.proofs.lemmas.Bool.{cases_eq, cases_lt, ne_eqb, cond_below, cond_above}
 use Rattle.std.proofs.lemmas.List.{get_or-replicate, length-replicate}
 use Rattle.nibble_trie.specs.declared.link.Link.{Link}
 use Rattle.nibble_trie.specs.declared.link.Target.{Target}
@@ -27,6 +27,15 @@ word_inner w k e =
     ∙ sym (cond_above w 2147483648 (Leaf (w - 1)) (Inner (w - 2147483648)) (Inner (w - 2147483648)) (omega arith) refl)
     ∙ ap Inner (let same : w - 2147483648 ≡ k = omega arith in same)
 
+pub nothing_word : (w : ℕ) → target_of w ≡ Nothing → w ≡ 0
+nothing_word w e = elim (cases_eq w 0) [
+  | inl z ↦ z
+  | inr n ↦ elim (cases_lt w 2147483648) [
+    | inl lt ↦ let clash : Leaf (w - 1) ≡ Nothing = sym (word_leaf w (w - 1) (omega arith) lt) ∙ e in absurd (cc)
+    | inr le ↦ let clash : Inner (w - 2147483648) ≡ Nothing = sym (word_inner w (w - 2147483648) (omega arith)) ∙ e in absurd (cc)
+  ]
+]
+
 -- ---- branches
 pub target_read : (b : Branch) (i : ℕ) → target_at b i ≡ leads (get_or b.links i (record { word = 0 }))
 unfolding target_at
@@ -51,9 +60,9 @@ target_one b digit zero l small none is i below =
     let within : digit < length base.links = subst (λ n. digit < n) (sym (length-replicate 16 zero)) small in
     target_set base b digit l within is i ∙ ap (cond (nat_eq i digit) (leads l)) (all_zero zero i below ∙ none)
 
--- no link from the next digit on, and none here
-pub empty_more : (b : Branch) (digit : ℕ) → target_at b digit ≡ Nothing → ((i : ℕ) → digit + 1 ≤ i → i < 16 → target_at b i ≡ Nothing) → (i : ℕ) → digit ≤ i → i < 16 → target_at b i ≡ Nothing
-empty_more b digit here rest i le small = elim (cases_eq i digit) [
+-- no link at a digit, nor at those before
+pub none_more : (b : Branch) (digit : ℕ) → target_at b digit ≡ Nothing → ((i : ℕ) → i < digit → target_at b i ≡ Nothing) → (i : ℕ) → i < digit + 1 → target_at b i ≡ Nothing
+none_more b digit here before i less = elim (cases_eq i digit) [
   | inl e ↦ ap (target_at b) e ∙ here
-  | inr n ↦ rest i (omega arith) small
+  | inr n ↦ before i (omega arith)
 ]

@@ -1,6 +1,6 @@
 //! Links between nodes.
 
-ghost use Rattle.std.specs.Prelude.{◌≡◌, ◌+◌, ◌<◌, ◌^◌, IfSome};
+ghost use Rattle.std.specs.Prelude.{◌≡◌, ◌↔◌, ◌+◌, ◌<◌, ◌^◌, IfSome};
 ghost use Rattle.nibble_trie.specs.Links.{leads, leaf_of};
 ghost use Rattle.nibble_trie.specs.declared.link.Target.TheVariants.{Nothing, Leaf, Inner};
 
@@ -52,6 +52,14 @@ impl Link {
             None => Link::nothing(),
             Some(key) => Link::leaf(key),
         }
+    }
+
+    // The link's word as a number: 0 where it leads to nothing.
+    pub(crate) fn number(self) -> u64
+        ensures nothing { (result ≡ 0) ↔ (leads self ≡ Nothing) }
+        ensures small { result < 2 ^ 32 }
+    {
+        self.word as u64
     }
 
     pub(crate) fn target(self) -> Target

@@ -1,6 +1,6 @@
 //! The descents to a key, and to the next one in order.
 
-ghost use Rattle.std.specs.Prelude.{◌≡◌, ℕ, Option, Some};
+ghost use Rattle.std.specs.Prelude.{◌≡◌, ◌↔◌, ℕ, ◌+◌, IsTrue, Option, Some};
 ghost use Rattle.addr4.specs.Places.{key_of};
 ghost use Rattle.nibble_trie.specs.Links.{IsCell};
 ghost use Rattle.nibble_trie.specs.Keys.{prefix_in, IsNextOf, IsLeafOf, IsNextLeaf, IsFirstBehind};
@@ -40,6 +40,39 @@ pub(crate) fn find<V>(index: &Index, leaves: &Slab<Node<V>>, prefix: Prefix) -> 
 {
     let entry = first_leaf(index, leaves, prefix);
     chain::find(leaves, entry.1, prefix.length())
+}
+
+// Whether the leaf of a prefix lies at a key.
+fn is_at<V>(leaves: &Slab<Node<V>>, key: usize, prefix: Prefix) -> bool
+    ensures { IsTrue result ↔ (prefix_in leaves.now key ≡ Some prefix) }
+{
+    let node = match leaves.get(key) {
+        None => return false,
+        Some(node) => node,
+    };
+    if node.prefix.length() != prefix.length() {
+        return false;
+    }
+    if node.prefix.address().number() != prefix.address().number() {
+        return false;
+    }
+    true
+}
+
+// The leaf of a prefix, which may lie at a key.
+pub(crate) fn find_near<V>(
+    index: &Index,
+    leaves: &Slab<Node<V>>,
+    near: usize,
+    prefix: Prefix,
+) -> Option<usize>
+    requires { IsWhole leaves.now index.now }
+    ensures { IsLeafOf (prefix_in leaves.now) prefix result }
+{
+    if is_at(leaves, near, prefix) {
+        return Some(near);
+    }
+    find(index, leaves, prefix)
 }
 
 // The leaf of the first address from one on that has one, among the addresses of a place.
@@ -105,27 +138,54 @@ fn first_behind<V>(index: &Index, leaves: &Slab<Node<V>>, address: u32) -> Optio
     first_at(index, leaves, index.top(), address + 1)
 }
 
-// The leaf of the first key beyond a prefix.
-fn next_behind<V>(index: &Index, leaves: &Slab<Node<V>>, prefix: Prefix) -> Option<usize>
+// The first longer leaf of a prefix's address. The prefix's own may lie at a key.
+fn longer_near<V>(
+    index: &Index,
+    leaves: &Slab<Node<V>>,
+    near: usize,
+    prefix: Prefix,
+) -> Option<usize>
+    requires { IsWhole leaves.now index.now }
+    ensures { IsNextOf (prefix_in leaves.now) prefix.address (prefix.length + 1) result }
+{
+    if is_at(leaves, near, prefix) {
+        let node = &leaves[near];
+        return node.longer.key();
+    }
+    prefix.known();
+    let entry = first_leaf(index, leaves, prefix);
+    chain::seek(leaves, entry.1, prefix.length() + 1)
+}
+
+// The leaf of the first key beyond a prefix, whose own leaf may lie at a key.
+fn next_behind<V>(
+    index: &Index,
+    leaves: &Slab<Node<V>>,
+    near: usize,
+    prefix: Prefix,
+) -> Option<usize>
     requires { IsWhole leaves.now index.now }
     ensures { IsNextLeaf (prefix_in leaves.now) (Some prefix) result }
 {
-    prefix.known();
-    let entry = first_leaf(index, leaves, prefix);
-    let longer = chain::seek(leaves, entry.1, prefix.length() + 1);
+    let longer = longer_near(index, leaves, near, prefix);
     if longer.is_some() {
         return longer;
     }
     first_behind(index, leaves, prefix.address().number())
 }
 
-// The leaf of the first key beyond a place.
-pub(crate) fn next_leaf<V>(index: &Index, leaves: &Slab<Node<V>>, after: Place) -> Option<usize>
+// The leaf of the first key beyond a place, at which a leaf may lie at a key.
+pub(crate) fn next_leaf<V>(
+    index: &Index,
+    leaves: &Slab<Node<V>>,
+    near: usize,
+    after: Place,
+) -> Option<usize>
     requires { IsWhole leaves.now index.now }
     ensures { IsNextLeaf (prefix_in leaves.now) (key_of after) result }
 {
     match after {
         Place::Before => first_at(index, leaves, index.top(), 0),
-        Place::At(prefix) => next_behind(index, leaves, prefix),
+        Place::At(prefix) => next_behind(index, leaves, near, prefix),
     }
 }

@@ -83,6 +83,17 @@ impl<V> Trie<V> {
         &mut self.leaves[key].value
     }
 
+    /// [`value_mut`](Trie::value_mut), without a descent where `near` is the key in [`nodes`](Trie::nodes) of the prefix's
+    /// leaf. Any other key costs a descent and changes nothing else.
+    pub fn value_near(&mut self, near: usize, prefix: Prefix) -> &mut V
+        requires { HasKey self.old.rows prefix }
+        ensures* writes_back { sem 𝓛 (lends_value V.row self.entry prefix result) }
+        ensures value { map.get self.old.rows prefix ≡ Some result.now }
+    {
+        let key = reading::find_near(&self.index, &self.leaves, near, prefix).unwrap();
+        &mut self.leaves[key].value
+    }
+
     /// Lends what stands at a prefix, if anything, to be changed in place.
     pub fn get_mut(&mut self, prefix: Prefix) -> Option<&mut V>
         ensures* writes_back { sem 𝓛 (lends_get V.row self.entry prefix result) }
@@ -107,6 +118,19 @@ impl<V> Trie<V> {
         }
     }
 
+    /// What stands at a prefix, and the key of its leaf in [`nodes`](Trie::nodes).
+    pub fn find(&self, prefix: Prefix) -> Option<(&V, usize)>
+        ensures { option_map (λ found. found.0.now) result ≡ map.get self.now.rows prefix }
+    {
+        match reading::find(&self.index, &self.leaves, prefix) {
+            None => None,
+            Some(key) => {
+                let node = &self.leaves[key];
+                Some((&node.value, key))
+            }
+        }
+    }
+
     /// The leaves: one for each key.
     pub fn nodes(&self) -> &Slab<Node<V>>
         ensures { HasNodes result.now self.now.rows }
@@ -119,11 +143,26 @@ impl<V> Trie<V> {
         ensures prefix { IsNextRow (map.get self.now.rows) (key_of after) (option_map (λ row. row.0) result) }
         ensures value { IfSome result (λ row. map.get self.now.rows row.0 ≡ Some row.1.now) }
     {
-        match reading::next_leaf(&self.index, &self.leaves, after) {
+        match reading::next_leaf(&self.index, &self.leaves, 0, after) {
             None => None,
             Some(key) => {
                 let node = &self.leaves[key];
                 Some((node.prefix, &node.value))
+            }
+        }
+    }
+
+    /// [`next_row`](Trie::next_row), and the key of its leaf in [`nodes`](Trie::nodes): in one descent less where `near` is
+    /// the key of the place's leaf. Any other key costs that descent and changes no row.
+    pub fn next_near(&self, near: usize, after: Place) -> Option<(Prefix, &V, usize)>
+        ensures prefix { IsNextRow (map.get self.now.rows) (key_of after) (option_map (λ row. row.0) result) }
+        ensures value { IfSome result (λ row. map.get self.now.rows row.0 ≡ Some row.1.now) }
+    {
+        match reading::next_leaf(&self.index, &self.leaves, near, after) {
+            None => None,
+            Some(key) => {
+                let node = &self.leaves[key];
+                Some((node.prefix, &node.value, key))
             }
         }
     }

@@ -8,6 +8,8 @@ use std::marker::Model;
 #[derive(Drop)]
 pub struct Iter {
     pub(crate) id: usize,
+    // Where the leaf of its place may lie in the trie. A wrong key costs a descent, and changes no step.
+    pub(crate) leaf: usize,
 }
 
 impl Model for Iter {

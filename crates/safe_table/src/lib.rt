@@ -7,8 +7,9 @@
 //!
 //! So rows may be put and removed between any two steps of an iterator, also the row that it stands at, and the next step
 //! still finds its place: it goes to the least row beyond the place that is there now. A row put behind an iterator isn't
-//! met, one beyond it is. A step is three descents, and one more for each slot on its way that is there for another
-//! iterator alone.
+//! met, one beyond it is. A step is one descent: an iterator remembers the leaf where it stands, and goes to it without one.
+//! Each slot on its way that is there for another iterator alone takes one more, and so does its own slot where the row is
+//! gone.
 //!
 //! Incoming tables of peers, deletion stages, caches and the origins of the forwarding side stand on it.
 #![tactic(auto)]

@@ -11,65 +11,69 @@ use crate::slot::Slot;
 use addr4::{Memory, Place, Prefix};
 use nibble_trie::Trie;
 
-// One more iterator stands at a prefix.
-pub(crate) fn enter<V>(trie: &mut Trie<Slot<V>>, prefix: Prefix)
+// One more iterator stands at a prefix, whose leaf may lie at a key.
+pub(crate) fn enter<V>(trie: &mut Trie<Slot<V>>, near: usize, prefix: Prefix)
     requires has { HasKey trie.old.rows prefix }
     requires fits { (s : Slot V) → map.get trie.old.rows prefix ≡ Some s → s.readers + 1 < 2 ^ 32 }
     ensures { (s : Slot V) → map.get trie.old.rows prefix ≡ Some s → trie.new.rows ≡ map.insert trie.old.rows prefix (record s { readers = s.readers + 1 }) }
 {
-    let slot = trie.value_mut(prefix);
+    let slot = trie.value_near(near, prefix);
     slot.enter();
 }
 
-// One iterator less stands at a prefix. The last one takes what was removed along.
-pub(crate) fn leave<V: Drop>(trie: &mut Trie<Slot<V>>, prefix: Prefix)
+// One iterator less stands at a prefix, whose leaf may lie at a key. The last one takes what was removed along.
+pub(crate) fn leave<V: Drop>(trie: &mut Trie<Slot<V>>, near: usize, prefix: Prefix)
     requires has { HasKey trie.old.rows prefix }
     requires stands { (s : Slot V) → map.get trie.old.rows prefix ≡ Some s → 0 < s.readers }
     ensures { (s : Slot V) → map.get trie.old.rows prefix ≡ Some s → Leaves trie.old.rows trie.new.rows prefix s }
 {
-    let slot = trie.value_mut(prefix);
+    let slot = trie.value_near(near, prefix);
     slot.leave();
     if slot.readers() == 0 && !slot.has_row() {
         trie.remove(prefix);
     }
 }
 
-pub(crate) fn leave_place<V: Drop>(trie: &mut Trie<Slot<V>>, place: Place)
+pub(crate) fn leave_place<V: Drop>(trie: &mut Trie<Slot<V>>, near: usize, place: Place)
     requires { MatchPlace place (Unit {0}) (λ p. HasKey trie.old.rows p × ((s : Slot V) → map.get trie.old.rows p ≡ Some s → 0 < s.readers)) }
     ensures { MatchPlace place (trie.new.rows ≡ trie.old.rows) (λ p. (s : Slot V) → map.get trie.old.rows p ≡ Some s → Leaves trie.old.rows trie.new.rows p s) }
 {
     match place {
         Place::Before => {}
-        Place::At(prefix) => leave(trie, prefix),
+        Place::At(prefix) => leave(trie, near, prefix),
     }
 }
 
-// The first prefix beyond a place that has a row.
-pub(crate) fn first_live<V>(trie: &Trie<Slot<V>>, after: Place) -> Option<Prefix>
-    ensures { IsNextRow (map.get (live_rows trie.now.rows)) (key_of after) result }
+// The first prefix beyond a place that has a row, and the key of its leaf. The leaf of the place may lie at a key.
+pub(crate) fn first_live<V>(
+    trie: &Trie<Slot<V>>,
+    near: usize,
+    after: Place,
+) -> Option<(Prefix, usize)>
+    ensures { IsNextRow (map.get (live_rows trie.now.rows)) (key_of after) (option_map (λ row. row.0) result) }
 {
-    let mut row = match next_slot(trie, after) {
+    let mut row = match next_slot(trie, near, after) {
         None => return None,
         Some(row) => row,
     };
     'rows: while !row.1 {
         row.0.known();
-        row = match next_slot(trie, Place::At(row.0)) {
+        row = match next_slot(trie, row.2, Place::At(row.0)) {
             None => return None,
             Some(next) => next,
         };
     }
-    Some(row.0)
+    Some((row.0, row.2))
 }
 
-// The first prefix beyond a place where something stands, and whether it has a row.
-fn next_slot<V>(trie: &Trie<Slot<V>>, after: Place) -> Option<(Prefix, bool)>
+// The first prefix beyond a place where something stands, whether it has a row, and the key of its leaf.
+fn next_slot<V>(trie: &Trie<Slot<V>>, near: usize, after: Place) -> Option<(Prefix, bool, usize)>
     ensures prefix { IsNextRow (map.get trie.now.rows) (key_of after) (option_map (λ row. row.0) result) }
     ensures live { IfSome result (λ row. IsTrue row.1 ↔ HasKey (live_rows trie.now.rows) row.0) }
 {
-    match trie.next_row(after) {
+    match trie.next_near(near, after) {
         None => None,
-        Some(row) => Some((row.0, row.1.has_row())),
+        Some(row) => Some((row.0, row.1.has_row(), row.2)),
     }
 }
 
@@ -80,6 +84,22 @@ pub(crate) fn has_row<V>(trie: &Trie<Slot<V>>, prefix: Prefix) -> bool
     match trie.get(prefix) {
         None => false,
         Some(slot) => slot.has_row(),
+    }
+}
+
+// The key of the leaf at a prefix, if that has a row.
+pub(crate) fn row_leaf<V>(trie: &Trie<Slot<V>>, prefix: Prefix) -> Option<usize>
+    ensures { is_some result ≡ is_some (live_value (map.get trie.now.rows prefix)) }
+{
+    match trie.find(prefix) {
+        None => None,
+        Some(found) => {
+            if found.0.has_row() {
+                Some(found.1)
+            } else {
+                None
+            }
+        }
     }
 }
 

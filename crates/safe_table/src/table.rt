@@ -108,17 +108,21 @@ impl<V: Drop> Table<V> {
         ensures* writes_back { sem 𝓛 (lends_get V.row self.entry prefix result) }
         ensures value { option_copied_mut result ≡ map.get self.old.rows prefix }
     {
-        if !slots::has_row(&self.trie, prefix) {
-            return None;
-        }
-        Some(self.trie.value_mut(prefix).row_mut())
+        let leaf = match slots::row_leaf(&self.trie, prefix) {
+            None => return None,
+            Some(leaf) => leaf,
+        };
+        Some(self.trie.value_near(leaf, prefix).row_mut())
     }
 
     /// The first prefix beyond a place that has a row, by address and then length.
     pub fn next_after(&self, after: Place) -> Option<Prefix>
         ensures { IsNextRow (map.get self.now.rows) (key_of after) result }
     {
-        slots::first_live(&self.trie, after)
+        match slots::first_live(&self.trie, 0, after) {
+            None => None,
+            Some(row) => Some(row.0),
+        }
     }
 
     /// The leaves of the trie: one for each row, and one for each prefix at which an iterator stands.
@@ -188,7 +192,7 @@ impl<V: Drop> Table<V> {
             return Err(Memory);
         }
         let id = self.places.insert(Place::Before)?;
-        Ok(Iter { id })
+        Ok(Iter { id, leaf: 0 })
     }
 
     /// The first row beyond the place of the iterator that is there now, which it takes for its place. At none the
@@ -201,14 +205,17 @@ impl<V: Drop> Table<V> {
         ensures moves { Moves self.old self.new it.old result }
     {
         let id = it.id;
-        let prefix = match slots::first_live(&self.trie, self.places[id]) {
+        let near = it.leaf;
+        let row = match slots::first_live(&self.trie, near, self.places[id]) {
             None => return None,
-            Some(prefix) => prefix,
+            Some(row) => row,
         };
+        let prefix = row.0;
         let place = self.places[id];
         self.places[id] = Place::At(prefix);
-        slots::enter(&mut self.trie, prefix);
-        slots::leave_place(&mut self.trie, place);
+        it.leaf = row.1;
+        slots::enter(&mut self.trie, row.1, prefix);
+        slots::leave_place(&mut self.trie, near, place);
         Some(prefix)
     }
 
@@ -218,8 +225,8 @@ impl<V: Drop> Table<V> {
         ensures rows { self.new.rows ≡ self.old.rows }
         ensures iterators { self.new.iterators ≡ map.remove self.old.iterators it }
     {
-        let Iter { id } = it;
+        let Iter { id, leaf } = it;
         let place = self.places.remove(id);
-        slots::leave_place(&mut self.trie, place);
+        slots::leave_place(&mut self.trie, leaf, place);
     }
 }

@@ -26,7 +26,7 @@ prune-requires t c =
     let at = c.above-above.result.at in
     let way = above.way r.heads r.layout r.holds (subst (OnWay old r.layout c.args.address) (sym c.top.ensures) (top_way old r.layout c.args.address (omega arith))) in
     let w = subst (Writes (is_live mid) (is_live new) (link_at mid) (link_at new) at) c.nothing.ensures c.write.ensures.writes in
-    let d = drops_of old mid new at c.in-Some.at.0 c.index-links.result.now c.index-links.ensures refl c.remove.ensures.updates w (way.stands.leads ∙ above.target) (c.is_empty.ensures c.if-not-is_empty.false) in (
+    let d = drops_of old mid new at c.in-Some.at.0 c.index-links.result.now c.index-links.ensures refl c.remove.ensures.updates w (way.stands.leads ∙ above.target) (c.is_empty.ensures.0 c.if-not-is_empty.false) in (
       subst (λ m. slab_len new.branches < m) c.decreases (omega (arith, c.write.ensures.len, c.remove.ensures.len)),
       record {
         heads = r.heads;
@@ -47,5 +47,5 @@ returns t c = λ heads ix.
     let at = c.above-above.result.at in
     let way = above.way heads ix.layout ix.holds (subst (OnWay old ix.layout c.args.address) (sym c.top.ensures) (top_way old ix.layout c.args.address (omega arith))) in
     let w = subst (Writes (is_live mid) (is_live new) (link_at mid) (link_at new) at) c.nothing.ensures c.write.ensures.writes in
-    let d = drops_of old mid new at c.in-Some.at.0 c.index-links.result.now c.index-links.ensures refl c.remove.ensures.updates w (way.stands.leads ∙ above.target) (c.is_empty.ensures c.if-not-is_empty.false) in
+    let d = drops_of old mid new at c.in-Some.at.0 c.index-links.result.now c.index-links.ensures refl c.remove.ensures.updates w (way.stands.leads ∙ above.target) (c.is_empty.ensures.0 c.if-not-is_empty.false) in
     c.prune.ensures heads (record { layout = ix.layout; holds = drop_holds (is_live old) (is_live new) (link_at old) (link_at new) heads ix.layout at c.in-Some.at.0 ix.holds way.stands.place d })
