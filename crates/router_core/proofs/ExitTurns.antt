@@ -36,6 +36,7 @@ use Rattle.peer_side.proofs.WeldLemmas.{adds_both}
 use Rattle.rib_route.specs.declared.rows.Interior.{Interior}
 use Rattle.rib_route.specs.declared.rows.FibRow.{FibRow}
 use Rattle.register_interest.specs.Registers.{Registry}
+use Rattle.nexthop_resolver.specs.Kept.{way_of}
 use Rattle.rib_tree.specs.Trees.{int_rows}
 use Rattle.rib_exit.specs.declared.exit.RibExit.{RibExit}
 use Rattle.rib_exit.specs.Exits.{StandsOver}
@@ -64,6 +65,7 @@ use Rattle.router_core.specs.Works.{IsUnit, Comes}
 use Rattle.router_core.proofs.BestLemmas.{lent_is}
 use Rattle.router_core.proofs.QueueLemmas.{reader_live}
 use Rattle.router_core.proofs.HeardSteps.{heard_quiet, exits_declared}
+use Rattle.router_core.proofs.StaleLemmas.{kept_or_learnt, all_as_before, none_as_before, none_goes_stale}
 use Rattle.router_core.proofs.ReadingLemmas.{best_counted, take_most}
 use Rattle.router_core.proofs.SessionLemmas.{stands_exits, external_kept, strangers_read, reads_as, exits_lead, exit_here, exit_elsewhere}
 use Rattle.router_core.proofs.ExternalTurns.{forward_leads, exit_unheard, stands_forward}
@@ -188,6 +190,7 @@ module _ (law : StrangersTake) (m : Moment) (r : ℕ) (change : Change Route) (q
         earlier = (omega arith, (omega arith, (omega arith, (omega arith, (omega arith, tt)))));
         rows = record { peers = omega arith; protocols = omega arith };
         known = omega arith;
+        stale = none_goes_stale m now (all_as_before m.hops m.hops refl) (kept_or_learnt way_of m.registry m.rib.forwarding.known x.forwarding.known falls.keeps.hops);
         unread = let most = take_most m.exits.queue queue r (Some change) takes in omega (arith, most);
       };
     }
@@ -280,6 +283,7 @@ module _ (m : Moment) (k : ℕ) (sent : Option (Change Attrs)) (e : Exited) (sai
       earlier = (omega arith, (omega arith, (omega arith, (omega arith, (omega arith, (let same = read_same m.reader (λ r is. (kept r is).unread) in omega (arith, same), tt))))));
       rows = record { peers = omega arith; protocols = omega arith };
       known = (omega arith, omega arith);
+      stale = none_as_before m (with_exits m e) refl refl;
       unread = let most = read_less in omega (arith, most);
     };
   }

@@ -11,6 +11,7 @@ use Rattle.rib_route.specs.declared.rows.Interior.{Interior}
 use Rattle.rib_route.specs.declared.rows.FibRow.{FibRow}
 use Rattle.register_interest.specs.Registers.{Registry}
 use Rattle.nexthop_resolver.specs.Registered.{KeepsOthers}
+use Rattle.nexthop_resolver.specs.Kept.{external_hop, over, way_of}
 use Rattle.journal_text.specs.declared.link.Task.TheVariants as tasks
 use Rattle.journal_text.specs.declared.entry.Entry.{Entry}
 use Rattle.journal_text.specs.declared.value.Value.{Value}
@@ -23,7 +24,7 @@ use Rattle.link_region.specs.Regions.{Sides, joined, with_side}
 use Rattle.loss_chain.proofs.TableLemmas.{no_table}
 use Rattle.rib_tree.specs.Trees.{int_rows}
 use Rattle.rib_exit.specs.declared.exit.RibExit.{RibExit}
-use Rattle.rib_exit.specs.Exits.{exit_links as external_links, IsExit, AgreesWith, StandsOver, has_ext_work, left_in}
+use Rattle.rib_exit.specs.Exits.{exit_links as external_links, ext_candidates, ext_rows, IsExit, AgreesWith, StandsOver, has_ext_work, left_in}
 use Rattle.rib_exit.specs.Steps.{LeadsExit, KeepsAgreed, TurnsExit, ComesOut}
 use Rattle.rib_exit.proofs.LawLemmas.{stands_at_first}
 use Rattle.fanout_queue.specs.Queues.{AllLead}
@@ -42,6 +43,7 @@ use Rattle.router_core.specs.Stands.{Stands, Claim, Claims, EachResolver, SameRe
 use Rattle.router_core.specs.Turns.{journal_lines}
 use Rattle.router_core.specs.Works.{IsUnit, Comes}
 use Rattle.router_core.proofs.HeardSteps.{heard_quiet}
+use Rattle.router_core.proofs.StaleLemmas.{turned, all_as_before, none_goes_stale}
 use Rattle.router_core.proofs.BeyondLemmas.{external_counted}
 use Rattle.router_core.proofs.RibLinks.{exit_leads}
 
@@ -135,6 +137,8 @@ module _ (m : Moment) (r : Registry Interior) (x : RibExit) (sent : Option (Chan
       earlier = (omega arith, (omega arith, (omega arith, (omega arith, (omega arith, (omega arith, (omega arith, tt)))))));
       rows = record { peers = omega arith; protocols = omega arith };
       known = (omega arith, let same = t.known in omega (arith, same));
+      stale = none_goes_stale m (with_rib m r x) (all_as_before m.hops m.hops refl)
+          (turned external_hop over (ext_candidates m.rib) (ext_rows m.rib) way_of m.registry r m.rib.forwarding x.forwarding t.resolved t.turned);
       unread = omega arith;
     };
   }

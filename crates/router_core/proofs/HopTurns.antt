@@ -9,6 +9,7 @@ use Rattle.link_change.specs.declared.turn.Turn.TheVariants as turns
 use Rattle.rib_route.specs.declared.rows.Interior.{Interior}
 use Rattle.register_interest.specs.Registers.{Registry}
 use Rattle.pass_core.specs.Left.{CountsBeyond}
+use Rattle.nexthop_resolver.specs.Kept.{route_hop, metric_of, with_metric}
 use Rattle.journal_text.specs.declared.link.Task.TheVariants.{Nh}
 use Rattle.journal_text.specs.declared.entry.Entry.{Entry}
 use Rattle.journal_text.specs.declared.value.Value.{Value}
@@ -37,6 +38,7 @@ use Rattle.router_core.specs.Phases.{beyond_by, beyonds}
 use Rattle.router_core.proofs.BestLemmas.{best_of_none}
 use Rattle.router_core.proofs.QueueLemmas.{ExitsStand, reader_live, exits_fall}
 use Rattle.router_core.proofs.SpendLemmas.{Spent, hop_spends}
+use Rattle.router_core.proofs.StaleLemmas.{AllBefore, as_before, turned, put_before, none_goes_stale}
 use Rattle.router_core.specs.Stands.{Stands, Claim, Claims, EachResolver, SameResolvers, AnswersAgree, HopsCounted, NoStrangers, SmallNumbers, EachRow, EachExit, QueueLeads, ExitsRead, PlainExits, OneSender, SameSessions, OneReader, ExternalAgrees, ExternalStands, Tie, Ties, Registered, here}
 use Rattle.router_core.specs.Turns.{journal_lines, sent_of}
 use Rattle.router_core.specs.Works.{IsUnit, Comes, Decides}
@@ -99,6 +101,7 @@ hop_done k sent m m1 m' c r h entries best stands at t between d =
         earlier = spent.2;
         rows = spent.3;
         known = (let same = t.known in omega (arith, same), omega arith);
+        stale = none_goes_stale m (with_exits (with_hops m r h) m'.exits) asked (as_before m.rib.forwarding.known m.rib.forwarding.known refl);
         unread = spent.4;
       };
     })
@@ -121,6 +124,10 @@ hop_done k sent m m1 m' c r h entries best stands at t between d =
 
     fewer : left_in (beyonds m.chains) h + 1 ≤ left_in (beyonds m.chains) m.hops
     fewer = t.fewer (beyonds m.chains) (subst (λ (o : Option Chained). CountsBeyond (filt_candidates c) (beyond_by o)) (sym at) (candidates_are_counted c).0)
+
+    asked : AllBefore m.hops h
+    asked = put_before k m.hops h t.turn.resolver t.turn.taken t.turn.at t.turn.after
+        (turned route_hop with_metric (filt_candidates c) (filt_rows c) metric_of m.registry r t.turn.resolver t.turn.taken sent t.turn.turned)
 
     spent : Spent phases.Nh m (with_exits (with_hops m r h) m'.exits)
     spent = hop_spends m k (filt_candidates c) (filt_rows c) r h m'.exits t.turn.resolver t.turn.taken sent d.decided.best t.turn.at t.turn.turned t.turn.after

@@ -7,6 +7,7 @@ pub mod StandLemmas
 pub mod ForwardLemmas
 pub mod ScratchLemmas
 pub mod KnownLemmas
+pub mod StaleLemmas
 pub mod PeerTurns
 pub mod KeepLemmas
 pub mod HeardRows

@@ -43,6 +43,7 @@ use Rattle.router_core.proofs.QueueLemmas.{ExitsStand, queue_external, queue_lin
 use Rattle.router_core.proofs.HeardSteps.{heard_quiet, own_unheard, queue_views}
 use Rattle.router_core.proofs.RibLinks.{DecidesTo, own_rows_are, own_comes, leads_own}
 use Rattle.router_core.proofs.SpendLemmas.{Spent, own_spends}
+use Rattle.router_core.proofs.StaleLemmas.{none_as_before}
 
 -- ---- a change of `int` that goes on through redistribution
 pub own_followed : {X E : Type 0} (result : Result X E) (me : Speaker) (change taken : Change Interior) (m v m2 : Moment) (s : Passed Protos) (own : Option (Change Route)) (before j now : Journaled) → v ≡ m → v.declared.speaker ≡ Some me → taken ≡ change
@@ -135,6 +136,7 @@ own_done me m m1 m' s own best stands since walks between d =
         earlier = spent.2;
         rows = spent.3;
         known = (omega arith, omega arith);
+        stale = none_as_before m now refl refl;
         unread = spent.4;
       };
     })

@@ -37,7 +37,7 @@ use Rattle.router_core.proofs.HeardSteps.{heard_quiet, queue_views, falls_unhear
 use Rattle.router_core.specs.Moments.{Moment, own_of, best_of, with_chains, with_hops, with_exits, router_links}
 use Rattle.router_core.specs.Stands.{IsSilent, PeerStands, Stands, EachChain, EachResolver, HopsCounted, SmallNumbers, EachRow, open_session}
 use Rattle.router_core.specs.Turns.{Resolves, IsOfPeers, IsPeerTurn, IsTurn, phase_of, sent_of, has_work, journal_lines}
-use Rattle.router_core.specs.Works.{KnowsNoMore, IsUnit, Comes, SettlesPeer}
+use Rattle.router_core.specs.Works.{KnowsNoMore, NoneGoesStale, IsUnit, Comes, SettlesPeer}
 use Rattle.peer_side.proofs.WeldLemmas.{fallen_at, weld_after, weld_keeps, nears_weld, adds_both}
 use Rattle.router_core.proofs.HopLemmas.{all_comes, falls_lead, hops_fall}
 use Rattle.router_core.proofs.BestLemmas.{best_of_none, best_quiet}
@@ -48,6 +48,7 @@ use Rattle.router_core.proofs.SpendLemmas.{Sends, few_sent, turn_sends, peer_spe
 use Rattle.router_core.proofs.ReadingLemmas.{queue_most}
 use Rattle.rib_exit.specs.Exits.{known_in as external_known}
 use Rattle.router_core.proofs.KnownLemmas.{knows_no_more, swept_stood}
+use Rattle.router_core.proofs.StaleLemmas.{as_before, resolved, none_goes_stale, makes_none}
 use Rattle.router_core.proofs.StandLemmas.{peer_of as peer_at_chain, resolver_there, speaker_there, same_peers, not_zero, external_agrees, stands_with, live_same}
 
 silent_as : (up : Bool) (c c' : Chained) → c'.incoming.tables.live ≡ c.incoming.tables.live → IsSilent up c → IsSilent up c'
@@ -114,6 +115,7 @@ unit_done task sent m fallen m' entries rest stands t w =
         earlier = (peer_spends task m after refl refl near sends).2;
         rows = (peer_spends task m after refl refl near sends).3;
         known = peer_knows task m after refl near fewer_known;
+        stale = makes_none (phase_of task) m after none_stale;
         unread = (peer_spends task m after refl refl near sends).4;
       };
     }))
@@ -174,6 +176,9 @@ unit_done task sent m fallen m' entries rest stands t w =
             let new : filt_at fallen (peer_of task) q ≡ filt_rows t.turn.turned_chain q = ap (λ (o : Option Chained). filt_by o q) (fallen_at (peer_of task) m.chains fallen t.turn.turned_chain t.turn.after) in
             new ∙ swept_stood t.turn.chain t.turn.turned_chain s sent entries (stands.own EachChain (peer_of task) t.turn.chain t.turn.at).chain (subst (λ (x : Task). Turned t.turn.chain t.turn.turned_chain x sent entries) is t.turn.turned).1 q (ap is_some (sym new) ∙ some)
             ∙ sym old
+
+    none_stale : NoneGoesStale m after
+    none_stale = none_goes_stale m after (resolved (peer_of task) sent w.passed m.registry m'.registry m.hops m'.hops w.resolved w.below.resolves) (as_before m.rib.forwarding.known m.rib.forwarding.known refl)
 
     -- where nothing comes out on `filt.K`, nothing is decided
     quiet_below : sent ≡ None → w.decided.best ≡ None

@@ -81,6 +81,7 @@ route_unit take keep m proto n sent t m' before j j' stands adds settles = (
       earlier = spent.2;
       rows = spent.3;
       known = known;
+      stale = tt;
       unread = spent.4;
     };
   },

@@ -26,6 +26,7 @@ use Rattle.router_core.proofs.MostLemmas.{capped, external_capped, sends_below, 
 use Rattle.router_core.proofs.ReadingLemmas.{reading_less, readers_within, announced_fits}
 use Rattle.router_core.proofs.CountLemmas.{counts_below, changes_below, over_none, none_over}
 use Rattle.router_core.proofs.SpendLemmas.{same_rows}
+use Rattle.router_core.proofs.StaleLemmas.{none_as_before, makes_none, stale_then}
 use Rattle.router_core.proofs.NextLemmas.{next_works}
 use Rattle.router_core.proofs.ScratchLemmas.{settled_is_exact}
 use Rattle.router_core.proofs.TurnWalks.{phases_same, all_have_on}
@@ -38,7 +39,7 @@ none_more m [] = tt
 none_more m (e ∷ es) = (omega arith, none_more m es)
 
 work_none : (r : Phase) (m : Moment) → Stands m → IsWork r 0 m m []
-work_none r m stands = record { keeps = keeps_none m stands; falls = omega arith; left = omega arith; earlier = none_more m (earlier r); rows = same_rows m m refl refl; known = none_known r; unread = omega arith }
+work_none r m stands = record { keeps = keeps_none m stands; falls = omega arith; left = omega arith; earlier = none_more m (earlier r); rows = same_rows m m refl refl; known = none_known r; stale = makes_none r m m (none_as_before m m refl refl); unread = omega arith }
   where
     none_known : (e : Phase) → KnowsNoMore e m m
     none_known Del = (omega arith, omega arith)
@@ -82,6 +83,7 @@ work_join r n k a b c xs ys x y = record {
   earlier = no_more_then a b c (earlier r) x.earlier y.earlier;
   rows = rows_then a b c x.rows y.rows;
   known = known_then r a b c x.known y.known;
+  stale = stale_then r a b c x.stale y.stale;
   unread = let p = x.unread in let q = y.unread in omega (arith, p, q);
 }
 

@@ -1,7 +1,7 @@
 -- The rows of a link, one after the other.
 use Rattle.std.proofs.Common.{◌≡◌, ℕ, false, ◌+◌, ◌^◌, ◌<◌, List, [], ◌∷◌, ◌++◌, map, length, Option, Some, None, refl, sym, ap, subst, ◌∙◌, append-nil, length-append, arith}
 use Rattle.std.proofs.lemmas.Result.{IfOk-weaker}
-use Rattle.std.specs.Prelude.{IsSome, option_map, Result, IfOk}
+use Rattle.std.specs.Prelude.{IsSome, is_some, option_map, Result, IfOk}
 use Rattle.bgp_attr.specs.declared.route.Route.{Route}
 use Rattle.nexthop_resolver.specs.declared.rows.Metric.{Metric}
 use Rattle.nexthop_resolver.specs.Resolving.{Resolving}
@@ -120,6 +120,11 @@ rows_end link (Some rows) place n before j now small live next given last = (
       ∙ with_lines_append before (row_lines link given.0) (lines.Rows link (length given.0) ∷ []),
   (given.0, all_shown next.0 rows (next.2 rows refl) place given.0 next.1 (given.3 rows refl), refl, subst (λ (k : ℕ). k < 2 ^ 128) given.2 small),
 )
+
+-- a link that isn't live is not shown
+pub not_shown : (link : Link) (of : Option (Rows Value)) (before now : Journaled) → is_some of ≡ false → now ≡ with_lines before (lines.Absent ∷ []) → Pushes (Shows link of) before now
+not_shown link None before now none last = (lines.Absent ∷ [], last, refl)
+not_shown link (Some rows) before now none last = absurd (cc)
 
 -- ---- a show as an event
 no_entries : (link : Link) (listed : List (Network × Value)) (n : ℕ) → entries_of (row_lines link listed ++ lines.Rows link n ∷ []) ≡ []

@@ -8,7 +8,7 @@ use Rattle.rib_exit.specs.declared.exit.RibExit.{RibExit}
 use Rattle.rib_exit.specs.Exits.{left_in as external_left}
 use Rattle.redist.specs.declared.protos.Protos.{Protos}
 use Rattle.loss_chain.specs.Tables.{Tables, lost_count, tables_count}
-use Rattle.nexthop_known.specs.Hops.{stale_count}
+use Rattle.nexthop_known.specs.Hops.{is_stale_at, stale_count}
 use Rattle.nexthop_resolver.specs.declared.rows.Metric.{Metric}
 use Rattle.nexthop_resolver.specs.Resolving.{Resolving}
 use Rattle.nexthop_resolver.specs.Left.{differing_count, is_needed}
@@ -95,6 +95,11 @@ stale_of s = stale_count s.known
 
 abbrev pub stale_in : Resolvers → ℕ
 stale_in a = sum_by stale_of (tables.values a)
+
+-- whether a next hop is stale in the resolver of a peer, which knows it then
+abbrev pub is_stale_by : Option (Resolving Metric) → ℕ → Bool
+is_stale_by None a = false
+is_stale_by (Some s) a = is_stale_at (tables.get s.known a)
 
 -- how many turns next hops take at most, whatever became stale: each names a row, and two whole walks of each peer may be left
 abbrev pub most_of : Moment → ℕ

@@ -12,8 +12,9 @@ use Rattle.journal_text.specs.Journals.{Journaled, with_lines, with_entries, flu
 use Rattle.event_text.specs.declared.declared.DeclaredPeer.{DeclaredPeer}
 use Rattle.event_text.specs.Declarations.{peer_at}
 use Rattle.peer_side.specs.Peers.{chain_at, overdue_at, rows_in}
-use Rattle.hop_side.specs.Resolvers.{known_in}
-use Rattle.rib_exit.specs.Exits.{known_in as external_known}
+use Rattle.nexthop_known.specs.Hops.{is_stale_at}
+use Rattle.hop_side.specs.Resolvers.{resolver_at, known_in}
+use Rattle.rib_exit.specs.Exits.{known_in as external_known, stale_in as external_stale}
 use Rattle.peer_side.specs.Steps.{LosesInward, WeldsInward}
 use Rattle.bgp_attr.specs.declared.route.Route.{Route}
 use Rattle.journal_text.specs.declared.entry.Entry.{Entry}
@@ -45,7 +46,7 @@ use Rattle.router_core.specs.Scratch.{IsExact}
 use Rattle.router_core.specs.declared.router.Phase.{Phase}
 use Rattle.router_core.specs.declared.router.Phase.TheVariants as phases
 use Rattle.router_core.specs.Turns.{ResolvesOn, Invalidates, FollowsOwn, BelowInt, journal_lines, InPeers, FeedsAll, FallsRoute, phase_of, IsTurn, Turns, Runs, RunsPhase, RunsAll, has_work, phase_bound, rise_bound, IsOver, IsSettled}
-use Rattle.router_core.specs.Phases.{all_phases, counts, changes_left, earlier, left_from}
+use Rattle.router_core.specs.Phases.{all_phases, counts, changes_left, earlier, left_from, is_stale_by, stale_in}
 use Rattle.router_core.specs.Blocks.{RunsFirst, Loses, Hears, Idles, IsBlock, ended as ended_moment}
 use Rattle.router_core.specs.declared.router.Idle.{Idle}
 use Rattle.event_text.specs.declared.event.Event.{Event}
@@ -77,8 +78,22 @@ KnowsNoMore phases.Fin m m' = external_known m'.rib ≤ external_known m.rib
 KnowsNoMore phases.ReadRib m m' = known_in m'.hops ≤ known_in m.hops
 KnowsNoMore other m m' = (known_in m'.hops ≤ known_in m.hops) × (external_known m'.rib ≤ external_known m.rib)
 
+-- No next hop becomes stale: one that is, in the resolver of a peer or in the RIB's exit, was stale there before. So there are no more.
+pub record NoneGoesStale (m m' : Moment) : Type 0 where
+  pub peers : (k a : ℕ) → is_stale_by (resolver_at k m'.hops) a ≡ true → is_stale_by (resolver_at k m.hops) a ≡ true
+  pub external : (a : ℕ) → is_stale_at (tables.get m'.rib.forwarding.known a) ≡ true → is_stale_at (tables.get m.rib.forwarding.known a) ≡ true
+  pub fewer : stale_in m'.hops ≤ stale_in m.hops
+  pub fewer_external : external_stale m'.rib ≤ external_stale m.rib
+
+-- Next hops become stale with a change of `int` alone. In background work that comes of the deletion stages of protocols and of nothing
+-- else: so of their phase no claim is made, and of every other one that none becomes stale.
+abbrev pub MakesNoneStale : Phase → Moment → Moment → Type 0
+MakesNoneStale phases.Rdel m m' = Unit {0}
+MakesNoneStale other m m' = NoneGoesStale m m'
+
 -- Background work of a phase: what is live stays, and so many turns are spent, of the phase and of an idle from that phase on. Nothing is
--- added to an earlier phase, and no row; and what the slowest reader hasn't taken grows by no more changes than the phase has yet to make.
+-- added to an earlier phase, and no row; next hops become stale in the phase of protocols' deletion stages alone; and what the slowest
+-- reader hasn't taken grows by no more changes than the phase has yet to make.
 pub record IsWork (phase : Phase) (turns : ℕ) (m m' : Moment) (said : List Line) : Type 0 where
   pub keeps : Keeps (live_state m) m m' said
   pub falls : counts m' phase + turns ≤ counts m phase
@@ -86,6 +101,7 @@ pub record IsWork (phase : Phase) (turns : ℕ) (m m' : Moment) (said : List Lin
   pub earlier : AllByRecursion (λ e. counts m' e ≤ counts m e) (earlier phase)
   pub rows : AddsNoRows m m'
   pub known : KnowsNoMore phase m m'
+  pub stale : MakesNoneStale phase m m'
   pub unread : most_unread m'.exits + changes_left phase m' ≤ most_unread m.exits + changes_left phase m
 
 -- one turn of a task

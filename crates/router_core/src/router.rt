@@ -48,7 +48,7 @@ pub struct Idle {
 /// The phases of an idle, in their order.
 #[derive(Clone, Copy, Debug, PartialEq, Eq)]
 pub enum Phase {
-    /// The deletion stages of the interior protocols' losses.
+    /// The deletion stages of the interior protocols' losses. In no other phase does a next hop become stale.
     Rdel,
     /// The walk of redistribution.
     Red,
@@ -203,7 +203,8 @@ impl Core {
     }
 
     /// One turn of a task, and the text of its lines. [`Done::Nothing`] comes exactly where the task has no work; then
-    /// nothing changes. What is live stays.
+    /// nothing changes. What is live stays. No turn makes a next hop stale, in the resolver of a peer or among the external
+    /// routes, but that of a protocol's deletion stage, since answers are of the interior routes and no other turn changes those.
     pub fn unit(&mut self, task: Task, journal: &mut Journal) -> Result<Done, Memory>
         requires stands { self.old.failed ≡ false → CoreStands self.old }
         ensures comes { IfOk result (Comes task self.old.moment self.new.moment journal.old journal.new) }
@@ -226,8 +227,9 @@ impl Core {
 
     /// A phase of an idle: each of its tasks runs to its end. Answers how many turns that took: of deletion stages at most
     /// as many as there are rows, of the walks at most two for each row and two for each peer, and of next hops one more for
-    /// each that is stale as the phase begins. No row is added; what the slowest reader hasn't taken grows by at most one
-    /// change for each row in a phase of deletion stages, two in one of walks, and none where readers read.
+    /// each that is stale as the phase begins. No row is added, and no next hop becomes stale but in [`Phase::Rdel`]; what the
+    /// slowest reader hasn't taken grows by at most one change for each row in a phase of deletion stages, two in one of walks,
+    /// and none where readers read.
     pub fn drain(&mut self, phase: Phase, journal: &mut Journal) -> Result<u128, Memory>
         requires stands { self.old.failed ≡ false → CoreStands self.old }
         ensures drained { IfOk result (λ turns. Gives (HaveDrained phase self.old.moment turns self.new.moment) journal.old journal.new) }
