@@ -12,7 +12,7 @@ use std::cmp::Ordering;
 use std::marker::Model;
 
 /// An address.
-#[derive(Debug, Drop)]
+#[derive(Drop)]
 pub struct Addr<F: Family = V4> {
     bits: F,
 }

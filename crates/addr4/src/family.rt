@@ -39,7 +39,7 @@ pub trait Family: Copy {
 }
 
 /// The family of 32 bits.
-#[derive(Clone, Copy, Debug, PartialEq, Eq)]
+#[derive(Clone, Copy, PartialEq, Eq)]
 pub struct V4(pub u32);
 
 impl Family for V4 {

@@ -3,7 +3,7 @@
 use crate::prefix::Prefix;
 
 /// A place in the order of prefixes: before all, or at one.
-#[derive(Clone, Copy, Debug, PartialEq, Eq)]
+#[derive(Clone, Copy, PartialEq, Eq)]
 pub enum Place {
     Before,
     At(Prefix),

@@ -14,7 +14,7 @@ use std::cmp::Ordering;
 use std::marker::Model;
 
 /// An address with zero bits beyond a length.
-#[derive(Debug, Drop)]
+#[derive(Drop)]
 pub struct Prefix<F: Family = V4> {
     address: Addr<F>,
     length: u8,

@@ -8,7 +8,7 @@ use bgp_attr::{Origin, Route};
 
 /// What the decision compares of a route; made of one by [`Candidate::of`]. That a route is local decides alone: of a local
 /// one the rest counts nowhere.
-#[derive(Clone, Copy, Debug, PartialEq, Eq)]
+#[derive(Clone, Copy, PartialEq, Eq)]
 pub struct Candidate {
     /// Whether this speaker made the route: it came from no peer.
     pub(crate) local: bool,

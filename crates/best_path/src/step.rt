@@ -6,7 +6,7 @@ ghost use Rattle.best_path.specs.Steps.{beats_by};
 use crate::candidate::Candidate;
 
 /// A step of RFC 4271, section 9.1.2.2; the first one is phase 2's own (section 9.1.2).
-#[derive(Clone, Copy, Debug, PartialEq, Eq)]
+#[derive(Clone, Copy, PartialEq, Eq)]
 pub(crate) enum Step {
     Preference,
     PathLength,

@@ -10,7 +10,7 @@ use std::marker::Model;
 use std::rc::Rc;
 
 /// Where a route came from at first (RFC 4271, section 5.1.1).
-#[derive(Clone, Copy, Debug, PartialEq, Eq, PartialOrd, Ord)]
+#[derive(Clone, Copy, PartialEq, Eq, PartialOrd, Ord)]
 pub enum Origin {
     Igp,
     Egp,
@@ -18,7 +18,7 @@ pub enum Origin {
 }
 
 /// Who aggregated a route (RFC 4271, section 5.1.7).
-#[derive(Clone, Copy, Debug, PartialEq, Eq)]
+#[derive(Clone, Copy, PartialEq, Eq)]
 pub struct Aggregator {
     pub asn: u32,
     pub addr: Addr,

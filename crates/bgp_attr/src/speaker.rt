@@ -3,7 +3,7 @@
 use addr4::Addr;
 
 /// This speaker: the words of `local`.
-#[derive(Clone, Copy, Debug, PartialEq, Eq)]
+#[derive(Clone, Copy, PartialEq, Eq)]
 pub struct Speaker {
     /// The local AS, 1 to 65535.
     pub asn: u32,
@@ -14,7 +14,7 @@ pub struct Speaker {
 }
 
 /// A peer: the words of `peer`.
-#[derive(Clone, Copy, Debug, PartialEq, Eq)]
+#[derive(Clone, Copy, PartialEq, Eq)]
 pub struct Neighbour {
     /// The peer's number in the event file, 1 to 64.
     pub number: u8,
@@ -28,7 +28,7 @@ pub struct Neighbour {
 }
 
 /// How messages are read.
-#[derive(Clone, Copy, Debug, PartialEq, Eq)]
+#[derive(Clone, Copy, PartialEq, Eq)]
 pub struct Profile {
     /// AS numbers have four octets (RFC 6793) in place of two.
     pub as4: bool,

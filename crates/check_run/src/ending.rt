@@ -6,7 +6,7 @@ ghost use Rattle.check_run.specs.Answers.{ending_of};
 use journal_check::Checked;
 
 /// How a run of `check` ended.
-#[derive(Clone, Copy, Debug, PartialEq, Eq)]
+#[derive(Clone, Copy, PartialEq, Eq)]
 pub enum Ending {
     /// All lines are a journal's and break no rule, and the line that says so was written.
     Lawful,

@@ -3,7 +3,7 @@
 use bgp_attr::Origin;
 
 /// A task that is drawn, by its name. K is a peer's number.
-#[derive(Clone, Copy, Debug, PartialEq, Eq)]
+#[derive(Clone, Copy, PartialEq, Eq)]
 pub enum Work {
     /// `rd.rib`
     ReadRib,
@@ -16,7 +16,7 @@ pub enum Work {
 }
 
 /// An event that is drawn. K is a peer's number, 1 to 4.
-#[derive(Clone, Copy, Debug, PartialEq, Eq)]
+#[derive(Clone, Copy, PartialEq, Eq)]
 pub enum Drawn {
     /// `bgp K HEX`: the peer announces 10.X.0.0/16, with this ORIGIN and this MULTI_EXIT_DISC.
     Announce(u8, u8, Origin, u8),

@@ -15,7 +15,7 @@ const OPENING: &[u8] =
     b"local 65000 192.0.2.254 192.0.2.254\npeer 1 65001 192.0.2.1 192.0.2.1\npeer 2 65002 192.0.2.2 192.0.2.2\npeer 3 65000 192.0.2.3 192.0.2.3\npeer 4 65001 192.0.2.4 192.0.2.4\nroute add connected 192.0.2.0/24 direct eth0 1\nup 1\nup 2\nup 3\nup 4\n";
 
 /// Which part of the text comes next.
-#[derive(Clone, Copy, Debug, PartialEq, Eq)]
+#[derive(Clone, Copy, PartialEq, Eq)]
 pub enum Part {
     /// The lines that don't depend on the seed.
     Opening,

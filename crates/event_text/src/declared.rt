@@ -15,7 +15,7 @@ use std::alloc::Global;
 use std::marker::Model;
 
 /// A peer that was declared.
-#[derive(Clone, Copy, Debug, PartialEq, Eq)]
+#[derive(Clone, Copy, PartialEq, Eq)]
 pub struct DeclaredPeer {
     /// The words of `peer`.
     pub words: Neighbour,

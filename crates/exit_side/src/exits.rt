@@ -92,7 +92,7 @@ impl Exits {
             rules,
             journal,
         )?;
-        self.chains.insert(u32::from(peer.number), chain)?;
+        drop(self.chains.insert(u32::from(peer.number), chain)?);
         Ok(())
     }
 

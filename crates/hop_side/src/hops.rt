@@ -71,7 +71,7 @@ impl NextHops {
         let resolver = Resolver::new(number, self.alloc);
         resolver.are_named();
         let key = u32::from(number);
-        self.resolvers.insert(key, resolver)?;
+        drop(self.resolvers.insert(key, resolver)?);
         journal.push_entry(Entry::Begin(Link::Res(key)))
     }
 }

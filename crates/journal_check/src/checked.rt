@@ -1,7 +1,7 @@
 //! What is known of a journal.
 
 /// What is known of a journal so far.
-#[derive(Clone, Copy, Debug, PartialEq, Eq)]
+#[derive(Clone, Copy, PartialEq, Eq)]
 pub enum Checked {
     /// All lines are a journal's, and break no rule.
     Lawful,

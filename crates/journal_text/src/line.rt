@@ -7,7 +7,7 @@ use addr4::{Addr, Prefix};
 use bgp_attr::Octets;
 
 /// Why a line of the event file is refused.
-#[derive(Clone, Copy, Debug, PartialEq, Eq)]
+#[derive(Clone, Copy, PartialEq, Eq)]
 pub enum Code {
     /// The line is too long, or has a byte that isn't printable ASCII.
     E1,

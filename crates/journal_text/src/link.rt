@@ -9,7 +9,7 @@ use rib_route::Proto;
 
 /// A link between two stages. K and J are peers' numbers, S is the number of a session, N of a protocol's loss; all count
 /// from 1.
-#[derive(Clone, Copy, Debug, PartialEq, Eq)]
+#[derive(Clone, Copy, PartialEq, Eq)]
 pub enum Link {
     /// `in.K`: into the incoming filter of a peer.
     In(u32),
@@ -69,7 +69,7 @@ impl Link {
 }
 
 /// Work that a stage has, done in turns.
-#[derive(Clone, Copy, Debug, PartialEq, Eq)]
+#[derive(Clone, Copy, PartialEq, Eq)]
 pub enum Task {
     /// `del.K.S`: the deletes of a peer's lost session.
     Del(u32, u32),

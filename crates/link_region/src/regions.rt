@@ -6,7 +6,7 @@ ghost use Rattle.link_region.specs.Regions.{region_of};
 use journal_text::Link;
 
 /// The regions of the network. Each link is of one region, and each region has a part of the router that gives its links.
-#[derive(Clone, Copy, Debug, PartialEq, Eq)]
+#[derive(Clone, Copy, PartialEq, Eq)]
 pub enum Region {
     /// The peers' chains, down to the links `filt.K`.
     Inward,

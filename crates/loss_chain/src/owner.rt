@@ -8,7 +8,7 @@ use journal_text::{Link, Task};
 use rib_route::Proto;
 
 /// Whose losses the stages of a chain are: the names of its links and tasks.
-#[derive(Clone, Copy, Debug, PartialEq, Eq)]
+#[derive(Clone, Copy, PartialEq, Eq)]
 pub enum Owner {
     /// A peer, by its number. The losses are its sessions: `in.K` is the lowest link, `peer.K.S` the one into the stage of
     /// session S.

@@ -46,7 +46,7 @@ pub trait Via: Row {
 }
 
 /// Of an answer to a peer's resolver: the interior metric, or none where no route holds the next hop.
-#[derive(Clone, Copy, Debug, PartialEq, Eq)]
+#[derive(Clone, Copy, PartialEq, Eq)]
 pub struct Metric {
     pub igp: Option<u32>,
 }
@@ -100,7 +100,7 @@ impl Via for Route {
 }
 
 /// How packets leave towards a next hop.
-#[derive(Clone, Copy, Debug, PartialEq, Eq)]
+#[derive(Clone, Copy, PartialEq, Eq)]
 pub struct Outlet {
     /// The router that they are sent to first; none where the next hop is on a subnet of this router.
     pub gateway: Option<Addr>,
@@ -108,7 +108,7 @@ pub struct Outlet {
 }
 
 /// Of an answer for the forwarding table: the outlet, or none where no route holds the next hop.
-#[derive(Clone, Copy, Debug, PartialEq, Eq)]
+#[derive(Clone, Copy, PartialEq, Eq)]
 pub struct Way {
     pub outlet: Option<Outlet>,
 }

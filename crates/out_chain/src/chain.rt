@@ -13,9 +13,9 @@ ghost use Rattle.journal_text.specs.declared.link.Link.TheVariants as names;
 ghost use Rattle.journal_text.specs.declared.value.Value.{Value};
 ghost use Rattle.journal_text.specs.Walk.{HasRow, no_links};
 ghost use Rattle.journal_text.specs.Journals.{with_entries, with_lines};
-ghost use Rattle.journal_text.specs.Values.{route_value, attrs_value};
+ghost use Rattle.journal_text.specs.Values.{route_value, attrs_value, valued_change};
 ghost use Rattle.out_chain.specs.Chains.{out_links, out_candidates, IsOutChain, RowsMayBeHeard, OutStands, has_out_work};
-ghost use Rattle.out_chain.specs.Steps.{exit_to, new_out, start_entries, stop_entries, LeadsOut, LeadsFromBest, with_rules, with_sent, said_of, IsTold, PassesOut, IsWalkedOut, IsOutTurn};
+ghost use Rattle.out_chain.specs.Steps.{exit_to, new_out, start_entries, stop_entries, LeadsOut, LeadsFromBest, with_rules, with_sent, said_of, message_lines, IsTold, PassesOut, IsWalkedOut, IsOutTurn};
 
 use crate::to_peer::ToPeer;
 use addr4::{Memory, Place, Prefix};
@@ -202,10 +202,27 @@ impl OutChain {
         let number = u32::from(self.peer.number);
         journal.push_change(Link::Outf(number, self.session), &change)?;
         let sent = self.sent.take_in(change)?;
-        journal.push_change(Link::Adv(number, self.session), &sent)?;
-        let octets = self.to_peer.out.message(&sent)?;
+        match self.say(&sent, journal) {
+            Ok(()) => Ok(sent),
+            Err(fault) => {
+                drop(sent);
+                Err(fault)
+            }
+        }
+    }
+
+    // A change goes out on `adv.J.S`, and is said to the peer.
+    fn say(&mut self, sent: &Change<SharedAttrs>, journal: &mut Journal) -> Result<(), Memory>
+        requires { ForSome sent.now.after (IsSentOf self.old.exit.profile self.old.exit.external sent.now.prefix) }
+        ensures same { OnOk result (self.new ≡ self.old) }
+        ensures lines { OnOk result (journal.new ≡ with_lines (with_entries journal.old (valued_change attrs_value (names.Adv self.old.peer.number self.old.session) sent.now)) (message_lines self.old (Some sent.now))) }
+        ensures told { OnOk result (IsTold self.old.exit sent.now) }
+    {
+        let number = u32::from(self.peer.number);
+        journal.push_change(Link::Adv(number, self.session), sent)?;
+        let octets = self.to_peer.out.message(sent)?;
         journal.push_line(Line::Out(number, Octets::from_vec(octets)))?;
-        Ok(sent)
+        Ok(())
     }
 
     /// The session ends: its links end, whatever its reader hasn't taken, and the reader leaves the queue, also for want of memory.
@@ -218,10 +235,25 @@ impl OutChain {
     {
         let number = u32::from(self.peer.number);
         let session = self.session;
-        queue.drop_reader(self.reader);
-        journal.push_entry(Entry::End(Link::Read(number, session)))?;
-        journal.push_entry(Entry::End(Link::Outf(number, session)))?;
-        journal.push_entry(Entry::End(Link::Adv(number, session)))
+        queue.drop_reader(self.into_reader());
+        end_links(number, session, journal)
+    }
+
+    // All goes but the reader.
+    fn into_reader(self) -> Reader
+        ensures { result ≡ self.reader }
+    {
+        let OutChain {
+            reader,
+            filter,
+            sent,
+            to_peer,
+            ..
+        } = self;
+        drop(filter);
+        drop(sent);
+        drop(to_peer);
+        reader
     }
 
     /// Whether the link is one of the chain's: `read.J.S`, `outf.J.S` or `adv.J.S`.
@@ -308,6 +340,15 @@ impl OutChain {
     {
         self.sent.len() as u128
     }
+}
+
+// The links of a session end.
+fn end_links(number: u32, session: u32, journal: &mut Journal) -> Result<(), Memory>
+    ensures { OnOk result (journal.new ≡ with_entries journal.old (stop_entries number session)) }
+{
+    journal.push_entry(Entry::End(Link::Read(number, session)))?;
+    journal.push_entry(Entry::End(Link::Outf(number, session)))?;
+    journal.push_entry(Entry::End(Link::Adv(number, session)))
 }
 
 // A row of `read.J.S`, as a value.

@@ -85,7 +85,7 @@ impl Peers {
         ensures sound { OnOk result (IsPeers self.new) }
     {
         let chain = Chain::new(self.alloc, me, words)?;
-        self.chains.insert(number, chain)?;
+        drop(self.chains.insert(number, chain)?);
         journal.push_entry(Entry::Begin(Link::In(number)))?;
         journal.push_entry(Entry::Begin(Link::Filt(number)))
     }

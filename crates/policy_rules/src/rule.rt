@@ -8,7 +8,7 @@ use std::alloc::Global;
 use std::marker::Model;
 
 /// Which routes a rule is for.
-#[derive(Clone, Copy, Debug, PartialEq, Eq)]
+#[derive(Clone, Copy, PartialEq, Eq)]
 pub enum Condition {
     /// `any`: all.
     Any,
@@ -21,7 +21,7 @@ pub enum Condition {
 }
 
 /// What a rule sets in a route.
-#[derive(Clone, Copy, Debug, PartialEq, Eq)]
+#[derive(Clone, Copy, PartialEq, Eq)]
 pub enum Action {
     /// `pref N`: the degree of preference.
     Pref(u32),
@@ -34,7 +34,7 @@ pub enum Action {
 }
 
 /// What becomes of a route for which a rule is.
-#[derive(Clone, Copy, Debug, PartialEq, Eq)]
+#[derive(Clone, Copy, PartialEq, Eq)]
 pub enum Verdict {
     /// The actions are done, and the route is accepted.
     Accept,

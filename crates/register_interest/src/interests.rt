@@ -16,7 +16,7 @@ use std::marker::Model;
 use std::ops::Bound;
 
 /// A client's interest in a subnet.
-#[derive(Clone, Copy, Debug, PartialEq, Eq, PartialOrd, Ord)]
+#[derive(Clone, Copy, PartialEq, Eq, PartialOrd, Ord)]
 pub struct Interest {
     pub subnet: Prefix,
     pub client: u8,

@@ -1,12 +1,10 @@
 //! The replay program: the words of its command line, standard input and standard output.
 //!
-//! All that it does is the call of [`replay`]; here are the two adapters that make a source of standard input and a sink
-//! of standard output, and the exit status of each answer. Nothing is written to standard error.
+//! All that it does is the call of [`replay`] on standard input and output; here is the exit status of each answer. Nothing is
+//! written to standard error.
 #![tactic(auto)]
 
-mod streams;
-
-use crate::streams::{Reading, Writing};
+use edge_io::{Reading, Writing};
 use replay::{Status, replay};
 use std::env;
 use std::io::ErrorKind;
@@ -47,6 +45,3 @@ fn main(rt: HostRuntime) -> ExitCode {
     let status = replay(alloc, words.as_slice(), &mut source, &mut sink);
     ExitCode::from(code(status))
 }
-
-#[cfg(test)]
-mod tests;

@@ -10,7 +10,7 @@ use addr4::{Memory, Place, Prefix};
 use link_change::{Change, Upstream, nearer};
 
 /// One of the two links above a merge.
-#[derive(Clone, Copy, Debug, PartialEq, Eq)]
+#[derive(Clone, Copy, PartialEq, Eq)]
 pub enum Side {
     Left,
     Right,

@@ -11,7 +11,7 @@ use std::marker::Model;
 
 /// The name of an interface: 1 to 15 bytes, each a lower-case letter, a digit, `-`, `.` or `_`. Contracts see the list of
 /// these bytes.
-#[derive(Clone, Copy, Debug)]
+#[derive(Clone, Copy)]
 pub struct Iface {
     bytes: [u8; 15],
     len: u8,

@@ -17,7 +17,7 @@ pub use protocol::FibProto;
 pub use rows::{External, FibRow, Interior};
 
 /// Where an interior route comes from.
-#[derive(Clone, Copy, Debug, PartialEq, Eq)]
+#[derive(Clone, Copy, PartialEq, Eq)]
 pub enum Proto {
     Connected,
     Static,

@@ -7,7 +7,7 @@ use crate::Proto;
 use crate::rows::External;
 
 /// Where a row of the forwarding side comes from: an interior protocol, or BGP with an external or an internal peer.
-#[derive(Clone, Copy, Debug, PartialEq, Eq)]
+#[derive(Clone, Copy, PartialEq, Eq)]
 pub enum FibProto {
     Connected,
     Static,

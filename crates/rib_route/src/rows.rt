@@ -9,7 +9,7 @@ use crate::protocol::FibProto;
 use addr4::{Addr, Memory, Row};
 
 /// A route of an interior protocol.
-#[derive(Clone, Copy, Debug, PartialEq, Eq)]
+#[derive(Clone, Copy, PartialEq, Eq)]
 pub struct Interior {
     pub proto: Proto,
     /// The router that the route goes over; none where it is direct.
@@ -20,7 +20,7 @@ pub struct Interior {
 }
 
 /// A route of BGP that won the decision.
-#[derive(Clone, Copy, Debug, PartialEq, Eq)]
+#[derive(Clone, Copy, PartialEq, Eq)]
 pub struct External {
     /// Whether the peer that sent it is an internal one.
     pub internal: bool,
@@ -29,7 +29,7 @@ pub struct External {
 }
 
 /// What is forwarded by.
-#[derive(Clone, Copy, Debug, PartialEq, Eq)]
+#[derive(Clone, Copy, PartialEq, Eq)]
 pub struct FibRow {
     pub proto: FibProto,
     /// The router that packets are sent to; none where their destination is reached directly.

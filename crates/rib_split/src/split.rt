@@ -9,7 +9,7 @@ use link_change::Change;
 use rib_route::External;
 
 /// One of the two links below the splitter.
-#[derive(Clone, Copy, Debug, PartialEq, Eq)]
+#[derive(Clone, Copy, PartialEq, Eq)]
 pub enum BgpLink {
     /// The routes from external peers.
     Ebgp,

@@ -1,7 +1,6 @@
 //! The adapters over readers and writers that fail.
 
-use crate::streams::{Reading, Writing};
-use edge_io::{Failed, Sink, Source};
+use edge_io::{Failed, Reading, Sink, Source, Writing};
 use std::io::{self, ErrorKind, Read};
 use std::test::Fail;
 

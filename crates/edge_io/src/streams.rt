@@ -2,7 +2,7 @@
 
 ghost use Rattle.std.specs.Prelude.{◌≡◌, ◌+◌, ◌≤◌, ◌<◌, ℕ, List, Option, None};
 
-use edge_io::{Failed, Sink, Source};
+use crate::traits::{Failed, Sink, Source};
 use std::io::{Read, Write};
 
 /// A source that counts the reads that failed.
@@ -13,6 +13,7 @@ pub struct Reading<R> {
 }
 
 impl<R> Reading<R> {
+    /// A source of what the reader gives.
     pub fn new(inner: R) -> Reading<R> {
         Reading { inner, faults: 0 }
     }
@@ -42,6 +43,7 @@ pub struct Writing<W> {
 }
 
 impl<W> Writing<W> {
+    /// A sink that the writer takes.
     pub fn new(inner: W) -> Writing<W> {
         Writing { inner, faults: 0 }
     }
