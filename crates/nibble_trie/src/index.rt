@@ -182,20 +182,22 @@ impl Index {
     }
 
     // The place that leads to a branch on an address's way, from one above it on.
-    fn above(&self, branch: usize, address: u32, spot: Spot) -> Spot
+    fn above(&self, branch: usize, address: u32, mut spot: Spot) -> Spot
         requires { IsAbove self.now address branch spot }
         ensures way { (heads : ℕ → Option ℕ) (layout : Layout) → IsLaid self.now heads layout → OnWay self.now layout address spot → OnWay self.now layout address result }
         ensures target { result.target ≡ Inner branch }
     {
-        match spot.target {
-            Target::Inner(key) => {
-                if key == branch {
-                    return spot;
+        'way: loop {
+            match spot.target {
+                Target::Inner(key) => {
+                    if key == branch {
+                        return spot;
+                    }
+                    spot = self.below(key, address, spot.level - 1);
                 }
-                self.above(branch, address, self.below(key, address, spot.level - 1))
+                Target::Nothing => unreachable!(),
+                Target::Leaf(_) => unreachable!(),
             }
-            Target::Nothing => unreachable!(),
-            Target::Leaf(_) => unreachable!(),
         }
     }
 

@@ -402,9 +402,12 @@ none_counted : (n : ℕ) → (n == 0) ≡ true → n ≡ 0
 none_counted n e = grind (arith, nat_tests)
 
 -- where no iterator is live, none stands at a prefix
-pub unread : {V : Type 0} (rows : FinMap prefix_cmp (Slot V)) (places : List (Option Place)) (p : Network) (s : Slot V) → IsKept rows places → (count_by is_some places == 0) ≡ true → map.get rows p ≡ Some s → s.readers ≡ 0
-unread rows places p s kept none found =
+pub none_live : (places : List (Option Place)) (p : Network) → (count_by is_some places == 0) ≡ true → standing p places ≡ 0
+none_live places p none =
     let le = standing_le p places in
-    let counted : s.readers ≡ standing p places = ap readers_of (sym found) ∙ kept.counted p in
-    let none_live : count_by is_some places ≡ 0 = none_counted (count_by is_some places) none in
+    let empty : count_by is_some places ≡ 0 = none_counted (count_by is_some places) none in
     omega arith
+
+-- where none stands at a prefix, its slot counts none
+pub unread : {V : Type 0} (rows : FinMap prefix_cmp (Slot V)) (places : List (Option Place)) (p : Network) (s : Slot V) → IsKept rows places → standing p places ≡ 0 → map.get rows p ≡ Some s → s.readers ≡ 0
+unread rows places p s kept none found = ap readers_of (sym found) ∙ kept.counted p ∙ none

@@ -1,5 +1,5 @@
 -- Where iterators stand.
-use Rattle.std.proofs.Common.{◌≡◌, ◌≢◌, ℕ, zero, suc, ◌+◌, ◌<◌, ◌≤◌, true, false, cond, List, [], ◌∷◌, get_or, Option, Some, None, is_some, IsSome, set, count_by, refl, sym, ap, subst, ◌∙◌, inl, inr, add-zero, zero-add, arith}
+use Rattle.std.proofs.Common.{◌≡◌, ◌≢◌, ℕ, zero, suc, ◌+◌, ◌<◌, ◌≤◌, true, false, cond, List, [], ◌∷◌, get_or, length, Option, Some, None, is_some, IsSome, set, count_by, refl, sym, ap, subst, ◌∙◌, inl, inr, add-zero, zero-add, arith}
 use Rattle.std.specs.Ordering.{nat_cmp, eq_by_cmp}
 use Rattle.std.specs.Cmp.{nat_cmp_total}
 use Rattle.std.specs.FinMap as map
@@ -81,6 +81,15 @@ standing_below p (suc key) (y ∷ xs) x e away = counted (stand p y) (standing p
   where
     counted : (a b i n m : ℕ) → a ≤ i → b < n → m ≡ i + n → a + b < m
     counted a b i n m h lt e = omega arith
+
+-- none stands at a prefix where none of so many does, and there are no more
+pub none_within : (p : Network) (n : ℕ) (xs : List (Option Place)) → length xs ≤ n → ((k : ℕ) → k < n → stands_at p (get_or xs k None) ≡ false) → standing p xs ≡ 0
+none_within p n [] le none = refl
+none_within p zero (x ∷ xs) le none = absurd (omega arith)
+none_within p (suc n) (x ∷ xs) le none =
+    let here : stand p x ≡ 0 = ap (λ b. cond b 1 0) (none 0 (omega arith)) in
+    let rest : standing p xs ≡ 0 = none_within p n xs (omega arith) (λ k less. none (suc k) (omega (arith, less))) in
+    omega arith
 
 -- one that stands there counts
 pub some_stand : (p : Network) (key : ℕ) (xs : List (Option Place)) (x : Place) → get_or xs key None ≡ Some x → stand p (Some x) ≡ 1 → 0 < standing p xs

@@ -10,7 +10,7 @@ ghost use Rattle.nibble_trie.specs.Contents.{HasKey};
 ghost use Rattle.nibble_trie.specs.Nodes.{HasNodes};
 ghost use Rattle.safe_table.specs.Tables.{Moves, HasPlaces};
 
-use crate::iter::Iter;
+use crate::iter::{self, Iter};
 use crate::slot::Slot;
 use crate::slots;
 use addr4::{Memory, Place, Prefix};
@@ -156,7 +156,7 @@ impl<V: Drop> Table<V> {
         ensures rows { self.new.rows ≡ map.remove self.old.rows prefix }
         ensures iterators { self.new.iterators ≡ self.old.iterators }
     {
-        let alone = self.places.is_empty();
+        let alone = iter::nobody_at(&self.places, prefix);
         let before = slots::take(&mut self.trie, prefix, alone);
         self.count = without_row(before.is_some(), self.count);
         before

@@ -24,4 +24,4 @@ returns-clause-rows g c =
     rows_taken c.self.inside.trie.rows c.take-before.new.trie.rows c.args.prefix (record { absent = e.absent; goes = e.goes; stays = e.stays }) ∙ ap (λ v. map.remove v.rows c.args.prefix) c.self.view_is
 
 pub take-before-requires : goal.take-before-requires
-take-before-requires g c = λ t s found. unread c.self.inside.trie.rows c.self.inside.places.slots c.args.prefix s c.self.invariant.kept (sym c.is_empty-alone.ensures ∙ t) found
+take-before-requires g c = λ t s found. unread c.self.inside.trie.rows c.self.inside.places.slots c.args.prefix s c.self.invariant.kept (c.nobody_at-alone.ensures t) found

@@ -1,4 +1,0 @@
-use Rattle.nibble_trie.proofs.index.Index.+above.Given as goal
-
-abbrev pub decreases-above : goal.decreases-above
-decreases-above l = l.spot.level
