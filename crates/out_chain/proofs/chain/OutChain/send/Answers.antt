@@ -1,4 +1,4 @@
-use Rattle.std.proofs.Common.{sym, subst, ◌∙◌}
+use Rattle.std.proofs.Common.{sym, subst}
 use Rattle.std.specs.Option.{ForSome}
 use Rattle.peer_out.specs.Changes.{IsSentOf}
 use Rattle.out_chain.specs.Chains.{OutChained}
@@ -10,8 +10,7 @@ say-requires c =
     let P : OutChained → Type 0 = λ v. ForSome c.args.change.after (IsSentOf v.exit.profile v.exit.external c.args.change.prefix) in
     rw c.in_ok-sent.ensures.passed (subst P (sym c.self.view_is) c.requires)
 
-pub returns-clause-lines : goal.returns-clause-lines
-returns-clause-lines c =
-    sent_lines c.args.self.now _ c.self.view_is c.args.change c.in_ok-sent.sent c.from-number.result c.from_vec.result c.args.journal.now c.push_change.new.self c.push_change-2.new.self c.push_line.new.self
-    c.from-number.ensures c.in_ok-sent.ensures.passed (c.from_vec.ensures ∙ c.in_ok-octets.ensures.octets)
-    c.in_ok-push_change.ensures c.in_ok-push_change-2.ensures c.in_ok-push_line.ensures
+pub returns-in-Ok-clause-lines : goal.returns-in-Ok-clause-lines
+returns-in-Ok-clause-lines c =
+    sent_lines c.args.self.now _ c.self.view_is c.args.change c.in_ok-sent.sent c.from-number.result c.args.journal.now c.push_change.new.self c.say.new.journal
+    c.from-number.ensures c.in_ok-sent.ensures.passed c.in_ok-push_change.ensures c.in-Ok.ensures.lines
