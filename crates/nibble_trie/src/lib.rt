@@ -10,6 +10,9 @@
 //! leaf for that address alone, and each branch hangs at one link. Contracts see none of that, but a finite map, ordered by
 //! address and then length.
 //!
+//! A leaf keeps its key in the slab as long as it stands. Whoever remembers the key hands it in, and the leaf is found
+//! without a descent. What lies there is compared first, so a key that is out of date costs a descent and changes no answer.
+//!
 //! `safe_table` keeps its rows in one. Longest matches are asked of a `prefix_trie`.
 #![tactic(auto)]
 
