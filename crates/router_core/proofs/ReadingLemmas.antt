@@ -278,9 +278,9 @@ pub best_less : (a : Chains) (t t' : Treed) → ((place : Option Network) → tr
 best_less a t t' less place = let own = less place in omega (arith, own)
 
 -- ---- the announced number is computed as it is told
-pub bound_is : (m v : Moment) (peers rows all resolvers external known hops nine a b c unread bound : ℕ) → v ≡ m → peers ≡ length v.declared.peers + 2 → rows ≡ rows_in v.chains → all ≡ rows + tree_count v.tree → resolvers ≡ known_in v.hops
-    → external ≡ external_known v.rib → known ≡ resolvers + external → hops ≡ 2 * known → nine ≡ 9 * all → a ≡ nine + hops → IsMostUnread v.exits.queue unread → b ≡ a + unread → c ≡ b + 6 → bound ≡ peers * c → bound ≡ bound_of m
-bound_is m v peers rows all resolvers external known hops nine a b c unread bound view e1 e2 e3 e4 e5 e6 e7 e8 e9 most e10 e11 e12 =
+pub bound_is : (m v : Moment) (peers rows all resolvers external hops unread : ℕ) → v ≡ m → peers ≡ length v.declared.peers → rows ≡ rows_in v.chains → all ≡ rows + tree_count v.tree → resolvers ≡ known_in v.hops
+    → external ≡ external_known v.rib → hops ≡ resolvers + external → IsMostUnread v.exits.queue unread → (bound : ℕ) → bound ≡ (peers + 2) * (unread + 9 * all + 2 * hops + 6) → bound ≡ bound_of m
+bound_is m v peers rows all resolvers external hops unread view e1 e2 e3 e4 e5 e6 most bound is =
     let same = unread_is v.exits unread most in
-    let sum : c ≡ most_unread v.exits + 9 * (rows_in v.chains + tree_count v.tree) + 2 * (known_in v.hops + external_known v.rib) + 6 = omega (arith, e2, e3, e4, e5, e6, e7, e8, e9, e10, e11, same) in
-    e12 ∙ ap (λ (n : ℕ). n * c) e1 ∙ ap (λ (n : ℕ). (length v.declared.peers + 2) * n) sum ∙ ap bound_of view
+    let sum : unread + 9 * all + 2 * hops + 6 ≡ most_unread v.exits + 9 * (rows_in v.chains + tree_count v.tree) + 2 * (known_in v.hops + external_known v.rib) + 6 = omega (arith, e2, e3, e4, e5, e6, same) in
+    is ∙ ap (λ (n : ℕ). (n + 2) * (unread + 9 * all + 2 * hops + 6)) e1 ∙ ap (λ (n : ℕ). (length v.declared.peers + 2) * n) sum ∙ ap bound_of view

@@ -85,18 +85,20 @@ impl Network {
     pub(crate) fn bound(&self) -> Result<u128, Memory>
         ensures { IfOk result (λ bound. bound ≡ bound_of self.now) }
     {
-        let peers = plus(self.declared.peers().len() as u128, 2)?;
         let rows = plus(self.chains.rows()?, self.tree.rows())?;
-        let hops = times(2, plus(self.hops.known()?, self.rib.known())?)?;
-        let bound = times(
-            peers,
-            plus(
-                plus(plus(times(9, rows)?, hops)?, self.exits.most_unread())?,
-                6,
-            )?,
-        )?;
-        Ok(bound)
+        let hops = plus(self.hops.known()?, self.rib.known())?;
+        let peers = self.declared.peers().len() as u128;
+        most_turns(peers, rows, hops, self.exits.most_unread())
     }
+}
+
+/// The bound for so many peers, rows, known next hops, and changes that a reader hasn't taken.
+fn most_turns(peers: u128, rows: u128, hops: u128, unread: u128) -> Result<u128, Memory>
+    ensures { IfOk result (λ bound. bound ≡ (peers + 2) * (unread + 9 * rows + 2 * hops + 6)) }
+{
+    let of_rows = plus(unread, times(9, rows)?)?;
+    let of_all = plus(plus(of_rows, times(2, hops)?)?, 6)?;
+    times(plus(peers, 2)?, of_all)
 }
 
 /// The sum, which counts rows: no memory has so many that a u128 doesn't count them.

@@ -237,26 +237,15 @@ impl Network {
             Message::Update(update) => {
                 let changes = changes(self.alloc, update)?;
                 self.feed(number, changes.as_slice(), journal)?;
-                journal.flush()?;
-                Ok(())
+                journal.flush()
             }
-            Message::Keepalive => {
-                journal.flush()?;
-                Ok(())
-            }
-            Message::Skip => {
-                journal.flush()?;
-                Ok(())
-            }
-            Message::Notification => {
-                self.lose(number, peer.session, journal)?;
-                Ok(())
-            }
+            Message::Keepalive => journal.flush(),
+            Message::Skip => journal.flush(),
+            Message::Notification => self.lose(number, peer.session, journal),
             Message::Notify(notice) => {
                 let octets = spelled(self.alloc, notice)?;
                 journal.push_line(Line::Note(number, octets))?;
-                self.lose(number, peer.session, journal)?;
-                Ok(())
+                self.lose(number, peer.session, journal)
             }
         }
     }

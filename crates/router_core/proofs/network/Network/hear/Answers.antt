@@ -1,4 +1,5 @@
 use Rattle.std.proofs.Common.{refl, sym, subst, ◌∙◌}
+use Rattle.std.proofs.lemmas.Result.{on_ok_weaker}
 use Rattle.bgp_wire.specs.declared.message.Message.TheVariants as messages
 use Rattle.router_core.specs.Works.{AreHeard, IsHeardMessage}
 use Rattle.router_core.proofs.HeardRows.{changes_heard}
@@ -10,24 +11,34 @@ feed-requires-clause-heard c =
     subst AreHeard (sym c.as_slice.ensures.value)
     (subst AreHeard (sym c.in_ok-changes-in-Update.ensures) (changes_heard c.in-Update.update (subst IsHeardMessage c.in-Update.is c.requires.heard)))
 
-pub returns-in_ok-flush-in-Update : goal.returns-in_ok-flush-in-Update
-returns-in_ok-flush-in-Update c =
+pub returns-in_ok-feed-in-Update : goal.returns-in_ok-feed-in-Update
+returns-in_ok-feed-in-Update c =
+    on_ok_weaker c.flush.result (λ flushed.
     update_heard c.args.number c.args.peer c.args.self.now c.feed.new.self c.args.message c.in-Update.update c.as_slice.result.now c.args.journal.now c.feed.new.journal c.flush.new.self c.in-Update.is
-    (c.as_slice.ensures.value ∙ c.in_ok-changes-in-Update.ensures) c.in_ok-feed-in-Update.ensures c.in_ok-flush-in-Update.ensures.ok
+    (c.as_slice.ensures.value ∙ c.in_ok-changes-in-Update.ensures) c.in_ok-feed-in-Update.ensures flushed)
+    c.flush.ensures.ok
 
-pub returns-in_ok-flush-in-Keepalive : goal.returns-in_ok-flush-in-Keepalive
-returns-in_ok-flush-in-Keepalive c =
-    nothing_heard c.args.number c.args.peer c.args.self.now c.args.message messages.Keepalive c.args.journal.now c.flush-in-Keepalive.new.self c.requires.stands c.in-Keepalive.is (refl, refl) refl c.in_ok-flush-in-Keepalive.ensures.ok
+pub returns-in-Keepalive : goal.returns-in-Keepalive
+returns-in-Keepalive c =
+    on_ok_weaker c.flush-in-Keepalive.result (λ flushed.
+    nothing_heard c.args.number c.args.peer c.args.self.now c.args.message messages.Keepalive c.args.journal.now c.flush-in-Keepalive.new.self c.requires.stands c.in-Keepalive.is (refl, refl) refl flushed)
+    c.flush-in-Keepalive.ensures.ok
 
-pub returns-in_ok-flush-in-Skip : goal.returns-in_ok-flush-in-Skip
-returns-in_ok-flush-in-Skip c =
-    nothing_heard c.args.number c.args.peer c.args.self.now c.args.message messages.Skip c.args.journal.now c.flush-in-Skip.new.self c.requires.stands c.in-Skip.is (refl, refl) refl c.in_ok-flush-in-Skip.ensures.ok
+pub returns-in-Skip : goal.returns-in-Skip
+returns-in-Skip c =
+    on_ok_weaker c.flush-in-Skip.result (λ flushed.
+    nothing_heard c.args.number c.args.peer c.args.self.now c.args.message messages.Skip c.args.journal.now c.flush-in-Skip.new.self c.requires.stands c.in-Skip.is (refl, refl) refl flushed)
+    c.flush-in-Skip.ensures.ok
 
-pub returns-in_ok-lose-in-Notification : goal.returns-in_ok-lose-in-Notification
-returns-in_ok-lose-in-Notification c =
-    end_heard c.args.number c.args.peer c.args.self.now c.lose.new.self c.args.message c.args.journal.now c.lose.new.journal c.in-Notification.is c.in_ok-lose-in-Notification.ensures
+pub returns-in-Notification : goal.returns-in-Notification
+returns-in-Notification c =
+    on_ok_weaker c.lose.result (λ lost.
+    end_heard c.args.number c.args.peer c.args.self.now c.lose.new.self c.args.message c.args.journal.now c.lose.new.journal c.in-Notification.is lost)
+    c.lose.ensures
 
-pub returns-in_ok-lose-in-Notify : goal.returns-in_ok-lose-in-Notify
-returns-in_ok-lose-in-Notify c =
+pub returns-in_ok-push_line-in-Notify : goal.returns-in_ok-push_line-in-Notify
+returns-in_ok-push_line-in-Notify c =
+    on_ok_weaker c.lose-in-Notify.result (λ lost.
     fault_heard c.args.number c.args.peer c.args.self.now c.lose-in-Notify.new.self c.args.message c.in-Notify.notice c.in_ok-octets-in-Notify.octets c.args.journal.now c.push_line.new.self
-    c.lose-in-Notify.new.journal c.requires.stands c.in-Notify.is c.in_ok-octets-in-Notify.ensures.spelled c.in_ok-octets-in-Notify.ensures.message c.in_ok-push_line-in-Notify.ensures c.in_ok-lose-in-Notify.ensures
+    c.lose-in-Notify.new.journal c.requires.stands c.in-Notify.is c.in_ok-octets-in-Notify.ensures.spelled c.in_ok-octets-in-Notify.ensures.message c.in_ok-push_line-in-Notify.ensures lost)
+    c.lose-in-Notify.ensures
