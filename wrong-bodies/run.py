@@ -4,8 +4,8 @@
 usage: wrong-bodies/run.py [NAME..]
 
 NAME is a crate; without one, all crates that have a folder here. The edits are tried by `rt must-fail` on a copy of
-what is committed, in a folder that goes in the end. Each crate is proved once before its edits are tried, and each edit
-takes some 20 seconds of a processor: all of them about an hour and a half of one.
+what is committed, in a folder that goes in the end. What stands below a crate is built first, and the crate is proved
+once; then each edit takes some 20 seconds of a processor: all of them about three hours of one.
 """
 
 import os
