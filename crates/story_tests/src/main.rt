@@ -10,19 +10,28 @@
 //!
 //! It prints the name of each file whose answers are right. Of another it says which line differs first, on standard error,
 //! and ends with status 1. The examples in the documents are some of these files.
+//!
+//! Behind the stories it tries what else has expected answers of another hand: messages, whose rows with the answers that they
+//! want come on standard input, and the texts of generated events, which `stdout` has.
 #![tactic(auto)]
 
 mod answer;
 mod failing;
 mod fault;
+mod generated;
 mod lines;
+mod messages;
+mod octets;
 mod sessions;
+mod texts;
+mod written;
 
 use crate::answer::{Answer, Pace, answer_to};
 use crate::failing::{fault_of_long_lines, fault_of_reads, fault_of_writes};
 use crate::fault::{Fault, fault_of, status_of};
 use crate::lines::{first_difference, without_journal};
 use crate::sessions::{events_of_sessions, output_of_sessions};
+use anyhow::Context;
 use std::alloc::{AllocError, Global};
 use std::{env, fs, io};
 
@@ -246,12 +255,18 @@ fn tell_all(rt: &HostRuntime, folder: &str) -> io::Result<u64> {
     Ok(stories.wrapping_add(tell_others(rt)?))
 }
 
-fn main(rt: HostRuntime) -> io::Result<()> {
-    let Some(folder) = env::args(&rt)?.nth(1) else {
-        return Err(io::Error::from(io::ErrorKind::InvalidInput));
-    };
-    match tell_all(&rt, folder.as_str())? {
+/// Tells of all stories; an error where one is wrong.
+fn try_stories(rt: &HostRuntime) -> anyhow::Result<()> {
+    let folder = env::args(rt)?.nth(1).context("no folder")?;
+    match tell_all(rt, folder.as_str())? {
         0 => Ok(()),
-        _ => Err(io::Error::from(io::ErrorKind::InvalidData)),
+        _ => Err(anyhow::Error::from(io::Error::from(io::ErrorKind::InvalidData))),
     }
+}
+
+fn main(rt: HostRuntime) -> anyhow::Result<()> {
+    try_stories(&rt)?;
+    let text = io::read_to_string(rt.alloc(), rt.reader())?;
+    messages::print_judged(&rt, text.as_str())?;
+    generated::print_texts(&rt)
 }
