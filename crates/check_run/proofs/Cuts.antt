@@ -80,7 +80,7 @@ goes_into line more some part = by_parts (parts 10 more) refl (parts_some more)
           long = omega (arith, f.long, length-append line first);
         }
 
-no_bytes : IsPart []
+pub no_bytes : IsPart []
 no_bytes = λ k d below. absurd (omega arith)
 
 joined : (x : List ℕ) (ps : List (List ℕ)) → 0 < length ps → join_with_byte 10 (x ∷ ps) ≡ x ++ 10 ∷ join_with_byte 10 ps

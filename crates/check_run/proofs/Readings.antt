@@ -47,7 +47,7 @@ of_told None P h = tt
 of_told (Some text) P h = subst P h.1 h.2
 
 -- the read that met the end of the input
-read_nothing : (a b c : Option (List ℕ)) (read buf : List ℕ) (count : ℕ) → count ≡ 0 → Consumes a b read → Consumes b c (take count buf) → Consumes a c read
+pub read_nothing : (a b c : Option (List ℕ)) (read buf : List ℕ) (count : ℕ) → count ≡ 0 → Consumes a b read → Consumes b c (take count buf) → Consumes a c read
 read_nothing a b c read buf count none p q =
     let q' : Consumes b c [] = subst (λ (n : ℕ). Consumes b c (take n buf)) none q in
     subst (λ (r : List ℕ). Consumes a c r) (append-nil read) (consumes_then a b c read [] p q')

@@ -13,16 +13,23 @@ pub struct Reading<R> {
 }
 
 impl<R> Reading<R> {
+    ghost use Rattle.edge_io.specs.Streams.{reader, read_faults};
+
     /// A source of what the reader gives.
-    pub fn new(inner: R) -> Reading<R> {
+    pub fn new(inner: R) -> Reading<R>
+        ensures within { reader result ≡ inner }
+        ensures faults { read_faults result ≡ 0 }
+    {
         Reading { inner, faults: 0 }
     }
 }
 
 impl<R: Read> Source for Reading<R> {
-    ghost left = { λ s. R.remaining s.inner };
+    ghost use Rattle.edge_io.specs.Streams.{reader, read_faults};
 
-    ghost faults = { λ s. s.faults };
+    ghost left = { λ s. R.remaining (reader s) };
+
+    ghost faults = { λ s. read_faults s };
 
     fn read(&mut self, buf: &mut [u8]) -> Result<usize, Failed> {
         match self.inner.read(buf) {
@@ -43,16 +50,23 @@ pub struct Writing<W> {
 }
 
 impl<W> Writing<W> {
+    ghost use Rattle.edge_io.specs.Streams.{writer, write_faults};
+
     /// A sink that the writer takes.
-    pub fn new(inner: W) -> Writing<W> {
+    pub fn new(inner: W) -> Writing<W>
+        ensures within { writer result ≡ inner }
+        ensures faults { write_faults result ≡ 0 }
+    {
         Writing { inner, faults: 0 }
     }
 }
 
 impl<W: Write> Sink for Writing<W> {
-    ghost taken = { λ s. W.contents s.inner };
+    ghost use Rattle.edge_io.specs.Streams.{writer, write_faults};
 
-    ghost faults = { λ s. s.faults };
+    ghost taken = { λ s. W.contents (writer s) };
+
+    ghost faults = { λ s. write_faults s };
 
     fn write(&mut self, piece: &[u8]) -> Result<usize, Failed> {
         match self.inner.write(piece) {

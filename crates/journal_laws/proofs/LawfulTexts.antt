@@ -21,7 +21,7 @@ use Rattle.journal_check.specs.Readings.{TextEntry, is_clean, read_or_not, readi
 use Rattle.journal_check.specs.Judged.{entries_in, joined, each_read, entries_read, IsChecked}
 use Rattle.journal_check.specs.Laws.{IsAnswer, IsEntry, IsLine, said, texts_of}
 use Rattle.journal_check.specs.declared.checked.Checked.TheVariants.{Lawful}
-use Rattle.journal_check.proofs.InkLemmas.{all_append, both_true}
+use Rattle.journal_check.proofs.InkLemmas.{all_append, both_true, printable}
 use Rattle.journal_check.proofs.LineBack.{lines_back}
 use Rattle.journal_check.proofs.OneAnswer.{one_answer}
 use Rattle.check_run.specs.Lines.{IsPart, ended, lines_of, lines_in}
@@ -49,9 +49,6 @@ line_ended line = refl
 printed_read : (line : Line) → IsShortLine line → reading_of (printed line) ≡ said line
 printed_read line h = lines_read line (printed line) h (line_ended line)
 
-abbrev printable : ℕ → Bool
-printable b = nat_le 32 b && nat_le b 126
-
 is_said : (line : Line) → read_or_not None ≡ said line → ⊥
 is_said (Journal entry) e = absurd (cc)
 is_said (Out k octets) e = absurd (cc)
@@ -78,13 +75,16 @@ bytes_of : (text : List ℕ) → is_clean text ≡ true → list_all printable t
 unfolding is_clean
 bytes_of text e = (both_true (nat_le (length text) 65536) (list_all printable text) e).1
 
+-- ---- printed bytes
+
 no_lf : (b : ℕ) → printable b ≡ true → nat_eq b 10 ≡ false
 no_lf b e = grind (arith, nat_tests)
 
 no_cr : (b : ℕ) → printable b ≡ true → nat_eq b 13 ≡ false
 no_cr b e = grind (arith, nat_tests)
 
-part_of : (text : List ℕ) → list_all printable text ≡ true → IsPart text
+-- no LF stands in them
+pub part_of : (text : List ℕ) → list_all printable text ≡ true → IsPart text
 part_of [] e = λ k d below. absurd (omega arith)
 part_of (b ∷ text) e = let both = both_true (printable b) (list_all printable text) e in All-cons (λ c. nat_eq c 10 ≡ false) b text (no_lf b both.0) (part_of text both.1)
 
@@ -93,7 +93,8 @@ no_cr_at [] k e = refl
 no_cr_at (b ∷ text) zero e = no_cr b (both_true (printable b) (list_all printable text) e).0
 no_cr_at (b ∷ text) (suc k) e = no_cr_at text k (both_true (printable b) (list_all printable text) e).1
 
-no_return : (text : List ℕ) → list_all printable text ≡ true → strip_carriage_return text ≡ text
+-- no CR stands at their end
+pub no_return : (text : List ℕ) → list_all printable text ≡ true → strip_carriage_return text ≡ text
 no_return text e = ap (λ b. cond b (take (length text - 1) text) text) (no_cr_at text (length text - 1) e)
 
 -- the entries that are read of the line

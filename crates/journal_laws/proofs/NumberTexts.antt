@@ -10,6 +10,7 @@ use Rattle.std.specs.List.{AllByRecursion}
 use Rattle.hex.specs.Hex.{IsBytes, encode_lower, encode_with, lower_digits, is_hex_digit, decode_of}
 use Rattle.hex.proofs.HexLemmas.{decode_of-encode_lower}
 use Rattle.addr4.specs.Texts.{dotted, addr_text, addr_of}
+use Rattle.journal_check.specs.Laws.{AreOctets}
 use Rattle.journal_check.proofs.InkLemmas.{decimal_are, dotted_are}
 use Rattle.journal_check.proofs.PrefixBack.{addr_back}
 use Rattle.journal_laws.proofs.Spans.{begins, Pass, clash, rest_same, some_same, spans, pass_more, begins_less}
@@ -137,9 +138,6 @@ hex_digit_at : (ds : List ℕ) (k : ℕ) → Pass is_hex_digit ds → k < length
 hex_digit_at [] k p below = absurd (omega arith)
 hex_digit_at (d ∷ ds) zero p below = p.0
 hex_digit_at (d ∷ ds) (suc k) p below = hex_digit_at ds k p.1 (omega arith)
-
-abbrev pub AreOctets : List ℕ → Type 0
-AreOctets octets = AllByRecursion (λ b. b < 2 ^ 8) octets
 
 hex_passes : (octets : List ℕ) → AreOctets octets → Pass is_hex_digit (encode_lower octets)
 unfolding encode_with

@@ -1,11 +1,10 @@
 -- An index after a branch went whose links led to nothing.
-use Rattle.std.proofs.Common.{◌≡◌, ◌≢◌, ℕ, ◌+◌, ◌*◌, ◌%◌, ◌<◌, Option, Some, None, refl, sym, ap, subst, ◌∙◌, inl, inr, arith}
+use Rattle.std.proofs.Common.{◌≡◌, ◌≢◌, ℕ, ◌+◌, ◌%◌, ◌<◌, Option, Some, None, refl, sym, ap, subst, ◌∙◌, inl, inr, arith}
 use Rattle.std.proofs.lemmas.Nat.{mod_below}
-use Rattle.std.proofs.lemmas.Bool.{cases_eq}
 use Rattle.nibble_trie.specs.declared.link.Target.{Target}
-use Rattle.nibble_trie.specs.declared.link.Target.TheVariants.{Nothing, Leaf, Inner}
+use Rattle.nibble_trie.specs.declared.link.Target.TheVariants.{Nothing, Inner}
 use Rattle.nibble_trie.specs.Links.{IsCell}
-use Rattle.nibble_trie.specs.Index.{Layout, level_of, block_of, high, IsPlace, Lies, Fits, Holds}
+use Rattle.nibble_trie.specs.Index.{Layout, level_of, high, IsPlace, Lies, Fits, Holds}
 use Rattle.nibble_trie.proofs.Digits.{same_place, digit_is}
 use Rattle.nibble_trie.proofs.Cells.{place_kept, fits_kept}
 

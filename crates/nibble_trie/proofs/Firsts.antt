@@ -1,11 +1,10 @@
 -- The first address with a leaf, from one on.
-use Rattle.std.proofs.Common.{◌≡◌, ◌≢◌, ◌⊎◌, ℕ, ◌+◌, ◌-◌, ◌*◌, ◌/◌, ◌%◌, ◌^◌, ◌<◌, ◌≤◌, Option, Some, None, refl, sym, ap, subst, ◌∙◌, inl, inr, arith}
-use Rattle.std.proofs.lemmas.Bool.{cases_eq, cases_lt}
-use Rattle.nibble_trie.specs.declared.index.Index.{Index}
+use Rattle.std.proofs.Common.{◌≡◌, ℕ, ◌+◌, ◌-◌, ◌*◌, ◌%◌, ◌<◌, ◌≤◌, Option, Some, None, sym, ap, ◌∙◌, inl, inr, arith}
+use Rattle.std.proofs.lemmas.Bool.{cases_eq}
 use Rattle.nibble_trie.specs.declared.index.Spot.{Spot}
 use Rattle.nibble_trie.specs.declared.link.Target.{Target}
 use Rattle.nibble_trie.specs.declared.link.Target.TheVariants.{Nothing, Leaf, Inner}
-use Rattle.nibble_trie.specs.Index.{Layout, level_of, block_of, high, is_live, Lies, Fits, IsLaid, Stands}
+use Rattle.nibble_trie.specs.Index.{Layout, high, Lies, Fits}
 use Rattle.nibble_trie.specs.Next.{IsFirst, FromAt, FromIn, IsStart}
 use Rattle.nibble_trie.proofs.Digits.{digit_is, digits_before, high_mono, high_less, zero_high}
 

@@ -1,7 +1,7 @@
 -- What the descents to a key and to the next one find.
-use Rattle.std.proofs.Common.{◌≡◌, ◌≢◌, ◌⊎◌, ℕ, ◌+◌, ◌-◌, ◌*◌, ◌%◌, ◌^◌, ◌<◌, ◌≤◌, true, false, Option, Some, None, IsSome, is_some, option_map, option_and_then, refl, sym, ap, subst, ◌∙◌, inl, inr, arith}
+use Rattle.std.proofs.Common.{◌≡◌, ◌≢◌, ℕ, ◌+◌, ◌-◌, ◌%◌, ◌<◌, ◌≤◌, true, false, Option, Some, None, IsSome, is_some, option_map, option_and_then, refl, sym, ap, subst, ◌∙◌, inl, inr, arith}
 use Rattle.std.proofs.lemmas.Nat.{mod_below}
-use Rattle.std.proofs.lemmas.Bool.{cases_eq, cases_lt}
+use Rattle.std.proofs.lemmas.Bool.{cases_lt}
 use Rattle.slab.specs.Slab.{Slab, get, ContainsKey}
 use Rattle.addr4.specs.Places.{IsBeyond}
 use Rattle.addr4.specs.Prefixes.{Network, ComesBefore}
@@ -9,14 +9,14 @@ use Rattle.addr4.proofs.RankLemmas.{before_is, is_before}
 use Rattle.addr4.proofs.HalfLemmas.{one_network}
 use Rattle.nibble_trie.specs.declared.node.Node.{Node}
 use Rattle.nibble_trie.specs.declared.link.Target.{Target}
-use Rattle.nibble_trie.specs.declared.link.Target.TheVariants.{Nothing, Leaf, Inner}
+use Rattle.nibble_trie.specs.declared.link.Target.TheVariants.{Inner}
 use Rattle.nibble_trie.specs.declared.index.Index.{Index}
 use Rattle.nibble_trie.specs.declared.index.Spot.{Spot}
 use Rattle.nibble_trie.specs.Links.{leads, leaf_of}
 use Rattle.nibble_trie.specs.Keys.{prefix_in, longer_in, IsNextOf, IsSmall, IsChained, HasNext, IsFirstBehind, IsNextLeaf, IsLeafOf, IsHeadOf, rest_of, rest_behind}
-use Rattle.nibble_trie.specs.Index.{Layout, high, IsLaid, Names, Stands, is_live, Lies, IsPlace, link_at}
+use Rattle.nibble_trie.specs.Index.{Layout, high, IsLaid, Stands, is_live, Lies, IsPlace, link_at}
 use Rattle.nibble_trie.specs.Next.{IsFirst, FromAt, FromIn, IsStart, CanStart, CanStartIn}
-use Rattle.nibble_trie.proofs.Digits.{high_all, some_same}
+use Rattle.nibble_trie.proofs.Digits.{high_all}
 use Rattle.nibble_trie.proofs.Chains.{one_found, later_some}
 use Rattle.nibble_trie.proofs.Drops.{under}
 use Rattle.nibble_trie.proofs.Ways.{inner_fits, inner_level}

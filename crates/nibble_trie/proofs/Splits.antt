@@ -5,7 +5,7 @@ use Rattle.nibble_trie.specs.declared.link.Target.{Target}
 use Rattle.nibble_trie.specs.declared.link.Target.TheVariants.{Nothing, Leaf, Inner}
 use Rattle.nibble_trie.specs.Links.{IsCell}
 use Rattle.nibble_trie.specs.Index.{Layout, level_of, block_of, high, IsPlace, Lies, Fits, Holds}
-use Rattle.nibble_trie.proofs.Digits.{same_place, same_number, some_same, digit_is, digits_before}
+use Rattle.nibble_trie.proofs.Digits.{same_place, same_number, digit_is, digits_before}
 
 -- the layout with one branch more
 abbrev pub with_branch : Layout → ℕ → ℕ → ℕ → Layout

@@ -1,17 +1,17 @@
 -- The way of an address from the root down.
-use Rattle.std.proofs.Common.{◌≡◌, ◌≢◌, ℕ, ◌+◌, ◌-◌, ◌*◌, ◌%◌, ◌^◌, ◌<◌, ◌≤◌, true, [], get_or, Option, Some, None, IsSome, is_some, refl, sym, ap, subst, ◌∙◌, inl, inr, arith}
+use Rattle.std.proofs.Common.{◌≡◌, ◌≢◌, ℕ, ◌+◌, ◌-◌, ◌%◌, ◌^◌, ◌<◌, true, [], get_or, Option, Some, None, IsSome, is_some, refl, sym, ap, subst, ◌∙◌, inl, inr, arith}
 use Rattle.std.proofs.lemmas.Nat.{mod_below}
 use Rattle.std.proofs.lemmas.Bool.{cases_eq}
 use Rattle.addr4.specs.Prefixes.{Network}
-use Rattle.slab.specs.Slab.{Slab, get, ContainsKey}
+use Rattle.slab.specs.Slab.{Slab, ContainsKey}
 use Rattle.nibble_trie.specs.declared.link.Target.{Target}
 use Rattle.nibble_trie.specs.declared.link.Target.TheVariants.{Nothing, Leaf, Inner}
 use Rattle.nibble_trie.specs.declared.branch.Branch.{Branch}
 use Rattle.nibble_trie.specs.declared.index.Index.{Index}
 use Rattle.nibble_trie.specs.declared.index.Spot.{Spot}
 use Rattle.nibble_trie.specs.Links.{leads, IsCell, target_at}
-use Rattle.nibble_trie.specs.Index.{Layout, level_of, block_of, high, IsPlace, is_live, link_at, target_in, Lies, Fits, Holds, IsLaid, Indexes, Names, OnWay, Stands, HasHeads, HasWay, HasNamedWay, HasLoneWay, IsBare, IsAbove, Placed, IsAlone}
-use Rattle.nibble_trie.proofs.Digits.{high_all, high_none, digit_is, some_same}
+use Rattle.nibble_trie.specs.Index.{Layout, level_of, block_of, high, IsPlace, is_live, link_at, target_in, Lies, Fits, IsLaid, Names, OnWay, Stands, IsAbove, IsAlone}
+use Rattle.nibble_trie.proofs.Digits.{high_all, high_none, some_same}
 use Rattle.nibble_trie.proofs.Cells.{alone_of}
 use Rattle.nibble_trie.proofs.Drops.{under}
 

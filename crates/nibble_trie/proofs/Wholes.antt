@@ -1,5 +1,5 @@
 -- Tries after a change.
-use Rattle.std.proofs.Common.{◌≡◌, ◌≢◌, ◌⊎◌, ℕ, ◌+◌, ◌^◌, ◌<◌, ◌≤◌, true, List, [], get_or, Option, Some, None, IsSome, is_some, option_and_then, option_map, refl, sym, ap, subst, ◌∙◌, inl, inr, arith}
+use Rattle.std.proofs.Common.{◌≡◌, ◌≢◌, ℕ, ◌^◌, ◌<◌, ◌≤◌, true, List, [], get_or, Option, Some, None, IsSome, is_some, option_and_then, option_map, refl, sym, ap, subst, ◌∙◌, inl, inr, arith}
 use Rattle.std.proofs.lemmas.Bool.{cases_eq}
 use Rattle.std.specs.FinMap as map
 use Rattle.slab.specs.Slab.{Slab, get, ContainsKey, Updates, with_value as put_value}
@@ -14,13 +14,13 @@ use Rattle.nibble_trie.specs.declared.link.Link.{Link}
 use Rattle.nibble_trie.specs.declared.branch.Branch.{Branch}
 use Rattle.nibble_trie.specs.declared.index.Index.{Index}
 use Rattle.nibble_trie.specs.Links.{leads, leaf_of}
-use Rattle.nibble_trie.specs.Keys.{prefix_in, longer_in, IsNextOf, IsChained, IsLastBelow, IsSmall, IsHeadOf, IsLeafOf, IsNextLeaf}
+use Rattle.nibble_trie.specs.Keys.{prefix_in, longer_in, IsNextOf, IsChained, IsLastBelow, IsHeadOf, IsLeafOf, IsNextLeaf}
 use Rattle.nibble_trie.specs.Index.{Indexes, Names, with_head}
 use Rattle.nibble_trie.specs.Nodes.{HasNode, HasNodes}
-use Rattle.nibble_trie.specs.View.{rows_of, IsWhole, Joins, with_value}
+use Rattle.nibble_trie.specs.View.{rows_of, IsWhole, Joins}
 use Rattle.nibble_trie.proofs.Digits.{some_same}
 use Rattle.nibble_trie.proofs.Chains.{Adds, Removes, was_there, is_there, stood_there, first_chained, first_heads, first_gone, next_same, behind_chained, behind_heads, first_removed, behind_removed, behind_gone, chained_kept}
-use Rattle.nibble_trie.proofs.Rows.{prefix_found, node_at, Keeps, keeps_at, keeps_touched, keeps_trans, rows_put, rows_removed, row_of, row_none, row_found}
+use Rattle.nibble_trie.proofs.Rows.{prefix_found, node_at, keeps_at, keeps_touched, keeps_trans, rows_put, rows_removed, row_of, row_none, row_found}
 
 -- the prefix of a leaf
 abbrev pub IsOf : (ℕ → Option Network) → Option ℕ → Option Network → Type 0

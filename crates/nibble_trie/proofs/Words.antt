@@ -1,12 +1,11 @@
 -- What a link's word tells, and the links of a branch.
-use Rattle.std.proofs.Common.{◌≡◌, ◌≢◌, ℕ, ◌+◌, ◌-◌, ◌<◌, ◌≤◌, true, false, cond, List, length, get_or, set, replicate, Option, Some, None, nat_eq, nat_lt, refl, sym, ap, subst, ◌∙◌, inl, inr, arith, get_or-set_same, get_or-set_other}
+use Rattle.std.proofs.Common.{◌≡◌, ℕ, ◌+◌, ◌-◌, ◌<◌, cond, List, length, get_or, set, replicate, nat_eq, nat_lt, refl, sym, ap, subst, ◌∙◌, inl, inr, arith, get_or-set_same, get_or-set_other}
 use Rattle.std.proofs.lemmas.Bool.{cases_eq, cases_lt, ne_eqb, cond_below, cond_above}
 use Rattle.std.proofs.lemmas.List.{get_or-replicate, length-replicate}
 use Rattle.nibble_trie.specs.declared.link.Link.{Link}
-use Rattle.nibble_trie.specs.declared.link.Target.{Target}
 use Rattle.nibble_trie.specs.declared.link.Target.TheVariants.{Nothing, Leaf, Inner}
 use Rattle.nibble_trie.specs.declared.branch.Branch.{Branch}
-use Rattle.nibble_trie.specs.Links.{target_of, target_at, leads, leaf_of}
+use Rattle.nibble_trie.specs.Links.{target_of, target_at, leads}
 use Rattle.nibble_trie.proofs.Digits.{same_number}
 
 pub word_nothing : (w : ℕ) → w ≡ 0 → target_of w ≡ Nothing

@@ -1,5 +1,5 @@
 -- What contracts see of a trie.
-use Rattle.std.specs.Prelude.{◌≡◌, ℕ, Option, Some, None, IsSome, refl}
+use Rattle.std.specs.Prelude.{IsSome, refl}
 use Rattle.std.specs.Coded.{Coded, code_by}
 use Rattle.std.specs.FinMap.{FinMap, code, get}
 use Rattle.addr4.specs.Prefixes.{Network, prefix_cmp, network_code}

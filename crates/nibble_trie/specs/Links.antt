@@ -1,5 +1,5 @@
 -- Where a link leads.
-use Rattle.std.specs.Prelude.{ℕ, ◌-◌, List, get_or, Option, Some, None, if◌then◌else◌, nat_eq, nat_lt}
+use Rattle.std.specs.Prelude.{ℕ, ◌-◌, get_or, Option, Some, None, if◌then◌else◌, nat_eq, nat_lt}
 use Rattle.nibble_trie.specs.declared.link.Link.{Link}
 use Rattle.nibble_trie.specs.declared.link.Target.{Target}
 use Rattle.nibble_trie.specs.declared.link.Target.TheVariants.{Nothing, Leaf, Inner}

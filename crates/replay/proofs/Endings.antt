@@ -109,12 +109,6 @@ ended_front quiet false text taken more rest out f g e = front_refused quiet tex
 pub no_progress : (quiet : Bool) (left taken : Option (List ℕ)) (number : ℕ) (m : Moment) (turns : ℕ) (pending : List ℕ) → HasStepped quiet [] number m turns pending [] → Progress quiet left left taken taken number m turns pending
 no_progress quiet left taken number m turns pending s = record { read = []; written = []; consumed = consumes_nothing left; appended = appends_nothing taken; stepped = s }
 
--- the read that met the end of the input
-pub read_nothing : (a b c : Option (List ℕ)) (read buf : List ℕ) (count : ℕ) → count ≡ 0 → Consumes a b read → Consumes b c (take count buf) → Consumes a c read
-read_nothing a b c read buf count none p q =
-    let q' : Consumes b c [] = subst (λ (n : ℕ). Consumes b c (take n buf)) none q in
-    subst (λ (r : List ℕ). Consumes a c r) (append-nil read) (consumes_then a b c read [] p q')
-
 -- what holds of the whole text that was read
 pub of_all : (left0 left : Option (List ℕ)) (read : List ℕ) (P : List ℕ → Type 0) → Consumes left0 left read → IsAtEnd left → P read → IfSome left0 P
 of_all None left read P c e h = tt

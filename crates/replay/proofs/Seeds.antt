@@ -1,14 +1,12 @@
 -- No line of a seed is refused.
-use Rattle.std.proofs.Common.{◌≡◌, ℕ, zero, suc, ◌+◌, ◌-◌, ◌%◌, ◌<◌, ◌≤◌, ◌&&◌, Bool, true, false, not, cond, nat_eq, List, [], ◌∷◌, ◌++◌, map, length, take, get_or, Option, Some, None, is_some, Result, Ok, Err, refl, sym, ap, subst, ◌∙◌, arith, length-append}
+use Rattle.std.proofs.Common.{◌≡◌, ℕ, zero, suc, ◌+◌, ◌%◌, ◌<◌, ◌≤◌, ◌&&◌, Bool, true, false, not, cond, nat_eq, List, [], ◌∷◌, ◌++◌, map, length, Option, Some, None, is_some, Result, Ok, Err, refl, sym, ap, subst, ◌∙◌, arith, length-append}
 use Rattle.std.specs.Prelude.{◌/◌, nat_le, nat_lt}
 use Rattle.std.specs.List.{AllByRecursion, flat_map, list_all}
-use Rattle.std.specs.Str.Lines.{strip_carriage_return}
 use Rattle.std.proofs.lemmas.List.{append-nil, length-map}
-use Rattle.std.proofs.lemmas.List.Elements.{All-cons}
 use Rattle.std.proofs.lemmas.Bool.Decides.{nat_tests}
 use Rattle.bgp_attr.specs.declared.speaker.Speaker.{Speaker}
 use Rattle.bgp_attr.specs.declared.speaker.Neighbour.{Neighbour}
-use Rattle.journal_check.proofs.InkLemmas.{both_true}
+use Rattle.journal_check.proofs.InkLemmas.{both_true, printable}
 use Rattle.journal_text.specs.declared.line.Code.{Code}
 use Rattle.journal_text.specs.declared.line.Code.TheVariants.{E1, E6}
 use Rattle.event_text.specs.declared.event.Event.{Event}
@@ -29,14 +27,12 @@ use Rattle.event_gen.specs.declared.drawn.Drawn.{Drawn}
 use Rattle.event_gen.specs.declared.drawn.Drawn.TheVariants as drawn
 use Rattle.check_run.specs.Lines.{IsPart, lines_of, lines_in, ended}
 use Rattle.check_run.proofs.Cuts.{lines_done}
+use Rattle.journal_laws.proofs.LawfulTexts.{part_of, no_return}
 use Rattle.replay.specs.Judging.{judge, judged, placed, verdict_from, refused_or}
 use Rattle.replay.specs.Answers.{SeedsAreAccepted}
 use Rattle.command_line.specs.Commands.{most_events}
 
 -- ---- the lines of a text whose lines are read
-
-abbrev printable : ℕ → Bool
-printable b = nat_le 32 b && nat_le b 126
 
 clean_line : (line : List ℕ) (event : Event) → read_event line ≡ Ok event → is_clean line ≡ true
 unfolding read_event
@@ -49,24 +45,6 @@ clean_line line event h = by (is_clean line) h
 bytes_of : (line : List ℕ) → is_clean line ≡ true → list_all printable line ≡ true
 unfolding is_clean
 bytes_of line e = (both_true (nat_le (length line) 16384) (list_all printable line) e).1
-
-no_lf : (b : ℕ) → printable b ≡ true → nat_eq b 10 ≡ false
-no_lf b e = grind (arith, nat_tests)
-
-no_cr : (b : ℕ) → printable b ≡ true → nat_eq b 13 ≡ false
-no_cr b e = grind (arith, nat_tests)
-
-part_of : (line : List ℕ) → list_all printable line ≡ true → IsPart line
-part_of [] e = λ k d below. absurd (omega arith)
-part_of (b ∷ line) e = let two = both_true (printable b) (list_all printable line) e in All-cons (λ c. nat_eq c 10 ≡ false) b line (no_lf b two.0) (part_of line two.1)
-
-no_cr_at : (line : List ℕ) (k : ℕ) → list_all printable line ≡ true → nat_eq (get_or line k 0) 13 ≡ false
-no_cr_at [] k e = refl
-no_cr_at (b ∷ line) zero e = no_cr b (both_true (printable b) (list_all printable line) e).0
-no_cr_at (b ∷ line) (suc k) e = no_cr_at line k (both_true (printable b) (list_all printable line) e).1
-
-no_return : (line : List ℕ) → list_all printable line ≡ true → strip_carriage_return line ≡ line
-no_return line e = ap (λ b. cond b (take (length line - 1) line) line) (no_cr_at line (length line - 1) e)
 
 parts_read : (ls : List (List ℕ)) (es : List Event) → AreReadAs ls es → AllByRecursion IsPart ls
 parts_read [] [] h = tt

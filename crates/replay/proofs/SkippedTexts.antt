@@ -1,5 +1,5 @@
 -- Lines that `check` skips, behind a journal.
-use Rattle.std.proofs.Common.{◌≡◌, ◌⊎◌, ℕ, zero, suc, ◌-◌, ◌^◌, ◌<◌, ◌≤◌, ◌&&◌, Bool, true, false, cond, nat_lt, nat_le, nat_eq, List, [], ◌∷◌, ◌++◌, length, get_or, take, Some, None, inl, inr, codes, refl, sym, ap, subst, ◌∙◌, arith, append_assoc, length-append}
+use Rattle.std.proofs.Common.{◌≡◌, ◌⊎◌, ℕ, ◌^◌, ◌<◌, ◌≤◌, ◌&&◌, Bool, true, false, cond, nat_lt, nat_le, nat_eq, List, [], ◌∷◌, ◌++◌, length, Some, None, inl, inr, codes, refl, sym, ap, subst, ◌∙◌, arith, append_assoc, length-append}
 use Rattle.std.proofs.lemmas.Bool.Decides.{nat_tests}
 use Rattle.std.proofs.lemmas.List.{append-nil}
 use Rattle.std.proofs.lemmas.List.Elements.{All-cons}
@@ -16,15 +16,13 @@ use Rattle.journal_check.specs.Readings.{TextEntry, is_clean, is_skipped, read_o
 use Rattle.journal_check.specs.Judged.{entries_in, joined, each_read, entries_read, IsChecked}
 use Rattle.journal_check.specs.Laws.{said}
 use Rattle.journal_check.specs.declared.checked.Checked.TheVariants.{Lawful}
-use Rattle.journal_check.proofs.InkLemmas.{IsInk, AreInk, all_append, both_true, ink_by, ink_decimal, ink_wide, printable, words_parted, line_passes}
-use Rattle.check_run.specs.Lines.{IsPart, IsCut, lines_of, lines_in}
-use Rattle.check_run.proofs.Cuts.{line_ends}
+use Rattle.journal_check.proofs.InkLemmas.{IsInk, AreInk, all_append, ink_by, ink_decimal, ink_wide, printable, words_parted, line_passes}
+use Rattle.check_run.specs.Lines.{IsCut, lines_of, lines_in}
+use Rattle.check_run.proofs.Cuts.{no_bytes, line_ends}
 use Rattle.check_run.proofs.Pieces.{cut_nothing, lines_then}
+use Rattle.journal_laws.proofs.LawfulTexts.{part_of, no_return}
 
 -- ---- a text, and what follows its last LF
-
-no_bytes : IsPart []
-no_bytes = λ k d below. absurd (omega arith)
 
 abbrev HasCut : List ℕ → Type 0
 HasCut text = (done : List (List ℕ)) × (pending : List ℕ) × IsCut text done pending
@@ -121,24 +119,6 @@ lawful_behind a b ends skipped lawful few =
     (is.0, ap entries_read parted ∙ entries_behind (lines_of a) (lines_of b) is.0 skipped.each count before is.1, is.2)
 
 -- ---- a line of words
-
-no_lf : (b : ℕ) → printable b ≡ true → nat_eq b 10 ≡ false
-no_lf b e = grind (arith, nat_tests)
-
-no_cr : (b : ℕ) → printable b ≡ true → nat_eq b 13 ≡ false
-no_cr b e = grind (arith, nat_tests)
-
-part_of : (text : List ℕ) → list_all printable text ≡ true → IsPart text
-part_of [] e = no_bytes
-part_of (b ∷ text) e = let both = both_true (printable b) (list_all printable text) e in All-cons (λ c. nat_eq c 10 ≡ false) b text (no_lf b both.0) (part_of text both.1)
-
-no_cr_at : (text : List ℕ) (k : ℕ) → list_all printable text ≡ true → nat_eq (get_or text k 0) 13 ≡ false
-no_cr_at [] k e = refl
-no_cr_at (b ∷ text) zero e = no_cr b (both_true (printable b) (list_all printable text) e).0
-no_cr_at (b ∷ text) (suc k) e = no_cr_at text k (both_true (printable b) (list_all printable text) e).1
-
-no_return : (text : List ℕ) → list_all printable text ≡ true → strip_carriage_return text ≡ text
-no_return text e = ap (λ b. cond b (take (length text - 1) text) text) (no_cr_at text (length text - 1) e)
 
 and_yes : (a b : Bool) → a ≡ true → b ≡ true → (a && b) ≡ true
 and_yes a b ha hb = cc

@@ -18,6 +18,7 @@ use Rattle.link_change.specs.Rows.{is_empty_map}
 use Rattle.link_region.proofs.RegionLemmas.{by_bool}
 use Rattle.pass_core.specs.Passed.{is_beyond}
 use Rattle.pass_core.specs.Left.{CountsBeyond}
+use Rattle.pass_core.proofs.SplitLemmas.{beyond_so}
 use Rattle.loss_chain.specs.Lost.{Lost}
 use Rattle.loss_chain.specs.Covering.{row_over}
 use Rattle.loss_chain.specs.Steps.{swept_one, without}
@@ -90,10 +91,6 @@ not_less Greater e = refl
 pub further : (place : Option Network) (p q : Network) → IsBeyond place p → is_beyond (Some p) q ≡ true → is_beyond place q ≡ true
 further None p q h e = refl
 further (Some l) p q h e = ap is_lt (prefixes_total.trans l p q h (less_of (prefix_cmp p q) e))
-
-beyond_so : (place : Option Network) (q : Network) → IsBeyond place q → is_beyond place q ≡ true
-beyond_so None q h = refl
-beyond_so (Some p) q h = ap is_lt h
 
 not_beyond : (p : Network) → is_beyond (Some p) p ≡ false
 not_beyond p = not_less (prefix_cmp p p) (itself p)

@@ -10,6 +10,8 @@ use Rattle.bgp_wire.specs.declared.message.Message.TheVariants as messages
 use Rattle.policy_rules.specs.declared.rule.Rule.{Rule}
 use Rattle.fanout_queue.specs.Queues.{Queued}
 use Rattle.journal_text.specs.declared.line.Line.{Line}
+use Rattle.link_region.proofs.RegionLemmas.{by_bool}
+use Rattle.loss_chain.proofs.TableLemmas.{equal_by}
 use Rattle.rib_route.specs.declared.Proto.{Proto}
 use Rattle.addr4.specs.Prefixes.{Network}
 use Rattle.event_text.specs.declared.event.Event.{Event}
@@ -46,13 +48,6 @@ of_option f (Some p) q is = (p, refl, let same : Some (f p) ≡ Some q = is in c
 -- the peer that a mapped one was
 was_at : (f : DeclaredPeer → DeclaredPeer) → KeepsWords f → (j : ℕ) (ps : List DeclaredPeer) (q : DeclaredPeer) → peer_at j (map f ps) ≡ Some q → (p : DeclaredPeer) × (peer_at j ps ≡ Some p) × (f p ≡ q)
 was_at f keeps j ps q at = of_option f (peer_at j ps) q (sym (peer_at_map f keeps j ps) ∙ at)
-
-equal_by : (m n : ℕ) → nat_eq m n ≡ true → m ≡ n
-equal_by m n e = grind (arith, nat_tests)
-
-by_bool : (b : Bool) (P : Bool → Type 0) → (b ≡ true → P true) → (b ≡ false → P false) → P b
-by_bool true P on off = on refl
-by_bool false P on off = off refl
 
 number_of_found : (k : ℕ) (ps : List DeclaredPeer) (p : DeclaredPeer) → peer_at k ps ≡ Some p → p.words.number ≡ k
 number_of_found k [] p at = absurd (let clash : ◌≡◌ {A = Option DeclaredPeer} None (Some p) = at in cc)

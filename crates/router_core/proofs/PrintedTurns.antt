@@ -36,7 +36,7 @@ use Rattle.in_chain.specs.Falls.{way_of_feed}
 use Rattle.in_chain.specs.Steps.{fed, welded, Turned}
 use Rattle.std.specs.FinMap as tables
 use Rattle.rib_route.specs.declared.rows.Interior.{Interior}
-use Rattle.register_interest.specs.Registers.{Registry, put_row}
+use Rattle.register_interest.specs.Registers.{Registry}
 use Rattle.nexthop_resolver.specs.Kept.{route_hop, with_metric, metric_of, external_hop, over, way_of}
 use Rattle.nexthop_resolver.specs.Registered.{answer_of, KeepsOthers}
 use Rattle.link_region.proofs.RegionLemmas.{by_bool}
@@ -46,10 +46,7 @@ use Rattle.peer_out.proofs.SentLemmas.{read_may_be_heard}
 use Rattle.exit_side.specs.Exits.{Exited, with_queue}
 use Rattle.exit_laws.specs.Printable.{AreBestRows}
 use Rattle.bgp_attr.specs.declared.speaker.Speaker.{Speaker}
-use Rattle.std.specs.FinMap.{FinMap}
-use Rattle.addr4.specs.Prefixes.{prefix_cmp}
 use Rattle.link_change.specs.Rows.{with_row}
-use Rattle.link_change.proofs.RowLemmas.{rows_inserted, rows_removed}
 use Rattle.pass_core.specs.Turns.{IsSentAt, passed_rows}
 use Rattle.redist.specs.Local.{redistributed}
 use Rattle.rib_exit.specs.declared.exit.RibExit.{RibExit}
@@ -60,6 +57,7 @@ use Rattle.router_core.specs.Bests.{own_rows, all_at, best_at, own_entries, best
 use Rattle.router_core.specs.Stands.{RowsWereHeard, MaySend}
 use Rattle.router_core.proofs.BestLemmas.{same_all, best_quiet}
 use Rattle.router_core.proofs.HopLemmas.{all_comes}
+use Rattle.router_core.proofs.StandLemmas.{put_is_with}
 use Rattle.router_core.proofs.HeardRows.{IsHeardChain, heard_best, heard_own_rows, put_heard}
 use Rattle.router_core.proofs.PrintedForwards.{own_print, fib_print, fib_printed, external_printed}
 use Rattle.router_core.proofs.PrintedReaders.{FitReaders, read_rows_are, queued_readers, out_readers, taken_goes, taken_are, taken_readers}
@@ -81,11 +79,6 @@ use Rattle.router_core.specs.Turns.{journal_lines, Resolves, FallsPeer, FeedsAll
 use Rattle.peer_side.proofs.WeldLemmas.{fallen_at, weld_lines, weld_after}
 use Rattle.journal_laws.proofs.PrintedHops.{AllHaveMetrics, rows_print, metrics_fit, ways_fit, answers_kept, answers_mapped, answers_turned, metrics_reached, metrics_put}
 use Rattle.rib_tree.proofs.TreeParts.{put_all}
-
--- the register's rows with one that was put
-put_is_with : (rows : FinMap prefix_cmp Interior) (p : Network) (row : Option Interior) → tables.get (put_row rows p row) ≡ with_row (tables.get rows) p row
-put_is_with rows p None = rows_removed rows p
-put_is_with rows p (Some row) = rows_inserted rows p row
 
 -- where no protocol has lost its routes more often than so
 module _ (peers : ℕ → Option Neighbour) (most : ℕ) where

@@ -1,8 +1,7 @@
 -- A change of an interior route: what follows it, and what stands then.
 use Rattle.std.proofs.Common.{◌≡◌, ◌≤◌, not, List, [], ◌++◌, length, Option, Some, None, IsSome, refl, sym, ap, subst, ◌∙◌, arith}
 use Rattle.std.specs.FinMap as tables
-use Rattle.std.specs.FinMap.{FinMap}
-use Rattle.addr4.specs.Prefixes.{Network, prefix_cmp}
+use Rattle.addr4.specs.Prefixes.{Network}
 use Rattle.bgp_attr.specs.declared.route.Route.{Route}
 use Rattle.bgp_attr.specs.declared.speaker.Speaker.{Speaker}
 use Rattle.rib_route.specs.declared.Proto.{Proto}
@@ -11,7 +10,6 @@ use Rattle.rib_route.specs.declared.rows.FibRow.{FibRow}
 use Rattle.link_change.specs.Rows.{Rows, with_row, is_empty_map}
 use Rattle.link_change.specs.Changes.{IsSent}
 use Rattle.link_change.specs.declared.change.Change.{Change}
-use Rattle.link_change.proofs.RowLemmas.{rows_inserted, rows_removed}
 use Rattle.journal_text.specs.declared.link.Link.{Link}
 use Rattle.journal_text.specs.declared.entry.Entry.{Entry}
 use Rattle.journal_text.specs.declared.value.Value.{Value}
@@ -21,7 +19,7 @@ use Rattle.journal_text.specs.Texts.{entries_of}
 use Rattle.journal_text.specs.Walk.{Leads}
 use Rattle.journal_text.proofs.JournalLemmas.{with_entries_append, with_entries_none, entries_of_entries}
 use Rattle.journal_text.proofs.WalkLemmas.{leads_append, leads_nowhere}
-use Rattle.register_interest.specs.Registers.{Registry, put_row}
+use Rattle.register_interest.specs.Registers.{Registry}
 use Rattle.pass_core.specs.Turns.{passed_rows}
 use Rattle.redist.specs.Local.{redistributed}
 use Rattle.hop_side.specs.Resolvers.{Resolvers, PeerRows}
@@ -57,13 +55,9 @@ use Rattle.router_core.proofs.HopLemmas.{HopsStand, hops_of, hops_reached}
 use Rattle.router_core.proofs.QueueLemmas.{ExitsStand, queue_external, queue_links, reader_live, exits_fall}
 use Rattle.router_core.proofs.RegionLemmas.{interior_set}
 use Rattle.router_core.proofs.RibLinks.{DecidesTo, exit_leads, own_rows_are, own_comes, leads_own, leads_down, leads_above}
-use Rattle.router_core.proofs.StandLemmas.{registered_rows, speaker_of}
+use Rattle.router_core.proofs.StandLemmas.{put_is_with, registered_rows, speaker_of}
 
 -- ---- the register
-put_is_with : (rows : FinMap prefix_cmp Interior) (p : Network) (row : Option Interior) → tables.get (put_row rows p row) ≡ with_row (tables.get rows) p row
-put_is_with rows p None = rows_removed rows p
-put_is_with rows p (Some row) = rows_inserted rows p row
-
 -- it keeps up with `int`
 pub keeps_up : (sent : Option (Change Interior)) (old int : Rows Interior) (m m1 : Moment) (entries : List (Entry Value)) (p : Network) → BelowInt sent int m m1 entries → tables.get m.registry.rows ≡ old → IsSent old int p sent → tables.get m1.registry.rows ≡ int
 keeps_up None old int m m1 entries p below is same = ap (λ (x : Moment). tables.get x.registry.rows) below.0 ∙ is ∙ sym same

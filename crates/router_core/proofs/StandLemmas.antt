@@ -2,6 +2,7 @@
 use Rattle.std.proofs.Common.{◌≡◌, ◌≢◌, ℕ, ◌≤◌, true, false, cond, List, Option, Some, None, nat_eq, refl, sym, ap, subst, ◌∙◌, length, arith}
 use Rattle.std.specs.Prelude.{IsSome, is_some}
 use Rattle.std.specs.FinMap as tables
+use Rattle.std.specs.FinMap.{FinMap}
 use Rattle.bgp_attr.specs.declared.speaker.Speaker.{Speaker}
 use Rattle.event_text.specs.declared.declared.DeclaredPeer.{DeclaredPeer}
 use Rattle.event_text.specs.Declarations.{Declaration, peer_at}
@@ -19,12 +20,14 @@ use Rattle.live_state.specs.Lives.{LiveState, Routes, with_routes, with_rules}
 use Rattle.router_core.specs.Lives.{live_state}
 use Rattle.rib_tree.specs.Trees.{int_rows}
 use Rattle.rib_route.specs.declared.rows.Interior.{Interior}
-use Rattle.register_interest.specs.Registers.{Registry}
+use Rattle.register_interest.specs.Registers.{Registry, put_row}
+use Rattle.link_change.specs.Rows.{with_row}
+use Rattle.link_change.proofs.RowLemmas.{rows_inserted, rows_removed}
 use Rattle.nexthop_resolver.specs.Registered.{KeepsOthers as OthersKept}
 use Rattle.rib_exit.specs.Exits.{AgreesWith}
 use Rattle.rib_exit.proofs.LawLemmas.{strangers_agree}
 use Rattle.hop_side.specs.Resolvers.{Resolvers, resolver_at}
-use Rattle.addr4.specs.Prefixes.{Network}
+use Rattle.addr4.specs.Prefixes.{Network, prefix_cmp}
 use Rattle.router_core.proofs.HopLemmas.{HopsStand}
 use Rattle.router_core.proofs.QueueLemmas.{ExitsStand}
 use Rattle.router_core.specs.Stands.{PeerStands, StandsAt, TreeStands, Stands, Claim, Claims, EachChain, EachPeer, InteriorTree, OneSpeaker, Registered, SameCount, EachResolver, SameResolvers, AnswersAgree, HopsCounted, NoStrangers, SmallNumbers, EachRow, EachExit, QueueLeads, ExitsRead, PlainExits, OneSender, SameSessions, OneReader, ExternalExit, ExternalAgrees, ExternalStands, NothingOwn, NothingExternal, Tie, Ties, here}
@@ -34,6 +37,11 @@ abbrev pub remade : Moment → Declaration → Chains → Moment
 remade m d cs = record m { declared = d; chains = cs }
 
 -- ---- the register
+-- its rows with one that was put
+pub put_is_with : (rows : FinMap prefix_cmp Interior) (p : Network) (row : Option Interior) → tables.get (put_row rows p row) ≡ with_row (tables.get rows) p row
+put_is_with rows p None = rows_removed rows p
+put_is_with rows p (Some row) = rows_inserted rows p row
+
 pub registered_rows : (m : Moment) → Stands m → tables.get m.registry.rows ≡ int_rows m.tree
 registered_rows m stands i p = stands.at p Registered i
 

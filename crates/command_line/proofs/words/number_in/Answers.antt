@@ -1,4 +1,3 @@
-use Rattle.std.proofs.Common.{◌≡◌, ◌<◌, ℕ, Ok, arith, sym, ◌∙◌}
 use Rattle.command_line.proofs.NumberLemmas.{number_read, number_not_read}
 use Rattle.command_line.proofs.words.number_in.Goals as goal
 

@@ -1,5 +1,5 @@
-use Rattle.std.proofs.Common.{◌≡◌, ◌<◌, ◌+◌, ◌≤◌, ℕ, Some, None, refl, sym, ap, subst, ◌∙◌, arith}
-use Rattle.nibble_trie.specs.Keys.{prefix_in, longer_in, IsNextOf, rest_of, rest_behind}
+use Rattle.std.proofs.Common.{◌≡◌, ◌<◌, ◌+◌, Some, sym, ap, subst, ◌∙◌, arith}
+use Rattle.nibble_trie.specs.Keys.{prefix_in, longer_in, IsNextOf, rest_behind}
 use Rattle.nibble_trie.proofs.Chains.{one_found}
 use Rattle.nibble_trie.proofs.Rows.{prefix_found}
 use Rattle.nibble_trie.proofs.Wholes.{longer_found}

@@ -1,4 +1,4 @@
-use Rattle.std.proofs.Common.{◌≤◌, arith}
+use Rattle.std.proofs.Common.{arith}
 use Rattle.nibble_trie.proofs.chain.find.Goals as goal
 
 pub exact-requires : goal.exact-requires

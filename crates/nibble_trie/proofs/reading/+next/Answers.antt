@@ -1,7 +1,6 @@
-use Rattle.std.proofs.Common.{◌≡◌, ◌<◌, ◌≤◌, ◌+◌, ◌-◌, ◌*◌, ◌%◌, ℕ, Some, refl, sym, ap, subst, ◌∙◌, inl, arith}
-use Rattle.nibble_trie.specs.declared.index.Spot.{Spot}
+use Rattle.std.proofs.Common.{◌<◌, ◌+◌, ◌-◌, ◌*◌, Some, refl, sym, subst, ◌∙◌, inl, arith}
 use Rattle.nibble_trie.specs.Keys.{prefix_in}
-use Rattle.nibble_trie.specs.Index.{Layout, Stands, IsLaid, is_live, high}
+use Rattle.nibble_trie.specs.Index.{Stands, is_live}
 use Rattle.nibble_trie.specs.Next.{CanStartIn, IsFirst, FromIn, IsStart}
 use Rattle.nibble_trie.proofs.Rows.{prefix_found}
 use Rattle.nibble_trie.proofs.Ways.{inner_fits, inner_level, leaf_fits, named, target_some}

@@ -1,4 +1,4 @@
-use Rattle.std.proofs.Common.{◌≤◌, refl, arith}
+use Rattle.std.proofs.Common.{refl, arith}
 use Rattle.nibble_trie.specs.Keys.{prefix_in}
 use Rattle.nibble_trie.proofs.Searches.{leaf_at}
 use Rattle.nibble_trie.proofs.reading.find.Goals as goal

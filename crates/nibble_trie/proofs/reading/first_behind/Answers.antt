@@ -1,4 +1,4 @@
-use Rattle.std.proofs.Common.{◌≡◌, ◌+◌, ◌<◌, ℕ, sym, ap, subst, inr, arith}
+use Rattle.std.proofs.Common.{◌+◌, sym, subst, inr, arith}
 use Rattle.nibble_trie.specs.Links.{leads}
 use Rattle.nibble_trie.specs.Keys.{prefix_in}
 use Rattle.nibble_trie.specs.Index.{Stands}

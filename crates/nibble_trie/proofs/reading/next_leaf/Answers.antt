@@ -1,4 +1,4 @@
-use Rattle.std.proofs.Common.{◌≡◌, refl, sym, ap, subst, inl, arith}
+use Rattle.std.proofs.Common.{refl, sym, subst, inl}
 use Rattle.nibble_trie.specs.Links.{leads}
 use Rattle.nibble_trie.specs.Keys.{prefix_in, IsNextLeaf}
 use Rattle.nibble_trie.specs.Index.{Stands}

@@ -1,4 +1,4 @@
-use Rattle.std.proofs.Common.{Some, refl, ap}
+use Rattle.std.proofs.Common.{refl, ap}
 use Rattle.nibble_trie.specs.Links.{leaf_of}
 use Rattle.nibble_trie.proofs.Wholes.{joins_added, still_there}
 use Rattle.nibble_trie.proofs.writing.add_behind.Goals as goal

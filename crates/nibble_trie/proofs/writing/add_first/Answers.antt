@@ -1,4 +1,4 @@
-use Rattle.std.proofs.Common.{◌≡◌, Some, refl, sym, ap, subst, ◌∙◌}
+use Rattle.std.proofs.Common.{◌≡◌, Some, sym, subst, ◌∙◌}
 use Rattle.nibble_trie.specs.declared.node.Node.{Node}
 use Rattle.nibble_trie.specs.Keys.{prefix_in, longer_in, IsHeadOf}
 use Rattle.nibble_trie.specs.Index.{OnWay, Indexes, with_head}

@@ -1,4 +1,4 @@
-use Rattle.std.proofs.Common.{◌≡◌, ◌∙◌, ◌<◌, ◌≤◌, Some, None, sym, ap, subst, arith}
+use Rattle.std.proofs.Common.{◌≡◌, ◌∙◌, ◌<◌, Some, sym, ap, subst, arith}
 use Rattle.addr4.specs.Prefixes.{Network}
 use Rattle.addr4.proofs.HalfLemmas.{one_network}
 use Rattle.nibble_trie.specs.Keys.{prefix_in, IsNextOf}

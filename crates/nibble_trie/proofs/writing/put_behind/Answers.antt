@@ -1,4 +1,4 @@
-use Rattle.std.proofs.Common.{Some, None, sym, ap, subst, ◌∙◌}
+use Rattle.std.proofs.Common.{Some, sym, ap, subst, ◌∙◌}
 use Rattle.nibble_trie.specs.Keys.{prefix_in, IsLeafOf}
 use Rattle.nibble_trie.proofs.Rows.{node_at, row_of, row_none}
 use Rattle.nibble_trie.proofs.Wholes.{joins_replaced}

@@ -1,4 +1,4 @@
-use Rattle.std.proofs.Common.{Some, None, sym, subst}
+use Rattle.std.proofs.Common.{sym, subst}
 use Rattle.nibble_trie.specs.Keys.{prefix_in, longer_in, IsLeafOf}
 use Rattle.nibble_trie.proofs.Rows.{row_none}
 use Rattle.nibble_trie.proofs.Wholes.{joins_absent, leads_to_leaf}

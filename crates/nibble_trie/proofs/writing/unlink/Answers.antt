@@ -1,4 +1,4 @@
-use Rattle.std.proofs.Common.{◌≡◌, ◌≢◌, ◌∙◌, ◌<◌, Some, refl, sym, ap, subst, arith}
+use Rattle.std.proofs.Common.{◌≢◌, ◌∙◌, Some, refl, sym, ap, arith}
 use Rattle.nibble_trie.specs.Keys.{prefix_in}
 use Rattle.nibble_trie.proofs.Digits.{some_same}
 use Rattle.nibble_trie.proofs.Rows.{node_at, row_of}

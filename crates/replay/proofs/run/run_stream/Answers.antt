@@ -3,7 +3,8 @@ use Rattle.check_run.specs.Lines.{lines_of}
 use Rattle.replay.specs.Output.{IsOutputTo, IsRefusedOutput, IsFrontOfOutput}
 use Rattle.replay.specs.Stream.{HasStepped, IsRefusedAt, IsFrontAt}
 use Rattle.check_run.proofs.Known.{appends_then, consumes_then}
-use Rattle.replay.proofs.Endings.{took_read, took_all, took_front, took_ended, read_nothing, of_all, of_read, ended_status, refused_status, stepped_as}
+use Rattle.check_run.proofs.Readings.{read_nothing}
+use Rattle.replay.proofs.Endings.{took_read, took_all, took_front, took_ended, of_all, of_read, ended_status, refused_status, stepped_as}
 use Rattle.replay.proofs.run.run_stream.Goals as goal
 
 pub returns-then-count-eq0-clause-ok : goal.returns-then-count-eq0-clause-ok

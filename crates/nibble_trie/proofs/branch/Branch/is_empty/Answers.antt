@@ -1,4 +1,4 @@
-use Rattle.std.proofs.Common.{◌≡◌, ◌<◌, ◌+◌, ◌∙◌, ℕ, sym, arith}
+use Rattle.std.proofs.Common.{◌≡◌, ◌∙◌, sym, arith}
 use Rattle.nibble_trie.proofs.Words.{target_read, none_more}
 use Rattle.nibble_trie.proofs.branch.Branch.is_empty.Goals as goal
 

@@ -1,10 +1,9 @@
-use Rattle.std.proofs.Common.{◌≡◌, ◌<◌, ℕ, refl, sym, ap, subst, arith, ◌∙◌}
+use Rattle.std.proofs.Common.{◌<◌, refl, sym, subst, arith, ◌∙◌}
 use Rattle.nibble_trie.specs.declared.index.Index.{Index}
 use Rattle.slab.specs.Slab.{slab_len}
-use Rattle.nibble_trie.specs.declared.link.Target.TheVariants.{Nothing, Inner}
-use Rattle.nibble_trie.specs.Index.{Layout, OnWay, IsLaid, is_live, link_at, Writes, IsPlace}
+use Rattle.nibble_trie.specs.Index.{OnWay, is_live, link_at, Writes}
 use Rattle.nibble_trie.proofs.Ways.{top_way, inner_fits}
-use Rattle.nibble_trie.proofs.Drops.{Drops, drop_holds}
+use Rattle.nibble_trie.proofs.Drops.{drop_holds}
 use Rattle.nibble_trie.proofs.Written.{drops_of, place_above, kept_less}
 use Rattle.nibble_trie.proofs.index.Index.+prune.Goals as goal
 

@@ -1,7 +1,7 @@
-use Rattle.std.proofs.Common.{◌≡◌, ◌<◌, ◌+◌, ℕ, Some, sym, ap, subst, ◌∙◌, arith}
+use Rattle.std.proofs.Common.{◌≡◌, ◌<◌, Some, sym, subst, ◌∙◌, arith}
 use Rattle.nibble_trie.specs.Keys.{prefix_in}
 use Rattle.nibble_trie.specs.Index.{Lies}
-use Rattle.nibble_trie.proofs.Ways.{alone_nothing, alone_head, head_leaf, leaf_fits, named, deep}
+use Rattle.nibble_trie.proofs.Ways.{alone_nothing, alone_head, head_leaf, leaf_fits, named}
 use Rattle.nibble_trie.proofs.Rows.{prefix_found}
 use Rattle.nibble_trie.proofs.index.Index.+put.Goals as goal
 

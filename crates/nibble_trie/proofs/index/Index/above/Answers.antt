@@ -1,4 +1,4 @@
-use Rattle.std.proofs.Common.{◌≡◌, ◌<◌, ◌≤◌, ◌-◌, sym, ap, subst, arith}
+use Rattle.std.proofs.Common.{◌≡◌, ◌-◌, sym, ap, subst, arith}
 use Rattle.nibble_trie.specs.Links.{IsCell}
 use Rattle.nibble_trie.specs.Index.{OnWay, IsAbove}
 use Rattle.nibble_trie.proofs.Ways.{below_way, inner_live, inner_level, above_step, above_cell}

@@ -1,5 +1,4 @@
-use Rattle.std.proofs.Common.{◌≡◌, None, sym, subst}
-use Rattle.nibble_trie.specs.declared.link.Target.TheVariants.{Nothing}
+use Rattle.std.proofs.Common.{None, subst}
 use Rattle.nibble_trie.specs.Index.{is_live, link_at, Writes, with_head}
 use Rattle.nibble_trie.proofs.Cells.{cleared, place_kept}
 use Rattle.nibble_trie.proofs.Ways.{cell_spot}

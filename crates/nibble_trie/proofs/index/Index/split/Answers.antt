@@ -1,7 +1,6 @@
-use Rattle.std.proofs.Common.{◌≡◌, ◌+◌, ◌-◌, ◌<◌, ◌%◌, ℕ, refl, sym, ap, subst, ◌∙◌, arith}
+use Rattle.std.proofs.Common.{◌-◌, ◌%◌, refl, sym, ap, subst, ◌∙◌, arith}
 use Rattle.std.proofs.lemmas.Nat.{mod_below}
 use Rattle.nibble_trie.specs.declared.index.Index.{Index}
-use Rattle.nibble_trie.specs.declared.link.Target.TheVariants.{Inner}
 use Rattle.nibble_trie.specs.Links.{IsCell}
 use Rattle.nibble_trie.specs.Index.{is_live, link_at, Writes, Placed, high}
 use Rattle.nibble_trie.proofs.Written.{splits_of, split_placed, inner_cell, one_link}

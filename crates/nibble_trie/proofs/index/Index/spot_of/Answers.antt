@@ -1,4 +1,4 @@
-use Rattle.std.proofs.Common.{◌≡◌, ◌-◌, ◌<◌, ◌≤◌, sym, ap, subst, arith}
+use Rattle.std.proofs.Common.{◌≡◌, ◌-◌, sym, ap, subst, arith}
 use Rattle.nibble_trie.specs.Index.{OnWay}
 use Rattle.nibble_trie.proofs.Ways.{top_way, below_way, inner_live, inner_level}
 use Rattle.nibble_trie.proofs.index.Index.spot_of.Goals as goal

@@ -1,4 +1,4 @@
-use Rattle.std.proofs.Common.{refl, sym, subst, Some}
+use Rattle.std.proofs.Common.{refl, sym, subst}
 use Rattle.slab.specs.Slab.{with_value}
 use Rattle.nibble_trie.specs.declared.index.Index.{Index}
 use Rattle.slab.proofs.SlabLemmas.{Updates-with_value}

@@ -1,4 +1,4 @@
-use Rattle.std.proofs.Common.{◌≡◌, ◌∙◌, Some, None, refl, sym, ap, subst, inl, inr}
+use Rattle.std.proofs.Common.{◌∙◌, Some, sym, ap, inl, inr}
 use Rattle.std.specs.FinMap as map
 use Rattle.nibble_trie.specs.Contents.{Contents}
 use Rattle.nibble_trie.proofs.Rows.{row_of, row_none}

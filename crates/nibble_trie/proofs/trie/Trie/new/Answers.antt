@@ -1,5 +1,3 @@
-use Rattle.std.proofs.Common.{ap}
-use Rattle.std.specs.FinMap as map
 use Rattle.nibble_trie.proofs.Wholes.{whole_empty, rows_empty}
 use Rattle.nibble_trie.proofs.trie.Trie.new.Goals as goal
 

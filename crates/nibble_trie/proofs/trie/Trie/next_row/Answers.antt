@@ -1,4 +1,4 @@
-use Rattle.std.proofs.Common.{◌≡◌, ◌∙◌, Some, None, sym, ap, subst}
+use Rattle.std.proofs.Common.{◌≡◌, Some, None, subst}
 use Rattle.std.specs.FinMap as map
 use Rattle.addr4.specs.Places.{key_of, IsNextRow}
 use Rattle.nibble_trie.proofs.Rows.{row_at, prefix_found}

@@ -1,4 +1,4 @@
-use Rattle.std.proofs.Common.{◌≡◌, ◌∙◌, Some, None, IsSome, refl, sym, ap, subst}
+use Rattle.std.proofs.Common.{◌∙◌, refl, sym, ap, subst}
 use Rattle.std.specs.FinMap as map
 use Rattle.nibble_trie.specs.Keys.{prefix_in, IsLeafOf}
 use Rattle.nibble_trie.specs.Contents.{Contents, HasKey}
