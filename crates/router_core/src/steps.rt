@@ -1,19 +1,24 @@
 //! What each event does.
 
-ghost use Rattle.std.specs.Prelude.{◌≡◌, ◌≤◌, ◌<◌, ◌^◌, length, OnOk, IfOk, IsSome, Some, None, true};
+ghost use Rattle.std.specs.Prelude.{◌≡◌, ◌≤◌, ◌<◌, ◌^◌, [], ◌∷◌, length, OnOk, IfOk, IsSome, Some, None, true};
 ghost use Rattle.std.specs.List.{AllByRecursion};
+ghost use Rattle.journal_text.specs.declared.line.Line.TheVariants as lines;
+ghost use Rattle.journal_text.specs.Journals.{flushed, with_lines};
 ghost use Rattle.event_text.specs.declared.event.Event.TheVariants as events;
 ghost use Rattle.event_text.specs.Declarations.{peer_at, refusal};
 ghost use Rattle.bgp_wire.specs.Spelling.{notification_octets};
 ghost use Rattle.rib_tree.specs.Trees.{AreNumbered};
-ghost use Rattle.router_core.specs.Moments.{Gives};
-ghost use Rattle.live_state.specs.Messages.{Says};
+ghost use Rattle.router_core.specs.Moments.{Gives, plain};
+ghost use Rattle.live_state.specs.Messages.{changes_of};
 ghost use Rattle.router_core.specs.Blocks.{AreMessageOctets};
 ghost use Rattle.bgp_wire.specs.Notices.{HasShortNotice};
+ghost use Rattle.bgp_wire.specs.declared.message.Message.TheVariants as messages;
+ghost use Rattle.std.specs.Option.{ForSome};
+ghost use Rattle.peer_out.specs.Changes.{MayBeHeard};
 ghost use Rattle.event_text.specs.WellFormed.{IsWellFormed};
 ghost use Rattle.exit_side.specs.Exits.{chain_at as exit_at};
 ghost use Rattle.router_core.specs.Stands.{Stands, AllHaveExits};
-ghost use Rattle.router_core.specs.Works.{HasStepped, HasIdled, HasHeard, IsHeardMessage, IsSession};
+ghost use Rattle.router_core.specs.Works.{HasStepped, HasIdled, HasHeard, HaveFed, IsHeardMessage, IsUpAt};
 
 use crate::network::Network;
 use crate::peers::said;
@@ -21,7 +26,7 @@ use crate::router::Idle;
 use crate::updates::changes;
 use addr4::{Memory, Prefix};
 use bgp_attr::{Octets, Speaker};
-use bgp_wire::{Message, Notice, write_notification};
+use bgp_wire::{Message, Notice, Update, write_notification};
 use event_text::{DeclaredPeer, Event};
 use journal_text::{Journal, Line, Link, Task};
 use policy_rules::Rules;
@@ -183,9 +188,7 @@ impl Network {
             unreachable!()
         };
         if !peer.up {
-            journal.push_line(Line::Ignored)?;
-            journal.flush()?;
-            return Ok(0);
+            return ignored(journal);
         }
         self.lose(number, peer.session, journal)?;
         Ok(0)
@@ -204,15 +207,26 @@ impl Network {
         requires exits { AllHaveExits self.old }
         ensures { IfOk result (λ turns. Gives (HasStepped self.old (events.Bgp number octets) turns self.new) journal.old journal.new) }
     {
+        let turns = self.receive(number, octets.as_slice(), journal);
+        drop(octets);
+        turns
+    }
+
+    /// The same of octets that are lent.
+    fn receive(&mut self, number: u32, octets: &[u8], journal: &mut Journal) -> Result<u128, Memory>
+        requires admitted { refusal self.old.declared (events.Bgp number octets.now) ≡ None }
+        requires stands { Stands self.old }
+        requires formed { IsWellFormed (events.Bgp number octets.now) }
+        requires exits { AllHaveExits self.old }
+        ensures { IfOk result (λ turns. Gives (HasStepped self.old (events.Bgp number octets.now) turns self.new) journal.old journal.new) }
+    {
         let Some(peer) = self.declared.peer(number) else {
             unreachable!()
         };
         if !peer.up {
-            journal.push_line(Line::Ignored)?;
-            journal.flush()?;
-            return Ok(0);
+            return ignored(journal);
         }
-        let message = said(self.alloc, &peer, octets.as_slice())?;
+        let message = said(self.alloc, &peer, octets)?;
         self.hear(number, peer, message, journal)?;
         Ok(0)
     }
@@ -234,20 +248,51 @@ impl Network {
         ensures { OnOk result (Gives (HasHeard number peer self.old message self.new) journal.old journal.new) }
     {
         match message {
-            Message::Update(update) => {
-                let changes = changes(self.alloc, update)?;
-                self.feed(number, changes.as_slice(), journal)?;
-                journal.flush()
-            }
+            Message::Update(update) => self.hear_update(number, update, journal),
             Message::Keepalive => journal.flush(),
             Message::Skip => journal.flush(),
             Message::Notification => self.lose(number, peer.session, journal),
-            Message::Notify(notice) => {
-                let octets = spelled(self.alloc, notice)?;
-                journal.push_line(Line::Note(number, octets))?;
-                self.lose(number, peer.session, journal)
-            }
+            Message::Notify(notice) => self.hear_fault(number, peer, notice, journal),
         }
+    }
+
+    /// What an UPDATE from a peer that is up does.
+    fn hear_update(
+        &mut self,
+        number: u32,
+        update: Update,
+        journal: &mut Journal,
+    ) -> Result<(), Memory>
+        requires stands { Stands self.old }
+        requires up { IsUpAt number self.old }
+        requires heard { ForSome update.attrs (MayBeHeard plain) }
+        ensures { OnOk result (Gives (HaveFed number (changes_of update) self.old self.new) journal.old journal.new) }
+    {
+        let changes = changes(self.alloc, update)?;
+        let fed = self.feed(number, changes.as_slice(), journal);
+        drop(changes);
+        fed?;
+        journal.flush()
+    }
+
+    /// A message from a peer that is up has a fault: the NOTIFICATION that answers it, and the end of the session.
+    fn hear_fault(
+        &mut self,
+        number: u32,
+        peer: DeclaredPeer,
+        notice: Notice,
+        journal: &mut Journal,
+    ) -> Result<(), Memory>
+        requires stands { Stands self.old }
+        requires there { peer_at number self.old.declared.peers ≡ Some peer }
+        requires up { peer.up ≡ true }
+        requires short { length notice.octets ≤ 4075 }
+        requires exit { IsSome (exit_at number self.old.exits) }
+        ensures { OnOk result (Gives (HasHeard number peer self.old (messages.Notify notice) self.new) journal.old journal.new) }
+    {
+        let octets = spelled(self.alloc, notice)?;
+        journal.push_line(Line::Note(number, octets))?;
+        self.lose(number, peer.session, journal)
     }
 
     /// Every task runs to its end.
@@ -276,13 +321,24 @@ impl Network {
     }
 }
 
+/// The line of an event that changes nothing, and its text. No turns are taken.
+pub(crate) fn ignored(journal: &mut Journal) -> Result<u128, Memory>
+    ensures { IfOk result (λ turns. (turns ≡ 0) × (journal.new ≡ flushed (with_lines journal.old (lines.Ignored ∷ [])))) }
+{
+    journal.push_line(Line::Ignored)?;
+    journal.flush()?;
+    Ok(0)
+}
+
 /// The octets of the NOTIFICATION that answers a fault (RFC 4271, section 4.5).
 fn spelled(alloc: Global, notice: Notice) -> Result<Octets, Memory>
     requires { length notice.octets ≤ 4075 }
     ensures spelled { IfOk result (λ octets. octets ≡ notification_octets notice.code notice.subcode notice.octets) }
     ensures message { IfOk result AreMessageOctets }
 {
-    let octets = write_notification(alloc, notice.code, notice.subcode, notice.octets.as_slice())?;
+    let written = write_notification(alloc, notice.code, notice.subcode, notice.octets.as_slice());
+    drop(notice);
+    let octets = written?;
     each_known(octets.as_slice());
     Ok(Octets::from_vec(octets))
 }
