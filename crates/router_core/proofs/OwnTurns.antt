@@ -1,7 +1,7 @@
 -- This speaker's own routes: what a change of them makes, and one turn of the walk of redistribution.
 use Rattle.std.proofs.Common.{◌≡◌, List, ◌++◌, Option, Some, None, is_some, Result, refl, sym, ap, subst, ◌∙◌, arith}
-use Rattle.std.specs.Result.{IfOk, OnOk}
-use Rattle.std.proofs.lemmas.Result.{IfOk-weaker, on_ok_weaker}
+use Rattle.std.specs.Result.{OnOk}
+use Rattle.std.proofs.lemmas.Result.{on_ok_weaker}
 use Rattle.addr4.specs.Prefixes.{Network}
 use Rattle.bgp_attr.specs.declared.route.Route.{Route}
 use Rattle.bgp_attr.specs.declared.speaker.Speaker.{Speaker}
@@ -19,7 +19,7 @@ use Rattle.redist.specs.Local.{redistributed}
 use Rattle.journal_text.specs.declared.link.Task.TheVariants as tasks
 use Rattle.journal_text.specs.declared.entry.Entry.{Entry}
 use Rattle.journal_text.specs.declared.value.Value.{Value}
-use Rattle.journal_text.specs.Journals.{Journaled, with_entries, Adds}
+use Rattle.journal_text.specs.Journals.{Journaled, with_entries, Adds, flushed}
 use Rattle.journal_text.specs.Texts.{entries_of}
 use Rattle.journal_text.specs.Walk.{Leads}
 use Rattle.journal_text.proofs.JournalLemmas.{entries_of_entries}
@@ -30,7 +30,6 @@ use Rattle.rib_tree.specs.Trees.{int_rows, int_candidates}
 use Rattle.peer_side.proofs.WeldLemmas.{adds_both}
 use Rattle.exit_side.specs.Exits.{Exited}
 use Rattle.exit_laws.specs.Views.{AreUnheard}
-use Rattle.router_core.specs.declared.router.Done.{Done}
 use Rattle.router_core.specs.declared.router.Done.TheVariants.{Nothing, Taken}
 use Rattle.router_core.specs.declared.router.Phase.TheVariants as phases
 use Rattle.router_core.specs.Bests.{own_links, own_entries, all_at, best_links, best_entries, DecidesOn, Queues}
@@ -38,7 +37,7 @@ use Rattle.router_core.specs.Moments.{Moment, with_exits, with_redist, own_of, b
 use Rattle.router_core.specs.Lives.{live_state}
 use Rattle.router_core.specs.Stands.{Stands, Claim, Claims, EachRow, EachExit, QueueLeads, ExitsRead, PlainExits, OneSender, SameSessions, OneReader, ExternalStands, NothingOwn, Tie, Ties, Registered, here}
 use Rattle.router_core.specs.Turns.{journal_lines, sent_of}
-use Rattle.router_core.specs.Works.{IsUnit, Comes, Tells, Decides, SendsOwn, Redistributes}
+use Rattle.router_core.specs.Works.{IsUnit, Comes, Decides, SendsOwn, Redistributes}
 use Rattle.router_core.proofs.BestLemmas.{best_of_none}
 use Rattle.router_core.proofs.QueueLemmas.{ExitsStand, queue_external, queue_links, reader_live, exits_fall}
 use Rattle.router_core.proofs.HeardSteps.{heard_quiet, own_unheard, queue_views}
@@ -198,32 +197,22 @@ own_done me m m1 m' s own best stands since walks between d =
     spent : Spent phases.Red m now
     spent = own_spends me m s own d.decided.best m'.exits walks (λ none. best_of_none 0 own (all_at (own_of now) m.chains m.hops) best decided none) queued
 
--- a turn that was taken
-abbrev pub IsTaken : Turn Route → Type 0
-IsTaken turns.Nothing = ⊥
-IsTaken other = Unit {0}
-
 -- by what it came to
-own_walks : (me : Speaker) (m : Moment) (s : Passed Protos) (told : Turn Route) → IsTaken told → IsWalked (redistributed me) (int_candidates m.tree) (int_rows m.tree) m.redist s told → Walks (redistributed me) (int_candidates m.tree) (int_rows m.tree) m.redist s (sent_of told)
-own_walks me m s turns.Nothing taken walked = absurd taken
-own_walks me m s turns.Quiet taken walked = walked
-own_walks me m s (turns.Sent change) taken walked = walked
+own_walks : (me : Speaker) (m : Moment) (s : Passed Protos) (turn : Turn Route) → (turn ≡ turns.Nothing → ⊥) → IsWalked (redistributed me) (int_candidates m.tree) (int_rows m.tree) m.redist s turn → Walks (redistributed me) (int_candidates m.tree) (int_rows m.tree) m.redist s (sent_of turn)
+own_walks me m s turns.Nothing some walked = absurd (some refl)
+own_walks me m s turns.Quiet some walked = walked
+own_walks me m s (turns.Sent change) some walked = walked
 
-own_told : (me : Speaker) (m v m1 m' : Moment) (s : Passed Protos) (own : Option (Change Route)) (before now : Journaled) (done : Done) → v ≡ m → Stands m → v.declared.speaker ≡ Some me
-    → Walks (redistributed me) (int_candidates v.tree) (int_rows v.tree) v.redist s own → m1 ≡ with_redist v s → Tells (SendsOwn own m1 m') before now done → Comes tasks.Red m m' before now done
-own_told me m v m1 m' s own before now Nothing view stands since walks between tells = absurd tells
-own_told me m v m1 m' s own before now Taken view stands since walks between tells =
+pub own_took : (me : Speaker) (m v m1 m' : Moment) (s : Passed Protos) (before l now : Journaled) (turn : Turn Route) (sent : Option (Change Route)) → (turn ≡ turns.Nothing → ⊥) → v ≡ m → Stands m → v.declared.speaker ≡ Some me
+    → IsWalked (redistributed me) (int_candidates v.tree) (int_rows v.tree) v.redist s turn → sent ≡ sent_of turn → m1 ≡ with_redist v s → Adds (SendsOwn sent m1 m') before l → now ≡ flushed l → Comes tasks.Red m m' before now Taken
+own_took me m v m1 m' s before l now turn sent some view stands since walked same between adds is =
+    let x = subst (λ (o : Option (Change Route)). Adds (SendsOwn o m1 m') before l) same adds in
     subst (λ (n : Moment). Comes tasks.Red n m' before now Taken) view (
-      journal_lines tells.0,
-      tells.2,
-      subst (λ (es : List (Entry Value)). IsUnit tasks.Red v m' (journal_lines es)) (sym tells.1.lines) (own_done me v m1 m' s own tells.1.best (subst Stands (sym view) stands) since walks between tells.1.decides),
+      journal_lines x.0,
+      is ∙ ap flushed x.1,
+      subst (λ (es : List (Entry Value)). IsUnit tasks.Red v m' (journal_lines es)) (sym x.2.lines)
+          (own_done me v m1 m' s (sent_of turn) x.2.best (subst Stands (sym view) stands) since (own_walks me v s turn some walked) between x.2.decides),
     )
-
-pub own_took : {E : Type 0} (result : Result Done E) (me : Speaker) (m v m1 m' : Moment) (s : Passed Protos) (before now : Journaled) (turn told : Turn Route) → turn ≡ told → IsTaken told → v ≡ m → Stands m → v.declared.speaker ≡ Some me
-    → IsWalked (redistributed me) (int_candidates v.tree) (int_rows v.tree) v.redist s turn → m1 ≡ with_redist v s → IfOk result (Tells (SendsOwn (sent_of told) m1 m') before now) → IfOk result (Comes tasks.Red m m' before now)
-own_took result me m v m1 m' s before now turn told is taken view stands since walked between tells =
-    let walks = own_walks me v s told taken (subst (λ (t : Turn Route). IsWalked (redistributed me) (int_candidates v.tree) (int_rows v.tree) v.redist s t) is walked) in
-    IfOk-weaker result (Tells (SendsOwn (sent_of told) m1 m') before now) (Comes tasks.Red m m' before now) (λ done. own_told me m v m1 m' s (sent_of told) before now done view stands since walks between) tells
 
 -- where no walk is on
 pub own_rests : (me : Speaker) (m v : Moment) (s : Passed Protos) (turn : Turn Route) (j : Journaled) → turn ≡ turns.Nothing → v ≡ m → IsWalked (redistributed me) (int_candidates v.tree) (int_rows v.tree) v.redist s turn → Comes tasks.Red m (with_redist v s) j j Nothing

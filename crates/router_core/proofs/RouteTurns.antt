@@ -29,7 +29,7 @@ use Rattle.router_core.specs.declared.router.Done.TheVariants.{Nothing, Taken}
 use Rattle.router_core.specs.Moments.{Moment, with_tree}
 use Rattle.router_core.specs.Lives.{live_state}
 use Rattle.router_core.specs.Stands.{Stands, InteriorTree}
-use Rattle.router_core.specs.Works.{Settles, Tells, IsUnit, Comes, Pushes}
+use Rattle.router_core.specs.Works.{Settles, Turned, IsUnit, Comes, Pushes}
 use Rattle.loss_chain.proofs.TableLemmas.{few_map}
 use Rattle.router_core.proofs.RouteLemmas.{Routes, routes_on, live_stays}
 use Rattle.router_core.specs.declared.router.Phase.TheVariants.{Rdel as RdelPhase}
@@ -130,7 +130,7 @@ route_unit take keep m proto n sent t m' before j j' stands adds settles = (
     spent = tree_spends m m' r.2.best (ap (λ (x : Moment). x.chains) r.2.is) (ap (λ (x : Moment). x.redist) r.2.is) r.2.queued lives fewer less
 
 pub route_comes : TurnsTakeRows → WeldsKeepRows → (m : Moment) (proto : Proto) (n : ℕ) (sent : Option (Change Interior)) (t : Treed) (m' : Moment) (before j now : Journaled) (done : Done) → Stands m → Adds (SweepsTree m.tree t proto n sent) before j
-    → Tells (Settles proto sent (with_tree m t) m') j now done → Comes (Rdel proto n) m m' before now done
+    → Turned proto sent (with_tree m t) m' j now done → Comes (Rdel proto n) m m' before now done
 route_comes take keep m proto n sent t m' before j now Nothing stands adds turned = absurd turned
 route_comes take keep m proto n sent t m' before j now Taken stands adds turned =
     let u = route_unit take keep m proto n sent t m' before j (with_entries j turned.0) stands adds (turned.0, refl, turned.1) in
@@ -138,13 +138,13 @@ route_comes take keep m proto n sent t m' before j now Taken stands adds turned 
 
 -- by what came out on `int`
 pub route_quiet : {E : Type 0} → TurnsTakeRows → WeldsKeepRows → (m : Moment) (proto : Proto) (n : ℕ) (turn : Turn Interior) (t : Treed) (m' : Moment) (before j now : Journaled) (result : Result Done E) → Stands m → turn ≡ Quiet
-    → IsTakenTree m.tree t (Rdel proto n) before j turn → IfOk result (Tells (Settles proto None (with_tree m t) m') j now) → IfOk result (Comes (Rdel proto n) m m' before now)
+    → IsTakenTree m.tree t (Rdel proto n) before j turn → IfOk result (Turned proto None (with_tree m t) m' j now) → IfOk result (Comes (Rdel proto n) m m' before now)
 route_quiet take keep m proto n turn t m' before j now result stands is taken turned =
     let adds : Adds (SweepsTree m.tree t proto n None) before j = subst (IsTakenTree m.tree t (Rdel proto n) before j) is taken in
-    IfOk-weaker result (Tells (Settles proto None (with_tree m t) m') j now) (Comes (Rdel proto n) m m' before now) (λ done. route_comes take keep m proto n None t m' before j now done stands adds) turned
+    IfOk-weaker result (Turned proto None (with_tree m t) m' j now) (Comes (Rdel proto n) m m' before now) (λ done. route_comes take keep m proto n None t m' before j now done stands adds) turned
 
 pub route_sent : {E : Type 0} → TurnsTakeRows → WeldsKeepRows → (m : Moment) (proto : Proto) (n : ℕ) (turn : Turn Interior) (change : Change Interior) (t : Treed) (m' : Moment) (before j now : Journaled) (result : Result Done E) → Stands m → turn ≡ Sent change
-    → IsTakenTree m.tree t (Rdel proto n) before j turn → IfOk result (Tells (Settles proto (Some change) (with_tree m t) m') j now) → IfOk result (Comes (Rdel proto n) m m' before now)
+    → IsTakenTree m.tree t (Rdel proto n) before j turn → IfOk result (Turned proto (Some change) (with_tree m t) m' j now) → IfOk result (Comes (Rdel proto n) m m' before now)
 route_sent take keep m proto n turn change t m' before j now result stands is taken turned =
     let adds : Adds (SweepsTree m.tree t proto n (Some change)) before j = subst (IsTakenTree m.tree t (Rdel proto n) before j) is taken in
-    IfOk-weaker result (Tells (Settles proto (Some change) (with_tree m t) m') j now) (Comes (Rdel proto n) m m' before now) (λ done. route_comes take keep m proto n (Some change) t m' before j now done stands adds) turned
+    IfOk-weaker result (Turned proto (Some change) (with_tree m t) m' j now) (Comes (Rdel proto n) m m' before now) (λ done. route_comes take keep m proto n (Some change) t m' before j now done stands adds) turned

@@ -96,15 +96,11 @@ nothing_heard k p m message quiet before now stands same hears live is = subst (
     (gives_none (HasHeard k p m quiet m) before now (record { hears = hears; keeps = subst (λ (l : LiveState). Keeps l m m []) (sym live) (keeps_none m stands) }) is)
 
 -- the prefixes of an UPDATE were announced and withdrawn
-pub update_fed : (k : ℕ) (m m' : Moment) (update : Update) (changes : List (Network × Option Attrs)) (before j now : Journaled) → changes ≡ changes_of update → Pushes (HaveFed k changes m m') before j → now ≡ flushed j
-    → Gives (HaveFed k (changes_of update) m m') before now
-update_fed k m m' update changes before j now is fed flush =
-    gives_pushed (HaveFed k (changes_of update) m m') (HaveFed k (changes_of update) m m') (λ xs h. h) before j now (subst (λ (c : List (Network × Option Attrs)). Pushes (HaveFed k c m m') before j) is fed) flush
-
-pub update_heard : (k : ℕ) (p : DeclaredPeer) (m m' : Moment) (message : Message) (update : Update) (before now : Journaled) → message ≡ messages.Update update → Gives (HaveFed k (changes_of update) m m') before now
-    → Gives (HasHeard k p m message m') before now
-update_heard k p m m' message update before now same g = subst (λ (x : Message). Gives (HasHeard k p m x m') before now) (sym same)
-    (gives_so (HaveFed k (changes_of update) m m') (HasHeard k p m (messages.Update update) m') (λ xs h. record { hears = h.feeds; keeps = h.keeps }) before now g)
+pub update_heard : (k : ℕ) (p : DeclaredPeer) (m m' : Moment) (message : Message) (update : Update) (changes : List (Network × Option Attrs)) (before j now : Journaled) → message ≡ messages.Update update → changes ≡ changes_of update
+    → Pushes (HaveFed k changes m m') before j → now ≡ flushed j → Gives (HasHeard k p m message m') before now
+update_heard k p m m' message update changes before j now same is fed flush = subst (λ (x : Message). Gives (HasHeard k p m x m') before now) (sym same)
+    (gives_pushed (HaveFed k (changes_of update) m m') (HasHeard k p m (messages.Update update) m') (λ xs h. record { hears = h.feeds; keeps = h.keeps }) before j now
+    (subst (λ (c : List (Network × Option Attrs)). Pushes (HaveFed k c m m') before j) is fed) flush)
 
 pub end_heard : (k : ℕ) (p : DeclaredPeer) (m m' : Moment) (message : Message) (before now : Journaled) → message ≡ messages.Notification → Gives (HasLost k p.session m m') before now
     → Gives (HasHeard k p m message m') before now

@@ -61,11 +61,6 @@ use Rattle.bgp_wire.specs.declared.message.Message.TheVariants as messages
 abbrev pub Pushes : (List Line → Type 0) → Journaled → Journaled → Type 0
 Pushes P before now = (lines : List Line) × (now ≡ with_lines before lines) × P lines
 
--- this was done, and the text of its lines was made: a turn was taken
-abbrev pub Tells : (List (Entry Value) → Type 0) → Journaled → Journaled → Done → Type 0
-Tells P before now Nothing = ⊥
-Tells P before now Taken = (entries : List (Entry Value)) × P entries × (now ≡ flushed (with_entries before entries))
-
 -- What every step keeps: its entries lead from the old links to the new ones by the rules of the journal, this is live then, what
 -- holds between two steps holds, and the peers hear what they are sent.
 pub record Keeps (live_then : LiveState) (m m' : Moment) (said : List Line) : Type 0 where
@@ -305,6 +300,11 @@ pub record Settles (proto : Proto) (sent : Option (Change Interior)) (m m' : Mom
   pub int : int_rows (welded_tree proto m.tree) ≡ int_rows m.tree
   pub tree : IsTree (welded_tree proto m.tree)
   pub full : IsFull (welded_tree proto m.tree)
+
+-- the same, and the text of its lines
+abbrev pub Turned : Proto → Option (Change Interior) → Moment → Moment → Journaled → Journaled → Done → Type 0
+Turned proto sent m m' before now Nothing = ⊥
+Turned proto sent m m' before now Taken = (entries : List (Entry Value)) × Settles proto sent m m' entries × (now ≡ flushed (with_entries before entries))
 
 -- ---- what reads `best`
 -- With `local` the forwarding side begins to read: `read.rib` inherits `best`.

@@ -96,7 +96,7 @@ impl Network {
 }
 
 /// The change that a turn sent, if it sent one.
-fn sent_of(turn: Turn<Route>) -> Option<Change<Route>>
+pub(crate) fn sent_of(turn: Turn<Route>) -> Option<Change<Route>>
     ensures { result ≡ sent_of turn }
 {
     match turn {

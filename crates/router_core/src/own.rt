@@ -9,8 +9,9 @@ ghost use Rattle.exit_side.specs.Exits.{IsExits};
 ghost use Rattle.router_core.specs.declared.router.Phase.TheVariants as phases;
 ghost use Rattle.router_core.specs.Stands.{Stands};
 ghost use Rattle.router_core.specs.Turns.{next_task};
-ghost use Rattle.router_core.specs.Works.{Comes, HasStepped, Redistributes, SendsOwn, Tells};
+ghost use Rattle.router_core.specs.Works.{Comes, HasStepped, Redistributes, SendsOwn};
 
+use crate::hops::sent_of;
 use crate::network::Network;
 use crate::router::Done;
 use addr4::Memory;
@@ -63,23 +64,11 @@ impl Network {
         let Some(me) = self.declared.speaker() else {
             return Ok(Done::Nothing);
         };
-        match self.redist.unit(&self.tree, &me)? {
-            Turn::Nothing => Ok(Done::Nothing),
-            Turn::Quiet => self.walked_own(None, journal),
-            Turn::Sent(change) => self.walked_own(Some(change), journal),
+        let turn = self.redist.unit(&self.tree, &me)?;
+        if let Turn::Nothing = turn {
+            return Ok(Done::Nothing);
         }
-    }
-
-    /// What follows a turn that was taken, and the text of its lines.
-    fn walked_own(
-        &mut self,
-        sent: Option<Change<Route>>,
-        journal: &mut Journal,
-    ) -> Result<Done, Memory>
-        requires { IsExits self.old.exits }
-        ensures { IfOk result (Tells (SendsOwn sent self.old self.new) journal.old journal.new) }
-    {
-        self.send_own(sent, journal)?;
+        self.send_own(sent_of(turn), journal)?;
         journal.flush()?;
         Ok(Done::Taken)
     }

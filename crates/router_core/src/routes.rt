@@ -19,7 +19,7 @@ ghost use Rattle.live_state.specs.Lives.{interior_fed};
 ghost use Rattle.router_core.specs.Lives.{live_state};
 ghost use Rattle.router_core.specs.Stands.{Stands};
 ghost use Rattle.router_core.specs.Turns.{Registers};
-ghost use Rattle.router_core.specs.Works.{Comes, Informs, Follows, Settles, Tells, HasRouted, HasProtocolRoom, EndsProtocol, HasStepped, Pushes};
+ghost use Rattle.router_core.specs.Works.{Comes, Informs, Follows, Settles, Turned, HasRouted, HasProtocolRoom, EndsProtocol, HasStepped, Pushes};
 
 use crate::network::Network;
 use crate::router::Done;
@@ -249,7 +249,7 @@ impl Network {
         requires rib { IsExit self.old.rib }
         requires exits { IsExits self.old.exits }
         requires since { IsSome self.old.declared.speaker }
-        ensures { IfOk result (Tells (Settles proto sent self.old self.new) journal.old journal.new) }
+        ensures { IfOk result (Turned proto sent self.old self.new journal.old journal.new) }
     {
         self.settle(proto, sent, journal)?;
         journal.flush()?;

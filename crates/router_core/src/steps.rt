@@ -8,17 +8,14 @@ ghost use Rattle.event_text.specs.declared.event.Event.TheVariants as events;
 ghost use Rattle.event_text.specs.Declarations.{peer_at, refusal};
 ghost use Rattle.bgp_wire.specs.Spelling.{notification_octets};
 ghost use Rattle.rib_tree.specs.Trees.{AreNumbered};
-ghost use Rattle.router_core.specs.Moments.{Gives, plain};
-ghost use Rattle.live_state.specs.Messages.{changes_of};
+ghost use Rattle.router_core.specs.Moments.{Gives};
+ghost use Rattle.live_state.specs.Messages.{Says};
 ghost use Rattle.router_core.specs.Blocks.{AreMessageOctets};
 ghost use Rattle.bgp_wire.specs.Notices.{HasShortNotice};
-ghost use Rattle.bgp_wire.specs.declared.message.Message.TheVariants as messages;
-ghost use Rattle.std.specs.Option.{ForSome};
-ghost use Rattle.peer_out.specs.Changes.{MayBeHeard};
 ghost use Rattle.event_text.specs.WellFormed.{IsWellFormed};
 ghost use Rattle.exit_side.specs.Exits.{chain_at as exit_at};
 ghost use Rattle.router_core.specs.Stands.{Stands, AllHaveExits};
-ghost use Rattle.router_core.specs.Works.{HasStepped, HasIdled, HasHeard, HaveFed, IsHeardMessage, IsUpAt};
+ghost use Rattle.router_core.specs.Works.{HasStepped, HasIdled, HasHeard, IsHeardMessage, IsSession};
 
 use crate::network::Network;
 use crate::peers::said;
@@ -26,7 +23,7 @@ use crate::router::Idle;
 use crate::updates::changes;
 use addr4::{Memory, Prefix};
 use bgp_attr::{Octets, Speaker};
-use bgp_wire::{Message, Notice, Update, write_notification};
+use bgp_wire::{Message, Notice, write_notification};
 use event_text::{DeclaredPeer, Event};
 use journal_text::{Journal, Line, Link, Task};
 use policy_rules::Rules;
@@ -248,51 +245,20 @@ impl Network {
         ensures { OnOk result (Gives (HasHeard number peer self.old message self.new) journal.old journal.new) }
     {
         match message {
-            Message::Update(update) => self.hear_update(number, update, journal),
+            Message::Update(update) => {
+                let changes = changes(self.alloc, update)?;
+                self.feed(number, changes.as_slice(), journal)?;
+                journal.flush()
+            }
             Message::Keepalive => journal.flush(),
             Message::Skip => journal.flush(),
             Message::Notification => self.lose(number, peer.session, journal),
-            Message::Notify(notice) => self.hear_fault(number, peer, notice, journal),
+            Message::Notify(notice) => {
+                let octets = spelled(self.alloc, notice)?;
+                journal.push_line(Line::Note(number, octets))?;
+                self.lose(number, peer.session, journal)
+            }
         }
-    }
-
-    /// What an UPDATE from a peer that is up does.
-    fn hear_update(
-        &mut self,
-        number: u32,
-        update: Update,
-        journal: &mut Journal,
-    ) -> Result<(), Memory>
-        requires stands { Stands self.old }
-        requires up { IsUpAt number self.old }
-        requires heard { ForSome update.attrs (MayBeHeard plain) }
-        ensures { OnOk result (Gives (HaveFed number (changes_of update) self.old self.new) journal.old journal.new) }
-    {
-        let changes = changes(self.alloc, update)?;
-        let fed = self.feed(number, changes.as_slice(), journal);
-        drop(changes);
-        fed?;
-        journal.flush()
-    }
-
-    /// A message from a peer that is up has a fault: the NOTIFICATION that answers it, and the end of the session.
-    fn hear_fault(
-        &mut self,
-        number: u32,
-        peer: DeclaredPeer,
-        notice: Notice,
-        journal: &mut Journal,
-    ) -> Result<(), Memory>
-        requires stands { Stands self.old }
-        requires there { peer_at number self.old.declared.peers ≡ Some peer }
-        requires up { peer.up ≡ true }
-        requires short { length notice.octets ≤ 4075 }
-        requires exit { IsSome (exit_at number self.old.exits) }
-        ensures { OnOk result (Gives (HasHeard number peer self.old (messages.Notify notice) self.new) journal.old journal.new) }
-    {
-        let octets = spelled(self.alloc, notice)?;
-        journal.push_line(Line::Note(number, octets))?;
-        self.lose(number, peer.session, journal)
     }
 
     /// Every task runs to its end.

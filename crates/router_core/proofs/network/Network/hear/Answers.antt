@@ -1,30 +1,28 @@
-use Rattle.std.proofs.Common.{OnOk, refl, sym, subst}
+use Rattle.std.proofs.Common.{refl, sym, subst, ◌∙◌}
 use Rattle.std.proofs.lemmas.Result.{on_ok_weaker}
-use Rattle.bgp_wire.specs.Notices.{HasShortNotice}
-use Rattle.bgp_wire.specs.declared.message.Message.{Message}
 use Rattle.bgp_wire.specs.declared.message.Message.TheVariants as messages
-use Rattle.router_core.specs.Moments.{Gives}
-use Rattle.router_core.specs.Works.{HasHeard, IsHeardMessage}
-use Rattle.router_core.proofs.StepLemmas.{nothing_heard, update_heard, end_heard}
+use Rattle.router_core.specs.Works.{AreHeard, IsHeardMessage}
+use Rattle.router_core.proofs.HeardRows.{changes_heard}
+use Rattle.router_core.proofs.StepLemmas.{nothing_heard, update_heard, end_heard, fault_heard}
 use Rattle.router_core.proofs.network.Network.hear.Goals as goal
 
-pub hear_update-requires-clause-heard : goal.hear_update-requires-clause-heard
-hear_update-requires-clause-heard c = subst IsHeardMessage c.in-Update.is c.requires.heard
+pub feed-requires-clause-heard : goal.feed-requires-clause-heard
+feed-requires-clause-heard c =
+    subst AreHeard (sym c.as_slice.ensures.value)
+    (subst AreHeard (sym c.in_ok-changes-in-Update.ensures) (changes_heard c.in-Update.update (subst IsHeardMessage c.in-Update.is c.requires.heard)))
 
-pub hear_fault-requires-clause-short : goal.hear_fault-requires-clause-short
-hear_fault-requires-clause-short c = subst HasShortNotice c.in-Notify.is c.requires.short
-
-pub returns-in-Update : goal.returns-in-Update
-returns-in-Update c =
-    on_ok_weaker c.hear_update.result
-    (update_heard c.args.number c.args.peer c.args.self.now c.hear_update.new.self c.args.message c.in-Update.update c.args.journal.now c.hear_update.new.journal c.in-Update.is)
-    c.hear_update.ensures
+pub returns-in_ok-feed-in-Update : goal.returns-in_ok-feed-in-Update
+returns-in_ok-feed-in-Update c =
+    on_ok_weaker c.flush.result (λ flushed.
+    update_heard c.args.number c.args.peer c.args.self.now c.feed.new.self c.args.message c.in-Update.update c.as_slice.result.now c.args.journal.now c.feed.new.journal c.flush.new.self c.in-Update.is
+    (c.as_slice.ensures.value ∙ c.in_ok-changes-in-Update.ensures) c.in_ok-feed-in-Update.ensures flushed)
+    c.flush.ensures.ok
 
 pub returns-in-Keepalive : goal.returns-in-Keepalive
 returns-in-Keepalive c =
-    on_ok_weaker c.flush.result (λ flushed.
-    nothing_heard c.args.number c.args.peer c.args.self.now c.args.message messages.Keepalive c.args.journal.now c.flush.new.self c.requires.stands c.in-Keepalive.is (refl, refl) refl flushed)
-    c.flush.ensures.ok
+    on_ok_weaker c.flush-in-Keepalive.result (λ flushed.
+    nothing_heard c.args.number c.args.peer c.args.self.now c.args.message messages.Keepalive c.args.journal.now c.flush-in-Keepalive.new.self c.requires.stands c.in-Keepalive.is (refl, refl) refl flushed)
+    c.flush-in-Keepalive.ensures.ok
 
 pub returns-in-Skip : goal.returns-in-Skip
 returns-in-Skip c =
@@ -38,6 +36,9 @@ returns-in-Notification c =
     end_heard c.args.number c.args.peer c.args.self.now c.lose.new.self c.args.message c.args.journal.now c.lose.new.journal c.in-Notification.is lost)
     c.lose.ensures
 
-pub returns-in-Notify : goal.returns-in-Notify
-returns-in-Notify c =
-    subst (λ (message : Message). OnOk c.hear_fault.result (Gives (HasHeard c.args.number c.args.peer c.args.self.now message c.hear_fault.new.self) c.args.journal.now c.hear_fault.new.journal)) (sym c.in-Notify.is) c.hear_fault.ensures
+pub returns-in_ok-push_line-in-Notify : goal.returns-in_ok-push_line-in-Notify
+returns-in_ok-push_line-in-Notify c =
+    on_ok_weaker c.lose-in-Notify.result (λ lost.
+    fault_heard c.args.number c.args.peer c.args.self.now c.lose-in-Notify.new.self c.args.message c.in-Notify.notice c.in_ok-octets-in-Notify.octets c.args.journal.now c.push_line.new.self
+    c.lose-in-Notify.new.journal c.requires.stands c.in-Notify.is c.in_ok-octets-in-Notify.ensures.spelled c.in_ok-octets-in-Notify.ensures.message c.in_ok-push_line-in-Notify.ensures lost)
+    c.lose-in-Notify.ensures
