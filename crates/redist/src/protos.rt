@@ -6,7 +6,7 @@ ghost use Rattle.redist.specs.Protocols.{no_protos, has, with_proto};
 use rib_route::Proto;
 
 /// A set of interior protocols.
-#[derive(Clone, Copy, Debug, PartialEq, Eq)]
+#[derive(Clone, Copy, PartialEq)]
 pub struct Protos {
     connected: bool,
     statics: bool,

@@ -41,11 +41,13 @@ abbrev pub sent_link : ℕ → Option DeclaredPeer → List Link
 sent_link k None = []
 sent_link k (Some p) = Adv k p.session ∷ []
 
+-- of the four peers
+abbrev pub sent_links : List DeclaredPeer → List Link
+sent_links peers = sent_link 1 (peer_at 1 peers) ++ (sent_link 2 (peer_at 2 peers) ++ (sent_link 3 (peer_at 3 peers) ++ sent_link 4 (peer_at 4 peers)))
+
 -- the links whose rows are counted: what the four peers announce, the best routes, the forwarding table, and what each peer is sent
 abbrev pub total_links : List DeclaredPeer → List Link
-total_links peers =
-    In 1 ∷ In 2 ∷ In 3 ∷ In 4 ∷ Best ∷ Fib
-    ∷ (sent_link 1 (peer_at 1 peers) ++ (sent_link 2 (peer_at 2 peers) ++ (sent_link 3 (peer_at 3 peers) ++ sent_link 4 (peer_at 4 peers))))
+total_links peers = In 1 ∷ In 2 ∷ In 3 ∷ In 4 ∷ Best ∷ Fib ∷ sent_links peers
 
 -- all totals of a moment to which so many turns led
 abbrev pub AreTotals : Moment → ℕ → List ℕ → Type 0

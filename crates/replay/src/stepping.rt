@@ -1,8 +1,9 @@
 //! Stepping a line.
 
-ghost use Rattle.std.specs.Prelude.{◌≡◌, ◌≢◌, ◌+◌, ℕ, Some, None, IfOk, OnOk};
+ghost use Rattle.std.specs.Prelude.{◌≡◌, ◌≢◌, ◌+◌, ℕ, Some, None, Ok, Err, IfOk, IfSome, IfNone, OnOk};
 ghost use Rattle.event_text.specs.WellFormed.{IsWellFormed};
-ghost use Rattle.replay.specs.Judging.{judge};
+ghost use Rattle.event_text.specs.Declarations.{refusal};
+ghost use Rattle.replay.specs.Judging.{judge, placed};
 ghost use Rattle.replay.specs.Stream.{IsReady, StepsLine, RefusesLine, made};
 
 use addr4::Memory;
@@ -15,6 +16,20 @@ use std::alloc::Global;
 
 /// The number of the line that is refused whatever it holds: 2^32 - 1 events are the most.
 const LAST_LINE: u64 = 4_294_967_296;
+
+/// The code with which an event is refused in a line, if it is.
+fn misplaced(core: &Core, number: u64, event: &Event) -> Option<Code>
+    ensures refused { IfSome result (λ code. placed number (refusal core.now.moment.declared event.now) event.now ≡ Err code) }
+    ensures admitted { IfNone result (placed number (refusal core.now.moment.declared event.now) event.now ≡ Ok event.now) }
+{
+    if let Some(code) = admit(event, core.declared()) {
+        return Some(code);
+    }
+    if number == LAST_LINE {
+        return Some(Code::E6);
+    }
+    None
+}
 
 /// What may be said of a line.
 #[tactic(auto, unfolding(crate::specs::Judging::judge))]
@@ -31,11 +46,9 @@ fn judge(
         Ok(event) => event,
         Err(code) => return Ok(Err(code)),
     };
-    if let Some(code) = admit(&event, core.declared()) {
+    if let Some(code) = misplaced(core, number, &event) {
+        drop(event);
         return Ok(Err(code));
-    }
-    if number == LAST_LINE {
-        return Ok(Err(Code::E6));
     }
     Ok(Ok(event))
 }

@@ -1,12 +1,12 @@
 //! The totals that end the output of generated events.
 
-ghost use Rattle.std.specs.Prelude.{◌≡◌, ◌≤◌, ◌⊎◌, ◌++◌, ◌∷◌, [], ℕ, List, false, OnOk, IfOk};
+ghost use Rattle.std.specs.Prelude.{◌≡◌, ◌≤◌, ◌⊎◌, ◌++◌, ◌∷◌, [], ℕ, List, drop, length, false, OnOk, IfOk};
 ghost use Rattle.edge_io.specs.Causes.{Rose};
 ghost use Rattle.check_run.specs.Runs.{Writes, IsFrontOf};
 ghost use Rattle.journal_text.specs.Texts.{text_of};
 ghost use Rattle.event_text.specs.Declarations.{peer_at};
 ghost use Rattle.router_core.specs.Moments.{router_links};
-ghost use Rattle.replay.specs.Totals.{Adds, AreTotals, AreTotalsOf, IsTotal, rows_line, sent_link, total_links, turns_line};
+ghost use Rattle.replay.specs.Totals.{Adds, AreTotals, AreTotalsOf, IsTotal, rows_line, sent_link, sent_links, total_links, turns_line};
 
 use crate::status::Status;
 use crate::stream::Stream;
@@ -31,15 +31,25 @@ fn text_of_line(alloc: Global, line: Line) -> Result<Journal, Memory>
     Ok(journal)
 }
 
+/// Appends a first word, and what stands behind its own in the text of a line.
+fn push_renamed(out: &mut Vec<u8>, word: &[u8], line: &Journal) -> Result<(), Memory>
+    requires { 4 ≤ length line.now.text }
+    ensures { OnOk result (out.new.items ≡ out.old.items ++ (word.now ++ drop 4 line.now.text)) }
+{
+    out.extend_from_slice(word)?;
+    out.extend_from_slice(&line.text()[FIRST_WORD..])?;
+    Ok(())
+}
+
 /// Appends `total turns T`, whose number is written as that of `work T` is.
 #[tactic(auto, using(crate::proofs::TotalLemmas::long_work))]
 fn push_turns(alloc: Global, out: &mut Vec<u8>, turns: u128) -> Result<(), Memory>
     ensures { OnOk result (out.new.items ≡ out.old.items ++ turns_line turns) }
 {
     let line = text_of_line(alloc, Line::Work(turns))?;
-    out.extend_from_slice(b"total turns")?;
-    out.extend_from_slice(&line.text()[FIRST_WORD..])?;
-    Ok(())
+    let pushed = push_renamed(out, b"total turns", &line);
+    drop(line);
+    pushed
 }
 
 /// Appends `total LINK ROWS`, whose words are those of `rows LINK ROWS` but for the first.
@@ -48,9 +58,9 @@ fn push_count(alloc: Global, out: &mut Vec<u8>, link: Link, rows: u128) -> Resul
     ensures { OnOk result (out.new.items ≡ out.old.items ++ rows_line link rows) }
 {
     let line = text_of_line(alloc, Line::Rows(link, rows))?;
-    out.extend_from_slice(b"total")?;
-    out.extend_from_slice(&line.text()[FIRST_WORD..])?;
-    Ok(())
+    let pushed = push_renamed(out, b"total", &line);
+    drop(line);
+    pushed
 }
 
 /// Appends the line of a link, where it is live.
@@ -83,6 +93,17 @@ fn push_sent_link(links: &mut Vec<Link>, declared: &Declared, number: u32) -> Re
     Ok(())
 }
 
+/// Appends what each of the four peers is sent in its last session.
+fn push_sent_links(links: &mut Vec<Link>, declared: &Declared) -> Result<(), Memory>
+    ensures { OnOk result (links.new.items ≡ links.old.items ++ sent_links declared.now.peers) }
+{
+    push_sent_link(links, declared, 1)?;
+    push_sent_link(links, declared, 2)?;
+    push_sent_link(links, declared, 3)?;
+    push_sent_link(links, declared, 4)?;
+    Ok(())
+}
+
 /// The links whose rows are counted.
 fn total_links(alloc: Global, declared: &Declared) -> Result<Vec<Link>, Memory>
     ensures { IfOk result (λ links. links.items ≡ total_links declared.now.peers) }
@@ -95,10 +116,7 @@ fn total_links(alloc: Global, declared: &Declared) -> Result<Vec<Link>, Memory>
         Link::Best,
         Link::Fib,
     ]?;
-    push_sent_link(&mut links, declared, 1)?;
-    push_sent_link(&mut links, declared, 2)?;
-    push_sent_link(&mut links, declared, 3)?;
-    push_sent_link(&mut links, declared, 4)?;
+    push_sent_links(&mut links, declared)?;
     Ok(links)
 }
 

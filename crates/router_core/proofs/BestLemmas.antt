@@ -26,13 +26,14 @@ use Rattle.hop_side.specs.Steps.{ComesOn}
 use Rattle.peer_side.specs.Peers.{Chains, chain_at, filt_by, filt_at}
 use Rattle.addr4.proofs.PrefixOrder.{itself}
 use Rattle.event_text.specs.Declarations.{Declaration}
+use Rattle.exit_side.specs.Exits.{Exited}
 use Rattle.pass_core.specs.Passed.{Passed}
 use Rattle.redist.specs.declared.protos.Protos.{Protos}
 use Rattle.rib_tree.specs.Trees.{Treed, int_rows, int_candidates}
 use Rattle.journal_text.specs.declared.entry.Entry.{Entry}
 use Rattle.router_core.specs.Bests.{resolved_at, all_at, best_at, best_links, best_entries, own_rows, lent_rows, lent_candidates, DecidesOn, Queues}
 use Rattle.router_core.specs.Moments.{Moment, own_of, best_of, candidates_of, with_exits}
-use Rattle.router_core.specs.Works.{Decides}
+use Rattle.router_core.specs.Works.{Decides, JoinsQueue}
 
 -- ---- the branches that there may be
 same_best : (rows other : AllRows) → ((b : ℕ) → b < 65 → rows b ≡ other b) → best_rows rows ≡ best_rows other
@@ -94,6 +95,16 @@ comes_none k p before now comes i j = each j i
     each : (j : ℕ) → now j ≡ before j
     each j = by_bool (nat_eq j k) (λ b. now j ≡ before j) (λ e. subst (λ (n : ℕ). now n ≡ before n) (sym (equal_by j k e)) comes.here) (λ e. comes.others j e)
 
+-- a change of `best`, if one came, joins the queue
+pub joins_none : (sent : Option (Change Route)) (m : Moment) (j : Journaled) → sent ≡ None → Adds (JoinsQueue sent m m) j j
+joins_none sent m j is = subst (λ (o : Option (Change Route)). Adds (JoinsQueue o m m) j j) (sym is) ([], sym (with_entries_none j), record { lines = refl; queued = refl; after = refl })
+
+pub joins_some : (sent : Option (Change Route)) (change : Change Route) (m v : Moment) (e : Exited) (before j : Journaled) → v ≡ m → sent ≡ Some change → j ≡ with_entries before (best_entries (Some change)) → Queues (Some change) v.exits e
+    → Adds (JoinsQueue sent m (with_exits v e)) before j
+joins_some sent change m v e before j view is pushed queued =
+    subst (λ (n : Moment). Adds (JoinsQueue sent n (with_exits v e)) before j) view
+    (subst (λ (o : Option (Change Route)). Adds (JoinsQueue o v (with_exits v e)) before j) (sym is) (best_entries (Some change), pushed, record { lines = refl; queued = queued; after = refl }))
+
 pub decides_none : (k : ℕ) (sent : Option (Change Route)) (m : Moment) (j : Journaled) → sent ≡ None → Adds (Decides k sent m m) j j
 decides_none k sent m j is = (
   [],
@@ -127,19 +138,18 @@ leads_by k own a h change best small decides was p comes =
     former_is b few = by_bool (nat_eq b k) (λ t. cond t (was k) (lent_rows own a h b) ≡ was b) (λ e. ap was (sym (equal_by b k e))) (λ e. lent_here own a h b few ∙ comes.others b e)
 
 pub decides_some : (k : ℕ) (sent : Option (Change Route)) (change : Change Route) (best : Option (Change Route)) (m m' : Moment) (d : Declaration) (t : Treed) (s : Passed Protos) (a : Chains) (h : Resolvers) (before now : Journaled) → k ≤ 64 → sent ≡ Some change
-    → d ≡ m.declared → t ≡ m.tree → s ≡ m.redist → a ≡ m.chains → h ≡ m.hops → DecidesOver k (lent_rows (own_rows d.speaker s (int_rows t)) a h) change best → now ≡ with_entries before (best_entries best) → Queues best m.exits m'.exits
-    → m' ≡ with_exits m m'.exits → Adds (Decides k sent m m') before now
-decides_some k sent change best m m' d t s a h before now small is declared tree redist chains hops decides pushed queued after = (
-  best_entries best,
-  pushed,
+    → d ≡ m.declared → t ≡ m.tree → s ≡ m.redist → a ≡ m.chains → h ≡ m.hops → DecidesOver k (lent_rows (own_rows d.speaker s (int_rows t)) a h) change best → Adds (JoinsQueue best m m') before now → Adds (Decides k sent m m') before now
+decides_some k sent change best m m' d t s a h before now small is declared tree redist chains hops decides joins = (
+  joins.0,
+  joins.1,
   record {
     decided = record {
       best = best;
-      lines = refl;
+      lines = joins.2.lines;
       decides = subst (λ (o : Option (Change Route)). LeadsTo o (all_at (own_of m) m.chains m.hops)) (sym is) (subst (LeadsTo (Some change)) (all_is m d t s a h declared tree redist chains hops) (leads_by k (own_rows d.speaker s (int_rows t)) a h change best small decides));
     };
-    queued = queued;
-    after = after;
+    queued = joins.2.queued;
+    after = joins.2.after;
   },
 )
   where

@@ -1,5 +1,6 @@
 -- One turn of what reads `best`: of the forwarding side, and of a peer's exit.
-use Rattle.std.proofs.Common.{◌≡◌, ℕ, ◌+◌, ◌≤◌, nat_eq, nat_lt, true, false, cond, List, [], ◌∷◌, ◌++◌, length, Option, Some, None, is_some, IsSome, IfSome, refl, sym, ap, subst, ◌∙◌, arith, inl, inr}
+use Rattle.std.proofs.Common.{◌≡◌, ◌≢◌, ℕ, ◌+◌, ◌≤◌, nat_eq, nat_lt, Bool, true, false, cond, List, [], ◌∷◌, ◌++◌, length, Option, Some, None, is_some, IsSome, IfSome, refl, sym, ap, subst, ◌∙◌, arith, inl, inr}
+use Rattle.std.specs.Prelude.{MatchBool}
 use Rattle.std.proofs.lemmas.Bool.Decides.{nat_tests}
 use Rattle.std.proofs.lemmas.List.{append-nil}
 use Rattle.std.specs.FinMap as tables
@@ -61,7 +62,7 @@ use Rattle.router_core.specs.Moments.{Moment, own_of, best_of, candidates_of, mo
 use Rattle.router_core.specs.Phases.{counts, unread_if, best_beyond}
 use Rattle.router_core.specs.Stands.{Stands, EachExit, QueueLeads, ExitsRead, PlainExits, SameSessions, OneReader, ExternalStands, ExitsAt, ReadsAs, ReadsOn}
 use Rattle.router_core.specs.Turns.{journal_lines}
-use Rattle.router_core.specs.Works.{IsUnit, Comes}
+use Rattle.router_core.specs.Works.{IsUnit, Comes, Forwards}
 use Rattle.router_core.proofs.BestLemmas.{lent_is}
 use Rattle.router_core.proofs.QueueLemmas.{reader_live}
 use Rattle.router_core.proofs.HeardSteps.{heard_quiet, exits_declared}
@@ -195,19 +196,30 @@ module _ (law : StrangersTake) (m : Moment) (r : ℕ) (change : Change Route) (q
       };
     }
 
-pub reader_took : StrangersTake → (m v m' : Moment) (r : ℕ) (change : Change Route) (e : Exited) (registry : Registry Interior) (x : RibExit) (fib : Option (Change FibRow)) (before j l now : Journaled) → v ≡ m → Stands m → v.reader ≡ Some r → Takes v.exits.queue e.queue r (Some change)
-    → e ≡ with_queue e.queue v.exits → m' ≡ with_rib (with_exits v e) registry x → j ≡ with_entries before (valued_change route_value links.ReadRib change) → Adds (TakesExternal change (int_rows v.tree) fib v.registry registry v.rib x) j l → now ≡ flushed l → Comes tasks.ReadRib m m' before now Taken
-reader_took law m v m' r change e registry x fib before j l now view stands reads takes after is pushed adds flush =
+-- a change that was read goes down
+pub forwarded : (change : Change Route) (m v : Moment) (registry : Registry Interior) (x : RibExit) (fib : Option (Change FibRow)) (before j now : Journaled) → v ≡ m → j ≡ with_entries before (valued_change route_value links.ReadRib change)
+    → Adds (TakesExternal change (int_rows v.tree) fib v.registry registry v.rib x) j now → Adds (Forwards change m (with_rib v registry x)) before now
+forwarded change m v registry x fib before j now view pushed adds = subst (λ (n : Moment). Adds (Forwards change n (with_rib v registry x)) before now) view (
+  valued_change route_value links.ReadRib change ++ adds.0,
+  adds_both before j now (valued_change route_value links.ReadRib change) adds.0 pushed adds.1,
+  record { fib = fib; below = adds.0; external = adds.2; lines = refl; after = refl },
+)
+
+pub reader_took : StrangersTake → (m v m1 m' : Moment) (r : ℕ) (change : Change Route) (e : Exited) (before l now : Journaled) → v ≡ m → Stands m → v.reader ≡ Some r → Takes v.exits.queue e.queue r (Some change)
+    → e ≡ with_queue e.queue v.exits → m1 ≡ with_exits v e → Adds (Forwards change m1 m') before l → now ≡ flushed l → Comes tasks.ReadRib m m' before now Taken
+reader_took law m v m1 m' r change e before l now view stands reads takes after is adds flush =
+    let f = subst (λ (n : Moment). Forwards change n m' adds.0) (is ∙ ap (with_exits v) after) adds.2 in
     subst (λ (n : Moment). Comes tasks.ReadRib n m' before now Taken) view (
-      journal_lines (valued_change route_value links.ReadRib change ++ adds.0),
-      flush ∙ ap flushed (adds_both before j l (valued_change route_value links.ReadRib change) adds.0 pushed adds.1),
-      subst (λ (n : Moment). IsUnit tasks.ReadRib v n (journal_lines (valued_change route_value links.ReadRib change ++ adds.0))) (sym (is ∙ ap (λ (y : Exited). with_rib (with_exits v y) registry x) after))
-          (read_done law v r change e.queue (subst Stands (sym view) stands) reads takes registry x fib adds.0 adds.2),
+      journal_lines adds.0,
+      flush ∙ ap flushed adds.1,
+      subst (λ (n : Moment). IsUnit tasks.ReadRib v n (journal_lines adds.0)) (sym f.after)
+          (subst (λ (entries : List (Entry Value)). IsUnit tasks.ReadRib v (with_rib (with_exits v (with_queue e.queue v.exits)) m'.registry m'.rib) (journal_lines entries)) (sym f.lines)
+          (read_done law v r change e.queue (subst Stands (sym view) stands) reads takes m'.registry m'.rib f.fib f.below f.external)),
     )
 
 -- its reader is numbered as before
-pub reader_same : (v : Moment) (e : Exited) (registry : Registry Interior) (x : RibExit) (o : Option ℕ) → o ≡ v.reader → record v { registry = registry; exits = e; reader = o; rib = x } ≡ with_rib (with_exits v e) registry x
-reader_same v e registry x o same = ap (λ (q : Option ℕ). record v { registry = registry; exits = e; reader = q; rib = x }) same
+pub reader_same : (v : Moment) (e : Exited) (o : Option ℕ) → o ≡ v.reader → record v { exits = e; reader = o } ≡ with_exits v e
+reader_same v e o same = ap (λ (q : Option ℕ). record v { exits = e; reader = q }) same
 
 pub reader_rests : (m v m' : Moment) (before : Journaled) → v ≡ m → v.reader ≡ None → m' ≡ v → Comes tasks.ReadRib m m' before before Nothing
 reader_rests m v m' before view none same = (sym (reads_nothing m v view none), same ∙ view, refl)
@@ -289,20 +301,21 @@ module _ (m : Moment) (k : ℕ) (sent : Option (Change Attrs)) (e : Exited) (sai
   }
 
 -- by what it came to, over the rows that are lent
-pub exit_took : (m v : Moment) (k : ℕ) (e : Exited) (before j now : Journaled) (turn : Turn Attrs) → (turn ≡ turns.Nothing → ⊥) → v ≡ m → Stands m
+pub exit_took : (m v : Moment) (k : ℕ) (e : Exited) (before j now : Journaled) (turn : Turn Attrs) (rested : Bool) → MatchBool rested (turn ≡ turns.Nothing) (turn ≢ turns.Nothing) → rested ≡ false → v ≡ m → Stands m
     → ComesOut k (candidates_of v) (best_rows (lent_rows (own_of v) v.chains v.hops)) v.exits e before j turn → now ≡ flushed j → Comes (tasks.Out k) m (with_exits v e) before now Taken
-exit_took m v k e before j now turn some view stands comes is =
+exit_took m v k e before j now turn rested told some view stands comes is =
     subst (λ (n : Moment). Comes (tasks.Out k) n (with_exits v e) before now Taken) view
-    (by_turn turn some (subst (λ (rows : Rows Route). ComesOut k (candidates_of v) rows v.exits e before j turn) (lent_is (own_of v) v.chains v.hops) comes))
+    (by_turn turn (subst (λ (b : Bool). MatchBool b (turn ≡ turns.Nothing) (turn ≢ turns.Nothing)) some told) (subst (λ (rows : Rows Route). ComesOut k (candidates_of v) rows v.exits e before j turn) (lent_is (own_of v) v.chains v.hops) comes))
   where
-    by_turn : (t : Turn Attrs) → (t ≡ turns.Nothing → ⊥) → ComesOut k (candidates_of v) (best_of v) v.exits e before j t → Comes (tasks.Out k) v (with_exits v e) before now Taken
+    by_turn : (t : Turn Attrs) → t ≢ turns.Nothing → ComesOut k (candidates_of v) (best_of v) v.exits e before j t → Comes (tasks.Out k) v (with_exits v e) before now Taken
     by_turn turns.Nothing other c = absurd (other refl)
     by_turn turns.Quiet other c = (c.0, is ∙ ap flushed c.1, exit_done v k None e c.0 (subst Stands (sym view) stands) c.2)
     by_turn (turns.Sent change) other c = (c.0, is ∙ ap flushed c.1, exit_done v k (Some change) e c.0 (subst Stands (sym view) stands) c.2)
 
-pub exit_rests : (m v : Moment) (k : ℕ) (e : Exited) (candidates : Candidates) (best : Rows Route) (before j : Journaled) (turn : Turn Attrs) → turn ≡ turns.Nothing → v ≡ m → ComesOut k candidates best v.exits e before j turn → Comes (tasks.Out k) m (with_exits v e) before j Nothing
-exit_rests m v k e candidates best before j turn is view comes =
-    let c : ComesOut k candidates best v.exits e before j turns.Nothing = subst (ComesOut k candidates best v.exits e before j) is comes in
+pub exit_rests : (m v : Moment) (k : ℕ) (e : Exited) (candidates : Candidates) (best : Rows Route) (before j : Journaled) (turn : Turn Attrs) (rested : Bool) → MatchBool rested (turn ≡ turns.Nothing) (turn ≢ turns.Nothing) → rested ≡ true → v ≡ m → ComesOut k candidates best v.exits e before j turn → Comes (tasks.Out k) m (with_exits v e) before j Nothing
+exit_rests m v k e candidates best before j turn rested told none view comes =
+    let idle : turn ≡ turns.Nothing = subst (λ (b : Bool). MatchBool b (turn ≡ turns.Nothing) (turn ≢ turns.Nothing)) none told in
+    let c : ComesOut k candidates best v.exits e before j turns.Nothing = subst (ComesOut k candidates best v.exits e before j) idle comes in
     (ap (λ (x : Moment). has_exit_work x.exits k) (sym view) ∙ c.0, ap (with_exits v) c.1 ∙ view, c.2)
 
 -- what the turn asks for

@@ -1,8 +1,11 @@
 -- Steps one after the other, and the journal that they leave.
-use Rattle.std.proofs.Common.{◌≡◌, ℕ, List, [], ◌++◌, refl, sym, ap, subst, ◌∙◌}
+use Rattle.std.proofs.Common.{◌≡◌, ℕ, List, [], ◌∷◌, ◌++◌, Result, refl, sym, ap, subst, ◌∙◌}
+use Rattle.std.specs.Result.{IfOk}
+use Rattle.std.proofs.lemmas.Result.{IfOk-weaker}
 use Rattle.journal_text.specs.declared.entry.Entry.{Entry}
 use Rattle.journal_text.specs.declared.value.Value.{Value}
 use Rattle.journal_text.specs.declared.line.Line.{Line}
+use Rattle.journal_text.specs.declared.line.Line.TheVariants as lines
 use Rattle.journal_text.specs.Journals.{Journaled, with_lines, flushed}
 use Rattle.journal_text.specs.Texts.{entries_of}
 use Rattle.journal_text.specs.Walk.{Leads}
@@ -93,3 +96,10 @@ steps_said m event turns said stands block after none = record { block = block; 
 pub steps_pushed : (m : Moment) (event : Event) (said : List Line) (before j now : Journaled) → Stands m → IsBlock m event said 0 m → LiveAfter (live_state m) event (live_state m) → AreQuiet said → j ≡ with_lines before said → now ≡ flushed j
     → Gives (HasStepped m event 0 m) before now
 steps_pushed m event said before j now stands block after none pushed is = (said, is ∙ ap flushed pushed, steps_said m event 0 said stands block after none)
+
+-- one that is ignored
+pub ignores : {X : Type 0} (result : Result ℕ X) (m : Moment) (event : Event) (before now : Journaled) → Stands m → IsBlock m event (lines.Ignored ∷ []) 0 m → LiveAfter (live_state m) event (live_state m)
+    → IfOk result (λ turns. (turns ≡ 0) × (now ≡ flushed (with_lines before (lines.Ignored ∷ [])))) → IfOk result (λ turns. Gives (HasStepped m event turns m) before now)
+ignores result m event before now stands block after told =
+    IfOk-weaker result (λ turns. (turns ≡ 0) × (now ≡ flushed (with_lines before (lines.Ignored ∷ [])))) (λ turns. Gives (HasStepped m event turns m) before now) (λ turns t. subst (λ (n : ℕ). Gives (HasStepped m event n m) before now) (sym t.0)
+    (steps_pushed m event (lines.Ignored ∷ []) before (with_lines before (lines.Ignored ∷ [])) now stands block after (refl, (refl, tt)) refl t.1)) told

@@ -22,7 +22,7 @@ use Rattle.journal_text.specs.declared.value.Value.{Value}
 use Rattle.journal_text.specs.Journals.{Journaled, with_entries, Adds, flushed}
 use Rattle.journal_text.specs.Texts.{entries_of}
 use Rattle.journal_text.specs.Walk.{Leads}
-use Rattle.journal_text.proofs.JournalLemmas.{entries_of_entries, with_entries_append}
+use Rattle.journal_text.proofs.JournalLemmas.{entries_of_entries}
 use Rattle.link_region.specs.declared.regions.Region.{Region}
 use Rattle.link_region.specs.declared.regions.Region.TheVariants.{Redistributed, Decided, External, Outward}
 use Rattle.link_region.specs.Regions.{Sides, joined, with_side}
@@ -37,7 +37,7 @@ use Rattle.router_core.specs.Moments.{Moment, with_exits, with_redist, own_of, b
 use Rattle.router_core.specs.Lives.{live_state}
 use Rattle.router_core.specs.Stands.{Stands, Claim, Claims, EachRow, EachExit, QueueLeads, ExitsRead, PlainExits, OneSender, SameSessions, OneReader, ExternalStands, NothingOwn, Tie, Ties, Registered, here}
 use Rattle.router_core.specs.Turns.{journal_lines, sent_of}
-use Rattle.router_core.specs.Works.{IsUnit, Comes, Decides, Redistributes}
+use Rattle.router_core.specs.Works.{IsUnit, Comes, Decides, SendsOwn, Redistributes}
 use Rattle.router_core.proofs.BestLemmas.{best_of_none}
 use Rattle.router_core.proofs.QueueLemmas.{ExitsStand, queue_external, queue_links, reader_live, exits_fall}
 use Rattle.router_core.proofs.HeardSteps.{heard_quiet, own_unheard, queue_views}
@@ -45,34 +45,39 @@ use Rattle.router_core.proofs.RibLinks.{DecidesTo, own_rows_are, own_comes, lead
 use Rattle.router_core.proofs.SpendLemmas.{Spent, own_spends}
 use Rattle.router_core.proofs.StaleLemmas.{none_as_before}
 
--- ---- a change of `int` that goes on through redistribution
-pub own_followed : {X E : Type 0} (result : Result X E) (me : Speaker) (change taken : Change Interior) (m v m2 : Moment) (s : Passed Protos) (own : Option (Change Route)) (before j now : Journaled) → v ≡ m → v.declared.speaker ≡ Some me → taken ≡ change
-    → IsPassedOn (redistributed me) v.redist taken own → s ≡ v.redist → j ≡ with_entries before (own_entries own) → OnOk result (Adds (Decides 0 own (with_redist v s) m2) j now) → OnOk result (Adds (Redistributes change m m2) before now)
-own_followed result me change taken m v m2 s own before j now view since same passed stays pushed decides =
-    on_ok_weaker result (λ decided. subst (λ (n : Moment). Adds (Redistributes change n m2) before now) view (by_decision (subst (λ (x : Passed Protos). Adds (Decides 0 own (with_redist v x) m2) j now) stays decided))) decides
+-- ---- what redistribution sends
+pub sends_own : (own : Option (Change Route)) (m m' : Moment) (before j now : Journaled) → j ≡ with_entries before (own_entries own) → Adds (Decides 0 own m m') j now → Adds (SendsOwn own m m') before now
+sends_own own m m' before j now pushed d = (own_entries own ++ d.0, adds_both before j now (own_entries own) d.0 pushed d.1, record { best = d.0; decides = d.2; lines = refl })
+
+-- of a change of `int`
+pub own_followed : {X E : Type 0} (result : Result X E) (me : Speaker) (change taken : Change Interior) (m v m2 : Moment) (s : Passed Protos) (own : Option (Change Route)) (before now : Journaled) → v ≡ m → v.declared.speaker ≡ Some me → taken ≡ change
+    → IsPassedOn (redistributed me) v.redist taken own → s ≡ v.redist → OnOk result (Adds (SendsOwn own (with_redist v s) m2) before now) → OnOk result (Adds (Redistributes change m m2) before now)
+own_followed result me change taken m v m2 s own before now view since same passed stays sends =
+    on_ok_weaker result (λ sent. subst (λ (n : Moment). Adds (Redistributes change n m2) before now) view (by_sending (subst (λ (x : Passed Protos). Adds (SendsOwn own (with_redist v x) m2) before now) stays sent))) sends
   where
-    by_decision : Adds (Decides 0 own v m2) j now → Adds (Redistributes change v m2) before now
-    by_decision d = (
-      own_entries own ++ d.0,
-      d.1 ∙ ap (λ (x : Journaled). with_entries x d.0) pushed ∙ with_entries_append before (own_entries own) d.0,
-      record {
-        me = me;
-        local = since;
-        own = record {
-          own = own;
-          passed = subst (λ (c : Change Interior). IsPassedOn (redistributed me) v.redist c own) same passed;
-          best = d.0;
-          decided = record {
-            best = d.2.decided.best;
-            lines = d.2.decided.lines;
-            decides = subst (λ (rows : Rows Route). DecidesTo 0 own d.2.decided.best (all_at rows v.chains v.hops)) (own_rows_are v.declared.speaker me v.redist (int_rows v.tree) since) d.2.decided.decides;
-          };
-          queued = d.2.queued;
-          lines = refl;
-        };
-        after = d.2.after;
-      },
-    )
+    by_sending : Adds (SendsOwn own v m2) before now → Adds (Redistributes change v m2) before now
+    by_sending s =
+        let d = s.2.decides in (
+          s.0,
+          s.1,
+          record {
+            me = me;
+            local = since;
+            own = record {
+              own = own;
+              passed = subst (λ (c : Change Interior). IsPassedOn (redistributed me) v.redist c own) same passed;
+              best = s.2.best;
+              decided = record {
+                best = d.decided.best;
+                lines = d.decided.lines;
+                decides = subst (λ (rows : Rows Route). DecidesTo 0 own d.decided.best (all_at rows v.chains v.hops)) (own_rows_are v.declared.speaker me v.redist (int_rows v.tree) since) d.decided.decides;
+              };
+              queued = d.queued;
+              lines = s.2.lines;
+            };
+            after = d.after;
+          },
+        )
 
 -- ---- the walk
 module _ {F : Type 0} where
@@ -198,13 +203,16 @@ own_walks me m s turns.Nothing some walked = absurd (some refl)
 own_walks me m s turns.Quiet some walked = walked
 own_walks me m s (turns.Sent change) some walked = walked
 
-pub own_took : (me : Speaker) (m v m1 m' : Moment) (s : Passed Protos) (before j l now : Journaled) (turn : Turn Route) (sent : Option (Change Route)) → (turn ≡ turns.Nothing → ⊥) → v ≡ m → Stands m → v.declared.speaker ≡ Some me
-    → IsWalked (redistributed me) (int_candidates v.tree) (int_rows v.tree) v.redist s turn → sent ≡ sent_of turn → j ≡ with_entries before (own_entries sent) → m1 ≡ with_redist v s → Adds (Decides 0 sent m1 m') j l → now ≡ flushed l → Comes tasks.Red m m' before now Taken
-own_took me m v m1 m' s before j l now turn sent some view stands since walked same pushed between best is =
-    let d = subst (λ (o : Option (Change Route)). Adds (Decides 0 o m1 m') j l) same best in
-    let first : j ≡ with_entries before (own_entries (sent_of turn)) = pushed ∙ ap (λ (o : Option (Change Route)). with_entries before (own_entries o)) same in
-    subst (λ (n : Moment). Comes tasks.Red n m' before now Taken) view
-    (journal_lines (own_entries (sent_of turn) ++ d.0), is ∙ ap flushed (adds_both before j l (own_entries (sent_of turn)) d.0 first d.1), own_done me v m1 m' s (sent_of turn) d.0 (subst Stands (sym view) stands) since (own_walks me v s turn some walked) between d.2)
+pub own_took : (me : Speaker) (m v m1 m' : Moment) (s : Passed Protos) (before l now : Journaled) (turn : Turn Route) (sent : Option (Change Route)) → (turn ≡ turns.Nothing → ⊥) → v ≡ m → Stands m → v.declared.speaker ≡ Some me
+    → IsWalked (redistributed me) (int_candidates v.tree) (int_rows v.tree) v.redist s turn → sent ≡ sent_of turn → m1 ≡ with_redist v s → Adds (SendsOwn sent m1 m') before l → now ≡ flushed l → Comes tasks.Red m m' before now Taken
+own_took me m v m1 m' s before l now turn sent some view stands since walked same between adds is =
+    let x = subst (λ (o : Option (Change Route)). Adds (SendsOwn o m1 m') before l) same adds in
+    subst (λ (n : Moment). Comes tasks.Red n m' before now Taken) view (
+      journal_lines x.0,
+      is ∙ ap flushed x.1,
+      subst (λ (es : List (Entry Value)). IsUnit tasks.Red v m' (journal_lines es)) (sym x.2.lines)
+          (own_done me v m1 m' s (sent_of turn) x.2.best (subst Stands (sym view) stands) since (own_walks me v s turn some walked) between x.2.decides),
+    )
 
 -- where no walk is on
 pub own_rests : (me : Speaker) (m v : Moment) (s : Passed Protos) (turn : Turn Route) (j : Journaled) → turn ≡ turns.Nothing → v ≡ m → IsWalked (redistributed me) (int_candidates v.tree) (int_rows v.tree) v.redist s turn → Comes tasks.Red m (with_redist v s) j j Nothing

@@ -1,5 +1,6 @@
 -- What each event of the interior routes comes to.
-use Rattle.std.proofs.Common.{◌≡◌, Bool, true, false, [], ◌∷◌, Some, None, is_some, refl, sym, subst}
+use Rattle.std.proofs.Common.{◌≡◌, ℕ, Bool, true, false, [], ◌∷◌, Some, None, Result, is_some, refl, sym, subst}
+use Rattle.std.specs.Result.{IfOk}
 use Rattle.std.specs.FinMap as tables
 use Rattle.addr4.specs.Prefixes.{Network}
 use Rattle.rib_route.specs.declared.Proto.{Proto}
@@ -20,7 +21,7 @@ use Rattle.router_core.specs.Stands.{Stands}
 use Rattle.router_core.specs.Blocks.{DropsRouteIf}
 use Rattle.router_core.specs.Works.{HasRouted, HasStepped, Pushes}
 use Rattle.live_state.proofs.AdmittedLemmas.{live_as_it_was}
-use Rattle.router_core.proofs.KeepLemmas.{gives_pushed, steps_pushed}
+use Rattle.router_core.proofs.KeepLemmas.{gives_pushed, ignores}
 
 -- ---- `route add` and `route del`
 pub route_added : (p : Network) (row : Interior) (m m' : Moment) (before j now : Journaled)
@@ -40,8 +41,8 @@ route_dropped proto p m m' before j now has u is = gives_pushed (HasRouted m (fe
       keeps = h.keeps;
     }) before j now u is
 
-pub nothing_dropped : (proto : Proto) (p : Network) (m : Moment) (before j now : Journaled) → Stands m → is_some (tables.get (branch_of proto m.tree).tables.live p) ≡ false → j ≡ with_lines before (lines.Ignored ∷ []) → now ≡ flushed j
-    → Gives (HasStepped m (RouteDel proto p) 0 m) before now
-nothing_dropped proto p m before j now stands has pushed is = steps_pushed m (RouteDel proto p) (lines.Ignored ∷ []) before j now stands
+pub nothing_dropped : {X : Type 0} (result : Result ℕ X) (proto : Proto) (p : Network) (m : Moment) (before now : Journaled) → Stands m → is_some (tables.get (branch_of proto m.tree).tables.live p) ≡ false
+    → IfOk result (λ turns. (turns ≡ 0) × (now ≡ flushed (with_lines before (lines.Ignored ∷ [])))) → IfOk result (λ turns. Gives (HasStepped m (RouteDel proto p) turns m) before now)
+nothing_dropped result proto p m before now stands has told = ignores result m (RouteDel proto p) before now stands
     (subst (λ (b : Bool). DropsRouteIf b proto p m (lines.Ignored ∷ []) 0 m) (sym has) (refl, refl, refl))
-    (live_as_it_was (live_state m) proto (tables.remove (branch_of proto m.tree).tables.live p) (remove_absent (branch_of proto m.tree).tables.live p (no_table (tables.get (branch_of proto m.tree).tables.live p) has))) (refl, (refl, tt)) pushed is
+    (live_as_it_was (live_state m) proto (tables.remove (branch_of proto m.tree).tables.live p) (remove_absent (branch_of proto m.tree).tables.live p (no_table (tables.get (branch_of proto m.tree).tables.live p) has))) told

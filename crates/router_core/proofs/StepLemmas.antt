@@ -1,5 +1,6 @@
 -- What each event comes to.
-use Rattle.std.proofs.Common.{◌≡◌, ℕ, ◌<◌, ◌^◌, Bool, true, false, cond, List, [], ◌∷◌, ◌++◌, Option, Some, refl, sym, ap, subst, ◌∙◌}
+use Rattle.std.proofs.Common.{◌≡◌, ℕ, ◌<◌, ◌^◌, Bool, true, false, cond, List, [], ◌∷◌, ◌++◌, Option, Some, Result, refl, sym, ap, subst, ◌∙◌}
+use Rattle.std.specs.Result.{IfOk}
 use Rattle.bgp_wire.specs.declared.notice.Notice.{Notice}
 use Rattle.bgp_attr.specs.declared.attrs.Attrs.{Attrs}
 use Rattle.bgp_wire.specs.declared.message.Update.{Update}
@@ -28,7 +29,7 @@ use Rattle.router_core.specs.Lives.{live_state}
 use Rattle.router_core.specs.Stands.{Stands}
 use Rattle.router_core.specs.Blocks.{AreMessageOctets, EndsIf, Hears, HearsIf, ByPeer}
 use Rattle.router_core.specs.Works.{Pushes, Keeps, AreTurns, AllHaveDrained, HasLost, HasHeard, HasIdled, HasStepped, HaveFed}
-use Rattle.router_core.proofs.KeepLemmas.{keeps_none, keeps_said, keeps_join, keeps_on, gives_push, push_gives, gives_none, gives_so, gives_pushed, steps_pushed}
+use Rattle.router_core.proofs.KeepLemmas.{keeps_none, keeps_said, keeps_join, keeps_on, gives_push, push_gives, gives_none, gives_so, gives_pushed, steps_pushed, ignores}
 use Rattle.router_core.proofs.StandLemmas.{registered_rows}
 
 -- ---- `idle` and `work`
@@ -145,17 +146,17 @@ heard_up k p m m' octets message before now at up says g = gives_so (HasHeard k 
 }) before now g
 
 -- of a peer that is down nothing comes
-pub down_ignored : (k : ℕ) (p : DeclaredPeer) (m : Moment) (before j now : Journaled) → Stands m → peer_at k m.declared.peers ≡ Some p → p.up ≡ false → j ≡ with_lines before (lines.Ignored ∷ []) → now ≡ flushed j
-    → Gives (HasStepped m (Down k) 0 m) before now
-down_ignored k p m before j now stands at down pushed is = steps_pushed m (Down k) (lines.Ignored ∷ []) before j now stands
+pub down_ignored : {X : Type 0} (result : Result ℕ X) (k : ℕ) (p : DeclaredPeer) (m : Moment) (before now : Journaled) → Stands m → peer_at k m.declared.peers ≡ Some p → p.up ≡ false
+    → IfOk result (λ turns. (turns ≡ 0) × (now ≡ flushed (with_lines before (lines.Ignored ∷ [])))) → IfOk result (λ turns. Gives (HasStepped m (Down k) turns m) before now)
+down_ignored result k p m before now stands at down told = ignores result m (Down k) before now stands
     (subst (λ (o : Option DeclaredPeer). ByPeer (λ q. EndsIf q.up m k q (lines.Ignored ∷ []) 0 m) o) (sym at) (subst (λ (u : Bool). EndsIf u m k p (lines.Ignored ∷ []) 0 m) (sym down) (refl, refl, refl)))
-    (sym (ap (ended_if_up (live_state m) k) at ∙ ap (λ (u : Bool). cond u (ended (live_state m) k) (live_state m)) down)) (refl, (refl, tt)) pushed is
+    (sym (ap (ended_if_up (live_state m) k) at ∙ ap (λ (u : Bool). cond u (ended (live_state m) k) (live_state m)) down)) told
 
-pub bgp_ignored : (k : ℕ) (octets : List ℕ) (p : DeclaredPeer) (m : Moment) (before j now : Journaled) → Stands m → peer_at k m.declared.peers ≡ Some p → p.up ≡ false → j ≡ with_lines before (lines.Ignored ∷ []) → now ≡ flushed j
-    → Gives (HasStepped m (Bgp k octets) 0 m) before now
-bgp_ignored k octets p m before j now stands at down pushed is = steps_pushed m (Bgp k octets) (lines.Ignored ∷ []) before j now stands
+pub bgp_ignored : {X : Type 0} (result : Result ℕ X) (k : ℕ) (octets : List ℕ) (p : DeclaredPeer) (m : Moment) (before now : Journaled) → Stands m → peer_at k m.declared.peers ≡ Some p → p.up ≡ false
+    → IfOk result (λ turns. (turns ≡ 0) × (now ≡ flushed (with_lines before (lines.Ignored ∷ [])))) → IfOk result (λ turns. Gives (HasStepped m (Bgp k octets) turns m) before now)
+bgp_ignored result k octets p m before now stands at down told = ignores result m (Bgp k octets) before now stands
     (subst (λ (o : Option DeclaredPeer). ByPeer (λ q. HearsIf q.up m k q octets (lines.Ignored ∷ []) 0 m) o) (sym at) (subst (λ (u : Bool). HearsIf u m k p octets (lines.Ignored ∷ []) 0 m) (sym down) (refl, refl, refl)))
-    (subst (λ (o : Option DeclaredPeer). HearsFrom (live_state m) k o octets (live_state m)) (sym at) (subst (λ (u : Bool). HearsIfUp (live_state m) k p octets u (live_state m)) (sym down) refl)) (refl, (refl, tt)) pushed is
+    (subst (λ (o : Option DeclaredPeer). HearsFrom (live_state m) k o octets (live_state m)) (sym at) (subst (λ (u : Bool). HearsIfUp (live_state m) k p octets u (live_state m)) (sym down) refl)) told
 
 -- ---- every task
 pub idle_stepped : (m m' : Moment) (idle : Answer) (before now : Journaled) → Gives (HasIdled m idle m') before now → Gives (HasStepped m Idle idle.turns m') before now

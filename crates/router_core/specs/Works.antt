@@ -19,6 +19,9 @@ use Rattle.peer_side.specs.Steps.{LosesInward, WeldsInward}
 use Rattle.bgp_attr.specs.declared.route.Route.{Route}
 use Rattle.journal_text.specs.declared.entry.Entry.{Entry}
 use Rattle.journal_text.specs.declared.value.Value.{Value}
+use Rattle.journal_text.specs.Values.{route_value, sent_entries}
+use Rattle.rib_route.specs.declared.rows.FibRow.{FibRow}
+use Rattle.rib_exit.specs.Steps.{TakesExternal}
 use Rattle.router_core.specs.declared.router.Done.{Done}
 use Rattle.router_core.specs.declared.router.Done.TheVariants.{Nothing, Taken}
 use Rattle.rib_route.specs.declared.Proto.{Proto}
@@ -35,8 +38,8 @@ use Rattle.journal_text.specs.declared.entry.Entry.TheVariants.{Inherit}
 use Rattle.std.specs.Prelude.{[], ◌∷◌}
 use Rattle.exit_side.specs.Exits.{with_queue, chain_at as exit_at}
 use Rattle.exit_side.specs.Steps.{BeginsExit}
-use Rattle.router_core.specs.Bests.{all_at, DecidesOn, Queues}
-use Rattle.router_core.specs.Moments.{Moment, plain, own_of, most_unread, with_chains, with_hops, with_tree, with_exits, rules_to, router_links, bound_of, Gives}
+use Rattle.router_core.specs.Bests.{all_at, best_entries, own_entries, DecidesOn, Queues}
+use Rattle.router_core.specs.Moments.{Moment, plain, own_of, most_unread, with_chains, with_hops, with_rib, with_tree, with_exits, rules_to, router_links, bound_of, Gives}
 use Rattle.journal_text.specs.declared.link.Link.{Link}
 use Rattle.live_state.specs.Lives.{LiveState, LiveAfter, live_fed, heard, ended, interior_lost}
 use Rattle.router_core.specs.Lives.{live_state}
@@ -233,6 +236,12 @@ pub record SettlesPeer (k : ℕ) (sent : Option (Change Route)) (m m' : Moment) 
   pub lines : entries ≡ resolved ++ (best ++ weld)
   pub after : m' ≡ with_exits (with_hops (with_chains m m'.chains) m'.registry m'.hops) m'.exits
 
+-- A change of `best`, if one came, was said, and joined the queue.
+pub record JoinsQueue (best : Option (Change Route)) (m m' : Moment) (entries : List (Entry Value)) : Type 0 where
+  pub lines : entries ≡ best_entries best
+  pub queued : Queues best m.exits m'.exits
+  pub after : m' ≡ with_exits m m'.exits
+
 -- What follows a change that came on `res.K`, or on `red` (0), if one did: the decision, and the queue.
 pub record Decides (k : ℕ) (sent : Option (Change Route)) (m m' : Moment) (entries : List (Entry Value)) : Type 0 where
   pub decided : DecidesOn k sent (all_at (own_of m) m.chains m.hops) entries
@@ -262,6 +271,12 @@ pub record EndsProtocol (proto : Proto) (m m' : Moment) (said : List Line) : Typ
 pub record Informs (change : Change Interior) (m m' : Moment) : Type 0 where
   pub informed : Invalidates change m.registry m'.registry m.hops m'.hops m.rib m'.rib
   pub after : m' ≡ record m { registry = m'.registry; hops = m'.hops; rib = m'.rib }
+
+-- What redistribution sent, if it sent something, was said, and what follows it.
+pub record SendsOwn (own : Option (Change Route)) (m m' : Moment) (entries : List (Entry Value)) : Type 0 where
+  pub best : List (Entry Value)
+  pub decides : Decides 0 own m m' best
+  pub lines : entries ≡ own_entries own ++ best
 
 -- A change of `int` went on through redistribution.
 pub record Redistributes (change : Change Interior) (m m' : Moment) (entries : List (Entry Value)) : Type 0 where
@@ -298,6 +313,14 @@ pub record BeginsReading (m m' : Moment) (entries : List (Entry Value)) : Type 0
   pub fresh : tables.get m.exits.queue reader ≡ None
   pub lines : entries ≡ Inherit ReadRib Best ∷ []
   pub after : m' ≡ record m { exits = with_queue (tables.insert m.exits.queue reader []) m.exits; reader = Some reader }
+
+-- A change that it has read comes on `read.rib`, and goes down through the RIB's exit.
+pub record Forwards (change : Change Route) (m m' : Moment) (entries : List (Entry Value)) : Type 0 where
+  pub fib : Option (Change FibRow)
+  pub below : List (Entry Value)
+  pub external : TakesExternal change (int_rows m.tree) fib m.registry m'.registry m.rib m'.rib below
+  pub lines : entries ≡ sent_entries route_value ReadRib (Some change) ++ below
+  pub after : m' ≡ with_rib m m'.registry m'.rib
 
 -- messages may be written by this speaker
 abbrev pub SendsAs : Option Speaker → Profile → Type 0

@@ -18,7 +18,7 @@ use decision::{Branches, asked, next_candidate, take_in};
 use event_text::Declared;
 use hop_side::NextHops;
 use in_chain::Chain;
-use journal_text::{Journal, Link};
+use journal_text::Journal;
 use link_change::Change;
 use peer_side::Peers;
 use redist::Redist;
@@ -126,9 +126,7 @@ impl Network {
             return Ok(());
         };
         let best = take_in(self.alloc, number as u8, change, &self.lent())?;
-        journal.push_sent(Link::Best, &best)?;
-        self.queue(best)?;
-        Ok(())
+        self.queue(best, journal)
     }
 
     /// The best route at a prefix; None where neither a peer nor this speaker has one.

@@ -12,12 +12,12 @@ ghost use Rattle.event_text.specs.declared.event.Event.TheVariants as events;
 ghost use Rattle.event_text.specs.Declarations.{peer_at, refusal};
 ghost use Rattle.exit_side.specs.Exits.{IsExits, exit_links, chain_at as exit_at};
 ghost use Rattle.router_core.specs.declared.router.Phase.TheVariants as phases;
-ghost use Rattle.router_core.specs.Bests.{Queues};
-ghost use Rattle.router_core.specs.Moments.{best_of, read_links, rules_to, with_exits};
+ghost use Rattle.rib_exit.specs.Exits.{IsExit, AgreesWith};
+ghost use Rattle.router_core.specs.Moments.{best_of, read_links, rules_to};
 ghost use Rattle.router_core.specs.Stands.{Stands, HaveReaders};
 ghost use Rattle.router_core.specs.Lookups.{IsNextPlace};
 ghost use Rattle.router_core.specs.Turns.{has_work, next_task};
-ghost use Rattle.router_core.specs.Works.{Comes, HasStepped, BeginsReading, BeginsSession, SendsAs};
+ghost use Rattle.router_core.specs.Works.{Comes, Forwards, HasStepped, JoinsQueue, BeginsReading, BeginsSession, SendsAs};
 
 use crate::best::Lent;
 use crate::network::Network;
@@ -130,18 +130,23 @@ impl Network {
         ensures { OnOk result (HasStepped self.old (events.FilterOut number rules) 0 self.new []) }
     {
         self.exits.edit(number, rules.copy(self.alloc)?);
-        self.outgoing.set(number, rules)?;
-        Ok(())
+        self.outgoing.set(number, rules)
     }
 
-    /// What follows a change of `best`, if one came: it joins the queue.
-    pub(crate) fn queue(&mut self, sent: Option<Change<Route>>) -> Result<(), Memory>
+    /// What follows a change of `best`, if one came: its entry is pushed, and it joins the queue.
+    pub(crate) fn queue(
+        &mut self,
+        sent: Option<Change<Route>>,
+        journal: &mut Journal,
+    ) -> Result<(), Memory>
         requires { IsExits self.old.exits }
-        ensures queues { OnOk result (Queues sent self.old.exits self.new.exits) }
-        ensures after { OnOk result (self.new ≡ with_exits self.old self.new.exits) }
+        ensures { OnOk result (Adds (JoinsQueue sent self.old self.new) journal.old journal.new) }
     {
         match sent {
-            Some(change) => self.exits.put(change),
+            Some(change) => {
+                journal.push_change(Link::Best, &change)?;
+                self.exits.put(change)
+            }
             None => Ok(()),
         }
     }
@@ -163,7 +168,7 @@ impl Network {
             all: &lent,
         };
         let turn = self.exits.turn(number, &best, journal)?;
-        if let Turn::Nothing = turn {
+        if rested(turn) {
             return Ok(Done::Nothing);
         }
         journal.flush()?;
@@ -183,11 +188,28 @@ impl Network {
         let Some(change) = self.exits.take(reader)? else {
             return Ok(Done::Nothing);
         };
-        journal.push_change(Link::ReadRib, &change)?;
-        self.rib
-            .take_external(&change, &self.tree, &mut self.registry, journal)?;
+        let forwarded = self.forward(&change, journal);
+        drop(change);
+        forwarded?;
         journal.flush()?;
         Ok(Done::Taken)
+    }
+
+    /// A change that the forwarding side has read comes on `read.rib`, and goes down through the RIB's exit to `fib`.
+    fn forward(&mut self, change: &Change<Route>, journal: &mut Journal) -> Result<(), Memory>
+        requires sound { IsExit self.old.rib }
+        requires agree { AgreesWith self.old.rib self.old.registry }
+        ensures { OnOk result (Adds (Forwards change.now self.old self.new) journal.old journal.new) }
+    {
+        journal.push_change(Link::ReadRib, change)?;
+        // By cases: rattle's borrow checker can't plan a `?` on a value that holds a forwarding row.
+        match self
+            .rib
+            .take_external(change, &self.tree, &mut self.registry, journal)
+        {
+            Ok(_) => Ok(()),
+            Err(error) => Err(error),
+        }
     }
 
     /// One turn of the next hops of external routes.

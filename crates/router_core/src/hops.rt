@@ -39,8 +39,7 @@ impl Network {
     {
         let passed = self.resolve(number, sent, journal)?;
         self.decide(number, passed, journal)?;
-        self.chains.weld(number, journal)?;
-        Ok(())
+        self.chains.weld(number, journal)
     }
 
     /// What follows a change on `filt.K`, if one came out. Answers the change on `res.K`, if there is one.
@@ -59,10 +58,8 @@ impl Network {
         let Some(change) = sent else {
             return Ok(None);
         };
-        let passed = self
-            .hops
-            .take_in(number, change, &mut self.registry, journal)?;
-        Ok(passed)
+        self.hops
+            .take_in(number, change, &mut self.registry, journal)
     }
 
     /// One turn of a task of a peer's chain, and the text of its lines.

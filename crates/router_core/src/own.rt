@@ -9,12 +9,13 @@ ghost use Rattle.exit_side.specs.Exits.{IsExits};
 ghost use Rattle.router_core.specs.declared.router.Phase.TheVariants as phases;
 ghost use Rattle.router_core.specs.Stands.{Stands};
 ghost use Rattle.router_core.specs.Turns.{next_task};
-ghost use Rattle.router_core.specs.Works.{Comes, HasStepped, Redistributes};
+ghost use Rattle.router_core.specs.Works.{Comes, HasStepped, Redistributes, SendsOwn};
 
 use crate::hops::sent_of;
 use crate::network::Network;
 use crate::router::Done;
 use addr4::Memory;
+use bgp_attr::Route;
 use journal_text::{Journal, Link, Task};
 use link_change::{Change, Turn};
 use rib_route::{Interior, Proto};
@@ -43,6 +44,14 @@ impl Network {
             unreachable!()
         };
         let sent = self.redist.take_in(change.copy()?, &me)?;
+        self.send_own(sent, journal)
+    }
+
+    /// What redistribution sends, if it sends something: its entry is pushed, and the best route is decided anew.
+    fn send_own(&mut self, sent: Option<Change<Route>>, journal: &mut Journal) -> Result<(), Memory>
+        requires { IsExits self.old.exits }
+        ensures { OnOk result (Adds (SendsOwn sent self.old self.new) journal.old journal.new) }
+    {
         journal.push_sent(Link::Red, &sent)?;
         self.decide(0, sent, journal)
     }
@@ -59,9 +68,7 @@ impl Network {
         if let Turn::Nothing = turn {
             return Ok(Done::Nothing);
         }
-        let sent = sent_of(turn);
-        journal.push_sent(Link::Red, &sent)?;
-        self.decide(0, sent, journal)?;
+        self.send_own(sent_of(turn), journal)?;
         journal.flush()?;
         Ok(Done::Taken)
     }

@@ -47,8 +47,7 @@ impl Network {
         self.declared.set_speaker(words);
         begin_rib(journal)?;
         self.begin_reading(journal)?;
-        self.rib.begin(journal)?;
-        Ok(())
+        self.rib.begin(journal)
     }
 
     /// `peer` was declared: its chain and its resolver begin, without routes and rules.
@@ -85,8 +84,7 @@ impl Network {
             return journal.push_line(Line::Ignored);
         }
         self.declared.begin_session(number);
-        self.begin_exit(number, journal)?;
-        Ok(())
+        self.begin_exit(number, journal)
     }
 
     /// A peer's incoming filter has new rules. Takes no memory.

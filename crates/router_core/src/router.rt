@@ -31,7 +31,7 @@ use std::alloc::Global;
 use std::marker::Model;
 
 /// What a turn of a task came to.
-#[derive(Clone, Copy, Debug, PartialEq, Eq)]
+#[derive(Clone, Copy, PartialEq)]
 pub enum Done {
     /// The task has no work.
     Nothing,
@@ -39,14 +39,14 @@ pub enum Done {
 }
 
 /// What an idle announced, and what it took.
-#[derive(Clone, Copy, Debug, PartialEq, Eq)]
+#[derive(Clone, Copy)]
 pub struct Idle {
     pub bound: u128,
     pub turns: u128,
 }
 
 /// The phases of an idle, in their order.
-#[derive(Clone, Copy, Debug, PartialEq, Eq)]
+#[derive(Clone, Copy)]
 pub enum Phase {
     /// The deletion stages of the interior protocols' losses. In no other phase does a next hop become stale.
     Rdel,
@@ -191,6 +191,7 @@ impl Core {
         ensures stays { self.old.failed ≡ true → IsErr result }
     {
         if self.failed {
+            drop(event);
             return Err(Memory);
         }
         links_at_rest_are_exact();

@@ -23,6 +23,7 @@ ghost use Rattle.router_core.specs.Works.{Comes, Informs, Follows, Settles, Turn
 
 use crate::network::Network;
 use crate::router::Done;
+use crate::steps::ignored;
 use addr4::{Addr, Memory, Prefix};
 use journal_text::{Journal, Line, Task};
 use link_change::{Change, Turn};
@@ -60,9 +61,7 @@ impl Network {
         ensures { IfOk result (λ turns. Gives (HasStepped self.old (events.RouteDel proto p) turns self.new) journal.old journal.new) }
     {
         if !self.tree.has(proto, p) {
-            journal.push_line(Line::Ignored)?;
-            journal.flush()?;
-            return Ok(0);
+            return ignored(journal);
         }
         self.route(proto, p, None, journal)?;
         journal.flush()?;
@@ -109,10 +108,7 @@ impl Network {
                 self.drain_task(task, journal)?;
                 Ok(())
             }
-            None => {
-                journal.flush()?;
-                Ok(())
-            }
+            None => journal.flush(),
         }
     }
 
@@ -144,13 +140,11 @@ impl Network {
         match new {
             None => {
                 let sent = self.tree.feed(proto, p, None, journal)?;
-                self.settle(proto, sent, journal)?;
-                Ok(())
+                self.settle(proto, sent, journal)
             }
             Some(row) => {
                 let sent = self.tree.feed(proto, p, Some(row), journal)?;
-                self.settle(proto, sent, journal)?;
-                Ok(())
+                self.settle(proto, sent, journal)
             }
         }
     }

@@ -48,8 +48,7 @@ impl Network {
         ensures { OnOk result (Pushes (HaveFed number ((prefix, row) ∷ []) self.old self.new) journal.old journal.new) }
     {
         let sent = self.chains.feed(number, prefix, row, journal)?;
-        self.settle_peer(number, sent, journal)?;
-        Ok(())
+        self.settle_peer(number, sent, journal)
     }
 
     /// Session `session` of a peer is lost. Where 16 deletion stages stand and it has routes, the oldest runs to its end
@@ -68,8 +67,7 @@ impl Network {
         self.exits.end(number, journal)?;
         self.make_room(number, journal)?;
         self.lose_with_room(number, session, journal)?;
-        journal.flush()?;
-        Ok(())
+        journal.flush()
     }
 
     /// Makes room for one more deletion stage of a peer.
@@ -83,10 +81,7 @@ impl Network {
                 self.drain_task(task, journal)?;
                 Ok(())
             }
-            None => {
-                journal.flush()?;
-                Ok(())
-            }
+            None => journal.flush(),
         }
     }
 

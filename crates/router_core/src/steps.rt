@@ -1,7 +1,9 @@
 //! What each event does.
 
-ghost use Rattle.std.specs.Prelude.{◌≡◌, ◌≤◌, ◌<◌, ◌^◌, length, OnOk, IfOk, IsSome, Some, None, true};
+ghost use Rattle.std.specs.Prelude.{◌≡◌, ◌≤◌, ◌<◌, ◌^◌, [], ◌∷◌, length, OnOk, IfOk, IsSome, Some, None, true};
 ghost use Rattle.std.specs.List.{AllByRecursion};
+ghost use Rattle.journal_text.specs.declared.line.Line.TheVariants as lines;
+ghost use Rattle.journal_text.specs.Journals.{flushed, with_lines};
 ghost use Rattle.event_text.specs.declared.event.Event.TheVariants as events;
 ghost use Rattle.event_text.specs.Declarations.{peer_at, refusal};
 ghost use Rattle.bgp_wire.specs.Spelling.{notification_octets};
@@ -183,9 +185,7 @@ impl Network {
             unreachable!()
         };
         if !peer.up {
-            journal.push_line(Line::Ignored)?;
-            journal.flush()?;
-            return Ok(0);
+            return ignored(journal);
         }
         self.lose(number, peer.session, journal)?;
         Ok(0)
@@ -204,15 +204,26 @@ impl Network {
         requires exits { AllHaveExits self.old }
         ensures { IfOk result (λ turns. Gives (HasStepped self.old (events.Bgp number octets) turns self.new) journal.old journal.new) }
     {
+        let turns = self.receive(number, octets.as_slice(), journal);
+        drop(octets);
+        turns
+    }
+
+    /// The same of octets that are lent.
+    fn receive(&mut self, number: u32, octets: &[u8], journal: &mut Journal) -> Result<u128, Memory>
+        requires admitted { refusal self.old.declared (events.Bgp number octets.now) ≡ None }
+        requires stands { Stands self.old }
+        requires formed { IsWellFormed (events.Bgp number octets.now) }
+        requires exits { AllHaveExits self.old }
+        ensures { IfOk result (λ turns. Gives (HasStepped self.old (events.Bgp number octets.now) turns self.new) journal.old journal.new) }
+    {
         let Some(peer) = self.declared.peer(number) else {
             unreachable!()
         };
         if !peer.up {
-            journal.push_line(Line::Ignored)?;
-            journal.flush()?;
-            return Ok(0);
+            return ignored(journal);
         }
-        let message = said(self.alloc, &peer, octets.as_slice())?;
+        let message = said(self.alloc, &peer, octets)?;
         self.hear(number, peer, message, journal)?;
         Ok(0)
     }
@@ -276,13 +287,24 @@ impl Network {
     }
 }
 
+/// The line of an event that changes nothing, and its text. No turns are taken.
+pub(crate) fn ignored(journal: &mut Journal) -> Result<u128, Memory>
+    ensures { IfOk result (λ turns. (turns ≡ 0) × (journal.new ≡ flushed (with_lines journal.old (lines.Ignored ∷ [])))) }
+{
+    journal.push_line(Line::Ignored)?;
+    journal.flush()?;
+    Ok(0)
+}
+
 /// The octets of the NOTIFICATION that answers a fault (RFC 4271, section 4.5).
 fn spelled(alloc: Global, notice: Notice) -> Result<Octets, Memory>
     requires { length notice.octets ≤ 4075 }
     ensures spelled { IfOk result (λ octets. octets ≡ notification_octets notice.code notice.subcode notice.octets) }
     ensures message { IfOk result AreMessageOctets }
 {
-    let octets = write_notification(alloc, notice.code, notice.subcode, notice.octets.as_slice())?;
+    let written = write_notification(alloc, notice.code, notice.subcode, notice.octets.as_slice());
+    drop(notice);
+    let octets = written?;
     each_known(octets.as_slice());
     Ok(Octets::from_vec(octets))
 }

@@ -27,9 +27,25 @@ pub(crate) fn changes(
         attrs,
     } = update;
     let attrs = shared(alloc, attrs)?;
+    let all = changes_with(alloc, withdrawn.as_slice(), announced.as_slice(), &attrs);
+    drop(attrs);
+    drop(announced);
+    drop(withdrawn);
+    all
+}
+
+/// The withdrawals, and then the announcements.
+fn changes_with(
+    alloc: Global,
+    withdrawn: &[Prefix],
+    announced: &[Prefix],
+    attrs: &Option<SharedAttrs>,
+) -> Result<Vec<(Prefix, Option<SharedAttrs>)>, Memory>
+    ensures { IfOk result (λ changes. changes.items ≡ map withdrawn_from (without announced.now withdrawn.now) ++ map (announced_with attrs.now) (filter is_host_prefix announced.now)) }
+{
     let mut all = Vec::new(alloc);
-    push_withdrawn(alloc, &mut all, withdrawn.as_slice(), announced.as_slice())?;
-    push_announced(&mut all, announced.as_slice(), &attrs)?;
+    push_withdrawn(alloc, &mut all, withdrawn, announced)?;
+    push_announced(&mut all, announced, attrs)?;
     Ok(all)
 }
 

@@ -19,8 +19,10 @@ begin_exit-requires-clause-absent c = begins_absent c.args.number c.args.self.no
 
 pub returns : goal.returns
 returns c =
-    session_begun c.args.number c.args.self.now _ c.begin_exit.new.self c.args.journal.now c.begin_exit.new.journal c.requires.stands c.requires.admitted (sym c.is_up.ensures ∙ c.if-is_up.false)
-    (begun_is c.args.self.now _ c.args.number c.begin_session.new.self c.self.view_is c.begin_session.ensures.value) c.in_ok-begin_exit.ensures
+    on_ok_weaker c.begin_exit.result
+    (session_begun c.args.number c.args.self.now _ c.begin_exit.new.self c.args.journal.now c.begin_exit.new.journal c.requires.stands c.requires.admitted (sym c.is_up.ensures ∙ c.if-is_up.false)
+    (begun_is c.args.self.now _ c.args.number c.begin_session.new.self c.self.view_is c.begin_session.ensures.value))
+    c.begin_exit.ensures
 
 pub returns-then-is_up : goal.returns-then-is_up
 returns-then-is_up c =

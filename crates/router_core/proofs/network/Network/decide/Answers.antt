@@ -1,3 +1,4 @@
+use Rattle.std.proofs.lemmas.Result.{on_ok_weaker}
 use Rattle.router_core.proofs.BestLemmas.{decides_none, decides_some}
 use Rattle.router_core.proofs.network.Network.decide.Goals as goal
 
@@ -7,5 +8,6 @@ returns-in_default c = decides_none c.args.number c.args.sent c.args.self.now c.
 pub returns : goal.returns
 returns c =
     let lent = c.lent.ensures in
-    decides_some c.args.number c.args.sent c.in-Some.change _ c.args.self.now c.queue.new.self _ _ _ _ _ c.args.journal.now c.push_sent.new.self c.requires.small c.in-Some.is lent.declared lent.tree lent.redist lent.chains lent.hops
-    c.in_ok-best.ensures c.in_ok-push_sent.ensures c.in_ok-queue.ensures.queues c.in_ok-queue.ensures.after
+    on_ok_weaker c.queue.result
+    (decides_some c.args.number c.args.sent c.in-Some.change _ c.args.self.now c.queue.new.self _ _ _ _ _ c.args.journal.now c.queue.new.journal c.requires.small c.in-Some.is lent.declared lent.tree lent.redist lent.chains lent.hops c.in_ok-best.ensures)
+    c.queue.ensures

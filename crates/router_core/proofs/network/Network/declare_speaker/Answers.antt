@@ -1,4 +1,5 @@
 use Rattle.std.proofs.Common.{ap, ◌∙◌}
+use Rattle.std.proofs.lemmas.Result.{on_ok_weaker}
 use Rattle.router_core.specs.Moments.{Moment}
 use Rattle.router_core.proofs.LocalLemmas.{local_declared, nothing_external, speaker_is}
 use Rattle.router_core.proofs.network.Network.declare_speaker.Goals as goal
@@ -11,5 +12,7 @@ begin-requires c =
 
 pub returns : goal.returns
 returns c =
-    local_declared c.a_stranger_reads.ensures.joins c.args.self.now _ c.begin_reading.new.self c.args.words c.args.journal.now c.begin_rib.new.journal c.begin_reading.new.journal c.begin.new.journal c.requires.stands c.requires.admitted c.requires.formed
-    (speaker_is c.args.self.now _ c.args.words c.set_speaker.new.self c.self.view_is c.set_speaker.ensures.value) c.in_ok-begin_rib.ensures c.in_ok-begin_reading.ensures c.in_ok-begin.ensures.lines
+    on_ok_weaker c.begin.result
+    (local_declared c.a_stranger_reads.ensures.joins c.args.self.now _ c.begin_reading.new.self c.args.words c.args.journal.now c.begin_rib.new.journal c.begin_reading.new.journal c.begin.new.journal c.requires.stands c.requires.admitted c.requires.formed
+    (speaker_is c.args.self.now _ c.args.words c.set_speaker.new.self c.self.view_is c.set_speaker.ensures.value) c.in_ok-begin_rib.ensures c.in_ok-begin_reading.ensures)
+    c.begin.ensures.lines

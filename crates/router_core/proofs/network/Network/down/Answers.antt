@@ -19,5 +19,4 @@ returns c =
 pub returns-then-not-peer : goal.returns-then-not-peer
 returns-then-not-peer c =
     let there : peer_at c.args.number c.args.self.now.declared.peers ≡ Some c.in-Some.peer = subst (λ (m : Moment). peer_at c.args.number m.declared.peers ≡ Some c.in-Some.peer) c.self.view_is (sym c.in-Some.ensures) in
-    down_ignored c.args.number c.in-Some.peer c.args.self.now c.args.journal.now c.push_line.new.self c.flush.new.self c.requires.stands there (not-true c.in-Some.peer.up c.if-not-peer.true)
-    c.in_ok-push_line.ensures c.in_ok-flush.ensures.ok
+    down_ignored c.ignored.result c.args.number c.in-Some.peer c.args.self.now c.args.journal.now c.ignored.new.journal c.requires.stands there (not-true c.in-Some.peer.up c.if-not-peer.true) c.ignored.ensures

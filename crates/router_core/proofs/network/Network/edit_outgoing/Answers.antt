@@ -1,3 +1,4 @@
+use Rattle.std.proofs.lemmas.Result.{on_ok_weaker}
 use Rattle.router_core.specs.contracts.network.Network.{the_view}
 use Rattle.router_core.proofs.HopTurns.{exits_sound}
 use Rattle.router_core.proofs.SessionLemmas.{outgoing_edited}
@@ -8,4 +9,6 @@ edit-requires c = record { sound = exits_sound c.args.self.now _ c.self.view_is 
 
 pub returns : goal.returns
 returns c =
-    outgoing_edited c.args.self.now (the_view c.self.inside) c.args.number c.args.rules c.in_ok-copy.field-0 c.set.new.self c.edit.new.self c.self.view_is c.requires.stands c.in_ok-copy.ensures c.in_ok-set.ensures c.edit.ensures
+    on_ok_weaker c.set.result
+    (λ set. outgoing_edited c.args.self.now (the_view c.self.inside) c.args.number c.args.rules c.in_ok-copy.field-0 c.set.new.self c.edit.new.self c.self.view_is c.requires.stands c.in_ok-copy.ensures set c.edit.ensures)
+    c.set.ensures

@@ -1,3 +1,4 @@
+use Rattle.std.proofs.lemmas.Result.{on_ok_weaker}
 use Rattle.router_core.proofs.StandLemmas.{chain_is_there, peers_sound}
 use Rattle.router_core.proofs.HopTurns.{hops_sound, hops_agree, exits_sound}
 use Rattle.router_core.proofs.FeedLemmas.{one_fed, fed_there, fed_resolves, fed_small}
@@ -32,5 +33,6 @@ settle_peer-requires-clause-exits c = exits_sound c.args.self.now _ c.self.view_
 
 pub returns : goal.returns
 returns c =
-    one_fed c.args.number c.args.prefix c.args.row _ c.args.self.now _ c.feed.new.self c.settle_peer.new.self c.args.journal.now c.feed.new.journal c.settle_peer.new.journal c.self.view_is c.requires.stands c.requires.up c.requires.heard c.in_ok-sent.ensures
-    c.in_ok-settle_peer.ensures
+    on_ok_weaker c.settle_peer.result
+    (one_fed c.args.number c.args.prefix c.args.row _ c.args.self.now _ c.feed.new.self c.settle_peer.new.self c.args.journal.now c.feed.new.journal c.settle_peer.new.journal c.self.view_is c.requires.stands c.requires.up c.requires.heard c.in_ok-sent.ensures)
+    c.settle_peer.ensures

@@ -1,3 +1,4 @@
+use Rattle.std.proofs.lemmas.Result.{on_ok_weaker}
 use Rattle.router_core.specs.contracts.network.Network.{the_view}
 use Rattle.router_core.proofs.HopTurns.{exits_sound}
 use Rattle.router_core.proofs.StandLemmas.{chain_is_there}
@@ -19,5 +20,7 @@ lose_with_room-requires-clause-silent c =
 
 pub returns : goal.returns
 returns c =
-    lost_all c.args.number c.args.session c.args.self.now (the_view c.self.inside) c.make_room.new.self c.lose_with_room.new.self c.end.new.self c.args.journal.now c.end.new.journal c.make_room.new.journal c.lose_with_room.new.journal c.flush.new.self
-    c.self.view_is c.requires.stands c.in_ok-end.ensures c.in_ok-make_room.ensures c.in_ok-lose_with_room.ensures c.in_ok-flush.ensures.ok
+    on_ok_weaker c.flush.result
+    (lost_all c.args.number c.args.session c.args.self.now (the_view c.self.inside) c.make_room.new.self c.lose_with_room.new.self c.end.new.self c.args.journal.now c.end.new.journal c.make_room.new.journal c.lose_with_room.new.journal c.flush.new.self
+    c.self.view_is c.requires.stands c.in_ok-end.ensures c.in_ok-make_room.ensures c.in_ok-lose_with_room.ensures)
+    c.flush.ensures.ok

@@ -1,4 +1,5 @@
 use Rattle.std.proofs.Common.{◌∙◌, ap}
+use Rattle.std.proofs.lemmas.Result.{on_ok_weaker}
 use Rattle.rib_tree.specs.Steps.{tree_overdue}
 use Rattle.router_core.specs.Moments.{Moment}
 use Rattle.router_core.proofs.RouteRoom.{protocol_room_drained, protocol_room_there}
@@ -9,7 +10,8 @@ returns-in_ok-drain_task-in-Some c =
     protocol_room_drained c.args.proto c.args.self.now c.drain_task.new.self c.in-Some.task c.in_ok-drain_task-in-Some.field-0 c.args.journal.now c.drain_task.new.journal c.requires.stands
     (c.in-Some.ensures ∙ ap (λ (m : Moment). tree_overdue c.args.proto m.tree) c.self.view_is) c.in_ok-drain_task-in-Some.ensures
 
-pub returns-in_ok-flush-in-None : goal.returns-in_ok-flush-in-None
-returns-in_ok-flush-in-None c =
-    protocol_room_there c.args.proto c.args.self.now c.args.journal.now c.flush.new.self c.requires.stands (c.in-None.ensures ∙ ap (λ (m : Moment). tree_overdue c.args.proto m.tree) c.self.view_is)
-    c.in_ok-flush-in-None.ensures.ok
+pub returns-in-None : goal.returns-in-None
+returns-in-None c =
+    on_ok_weaker c.flush.result
+    (protocol_room_there c.args.proto c.args.self.now c.args.journal.now c.flush.new.self c.requires.stands (c.in-None.ensures ∙ ap (λ (m : Moment). tree_overdue c.args.proto m.tree) c.self.view_is))
+    c.flush.ensures.ok

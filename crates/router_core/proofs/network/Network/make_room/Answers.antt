@@ -1,3 +1,4 @@
+use Rattle.std.proofs.lemmas.Result.{on_ok_weaker}
 use Rattle.router_core.proofs.RoomLemmas.{room_drained, room_there}
 use Rattle.router_core.proofs.network.Network.make_room.Goals as goal
 
@@ -6,6 +7,6 @@ returns-in_ok-drain_task-in-Some c =
     room_drained c.args.number c.args.self.now _ c.drain_task.new.self c.in-Some.task c.in_ok-drain_task-in-Some.field-0 c.args.journal.now c.drain_task.new.journal c.self.view_is
     c.requires.stands c.in-Some.ensures c.in_ok-drain_task-in-Some.ensures
 
-pub returns-in_ok-flush-in-None : goal.returns-in_ok-flush-in-None
-returns-in_ok-flush-in-None c =
-    room_there c.args.number c.args.self.now _ c.args.journal.now c.flush.new.self c.self.view_is c.requires.stands c.requires.there c.in-None.ensures c.in_ok-flush-in-None.ensures.ok
+pub returns-in-None : goal.returns-in-None
+returns-in-None c =
+    on_ok_weaker c.flush.result (room_there c.args.number c.args.self.now _ c.args.journal.now c.flush.new.self c.self.view_is c.requires.stands c.requires.there c.in-None.ensures) c.flush.ensures.ok

@@ -1,43 +1,18 @@
-use Rattle.router_core.proofs.StepLemmas.{bgp_ignored, heard_up}
-use Rattle.std.proofs.Common.{◌≡◌, ℕ, Bool, not, List, Some, None, subst, sym}
-use Rattle.bgp_wire.specs.Grammar.{Answers}
-use Rattle.bgp_wire.specs.Readable.{AreOctets}
-use Rattle.bgp_wire.specs.declared.message.Message.{Message}
-use Rattle.bgp_wire.specs.declared.message.Message.TheVariants as messages
-use Rattle.router_core.specs.Works.{IsHeardMessage}
-use Rattle.router_core.proofs.HeardRows.{message_heard}
-use Rattle.event_text.specs.Declarations.{peer_at}
-use Rattle.router_core.specs.Moments.{Moment}
-use Rattle.live_state.specs.Messages.{plain, Says}
-use Rattle.live_state.proofs.AdmittedLemmas.{bgp_there}
+use Rattle.std.proofs.Common.{List, ℕ, None, ◌≡◌, sym, subst}
+use Rattle.std.specs.Result.{IfOk}
+use Rattle.event_text.specs.declared.event.Event.TheVariants as events
+use Rattle.event_text.specs.Declarations.{refusal}
+use Rattle.event_text.specs.WellFormed.{IsWellFormed}
+use Rattle.router_core.specs.Moments.{Gives}
+use Rattle.router_core.specs.Works.{HasStepped}
 use Rattle.router_core.proofs.network.Network.message.Goals as goal
 
-pub unreachable-requires : goal.unreachable-requires
-unreachable-requires c =
-    bgp_there c.args.self.now.declared c.args.number c.args.octets c.requires.admitted
-    (subst (λ (m : Moment). peer_at c.args.number m.declared.peers ≡ None) c.self.view_is (sym c.in_default.ensures))
+pub receive-turns-requires-clause-admitted : goal.receive-turns-requires-clause-admitted
+receive-turns-requires-clause-admitted c = subst (λ (octets : List ℕ). refusal c.args.self.now.declared (events.Bgp c.args.number octets) ≡ None) (sym c.as_slice.ensures) c.requires.admitted
 
--- what octets say may be heard
-said_heard : (external : Bool) (octets : List ℕ) (message : Message) → AreOctets octets → Answers plain external octets message → IsHeardMessage message
-said_heard external octets (messages.Update u) are says = message_heard external octets (messages.Update u) are says
-said_heard external octets messages.Keepalive are says = tt
-said_heard external octets messages.Skip are says = tt
-said_heard external octets messages.Notification are says = tt
-said_heard external octets (messages.Notify n) are says = tt
-
-pub hear-requires-clause-heard : goal.hear-requires-clause-heard
-hear-requires-clause-heard c =
-    let says : Says c.in-Some.peer c.args.octets c.in_ok-message.message = subst (λ (octets : List ℕ). Says c.in-Some.peer octets c.in_ok-message.message) c.as_slice.ensures c.in_ok-message.ensures.says in
-    said_heard (not c.in-Some.peer.words.internal) c.args.octets c.in_ok-message.message c.requires.formed.1.bytes says
+pub receive-turns-requires-clause-formed : goal.receive-turns-requires-clause-formed
+receive-turns-requires-clause-formed c = subst (λ (octets : List ℕ). IsWellFormed (events.Bgp c.args.number octets)) (sym c.as_slice.ensures) c.requires.formed
 
 pub returns : goal.returns
 returns c =
-    let there : peer_at c.args.number c.args.self.now.declared.peers ≡ Some c.in-Some.peer = subst (λ (m : Moment). peer_at c.args.number m.declared.peers ≡ Some c.in-Some.peer) c.self.view_is (sym c.in-Some.ensures) in
-    let says : Says c.in-Some.peer c.args.octets c.in_ok-message.message = subst (λ (octets : List ℕ). Says c.in-Some.peer octets c.in_ok-message.message) c.as_slice.ensures c.in_ok-message.ensures.says in
-    heard_up c.args.number c.in-Some.peer c.args.self.now c.hear.new.self c.args.octets c.in_ok-message.message c.args.journal.now c.hear.new.journal there c.if-not-peer.false says c.in_ok-hear.ensures
-
-pub returns-then-not-peer : goal.returns-then-not-peer
-returns-then-not-peer c =
-    let there : peer_at c.args.number c.args.self.now.declared.peers ≡ Some c.in-Some.peer = subst (λ (m : Moment). peer_at c.args.number m.declared.peers ≡ Some c.in-Some.peer) c.self.view_is (sym c.in-Some.ensures) in
-    bgp_ignored c.args.number c.args.octets c.in-Some.peer c.args.self.now c.args.journal.now c.push_line.new.self c.flush.new.self c.requires.stands there c.if-not-peer.true
-    c.in_ok-push_line.ensures c.in_ok-flush.ensures.ok
+    subst (λ (octets : List ℕ). IfOk c.receive-turns.result (λ turns. Gives (HasStepped c.args.self.now (events.Bgp c.args.number octets) turns c.receive-turns.new.self) c.args.journal.now c.receive-turns.new.journal)) c.as_slice.ensures c.receive-turns.ensures

@@ -1,4 +1,5 @@
 use Rattle.std.proofs.Common.{sym, subst}
+use Rattle.std.proofs.lemmas.Result.{IfOk-weaker}
 use Rattle.hop_side.specs.Resolvers.{AllAgree}
 use Rattle.router_core.specs.Moments.{Moment}
 use Rattle.router_core.proofs.HopLemmas.{resolved_out, resolved_in}
@@ -12,4 +13,6 @@ take_in-requires-clause-agree c = subst (λ (m : Moment). AllAgree m.hops m.regi
 
 pub returns-clause-resolves : goal.returns-clause-resolves
 returns-clause-resolves c =
-    resolved_in c.args.number c.args.sent c.in-Some.change _ c.args.self.now _ c.take_in.new.register c.take_in.new.self c.args.journal.now c.take_in.new.journal c.self.view_is c.in-Some.is c.in_ok-passed.ensures.taken
+    IfOk-weaker c.take_in.result _ _
+    (λ passed. resolved_in c.args.number c.args.sent c.in-Some.change passed c.args.self.now _ c.take_in.new.register c.take_in.new.self c.args.journal.now c.take_in.new.journal c.self.view_is c.in-Some.is)
+    c.take_in.ensures.taken

@@ -1,3 +1,4 @@
+use Rattle.std.proofs.lemmas.Result.{on_ok_weaker}
 use Rattle.router_core.specs.Stands.{InteriorTree, Stands}
 use Rattle.rib_tree.specs.Trees.{IsTree, IsFull, branch_of}
 use Rattle.std.proofs.Common.{◌≡◌, Option, IsSome, subst, sym}
@@ -51,24 +52,26 @@ settle-requires-in-Some-clause-exits c = exits_sound c.args.self.now _ c.self-in
 pub settle-requires-in-Some-clause-since : goal.settle-requires-in-Some-clause-since
 settle-requires-in-Some-clause-since c = subst (λ (m : Moment). IsSome m.declared.speaker) (sym c.self-in-Some.view_is) c.requires.since
 
-pub returns-in_ok-settle-in-None : goal.returns-in_ok-settle-in-None
-returns-in_ok-settle-in-None c =
+pub returns-in_ok-sent-in-None : goal.returns-in_ok-sent-in-None
+returns-in_ok-sent-in-None c =
     let old : Moment = the_view c.self.inside in
     let k = c.args.proto in
     let p = c.args.p in
-    subst (λ (m : Moment). Pushes (HasRouted m (fed_tree m.tree k p c.args.new) k p (way_of_route k m.tree) (interior_fed (live_state m) k (live_after (branch_of k m.tree).tables.live p c.args.new)) c.settle.new.self) c.args.journal.now c.settle.new.journal)
+    on_ok_weaker c.settle.result (λ settled. subst (λ (m : Moment). Pushes (HasRouted m (fed_tree m.tree k p c.args.new) k p (way_of_route k m.tree) (interior_fed (live_state m) k (live_after (branch_of k m.tree).tables.live p c.args.new)) c.settle.new.self) c.args.journal.now c.settle.new.journal)
     c.self.view_is
     (routed old k p c.args.new c.in_ok-sent-in-None.sent c.feed.new.self c.settle.new.self c.args.journal.now c.feed.new.journal c.settle.new.journal (subst Stands (sym c.self.view_is) c.requires.stands)
     (subst (λ (m : Moment). IsSome m.declared.speaker) (sym c.self.view_is) c.requires.since) (subst (λ (row : Option Interior). c.feed.new.self ≡ fed_tree c.self.inside.tree k p row) (sym c.in-None.is) c.in_ok-sent-in-None.ensures.after)
-    c.in_ok-sent-in-None.ensures.sent c.in_ok-sent-in-None.ensures.lines c.in_ok-settle-in-None.ensures)
+    c.in_ok-sent-in-None.ensures.sent c.in_ok-sent-in-None.ensures.lines settled))
+    c.settle.ensures
 
-pub returns-in_ok-settle-in-Some : goal.returns-in_ok-settle-in-Some
-returns-in_ok-settle-in-Some c =
+pub returns-in_ok-sent-in-Some : goal.returns-in_ok-sent-in-Some
+returns-in_ok-sent-in-Some c =
     let old : Moment = the_view c.self-in-Some.inside in
     let k = c.args.proto in
     let p = c.args.p in
-    subst (λ (m : Moment). Pushes (HasRouted m (fed_tree m.tree k p c.args.new) k p (way_of_route k m.tree) (interior_fed (live_state m) k (live_after (branch_of k m.tree).tables.live p c.args.new)) c.settle-in-Some.new.self) c.args.journal.now c.settle-in-Some.new.journal)
+    on_ok_weaker c.settle-in-Some.result (λ settled. subst (λ (m : Moment). Pushes (HasRouted m (fed_tree m.tree k p c.args.new) k p (way_of_route k m.tree) (interior_fed (live_state m) k (live_after (branch_of k m.tree).tables.live p c.args.new)) c.settle-in-Some.new.self) c.args.journal.now c.settle-in-Some.new.journal)
     c.self-in-Some.view_is
     (routed old k p c.args.new c.in_ok-sent-in-Some.sent c.feed-in-Some.new.self c.settle-in-Some.new.self c.args.journal.now c.feed-in-Some.new.journal c.settle-in-Some.new.journal (subst Stands (sym c.self-in-Some.view_is) c.requires.stands)
     (subst (λ (m : Moment). IsSome m.declared.speaker) (sym c.self-in-Some.view_is) c.requires.since) (subst (λ (row : Option Interior). c.feed-in-Some.new.self ≡ fed_tree c.self-in-Some.inside.tree k p row) (sym c.in-Some.is) c.in_ok-sent-in-Some.ensures.after)
-    c.in_ok-sent-in-Some.ensures.sent c.in_ok-sent-in-Some.ensures.lines c.in_ok-settle-in-Some.ensures)
+    c.in_ok-sent-in-Some.ensures.sent c.in_ok-sent-in-Some.ensures.lines settled))
+    c.settle-in-Some.ensures

@@ -1,4 +1,4 @@
-use Rattle.std.proofs.Common.{refl, sym, arith, ◌∙◌}
+use Rattle.std.proofs.Common.{refl, sym, ◌∙◌}
 use Rattle.router_core.proofs.HopTurns.{exits_sound}
 use Rattle.router_core.proofs.OwnTurns.{none_own, own_took}
 use Rattle.router_core.proofs.network.Network.turn_own.Goals as goal
@@ -6,10 +6,10 @@ use Rattle.router_core.proofs.network.Network.turn_own.Goals as goal
 pub returns-in_default : goal.returns-in_default
 returns-in_default c = none_own c.args.self.now _ c.args.journal.now c.self.view_is c.requires (sym c.speaker.ensures ∙ c.in_default.is)
 
-pub decide-requires : goal.decide-requires
-decide-requires c = record { small = omega (arith); exits = exits_sound c.args.self.now _ c.self.view_is c.requires }
+pub send_own-requires : goal.send_own-requires
+send_own-requires c = exits_sound c.args.self.now _ c.self.view_is c.requires
 
 pub returns : goal.returns
 returns c =
-    own_took c.in-Some.me c.args.self.now _ _ c.decide.new.self c.unit.new.self c.args.journal.now c.push_sent.new.self c.decide.new.journal c.flush.new.self c.in_ok-turn.turn _ c.in_default-turn.not-Nothing c.self.view_is c.requires
-    (sym c.speaker.ensures ∙ c.in-Some.is) c.in_ok-turn.ensures.taken c.sent_of-sent.ensures c.in_ok-push_sent.ensures refl c.in_ok-decide.ensures c.in_ok-flush.ensures.ok
+    own_took c.in-Some.me c.args.self.now _ _ c.send_own.new.self c.unit.new.self c.args.journal.now c.send_own.new.journal c.flush.new.self c.in_ok-turn.turn _ c.in_default-turn.not-Nothing c.self.view_is c.requires
+    (sym c.speaker.ensures ∙ c.in-Some.is) c.in_ok-turn.ensures.taken c.sent_of.ensures refl c.in_ok-send_own.ensures c.in_ok-flush.ensures.ok

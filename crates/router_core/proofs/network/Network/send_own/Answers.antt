@@ -1,0 +1,6 @@
+use Rattle.std.proofs.lemmas.Result.{on_ok_weaker}
+use Rattle.router_core.proofs.OwnTurns.{sends_own}
+use Rattle.router_core.proofs.network.Network.send_own.Goals as goal
+
+pub returns : goal.returns
+returns c = on_ok_weaker c.decide.result (sends_own c.args.sent c.args.self.now c.decide.new.self c.args.journal.now c.push_sent.new.self c.decide.new.journal c.in_ok-push_sent.ensures) c.decide.ensures
