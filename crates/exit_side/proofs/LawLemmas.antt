@@ -5,11 +5,13 @@ use Rattle.std.specs.Map.{values_of}
 use Rattle.std.specs.FinMap as tables
 use Rattle.std.specs.FinMap.{get-empty}
 use Rattle.std.specs.Ordering.{nat_cmp}
+use Rattle.std.specs.Cmp.{nat_cmp_total}
 use Rattle.bgp_attr.specs.declared.route.Route.{Route}
 use Rattle.bgp_attr.specs.declared.speaker.Profile.{Profile}
 use Rattle.link_change.specs.InOrder.{rows_before}
 use Rattle.link_change.specs.declared.change.Change.{Change}
 use Rattle.link_change.proofs.RowLemmas.{same_function}
+use Rattle.link_change.proofs.MapLemmas.{no_entries, one_of_sum}
 use Rattle.policy_rules.specs.declared.rule.Rule.{Rule}
 use Rattle.pass_core.specs.Passed.{Walked}
 use Rattle.fanout_queue.specs.Readers.{unread_by}
@@ -23,7 +25,6 @@ use Rattle.out_chain.specs.Laws as out_laws
 use Rattle.exit_side.specs.Exits.{no_exits, chain_at, links_by, busy_by, left_of, left_in}
 use Rattle.exit_side.specs.Steps.{is_exit, beside}
 use Rattle.exit_side.specs.Laws.{StandsAtFirst, AreAmong, LeadsAnywhere, LeadsAnywhereWithBest, ExactWithoutWork, NoneLeftWithoutWork, TurnsAreBounded, LeftFollows}
-use Rattle.exit_side.proofs.MapLemmas.{no_entries, one_of_sum}
 use Rattle.exit_side.proofs.CountLemmas.{none_idle, all_bounded, all_follow}
 use Rattle.exit_side.proofs.TaskLemmas.{entries_idle, idle_sum}
 
@@ -36,7 +37,7 @@ stands_at_first profile = record {
   links = λ best link. ap (λ (o : Option OutChained). links_by tables.empty best o link) (get-empty nat_cmp (owner_of link));
   sound = record { each = λ k c at. not_there profile k c _ at; apart = λ i k c d at. not_there profile i c _ at };
   stand = λ best k c at. not_there profile k c _ at;
-  left = λ beyond. ap (λ (es : List (ℕ × OutChained)). sum_by (left_of beyond tables.empty) (values_of es)) no_entries;
+  left = λ beyond. ap (λ (es : List (ℕ × OutChained)). sum_by (left_of beyond tables.empty) (values_of es)) (no_entries nat_cmp);
 }
 
 -- ---- links
@@ -87,7 +88,7 @@ none_left_without_work e beyond = (
     idle_by : (j : ℕ) → left_in beyond e ≡ 0 → (o : Option OutChained) → chain_at j e ≡ o → busy_by e.queue o ≡ false
     idle_by j zero None at = refl
     idle_by j zero (Some c) at =
-        let part = one_of_sum (left_of beyond e.queue) e.chains j c at in
+        let part = one_of_sum nat_cmp_total (left_of beyond e.queue) e.chains j c at in
         none_idle beyond c (unread_by e.queue c.reader) (omega (arith, part, zero))
 
 pub turns_bounded : TurnsAreBounded

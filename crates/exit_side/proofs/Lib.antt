@@ -1,4 +1,3 @@
-pub mod MapLemmas
 pub mod HeldLemmas
 pub mod SwapLemmas
 pub mod LinkLemmas

@@ -6,6 +6,7 @@ use Rattle.std.specs.Option.{ForSome}
 use Rattle.std.specs.FinMap as tables
 use Rattle.std.specs.FinMap.{same_map, nat_cmp-IsAntisymmetric, get-insert}
 use Rattle.std.specs.Cmp.{nat_cmp_total}
+use Rattle.std.proofs.lemmas.Option.{same_Some}
 use Rattle.addr4.specs.Prefixes.{Network}
 use Rattle.bgp_attr.specs.declared.attrs.Attrs.{Attrs}
 use Rattle.bgp_attr.specs.declared.route.Route.{Route}
@@ -33,14 +34,13 @@ use Rattle.exit_side.specs.Exits.{Exited, OutChains, chain_at, with_exit, withou
 use Rattle.pass_core.specs.Passed.{Passed, Walked, present, present_of, latest_of, walk_stepped, walk_of_waiting, after_walk}
 use Rattle.pass_core.specs.Turns.{walked_on}
 use Rattle.exit_side.specs.Steps.{BeginsExit, EndsExit, edited_by, EditsExit, KeepsSession, TurnsExit, ComesOut}
-use Rattle.exit_side.proofs.MapLemmas.{one_of}
 use Rattle.exit_side.proofs.SwapLemmas.{by_number, Swaps, swaps_in, swaps_out, others_apart, swap_stands, links_stay, swap_sound}
 use Rattle.exit_side.proofs.LinkLemmas.{leads_exits, leads_with_best, links_same}
 use Rattle.exit_side.proofs.CountLemmas.{turn_fewer}
 
 -- what holds of the one that it is
 pub of_one : {A : Type 0} (P : A → Type 0) (x : A) → P x → ForSome (Some x) P
-of_one P x p y is = subst P (one_of x y is) p
+of_one P x p y is = subst P (same_Some x y is) p
 
 pub of_none : {A : Type 0} (P : A → Type 0) → ForSome None P
 of_none P y is = absurd (cc)

@@ -5,6 +5,7 @@ use Rattle.std.specs.List.{AllByRecursion, find, sum_by}
 use Rattle.std.specs.List.Sorted.{IsStrictlySortedBy}
 use Rattle.std.specs.BTreeMap.{BTreeMap}
 use Rattle.std.specs.Ordering.{nat_cmp}
+use Rattle.std.specs.Cmp.{nat_cmp_total}
 use Rattle.std.specs.Map.{keys_of, values_of}
 use Rattle.std.specs.FinMap as tables
 use Rattle.addr4.specs.Prefixes.{Network}
@@ -15,8 +16,8 @@ use Rattle.fanout_queue.proofs.Cases.{by_bool}
 use Rattle.out_chain.specs.Chains.{OutChained, has_out_work}
 use Rattle.exit_side.specs.Exits.{Exited, chain_at, busy_by, has_exit_work, IsExits, left_of, left_in}
 use Rattle.exit_side.specs.Tasks.{first_of, HaveReaders}
-use Rattle.exit_side.proofs.MapLemmas.{all_entries, sum_none, entries_in, read_in}
 use Rattle.bgp_attr.specs.declared.speaker.Profile.{Profile}
+use Rattle.link_change.proofs.MapLemmas.{all_entries, sum_none, entries_in, read_in}
 use Rattle.exit_side.proofs.HeldLemmas.{held, seen}
 use Rattle.exit_side.proofs.CountLemmas.{idle_none}
 
@@ -28,8 +29,8 @@ abbrev pub AllLive : Queued Route → Entries → Type 0
 AllLive queued es = AllByRecursion (λ x. IsSome (tables.get queued x.1.reader)) es
 
 pub all_live : (queued : Queued Route) (m : BTreeMap ℕ OutChained) → IsStrictlySortedBy nat_cmp (keys_of m.entries) → HaveReaders queued m → AllLive queued m.entries
-all_live queued m sorted have = subst (AllLive queued) (sym (entries_in m sorted))
-    (all_entries (λ k c. IsSome (tables.get queued c.reader)) (tables.from_entries m.entries) (λ k c at. have k c (sym (read_in m (tables.from_entries m.entries) k refl) ∙ at)))
+all_live queued m sorted have = subst (AllLive queued) (sym (entries_in nat_cmp_total m (tables.from_entries m.entries) sorted refl))
+    (all_entries nat_cmp_total (λ k c. IsSome (tables.get queued c.reader)) (tables.from_entries m.entries) (λ k c at. have k c (sym (read_in nat_cmp_total m (tables.from_entries m.entries) k refl) ∙ at)))
 
 module _ (e : Exited) where
   abbrev works : OutChained → Bool
@@ -37,7 +38,7 @@ module _ (e : Exited) where
 
   -- each entry tells of its peer
   entries_work : AllByRecursion (λ x. has_exit_work e x.0 ≡ works x.1) (tables.entries e.chains)
-  entries_work = all_entries (λ k c. has_exit_work e k ≡ works c) e.chains (λ k c at. ap (busy_by e.queue) at)
+  entries_work = all_entries nat_cmp_total (λ k c. has_exit_work e k ≡ works c) e.chains (λ k c at. ap (busy_by e.queue) at)
 
   first_among : (es : Entries) → AllByRecursion (λ x. has_exit_work e x.0 ≡ works x.1) es → find (has_exit_work e) (keys_of es) ≡ first_of e.queue es
   first_among [] all = refl
@@ -52,9 +53,9 @@ module _ (e : Exited) where
       (λ _ some. absurd (cc)) (λ off none. (refl, all_idle es none)) is
 
   pub idle_sum : (beyond : Option Network → ℕ) (es : Entries) → AllByRecursion (λ x. works x.1 ≡ false) es → sum_by (left_of beyond e.queue) (values_of es) ≡ 0
-  idle_sum beyond es all = sum_none (left_of beyond e.queue) es (each es all)
+  idle_sum beyond es all = sum_none (left_of beyond e.queue) (values_of es) (each es all)
     where
-      each : (es : Entries) → AllByRecursion (λ x. works x.1 ≡ false) es → AllByRecursion (λ x. left_of beyond e.queue x.1 ≡ 0) es
+      each : (es : Entries) → AllByRecursion (λ x. works x.1 ≡ false) es → AllByRecursion (λ c. left_of beyond e.queue c ≡ 0) (values_of es)
       each [] all = tt
       each (x ∷ es) all = (idle_none beyond x.1 (unread_by e.queue x.1.reader) all.0, each es all.1)
 
@@ -64,7 +65,7 @@ module _ (e : Exited) where
 
   -- where no task has work, each entry has none
   pub entries_idle : ((j : ℕ) → has_exit_work e j ≡ false) → AllByRecursion (λ x. works x.1 ≡ false) (tables.entries e.chains)
-  entries_idle idle = all_entries (λ k c. works c ≡ false) e.chains (λ k c at. sym (ap (busy_by e.queue) at) ∙ idle k)
+  entries_idle idle = all_entries nat_cmp_total (λ k c. works c ≡ false) e.chains (λ k c at. sym (ap (busy_by e.queue) at) ∙ idle k)
 
 -- ---- one peer's chain, over the queue as it is held
 pub live_in : (e : Exited) (queue : Queued Route) (j : ℕ) (c : OutChained) → queue ≡ e.queue → IsExits e → chain_at j e ≡ Some c → IsSome (tables.get queue c.reader)
@@ -78,7 +79,7 @@ have_readers e profile queue m view sound j c at = live_in e queue j c (ap (λ (
 
 -- the entries of the map are those of the chains
 pub entries_of : (e : Exited) (profile : Profile) (queue : Queued Route) (m : BTreeMap ℕ OutChained) → seen profile queue m ≡ e → IsStrictlySortedBy nat_cmp (keys_of m.entries) → m.entries ≡ tables.entries e.chains
-entries_of e profile queue m view sorted = entries_in m sorted ∙ ap (λ (x : Exited). tables.entries x.chains) view
+entries_of e profile queue m view sorted = entries_in nat_cmp_total m e.chains sorted (ap (λ (x : Exited). x.chains) view)
 
 pub queue_of : (e : Exited) (profile : Profile) (queue : Queued Route) (m : BTreeMap ℕ OutChained) (first : Option ℕ) → seen profile queue m ≡ e → first ≡ first_of queue m.entries → first ≡ first_of e.queue m.entries
 queue_of e profile queue m first view is = is ∙ ap (λ (x : Exited). first_of x.queue m.entries) view

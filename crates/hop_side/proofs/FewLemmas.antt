@@ -9,7 +9,7 @@ use Rattle.std.specs.FinMap.{FinMap, get, remove, empty, len, contains_key, get-
 use Rattle.addr4.specs.Prefixes.{Network}
 use Rattle.bgp_attr.specs.declared.route.Route.{Route}
 use Rattle.link_change.specs.Rows.{Rows}
-use Rattle.register_interest.proofs.MapLemmas.{removed_at, removed_apart}
+use Rattle.link_change.proofs.MapLemmas.{removed_at, removed_apart}
 use Rattle.nexthop_known.proofs.CountLemmas.{counted_is_named}
 use Rattle.nexthop_resolver.specs.Kept.{route_hop}
 use Rattle.nexthop_resolver.specs.Resolving.{named_by}

@@ -1,6 +1,7 @@
 -- Laws of the side of next hops.
 use Rattle.std.proofs.Common.{◌≡◌, ℕ, false, List, Option, Some, None, refl, sym, ap, subst, ◌∙◌, arith}
 use Rattle.std.specs.List.{sum_by}
+use Rattle.std.proofs.lemmas.List.Sums.{sum_by-le-sum_by}
 use Rattle.std.specs.Map.{values_of}
 use Rattle.std.specs.FinMap as tables
 use Rattle.std.specs.FinMap.{get-empty}
@@ -9,6 +10,7 @@ use Rattle.std.specs.Cmp.{nat_cmp_total}
 use Rattle.prefix_trie.specs.Width.{width}
 use Rattle.bgp_attr.specs.declared.route.Route.{Route}
 use Rattle.link_change.proofs.RowLemmas.{same_function}
+use Rattle.link_change.proofs.MapLemmas.{no_entries, all_entries, one_of_sum, sum_within}
 use Rattle.rib_route.specs.declared.rows.Interior.{Interior}
 use Rattle.register_interest.specs.Covers.{longest}
 use Rattle.register_interest.specs.Registers.{Registry}
@@ -25,7 +27,6 @@ use Rattle.journal_text.specs.declared.value.Value.{Value}
 use Rattle.journal_text.specs.Walk.{Links, Leads}
 use Rattle.hop_side.specs.Resolvers.{resolver_at, PeerRows, rows_by, link_by, hop_links, is_res, beside, is_busy, busy_by, known_of, same_metric, left_of, left_in, walks_of}
 use Rattle.hop_side.specs.Laws.{StandsAtFirst, LeadsAnywhere, StrangersAgree, matched_row, ExactWithoutWork, NoneLeftWithoutWork, TurnsAreBounded, LeftFollows}
-use Rattle.hop_side.proofs.MapLemmas.{no_entries, all_entries, one_of_sum, sum_less, sum_within}
 use Rattle.hop_side.proofs.BusyLemmas.{idle_rests, none_idle, fewer_left}
 use Rattle.hop_side.proofs.TaskLemmas.{idle_sum}
 
@@ -90,18 +91,18 @@ exact_without_work a uppers r k s hops agree counted at idle =
 -- ---- how many turns are left
 pub none_left_without_work : NoneLeftWithoutWork
 none_left_without_work a beyonds = (
-  λ idle. idle_sum beyonds (tables.entries a) (all_entries nat_cmp nat_cmp_total (λ k s. is_busy s ≡ false) a (λ k s at. sym (ap busy_by at) ∙ idle k)),
+  λ idle. idle_sum beyonds (tables.entries a) (all_entries nat_cmp_total (λ k s. is_busy s ≡ false) a (λ k s at. sym (ap busy_by at) ∙ idle k)),
   λ zero k. idle_by k zero (resolver_at k a) refl,
 )
   where
     idle_by : (k : ℕ) → left_in beyonds a ≡ 0 → (o : Option (Resolving Metric)) → resolver_at k a ≡ o → busy_by o ≡ false
     idle_by k zero None at = refl
     idle_by k zero (Some s) at =
-        let part = one_of_sum nat_cmp nat_cmp_total (left_of beyonds) a k s at in
+        let part = one_of_sum nat_cmp_total (left_of beyonds) a k s at in
         none_idle (beyonds s.client) s (omega (arith, part, zero))
 
 pub turns_bounded : TurnsAreBounded
 turns_bounded a beyonds most = sum_within (left_of beyonds) known_of (walks_of beyonds) (tables.values a) (λ s. turns_are_bounded same_metric (beyonds s.client) s (most s.client))
 
 pub left_follows : LeftFollows
-left_follows a before now less = sum_less (left_of now) (left_of before) (tables.values a) (λ s. fewer_left (before s.client) (now s.client) s (less s.client))
+left_follows a before now less = sum_by-le-sum_by (left_of now) (left_of before) (tables.values a) (λ s. fewer_left (before s.client) (now s.client) s (less s.client))

@@ -1,4 +1,3 @@
-pub mod MapLemmas
 pub mod PutLemmas
 mod BusyLemmas
 mod StepLemmas

@@ -7,11 +7,11 @@ use Rattle.std.specs.BTreeMap as tree
 use Rattle.std.specs.BTreeMap.{BTreeMap, WritesThrough}
 use Rattle.std.specs.Cmp.{nat_cmp_total, unsigned_tied}
 use Rattle.std.specs.Ordering.{nat_cmp}
-use Rattle.nexthop_known.proofs.MapLemmas.{read_in, map_set}
+use Rattle.std.proofs.lemmas.Option.{same_Some}
+use Rattle.link_change.proofs.MapLemmas.{read_in, map_set}
 use Rattle.nexthop_resolver.specs.declared.rows.Metric.{Metric}
 use Rattle.nexthop_resolver.specs.Resolving.{Resolving}
 use Rattle.hop_side.specs.Resolvers.{Resolvers, resolver_at, put_resolver}
-use Rattle.hop_side.proofs.MapLemmas.{one_of}
 
 -- by a test, with what it came to
 pub by_bool : (b : Bool) (P : Bool → Type 0) → (b ≡ true → P true) → (b ≡ false → P false) → P b
@@ -41,7 +41,7 @@ pub put_each : (P : ℕ → Resolving Metric → Type 0) (k : ℕ) (s : Resolvin
     → ((j : ℕ) (t : Resolving Metric) → nat_eq j k ≡ false → resolver_at j a ≡ Some t → P j t) → (j : ℕ) (t : Resolving Metric) → resolver_at j (put_resolver k s a) ≡ Some t → P j t
 put_each P k s a own each j t at =
     by_bool (nat_eq j k) (λ b. cond b (Some s) (resolver_at j a) ≡ Some t → P j t)
-    (λ e there. subst (λ (n : ℕ). P n t) (sym (equal_by j k e)) (subst (P k) (one_of s t there) own)) (λ e there. each j t e there) (sym (at_put k s a j) ∙ at)
+    (λ e there. subst (λ (n : ℕ). P n t) (sym (equal_by j k e)) (subst (P k) (same_Some s t there) own)) (λ e there. each j t e there) (sym (at_put k s a j) ∙ at)
 
 -- the same peers have one, where one takes another's place
 pub put_peers : (k : ℕ) (s t : Resolving Metric) (a : Resolvers) → resolver_at k a ≡ Some t → (j : ℕ) → is_some (resolver_at j (put_resolver k s a)) ≡ is_some (resolver_at j a)

@@ -4,12 +4,13 @@ use Rattle.std.proofs.Math.Seq.{drop-cons}
 use Rattle.std.proofs.Math.ListN.{drop_of_length-le}
 use Rattle.std.specs.Option.{option_map}
 use Rattle.std.specs.FinMap as map
-use Rattle.std.specs.Ordering.{nat_cmp}
 use Rattle.std.specs.Cmp.{nat_cmp_total}
+use Rattle.std.proofs.lemmas.Option.{same_Some}
 use Rattle.addr4.specs.Prefixes.{Network}
 use Rattle.bgp_attr.specs.declared.route.Route.{Route}
 use Rattle.link_change.specs.Rows.{Rows}
 use Rattle.link_change.proofs.RowLemmas.{same_function}
+use Rattle.link_change.proofs.MapLemmas.{sum_replaced}
 use Rattle.rib_route.specs.declared.rows.Interior.{Interior}
 use Rattle.register_interest.specs.declared.interests.Interest.{Interest}
 use Rattle.register_interest.specs.Registers.{Registry}
@@ -29,7 +30,6 @@ use Rattle.journal_text.specs.declared.link.Link.TheVariants.{Res}
 use Rattle.journal_text.specs.Values.{route_rows}
 use Rattle.hop_side.specs.Resolvers.{Resolvers, resolver_at, put_resolver, PeerRows, metric_rows, rows_by, link_by, hop_links, IsHop, IsHops, known_of}
 use Rattle.hop_side.specs.Steps.{is_listed, reached_hop, IsReached, ReachedAt, AllReached, StaysBelow, StepsAt, ReachesOne, ReachesBelow}
-use Rattle.hop_side.proofs.MapLemmas.{one_of, sum_replaced}
 use Rattle.hop_side.proofs.PutLemmas.{by_bool, equal_by, same_by, differ_by, put_here, put_other, put_each}
 
 -- ---- one interest more
@@ -126,7 +126,7 @@ step_counted : (i : Interest) (k : ℕ) (o n : Option (Resolving Metric)) (t : R
 step_counted i k o None t rows step at counted = none_is t _ at
 step_counted i k None (Some y) t rows step at counted = absurd step
 step_counted i k (Some x) (Some y) t rows step at counted =
-    subst (λ (u : Resolving Metric). AreCounted rows u.counts) (one_of y t at)
+    subst (λ (u : Resolving Metric). AreCounted rows u.counts) (same_Some y t at)
     (by_bool (nat_eq i.client k) (λ b. MatchBool b (Invalidates i.subnet x y) (y ≡ x) → AreCounted rows y.counts)
     (λ _ is. subst (AreCounted rows) (sym is.counts) (counted x refl)) (λ _ same. subst (λ (u : Resolving Metric). AreCounted rows u.counts) (sym same) (counted x refl)) step)
 
@@ -141,7 +141,7 @@ step_pends i rest is k None (Some y) t step at pends = absurd step
 step_pends i rest is k (Some x) (Some y) t step at pends =
     let own = (pends x refl).0 in
     let wait = (pends x refl).1 in
-    subst (λ (u : Resolving Metric). Pends metric_of u.client u.known is rest) (one_of y t at)
+    subst (λ (u : Resolving Metric). Pends metric_of u.client u.known is rest) (same_Some y t at)
     (by_bool (nat_eq i.client k) (λ b. MatchBool b (Invalidates i.subnet x y) (y ≡ x) → Pends metric_of y.client y.known is rest)
     (λ e stale. pends_invalidated metric_of x y is i rest wait (equal_by i.client k e ∙ sym own) stale)
     (λ e same. subst (λ (u : Resolving Metric). Pends metric_of u.client u.known is rest) (sym same) (others_pend metric_of x.client x.known is i rest wait (λ c. differ_by i.client k e (c ∙ own)))) step)
@@ -243,7 +243,7 @@ reaches_some i k a x y own at hops is named = record {
   sound = put_each IsHop k y a (record { client = is.client ∙ (hops k x at).client; named = named }) (λ j t other there. hops j t there);
   known =
       let one : known_of y ≡ known_of x = same_len y.known x.known (λ q. ap is_some (is.known q) ∙ stale_there i.subnet (map.get x.known q)) in
-      let sum = sum_replaced nat_cmp nat_cmp_total known_of a k y x at in
+      let sum = sum_replaced nat_cmp_total known_of a k y x at in
       omega (arith, one, sum);
 }
   where

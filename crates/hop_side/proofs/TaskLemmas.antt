@@ -4,13 +4,12 @@ use Rattle.std.specs.Prelude.{IfNone}
 use Rattle.std.specs.List.{AllByRecursion, find, sum_by}
 use Rattle.std.specs.Map.{keys_of, values_of}
 use Rattle.std.specs.FinMap as tables
-use Rattle.std.specs.Ordering.{nat_cmp}
 use Rattle.std.specs.Cmp.{nat_cmp_total}
+use Rattle.link_change.proofs.MapLemmas.{all_entries, sum_none}
 use Rattle.nexthop_resolver.specs.declared.rows.Metric.{Metric}
 use Rattle.nexthop_resolver.specs.Resolving.{Resolving}
 use Rattle.hop_side.specs.Resolvers.{Resolvers, is_busy, busy_by, has_hop_work, Beyonds, left_of, left_in}
 use Rattle.hop_side.specs.Tasks.{first_of}
-use Rattle.hop_side.proofs.MapLemmas.{all_entries, sum_none}
 use Rattle.hop_side.proofs.PutLemmas.{by_bool}
 use Rattle.hop_side.proofs.BusyLemmas.{idle_none}
 
@@ -19,7 +18,7 @@ Entries = List (ℕ × Resolving Metric)
 
 -- each entry tells of its peer
 pub entries_work : (a : Resolvers) → AllByRecursion (λ e. has_hop_work a e.0 ≡ is_busy e.1) (tables.entries a)
-entries_work a = all_entries nat_cmp nat_cmp_total (λ k s. has_hop_work a k ≡ is_busy s) a (λ k s at. ap busy_by at)
+entries_work a = all_entries nat_cmp_total (λ k s. has_hop_work a k ≡ is_busy s) a (λ k s at. ap busy_by at)
 
 first_among : (W : ℕ → Bool) (es : Entries) → AllByRecursion (λ e. W e.0 ≡ is_busy e.1) es → find W (keys_of es) ≡ first_of es
 first_among W [] all = refl
@@ -34,9 +33,9 @@ all_idle (x ∷ es) e = by_bool (is_busy x.1) (λ b. cond b (Some x.0) (first_of
     (λ _ some. absurd (cc)) (λ off none. (refl, all_idle es none)) e
 
 pub idle_sum : (beyonds : Beyonds) (es : Entries) → AllByRecursion (λ e. is_busy e.1 ≡ false) es → sum_by (left_of beyonds) (values_of es) ≡ 0
-idle_sum beyonds es all = sum_none (left_of beyonds) es (each es all)
+idle_sum beyonds es all = sum_none (left_of beyonds) (values_of es) (each es all)
   where
-    each : (es : Entries) → AllByRecursion (λ e. is_busy e.1 ≡ false) es → AllByRecursion (λ e. left_of beyonds e.1 ≡ 0) es
+    each : (es : Entries) → AllByRecursion (λ e. is_busy e.1 ≡ false) es → AllByRecursion (λ s. left_of beyonds s ≡ 0) (values_of es)
     each [] all = tt
     each (x ∷ es) all = (idle_none (beyonds x.1.client) x.1 all.0, each es all.1)
 

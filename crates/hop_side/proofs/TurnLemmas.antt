@@ -3,7 +3,6 @@ use Rattle.std.proofs.Common.{◌≡◌, ℕ, ◌+◌, ◌≤◌, Bool, cond, Op
 use Rattle.std.specs.Option.{option_map}
 use Rattle.std.specs.FinMap as map
 use Rattle.std.specs.FinMap.{len-insert}
-use Rattle.std.specs.Ordering.{nat_cmp}
 use Rattle.std.specs.Cmp.{nat_cmp_total}
 use Rattle.bgp_attr.specs.declared.route.Route.{Route}
 use Rattle.addr4.specs.Prefixes.{Network}
@@ -12,6 +11,7 @@ use Rattle.link_change.specs.Changes.{IsSent}
 use Rattle.link_change.specs.declared.change.Change.{Change}
 use Rattle.link_change.specs.declared.turn.Turn.{Turn}
 use Rattle.link_change.specs.declared.turn.Turn.TheVariants as turns
+use Rattle.link_change.proofs.MapLemmas.{sum_replaced}
 use Rattle.rib_route.specs.declared.rows.Interior.{Interior}
 use Rattle.register_interest.specs.Registers.{Registry}
 use Rattle.nexthop_known.specs.declared.answer.Hop.{Hop}
@@ -31,7 +31,6 @@ use Rattle.journal_text.specs.Journals.{Journaled, with_entries, Adds}
 use Rattle.journal_text.proofs.JournalLemmas.{with_entries_none}
 use Rattle.hop_side.specs.Resolvers.{Resolvers, resolver_at, put_resolver, metric_rows, IsHops, AllAgree, same_metric, busy_by, known_of, known_in, Beyonds, left_of, left_in}
 use Rattle.hop_side.specs.Steps.{res_entries, TurnsBelow, ComesBelow}
-use Rattle.hop_side.proofs.MapLemmas.{sum_replaced}
 use Rattle.hop_side.proofs.PutLemmas.{put_same}
 use Rattle.hop_side.proofs.BusyLemmas.{tells_metrics, rests_idle}
 use Rattle.hop_side.proofs.StepLemmas.{goes_on, agreed_on}
@@ -80,13 +79,13 @@ module _ (candidates : Candidates) (upper : Rows Route) (was is : Registry Inter
         let fall = turns_fall route_hop with_metric candidates upper metric_of was is same_metric (beyonds k) tells_metrics counts s s' sent t in
         let after : left_of beyonds s' ≡ turns_left same_metric (beyonds k) s' = ap (λ (n : ℕ). turns_left same_metric (beyonds n) s') (turned_client sent t ∙ own) in
         let before : left_of beyonds s ≡ turns_left same_metric (beyonds k) s = ap (λ (n : ℕ). turns_left same_metric (beyonds n) s) own in
-        let sum = sum_replaced nat_cmp nat_cmp_total (left_of beyonds) a k s' s at in
+        let sum = sum_replaced nat_cmp_total (left_of beyonds) a k s' s at in
         omega (arith, fall, after, before, sum)
 
     turned_sum : (sent : Option (Change Route)) → Turns sent → known_in turned_all ≡ known_in a
     turned_sum sent t =
         let one = turned_known sent t in
-        let sum = sum_replaced nat_cmp nat_cmp_total known_of a k s' s at in
+        let sum = sum_replaced nat_cmp_total known_of a k s' s at in
         omega (arith, one, sum)
 
     turned_below : (sent : Option (Change Route)) (before now : Journaled) → Turns sent → AllAgree a was → AreNamed s'.counts s'.known → Agrees metric_of s'.client s'.known is → KeepsOthers s.client was is

@@ -1,5 +1,5 @@
 -- A finite map, against a list of entries in order: comparing, and copying one by one.
-use Rattle.std.proofs.Common.{◌≡◌, ℕ, ◌&&◌, Bool, true, false, cond, nat_eq, List, [], ◌∷◌, ◌++◌, length, arith, Option, Some, None, refl, sym, ap, ◌∙◌}
+use Rattle.std.proofs.Common.{◌≡◌, ℕ, ◌&&◌, Bool, true, false, cond, nat_eq, List, [], ◌∷◌, ◌++◌, length, Option, Some, None, refl, sym, ap, ◌∙◌}
 use Rattle.std.specs.Bool.{Decides}
 use Rattle.std.proofs.lemmas.Bool.Decides.{Decides-and, Decides-like, Decides-eqb}
 use Rattle.std.specs.Ordering.{eq_by_cmp}
@@ -9,13 +9,13 @@ use Rattle.std.specs.Cmp.Lexicographic.{pointwise, pointwise_decides, bytes_deci
 use Rattle.std.specs.List.Sorted.{IsStrictlySortedBy}
 use Rattle.std.specs.BTreeMap.{is_at}
 use Rattle.std.specs.Map.{keys_of}
-use Rattle.std.specs.FinMap.{FinMap, IsAntisymmetric, get, insert, empty, entries, from_entries, find, put, get-from_entries, get-insert, get-empty, entries-insert, len-entries, len-empty, same_map}
+use Rattle.std.specs.FinMap.{FinMap, IsAntisymmetric, get, insert, empty, entries, from_entries, find, get-from_entries, get-insert, get-empty, same_map}
 use Rattle.std.proofs.lemmas.Map.{lookup-none}
 use Rattle.std.proofs.lemmas.Map.Entries.{none_past_head}
-use Rattle.std.proofs.lemmas.Map.Keys.{IsDistinct-from_sorted}
+use Rattle.std.proofs.lemmas.Map.Keys.{IsDistinct-from_sorted, sorted_tail}
 use Rattle.addr4.specs.Prefixes.{Network, same_prefix}
 use Rattle.addr4.proofs.HalfLemmas.{one_network}
-use Rattle.journal_check.proofs.MapLemmas.{find_at}
+use Rattle.link_change.proofs.MapLemmas.{find_at, entries_kept}
 
 -- the first of two, if there is one
 abbrev first_of : {X : Type 0} → Option X → Option X → Option X
@@ -30,10 +30,6 @@ one_step : {X : Type 0} (b : Bool) (v : X) (later there : Option X) → (b ≡ t
 one_step true v later there none = ap (λ o. first_of o (Some v)) (none refl)
 one_step false v later there none = refl
 
-no_entry : {A : Type 0} (es : List A) → length es ≡ 0 → es ≡ []
-no_entry [] e = refl
-no_entry (x ∷ es) e = absurd (omega arith)
-
 module _ {K X : Type 0} {R : K → K → Ordering} where
   -- the map with these entries inserted one by one
   abbrev pub inserted : FinMap R X → List (K × X) → FinMap R X
@@ -45,17 +41,13 @@ module _ {K X : Type 0} {R : K → K → Ordering} where
   inserted_more m (x ∷ es) e = inserted_more (insert m x.0 x.1) es e
 
   module _ (total : IsTotalOrder R) where
-    unfolding_sorted : (e : K × X) (es : List (K × X)) → IsStrictlySortedBy R (keys_of (e ∷ es)) → IsStrictlySortedBy R (keys_of es)
-    unfolding IsStrictlySortedBy
-    unfolding_sorted e es h = h.1
-
     none_later : (q : K) (e : K × X) (es : List (K × X)) → IsStrictlySortedBy R (keys_of (e ∷ es)) → eq_by_cmp R q e.0 ≡ true → find R q es ≡ None
     none_later q e es sorted is = find_at R es q ∙ lookup-none (is_at (R q)) es (none_past_head (eq_by_cmp_equiv total) q e es (IsDistinct-from_sorted R (keys_of (e ∷ es)) sorted) is)
 
     get-inserted : (m : FinMap R X) (es : List (K × X)) (q : K) → IsStrictlySortedBy R (keys_of es) → get (inserted m es) q ≡ first_of (find R q es) (get m q)
     get-inserted m [] q sorted = refl
     get-inserted m (e ∷ es) q sorted =
-        get-inserted (insert m e.0 e.1) es q (unfolding_sorted e es sorted)
+        get-inserted (insert m e.0 e.1) es q (sorted_tail R e.0 (keys_of es) sorted)
         ∙ (ap (first_of (find R q es)) (get-insert total m e.0 e.1 q)
         ∙ one_step (eq_by_cmp R q e.0) e.1 (find R q es) (get m q) (none_later q e es sorted))
 
@@ -64,18 +56,9 @@ module _ {K X : Type 0} {R : K → K → Ordering} where
     inserted_all exact es sorted = same_map total exact _ _ (λ q.
         get-inserted empty es q sorted ∙ (ap (first_of (find R q es)) (get-empty R q) ∙ (first_alone (find R q es) ∙ sym (get-from_entries total es q))))
 
-    put_first : (e : K × X) (es : List (K × X)) → IsStrictlySortedBy R (keys_of (e ∷ es)) → put R e.0 e.1 es ≡ e ∷ es
-    unfolding IsStrictlySortedBy
-    put_first e [] sorted = refl
-    put_first e (f ∷ es) sorted = rw sorted.0.0 refl
-
-    entries_kept : (es : List (K × X)) → IsStrictlySortedBy R (keys_of es) → entries (from_entries {R = R} es) ≡ es
-    entries_kept [] sorted = no_entry (entries {R = R} empty) (sym (len-entries {R = R} empty) ∙ len-empty R X)
-    entries_kept (e ∷ es) sorted = entries-insert total (from_entries es) e.0 e.1 ∙ (ap (put R e.0 e.1) (entries_kept es (unfolding_sorted e es sorted)) ∙ put_first e es sorted)
-
     -- entries in order are those of their map
     pub same_entries_of : (es fs : List (K × X)) → IsStrictlySortedBy R (keys_of es) → IsStrictlySortedBy R (keys_of fs) → from_entries {R = R} es ≡ from_entries fs → es ≡ fs
-    same_entries_of es fs g h same = sym (entries_kept es g) ∙ (ap entries same ∙ entries_kept fs h)
+    same_entries_of es fs g h same = sym (entries_kept total es g) ∙ (ap entries same ∙ entries_kept total fs h)
 
 -- what two maps of texts are compared by
 abbrev pub same_row : Network × List ℕ → Network × List ℕ → Bool

@@ -1,4 +1,3 @@
-pub mod MapLemmas
 pub mod EntryLemmas
 pub mod KeyLemmas
 pub mod StepLemmas

@@ -2,3 +2,4 @@ pub mod RowLemmas
 pub mod ChangeLemmas
 pub mod TurnLemmas
 pub mod InOrderLemmas
+pub mod MapLemmas

@@ -1,40 +1,18 @@
 -- Counts of the rows that name a next hop, and what a change of a row does to them.
-use Rattle.std.proofs.Common.{◌≡◌, ◌≢◌, ◌⊎◌, ◌↔◌, ℕ, zero, suc, ◌+◌, ◌-◌, ◌<◌, ◌==◌, Bool, true, false, cond, if◌then◌else◌, List, [], ◌∷◌, length, refl, sym, ap, ◌∙◌, subst, inl, inr, Option, Some, None, is_some, arith, eqb-true, eq-eqb}
+use Rattle.std.proofs.Common.{◌≡◌, ◌≢◌, ◌⊎◌, ◌↔◌, ℕ, zero, suc, ◌+◌, ◌-◌, ◌<◌, ◌==◌, true, false, if◌then◌else◌, List, [], ◌∷◌, length, refl, sym, ap, ◌∙◌, subst, inl, inr, Option, Some, None, is_some, arith, eqb-true, eq-eqb}
 use Rattle.std.specs.List.{Contains}
-use Rattle.std.specs.Ordering.{nat_cmp, eq_by_cmp}
-use Rattle.std.specs.Cmp.{nat_cmp_total, eq_by_cmp_equiv}
-use Rattle.std.specs.FinMap.{get, insert, remove, get-insert, get-remove, get-empty, same_map, nat_cmp-IsAntisymmetric}
-use Rattle.std.specs.FinMap as map
+use Rattle.std.specs.Ordering.{nat_cmp}
+use Rattle.std.specs.Cmp.{nat_cmp_total}
+use Rattle.std.specs.FinMap.{get, insert, remove, get-empty, same_map, nat_cmp-IsAntisymmetric}
 use Rattle.std.proofs.lemmas.Bool.{cases_eq}
 use Rattle.addr4.specs.Prefixes.{Network}
 use Rattle.addr4.proofs.PrefixOrder.{by_prefix}
 use Rattle.link_change.specs.Rows.{Rows, with_row}
 use Rattle.link_change.proofs.RowLemmas.{with_row_here}
 use Rattle.link_change.proofs.InOrderLemmas.{with_row_elsewhere}
-use Rattle.nexthop_known.proofs.HopLemmas.{equal_of}
+use Rattle.link_change.proofs.MapLemmas.{get_at, get_apart, removed_at, removed_apart}
 use Rattle.nexthop_known.specs.Counts.{Counts, counted, counted_in, one_more, one_less_of, once, Recounts, AllApart, IsCount}
 use Rattle.nexthop_known.specs.Laws.{NothingIsCounted, OneMoreCounts, OneLessCounts, OneForAnother, MoreAndLess, CountsFollow, NamedIsCounted, CountedIsNamed}
-
--- at the number, or at another
-pub by_number : (q k : ℕ) (P : Bool → Type 0) → (q ≡ k → P true) → (q ≢ k → P false) → P (eq_by_cmp nat_cmp q k)
-by_number q k P here apart =
-    elim (eq_by_cmp nat_cmp q k) as (λ b. eq_by_cmp nat_cmp q k ≡ b → P b) [
-      | true ↦ λ e. here (nat_cmp-IsAntisymmetric q k (equal_of (nat_cmp q k) e))
-      | false ↦ λ e. apart (λ same. let f : true ≡ false = sym ((eq_by_cmp_equiv nat_cmp_total).refl k) ∙ sym (ap (λ x. eq_by_cmp nat_cmp x k) same) ∙ e in cc)
-    ] refl
-
-module _ {X : Type 0} where
-  pub set_here : (m : map.FinMap nat_cmp X) (a : ℕ) (x : X) → get (insert m a x) a ≡ Some x
-  set_here m a x = get-insert nat_cmp_total m a x a ∙ ap (λ b. cond b (Some x) (get m a)) ((eq_by_cmp_equiv nat_cmp_total).refl a)
-
-  pub set_apart : (m : map.FinMap nat_cmp X) (a : ℕ) (x : X) (b : ℕ) → b ≢ a → get (insert m a x) b ≡ get m b
-  set_apart m a x b ne = get-insert nat_cmp_total m a x b ∙ by_number b a (λ t. cond t (Some x) (get m b) ≡ get m b) (λ e. absurd (ne e)) (λ _. refl)
-
-  pub unset_here : (m : map.FinMap nat_cmp X) (a : ℕ) → get (remove m a) a ≡ None
-  unset_here m a = get-remove nat_cmp_total m a a ∙ ap (λ b. cond b None (get m a)) ((eq_by_cmp_equiv nat_cmp_total).refl a)
-
-  pub unset_apart : (m : map.FinMap nat_cmp X) (a b : ℕ) → b ≢ a → get (remove m a) b ≡ get m b
-  unset_apart m a b ne = get-remove nat_cmp_total m a b ∙ by_number b a (λ t. cond t None (get m b) ≡ get m b) (λ e. absurd (ne e)) (λ _. refl)
 
 -- ---- one row more, one less
 
@@ -65,9 +43,9 @@ by_address a old new before after here none_after none_before same b = elim (cas
 
 pub one_more_counts : OneMoreCounts
 one_more_counts counts a =
-    let set = ap counted_in (set_here counts a (counted counts a)) in
+    let set = ap counted_in (get_at nat_cmp_total counts a (counted counts a)) in
     let one = once_here a a refl in
-    by_address a counts (one_more counts a) None (Some a) (omega (arith, set, one)) (λ b ne. once_apart a b ne) (λ b _. refl) (λ b ne. set_apart counts a (counted counts a) b ne)
+    by_address a counts (one_more counts a) None (Some a) (omega (arith, set, one)) (λ b ne. once_apart a b ne) (λ b _. refl) (λ b ne. get_apart nat_cmp_total nat_cmp-IsAntisymmetric counts a (counted counts a) b ne)
 
 less_of : (counts : Counts) (a : ℕ) (o : Option ℕ) → get counts a ≡ o → Recounts (Some a) None counts (one_less_of counts a o)
 less_of counts a None e =
@@ -75,12 +53,12 @@ less_of counts a None e =
     by_address a counts counts (Some a) None (let one = once_here a a refl in omega (arith, c, one)) (λ b _. refl) (λ b ne. once_apart a b ne) (λ b _. refl)
 less_of counts a (Some zero) e =
     let c = ap counted_in e in
-    let gone = ap counted_in (unset_here counts a) in
-    by_address a counts (remove counts a) (Some a) None (let one = once_here a a refl in omega (arith, c, gone, one)) (λ b _. refl) (λ b ne. once_apart a b ne) (λ b ne. unset_apart counts a b ne)
+    let gone = ap counted_in (removed_at nat_cmp_total counts a) in
+    by_address a counts (remove counts a) (Some a) None (let one = once_here a a refl in omega (arith, c, gone, one)) (λ b _. refl) (λ b ne. once_apart a b ne) (λ b ne. removed_apart nat_cmp_total nat_cmp-IsAntisymmetric counts a b ne)
 less_of counts a (Some (suc n)) e =
     let c = ap counted_in e in
-    let set = ap counted_in (set_here counts a n) in
-    by_address a counts (insert counts a n) (Some a) None (let one = once_here a a refl in omega (arith, c, set, one)) (λ b _. refl) (λ b ne. once_apart a b ne) (λ b ne. set_apart counts a n b ne)
+    let set = ap counted_in (get_at nat_cmp_total counts a n) in
+    by_address a counts (insert counts a n) (Some a) None (let one = once_here a a refl in omega (arith, c, set, one)) (λ b _. refl) (λ b ne. once_apart a b ne) (λ b ne. get_apart nat_cmp_total nat_cmp-IsAntisymmetric counts a n b ne)
 
 pub one_less_counts : OneLessCounts
 one_less_counts counts a = less_of counts a (get counts a) refl
@@ -91,16 +69,16 @@ one_for_another old mid new before after more less a = let m = more a in let l =
 -- one more and then one less
 back_at : (counts : Counts) (a : ℕ) (o : Option ℕ) → get counts a ≡ o → one_less_of (insert counts a (counted_in o)) a (Some (counted_in o)) ≡ counts
 back_at counts a None e = same_map nat_cmp_total nat_cmp-IsAntisymmetric _ _ (λ q. elim (cases_eq q a) [
-  | inl at ↦ subst (λ (x : ℕ). get (remove (insert counts a 0) a) x ≡ get counts x) (sym at) (unset_here (insert counts a 0) a ∙ sym e)
-  | inr ne ↦ unset_apart (insert counts a 0) a q ne ∙ set_apart counts a 0 q ne
+  | inl at ↦ subst (λ (x : ℕ). get (remove (insert counts a 0) a) x ≡ get counts x) (sym at) (removed_at nat_cmp_total (insert counts a 0) a ∙ sym e)
+  | inr ne ↦ removed_apart nat_cmp_total nat_cmp-IsAntisymmetric (insert counts a 0) a q ne ∙ get_apart nat_cmp_total nat_cmp-IsAntisymmetric counts a 0 q ne
 ])
 back_at counts a (Some n) e = same_map nat_cmp_total nat_cmp-IsAntisymmetric _ _ (λ q. elim (cases_eq q a) [
-  | inl at ↦ subst (λ (x : ℕ). get (insert (insert counts a (suc n)) a n) x ≡ get counts x) (sym at) (set_here (insert counts a (suc n)) a n ∙ sym e)
-  | inr ne ↦ set_apart (insert counts a (suc n)) a n q ne ∙ set_apart counts a (suc n) q ne
+  | inl at ↦ subst (λ (x : ℕ). get (insert (insert counts a (suc n)) a n) x ≡ get counts x) (sym at) (get_at nat_cmp_total (insert counts a (suc n)) a n ∙ sym e)
+  | inr ne ↦ get_apart nat_cmp_total nat_cmp-IsAntisymmetric (insert counts a (suc n)) a n q ne ∙ get_apart nat_cmp_total nat_cmp-IsAntisymmetric counts a (suc n) q ne
 ])
 
 pub more_and_less : MoreAndLess
-more_and_less counts a = ap (one_less_of (one_more counts a) a) (set_here counts a (counted counts a)) ∙ back_at counts a (get counts a) refl
+more_and_less counts a = ap (one_less_of (one_more counts a) a) (get_at nat_cmp_total counts a (counted counts a)) ∙ back_at counts a (get counts a) refl
 
 -- ---- lists of prefixes
 

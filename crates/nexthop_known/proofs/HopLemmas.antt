@@ -8,11 +8,6 @@ use Rattle.addr4.specs.Prefixes.{Network, prefix_cmp, same_prefix}
 use Rattle.addr4.proofs.PrefixOrder.{one_prefix, itself}
 use Rattle.nexthop_known.specs.Hops.{is_with}
 
-pub equal_of : (o : Ordering) → is_eq o ≡ true → o ≡ Equal
-equal_of Less e = cc
-equal_of Equal e = refl
-equal_of Greater e = cc
-
 pub both_equal : (o p : Ordering) → is_eq (ordering_then o p) ≡ (is_eq o && is_eq p)
 both_equal Less p = refl
 both_equal Equal p = refl

@@ -13,6 +13,7 @@ use Rattle.std.specs.FinMap as map
 use Rattle.std.proofs.lemmas.Bool.{cases_lt, and_parts}
 use Rattle.addr4.specs.Places.{IsNextRow}
 use Rattle.addr4.specs.Prefixes.{Network}
+use Rattle.link_change.proofs.MapLemmas.{map_read, read_in}
 use Rattle.nexthop_known.specs.declared.answer.Hop.{Hop}
 use Rattle.nexthop_known.specs.declared.index.Holding.{Holding}
 use Rattle.nexthop_known.specs.Hops.{Hops, is_with, came_at, is_stale_at, IsWithSome, IsWithNone, IsMapped, IsLeastStale, IsSettled, IsDiffering, IsUnshared}
@@ -20,7 +21,6 @@ use Rattle.nexthop_known.specs.Ties.{holding_cmp, IsSettledAt, AreTied, AreTold,
 use Rattle.nexthop_known.proofs.HopLemmas.{same_self}
 use Rattle.nexthop_known.proofs.MarkLemmas.{host_is, host_before}
 use Rattle.nexthop_known.proofs.TieLemmas.{found_with}
-use Rattle.nexthop_known.proofs.MapLemmas.{map_read, read_in}
 
 none_listed : (ks : List ℕ) (a : ℕ) → (0 < length ks → ⊥) → list_any (is_at (nat_cmp a)) ks ≡ false
 none_listed [] a none = refl

@@ -1,6 +1,5 @@
 pub mod HopLemmas
 pub mod MarkLemmas
-pub mod MapLemmas
 pub mod TieLemmas
 pub mod KnownLemmas
 pub mod CountLemmas

@@ -7,10 +7,10 @@ use Rattle.std.specs.Cmp.{nat_cmp_total}
 use Rattle.std.specs.FinMap.{FinMap, get, insert, remove, empty, entries, len, find, is_sorted, from_sorted, retain_keys, entries_sorted, get-entries, len-entries, entries-from_sorted, get-from_sorted, get-empty, len-empty, empty_of_len, get-retain_keys, len-remove, same_map, nat_cmp-IsAntisymmetric}
 use Rattle.std.specs.FinMap.Entries.{below_all, where_key, is_sorted-where_key, find-where_key}
 use Rattle.addr4.specs.Prefixes.{Network}
+use Rattle.link_change.proofs.MapLemmas.{by_key, get_at, get_apart, removed_at, removed_apart}
 use Rattle.nexthop_known.specs.declared.answer.Hop.{Hop}
 use Rattle.nexthop_known.specs.Hops.{Hops, is_stale_at, count_of}
 use Rattle.nexthop_known.specs.Laws.{NoneCounts, SomeCounts, OneCountsNoMore, SameCount, KnownCount, NoneStale}
-use Rattle.nexthop_known.proofs.CountLemmas.{by_number, set_here, set_apart, unset_here, unset_apart}
 
 -- ---- two maps that have the same keys have as many
 
@@ -112,11 +112,11 @@ module _ {A : Type 0} where
     less_passed : (hops : Hops A) (a : ℕ) (h : Hop A) → test (Some h) ≡ false → passed (insert hops a h) ≡ remove (passed hops) a
     less_passed hops a h out = same_map nat_cmp_total nat_cmp-IsAntisymmetric _ _ (λ q.
         passed_at (insert hops a h) q
-        ∙ by_number q a (λ _. cond (test (get (insert hops a h) q)) (get (insert hops a h) q) None ≡ get (remove (passed hops) a) q)
+        ∙ by_key nat_cmp_total nat_cmp-IsAntisymmetric q a (λ _. cond (test (get (insert hops a h) q)) (get (insert hops a h) q) None ≡ get (remove (passed hops) a) q)
         (λ e.
-        let here : get (insert hops a h) q ≡ Some h = ap (get (insert hops a h)) e ∙ set_here hops a h in
-        ap (λ o. cond (test o) o None) here ∙ ap (λ b. cond b (Some h) None) out ∙ sym (ap (get (remove (passed hops) a)) e ∙ unset_here (passed hops) a))
-        (λ ne. ap (λ o. cond (test o) o None) (set_apart hops a h q ne) ∙ sym (passed_at hops q) ∙ sym (unset_apart (passed hops) a q ne)))
+        let here : get (insert hops a h) q ≡ Some h = ap (get (insert hops a h)) e ∙ get_at nat_cmp_total hops a h in
+        ap (λ o. cond (test o) o None) here ∙ ap (λ b. cond b (Some h) None) out ∙ sym (ap (get (remove (passed hops) a)) e ∙ removed_at nat_cmp_total (passed hops) a))
+        (λ ne. ap (λ o. cond (test o) o None) (get_apart nat_cmp_total nat_cmp-IsAntisymmetric hops a h q ne) ∙ sym (passed_at hops q) ∙ sym (removed_apart nat_cmp_total nat_cmp-IsAntisymmetric (passed hops) a q ne)))
 
   pub none_counts : NoneCounts A
   none_counts test hops none =

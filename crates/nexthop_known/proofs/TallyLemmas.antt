@@ -7,8 +7,8 @@ use Rattle.std.specs.BTreeMap.{BTreeMap, is_at}
 use Rattle.std.specs.BTreeMap as tree
 use Rattle.std.specs.FinMap.{get, insert, from_entries, nat_cmp-IsAntisymmetric}
 use Rattle.std.specs.FinMap as map
+use Rattle.link_change.proofs.MapLemmas.{read_in, map_set, map_removed}
 use Rattle.nexthop_known.specs.Counts.{Counts, counted, counted_in, is_one, one_more, one_less, one_less_of, PutsCount}
-use Rattle.nexthop_known.proofs.MapLemmas.{read_in, map_set, map_removed}
 
 module _ (m n : BTreeMap ℕ ℕ) (now : Counts) (a : ℕ) (view : from_entries m.entries ≡ now) where
   pub here : (o : Option ℕ) → o ≡ tree.get nat_cmp m a → get now a ≡ o

@@ -6,7 +6,7 @@ use Rattle.std.specs.declared.ops.Bound.TheVariants.{Included, Unbounded}
 use Rattle.std.specs.Ordering.{nat_cmp, ordering_then, is_gt}
 use Rattle.std.specs.declared.cmp.Ordering.{Ordering}
 use Rattle.std.specs.declared.cmp.Ordering.TheVariants.{Less, Equal, Greater}
-use Rattle.std.specs.Cmp.{IsTotalOrder, nat_cmp_total}
+use Rattle.std.specs.Cmp.{IsTotalOrder, Equal-is, nat_cmp_total}
 use Rattle.std.specs.BTreeMap.{BTreeMap, is_at}
 use Rattle.std.specs.BTreeMap as tree
 use Rattle.std.specs.Map.{lookup}
@@ -20,7 +20,7 @@ use Rattle.std.proofs.lemmas.Bool.Decides.{nat_tests}
 use Rattle.addr4.specs.Prefixes.{Network, prefix_cmp, same_prefix}
 use Rattle.addr4.proofs.PrefixOrder.{prefixes_total, exact_prefixes, itself, comes_after}
 use Rattle.nexthop_known.proofs.MarkLemmas.{noted, cleared, nothing_marked}
-use Rattle.nexthop_known.proofs.HopLemmas.{equal_of, both_equal, same_is, same_told, same_self, with_told}
+use Rattle.nexthop_known.proofs.HopLemmas.{both_equal, same_is, same_told, same_self, with_told}
 use Rattle.nexthop_known.specs.declared.answer.Hop.{Hop}
 use Rattle.nexthop_known.specs.declared.index.Holding.{Holding}
 use Rattle.nexthop_known.specs.Hops.{is_with, staled, settled, came_at, is_stale_at}
@@ -32,7 +32,7 @@ pub holdings_total : IsTotalOrder holding_cmp
 holdings_total = then_total (on_total (λ (p : Holding). p.subnet) prefixes_total) (on_total (λ (p : Holding). p.hop) nat_cmp_total)
 
 pub one_address : (a q : ℕ) → is_at (nat_cmp a) q ≡ true → q ≡ a
-one_address a q e = sym (exact_unsigned a q (equal_of (nat_cmp a q) e))
+one_address a q e = sym (exact_unsigned a q ((Equal-is (nat_cmp a q)).0 e))
 
 own_parts : (s : Network) (a : ℕ) (k : Holding) → is_at (holding_cmp (record { subnet = s; hop = a })) k ≡ (same_prefix s k.subnet && is_at (nat_cmp a) k.hop)
 own_parts s a k = both_equal (prefix_cmp s k.subnet) (nat_cmp a k.hop) ∙ ap (λ b. b && is_at (nat_cmp a) k.hop) (same_is s k.subnet)
@@ -52,7 +52,7 @@ least_address : (a : ℕ) → is_gt (nat_cmp 0 a) ≡ false
 least_address a = grind (arith, nat_tests)
 
 from_first : (s : Network) (a : ℕ) → IsLeBy holding_cmp (record { subnet = s; hop = 0 }) (record { subnet = s; hop = a })
-from_first s a = ap (λ o. is_gt (ordering_then o (nat_cmp 0 a))) (equal_of (prefix_cmp s s) (itself s)) ∙ least_address a
+from_first s a = ap (λ o. is_gt (ordering_then o (nat_cmp 0 a))) ((Equal-is (prefix_cmp s s)).0 (itself s)) ∙ least_address a
 
 beyond : (s : Network) (n a : ℕ) → n ≡ 0 → IsLeBy holding_cmp (record { subnet = s; hop = n }) (record { subnet = s; hop = a })
 beyond s n a zero = subst (λ (x : ℕ). IsLeBy holding_cmp (record { subnet = s; hop = x }) (record { subnet = s; hop = a })) (sym zero) (from_first s a)

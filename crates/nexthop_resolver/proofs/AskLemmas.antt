@@ -1,19 +1,19 @@
 -- Known next hops and the register that is asked about them.
 use Rattle.std.proofs.Common.{◌≡◌, ◌≢◌, ℕ, true, false, not, refl, sym, ap, ◌∙◌, subst, Option, Some, None, IsSome, is_some}
-use Rattle.std.specs.FinMap.{get, insert, remove}
+use Rattle.std.specs.FinMap.{get, insert, remove, nat_cmp-IsAntisymmetric}
 use Rattle.std.specs.FinMap as map
+use Rattle.std.specs.Cmp.{nat_cmp_total}
 use Rattle.addr4.specs.Prefixes.{Network, Holds}
 use Rattle.prefix_trie.specs.Width.{width}
+use Rattle.link_change.proofs.MapLemmas.{get_at, get_apart, removed_at, removed_apart}
 use Rattle.rib_route.specs.declared.rows.Interior.{Interior}
 use Rattle.register_interest.specs.Covers.{longest, matched, IsSubnet, IsCover}
 use Rattle.register_interest.specs.declared.interests.Interest.{Interest}
 use Rattle.register_interest.specs.Registers.{Registry}
 use Rattle.register_interest.proofs.InterestLemmas.{interests_total, exact_interests}
-use Rattle.register_interest.proofs.MapLemmas.{get_at, get_apart, removed_at, removed_apart}
 use Rattle.nexthop_known.specs.declared.answer.Hop.{Hop}
 use Rattle.nexthop_known.specs.Hops.{Hops, came_at, is_stale_at, learnt, renewed, IsRenewed, IsGivenUp, IsWithSome, IsWithNone}
 use Rattle.nexthop_known.specs.Agreement.{Agree, IsInterestIn, GivesUp}
-use Rattle.nexthop_known.proofs.CountLemmas.{set_here, set_apart, unset_here, unset_apart}
 use Rattle.nexthop_known.proofs.AgreeLemmas.{answered_agrees, early_agrees, early_is_given_up, forgotten_agrees}
 use Rattle.nexthop_resolver.specs.Registered.{answer_of, interest_of, told_of, Agrees, IsEarly, IsLargest, IsToldBy, KeepsOthers}
 
@@ -96,7 +96,7 @@ module _ {A : Type 0} (kept : Option (Network × Interior) → A) where
   put_agrees client known new was is a h s agree rows interest free new_is fresh came holds =
       by_rows client new was is rows
       (answered_agrees (answer_of kept was) (interest_of client was) (interest_of client is) (get known) (get new) a h s agree free
-      (record { here = ap (λ m. get m a) new_is ∙ set_here known a h; others = λ b ne. ap (λ m. get m b) new_is ∙ set_apart known a h b ne })
+      (record { here = ap (λ m. get m a) new_is ∙ get_at nat_cmp_total known a h; others = λ b ne. ap (λ m. get m b) new_is ∙ get_apart nat_cmp_total nat_cmp-IsAntisymmetric known a h b ne })
       fresh came holds interest)
 
   pub learnt_agrees : (client : ℕ) (known new : Hops A) (was is : Registry Interior) (a : ℕ) (s : Network) (x : A) → Agrees kept client known was → is.rows ≡ was.rows
@@ -145,5 +145,5 @@ module _ {A : Type 0} (kept : Option (Network × Interior) → A) where
       let h = some_of (get known a) some in
       by_rows client new was is rows
       (forgotten_agrees (answer_of kept was) (interest_of client was) (interest_of client is) (get known) (get new) a h.0 up agree h.1
-      (record { here = ap (λ m. get m a) new_is ∙ unset_here known a; others = λ b ne. ap (λ m. get m b) new_is ∙ unset_apart known a b ne })
+      (record { here = ap (λ m. get m a) new_is ∙ removed_at nat_cmp_total known a; others = λ b ne. ap (λ m. get m b) new_is ∙ removed_apart nat_cmp_total nat_cmp-IsAntisymmetric known a b ne })
       (given h.0 h.1) gives)

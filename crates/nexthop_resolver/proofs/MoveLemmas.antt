@@ -1,15 +1,17 @@
 -- One row more or less names a next hop.
 use Rattle.std.proofs.Common.{◌≡◌, ◌≢◌, ℕ, zero, suc, Bool, true, false, not, refl, sym, ap, ◌∙◌, subst, inl, inr, Option, Some, None, is_some, arith, ◌==◌, eqb-true}
-use Rattle.std.specs.FinMap.{get, insert, remove, empty, get-empty}
+use Rattle.std.specs.FinMap.{get, insert, remove, empty, get-empty, nat_cmp-IsAntisymmetric}
 use Rattle.std.specs.FinMap as map
 use Rattle.std.specs.Option.{option_map, option_eq}
 use Rattle.std.specs.Ordering.{nat_cmp}
 use Rattle.std.proofs.lemmas.Bool.{cases_eq}
+use Rattle.std.specs.Cmp.{nat_cmp_total}
 use Rattle.addr4.specs.Prefixes.{Network}
+use Rattle.link_change.proofs.MapLemmas.{get_at, get_apart, removed_at, removed_apart}
 use Rattle.nexthop_known.specs.declared.answer.Hop.{Hop}
 use Rattle.nexthop_known.specs.Hops.{Hops, renewed, staled, IsMapped, IsRenewed}
 use Rattle.nexthop_known.specs.Counts.{Counts, counted, one_more, one_less, one_less_of, is_one, once, Recounts}
-use Rattle.nexthop_known.proofs.CountLemmas.{set_here, set_apart, unset_here, unset_apart, one_more_counts, one_less_counts, one_for_another, more_and_less}
+use Rattle.nexthop_known.proofs.CountLemmas.{one_more_counts, one_less_counts, one_for_another, more_and_less}
 use Rattle.nexthop_resolver.specs.Resolving.{Resolving, AreNamed}
 use Rattle.nexthop_resolver.specs.Takes.{KeepsOnly, KeepsOrLearns, Moves, Keeps}
 use Rattle.nexthop_resolver.proofs.AskLemmas.{none_of}
@@ -54,8 +56,8 @@ module _ {A : Type 0} where
   more_named : (counts : Counts) (known : Hops A) (a : ℕ) (o : ℕ → Bool) → AreNamed counts known
       → o a ≡ true → ((b : ℕ) → b ≢ a → o b ≡ map.contains_key known b) → (b : ℕ) → o b ≡ map.contains_key (one_more counts a) b
   more_named counts known a o named here apart b = elim (cases_eq b a) [
-    | inl e ↦ ap o e ∙ here ∙ sym (ap (λ x. map.contains_key (one_more counts a) x) e ∙ ap is_some (set_here counts a (counted counts a)))
-    | inr ne ↦ apart b ne ∙ named b ∙ sym (ap is_some (set_apart counts a (counted counts a) b ne))
+    | inl e ↦ ap o e ∙ here ∙ sym (ap (λ x. map.contains_key (one_more counts a) x) e ∙ ap is_some (get_at nat_cmp_total counts a (counted counts a)))
+    | inr ne ↦ apart b ne ∙ named b ∙ sym (ap is_some (get_apart nat_cmp_total nat_cmp-IsAntisymmetric counts a (counted counts a) b ne))
   ]
 
   module _ (told : ℕ → Hop A → Type 0) (client : ℕ) (counts : Counts) (known : Hops A) (walk : Option (Option Network)) (named : AreNamed counts known) (a : ℕ) where
@@ -76,12 +78,12 @@ module _ {A : Type 0} where
     learns_hops : (known' : Hops A) (new : Hop A) → map.contains_key known a ≡ false → told a new → known' ≡ insert known a new → KeepsOrLearns told known known'
     learns_hops known' new unknown is_told is b h e = elim (cases_eq b a) [
       | inl at ↦
-          let same : new ≡ h = same_some new h (sym (ap (λ (m : Hops A). get m b) is ∙ ap (get (insert known a new)) at ∙ set_here known a new) ∙ e) in
+          let same : new ≡ h = same_some new h (sym (ap (λ (m : Hops A). get m b) is ∙ ap (get (insert known a new)) at ∙ get_at nat_cmp_total known a new) ∙ e) in
           inr (record {
             unknown = ap (get known) at ∙ none_of (get known a) unknown;
             is_told = subst (λ (k : ℕ). told k h) (sym at) (subst (told a) same is_told);
           })
-      | inr ne ↦ inl (sym (ap (λ (m : Hops A). get m b) is ∙ set_apart known a new b ne) ∙ e)
+      | inr ne ↦ inl (sym (ap (λ (m : Hops A). get m b) is ∙ get_apart nat_cmp_total nat_cmp-IsAntisymmetric known a new b ne) ∙ e)
     ]
 
     pub noted_first : (counts' : Counts) (known' : Hops A) (new : Hop A) → map.contains_key counts a ≡ false → counts' ≡ one_more counts a
@@ -97,16 +99,16 @@ module _ {A : Type 0} where
     noted_first_named counts' known' new is learns =
         subst (λ (m : Counts). AreNamed m known') (sym is)
         (more_named counts known a (map.contains_key known') named
-        (ap (λ (m : Hops A). map.contains_key m a) learns ∙ ap is_some (set_here known a new))
-        (λ b ne. ap (λ (m : Hops A). map.contains_key m b) learns ∙ ap is_some (set_apart known a new b ne)))
+        (ap (λ (m : Hops A). map.contains_key m a) learns ∙ ap is_some (get_at nat_cmp_total known a new))
+        (λ b ne. ap (λ (m : Hops A). map.contains_key m b) learns ∙ ap is_some (get_apart nat_cmp_total nat_cmp-IsAntisymmetric known a new b ne)))
 
     -- ---- one less
     less_named : (o : Option ℕ) → get counts a ≡ o → is_one o ≡ false → AreNamed (one_less_of counts a o) known
     less_named None e more = named
     less_named (Some zero) e more = absurd (let clash : true ≡ false = more in cc)
     less_named (Some (suc n)) e more = λ b. elim (cases_eq b a) [
-      | inl at ↦ named b ∙ ap is_some (ap (get counts) at ∙ e) ∙ sym (ap is_some (ap (get (insert counts a n)) at ∙ set_here counts a n))
-      | inr ne ↦ named b ∙ sym (ap is_some (set_apart counts a n b ne))
+      | inl at ↦ named b ∙ ap is_some (ap (get counts) at ∙ e) ∙ sym (ap is_some (ap (get (insert counts a n)) at ∙ get_at nat_cmp_total counts a n))
+      | inr ne ↦ named b ∙ sym (ap is_some (get_apart nat_cmp_total nat_cmp-IsAntisymmetric counts a n b ne))
     ]
 
     pub released_more : (counts' : Counts) → is_one (get counts a) ≡ false → counts' ≡ one_less counts a
@@ -125,8 +127,8 @@ module _ {A : Type 0} where
     last_named None e one = absurd (let clash : false ≡ true = one in cc)
     last_named (Some (suc n)) e one = absurd (let clash : false ≡ true = one in cc)
     last_named (Some zero) e one = λ b. elim (cases_eq b a) [
-      | inl at ↦ ap is_some (ap (get (remove known a)) at ∙ unset_here known a) ∙ sym (ap is_some (ap (get (remove counts a)) at ∙ unset_here counts a))
-      | inr ne ↦ ap is_some (unset_apart known a b ne) ∙ named b ∙ sym (ap is_some (unset_apart counts a b ne))
+      | inl at ↦ ap is_some (ap (get (remove known a)) at ∙ removed_at nat_cmp_total known a) ∙ sym (ap is_some (ap (get (remove counts a)) at ∙ removed_at nat_cmp_total counts a))
+      | inr ne ↦ ap is_some (removed_apart nat_cmp_total nat_cmp-IsAntisymmetric known a b ne) ∙ named b ∙ sym (ap is_some (removed_apart nat_cmp_total nat_cmp-IsAntisymmetric counts a b ne))
     ]
 
     pub released_last_named : (counts' : Counts) (known' : Hops A) → is_one (get counts a) ≡ true → counts' ≡ one_less counts a → known' ≡ remove known a → AreNamed counts' known'
@@ -135,8 +137,8 @@ module _ {A : Type 0} where
 
     pub forgets_only : (known' : Hops A) → known' ≡ remove known a → KeepsOnly known known'
     forgets_only known' is b h e = elim (cases_eq b a) [
-      | inl at ↦ clash_some h _ (sym (ap (λ (m : Hops A). get m b) is ∙ ap (get (remove known a)) at ∙ unset_here known a) ∙ e)
-      | inr ne ↦ sym (ap (λ (m : Hops A). get m b) is ∙ unset_apart known a b ne) ∙ e
+      | inl at ↦ clash_some h _ (sym (ap (λ (m : Hops A). get m b) is ∙ ap (get (remove known a)) at ∙ removed_at nat_cmp_total known a) ∙ e)
+      | inr ne ↦ sym (ap (λ (m : Hops A). get m b) is ∙ removed_apart nat_cmp_total nat_cmp-IsAntisymmetric known a b ne) ∙ e
     ]
 
     pub released_last : (counts' : Counts) (known' : Hops A) → is_one (get counts a) ≡ true → counts' ≡ one_less counts a → known' ≡ remove known a
@@ -184,9 +186,9 @@ module _ {A : Type 0} where
       → AreNamed counts new
   renewed_named counts known new a s x named has is = λ b. elim (cases_eq b a) [
     | inl at ↦
-        ap is_some (ap (λ (m : Hops A). get m b) is ∙ ap (get (insert known a (renewed s x (get known a)))) at ∙ set_here known a (renewed s x (get known a)))
+        ap is_some (ap (λ (m : Hops A). get m b) is ∙ ap (get (insert known a (renewed s x (get known a)))) at ∙ get_at nat_cmp_total known a (renewed s x (get known a)))
         ∙ sym (sym (named b) ∙ ap (λ k. is_some (get known k)) at ∙ has)
-    | inr ne ↦ ap is_some (ap (λ (m : Hops A). get m b) is ∙ set_apart known a (renewed s x (get known a)) b ne) ∙ named b
+    | inr ne ↦ ap is_some (ap (λ (m : Hops A). get m b) is ∙ get_apart nat_cmp_total nat_cmp-IsAntisymmetric known a (renewed s x (get known a)) b ne) ∙ named b
   ]
 
   mapped_some : (s : Network) (o : Option (Hop A)) → is_some (option_map (staled s) o) ≡ is_some o

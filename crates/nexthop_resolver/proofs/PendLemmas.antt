@@ -6,12 +6,12 @@ use Rattle.std.specs.Ordering.{nat_cmp}
 use Rattle.std.specs.FinMap as map
 use Rattle.std.specs.FinMap.{get, empty, get-empty}
 use Rattle.addr4.specs.Prefixes.{Network}
+use Rattle.link_change.proofs.MapLemmas.{by_key}
 use Rattle.rib_route.specs.declared.rows.Interior.{Interior}
 use Rattle.register_interest.specs.declared.interests.Interest.{Interest}
 use Rattle.register_interest.specs.Interests.{interest_cmp, without}
 use Rattle.register_interest.specs.Registers.{Registry, KeepsAnswers}
 use Rattle.register_interest.proofs.InterestLemmas.{interests_total, exact_interests, without_others, without_listed}
-use Rattle.register_interest.proofs.MapLemmas.{by_key}
 use Rattle.nexthop_known.specs.declared.answer.Hop.{Hop}
 use Rattle.nexthop_known.specs.Hops.{Hops, is_with, staled, IsMapped}
 use Rattle.nexthop_known.proofs.HopLemmas.{with_told, with_itself}

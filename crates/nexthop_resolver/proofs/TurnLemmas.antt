@@ -1,9 +1,10 @@
 -- One turn of a resolver's task.
 use Rattle.std.proofs.Common.{◌≡◌, ℕ, true, false, cond, refl, sym, ap, ◌∙◌, subst, inl, inr, Option, Some, None, is_some, Result, Ok, Err, IfOk, OnErr}
 use Rattle.std.specs.Option.{option_map}
-use Rattle.std.specs.FinMap.{get, insert}
+use Rattle.std.specs.FinMap.{get, insert, nat_cmp-IsAntisymmetric}
 use Rattle.std.specs.FinMap as map
 use Rattle.std.proofs.lemmas.Bool.{cases_eq}
+use Rattle.std.specs.Cmp.{nat_cmp_total}
 use Rattle.addr4.specs.Prefixes.{Network}
 use Rattle.link_change.specs.Rows.{Rows, Candidates, IsNextCandidate, CoversRows}
 use Rattle.link_change.specs.Changes.{IsChangeOf}
@@ -12,6 +13,7 @@ use Rattle.link_change.specs.declared.change.Change.{Change}
 use Rattle.link_change.specs.declared.turn.Turn.{Turn}
 use Rattle.link_change.specs.declared.turn.Turn.TheVariants.{Nothing, Quiet, Sent}
 use Rattle.link_change.proofs.RowLemmas.{same_function}
+use Rattle.link_change.proofs.MapLemmas.{get_at, get_apart}
 use Rattle.rib_route.specs.declared.rows.Interior.{Interior}
 use Rattle.register_interest.specs.Registers.{Registry}
 use Rattle.pass_core.specs.Passed.{Passed, finished, function_at}
@@ -23,7 +25,7 @@ use Rattle.nexthop_known.specs.declared.answer.Hop.{Hop}
 use Rattle.nexthop_known.specs.Hops.{Hops, settled, renewed, IsMapped, IsLeastStale, IsDiffering, IsRenewed}
 use Rattle.nexthop_known.specs.Counts.{Counts, AreCounted}
 use Rattle.nexthop_known.proofs.AgreeLemmas.{settled_agrees}
-use Rattle.nexthop_known.proofs.CountLemmas.{set_here, set_apart, named_is_counted}
+use Rattle.nexthop_known.proofs.CountLemmas.{named_is_counted}
 use Rattle.nexthop_resolver.specs.Resolving.{Resolving, Answers, AreNamed, in_force_by, fresh_by, walk_to, passes, at_place, begun, made_by, goes_on, resolved, res_rows, named_by}
 use Rattle.nexthop_resolver.specs.Registered.{answer_of, interest_of, Agrees, Renews}
 use Rattle.nexthop_resolver.specs.Turns.{KnownAfter, Rests, Steps, IsStep, Asks, Turned, IsTurn}
@@ -47,9 +49,9 @@ module _ {A : Type 0} where
   pub renewed_answers : (old new : Hops A) (a : ℕ) (s : Network) (x : A) → is_some (get old a) ≡ true → IsRenewed old new a s x → in_force_by new ≡ in_force_by old
   renewed_answers old new a s x known is = same_function _ _ (λ b. elim (cases_eq b a) [
     | inl e ↦
-        ap (option_map (λ h. h.in_force)) (ap (λ (m : Hops A). get m b) is ∙ ap (get (insert old a (renewed s x (get old a)))) e ∙ set_here old a (renewed s x (get old a)))
+        ap (option_map (λ h. h.in_force)) (ap (λ (m : Hops A). get m b) is ∙ ap (get (insert old a (renewed s x (get old a)))) e ∙ get_at nat_cmp_total old a (renewed s x (get old a)))
         ∙ kept_force (get old a) s x known ∙ ap (in_force_by old) (sym e)
-    | inr ne ↦ ap (option_map (λ h. h.in_force)) (ap (λ (m : Hops A). get m b) is ∙ set_apart old a (renewed s x (get old a)) b ne)
+    | inr ne ↦ ap (option_map (λ h. h.in_force)) (ap (λ (m : Hops A). get m b) is ∙ get_apart nat_cmp_total nat_cmp-IsAntisymmetric old a (renewed s x (get old a)) b ne)
   ])
 
   -- without a walk only the answers in force count

@@ -4,13 +4,13 @@ use Rattle.std.specs.FinMap as tables
 use Rattle.std.specs.FinMap.{FinMap, find, is_sorted, get-entries, get-remove, get-from_sorted, entries_sorted, entries-from_sorted, same_map}
 use Rattle.std.specs.FinMap.Entries.{where_key, is_sorted-where_key, find-where_key}
 use Rattle.std.proofs.lemmas.List.Sums.{sum_by-cons, sum_by-le-sum_by}
-use Rattle.std.specs.Cmp.{nat_cmp_total}
 use Rattle.std.specs.List.{sum_by}
-use Rattle.std.specs.Ordering.{nat_cmp, eq_by_cmp}
+use Rattle.std.specs.Ordering.{eq_by_cmp}
 use Rattle.std.specs.Prelude.{T}
 use Rattle.addr4.specs.Prefixes.{Network, prefix_cmp}
 use Rattle.addr4.proofs.PrefixOrder.{prefixes_total, exact_prefixes}
 use Rattle.bgp_attr.specs.declared.attrs.Attrs.{Attrs}
+use Rattle.link_change.proofs.MapLemmas.{values_length}
 use Rattle.policy_rules.specs.declared.rule.Rule.{Rule}
 use Rattle.pass_core.specs.Passed.{Walked, is_beyond}
 use Rattle.loss_chain.specs.Lost.{Lost}
@@ -22,7 +22,6 @@ use Rattle.in_chain.specs.Chains.{Chained, row_count, IsChain, count_beyond, los
 use Rattle.in_chain.specs.Steps.{swept, welded}
 use Rattle.in_chain.specs.Laws.{TurnsAreBounded}
 use Rattle.peer_side.specs.Peers.{Chains, lost_of, lost_in, left_in, rows_in}
-use Rattle.peer_side.proofs.MapLemmas.{values_length}
 
 pub swept_rows : (s : ℕ) (c : Chained) (p : Network) (a : Attrs) (t : FinMap prefix_cmp Attrs) → IsChain c → table_of s c.incoming.tables.deletions ≡ Some t → tables.get t p ≡ Some a → lost_of (swept s p c) + 1 ≡ lost_of c
 swept_rows s c p a t chain stands at = swept_rows_of s p t a c.incoming.tables.deletions chain.rising stands at
@@ -111,7 +110,7 @@ left_among law (c ∷ cs) =
     omega (arith, here, rest, turns, rows)
 
 pub left_below : TurnsAreBounded → (a : Chains) → left_in a ≤ 2 * (rows_in a + tables.len a)
-left_below law a = let all = left_among law (tables.values a) in let size = values_length nat_cmp nat_cmp_total a in omega (arith, all, size)
+left_below law a = let all = left_among law (tables.values a) in let size = values_length a in omega (arith, all, size)
 
 pub lost_below : (a : Chains) → lost_in a ≤ rows_in a
 lost_below a = sum_by-le-sum_by lost_of row_count (tables.values a) (λ c. omega arith)

@@ -1,4 +1,3 @@
-pub mod MapLemmas
 pub mod PutLemmas
 pub mod LinkLemmas
 pub mod CountLemmas

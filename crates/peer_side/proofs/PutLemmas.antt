@@ -9,11 +9,12 @@ use Rattle.std.specs.Cmp.{nat_cmp_total, unsigned_tied}
 use Rattle.std.specs.Ordering.{nat_cmp, is_lt}
 use Rattle.std.specs.declared.cmp.Ordering.TheVariants.{Less, Equal, Greater}
 use Rattle.std.proofs.lemmas.Bool.Decides.{nat_tests}
+use Rattle.std.proofs.lemmas.Option.{same_Some}
+use Rattle.link_change.proofs.MapLemmas.{read_in, map_set, sum_replaced}
 use Rattle.link_region.proofs.RegionLemmas.{by_bool}
 use Rattle.loss_chain.proofs.TableLemmas.{equal_by, same_by}
 use Rattle.in_chain.specs.Chains.{Chained, turns_left}
 use Rattle.peer_side.specs.Peers.{Chains, chain_at, put_chain, lost_of, lost_in, left_in}
-use Rattle.peer_side.proofs.MapLemmas.{one_of, read_in, map_set, sum_replaced}
 
 pub at_put : (k : ℕ) (c : Chained) (a : Chains) (j : ℕ) → chain_at j (put_chain k c a) ≡ cond (nat_eq j k) (Some c) (chain_at j a)
 at_put k c a j = get-insert nat_cmp_total a k c j ∙ ap (λ (b : Bool). cond b (Some c) (chain_at j a)) (unsigned_tied j k)
@@ -36,7 +37,7 @@ put_kept f k c a same j = put_seen f k c a j ∙ by_bool (nat_eq j k) (λ b. con
 pub put_beside : (P : ℕ → Chained → Type 0) (k : ℕ) (c : Chained) (a : Chains) → P k c → ((j : ℕ) (d : Chained) → nat_eq j k ≡ false → chain_at j a ≡ Some d → P j d) → (j : ℕ) (d : Chained) → chain_at j (put_chain k c a) ≡ Some d → P j d
 put_beside P k c a own each j d at =
     by_bool (nat_eq j k) (λ b. cond b (Some c) (chain_at j a) ≡ Some d → P j d)
-    (λ e there. subst (λ (n : ℕ). P n d) (sym (equal_by j k e)) (subst (P k) (one_of c d there) own)) (λ e there. each j d e there) (sym (at_put k c a j) ∙ at)
+    (λ e there. subst (λ (n : ℕ). P n d) (sym (equal_by j k e)) (subst (P k) (same_Some c d there) own)) (λ e there. each j d e there) (sym (at_put k c a j) ∙ at)
 
 -- what holds of each chain and of the one that was put
 pub put_each : (P : ℕ → Chained → Type 0) (k : ℕ) (c : Chained) (a : Chains) → P k c → ((j : ℕ) (d : Chained) → chain_at j a ≡ Some d → P j d) → (j : ℕ) (d : Chained) → chain_at j (put_chain k c a) ≡ Some d → P j d
@@ -54,10 +55,10 @@ put_more k c a none = len-insert nat_cmp_total a k c ∙ ap (λ (o : Option Chai
 
 -- how many rows are lost, and how many turns of walks are left
 pub put_lost : (k : ℕ) (c c' : Chained) (a : Chains) → chain_at k a ≡ Some c → lost_in (put_chain k c' a) + lost_of c ≡ lost_in a + lost_of c'
-put_lost k c c' a at = sum_replaced nat_cmp nat_cmp_total lost_of a k c' c at
+put_lost k c c' a at = sum_replaced nat_cmp_total lost_of a k c' c at
 
 pub put_left : (k : ℕ) (c c' : Chained) (a : Chains) → chain_at k a ≡ Some c → left_in (put_chain k c' a) + turns_left c ≡ left_in a + turns_left c'
-put_left k c c' a at = sum_replaced nat_cmp nat_cmp_total turns_left a k c' c at
+put_left k c c' a at = sum_replaced nat_cmp_total turns_left a k c' c at
 
 -- to put the chain that is there changes nothing
 pub put_same : (k : ℕ) (c : Chained) (a : Chains) → chain_at k a ≡ Some c → put_chain k c a ≡ a
@@ -73,17 +74,17 @@ put_twice k c c' a = same_map nat_cmp_total nat_cmp-IsAntisymmetric _ _ (λ j. a
 
 -- ---- a chain that is lent by the map that holds it
 pub read_at : (m : BTreeMap ℕ Chained) (now : Chains) (k : ℕ) → from_entries m.entries ≡ now → tree.get nat_cmp m k ≡ chain_at k now
-read_at m now k view = sym (read_in nat_cmp nat_cmp_total m now k view)
+read_at m now k view = sym (read_in nat_cmp_total m now k view)
 
 pub lent_none : (m : BTreeMap ℕ Chained) (now : Chains) (k : ℕ) → from_entries m.entries ≡ now → None ≡ tree.get nat_cmp m k → IsSome (chain_at k now) → ⊥
 lent_none m now k view none some = let gone : chain_at k now ≡ None = sym (none ∙ read_at m now k view) in cc
 
 pub lent_put : (m n : BTreeMap ℕ Chained) (now : Chains) (k : ℕ) (c c' : Chained) → from_entries m.entries ≡ now → Some c ≡ tree.get nat_cmp m k → WritesThrough nat_cmp (nat_cmp k) m c' n → from_entries {R = nat_cmp} n.entries ≡ put_chain k c' now
-lent_put m n now k c c' view at written = map_set nat_cmp nat_cmp_total nat_cmp-IsAntisymmetric m n now k c' view (written.3 (ap is_some (sym at)))
+lent_put m n now k c c' view at written = map_set nat_cmp_total nat_cmp-IsAntisymmetric m n now k c' view (written.3 (ap is_some (sym at))).0
 
 -- and one that is new
 pub set_put : (m n : BTreeMap ℕ Chained) (now : Chains) (k : ℕ) (c : Chained) → from_entries m.entries ≡ now → tree.Updates nat_cmp m n k (Some c) → from_entries {R = nat_cmp} n.entries ≡ put_chain k c now
-set_put m n now k c view updates = map_set nat_cmp nat_cmp_total nat_cmp-IsAntisymmetric m n now k c view updates
+set_put m n now k c view updates = map_set nat_cmp_total nat_cmp-IsAntisymmetric m n now k c view updates.0
 
 -- no peer is beyond the greatest number, and none where there are no entries
 pub none_beyond : (m : BTreeMap ℕ Chained) (now : Chains) (last k : ℕ) → from_entries m.entries ≡ now → tree.IsUpperBound nat_cmp m last → last < k → chain_at k now ≡ None

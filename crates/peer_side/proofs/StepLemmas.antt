@@ -1,5 +1,6 @@
 -- A step of one chain, as one of the side.
 use Rattle.std.proofs.Common.{◌≡◌, ℕ, ◌+◌, ◌<◌, ◌≤◌, List, length, Option, Some, None, refl, sym, ap, subst, ◌∙◌, arith}
+use Rattle.std.proofs.lemmas.Option.{same_Some}
 use Rattle.addr4.specs.Prefixes.{Network}
 use Rattle.bgp_attr.specs.declared.attrs.Attrs.{Attrs}
 use Rattle.bgp_attr.specs.declared.route.Route.{Route}
@@ -26,7 +27,6 @@ use Rattle.in_chain.specs.Incomings.{loss_entries, overdue_of}
 use Rattle.in_chain.specs.Steps.{fed, lost, welded, refiltered, new_chain, Turned, IsTaken}
 use Rattle.peer_side.specs.Peers.{Chains, chain_at, put_chain, filt_at, filt_by, lost_of, IsPeer, IsPeers, IsFallen, IsPeersBut, AreBefore, peer_of, has_turn_in}
 use Rattle.peer_side.specs.Steps.{chain_weld_entries, StepsInward, FallsInward, Changes, MayLose, FeedsInward, LosesInward, EditsInward, WeldsInward, TakesInward, ComesInward}
-use Rattle.peer_side.proofs.MapLemmas.{one_of}
 use Rattle.peer_side.proofs.PutLemmas.{put_here, put_other, put_kept, put_each, put_beside, put_same, put_lost, put_left}
 use Rattle.peer_side.proofs.LinkLemmas.{leads_peers, links_kept}
 use Rattle.peer_side.proofs.ChainLemmas.{Left, fed_before, fed_few, turn_leads, turn_left, weld_before, weld_few, turn_nears, turn_sent}
@@ -48,7 +48,7 @@ module _ (a : Chains) (k : ℕ) (c : Chained) (at : chain_at k a ≡ Some c) (pe
   fallen c' entries same fewer leads chain one = record {
     leads = leads_peers a k c c' entries at is_peer.number (same ∙ is_peer.number) leads;
     sound = record {
-      own = λ d there. subst (IsFallen k) (one_of c' d (sym (put_here k c' a) ∙ there)) (record { number = same ∙ is_peer.number; chain = chain; one_empty = one; few = let was = is_peer.few in omega (arith, fewer, was) });
+      own = λ d there. subst (IsFallen k) (same_Some c' d (sym (put_here k c' a) ∙ there)) (record { number = same ∙ is_peer.number; chain = chain; one_empty = one; few = let was = is_peer.few in omega (arith, fewer, was) });
       others = λ j d other there. peers j d (sym (put_other k c' a j other) ∙ there);
     };
   }
@@ -108,7 +108,7 @@ module _ (a : Chains) (k : ℕ) (c : Chained) (at : chain_at k a ≡ Some c) (pe
 
 -- the chain of the peer whose session may be lost
 pub may_lose_here : (k s : ℕ) (a : Chains) (c : Chained) → MayLose k s a → chain_at k a ≡ Some c → (overdue_of c.incoming ≡ None) × AreBefore s c
-may_lose_here k s a c may at = subst (λ (x : Chained). (overdue_of x.incoming ≡ None) × AreBefore s x) (one_of may.chain c (sym may.at ∙ at)) (may.room, may.later)
+may_lose_here k s a c may at = subst (λ (x : Chained). (overdue_of x.incoming ≡ None) × AreBefore s x) (same_Some may.chain c (sym may.at ∙ at)) (may.room, may.later)
 
 -- a peer that is new
 pub begun_sound : (a : Chains) (k : ℕ) (me : Speaker) (words : Neighbour) → words.number ≡ k → IsPeers a → IsPeers (put_chain k (new_chain me words) a)

@@ -3,10 +3,10 @@ use Rattle.std.proofs.Common.{◌≡◌, ℕ, Bool, true, ◌&&◌, cond, List, 
 use Rattle.std.specs.Prelude.{IfNone}
 use Rattle.std.specs.List.{AllByRecursion, find, flat_map, sum_by}
 use Rattle.std.specs.FinMap as tables
-use Rattle.std.specs.Ordering.{nat_cmp}
 use Rattle.std.specs.Cmp.{nat_cmp_total}
 use Rattle.std.proofs.lemmas.List.Sums.{sum_by-cons}
 use Rattle.bgp_attr.specs.declared.attrs.Attrs.{Attrs}
+use Rattle.link_change.proofs.MapLemmas.{all_values}
 use Rattle.journal_text.specs.declared.link.Task.{Task}
 use Rattle.journal_text.specs.declared.link.Task.TheVariants.{Del, Fin}
 use Rattle.loss_chain.specs.Lost.{Lost}
@@ -18,7 +18,6 @@ use Rattle.link_region.proofs.RegionLemmas.{by_bool}
 use Rattle.in_chain.specs.Chains.{Chained, turns_left}
 use Rattle.in_chain.specs.Laws.{TurnsAreLeft}
 use Rattle.peer_side.specs.Peers.{Chains, chain_at, chain_tasks, deletion_tasks, filter_tasks, first_walk, has_turn_in, has_peer_work, lost_of, lost_in, left_in, IsPeers}
-use Rattle.peer_side.proofs.MapLemmas.{all_values}
 
 -- ---- the stages
 pub all_working : (W : Task → Bool) (ts : List Task) → AllByRecursion (λ t. W t ≡ true) ts → find W ts ≡ first_task ts
@@ -27,7 +26,7 @@ all_working W (t ∷ ts) all = ap (λ (b : Bool). cond b (Some t) (find W ts)) a
 
 -- each stage that stands has work
 stages_work : (a : Chains) → IsPeers a → AllByRecursion (λ t. has_peer_work a t ≡ true) (deletion_tasks a)
-stages_work a peers = all_flat Works chain_tasks (tables.values a) (all_values nat_cmp nat_cmp_total (λ c. AllByRecursion Works (chain_tasks c)) a of_chain)
+stages_work a peers = all_flat Works chain_tasks (tables.values a) (all_values nat_cmp_total (λ c. AllByRecursion Works (chain_tasks c)) a of_chain)
   where
     Works : Task → Type 0
     Works t = has_peer_work a t ≡ true
@@ -63,7 +62,7 @@ none_lost a cs (Some task) is e = tt
 -- ---- the walks
 -- a filter's walk has work while it is on
 walks_work : (a : Chains) → IsPeers a → AllByRecursion (λ c. has_peer_work a (Fin c.incoming.number) ≡ is_some c.filter.walk) (tables.values a)
-walks_work a peers = all_values nat_cmp nat_cmp_total (λ c. has_peer_work a (Fin c.incoming.number) ≡ is_some c.filter.walk) a (λ k c at.
+walks_work a peers = all_values nat_cmp_total (λ c. has_peer_work a (Fin c.incoming.number) ≡ is_some c.filter.walk) a (λ k c at.
     let here : chain_at c.incoming.number a ≡ Some c = ap (λ (n : ℕ). chain_at n a) (peers k c at).number ∙ at in
     ap (has_turn_in (Fin c.incoming.number)) here ∙ ap (λ (b : Bool). b && is_some c.filter.walk) (same_by c.incoming.number c.incoming.number refl))
 

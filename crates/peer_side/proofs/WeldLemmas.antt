@@ -1,5 +1,6 @@
 -- A fall in a peer's chain, and the weld behind it.
 use Rattle.std.proofs.Common.{◌≡◌, ℕ, ◌<◌, ◌≤◌, List, ◌++◌, Some, sym, ap, subst, ◌∙◌, arith}
+use Rattle.std.proofs.lemmas.Option.{same_Some}
 use Rattle.journal_text.specs.declared.link.Task.{Task}
 use Rattle.journal_text.specs.declared.link.Task.TheVariants.{Del, Fin, Nh, ReadRib, Out, Rdel, Red, Ext}
 use Rattle.journal_text.specs.declared.entry.Entry.{Entry}
@@ -10,7 +11,6 @@ use Rattle.in_chain.specs.Chains.{Chained}
 use Rattle.in_chain.specs.Steps.{welded}
 use Rattle.peer_side.specs.Peers.{Chains, chain_at, put_chain, AreBefore}
 use Rattle.peer_side.specs.Steps.{chain_weld_entries, WeldsPeer, WeldsInward, Nears}
-use Rattle.peer_side.proofs.MapLemmas.{one_of}
 use Rattle.peer_side.proofs.PutLemmas.{put_here, put_twice}
 
 -- ---- the peer's chain
@@ -19,7 +19,7 @@ fallen_at k a fallen c is = ap (chain_at k) is ∙ put_here k c a
 
 module _ (k : ℕ) (a fallen cs : Chains) (c : Chained) (entries : List (Entry Value)) (is : fallen ≡ put_chain k c a) where
   emptied : (w : WeldsPeer k fallen cs entries) → w.chain ≡ c
-  emptied w = one_of w.chain c (sym w.at ∙ fallen_at k a fallen c is)
+  emptied w = same_Some w.chain c (sym w.at ∙ fallen_at k a fallen c is)
 
   pub weld_lines : WeldsPeer k fallen cs entries → entries ≡ chain_weld_entries c
   weld_lines w = w.lines ∙ ap chain_weld_entries (emptied w)

@@ -23,13 +23,13 @@ use Rattle.addr4.specs.Prefixes.{Network, prefix_cmp, ComesBefore, IsMasked, Cov
 use Rattle.addr4.proofs.BlockLemmas.{size_pos, covers_length, covers_holds}
 use Rattle.addr4.proofs.HalfLemmas.{same_from_covers}
 use Rattle.addr4.proofs.PrefixOrder.{prefixes_total, exact_prefixes}
+use Rattle.link_change.proofs.MapLemmas.{map_read, read_in, removed_at, removed_apart, by_key}
 use Rattle.register_interest.specs.Covers.{IsHit, block}
 use Rattle.register_interest.specs.declared.interests.Interest.{Interest}
 use Rattle.register_interest.specs.Interests.{Interests, interest_cmp, IsProper, AreProper, Pushes, IsBetween, Appends, AreReached, without}
 use Rattle.register_interest.proofs.CoverLemmas.{block_masked, block_holds, block_is, nested}
 use Rattle.register_interest.proofs.OrderLemmas.{before_address, before_length, before_by_address, before_by_length, cases_before, not_itself, inside, between}
 use Rattle.register_interest.proofs.ListLemmas.{sorted_append, sorted_front, contains_filter, filter_contains, keys_pushed, has_key, keys_filter}
-use Rattle.register_interest.proofs.MapLemmas.{map_read, removed_at, removed_apart, by_key}
 
 pub interests_total : IsTotalOrder interest_cmp
 interests_total = then_total (on_total (λ (p : Interest). p.subnet) prefixes_total) (on_total (λ (p : Interest). p.client) nat_cmp_total)
@@ -134,7 +134,7 @@ pub part_hits : (w : ℕ) (p : Network) (m : BTreeMap Interest (Option Network))
     → seen ≡ entries_between interest_cmp (Included from) (Included to) m.entries → IsHitsOf w p seen before out → Appends w p (get now) (IsBetween from to) before out
 part_hits w p m now from to seen before out ordered view part is =
     let test : Interest → Bool = λ k. range_contains interest_cmp (Included from) (Included to) k in
-    let at : (k : Interest) → get now k ≡ lookup (is_at (interest_cmp k)) m.entries = λ k. sym (ap (λ x. get x k) view) ∙ map_read interests_total m.entries k in
+    let at : (k : Interest) → get now k ≡ lookup (is_at (interest_cmp k)) m.entries = λ k. read_in interests_total m now k view in
     let sorted_part : IsStrictlySortedBy interest_cmp (keys_of seen) = subst (λ (l : List Interest). IsStrictlySortedBy interest_cmp l) (sym (ap keys_of part ∙ keys_filter test m.entries)) (IsStrictlySortedBy-filter interest_cmp test (keys_of m.entries) ordered) in
     record {
       hits = is.hits;

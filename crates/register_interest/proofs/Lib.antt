@@ -1,7 +1,6 @@
 pub mod CoverLemmas
 pub mod OrderLemmas
 pub mod SearchLemmas
-pub mod MapLemmas
 pub mod ListLemmas
 pub mod InterestLemmas
 pub mod RegisterLemmas

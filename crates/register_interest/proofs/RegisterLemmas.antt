@@ -4,6 +4,7 @@ use Rattle.std.specs.FinMap.{FinMap, empty, get, insert, remove, get-insert, get
 use Rattle.addr4.specs.Prefixes.{Network, prefix_cmp, IsMasked}
 use Rattle.link_change.specs.Rows.{Rows, with_row}
 use Rattle.link_change.proofs.RowLemmas.{rows_inserted, rows_removed}
+use Rattle.link_change.proofs.MapLemmas.{by_key}
 use Rattle.prefix_trie.specs.Width.{width}
 use Rattle.register_interest.specs.Covers.{longest, matched, IsCover, IsHit, Stands}
 use Rattle.register_interest.specs.declared.interests.Interest.{Interest}
@@ -11,7 +12,6 @@ use Rattle.register_interest.specs.Interests.{Interests, interest_cmp, IsProper,
 use Rattle.register_interest.specs.Registers.{AllStand, KeepsAnswers, put_row}
 use Rattle.register_interest.proofs.CoverLemmas.{cover_stands, not_hit, still_stands}
 use Rattle.register_interest.proofs.InterestLemmas.{interests_total, exact_interests, without_listed}
-use Rattle.register_interest.proofs.MapLemmas.{by_key}
 
 removed_some : (m : Interests) (k q : Interest) (f : Option Network) → get (remove m k) q ≡ Some f → get m q ≡ Some f
 removed_some m k q f e =

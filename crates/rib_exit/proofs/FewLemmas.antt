@@ -8,8 +8,8 @@ use Rattle.std.specs.Cmp.{nat_cmp_total}
 use Rattle.std.specs.FinMap.{FinMap, get, remove, empty, len, contains_key, get-empty, len-empty, len-remove, same_map, nat_cmp-IsAntisymmetric}
 use Rattle.addr4.specs.Prefixes.{Network}
 use Rattle.link_change.specs.Rows.{Rows}
+use Rattle.link_change.proofs.MapLemmas.{removed_at, removed_apart}
 use Rattle.rib_route.specs.declared.rows.External.{External}
-use Rattle.register_interest.proofs.MapLemmas.{removed_at, removed_apart}
 use Rattle.nexthop_known.proofs.CountLemmas.{counted_is_named}
 use Rattle.nexthop_resolver.specs.Kept.{external_hop}
 use Rattle.nexthop_resolver.specs.Resolving.{named_by}

@@ -1,7 +1,6 @@
 -- How many turns are left, by the table of phases: what a turn makes of it, and what is over.
 use Rattle.std.proofs.Common.{◌≡◌, ℕ, ◌+◌, ◌*◌, ◌≤◌, false, List, [], ◌∷◌, length, Option, None, Some, is_some, refl, ap, arith}
 use Rattle.std.specs.FinMap as tables
-use Rattle.std.specs.Ordering.{nat_cmp}
 use Rattle.std.specs.Cmp.{nat_cmp_total}
 use Rattle.rib_route.specs.declared.Proto.{Proto}
 use Rattle.rib_route.specs.declared.Proto.TheVariants.{Connected, Static, Ospf, Rip}
@@ -12,7 +11,6 @@ use Rattle.in_chain.specs.Laws.{TurnsAreBounded, TurnsAreLeft}
 use Rattle.link_region.proofs.RegionLemmas.{by_bool}
 use Rattle.peer_side.specs.Peers.{lost_of, lost_in, left_in}
 use Rattle.peer_side.proofs.CountLemmas.{left_below, lost_below}
-use Rattle.peer_side.proofs.MapLemmas.{sum_none, one_of_sum, all_values}
 use Rattle.rib_tree.specs.Trees.{Treed, branch_of, tree_count, int_candidates}
 use Rattle.rib_exit.proofs.BusyLemmas.{none_left_without_work as external_idle, turns_are_bounded as external_bounded}
 use Rattle.addr4.specs.Prefixes.{Network}
@@ -26,6 +24,7 @@ use Rattle.router_core.specs.declared.router.Phase.TheVariants.{Rdel, Red, Del, 
 use Rattle.std.proofs.Math.Nat.{mul-le-mul_left}
 use Rattle.bgp_attr.specs.declared.route.Route.{Route}
 use Rattle.link_change.specs.declared.change.Change.{Change}
+use Rattle.link_change.proofs.MapLemmas.{sum_none, one_of_sum, all_values}
 use Rattle.fanout_queue.specs.Readers.{unread_or_none}
 use Rattle.exit_side.specs.Exits.{OutChains}
 use Rattle.exit_side.proofs.LawLemmas.{turns_bounded, none_left_without_work as exits_idle}
@@ -134,8 +133,8 @@ over_none Rdel m over =
     let gone : (proto : Proto) → lost_count (branch_of proto m.tree).tables.deletions ≡ 0 = λ proto. ap lost_count (over proto) in
     let a = gone Connected in let b = gone Static in let c = gone Ospf in let d = gone Rip in omega (arith, a, b, c, d)
 over_none Red m over = ap (own_turns_of (tree_beyond m.tree)) over
-over_none Del m over = sum_none lost_of (tables.values m.chains) (all_values nat_cmp nat_cmp_total (λ c. lost_of c ≡ 0) m.chains (λ k c at. ap lost_count (over k c at)))
-over_none Fin m over = sum_none turns_left (tables.values m.chains) (all_values nat_cmp nat_cmp_total (λ c. turns_left c ≡ 0) m.chains (λ k c at. ap (walk_turns c.incoming.tables) (over k c at)))
+over_none Del m over = sum_none lost_of (tables.values m.chains) (all_values nat_cmp_total (λ c. lost_of c ≡ 0) m.chains (λ k c at. ap lost_count (over k c at)))
+over_none Fin m over = sum_none turns_left (tables.values m.chains) (all_values nat_cmp_total (λ c. turns_left c ≡ 0) m.chains (λ k c at. ap (walk_turns c.incoming.tables) (over k c at)))
 over_none Nh m over = (none_left_without_work m.hops (beyonds m.chains)).0 over
 over_none ReadRib m over = ap (λ (u : List (Change Route)). length u) over
 over_none Out m over = (exits_idle m.exits (best_beyond m.chains m.tree)).0 over
@@ -155,8 +154,8 @@ pub none_over : TurnsAreLeft → (r : Phase) (m : Moment) → Stands m → count
 none_over law Rdel m stands none = λ proto. no_rows_left (branch_of proto m.tree).tables.deletions ((stands.own InteriorTree).full proto) (tree_none m.tree proto none)
 none_over law Red m stands none =
     no_table m.redist.walk (by_bool (is_some m.redist.walk) (λ b. b ≡ false) (λ on. absurd (let some = (left_while_on (tree_beyond m.tree) m.redist).0 on in omega (arith, some, none))) (λ _. refl))
-none_over law Del m stands none = λ k c at. no_rows_left c.incoming.tables.deletions (stands.own EachChain k c at).full (let part = one_of_sum nat_cmp nat_cmp_total lost_of m.chains k c at in omega (arith, part, none))
-none_over law Fin m stands none = λ k c at. no_walk law c (let part = one_of_sum nat_cmp nat_cmp_total turns_left m.chains k c at in omega (arith, part, none))
+none_over law Del m stands none = λ k c at. no_rows_left c.incoming.tables.deletions (stands.own EachChain k c at).full (let part = one_of_sum nat_cmp_total lost_of m.chains k c at in omega (arith, part, none))
+none_over law Fin m stands none = λ k c at. no_walk law c (let part = one_of_sum nat_cmp_total turns_left m.chains k c at in omega (arith, part, none))
 none_over law Nh m stands none = (none_left_without_work m.hops (beyonds m.chains)).1 none
 none_over law ReadRib m stands none = no_changes (unread_if m.exits.queue m.reader) none
 none_over law Out m stands none = (exits_idle m.exits (best_beyond m.chains m.tree)).1 none

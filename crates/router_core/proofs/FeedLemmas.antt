@@ -24,6 +24,7 @@ use Rattle.peer_side.specs.Steps.{FeedsInward}
 use Rattle.journal_text.specs.Texts.{entries_of}
 use Rattle.journal_text.specs.Walk.{Leads}
 use Rattle.std.specs.Option.{ForSome}
+use Rattle.std.proofs.lemmas.Option.{same_Some}
 use Rattle.link_change.specs.Changes.{IsSent}
 use Rattle.peer_out.specs.Changes.{MayBeHeard}
 use Rattle.router_core.specs.Bests.{all_at, best_at, best_entries}
@@ -41,7 +42,6 @@ use Rattle.router_core.specs.Works.{Pushes, AreHeard, IsUpAt, Keeps, HaveFed, Se
 use Rattle.peer_side.proofs.WeldLemmas.{fallen_at, weld_after, weld_keeps, adds_both}
 use Rattle.router_core.proofs.HopLemmas.{all_comes, falls_lead, hops_fall}
 use Rattle.live_state.proofs.AdmittedLemmas.{routes_twice}
-use Rattle.peer_side.proofs.MapLemmas.{one_of as one_peer}
 use Rattle.router_core.proofs.StandLemmas.{peer_of, resolver_there, speaker_there, same_peers, not_zero, external_agrees, stands_with, live_routed, routes_there}
 use Rattle.router_core.proofs.KeepLemmas.{keeps_join, pushes_join}
 
@@ -111,7 +111,7 @@ fed_one k p row sent m fallen m' entries rest stands up heard f w =
 
     here : PeerStands peer.0 (welded (fed f.feeds.chain p row))
     here =
-        let is_up : peer.0.up ≡ true = ap (λ (q : DeclaredPeer). q.up) (one_peer peer.0 up.0 (sym peer.1 ∙ up.1)) ∙ up.2 in
+        let is_up : peer.0.up ≡ true = ap (λ (q : DeclaredPeer). q.up) (same_Some peer.0 up.0 (sym peer.1 ∙ up.1)) ∙ up.2 in
         let earlier = weld_keeps k m.chains fallen m'.chains (fed f.feeds.chain p row) w.weld f.feeds.after w.welds (open_session peer.0) (f.before (open_session peer.0) peer.2.earlier) in
         record { words = peer.2.words; earlier = earlier; silent = silent_up peer.0.up (welded (fed f.feeds.chain p row)) is_up }
 

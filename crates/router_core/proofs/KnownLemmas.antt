@@ -14,6 +14,7 @@ use Rattle.link_change.specs.Rows.{Rows, with_row}
 use Rattle.link_change.specs.Changes.{IsSent}
 use Rattle.link_change.specs.declared.change.Change.{Change}
 use Rattle.link_change.proofs.RowLemmas.{with_row_here, rows_removed}
+use Rattle.link_change.proofs.MapLemmas.{sum_replaced}
 use Rattle.link_region.proofs.RegionLemmas.{by_bool}
 use Rattle.loss_chain.specs.Lost.{Lost}
 use Rattle.loss_chain.specs.Covering.{row_over}
@@ -36,7 +37,6 @@ use Rattle.hop_side.proofs.FewLemmas.{few}
 use Rattle.hop_side.proofs.PutLemmas.{put_here}
 use Rattle.in_chain.specs.Chains.{Chained, IsChain, filt_rows}
 use Rattle.in_chain.specs.Steps.{Sweeps}
-use Rattle.peer_side.proofs.MapLemmas.{sum_replaced}
 use Rattle.router_core.specs.Turns.{Resolves}
 
 -- ---- a map has no more keys than one that has them all
@@ -155,5 +155,5 @@ module _ (k : ℕ) (uppers now : PeerRows) (stood : (q : Network) → IsSome (no
   knows_no_more (Some change) passed r r' entries t =
       let one = known_then t.resolver t.taken t.at (ap (resolver_at k) t.after ∙ put_here k t.taken h) in
       let sum : known_in h' + known_of t.resolver ≡ known_in h + known_of t.taken =
-      subst (λ (x : Resolvers). known_in x + known_of t.resolver ≡ known_in h + known_of t.taken) (sym t.after) (sum_replaced nat_cmp nat_cmp_total known_of h k t.taken t.resolver t.at) in
+      subst (λ (x : Resolvers). known_in x + known_of t.resolver ≡ known_in h + known_of t.taken) (sym t.after) (sum_replaced nat_cmp_total known_of h k t.taken t.resolver t.at) in
       omega (arith, one, sum)

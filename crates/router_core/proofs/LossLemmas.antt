@@ -1,6 +1,7 @@
 -- The loss of a session.
 use Rattle.std.proofs.Common.{◌≡◌, ℕ, ◌+◌, nat_eq, Bool, true, cond, List, ◌++◌, Option, Some, None, is_some, refl, sym, ap, subst, ◌∙◌}
 use Rattle.std.specs.FinMap as tables
+use Rattle.std.proofs.lemmas.Option.{same_Some}
 use Rattle.journal_text.specs.declared.line.Line.{Line}
 use Rattle.event_text.specs.Declarations.{peer_at}
 use Rattle.journal_text.specs.declared.entry.Entry.{Entry}
@@ -26,7 +27,6 @@ use Rattle.router_core.specs.Stands.{PeerStands, StandsAt, Stands, ExitsAt, Each
 use Rattle.router_core.specs.Turns.{journal_lines}
 use Rattle.router_core.specs.Works.{Keeps, Pushes, HasRoom, IsSession, HasLost, Ends}
 use Rattle.live_state.proofs.AdmittedLemmas.{down, ended_same, ended_other, ended_length}
-use Rattle.peer_side.proofs.MapLemmas.{one_of}
 use Rattle.router_core.proofs.BestLemmas.{best_quiet}
 use Rattle.router_core.proofs.HopLemmas.{hops_quiet}
 use Rattle.router_core.proofs.RegionLemmas.{leads_inward}
@@ -59,7 +59,7 @@ ends_one : (k s : ℕ) (m : Moment) (cs : Chains) (entries : List (Entry Value))
 ends_one k s m cs entries stands up silent f =
     let c : Chained = f.loses.chain in
     let peer = peer_of m stands k c f.loses.at in
-    let session : peer.0.session ≡ s = ap (λ (q : DeclaredPeer). q.session) (one_of peer.0 up.0 (sym peer.1 ∙ up.1)) ∙ up.3 in
+    let session : peer.0.session ≡ s = ap (λ (q : DeclaredPeer). q.session) (same_Some peer.0 up.0 (sym peer.1 ∙ up.1)) ∙ up.3 in
     let here : PeerStands (down peer.0) (lost s c) = record { words = peer.2.words; earlier = subst (λ (n : ℕ). AreBefore (n + 1) (lost s c)) (sym session) f.before; silent = refl } in
     record {
       between = with_chains m cs;

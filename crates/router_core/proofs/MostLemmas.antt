@@ -5,8 +5,8 @@ use Rattle.std.specs.Cmp.{nat_cmp_total}
 use Rattle.std.specs.List.{sum_by, Contains}
 use Rattle.std.proofs.lemmas.List.Elements.{Contains-append_left, Contains-append_right}
 use Rattle.std.specs.FinMap as tables
-use Rattle.std.specs.FinMap.{find, get-entries}
-use Rattle.std.proofs.lemmas.List.Sums.{sum_by-cons}
+use Rattle.std.specs.FinMap.{find, get-entries, nat_cmp-IsAntisymmetric}
+use Rattle.std.proofs.lemmas.List.Sums.{sum_by-cons, sum_by-le-sum_by}
 use Rattle.addr4.specs.Prefixes.{Network}
 use Rattle.nexthop_resolver.specs.Resolving.{Resolving, Answers, resolved, passes}
 use Rattle.nexthop_resolver.specs.Kept.{route_hop, with_metric}
@@ -14,10 +14,8 @@ use Rattle.nexthop_resolver.specs.declared.rows.Metric.{Metric}
 use Rattle.in_chain.specs.Chains.{Chained, filt_beyond, filt_rows, left_beyond, row_count}
 use Rattle.in_chain.proofs.TurnLemmas.{candidates_are_counted, filtered_rows_are_few}
 use Rattle.hop_side.specs.Resolvers.{Resolvers, resolver_at, rows_by, known_of, known_in, left_of, walks_of, walks_in}
-use Rattle.hop_side.proofs.MapLemmas.{sum_within}
 use Rattle.hop_side.proofs.FewLemmas.{known_are_few}
 use Rattle.peer_side.specs.Peers.{Chains, chain_at, put_chain, filt_at, filt_by, lost_in, rows_in}
-use Rattle.peer_side.proofs.MapLemmas.{sum_replaced, sums_within, values_length}
 use Rattle.peer_side.proofs.PutLemmas.{put_lost}
 use Rattle.router_core.specs.declared.router.Phase.TheVariants.{Nh, Ext}
 use Rattle.router_core.specs.Moments.{Moment, own_of, best_of, read_of, read_rows_by}
@@ -36,6 +34,7 @@ use Rattle.bgp_attr.specs.declared.route.Route.{Route}
 use Rattle.link_change.specs.Rows.{Rows}
 use Rattle.link_change.specs.InOrder.{rows_before}
 use Rattle.link_change.specs.declared.change.Change.{Change}
+use Rattle.link_change.proofs.MapLemmas.{sum_within, sum_replaced, sums_within, values_length}
 use Rattle.link_region.proofs.RegionLemmas.{by_bool}
 use Rattle.fanout_queue.specs.Queues.{Queued}
 use Rattle.decision.proofs.LawLemmas.{best_is_a_branchs}
@@ -55,7 +54,6 @@ use Rattle.event_text.specs.Declarations.{peer_at}
 use Rattle.out_chain.specs.Chains.{OutChained}
 use Rattle.exit_side.specs.Exits.{chain_at as exit_at}
 use Rattle.router_core.proofs.BeyondLemmas.{table_within, tree_within, tree_keys, tree_length, has_tree_key, few_both, external_counted}
-use Rattle.router_core.proofs.ReadingLemmas.{sum_fewer}
 use Rattle.router_core.specs.Stands.{Stands, StandsAt, ExitsAt, EachPeer, EachResolver, SameResolvers, HopsCounted, SameSessions, ExternalExit, ExternalStands}
 
 -- ---- next hops, and the rows of their peers
@@ -73,7 +71,7 @@ rows_twice (c ∷ cs) =
 
 -- no more are stale than known
 stale_below : (a : Resolvers) → stale_in a ≤ known_in a
-stale_below a = sum_fewer known_of stale_of (λ s. known_count is_stale_at s.known) (tables.values a)
+stale_below a = sum_by-le-sum_by stale_of known_of (tables.values a) (λ s. known_count is_stale_at s.known)
 
 module _ (m : Moment) (stands : Stands m) where
   chain_of : (k : ℕ) (s : Resolving Metric) → resolver_at k m.hops ≡ Some s → (c : Chained) × (chain_at k m.chains ≡ Some c)
@@ -86,7 +84,7 @@ module _ (m : Moment) (stands : Stands m) where
       omega (arith, own, most)
 
   pub known_below : known_in m.hops ≤ rows_in m.chains
-  known_below = sums_within known_of row_count m.hops m.chains (λ k s at.
+  known_below = sums_within nat_cmp_total nat_cmp-IsAntisymmetric known_of row_count m.hops m.chains (λ k s at.
       let c = chain_of k s at in
       let few = filtered_rows_are_few c.0 in
       let known = known_are_few m.hops (filt_at m.chains) k s few.0 (stands.own EachResolver) (stands.own HopsCounted) at (λ q some. few.2 q (subst (λ (o : Option Chained). IsSome (filt_by o q)) c.1 some)) in
@@ -95,12 +93,12 @@ module _ (m : Moment) (stands : Stands m) where
 
   pub walks_below : walks_in (beyonds m.chains) m.hops ≤ 2 * (rows_in m.chains + tables.len m.chains)
   walks_below =
-      let each = sums_within (walks_of (beyonds m.chains)) (λ (c : Chained). 2 * (row_count c + 1)) m.hops m.chains (λ k s at.
+      let each = sums_within nat_cmp_total nat_cmp-IsAntisymmetric (walks_of (beyonds m.chains)) (λ (c : Chained). 2 * (row_count c + 1)) m.hops m.chains (λ k s at.
       let c = chain_of k s at in
       let few = beyond_at k s c.0 at c.1 in
       (c.0, c.1, omega (arith, few))) in
       let all = sum_twice (tables.values m.chains) in
-      let size = values_length nat_cmp nat_cmp_total m.chains in
+      let size = values_length m.chains in
       omega (arith, each, all, size)
     where
       sum_twice : (cs : List Chained) → sum_by (λ (c : Chained). 2 * (row_count c + 1)) cs ≡ 2 * (sum_by row_count cs + length cs)
@@ -121,7 +119,7 @@ module _ (m : Moment) (stands : Stands m) where
   -- how many changes they send
   pub sends_below : nh_sends (beyonds m.chains) m.hops ≤ 2 * rows_in m.chains
   sends_below =
-      let each = sums_within (nh_sends_of (beyonds m.chains)) (λ (c : Chained). 2 * row_count c) m.hops m.chains (λ k s at.
+      let each = sums_within nat_cmp_total nat_cmp-IsAntisymmetric (nh_sends_of (beyonds m.chains)) (λ (c : Chained). 2 * row_count c) m.hops m.chains (λ k s at.
       let c = chain_of k s at in
       let beyond = beyond_at k s c.0 at c.1 in
       let sends = one_sends s in
@@ -164,7 +162,7 @@ module _ (m : Moment) (stands : Stands m) where
 -- a chain with no more lost rows, and the same live ones
 pub rows_less : (m : Moment) (k : ℕ) (c c' : Chained) (cs : Chains) → chain_at k m.chains ≡ Some c → cs ≡ put_chain k c' m.chains → c'.incoming.tables.live ≡ c.incoming.tables.live → lost_in cs ≤ lost_in m.chains → rows_in cs ≤ rows_in m.chains
 rows_less m k c c' cs at is live less = subst (λ (x : Chains). rows_in x ≤ rows_in m.chains) (sym is)
-    (let rows = sum_replaced nat_cmp nat_cmp_total row_count m.chains k c' c at in
+    (let rows = sum_replaced nat_cmp_total row_count m.chains k c' c at in
     let lost = put_lost k c c' m.chains at in
     let fewer : lost_in (put_chain k c' m.chains) ≤ lost_in m.chains = subst (λ (x : Chains). lost_in x ≤ lost_in m.chains) is less in
     let same : tables.len c'.incoming.tables.live ≡ tables.len c.incoming.tables.live = ap (λ t. tables.len t) live in
@@ -191,18 +189,18 @@ fin_below c = by_walk c.filter.walk
 
 pub fin_sends_below : (a : Chains) → fin_sends a ≤ 2 * rows_in a
 fin_sends_below a =
-    let each = sum_fewer (λ (c : Chained). 2 * row_count c) fin_sends_of fin_below (tables.values a) in
+    let each = sum_by-le-sum_by fin_sends_of (λ (c : Chained). 2 * row_count c) (tables.values a) fin_below in
     let twice = rows_twice (tables.values a) in
     omega (arith, each, twice)
 
 -- no more peers have exits than chains
 pub few_exits : (m : Moment) → Stands m → tables.len m.exits.chains ≤ tables.len m.chains
 few_exits m stands =
-    let all = sums_within (λ (c : OutChained). 1) (λ (c : Chained). 1) m.exits.chains m.chains (λ k c at. let d = chain_of k c at in (d.0, d.1, omega arith)) in
+    let all = sums_within nat_cmp_total nat_cmp-IsAntisymmetric (λ (c : OutChained). 1) (λ (c : Chained). 1) m.exits.chains m.chains (λ k c at. let d = chain_of k c at in (d.0, d.1, omega arith)) in
     let exits = ones (tables.values m.exits.chains) in
     let chains = ones (tables.values m.chains) in
-    let a = values_length nat_cmp nat_cmp_total m.exits.chains in
-    let b = values_length nat_cmp nat_cmp_total m.chains in
+    let a = values_length m.exits.chains in
+    let b = values_length m.chains in
     omega (arith, all, exits, chains, a, b)
   where
     ones : {X : Type 0} (xs : List X) → sum_by (λ (x : X). 1) xs ≡ length xs

@@ -2,6 +2,7 @@
 use Rattle.std.proofs.Common.{◌≡◌, ℕ, ◌+◌, ◌≤◌, Bool, true, false, not, ◌&&◌, cond, List, [], ◌∷◌, ◌++◌, map, length, Option, Some, None, nat_eq, refl, sym, ap, subst, ◌∙◌, suc, arith}
 use Rattle.std.proofs.lemmas.List.{length_push}
 use Rattle.std.specs.Prelude.{option_map, IsSome, is_some}
+use Rattle.std.proofs.lemmas.Option.{same_Some}
 use Rattle.bgp_attr.specs.declared.speaker.Speaker.{Speaker}
 use Rattle.journal_text.specs.declared.line.Line.TheVariants as lines
 use Rattle.journal_text.specs.Journals.{Journaled, with_entries}
@@ -45,7 +46,6 @@ use Rattle.router_core.specs.Peers.{is_up}
 use Rattle.router_core.specs.Works.{HasStepped, Pushes}
 use Rattle.router_core.proofs.BestLemmas.{same_all, best_quiet}
 use Rattle.router_core.proofs.RegionLemmas.{leads_inward}
-use Rattle.peer_side.proofs.MapLemmas.{one_of as one_peer}
 use Rattle.router_core.proofs.StandLemmas.{peer_of, chain_there, same_peers, not_zero, stands_with, live_edited}
 use Rattle.fanout_queue.specs.Queues.{AllLead}
 use Rattle.loss_chain.proofs.FeedLemmas.{no_row_at_first}
@@ -99,7 +99,7 @@ chain_absent m v k words view stands admitted =
 -- its words, as they were read again
 declared_is : (before after : Declaration) (k : ℕ) (words : Speaker) (p : DeclaredPeer) → peer_at k before.peers ≡ None → after ≡ with_peer before k words → Some p ≡ peer_at k after.peers → p ≡ new_peer before k words
 declared_is before after k words p absent added there =
-    one_peer p (new_peer before k words) (there ∙ ap (λ (d : Declaration). peer_at k d.peers) added ∙ new_peer_at before k words absent)
+    same_Some p (new_peer before k words) (there ∙ ap (λ (d : Declaration). peer_at k d.peers) added ∙ new_peer_at before k words absent)
 
 pub new_number : (m v : Moment) (after : Declaration) (k : ℕ) (words : Speaker) (p : DeclaredPeer) → v ≡ m → refusal m.declared (events.Peer k words) ≡ None → after ≡ with_peer v.declared k words → Some p ≡ peer_at k after.peers
     → p.words.number ≡ k

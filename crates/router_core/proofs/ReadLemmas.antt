@@ -1,6 +1,7 @@
 -- Lookups in what reads `best`.
 use Rattle.std.proofs.Common.{◌≡◌, ℕ, Option, Some, sym, ap, subst, ◌∙◌}
 use Rattle.std.specs.Prelude.{IsSome, option_map}
+use Rattle.std.proofs.lemmas.Option.{same_Some}
 use Rattle.addr4.specs.Prefixes.{Network}
 use Rattle.bgp_attr.specs.declared.route.Route.{Route}
 use Rattle.link_change.specs.Rows.{Rows, Candidates, IsNextCandidate, CoversRows}
@@ -18,7 +19,6 @@ use Rattle.pass_core.specs.Passed.{Passed}
 use Rattle.redist.specs.declared.protos.Protos.{Protos}
 use Rattle.rib_tree.specs.Trees.{Treed, int_rows}
 use Rattle.peer_side.specs.Peers.{Chains}
-use Rattle.peer_side.proofs.MapLemmas.{one_of}
 use Rattle.router_core.specs.Bests.{own_rows, lent_rows}
 use Rattle.router_core.specs.Moments.{Moment, best_of, read_by, read_links}
 use Rattle.router_core.specs.Stands.{Stands, HaveReaders, EachExit}
@@ -62,5 +62,5 @@ module _ (m v : Moment) (d : Declaration) (t : Treed) (s : Passed Protos) (a : C
     candidates,
     next,
     λ rows is q lacks.
-        ap (λ (x : Rows Value). x q) (one_of rows (route_rows (read_rows v.exits.queue r lent)) (sym is ∙ read_is r reads)) ∙ ap (option_map route_value) (covers q lacks),
+        ap (λ (x : Rows Value). x q) (same_Some rows (route_rows (read_rows v.exits.queue r lent)) (sym is ∙ read_is r reads)) ∙ ap (option_map route_value) (covers q lacks),
   )

@@ -4,10 +4,10 @@ use Rattle.std.specs.Prelude.{IsSome}
 use Rattle.std.specs.List.{AllByRecursion, sum_by, list_any, range_with_len}
 use Rattle.std.specs.Option.{option_map}
 use Rattle.std.specs.FinMap as tables
-use Rattle.std.specs.FinMap.{FinMap, get-insert}
+use Rattle.std.specs.FinMap.{FinMap, get-insert, nat_cmp-IsAntisymmetric}
 use Rattle.std.specs.Ordering.{nat_cmp, eq_by_cmp}
 use Rattle.std.specs.Cmp.{nat_cmp_total}
-use Rattle.std.proofs.lemmas.List.Sums.{sum_by-cons}
+use Rattle.std.proofs.lemmas.List.Sums.{sum_by-le-sum_by}
 use Rattle.std.proofs.lemmas.Bool.Decides.{nat_tests}
 use Rattle.std.proofs.Math.Nat.{mul-le-mul, mul-le-mul_left}
 use Rattle.addr4.specs.Prefixes.{Network}
@@ -17,6 +17,7 @@ use Rattle.bgp_attr.specs.declared.route.Route.{Route}
 use Rattle.link_change.specs.Rows.{Candidates, IsNextCandidate}
 use Rattle.link_change.specs.InOrder.{with_last}
 use Rattle.link_change.specs.declared.change.Change.{Change}
+use Rattle.link_change.proofs.MapLemmas.{all_values, one_of_sum, sum_others, sum_none}
 use Rattle.link_region.proofs.RegionLemmas.{by_bool}
 use Rattle.loss_chain.specs.Lost.{Lost}
 use Rattle.pass_core.specs.Left.{CountsBeyond}
@@ -26,7 +27,6 @@ use Rattle.in_chain.specs.Chains.{Chained, filt_beyond, filt_candidates, count_b
 use Rattle.in_chain.proofs.TurnLemmas.{candidates_are_counted}
 use Rattle.decision.specs.Branches.{best_candidates, candidates_below}
 use Rattle.peer_side.specs.Peers.{Chains, chain_at, rows_in}
-use Rattle.peer_side.proofs.MapLemmas.{all_values, one_of_sum, sum_none}
 use Rattle.router_core.specs.Bests.{candidates_by, lent_chain, lent_candidates, Queues}
 use Rattle.hop_side.specs.Resolvers.{known_in}
 use Rattle.rib_tree.specs.Trees.{Treed, int_candidates, tree_count}
@@ -59,12 +59,12 @@ none_above n (x ∷ xs) each = (let here = each.0 in omega (arith, here), none_a
 pub unread_most : (queued : Queued Route) (r : ℕ) (u : List (Change Route)) → tables.get queued r ≡ Some u → length u ≤ longest_of (tables.values queued)
 unread_most queued r u at =
     let n : ℕ = longest_of (tables.values queued) in
-    let one = one_of_sum nat_cmp nat_cmp_total (λ (v : List (Change Route)). length v - n) queued r u at in
+    let one = one_of_sum nat_cmp_total (λ (v : List (Change Route)). length v - n) queued r u at in
     let all = sum_none (λ (v : List (Change Route)). length v - n) (tables.values queued) (none_above n (tables.values queued) (longest_bounds (tables.values queued))) in
     omega (arith, one, all)
 
 pub unread_within : (queued : Queued Route) (n : ℕ) → ((r : ℕ) (u : List (Change Route)) → tables.get queued r ≡ Some u → length u ≤ n) → longest_of (tables.values queued) ≤ n
-unread_within queued n each = longest_within n (tables.values queued) (all_values nat_cmp nat_cmp_total (λ (u : List (Change Route)). length u ≤ n) queued each)
+unread_within queued n each = longest_within n (tables.values queued) (all_values nat_cmp_total (λ (u : List (Change Route)). length u ≤ n) queued each)
 
 -- it is what the queue answers
 pub most_unread_is : (e : Exited) → IsMostUnread e.queue (most_unread e)
@@ -79,7 +79,7 @@ most_unread_is e = record { most = λ r u at. unread_most e.queue r u at; some =
 
     some_reader : most_unread e ≢ 0 → Found (most_unread e)
     some_reader some = found (most_unread e) (tables.values e.queue)
-        (all_values nat_cmp nat_cmp_total (λ (u : List (Change Route)). length u ≡ most_unread e → Found (most_unread e)) e.queue (λ r u at same. (r, u, at, same))) refl some
+        (all_values nat_cmp_total (λ (u : List (Change Route)). length u ≡ most_unread e → Found (most_unread e)) e.queue (λ r u at same. (r, u, at, same))) refl some
 
 -- what the queue answers is that
 pub unread_is : (e : Exited) (n : ℕ) → IsMostUnread e.queue n → n ≡ most_unread e
@@ -171,32 +171,13 @@ chain_further place p c h =
     omega (arith, first, rest)
 
 -- ---- sums
-module _ {X : Type 0} (f g : X → ℕ) where
-  pub sum_fewer : ((x : X) → g x ≤ f x) → (xs : List X) → sum_by g xs ≤ sum_by f xs
-  sum_fewer less [] = omega arith
-  sum_fewer less (x ∷ xs) =
-      let one = sum_by-cons f x xs in
-      let two = sum_by-cons g x xs in
-      let here = less x in
-      let rest = sum_fewer less xs in
-      omega (arith, one, two, here, rest)
-
-  sum_parted : ((x : X) → g x ≤ f x) → (xs : List X) → sum_by f xs ≡ sum_by g xs + sum_by (λ x. f x - g x) xs
-  sum_parted less [] = omega arith
-  sum_parted less (x ∷ xs) =
-      let one = sum_by-cons f x xs in
-      let two = sum_by-cons g x xs in
-      let three = sum_by-cons (λ (y : X). f y - g y) x xs in
-      let here = less x in
-      let rest = sum_parted less xs in
-      omega (arith, one, two, three, here, rest)
-
-  -- one is fewer, and none is more
-  pub sum_one_fewer : ((x : X) → g x ≤ f x) → (a : FinMap nat_cmp X) (k : ℕ) (d : X) → tables.get a k ≡ Some d → g d < f d → sum_by g (tables.values a) < sum_by f (tables.values a)
-  sum_one_fewer less a k d at here =
-      let parts = sum_parted less (tables.values a) in
-      let one = one_of_sum nat_cmp nat_cmp_total (λ (y : X). f y - g y) a k d at in
-      omega (arith, parts, one, here)
+-- one is fewer, and none is more
+sum_one_fewer : {X : Type 0} (f g : X → ℕ) → ((x : X) → g x ≤ f x) → (a : FinMap nat_cmp X) (k : ℕ) (d : X) → tables.get a k ≡ Some d → g d < f d → sum_by g (tables.values a) < sum_by f (tables.values a)
+sum_one_fewer f g less a k d at here =
+    let rest = sum_by-le-sum_by g f (tables.values (tables.remove a k)) less in
+    let before = sum_others nat_cmp_total f nat_cmp-IsAntisymmetric a k d at in
+    let now = sum_others nat_cmp_total g nat_cmp-IsAntisymmetric a k d at in
+    omega (arith, rest, before, now, here)
 
 -- ---- the branches
 any_at : (test : ℕ → Bool) (a n : ℕ) → list_any test (range_with_len a n) ≡ true → (b : ℕ) × (test b ≡ true)
@@ -247,7 +228,7 @@ module _ (a : Chains) (t : Treed) (small : (k : ℕ) → IsSome (chain_at k a) �
     where
       most : (place : Option Network) → best_beyond a t place ≤ best_beyond a t None
       most place =
-          let peers = sum_fewer (λ (c : Chained). filt_beyond c None) (λ c. filt_beyond c place) (λ c. (candidates_are_counted c).0.most place) (tables.values a) in
+          let peers = sum_by-le-sum_by (λ (c : Chained). filt_beyond c place) (λ c. filt_beyond c None) (tables.values a) (λ c. (candidates_are_counted c).0.most place) in
           let own = tree_most t place in
           omega (arith, peers, own)
 
@@ -259,7 +240,7 @@ module _ (a : Chains) (t : Treed) (small : (k : ℕ) → IsSome (chain_at k a) �
           ((candidates_are_counted c).0.fewer place p (next.0, is, λ q beyond before. other_none any.0 c q at (next.2 q beyond before))) in
           let own = tree_further t place p next.0 in
           omega (arith, peers, own)) (λ is.
-          let peers = sum_fewer (λ (d : Chained). filt_beyond d place) (λ d. filt_beyond d (Some p)) (λ d. chain_further place p d next.0) (tables.values a) in
+          let peers = sum_by-le-sum_by (λ (d : Chained). filt_beyond d (Some p)) (λ d. filt_beyond d place) (tables.values a) (λ d. chain_further place p d next.0) in
           let own = tree_fewer t place p next.0 is in
           omega (arith, peers, own)) any.1
 
@@ -269,7 +250,7 @@ best_counted m stands = best_counted_by m.chains m.tree (stands.own SmallNumbers
 
 pub beyond_within : (a : Chains) (t : Treed) → best_beyond a t None ≤ rows_in a + tree_count t
 beyond_within a t =
-    let peers = sum_fewer row_count (λ c. filt_beyond c None) (λ c. (candidates_are_counted c).1) (tables.values a) in
+    let peers = sum_by-le-sum_by (λ c. filt_beyond c None) row_count (tables.values a) (λ c. (candidates_are_counted c).1) in
     let own = tree_within t None in
     omega (arith, peers, own)
 

@@ -1,6 +1,7 @@
 -- Room for one more deletion stage.
 use Rattle.std.proofs.Common.{◌≡◌, ℕ, Bool, true, ◌&&◌, ◌||◌, cond, List, [], Option, Some, None, is_some, nat_eq, nat_lt, length, refl, sym, ap, subst, ◌∙◌, arith, zero, suc}
 use Rattle.std.specs.Prelude.{IsSome}
+use Rattle.std.proofs.lemmas.Option.{same_Some}
 use Rattle.link_change.specs.Rows.{is_empty_map}
 use Rattle.journal_text.specs.declared.link.Task.{Task}
 use Rattle.journal_text.specs.declared.link.Task.TheVariants.{Del}
@@ -14,7 +15,6 @@ use Rattle.in_chain.specs.Incomings.{overdue_of}
 use Rattle.in_chain.specs.Steps.{swept, welded, Sweeps}
 use Rattle.peer_side.specs.Peers.{chain_at, has_turn_in, overdue_at, overdue_by}
 use Rattle.peer_side.specs.Steps.{TurnsPeer}
-use Rattle.peer_side.proofs.MapLemmas.{one_of}
 use Rattle.peer_side.proofs.PutLemmas.{put_here}
 use Rattle.router_core.specs.Moments.{Moment, Gives}
 use Rattle.router_core.specs.Stands.{Stands, EachChain}
@@ -45,7 +45,7 @@ turns_shorter (suc n) k s m c said m' at t =
     at1 : chain_at k t.2.chains ≡ Some c1
     at1 = ap (λ (x : Moment). chain_at k x.chains) t.3.1.after ∙ ap (chain_at k) (weld_after k m.chains t.3.1.fallen t.2.chains turn.turned_chain t.3.1.weld turn.after t.3.1.welds.welds)
         ∙ put_here k (welded turn.turned_chain) m.chains
-        ∙ ap (λ (x : Chained). Some (welded x)) (sweeps.after ∙ ap (swept s sweeps.prefix) (one_of turn.chain c (sym turn.at ∙ at)))
+        ∙ ap (λ (x : Chained). Some (welded x)) (sweeps.after ∙ ap (swept s sweeps.prefix) (same_Some turn.chain c (sym turn.at ∙ at)))
 
 drained_free : (k : ℕ) (m room : Moment) (c : Chained) (task : Task) (n : ℕ) (said : List Line) → Stands m → chain_at k m.chains ≡ Some c → overdue_of c.incoming ≡ Some task → HasDrained task m n room said → overdue_at k room.chains ≡ None
 drained_free k m room c task n said stands at over d =

@@ -9,6 +9,7 @@ use Rattle.in_chain.specs.Chains.{Chained, filt_rows, filt_candidates}
 use Rattle.journal_text.specs.declared.link.Link.TheVariants.{Res, Best, Red}
 use Rattle.journal_text.specs.Values.{route_value, route_rows}
 use Rattle.std.proofs.lemmas.List.{map-append}
+use Rattle.std.proofs.lemmas.Option.{same_Some}
 use Rattle.addr4.specs.Prefixes.{Network}
 use Rattle.loss_chain.proofs.TableLemmas.{no_table}
 use Rattle.link_change.specs.Rows.{Rows, Candidates, IsNextCandidate, CoversRows, with_rows, no_rows}
@@ -39,7 +40,6 @@ use Rattle.link_region.specs.declared.regions.Region.TheVariants.{Inward, Resolv
 use Rattle.link_region.specs.Regions.{region_of}
 use Rattle.hop_side.specs.Resolvers.{resolver_at, link_by, hop_links, metric_rows, rows_by}
 use Rattle.peer_side.specs.Peers.{chain_at, peer_links, peer_candidates, filt_by, filt_at}
-use Rattle.peer_side.proofs.MapLemmas.{one_of}
 use Rattle.router_core.proofs.RegionLemmas.{in_region}
 use Rattle.router_core.specs.Works.{Pushes, HasStepped}
 use Rattle.router_core.specs.Stands.{Stands}
@@ -60,7 +60,7 @@ all_shown candidates rows covers place listed none is = record { order = is.orde
 -- ---- a link that is live, and its walk
 -- the row of a link, at its only map of rows
 row_here : (links : Links Value) (link : Link) (p : Network) (row : Option Value) (rows : Rows Value) → HasRow links link p row → links link ≡ Some rows → rows p ≡ row
-row_here links link p row rows has is = ap (λ (f : Rows Value). f p) (one_of rows has.0 (sym is ∙ has.1)) ∙ has.2
+row_here links link p row rows has is = ap (λ (f : Rows Value). f p) (same_Some rows has.0 (sym is ∙ has.1)) ∙ has.2
 
 length_at : (p : Network) (row : Option Value) (listed : List (Network × Value)) (m n : ℕ) → m ≡ length listed → n ≡ length (listed_at p row) → m + n ≡ length (listed ++ listed_at p row)
 length_at p row listed m n e f = let l = length-append listed (listed_at p row) in omega arith
@@ -162,7 +162,7 @@ ask_stepped m link p (Some rows) stands is = record {
 -- the next candidate of each map of rows that the link has
 next_row : (of : Option (Rows Value)) (place result : Option Network) → IsSome of → ((rows : Rows Value) → of ≡ Some rows → IsNextCandidate (with_rows rows) place result) → IsNextPlace of place result
 next_row None place result live next = absurd (cc)
-next_row (Some own) place result live next = (with_rows own, next own refl, λ rows is q lacks. ap (λ (f : Rows Value). f q) (one_of rows own (sym is)) ∙ no_table (own q) lacks)
+next_row (Some own) place result live next = (with_rows own, next own refl, λ rows is q lacks. ap (λ (f : Rows Value). f q) (same_Some rows own (sym is)) ∙ no_table (own q) lacks)
 
 -- by the region of the link
 pub next_inward : (m v : Moment) (link : Link) (place result : Option Network) → v ≡ m → region_of link ≡ Inward → IsNextCandidate (peer_candidates v.chains link) place result
@@ -228,7 +228,7 @@ next_own m v link place result candidates view here live next covers = (
       let at : router_links m link ≡ own_links m.declared.speaker (own_of m) link = in_region m link Redistributed here in
       let own : Some rows ≡ Some (route_rows (own_of m)) = sym is ∙ at ∙ own_here m.declared.speaker (own_of m) link (subst IsSome at live) in
       let none : own_of m q ≡ None = ap (λ (n : Moment). own_of n q) (sym view) ∙ own_covered v.declared.speaker v.redist (int_rows v.tree) candidates covers q lacks in
-      ap (λ (r : Rows Value). r q) (one_of rows (route_rows (own_of m)) own) ∙ ap (option_map route_value) none,
+      ap (λ (r : Rows Value). r q) (same_Some rows (route_rows (own_of m)) own) ∙ ap (option_map route_value) none,
 )
 
 -- a link `res.K`, whose candidates are those of `filt.K`
@@ -242,7 +242,7 @@ res_rows_at m link k rows is at = by_resolver (resolver_at k m.hops) refl (ap (h
   where
     by_resolver : (o : Option (Resolving Metric)) → resolver_at k m.hops ≡ o → link_by o (filt_at m.chains k) ≡ Some rows → (s : Resolving Metric) × (resolver_at k m.hops ≡ Some s) × (rows ≡ route_rows (metric_rows s (filt_at m.chains k)))
     by_resolver None was e = absurd (cc)
-    by_resolver (Some s) was e = (s, was, sym (one_of (route_rows (metric_rows s (filt_at m.chains k))) rows e))
+    by_resolver (Some s) was e = (s, was, sym (same_Some (route_rows (metric_rows s (filt_at m.chains k))) rows e))
 
 -- where no row stands above it
 pub none_resolved : (m v : Moment) (link : Link) (k : ℕ) (place : Option Network) → v ≡ m → link ≡ Res k → None ≡ chain_at k v.chains → IsNextPlace (hop_links m.hops (filt_at m.chains) link) place None
@@ -285,5 +285,5 @@ next_best m link place result candidates here live next covers = (
   λ rows is q lacks.
       let at : router_links m link ≡ best_links m.declared.speaker (best_of m) link = in_region m link Decided here in
       let own : Some rows ≡ Some (route_rows (best_of m)) = sym is ∙ at ∙ best_rows_at m.declared.speaker (best_of m) link (subst IsSome at live) in
-      ap (λ (r : Rows Value). r q) (one_of rows (route_rows (best_of m)) own) ∙ ap (option_map route_value) (covers q lacks),
+      ap (λ (r : Rows Value). r q) (same_Some rows (route_rows (best_of m)) own) ∙ ap (option_map route_value) (covers q lacks),
 )

@@ -1,18 +1,17 @@
 -- What a turn spends, of its phase and of an idle from that phase on: where a change of `best` may come, one candidate fewer is left.
-use Rattle.std.proofs.Common.{◌≡◌, ◌≢◌, ℕ, ◌+◌, ◌<◌, ◌≤◌, ◌⊎◌, Bool, true, false, not, nat_lt, List, [], ◌∷◌, Option, Some, None, is_some, refl, sym, ap, subst, ◌∙◌, inl, inr, arith}
+use Rattle.std.proofs.Common.{◌≡◌, ◌≢◌, ℕ, ◌+◌, ◌<◌, ◌≤◌, ◌⊎◌, Bool, true, false, not, nat_lt, List, Option, Some, None, is_some, refl, sym, ap, subst, ◌∙◌, inl, inr, arith}
 use Rattle.std.specs.List.{AllByRecursion, sum_by}
 use Rattle.std.specs.Option.{option_map}
 use Rattle.std.proofs.lemmas.Bool.Decides.{nat_tests}
 use Rattle.link_region.proofs.RegionLemmas.{by_bool}
 use Rattle.std.specs.FinMap as tables
-use Rattle.std.specs.Ordering.{nat_cmp}
 use Rattle.std.specs.Cmp.{nat_cmp_total}
-use Rattle.std.proofs.lemmas.List.Sums.{sum_by-cons}
 use Rattle.addr4.specs.Prefixes.{Network}
 use Rattle.bgp_attr.specs.declared.attrs.Attrs.{Attrs}
 use Rattle.bgp_attr.specs.declared.route.Route.{Route}
 use Rattle.link_change.specs.Rows.{Rows, Candidates, IsNextCandidate}
 use Rattle.link_change.specs.declared.change.Change.{Change}
+use Rattle.link_change.proofs.MapLemmas.{sum_replaced, sum_parts}
 use Rattle.loss_chain.specs.Tables.{Tables, tables_count}
 use Rattle.policy_rules.specs.declared.rule.Rule.{Rule}
 use Rattle.pass_core.specs.Passed.{Passed, Walked, walk_stepped, walk_of_waiting, after_walk}
@@ -42,7 +41,6 @@ use Rattle.in_chain.specs.Chains.{Chained, left_beyond, turns_left, waiting_turn
 use Rattle.in_chain.specs.Steps.{welded, Turned}
 use Rattle.peer_side.specs.Peers.{Chains, chain_at, put_chain, lost_in, left_in, rows_in}
 use Rattle.peer_side.specs.Steps.{Nears}
-use Rattle.peer_side.proofs.MapLemmas.{sum_replaced}
 use Rattle.exit_side.specs.Exits.{Exited, OutChains}
 use Rattle.router_core.specs.declared.router.Phase.{Phase}
 use Rattle.router_core.specs.declared.router.Phase.TheVariants as phases
@@ -80,17 +78,6 @@ turns_parted c = by_walk c.filter.walk
     by_walk : (o : Option (Walked (List Rule))) → walk_turns t o ≡ walk_candidates t o + walk_ends o
     by_walk None = omega arith
     by_walk (Some w) = waits (tables_count t) (left_beyond w.place t) w.waiting
-
-module _ {X : Type 0} (f g h : X → ℕ) (parted : (x : X) → f x ≡ g x + h x) where
-  sum_parts : (xs : List X) → sum_by f xs ≡ sum_by g xs + sum_by h xs
-  sum_parts [] = omega arith
-  sum_parts (x ∷ xs) =
-      let one = sum_by-cons f x xs in
-      let two = sum_by-cons g x xs in
-      let three = sum_by-cons h x xs in
-      let here = parted x in
-      let rest = sum_parts xs in
-      omega (arith, one, two, three, here, rest)
 
 abbrev pub fin_ends : Chains → ℕ
 fin_ends a = sum_by ends_of (tables.values a)
@@ -160,7 +147,7 @@ turn_sends task m k c less sent best fall cs e at put turned quiet queued near =
     ]
   where
     replaced : fin_ends cs + ends_of c ≡ fin_ends m.chains + ends_of less
-    replaced = subst (λ (x : Chains). fin_ends x + ends_of c ≡ fin_ends m.chains + ends_of less) (sym put) (sum_replaced nat_cmp nat_cmp_total ends_of m.chains k (welded less) c at)
+    replaced = subst (λ (x : Chains). fin_ends x + ends_of c ≡ fin_ends m.chains + ends_of less) (sym put) (sum_replaced nat_cmp_total ends_of m.chains k (welded less) c at)
 
     ends_same : ends_of less ≡ ends_of c → fin_ends cs ≡ fin_ends m.chains
     ends_same same = let r = replaced in omega (arith, r, same)
@@ -419,11 +406,11 @@ hop_spends m k candidates upper r h e resolver taken sent best at turned after q
     exits = let same : tables.len e.chains ≡ tables.len m.exits.chains = ap (λ (a : OutChains). tables.len a) (queue_chains m.exits e best queued) in omega (arith, same)
 
     replaced : nh_ends h + hop_ends resolver ≡ nh_ends m.hops + hop_ends taken
-    replaced = subst (λ (x : Resolvers). nh_ends x + hop_ends resolver ≡ nh_ends m.hops + hop_ends taken) (sym after) (sum_replaced nat_cmp nat_cmp_total hop_ends m.hops k taken resolver at)
+    replaced = subst (λ (x : Resolvers). nh_ends x + hop_ends resolver ≡ nh_ends m.hops + hop_ends taken) (sym after) (sum_replaced nat_cmp_total hop_ends m.hops k taken resolver at)
 
     sends_replaced : nh_sends (beyonds m.chains) h + nh_sends_of (beyonds m.chains) resolver ≡ nh_sends (beyonds m.chains) m.hops + nh_sends_of (beyonds m.chains) taken
     sends_replaced = subst (λ (x : Resolvers). nh_sends (beyonds m.chains) x + nh_sends_of (beyonds m.chains) resolver ≡ nh_sends (beyonds m.chains) m.hops + nh_sends_of (beyonds m.chains) taken) (sym after)
-        (sum_replaced nat_cmp nat_cmp_total (nh_sends_of (beyonds m.chains)) m.hops k taken resolver at)
+        (sum_replaced nat_cmp_total (nh_sends_of (beyonds m.chains)) m.hops k taken resolver at)
 
     spent : most_unread e + nh_sends (beyonds m.chains) h ≤ most_unread m.exits + nh_sends (beyonds m.chains) m.hops
     spent =

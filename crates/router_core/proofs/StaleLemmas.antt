@@ -1,7 +1,6 @@
 -- Next hops become stale with a change of `int` alone: neither with a change from above, nor in their own turns.
 use Rattle.std.proofs.Common.{◌≡◌, ℕ, ◌+◌, ◌≤◌, nat_eq, not, Bool, true, false, cond, List, Option, Some, None, is_some, refl, sym, ap, subst, ◌∙◌, inl, inr, arith}
 use Rattle.std.specs.Option.{option_map}
-use Rattle.std.specs.Ordering.{nat_cmp}
 use Rattle.std.specs.Cmp.{nat_cmp_total}
 use Rattle.std.specs.FinMap as tables
 use Rattle.std.specs.FinMap.{retain_keys, get-retain_keys, nat_cmp-IsAntisymmetric}
@@ -9,12 +8,12 @@ use Rattle.std.proofs.lemmas.Bool.{cases_eq}
 use Rattle.addr4.specs.Prefixes.{Network}
 use Rattle.link_change.specs.Rows.{Rows, Candidates}
 use Rattle.link_change.specs.declared.change.Change.{Change}
+use Rattle.link_change.proofs.MapLemmas.{sum_replaced, get_at, get_apart}
 use Rattle.bgp_attr.specs.declared.route.Route.{Route}
 use Rattle.rib_route.specs.declared.rows.Interior.{Interior}
 use Rattle.register_interest.specs.Registers.{Registry}
 use Rattle.nexthop_known.specs.declared.answer.Hop.{Hop}
 use Rattle.nexthop_known.specs.Hops.{Hops, is_stale_at, stale_count, settled}
-use Rattle.nexthop_known.proofs.CountLemmas.{set_here, set_apart}
 use Rattle.nexthop_resolver.specs.declared.rows.Metric.{Metric}
 use Rattle.nexthop_resolver.specs.Kept.{metric_of}
 use Rattle.nexthop_resolver.specs.Registered.{Renews, told_of}
@@ -24,7 +23,6 @@ use Rattle.nexthop_resolver.specs.Turns.{KnownAfter, Turned}
 use Rattle.hop_side.specs.Resolvers.{Resolvers, resolver_at, put_resolver}
 use Rattle.rib_exit.specs.declared.exit.RibExit.{RibExit}
 use Rattle.hop_side.proofs.PutLemmas.{by_bool, equal_by, put_here, put_other}
-use Rattle.peer_side.proofs.MapLemmas.{sum_replaced}
 use Rattle.journal_text.specs.declared.entry.Entry.{Entry}
 use Rattle.journal_text.specs.declared.value.Value.{Value}
 use Rattle.router_core.specs.declared.router.Phase.{Phase}
@@ -67,8 +65,8 @@ module _ {A : Type 0} where
   -- one that is asked for again isn't stale then
   renewed : (kept : Option (Network × Interior) → A) (r : Registry Interior) (old new : Hops A) (b : ℕ) → Renews kept r old new b → StaleBefore old new
   renewed kept r old new b is a stale = elim (cases_eq a b) as (λ _. is_stale_at (tables.get old a) ≡ true) [
-    | inl same ↦ absurd (let clash : false ≡ true = sym (ap (λ (o : Option (Hop A)). is_stale_at o) (ap (tables.get new) same ∙ ap (λ (h : Hops A). tables.get h b) is.1 ∙ set_here old b _)) ∙ stale in cc)
-    | inr apart ↦ ap (λ (o : Option (Hop A)). is_stale_at o) (sym (ap (λ (h : Hops A). tables.get h a) is.1 ∙ set_apart old b _ a apart)) ∙ stale
+    | inl same ↦ absurd (let clash : false ≡ true = sym (ap (λ (o : Option (Hop A)). is_stale_at o) (ap (tables.get new) same ∙ ap (λ (h : Hops A). tables.get h b) is.1 ∙ get_at nat_cmp_total old b _)) ∙ stale in cc)
+    | inr apart ↦ ap (λ (o : Option (Hop A)). is_stale_at o) (sym (ap (λ (h : Hops A). tables.get h a) is.1 ∙ get_apart nat_cmp_total nat_cmp-IsAntisymmetric old b _ a apart)) ∙ stale
   ]
 
   pub turned : {R L : Type 0} (hop : R → ℕ) (made : R → A → Option L) (candidates : Candidates) (upper : Rows R) (kept : Option (Network × Interior) → A) (was is : Registry Interior) (old new : Resolving A) (sent : Option (Change L))
@@ -124,7 +122,7 @@ put_before k h h' resolver taken at after before = record {
         (λ other stale. ap (λ (o : Option (Resolving Metric)). is_stale_by o a) (sym (put_other k taken h j other)) ∙ stale)
 
     replaced : stale_in h' + stale_of resolver ≡ stale_in h + stale_of taken
-    replaced = subst (λ (x : Resolvers). stale_in x + stale_of resolver ≡ stale_in h + stale_of taken) (sym after) (sum_replaced nat_cmp nat_cmp_total stale_of h k taken resolver at)
+    replaced = subst (λ (x : Resolvers). stale_in x + stale_of resolver ≡ stale_in h + stale_of taken) (sym after) (sum_replaced nat_cmp_total stale_of h k taken resolver at)
 
 -- a change on `filt.K`, or none
 pub resolved : (k : ℕ) (sent passed : Option (Change Route)) (r r' : Registry Interior) (h h' : Resolvers) (entries : List (Entry Value)) → Resolves k sent passed r r' h h' entries → AllBefore h h'

@@ -2,8 +2,8 @@ use Rattle.std.proofs.Common.{Option, subst, ◌∙◌}
 use Rattle.std.specs.FinMap.{nat_cmp-IsAntisymmetric}
 use Rattle.std.specs.Cmp.{nat_cmp_total}
 use Rattle.addr4.specs.Prefixes.{Network}
+use Rattle.link_change.proofs.MapLemmas.{map_removed}
 use Rattle.nexthop_known.specs.Ties.{IsFreed}
-use Rattle.nexthop_known.proofs.MapLemmas.{map_removed}
 use Rattle.nexthop_known.proofs.KnownLemmas.{freed, came_of_known}
 use Rattle.nexthop_known.proofs.known.Known.forget.Goals as goal
 

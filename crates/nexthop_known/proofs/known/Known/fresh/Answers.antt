@@ -2,8 +2,8 @@ use Rattle.std.proofs.Common.{ap, sym, ◌∙◌, Some}
 use Rattle.std.specs.FinMap as map
 use Rattle.std.specs.FinMap.{nat_cmp-IsAntisymmetric}
 use Rattle.std.specs.Cmp.{nat_cmp_total}
+use Rattle.link_change.proofs.MapLemmas.{read_in, map_set}
 use Rattle.nexthop_known.specs.Hops.{in_force_or}
-use Rattle.nexthop_known.proofs.MapLemmas.{read_in, map_set}
 use Rattle.nexthop_known.proofs.known.Known.fresh.Goals as goal
 
 pub returns-in-Ok-clause-ok : goal.returns-in-Ok-clause-ok

@@ -1,7 +1,7 @@
 use Rattle.std.proofs.Common.{ap, sym, ◌∙◌, Some}
 use Rattle.std.specs.Option.{option_map}
 use Rattle.std.specs.Cmp.{nat_cmp_total}
-use Rattle.nexthop_known.proofs.MapLemmas.{read_in}
+use Rattle.link_change.proofs.MapLemmas.{read_in}
 use Rattle.nexthop_known.proofs.known.Known.in_force.Goals as goal
 
 pub returns-in-None : goal.returns-in-None

@@ -1,7 +1,7 @@
 use Rattle.std.proofs.Common.{ap, sym, ◌∙◌}
 use Rattle.std.specs.Cmp.{nat_cmp_total}
+use Rattle.link_change.proofs.MapLemmas.{read_in}
 use Rattle.nexthop_known.specs.Hops.{is_stale_at}
-use Rattle.nexthop_known.proofs.MapLemmas.{read_in}
 use Rattle.nexthop_known.proofs.known.Known.is_stale.Goals as goal
 
 pub returns-in-None : goal.returns-in-None

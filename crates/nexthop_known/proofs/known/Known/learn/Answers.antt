@@ -1,6 +1,6 @@
 use Rattle.std.specs.FinMap.{nat_cmp-IsAntisymmetric}
 use Rattle.std.specs.Cmp.{nat_cmp_total}
-use Rattle.nexthop_known.proofs.MapLemmas.{map_set}
+use Rattle.link_change.proofs.MapLemmas.{map_set}
 use Rattle.nexthop_known.specs.Hops.{learnt}
 use Rattle.nexthop_known.proofs.known.Known.learn.Goals as goal
 

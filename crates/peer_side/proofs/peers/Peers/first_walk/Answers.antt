@@ -1,17 +1,16 @@
 use Rattle.std.proofs.Common.{◌∙◌}
-use Rattle.std.specs.Ordering.{nat_cmp}
 use Rattle.std.specs.Cmp.{nat_cmp_total}
 use Rattle.std.specs.BTreeMap.{values}
-use Rattle.peer_side.proofs.MapLemmas.{values_in}
+use Rattle.link_change.proofs.MapLemmas.{values_in}
 use Rattle.peer_side.proofs.TaskLemmas.{first_on, none_left}
 use Rattle.peer_side.proofs.peers.Peers.first_walk.Goals as goal
 
 pub returns-clause-first : goal.returns-clause-first
 returns-clause-first c =
     let m = c.self.inside.chains in
-    c.first_busy.ensures.first ∙ first_on c.args.self.now (values m) c.requires (values_in nat_cmp nat_cmp_total m c.args.self.now c.first_busy.ensures.ordered c.self.view_is)
+    c.first_busy.ensures.first ∙ first_on c.args.self.now (values m) c.requires (values_in nat_cmp_total m c.args.self.now c.first_busy.ensures.ordered c.self.view_is)
 
 pub returns-clause-none : goal.returns-clause-none
 returns-clause-none c =
     let m = c.self.inside.chains in
-    none_left c.turns_are_bounded.ensures.left c.args.self.now (values m) c.first_busy.result (values_in nat_cmp nat_cmp_total m c.args.self.now c.first_busy.ensures.ordered c.self.view_is) c.first_busy.ensures.first
+    none_left c.turns_are_bounded.ensures.left c.args.self.now (values m) c.first_busy.result (values_in nat_cmp_total m c.args.self.now c.first_busy.ensures.ordered c.self.view_is) c.first_busy.ensures.first

@@ -1,8 +1,6 @@
-use Rattle.std.proofs.Common.{ap, ◌∙◌}
-use Rattle.std.specs.FinMap as map
-use Rattle.register_interest.proofs.MapLemmas.{map_set}
+use Rattle.link_change.proofs.MapLemmas.{map_set}
 use Rattle.register_interest.proofs.InterestLemmas.{interests_total, exact_interests}
 use Rattle.register_interest.proofs.interests.Interests.add.Goals as goal
 
 pub returns-clause-ok : goal.returns-clause-ok
-returns-clause-ok c = map_set interests_total exact_interests c.self.inside.kept c.insert.new.self c.args.interest c.args.found c.in_ok-insert.ensures.updates ∙ ap (λ m. map.insert m c.args.interest c.args.found) c.self.view_is
+returns-clause-ok c = map_set interests_total exact_interests c.self.inside.kept c.insert.new.self c.args.self.now c.args.interest c.args.found c.self.view_is c.in_ok-insert.ensures.updates.0
