@@ -1,12 +1,12 @@
 //! Reading whole messages.
 
-ghost use Rattle.std.specs.Prelude.{◌≡◌, ◌≤◌, ◌++◌, length, filter, not, IfOk, Bool};
+ghost use Rattle.std.specs.Prelude.{◌≡◌, ◌≤◌, ◌++◌, [], length, filter, not, IfOk, Bool, None};
 ghost use Rattle.std.specs.BTreeSet.{contains};
 ghost use Rattle.std.specs.List.{list_any};
 ghost use Rattle.addr4.specs.Prefixes.{Network, prefix_cmp, same_prefix};
 ghost use Rattle.bgp_wire.specs.declared.message.Message.{Message as Answer};
 ghost use Rattle.bgp_wire.specs.Faults.{Gives};
-ghost use Rattle.bgp_wire.specs.Found.{missing_from, lacks_from, attrs_from, update_of};
+ghost use Rattle.bgp_wire.specs.Found.{missing_from, lacks_from, attrs_from, attrs_for, update_of};
 ghost use Rattle.bgp_wire.specs.Updates.{reading_at, content_at};
 ghost use Rattle.bgp_wire.specs.Grammar.{without, GivesUpdate, GivesMessage, Answers};
 ghost use Rattle.bgp_wire.specs.Notices.{HasShortNotice};
@@ -91,6 +91,16 @@ fn into_attrs(found: Found, external: bool) -> Option<Attrs>
     }
 }
 
+/// The same; none where no route is announced.
+fn attrs_for(found: Found, external: bool, announced: &[Prefix]) -> Option<Attrs>
+    ensures { result ≡ attrs_for external found announced.now }
+{
+    if announced.is_empty() {
+        return None;
+    }
+    into_attrs(found, external)
+}
+
 /// The prefixes as a set.
 fn set_of(alloc: Global, prefixes: &[Prefix]) -> Result<BTreeSet<Prefix>, AllocError>
     ensures { IfOk result (λ set. (p : Network) → contains prefix_cmp set p ≡ list_any (λ other. same_prefix other p) prefixes.now) }
@@ -121,6 +131,22 @@ fn withdraw_all(
     Ok(all)
 }
 
+/// The UPDATE that withdraws all these prefixes.
+fn withdrawal_of(
+    alloc: Global,
+    withdrawn: Vec<Prefix>,
+    announced: Vec<Prefix>,
+) -> Result<Update, AllocError>
+    ensures { IfOk result (λ update. update ≡ record { withdrawn = without announced.items withdrawn.items ++ announced.items; announced = []; attrs = None }) }
+{
+    let all = withdraw_all(alloc, withdrawn, announced)?;
+    Ok(Update {
+        withdrawn: Prefixes::from_vec(all),
+        announced: Prefixes::from_vec(Vec::new(alloc)),
+        attrs: None,
+    })
+}
+
 fn update_of(
     alloc: Global,
     external: bool,
@@ -132,17 +158,9 @@ fn update_of(
     ensures { IfOk result (λ update. update ≡ update_of external withdraw withdrawn.items announced.items found) }
 {
     if withdraw {
-        return Ok(Update {
-            withdrawn: Prefixes::from_vec(withdraw_all(alloc, withdrawn, announced)?),
-            announced: Prefixes::from_vec(Vec::new(alloc)),
-            attrs: None,
-        });
+        return withdrawal_of(alloc, withdrawn, announced);
     }
-    let attrs = if announced.is_empty() {
-        None
-    } else {
-        into_attrs(found, external)
-    };
+    let attrs = attrs_for(found, external, announced.as_slice());
     Ok(Update {
         withdrawn: Prefixes::from_vec(withdrawn),
         announced: Prefixes::from_vec(announced),

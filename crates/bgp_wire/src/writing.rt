@@ -64,8 +64,7 @@ pub fn write_withdrawal(alloc: Global, prefix: Prefix) -> Result<Vec<u8>, Memory
 {
     let withdrawn = &[prefix];
     let size = HEADER + 4 + prefixes_length(withdrawn);
-    let mut out = Vec::with_capacity(alloc, size)?;
-    push_header(&mut out, size as u16, UPDATE)?;
+    let mut out = begin(alloc, size, UPDATE)?;
     push_withdrawn(&mut out, withdrawn)?;
     push_u16(&mut out, 0)?;
     Ok(out)
@@ -82,8 +81,7 @@ pub fn write_notification(
     ensures { IfOk result (λ v. v.items ≡ notification_octets code subcode octets.now) }
 {
     let size = HEADER + 2 + octets.len();
-    let mut out = Vec::with_capacity(alloc, size)?;
-    push_header(&mut out, size as u16, NOTIFICATION)?;
+    let mut out = begin(alloc, size, NOTIFICATION)?;
     out.push(code)?;
     out.push(subcode)?;
     out.extend_from_slice(octets)?;
@@ -108,13 +106,37 @@ fn write_fields(
         return Ok(None);
     }
     let size = others + attributes as usize;
-    let mut out = Vec::with_capacity(alloc, size)?;
-    push_header(&mut out, size as u16, UPDATE)?;
-    push_withdrawn(&mut out, withdrawn)?;
-    push_u16(&mut out, attributes as u16)?;
-    push_option(&mut out, profile.as4, attrs)?;
-    push_prefixes(&mut out, announced)?;
+    let mut out = begin(alloc, size, UPDATE)?;
+    let as4 = profile.as4;
+    push_fields(
+        &mut out,
+        as4,
+        withdrawn,
+        attributes as u16,
+        attrs,
+        announced,
+    )?;
     Ok(Some(out))
+}
+
+/// The three fields of an UPDATE, each of the first two behind its length.
+fn push_fields(
+    out: &mut Vec<u8>,
+    as4: bool,
+    withdrawn: &[Prefix],
+    attributes: u16,
+    attrs: Option<&Attrs>,
+    announced: &[Prefix],
+) -> Result<(), Memory>
+    requires few { length withdrawn.now ≤ 1 }
+    requires fits { ForSome (option_copied attrs) (FitsAttrs as4) }
+    requires counted { attributes ≡ length (attrs_octets as4 (option_copied attrs)) }
+    ensures { OnOk result (out.new.items ≡ out.old.items ++ fields_octets (prefixes_octets withdrawn.now) (attrs_octets as4 (option_copied attrs.entry)) (prefixes_octets announced.now)) }
+{
+    push_withdrawn(out, withdrawn)?;
+    push_u16(out, attributes)?;
+    push_option(out, as4, attrs)?;
+    push_prefixes(out, announced)
 }
 
 #[tactic(auto, unfolding(crate::specs::Lengths::attributes_length))]
@@ -153,6 +175,16 @@ fn push_prefixes(out: &mut Vec<u8>, prefixes: &[Prefix]) -> Result<(), Memory>
         push_prefix(out, *prefix)?;
     }
     Ok(())
+}
+
+/// The octets of a message of this size so far: its header.
+fn begin(alloc: Global, size: usize, kind: u8) -> Result<Vec<u8>, Memory>
+    requires { size < 65536 }
+    ensures { IfOk result (λ out. out.items ≡ replicate 16 255 ++ big_bytes 2 size ++ kind ∷ []) }
+{
+    let mut out = Vec::with_capacity(alloc, size)?;
+    push_header(&mut out, size as u16, kind)?;
+    Ok(out)
 }
 
 /// A marker of ones, the length of the whole message, and its type.

@@ -390,6 +390,10 @@ few_heard_case n here line (Some said) few h = omega (arith, few, h.below, few_c
 pub few_heard : (n : ℕ) (here : ℕ → Option Route) (heard : Heard) → n ≤ 65 → Hears n here heard → length heard.line.candidates.items ≤ 64
 few_heard n here heard few h = few_heard_case n here heard.line heard.last few h
 
+-- where nothing was heard there is no best
+pub none_heard : (n : ℕ) (here : ℕ → Option Route) (line : Lineup) → HearsNone n here line → None ≡ pick (routes_of n here)
+none_heard n here line h = sym (ap pick h.none)
+
 -- the last row alone is the best
 pub heard_alone : (n : ℕ) (here : ℕ → Option Route) (line : Lineup) (said : Said) → line.candidates.items ≡ [] → HearsLast n here line said
     → Some said.route ≡ pick (routes_of n here)
@@ -403,12 +407,15 @@ chosen_own branch row here None is = refl
 chosen_own branch row here (Some b) is =
     by_number b branch (λ t. (if t then row else here b) ≡ here b) (λ same. sym (ap here same ∙ is)) (λ differ. refl)
 
--- the winner's row, where the last one's is at hand
-pub heard_winner : (n : ℕ) (here : ℕ → Option Route) (line new : Lineup) (said : Said) (winner : Option ℕ) (row : Option Route)
+-- the winner, once the last one's candidate is in line
+pub heard_winner : (n : ℕ) (here : ℕ → Option Route) (line new : Lineup) (said : Said) (winner : Option ℕ)
     → (Some (candidate_of said.route) ≡ candidate_at (here said.branch) → LinesUp said.branch here line → LinesUp (said.branch + 1) here new)
-    → (LinesUp n here new → chosen here winner ≡ pick (routes_of n here))
-    → row ≡ chosen (with_own said.branch (Some said.route) here) winner → HearsLast n here line said → row ≡ pick (routes_of n here)
-heard_winner n here line new said winner row entered best is h =
-    is ∙ chosen_own said.branch (Some said.route) here winner h.row
-    ∙ best (lined_as n (said.branch + 1) here new (h.all ∙ sym (routes_with said.branch here said.route h.row))
+    → (LinesUp n here new → chosen here winner ≡ pick (routes_of n here)) → HearsLast n here line said → chosen here winner ≡ pick (routes_of n here)
+heard_winner n here line new said winner entered best h =
+    best (lined_as n (said.branch + 1) here new (h.all ∙ sym (routes_with said.branch here said.route h.row))
     (entered (ap candidate_at (sym h.row)) h.lined))
+
+-- the winner's row, where the last one's is at hand
+pub heard_row : (n : ℕ) (here : ℕ → Option Route) (line : Lineup) (said : Said) (winner : Option ℕ) (row : Option Route)
+    → row ≡ chosen (with_own said.branch (Some said.route) here) winner → HearsLast n here line said → row ≡ chosen here winner
+heard_row n here line said winner row is h = is ∙ chosen_own said.branch (Some said.route) here winner h.row

@@ -3,11 +3,14 @@ use Rattle.std.specs.Prelude.{◌≡◌, ◌≤◌, ◌<◌, ℕ, ◌==◌, if�
 use Rattle.std.specs.List.{filter_map, range_with_len}
 use Rattle.std.specs.Option.{option_map}
 use Rattle.addr4.specs.Prefixes.{Network}
+use Rattle.link_change.specs.declared.change.Change.{Change}
 use Rattle.bgp_attr.specs.declared.route.Route.{Route}
 use Rattle.best_path.specs.declared.candidate.Candidate.{Candidate}
 use Rattle.best_path.specs.Keys.{candidate_of}
+use Rattle.best_path.specs.Steps.{pick}
 use Rattle.decision.specs.declared.lineup.Lineup.{Lineup}
 use Rattle.decision.specs.declared.lineup.Others.{Others}
+use Rattle.decision.specs.declared.lineup.Winners.{Winners}
 use Rattle.decision.specs.declared.heard.Said.{Said}
 use Rattle.decision.specs.declared.heard.Heard.{Heard}
 use Rattle.decision.specs.Branches.{AllRows}
@@ -46,6 +49,23 @@ pub record HasRoom (others : Others) : Type 0 where
   pub place : others.place ≤ length others.line.candidates.items
   pub few : length others.line.candidates.items ≤ 64
   pub beside : length others.line.branches.items ≡ length others.line.candidates.items
+
+-- where one branch has this row, this is the one whose row is the best
+abbrev pub WinsWith : ℕ → (ℕ → Option Route) → Option Route → Option ℕ → Type 0
+WinsWith branch here own winner = chosen (with_own branch own here) winner ≡ pick (routes_of 65 (with_own branch own here))
+
+-- no other branch has a row: whatever the branch has is the best
+abbrev pub StandsAlone : ℕ → (ℕ → Option Route) → Type 0
+StandsAlone branch here = (own : Option Route) → own ≡ pick (routes_of 65 (with_own branch own here))
+
+-- these have the best row before a branch's change and after it
+pub record WinBoth (branch : ℕ) (here : ℕ → Option Route) (change : Change Route) (winners : Winners) : Type 0 where
+  pub former : WinsWith branch here change.before winners.former
+  pub latter : WinsWith branch here change.after winners.latter
+
+-- the same, but nobody where no other branch has a row
+abbrev pub Win : ℕ → (ℕ → Option Route) → Change Route → Option Winners → Type 0
+Win branch here change winners = MatchOption winners (StandsAlone branch here) (WinBoth branch here change)
 
 -- none of the branches below n has a row
 pub record HearsNone (n : ℕ) (here : ℕ → Option Route) (line : Lineup) : Type 0 where

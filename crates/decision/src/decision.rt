@@ -1,20 +1,33 @@
 //! The decision over all branches.
 
-ghost use Rattle.std.specs.Prelude.{◌≡◌, ◌<◌, ◌≤◌, ℕ, length, IfOk};
+ghost use Rattle.std.specs.Prelude.{◌≡◌, ◌<◌, ◌≤◌, ◌+◌, ℕ, Option, length, IfOk, OnOk};
+ghost use Rattle.bgp_attr.specs.declared.route.Route.{Route};
 ghost use Rattle.addr4.specs.Places.{key_of};
 ghost use Rattle.link_change.specs.Rows.{IsNextCandidate, CoversRows};
 ghost use Rattle.decision.specs.Branches.{best_rows, best_candidates, Decides};
-ghost use Rattle.decision.specs.Lineups.{Beside, Hears, at_prefix, routes_of, with_own, chosen};
+ghost use Rattle.decision.specs.Lineups.{Beside, LinesUp, Hears, Win, WinBoth, at_prefix, routes_of, with_own, chosen};
 ghost use Rattle.best_path.specs.Steps.{pick};
 
 use crate::branches::Branches;
 use crate::heard::Heard;
-use crate::lineup::{Lineup, Others, candidate};
+use crate::lineup::{Lineup, Others, Winners, candidate};
 use addr4::{Memory, Place, Prefix};
-use best_path::Candidate;
 use bgp_attr::Route;
 use link_change::{Change, nearer};
 use std::alloc::Global;
+
+// Another branch is asked for its row, and its candidate joins the line.
+fn line_one_up<B: Branches>(
+    line: &mut Lineup,
+    branch: u8,
+    prefix: &Prefix,
+    all: &B,
+) -> Result<(), Memory>
+    ensures { OnOk result ((here : ℕ → Option Route) → at_prefix (B.rows all.now) prefix.now branch ≡ here branch → LinesUp branch here line.old → LinesUp (branch + 1) here line.new) }
+{
+    let row = all.asked(branch, prefix)?;
+    line.enter(branch, candidate(&row))
+}
 
 // The candidates of the other branches, each of which is asked once. Takes no memory where none has a row.
 fn line_up<B: Branches>(
@@ -32,7 +45,7 @@ fn line_up<B: Branches>(
         if number == branch {
             place = line.len();
         } else {
-            line.enter(number, candidate(&all.asked(number, prefix)?))?;
+            line_one_up(&mut line, number, prefix, all)?;
         }
     }
     Ok(Others { line, place })
@@ -57,6 +70,38 @@ fn row_of<B: Branches>(
     all.asked(number, prefix)
 }
 
+// Who wins before a branch's change and after it; nobody is named where no other branch has a row.
+fn winners<B: Branches>(
+    alloc: Global,
+    branch: u8,
+    change: &Change<Route>,
+    all: &B,
+) -> Result<Option<Winners>, Memory>
+    requires { branch < 65 }
+    ensures { IfOk result (Win branch (at_prefix (B.rows all.now) change.now.prefix) change.now) }
+{
+    let mut others = line_up(alloc, branch, &change.prefix, all)?;
+    others.winners(branch, change)
+}
+
+// A branch's change, as it goes on below where these win.
+fn won_by<B: Branches>(
+    winners: Winners,
+    branch: u8,
+    change: Change<Route>,
+    all: &B,
+) -> Result<Option<Change<Route>>, Memory>
+    requires { WinBoth branch (at_prefix (B.rows all.now) change.prefix) change winners }
+    ensures { IfOk result (Decides branch (B.rows all.now) change) }
+{
+    if winners.is_another(branch) {
+        return Ok(None);
+    }
+    let before = row_of(winners.former, branch, change.before, &change.prefix, all)?;
+    let after = row_of(winners.latter, branch, change.after, &change.prefix, all)?;
+    Ok(Change::between(change.prefix, before, after))
+}
+
 /// A change of one branch's rows, as it goes on below: the change of the best route at its prefix. The branches are lent as
 /// they are after the change; each other one is asked once for its row there, and the one whose row is sent again. None comes
 /// exactly where the best route stays the same, Memory only for want of memory.
@@ -69,18 +114,10 @@ pub fn take_in<B: Branches>(
     requires { branch < 65 }
     ensures { IfOk result (Decides branch (B.rows all.now) change) }
 {
-    let mut others = line_up(alloc, branch, &change.prefix, all)?;
-    if others.is_empty() {
-        return Ok(Some(change));
+    match winners(alloc, branch, &change, all)? {
+        None => Ok(Some(change)),
+        Some(winners) => won_by(winners, branch, change, all),
     }
-    let former = others.winner_with(branch, candidate(&change.before))?;
-    let latter = others.winner_with(branch, candidate(&change.after))?;
-    if former == latter && latter != Some(branch) {
-        return Ok(None);
-    }
-    let before = row_of(former, branch, change.before, &change.prefix, all)?;
-    let after = row_of(latter, branch, change.after, &change.prefix, all)?;
-    Ok(Change::between(change.prefix, before, after))
 }
 
 // The best of the rows that were heard: another row than the last one is asked for again.
@@ -88,15 +125,26 @@ fn best_of<B: Branches>(heard: Heard, prefix: &Prefix, all: &B) -> Result<Option
     requires { length heard.line.candidates.items ≤ 64 }
     ensures { IfOk result (λ row. (n : ℕ) → Hears n (at_prefix (B.rows all.now) prefix.now) heard → row ≡ pick (routes_of n (at_prefix (B.rows all.now) prefix.now))) }
 {
-    let Heard { mut line, last } = heard;
-    let Some(said) = last else {
-        return Ok(None);
-    };
-    if line.is_empty() {
-        return Ok(Some(said.route));
+    let mut heard = heard;
+    let winner = heard.winner()?;
+    let Heard { line: _line, last } = heard;
+    match last {
+        None => Ok(None),
+        Some(said) => row_of(winner, said.branch, Some(said.route), prefix, all),
     }
-    line.enter(said.branch, Some(Candidate::of(&said.route)))?;
-    row_of(line.winner(), said.branch, Some(said.route), prefix, all)
+}
+
+// The next branch is asked for its row.
+fn hear_one<B: Branches>(
+    heard: &mut Heard,
+    branch: u8,
+    prefix: &Prefix,
+    all: &B,
+) -> Result<(), Memory>
+    ensures { OnOk result (Hears branch (at_prefix (B.rows all.now) prefix.now) heard.old → Hears (branch + 1) (at_prefix (B.rows all.now) prefix.now) heard.new) }
+{
+    let row = all.asked(branch, prefix)?;
+    heard.hear(branch, row)
 }
 
 /// The best route at a prefix; none where no branch has one. Takes no memory where one branch alone has a row.
@@ -105,7 +153,7 @@ pub fn asked<B: Branches>(alloc: Global, all: &B, prefix: &Prefix) -> Result<Opt
 {
     let mut heard = Heard::new(alloc);
     for number in 0..all.count() {
-        heard.hear(number, all.asked(number, prefix)?)?;
+        hear_one(&mut heard, number, prefix, all)?;
     }
     best_of(heard, prefix, all)
 }

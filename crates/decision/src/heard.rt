@@ -1,8 +1,9 @@
 //! Rows that the branches have said.
 
-ghost use Rattle.std.specs.Prelude.{◌≡◌, ◌+◌, ℕ, Option, OnOk};
+ghost use Rattle.std.specs.Prelude.{◌≡◌, ◌+◌, ◌≤◌, ℕ, Option, length, IfOk, OnOk};
 ghost use Rattle.bgp_attr.specs.declared.route.Route.{Route};
-ghost use Rattle.decision.specs.Lineups.{Hears};
+ghost use Rattle.best_path.specs.Steps.{pick};
+ghost use Rattle.decision.specs.Lineups.{Hears, chosen, routes_of};
 
 use crate::lineup::Lineup;
 use addr4::Memory;
@@ -49,5 +50,23 @@ impl Heard {
             self.line.enter(said.branch, Some(candidate))?;
         }
         Ok(())
+    }
+
+    /// The branch whose row is the best; none where no row was heard. The last row's candidate joins the others for it, so it
+    /// is asked at the end. Takes no memory where one row alone was heard.
+    pub(crate) fn winner(&mut self) -> Result<Option<u8>, Memory>
+        requires { length self.old.line.candidates.items ≤ 64 }
+        ensures best { IfOk result (λ winner. (n : ℕ) (here : ℕ → Option Route) → Hears n here self.old → chosen here winner ≡ pick (routes_of n here)) }
+        ensures last { OnOk result (self.new.last ≡ self.old.last) }
+    {
+        let Some(said) = &self.last else {
+            return Ok(None);
+        };
+        if self.line.is_empty() {
+            return Ok(Some(said.branch));
+        }
+        self.line
+            .enter(said.branch, Some(Candidate::of(&said.route)))?;
+        Ok(self.line.winner())
     }
 }

@@ -1,14 +1,15 @@
 //! Candidates in line.
 
-ghost use Rattle.std.specs.Prelude.{◌≡◌, ◌≤◌, ◌<◌, ◌+◌, ℕ, Option, [], true, length, OnOk, IfOk};
+ghost use Rattle.std.specs.Prelude.{◌≡◌, ◌≢◌, ◌≤◌, ◌<◌, ◌+◌, ℕ, Option, Some, [], true, length, OnOk, IfOk};
 ghost use Rattle.std.specs.List.{insert, remove};
 ghost use Rattle.bgp_attr.specs.declared.route.Route.{Route};
-ghost use Rattle.decision.specs.Lineups.{LinesUp, Beside, HasRoom, candidate_at, routes_of, chosen, with_own};
+ghost use Rattle.decision.specs.Lineups.{LinesUp, Beside, HasRoom, Win, candidate_at, routes_of, chosen, with_own};
 ghost use Rattle.best_path.specs.Steps.{pick};
 
 use addr4::Memory;
 use best_path::{Candidate, best};
 use bgp_attr::Route;
+use link_change::Change;
 use std::alloc::Global;
 
 /// The candidates of the branches at one prefix, in the order of branches.
@@ -99,6 +100,22 @@ impl Lineup {
     }
 }
 
+/// The branches that have the best row before a change of one branch's row, and after it.
+#[derive(Clone, Copy)]
+pub(crate) struct Winners {
+    pub(crate) former: Option<u8>,
+    pub(crate) latter: Option<u8>,
+}
+
+impl Winners {
+    /// Whether the best row is the same other branch's before and after.
+    pub(crate) fn is_another(self, branch: u8) -> bool
+        ensures { result ≡ true → (self.former ≡ self.latter) × (self.latter ≢ Some branch) }
+    {
+        self.former == self.latter && self.latter != Some(branch)
+    }
+}
+
 /// The candidates of all branches but one, and the place among them where that one's own would stand.
 #[derive(Drop)]
 pub(crate) struct Others {
@@ -132,5 +149,24 @@ impl Others {
         let winner = self.line.winner();
         self.line.cut(self.place);
         Ok(winner)
+    }
+
+    /// Who wins before a change of the row of the one left out and after it; nobody is named where no other branch has a
+    /// candidate.
+    pub(crate) fn winners(
+        &mut self,
+        branch: u8,
+        change: &Change<Route>,
+    ) -> Result<Option<Winners>, Memory>
+        requires room { HasRoom self.old }
+        requires branch { branch < 65 }
+        ensures { IfOk result (λ winners. (here : ℕ → Option Route) → Beside branch here self.old → Win branch here change.now winners) }
+    {
+        if self.is_empty() {
+            return Ok(None);
+        }
+        let former = self.winner_with(branch, candidate(&change.before))?;
+        let latter = self.winner_with(branch, candidate(&change.after))?;
+        Ok(Some(Winners { former, latter }))
     }
 }

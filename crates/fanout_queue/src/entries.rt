@@ -56,6 +56,17 @@ fn give_back<T>(kept: &mut VecDeque<T>)
     }
 }
 
+// Puts an entry behind the others. For want of memory nothing changes.
+fn push<T: Drop>(kept: &mut VecDeque<T>, entry: T) -> Result<(), Memory>
+    ensures ok { OnOk result (kept.new.items ≡ kept.old.items ++ entry ∷ []) }
+    ensures memory { OnErr result (kept.new.items ≡ kept.old.items) }
+{
+    match kept.push_back(entry) {
+        Ok(()) => Ok(()),
+        Err(_) => Err(Memory),
+    }
+}
+
 impl<R: Row> Entries<R> {
     ghost use Rattle.fanout_queue.specs.Entries.{IsPlace, readers_at, first_readers, unread_at, Puts, Enters, Leaves, CutsFirst, Trims, TakesOut, Passes, first_before, IsNextBeside};
 
@@ -101,18 +112,19 @@ impl<R: Row> Entries<R> {
         ensures memory { OnErr result (self.new ≡ self.old) }
     {
         let number = self.end();
-        if number == u64::MAX {
-            return Err(Memory);
-        }
         let prefix = change.prefix;
         index::put_key(&mut self.index, prefix, number)?;
         let readers = self.at_end;
-        if self.kept.push_back(Entry { change, readers }).is_err() {
-            index::cut_key(&mut self.index, prefix, number);
-            return Err(Memory);
+        match push(&mut self.kept, Entry { change, readers }) {
+            Ok(()) => {
+                self.at_end = 0;
+                Ok(())
+            }
+            Err(Memory) => {
+                index::cut_key(&mut self.index, prefix, number);
+                Err(Memory)
+            }
         }
-        self.at_end = 0;
-        Ok(())
     }
 
     /// One reader more stands at a place.

@@ -1,6 +1,6 @@
 //! The entries of a queue by prefix and then number.
 
-ghost use Rattle.std.specs.Prelude.{◌≡◌, ◌<◌, ◌^◌, ℕ, OnOk, OnErr, true, false};
+ghost use Rattle.std.specs.Prelude.{◌≡◌, ◌<◌, ◌+◌, ◌^◌, ℕ, OnOk, OnErr, true, false};
 ghost use Rattle.std.specs.List.{find};
 ghost use Rattle.std.specs.BTreeSet.{Updates, contains, IsOrdered};
 ghost use Rattle.addr4.specs.Places.{key_of};
@@ -11,15 +11,19 @@ use addr4::{Memory, Place, Prefix};
 use std::collections::BTreeSet;
 use std::ops::Bound;
 
-/// Puts the key of an entry.
+/// Puts the key of an entry. For want of memory, and where the number has none after it, nothing changes.
 pub(crate) fn put_key(
     index: &mut BTreeSet<(Prefix, u64)>,
     prefix: Prefix,
     number: u64,
 ) -> Result<(), Memory>
     ensures ok { OnOk result (Updates key_cmp index.old index.new (prefix, number) true) }
+    ensures room { OnOk result (number + 1 < 2 ^ 64) }
     ensures memory { OnErr result (index.new.keys ≡ index.old.keys) }
 {
+    if number == u64::MAX {
+        return Err(Memory);
+    }
     index.insert((prefix, number))?;
     Ok(())
 }

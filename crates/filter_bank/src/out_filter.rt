@@ -8,7 +8,7 @@ ghost use Rattle.pass_core.specs.Passed.{edited, waits};
 ghost use Rattle.pass_core.specs.Turns.{passed, passed_rows, IsPassedOn, IsWalked};
 ghost use Rattle.filter_bank.specs.Outgoing.{Form, outgoing, first_walk};
 
-use crate::outgoing::{asked_row, sent_before, sent_row};
+use crate::outgoing::{asked_row, sent_change, sent_row};
 use crate::sent::Sent;
 use addr4::{Memory, Place, Prefix};
 use bgp_attr::{Neighbour, Route, SharedAttrs};
@@ -105,10 +105,11 @@ impl OutFilter {
             return Ok(Turn::Quiet);
         };
         let row = upper.asked(&prefix)?;
-        let before = sent_before(form, peer, self.pass.at(prefix), prefix, &row)?;
-        let after = sent_row(form, peer, self.pass.coming(), prefix, row)?;
+        let former = self.pass.at(prefix);
+        let latter = self.pass.coming();
+        let sent = sent_change(form, peer, former, latter, prefix, row)?;
         self.pass.step_to(prefix);
-        Ok(Turn::taken(Change::between(prefix, before, after)))
+        Ok(Turn::taken(sent))
     }
 
     /// The row at a prefix of the link below.

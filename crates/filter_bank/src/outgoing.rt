@@ -1,11 +1,13 @@
 //! What the outgoing filter makes of one route.
 
 ghost use Rattle.std.specs.Prelude.{◌≡◌, IfOk};
+ghost use Rattle.link_change.specs.Changes.{IsChangeOf};
 ghost use Rattle.filter_bank.specs.Outgoing.{is_kept_from, may_go, first_out, let_out, outgoing};
 
 use crate::sent::Sent;
 use addr4::{Memory, Prefix, Row};
 use bgp_attr::{Neighbour, Route, SharedAttrs, is_host_prefix};
+use link_change::Change;
 use policy_rules::{Rules, judge};
 
 /// Whether a route from there is kept from the peer.
@@ -90,7 +92,24 @@ pub(crate) fn sent_before<S: Sent>(
     }
 }
 
-/// The same for a lookup.
+/// What other rules change of what is sent of a row above.
+pub(crate) fn sent_change<S: Sent>(
+    form: &mut S,
+    peer: &Neighbour,
+    former: &Option<Rules>,
+    latter: &Option<Rules>,
+    prefix: Prefix,
+    row: Option<Route>,
+) -> Result<Option<Change<SharedAttrs>>, Memory>
+    ensures sent { IfOk result (IsChangeOf prefix (outgoing (S.form form.old) peer.now former.now prefix row) (outgoing (S.form form.old) peer.now latter.now prefix row)) }
+    ensures same { form.new ≡ form.old }
+{
+    let before = sent_before(form, peer, former, prefix, &row)?;
+    let after = sent_row(form, peer, latter, prefix, row)?;
+    Ok(Change::between(prefix, before, after))
+}
+
+/// What is sent of a row above, for a lookup.
 pub(crate) fn asked_row<S: Sent>(
     form: &S,
     peer: &Neighbour,

@@ -76,14 +76,19 @@ entry_of_four c a b v = do
   p ← printed_prefix b
   entry_on_row c link p v
 
+-- what is said of a row that takes another's place
+abbrev pub entry_on_both : Link → Network → List ℕ → List ℕ → Option TextEntry
+entry_on_both link p v w = do
+  old ← value_of v
+  new ← value_of w
+  Some (Replace link p old new)
+
 -- `= LINK PREFIX OLD NEW`
 unfoldable pub entry_of_five : List ℕ → List ℕ → List ℕ → List ℕ → List ℕ → Option TextEntry
 entry_of_five c a b v w = if bytes_eq c (codes "=") then (do
   link ← link_of a
   p ← printed_prefix b
-  old ← value_of v
-  new ← value_of w
-  Some (Replace link p old new)) else None
+  entry_on_both link p v w) else None
 
 -- the entry of these words
 unfoldable pub entry_from : List (List ℕ) → Option TextEntry

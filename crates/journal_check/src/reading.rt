@@ -3,7 +3,8 @@
 ghost use Rattle.std.specs.Prelude.{◌≡◌, ◌&&◌, nat_le, IfOk, option_map};
 ghost use Rattle.std.specs.List.{list_all};
 ghost use Rattle.addr4.specs.Texts.{parts};
-ghost use Rattle.journal_check.specs.Readings.{answer_of, as_printed, entry_from, entry_of_five, entry_of_four, entry_of_three, entry_of_two, entry_on_row, entry_on_two, is_clean, is_skipped, printed_prefix, reading_of, value_of};
+ghost use Rattle.journal_text.specs.declared.entry.Entry.TheVariants as entries;
+ghost use Rattle.journal_check.specs.Readings.{answer_of, as_printed, entry_from, entry_of_five, entry_of_four, entry_of_three, entry_of_two, entry_on_both, entry_on_row, entry_on_two, is_clean, is_skipped, printed_prefix, reading_of, value_of};
 
 use crate::text::Text;
 use addr4::{Memory, Prefix, first_part, push_prefix, read_prefix};
@@ -175,22 +176,58 @@ fn entry_on_row(
     ensures { IfOk result (λ r. r ≡ entry_on_row command.now link p word.now) }
 {
     if command == b"+".as_slice() {
-        match value(alloc, word)? {
-            None => Ok(None),
-            Some(new) => Ok(Some(Entry::Add(link, p, new))),
-        }
+        entry_on_new(alloc, link, p, word)
     } else if command == b"-".as_slice() {
-        match value(alloc, word)? {
-            None => Ok(None),
-            Some(old) => Ok(Some(Entry::Delete(link, p, old))),
-        }
+        entry_on_old(alloc, link, p, word)
     } else if command == b"?".as_slice() {
-        match answer(alloc, word)? {
-            None => Ok(None),
-            Some(row) => Ok(Some(Entry::Asked(link, p, row))),
-        }
+        entry_on_answer(alloc, link, p, word)
     } else {
         Ok(None)
+    }
+}
+
+// A row is added, if the word is a value.
+fn entry_on_new(
+    alloc: Global,
+    link: Link,
+    p: Prefix,
+    word: &[u8],
+) -> Result<Option<Entry<Text>>, Memory>
+    ensures { IfOk result (λ r. r ≡ option_map (λ new. entries.Add link p new) (value_of word.now)) }
+{
+    match value(alloc, word)? {
+        None => Ok(None),
+        Some(new) => Ok(Some(Entry::Add(link, p, new))),
+    }
+}
+
+// A row is deleted, if the word is a value.
+fn entry_on_old(
+    alloc: Global,
+    link: Link,
+    p: Prefix,
+    word: &[u8],
+) -> Result<Option<Entry<Text>>, Memory>
+    ensures { IfOk result (λ r. r ≡ option_map (λ old. entries.Delete link p old) (value_of word.now)) }
+{
+    match value(alloc, word)? {
+        None => Ok(None),
+        Some(old) => Ok(Some(Entry::Delete(link, p, old))),
+    }
+}
+
+// A lookup is answered, if the word is an answer.
+fn entry_on_answer(
+    alloc: Global,
+    link: Link,
+    p: Prefix,
+    word: &[u8],
+) -> Result<Option<Entry<Text>>, Memory>
+    ensures { IfOk result (λ r. r ≡ option_map (λ row. entries.Asked link p row) (answer_of word.now)) }
+{
+    match answer(alloc, word)? {
+        None => Ok(None),
+        Some(row) => Ok(Some(Entry::Asked(link, p, row))),
     }
 }
 
@@ -212,9 +249,22 @@ fn entry_of_five(
     let Some(link) = Link::read(link) else {
         return Ok(None);
     };
-    let Some(p) = printed_prefix(alloc, prefix)? else {
-        return Ok(None);
-    };
+    match printed_prefix(alloc, prefix)? {
+        None => Ok(None),
+        Some(p) => entry_on_both(alloc, link, p, old, new),
+    }
+}
+
+// A row takes another's place, if both words are values.
+fn entry_on_both(
+    alloc: Global,
+    link: Link,
+    p: Prefix,
+    old: &[u8],
+    new: &[u8],
+) -> Result<Option<Entry<Text>>, Memory>
+    ensures { IfOk result (λ r. r ≡ entry_on_both link p old.now new.now) }
+{
     let Some(old) = value(alloc, old)? else {
         return Ok(None);
     };

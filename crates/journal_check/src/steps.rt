@@ -40,16 +40,21 @@ impl LiveLinks {
         ensures { OnOk result (links_of self.new ≡ after (links_of self.old) entry) }
     {
         match entry {
-            Entry::Begin(link) => self.begin(link)?,
-            Entry::Inherit(link, from) => self.inherit(link, from)?,
-            Entry::Add(link, p, new) => self.set_row(link, p, new)?,
-            Entry::Delete(link, p, _old) => self.drop_row(link, p)?,
-            Entry::Replace(link, p, _old, new) => self.set_row(link, p, new)?,
-            Entry::Asked(_link, _p, _row) => {}
-            Entry::Weld(upper, _lower) => self.end(upper),
-            Entry::End(link) => self.end(link),
+            Entry::Begin(link) => self.begin(link),
+            Entry::Inherit(link, from) => self.inherit(link, from),
+            Entry::Add(link, p, new) => self.set_row(link, p, new),
+            Entry::Delete(link, p, _old) => self.drop_row(link, p),
+            Entry::Replace(link, p, _old, new) => self.set_row(link, p, new),
+            Entry::Asked(_link, _p, _row) => Ok(()),
+            Entry::Weld(upper, _lower) => {
+                self.end(upper);
+                Ok(())
+            }
+            Entry::End(link) => {
+                self.end(link);
+                Ok(())
+            }
         }
-        Ok(())
     }
 
     // The link isn't live any more.

@@ -112,6 +112,7 @@ impl Walk {
     {
         if !self.links.allows(&entry) {
             self.state = Checked::Broken(u64::from(self.number) + 1, rule_of(&entry));
+            drop(entry);
             return Ok(());
         }
         self.links.follow(entry)?;

@@ -18,10 +18,10 @@ impl<R: Row> Stage<R> {
         ensures { IfOk result (λ row. row ≡ rows_of self.now p) }
     {
         match self {
-            Stage::Top(live) => Ok(live.asked(p)?),
+            Stage::Top(live) => live.asked(p),
             Stage::Deletion(deletion, upper) => match deletion.held(p) {
                 Some(row) => Ok(Some(row.copy()?)),
-                None => Ok(upper.asked(p)?),
+                None => upper.asked(p),
             },
         }
     }

@@ -1,20 +1,27 @@
-//! What the stages' recursions call: the row that goes in at the top, and boxes.
+//! What the stages' recursions call: what one stage sends, whose entry is appended, and boxes.
 
-ghost use Rattle.std.specs.Prelude.{◌≡◌, IfOk, OnOk, IfSome};
+ghost use Rattle.std.specs.Prelude.{◌≡◌, [], ◌∷◌, IfOk, OnOk, IfSome, Some, None, false};
 ghost use Rattle.std.specs.FinMap as map;
+ghost use Rattle.link_change.specs.Rows.{is_empty_map};
 ghost use Rattle.link_change.specs.Changes.{IsSent};
+ghost use Rattle.journal_text.specs.declared.entry.Entry.TheVariants as entries;
+ghost use Rattle.journal_text.specs.Journals.{with_entries};
+ghost use Rattle.journal_text.specs.Values.{sent_entries};
+ghost use Rattle.loss_chain.specs.Covering.{PassesOn, StaysApart, DeletesOn, IsLeastRow};
 ghost use Rattle.loss_chain.specs.Steps.{live_after};
 ghost use Rattle.loss_chain.specs.Stages.{stage_above};
 
+use crate::deletion::Deletion;
 use crate::live::Live;
 use crate::stage::Stage;
 use addr4::{Memory, Prefix, Row};
+use journal_text::{Entry, Journal, Link, Valued};
 use link_change::Change;
 use std::alloc::{AllocError, Global};
 use std::mem;
 
-/// The top takes a row in, or gives one up.
-pub(crate) fn set_live<R: Row>(
+// The top takes a row in, or gives one up.
+fn set_live<R: Row>(
     live: &mut Live<R>,
     p: Prefix,
     new: Option<R>,
@@ -29,20 +36,99 @@ pub(crate) fn set_live<R: Row>(
     }
 }
 
-/// A new top in a box.
-pub(crate) fn fresh_top<R: Row>(alloc: Global) -> Result<Box<Stage<R>>, Memory>
-    ensures { IfOk result (λ top. top.value ≡ Stage.Top map.empty) }
+/// The same, with its entry on the link out of the top.
+pub(crate) fn feed_top<R: Valued>(
+    live: &mut Live<R>,
+    out: Link,
+    p: Prefix,
+    new: Option<R>,
+    journal: &mut Journal,
+) -> Result<Option<Change<R>>, Memory>
+    ensures sent { IfOk result (IsSent (map.get live.old) (map.get live.new) p) }
+    ensures live { OnOk result (live.new ≡ live_after live.old p new) }
+    ensures after { IfOk result (λ sent. IfSome sent (λ change. change.after ≡ new)) }
+    ensures lines { IfOk result (λ sent. journal.new ≡ with_entries journal.old (sent_entries R.value out sent)) }
 {
+    let sent = set_live(live, p, new)?;
+    journal.push_sent(out, &sent)?;
+    Ok(sent)
+}
+
+/// A change from above goes on below a deletion stage, with its entry on the link out of it.
+pub(crate) fn pass_on<R: Valued>(
+    deletion: &mut Deletion<R>,
+    out: Link,
+    change: Change<R>,
+    journal: &mut Journal,
+) -> Result<Option<Change<R>>, Memory>
+    ensures law { IfOk result (PassesOn deletion.old.rows deletion.new.rows change) }
+    ensures apart { StaysApart deletion.old.rows deletion.new.rows change }
+    ensures rows { deletion.new.rows ≡ map.remove deletion.old.rows change.prefix }
+    ensures after { IfOk result (λ sent. IfSome sent (λ below. below.after ≡ change.after)) }
+    ensures number { deletion.new.number ≡ deletion.old.number }
+    ensures lines { IfOk result (λ sent. journal.new ≡ with_entries journal.old (sent_entries R.value out sent)) }
+{
+    let sent = deletion.take_in(change);
+    journal.push_sent(out, &sent)?;
+    Ok(sent)
+}
+
+/// The least row of a deletion stage goes, with the entry of its delete on the link out of it.
+pub(crate) fn sweep<R: Valued>(
+    deletion: &mut Deletion<R>,
+    out: Link,
+    journal: &mut Journal,
+) -> Result<Change<R>, Memory>
+    requires { is_empty_map deletion.old.rows ≡ false }
+    ensures law { IfOk result (DeletesOn deletion.old.rows deletion.new.rows) }
+    ensures least { IfOk result (λ sent. IsLeastRow (map.get deletion.old.rows) sent.prefix sent.before) }
+    ensures rows { IfOk result (λ sent. deletion.new.rows ≡ map.remove deletion.old.rows sent.prefix) }
+    ensures after { IfOk result (λ sent. sent.after ≡ None) }
+    ensures number { deletion.new.number ≡ deletion.old.number }
+    ensures lines { IfOk result (λ sent. journal.new ≡ with_entries journal.old (sent_entries R.value out (Some sent))) }
+{
+    let Some(change) = deletion.unit() else {
+        unreachable!();
+    };
+    journal.push_change(out, &change)?;
+    Ok(change)
+}
+
+/// A new top in a box, out of which this link begins.
+pub(crate) fn fresh_top<R: Row>(
+    alloc: Global,
+    link: Link,
+    journal: &mut Journal,
+) -> Result<Box<Stage<R>>, Memory>
+    ensures top { IfOk result (λ top. top.value ≡ Stage.Top map.empty) }
+    ensures lines { OnOk result (journal.new ≡ with_entries journal.old (entries.Begin link ∷ [])) }
+{
+    journal.push_entry(Entry::Begin(link))?;
     let top = Box::new(alloc, Stage::Top(Live::new(alloc))).map_err(AllocError::from)?;
     Ok(top)
+}
+
+/// A deletion stage takes the place of a top, and holds another one.
+pub(crate) fn splice_in<R: Row>(stage: &mut Stage<R>, deletion: Deletion<R>, top: Box<Stage<R>>)
+    ensures { stage.new ≡ Stage.Deletion deletion top }
+{
+    drop(mem::replace(stage, Stage::Deletion(deletion, top)));
+}
+
+// The stage above a deletion stage, which is dropped.
+fn above<R: Row>(stage: Stage<R>) -> Stage<R>
+    ensures { result ≡ stage_above stage }
+{
+    match stage {
+        Stage::Deletion(_, upper) => Box::into_inner(upper),
+        other => other,
+    }
 }
 
 /// A deletion stage gives its place to the stage above it, and is dropped.
 pub(crate) fn splice_out<R: Row>(stage: &mut Stage<R>, alloc: Global)
     ensures { stage.new ≡ stage_above stage.old }
 {
-    match mem::replace(stage, Stage::Top(Live::new(alloc))) {
-        Stage::Deletion(_, upper) => *stage = Box::into_inner(upper),
-        other => *stage = other,
-    }
+    let lowest = mem::replace(stage, Stage::Top(Live::new(alloc)));
+    drop(mem::replace(stage, above(lowest)));
 }

@@ -16,7 +16,7 @@ ghost use Rattle.loss_chain.specs.Parts.{IsSound, FallsOver, LeadsOver, IsTakenO
 use crate::deletion::Deletion;
 use crate::live::Live;
 use crate::owner::Owner;
-use crate::splice::{fresh_top, set_live, splice_out};
+use crate::splice::{feed_top, fresh_top, pass_on, splice_in, splice_out, sweep};
 use addr4::{Memory, Prefix};
 use journal_text::{Entry, Journal, Link, Valued};
 use link_change::{Change, Turn};
@@ -51,8 +51,7 @@ impl<R: Valued> Stage<R> {
     {
         match self {
             Stage::Top(live) => {
-                let sent = set_live(live, p, new)?;
-                journal.push_sent(out, &sent)?;
+                let sent = feed_top(live, out, p, new, journal)?;
                 Ok(sent)
             }
             Stage::Deletion(deletion, upper) => {
@@ -60,8 +59,7 @@ impl<R: Valued> Stage<R> {
                 let Some(change) = upper.feed(owner, link, p, new, journal)? else {
                     return Ok(None);
                 };
-                let sent = deletion.take_in(change);
-                journal.push_sent(out, &sent)?;
+                let sent = pass_on(deletion, out, change, journal)?;
                 Ok(sent)
             }
         }
@@ -91,16 +89,14 @@ impl<R: Valued> Stage<R> {
                 if live.is_empty() {
                     return Ok(());
                 }
-                journal.push_entry(Entry::Begin(owner.lost(number)))?;
-                let fresh = fresh_top(alloc)?;
+                let fresh = fresh_top(alloc, owner.lost(number), journal)?;
                 let table = live.lose();
-                *self = Stage::Deletion(Deletion::new(number, table), fresh);
+                splice_in(self, Deletion::new(number, table), fresh);
                 Ok(())
             }
             Stage::Deletion(deletion, upper) => {
                 let link = owner.lost(deletion.number());
-                upper.lose(alloc, owner, link, number, journal)?;
-                Ok(())
+                upper.lose(alloc, owner, link, number, journal)
             }
         }
     }
@@ -154,10 +150,7 @@ impl<R: Valued> Stage<R> {
             Stage::Top(_) => Ok(Turn::Nothing),
             Stage::Deletion(deletion, upper) => {
                 if deletion.number() == number {
-                    let Some(change) = deletion.unit() else {
-                        unreachable!();
-                    };
-                    journal.push_change(out, &change)?;
+                    let change = sweep(deletion, out, journal)?;
                     return Ok(Turn::Sent(change));
                 }
                 let link = owner.lost(deletion.number());
@@ -165,8 +158,7 @@ impl<R: Valued> Stage<R> {
                     Turn::Nothing => Ok(Turn::Nothing),
                     Turn::Quiet => Ok(Turn::Quiet),
                     Turn::Sent(change) => {
-                        let sent = deletion.take_in(change);
-                        journal.push_sent(out, &sent)?;
+                        let sent = pass_on(deletion, out, change, journal)?;
                         Ok(Turn::taken(sent))
                     }
                 }

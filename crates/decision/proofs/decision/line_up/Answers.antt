@@ -4,7 +4,7 @@ use Rattle.best_path.specs.Keys.{candidate_of}
 use Rattle.decision.specs.Lineups.{LinesUp, at_prefix, with_own, routes_of, candidate_at}
 use Rattle.decision.proofs.LineupLemmas.{own_at, own_elsewhere, none_past, lines_up_none, lines_up_to}
 use Rattle.decision.proofs.decision.line_up.Goals as goal
-use Rattle.decision.proofs.decision.line_up.Goals.{then-number-branch, else-number-branch+in_ok-asked+in_ok-enter+in-Some-1, else-number-branch+in_ok-asked+in_ok-enter+in-None-1}
+use Rattle.decision.proofs.decision.line_up.Goals.{then-number-branch, else-number-branch+in_ok-line_one_up}
 
 pub loop-number-init : goal.loop-number-init
 loop-number-init g c = record { lined = c.new-line.ensures _; place = λ below. absurd (omega (arith, below)) }
@@ -22,18 +22,9 @@ loop-number-preserved g c =
         place = λ below. w.place-is ∙ w.len-place.ensures ∙ sym (ap length c.loop-number.invariant.lined.keys)
             ∙ length-map (routes_of n others) candidate_of ∙ ap (λ m. length (routes_of m others)) w.if-number-branch.true;
       }
-      | else-number-branch+in_ok-asked+in_ok-enter+in-Some-1 w ↦ record {
+      | else-number-branch+in_ok-line_one_up w ↦ record {
         lined = subst (LinesUp (n + 1) others) (sym w.line-is)
-            (w.in_ok-enter.ensures.lines others
-            (w.candidate.ensures ∙ ap candidate_at (w.in_ok-asked.ensures ∙ sym (own_elsewhere branch None here n w.if-number-branch.false)))
-            c.loop-number.invariant.lined);
-        place = λ below. w.place-is ∙ c.loop-number.invariant.place (omega (arith, below, w.if-number-branch.false));
-      }
-      | else-number-branch+in_ok-asked+in_ok-enter+in-None-1 w ↦ record {
-        lined = subst (LinesUp (n + 1) others) (sym w.line-is)
-            (w.in_ok-enter.ensures.lines others
-            (w.candidate.ensures ∙ ap candidate_at (w.in_ok-asked.ensures ∙ sym (own_elsewhere branch None here n w.if-number-branch.false)))
-            c.loop-number.invariant.lined);
+            (w.in_ok-line_one_up.ensures others (sym (own_elsewhere branch None here n w.if-number-branch.false)) c.loop-number.invariant.lined);
         place = λ below. w.place-is ∙ c.loop-number.invariant.place (omega (arith, below, w.if-number-branch.false));
       }
     ]

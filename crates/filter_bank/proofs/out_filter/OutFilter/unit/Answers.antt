@@ -20,17 +20,15 @@ returns-clause-taken g c =
     let p = c.in-Some.prefix in
     let busy : is_some old.walk ≡ true = search rules in
     let row : c.in_ok-row.row ≡ upper p = c.in_ok-row.ensures in
-    let kept : g.S.Sent.form c.sent_before.new.form ≡ form = ap g.S.Sent.form c.sent_before.ensures.same in
-    let before : c.in_ok-before.before ≡ outgoing form peer (function_at old p) p (upper p) =
-    c.in_ok-before.ensures.sent ∙ ap (λ (f : Option (List Rule)). outgoing form peer f p c.in_ok-row.row) c.at.ensures
+    let before : outgoing form peer c.at-former.result.now p c.in_ok-row.row ≡ outgoing form peer (function_at old p) p (upper p) =
+    ap (λ (f : Option (List Rule)). outgoing form peer f p c.in_ok-row.row) c.at-former.ensures
     ∙ ap (outgoing form peer (function_at old p) p) row in
-    let coming : c.coming.result.now ≡ function_at new p = coming_at old new p c.coming.result.now busy c.coming.ensures c.step_to.ensures in
-    let after : c.in_ok-after.after ≡ outgoing form peer (function_at new p) p (upper p) =
-    c.in_ok-after.ensures.sent ∙ ap (λ f. outgoing f peer c.coming.result.now p c.in_ok-row.row) kept
-    ∙ ap (λ (f : Option (List Rule)). outgoing form peer f p c.in_ok-row.row) coming
+    let coming : c.coming-latter.result.now ≡ function_at new p = coming_at old new p c.coming-latter.result.now busy c.coming-latter.ensures c.step_to.ensures in
+    let after : outgoing form peer c.coming-latter.result.now p c.in_ok-row.row ≡ outgoing form peer (function_at new p) p (upper p) =
+    ap (λ (f : Option (List Rule)). outgoing form peer f p c.in_ok-row.row) coming
     ∙ ap (outgoing form peer (function_at new p) p) row in
     rw c.taken.ensures
-    (subst (λ (s : Passed (Option (List Rule))). IsWalked (outgoing form peer) candidates upper s new (taken_turn c.between.result)) c.self.view_is
+    (subst (λ (s : Passed (Option (List Rule))). IsWalked (outgoing form peer) candidates upper s new (taken_turn c.in_ok-sent.sent)) c.self.view_is
     (goes_on (outgoing form peer) (makes_none_out form peer) candidates upper c.in-Some.ensures.covers old new (key_of c.place.result) p
-    c.in_ok-before.before c.in_ok-after.after c.between.result busy c.place.ensures c.step_to.ensures c.in-Some.ensures.next
-    before after c.between.ensures))
+    (outgoing form peer c.at-former.result.now p c.in_ok-row.row) (outgoing form peer c.coming-latter.result.now p c.in_ok-row.row) c.in_ok-sent.sent
+    busy c.place.ensures c.step_to.ensures c.in-Some.ensures.next before after c.in_ok-sent.ensures.sent))
