@@ -1,6 +1,6 @@
 //! Caches.
 
-ghost use Rattle.std.specs.Prelude.{◌≡◌, IfOk, OnOk, OnErr, IsOk, None};
+ghost use Rattle.std.specs.Prelude.{◌≡◌, IfOk, OnOk, OnErr, IsOk, None, option_copied};
 ghost use Rattle.std.specs.FinMap as map;
 ghost use Rattle.link_change.specs.Rows.{with_rows};
 ghost use Rattle.cache_stage.specs.Caches.{CachesOn, kept_after};
@@ -69,6 +69,13 @@ impl<R: Row> Cache<R> {
                 Ok(())
             }
         }
+    }
+
+    /// The row at a prefix, lent.
+    pub fn row(&self, prefix: Prefix) -> Option<&R>
+        ensures { option_copied result ≡ map.get self.now prefix }
+    {
+        self.table.get(prefix)
     }
 
     /// How many rows it keeps.

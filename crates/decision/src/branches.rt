@@ -1,6 +1,6 @@
 //! The branches above the decision, as it sees them.
 
-ghost use Rattle.std.specs.Prelude.{◌≡◌, ◌≤◌, IfOk, ℕ};
+ghost use Rattle.std.specs.Prelude.{◌≡◌, ◌≤◌, IfOk, is_some, ℕ};
 ghost use Rattle.addr4.specs.Places.{key_of};
 ghost use Rattle.link_change.specs.Rows.{Rows, Candidates, IsNextCandidate, CoversRows};
 ghost use Rattle.bgp_attr.specs.declared.route.Route.{Route};
@@ -25,6 +25,10 @@ pub trait Branches {
     /// The row of a branch at a prefix.
     fn asked(&self, branch: u8, p: &Prefix) -> Result<Option<Route>, Memory>
         ensures { IfOk result (λ row. row ≡ rows self.now branch p.now) };
+
+    /// Whether a branch has a row at a prefix. Takes no memory.
+    fn has(&self, branch: u8, p: &Prefix) -> bool
+        ensures { result ≡ is_some (rows self.now branch p.now) };
 
     /// The least candidate of a branch beyond a place. Every row stands at a candidate.
     fn next_candidate(&self, branch: u8, after: &Place) -> Option<Prefix>

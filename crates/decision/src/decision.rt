@@ -1,6 +1,6 @@
 //! The decision over all branches.
 
-ghost use Rattle.std.specs.Prelude.{◌≡◌, ◌<◌, ◌≤◌, ◌+◌, ℕ, Option, length, IfOk, OnOk};
+ghost use Rattle.std.specs.Prelude.{◌≡◌, ◌<◌, ◌≤◌, ◌+◌, ℕ, Option, length, IfOk, OnOk, is_some};
 ghost use Rattle.bgp_attr.specs.declared.route.Route.{Route};
 ghost use Rattle.addr4.specs.Places.{key_of};
 ghost use Rattle.link_change.specs.Rows.{IsNextCandidate, CoversRows};
@@ -156,6 +156,18 @@ pub fn asked<B: Branches>(alloc: Global, all: &B, prefix: &Prefix) -> Result<Opt
         hear_one(&mut heard, number, prefix, all)?;
     }
     best_of(heard, prefix, all)
+}
+
+/// Whether there is a best route at a prefix: whether a branch has one. Takes no memory.
+pub fn has<B: Branches>(all: &B, prefix: &Prefix) -> bool
+    ensures { result ≡ is_some (best_rows (B.rows all.now) prefix.now) }
+{
+    for number in 0..all.count() {
+        if all.has(number, prefix) {
+            return true;
+        }
+    }
+    false
 }
 
 /// The least of all branches' candidates beyond a place. Every best route stands at one.

@@ -25,7 +25,7 @@ mod lineup;
 
 pub use best::Best;
 pub use branches::Branches;
-pub use decision::{asked, next_candidate, take_in};
+pub use decision::{asked, has, next_candidate, take_in};
 pub use laws::{
     no_best_only_without_routes, the_best_is_a_branches, the_best_is_of_its_prefix,
     the_best_is_picked,

@@ -8,23 +8,19 @@ use Rattle.std.specs.Ordering.{nat_cmp}
 use Rattle.std.specs.Cmp.{nat_cmp_total}
 use Rattle.bgp_attr.specs.declared.route.Route.{Route}
 use Rattle.bgp_attr.specs.declared.speaker.Profile.{Profile}
-use Rattle.link_change.specs.InOrder.{rows_before}
-use Rattle.link_change.specs.declared.change.Change.{Change}
 use Rattle.link_change.proofs.RowLemmas.{same_function}
 use Rattle.link_change.proofs.MapLemmas.{no_entries, one_of_sum}
-use Rattle.policy_rules.specs.declared.rule.Rule.{Rule}
-use Rattle.pass_core.specs.Passed.{Walked}
-use Rattle.fanout_queue.specs.Readers.{unread_by}
+use Rattle.fanout_queue.specs.Readers.{unread_by, read_rows}
 use Rattle.fanout_queue.proofs.Cases.{by_bool}
 use Rattle.journal_text.specs.declared.value.Value.{Value}
 use Rattle.journal_text.specs.declared.entry.Entry.{Entry}
 use Rattle.journal_text.specs.Links.{owner_of}
 use Rattle.journal_text.specs.Walk.{Links, Leads}
-use Rattle.out_chain.specs.Chains.{OutChained, has_out_work}
+use Rattle.out_chain.specs.Chains.{OutChained}
 use Rattle.out_chain.specs.Laws as out_laws
-use Rattle.exit_side.specs.Exits.{no_exits, chain_at, links_by, busy_by, left_of, left_in}
+use Rattle.exit_side.specs.Exits.{no_exits, chain_at, links_by, busy_by, lags_by, left_of, left_in}
 use Rattle.exit_side.specs.Steps.{is_exit, beside}
-use Rattle.exit_side.specs.Laws.{StandsAtFirst, AreAmong, LeadsAnywhere, LeadsAnywhereWithBest, ExactWithoutWork, NoneLeftWithoutWork, TurnsAreBounded, LeftFollows}
+use Rattle.exit_side.specs.Laws.{StandsAtFirst, AreAmong, LeadsAnywhere, LeadsAnywhereWithBest, ExactUnlessHeldUp, NoneHeldUpWithoutWork, NoneLeftWithoutWork, TurnsAreBounded, LeftFollows}
 use Rattle.exit_side.proofs.CountLemmas.{none_idle, all_bounded, all_follow}
 use Rattle.exit_side.proofs.TaskLemmas.{entries_idle, idle_sum}
 
@@ -59,24 +55,16 @@ leads_anywhere old new before after entries leads are = led old new before after
 pub leads_anywhere_with_best : LeadsAnywhereWithBest
 leads_anywhere_with_best best old new before after entries leads is are = led old new before after entries are (leads before is)
 
--- ---- without work
-nothing_unread : (c : OutChained) (unread : List (Change Route)) → has_out_work c unread ≡ false → unread ≡ []
-nothing_unread c [] e = refl
-nothing_unread c (x ∷ unread) e = absurd (let clash : true ≡ false = e in cc)
+-- ---- what is held up
+pub exact_unless_held_up : out_laws.ExactUnlessHeldUp → ExactUnlessHeldUp
+exact_unless_held_up law e best j c p all at none = law c e.queue best p (all j c at).exact (sym (ap (λ (o : Option OutChained). lags_by e.queue best o p) at) ∙ none)
 
-no_walk : (walk : Option (Walked (Option (List Rule)))) → is_some walk ≡ false → walk ≡ None
-no_walk None e = refl
-no_walk (Some w) e = absurd (let clash : true ≡ false = e in cc)
-
-walk_over : (c : OutChained) (unread : List (Change Route)) → has_out_work c unread ≡ false → c.filter.walk ≡ None
-walk_over c [] e = no_walk c.filter.walk e
-walk_over c (x ∷ unread) e = absurd (let clash : true ≡ false = e in cc)
-
-pub exact_without_work : out_laws.ExactWithoutWork → ExactWithoutWork
-exact_without_work law e best j c all at idle =
-    let rests : has_out_work c (unread_by e.queue c.reader) ≡ false = sym (ap (busy_by e.queue) at) ∙ idle in
-    let none = nothing_unread c (unread_by e.queue c.reader) rests in
-    (ap (λ u. rows_before u best) none, law c e.queue best none (walk_over c (unread_by e.queue c.reader) rests) (all j c at).exact)
+pub none_held_up : out_laws.NoneHeldUpWithoutWork → NoneHeldUpWithoutWork
+none_held_up law e best j p idle = by_chain (chain_at j e) idle
+  where
+    by_chain : (o : Option OutChained) → busy_by e.queue o ≡ false → lags_by e.queue best o p ≡ false
+    by_chain None idle = refl
+    by_chain (Some c) idle = law c (unread_by e.queue c.reader) p (read_rows e.queue c.reader best p) idle
 
 -- ---- how many turns are left
 pub none_left_without_work : NoneLeftWithoutWork

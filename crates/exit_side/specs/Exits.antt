@@ -16,7 +16,7 @@ use Rattle.journal_text.specs.declared.link.Link.{Link}
 use Rattle.journal_text.specs.declared.value.Value.{Value}
 use Rattle.journal_text.specs.Links.{owner_of}
 use Rattle.journal_text.specs.Walk.{Links}
-use Rattle.out_chain.specs.Chains.{OutChained, out_links, out_candidates, OutStands, has_out_work, out_turns_left}
+use Rattle.out_chain.specs.Chains.{OutChained, out_links, out_candidates, OutStands, has_out_work, out_lags, out_turns_left}
 
 abbrev pub OutChains : Type 0
 OutChains = FinMap nat_cmp OutChained
@@ -91,6 +91,14 @@ AllStand best e = (j : ℕ) (c : OutChained) → chain_at j e ≡ Some c → Out
 abbrev pub busy_by : Queued Route → Option OutChained → Bool
 busy_by queued None = false
 busy_by queued (Some c) = has_out_work c (unread_by queued c.reader)
+
+-- whether the task of a peer's exit holds up a prefix
+abbrev pub lags_by : Queued Route → Rows Route → Option OutChained → Network → Bool
+lags_by queued best None p = false
+lags_by queued best (Some c) p = out_lags c (unread_by queued c.reader) p (read_rows queued c.reader best p)
+
+abbrev pub exit_holds_up : Exited → Rows Route → ℕ → Network → Bool
+exit_holds_up e best j = lags_by e.queue best (chain_at j e)
 
 -- whether the task of a peer's exit has work
 abbrev pub has_exit_work : Exited → ℕ → Bool

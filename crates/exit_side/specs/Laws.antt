@@ -10,7 +10,6 @@ use Rattle.link_change.specs.Rows.{Rows, Candidates}
 use Rattle.link_change.specs.declared.change.Change.{Change}
 use Rattle.policy_rules.specs.declared.rule.Rule.{Rule}
 use Rattle.pass_core.specs.Passed.{present}
-use Rattle.pass_core.specs.Turns.{rows_by}
 use Rattle.pass_core.specs.Left.{CountsBeyond}
 use Rattle.fanout_queue.specs.Queues.{Queued, Takes, IsMostUnread}
 use Rattle.fanout_queue.specs.Readers.{read_rows, KeepsOtherReaders}
@@ -22,7 +21,7 @@ use Rattle.journal_text.specs.declared.value.Value.{Value}
 use Rattle.journal_text.specs.Walk.{Links, Leads}
 use Rattle.journal_text.specs.Values.{route_rows}
 use Rattle.out_chain.specs.Chains.{OutChained, made_by}
-use Rattle.exit_side.specs.Exits.{Exited, chain_at, with_queue, exit_links, IsExits, AllStand, has_exit_work, left_in}
+use Rattle.exit_side.specs.Exits.{Exited, chain_at, with_queue, exit_links, IsExits, AllStand, has_exit_work, exit_holds_up, left_in}
 use Rattle.exit_side.specs.Steps.{is_exit, LeadsExits, LeadsWithBest, BeginsExit, EndsExit, EditsExit, PutsExit, TurnsExit}
 
 -- ---- at first
@@ -50,13 +49,17 @@ LeadsAnywhereWithBest =
     (best : Rows Route) (old new before after : Links Value) (entries : List (Entry Value)) → LeadsWithBest best old entries new → before Best ≡ Some (route_rows best)
     → AreAmong old new before after → Leads before entries after
 
--- ---- without work
--- Where the task of a peer's exit has no work, its reader has the rows of `best`, and the peer was sent exactly what the latest rules make
--- of them.
-abbrev pub ExactWithoutWork : Type 0
-ExactWithoutWork =
-    (e : Exited) (best : Rows Route) (j : ℕ) (c : OutChained) → AllStand best e → chain_at j e ≡ Some c → has_exit_work e j ≡ false
-    → (read_rows e.queue c.reader best ≡ best) × (tables.get c.sent ≡ rows_by (made_by c) (present c.filter) best)
+-- ---- what is held up
+-- At a prefix that the task of a peer's exit doesn't hold up, its reader has the row of `best`, and the peer was sent exactly what the
+-- latest rules make of it.
+abbrev pub ExactUnlessHeldUp : Type 0
+ExactUnlessHeldUp =
+    (e : Exited) (best : Rows Route) (j : ℕ) (c : OutChained) (p : Network) → AllStand best e → chain_at j e ≡ Some c → exit_holds_up e best j p ≡ false
+    → (read_rows e.queue c.reader best p ≡ best p) × (tables.get c.sent p ≡ made_by c (present c.filter) p (best p))
+
+-- Without work it holds up nothing.
+abbrev pub NoneHeldUpWithoutWork : Type 0
+NoneHeldUpWithoutWork = (e : Exited) (best : Rows Route) (j : ℕ) (p : Network) → has_exit_work e j ≡ false → exit_holds_up e best j p ≡ false
 
 -- ---- how many turns are left
 -- None exactly where no task has work,

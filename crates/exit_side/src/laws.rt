@@ -3,9 +3,9 @@
 
 ghost use Rattle.bgp_attr.specs.declared.speaker.Profile.{Profile};
 ghost use Rattle.exit_side.specs.Exits.{no_exits};
-ghost use Rattle.exit_side.specs.Laws.{StandsAtFirst, LeadsAnywhere, LeadsAnywhereWithBest, ExactWithoutWork, NoneLeftWithoutWork, TurnsAreBounded, LeftFollows, StrangersReadOn, StrangersJoin, StrangersTake, BeginKeepsStrangers, EndKeepsStrangers, EditKeepsStrangers, TurnKeepsStrangers, PutKeepsStrangers};
+ghost use Rattle.exit_side.specs.Laws.{StandsAtFirst, LeadsAnywhere, LeadsAnywhereWithBest, ExactUnlessHeldUp, NoneHeldUpWithoutWork, NoneLeftWithoutWork, TurnsAreBounded, LeftFollows, StrangersReadOn, StrangersJoin, StrangersTake, BeginKeepsStrangers, EndKeepsStrangers, EditKeepsStrangers, TurnKeepsStrangers, PutKeepsStrangers};
 
-use out_chain::{a_session_stands, without_work_all_is_sent};
+use out_chain::{a_session_stands, unless_held_up_all_is_sent};
 
 /// Where no peer is up no link is live, nothing is left to do, and all that is claimed holds.
 pub fn nothing_at_first()
@@ -19,12 +19,13 @@ pub fn leads_anywhere()
     ensures with_best { LeadsAnywhereWithBest }
 {}
 
-/// Where the exit of a peer has no work, the peer was sent exactly what its latest rules make of
-/// the rows of `best`.
-pub fn exact_without_work()
-    ensures { ExactWithoutWork }
+/// At a prefix that the exit of a peer doesn't hold up, the peer was sent exactly what its latest rules make of the row of `best`.
+/// Without work it holds up nothing.
+pub fn exact_unless_held_up()
+    ensures exact { ExactUnlessHeldUp }
+    ensures idle { NoneHeldUpWithoutWork }
 {
-    without_work_all_is_sent();
+    unless_held_up_all_is_sent();
 }
 
 /// How many turns are left: none exactly without work, for each peer never more than the changes

@@ -1,18 +1,23 @@
 //! Whose exit has work first, and how far the slowest reader is behind.
 
-ghost use Rattle.std.specs.Prelude.{◌≡◌, ℕ, IfNone, Option};
+ghost use Rattle.std.specs.Prelude.{◌≡◌, ℕ, IfNone, IsSome, is_some, Option};
 ghost use Rattle.std.specs.List.{find};
 ghost use Rattle.std.specs.Ordering.{nat_cmp};
 ghost use Rattle.std.specs.FinMap as map;
 ghost use Rattle.std.specs.BTreeMap.{IsOrdered};
 ghost use Rattle.addr4.specs.Prefixes.{Network};
+ghost use Rattle.bgp_attr.specs.declared.route.Route.{Route};
+ghost use Rattle.link_change.specs.Rows.{Rows};
+ghost use Rattle.link_change.specs.InOrder.{changed_in};
 ghost use Rattle.fanout_queue.specs.Queues.{IsMostUnread};
-ghost use Rattle.exit_side.specs.Exits.{has_exit_work, left_in, IsExits};
-ghost use Rattle.exit_side.specs.Tasks.{first_of, HaveReaders};
+ghost use Rattle.fanout_queue.specs.Readers.{unread_by};
+ghost use Rattle.exit_side.specs.Exits.{has_exit_work, exit_holds_up, left_in, IsExits};
+ghost use Rattle.exit_side.specs.Tasks.{first_of, first_lagging, HaveReaders};
 
 use crate::exits::Exits;
+use addr4::Prefix;
 use bgp_attr::Route;
-use fanout_queue::Queue;
+use fanout_queue::{Queue, Reader};
 use out_chain::OutChain;
 use std::collections::BTreeMap;
 
@@ -38,6 +43,23 @@ impl Exits {
         first_of(&self.queue, &self.chains)
     }
 
+    /// The first peer, by number, whose task holds up a prefix: its reader hasn't taken a change there, or the walk of its filter
+    /// has yet to come to the row that it has there. Whether `best` has one is lent. Takes no memory.
+    pub fn first_held(&self, has_best: bool, p: Prefix) -> Option<u32>
+        requires sound { IsExits self.now }
+        ensures { (best : Rows Route) → has_best ≡ is_some (best p) → result ≡ find (λ j. exit_holds_up self.now best j p) (map.keys self.now.chains) }
+    {
+        first_lagging(&self.queue, &self.chains, has_best, p)
+    }
+
+    /// Whether a reader of the queue hasn't taken a change at a prefix.
+    pub fn unread(&self, reader: &Reader, p: Prefix) -> bool
+        requires { IsSome (map.get self.now.queue reader.now) }
+        ensures { result ≡ changed_in (unread_by self.now.queue reader.now) p }
+    {
+        self.queue.unread(reader, p)
+    }
+
     /// The most changes that a reader of the queue hasn't taken.
     pub fn most_unread(&self) -> u128
         ensures { IsMostUnread self.now.queue result }
@@ -54,6 +76,25 @@ fn first_of(queue: &Queue<Route>, chains: &BTreeMap<u32, OutChain>) -> Option<u3
 {
     for (number, chain) in chains {
         if chain.busy(queue) {
+            return Some(*number);
+        }
+    }
+    None
+}
+
+/// The first peer whose chain holds up a prefix.
+fn first_lagging(
+    queue: &Queue<Route>,
+    chains: &BTreeMap<u32, OutChain>,
+    has_best: bool,
+    p: Prefix,
+) -> Option<u32>
+    requires live { HaveReaders queue.now chains.now }
+    ensures first { (best : Rows Route) → has_best ≡ is_some (best p) → result ≡ first_lagging queue.now best p chains.now.entries }
+    ensures ordered { IsOrdered nat_cmp chains.now }
+{
+    for (number, chain) in chains {
+        if chain.holds_up(queue, has_best, p) {
             return Some(*number);
         }
     }

@@ -1,19 +1,21 @@
 //! The merge of interior and external routes.
 
-ghost use Rattle.std.specs.Prelude.{◌≡◌, ◌⊎◌, IfOk, OnOk, OnErr, MatchBool};
+ghost use Rattle.std.specs.Prelude.{◌≡◌, ◌⊎◌, Bool, IfOk, OnOk, OnErr, MatchBool};
 ghost use Rattle.std.specs.FinMap as map;
 ghost use Rattle.addr4.specs.Places.{key_of};
 ghost use Rattle.link_change.specs.Rows.{IsNextCandidate, CoversRows, together};
 ghost use Rattle.link_change.specs.declared.turn.Turn.{Turn};
 ghost use Rattle.rib_route.specs.declared.rows.FibRow.{FibRow};
+ghost use Rattle.nexthop_resolver.specs.declared.rows.Way.{Way};
 ghost use Rattle.nexthop_resolver.specs.Kept.{way_of};
+ghost use Rattle.nexthop_resolver.specs.Left.{TellsAlike, hop_lags};
 ghost use Rattle.nexthop_resolver.specs.Resolving.{nothing_known, AreNamed};
 ghost use Rattle.nexthop_resolver.specs.Registered.{Agrees, KeepsOthers, told_of};
 ghost use Rattle.nexthop_resolver.specs.Takes.{Keeps, Invalidates};
 ghost use Rattle.nexthop_resolver.specs.Turns.{Rests, HasWork};
 ghost use Rattle.ext_int.specs.Fibs.{resolved_rows, fib_table, FollowsInt, FollowsTurn, TakesExt, TakesTurn, StopsInTurn};
 
-use addr4::{Memory, Place, Prefix};
+use addr4::{Addr, Memory, Place, Prefix};
 use link_change::{Change, Turn, Upstream, nearer};
 use nexthop_resolver::{Resolver, Way};
 use register_interest::Register;
@@ -89,6 +91,14 @@ impl ExtInt {
         ensures { MatchBool result (HasWork self.now) (Rests self.now) }
     {
         self.hops.busy()
+    }
+
+    /// Whether an external route with this next hop, if there is one, may go on at a prefix by another answer than the register's
+    /// present one.
+    pub fn holds_up(&self, hop: Option<Addr>, prefix: Prefix) -> bool
+        ensures { (alike : Way → Way → Bool) → TellsAlike alike → result ≡ hop_lags alike self.now prefix hop }
+    {
+        self.hops.holds_up(hop, prefix)
     }
 
     /// The answers that came with the subnet are stale: the register gave up the interest in it. Takes no memory.

@@ -250,7 +250,7 @@ module _ {R : Type 0} where
         | false ↦ first_of_rows new cs p
       ]
 
-  changed_is_first : (cs : List (Change R)) (p : Network) → changed_in cs p ≡ is_some (first_before p cs)
+  pub changed_is_first : (cs : List (Change R)) (p : Network) → changed_in cs p ≡ is_some (first_before p cs)
   changed_is_first [] p = refl
   changed_is_first (c ∷ cs) p =
       ap (λ b. b || changed_in cs p) (either_way p c.prefix)

@@ -1,6 +1,7 @@
 -- What the readers of a queue haven't taken, by their numbers.
-use Rattle.std.proofs.Common.{◌≡◌, ◌≢◌, ℕ, zero, suc, ◌+◌, ◌-◌, ◌*◌, ◌<◌, ◌≤◌, ◌^◌, nat_lt, arith, cond, List, [], ◌∷◌, ◌++◌, length, get_or, drop, Option, Some, None, IsSome, IfSome, Result, IfOk, refl, sym, ap, ◌∙◌, subst}
-use Rattle.std.specs.Option.{option_map}
+use Rattle.std.proofs.Common.{◌≡◌, ◌≢◌, ℕ, zero, suc, ◌+◌, ◌-◌, ◌*◌, ◌<◌, ◌≤◌, ◌^◌, nat_lt, arith, cond, Bool, is_some, List, [], ◌∷◌, ◌++◌, length, get_or, drop, Option, Some, None, IsSome, IfSome, Result, IfOk, refl, sym, ap, ◌∙◌, subst}
+use Rattle.std.specs.Option.{option_map, option_copied}
+use Rattle.std.specs.Borrow.{Bor}
 use Rattle.std.specs.List.{sum_by}
 use Rattle.std.specs.Ordering.{nat_cmp, eq_by_cmp}
 use Rattle.std.specs.Cmp.{nat_cmp_total}
@@ -15,14 +16,19 @@ use Rattle.addr4.specs.Prefixes.{Network}
 use Rattle.addr4.specs.declared.memory.Memory.{Memory}
 use Rattle.link_change.specs.Rows.{Rows}
 use Rattle.link_change.specs.declared.change.Change.{Change}
-use Rattle.link_change.specs.InOrder.{rows_before, with_last}
+use Rattle.link_change.specs.InOrder.{rows_before, with_last, changed_in}
 use Rattle.fanout_queue.specs.Queues.{Queued, AppendsToAll, Takes, IsMostUnread}
 use Rattle.fanout_queue.specs.Entries.{Numbered, stands_at, readers_at, first_readers, unread_at, IsPlace, Puts, Enters, Leaves, Trims, Passes, first_before}
 use Rattle.fanout_queue.specs.Places.{SetsPlace, queued_from, queued_of, IsPlaced, IsQueue}
 use Rattle.fanout_queue.proofs.Cases.{by_bool, by_number, same_number, other_number, if_some}
-use Rattle.fanout_queue.proofs.IndexLemmas.{or_else, first_of_rows}
+use Rattle.fanout_queue.proofs.IndexLemmas.{or_else, first_of_rows, changed_is_first}
 use Rattle.fanout_queue.proofs.EntryLemmas.{stands_here, stands_elsewhere, by_place}
 use Rattle.fanout_queue.proofs.StepLemmas.{first_is, drop_twice}
+
+-- what is lent is there where it would be copied
+pub lent_or_not : {X : Type 0} (o : Option (Bor X)) → is_some o ≡ is_some (option_copied o)
+lent_or_not None = refl
+lent_or_not (Some x) = refl
 
 -- ---- how many readers stand at a place
 abbrev standing : ℕ → List (Option ℕ) → ℕ
@@ -394,6 +400,18 @@ module _ {R : Type 0} where
       (λ row is. if_some (map.get m reader) (λ unread. row ≡ rows_before unread best p) (unread_at entries place) (has_unread entries places m view number reader same place at)
       (is ∙ ap (λ f. or_else f (best p)) first ∙ sym (first_of_rows best (unread_at entries place) p)))
       answered
+
+  -- a change at the prefix isn't taken where there is a first one
+  pub told_unread : (entries : Numbered R) (places : List (Option ℕ)) (m : Queued R) (number reader place : ℕ) → queued_of entries places ≡ m → number ≡ reader → get_or places number None ≡ Some place
+      → (p : Network) (found : Option (Change R)) (told : Bool) → option_map (λ change. change.before) found ≡ first_before p (unread_at entries place) → told ≡ is_some found
+      → IfSome (map.get m reader) (λ unread. told ≡ changed_in unread p)
+  told_unread entries places m number reader place view same at p found told first is =
+      if_some (map.get m reader) (λ unread. told ≡ changed_in unread p) (unread_at entries place) (has_unread entries places m view number reader same place at)
+      (is ∙ by_found found ∙ ap is_some first ∙ sym (changed_is_first (unread_at entries place) p))
+    where
+      by_found : (o : Option (Change R)) → is_some o ≡ is_some (option_map (λ (change : Change R). change.before) o)
+      by_found None = refl
+      by_found (Some change) = refl
 
   pub joined_live : (m : Queued R) (number : ℕ) (l : List (Change R)) → IsSome (map.get (map.insert m number l) number)
   joined_live m number l = subst IsSome (sym (get-insert nat_cmp_total m number l number ∙ ap (λ b. cond b (Some l) (map.get m number)) (same_number number))) refl

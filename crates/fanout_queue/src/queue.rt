@@ -113,6 +113,15 @@ impl<R: Row> Queue<R> {
         u128::from(self.entries.end() - place)
     }
 
+    /// Whether there is a change at a prefix that the reader hasn't taken. Where there is none, it has the best row there.
+    pub fn unread(&self, reader: &Reader, prefix: Prefix) -> bool
+        requires { IsSome (map.get self.now reader.now) }
+        ensures { IfSome (map.get self.now reader.now) (λ unread. result ≡ changed_in unread prefix) }
+    {
+        let place = places::place_of(self.places.as_slice(), reader.number);
+        self.entries.first_at(place, prefix).is_some()
+    }
+
     /// How many changes are kept: as many as the reader hasn't taken that has taken the fewest.
     pub fn kept(&self) -> usize
         ensures { IsMostUnread self.now result }

@@ -1,5 +1,7 @@
 -- The laws of incoming filters.
-use Rattle.std.proofs.Common.{◌≡◌, Bool, true, false, cond, List, Option, Some, None, IfSome, refl, subst}
+use Rattle.std.proofs.Common.{◌≡◌, Bool, true, false, cond, is_some, List, Option, Some, None, option_map, IfSome, refl, sym, ap, subst, ◌∙◌}
+use Rattle.addr4.specs.Prefixes.{Network}
+use Rattle.bgp_attr.specs.declared.attrs.Attrs.{Attrs}
 use Rattle.bgp_attr.specs.declared.route.Route.{Route}
 use Rattle.bgp_attr.specs.declared.speaker.Speaker.{Speaker}
 use Rattle.bgp_attr.specs.declared.speaker.Neighbour.{Neighbour}
@@ -10,11 +12,11 @@ use Rattle.policy_rules.proofs.KeptLemmas.{judged_keeps}
 use Rattle.policy_rules.proofs.VerdictLemmas.{answer_is_judged}
 use Rattle.pass_core.specs.Split.{MakesNone}
 use Rattle.pass_core.proofs.TurnLemmas as turns
-use Rattle.filter_bank.specs.Filtered.{filtered, first_route, is_own}
-use Rattle.filter_bank.specs.Laws.{ExactWithoutAWalk, EditKeepsRows, WalkLeads, FilteredKeepsAttrs}
+use Rattle.filter_bank.specs.Filtered.{filtered, first_route, is_own, route_hop}
+use Rattle.filter_bank.specs.Laws.{ExactUnlessHeldUp, EditKeepsRows, WalkLeads, FilteredKeepsAttrs}
 
-pub exact_without_a_walk : ExactWithoutAWalk
-exact_without_a_walk me peer pass upper none = turns.exact_without_a_walk (filtered me peer) pass upper none
+pub exact_unless_held_up : ExactUnlessHeldUp
+exact_unless_held_up me peer pass q row none = turns.exact_unless_held_up (filtered me peer) pass q row (λ rules p. refl) none
 
 pub an_edit_keeps_the_rows : EditKeepsRows
 an_edit_keeps_the_rows me peer pass rules upper = turns.an_edit_keeps_the_rows (filtered me peer) pass rules upper
@@ -38,3 +40,20 @@ filtered_keeps_attrs me peer rules p attrs r e =
     kept (is_own me attrs) (judged_by rules p first) first r
     (judged_keeps p rules first (judged_by rules p first) (answer_is_judged rules p first)) e in
     record { same_attrs = same.attrs; from_peer = same.from; no_metric = same.igp }
+
+-- ---- next hops
+-- no rule changes the next hop
+judged_hop : (rules : List Rule) (p : Network) (r : Route) (accepted : Bool) → accepted ≡ is_some (judged_by rules p r) → (o : Option Route) → judged_by rules p r ≡ o → IfSome o (KeepsSource r)
+    → cond accepted (Some (route_hop r)) None ≡ option_map route_hop o
+judged_hop rules p r accepted told None at keeps = ap (λ (b : Bool). cond b (Some (route_hop r)) None) (told ∙ ap (λ (o : Option Route). is_some o) at)
+judged_hop rules p r accepted told (Some after) at keeps =
+    ap (λ (b : Bool). cond b (Some (route_hop r)) None) (told ∙ ap (λ (o : Option Route). is_some o) at) ∙ ap (λ (a : Attrs). Some a.next_hop) (sym keeps.attrs)
+
+pub filtered_hop_is : (me : Speaker) (peer : Neighbour) (rules : List Rule) (p : Network) (a : Attrs) (own accepted : Bool) → own ≡ is_own me a → accepted ≡ is_some (judged_by rules p (first_route peer a))
+    → cond own None (cond accepted (Some a.next_hop) None) ≡ option_map route_hop (filtered me peer rules p (Some a))
+filtered_hop_is me peer rules p a own accepted is told =
+    ap (λ (b : Bool). cond b None (cond accepted (Some a.next_hop) None)) is ∙ by_own (is_own me a)
+  where
+    by_own : (b : Bool) → cond b None (cond accepted (Some a.next_hop) None) ≡ option_map route_hop (cond b None (judged_by rules p (first_route peer a)))
+    by_own true = refl
+    by_own false = judged_hop rules p (first_route peer a) accepted told (judged_by rules p (first_route peer a)) refl (judged_keeps p rules (first_route peer a) (judged_by rules p (first_route peer a)) (answer_is_judged rules p (first_route peer a)))

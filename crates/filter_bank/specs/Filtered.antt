@@ -12,6 +12,10 @@ use Rattle.policy_rules.specs.Verdicts.{has_as, judged_by}
 use Rattle.pass_core.specs.Passed.{Passed}
 use Rattle.pass_core.specs.Turns as turns
 
+-- the next hop of a route
+abbrev pub route_hop : Route → ℕ
+route_hop r = r.attrs.next_hop
+
 -- the degree of preference before any rule: LOCAL_PREF of an internal peer's route, and 100 where it has none or the peer is
 -- external
 abbrev pub first_pref : Bool → Option ℕ → ℕ

@@ -1,5 +1,5 @@
 -- Laws of incoming filters, for the crates above.
-use Rattle.std.specs.Prelude.{◌≡◌, List, Some, None}
+use Rattle.std.specs.Prelude.{◌≡◌, false, List, Option, Some, None}
 use Rattle.addr4.specs.Prefixes.{Network}
 use Rattle.bgp_attr.specs.declared.attrs.Attrs.{Attrs}
 use Rattle.bgp_attr.specs.declared.route.Route.{Route}
@@ -10,14 +10,15 @@ use Rattle.link_change.specs.Turns.{IsTurned}
 use Rattle.link_change.specs.declared.turn.Turn.{Turn}
 use Rattle.policy_rules.specs.declared.rule.Rule.{Rule}
 use Rattle.pass_core.specs.Passed.{Passed, present, edited}
-use Rattle.filter_bank.specs.Filtered.{filtered, filtered_rows, passed_rows}
+use Rattle.pass_core.specs.Turns.{passed, row_lags}
+use Rattle.filter_bank.specs.Filtered.{filtered, passed_rows}
 use Rattle.filter_bank.specs.Walks.{IsWalked}
 
--- Without a walk the rows below are what the rules of the latest edit make of the rows above.
-abbrev pub ExactWithoutAWalk : Type 0
-ExactWithoutAWalk =
-    (me : Speaker) (peer : Neighbour) (pass : Passed (List Rule)) (upper : Rows Attrs) → pass.walk ≡ None
-    → passed_rows me peer pass upper ≡ filtered_rows me peer (present pass) upper
+-- At a prefix that no walk holds up, and at one without a row above, the row below is what the rules of the latest edit make.
+abbrev pub ExactUnlessHeldUp : Type 0
+ExactUnlessHeldUp =
+    (me : Speaker) (peer : Neighbour) (pass : Passed (List Rule)) (q : Network) (row : Option Attrs) → row_lags pass q row ≡ false
+    → passed (filtered me peer) pass q row ≡ filtered me peer (present pass) q row
 
 -- An edit changes no row below.
 abbrev pub EditKeepsRows : Type 0

@@ -1,16 +1,17 @@
 //! The incoming filter.
 
-ghost use Rattle.std.specs.Prelude.{◌≡◌, IfOk, OnErr, [], None, is_some};
+ghost use Rattle.std.specs.Prelude.{◌≡◌, IfOk, OnErr, [], Some, None, is_some, option_map};
 ghost use Rattle.addr4.specs.Places.{key_of};
 ghost use Rattle.bgp_attr.specs.declared.speaker.Speaker.{Speaker};
 ghost use Rattle.bgp_attr.specs.declared.speaker.Neighbour.{Neighbour};
 ghost use Rattle.link_change.specs.Rows.{IsNextCandidate, CoversRows};
-ghost use Rattle.pass_core.specs.Passed.{edited, present};
-ghost use Rattle.filter_bank.specs.Filtered.{passed_rows, FiltersOn};
+ghost use Rattle.pass_core.specs.Passed.{edited, holds_up, present};
+ghost use Rattle.pass_core.specs.Turns.{passed};
+ghost use Rattle.filter_bank.specs.Filtered.{filtered, passed_rows, route_hop, FiltersOn};
 ghost use Rattle.filter_bank.specs.Walks.{IsWalked};
 
-use crate::filtering::filtered;
-use addr4::{Memory, Place, Prefix};
+use crate::filtering::{filtered, filtered_hop};
+use addr4::{Addr, Memory, Place, Prefix};
 use bgp_attr::{Neighbour, Route, SharedAttrs, Speaker};
 use link_change::{Change, Turn, Upstream, copy_row};
 use pass_core::Pass;
@@ -57,6 +58,28 @@ impl FilterBank {
         ensures { result ≡ is_some self.now.walk }
     {
         self.pass.busy()
+    }
+
+    /// Whether other rules than the latest ones may hold at a prefix: a walk is on that has yet to come there, or at whose end
+    /// rules wait.
+    pub fn holds_up(&self, prefix: Prefix) -> bool
+        ensures { result ≡ holds_up self.now prefix }
+    {
+        self.pass.holds_up(prefix)
+    }
+
+    /// The next hop of the row at a prefix of the link below, where this is the row above; none where there is none. Takes no
+    /// memory.
+    pub fn next_hop(
+        &self,
+        row: &SharedAttrs,
+        prefix: Prefix,
+        me: &Speaker,
+        peer: &Neighbour,
+    ) -> Option<Addr>
+        ensures { result ≡ option_map route_hop (passed (filtered me.now peer.now) self.now prefix (Some row.now)) }
+    {
+        filtered_hop(me, peer, self.pass.at(prefix), prefix, row)
     }
 
     /// The rules of the latest edit.

@@ -1,11 +1,11 @@
 //! What the filter makes of one route.
 
-ghost use Rattle.std.specs.Prelude.{◌≡◌};
-ghost use Rattle.filter_bank.specs.Filtered.{filtered, first_pref, first_route, is_own};
+ghost use Rattle.std.specs.Prelude.{◌≡◌, Some, option_map};
+ghost use Rattle.filter_bank.specs.Filtered.{filtered, first_pref, first_route, is_own, route_hop};
 
-use addr4::Prefix;
+use addr4::{Addr, Prefix};
 use bgp_attr::{Attrs, Neighbour, Route, SharedAttrs, Speaker};
-use policy_rules::{Rules, judge};
+use policy_rules::{Rules, accepts, judge};
 
 /// The degree of preference before any rule.
 fn first_pref(internal: bool, local_pref: Option<u32>) -> u32
@@ -38,6 +38,26 @@ fn is_own(me: &Speaker, attrs: &Attrs) -> bool
     ensures { result ≡ is_own me.now attrs.now }
 {
     attrs.path.has(me.asn) || attrs.next_hop == me.addr
+}
+
+/// The next hop of what the rules make of a row above; none where they let none through. Takes no memory.
+pub fn filtered_hop(
+    me: &Speaker,
+    peer: &Neighbour,
+    rules: &Rules,
+    prefix: Prefix,
+    row: &SharedAttrs,
+) -> Option<Addr>
+    ensures { result ≡ option_map route_hop (filtered me.now peer.now rules.now prefix (Some row.now)) }
+{
+    let attrs = row.attrs();
+    if is_own(me, attrs) {
+        return None;
+    }
+    if accepts(rules, prefix, attrs) {
+        return Some(attrs.next_hop);
+    }
+    None
 }
 
 /// What the rules make of a row above.

@@ -1,12 +1,12 @@
 //! Laws of filters, for the proofs of the crates above. Each is a function that does nothing, whose contract is the
 //! law.
 
-ghost use Rattle.filter_bank.specs.Laws.{ExactWithoutAWalk, EditKeepsRows, WalkLeads, FilteredKeepsAttrs};
+ghost use Rattle.filter_bank.specs.Laws.{ExactUnlessHeldUp, EditKeepsRows, WalkLeads, FilteredKeepsAttrs};
 ghost use Rattle.filter_bank.specs.OutLaws.{NothingOfNothing, NothingAtFirst, OnlyWhatMayGo};
 
-/// Without a walk the rows below are what the rules of the latest edit make of the rows above.
-pub fn exact_without_a_walk()
-    ensures { ExactWithoutAWalk }
+/// Where no walk holds up a prefix, the row below is what the rules of the latest edit make of the row above.
+pub fn exact_unless_held_up()
+    ensures { ExactUnlessHeldUp }
 {}
 
 /// An edit changes no row below.

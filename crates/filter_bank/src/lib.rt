@@ -24,7 +24,7 @@ mod sent;
 
 pub use filter::FilterBank;
 pub use laws::{
-    a_walk_leads, an_edit_keeps_the_rows, exact_without_a_walk, filtered_keeps_attrs,
+    a_walk_leads, an_edit_keeps_the_rows, exact_unless_held_up, filtered_keeps_attrs,
     nothing_is_sent_at_first, what_goes_out,
 };
 pub use out_filter::OutFilter;

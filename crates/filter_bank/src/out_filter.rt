@@ -4,7 +4,7 @@ ghost use Rattle.std.specs.Prelude.{◌≡◌, IfOk, OnErr, Some, is_some};
 ghost use Rattle.addr4.specs.Places.{key_of};
 ghost use Rattle.bgp_attr.specs.declared.speaker.Neighbour.{Neighbour};
 ghost use Rattle.link_change.specs.Rows.{IsNextCandidate, CoversRows};
-ghost use Rattle.pass_core.specs.Passed.{edited, waits};
+ghost use Rattle.pass_core.specs.Passed.{edited, holds_up, waits};
 ghost use Rattle.pass_core.specs.Turns.{passed, passed_rows, IsPassedOn, IsWalked};
 ghost use Rattle.filter_bank.specs.Outgoing.{Form, outgoing, first_walk};
 
@@ -58,6 +58,14 @@ impl OutFilter {
         ensures { result ≡ is_some self.now.walk }
     {
         self.pass.busy()
+    }
+
+    /// Whether other rules than the latest ones may hold at a prefix: a walk is on that has yet to come there, or at whose end
+    /// rules wait.
+    pub fn holds_up(&self, prefix: Prefix) -> bool
+        ensures { result ≡ holds_up self.now prefix }
+    {
+        self.pass.holds_up(prefix)
     }
 
     /// Whether rules wait for the end of the walk that is on.

@@ -16,7 +16,7 @@ use Rattle.nexthop_resolver.specs.declared.rows.Metric.{Metric}
 use Rattle.nexthop_resolver.specs.Kept.{route_hop, metric_of, with_metric}
 use Rattle.nexthop_resolver.specs.Resolving.{Resolving, AreNamed, named_by, res_rows}
 use Rattle.nexthop_resolver.specs.Registered.{Agrees}
-use Rattle.nexthop_resolver.specs.Left.{differing_count, turns_left}
+use Rattle.nexthop_resolver.specs.Left.{differing_count, hop_lags, turns_left}
 use Rattle.journal_text.specs.declared.link.Link.{Link}
 use Rattle.journal_text.specs.declared.link.Link.TheVariants.{Res}
 use Rattle.journal_text.specs.declared.value.Value.{Value}
@@ -103,6 +103,14 @@ is_busy s = is_some s.walk || (nat_lt 0 (stale_count s.known) || nat_lt 0 (diffe
 abbrev pub busy_by : Option (Resolving Metric) → Bool
 busy_by None = false
 busy_by (Some s) = is_busy s
+
+abbrev pub lags_by : Option (Resolving Metric) → Network → Option ℕ → Bool
+lags_by None q hop = false
+lags_by (Some s) q hop = hop_lags same_metric s q hop
+
+-- whether it holds up a prefix, where the row of `filt.K` there names this next hop, if it does
+abbrev pub hop_holds_up : Resolvers → ℕ → Network → Option ℕ → Bool
+hop_holds_up a k = lags_by (resolver_at k a)
 
 -- whether the task of a peer's next hops has work
 abbrev pub has_hop_work : Resolvers → ℕ → Bool

@@ -23,3 +23,4 @@ mod steps;
 mod tasks;
 
 pub use hops::NextHops;
+pub use tasks::Named;

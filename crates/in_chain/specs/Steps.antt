@@ -15,6 +15,8 @@ use Rattle.link_change.specs.declared.turn.Turn.TheVariants.{Nothing, Quiet, Sen
 use Rattle.loss_chain.specs.Covering.{IsLeastRow}
 use Rattle.policy_rules.specs.declared.rule.Rule.{Rule}
 use Rattle.pass_core.specs.Passed.{edited}
+use Rattle.pass_core.specs.Turns.{row_lags}
+use Rattle.loss_chain.specs.Held.{has_row}
 use Rattle.filter_bank.specs.Walks.{Walks}
 use Rattle.journal_text.specs.declared.link.Link.TheVariants.{Filt}
 use Rattle.journal_text.specs.declared.link.Task.{Task}
@@ -89,6 +91,13 @@ has_turn c Red = false
 has_turn c Ext = false
 has_turn c (Out k) = false
 has_turn c (Rdel proto n) = false
+
+-- whether a task of the chain holds up a prefix: the stage's table still has it, or the walk of the filter has yet to come to the row
+-- of `in.K` there
+abbrev pub chain_lags : Chained → Task → Network → Bool
+chain_lags c (Del k s) p = k == c.incoming.number && has_row (table_of s c.incoming.tables.deletions) p
+chain_lags c (Fin k) p = k == c.incoming.number && row_lags c.filter p (in_rows c.incoming p)
+chain_lags c other p = false
 
 -- a turn of a task of the chain
 abbrev pub Turned : Chained → Chained → Task → Option (Change Route) → List (Entry Value) → Type 0

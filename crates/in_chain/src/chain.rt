@@ -1,6 +1,6 @@
 //! The chain of one peer, as the crates above see it.
 
-ghost use Rattle.std.specs.Prelude.{◌≡◌, ◌<◌, IfOk, OnOk, IsTrue, is_some, IsSome, Option, Some, None};
+ghost use Rattle.std.specs.Prelude.{◌≡◌, ◌<◌, IfOk, OnOk, IsTrue, is_some, IsSome, Option, Some, None, option_map, slice_get};
 ghost use Rattle.std.specs.List.{AllByRecursion};
 ghost use Rattle.addr4.specs.Places.{key_of};
 ghost use Rattle.link_change.specs.Rows.{Rows, IsNextCandidate, CoversRows};
@@ -18,9 +18,14 @@ ghost use Rattle.loss_chain.specs.Steps.{weld_entries, oldest_of};
 ghost use Rattle.in_chain.specs.Chains.{links_of, filt_rows, candidates_of, IsChain, row_count};
 ghost use Rattle.in_chain.specs.Falls.{Falls, LeadsChain, way_of_feed};
 ghost use Rattle.in_chain.specs.Incomings.{loss_entries, overdue_of};
-ghost use Rattle.in_chain.specs.Steps.{new_chain, fed, lost, welded, refiltered, filter_entries, IsTaken};
+ghost use Rattle.in_chain.specs.Steps.{new_chain, fed, lost, welded, refiltered, filter_entries, chain_lags, IsTaken};
+ghost use Rattle.in_chain.specs.Incomings.{in_rows};
+ghost use Rattle.filter_bank.specs.Filtered.{route_hop};
+ghost use Rattle.loss_chain.specs.Held.{has_row};
+ghost use Rattle.loss_chain.specs.Steps.{table_of};
+ghost use Rattle.pass_core.specs.Turns.{row_lags};
 
-use addr4::{Memory, Place, Prefix};
+use addr4::{Addr, Memory, Place, Prefix};
 use bgp_attr::{Neighbour, Route, SharedAttrs, Speaker};
 use filter_bank::FilterBank;
 use journal_text::{Journal, Link, Task, Value};
@@ -290,6 +295,52 @@ impl Chain {
             Link::Filt(number) => self.stages.next_candidate(owner, Link::In(number), after),
             _ => self.stages.next_candidate(owner, link, after),
         }
+    }
+
+    /// Whether a task of the chain holds up a prefix: of `del.K.S`, the table of that stage still has it; of `fin.K`, the walk is
+    /// yet to come to the row of `in.K` there, or rules wait. Takes no memory.
+    pub fn holds_up(&self, task: Task, p: Prefix) -> bool
+        ensures { result ≡ chain_lags self.now task p }
+    {
+        match task {
+            Task::Del(number, session) => number == self.number && self.stage_has(session, p),
+            Task::Fin(number) => number == self.number && self.filter_lags(p),
+            Task::Nh(_) | Task::ReadRib | Task::Out(_) | Task::Rdel(_, _) | Task::Red | Task::Ext =>
+                { false }
+        }
+    }
+
+    // Whether the stage of a session still has a row at a prefix.
+    fn stage_has(&self, session: u32, p: Prefix) -> bool
+        ensures { result ≡ has_row (table_of session self.now.incoming.tables.deletions) p }
+    {
+        match self.stages.deletion(session) {
+            None => false,
+            Some(deletion) => deletion.held(p).is_some(),
+        }
+    }
+
+    // Whether other rules than the latest ones may hold for the row of `in.K` at a prefix.
+    fn filter_lags(&self, p: Prefix) -> bool
+        ensures { result ≡ row_lags self.now.filter p (in_rows self.now.incoming p) }
+    {
+        self.stages.row(p).is_some() && self.filter.holds_up(p)
+    }
+
+    /// The next hop of the row of `filt.K` at a prefix; None exactly where there is none. Takes no memory.
+    pub fn next_hop(&self, p: Prefix) -> Option<Addr>
+        ensures { result ≡ option_map route_hop (filt_rows self.now p) }
+    {
+        let row = self.stages.row(p)?;
+        self.filter.next_hop(row, p, &self.me, &self.peer)
+    }
+
+    /// The task of a deletion stage, by the place of the stage, the longest standing first.
+    pub fn loss_at(&self, place: u32) -> Option<Task>
+        ensures { result ≡ option_map (λ d. tasks.Del self.now.incoming.number d.number) (slice_get self.now.incoming.tables.deletions place) }
+    {
+        let number = self.stages.loss_at(place)?;
+        Some(Task::Del(self.number, number))
     }
 
     /// Whether the filter's walk is on.

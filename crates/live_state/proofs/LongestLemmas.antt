@@ -1,23 +1,23 @@
 -- The longest match, as it is decided, and as the register answers it.
 use Rattle.std.proofs.Common.{◌≡◌, ℕ, zero, suc, Option, Some, None, refl, sym, ap, subst, ◌∙◌}
 use Rattle.std.specs.Prelude.{option_map}
-use Rattle.addr4.specs.Prefixes.{Network}
+use Rattle.addr4.specs.Prefixes.{Network, block}
 use Rattle.link_change.specs.Rows.{Rows}
 use Rattle.rib_route.specs.declared.rows.Interior.{Interior}
 use Rattle.register_interest.specs.Covers.{keyed_or, longest, longest_to, IsLongest}
 use Rattle.register_interest.proofs.CoverLemmas.{longest_is}
-use Rattle.live_state.specs.Decided.{prefix_of, or_else, longest_within, longest_match}
+use Rattle.live_state.specs.Decided.{or_else, longest_within, longest_match}
 use Rattle.live_state.specs.Laws.{IsLongestMatch, TheLongestMatchIsDecided}
 
 found_is : (rows : Rows Interior) (a n : ℕ) → option_map (λ r. r.1) (longest_to 32 rows a n) ≡ longest_within rows a n
-found_is rows a zero = by_row (rows (prefix_of a 0))
+found_is rows a zero = by_row (rows (block 32 a 0))
   where
-    by_row : (o : Option Interior) → option_map (λ r. r.1) (keyed_or (prefix_of a 0) o None) ≡ o
+    by_row : (o : Option Interior) → option_map (λ r. r.1) (keyed_or (block 32 a 0) o None) ≡ o
     by_row None = refl
     by_row (Some row) = refl
-found_is rows a (suc n) = by_row (rows (prefix_of a (suc n))) (found_is rows a n)
+found_is rows a (suc n) = by_row (rows (block 32 a (suc n))) (found_is rows a n)
   where
-    by_row : (o : Option Interior) → option_map (λ r. r.1) (longest_to 32 rows a n) ≡ longest_within rows a n → option_map (λ r. r.1) (keyed_or (prefix_of a (suc n)) o (longest_to 32 rows a n)) ≡ or_else o (longest_within rows a n)
+    by_row : (o : Option Interior) → option_map (λ r. r.1) (longest_to 32 rows a n) ≡ longest_within rows a n → option_map (λ r. r.1) (keyed_or (block 32 a (suc n)) o (longest_to 32 rows a n)) ≡ or_else o (longest_within rows a n)
     by_row None rest = rest
     by_row (Some row) rest = refl
 

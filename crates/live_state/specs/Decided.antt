@@ -7,8 +7,7 @@ use Rattle.std.specs.Prelude.{ℕ, zero, suc, nat_lt, Bool, true, not, ◌==◌,
 use Rattle.std.specs.List.{list_any, range_with_len}
 use Rattle.best_path.specs.Steps.{pick}
 use Rattle.std.specs.FinMap as tables
-use Rattle.addr4.specs.Blocks.{masked_to}
-use Rattle.addr4.specs.Prefixes.{Network}
+use Rattle.addr4.specs.Prefixes.{Network, block}
 use Rattle.bgp_attr.specs.declared.attrs.Attrs.{Attrs}
 use Rattle.bgp_attr.specs.declared.route.Route.{Route}
 use Rattle.bgp_attr.specs.declared.speaker.Speaker.{Speaker}
@@ -89,18 +88,14 @@ origins (Adv j s) = Connected ∷ Static ∷ Ospf ∷ Rip ∷ []
 origins other = []
 
 -- ---- next hops
--- the prefix that so many bits of an address are
-abbrev pub prefix_of : ℕ → ℕ → Network
-prefix_of address n = record { address = masked_to 32 address n; length = n }
-
 abbrev pub or_else : Option Interior → Option Interior → Option Interior
 or_else None other = other
 or_else (Some row) other = Some row
 
 -- of the prefixes with at most so many bits that hold the address, the route of the longest that has one
 abbrev pub longest_within : Rows Interior → ℕ → ℕ → Option Interior
-longest_within rows address zero = rows (prefix_of address 0)
-longest_within rows address (suc n) = or_else (rows (prefix_of address (suc n))) (longest_within rows address n)
+longest_within rows address zero = rows (block 32 address 0)
+longest_within rows address (suc n) = or_else (rows (block 32 address (suc n))) (longest_within rows address n)
 
 -- the longest match: the interior route by which the address is reached
 abbrev pub longest_match : Rows Interior → ℕ → Option Interior

@@ -1,5 +1,6 @@
 pub mod Lost
 pub mod Covering
+pub mod Held
 pub mod Owners
 pub mod Tables
 pub mod Rows

@@ -1,6 +1,6 @@
 //! A chain of stages, as the crates above see it.
 
-ghost use Rattle.std.specs.Prelude.{◌≡◌, ◌<◌, ◌≤◌, ◌*◌, IfOk, OnOk, is_some, IsSome, Some, None};
+ghost use Rattle.std.specs.Prelude.{◌≡◌, ◌<◌, ◌≤◌, ◌*◌, IfOk, OnOk, is_some, IsSome, Some, None, slice_get};
 ghost use Rattle.std.specs.Option.{option_copied, option_map};
 ghost use Rattle.std.specs.List.{AllByRecursion};
 ghost use Rattle.std.specs.FinMap as map;
@@ -15,8 +15,9 @@ ghost use Rattle.journal_text.specs.Values.{valued};
 ghost use Rattle.loss_chain.specs.Tables.{chain_links, lowest_rows, IsLossChain, NoneEmpty, OneEmptyAtMost, tables_count};
 ghost use Rattle.loss_chain.specs.Stages.{tables_of, rows_of, chain_candidates};
 ghost use Rattle.loss_chain.specs.Falls.{FallsTables, LeadsTables, way_down};
-ghost use Rattle.loss_chain.specs.Steps.{no_tables, fed_tables, lost_tables, loss_entries, welded_tables, weld_entries, oldest_of, overdue_of, IsTakenTables};
+ghost use Rattle.loss_chain.specs.Steps.{no_tables, fed_tables, lost_tables, loss_entries, table_of, welded_tables, weld_entries, oldest_of, overdue_of, IsTakenTables};
 
+use crate::deletion::Deletion;
 use crate::live::Live;
 use crate::owner::{Owner, is_same};
 use crate::stage::Stage;
@@ -87,6 +88,27 @@ impl<R: Valued> LossChain<R> {
         let link = owner.lowest();
         let sent = self.lowest.feed(owner, link, p, new, journal)?;
         Ok(sent)
+    }
+
+    /// The row at a prefix of the lowest link, lent.
+    pub fn row(&self, p: Prefix) -> Option<&R>
+        ensures { option_copied result ≡ lowest_rows self.now p }
+    {
+        self.lowest.row(p)
+    }
+
+    /// The deletion stage of a loss, if it stands.
+    pub fn deletion(&self, number: u32) -> Option<&Deletion<R>>
+        ensures { option_map (λ d. d.rows) (option_copied result) ≡ table_of number self.now.deletions }
+    {
+        self.lowest.deletion(number)
+    }
+
+    /// The number of a loss whose stage stands, by the place of the stage, the longest standing first.
+    pub fn loss_at(&self, place: u32) -> Option<u32>
+        ensures { result ≡ option_map (λ d. d.number) (slice_get self.now.deletions place) }
+    {
+        self.lowest.loss_at(place)
     }
 
     /// Whether a row is live at the prefix.

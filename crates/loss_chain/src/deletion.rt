@@ -1,13 +1,14 @@
 //! Deletion stages.
 
-ghost use Rattle.std.specs.Prelude.{◌≡◌, ◌↔◌, IsTrue, IfSome, IfNone, Some, None};
+ghost use Rattle.std.specs.Prelude.{◌≡◌, ◌≤◌, ◌↔◌, IsTrue, IfSome, IfNone, Some, None};
 ghost use Rattle.std.specs.Option.{option_copied};
 ghost use Rattle.std.specs.FinMap as map;
 ghost use Rattle.addr4.specs.Places.{key_of};
 ghost use Rattle.link_change.specs.Rows.{IsNextCandidate, with_rows, is_empty_map};
+ghost use Rattle.loss_chain.specs.Held.{has_over, has_within};
 ghost use Rattle.loss_chain.specs.Covering.{PassesOn, StaysApart, DeletesOn, IsLeastRow};
 
-use addr4::{Place, Prefix, Row};
+use addr4::{Addr, Place, Prefix, Row};
 use link_change::Change;
 use safe_table::Table;
 use std::marker::Model;
@@ -91,6 +92,13 @@ impl<R: Row> Deletion<R> {
         self.table.get(prefix)
     }
 
+    /// Whether the table still has a row at a prefix that holds the address.
+    pub fn held_over(&self, address: Addr) -> bool
+        ensures { result ≡ has_over (Some self.now.rows) address }
+    {
+        held_within(self, address, 32)
+    }
+
     /// The least prefix beyond a place at which the table still has a row.
     pub fn next_held(&self, after: Place) -> Option<Prefix>
         ensures { IsNextCandidate (with_rows (map.get self.now.rows)) (key_of after) result }
@@ -112,4 +120,21 @@ impl<R: Row> Deletion<R> {
     {
         self.table.len() == 0
     }
+}
+
+// Whether the table still has a row at one of the prefixes, of at most so many bits, that hold the address.
+fn held_within<R: Row>(deletion: &Deletion<R>, address: Addr, bits: u8) -> bool
+    requires { bits ≤ 32 }
+    ensures { result ≡ has_within (Some deletion.now.rows) address bits }
+{
+    let Some(prefix) = Prefix::new(address, bits) else {
+        unreachable!()
+    };
+    if deletion.held(prefix).is_some() {
+        return true;
+    }
+    if bits == 0 {
+        return false;
+    }
+    held_within(deletion, address, bits - 1)
 }

@@ -1,6 +1,7 @@
 //! The live rows.
 
 ghost use Rattle.std.specs.Prelude.{◌≡◌, ◌↔◌, IsTrue, IfOk, OnOk, OnErr, IfSome, IsNone, is_some, Some, None};
+ghost use Rattle.std.specs.Option.{option_copied};
 ghost use Rattle.std.specs.FinMap as map;
 ghost use Rattle.addr4.specs.Places.{key_of};
 ghost use Rattle.link_change.specs.Rows.{IsNextCandidate, with_rows, is_empty_map};
@@ -98,6 +99,13 @@ impl<R: Row> Live<R> {
             None => Ok(None),
             Some(row) => Ok(Some(row.copy()?)),
         }
+    }
+
+    /// The row that is live at a prefix, lent.
+    pub fn row(&self, prefix: Prefix) -> Option<&R>
+        ensures { option_copied result ≡ map.get self.now prefix }
+    {
+        self.live.get(prefix)
     }
 
     /// Whether a row is live at a prefix.

@@ -1,13 +1,15 @@
 //! Lookups, which walk the chain upward: of rows, of stages, and of counts.
 
-ghost use Rattle.std.specs.Prelude.{◌≡◌, ◌≤◌, ◌+◌, ◌*◌, IfOk, length, nat_lt, is_some};
+ghost use Rattle.std.specs.Prelude.{◌≡◌, ◌≤◌, ◌+◌, ◌*◌, IfOk, length, nat_lt, is_some, option_map, slice_get};
 ghost use Rattle.std.specs.Option.{option_copied};
 ghost use Rattle.std.specs.FinMap as map;
 ghost use Rattle.addr4.specs.Places.{key_of};
 ghost use Rattle.link_change.specs.Rows.{IsNextCandidate, with_rows, is_empty_map};
+ghost use Rattle.loss_chain.specs.Steps.{table_of};
 ghost use Rattle.loss_chain.specs.Tables.{lost_count};
 ghost use Rattle.loss_chain.specs.Stages.{above_of, deletions_of, live_of, rows_of, stage_candidates};
 
+use crate::deletion::Deletion;
 use crate::stage::Stage;
 use addr4::{Memory, Place, Prefix, Row};
 use link_change::{Upstream, nearer};
@@ -23,6 +25,49 @@ impl<R: Row> Stage<R> {
                 Some(row) => Ok(Some(row.copy()?)),
                 None => upper.asked(p),
             },
+        }
+    }
+
+    /// The row at a prefix of the link out of this stage, lent.
+    pub(crate) fn row(&self, p: Prefix) -> Option<&R>
+        ensures { option_copied result ≡ rows_of self.now p }
+    {
+        match self {
+            Stage::Top(live) => live.row(p),
+            Stage::Deletion(deletion, upper) => match deletion.held(p) {
+                Some(row) => Some(row),
+                None => upper.row(p),
+            },
+        }
+    }
+
+    /// The deletion stage of a loss.
+    pub(crate) fn deletion(&self, number: u32) -> Option<&Deletion<R>>
+        ensures { option_map (λ d. d.rows) (option_copied result) ≡ table_of number (deletions_of self.now) }
+    {
+        match self {
+            Stage::Top(_) => None,
+            Stage::Deletion(deletion, upper) => {
+                if deletion.number() == number {
+                    return Some(deletion);
+                }
+                upper.deletion(number)
+            }
+        }
+    }
+
+    /// The number of a loss whose stage stands, by the place of the stage from the lowest on.
+    pub(crate) fn loss_at(&self, place: u32) -> Option<u32>
+        ensures { result ≡ option_map (λ d. d.number) (slice_get (deletions_of self.now) place) }
+    {
+        match self {
+            Stage::Top(_) => None,
+            Stage::Deletion(deletion, upper) => {
+                if place == 0 {
+                    return Some(deletion.number());
+                }
+                upper.loss_at(place - 1)
+            }
         }
     }
 

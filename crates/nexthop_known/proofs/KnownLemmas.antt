@@ -16,8 +16,8 @@ use Rattle.addr4.specs.Prefixes.{Network}
 use Rattle.link_change.proofs.MapLemmas.{map_read, read_in}
 use Rattle.nexthop_known.specs.declared.answer.Hop.{Hop}
 use Rattle.nexthop_known.specs.declared.index.Holding.{Holding}
-use Rattle.nexthop_known.specs.Hops.{Hops, is_with, came_at, is_stale_at, IsWithSome, IsWithNone, IsMapped, IsLeastStale, IsSettled, IsDiffering, IsUnshared}
-use Rattle.nexthop_known.specs.Ties.{holding_cmp, IsSettledAt, AreTied, AreTold, Marks, host, is_host, Maps, IsFreed, IsHeldByNone}
+use Rattle.nexthop_known.specs.Hops.{Hops, is_with, came_at, is_stale_at, IsWithSome, IsWithNone, IsMapped, IsLeastStale, IsSettled, IsDiffering, IsUnshared, IsSettledAt, IsDifferingAt}
+use Rattle.nexthop_known.specs.Ties.{holding_cmp, AreTied, AreTold, Marks, host, is_host, Maps, IsFreed, IsHeldByNone}
 use Rattle.nexthop_known.proofs.HopLemmas.{same_self}
 use Rattle.nexthop_known.proofs.MarkLemmas.{host_is, host_before}
 use Rattle.nexthop_known.proofs.TieLemmas.{found_with}
@@ -103,6 +103,19 @@ module _ {A : Type 0} where
   differing_at : (now : Hops A) (k : ℕ) (o : Option (Hop A)) → map.get now k ≡ o → (IsSettledAt o → ⊥) → IsDiffering (map.get now)
   differing_at now k None is out = absurd (out tt)
   differing_at now k (Some h) is out = (k, h, is, out)
+
+  -- one that is listed differs, and one that isn't doesn't
+  pub differing_here : (m : BTreeMap ℕ (Hop A)) (differing : BTreeSet ℕ) (now : Hops A) (a : ℕ) (b : Bool) → AreTold m differing → from_entries m.entries ≡ now → b ≡ set.contains nat_cmp differing a
+      → MatchBool b (IsDifferingAt (map.get now a)) (IsSettledAt (map.get now a))
+  differing_here m differing now a b told view listed = subst (λ (o : Option (Hop A)). MatchBool b (IsDifferingAt o) (IsSettledAt o)) (sym (read_in nat_cmp_total m now a view)) (by_listed b listed)
+    where
+      by_hop : (o : Option (Hop A)) → (IsSettledAt o → ⊥) → IsDifferingAt o
+      by_hop None out = out tt
+      by_hop (Some h) out = out
+
+      by_listed : (c : Bool) → c ≡ set.contains nat_cmp differing a → MatchBool c (IsDifferingAt (tree.get nat_cmp m a)) (IsSettledAt (tree.get nat_cmp m a))
+      by_listed true is = by_hop (tree.get nat_cmp m a) (λ settled. let clash : true ≡ false = is ∙ (told a).1 settled in cc)
+      by_listed false is = (told a).0 (sym is)
 
   pub differing_told : (m : BTreeMap ℕ (Hop A)) (differing : BTreeSet ℕ) (now : Hops A) (b : Bool) → AreTold m differing → from_entries m.entries ≡ now → ((b ≡ true) ↔ (btree_set_len differing ≡ 0)) → MatchBool (not b) (IsDiffering (map.get now)) (IsSettled (map.get now))
   differing_told m differing now true told view empty = λ a h e.

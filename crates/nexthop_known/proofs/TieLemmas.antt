@@ -23,8 +23,8 @@ use Rattle.nexthop_known.proofs.MarkLemmas.{noted, cleared, nothing_marked}
 use Rattle.nexthop_known.proofs.HopLemmas.{both_equal, same_is, same_told, same_self, with_told}
 use Rattle.nexthop_known.specs.declared.answer.Hop.{Hop}
 use Rattle.nexthop_known.specs.declared.index.Holding.{Holding}
-use Rattle.nexthop_known.specs.Hops.{is_with, staled, settled, came_at, is_stale_at}
-use Rattle.nexthop_known.specs.Ties.{holding_cmp, is_own, other_than, let_go, Marks, host, is_host, IsSettledAt, AreTied, AreTold, Puts, IsHeldByNone, Maps, PartlyMaps}
+use Rattle.nexthop_known.specs.Hops.{is_with, staled, settled, came_at, is_stale_at, IsSettledAt}
+use Rattle.nexthop_known.specs.Ties.{holding_cmp, is_own, other_than, let_go, Marks, host, is_host, AreTied, AreTold, Puts, IsHeldByNone, Maps, PartlyMaps}
 
 -- ---- orders
 

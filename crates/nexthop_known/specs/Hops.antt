@@ -72,6 +72,15 @@ module _ {A : Type 0} where
   IsLeastStale hops None = (a : ℕ) (h : Hop A) → hops a ≡ Some h → h.came ≢ None
   IsLeastStale hops (Some least) = ((h : Hop A) × (hops least ≡ Some h) × (h.came ≡ None)) × ((a : ℕ) (h : Hop A) → hops a ≡ Some h → h.came ≡ None → least ≤ a)
 
+  -- the fresh answer of a next hop, if it is known, is in force, and it isn't
+  abbrev pub IsSettledAt : Option (Hop A) → Type 0
+  IsSettledAt None = Unit {0}
+  IsSettledAt (Some h) = h.fresh ≡ h.in_force
+
+  abbrev pub IsDifferingAt : Option (Hop A) → Type 0
+  IsDifferingAt None = ⊥
+  IsDifferingAt (Some h) = h.fresh ≢ h.in_force
+
   -- every fresh answer is in force
   abbrev pub IsSettled : (ℕ → Option (Hop A)) → Type 0
   IsSettled hops = (a : ℕ) (h : Hop A) → hops a ≡ Some h → h.fresh ≡ h.in_force

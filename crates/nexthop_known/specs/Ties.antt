@@ -13,7 +13,7 @@ use Rattle.prefix_trie.specs.Contents.{Contents}
 use Rattle.prefix_trie.specs.Width.{width}
 use Rattle.nexthop_known.specs.declared.answer.Hop.{Hop}
 use Rattle.nexthop_known.specs.declared.index.Holding.{Holding}
-use Rattle.nexthop_known.specs.Hops.{is_with, came_at, is_stale_at}
+use Rattle.nexthop_known.specs.Hops.{is_with, came_at, is_stale_at, IsSettledAt}
 
 -- a set of prefixes
 abbrev pub Marks : Type 0
@@ -49,10 +49,6 @@ abbrev pub IsHeldByNone : BTreeSet Holding → Network → Type 0
 IsHeldByNone held s = (a : ℕ) → set.contains holding_cmp held (record { subnet = s; hop = a }) ≡ false
 
 module _ {A : Type 0} where
-  abbrev pub IsSettledAt : Option (Hop A) → Type 0
-  IsSettledAt None = Unit {0}
-  IsSettledAt (Some h) = h.fresh ≡ h.in_force
-
   -- the stale ones are in one set, by the prefixes of their addresses, and the others in another with their subnets
   pub record AreTied (hops : BTreeMap ℕ (Hop A)) (stale : Marks) (held : BTreeSet Holding) : Type 0 where
     pub stale_is : (p : Network) → map.contains_key stale p ≡ (is_host p && is_stale_at (tree.get nat_cmp hops p.address))

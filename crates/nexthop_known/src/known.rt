@@ -3,7 +3,7 @@
 ghost use Rattle.std.specs.Prelude.{◌≡◌, true, OnOk, OnErr, IsNone, IsSome, MatchBool};
 ghost use Rattle.std.specs.Option.{option_map};
 ghost use Rattle.std.specs.FinMap as map;
-ghost use Rattle.nexthop_known.specs.Hops.{learnt, staled, settled, is_stale_at, IsMapped, IsLeastStale, IsSettled, IsDiffering, IsGivenUp, IsRenewed, IsWithSome, IsWithNone};
+ghost use Rattle.nexthop_known.specs.Hops.{learnt, staled, settled, is_stale_at, IsMapped, IsLeastStale, IsSettled, IsSettledAt, IsDiffering, IsDifferingAt, IsGivenUp, IsRenewed, IsWithSome, IsWithNone};
 
 use crate::answer::{Answer, Hop};
 use crate::index::{
@@ -194,6 +194,13 @@ impl<A: Answer> Known<A> {
             None => None,
             Some(row) => Some(fresh_of(row)),
         }
+    }
+
+    /// Whether the next hop is known, and its fresh answer isn't the one in force.
+    pub fn differs_at(&self, hop: Addr) -> bool
+        ensures { MatchBool result (IsDifferingAt (map.get self.now hop)) (IsSettledAt (map.get self.now hop)) }
+    {
+        self.differing.contains(&hop)
     }
 
     /// Whether some fresh answer differs from the one in force.

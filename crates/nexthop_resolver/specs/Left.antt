@@ -1,10 +1,11 @@
 -- How many turns a resolver's task takes, if nothing else happens. How many candidates lie beyond a place is an argument, and so is the
 -- test for equal answers.
-use Rattle.std.specs.Prelude.{◌≡◌, ◌↔◌, ℕ, ◌+◌, ◌<◌, ◌≤◌, nat_lt, not, Bool, true, false, is_some, Option, Some, None}
+use Rattle.std.specs.Prelude.{◌≡◌, ◌↔◌, ℕ, ◌+◌, ◌<◌, ◌≤◌, nat_lt, not, ◌||◌, ◌&&◌, Bool, true, false, is_some, Option, Some, None}
+use Rattle.std.specs.FinMap as map
 use Rattle.addr4.specs.Prefixes.{Network}
 use Rattle.nexthop_known.specs.declared.answer.Hop.{Hop}
-use Rattle.nexthop_known.specs.Hops.{Hops, stale_count, count_of}
-use Rattle.nexthop_resolver.specs.Resolving.{Resolving}
+use Rattle.nexthop_known.specs.Hops.{Hops, is_stale_at, stale_count, count_of}
+use Rattle.nexthop_resolver.specs.Resolving.{Resolving, is_in_force}
 
 -- whether a walk begins when the one that is on, if any, is over and all stale next hops are asked for
 abbrev pub is_needed : Bool → ℕ → ℕ → Bool
@@ -30,6 +31,12 @@ module _ {A : Type 0} (alike : A → A → Bool) where
   abbrev pub differs_at : Option (Hop A) → Bool
   differs_at None = false
   differs_at (Some h) = not (alike h.fresh h.in_force)
+
+  -- whether a row that names this next hop, if one does, may go on at a prefix by another answer than the register's present one:
+  -- the next hop is stale, or its fresh answer differs from the one in force, which holds there
+  abbrev pub hop_lags : Resolving A → Network → Option ℕ → Bool
+  hop_lags s q None = false
+  hop_lags s q (Some a) = is_stale_at (map.get s.known a) || (is_in_force s.walk q && differs_at (map.get s.known a))
 
   -- how many have fresh answers that aren't in force
   abbrev pub differing_count : Hops A → ℕ

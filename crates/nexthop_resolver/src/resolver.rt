@@ -1,14 +1,16 @@
 //! The stage of next hops.
 
-ghost use Rattle.std.specs.Prelude.{◌≡◌, IfOk, OnOk, OnErr, MatchBool, Some, None};
+ghost use Rattle.std.specs.Prelude.{◌≡◌, Bool, IfOk, OnOk, OnErr, MatchBool, Some, None};
 ghost use Rattle.std.specs.Option.{option_map};
 ghost use Rattle.std.specs.FinMap as map;
 ghost use Rattle.addr4.specs.Places.{key_of};
 ghost use Rattle.link_change.specs.Rows.{IsNextCandidate, CoversRows};
+ghost use Rattle.pass_core.specs.Passed.{function_at};
 ghost use Rattle.pass_core.specs.Turns.{passed};
 ghost use Rattle.nexthop_resolver.specs.Resolving.{AreNamed, nothing_known, in_force_by, fresh_by, passes, made_by, goes_on, resolved, res_rows, at_place, is_in_force};
 ghost use Rattle.nexthop_resolver.specs.Registered.{Agrees, KeepsOthers, told_of};
 ghost use Rattle.nexthop_resolver.specs.Takes.{Moves, Keeps, KeepsOnly, Invalidates, TakesIn};
+ghost use Rattle.nexthop_resolver.specs.Left.{TellsAlike, hop_lags};
 ghost use Rattle.nexthop_resolver.specs.Turns.{Rests, HasWork, IsStep, IsTurn};
 
 use crate::asking::{forget, learn, renew};
@@ -114,6 +116,30 @@ impl<A: FromMatch> Resolver<A> {
             return true;
         }
         self.known.differs()
+    }
+
+    /// Whether a row that names this next hop, if one does, may go on at a prefix by another answer than the register's present
+    /// one: the next hop is stale, or its fresh answer isn't the one in force, which holds there.
+    pub fn holds_up(&self, hop: Option<Addr>, prefix: Prefix) -> bool
+        ensures { (alike : A → A → Bool) → TellsAlike alike → result ≡ hop_lags alike self.now prefix hop }
+    {
+        match hop {
+            None => false,
+            Some(hop) => self.hop_lags(hop, prefix),
+        }
+    }
+
+    // The same of one next hop.
+    fn hop_lags(&self, hop: Addr, prefix: Prefix) -> bool
+        ensures { (alike : A → A → Bool) → TellsAlike alike → result ≡ hop_lags alike self.now prefix (Some hop) }
+    {
+        if self.known.is_stale(hop) {
+            return true;
+        }
+        if !is_in_force(&self.walk, prefix) {
+            return false;
+        }
+        self.known.differs_at(hop)
     }
 
     /// The answers that came with the subnet are stale: the register gave up the interest in it. Takes no memory.
@@ -335,6 +361,16 @@ impl<A: FromMatch> Resolver<A> {
     {
         let row = upper.asked(&prefix)?;
         Ok(self.resolve(prefix, row))
+    }
+
+    /// The answer about a next hop that holds at a prefix, if it is known.
+    pub fn answer(&self, hop: Addr, prefix: Prefix) -> Option<A>
+        ensures { result ≡ function_at (passes self.now) prefix hop }
+    {
+        if is_in_force(&self.walk, prefix) {
+            return self.known.in_force(hop);
+        }
+        self.known.fresh_of(hop)
     }
 
     /// The least candidate of the link below beyond a place: those of the link above, of which some may have no row below.

@@ -1,30 +1,46 @@
 -- The laws of outgoing chains.
-use Rattle.std.proofs.Common.{◌≡◌, ℕ, cond, List, [], ◌∷◌, length, Option, Some, None, IsSome, refl, sym, ap, subst, ◌∙◌, arith}
+use Rattle.std.proofs.Common.{◌≡◌, ℕ, Bool, true, false, ◌||◌, is_some, cond, List, [], ◌∷◌, length, Option, Some, None, IsSome, refl, sym, ap, subst, ◌∙◌, arith}
 use Rattle.std.specs.Option.{option_map, ForSome}
 use Rattle.std.specs.FinMap as map
 use Rattle.addr4.specs.Prefixes.{Network}
+use Rattle.bgp_attr.specs.declared.attrs.Attrs.{Attrs}
 use Rattle.bgp_attr.specs.declared.route.Route.{Route}
 use Rattle.bgp_attr.specs.declared.speaker.Profile.{Profile}
 use Rattle.link_change.specs.Rows.{Rows, with_row}
 use Rattle.link_change.specs.Changes.{IsSent}
-use Rattle.link_change.specs.InOrder.{ChangesLead, rows_before, with_last}
+use Rattle.link_change.specs.InOrder.{ChangesLead, rows_before, with_last, changed_in}
 use Rattle.addr4.proofs.PrefixOrder.{by_prefix}
-use Rattle.link_change.proofs.InOrderLemmas.{put_keeps_before, put_leads}
+use Rattle.link_change.proofs.InOrderLemmas.{put_keeps_before, put_leads, unchanged_stays}
+use Rattle.link_change.proofs.RowLemmas.{not_first as first_false, not_second as second_false}
 use Rattle.link_change.specs.declared.change.Change.{Change}
 use Rattle.policy_rules.specs.declared.rule.Rule.{Rule}
 use Rattle.pass_core.specs.Passed.{Walked}
 use Rattle.pass_core.specs.Left.{walk_turns}
-use Rattle.pass_core.proofs.TurnLemmas.{exact_without_a_walk}
+use Rattle.pass_core.specs.Passed.{present}
+use Rattle.pass_core.specs.Turns.{row_lags}
+use Rattle.pass_core.proofs.TurnLemmas.{exact_unless_held_up as latest_row, none_lags_without_a_walk}
 use Rattle.pass_core.proofs.LeftLemmas.{left_is_bounded}
 use Rattle.peer_out.specs.Changes.{MayBeHeard}
 use Rattle.fanout_queue.specs.Readers.{unread_or_none, unread_by, read_rows}
 use Rattle.fanout_queue.proofs.LeadLemmas.{put_keeps_read, put_keeps_readers}
-use Rattle.out_chain.specs.Chains.{made_by, outf_rows, HasSent, RowsMayBeHeard, ChangesMayBeHeard}
-use Rattle.out_chain.specs.Laws.{ExactWithoutWork, PutKeepsStanding, OthersKeepStanding, NoTurnsWithoutWork, OutTurnsAreBounded}
+use Rattle.out_chain.specs.Chains.{made_by, outf_rows, is_unread, HasSent, RowsMayBeHeard, ChangesMayBeHeard}
+use Rattle.out_chain.specs.Laws.{ExactUnlessHeldUp, NoneHeldUpWithoutWork, PutKeepsStanding, OthersKeepStanding, NoTurnsWithoutWork, OutTurnsAreBounded}
 
-pub exact_without_work : ExactWithoutWork
-exact_without_work c queued best none over has =
-    subst (HasSent c) (ap (λ u. rows_before u best) none) has ∙ exact_without_a_walk (made_by c) c.filter best over
+pub exact_unless_held_up : ExactUnlessHeldUp
+exact_unless_held_up c queued best p has none =
+    let unread = unread_by queued c.reader in
+    let read = read_rows queued c.reader best p in
+    let same : read ≡ best p = unchanged_stays best unread p (first_false (changed_in unread p) (row_lags c.filter p read) none) in
+    (same, ap (λ (rows : Rows Attrs). rows p) has ∙ latest_row (made_by c) c.filter p read (λ rules q. refl) (second_false (changed_in unread p) (row_lags c.filter p read) none) ∙ ap (made_by c (present c.filter) p) same)
+
+none_changed : (unread : List (Change Route)) (p : Network) → is_unread unread ≡ false → changed_in unread p ≡ false
+none_changed [] p none = refl
+none_changed (change ∷ changes) p none = absurd (let clash : true ≡ false = none in cc)
+
+pub none_held_up_without_work : NoneHeldUpWithoutWork
+none_held_up_without_work c unread p row none =
+    ap (λ (b : Bool). b || row_lags c.filter p row) (none_changed unread p (first_false (is_unread unread) (is_some c.filter.walk) none))
+    ∙ none_lags_without_a_walk c.filter p row (second_false (is_unread unread) (is_some c.filter.walk) none)
 
 heard_last : (profile : Profile) (change : Change Route) (changes : List (Change Route)) → ChangesMayBeHeard profile changes → ForSome change.after (λ r. MayBeHeard profile r.attrs)
     → ChangesMayBeHeard profile (with_last change changes)

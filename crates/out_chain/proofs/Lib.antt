@@ -4,3 +4,4 @@ mod LookupLemmas
 mod TurnLemmas
 mod PassLemmas
 mod LawLemmas
+mod HeldLemmas

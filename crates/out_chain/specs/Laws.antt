@@ -1,5 +1,5 @@
 -- Laws of outgoing chains, for the crates above.
-use Rattle.std.specs.Prelude.{◌≡◌, ◌≢◌, ℕ, ◌+◌, ◌*◌, ◌≤◌, length, List, [], Option, Some, None}
+use Rattle.std.specs.Prelude.{◌≡◌, false, ◌≢◌, ℕ, ◌+◌, ◌*◌, ◌≤◌, length, List, [], Option, Some, None}
 use Rattle.std.specs.Option.{ForSome}
 use Rattle.std.specs.FinMap as map
 use Rattle.addr4.specs.Prefixes.{Network}
@@ -8,18 +8,23 @@ use Rattle.link_change.specs.Rows.{Rows, Candidates}
 use Rattle.link_change.specs.Changes.{IsSent}
 use Rattle.link_change.specs.declared.change.Change.{Change}
 use Rattle.pass_core.specs.Passed.{present}
-use Rattle.pass_core.specs.Turns.{rows_by}
 use Rattle.pass_core.specs.Left.{CountsBeyond}
 use Rattle.peer_out.specs.Changes.{MayBeHeard}
 use Rattle.fanout_queue.specs.Queues.{Queued, AppendsToAll}
 use Rattle.fanout_queue.specs.Readers.{unread_by, read_rows, KeepsOtherReaders}
-use Rattle.out_chain.specs.Chains.{OutChained, made_by, HasSent, OutStands, out_turns_left}
+use Rattle.out_chain.specs.Chains.{OutChained, made_by, HasSent, OutStands, has_out_work, out_lags, out_turns_left}
 
--- Where the reader has taken all and no walk is on, the peer was sent exactly what the latest rules make of the best rows.
-abbrev pub ExactWithoutWork : Type 0
-ExactWithoutWork =
-    (c : OutChained) (queued : Queued Route) (best : Rows Route) → unread_by queued c.reader ≡ [] → c.filter.walk ≡ None
-    → HasSent c (read_rows queued c.reader best) → map.get c.sent ≡ rows_by (made_by c) (present c.filter) best
+-- At a prefix that nothing holds up the reader has the best row, and the peer was sent exactly what the latest rules make of it.
+abbrev pub ExactUnlessHeldUp : Type 0
+ExactUnlessHeldUp =
+    (c : OutChained) (queued : Queued Route) (best : Rows Route) (p : Network) → HasSent c (read_rows queued c.reader best)
+    → out_lags c (unread_by queued c.reader) p (read_rows queued c.reader best p) ≡ false
+    → (read_rows queued c.reader best p ≡ best p) × (map.get c.sent p ≡ made_by c (present c.filter) p (best p))
+
+-- Without work nothing holds up a prefix.
+abbrev pub NoneHeldUpWithoutWork : Type 0
+NoneHeldUpWithoutWork =
+    (c : OutChained) (unread : List (Change Route)) (p : Network) (row : Option Route) → has_out_work c unread ≡ false → out_lags c unread p row ≡ false
 
 -- ---- what others do
 -- A change of the best rows that is put leaves a session standing, where the row after it may be heard.

@@ -14,7 +14,7 @@ ghost use Rattle.journal_text.specs.declared.value.Value.{Value};
 ghost use Rattle.journal_text.specs.Walk.{HasRow, no_links};
 ghost use Rattle.journal_text.specs.Journals.{with_entries, with_lines};
 ghost use Rattle.journal_text.specs.Values.{route_value, attrs_value, valued_change};
-ghost use Rattle.out_chain.specs.Chains.{out_links, out_candidates, IsOutChain, RowsMayBeHeard, OutStands, has_out_work};
+ghost use Rattle.out_chain.specs.Chains.{out_links, out_candidates, IsOutChain, RowsMayBeHeard, OutStands, has_out_work, out_lags};
 ghost use Rattle.out_chain.specs.Steps.{exit_to, new_out, start_entries, stop_entries, LeadsOut, LeadsFromBest, with_rules, with_sent, said_of, message_lines, IsTold, PassesOut, IsWalkedOut, IsOutTurn};
 
 use crate::to_peer::ToPeer;
@@ -324,6 +324,19 @@ impl OutChain {
         ensures { result ≡ length (unread_by queue.now self.now.reader) }
     {
         queue.waiting(&self.reader)
+    }
+
+    /// Whether the session's task holds up a prefix: the reader hasn't taken a change there, or the filter's walk has yet to come
+    /// to the row that it has there. Takes no memory. Whether the best rows have one there is lent; where the reader has taken
+    /// all, that is whether it has one.
+    pub fn holds_up(&self, queue: &Queue<Route>, has_best: bool, p: Prefix) -> bool
+        requires live { IsSome (map.get queue.now self.now.reader) }
+        ensures { (best : Rows Route) → has_best ≡ is_some (best p) → result ≡ out_lags self.now (unread_by queue.now self.now.reader) p (read_rows queue.now self.now.reader best p) }
+    {
+        if queue.unread(&self.reader, p) {
+            return true;
+        }
+        has_best && self.filter.holds_up(p)
     }
 
     /// Whether the session's task has work: the reader hasn't taken all, or the walk of the filter is on.

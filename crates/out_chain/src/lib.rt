@@ -13,7 +13,7 @@
 //! maps of the session's old links to those of its new ones; what was sent is exactly what the filter makes of the rows that the
 //! reader has; one message follows each change of it, and the peer reads its octets as that change and as nothing else; every
 //! other reader of the queue keeps what it hasn't taken. Without work the peer has what the latest rules make of the best rows
-//! ([`without_work_all_is_sent`]).
+//! ([`unless_held_up_all_is_sent`]).
 //!
 //! The best rows are lent to the calls that need them, and so is the queue. Nothing is kept twice but what was sent: a withdrawal
 //! has to name it, and the peer can't be asked. For want of memory a call may stop half way. The chain may then only be
@@ -25,4 +25,4 @@ mod laws;
 mod to_peer;
 
 pub use chain::OutChain;
-pub use laws::{a_session_stands, out_turns_are_left, without_work_all_is_sent};
+pub use laws::{a_session_stands, out_turns_are_left, unless_held_up_all_is_sent};

@@ -1,5 +1,5 @@
 -- A stage whose rows are made by a function that is changed in the background.
-use Rattle.std.proofs.Common.{◌≡◌, Bool, true, false, cond, Option, Some, None, is_some, IfSome, refl, sym, ap, subst, ◌∙◌}
+use Rattle.std.proofs.Common.{◌≡◌, Bool, true, false, ◌&&◌, ◌||◌, cond, Option, Some, None, is_some, IfSome, refl, sym, ap, subst, ◌∙◌}
 use Rattle.addr4.specs.Prefixes.{Network}
 use Rattle.link_change.specs.Rows.{Rows, with_row, Candidates, IsNextCandidate, CoversRows, computed_rows}
 use Rattle.link_change.specs.Changes.{IsSent, IsChangeOf}
@@ -8,16 +8,29 @@ use Rattle.link_change.specs.declared.change.Change.{Change}
 use Rattle.link_change.specs.declared.turn.Turn.TheVariants.{Nothing, Quiet, Sent}
 use Rattle.link_change.proofs.RowLemmas.{same_function}
 use Rattle.link_change.proofs.ChangeLemmas.{computes_on, change_sent}
-use Rattle.pass_core.specs.Passed.{Passed, Walked, is_beyond, function_of, function_at, present_of, walk_edited, walk_of_waiting, after_walk, walk_stepped, stepped, finished}
+use Rattle.pass_core.specs.Passed.{Passed, Walked, is_beyond, function_of, function_at, latest_of, present_of, lags_by, walk_edited, walk_of_waiting, after_walk, walk_stepped, stepped, finished}
 use Rattle.pass_core.specs.Split.{split, MakesNone}
 use Rattle.pass_core.specs.Turns.{passed, passed_rows, IsSentAt, Walks, IsWalked}
-use Rattle.pass_core.specs.Laws.{ExactWithoutAWalk, EditKeepsRows, PassedIsCovered, ChangeIsPassedOn, StepWalks, EndWalks, WalkLeads}
+use Rattle.pass_core.specs.Laws.{ExactUnlessHeldUp, NoneLagsWithoutAWalk, EditKeepsRows, PassedIsCovered, ChangeIsPassedOn, StepWalks, EndWalks, WalkLeads}
 use Rattle.pass_core.proofs.SplitLemmas.{split_behind, at_itself, steps, ends}
 
-in_force_alone : {F : Type 0} (in_force : F) (walk : Option (Walked F)) (q : Network) → walk ≡ None
+latest_holds : {F : Type 0} (in_force : F) (walk : Option (Walked F)) (q : Network) → lags_by walk q ≡ false
     → function_of in_force walk q ≡ present_of in_force walk
-in_force_alone in_force None q e = refl
-in_force_alone in_force (Some w) q e = absurd (let f : Some w ≡ None = e in cc)
+latest_holds {F} in_force None q none = refl
+latest_holds {F} in_force (Some w) q none = by_tests (is_beyond w.place q) w.waiting none
+  where
+    by_tests : (b : Bool) (o : Option F) → (b || is_some o) ≡ false → cond b in_force w.next ≡ latest_of w.next o
+    by_tests true o e = absurd (let clash : true ≡ false = e in cc)
+    by_tests false None e = refl
+    by_tests false (Some f) e = absurd (let clash : true ≡ false = e in cc)
+
+not_there : (b : Bool) → (b && false) ≡ false
+not_there true = refl
+not_there false = refl
+
+none_lags : {F : Type 0} (walk : Option (Walked F)) (q : Network) → is_some walk ≡ false → lags_by walk q ≡ false
+none_lags None q off = refl
+none_lags (Some w) q off = absurd (let clash : true ≡ false = off in cc)
 
 edited_at : {F : Type 0} (in_force : F) (walk : Option (Walked F)) (f : F) (q : Network)
     → function_of in_force (Some (walk_edited walk f)) q ≡ function_of in_force walk q
@@ -46,9 +59,13 @@ walk_on {F} s place busy at = by s.walk refl busy at
     by None e busy at = absurd (let f : false ≡ true = busy in cc)
     by (Some w) e busy at = (w, e, at)
 
+pub none_lags_without_a_walk : {F A : Type 0} → NoneLagsWithoutAWalk F A
+none_lags_without_a_walk s q row off = ap (λ (b : Bool). is_some row && b) (none_lags s.walk q off) ∙ not_there (is_some row)
+
 module _ {F A B : Type 0} where
-  pub exact_without_a_walk : ExactWithoutAWalk F A B
-  exact_without_a_walk apply s upper none = same_function _ _ (λ q. ap (λ f. apply f q (upper q)) (in_force_alone s.in_force s.walk q none))
+  pub exact_unless_held_up : ExactUnlessHeldUp F A B
+  exact_unless_held_up apply s q None nothing none = nothing (function_at s q) q ∙ sym (nothing (present_of s.in_force s.walk) q)
+  exact_unless_held_up apply s q (Some row) nothing none = ap (λ (f : F). apply f q (Some row)) (latest_holds s.in_force s.walk q none)
 
   pub an_edit_keeps_the_rows : EditKeepsRows F A B
   an_edit_keeps_the_rows apply s f upper = same_function _ _ (λ q. ap (λ (g : F). apply g q (upper q)) (edited_at s.in_force s.walk f q))

@@ -7,9 +7,9 @@ use Rattle.link_change.specs.Changes.{IsSent, IsChangeOf}
 use Rattle.link_change.specs.Turns.{IsTurned}
 use Rattle.link_change.specs.declared.change.Change.{Change}
 use Rattle.link_change.specs.declared.turn.Turn.{Turn}
-use Rattle.pass_core.specs.Passed.{Passed, Walked, function_at, present, edited, stepped, finished}
+use Rattle.pass_core.specs.Passed.{Passed, Walked, function_at, holds_up, present, edited, stepped, finished}
 use Rattle.pass_core.specs.Split.{split, MakesNone}
-use Rattle.pass_core.specs.Turns.{passed, passed_rows, rows_by, IsPassedOn, Walks, IsWalked}
+use Rattle.pass_core.specs.Turns.{passed, passed_rows, row_lags, IsPassedOn, Walks, IsWalked}
 use Rattle.pass_core.specs.Left.{CountsBeyond, turns_left}
 
 -- Without a walk the function in force holds at each prefix.
@@ -109,11 +109,16 @@ SplitEnds A B =
     → computed_rows (split in_force fresh place) upper ≡ computed_rows fresh upper
 
 -- ---- a stage whose rows are made by one function after the other
--- Without a walk the rows below are those that the function of the latest edit makes.
-abbrev pub ExactWithoutAWalk : Type 0 → Type 0 → Type 0 → Type 0
-ExactWithoutAWalk F A B =
-    (apply : F → Network → Option A → Option B) (s : Passed F) (upper : Rows A) → s.walk ≡ None
-    → passed_rows apply s upper ≡ rows_by apply (present s) upper
+-- At a prefix that no walk holds up, and at one without a row above, the row below is the one that the function of the latest edit
+-- makes.
+abbrev pub ExactUnlessHeldUp : Type 0 → Type 0 → Type 0 → Type 0
+ExactUnlessHeldUp F A B =
+    (apply : F → Network → Option A → Option B) (s : Passed F) (q : Network) (row : Option A) → ((f : F) → MakesNone (apply f))
+    → row_lags s q row ≡ false → passed apply s q row ≡ apply (present s) q row
+
+-- Where no walk is on, none holds up a prefix.
+abbrev pub NoneLagsWithoutAWalk : Type 0 → Type 0 → Type 0
+NoneLagsWithoutAWalk F A = (s : Passed F) (q : Network) (row : Option A) → is_some s.walk ≡ false → row_lags s q row ≡ false
 
 -- An edit changes no row below.
 abbrev pub EditKeepsRows : Type 0 → Type 0 → Type 0 → Type 0

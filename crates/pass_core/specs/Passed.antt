@@ -1,5 +1,5 @@
 -- What contracts see of a function that is changed in the background.
-use Rattle.std.specs.Prelude.{Bool, true, false, Option, Some, None, is_some, if◌then◌else◌, refl}
+use Rattle.std.specs.Prelude.{Bool, true, false, ◌||◌, Option, Some, None, is_some, if◌then◌else◌, refl}
 use Rattle.std.specs.Coded.{Coded, code_by, coded×, coded_option}
 use Rattle.std.specs.Ordering.{is_lt}
 use Rattle.addr4.specs.Prefixes.{Network, prefix_cmp, network_code}
@@ -60,6 +60,15 @@ module _ {F : Type 0} where
   -- whether a function waits for the end of a walk
   abbrev pub waits : Passed F → Bool
   waits s = is_followed s.walk
+
+  abbrev pub lags_by : Option (Walked F) → Network → Bool
+  lags_by None q = false
+  lags_by (Some w) q = is_beyond w.place q || is_some w.waiting
+
+  -- whether another function than the latest one may hold at a prefix: a walk is on, and the prefix lies beyond its place, or a
+  -- function waits
+  abbrev pub holds_up : Passed F → Network → Bool
+  holds_up s q = lags_by s.walk q
 
   -- a walk that stands before all prefixes, for which nothing waits
   abbrev pub begun : F → Walked F

@@ -1,13 +1,13 @@
 -- A stage whose rows are made by a function that is changed in the background: what it passes on, and what the turns of the
 -- walk do.
-use Rattle.std.specs.Prelude.{◌≡◌, Option, Some, None}
+use Rattle.std.specs.Prelude.{◌≡◌, ◌&&◌, Bool, is_some, Option, Some, None}
 use Rattle.addr4.specs.Prefixes.{Network}
 use Rattle.link_change.specs.Rows.{Rows, Candidates, IsNextCandidate}
 use Rattle.link_change.specs.Changes.{IsSent, ComputesOn}
 use Rattle.link_change.specs.declared.change.Change.{Change}
 use Rattle.link_change.specs.declared.turn.Turn.{Turn}
 use Rattle.link_change.specs.declared.turn.Turn.TheVariants.{Nothing, Quiet, Sent}
-use Rattle.pass_core.specs.Passed.{Passed, Walked, function_at, stepped, finished}
+use Rattle.pass_core.specs.Passed.{Passed, Walked, function_at, holds_up, stepped, finished}
 
 -- the link's map became the new one by what was sent: a change at the candidate, or none
 abbrev pub IsSentAt : {B : Type 0} → Option Network → Rows B → Rows B → Option (Change B) → Type 0
@@ -18,6 +18,10 @@ IsSentAt (Some p) old new sent = IsSent old new p sent
 abbrev pub walked_on : {F : Type 0} → Option Network → Passed F → Passed F
 walked_on None s = finished s
 walked_on (Some p) s = stepped s p
+
+-- whether the row that is made there of one above, if there is one, may be by another function than the latest one
+abbrev pub row_lags : {F A : Type 0} → Passed F → Network → Option A → Bool
+row_lags s q row = is_some row && holds_up s q
 
 -- What a function makes of a row above, at a prefix, is `apply`.
 module _ {F A B : Type 0} (apply : F → Network → Option A → Option B) where

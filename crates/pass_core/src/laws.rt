@@ -1,7 +1,7 @@
 //! Laws of a function that is changed in the background, for the proofs of the crates above. Each is a function that does
 //! nothing, whose contract is the law.
 
-ghost use Rattle.pass_core.specs.Laws.{HoldsEverywhere, HoldsBeyond, HoldsBehind, StepSetsBehind, StepKeepsBeyond, StepKeepsBehind, EditKeeps, FinishSets, FinishKeepsBehind, EditIsPresent, StepKeepsPresent, FinishKeepsPresent, SplitBegins, SplitBeyond, SplitBehind, SplitSteps, SplitSends, SplitEnds, ExactWithoutAWalk, EditKeepsRows, PassedIsCovered, ChangeIsPassedOn, StepWalks, EndWalks, WalkLeads, WalkIsSpent, LeftIsBounded, LeftWhileOn, LeftFollows};
+ghost use Rattle.pass_core.specs.Laws.{HoldsEverywhere, HoldsBeyond, HoldsBehind, StepSetsBehind, StepKeepsBeyond, StepKeepsBehind, EditKeeps, FinishSets, FinishKeepsBehind, EditIsPresent, StepKeepsPresent, FinishKeepsPresent, SplitBegins, SplitBeyond, SplitBehind, SplitSteps, SplitSends, SplitEnds, ExactUnlessHeldUp, NoneLagsWithoutAWalk, EditKeepsRows, PassedIsCovered, ChangeIsPassedOn, StepWalks, EndWalks, WalkLeads, WalkIsSpent, LeftIsBounded, LeftWhileOn, LeftFollows};
 
 /// At each prefix one function holds: the one in force, or up to the place of a walk the new one.
 pub fn one_function_holds<F>()
@@ -47,9 +47,11 @@ pub fn a_step_changes_one_row<A, B>()
     ensures ends { SplitEnds A B }
 {}
 
-/// The rows below a stage, by the functions that hold: without a walk those of the latest one; an edit changes none.
+/// The rows below a stage, by the functions that hold: where no walk holds up a prefix that of the latest one; an edit changes
+/// none.
 pub fn the_rows_below<F, A, B>()
-    ensures exact { ExactWithoutAWalk F A B }
+    ensures exact { ExactUnlessHeldUp F A B }
+    ensures idle { NoneLagsWithoutAWalk F A }
     ensures edit { EditKeepsRows F A B }
     ensures covered { PassedIsCovered F A B }
     ensures change { ChangeIsPassedOn F A B }

@@ -2,7 +2,7 @@
 
 ghost use Rattle.std.specs.Prelude.{◌≡◌, is_some, IsSome, IfSome};
 ghost use Rattle.addr4.specs.Places.{key_of, IsBeyond};
-ghost use Rattle.pass_core.specs.Passed.{is_beyond, function_at, present, edited, stepped, finished, begun, latest_of, waits};
+ghost use Rattle.pass_core.specs.Passed.{is_beyond, function_at, present, holds_up, edited, stepped, finished, begun, latest_of, waits};
 ghost use Rattle.pass_core.specs.Walks.{walked};
 
 use addr4::{Place, Prefix};
@@ -130,6 +130,17 @@ impl<F: Drop> Pass<F> {
         match &self.walk {
             None => false,
             Some(walk) => walk.waiting.is_some(),
+        }
+    }
+
+    /// Whether another function than the latest one may hold at a prefix: a walk is on that has yet to come there, or at whose
+    /// end a function waits.
+    pub fn holds_up(&self, prefix: Prefix) -> bool
+        ensures { result ≡ holds_up self.now prefix }
+    {
+        match &self.walk {
+            None => false,
+            Some(walk) => is_beyond(walk.place, prefix) || walk.waiting.is_some(),
         }
     }
 

@@ -1,10 +1,12 @@
 -- What contracts see of the peers' side: the chain of each peer, by the peer's number.
 use Rattle.std.specs.Prelude.{◌≡◌, ℕ, ◌<◌, ◌≤◌, ◌==◌, length, Bool, false, is_some, if◌then◌else◌, List, [], ◌∷◌, map, Option, Some, None}
-use Rattle.std.specs.List.{AllByRecursion, flat_map, sum_by}
+use Rattle.std.specs.List.{AllByRecursion, find, flat_map, sum_by}
+use Rattle.std.specs.Option.{option_or}
 use Rattle.std.specs.Ordering.{nat_cmp}
+use Rattle.std.specs.BTreeMap.{BTreeMap, get}
 use Rattle.std.specs.FinMap as tables
 use Rattle.std.specs.FinMap.{FinMap}
-use Rattle.addr4.specs.Prefixes.{prefix_cmp}
+use Rattle.addr4.specs.Prefixes.{Network, prefix_cmp}
 use Rattle.bgp_attr.specs.declared.attrs.Attrs.{Attrs}
 use Rattle.bgp_attr.specs.declared.route.Route.{Route}
 use Rattle.link_change.specs.Rows.{Rows, Candidates, no_rows}
@@ -22,7 +24,7 @@ use Rattle.journal_text.specs.declared.value.Value.{Value}
 use Rattle.loss_chain.specs.Tables.{NoneEmpty, OneEmptyAtMost, lost_count}
 use Rattle.in_chain.specs.Chains.{Chained, links_of, filt_rows, candidates_of, row_count, turns_left, IsChain}
 use Rattle.in_chain.specs.Incomings.{overdue_of}
-use Rattle.in_chain.specs.Steps.{has_turn}
+use Rattle.in_chain.specs.Steps.{has_turn, chain_lags}
 
 abbrev pub Chains : Type 0
 Chains = FinMap nat_cmp Chained
@@ -124,6 +126,14 @@ has_turn_in task (Some c) = has_turn c task
 abbrev pub has_peer_work : Chains → Task → Bool
 has_peer_work a task = has_turn_in task (chain_at (peer_of task) a)
 
+abbrev pub lags_in : Task → Option Chained → Network → Bool
+lags_in task None p = false
+lags_in task (Some c) p = chain_lags c task p
+
+-- whether a task of a peer holds up a prefix
+abbrev pub peer_lags : Chains → Task → Network → Bool
+peer_lags a task = lags_in task (chain_at (peer_of task) a)
+
 -- the deletion stages of a chain, the earliest session first
 abbrev pub chain_tasks : Chained → List Task
 chain_tasks c = map (λ d. Del c.incoming.number d.number) c.incoming.tables.deletions
@@ -135,6 +145,19 @@ deletion_tasks a = flat_map chain_tasks (tables.values a)
 -- the filters' walks, by peer
 abbrev pub filter_tasks : Chains → List Task
 filter_tasks a = map (λ c. Fin c.incoming.number) (tables.values a)
+
+-- the first stage that holds up a prefix, and the first walk
+abbrev pub first_lost : Network → List Chained → Option Task
+first_lost p [] = None
+first_lost p (c ∷ cs) = option_or (find (λ task. chain_lags c task p) (chain_tasks c)) (first_lost p cs)
+
+-- in each chain at most so many stages stand
+abbrev pub HaveFew : BTreeMap ℕ Chained → Type 0
+HaveFew m = (k : ℕ) (c : Chained) → get nat_cmp m k ≡ Some c → length c.incoming.tables.deletions ≤ 16
+
+abbrev pub first_walking : Network → List Chained → Option Task
+first_walking p [] = None
+first_walking p (c ∷ cs) = if chain_lags c (Fin c.incoming.number) p then Some (Fin c.incoming.number) else first_walking p cs
 
 -- the walk of the first filter that has one
 abbrev pub first_walk : List Chained → Option Task

@@ -1,15 +1,16 @@
 //! Which task comes first, and how many rows there are.
 
-ghost use Rattle.std.specs.Prelude.{◌≡◌, ◌+◌, IfOk, IfNone};
+ghost use Rattle.std.specs.Prelude.{◌≡◌, ◌≤◌, ◌+◌, length, IfOk, IfNone};
 ghost use Rattle.std.specs.List.{find, flat_map, sum_by};
 ghost use Rattle.std.specs.Ordering.{nat_cmp};
 ghost use Rattle.std.specs.BTreeMap.{values, IsOrdered};
 ghost use Rattle.loss_chain.specs.Steps.{first_task};
 ghost use Rattle.in_chain.specs.Chains.{row_count};
-ghost use Rattle.peer_side.specs.Peers.{chain_tasks, deletion_tasks, filter_tasks, first_walk, has_peer_work, rows_in, lost_in, left_in, IsPeers};
+ghost use Rattle.in_chain.specs.Steps.{chain_lags};
+ghost use Rattle.peer_side.specs.Peers.{chain_tasks, deletion_tasks, filter_tasks, first_walk, first_lost, first_walking, HaveFew, has_peer_work, peer_lags, rows_in, lost_in, left_in, IsPeers};
 
 use crate::peers::Peers;
-use addr4::Memory;
+use addr4::{Memory, Prefix};
 use in_chain::{Chain, turns_are_bounded};
 use journal_text::Task;
 use std::collections::BTreeMap;
@@ -32,6 +33,22 @@ impl Peers {
     {
         turns_are_bounded();
         first_busy(&self.chains)
+    }
+
+    /// The first deletion stage that holds up a prefix, by peer, then session. Takes no memory.
+    pub fn first_loss_at(&self, p: Prefix) -> Option<Task>
+        requires { IsPeers self.now }
+        ensures { result ≡ find (λ task. peer_lags self.now task p) (deletion_tasks self.now) }
+    {
+        first_lost(&self.chains, p)
+    }
+
+    /// The first filter's walk that holds up a prefix, by peer. Takes no memory.
+    pub fn first_walk_at(&self, p: Prefix) -> Option<Task>
+        requires { IsPeers self.now }
+        ensures { result ≡ find (λ task. peer_lags self.now task p) (filter_tasks self.now) }
+    {
+        first_walking(&self.chains, p)
     }
 
     /// How many rows all `in.K` have. Memory where they are more than a u128 counts, which no memory holds.
@@ -63,6 +80,52 @@ fn first_busy(chains: &BTreeMap<u32, Chain>) -> Option<Task>
     for chain in chains.values() {
         if chain.busy() {
             return Some(Task::Fin(chain.number()));
+        }
+    }
+    None
+}
+
+/// The first stage of a chain that holds up a prefix, the longest standing first. At most 16 stand.
+fn first_stage(chain: &Chain, p: Prefix) -> Option<Task>
+    requires { length chain.now.incoming.tables.deletions ≤ 16 }
+    ensures { result ≡ find (λ task. chain_lags chain.now task p) (chain_tasks chain.now) }
+{
+    for place in 0..16 {
+        match chain.loss_at(place) {
+            None => return None,
+            Some(task) => {
+                if chain.holds_up(task, p) {
+                    return Some(task);
+                }
+            }
+        }
+    }
+    None
+}
+
+/// The first stage that holds up a prefix.
+fn first_lost(chains: &BTreeMap<u32, Chain>, p: Prefix) -> Option<Task>
+    requires few { HaveFew chains.now }
+    ensures first { result ≡ first_lost p (values chains.now) }
+    ensures ordered { IsOrdered nat_cmp chains.now }
+{
+    for (_, chain) in chains {
+        if let Some(task) = first_stage(chain, p) {
+            return Some(task);
+        }
+    }
+    None
+}
+
+/// The first walk that holds up a prefix.
+fn first_walking(chains: &BTreeMap<u32, Chain>, p: Prefix) -> Option<Task>
+    ensures first { result ≡ first_walking p (values chains.now) }
+    ensures ordered { IsOrdered nat_cmp chains.now }
+{
+    for chain in chains.values() {
+        let task = Task::Fin(chain.number());
+        if chain.holds_up(task, p) {
+            return Some(task);
         }
     }
     None

@@ -21,7 +21,7 @@ done_keeps (Med n) r = record { attrs = refl; igp = refl; from = refl }
 done_keeps NoMed r = record { attrs = refl; igp = refl; from = refl }
 done_keeps (Prepend n) r = record { attrs = refl; igp = refl; from = refl }
 
-acted_keeps : (actions : List Action) (r : Route) → KeepsSource r (acted actions r)
+pub acted_keeps : (actions : List Action) (r : Route) → KeepsSource r (acted actions r)
 acted_keeps [] r = same r
 acted_keeps (a ∷ actions) r = both r (done a r) (acted actions (done a r)) (done_keeps a r) (acted_keeps actions (done a r))
 

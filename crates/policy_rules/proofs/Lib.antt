@@ -4,3 +4,4 @@ pub mod PassLemmas
 pub mod KeptLemmas
 pub mod OneResult
 pub mod VerdictLemmas
+pub mod AcceptLemmas

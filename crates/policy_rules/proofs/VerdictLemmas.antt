@@ -61,7 +61,7 @@ same_origin Incomplete Incomplete e = refl
 origin_decides : (a b : origin.Origin) → Decides (origin_number a == origin_number b) (a ≡ b)
 origin_decides a b = Decides-like _ (same_origin a b) (ap origin_number) (Decides-eqb (origin_number a) (origin_number b))
 
-holds_decides : (c : Condition) (p : Network) (r : Route) → Decides (holds c p r) (Holds c p r)
+pub holds_decides : (c : Condition) (p : Network) (r : Route) → Decides (holds c p r) (Holds c p r)
 holds_decides All p r = (λ _. tt, λ _. refl)
 holds_decides (Within q least most) p r =
     Decides-like _ (λ h. (h.0, h.1.0, h.1.1)) (λ h. (h.0, (h.1, h.2)))

@@ -1,12 +1,13 @@
 //! The first rule that decides.
 
-ghost use Rattle.std.specs.Prelude.{◌≡◌, ◌↔◌, IsTrue, IfSome};
+ghost use Rattle.std.specs.Prelude.{◌≡◌, ◌↔◌, IsTrue, IfSome, is_some};
+ghost use Rattle.bgp_attr.specs.declared.route.Route.{Route};
 ghost use Rattle.policy_rules.specs.Judged.{Holds, Judged, KeepsSource, Outcome, done, acted};
 ghost use Rattle.policy_rules.specs.Verdicts.{judged_by};
 
 use crate::rule::{Action, Condition, Rule, Rules, Verdict};
 use addr4::Prefix;
-use bgp_attr::Route;
+use bgp_attr::{Attrs, Route};
 
 /// Lets a route of a prefix pass along the rules. A rule whose condition doesn't hold passes the route on; so does one
 /// whose verdict is `next`, after its actions. The first other rule decides: `accept` does its actions and accepts, `reject`
@@ -28,20 +29,36 @@ pub fn judge(rules: &Rules, prefix: Prefix, route: Route) -> Option<Route>
     Some(route)
 }
 
+/// Whether [`judge`] accepts routes with these attributes: no condition looks at anything else of a route. Takes no memory.
+pub fn accepts(rules: &Rules, prefix: Prefix, attrs: &Attrs) -> bool
+    ensures { (r : Route) → r.attrs ≡ attrs.now → result ≡ is_some (judged_by rules.now prefix r) }
+{
+    for rule in rules.as_slice() {
+        if holds(rule.condition, prefix, attrs) {
+            match rule.verdict {
+                Verdict::Accept => return true,
+                Verdict::Reject => return false,
+                Verdict::Next => {}
+            }
+        }
+    }
+    true
+}
+
 /// What one rule does: `Next` where it passes the route on.
 fn outcome(rule: &Rule, prefix: Prefix, route: &mut Route) -> Verdict
     ensures { Outcome result rule.now prefix route.old route.new }
 {
-    if !holds(rule.condition, prefix, route) {
+    if !holds(rule.condition, prefix, route.attrs.attrs()) {
         return Verdict::Next;
     }
     act(rule.actions.as_slice(), route);
     rule.verdict
 }
 
-/// Whether a condition holds of a route of this prefix.
-fn holds(condition: Condition, prefix: Prefix, route: &Route) -> bool
-    ensures { IsTrue result ↔ Holds condition prefix route.now }
+/// Whether a condition holds of a route of this prefix with these attributes.
+fn holds(condition: Condition, prefix: Prefix, attrs: &Attrs) -> bool
+    ensures { (r : Route) → r.attrs ≡ attrs.now → (IsTrue result ↔ Holds condition prefix r) }
 {
     match condition {
         Condition::Any => true,
@@ -50,8 +67,8 @@ fn holds(condition: Condition, prefix: Prefix, route: &Route) -> bool
             least,
             most,
         } => outer.covers(prefix) && least <= prefix.length() && prefix.length() <= most,
-        Condition::Path(asn) => route.attrs.attrs().path.has(asn),
-        Condition::Origin(origin) => route.attrs.attrs().origin == origin,
+        Condition::Path(asn) => attrs.path.has(asn),
+        Condition::Origin(origin) => attrs.origin == origin,
     }
 }
 

@@ -14,7 +14,7 @@ mod rule;
 mod words;
 
 pub use grammar::{BadRule, read_rules};
-pub use judging::judge;
+pub use judging::{accepts, judge};
 pub use laws::{the_answer_is_judged, there_is_one_result};
 pub use rule::{Action, Actions, Condition, Rule, Rules, Verdict};
 pub use words::first_word;

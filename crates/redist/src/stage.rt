@@ -4,8 +4,8 @@ ghost use Rattle.std.specs.Prelude.{◌≡◌, IfOk, OnErr, None, IsSome, IfSome
 ghost use Rattle.addr4.specs.Places.{key_of};
 ghost use Rattle.bgp_attr.specs.declared.speaker.Speaker.{Speaker};
 ghost use Rattle.link_change.specs.Rows.{IsNextCandidate, CoversRows};
-ghost use Rattle.pass_core.specs.Passed.{edited, present, waits};
-ghost use Rattle.pass_core.specs.Turns.{passed_rows, IsPassedOn, IsWalked};
+ghost use Rattle.pass_core.specs.Passed.{edited, holds_up, present, waits};
+ghost use Rattle.pass_core.specs.Turns.{passed, passed_rows, IsPassedOn, IsWalked};
 ghost use Rattle.redist.specs.Protocols.{no_protos, with_proto};
 ghost use Rattle.redist.specs.Local.{redistributed};
 
@@ -61,6 +61,24 @@ impl Redist {
         ensures { result ≡ is_some self.now.walk }
     {
         self.pass.busy()
+    }
+
+    /// Whether another set than the latest one may hold at a prefix: a walk is on that has yet to come there, or at whose end a
+    /// set waits.
+    pub fn holds_up(&self, prefix: Prefix) -> bool
+        ensures { result ≡ holds_up self.now prefix }
+    {
+        self.pass.holds_up(prefix)
+    }
+
+    /// Whether `red` has a row at a prefix, where this is the row of `int`. Takes no memory.
+    pub fn has(&self, row: &Option<Interior>, prefix: Prefix) -> bool
+        ensures { (me : Speaker) → result ≡ is_some (passed (redistributed me) self.now prefix row.now) }
+    {
+        match row {
+            None => false,
+            Some(row) => self.pass.at(prefix).has(row.proto),
+        }
     }
 
     /// Whether a set waits for the end of the walk that is on.

@@ -3,11 +3,11 @@ use Rattle.std.proofs.Common.{◌≡◌, ℕ, zero, suc, ◌+◌, ◌-◌, ◌*�
 use Rattle.std.proofs.lemmas.Nat.{div-add-mod', mod-mul-add}
 use Rattle.std.proofs.lemmas.Bool.{cases_lt, cases_eq}
 use Rattle.addr4.specs.Blocks.{size_of_length, masked_to}
-use Rattle.addr4.specs.Prefixes.{Network, IsMasked, Covers, Overlaps, Holds}
+use Rattle.addr4.specs.Prefixes.{Network, IsMasked, Covers, Overlaps, Holds, block}
 use Rattle.addr4.proofs.BlockLemmas.{from_masked, to_masked, apart, size_pos, masked_at, covers_from_holds}
 use Rattle.addr4.proofs.PrefixOrder.{by_prefix}
 use Rattle.link_change.specs.Rows.{Rows, with_row}
-use Rattle.register_interest.specs.Covers.{block, keyed_or, longest_to, longest, IsLongest, matched, IsFree, IsCover, IsWithin, IsHit, Stands}
+use Rattle.register_interest.specs.Covers.{keyed_or, longest_to, longest, IsLongest, matched, IsFree, IsCover, IsWithin, IsHit, Stands}
 
 -- ---- blocks of an address
 

@@ -19,12 +19,12 @@ use Rattle.std.proofs.lemmas.List.Kept.{IsStrictlySortedBy-filter}
 use Rattle.std.proofs.lemmas.Map.Views.{btree_map_get_iff}
 use Rattle.std.proofs.lemmas.Map.Lookups.{exact_pairs, exact_unsigned}
 use Rattle.std.proofs.lemmas.List.Elements.{Contains-append_left, Contains-append_right, Contains-append_cases, Contains-push, Contains-push_cases}
-use Rattle.addr4.specs.Prefixes.{Network, prefix_cmp, ComesBefore, IsMasked, Covers, Holds, behind}
+use Rattle.addr4.specs.Prefixes.{Network, prefix_cmp, ComesBefore, IsMasked, Covers, Holds, behind, block}
 use Rattle.addr4.proofs.BlockLemmas.{size_pos, covers_length, covers_holds}
 use Rattle.addr4.proofs.HalfLemmas.{same_from_covers}
 use Rattle.addr4.proofs.PrefixOrder.{prefixes_total, exact_prefixes}
 use Rattle.link_change.proofs.MapLemmas.{map_read, read_in, removed_at, removed_apart, by_key}
-use Rattle.register_interest.specs.Covers.{IsHit, block}
+use Rattle.register_interest.specs.Covers.{IsHit}
 use Rattle.register_interest.specs.declared.interests.Interest.{Interest}
 use Rattle.register_interest.specs.Interests.{Interests, interest_cmp, IsProper, AreProper, Pushes, IsBetween, Appends, AreReached, without}
 use Rattle.register_interest.proofs.CoverLemmas.{block_masked, block_holds, block_is, nested}

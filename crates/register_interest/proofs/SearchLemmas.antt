@@ -2,12 +2,12 @@
 use Rattle.std.proofs.Common.{◌≡◌, ◌↔◌, IsTrue, ℕ, ◌+◌, ◌<◌, ◌≤◌, Bool, true, false, not, Option, Some, None, IsSome, is_some, refl, sym, ap, ◌∙◌, subst, inl, inr, arith}
 use Rattle.std.proofs.lemmas.Bool.{cases_lt, cases_eq}
 use Rattle.std.specs.FinMap.{FinMap, get}
-use Rattle.addr4.specs.Prefixes.{Network, prefix_cmp, ComesBefore, IsMasked, Covers, Overlaps, Holds}
+use Rattle.addr4.specs.Prefixes.{Network, prefix_cmp, ComesBefore, IsMasked, Covers, Overlaps, Holds, block}
 use Rattle.addr4.specs.Places.{IsNextRow}
 use Rattle.addr4.proofs.BlockLemmas.{size_pos, covers_length, covers_holds}
 use Rattle.link_change.specs.Rows.{Rows}
 use Rattle.prefix_trie.specs.Contents.{IsLongestFor}
-use Rattle.register_interest.specs.Covers.{block, longest, IsLongest, matched, IsFree, IsSubnet}
+use Rattle.register_interest.specs.Covers.{longest, IsLongest, matched, IsFree, IsSubnet}
 use Rattle.register_interest.specs.Search.{IsBeneath, IsNoneBelow, length_of}
 use Rattle.register_interest.proofs.CoverLemmas.{block_masked, block_holds, block_is, one_of_length, nested, overlap_of_two, held_by_cover, longest_is, longest_from}
 use Rattle.register_interest.proofs.OrderLemmas.{cases_before, not_itself, inside, between}

@@ -1,12 +1,7 @@
 -- The longest row that holds an address, and the largest subnet with that answer (NSDI 2005, section 5.2.1).
 use Rattle.std.specs.Prelude.{◌≡◌, ℕ, zero, suc, ◌≤◌, ◌<◌, Option, Some, None}
-use Rattle.addr4.specs.Blocks.{masked_to}
-use Rattle.addr4.specs.Prefixes.{Network, IsMasked, Covers, Overlaps, Holds}
+use Rattle.addr4.specs.Prefixes.{Network, block, IsMasked, Covers, Overlaps, Holds}
 use Rattle.link_change.specs.Rows.{Rows}
-
--- the prefix of an address with so many bits
-abbrev pub block : ℕ → ℕ → ℕ → Network
-block width a n = record { address = masked_to width a n; length = n }
 
 -- the row with its prefix, or else the other
 abbrev pub keyed_or : {V : Type 0} → Network → Option V → Option (Network × V) → Option (Network × V)

@@ -1,8 +1,8 @@
 -- The search for the largest subnet.
 use Rattle.std.specs.Prelude.{ℕ, ◌≤◌, ◌<◌, Option, Some, None}
-use Rattle.addr4.specs.Prefixes.{Network}
+use Rattle.addr4.specs.Prefixes.{Network, block}
 use Rattle.link_change.specs.Rows.{Rows}
-use Rattle.register_interest.specs.Covers.{block, IsFree}
+use Rattle.register_interest.specs.Covers.{IsFree}
 
 -- how many bits the match has, or none
 abbrev pub length_of : Option Network → ℕ

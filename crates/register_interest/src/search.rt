@@ -3,7 +3,8 @@
 ghost use Rattle.std.specs.Prelude.{◌≡◌, ◌≤◌, ◌↔◌, IsTrue};
 ghost use Rattle.std.specs.FinMap as map;
 ghost use Rattle.prefix_trie.specs.Width.{width};
-ghost use Rattle.register_interest.specs.Covers.{block, longest, matched, IsFree, IsSubnet};
+ghost use Rattle.addr4.specs.Prefixes.{block};
+ghost use Rattle.register_interest.specs.Covers.{longest, matched, IsFree, IsSubnet};
 ghost use Rattle.register_interest.specs.Matches.{lent_match};
 ghost use Rattle.register_interest.specs.Search.{IsBeneath, length_of};
 

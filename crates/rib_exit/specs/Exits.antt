@@ -1,6 +1,6 @@
 -- What contracts see of the RIB's exit: the rows of `ebgp` and `ibgp`, and what is known of the next hops that rows of `ext`
 -- name. What stands on `int`, with which `ext` comes together in `fib`, is told over any rows.
-use Rattle.std.specs.Prelude.{◌≡◌, ℕ, ◌==◌, nat_lt, Bool, true, false, ◌||◌, ◌&&◌, cond, is_some, Option, Some, None}
+use Rattle.std.specs.Prelude.{◌≡◌, ℕ, ◌==◌, nat_lt, Bool, true, false, ◌||◌, ◌&&◌, cond, is_some, Option, Some, None, option_map}
 use Rattle.std.specs.Option.{option_eq}
 use Rattle.std.specs.Str.{bytes_eq}
 use Rattle.std.specs.FinMap as map
@@ -18,7 +18,7 @@ use Rattle.nexthop_resolver.specs.declared.rows.Way.{Way}
 use Rattle.nexthop_resolver.specs.Kept.{external_hop, way_of}
 use Rattle.nexthop_resolver.specs.Resolving.{Resolving, AreNamed, nothing_known, named_by}
 use Rattle.nexthop_resolver.specs.Registered.{Agrees}
-use Rattle.nexthop_resolver.specs.Left.{differing_count, turns_left}
+use Rattle.nexthop_resolver.specs.Left.{differing_count, hop_lags, turns_left}
 use Rattle.rib_split.specs.declared.split.BgpLink.{BgpLink}
 use Rattle.rib_split.specs.declared.split.BgpLink.TheVariants as sides
 use Rattle.rib_split.specs.Splitting.{Parted, split_rows}
@@ -119,6 +119,10 @@ is_busy s = is_some s.walk || (nat_lt 0 (stale_count s.known) || nat_lt 0 (diffe
 -- whether the task has work: a walk is on, a next hop is stale, or a fresh answer isn't in force
 abbrev pub has_ext_work : RibExit → Bool
 has_ext_work e = is_busy e.forwarding
+
+-- whether it holds up a prefix: the next hop of the row of `ext` there is stale, or its fresh answer isn't in force there
+abbrev pub ext_lags : RibExit → Network → Bool
+ext_lags e q = hop_lags same_way e.forwarding q (option_map external_hop (ext_rows e q))
 
 -- ---- counts
 -- how many next hops are known, and how many of them are stale

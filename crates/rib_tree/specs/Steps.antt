@@ -19,6 +19,7 @@ use Rattle.journal_text.specs.declared.entry.Entry.{Entry}
 use Rattle.journal_text.specs.Journals.{Journaled, Adds}
 use Rattle.rib_tree.specs.BranchSteps.{new_branch, fed_branch, lost_branch, loss_entries, welded_branch, swept_branch, overdue_of}
 use Rattle.loss_chain.specs.declared.owner.Owner.TheVariants.{Origin}
+use Rattle.loss_chain.specs.Held.{has_row, has_over}
 use Rattle.loss_chain.specs.Steps.{weld_entries, table_of}
 use Rattle.rib_tree.specs.Trees.{Treed, branch_of, put_branch, int_rows, IsFull, IsFullBut}
 use Rattle.rib_tree.specs.Falls.{FallsTree, way_of_sweep}
@@ -74,6 +75,15 @@ has_tree_turn t ReadRib = false
 has_tree_turn t Red = false
 has_tree_turn t Ext = false
 has_tree_turn t (Out k) = false
+
+-- whether the lost table of a task still has a prefix, and one that holds an address
+abbrev pub tree_lags : Treed → Task → Network → Bool
+tree_lags t (Rdel proto n) p = has_row (table_of n (branch_of proto t).tables.deletions) p
+tree_lags t other p = false
+
+abbrev pub tree_over : Treed → Task → ℕ → Bool
+tree_over t (Rdel proto n) a = has_over (table_of n (branch_of proto t).tables.deletions) a
+tree_over t other a = false
 
 -- a turn of a task of the tree
 abbrev pub TurnedTree : Treed → Treed → Task → Option (Change Interior) → List (Entry Value) → Type 0

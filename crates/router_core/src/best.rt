@@ -102,6 +102,16 @@ impl<'a> Branches for Lent<'a> {
         self.resolved(branch, p)
     }
 
+    fn has(&self, branch: u8, p: &Prefix) -> bool {
+        if branch == 0 {
+            return self.declared.speaker().is_some() && self.redist.has(&self.tree.row(*p), *p);
+        }
+        let Some(chain) = self.chain(branch) else {
+            return false;
+        };
+        self.hops.has(u32::from(branch), chain.next_hop(*p), *p)
+    }
+
     fn next_candidate(&self, branch: u8, after: &Place) -> Option<Prefix> {
         if branch == 0 {
             return self.redist.next_candidate(self.tree, *after);

@@ -29,6 +29,7 @@ mod peers;
 mod router;
 mod routes;
 mod sessions;
+mod settled;
 mod steps;
 mod turns;
 mod updates;

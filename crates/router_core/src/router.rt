@@ -162,6 +162,21 @@ impl Core {
         &self.network.rib
     }
 
+    /// Whether a prefix is settled. The first task, in the order of an idle, whose work holds it up, which then has work; None exactly
+    /// where none does, and then its rows in `best`, in `fib` and in each `adv.J.S` are what the live state alone asks for. Takes no
+    /// memory.
+    pub fn settled(&self, p: Prefix) -> Option<Task>
+        requires good { self.now.failed ≡ false }
+        requires stands { CoreStands self.now }
+        ensures first { result ≡ first_held self.now.moment p }
+        ensures none { IfNone result ((task : Task) → holds_up_at task self.now.moment p ≡ false) }
+        ensures settled { IfNone result (IsSettledAt self.now.moment p) }
+        ensures works { IfSome result (λ task. has_work task self.now.moment ≡ true) }
+    {
+        the_first_task_tells();
+        self.network.first_held(p)
+    }
+
     /// How many rows a link has; None exactly where it isn't live. Memory for want of memory: each row of `filt.K` is judged.
     /// After want of memory the core answers nothing else.
     pub fn count(&self, link: Link) -> Result<Option<u128>, Memory>

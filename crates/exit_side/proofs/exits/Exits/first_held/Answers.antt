@@ -1,0 +1,14 @@
+use Rattle.std.proofs.Common.{◌≡◌, ◌∙◌, ap, sym}
+use Rattle.exit_side.specs.Tasks.{first_lagging}
+use Rattle.exit_side.specs.Exits.{Exited}
+use Rattle.exit_side.proofs.TaskLemmas.{first_that_lags, have_readers, entries_of}
+use Rattle.exit_side.proofs.exits.Exits.first_held.Goals as goal
+
+pub first_lagging-requires : goal.first_lagging-requires
+first_lagging-requires c = record { live = have_readers c.args.self.now c.self.inside.profile c.self.inside.queue c.self.inside.chains c.self.view_is c.requires.sound }
+
+pub returns : goal.returns
+returns c best is =
+    let m = c.self.inside.chains in
+    c.first_lagging.ensures.first best is ∙ ap (λ (e : Exited). first_lagging e.queue best c.args.p m.entries) c.self.view_is
+    ∙ first_that_lags c.args.self.now best c.args.p m.entries (entries_of c.args.self.now c.self.inside.profile c.self.inside.queue m c.self.view_is c.first_lagging.ensures.ordered)
