@@ -16,7 +16,7 @@ use Rattle.rib_tree.specs.Trees.{branch_of, AreNumbered}
 use Rattle.rib_tree.specs.Steps.{new_tree}
 use Rattle.rib_tree.specs.Laws.{ANewTreeStands}
 use Rattle.router_core.specs.Moments.{Moment, Cored, first_moment, best_of, Gives}
-use Rattle.router_core.specs.Laws.{LinksAtRestAreExact}
+use Rattle.router_core.specs.Laws.{RowsAtRestAreExact}
 use Rattle.router_core.specs.Scratch.{IsExactAtRest}
 use Rattle.router_core.specs.Stands.{Stands, AllHaveExits, HaveReaders, CoreStands, Claim, Claims, EachChain, EachPeer, InteriorTree, OneSpeaker, Registered, SameCount, EachResolver, SameResolvers, AnswersAgree, HopsCounted, NoStrangers, SmallNumbers, EachRow, EachExit, QueueLeads, ExitsRead, PlainExits, OneSender, SameSessions, OneReader, ExternalExit, ExternalAgrees, ExternalStands, NothingOwn, NothingExternal, StandsAt, ExitsAt, Tie, Ties, here}
 use Rattle.register_interest.specs.Interests.{interest_cmp}
@@ -99,8 +99,8 @@ work_prints m m' most stands printable few live fits =
       exits = subst (λ (d : Declaration). ArePrintableExits (neighbours d) m'.exits) (sym (ap (λ (l : LiveState). l.declared) live)) x.readers.exits;
     }
 
--- each link that no work holds up is the one from scratch
-pub exact_after : LinksAtRestAreExact → (m' : Moment) (k : ℕ) → CoreStands (cored m' k) → IsExactAtRest m'
+-- each row that no work holds up is the one from scratch
+pub exact_after : RowsAtRestAreExact → (m' : Moment) (k : ℕ) → CoreStands (cored m' k) → IsExactAtRest m'
 exact_after law m' k after = law m' after.stands after.exits
 
 -- what lookups ask for

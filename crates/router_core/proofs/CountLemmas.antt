@@ -1,5 +1,6 @@
 -- How many turns are left, by the table of phases: what a turn makes of it, and what is over.
 use Rattle.std.proofs.Common.{◌≡◌, ℕ, ◌+◌, ◌*◌, ◌≤◌, false, List, [], ◌∷◌, length, Option, None, Some, is_some, refl, ap, arith}
+use Rattle.std.specs.List.{AllByRecursion}
 use Rattle.std.specs.FinMap as tables
 use Rattle.std.specs.Cmp.{nat_cmp_total}
 use Rattle.rib_route.specs.declared.Proto.{Proto}
@@ -34,7 +35,7 @@ use Rattle.router_core.specs.Moments.{Moment, most_unread, candidates_of}
 use Rattle.router_core.specs.Stands.{Stands, InteriorTree, EachChain}
 use Rattle.live_state.specs.Lives.{LiveState}
 use Rattle.router_core.specs.Lives.{live_state}
-use Rattle.router_core.specs.Phases.{tree_lost, tree_beyond, counts, beyonds, unread_if, best_beyond, external_beyond, changes_left, own_waiting, own_sends_by, own_sends, sends_from_red, fin_sends}
+use Rattle.router_core.specs.Phases.{all_phases, tree_lost, tree_beyond, counts, beyonds, unread_if, best_beyond, external_beyond, changes_left, own_waiting, own_sends_by, own_sends, sends_from_red, fin_sends}
 use Rattle.router_core.specs.Turns.{phase_bound, rise_bound, IsOver}
 use Rattle.router_core.proofs.BeyondLemmas.{tree_counted, tree_within, external_counted}
 use Rattle.router_core.proofs.QueueLemmas.{queue_chains}
@@ -42,6 +43,17 @@ use Rattle.router_core.proofs.ReadingLemmas.{unread_most, most_unread_is, best_c
 use Rattle.router_core.proofs.SpendLemmas.{Spent, few_sent}
 use Rattle.router_core.proofs.MostLemmas.{left_below as hops_below, walks_below, sends_below, own_sends_below, fin_sends_below}
 use Rattle.hop_side.proofs.LawLemmas.{none_left_without_work}
+
+-- what holds of each phase in the list of an idle holds of any
+pub each_phase : (P : Phase → Type 0) → AllByRecursion P all_phases → (r : Phase) → P r
+each_phase P all Rdel = all.0
+each_phase P all Red = all.1.0
+each_phase P all Del = all.1.1.0
+each_phase P all Fin = all.1.1.1.0
+each_phase P all Nh = all.1.1.1.1.0
+each_phase P all ReadRib = all.1.1.1.1.1.0
+each_phase P all Out = all.1.1.1.1.1.1.0
+each_phase P all Ext = all.1.1.1.1.1.1.1.0
 
 -- ---- what a turn spends of the stage of a protocol's loss
 -- the walk of redistribution has no more candidates

@@ -15,7 +15,7 @@ use Rattle.loss_chain.proofs.TableLemmas.{equal_by}
 use Rattle.rib_route.specs.declared.Proto.{Proto}
 use Rattle.addr4.specs.Prefixes.{Network}
 use Rattle.event_text.specs.declared.event.Event.{Event}
-use Rattle.event_text.specs.declared.event.Event.TheVariants.{Nothing, Local, Peer, Up, Down, Bgp, FilterIn, FilterOut, RouteAdd, RouteDel, Lose, Redist, Cover, Idle, Work, Ask, Show}
+use Rattle.event_text.specs.declared.event.Event.TheVariants.{Nothing, Local, Peer, Up, Down, Bgp, FilterIn, FilterOut, RouteAdd, RouteDel, Lose, Redist, Cover, Settled, Idle, Work, Ask, Show}
 use Rattle.event_text.specs.declared.declared.DeclaredPeer.{DeclaredPeer}
 use Rattle.event_text.specs.Declarations.{Declaration, peer_at, words_of, with_session, without_session, begun_at, ended_at}
 use Rattle.event_text.proofs.Sessions.{KeepsWords, begun_words, ended_words}
@@ -212,6 +212,7 @@ module _ (m m' : Moment) (all : AllHaveExits m) where
       (λ k. ap (λ (x : Moment). is_some (exit_at k x.exits)) is.1.after ∙ first_same (tree_overdue proto m.tree) m is.1.first is.1.room is.1.runs k)
   event_exits (Redist proto on) said turns declared is = by_same m m' all (λ j up. subst (IsUpIn j) declared up) (exits_same m m' (ap (λ (x : Moment). x.exits) is.2))
   event_exits (Cover addr) said turns declared is = stays is.1
+  event_exits (Settled p) said turns declared is = stays is.1
   event_exits Idle said turns declared is = by_same m m' all (λ j up. subst (IsUpIn j) declared up) (phases_same all_phases m is.inner turns m' is.runs)
   event_exits (Work task n) said turns declared is = by_same m m' all (λ j up. subst (IsUpIn j) declared up) (turns_same turns task m is.inner m' is.taken)
   event_exits (Ask link p) said turns declared is = stays is.2

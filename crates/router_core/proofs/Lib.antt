@@ -5,7 +5,10 @@ mod ShownRows
 pub mod RegionLemmas
 pub mod StandLemmas
 pub mod ForwardLemmas
+pub mod TableLemmas
 pub mod ScratchLemmas
+pub mod SettledLemmas
+pub mod HeldLemmas
 pub mod KnownLemmas
 pub mod StaleLemmas
 pub mod PeerTurns

@@ -1,7 +1,7 @@
 -- The next task of a phase.
 use Rattle.std.proofs.Common.{◌≡◌, ℕ, Bool, true, false, length, cond, List, [], ◌∷◌, ◌++◌, map, Option, Some, None, is_some, refl, sym, ap, subst, ◌∙◌}
 use Rattle.std.specs.Prelude.{IfNone, option_map}
-use Rattle.hop_side.specs.Resolvers.{Beyonds, has_hop_work, left_in}
+use Rattle.hop_side.specs.Resolvers.{Beyonds, has_hop_work, hop_holds_up, left_in}
 use Rattle.std.specs.List.{AllByRecursion, find}
 use Rattle.std.specs.FinMap as tables
 use Rattle.bgp_attr.specs.declared.attrs.Attrs.{Attrs}
@@ -16,7 +16,7 @@ use Rattle.loss_chain.proofs.ListLemmas.{all_any, all_so, all_made, all_flat}
 use Rattle.loss_chain.proofs.TableLemmas.{all_tables}
 use Rattle.link_region.proofs.RegionLemmas.{by_bool}
 use Rattle.in_chain.specs.Chains.{Chained}
-use Rattle.peer_side.specs.Peers.{chain_tasks, has_peer_work}
+use Rattle.peer_side.specs.Peers.{chain_tasks, has_peer_work, peer_lags}
 use Rattle.peer_side.proofs.TaskLemmas.{all_working, first_none}
 use Rattle.rib_tree.specs.Branches.{Branch}
 use Rattle.rib_tree.specs.BranchSteps.{branch_tasks}
@@ -24,7 +24,7 @@ use Rattle.rib_tree.specs.Trees.{Treed, branch_of, tree_tasks}
 use Rattle.rib_tree.proofs.RestLemmas.{all_tree}
 use Rattle.router_core.specs.declared.router.Phase.{Phase}
 use Rattle.router_core.specs.declared.router.Phase.TheVariants.{Rdel, Red, Del, Fin, Nh, ReadRib, Out, Ext}
-use Rattle.router_core.specs.Moments.{Moment}
+use Rattle.router_core.specs.Moments.{Moment, best_of}
 use Rattle.router_core.specs.Stands.{Stands, InteriorTree}
 use Rattle.addr4.specs.Prefixes.{Network}
 use Rattle.bgp_attr.specs.declared.route.Route.{Route}
@@ -33,10 +33,11 @@ use Rattle.out_chain.specs.Chains.{is_unread}
 use Rattle.pass_core.specs.Passed.{Walked}
 use Rattle.redist.specs.declared.protos.Protos.{Protos}
 use Rattle.rib_exit.specs.Exits.{has_ext_work}
-use Rattle.exit_side.specs.Exits.{has_exit_work, left_in as exits_left_in}
+use Rattle.exit_side.specs.Exits.{has_exit_work, exit_holds_up, left_in as exits_left_in}
 use Rattle.router_core.specs.Phases.{beyonds, best_beyond, unread_if, counts}
 use Rattle.router_core.proofs.CountLemmas.{over_none}
 use Rattle.router_core.specs.Turns.{phase_of, phase_tasks, next_task, has_work}
+use Rattle.router_core.specs.Holding.{next_hop_at, holds_up_at, held_in}
 
 -- ---- each task is of its phase: a line for each phase
 pub all_of_phase : (r : Phase) (m : Moment) → AllByRecursion (λ t. phase_of t ≡ r) (phase_tasks r m)
@@ -71,33 +72,47 @@ IsOfPeers Del = Unit {0}
 IsOfPeers Fin = Unit {0}
 IsOfPeers other = ⊥
 
-of_peers : (m : Moment) (t : Task) (r : Phase) → IsOfPeers r → phase_of t ≡ r → has_peer_work m.chains t ≡ has_work t m
-of_peers m (tasks.Del k s) r of is = refl
-of_peers m (tasks.Fin k) r of is = refl
-of_peers m (tasks.Nh k) r of is = absurd (subst IsOfPeers (sym is) of)
-of_peers m tasks.ReadRib r of is = absurd (subst IsOfPeers (sym is) of)
-of_peers m (tasks.Out k) r of is = absurd (subst IsOfPeers (sym is) of)
-of_peers m (tasks.Rdel proto n) r of is = absurd (subst IsOfPeers (sym is) of)
-of_peers m tasks.Red r of is = absurd (subst IsOfPeers (sym is) of)
-of_peers m tasks.Ext r of is = absurd (subst IsOfPeers (sym is) of)
+-- what is told of the tasks of peers, is told of those of such a phase
+module _ (f g : Task → Bool) (losses : (k s : ℕ) → f (tasks.Del k s) ≡ g (tasks.Del k s)) (walks : (k : ℕ) → f (tasks.Fin k) ≡ g (tasks.Fin k)) (s : Phase) (peers : IsOfPeers s) where
+  of_peers : (t : Task) → phase_of t ≡ s → f t ≡ g t
+  of_peers (tasks.Del k n) is = losses k n
+  of_peers (tasks.Fin k) is = walks k
+  of_peers (tasks.Nh k) is = absurd (subst IsOfPeers (sym is) peers)
+  of_peers tasks.ReadRib is = absurd (subst IsOfPeers (sym is) peers)
+  of_peers (tasks.Out k) is = absurd (subst IsOfPeers (sym is) peers)
+  of_peers (tasks.Rdel proto n) is = absurd (subst IsOfPeers (sym is) peers)
+  of_peers tasks.Red is = absurd (subst IsOfPeers (sym is) peers)
+  of_peers tasks.Ext is = absurd (subst IsOfPeers (sym is) peers)
+
+  found_of_peers : (v : Moment) → find f (phase_tasks s v) ≡ find g (phase_tasks s v)
+  found_of_peers v = found_same f g (phase_tasks s v) (all_so (λ t. phase_of t ≡ s) (λ t. f t ≡ g t) of_peers (phase_tasks s v) (all_of_phase s v))
 
 pub next_of_peers : (s r : Phase) (m v : Moment) (first : Option Task) → IsOfPeers s → r ≡ s → v ≡ m → first ≡ find (has_peer_work v.chains) (phase_tasks s v) → first ≡ next_task r m
 next_of_peers s r m v first peers is view found =
-    found ∙ found_same (has_peer_work v.chains) (λ t. has_work t v) (phase_tasks s v) (all_so (λ t. phase_of t ≡ s) (λ t. has_peer_work v.chains t ≡ has_work t v) (λ t of. of_peers v t s peers of) (phase_tasks s v) (all_of_phase s v))
-    ∙ ap (next_task s) view ∙ ap (λ (e : Phase). next_task e m) (sym is)
+    found ∙ found_of_peers (has_peer_work v.chains) (λ t. has_work t v) (λ k n. refl) (λ k. refl) s peers v ∙ ap (next_task s) view ∙ ap (λ (e : Phase). next_task e m) (sym is)
+
+pub held_of_peers : (s r : Phase) (m v : Moment) (p : Network) (first : Option Task) → IsOfPeers s → r ≡ s → v ≡ m → first ≡ find (λ t. peer_lags v.chains t p) (phase_tasks s v) → first ≡ held_in r m p
+held_of_peers s r m v p first peers is view found =
+    found ∙ found_of_peers (λ t. peer_lags v.chains t p) (λ t. holds_up_at t v p) (λ k n. refl) (λ k. refl) s peers v ∙ ap (λ (n : Moment). held_in s n p) view ∙ ap (λ (e : Phase). held_in e m p) (sym is)
 
 -- ---- the next hops
-found_hop : (f : ℕ → Bool) (g : Task → Bool) (ks : List ℕ) → ((k : ℕ) → g (tasks.Nh k) ≡ f k) → option_map (λ k. tasks.Nh k) (find f ks) ≡ find g (map (λ k. tasks.Nh k) ks)
-found_hop f g [] same = refl
-found_hop f g (k ∷ ks) same = by_test (f k) (found_hop f g ks same) ∙ ap (λ (b : Bool). cond b (Some (tasks.Nh k)) (find g (map (λ n. tasks.Nh n) ks))) (sym (same k))
+-- the first number of which something is told gives the first task of which it is
+found_by : (task : ℕ → Task) (f : ℕ → Bool) (g : Task → Bool) (ks : List ℕ) → ((k : ℕ) → g (task k) ≡ f k) → option_map task (find f ks) ≡ find g (map task ks)
+found_by task f g [] same = refl
+found_by task f g (k ∷ ks) same = by_test (f k) (found_by task f g ks same) ∙ ap (λ (b : Bool). cond b (Some (task k)) (find g (map task ks))) (sym (same k))
   where
-    by_test : (b : Bool) → option_map (λ n. tasks.Nh n) (find f ks) ≡ find g (map (λ n. tasks.Nh n) ks) → option_map (λ n. tasks.Nh n) (cond b (Some k) (find f ks)) ≡ cond b (Some (tasks.Nh k)) (find g (map (λ n. tasks.Nh n) ks))
+    by_test : (b : Bool) → option_map task (find f ks) ≡ find g (map task ks) → option_map task (cond b (Some k) (find f ks)) ≡ cond b (Some (task k)) (find g (map task ks))
     by_test true rest = refl
     by_test false rest = rest
 
 pub next_of_hops : (r : Phase) (m v : Moment) (first : Option ℕ) (task : Option Task) → r ≡ Nh → v ≡ m → first ≡ find (has_hop_work v.hops) (tables.keys v.hops) → task ≡ option_map (λ k. tasks.Nh k) first → task ≡ next_task r m
 next_of_hops r m v first task is view found made =
-    made ∙ ap (option_map (λ k. tasks.Nh k)) found ∙ found_hop (has_hop_work v.hops) (λ t. has_work t v) (tables.keys v.hops) (λ k. refl) ∙ ap (next_task Nh) view ∙ ap (λ (e : Phase). next_task e m) (sym is)
+    made ∙ ap (option_map (λ k. tasks.Nh k)) found ∙ found_by (λ k. tasks.Nh k) (has_hop_work v.hops) (λ t. has_work t v) (tables.keys v.hops) (λ k. refl) ∙ ap (next_task Nh) view ∙ ap (λ (e : Phase). next_task e m) (sym is)
+
+pub held_of_hops : (r : Phase) (m v : Moment) (p : Network) (first : Option ℕ) (task : Option Task) → r ≡ Nh → v ≡ m → first ≡ find (λ k. hop_holds_up v.hops k p (next_hop_at v k p)) (tables.keys v.hops) → task ≡ option_map (λ k. tasks.Nh k) first → task ≡ held_in r m p
+held_of_hops r m v p first task is view found made =
+    made ∙ ap (option_map (λ k. tasks.Nh k)) found ∙ found_by (λ k. tasks.Nh k) (λ k. hop_holds_up v.hops k p (next_hop_at v k p)) (λ t. holds_up_at t v p) (tables.keys v.hops) (λ k. refl)
+    ∙ ap (λ (n : Moment). held_in Nh n p) view ∙ ap (λ (e : Phase). held_in e m p) (sym is)
 
 pub none_of_hops : (r : Phase) (m v : Moment) (first : Option ℕ) (task : Option Task) → r ≡ Nh → v ≡ m → IfNone first ((bs : Beyonds) → left_in bs v.hops ≡ 0) → task ≡ option_map (λ k. tasks.Nh k) first → IfNone task (counts m r ≡ 0)
 none_of_hops r m v None task is view none made =
@@ -105,17 +120,14 @@ none_of_hops r m v None task is view none made =
 none_of_hops r m v (Some k) task is view none made = subst (λ (o : Option Task). IfNone o (counts m r ≡ 0)) (sym made) tt
 
 -- ---- what reads `best`
-found_exit : (f : ℕ → Bool) (g : Task → Bool) (ks : List ℕ) → ((k : ℕ) → g (tasks.Out k) ≡ f k) → option_map (λ k. tasks.Out k) (find f ks) ≡ find g (map (λ k. tasks.Out k) ks)
-found_exit f g [] same = refl
-found_exit f g (k ∷ ks) same = by_test (f k) (found_exit f g ks same) ∙ ap (λ (b : Bool). cond b (Some (tasks.Out k)) (find g (map (λ n. tasks.Out n) ks))) (sym (same k))
-  where
-    by_test : (b : Bool) → option_map (λ n. tasks.Out n) (find f ks) ≡ find g (map (λ n. tasks.Out n) ks) → option_map (λ n. tasks.Out n) (cond b (Some k) (find f ks)) ≡ cond b (Some (tasks.Out k)) (find g (map (λ n. tasks.Out n) ks))
-    by_test true rest = refl
-    by_test false rest = rest
-
 pub next_of_exits : (r : Phase) (m v : Moment) (first : Option ℕ) (task : Option Task) → r ≡ Out → v ≡ m → first ≡ find (has_exit_work v.exits) (tables.keys v.exits.chains) → task ≡ option_map (λ k. tasks.Out k) first → task ≡ next_task r m
 next_of_exits r m v first task is view found made =
-    made ∙ ap (option_map (λ k. tasks.Out k)) found ∙ found_exit (has_exit_work v.exits) (λ t. has_work t v) (tables.keys v.exits.chains) (λ k. refl) ∙ ap (next_task Out) view ∙ ap (λ (e : Phase). next_task e m) (sym is)
+    made ∙ ap (option_map (λ k. tasks.Out k)) found ∙ found_by (λ k. tasks.Out k) (has_exit_work v.exits) (λ t. has_work t v) (tables.keys v.exits.chains) (λ k. refl) ∙ ap (next_task Out) view ∙ ap (λ (e : Phase). next_task e m) (sym is)
+
+pub held_of_exits : (r : Phase) (m v : Moment) (p : Network) (first : Option ℕ) (task : Option Task) → r ≡ Out → v ≡ m → first ≡ find (λ k. exit_holds_up v.exits (best_of m) k p) (tables.keys v.exits.chains) → task ≡ option_map (λ k. tasks.Out k) first → task ≡ held_in r m p
+held_of_exits r m v p first task is view found made =
+    made ∙ ap (option_map (λ k. tasks.Out k)) (found ∙ ap (λ (n : Moment). find (λ k. exit_holds_up n.exits (best_of m) k p) (tables.keys n.exits.chains)) view)
+    ∙ found_by (λ k. tasks.Out k) (λ k. exit_holds_up m.exits (best_of m) k p) (λ t. holds_up_at t m p) (tables.keys m.exits.chains) (λ k. refl) ∙ ap (λ (e : Phase). held_in e m p) (sym is)
 
 pub none_of_exits : (r : Phase) (m v : Moment) (first : Option ℕ) (task : Option Task) → r ≡ Out → v ≡ m → IfNone first ((beyond : Option Network → ℕ) → exits_left_in beyond v.exits ≡ 0) → task ≡ option_map (λ k. tasks.Out k) first → IfNone task (counts m r ≡ 0)
 none_of_exits r m v None task is view none made =
@@ -132,6 +144,9 @@ none_of_reader r m task is next = subst (λ (o : Option Task). IfNone o (counts 
 -- ---- the phases of one task
 pub next_of_one : (s r : Phase) (m : Moment) (task : Option Task) → r ≡ s → task ≡ next_task s m → task ≡ next_task r m
 next_of_one s r m task is next = next ∙ ap (λ (e : Phase). next_task e m) (sym is)
+
+pub held_of_one : (s r : Phase) (m : Moment) (p : Network) (task : Option Task) → r ≡ s → task ≡ held_in s m p → task ≡ held_in r m p
+held_of_one s r m p task is held = held ∙ ap (λ (e : Phase). held_in e m p) (sym is)
 
 pub none_of_own : (r : Phase) (m : Moment) (task : Option Task) → r ≡ Red → task ≡ next_task Red m → IfNone task (counts m r ≡ 0)
 none_of_own r m task is next = subst (λ (o : Option Task). IfNone o (counts m r ≡ 0)) (sym next) (by_walk m.redist.walk refl)

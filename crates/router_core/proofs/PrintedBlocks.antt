@@ -1,5 +1,5 @@
 -- What each event says can be printed, and so can what stands behind it.
-use Rattle.std.proofs.Common.{◌≡◌, ℕ, ◌+◌, ◌<◌, ◌≤◌, ◌^◌, Bool, true, false, cond, not, ◌==◌, ◌&&◌, List, [], ◌∷◌, ◌++◌, map, Option, Some, None, IfSome, refl, sym, ap, subst, ◌∙◌, arith}
+use Rattle.std.proofs.Common.{◌≡◌, ℕ, ◌+◌, ◌<◌, ◌≤◌, ◌^◌, Bool, true, false, cond, not, ◌==◌, ◌&&◌, List, [], ◌∷◌, ◌++◌, map, Option, Some, None, IsSome, IfSome, is_some, nat_eq, refl, sym, ap, subst, ◌∙◌, arith}
 use Rattle.std.specs.Prelude.{filter}
 use Rattle.std.specs.List.{AllByRecursion}
 use Rattle.std.proofs.lemmas.List.Elements.{All-nil}
@@ -17,7 +17,7 @@ use Rattle.bgp_wire.proofs.ReadableLaws.{Every, all_every, every_filter}
 use Rattle.bgp_wire.proofs.ReadableMessages.{read_is_readable}
 use Rattle.event_text.specs.declared.declared.DeclaredPeer.{DeclaredPeer}
 use Rattle.event_text.specs.declared.event.Event.{Event}
-use Rattle.event_text.specs.declared.event.Event.TheVariants.{Nothing, Local, Peer, Up, Down, Bgp, FilterIn, FilterOut, RouteAdd, RouteDel, Lose, Redist, Cover, Idle, Work, Ask, Show}
+use Rattle.event_text.specs.declared.event.Event.TheVariants.{Nothing, Local, Peer, Up, Down, Bgp, FilterIn, FilterOut, RouteAdd, RouteDel, Lose, Redist, Cover, Settled, Idle, Work, Ask, Show}
 use Rattle.event_text.specs.Declarations.{peer_at}
 use Rattle.event_text.specs.WellFormed.{IsWellFormed}
 use Rattle.link_change.specs.Rows.{Rows, is_empty_map}
@@ -27,11 +27,13 @@ use Rattle.rib_route.specs.declared.rows.Interior.{Interior}
 use Rattle.prefix_trie.specs.Width.{width}
 use Rattle.register_interest.specs.Covers.{matched, longest, IsLongest}
 use Rattle.register_interest.proofs.CoverLemmas.{longest_is}
-use Rattle.journal_text.specs.Names.{IsNameNumber, IsNamed}
+use Rattle.journal_text.specs.Names.{IsNameNumber, IsNamed, IsNamedTask}
 use Rattle.journal_text.specs.declared.entry.Entry.TheVariants as entries
 use Rattle.journal_text.specs.declared.line.Line.{Line}
 use Rattle.journal_text.specs.declared.line.Line.TheVariants as lines
 use Rattle.journal_text.specs.declared.link.Link.{Link}
+use Rattle.journal_text.specs.declared.link.Task.{Task}
+use Rattle.journal_text.specs.declared.link.Task.TheVariants as tasks
 use Rattle.journal_text.specs.declared.link.Link.TheVariants as links
 use Rattle.journal_text.specs.declared.value.Value.{Value}
 use Rattle.journal_check.specs.Laws.{IsPrefix, IsMatch}
@@ -46,6 +48,10 @@ use Rattle.link_region.specs.declared.regions.Region.{Region}
 use Rattle.link_region.specs.declared.regions.Region.TheVariants.{Inward, Resolved, Decided, InteriorRoutes, Redistributed, Forward, External, Outward}
 use Rattle.link_region.specs.Regions.{region_of}
 use Rattle.loss_chain.proofs.ListLemmas.{all_both}
+use Rattle.loss_chain.proofs.TableLemmas.{equal_by}
+use Rattle.loss_chain.specs.Lost.{Lost}
+use Rattle.loss_chain.specs.Steps.{table_of}
+use Rattle.link_region.proofs.RegionLemmas.{by_bool}
 use Rattle.in_chain.specs.Chains.{Chained}
 use Rattle.policy_rules.specs.declared.rule.Rule.{Rule}
 use Rattle.policy_rules.specs.Ranges.{AreRules, IsRule}
@@ -57,9 +63,9 @@ use Rattle.nexthop_resolver.specs.declared.rows.Metric.{Metric}
 use Rattle.nexthop_resolver.specs.Resolving.{Resolving, nothing_known}
 use Rattle.bgp_attr.specs.declared.route.Route.{Route}
 use Rattle.router_core.specs.Bests.{best_links, own_links}
-use Rattle.hop_side.specs.Resolvers.{resolver_at, link_by, hop_links, metric_rows}
+use Rattle.hop_side.specs.Resolvers.{resolver_at, busy_by, link_by, hop_links, metric_rows}
 use Rattle.journal_laws.proofs.PrintedHops.{AllHaveMetrics, rows_print, metrics_put}
-use Rattle.peer_side.specs.Peers.{chain_at, filt_by, filt_at, overdue_at, links_by}
+use Rattle.peer_side.specs.Peers.{chain_at, has_turn_in, filt_by, filt_at, overdue_at, links_by}
 use Rattle.journal_text.specs.Links.{owner_of}
 use Rattle.peer_side.proofs.PutLemmas.{put_each}
 use Rattle.rib_tree.specs.Branches.{Branch}
@@ -75,16 +81,16 @@ use Rattle.rib_exit.specs.Exits.{ext_rows, fib_over}
 use Rattle.router_core.specs.Moments.{Moment, parts, tree_by, forward_by, own_of, best_of, read_of, read_by, read_links, router_links, rules_to, with_exits}
 use Rattle.router_core.specs.Printable.{IsPrintableMoment}
 use Rattle.live_state.specs.Messages.{plain, Says, changes_of, announced_with, withdrawn_from}
-use Rattle.router_core.specs.Stands.{Stands, EachChain, InteriorTree, HopsCounted, EachExit, QueueLeads, ExitsRead, PlainExits, OneSender, OneReader, ExternalStands}
+use Rattle.router_core.specs.Stands.{ExitsAt, Stands, EachChain, SmallNumbers, SameResolvers, SameSessions, InteriorTree, HopsCounted, EachExit, QueueLeads, ExitsRead, PlainExits, OneSender, OneReader, ExternalStands}
 use Rattle.router_core.specs.Phases.{all_phases}
-use Rattle.router_core.specs.Turns.{journal_lines, FallsRoute}
-use Rattle.router_core.specs.Blocks.{Just, begin_line, BySpeaker, Begins, Loses, Declares, Refilters, Redirects, DropsRouteIf, LosesProtocol, CoversAddress, Hears, BeginsIf, EndsIf, HearsIf, answer_lines, Shows, ByPeer, IsBlock}
+use Rattle.router_core.specs.Turns.{has_work, journal_lines, FallsRoute}
+use Rattle.router_core.specs.Blocks.{Just, begin_line, BySpeaker, Begins, Loses, Declares, Refilters, Redirects, DropsRouteIf, LosesProtocol, CoversAddress, TellsSettled, Hears, BeginsIf, EndsIf, HearsIf, answer_lines, Shows, ByPeer, IsBlock}
 use Rattle.router_core.proofs.StandLemmas.{peer_of, registered_rows}
 use Rattle.rib_tree.proofs.TreeParts.{put_all}
 use Rattle.std.specs.FinMap as tables
 use Rattle.fanout_queue.specs.Readers.{unread_by, read_rows}
 use Rattle.out_chain.specs.Chains.{OutChained, outf_rows}
-use Rattle.exit_side.specs.Exits.{chain_at as exit_at, links_by as exit_links_by}
+use Rattle.exit_side.specs.Exits.{chain_at as exit_at, links_by as exit_links_by, busy_by as exit_busy}
 use Rattle.exit_laws.specs.Printable.{AreBestRows, ArePrintableExits}
 use Rattle.exit_laws.proofs.KeptLemmas.{rows_read, edit_is_printed, join_is_printed}
 use Rattle.exit_laws.proofs.PrintLemmas.{beginning_is_printed, end_is_printed}
@@ -112,6 +118,16 @@ readers_fit peers m stands exits = record {
   reads = stands.own OneReader;
   external = stands.own ExternalStands;
 }
+
+second_true : (a b : Bool) → (a && b) ≡ true → b ≡ true
+second_true true b e = e
+second_true false b e = absurd (let clash : false ≡ true = e in cc)
+
+-- what holds of all losses holds of one whose stage stands
+stage_there : {R : Type 0} (P : ℕ → Type 0) (n : ℕ) (ds : List (Lost R)) → is_some (table_of n ds) ≡ true → AllByRecursion (λ (d : Lost R). P d.number) ds → P n
+stage_there P n [] some all = absurd (let clash : false ≡ true = some in cc)
+stage_there {R} P n (d ∷ ds) some all = by_bool (nat_eq d.number n) (λ b. is_some (cond b (Some d.rows) (table_of n ds)) ≡ true → P n)
+    (λ same _. subst P (equal_by d.number n same) all.0) (λ _ is. stage_there P n ds is all.1) some
 
 module _ (m : Moment) (stands : Stands m) (printable : IsPrintableMoment m) where
   abbrev Printed : List Line → Type 0
@@ -193,6 +209,45 @@ module _ (m : Moment) (stands : Stands m) (printable : IsPrintableMoment m) wher
           let is_longest : IsLongest width (int_rows m.tree) addr (Some r) = subst (IsLongest width (int_rows m.tree) addr) (sym is) (longest_is width (int_rows m.tree) addr) in
           let low = is_longest.1.from in
           (is_longest.0, omega (arith, low, fits))
+
+  -- ---- names of tasks that have work
+  has_chain : (k : ℕ) → IsSome (chain_at k m.chains) → IsNameNumber k
+  has_chain k some = let small = stands.own SmallNumbers k some in let most = small.1 in (small.0, omega (arith, most))
+
+  task_named : (task : Task) → has_work task m ≡ true → IsNamedTask task
+  task_named (tasks.Rdel proto n) works = stage_there IsNameNumber n (branch_of proto m.tree).tables.deletions works (printable.interior proto).losses
+  task_named tasks.Red works = tt
+  task_named (tasks.Del k s) works = of_chain (chain_at k m.chains) refl works
+    where
+      of_chain : (o : Option Chained) → chain_at k m.chains ≡ o → has_turn_in (tasks.Del k s) o ≡ true → IsNameNumber k × IsNameNumber s
+      of_chain None at e = absurd (let clash : false ≡ true = e in cc)
+      of_chain (Some c) at e = (has_chain k (ap is_some at), stage_there IsNameNumber s c.incoming.tables.deletions (second_true (k == c.incoming.number) _ e) (printable.chains k c at).tables.losses)
+  task_named (tasks.Fin k) works = of_chain (chain_at k m.chains) refl works
+    where
+      of_chain : (o : Option Chained) → chain_at k m.chains ≡ o → has_turn_in (tasks.Fin k) o ≡ true → IsNameNumber k
+      of_chain None at e = absurd (let clash : false ≡ true = e in cc)
+      of_chain (Some c) at e = has_chain k (ap is_some at)
+  task_named (tasks.Nh k) works = of_hops (resolver_at k m.hops) refl works
+    where
+      of_hops : (o : Option (Resolving Metric)) → resolver_at k m.hops ≡ o → busy_by o ≡ true → IsNameNumber k
+      of_hops None at e = absurd (let clash : false ≡ true = e in cc)
+      of_hops (Some s) at e = has_chain k (sym (stands.own SameResolvers k) ∙ ap is_some at)
+  task_named tasks.ReadRib works = tt
+  task_named (tasks.Out k) works = of_exit m.declared.speaker (peer_at k m.declared.peers) (exit_at k m.exits) refl refl (stands.own SameSessions k) works
+    where
+      of_exit : (s : Option Speaker) (p : Option DeclaredPeer) (o : Option OutChained) → peer_at k m.declared.peers ≡ p → exit_at k m.exits ≡ o → ExitsAt s m.outgoing k p o → exit_busy m.exits.queue o ≡ true → IsNameNumber k
+      of_exit s p None there at is e = absurd (let clash : false ≡ true = e in cc)
+      of_exit (Some me) (Some p) (Some c) there at is e = named_by k p there
+      of_exit (Some me) None (Some c) there at is e = absurd is
+      of_exit None p (Some c) there at is e = absurd is
+  task_named tasks.Ext works = tt
+
+  settled : (p : Network) (said : List Line) → IsPrefix p → TellsSettled p m said → Printed said
+  settled p said prefix tells = subst Printed (sym tells.line) (plain_printed (neighbours m.declared) _ refl refl (prefix, by_answer tells.answer tells.tells.works), tt)
+    where
+      by_answer : (o : Option Task) → IfSome o (λ task. has_work task m ≡ true) → IfSome o IsNamedTask
+      by_answer None works = tt
+      by_answer (Some task) works = task_named task works
 
   module _ (few : AreNumbered 4294967294 m.tree) where
     start : Fit (neighbours m.declared) 4294967294 m
@@ -494,6 +549,7 @@ module _ (m : Moment) (stands : Stands m) (printable : IsPrintableMoment m) wher
     event_printed (Lose proto) said turns m' formed is = protocol_lost proto said m' is.1
     event_printed (Redist proto on) said turns m' formed is = just [] _ said turns m' is (record { chains = printable.chains; interior = printable.interior; hops = printable.hops; ways = printable.ways; exits = printable.exits; printed = tt })
     event_printed (Cover addr) said turns m' formed is = stays said m' is.1 (covered addr said formed is.2)
+    event_printed (Settled p) said turns m' formed is = stays said m' is.1 (settled p said (formed.masked, formed.fits) is.2)
     event_printed Idle said turns m' formed is =
         let x = phases_go (neighbours m.declared) 4294967294 all_phases m is.inner turns m' is.runs start in
         let within = is.within in

@@ -24,13 +24,13 @@ use Rattle.router_core.specs.Works.{Keeps, AddsNoRows, KnowsNoMore, IsWork, IsUn
 use Rattle.router_core.proofs.KeepLemmas.{keeps_none, keeps_on, gives_join, gives_none, gives_so}
 use Rattle.router_core.proofs.MostLemmas.{capped, external_capped, sends_below, own_sends_below, fin_sends_below, few_exits}
 use Rattle.router_core.proofs.ReadingLemmas.{reading_less, readers_within, announced_fits}
-use Rattle.router_core.proofs.CountLemmas.{counts_below, changes_below, over_none, none_over}
+use Rattle.router_core.proofs.CountLemmas.{each_phase, counts_below, changes_below, over_none, none_over}
 use Rattle.router_core.proofs.SpendLemmas.{same_rows}
 use Rattle.router_core.proofs.StaleLemmas.{none_as_before, makes_none, stale_then}
 use Rattle.router_core.proofs.NextLemmas.{next_works}
-use Rattle.router_core.proofs.ScratchLemmas.{settled_is_exact}
+use Rattle.router_core.proofs.SettledLemmas.{settled_is_exact}
 use Rattle.router_core.proofs.TurnWalks.{phases_same, all_have_on}
-use Rattle.router_core.specs.Laws.{LinksAtRestAreExact}
+use Rattle.router_core.specs.Laws.{RowsAtRestAreExact, OnlyWorkHoldsUp}
 use Rattle.live_state.specs.Lives.{LiveState}
 
 -- ---- work
@@ -229,16 +229,6 @@ next_less (suc (suc (suc (suc (suc (suc zero)))))) x m within stands over = omeg
 next_less (suc (suc (suc (suc (suc (suc (suc zero))))))) x m within stands over = omega arith
 next_less (suc (suc (suc (suc (suc (suc (suc (suc i)))))))) x m within stands over = absurd (omega (arith, within))
 
-each_phase : (P : Phase → Type 0) → AllByRecursion P all_phases → (r : Phase) → P r
-each_phase P all Rdel = all.0
-each_phase P all Red = all.1.0
-each_phase P all Del = all.1.1.0
-each_phase P all Fin = all.1.1.1.0
-each_phase P all Nh = all.1.1.1.1.0
-each_phase P all ReadRib = all.1.1.1.1.1.0
-each_phase P all Out = all.1.1.1.1.1.1.0
-each_phase P all Ext = all.1.1.1.1.1.1.1.0
-
 -- all of these are still over
 over_more : (m m' : Moment) (es : List Phase) → AllByRecursion (λ e. counts m' e ≤ counts m e) es → AllByRecursion (λ e. counts m e ≡ 0) es → AllByRecursion (λ e. counts m' e ≡ 0) es
 over_more m m' [] less over = tt
@@ -285,8 +275,8 @@ idling_more i turns n z m at now before j j' within g d = gives_join (Idling i t
               (all_appended (λ e. counts now e ≡ 0) (λ e. counts now e ≡ 0) (λ e none. none) (take i all_phases) r (over_more at now (take i all_phases) less x.over) (over_none r now y.over));
         }
 
-pub idling_done : TurnsAreBounded → TurnsAreLeft → LinksAtRestAreExact → (i turns : ℕ) (m now : Moment) (before j : Journaled) → Stands m → AllHaveExits m → length all_phases ≤ i → Gives (Idling i turns m now) before j → Gives (AllHaveDrained m turns now) before j
-idling_done bounded left exact i turns m now before j stands exits past g = gives_so (Idling i turns m now) (AllHaveDrained m turns now) (λ xs x.
+pub idling_done : TurnsAreBounded → TurnsAreLeft → RowsAtRestAreExact → OnlyWorkHoldsUp → (i turns : ℕ) (m now : Moment) (before j : Journaled) → Stands m → AllHaveExits m → length all_phases ≤ i → Gives (Idling i turns m now) before j → Gives (AllHaveDrained m turns now) before j
+idling_done bounded left exact only i turns m now before j stands exits past g = gives_so (Idling i turns m now) (AllHaveDrained m turns now) (λ xs x.
     let all : take i all_phases ≡ all_phases = take_all i all_phases past in
     let over = subst (λ (l : List Phase). AllByRecursion (λ e. counts now e ≡ 0) l) all x.over in
     let settled : IsSettled now = λ r. none_over left r now x.keeps.stands (each_phase (λ e. counts now e ≡ 0) over r) in
@@ -298,5 +288,5 @@ idling_done bounded left exact i turns m now before j stands exits past g = give
       most = omega (arith, within, fits);
       rows = x.rows;
       settled = settled;
-      exact = settled_is_exact exact now x.keeps.stands (all_have_on m now (ap (λ (l : LiveState). l.declared) x.keeps.live) (phases_same all_phases m xs turns now (subst (λ (l : List Phase). RunsAll l m xs turns now) all x.runs)) exits) settled;
+      exact = settled_is_exact exact only now x.keeps.stands (all_have_on m now (ap (λ (l : LiveState). l.declared) x.keeps.live) (phases_same all_phases m xs turns now (subst (λ (l : List Phase). RunsAll l m xs turns now) all x.runs)) exits) settled;
     }) before j g

@@ -1,92 +1,103 @@
--- The links that no work holds up are what the live state alone asks for.
-use Rattle.std.proofs.Common.{◌≡◌, ℕ, zero, suc, ◌==◌, ◌&&◌, not, Bool, true, false, cond, List, [], ◌∷◌, Option, Some, None, is_some, nat_eq, refl, sym, ap, subst, ◌∙◌, arith}
-use Rattle.std.specs.Prelude.{option_map, IsSome}
+-- The rows that no work holds up at a prefix are what the live state alone asks for.
+use Rattle.std.proofs.Common.{◌≡◌, ℕ, zero, suc, ◌+◌, ◌<◌, ◌≤◌, ◌==◌, ◌&&◌, ◌||◌, not, Bool, true, false, cond, List, [], ◌∷◌, Option, Some, None, is_some, nat_eq, refl, sym, ap, subst, ◌∙◌, arith}
+use Rattle.std.specs.Prelude.{option_map, IsSome, Contains}
+use Rattle.std.specs.List.{list_any, range_with_len}
 use Rattle.std.specs.FinMap as tables
+use Rattle.std.specs.FinMap.{FinMap}
+use Rattle.addr4.specs.Prefixes.{Network, prefix_cmp}
 use Rattle.bgp_attr.specs.declared.attrs.Attrs.{Attrs}
+use Rattle.bgp_attr.specs.declared.route.Route.{Route}
 use Rattle.bgp_attr.specs.declared.speaker.Speaker.{Speaker}
 use Rattle.bgp_attr.specs.declared.speaker.Neighbour.{Neighbour}
-use Rattle.loss_chain.specs.Lost.{Lost}
-use Rattle.policy_rules.specs.declared.rule.Rule.{Rule}
-use Rattle.pass_core.specs.Passed.{Walked, present, present_of}
-use Rattle.pass_core.specs.Turns.{rows_by as passed_by}
 use Rattle.bgp_attr.specs.declared.speaker.Profile.{Profile}
+use Rattle.link_change.specs.Rows.{Rows}
+use Rattle.link_change.specs.InOrder.{rows_before, changed_in}
+use Rattle.link_change.specs.declared.change.Change.{Change}
+use Rattle.link_change.proofs.RowLemmas.{same_function}
+use Rattle.link_change.proofs.InOrderLemmas.{unchanged_stays}
+use Rattle.loss_chain.specs.Lost.{Lost}
+use Rattle.loss_chain.specs.Steps.{table_of}
+use Rattle.loss_chain.specs.Tables.{rows_above}
+use Rattle.loss_chain.specs.Held.{has_row}
+use Rattle.loss_chain.proofs.LawLemmas.{live_where_none_is_lost}
+use Rattle.loss_chain.proofs.TableLemmas.{same_by, no_table}
+use Rattle.policy_rules.specs.declared.rule.Rule.{Rule}
+use Rattle.pass_core.specs.Passed.{Passed, Walked, present, function_at}
 use Rattle.peer_out.specs.Forms.{as_sent}
+use Rattle.filter_bank.specs.Filtered.{filtered}
 use Rattle.filter_bank.specs.Outgoing.{outgoing}
-use Rattle.filter_bank.specs.Filtered.{passed_rows, filtered_rows}
+use Rattle.filter_bank.proofs.LawLemmas.{exact_unless_held_up}
+use Rattle.pass_core.specs.Turns.{row_lags}
+use Rattle.pass_core.proofs.TurnLemmas.{exact_unless_held_up as latest_row}
 use Rattle.journal_text.specs.declared.link.Link.{Link}
 use Rattle.journal_text.specs.declared.link.Link.TheVariants.{In, Peer, Filt, Res, Red, Best, ReadRib, Ebgp, Ibgp, Ext, Fib, Read, Outf, Adv, Org, Lost as LostOf, Low, Dyn, Int}
 use Rattle.journal_text.specs.declared.link.Task.{Task}
 use Rattle.journal_text.specs.declared.link.Task.TheVariants.{Del, Fin, Nh, ReadRib as Reading, Out, Rdel, Red as Own, Ext as External}
 use Rattle.journal_text.specs.declared.value.Value.{Value}
-use Rattle.journal_text.specs.Values.{valued, external_value, attrs_rows, route_rows, interior_rows, fib_rows}
+use Rattle.journal_text.specs.Values.{valued, attrs_value, route_value, interior_value, external_value, fib_value, attrs_rows, route_rows, interior_rows, fib_rows}
 use Rattle.event_text.specs.declared.declared.DeclaredPeer.{DeclaredPeer}
 use Rattle.event_text.specs.Declarations.{peer_at}
 use Rattle.in_chain.specs.Incomings.{in_rows}
-use Rattle.loss_chain.specs.Steps.{table_of}
-use Rattle.loss_chain.specs.Tables.{rows_below, rows_above}
 use Rattle.in_chain.specs.Chains.{Chained, filt_rows}
-use Rattle.link_change.specs.Rows.{Rows}
 use Rattle.rib_route.specs.declared.Proto.{Proto}
 use Rattle.rib_route.specs.declared.Proto.TheVariants.{Connected, Static, Ospf, Rip}
 use Rattle.rib_route.specs.declared.rows.Interior.{Interior}
-use Rattle.rib_merge.specs.Merging.{merged}
+use Rattle.rib_route.specs.declared.rows.External.{External as ExternalRow}
+use Rattle.rib_route.specs.declared.rows.FibRow.{FibRow}
+use Rattle.rib_route.specs.Distances.{external_proto}
+use Rattle.rib_route.specs.Forwarding.{fib_row}
+use Rattle.rib_merge.specs.Merging.{row_of_both}
 use Rattle.rib_tree.specs.Branches.{org_rows}
-use Rattle.rib_tree.specs.Trees.{branch_of, low_rows, dyn_rows, int_rows, interior_distance, tree_links}
-use Rattle.router_core.specs.declared.router.Phase.TheVariants as phases
-use Rattle.peer_side.specs.Peers.{chain_at, links_by, filt_by, filt_at, routes_of, rules_of, has_turn_in}
+use Rattle.rib_tree.specs.Trees.{branch_of, low_rows, dyn_rows, int_rows, tree_links, IsTree}
+use Rattle.rib_tree.specs.Steps.{tree_lags}
+use Rattle.rib_tree.specs.Laws.{OrgWhereNoneIsLost}
+use Rattle.rib_tree.proofs.RestLemmas.{no_link}
+use Rattle.hop_side.specs.Laws as hops
+use Rattle.exit_side.specs.Laws as exits
+use Rattle.rib_exit.specs.Laws as external
+use Rattle.peer_side.specs.Peers.{chain_at, links_by, filt_by, filt_at, routes_of, rules_of, has_turn_in, lags_in}
 use Rattle.live_state.specs.Lives.{Routes, Interiors}
-use Rattle.live_state.specs.Decided.{live_rows, judged_rows, least_rows, origins, since_local, with_metric_of, resolved_row, resolved_rows, rows_if_any, resolved_of, own_row, own_rows as live_own_rows, candidates_of as live_candidates, best_of as live_best, external_rows, forwarding_rows, sent_rows, in_session}
-use Rattle.best_path.specs.Steps.{pick}
-use Rattle.decision.specs.Branches.{routes_below}
-use Rattle.decision.proofs.LawLemmas.{best_is_picked}
-use Rattle.router_core.specs.Bests.{own_rows, own_links, all_at, best_links}
-use Rattle.router_core.specs.Lives.{live_state}
-use Rattle.addr4.specs.Prefixes.{Network}
-use Rattle.bgp_attr.specs.declared.route.Route.{Route}
-use Rattle.register_interest.specs.Covers.{longest}
+use Rattle.live_state.specs.Decided.{live_rows, judged_rows, accepted_rows, least_rows, origins, since_local, with_metric_of, resolved_row, resolved_rows, longest_match, rows_if_any, resolved_of, own_row, own_rows as live_own_rows, candidates_of as live_candidates, best_of as live_best, external_row, external_rows, over_interior, first_router, reached_row, lesser_of, forwarding_rows, sent_rows, in_session}
 use Rattle.live_state.proofs.LongestLemmas.{match_is}
-use Rattle.nexthop_resolver.specs.declared.rows.Metric.{Metric}
-use Rattle.nexthop_resolver.specs.Kept.{route_hop, metric_of, with_metric}
-use Rattle.nexthop_resolver.specs.Resolving.{Resolving}
-use Rattle.hop_side.specs.Resolvers.{resolver_at, metric_rows, rows_by, link_by}
-use Rattle.hop_side.specs.Laws.{matched_row, res_from}
-use Rattle.hop_side.proofs.LawLemmas.{exact_without_work}
-use Rattle.exit_side.specs.Laws.{ExactWithoutWork}
+use Rattle.live_state.proofs.LeastLemmas.{first_false, second_false}
+use Rattle.redist.specs.declared.protos.Protos.{Protos}
 use Rattle.redist.specs.Protocols.{has}
+use Rattle.redist.specs.Local.{redistributed, local_route}
+use Rattle.register_interest.specs.Covers.{longest}
+use Rattle.nexthop_resolver.specs.declared.rows.Metric.{Metric}
+use Rattle.nexthop_resolver.specs.declared.rows.Way.{Way}
+use Rattle.nexthop_resolver.specs.Kept.{route_hop, metric_of, with_metric, external_hop, over, way_of, first_router as way_router}
+use Rattle.nexthop_resolver.specs.Resolving.{Resolving, Answers, passes, made_by as goes_by, goes_on}
+use Rattle.nexthop_resolver.specs.Registered.{answer_of}
+use Rattle.nexthop_resolver.proofs.MoveLemmas.{same_some, clash_some}
+use Rattle.hop_side.specs.Resolvers.{resolver_at, metric_rows, rows_by, link_by, same_metric}
+use Rattle.decision.proofs.LawLemmas.{best_is_picked, best_is_of_its_prefix, best_is_a_branchs}
+use Rattle.fanout_queue.specs.Readers.{read_rows, unread_by}
+use Rattle.out_chain.specs.Chains.{OutChained, made_by, outf_rows}
+use Rattle.exit_side.specs.Exits.{chain_at as exit_at, links_by as exit_link}
+use Rattle.ext_int.specs.Fibs.{fib_distance}
 use Rattle.rib_split.specs.declared.split.BgpLink.TheVariants as sides
 use Rattle.rib_split.specs.Tables.{kept_rows}
-use Rattle.rib_exit.specs.Exits.{ext_rows, fib_over, exit_links as external_links, StandsOver}
-use Rattle.rib_exit.specs.Laws.{ExactWithoutWork as ExternalIsExact}
-use Rattle.exit_side.specs.Exits.{chain_at as exit_at, links_by as exit_link}
-use Rattle.out_chain.specs.Chains.{OutChained, made_by, outf_rows, is_unread}
-use Rattle.fanout_queue.specs.Readers.{read_rows, unread_by}
-use Rattle.link_change.specs.InOrder.{rows_before}
-use Rattle.link_change.specs.declared.change.Change.{Change}
+use Rattle.rib_exit.specs.Exits.{ext_rows, fib_over, exit_links as external_links, same_way, StandsOver}
+use Rattle.rib_exit.proofs.BusyLemmas.{tells_ways}
 use Rattle.link_region.proofs.RegionLemmas.{by_bool}
 use Rattle.std.proofs.lemmas.Bool.Decides.{nat_tests}
-use Rattle.live_state.proofs.LeastLemmas.{least_two, least_four}
-use Rattle.rib_tree.proofs.RestLemmas.{no_stages, no_link, Rest, org_rests, two_rest, four_rest}
+use Rattle.router_core.specs.Bests.{own_rows, own_links, all_at, best_links}
 use Rattle.router_core.specs.Moments.{Moment, plain, tree_by, forward_by, own_of, best_of, read_by, read_rows_by, read_of, rules_to}
 use Rattle.router_core.specs.Phases.{unread_if}
-use Rattle.router_core.specs.Stands.{StandsAt, Stands, AllHaveExits, ExitsAt, IsExitOf, ReadsOn, EachChain, EachPeer, OneSpeaker, EachResolver, SameResolvers, AnswersAgree, HopsCounted, EachExit, ExitsRead, PlainExits, SameSessions, OneReader, ExternalExit, ExternalAgrees, ExternalStands}
+use Rattle.router_core.specs.Lives.{live_state}
+use Rattle.router_core.specs.Turns.{has_work}
+use Rattle.router_core.specs.Stands.{StandsAt, Stands, AllHaveExits, ExitsAt, IsExitOf, ReadsOn, EachChain, EachPeer, OneSpeaker, InteriorTree, EachResolver, SameResolvers, SmallNumbers, AnswersAgree, HopsCounted, EachExit, ExitsRead, PlainExits, SameSessions, OneReader, ExternalExit, ExternalAgrees, ExternalStands}
 use Rattle.router_core.proofs.StandLemmas.{registered_rows}
-use Rattle.router_core.proofs.ForwardLemmas.{own_is, ebgp_is, ibgp_is, ext_is, fib_is}
-use Rattle.router_core.specs.Scratch.{HoldsUp, IsAtRest, IsExactAt, IsExact}
-use Rattle.router_core.specs.Laws.{LinksAtRestAreExact}
-use Rattle.loss_chain.proofs.TableLemmas.{same_by, no_table}
-use Rattle.router_core.specs.Turns.{has_work, IsSettled}
+use Rattle.router_core.proofs.ForwardLemmas.{ebgp_is, ibgp_is, ext_is}
+use Rattle.router_core.specs.Holding.{next_hop_at, is_over, is_over_hop, holds_up_at}
+use Rattle.router_core.specs.Scratch.{WorksOn, Feeds, HoldsUp, row_in, IsExactIn, IsAtRestIn}
+use Rattle.router_core.proofs.TableLemmas.{none_below, two_at, int_at, match_at}
 
 -- no peer, nothing to judge
 unjudged : (s : Option Speaker) (rules : List Rule) (routes : Routes) → judged_rows s None rules routes ≡ None
 unjudged None rules routes = refl
 unjudged (Some me) rules routes = refl
-
--- no walk, one function
-rows_settled : (c : Chained) → c.incoming.tables.deletions ≡ [] → c.filter.walk ≡ None → filt_rows c ≡ filtered_rows c.me c.peer (present c.filter) (tables.get c.incoming.tables.live)
-rows_settled c stages walk =
-    ap (λ (w : Option (Walked (List Rule))). passed_rows c.me c.peer (record { in_force = c.filter.in_force; walk = w }) (in_rows c.incoming)) walk
-    ∙ ap (λ (ds : List (Lost Attrs)). filtered_rows c.me c.peer c.filter.in_force (rows_below c.incoming.tables.live ds)) stages
-    ∙ ap (λ (w : Option (Walked (List Rule))). filtered_rows c.me c.peer (present_of c.filter.in_force w) (tables.get c.incoming.tables.live)) (sym walk)
 
 -- the rows of `res.K`, if it is live
 abbrev opt_rows : Option (Resolving Metric) → Rows Route → Option (Rows Route)
@@ -97,403 +108,447 @@ opt_link : (o : Option (Resolving Metric)) (upper : Rows Route) → link_by o up
 opt_link None upper = refl
 opt_link (Some s) upper = refl
 
-opt_none : (o : Option (Resolving Metric)) (upper : Rows Route) → rows_by o upper ≡ rows_if_any (opt_rows o upper)
-opt_none None upper = refl
-opt_none (Some s) upper = refl
+-- from the row of a link to its value
+row_value : {V : Type 0} (v : V → Value) (a b : Option (Rows V)) (p : Network) → row_in a p ≡ row_in b p → row_in (option_map (valued v) a) p ≡ row_in (option_map (valued v) b) p
+row_value {V} v a b p same = made a ∙ ap (option_map (option_map v)) same ∙ sym (made b)
+  where
+    made : (o : Option (Rows V)) → row_in (option_map (valued v) o) p ≡ option_map (option_map v) (row_in o p)
+    made None = refl
+    made (Some rows) = refl
 
-module _ (law : ExactWithoutWork) (external : ExternalIsExact) (m : Moment) (stands : Stands m) (all : AllHaveExits m) where
+abbrev or_none : {V : Type 0} → Option (Option V) → Option V
+or_none None = None
+or_none (Some row) = row
+
+if_any : (o : Option (Rows Route)) (p : Network) → rows_if_any o p ≡ or_none (row_in o p)
+if_any None p = refl
+if_any (Some rows) p = refl
+
+by_resolver_row : (o : Option (Resolving Metric)) (upper : Rows Route) (p : Network) → rows_by o upper p ≡ or_none (row_in (opt_rows o upper) p)
+by_resolver_row None upper p = refl
+by_resolver_row (Some s) upper p = refl
+
+-- ---- next hops
+by_match : (r : Route) (found : Option (Network × Interior)) → with_metric r (metric_of found) ≡ with_metric_of r (option_map (λ x. x.1) found)
+by_match r None = refl
+by_match r (Some x) = refl
+
+router_is : (gateway : Option ℕ) (hop : ℕ) → way_router gateway hop ≡ first_router gateway hop
+router_is None hop = refl
+router_is (Some gateway) hop = refl
+
+over_is : (r : ExternalRow) (found : Option (Network × Interior)) → over r (way_of found) ≡ over_interior r (option_map (λ x. x.1) found)
+over_is r None = refl
+over_is r (Some x) = ap (λ (n : ℕ). Some (record { proto = external_proto r; gateway = Some n; iface = x.1.iface })) (router_is x.1.gateway r.next_hop)
+
+lesser_is : (one other : Option FibRow) → row_of_both fib_distance one other ≡ lesser_of one other
+lesser_is None other = refl
+lesser_is (Some one) None = refl
+lesser_is (Some one) (Some other) = refl
+
+-- a row of `res.K` is that of `filt.K` with a metric
+same_hop : (answers : Answers Metric) (o : Option Route) (r : Route) → goes_on route_hop with_metric answers o ≡ Some r → option_map route_hop o ≡ Some (route_hop r)
+same_hop answers None r is = absurd (clash_some r ⊥ is)
+same_hop answers (Some q) r is = by_answer (answers (route_hop q)) is
+  where
+    by_metric : (metric : Option ℕ) → with_metric q (record { igp = metric }) ≡ Some r → Some (route_hop q) ≡ Some (route_hop r)
+    by_metric None e = absurd (clash_some r ⊥ e)
+    by_metric (Some n) e = ap (λ (x : Route). Some (route_hop x)) (same_some (record q { igp = Some n }) r e)
+
+    by_answer : (a : Option Metric) → goes_by route_hop with_metric q a ≡ Some r → Some (route_hop q) ≡ Some (route_hop r)
+    by_answer None e = absurd (clash_some r ⊥ e)
+    by_answer (Some answer) e = by_metric answer.igp e
+
+same_next_hop : (o : Option (Resolving Metric)) (upper : Rows Route) (p : Network) (r : Route) → rows_by o upper p ≡ Some r → option_map route_hop (upper p) ≡ Some (route_hop r)
+same_next_hop None upper p r is = absurd (clash_some r ⊥ is)
+same_next_hop (Some s) upper p r is = same_hop (function_at (passes s) p) (upper p) r is
+
+-- this speaker's own routes come from no peer
+own_external : (s : Option Speaker) (pass : Passed Protos) (int : Rows Interior) (p : Network) (r : Route) → own_rows s pass int p ≡ Some r → external_row (λ w. true) (Some r) ≡ None
+own_external None pass int p r is = absurd (clash_some r ⊥ is)
+own_external (Some me) pass int p r is = by_row (int p) is
+  where
+    by_test : (b : Bool) → cond b (Some (local_route me)) None ≡ Some r → external_row (λ w. true) (Some r) ≡ None
+    by_test true e = ap (λ (x : Route). external_row (λ w. true) (Some x)) (sym (same_some (local_route me) r e))
+    by_test false e = absurd (clash_some r ⊥ e)
+
+    by_row : (o : Option Interior) → redistributed me (function_at pass p) p o ≡ Some r → external_row (λ w. true) (Some r) ≡ None
+    by_row None e = absurd (clash_some r ⊥ e)
+    by_row (Some row) e = by_test (has (function_at pass p) row.proto) e
+
+-- the next hop of an external row is that of the route
+sent_hop : (o : Option Route) (x : ExternalRow) → external_row (λ w. true) o ≡ Some x → (r : Route) × (o ≡ Some r) × (route_hop r ≡ x.next_hop)
+sent_hop None x is = absurd (clash_some x ⊥ is)
+sent_hop (Some r) x is = (r, refl, by_from r.from is)
+  where
+    by_from : (from : Option Neighbour) → external_row (λ w. true) (Some (record r { from = from })) ≡ Some x → route_hop r ≡ x.next_hop
+    by_from None e = absurd (clash_some x ⊥ e)
+    by_from (Some peer) e = ap (λ (y : ExternalRow). y.next_hop) (same_some (record { internal = peer.internal; next_hop = r.attrs.next_hop }) x e)
+
+module _ (org_exact : OrgWhereNoneIsLost) (hops_exact : hops.ExactUnlessHeldUp) (exits_exact : exits.ExactUnlessHeldUp) (external_exact : external.ExactUnlessHeldUp) (m : Moment) (stands : Stands m) (all : AllHaveExits m) where
+  tree : IsTree m.tree
+  tree = (stands.own InteriorTree).tree
+
+  -- no task holds up the link at the prefix
+  abbrev Rests : Link → Network → Type 0
+  Rests link p = (task : Task) → HoldsUp task link → holds_up_at task m p ≡ false
+
+  -- then none holds up a link there that it is made of
+  above : (upper link : Link) (p : Network) → Feeds upper link → Rests link p → Rests upper p
+  above upper link p feeds rest task holds = rest task (through upper link feeds holds)
+
+  -- ---- interior routes
+  abbrev routes_in : Proto → Interiors
+  routes_in proto = (branch_of proto m.tree).tables.live
+
+  abbrev scratch_int : Rows Interior
+  scratch_int = least_rows routes_in (origins Int)
+
+  -- the links of protocols, below `low` and `dyn`
+  protocols : (p : Network) → Rests Int p → (proto : Proto) → Rests (Org proto) p
+  protocols p rest Connected = above (Org Connected) Low p tt (above Low Int p tt rest)
+  protocols p rest Static = above (Org Static) Low p tt (above Low Int p tt rest)
+  protocols p rest Ospf = above (Org Ospf) Dyn p tt (above Dyn Int p tt rest)
+  protocols p rest Rip = above (Org Rip) Dyn p tt (above Dyn Int p tt rest)
+
+  lacks : (p : Network) (proto : Proto) → Rests (Org proto) p → (n : ℕ) → tree_lags m.tree (Rdel proto n) p ≡ false
+  lacks p proto rest n = first_false (tree_lags m.tree (Rdel proto n) p) (is_over_hop (Rdel proto n) m p) (rest (Rdel proto n) (directly (Org proto) refl))
+
+  int_is : (p : Network) → Rests Int p → int_rows m.tree p ≡ scratch_int p
+  int_is p rest = int_at org_exact m.tree tree p (λ proto. lacks p proto (protocols p rest proto))
+
+  match_rests : (p : Network) (k a : ℕ) → Rests Int p → k < 65 → next_hop_at m k p ≡ Some a → longest_match (int_rows m.tree) a ≡ longest_match scratch_int a
+  match_rests p k a rest less at = match_at org_exact m.tree tree a 32 (λ proto n.
+      sym (ap (is_over m.tree (Rdel proto n)) at)
+      ∙ none_below (λ j. is_over m.tree (Rdel proto n) (next_hop_at m j p)) 0 65 k (second_false (tree_lags m.tree (Rdel proto n) p) (is_over_hop (Rdel proto n) m p) (protocols p rest proto (Rdel proto n) (directly (Org proto) refl))) less k (omega arith))
+
+  -- from the row of a link to the link, which is live since `local`
+  since : {V : Type 0} (v : V → Value) (rows now : Rows V) (link : Link) (p : Network) → tree_links m.tree link ≡ Some (valued v rows) → rows p ≡ now p
+      → (s : Option Speaker) → row_in (tree_by s m.tree link) p ≡ row_in (option_map (valued v) (since_local s now)) p
+  since v rows now link p is same None = refl
+  since v rows now link p is same (Some me) = ap (λ o. row_in o p) is ∙ ap (λ row. Some (option_map v row)) same
+
+  lost_exact : (proto : Proto) (n : ℕ) (p : Network) → has_work (Rdel proto n) m ≡ false → (s : Option Speaker) → row_in (tree_by s m.tree (LostOf proto n)) p ≡ None
+  lost_exact proto n p rest None = refl
+  lost_exact proto n p rest (Some me) = ap (λ o. row_in (option_map interior_rows o) p) (no_link (routes_in proto) n (branch_of proto m.tree).tables.deletions rest)
+
   -- ---- peers
   here : (k : ℕ) (c : Chained) → chain_at k m.chains ≡ Some c → nat_eq k c.incoming.number ≡ true
   here k c at = same_by k c.incoming.number (sym (stands.own EachChain k c at).number)
 
-  stage_rests : (k s : ℕ) (c : Chained) → chain_at k m.chains ≡ Some c → has_work (Del k s) m ≡ false → is_some (table_of s c.incoming.tables.deletions) ≡ false
-  stage_rests k s c at none = sym (ap (λ (b : Bool). b && is_some (table_of s c.incoming.tables.deletions)) (here k c at)) ∙ sym (ap (has_turn_in (Del k s)) at) ∙ none
+  stage_lacks : (k s : ℕ) (c : Chained) (p : Network) → chain_at k m.chains ≡ Some c → holds_up_at (Del k s) m p ≡ false → has_row (table_of s c.incoming.tables.deletions) p ≡ false
+  stage_lacks k s c p at none = sym (ap (λ (b : Bool). b && has_row (table_of s c.incoming.tables.deletions) p) (here k c at)) ∙ sym (ap (λ (o : Option Chained). lags_in (Del k s) o p) at) ∙ none
 
-  no_stage : (k : ℕ) (c : Chained) → chain_at k m.chains ≡ Some c → ((s : ℕ) → has_work (Del k s) m ≡ false) → c.incoming.tables.deletions ≡ []
-  no_stage k c at none = no_stages c.incoming.tables.deletions (λ s. stage_rests k s c at (none s))
+  in_is : (k : ℕ) (c : Chained) (p : Network) → chain_at k m.chains ≡ Some c → ((s : ℕ) → holds_up_at (Del k s) m p ≡ false) → in_rows c.incoming p ≡ tables.get c.incoming.tables.live p
+  in_is k c p at none = live_where_none_is_lost c.incoming.tables.live c.incoming.tables.deletions p (stands.own EachChain k c at).chain.rising (λ s. stage_lacks k s c p at (none s))
 
-  no_walk : (k : ℕ) (c : Chained) → chain_at k m.chains ≡ Some c → has_work (Fin k) m ≡ false → c.filter.walk ≡ None
-  no_walk k c at none = no_table c.filter.walk (sym (ap (λ (b : Bool). b && is_some c.filter.walk) (here k c at)) ∙ sym (ap (has_turn_in (Fin k)) at) ∙ none)
+  in_exact : (k : ℕ) (p : Network) → Rests (In k) p → (d : Option DeclaredPeer) (c : Option Chained) → chain_at k m.chains ≡ c → StandsAt d c → row_in (links_by c (In k)) p ≡ row_in (option_map attrs_rows (live_rows d (routes_of c))) p
+  in_exact k p rest None None at there = refl
+  in_exact k p rest None (Some c) at there = absurd there
+  in_exact k p rest (Some d) None at there = absurd there
+  in_exact k p rest (Some d) (Some c) at there =
+      ap (λ (b : Bool). row_in (cond b (Some (attrs_rows (in_rows c.incoming))) None) p) (here k c at)
+      ∙ ap (λ (o : Option Attrs). Some (option_map attrs_value o)) (in_is k c p at (λ s. rest (Del k s) (directly (In k) refl)))
 
-  in_exact : (k : ℕ) → IsAtRest m (In k) → (p : Option DeclaredPeer) (c : Option Chained) → chain_at k m.chains ≡ c → StandsAt p c → links_by c (In k) ≡ option_map attrs_rows (live_rows p (routes_of c))
-  in_exact k rest None None at there = refl
-  in_exact k rest None (Some c) at there = absurd there
-  in_exact k rest (Some p) None at there = absurd there
-  in_exact k rest (Some p) (Some c) at there =
-      ap (λ (b : Bool). cond b (Some (attrs_rows (in_rows c.incoming))) None) (here k c at)
-      ∙ ap (λ (ds : List (Lost Attrs)). Some (attrs_rows (rows_below c.incoming.tables.live ds))) (no_stage k c at (λ s. rest (Del k s) refl))
+  peer_exact : (k s : ℕ) (p : Network) → has_work (Del k s) m ≡ false → (c : Option Chained) → chain_at k m.chains ≡ c → row_in (links_by c (Peer k s)) p ≡ None
+  peer_exact k s p none None at = refl
+  peer_exact k s p none (Some c) at =
+      ap (λ (b : Bool). row_in (cond b (option_map attrs_rows (rows_above c.incoming.tables.live s c.incoming.tables.deletions)) None) p) (here k c at)
+      ∙ ap (λ o. row_in (option_map attrs_rows o) p) (no_link c.incoming.tables.live s c.incoming.tables.deletions
+      (sym (ap (λ (b : Bool). b && is_some (table_of s c.incoming.tables.deletions)) (here k c at)) ∙ sym (ap (has_turn_in (Del k s)) at) ∙ none))
 
-  peer_exact : (k s : ℕ) → IsAtRest m (Peer k s) → (c : Option Chained) → chain_at k m.chains ≡ c → links_by c (Peer k s) ≡ None
-  peer_exact k s rest None at = refl
-  peer_exact k s rest (Some c) at =
-      ap (λ (b : Bool). cond b (option_map attrs_rows (rows_above c.incoming.tables.live s c.incoming.tables.deletions)) None) (here k c at)
-      ∙ ap (option_map attrs_rows) (no_link c.incoming.tables.live s c.incoming.tables.deletions (stage_rests k s c at (rest (Del k s) (refl, refl))))
+  filt_is : (k : ℕ) (c : Chained) (p : Network) → chain_at k m.chains ≡ Some c → Rests (Filt k) p → filt_rows c p ≡ filtered c.me c.peer (present c.filter) p (tables.get c.incoming.tables.live p)
+  filt_is k c p at rest =
+      exact_unless_held_up c.me c.peer c.filter p (in_rows c.incoming p)
+      (sym (ap (λ (b : Bool). b && row_lags c.filter p (in_rows c.incoming p)) (here k c at)) ∙ sym (ap (λ (o : Option Chained). lags_in (Fin k) o p) at) ∙ rest (Fin k) (directly (Filt k) refl))
+      ∙ ap (filtered c.me c.peer (present c.filter) p) (in_is k c p at (λ s. rest (Del k s) (through (In k) (Filt k) refl (directly (In k) refl))))
 
-  filt_exact : (k : ℕ) → IsAtRest m (Filt k) → (p : Option DeclaredPeer) (c : Option Chained) → chain_at k m.chains ≡ c → StandsAt p c
-      → links_by c (Filt k) ≡ option_map route_rows (judged_rows m.declared.speaker p (rules_of c) (routes_of c))
-  filt_exact k rest None None at there = sym (ap (option_map route_rows) (unjudged m.declared.speaker [] tables.empty))
-  filt_exact k rest None (Some c) at there = absurd there
-  filt_exact k rest (Some p) None at there = absurd there
-  filt_exact k rest (Some p) (Some c) at there =
-      ap (λ (b : Bool). cond b (Some (route_rows (filt_rows c))) None) (here k c at)
-      ∙ ap (λ rows. Some (route_rows rows)) (rows_settled c (no_stage k c at (λ s. rest (Del k s) refl)) (no_walk k c at (rest (Fin k) refl)))
-      ∙ ap (λ (w : Neighbour). Some (route_rows (filtered_rows c.me w (present c.filter) (tables.get c.incoming.tables.live)))) there.words
-      ∙ ap (λ (s : Option Speaker). option_map route_rows (judged_rows s (Some p) (present c.filter) c.incoming.tables.live)) (sym (stands.own OneSpeaker k c at))
+  judged_is : (k : ℕ) (c : Chained) (d : DeclaredPeer) (p : Network) → chain_at k m.chains ≡ Some c → StandsAt (Some d) (Some c) → Rests (Filt k) p
+      → Some (filt_rows c p) ≡ row_in (judged_rows m.declared.speaker (Some d) (present c.filter) c.incoming.tables.live) p
+  judged_is k c d p at there rest =
+      ap (λ (o : Option Route). Some o) (filt_is k c p at rest)
+      ∙ ap (λ (w : Neighbour). Some (filtered c.me w (present c.filter) p (tables.get c.incoming.tables.live p))) there.words
+      ∙ ap (λ (s : Option Speaker). row_in (judged_rows s (Some d) (present c.filter) c.incoming.tables.live) p) (sym (stands.own OneSpeaker k c at))
 
-  -- ---- the interior routes
-  abbrev routes_in : Proto → Interiors
-  routes_in proto = (branch_of proto m.tree).tables.live
-
-  two_are : (a b : Proto) → Rest m.tree (a ∷ b ∷ []) → merged interior_distance (org_rows (branch_of a m.tree)) (org_rows (branch_of b m.tree)) ≡ least_rows routes_in (a ∷ b ∷ [])
-  two_are a b rest = two_rest m.tree a b rest ∙ least_two routes_in a b
-
-  int_is : Rest m.tree (origins Int) → int_rows m.tree ≡ least_rows routes_in (origins Int)
-  int_is rest = four_rest m.tree Connected Static Ospf Rip rest ∙ least_four routes_in Connected Static Ospf Rip
-
-  -- from the link's rows to the link, which is live since `local`
-  since : {V : Type 0} (value : Rows V → Rows Value) (rows now : Rows V) (link : Link) → tree_links m.tree link ≡ Some (value rows) → rows ≡ now
-      → (s : Option Speaker) → tree_by s m.tree link ≡ option_map value (since_local s now)
-  since value rows now link is same None = refl
-  since value rows now link is same (Some me) = is ∙ ap (λ r. Some (value r)) same
-
-  lost_exact : (proto : Proto) (n : ℕ) → IsAtRest m (LostOf proto n) → (s : Option Speaker) → tree_by s m.tree (LostOf proto n) ≡ None
-  lost_exact proto n rest None = refl
-  lost_exact proto n rest (Some me) = ap (option_map interior_rows) (no_link (routes_in proto) n (branch_of proto m.tree).tables.deletions (rest (Rdel proto n) (refl, refl)))
+  filt_exact : (k : ℕ) (p : Network) → Rests (Filt k) p → (d : Option DeclaredPeer) (c : Option Chained) → chain_at k m.chains ≡ c → StandsAt d c
+      → row_in (links_by c (Filt k)) p ≡ row_in (option_map route_rows (judged_rows m.declared.speaker d (rules_of c) (routes_of c))) p
+  filt_exact k p rest None None at there = sym (ap (λ o. row_in (option_map route_rows o) p) (unjudged m.declared.speaker [] tables.empty))
+  filt_exact k p rest None (Some c) at there = absurd there
+  filt_exact k p rest (Some d) None at there = absurd there
+  filt_exact k p rest (Some d) (Some c) at there =
+      ap (λ (b : Bool). row_in (cond b (Some (route_rows (filt_rows c))) None) p) (here k c at)
+      ∙ row_value route_value (Some (filt_rows c)) (judged_rows m.declared.speaker (Some d) (present c.filter) c.incoming.tables.live) p (judged_is k c d p at there rest)
 
   -- ---- next hops
-  by_match : (r : Route) (found : Option (Network × Interior)) → with_metric r (metric_of found) ≡ with_metric_of r (option_map (λ x. x.1) found)
-  by_match r None = refl
-  by_match r (Some x) = refl
+  hop_row : (p : Network) (k : ℕ) → Rests Int p → k < 65 → (o : Option Route) → filt_at m.chains k p ≡ o → goes_on route_hop with_metric (λ (a : ℕ). Some (answer_of metric_of m.registry a)) o ≡ resolved_row scratch_int o
+  hop_row p k none less None at = refl
+  hop_row p k none less (Some r) at =
+      ap (λ (rows : Rows Interior). with_metric r (metric_of (longest 32 rows (route_hop r)))) (registered_rows m stands)
+      ∙ by_match r (longest 32 (int_rows m.tree) (route_hop r))
+      ∙ ap (with_metric_of r) (match_is (int_rows m.tree) (route_hop r) ∙ match_rests p k (route_hop r) none less (ap (option_map route_hop) at))
 
-  -- the rows that the longest matches make are those decided from scratch
-  resolved_is : (int : Rows Interior) (upper : Rows Route) → res_from (longest 32 int) upper ≡ resolved_rows int upper
-  resolved_is int upper i q = each (upper q) i
+  res_rests : (p : Network) (k : ℕ) → Rests (Res k) p → k < 65 → (s : Resolving Metric) → resolver_at k m.hops ≡ Some s → metric_rows s (filt_at m.chains k) p ≡ resolved_row scratch_int (filt_at m.chains k p)
+  res_rests p k rest less s at =
+      hops_exact m.hops (filt_at m.chains) m.registry k s p (stands.own EachResolver) (stands.own AnswersAgree) (stands.own HopsCounted) at (rest (Nh k) (directly (Res k) refl))
+      ∙ hop_row p k (above Int (Res k) p tt rest) less (filt_at m.chains k p) refl
+
+  res_is : (k : ℕ) (p : Network) → Rests (Res k) p → (d : Option DeclaredPeer) (c : Option Chained) → chain_at k m.chains ≡ c → StandsAt d c
+      → row_in (opt_rows (resolver_at k m.hops) (filt_at m.chains k)) p ≡ row_in (option_map (resolved_rows scratch_int) (judged_rows m.declared.speaker d (rules_of c) (routes_of c))) p
+  res_is k p rest None None at there =
+      ap (λ (o : Option (Resolving Metric)). row_in (opt_rows o (filt_at m.chains k)) p) (no_table (resolver_at k m.hops) (stands.own SameResolvers k ∙ ap is_some at))
+      ∙ sym (ap (λ (o : Option (Rows Route)). row_in (option_map (resolved_rows scratch_int) o) p) (unjudged m.declared.speaker [] tables.empty))
+  res_is k p rest None (Some c) at there = absurd there
+  res_is k p rest (Some d) None at there = absurd there
+  res_is k p rest (Some d) (Some c) at there = by_resolver (resolver_at k m.hops) refl (stands.own SameResolvers k ∙ ap is_some at)
     where
-      each : (o : Option Route) → matched_row (longest 32 int) o ≡ resolved_row int o
-      each None = refl
-      each (Some r) = by_match r (longest 32 int (route_hop r)) ∙ ap (with_metric_of r) (match_is int (route_hop r))
+      small : k < 65
+      small = let most = (stands.own SmallNumbers k (ap is_some at)).1 in omega (arith, most)
 
-  res_rests : (k : ℕ) → IsAtRest m (Res k) → (s : Resolving Metric) → resolver_at k m.hops ≡ Some s → metric_rows s (filt_at m.chains k) ≡ resolved_rows (least_rows routes_in (origins Int)) (filt_at m.chains k)
-  res_rests k rest s at =
-      sym (ap (λ (o : Option (Resolving Metric)). rows_by o (filt_at m.chains k)) at)
-      ∙ exact_without_work m.hops (filt_at m.chains) m.registry k s (stands.own EachResolver) (stands.own AnswersAgree) (stands.own HopsCounted) at (rest (Nh k) refl)
-      ∙ ap (λ (rows : Rows Interior). res_from (longest 32 rows) (filt_at m.chains k)) (registered_rows m stands ∙ int_is (λ p of n. rest (Rdel p n) of))
-      ∙ resolved_is (least_rows routes_in (origins Int)) (filt_at m.chains k)
-
-  res_is : (k : ℕ) → IsAtRest m (Res k) → (p : Option DeclaredPeer) (c : Option Chained) → chain_at k m.chains ≡ c → StandsAt p c
-      → opt_rows (resolver_at k m.hops) (filt_at m.chains k) ≡ option_map (resolved_rows (least_rows routes_in (origins Int))) (judged_rows m.declared.speaker p (rules_of c) (routes_of c))
-  res_is k rest None None at there =
-      ap (λ (o : Option (Resolving Metric)). opt_rows o (filt_at m.chains k)) (no_table (resolver_at k m.hops) (stands.own SameResolvers k ∙ ap is_some at))
-      ∙ sym (ap (λ (o : Option (Rows Route)). option_map (resolved_rows (least_rows routes_in (origins Int))) o) (unjudged m.declared.speaker [] tables.empty))
-  res_is k rest None (Some c) at there = absurd there
-  res_is k rest (Some p) None at there = absurd there
-  res_is k rest (Some p) (Some c) at there = by_resolver (resolver_at k m.hops) refl (stands.own SameResolvers k ∙ ap is_some at)
-    where
-      judged : Some (filt_at m.chains k) ≡ judged_rows m.declared.speaker (Some p) (present c.filter) c.incoming.tables.live
-      judged =
-          ap (λ (o : Option Chained). Some (filt_by o)) at
-          ∙ ap (λ rows. Some rows) (rows_settled c (no_stage k c at (λ s. rest (Del k s) refl)) (no_walk k c at (rest (Fin k) refl)))
-          ∙ ap (λ (w : Neighbour). Some (filtered_rows c.me w (present c.filter) (tables.get c.incoming.tables.live))) there.words
-          ∙ ap (λ (s : Option Speaker). judged_rows s (Some p) (present c.filter) c.incoming.tables.live) (sym (stands.own OneSpeaker k c at))
+      resolved : (o : Option (Rows Route)) (row : Option Route) → Some row ≡ row_in o p → Some (resolved_row scratch_int row) ≡ row_in (option_map (resolved_rows scratch_int) o) p
+      resolved None row is = absurd (clash_some row ⊥ (sym is))
+      resolved (Some rows) row is = ap (λ (x : Option Route). Some (resolved_row scratch_int x)) (same_some row (rows p) is)
 
       by_resolver : (o : Option (Resolving Metric)) → resolver_at k m.hops ≡ o → is_some o ≡ true
-          → opt_rows o (filt_at m.chains k) ≡ option_map (resolved_rows (least_rows routes_in (origins Int))) (judged_rows m.declared.speaker (Some p) (present c.filter) c.incoming.tables.live)
+          → row_in (opt_rows o (filt_at m.chains k)) p ≡ row_in (option_map (resolved_rows scratch_int) (judged_rows m.declared.speaker (Some d) (present c.filter) c.incoming.tables.live)) p
       by_resolver None is some = absurd (let clash : false ≡ true = some in cc)
-      by_resolver (Some s) is some = ap (λ (rows : Rows Route). Some rows) (res_rests k rest s is) ∙ ap (λ (o : Option (Rows Route)). option_map (resolved_rows (least_rows routes_in (origins Int))) o) judged
+      by_resolver (Some s) is some =
+          ap (λ (row : Option Route). Some row) (res_rests p k rest small s is)
+          ∙ ap (λ (o : Option Chained). Some (resolved_row scratch_int (filt_by o p))) at
+          ∙ resolved (judged_rows m.declared.speaker (Some d) (present c.filter) c.incoming.tables.live) (filt_rows c p) (judged_is k c d p at there (above (Filt k) (Res k) p refl rest))
 
-  res_at_rest : (k : ℕ) → IsAtRest m (Res k) → opt_rows (resolver_at k m.hops) (filt_at m.chains k) ≡ resolved_of (live_state m) k
-  res_at_rest k rest = res_is k rest (peer_at k m.declared.peers) (chain_at k m.chains) refl (stands.own EachPeer k)
+  res_at_rest : (k : ℕ) (p : Network) → Rests (Res k) p → row_in (opt_rows (resolver_at k m.hops) (filt_at m.chains k)) p ≡ row_in (resolved_of (live_state m) k) p
+  res_at_rest k p rest = res_is k p rest (peer_at k m.declared.peers) (chain_at k m.chains) refl (stands.own EachPeer k)
 
   -- ---- the decision
-  -- what holds a `res.K` up holds `best` up
-  best_holds : (task : Task) (k : ℕ) → HoldsUp task (Res k) → HoldsUp task Best
-  best_holds (Del j s) k holds = tt
-  best_holds (Fin j) k holds = tt
-  best_holds (Nh j) k holds = tt
-  best_holds (Rdel proto n) k holds = holds
-  best_holds Reading k holds = holds
-  best_holds (Out j) k holds = holds
-  best_holds Own k holds = tt
-  best_holds External k holds = holds
+  own_made : (me : Speaker) (on : Protos) (p : Network) (o : Option Interior) → redistributed me on p o ≡ own_row me (has on) o
+  own_made me on p None = refl
+  own_made me on p (Some row) = refl
 
-  -- and what holds `red` up
-  red_holds : (task : Task) → HoldsUp task Red → HoldsUp task Best
-  red_holds (Del j s) holds = tt
-  red_holds (Fin j) holds = tt
-  red_holds (Nh j) holds = tt
-  red_holds (Rdel proto n) holds = holds
-  red_holds Reading holds = holds
-  red_holds (Out j) holds = holds
-  red_holds Own holds = tt
-  red_holds External holds = holds
+  -- the row of `red`, or none where it isn't live
+  own_at_rest : (p : Network) → Rests Red p → (s : Option Speaker) → own_rows s m.redist (int_rows m.tree) p ≡ rows_if_any (live_own_rows s (has (present m.redist)) scratch_int) p
+  own_at_rest p rest None = refl
+  own_at_rest p rest (Some me) =
+      latest_row (redistributed me) m.redist p (int_rows m.tree p) (λ on q. refl) (rest Own (directly Red tt))
+      ∙ own_made me (present m.redist) p (int_rows m.tree p)
+      ∙ ap (own_row me (has (present m.redist))) (int_is p (above Int Red p tt rest))
 
-  -- the rows of `red`, or none where it isn't live
-  own_at_rest : IsAtRest m Red → (s : Option Speaker) → own_rows s m.redist (int_rows m.tree) ≡ rows_if_any (live_own_rows s (has (present m.redist)) (least_rows routes_in (origins Red)))
-  own_at_rest rest None = refl
-  own_at_rest rest (Some me) =
-      own_is me m.redist (int_rows m.tree) (no_table m.redist.walk (rest Own tt))
-      ∙ ap {B = Rows Route} (λ (rows : Rows Interior) (p : Network). own_row me (has (present m.redist)) (rows p)) (int_is (λ p of n. rest (Rdel p n) of))
+  red_exact : (p : Network) → Rests Red p → (s : Option Speaker) → row_in (own_links s (own_rows s m.redist (int_rows m.tree)) Red) p ≡ row_in (option_map route_rows (live_own_rows s (has (present m.redist)) scratch_int)) p
+  red_exact p rest None = refl
+  red_exact p rest (Some me) = ap (λ (row : Option Route). Some (option_map route_value row)) (own_at_rest p rest (Some me))
 
-  red_exact : IsAtRest m Red → (s : Option Speaker) → own_links s (own_rows s m.redist (int_rows m.tree)) Red ≡ option_map route_rows (live_own_rows s (has (present m.redist)) (least_rows routes_in (origins Red)))
-  red_exact rest None = refl
-  red_exact rest (Some me) = ap (λ (rows : Rows Route). Some (route_rows rows)) (own_at_rest rest (Some me))
-
-  best_is : IsAtRest m Best → best_of m ≡ live_best (live_state m)
-  best_is rest i p = (best_is_picked (all_at (own_of m) m.chains m.hops) p ∙ ap (λ (rows : ℕ → Rows Route). pick (routes_below 65 rows p)) (λ j k. same k j)) i
+  best_is : (p : Network) → Rests Best p → best_of m p ≡ live_best (live_state m) p
+  best_is p rest = best_is_of_its_prefix (all_at (own_of m) m.chains m.hops) (live_candidates (live_state m)) p same ∙ best_is_picked (live_candidates (live_state m)) p
     where
-      same : (k : ℕ) → all_at (own_of m) m.chains m.hops k ≡ live_candidates (live_state m) k
-      same zero = own_at_rest (λ task holds. rest task (red_holds task holds)) m.declared.speaker
-      same (suc k) = opt_none (resolver_at (suc k) m.hops) (filt_at m.chains (suc k)) ∙ ap rows_if_any (res_at_rest (suc k) (λ task holds. rest task (best_holds task (suc k) holds)))
+      same : (k : ℕ) → k < 65 → all_at (own_of m) m.chains m.hops k p ≡ live_candidates (live_state m) k p
+      same zero less = own_at_rest p (above Red Best p tt rest) m.declared.speaker
+      same (suc k) less =
+          by_resolver_row (resolver_at (suc k) m.hops) (filt_at m.chains (suc k)) p
+          ∙ ap or_none (res_at_rest (suc k) p (above (Res (suc k)) Best p tt rest))
+          ∙ sym (if_any (resolved_of (live_state m) (suc k)) p)
 
-  best_exact : IsAtRest m Best → (s : Option Speaker) → best_links s (best_of m) Best ≡ option_map route_rows (since_local s (live_best (live_state m)))
-  best_exact rest None = refl
-  best_exact rest (Some me) = ap (λ (rows : Rows Route). Some (route_rows rows)) (best_is rest)
-
-  -- ---- what reads `best`
   abbrev picked : Rows Route
   picked = live_best (live_state m)
 
-  rib_holds : (task : Task) → HoldsUp task Best → HoldsUp task ReadRib
-  rib_holds (Del j s) holds = tt
-  rib_holds (Fin j) holds = tt
-  rib_holds (Nh j) holds = tt
-  rib_holds (Rdel proto n) holds = holds
-  rib_holds Reading holds = tt
-  rib_holds (Out j) holds = absurd holds
-  rib_holds Own holds = tt
-  rib_holds External holds = holds
+  best_exact : (p : Network) → Rests Best p → (s : Option Speaker) → row_in (best_links s (best_of m) Best) p ≡ row_in (option_map route_rows (since_local s picked)) p
+  best_exact p rest None = refl
+  best_exact p rest (Some me) = ap (λ (row : Option Route). Some (option_map route_value row)) (best_is p rest)
 
-  none_unread : (u : List (Change Route)) (best : Rows Route) → is_unread u ≡ false → rows_before u best ≡ best
-  none_unread [] best none = refl
-  none_unread (x ∷ u) best none = absurd (let clash : true ≡ false = none in cc)
+  -- ---- what reads `best`
+  -- the row that the forwarding side has read is that of `best`
+  unread_is : (p : Network) → Rests ReadRib p → (r : ℕ) → m.reader ≡ Some r → read_rows m.exits.queue r (best_of m) p ≡ best_of m p
+  unread_is p rest r is = unchanged_stays (best_of m) (unread_by m.exits.queue r) p (ap (λ (o : Option ℕ). changed_in (unread_if m.exits.queue o) p) (sym is) ∙ rest Reading (directly ReadRib tt))
 
-  -- what the forwarding side has read
-  unread_is : IsAtRest m ReadRib → (r : ℕ) → m.reader ≡ Some r → read_rows m.exits.queue r (best_of m) ≡ picked
-  unread_is rest r is =
-      none_unread (unread_by m.exits.queue r) (best_of m) (ap (λ (o : Option ℕ). is_unread (unread_if m.exits.queue o)) (sym is) ∙ rest Reading tt)
-      ∙ best_is (λ task holds. rest task (rib_holds task holds))
+  reader_exact : (p : Network) → Rests ReadRib p → (s : Option Speaker) (o : Option ℕ) → m.reader ≡ o → ReadsOn s o m.exits → row_in (read_by m.exits.queue o (best_of m)) p ≡ row_in (option_map route_rows (since_local s picked)) p
+  reader_exact p rest (Some me) (Some r) is on = ap (λ (row : Option Route). Some (option_map route_value row)) (unread_is p rest r is ∙ best_is p (above Best ReadRib p tt rest))
+  reader_exact p rest (Some me) None is on = absurd on
+  reader_exact p rest None (Some r) is on = absurd on
+  reader_exact p rest None None is on = refl
 
-  reader_exact : IsAtRest m ReadRib → (s : Option Speaker) (o : Option ℕ) → m.reader ≡ o → ReadsOn s o m.exits → read_by m.exits.queue o (best_of m) ≡ option_map route_rows (since_local s picked)
-  reader_exact rest (Some me) (Some r) is on = ap (λ (rows : Rows Route). Some (route_rows rows)) (unread_is rest r is)
-  reader_exact rest (Some me) None is on = absurd on
-  reader_exact rest None (Some r) is on = absurd on
-  reader_exact rest None None is on = refl
-
-  read_is : IsAtRest m ReadRib → (me : Speaker) → m.declared.speaker ≡ Some me → read_of m ≡ picked
-  read_is rest me local = by_reader m.reader refl (subst (λ (s : Option Speaker). ReadsOn s m.reader m.exits) local (stands.own OneReader))
+  read_now : (p : Network) → Rests ReadRib p → (me : Speaker) → m.declared.speaker ≡ Some me → read_of m p ≡ best_of m p
+  read_now p rest me local = by_reader m.reader refl (subst (λ (s : Option Speaker). ReadsOn s m.reader m.exits) local (stands.own OneReader))
     where
-      by_reader : (o : Option ℕ) → m.reader ≡ o → ReadsOn (Some me) o m.exits → read_rows_by m.exits.queue o (best_of m) ≡ picked
+      by_reader : (o : Option ℕ) → m.reader ≡ o → ReadsOn (Some me) o m.exits → read_rows_by m.exits.queue o (best_of m) p ≡ best_of m p
       by_reader None is on = absurd on
-      by_reader (Some r) is on = unread_is rest r is
+      by_reader (Some r) is on = unread_is p rest r is
+
+  read_is : (p : Network) → Rests ReadRib p → (me : Speaker) → m.declared.speaker ≡ Some me → read_of m p ≡ picked p
+  read_is p rest me local = read_now p rest me local ∙ best_is p (above Best ReadRib p tt rest)
 
   -- ---- the links of the forwarding side
-  -- what holds `read.rib` up holds them up
-  forward_holds : (task : Task) → HoldsUp task ReadRib → HoldsUp task Ebgp × (HoldsUp task Ibgp × (HoldsUp task Ext × HoldsUp task Fib))
-  forward_holds (Del j s) holds = (tt, (tt, (tt, tt)))
-  forward_holds (Fin j) holds = (tt, (tt, (tt, tt)))
-  forward_holds (Nh j) holds = (tt, (tt, (tt, tt)))
-  forward_holds (Rdel proto n) holds = (holds, (holds, (holds, holds)))
-  forward_holds Reading holds = (tt, (tt, (tt, tt)))
-  forward_holds (Out j) holds = absurd holds
-  forward_holds Own holds = (tt, (tt, (tt, tt)))
-  forward_holds External holds = absurd holds
+  -- from the row of such a link to the link, which is live since `local`
+  forwards : {V : Type 0} (v : V → Value) (rows now : Rows V) (link : Link) (p : Network) → external_links m.rib (int_rows m.tree) link ≡ Some (valued v rows) → ((me : Speaker) → m.declared.speaker ≡ Some me → rows p ≡ now p)
+      → (s : Option Speaker) → m.declared.speaker ≡ s → row_in (forward_by s m.rib (int_rows m.tree) link) p ≡ row_in (option_map (valued v) (since_local s now)) p
+  forwards v rows now link p is same None local = refl
+  forwards v rows now link p is same (Some me) local = ap (λ o. row_in o p) is ∙ ap (λ row. Some (option_map v row)) (same me local)
 
-  -- then the RIB's exit has the best routes
-  external_stands : IsAtRest m ReadRib → (me : Speaker) → m.declared.speaker ≡ Some me → StandsOver picked m.rib
-  external_stands rest me local = subst (λ (best : Rows Route). StandsOver best m.rib) (read_is rest me local) (stands.own ExternalStands)
+  ebgp_exact : (p : Network) → Rests Ebgp p → IsExactIn m Ebgp p
+  ebgp_exact p rest =
+      forwards external_value (kept_rows m.rib.splitter sides.Ebgp) (external_rows (λ w. not w.internal) picked) Ebgp p refl
+      (λ me local. ap (λ (rows : Rows ExternalRow). rows p) (ebgp_is m.rib (read_of m) (stands.own ExternalStands)) ∙ ap (external_row (λ w. not w.internal)) (read_is p (above ReadRib Ebgp p tt rest) me local)) m.declared.speaker refl
 
-  -- from the rows of such a link to the link, which is live since `local`
-  forwards : {V : Type 0} (value : Rows V → Rows Value) (rows now : Rows V) (link : Link) → external_links m.rib (int_rows m.tree) link ≡ Some (value rows) → ((me : Speaker) → m.declared.speaker ≡ Some me → rows ≡ now)
-      → (s : Option Speaker) → m.declared.speaker ≡ s → forward_by s m.rib (int_rows m.tree) link ≡ option_map value (since_local s now)
-  forwards value rows now link is same None local = refl
-  forwards value rows now link is same (Some me) local = is ∙ ap (λ r. Some (value r)) (same me local)
+  ibgp_exact : (p : Network) → Rests Ibgp p → IsExactIn m Ibgp p
+  ibgp_exact p rest =
+      forwards external_value (kept_rows m.rib.splitter sides.Ibgp) (external_rows (λ w. w.internal) picked) Ibgp p refl
+      (λ me local. ap (λ (rows : Rows ExternalRow). rows p) (ibgp_is m.rib (read_of m) (stands.own ExternalStands)) ∙ ap (external_row (λ w. w.internal)) (read_is p (above ReadRib Ibgp p tt rest) me local)) m.declared.speaker refl
 
-  ebgp_exact : IsAtRest m Ebgp → IsExactAt m Ebgp
-  ebgp_exact rest =
-      forwards (valued external_value) (kept_rows m.rib.splitter sides.Ebgp) (external_rows (λ w. not w.internal) picked) Ebgp refl
-      (λ me local. ebgp_is m.rib picked (external_stands (λ task holds. rest task (forward_holds task holds).0) me local)) m.declared.speaker refl
+  ext_row_is : (p : Network) → ext_rows m.rib p ≡ external_row (λ w. true) (read_of m p)
+  ext_row_is p = ap (λ (rows : Rows ExternalRow). rows p) (ext_is m.rib (read_of m) (stands.own ExternalStands))
 
-  ibgp_exact : IsAtRest m Ibgp → IsExactAt m Ibgp
-  ibgp_exact rest =
-      forwards (valued external_value) (kept_rows m.rib.splitter sides.Ibgp) (external_rows (λ w. w.internal) picked) Ibgp refl
-      (λ me local. ibgp_is m.rib picked (external_stands (λ task holds. rest task (forward_holds task holds).1.0) me local)) m.declared.speaker refl
+  ext_exact : (p : Network) → Rests Ext p → IsExactIn m Ext p
+  ext_exact p rest =
+      forwards external_value (ext_rows m.rib) (external_rows (λ w. true) picked) Ext p refl
+      (λ me local. ext_row_is p ∙ ap (external_row (λ w. true)) (read_is p (above ReadRib Ebgp p tt (above Ebgp Ext p tt rest)) me local)) m.declared.speaker refl
 
-  ext_exact : IsAtRest m Ext → IsExactAt m Ext
-  ext_exact rest =
-      forwards (valued external_value) (ext_rows m.rib) (external_rows (λ w. true) picked) Ext refl
-      (λ me local. ext_is m.rib picked (external_stands (λ task holds. rest task (forward_holds task holds).1.1.0) me local)) m.declared.speaker refl
-
-  fib_exact : IsAtRest m Fib → IsExactAt m Fib
-  fib_exact rest = forwards fib_rows (fib_over m.rib (int_rows m.tree)) (forwarding_rows (least_rows routes_in (origins Fib)) (external_rows (λ w. true) picked)) Fib refl same m.declared.speaker refl
+  -- the next hop of the best route of a peer is that of a row of some `filt.K`
+  best_hop : (p : Network) (x : ExternalRow) → external_row (λ w. true) (best_of m p) ≡ Some x → (k : ℕ) × (k < 65) × (next_hop_at m k p ≡ Some x.next_hop)
+  best_hop p x is =
+      let sent = sent_hop (best_of m p) x is in
+      let r : Route = sent.0 in
+      let from = best_is_a_branchs (all_at (own_of m) m.chains m.hops) p r sent.1 in
+      by_branch r sent.1 sent.2 from.0 from.1 from.2
     where
-      same : (me : Speaker) → m.declared.speaker ≡ Some me → fib_over m.rib (int_rows m.tree) ≡ forwarding_rows (least_rows routes_in (origins Fib)) (external_rows (λ w. true) picked)
+      by_branch : (r : Route) → best_of m p ≡ Some r → route_hop r ≡ x.next_hop → (b : ℕ) → b < 65 → all_at (own_of m) m.chains m.hops b p ≡ Some r → (k : ℕ) × (k < 65) × (next_hop_at m k p ≡ Some x.next_hop)
+      by_branch r best hop zero less at =
+          absurd (clash_some x ⊥ (sym (own_external m.declared.speaker m.redist (int_rows m.tree) p r at) ∙ sym (ap (external_row (λ w. true)) best) ∙ is))
+      by_branch r best hop (suc k) less at =
+          (suc k, less, same_next_hop (resolver_at (suc k) m.hops) (filt_at m.chains (suc k)) p r at ∙ ap (λ (a : ℕ). Some a) hop)
+
+  reached_is : (p : Network) → Rests Int p → (o : Option ExternalRow) → external_row (λ w. true) (best_of m p) ≡ o
+      → goes_on external_hop over (λ (a : ℕ). Some (answer_of way_of m.registry a)) o ≡ reached_row scratch_int o
+  reached_is p none None at = refl
+  reached_is p none (Some x) at =
+      let from = best_hop p x at in
+      ap (λ (rows : Rows Interior). over x (way_of (longest 32 rows x.next_hop))) (registered_rows m stands)
+      ∙ over_is x (longest 32 (int_rows m.tree) x.next_hop)
+      ∙ ap (over_interior x) (match_is (int_rows m.tree) x.next_hop ∙ match_rests p from.0 x.next_hop none from.1 from.2)
+
+  fib_exact : (p : Network) → Rests Fib p → IsExactIn m Fib p
+  fib_exact p rest = forwards fib_value (fib_over m.rib (int_rows m.tree)) (forwarding_rows scratch_int (external_rows (λ w. true) picked)) Fib p refl same m.declared.speaker refl
+    where
+      reads : Rests ReadRib p
+      reads = above ReadRib Ebgp p tt (above Ebgp Ext p tt (above Ext Fib p tt rest))
+
+      interior : Rests Int p
+      interior = above Int Fib p tt rest
+
+      same : (me : Speaker) → m.declared.speaker ≡ Some me → fib_over m.rib (int_rows m.tree) p ≡ forwarding_rows scratch_int (external_rows (λ w. true) picked) p
       same me local =
-          fib_is m.rib picked (external_stands (λ task holds. rest task (forward_holds task holds).1.1.1) me local) external (int_rows m.tree) m.registry (stands.own ExternalExit) (stands.own ExternalAgrees) (registered_rows m stands) (rest External tt)
-          ∙ ap (λ (int : Rows Interior). forwarding_rows int (external_rows (λ w. true) picked)) (int_is (λ p of n. rest (Rdel p n) of))
+          let row : ext_rows m.rib p ≡ external_row (λ w. true) (best_of m p) = ext_row_is p ∙ ap (external_row (λ w. true)) (read_now p reads me local) in
+          ap (row_of_both fib_distance (option_map fib_row (int_rows m.tree p)))
+          (external_exact m.rib m.registry p (stands.own ExternalExit) (read_of m) (stands.own ExternalStands) (stands.own ExternalAgrees) (rest External (directly Fib tt))
+          ∙ ap (λ (o : Option ExternalRow). goes_on external_hop over (λ (a : ℕ). Some (answer_of way_of m.registry a)) o) row
+          ∙ reached_is p interior (external_row (λ w. true) (best_of m p)) refl
+          ∙ ap (λ (o : Option Route). reached_row scratch_int (external_row (λ w. true) o)) (best_is p (above Best ReadRib p tt reads)))
+          ∙ ap (λ (o : Option Interior). row_of_both fib_distance (option_map fib_row o) (reached_row scratch_int (external_row (λ w. true) (picked p)))) (int_is p interior)
+          ∙ lesser_is (option_map fib_row (scratch_int p)) (reached_row scratch_int (external_row (λ w. true) (picked p)))
 
   -- ---- the links of sessions
   same_session : (a b : ℕ) → nat_eq a b ≡ nat_eq b a
   same_session a b = by_bool (nat_eq a b) (λ x. x ≡ nat_eq b a) (λ same. grind (arith, nat_tests, same)) (λ apart. grind (arith, nat_tests, apart))
 
-  module _ (V : Type 0) (value : Rows V → Rows Value) (j s : ℕ) (got : OutChained → Rows V) (want : Speaker → Neighbour → Rows V) where
+  module _ (V : Type 0) (v : V → Value) (j s : ℕ) (p : Network) (got : OutChained → Rows V) (want : Speaker → Neighbour → Rows V) where
     abbrev link_of : Option OutChained → Option (Rows Value)
     link_of None = None
-    link_of (Some c) = cond ((j == c.peer.number) && (s == c.session)) (Some (value (got c))) None
+    link_of (Some c) = cond ((j == c.peer.number) && (s == c.session)) (Some (valued v (got c))) None
 
-    in_time : (b : Bool) (x : Rows V) → cond b (Some (value x)) None ≡ option_map value (cond b (Some x) None)
-    in_time true x = refl
-    in_time false x = refl
+    in_time : (b : Bool) (rows now : Rows V) → rows p ≡ now p → row_in (cond b (Some (valued v rows)) None) p ≡ row_in (option_map (valued v) (cond b (Some now) None)) p
+    in_time true rows now same = ap (λ (row : Option V). Some (option_map v row)) same
+    in_time false rows now same = refl
 
-    session_exact : (sp : Option Speaker) (p : Option DeclaredPeer) (o : Option OutChained) → ExitsAt sp m.outgoing j p o → ((q : DeclaredPeer) → p ≡ Some q → q.up ≡ true → IsSome o) → ((c : OutChained) → o ≡ Some c → c.peer.number ≡ j)
-        → ((c : OutChained) (me : Speaker) (q : DeclaredPeer) → o ≡ Some c → sp ≡ Some me → IsExitOf me (rules_to j m.outgoing) q c → got c ≡ want me q.words) → link_of o ≡ option_map value (in_session sp p s want)
-    session_exact (Some me) (Some p) (Some c) is each number rows =
-        ap (λ (b : Bool). cond (b && (s == c.session)) (Some (value (got c))) None) (same_by j c.peer.number (sym (number c refl)))
-        ∙ ap (λ (b : Bool). cond b (Some (value (got c))) None) (ap (nat_eq s) is.session ∙ same_session s p.session ∙ ap (λ (b : Bool). b && (p.session == s)) (sym is.up))
-        ∙ ap (λ (x : Rows V). cond (p.up && (p.session == s)) (Some (value x)) None) (rows c me p refl refl is)
-        ∙ in_time (p.up && (p.session == s)) (want me p.words)
-    session_exact (Some me) (Some p) None is each number rows = by_up p.up refl
+    session_exact : (sp : Option Speaker) (d : Option DeclaredPeer) (o : Option OutChained) → ExitsAt sp m.outgoing j d o → ((q : DeclaredPeer) → d ≡ Some q → q.up ≡ true → IsSome o) → ((c : OutChained) → o ≡ Some c → c.peer.number ≡ j)
+        → ((c : OutChained) (me : Speaker) (q : DeclaredPeer) → o ≡ Some c → sp ≡ Some me → IsExitOf me (rules_to j m.outgoing) q c → got c p ≡ want me q.words p) → row_in (link_of o) p ≡ row_in (option_map (valued v) (in_session sp d s want)) p
+    session_exact (Some me) (Some d) (Some c) is each number rows =
+        ap (λ (b : Bool). row_in (cond (b && (s == c.session)) (Some (valued v (got c))) None) p) (same_by j c.peer.number (sym (number c refl)))
+        ∙ ap (λ (b : Bool). row_in (cond b (Some (valued v (got c))) None) p) (ap (nat_eq s) is.session ∙ same_session s d.session ∙ ap (λ (b : Bool). b && (d.session == s)) (sym is.up))
+        ∙ in_time (d.up && (d.session == s)) (got c) (want me d.words) (rows c me d refl refl is)
+    session_exact (Some me) (Some d) None is each number rows = by_up d.up refl
       where
-        by_up : (b : Bool) → p.up ≡ b → None ≡ option_map value (cond (p.up && (p.session == s)) (Some (want me p.words)) None)
-        by_up true up = absurd (let clash : false ≡ true = each p refl up in cc)
-        by_up false up = ap (λ (b : Bool). option_map value (cond (b && (p.session == s)) (Some (want me p.words)) None)) (sym up)
+        by_up : (b : Bool) → d.up ≡ b → None ≡ row_in (option_map (valued v) (cond (d.up && (d.session == s)) (Some (want me d.words)) None)) p
+        by_up true up = absurd (let clash : false ≡ true = each d refl up in cc)
+        by_up false up = ap (λ (b : Bool). row_in (option_map (valued v) (cond (b && (d.session == s)) (Some (want me d.words)) None)) p) (sym up)
     session_exact (Some me) None (Some c) is each number rows = absurd is
     session_exact (Some me) None None is each number rows = refl
-    session_exact None p (Some c) is each number rows = absurd is
-    session_exact None p None is each number rows = refl
+    session_exact None d (Some c) is each number rows = absurd is
+    session_exact None d None is each number rows = refl
 
-  -- the rows that the peer's reader has, and those that it was sent
-  exit_rests : (j : ℕ) → has_work (Out j) m ≡ false → IsAtRest m Best → (c : OutChained) → exit_at j m.exits ≡ Some c
-      → (read_rows m.exits.queue c.reader (best_of m) ≡ picked) × (tables.get c.sent ≡ passed_by (made_by c) (present c.filter) (best_of m))
-  exit_rests j rest best c at = let x = law m.exits (best_of m) j c (stands.own ExitsRead) at rest in (x.0 ∙ best_is best, x.1)
-
-  made_as : (j : ℕ) (c : OutChained) (me : Speaker) (p : DeclaredPeer) → exit_at j m.exits ≡ Some c → IsExitOf me (rules_to j m.outgoing) p c → (rows : Rows Route) → passed_by (made_by c) (present c.filter) rows ≡ sent_rows me p.words (rules_to j m.outgoing) rows
-  made_as j c me p at is rows =
-      ap (λ (r : Option (List Rule)). passed_by (made_by c) r rows) is.latest
-      ∙ ap (λ (f : Profile). passed_by (outgoing (as_sent f c.exit.me c.exit.external) c.peer) (Some (rules_to j m.outgoing)) rows) ((stands.own EachExit).each j c at).profile
-      ∙ ap (λ (f : Profile). passed_by (outgoing (as_sent f c.exit.me c.exit.external) c.peer) (Some (rules_to j m.outgoing)) rows) (stands.own PlainExits)
-      ∙ ap (λ (b : Bool). passed_by (outgoing (as_sent plain c.exit.me b) c.peer) (Some (rules_to j m.outgoing)) rows) (stands.own ExitsRead j c at).chain.kind
-      ∙ ap (λ (x : Speaker). passed_by (outgoing (as_sent plain x (not c.peer.internal)) c.peer) (Some (rules_to j m.outgoing)) rows) is.speaker
-      ∙ ap (λ (w : Neighbour). passed_by (outgoing (as_sent plain me (not w.internal)) w) (Some (rules_to j m.outgoing)) rows) is.words
+  made_as : (j : ℕ) (c : OutChained) (me : Speaker) (d : DeclaredPeer) → exit_at j m.exits ≡ Some c → IsExitOf me (rules_to j m.outgoing) d c → (p : Network) (row : Option Route)
+      → made_by c (present c.filter) p row ≡ outgoing (as_sent plain me (not d.words.internal)) d.words (Some (rules_to j m.outgoing)) p row
+  made_as j c me d at is p row =
+      ap (λ (r : Option (List Rule)). made_by c r p row) is.latest
+      ∙ ap (λ (f : Profile). outgoing (as_sent f c.exit.me c.exit.external) c.peer (Some (rules_to j m.outgoing)) p row) ((stands.own EachExit).each j c at).profile
+      ∙ ap (λ (f : Profile). outgoing (as_sent f c.exit.me c.exit.external) c.peer (Some (rules_to j m.outgoing)) p row) (stands.own PlainExits)
+      ∙ ap (λ (b : Bool). outgoing (as_sent plain c.exit.me b) c.peer (Some (rules_to j m.outgoing)) p row) (stands.own ExitsRead j c at).chain.kind
+      ∙ ap (λ (x : Speaker). outgoing (as_sent plain x (not c.peer.internal)) c.peer (Some (rules_to j m.outgoing)) p row) is.speaker
+      ∙ ap (λ (w : Neighbour). outgoing (as_sent plain me (not w.internal)) w (Some (rules_to j m.outgoing)) p row) is.words
 
   numbered : (j : ℕ) (c : OutChained) → exit_at j m.exits ≡ Some c → c.peer.number ≡ j
   numbered j c at = ((stands.own EachExit).each j c at).number
 
-  sent_is : (j : ℕ) → has_work (Out j) m ≡ false → IsAtRest m Best → (c : OutChained) (me : Speaker) (p : DeclaredPeer) → exit_at j m.exits ≡ Some c → IsExitOf me (rules_to j m.outgoing) p c
-      → tables.get c.sent ≡ sent_rows me p.words (rules_to j m.outgoing) picked
-  sent_is j rest best c me p at is = (exit_rests j rest best c at).1 ∙ ap (λ (rows : Rows Route). passed_by (made_by c) (present c.filter) rows) (best_is best) ∙ made_as j c me p at is picked
+  sent_is : (j : ℕ) (p : Network) → Rests Best p → holds_up_at (Out j) m p ≡ false → (c : OutChained) (me : Speaker) (d : DeclaredPeer) → exit_at j m.exits ≡ Some c → IsExitOf me (rules_to j m.outgoing) d c
+      → tables.get c.sent p ≡ sent_rows me d.words (rules_to j m.outgoing) picked p
+  sent_is j p best rest c me d at is = (exits_exact m.exits (best_of m) j c p (stands.own ExitsRead) at rest).1 ∙ ap (made_by c (present c.filter) p) (best_is p best) ∙ made_as j c me d at is p (picked p)
 
-  outf_is : (j : ℕ) → has_work (Out j) m ≡ false → IsAtRest m Best → (c : OutChained) (me : Speaker) (p : DeclaredPeer) → exit_at j m.exits ≡ Some c → IsExitOf me (rules_to j m.outgoing) p c
-      → outf_rows c (read_rows m.exits.queue c.reader (best_of m)) ≡ sent_rows me p.words (rules_to j m.outgoing) picked
-  outf_is j rest best c me p at is = sym (stands.own ExitsRead j c at).exact ∙ sent_is j rest best c me p at is
+  outf_is : (j : ℕ) (p : Network) → Rests Best p → holds_up_at (Out j) m p ≡ false → (c : OutChained) (me : Speaker) (d : DeclaredPeer) → exit_at j m.exits ≡ Some c → IsExitOf me (rules_to j m.outgoing) d c
+      → outf_rows c (read_rows m.exits.queue c.reader (best_of m)) p ≡ sent_rows me d.words (rules_to j m.outgoing) picked p
+  outf_is j p best rest c me d at is = sym (ap (λ (rows : Rows Attrs). rows p) (stands.own ExitsRead j c at).exact) ∙ sent_is j p best rest c me d at is
 
-  -- whatever holds `best` up holds the links of sessions up
-  read_holds : (j s : ℕ) (task : Task) → HoldsUp task Best → HoldsUp task (Read j s)
-  read_holds j s (Del k t) holds = tt
-  read_holds j s (Fin k) holds = tt
-  read_holds j s (Nh k) holds = tt
-  read_holds j s (Rdel proto n) holds = holds
-  read_holds j s Reading holds = absurd holds
-  read_holds j s Own holds = tt
-  read_holds j s External holds = holds
-  read_holds j s (Out k) holds = absurd holds
+  read_link : (o : Option OutChained) (j s : ℕ) (p : Network) → exit_link m.exits.queue (best_of m) o (Read j s) ≡ link_of (Route) route_value j s p (λ c. read_rows m.exits.queue c.reader (best_of m)) (λ me w. picked) o
+  read_link None j s p = refl
+  read_link (Some c) j s p = refl
 
-  outf_holds : (j s : ℕ) (task : Task) → HoldsUp task (Read j s) → HoldsUp task (Outf j s)
-  outf_holds j s (Del k t) holds = tt
-  outf_holds j s (Fin k) holds = tt
-  outf_holds j s (Nh k) holds = tt
-  outf_holds j s (Rdel proto n) holds = holds
-  outf_holds j s Reading holds = absurd holds
-  outf_holds j s Own holds = tt
-  outf_holds j s External holds = holds
-  outf_holds j s (Out k) holds = holds
+  outf_link : (o : Option OutChained) (j s : ℕ) (p : Network) → exit_link m.exits.queue (best_of m) o (Outf j s) ≡ link_of (Attrs) attrs_value j s p (λ c. outf_rows c (read_rows m.exits.queue c.reader (best_of m))) (λ me w. sent_rows me w (rules_to j m.outgoing) picked) o
+  outf_link None j s p = refl
+  outf_link (Some c) j s p = refl
 
-  adv_holds : (j s : ℕ) (task : Task) → HoldsUp task (Read j s) → HoldsUp task (Adv j s)
-  adv_holds j s (Del k t) holds = tt
-  adv_holds j s (Fin k) holds = tt
-  adv_holds j s (Nh k) holds = tt
-  adv_holds j s (Rdel proto n) holds = holds
-  adv_holds j s Reading holds = absurd holds
-  adv_holds j s Own holds = tt
-  adv_holds j s External holds = holds
-  adv_holds j s (Out k) holds = holds
+  adv_link : (o : Option OutChained) (j s : ℕ) (p : Network) → exit_link m.exits.queue (best_of m) o (Adv j s) ≡ link_of (Attrs) attrs_value j s p (λ c. tables.get c.sent) (λ me w. sent_rows me w (rules_to j m.outgoing) picked) o
+  adv_link None j s p = refl
+  adv_link (Some c) j s p = refl
 
-  best_rests : (j s : ℕ) → IsAtRest m (Read j s) → IsAtRest m Best
-  best_rests j s rest task holds = rest task (read_holds j s task holds)
+  read_exact : (j s : ℕ) (p : Network) → Rests (Read j s) p → IsExactIn m (Read j s) p
+  read_exact j s p rest =
+      ap (λ o. row_in o p) (read_link (exit_at j m.exits) j s p)
+      ∙ session_exact (Route) route_value j s p (λ c. read_rows m.exits.queue c.reader (best_of m)) (λ me w. picked) m.declared.speaker (peer_at j m.declared.peers) (exit_at j m.exits) (stands.own SameSessions j) (all j) (numbered j)
+      (λ c me d at local is. (exits_exact m.exits (best_of m) j c p (stands.own ExitsRead) at (rest (Out j) (directly (Read j s) refl))).0 ∙ best_is p (above Best (Read j s) p tt rest))
 
-  read_link : (o : Option OutChained) (j s : ℕ) → exit_link m.exits.queue (best_of m) o (Read j s) ≡ link_of (Route) route_rows j s (λ c. read_rows m.exits.queue c.reader (best_of m)) (λ me w. picked) o
-  read_link None j s = refl
-  read_link (Some c) j s = refl
+  outf_exact : (j s : ℕ) (p : Network) → Rests (Outf j s) p → IsExactIn m (Outf j s) p
+  outf_exact j s p rest =
+      ap (λ o. row_in o p) (outf_link (exit_at j m.exits) j s p)
+      ∙ session_exact (Attrs) attrs_value j s p (λ c. outf_rows c (read_rows m.exits.queue c.reader (best_of m))) (λ me w. sent_rows me w (rules_to j m.outgoing) picked) m.declared.speaker (peer_at j m.declared.peers) (exit_at j m.exits) (stands.own SameSessions j) (all j) (numbered j)
+      (outf_is j p (above Best (Read j s) p tt (read j s p rest)) (read j s p rest (Out j) (directly (Read j s) refl)))
+    where
+      read : (j s : ℕ) (p : Network) → Rests (Outf j s) p → Rests (Read j s) p
+      read j s p rest = above (Read j s) (Outf j s) p (refl, refl) rest
 
-  outf_link : (o : Option OutChained) (j s : ℕ) → exit_link m.exits.queue (best_of m) o (Outf j s) ≡ link_of (Attrs) attrs_rows j s (λ c. outf_rows c (read_rows m.exits.queue c.reader (best_of m))) (λ me w. sent_rows me w (rules_to j m.outgoing) picked) o
-  outf_link None j s = refl
-  outf_link (Some c) j s = refl
-
-  adv_link : (o : Option OutChained) (j s : ℕ) → exit_link m.exits.queue (best_of m) o (Adv j s) ≡ link_of (Attrs) attrs_rows j s (λ c. tables.get c.sent) (λ me w. sent_rows me w (rules_to j m.outgoing) picked) o
-  adv_link None j s = refl
-  adv_link (Some c) j s = refl
-
-  read_exact : (j s : ℕ) → IsAtRest m (Read j s) → IsExactAt m (Read j s)
-  read_exact j s rest =
-      read_link (exit_at j m.exits) j s
-      ∙ session_exact (Route) route_rows j s (λ c. read_rows m.exits.queue c.reader (best_of m)) (λ me w. picked) m.declared.speaker (peer_at j m.declared.peers) (exit_at j m.exits) (stands.own SameSessions j) (all j) (numbered j)
-      (λ c me p at local is. (exit_rests j (rest (Out j) refl) (best_rests j s rest) c at).0)
-
-  outf_exact : (j s : ℕ) → IsAtRest m (Outf j s) → IsExactAt m (Outf j s)
-  outf_exact j s rest =
-      outf_link (exit_at j m.exits) j s
-      ∙ session_exact (Attrs) attrs_rows j s (λ c. outf_rows c (read_rows m.exits.queue c.reader (best_of m))) (λ me w. sent_rows me w (rules_to j m.outgoing) picked) m.declared.speaker (peer_at j m.declared.peers) (exit_at j m.exits) (stands.own SameSessions j) (all j) (numbered j)
-      (λ c me p at local is. outf_is j (rest (Out j) refl) (best_rests j s (λ task holds. rest task (outf_holds j s task holds))) c me p at is)
-
-  adv_exact : (j s : ℕ) → IsAtRest m (Adv j s) → IsExactAt m (Adv j s)
-  adv_exact j s rest =
-      adv_link (exit_at j m.exits) j s
-      ∙ session_exact (Attrs) attrs_rows j s (λ c. tables.get c.sent) (λ me w. sent_rows me w (rules_to j m.outgoing) picked) m.declared.speaker (peer_at j m.declared.peers) (exit_at j m.exits) (stands.own SameSessions j) (all j) (numbered j)
-      (λ c me p at local is. sent_is j (rest (Out j) refl) (best_rests j s (λ task holds. rest task (adv_holds j s task holds))) c me p at is)
+  adv_exact : (j s : ℕ) (p : Network) → Rests (Adv j s) p → IsExactIn m (Adv j s) p
+  adv_exact j s p rest =
+      ap (λ o. row_in o p) (adv_link (exit_at j m.exits) j s p)
+      ∙ session_exact (Attrs) attrs_value j s p (λ c. tables.get c.sent) (λ me w. sent_rows me w (rules_to j m.outgoing) picked) m.declared.speaker (peer_at j m.declared.peers) (exit_at j m.exits) (stands.own SameSessions j) (all j) (numbered j)
+      (sent_is j p (above Best (Read j s) p tt (read j s p rest)) (read j s p rest (Out j) (directly (Read j s) refl)))
+    where
+      read : (j s : ℕ) (p : Network) → Rests (Adv j s) p → Rests (Read j s) p
+      read j s p rest = above (Read j s) (Outf j s) p (refl, refl) (above (Outf j s) (Adv j s) p (refl, refl) rest)
 
   -- ---- each link
-  pub at_rest_is_exact : (link : Link) → IsAtRest m link → IsExactAt m link
-  at_rest_is_exact (In k) rest = in_exact k rest (peer_at k m.declared.peers) (chain_at k m.chains) refl (stands.own EachPeer k)
-  at_rest_is_exact (Peer k s) rest = peer_exact k s rest (chain_at k m.chains) refl
-  at_rest_is_exact (Filt k) rest = filt_exact k rest (peer_at k m.declared.peers) (chain_at k m.chains) refl (stands.own EachPeer k)
-  at_rest_is_exact (Res k) rest = opt_link (resolver_at k m.hops) (filt_at m.chains k) ∙ ap (option_map route_rows) (res_at_rest k rest)
-  at_rest_is_exact Red rest = red_exact rest m.declared.speaker
-  at_rest_is_exact Best rest = best_exact rest m.declared.speaker
-  at_rest_is_exact ReadRib rest = reader_exact rest m.declared.speaker m.reader refl (stands.own OneReader)
-  at_rest_is_exact Ebgp rest = ebgp_exact rest
-  at_rest_is_exact Ibgp rest = ibgp_exact rest
-  at_rest_is_exact Ext rest = ext_exact rest
-  at_rest_is_exact Fib rest = fib_exact rest
-  at_rest_is_exact (Read j s) rest = read_exact j s rest
-  at_rest_is_exact (Outf j s) rest = outf_exact j s rest
-  at_rest_is_exact (Adv j s) rest = adv_exact j s rest
-  at_rest_is_exact (Org p) rest = since interior_rows (org_rows (branch_of p m.tree)) (tables.get (routes_in p)) (Org p) refl (org_rests m.tree p (λ n. rest (Rdel p n) (0, omega arith, refl))) m.declared.speaker
-  at_rest_is_exact (LostOf p n) rest = lost_exact p n rest m.declared.speaker
-  at_rest_is_exact Low rest = since interior_rows (low_rows m.tree) (least_rows routes_in (origins Low)) Low refl (two_are Connected Static (λ p of n. rest (Rdel p n) of)) m.declared.speaker
-  at_rest_is_exact Dyn rest = since interior_rows (dyn_rows m.tree) (least_rows routes_in (origins Dyn)) Dyn refl (two_are Ospf Rip (λ p of n. rest (Rdel p n) of)) m.declared.speaker
-  at_rest_is_exact Int rest = since interior_rows (int_rows m.tree) (least_rows routes_in (origins Int)) Int refl (int_is (λ p of n. rest (Rdel p n) of)) m.declared.speaker
-
--- ---- where no task has work
-no_second : (a : Bool) → (a && false) ≡ false
-no_second true = refl
-no_second false = refl
-
-no_work : (m : Moment) → IsSettled m → (task : Task) → has_work task m ≡ false
-no_work m settled (Del k s) = of_chain (chain_at k m.chains) refl
-  where
-    of_chain : (o : Option Chained) → chain_at k m.chains ≡ o → has_turn_in (Del k s) o ≡ false
-    of_chain None at = refl
-    of_chain (Some c) at = ap (λ (ds : List (Lost Attrs)). k == c.incoming.number && is_some (table_of s ds)) (settled phases.Del k c at) ∙ no_second (k == c.incoming.number)
-no_work m settled (Fin k) = of_chain (chain_at k m.chains) refl
-  where
-    of_chain : (o : Option Chained) → chain_at k m.chains ≡ o → has_turn_in (Fin k) o ≡ false
-    of_chain None at = refl
-    of_chain (Some c) at = ap (λ (w : Option (Walked (List Rule))). k == c.incoming.number && is_some w) (settled phases.Fin k c at) ∙ no_second (k == c.incoming.number)
-no_work m settled (Nh k) = settled phases.Nh k
-no_work m settled (Rdel proto n) = ap (λ (ds : List (Lost Interior)). is_some (table_of n ds)) (settled phases.Rdel proto)
-no_work m settled Reading = ap is_unread (settled phases.ReadRib)
-no_work m settled (Out k) = settled phases.Out k
-no_work m settled Own = ap is_some (settled phases.Red)
-no_work m settled External = settled phases.Ext
-
-pub settled_is_exact : LinksAtRestAreExact → (m : Moment) → Stands m → AllHaveExits m → IsSettled m → IsExact m
-settled_is_exact law m stands all settled link = law m stands all link (λ task holds. no_work m settled task)
+  pub at_rest_is_exact : (link : Link) (p : Network) → IsAtRestIn m link p → IsExactIn m link p
+  at_rest_is_exact (In k) p rest = in_exact k p rest (peer_at k m.declared.peers) (chain_at k m.chains) refl (stands.own EachPeer k)
+  at_rest_is_exact (Peer k s) p rest = peer_exact k s p (rest (Del k s) (directly (Peer k s) (refl, refl))) (chain_at k m.chains) refl
+  at_rest_is_exact (Filt k) p rest = filt_exact k p rest (peer_at k m.declared.peers) (chain_at k m.chains) refl (stands.own EachPeer k)
+  at_rest_is_exact (Res k) p rest =
+      ap (λ o. row_in o p) (opt_link (resolver_at k m.hops) (filt_at m.chains k)) ∙ row_value route_value (opt_rows (resolver_at k m.hops) (filt_at m.chains k)) (resolved_of (live_state m) k) p (res_at_rest k p rest)
+  at_rest_is_exact Red p rest = red_exact p rest m.declared.speaker
+  at_rest_is_exact Best p rest = best_exact p rest m.declared.speaker
+  at_rest_is_exact ReadRib p rest = reader_exact p rest m.declared.speaker m.reader refl (stands.own OneReader)
+  at_rest_is_exact Ebgp p rest = ebgp_exact p rest
+  at_rest_is_exact Ibgp p rest = ibgp_exact p rest
+  at_rest_is_exact Ext p rest = ext_exact p rest
+  at_rest_is_exact Fib p rest = fib_exact p rest
+  at_rest_is_exact (Read j s) p rest = read_exact j s p rest
+  at_rest_is_exact (Outf j s) p rest = outf_exact j s p rest
+  at_rest_is_exact (Adv j s) p rest = adv_exact j s p rest
+  at_rest_is_exact (Org proto) p rest = since interior_value (org_rows (branch_of proto m.tree)) (tables.get (routes_in proto)) (Org proto) p refl (org_exact m.tree tree proto p (lacks p proto rest)) m.declared.speaker
+  at_rest_is_exact (LostOf proto n) p rest = lost_exact proto n p (rest (Rdel proto n) (directly (LostOf proto n) (refl, refl))) m.declared.speaker
+  at_rest_is_exact Low p rest = since interior_value (low_rows m.tree) (least_rows routes_in (origins Low)) Low p refl
+      (two_at org_exact m.tree tree Connected Static p (lacks p Connected (above (Org Connected) Low p tt rest)) (lacks p Static (above (Org Static) Low p tt rest))) m.declared.speaker
+  at_rest_is_exact Dyn p rest = since interior_value (dyn_rows m.tree) (least_rows routes_in (origins Dyn)) Dyn p refl
+      (two_at org_exact m.tree tree Ospf Rip p (lacks p Ospf (above (Org Ospf) Dyn p tt rest)) (lacks p Rip (above (Org Rip) Dyn p tt rest))) m.declared.speaker
+  at_rest_is_exact Int p rest = since interior_value (int_rows m.tree) scratch_int Int p refl (int_is p rest) m.declared.speaker

@@ -11,7 +11,7 @@ use Rattle.journal_text.specs.declared.link.Task.{Task}
 use Rattle.journal_text.specs.declared.line.Line.{Line}
 use Rattle.journal_text.specs.declared.line.Line.TheVariants as lines
 use Rattle.journal_text.specs.Journals.{Journaled, with_lines, flushed}
-use Rattle.event_text.specs.declared.event.Event.TheVariants.{Down, Bgp, Cover, Idle, Work}
+use Rattle.event_text.specs.declared.event.Event.TheVariants.{Down, Bgp, Cover, Settled, Idle, Work}
 use Rattle.event_text.specs.declared.event.Event.{Event}
 use Rattle.event_text.specs.declared.declared.DeclaredPeer.{DeclaredPeer}
 use Rattle.event_text.specs.Declarations.{peer_at}
@@ -26,7 +26,10 @@ use Rattle.router_core.specs.declared.router.Idle.{Idle as Answer}
 use Rattle.live_state.specs.Messages.{Says, changes_of}
 use Rattle.live_state.specs.Lives.{LiveState, heard, ended, ended_if_up, HearsIfUp, HearsFrom}
 use Rattle.router_core.specs.Lives.{live_state}
-use Rattle.router_core.specs.Stands.{Stands}
+use Rattle.router_core.specs.Stands.{Stands, AllHaveExits}
+use Rattle.router_core.specs.Holding.{first_held}
+use Rattle.router_core.specs.Scratch.{Tells}
+use Rattle.router_core.specs.Laws.{FirstHeldTells}
 use Rattle.router_core.specs.Blocks.{AreMessageOctets, EndsIf, Hears, HearsIf, ByPeer}
 use Rattle.router_core.specs.Works.{Pushes, Keeps, AreTurns, AllHaveDrained, HasLost, HasHeard, HasIdled, HasStepped, HaveFed}
 use Rattle.router_core.proofs.KeepLemmas.{keeps_none, keeps_said, keeps_join, keeps_on, gives_push, push_gives, gives_none, gives_so, gives_pushed, steps_pushed, ignores}
@@ -87,6 +90,12 @@ pub covered : (m : Moment) (addr : ℕ) (found : Option (Network × Interior)) (
 covered m addr found subnet prefix before j now stands cover is pushed flush = steps_pushed m (Cover addr) (lines.Cover addr (matched found) subnet ∷ []) before j now stands
     (refl, refl, record { found = found; subnet = subnet; cover = subst (λ (rows : Rows Interior). IsCover width rows addr found subnet) (registered_rows m stands) cover; line = refl }) refl (refl, (refl, tt))
     (pushed ∙ ap (λ (p : Option Network). with_lines before (lines.Cover addr p subnet ∷ [])) is) flush
+
+-- ---- `settled`
+pub settled : (m : Moment) (p : Network) (answer : Option Task) (before j now : Journaled) → Stands m → AllHaveExits m → FirstHeldTells → answer ≡ first_held m p
+    → j ≡ with_lines before (lines.Settled p answer ∷ []) → now ≡ flushed j → Gives (HasStepped m (Settled p) 0 m) before now
+settled m p answer before j now stands all tells is = steps_pushed m (Settled p) (lines.Settled p answer ∷ []) before j now stands
+    (refl, refl, record { answer = answer; tells = subst (Tells m p) (sym is) (tells m stands all p); line = refl }) refl (refl, (refl, tt))
 
 -- ---- what a message does
 -- a message that says nothing of routes or of the session

@@ -19,7 +19,7 @@ use Rattle.journal_text.specs.declared.line.Line.TheVariants as lines
 use Rattle.journal_text.specs.Walk.{Leads}
 use Rattle.journal_text.specs.Texts.{entries_of}
 use Rattle.event_text.specs.declared.event.Event.{Event}
-use Rattle.event_text.specs.declared.event.Event.TheVariants.{Nothing, Local, Peer, Up, Down, Bgp, FilterIn, FilterOut, RouteAdd, RouteDel, Lose, Redist, Cover, Idle, Work, Ask, Show}
+use Rattle.event_text.specs.declared.event.Event.TheVariants.{Nothing, Local, Peer, Up, Down, Bgp, FilterIn, FilterOut, RouteAdd, RouteDel, Lose, Redist, Cover, Settled, Idle, Work, Ask, Show}
 use Rattle.event_text.specs.declared.declared.DeclaredPeer.{DeclaredPeer}
 use Rattle.policy_rules.specs.declared.rule.Rule.{Rule}
 use Rattle.event_text.specs.Declarations.{peer_at, words_of, with_speaker, with_peer, with_session, without_session}
@@ -50,7 +50,7 @@ use Rattle.router_core.specs.Stands.{Stands}
 use Rattle.journal_laws.specs.Peers.{KeepsPeers}
 use Rattle.router_core.specs.Printable.{ArePrinted, IsHeard}
 use Rattle.router_core.specs.Phases.{all_phases}
-use Rattle.router_core.specs.Scratch.{IsExact}
+use Rattle.router_core.specs.Scratch.{IsExact, Tells}
 use Rattle.router_core.specs.Turns.{journal_lines, InPeers, FeedsAll, FallsRoute, Turns, Drains, RunsAll, IsSettled, has_work}
 
 -- exactly this is said, this is the moment after it, and no turn was taken
@@ -158,6 +158,12 @@ pub record CoversAddress (addr : ℕ) (m : Moment) (said : List Line) : Type 0 w
   pub cover : IsCover width (int_rows m.tree) addr found subnet
   pub line : said ≡ lines.Cover addr (matched found) subnet ∷ []
 
+-- whether a prefix is settled
+pub record TellsSettled (p : Network) (m : Moment) (said : List Line) : Type 0 where
+  pub answer : Option Task
+  pub tells : Tells m p answer
+  pub line : said ≡ lines.Settled p answer ∷ []
+
 -- the octets of one message, of which there are 4,096 at most (RFC 4271, section 4.1)
 pub record AreMessageOctets (octets : List ℕ) : Type 0 where
   pub each : AllByRecursion (λ b. b < 2 ^ 8) octets
@@ -246,6 +252,7 @@ IsBlock m (RouteDel proto p) said turns m' = DropsRouteIf (is_some (tables.get (
 IsBlock m (Lose proto) said turns m' = (turns ≡ 0) × LosesProtocol proto m said m'
 IsBlock m (Redist proto on) said turns m' = Just [] (with_redist m (edited m.redist (with_proto (present m.redist) proto on))) said turns m'
 IsBlock m (Cover addr) said turns m' = (turns ≡ 0) × (m' ≡ m) × CoversAddress addr m said
+IsBlock m (Settled p) said turns m' = (turns ≡ 0) × (m' ≡ m) × TellsSettled p m said
 IsBlock m Idle said turns m' = Idles m said turns m'
 IsBlock m (Work task n) said turns m' = Works task n m said turns m'
 IsBlock m (Ask link p) said turns m' = Just (answer_lines link p (router_links m link)) m said turns m'

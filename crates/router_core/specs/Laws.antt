@@ -1,5 +1,7 @@
 -- Laws of moments, for the crates above.
-use Rattle.std.specs.Prelude.{◌≡◌, ◌+◌, ◌≤◌, []}
+use Rattle.std.specs.Prelude.{◌≡◌, ◌+◌, ◌≤◌, false, []}
+use Rattle.addr4.specs.Prefixes.{Network}
+use Rattle.journal_text.specs.declared.link.Task.{Task}
 use Rattle.peer_side.specs.Peers.{rows_in}
 use Rattle.hop_side.specs.Resolvers.{known_in}
 use Rattle.rib_tree.specs.Trees.{tree_count}
@@ -7,15 +9,26 @@ use Rattle.rib_exit.specs.Exits.{known_in as external_known}
 use Rattle.router_core.specs.Moments.{Moment, first_moment}
 use Rattle.router_core.specs.Phases.{unread_if}
 use Rattle.router_core.specs.Stands.{Stands, AllHaveExits}
-use Rattle.router_core.specs.Scratch.{IsExactAtRest}
+use Rattle.router_core.specs.Turns.{has_work}
+use Rattle.router_core.specs.Holding.{holds_up_at, first_held}
+use Rattle.router_core.specs.Scratch.{IsExactAtRest, Tells}
 
 -- What holds between two steps holds before the first.
 abbrev pub FirstStands : Type 0
 FirstStands = Stands first_moment
 
--- At any moment where each peer that is up has an exit, each link that no work holds up is what the live state alone asks for.
-abbrev pub LinksAtRestAreExact : Type 0
-LinksAtRestAreExact = (m : Moment) → Stands m → AllHaveExits m → IsExactAtRest m
+-- At any moment where each peer that is up has an exit, at each prefix, each link that no work holds up there is what the live state alone
+-- asks for.
+abbrev pub RowsAtRestAreExact : Type 0
+RowsAtRestAreExact = (m : Moment) → Stands m → AllHaveExits m → IsExactAtRest m
+
+-- A task without work holds up nothing.
+abbrev pub OnlyWorkHoldsUp : Type 0
+OnlyWorkHoldsUp = (m : Moment) (task : Task) (p : Network) → has_work task m ≡ false → holds_up_at task m p ≡ false
+
+-- The first task that holds up a prefix tells whether it is settled.
+abbrev pub FirstHeldTells : Type 0
+FirstHeldTells = (m : Moment) → Stands m → AllHaveExits m → (p : Network) → Tells m p (first_held m p)
 
 -- Each known next hop is named by a row. So peers' next hops are no more than the peers' rows; and those of external routes, where the
 -- forwarding side has read all, are no more than the rows of peers and of protocols.

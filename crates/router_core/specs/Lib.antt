@@ -6,6 +6,7 @@ pub mod Printable
 pub mod Stands
 pub mod Scratch
 pub mod Turns
+pub mod Holding
 pub mod Blocks
 pub mod Laws
 pub mod Lookups

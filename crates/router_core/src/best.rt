@@ -12,11 +12,11 @@ ghost use Rattle.router_core.specs.Bests.{own_rows, lent_chain, lent_resolved, c
 ghost use Rattle.router_core.specs.Moments.{best_of, candidates_of};
 
 use crate::network::Network;
-use addr4::{Memory, Place, Prefix};
+use addr4::{Addr, Memory, Place, Prefix};
 use bgp_attr::Route;
 use decision::{Branches, asked, next_candidate, take_in};
 use event_text::Declared;
-use hop_side::NextHops;
+use hop_side::{Named, NextHops};
 use in_chain::Chain;
 use journal_text::Journal;
 use link_change::Change;
@@ -117,6 +117,16 @@ impl<'a> Branches for Lent<'a> {
             return self.redist.next_candidate(self.tree, *after);
         }
         self.next_resolved(branch, after)
+    }
+}
+
+impl<'a> Named for Lent<'a> {
+    ghost use Rattle.peer_side.specs.Peers.{filt_at};
+
+    ghost rows = { λ l. filt_at l.chains.now };
+
+    fn next_hop(&self, number: u32, p: Prefix) -> Option<Addr> {
+        self.chains.chain(number)?.next_hop(p)
     }
 }
 

@@ -1,10 +1,12 @@
 //! Laws of moments, for the proofs of the crates above. Each is a function that does nothing, whose contract is the law.
 
-ghost use Rattle.router_core.specs.Laws.{FirstStands, LinksAtRestAreExact, KnownNextHopsAreFew};
+ghost use Rattle.router_core.specs.Laws.{FirstStands, RowsAtRestAreExact, OnlyWorkHoldsUp, FirstHeldTells, KnownNextHopsAreFew};
 
-use exit_side::laws::exact_without_work;
-use rib_exit::laws::exact_without_work as external_is_exact;
-use rib_tree::a_new_tree_stands;
+use exit_side::laws::exact_unless_held_up as exits_are_exact;
+use hop_side::laws::exact_unless_held_up as hops_are_exact;
+use peer_side::laws::tasks_hold_up;
+use rib_exit::laws::exact_unless_held_up as external_is_exact;
+use rib_tree::{a_new_tree_stands, losses_hold_up};
 
 /// What holds between two steps holds before the first.
 pub fn first_moment_stands()
@@ -13,12 +15,38 @@ pub fn first_moment_stands()
     a_new_tree_stands();
 }
 
-/// At any moment where each peer that is up has an exit, each link that no work holds up is what the live state alone asks for.
-pub fn links_at_rest_are_exact()
-    ensures { LinksAtRestAreExact }
+/// At any moment where each peer that is up has an exit, at each prefix, each link that no work holds up there is what the live
+/// state alone asks for.
+pub fn rows_at_rest_are_exact()
+    ensures { RowsAtRestAreExact }
 {
-    exact_without_work();
+    losses_hold_up();
+    hops_are_exact();
+    exits_are_exact();
     external_is_exact();
+}
+
+/// A task without work holds up nothing.
+pub fn only_work_holds_up()
+    ensures { OnlyWorkHoldsUp }
+{
+    losses_hold_up();
+    tasks_hold_up();
+    hops_are_exact();
+    exits_are_exact();
+    external_is_exact();
+}
+
+/// The first task that holds up a prefix tells whether it is settled.
+pub fn the_first_task_tells()
+    ensures { FirstHeldTells }
+{
+    rows_at_rest_are_exact();
+    only_work_holds_up();
+    losses_hold_up();
+    tasks_hold_up();
+    hops_are_exact();
+    exits_are_exact();
 }
 
 /// At any moment no more next hops are known than there are rows which name them.

@@ -10,16 +10,16 @@ ghost use Rattle.std.specs.Option.{option_copied};
 ghost use Rattle.hop_side.specs.Resolvers.{resolver_at};
 ghost use Rattle.peer_side.specs.Peers.{chain_at};
 ghost use Rattle.router_core.specs.Moments.{first_moment, router_links, Gives};
-ghost use Rattle.router_core.specs.Scratch.{IsExactAtRest};
+ghost use Rattle.router_core.specs.Scratch.{IsExactAtRest, Tells};
 ghost use Rattle.router_core.specs.Stands.{CoreStands};
 ghost use Rattle.router_core.specs.Turns.{has_work};
 ghost use Rattle.router_core.specs.Blocks.{Acts};
 ghost use Rattle.router_core.specs.Lookups.{IsCountOf};
 ghost use Rattle.router_core.specs.Works.{Comes, HaveDrained, HasIdled};
 
-use crate::laws::links_at_rest_are_exact;
+use crate::laws::{rows_at_rest_are_exact, the_first_task_tells};
 use crate::network::Network;
-use addr4::Memory;
+use addr4::{Memory, Prefix};
 use event_text::{Declared, Event};
 use in_chain::Chain;
 use journal_text::{Journal, Link, Task};
@@ -162,16 +162,12 @@ impl Core {
         &self.network.rib
     }
 
-    /// Whether a prefix is settled. The first task, in the order of an idle, whose work holds it up, which then has work; None exactly
-    /// where none does, and then its rows in `best`, in `fib` and in each `adv.J.S` are what the live state alone asks for. Takes no
-    /// memory.
+    /// Whether a prefix is settled. The first task, in the order of an idle, whose work holds it up, which then has work; None
+    /// exactly where none does, and then its rows in `best`, in `fib` and in each `adv.J.S` are what the live state alone asks
+    /// for. Takes no memory, and looks at no other prefix than this one and those that hold a next hop of its routes.
     pub fn settled(&self, p: Prefix) -> Option<Task>
-        requires good { self.now.failed ≡ false }
-        requires stands { CoreStands self.now }
-        ensures first { result ≡ first_held self.now.moment p }
-        ensures none { IfNone result ((task : Task) → holds_up_at task self.now.moment p ≡ false) }
-        ensures settled { IfNone result (IsSettledAt self.now.moment p) }
-        ensures works { IfSome result (λ task. has_work task self.now.moment ≡ true) }
+        requires { CoreStands self.now }
+        ensures { Tells self.now.moment p result }
     {
         the_first_task_tells();
         self.network.first_held(p)
@@ -190,8 +186,8 @@ impl Core {
     }
 
     /// Steps an event: its lines go into the text of the journal. Answers how many turns `work` or `idle` took, and 0 for
-    /// other events. After each call, this and those below, every link that no work holds up is what the live state alone asks
-    /// for. After want of memory the core answers nothing else.
+    /// other events. After each call, this and those below, at each prefix every link that no work holds up there has the row
+    /// that the live state alone asks for. After want of memory the core answers nothing else.
     pub fn step(&mut self, event: Event, journal: &mut Journal) -> Result<u128, Memory>
         requires admitted { refusal self.old.moment.declared event ≡ None }
         requires formed { IsWellFormed event }
@@ -209,7 +205,7 @@ impl Core {
             drop(event);
             return Err(Memory);
         }
-        links_at_rest_are_exact();
+        rows_at_rest_are_exact();
         declarations_follow();
         self.failed = true;
         let turns = self.network.step(event, journal)?;
@@ -234,7 +230,7 @@ impl Core {
         if self.failed {
             return Err(Memory);
         }
-        links_at_rest_are_exact();
+        rows_at_rest_are_exact();
         self.failed = true;
         let done = self.network.turn(task, journal)?;
         self.failed = false;
@@ -259,7 +255,7 @@ impl Core {
         if self.failed {
             return Err(Memory);
         }
-        links_at_rest_are_exact();
+        rows_at_rest_are_exact();
         self.failed = true;
         let turns = self.network.drain(phase, journal)?;
         self.failed = false;
@@ -280,7 +276,7 @@ impl Core {
         if self.failed {
             return Err(Memory);
         }
-        links_at_rest_are_exact();
+        rows_at_rest_are_exact();
         self.failed = true;
         let idle = self.network.idle(journal)?;
         self.failed = false;

@@ -54,6 +54,7 @@ impl Network {
             Event::Lose(proto) => self.lose_protocol(proto, journal),
             Event::Redist(proto, on) => self.redistribution(proto, on, journal),
             Event::Cover(address) => self.cover(address, journal),
+            Event::Settled(p) => self.settled(p, journal),
             Event::Idle => self.idle_turns(journal),
             Event::Work(task, most) => self.work(task, most, journal),
             Event::Ask(link, p) => self.look_up(link, p, journal),

@@ -4,11 +4,11 @@ ghost use Rattle.std.specs.Prelude.{◌≡◌, IfOk, IfNone, option_map};
 ghost use Rattle.journal_text.specs.declared.link.Task.TheVariants as tasks;
 ghost use Rattle.router_core.specs.Moments.{Gives};
 ghost use Rattle.router_core.specs.Stands.{Stands, AllHaveExits};
-ghost use Rattle.router_core.specs.Phases.{counts};
+ghost use Rattle.router_core.specs.Phases.{all_phases, counts};
 ghost use Rattle.router_core.specs.Turns.{next_task};
 ghost use Rattle.router_core.specs.Works.{Comes, AreTurns, HasDrained, HaveDrained, AllHaveDrained};
 
-use crate::laws::links_at_rest_are_exact;
+use crate::laws::{only_work_holds_up, rows_at_rest_are_exact};
 use crate::network::{Network, plus};
 use crate::router::{Done, Phase};
 use addr4::Memory;
@@ -106,18 +106,10 @@ impl Network {
         ensures { IfOk result (λ turns. Gives (AllHaveDrained self.old turns self.new) journal.old journal.new) }
     {
         turns_are_bounded();
-        links_at_rest_are_exact();
+        rows_at_rest_are_exact();
+        only_work_holds_up();
         journal.flush()?;
-        let phases = [
-            Phase::Rdel,
-            Phase::Red,
-            Phase::Del,
-            Phase::Fin,
-            Phase::Nh,
-            Phase::ReadRib,
-            Phase::Out,
-            Phase::Ext,
-        ];
+        let phases = phases();
         let mut turns = 0;
         for i in 0..phases.len() {
             turns = plus(turns, self.drain(phases[i], journal)?)?;
@@ -126,8 +118,24 @@ impl Network {
     }
 }
 
+/// The phases of an idle, in their order.
+pub(crate) fn phases() -> [Phase; 8]
+    ensures { result ≡ all_phases }
+{
+    [
+        Phase::Rdel,
+        Phase::Red,
+        Phase::Del,
+        Phase::Fin,
+        Phase::Nh,
+        Phase::ReadRib,
+        Phase::Out,
+        Phase::Ext,
+    ]
+}
+
 /// The task of a peer's exit.
-fn exit_of(number: Option<u32>) -> Option<Task>
+pub(crate) fn exit_of(number: Option<u32>) -> Option<Task>
     ensures { result ≡ option_map (λ k. tasks.Out k) number }
 {
     match number {
@@ -137,7 +145,7 @@ fn exit_of(number: Option<u32>) -> Option<Task>
 }
 
 /// The task of a peer's next hops.
-fn task_of(number: Option<u32>) -> Option<Task>
+pub(crate) fn task_of(number: Option<u32>) -> Option<Task>
     ensures { result ≡ option_map (λ k. tasks.Nh k) number }
 {
     match number {

@@ -15,5 +15,5 @@ loop-i-preserved c =
 
 pub returns : goal.returns
 returns c =
-    idling_done c.turns_are_bounded.ensures.bounded c.turns_are_bounded.ensures.left c.links_at_rest_are_exact.ensures c.loop-i.i c.loop-i.turns c.args.self.now c.loop-i.self c.args.journal.now c.loop-i.journal c.requires.stands c.requires.exits
+    idling_done c.turns_are_bounded.ensures.bounded c.turns_are_bounded.ensures.left c.rows_at_rest_are_exact.ensures c.only_work_holds_up.ensures c.loop-i.i c.loop-i.turns c.args.self.now c.loop-i.self c.args.journal.now c.loop-i.journal c.requires.stands c.requires.exits
     c.loop-i-test.false c.loop-i.invariant

@@ -16,7 +16,7 @@ pub returns-clause-exact : goal.returns-clause-exact
 returns-clause-exact c =
     let m = c.self.inside.network in
     let n = c.self.inside.events in
-    exact_after c.links_at_rest_are_exact.ensures c.drain.new.self n
+    exact_after c.rows_at_rest_are_exact.ensures c.drain.new.self n
     (core_worked c.args.self.now m n c.self.inside.failed c.self.view_is c.if-self.false c.requires.stands c.drain.new.self c.in_ok-turns.ensures.0
     c.in_ok-turns.ensures.2.work.keeps (phase_same c.args.phase m c.in_ok-turns.ensures.0 _ c.drain.new.self c.in_ok-turns.ensures.2.runs)
     (λ fit. (phase_goes (neighbours m.declared) n c.args.phase m c.in_ok-turns.ensures.0 _ c.drain.new.self c.in_ok-turns.ensures.2.runs fit).0))

@@ -21,7 +21,7 @@ returns-clause-exact c =
     let m = c.self.inside.network in
     let n = c.self.inside.events in
     let idles = c.in_ok-idle.ensures.2.idles in
-    exact_after c.links_at_rest_are_exact.ensures c.idle.new.self n
+    exact_after c.rows_at_rest_are_exact.ensures c.idle.new.self n
     (core_worked c.args.self.now m n c.self.inside.failed c.self.view_is c.if-self.false c.requires.stands c.idle.new.self c.in_ok-idle.ensures.0
     c.in_ok-idle.ensures.2.keeps (phases_same all_phases m idles.inner _ c.idle.new.self idles.runs) (λ fit. (phases_go (neighbours m.declared) n all_phases m idles.inner _ c.idle.new.self idles.runs fit).0))
 

@@ -26,7 +26,7 @@ returns-clause-stands c =
 
 pub returns-clause-exact : goal.returns-clause-exact
 returns-clause-exact c =
-    exact_after c.links_at_rest_are_exact.ensures c.step.new.self (c.self.inside.events + 1)
+    exact_after c.rows_at_rest_are_exact.ensures c.step.new.self (c.self.inside.events + 1)
     (core_stepped c.args.self.now c.self.inside.network c.self.inside.events c.self.inside.failed c.self.view_is c.if-self.false c.requires.stands c.args.event c.in_ok-turns.turns c.step.new.self
     c.args.journal.now c.step.new.journal c.requires.few c.requires.admitted c.requires.formed c.declarations_follow.ensures c.in_ok-turns.ensures)
 

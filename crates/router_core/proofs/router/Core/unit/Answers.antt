@@ -8,7 +8,7 @@ returns-clause-stands c =
 
 pub returns-clause-exact : goal.returns-clause-exact
 returns-clause-exact c =
-    exact_after c.links_at_rest_are_exact.ensures c.turn.new.self c.self.inside.events
+    exact_after c.rows_at_rest_are_exact.ensures c.turn.new.self c.self.inside.events
     (core_turned c.args.self.now c.self.inside.network c.self.inside.events c.self.inside.failed c.self.view_is c.if-self.false c.requires.stands c.args.task c.turn.new.self
     c.args.journal.now c.turn.new.journal c.in_ok-done.done c.in_ok-done.ensures)
 

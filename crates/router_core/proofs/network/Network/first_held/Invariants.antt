@@ -1,0 +1,7 @@
+use Rattle.std.proofs.Common.{◌≡◌}
+use Rattle.router_core.specs.Holding.{first_held}
+use Rattle.router_core.proofs.HeldLemmas.{from_phase}
+use Rattle.router_core.proofs.network.Network.first_held.Given as goal
+
+abbrev pub invariant-loop-i : goal.invariant-loop-i
+invariant-loop-i l = first_held l.self l.p ≡ from_phase l.self l.p l.i
