@@ -27,10 +27,12 @@ use Rattle.rib_route.specs.declared.rows.External.{External}
 use Rattle.rib_route.specs.declared.rows.FibRow.{FibRow}
 use Rattle.rib_route.specs.Distances.{fib_proto, external_proto}
 use Rattle.rib_route.specs.Ifaces.{is_name_byte, is_iface_name}
-use Rattle.journal_text.specs.Names.{IsNameNumber, IsNamed, link_of}
-use Rattle.journal_text.specs.Texts.{origin_number, bracketed, segment_text, path_text, lettered, aggregator_text, unrecognized_text, required_text, optional_text, attrs_text, sender_number, field_text, known_text, route_text, fib_proto_text, proto_text, gateway_text, with_colons, interior_text, external_text, fib_text, value_text, match_text, dot_number, link_text, words_line, answer_text, entry_words, code_text, line_words, line_text}
+use Rattle.journal_text.specs.Names.{IsNameNumber, IsNamed, IsNamedTask, link_of}
+use Rattle.journal_text.specs.Texts.{origin_number, bracketed, segment_text, path_text, lettered, aggregator_text, unrecognized_text, required_text, optional_text, attrs_text, sender_number, field_text, known_text, route_text, fib_proto_text, proto_text, gateway_text, with_colons, interior_text, external_text, fib_text, value_text, match_text, dot_number, link_text, task_text, held_words, words_line, answer_text, entry_words, code_text, line_words, line_text}
 use Rattle.journal_text.specs.declared.link.Link.{Link}
 use Rattle.journal_text.specs.declared.link.Link.TheVariants.{In, Peer, Filt, Res, Org, Lost, Low, Dyn, Int, Red, Best, ReadRib, Ebgp as EbgpLink, Ibgp as IbgpLink, Ext, Fib, Read as ReadLink, Outf, Adv}
+use Rattle.journal_text.specs.declared.link.Task.{Task}
+use Rattle.journal_text.specs.declared.link.Task.TheVariants as tasks
 use Rattle.journal_text.specs.declared.value.Value.{Value}
 use Rattle.journal_text.specs.declared.value.Value.TheVariants as values
 use Rattle.journal_text.specs.declared.entry.Entry.{Entry}
@@ -38,12 +40,12 @@ use Rattle.journal_text.specs.declared.entry.Entry.TheVariants.{Begin, Inherit, 
 use Rattle.journal_text.specs.declared.line.Code.{Code}
 use Rattle.journal_text.specs.declared.line.Code.TheVariants.{E1, E2, E3, E4, E5, E6}
 use Rattle.journal_text.specs.declared.line.Line.{Line}
-use Rattle.journal_text.specs.declared.line.Line.TheVariants.{Journal, Out, Note, Row, Rows, Cover, Work, Bound, Idle, Ignored, Absent, Refused}
+use Rattle.journal_text.specs.declared.line.Line.TheVariants.{Journal, Out, Note, Row, Rows, Cover, Settled, Work, Bound, Idle, Ignored, Absent, Refused}
 use Rattle.journal_text.proofs.ReadBack.{link_back}
 use Rattle.journal_check.specs.declared.reading.Reading.{Reading}
 use Rattle.journal_check.specs.declared.reading.Reading.TheVariants.{Skipped, Read, NotALine}
 use Rattle.journal_check.specs.Readings.{TextEntry, ◌>>=◌, is_clean, printed_prefix, value_of, answer_of, entry_of_two, entry_on_two, entry_of_three, entry_on_row, entry_of_four, entry_of_five, entry_from, is_skipped, read_or_not, reading_from, reading_of}
-use Rattle.journal_check.specs.Laws.{IsPrefix, IsNumberIfAny, HasNumbers, HasNumber, HasOctets, HasRanges, HasRouteRanges, IsValue, IsAnswer, IsMatch, IsEntry, IsLine, texts_of, said, PrintedLinesAreReadBack}
+use Rattle.journal_check.specs.Laws.{IsPrefix, IsNumberIfAny, HasNumbers, HasNumber, HasOctets, HasRanges, HasRouteRanges, IsValue, IsAnswer, IsMatch, IsNamedIfAny, IsEntry, IsLine, texts_of, said, PrintedLinesAreReadBack}
 use Rattle.journal_check.proofs.InkLemmas.{IsInk, AreInk, digit_range, all_append, all_flat, inky, both_true, ink_by, ink_decimal, ink_wide, ink_dotted, ink_hex, printable, words_parted, line_passes}
 use Rattle.journal_check.proofs.PrefixBack.{ink_addr, ink_prefix, printed_back}
 
@@ -72,8 +74,11 @@ fib_proto_ink Rip = ink_by (fib_proto_text Rip) refl
 fib_proto_ink Ebgp = ink_by (fib_proto_text Ebgp) refl
 fib_proto_ink Ibgp = ink_by (fib_proto_text Ibgp) refl
 
-proto_ink : (proto : Proto) → AreInk (codes "org." ++ proto_text proto)
-proto_ink proto = both (codes "org.") (proto_text proto) (ink_by (codes "org.") refl) (fib_proto_ink (fib_proto proto))
+proto_ink : (word : List ℕ) (proto : Proto) → AreInk word → AreInk (word ++ proto_text proto)
+proto_ink word proto w = both word (proto_text proto) w (fib_proto_ink (fib_proto proto))
+
+one_loss : (word : List ℕ) (proto : Proto) (n : ℕ) → AreInk word → IsNameNumber n → AreInk (word ++ proto_text proto ++ dot_number n)
+one_loss word proto n w h = one_number (word ++ proto_text proto) n (proto_ink word proto w) h
 
 link_ink : (link : Link) → IsNamed link → AreInk (link_text link)
 unfolding link_text
@@ -81,8 +86,8 @@ link_ink (In k) h = one_number (codes "in") k (ink_by (codes "in") refl) h
 link_ink (Peer k s) h = two_numbers (codes "peer") k s (ink_by (codes "peer") refl) h
 link_ink (Filt k) h = one_number (codes "filt") k (ink_by (codes "filt") refl) h
 link_ink (Res k) h = one_number (codes "res") k (ink_by (codes "res") refl) h
-link_ink (Org proto) h = proto_ink proto
-link_ink (Lost proto n) h = one_number (codes "org." ++ proto_text proto) n (proto_ink proto) h
+link_ink (Org proto) h = proto_ink (codes "org.") proto (ink_by (codes "org.") refl)
+link_ink (Lost proto n) h = one_loss (codes "org.") proto n (ink_by (codes "org.") refl) h
 link_ink Low h = ink_by (codes "low") refl
 link_ink Dyn h = ink_by (codes "dyn") refl
 link_ink Int h = ink_by (codes "int") refl
@@ -96,6 +101,17 @@ link_ink Fib h = ink_by (codes "fib") refl
 link_ink (ReadLink j s) h = two_numbers (codes "read") j s (ink_by (codes "read") refl) h
 link_ink (Outf j s) h = two_numbers (codes "outf") j s (ink_by (codes "outf") refl) h
 link_ink (Adv j s) h = two_numbers (codes "adv") j s (ink_by (codes "adv") refl) h
+
+task_ink : (task : Task) → IsNamedTask task → AreInk (task_text task)
+unfolding task_text
+task_ink (tasks.Del k s) h = two_numbers (codes "del") k s (ink_by (codes "del") refl) h
+task_ink (tasks.Fin k) h = one_number (codes "fin") k (ink_by (codes "fin") refl) h
+task_ink (tasks.Nh k) h = one_number (codes "nh") k (ink_by (codes "nh") refl) h
+task_ink tasks.ReadRib h = ink_by (codes "rd.rib") refl
+task_ink (tasks.Out j) h = one_number (codes "out") j (ink_by (codes "out") refl) h
+task_ink (tasks.Rdel proto n) h = one_loss (codes "rdel.") proto n (ink_by (codes "rdel.") refl) h
+task_ink tasks.Red h = ink_by (codes "red") refl
+task_ink tasks.Ext h = ink_by (codes "ext") refl
 
 bracket_ink : (kind : SegmentKind) (text : List ℕ) → AreInk text → AreInk (bracketed kind text)
 bracket_ink Sequence text h = both (40 ∷ text) (41 ∷ []) (ink 40 refl text h) (ink_by (41 ∷ []) refl)
@@ -413,6 +429,10 @@ match_ink : (found : Option Network) → IsMatch found → AreInk (match_text fo
 match_ink None h = ink_by (codes "-") refl
 match_ink (Some p) h = ink_prefix p h
 
+held_ink : (held : Option Task) → IsNamedIfAny held → AllByRecursion AreInk (held_words held)
+held_ink None h = (ink_by (codes "yes") refl, tt)
+held_ink (Some task) h = (ink_by (codes "no") refl, (task_ink task h, tt))
+
 code_ink : (code : Code) → AreInk (code_text code)
 code_ink E1 = ink_by (code_text E1) refl
 code_ink E2 = ink_by (code_text E2) refl
@@ -429,6 +449,7 @@ line_has (Note k octets) h = let small = h.0 in has_skipped (codes "note") (deci
 line_has (Row link p value) h = has_skipped (codes "row") (link_text link ∷ prefix_text p ∷ value_text value ∷ []) refl refl (row_ink link p value h)
 line_has (Rows link count) h = has_skipped (codes "rows") (link_text link ∷ decimal count ∷ []) refl refl (link_ink link h.0, (ink_wide count h.1, tt))
 line_has (Cover addr found subnet) h = has_skipped (codes "cover") (addr_text addr ∷ match_text found ∷ prefix_text subnet ∷ []) refl refl (ink_addr addr, (match_ink found h.1, (ink_prefix subnet h.2, tt)))
+line_has (Settled p held) h = has_skipped (codes "settled") (prefix_text p ∷ held_words held) refl refl (ink_prefix p h.0, held_ink held h.1)
 line_has (Work turns) h = has_skipped (codes "work") (decimal turns ∷ []) refl refl (ink_wide turns h, tt)
 line_has (Bound turns) h = has_skipped (codes "bound") (decimal turns ∷ []) refl refl (ink_wide turns h, tt)
 line_has (Idle turns) h = has_skipped (codes "idle") (decimal turns ∷ []) refl refl (ink_wide turns h, tt)

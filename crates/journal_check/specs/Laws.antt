@@ -8,14 +8,15 @@ use Rattle.bgp_attr.specs.declared.unrecognized.Unrecognized.{Unrecognized}
 use Rattle.bgp_attr.specs.declared.attrs.Attrs.{Attrs}
 use Rattle.bgp_attr.specs.declared.route.Route.{Route}
 use Rattle.rib_route.specs.Ifaces.{is_iface_name}
-use Rattle.journal_text.specs.Names.{IsNamed}
+use Rattle.journal_text.specs.Names.{IsNamed, IsNamedTask}
 use Rattle.journal_text.specs.Texts.{sender_number, value_text, line_text}
+use Rattle.journal_text.specs.declared.link.Task.{Task}
 use Rattle.journal_text.specs.declared.value.Value.{Value}
 use Rattle.journal_text.specs.declared.value.Value.TheVariants as values
 use Rattle.journal_text.specs.declared.entry.Entry.{Entry}
 use Rattle.journal_text.specs.declared.entry.Entry.TheVariants.{Begin, Inherit, Add, Delete, Replace, Asked, Weld, End}
 use Rattle.journal_text.specs.declared.line.Line.{Line}
-use Rattle.journal_text.specs.declared.line.Line.TheVariants.{Journal, Out, Note, Row, Rows, Cover, Work, Bound, Idle, Ignored, Absent, Refused}
+use Rattle.journal_text.specs.declared.line.Line.TheVariants.{Journal, Out, Note, Row, Rows, Cover, Settled, Work, Bound, Idle, Ignored, Absent, Refused}
 use Rattle.journal_check.specs.Readings.{TextEntry, reading_of}
 use Rattle.journal_check.specs.Judged.{IsChecked}
 use Rattle.journal_check.specs.declared.checked.Checked.{Checked}
@@ -86,6 +87,10 @@ abbrev pub IsMatch : Option Network → Type 0
 IsMatch None = Unit {0}
 IsMatch (Some p) = IsPrefix p
 
+abbrev pub IsNamedIfAny : Option Task → Type 0
+IsNamedIfAny None = Unit {0}
+IsNamedIfAny (Some task) = IsNamedTask task
+
 -- a line that the program can print
 abbrev pub IsLine : Line → Type 0
 IsLine (Journal entry) = IsEntry entry
@@ -94,6 +99,7 @@ IsLine (Note k octets) = (k < 2 ^ 32) × AreOctets octets
 IsLine (Row link p value) = IsNamed link × IsPrefix p × IsValue value
 IsLine (Rows link count) = IsNamed link × (count < 2 ^ 128)
 IsLine (Cover addr found subnet) = (addr < 2 ^ 32) × IsMatch found × IsPrefix subnet
+IsLine (Settled p held) = IsPrefix p × IsNamedIfAny held
 IsLine (Work turns) = turns < 2 ^ 128
 IsLine (Bound turns) = turns < 2 ^ 128
 IsLine (Idle turns) = turns < 2 ^ 128
@@ -122,6 +128,7 @@ said (Note k octets) = Skipped
 said (Row link p value) = Skipped
 said (Rows link count) = Skipped
 said (Cover addr found subnet) = Skipped
+said (Settled p held) = Skipped
 said (Work turns) = Skipped
 said (Bound turns) = Skipped
 said (Idle turns) = Skipped

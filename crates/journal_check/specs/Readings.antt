@@ -101,8 +101,8 @@ entry_from other = None
 -- the first word of a line that is no entry
 unfoldable pub is_skipped : List ℕ → Bool
 is_skipped w =
-    bytes_eq w (codes "out") || (bytes_eq w (codes "note") || (bytes_eq w (codes "row") || (bytes_eq w (codes "rows") || (bytes_eq w (codes "cover") || (bytes_eq w (codes "work")
-    || (bytes_eq w (codes "bound") || (bytes_eq w (codes "idle") || (bytes_eq w (codes "ignored") || (bytes_eq w (codes "absent") || (bytes_eq w (codes "refused") || bytes_eq w (codes "total")))))))))))
+    bytes_eq w (codes "out") || (bytes_eq w (codes "note") || (bytes_eq w (codes "row") || (bytes_eq w (codes "rows") || (bytes_eq w (codes "cover") || (bytes_eq w (codes "settled")
+    || (bytes_eq w (codes "work") || (bytes_eq w (codes "bound") || (bytes_eq w (codes "idle") || (bytes_eq w (codes "ignored") || (bytes_eq w (codes "absent") || (bytes_eq w (codes "refused") || bytes_eq w (codes "total"))))))))))))
 
 abbrev pub read_or_not : Option TextEntry → Reading
 read_or_not (Some entry) = Read entry

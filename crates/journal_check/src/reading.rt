@@ -45,6 +45,7 @@ fn is_skipped(word: &[u8]) -> bool
         || word == b"row".as_slice()
         || word == b"rows".as_slice()
         || word == b"cover".as_slice()
+        || word == b"settled".as_slice()
         || word == b"work".as_slice()
         || word == b"bound".as_slice()
         || word == b"idle".as_slice()

@@ -1,5 +1,5 @@
 -- Names are read back from their texts.
-use Rattle.std.proofs.Common.{◌≡◌, ℕ, ◌^◌, ◌<◌, ◌≤◌, ◌&&◌, ◌||◌, not, Bool, true, false, cond, List, [], ◌∷◌, ◌++◌, length, get_or, Some, None, nat_eq, refl, sym, ap, ◌∙◌, arith, codes}
+use Rattle.std.proofs.Common.{◌≡◌, ℕ, ◌^◌, ◌<◌, ◌≤◌, ◌&&◌, ◌||◌, not, Bool, true, false, cond, List, [], ◌∷◌, ◌++◌, length, get_or, Option, Some, None, nat_eq, refl, sym, ap, ◌∙◌, arith, codes}
 use Rattle.std.proofs.lemmas.Bool.Decides.{nat_tests}
 use Rattle.std.specs.Char.{is_ascii_digit}
 use Rattle.std.specs.List.{list_all, onto_first}
@@ -15,8 +15,10 @@ use Rattle.rib_route.specs.declared.Proto.{Proto}
 use Rattle.rib_route.specs.declared.Proto.TheVariants.{Connected, Static, Ospf, Rip}
 use Rattle.journal_text.specs.declared.link.Link.{Link}
 use Rattle.journal_text.specs.declared.link.Link.TheVariants.{In, Peer, Filt, Res, Org, Lost, Low, Dyn, Int, Red, Best, ReadRib, Ebgp, Ibgp, Ext, Fib, Read, Outf, Adv}
-use Rattle.journal_text.specs.Texts.{proto_text, link_text}
-use Rattle.journal_text.specs.Names.{from_one, name_number, with_both, proto_of, inner_link, plain_link, peer_link, link_of_two, session_link, link_of_three, link_from_parts, link_of, IsNameNumber, IsNamed}
+use Rattle.journal_text.specs.declared.link.Task.{Task}
+use Rattle.journal_text.specs.declared.link.Task.TheVariants as tasks
+use Rattle.journal_text.specs.Texts.{proto_text, link_text, task_text}
+use Rattle.journal_text.specs.Names.{from_one, name_number, with_both, proto_of, inner_link, plain_link, peer_link, link_of_two, session_link, link_of_three, link_from_parts, link_of, plain_task, peer_task, task_of_two, task_of_three, task_from_parts, task_of, IsNameNumber, IsNamed, IsNamedTask}
 
 -- ---- numbers
 
@@ -85,29 +87,31 @@ decimal_alone n named = digits_alone (decimal n) (decimal_is_IsNumeral n (omega 
 two_numbers : (k s : ℕ) → IsNameNumber k → IsNameNumber s → parts 46 (decimal k ++ 46 ∷ decimal s) ≡ decimal k ∷ decimal s ∷ []
 two_numbers k s hk hs = decimal_then k (decimal s) hk ∙ ap (λ t. decimal k ∷ t) (decimal_alone s hs)
 
-peer_back : (w : List ℕ) (k : ℕ) (link : Link) → IsNameNumber k → option_and_then (peer_link w) (Some k) ≡ Some link → option_and_then (peer_link w) (name_number (decimal k)) ≡ Some link
-peer_back w k link hk is = ap (option_and_then (peer_link w)) (name_number_back k hk) ∙ is
+one_back : {A : Type 0} (make : ℕ → Option A) (k : ℕ) (x : A) → IsNameNumber k → make k ≡ Some x → option_and_then make (name_number (decimal k)) ≡ Some x
+one_back make k x hk is = ap (option_and_then make) (name_number_back k hk) ∙ is
 
-session_back : (w : List ℕ) (k s : ℕ) (link : Link) → IsNameNumber k → IsNameNumber s → session_link w k s ≡ Some link → with_both (session_link w) (name_number (decimal k)) (name_number (decimal s)) ≡ Some link
-session_back w k s link hk hs is = (λ i. with_both (session_link w) (name_number_back k hk i) (name_number_back s hs i)) ∙ is
+both_back : {A : Type 0} (make : ℕ → ℕ → Option A) (k s : ℕ) (x : A) → IsNameNumber k → IsNameNumber s → make k s ≡ Some x → with_both make (name_number (decimal k)) (name_number (decimal s)) ≡ Some x
+both_back make k s x hk hs is = (λ i. with_both make (name_number_back k hk i) (name_number_back s hs i)) ∙ is
 
-lost_back : (proto : Proto) (n : ℕ) → IsNameNumber n → proto_of (proto_text proto) ≡ Some proto → with_both (λ p m. Some (Lost p m)) (proto_of (proto_text proto)) (name_number (decimal n)) ≡ Some (Lost proto n)
-lost_back proto n hn is = λ i. with_both (λ p m. Some (Lost p m)) (is i) (name_number_back n hn i)
+lost_back : {A : Type 0} (make : Proto → ℕ → Option A) (proto : Proto) (n : ℕ) (x : A) → IsNameNumber n → proto_of (proto_text proto) ≡ Some proto → make proto n ≡ Some x → with_both make (proto_of (proto_text proto)) (name_number (decimal n)) ≡ Some x
+lost_back make proto n x hn of is = (λ i. with_both make (of i) (name_number_back n hn i)) ∙ is
+
+-- ---- links
 
 pub link_back : (link : Link) → IsNamed link → link_of (link_text link) ≡ Some link
 unfolding link_text link_from_parts link_of_two link_of_three plain_link inner_link peer_link session_link proto_of
-link_back (In k) h = ap (λ ps. link_from_parts (codes "in" ∷ ps)) (decimal_alone k h) ∙ peer_back (codes "in") k (In k) h refl
-link_back (Peer k s) h = ap (λ ps. link_from_parts (codes "peer" ∷ ps)) (two_numbers k s h.0 h.1) ∙ session_back (codes "peer") k s (Peer k s) h.0 h.1 refl
-link_back (Filt k) h = ap (λ ps. link_from_parts (codes "filt" ∷ ps)) (decimal_alone k h) ∙ peer_back (codes "filt") k (Filt k) h refl
-link_back (Res k) h = ap (λ ps. link_from_parts (codes "res" ∷ ps)) (decimal_alone k h) ∙ peer_back (codes "res") k (Res k) h refl
+link_back (In k) h = ap (λ ps. link_from_parts (codes "in" ∷ ps)) (decimal_alone k h) ∙ one_back (peer_link (codes "in")) k (In k) h refl
+link_back (Peer k s) h = ap (λ ps. link_from_parts (codes "peer" ∷ ps)) (two_numbers k s h.0 h.1) ∙ both_back (session_link (codes "peer")) k s (Peer k s) h.0 h.1 refl
+link_back (Filt k) h = ap (λ ps. link_from_parts (codes "filt" ∷ ps)) (decimal_alone k h) ∙ one_back (peer_link (codes "filt")) k (Filt k) h refl
+link_back (Res k) h = ap (λ ps. link_from_parts (codes "res" ∷ ps)) (decimal_alone k h) ∙ one_back (peer_link (codes "res")) k (Res k) h refl
 link_back (Org Connected) h = refl
 link_back (Org Static) h = refl
 link_back (Org Ospf) h = refl
 link_back (Org Rip) h = refl
-link_back (Lost Connected n) h = ap (λ ps. link_from_parts (codes "org" ∷ codes "connected" ∷ ps)) (decimal_alone n h) ∙ lost_back Connected n h refl
-link_back (Lost Static n) h = ap (λ ps. link_from_parts (codes "org" ∷ codes "static" ∷ ps)) (decimal_alone n h) ∙ lost_back Static n h refl
-link_back (Lost Ospf n) h = ap (λ ps. link_from_parts (codes "org" ∷ codes "ospf" ∷ ps)) (decimal_alone n h) ∙ lost_back Ospf n h refl
-link_back (Lost Rip n) h = ap (λ ps. link_from_parts (codes "org" ∷ codes "rip" ∷ ps)) (decimal_alone n h) ∙ lost_back Rip n h refl
+link_back (Lost Connected n) h = ap (λ ps. link_from_parts (codes "org" ∷ codes "connected" ∷ ps)) (decimal_alone n h) ∙ lost_back (λ p m. Some (Lost p m)) Connected n (Lost Connected n) h refl refl
+link_back (Lost Static n) h = ap (λ ps. link_from_parts (codes "org" ∷ codes "static" ∷ ps)) (decimal_alone n h) ∙ lost_back (λ p m. Some (Lost p m)) Static n (Lost Static n) h refl refl
+link_back (Lost Ospf n) h = ap (λ ps. link_from_parts (codes "org" ∷ codes "ospf" ∷ ps)) (decimal_alone n h) ∙ lost_back (λ p m. Some (Lost p m)) Ospf n (Lost Ospf n) h refl refl
+link_back (Lost Rip n) h = ap (λ ps. link_from_parts (codes "org" ∷ codes "rip" ∷ ps)) (decimal_alone n h) ∙ lost_back (λ p m. Some (Lost p m)) Rip n (Lost Rip n) h refl refl
 link_back Low h = refl
 link_back Dyn h = refl
 link_back Int h = refl
@@ -118,6 +122,22 @@ link_back Ebgp h = refl
 link_back Ibgp h = refl
 link_back Ext h = refl
 link_back Fib h = refl
-link_back (Read j s) h = ap (λ ps. link_from_parts (codes "read" ∷ ps)) (two_numbers j s h.0 h.1) ∙ session_back (codes "read") j s (Read j s) h.0 h.1 refl
-link_back (Outf j s) h = ap (λ ps. link_from_parts (codes "outf" ∷ ps)) (two_numbers j s h.0 h.1) ∙ session_back (codes "outf") j s (Outf j s) h.0 h.1 refl
-link_back (Adv j s) h = ap (λ ps. link_from_parts (codes "adv" ∷ ps)) (two_numbers j s h.0 h.1) ∙ session_back (codes "adv") j s (Adv j s) h.0 h.1 refl
+link_back (Read j s) h = ap (λ ps. link_from_parts (codes "read" ∷ ps)) (two_numbers j s h.0 h.1) ∙ both_back (session_link (codes "read")) j s (Read j s) h.0 h.1 refl
+link_back (Outf j s) h = ap (λ ps. link_from_parts (codes "outf" ∷ ps)) (two_numbers j s h.0 h.1) ∙ both_back (session_link (codes "outf")) j s (Outf j s) h.0 h.1 refl
+link_back (Adv j s) h = ap (λ ps. link_from_parts (codes "adv" ∷ ps)) (two_numbers j s h.0 h.1) ∙ both_back (session_link (codes "adv")) j s (Adv j s) h.0 h.1 refl
+
+-- ---- tasks
+
+pub task_back : (task : Task) → IsNamedTask task → task_of (task_text task) ≡ Some task
+unfolding task_text task_from_parts task_of_two task_of_three plain_task peer_task proto_of
+task_back (tasks.Del k s) h = ap (λ ps. task_from_parts (codes "del" ∷ ps)) (two_numbers k s h.0 h.1) ∙ both_back (λ j t. Some (tasks.Del j t)) k s (tasks.Del k s) h.0 h.1 refl
+task_back (tasks.Fin k) h = ap (λ ps. task_from_parts (codes "fin" ∷ ps)) (decimal_alone k h) ∙ one_back (peer_task (codes "fin")) k (tasks.Fin k) h refl
+task_back (tasks.Nh k) h = ap (λ ps. task_from_parts (codes "nh" ∷ ps)) (decimal_alone k h) ∙ one_back (peer_task (codes "nh")) k (tasks.Nh k) h refl
+task_back tasks.ReadRib h = refl
+task_back (tasks.Out j) h = ap (λ ps. task_from_parts (codes "out" ∷ ps)) (decimal_alone j h) ∙ one_back (peer_task (codes "out")) j (tasks.Out j) h refl
+task_back (tasks.Rdel Connected n) h = ap (λ ps. task_from_parts (codes "rdel" ∷ codes "connected" ∷ ps)) (decimal_alone n h) ∙ lost_back (λ p m. Some (tasks.Rdel p m)) Connected n (tasks.Rdel Connected n) h refl refl
+task_back (tasks.Rdel Static n) h = ap (λ ps. task_from_parts (codes "rdel" ∷ codes "static" ∷ ps)) (decimal_alone n h) ∙ lost_back (λ p m. Some (tasks.Rdel p m)) Static n (tasks.Rdel Static n) h refl refl
+task_back (tasks.Rdel Ospf n) h = ap (λ ps. task_from_parts (codes "rdel" ∷ codes "ospf" ∷ ps)) (decimal_alone n h) ∙ lost_back (λ p m. Some (tasks.Rdel p m)) Ospf n (tasks.Rdel Ospf n) h refl refl
+task_back (tasks.Rdel Rip n) h = ap (λ ps. task_from_parts (codes "rdel" ∷ codes "rip" ∷ ps)) (decimal_alone n h) ∙ lost_back (λ p m. Some (tasks.Rdel p m)) Rip n (tasks.Rdel Rip n) h refl refl
+task_back tasks.Red h = refl
+task_back tasks.Ext h = refl

@@ -5,12 +5,13 @@ use Rattle.link_change.specs.Rows.{Rows}
 use Rattle.link_change.specs.Changes.{IsSent}
 use Rattle.link_change.specs.declared.change.Change.{Change}
 use Rattle.journal_text.specs.Links.{same_link}
-use Rattle.journal_text.specs.Names.{IsNamed, link_of}
-use Rattle.journal_text.specs.Texts.{link_text}
+use Rattle.journal_text.specs.Names.{IsNamed, IsNamedTask, link_of, task_of}
+use Rattle.journal_text.specs.Texts.{link_text, task_text}
 use Rattle.journal_text.specs.Walk.{Links, with_link, Leads}
 use Rattle.journal_text.specs.Journals.{Journaled, with_entries}
 use Rattle.journal_text.specs.Values.{valued, valued_change}
 use Rattle.journal_text.specs.declared.link.Link.{Link}
+use Rattle.journal_text.specs.declared.link.Task.{Task}
 use Rattle.journal_text.specs.declared.entry.Entry.{Entry}
 use Rattle.journal_text.specs.declared.value.Value.{Value}
 
@@ -38,6 +39,10 @@ ChangesLead {R} value =
 -- The name of a link is read back, where its numbers can stand in a name.
 abbrev pub LinksReadBack : Type 0
 LinksReadBack = (link : Link) → IsNamed link → link_of (link_text link) ≡ Some link
+
+-- The name of a task is read back, where its numbers can stand in a name.
+abbrev pub TasksReadBack : Type 0
+TasksReadBack = (task : Task) → IsNamedTask task → task_of (task_text task) ≡ Some task
 
 -- Entries that are appended one after another are appended as one.
 abbrev pub EntriesJoin : Type 0

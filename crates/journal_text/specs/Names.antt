@@ -155,3 +155,14 @@ IsNamed Fib = Unit {0}
 IsNamed (Read j s) = IsNameNumber j × IsNameNumber s
 IsNamed (Outf j s) = IsNameNumber j × IsNameNumber s
 IsNamed (Adv j s) = IsNameNumber j × IsNameNumber s
+
+-- each number in the task's name is from 1 and below 2^32
+abbrev pub IsNamedTask : Task → Type 0
+IsNamedTask (Del k s) = IsNameNumber k × IsNameNumber s
+IsNamedTask (Fin k) = IsNameNumber k
+IsNamedTask (Nh k) = IsNameNumber k
+IsNamedTask RibReads = Unit {0}
+IsNamedTask (Out j) = IsNameNumber j
+IsNamedTask (Rdel proto n) = IsNameNumber n
+IsNamedTask RedWalks = Unit {0}
+IsNamedTask ExtWalks = Unit {0}

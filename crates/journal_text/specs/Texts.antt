@@ -24,6 +24,8 @@ use Rattle.bgp_attr.specs.declared.speaker.Neighbour.{Neighbour}
 use Rattle.bgp_attr.specs.declared.route.Route.{Route}
 use Rattle.journal_text.specs.declared.link.Link.{Link}
 use Rattle.journal_text.specs.declared.link.Link.TheVariants.{In, Peer, Filt, Res, Org, Lost, Low, Dyn, Int, Red, Best, ReadRib, Ebgp, Ibgp, Ext, Fib, Read, Outf, Adv}
+use Rattle.journal_text.specs.declared.link.Task.{Task}
+use Rattle.journal_text.specs.declared.link.Task.TheVariants as tasks
 use Rattle.journal_text.specs.declared.value.Value.{Value}
 use Rattle.journal_text.specs.declared.value.Value.TheVariants as values
 use Rattle.journal_text.specs.declared.entry.Entry.{Entry}
@@ -31,7 +33,7 @@ use Rattle.journal_text.specs.declared.entry.Entry.TheVariants.{Begin, Inherit, 
 use Rattle.journal_text.specs.declared.line.Code.{Code}
 use Rattle.journal_text.specs.declared.line.Code.TheVariants.{E1, E2, E3, E4, E5, E6}
 use Rattle.journal_text.specs.declared.line.Line.{Line}
-use Rattle.journal_text.specs.declared.line.Line.TheVariants.{Journal, Out, Note, Row, Rows, Cover, Work, Bound, Idle, Ignored, Absent, Refused}
+use Rattle.journal_text.specs.declared.line.Line.TheVariants.{Journal, Out, Note, Row, Rows, Cover, Settled, Work, Bound, Idle, Ignored, Absent, Refused}
 
 abbrev pub origin_number : Origin → ℕ
 origin_number Igp = 0
@@ -159,6 +161,17 @@ link_text (Read j s) = codes "read" ++ dot_number j ++ dot_number s
 link_text (Outf j s) = codes "outf" ++ dot_number j ++ dot_number s
 link_text (Adv j s) = codes "adv" ++ dot_number j ++ dot_number s
 
+-- the name of a task
+unfoldable pub task_text : Task → List ℕ
+task_text (tasks.Del k s) = codes "del" ++ dot_number k ++ dot_number s
+task_text (tasks.Fin k) = codes "fin" ++ dot_number k
+task_text (tasks.Nh k) = codes "nh" ++ dot_number k
+task_text tasks.ReadRib = codes "rd.rib"
+task_text (tasks.Out j) = codes "out" ++ dot_number j
+task_text (tasks.Rdel proto n) = codes "rdel." ++ proto_text proto ++ dot_number n
+task_text tasks.Red = codes "red"
+task_text tasks.Ext = codes "ext"
+
 -- words with one space between them, and LF
 abbrev pub words_line : List (List ℕ) → List ℕ
 words_line words = join_with_byte 32 words ++ 10 ∷ []
@@ -183,6 +196,11 @@ abbrev pub match_text : Option Network → List ℕ
 match_text None = codes "-"
 match_text (Some p) = prefix_text p
 
+-- `yes` where no task holds it up, and `no` with the task's name where one does
+abbrev pub held_words : Option Task → List (List ℕ)
+held_words None = codes "yes" ∷ []
+held_words (Some task) = codes "no" ∷ task_text task ∷ []
+
 abbrev pub code_text : Code → List ℕ
 code_text E1 = codes "E1"
 code_text E2 = codes "E2"
@@ -198,6 +216,7 @@ line_words (Note k octets) = codes "note" ∷ decimal k ∷ encode_lower octets 
 line_words (Row link p value) = codes "row" ∷ link_text link ∷ prefix_text p ∷ value_text value ∷ []
 line_words (Rows link count) = codes "rows" ∷ link_text link ∷ decimal count ∷ []
 line_words (Cover addr found subnet) = codes "cover" ∷ addr_text addr ∷ match_text found ∷ prefix_text subnet ∷ []
+line_words (Settled p held) = codes "settled" ∷ prefix_text p ∷ held_words held
 line_words (Work turns) = codes "work" ∷ decimal turns ∷ []
 line_words (Bound turns) = codes "bound" ∷ decimal turns ∷ []
 line_words (Idle turns) = codes "idle" ∷ decimal turns ∷ []
@@ -216,6 +235,7 @@ is_entry (Note k octets) = false
 is_entry (Row link p value) = false
 is_entry (Rows link count) = false
 is_entry (Cover addr found subnet) = false
+is_entry (Settled p held) = false
 is_entry (Work turns) = false
 is_entry (Bound turns) = false
 is_entry (Idle turns) = false
@@ -238,6 +258,7 @@ entry_list (Note k octets) = []
 entry_list (Row link p value) = []
 entry_list (Rows link count) = []
 entry_list (Cover addr found subnet) = []
+entry_list (Settled p held) = []
 entry_list (Work turns) = []
 entry_list (Bound turns) = []
 entry_list (Idle turns) = []

@@ -2,7 +2,7 @@
 //! the law.
 
 ghost use Rattle.journal_text.specs.Walk.{LeadsOn};
-ghost use Rattle.journal_text.specs.Laws.{ChangesLead, EachLinkIsItself, LinksAreSetInEitherOrder, EntriesJoin, LinksReadBack, ReadLinksAreNamed, SameLinksAreEqual};
+ghost use Rattle.journal_text.specs.Laws.{ChangesLead, EachLinkIsItself, LinksAreSetInEitherOrder, EntriesJoin, LinksReadBack, ReadLinksAreNamed, SameLinksAreEqual, TasksReadBack};
 
 use crate::valued::Valued;
 
@@ -30,6 +30,11 @@ pub fn changes_lead<R: Valued>()
 /// The name of a link whose numbers are from 1 and below 2^32 is read back, so no two of them have one name.
 pub fn link_names_are_read_back()
     ensures { LinksReadBack }
+{}
+
+/// The name of a task whose numbers are from 1 and below 2^32 is read back, so no two of them have one name.
+pub fn task_names_are_read_back()
+    ensures { TasksReadBack }
 {}
 
 /// The numbers in a name that is read are from 1 and below 2^32.

@@ -1,7 +1,7 @@
 //! The lines of the output.
 
 use crate::entry::Entry;
-use crate::link::Link;
+use crate::link::{Link, Task};
 use crate::value::Value;
 use addr4::{Addr, Prefix};
 use bgp_attr::Octets;
@@ -38,6 +38,9 @@ pub enum Line {
     /// `cover ADDR MATCH SUBNET`: the prefix of the longest interior route that holds the address, `-` where there is none,
     /// and the largest subnet with that answer.
     Cover(Addr, Option<Prefix>, Prefix),
+    /// `settled PREFIX yes`, or `settled PREFIX no TASK`: whether the rows at the prefix are final, or the first task that
+    /// holds it up.
+    Settled(Prefix, Option<Task>),
     /// `work M`: how many turns `work` took.
     Work(u128),
     /// `bound B`: how many turns `idle` takes at most.

@@ -4,12 +4,12 @@ ghost use Rattle.std.specs.Prelude.{◌≡◌, ◌++◌, ◌∷◌, [], OnOk, co
 ghost use Rattle.std.specs.Fmt.{decimal};
 ghost use Rattle.hex.specs.Hex.{encode_lower};
 ghost use Rattle.addr4.specs.Texts.{addr_text, prefix_text};
-ghost use Rattle.journal_text.specs.Texts.{answer_text, code_text, entry_words, is_entry, line_text, link_text, match_text, text_of, value_text, words_line};
+ghost use Rattle.journal_text.specs.Texts.{answer_text, code_text, entry_words, held_words, is_entry, line_text, link_text, match_text, task_text, text_of, value_text, words_line};
 
 use crate::entry::Entry;
 use crate::line::{Code, Line};
-use crate::link::Link;
-use crate::names::push_link;
+use crate::link::{Link, Task};
+use crate::names::{push_link, push_task};
 use crate::texts::{push_answer, push_text, push_value, push_wide};
 use crate::value::Value;
 use addr4::{Addr, Memory, Prefix, push_addr, push_number, push_prefix};
@@ -196,6 +196,28 @@ fn push_cover(
     Ok(())
 }
 
+/// ` no TASK`, and LF.
+fn push_held(out: &mut Vec<u8>, task: Task) -> Result<(), Memory>
+    ensures { OnOk result (out.new.items ≡ out.old.items ++ (codes " no " ++ task_text task ++ 10 ∷ [])) }
+{
+    push_text(out, b" no ")?;
+    push_task(out, task)?;
+    out.push(b'\n')?;
+    Ok(())
+}
+
+/// `settled PREFIX yes`, `settled PREFIX no TASK`
+fn push_settled(out: &mut Vec<u8>, prefix: Prefix, held: Option<Task>) -> Result<(), Memory>
+    ensures { OnOk result (out.new.items ≡ out.old.items ++ words_line (codes "settled" ∷ prefix_text prefix ∷ held_words held)) }
+{
+    push_text(out, b"settled ")?;
+    push_prefix(out, prefix)?;
+    match held {
+        None => push_text(out, b" yes\n"),
+        Some(task) => push_held(out, task),
+    }
+}
+
 /// The word of a code.
 fn code_word(code: Code) -> &'static [u8]
     ensures { result.now ≡ code_text code }
@@ -234,6 +256,7 @@ fn push_line(alloc: Global, out: &mut Vec<u8>, line: &Line) -> Result<(), Memory
         Line::Row(link, prefix, value) => push_row(alloc, out, b"row", *link, *prefix, value),
         Line::Rows(link, count) => push_rows(alloc, out, *link, *count),
         Line::Cover(addr, found, subnet) => push_cover(out, *addr, *found, *subnet),
+        Line::Settled(prefix, held) => push_settled(out, *prefix, *held),
         Line::Work(turns) => push_count(alloc, out, b"work", *turns),
         Line::Bound(turns) => push_count(alloc, out, b"bound", *turns),
         Line::Idle(turns) => push_count(alloc, out, b"idle", *turns),

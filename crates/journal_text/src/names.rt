@@ -1,9 +1,9 @@
-//! The texts of links' names.
+//! The texts of the names of links and tasks.
 
 ghost use Rattle.std.specs.Prelude.{◌≡◌, ◌++◌, ◌∷◌, [], OnOk, codes};
-ghost use Rattle.journal_text.specs.Texts.{dot_number, fib_proto_text, link_text, proto_text};
+ghost use Rattle.journal_text.specs.Texts.{dot_number, fib_proto_text, link_text, proto_text, task_text};
 
-use crate::link::Link;
+use crate::link::{Link, Task};
 use crate::texts::push_text;
 use addr4::{Memory, push_number};
 use rib_route::{FibProto, Proto};
@@ -54,19 +54,19 @@ pub(crate) fn proto_word(proto: Proto) -> &'static [u8]
     fib_proto_word(proto.fib_proto())
 }
 
-/// `org.PROTO`
-fn push_origin(out: &mut Vec<u8>, proto: Proto) -> Result<(), Memory>
-    ensures { OnOk result (out.new.items ≡ out.old.items ++ (codes "org." ++ proto_text proto)) }
+/// A word with its dot, and a protocol.
+fn push_protocol(out: &mut Vec<u8>, word: &[u8], proto: Proto) -> Result<(), Memory>
+    ensures { OnOk result (out.new.items ≡ out.old.items ++ (word.now ++ proto_text proto)) }
 {
-    push_text(out, b"org.")?;
+    push_text(out, word)?;
     push_text(out, proto_word(proto))
 }
 
-/// `org.PROTO.N`
-fn push_lost(out: &mut Vec<u8>, proto: Proto, loss: u32) -> Result<(), Memory>
-    ensures { OnOk result (out.new.items ≡ out.old.items ++ (codes "org." ++ proto_text proto ++ dot_number loss)) }
+/// A word with its dot, a protocol, and the number of its loss.
+fn push_lost(out: &mut Vec<u8>, word: &[u8], proto: Proto, loss: u32) -> Result<(), Memory>
+    ensures { OnOk result (out.new.items ≡ out.old.items ++ (word.now ++ proto_text proto ++ dot_number loss)) }
 {
-    push_origin(out, proto)?;
+    push_protocol(out, word, proto)?;
     push_dot_number(out, loss)
 }
 
@@ -80,8 +80,8 @@ pub(crate) fn push_link(out: &mut Vec<u8>, link: Link) -> Result<(), Memory>
         Link::Peer(peer, session) => push_session(out, b"peer", peer, session),
         Link::Filt(peer) => push_numbered(out, b"filt", peer),
         Link::Res(peer) => push_numbered(out, b"res", peer),
-        Link::Org(proto) => push_origin(out, proto),
-        Link::Lost(proto, loss) => push_lost(out, proto, loss),
+        Link::Org(proto) => push_protocol(out, b"org.", proto),
+        Link::Lost(proto, loss) => push_lost(out, b"org.", proto, loss),
         Link::Low => push_text(out, b"low"),
         Link::Dyn => push_text(out, b"dyn"),
         Link::Int => push_text(out, b"int"),
@@ -95,5 +95,22 @@ pub(crate) fn push_link(out: &mut Vec<u8>, link: Link) -> Result<(), Memory>
         Link::Read(peer, session) => push_session(out, b"read", peer, session),
         Link::Outf(peer, session) => push_session(out, b"outf", peer, session),
         Link::Adv(peer, session) => push_session(out, b"adv", peer, session),
+    }
+}
+
+/// The name of a task.
+#[tactic(auto, unfolding(crate::specs::Texts::task_text))]
+pub(crate) fn push_task(out: &mut Vec<u8>, task: Task) -> Result<(), Memory>
+    ensures { OnOk result (out.new.items ≡ out.old.items ++ task_text task) }
+{
+    match task {
+        Task::Del(peer, session) => push_session(out, b"del", peer, session),
+        Task::Fin(peer) => push_numbered(out, b"fin", peer),
+        Task::Nh(peer) => push_numbered(out, b"nh", peer),
+        Task::ReadRib => push_text(out, b"rd.rib"),
+        Task::Out(peer) => push_numbered(out, b"out", peer),
+        Task::Rdel(proto, loss) => push_lost(out, b"rdel.", proto, loss),
+        Task::Red => push_text(out, b"red"),
+        Task::Ext => push_text(out, b"ext"),
     }
 }
