@@ -24,7 +24,7 @@ use Rattle.addr4.specs.Prefixes.{Network, IsMasked}
 use Rattle.bgp_attr.specs.Hosts.{is_host}
 use Rattle.bgp_attr.specs.Speakers.{IsSpeaker}
 use Rattle.event_text.specs.Words.{from_one, speaker_of, octets_of, way_out, way_over, interior_of, switch_of}
-use Rattle.event_text.specs.Events.{local_of, peer_of, one_number, bgp_of, filter_on, filter_of, route_add_of, route_del_of, route_of, lost_of, redist_of, cover_of, interior_event, work_of, ask_of, show_of, plain_event, named_event, event_of}
+use Rattle.event_text.specs.Events.{local_of, peer_of, one_number, bgp_of, filter_on, filter_of, route_add_of, route_del_of, route_of, lost_of, redist_of, cover_of, interior_event, work_of, ask_of, show_of, settled_of, plain_event, named_event, event_of}
 use Rattle.event_text.specs.WellFormed.{IsNumber, IsMessage, IsPrefix, IsGateway, IsInterior, IsTask, IsWellFormed}
 
 -- ---- steps that may fail
@@ -263,6 +263,12 @@ show_ok [] = tt
 show_ok (link ∷ []) = and_then (link_of link) _ IsNamed IsWellFormed (link_ok link) (λ l hl. hl)
 show_ok (link ∷ x ∷ more) = tt
 
+settled_ok : (ws : List (List ℕ)) → IfSome (settled_of ws) IsWellFormed
+unfolding settled_of
+settled_ok [] = tt
+settled_ok (p ∷ []) = and_then (prefix_of 32 p) _ IsPrefix IsWellFormed (is_prefix p) (λ n hn. hn)
+settled_ok (p ∷ x ∷ more) = tt
+
 plain_ok : (w : List ℕ) (ws : List (List ℕ)) → IfSome (plain_event w ws) IsWellFormed
 unfolding plain_event
 plain_ok w ws =
@@ -271,7 +277,8 @@ plain_ok w ws =
     (either (bytes_eq w (codes "idle")) _ _ IsWellFormed (either (nat_eq (length ws) 0) (Some events.Idle) None IsWellFormed tt tt)
     (either (bytes_eq w (codes "work")) _ _ IsWellFormed (work_ok ws)
     (either (bytes_eq w (codes "ask")) _ _ IsWellFormed (ask_ok ws)
-    (either (bytes_eq w (codes "show")) _ _ IsWellFormed (show_ok ws) (interior_event_ok w ws))))))
+    (either (bytes_eq w (codes "show")) _ _ IsWellFormed (show_ok ws)
+    (either (bytes_eq w (codes "settled")) _ _ IsWellFormed (settled_ok ws) (interior_event_ok w ws)))))))
 
 named_ok : (w : List ℕ) (ws : List (List ℕ)) → IfSome (named_event w ws) IsWellFormed
 unfolding named_event

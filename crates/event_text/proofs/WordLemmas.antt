@@ -7,7 +7,7 @@ use Rattle.rib_route.specs.declared.Proto.TheVariants.{Connected, Static, Ospf, 
 use Rattle.journal_text.specs.Names.{proto_of}
 use Rattle.policy_rules.specs.Words.{words}
 use Rattle.event_text.specs.Words.{speaker_of, way_out}
-use Rattle.event_text.specs.Events.{one_number, bgp_of, route_del_of, lost_of, redist_of, cover_of, work_of, ask_of, show_of}
+use Rattle.event_text.specs.Events.{one_number, bgp_of, route_del_of, lost_of, redist_of, cover_of, work_of, ask_of, show_of, settled_of}
 
 four : (a b c : List ℕ) (more : List (List ℕ)) → nat_eq (length more) 0 ≡ false → speaker_of (a ∷ b ∷ c ∷ more) ≡ None
 unfolding speaker_of
@@ -96,6 +96,14 @@ behind_addr a (d ∷ more) some = refl
 
 pub no_word_behind_addr : (a r : List ℕ) → nat_eq (length (words r)) 0 ≡ false → cover_of (a ∷ words r) ≡ None
 no_word_behind_addr a r some = behind_addr a (words r) some
+
+behind_one_prefix : (a : List ℕ) (more : List (List ℕ)) → nat_eq (length more) 0 ≡ false → settled_of (a ∷ more) ≡ None
+unfolding settled_of
+behind_one_prefix a [] some = absurd (cc)
+behind_one_prefix a (d ∷ more) some = refl
+
+pub no_word_behind_one_prefix : (a r : List ℕ) → nat_eq (length (words r)) 0 ≡ false → settled_of (a ∷ words r) ≡ None
+no_word_behind_one_prefix a r some = behind_one_prefix a (words r) some
 
 -- ---- protocols
 pub protocol_is : (w : List ℕ) → proto_of w ≡ (if bytes_eq w (codes "connected") then Some Connected else if bytes_eq w (codes "static") then Some Static else if bytes_eq w (codes "ospf") then Some Ospf else if bytes_eq w (codes "rip") then Some Rip else None)

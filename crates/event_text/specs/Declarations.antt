@@ -11,7 +11,7 @@ use Rattle.journal_text.specs.declared.link.Task.TheVariants.{Del, Fin, Nh, Read
 use Rattle.journal_text.specs.declared.line.Code.{Code}
 use Rattle.journal_text.specs.declared.line.Code.TheVariants.{E3, E4, E5, E6}
 use Rattle.event_text.specs.declared.event.Event.{Event}
-use Rattle.event_text.specs.declared.event.Event.TheVariants.{Nothing, Local, Peer, Up, Down, Bgp, FilterIn, FilterOut, RouteAdd, RouteDel, Lose, Redist, Cover, Idle, Work, Ask, Show}
+use Rattle.event_text.specs.declared.event.Event.TheVariants.{Nothing, Local, Peer, Up, Down, Bgp, FilterIn, FilterOut, RouteAdd, RouteDel, Lose, Redist, Cover, Settled, Idle, Work, Ask, Show}
 use Rattle.event_text.specs.declared.declared.DeclaredPeer.{DeclaredPeer}
 
 pub record Declaration : Type 0 where
@@ -107,6 +107,7 @@ refusal_by local peers (RouteDel proto p) = None
 refusal_by local peers (Lose proto) = None
 refusal_by local peers (Redist proto on) = None
 refusal_by local peers (Cover addr) = None
+refusal_by local peers (Settled p) = None
 refusal_by local peers Idle = None
 refusal_by local peers (Work task n) = task_refusal task peers
 refusal_by local peers (Ask link p) = link_refusal link peers
@@ -127,6 +128,7 @@ refusal_first (RouteDel proto p) = Some E4
 refusal_first (Lose proto) = Some E4
 refusal_first (Redist proto on) = Some E4
 refusal_first (Cover addr) = Some E4
+refusal_first (Settled p) = Some E4
 refusal_first Idle = Some E4
 refusal_first (Work task n) = Some E4
 refusal_first (Ask link p) = Some E4

@@ -10,7 +10,7 @@ use Rattle.policy_rules.specs.declared.rule.Rule.{Rule}
 use Rattle.policy_rules.specs.Words.{◌>>=◌, words}
 use Rattle.policy_rules.specs.Grammar.{rules_of}
 use Rattle.event_text.specs.declared.event.Event.{Event}
-use Rattle.event_text.specs.declared.event.Event.TheVariants.{Nothing, Local, Peer, Up, Down, Bgp, FilterIn, FilterOut, RouteAdd, RouteDel, Lose, Redist, Cover, Idle, Work, Ask, Show}
+use Rattle.event_text.specs.declared.event.Event.TheVariants.{Nothing, Local, Peer, Up, Down, Bgp, FilterIn, FilterOut, RouteAdd, RouteDel, Lose, Redist, Cover, Settled, Idle, Work, Ask, Show}
 use Rattle.event_text.specs.Words.{is_clean, from_one, speaker_of, octets_of, interior_of, switch_of}
 
 -- what follows `local`
@@ -126,6 +126,11 @@ unfoldable pub show_of : List (List ℕ) → Option Event
 show_of (link ∷ []) = link_of link >>= λ l. Some (Show l)
 show_of other = None
 
+-- what follows `settled`
+unfoldable pub settled_of : List (List ℕ) → Option Event
+settled_of (p ∷ []) = prefix_of 32 p >>= λ n. Some (Settled n)
+settled_of other = None
+
 -- an event that isn't `local`, `peer`, `bgp` or `filter`, by its first word and the others
 unfoldable pub plain_event : List ℕ → List (List ℕ) → Option Event
 plain_event w ws =
@@ -135,6 +140,7 @@ plain_event w ws =
     else if bytes_eq w (codes "work") then work_of ws
     else if bytes_eq w (codes "ask") then ask_of ws
     else if bytes_eq w (codes "show") then show_of ws
+    else if bytes_eq w (codes "settled") then settled_of ws
     else interior_event w ws
 
 -- an event by its first word and the others

@@ -63,6 +63,7 @@ IsWellFormed (events.RouteDel proto p) = IsPrefix p
 IsWellFormed (events.Lose proto) = Unit {0}
 IsWellFormed (events.Redist proto on) = Unit {0}
 IsWellFormed (events.Cover addr) = addr < 2 ^ 32
+IsWellFormed (events.Settled p) = IsPrefix p
 IsWellFormed events.Idle = Unit {0}
 IsWellFormed (events.Work task n) = IsTask task × (n < 2 ^ 32)
 IsWellFormed (events.Ask link p) = IsNamed link × IsPrefix p

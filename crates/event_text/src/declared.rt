@@ -300,6 +300,7 @@ fn refusal_by(local: Speaker, peers: &[DeclaredPeer], event: &Event) -> Option<C
         | Event::Lose(_)
         | Event::Redist(_, _)
         | Event::Cover(_)
+        | Event::Settled(_)
         | Event::Idle => None,
         Event::Local(_) => Some(Code::E3),
         Event::Peer(number, words) => peer_refusal(local, peers, *number, *words),

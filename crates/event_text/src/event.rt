@@ -37,6 +37,8 @@ pub enum Event {
     Redist(Proto, bool),
     /// `cover ADDR`: which interior route holds the address, and for which subnet that answer holds.
     Cover(Addr),
+    /// `settled PREFIX`: whether the rows at the prefix are final, or some background work may still change them.
+    Settled(Prefix),
     /// `idle`
     Idle,
     /// `work TASK N`

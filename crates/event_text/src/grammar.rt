@@ -2,7 +2,7 @@
 
 ghost use Rattle.std.specs.Prelude.{◌≡◌, IfOk};
 ghost use Rattle.policy_rules.specs.Words.{words};
-ghost use Rattle.event_text.specs.Events.{local_of, peer_of, one_number, bgp_of, filter_on, filter_of, route_add_of, route_del_of, route_of, lost_of, redist_of, cover_of, interior_event, work_of, ask_of, show_of, plain_event, named_event, event_of, read_event};
+ghost use Rattle.event_text.specs.Events.{local_of, peer_of, one_number, bgp_of, filter_on, filter_of, route_add_of, route_del_of, route_of, lost_of, redist_of, cover_of, interior_event, work_of, ask_of, show_of, settled_of, plain_event, named_event, event_of, read_event};
 ghost use Rattle.event_text.specs.WellFormed.{IsWellFormed};
 
 use crate::event::Event;
@@ -147,7 +147,7 @@ fn filter_on(side: &[u8], number: u32, rules: Rules) -> Option<Event>
     }
 }
 
-/// The events `up`, `down`, `idle`, `work`, `ask` and `show`, and those of the interior routes.
+/// The events `up`, `down`, `idle`, `work`, `ask`, `show` and `settled`, and those of the interior routes.
 #[tactic(auto, unfolding(crate::specs::Events::plain_event))]
 fn plain_event(word: &[u8], rest: &[u8]) -> Option<Event>
     ensures { result ≡ plain_event word.now (words rest.now) }
@@ -173,6 +173,9 @@ fn plain_event(word: &[u8], rest: &[u8]) -> Option<Event>
     }
     if word == b"show".as_slice() {
         return show(rest);
+    }
+    if word == b"settled".as_slice() {
+        return settled(rest);
     }
     interior_event(word, rest)
 }
@@ -334,4 +337,17 @@ fn show(rest: &[u8]) -> Option<Event>
     }
     let link = Link::read(name)?;
     Some(Event::Show(link))
+}
+
+/// What follows `settled`.
+#[tactic(auto, using(crate::proofs::WordLemmas::no_word_behind_one_prefix), unfolding(crate::specs::Events::settled_of))]
+fn settled(rest: &[u8]) -> Option<Event>
+    ensures { result ≡ settled_of (words rest.now) }
+{
+    let (prefix, rest) = first_word(rest)?;
+    if !is_end(rest) {
+        return None;
+    }
+    let prefix = read_prefix(prefix).ok()?;
+    Some(Event::Settled(prefix))
 }

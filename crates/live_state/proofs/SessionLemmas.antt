@@ -5,7 +5,7 @@ use Rattle.bgp_wire.specs.declared.message.Message.{Message}
 use Rattle.bgp_wire.specs.declared.message.Message.TheVariants as messages
 use Rattle.bgp_wire.specs.Updates.{fault}
 use Rattle.bgp_wire.specs.Grammar.{IsFrame, Reads, OneAnswer}
-use Rattle.event_text.specs.declared.event.Event.TheVariants.{Nothing, Local, Peer, Up, Down, Bgp, FilterIn, FilterOut, RouteAdd, RouteDel, Lose, Redist, Cover, Idle, Work, Ask, Show}
+use Rattle.event_text.specs.declared.event.Event.TheVariants.{Nothing, Local, Peer, Up, Down, Bgp, FilterIn, FilterOut, RouteAdd, RouteDel, Lose, Redist, Cover, Settled, Idle, Work, Ask, Show}
 use Rattle.event_text.specs.declared.declared.DeclaredPeer.{DeclaredPeer}
 use Rattle.event_text.specs.Declarations.{peer_at, with_session, without_session}
 use Rattle.link_change.specs.Rows.{is_empty_map}
@@ -90,6 +90,7 @@ follows law l (RouteDel proto p) l' after = ap (λ s. s.declared) after
 follows law l (Lose proto) l' after = ap (λ s. s.declared) after
 follows law l (Redist proto on) l' after = ap (λ s. s.declared) after
 follows law l (Cover addr) l' after = ap (λ s. s.declared) after
+follows law l (Settled p) l' after = ap (λ s. s.declared) after
 follows law l Idle l' after = ap (λ s. s.declared) after
 follows law l (Work task n) l' after = ap (λ s. s.declared) after
 follows law l (Ask link p) l' after = ap (λ s. s.declared) after
@@ -154,6 +155,7 @@ losses_follow l (Lose lost) l' after = λ proto.
     omega (arith, is, one)
 losses_follow l (Redist proto on) l' after = session_losses l l' (ap (λ s. s.losses) after)
 losses_follow l (Cover addr) l' after = same_losses l l' after
+losses_follow l (Settled p) l' after = same_losses l l' after
 losses_follow l Idle l' after = same_losses l l' after
 losses_follow l (Work task n) l' after = same_losses l l' after
 losses_follow l (Ask link p) l' after = same_losses l l' after

@@ -1,7 +1,7 @@
 -- What each event makes of the declarations: who was declared, and whose session is up (RFC 4271, sections 3.2 and 6).
 use Rattle.std.specs.Prelude.{ℕ, ◌&&◌, if◌then◌else◌, List, Option, Some, None}
 use Rattle.event_text.specs.declared.event.Event.{Event}
-use Rattle.event_text.specs.declared.event.Event.TheVariants.{Nothing, Local, Peer, Up, Down, Bgp, FilterIn, FilterOut, RouteAdd, RouteDel, Lose, Redist, Cover, Idle, Work, Ask, Show}
+use Rattle.event_text.specs.declared.event.Event.TheVariants.{Nothing, Local, Peer, Up, Down, Bgp, FilterIn, FilterOut, RouteAdd, RouteDel, Lose, Redist, Cover, Settled, Idle, Work, Ask, Show}
 use Rattle.event_text.specs.declared.declared.DeclaredPeer.{DeclaredPeer}
 use Rattle.event_text.specs.Declarations.{Declaration, peer_at, with_speaker, with_peer, with_session, without_session}
 use Rattle.live_state.specs.Messages.{ends_session}
@@ -36,6 +36,7 @@ declared_after d (RouteDel proto p) = d
 declared_after d (Lose proto) = d
 declared_after d (Redist proto on) = d
 declared_after d (Cover addr) = d
+declared_after d (Settled p) = d
 declared_after d Idle = d
 declared_after d (Work task n) = d
 declared_after d (Ask link p) = d

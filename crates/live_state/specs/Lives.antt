@@ -9,7 +9,7 @@ use Rattle.bgp_attr.specs.declared.attrs.Attrs.{Attrs}
 use Rattle.bgp_wire.specs.declared.message.Message.{Message}
 use Rattle.bgp_wire.specs.declared.message.Message.TheVariants as messages
 use Rattle.event_text.specs.declared.event.Event.{Event}
-use Rattle.event_text.specs.declared.event.Event.TheVariants.{Nothing, Local, Peer, Up, Down, Bgp, FilterIn, FilterOut, RouteAdd, RouteDel, Lose, Redist, Cover, Idle, Work, Ask, Show}
+use Rattle.event_text.specs.declared.event.Event.TheVariants.{Nothing, Local, Peer, Up, Down, Bgp, FilterIn, FilterOut, RouteAdd, RouteDel, Lose, Redist, Cover, Settled, Idle, Work, Ask, Show}
 use Rattle.event_text.specs.declared.declared.DeclaredPeer.{DeclaredPeer}
 use Rattle.event_text.specs.Declarations.{Declaration, no_declaration, peer_at, with_speaker, with_peer, with_session, without_session}
 use Rattle.policy_rules.specs.declared.rule.Rule.{Rule}
@@ -135,6 +135,7 @@ LiveAfter l (RouteDel proto p) l' = l' ≡ interior_fed l proto (tables.remove (
 LiveAfter l (Lose proto) l' = l' ≡ interior_lost l proto
 LiveAfter l (Redist proto on) l' = l' ≡ record l { redistributed = with_redistributed l.redistributed proto on }
 LiveAfter l (Cover addr) l' = l' ≡ l
+LiveAfter l (Settled p) l' = l' ≡ l
 LiveAfter l Idle l' = l' ≡ l
 LiveAfter l (Work task n) l' = l' ≡ l
 LiveAfter l (Ask link p) l' = l' ≡ l
