@@ -1,33 +1,29 @@
 -- Laws of the side of next hops.
-use Rattle.std.proofs.Common.{◌≡◌, ℕ, false, List, Option, Some, None, refl, sym, ap, subst, ◌∙◌, arith}
+use Rattle.std.proofs.Common.{◌≡◌, ℕ, true, false, List, Option, Some, None, option_map, is_some, refl, sym, ap, subst, ◌∙◌, arith}
 use Rattle.std.specs.List.{sum_by}
 use Rattle.std.proofs.lemmas.List.Sums.{sum_by-le-sum_by}
 use Rattle.std.specs.Map.{values_of}
 use Rattle.std.specs.FinMap as tables
-use Rattle.std.specs.FinMap.{get-empty}
+use Rattle.std.specs.FinMap.{get-empty, contains_key-keys, nat_cmp-IsAntisymmetric}
 use Rattle.std.specs.Ordering.{nat_cmp}
 use Rattle.std.specs.Cmp.{nat_cmp_total}
-use Rattle.prefix_trie.specs.Width.{width}
-use Rattle.bgp_attr.specs.declared.route.Route.{Route}
+use Rattle.std.proofs.lemmas.Map.Views.{Contains-from_any, tells_apart}
+use Rattle.addr4.specs.Prefixes.{Network}
 use Rattle.link_change.proofs.RowLemmas.{same_function}
 use Rattle.link_change.proofs.MapLemmas.{no_entries, all_entries, one_of_sum, sum_within}
-use Rattle.rib_route.specs.declared.rows.Interior.{Interior}
-use Rattle.register_interest.specs.Covers.{longest}
-use Rattle.register_interest.specs.Registers.{Registry}
 use Rattle.nexthop_resolver.specs.declared.rows.Metric.{Metric}
 use Rattle.nexthop_resolver.specs.Kept.{route_hop, metric_of, with_metric}
-use Rattle.nexthop_resolver.specs.Resolving.{Resolving, goes_on}
-use Rattle.nexthop_resolver.specs.Registered.{answer_of}
+use Rattle.nexthop_resolver.specs.Resolving.{Resolving}
 use Rattle.nexthop_resolver.proofs.PendLemmas.{others_agree}
-use Rattle.nexthop_resolver.proofs.TurnLemmas.{exact_at_rest}
+use Rattle.nexthop_resolver.proofs.HeldLemmas as held
 use Rattle.nexthop_resolver.proofs.LeftLemmas.{turns_are_bounded}
 use Rattle.journal_text.specs.declared.link.Link.{Link}
 use Rattle.journal_text.specs.declared.link.Link.TheVariants.{Res}
 use Rattle.journal_text.specs.declared.value.Value.{Value}
 use Rattle.journal_text.specs.Walk.{Links, Leads}
-use Rattle.hop_side.specs.Resolvers.{resolver_at, PeerRows, rows_by, link_by, hop_links, is_res, beside, is_busy, busy_by, known_of, same_metric, left_of, left_in, walks_of}
-use Rattle.hop_side.specs.Laws.{StandsAtFirst, LeadsAnywhere, StrangersAgree, matched_row, ExactWithoutWork, NoneLeftWithoutWork, TurnsAreBounded, LeftFollows}
-use Rattle.hop_side.proofs.BusyLemmas.{idle_rests, none_idle, fewer_left}
+use Rattle.hop_side.specs.Resolvers.{resolver_at, PeerRows, link_by, hop_links, is_res, beside, is_busy, busy_by, lags_by, known_of, same_metric, left_of, left_in, walks_of}
+use Rattle.hop_side.specs.Laws.{StandsAtFirst, LeadsAnywhere, StrangersAgree, ExactUnlessHeldUp, NoneHeldUpWithoutWork, WorkIsListed, NoneLeftWithoutWork, TurnsAreBounded, LeftFollows}
+use Rattle.hop_side.proofs.BusyLemmas.{tells_metrics, idle_rests, none_idle, fewer_left}
 use Rattle.hop_side.proofs.TaskLemmas.{idle_sum}
 
 -- ---- at first
@@ -77,16 +73,25 @@ strangers_agree a client was is hops none keeps agree k s at =
     let there : resolver_at client a ≡ Some s = ap (λ (n : ℕ). resolver_at n a) (sym e ∙ (hops k s at).client) ∙ at in
     cc) keeps (agree k s at)
 
--- ---- without work
-matched_at : (r : Registry Interior) (row : Option Route) → goes_on route_hop with_metric (λ (a : ℕ). Some (answer_of metric_of r a)) row ≡ matched_row (longest width (tables.get r.rows)) row
-matched_at r None = refl
-matched_at r (Some route) = refl
+-- ---- where no task holds up a prefix
+pub exact_unless_held_up : ExactUnlessHeldUp
+exact_unless_held_up a uppers r k s p hops agree counted at none =
+    held.exact_unless_held_up same_metric tells_metrics route_hop with_metric metric_of (uppers k) r s p (agree k s at) (hops k s at).named (counted k s at)
+    (sym (ap (λ (o : Option (Resolving Metric)). lags_by o p (option_map route_hop (uppers k p))) at) ∙ none)
 
-pub exact_without_work : ExactWithoutWork
-exact_without_work a uppers r k s hops agree counted at idle =
-    ap (λ (o : Option (Resolving Metric)). rows_by o (uppers k)) at
-    ∙ exact_at_rest route_hop with_metric metric_of (uppers k) r s (idle_rests s (sym (ap busy_by at) ∙ idle)) (agree k s at) (hops k s at).named (counted k s at)
-    ∙ same_function _ _ (λ q. matched_at r (uppers k q))
+none_by : (p : Network) (hop : Option ℕ) (o : Option (Resolving Metric)) → busy_by o ≡ false → lags_by o p hop ≡ false
+none_by p hop None idle = refl
+none_by p hop (Some s) idle = held.none_held_up_at_rest same_metric tells_metrics s p hop (idle_rests s idle)
+
+pub none_held_up_without_work : NoneHeldUpWithoutWork
+none_held_up_without_work a k p hop idle = none_by p hop (resolver_at k a) idle
+
+some_by : (o : Option (Resolving Metric)) → busy_by o ≡ true → is_some o ≡ true
+some_by None works = works
+some_by (Some s) works = refl
+
+pub work_is_listed : WorkIsListed
+work_is_listed a k works = Contains-from_any (tells_apart nat_cmp-IsAntisymmetric) k (tables.keys a) (sym (contains_key-keys a k) ∙ some_by (resolver_at k a) works)
 
 -- ---- how many turns are left
 pub none_left_without_work : NoneLeftWithoutWork

@@ -1,24 +1,21 @@
 -- Laws of the side of next hops, for the crates above.
-use Rattle.std.specs.Prelude.{◌≡◌, ◌↔◌, ℕ, ◌+◌, ◌≤◌, false, List, length, Option, Some, None, IsSome}
+use Rattle.std.specs.Prelude.{◌≡◌, ◌↔◌, ℕ, ◌+◌, ◌≤◌, true, false, List, length, Option, Some, None, IsSome, option_map}
 use Rattle.std.specs.List.{Contains}
 use Rattle.std.specs.FinMap as tables
 use Rattle.addr4.specs.Prefixes.{Network}
-use Rattle.prefix_trie.specs.Width.{width}
 use Rattle.bgp_attr.specs.declared.route.Route.{Route}
-use Rattle.link_change.specs.Rows.{Rows}
 use Rattle.rib_route.specs.declared.rows.Interior.{Interior}
-use Rattle.register_interest.specs.Covers.{longest}
 use Rattle.register_interest.specs.Registers.{Registry}
 use Rattle.nexthop_resolver.specs.declared.rows.Metric.{Metric}
 use Rattle.nexthop_resolver.specs.Kept.{route_hop, metric_of, with_metric}
-use Rattle.nexthop_resolver.specs.Resolving.{Resolving}
-use Rattle.nexthop_resolver.specs.Registered.{KeepsOthers}
+use Rattle.nexthop_resolver.specs.Resolving.{Resolving, goes_on}
+use Rattle.nexthop_resolver.specs.Registered.{answer_of, KeepsOthers}
 use Rattle.journal_text.specs.declared.link.Link.{Link}
 use Rattle.journal_text.specs.declared.link.Link.TheVariants.{Res}
 use Rattle.journal_text.specs.declared.entry.Entry.{Entry}
 use Rattle.journal_text.specs.declared.value.Value.{Value}
 use Rattle.journal_text.specs.Walk.{Links, Leads}
-use Rattle.hop_side.specs.Resolvers.{Resolvers, resolver_at, PeerRows, res_at, hop_links, is_res, IsHops, AllAgree, AllCounted, has_hop_work, known_of, known_in, Beyonds, left_in, walks_in}
+use Rattle.hop_side.specs.Resolvers.{Resolvers, resolver_at, PeerRows, metric_rows, hop_links, is_res, IsHops, AllAgree, AllCounted, has_hop_work, hop_holds_up, known_of, known_in, Beyonds, left_in, walks_in}
 use Rattle.hop_side.specs.Steps.{LeadsRes}
 
 -- ---- at first
@@ -45,21 +42,21 @@ abbrev pub StrangersAgree : Type 0
 StrangersAgree =
     (a : Resolvers) (client : ℕ) (was is : Registry Interior) → IsHops a → resolver_at client a ≡ None → KeepsOthers client was is → AllAgree a was → AllAgree a is
 
--- ---- without work
--- a route with the metric of the longest interior route that holds its next hop; it doesn't go on without one
-abbrev pub matched_row : (ℕ → Option (Network × Interior)) → Option Route → Option Route
-matched_row found None = None
-matched_row found (Some r) = with_metric r (metric_of (found (route_hop r)))
+-- ---- where no task holds up a prefix
+-- There the row of `res.K` is the one that the register's answer makes of the row of `filt.K`.
+abbrev pub ExactUnlessHeldUp : Type 0
+ExactUnlessHeldUp =
+    (a : Resolvers) (uppers : PeerRows) (r : Registry Interior) (k : ℕ) (s : Resolving Metric) (p : Network) → IsHops a → AllAgree a r → AllCounted uppers a
+    → resolver_at k a ≡ Some s → hop_holds_up a k p (option_map route_hop (uppers k p)) ≡ false
+    → metric_rows s (uppers k) p ≡ goes_on route_hop with_metric (λ (h : ℕ). Some (answer_of metric_of r h)) (uppers k p)
 
--- the rows of `res.K` that those of `filt.K` make, by the longest matches of next hops
-abbrev pub res_from : (ℕ → Option (Network × Interior)) → Rows Route → Rows Route
-res_from found upper q = matched_row found (upper q)
+-- A task without work holds up none,
+abbrev pub NoneHeldUpWithoutWork : Type 0
+NoneHeldUpWithoutWork = (a : Resolvers) (k : ℕ) (p : Network) (hop : Option ℕ) → has_hop_work a k ≡ false → hop_holds_up a k p hop ≡ false
 
--- Where the task of a peer's next hops has no work, the rows of its `res.K` are those.
-abbrev pub ExactWithoutWork : Type 0
-ExactWithoutWork =
-    (a : Resolvers) (uppers : PeerRows) (r : Registry Interior) (k : ℕ) (s : Resolving Metric) → IsHops a → AllAgree a r → AllCounted uppers a
-    → resolver_at k a ≡ Some s → has_hop_work a k ≡ false → res_at a uppers k ≡ res_from (longest width (tables.get r.rows)) (uppers k)
+-- and one with work is a peer's.
+abbrev pub WorkIsListed : Type 0
+WorkIsListed = (a : Resolvers) (k : ℕ) → has_hop_work a k ≡ true → Contains (tables.keys a) k
 
 -- ---- how many turns are left
 -- None exactly where no task has work,

@@ -2,7 +2,7 @@
 //! the law.
 
 ghost use Rattle.std.specs.FinMap as map;
-ghost use Rattle.hop_side.specs.Laws.{StandsAtFirst, LeadsAnywhere, StrangersAgree, ExactWithoutWork, NoneLeftWithoutWork, TurnsAreBounded, LeftFollows, KnownAreFew};
+ghost use Rattle.hop_side.specs.Laws.{StandsAtFirst, LeadsAnywhere, StrangersAgree, ExactUnlessHeldUp, NoneHeldUpWithoutWork, WorkIsListed, NoneLeftWithoutWork, TurnsAreBounded, LeftFollows, KnownAreFew};
 
 /// Without a peer no link is live, nothing is left to do, and all that is claimed holds.
 pub fn nothing_at_first()
@@ -19,10 +19,12 @@ pub fn strangers_agree()
     ensures { StrangersAgree }
 {}
 
-/// Where the next hops of a peer have no work, the rows of its `res.K` are those that the longest interior routes make of the
-/// rows of its `filt.K`.
-pub fn exact_without_work()
-    ensures { ExactWithoutWork }
+/// At a prefix that the next hops of a peer don't hold up, the row of its `res.K` is the one that the register's answer makes of
+/// the row of its `filt.K`. Without work they hold up none; and all that have work are among the peers'.
+pub fn exact_unless_held_up()
+    ensures exact { ExactUnlessHeldUp }
+    ensures idle { NoneHeldUpWithoutWork }
+    ensures listed { WorkIsListed }
 {}
 
 /// How many turns are left: none exactly without work, never more than what is known and two walks of each, and no more where

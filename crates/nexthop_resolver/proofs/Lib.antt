@@ -5,3 +5,4 @@ pub mod TurnLemmas
 pub mod PendLemmas
 pub mod LeftLemmas
 pub mod WorkLemmas
+pub mod HeldLemmas

@@ -1,5 +1,6 @@
 -- Laws of resolvers, for the crates above.
 use Rattle.std.specs.Prelude.{◌≡◌, ◌≢◌, ◌↔◌, ℕ, ◌+◌, ◌*◌, ◌≤◌, Bool, false, List, [], ◌∷◌, Option, Some, None}
+use Rattle.std.specs.Option.{option_map}
 use Rattle.std.specs.FinMap as map
 use Rattle.addr4.specs.Prefixes.{Network}
 use Rattle.link_change.specs.Rows.{Rows, no_rows, Candidates}
@@ -12,12 +13,12 @@ use Rattle.register_interest.specs.Interests.{without}
 use Rattle.register_interest.specs.Registers.{Registry, KeepsAnswers}
 use Rattle.nexthop_known.specs.Counts.{AreCounted}
 use Rattle.pass_core.specs.Turns.{rows_by}
-use Rattle.nexthop_resolver.specs.Resolving.{Resolving, AreNamed, nothing_known, named_by, resolved, res_rows}
+use Rattle.nexthop_resolver.specs.Resolving.{Resolving, AreNamed, nothing_known, named_by, goes_on, resolved, res_rows}
 use Rattle.nexthop_resolver.specs.Registered.{Agrees, Pends, answer_of, interest_of, KeepsOthers}
 use Rattle.nexthop_resolver.specs.Takes.{Invalidates}
 use Rattle.nexthop_resolver.specs.Turns.{Rests, Turned, IsTurn}
 use Rattle.pass_core.specs.Left.{CountsBeyond}
-use Rattle.nexthop_resolver.specs.Left.{TellsAlike, turns_left}
+use Rattle.nexthop_resolver.specs.Left.{TellsAlike, hop_lags, turns_left}
 
 module _ (A R L : Type 0) where
   -- What a turn sends leads from the rows below before it to those after it.
@@ -40,6 +41,14 @@ module _ (A R L : Type 0) where
       → Agrees kept s.client s.known r → AreNamed s.counts s.known → AreCounted (named_by hop upper) s.counts
       → res_rows hop made s upper ≡ rows_by (resolved hop made) (λ (a : ℕ). Some (answer_of kept r a)) upper
 
+  -- At a prefix that no next hop holds up, the row below is the one that the register's answer makes. (The test tells equal answers.)
+  abbrev pub ExactUnlessHeldUp : Type 0
+  ExactUnlessHeldUp =
+      (alike : A → A → Bool) → TellsAlike alike → (hop : R → ℕ) (made : R → A → Option L) (kept : Option (Network × Interior) → A) (upper : Rows R) (r : Registry Interior)
+      (s : Resolving A) (q : Network) → Agrees kept s.client s.known r → AreNamed s.counts s.known → AreCounted (named_by hop upper) s.counts
+      → hop_lags alike s q (option_map hop (upper q)) ≡ false
+      → res_rows hop made s upper q ≡ goes_on hop made (λ (a : ℕ). Some (answer_of kept r a)) (upper q)
+
   -- Before the first row there is none below.
   abbrev pub NoRowsAtFirst : Type 0
   NoRowsAtFirst = (hop : R → ℕ) (made : R → A → Option L) (client : ℕ) → res_rows hop made (nothing_known {A = A} client) no_rows ≡ no_rows
@@ -52,6 +61,11 @@ module _ (A R L : Type 0) where
       → Turned hop made candidates upper kept was is old new sent → turns_left alike beyond new + 1 ≤ turns_left alike beyond old
 
 module _ (A : Type 0) where
+  -- Where there is nothing to do, no next hop holds up a prefix.
+  abbrev pub NoneHeldUpAtRest : Type 0
+  NoneHeldUpAtRest =
+      (alike : A → A → Bool) → TellsAlike alike → (s : Resolving A) (q : Network) (o : Option ℕ) → Rests s → hop_lags alike s q o ≡ false
+
   -- A client without interests agrees with any register before its first row.
   abbrev pub NothingAgrees : Type 0
   NothingAgrees =

@@ -1,6 +1,6 @@
 //! Laws of resolvers, for the proofs of the crates above. Each is a function that does nothing, whose contract is the law.
 
-ghost use Rattle.nexthop_resolver.specs.Laws.{TurnLeads, InvalidatingKeepsRows, ExactAtRest, NoRowsAtFirst, TurnsFall, NothingAgrees, OthersAgree, ChangePends, InvalidatedPends, OthersPend, NonePends, NoneLeftAtRest, TurnsAreBounded};
+ghost use Rattle.nexthop_resolver.specs.Laws.{TurnLeads, InvalidatingKeepsRows, ExactAtRest, ExactUnlessHeldUp, NoneHeldUpAtRest, NoRowsAtFirst, TurnsFall, NothingAgrees, OthersAgree, ChangePends, InvalidatedPends, OthersPend, NonePends, NoneLeftAtRest, TurnsAreBounded};
 
 /// What a turn sends leads from the rows below before it to those after it.
 pub fn a_turn_leads<A, R, L>()
@@ -13,6 +13,13 @@ pub fn the_rows_below<A, R, L>()
     ensures first { NoRowsAtFirst A R L }
     ensures stale { InvalidatingKeepsRows A R L }
     ensures exact { ExactAtRest A R L }
+{}
+
+/// At a prefix that no next hop holds up, the row below is the one that the register's answer makes of the row above; and where
+/// there is nothing to do, no next hop holds up a prefix.
+pub fn exact_unless_held_up<A, R, L>()
+    ensures exact { ExactUnlessHeldUp A R L }
+    ensures idle { NoneHeldUpAtRest A }
 {}
 
 /// A resolver agrees with the register: at first, whatever other clients do, and after a change of the interior routes once
