@@ -16,7 +16,7 @@ use Rattle.journal_text.specs.declared.entry.Entry.{Entry}
 use Rattle.journal_text.specs.declared.entry.Entry.TheVariants.{Begin, Inherit, Add, Delete, Replace, Asked, Weld, End}
 use Rattle.journal_text.specs.declared.line.Code.{Code}
 use Rattle.journal_text.specs.declared.line.Line.{Line}
-use Rattle.journal_text.specs.declared.line.Line.TheVariants.{Journal, Out, Note, Row, Rows, Cover, Work, Bound, Idle, Ignored, Absent, Refused}
+use Rattle.journal_text.specs.declared.line.Line.TheVariants.{Journal, Out, Note, Row, Rows, Cover, Settled, Work, Bound, Idle, Ignored, Absent, Refused}
 use Rattle.journal_check.specs.Readings.{TextEntry, is_clean, read_or_not, reading_from, reading_of}
 use Rattle.journal_check.specs.Judged.{entries_in, joined, each_read, entries_read, IsChecked}
 use Rattle.journal_check.specs.Laws.{IsAnswer, IsEntry, IsLine, said, texts_of}
@@ -56,6 +56,7 @@ is_said (Note k octets) e = absurd (cc)
 is_said (Row link p value) e = absurd (cc)
 is_said (Rows link count) e = absurd (cc)
 is_said (Cover addr found subnet) e = absurd (cc)
+is_said (Settled p held) e = absurd (cc)
 is_said (Work turns) e = absurd (cc)
 is_said (Bound turns) e = absurd (cc)
 is_said (Idle turns) e = absurd (cc)
@@ -105,6 +106,7 @@ entries_said (Note k octets) = refl
 entries_said (Row link p value) = refl
 entries_said (Rows link count) = refl
 entries_said (Cover addr found subnet) = refl
+entries_said (Settled p held) = refl
 entries_said (Work turns) = refl
 entries_said (Bound turns) = refl
 entries_said (Idle turns) = refl
@@ -182,6 +184,7 @@ line_exact peers (Note k octets) h told = tt
 line_exact peers (Row link p value) h told = tt
 line_exact peers (Rows link count) h told = tt
 line_exact peers (Cover addr found subnet) h told = tt
+line_exact peers (Settled p held) h told = tt
 line_exact peers (Work turns) h told = tt
 line_exact peers (Bound turns) h told = tt
 line_exact peers (Idle turns) h told = tt
@@ -240,6 +243,7 @@ none_if_quiet (Note k octets ∷ lines) = none_if_quiet lines
 none_if_quiet (Row link p value ∷ lines) = none_if_quiet lines
 none_if_quiet (Rows link count ∷ lines) = none_if_quiet lines
 none_if_quiet (Cover addr found subnet ∷ lines) = none_if_quiet lines
+none_if_quiet (Settled p held ∷ lines) = none_if_quiet lines
 none_if_quiet (Work turns ∷ lines) = none_if_quiet lines
 none_if_quiet (Bound turns ∷ lines) = none_if_quiet lines
 none_if_quiet (Idle turns ∷ lines) = none_if_quiet lines

@@ -15,8 +15,9 @@ use Rattle.rib_route.specs.declared.rows.FibRow.{FibRow}
 use Rattle.rib_route.specs.Distances.{fib_proto, external_proto}
 use Rattle.rib_route.specs.Ifaces.{is_iface_name}
 use Rattle.journal_text.specs.Names.{IsNamed}
-use Rattle.journal_text.specs.Texts.{attrs_text, sender_number, field_text, known_text, route_text, fib_proto_text, proto_text, gateway_text, interior_text, external_text, fib_text, value_text, answer_text, match_text, code_text, link_text, words_line, entry_words, line_words, line_text}
+use Rattle.journal_text.specs.Texts.{attrs_text, sender_number, field_text, known_text, route_text, fib_proto_text, proto_text, gateway_text, interior_text, external_text, fib_text, value_text, answer_text, match_text, code_text, link_text, words_line, entry_words, line_words, line_text, held_words, task_text}
 use Rattle.journal_text.specs.declared.link.Link.{Link}
+use Rattle.journal_text.specs.declared.link.Task.{Task}
 use Rattle.journal_text.specs.declared.value.Value.{Value}
 use Rattle.journal_text.specs.declared.value.Value.TheVariants as values
 use Rattle.journal_text.specs.declared.entry.Entry.{Entry}
@@ -24,11 +25,11 @@ use Rattle.journal_text.specs.declared.entry.Entry.TheVariants.{Begin, Inherit, 
 use Rattle.journal_text.specs.declared.line.Code.{Code}
 use Rattle.journal_text.specs.declared.line.Code.TheVariants.{E1, E2, E3, E4, E5, E6}
 use Rattle.journal_text.specs.declared.line.Line.{Line}
-use Rattle.journal_text.specs.declared.line.Line.TheVariants.{Journal, Out, Note, Row, Rows, Cover, Work, Bound, Idle, Ignored, Absent, Refused}
-use Rattle.journal_check.specs.Laws.{IsPrefix, IsNumberIfAny, HasRanges, HasRouteRanges, IsValue, IsAnswer, IsMatch, IsEntry, IsLine}
+use Rattle.journal_text.specs.declared.line.Line.TheVariants.{Journal, Out, Note, Row, Rows, Cover, Settled, Work, Bound, Idle, Ignored, Absent, Refused}
+use Rattle.journal_check.specs.Laws.{IsPrefix, IsNumberIfAny, HasRanges, HasRouteRanges, IsValue, IsAnswer, IsMatch, IsNamedIfAny, IsEntry, IsLine}
 use Rattle.journal_laws.specs.Printed.{HasRoom, HasShortText, answer_values, values_of, values_in, octets_in}
 use Rattle.journal_laws.specs.Laws.{PrintedLinesAreShort}
-use Rattle.journal_laws.proofs.ShortNumbers.{short_number, short_long, short_wide, short_addr, short_prefix, short_link, short_fib_proto, short_name}
+use Rattle.journal_laws.proofs.ShortNumbers.{short_number, short_long, short_wide, short_addr, short_prefix, short_link, short_fib_proto, short_name, short_task}
 use Rattle.journal_laws.proofs.ShortAttrs.{short_attrs}
 
 -- ---- values
@@ -164,6 +165,15 @@ short_code E4 = omega arith
 short_code E5 = omega arith
 short_code E6 = omega arith
 
+-- the words of whether a prefix is settled
+settled_short : (p : Network) (held : Option Task) → IsPrefix p → IsNamedIfAny held → length (words_line (codes "settled" ∷ prefix_text p ∷ held_words held)) ≤ 65537
+settled_short p None prefix named =
+    let words = codes "settled" ∷ prefix_text p ∷ codes "yes" ∷ [] in
+    omega (arith, short_prefix p prefix, joined 32 words, length-append (join_with_byte 32 words) (10 ∷ []))
+settled_short p (Some task) prefix named =
+    let words = codes "settled" ∷ prefix_text p ∷ codes "no" ∷ task_text task ∷ [] in
+    omega (arith, short_prefix p prefix, short_task task named, joined 32 words, length-append (join_with_byte 32 words) (10 ∷ []))
+
 line_short : (line : Line) → IsLine line → AllByRecursion HasShortText (values_in line) → length (octets_in line) ≤ 4096 → length (words_line (line_words line)) ≤ 65537
 line_short (Journal entry) h short few = entry_line entry h short
 line_short (Out k octets) h short few =
@@ -179,6 +189,7 @@ line_short (Rows link count) h short few =
 line_short (Cover addr found subnet) h short few =
     let words = codes "cover" ∷ addr_text addr ∷ match_text found ∷ prefix_text subnet ∷ [] in
     omega (arith, short_addr addr, short_match found h.1, short_prefix subnet h.2, joined 32 words, length-append (join_with_byte 32 words) (10 ∷ []))
+line_short (Settled p held) h short few = settled_short p held h.0 h.1
 line_short (Work turns) h short few = pair_line (codes "work") (decimal turns) (omega arith) (short_wide turns h)
 line_short (Bound turns) h short few = pair_line (codes "bound") (decimal turns) (omega arith) (short_wide turns h)
 line_short (Idle turns) h short few = pair_line (codes "idle") (decimal turns) (omega arith) (short_wide turns h)

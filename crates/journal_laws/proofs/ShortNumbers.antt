@@ -12,9 +12,11 @@ use Rattle.rib_route.specs.declared.protocol.FibProto.{FibProto}
 use Rattle.rib_route.specs.declared.protocol.FibProto.TheVariants.{Connected, Static, Ospf, Rip, Ebgp, Ibgp}
 use Rattle.rib_route.specs.Distances.{fib_proto}
 use Rattle.rib_route.specs.Ifaces.{is_name_byte, is_iface_name}
-use Rattle.journal_text.specs.Names.{IsNameNumber, IsNamed}
-use Rattle.journal_text.specs.Texts.{fib_proto_text, proto_text, dot_number, link_text}
+use Rattle.journal_text.specs.Names.{IsNameNumber, IsNamed, IsNamedTask}
+use Rattle.journal_text.specs.Texts.{fib_proto_text, proto_text, dot_number, link_text, task_text}
 use Rattle.journal_text.specs.declared.link.Link.{Link}
+use Rattle.journal_text.specs.declared.link.Task.{Task}
+use Rattle.journal_text.specs.declared.link.Task.TheVariants as tasks
 use Rattle.journal_text.specs.declared.link.Link.TheVariants.{In, Peer, Filt, Res, Org, Lost, Low, Dyn, Int, Red, Best, ReadRib, Ebgp as EbgpLink, Ibgp as IbgpLink, Ext, Fib, Read, Outf, Adv}
 use Rattle.journal_check.specs.Laws.{IsPrefix}
 use Rattle.journal_check.proofs.InkLemmas.{both_true}
@@ -69,7 +71,7 @@ short_prefix p h =
 
 -- ---- links
 
-one_number : (word : List ℕ) (n : ℕ) → length word ≤ 13 → IsNameNumber n → length (word ++ dot_number n) ≤ length word + 11
+one_number : (word : List ℕ) (n : ℕ) → length word ≤ 14 → IsNameNumber n → length (word ++ dot_number n) ≤ length word + 11
 one_number word n few h = omega (arith, short_number n h.1, length-append word (dot_number n))
 
 two_numbers : (word : List ℕ) (k s : ℕ) → length word ≤ 4 → IsNameNumber k × IsNameNumber s → length (word ++ dot_number k ++ dot_number s) ≤ 26
@@ -85,6 +87,20 @@ short_fib_proto Ibgp = omega arith
 
 short_org : (p : Proto) → length (codes "org." ++ proto_text p) ≤ 13
 short_org p = omega (arith, short_fib_proto (fib_proto p))
+
+short_rdel : (p : Proto) → length (codes "rdel." ++ proto_text p) ≤ 14
+short_rdel p = omega (arith, short_fib_proto (fib_proto p))
+
+pub short_task : (task : Task) → IsNamedTask task → length (task_text task) ≤ 26
+unfolding task_text
+short_task (tasks.Del k s) h = two_numbers (codes "del") k s (omega arith) h
+short_task (tasks.Fin k) h = omega (arith, one_number (codes "fin") k (omega arith) h)
+short_task (tasks.Nh k) h = omega (arith, one_number (codes "nh") k (omega arith) h)
+short_task tasks.ReadRib h = omega arith
+short_task (tasks.Out j) h = omega (arith, one_number (codes "out") j (omega arith) h)
+short_task (tasks.Rdel proto n) h = omega (arith, short_rdel proto, one_number (codes "rdel." ++ proto_text proto) n (short_rdel proto) h)
+short_task tasks.Red h = omega arith
+short_task tasks.Ext h = omega arith
 
 pub short_link : (link : Link) → IsNamed link → length (link_text link) ≤ 26
 unfolding link_text

@@ -12,7 +12,7 @@ use Rattle.journal_text.specs.declared.value.Value.TheVariants as values
 use Rattle.journal_text.specs.declared.entry.Entry.{Entry}
 use Rattle.journal_text.specs.declared.entry.Entry.TheVariants.{Begin, Inherit, Add, Delete, Replace, Asked, Weld, End}
 use Rattle.journal_text.specs.declared.line.Line.{Line}
-use Rattle.journal_text.specs.declared.line.Line.TheVariants.{Journal, Out, Note, Row, Rows, Cover, Work, Bound, Idle, Ignored, Absent, Refused}
+use Rattle.journal_text.specs.declared.line.Line.TheVariants.{Journal, Out, Note, Row, Rows, Cover, Settled, Work, Bound, Idle, Ignored, Absent, Refused}
 use Rattle.journal_check.specs.Laws.{IsValue, IsLine}
 
 -- ---- values that are short
@@ -89,6 +89,7 @@ values_in (Note k octets) = []
 values_in (Row link p value) = value ∷ []
 values_in (Rows link count) = []
 values_in (Cover addr found subnet) = []
+values_in (Settled p held) = []
 values_in (Work turns) = []
 values_in (Bound turns) = []
 values_in (Idle turns) = []
@@ -104,6 +105,7 @@ octets_in (Note k octets) = octets
 octets_in (Row link p value) = []
 octets_in (Rows link count) = []
 octets_in (Cover addr found subnet) = []
+octets_in (Settled p held) = []
 octets_in (Work turns) = []
 octets_in (Bound turns) = []
 octets_in (Idle turns) = []

@@ -1,7 +1,7 @@
 -- What was declared stays counted.
 use Rattle.std.proofs.Common.{◌≡◌, ℕ, ◌&&◌, Bool, true, false, cond, List, Option, Some, None, arith}
 use Rattle.event_text.specs.declared.event.Event.{Event}
-use Rattle.event_text.specs.declared.event.Event.TheVariants.{Nothing, Local, Peer, Up, Down, Bgp, FilterIn, FilterOut, RouteAdd, RouteDel, Lose, Redist, Cover, Idle, Work, Ask, Show}
+use Rattle.event_text.specs.declared.event.Event.TheVariants.{Nothing, Local, Peer, Up, Down, Bgp, FilterIn, FilterOut, RouteAdd, RouteDel, Lose, Redist, Cover, Settled, Idle, Work, Ask, Show}
 use Rattle.event_text.specs.declared.declared.DeclaredPeer.{DeclaredPeer}
 use Rattle.event_text.specs.Declarations.{Declaration, IsCounted, peer_at, words_of, with_session, without_session, refusal}
 use Rattle.event_text.proofs.Sessions.{addable, counted_push, counted_begun, counted_ended}
@@ -44,6 +44,7 @@ counted_after d (RouteDel proto p) admitted counted = counted
 counted_after d (Lose proto) admitted counted = counted
 counted_after d (Redist proto on) admitted counted = counted
 counted_after d (Cover addr) admitted counted = counted
+counted_after d (Settled p) admitted counted = counted
 counted_after d Idle admitted counted = counted
 counted_after d (Work task n) admitted counted = counted
 counted_after d (Ask link p) admitted counted = counted

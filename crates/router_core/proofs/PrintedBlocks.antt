@@ -36,7 +36,7 @@ use Rattle.journal_text.specs.declared.link.Task.{Task}
 use Rattle.journal_text.specs.declared.link.Task.TheVariants as tasks
 use Rattle.journal_text.specs.declared.link.Link.TheVariants as links
 use Rattle.journal_text.specs.declared.value.Value.{Value}
-use Rattle.journal_check.specs.Laws.{IsPrefix, IsMatch}
+use Rattle.journal_check.specs.Laws.{IsPrefix, IsMatch, IsNamedIfAny}
 use Rattle.journal_laws.specs.Printed.{IsPrinted}
 use Rattle.journal_laws.specs.Standing.{AreTablesOf, IsInteriorRow, WasHeard, IsPrintableChain, HaveWays}
 use Rattle.journal_laws.proofs.PrintedRows.{AreFit, IsFit, Prints, PrintsIfAny, live_prints, filt_prints, int_prints, tree_prints, none_printable, fed_fit, lost_printable, edited_printable, chain_prints}
@@ -245,7 +245,7 @@ module _ (m : Moment) (stands : Stands m) (printable : IsPrintableMoment m) wher
   settled : (p : Network) (said : List Line) → IsPrefix p → TellsSettled p m said → Printed said
   settled p said prefix tells = subst Printed (sym tells.line) (plain_printed (neighbours m.declared) _ refl refl (prefix, by_answer tells.answer tells.tells.works), tt)
     where
-      by_answer : (o : Option Task) → IfSome o (λ task. has_work task m ≡ true) → IfSome o IsNamedTask
+      by_answer : (o : Option Task) → IfSome o (λ task. has_work task m ≡ true) → IsNamedIfAny o
       by_answer None works = tt
       by_answer (Some task) works = task_named task works
 
