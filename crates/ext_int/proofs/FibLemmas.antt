@@ -25,7 +25,7 @@ use Rattle.nexthop_resolver.specs.Resolving.{Resolving, resolved, goes_on}
 use Rattle.nexthop_resolver.specs.Registered.{answer_of}
 use Rattle.nexthop_resolver.specs.Takes.{TakesIn}
 use Rattle.ext_int.specs.Fibs.{fib_distance, forwarding_table, FollowsInt, FollowsExt, FollowsTurn, TakesExt}
-use Rattle.ext_int.specs.Laws.{reached, table_from}
+use Rattle.ext_int.specs.Laws.{reached}
 
 -- a change of an interior route that is forwarded by as before
 pub silent_int : (outer : Rows FibRow) (change : Change Interior) → ForwardsOn change None → FollowsInt outer change None
@@ -78,15 +78,10 @@ table_covered a b int outer inner_covers outer_covers q none =
     ap (λ (row : Option Interior). row_of_both fib_distance (option_map fib_row row) (outer q)) first ∙ second
 
 -- the table by the register's answers
-resolved_at : (r : Registry Interior) (row : Option External)
+pub resolved_at : (r : Registry Interior) (row : Option External)
     → goes_on external_hop over (λ (a : ℕ). Some (answer_of way_of r a)) row ≡ reached (longest width (map.get r.rows)) row
 resolved_at r None = refl
 resolved_at r (Some e) = refl
-
-pub table_exact : (int : Rows Interior) (ext : Rows External) (r : Registry Interior)
-    → forwarding_table int (rows_by (resolved external_hop over) (λ (a : ℕ). Some (answer_of way_of r a)) ext) ≡ table_from (longest width (map.get r.rows)) int ext
-table_exact int ext r = same_function _ _ (λ q.
-    ap (row_of_both fib_distance (option_map fib_row (int q))) (resolved_at r (ext q)))
 
 pub empty_table : forwarding_table no_rows no_rows ≡ no_rows
 empty_table = same_function _ _ (λ q. refl)

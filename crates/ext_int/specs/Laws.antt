@@ -1,5 +1,5 @@
 -- Laws of the forwarding table, for the crates above.
-use Rattle.std.specs.Prelude.{◌≡◌, ℕ, Option, Some, None, option_map}
+use Rattle.std.specs.Prelude.{◌≡◌, ℕ, Bool, false, Option, Some, None, option_map}
 use Rattle.std.specs.FinMap as map
 use Rattle.addr4.specs.Prefixes.{Network}
 use Rattle.prefix_trie.specs.Width.{width}
@@ -19,7 +19,7 @@ use Rattle.nexthop_resolver.specs.Kept.{external_hop, over, way_of}
 use Rattle.nexthop_resolver.specs.Resolving.{Resolving, AreNamed, named_by, nothing_known}
 use Rattle.nexthop_resolver.specs.Registered.{Agrees}
 use Rattle.nexthop_resolver.specs.Takes.{Invalidates}
-use Rattle.nexthop_resolver.specs.Turns.{Rests}
+use Rattle.nexthop_resolver.specs.Left.{TellsAlike, hop_lags}
 use Rattle.ext_int.specs.Fibs.{fib_distance, fib_table, TakesTurn}
 
 -- What a turn sends leads from the forwarding table before it to the one after it.
@@ -46,9 +46,9 @@ reached found (Some r) = over r (way_of (found r.next_hop))
 abbrev pub table_from : (ℕ → Option (Network × Interior)) → Rows Interior → Rows External → Rows FibRow
 table_from found int ext q = row_of_both fib_distance (option_map fib_row (int q)) (reached found (ext q))
 
--- Where there is nothing to do, the forwarding table is that.
-abbrev pub ExactAtRest : Type 0
-ExactAtRest =
-    (int : Rows Interior) (ext : Rows External) (r : Registry Interior) (s : Resolving Way) → Rests s → Agrees way_of s.client s.known r
-    → AreNamed s.counts s.known → AreCounted (named_by external_hop ext) s.counts
-    → fib_table s int ext ≡ table_from (longest width (map.get r.rows)) int ext
+-- At a prefix that no next hop of an external route holds up, the row is that of this table. (The test tells equal answers.)
+abbrev pub ExactUnlessHeldUp : Type 0
+ExactUnlessHeldUp =
+    (alike : Way → Way → Bool) → TellsAlike alike → (int : Rows Interior) (ext : Rows External) (r : Registry Interior) (s : Resolving Way) (q : Network)
+    → Agrees way_of s.client s.known r → AreNamed s.counts s.known → AreCounted (named_by external_hop ext) s.counts → hop_lags alike s q (option_map external_hop (ext q)) ≡ false
+    → fib_table s int ext q ≡ table_from (longest width (map.get r.rows)) int ext q

@@ -1,7 +1,7 @@
 //! Laws of the forwarding table, for the proofs of the crates above. Each is a function that does nothing, whose contract is the
 //! law.
 
-ghost use Rattle.ext_int.specs.Laws.{TurnLeads, StaleKeepsTable, NoRowsAtFirst, ExactAtRest};
+ghost use Rattle.ext_int.specs.Laws.{TurnLeads, StaleKeepsTable, NoRowsAtFirst, ExactUnlessHeldUp};
 
 use nexthop_resolver::Way;
 use rib_route::{External, FibRow};
@@ -27,10 +27,10 @@ pub fn no_rows_at_first()
     nexthop_resolver::laws::the_rows_below::<Way, External, FibRow>();
 }
 
-/// Where there is nothing to do, the forwarding table is the one that interior and external routes make, by the longest matches
-/// of the next hops.
-pub fn exact_at_rest()
-    ensures { ExactAtRest }
+/// At a prefix that no next hop holds up, the row of the forwarding table is the one that interior and external routes make, by
+/// the longest matches of the next hops.
+pub fn exact_unless_held_up()
+    ensures { ExactUnlessHeldUp }
 {
-    nexthop_resolver::laws::the_rows_below::<Way, External, FibRow>();
+    nexthop_resolver::laws::exact_unless_held_up::<Way, External, FibRow>();
 }

@@ -11,11 +11,13 @@
 //!
 //! What is kept true: where a change leads from the rows of either link to new ones, what goes out leads from the forwarding
 //! table to the new one, and so does what each turn sends; with nothing left to do the table is the one that the interior rows
-//! and the longest matches of the next hops make ([`exact_at_rest`]).
+//! and the longest matches of the next hops make ([`exact_unless_held_up`]).
 #![tactic(auto)]
 
 mod laws;
 mod merge;
 
-pub use laws::{a_turn_leads, exact_at_rest, no_rows_at_first, stale_answers_change_nothing};
+pub use laws::{
+    a_turn_leads, exact_unless_held_up, no_rows_at_first, stale_answers_change_nothing,
+};
 pub use merge::ExtInt;

@@ -189,28 +189,3 @@ module _ {A R L : Type 0} (hop : R → ℕ) (made : R → A → Option L) (candi
     turn_leads old new Nothing t = ap (λ s. res_rows hop made s upper) t.1
     turn_leads old new Quiet t = turned_leads old new None t
     turn_leads old new (Sent change) t = turned_leads old new (Some change) t
-
--- ---- where there is nothing to do
-module _ {A R L : Type 0} (hop : R → ℕ) (made : R → A → Option L) (kept : Option (Network × Interior) → A) where
-  -- each known next hop has the present answer in force
-  exact_answer : (r : Registry Interior) (s : Resolving A) (a : ℕ) → Rests s → Agrees kept s.client s.known r → map.contains_key s.known a ≡ true
-      → in_force_by s.known a ≡ Some (answer_of kept r a)
-  exact_answer r s a rests agree known =
-      let h = some_of (get s.known a) known in
-      by_came h.0 h.1 h.0.came refl
-    where
-      by_came : (h : Hop A) → get s.known a ≡ Some h → (c : Option Network) → h.came ≡ c → in_force_by s.known a ≡ Some (answer_of kept r a)
-      by_came h e None came = absurd (rests.none_stale a h e came)
-      by_came h e (Some t) came = ap (option_map (λ x. x.in_force)) e ∙ ap Some (sym (rests.settled_all a h e) ∙ (agree.present a h t e came).answered)
-
-  exact_row : (f : Answers A) (g : ℕ → A) (row : Option R) → ((a : ℕ) → option_map hop row ≡ Some a → f a ≡ Some (g a))
-      → goes_on hop made f row ≡ goes_on hop made (λ (a : ℕ). Some (g a)) row
-  exact_row f g None same = refl
-  exact_row f g (Some r) same = ap (made_by hop made r) (same (hop r) refl)
-
-  pub exact_at_rest : (upper : Rows R) (r : Registry Interior) (s : Resolving A) → Rests s → Agrees kept s.client s.known r → AreNamed s.counts s.known
-      → AreCounted (named_by hop upper) s.counts → res_rows hop made s upper ≡ rows_by (resolved hop made) (λ (a : ℕ). Some (answer_of kept r a)) upper
-  exact_at_rest upper r s rests agree named counted =
-      ap (λ (f : Passed (Answers A)). passed_rows (resolved hop made) f upper) (off_passes s rests.off)
-      ∙ same_function _ _ (λ q. exact_row (in_force_by s.known) (answer_of kept r) (upper q) (λ a names.
-      exact_answer r s a rests agree (named a ∙ named_is_counted (named_by hop upper) s.counts q a counted names)))

@@ -12,8 +12,7 @@ use Rattle.register_interest.specs.declared.interests.Interest.{Interest}
 use Rattle.register_interest.specs.Interests.{without}
 use Rattle.register_interest.specs.Registers.{Registry, KeepsAnswers}
 use Rattle.nexthop_known.specs.Counts.{AreCounted}
-use Rattle.pass_core.specs.Turns.{rows_by}
-use Rattle.nexthop_resolver.specs.Resolving.{Resolving, AreNamed, nothing_known, named_by, goes_on, resolved, res_rows}
+use Rattle.nexthop_resolver.specs.Resolving.{Resolving, AreNamed, nothing_known, named_by, goes_on, res_rows}
 use Rattle.nexthop_resolver.specs.Registered.{Agrees, Pends, answer_of, interest_of, KeepsOthers}
 use Rattle.nexthop_resolver.specs.Takes.{Invalidates}
 use Rattle.nexthop_resolver.specs.Turns.{Rests, Turned, IsTurn}
@@ -33,13 +32,6 @@ module _ (A R L : Type 0) where
   InvalidatingKeepsRows =
       (hop : R → ℕ) (made : R → A → Option L) (upper : Rows R) (s : Network) (old new : Resolving A) → Invalidates s old new
       → res_rows hop made new upper ≡ res_rows hop made old upper
-
-  -- Where there is nothing to do, the rows below are those that the register's answers make.
-  abbrev pub ExactAtRest : Type 0
-  ExactAtRest =
-      (hop : R → ℕ) (made : R → A → Option L) (kept : Option (Network × Interior) → A) (upper : Rows R) (r : Registry Interior) (s : Resolving A) → Rests s
-      → Agrees kept s.client s.known r → AreNamed s.counts s.known → AreCounted (named_by hop upper) s.counts
-      → res_rows hop made s upper ≡ rows_by (resolved hop made) (λ (a : ℕ). Some (answer_of kept r a)) upper
 
   -- At a prefix that no next hop holds up, the row below is the one that the register's answer makes. (The test tells equal answers.)
   abbrev pub ExactUnlessHeldUp : Type 0

@@ -1,18 +1,16 @@
 //! Laws of resolvers, for the proofs of the crates above. Each is a function that does nothing, whose contract is the law.
 
-ghost use Rattle.nexthop_resolver.specs.Laws.{TurnLeads, InvalidatingKeepsRows, ExactAtRest, ExactUnlessHeldUp, NoneHeldUpAtRest, NoRowsAtFirst, TurnsFall, NothingAgrees, OthersAgree, ChangePends, InvalidatedPends, OthersPend, NonePends, NoneLeftAtRest, TurnsAreBounded};
+ghost use Rattle.nexthop_resolver.specs.Laws.{TurnLeads, InvalidatingKeepsRows, ExactUnlessHeldUp, NoneHeldUpAtRest, NoRowsAtFirst, TurnsFall, NothingAgrees, OthersAgree, ChangePends, InvalidatedPends, OthersPend, NonePends, NoneLeftAtRest, TurnsAreBounded};
 
 /// What a turn sends leads from the rows below before it to those after it.
 pub fn a_turn_leads<A, R, L>()
     ensures { TurnLeads A R L }
 {}
 
-/// The rows below: none at first; the same where answers become stale; and where there is nothing to do those that the
-/// register's answers make of the rows above.
+/// The rows below: none at first; and the same where answers become stale.
 pub fn the_rows_below<A, R, L>()
     ensures first { NoRowsAtFirst A R L }
     ensures stale { InvalidatingKeepsRows A R L }
-    ensures exact { ExactAtRest A R L }
 {}
 
 /// At a prefix that no next hop holds up, the row below is the one that the register's answer makes of the row above; and where

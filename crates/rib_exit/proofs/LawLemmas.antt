@@ -1,5 +1,6 @@
 -- Laws of the RIB's exit.
 use Rattle.std.proofs.Common.{◌≡◌, ℕ, Bool, true, false, not, ◌||◌, cond, Option, Some, None, Result, Ok, Err, OnOk, is_some, refl, sym, ap, subst, ◌∙◌}
+use Rattle.std.specs.Prelude.{option_map}
 use Rattle.std.specs.FinMap as map
 use Rattle.std.specs.FinMap.{get-empty, len-empty}
 use Rattle.std.specs.Ordering.{nat_cmp}
@@ -17,6 +18,7 @@ use Rattle.nexthop_resolver.specs.declared.rows.Way.{Way}
 use Rattle.nexthop_resolver.specs.Kept.{external_hop, over, way_of}
 use Rattle.nexthop_resolver.specs.Resolving.{nothing_known, named_by}
 use Rattle.nexthop_resolver.specs.Turns.{Rests}
+use Rattle.nexthop_resolver.proofs.HeldLemmas.{none_held_up_at_rest}
 use Rattle.nexthop_resolver.proofs.MoveLemmas.{same_some, clash_some}
 use Rattle.nexthop_resolver.proofs.RowLemmas.{no_rows_at_first}
 use Rattle.nexthop_resolver.proofs.PendLemmas.{nothing_yet as none_asked, others_agree}
@@ -25,18 +27,18 @@ use Rattle.rib_split.specs.Splitting.{Parted, external_row, on_link}
 use Rattle.rib_split.specs.Laws.{merged_links}
 use Rattle.rib_split.proofs.TableLemmas.{tables_begin_empty}
 use Rattle.ext_int.specs.Fibs.{forwarding_table, fib_table}
-use Rattle.ext_int.specs.Laws.{ExactAtRest, table_from}
+use Rattle.ext_int.specs.Laws as tables
 use Rattle.ext_int.proofs.FibLemmas.{empty_table}
 use Rattle.journal_text.specs.declared.link.Link.{Link}
 use Rattle.journal_text.specs.declared.link.Link.TheVariants.{Ebgp, Ibgp, Ext, Fib}
 use Rattle.journal_text.specs.declared.value.Value.{Value}
 use Rattle.journal_text.specs.Walk.{Links, Leads, fold_links, no_links}
 use Rattle.journal_text.specs.Values.{fib_rows}
-use Rattle.rib_exit.specs.Exits.{nothing_yet, ext_rows, external_rows, exit_links, is_exit_link, beside}
+use Rattle.rib_exit.specs.Exits.{nothing_yet, same_way, ext_rows, external_rows, exit_links, is_exit_link, beside}
 use Rattle.rib_exit.specs.Passing.{external_distance}
 use Rattle.rib_exit.specs.Steps.{LeadsExit, begin_entries}
-use Rattle.rib_exit.specs.Laws.{StandsAtFirst, LeadsAnywhere, ExtIsOfBest, ExactWithoutWork, StrangersAgree, CandidatesAreOfBest}
-use Rattle.rib_exit.proofs.BusyLemmas.{by_bool, idle_rests, rests_idle, none_left_without_work}
+use Rattle.rib_exit.specs.Laws.{StandsAtFirst, LeadsAnywhere, ExtIsOfBest, ExactUnlessHeldUp, NoneHeldUpWithoutWork, StrangersAgree, CandidatesAreOfBest}
+use Rattle.rib_exit.proofs.BusyLemmas.{by_bool, tells_ways, idle_rests, rests_idle, none_left_without_work}
 
 -- what holds at any rate
 pub on_ok : {X E : Type 0} (r : Result X E) (P : Type 0) → P → OnOk r P
@@ -117,10 +119,11 @@ own_row (Some r) = one_side r.internal r
 pub ext_is_of_best : ExtIsOfBest
 ext_is_of_best e best stands = ap merged_links stands.links ∙ same_function _ _ (λ q. own_row (external_row (best q)))
 
-pub exact_without_work : ExactAtRest → ExactWithoutWork
-exact_without_work exact e best int r sound stands agree idle =
-    exact int (ext_rows e) r e.forwarding (idle_rests e.forwarding idle) agree sound.named stands.counted
-    ∙ ap (table_from _ int) (ext_is_of_best e best stands)
+pub exact_unless_held_up : tables.ExactUnlessHeldUp → ExactUnlessHeldUp
+exact_unless_held_up exact e best int r p sound stands agree none = exact same_way tells_ways int (ext_rows e) r e.forwarding p agree sound.named stands.counted none
+
+pub none_held_up_without_work : NoneHeldUpWithoutWork
+none_held_up_without_work e p idle = none_held_up_at_rest same_way tells_ways e.forwarding p (option_map external_hop (ext_rows e p)) (idle_rests e.forwarding idle)
 
 no_side : (row : Option Route) → row ≡ None → is_some (on_link sides.Ebgp (external_row row)) || is_some (on_link sides.Ibgp (external_row row)) ≡ false
 no_side None e = refl

@@ -17,7 +17,7 @@ use Rattle.journal_text.specs.declared.entry.Entry.{Entry}
 use Rattle.journal_text.specs.declared.value.Value.{Value}
 use Rattle.journal_text.specs.Walk.{Links, Leads}
 use Rattle.rib_exit.specs.declared.exit.RibExit.{RibExit}
-use Rattle.rib_exit.specs.Exits.{ext_rows, ext_candidates, fib_over, exit_links, is_exit_link, IsExit, AgreesWith, StandsOver, has_ext_work, known_in, stale_in, left_in}
+use Rattle.rib_exit.specs.Exits.{ext_rows, ext_candidates, fib_over, exit_links, is_exit_link, IsExit, AgreesWith, StandsOver, has_ext_work, ext_lags, known_in, stale_in, left_in}
 use Rattle.rib_exit.specs.Steps.{LeadsExit}
 
 -- ---- at first
@@ -46,12 +46,16 @@ LeadsAnywhere = (old new before after : Links Value) (entries : List (Entry Valu
 abbrev pub ExtIsOfBest : Type 0
 ExtIsOfBest = (e : RibExit) (best : Rows Route) → StandsOver best e → ext_rows e ≡ (λ q. external_row (best q))
 
--- Where the task has no work, the forwarding table has, of the interior route and of the best route that a peer sent, over the
--- longest interior route that holds its next hop, the one of least distance.
-abbrev pub ExactWithoutWork : Type 0
-ExactWithoutWork =
-    (e : RibExit) (best : Rows Route) (int : Rows Interior) (r : Registry Interior) → IsExit e → StandsOver best e → AgreesWith e r → has_ext_work e ≡ false
-    → fib_over e int ≡ table_from (longest width (map.get r.rows)) int (λ q. external_row (best q))
+-- At a prefix that the task doesn't hold up, the forwarding table has, of the interior route and of the row of `ext`, over the longest
+-- interior route that holds its next hop, the one of least distance.
+abbrev pub ExactUnlessHeldUp : Type 0
+ExactUnlessHeldUp =
+    (e : RibExit) (best : Rows Route) (int : Rows Interior) (r : Registry Interior) (p : Network) → IsExit e → StandsOver best e → AgreesWith e r → ext_lags e p ≡ false
+    → fib_over e int p ≡ table_from (longest width (map.get r.rows)) int (ext_rows e) p
+
+-- Without work it holds up none.
+abbrev pub NoneHeldUpWithoutWork : Type 0
+NoneHeldUpWithoutWork = (e : RibExit) (p : Network) → has_ext_work e ≡ false → ext_lags e p ≡ false
 
 -- ---- the register
 -- What another client does, leaves the agreement.

@@ -2,9 +2,9 @@
 //! law.
 
 ghost use Rattle.rib_exit.specs.Exits.{nothing_yet};
-ghost use Rattle.rib_exit.specs.Laws.{StandsAtFirst, LeadsAnywhere, ExtIsOfBest, ExactWithoutWork, StrangersAgree, NoneLeftWithoutWork, TurnsAreBounded, LeftFollows, CandidatesAreOfBest, KnownAreFew};
+ghost use Rattle.rib_exit.specs.Laws.{StandsAtFirst, LeadsAnywhere, ExtIsOfBest, ExactUnlessHeldUp, NoneHeldUpWithoutWork, StrangersAgree, NoneLeftWithoutWork, TurnsAreBounded, LeftFollows, CandidatesAreOfBest, KnownAreFew};
 
-use ext_int::exact_at_rest;
+use ext_int::exact_unless_held_up as table_is_exact;
 
 /// At first no row stands on a link, nothing is left to do, and all that is claimed holds.
 pub fn nothing_at_first()
@@ -22,12 +22,13 @@ pub fn the_rows_are_of_best()
     ensures candidates { CandidatesAreOfBest }
 {}
 
-/// Where the task has no work, the forwarding table is the one that the interior routes and the best routes make, by the longest
-/// matches of next hops.
-pub fn exact_without_work()
-    ensures { ExactWithoutWork }
+/// At a prefix that the task doesn't hold up, the row of the forwarding table is the one that the interior route and the row of
+/// `ext` make, by the longest match of its next hop. Without work the task holds up none.
+pub fn exact_unless_held_up()
+    ensures exact { ExactUnlessHeldUp }
+    ensures idle { NoneHeldUpWithoutWork }
 {
-    exact_at_rest();
+    table_is_exact();
 }
 
 /// What another client of the register does leaves the exit's agreement with it.

@@ -76,6 +76,7 @@ use Rattle.fanout_queue.specs.Readers.{read_rows, unread_by}
 use Rattle.out_chain.specs.Chains.{OutChained, made_by, outf_rows}
 use Rattle.exit_side.specs.Exits.{chain_at as exit_at, links_by as exit_link}
 use Rattle.ext_int.specs.Fibs.{fib_distance}
+use Rattle.ext_int.specs.Laws.{reached}
 use Rattle.rib_split.specs.declared.split.BgpLink.TheVariants as sides
 use Rattle.rib_split.specs.Tables.{kept_rows}
 use Rattle.rib_exit.specs.Exits.{ext_rows, fib_over, exit_links as external_links, same_way, StandsOver}
@@ -89,7 +90,7 @@ use Rattle.router_core.specs.Lives.{live_state}
 use Rattle.router_core.specs.Turns.{has_work}
 use Rattle.router_core.specs.Stands.{StandsAt, Stands, AllHaveExits, ExitsAt, IsExitOf, ReadsOn, EachChain, EachPeer, OneSpeaker, InteriorTree, EachResolver, SameResolvers, SmallNumbers, AnswersAgree, HopsCounted, EachExit, ExitsRead, PlainExits, SameSessions, OneReader, ExternalExit, ExternalAgrees, ExternalStands}
 use Rattle.router_core.proofs.StandLemmas.{registered_rows}
-use Rattle.router_core.proofs.ForwardLemmas.{ebgp_is, ibgp_is, ext_is}
+use Rattle.router_core.proofs.ForwardLemmas.{own_at, over_is, lesser_is, ebgp_is, ibgp_is, ext_is}
 use Rattle.router_core.specs.Holding.{next_hop_at, is_over, is_over_hop, holds_up_at}
 use Rattle.router_core.specs.Scratch.{WorksOn, Feeds, HoldsUp, row_in, IsExactIn, IsAtRestIn}
 use Rattle.router_core.proofs.TableLemmas.{none_below, two_at, int_at, match_at}
@@ -132,19 +133,6 @@ by_resolver_row (Some s) upper p = refl
 by_match : (r : Route) (found : Option (Network × Interior)) → with_metric r (metric_of found) ≡ with_metric_of r (option_map (λ x. x.1) found)
 by_match r None = refl
 by_match r (Some x) = refl
-
-router_is : (gateway : Option ℕ) (hop : ℕ) → way_router gateway hop ≡ first_router gateway hop
-router_is None hop = refl
-router_is (Some gateway) hop = refl
-
-over_is : (r : ExternalRow) (found : Option (Network × Interior)) → over r (way_of found) ≡ over_interior r (option_map (λ x. x.1) found)
-over_is r None = refl
-over_is r (Some x) = ap (λ (n : ℕ). Some (record { proto = external_proto r; gateway = Some n; iface = x.1.iface })) (router_is x.1.gateway r.next_hop)
-
-lesser_is : (one other : Option FibRow) → row_of_both fib_distance one other ≡ lesser_of one other
-lesser_is None other = refl
-lesser_is (Some one) None = refl
-lesser_is (Some one) (Some other) = refl
 
 -- a row of `res.K` is that of `filt.K` with a metric
 same_hop : (answers : Answers Metric) (o : Option Route) (r : Route) → goes_on route_hop with_metric answers o ≡ Some r → option_map route_hop o ≡ Some (route_hop r)
@@ -320,16 +308,12 @@ module _ (org_exact : OrgWhereNoneIsLost) (hops_exact : hops.ExactUnlessHeldUp) 
   res_at_rest k p rest = res_is k p rest (peer_at k m.declared.peers) (chain_at k m.chains) refl (stands.own EachPeer k)
 
   -- ---- the decision
-  own_made : (me : Speaker) (on : Protos) (p : Network) (o : Option Interior) → redistributed me on p o ≡ own_row me (has on) o
-  own_made me on p None = refl
-  own_made me on p (Some row) = refl
-
   -- the row of `red`, or none where it isn't live
   own_at_rest : (p : Network) → Rests Red p → (s : Option Speaker) → own_rows s m.redist (int_rows m.tree) p ≡ rows_if_any (live_own_rows s (has (present m.redist)) scratch_int) p
   own_at_rest p rest None = refl
   own_at_rest p rest (Some me) =
       latest_row (redistributed me) m.redist p (int_rows m.tree p) (λ on q. refl) (rest Own (directly Red tt))
-      ∙ own_made me (present m.redist) p (int_rows m.tree p)
+      ∙ own_at me (present m.redist) p (int_rows m.tree p)
       ∙ ap (own_row me (has (present m.redist))) (int_is p (above Int Red p tt rest))
 
   red_exact : (p : Network) → Rests Red p → (s : Option Speaker) → row_in (own_links s (own_rows s m.redist (int_rows m.tree)) Red) p ≡ row_in (option_map route_rows (live_own_rows s (has (present m.redist)) scratch_int)) p
@@ -413,14 +397,13 @@ module _ (org_exact : OrgWhereNoneIsLost) (hops_exact : hops.ExactUnlessHeldUp) 
       by_branch r best hop (suc k) less at =
           (suc k, less, same_next_hop (resolver_at (suc k) m.hops) (filt_at m.chains (suc k)) p r at ∙ ap (λ (a : ℕ). Some a) hop)
 
-  reached_is : (p : Network) → Rests Int p → (o : Option ExternalRow) → external_row (λ w. true) (best_of m p) ≡ o
-      → goes_on external_hop over (λ (a : ℕ). Some (answer_of way_of m.registry a)) o ≡ reached_row scratch_int o
-  reached_is p none None at = refl
-  reached_is p none (Some x) at =
+  reached_is : (p : Network) → Rests Int p → (o : Option ExternalRow) → external_row (λ w. true) (best_of m p) ≡ o → reached (longest 32 (tables.get m.registry.rows)) o ≡ reached_row scratch_int o
+  reached_is p rest None at = refl
+  reached_is p rest (Some x) at =
       let from = best_hop p x at in
       ap (λ (rows : Rows Interior). over x (way_of (longest 32 rows x.next_hop))) (registered_rows m stands)
       ∙ over_is x (longest 32 (int_rows m.tree) x.next_hop)
-      ∙ ap (over_interior x) (match_is (int_rows m.tree) x.next_hop ∙ match_rests p from.0 x.next_hop none from.1 from.2)
+      ∙ ap (over_interior x) (match_is (int_rows m.tree) x.next_hop ∙ match_rests p from.0 x.next_hop rest from.1 from.2)
 
   fib_exact : (p : Network) → Rests Fib p → IsExactIn m Fib p
   fib_exact p rest = forwards fib_value (fib_over m.rib (int_rows m.tree)) (forwarding_rows scratch_int (external_rows (λ w. true) picked)) Fib p refl same m.declared.speaker refl
@@ -434,11 +417,9 @@ module _ (org_exact : OrgWhereNoneIsLost) (hops_exact : hops.ExactUnlessHeldUp) 
       same : (me : Speaker) → m.declared.speaker ≡ Some me → fib_over m.rib (int_rows m.tree) p ≡ forwarding_rows scratch_int (external_rows (λ w. true) picked) p
       same me local =
           let row : ext_rows m.rib p ≡ external_row (λ w. true) (best_of m p) = ext_row_is p ∙ ap (external_row (λ w. true)) (read_now p reads me local) in
-          ap (row_of_both fib_distance (option_map fib_row (int_rows m.tree p)))
-          (external_exact m.rib m.registry p (stands.own ExternalExit) (read_of m) (stands.own ExternalStands) (stands.own ExternalAgrees) (rest External (directly Fib tt))
-          ∙ ap (λ (o : Option ExternalRow). goes_on external_hop over (λ (a : ℕ). Some (answer_of way_of m.registry a)) o) row
-          ∙ reached_is p interior (external_row (λ w. true) (best_of m p)) refl
-          ∙ ap (λ (o : Option Route). reached_row scratch_int (external_row (λ w. true) o)) (best_is p (above Best ReadRib p tt reads)))
+          external_exact m.rib (read_of m) (int_rows m.tree) m.registry p (stands.own ExternalExit) (stands.own ExternalStands) (stands.own ExternalAgrees) (rest External (directly Fib tt))
+          ∙ ap (row_of_both fib_distance (option_map fib_row (int_rows m.tree p))) (ap (reached (longest 32 (tables.get m.registry.rows))) row ∙ reached_is p interior (external_row (λ w. true) (best_of m p)) refl)
+          ∙ ap (λ (o : Option Route). row_of_both fib_distance (option_map fib_row (int_rows m.tree p)) (reached_row scratch_int (external_row (λ w. true) o))) (best_is p (above Best ReadRib p tt reads))
           ∙ ap (λ (o : Option Interior). row_of_both fib_distance (option_map fib_row o) (reached_row scratch_int (external_row (λ w. true) (picked p)))) (int_is p interior)
           ∙ lesser_is (option_map fib_row (scratch_int p)) (reached_row scratch_int (external_row (λ w. true) (picked p)))
 
