@@ -1,6 +1,6 @@
 //! What follows a change of `res.K` or `red`: the best route at its prefix, over all peers and this speaker's own (RFC 4271, section 9.1.2).
 
-ghost use Rattle.std.specs.Prelude.{◌≡◌, ◌≤◌, IfOk, OnOk};
+ghost use Rattle.std.specs.Prelude.{◌≡◌, ◌≤◌, IfOk, OnOk, is_some};
 ghost use Rattle.std.specs.Option.{option_copied};
 ghost use Rattle.addr4.specs.Places.{key_of};
 ghost use Rattle.journal_text.specs.Journals.{Adds};
@@ -68,6 +68,26 @@ impl<'a> Lent<'a> {
         self.hops.asked(u32::from(branch), chain, *p)
     }
 
+    /// Whether `red` has a row at a prefix. Takes no memory.
+    fn has_own(&self, p: &Prefix) -> bool
+        ensures { result ≡ is_some (own_rows self.now.declared.now.speaker self.now.redist.now (int_rows self.now.tree.now) p.now) }
+    {
+        match self.declared.speaker() {
+            Some(_) => self.redist.has(&self.tree.row(*p), *p),
+            None => false,
+        }
+    }
+
+    /// Whether `res.K` of a peer has a row at a prefix. Takes no memory.
+    fn has_resolved(&self, branch: u8, p: &Prefix) -> bool
+        ensures { result ≡ is_some (lent_resolved self.now.chains.now self.now.hops.now branch p.now) }
+    {
+        let Some(chain) = self.chain(branch) else {
+            return false;
+        };
+        self.hops.has(u32::from(branch), chain.next_hop(*p), *p)
+    }
+
     /// Where the next row of `res.K` may stand, beyond a place.
     fn next_resolved(&self, branch: u8, after: &Place) -> Option<Prefix>
         ensures next { IsNextCandidate (candidates_by (lent_chain self.now.chains.now branch)) (key_of after.now) result }
@@ -104,12 +124,9 @@ impl<'a> Branches for Lent<'a> {
 
     fn has(&self, branch: u8, p: &Prefix) -> bool {
         if branch == 0 {
-            return self.declared.speaker().is_some() && self.redist.has(&self.tree.row(*p), *p);
+            return self.has_own(p);
         }
-        let Some(chain) = self.chain(branch) else {
-            return false;
-        };
-        self.hops.has(u32::from(branch), chain.next_hop(*p), *p)
+        self.has_resolved(branch, p)
     }
 
     fn next_candidate(&self, branch: u8, after: &Place) -> Option<Prefix> {
