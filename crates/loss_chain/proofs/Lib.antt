@@ -9,3 +9,4 @@ pub mod WorkLemmas
 pub mod CountLemmas
 pub mod TurnLemmas
 pub mod TableLemmas
+pub mod HeldLemmas

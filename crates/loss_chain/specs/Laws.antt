@@ -1,10 +1,12 @@
 -- Laws of chains, for the crates above.
-use Rattle.std.specs.Prelude.{◌≡◌, ◌⊎◌, ℕ, ◌+◌, Option, Some}
+use Rattle.std.specs.Prelude.{◌≡◌, ◌⊎◌, ℕ, ◌+◌, false, List, Option, Some, None}
 use Rattle.std.specs.FinMap as map
 use Rattle.std.specs.FinMap.{FinMap}
 use Rattle.addr4.specs.Prefixes.{Network, prefix_cmp}
 use Rattle.link_change.specs.Rows.{Rows}
-use Rattle.loss_chain.specs.Tables.{Tables, IsLossChain, lowest_rows, tables_count}
+use Rattle.loss_chain.specs.Lost.{Lost}
+use Rattle.loss_chain.specs.Tables.{Tables, IsLossChain, AreRising, rows_below, lowest_rows, tables_count}
+use Rattle.loss_chain.specs.Held.{has_row, has_over}
 use Rattle.loss_chain.specs.Rows.{IsRow}
 use Rattle.loss_chain.specs.Steps.{no_tables, fed_tables, table_of, lost_tables, welded_tables, swept_tables}
 
@@ -54,3 +56,13 @@ TurnsBringNoRow R = (number : ℕ) (at : Network) (t : Tables R) (p : Network) (
 -- A row of the lowest link is one of the chain's.
 abbrev pub LowestRowsAreRows : Type 0 → Type 0
 LowestRowsAreRows R = (t : Tables R) (p : Network) (row : R) → lowest_rows t p ≡ Some row → IsRow t p row
+
+-- Where no lost table has a prefix, the row of the link below them is the live one.
+abbrev pub LiveWhereNoneIsLost : Type 0 → Type 0
+LiveWhereNoneIsLost R =
+    (live : FinMap prefix_cmp R) (ds : List (Lost R)) (q : Network) → AreRising ds → ((n : ℕ) → has_row (table_of n ds) q ≡ false)
+    → rows_below live ds q ≡ map.get live q
+
+-- No table has no prefix that holds an address.
+abbrev pub NoTableHoldsNothing : Type 0 → Type 0
+NoTableHoldsNothing R = (a : ℕ) → has_over {R = R} None a ≡ false

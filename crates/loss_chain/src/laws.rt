@@ -1,6 +1,6 @@
 //! Laws of chains, for the proofs of the crates above. Each is a function that does nothing, whose contract is the law.
 
-ghost use Rattle.loss_chain.specs.Laws.{RowsAreCounted, TurnsTakeRows, WeldsKeepRows, LossesKeepRows, NoRowAtFirst, FeedsBringOneRow, LossesBringNoRow, WeldsBringNoRow, TurnsBringNoRow, LowestRowsAreRows};
+ghost use Rattle.loss_chain.specs.Laws.{RowsAreCounted, TurnsTakeRows, WeldsKeepRows, LossesKeepRows, NoRowAtFirst, FeedsBringOneRow, LossesBringNoRow, WeldsBringNoRow, TurnsBringNoRow, LowestRowsAreRows, LiveWhereNoneIsLost, NoTableHoldsNothing};
 
 /// The count that [`LossChain::rows`](crate::LossChain::rows) gives is the number of rows of the lowest link.
 pub fn rows_are_counted<R>()
@@ -23,4 +23,10 @@ pub fn each_row_is_fed<R>()
     ensures welds { WeldsBringNoRow R }
     ensures turns { TurnsBringNoRow R }
     ensures lowest { LowestRowsAreRows R }
+{}
+
+/// Where no lost table has a prefix, the row of the lowest link there is the live one; and where no table is there is nothing lost.
+pub fn live_where_none_is_lost<R>()
+    ensures live { LiveWhereNoneIsLost R }
+    ensures none { NoTableHoldsNothing R }
 {}
