@@ -1,5 +1,5 @@
 -- The longest match, as it is decided, and as the register answers it.
-use Rattle.std.proofs.Common.{◌≡◌, ℕ, zero, suc, Option, Some, None, refl, sym, ap, subst, ◌∙◌}
+use Rattle.std.proofs.Common.{◌≡◌, ℕ, zero, suc, Option, Some, None, refl, subst}
 use Rattle.std.specs.Prelude.{option_map}
 use Rattle.addr4.specs.Prefixes.{Network, block}
 use Rattle.link_change.specs.Rows.{Rows}
