@@ -19,7 +19,7 @@ use Rattle.loss_chain.specs.Lost.{Lost}
 use Rattle.loss_chain.specs.Steps.{table_of}
 use Rattle.loss_chain.specs.Tables.{rows_above}
 use Rattle.loss_chain.specs.Held.{has_row}
-use Rattle.loss_chain.proofs.LawLemmas.{live_where_none_is_lost}
+use Rattle.loss_chain.proofs.HeldLemmas.{live_where_none_is_lost}
 use Rattle.loss_chain.proofs.TableLemmas.{same_by, no_table}
 use Rattle.policy_rules.specs.declared.rule.Rule.{Rule}
 use Rattle.pass_core.specs.Passed.{Passed, Walked, present, function_at}

@@ -16,6 +16,7 @@ use Rattle.link_change.proofs.RowLemmas.{same_function}
 use Rattle.policy_rules.specs.declared.rule.Rule.{Rule}
 use Rattle.pass_core.specs.Passed.{Walked}
 use Rattle.pass_core.proofs.TurnLemmas.{none_lags_without_a_walk}
+use Rattle.loss_chain.proofs.ListLemmas.{made_is_listed}
 use Rattle.loss_chain.specs.Lost.{Lost}
 use Rattle.loss_chain.specs.Steps.{table_of}
 use Rattle.link_region.proofs.RegionLemmas.{by_bool}
@@ -79,9 +80,9 @@ listed of_tree of_peers of_hops of_exits m stands (tasks.Rdel proto n) some = of
 listed of_tree of_peers of_hops of_exits m stands tasks.Red some = (0, omega arith, refl)
 listed of_tree of_peers of_hops of_exits m stands (tasks.Del k s) some = of_peers.lost m.chains k s some
 listed of_tree of_peers of_hops of_exits m stands (tasks.Fin k) some = of_peers.walks m.chains k some
-listed of_tree of_peers of_hops of_exits m stands (tasks.Nh k) some = made (λ k. tasks.Nh k) (tables.keys m.hops) k (of_hops m.hops k some)
+listed of_tree of_peers of_hops of_exits m stands (tasks.Nh k) some = made_is_listed (λ k. tasks.Nh k) (tables.keys m.hops) k (of_hops m.hops k some)
 listed of_tree of_peers of_hops of_exits m stands tasks.ReadRib some = (0, omega arith, refl)
-listed of_tree of_peers of_hops of_exits m stands (tasks.Out k) some = made (λ k. tasks.Out k) (tables.keys m.exits.chains) k (of_exits m.exits k some)
+listed of_tree of_peers of_hops of_exits m stands (tasks.Out k) some = made_is_listed (λ k. tasks.Out k) (tables.keys m.exits.chains) k (of_exits m.exits k some)
 listed of_tree of_peers of_hops of_exits m stands tasks.Ext some = (0, omega arith, refl)
 
 -- ---- the first one that is found
