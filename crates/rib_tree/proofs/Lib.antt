@@ -10,3 +10,4 @@ pub mod NewLemmas
 pub mod TreeParts
 pub mod RestLemmas
 pub mod RegionLemmas
+pub mod HeldLemmas

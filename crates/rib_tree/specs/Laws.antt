@@ -1,14 +1,17 @@
 -- Laws of the tree, for the crates above.
-use Rattle.std.specs.Prelude.{◌≡◌, ℕ, ◌+◌, ◌≤◌, Some, None}
+use Rattle.std.specs.Prelude.{◌≡◌, ℕ, ◌+◌, ◌≤◌, true, false, Some, None}
+use Rattle.std.specs.List.{Contains}
 use Rattle.std.specs.FinMap as map
 use Rattle.std.specs.FinMap.{FinMap}
 use Rattle.addr4.specs.Prefixes.{Network, prefix_cmp}
 use Rattle.rib_route.specs.declared.Proto.{Proto}
 use Rattle.rib_route.specs.declared.rows.Interior.{Interior}
+use Rattle.journal_text.specs.declared.link.Task.{Task}
+use Rattle.journal_text.specs.declared.link.Task.TheVariants.{Rdel}
 use Rattle.rib_tree.specs.Branches.{Branch, IsBranch, org_rows}
 use Rattle.loss_chain.specs.Steps.{table_of}
-use Rattle.rib_tree.specs.Trees.{Treed, branch_of, IsTree, IsFull, int_rows, interior_distance, tree_count}
-use Rattle.rib_tree.specs.Steps.{new_tree, lost_tree, welded_tree, swept_tree}
+use Rattle.rib_tree.specs.Trees.{Treed, branch_of, IsTree, IsFull, int_rows, interior_distance, tree_count, tree_tasks}
+use Rattle.rib_tree.specs.Steps.{new_tree, lost_tree, welded_tree, swept_tree, has_tree_turn, tree_lags, tree_over}
 
 -- What calls require of a tree holds of a new one.
 abbrev pub ANewTreeStands : Type 0
@@ -43,3 +46,19 @@ LossesKeepRows = (t : Treed) (proto : Proto) → tree_count (lost_tree proto t) 
 -- Each row of `org.PROTO` is one of the protocol.
 abbrev pub RowsAreOwn : Type 0
 RowsAreOwn = (b : Branch) (p : Network) (row : Interior) → IsBranch b → org_rows b p ≡ Some row → row.proto ≡ b.proto
+
+-- ---- which tasks hold up a prefix
+-- A task without work holds up none.
+abbrev pub NoneHeldUpWithoutWork : Type 0
+NoneHeldUpWithoutWork =
+    (t : Treed) (task : Task) (p : Network) (a : ℕ) → has_tree_turn t task ≡ false → (tree_lags t task p ≡ false) × (tree_over t task a ≡ false)
+
+-- One with work is among the tree's tasks.
+abbrev pub WorkIsListed : Type 0
+WorkIsListed = (t : Treed) → IsTree t → (task : Task) → has_tree_turn t task ≡ true → Contains (tree_tasks t) task
+
+-- Where no task of a protocol holds up a prefix, the row of `org.PROTO` is the live one.
+abbrev pub OrgWhereNoneIsLost : Type 0
+OrgWhereNoneIsLost =
+    (t : Treed) → IsTree t → (proto : Proto) (q : Network) → ((n : ℕ) → tree_lags t (Rdel proto n) q ≡ false)
+    → org_rows (branch_of proto t) q ≡ map.get (branch_of proto t).tables.live q

@@ -1,6 +1,6 @@
 //! Laws of the tree, for the proofs of the crates above. Each is a function that does nothing, whose contract is the law.
 
-ghost use Rattle.rib_tree.specs.Laws.{ANewTreeStands, RowsAreOwn, TheLeastDistanceStands, EachRowCounts, TurnsTakeRows, WeldsKeepRows, LossesKeepRows};
+ghost use Rattle.rib_tree.specs.Laws.{ANewTreeStands, RowsAreOwn, TheLeastDistanceStands, EachRowCounts, TurnsTakeRows, WeldsKeepRows, LossesKeepRows, NoneHeldUpWithoutWork, WorkIsListed, OrgWhereNoneIsLost};
 
 use rib_merge::the_lesser_distance_stands;
 use rib_route::Interior;
@@ -43,4 +43,12 @@ pub fn welds_keep_rows()
 /// When a protocol is lost, as many rows stay.
 pub fn losses_keep_rows()
     ensures { LossesKeepRows }
+{}
+
+/// Without work a loss holds up no prefix, and no address; all that have work are among the tree's tasks; and where none of a
+/// protocol holds up a prefix, the row of its `org.PROTO` there is the live one.
+pub fn losses_hold_up()
+    ensures idle { NoneHeldUpWithoutWork }
+    ensures listed { WorkIsListed }
+    ensures exact { OrgWhereNoneIsLost }
 {}

@@ -34,7 +34,7 @@ mod tree;
 
 pub use branch::Branch;
 pub use laws::{
-    a_new_tree_stands, each_row_counts, losses_keep_rows, rows_are_own, the_least_distance_stands,
-    turns_take_rows, welds_keep_rows,
+    a_new_tree_stands, each_row_counts, losses_hold_up, losses_keep_rows, rows_are_own,
+    the_least_distance_stands, turns_take_rows, welds_keep_rows,
 };
 pub use tree::Tree;
