@@ -64,7 +64,7 @@ none_held_up law e best j p idle = by_chain (chain_at j e) idle
   where
     by_chain : (o : Option OutChained) → busy_by e.queue o ≡ false → lags_by e.queue best o p ≡ false
     by_chain None idle = refl
-    by_chain (Some c) idle = law c (unread_by e.queue c.reader) p (read_rows e.queue c.reader best p) idle
+    by_chain (Some c) idle = law c (unread_by e.queue c.reader) p (is_some (read_rows e.queue c.reader best p)) idle
 
 -- ---- how many turns are left
 pub none_left_without_work : NoneLeftWithoutWork

@@ -1,5 +1,5 @@
 -- The first peer whose exit has work.
-use Rattle.std.proofs.Common.{◌≡◌, ℕ, Bool, false, cond, List, [], ◌∷◌, Option, Some, None, refl, sym, ap, subst, ◌∙◌}
+use Rattle.std.proofs.Common.{◌≡◌, ℕ, Bool, false, cond, is_some, List, [], ◌∷◌, Option, Some, None, refl, sym, ap, subst, ◌∙◌}
 use Rattle.std.specs.Prelude.{IfNone, IsSome}
 use Rattle.std.specs.List.{AllByRecursion, find, sum_by}
 use Rattle.std.specs.List.Sorted.{IsStrictlySortedBy}
@@ -12,9 +12,10 @@ use Rattle.addr4.specs.Prefixes.{Network}
 use Rattle.bgp_attr.specs.declared.route.Route.{Route}
 use Rattle.link_change.specs.Rows.{Rows}
 use Rattle.fanout_queue.specs.Queues.{Queued}
-use Rattle.fanout_queue.specs.Readers.{unread_by, read_rows}
+use Rattle.fanout_queue.specs.Readers.{unread_by}
 use Rattle.fanout_queue.proofs.Cases.{by_bool}
 use Rattle.out_chain.specs.Chains.{OutChained, has_out_work, out_lags}
+use Rattle.out_chain.specs.Laws.{BestRowTells}
 use Rattle.exit_side.specs.Exits.{Exited, chain_at, busy_by, lags_by, has_exit_work, exit_holds_up, IsExits, left_of, left_in}
 use Rattle.exit_side.specs.Tasks.{first_of, first_lagging, HaveReaders}
 use Rattle.bgp_attr.specs.declared.speaker.Profile.{Profile}
@@ -48,21 +49,24 @@ module _ (e : Exited) where
   pub first_with_work : (es : Entries) → es ≡ tables.entries e.chains → first_of e.queue es ≡ find (has_exit_work e) (tables.keys e.chains)
   first_with_work es is = ap (first_of e.queue) is ∙ sym (first_among (tables.entries e.chains) entries_work)
 
-  -- each entry tells whether its peer holds up a prefix
-  abbrev lags : Rows Route → Network → OutChained → Bool
-  lags best p c = out_lags c (unread_by e.queue c.reader) p (read_rows e.queue c.reader best p)
+  -- each entry tells whether its peer holds up a prefix, by whether there is a best row
+  module _ (law : BestRowTells) (best : Rows Route) (p : Network) (has_best : Bool) (is : has_best ≡ is_some (best p)) where
+    abbrev is_held : ℕ → Bool
+    is_held j = exit_holds_up e best j p
 
-  entries_lag : (best : Rows Route) (p : Network) → AllByRecursion (λ x. exit_holds_up e best x.0 p ≡ lags best p x.1) (tables.entries e.chains)
-  entries_lag best p = all_entries nat_cmp_total (λ k c. exit_holds_up e best k p ≡ lags best p c) e.chains (λ k c at. ap (λ (o : Option OutChained). lags_by e.queue best o p) at)
+    abbrev lags : OutChained → Bool
+    lags c = out_lags c (unread_by e.queue c.reader) p has_best
 
-  first_that : (best : Rows Route) (p : Network) (es : Entries) → AllByRecursion (λ x. exit_holds_up e best x.0 p ≡ lags best p x.1) es
-      → find (λ j. exit_holds_up e best j p) (keys_of es) ≡ first_lagging e.queue best p es
-  first_that best p [] all = refl
-  first_that best p (x ∷ es) all = ap (λ (b : Bool). cond b (Some x.0) (find (λ j. exit_holds_up e best j p) (keys_of es))) all.0
-      ∙ ap (λ (o : Option ℕ). cond (lags best p x.1) (Some x.0) o) (first_that best p es all.1)
+    entries_lag : AllByRecursion (λ x. is_held x.0 ≡ lags x.1) (tables.entries e.chains)
+    entries_lag = all_entries nat_cmp_total (λ k c. is_held k ≡ lags c) e.chains (λ k c at.
+        ap (λ (o : Option OutChained). lags_by e.queue best o p) at ∙ sym (law c e.queue best p) ∙ sym (ap (out_lags c (unread_by e.queue c.reader) p) is))
 
-  pub first_that_lags : (best : Rows Route) (p : Network) (es : Entries) → es ≡ tables.entries e.chains → first_lagging e.queue best p es ≡ find (λ j. exit_holds_up e best j p) (tables.keys e.chains)
-  first_that_lags best p es is = ap (first_lagging e.queue best p) is ∙ sym (first_that best p (tables.entries e.chains) (entries_lag best p))
+    first_that : (es : Entries) → AllByRecursion (λ x. is_held x.0 ≡ lags x.1) es → find is_held (keys_of es) ≡ first_lagging e.queue has_best p es
+    first_that [] all = refl
+    first_that (x ∷ es) all = ap (λ (b : Bool). cond b (Some x.0) (find is_held (keys_of es))) all.0 ∙ ap (λ (o : Option ℕ). cond (lags x.1) (Some x.0) o) (first_that es all.1)
+
+    pub first_that_lags : (es : Entries) → es ≡ tables.entries e.chains → first_lagging e.queue has_best p es ≡ find is_held (tables.keys e.chains)
+    first_that_lags es entries = ap (first_lagging e.queue has_best p) entries ∙ sym (first_that (tables.entries e.chains) entries_lag)
 
   all_idle : (es : Entries) → first_of e.queue es ≡ None → AllByRecursion (λ x. works x.1 ≡ false) es
   all_idle [] is = tt

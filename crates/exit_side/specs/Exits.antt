@@ -1,6 +1,6 @@
 -- What contracts see of the side of the exits: one queue of the changes of `best`, and the outgoing chain of each peer that is up, by the
 -- peer's number. The rows of its links are told over any rows of `best`.
-use Rattle.std.specs.Prelude.{◌≡◌, ℕ, Bool, false, Option, Some, None, IsSome, refl}
+use Rattle.std.specs.Prelude.{◌≡◌, ℕ, Bool, false, is_some, Option, Some, None, IsSome, refl}
 use Rattle.std.specs.List.{sum_by}
 use Rattle.std.specs.Ordering.{nat_cmp}
 use Rattle.std.specs.Coded.{Coded, code_by, coded×}
@@ -92,10 +92,11 @@ abbrev pub busy_by : Queued Route → Option OutChained → Bool
 busy_by queued None = false
 busy_by queued (Some c) = has_out_work c (unread_by queued c.reader)
 
--- whether the task of a peer's exit holds up a prefix
+-- whether the task of a peer's exit holds up a prefix: what its reader hasn't taken changes the row there; or the walk of its filter has
+-- yet to come to the row that the reader has there, or other rules wait for the end of the walk
 abbrev pub lags_by : Queued Route → Rows Route → Option OutChained → Network → Bool
 lags_by queued best None p = false
-lags_by queued best (Some c) p = out_lags c (unread_by queued c.reader) p (read_rows queued c.reader best p)
+lags_by queued best (Some c) p = out_lags c (unread_by queued c.reader) p (is_some (read_rows queued c.reader best p))
 
 abbrev pub exit_holds_up : Exited → Rows Route → ℕ → Network → Bool
 exit_holds_up e best j = lags_by e.queue best (chain_at j e)

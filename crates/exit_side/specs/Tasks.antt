@@ -1,13 +1,12 @@
 -- What the loop over the chains finds.
-use Rattle.std.specs.Prelude.{◌≡◌, ℕ, if◌then◌else◌, List, [], ◌∷◌, Option, Some, None, IsSome}
+use Rattle.std.specs.Prelude.{◌≡◌, ℕ, Bool, if◌then◌else◌, List, [], ◌∷◌, Option, Some, None, IsSome}
 use Rattle.std.specs.Ordering.{nat_cmp}
 use Rattle.std.specs.BTreeMap.{BTreeMap, get}
 use Rattle.std.specs.FinMap as tables
 use Rattle.addr4.specs.Prefixes.{Network}
 use Rattle.bgp_attr.specs.declared.route.Route.{Route}
-use Rattle.link_change.specs.Rows.{Rows}
 use Rattle.fanout_queue.specs.Queues.{Queued}
-use Rattle.fanout_queue.specs.Readers.{unread_by, read_rows}
+use Rattle.fanout_queue.specs.Readers.{unread_by}
 use Rattle.out_chain.specs.Chains.{OutChained, has_out_work, out_lags}
 
 -- the number of the first chain that has work
@@ -15,11 +14,10 @@ abbrev pub first_of : Queued Route → List (ℕ × OutChained) → Option ℕ
 first_of queued [] = None
 first_of queued (e ∷ es) = if has_out_work e.1 (unread_by queued e.1.reader) then Some e.0 else first_of queued es
 
--- of the first one that holds up a prefix
-abbrev pub first_lagging : Queued Route → Rows Route → Network → List (ℕ × OutChained) → Option ℕ
-first_lagging queued best p [] = None
-first_lagging queued best p (e ∷ es) =
-    if out_lags e.1 (unread_by queued e.1.reader) p (read_rows queued e.1.reader best p) then Some e.0 else first_lagging queued best p es
+-- of the first one that holds up a prefix, where this tells whether the best rows have one there
+abbrev pub first_lagging : Queued Route → Bool → Network → List (ℕ × OutChained) → Option ℕ
+first_lagging queued has_best p [] = None
+first_lagging queued has_best p (e ∷ es) = if out_lags e.1 (unread_by queued e.1.reader) p has_best then Some e.0 else first_lagging queued has_best p es
 
 -- each chain's reader is one of the queue's
 abbrev pub HaveReaders : Queued Route → BTreeMap ℕ OutChained → Type 0

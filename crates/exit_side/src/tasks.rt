@@ -18,7 +18,7 @@ use crate::exits::Exits;
 use addr4::Prefix;
 use bgp_attr::Route;
 use fanout_queue::{Queue, Reader};
-use out_chain::OutChain;
+use out_chain::{OutChain, the_best_row_tells};
 use std::collections::BTreeMap;
 
 impl Exits {
@@ -43,12 +43,15 @@ impl Exits {
         first_of(&self.queue, &self.chains)
     }
 
-    /// The first peer, by number, whose task holds up a prefix: its reader hasn't taken a change there, or the walk of its filter
-    /// has yet to come to the row that it has there. Whether `best` has one is lent. Takes no memory.
+    /// The first peer, by number, whose task holds up a prefix: its reader hasn't taken a change
+    /// there, or the walk of its filter has yet to come to the row that it has there, or other
+    /// rules wait for the end of the walk. None exactly where no peer's does. Whether `best` has a
+    /// row there is lent. Takes no memory.
     pub fn first_held(&self, has_best: bool, p: Prefix) -> Option<u32>
         requires sound { IsExits self.now }
         ensures { (best : Rows Route) → has_best ≡ is_some (best p) → result ≡ find (λ j. exit_holds_up self.now best j p) (map.keys self.now.chains) }
     {
+        the_best_row_tells();
         first_lagging(&self.queue, &self.chains, has_best, p)
     }
 
@@ -82,7 +85,7 @@ fn first_of(queue: &Queue<Route>, chains: &BTreeMap<u32, OutChain>) -> Option<u3
     None
 }
 
-/// The first peer whose chain holds up a prefix.
+/// The first peer whose chain holds up a prefix, where this tells whether `best` has a row there.
 fn first_lagging(
     queue: &Queue<Route>,
     chains: &BTreeMap<u32, OutChain>,
@@ -90,7 +93,7 @@ fn first_lagging(
     p: Prefix,
 ) -> Option<u32>
     requires live { HaveReaders queue.now chains.now }
-    ensures first { (best : Rows Route) → has_best ≡ is_some (best p) → result ≡ first_lagging queue.now best p chains.now.entries }
+    ensures first { result ≡ first_lagging queue.now has_best p chains.now.entries }
     ensures ordered { IsOrdered nat_cmp chains.now }
 {
     for (number, chain) in chains {

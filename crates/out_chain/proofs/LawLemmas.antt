@@ -1,5 +1,5 @@
 -- The laws of outgoing chains.
-use Rattle.std.proofs.Common.{◌≡◌, ℕ, Bool, true, false, ◌||◌, is_some, cond, List, [], ◌∷◌, length, Option, Some, None, IsSome, refl, sym, ap, subst, ◌∙◌, arith}
+use Rattle.std.proofs.Common.{◌≡◌, ℕ, Bool, true, false, ◌||◌, ◌&&◌, is_some, cond, List, [], ◌∷◌, length, Option, Some, None, IsSome, refl, sym, ap, subst, ◌∙◌, arith}
 use Rattle.std.specs.Option.{option_map, ForSome}
 use Rattle.std.specs.FinMap as map
 use Rattle.addr4.specs.Prefixes.{Network}
@@ -14,9 +14,8 @@ use Rattle.link_change.proofs.InOrderLemmas.{put_keeps_before, put_leads, unchan
 use Rattle.link_change.proofs.RowLemmas.{not_first as first_false, not_second as second_false}
 use Rattle.link_change.specs.declared.change.Change.{Change}
 use Rattle.policy_rules.specs.declared.rule.Rule.{Rule}
-use Rattle.pass_core.specs.Passed.{Walked}
+use Rattle.pass_core.specs.Passed.{Passed, Walked, present, holds_up}
 use Rattle.pass_core.specs.Left.{walk_turns}
-use Rattle.pass_core.specs.Passed.{present}
 use Rattle.pass_core.specs.Turns.{row_lags}
 use Rattle.pass_core.proofs.TurnLemmas.{exact_unless_held_up as latest_row, none_lags_without_a_walk}
 use Rattle.pass_core.proofs.LeftLemmas.{left_is_bounded}
@@ -24,7 +23,7 @@ use Rattle.peer_out.specs.Changes.{MayBeHeard}
 use Rattle.fanout_queue.specs.Readers.{unread_or_none, unread_by, read_rows}
 use Rattle.fanout_queue.proofs.LeadLemmas.{put_keeps_read, put_keeps_readers}
 use Rattle.out_chain.specs.Chains.{made_by, outf_rows, is_unread, HasSent, RowsMayBeHeard, ChangesMayBeHeard}
-use Rattle.out_chain.specs.Laws.{ExactUnlessHeldUp, NoneHeldUpWithoutWork, PutKeepsStanding, OthersKeepStanding, NoTurnsWithoutWork, OutTurnsAreBounded}
+use Rattle.out_chain.specs.Laws.{ExactUnlessHeldUp, NoneHeldUpWithoutWork, BestRowTells, PutKeepsStanding, OthersKeepStanding, NoTurnsWithoutWork, OutTurnsAreBounded}
 
 pub exact_unless_held_up : ExactUnlessHeldUp
 exact_unless_held_up c queued best p has none =
@@ -37,10 +36,21 @@ none_changed : (unread : List (Change Route)) (p : Network) → is_unread unread
 none_changed [] p none = refl
 none_changed (change ∷ changes) p none = absurd (let clash : true ≡ false = none in cc)
 
+none_waits : {F : Type 0} (s : Passed F) (p : Network) (has_row : Bool) → is_some s.walk ≡ false → (has_row && holds_up s p) ≡ false
+none_waits s p true none = none_lags_without_a_walk s p (Some p) none
+none_waits s p false none = refl
+
 pub none_held_up_without_work : NoneHeldUpWithoutWork
-none_held_up_without_work c unread p row none =
-    ap (λ (b : Bool). b || row_lags c.filter p row) (none_changed unread p (first_false (is_unread unread) (is_some c.filter.walk) none))
-    ∙ none_lags_without_a_walk c.filter p row (second_false (is_unread unread) (is_some c.filter.walk) none)
+none_held_up_without_work c unread p has_row none =
+    ap (λ (b : Bool). b || (has_row && holds_up c.filter p)) (none_changed unread p (first_false (is_unread unread) (is_some c.filter.walk) none))
+    ∙ none_waits c.filter p has_row (second_false (is_unread unread) (is_some c.filter.walk) none)
+
+pub best_row_tells : BestRowTells
+best_row_tells c queued best p = by_change (changed_in (unread_by queued c.reader) p) refl
+  where
+    by_change : (b : Bool) → changed_in (unread_by queued c.reader) p ≡ b → (b || (is_some (best p) && holds_up c.filter p)) ≡ (b || (is_some (read_rows queued c.reader best p) && holds_up c.filter p))
+    by_change true there = refl
+    by_change false none = ap (λ (row : Option Route). is_some row && holds_up c.filter p) (sym (unchanged_stays best (unread_by queued c.reader) p none))
 
 heard_last : (profile : Profile) (change : Change Route) (changes : List (Change Route)) → ChangesMayBeHeard profile changes → ForSome change.after (λ r. MayBeHeard profile r.attrs)
     → ChangesMayBeHeard profile (with_last change changes)

@@ -4,4 +4,3 @@ mod LookupLemmas
 mod TurnLemmas
 mod PassLemmas
 mod LawLemmas
-mod HeldLemmas

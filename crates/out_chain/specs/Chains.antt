@@ -16,8 +16,8 @@ use Rattle.link_change.specs.Rows.{Rows, Candidates, with_rows}
 use Rattle.link_change.specs.InOrder.{changed_in}
 use Rattle.link_change.specs.declared.change.Change.{Change}
 use Rattle.policy_rules.specs.declared.rule.Rule.{Rule}
-use Rattle.pass_core.specs.Passed.{Passed}
-use Rattle.pass_core.specs.Turns.{passed_rows, row_lags}
+use Rattle.pass_core.specs.Passed.{Passed, holds_up}
+use Rattle.pass_core.specs.Turns.{passed_rows}
 use Rattle.pass_core.specs.Left.{turns_left as walk_turns_left}
 use Rattle.filter_bank.specs.Outgoing.{Form, outgoing}
 use Rattle.peer_out.specs.Forms.{as_sent}
@@ -141,10 +141,10 @@ is_unread (change ∷ changes) = true
 abbrev pub has_out_work : OutChained → List (Change Route) → Bool
 has_out_work c unread = is_unread unread || is_some c.filter.walk
 
--- whether the task holds up a prefix, where this is the row that the reader has there: a change there isn't taken, or the walk has yet
--- to come to the row
-abbrev pub out_lags : OutChained → List (Change Route) → Network → Option Route → Bool
-out_lags c unread p row = changed_in unread p || row_lags c.filter p row
+-- whether the task holds up a prefix, where this tells whether the reader has a row there: a change there isn't taken, or the walk has
+-- yet to come to the row, or other rules wait for its end
+abbrev pub out_lags : OutChained → List (Change Route) → Network → Bool → Bool
+out_lags c unread p has_row = changed_in unread p || (has_row && holds_up c.filter p)
 
 -- how many turns are left, where these numbers count the candidates of the best rows: one for each change that the reader hasn't taken,
 -- and those of the walk

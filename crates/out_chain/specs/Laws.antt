@@ -1,5 +1,5 @@
 -- Laws of outgoing chains, for the crates above.
-use Rattle.std.specs.Prelude.{◌≡◌, false, ◌≢◌, ℕ, ◌+◌, ◌*◌, ◌≤◌, length, List, [], Option, Some, None}
+use Rattle.std.specs.Prelude.{◌≡◌, ◌≢◌, Bool, false, is_some, ℕ, ◌+◌, ◌*◌, ◌≤◌, length, List, [], Option, Some, None}
 use Rattle.std.specs.Option.{ForSome}
 use Rattle.std.specs.FinMap as map
 use Rattle.addr4.specs.Prefixes.{Network}
@@ -18,13 +18,19 @@ use Rattle.out_chain.specs.Chains.{OutChained, made_by, HasSent, OutStands, has_
 abbrev pub ExactUnlessHeldUp : Type 0
 ExactUnlessHeldUp =
     (c : OutChained) (queued : Queued Route) (best : Rows Route) (p : Network) → HasSent c (read_rows queued c.reader best)
-    → out_lags c (unread_by queued c.reader) p (read_rows queued c.reader best p) ≡ false
+    → out_lags c (unread_by queued c.reader) p (is_some (read_rows queued c.reader best p)) ≡ false
     → (read_rows queued c.reader best p ≡ best p) × (map.get c.sent p ≡ made_by c (present c.filter) p (best p))
 
 -- Without work nothing holds up a prefix.
 abbrev pub NoneHeldUpWithoutWork : Type 0
 NoneHeldUpWithoutWork =
-    (c : OutChained) (unread : List (Change Route)) (p : Network) (row : Option Route) → has_out_work c unread ≡ false → out_lags c unread p row ≡ false
+    (c : OutChained) (unread : List (Change Route)) (p : Network) (has_row : Bool) → has_out_work c unread ≡ false → out_lags c unread p has_row ≡ false
+
+-- Where the reader has taken all, it has the best row. So whether there is a best row tells as much as whether the reader has one.
+abbrev pub BestRowTells : Type 0
+BestRowTells =
+    (c : OutChained) (queued : Queued Route) (best : Rows Route) (p : Network)
+    → out_lags c (unread_by queued c.reader) p (is_some (best p)) ≡ out_lags c (unread_by queued c.reader) p (is_some (read_rows queued c.reader best p))
 
 -- ---- what others do
 -- A change of the best rows that is put leaves a session standing, where the row after it may be heard.

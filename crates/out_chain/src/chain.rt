@@ -327,16 +327,14 @@ impl OutChain {
     }
 
     /// Whether the session's task holds up a prefix: the reader hasn't taken a change there, or the filter's walk has yet to come
-    /// to the row that it has there. Takes no memory. Whether the best rows have one there is lent; where the reader has taken
-    /// all, that is whether it has one.
+    /// to the row that it has there, or other rules wait for the end of the walk. Takes no memory. Whether the best rows have one
+    /// there is lent; where the reader has taken all, that is whether it has one
+    /// ([`the_best_row_tells`](crate::the_best_row_tells)).
     pub fn holds_up(&self, queue: &Queue<Route>, has_best: bool, p: Prefix) -> bool
-        requires live { IsSome (map.get queue.now self.now.reader) }
-        ensures { (best : Rows Route) → has_best ≡ is_some (best p) → result ≡ out_lags self.now (unread_by queue.now self.now.reader) p (read_rows queue.now self.now.reader best p) }
+        requires { IsSome (map.get queue.now self.now.reader) }
+        ensures { result ≡ out_lags self.now (unread_by queue.now self.now.reader) p has_best }
     {
-        if queue.unread(&self.reader, p) {
-            return true;
-        }
-        has_best && self.filter.holds_up(p)
+        queue.unread(&self.reader, p) || (has_best && self.filter.holds_up(p))
     }
 
     /// Whether the session's task has work: the reader hasn't taken all, or the walk of the filter is on.

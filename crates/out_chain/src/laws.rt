@@ -1,11 +1,16 @@
 //! Laws of outgoing chains, for the proofs of the crates above. Each is a function that does nothing, whose contract is the law.
 
-ghost use Rattle.out_chain.specs.Laws.{ExactUnlessHeldUp, NoneHeldUpWithoutWork, PutKeepsStanding, OthersKeepStanding, NoTurnsWithoutWork, OutTurnsAreBounded};
+ghost use Rattle.out_chain.specs.Laws.{ExactUnlessHeldUp, NoneHeldUpWithoutWork, BestRowTells, PutKeepsStanding, OthersKeepStanding, NoTurnsWithoutWork, OutTurnsAreBounded};
 
 /// At a prefix that nothing holds up the peer was sent what the latest rules make of the best row. Without work nothing does.
 pub fn unless_held_up_all_is_sent()
     ensures exact { ExactUnlessHeldUp }
     ensures idle { NoneHeldUpWithoutWork }
+{}
+
+/// Whether there is a best row at a prefix tells whether the prefix is held up.
+pub fn the_best_row_tells()
+    ensures { BestRowTells }
 {}
 
 /// A session goes on to stand while changes of the best rows are put, and while other readers take theirs, join and leave.

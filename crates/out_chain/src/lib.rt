@@ -25,4 +25,6 @@ mod laws;
 mod to_peer;
 
 pub use chain::OutChain;
-pub use laws::{a_session_stands, out_turns_are_left, unless_held_up_all_is_sent};
+pub use laws::{
+    a_session_stands, out_turns_are_left, the_best_row_tells, unless_held_up_all_is_sent,
+};

@@ -7,6 +7,6 @@ pub loop-number-init : goal.loop-number-init
 loop-number-init c =
     let gives = c.into_iter-number-iterator.ensures.into_iter_gives in
     record {
-      first = λ best is. ap (first_lagging c.args.queue.now best c.args.p) gives.0;
+      first = ap (first_lagging c.args.queue.now c.args.has_best c.args.p) gives.0;
       live = subst (AllLive c.args.queue.now) (sym gives.0) (all_live c.args.queue.now c.args.chains.now gives.5 c.requires.live);
     }

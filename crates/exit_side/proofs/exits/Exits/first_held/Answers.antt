@@ -1,4 +1,4 @@
-use Rattle.std.proofs.Common.{◌≡◌, ◌∙◌, ap, sym}
+use Rattle.std.proofs.Common.{◌∙◌, ap}
 use Rattle.exit_side.specs.Tasks.{first_lagging}
 use Rattle.exit_side.specs.Exits.{Exited}
 use Rattle.exit_side.proofs.TaskLemmas.{first_that_lags, have_readers, entries_of}
@@ -10,5 +10,6 @@ first_lagging-requires c = record { live = have_readers c.args.self.now c.self.i
 pub returns : goal.returns
 returns c best is =
     let m = c.self.inside.chains in
-    c.first_lagging.ensures.first best is ∙ ap (λ (e : Exited). first_lagging e.queue best c.args.p m.entries) c.self.view_is
-    ∙ first_that_lags c.args.self.now best c.args.p m.entries (entries_of c.args.self.now c.self.inside.profile c.self.inside.queue m c.self.view_is c.first_lagging.ensures.ordered)
+    c.first_lagging.ensures.first ∙ ap (λ (e : Exited). first_lagging e.queue c.args.has_best c.args.p m.entries) c.self.view_is
+    ∙ first_that_lags c.args.self.now c.the_best_row_tells.ensures best c.args.p c.args.has_best is m.entries
+    (entries_of c.args.self.now c.self.inside.profile c.self.inside.queue m c.self.view_is c.first_lagging.ensures.ordered)
