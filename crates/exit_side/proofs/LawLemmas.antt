@@ -3,13 +3,15 @@ use Rattle.std.proofs.Common.{◌≡◌, ℕ, true, false, cond, List, [], ◌�
 use Rattle.std.specs.List.{sum_by}
 use Rattle.std.specs.Map.{values_of}
 use Rattle.std.specs.FinMap as tables
-use Rattle.std.specs.FinMap.{get-empty}
+use Rattle.std.specs.FinMap.{get-empty, contains_key-keys, nat_cmp-IsAntisymmetric}
 use Rattle.std.specs.Ordering.{nat_cmp}
 use Rattle.std.specs.Cmp.{nat_cmp_total}
+use Rattle.std.proofs.lemmas.Map.Views.{Contains-from_any, tells_apart}
 use Rattle.bgp_attr.specs.declared.route.Route.{Route}
 use Rattle.bgp_attr.specs.declared.speaker.Profile.{Profile}
 use Rattle.link_change.proofs.RowLemmas.{same_function}
 use Rattle.link_change.proofs.MapLemmas.{no_entries, one_of_sum}
+use Rattle.fanout_queue.specs.Queues.{Queued}
 use Rattle.fanout_queue.specs.Readers.{unread_by, read_rows}
 use Rattle.fanout_queue.proofs.Cases.{by_bool}
 use Rattle.journal_text.specs.declared.value.Value.{Value}
@@ -20,7 +22,7 @@ use Rattle.out_chain.specs.Chains.{OutChained}
 use Rattle.out_chain.specs.Laws as out_laws
 use Rattle.exit_side.specs.Exits.{no_exits, chain_at, links_by, busy_by, lags_by, left_of, left_in}
 use Rattle.exit_side.specs.Steps.{is_exit, beside}
-use Rattle.exit_side.specs.Laws.{StandsAtFirst, AreAmong, LeadsAnywhere, LeadsAnywhereWithBest, ExactUnlessHeldUp, NoneHeldUpWithoutWork, NoneLeftWithoutWork, TurnsAreBounded, LeftFollows}
+use Rattle.exit_side.specs.Laws.{StandsAtFirst, AreAmong, LeadsAnywhere, LeadsAnywhereWithBest, ExactUnlessHeldUp, NoneHeldUpWithoutWork, WorkIsListed, NoneLeftWithoutWork, TurnsAreBounded, LeftFollows}
 use Rattle.exit_side.proofs.CountLemmas.{none_idle, all_bounded, all_follow}
 use Rattle.exit_side.proofs.TaskLemmas.{entries_idle, idle_sum}
 
@@ -65,6 +67,13 @@ none_held_up law e best j p idle = by_chain (chain_at j e) idle
     by_chain : (o : Option OutChained) → busy_by e.queue o ≡ false → lags_by e.queue best o p ≡ false
     by_chain None idle = refl
     by_chain (Some c) idle = law c (unread_by e.queue c.reader) p (is_some (read_rows e.queue c.reader best p)) idle
+
+some_by : (queued : Queued Route) (o : Option OutChained) → busy_by queued o ≡ true → is_some o ≡ true
+some_by queued None works = works
+some_by queued (Some c) works = refl
+
+pub work_is_listed : WorkIsListed
+work_is_listed e j works = Contains-from_any (tells_apart nat_cmp-IsAntisymmetric) j (tables.keys e.chains) (sym (contains_key-keys e.chains j) ∙ some_by e.queue (chain_at j e) works)
 
 -- ---- how many turns are left
 pub none_left_without_work : NoneLeftWithoutWork

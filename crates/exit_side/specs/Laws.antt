@@ -1,5 +1,6 @@
 -- Laws of the side of the exits, for the crates above.
 use Rattle.std.specs.Prelude.{◌≡◌, ◌≢◌, ◌↔◌, ℕ, ◌+◌, ◌*◌, ◌≤◌, true, false, List, [], Option, Some, None, IsSome}
+use Rattle.std.specs.List.{Contains}
 use Rattle.std.specs.FinMap as tables
 use Rattle.addr4.specs.Prefixes.{Network}
 use Rattle.bgp_attr.specs.declared.attrs.Attrs.{Attrs}
@@ -60,6 +61,10 @@ ExactUnlessHeldUp =
 -- Without work it holds up nothing.
 abbrev pub NoneHeldUpWithoutWork : Type 0
 NoneHeldUpWithoutWork = (e : Exited) (best : Rows Route) (j : ℕ) (p : Network) → has_exit_work e j ≡ false → exit_holds_up e best j p ≡ false
+
+-- A task with work is a peer's that has an exit.
+abbrev pub WorkIsListed : Type 0
+WorkIsListed = (e : Exited) (j : ℕ) → has_exit_work e j ≡ true → Contains (tables.keys e.chains) j
 
 -- ---- how many turns are left
 -- None exactly where no task has work,

@@ -3,7 +3,7 @@
 
 ghost use Rattle.bgp_attr.specs.declared.speaker.Profile.{Profile};
 ghost use Rattle.exit_side.specs.Exits.{no_exits};
-ghost use Rattle.exit_side.specs.Laws.{StandsAtFirst, LeadsAnywhere, LeadsAnywhereWithBest, ExactUnlessHeldUp, NoneHeldUpWithoutWork, NoneLeftWithoutWork, TurnsAreBounded, LeftFollows, StrangersReadOn, StrangersJoin, StrangersTake, BeginKeepsStrangers, EndKeepsStrangers, EditKeepsStrangers, TurnKeepsStrangers, PutKeepsStrangers};
+ghost use Rattle.exit_side.specs.Laws.{StandsAtFirst, LeadsAnywhere, LeadsAnywhereWithBest, ExactUnlessHeldUp, NoneHeldUpWithoutWork, WorkIsListed, NoneLeftWithoutWork, TurnsAreBounded, LeftFollows, StrangersReadOn, StrangersJoin, StrangersTake, BeginKeepsStrangers, EndKeepsStrangers, EditKeepsStrangers, TurnKeepsStrangers, PutKeepsStrangers};
 
 use out_chain::{a_session_stands, unless_held_up_all_is_sent};
 
@@ -20,10 +20,11 @@ pub fn leads_anywhere()
 {}
 
 /// At a prefix that the exit of a peer doesn't hold up, the peer was sent exactly what its latest rules make of the row of `best`.
-/// Without work it holds up nothing.
+/// Without work it holds up nothing; and all that have work are among the peers'.
 pub fn exact_unless_held_up()
     ensures exact { ExactUnlessHeldUp }
     ensures idle { NoneHeldUpWithoutWork }
+    ensures listed { WorkIsListed }
 {
     unless_held_up_all_is_sent();
 }

@@ -6,3 +6,6 @@ returns-clause-exact c = laws.exact_unless_held_up c.unless_held_up_all_is_sent.
 
 pub returns-clause-idle : goal.returns-clause-idle
 returns-clause-idle c = laws.none_held_up c.unless_held_up_all_is_sent.ensures.idle
+
+pub returns-clause-listed : goal.returns-clause-listed
+returns-clause-listed c = laws.work_is_listed
