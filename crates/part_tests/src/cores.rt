@@ -3,6 +3,7 @@
 ghost use Rattle.std.specs.Prelude.{◌≡◌, OnOk, false};
 ghost use Rattle.router_core.specs.Stands.{CoreStands};
 
+use addr4::read_prefix;
 use event_text::{admit, parse};
 use journal_text::{Journal, Link, Task};
 use router_core::{Core, Done, Phase};
@@ -97,18 +98,29 @@ fn idled(core: &mut Core, journal: &mut Journal) -> Result<[u128; 2], Fail>
     Ok([idle.bound, idle.turns])
 }
 
-/// What the reader's turns answer, and two idles.
-type Turns = ((bool, u128, bool), [[u128; 2]; 2]);
+/// Which task holds up the prefix of one of the routes.
+fn held(core: &Core) -> Result<Option<Task>, Fail>
+    requires { CoreStands core.now }
+{
+    let Ok(prefix) = read_prefix(b"10.2.0.0/16") else {
+        return Err(Fail::from("no prefix"));
+    };
+    Ok(core.settled(prefix))
+}
+
+/// What the reader's turns answer, and two idles; and whether a prefix waits for the reader before, and is settled behind.
+type Turns = ((bool, u128, bool), [[u128; 2]; 2], [bool; 2]);
 
 fn follow(alloc: Global, core: &mut Core, journal: &mut Journal) -> Result<Turns, Fail>
     requires { CoreStands core.old }
 {
     run(alloc, UNREAD, core, journal)?;
+    let waits = held(core)? == Some(Task::ReadRib);
     let read = read_all(core, journal)?;
     let first = idled(core, journal)?;
     let again = idled(core, journal)?;
     are_counted(core)?;
-    Ok((read, [first, again]))
+    Ok((read, [first, again], [waits, held(core)?.is_none()]))
 }
 
 fn told(alloc: Global) -> Result<Turns, Fail> {
@@ -123,6 +135,6 @@ fn told(alloc: Global) -> Result<Turns, Fail> {
 #[test]
 fn turns_are_taken_until_nothing_is_left(rt: HostRuntime) -> Result<(), Fail> {
     let turns = told(rt.alloc())?;
-    assert!(rt; turns == ((true, 2, true), [[196, 16], [184, 0]]));
+    assert!(rt; turns == ((true, 2, true), [[196, 16], [184, 0]], [true, true]));
     Ok(())
 }

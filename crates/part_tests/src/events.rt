@@ -46,6 +46,8 @@ route add rip 0.0.0.0/0 direct abcdefghijklmno 0\n\
 route del connected 10.1.2.3/16\n\
 lost rip\n\
 cover 9.9.9.9\n\
+settled 0.0.0.0/0\n\
+settled 10.1.2.3/16\n\
 redist ospf on\n\
 redist  static  off \n\
 work rdel.ospf.2 3\n\
@@ -136,6 +138,9 @@ route add bgp 0.0.0.0/0 direct eth0 0\n\
 route del rip\n\
 lost\n\
 cover 9.9.9.9/32\n\
+settled\n\
+settled 10.0.0.0/33\n\
+settled 10.0.0.0/8 x\n\
 work rdel.rip.0 3\n\
 work red.1 3\n\
 work red.static 3\n\
@@ -268,6 +273,7 @@ E4 up 300\n\
 E4 filter in 1 any accept\n\
 E4 filter out 1 any accept\n\
 E4 cover 9.9.9.9\n\
+E4 settled 10.0.0.0/8\n\
 E4 redist static on\n\
 E4 idle\n\
 - # local\n\
