@@ -34,8 +34,6 @@ def program(name):
 # how many peers there are, where not two, and which share of the routes one announces, where not one of these
 NUMBERS = {'peers': 8, 'best_lost': 8, 'exits': 64}
 SHARES = {'exits': 20}
-# an event that looks at nothing of the queue, and the line that it gives: how far the program has come
-LOOK, LOOKED = b'cover 192.0.2.1\n', b'cover 192.0.2.1 192.0.2.0/24 192.0.2.0/24\n'
 
 # the work of the program: its name, what it reads, and the words
 RUNS = [(kind, kind, ['run', '--quiet']) for kind in events.KINDS] + [('journal', 'table', ['run'])]
@@ -82,8 +80,8 @@ def work_of_queue(files, sizes):
     for size in sizes:
         files['table', size].seek(0)
         lines = files['table', size].readlines()
-        parts = [lines[:-1] + [LOOK], [b'idle\n', LOOK], [b'down 1\n', b'idle\n', LOOK]]
-        for name, seen in zip(('unread', 'read', 'gone'), measure.stops(parts, [replay, 'run', '--quiet'], LOOKED)):
+        parts = [lines[:-1] + [events.LOOK], [b'idle\n', events.LOOK], [b'down 1\n', b'idle\n', events.LOOK]]
+        for name, seen in zip(('unread', 'read', 'gone'), measure.stops(parts, [replay, 'run', '--quiet'], events.LOOKED)):
             yield name, size, seen
 
 

@@ -38,6 +38,8 @@ PEERS = ['peer 1 65001 192.0.2.1 192.0.2.1', 'peer 2 65002 192.0.2.2 192.0.2.2',
 KINDS = ('table', 'alone', 'rejected', 'paced', 'edit', 'rules', 'loss', 'interior', 'lost', 'hops', 'kept', 'moved', 'peers',
          'best_lost', 'exits', 'own')
 READ = ['work rd.rib 99', 'work out.1 99', 'work out.2 99']
+# an event that looks at nothing but the register, and the line that it gives: how far the program has come
+LOOK, LOOKED = b'cover 192.0.2.1\n', b'cover 192.0.2.1 192.0.2.0/24 192.0.2.0/24\n'
 NEAR = bytes([192, 0, 2, 1])
 HOPS = [bytes([172, 16, place // 250, 1 + place % 250]) for place in range(1000)]
 
