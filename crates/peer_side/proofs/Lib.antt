@@ -7,3 +7,4 @@ pub mod PlaceLemmas
 pub mod TaskLemmas
 mod HeldLemmas
 pub mod WeldLemmas
+pub mod LawLemmas

@@ -13,6 +13,7 @@
 //! For want of memory a call may stop half way. The value may then only be dropped: nothing is said of it.
 #![tactic(auto)]
 
+pub mod laws;
 mod lookups;
 mod peers;
 mod steps;
