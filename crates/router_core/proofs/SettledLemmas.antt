@@ -75,15 +75,15 @@ only_work of_tree of_peers of_hops of_exits of_external m (tasks.Out k) p none =
 only_work of_tree of_peers of_hops of_exits of_external m tasks.Ext p none = of_external m.rib p none
 
 -- ---- a task with work is one of its phase
-listed : losses.WorkIsListed → peers.WorkIsListed → hops.WorkIsListed → exits.WorkIsListed → (m : Moment) → Stands m → (task : Task) → has_work task m ≡ true → Contains (phase_tasks (phase_of task) m) task
-listed of_tree of_peers of_hops of_exits m stands (tasks.Rdel proto n) some = of_tree m.tree (stands.own InteriorTree).tree (tasks.Rdel proto n) some
-listed of_tree of_peers of_hops of_exits m stands tasks.Red some = (0, omega arith, refl)
-listed of_tree of_peers of_hops of_exits m stands (tasks.Del k s) some = of_peers.lost m.chains k s some
-listed of_tree of_peers of_hops of_exits m stands (tasks.Fin k) some = of_peers.walks m.chains k some
-listed of_tree of_peers of_hops of_exits m stands (tasks.Nh k) some = made_is_listed (λ k. tasks.Nh k) (tables.keys m.hops) k (of_hops m.hops k some)
-listed of_tree of_peers of_hops of_exits m stands tasks.ReadRib some = (0, omega arith, refl)
-listed of_tree of_peers of_hops of_exits m stands (tasks.Out k) some = made_is_listed (λ k. tasks.Out k) (tables.keys m.exits.chains) k (of_exits m.exits k some)
-listed of_tree of_peers of_hops of_exits m stands tasks.Ext some = (0, omega arith, refl)
+listed : losses.WorkIsListed → peers.StagesAreListed → peers.WalksAreListed → hops.WorkIsListed → exits.WorkIsListed → (m : Moment) → Stands m → (task : Task) → has_work task m ≡ true → Contains (phase_tasks (phase_of task) m) task
+listed of_tree of_stages of_walks of_hops of_exits m stands (tasks.Rdel proto n) some = of_tree m.tree (stands.own InteriorTree).tree (tasks.Rdel proto n) some
+listed of_tree of_stages of_walks of_hops of_exits m stands tasks.Red some = (0, omega arith, refl)
+listed of_tree of_stages of_walks of_hops of_exits m stands (tasks.Del k s) some = of_stages m.chains k s some
+listed of_tree of_stages of_walks of_hops of_exits m stands (tasks.Fin k) some = of_walks m.chains k some
+listed of_tree of_stages of_walks of_hops of_exits m stands (tasks.Nh k) some = made_is_listed (λ k. tasks.Nh k) (tables.keys m.hops) k (of_hops m.hops k some)
+listed of_tree of_stages of_walks of_hops of_exits m stands tasks.ReadRib some = (0, omega arith, refl)
+listed of_tree of_stages of_walks of_hops of_exits m stands (tasks.Out k) some = made_is_listed (λ k. tasks.Out k) (tables.keys m.exits.chains) k (of_exits m.exits k some)
+listed of_tree of_stages of_walks of_hops of_exits m stands tasks.Ext some = (0, omega arith, refl)
 
 -- ---- the first one that is found
 found_so : (f : Task → Bool) (ts : List Task) (t : Task) → find f ts ≡ Some t → f t ≡ true
@@ -111,8 +111,8 @@ none_in m p (r ∷ rs) none =
     neither None b e = (refl, e)
     neither (Some t) b e = absurd (cc)
 
-pub first_held_tells : RowsAtRestAreExact → OnlyWorkHoldsUp → losses.WorkIsListed → peers.WorkIsListed → hops.WorkIsListed → exits.WorkIsListed → FirstHeldTells
-first_held_tells exact only of_tree of_peers of_hops of_exits m stands all p = by_first (first_held m p) refl
+pub first_held_tells : RowsAtRestAreExact → OnlyWorkHoldsUp → losses.WorkIsListed → peers.StagesAreListed → peers.WalksAreListed → hops.WorkIsListed → exits.WorkIsListed → FirstHeldTells
+first_held_tells exact only of_tree of_stages of_walks of_hops of_exits m stands all p = by_first (first_held m p) refl
   where
     worked : (task : Task) → holds_up_at task m p ≡ true → has_work task m ≡ true
     worked task holds = by_bool (has_work task m) (λ b. b ≡ true) (λ _. refl) (λ idle. absurd (let clash : true ≡ false = sym holds ∙ only m task p idle in cc))
@@ -121,7 +121,7 @@ first_held_tells exact only of_tree of_peers of_hops of_exits m stands all p = b
     nothing none task = by_bool (has_work task m) (λ _. holds_up_at task m p ≡ false)
         (λ works. All-contains (λ t. holds_up_at t m p ≡ false) (phase_tasks (phase_of task) m) task
             (none_so (λ t. holds_up_at t m p) (phase_tasks (phase_of task) m) (each_phase (λ r. held_in r m p ≡ None) (none_in m p all_phases none) (phase_of task)))
-            (listed of_tree of_peers of_hops of_exits m stands task works))
+            (listed of_tree of_stages of_walks of_hops of_exits m stands task works))
         (λ idle. only m task p idle)
 
     by_first : (o : Option Task) → first_held m p ≡ o → Tells m p o
