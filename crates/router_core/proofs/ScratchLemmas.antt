@@ -92,7 +92,7 @@ use Rattle.router_core.specs.Stands.{StandsAt, Stands, AllHaveExits, ExitsAt, Is
 use Rattle.router_core.proofs.StandLemmas.{registered_rows}
 use Rattle.router_core.proofs.ForwardLemmas.{own_at, over_is, lesser_is, ebgp_is, ibgp_is, ext_is}
 use Rattle.router_core.specs.Holding.{next_hop_at, is_over, is_over_hop, holds_up_at}
-use Rattle.router_core.specs.Scratch.{WorksOn, Feeds, HoldsUp, row_in, IsExactIn, IsAtRestIn}
+use Rattle.router_core.specs.Scratch.{Feeds, HoldsUp, directly, through, row_in, IsExactIn, IsAtRestIn}
 use Rattle.router_core.proofs.TableLemmas.{none_below, two_at, int_at, match_at}
 
 -- no peer, nothing to judge
@@ -495,7 +495,7 @@ module _ (org_exact : OrgWhereNoneIsLost) (hops_exact : hops.ExactUnlessHeldUp) 
   outf_exact j s p rest =
       ap (λ o. row_in o p) (outf_link (exit_at j m.exits) j s p)
       ∙ session_exact (Attrs) attrs_value j s p (λ c. outf_rows c (read_rows m.exits.queue c.reader (best_of m))) (λ me w. sent_rows me w (rules_to j m.outgoing) picked) m.declared.speaker (peer_at j m.declared.peers) (exit_at j m.exits) (stands.own SameSessions j) (all j) (numbered j)
-      (outf_is j p (above Best (Read j s) p tt (read j s p rest)) (read j s p rest (Out j) (directly (Read j s) refl)))
+      (λ c me d at local is. outf_is j p (above Best (Read j s) p tt (read j s p rest)) (read j s p rest (Out j) (directly (Read j s) refl)) c me d at is)
     where
       read : (j s : ℕ) (p : Network) → Rests (Outf j s) p → Rests (Read j s) p
       read j s p rest = above (Read j s) (Outf j s) p (refl, refl) rest
@@ -504,7 +504,7 @@ module _ (org_exact : OrgWhereNoneIsLost) (hops_exact : hops.ExactUnlessHeldUp) 
   adv_exact j s p rest =
       ap (λ o. row_in o p) (adv_link (exit_at j m.exits) j s p)
       ∙ session_exact (Attrs) attrs_value j s p (λ c. tables.get c.sent) (λ me w. sent_rows me w (rules_to j m.outgoing) picked) m.declared.speaker (peer_at j m.declared.peers) (exit_at j m.exits) (stands.own SameSessions j) (all j) (numbered j)
-      (sent_is j p (above Best (Read j s) p tt (read j s p rest)) (read j s p rest (Out j) (directly (Read j s) refl)))
+      (λ c me d at local is. sent_is j p (above Best (Read j s) p tt (read j s p rest)) (read j s p rest (Out j) (directly (Read j s) refl)) c me d at is)
     where
       read : (j s : ℕ) (p : Network) → Rests (Adv j s) p → Rests (Read j s) p
       read j s p rest = above (Read j s) (Outf j s) p (refl, refl) (above (Outf j s) (Adv j s) p (refl, refl) rest)
