@@ -7,27 +7,21 @@ use Rattle.std.specs.BTreeMap.{BTreeMap}
 use Rattle.std.specs.FinMap as tables
 use Rattle.std.specs.FinMap.{get-insert, get-remove}
 use Rattle.std.specs.Cmp.{nat_cmp_total}
-use Rattle.bgp_attr.specs.declared.attrs.Attrs.{Attrs}
 use Rattle.bgp_attr.specs.declared.route.Route.{Route}
 use Rattle.bgp_attr.specs.declared.speaker.Profile.{Profile}
 use Rattle.bgp_attr.specs.declared.speaker.Speaker.{Speaker}
 use Rattle.bgp_attr.specs.declared.speaker.Neighbour.{Neighbour}
-use Rattle.link_change.specs.Rows.{Rows, Candidates}
-use Rattle.link_change.specs.declared.change.Change.{Change}
 use Rattle.policy_rules.specs.declared.rule.Rule.{Rule}
-use Rattle.fanout_queue.specs.Queues.{Queued, Takes}
+use Rattle.fanout_queue.specs.Queues.{Queued}
 use Rattle.fanout_queue.specs.Readers.{KeepsOtherReaders}
 use Rattle.fanout_queue.proofs.Cases.{other_number}
 use Rattle.fanout_queue.proofs.LeadLemmas.{take_keeps_others}
-use Rattle.journal_text.specs.declared.line.Line.{Line}
-use Rattle.journal_text.specs.declared.entry.Entry.{Entry}
-use Rattle.journal_text.specs.declared.value.Value.{Value}
 use Rattle.out_chain.specs.Chains.{OutChained}
 use Rattle.out_chain.specs.Steps.{exit_to, new_out, with_rules}
 use Rattle.out_chain.specs.Laws.{OthersKeepStanding}
 use Rattle.exit_side.specs.Exits.{Exited, chain_at, with_queue, with_exit, without_exit, IsExits}
-use Rattle.exit_side.specs.Steps.{BeginsExit, EndsExit, edited_by, EditsExit, PutsExit, TurnsExit}
-use Rattle.exit_side.specs.Laws.{IsStranger, StaysWithQueue, KeepsStranger, StrangersJoin, StrangersTake, BeginKeepsStrangers, EndKeepsStrangers, EditKeepsStrangers, TurnKeepsStrangers, PutKeepsStrangers}
+use Rattle.exit_side.specs.Steps.{edited_by}
+use Rattle.exit_side.specs.Laws.{IsStranger, KeepsStranger, StrangersJoin, StrangersTake, BeginKeepsStrangers, EndKeepsStrangers, EditKeepsStrangers, TurnKeepsStrangers, PutKeepsStrangers}
 use Rattle.exit_side.proofs.HeldLemmas.{seen}
 use Rattle.exit_side.proofs.SwapLemmas.{Swaps, swaps_in, swaps_out, others_apart, swap_each}
 use Rattle.exit_side.proofs.StepLemmas.{of_one, of_none, live_apart}
