@@ -16,8 +16,9 @@ use Rattle.rib_tree.specs.Trees.{branch_of, AreNumbered}
 use Rattle.rib_tree.specs.Steps.{new_tree}
 use Rattle.rib_tree.specs.Laws.{ANewTreeStands}
 use Rattle.router_core.specs.Moments.{Moment, Cored, first_moment, best_of, Gives}
-use Rattle.router_core.specs.Laws.{RowsAtRestAreExact}
-use Rattle.router_core.specs.Scratch.{IsExactAtRest}
+use Rattle.router_core.specs.Laws.{RowsAtRestAreExact, FirstHeldTells}
+use Rattle.router_core.specs.Holding.{first_held}
+use Rattle.router_core.specs.Scratch.{IsExactAtRest, Tells}
 use Rattle.router_core.specs.Stands.{Stands, AllHaveExits, HaveReaders, CoreStands, Claim, Claims, EachChain, EachPeer, InteriorTree, OneSpeaker, Registered, SameCount, EachResolver, SameResolvers, AnswersAgree, HopsCounted, NoStrangers, SmallNumbers, EachRow, EachExit, QueueLeads, ExitsRead, PlainExits, OneSender, SameSessions, OneReader, ExternalExit, ExternalAgrees, ExternalStands, NothingOwn, NothingExternal, StandsAt, ExitsAt, Tie, Ties, here}
 use Rattle.register_interest.specs.Interests.{interest_cmp}
 use Rattle.nexthop_resolver.specs.Resolving.{Resolving}
@@ -102,6 +103,12 @@ work_prints m m' most stands printable few live fits =
 -- each row that no work holds up is the one from scratch
 pub exact_after : RowsAtRestAreExact → (m' : Moment) (k : ℕ) → CoreStands (cored m' k) → IsExactAtRest m'
 exact_after law m' k after = law m' after.stands after.exits
+
+-- what the first task that holds up a prefix tells, of a core by its parts
+pub core_tells : (c : Cored) (m : Moment) (n : ℕ) (failed : Bool) (p : Network) (answer : Option Task) → record { moment = m; events = n; failed = failed } ≡ c → CoreStands c → FirstHeldTells → answer ≡ first_held m p → Tells c.moment p answer
+core_tells c m n failed p answer view stands tells is =
+    let own = subst CoreStands (sym view) stands in
+    subst (λ (x : Cored). Tells x.moment p answer) view (subst (Tells m p) (sym is) (tells m own.stands own.exits p))
 
 -- what lookups ask for
 pub readers_of : (m : Moment) → Stands m → HaveReaders m

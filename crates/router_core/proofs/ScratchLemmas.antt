@@ -91,7 +91,7 @@ use Rattle.router_core.specs.Turns.{has_work}
 use Rattle.router_core.specs.Stands.{StandsAt, Stands, AllHaveExits, ExitsAt, IsExitOf, ReadsOn, EachChain, EachPeer, OneSpeaker, InteriorTree, EachResolver, SameResolvers, SmallNumbers, AnswersAgree, HopsCounted, EachExit, ExitsRead, PlainExits, SameSessions, OneReader, ExternalExit, ExternalAgrees, ExternalStands}
 use Rattle.router_core.proofs.StandLemmas.{registered_rows}
 use Rattle.router_core.proofs.ForwardLemmas.{own_at, over_is, lesser_is, ebgp_is, ibgp_is, ext_is}
-use Rattle.router_core.specs.Holding.{next_hop_at, is_over, is_over_hop, holds_up_at}
+use Rattle.router_core.specs.Holding.{next_hop_at, peer_numbers, is_over, is_over_hop, holds_up_at}
 use Rattle.router_core.specs.Scratch.{Feeds, HoldsUp, directly, through, row_in, IsExactIn, IsAtRestIn}
 use Rattle.router_core.proofs.TableLemmas.{none_below, two_at, int_at, match_at}
 
@@ -206,6 +206,7 @@ module _ (org_exact : OrgWhereNoneIsLost) (hops_exact : hops.ExactUnlessHeldUp) 
   int_is p rest = int_at org_exact m.tree tree p (λ proto. lacks p proto (protocols p rest proto))
 
   match_rests : (p : Network) (k a : ℕ) → Rests Int p → k < 65 → next_hop_at m k p ≡ Some a → longest_match (int_rows m.tree) a ≡ longest_match scratch_int a
+  unfolding peer_numbers
   match_rests p k a rest less at = match_at org_exact m.tree tree a 32 (λ proto n.
       sym (ap (is_over m.tree (Rdel proto n)) at)
       ∙ none_below (λ j. is_over m.tree (Rdel proto n) (next_hop_at m j p)) 0 65 k (second_false (tree_lags m.tree (Rdel proto n) p) (is_over_hop (Rdel proto n) m p) (protocols p rest proto (Rdel proto n) (directly (Org proto) refl))) less k (omega arith))

@@ -1,7 +1,7 @@
 -- Where no task holds up a prefix, and where none has work.
 use Rattle.std.proofs.Common.{◌≡◌, ℕ, ◌==◌, ◌&&◌, ◌||◌, Bool, true, false, cond, List, [], ◌∷◌, ◌++◌, map, Option, Some, None, is_some, refl, sym, ap, subst, ◌∙◌, arith}
 use Rattle.std.specs.Prelude.{IfNone, IfSome, option_map}
-use Rattle.std.specs.List.{All, AllByRecursion, Contains, find, flat_map, list_any, range_with_len}
+use Rattle.std.specs.List.{All, AllByRecursion, Contains, find, flat_map, list_any}
 use Rattle.std.specs.Option.{option_or}
 use Rattle.std.specs.FinMap as tables
 use Rattle.std.proofs.lemmas.List.Folds.{find-append}
@@ -44,7 +44,7 @@ use Rattle.router_core.specs.Moments.{Moment, router_links, best_of}
 use Rattle.router_core.specs.Phases.{all_phases, unread_if}
 use Rattle.router_core.specs.Turns.{has_work, phase_of, phase_tasks, IsSettled}
 use Rattle.router_core.specs.Stands.{Stands, AllHaveExits, EachChain, InteriorTree}
-use Rattle.router_core.specs.Holding.{next_hop_at, is_over, is_over_hop, holds_up_at, held_in, idle_tasks, first_held}
+use Rattle.router_core.specs.Holding.{next_hop_at, peer_numbers, is_over, is_over_hop, holds_up_at, held_in, idle_tasks, first_held}
 use Rattle.router_core.specs.Scratch.{HoldsUp, row_in, is_spliced, IsExact, IsExactIn, IsSettledAt, Tells}
 use Rattle.router_core.specs.Laws.{RowsAtRestAreExact, OnlyWorkHoldsUp, FirstHeldTells}
 use Rattle.router_core.proofs.CountLemmas.{each_phase}
@@ -61,7 +61,7 @@ none_any f (x ∷ xs) none = ap (λ (b : Bool). b || list_any f xs) (none x) ∙
 pub only_work : losses.NoneHeldUpWithoutWork → peers.NoneHeldUpWithoutWork → hops.NoneHeldUpWithoutWork → exits.NoneHeldUpWithoutWork → external.NoneHeldUpWithoutWork → OnlyWorkHoldsUp
 only_work of_tree of_peers of_hops of_exits of_external m (tasks.Rdel proto n) p none =
     ap (λ (b : Bool). b || is_over_hop (tasks.Rdel proto n) m p) (of_tree m.tree (tasks.Rdel proto n) p 0 none).0
-    ∙ none_any (λ k. is_over m.tree (tasks.Rdel proto n) (next_hop_at m k p)) (range_with_len 0 65) (λ k. not_over (next_hop_at m k p))
+    ∙ none_any (λ k. is_over m.tree (tasks.Rdel proto n) (next_hop_at m k p)) peer_numbers (λ k. not_over (next_hop_at m k p))
   where
     not_over : (o : Option ℕ) → is_over m.tree (tasks.Rdel proto n) o ≡ false
     not_over None = refl

@@ -28,9 +28,13 @@ abbrev pub is_over : Treed → Task → Option ℕ → Bool
 is_over t task None = false
 is_over t task (Some hop) = tree_over t task hop
 
+-- the numbers below which all peers have theirs
+unfoldable pub peer_numbers : List ℕ
+peer_numbers = range_with_len 0 65
+
 -- whether it has one at a prefix that holds the next hop of a peer's row there
 abbrev pub is_over_hop : Task → Moment → Network → Bool
-is_over_hop task m p = list_any (λ k. is_over m.tree task (next_hop_at m k p)) (range_with_len 0 65)
+is_over_hop task m p = list_any (λ k. is_over m.tree task (next_hop_at m k p)) peer_numbers
 
 -- Whether a task holds up a prefix. The deletes of a lost protocol do, where their table has the prefix, or one that holds the next hop
 -- of a peer's row there, by whose metric the peer's route may be resolved; those of a lost session, where theirs has it; the walk of a

@@ -1,0 +1,42 @@
+use Rattle.std.proofs.Common.{ap, sym, ◌∙◌, is_some, option_map}
+use Rattle.std.specs.List.{find}
+use Rattle.std.specs.FinMap as tables
+use Rattle.bgp_attr.specs.declared.route.Route.{Route}
+use Rattle.link_change.specs.Rows.{Rows}
+use Rattle.nexthop_resolver.specs.Kept.{route_hop}
+use Rattle.hop_side.specs.Resolvers.{hop_holds_up}
+use Rattle.peer_side.specs.Peers.{Chains, filt_at}
+use Rattle.router_core.specs.Moments.{Moment, best_of}
+use Rattle.router_core.specs.declared.router.Phase.TheVariants.{Del, Fin}
+use Rattle.router_core.proofs.StandLemmas.{peers_sound}
+use Rattle.router_core.proofs.HopTurns.{exits_sound}
+use Rattle.router_core.proofs.BestLemmas.{lent_best}
+use Rattle.router_core.proofs.NextLemmas.{held_of_peers, held_of_hops, held_of_exits}
+use Rattle.router_core.proofs.network.Network.held_in.Goals as goal
+
+pub first_loss_at-requires : goal.first_loss_at-requires
+first_loss_at-requires c = peers_sound c.args.self.now _ c.self.view_is c.requires
+
+pub first_walk_at-requires : goal.first_walk_at-requires
+first_walk_at-requires c = peers_sound c.args.self.now _ c.self.view_is c.requires
+
+pub first_held-requires-in-Out : goal.first_held-requires-in-Out
+first_held-requires-in-Out c = record { sound = exits_sound c.args.self.now _ c.self.view_is c.requires }
+
+pub returns-in-Del : goal.returns-in-Del
+returns-in-Del c = held_of_peers Del c.args.phase c.args.self.now _ c.args.p c.first_loss_at.result tt c.in-Del.is c.self.view_is c.first_loss_at.ensures
+
+pub returns-in-Fin : goal.returns-in-Fin
+returns-in-Fin c = held_of_peers Fin c.args.phase c.args.self.now _ c.args.p c.first_walk_at.result tt c.in-Fin.is c.self.view_is c.first_walk_at.ensures
+
+pub returns-in-Nh : goal.returns-in-Nh
+returns-in-Nh c =
+    let chains = c.lent.ensures.chains ∙ sym (ap (λ (n : Moment). n.chains) c.self.view_is) in
+    held_of_hops c.args.phase c.args.self.now _ c.args.p c.first_held.result c.task_of.result c.in-Nh.is c.self.view_is
+    (c.first_held.ensures ∙ ap (λ (a : Chains). find (λ k. hop_holds_up c.self.inside.hops k c.args.p (option_map route_hop (filt_at a k c.args.p))) (tables.keys c.self.inside.hops)) chains) c.task_of.ensures
+
+pub returns-in-Out : goal.returns-in-Out
+returns-in-Out c =
+    let lent = c.lent-in-Out.ensures in
+    held_of_exits c.args.phase c.args.self.now _ c.args.p c.first_held-in-Out.result c.exit_of.result c.in-Out.is c.self.view_is
+    (c.first_held-in-Out.ensures (best_of c.args.self.now) (c.has.ensures ∙ ap (λ (r : Rows Route). is_some (r c.args.p)) (lent_best c.args.self.now _ _ _ _ _ lent.declared lent.tree lent.redist lent.chains lent.hops))) c.exit_of.ensures
