@@ -104,7 +104,7 @@ none_in : (m : Moment) (p : Network) (rs : List Phase) → find (λ task. holds_
 none_in m p [] none = tt
 none_in m p (r ∷ rs) none =
     let both = neither (held_in r m p) (find (λ task. holds_up_at task m p) (flat_map (λ s. phase_tasks s m) rs))
-        (sym (find-append (λ task. holds_up_at task m p) (phase_tasks r m) (flat_map (λ s. phase_tasks s m) rs)) ∙ none) in
+    (sym (find-append (λ task. holds_up_at task m p) (phase_tasks r m) (flat_map (λ s. phase_tasks s m) rs)) ∙ none) in
     (both.0, none_in m p rs both.1)
   where
     neither : (a b : Option Task) → option_or a b ≡ None → (a ≡ None) × (b ≡ None)
@@ -120,8 +120,8 @@ first_held_tells exact only of_tree of_stages of_walks of_hops of_exits m stands
     nothing : first_held m p ≡ None → (task : Task) → holds_up_at task m p ≡ false
     nothing none task = by_bool (has_work task m) (λ _. holds_up_at task m p ≡ false)
         (λ works. All-contains (λ t. holds_up_at t m p ≡ false) (phase_tasks (phase_of task) m) task
-            (none_so (λ t. holds_up_at t m p) (phase_tasks (phase_of task) m) (each_phase (λ r. held_in r m p ≡ None) (none_in m p all_phases none) (phase_of task)))
-            (listed of_tree of_stages of_walks of_hops of_exits m stands task works))
+        (none_so (λ t. holds_up_at t m p) (phase_tasks (phase_of task) m) (each_phase (λ r. held_in r m p ≡ None) (none_in m p all_phases none) (phase_of task)))
+        (listed of_tree of_stages of_walks of_hops of_exits m stands task works))
         (λ idle. only m task p idle)
 
     by_first : (o : Option Task) → first_held m p ≡ o → Tells m p o
