@@ -59,6 +59,13 @@ impl Branches for TrieBranches {
         }
     }
 
+    fn has(&self, branch: u8, p: &Prefix) -> bool {
+        let Some(trie) = self.trie(branch) else {
+            return false;
+        };
+        trie.get(*p).is_some()
+    }
+
     fn next_candidate(&self, branch: u8, after: &Place) -> Option<Prefix> {
         let trie = self.trie(branch)?;
         trie.next_after(*after)
