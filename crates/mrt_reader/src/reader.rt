@@ -1,0 +1,114 @@
+//! The records of a source, one by one.
+
+ghost use Rattle.std.specs.Prelude.{◌≡◌, ◌+◌, ◌≤◌, [], List, ℕ};
+ghost use Rattle.std.specs.Io.KnownBytes.{Consumes, IsAtEnd, prepend_known};
+ghost use Rattle.edge_io.specs.Causes.{Rose};
+ghost use Rattle.mrt_reader.specs.Lines.{text_of, refused_text};
+ghost use Rattle.mrt_reader.specs.Sessions.{nothing_written, closing};
+ghost use Rattle.mrt_reader.specs.Files.{IsRefusal};
+ghost use Rattle.mrt_reader.specs.Sources.{left_by, AreTaken, MayBe, ReadsOne, ReadsNone};
+
+use crate::answer::{Code, Next, Stop};
+use crate::fields::{Body, HEADER, Header, MOST_KEPT, read_body, read_header};
+use crate::lines::push_refused;
+use crate::sessions::Written;
+use crate::unread::Unread;
+use edge_io::Source;
+use std::alloc::Global;
+use std::marker::Model;
+
+/// So many records may a file have.
+const MOST_RECORDS: u32 = 1_000_000_000;
+
+/// Reads the records of one source, and gives their lines.
+#[derive(Drop)]
+pub struct Reader {
+    /// Which subtypes are of use: those with AS numbers of four octets, or of two.
+    as4: bool,
+    /// How many records were read.
+    number: u32,
+    written: Written,
+    unread: Unread,
+    /// The header of the record that was read last.
+    head: Vec<u8>,
+    /// What is kept of its body.
+    body: Vec<u8>,
+}
+
+impl Model for Reader {
+    ghost use Rattle.std.specs.Prelude.{◌≤◌};
+    ghost use Rattle.mrt_reader.specs.Sources.{Reading};
+
+    ghost Value = { Reading };
+
+    ghost view = { λ r. record { as4 = r.as4; number = r.number; written = r.written; unread = r.unread } };
+
+    ghost invariant = { λ r. r.number ≤ 1000000000 };
+}
+
+impl Reader {
+    /// Nothing was read. Takes no memory. With `as4` the records of use are those whose AS numbers have four octets.
+    pub fn new(alloc: Global, as4: bool) -> Reader
+        ensures { result ≡ record { as4 = as4; number = 0; written = nothing_written; unread = [] } }
+    {
+        Reader {
+            as4,
+            number: 0,
+            written: Written::new(alloc),
+            unread: Unread::new(alloc),
+            head: Vec::new(alloc),
+            body: Vec::new(alloc),
+        }
+    }
+
+    /// Reads a body, and keeps what may be of use of it. Answers whether the input has all of it.
+    fn read_body<S: Source>(&mut self, source: &mut S, header: Header) -> Result<bool, Stop> {
+        self.body.clear();
+        let length = header.length as usize;
+        let kept = if header.is_used(self.as4) {
+            length.min(MOST_KEPT)
+        } else {
+            0
+        };
+        if !self.unread.take(source, kept, &mut self.body)? {
+            return Ok(false);
+        }
+        self.unread.skip(source, length - kept)
+    }
+
+    /// Reads the next record, and puts the text of its lines into `out`, in place of what is there; at the end the last line,
+    /// and where the file is refused the line that says so. After a refusal or a [`Stop`] nothing more is to be asked.
+    pub fn next<S: Source>(&mut self, source: &mut S, out: &mut Vec<u8>) -> Result<Next, Stop> {
+        out.clear();
+        self.head.clear();
+        let whole = self.unread.take(source, HEADER, &mut self.head)?;
+        if self.head.is_empty() {
+            self.written.close(out)?;
+            return Ok(Next::End);
+        }
+        if self.number >= MOST_RECORDS {
+            return refuse(out, self.number, Code::M3);
+        }
+        if !whole {
+            return refuse(out, self.number, Code::M1);
+        }
+        let header = read_header(self.head.as_slice());
+        if !self.read_body(source, header)? {
+            return refuse(out, self.number, Code::M1);
+        }
+        let body = read_body(self.as4, header, self.body.as_slice());
+        if let Body::Malformed = body {
+            return refuse(out, self.number, Code::M2);
+        }
+        self.written
+            .take(self.as4, body, self.body.as_slice(), out)?;
+        self.number += 1;
+        Ok(Next::Record)
+    }
+}
+
+/// Refuses the file behind so many records.
+fn refuse(out: &mut Vec<u8>, number: u32, code: Code) -> Result<Next, Stop> {
+    push_refused(out, number + 1, code)?;
+    Ok(Next::Refused(number + 1, code))
+}
