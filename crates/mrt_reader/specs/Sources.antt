@@ -1,9 +1,13 @@
 -- A file that comes from a source.
-use Rattle.std.specs.Prelude.{◌≡◌, ℕ, ◌+◌, ◌<◌, Bool, true, false, List, [], ◌++◌, length, Option, Some, None, Result, Ok, Err, ⊤}
+use Rattle.std.specs.Prelude.{◌≡◌, ℕ, ◌+◌, ◌<◌, ◌≤◌, Bool, true, false, List, [], ◌++◌, length, Option, Some, None, Result, Ok, Err, ⊤}
 use Rattle.std.specs.Io.KnownBytes.{Consumes, IsAtEnd, prepend_known}
 use Rattle.mrt_reader.specs.Records.{HoldNone}
-use Rattle.mrt_reader.specs.Sessions.{Written}
-use Rattle.mrt_reader.specs.Files.{HasRead}
+use Rattle.mrt_reader.specs.Lines.{text_of, refused_text}
+use Rattle.mrt_reader.specs.Sessions.{Written, closing}
+use Rattle.mrt_reader.specs.Files.{HasRead, IsRefusal}
+use Rattle.mrt_reader.specs.declared.answer.Code.{Code}
+use Rattle.mrt_reader.specs.declared.answer.Next.{Next}
+use Rattle.mrt_reader.specs.declared.answer.Next.TheVariants as answers
 use Rattle.mrt_reader.specs.declared.answer.Stop.{Stop}
 use Rattle.mrt_reader.specs.declared.answer.Stop.TheVariants.{ReadFault, Memory}
 
@@ -26,17 +30,42 @@ AreTaken before now count (Ok false) octets = Consumes before now octets × (len
 AreTaken before now count (Err ReadFault) octets = Consumes before now octets × (length octets < count)
 AreTaken before now count (Err Memory) octets = ⊤
 
--- The next record was read, and this is the text of its lines.
-abbrev pub ReadsOne : Reading → Option (List ℕ) → List ℕ → Reading → Option (List ℕ) → Type 0
-ReadsOne old left text new now =
-    (octets : List ℕ) × Consumes (left_by old left) (left_by new now) octets × (0 < length octets)
-    × ((read before : List ℕ) → HasRead old.as4 read before old.number old.written → HasRead old.as4 (read ++ octets) (before ++ text) new.number new.written)
-
--- A text that the source may have: the one that it tells, and any where it tells none.
+-- A file that the source may have: the one that it tells, and any where it tells none.
 abbrev pub MayBe : Option (List ℕ) → List ℕ → Type 0
-MayBe None text = ⊤
-MayBe (Some told) text = text ≡ told
+MayBe None file = ⊤
+MayBe (Some told) file = file ≡ told
+
+-- The next record was read, and this is the text of its lines.
+pub record ReadsOne (old : Reading) (left : Option (List ℕ)) (text : List ℕ) (new : Reading) (now : Option (List ℕ)) : Type 0 where
+  pub octets : List ℕ
+  pub consumed : Consumes (left_by old left) (left_by new now) octets
+  pub same : new.as4 ≡ old.as4
+  pub more : new.number ≡ old.number + 1
+  pub few : new.number ≤ 1000000000
+  pub goes_on : (read before : List ℕ) → HasRead old.as4 read before old.number old.written → HasRead old.as4 (read ++ octets) (before ++ text) new.number new.written
+
+-- No record is left, and this is the text of the last line.
+pub record Ends (old : Reading) (left : Option (List ℕ)) (text : List ℕ) (new : Reading) (now : Option (List ℕ)) : Type 0 where
+  pub consumed : Consumes (left_by old left) (left_by new now) []
+  pub over : IsAtEnd now
+  pub closed : text ≡ text_of (closing old.written)
+
+-- The file is refused at the next record, and this is the line that says so.
+pub record Refuses (old : Reading) (left : Option (List ℕ)) (number : ℕ) (code : Code) (text : List ℕ) : Type 0 where
+  pub at : number ≡ old.number + 1
+  pub rest : List ℕ
+  pub may_be : MayBe (left_by old left) rest
+  pub refused : IsRefusal old.as4 old.number rest code
+  pub said : text ≡ refused_text number code
+
+-- what an answer says
+abbrev pub Gives : Reading → Option (List ℕ) → Next → List ℕ → Reading → Option (List ℕ) → Type 0
+Gives old left answers.Record text new now = ReadsOne old left text new now
+Gives old left answers.End text new now = Ends old left text new now
+Gives old left (answers.Refused number code) text new now = Refuses old left number code text
 
 -- What was read beyond the records holds no whole one.
-abbrev pub ReadsNone : Reading → Option (List ℕ) → Reading → Option (List ℕ) → Type 0
-ReadsNone old left new now = (octets : List ℕ) × Consumes (left_by old left) (left_by new now) octets × HoldNone octets
+pub record ReadsNone (old : Reading) (left : Option (List ℕ)) (new : Reading) (now : Option (List ℕ)) : Type 0 where
+  pub octets : List ℕ
+  pub consumed : Consumes (left_by old left) (left_by new now) octets
+  pub none : HoldNone octets

@@ -3,7 +3,7 @@
 ghost use Rattle.std.specs.Prelude.{◌≡◌, ◌+◌, ◌-◌, ◌≤◌, ◌==◌, ◌&&◌, nat_le, if◌then◌else◌, List, ℕ, min, length, take, drop, true};
 ghost use Rattle.mrt_reader.specs.Records.{number_at, kind_in, subtype_in, length_in};
 ghost use Rattle.mrt_reader.specs.Fields.{width_of, start_of, interface_at, is_used, state_subtype, message_subtype, sides_in, are_speakers, told_in, told_by_state, Message, NoMessage, is_well_sized, said_of_ipv4, said_in};
-ghost use Rattle.mrt_reader.specs.Kept.{told_of, said_of, IsKeptOf};
+ghost use Rattle.mrt_reader.specs.Kept.{told_of, said_of, IsKeptOf, HasMessage, HasMessageIn};
 
 use addr4::Addr;
 use bgp_attr::is_host;
@@ -190,8 +190,8 @@ impl Sides {
     ghost use Rattle.mrt_reader.specs.Fields.{are_speakers};
 
     /// Whether each has an AS number and an address that a speaker may have.
-    fn are_speakers(self) -> bool
-        ensures { result ≡ are_speakers self }
+    fn are_speakers(&self) -> bool
+        ensures { result ≡ are_speakers self.now }
     {
         self.peer_as != 0 && self.local_as != 0 && is_host(self.peer) && is_host(self.local)
     }
@@ -199,7 +199,8 @@ impl Sides {
 
 /// What a new state says.
 fn state_news(new: u16) -> News
-    ensures { (kept : List ℕ) → told_of kept result ≡ told_by_state new }
+    ensures within { (size : ℕ) → HasMessage size result }
+    ensures told { (kept : List ℕ) → told_of kept result ≡ told_by_state new }
 {
     if new == ESTABLISHED {
         News::Established
@@ -211,7 +212,8 @@ fn state_news(new: u16) -> News
 /// What a message says that begins at a place of a body of so many octets.
 fn message_news(length: usize, place: usize) -> News
     requires { place ≤ length }
-    ensures { (kept : List ℕ) → told_of kept result ≡ (if nat_le 1 (length - place) && nat_le (length - place) 4096 then Message (drop place kept) else NoMessage) }
+    ensures within { (size : ℕ) → place ≤ size → HasMessage size result }
+    ensures told { (kept : List ℕ) → told_of kept result ≡ (if nat_le 1 (length - place) && nat_le (length - place) 4096 then Message (drop place kept) else NoMessage) }
 {
     if 1 <= length - place && length - place <= LONGEST {
         News::Message(place)
@@ -224,7 +226,8 @@ fn message_news(length: usize, place: usize) -> News
 fn read_news(as4: bool, header: Header, body: &[u8]) -> News
     requires sized { is_well_sized as4 header.kind header.subtype header.length ≡ true }
     requires room { min header.length 4120 ≤ length body.now }
-    ensures { (whole : List ℕ) → length whole ≡ header.length → body.now ≡ take 4120 whole → told_of body.now result ≡ told_in as4 header.kind header.subtype whole }
+    ensures within { HasMessage (length body.now) result }
+    ensures told { (whole : List ℕ) → length whole ≡ header.length → body.now ≡ take 4120 whole → told_of body.now result ≡ told_in as4 header.kind header.subtype whole }
 {
     let interface = header.interface(as4);
     if header.is_state_change(as4) {
@@ -237,7 +240,8 @@ fn read_news(as4: bool, header: Header, body: &[u8]) -> News
 /// What a body of IPv4 says.
 fn read_ipv4(as4: bool, header: Header, body: &[u8]) -> Body
     requires { min header.length 4120 ≤ length body.now }
-    ensures { (whole : List ℕ) → length whole ≡ header.length → body.now ≡ take 4120 whole → said_of body.now result ≡ said_of_ipv4 as4 header.kind header.subtype whole }
+    ensures within { HasMessageIn (length body.now) result }
+    ensures said { (whole : List ℕ) → length whole ≡ header.length → body.now ≡ take 4120 whole → said_of body.now result ≡ said_of_ipv4 as4 header.kind header.subtype whole }
 {
     if !header.is_well_sized(as4) {
         return Body::Malformed;
@@ -253,7 +257,8 @@ fn read_ipv4(as4: bool, header: Header, body: &[u8]) -> Body
 /// all where it has fewer.
 pub(crate) fn read_body(as4: bool, header: Header, body: &[u8]) -> Body
     requires { is_used as4 header.kind header.subtype ≡ true → min header.length 4120 ≤ length body.now }
-    ensures { (whole : List ℕ) → IsKeptOf as4 header body.now whole → said_of body.now result ≡ said_in as4 header.kind header.subtype whole }
+    ensures within { HasMessageIn (length body.now) result }
+    ensures said { (whole : List ℕ) → IsKeptOf as4 header body.now whole → said_of body.now result ≡ said_in as4 header.kind header.subtype whole }
 {
     if !header.is_used(as4) {
         return Body::Unused;

@@ -38,6 +38,7 @@ fn push_speaker(out: &mut Vec<u8>, addr: Addr) -> Result<(), Memory>
 }
 
 /// `as4`
+#[tactic(auto, unfolding(crate::specs::Lines::line_words))]
 pub(crate) fn push_as4(out: &mut Vec<u8>) -> Result<(), Memory>
     ensures { OnOk result (out.new.items ≡ out.old.items ++ line_text lines.As4) }
 {
@@ -45,6 +46,7 @@ pub(crate) fn push_as4(out: &mut Vec<u8>) -> Result<(), Memory>
 }
 
 /// `local AS ADDR ADDR`
+#[tactic(auto, unfolding(crate::specs::Lines::line_words))]
 pub(crate) fn push_local(out: &mut Vec<u8>, asn: u32, addr: Addr) -> Result<(), Memory>
     ensures { OnOk result (out.new.items ≡ out.old.items ++ line_text (lines.Local asn addr)) }
 {
@@ -53,6 +55,7 @@ pub(crate) fn push_local(out: &mut Vec<u8>, asn: u32, addr: Addr) -> Result<(), 
 }
 
 /// `peer K AS ADDR ADDR`
+#[tactic(auto, unfolding(crate::specs::Lines::line_words))]
 pub(crate) fn push_peer(out: &mut Vec<u8>, number: u32, asn: u32, addr: Addr) -> Result<(), Memory>
     ensures { OnOk result (out.new.items ≡ out.old.items ++ line_text (lines.Peer number asn addr)) }
 {
@@ -62,6 +65,7 @@ pub(crate) fn push_peer(out: &mut Vec<u8>, number: u32, asn: u32, addr: Addr) ->
 }
 
 /// `up K`
+#[tactic(auto, unfolding(crate::specs::Lines::line_words))]
 pub(crate) fn push_up(out: &mut Vec<u8>, number: u32) -> Result<(), Memory>
     ensures { OnOk result (out.new.items ≡ out.old.items ++ line_text (lines.Up number)) }
 {
@@ -70,6 +74,7 @@ pub(crate) fn push_up(out: &mut Vec<u8>, number: u32) -> Result<(), Memory>
 }
 
 /// `down K`
+#[tactic(auto, unfolding(crate::specs::Lines::line_words))]
 pub(crate) fn push_down(out: &mut Vec<u8>, number: u32) -> Result<(), Memory>
     ensures { OnOk result (out.new.items ≡ out.old.items ++ line_text (lines.Down number)) }
 {
@@ -78,6 +83,7 @@ pub(crate) fn push_down(out: &mut Vec<u8>, number: u32) -> Result<(), Memory>
 }
 
 /// `bgp K HEX`
+#[tactic(auto, unfolding(crate::specs::Lines::line_words))]
 pub(crate) fn push_message(
     alloc: Global,
     out: &mut Vec<u8>,
@@ -94,6 +100,7 @@ pub(crate) fn push_message(
 }
 
 /// `idle`
+#[tactic(auto, unfolding(crate::specs::Lines::line_words))]
 pub(crate) fn push_idle(out: &mut Vec<u8>) -> Result<(), Memory>
     ensures { OnOk result (out.new.items ≡ out.old.items ++ line_text lines.Idle) }
 {

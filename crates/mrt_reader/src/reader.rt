@@ -1,12 +1,12 @@
 //! The records of a source, one by one.
 
-ghost use Rattle.std.specs.Prelude.{◌≡◌, ◌+◌, ◌≤◌, [], List, ℕ};
-ghost use Rattle.std.specs.Io.KnownBytes.{Consumes, IsAtEnd, prepend_known};
+ghost use Rattle.std.specs.Prelude.{◌≡◌, ◌≢◌, ◌++◌, ◌+◌, ◌≤◌, [], List, ℕ, true, IfOk, OnOk};
+ghost use Rattle.std.specs.Io.KnownBytes.{prepend_known};
 ghost use Rattle.edge_io.specs.Causes.{Rose};
-ghost use Rattle.mrt_reader.specs.Lines.{text_of, refused_text};
-ghost use Rattle.mrt_reader.specs.Sessions.{nothing_written, closing};
-ghost use Rattle.mrt_reader.specs.Files.{IsRefusal};
-ghost use Rattle.mrt_reader.specs.Sources.{left_by, AreTaken, MayBe, ReadsOne, ReadsNone};
+ghost use Rattle.mrt_reader.specs.Lines.{refused_text};
+ghost use Rattle.mrt_reader.specs.Kept.{IsKeptOf};
+ghost use Rattle.mrt_reader.specs.Sessions.{nothing_written};
+ghost use Rattle.mrt_reader.specs.Sources.{AreTaken, Gives, ReadsNone};
 
 use crate::answer::{Code, Next, Stop};
 use crate::fields::{Body, HEADER, Header, MOST_KEPT, read_body, read_header};
@@ -61,21 +61,6 @@ impl Reader {
         }
     }
 
-    /// Reads a body, and keeps what may be of use of it. Answers whether the input has all of it.
-    fn read_body<S: Source>(&mut self, source: &mut S, header: Header) -> Result<bool, Stop> {
-        self.body.clear();
-        let length = header.length as usize;
-        let kept = if header.is_used(self.as4) {
-            length.min(MOST_KEPT)
-        } else {
-            0
-        };
-        if !self.unread.take(source, kept, &mut self.body)? {
-            return Ok(false);
-        }
-        self.unread.skip(source, length - kept)
-    }
-
     /// Reads the next record, and puts the text of its lines into `out`, in place of what is there; at the end the last line,
     /// and where the file is refused the line that says so. After a refusal or a [`Stop`] nothing more is to be asked.
     pub fn next<S: Source>(&mut self, source: &mut S, out: &mut Vec<u8>) -> Result<Next, Stop> {
@@ -93,7 +78,7 @@ impl Reader {
             return refuse(out, self.number, Code::M1);
         }
         let header = read_header(self.head.as_slice());
-        if !self.read_body(source, header)? {
+        if !take_body(&mut self.unread, source, self.as4, header, &mut self.body)? {
             return refuse(out, self.number, Code::M1);
         }
         let body = read_body(self.as4, header, self.body.as_slice());
@@ -107,8 +92,38 @@ impl Reader {
     }
 }
 
+/// Takes a body, and keeps what may be of use of it. Answers whether the input has all of it.
+fn take_body<S: Source>(
+    unread: &mut Unread,
+    source: &mut S,
+    as4: bool,
+    header: Header,
+    body: &mut Vec<u8>,
+) -> Result<bool, Stop>
+    ensures taken { (octets : List ℕ) × AreTaken (prepend_known unread.old (S.left source.old)) (prepend_known unread.new (S.left source.new)) header.length result octets × (result ≡ Ok true → IsKeptOf as4 header body.new.items octets) }
+    ensures cause { result ≡ Err Stop.ReadFault → Rose (S.faults source.old) (S.faults source.new) }
+    ensures later { S.faults source.old ≤ S.faults source.new }
+{
+    body.clear();
+    let length = header.length as usize;
+    let kept = if header.is_used(as4) {
+        length.min(MOST_KEPT)
+    } else {
+        0
+    };
+    if !unread.take(source, kept, body)? {
+        return Ok(false);
+    }
+    unread.skip(source, length - kept)
+}
+
 /// Refuses the file behind so many records.
-fn refuse(out: &mut Vec<u8>, number: u32, code: Code) -> Result<Next, Stop> {
+fn refuse(out: &mut Vec<u8>, number: u32, code: Code) -> Result<Next, Stop>
+    requires { number ≤ 1000000000 }
+    ensures answer { IfOk result (λ next. next ≡ Next.Refused (number + 1) code) }
+    ensures line { OnOk result (out.new.items ≡ out.old.items ++ refused_text (number + 1) code) }
+    ensures cause { result ≢ Err Stop.ReadFault }
+{
     push_refused(out, number + 1, code)?;
     Ok(Next::Refused(number + 1, code))
 }

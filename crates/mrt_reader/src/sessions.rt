@@ -1,6 +1,6 @@
 //! What the lines written so far have said, and the lines of the next record.
 
-ghost use Rattle.std.specs.Prelude.{◌≡◌, ◌++◌, ◌<◌, ◌≤◌, length, OnOk, IfOk, IfSome, Some, None};
+ghost use Rattle.std.specs.Prelude.{◌≡◌, ◌+◌, ◌++◌, ◌<◌, ◌≤◌, length, OnOk, IfOk, IfSome, Some, None};
 ghost use Rattle.mrt_reader.specs.Kept.{told_of, said_of, HasMessage, HasMessageIn};
 ghost use Rattle.mrt_reader.specs.Fields.{Message};
 ghost use Rattle.mrt_reader.specs.Lines.{text_of};
