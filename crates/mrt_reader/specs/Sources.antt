@@ -23,6 +23,13 @@ pub record Reading : Type 0 where
 abbrev pub left_by : Reading → Option (List ℕ) → Option (List ℕ)
 left_by r left = prepend_known r.unread left
 
+-- Octets are there that may be taken, or the input is at its end; nothing is taken yet.
+abbrev pub IsReady : Option (List ℕ) → Option (List ℕ) → List ℕ → Result Bool Stop → Type 0
+IsReady before now unread (Ok true) = Consumes before now [] × (0 < length unread)
+IsReady before now unread (Ok false) = Consumes before now [] × IsAtEnd now
+IsReady before now unread (Err ReadFault) = Consumes before now []
+IsReady before now unread (Err Memory) = ⊤
+
 -- Octets were taken, so many that were asked for: all of them, or fewer, where the input ends or a read failed.
 abbrev pub AreTaken : Option (List ℕ) → Option (List ℕ) → ℕ → Result Bool Stop → List ℕ → Type 0
 AreTaken before now count (Ok true) octets = Consumes before now octets × (length octets ≡ count)

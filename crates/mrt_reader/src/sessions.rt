@@ -1,6 +1,6 @@
 //! What the lines written so far have said, and the lines of the next record.
 
-ghost use Rattle.std.specs.Prelude.{◌≡◌, ◌+◌, ◌++◌, ◌<◌, ◌≤◌, length, OnOk, IfOk, IfSome, Some, None};
+ghost use Rattle.std.specs.Prelude.{if◌then◌else◌, ◌≡◌, ◌+◌, ◌++◌, ◌<◌, ◌≤◌, length, OnOk, IfOk, IfSome, Some, None};
 ghost use Rattle.mrt_reader.specs.Kept.{told_of, said_of, HasMessage, HasMessageIn};
 ghost use Rattle.mrt_reader.specs.Fields.{Message};
 ghost use Rattle.mrt_reader.specs.Lines.{text_of};
@@ -109,27 +109,29 @@ impl Written {
         Ok(Some(place))
     }
 
-    /// A session of the peer at a place begins, if none is and it may have one more. Answers whether there is one then.
-    fn begin(&mut self, place: usize, out: &mut Vec<u8>) -> Result<bool, Memory>
+    /// A session of the peer at a place begins, if none is and it may have one more. Answers the peer's number, if it has a
+    /// session then.
+    fn begin(&mut self, place: usize, out: &mut Vec<u8>) -> Result<Option<u32>, Memory>
         requires { place < length self.old.peers }
-        ensures session { IfOk result (λ begun. begun ≡ has_session (peer_at self.old place)) }
+        ensures session { IfOk result (λ number. number ≡ (if has_session (peer_at self.old place) then Some (place + 1) else None)) }
         ensures lines { OnOk result (out.new.items ≡ out.old.items ++ text_of (beginning (place + 1) (peer_at self.old place))) }
         ensures behind { OnOk result (self.new ≡ after_all self.old (beginning (place + 1) (peer_at self.old place))) }
     {
         let peer = self.peers[place];
+        let number = place as u32 + 1;
         if peer.up {
-            return Ok(true);
+            return Ok(Some(number));
         }
         if peer.sessions >= MOST_SESSIONS {
-            return Ok(false);
+            return Ok(None);
         }
-        push_up(out, place as u32 + 1)?;
+        push_up(out, number)?;
         self.peers[place] = PeerState {
             addr: peer.addr,
             up: true,
             sessions: peer.sessions + 1,
         };
-        Ok(true)
+        Ok(Some(number))
     }
 
     /// Its session ends, if there is one.
@@ -157,11 +159,10 @@ impl Written {
         ensures lines { OnOk result (out.new.items ≡ out.old.items ++ text_of (hearing (place + 1) (peer_at self.old place) (Message octets.now))) }
         ensures behind { OnOk result (self.new ≡ after_all self.old (hearing (place + 1) (peer_at self.old place) (Message octets.now))) }
     {
-        let number = place as u32 + 1;
-        if self.begin(place, out)? {
-            push_message(self.alloc, out, number, octets)?;
+        match self.begin(place, out)? {
+            Some(number) => push_message(self.alloc, out, number, octets),
+            None => Ok(()),
         }
-        Ok(())
     }
 
     /// What was said of the peer at a place.

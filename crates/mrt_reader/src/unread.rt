@@ -1,9 +1,9 @@
 //! Octets that were read of a source and aren't taken yet.
 
-ghost use Rattle.std.specs.Prelude.{◌≡◌, ◌++◌, ◌≤◌, ◌<◌, [], List, ℕ, length, drop, true, IfOk, OnOk};
-ghost use Rattle.std.specs.Io.KnownBytes.{Consumes, IsAtEnd, prepend_known};
+ghost use Rattle.std.specs.Prelude.{◌≡◌, ◌++◌, ◌≤◌, [], List, ℕ, length, drop};
+ghost use Rattle.std.specs.Io.KnownBytes.{prepend_known};
 ghost use Rattle.edge_io.specs.Causes.{Rose};
-ghost use Rattle.mrt_reader.specs.Sources.{AreTaken};
+ghost use Rattle.mrt_reader.specs.Sources.{AreTaken, IsReady};
 
 use crate::answer::Stop;
 use edge_io::Source;
@@ -54,14 +54,15 @@ impl Unread {
         self.at += count;
     }
 
-    /// Reads the next block, where the last one was taken. There is none at the end.
-    fn read_block<S: Source>(&mut self, source: &mut S) -> Result<bool, Stop>
-        requires { self.old ≡ [] }
-        ensures some { IfOk result (λ some. some ≡ true → 0 < length self.new) }
-        ensures taken { AreTaken (prepend_known self.old (S.left source.old)) (prepend_known self.new (S.left source.new)) 1 result [] }
+    /// Reads the next block, where the last one was taken. Answers whether octets are there; there are none at the end.
+    fn ready<S: Source>(&mut self, source: &mut S) -> Result<bool, Stop>
+        ensures ready { IsReady (prepend_known self.old (S.left source.old)) (prepend_known self.new (S.left source.new)) self.new result }
         ensures cause { result ≡ Err Stop.ReadFault → Rose (S.faults source.old) (S.faults source.new) }
         ensures later { S.faults source.old ≤ S.faults source.new }
     {
+        if self.at < self.block.len() {
+            return Ok(true);
+        }
         let mut buf = [0u8; READ_SIZE];
         self.block.clear();
         self.at = 0;
@@ -86,7 +87,7 @@ impl Unread {
     {
         let mut missing = count;
         'taking: while missing > 0 {
-            if self.octets().is_empty() && !self.read_block(source)? {
+            if !self.ready(source)? {
                 return Ok(false);
             }
             let part = self.octets().len().min(missing);
@@ -105,7 +106,7 @@ impl Unread {
     {
         let mut missing = count;
         'skipping: while missing > 0 {
-            if self.octets().is_empty() && !self.read_block(source)? {
+            if !self.ready(source)? {
                 return Ok(false);
             }
             let part = self.octets().len().min(missing);
