@@ -1,5 +1,5 @@
 -- What is read of a body of which only the front is kept.
-use Rattle.std.specs.Prelude.{◌≡◌, ℕ, Bool, true, List, ◌≤◌, length, take, drop, ⊤}
+use Rattle.std.specs.Prelude.{◌≡◌, ℕ, Bool, true, if◌then◌else◌, min, List, ◌≤◌, length, take, drop, ⊤}
 use Rattle.mrt_reader.specs.Fields.{Told, Said, is_used}
 use Rattle.mrt_reader.specs.Fields as told
 use Rattle.mrt_reader.specs.declared.fields.Header.{Header}
@@ -23,6 +23,10 @@ said_of kept (bodies.Session s n) = told.Session s (told_of kept n)
 -- what may be of use of a whole body
 abbrev pub kept_of : List ℕ → List ℕ
 kept_of whole = take 4120 whole
+
+-- how many octets of a body are kept
+abbrev pub kept_size : Bool → Header → ℕ
+kept_size as4 h = if is_used as4 h.kind h.subtype then min h.length 4120 else 0
 
 -- So much is kept of a body of this length: where the record is of use, the front that may be.
 pub record IsKeptOf (as4 : Bool) (h : Header) (kept whole : List ℕ) : Type 0 where

@@ -29,7 +29,7 @@ const LONGEST: usize = 4096;
 
 /// So many octets of a body may be of use: microseconds, two AS numbers, an interface, the family, two addresses, and a
 /// message.
-pub(crate) const MOST_KEPT: usize = 4 + 8 + 4 + 8 + LONGEST;
+const MOST_KEPT: usize = 4 + 8 + 4 + 8 + LONGEST;
 
 /// A record's header, without the time.
 #[derive(Clone, Copy)]
@@ -121,6 +121,7 @@ pub(crate) fn read_header(octets: &[u8]) -> Header
 
 impl Header {
     ghost use Rattle.mrt_reader.specs.Fields.{start_of, interface_at, is_used, state_subtype};
+    ghost use Rattle.mrt_reader.specs.Kept.{kept_size};
 
     /// Whether the record's subtype is that of a state change.
     fn is_state_change(self, as4: bool) -> bool
@@ -135,6 +136,18 @@ impl Header {
     {
         (self.kind == BGP4MP || self.kind == BGP4MP_ET)
             && (self.is_state_change(as4) || self.subtype == if as4 { 4 } else { 1 })
+    }
+
+    /// How many octets are kept of the record's body.
+    pub(crate) fn kept(self, as4: bool) -> usize
+        ensures value { result ≡ kept_size as4 self }
+        ensures within { result ≤ self.length }
+    {
+        if self.is_used(as4) {
+            (self.length as usize).min(MOST_KEPT)
+        } else {
+            0
+        }
     }
 
     /// Where the fields begin, behind the microseconds.

@@ -9,7 +9,7 @@ ghost use Rattle.mrt_reader.specs.Sessions.{nothing_written};
 ghost use Rattle.mrt_reader.specs.Sources.{AreTaken, Gives, ReadsNone};
 
 use crate::answer::{Code, Next, Stop};
-use crate::fields::{Body, HEADER, Header, MOST_KEPT, read_body, read_header};
+use crate::fields::{Body, HEADER, Header, read_body, read_header};
 use crate::lines::push_refused;
 use crate::sessions::Written;
 use crate::unread::Unread;
@@ -105,16 +105,11 @@ fn take_body<S: Source>(
     ensures later { S.faults source.old ≤ S.faults source.new }
 {
     body.clear();
-    let length = header.length as usize;
-    let kept = if header.is_used(as4) {
-        length.min(MOST_KEPT)
-    } else {
-        0
-    };
+    let kept = header.kept(as4);
     if !unread.take(source, kept, body)? {
         return Ok(false);
     }
-    unread.skip(source, length - kept)
+    unread.skip(source, header.length as usize - kept)
 }
 
 /// Refuses the file behind so many records.
