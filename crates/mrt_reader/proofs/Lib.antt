@@ -1,3 +1,4 @@
 pub mod KeptLemmas
 pub mod TakenLemmas
 pub mod FileLemmas
+pub mod AnswerLemmas

@@ -63,7 +63,12 @@ impl Reader {
 
     /// Reads the next record, and puts the text of its lines into `out`, in place of what is there; at the end the last line,
     /// and where the file is refused the line that says so. After a refusal or a [`Stop`] nothing more is to be asked.
-    pub fn next<S: Source>(&mut self, source: &mut S, out: &mut Vec<u8>) -> Result<Next, Stop> {
+    pub fn next<S: Source>(&mut self, source: &mut S, out: &mut Vec<u8>) -> Result<Next, Stop>
+        ensures gives { IfOk result (λ next. Gives self.old (S.left source.old) next out.new.items self.new (S.left source.new)) }
+        ensures read_fault { result ≡ Err Stop.ReadFault → ReadsNone self.old (S.left source.old) self.new (S.left source.new) }
+        ensures cause { result ≡ Err Stop.ReadFault → Rose (S.faults source.old) (S.faults source.new) }
+        ensures later { S.faults source.old ≤ S.faults source.new }
+    {
         out.clear();
         self.head.clear();
         let whole = self.unread.take(source, HEADER, &mut self.head)?;
