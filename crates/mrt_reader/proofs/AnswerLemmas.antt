@@ -1,14 +1,14 @@
 -- What is answered of the next record.
-use Rattle.std.proofs.Common.{◌≡◌, ℕ, ◌+◌, ◌<◌, ◌≤◌, Bool, true, false, List, [], ◌∷◌, ◌++◌, length, Option, Result, Ok, Err, IfOk, OnOk, refl, sym, ap, ◌∙◌, subst, arith, append_assoc, length-append}
-use Rattle.std.proofs.lemmas.List.{append-nil}
+use Rattle.std.proofs.Common.{◌≡◌, ℕ, ◌+◌, ◌<◌, ◌≤◌, Bool, true, false, List, [], ◌++◌, length, Option, Result, Ok, Err, IfOk, OnOk, refl, sym, ap, ◌∙◌, subst, arith, length-append}
 use Rattle.std.proofs.KnownBytes.{Consumes-trans}
+use Rattle.std.specs.Result.{IsErrAnd}
 use Rattle.std.specs.Io.KnownBytes.{Consumes}
-use Rattle.mrt_reader.specs.Records.{Record, octets_of, kind_in, subtype_in, length_in, HoldNone}
+use Rattle.mrt_reader.specs.Records.{Record, kind_in, subtype_in, length_in}
 use Rattle.mrt_reader.specs.Fields as told
 use Rattle.mrt_reader.specs.Fields.{Said, said_in}
-use Rattle.mrt_reader.specs.Kept.{said_of, IsKeptOf}
+use Rattle.mrt_reader.specs.Kept.{said_of}
 use Rattle.mrt_reader.specs.Lines.{text_of, refused_text}
-use Rattle.mrt_reader.specs.Sessions.{Written, after_all, lines_said, record_lines}
+use Rattle.mrt_reader.specs.Sessions.{Written, after_all, lines_said}
 use Rattle.mrt_reader.specs.Files.{IsRefusal}
 use Rattle.mrt_reader.specs.Sources.{Reading, left_by, AreTaken, MayBe, ReadsOne, ReadsNone, Refuses, Gives}
 use Rattle.mrt_reader.specs.declared.answer.Code.{Code}
@@ -88,9 +88,16 @@ cut_in_body as4 a b c n head part h false few r is t = record {
   refused = (few, omega (arith, r.twelve, length-append head part), short_body head part r.twelve (omega (arith, t.1, r.size)));
 }
 
+-- the error that a `?` passes on
+pub passed_on : (result : Result Next Stop) (stop inner : Stop) → result ≡ Err stop → IsErrAnd result (λ e. e ≡ inner) → inner ≡ stop
+passed_on result stop inner is passed =
+    let same : IsErrAnd {T = Next} (Err stop) (λ e. e ≡ inner) = subst (λ (r : Result Next Stop). IsErrAnd r (λ e. e ≡ inner)) is passed in
+    sym same
+
 -- a read failed within the body
-pub fails_in_body : (old r : Reading) (left b now : Option (List ℕ)) (new : Reading) (head part : List ℕ) (h : Header) → old ≡ r → HeadRead (left_by r left) b head h → AreTaken b (left_by new now) h.length (Err ReadFault) part → ReadsNone old left new now
-fails_in_body old r left b now new head part h same f t = record {
+pub fails_in_body : (old r : Reading) (left b now : Option (List ℕ)) (new : Reading) (head part : List ℕ) (h : Header) (stop : Stop) → old ≡ r → stop ≡ ReadFault → HeadRead (left_by r left) b head h → AreTaken b (left_by new now) h.length (Err stop) part → ReadsNone old left new now
+fails_in_body old r left b now new head part h Memory same is f t = absurd (cc)
+fails_in_body old r left b now new head part h ReadFault same is f t = record {
   octets = head ++ part;
   consumed = subst (λ (o : Reading). Consumes (left_by o left) (left_by new now) (head ++ part)) (sym same) (Consumes-trans (left_by r left) b (left_by new now) head part f.consumed t.0);
   none = short_body head part f.twelve (omega (arith, t.1, f.size));

@@ -4,9 +4,9 @@ use Rattle.std.proofs.lemmas.List.{append-nil, take_at, take_all, nil_from_lengt
 use Rattle.std.proofs.lemmas.Bool.{leb-true, leb-false}
 use Rattle.std.proofs.lemmas.List.Concat.{flat_map-append}
 use Rattle.std.proofs.KnownBytes.{Consumes-trans}
-use Rattle.std.specs.List.{AllByRecursion, flat_map}
+use Rattle.std.specs.List.{AllByRecursion}
 use Rattle.std.specs.Io.KnownBytes.{Consumes, IsAtEnd, prepend_known}
-use Rattle.mrt_reader.specs.Records.{Record, IsRecord, octets_of, length_in, HoldNone}
+use Rattle.mrt_reader.specs.Records.{Record, octets_of, length_in, HoldNone}
 use Rattle.mrt_reader.specs.Fields.{is_used}
 use Rattle.mrt_reader.specs.Kept.{kept_size, IsKeptOf}
 use Rattle.mrt_reader.specs.declared.fields.Header.{Header}
@@ -131,10 +131,13 @@ is_kept as4 h kept front rest (Ok true) a b all same some others = by_use (is_us
 pub body_taken : (as4 : Bool) (h : Header) (none kept front rest : List ℕ) (a b c : Option (List ℕ)) (some : Bool) (size : ℕ) (result : Result Bool Stop) → some ≡ true → none ≡ [] → kept ≡ none ++ front → size ≡ kept_size as4 h → size ≤ h.length → AreTaken a b size (Ok some) front → AreTaken b c (h.length - size) result rest → AreTaken a c h.length result (front ++ rest) × (result ≡ Ok true → IsKeptOf as4 h kept (front ++ rest))
 body_taken as4 h none kept front rest a b c false size result is cleared same few within f r = absurd (cc)
 body_taken as4 h none kept front rest a b c true size result is cleared same few within f r = (
-    both_taken a b c h.length size front rest result within f r,
-    λ all. is_kept as4 h kept front rest result b c all (same ∙ ap (λ t. t ++ front) cleared) (f.1 ∙ few) (subst (λ (k : ℕ). AreTaken b c (h.length - k) result rest) few r),
-  )
+  both_taken a b c h.length size front rest result within f r,
+  λ all. is_kept as4 h kept front rest result b c all (same ∙ ap (λ t. t ++ front) cleared) (f.1 ∙ few) (subst (λ (k : ℕ). AreTaken b c (h.length - k) result rest) few r),
+)
 
 -- there is room for the fields in what is kept
 pub room_kept : (as4 : Bool) (h : Header) (kept whole : List ℕ) → IsKeptOf as4 h kept whole → is_used as4 h.kind h.subtype ≡ true → min h.length 4120 ≤ length kept
 room_kept as4 h kept whole k used = omega (arith, k.size, ap length (k.front used), length-take 4120 whole)
+
+pub nothing_read : (as4 : Bool) → HasRead as4 [] [] 0 nothing_written
+nothing_read as4 = record { records = []; whole = refl; each = tt; count = refl; few = omega arith; lines = refl; behind = refl }

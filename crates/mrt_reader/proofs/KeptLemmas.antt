@@ -5,7 +5,6 @@ use Rattle.std.proofs.lemmas.Bool.{leb-true, lt-ltb, le-ltb, eq-eqb, ne_eqb}
 use Rattle.byteorder.specs.Endian.{big_from}
 use Rattle.mrt_reader.specs.Records.{number_at}
 use Rattle.mrt_reader.specs.Fields.{Told, Said, Message, NoMessage, Malformed, Unused, Session, width_of, start_of, interface_at, is_used, is_well_sized, sides_in, are_speakers, told_by_state, told_by_message, told_in, said_of_ipv4, said_in, state_subtype}
-use Rattle.mrt_reader.specs.declared.fields.Sides.{Sides}
 
 pub first_case : {A : Type 0} (b : Bool) (x y : A) → b ≡ true → x ≡ cond b x y
 first_case true x y is = refl

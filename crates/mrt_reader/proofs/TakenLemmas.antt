@@ -1,5 +1,5 @@
 -- Octets that are taken piece by piece.
-use Rattle.std.proofs.Common.{◌≡◌, ℕ, ◌+◌, ◌-◌, ◌<◌, ◌≤◌, Bool, true, false, List, [], ◌∷◌, ◌++◌, length, take, drop, min, Option, Some, None, Result, Ok, Err, refl, sym, ap, ◌∙◌, subst, arith, append_assoc, length-append, length-take}
+use Rattle.std.proofs.Common.{◌≡◌, ℕ, ◌+◌, ◌-◌, ◌<◌, ◌≤◌, Bool, true, false, List, [], ◌++◌, length, take, drop, min, Option, Some, None, Result, Ok, Err, refl, sym, ap, ◌∙◌, subst, arith, append_assoc, length-append, length-take}
 use Rattle.std.proofs.lemmas.List.{append-nil, take-append-drop}
 use Rattle.std.proofs.KnownBytes.{Consumes-trans, Consumes-nil}
 use Rattle.std.specs.Io.KnownBytes.{Consumes, Keeps, IsAtEnd, prepend_known}
@@ -63,3 +63,7 @@ pub takes_part : (a b c : Option (List ℕ)) (count missing part : ℕ) (octets 
 takes_part a b c count missing part octets xs ys some is least rest t ready =
     subst (λ (zs : List ℕ). IsTaking a (prepend_known zs c) count (missing - part) (octets ++ take part xs)) (sym rest)
     (taking_more a b c count missing part octets xs (omega (arith, least)) (omega (arith, least)) t (ready_then b (prepend_known xs c) xs some is ready))
+
+-- and appended
+pub append_part : (new out first octets : List ℕ) (part : ℕ) (here xs : List ℕ) → new ≡ out ++ take part here → out ≡ first ++ octets → here ≡ xs → new ≡ first ++ (octets ++ take part xs)
+append_part new out first octets part here xs more was same = more ∙ ((λ i. was i ++ take part (same i)) ∙ append_assoc first octets (take part xs))

@@ -6,6 +6,7 @@ ghost use Rattle.edge_io.specs.Causes.{Rose};
 ghost use Rattle.mrt_reader.specs.Lines.{refused_text};
 ghost use Rattle.mrt_reader.specs.Kept.{IsKeptOf};
 ghost use Rattle.mrt_reader.specs.Sessions.{nothing_written};
+ghost use Rattle.mrt_reader.specs.Files.{HasRead};
 ghost use Rattle.mrt_reader.specs.Sources.{AreTaken, Gives, ReadsNone};
 
 use crate::answer::{Code, Next, Stop};
@@ -49,7 +50,8 @@ impl Model for Reader {
 impl Reader {
     /// Nothing was read. Takes no memory. With `as4` the records of use are those whose AS numbers have four octets.
     pub fn new(alloc: Global, as4: bool) -> Reader
-        ensures { result ≡ record { as4 = as4; number = 0; written = nothing_written; unread = [] } }
+        ensures nothing { result ≡ record { as4 = as4; number = 0; written = nothing_written; unread = [] } }
+        ensures begun { HasRead as4 [] [] result.number result.written }
     {
         Reader {
             as4,

@@ -1,7 +1,6 @@
-use Rattle.std.proofs.Common.{Bool, false, true, sym, ap, ◌∙◌, subst, ◌≡◌}
-use Rattle.mrt_reader.specs.Fields.{Unused, Said, Session, are_speakers, said_of_ipv4}
+use Rattle.std.proofs.Common.{sym, ap, ◌∙◌}
+use Rattle.mrt_reader.specs.Fields.{Session, are_speakers}
 use Rattle.mrt_reader.specs.Kept.{told_of}
-use Rattle.mrt_reader.specs.declared.fields.Sides.{Sides}
 use Rattle.mrt_reader.proofs.KeptLemmas.{ipv4_malformed, ipv4_unused, ipv4_session}
 use Rattle.mrt_reader.proofs.fields.read_ipv4.Goals as goal
 

@@ -1,4 +1,4 @@
-use Rattle.std.proofs.Common.{◌++◌, ◌∙◌, ap, sym, take, drop, length, min, arith}
+use Rattle.std.proofs.Common.{◌++◌, ◌∙◌, ap, take, length, min, arith}
 use Rattle.mrt_reader.proofs.TakenLemmas.{takes_part}
 use Rattle.mrt_reader.proofs.unread.Unread.skip.Goals as goal
 
