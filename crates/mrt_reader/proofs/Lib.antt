@@ -2,3 +2,4 @@ pub mod KeptLemmas
 pub mod TakenLemmas
 pub mod FileLemmas
 pub mod AnswerLemmas
+pub mod OrderLemmas

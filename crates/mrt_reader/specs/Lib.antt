@@ -5,3 +5,4 @@ pub mod Lines
 pub mod Sessions
 pub mod Files
 pub mod Sources
+pub mod Order
