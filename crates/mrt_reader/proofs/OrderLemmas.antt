@@ -6,6 +6,7 @@ use Rattle.std.proofs.lemmas.List.{get_or-set_same, get_or-drop, length-set}
 
 use Rattle.std.proofs.lemmas.List.Quantifiers.{position-Some}
 use Rattle.std.specs.List.{AllByRecursion}
+use Rattle.byteorder.specs.Numbers.{big_from-lt}
 use Rattle.bgp_attr.specs.Hosts.{is_host}
 use Rattle.mrt_reader.specs.Records.{Record, number_at, kind_in, subtype_in}
 use Rattle.mrt_reader.specs.Fields as told
@@ -119,3 +120,113 @@ sessions_order as4 w s t None e begun peer here is =
     let fresh : w ≡ nothing_written = λ i. record { local = e i; peers = begun e i } in
     order_append as4 w (opening as4 s None) (foreign_lines s.local (after_all w (opening as4 s None)) s t) (opens as4 w s fresh here)
     (faces as4 (after_all w (opening as4 s None)) s t s.local (ap (λ v. v.local) (opened as4 w s)) peer is)
+
+-- ---- speakers
+
+both_left : (a b : Bool) → (a && b) ≡ true → a ≡ true
+both_left true b e = refl
+both_left false b e = e
+
+both_right : (a b : Bool) → (a && b) ≡ true → b ≡ true
+both_right true b e = e
+both_right false b e = absurd (cc)
+
+other_than_zero : (n : ℕ) → not (eqb n 0) ≡ true → 0 < n
+other_than_zero n e = by_test (eqb n 0) refl e
+  where
+    by_test : (b : Bool) → eqb n 0 ≡ b → not b ≡ true → 0 < n
+    by_test true is f = absurd (cc)
+    by_test false is f = let other = eqb-false n 0 is in omega (arith, other)
+
+wide_number : (n i : ℕ) (octets : List ℕ) → ((k : ℕ) → slice_index octets k < 256) → number_at n i octets < 256 ^ n
+wide_number n i octets bytes = big_from-lt 0 n (drop i octets) (λ k. subst (λ (x : ℕ). x < 256) (sym (get_or-drop i octets k 0)) (bytes (i + k)))
+
+as_speaker : (as4 : Bool) (i addr : ℕ) (octets : List ℕ) → ((k : ℕ) → slice_index octets k < 256) → not (eqb (number_at (width_of as4) i octets) 0) ≡ true → is_host addr ≡ true → IsSpeaker as4 (number_at (width_of as4) i octets) addr
+as_speaker true i addr octets bytes some host = record {
+  some = other_than_zero _ some;
+  narrow = λ e. absurd (cc);
+  wide = wide_number 4 i octets bytes;
+  host = host;
+}
+as_speaker false i addr octets bytes some host =
+    let narrow : number_at 2 i octets < 65536 = wide_number 2 i octets bytes in
+    record { some = other_than_zero _ some; narrow = λ e. narrow; wide = omega (arith, narrow); host = host }
+
+-- ---- what a record says
+
+-- what is said of a session is of two speakers
+abbrev pub IsFit : Bool → Said → Type 0
+IsFit as4 told.Unused = ⊤
+IsFit as4 told.Malformed = ⊤
+IsFit as4 (told.Session s t) = IsSpeaker as4 s.peer_as s.peer × IsSpeaker as4 s.local_as s.local × IsTold t
+
+fit_session : (as4 : Bool) (kind subtype : ℕ) (body : List ℕ) → ((k : ℕ) → slice_index body k < 256) → (b : Bool) → are_speakers (sides_in as4 kind body) ≡ b → IsFit as4 (cond b (told.Session (sides_in as4 kind body) (told_in as4 kind subtype body)) told.Unused)
+fit_session as4 kind subtype body bytes false e = tt
+fit_session as4 kind subtype body bytes true e =
+    let s = sides_in as4 kind body in
+    let three = both_left (not (eqb s.peer_as 0) && not (eqb s.local_as 0) && is_host s.peer) (is_host s.local) e in
+    let two = both_left (not (eqb s.peer_as 0) && not (eqb s.local_as 0)) (is_host s.peer) three in
+    let peer_as = both_left (not (eqb s.peer_as 0)) (not (eqb s.local_as 0)) two in
+    let local_as = both_right (not (eqb s.peer_as 0)) (not (eqb s.local_as 0)) two in
+    let peer = both_right (not (eqb s.peer_as 0) && not (eqb s.local_as 0)) (is_host s.peer) three in
+    let local = both_right (not (eqb s.peer_as 0) && not (eqb s.local_as 0) && is_host s.peer) (is_host s.local) e in (
+      as_speaker as4 (start_of kind) s.peer body bytes peer_as peer,
+      as_speaker as4 (start_of kind + width_of as4) s.local body bytes local_as local,
+      is_told as4 kind subtype body,
+    )
+
+either : (as4 : Bool) (b : Bool) (x y : Said) → IsFit as4 x → IsFit as4 y → IsFit as4 (cond b x y)
+either as4 true x y p q = p
+either as4 false x y p q = q
+
+fit_ipv4 : (as4 : Bool) (kind subtype : ℕ) (body : List ℕ) → ((k : ℕ) → slice_index body k < 256) → IsFit as4 (said_of_ipv4 as4 kind subtype body)
+unfolding said_of_ipv4
+fit_ipv4 as4 kind subtype body bytes =
+    either as4 (not (is_well_sized as4 kind subtype (length body))) told.Malformed _ tt (fit_session as4 kind subtype body bytes (are_speakers (sides_in as4 kind body)) refl)
+
+fit_body : (as4 : Bool) (kind subtype : ℕ) (body : List ℕ) → ((k : ℕ) → slice_index body k < 256) → IsFit as4 (said_in as4 kind subtype body)
+unfolding said_in
+fit_body as4 kind subtype body bytes =
+    either as4 (not (is_used as4 kind subtype)) told.Unused _ tt
+    (either as4 (ltb (length body) (interface_at as4 kind + 4)) told.Malformed _ tt
+    (either as4 (eqb (number_at 2 (interface_at as4 kind + 2) body) 1) (said_of_ipv4 as4 kind subtype body) told.Unused (fit_ipv4 as4 kind subtype body bytes) tt))
+
+-- ---- the lines of records
+
+stays_begun : (w : Written) (l : Line) → (w.local ≡ None → ⊥) → (after w l).local ≡ None → ⊥
+stays_begun w lines.As4 some e = some e
+stays_begun w (lines.Local asn addr) some e = cc
+stays_begun w (lines.Peer k asn addr) some e = some e
+stays_begun w (lines.Up k) some e = some e
+stays_begun w (lines.Down k) some e = some e
+stays_begun w (lines.Bgp k octets) some e = some e
+stays_begun w lines.Idle some e = some e
+
+all_stay_begun : (w : Written) (ls : List Line) → (w.local ≡ None → ⊥) → (after_all w ls).local ≡ None → ⊥
+all_stay_begun w [] some e = some e
+all_stay_begun w (l ∷ ls) some e = all_stay_begun (after w l) ls (stays_begun w l some) e
+
+after_append : (w : Written) (xs ys : List Line) → after_all w (xs ++ ys) ≡ after_all (after_all w xs) ys
+after_append w [] ys = refl
+after_append w (x ∷ xs) ys = after_append (after w x) xs ys
+
+is_begun_behind : (as4 : Bool) (w : Written) (s : Sides) (t : Told) (local : Option ℕ) → w.local ≡ local → (after_all w (opened_lines (local_by s local) w s t (opening as4 s local))).local ≡ None → ⊥
+is_begun_behind as4 w s t (Some local) e none = all_stay_begun w (foreign_lines local w s t) (λ f. let same : Some local ≡ None = sym e ∙ f in cc) none
+is_begun_behind as4 w s t None e none =
+    let w1 = after_all w (opening as4 s None) in
+    let ls = foreign_lines s.local w1 s t in
+    all_stay_begun w1 ls (λ f. let same : Some s.local ≡ None = sym (ap (λ v. v.local) (opened as4 w s)) ∙ f in cc) (ap (λ v. v.local) (sym (after_append w (opening as4 s None) ls)) ∙ none)
+
+said_order : (as4 : Bool) (w : Written) (x : Said) → IsBegun w → IsFit as4 x → AreInOrder as4 w (lines_said as4 w x) × IsBegun (after_all w (lines_said as4 w x))
+said_order as4 w told.Unused begun fit = (tt, begun)
+said_order as4 w told.Malformed begun fit = (tt, begun)
+said_order as4 w (told.Session s t) begun fit = (
+    sessions_order as4 w s t w.local refl begun fit.0 fit.1 fit.2,
+    λ none. absurd (is_begun_behind as4 w s t w.local refl none),
+  )
+
+pub records_order : (as4 : Bool) (w : Written) (rs : List Record) → IsBegun w → AllByRecursion HasBytes rs → AreInOrder as4 w (records_lines as4 w rs)
+records_order as4 w [] begun each = tt
+records_order as4 w (r ∷ rs) begun each =
+    let one = said_order as4 w (said as4 r) begun (fit_body as4 (kind_in r.head) (subtype_in r.head) r.body each.0) in
+    order_append as4 w (record_lines as4 w r) (records_lines as4 (after_all w (record_lines as4 w r)) rs) one.0 (records_order as4 (after_all w (record_lines as4 w r)) rs one.1 each.1)

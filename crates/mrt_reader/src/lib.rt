@@ -9,6 +9,7 @@
 
 mod answer;
 mod fields;
+mod laws;
 mod lines;
 mod reader;
 mod sessions;
@@ -17,4 +18,5 @@ mod tests;
 mod unread;
 
 pub use answer::{Code, Next, Stop};
+pub use laws::lines_are_in_order;
 pub use reader::Reader;
