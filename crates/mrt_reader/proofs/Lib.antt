@@ -3,3 +3,4 @@ pub mod TakenLemmas
 pub mod FileLemmas
 pub mod AnswerLemmas
 pub mod OrderLemmas
+pub mod OneText

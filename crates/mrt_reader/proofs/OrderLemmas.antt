@@ -1,9 +1,8 @@
 -- The lines that records give stand where they may.
-use Rattle.std.proofs.Common.{◌≡◌, ℕ, ◌+◌, ◌-◌, ◌<◌, ◌≤◌, ◌^◌, Bool, true, false, cond, not, ◌&&◌, ◌||◌, eqb, ltb, leb, List, [], ◌∷◌, ◌++◌, length, drop, get_or, Option, Some, None, refl, sym, ap, ◌∙◌, subst, arith, length-append}
+use Rattle.std.proofs.Common.{◌≡◌, ℕ, ◌+◌, ◌-◌, ◌<◌, ◌≤◌, ◌^◌, Bool, true, false, cond, not, ◌&&◌, ◌||◌, eqb, ltb, leb, List, [], ◌∷◌, ◌++◌, length, drop, Option, Some, None, refl, sym, ap, ◌∙◌, subst, arith, length-append}
 use Rattle.std.specs.Prelude.{⊤, slice_index}
 use Rattle.std.proofs.lemmas.Bool.{ltb-true, leb-true, eqb-false}
 use Rattle.std.proofs.lemmas.List.{get_or-set_same, get_or-drop, length-set}
-
 use Rattle.std.proofs.lemmas.List.Quantifiers.{position-Some}
 use Rattle.std.specs.List.{AllByRecursion}
 use Rattle.byteorder.specs.Numbers.{big_from-lt}
@@ -13,10 +12,9 @@ use Rattle.mrt_reader.specs.Fields as told
 use Rattle.mrt_reader.specs.Fields.{Told, Said, said, said_in, said_of_ipv4, told_in, told_by_state, told_by_message, sides_in, are_speakers, width_of, start_of, interface_at, is_used, is_well_sized, state_subtype}
 use Rattle.mrt_reader.specs.Lines.{Line}
 use Rattle.mrt_reader.specs.Lines as lines
-use Rattle.mrt_reader.specs.Sessions.{Written, nothing_written, unseen, peer_at, begun, with_peer, after, after_all, opening, local_by, place_of, meeting, place_by, beginning, has_session, ending, hearing, hearing_at, met_lines, peer_lines, foreign_lines, opened_lines, session_lines, lines_said, record_lines, records_lines}
-use Rattle.mrt_reader.specs.Order.{IsSpeaker, IsDeclared, IsForeign, Asks, AreInOrder, HasBytes}
+use Rattle.mrt_reader.specs.Sessions.{Written, nothing_written, unseen, peer_at, begun, with_peer, after, after_all, opening, local_by, place_of, meeting, place_by, hearing, met_lines, peer_lines, foreign_lines, opened_lines, lines_said, record_lines, records_lines, closing}
+use Rattle.mrt_reader.specs.Order.{IsSpeaker, IsDeclared, IsForeign, AreInOrder, HasBytes, file_lines}
 use Rattle.mrt_reader.specs.declared.fields.Sides.{Sides}
-use Rattle.mrt_reader.specs.declared.sessions.PeerState.{PeerState}
 
 order_append : (as4 : Bool) (w : Written) (xs ys : List Line) → AreInOrder as4 w xs → AreInOrder as4 (after_all w xs) ys → AreInOrder as4 w (xs ++ ys)
 order_append as4 w [] ys p q = q
@@ -45,6 +43,7 @@ is_told as4 kind subtype body = by_subtype (eqb subtype (state_subtype as4))
   where
     octets : List ℕ
     octets = drop (interface_at as4 kind + 12) body
+
     by_subtype : (b : Bool) → IsTold (cond b (told_by_state (number_at 2 (interface_at as4 kind + 14) body)) (told_by_message (drop (interface_at as4 kind + 12) body)))
     by_subtype true = state_is_told (eqb (number_at 2 (interface_at as4 kind + 14) body) 6)
     by_subtype false = message_is_told (drop (interface_at as4 kind + 12) body) _ _ refl refl
@@ -221,12 +220,21 @@ said_order : (as4 : Bool) (w : Written) (x : Said) → IsBegun w → IsFit as4 x
 said_order as4 w told.Unused begun fit = (tt, begun)
 said_order as4 w told.Malformed begun fit = (tt, begun)
 said_order as4 w (told.Session s t) begun fit = (
-    sessions_order as4 w s t w.local refl begun fit.0 fit.1 fit.2,
-    λ none. absurd (is_begun_behind as4 w s t w.local refl none),
-  )
+  sessions_order as4 w s t w.local refl begun fit.0 fit.1 fit.2,
+  λ none. absurd (is_begun_behind as4 w s t w.local refl none),
+)
 
-pub records_order : (as4 : Bool) (w : Written) (rs : List Record) → IsBegun w → AllByRecursion HasBytes rs → AreInOrder as4 w (records_lines as4 w rs)
+records_order : (as4 : Bool) (w : Written) (rs : List Record) → IsBegun w → AllByRecursion HasBytes rs → AreInOrder as4 w (records_lines as4 w rs)
 records_order as4 w [] begun each = tt
 records_order as4 w (r ∷ rs) begun each =
     let one = said_order as4 w (said as4 r) begun (fit_body as4 (kind_in r.head) (subtype_in r.head) r.body each.0) in
     order_append as4 w (record_lines as4 w r) (records_lines as4 (after_all w (record_lines as4 w r)) rs) one.0 (records_order as4 (after_all w (record_lines as4 w r)) rs one.1 each.1)
+
+closes : (as4 : Bool) (w : Written) (local : Option ℕ) → w.local ≡ local → AreInOrder as4 w (elim local [ None ↦ [] | Some addr ↦ lines.Idle ∷ [] ])
+closes as4 w None e = tt
+closes as4 w (Some addr) e = ((λ none. let same : Some addr ≡ None = sym e ∙ none in cc), tt)
+
+pub file_order : (as4 : Bool) (rs : List Record) → AllByRecursion HasBytes rs → AreInOrder as4 nothing_written (file_lines as4 rs)
+file_order as4 rs each =
+    let ls = records_lines as4 nothing_written rs in
+    order_append as4 nothing_written ls (closing (after_all nothing_written ls)) (records_order as4 nothing_written rs (λ _. refl) each) (closes as4 (after_all nothing_written ls) (after_all nothing_written ls).local refl)

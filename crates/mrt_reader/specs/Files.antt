@@ -1,5 +1,5 @@
 -- The text that a whole file gives, and where it is refused.
-use Rattle.std.specs.Prelude.{◌≡◌, ◌≢◌, ℕ, ◌+◌, ◌<◌, ◌≤◌, Bool, List, ◌++◌, length}
+use Rattle.std.specs.Prelude.{◌≡◌, ◌≢◌, ℕ, ◌+◌, ◌<◌, ◌≤◌, Bool, List, [], ◌++◌, length, Option, Some, None}
 use Rattle.std.specs.List.{AllByRecursion, flat_map}
 use Rattle.mrt_reader.specs.Records.{Record, IsRecord, octets_of, HoldNone}
 use Rattle.mrt_reader.specs.Fields.{said, Malformed}
@@ -23,14 +23,6 @@ pub record HasRead (as4 : Bool) (read text : List ℕ) (number : ℕ) (written :
   pub lines : text ≡ text_of (records_lines as4 nothing_written records)
   pub behind : written ≡ after_all nothing_written (records_lines as4 nothing_written records)
 
--- The file is sound records, and this is the text of their lines and of the last one.
-pub record IsTextOfFile (as4 : Bool) (file text : List ℕ) : Type 0 where
-  pub number : ℕ
-  pub written : Written
-  pub lines : List ℕ
-  pub read : HasRead as4 file lines number written
-  pub closed : text ≡ lines ++ text_of (closing written)
-
 -- Why a file is refused behind so many records, by what follows them: it ends within a record; the next record's fields and its length
 -- don't agree; or it has a record more than may be.
 abbrev pub IsRefusal : Bool → ℕ → List ℕ → Code → Type 0
@@ -38,15 +30,28 @@ IsRefusal as4 n rest M1 = (n < 1000000000) × (0 < length rest) × HoldNone rest
 IsRefusal as4 n rest M2 = (n < 1000000000) × ((r : Record) × (more : List ℕ) × IsRecord r × (rest ≡ octets_of r ++ more) × (said as4 r ≡ Malformed))
 IsRefusal as4 n rest M3 = (n ≡ 1000000000) × (0 < length rest)
 
--- The file is refused at a record, and this is the text of the lines before it and of the refusal.
-pub record IsTextOfRefused (as4 : Bool) (file text : List ℕ) : Type 0 where
+-- Reading ends behind so many records: the file is over, or refused.
+abbrev pub IsEnd : Bool → ℕ → List ℕ → Option Code → Type 0
+IsEnd as4 n rest None = rest ≡ []
+IsEnd as4 n rest (Some code) = IsRefusal as4 n rest code
+
+-- the text of the last line, or of the refusal at the next record
+abbrev pub end_text : ℕ → Written → Option Code → List ℕ
+end_text n written None = text_of (closing written)
+end_text n written (Some code) = refused_text (n + 1) code
+
+-- This is the text of a file, whose reading ends so: of the lines of the sound records at its front, and of the end.
+pub record IsTextOf (as4 : Bool) (file text : List ℕ) (end : Option Code) : Type 0 where
   pub number : ℕ
-  pub code : Code
   pub written : Written
   pub front : List ℕ
   pub rest : List ℕ
   pub lines : List ℕ
   pub split : file ≡ front ++ rest
   pub read : HasRead as4 front lines number written
-  pub refused : IsRefusal as4 number rest code
-  pub said : text ≡ lines ++ refused_text (number + 1) code
+  pub ends : IsEnd as4 number rest end
+  pub said : text ≡ lines ++ end_text number written end
+
+-- A file has one text and one end.
+abbrev pub TextsAreOne : Type 0
+TextsAreOne = (as4 : Bool) (file a b : List ℕ) (end other : Option Code) → IsTextOf as4 file a end → IsTextOf as4 file b other → (a ≡ b) × (end ≡ other)

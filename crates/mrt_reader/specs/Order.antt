@@ -1,11 +1,11 @@
 -- The text of a file may be run: each line asks something of the lines before it, which they give.
-use Rattle.std.specs.Prelude.{◌≡◌, ℕ, ◌+◌, ◌-◌, ◌<◌, ◌≤◌, ◌^◌, ◌==◌, Bool, true, false, List, [], ◌∷◌, length, slice_index, Option, Some, None, ⊤}
+use Rattle.std.specs.Prelude.{◌≡◌, ℕ, ◌+◌, ◌-◌, ◌<◌, ◌≤◌, ◌^◌, ◌==◌, Bool, true, false, List, [], ◌∷◌, ◌++◌, length, slice_index, Option, Some, None, ⊤}
 use Rattle.std.specs.List.{AllByRecursion}
 use Rattle.bgp_attr.specs.Hosts.{is_host}
 use Rattle.mrt_reader.specs.Records.{Record}
 use Rattle.mrt_reader.specs.Lines.{Line}
 use Rattle.mrt_reader.specs.Lines as lines
-use Rattle.mrt_reader.specs.Sessions.{Written, nothing_written, after, peer_at, place_of, records_lines, closing}
+use Rattle.mrt_reader.specs.Sessions.{Written, nothing_written, after, after_all, peer_at, place_of, records_lines, closing}
 
 -- an AS number and an address that a speaker may have
 pub record IsSpeaker (as4 : Bool) (asn addr : ℕ) : Type 0 where
@@ -43,6 +43,10 @@ AreInOrder as4 w (l ∷ ls) = Asks as4 w l × AreInOrder as4 (after w l) ls
 abbrev pub HasBytes : Record → Type 0
 HasBytes r = (i : ℕ) → slice_index r.body i < 256
 
+-- the lines of a file of these records
+abbrev pub file_lines : Bool → List Record → List Line
+file_lines as4 records = records_lines as4 nothing_written records ++ closing (after_all nothing_written (records_lines as4 nothing_written records))
+
 -- Each line that records give stands where it may.
 abbrev pub LinesAreInOrder : Type 0
-LinesAreInOrder = (as4 : Bool) (records : List Record) → AllByRecursion HasBytes records → AreInOrder as4 nothing_written (records_lines as4 nothing_written records)
+LinesAreInOrder = (as4 : Bool) (records : List Record) → AllByRecursion HasBytes records → AreInOrder as4 nothing_written (file_lines as4 records)

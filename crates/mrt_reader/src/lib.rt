@@ -3,8 +3,9 @@
 //! A capture of BGP sessions, as routers and route collectors write them, is records, one after the other. A [`Reader`] takes
 //! them from a source, one by one and in constant memory, and gives the lines of an event file: this speaker and the peers by
 //! the addresses of the records (`local`, `peer`), their sessions (`up`, `down`) and their messages (`bgp`), and `idle` at the
-//! end. Which lines a record gives (`record_lines`) depends on the lines before it alone; the text of a whole file
-//! (`IsTextOfFile`), and where a file is refused (`IsTextOfRefused`), are defined in `specs/`.
+//! end. Which lines a record gives (`record_lines`) depends on the lines before it alone. What a whole file gives, and where it
+//! is refused, is defined in `specs/` (`IsTextOf`); that a file has one such text is a law ([`texts_are_one`]), and so is that
+//! each line stands where it may ([`lines_are_in_order`]).
 #![tactic(auto)]
 
 mod answer;
@@ -18,5 +19,5 @@ mod tests;
 mod unread;
 
 pub use answer::{Code, Next, Stop};
-pub use laws::lines_are_in_order;
+pub use laws::{lines_are_in_order, texts_are_one};
 pub use reader::Reader;
