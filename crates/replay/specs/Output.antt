@@ -25,7 +25,8 @@ pub record Step (n : ℕ) (m : Moment) (line : List ℕ) (said : List Line) (nex
   pub accepted : judge n m.declared line ≡ Ok event
   pub acts : Acts m event turns next said
   pub declared : next.declared ≡ declared_after m.declared event
-  -- each link that no work holds up is what the live state alone asks for, and after an idle every link is
+  -- at each prefix, each link that no work holds up there has the row that the live state alone asks for, and after an idle every link
+  -- is what it asks for
   pub rest : IsExactAtRest next
   pub idle : event ≡ Idle → IsExact next
   -- what each peer has heard are the rows of its `adv.J.S`, and after an idle what the live state alone asks for

@@ -10,7 +10,7 @@ use Rattle.loss_chain.specs.Tables.{lost_count}
 use Rattle.in_chain.specs.Chains.{Chained, turns_left, walk_turns}
 use Rattle.in_chain.specs.Laws.{TurnsAreBounded, TurnsAreLeft}
 use Rattle.link_region.proofs.RegionLemmas.{by_bool}
-use Rattle.peer_side.specs.Peers.{lost_of, lost_in, left_in}
+use Rattle.peer_side.specs.Peers.{lost_of, lost_in, left_in, Chains, rows_in}
 use Rattle.peer_side.proofs.CountLemmas.{left_below, lost_below}
 use Rattle.rib_tree.specs.Trees.{Treed, branch_of, tree_count, int_candidates}
 use Rattle.rib_exit.proofs.BusyLemmas.{none_left_without_work as external_idle, turns_are_bounded as external_bounded}
@@ -29,7 +29,6 @@ use Rattle.link_change.proofs.MapLemmas.{sum_none, one_of_sum, all_values}
 use Rattle.fanout_queue.specs.Readers.{unread_or_none}
 use Rattle.exit_side.specs.Exits.{OutChains}
 use Rattle.exit_side.proofs.LawLemmas.{turns_bounded, none_left_without_work as exits_idle}
-use Rattle.peer_side.specs.Peers.{Chains, rows_in}
 use Rattle.router_core.specs.Bests.{Queues}
 use Rattle.router_core.specs.Moments.{Moment, most_unread, candidates_of}
 use Rattle.router_core.specs.Stands.{Stands, InteriorTree, EachChain}
@@ -135,9 +134,7 @@ changes_below m Red stands = own_sends_below m
 changes_below m Del stands = lost_below m.chains
 changes_below m Fin stands = fin_sends_below m.chains
 changes_below m Nh stands = sends_below m stands
-changes_below m ReadRib stands = omega arith
-changes_below m Out stands = omega arith
-changes_below m Ext stands = omega arith
+changes_below m other stands = omega arith
 
 -- ---- a phase is over exactly where no turn of it is left
 pub over_none : (r : Phase) (m : Moment) → IsOver r m → counts m r ≡ 0

@@ -5,12 +5,11 @@ use Rattle.std.proofs.lemmas.Bool.Decides.{nat_tests}
 use Rattle.std.proofs.lemmas.List.{append-nil}
 use Rattle.std.specs.FinMap as tables
 use Rattle.std.specs.FinMap.{get-insert}
-use Rattle.std.specs.Ordering.{nat_cmp, eq_by_cmp}
 use Rattle.std.specs.Cmp.{nat_cmp_total}
 use Rattle.bgp_attr.specs.declared.attrs.Attrs.{Attrs}
 use Rattle.bgp_attr.specs.declared.route.Route.{Route}
 use Rattle.bgp_attr.specs.declared.speaker.Speaker.{Speaker}
-use Rattle.link_change.specs.Rows.{Rows, Candidates}
+use Rattle.link_change.specs.Rows.{Rows}
 use Rattle.link_change.specs.Changes.{IsSent}
 use Rattle.link_change.specs.InOrder.{rows_before, ChangesLead}
 use Rattle.link_change.proofs.InOrderLemmas.{before_is_old}
@@ -48,7 +47,7 @@ use Rattle.fanout_queue.specs.Readers.{unread_or_none, read_rows}
 use Rattle.fanout_queue.proofs.LeadLemmas.{take_keeps_leading, each_reader_leads}
 use Rattle.out_chain.specs.Chains.{OutChained, is_unread}
 use Rattle.out_chain.specs.Steps.{sending_entries, said_of, message_lines}
-use Rattle.exit_side.specs.Exits.{Exited, chain_at as exit_at, with_exit, with_queue, AllStand, has_exit_work}
+use Rattle.exit_side.specs.Exits.{Exited, chain_at as exit_at, with_exit, with_queue, AllStand}
 use Rattle.exit_side.specs.Steps.{TurnsExit, ComesOut}
 use Rattle.exit_side.specs.Laws.{KeepsStranger, StaysWithQueue, StrangersTake}
 use Rattle.exit_side.proofs.StrangerLemmas.{turn_keeps}
@@ -68,7 +67,7 @@ use Rattle.router_core.proofs.QueueLemmas.{reader_live}
 use Rattle.router_core.proofs.HeardSteps.{heard_quiet, exits_declared}
 use Rattle.router_core.proofs.StaleLemmas.{kept_or_learnt, all_as_before, none_as_before, none_goes_stale}
 use Rattle.router_core.proofs.ReadingLemmas.{best_counted, take_most}
-use Rattle.router_core.proofs.SessionLemmas.{stands_exits, external_kept, strangers_read, reads_as, exits_lead, exit_here, exit_elsewhere}
+use Rattle.router_core.proofs.SessionLemmas.{stands_exits, external_kept, strangers_read, reads_as, exits_lead, exit_here, exit_elsewhere, key_same}
 use Rattle.router_core.proofs.ExternalTurns.{forward_leads, exit_unheard, stands_forward}
 
 -- ---- whether the forwarding side has something to read
@@ -88,9 +87,6 @@ pub reads_nothing : (m v : Moment) → v ≡ m → v.reader ≡ None → false �
 reads_nothing m v view none = ap (λ (o : Option ℕ). is_unread (unread_if v.exits.queue o)) (sym none) ∙ ap (λ (x : Moment). is_unread (unread_if x.exits.queue x.reader)) view
 
 -- ---- a turn of the forwarding side
-key_same : (k : ℕ) → eq_by_cmp nat_cmp k k ≡ true
-key_same k = grind (arith, nat_tests)
-
 -- it reads from `local` on
 reads_since : (s : Option Speaker) (o : Option ℕ) (e : Exited) (r : ℕ) → o ≡ Some r → ReadsOn s o e → (me : Speaker) × (s ≡ Some me)
 reads_since (Some me) o e r is on = (me, refl)
@@ -221,9 +217,6 @@ reader_took law m v m1 m' r change e before l now view stands reads takes after 
 pub reader_same : (v : Moment) (e : Exited) (o : Option ℕ) → o ≡ v.reader → record v { exits = e; reader = o } ≡ with_exits v e
 reader_same v e o same = ap (λ (q : Option ℕ). record v { exits = e; reader = q }) same
 
-pub reader_rests : (m v m' : Moment) (before : Journaled) → v ≡ m → v.reader ≡ None → m' ≡ v → Comes tasks.ReadRib m m' before before Nothing
-reader_rests m v m' before view none same = (sym (reads_nothing m v view none), same ∙ view, refl)
-
 pub nothing_unread : (m v m' : Moment) (r : ℕ) (e : Exited) (before : Journaled) → v ≡ m → v.reader ≡ Some r → Takes v.exits.queue e.queue r None → e ≡ with_queue e.queue v.exits → m' ≡ with_exits v e → Comes tasks.ReadRib m m' before before Nothing
 nothing_unread m v m' r e before view reads takes after is = (
   ap (λ (x : Moment). is_unread (unread_if x.exits.queue x.reader)) (sym view) ∙ ap (λ (o : Option ℕ). is_unread (unread_if v.exits.queue o)) reads ∙ ap (λ u. is_unread (unread_or_none u)) takes.0,
@@ -311,12 +304,6 @@ exit_took m v k e before j now turn rested told some view stands comes is =
     by_turn turns.Nothing other c = absurd (other refl)
     by_turn turns.Quiet other c = (c.0, is ∙ ap flushed c.1, exit_done v k None e c.0 (subst Stands (sym view) stands) c.2)
     by_turn (turns.Sent change) other c = (c.0, is ∙ ap flushed c.1, exit_done v k (Some change) e c.0 (subst Stands (sym view) stands) c.2)
-
-pub exit_rests : (m v : Moment) (k : ℕ) (e : Exited) (candidates : Candidates) (best : Rows Route) (before j : Journaled) (turn : Turn Attrs) (rested : Bool) → MatchBool rested (turn ≡ turns.Nothing) (turn ≢ turns.Nothing) → rested ≡ true → v ≡ m → ComesOut k candidates best v.exits e before j turn → Comes (tasks.Out k) m (with_exits v e) before j Nothing
-exit_rests m v k e candidates best before j turn rested told none view comes =
-    let idle : turn ≡ turns.Nothing = subst (λ (b : Bool). MatchBool b (turn ≡ turns.Nothing) (turn ≢ turns.Nothing)) none told in
-    let c : ComesOut k candidates best v.exits e before j turns.Nothing = subst (ComesOut k candidates best v.exits e before j) idle comes in
-    (ap (λ (x : Moment). has_exit_work x.exits k) (sym view) ∙ c.0, ap (with_exits v) c.1 ∙ view, c.2)
 
 -- what the turn asks for
 pub exits_stand : (m v : Moment) → v ≡ m → Stands m → AllStand (best_rows (lent_rows (own_of v) v.chains v.hops)) v.exits

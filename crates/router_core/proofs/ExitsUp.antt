@@ -11,7 +11,6 @@ use Rattle.policy_rules.specs.declared.rule.Rule.{Rule}
 use Rattle.fanout_queue.specs.Queues.{Queued}
 use Rattle.journal_text.specs.declared.line.Line.{Line}
 use Rattle.link_region.proofs.RegionLemmas.{by_bool}
-use Rattle.loss_chain.proofs.TableLemmas.{equal_by}
 use Rattle.rib_route.specs.declared.Proto.{Proto}
 use Rattle.addr4.specs.Prefixes.{Network}
 use Rattle.event_text.specs.declared.event.Event.{Event}
@@ -34,6 +33,7 @@ use Rattle.router_core.specs.Stands.{AllHaveExits}
 use Rattle.router_core.specs.Phases.{all_phases}
 use Rattle.router_core.specs.Blocks.{Declares, BySpeaker, Begins, Loses, ByPeer, BeginsIf, EndsIf, HearsIf, Hears, DropsRouteIf, IsBlock}
 use Rattle.router_core.specs.Works.{HaveSameExits}
+use Rattle.router_core.proofs.SessionLemmas.{number_at}
 use Rattle.router_core.proofs.PeerLemmas.{peer_at_map}
 use Rattle.router_core.proofs.TurnWalks.{turns_same, phases_same, first_same, feeds_same, route_same}
 
@@ -48,11 +48,6 @@ of_option f (Some p) q is = (p, refl, let same : Some (f p) ≡ Some q = is in c
 -- the peer that a mapped one was
 was_at : (f : DeclaredPeer → DeclaredPeer) → KeepsWords f → (j : ℕ) (ps : List DeclaredPeer) (q : DeclaredPeer) → peer_at j (map f ps) ≡ Some q → (p : DeclaredPeer) × (peer_at j ps ≡ Some p) × (f p ≡ q)
 was_at f keeps j ps q at = of_option f (peer_at j ps) q (sym (peer_at_map f keeps j ps) ∙ at)
-
-number_of_found : (k : ℕ) (ps : List DeclaredPeer) (p : DeclaredPeer) → peer_at k ps ≡ Some p → p.words.number ≡ k
-number_of_found k [] p at = absurd (let clash : ◌≡◌ {A = Option DeclaredPeer} None (Some p) = at in cc)
-number_of_found k (q ∷ ps) p at = by_bool (nat_eq q.words.number k) (λ b. cond b (Some q) (peer_at k ps) ≡ Some p → p.words.number ≡ k)
-    (λ e here. let same : q ≡ p = (let some : Some q ≡ Some p = here in cc) in subst (λ (x : DeclaredPeer). x.words.number ≡ k) same (equal_by q.words.number k e)) (λ _ later. number_of_found k ps p later) at
 
 -- where a session ends, who is up was up, and the peer isn't
 ended_up : (k : ℕ) (p : DeclaredPeer) → (ended_at k p).up ≡ true → p.up ≡ true
@@ -69,7 +64,7 @@ up_ended d k j is =
 down_ended : (d : Declaration) (k : ℕ) → IsUpIn k (without_session d k) → ⊥
 down_ended d k is =
     let was = was_at (ended_at k) (ended_words k) k d.peers is.0 is.1 in
-    let here : nat_eq was.0.words.number k ≡ true = (let same = number_of_found k d.peers was.0 was.1 in grind (arith, nat_tests)) in
+    let here : nat_eq was.0.words.number k ≡ true = (let same = number_at k d.peers was.0 was.1 in grind (arith, nat_tests)) in
     let down : (ended_at k was.0).up ≡ false = ap (λ (b : Bool). (cond b (record { words = was.0.words; session = was.0.session; up = false }) was.0).up) here in
     let up : (ended_at k was.0).up ≡ true = ap (λ (p : DeclaredPeer). p.up) was.2 ∙ is.2 in
     let clash : true ≡ false = sym up ∙ down in cc
@@ -83,7 +78,7 @@ begun_up k p apart =
 up_begun : (d : Declaration) (k j : ℕ) → j ≢ k → IsUpIn j (with_session d k) → IsUpIn j d
 up_begun d k j apart is =
     let was = was_at (begun_at k) (begun_words k) j d.peers is.0 is.1 in
-    let number : was.0.words.number ≡ j = number_of_found j d.peers was.0 was.1 in
+    let number : was.0.words.number ≡ j = number_at j d.peers was.0 was.1 in
     let same : begun_at k was.0 ≡ was.0 = begun_up k was.0 (λ e. apart (sym number ∙ e)) in
     (was.0, was.1, ap (λ (p : DeclaredPeer). p.up) (sym same ∙ was.2) ∙ is.2)
 
@@ -123,7 +118,7 @@ module _ (m m' : Moment) (all : AllHaveExits m) where
   -- one begins
   began : (me : Speaker) (k : ℕ) (p : DeclaredPeer) (said : List Line) → peer_at k m.declared.peers ≡ Some p → Begins me k p m said m' → AllHaveExits m'
   began me k p said there b j q at up =
-      let number : p.words.number ≡ k = number_of_found k m.declared.peers p there in
+      let number : p.words.number ≡ k = number_at k m.declared.peers p there in
       let new : OutChained = new_out (exit_to m.exits.profile me p.words) p.words (p.session + 1) b.begins.reader (rules_to k m.outgoing) in
       let queue : Queued Route = tables.insert m.exits.queue b.begins.reader [] in
       by_number j p.words.number (λ _. IsSome (exit_at j m'.exits))

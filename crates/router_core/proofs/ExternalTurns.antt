@@ -24,7 +24,7 @@ use Rattle.link_region.specs.Regions.{Sides, joined, with_side}
 use Rattle.loss_chain.proofs.TableLemmas.{no_table}
 use Rattle.rib_tree.specs.Trees.{int_rows}
 use Rattle.rib_exit.specs.declared.exit.RibExit.{RibExit}
-use Rattle.rib_exit.specs.Exits.{exit_links as external_links, ext_candidates, ext_rows, IsExit, AgreesWith, StandsOver, has_ext_work, left_in}
+use Rattle.rib_exit.specs.Exits.{exit_links as external_links, ext_candidates, ext_rows, IsExit, AgreesWith, StandsOver, left_in}
 use Rattle.rib_exit.specs.Steps.{LeadsExit, KeepsAgreed, TurnsExit, ComesOut}
 use Rattle.rib_exit.proofs.LawLemmas.{stands_at_first}
 use Rattle.fanout_queue.specs.Queues.{AllLead}
@@ -36,7 +36,7 @@ use Rattle.hop_side.specs.Steps.{HasNoInterest}
 use Rattle.hop_side.proofs.LawLemmas.{strangers_agree}
 use Rattle.peer_side.specs.Peers.{chain_at}
 use Rattle.event_text.specs.Declarations.{peer_at}
-use Rattle.router_core.specs.declared.router.Done.TheVariants.{Nothing, Taken}
+use Rattle.router_core.specs.declared.router.Done.TheVariants.{Taken}
 use Rattle.router_core.specs.Moments.{Moment, plain, best_of, read_of, read_rows_by, forward_by, parts, router_links, with_exits, with_rib}
 use Rattle.router_core.specs.Phases.{table_beyond, external_beyond}
 use Rattle.router_core.specs.Stands.{Stands, Claim, Claims, EachResolver, SameResolvers, AnswersAgree, NoStrangers, SmallNumbers, EachExit, QueueLeads, ExitsRead, PlainExits, SameSessions, OneReader, ExternalExit, ExternalAgrees, ExternalStands, NothingExternal, Tie, Ties, Registered, here, ExitsAt, ReadsOn}
@@ -153,13 +153,6 @@ external_took m v m' r x before j now turn rested is some view stands comes afte
     by_turn turns.Nothing other c = absurd (other refl)
     by_turn turns.Quiet other c = (journal_lines c.0, flush ∙ ap flushed c.1, external_done v r x None c.0 (subst Stands (sym view) stands) c.2)
     by_turn (turns.Sent change) other c = (journal_lines c.0, flush ∙ ap flushed c.1, external_done v r x (Some change) c.0 (subst Stands (sym view) stands) c.2)
-
-pub external_rests : (m v m' : Moment) (r : Registry Interior) (x : RibExit) (before j : Journaled) (turn : Turn FibRow) (rested : Bool) → MatchBool rested (turn ≡ turns.Nothing) (turn ≢ turns.Nothing) → rested ≡ true → v ≡ m
-    → ComesOut (int_rows v.tree) v.registry r v.rib x before j turn → m' ≡ with_rib v r x → Comes tasks.Ext m m' before j Nothing
-external_rests m v m' r x before j turn rested is none view comes after =
-    let idle : turn ≡ turns.Nothing = subst (λ (b : Bool). MatchBool b (turn ≡ turns.Nothing) (turn ≢ turns.Nothing)) none is in
-    let c : ComesOut (int_rows v.tree) v.registry r v.rib x before j turns.Nothing = subst (ComesOut (int_rows v.tree) v.registry r v.rib x before j) idle comes in
-    (ap (λ (n : Moment). has_ext_work n.rib) (sym view) ∙ c.0, after ∙ ap (λ (y : RibExit). with_rib v r y) c.1 ∙ ap (λ (y : Registry Interior). with_rib v y v.rib) c.2 ∙ view, c.3)
 
 -- what the calls ask for
 pub rib_sound : (m v : Moment) → v ≡ m → Stands m → IsExit v.rib

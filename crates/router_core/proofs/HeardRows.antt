@@ -27,7 +27,7 @@ use Rattle.nexthop_resolver.specs.declared.rows.Metric.{Metric}
 use Rattle.nexthop_resolver.specs.Kept.{route_hop, with_igp, with_metric}
 use Rattle.nexthop_resolver.specs.Resolving.{Resolving, Answers, in_force_by, fresh_by, walk_to, goes_on, made_by}
 use Rattle.journal_text.specs.declared.link.Task.{Task}
-use Rattle.journal_text.specs.declared.link.Task.TheVariants.{Del, Fin, Nh, ReadRib, Out, Rdel, Red, Ext}
+use Rattle.journal_text.specs.declared.link.Task.TheVariants.{Del, Fin}
 use Rattle.journal_text.specs.declared.entry.Entry.{Entry}
 use Rattle.journal_text.specs.declared.value.Value.{Value}
 use Rattle.in_chain.specs.Chains.{Chained, filt_rows}
@@ -73,12 +73,7 @@ swept_heard s p c heard q r is = heard q r (turns_bring_no_row s p c.incoming.ta
 pub turned_heard : (task : Task) (c less : Chained) (sent : Option (Change Route)) (fall : List (Entry Value)) → Turned c less task sent fall → IsHeardChain c → IsHeardChain less
 turned_heard (Del k s) c less sent fall t heard = subst IsHeardChain (sym t.1.after) (swept_heard s t.1.prefix c heard)
 turned_heard (Fin k) c less sent fall t heard = subst IsHeardChain (sym t.1.after) heard
-turned_heard (Nh k) c less sent fall t heard = absurd t
-turned_heard ReadRib c less sent fall t heard = absurd t
-turned_heard (Out k) c less sent fall t heard = absurd t
-turned_heard (Rdel proto n) c less sent fall t heard = absurd t
-turned_heard Red c less sent fall t heard = absurd t
-turned_heard Ext c less sent fall t heard = absurd t
+turned_heard other c less sent fall t heard = absurd t
 
 -- and of all chains, where another stands for a peer
 pub put_heard : (k : ℕ) (c' : Chained) (a cs : Chains) → cs ≡ put_chain k c' a → IsHeardChain c' → RowsWereHeard a → RowsWereHeard cs
@@ -162,7 +157,4 @@ changes_heard u own =
 -- what octets say may be heard
 pub message_heard : (external : Bool) (octets : List ℕ) (message : Message) → AreOctets octets → Reads plain external octets message → IsHeardMessage message
 message_heard external octets (messages.Update u) are reads = λ a at. read_may_be_heard plain external octets u a are reads at
-message_heard external octets messages.Keepalive are reads = tt
-message_heard external octets messages.Notification are reads = tt
-message_heard external octets messages.Skip are reads = tt
-message_heard external octets (messages.Notify n) are reads = tt
+message_heard external octets other are reads = tt

@@ -7,12 +7,12 @@ use Rattle.link_change.specs.declared.change.Change.{Change}
 use Rattle.event_text.specs.declared.declared.DeclaredPeer.{DeclaredPeer}
 use Rattle.event_text.specs.Declarations.{Declaration, peer_at}
 use Rattle.journal_text.specs.declared.link.Link.{Link}
-use Rattle.journal_text.specs.declared.link.Link.TheVariants.{Red, Best, Ext, Fib}
+use Rattle.journal_text.specs.declared.link.Link.TheVariants.{Red, Best, Fib}
 use Rattle.journal_text.specs.declared.value.Value.{Value}
 use Rattle.journal_text.specs.declared.entry.Entry.{Entry}
 use Rattle.journal_text.specs.declared.line.Line.{Line}
 use Rattle.journal_text.specs.Texts.{entries_of}
-use Rattle.journal_text.specs.Values.{external_value, fib_value, valued_change, sent_entries}
+use Rattle.journal_text.specs.Values.{fib_value, sent_entries}
 use Rattle.journal_text.specs.Walk.{Links}
 use Rattle.journal_laws.specs.Peers.{words_in, neighbours}
 use Rattle.link_region.specs.declared.regions.Region.TheVariants.{Inward, Resolved}
@@ -26,14 +26,7 @@ use Rattle.live_state.specs.Heard.{Hears, Views}
 use Rattle.hop_side.specs.Steps.{LeadsRes}
 use Rattle.link_change.specs.Rows.{Rows}
 use Rattle.rib_route.specs.declared.rows.Interior.{Interior}
-use Rattle.rib_route.specs.declared.rows.External.{External}
 use Rattle.rib_route.specs.declared.rows.FibRow.{FibRow}
-use Rattle.rib_split.specs.declared.split.BgpLink.{BgpLink}
-use Rattle.rib_split.specs.declared.split.Split.{Split}
-use Rattle.rib_split.specs.declared.split.Split.TheVariants.{Neither, One, Moved}
-use Rattle.rib_split.specs.Splitting.{other}
-use Rattle.rib_exit.specs.Exits.{journal_link}
-use Rattle.rib_exit.specs.Passing.{Caused, caused_entries, part_entries, fall_entries}
 use Rattle.rib_exit.specs.Steps.{fib_entries}
 use Rattle.router_core.specs.Bests.{own_entries, best_entries, Queues}
 use Rattle.router_core.specs.Moments.{Moment, Policies}
@@ -94,15 +87,6 @@ pub own_unheard : (own best : Option (Change Route)) → AreUnheard (journal_lin
 own_unheard own best = unheard_joins (own_entries own) (best_entries best) (sent_unheard _ Red own) (sent_unheard _ Best best)
 
 -- ---- of what goes on to `fib`: from the splitter, with all that each part causes,
-part_unheard : (link : BgpLink) (change : Change External) (caused : Caused) → AreUnheard (journal_lines (part_entries link change caused))
-part_unheard link change caused =
-    unheard_joins (valued_change external_value (journal_link link) change) (caused_entries caused) (sent_unheard external_value (journal_link link) (Some change))
-    (unheard_joins (sent_entries external_value Ext caused.ext) (sent_entries fib_value Fib caused.fib) (sent_unheard external_value Ext caused.ext) (sent_unheard fib_value Fib caused.fib))
-
-pub external_unheard : (split : Split) (first second : Caused) → AreUnheard (journal_lines (fall_entries split first second))
-external_unheard Neither first second = tt
-external_unheard (One link change) first second = part_unheard link change first
-external_unheard (Moved link add delete) first second = unheard_joins (part_entries link add first) (part_entries (other link) delete second) (part_unheard link add first) (part_unheard (other link) delete second)
 
 -- and from `int`
 pub fib_unheard : (fib : Option (Change FibRow)) → AreUnheard (journal_lines (fib_entries fib))

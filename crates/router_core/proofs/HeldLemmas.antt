@@ -1,11 +1,10 @@
 -- The first task that holds up a prefix: phase by phase, protocol by protocol, and by the numbers of peers.
-use Rattle.std.proofs.Common.{◌≡◌, ℕ, suc, ◌+◌, ◌-◌, ◌<◌, ◌≤◌, ◌||◌, Bool, true, false, List, [], ◌∷◌, ◌++◌, length, drop, get_or, Option, Some, None, refl, sym, ap, subst, ◌∙◌, arith}
+use Rattle.std.proofs.Common.{◌≡◌, ℕ, suc, ◌+◌, ◌-◌, ◌<◌, ◌≤◌, ◌||◌, Bool, true, false, List, ◌++◌, length, drop, get_or, Option, Some, None, refl, sym, ap, subst, ◌∙◌, arith}
 use Rattle.std.specs.Prelude.{option_map, slice_get}
 use Rattle.std.specs.List.{find, flat_map, list_any, range_with_len}
 use Rattle.std.specs.Option.{option_or}
 use Rattle.std.proofs.lemmas.List.{drop_more}
 use Rattle.std.proofs.lemmas.List.Folds.{find-append}
-use Rattle.std.proofs.Math.ListN.{drop_of_length-le}
 use Rattle.addr4.specs.Prefixes.{Network}
 use Rattle.journal_text.specs.declared.link.Task.{Task}
 use Rattle.journal_text.specs.declared.link.Task.TheVariants as tasks
@@ -51,9 +50,6 @@ module _ (m : Moment) (p : Network) where
   pub phase_holds : (phases : List Phase) (i : ℕ) (x : Phase) (found : Option Task) (task : Task) → phases ≡ all_phases → i < length all_phases → first_held m p ≡ from_phase i → found ≡ held_in (get_or phases i x) m p → found ≡ Some task
       → Some task ≡ first_held m p
   phase_holds phases i x found task same within so is some = sym (of_phase phases i x found (Some task) same within so is some)
-
-  pub no_phase : (i : ℕ) → length all_phases ≤ i → first_held m p ≡ from_phase i → None ≡ first_held m p
-  no_phase i past so = sym (so ∙ ap (λ (rs : List Phase). held (flat_map (λ r. phase_tasks r m) rs)) (drop_of_length-le all_phases past))
 
   -- ---- protocol by protocol
   abbrev pub held_of : Proto → Option Task

@@ -1,5 +1,5 @@
 -- One turn of the next hops of a peer.
-use Rattle.std.proofs.Common.{◌≡◌, ℕ, ◌+◌, ◌≤◌, false, List, ◌++◌, Option, Some, None, is_some, refl, sym, ap, subst, ◌∙◌, arith}
+use Rattle.std.proofs.Common.{◌≡◌, ℕ, ◌+◌, ◌≤◌, List, ◌++◌, Option, Some, None, is_some, refl, sym, ap, subst, ◌∙◌, arith}
 use Rattle.std.specs.FinMap as tables
 use Rattle.addr4.specs.Prefixes.{Network}
 use Rattle.bgp_attr.specs.declared.route.Route.{Route}
@@ -17,8 +17,8 @@ use Rattle.journal_text.specs.Journals.{Journaled, Adds, flushed}
 use Rattle.loss_chain.proofs.TableLemmas.{no_table}
 use Rattle.in_chain.specs.Chains.{Chained, filt_rows, filt_candidates}
 use Rattle.in_chain.proofs.TurnLemmas.{candidates_are_counted}
-use Rattle.hop_side.specs.Resolvers.{Resolvers, resolver_at, busy_by, has_hop_work, AllAgree, IsHops}
-use Rattle.hop_side.specs.Steps.{GoesOn, TurnsBelow, ComesBelow}
+use Rattle.hop_side.specs.Resolvers.{Resolvers, resolver_at, busy_by, AllAgree, IsHops, PeerRows, left_in}
+use Rattle.hop_side.specs.Steps.{GoesOn, TurnsBelow, ComesBelow, ComesOn}
 use Rattle.peer_side.specs.Peers.{chain_at, filt_by, filt_at}
 use Rattle.router_core.specs.declared.router.Done.TheVariants.{Nothing, Taken}
 use Rattle.router_core.specs.declared.router.Phase.TheVariants as phases
@@ -28,8 +28,6 @@ use Rattle.peer_side.proofs.WeldLemmas.{adds_both}
 use Rattle.link_change.specs.Changes.{IsSent}
 use Rattle.decision.specs.Branches.{best_rows}
 use Rattle.exit_side.specs.Exits.{Exited, IsExits}
-use Rattle.hop_side.specs.Steps.{ComesOn}
-use Rattle.hop_side.specs.Resolvers.{PeerRows, left_in}
 use Rattle.router_core.specs.Bests.{all_at, best_at, best_entries, DecidesOn, Queues}
 use Rattle.router_core.specs.Printable.{IsHeard}
 use Rattle.router_core.proofs.HeardSteps.{heard_quiet, queue_views, hops_unheard}
@@ -151,12 +149,6 @@ hop_took k m v m1 m' c r h before j l now turn sent some view stands at comes sa
 -- a peer that takes one has a number up to 64
 pub hop_small : (k : ℕ) (m v : Moment) (c : Chained) → v ≡ m → Stands m → Some c ≡ chain_at k v.chains → k ≤ 64
 hop_small k m v c view stands at = ((subst Stands (sym view) stands).own SmallNumbers k (ap is_some (sym at))).1
-
-pub hop_rests : (k : ℕ) (m v : Moment) (c : Chained) (r : Registry Interior) (h : Resolvers) (before j : Journaled) (turn : Turn Route) → turn ≡ turns.Nothing → v ≡ m → ComesBelow k (filt_candidates c) (filt_rows c) v.registry r v.hops h before j turn
-    → Comes (Nh k) m (with_hops v r h) before j Nothing
-hop_rests k m v c r h before j turn is view comes =
-    let t : ComesBelow k (filt_candidates c) (filt_rows c) v.registry r v.hops h before j turns.Nothing = subst (ComesBelow k (filt_candidates c) (filt_rows c) v.registry r v.hops h before j) is comes in
-    (subst (λ (n : Moment). has_hop_work n.hops k ≡ false) view t.0, ap (λ (x : Resolvers). with_hops v r x) t.1 ∙ ap (λ (x : Registry Interior). with_hops v x v.hops) t.2 ∙ view, t.3)
 
 pub no_hops : (k : ℕ) (m v : Moment) (j : Journaled) → v ≡ m → Stands m → None ≡ chain_at k v.chains → Comes (Nh k) m m j j Nothing
 no_hops k m v j view stands none =

@@ -5,7 +5,6 @@ mod ShownRows
 pub mod RegionLemmas
 pub mod StandLemmas
 pub mod ForwardLemmas
-pub mod TableLemmas
 pub mod ScratchLemmas
 pub mod SettledLemmas
 pub mod HeldLemmas

@@ -3,12 +3,11 @@ use Rattle.std.proofs.Common.{◌≡◌, ℕ, ◌+◌, nat_eq, Bool, true, cond,
 use Rattle.std.specs.FinMap as tables
 use Rattle.std.proofs.lemmas.Option.{same_Some}
 use Rattle.journal_text.specs.declared.line.Line.{Line}
-use Rattle.event_text.specs.Declarations.{peer_at}
+use Rattle.event_text.specs.Declarations.{peer_at, Declaration, without_session}
 use Rattle.journal_text.specs.declared.entry.Entry.{Entry}
 use Rattle.journal_text.specs.declared.value.Value.{Value}
 use Rattle.journal_text.specs.Journals.{Journaled, Adds, flushed}
 use Rattle.event_text.specs.declared.declared.DeclaredPeer.{DeclaredPeer}
-use Rattle.event_text.specs.Declarations.{Declaration, without_session}
 use Rattle.in_chain.specs.Chains.{Chained}
 use Rattle.in_chain.specs.Steps.{lost}
 use Rattle.peer_side.specs.Peers.{Chains, chain_at, peer_links, overdue_at, overdue_by, AreBefore}
@@ -21,7 +20,7 @@ use Rattle.exit_side.specs.Exits.{Exited, chain_at as exit_at}
 use Rattle.exit_side.specs.Steps.{EndsExit}
 use Rattle.exit_laws.proofs.OtherLemmas.{others_are_unheard}
 use Rattle.link_region.specs.declared.regions.Region.TheVariants.{Inward}
-use Rattle.live_state.specs.Lives.{LiveState, ended}
+use Rattle.live_state.specs.Lives.{ended}
 use Rattle.router_core.specs.Lives.{live_state}
 use Rattle.router_core.specs.Stands.{PeerStands, StandsAt, Stands, ExitsAt, EachRow, SameSessions, ExternalAgrees, open_session}
 use Rattle.router_core.specs.Turns.{journal_lines}
@@ -98,16 +97,9 @@ one_ended k s m v now cs before after view stands up silent is f =
     (journal_lines f.0, f.1, ends_one k s v cs f.0 (subst Stands (sym view) stands) (subst (IsSession k s) (sym view) up) (ap (λ (x : Moment). exit_at k x.exits) view ∙ silent) f.2))
 
 -- ---- both
--- the exit ended: so the peer is still up, and has none
-pub up_then : (k s : ℕ) (m v : Moment) (e : Exited) → v ≡ m → IsSession k s m → IsSession k s (with_exits v e)
-up_then k s m v e view up = subst (λ (x : Moment). IsSession k s (with_exits x e)) (sym view) up
 
 pub silenced_stands : (k : ℕ) (m v : Moment) (e : Exited) (entries : List (Entry Value)) → v ≡ m → Stands m → EndsExit k v.exits e entries → Stands (with_exits v e)
 silenced_stands k m v e entries view stands ends = (silenced k v e entries (subst Stands (sym view) stands) ends).stands
-
--- and so it is where there is room
-pub room_up : (k s : ℕ) (m room : Moment) (before now : Journaled) → IsSession k s m → Gives (HasRoom k m room) before now → IsSession k s room
-room_up k s m room before now up r = (up.0, ap (λ (l : LiveState). peer_at k l.declared.peers) r.2.keeps.live ∙ up.1, up.2, up.3)
 
 pub room_silent : (k : ℕ) (m room : Moment) (e : Exited) (entries : List (Entry Value)) (before now : Journaled) → EndsExit k m.exits e entries → Gives (HasRoom k (with_exits m e) room) before now → exit_at k room.exits ≡ None
 room_silent k m room e entries before now ends r = no_table (exit_at k room.exits) (r.2.same k ∙ ap is_some (ap (exit_at k) ends.after ∙ exit_gone k (tables.remove m.exits.queue ends.chain.reader) m.exits))

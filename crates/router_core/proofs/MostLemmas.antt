@@ -13,7 +13,7 @@ use Rattle.nexthop_resolver.specs.Kept.{route_hop, with_metric}
 use Rattle.nexthop_resolver.specs.declared.rows.Metric.{Metric}
 use Rattle.in_chain.specs.Chains.{Chained, filt_beyond, filt_rows, left_beyond, row_count}
 use Rattle.in_chain.proofs.TurnLemmas.{candidates_are_counted, filtered_rows_are_few}
-use Rattle.hop_side.specs.Resolvers.{Resolvers, resolver_at, rows_by, known_of, known_in, left_of, walks_of, walks_in}
+use Rattle.hop_side.specs.Resolvers.{Resolvers, resolver_at, rows_by, known_of, known_in, left_of, walks_of, walks_in, same_metric}
 use Rattle.hop_side.proofs.FewLemmas.{known_are_few}
 use Rattle.peer_side.specs.Peers.{Chains, chain_at, put_chain, filt_at, filt_by, lost_in, rows_in}
 use Rattle.peer_side.proofs.PutLemmas.{put_lost}
@@ -23,7 +23,6 @@ use Rattle.router_core.specs.Bests.{own_rows, all_at}
 use Rattle.nexthop_known.specs.Hops.{is_stale_at, stale_count}
 use Rattle.nexthop_known.proofs.StaleLemmas.{known_count}
 use Rattle.nexthop_resolver.specs.Left.{is_needed, differing_count, walk_turns, next_walk}
-use Rattle.hop_side.specs.Resolvers.{same_metric}
 use Rattle.router_core.specs.Phases.{beyond_by, beyonds, counts, most_of, external_most, external_beyond, tree_beyond, unread_if, stale_of, stale_in, own_sends, own_sends_by, own_waiting, nh_sends, nh_sends_of, place_candidates, next_candidates, fin_sends, fin_sends_of, walk_candidates, waiting_candidates}
 use Rattle.bgp_attr.specs.declared.speaker.Speaker.{Speaker}
 use Rattle.policy_rules.specs.declared.rule.Rule.{Rule}

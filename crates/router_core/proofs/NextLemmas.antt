@@ -77,12 +77,7 @@ module _ (f g : Task → Bool) (losses : (k s : ℕ) → f (tasks.Del k s) ≡ g
   of_peers : (t : Task) → phase_of t ≡ s → f t ≡ g t
   of_peers (tasks.Del k n) is = losses k n
   of_peers (tasks.Fin k) is = walks k
-  of_peers (tasks.Nh k) is = absurd (subst IsOfPeers (sym is) peers)
-  of_peers tasks.ReadRib is = absurd (subst IsOfPeers (sym is) peers)
-  of_peers (tasks.Out k) is = absurd (subst IsOfPeers (sym is) peers)
-  of_peers (tasks.Rdel proto n) is = absurd (subst IsOfPeers (sym is) peers)
-  of_peers tasks.Red is = absurd (subst IsOfPeers (sym is) peers)
-  of_peers tasks.Ext is = absurd (subst IsOfPeers (sym is) peers)
+  of_peers other is = absurd (subst IsOfPeers (sym is) peers)
 
   found_of_peers : (v : Moment) → find f (phase_tasks s v) ≡ find g (phase_tasks s v)
   found_of_peers v = found_same f g (phase_tasks s v) (all_so (λ t. phase_of t ≡ s) (λ t. f t ≡ g t) of_peers (phase_tasks s v) (all_of_phase s v))
@@ -144,9 +139,6 @@ none_of_reader r m task is next = subst (λ (o : Option Task). IfNone o (counts 
 -- ---- the phases of one task
 pub next_of_one : (s r : Phase) (m : Moment) (task : Option Task) → r ≡ s → task ≡ next_task s m → task ≡ next_task r m
 next_of_one s r m task is next = next ∙ ap (λ (e : Phase). next_task e m) (sym is)
-
-pub held_of_one : (s r : Phase) (m : Moment) (p : Network) (task : Option Task) → r ≡ s → task ≡ held_in s m p → task ≡ held_in r m p
-held_of_one s r m p task is held = held ∙ ap (λ (e : Phase). held_in e m p) (sym is)
 
 pub none_of_own : (r : Phase) (m : Moment) (task : Option Task) → r ≡ Red → task ≡ next_task Red m → IfNone task (counts m r ≡ 0)
 none_of_own r m task is next = subst (λ (o : Option Task). IfNone o (counts m r ≡ 0)) (sym next) (by_walk m.redist.walk refl)

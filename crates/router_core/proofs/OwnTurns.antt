@@ -99,7 +99,7 @@ module _ {F : Type 0} where
   walked_present (Some p) s = stepped_present s.in_force s.walk p
 
 -- a change at the candidate, or none anywhere
-walked_sent : (next : Option Network) (old new : Rows Route) (own : Option (Change Route)) → IsSentAt next old new own → (p : Network) × IsSent old new p own
+pub walked_sent : (next : Option Network) (old new : Rows Route) (own : Option (Change Route)) → IsSentAt next old new own → (p : Network) × IsSent old new p own
 walked_sent None old new own changes = (record { address = 0; length = 0 }, subst (λ (o : Option (Change Route)). IsSent old new (record { address = 0; length = 0 }) o) (sym changes.0) changes.1)
 walked_sent (Some p) old new own changes = (p, changes)
 
@@ -213,12 +213,6 @@ own_took me m v m1 m' s before l now turn sent some view stands since walked sam
       subst (λ (es : List (Entry Value)). IsUnit tasks.Red v m' (journal_lines es)) (sym x.2.lines)
           (own_done me v m1 m' s (sent_of turn) x.2.best (subst Stands (sym view) stands) since (own_walks me v s turn some walked) between x.2.decides),
     )
-
--- where no walk is on
-pub own_rests : (me : Speaker) (m v : Moment) (s : Passed Protos) (turn : Turn Route) (j : Journaled) → turn ≡ turns.Nothing → v ≡ m → IsWalked (redistributed me) (int_candidates v.tree) (int_rows v.tree) v.redist s turn → Comes tasks.Red m (with_redist v s) j j Nothing
-own_rests me m v s turn j is view walked =
-    let w : IsWalked (redistributed me) (int_candidates v.tree) (int_rows v.tree) v.redist s turns.Nothing = subst (λ (t : Turn Route). IsWalked (redistributed me) (int_candidates v.tree) (int_rows v.tree) v.redist s t) is walked in
-    (ap (λ (n : Moment). is_some n.redist.walk) (sym view) ∙ ap is_some w.0, ap (λ (x : Passed Protos). with_redist v x) w.1 ∙ view, refl)
 
 -- before `local`
 pub none_own : (m v : Moment) (j : Journaled) → v ≡ m → Stands m → v.declared.speaker ≡ None → Comes tasks.Red m m j j Nothing

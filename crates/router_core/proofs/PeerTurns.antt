@@ -7,7 +7,7 @@ use Rattle.link_change.specs.declared.change.Change.{Change}
 use Rattle.link_change.specs.declared.turn.Turn.{Turn}
 use Rattle.link_change.specs.declared.turn.Turn.TheVariants as turns
 use Rattle.journal_text.specs.declared.link.Task.{Task}
-use Rattle.journal_text.specs.declared.link.Task.TheVariants.{Del, Fin, Nh, ReadRib, Out, Rdel, Red, Ext}
+use Rattle.journal_text.specs.declared.link.Task.TheVariants.{Del, Fin}
 use Rattle.journal_text.specs.declared.entry.Entry.{Entry}
 use Rattle.journal_text.specs.declared.value.Value.{Value}
 use Rattle.journal_text.specs.declared.line.Line.{Line}
@@ -17,11 +17,11 @@ use Rattle.in_chain.specs.Steps.{welded, Turned}
 use Rattle.std.specs.Prelude.{IsSome, is_some}
 use Rattle.event_text.specs.declared.declared.DeclaredPeer.{DeclaredPeer}
 use Rattle.event_text.specs.Declarations.{peer_at}
-use Rattle.hop_side.specs.Resolvers.{resolver_at, known_in}
+use Rattle.hop_side.specs.Resolvers.{resolver_at, known_in, Resolvers}
 use Rattle.hop_side.specs.Steps.{GoesOn}
 use Rattle.peer_side.specs.Peers.{Chains, IsPeersBut, chain_at, put_chain, filt_by, filt_at, lost_in, peer_of, has_peer_work}
 use Rattle.peer_side.specs.Steps.{Nears, TakesInward, ComesInward}
-use Rattle.router_core.specs.declared.router.Done.TheVariants.{Nothing, Taken}
+use Rattle.router_core.specs.declared.router.Done.TheVariants.{Taken}
 use Rattle.journal_text.specs.Texts.{entries_of}
 use Rattle.journal_text.specs.Walk.{Leads}
 use Rattle.std.specs.FinMap as tables
@@ -29,7 +29,6 @@ use Rattle.link_change.specs.Changes.{IsSent}
 use Rattle.rib_route.specs.declared.rows.Interior.{Interior}
 use Rattle.register_interest.specs.Registers.{Registry}
 use Rattle.exit_side.specs.Exits.{OutChains}
-use Rattle.hop_side.specs.Resolvers.{Resolvers}
 use Rattle.peer_side.proofs.PutLemmas.{put_size}
 use Rattle.router_core.specs.Bests.{all_at, best_at, best_entries}
 use Rattle.router_core.specs.Printable.{IsHeard}
@@ -59,12 +58,7 @@ silent_as false c c' same silent = same ∙ silent
 turn_of_peer : (task : Task) (m m' : Moment) (said : List Line) → Nears task m.chains m'.chains → IsPeerTurn task m said m' → IsTurn task m said m'
 turn_of_peer (Del k s) m m' said nearer turn = turn
 turn_of_peer (Fin k) m m' said nearer turn = turn
-turn_of_peer (Nh n) m m' said nearer turn = absurd nearer
-turn_of_peer ReadRib m m' said nearer turn = absurd nearer
-turn_of_peer (Out n) m m' said nearer turn = absurd nearer
-turn_of_peer (Rdel proto n) m m' said nearer turn = absurd nearer
-turn_of_peer Red m m' said nearer turn = absurd nearer
-turn_of_peer Ext m m' said nearer turn = absurd nearer
+turn_of_peer other m m' said nearer turn = absurd nearer
 
 -- nothing goes on where nothing came
 passed_none : (k : ℕ) (sent passed : Option (Change Route)) (r r' : Registry Interior) (h h' : Resolvers) (entries : List (Entry Value)) → sent ≡ None → Resolves k sent passed r r' h h' entries → passed ≡ None
@@ -75,23 +69,13 @@ passed_none k (Some change) passed r r' h h' entries none t = absurd (cc)
 lost_less : (task : Task) (a a' : Chains) → Nears task a a' → lost_in a' ≤ lost_in a
 lost_less (Del k s) a a' near = let l = near.0 in omega (arith, l)
 lost_less (Fin k) a a' near = let l = near.0 in omega (arith, l)
-lost_less (Nh k) a a' near = absurd near
-lost_less ReadRib a a' near = absurd near
-lost_less (Out k) a a' near = absurd near
-lost_less (Rdel proto n) a a' near = absurd near
-lost_less Red a a' near = absurd near
-lost_less Ext a a' near = absurd near
+lost_less other a a' near = absurd near
 
 -- and none asks for the next hops of external routes
 peer_knows : (task : Task) (m m' : Moment) → m'.rib ≡ m.rib → Nears task m.chains m'.chains → ((k s : ℕ) → task ≡ Del k s → known_in m'.hops ≤ known_in m.hops) → KnowsNoMore (phase_of task) m m'
 peer_knows (Del k s) m m' same near fewer = (fewer k s refl, let e : external_known m'.rib ≡ external_known m.rib = ap external_known same in omega (arith, e))
 peer_knows (Fin k) m m' same near fewer = let e : external_known m'.rib ≡ external_known m.rib = ap external_known same in omega (arith, e)
-peer_knows (Nh k) m m' same near fewer = absurd near
-peer_knows ReadRib m m' same near fewer = absurd near
-peer_knows (Out k) m m' same near fewer = absurd near
-peer_knows (Rdel proto n) m m' same near fewer = absurd near
-peer_knows Red m m' same near fewer = absurd near
-peer_knows Ext m m' same near fewer = absurd near
+peer_knows other m m' same near fewer = absurd near
 
 -- a turn in a peer's chain, and what follows it, are one of the router
 unit_done : (task : Task) (sent : Option (Change Route)) (m : Moment) (fallen : Chains) (m' : Moment) (entries rest : List (Entry Value)) → Stands m → TakesInward task sent m.chains fallen entries
@@ -231,15 +215,4 @@ peer_small task m v fallen before j turn some view stands comes =
 rests : (task : Task) (m : Moment) → IsOfPeers task → has_peer_work m.chains task ≡ false → has_work task m ≡ false
 rests (Del k s) m of none = none
 rests (Fin k) m of none = none
-rests (Nh k) m of none = absurd of
-rests ReadRib m of none = absurd of
-rests (Out k) m of none = absurd of
-rests (Rdel proto n) m of none = absurd of
-rests Red m of none = absurd of
-rests Ext m of none = absurd of
-
-pub peer_rests : (task : Task) (m v : Moment) (cs : Chains) (before j : Journaled) (turn : Turn Route) → IsOfPeers task → turn ≡ turns.Nothing → v ≡ m → ComesInward task v.chains cs before j turn
-    → Comes task m (with_chains v cs) before j Nothing
-peer_rests task m v cs before j turn of is view t =
-    let rest : ComesInward task v.chains cs before j turns.Nothing = subst (ComesInward task v.chains cs before j) is t in
-    (subst (λ (n : Moment). has_work task n ≡ false) view (rests task v of rest.0), ap (with_chains v) rest.1 ∙ view, rest.2)
+rests other m of none = absurd of

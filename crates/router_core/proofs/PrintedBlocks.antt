@@ -39,7 +39,7 @@ use Rattle.journal_text.specs.declared.value.Value.{Value}
 use Rattle.journal_check.specs.Laws.{IsPrefix, IsMatch, IsNamedIfAny}
 use Rattle.journal_laws.specs.Printed.{IsPrinted}
 use Rattle.journal_laws.specs.Standing.{AreTablesOf, IsInteriorRow, WasHeard, IsPrintableChain, HaveWays}
-use Rattle.journal_laws.proofs.PrintedRows.{AreFit, IsFit, Prints, PrintsIfAny, live_prints, filt_prints, int_prints, tree_prints, none_printable, fed_fit, lost_printable, edited_printable, chain_prints}
+use Rattle.journal_laws.proofs.PrintedRows.{AreFit, IsFit, Prints, PrintsIfAny, live_prints, int_prints, tree_prints, none_printable, fed_fit, lost_printable, edited_printable, chain_prints}
 use Rattle.journal_laws.proofs.PrintedWays.{Heard, route_way}
 use Rattle.journal_laws.proofs.PrintedLines.{plain_printed, note_printed, answer_printed, rows_printed}
 use Rattle.journal_laws.proofs.DeclaredPeers.{IsKnown, known_peer, leaves_all}
@@ -61,11 +61,10 @@ use Rattle.journal_text.specs.Values.{route_value, attrs_value, external_value, 
 use Rattle.nexthop_known.specs.declared.answer.Hop.{Hop}
 use Rattle.nexthop_resolver.specs.declared.rows.Metric.{Metric}
 use Rattle.nexthop_resolver.specs.Resolving.{Resolving, nothing_known}
-use Rattle.bgp_attr.specs.declared.route.Route.{Route}
 use Rattle.router_core.specs.Bests.{best_links, own_links}
 use Rattle.hop_side.specs.Resolvers.{resolver_at, busy_by, link_by, hop_links, metric_rows}
 use Rattle.journal_laws.proofs.PrintedHops.{AllHaveMetrics, rows_print, metrics_put}
-use Rattle.peer_side.specs.Peers.{chain_at, has_turn_in, filt_by, filt_at, overdue_at, links_by}
+use Rattle.peer_side.specs.Peers.{chain_at, has_turn_in, filt_at, overdue_at, links_by}
 use Rattle.journal_text.specs.Links.{owner_of}
 use Rattle.peer_side.proofs.PutLemmas.{put_each}
 use Rattle.rib_tree.specs.Branches.{Branch}
@@ -97,7 +96,7 @@ use Rattle.exit_laws.proofs.PrintLemmas.{beginning_is_printed, end_is_printed}
 use Rattle.router_core.proofs.SessionLemmas.{silenced}
 use Rattle.router_core.proofs.PrintedForwards.{side_print, ext_print, fib_print}
 use Rattle.router_core.proofs.PrintedReaders.{FitReaders}
-use Rattle.router_core.proofs.PrintedTurns.{Fit, Goes, IsSaid, own_prints, best_fit, read_fit, feeds_go, route_goes, turns_go, phases_go, first_goes}
+use Rattle.router_core.proofs.PrintedTurns.{Fit, Goes, IsSaid, with_readers, filt_fit, best_shown, own_prints, best_fit, read_fit, feeds_go, route_goes, turns_go, phases_go, first_goes}
 
 -- what an event leaves beside the declarations, and what it says
 pub record Leaves (peers : ℕ → Option Neighbour) (m' : Moment) (said : List Line) : Type 0 where
@@ -143,7 +142,7 @@ module _ (m : Moment) (stands : Stands m) (printable : IsPrintableMoment m) wher
   session_named : (k : ℕ) (p : DeclaredPeer) → peer_at k m.declared.peers ≡ Some p → p.up ≡ true → IsNameNumber p.session
   session_named k p at up = let known = known_at k p at in let most = known.session in (known.begun up, omega (arith, most))
 
-  chain_fit : (k : ℕ) (c : Chained) → chain_at k m.chains ≡ Some c → IsFit (neighbours m.declared) plain c × (c.peer.number ≡ k)
+  chain_fit : (k : ℕ) (c : Chained) → chain_at k m.chains ≡ Some c → IsFit (neighbours m.declared) plain c × (c.peer.number ≡ k) × (c.incoming.number ≡ k)
   chain_fit k c there =
       let p = peer_of m stands k c there in
       let is = known_at k p.0 p.1 in
@@ -158,6 +157,7 @@ module _ (m : Moment) (stands : Stands m) (printable : IsPrintableMoment m) wher
           rising = own.chain.rising;
         },
         number,
+        own.number,
       )
 
   pub fit_at : (most : ℕ) → AreNumbered most m.tree → Fit (neighbours m.declared) most m
@@ -165,7 +165,6 @@ module _ (m : Moment) (stands : Stands m) (printable : IsPrintableMoment m) wher
     chains = chain_fit;
     interior = λ proto. record { printable = printable.interior proto; rising = ((stands.own InteriorTree).tree.each proto).chain.rising };
     few = few;
-    placed = λ k c there. (stands.own EachChain k c there).number;
     counted = stands.own HopsCounted;
     registered = registered_rows m stands;
     metrics = printable.hops;
@@ -175,8 +174,19 @@ module _ (m : Moment) (stands : Stands m) (printable : IsPrintableMoment m) wher
     readers = readers_fit (neighbours m.declared) m stands printable.exits;
   }
 
+  -- where the exits alone became others
+  exits_leave : (n : Moment) (said : List Line) → n.chains ≡ m.chains → n.tree ≡ m.tree → n.hops ≡ m.hops → n.rib ≡ m.rib → ArePrintableExits (neighbours m.declared) n.exits → Printed said → Leaves (neighbours m.declared) n said
+  exits_leave n said chains tree hops rib exits printed = record {
+    chains = subst (λ a. (k : ℕ) (c : Chained) → chain_at k a ≡ Some c → IsPrintableChain plain c) (sym chains) printable.chains;
+    interior = subst (λ t. (proto : Proto) → AreTablesOf IsInteriorRow (branch_of proto t).tables) (sym tree) printable.interior;
+    hops = subst AllHaveMetrics (sym hops) printable.hops;
+    ways = subst (λ x. HaveWays x.forwarding) (sym rib) printable.ways;
+    exits = exits;
+    printed = printed;
+  }
+
   stays : (said : List Line) (m' : Moment) → m' ≡ m → Printed said → Leaves (neighbours m.declared) m' said
-  stays said m' same printed = subst (λ (x : Moment). Leaves (neighbours m.declared) x said) (sym same) (record { chains = printable.chains; interior = printable.interior; hops = printable.hops; ways = printable.ways; exits = printable.exits; printed = printed })
+  stays said m' same printed = subst (λ (x : Moment). Leaves (neighbours m.declared) x said) (sym same) (exits_leave m said refl refl refl refl printable.exits printed)
 
   just : (these : List Line) (then : Moment) (said : List Line) (turns : ℕ) (m' : Moment) → Just these then said turns m' → Leaves (neighbours m.declared) then these → Leaves (neighbours m.declared) m' said
   just these then said turns m' is leaves =
@@ -191,11 +201,6 @@ module _ (m : Moment) (stands : Stands m) (printable : IsPrintableMoment m) wher
 
   absent : IsPrinted (neighbours m.declared) lines.Absent
   absent = plain_printed (neighbours m.declared) lines.Absent refl refl tt
-
-  -- ---- rows of the links `filt.K`
-  filt_print : (k : ℕ) (o : Option Chained) → chain_at k m.chains ≡ o → Prints (neighbours m.declared) route_value (filt_by o)
-  filt_print k None at = λ p row is. absurd (cc)
-  filt_print k (Some c) at = filt_prints (neighbours m.declared) plain c (chain_fit k c at).0
 
   covered : (addr : ℕ) (said : List Line) → addr < 2 ^ 32 → CoversAddress addr m said → Printed said
   covered addr said fits covers =
@@ -264,7 +269,7 @@ module _ (m : Moment) (stands : Stands m) (printable : IsPrintableMoment m) wher
         by_resolver : (k : ℕ) (o : Option (Resolving Metric)) → resolver_at k m.hops ≡ o → PrintsIfAny (neighbours m.declared) (link_by o (filt_at m.chains k))
         by_resolver k None at = λ rows p v none is. absurd (cc)
         by_resolver k (Some s) at = live_prints (neighbours m.declared) route_value (metric_rows s (filt_at m.chains k))
-            (rows_print (neighbours m.declared) (Some s) (filt_at m.chains k) (λ t is. printable.hops k t (at ∙ is)) (filt_print k (chain_at k m.chains) refl))
+            (rows_print (neighbours m.declared) (Some s) (filt_at m.chains k) (λ t is. printable.hops k t (at ∙ is)) (filt_fit (neighbours m.declared) 4294967294 m start k))
 
         by_link : (l : Link) → PrintsIfAny (neighbours m.declared) (hop_links m.hops (filt_at m.chains) l)
         by_link (links.Res k) = by_resolver k (resolver_at k m.hops) refl
@@ -276,12 +281,9 @@ module _ (m : Moment) (stands : Stands m) (printable : IsPrintableMoment m) wher
         read_are : AreBestRows (neighbours m.declared) (read_of m)
         read_are = read_fit (neighbours m.declared) 4294967294 m start
 
-        rows_are : (best : Rows Route) → AreBestRows (neighbours m.declared) best → Prints (neighbours m.declared) route_value best
-        rows_are best are p row is = let own = are p row is in (own.prefix, own.printed)
-
         by_best : (s : Option Speaker) (l : Link) → PrintsIfAny (neighbours m.declared) (best_links s (best_of m) l)
         by_best None l = λ rows p v none is. absurd (cc)
-        by_best (Some me) links.Best = live_prints (neighbours m.declared) route_value (best_of m) (rows_are (best_of m) best_are)
+        by_best (Some me) links.Best = live_prints (neighbours m.declared) route_value (best_of m) (best_shown (neighbours m.declared) 4294967294 (best_of m) best_are)
         by_best (Some me) other = λ rows p v none is. absurd (cc)
 
         by_own : (s : Option Speaker) (l : Link) → PrintsIfAny (neighbours m.declared) (own_links s (own_of m) l)
@@ -351,27 +353,19 @@ module _ (m : Moment) (stands : Stands m) (printable : IsPrintableMoment m) wher
     shown link named (Some rows) at said is =
         subst Printed (sym is.2) (all_both (IsPrinted (neighbours m.declared)) _ _ (rows_printed (neighbours m.declared) link rows named (λ p v here. links_print link rows p v at here) is.0 is.1.each) (plain_printed (neighbours m.declared) _ refl refl (named, is.3), tt))
 
+    leaves : (said : List Line) (m' : Moment) → Fit (neighbours m.declared) 4294967294 m' → Printed said → Leaves (neighbours m.declared) m' said
+    leaves said m' fit printed = record { chains = λ k c there. (fit.chains k c there).0.printable; interior = λ proto. (fit.interior proto).printable; hops = fit.metrics; ways = fit.ways; exits = fit.readers.exits; printed = printed }
+
     gone : (said : List Line) (m' : Moment) → Goes (neighbours m.declared) 4294967294 m said m' → Leaves (neighbours m.declared) m' said
-    gone said m' goes = let x = goes start in record { chains = λ k c there. (x.0.chains k c there).0.printable; interior = λ proto. (x.0.interior proto).printable; hops = x.0.metrics; ways = x.0.ways; exits = x.0.readers.exits; printed = x.1 }
+    gone said m' goes = let x = goes start in leaves said m' x.0 x.1
 
     -- ---- losses of sessions
     lost : (k s : ℕ) (said : List Line) (m' : Moment) → IsNameNumber s → Loses k s m said m' → Leaves (neighbours m.declared) m' said
     lost k s said m' session l =
         let silent = end_is_printed (neighbours m.declared) k m.exits l.silenced l.entries printable.exits l.ends in
         let ended = (silenced k m l.silenced l.entries stands l.ends).stands in
-        let x = first_goes (neighbours m.declared) 4294967294 (overdue_at k m.chains) (with_exits m l.silenced) l.first l.room l.runs (record {
-          chains = start.chains;
-          interior = start.interior;
-          few = few;
-          placed = start.placed;
-          counted = start.counted;
-          registered = start.registered;
-          metrics = start.metrics;
-          ways = start.ways;
-          nobody = start.nobody;
-          sender = start.sender;
-          readers = readers_fit (neighbours m.declared) (with_exits m l.silenced) ended silent.exits;
-        }) in
+        let x = first_goes (neighbours m.declared) 4294967294 (overdue_at k m.chains) (with_exits m l.silenced) l.first l.room l.runs (with_readers (neighbours m.declared) 4294967294 m m.redist l.silenced m.registry m.rib start refl start.ways
+        (readers_fit (neighbours m.declared) (with_exits m l.silenced) ended silent.exits)) in
         let i = l.loses in
         let c = i.part.loses.chain in
         let own = (x.0.chains k c i.part.loses.at).0 in
@@ -478,14 +472,7 @@ module _ (m : Moment) (stands : Stands m) (printable : IsPrintableMoment m) wher
 
     -- ---- the exits
     redirected : (k : ℕ) (rules : List Rule) (said : List Line) (turns : ℕ) (m' : Moment) → Redirects k rules m said turns m' → Leaves (neighbours m.declared) m' said
-    redirected k rules said turns m' is = just [] _ said turns m' is.2 (record {
-      chains = printable.chains;
-      interior = printable.interior;
-      hops = printable.hops;
-      ways = printable.ways;
-      exits = edit_is_printed (neighbours m.declared) k rules m.exits is.0 printable.exits is.1;
-      printed = tt;
-    })
+    redirected k rules said turns m' is = just [] _ said turns m' is.2 (exits_leave _ _ refl refl refl refl (edit_is_printed (neighbours m.declared) k rules m.exits is.0 printable.exits is.1) tt)
 
     begins : (me : Speaker) (k : ℕ) (p : DeclaredPeer) (said : List Line) (m' : Moment) → peer_at k m.declared.peers ≡ Some p → Begins me k p m said m' → Leaves (neighbours m.declared) m' said
     begins me k p said m' at b =
@@ -493,14 +480,7 @@ module _ (m : Moment) (stands : Stands m) (printable : IsPrintableMoment m) wher
         let most = known.session in
         let named : IsNamed (links.Adv p.words.number (p.session + 1)) = (subst IsNameNumber (sym known.number) (named_by k p at), (omega arith, omega (arith, most))) in
         let x = beginning_is_printed (neighbours m.declared) me p.words (p.session + 1) (rules_to k m.outgoing) m.exits m'.exits b.entries named printable.exits b.begins in
-        subst (λ (n : Moment). Leaves (neighbours m.declared) n said) (sym b.after) (record {
-          chains = printable.chains;
-          interior = printable.interior;
-          hops = printable.hops;
-          ways = printable.ways;
-          exits = x.exits;
-          printed = subst Printed (sym b.lines) x.lines;
-        })
+        subst (λ (n : Moment). Leaves (neighbours m.declared) n said) (sym b.after) (exits_leave _ _ refl refl refl refl x.exits (subst Printed (sym b.lines) x.lines))
 
     begun_by : (s : Option Speaker) (k : ℕ) (p : DeclaredPeer) (said : List Line) (m' : Moment) → peer_at k m.declared.peers ≡ Some p → BySpeaker (λ me. Begins me k p m said m') s → Leaves (neighbours m.declared) m' said
     begun_by None k p said m' at is = absurd is
@@ -527,14 +507,8 @@ module _ (m : Moment) (stands : Stands m) (printable : IsPrintableMoment m) wher
     event_printed (Local words) said turns m' formed is =
         let l = is.1 in
         let inherits = plain_printed (neighbours m.declared) (lines.Journal (entries.Inherit links.ReadRib links.Best)) refl refl (tt, tt) in
-        subst (λ (n : Moment). Leaves (neighbours m.declared) n said) (sym l.after) (record {
-          chains = printable.chains;
-          interior = printable.interior;
-          hops = printable.hops;
-          ways = printable.ways;
-          exits = join_is_printed (neighbours m.declared) l.reader m.exits printable.exits;
-          printed = subst Printed (sym l.lines) (begun (links.Org Connected) tt, (begun (links.Org Static) tt, (begun (links.Org Ospf) tt, (begun (links.Org Rip) tt, (begun links.Low tt, (begun links.Dyn tt, (begun links.Int tt, (begun links.Red tt, (begun links.Best tt, (inherits, (begun links.Ebgp tt, (begun links.Ibgp tt, (begun links.Ext tt, (begun links.Fib tt, tt))))))))))))));
-        })
+        subst (λ (n : Moment). Leaves (neighbours m.declared) n said) (sym l.after) (exits_leave _ _ refl refl refl refl (join_is_printed (neighbours m.declared) l.reader m.exits printable.exits)
+        (subst Printed (sym l.lines) (begun (links.Org Connected) tt, (begun (links.Org Static) tt, (begun (links.Org Ospf) tt, (begun (links.Org Rip) tt, (begun links.Low tt, (begun links.Dyn tt, (begun links.Int tt, (begun links.Red tt, (begun links.Best tt, (inherits, (begun links.Ebgp tt, (begun links.Ibgp tt, (begun links.Ext tt, (begun links.Fib tt, tt))))))))))))))))
     event_printed (Peer k words) said turns m' formed is = declared m.declared.speaker k words said turns m' (formed.0.least, formed.0.fits) is
     event_printed (Up k) said turns m' formed is = by_peer (λ p. BeginsIf p.up m k p said turns m') k _ (λ p at begins. begun_if p.up k p said turns m' at begins) is
     event_printed (Down k) said turns m' formed is = by_peer (λ p. EndsIf p.up m k p said turns m') k _ (λ p at ends. ended_if p.up k p said turns m' refl at ends) is
@@ -554,28 +528,14 @@ module _ (m : Moment) (stands : Stands m) (printable : IsPrintableMoment m) wher
         let x = phases_go (neighbours m.declared) 4294967294 all_phases m is.inner turns m' is.runs start in
         let within = is.within in
         let fits = is.fits in
-        record {
-          chains = λ k c there. (x.0.chains k c there).0.printable;
-          interior = λ proto. (x.0.interior proto).printable;
-          hops = x.0.metrics;
-          ways = x.0.ways;
-          exits = x.0.readers.exits;
-          printed = subst Printed (sym is.lines) (
-            plain_printed (neighbours m.declared) _ refl refl fits,
-            all_both (IsPrinted (neighbours m.declared)) is.inner (lines.Idle turns ∷ []) x.1 (plain_printed (neighbours m.declared) (lines.Idle turns) refl refl (omega (arith, within, fits)), tt),
-          );
-        }
+        leaves said m' x.0 (subst Printed (sym is.lines) (
+          plain_printed (neighbours m.declared) _ refl refl fits,
+          all_both (IsPrinted (neighbours m.declared)) is.inner (lines.Idle turns ∷ []) x.1 (plain_printed (neighbours m.declared) (lines.Idle turns) refl refl (omega (arith, within, fits)), tt),
+        ))
     event_printed (Work task n) said turns m' formed is =
         let x = turns_go (neighbours m.declared) 4294967294 turns task m is.inner m' is.taken start in
         let most = is.most in
         let low = formed.1 in
-        record {
-          chains = λ k c there. (x.0.chains k c there).0.printable;
-          interior = λ proto. (x.0.interior proto).printable;
-          hops = x.0.metrics;
-          ways = x.0.ways;
-          exits = x.0.readers.exits;
-          printed = subst Printed (sym is.lines) (all_both (IsPrinted (neighbours m.declared)) is.inner (lines.Work turns ∷ []) x.1 (plain_printed (neighbours m.declared) (lines.Work turns) refl refl (omega (arith, most, low)), tt));
-        }
+        leaves said m' x.0 (subst Printed (sym is.lines) (all_both (IsPrinted (neighbours m.declared)) is.inner (lines.Work turns ∷ []) x.1 (plain_printed (neighbours m.declared) (lines.Work turns) refl refl (omega (arith, most, low)), tt)))
     event_printed (Ask link p) said turns m' formed is = just _ m said turns m' is (stays _ m refl (asked link p formed.0 (formed.1.masked, formed.1.fits) (router_links m link) refl))
     event_printed (Show link) said turns m' formed is = stays said m' is.1 (shown link formed (router_links m link) refl said is.2)

@@ -1,12 +1,12 @@
 -- What falls and turns say can be printed, and so can what stands behind them.
-use Rattle.std.proofs.Common.{◌≡◌, ◌≢◌, ℕ, zero, suc, true, false, not, nat_eq, refl, arith, ◌≤◌, List, [], ◌∷◌, ◌++◌, Option, Some, None, IfSome, sym, ap, subst, ◌∙◌, inr}
+use Rattle.std.proofs.Common.{◌≡◌, ◌≢◌, ℕ, zero, suc, not, nat_eq, refl, arith, ◌≤◌, List, [], ◌∷◌, ◌++◌, Option, Some, None, IfSome, sym, ap, subst, ◌∙◌, inr}
 use Rattle.std.specs.List.{AllByRecursion}
 use Rattle.addr4.specs.Prefixes.{Network}
 use Rattle.bgp_attr.specs.declared.attrs.Attrs.{Attrs}
 use Rattle.bgp_attr.specs.declared.route.Route.{Route}
 use Rattle.bgp_attr.specs.declared.speaker.Neighbour.{Neighbour}
 use Rattle.rib_route.specs.declared.Proto.{Proto}
-use Rattle.link_change.specs.Rows.{Rows}
+use Rattle.link_change.specs.Rows.{Rows, with_row}
 use Rattle.link_change.specs.Changes.{IsSent}
 use Rattle.link_change.specs.declared.change.Change.{Change}
 use Rattle.journal_text.specs.Names.{IsNameNumber}
@@ -38,7 +38,8 @@ use Rattle.std.specs.FinMap as tables
 use Rattle.rib_route.specs.declared.rows.Interior.{Interior}
 use Rattle.register_interest.specs.Registers.{Registry}
 use Rattle.nexthop_resolver.specs.Kept.{route_hop, with_metric, metric_of, external_hop, over, way_of}
-use Rattle.nexthop_resolver.specs.Registered.{answer_of, KeepsOthers}
+use Rattle.nexthop_resolver.proofs.MoveLemmas.{same_some}
+use Rattle.nexthop_resolver.specs.Registered.{answer_of}
 use Rattle.link_region.proofs.RegionLemmas.{by_bool}
 use Rattle.loss_chain.proofs.TableLemmas.{equal_by}
 use Rattle.decision.proofs.LawLemmas.{best_is_a_branchs}
@@ -46,8 +47,9 @@ use Rattle.peer_out.proofs.SentLemmas.{read_may_be_heard}
 use Rattle.exit_side.specs.Exits.{Exited, with_queue}
 use Rattle.exit_laws.specs.Printable.{AreBestRows}
 use Rattle.bgp_attr.specs.declared.speaker.Speaker.{Speaker}
-use Rattle.link_change.specs.Rows.{with_row}
-use Rattle.pass_core.specs.Turns.{IsSentAt, passed_rows}
+use Rattle.pass_core.specs.Passed.{Passed}
+use Rattle.redist.specs.declared.protos.Protos.{Protos}
+use Rattle.pass_core.specs.Turns.{passed_rows}
 use Rattle.redist.specs.Local.{redistributed}
 use Rattle.rib_exit.specs.declared.exit.RibExit.{RibExit}
 use Rattle.rib_exit.specs.Exits.{fib_over, StandsOver}
@@ -57,12 +59,16 @@ use Rattle.router_core.specs.Bests.{own_rows, all_at, best_at, own_entries, best
 use Rattle.router_core.specs.Stands.{RowsWereHeard, MaySend}
 use Rattle.router_core.proofs.BestLemmas.{same_all, best_quiet}
 use Rattle.router_core.proofs.HopLemmas.{all_comes}
+use Rattle.router_core.proofs.OwnTurns.{walked_sent}
+use Rattle.router_core.proofs.RibLinks.{own_comes}
+use Rattle.router_core.proofs.RouteLemmas.{tree_stays}
+use Rattle.router_core.proofs.TurnWalks.{turns_along, phase_along, phases_along, first_along}
 use Rattle.router_core.proofs.StandLemmas.{put_is_with}
 use Rattle.router_core.proofs.HeardRows.{IsHeardChain, heard_best, heard_own_rows, put_heard}
 use Rattle.router_core.proofs.PrintedForwards.{own_print, fib_print, fib_printed, external_printed}
 use Rattle.router_core.proofs.PrintedReaders.{FitReaders, read_rows_are, queued_readers, out_readers, taken_goes, taken_are, taken_readers}
 use Rattle.hop_side.specs.Resolvers.{Resolvers, PeerRows, resolver_at, res_at, AllCounted}
-use Rattle.hop_side.specs.Steps.{GoesOn, ComesOn, res_entries}
+use Rattle.hop_side.specs.Steps.{GoesOn, res_entries}
 use Rattle.peer_side.specs.Peers.{Chains, chain_at, put_chain, filt_by, filt_at, peer_of}
 use Rattle.peer_side.specs.Steps.{FeedsInward, TakesInward, Changes, chain_weld_entries}
 use Rattle.peer_side.proofs.PutLemmas.{put_each}
@@ -75,7 +81,7 @@ use Rattle.router_core.specs.declared.router.Phase.{Phase}
 use Rattle.router_core.specs.Moments.{Moment, own_of, best_of, read_of, read_rows_by, with_chains, with_hops, with_tree, with_exits, with_redist, with_rib}
 use Rattle.router_core.specs.Blocks.{RunsFirst}
 use Rattle.live_state.specs.Messages.{plain}
-use Rattle.router_core.specs.Turns.{journal_lines, Resolves, FallsPeer, FeedsAll, FollowsInt, BelowInt, FallsRoute, IsPeerTurn, IsHopTurn, IsRouteTurn, IsOutTurn, IsReadTurn, IsOwnTurn, IsExternalTurn, IsTurn, Turns, Runs, RunsPhase, RunsAll}
+use Rattle.router_core.specs.Turns.{journal_lines, Resolves, FallsPeer, FeedsAll, FollowsInt, BelowInt, FallsRoute, IsPeerTurn, IsHopTurn, IsRouteTurn, IsOutTurn, IsReadTurn, IsOwnTurn, IsExternalTurn, IsTurn, Turns, RunsPhase, RunsAll}
 use Rattle.peer_side.proofs.WeldLemmas.{fallen_at, weld_lines, weld_after}
 use Rattle.journal_laws.proofs.PrintedHops.{AllHaveMetrics, rows_print, metrics_fit, ways_fit, answers_kept, answers_mapped, answers_turned, metrics_reached, metrics_put}
 use Rattle.rib_tree.proofs.TreeParts.{put_all}
@@ -87,10 +93,9 @@ module _ (peers : ℕ → Option Neighbour) (most : ℕ) where
 
   -- ---- what stands within a step
   pub record Fit (m : Moment) : Type 0 where
-    pub chains : (k : ℕ) (c : Chained) → chain_at k m.chains ≡ Some c → IsFit peers plain c × (c.peer.number ≡ k)
+    pub chains : (k : ℕ) (c : Chained) → chain_at k m.chains ≡ Some c → IsFit peers plain c × (c.peer.number ≡ k) × (c.incoming.number ≡ k)
     pub interior : (proto : Proto) → AreFit IsInteriorRow (branch_of proto m.tree).tables
     pub few : AreNumbered most m.tree
-    pub placed : (k : ℕ) (c : Chained) → chain_at k m.chains ≡ Some c → c.incoming.number ≡ k
     pub counted : AllCounted (filt_at m.chains) m.hops
     pub registered : tables.get m.registry.rows ≡ int_rows m.tree
     pub metrics : AllHaveMetrics m.hops
@@ -117,7 +122,7 @@ module _ (peers : ℕ → Option Neighbour) (most : ℕ) where
 
   -- ---- next hops
   -- the rows of `filt.K`, and what the register answers
-  filt_fit : (m : Moment) → Fit m → (k : ℕ) → Prints peers route_value (filt_at m.chains k)
+  pub filt_fit : (m : Moment) → Fit m → (k : ℕ) → Prints peers route_value (filt_at m.chains k)
   filt_fit m fit k = by_chain (chain_at k m.chains) refl
     where
       by_chain : (o : Option Chained) → chain_at k m.chains ≡ o → Prints peers route_value (filt_by o)
@@ -177,7 +182,7 @@ module _ (peers : ℕ → Option Neighbour) (most : ℕ) where
   pub read_fit : (m : Moment) → Fit m → AreBestRows peers (read_of m)
   read_fit m fit = read_rows_are peers m fit.readers (best_fit m fit)
 
-  best_shown : (rows : Rows Route) → AreBestRows peers rows → Prints peers route_value rows
+  pub best_shown : (rows : Rows Route) → AreBestRows peers rows → Prints peers route_value rows
   best_shown rows are p row is = let own = are p row is in (own.prefix, own.printed)
 
   -- what the decision sends
@@ -236,10 +241,9 @@ module _ (peers : ℕ → Option Neighbour) (most : ℕ) where
 
       after : Fit (with_exits (with_hops (with_chains m m'.chains) m'.registry m'.hops) m'.exits)
       after = record {
-        chains = subst (λ (a : Chains). (j : ℕ) (c : Chained) → chain_at j a ≡ Some c → IsFit peers plain c × (c.peer.number ≡ j)) (sym then) (put_each (λ j c. IsFit peers plain c × (c.peer.number ≡ j)) k (welded less) m.chains (welded_own, number) fit.chains);
+        chains = subst (λ (a : Chains). (j : ℕ) (c : Chained) → chain_at j a ≡ Some c → IsFit peers plain c × (c.peer.number ≡ j) × (c.incoming.number ≡ j)) (sym then) (put_each (λ j c. IsFit peers plain c × (c.peer.number ≡ j) × (c.incoming.number ≡ j)) k (welded less) m.chains (welded_own, number, placed) fit.chains);
         interior = fit.interior;
         few = fit.few;
-        placed = subst (λ (a : Chains). (j : ℕ) (c : Chained) → chain_at j a ≡ Some c → c.incoming.number ≡ j) (sym then) (put_each (λ j c. c.incoming.number ≡ j) k (welded less) m.chains placed fit.placed);
         counted = subst (λ (u : PeerRows). AllCounted u m'.hops) (λ i j. sym (f.welds.quiet j) i) goes.counted;
         registered = ap tables.get f.below.agreed.others.rows ∙ fit.registered;
         metrics = metrics;
@@ -258,15 +262,12 @@ module _ (peers : ℕ → Option Neighbour) (most : ℕ) where
   feed_goes k w p row sent m said m' there is i fit =
       let f = i.part.feeds in
       let own = fit.chains k f.chain f.at in
-      let who : w ≡ f.chain.peer = one_words w f.chain.peer (sym there ∙ ap peers (sym own.1) ∙ own.0.known) in
+      let who : w ≡ f.chain.peer = same_some w f.chain.peer (sym there ∙ ap peers (sym own.1) ∙ own.0.known) in
       let new = row_heard f.chain.peer p row (subst (λ (x : Neighbour). IsSaid x (p, row)) who is) in
       let less : Chained = fed f.chain p row in
       let less_fit : IsFit peers plain less = with_fit peers plain f.chain (fed_tables f.chain.incoming.tables p row) own.0 (fed_fit (Heard peers plain f.chain) f.chain.incoming.tables p row (tables_fit peers plain f.chain own.0) new) in
       chain_goes k sent (FeedsInward k p row sent m.chains) m less said m' p less_fit own.1 (i.part.fall.sound.own less (fallen_at k m.chains i.fallen less f.after)).number i f.after i.part.changes (chain_fall peers plain f.chain own.0 less p (way_of_feed f.chain.incoming) sent i.entries less_fit is.0 (feed_once peers plain f.chain own.0) f.falls) fit
     where
-      one_words : (a b : Neighbour) → Some a ≡ Some b → a ≡ b
-      one_words a b e = cc
-
       row_heard : (x : Neighbour) (q : Network) (o : Option Attrs) → IsSaid x (q, o) → IfSome o (IsHeardRow plain (not x.internal) q)
       row_heard x q None is = tt
       row_heard x q (Some a) is = is
@@ -278,12 +279,7 @@ module _ (peers : ℕ → Option Neighbour) (most : ℕ) where
   turned_peer : (task : Task) (c less : Chained) (sent : Option (Change Route)) (fall : List (Entry Value)) → Turned c less task sent fall → less.peer.number ≡ c.peer.number
   turned_peer (Del k s) c less sent fall t = ap (λ (x : Chained). x.peer.number) t.1.after
   turned_peer (Fin k) c less sent fall t = ap (λ (x : Chained). x.peer.number) t.1.after
-  turned_peer (Nh k) c less sent fall t = absurd t
-  turned_peer tasks.ReadRib c less sent fall t = absurd t
-  turned_peer (Out k) c less sent fall t = absurd t
-  turned_peer (Rdel proto n) c less sent fall t = absurd t
-  turned_peer tasks.Red c less sent fall t = absurd t
-  turned_peer tasks.Ext c less sent fall t = absurd t
+  turned_peer other c less sent fall t = absurd t
 
   peer_turn_goes : (task : Task) (m : Moment) (said : List Line) (m' : Moment) → IsPeerTurn task m said m' → Goes m said m'
   peer_turn_goes task m said m' t fit =
@@ -302,7 +298,7 @@ module _ (peers : ℕ → Option Neighbour) (most : ℕ) where
       let goes = t.turn.goes (filt_at m.chains) (ap filt_by t.at) fit.counted in
       let metrics : AllHaveMetrics m'.hops = metrics_put k u.taken m.hops m'.hops u.after
       (answers_turned IsMetric route_hop with_metric metric_of _ _ m.registry m'.registry u.resolver u.taken t.sent (answered m fit) u.turned (fit.metrics k u.resolver u.at)) fit.metrics in
-      let named = named_by own.0 (fit.placed k t.chain t.at) in
+      let named : IsNameNumber k = subst IsNameNumber own.2 own.0.named in
       let then = best_rows_are (own_of m) m.chains m'.hops (own_prints m fit) (own_heard m fit) (rows_heard m fit) metrics (filt_fit m fit) in
       let decided : IsSent (best_of m) (best_at (own_of m) m.chains m'.hops) goes.0 t.decided.best =
       t.decided.decides (all_at (own_of m) m.chains m.hops) goes.0 (all_comes (own_of m) m.chains m.chains m.hops m'.hops k goes.0 t.sent (no_peer k named) goes.1.comes) in
@@ -312,7 +308,6 @@ module _ (peers : ℕ → Option Neighbour) (most : ℕ) where
           chains = fit.chains;
           interior = fit.interior;
           few = fit.few;
-          placed = fit.placed;
           counted = goes.1.counted;
           registered = ap tables.get t.turn.agreed.others.rows ∙ fit.registered;
           metrics = metrics;
@@ -323,18 +318,6 @@ module _ (peers : ℕ → Option Neighbour) (most : ℕ) where
         }),
         lines_printed said (t.entries ++ t.best) t.lines (all_both Is t.entries t.best printed decides),
       )
-    where
-      named_by : IsFit peers plain t.chain → t.chain.incoming.number ≡ k → IsNameNumber k
-      named_by own is = subst IsNameNumber is own.named
-
-  -- ---- this speaker's own routes
-  -- What follows a change of them, or none: over these rows of all `res.K`.
-  own_decided : (own now : Rows Route) (a : Chains) (h : Resolvers) (p : Network) (sent : Option (Change Route)) → IsSent own now p sent → ComesOn 0 p sent (all_at own a h) (all_at now a h)
-  own_decided own now a h p sent is = record { here = is; others = others }
-    where
-      others : (j : ℕ) → nat_eq j 0 ≡ false → all_at now a h j ≡ all_at own a h j
-      others zero e = absurd (let clash : true ≡ false = e in cc)
-      others (suc k) e = refl
 
   -- ---- the tree
   -- it became another, with the same rows of `int`
@@ -343,7 +326,6 @@ module _ (peers : ℕ → Option Neighbour) (most : ℕ) where
     chains = fit.chains;
     interior = then;
     few = few;
-    placed = fit.placed;
     counted = fit.counted;
     registered = fit.registered ∙ sym same;
     metrics = fit.metrics;
@@ -378,7 +360,7 @@ module _ (peers : ℕ → Option Neighbour) (most : ℕ) where
     decided : IsSent (best_of m) (best_of after) p f.own.decided.best
     decided = subst (λ (x : Rows Route). IsSent x (best_of after) p f.own.decided.best) was
         (subst (λ (s : Option Speaker). IsSent (best_at (own_rows s m.redist (int_rows m.tree)) m.chains m'.hops) (best_at (own_rows s m.redist (int_rows new)) m.chains m'.hops) p f.own.decided.best) (sym f.local)
-        (f.own.decided.decides (all_at (own_rows (Some f.me) m.redist (int_rows m.tree)) m.chains m'.hops) p (own_decided _ _ m.chains m'.hops p f.own.own (f.own.passed (int_rows m.tree) (int_rows new) p rows))))
+        (f.own.decided.decides (all_at (own_rows (Some f.me) m.redist (int_rows m.tree)) m.chains m'.hops) p (own_comes f.own.own _ _ m.chains m'.hops m'.hops p (f.own.passed (int_rows m.tree) (int_rows new) p rows) (λ j. refl))))
 
     metrics : AllHaveMetrics m'.hops
     metrics = metrics_reached f.informed.reached m.hops m'.hops f.informed.resolvers.reaches fit.metrics
@@ -405,7 +387,6 @@ module _ (peers : ℕ → Option Neighbour) (most : ℕ) where
       chains = fit.chains;
       interior = then;
       few = few;
-      placed = fit.placed;
       counted = f.informed.resolvers.stays.counted (filt_at m.chains) fit.counted;
       registered = registered;
       metrics = metrics;
@@ -430,11 +411,6 @@ module _ (peers : ℕ → Option Neighbour) (most : ℕ) where
   below_goes m new p (Some change) m' entries then few rows below fit =
       (subst Fit (sym below.1) (followed_fit m new p change m' entries then few rows below.0 fit), followed_printed m new p change m' entries then few rows below.0 fit)
 
-  -- none of it touches the tree
-  below_tree : (sent : Option (Change Interior)) (int : Rows Interior) (m m' : Moment) (entries : List (Entry Value)) → BelowInt sent int m m' entries → m'.tree ≡ m.tree
-  below_tree None int m m' entries below = ap (λ (x : Moment). x.tree) below.0
-  below_tree (Some change) int m m' entries below = ap (λ (x : Moment). x.tree) below.1
-
   pub route_goes : (m : Moment) (new : Treed) (proto : Proto) (p : Network) (way : List Link) (said : List Line) (m' : Moment) → ((other : Proto) → AreFit IsInteriorRow (branch_of other new).tables) → AreNumbered most new → IsPrefix p → AreEachOnce way
       → FallsRoute m new proto p way said m' → Goes m said m'
   route_goes m new proto p way said m' then few prefix once f fit =
@@ -448,7 +424,7 @@ module _ (peers : ℕ → Option Neighbour) (most : ℕ) where
         subst Fit (sym f.after) (replanted f.followed (welded_tree proto new)
             (put_all (λ (b : Branch). AreFit IsInteriorRow b.tables) proto (welded_branch own) new (welded_fit IsInteriorRow own.tables (then proto)) then)
             (put_all (λ (b : Branch). b.losses ≤ most) proto (welded_branch own) new (few proto) few)
-            (f.int ∙ sym (ap int_rows (below_tree f.sent (int_rows new) (with_tree m new) f.followed f.below f.below_int))) below.0),
+            (f.int ∙ sym (ap int_rows (tree_stays f.sent (int_rows new) (with_tree m new) f.followed f.below f.below_int))) below.0),
         lines_printed said (f.entries ++ (f.below ++ tree_weld_entries proto new)) f.lines (all_both Is f.entries _ fall (all_both Is f.below _ below.1 weld)),
       )
 
@@ -462,11 +438,23 @@ module _ (peers : ℕ → Option Neighbour) (most : ℕ) where
       (put_all (λ (x : Branch). AreFit IsInteriorRow x.tables) proto (swept_branch n t.prefix b) m.tree (swept_fit IsInteriorRow n t.prefix b.tables own) fit.interior)
       (put_all (λ (x : Branch). x.losses ≤ most) proto (swept_branch n t.prefix b) m.tree (fit.few proto) fit.few) shown.prefix once t.falls fit
 
-  -- ---- the walk of redistribution
-  sent_at : (next : Option Network) (old new : Rows Route) (sent : Option (Change Route)) → IsSentAt next old new sent → (p : Network) × IsSent old new p sent
-  sent_at None old new sent is = (record { address = 0; length = 0 }, subst (λ (s : Option (Change Route)). IsSent old new (record { address = 0; length = 0 }) s) (sym is.0) is.1)
-  sent_at (Some p) old new sent is = (p, is)
+  -- where neither the chains and resolvers nor the tree become others
+  pub with_readers : (m : Moment) (own : Passed Protos) (e : Exited) (r : Registry Interior) (x : RibExit) → Fit m → r.rows ≡ m.registry.rows → HaveWays x.forwarding → FitReaders peers (record m { redist = own; exits = e; registry = r; rib = x })
+      → Fit (record m { redist = own; exits = e; registry = r; rib = x })
+  with_readers m own e r x fit rows ways readers = record {
+    chains = fit.chains;
+    interior = fit.interior;
+    few = fit.few;
+    counted = fit.counted;
+    registered = ap tables.get rows ∙ fit.registered;
+    metrics = fit.metrics;
+    ways = ways;
+    nobody = fit.nobody;
+    sender = fit.sender;
+    readers = readers;
+  }
 
+  -- ---- the walk of redistribution
   own_turn_goes : (m : Moment) (said : List Line) (m' : Moment) → IsOwnTurn m said m' → Goes m said m'
   own_turn_goes m said m' t fit = (subst Fit (sym t.after) then, lines_printed said (own_entries t.own ++ t.best) t.lines (all_both Is (own_entries t.own) t.best own decides))
     where
@@ -474,7 +462,7 @@ module _ (peers : ℕ → Option Neighbour) (most : ℕ) where
       now = with_exits (with_redist m m'.redist) m'.exits
 
       walks : (p : Network) × IsSent (passed_rows (redistributed t.me) m.redist (int_rows m.tree)) (passed_rows (redistributed t.me) m'.redist (int_rows m.tree)) p t.own
-      walks = sent_at t.walks.next _ _ t.own t.walks.changes
+      walks = walked_sent t.walks.next _ _ t.own t.walks.changes
 
       sent : IsSent (own_of m) (own_of now) walks.0 t.own
       sent = subst (λ (s : Option Speaker). IsSent (own_rows s m.redist (int_rows m.tree)) (own_rows s m'.redist (int_rows m.tree)) walks.0 t.own) (sym t.local) walks.1
@@ -493,79 +481,24 @@ module _ (peers : ℕ → Option Neighbour) (most : ℕ) where
 
       decided : IsSent (best_of m) (best_of now) walks.0 t.decided.best
       decided = subst (λ (own : Rows Route). IsSent (best_of m) (best_at own m.chains m.hops) walks.0 t.decided.best) same
-          (t.decided.decides (all_at (own_of m) m.chains m.hops) walks.0 (own_decided (own_of m) (own_of m') m.chains m.hops walks.0 t.own (subst (λ (own : Rows Route). IsSent (own_of m) own walks.0 t.own) (sym same) sent)))
+          (t.decided.decides (all_at (own_of m) m.chains m.hops) walks.0 (own_comes t.own (own_of m) (own_of m') m.chains m.hops m.hops walks.0 (subst (λ (own : Rows Route). IsSent (own_of m) own walks.0 t.own) (sym same) sent) (λ j. refl)))
 
       decides : ArePrintedEntries peers t.best
       decides = subst (ArePrintedEntries peers) (sym t.decided.lines) (decided_printed (best_of m) (best_of now) walks.0 t.decided.best (best_fit m fit) best_then decided)
 
       then : Fit now
-      then = record {
-        chains = fit.chains;
-        interior = fit.interior;
-        few = fit.few;
-        placed = fit.placed;
-        counted = fit.counted;
-        registered = fit.registered;
-        metrics = fit.metrics;
-        ways = fit.ways;
-        nobody = fit.nobody;
-        sender = fit.sender;
-        readers = queued_readers peers m now walks.0 t.decided.best (best_fit m fit) best_then decided t.queued refl refl (λ rows over. over) fit.readers;
-      }
+      then = with_readers m m'.redist m'.exits m.registry m.rib fit refl fit.ways (queued_readers peers m now walks.0 t.decided.best (best_fit m fit) best_then decided t.queued refl refl (λ rows over. over) fit.readers)
 
   -- ---- what reads `best`
-  -- the moment with other exits
-  pub with_fit_exits : (m : Moment) (e : Exited) → Fit m → FitReaders peers (with_exits m e) → Fit (with_exits m e)
-  with_fit_exits m e fit readers = record {
-    chains = fit.chains;
-    interior = fit.interior;
-    few = fit.few;
-    placed = fit.placed;
-    counted = fit.counted;
-    registered = fit.registered;
-    metrics = fit.metrics;
-    ways = fit.ways;
-    nobody = fit.nobody;
-    sender = fit.sender;
-    readers = readers;
-  }
-
   out_turn_goes : (k : ℕ) (m : Moment) (said : List Line) (m' : Moment) → IsOutTurn k m said m' → Goes m said m'
   out_turn_goes k m said m' t fit =
       let x = out_readers peers m k t.sent m'.exits said fit.readers (best_fit m fit) t.turn in
-      (subst Fit (sym t.after) (with_fit_exits m m'.exits fit x.0), x.1)
-
-  -- with another RIB's exit, and what it asked the register
-  with_fit_rib : (m : Moment) (r : Registry Interior) (x : RibExit) → Fit m → KeepsOthers 0 m.registry r → HaveWays x.forwarding → FitReaders peers (with_rib m r x) → Fit (with_rib m r x)
-  with_fit_rib m r x fit others ways readers = record {
-    chains = fit.chains;
-    interior = fit.interior;
-    few = fit.few;
-    placed = fit.placed;
-    counted = fit.counted;
-    registered = ap tables.get others.rows ∙ fit.registered;
-    metrics = fit.metrics;
-    ways = ways;
-    nobody = fit.nobody;
-    sender = fit.sender;
-    readers = readers;
-  }
+      (subst Fit (sym t.after) (with_readers m m.redist m'.exits m.registry m.rib fit refl fit.ways x.0), x.1)
 
   read_turn_goes : (m : Moment) (said : List Line) (m' : Moment) → IsReadTurn m said m' → Goes m said m'
   read_turn_goes m said m' t fit = (
-    subst Fit (sym t.after) (record {
-      chains = fit.chains;
-      interior = fit.interior;
-      few = fit.few;
-      placed = fit.placed;
-      counted = fit.counted;
-      registered = ap tables.get t.external.agreed.others.rows ∙ fit.registered;
-      metrics = fit.metrics;
-      ways = ways;
-      nobody = fit.nobody;
-      sender = fit.sender;
-      readers = taken_readers peers m t.reader t.change m'.exits.queue fit.readers (best_fit m fit) t.reads t.takes (with_rib (with_exits m (with_queue m'.exits.queue m.exits)) m'.registry m'.rib) refl refl refl refl goes.stands;
-    }),
+    subst Fit (sym t.after) (with_readers m m.redist (with_queue m'.exits.queue m.exits) m'.registry m'.rib fit t.external.agreed.others.rows ways
+        (taken_readers peers m t.reader t.change m'.exits.queue fit.readers (best_fit m fit) t.reads t.takes (with_rib (with_exits m (with_queue m'.exits.queue m.exits)) m'.registry m'.rib) refl refl refl refl goes.stands)),
     lines_printed said (sent_entries route_value ReadRib (Some t.change) ++ t.entries) t.lines (all_both Is (sent_entries route_value ReadRib (Some t.change)) t.entries
         (sent_printed peers route_value ReadRib (read_of m) now t.change.prefix (Some t.change) tt (best_shown (read_of m) (read_fit m fit)) (best_shown now are) sent)
         (subst (ArePrintedEntries peers) (sym t.external.lines)
@@ -592,7 +525,7 @@ module _ (peers : ℕ → Option Neighbour) (most : ℕ) where
       let ways : HaveWays m'.rib.forwarding = answers_turned IsWay external_hop over way_of _ _ m.registry m'.registry m.rib.forwarding m'.rib.forwarding t.turn.resolved (answered_ways m fit) t.turn.turned fit.ways in
       let r = fit.readers in
       let then = t.turn.stands (read_of m) r.external in (
-        subst Fit (sym t.after) (with_fit_rib m m'.registry m'.rib fit t.turn.agreed.others ways (record { sound = r.sound; profile = r.profile; exits = r.exits; leads = r.leads; reads = r.reads; external = then })),
+        subst Fit (sym t.after) (with_readers m m.redist m.exits m'.registry m'.rib fit t.turn.agreed.others.rows ways (record { sound = r.sound; profile = r.profile; exits = r.exits; leads = r.leads; reads = r.reads; external = then })),
         lines_printed said t.entries t.lines (subst (ArePrintedEntries peers) (sym t.turn.lines) (fib_printed peers (fib_over m.rib (int_rows m.tree)) (fib_over m'.rib (int_rows m.tree)) t.turn.fib.0 t.fib
             (fib_print peers m.rib (read_of m) (int_rows m.tree) r.external (read_fit m fit) fit.ways (int_fit m fit)) (fib_print peers m'.rib (read_of m) (int_rows m.tree) then (read_fit m fit) ways (int_fit m fit)) t.turn.fib.1)),
       )
@@ -609,20 +542,13 @@ module _ (peers : ℕ → Option Neighbour) (most : ℕ) where
   turn_goes tasks.Ext m said m' t = external_turn_goes m said m' t
 
   pub turns_go : (n : ℕ) (task : Task) (m : Moment) (said : List Line) (m' : Moment) → Turns n task m said m' → Goes m said m'
-  turns_go zero task m said m' t = goes_nowhere m m' said t.0 t.1
-  turns_go (suc n) task m said m' t = goes_then m t.2 m' t.0 t.1 said (turn_goes task m t.0 t.2 t.3) (turns_go n task t.2 t.1 m' t.4) t.5
-
-  runs_go : (phase : Phase) (n : ℕ) (m : Moment) (said : List Line) (turns : ℕ) (m' : Moment) → Runs phase n m said turns m' → Goes m said m'
-  runs_go phase zero m said turns m' r = goes_nowhere m m' said r.0 r.2
-  runs_go phase (suc n) m said turns m' r = goes_then m r.4 m' r.0 r.1 said (runs_go phase n m r.0 r.2 r.4 r.5) (turns_go r.3 r.6.0 r.4 r.1 m' r.6.2.0) r.7
+  turns_go = turns_along Goes goes_nowhere goes_then turn_goes
 
   pub phase_goes : (phase : Phase) (m : Moment) (said : List Line) (turns : ℕ) (m' : Moment) → RunsPhase phase m said turns m' → Goes m said m'
-  phase_goes phase m said turns m' r = runs_go phase r.count m said turns m' r.runs
+  phase_goes = phase_along Goes goes_nowhere goes_then turn_goes
 
   pub phases_go : (phases : List Phase) (m : Moment) (said : List Line) (turns : ℕ) (m' : Moment) → RunsAll phases m said turns m' → Goes m said m'
-  phases_go [] m said turns m' r = goes_nowhere m m' said r.0 r.2
-  phases_go (phase ∷ later) m said turns m' r = goes_then m r.4 m' r.0 r.1 said (phase_goes phase m r.0 r.2 r.4 r.5) (phases_go later r.4 r.1 r.3 m' r.6) r.7
+  phases_go = phases_along Goes goes_nowhere goes_then turn_goes
 
   pub first_goes : (task : Option Task) (m : Moment) (said : List Line) (m' : Moment) → RunsFirst task m said m' → Goes m said m'
-  first_goes None m said m' r = goes_nowhere m m' said r.0 r.1
-  first_goes (Some task) m said m' r = turns_go r.0 task m said m' r.1.0
+  first_goes = first_along Goes goes_nowhere goes_then turn_goes

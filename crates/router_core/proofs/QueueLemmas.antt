@@ -25,7 +25,7 @@ use Rattle.rib_tree.specs.Trees.{int_rows}
 use Rattle.rib_exit.specs.Exits.{StandsOver}
 use Rattle.router_core.specs.Bests.{Queues}
 use Rattle.router_core.specs.Moments.{Moment, Policies, own_of, best_of, read_by, read_links, read_rows_by, read_of, plain, rules_to}
-use Rattle.router_core.specs.Stands.{Stands, EachRow, EachExit, QueueLeads, ExitsRead, PlainExits, OneSender, SameSessions, OneReader, ExternalStands, RowsWereHeard, MaySend, IsExitOf, ExitsAt, ReadsOn}
+use Rattle.router_core.specs.Stands.{Stands, EachExit, QueueLeads, ExitsRead, PlainExits, OneSender, SameSessions, OneReader, ExternalStands, RowsWereHeard, MaySend, IsExitOf, ExitsAt, ReadsOn}
 use Rattle.router_core.proofs.HeardRows.{heard_best, heard_own_rows}
 
 -- ---- who has none
@@ -64,19 +64,6 @@ pub record ExitsStand (m : Moment) : Type 0 where
   pub one : ReadsOn m.declared.speaker m.reader m.exits
   pub external : StandsOver (read_of m) m.rib
 
-pub exits_of : (m : Moment) → Stands m → ExitsStand m
-exits_of m stands = record {
-  rows = stands.own EachRow;
-  each = stands.own EachExit;
-  all = stands.own QueueLeads;
-  read = stands.own ExitsRead;
-  plain = stands.own PlainExits;
-  sender = stands.own OneSender;
-  sessions = stands.own SameSessions;
-  one = stands.own OneReader;
-  external = stands.own ExternalStands;
-}
-
 -- the reader of the forwarding side is one of the queue's
 pub reads_live : (s : Option Speaker) (reader : Option ℕ) (e : Exited) → ReadsOn s reader e → (r : ℕ) → reader ≡ Some r → IsSome (tables.get e.queue r)
 reads_live (Some me) (Some q) e on r is = let same : q ≡ r = cc in subst (λ (n : ℕ). IsSome (tables.get e.queue n)) same on.live
@@ -93,9 +80,6 @@ reads_apart (Some me) (Some q) e on r is j c at = let same : q ≡ r = cc in sub
 reads_apart (Some me) None e on r is j c at = absurd on
 reads_apart None (Some q) e on r is j c at = absurd on
 reads_apart None None e on r is j c at = absurd (cc)
-
-pub reader_apart : (m : Moment) → Stands m → (r : ℕ) → m.reader ≡ Some r → (j : ℕ) (c : OutChained) → exit_at j m.exits ≡ Some c → c.reader ≢ r
-reader_apart m stands = reads_apart m.declared.speaker m.reader m.exits (stands.own OneReader)
 
 -- where each reader stays live, and each chain keeps its reader
 pub reads_on : (s : Option Speaker) (reader : Option ℕ) (e e' : Exited) → e'.chains ≡ e.chains → ((r : ℕ) → IsSome (tables.get e.queue r) → IsSome (tables.get e'.queue r)) → ReadsOn s reader e → ReadsOn s reader e'

@@ -1,6 +1,6 @@
 -- Lookups in what reads `best`.
-use Rattle.std.proofs.Common.{◌≡◌, ℕ, Option, Some, sym, ap, subst, ◌∙◌}
-use Rattle.std.specs.Prelude.{IsSome, option_map}
+use Rattle.std.proofs.Common.{◌≡◌, ℕ, Option, Some, sym, ap, ◌∙◌}
+use Rattle.std.specs.Prelude.{option_map}
 use Rattle.std.proofs.lemmas.Option.{same_Some}
 use Rattle.addr4.specs.Prefixes.{Network}
 use Rattle.bgp_attr.specs.declared.route.Route.{Route}
@@ -39,9 +39,6 @@ module _ (m v : Moment) (d : Declaration) (t : Treed) (s : Passed Protos) (a : C
   -- ---- links of exits
   pub sent_links : exit_links v.exits lent ≡ exit_links m.exits (best_of m)
   sent_links = ap (exit_links v.exits) lent_is ∙ ap (λ (x : Moment). exit_links x.exits (best_of m)) view
-
-  pub sent_live : (link : Link) → IsSome (exit_links m.exits (best_of m) link) → IsSome (exit_links v.exits lent link)
-  sent_live link live = subst (λ (l : Links Value). IsSome (l link)) (sym sent_links) live
 
   pub sent_next : (link : Link) (place result : Option Network) (candidates : Candidates) → IsNextCandidate candidates place result → ((rows : Rows Value) → exit_links v.exits lent link ≡ Some rows → CoversRows candidates rows)
       → IsNextPlace (exit_links m.exits (best_of m) link) place result

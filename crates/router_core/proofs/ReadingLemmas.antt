@@ -32,7 +32,7 @@ use Rattle.hop_side.specs.Resolvers.{known_in}
 use Rattle.rib_tree.specs.Trees.{Treed, int_candidates, tree_count}
 use Rattle.rib_exit.specs.Exits.{known_in as external_known}
 use Rattle.router_core.specs.Moments.{Moment, longest_of, most_unread, bound_of, candidates_of}
-use Rattle.router_core.specs.Phases.{best_beyond, tree_beyond, reading}
+use Rattle.router_core.specs.Phases.{best_beyond, reading}
 use Rattle.router_core.specs.Stands.{Stands, SmallNumbers}
 use Rattle.router_core.proofs.BeyondLemmas.{table_further, tree_most, tree_within, tree_further, tree_fewer}
 
@@ -253,10 +253,6 @@ beyond_within a t =
     let peers = sum_by-le-sum_by (λ c. filt_beyond c None) row_count (tables.values a) (λ c. (candidates_are_counted c).1) in
     let own = tree_within t None in
     omega (arith, peers, own)
-
--- where no more lie beyond any place in the tree
-pub best_less : (a : Chains) (t t' : Treed) → ((place : Option Network) → tree_beyond t' place ≤ tree_beyond t place) → (place : Option Network) → best_beyond a t' place ≤ best_beyond a t place
-best_less a t t' less place = let own = less place in omega (arith, own)
 
 -- ---- the announced number is computed as it is told
 pub bound_is : (m v : Moment) (peers rows all resolvers external hops unread : ℕ) → v ≡ m → peers ≡ length v.declared.peers → rows ≡ rows_in v.chains → all ≡ rows + tree_count v.tree → resolvers ≡ known_in v.hops

@@ -17,7 +17,7 @@ use Rattle.journal_text.specs.declared.line.Line.{Line}
 use Rattle.journal_text.specs.Journals.{Journaled, with_entries, Adds}
 use Rattle.journal_text.specs.Texts.{entries_of}
 use Rattle.journal_text.specs.Walk.{Leads}
-use Rattle.journal_text.proofs.JournalLemmas.{with_entries_append, with_entries_none, entries_of_entries}
+use Rattle.journal_text.proofs.JournalLemmas.{with_entries_append, entries_of_entries}
 use Rattle.journal_text.proofs.WalkLemmas.{leads_append, leads_nowhere}
 use Rattle.register_interest.specs.Registers.{Registry}
 use Rattle.pass_core.specs.Turns.{passed_rows}
@@ -93,11 +93,8 @@ followed change fib m m1 m2 v before j now informs redistributes view takes = su
     own : Adds (Redistributes change told m2) before j
     own = subst (λ (n : Moment). Adds (Redistributes change n m2) before j) informs.after redistributes
 
-pub nothing_followed : (sent : Option (Change Interior)) (m : Moment) (before : Journaled) → sent ≡ None → Adds (Follows sent m m) before before
-nothing_followed sent m before is = subst (λ (o : Option (Change Interior)). Adds (Follows o m m) before before) (sym is) ([], sym (with_entries_none before), (refl, refl))
-
 -- the tree stays
-tree_stays : (sent : Option (Change Interior)) (int : Rows Interior) (m m1 : Moment) (entries : List (Entry Value)) → BelowInt sent int m m1 entries → m1.tree ≡ m.tree
+pub tree_stays : (sent : Option (Change Interior)) (int : Rows Interior) (m m1 : Moment) (entries : List (Entry Value)) → BelowInt sent int m m1 entries → m1.tree ≡ m.tree
 tree_stays None int m m1 entries below = ap (λ (x : Moment). x.tree) below.0
 tree_stays (Some change) int m m1 entries below = ap (λ (x : Moment). x.tree) below.1
 

@@ -11,7 +11,7 @@ use Rattle.in_chain.specs.Laws.{TurnsAreBounded, TurnsAreLeft}
 use Rattle.in_chain.proofs.TurnLemmas.{turns_are_bounded as bounded_turns}
 use Rattle.rib_tree.specs.Trees.{tree_count}
 use Rattle.router_core.specs.declared.router.Phase.{Phase}
-use Rattle.router_core.specs.declared.router.Phase.TheVariants.{Rdel, Red, Del, Fin, Nh, ReadRib, Out, Ext}
+use Rattle.router_core.specs.declared.router.Phase.TheVariants.{Rdel, Red, Del, Fin, ReadRib, Out}
 use Rattle.hop_side.specs.Resolvers.{known_in}
 use Rattle.rib_exit.specs.Exits.{known_in as external_known}
 use Rattle.peer_side.specs.Peers.{rows_in}
@@ -45,11 +45,7 @@ work_none r m stands = record { keeps = keeps_none m stands; falls = omega arith
     none_known Del = (omega arith, omega arith)
     none_known Fin = omega arith
     none_known ReadRib = omega arith
-    none_known Rdel = (omega arith, omega arith)
-    none_known Red = (omega arith, omega arith)
-    none_known Nh = (omega arith, omega arith)
-    none_known Out = (omega arith, omega arith)
-    none_known Ext = (omega arith, omega arith)
+    none_known other = (omega arith, omega arith)
 
 no_more_then : (a b c : Moment) (es : List Phase) → AllByRecursion (λ e. counts b e ≤ counts a e) es → AllByRecursion (λ e. counts c e ≤ counts b e) es → AllByRecursion (λ e. counts c e ≤ counts a e) es
 no_more_then a b c [] x y = tt
@@ -69,11 +65,7 @@ known_then : (r : Phase) (a b c : Moment) → KnowsNoMore r a b → KnowsNoMore 
 known_then Del a b c x y = both_less a b c x y
 known_then Fin a b c x y = omega (arith, x, y)
 known_then ReadRib a b c x y = omega (arith, x, y)
-known_then Rdel a b c x y = both_less a b c x y
-known_then Red a b c x y = both_less a b c x y
-known_then Nh a b c x y = both_less a b c x y
-known_then Out a b c x y = both_less a b c x y
-known_then Ext a b c x y = both_less a b c x y
+known_then other a b c x y = both_less a b c x y
 
 work_join : (r : Phase) (n k : ℕ) (a b c : Moment) (xs ys : List Line) → IsWork r n a b xs → IsWork r k b c ys → IsWork r (n + k) a c (xs ++ ys)
 work_join r n k a b c xs ys x y = record {

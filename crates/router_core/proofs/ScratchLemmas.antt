@@ -1,28 +1,23 @@
 -- The rows that no work holds up at a prefix are what the live state alone asks for.
-use Rattle.std.proofs.Common.{◌≡◌, ℕ, zero, suc, ◌+◌, ◌<◌, ◌≤◌, ◌==◌, ◌&&◌, ◌||◌, not, Bool, true, false, cond, List, [], ◌∷◌, Option, Some, None, is_some, nat_eq, refl, sym, ap, subst, ◌∙◌, arith}
-use Rattle.std.specs.Prelude.{option_map, IsSome, Contains}
-use Rattle.std.specs.List.{list_any, range_with_len}
+use Rattle.std.proofs.Common.{◌≡◌, ℕ, zero, suc, ◌<◌, ◌==◌, ◌&&◌, not, Bool, true, false, cond, List, [], Option, Some, None, is_some, nat_eq, refl, sym, ap, subst, ◌∙◌, arith, ◌+◌, ◌∷◌}
+use Rattle.std.specs.Prelude.{option_map, IsSome}
 use Rattle.std.specs.FinMap as tables
-use Rattle.std.specs.FinMap.{FinMap}
-use Rattle.addr4.specs.Prefixes.{Network, prefix_cmp}
+use Rattle.addr4.specs.Prefixes.{Network, block}
 use Rattle.bgp_attr.specs.declared.attrs.Attrs.{Attrs}
 use Rattle.bgp_attr.specs.declared.route.Route.{Route}
 use Rattle.bgp_attr.specs.declared.speaker.Speaker.{Speaker}
 use Rattle.bgp_attr.specs.declared.speaker.Neighbour.{Neighbour}
 use Rattle.bgp_attr.specs.declared.speaker.Profile.{Profile}
 use Rattle.link_change.specs.Rows.{Rows}
-use Rattle.link_change.specs.InOrder.{rows_before, changed_in}
-use Rattle.link_change.specs.declared.change.Change.{Change}
-use Rattle.link_change.proofs.RowLemmas.{same_function}
+use Rattle.link_change.specs.InOrder.{changed_in}
 use Rattle.link_change.proofs.InOrderLemmas.{unchanged_stays}
-use Rattle.loss_chain.specs.Lost.{Lost}
 use Rattle.loss_chain.specs.Steps.{table_of}
 use Rattle.loss_chain.specs.Tables.{rows_above}
-use Rattle.loss_chain.specs.Held.{has_row}
+use Rattle.loss_chain.specs.Held.{has_row, has_within}
 use Rattle.loss_chain.proofs.HeldLemmas.{live_where_none_is_lost}
 use Rattle.loss_chain.proofs.TableLemmas.{same_by, no_table}
 use Rattle.policy_rules.specs.declared.rule.Rule.{Rule}
-use Rattle.pass_core.specs.Passed.{Passed, Walked, present, function_at}
+use Rattle.pass_core.specs.Passed.{Passed, present, function_at}
 use Rattle.peer_out.specs.Forms.{as_sent}
 use Rattle.filter_bank.specs.Filtered.{filtered}
 use Rattle.filter_bank.specs.Outgoing.{outgoing}
@@ -34,7 +29,7 @@ use Rattle.journal_text.specs.declared.link.Link.TheVariants.{In, Peer, Filt, Re
 use Rattle.journal_text.specs.declared.link.Task.{Task}
 use Rattle.journal_text.specs.declared.link.Task.TheVariants.{Del, Fin, Nh, ReadRib as Reading, Out, Rdel, Red as Own, Ext as External}
 use Rattle.journal_text.specs.declared.value.Value.{Value}
-use Rattle.journal_text.specs.Values.{valued, attrs_value, route_value, interior_value, external_value, fib_value, attrs_rows, route_rows, interior_rows, fib_rows}
+use Rattle.journal_text.specs.Values.{valued, attrs_value, route_value, interior_value, external_value, fib_value, attrs_rows, route_rows, interior_rows}
 use Rattle.event_text.specs.declared.declared.DeclaredPeer.{DeclaredPeer}
 use Rattle.event_text.specs.Declarations.{peer_at}
 use Rattle.in_chain.specs.Incomings.{in_rows}
@@ -43,12 +38,10 @@ use Rattle.rib_route.specs.declared.Proto.{Proto}
 use Rattle.rib_route.specs.declared.Proto.TheVariants.{Connected, Static, Ospf, Rip}
 use Rattle.rib_route.specs.declared.rows.Interior.{Interior}
 use Rattle.rib_route.specs.declared.rows.External.{External as ExternalRow}
-use Rattle.rib_route.specs.declared.rows.FibRow.{FibRow}
-use Rattle.rib_route.specs.Distances.{external_proto}
 use Rattle.rib_route.specs.Forwarding.{fib_row}
-use Rattle.rib_merge.specs.Merging.{row_of_both}
+use Rattle.rib_merge.specs.Merging.{row_of_both, merged}
 use Rattle.rib_tree.specs.Branches.{org_rows}
-use Rattle.rib_tree.specs.Trees.{branch_of, low_rows, dyn_rows, int_rows, tree_links, IsTree}
+use Rattle.rib_tree.specs.Trees.{branch_of, low_rows, dyn_rows, int_rows, tree_links, IsTree, Treed, interior_distance}
 use Rattle.rib_tree.specs.Steps.{tree_lags}
 use Rattle.rib_tree.specs.Laws.{OrgWhereNoneIsLost}
 use Rattle.rib_tree.proofs.RestLemmas.{no_link}
@@ -57,20 +50,19 @@ use Rattle.exit_side.specs.Laws as exits
 use Rattle.rib_exit.specs.Laws as external
 use Rattle.peer_side.specs.Peers.{chain_at, links_by, filt_by, filt_at, routes_of, rules_of, has_turn_in, lags_in}
 use Rattle.live_state.specs.Lives.{Routes, Interiors}
-use Rattle.live_state.specs.Decided.{live_rows, judged_rows, accepted_rows, least_rows, origins, since_local, with_metric_of, resolved_row, resolved_rows, longest_match, rows_if_any, resolved_of, own_row, own_rows as live_own_rows, candidates_of as live_candidates, best_of as live_best, external_row, external_rows, over_interior, first_router, reached_row, lesser_of, forwarding_rows, sent_rows, in_session}
+use Rattle.live_state.specs.Decided.{live_rows, judged_rows, least_rows, origins, since_local, with_metric_of, resolved_row, resolved_rows, longest_match, rows_if_any, resolved_of, own_row, own_rows as live_own_rows, candidates_of as live_candidates, best_of as live_best, external_row, external_rows, over_interior, reached_row, forwarding_rows, sent_rows, in_session, or_else, longest_within}
 use Rattle.live_state.proofs.LongestLemmas.{match_is}
-use Rattle.live_state.proofs.LeastLemmas.{first_false, second_false}
+use Rattle.live_state.proofs.LeastLemmas.{first_false, second_false, least_two, least_four}
 use Rattle.redist.specs.declared.protos.Protos.{Protos}
 use Rattle.redist.specs.Protocols.{has}
 use Rattle.redist.specs.Local.{redistributed, local_route}
 use Rattle.register_interest.specs.Covers.{longest}
 use Rattle.nexthop_resolver.specs.declared.rows.Metric.{Metric}
-use Rattle.nexthop_resolver.specs.declared.rows.Way.{Way}
-use Rattle.nexthop_resolver.specs.Kept.{route_hop, metric_of, with_metric, external_hop, over, way_of, first_router as way_router}
+use Rattle.nexthop_resolver.specs.Kept.{route_hop, metric_of, with_metric, over, way_of}
 use Rattle.nexthop_resolver.specs.Resolving.{Resolving, Answers, passes, made_by as goes_by, goes_on}
 use Rattle.nexthop_resolver.specs.Registered.{answer_of}
 use Rattle.nexthop_resolver.proofs.MoveLemmas.{same_some, clash_some}
-use Rattle.hop_side.specs.Resolvers.{resolver_at, metric_rows, rows_by, link_by, same_metric}
+use Rattle.hop_side.specs.Resolvers.{resolver_at, metric_rows, rows_by, link_by}
 use Rattle.decision.proofs.LawLemmas.{best_is_picked, best_is_of_its_prefix, best_is_a_branchs}
 use Rattle.fanout_queue.specs.Readers.{read_rows, unread_by}
 use Rattle.out_chain.specs.Chains.{OutChained, made_by, outf_rows}
@@ -79,8 +71,7 @@ use Rattle.ext_int.specs.Fibs.{fib_distance}
 use Rattle.ext_int.specs.Laws.{reached}
 use Rattle.rib_split.specs.declared.split.BgpLink.TheVariants as sides
 use Rattle.rib_split.specs.Tables.{kept_rows}
-use Rattle.rib_exit.specs.Exits.{ext_rows, fib_over, exit_links as external_links, same_way, StandsOver}
-use Rattle.rib_exit.proofs.BusyLemmas.{tells_ways}
+use Rattle.rib_exit.specs.Exits.{ext_rows, fib_over, exit_links as external_links}
 use Rattle.link_region.proofs.RegionLemmas.{by_bool}
 use Rattle.std.proofs.lemmas.Bool.Decides.{nat_tests}
 use Rattle.router_core.specs.Bests.{own_rows, own_links, all_at, best_links}
@@ -93,7 +84,39 @@ use Rattle.router_core.proofs.StandLemmas.{registered_rows}
 use Rattle.router_core.proofs.ForwardLemmas.{own_at, over_is, lesser_is, ebgp_is, ibgp_is, ext_is}
 use Rattle.router_core.specs.Holding.{next_hop_at, peer_numbers, is_over, is_over_hop, holds_up_at}
 use Rattle.router_core.specs.Scratch.{Feeds, HoldsUp, directly, through, row_in, IsExactIn, IsAtRestIn}
-use Rattle.router_core.proofs.TableLemmas.{none_below, two_at, int_at, match_at}
+use Rattle.std.specs.List.{list_any, range_with_len}
+
+-- ---- the interior routes at a prefix that no lost table has
+-- of numbers below a bound none passes a test that none of the list passes
+none_below : (f : ℕ → Bool) (a n k : ℕ) → list_any f (range_with_len a n) ≡ false → k < n → (j : ℕ) → j ≡ a + k → f j ≡ false
+none_below f a zero k none less j is = absurd (omega (arith, less))
+none_below f a (suc n) zero none less j is = let e : j ≡ a = omega (arith, is) in ap f e ∙ first_false (f a) (list_any f (range_with_len (a + 1) n)) none
+none_below f a (suc n) (suc k) none less j is = none_below f (a + 1) n k (second_false (f a) (list_any f (range_with_len (a + 1) n)) none) (omega (arith, less)) j (omega (arith, is))
+
+module _ (org_exact : OrgWhereNoneIsLost) (t : Treed) (tree : IsTree t) where
+  abbrev live_in : Proto → Interiors
+  live_in proto = (branch_of proto t).tables.live
+
+  -- no lost table of a protocol has the prefix
+  abbrev LacksAt : Network → Proto → Type 0
+  LacksAt q proto = (n : ℕ) → tree_lags t (Rdel proto n) q ≡ false
+
+  two_at : (a b : Proto) (q : Network) → LacksAt q a → LacksAt q b → merged interior_distance (org_rows (branch_of a t)) (org_rows (branch_of b t)) q ≡ least_rows live_in (a ∷ b ∷ []) q
+  two_at a b q na nb = (λ i. row_of_both interior_distance (org_exact t tree a q na i) (org_exact t tree b q nb i)) ∙ ap (λ (rows : Rows Interior). rows q) (least_two live_in a b)
+
+  int_at : (q : Network) → ((proto : Proto) → LacksAt q proto) → int_rows t q ≡ least_rows live_in (Connected ∷ Static ∷ Ospf ∷ Rip ∷ []) q
+  int_at q none =
+      (λ i. row_of_both interior_distance (row_of_both interior_distance (org_exact t tree Connected q (none Connected) i) (org_exact t tree Static q (none Static) i))
+      (row_of_both interior_distance (org_exact t tree Ospf q (none Ospf) i) (org_exact t tree Rip q (none Rip) i)))
+      ∙ ap (λ (rows : Rows Interior). rows q) (least_four live_in Connected Static Ospf Rip)
+
+  -- where none has a prefix of an address, the longest match is that of the live routes
+  match_at : (a n : ℕ) → ((proto : Proto) (k : ℕ) → has_within (table_of k (branch_of proto t).tables.deletions) a n ≡ false)
+      → longest_within (int_rows t) a n ≡ longest_within (least_rows live_in (Connected ∷ Static ∷ Ospf ∷ Rip ∷ [])) a n
+  match_at a zero none = int_at (block 32 a 0) none
+  match_at a (suc n) none = λ i. or_else
+      (int_at (block 32 a (suc n)) (λ proto k. first_false (has_row (table_of k (branch_of proto t).tables.deletions) (block 32 a (suc n))) (has_within (table_of k (branch_of proto t).tables.deletions) a n) (none proto k)) i)
+      (match_at a n (λ proto k. second_false (has_row (table_of k (branch_of proto t).tables.deletions) (block 32 a (suc n))) (has_within (table_of k (branch_of proto t).tables.deletions) a n) (none proto k)) i)
 
 -- no peer, nothing to judge
 unjudged : (s : Option Speaker) (rules : List Rule) (routes : Routes) → judged_rows s None rules routes ≡ None

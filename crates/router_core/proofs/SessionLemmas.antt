@@ -59,20 +59,17 @@ use Rattle.router_core.proofs.PeerLemmas.{begun_stands, may_begin, peer_at_map, 
 use Rattle.event_text.proofs.Sessions.{begun_words}
 
 -- ---- a chain at a number, and at another
+pub key_same : (k : ℕ) → eq_by_cmp nat_cmp k k ≡ true
+key_same k = grind (arith, nat_tests)
+
 pub exit_here : (j : ℕ) (c : OutChained) (queue : Queued Route) (e : Exited) → exit_at j (with_exit j c queue e) ≡ Some c
-exit_here j c queue e = get-insert nat_cmp_total e.chains j c j ∙ ap (λ b. cond b (Some c) (exit_at j e)) (same_key j)
-  where
-    same_key : (k : ℕ) → eq_by_cmp nat_cmp k k ≡ true
-    same_key k = grind (arith, nat_tests)
+exit_here j c queue e = get-insert nat_cmp_total e.chains j c j ∙ ap (λ b. cond b (Some c) (exit_at j e)) (key_same j)
 
 key_apart : (k j : ℕ) → nat_eq k j ≡ false → eq_by_cmp nat_cmp k j ≡ false
 key_apart k j apart = grind (arith, nat_tests)
 
 pub exit_elsewhere : (j k : ℕ) (c : OutChained) (queue : Queued Route) (e : Exited) → nat_eq k j ≡ false → exit_at k (with_exit j c queue e) ≡ exit_at k e
 exit_elsewhere j k c queue e apart = get-insert nat_cmp_total e.chains j c k ∙ ap (λ b. cond b (Some c) (exit_at k e)) (key_apart k j apart)
-
-key_same : (k : ℕ) → eq_by_cmp nat_cmp k k ≡ true
-key_same k = grind (arith, nat_tests)
 
 pub exit_gone : (j : ℕ) (queue : Queued Route) (e : Exited) → exit_at j (without_exit j queue e) ≡ None
 exit_gone j queue e = get-remove nat_cmp_total e.chains j j ∙ ap (λ b. cond b None (exit_at j e)) (key_same j)

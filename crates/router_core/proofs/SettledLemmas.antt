@@ -1,6 +1,5 @@
 -- Where no task holds up a prefix, and where none has work.
-use Rattle.std.proofs.Common.{◌≡◌, ℕ, ◌==◌, ◌&&◌, ◌||◌, Bool, true, false, cond, List, [], ◌∷◌, ◌++◌, map, Option, Some, None, is_some, refl, sym, ap, subst, ◌∙◌, arith}
-use Rattle.std.specs.Prelude.{IfNone, IfSome, option_map}
+use Rattle.std.proofs.Common.{◌≡◌, ℕ, ◌==◌, ◌&&◌, ◌||◌, Bool, true, false, cond, List, [], ◌∷◌, Option, Some, None, is_some, refl, sym, ap, ◌∙◌, arith}
 use Rattle.std.specs.List.{All, AllByRecursion, Contains, find, flat_map, list_any}
 use Rattle.std.specs.Option.{option_or}
 use Rattle.std.specs.FinMap as tables
@@ -21,7 +20,6 @@ use Rattle.loss_chain.specs.Lost.{Lost}
 use Rattle.loss_chain.specs.Steps.{table_of}
 use Rattle.link_region.proofs.RegionLemmas.{by_bool}
 use Rattle.nexthop_resolver.proofs.MoveLemmas.{same_some, clash_some}
-use Rattle.journal_text.specs.declared.link.Link.{Link}
 use Rattle.journal_text.specs.declared.link.Link.TheVariants.{Best, Fib, Adv}
 use Rattle.journal_text.specs.declared.link.Task.{Task}
 use Rattle.journal_text.specs.declared.link.Task.TheVariants as tasks
@@ -33,8 +31,7 @@ use Rattle.peer_side.specs.Laws as peers
 use Rattle.hop_side.specs.Laws as hops
 use Rattle.exit_side.specs.Laws as exits
 use Rattle.rib_exit.specs.Laws as external
-use Rattle.rib_tree.specs.Trees.{branch_of, int_rows}
-use Rattle.rib_tree.specs.Steps.{tree_lags, tree_over}
+use Rattle.rib_tree.specs.Trees.{int_rows}
 use Rattle.rib_tree.specs.Laws as losses
 use Rattle.out_chain.specs.Chains.{is_unread}
 use Rattle.router_core.specs.declared.router.Phase.{Phase}
@@ -43,9 +40,9 @@ use Rattle.router_core.specs.Lives.{live_state}
 use Rattle.router_core.specs.Moments.{Moment, router_links, best_of}
 use Rattle.router_core.specs.Phases.{all_phases, unread_if}
 use Rattle.router_core.specs.Turns.{has_work, phase_of, phase_tasks, IsSettled}
-use Rattle.router_core.specs.Stands.{Stands, AllHaveExits, EachChain, InteriorTree}
+use Rattle.router_core.specs.Stands.{Stands, AllHaveExits, InteriorTree}
 use Rattle.router_core.specs.Holding.{next_hop_at, peer_numbers, is_over, is_over_hop, holds_up_at, held_in, idle_tasks, first_held}
-use Rattle.router_core.specs.Scratch.{HoldsUp, row_in, is_spliced, IsExact, IsExactIn, IsSettledAt, Tells}
+use Rattle.router_core.specs.Scratch.{row_in, is_spliced, IsExact, Tells}
 use Rattle.router_core.specs.Laws.{RowsAtRestAreExact, OnlyWorkHoldsUp, FirstHeldTells}
 use Rattle.router_core.proofs.CountLemmas.{each_phase}
 
@@ -131,11 +128,7 @@ first_held_tells exact only of_tree of_stages of_walks of_hops of_exits m stands
           first = sym at;
           works = tt;
           none = none;
-          settled = record {
-            best = exact m stands all Best p (λ task holds. none task);
-            fib = exact m stands all Fib p (λ task holds. none task);
-            sent = λ j s. exact m stands all (Adv j s) p (λ task holds. none task);
-          };
+          settled = record { best = exact m stands all Best p (λ task _. none task); fib = exact m stands all Fib p (λ task _. none task); sent = λ j s. exact m stands all (Adv j s) p (λ task _. none task) };
         }
     by_first (Some task) at = record { first = sym at; works = worked task (found_so (λ t. holds_up_at t m p) (idle_tasks m) task at); none = tt; settled = tt }
 

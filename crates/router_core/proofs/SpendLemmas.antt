@@ -23,7 +23,7 @@ use Rattle.redist.specs.Local.{redistributed}
 use Rattle.bgp_attr.specs.declared.speaker.Speaker.{Speaker}
 use Rattle.rib_tree.specs.Trees.{Treed, tree_count, int_rows, int_candidates}
 use Rattle.journal_text.specs.declared.link.Task.{Task}
-use Rattle.journal_text.specs.declared.link.Task.TheVariants.{Del, Fin, Nh, ReadRib, Out, Rdel, Red, Ext}
+use Rattle.journal_text.specs.declared.link.Task.TheVariants.{Del, Fin}
 use Rattle.journal_text.specs.declared.entry.Entry.{Entry}
 use Rattle.journal_text.specs.declared.value.Value.{Value}
 use Rattle.nexthop_known.specs.Hops.{Hops, is_stale_at, stale_count, settled, IsMapped, IsLeastStale}
@@ -115,12 +115,7 @@ chain_ends (Fin k) c less sent fall t = by_next t.1.walks.next t.1.walks.after (
         let over = finished_ends c.filter.in_force c.filter.walk t.1.walks.walk t.1.walks.on in
         inr (changes refl, omega (arith, less_is, over), λ k' s e. cc)
     by_next (Some p) is changes = inl (ap (λ (f : Passed (List Rule)). walk_ends f.walk) is ∙ stepped_ends c.filter.walk p)
-chain_ends (Nh k) c less sent fall t = absurd t
-chain_ends ReadRib c less sent fall t = absurd t
-chain_ends (Out k) c less sent fall t = absurd t
-chain_ends (Rdel proto n) c less sent fall t = absurd t
-chain_ends Red c less sent fall t = absurd t
-chain_ends Ext c less sent fall t = absurd t
+chain_ends other c less sent fall t = absurd t
 
 -- ---- what a turn of a peer's task makes of what may be sent
 pub record Sends (m m' : Moment) : Type 0 where
@@ -158,12 +153,7 @@ turn_sends task m k c less sent best fall cs e at put turned quiet queued near =
     nearer : (t : Task) → Nears t m.chains cs → lost_in cs + left_in cs + 1 ≤ lost_in m.chains + left_in m.chains
     nearer (Del j s) n = let a = n.0 in let b = n.1 in omega (arith, a, b)
     nearer (Fin j) n = let a = n.0 in let b = n.1 in omega (arith, a, b)
-    nearer (Nh j) n = absurd n
-    nearer ReadRib n = absurd n
-    nearer (Out j) n = absurd n
-    nearer (Rdel proto j) n = absurd n
-    nearer Red n = absurd n
-    nearer Ext n = absurd n
+    nearer other n = absurd n
 
     walks : (t : Task) → ((j s : ℕ) → t ≢ Del j s) → Nears t m.chains cs → lost_in cs + left_in cs + 1 ≤ lost_in m.chains + left_in m.chains
     walks t other n = nearer t n
@@ -222,12 +212,7 @@ peer_spends (Fin n) m m' tree redist near sends =
     let read = reading_less (tables.len m.exits.chains) (tables.len m'.exits.chains) (most_unread m.exits) (most_unread m'.exits) (rows_in m.chains + tree_count m.tree) (rows_in m'.chains + tree_count m'.tree)
     (sends_from_fin m) (sends_from_fin m') (omega (arith, exits)) (omega (arith, rows, routes)) (omega (arith, fewer, rows, a)) in
     (omega (arith, b), omega (arith, b, most, rows, routes, read), (same_lost m m' tree, (same_own m m' tree redist, (omega (arith, a), tt))), peer_rows m m' tree sends, omega (arith, fewer, a))
-peer_spends (Nh n) m m' tree redist near sends = absurd near
-peer_spends ReadRib m m' tree redist near sends = absurd near
-peer_spends (Out n) m m' tree redist near sends = absurd near
-peer_spends (Rdel proto n) m m' tree redist near sends = absurd near
-peer_spends Red m m' tree redist near sends = absurd near
-peer_spends Ext m m' tree redist near sends = absurd near
+peer_spends other m m' tree redist near sends = absurd near
 
 -- ---- the walk of redistribution: each turn goes to a candidate, or ends and sends nothing
 own_fewer : (t : Treed) (s s' : Passed Protos) (w : Walked Protos) (next : Option Network) (own best : Option (Change Route)) → s.walk ≡ Some w → s' ≡ walked_on next s → IsNextCandidate (int_candidates t) w.place next → (next ≡ None → own ≡ None)

@@ -148,20 +148,8 @@ none_then a b c x y = record {
 -- ---- a phase
 pub makes_none : (r : Phase) (m m' : Moment) → NoneGoesStale m m' → MakesNoneStale r m m'
 makes_none phases.Rdel m m' none = tt
-makes_none phases.Red m m' none = none
-makes_none phases.Del m m' none = none
-makes_none phases.Fin m m' none = none
-makes_none phases.Nh m m' none = none
-makes_none phases.ReadRib m m' none = none
-makes_none phases.Out m m' none = none
-makes_none phases.Ext m m' none = none
+makes_none other m m' none = none
 
 pub stale_then : (r : Phase) (a b c : Moment) → MakesNoneStale r a b → MakesNoneStale r b c → MakesNoneStale r a c
 stale_then phases.Rdel a b c x y = tt
-stale_then phases.Red a b c x y = none_then a b c x y
-stale_then phases.Del a b c x y = none_then a b c x y
-stale_then phases.Fin a b c x y = none_then a b c x y
-stale_then phases.Nh a b c x y = none_then a b c x y
-stale_then phases.ReadRib a b c x y = none_then a b c x y
-stale_then phases.Out a b c x y = none_then a b c x y
-stale_then phases.Ext a b c x y = none_then a b c x y
+stale_then other a b c x y = none_then a b c x y

@@ -73,32 +73,29 @@ below_same (Some change) int m m' entries b = queue_chains m.exits m'.exits b.0.
 pub route_same : (m : Moment) (new : Treed) (proto : Proto) (p : Network) (way : List Link) (said : List Line) (m' : Moment) → FallsRoute m new proto p way said m' → HaveSameExits m m'
 route_same m new proto p way said m' f = chains_same m m' (ap (λ (x : Moment). x.exits.chains) f.after ∙ below_same f.sent (int_rows new) (with_tree m new) f.followed f.below f.below_int)
 
-same_turn : (task : Task) (m : Moment) (said : List Line) (m' : Moment) → IsTurn task m said m' → SameAlong m said m'
-same_turn (Del k s) m said m' t = peer_same (Del k s) m said m' t
-same_turn (Fin k) m said m' t = peer_same (Fin k) m said m' t
-same_turn (Nh k) m said m' t = chains_same m m' (queue_chains m.exits m'.exits t.decided.best t.queued)
-same_turn ReadRib m said m' t = chains_same m m' (ap (λ (x : Moment). x.exits.chains) t.after)
-same_turn (Out k) m said m' t = λ j. ap (λ (e : Exited). is_some (exit_at j e)) t.turn.after ∙ by_bool (nat_eq j k) (λ b. is_some (exit_at j (with_exit k t.turn.taken m'.exits.queue m.exits)) ≡ is_some (exit_at j m.exits))
+pub turn_same : (task : Task) (m : Moment) (said : List Line) (m' : Moment) → IsTurn task m said m' → SameAlong m said m'
+turn_same (Del k s) m said m' t = peer_same (Del k s) m said m' t
+turn_same (Fin k) m said m' t = peer_same (Fin k) m said m' t
+turn_same (Nh k) m said m' t = chains_same m m' (queue_chains m.exits m'.exits t.decided.best t.queued)
+turn_same ReadRib m said m' t = chains_same m m' (ap (λ (x : Moment). x.exits.chains) t.after)
+turn_same (Out k) m said m' t = λ j. ap (λ (e : Exited). is_some (exit_at j e)) t.turn.after ∙ by_bool (nat_eq j k) (λ b. is_some (exit_at j (with_exit k t.turn.taken m'.exits.queue m.exits)) ≡ is_some (exit_at j m.exits))
     (λ same. subst (λ (n : ℕ). is_some (exit_at n (with_exit k t.turn.taken m'.exits.queue m.exits)) ≡ is_some (exit_at n m.exits)) (sym (equal_by j k same)) (ap is_some (exit_here k t.turn.taken m'.exits.queue m.exits) ∙ sym (ap is_some t.turn.at)))
     (λ apart. ap is_some (exit_elsewhere k j t.turn.taken m'.exits.queue m.exits apart))
-same_turn (Rdel proto n) m said m' t = route_same m _ proto t.prefix _ said m' t.falls
-same_turn Red m said m' t = chains_same m m' (queue_chains m.exits m'.exits t.decided.best t.queued)
-same_turn Ext m said m' t = chains_same m m' (ap (λ (x : Moment). x.exits.chains) t.after)
+turn_same (Rdel proto n) m said m' t = route_same m _ proto t.prefix _ said m' t.falls
+turn_same Red m said m' t = chains_same m m' (queue_chains m.exits m'.exits t.decided.best t.queued)
+turn_same Ext m said m' t = chains_same m m' (ap (λ (x : Moment). x.exits.chains) t.after)
 
 pub turns_same : (n : ℕ) (task : Task) (m : Moment) (said : List Line) (m' : Moment) → Turns n task m said m' → HaveSameExits m m'
-turns_same = turns_along SameAlong same_nowhere same_then same_turn
-
-pub turn_same : (task : Task) (m : Moment) (said : List Line) (m' : Moment) → IsTurn task m said m' → HaveSameExits m m'
-turn_same = same_turn
+turns_same = turns_along SameAlong same_nowhere same_then turn_same
 
 pub phase_same : (phase : Phase) (m : Moment) (said : List Line) (turns : ℕ) (m' : Moment) → RunsPhase phase m said turns m' → HaveSameExits m m'
-phase_same = phase_along SameAlong same_nowhere same_then same_turn
+phase_same = phase_along SameAlong same_nowhere same_then turn_same
 
 pub phases_same : (phases : List Phase) (m : Moment) (said : List Line) (turns : ℕ) (m' : Moment) → RunsAll phases m said turns m' → HaveSameExits m m'
-phases_same = phases_along SameAlong same_nowhere same_then same_turn
+phases_same = phases_along SameAlong same_nowhere same_then turn_same
 
 pub first_same : (task : Option Task) (m : Moment) (said : List Line) (m' : Moment) → RunsFirst task m said m' → HaveSameExits m m'
-first_same = first_along SameAlong same_nowhere same_then same_turn
+first_same = first_along SameAlong same_nowhere same_then turn_same
 
 pub all_have_on : (m m' : Moment) → m'.declared ≡ m.declared → HaveSameExits m m' → AllHaveExits m → AllHaveExits m'
 all_have_on m m' declared same all k p at up = same k ∙ all k p (ap (λ (d : Declaration). peer_at k d.peers) (sym declared) ∙ at) up

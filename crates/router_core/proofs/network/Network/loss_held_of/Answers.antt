@@ -1,4 +1,4 @@
-use Rattle.std.proofs.Common.{ℕ, ◌≤◌, length, true, false, refl, sym, ◌∙◌, arith}
+use Rattle.std.proofs.Common.{true, false, refl, sym, ◌∙◌, arith}
 use Rattle.std.specs.Prelude.{slice_get}
 use Rattle.journal_text.specs.declared.link.Task.{Task}
 use Rattle.rib_tree.specs.Trees.{branch_of}

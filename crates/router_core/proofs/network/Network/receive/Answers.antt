@@ -20,10 +20,7 @@ unreachable-requires c =
 -- what octets say may be heard
 said_heard : (external : Bool) (octets : List ℕ) (message : Message) → AreOctets octets → Answers plain external octets message → IsHeardMessage message
 said_heard external octets (messages.Update u) are says = message_heard external octets (messages.Update u) are says
-said_heard external octets messages.Keepalive are says = tt
-said_heard external octets messages.Skip are says = tt
-said_heard external octets messages.Notification are says = tt
-said_heard external octets (messages.Notify n) are says = tt
+said_heard external octets other are says = tt
 
 pub hear-requires-clause-heard : goal.hear-requires-clause-heard
 hear-requires-clause-heard c =
