@@ -1,0 +1,6 @@
+pub mod KeptLemmas
+pub mod TakenLemmas
+pub mod FileLemmas
+pub mod AnswerLemmas
+pub mod OrderLemmas
+pub mod OneText

@@ -1,0 +1,15 @@
+use Rattle.std.proofs.Common.{◌++◌, ◌∙◌, ap, take, length, min, arith}
+use Rattle.mrt_reader.proofs.TakenLemmas.{takes_part, append_part}
+use Rattle.mrt_reader.proofs.unread.Unread.take.Goals as goal
+
+pub taking-preserved : goal.taking-preserved
+taking-preserved g c =
+    let xs = c.ready.new.self in
+    let part = c.min-part.result in
+    let was = c.taking.invariant in
+    record {
+      octets = was.octets ++ take part xs;
+      appended = append_part _ _ _ was.octets part _ xs c.in_ok-extend_from_slice.ensures.items was.appended c.octets-in-taking.ensures;
+      taking = takes_part _ _ (g.S.Source.left c.ready.new.source) c.args.count c.taking.missing part was.octets xs c.pass.new.self c.in_ok-ready.field-0 c.if-not-branch.false (c.min-part.ensures ∙ ap (λ k. min (length k) c.taking.missing) c.octets.ensures) c.pass.ensures was.taking c.in_ok-ready.ensures.ready;
+      later = omega (arith, was.later, c.ready.ensures.later);
+    }
