@@ -1,26 +1,30 @@
--- What a speaker and its neighbours must be (RFC 4271, section 4.2, for two-octet AS numbers).
-use Rattle.std.specs.Prelude.{◌≡◌, ◌^◌, ◌<◌, ◌≤◌, ◌==◌, true, false}
+-- What a speaker and its neighbours must be (RFC 4271, section 4.2; RFC 6793, section 3).
+use Rattle.std.specs.Prelude.{◌≡◌, ℕ, ◌^◌, ◌<◌, ◌≤◌, ◌==◌, Bool, true, false, if◌then◌else◌}
 use Rattle.bgp_attr.specs.declared.speaker.Speaker.{Speaker}
 use Rattle.bgp_attr.specs.declared.speaker.Neighbour.{Neighbour}
 use Rattle.bgp_attr.specs.Hosts.{is_host}
 
--- an AS number from 1 to 65535, an ID other than 0.0.0.0, and the address of a host
-pub record IsSpeaker (s : Speaker) : Type 0 where
+-- AS numbers are below it: those of four octets, or of two
+abbrev pub asn_bound : Bool → ℕ
+asn_bound as4 = if as4 then 2 ^ 32 else 65536
+
+-- an AS number from 1 that has its octets, an ID other than 0.0.0.0, and the address of a host
+pub record IsSpeaker (as4 : Bool) (s : Speaker) : Type 0 where
   pub asn_least : 0 < s.asn
-  pub asn_most : s.asn ≤ 65535
+  pub asn_most : s.asn < asn_bound as4
   pub id_least : 0 < s.id
   pub id_fits : s.id < 2 ^ 32
   pub host : is_host s.addr ≡ true
   pub addr_fits : s.addr < 2 ^ 32
 
 -- a speaker with a number from 1 to 64
-pub record IsNeighbour (w : Neighbour) : Type 0 where
+pub record IsNeighbour (as4 : Bool) (w : Neighbour) : Type 0 where
   pub least : 0 < w.number
   pub most : w.number ≤ 64
-  pub speaker : IsSpeaker (record { asn = w.asn; id = w.id; addr = w.addr })
+  pub speaker : IsSpeaker as4 (record { asn = w.asn; id = w.id; addr = w.addr })
 
 -- one of this speaker's: internal where both have the same AS, and with another address
-pub record IsNeighbourOf (local : Speaker) (w : Neighbour) : Type 0 where
-  pub neighbour : IsNeighbour w
+pub record IsNeighbourOf (as4 : Bool) (local : Speaker) (w : Neighbour) : Type 0 where
+  pub neighbour : IsNeighbour as4 w
   pub internal : w.internal ≡ (local.asn == w.asn)
   pub foreign : (local.addr == w.addr) ≡ false

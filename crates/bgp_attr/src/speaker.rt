@@ -1,11 +1,14 @@
 //! Who is who.
 
+ghost use Rattle.std.specs.Prelude.{◌≡◌};
+ghost use Rattle.bgp_attr.specs.Speakers.{asn_bound};
+
 use addr4::Addr;
 
 /// This speaker: the words of `local`.
 #[derive(Clone, Copy, PartialEq, Eq)]
 pub struct Speaker {
-    /// The local AS, 1 to 65535.
+    /// The local AS, 1 to 65535, or to 4294967295 where AS numbers have four octets.
     pub asn: u32,
     /// The BGP identifier, not 0.0.0.0.
     pub id: Addr,
@@ -18,7 +21,7 @@ pub struct Speaker {
 pub struct Neighbour {
     /// The peer's number in the event file, 1 to 64.
     pub number: u8,
-    /// The peer's AS, 1 to 65535.
+    /// The peer's AS, 1 to 65535, or to 4294967295 where AS numbers have four octets.
     pub asn: u32,
     /// The BGP identifier, not 0.0.0.0.
     pub id: Addr,
@@ -35,4 +38,13 @@ pub struct Profile {
     /// Errors in attributes are handled by a table in the manner of RFC 7606, in place of RFC 4271, section 6.3. It differs in
     /// substance: a faulty UPDATE that announces nothing withdraws nothing more, where RFC 7606, section 5.2, resets the session.
     pub revised: bool,
+}
+
+impl Profile {
+    /// The AS numbers are those below this one: those of four octets, or of two.
+    pub fn asn_bound(self) -> u64
+        ensures { result ≡ asn_bound self.as4 }
+    {
+        if self.as4 { 1 << 32 } else { 65536 }
+    }
 }

@@ -38,7 +38,7 @@ use Rattle.journal_text.specs.declared.value.Value.TheVariants as values
 use Rattle.journal_text.specs.declared.entry.Entry.{Entry}
 use Rattle.journal_text.specs.declared.entry.Entry.TheVariants.{Begin, Inherit, Add, Delete, Replace, Asked, Weld, End}
 use Rattle.journal_text.specs.declared.line.Code.{Code}
-use Rattle.journal_text.specs.declared.line.Code.TheVariants.{E1, E2, E3, E4, E5, E6}
+use Rattle.journal_text.specs.declared.line.Code.TheVariants.{E1, E2, E3, E4, E5, E6, E7}
 use Rattle.journal_text.specs.declared.line.Line.{Line}
 use Rattle.journal_text.specs.declared.line.Line.TheVariants.{Journal, Out, Note, Row, Rows, Cover, Settled, Work, Bound, Idle, Ignored, Absent, Refused}
 use Rattle.journal_text.proofs.ReadBack.{link_back}
@@ -440,6 +440,7 @@ code_ink E3 = ink_by (code_text E3) refl
 code_ink E4 = ink_by (code_text E4) refl
 code_ink E5 = ink_by (code_text E5) refl
 code_ink E6 = ink_by (code_text E6) refl
+code_ink E7 = ink_by (code_text E7) refl
 
 line_has : (line : Line) → IsLine line → HasWords (line_words line) (said line)
 unfolding is_skipped

@@ -21,6 +21,8 @@ pub enum Code {
     E5,
     /// A limit is passed.
     E6,
+    /// What holds for the whole file is said too late, or twice.
+    E7,
 }
 
 /// A line of the output.

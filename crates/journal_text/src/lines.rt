@@ -229,6 +229,7 @@ fn code_word(code: Code) -> &'static [u8]
         Code::E4 => b"E4",
         Code::E5 => b"E5",
         Code::E6 => b"E6",
+        Code::E7 => b"E7",
     }
 }
 

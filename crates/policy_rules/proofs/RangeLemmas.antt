@@ -15,7 +15,8 @@ use Rattle.policy_rules.specs.declared.rule.Action.{Action}
 use Rattle.policy_rules.specs.declared.rule.Action.TheVariants.{NoMed}
 use Rattle.policy_rules.specs.declared.rule.Verdict.{Verdict}
 use Rattle.policy_rules.specs.declared.rule.Rule.{Rule}
-use Rattle.policy_rules.specs.Words.{◌>>=◌, asn_bound, origin_of, within_of, setting_of, verdict_of}
+use Rattle.bgp_attr.specs.Speakers.{asn_bound}
+use Rattle.policy_rules.specs.Words.{◌>>=◌, origin_of, within_of, setting_of, verdict_of}
 use Rattle.policy_rules.specs.Grammar.{in_front, all_in_front, at_verdict, rules_of, behind_path, behind_origin, behind_prefix, behind, behind_setting}
 use Rattle.policy_rules.specs.Ranges.{IsCondition, IsAction, IsRule, AreRules}
 use Rattle.policy_rules.proofs.GrammarLemmas.{all_in_front_of_none}

@@ -8,7 +8,8 @@ use Rattle.policy_rules.specs.declared.rule.Action.{Action}
 use Rattle.policy_rules.specs.declared.rule.Action.TheVariants.{NoMed}
 use Rattle.policy_rules.specs.declared.rule.Verdict.{Verdict}
 use Rattle.policy_rules.specs.declared.rule.Rule.{Rule}
-use Rattle.policy_rules.specs.Words.{◌>>=◌, asn_bound, origin_of, within_of, setting_of, verdict_of}
+use Rattle.bgp_attr.specs.Speakers.{asn_bound}
+use Rattle.policy_rules.specs.Words.{◌>>=◌, origin_of, within_of, setting_of, verdict_of}
 
 -- a rule in front of those that follow it, if they are rules
 abbrev pub in_front : Rule → Option (List Rule) → Option (List Rule)

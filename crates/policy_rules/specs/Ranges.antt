@@ -6,7 +6,7 @@ use Rattle.policy_rules.specs.declared.rule.Condition.TheVariants.{Any, Within, 
 use Rattle.policy_rules.specs.declared.rule.Action.{Action}
 use Rattle.policy_rules.specs.declared.rule.Action.TheVariants.{Pref, Med, NoMed, Prepend}
 use Rattle.policy_rules.specs.declared.rule.Rule.{Rule}
-use Rattle.policy_rules.specs.Words.{asn_bound}
+use Rattle.bgp_attr.specs.Speakers.{asn_bound}
 
 -- a prefix masked to its length, lengths to 32, an AS of two octets or four
 abbrev pub IsCondition : Bool → Condition → Type 0

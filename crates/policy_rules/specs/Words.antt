@@ -28,10 +28,6 @@ words_among pieces = filter is_word pieces
 unfoldable pub words : List ℕ → List (List ℕ)
 words line = words_among (parts 32 line)
 
--- AS numbers are below it: those of four octets, or of two
-abbrev pub asn_bound : Bool → ℕ
-asn_bound as4 = if as4 then 2 ^ 32 else 65536
-
 -- an ORIGIN by its number, 0 to 2
 unfoldable pub origin_of : List ℕ → Option origin.Origin
 origin_of word = do

@@ -9,7 +9,7 @@ ghost use Rattle.policy_rules.specs.Ranges.{AreRules};
 ghost use Rattle.policy_rules.specs.Grammar.{rules_of, behind, behind_prefix, at_action, in_front};
 
 use crate::rule::{Action, Actions, Condition, Rule, Rules};
-use crate::words::{asn_bound, first_word, origin_of, setting_of, verdict_of, within_of};
+use crate::words::{first_word, origin_of, setting_of, verdict_of, within_of};
 use addr4::{Memory, read_number_below};
 use bgp_attr::Profile;
 use std::alloc::Global;
@@ -104,7 +104,7 @@ fn condition<'a>(profile: Profile, word: &[u8], rest: &'a [u8]) -> Option<(Condi
     }
     if word == b"path".as_slice() {
         let (number, rest) = first_word(rest)?;
-        let asn = read_number_below(number, asn_bound(profile))?;
+        let asn = read_number_below(number, profile.asn_bound())?;
         return Some((Condition::Path(asn), rest));
     }
     if word == b"origin".as_slice() {

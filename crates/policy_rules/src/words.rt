@@ -2,11 +2,11 @@
 
 ghost use Rattle.std.specs.Prelude.{◌≡◌, ◌∷◌, [], MatchOption};
 ghost use Rattle.addr4.specs.Texts.{parts, parts_after};
-ghost use Rattle.policy_rules.specs.Words.{words, words_among, asn_bound, origin_of, setting_of, verdict_of, within_of};
+ghost use Rattle.policy_rules.specs.Words.{words, words_among, origin_of, setting_of, verdict_of, within_of};
 
 use crate::rule::{Action, Condition, Verdict};
 use addr4::{first_part, read_number, read_number_below, read_prefix};
-use bgp_attr::{Origin, Profile};
+use bgp_attr::Origin;
 
 /// The first word, and what follows it. None where there is no word.
 #[tactic(auto, unfolding(crate::specs::Words::words))]
@@ -21,13 +21,6 @@ pub fn first_word(text: &[u8]) -> Option<(&[u8], &[u8])>
         Some(rest) => Some((word, rest)),
         None => Some((word, &[])),
     }
-}
-
-/// The AS numbers are those below this one.
-pub fn asn_bound(profile: Profile) -> u64
-    ensures { result ≡ asn_bound profile.as4 }
-{
-    if profile.as4 { 1 << 32 } else { 65536 }
 }
 
 /// An ORIGIN by its number.
