@@ -11,3 +11,4 @@ pub mod TreeParts
 pub mod RestLemmas
 pub mod RegionLemmas
 pub mod HeldLemmas
+mod OverLemmas

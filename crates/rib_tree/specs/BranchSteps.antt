@@ -1,6 +1,8 @@
 -- What each call makes of a branch, and the entries that it writes.
-use Rattle.std.specs.Prelude.{ℕ, ◌+◌, cond, List, map, Option}
-use Rattle.addr4.specs.Prefixes.{Network}
+use Rattle.std.specs.Prelude.{ℕ, ◌+◌, ◌||◌, Bool, cond, List, map, Option}
+use Rattle.std.specs.List.{list_any}
+use Rattle.std.specs.FinMap.{FinMap}
+use Rattle.addr4.specs.Prefixes.{Network, prefix_cmp}
 use Rattle.rib_route.specs.declared.Proto.{Proto}
 use Rattle.rib_route.specs.declared.rows.Interior.{Interior}
 use Rattle.link_change.specs.Rows.{is_empty_map}
@@ -13,6 +15,7 @@ use Rattle.journal_text.specs.declared.entry.Entry.{Entry}
 use Rattle.journal_text.specs.Journals.{Journaled}
 use Rattle.journal_text.specs.Values.{interior_value}
 use Rattle.loss_chain.specs.declared.owner.Owner.TheVariants.{Origin}
+use Rattle.loss_chain.specs.Held.{has_row, has_over}
 use Rattle.loss_chain.specs.Tables.{Tables}
 use Rattle.loss_chain.specs.Steps.{no_tables, fed_tables, lost_tables, welded_tables, swept_tables, IsTakenTables, loss_entries as chain_loss_entries, weld_entries as chain_weld_entries, overdue_of as chain_overdue}
 use Rattle.rib_tree.specs.Branches.{Branch}
@@ -56,6 +59,10 @@ IsTakenBranch old new loss before now turn = IsTakenTables interior_value (Origi
 -- the stage that has to go before another one may come: where 16 stand, and the table to be lost isn't empty
 abbrev pub overdue_of : Branch → Option Task
 overdue_of b = chain_overdue (Origin b.proto) b.tables
+
+-- whether a table, if there is one, has a row at a prefix, or at one that holds one of these addresses
+abbrev pub table_holds_up : Option (FinMap prefix_cmp Interior) → Network → List ℕ → Bool
+table_holds_up t p addresses = has_row t p || list_any (has_over t) addresses
 
 -- the tasks of the stages, that of the earliest loss first
 abbrev pub branch_tasks : Branch → List Task

@@ -17,7 +17,7 @@ use Rattle.journal_text.specs.declared.link.Task.TheVariants.{Del, Fin, Nh, Read
 use Rattle.journal_text.specs.declared.value.Value.{Value}
 use Rattle.journal_text.specs.declared.entry.Entry.{Entry}
 use Rattle.journal_text.specs.Journals.{Journaled, Adds}
-use Rattle.rib_tree.specs.BranchSteps.{new_branch, fed_branch, lost_branch, loss_entries, welded_branch, swept_branch, overdue_of}
+use Rattle.rib_tree.specs.BranchSteps.{new_branch, fed_branch, lost_branch, loss_entries, welded_branch, swept_branch, overdue_of, table_holds_up}
 use Rattle.loss_chain.specs.declared.owner.Owner.TheVariants.{Origin}
 use Rattle.loss_chain.specs.Held.{has_row, has_over}
 use Rattle.loss_chain.specs.Steps.{weld_entries, table_of}
@@ -84,6 +84,11 @@ tree_lags t other p = false
 abbrev pub tree_over : Treed → Task → ℕ → Bool
 tree_over t (Rdel proto n) a = has_over (table_of n (branch_of proto t).tables.deletions) a
 tree_over t other a = false
+
+-- whether it still has a prefix, or one that holds one of these addresses
+abbrev pub tree_holds_up : Treed → Network → List ℕ → Task → Bool
+tree_holds_up t p addresses (Rdel proto n) = table_holds_up (table_of n (branch_of proto t).tables.deletions) p addresses
+tree_holds_up t p addresses other = false
 
 -- a turn of a task of the tree
 abbrev pub TurnedTree : Treed → Treed → Task → Option (Change Interior) → List (Entry Value) → Type 0

@@ -1,6 +1,6 @@
 //! The branch of one interior protocol.
 
-ghost use Rattle.std.specs.Prelude.{◌≡◌, ◌<◌, ◌≤◌, ◌+◌, ◌*◌, cond, IfOk, OnOk, IfSome, is_some, IsSome, Option, Some, None, option_map, slice_get};
+ghost use Rattle.std.specs.Prelude.{◌≡◌, ◌<◌, ◌≤◌, ◌+◌, ◌*◌, cond, IfOk, OnOk, IfSome, is_some, IsSome, Option, Some, None};
 ghost use Rattle.std.specs.FinMap as map;
 ghost use Rattle.addr4.specs.Places.{key_of};
 ghost use Rattle.link_change.specs.Rows.{Rows, IsNextCandidate, with_rows};
@@ -14,12 +14,11 @@ ghost use Rattle.loss_chain.specs.declared.owner.Owner.TheVariants as owners;
 ghost use Rattle.loss_chain.specs.Tables.{NoneEmpty, OneEmptyAtMost};
 ghost use Rattle.loss_chain.specs.Falls.{way_down};
 ghost use Rattle.loss_chain.specs.Stages.{tables_of};
-ghost use Rattle.loss_chain.specs.Held.{has_row, has_over};
-ghost use Rattle.loss_chain.specs.Steps.{oldest_of, table_of};
+ghost use Rattle.loss_chain.specs.Steps.{oldest_of};
 ghost use Rattle.rib_tree.specs.Branches.{branch_links, org_rows, branch_candidates, IsBranch, branch_count, LeadsBranch, FallsBranch};
 ghost use Rattle.rib_tree.specs.BranchSteps.{new_branch, fed_branch, lost_branch, loss_entries, with_tables, welded_branch, weld_entries, overdue_of, IsTakenBranch};
 
-use addr4::{Addr, Memory, Place, Prefix};
+use addr4::{Memory, Place, Prefix};
 use journal_text::{Journal, Link, Task, Value};
 use link_change::{Change, Turn, Upstream};
 use loss_chain::{LossChain, Owner, Stage};
@@ -113,34 +112,6 @@ impl Branch {
         ensures { result ≡ org_rows self.now p }
     {
         self.stages.row(p).copied()
-    }
-
-    /// Whether the lost table of a loss still has a prefix, if its stage stands.
-    pub(crate) fn holds_up(&self, loss: u32, p: Prefix) -> bool
-        ensures { result ≡ has_row (table_of loss self.now.tables.deletions) p }
-    {
-        match self.stages.deletion(loss) {
-            None => false,
-            Some(deletion) => deletion.held(p).is_some(),
-        }
-    }
-
-    /// Whether it still has a prefix that holds the address.
-    pub(crate) fn held_over(&self, loss: u32, address: Addr) -> bool
-        ensures { result ≡ has_over (table_of loss self.now.tables.deletions) address }
-    {
-        match self.stages.deletion(loss) {
-            None => false,
-            Some(deletion) => deletion.held_over(address),
-        }
-    }
-
-    /// The task of a deletion stage, by the place of the stage, the longest standing first.
-    pub(crate) fn loss_at(&self, place: u32) -> Option<Task>
-        ensures { result ≡ option_map (λ d. tasks.Rdel self.now.proto d.number) (slice_get self.now.tables.deletions place) }
-    {
-        let number = self.stages.loss_at(place)?;
-        Some(Task::Rdel(self.proto, number))
     }
 
     /// Whether a route of the protocol is live at the prefix.

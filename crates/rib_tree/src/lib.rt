@@ -26,6 +26,7 @@
 #![tactic(auto)]
 
 mod branch;
+mod held;
 mod laws;
 mod lookups;
 mod merging;

@@ -1,20 +1,18 @@
 //! Lookups, which walk the tree upward.
 
-ghost use Rattle.std.specs.Prelude.{◌≡◌, ℕ, IfOk, IsSome, is_some, option_map, slice_get, Some};
+ghost use Rattle.std.specs.Prelude.{◌≡◌, ℕ, IfOk, IsSome, is_some, option_map, Some};
 ghost use Rattle.rib_route.specs.declared.Proto.{Proto};
 ghost use Rattle.journal_text.specs.declared.link.Link.TheVariants as names;
-ghost use Rattle.journal_text.specs.declared.link.Task.TheVariants as tasks;
 ghost use Rattle.addr4.specs.Places.{key_of};
 ghost use Rattle.link_change.specs.Rows.{Rows, IsNextCandidate, with_rows};
 ghost use Rattle.journal_text.specs.declared.value.Value.{Value};
 ghost use Rattle.journal_text.specs.declared.value.Value.TheVariants as values;
 ghost use Rattle.journal_text.specs.Walk.{HasRow};
 ghost use Rattle.rib_tree.specs.Trees.{branch_of, low_rows, dyn_rows, int_rows, int_candidates, tree_links};
-ghost use Rattle.rib_tree.specs.Steps.{tree_lags, tree_over};
 
 use crate::tree::Tree;
-use addr4::{Addr, Memory, Place, Prefix};
-use journal_text::{Link, Task, Value};
+use addr4::{Memory, Place, Prefix};
+use journal_text::{Link, Value};
 use link_change::{Upstream, nearer};
 use rib_merge::preferred;
 use rib_route::{Interior, Proto};
@@ -94,45 +92,6 @@ impl Tree {
         let low = preferred(self.connected.row(p), self.statics.row(p));
         let dynamic = preferred(self.ospf.row(p), self.rip.row(p));
         preferred(low, dynamic)
-    }
-
-    /// Whether the lost table of a task still has a prefix. Takes no memory.
-    pub fn holds_up(&self, task: Task, p: Prefix) -> bool
-        ensures { result ≡ tree_lags self.now task p }
-    {
-        match task {
-            Task::Rdel(proto, loss) => self.branch(proto).holds_up(loss, p),
-            Task::Del(_, _)
-            | Task::Fin(_)
-            | Task::Nh(_)
-            | Task::ReadRib
-            | Task::Out(_)
-            | Task::Red
-            | Task::Ext => { false }
-        }
-    }
-
-    /// Whether the lost table of a task still has a prefix that holds the address. Takes no memory.
-    pub fn held_over(&self, task: Task, address: Addr) -> bool
-        ensures { result ≡ tree_over self.now task address }
-    {
-        match task {
-            Task::Rdel(proto, loss) => self.branch(proto).held_over(loss, address),
-            Task::Del(_, _)
-            | Task::Fin(_)
-            | Task::Nh(_)
-            | Task::ReadRib
-            | Task::Out(_)
-            | Task::Red
-            | Task::Ext => { false }
-        }
-    }
-
-    /// The task of a deletion stage of a protocol, by the place of the stage, the longest standing first.
-    pub fn loss_at(&self, proto: Proto, place: u32) -> Option<Task>
-        ensures { result ≡ option_map (λ d. tasks.Rdel (branch_of proto self.now).proto d.number) (slice_get (branch_of proto self.now).tables.deletions place) }
-    {
-        self.branch(proto).loss_at(place)
     }
 
     /// The least prefix beyond a place that has a row on a link of the tree.
