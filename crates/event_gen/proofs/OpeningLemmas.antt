@@ -1,5 +1,5 @@
 -- The lines of the opening are read as they are.
-use Rattle.std.proofs.Common.{◌≡◌, ℕ, List, None, Ok, refl, codes}
+use Rattle.std.proofs.Common.{◌≡◌, ℕ, false, List, None, Ok, refl, codes}
 use Rattle.addr4.specs.Texts.{number_below, addr_of, prefix_of}
 use Rattle.rib_route.specs.declared.Proto.TheVariants.{Connected}
 use Rattle.journal_text.specs.Names.{proto_of}
@@ -12,7 +12,7 @@ use Rattle.event_gen.specs.Lines.{opening, peer_addr}
 use Rattle.event_gen.specs.Readings.{declared, opening_events, AreReadAs}
 
 abbrev IsReadAs : List ℕ → Event → Type 0
-IsReadAs line e = read_event line ≡ Ok e
+IsReadAs line e = read_event false line ≡ Ok e
 
 local_read : IsReadAs (codes "local 65000 192.0.2.254 192.0.2.254") (events.Local (record { asn = 65000; id = peer_addr 254; addr = peer_addr 254 }))
 unfolding read_event is_clean words event_of named_event local_of speaker_of number_below addr_of

@@ -106,9 +106,9 @@ clean w ws h few =
     clean_by (nat_le (length line) 16384) (list_all printable line) short (line_passes w ws (inks (w ∷ ws) h))
 
 -- a line is read as its words are
-pub line_read : (w : List ℕ) (ws : List (List ℕ)) → AllByRecursion IsPlain (w ∷ ws) → length (w ∷ ws) ≤ 10 → read_event (join_with_byte 32 (w ∷ ws)) ≡ in_grammar (event_of (w ∷ ws))
+pub line_read : (w : List ℕ) (ws : List (List ℕ)) → AllByRecursion IsPlain (w ∷ ws) → length (w ∷ ws) ≤ 10 → read_event false (join_with_byte 32 (w ∷ ws)) ≡ in_grammar (event_of false (w ∷ ws))
 unfolding read_event words
 line_read w ws h few =
     let line = join_with_byte 32 (w ∷ ws) in
-    ap (λ b. cond b (in_grammar (event_of (words line))) (Err E1)) (clean w ws h few)
-    ∙ ap (λ l. in_grammar (event_of l)) (ap words_among (words_parted w ws (inks (w ∷ ws) h)) ∙ all_words (w ∷ ws) h)
+    ap (λ b. cond b (in_grammar (event_of false (words line))) (Err E1)) (clean w ws h few)
+    ∙ ap (λ l. in_grammar (event_of false l)) (ap words_among (words_parted w ws (inks (w ∷ ws) h)) ∙ all_words (w ∷ ws) h)

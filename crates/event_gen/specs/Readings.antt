@@ -1,5 +1,5 @@
 -- What the event language reads of the lines.
-use Rattle.std.specs.Prelude.{◌≡◌, ℕ, List, [], ◌∷◌, ◌++◌, map, None, Ok, codes}
+use Rattle.std.specs.Prelude.{◌≡◌, ℕ, List, [], ◌∷◌, ◌++◌, map, false, None, Ok, codes}
 use Rattle.rib_route.specs.declared.Proto.TheVariants.{Connected, Static}
 use Rattle.journal_text.specs.declared.link.Task.{Task}
 use Rattle.journal_text.specs.declared.link.Task.TheVariants.{Fin, Nh, ReadRib, Out}
@@ -51,10 +51,10 @@ opening_events =
 abbrev pub meanings : ℕ → ℕ → List Event
 meanings seed n = opening_events ++ map meant (events_from n seed ++ drawn.Idle ∷ [])
 
--- each line is read as its event
+-- each line is read as its event, where AS numbers have two octets
 abbrev pub AreReadAs : List (List ℕ) → List Event → Type 0
 AreReadAs [] [] = Unit {0}
-AreReadAs (line ∷ ls) (event ∷ es) = (read_event line ≡ Ok event) × AreReadAs ls es
+AreReadAs (line ∷ ls) (event ∷ es) = (read_event false line ≡ Ok event) × AreReadAs ls es
 AreReadAs ls es = ⊥
 
 -- Each line of a seed is read as the event that it is, whatever was drawn.

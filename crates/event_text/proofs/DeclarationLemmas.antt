@@ -2,26 +2,32 @@
 use Rattle.std.proofs.Common.{◌≡◌, ℕ, ◌+◌, ◌<◌, Bool, true, false, not, ◌&&◌, ◌||◌, List, [], ◌∷◌, ◌++◌, map, Option, Some, None, nat_eq, cond, refl, ap, sym, subst, ◌∙◌, arith}
 use Rattle.std.proofs.lemmas.Bool.Decides.{nat_tests}
 use Rattle.bgp_attr.specs.declared.speaker.Speaker.{Speaker}
+use Rattle.bgp_attr.specs.declared.speaker.Profile.{Profile}
 use Rattle.event_text.specs.declared.event.Event.TheVariants as events
 use Rattle.event_text.specs.declared.declared.DeclaredPeer.{DeclaredPeer}
 use Rattle.bgp_attr.specs.Speakers.{IsSpeaker, IsNeighbourOf}
 use Rattle.event_text.specs.WellFormed.{IsWellFormed}
-use Rattle.event_text.specs.Declarations.{Declaration, peer_at, has_addr, refusal, words_of, with_speaker, with_peer, with_session, without_session, begun_at, ended_at, IsPeerOf, ArePeersOf, HaveOwnAddrs, AreDeclared, IsDeclaredBy, IsDeclaration}
+use Rattle.event_text.specs.Declarations.{Declaration, peer_at, has_addr, refusal, words_of, with_profile, with_speaker, with_peer, with_session, without_session, begun_at, ended_at, IsPeerOf, ArePeersOf, HaveOwnAddrs, AreDeclared, IsDeclaredBy, IsDeclaration}
 use Rattle.event_text.proofs.Sessions.{Addable, addable_by, counted_push, KeepsWords, begun_words, ended_words, counted_begun, counted_ended}
 
+-- ---- `as4` and `revised`
+pub profile_kept : (d : Declaration) (profile : Profile) → IsDeclaration d → d.speaker ≡ None → IsDeclaration (with_profile d profile)
+profile_kept d profile declared none =
+    subst (λ o. IsDeclaredBy profile.as4 o d.peers) (sym none) (subst (λ o. IsDeclaredBy d.profile.as4 o d.peers) none declared)
+
 -- ---- `local`
-pub speaker_kept : (d : Declaration) (s : Speaker) → IsDeclaration d → refusal d (events.Local s) ≡ None → IsSpeaker s → IsDeclaration (with_speaker d s)
+pub speaker_kept : (d : Declaration) (s : Speaker) → IsDeclaration d → refusal d (events.Local s) ≡ None → IsSpeaker d.profile.as4 s → IsDeclaration (with_speaker d s)
 unfolding refusal
 speaker_kept d s declared refused ok = by_speaker d.speaker d.peers declared refused
   where
-    by_speaker : (o : Option Speaker) (peers : List DeclaredPeer) → IsDeclaredBy o peers → refusal (record { speaker = o; peers = peers }) (events.Local s) ≡ None → AreDeclared s peers
-    by_speaker None peers none refused = subst (AreDeclared s) (sym none) (record { speaker = ok; each = tt; counted = tt; addrs = tt })
+    by_speaker : (o : Option Speaker) (peers : List DeclaredPeer) → IsDeclaredBy d.profile.as4 o peers → refusal (record { profile = d.profile; speaker = o; peers = peers }) (events.Local s) ≡ None → AreDeclared d.profile.as4 s peers
+    by_speaker None peers none refused = subst (AreDeclared d.profile.as4 s) (sym none) (record { speaker = ok; each = tt; counted = tt; addrs = tt })
     by_speaker (Some local) peers declared refused = absurd (cc)
 
 -- ---- `peer`
-peers_push : (local : Speaker) (ps : List DeclaredPeer) (q : DeclaredPeer) → ArePeersOf local ps → IsPeerOf local q → ArePeersOf local (ps ++ q ∷ [])
-peers_push local [] q each here = (here, tt)
-peers_push local (p ∷ ps) q each here = (each.0, peers_push local ps q each.1 here)
+peers_push : (as4 : Bool) (local : Speaker) (ps : List DeclaredPeer) (q : DeclaredPeer) → ArePeersOf as4 local ps → IsPeerOf as4 local q → ArePeersOf as4 local (ps ++ q ∷ [])
+peers_push as4 local [] q each here = (here, tt)
+peers_push as4 local (p ∷ ps) q each here = (each.0, peers_push as4 local ps q each.1 here)
 
 or_false : (a b : Bool) → (a || b) ≡ false → (a ≡ false) × (b ≡ false)
 or_false true b e = absurd (cc)
@@ -42,33 +48,33 @@ addrs_push (p ∷ ps) q own none =
     let o = or_false (nat_eq p.words.addr q.words.addr) (has_addr q.words.addr ps) none in
     (addr_push p.words.addr ps q own.0 (other_way p.words.addr q.words.addr o.0), addrs_push ps q own.1 o.1)
 
-peer_added : (local : Speaker) (peers : List DeclaredPeer) (k : ℕ) (s : Speaker) → AreDeclared local peers → Addable local peers k s → 0 < k → IsSpeaker s → AreDeclared local (peers ++ record { words = words_of (Some local) k s; session = 0; up = false } ∷ [])
-peer_added local peers k s declared a least ok =
+peer_added : (as4 : Bool) (local : Speaker) (peers : List DeclaredPeer) (k : ℕ) (s : Speaker) → AreDeclared as4 local peers → Addable local peers k s → 0 < k → IsSpeaker as4 s → AreDeclared as4 local (peers ++ record { words = words_of (Some local) k s; session = 0; up = false } ∷ [])
+peer_added as4 local peers k s declared a least ok =
     let q : DeclaredPeer = record { words = words_of (Some local) k s; session = 0; up = false } in
-    let words : IsNeighbourOf local q.words = record { neighbour = record { least = least; most = a.few; speaker = ok }; internal = refl; foreign = a.foreign } in
+    let words : IsNeighbourOf as4 local q.words = record { neighbour = record { least = least; most = a.few; speaker = ok }; internal = refl; foreign = a.foreign } in
     record {
       speaker = declared.speaker;
-      each = peers_push local peers q declared.each (record { words = words; begun = λ up. absurd (cc) });
+      each = peers_push as4 local peers q declared.each (record { words = words; begun = λ up. absurd (cc) });
       counted = counted_push peers q declared.counted a.absent (omega arith);
       addrs = addrs_push peers q declared.addrs a.new;
     }
 
-pub peer_kept : (d : Declaration) (k : ℕ) (s : Speaker) → IsDeclaration d → refusal d (events.Peer k s) ≡ None → IsWellFormed (events.Peer k s) → IsDeclaration (with_peer d k s)
+pub peer_kept : (d : Declaration) (k : ℕ) (s : Speaker) → IsDeclaration d → refusal d (events.Peer k s) ≡ None → IsWellFormed d.profile.as4 (events.Peer k s) → IsDeclaration (with_peer d k s)
 unfolding refusal
 peer_kept d k s declared refused ok = by_speaker d.speaker d.peers declared refused
   where
-    by_speaker : (o : Option Speaker) (peers : List DeclaredPeer) → IsDeclaredBy o peers → refusal (record { speaker = o; peers = peers }) (events.Peer k s) ≡ None → IsDeclaredBy o (peers ++ record { words = words_of o k s; session = 0; up = false } ∷ [])
+    by_speaker : (o : Option Speaker) (peers : List DeclaredPeer) → IsDeclaredBy d.profile.as4 o peers → refusal (record { profile = d.profile; speaker = o; peers = peers }) (events.Peer k s) ≡ None → IsDeclaredBy d.profile.as4 o (peers ++ record { words = words_of o k s; session = 0; up = false } ∷ [])
     by_speaker None peers declared refused = absurd (cc)
-    by_speaker (Some local) peers declared refused = peer_added local peers k s declared (addable_by local peers k s refused) ok.0.least ok.1
+    by_speaker (Some local) peers declared refused = peer_added d.profile.as4 local peers k s declared (addable_by local peers k s refused) ok.0.least ok.1
 
 -- ---- `up` and `down`
 KeepsBegun : (DeclaredPeer → DeclaredPeer) → Type 0
 KeepsBegun f = (p : DeclaredPeer) → (p.up ≡ true → 0 < p.session) → (f p).up ≡ true → 0 < (f p).session
 
-peers_map : (f : DeclaredPeer → DeclaredPeer) → KeepsWords f → KeepsBegun f → (local : Speaker) (ps : List DeclaredPeer) → ArePeersOf local ps → ArePeersOf local (map f ps)
+peers_map : (f : DeclaredPeer → DeclaredPeer) → KeepsWords f → KeepsBegun f → (as4 : Bool) (local : Speaker) (ps : List DeclaredPeer) → ArePeersOf as4 local ps → ArePeersOf as4 local (map f ps)
 unfolding KeepsBegun
-peers_map f keeps begun local [] each = tt
-peers_map f keeps begun local (p ∷ ps) each = (record { words = subst (IsNeighbourOf local) (sym (keeps p)) each.0.words; begun = begun p each.0.begun }, peers_map f keeps begun local ps each.1)
+peers_map f keeps begun as4 local [] each = tt
+peers_map f keeps begun as4 local (p ∷ ps) each = (record { words = subst (IsNeighbourOf as4 local) (sym (keeps p)) each.0.words; begun = begun p each.0.begun }, peers_map f keeps begun as4 local ps each.1)
 
 addr_map : (f : DeclaredPeer → DeclaredPeer) → KeepsWords f → (a : ℕ) (ps : List DeclaredPeer) → has_addr a (map f ps) ≡ has_addr a ps
 addr_map f keeps a [] = refl
@@ -97,25 +103,25 @@ ended_begun k p h = by_test (nat_eq p.words.number k)
 pub session_kept : (d : Declaration) (k : ℕ) → IsDeclaration d → refusal d (events.Up k) ≡ None → IsDeclaration (with_session d k)
 session_kept d k declared refused = by_speaker d.speaker d.peers declared refused
   where
-    by_speaker : (o : Option Speaker) (peers : List DeclaredPeer) → IsDeclaredBy o peers → refusal (record { speaker = o; peers = peers }) (events.Up k) ≡ None → IsDeclaredBy o (map (begun_at k) peers)
+    by_speaker : (o : Option Speaker) (peers : List DeclaredPeer) → IsDeclaredBy d.profile.as4 o peers → refusal (record { profile = d.profile; speaker = o; peers = peers }) (events.Up k) ≡ None → IsDeclaredBy d.profile.as4 o (map (begun_at k) peers)
     by_speaker None peers none refused = ap (map (begun_at k)) none
     by_speaker (Some local) peers declared refused =
         record {
           speaker = declared.speaker;
-          each = peers_map (begun_at k) (begun_words k) (begun_begun k) local peers declared.each;
-          counted = counted_begun (Some local) peers k declared.counted refused;
+          each = peers_map (begun_at k) (begun_words k) (begun_begun k) d.profile.as4 local peers declared.each;
+          counted = counted_begun d.profile (Some local) peers k declared.counted refused;
           addrs = addrs_map (begun_at k) (begun_words k) peers declared.addrs;
         }
 
 pub end_kept : (d : Declaration) (k : ℕ) → IsDeclaration d → IsDeclaration (without_session d k)
 end_kept d k declared = by_speaker d.speaker d.peers declared
   where
-    by_speaker : (o : Option Speaker) (peers : List DeclaredPeer) → IsDeclaredBy o peers → IsDeclaredBy o (map (ended_at k) peers)
+    by_speaker : (o : Option Speaker) (peers : List DeclaredPeer) → IsDeclaredBy d.profile.as4 o peers → IsDeclaredBy d.profile.as4 o (map (ended_at k) peers)
     by_speaker None peers none = ap (map (ended_at k)) none
     by_speaker (Some local) peers declared =
         record {
           speaker = declared.speaker;
-          each = peers_map (ended_at k) (ended_words k) (ended_begun k) local peers declared.each;
+          each = peers_map (ended_at k) (ended_words k) (ended_begun k) d.profile.as4 local peers declared.each;
           counted = counted_ended peers k declared.counted;
           addrs = addrs_map (ended_at k) (ended_words k) peers declared.addrs;
         }
@@ -130,6 +136,6 @@ found_by true q p k rest P e here holds later =
     subst (λ x. P x × (x.words.number ≡ k)) (some_is q p here) (holds, number)
 found_by false q p k rest P e there holds later = later there
 
-pub found_peer : (local : Speaker) (ps : List DeclaredPeer) (k : ℕ) (p : DeclaredPeer) → ArePeersOf local ps → peer_at k ps ≡ Some p → IsPeerOf local p × (p.words.number ≡ k)
-found_peer local [] k p each found = absurd (cc)
-found_peer local (q ∷ ps) k p each found = found_by (nat_eq q.words.number k) q p k (peer_at k ps) (IsPeerOf local) refl found each.0 (λ there. found_peer local ps k p each.1 there)
+pub found_peer : (as4 : Bool) (local : Speaker) (ps : List DeclaredPeer) (k : ℕ) (p : DeclaredPeer) → ArePeersOf as4 local ps → peer_at k ps ≡ Some p → IsPeerOf as4 local p × (p.words.number ≡ k)
+found_peer as4 local [] k p each found = absurd (cc)
+found_peer as4 local (q ∷ ps) k p each found = found_by (nat_eq q.words.number k) q p k (peer_at k ps) (IsPeerOf as4 local) refl found each.0 (λ there. found_peer as4 local ps k p each.1 there)

@@ -4,6 +4,7 @@ use Rattle.std.proofs.lemmas.Grind.{common_steps}
 use Rattle.std.proofs.lemmas.Bool.Decides.{nat_tests}
 use Rattle.std.specs.List.{All}
 use Rattle.bgp_attr.specs.declared.speaker.Speaker.{Speaker}
+use Rattle.bgp_attr.specs.declared.speaker.Profile.{Profile}
 use Rattle.journal_text.specs.declared.line.Code.TheVariants.{E3, E6}
 use Rattle.event_text.specs.declared.event.Event.TheVariants as events
 use Rattle.event_text.specs.declared.declared.DeclaredPeer.{DeclaredPeer}
@@ -50,10 +51,10 @@ addable_by local peers k words e =
       foreign = right_false _ _ rest;
     }
 
-pub addable : (speaker : Option Speaker) (peers : List DeclaredPeer) (k : ℕ) (words : Speaker) → refusal (record { speaker = speaker; peers = peers }) (events.Peer k words) ≡ None → (k ≤ 64) × (peer_at k peers ≡ None)
+pub addable : (profile : Profile) (speaker : Option Speaker) (peers : List DeclaredPeer) (k : ℕ) (words : Speaker) → refusal (record { profile = profile; speaker = speaker; peers = peers }) (events.Peer k words) ≡ None → (k ≤ 64) × (peer_at k peers ≡ None)
 unfolding refusal
-addable None peers k words e = absurd (cc)
-addable (Some local) peers k words e = let a = addable_by local peers k words e in (a.few, a.absent)
+addable profile None peers k words e = absurd (cc)
+addable profile (Some local) peers k words e = let a = addable_by local peers k words e in (a.few, a.absent)
 
 pub missed : (b : Bool) (p : DeclaredPeer) (o : Option DeclaredPeer) → cond b (Some p) o ≡ None → (b ≡ false) × (o ≡ None)
 missed true p o e = absurd (cc)
@@ -159,10 +160,10 @@ low_ended k [] counted = tt
 low_ended k (p ∷ ps) counted = (ended_low (nat_eq p.words.number k) p counted.0, low_ended k ps counted.2)
 
 -- ---- what stays true of the peers
-pub counted_begun : (speaker : Option Speaker) (peers : List DeclaredPeer) (k : ℕ) → IsCounted peers → refusal (record { speaker = speaker; peers = peers }) (events.Up k) ≡ None → IsCounted (map (begun_at k) peers)
+pub counted_begun : (profile : Profile) (speaker : Option Speaker) (peers : List DeclaredPeer) (k : ℕ) → IsCounted peers → refusal (record { profile = profile; speaker = speaker; peers = peers }) (events.Up k) ≡ None → IsCounted (map (begun_at k) peers)
 unfolding refusal
-counted_begun None peers k counted e = absurd (cc)
-counted_begun (Some local) peers k counted e = counted_map (begun_at k) (begun_words k) peers counted (low_begun k peers counted (may_begin k peers counted e))
+counted_begun profile None peers k counted e = absurd (cc)
+counted_begun profile (Some local) peers k counted e = counted_map (begun_at k) (begun_words k) peers counted (low_begun k peers counted (may_begin k peers counted e))
 
 pub counted_ended : (peers : List DeclaredPeer) (k : ℕ) → IsCounted peers → IsCounted (map (ended_at k) peers)
 counted_ended peers k counted = counted_map (ended_at k) (ended_words k) peers counted (low_ended k peers counted)

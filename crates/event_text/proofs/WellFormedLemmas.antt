@@ -22,9 +22,9 @@ use Rattle.policy_rules.specs.Grammar.{rules_of}
 use Rattle.policy_rules.proofs.RangeLemmas.{and_then, either, below, addr_fits, prefix_ok, rules_ok}
 use Rattle.addr4.specs.Prefixes.{Network, IsMasked}
 use Rattle.bgp_attr.specs.Hosts.{is_host}
-use Rattle.bgp_attr.specs.Speakers.{IsSpeaker}
+use Rattle.bgp_attr.specs.Speakers.{IsSpeaker, asn_bound}
 use Rattle.event_text.specs.Words.{from_one, speaker_of, octets_of, way_out, way_over, interior_of, switch_of}
-use Rattle.event_text.specs.Events.{local_of, peer_of, one_number, bgp_of, filter_on, filter_of, route_add_of, route_del_of, route_of, lost_of, redist_of, cover_of, interior_event, work_of, ask_of, show_of, settled_of, plain_event, named_event, event_of}
+use Rattle.event_text.specs.Events.{local_of, peer_of, one_number, bgp_of, filter_on, filter_of, route_add_of, route_del_of, route_of, lost_of, redist_of, cover_of, profile_event, interior_event, work_of, ask_of, show_of, settled_of, plain_event, named_event, event_of}
 use Rattle.event_text.specs.WellFormed.{IsNumber, IsMessage, IsPrefix, IsGateway, IsInterior, IsTask, IsWellFormed}
 
 -- ---- steps that may fail
@@ -38,24 +38,24 @@ unfolding from_one
 from_one_ok word =
     and_then (number_of word) _ (λ n. n < 2 ^ 32) IsNumber (below (2 ^ 32) word) (λ n fits. told (nat_eq n 0) None (Some n) IsNumber (λ _. tt) (λ other. record { least = grind (arith, nat_tests); fits = fits }))
 
-speaker_told : (a i h : ℕ) → a < 65536 → i < 2 ^ 32 → h < 2 ^ 32 → (x y z : Bool) → nat_eq a 0 ≡ x → nat_eq i 0 ≡ y → is_host h ≡ z → IfSome (cond (x || y || not z) None (Some (record { asn = a; id = i; addr = h }))) IsSpeaker
-speaker_told a i h fa fi fh true y z ea ei eh = tt
-speaker_told a i h fa fi fh false true z ea ei eh = tt
-speaker_told a i h fa fi fh false false false ea ei eh = tt
-speaker_told a i h fa fi fh false false true ea ei eh =
-    record { asn_least = grind (arith, nat_tests); asn_most = omega arith; id_least = grind (arith, nat_tests); id_fits = fi; host = eh; addr_fits = fh }
+speaker_told : (as4 : Bool) (a i h : ℕ) → a < asn_bound as4 → i < 2 ^ 32 → h < 2 ^ 32 → (x y z : Bool) → nat_eq a 0 ≡ x → nat_eq i 0 ≡ y → is_host h ≡ z → IfSome (cond (x || y || not z) None (Some (record { asn = a; id = i; addr = h }))) (IsSpeaker as4)
+speaker_told as4 a i h fa fi fh true y z ea ei eh = tt
+speaker_told as4 a i h fa fi fh false true z ea ei eh = tt
+speaker_told as4 a i h fa fi fh false false false ea ei eh = tt
+speaker_told as4 a i h fa fi fh false false true ea ei eh =
+    record { asn_least = grind (arith, nat_tests); asn_most = fa; id_least = grind (arith, nat_tests); id_fits = fi; host = eh; addr_fits = fh }
 
-pub speaker_ok : (ws : List (List ℕ)) → IfSome (speaker_of ws) IsSpeaker
+pub speaker_ok : (as4 : Bool) (ws : List (List ℕ)) → IfSome (speaker_of as4 ws) (IsSpeaker as4)
 unfolding speaker_of
-speaker_ok [] = tt
-speaker_ok (asn ∷ []) = tt
-speaker_ok (asn ∷ id ∷ []) = tt
-speaker_ok (asn ∷ id ∷ addr ∷ []) =
-    and_then (number_below 65536 asn) _ (λ n. n < 65536) IsSpeaker (below 65536 asn) (λ a fa.
-    and_then (addr_of id) _ (λ n. n < 2 ^ 32) IsSpeaker (addr_fits id) (λ i fi.
-    and_then (addr_of addr) _ (λ n. n < 2 ^ 32) IsSpeaker (addr_fits addr) (λ h fh.
-    speaker_told a i h fa fi fh (nat_eq a 0) (nat_eq i 0) (is_host h) refl refl refl)))
-speaker_ok (asn ∷ id ∷ addr ∷ x ∷ more) = tt
+speaker_ok as4 [] = tt
+speaker_ok as4 (asn ∷ []) = tt
+speaker_ok as4 (asn ∷ id ∷ []) = tt
+speaker_ok as4 (asn ∷ id ∷ addr ∷ []) =
+    and_then (number_below (asn_bound as4) asn) _ (λ n. n < asn_bound as4) (IsSpeaker as4) (below (asn_bound as4) asn) (λ a fa.
+    and_then (addr_of id) _ (λ n. n < 2 ^ 32) (IsSpeaker as4) (addr_fits id) (λ i fi.
+    and_then (addr_of addr) _ (λ n. n < 2 ^ 32) (IsSpeaker as4) (addr_fits addr) (λ h fh.
+    speaker_told as4 a i h fa fi fh (nat_eq a 0) (nat_eq i 0) (is_host h) refl refl refl)))
+speaker_ok as4 (asn ∷ id ∷ addr ∷ x ∷ more) = tt
 
 decoded : (digits : List ℕ) (r : Result (List ℕ) FromHexError) → decode_of digits ≡ r → IfSome (result_ok r) (λ bytes. All (λ b. b < 256) bytes)
 decoded digits (Err e) is = tt
@@ -153,143 +153,150 @@ task_ok : (word : List ℕ) → IfSome (task_of word) IsTask
 task_ok word = task_parts_ok (parts 46 word)
 
 -- ---- lines
-local_ok : (ws : List (List ℕ)) → IfSome (local_of ws) IsWellFormed
-unfolding local_of
-local_ok ws = and_then (speaker_of ws) _ IsSpeaker IsWellFormed (speaker_ok ws) (λ s h. h)
+module _ (as4 : Bool) where
+  local_ok : (ws : List (List ℕ)) → IfSome (local_of as4 ws) (IsWellFormed as4)
+  unfolding local_of
+  local_ok ws = and_then (speaker_of as4 ws) _ (IsSpeaker as4) (IsWellFormed as4) (speaker_ok as4 ws) (λ s h. h)
 
-peer_ok : (ws : List (List ℕ)) → IfSome (peer_of ws) IsWellFormed
-unfolding peer_of
-peer_ok [] = tt
-peer_ok (k ∷ ws) = and_then (from_one k) _ IsNumber IsWellFormed (from_one_ok k) (λ n hn. and_then (speaker_of ws) _ IsSpeaker IsWellFormed (speaker_ok ws) (λ s hs. (hn, hs)))
+  peer_ok : (ws : List (List ℕ)) → IfSome (peer_of as4 ws) (IsWellFormed as4)
+  unfolding peer_of
+  peer_ok [] = tt
+  peer_ok (k ∷ ws) = and_then (from_one k) _ IsNumber (IsWellFormed as4) (from_one_ok k) (λ n hn. and_then (speaker_of as4 ws) _ (IsSpeaker as4) (IsWellFormed as4) (speaker_ok as4 ws) (λ s hs. (hn, hs)))
 
-one_number_ok : (ws : List (List ℕ)) → IfSome (one_number ws) IsNumber
-unfolding one_number
-one_number_ok [] = tt
-one_number_ok (k ∷ []) = from_one_ok k
-one_number_ok (k ∷ x ∷ more) = tt
+  one_number_ok : (ws : List (List ℕ)) → IfSome (one_number ws) IsNumber
+  unfolding one_number
+  one_number_ok [] = tt
+  one_number_ok (k ∷ []) = from_one_ok k
+  one_number_ok (k ∷ x ∷ more) = tt
 
-bgp_ok : (ws : List (List ℕ)) → IfSome (bgp_of ws) IsWellFormed
-unfolding bgp_of
-bgp_ok [] = tt
-bgp_ok (k ∷ []) = tt
-bgp_ok (k ∷ digits ∷ []) = and_then (from_one k) _ IsNumber IsWellFormed (from_one_ok k) (λ n hn. and_then (octets_of digits) _ IsMessage IsWellFormed (octets_ok digits) (λ octets ho. (hn, ho)))
-bgp_ok (k ∷ digits ∷ x ∷ more) = tt
+  bgp_ok : (ws : List (List ℕ)) → IfSome (bgp_of ws) (IsWellFormed as4)
+  unfolding bgp_of
+  bgp_ok [] = tt
+  bgp_ok (k ∷ []) = tt
+  bgp_ok (k ∷ digits ∷ []) = and_then (from_one k) _ IsNumber (IsWellFormed as4) (from_one_ok k) (λ n hn. and_then (octets_of digits) _ IsMessage (IsWellFormed as4) (octets_ok digits) (λ octets ho. (hn, ho)))
+  bgp_ok (k ∷ digits ∷ x ∷ more) = tt
 
-filter_on_ok : (side : List ℕ) (k : ℕ) (rules : List Rule) → IsNumber k → AreRules false rules → IfSome (filter_on side k rules) IsWellFormed
-unfolding filter_on
-filter_on_ok side k rules hk hr =
-    either (bytes_eq side (codes "in")) (Some (events.FilterIn k rules)) _ IsWellFormed (hk, hr)
-    (either (bytes_eq side (codes "out")) (Some (events.FilterOut k rules)) None IsWellFormed (hk, hr) tt)
+  filter_on_ok : (side : List ℕ) (k : ℕ) (rules : List Rule) → IsNumber k → AreRules as4 rules → IfSome (filter_on side k rules) (IsWellFormed as4)
+  unfolding filter_on
+  filter_on_ok side k rules hk hr =
+      either (bytes_eq side (codes "in")) (Some (events.FilterIn k rules)) _ (IsWellFormed as4) (hk, hr)
+      (either (bytes_eq side (codes "out")) (Some (events.FilterOut k rules)) None (IsWellFormed as4) (hk, hr) tt)
 
-filter_ok : (ws : List (List ℕ)) → IfSome (filter_of ws) IsWellFormed
-unfolding filter_of
-filter_ok [] = tt
-filter_ok (side ∷ []) = tt
-filter_ok (side ∷ k ∷ ws) =
-    and_then (from_one k) _ IsNumber IsWellFormed (from_one_ok k) (λ n hn.
-    and_then (rules_of false ws) _ (AreRules false) IsWellFormed (rules_ok false ws) (λ rules hr. filter_on_ok side n rules hn hr))
+  filter_ok : (ws : List (List ℕ)) → IfSome (filter_of as4 ws) (IsWellFormed as4)
+  unfolding filter_of
+  filter_ok [] = tt
+  filter_ok (side ∷ []) = tt
+  filter_ok (side ∷ k ∷ ws) =
+      and_then (from_one k) _ IsNumber (IsWellFormed as4) (from_one_ok k) (λ n hn.
+      and_then (rules_of as4 ws) _ (AreRules as4) (IsWellFormed as4) (rules_ok as4 ws) (λ rules hr. filter_on_ok side n rules hn hr))
 
-route_add_ok : (ws : List (List ℕ)) → IfSome (route_add_of ws) IsWellFormed
-unfolding route_add_of
-route_add_ok [] = tt
-route_add_ok (proto ∷ []) = tt
-route_add_ok (proto ∷ p ∷ ws) =
-    and_then (proto_of proto) _ (λ _. Unit {0}) IsWellFormed (each (proto_of proto) (λ _. Unit {0}) (λ _ _. tt)) (λ o _.
-    and_then (prefix_of 32 p) _ IsPrefix IsWellFormed (is_prefix p) (λ n hn.
-    and_then (interior_of o ws) _ IsInterior IsWellFormed (interior_ok o ws) (λ row hr. (hn, hr))))
+  route_add_ok : (ws : List (List ℕ)) → IfSome (route_add_of ws) (IsWellFormed as4)
+  unfolding route_add_of
+  route_add_ok [] = tt
+  route_add_ok (proto ∷ []) = tt
+  route_add_ok (proto ∷ p ∷ ws) =
+      and_then (proto_of proto) _ (λ _. Unit {0}) (IsWellFormed as4) (each (proto_of proto) (λ _. Unit {0}) (λ _ _. tt)) (λ o _.
+      and_then (prefix_of 32 p) _ IsPrefix (IsWellFormed as4) (is_prefix p) (λ n hn.
+      and_then (interior_of o ws) _ IsInterior (IsWellFormed as4) (interior_ok o ws) (λ row hr. (hn, hr))))
 
-route_del_ok : (ws : List (List ℕ)) → IfSome (route_del_of ws) IsWellFormed
-unfolding route_del_of
-route_del_ok [] = tt
-route_del_ok (proto ∷ []) = tt
-route_del_ok (proto ∷ p ∷ []) =
-    and_then (proto_of proto) _ (λ _. Unit {0}) IsWellFormed (each (proto_of proto) (λ _. Unit {0}) (λ _ _. tt)) (λ o _.
-    and_then (prefix_of 32 p) _ IsPrefix IsWellFormed (is_prefix p) (λ n hn. hn))
-route_del_ok (proto ∷ p ∷ x ∷ more) = tt
+  route_del_ok : (ws : List (List ℕ)) → IfSome (route_del_of ws) (IsWellFormed as4)
+  unfolding route_del_of
+  route_del_ok [] = tt
+  route_del_ok (proto ∷ []) = tt
+  route_del_ok (proto ∷ p ∷ []) =
+      and_then (proto_of proto) _ (λ _. Unit {0}) (IsWellFormed as4) (each (proto_of proto) (λ _. Unit {0}) (λ _ _. tt)) (λ o _.
+      and_then (prefix_of 32 p) _ IsPrefix (IsWellFormed as4) (is_prefix p) (λ n hn. hn))
+  route_del_ok (proto ∷ p ∷ x ∷ more) = tt
 
-route_ok : (ws : List (List ℕ)) → IfSome (route_of ws) IsWellFormed
-unfolding route_of
-route_ok [] = tt
-route_ok (w ∷ ws) =
-    either (bytes_eq w (codes "add")) _ _ IsWellFormed (route_add_ok ws)
-    (either (bytes_eq w (codes "del")) _ None IsWellFormed (route_del_ok ws) tt)
+  route_ok : (ws : List (List ℕ)) → IfSome (route_of ws) (IsWellFormed as4)
+  unfolding route_of
+  route_ok [] = tt
+  route_ok (w ∷ ws) =
+      either (bytes_eq w (codes "add")) _ _ (IsWellFormed as4) (route_add_ok ws)
+      (either (bytes_eq w (codes "del")) _ None (IsWellFormed as4) (route_del_ok ws) tt)
 
-lost_ok : (ws : List (List ℕ)) → IfSome (lost_of ws) IsWellFormed
-unfolding lost_of
-lost_ok [] = tt
-lost_ok (proto ∷ []) = and_then (proto_of proto) _ (λ _. Unit {0}) IsWellFormed (each (proto_of proto) (λ _. Unit {0}) (λ _ _. tt)) (λ o _. tt)
-lost_ok (proto ∷ x ∷ more) = tt
+  lost_ok : (ws : List (List ℕ)) → IfSome (lost_of ws) (IsWellFormed as4)
+  unfolding lost_of
+  lost_ok [] = tt
+  lost_ok (proto ∷ []) = and_then (proto_of proto) _ (λ _. Unit {0}) (IsWellFormed as4) (each (proto_of proto) (λ _. Unit {0}) (λ _ _. tt)) (λ o _. tt)
+  lost_ok (proto ∷ x ∷ more) = tt
 
-redist_ok : (ws : List (List ℕ)) → IfSome (redist_of ws) IsWellFormed
-unfolding redist_of
-redist_ok [] = tt
-redist_ok (proto ∷ []) = tt
-redist_ok (proto ∷ state ∷ []) =
-    and_then (proto_of proto) _ (λ _. Unit {0}) IsWellFormed (each (proto_of proto) (λ _. Unit {0}) (λ _ _. tt)) (λ o _.
-    and_then (switch_of state) _ (λ _. Unit {0}) IsWellFormed (each (switch_of state) (λ _. Unit {0}) (λ _ _. tt)) (λ on _. tt))
-redist_ok (proto ∷ state ∷ x ∷ more) = tt
+  redist_ok : (ws : List (List ℕ)) → IfSome (redist_of ws) (IsWellFormed as4)
+  unfolding redist_of
+  redist_ok [] = tt
+  redist_ok (proto ∷ []) = tt
+  redist_ok (proto ∷ state ∷ []) =
+      and_then (proto_of proto) _ (λ _. Unit {0}) (IsWellFormed as4) (each (proto_of proto) (λ _. Unit {0}) (λ _ _. tt)) (λ o _.
+      and_then (switch_of state) _ (λ _. Unit {0}) (IsWellFormed as4) (each (switch_of state) (λ _. Unit {0}) (λ _ _. tt)) (λ on _. tt))
+  redist_ok (proto ∷ state ∷ x ∷ more) = tt
 
-cover_ok : (ws : List (List ℕ)) → IfSome (cover_of ws) IsWellFormed
-unfolding cover_of
-cover_ok [] = tt
-cover_ok (addr ∷ []) = and_then (addr_of addr) _ (λ a. a < 2 ^ 32) IsWellFormed (addr_fits addr) (λ a h. h)
-cover_ok (addr ∷ x ∷ more) = tt
+  cover_ok : (ws : List (List ℕ)) → IfSome (cover_of ws) (IsWellFormed as4)
+  unfolding cover_of
+  cover_ok [] = tt
+  cover_ok (addr ∷ []) = and_then (addr_of addr) _ (λ a. a < 2 ^ 32) (IsWellFormed as4) (addr_fits addr) (λ a h. h)
+  cover_ok (addr ∷ x ∷ more) = tt
 
-interior_event_ok : (w : List ℕ) (ws : List (List ℕ)) → IfSome (interior_event w ws) IsWellFormed
-unfolding interior_event
-interior_event_ok w ws =
-    either (bytes_eq w (codes "route")) _ _ IsWellFormed (route_ok ws)
-    (either (bytes_eq w (codes "lost")) _ _ IsWellFormed (lost_ok ws)
-    (either (bytes_eq w (codes "redist")) _ _ IsWellFormed (redist_ok ws)
-    (either (bytes_eq w (codes "cover")) _ None IsWellFormed (cover_ok ws) tt)))
+  profile_ok : (w : List ℕ) (ws : List (List ℕ)) → IfSome (profile_event w ws) (IsWellFormed as4)
+  unfolding profile_event
+  profile_ok w ws =
+      either (bytes_eq w (codes "as4")) _ _ (IsWellFormed as4) (either (nat_eq (length ws) 0) (Some events.As4) None (IsWellFormed as4) tt tt)
+      (either (bytes_eq w (codes "revised")) _ None (IsWellFormed as4) (either (nat_eq (length ws) 0) (Some events.Revised) None (IsWellFormed as4) tt tt) tt)
 
-work_ok : (ws : List (List ℕ)) → IfSome (work_of ws) IsWellFormed
-unfolding work_of
-work_ok [] = tt
-work_ok (task ∷ []) = tt
-work_ok (task ∷ turns ∷ []) = and_then (task_of task) _ IsTask IsWellFormed (task_ok task) (λ t ht. and_then (number_of turns) _ (λ n. n < 2 ^ 32) IsWellFormed (below (2 ^ 32) turns) (λ n hn. (ht, hn)))
-work_ok (task ∷ turns ∷ x ∷ more) = tt
+  interior_event_ok : (w : List ℕ) (ws : List (List ℕ)) → IfSome (interior_event w ws) (IsWellFormed as4)
+  unfolding interior_event
+  interior_event_ok w ws =
+      either (bytes_eq w (codes "route")) _ _ (IsWellFormed as4) (route_ok ws)
+      (either (bytes_eq w (codes "lost")) _ _ (IsWellFormed as4) (lost_ok ws)
+      (either (bytes_eq w (codes "redist")) _ _ (IsWellFormed as4) (redist_ok ws)
+      (either (bytes_eq w (codes "cover")) _ _ (IsWellFormed as4) (cover_ok ws) (profile_ok w ws))))
 
-ask_ok : (ws : List (List ℕ)) → IfSome (ask_of ws) IsWellFormed
-unfolding ask_of
-ask_ok [] = tt
-ask_ok (link ∷ []) = tt
-ask_ok (link ∷ p ∷ []) = and_then (link_of link) _ IsNamed IsWellFormed (link_ok link) (λ l hl. and_then (prefix_of 32 p) _ IsPrefix IsWellFormed (is_prefix p) (λ n hn. (hl, hn)))
-ask_ok (link ∷ p ∷ x ∷ more) = tt
+  work_ok : (ws : List (List ℕ)) → IfSome (work_of ws) (IsWellFormed as4)
+  unfolding work_of
+  work_ok [] = tt
+  work_ok (task ∷ []) = tt
+  work_ok (task ∷ turns ∷ []) = and_then (task_of task) _ IsTask (IsWellFormed as4) (task_ok task) (λ t ht. and_then (number_of turns) _ (λ n. n < 2 ^ 32) (IsWellFormed as4) (below (2 ^ 32) turns) (λ n hn. (ht, hn)))
+  work_ok (task ∷ turns ∷ x ∷ more) = tt
 
-show_ok : (ws : List (List ℕ)) → IfSome (show_of ws) IsWellFormed
-unfolding show_of
-show_ok [] = tt
-show_ok (link ∷ []) = and_then (link_of link) _ IsNamed IsWellFormed (link_ok link) (λ l hl. hl)
-show_ok (link ∷ x ∷ more) = tt
+  ask_ok : (ws : List (List ℕ)) → IfSome (ask_of ws) (IsWellFormed as4)
+  unfolding ask_of
+  ask_ok [] = tt
+  ask_ok (link ∷ []) = tt
+  ask_ok (link ∷ p ∷ []) = and_then (link_of link) _ IsNamed (IsWellFormed as4) (link_ok link) (λ l hl. and_then (prefix_of 32 p) _ IsPrefix (IsWellFormed as4) (is_prefix p) (λ n hn. (hl, hn)))
+  ask_ok (link ∷ p ∷ x ∷ more) = tt
 
-settled_ok : (ws : List (List ℕ)) → IfSome (settled_of ws) IsWellFormed
-unfolding settled_of
-settled_ok [] = tt
-settled_ok (p ∷ []) = and_then (prefix_of 32 p) _ IsPrefix IsWellFormed (is_prefix p) (λ n hn. hn)
-settled_ok (p ∷ x ∷ more) = tt
+  show_ok : (ws : List (List ℕ)) → IfSome (show_of ws) (IsWellFormed as4)
+  unfolding show_of
+  show_ok [] = tt
+  show_ok (link ∷ []) = and_then (link_of link) _ IsNamed (IsWellFormed as4) (link_ok link) (λ l hl. hl)
+  show_ok (link ∷ x ∷ more) = tt
 
-plain_ok : (w : List ℕ) (ws : List (List ℕ)) → IfSome (plain_event w ws) IsWellFormed
-unfolding plain_event
-plain_ok w ws =
-    either (bytes_eq w (codes "up")) _ _ IsWellFormed (and_then (one_number ws) _ IsNumber IsWellFormed (one_number_ok ws) (λ k h. h))
-    (either (bytes_eq w (codes "down")) _ _ IsWellFormed (and_then (one_number ws) _ IsNumber IsWellFormed (one_number_ok ws) (λ k h. h))
-    (either (bytes_eq w (codes "idle")) _ _ IsWellFormed (either (nat_eq (length ws) 0) (Some events.Idle) None IsWellFormed tt tt)
-    (either (bytes_eq w (codes "work")) _ _ IsWellFormed (work_ok ws)
-    (either (bytes_eq w (codes "ask")) _ _ IsWellFormed (ask_ok ws)
-    (either (bytes_eq w (codes "show")) _ _ IsWellFormed (show_ok ws)
-    (either (bytes_eq w (codes "settled")) _ _ IsWellFormed (settled_ok ws) (interior_event_ok w ws)))))))
+  settled_ok : (ws : List (List ℕ)) → IfSome (settled_of ws) (IsWellFormed as4)
+  unfolding settled_of
+  settled_ok [] = tt
+  settled_ok (p ∷ []) = and_then (prefix_of 32 p) _ IsPrefix (IsWellFormed as4) (is_prefix p) (λ n hn. hn)
+  settled_ok (p ∷ x ∷ more) = tt
 
-named_ok : (w : List ℕ) (ws : List (List ℕ)) → IfSome (named_event w ws) IsWellFormed
-unfolding named_event
-named_ok w ws =
-    either (bytes_eq w (codes "local")) _ _ IsWellFormed (local_ok ws)
-    (either (bytes_eq w (codes "peer")) _ _ IsWellFormed (peer_ok ws)
-    (either (bytes_eq w (codes "bgp")) _ _ IsWellFormed (bgp_ok ws)
-    (either (bytes_eq w (codes "filter")) _ _ IsWellFormed (filter_ok ws) (plain_ok w ws))))
+  plain_ok : (w : List ℕ) (ws : List (List ℕ)) → IfSome (plain_event w ws) (IsWellFormed as4)
+  unfolding plain_event
+  plain_ok w ws =
+      either (bytes_eq w (codes "up")) _ _ (IsWellFormed as4) (and_then (one_number ws) _ IsNumber (IsWellFormed as4) (one_number_ok ws) (λ k h. h))
+      (either (bytes_eq w (codes "down")) _ _ (IsWellFormed as4) (and_then (one_number ws) _ IsNumber (IsWellFormed as4) (one_number_ok ws) (λ k h. h))
+      (either (bytes_eq w (codes "idle")) _ _ (IsWellFormed as4) (either (nat_eq (length ws) 0) (Some events.Idle) None (IsWellFormed as4) tt tt)
+      (either (bytes_eq w (codes "work")) _ _ (IsWellFormed as4) (work_ok ws)
+      (either (bytes_eq w (codes "ask")) _ _ (IsWellFormed as4) (ask_ok ws)
+      (either (bytes_eq w (codes "show")) _ _ (IsWellFormed as4) (show_ok ws)
+      (either (bytes_eq w (codes "settled")) _ _ (IsWellFormed as4) (settled_ok ws) (interior_event_ok w ws)))))))
 
--- the event of a line's words is well-formed
-pub event_ok : (ws : List (List ℕ)) → IfSome (event_of ws) IsWellFormed
-unfolding event_of
-event_ok [] = tt
-event_ok (w ∷ ws) = either (starts_with nat_eq w (codes "#")) (Some events.Nothing) (named_event w ws) IsWellFormed tt (named_ok w ws)
+  named_ok : (w : List ℕ) (ws : List (List ℕ)) → IfSome (named_event as4 w ws) (IsWellFormed as4)
+  unfolding named_event
+  named_ok w ws =
+      either (bytes_eq w (codes "local")) _ _ (IsWellFormed as4) (local_ok ws)
+      (either (bytes_eq w (codes "peer")) _ _ (IsWellFormed as4) (peer_ok ws)
+      (either (bytes_eq w (codes "bgp")) _ _ (IsWellFormed as4) (bgp_ok ws)
+      (either (bytes_eq w (codes "filter")) _ _ (IsWellFormed as4) (filter_ok ws) (plain_ok w ws))))
+
+  -- the event of a line's words is well-formed
+  pub event_ok : (ws : List (List ℕ)) → IfSome (event_of as4 ws) (IsWellFormed as4)
+  unfolding event_of
+  event_ok [] = tt
+  event_ok (w ∷ ws) = either (starts_with nat_eq w (codes "#")) (Some events.Nothing) (named_event as4 w ws) (IsWellFormed as4) tt (named_ok w ws)

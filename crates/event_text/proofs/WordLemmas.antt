@@ -1,5 +1,5 @@
 -- Too many words, and the protocol of one.
-use Rattle.std.proofs.Common.{◌≡◌, ℕ, false, List, [], ◌∷◌, length, Option, Some, None, codes, nat_eq, refl}
+use Rattle.std.proofs.Common.{◌≡◌, ℕ, Bool, false, List, [], ◌∷◌, length, Option, Some, None, codes, nat_eq, refl}
 use Rattle.std.specs.Prelude.{if◌then◌else◌}
 use Rattle.std.specs.Str.{bytes_eq}
 use Rattle.rib_route.specs.declared.Proto.{Proto}
@@ -9,13 +9,13 @@ use Rattle.policy_rules.specs.Words.{words}
 use Rattle.event_text.specs.Words.{speaker_of, way_out}
 use Rattle.event_text.specs.Events.{one_number, bgp_of, route_del_of, lost_of, redist_of, cover_of, work_of, ask_of, show_of, settled_of}
 
-four : (a b c : List ℕ) (more : List (List ℕ)) → nat_eq (length more) 0 ≡ false → speaker_of (a ∷ b ∷ c ∷ more) ≡ None
+four : (as4 : Bool) (a b c : List ℕ) (more : List (List ℕ)) → nat_eq (length more) 0 ≡ false → speaker_of as4 (a ∷ b ∷ c ∷ more) ≡ None
 unfolding speaker_of
-four a b c [] some = absurd (cc)
-four a b c (d ∷ more) some = refl
+four as4 a b c [] some = absurd (cc)
+four as4 a b c (d ∷ more) some = refl
 
-pub no_fourth_word : (a b c r : List ℕ) → nat_eq (length (words r)) 0 ≡ false → speaker_of (a ∷ b ∷ c ∷ words r) ≡ None
-no_fourth_word a b c r some = four a b c (words r) some
+pub no_fourth_word : (as4 : Bool) (a b c r : List ℕ) → nat_eq (length (words r)) 0 ≡ false → speaker_of as4 (a ∷ b ∷ c ∷ words r) ≡ None
+no_fourth_word as4 a b c r some = four as4 a b c (words r) some
 
 behind_octets : (a b : List ℕ) (more : List (List ℕ)) → nat_eq (length more) 0 ≡ false → bgp_of (a ∷ b ∷ more) ≡ None
 unfolding bgp_of

@@ -3,28 +3,43 @@ use Rattle.std.specs.Prelude.{◌≡◌, ℕ, ◌+◌, ◌≤◌, ◌<◌, ◌==
 use Rattle.std.specs.Coded.{Coded, code_by, coded×, coded_option, coded_list}
 use Rattle.bgp_attr.specs.declared.speaker.Speaker.{Speaker}
 use Rattle.bgp_attr.specs.declared.speaker.Neighbour.{Neighbour}
+use Rattle.bgp_attr.specs.declared.speaker.Profile.{Profile}
 use Rattle.bgp_attr.specs.Speakers.{IsSpeaker, IsNeighbourOf}
 use Rattle.journal_text.specs.declared.link.Link.{Link}
 use Rattle.journal_text.specs.declared.link.Link.TheVariants as links
 use Rattle.journal_text.specs.declared.link.Task.{Task}
 use Rattle.journal_text.specs.declared.link.Task.TheVariants.{Del, Fin, Nh, ReadRib, Out, Rdel, Red, Ext}
 use Rattle.journal_text.specs.declared.line.Code.{Code}
-use Rattle.journal_text.specs.declared.line.Code.TheVariants.{E3, E4, E5, E6}
+use Rattle.journal_text.specs.declared.line.Code.TheVariants.{E3, E4, E5, E6, E7}
 use Rattle.event_text.specs.declared.event.Event.{Event}
-use Rattle.event_text.specs.declared.event.Event.TheVariants.{Nothing, Local, Peer, Up, Down, Bgp, FilterIn, FilterOut, RouteAdd, RouteDel, Lose, Redist, Cover, Settled, Idle, Work, Ask, Show}
+use Rattle.event_text.specs.declared.event.Event.TheVariants.{Nothing, As4, Revised, Local, Peer, Up, Down, Bgp, FilterIn, FilterOut, RouteAdd, RouteDel, Lose, Redist, Cover, Settled, Idle, Work, Ask, Show}
 use Rattle.event_text.specs.declared.declared.DeclaredPeer.{DeclaredPeer}
 
+-- AS numbers have two octets, and errors in attributes are handled by RFC 4271, section 6.3
+abbrev pub plain : Profile
+plain = record { as4 = false; revised = false }
+
+-- behind `as4`: AS numbers have four octets (RFC 6793)
+abbrev pub with_four_octets : Profile → Profile
+with_four_octets p = record { as4 = true; revised = p.revised }
+
+-- behind `revised`: errors in attributes are handled by the revised table (RFC 7606)
+abbrev pub with_revised : Profile → Profile
+with_revised p = record { as4 = p.as4; revised = true }
+
+-- what holds for the whole file, the words of `local`, and the peers in the order in which they were declared
 pub record Declaration : Type 0 where
+  pub profile : Profile
   pub speaker : Option Speaker
   pub peers : List DeclaredPeer
 
-abbrev pub declaration_code : Coded Speaker → Coded DeclaredPeer → Coded Declaration
-declaration_code s p =
-    code_by (Option Speaker × List DeclaredPeer) (coded× (coded_option s) (coded_list p))
-    (λ d. (d.speaker, d.peers)) (λ q. record { speaker = q.0; peers = q.1 }) (λ _. refl)
+abbrev pub declaration_code : Coded Profile → Coded Speaker → Coded DeclaredPeer → Coded Declaration
+declaration_code f s p =
+    code_by (Profile × (Option Speaker × List DeclaredPeer)) (coded× f (coded× (coded_option s) (coded_list p)))
+    (λ d. (d.profile, (d.speaker, d.peers))) (λ q. record { profile = q.0; speaker = q.1.0; peers = q.1.1 }) (λ _. refl)
 
 abbrev pub no_declaration : Declaration
-no_declaration = record { speaker = None; peers = [] }
+no_declaration = record { profile = plain; speaker = None; peers = [] }
 
 -- the peer of this number
 abbrev pub peer_at : ℕ → List DeclaredPeer → Option DeclaredPeer
@@ -92,9 +107,11 @@ link_refusal (links.Read j s) peers = undeclared (peer_at j peers)
 link_refusal (links.Outf j s) peers = undeclared (peer_at j peers)
 link_refusal (links.Adv j s) peers = undeclared (peer_at j peers)
 
--- where `local` was declared
+-- where `local` was declared: what holds for the whole file is said too late
 abbrev pub refusal_by : Speaker → List DeclaredPeer → Event → Option Code
 refusal_by local peers Nothing = None
+refusal_by local peers As4 = Some E7
+refusal_by local peers Revised = Some E7
 refusal_by local peers (Local words) = Some E3
 refusal_by local peers (Peer k words) = if is_taken local peers k words then Some E3 else if nat_le k 64 then None else Some E6
 refusal_by local peers (Up k) = session_refusal (peer_at k peers)
@@ -113,34 +130,36 @@ refusal_by local peers (Work task n) = task_refusal task peers
 refusal_by local peers (Ask link p) = link_refusal link peers
 refusal_by local peers (Show link) = link_refusal link peers
 
--- before `local`
-abbrev pub refusal_first : Event → Option Code
-refusal_first Nothing = None
-refusal_first (Local words) = None
-refusal_first (Peer k words) = Some E4
-refusal_first (Up k) = Some E4
-refusal_first (Down k) = Some E4
-refusal_first (Bgp k octets) = Some E4
-refusal_first (FilterIn k rules) = Some E4
-refusal_first (FilterOut k rules) = Some E4
-refusal_first (RouteAdd p row) = Some E4
-refusal_first (RouteDel proto p) = Some E4
-refusal_first (Lose proto) = Some E4
-refusal_first (Redist proto on) = Some E4
-refusal_first (Cover addr) = Some E4
-refusal_first (Settled p) = Some E4
-refusal_first Idle = Some E4
-refusal_first (Work task n) = Some E4
-refusal_first (Ask link p) = Some E4
-refusal_first (Show link) = Some E4
+-- before `local`: what holds for the whole file is said once
+abbrev pub refusal_first : Profile → Event → Option Code
+refusal_first profile Nothing = None
+refusal_first profile As4 = if profile.as4 then Some E7 else None
+refusal_first profile Revised = if profile.revised then Some E7 else None
+refusal_first profile (Local words) = None
+refusal_first profile (Peer k words) = Some E4
+refusal_first profile (Up k) = Some E4
+refusal_first profile (Down k) = Some E4
+refusal_first profile (Bgp k octets) = Some E4
+refusal_first profile (FilterIn k rules) = Some E4
+refusal_first profile (FilterOut k rules) = Some E4
+refusal_first profile (RouteAdd p row) = Some E4
+refusal_first profile (RouteDel proto p) = Some E4
+refusal_first profile (Lose proto) = Some E4
+refusal_first profile (Redist proto on) = Some E4
+refusal_first profile (Cover addr) = Some E4
+refusal_first profile (Settled p) = Some E4
+refusal_first profile Idle = Some E4
+refusal_first profile (Work task n) = Some E4
+refusal_first profile (Ask link p) = Some E4
+refusal_first profile (Show link) = Some E4
 
 -- why an event may not stand here; none where it may
-abbrev pub refusal_at : Option Speaker → List DeclaredPeer → Event → Option Code
-refusal_at None peers event = refusal_first event
-refusal_at (Some local) peers event = refusal_by local peers event
+abbrev pub refusal_at : Profile → Option Speaker → List DeclaredPeer → Event → Option Code
+refusal_at profile None peers event = refusal_first profile event
+refusal_at profile (Some local) peers event = refusal_by local peers event
 
 unfoldable pub refusal : Declaration → Event → Option Code
-refusal d event = refusal_at d.speaker d.peers event
+refusal d event = refusal_at d.profile d.speaker d.peers event
 
 -- the words of a peer, which is internal where its AS is the local one
 abbrev pub is_internal : Option Speaker → ℕ → Bool
@@ -150,13 +169,17 @@ is_internal (Some local) asn = local.asn == asn
 abbrev pub words_of : Option Speaker → ℕ → Speaker → Neighbour
 words_of local k s = record { number = k; asn = s.asn; id = s.id; addr = s.addr; internal = is_internal local s.asn }
 
+-- after `as4` or `revised`
+abbrev pub with_profile : Declaration → Profile → Declaration
+with_profile d profile = record { profile = profile; speaker = d.speaker; peers = d.peers }
+
 -- after `local`
 abbrev pub with_speaker : Declaration → Speaker → Declaration
-with_speaker d s = record { speaker = Some s; peers = d.peers }
+with_speaker d s = record { profile = d.profile; speaker = Some s; peers = d.peers }
 
 -- after `peer`
 abbrev pub with_peer : Declaration → ℕ → Speaker → Declaration
-with_peer d k s = record { speaker = d.speaker; peers = d.peers ++ record { words = words_of d.speaker k s; session = 0; up = false } ∷ [] }
+with_peer d k s = record { profile = d.profile; speaker = d.speaker; peers = d.peers ++ record { words = words_of d.speaker k s; session = 0; up = false } ∷ [] }
 
 -- a peer's next session begins, unless one is up
 abbrev pub begun_at : ℕ → DeclaredPeer → DeclaredPeer
@@ -167,19 +190,19 @@ abbrev pub ended_at : ℕ → DeclaredPeer → DeclaredPeer
 ended_at k p = if p.words.number == k then record { words = p.words; session = p.session; up = false } else p
 
 abbrev pub with_session : Declaration → ℕ → Declaration
-with_session d k = record { speaker = d.speaker; peers = map (begun_at k) d.peers }
+with_session d k = record { profile = d.profile; speaker = d.speaker; peers = map (begun_at k) d.peers }
 
 abbrev pub without_session : Declaration → ℕ → Declaration
-without_session d k = record { speaker = d.speaker; peers = map (ended_at k) d.peers }
+without_session d k = record { profile = d.profile; speaker = d.speaker; peers = map (ended_at k) d.peers }
 
 -- a peer that was declared after `local`; its session counts from 1
-pub record IsPeerOf (local : Speaker) (p : DeclaredPeer) : Type 0 where
-  pub words : IsNeighbourOf local p.words
+pub record IsPeerOf (as4 : Bool) (local : Speaker) (p : DeclaredPeer) : Type 0 where
+  pub words : IsNeighbourOf as4 local p.words
   pub begun : p.up ≡ true → 0 < p.session
 
-abbrev pub ArePeersOf : Speaker → List DeclaredPeer → Type 0
-ArePeersOf local [] = Unit {0}
-ArePeersOf local (p ∷ ps) = IsPeerOf local p × ArePeersOf local ps
+abbrev pub ArePeersOf : Bool → Speaker → List DeclaredPeer → Type 0
+ArePeersOf as4 local [] = Unit {0}
+ArePeersOf as4 local (p ∷ ps) = IsPeerOf as4 local p × ArePeersOf as4 local ps
 
 -- no two peers have the same address
 abbrev pub HaveOwnAddrs : List DeclaredPeer → Type 0
@@ -188,17 +211,17 @@ HaveOwnAddrs (p ∷ ps) = (has_addr p.words.addr ps ≡ false) × HaveOwnAddrs p
 
 -- What was declared since `local`. Numbers are from 1 to 64, each once; addresses stand once, none is the local one;
 -- sessions are at most 65535, and one that is up is at least the first.
-pub record AreDeclared (local : Speaker) (peers : List DeclaredPeer) : Type 0 where
-  pub speaker : IsSpeaker local
-  pub each : ArePeersOf local peers
+pub record AreDeclared (as4 : Bool) (local : Speaker) (peers : List DeclaredPeer) : Type 0 where
+  pub speaker : IsSpeaker as4 local
+  pub each : ArePeersOf as4 local peers
   pub counted : IsCounted peers
   pub addrs : HaveOwnAddrs peers
 
 -- peers stand only where `local` does
-abbrev pub IsDeclaredBy : Option Speaker → List DeclaredPeer → Type 0
-IsDeclaredBy None peers = peers ≡ []
-IsDeclaredBy (Some local) peers = AreDeclared local peers
+abbrev pub IsDeclaredBy : Bool → Option Speaker → List DeclaredPeer → Type 0
+IsDeclaredBy as4 None peers = peers ≡ []
+IsDeclaredBy as4 (Some local) peers = AreDeclared as4 local peers
 
 -- what events can have declared
 abbrev pub IsDeclaration : Declaration → Type 0
-IsDeclaration d = IsDeclaredBy d.speaker d.peers
+IsDeclaration d = IsDeclaredBy d.profile.as4 d.speaker d.peers

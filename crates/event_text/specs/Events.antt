@@ -1,5 +1,5 @@
 -- The event language, and which line is refused.
-use Rattle.std.specs.Prelude.{ℕ, false, if◌then◌else◌, ◌==◌, List, [], ◌∷◌, length, Option, Some, None, Result, Ok, Err, codes, nat_eq}
+use Rattle.std.specs.Prelude.{ℕ, Bool, if◌then◌else◌, ◌==◌, List, [], ◌∷◌, length, Option, Some, None, Result, Ok, Err, codes, nat_eq}
 use Rattle.std.specs.Str.{bytes_eq}
 use Rattle.std.specs.List.{starts_with}
 use Rattle.addr4.specs.Texts.{number_of, addr_of, prefix_of}
@@ -10,19 +10,19 @@ use Rattle.policy_rules.specs.declared.rule.Rule.{Rule}
 use Rattle.policy_rules.specs.Words.{◌>>=◌, words}
 use Rattle.policy_rules.specs.Grammar.{rules_of}
 use Rattle.event_text.specs.declared.event.Event.{Event}
-use Rattle.event_text.specs.declared.event.Event.TheVariants.{Nothing, Local, Peer, Up, Down, Bgp, FilterIn, FilterOut, RouteAdd, RouteDel, Lose, Redist, Cover, Settled, Idle, Work, Ask, Show}
+use Rattle.event_text.specs.declared.event.Event.TheVariants.{Nothing, As4, Revised, Local, Peer, Up, Down, Bgp, FilterIn, FilterOut, RouteAdd, RouteDel, Lose, Redist, Cover, Settled, Idle, Work, Ask, Show}
 use Rattle.event_text.specs.Words.{is_clean, from_one, speaker_of, octets_of, interior_of, switch_of}
 
 -- what follows `local`
-unfoldable pub local_of : List (List ℕ) → Option Event
-local_of ws = speaker_of ws >>= λ s. Some (Local s)
+unfoldable pub local_of : Bool → List (List ℕ) → Option Event
+local_of as4 ws = speaker_of as4 ws >>= λ s. Some (Local s)
 
 -- what follows `peer`
-unfoldable pub peer_of : List (List ℕ) → Option Event
-peer_of [] = None
-peer_of (k ∷ ws) = do
+unfoldable pub peer_of : Bool → List (List ℕ) → Option Event
+peer_of as4 [] = None
+peer_of as4 (k ∷ ws) = do
   n ← from_one k
-  s ← speaker_of ws
+  s ← speaker_of as4 ws
   Some (Peer n s)
 
 -- the one word is a peer's number, as behind `up` and `down`
@@ -46,12 +46,12 @@ filter_on side k rules =
     else None
 
 -- what follows `filter`: a side, a peer's number, and rules, perhaps none
-unfoldable pub filter_of : List (List ℕ) → Option Event
-filter_of (side ∷ k ∷ ws) = do
+unfoldable pub filter_of : Bool → List (List ℕ) → Option Event
+filter_of as4 (side ∷ k ∷ ws) = do
   n ← from_one k
-  rules ← rules_of false ws
+  rules ← rules_of as4 ws
   filter_on side n rules
-filter_of other = None
+filter_of as4 other = None
 
 -- what follows `route add`: a protocol, a prefix, and where the route goes
 unfoldable pub route_add_of : List (List ℕ) → Option Event
@@ -96,14 +96,21 @@ unfoldable pub cover_of : List (List ℕ) → Option Event
 cover_of (addr ∷ []) = addr_of addr >>= λ a. Some (Cover a)
 cover_of other = None
 
--- an event of the interior routes, by its first word and the others
+-- a line that holds for the whole file: its word, alone
+unfoldable pub profile_event : List ℕ → List (List ℕ) → Option Event
+profile_event w ws =
+    if bytes_eq w (codes "as4") then (if length ws == 0 then Some As4 else None)
+    else if bytes_eq w (codes "revised") then (if length ws == 0 then Some Revised else None)
+    else None
+
+-- an event of the interior routes or of the whole file, by its first word and the others
 unfoldable pub interior_event : List ℕ → List (List ℕ) → Option Event
 interior_event w ws =
     if bytes_eq w (codes "route") then route_of ws
     else if bytes_eq w (codes "lost") then lost_of ws
     else if bytes_eq w (codes "redist") then redist_of ws
     else if bytes_eq w (codes "cover") then cover_of ws
-    else None
+    else profile_event w ws
 
 -- what follows `work`
 unfoldable pub work_of : List (List ℕ) → Option Event
@@ -144,23 +151,23 @@ plain_event w ws =
     else interior_event w ws
 
 -- an event by its first word and the others
-unfoldable pub named_event : List ℕ → List (List ℕ) → Option Event
-named_event w ws =
-    if bytes_eq w (codes "local") then local_of ws
-    else if bytes_eq w (codes "peer") then peer_of ws
+unfoldable pub named_event : Bool → List ℕ → List (List ℕ) → Option Event
+named_event as4 w ws =
+    if bytes_eq w (codes "local") then local_of as4 ws
+    else if bytes_eq w (codes "peer") then peer_of as4 ws
     else if bytes_eq w (codes "bgp") then bgp_of ws
-    else if bytes_eq w (codes "filter") then filter_of ws
+    else if bytes_eq w (codes "filter") then filter_of as4 ws
     else plain_event w ws
 
 -- a line without words, a comment, or an event
-unfoldable pub event_of : List (List ℕ) → Option Event
-event_of [] = Some Nothing
-event_of (w ∷ ws) = if starts_with nat_eq w (codes "#") then Some Nothing else named_event w ws
+unfoldable pub event_of : Bool → List (List ℕ) → Option Event
+event_of as4 [] = Some Nothing
+event_of as4 (w ∷ ws) = if starts_with nat_eq w (codes "#") then Some Nothing else named_event as4 w ws
 
 abbrev pub in_grammar : Option Event → Result Event Code
 in_grammar None = Err E2
 in_grammar (Some event) = Ok event
 
--- what a line says, or the code with which it is refused
-unfoldable pub read_event : List ℕ → Result Event Code
-read_event line = if is_clean line then in_grammar (event_of (words line)) else Err E1
+-- what a line says, or the code with which it is refused, where AS numbers have four octets or two
+unfoldable pub read_event : Bool → List ℕ → Result Event Code
+read_event as4 line = if is_clean line then in_grammar (event_of as4 (words line)) else Err E1

@@ -1,5 +1,5 @@
 -- What holds of each event that was read.
-use Rattle.std.specs.Prelude.{◌≡◌, ℕ, ◌^◌, ◌<◌, List, length, Option, Some, None, true, false}
+use Rattle.std.specs.Prelude.{◌≡◌, ℕ, ◌^◌, ◌<◌, Bool, List, length, Option, Some, None, true}
 use Rattle.std.specs.List.{All}
 use Rattle.addr4.specs.Prefixes.{Network, IsMasked}
 use Rattle.bgp_attr.specs.Speakers.{IsSpeaker}
@@ -48,23 +48,25 @@ IsTask Ext = Unit {0}
 IsTask (Out k) = IsNumber k
 IsTask (Rdel proto n) = IsNumber n
 
--- its numbers, words, octets, prefix, link and task are what the grammar says
-abbrev pub IsWellFormed : Event → Type 0
-IsWellFormed events.Nothing = Unit {0}
-IsWellFormed (events.Local words) = IsSpeaker words
-IsWellFormed (events.Peer k words) = IsNumber k × IsSpeaker words
-IsWellFormed (events.Up k) = IsNumber k
-IsWellFormed (events.Down k) = IsNumber k
-IsWellFormed (events.Bgp k octets) = IsNumber k × IsMessage octets
-IsWellFormed (events.FilterIn k rules) = IsNumber k × AreRules false rules
-IsWellFormed (events.FilterOut k rules) = IsNumber k × AreRules false rules
-IsWellFormed (events.RouteAdd p row) = IsPrefix p × IsInterior row
-IsWellFormed (events.RouteDel proto p) = IsPrefix p
-IsWellFormed (events.Lose proto) = Unit {0}
-IsWellFormed (events.Redist proto on) = Unit {0}
-IsWellFormed (events.Cover addr) = addr < 2 ^ 32
-IsWellFormed (events.Settled p) = IsPrefix p
-IsWellFormed events.Idle = Unit {0}
-IsWellFormed (events.Work task n) = IsTask task × (n < 2 ^ 32)
-IsWellFormed (events.Ask link p) = IsNamed link × IsPrefix p
-IsWellFormed (events.Show link) = IsNamed link
+-- its numbers, words, octets, prefix, link and task are what the grammar says, for AS numbers of four octets or of two
+abbrev pub IsWellFormed : Bool → Event → Type 0
+IsWellFormed as4 events.Nothing = Unit {0}
+IsWellFormed as4 events.As4 = Unit {0}
+IsWellFormed as4 events.Revised = Unit {0}
+IsWellFormed as4 (events.Local words) = IsSpeaker as4 words
+IsWellFormed as4 (events.Peer k words) = IsNumber k × IsSpeaker as4 words
+IsWellFormed as4 (events.Up k) = IsNumber k
+IsWellFormed as4 (events.Down k) = IsNumber k
+IsWellFormed as4 (events.Bgp k octets) = IsNumber k × IsMessage octets
+IsWellFormed as4 (events.FilterIn k rules) = IsNumber k × AreRules as4 rules
+IsWellFormed as4 (events.FilterOut k rules) = IsNumber k × AreRules as4 rules
+IsWellFormed as4 (events.RouteAdd p row) = IsPrefix p × IsInterior row
+IsWellFormed as4 (events.RouteDel proto p) = IsPrefix p
+IsWellFormed as4 (events.Lose proto) = Unit {0}
+IsWellFormed as4 (events.Redist proto on) = Unit {0}
+IsWellFormed as4 (events.Cover addr) = addr < 2 ^ 32
+IsWellFormed as4 (events.Settled p) = IsPrefix p
+IsWellFormed as4 events.Idle = Unit {0}
+IsWellFormed as4 (events.Work task n) = IsTask task × (n < 2 ^ 32)
+IsWellFormed as4 (events.Ask link p) = IsNamed link × IsPrefix p
+IsWellFormed as4 (events.Show link) = IsNamed link

@@ -6,6 +6,7 @@ use Rattle.std.specs.List.{list_all}
 use Rattle.hex.specs.Hex.{decode_of}
 use Rattle.addr4.specs.Texts.{number_of, number_below, addr_of}
 use Rattle.bgp_attr.specs.Hosts.{is_host}
+use Rattle.bgp_attr.specs.Speakers.{asn_bound}
 use Rattle.bgp_attr.specs.declared.speaker.Speaker.{Speaker}
 use Rattle.rib_route.specs.Ifaces.{iface_of}
 use Rattle.rib_route.specs.declared.Proto.{Proto}
@@ -22,14 +23,14 @@ from_one word = do
   n ← number_of word
   if n == 0 then None else Some n
 
--- `AS ID ADDR`: an AS number from 1 to 65535, an ID other than 0.0.0.0, and the address of a host
-unfoldable pub speaker_of : List (List ℕ) → Option Speaker
-speaker_of (asn ∷ id ∷ addr ∷ []) = do
-  a ← number_below 65536 asn
+-- `AS ID ADDR`: an AS number from 1 that has its octets, four or two, an ID other than 0.0.0.0, and the address of a host
+unfoldable pub speaker_of : Bool → List (List ℕ) → Option Speaker
+speaker_of as4 (asn ∷ id ∷ addr ∷ []) = do
+  a ← number_below (asn_bound as4) asn
   i ← addr_of id
   h ← addr_of addr
   if a == 0 || i == 0 || not (is_host h) then None else Some (record { asn = a; id = i; addr = h })
-speaker_of other = None
+speaker_of as4 other = None
 
 -- the octets that hex digits spell, at least one
 unfoldable pub octets_of : List ℕ → Option (List ℕ)

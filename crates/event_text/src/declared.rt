@@ -1,18 +1,25 @@
 //! What was declared so far.
 
-ghost use Rattle.std.specs.Prelude.{◌≡◌, ◌==◌, ◌≤◌, map, Option, Some, None, OnOk, OnErr};
+ghost use Rattle.std.specs.Prelude.{◌≡◌, ◌==◌, ◌≤◌, if◌then◌else◌, map, Option, Some, None, OnOk, OnErr};
 ghost use Rattle.std.specs.List.{All};
+ghost use Rattle.journal_text.specs.declared.line.Code.TheVariants.{E7};
 ghost use Rattle.event_text.specs.declared.event.Event.{Event};
 ghost use Rattle.event_text.specs.declared.event.Event.TheVariants as events;
-ghost use Rattle.event_text.specs.Declarations.{no_declaration, refusal, peer_at, with_speaker, with_peer, with_session, without_session, IsDeclaration, IsCounted, begun_at, ended_at, has_addr, is_taken, is_internal, session_refusal, rules_refusal, undeclared, task_refusal, link_refusal, refusal_by, refusal_first};
+ghost use Rattle.event_text.specs.Declarations.{no_declaration, refusal, peer_at, with_profile, with_speaker, with_peer, with_session, without_session, IsDeclaration, IsCounted, begun_at, ended_at, has_addr, is_taken, is_internal, session_refusal, rules_refusal, undeclared, task_refusal, link_refusal, refusal_by, refusal_first};
 ghost use Rattle.event_text.specs.WellFormed.{IsWellFormed};
 
 use crate::event::Event;
 use addr4::{Addr, Memory};
-use bgp_attr::{Neighbour, Speaker};
+use bgp_attr::{Neighbour, Profile, Speaker};
 use journal_text::{Code, Link, Task};
 use std::alloc::Global;
 use std::marker::Model;
+
+/// AS numbers have two octets, and errors in attributes are handled by RFC 4271, section 6.3.
+const PLAIN: Profile = Profile {
+    as4: false,
+    revised: false,
+};
 
 /// A peer that was declared.
 #[derive(Clone, Copy, PartialEq, Eq)]
@@ -25,9 +32,10 @@ pub struct DeclaredPeer {
     pub up: bool,
 }
 
-/// The words of `local` and of the peers, and the peers' sessions.
+/// What holds for the whole file, the words of `local` and of the peers, and the peers' sessions.
 #[derive(Drop)]
 pub struct Declared {
+    profile: Profile,
     speaker: Option<Speaker>,
     peers: Vec<DeclaredPeer>,
 }
@@ -35,13 +43,14 @@ pub struct Declared {
 impl Model for Declared {
     ghost use Rattle.event_text.specs.Declarations.{Declaration, declaration_code, IsCounted};
     ghost use Rattle.event_text.specs.contracts.declared.DeclaredPeer as peer_row;
+    ghost use Rattle.bgp_attr.specs.contracts.speaker.Profile as profile_row;
     ghost use Rattle.bgp_attr.specs.contracts.speaker.Speaker as speaker_row;
 
     ghost Value = { Declaration };
 
-    ghost coded = { declaration_code speaker_row.the_row.coded peer_row.the_row.coded };
+    ghost coded = { declaration_code profile_row.the_row.coded speaker_row.the_row.coded peer_row.the_row.coded };
 
-    ghost view = { λ d. record { speaker = d.speaker; peers = d.peers.items } };
+    ghost view = { λ d. record { profile = d.profile; speaker = d.speaker; peers = d.peers.items } };
 
     ghost invariant = { λ d. IsCounted d.peers.items };
 }
@@ -53,9 +62,17 @@ impl Declared {
         ensures declared { IsDeclaration result }
     {
         Declared {
+            profile: PLAIN,
             speaker: None,
             peers: Vec::new(alloc),
         }
+    }
+
+    /// Whether AS numbers have four octets, and whether errors in attributes are handled by the revised table.
+    pub fn profile(&self) -> Profile
+        ensures { result ≡ self.now.profile }
+    {
+        self.profile
     }
 
     /// The words of `local`, if it was declared.
@@ -79,10 +96,18 @@ impl Declared {
         peer_of(self.peers.as_slice(), number)
     }
 
+    /// `as4` or `revised` was said: this holds for the whole file. Takes no memory.
+    pub fn set_profile(&mut self, profile: Profile)
+        ensures value { self.new ≡ with_profile self.old profile }
+        ensures kept { IsDeclaration self.old → self.old.speaker ≡ None → IsDeclaration self.new }
+    {
+        self.profile = profile;
+    }
+
     /// `local` was declared. Takes no memory.
     pub fn set_speaker(&mut self, words: Speaker)
         ensures value { self.new ≡ with_speaker self.old words }
-        ensures kept { IsDeclaration self.old → refusal self.old (events.Local words) ≡ None → IsWellFormed (events.Local words) → IsDeclaration self.new }
+        ensures kept { IsDeclaration self.old → refusal self.old (events.Local words) ≡ None → IsWellFormed self.old.profile.as4 (events.Local words) → IsDeclaration self.new }
     {
         self.speaker = Some(words);
     }
@@ -92,7 +117,7 @@ impl Declared {
         requires { refusal self.old (events.Peer number words) ≡ None }
         ensures ok { OnOk result (self.new ≡ with_peer self.old number words) }
         ensures memory { OnErr result (self.new ≡ self.old) }
-        ensures kept { IsDeclaration self.old → IsWellFormed (events.Peer number words) → IsDeclaration self.new }
+        ensures kept { IsDeclaration self.old → IsWellFormed self.old.profile.as4 (events.Peer number words) → IsDeclaration self.new }
     {
         let internal = is_internal(self.speaker, words.asn);
         self.peers.push(DeclaredPeer {
@@ -279,12 +304,21 @@ fn link_refusal(link: Link, peers: &[DeclaredPeer]) -> Option<Code>
     }
 }
 
+/// E7 where this was said already.
+fn repeated(said: bool) -> Option<Code>
+    ensures { result ≡ (if said then Some E7 else None) }
+{
+    if said { Some(Code::E7) } else { None }
+}
+
 /// Why the event may not stand before `local`.
-fn refusal_first(event: &Event) -> Option<Code>
-    ensures { result ≡ refusal_first event.now }
+fn refusal_first(profile: Profile, event: &Event) -> Option<Code>
+    ensures { result ≡ refusal_first profile event.now }
 {
     match event {
         Event::Nothing | Event::Local(_) => None,
+        Event::As4 => repeated(profile.as4),
+        Event::Revised => repeated(profile.revised),
         _ => Some(Code::E4),
     }
 }
@@ -302,6 +336,7 @@ fn refusal_by(local: Speaker, peers: &[DeclaredPeer], event: &Event) -> Option<C
         | Event::Cover(_)
         | Event::Settled(_)
         | Event::Idle => None,
+        Event::As4 | Event::Revised => Some(Code::E7),
         Event::Local(_) => Some(Code::E3),
         Event::Peer(number, words) => peer_refusal(local, peers, *number, *words),
         Event::Up(number) => session_refusal(peer_of(peers, *number)),
@@ -315,14 +350,14 @@ fn refusal_by(local: Speaker, peers: &[DeclaredPeer], event: &Event) -> Option<C
     }
 }
 
-/// Why the event may not stand here: before `local` (E4), declared twice (E3), of an undeclared peer (E5), past a limit (E6).
-/// None where it may.
+/// Why the event may not stand here: before `local` (E4), said of the whole file after `local` or twice (E7), declared twice
+/// (E3), of an undeclared peer (E5), past a limit (E6). None where it may.
 #[tactic(auto, unfolding(crate::specs::Declarations::refusal))]
 pub fn admit(event: &Event, declared: &Declared) -> Option<Code>
     ensures { result ≡ refusal declared.now event.now }
 {
     match declared.speaker {
-        None => refusal_first(event),
+        None => refusal_first(declared.profile, event),
         Some(local) => refusal_by(local, declared.peers.as_slice(), event),
     }
 }

@@ -11,6 +11,10 @@ use rib_route::{Interior, Proto};
 pub enum Event {
     /// A line without words, or a comment.
     Nothing,
+    /// `as4`: AS numbers have four octets, here and in all messages (RFC 6793).
+    As4,
+    /// `revised`: errors in attributes are handled by the revised table.
+    Revised,
     /// `local AS ID ADDR`
     Local(Speaker),
     /// `peer K AS ID ADDR`

@@ -2,7 +2,7 @@
 
 ghost use Rattle.std.specs.Prelude.{◌≡◌, IfOk};
 ghost use Rattle.policy_rules.specs.Words.{words};
-ghost use Rattle.event_text.specs.Events.{local_of, peer_of, one_number, bgp_of, filter_on, filter_of, route_add_of, route_del_of, route_of, lost_of, redist_of, cover_of, interior_event, work_of, ask_of, show_of, settled_of, plain_event, named_event, event_of, read_event};
+ghost use Rattle.event_text.specs.Events.{local_of, peer_of, one_number, bgp_of, filter_on, filter_of, route_add_of, route_del_of, route_of, lost_of, redist_of, cover_of, profile_event, interior_event, work_of, ask_of, show_of, settled_of, plain_event, named_event, event_of, read_event};
 ghost use Rattle.event_text.specs.WellFormed.{IsWellFormed};
 
 use crate::event::Event;
@@ -13,24 +13,19 @@ use journal_text::{Code, Link, Task};
 use policy_rules::{Rules, first_word, read_rules};
 use std::alloc::Global;
 
-/// AS numbers have two octets, and errors are handled by RFC 4271, section 6.3.
-const TWO_OCTETS: Profile = Profile {
-    as4: false,
-    revised: false,
-};
-
 /// What a line says, without its end of line; or the code with which it is refused. E1 where it has more than 16,384 bytes
 /// or a byte that isn't printable ASCII (32 to 126), E2 where the grammar has no such line. Words stand between spaces, one
-/// or more; spaces may also stand at the start and the end. Memory is taken for the octets of `bgp` and the rules of `filter` only.
+/// or more; spaces may also stand at the start and the end. The profile tells which numbers an AS may have. Memory is taken for
+/// the octets of `bgp` and the rules of `filter` only.
 #[tactic(auto, unfolding(crate::specs::Events::read_event))]
-pub fn parse(alloc: Global, line: &[u8]) -> Result<Result<Event, Code>, Memory>
-    ensures value { IfOk result (λ event. event ≡ read_event line.now) }
-    ensures words { IfOk result (λ event. IfOk event IsWellFormed) }
+pub fn parse(alloc: Global, profile: Profile, line: &[u8]) -> Result<Result<Event, Code>, Memory>
+    ensures value { IfOk result (λ event. event ≡ read_event profile.as4 line.now) }
+    ensures words { IfOk result (λ event. IfOk event (IsWellFormed profile.as4)) }
 {
     if !is_clean(line) {
         return Ok(Err(Code::E1));
     }
-    match event(alloc, line)? {
+    match event(alloc, profile, line)? {
         Some(event) => Ok(Ok(event)),
         None => Ok(Err(Code::E2)),
     }
@@ -38,8 +33,8 @@ pub fn parse(alloc: Global, line: &[u8]) -> Result<Result<Event, Code>, Memory>
 
 /// A line without words, a comment, or an event.
 #[tactic(auto, unfolding(crate::specs::Events::event_of))]
-fn event(alloc: Global, line: &[u8]) -> Result<Option<Event>, Memory>
-    ensures { IfOk result (λ event. event ≡ event_of (words line.now)) }
+fn event(alloc: Global, profile: Profile, line: &[u8]) -> Result<Option<Event>, Memory>
+    ensures { IfOk result (λ event. event ≡ event_of profile.as4 (words line.now)) }
 {
     let Some((word, rest)) = first_word(line) else {
         return Ok(Some(Event::Nothing));
@@ -47,46 +42,51 @@ fn event(alloc: Global, line: &[u8]) -> Result<Option<Event>, Memory>
     if word.starts_with(b"#") {
         return Ok(Some(Event::Nothing));
     }
-    named_event(alloc, word, rest)
+    named_event(alloc, profile, word, rest)
 }
 
 /// An event by its first word and the others.
 #[tactic(auto, unfolding(crate::specs::Events::named_event))]
-fn named_event(alloc: Global, word: &[u8], rest: &[u8]) -> Result<Option<Event>, Memory>
-    ensures { IfOk result (λ event. event ≡ named_event word.now (words rest.now)) }
+fn named_event(
+    alloc: Global,
+    profile: Profile,
+    word: &[u8],
+    rest: &[u8],
+) -> Result<Option<Event>, Memory>
+    ensures { IfOk result (λ event. event ≡ named_event profile.as4 word.now (words rest.now)) }
 {
     if word == b"local".as_slice() {
-        return Ok(local(rest));
+        return Ok(local(profile, rest));
     }
     if word == b"peer".as_slice() {
-        return Ok(peer(rest));
+        return Ok(peer(profile, rest));
     }
     if word == b"bgp".as_slice() {
         return bgp(alloc, rest);
     }
     if word == b"filter".as_slice() {
-        return filter(alloc, rest);
+        return filter(alloc, profile, rest);
     }
     Ok(plain_event(word, rest))
 }
 
 /// What follows `local`.
 #[tactic(auto, unfolding(crate::specs::Events::local_of))]
-fn local(rest: &[u8]) -> Option<Event>
-    ensures { result ≡ local_of (words rest.now) }
+fn local(profile: Profile, rest: &[u8]) -> Option<Event>
+    ensures { result ≡ local_of profile.as4 (words rest.now) }
 {
-    let words = speaker(rest)?;
+    let words = speaker(profile, rest)?;
     Some(Event::Local(words))
 }
 
 /// What follows `peer`.
 #[tactic(auto, unfolding(crate::specs::Events::peer_of))]
-fn peer(rest: &[u8]) -> Option<Event>
-    ensures { result ≡ peer_of (words rest.now) }
+fn peer(profile: Profile, rest: &[u8]) -> Option<Event>
+    ensures { result ≡ peer_of profile.as4 (words rest.now) }
 {
     let (number, rest) = first_word(rest)?;
     let number = from_one(number)?;
-    let words = speaker(rest)?;
+    let words = speaker(profile, rest)?;
     Some(Event::Peer(number, words))
 }
 
@@ -115,8 +115,8 @@ fn bgp(alloc: Global, rest: &[u8]) -> Result<Option<Event>, Memory>
 
 /// What follows `filter`.
 #[tactic(auto, unfolding(crate::specs::Events::filter_of))]
-fn filter(alloc: Global, rest: &[u8]) -> Result<Option<Event>, Memory>
-    ensures { IfOk result (λ event. event ≡ filter_of (words rest.now)) }
+fn filter(alloc: Global, profile: Profile, rest: &[u8]) -> Result<Option<Event>, Memory>
+    ensures { IfOk result (λ event. event ≡ filter_of profile.as4 (words rest.now)) }
 {
     let Some((side, rest)) = first_word(rest) else {
         return Ok(None);
@@ -127,7 +127,7 @@ fn filter(alloc: Global, rest: &[u8]) -> Result<Option<Event>, Memory>
     let Some(number) = from_one(number) else {
         return Ok(None);
     };
-    match read_rules(alloc, TWO_OCTETS, rest)? {
+    match read_rules(alloc, profile, rest)? {
         Ok(rules) => Ok(filter_on(side, number, rules)),
         Err(_) => Ok(None),
     }
@@ -147,7 +147,7 @@ fn filter_on(side: &[u8], number: u32, rules: Rules) -> Option<Event>
     }
 }
 
-/// The events `up`, `down`, `idle`, `work`, `ask`, `show` and `settled`, and those of the interior routes.
+/// The events `up`, `down`, `idle`, `work`, `ask`, `show` and `settled`, those of the interior routes and of the whole file.
 #[tactic(auto, unfolding(crate::specs::Events::plain_event))]
 fn plain_event(word: &[u8], rest: &[u8]) -> Option<Event>
     ensures { result ≡ plain_event word.now (words rest.now) }
@@ -180,7 +180,7 @@ fn plain_event(word: &[u8], rest: &[u8]) -> Option<Event>
     interior_event(word, rest)
 }
 
-/// The events `route`, `lost`, `redist` and `cover`.
+/// The events `route`, `lost`, `redist` and `cover`, and those of the whole file.
 #[tactic(auto, unfolding(crate::specs::Events::interior_event))]
 fn interior_event(word: &[u8], rest: &[u8]) -> Option<Event>
     ensures { result ≡ interior_event word.now (words rest.now) }
@@ -197,7 +197,24 @@ fn interior_event(word: &[u8], rest: &[u8]) -> Option<Event>
     if word == b"cover".as_slice() {
         return cover(rest);
     }
-    None
+    profile_event(word, rest)
+}
+
+/// The events `as4` and `revised`: no word follows.
+#[tactic(auto, unfolding(crate::specs::Events::profile_event))]
+fn profile_event(word: &[u8], rest: &[u8]) -> Option<Event>
+    ensures { result ≡ profile_event word.now (words rest.now) }
+{
+    if !is_end(rest) {
+        return None;
+    }
+    if word == b"as4".as_slice() {
+        Some(Event::As4)
+    } else if word == b"revised".as_slice() {
+        Some(Event::Revised)
+    } else {
+        None
+    }
 }
 
 /// What follows `route`.

@@ -7,7 +7,7 @@ ghost use Rattle.policy_rules.specs.Words.{words};
 ghost use Rattle.event_text.specs.Words.{is_clean, from_one, speaker_of, octets_of, way_out, way_over, interior_of, switch_of};
 
 use addr4::{Addr, Memory, read_addr, read_number, read_number_below};
-use bgp_attr::{Octets, Speaker, is_host};
+use bgp_attr::{Octets, Profile, Speaker, is_host};
 use hex::FromHexError;
 use policy_rules::first_word;
 use rib_route::{Iface, Interior, Proto};
@@ -43,10 +43,10 @@ pub fn from_one(word: &[u8]) -> Option<u32>
     if number == 0 { None } else { Some(number) }
 }
 
-/// The words `AS ID ADDR`, and no other.
+/// The words `AS ID ADDR`, and no other. The profile tells which numbers an AS may have.
 #[tactic(auto, using(crate::proofs::WordLemmas::no_fourth_word), unfolding(crate::specs::Words::speaker_of))]
-pub fn speaker(text: &[u8]) -> Option<Speaker>
-    ensures { result ≡ speaker_of (words text.now) }
+pub fn speaker(profile: Profile, text: &[u8]) -> Option<Speaker>
+    ensures { result ≡ speaker_of profile.as4 (words text.now) }
 {
     let (asn, rest) = first_word(text)?;
     let (id, rest) = first_word(rest)?;
@@ -54,7 +54,7 @@ pub fn speaker(text: &[u8]) -> Option<Speaker>
     if !is_end(rest) {
         return None;
     }
-    let asn = read_number_below(asn, 65536)?;
+    let asn = read_number_below(asn, profile.asn_bound())?;
     let id = read_addr(id).ok()?;
     let addr = read_addr(addr).ok()?;
     if asn == 0 || id.number() == 0 || !is_host(addr) {

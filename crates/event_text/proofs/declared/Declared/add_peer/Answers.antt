@@ -1,5 +1,6 @@
 use Rattle.std.proofs.Common.{◌≡◌, ◌++◌, ◌∷◌, [], false, ◌≤◌, None, arith, subst, sym, ap, ◌∙◌}
 use Rattle.event_text.specs.declared.event.Event.TheVariants as events
+use Rattle.event_text.specs.WellFormed.{IsWellFormed}
 use Rattle.event_text.specs.Declarations.{refusal, IsCounted, words_of, IsDeclaration, IsDeclaredBy}
 use Rattle.event_text.proofs.Sessions.{addable, counted_push}
 use Rattle.event_text.proofs.DeclarationLemmas.{peer_kept}
@@ -8,13 +9,13 @@ use Rattle.event_text.proofs.declared.Declared.add_peer.Goals as goal
 pub overflow_cast-number : goal.overflow_cast-number
 overflow_cast-number c =
     let refused = subst (λ d. refusal d (events.Peer c.args.number c.args.words) ≡ None) (sym c.self.view_is) c.requires in
-    let few : c.args.number ≤ 64 = (addable c.self.inside.speaker c.self.inside.peers.items c.args.number c.args.words refused).0 in
+    let few : c.args.number ≤ 64 = (addable c.self.inside.profile c.self.inside.speaker c.self.inside.peers.items c.args.number c.args.words refused).0 in
     omega arith
 
 pub invariant_of-self-2 : goal.invariant_of-self-2
 invariant_of-self-2 c =
     let refused = subst (λ d. refusal d (events.Peer c.args.number c.args.words) ≡ None) (sym c.self.view_is) c.requires in
-    let a = addable c.self.inside.speaker c.self.inside.peers.items c.args.number c.args.words refused in
+    let a = addable c.self.inside.profile c.self.inside.speaker c.self.inside.peers.items c.args.number c.args.words refused in
     subst IsCounted (sym c.in_ok-push.ensures.items) (counted_push c.self.inside.peers.items _ c.self.invariant a.1 (omega arith))
 
 pub returns-clause-kept : goal.returns-clause-kept
@@ -22,7 +23,8 @@ returns-clause-kept c =
     λ declared ok.
     let refused = subst (λ d. refusal d (events.Peer c.args.number c.args.words) ≡ None) (sym c.self.view_is) c.requires in
     let before = subst IsDeclaration (sym c.self.view_is) declared in
+    let words = subst (λ d. IsWellFormed d.profile.as4 (events.Peer c.args.number c.args.words)) (sym c.self.view_is) ok in
     let e : c.push.new.self.items ≡ c.self.inside.peers.items ++ record { words = words_of c.self.inside.speaker c.args.number c.args.words; session = 0; up = false } ∷ [] =
     c.in_ok-push.ensures.items
     ∙ ap (λ b. c.self.inside.peers.items ++ record { words = record { number = c.args.number; asn = c.args.words.asn; id = c.args.words.id; addr = c.args.words.addr; internal = b }; session = 0; up = false } ∷ []) c.is_internal-internal.ensures in
-    subst (IsDeclaredBy c.self.inside.speaker) (sym e) (peer_kept (record { speaker = c.self.inside.speaker; peers = c.self.inside.peers.items }) c.args.number c.args.words before refused ok)
+    subst (IsDeclaredBy c.self.inside.profile.as4 c.self.inside.speaker) (sym e) (peer_kept (record { profile = c.self.inside.profile; speaker = c.self.inside.speaker; peers = c.self.inside.peers.items }) c.args.number c.args.words before refused words)
