@@ -12,6 +12,7 @@ use Rattle.addr4.proofs.PrefixOrder.{prefixes_total, itself, by_prefix}
 use Rattle.bgp_attr.specs.declared.attrs.Attrs.{Attrs}
 use Rattle.bgp_attr.specs.declared.route.Route.{Route}
 use Rattle.bgp_attr.specs.declared.speaker.Neighbour.{Neighbour}
+use Rattle.bgp_attr.specs.declared.speaker.Profile.{Profile}
 use Rattle.link_change.specs.Rows.{Rows}
 use Rattle.link_change.specs.InOrder.{rows_before, with_last}
 use Rattle.link_change.specs.declared.change.Change.{Change}
@@ -30,48 +31,48 @@ use Rattle.exit_side.specs.Exits.{Exited, chain_at, with_queue, with_exit, witho
 use Rattle.exit_side.specs.Steps.{edited_by}
 use Rattle.exit_side.proofs.SwapLemmas.{by_number}
 use Rattle.exit_laws.specs.Printable.{IsPrintableBest, AreBestRows, IsBestChange, AreBestChanges, IsPrintableSent, IsPrintableExit, ArePrintableExits}
-use Rattle.exit_laws.specs.Laws.{EditIsPrinted, PutIsPrinted, JoinIsPrinted}
+use Rattle.exit_laws.specs.Laws.{EmptyIsPrinted, EditIsPrinted, PutIsPrinted, JoinIsPrinted}
 use Rattle.exit_laws.proofs.ViewLemmas.{put_here, put_other, gone_here, gone_other}
 
-module _ (peers : ℕ → Option Neighbour) where
+module _ (profile : Profile) (peers : ℕ → Option Neighbour) where
   -- ---- what readers haven't taken
   abbrev pub AllBest : List (Change Route) → Type 0
-  AllBest changes = AllByRecursion (IsBestChange peers) changes
+  AllBest changes = AllByRecursion (IsBestChange profile peers) changes
 
   -- the rows that a reader has
-  pub rows_read : (changes : List (Change Route)) (best : Rows Route) → AllBest changes → AreBestRows peers best → AreBestRows peers (rows_before changes best)
+  pub rows_read : (changes : List (Change Route)) (best : Rows Route) → AllBest changes → AreBestRows profile peers best → AreBestRows profile peers (rows_before changes best)
   rows_read [] best all rows p row is = rows p row is
-  rows_read (c ∷ cs) best all rows p row is = by_prefix p c.prefix (λ (b : Bool). cond b c.before (rows_before cs best p) ≡ Some row → IsPrintableBest peers p row)
-      (λ at was. subst (λ (q : Network). IsPrintableBest peers q row) (sym at) (all.0.before row was))
+  rows_read (c ∷ cs) best all rows p row is = by_prefix p c.prefix (λ (b : Bool). cond b c.before (rows_before cs best p) ≡ Some row → IsPrintableBest profile peers p row)
+      (λ at was. subst (λ (q : Network). IsPrintableBest profile peers q row) (sym at) (all.0.before row was))
       (λ _ was. rows_read cs best all.1 rows p row was) is
 
-  of_unread : (queued : Queued Route) (reader : ℕ) (o : Option (List (Change Route))) → AreBestChanges peers queued → tables.get queued reader ≡ o → AllBest (unread_or_none o)
+  of_unread : (queued : Queued Route) (reader : ℕ) (o : Option (List (Change Route))) → AreBestChanges profile peers queued → tables.get queued reader ≡ o → AllBest (unread_or_none o)
   of_unread queued reader o all at = subst (λ (x : Option (List (Change Route))). AllBest (unread_or_none x)) at (all reader)
 
   -- the change that a reader takes
-  pub taken_change : (queued left : Queued Route) (reader : ℕ) (change : Change Route) → AreBestChanges peers queued → Takes queued left reader (Some change) → IsBestChange peers change
+  pub taken_change : (queued left : Queued Route) (reader : ℕ) (change : Change Route) → AreBestChanges profile peers queued → Takes queued left reader (Some change) → IsBestChange profile peers change
   taken_change queued left reader change all takes = (of_unread queued reader (Some (change ∷ takes.0)) all takes.1).0
 
-  pub queue_insert : (queued : Queued Route) (reader : ℕ) (unread : List (Change Route)) → AreBestChanges peers queued → AllBest unread → AreBestChanges peers (tables.insert queued reader unread)
+  pub queue_insert : (queued : Queued Route) (reader : ℕ) (unread : List (Change Route)) → AreBestChanges profile peers queued → AllBest unread → AreBestChanges profile peers (tables.insert queued reader unread)
   queue_insert queued reader unread all own other =
       subst (λ (o : Option (List (Change Route))). AllBest (unread_or_none o)) (sym (get-insert nat_cmp_total queued reader unread other))
       (at_number other reader (λ (b : Bool). AllBest (unread_or_none (cond b (Some unread) (tables.get queued other)))) (λ _. own) (λ _. all other))
 
-  queue_remove : (queued : Queued Route) (reader : ℕ) → AreBestChanges peers queued → AreBestChanges peers (tables.remove queued reader)
+  queue_remove : (queued : Queued Route) (reader : ℕ) → AreBestChanges profile peers queued → AreBestChanges profile peers (tables.remove queued reader)
   queue_remove queued reader all other =
       subst (λ (o : Option (List (Change Route))). AllBest (unread_or_none o)) (sym (get-remove nat_cmp_total queued reader other))
       (at_number other reader (λ (b : Bool). AllBest (unread_or_none (cond b None (tables.get queued other)))) (λ _. tt) (λ _. all other))
 
-  pub queue_taken : (queued left : Queued Route) (reader : ℕ) (result : Option (Change Route)) → AreBestChanges peers queued → Takes queued left reader result → AreBestChanges peers left
-  queue_taken queued left reader None all takes = subst (AreBestChanges peers) (sym takes.1) all
+  pub queue_taken : (queued left : Queued Route) (reader : ℕ) (result : Option (Change Route)) → AreBestChanges profile peers queued → Takes queued left reader result → AreBestChanges profile peers left
+  queue_taken queued left reader None all takes = subst (AreBestChanges profile peers) (sym takes.1) all
   queue_taken queued left reader (Some change) all takes =
-      subst (AreBestChanges peers) (sym takes.2) (queue_insert queued reader takes.0 all (of_unread queued reader (Some (change ∷ takes.0)) all takes.1).1)
+      subst (AreBestChanges profile peers) (sym takes.2) (queue_insert queued reader takes.0 all (of_unread queued reader (Some (change ∷ takes.0)) all takes.1).1)
 
-  joined_by : (change : Change Route) (o : Option (List (Change Route))) → IsBestChange peers change → AllBest (unread_or_none o) → AllBest (unread_or_none (option_map (with_last change) o))
+  joined_by : (change : Change Route) (o : Option (List (Change Route))) → IsBestChange profile peers change → AllBest (unread_or_none o) → AllBest (unread_or_none (option_map (with_last change) o))
   joined_by change None is all = tt
-  joined_by change (Some unread) is all = all_append (IsBestChange peers) unread (change ∷ []) all (is, tt)
+  joined_by change (Some unread) is all = all_append (IsBestChange profile peers) unread (change ∷ []) all (is, tt)
 
-  queue_joined : (change : Change Route) (queued put : Queued Route) → IsBestChange peers change → AppendsToAll change queued put → AreBestChanges peers queued → AreBestChanges peers put
+  queue_joined : (change : Change Route) (queued put : Queued Route) → IsBestChange profile peers change → AppendsToAll change queued put → AreBestChanges profile peers queued → AreBestChanges profile peers put
   queue_joined change queued put is appends all reader =
       subst (λ (o : Option (List (Change Route))). AllBest (unread_or_none o)) (sym (appends reader)) (joined_by change (tables.get queued reader) is (all reader))
 
@@ -117,30 +118,36 @@ module _ (peers : ℕ → Option Neighbour) where
     sent = λ p a is. absurd (let nothing : tables.get c.sent p ≡ None = ap (λ (r : Routes). tables.get r p) none ∙ get-empty prefix_cmp p in let clash : Some a ≡ None = sym is ∙ nothing in cc);
   }
 
-  pub begun_exits : (j reader : ℕ) (c : OutChained) (e : Exited) → c.sent ≡ tables.empty → IsNamed (Adv j c.session) → ArePrintableExits peers e → ArePrintableExits peers (with_exit j c (tables.insert e.queue reader []) e)
+  pub begun_exits : (j reader : ℕ) (c : OutChained) (e : Exited) → c.sent ≡ tables.empty → IsNamed (Adv j c.session) → ArePrintableExits profile peers e → ArePrintableExits profile peers (with_exit j c (tables.insert e.queue reader []) e)
   begun_exits j reader c e none named are = record {
     unread = queue_insert e.queue reader [] are.unread tt;
     each = each_put j c (tables.insert e.queue reader []) e (begun_exit j c named none) are.each;
   }
 
-  pub ended_exits : (j reader : ℕ) (e : Exited) → ArePrintableExits peers e → ArePrintableExits peers (without_exit j (tables.remove e.queue reader) e)
+  pub ended_exits : (j reader : ℕ) (e : Exited) → ArePrintableExits profile peers e → ArePrintableExits profile peers (without_exit j (tables.remove e.queue reader) e)
   ended_exits j reader e are = record { unread = queue_remove e.queue reader are.unread; each = each_gone j (tables.remove e.queue reader) e are.each }
 
-  edited_exits : (j : ℕ) (rules : List Rule) (o : Option OutChained) (e : Exited) → chain_at j e ≡ o → ArePrintableExits peers e → ArePrintableExits peers (edited_by j rules o e)
+  edited_exits : (j : ℕ) (rules : List Rule) (o : Option OutChained) (e : Exited) → chain_at j e ≡ o → ArePrintableExits profile peers e → ArePrintableExits profile peers (edited_by j rules o e)
   edited_exits j rules None e at are = are
   edited_exits j rules (Some c) e at are =
       let own = are.each j c at in
       record { unread = are.unread; each = each_put j (with_rules rules c) e.queue e (record { named = own.named; sent = own.sent }) are.each }
 
-  pub with_unread : (queue : Queued Route) (e : Exited) → AreBestChanges peers queue → ArePrintableExits peers e → ArePrintableExits peers (with_queue queue e)
+  pub with_unread : (queue : Queued Route) (e : Exited) → AreBestChanges profile peers queue → ArePrintableExits profile peers e → ArePrintableExits profile peers (with_queue queue e)
   with_unread queue e all are = record { unread = all; each = are.each }
 
+pub empty_is_printed : EmptyIsPrinted
+empty_is_printed profile peers e none empty = record {
+  unread = λ reader. subst (AllBest profile peers) (sym (empty reader)) tt;
+  each = λ j c at. no_chain profile peers c (chain_at j e) (IsPrintableExit peers j c) (none j) at;
+}
+
 pub edit_is_printed : EditIsPrinted
-edit_is_printed peers j rules e e' are edits = subst (ArePrintableExits peers) (sym edits.after) (edited_exits peers j rules (chain_at j e) e refl are)
+edit_is_printed profile peers j rules e e' are edits = subst (ArePrintableExits profile peers) (sym edits.after) (edited_exits profile peers j rules (chain_at j e) e refl are)
 
 pub put_is_printed : PutIsPrinted
-put_is_printed peers change e e' is are puts =
-    subst (ArePrintableExits peers) (sym puts.after) (with_unread peers e'.queue e (queue_joined peers change e.queue e'.queue is puts.appends are.unread) are)
+put_is_printed profile peers change e e' is are puts =
+    subst (ArePrintableExits profile peers) (sym puts.after) (with_unread profile peers e'.queue e (queue_joined profile peers change e.queue e'.queue is puts.appends are.unread) are)
 
 pub join_is_printed : JoinIsPrinted
-join_is_printed peers reader e are = with_unread peers (tables.insert e.queue reader []) e (queue_insert peers e.queue reader [] are.unread tt) are
+join_is_printed profile peers reader e are = with_unread profile peers (tables.insert e.queue reader []) e (queue_insert profile peers e.queue reader [] are.unread tt) are

@@ -57,7 +57,6 @@ use Rattle.out_chain.specs.Chains.{OutChained, IsOutChain, form_of, made_by, out
 use Rattle.out_chain.specs.Steps.{exit_to, new_out, sending_entries, message_lines, said_of, sent_after, ReadsFirst, WalksNext, IsTold}
 use Rattle.exit_side.specs.Exits.{Exited, chain_at, links_by, exit_links}
 use Rattle.exit_side.specs.Steps.{TurnsExit, beside}
-use Rattle.live_state.specs.Messages.{plain}
 use Rattle.exit_laws.specs.Views.{entry_lines}
 use Rattle.exit_laws.specs.Printable.{IsPrintableBest, AreBestRows, IsBestChange, AreBestChanges, IsPrintableSent, IsPrintableExit, ArePrintableExits}
 use Rattle.exit_laws.specs.Laws.{ArePrinted, PrintsOn, BeginningIsPrinted, EndIsPrinted, TurnIsPrinted, TakeIsPrinted, PrintingStays}
@@ -103,14 +102,14 @@ few_of as4 (s ∷ path) each = (each.0.few, few_of as4 path each.1)
 few_numbers : (as4 : Bool) (path : List Segment) → All (IsReadableSegment as4) path → AllByRecursion HasFewNumbers path
 few_numbers as4 path each = few_of as4 path (all_every (IsReadableSegment as4) path each)
 
-sent_few : (external : Bool) (n asn : ℕ) (path : List Segment) → asn < 256 ^ width_of false → All (IsReadableSegment false) path → AllByRecursion HasFewNumbers (cond external (times_in_front n asn path) path)
-sent_few true n asn path fits each = few_numbers false (times_in_front n asn path) (prepended_is_readable false n asn path fits each)
-sent_few false n asn path fits each = few_numbers false path each
+sent_few : (as4 external : Bool) (n asn : ℕ) (path : List Segment) → asn < 256 ^ width_of as4 → All (IsReadableSegment as4) path → AllByRecursion HasFewNumbers (cond external (times_in_front n asn path) path)
+sent_few as4 true n asn path fits each = few_numbers as4 (times_in_front n asn path) (prepended_is_readable as4 n asn path fits each)
+sent_few as4 false n asn path fits each = few_numbers as4 path each
 
-can_be_spelled : (peers : ℕ → Option Neighbour) (exit : Exit) (p : Network) (row : Route) (a : Attrs) → exit.me.asn < 256 ^ width_of false → IsPrintableBest peers p row → IsFormOfOne exit row a → CanBeSpelled a
-can_be_spelled peers exit p row a fits best form =
+can_be_spelled : (profile : Profile) (peers : ℕ → Option Neighbour) (exit : Exit) (p : Network) (row : Route) (a : Attrs) → exit.me.asn < 256 ^ width_of profile.as4 → IsPrintableBest profile peers p row → IsFormOfOne exit row a → CanBeSpelled a
+can_be_spelled profile peers exit p row a fits best form =
     let r = form.route in
-    let few = sent_few exit.external (1 + r.prepend) exit.me.asn r.attrs.path fits (subst (λ x. All (IsReadableSegment false) x.path) (sym form.attrs) best.heard.path) in
+    let few = sent_few profile.as4 exit.external (1 + r.prepend) exit.me.asn r.attrs.path fits (subst (λ x. All (IsReadableSegment profile.as4) x.path) (sym form.attrs) best.heard.path) in
     subst CanBeSpelled (sym form.is) (record { path = few; unrecognized = subst (λ x. AllByRecursion (λ (u : Unrecognized). (u.kind < 2 ^ 8) × AreSmall u.value) x.unrecognized) (sym form.attrs) best.printed.well_told.ranges.attrs.unrecognized })
 
 -- the octets of a change
@@ -124,19 +123,19 @@ module _ (peers : ℕ → Option Neighbour) where
   entries_printed [] all = tt
   entries_printed (e ∷ es) all = (all.0, entries_printed es all.1)
 
-  route_if : (p : Network) (o : Option Route) → ForSome o (IsPrintableBest peers p) → IfSome (option_map route_value o) (IsPrintable peers)
-  route_if p None each = tt
-  route_if p (Some r) each = (each r refl).printed
+  route_if : (profile : Profile) (p : Network) (o : Option Route) → ForSome o (IsPrintableBest profile peers p) → IfSome (option_map route_value o) (IsPrintable peers)
+  route_if profile p None each = tt
+  route_if profile p (Some r) each = (each r refl).printed
 
   attrs_if : (p : Network) (o : Option Attrs) → ForSome o (IsPrintableSent peers p) → IfSome (option_map attrs_value o) (IsPrintable peers)
   attrs_if p None each = tt
   attrs_if p (Some a) each = (each a refl).printed
 
   -- the entry of a change of `best`, on any link
-  best_printed : (link : Link) (change : Change Route) → IsNamed link → IsBestChange peers change → AllByRecursion (λ e. IsPrinted peers (Journal e)) (valued_change route_value link change)
-  best_printed link change named is =
+  best_printed : (profile : Profile) (link : Link) (change : Change Route) → IsNamed link → IsBestChange profile peers change → AllByRecursion (λ e. IsPrinted peers (Journal e)) (valued_change route_value link change)
+  best_printed profile link change named is =
       changes_printed peers link change.prefix (option_map route_value change.before) (option_map route_value change.after) named is.prefix
-      (route_if change.prefix change.before is.before) (route_if change.prefix change.after is.after)
+      (route_if profile change.prefix change.before is.before) (route_if profile change.prefix change.after is.after)
 
   -- what is known of a change that is sent
   record IsSayable (change : Change Attrs) : Type 0 where
@@ -223,9 +222,9 @@ row_there form peer rules p None a e = absurd (let clash : ◌≡◌ {A = Option
 row_there form peer rules p (Some row) a e = (row, refl, e)
 
 -- the change that a turn sends can be said and printed
-module _ (peers : ℕ → Option Neighbour) (old new : OutChained) (now : Rows Route) (rows : AreBestRows peers now) (exact : HasSent new now) (chain : IsOutChain new) (profile : new.exit.profile ≡ plain) (same : new.exit ≡ old.exit) where
-  fits : new.exit.me.asn < 256 ^ width_of false
-  fits = subst (λ (p : Profile). new.exit.me.asn < 256 ^ width_of p.as4) profile chain.sender.asn
+module _ (profile : Profile) (peers : ℕ → Option Neighbour) (old new : OutChained) (now : Rows Route) (rows : AreBestRows profile peers now) (exact : HasSent new now) (chain : IsOutChain new) (written : new.exit.profile ≡ profile) where
+  fits : new.exit.me.asn < 256 ^ width_of profile.as4
+  fits = subst (λ (p : Profile). new.exit.me.asn < 256 ^ width_of p.as4) written chain.sender.asn
 
   module _ (change : Change Attrs) (told : IsTold old.exit change) (at : tables.get new.sent change.prefix ≡ change.after) where
     from_row : (a : Attrs) → change.after ≡ Some a → IsPrefix change.prefix × CanBeSpelled a
@@ -234,7 +233,7 @@ module _ (peers : ℕ → Option Neighbour) (old new : OutChained) (now : Rows R
         let made : outf_rows new now p ≡ Some a = ap (λ (r : Rows Attrs). r p) (sym exact) ∙ at ∙ is in
         let row = row_there (form_of new.exit) new.peer (function_at new.filter p) p (now p) a made in
         let own = rows p row.0 row.1 in
-        (own.prefix, can_be_spelled peers new.exit p row.0 a fits own (is_form new.exit p row.0 a new.peer (function_at new.filter p) row.2))
+        (own.prefix, can_be_spelled profile peers new.exit p row.0 a fits own (is_form new.exit p row.0 a new.peer (function_at new.filter p) row.2))
 
     after_printed : (a : Attrs) → change.after ≡ Some a → IsPrintableSent peers change.prefix a
     after_printed a is =
@@ -256,8 +255,8 @@ module _ (peers : ℕ → Option Neighbour) (old new : OutChained) (now : Rows R
         record { prefix = prefix; before = before; after = after_printed; octets = λ as4. octets_small as4 change.prefix change.after prefix (λ a is. (from_row a is).1) }
 
 -- ---- the steps
-module _ (peers : ℕ → Option Neighbour) (j : ℕ) (candidates : Candidates) (best : Rows Route) (sent : Option (Change Attrs)) (e e' : Exited) (said : List Line)
-    (plain_is : e.profile ≡ plain) (rows : AreBestRows peers best) (are : ArePrintableExits peers e) (turn : TurnsExit j candidates best sent e e' said) where
+module _ (profile : Profile) (peers : ℕ → Option Neighbour) (j : ℕ) (candidates : Candidates) (best : Rows Route) (sent : Option (Change Attrs)) (e e' : Exited) (said : List Line)
+    (is_profile : e.profile ≡ profile) (rows : AreBestRows profile peers best) (are : ArePrintableExits profile peers e) (turn : TurnsExit j candidates best sent e e' said) where
   abbrev now : Rows Route
   now = read_rows e'.queue turn.chain.reader best
 
@@ -267,8 +266,8 @@ module _ (peers : ℕ → Option Neighbour) (j : ℕ) (candidates : Candidates) 
   number : turn.chain.peer.number ≡ j
   number = ap (λ (w : Neighbour). w.number) (sym turn.same.peer) ∙ (turn.sound.each j turn.taken at).number
 
-  profile : turn.taken.exit.profile ≡ plain
-  profile = (turn.sound.each j turn.taken at).profile ∙ ap (λ (x : Exited). x.profile) turn.after ∙ plain_is
+  written : turn.taken.exit.profile ≡ profile
+  written = (turn.sound.each j turn.taken at).profile ∙ ap (λ (x : Exited). x.profile) turn.after ∙ is_profile
 
   own : IsPrintableExit peers j turn.chain
   own = are.each j turn.chain turn.at
@@ -276,16 +275,16 @@ module _ (peers : ℕ → Option Neighbour) (j : ℕ) (candidates : Candidates) 
   names : IsNamed (Adv turn.chain.peer.number turn.chain.session)
   names = subst (λ (n : ℕ). IsNamed (Adv n turn.chain.session)) (sym number) own.named
 
-  queue : AreBestChanges peers e'.queue
-  queue = elim turn.turns.by as (λ _. AreBestChanges peers e'.queue) [
-    | inl reads ↦ queue_taken peers e.queue e'.queue turn.chain.reader (Some reads.change) are.unread reads.takes
-    | inr walks ↦ queue_taken peers e.queue e'.queue turn.chain.reader None are.unread walks.takes
+  queue : AreBestChanges profile peers e'.queue
+  queue = elim turn.turns.by as (λ _. AreBestChanges profile peers e'.queue) [
+    | inl reads ↦ queue_taken profile peers e.queue e'.queue turn.chain.reader (Some reads.change) are.unread reads.takes
+    | inr walks ↦ queue_taken profile peers e.queue e'.queue turn.chain.reader None are.unread walks.takes
   ]
 
   entries_are : AllByRecursion (λ x. IsPrinted peers (Journal x)) turn.turns.entries
   entries_are = elim turn.turns.by as (λ _. AllByRecursion (λ x. IsPrinted peers (Journal x)) turn.turns.entries) [
     | inl reads ↦ subst (λ (es : List (Entry Value)). AllByRecursion (λ x. IsPrinted peers (Journal x)) es) (sym reads.entry)
-        (best_printed peers (Read turn.chain.peer.number turn.chain.session) reads.change names (taken_change peers e.queue e'.queue turn.chain.reader reads.change are.unread reads.takes))
+        (best_printed peers profile (Read turn.chain.peer.number turn.chain.session) reads.change names (taken_change profile peers e.queue e'.queue turn.chain.reader reads.change are.unread reads.takes))
     | inr walks ↦ subst (λ (es : List (Entry Value)). AllByRecursion (λ x. IsPrinted peers (Journal x)) es) (sym walks.entry) tt
   ]
 
@@ -319,9 +318,9 @@ module _ (peers : ℕ → Option Neighbour) (j : ℕ) (candidates : Candidates) 
 
   each_sayable : (change : Change Attrs) → sent ≡ Some change → IsSayable peers change
   each_sayable change is =
-      sayable peers turn.chain turn.taken now (rows_read peers _ best (queue turn.chain.reader) rows) turn.turns.goes.exact (turn.stand j turn.taken at).chain profile turn.same.exit change
+      sayable profile peers turn.chain turn.taken now (rows_read profile peers _ best (queue turn.chain.reader) rows) turn.turns.goes.exact (turn.stand j turn.taken at).chain written change
       (turn.turns.goes.told change is)
-      (ap (λ r. tables.get r change.prefix) (kept ∙ ap (sent_after turn.chain.sent) is) ∙ sent_there peers turn.chain.sent change)
+      (ap (λ r. tables.get r change.prefix) (kept ∙ ap (sent_after turn.chain.sent) is) ∙ sent_there profile peers turn.chain.sent change)
       (from is) own.sent
     where
       differs : sent ≡ Some change → change.after ≢ change.before
@@ -354,61 +353,61 @@ module _ (peers : ℕ → Option Neighbour) (j : ℕ) (candidates : Candidates) 
   chain_is : IsPrintableExit peers j turn.taken
   chain_is = record {
     named = subst (λ (s : ℕ). IsNamed (Adv j s)) (sym turn.same.session) own.named;
-    sent = subst (λ r. (p : Network) → ForSome (tables.get r p) (IsPrintableSent peers p)) (sym kept) (sent_kept peers turn.chain.sent sent own.sent (λ change is. (each_sayable change is).after));
+    sent = subst (λ r. (p : Network) → ForSome (tables.get r p) (IsPrintableSent peers p)) (sym kept) (sent_kept profile peers turn.chain.sent sent own.sent (λ change is. (each_sayable change is).after));
   }
 
-  turn_prints : PrintsOn peers e' said
+  turn_prints : PrintsOn profile peers e' said
   turn_prints = record {
     lines = subst (ArePrinted peers) (sym turn.turns.goes.lines) lines_are;
-    exits = subst (ArePrintableExits peers) (sym turn.after) (record { unread = queue; each = each_put peers j turn.taken e'.queue e chain_is are.each });
+    exits = subst (ArePrintableExits profile peers) (sym turn.after) (record { unread = queue; each = each_put profile peers j turn.taken e'.queue e chain_is are.each });
   }
 
 pub turn_is_printed : TurnIsPrinted
-turn_is_printed peers j candidates best sent e e' said plain_is rows are turn = turn_prints peers j candidates best sent e e' said plain_is rows are turn
+turn_is_printed profile peers j candidates best sent e e' said is_profile rows are turn = turn_prints profile peers j candidates best sent e e' said is_profile rows are turn
 
 plain_entry : (peers : ℕ → Option Neighbour) (link : Link) → IsNamed link → IsPrinted peers (Journal (entries.Begin link)) × IsPrinted peers (Journal (entries.End link))
 plain_entry peers link named = (plain_printed peers (Journal (entries.Begin link)) refl refl named, plain_printed peers (Journal (entries.End link)) refl refl named)
 
 pub beginning_is_printed : BeginningIsPrinted
-beginning_is_printed peers me peer session rules e e' es named are begins = record {
+beginning_is_printed profile peers me peer session rules e e' es named are begins = record {
   lines = subst (λ (xs : List (Entry Value)). ArePrinted peers (entry_lines xs)) (sym begins.lines) (
     plain_printed peers (Journal (entries.Inherit (Read peer.number session) Best)) refl refl (named, tt),
     ((plain_entry peers (Outf peer.number session) named).0, ((plain_entry peers (Adv peer.number session) named).0, tt)),
   );
-  exits = subst (ArePrintableExits peers) (sym begins.after) (begun_exits peers peer.number begins.reader (new_out (exit_to e.profile me peer) peer session begins.reader rules) e refl named are);
+  exits = subst (ArePrintableExits profile peers) (sym begins.after) (begun_exits profile peers peer.number begins.reader (new_out (exit_to e.profile me peer) peer session begins.reader rules) e refl named are);
 }
 
 pub end_is_printed : EndIsPrinted
-end_is_printed peers j e e' es are ends =
+end_is_printed profile peers j e e' es are ends =
     let named = (are.each j ends.chain ends.at).named in
     record {
       lines = subst (λ (xs : List (Entry Value)). ArePrinted peers (entry_lines xs)) (sym ends.lines) (
         (plain_entry peers (Read j ends.chain.session) named).1,
         ((plain_entry peers (Outf j ends.chain.session) named).1, ((plain_entry peers (Adv j ends.chain.session) named).1, tt)),
       );
-      exits = subst (ArePrintableExits peers) (sym ends.after) (ended_exits peers j ends.chain.reader e are);
+      exits = subst (ArePrintableExits profile peers) (sym ends.after) (ended_exits profile peers j ends.chain.reader e are);
     }
 
 pub take_is_printed : TakeIsPrinted
-take_is_printed peers link reader change e queue named are takes = record {
-  lines = entries_printed peers (valued_change route_value link change) (best_printed peers link change named (taken_change peers e.queue queue reader change are.unread takes));
-  exits = with_unread peers queue e (queue_taken peers e.queue queue reader (Some change) are.unread takes) are;
+take_is_printed profile peers link reader change e queue named are takes = record {
+  lines = entries_printed peers (valued_change route_value link change) (best_printed peers profile link change named (taken_change profile peers e.queue queue reader change are.unread takes));
+  exits = with_unread profile peers queue e (queue_taken profile peers e.queue queue reader (Some change) are.unread takes) are;
 }
 
 -- ---- more peers
-module _ (before now : Declaration) (keeps : KeepsPeers before now) where
+module _ (profile : Profile) (before now : Declaration) (keeps : KeepsPeers before now) where
   from_stays : (from : Option Neighbour) → from ≡ neighbours before (sender_number from) → from ≡ neighbours now (sender_number from)
   from_stays None is = sym keeps.nobody
   from_stays (Some w) is = sym (keeps.words w.number w (sym is))
 
-  best_stays : (p : Network) (row : Route) → IsPrintableBest (neighbours before) p row → IsPrintableBest (neighbours now) p row
+  best_stays : (p : Network) (row : Route) → IsPrintableBest profile (neighbours before) p row → IsPrintableBest profile (neighbours now) p row
   best_stays p row is = record {
     prefix = is.prefix;
     heard = is.heard;
     printed = record { well_told = record { ranges = is.printed.well_told.ranges; told = (is.printed.well_told.told.0, from_stays row.from is.printed.well_told.told.1) }; short = is.printed.short };
   }
 
-  change_stays : (change : Change Route) → IsBestChange (neighbours before) change → IsBestChange (neighbours now) change
+  change_stays : (change : Change Route) → IsBestChange profile (neighbours before) change → IsBestChange profile (neighbours now) change
   change_stays change is = record {
     prefix = is.prefix;
     before = λ r there. best_stays change.prefix r (is.before r there);
@@ -419,7 +418,7 @@ module _ (before now : Declaration) (keeps : KeepsPeers before now) where
   sent_stays p a is = record { prefix = is.prefix; printed = record { well_told = record { ranges = is.printed.well_told.ranges; told = is.printed.well_told.told }; short = is.printed.short } }
 
 pub printing_stays : PrintingStays
-printing_stays before now e keeps are = record {
-  unread = λ reader. all_mapped (IsBestChange (neighbours before)) (IsBestChange (neighbours now)) (change_stays before now keeps) (unread_by e.queue reader) (are.unread reader);
-  each = λ j c at. record { named = (are.each j c at).named; sent = λ p a is. sent_stays before now keeps p a ((are.each j c at).sent p a is) };
+printing_stays profile before now e keeps are = record {
+  unread = λ reader. all_mapped (IsBestChange profile (neighbours before)) (IsBestChange profile (neighbours now)) (change_stays profile before now keeps) (unread_by e.queue reader) (are.unread reader);
+  each = λ j c at. record { named = (are.each j c at).named; sent = λ p a is. sent_stays profile before now keeps p a ((are.each j c at).sent p a is) };
 }

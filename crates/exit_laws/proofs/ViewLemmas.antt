@@ -36,7 +36,7 @@ use Rattle.out_chain.specs.Steps.{exit_to, new_out, sending_entries, message_lin
 use Rattle.exit_side.specs.Exits.{Exited, chain_at, with_exit, without_exit, links_by}
 use Rattle.exit_side.specs.Steps.{edited_by}
 use Rattle.exit_side.proofs.SwapLemmas.{by_number}
-use Rattle.live_state.specs.Messages.{plain, changes_of}
+use Rattle.live_state.specs.Messages.{changes_of}
 use Rattle.live_state.specs.Lives.{Routes, with_routes, routes_after}
 use Rattle.live_state.specs.Heard.{Views, HearsOctets, Hears}
 use Rattle.exit_laws.specs.Views.{sent_by, views_of, AreUnheard, entry_lines}
@@ -85,15 +85,15 @@ heard_is_sent e best j c sound at =
 
 -- ---- a session begins and ends
 pub beginning_is_heard : BeginningIsHeard
-beginning_is_heard peers me peer session rules e e' entries begins =
+beginning_is_heard profile peers me peer session rules e e' entries begins =
     let after : views_of e' ≡ with_routes (views_of e) peer.number tables.empty = ap views_of begins.after ∙ views_put peer.number (new_out (exit_to e.profile me peer) peer session begins.reader rules) (tables.insert e.queue begins.reader []) e in
-    subst (λ (es : List (Entry Value)). Hears peers (views_of e) (entry_lines es) (views_of e')) (sym begins.lines)
+    subst (λ (es : List (Entry Value)). Hears profile peers (views_of e) (entry_lines es) (views_of e')) (sym begins.lines)
     (views_of e, refl, (views_of e, refl, (with_routes (views_of e) peer.number tables.empty, refl, after)))
 
 pub end_is_heard : EndIsHeard
-end_is_heard peers j e e' entries ends =
+end_is_heard profile peers j e e' entries ends =
     let after : views_of e' ≡ with_routes (views_of e) j tables.empty = ap views_of ends.after ∙ views_gone j (tables.remove e.queue ends.chain.reader) e in
-    subst (λ (es : List (Entry Value)). Hears peers (views_of e) (entry_lines es) (views_of e')) (sym ends.lines)
+    subst (λ (es : List (Entry Value)). Hears profile peers (views_of e) (entry_lines es) (views_of e')) (sym ends.lines)
     (views_of e, refl, (views_of e, refl, (with_routes (views_of e) j tables.empty, refl, after)))
 
 -- ---- rules, and changes of `best`
@@ -161,42 +161,42 @@ sending_unheard c sent =
     (sent_unheard (Outf c.peer.number c.session) sent) (sent_unheard (Adv c.peer.number c.session) sent)
 
 -- what the message of a change says to peer j
-module _ (peers : ℕ → Option Neighbour) (j : ℕ) (old : OutChained) (v : Views) (number : old.peer.number ≡ j) (known : peers j ≡ Some old.peer) (profile : old.exit.profile ≡ plain) (kind : old.exit.external ≡ not old.peer.internal) (is : v j ≡ old.sent) where
+module _ (profile : Profile) (peers : ℕ → Option Neighbour) (j : ℕ) (old : OutChained) (v : Views) (number : old.peer.number ≡ j) (known : peers j ≡ Some old.peer) (same : old.exit.profile ≡ profile) (kind : old.exit.external ≡ not old.peer.internal) (is : v j ≡ old.sent) where
   hears_message : (sent : Option (Change Attrs)) (routes : Routes) → routes ≡ sent_after old.sent sent
       → ((change : Change Attrs) → sent ≡ Some change → IsTold old.exit change) → ((change : Change Attrs) → sent ≡ Some change → (a : Attrs) → change.after ≡ Some a → is_host_prefix change.prefix ≡ true)
-      → Hears peers v (message_lines old sent) (with_routes v j routes)
+      → Hears profile peers v (message_lines old sent) (with_routes v j routes)
   hears_message None routes after told hosts = routes_same v j routes (is ∙ sym after)
   hears_message (Some change) routes after told hosts =
       let octets = message_octets old.exit.profile.as4 change in
       let made : routes_after (v j) (changes_of (saying change.prefix change.after)) ≡ routes = told_routes (v j) change.prefix change.after (hosts change refl) ∙ ap (λ (r : Routes). kept_after r change.prefix change.after) is ∙ sym after in
-      let hears : HearsOctets old.peer j octets v (with_routes v j routes) = record {
+      let hears : HearsOctets profile old.peer j octets v (with_routes v j routes) = record {
         update = saying change.prefix change.after;
-        reads = subst (λ (external : Bool). Reads plain external octets (Update (saying change.prefix change.after))) kind
-            (subst (λ (p : Profile). Reads p old.exit.external octets (Update (saying change.prefix change.after))) profile (told change refl).reads);
+        reads = subst (λ (external : Bool). Reads profile external octets (Update (saying change.prefix change.after))) kind
+            (subst (λ (p : Profile). Reads p old.exit.external octets (Update (saying change.prefix change.after))) same (told change refl).reads);
         after = ap (with_routes v j) (sym made);
       } in
-      subst (λ (n : ℕ). Hears peers v (lines.Out n octets ∷ []) (with_routes v j routes)) (sym number) (with_routes v j routes, (old.peer, known, hears), refl)
+      subst (λ (n : ℕ). Hears profile peers v (lines.Out n octets ∷ []) (with_routes v j routes)) (sym number) (with_routes v j routes, (old.peer, known, hears), refl)
 
 pub turn_is_heard_from : TurnIsHeardFrom
-turn_is_heard_from peers j candidates best sent e e' said v declared turn is =
+turn_is_heard_from profile peers j candidates best sent e e' said v declared turn is =
     let chain = turn.chain in
     let taken = turn.taken in
     let at : chain_at j e' ≡ Some taken = ap (chain_at j) turn.after ∙ put_here j taken e'.queue e in
     let own = turn.sound.each j taken at in
     let stands = turn.stand j taken at in
     let number : chain.peer.number ≡ j = ap (λ (w : Neighbour). w.number) (sym turn.same.peer) ∙ own.number in
-    let profile : chain.exit.profile ≡ plain = ap (λ x. x.profile) (sym turn.same.exit) ∙ own.profile ∙ ap (λ (x : Exited). x.profile) turn.after ∙ declared.plain in
+    let same : chain.exit.profile ≡ profile = ap (λ x. x.profile) (sym turn.same.exit) ∙ own.profile ∙ ap (λ (x : Exited). x.profile) turn.after ∙ declared.profile in
     let kind : chain.exit.external ≡ not chain.peer.internal = ap (λ x. x.external) (sym turn.same.exit) ∙ stands.chain.kind ∙ ap (λ (w : Neighbour). not w.internal) turn.same.peer in
     let after = turned_sent chain taken e.queue e'.queue candidates best sent said turn.turns in
     let entries = turn.turns.entries ++ sending_entries chain sent in
-    let quiet = nothing_is_heard peers v (entry_lines entries)
+    let quiet = nothing_is_heard profile peers v (entry_lines entries)
     (unheard_joins turn.turns.entries (sending_entries chain sent) (entries_unheard chain taken e.queue e'.queue candidates best sent said turn.turns) (sending_unheard chain sent)) in
-    let message = hears_message peers j chain v number (declared.words j chain turn.at) profile kind is sent taken.sent after turn.turns.goes.told
+    let message = hears_message profile peers j chain v number (declared.words j chain turn.at) same kind is sent taken.sent after turn.turns.goes.told
     (λ change sends. sent_hosts taken _ chain.sent change turn.turns.goes.exact (after ∙ ap (sent_after chain.sent) sends)) in
-    subst (λ (ls : List Line). Hears peers v ls (with_routes v j taken.sent)) (sym turn.turns.goes.lines)
-    (hearing_joins peers v v (with_routes v j taken.sent) (entry_lines entries) (message_lines chain sent) quiet message)
+    subst (λ (ls : List Line). Hears profile peers v ls (with_routes v j taken.sent)) (sym turn.turns.goes.lines)
+    (hearing_joins profile peers v v (with_routes v j taken.sent) (entry_lines entries) (message_lines chain sent) quiet message)
 
 pub turn_is_heard : TurnIsHeard
-turn_is_heard peers j candidates best sent e e' said declared turn =
+turn_is_heard profile peers j candidates best sent e e' said declared turn =
     let after : views_of e' ≡ with_routes (views_of e) j turn.taken.sent = ap views_of turn.after ∙ views_put j turn.taken e'.queue e in
-    subst (Hears peers (views_of e) said) (sym after) (turn_is_heard_from peers j candidates best sent e e' said (views_of e) declared turn (ap sent_by turn.at))
+    subst (Hears profile peers (views_of e) said) (sym after) (turn_is_heard_from profile peers j candidates best sent e e' said (views_of e) declared turn (ap sent_by turn.at))

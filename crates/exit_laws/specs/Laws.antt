@@ -1,5 +1,5 @@
 -- Laws of what peers hear, and of the lines that the exits say.
-use Rattle.std.specs.Prelude.{◌≡◌, ℕ, ◌==◌, false, List, [], ◌++◌, Option, Some}
+use Rattle.std.specs.Prelude.{◌≡◌, ℕ, ◌==◌, false, List, [], ◌++◌, Option, Some, None}
 use Rattle.std.specs.List.{AllByRecursion}
 use Rattle.std.specs.FinMap as tables
 use Rattle.addr4.specs.Prefixes.{Network}
@@ -7,10 +7,12 @@ use Rattle.bgp_attr.specs.declared.attrs.Attrs.{Attrs}
 use Rattle.bgp_attr.specs.declared.route.Route.{Route}
 use Rattle.bgp_attr.specs.declared.speaker.Speaker.{Speaker}
 use Rattle.bgp_attr.specs.declared.speaker.Neighbour.{Neighbour}
+use Rattle.bgp_attr.specs.declared.speaker.Profile.{Profile}
 use Rattle.link_change.specs.Rows.{Rows, Candidates}
 use Rattle.link_change.specs.declared.change.Change.{Change}
 use Rattle.policy_rules.specs.declared.rule.Rule.{Rule}
 use Rattle.fanout_queue.specs.Queues.{Queued, Takes}
+use Rattle.fanout_queue.specs.Readers.{unread_by}
 use Rattle.journal_text.specs.Names.{IsNamed}
 use Rattle.journal_text.specs.Values.{attrs_rows, route_value, valued_change}
 use Rattle.journal_text.specs.Walk.{Links, change_entries}
@@ -28,7 +30,6 @@ use Rattle.link_region.specs.Regions.{region_number, LeadsIn}
 use Rattle.out_chain.specs.Chains.{OutChained}
 use Rattle.exit_side.specs.Exits.{Exited, chain_at, with_queue, exit_links, IsExits}
 use Rattle.exit_side.specs.Steps.{BeginsExit, EndsExit, EditsExit, PutsExit, TurnsExit}
-use Rattle.live_state.specs.Messages.{plain}
 use Rattle.live_state.specs.Lives.{with_routes}
 use Rattle.live_state.specs.Heard.{Views, Hears}
 use Rattle.exit_laws.specs.Views.{views_of, AreDeclared, AreUnheard, entry_lines}
@@ -38,22 +39,22 @@ use Rattle.exit_laws.specs.Printable.{AreBestRows, IsBestChange, ArePrintableExi
 -- What is heard of some lines and then of others is heard of both, one after the other;
 abbrev pub HearingJoins : Type 0
 HearingJoins =
-    (peers : ℕ → Option Neighbour) (a b c : Views) (xs ys : List Line) → Hears peers a xs b → Hears peers b ys c
-    → Hears peers a (xs ++ ys) c
+    (profile : Profile) (peers : ℕ → Option Neighbour) (a b c : Views) (xs ys : List Line) → Hears profile peers a xs b → Hears profile peers b ys c
+    → Hears profile peers a (xs ++ ys) c
 
 -- there is one thing alone to be heard of lines;
 abbrev pub HearingIsOne : Type 0
-HearingIsOne = (peers : ℕ → Option Neighbour) (v a b : Views) (lines : List Line) → Hears peers v lines a → Hears peers v lines b → a ≡ b
+HearingIsOne = (profile : Profile) (peers : ℕ → Option Neighbour) (v a b : Views) (lines : List Line) → Hears profile peers v lines a → Hears profile peers v lines b → a ≡ b
 
 -- it is the same where more peers were declared since;
 abbrev pub HearingStays : Type 0
 HearingStays =
-    (before now : Declaration) (v v' : Views) (lines : List Line) → KeepsPeers before now → Hears (neighbours before) v lines v'
-    → Hears (neighbours now) v lines v'
+    (before now : Declaration) (v v' : Views) (lines : List Line) → KeepsPeers before now → Hears before.profile (neighbours before) v lines v'
+    → Hears now.profile (neighbours now) v lines v'
 
 -- and of lines by which nobody hears anything, nothing is heard.
 abbrev pub NothingIsHeard : Type 0
-NothingIsHeard = (peers : ℕ → Option Neighbour) (v : Views) (lines : List Line) → AreUnheard lines → Hears peers v lines v
+NothingIsHeard = (profile : Profile) (peers : ℕ → Option Neighbour) (v : Views) (lines : List Line) → AreUnheard lines → Hears profile peers v lines v
 
 -- Such are the lines of entries that lead the links of any other region on, whatever the peers' outgoing links are,
 abbrev pub OthersAreUnheard : Type 0
@@ -76,27 +77,27 @@ HeardIsSent =
 -- Where a session begins, its peer has heard nothing yet;
 abbrev pub BeginningIsHeard : Type 0
 BeginningIsHeard =
-    (peers : ℕ → Option Neighbour) (me : Speaker) (peer : Neighbour) (session : ℕ) (rules : List Rule) (e e' : Exited) (entries : List (Entry Value))
-    → BeginsExit me peer session rules e e' entries → Hears peers (views_of e) (entry_lines entries) (views_of e')
+    (profile : Profile) (peers : ℕ → Option Neighbour) (me : Speaker) (peer : Neighbour) (session : ℕ) (rules : List Rule) (e e' : Exited) (entries : List (Entry Value))
+    → BeginsExit me peer session rules e e' entries → Hears profile peers (views_of e) (entry_lines entries) (views_of e')
 
 -- where it ends, nothing is left of what it has heard;
 abbrev pub EndIsHeard : Type 0
 EndIsHeard =
-    (peers : ℕ → Option Neighbour) (j : ℕ) (e e' : Exited) (entries : List (Entry Value)) → EndsExit j e e' entries
-    → Hears peers (views_of e) (entry_lines entries) (views_of e')
+    (profile : Profile) (peers : ℕ → Option Neighbour) (j : ℕ) (e e' : Exited) (entries : List (Entry Value)) → EndsExit j e e' entries
+    → Hears profile peers (views_of e) (entry_lines entries) (views_of e')
 
 -- and a turn of its exit leads from what it was sent before to what it was sent then, by the octets of the turn's lines.
 abbrev pub TurnIsHeard : Type 0
 TurnIsHeard =
-    (peers : ℕ → Option Neighbour) (j : ℕ) (candidates : Candidates) (best : Rows Route) (sent : Option (Change Attrs)) (e e' : Exited) (said : List Line)
-    → AreDeclared peers e → TurnsExit j candidates best sent e e' said → Hears peers (views_of e) said (views_of e')
+    (profile : Profile) (peers : ℕ → Option Neighbour) (j : ℕ) (candidates : Candidates) (best : Rows Route) (sent : Option (Change Attrs)) (e e' : Exited) (said : List Line)
+    → AreDeclared profile peers e → TurnsExit j candidates best sent e e' said → Hears profile peers (views_of e) said (views_of e')
 
 -- The same of any views in which the peer has heard what it was sent: those of the others stay.
 abbrev pub TurnIsHeardFrom : Type 0
 TurnIsHeardFrom =
-    (peers : ℕ → Option Neighbour) (j : ℕ) (candidates : Candidates) (best : Rows Route) (sent : Option (Change Attrs)) (e e' : Exited) (said : List Line) (v : Views)
-    → AreDeclared peers e → (turn : TurnsExit j candidates best sent e e' said) → v j ≡ turn.chain.sent
-    → Hears peers v said (with_routes v j turn.taken.sent)
+    (profile : Profile) (peers : ℕ → Option Neighbour) (j : ℕ) (candidates : Candidates) (best : Rows Route) (sent : Option (Change Attrs)) (e e' : Exited) (said : List Line) (v : Views)
+    → AreDeclared profile peers e → (turn : TurnsExit j candidates best sent e e' said) → v j ≡ turn.chain.sent
+    → Hears profile peers v said (with_routes v j turn.taken.sent)
 
 -- New rules, and a change that joins the queue, leave what was sent.
 abbrev pub EditKeepsViews : Type 0
@@ -110,54 +111,60 @@ abbrev pub ArePrinted : (ℕ → Option Neighbour) → List Line → Type 0
 ArePrinted peers said = AllByRecursion (IsPrinted peers) said
 
 -- the lines can be printed, and so can what stands in the exits then
-pub record PrintsOn (peers : ℕ → Option Neighbour) (e' : Exited) (said : List Line) : Type 0 where
+pub record PrintsOn (profile : Profile) (peers : ℕ → Option Neighbour) (e' : Exited) (said : List Line) : Type 0 where
   pub lines : ArePrinted peers said
-  pub exits : ArePrintableExits peers e'
+  pub exits : ArePrintableExits profile peers e'
 
 -- Where a session begins, whose links can be named; where it ends; and with each turn, where the rows of `best` can be printed:
 abbrev pub BeginningIsPrinted : Type 0
 BeginningIsPrinted =
-    (peers : ℕ → Option Neighbour) (me : Speaker) (peer : Neighbour) (session : ℕ) (rules : List Rule) (e e' : Exited) (entries : List (Entry Value))
-    → IsNamed (Adv peer.number session) → ArePrintableExits peers e → BeginsExit me peer session rules e e' entries
-    → PrintsOn peers e' (entry_lines entries)
+    (profile : Profile) (peers : ℕ → Option Neighbour) (me : Speaker) (peer : Neighbour) (session : ℕ) (rules : List Rule) (e e' : Exited) (entries : List (Entry Value))
+    → IsNamed (Adv peer.number session) → ArePrintableExits profile peers e → BeginsExit me peer session rules e e' entries
+    → PrintsOn profile peers e' (entry_lines entries)
 
 abbrev pub EndIsPrinted : Type 0
 EndIsPrinted =
-    (peers : ℕ → Option Neighbour) (j : ℕ) (e e' : Exited) (entries : List (Entry Value)) → ArePrintableExits peers e
-    → EndsExit j e e' entries → PrintsOn peers e' (entry_lines entries)
+    (profile : Profile) (peers : ℕ → Option Neighbour) (j : ℕ) (e e' : Exited) (entries : List (Entry Value)) → ArePrintableExits profile peers e
+    → EndsExit j e e' entries → PrintsOn profile peers e' (entry_lines entries)
 
 abbrev pub TurnIsPrinted : Type 0
 TurnIsPrinted =
-    (peers : ℕ → Option Neighbour) (j : ℕ) (candidates : Candidates) (best : Rows Route) (sent : Option (Change Attrs)) (e e' : Exited) (said : List Line)
-    → e.profile ≡ plain → AreBestRows peers best → ArePrintableExits peers e
-    → TurnsExit j candidates best sent e e' said → PrintsOn peers e' said
+    (profile : Profile) (peers : ℕ → Option Neighbour) (j : ℕ) (candidates : Candidates) (best : Rows Route) (sent : Option (Change Attrs)) (e e' : Exited) (said : List Line)
+    → e.profile ≡ profile → AreBestRows profile peers best → ArePrintableExits profile peers e
+    → TurnsExit j candidates best sent e e' said → PrintsOn profile peers e' said
 
 -- so it is with new rules,
 abbrev pub EditIsPrinted : Type 0
 EditIsPrinted =
-    (peers : ℕ → Option Neighbour) (j : ℕ) (rules : List Rule) (e e' : Exited) → ArePrintableExits peers e → EditsExit j rules e e'
-    → ArePrintableExits peers e'
+    (profile : Profile) (peers : ℕ → Option Neighbour) (j : ℕ) (rules : List Rule) (e e' : Exited) → ArePrintableExits profile peers e → EditsExit j rules e e'
+    → ArePrintableExits profile peers e'
 
 -- with a change of such rows that joins the queue,
 abbrev pub PutIsPrinted : Type 0
 PutIsPrinted =
-    (peers : ℕ → Option Neighbour) (change : Change Route) (e e' : Exited) → IsBestChange peers change → ArePrintableExits peers e
-    → PutsExit change e e' → ArePrintableExits peers e'
+    (profile : Profile) (peers : ℕ → Option Neighbour) (change : Change Route) (e e' : Exited) → IsBestChange profile peers change → ArePrintableExits profile peers e
+    → PutsExit change e e' → ArePrintableExits profile peers e'
 
 -- with a reader that is no peer's, who joins, or takes a change, whose entry can be printed,
 abbrev pub JoinIsPrinted : Type 0
 JoinIsPrinted =
-    (peers : ℕ → Option Neighbour) (reader : ℕ) (e : Exited) → ArePrintableExits peers e
-    → ArePrintableExits peers (with_queue (tables.insert e.queue reader []) e)
+    (profile : Profile) (peers : ℕ → Option Neighbour) (reader : ℕ) (e : Exited) → ArePrintableExits profile peers e
+    → ArePrintableExits profile peers (with_queue (tables.insert e.queue reader []) e)
 
 abbrev pub TakeIsPrinted : Type 0
 TakeIsPrinted =
-    (peers : ℕ → Option Neighbour) (link : Link) (reader : ℕ) (change : Change Route) (e : Exited) (queue : Queued Route) → IsNamed link
-    → ArePrintableExits peers e
-    → Takes e.queue queue reader (Some change) → PrintsOn peers (with_queue queue e) (entry_lines (valued_change route_value link change))
+    (profile : Profile) (peers : ℕ → Option Neighbour) (link : Link) (reader : ℕ) (change : Change Route) (e : Exited) (queue : Queued Route) → IsNamed link
+    → ArePrintableExits profile peers e
+    → Takes e.queue queue reader (Some change) → PrintsOn profile peers (with_queue queue e) (entry_lines (valued_change route_value link change))
 
 -- and where more peers were declared since.
 abbrev pub PrintingStays : Type 0
 PrintingStays =
-    (before now : Declaration) (e : Exited) → KeepsPeers before now → ArePrintableExits (neighbours before) e
-    → ArePrintableExits (neighbours now) e
+    (profile : Profile) (before now : Declaration) (e : Exited) → KeepsPeers before now → ArePrintableExits profile (neighbours before) e
+    → ArePrintableExits profile (neighbours now) e
+
+-- Where no peer is up, and no reader has a change to take, all that stands in the exits can be printed, whatever the profile is.
+abbrev pub EmptyIsPrinted : Type 0
+EmptyIsPrinted =
+    (profile : Profile) (peers : ℕ → Option Neighbour) (e : Exited) → ((j : ℕ) → chain_at j e ≡ None) → ((reader : ℕ) → unread_by e.queue reader ≡ [])
+    → ArePrintableExits profile peers e

@@ -7,6 +7,7 @@ use Rattle.addr4.specs.Prefixes.{Network}
 use Rattle.bgp_attr.specs.declared.attrs.Attrs.{Attrs}
 use Rattle.bgp_attr.specs.declared.route.Route.{Route}
 use Rattle.bgp_attr.specs.declared.speaker.Neighbour.{Neighbour}
+use Rattle.bgp_attr.specs.declared.speaker.Profile.{Profile}
 use Rattle.link_change.specs.Rows.{Rows}
 use Rattle.link_change.specs.declared.change.Change.{Change}
 use Rattle.peer_out.specs.Changes.{MayBeHeard}
@@ -19,27 +20,26 @@ use Rattle.journal_check.specs.Laws.{IsPrefix}
 use Rattle.journal_laws.specs.Printed.{IsPrintable}
 use Rattle.out_chain.specs.Chains.{OutChained}
 use Rattle.exit_side.specs.Exits.{Exited, chain_at}
-use Rattle.live_state.specs.Messages.{plain}
 
--- a row of `best` that can be said to a peer, and printed at its prefix, where these are the peers
-pub record IsPrintableBest (peers : ℕ → Option Neighbour) (p : Network) (row : Route) : Type 0 where
+-- a row of `best` that can be said to a peer, and printed at its prefix, where this is the profile and these are the peers
+pub record IsPrintableBest (profile : Profile) (peers : ℕ → Option Neighbour) (p : Network) (row : Route) : Type 0 where
   pub prefix : IsPrefix p
-  pub heard : MayBeHeard plain row.attrs
+  pub heard : MayBeHeard profile row.attrs
   pub printed : IsPrintable peers (route_value row)
 
 -- each row is such,
-abbrev pub AreBestRows : (ℕ → Option Neighbour) → Rows Route → Type 0
-AreBestRows peers best = (p : Network) → ForSome (best p) (IsPrintableBest peers p)
+abbrev pub AreBestRows : Profile → (ℕ → Option Neighbour) → Rows Route → Type 0
+AreBestRows profile peers best = (p : Network) → ForSome (best p) (IsPrintableBest profile peers p)
 
 -- and so are those before and after a change.
-pub record IsBestChange (peers : ℕ → Option Neighbour) (change : Change Route) : Type 0 where
+pub record IsBestChange (profile : Profile) (peers : ℕ → Option Neighbour) (change : Change Route) : Type 0 where
   pub prefix : IsPrefix change.prefix
-  pub before : ForSome change.before (IsPrintableBest peers change.prefix)
-  pub after : ForSome change.after (IsPrintableBest peers change.prefix)
+  pub before : ForSome change.before (IsPrintableBest profile peers change.prefix)
+  pub after : ForSome change.after (IsPrintableBest profile peers change.prefix)
 
 -- each change that a reader hasn't taken is such
-abbrev pub AreBestChanges : (ℕ → Option Neighbour) → Queued Route → Type 0
-AreBestChanges peers queued = (reader : ℕ) → AllByRecursion (IsBestChange peers) (unread_by queued reader)
+abbrev pub AreBestChanges : Profile → (ℕ → Option Neighbour) → Queued Route → Type 0
+AreBestChanges profile peers queued = (reader : ℕ) → AllByRecursion (IsBestChange profile peers) (unread_by queued reader)
 
 -- what was sent at a prefix can be printed
 pub record IsPrintableSent (peers : ℕ → Option Neighbour) (p : Network) (attrs : Attrs) : Type 0 where
@@ -52,6 +52,6 @@ pub record IsPrintableExit (peers : ℕ → Option Neighbour) (j : ℕ) (c : Out
   pub sent : (p : Network) → ForSome (tables.get c.sent p) (IsPrintableSent peers p)
 
 -- Each chain of the exits is such, and each change that a reader hasn't taken.
-pub record ArePrintableExits (peers : ℕ → Option Neighbour) (e : Exited) : Type 0 where
-  pub unread : AreBestChanges peers e.queue
+pub record ArePrintableExits (profile : Profile) (peers : ℕ → Option Neighbour) (e : Exited) : Type 0 where
+  pub unread : AreBestChanges profile peers e.queue
   pub each : (j : ℕ) (c : OutChained) → chain_at j e ≡ Some c → IsPrintableExit peers j c

@@ -3,6 +3,7 @@ use Rattle.std.specs.Prelude.{◌≡◌, ℕ, Bool, true, false, List, map, Opti
 use Rattle.std.specs.List.{AllByRecursion}
 use Rattle.std.specs.FinMap as tables
 use Rattle.bgp_attr.specs.declared.speaker.Neighbour.{Neighbour}
+use Rattle.bgp_attr.specs.declared.speaker.Profile.{Profile}
 use Rattle.journal_text.specs.declared.line.Line.{Line}
 use Rattle.journal_text.specs.declared.line.Line.TheVariants.{Out, Journal}
 use Rattle.journal_text.specs.declared.entry.Entry.{Entry}
@@ -11,7 +12,6 @@ use Rattle.journal_text.specs.declared.link.Link.TheVariants.{Adv}
 use Rattle.journal_text.specs.declared.value.Value.{Value}
 use Rattle.out_chain.specs.Chains.{OutChained}
 use Rattle.exit_side.specs.Exits.{Exited, chain_at}
-use Rattle.live_state.specs.Messages.{plain}
 use Rattle.live_state.specs.Lives.{Routes}
 use Rattle.live_state.specs.Heard.{Views}
 
@@ -25,9 +25,9 @@ sent_by (Some c) = c.sent
 abbrev pub views_of : Exited → Views
 views_of e j = sent_by (chain_at j e)
 
--- Each exit is a declared peer's, by its words, and messages have AS numbers of two octets.
-pub record AreDeclared (peers : ℕ → Option Neighbour) (e : Exited) : Type 0 where
-  pub plain : e.profile ≡ plain
+-- Messages are written by the profile of the file, and each exit is a declared peer's, by its words.
+pub record AreDeclared (written : Profile) (peers : ℕ → Option Neighbour) (e : Exited) : Type 0 where
+  pub profile : e.profile ≡ written
   pub words : (j : ℕ) (c : OutChained) → chain_at j e ≡ Some c → peers j ≡ Some c.peer
 
 -- ---- lines

@@ -12,7 +12,7 @@
 //! For the proofs of the crates above. Each law is a function that does nothing, whose contract is the law.
 #![tactic(auto)]
 
-ghost use Rattle.exit_laws.specs.Laws.{HearingJoins, HearingIsOne, HearingStays, NothingIsHeard, OthersAreUnheard, ChangesAreUnheard, HeardIsSent, BeginningIsHeard, EndIsHeard, TurnIsHeard, TurnIsHeardFrom, EditKeepsViews, PutKeepsViews, BeginningIsPrinted, EndIsPrinted, TurnIsPrinted, EditIsPrinted, PutIsPrinted, JoinIsPrinted, TakeIsPrinted, PrintingStays};
+ghost use Rattle.exit_laws.specs.Laws.{HearingJoins, HearingIsOne, HearingStays, NothingIsHeard, OthersAreUnheard, ChangesAreUnheard, HeardIsSent, BeginningIsHeard, EndIsHeard, TurnIsHeard, TurnIsHeardFrom, EditKeepsViews, PutKeepsViews, BeginningIsPrinted, EndIsPrinted, TurnIsPrinted, EditIsPrinted, PutIsPrinted, JoinIsPrinted, TakeIsPrinted, PrintingStays, EmptyIsPrinted};
 
 use bgp_wire::one_of_message_and_fault;
 
@@ -57,4 +57,5 @@ pub fn steps_are_printed()
     ensures join { JoinIsPrinted }
     ensures take { TakeIsPrinted }
     ensures stays { PrintingStays }
+    ensures empty { EmptyIsPrinted }
 {}

@@ -2,13 +2,15 @@
 use Rattle.std.proofs.Common.{◌≡◌, ℕ, ◌<◌, ◌≤◌, Bool, true, false, cond, List, [], ◌∷◌, ◌++◌, map, Option, Some, None, nat_eq, refl, ap, subst, sym, ◌∙◌, arith}
 use Rattle.bgp_attr.specs.declared.speaker.Speaker.{Speaker}
 use Rattle.bgp_attr.specs.declared.speaker.Neighbour.{Neighbour}
+use Rattle.bgp_attr.specs.declared.speaker.Profile.{Profile}
 use Rattle.bgp_attr.specs.Speakers.{IsSpeaker}
-use Rattle.event_text.specs.declared.event.Event.TheVariants.{Local, Peer, Up}
+use Rattle.event_text.specs.declared.event.Event.TheVariants.{As4, Revised, Local, Peer, Up}
 use Rattle.event_text.specs.declared.declared.DeclaredPeer.{DeclaredPeer}
-use Rattle.event_text.specs.Declarations.{Declaration, peer_at, refusal, with_speaker, with_peer, with_session, without_session, begun_at, ended_at, IsCounted, IsDeclaredBy, IsDeclaration}
+use Rattle.event_text.specs.Declarations.{Declaration, peer_at, refusal, with_profile, with_four_octets, with_revised, with_speaker, with_peer, with_session, without_session, begun_at, ended_at, IsCounted, IsDeclaredBy, IsDeclaration}
 use Rattle.event_text.specs.WellFormed.{IsWellFormed}
 use Rattle.event_text.proofs.Sessions.{KeepsWords, begun_words, ended_words}
-use Rattle.event_text.proofs.DeclarationLemmas.{speaker_kept, peer_kept, session_kept, end_kept, found_peer}
+use Rattle.event_text.proofs.DeclarationLemmas.{profile_kept, speaker_kept, peer_kept, session_kept, end_kept, found_peer}
+use Rattle.live_state.proofs.AdmittedLemmas.{as4_is_first, revised_is_first}
 use Rattle.journal_laws.specs.Peers.{words_in, neighbours, KeepsPeers}
 
 -- ---- a declared peer
@@ -27,12 +29,12 @@ pub record IsKnown (k : ℕ) (p : DeclaredPeer) : Type 0 where
   pub session : p.session ≤ 65535
 
 pub known_peer : (d : Declaration) (k : ℕ) (p : DeclaredPeer) → IsDeclaration d → peer_at k d.peers ≡ Some p → IsKnown k p
-known_peer d k p declared found = by_speaker d.speaker d.peers declared found
+known_peer d k p declared found = by_speaker d.profile.as4 d.speaker d.peers declared found
   where
-    by_speaker : (o : Option Speaker) (peers : List DeclaredPeer) → IsDeclaredBy o peers → peer_at k peers ≡ Some p → IsKnown k p
-    by_speaker None peers none found = absurd (let contra : peer_at k [] ≡ Some p = ap (peer_at k) (sym none) ∙ found in cc)
-    by_speaker (Some local) peers are found =
-        let f = found_peer local peers k p are.each found in
+    by_speaker : (as4 : Bool) (o : Option Speaker) (peers : List DeclaredPeer) → IsDeclaredBy as4 o peers → peer_at k peers ≡ Some p → IsKnown k p
+    by_speaker as4 None peers none found = absurd (let contra : peer_at k [] ≡ Some p = ap (peer_at k) (sym none) ∙ found in cc)
+    by_speaker as4 (Some local) peers are found =
+        let f = found_peer as4 local peers k p are.each found in
         let own = f.0.words.neighbour in
         record {
           number = f.1;
@@ -68,20 +70,38 @@ pub record Leaves (d now : Declaration) : Type 0 where
   pub declared : IsDeclaration now
   pub peers : KeepsPeers d now
 
-leaves : (d now : Declaration) → IsDeclaration now → ((k : ℕ) (w : Neighbour) → neighbours d k ≡ Some w → neighbours now k ≡ Some w) → Leaves d now
-leaves d now declared words = record { declared = declared; peers = record { words = words; nobody = nobody now declared } }
+leaves : (d now : Declaration) → IsDeclaration now → now.profile ≡ d.profile → ((k : ℕ) (w : Neighbour) → neighbours d k ≡ Some w → neighbours now k ≡ Some w) → Leaves d now
+leaves d now declared profile words = record { declared = declared; peers = record { words = words; profile = λ k w there. profile; nobody = nobody now declared } }
 
 pub leaves_all : (d : Declaration) → IsDeclaration d → Leaves d d
-leaves_all d declared = leaves d d declared (λ k w there. there)
+leaves_all d declared = leaves d d declared refl (λ k w there. there)
 
-pub speaker_leaves : (d : Declaration) (words : Speaker) → IsDeclaration d → refusal d (Local words) ≡ None → IsSpeaker words → Leaves d (with_speaker d words)
-speaker_leaves d words declared admitted formed = leaves d (with_speaker d words) (speaker_kept d words declared admitted formed) (λ k w there. there)
+-- before `local` nobody is declared
+none_before : (d : Declaration) (k : ℕ) (w : Neighbour) (P : Type 0) → IsDeclaration d → d.speaker ≡ None → neighbours d k ≡ Some w → P
+none_before d k w P declared none there =
+    let nobody : d.peers ≡ [] = subst (λ (o : Option Speaker). IsDeclaredBy d.profile.as4 o d.peers) none declared in
+    absurd (let clash : ◌≡◌ {A = Option Neighbour} None (Some w) = sym (ap (λ (ps : List DeclaredPeer). words_in (peer_at k ps)) nobody) ∙ there in cc)
 
-pub peer_leaves : (d : Declaration) (k : ℕ) (words : Speaker) → IsDeclaration d → refusal d (Peer k words) ≡ None → IsWellFormed (Peer k words) → Leaves d (with_peer d k words)
-peer_leaves d k words declared admitted formed = leaves d (with_peer d k words) (peer_kept d k words declared admitted formed) (λ j w there. words_pushed j d.peers _ w there)
+-- so another profile is nobody's
+profile_leaves : (d : Declaration) (profile : Profile) → IsDeclaration d → d.speaker ≡ None → Leaves d (with_profile d profile)
+profile_leaves d profile declared none =
+    let now = profile_kept d profile declared none in
+    record { declared = now; peers = record { words = λ k w there. there; profile = λ k w there. none_before d k w (profile ≡ d.profile) declared none there; nobody = nobody (with_profile d profile) now } }
+
+pub as4_leaves : (d : Declaration) → IsDeclaration d → refusal d As4 ≡ None → Leaves d (with_profile d (with_four_octets d.profile))
+as4_leaves d declared admitted = profile_leaves d (with_four_octets d.profile) declared (as4_is_first d admitted)
+
+pub revised_leaves : (d : Declaration) → IsDeclaration d → refusal d Revised ≡ None → Leaves d (with_profile d (with_revised d.profile))
+revised_leaves d declared admitted = profile_leaves d (with_revised d.profile) declared (revised_is_first d admitted)
+
+pub speaker_leaves : (d : Declaration) (words : Speaker) → IsDeclaration d → refusal d (Local words) ≡ None → IsSpeaker d.profile.as4 words → Leaves d (with_speaker d words)
+speaker_leaves d words declared admitted formed = leaves d (with_speaker d words) (speaker_kept d words declared admitted formed) refl (λ k w there. there)
+
+pub peer_leaves : (d : Declaration) (k : ℕ) (words : Speaker) → IsDeclaration d → refusal d (Peer k words) ≡ None → IsWellFormed d.profile.as4 (Peer k words) → Leaves d (with_peer d k words)
+peer_leaves d k words declared admitted formed = leaves d (with_peer d k words) (peer_kept d k words declared admitted formed) refl (λ j w there. words_pushed j d.peers _ w there)
 
 pub session_leaves : (d : Declaration) (k : ℕ) → IsDeclaration d → refusal d (Up k) ≡ None → Leaves d (with_session d k)
-session_leaves d k declared admitted = leaves d (with_session d k) (session_kept d k declared admitted) (λ j w there. words_mapped (begun_at k) (begun_words k) j d.peers ∙ there)
+session_leaves d k declared admitted = leaves d (with_session d k) (session_kept d k declared admitted) refl (λ j w there. words_mapped (begun_at k) (begun_words k) j d.peers ∙ there)
 
 pub end_leaves : (d : Declaration) (k : ℕ) → IsDeclaration d → Leaves d (without_session d k)
-end_leaves d k declared = leaves d (without_session d k) (end_kept d k declared) (λ j w there. words_mapped (ended_at k) (ended_words k) j d.peers ∙ there)
+end_leaves d k declared = leaves d (without_session d k) (end_kept d k declared) refl (λ j w there. words_mapped (ended_at k) (ended_words k) j d.peers ∙ there)

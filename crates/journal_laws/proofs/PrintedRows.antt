@@ -100,32 +100,33 @@ module _ {R : Type 0} (Is : Network → R → Type 0) where
   lost_printable number t named h = record { rows = λ q r is. h.rows q r (losses_bring_no_row number t q r is); losses = all_lost (λ (d : Lost R). IsNameNumber d.number) number t h.losses named }
 
 -- ---- rules
-rules_stepped : (walk : Option (Walked (List Rule))) (p : Network) → AreRulesOfWalk walk → AreRulesOfWalk (walk_stepped walk p)
-rules_stepped None p are = tt
-rules_stepped (Some w) p are = are
+module _ (as4 : Bool) where
+  rules_stepped : (walk : Option (Walked (List Rule))) (p : Network) → AreRulesOfWalk as4 walk → AreRulesOfWalk as4 (walk_stepped walk p)
+  rules_stepped None p are = tt
+  rules_stepped (Some w) p are = are
 
-rules_waiting : (waiting : Option (List Rule)) → AreRulesIfAny waiting → AreRulesOfWalk (walk_of_waiting waiting)
-rules_waiting None are = tt
-rules_waiting (Some rules) are = (are, tt)
+  rules_waiting : (waiting : Option (List Rule)) → AreRulesIfAny as4 waiting → AreRulesOfWalk as4 (walk_of_waiting waiting)
+  rules_waiting None are = tt
+  rules_waiting (Some rules) are = (are, tt)
 
-rules_edited : (walk : Option (Walked (List Rule))) (rules : List Rule) → AreRulesOfWalk walk → AreRules false rules → AreRulesOfWalk (Some (walk_edited walk rules))
-rules_edited None rules are new = (new, tt)
-rules_edited (Some w) rules are new = (are.0, new)
+  rules_edited : (walk : Option (Walked (List Rule))) (rules : List Rule) → AreRulesOfWalk as4 walk → AreRules as4 rules → AreRulesOfWalk as4 (Some (walk_edited walk rules))
+  rules_edited None rules are new = (new, tt)
+  rules_edited (Some w) rules are new = (are.0, new)
 
-finished_printable : (profile : Profile) (c : Chained) (walk : Option (Walked (List Rule))) → IsPrintableChain profile c → AreRulesOfWalk walk → IsPrintableChain profile (record c { filter = after_walk c.filter.in_force walk })
+  rules_at : (in_force : List Rule) (walk : Option (Walked (List Rule))) (p : Network) → AreRules as4 in_force → AreRulesOfWalk as4 walk → AreRules as4 (function_of in_force walk p)
+  rules_at in_force None p are on = are
+  rules_at in_force (Some w) p are on = elim (is_beyond w.place p) as (λ (b : Bool). AreRules as4 (cond b in_force w.next)) [ true ↦ are | false ↦ on.0 ]
+
+finished_printable : (profile : Profile) (c : Chained) (walk : Option (Walked (List Rule))) → IsPrintableChain profile c → AreRulesOfWalk profile.as4 walk → IsPrintableChain profile (record c { filter = after_walk c.filter.in_force walk })
 finished_printable profile c None h are = record { tables = h.tables; in_force = h.in_force; walk = tt }
-finished_printable profile c (Some w) h are = record { tables = h.tables; in_force = are.0; walk = rules_waiting w.waiting are.1 }
+finished_printable profile c (Some w) h are = record { tables = h.tables; in_force = are.0; walk = rules_waiting profile.as4 w.waiting are.1 }
 
 pub walked_printable : (profile : Profile) (c : Chained) (next : Option Network) → IsPrintableChain profile c → IsPrintableChain profile (record c { filter = walked_on next c.filter })
 walked_printable profile c None h = finished_printable profile c c.filter.walk h h.walk
-walked_printable profile c (Some p) h = record { tables = h.tables; in_force = h.in_force; walk = rules_stepped c.filter.walk p h.walk }
+walked_printable profile c (Some p) h = record { tables = h.tables; in_force = h.in_force; walk = rules_stepped profile.as4 c.filter.walk p h.walk }
 
-pub edited_printable : (profile : Profile) (c : Chained) (rules : List Rule) → IsPrintableChain profile c → AreRules false rules → IsPrintableChain profile (record c { filter = edited c.filter rules })
-edited_printable profile c rules h new = record { tables = h.tables; in_force = h.in_force; walk = rules_edited c.filter.walk rules h.walk new }
-
-rules_at : (in_force : List Rule) (walk : Option (Walked (List Rule))) (p : Network) → AreRules false in_force → AreRulesOfWalk walk → AreRules false (function_of in_force walk p)
-rules_at in_force None p are on = are
-rules_at in_force (Some w) p are on = elim (is_beyond w.place p) as (λ (b : Bool). AreRules false (cond b in_force w.next)) [ true ↦ are | false ↦ on.0 ]
+pub edited_printable : (profile : Profile) (c : Chained) (rules : List Rule) → IsPrintableChain profile c → AreRules profile.as4 rules → IsPrintableChain profile (record c { filter = edited c.filter rules })
+edited_printable profile c rules h new = record { tables = h.tables; in_force = h.in_force; walk = rules_edited profile.as4 c.filter.walk rules h.walk new }
 
 -- ---- links
 -- each of these rows can be printed at its prefix
@@ -194,7 +195,7 @@ module _ (peers : ℕ → Option Neighbour) where
         by_attrs None at is = absurd (cc)
         by_attrs (Some a) at is =
             let own = in_prints c fit p a at in
-            (own.0, filtered_printable peers c.me c.peer false rules p a route fit.known fit.small (rules_at c.filter.in_force c.filter.walk p fit.printable.in_force fit.printable.walk) own.1 is)
+            (own.0, filtered_printable peers c.me c.peer profile.as4 rules p a route fit.known fit.small (rules_at profile.as4 c.filter.in_force c.filter.walk p fit.printable.in_force fit.printable.walk) own.1 is)
 
     pub chain_prints : (c : Chained) → IsFit c → (link : Link) → PrintsIfAny peers (links_of c link)
     chain_prints c fit (names.Filt k) = if_prints (k == c.incoming.number) _ (live_prints route_value (filt_rows c) (filt_prints c fit))

@@ -12,7 +12,9 @@ words_in (Some p) = Some p.words
 abbrev pub neighbours : Declaration → ℕ → Option Neighbour
 neighbours d k = words_in (peer_at k d.peers)
 
--- who is declared keeps its words, and nobody gets the number 0, which stands for no peer
+-- who is declared keeps its words, and nobody gets the number 0, which stands for no peer; and where somebody was declared before, the
+-- profile is still the same
 pub record KeepsPeers (before now : Declaration) : Type 0 where
   pub words : (k : ℕ) (w : Neighbour) → neighbours before k ≡ Some w → neighbours now k ≡ Some w
+  pub profile : (k : ℕ) (w : Neighbour) → neighbours before k ≡ Some w → now.profile ≡ before.profile
   pub nobody : neighbours now 0 ≡ None

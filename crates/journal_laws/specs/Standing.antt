@@ -1,6 +1,6 @@
 -- What stands in tables and chains and can be printed: each row, live or lost, the numbers of the losses, the rules of filters, and what
 -- is known of next hops.
-use Rattle.std.specs.Prelude.{◌≡◌, ℕ, Bool, true, false, not, List, Option, Some, None}
+use Rattle.std.specs.Prelude.{◌≡◌, ℕ, Bool, true, not, List, Option, Some, None}
 use Rattle.std.specs.List.{AllByRecursion}
 use Rattle.std.specs.FinMap as tables
 use Rattle.nexthop_known.specs.declared.answer.Hop.{Hop}
@@ -52,20 +52,21 @@ pub record AreTablesOf {R : Type 0} (Is : Network → R → Type 0) (t : Tables 
   pub rows : (p : Network) (row : R) → IsRow t p row → Is p row
   pub losses : AllByRecursion (λ d. IsNameNumber d.number) t.deletions
 
-abbrev pub AreRulesIfAny : Option (List Rule) → Type 0
-AreRulesIfAny None = Unit {0}
-AreRulesIfAny (Some rules) = AreRules false rules
+-- rules of a file with such AS numbers
+abbrev pub AreRulesIfAny : Bool → Option (List Rule) → Type 0
+AreRulesIfAny as4 None = Unit {0}
+AreRulesIfAny as4 (Some rules) = AreRules as4 rules
 
-abbrev pub AreRulesOfWalk : Option (Walked (List Rule)) → Type 0
-AreRulesOfWalk None = Unit {0}
-AreRulesOfWalk (Some w) = AreRules false w.next × AreRulesIfAny w.waiting
+abbrev pub AreRulesOfWalk : Bool → Option (Walked (List Rule)) → Type 0
+AreRulesOfWalk as4 None = Unit {0}
+AreRulesOfWalk as4 (Some w) = AreRules as4 w.next × AreRulesIfAny as4 w.waiting
 
--- Each row of a chain was heard of its peer, and the rules of its filter are in their ranges: those in force, those of a walk, and
--- those that wait.
+-- Each row of a chain was heard of its peer, read by this profile, and the rules of its filter are in their ranges: those in force, those
+-- of a walk, and those that wait.
 pub record IsPrintableChain (profile : Profile) (c : Chained) : Type 0 where
   pub tables : AreTablesOf (IsHeardRow profile (not c.peer.internal)) c.incoming.tables
-  pub in_force : AreRules false c.filter.in_force
-  pub walk : AreRulesOfWalk c.filter.walk
+  pub in_force : AreRules profile.as4 c.filter.in_force
+  pub walk : AreRulesOfWalk profile.as4 c.filter.walk
 
 -- the answers about each next hop, that in force and the fresh one, are such
 abbrev pub AreAnswers : {A : Type 0} → (A → Type 0) → Hops A → Type 0

@@ -5,11 +5,11 @@ use Rattle.bgp_wire.specs.declared.message.Message.{Message}
 use Rattle.bgp_wire.specs.declared.message.Message.TheVariants as messages
 use Rattle.bgp_wire.specs.Updates.{fault}
 use Rattle.bgp_wire.specs.Grammar.{IsFrame, Reads, OneAnswer}
-use Rattle.event_text.specs.declared.event.Event.TheVariants.{Nothing, Local, Peer, Up, Down, Bgp, FilterIn, FilterOut, RouteAdd, RouteDel, Lose, Redist, Cover, Settled, Idle, Work, Ask, Show}
+use Rattle.event_text.specs.declared.event.Event.TheVariants.{Nothing, As4, Revised, Local, Peer, Up, Down, Bgp, FilterIn, FilterOut, RouteAdd, RouteDel, Lose, Redist, Cover, Settled, Idle, Work, Ask, Show}
 use Rattle.event_text.specs.declared.declared.DeclaredPeer.{DeclaredPeer}
 use Rattle.event_text.specs.Declarations.{peer_at, with_session, without_session}
 use Rattle.link_change.specs.Rows.{is_empty_map}
-use Rattle.live_state.specs.Messages.{plain, is_ending, ends_session}
+use Rattle.live_state.specs.Messages.{is_ending, ends_session}
 use Rattle.live_state.specs.Declared.{declared_up, declared_down, declared_heard}
 use Rattle.live_state.specs.Lives.{with_losses, LiveState, HearsIfUp, HearsFrom, heard, ended, begun_if_down, ended_if_up, LiveAfter, same_protocol}
 use Rattle.live_state.specs.Laws.{SessionsEnd, DeclarationsFollow}
@@ -25,22 +25,21 @@ EachAnswers = (p : Profile) (external : Bool) (octets : List ℕ) → OneAnswer 
 type_at : (octets : List ℕ) (kind : ℕ) (body : List ℕ) → IsFrame octets kind body → get_or octets 18 0 ≡ kind
 type_at octets kind body is = ap (λ o. get_or o 18 0) is.parts
 
-no_fault : (external : Bool) (octets : List ℕ) (m : Message) → OneAnswer plain external octets → Reads plain external octets m → is_some (fault plain octets) ≡ false
-no_fault external octets m one reads =
-    elim one as (λ _. is_some (fault plain octets) ≡ false) [ inl w ↦ ap is_some w.0 | inr w ↦ absurd (w.2 m reads) ]
+module _ (profile : Profile) (external : Bool) (octets : List ℕ) where
+  no_fault : (m : Message) → OneAnswer profile external octets → Reads profile external octets m → is_some (fault profile octets) ≡ false
+  no_fault m one reads = elim one as (λ _. is_some (fault profile octets) ≡ false) [ inl w ↦ ap is_some w.0 | inr w ↦ absurd (w.2 m reads) ]
 
--- octets that are a message of this type
-of_type : (external : Bool) (octets : List ℕ) (kind : ℕ) (body : List ℕ) (m : Message) → EachAnswers → Reads plain external octets m → IsFrame octets kind body → (kind == 3) ≡ ends_session octets
-of_type external octets kind body m one reads is =
-    sym (ap (λ b. b || get_or octets 18 0 == 3) (no_fault external octets m (one plain external octets) reads)
-    ∙ ap (λ k. k == 3) (type_at octets kind body is))
+  -- octets that are a message of this type
+  of_type : (kind : ℕ) (body : List ℕ) (m : Message) → EachAnswers → Reads profile external octets m → IsFrame octets kind body → (kind == 3) ≡ ends_session profile octets
+  of_type kind body m one reads is =
+      sym (ap (λ b. b || get_or octets 18 0 == 3) (no_fault m (one profile external octets) reads) ∙ ap (λ k. k == 3) (type_at octets kind body is))
 
 pub ends : EachAnswers → SessionsEnd
-ends one p octets (messages.Update u) says = of_type (not p.words.internal) octets 2 _ (messages.Update u) one says says.1.frame
-ends one p octets messages.Keepalive says = of_type (not p.words.internal) octets 4 _ messages.Keepalive one says says
-ends one p octets messages.Skip says = of_type (not p.words.internal) octets 1 _ messages.Skip one says says.1
-ends one p octets messages.Notification says = of_type (not p.words.internal) octets 3 _ messages.Notification one says says.1
-ends one p octets (messages.Notify n) says = sym (ap (λ f. is_some f || get_or octets 18 0 == 3) says)
+ends one profile p octets (messages.Update u) says = of_type profile (not p.words.internal) octets 2 _ (messages.Update u) one says says.1.frame
+ends one profile p octets messages.Keepalive says = of_type profile (not p.words.internal) octets 4 _ messages.Keepalive one says says
+ends one profile p octets messages.Skip says = of_type profile (not p.words.internal) octets 1 _ messages.Skip one says says.1
+ends one profile p octets messages.Notification says = of_type profile (not p.words.internal) octets 3 _ messages.Notification one says says.1
+ends one profile p octets (messages.Notify n) says = sym (ap (λ f. is_some f || get_or octets 18 0 == 3) says)
 
 -- ---- what events leave
 up_follows : (l : LiveState) (k : ℕ) (o : Option DeclaredPeer) → (begun_if_down l k o).declared ≡ declared_up l.declared k o
@@ -66,11 +65,11 @@ heard_leaves l k messages.Skip = refl
 heard_leaves l k messages.Notification = refl
 heard_leaves l k (messages.Notify n) = refl
 
-heard_by : (l : LiveState) (k : ℕ) (p : DeclaredPeer) (octets : List ℕ) (up : Bool) (l' : LiveState) → SessionsEnd → HearsIfUp l k p octets up l' → l'.declared ≡ cond (up && ends_session octets) (without_session l.declared k) l.declared
+heard_by : (l : LiveState) (k : ℕ) (p : DeclaredPeer) (octets : List ℕ) (up : Bool) (l' : LiveState) → SessionsEnd → HearsIfUp l k p octets up l' → l'.declared ≡ cond (up && ends_session l.declared.profile octets) (without_session l.declared k) l.declared
 heard_by l k p octets false l' law hears = ap (λ s. s.declared) hears
 heard_by l k p octets true l' law hears =
     ap (λ s. s.declared) hears.2 ∙ heard_leaves l k hears.0
-    ∙ ap (λ b. cond b (without_session l.declared k) l.declared) (law p octets hears.0 hears.1)
+    ∙ ap (λ b. cond b (without_session l.declared k) l.declared) (law l.declared.profile p octets hears.0 hears.1)
 
 heard_follows : (l : LiveState) (k : ℕ) (o : Option DeclaredPeer) (octets : List ℕ) (l' : LiveState) → SessionsEnd → HearsFrom l k o octets l' → l'.declared ≡ declared_heard l.declared k octets o
 heard_follows l k None octets l' law hears = absurd hears
@@ -78,6 +77,8 @@ heard_follows l k (Some p) octets l' law hears = heard_by l k p octets p.up l' l
 
 pub follows : SessionsEnd → DeclarationsFollow
 follows law l Nothing l' after = ap (λ s. s.declared) after
+follows law l As4 l' after = ap (λ s. s.declared) after
+follows law l Revised l' after = ap (λ s. s.declared) after
 follows law l (Local words) l' after = ap (λ s. s.declared) after
 follows law l (Peer k words) l' after = ap (λ s. s.declared) after
 follows law l (Up k) l' after = ap (λ s. s.declared) after ∙ up_follows l k (peer_at k l.declared.peers)
@@ -140,6 +141,8 @@ losses_at f a b e = absurd (cc)
 
 pub losses_follow : (l : LiveState) (event : Event) (l' : LiveState) → LiveAfter l event l' → (proto : Proto) → l'.losses proto ≤ l.losses proto + 1
 losses_follow l Nothing l' after = same_losses l l' after
+losses_follow l As4 l' after = session_losses l l' (ap (λ s. s.losses) after)
+losses_follow l Revised l' after = session_losses l l' (ap (λ s. s.losses) after)
 losses_follow l (Local words) l' after = session_losses l l' (ap (λ s. s.losses) after)
 losses_follow l (Peer k words) l' after = session_losses l l' (ap (λ s. s.losses) after)
 losses_follow l (Up k) l' after = session_losses l l' (ap (λ s. s.losses) after ∙ up_losses l k (peer_at k l.declared.peers))

@@ -11,13 +11,13 @@ use Rattle.addr4.specs.Prefixes.{Network, block}
 use Rattle.bgp_attr.specs.declared.attrs.Attrs.{Attrs}
 use Rattle.bgp_attr.specs.declared.route.Route.{Route}
 use Rattle.bgp_attr.specs.declared.speaker.Speaker.{Speaker}
+use Rattle.bgp_attr.specs.declared.speaker.Profile.{Profile}
 use Rattle.bgp_attr.specs.declared.speaker.Neighbour.{Neighbour}
 use Rattle.link_change.specs.Rows.{Rows}
 use Rattle.policy_rules.specs.declared.rule.Rule.{Rule}
 use Rattle.filter_bank.specs.Filtered.{filtered}
 use Rattle.filter_bank.specs.Outgoing.{outgoing}
 use Rattle.peer_out.specs.Forms.{as_sent}
-use Rattle.live_state.specs.Messages.{plain}
 use Rattle.rib_route.specs.declared.Proto.{Proto}
 use Rattle.rib_route.specs.declared.Proto.TheVariants.{Connected, Static, Ospf, Rip}
 use Rattle.rib_route.specs.declared.rows.Interior.{Interior}
@@ -145,9 +145,9 @@ since_local None rows = None
 since_local (Some me) rows = Some rows
 
 -- ---- what peers are sent
--- by the words of this speaker and of the peer, and by the latest rules of its outgoing filter (sections 9.1.3 and 9.2)
-abbrev pub sent_rows : Speaker → Neighbour → List Rule → Rows Route → Rows Attrs
-sent_rows me peer rules best p = outgoing (as_sent plain me (not peer.internal)) peer (Some rules) p (best p)
+-- by the profile, the words of this speaker and of the peer, and by the latest rules of its outgoing filter (sections 9.1.3 and 9.2)
+abbrev pub sent_rows : Profile → Speaker → Neighbour → List Rule → Rows Route → Rows Attrs
+sent_rows profile me peer rules best p = outgoing (as_sent profile me (not peer.internal)) peer (Some rules) p (best p)
 
 -- the links of a session are live while it is up
 abbrev pub in_session : {V : Type 0} → Option Speaker → Option DeclaredPeer → ℕ → (Speaker → Neighbour → Rows V) → Option (Rows V)
@@ -222,8 +222,8 @@ from_scratch l Ebgp = option_map (valued external_value) (since_local l.declared
 from_scratch l Ibgp = option_map (valued external_value) (since_local l.declared.speaker (external_of l (λ w. w.internal)))
 from_scratch l Ext = option_map (valued external_value) (since_local l.declared.speaker (external_of l (λ w. true)))
 from_scratch l (Read j s) = option_map route_rows (in_session l.declared.speaker (peer_at j l.declared.peers) s (λ me w. best_of l))
-from_scratch l (Outf j s) = option_map attrs_rows (in_session l.declared.speaker (peer_at j l.declared.peers) s (λ me w. sent_rows me w (l.outgoing j) (best_of l)))
-from_scratch l (Adv j s) = option_map attrs_rows (in_session l.declared.speaker (peer_at j l.declared.peers) s (λ me w. sent_rows me w (l.outgoing j) (best_of l)))
+from_scratch l (Outf j s) = option_map attrs_rows (in_session l.declared.speaker (peer_at j l.declared.peers) s (λ me w. sent_rows l.declared.profile me w (l.outgoing j) (best_of l)))
+from_scratch l (Adv j s) = option_map attrs_rows (in_session l.declared.speaker (peer_at j l.declared.peers) s (λ me w. sent_rows l.declared.profile me w (l.outgoing j) (best_of l)))
 from_scratch l (Org proto) = option_map interior_rows (since_local l.declared.speaker (tables.get (l.interior proto)))
 from_scratch l Low = option_map interior_rows (since_local l.declared.speaker (least_rows l.interior (origins Low)))
 from_scratch l Dyn = option_map interior_rows (since_local l.declared.speaker (least_rows l.interior (origins Dyn)))

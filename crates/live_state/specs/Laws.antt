@@ -2,6 +2,7 @@
 use Rattle.std.specs.Prelude.{◌≡◌, ◌≤◌, ◌<◌, ◌⊎◌, ℕ, List, Contains, Option, Some, None}
 use Rattle.std.specs.FinMap as tables
 use Rattle.addr4.specs.Prefixes.{Network, IsMasked, Holds}
+use Rattle.bgp_attr.specs.declared.speaker.Profile.{Profile}
 use Rattle.link_change.specs.Rows.{Rows}
 use Rattle.bgp_wire.specs.declared.message.Message.{Message}
 use Rattle.event_text.specs.declared.event.Event.{Event}
@@ -15,9 +16,9 @@ use Rattle.live_state.specs.Declared.{declared_after}
 use Rattle.live_state.specs.Lives.{LiveState, LiveAfter, Interiors}
 use Rattle.live_state.specs.Decided.{distance_of, least_rows, longest_match, lesser_of}
 
--- What octets say ends the session exactly where they are seen to end it.
+-- In each profile, what octets say ends the session exactly where they are seen to end it.
 abbrev pub SessionsEnd : Type 0
-SessionsEnd = (p : DeclaredPeer) (octets : List ℕ) (message : Message) → Says p octets message → is_ending message ≡ ends_session octets
+SessionsEnd = (profile : Profile) (p : DeclaredPeer) (octets : List ℕ) (message : Message) → Says profile p octets message → is_ending message ≡ ends_session profile octets
 
 -- The declarations after an event are told by those before it.
 abbrev pub DeclarationsFollow : Type 0

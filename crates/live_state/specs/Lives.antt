@@ -9,9 +9,9 @@ use Rattle.bgp_attr.specs.declared.attrs.Attrs.{Attrs}
 use Rattle.bgp_wire.specs.declared.message.Message.{Message}
 use Rattle.bgp_wire.specs.declared.message.Message.TheVariants as messages
 use Rattle.event_text.specs.declared.event.Event.{Event}
-use Rattle.event_text.specs.declared.event.Event.TheVariants.{Nothing, Local, Peer, Up, Down, Bgp, FilterIn, FilterOut, RouteAdd, RouteDel, Lose, Redist, Cover, Settled, Idle, Work, Ask, Show}
+use Rattle.event_text.specs.declared.event.Event.TheVariants.{Nothing, As4, Revised, Local, Peer, Up, Down, Bgp, FilterIn, FilterOut, RouteAdd, RouteDel, Lose, Redist, Cover, Settled, Idle, Work, Ask, Show}
 use Rattle.event_text.specs.declared.declared.DeclaredPeer.{DeclaredPeer}
-use Rattle.event_text.specs.Declarations.{Declaration, no_declaration, peer_at, with_speaker, with_peer, with_session, without_session}
+use Rattle.event_text.specs.Declarations.{Declaration, no_declaration, peer_at, with_profile, with_four_octets, with_revised, with_speaker, with_peer, with_session, without_session}
 use Rattle.policy_rules.specs.declared.rule.Rule.{Rule}
 use Rattle.rib_route.specs.declared.Proto.{Proto}
 use Rattle.rib_route.specs.declared.rows.Interior.{Interior}
@@ -106,7 +106,7 @@ with_redistributed all proto on other = if same_protocol other proto then on els
 -- ---- events
 abbrev pub HearsIfUp : LiveState → ℕ → DeclaredPeer → List ℕ → Bool → LiveState → Type 0
 HearsIfUp l k p octets false l' = l' ≡ l
-HearsIfUp l k p octets true l' = (message : Message) × Says p octets message × (l' ≡ heard l k message)
+HearsIfUp l k p octets true l' = (message : Message) × Says l.declared.profile p octets message × (l' ≡ heard l k message)
 
 abbrev pub HearsFrom : LiveState → ℕ → Option DeclaredPeer → List ℕ → LiveState → Type 0
 HearsFrom l k None octets l' = ⊥
@@ -123,6 +123,8 @@ ended_if_up l k (Some p) = if p.up then ended l k else l
 -- the live state after an event
 abbrev pub LiveAfter : LiveState → Event → LiveState → Type 0
 LiveAfter l Nothing l' = l' ≡ l
+LiveAfter l As4 l' = l' ≡ record l { declared = with_profile l.declared (with_four_octets l.declared.profile) }
+LiveAfter l Revised l' = l' ≡ record l { declared = with_profile l.declared (with_revised l.declared.profile) }
 LiveAfter l (Local words) l' = l' ≡ record l { declared = with_speaker l.declared words }
 LiveAfter l (Peer k words) l' = l' ≡ record l { declared = with_peer l.declared k words }
 LiveAfter l (Up k) l' = l' ≡ begun_if_down l k (peer_at k l.declared.peers)

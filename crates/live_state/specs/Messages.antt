@@ -1,5 +1,5 @@
 -- What a peer says: the message that octets are, what an UPDATE does to its routes, and which messages end the session (RFC 4271,
--- sections 3.1, 4 and 6).
+-- sections 3.1, 4 and 6; and, where the profile says so, RFC 6793 and RFC 7606).
 use Rattle.std.specs.Prelude.{ℕ, ◌==◌, ◌||◌, Bool, true, false, not, List, ◌++◌, map, filter, slice_index, Option, None, is_some}
 use Rattle.addr4.specs.Prefixes.{Network}
 use Rattle.bgp_attr.specs.Hosts.{is_host_prefix}
@@ -12,13 +12,10 @@ use Rattle.bgp_wire.specs.Updates.{fault}
 use Rattle.bgp_wire.specs.Grammar.{without, Answers}
 use Rattle.event_text.specs.declared.declared.DeclaredPeer.{DeclaredPeer}
 
--- AS numbers have two octets, and errors are handled by section 6.3
-abbrev pub plain : Profile
-plain = record { as4 = false; revised = false }
-
--- what octets from a peer say: the message that they are, or the NOTIFICATION that answers their first fault (sections 4 and 6)
-abbrev pub Says : DeclaredPeer → List ℕ → Message → Type 0
-Says p octets message = Answers plain (not p.words.internal) octets message
+-- what octets from a peer say, read by the profile: the message that they are, or the NOTIFICATION that answers their first fault
+-- (sections 4 and 6)
+abbrev pub Says : Profile → DeclaredPeer → List ℕ → Message → Type 0
+Says profile p octets message = Answers profile (not p.words.internal) octets message
 
 -- ---- what an UPDATE does
 -- an announced prefix with its attributes
@@ -43,5 +40,5 @@ is_ending messages.Notification = true
 is_ending (messages.Notify n) = true
 
 -- whether octets end the session: they have a fault, or their type is that of a NOTIFICATION
-abbrev pub ends_session : List ℕ → Bool
-ends_session octets = is_some (fault plain octets) || slice_index octets 18 == 3
+abbrev pub ends_session : Profile → List ℕ → Bool
+ends_session profile octets = is_some (fault profile octets) || slice_index octets 18 == 3

@@ -25,3 +25,6 @@ returns-clause-take c = prints.take_is_printed
 
 pub returns-clause-stays : goal.returns-clause-stays
 returns-clause-stays c = prints.printing_stays
+
+pub returns-clause-empty : goal.returns-clause-empty
+returns-clause-empty c = kept.empty_is_printed
