@@ -3,10 +3,11 @@ use Rattle.std.proofs.Common.{◌≡◌, ℕ, ◌+◌, ◌<◌, ◌≤◌, Bool,
 use Rattle.std.specs.FinMap.{get-empty, len-empty}
 use Rattle.std.specs.Ordering.{nat_cmp}
 use Rattle.in_chain.specs.Chains.{Chained}
+use Rattle.peer_side.specs.Peers.{chain_at}
 use Rattle.journal_text.specs.declared.line.Line.{Line}
 use Rattle.journal_text.specs.Journals.{Journaled}
 use Rattle.event_text.specs.declared.event.Event.{Event}
-use Rattle.event_text.specs.Declarations.{Declaration, IsDeclaration, peer_at, refusal}
+use Rattle.event_text.specs.Declarations.{Declaration, IsDeclaration, plain, peer_at, refusal}
 use Rattle.event_text.specs.declared.declared.DeclaredPeer.{DeclaredPeer}
 use Rattle.event_text.specs.WellFormed.{IsWellFormed}
 use Rattle.link_change.proofs.RowLemmas.{empty_rows}
@@ -19,7 +20,7 @@ use Rattle.router_core.specs.Moments.{Moment, Cored, first_moment, best_of, Give
 use Rattle.router_core.specs.Laws.{RowsAtRestAreExact, FirstHeldTells}
 use Rattle.router_core.specs.Holding.{first_held}
 use Rattle.router_core.specs.Scratch.{IsExactAtRest, Tells}
-use Rattle.router_core.specs.Stands.{Stands, AllHaveExits, HaveReaders, CoreStands, Claim, Claims, EachChain, EachPeer, InteriorTree, OneSpeaker, Registered, SameCount, EachResolver, SameResolvers, AnswersAgree, HopsCounted, NoStrangers, SmallNumbers, EachRow, EachExit, QueueLeads, ExitsRead, PlainExits, OneSender, SameSessions, OneReader, ExternalExit, ExternalAgrees, ExternalStands, NothingOwn, NothingExternal, StandsAt, ExitsAt, Tie, Ties, here}
+use Rattle.router_core.specs.Stands.{Stands, AllHaveExits, HaveReaders, CoreStands, Claim, Claims, EachChain, EachPeer, InteriorTree, OneSpeaker, Registered, SameCount, EachResolver, SameResolvers, AnswersAgree, HopsCounted, NoStrangers, SmallNumbers, EachRow, EachExit, QueueLeads, ExitsRead, SameProfile, OneSender, SameSessions, OneReader, ExternalExit, ExternalAgrees, ExternalStands, NothingOwn, NothingExternal, StandsAt, ExitsAt, Tie, Ties, here}
 use Rattle.register_interest.specs.Interests.{interest_cmp}
 use Rattle.nexthop_resolver.specs.Resolving.{Resolving}
 use Rattle.nexthop_resolver.specs.declared.rows.Metric.{Metric}
@@ -34,6 +35,7 @@ use Rattle.router_core.specs.Printable.{ArePrinted, IsPrintableMoment}
 use Rattle.router_core.proofs.KeepLemmas.{acts_of}
 use Rattle.router_core.proofs.TurnWalks.{turn_same}
 use Rattle.router_core.proofs.ExitsUp.{event_exits}
+use Rattle.router_core.proofs.ProfileLemmas.{profile_after, profile_follows, nothing_printable}
 use Rattle.router_core.proofs.SessionLemmas.{reads_as}
 use Rattle.live_state.proofs.SessionLemmas.{losses_follow}
 use Rattle.rib_tree.proofs.NewLemmas.{of_new, int_empty}
@@ -47,14 +49,13 @@ use Rattle.router_core.proofs.PrintedBlocks.{fit_at, event_printed}
 use Rattle.journal_laws.proofs.PrintedRows.{none_printable}
 use Rattle.journal_laws.specs.Standing.{AreTablesOf, IsInteriorRow}
 use Rattle.addr4.specs.Prefixes.{Network}
-use Rattle.std.specs.List.{AllByRecursion}
 use Rattle.bgp_attr.specs.declared.route.Route.{Route}
-use Rattle.fanout_queue.specs.Readers.{unread_or_none}
 use Rattle.out_chain.specs.Chains.{OutChained}
 use Rattle.exit_side.proofs.LawLemmas.{stands_at_first as exits_at_first}
-use Rattle.exit_laws.specs.Printable.{IsBestChange, AreBestChanges, ArePrintableExits}
+use Rattle.exit_laws.specs.Printable.{ArePrintableExits}
+use Rattle.bgp_attr.specs.declared.speaker.Profile.{Profile}
+use Rattle.journal_laws.specs.Standing.{IsPrintableChain}
 use Rattle.exit_laws.proofs.PrintLemmas.{printing_stays}
-use Rattle.live_state.specs.Messages.{plain}
 use Rattle.link_change.specs.Rows.{Rows}
 use Rattle.nexthop_known.specs.declared.answer.Hop.{Hop}
 use Rattle.nexthop_resolver.specs.declared.rows.Way.{Way}
@@ -75,29 +76,37 @@ record Prints (m m' : Moment) (said : List Line) : Type 0 where
   lines : ArePrinted m.declared said
   peers : KeepsPeers m.declared m'.declared
 
-step_prints : (m m' : Moment) (event : Event) (turns : ℕ) (said : List Line) → DeclarationsFollow → Stands m → IsPrintableMoment m → AreNumbered 4294967294 m.tree → refusal m.declared event ≡ None → IsWellFormed event → HasStepped m event turns m' said
+step_prints : (m m' : Moment) (event : Event) (turns : ℕ) (said : List Line) → DeclarationsFollow → Stands m → IsPrintableMoment m → AreNumbered 4294967294 m.tree → refusal m.declared event ≡ None → IsWellFormed m.declared.profile.as4 event → HasStepped m event turns m' said
     → Prints m m' said
 step_prints m m' event turns said follow stands printable few admitted formed h =
-    let l = event_printed m stands printable few event said turns m' formed h.block in
+    let l = event_printed m stands printable few event said turns m' admitted formed h.block in
     let is : declared_after m.declared event ≡ m'.declared = sym (ap (λ (x : LiveState). x.declared) h.keeps.live ∙ follow (live_state m) event h.live h.after) in
     let d : Leaves m.declared m'.declared = subst (Leaves m.declared) is (event_leaves m.declared event printable.declared admitted formed) in
+    let profile : profile_after m.declared.profile event ≡ m'.declared.profile = profile_follows m.declared event ∙ ap (λ (x : Declaration). x.profile) is in
     record {
-      now = record { declared = d.declared; chains = l.chains; interior = l.interior; hops = l.hops; ways = l.ways; exits = printing_stays m.declared m'.declared m'.exits d.peers l.exits };
+      now = record {
+        declared = d.declared;
+        chains = subst (λ (f : Profile). (k : ℕ) (c : Chained) → chain_at k m'.chains ≡ Some c → IsPrintableChain f c) profile l.chains;
+        interior = l.interior;
+        hops = l.hops;
+        ways = l.ways;
+        exits = subst (λ (f : Profile). ArePrintableExits f (neighbours m'.declared) m'.exits) profile (printing_stays (profile_after m.declared.profile event) m.declared m'.declared m'.exits d.peers l.exits);
+      };
       lines = l.printed;
       peers = d.peers;
     }
 
 -- background work declares nothing
-pub work_prints : (m m' : Moment) (most : ℕ) → Stands m → IsPrintableMoment m → AreNumbered most m.tree → live_state m' ≡ live_state m → (Fit (neighbours m.declared) most m → Fit (neighbours m.declared) most m') → IsPrintableMoment m'
+pub work_prints : (m m' : Moment) (most : ℕ) → Stands m → IsPrintableMoment m → AreNumbered most m.tree → live_state m' ≡ live_state m → (Fit m.declared.profile (neighbours m.declared) most m → Fit m.declared.profile (neighbours m.declared) most m') → IsPrintableMoment m'
 work_prints m m' most stands printable few live fits =
     let x = fits (fit_at m stands printable most few) in
     record {
       declared = subst IsDeclaration (sym (ap (λ (l : LiveState). l.declared) live)) printable.declared;
-      chains = λ k c there. (x.chains k c there).0.printable;
+      chains = subst (λ (d : Declaration). (k : ℕ) (c : Chained) → chain_at k m'.chains ≡ Some c → IsPrintableChain d.profile c) (sym (ap (λ (l : LiveState). l.declared) live)) (λ k c there. (x.chains k c there).0.printable);
       interior = λ proto. (x.interior proto).printable;
       hops = x.metrics;
       ways = x.ways;
-      exits = subst (λ (d : Declaration). ArePrintableExits (neighbours d) m'.exits) (sym (ap (λ (l : LiveState). l.declared) live)) x.readers.exits;
+      exits = subst (λ (d : Declaration). ArePrintableExits d.profile (neighbours d) m'.exits) (sym (ap (λ (l : LiveState). l.declared) live)) x.readers.exits;
     }
 
 -- each row that no work holds up is the one from scratch
@@ -128,15 +137,15 @@ module _ (old : Cored) (m : Moment) (n : ℕ) (failed : Bool) (view : record { m
   pub few_losses : n < 4294967295 → AreNumbered 4294967294 m.tree
   few_losses few proto = let most = stood.numbered proto in omega (arith, few, most)
 
-  module _ (event : Event) (turns : ℕ) (m' : Moment) (before now : Journaled) (few : old.events < 4294967295) (admitted : refusal old.moment.declared event ≡ None) (formed : IsWellFormed event) (follow : DeclarationsFollow) (g : Gives (HasStepped m event turns m') before now) where
+  module _ (event : Event) (turns : ℕ) (m' : Moment) (before now : Journaled) (few : old.events < 4294967295) (admitted : refusal old.moment.declared event ≡ None) (formed : IsWellFormed old.moment.declared.profile.as4 event) (follow : DeclarationsFollow) (g : Gives (HasStepped m event turns m') before now) where
     prints : Prints m m' g.0
-    prints = step_prints m m' event turns g.0 follow stood.stands stood.printable (few_losses (subst (λ (c : Cored). c.events < 4294967295) (sym view) few)) (subst (λ (c : Cored). refusal c.moment.declared event ≡ None) (sym view) admitted) formed g.2
+    prints = step_prints m m' event turns g.0 follow stood.stands stood.printable (few_losses (subst (λ (c : Cored). c.events < 4294967295) (sym view) few)) (subst (λ (c : Cored). refusal c.moment.declared event ≡ None) (sym view) admitted) (subst (λ (c : Cored). IsWellFormed c.moment.declared.profile.as4 event) (sym view) formed) g.2
 
     pub core_stepped : CoreStands (cored m' (n + 1))
     core_stepped = record {
       stands = g.2.keeps.stands;
       printable = prints.now;
-      exits = event_exits m m' stood.exits event g.0 turns (ap (λ (l : LiveState). l.declared) g.2.keeps.live ∙ follow (live_state m) event g.2.live g.2.after) g.2.block;
+      exits = event_exits m m' stood.exits event g.0 turns stood.stands (subst (λ (c : Cored). refusal c.moment.declared event ≡ None) (sym view) admitted) (ap (λ (l : LiveState). l.declared) g.2.keeps.live ∙ follow (live_state m) event g.2.live g.2.after) g.2.block;
       numbered = λ proto.
           let was = stood.numbered proto in
           let more = losses_follow (live_state m) event g.2.live g.2.after proto in
@@ -147,7 +156,7 @@ module _ (old : Cored) (m : Moment) (n : ℕ) (failed : Bool) (view : record { m
     pub core_acts : Gives (Acts old.moment event turns m') before now
     core_acts = (g.0, g.1, subst (λ (c : Cored). Acts c.moment event turns m' g.0) view (acts_of m m' event turns g.0 g.2 prints.lines prints.peers))
 
-  pub core_worked : (m' : Moment) (said : List Line) → Keeps (live_state m) m m' said → HaveSameExits m m' → (Fit (neighbours m.declared) n m → Fit (neighbours m.declared) n m') → CoreStands (cored m' n)
+  pub core_worked : (m' : Moment) (said : List Line) → Keeps (live_state m) m m' said → HaveSameExits m m' → (Fit m.declared.profile (neighbours m.declared) n m → Fit m.declared.profile (neighbours m.declared) n m') → CoreStands (cored m' n)
   core_worked m' said work same fits = record {
     stands = work.stands;
     printable = work_prints m m' n stood.stands stood.printable stood.numbered work.live fits;
@@ -157,7 +166,7 @@ module _ (old : Cored) (m : Moment) (n : ℕ) (failed : Bool) (view : record { m
 
   pub core_turned : (task : Task) (m' : Moment) (before now : Journaled) (done : Done) → Comes task m m' before now done → CoreStands (cored m' n)
   core_turned task m' before now Nothing comes = subst (λ (x : Moment). CoreStands (cored x n)) (sym comes.1) (record { stands = stood.stands; printable = stood.printable; exits = stood.exits; numbered = stood.numbered })
-  core_turned task m' before now Taken g = core_worked m' g.0 g.2.work.keeps (turn_same task m g.0 m' g.2.turn) (λ fit. (turn_goes (neighbours m.declared) n task m g.0 m' g.2.turn fit).0)
+  core_turned task m' before now Taken g = core_worked m' g.0 g.2.work.keeps (turn_same task m g.0 m' g.2.turn) (λ fit. (turn_goes m.declared.profile (neighbours m.declared) n task m g.0 m' g.2.turn fit).0)
 
 -- ---- the first moment
 pub first_stands : ANewTreeStands → CoreStands (cored first_moment 0)
@@ -169,7 +178,7 @@ first_stands law = record {
     interior = new_printable;
     hops = λ k s at. absurd (let none = get-empty {X = Resolving Metric} nat_cmp k in cc);
     ways = λ a h at. absurd (let none = get-empty {X = Hop Way} nat_cmp a in cc);
-    exits = record { unread = nothing_unread; each = λ j c at. absurd (let none = get-empty {X = OutChained} nat_cmp j in cc) };
+    exits = nothing_printable plain (neighbours first_moment.declared);
   };
   exits = λ k p there up. absurd (let clash : ◌≡◌ {A = Option DeclaredPeer} None (Some p) = there in cc);
   numbered = of_new (λ b. b.losses ≤ 0) (λ k. omega arith);
@@ -177,9 +186,6 @@ first_stands law = record {
   where
     new_printable : (proto : Proto) → AreTablesOf IsInteriorRow (branch_of proto new_tree).tables
     new_printable = of_new (λ b. AreTablesOf IsInteriorRow b.tables) (λ k. none_printable IsInteriorRow)
-
-    nothing_unread : AreBestChanges (neighbours first_moment.declared) first_moment.exits.queue
-    nothing_unread reader = subst (λ (o : Option (List (Change Route))). AllByRecursion (IsBestChange (neighbours first_moment.declared)) (unread_or_none o)) (sym (get-empty nat_cmp reader)) tt
 
     own : (claim : Claim) → Claims first_moment claim
     own EachChain = λ k c at. absurd (let none = get-empty {X = Chained} nat_cmp k in cc)
@@ -196,7 +202,7 @@ first_stands law = record {
     own EachExit = (exits_at_first plain).sound
     own QueueLeads = λ reader unread at. absurd (let none = get-empty {X = List (Change Route)} nat_cmp reader in cc)
     own ExitsRead = (exits_at_first plain).stand (best_of first_moment)
-    own PlainExits = refl
+    own SameProfile = refl
     own OneSender = tt
     own SameSessions = λ k. subst (λ (o : Option OutChained). ExitsAt None first_moment.outgoing k None o) (sym (get-empty {X = OutChained} nat_cmp k)) tt
     own OneReader = tt

@@ -59,7 +59,7 @@ use Rattle.router_core.specs.declared.router.Phase.TheVariants as phases
 use Rattle.router_core.specs.Bests.{lent_rows}
 use Rattle.router_core.specs.Moments.{Moment, own_of, best_of, candidates_of, most_unread, read_rows_by, read_links, router_links, with_exits, with_rib}
 use Rattle.router_core.specs.Phases.{counts, unread_if, best_beyond}
-use Rattle.router_core.specs.Stands.{Stands, EachExit, QueueLeads, ExitsRead, PlainExits, SameSessions, OneReader, ExternalStands, ExitsAt, ReadsAs, ReadsOn}
+use Rattle.router_core.specs.Stands.{Stands, EachExit, QueueLeads, ExitsRead, SameProfile, SameSessions, OneReader, ExternalStands, ExitsAt, ReadsAs, ReadsOn}
 use Rattle.router_core.specs.Turns.{journal_lines}
 use Rattle.router_core.specs.Works.{IsUnit, Comes, Forwards}
 use Rattle.router_core.proofs.BestLemmas.{lent_is}
@@ -179,7 +179,7 @@ module _ (law : StrangersTake) (m : Moment) (r : ℕ) (change : Change Route) (q
         keeps = record {
           leads = subst (λ (es : List (Entry Value)). Leads (router_links m) es (router_links now)) (sym (entries_of_entries lines)) leads;
           live = refl;
-          stands = stands_forward m local.0 taken registry x stands local.1 t.agreed stays.sound all (stays.stand (best_of m) (stands.own ExitsRead)) (stands.own PlainExits) (stands.own SameSessions) reads_then external;
+          stands = stands_forward m local.0 taken registry x stands local.1 t.agreed stays.sound all (stays.stand (best_of m) (stands.own ExitsRead)) (stands.own SameProfile) (stands.own SameSessions) reads_then external;
           heard = heard_quiet m now (journal_lines lines) (unheard_joins (valued_change route_value links.ReadRib change) entries (changes_are_unheard links.ReadRib change.prefix _ _) (exit_unheard _ _ entries falls.leads)) refl;
         };
         falls = fewer;
@@ -279,9 +279,9 @@ module _ (m : Moment) (k : ℕ) (sent : Option (Change Attrs)) (e : Exited) (sai
         leads = subst (λ (es : List (Entry Value)). Leads (router_links m) es (router_links (with_exits m e))) (sym (ap entries_of t.turns.goes.lines ∙ said_entries t.chain t.turns.entries sent))
             (exits_lead m e (t.turns.entries ++ sending_entries t.chain sent) (λ r is. (kept r is).unread) t.leads);
         live = refl;
-        stands = stands_exits m e stands t.sound all_lead t.stand (ap (λ (x : Exited). x.profile) t.after ∙ stands.own PlainExits) sessions (strangers_read m.declared.speaker m.reader m.exits e kept (stands.own OneReader))
+        stands = stands_exits m e stands t.sound all_lead t.stand (ap (λ (x : Exited). x.profile) t.after ∙ stands.own SameProfile) sessions (strangers_read m.declared.speaker m.reader m.exits e kept (stands.own OneReader))
             (external_kept m e stands (λ r is. (kept r is).unread));
-        heard = turn_is_heard (neighbours m.declared) k (candidates_of m) (best_of m) sent m.exits e said (exits_declared m stands) t;
+        heard = turn_is_heard m.declared.profile (neighbours m.declared) k (candidates_of m) (best_of m) sent m.exits e said (exits_declared m stands) t;
       };
       falls = fewer_left;
       left = let a = fewer_left in omega (arith, a);

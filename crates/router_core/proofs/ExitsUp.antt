@@ -14,9 +14,9 @@ use Rattle.link_region.proofs.RegionLemmas.{by_bool}
 use Rattle.rib_route.specs.declared.Proto.{Proto}
 use Rattle.addr4.specs.Prefixes.{Network}
 use Rattle.event_text.specs.declared.event.Event.{Event}
-use Rattle.event_text.specs.declared.event.Event.TheVariants.{Nothing, Local, Peer, Up, Down, Bgp, FilterIn, FilterOut, RouteAdd, RouteDel, Lose, Redist, Cover, Settled, Idle, Work, Ask, Show}
+use Rattle.event_text.specs.declared.event.Event.TheVariants.{Nothing, As4, Revised, Local, Peer, Up, Down, Bgp, FilterIn, FilterOut, RouteAdd, RouteDel, Lose, Redist, Cover, Settled, Idle, Work, Ask, Show}
 use Rattle.event_text.specs.declared.declared.DeclaredPeer.{DeclaredPeer}
-use Rattle.event_text.specs.Declarations.{Declaration, peer_at, words_of, with_session, without_session, begun_at, ended_at}
+use Rattle.event_text.specs.Declarations.{Declaration, peer_at, refusal, words_of, with_session, without_session, begun_at, ended_at}
 use Rattle.event_text.proofs.Sessions.{KeepsWords, begun_words, ended_words}
 use Rattle.live_state.specs.Messages.{ends_session, changes_of}
 use Rattle.live_state.specs.Declared.{declared_after, declared_down, declared_heard}
@@ -29,7 +29,9 @@ use Rattle.exit_laws.proofs.ViewLemmas.{put_here, put_other, gone_other}
 use Rattle.peer_side.specs.Peers.{overdue_at}
 use Rattle.rib_tree.specs.Steps.{tree_overdue}
 use Rattle.router_core.specs.Moments.{Moment, with_exits, rules_to}
-use Rattle.router_core.specs.Stands.{AllHaveExits}
+use Rattle.router_core.specs.Stands.{AllHaveExits, Stands}
+use Rattle.router_core.proofs.BeforeLocal.{no_peer}
+use Rattle.live_state.proofs.AdmittedLemmas.{as4_is_first, revised_is_first}
 use Rattle.router_core.specs.Phases.{all_phases}
 use Rattle.router_core.specs.Blocks.{Declares, BySpeaker, Begins, Loses, ByPeer, BeginsIf, EndsIf, HearsIf, Hears, DropsRouteIf, IsBlock}
 use Rattle.router_core.specs.Works.{HaveSameExits}
@@ -142,7 +144,7 @@ only_down d k (Some p) j is = only_if p.up d k j is
 
 only_heard : (d : Declaration) (k : ℕ) (octets : List ℕ) (o : Option DeclaredPeer) → OnlyUp d (declared_heard d k octets o)
 only_heard d k octets None j is = is
-only_heard d k octets (Some p) j is = only_if (p.up && ends_session octets) d k j is
+only_heard d k octets (Some p) j is = only_if (p.up && ends_session d.profile octets) d k j is
 
 module _ (m m' : Moment) (all : AllHaveExits m) where
   by_peer : (P : DeclaredPeer → Type 0) (k : ℕ) (A : Type 0) → ((p : DeclaredPeer) → peer_at k m.declared.peers ≡ Some p → P p → A) → ByPeer P (peer_at k m.declared.peers) → A
@@ -189,26 +191,32 @@ module _ (m m' : Moment) (all : AllHaveExits m) where
   dropped_if true proto p said turns ups is = by_same m m' all ups (route_same m _ proto p _ said m' is.1)
   dropped_if false proto p said turns ups is = stays is.2
 
-  pub event_exits : (event : Event) (said : List Line) (turns : ℕ) → m'.declared ≡ declared_after m.declared event → IsBlock m event said turns m' → AllHaveExits m'
-  event_exits Nothing said turns declared is = stays is.2
-  event_exits (Local words) said turns declared is = by_same m m' all (λ j up. subst (IsUpIn j) declared up) (λ k. ap (λ (x : Moment). is_some (exit_at k x.exits)) is.1.after)
-  event_exits (Peer k words) said turns declared is = declares m.declared.speaker k words said turns is
-  event_exits (Up k) said turns declared is = by_peer (λ p. BeginsIf p.up m k p said turns m') k _ (λ p at begins. begun_if p.up k p said turns at begins) is
-  event_exits (Down k) said turns declared is =
+  -- no peer is declared
+  unpeered : ((k : ℕ) → peer_at k m.declared.peers ≡ None) → m'.declared.peers ≡ m.declared.peers → AllHaveExits m'
+  unpeered none same j p at up = absurd (let clash : None ≡ Some p = sym (none j) ∙ ap (peer_at j) (sym same) ∙ at in cc)
+
+  pub event_exits : (event : Event) (said : List Line) (turns : ℕ) → Stands m → refusal m.declared event ≡ None → m'.declared ≡ declared_after m.declared event → IsBlock m event said turns m' → AllHaveExits m'
+  event_exits Nothing said turns stands admitted declared is = stays is.2
+  event_exits As4 said turns stands admitted declared is = unpeered (no_peer m stands (as4_is_first m.declared admitted)) (ap (λ (x : Moment). x.declared.peers) is.2)
+  event_exits Revised said turns stands admitted declared is = unpeered (no_peer m stands (revised_is_first m.declared admitted)) (ap (λ (x : Moment). x.declared.peers) is.2)
+  event_exits (Local words) said turns stands admitted declared is = by_same m m' all (λ j up. subst (IsUpIn j) declared up) (λ k. ap (λ (x : Moment). is_some (exit_at k x.exits)) is.1.after)
+  event_exits (Peer k words) said turns stands admitted declared is = declares m.declared.speaker k words said turns is
+  event_exits (Up k) said turns stands admitted declared is = by_peer (λ p. BeginsIf p.up m k p said turns m') k _ (λ p at begins. begun_if p.up k p said turns at begins) is
+  event_exits (Down k) said turns stands admitted declared is =
       by_peer (λ p. EndsIf p.up m k p said turns m') k _ (λ p at ends. ended_if p.up k p said turns (λ j up. only_down m.declared k (peer_at k m.declared.peers) j (subst (IsUpIn j) declared up)) ends) is
-  event_exits (Bgp k octets) said turns declared is =
+  event_exits (Bgp k octets) said turns stands admitted declared is =
       by_peer (λ p. HearsIf p.up m k p octets said turns m') k _ (λ p at hears. heard_if p.up k p octets said turns (λ j up. only_heard m.declared k octets (peer_at k m.declared.peers) j (subst (IsUpIn j) declared up)) hears) is
-  event_exits (FilterIn k rules) said turns declared is = by_same m m' all (λ j up. subst (IsUpIn j) declared up) (exits_same m m' (ap (λ (x : Moment). x.exits) is.2.2))
-  event_exits (FilterOut k rules) said turns declared is = by_same m m' all (λ j up. subst (IsUpIn j) declared up)
+  event_exits (FilterIn k rules) said turns stands admitted declared is = by_same m m' all (λ j up. subst (IsUpIn j) declared up) (exits_same m m' (ap (λ (x : Moment). x.exits) is.2.2))
+  event_exits (FilterOut k rules) said turns stands admitted declared is = by_same m m' all (λ j up. subst (IsUpIn j) declared up)
       (λ i. ap (λ (x : Moment). is_some (exit_at i x.exits)) is.2.2 ∙ ap (λ (e : Exited). is_some (exit_at i e)) is.1.after ∙ same_edited k rules (exit_at k m.exits) m.exits refl i)
-  event_exits (RouteAdd p row) said turns declared is = by_same m m' all (λ j up. subst (IsUpIn j) declared up) (route_same m _ row.proto p _ said m' is.1)
-  event_exits (RouteDel proto p) said turns declared is = dropped_if _ proto p said turns (λ j up. subst (IsUpIn j) declared up) is
-  event_exits (Lose proto) said turns declared is = by_same m m' all (λ j up. subst (IsUpIn j) declared up)
+  event_exits (RouteAdd p row) said turns stands admitted declared is = by_same m m' all (λ j up. subst (IsUpIn j) declared up) (route_same m _ row.proto p _ said m' is.1)
+  event_exits (RouteDel proto p) said turns stands admitted declared is = dropped_if _ proto p said turns (λ j up. subst (IsUpIn j) declared up) is
+  event_exits (Lose proto) said turns stands admitted declared is = by_same m m' all (λ j up. subst (IsUpIn j) declared up)
       (λ k. ap (λ (x : Moment). is_some (exit_at k x.exits)) is.1.after ∙ first_same (tree_overdue proto m.tree) m is.1.first is.1.room is.1.runs k)
-  event_exits (Redist proto on) said turns declared is = by_same m m' all (λ j up. subst (IsUpIn j) declared up) (exits_same m m' (ap (λ (x : Moment). x.exits) is.2))
-  event_exits (Cover addr) said turns declared is = stays is.1
-  event_exits (Settled p) said turns declared is = stays is.1
-  event_exits Idle said turns declared is = by_same m m' all (λ j up. subst (IsUpIn j) declared up) (phases_same all_phases m is.inner turns m' is.runs)
-  event_exits (Work task n) said turns declared is = by_same m m' all (λ j up. subst (IsUpIn j) declared up) (turns_same turns task m is.inner m' is.taken)
-  event_exits (Ask link p) said turns declared is = stays is.2
-  event_exits (Show link) said turns declared is = stays is.1
+  event_exits (Redist proto on) said turns stands admitted declared is = by_same m m' all (λ j up. subst (IsUpIn j) declared up) (exits_same m m' (ap (λ (x : Moment). x.exits) is.2))
+  event_exits (Cover addr) said turns stands admitted declared is = stays is.1
+  event_exits (Settled p) said turns stands admitted declared is = stays is.1
+  event_exits Idle said turns stands admitted declared is = by_same m m' all (λ j up. subst (IsUpIn j) declared up) (phases_same all_phases m is.inner turns m' is.runs)
+  event_exits (Work task n) said turns stands admitted declared is = by_same m m' all (λ j up. subst (IsUpIn j) declared up) (turns_same turns task m is.inner m' is.taken)
+  event_exits (Ask link p) said turns stands admitted declared is = stays is.2
+  event_exits (Show link) said turns stands admitted declared is = stays is.1

@@ -37,9 +37,9 @@ use Rattle.hop_side.proofs.LawLemmas.{strangers_agree}
 use Rattle.peer_side.specs.Peers.{chain_at}
 use Rattle.event_text.specs.Declarations.{peer_at}
 use Rattle.router_core.specs.declared.router.Done.TheVariants.{Taken}
-use Rattle.router_core.specs.Moments.{Moment, plain, best_of, read_of, read_rows_by, forward_by, parts, router_links, with_exits, with_rib}
+use Rattle.router_core.specs.Moments.{Moment, best_of, read_of, read_rows_by, forward_by, parts, router_links, with_exits, with_rib}
 use Rattle.router_core.specs.Phases.{table_beyond, external_beyond}
-use Rattle.router_core.specs.Stands.{Stands, Claim, Claims, EachResolver, SameResolvers, AnswersAgree, NoStrangers, SmallNumbers, EachExit, QueueLeads, ExitsRead, PlainExits, SameSessions, OneReader, ExternalExit, ExternalAgrees, ExternalStands, NothingExternal, Tie, Ties, Registered, here, ExitsAt, ReadsOn}
+use Rattle.router_core.specs.Stands.{Stands, Claim, Claims, EachResolver, SameResolvers, AnswersAgree, NoStrangers, SmallNumbers, EachExit, QueueLeads, ExitsRead, SameProfile, SameSessions, OneReader, ExternalExit, ExternalAgrees, ExternalStands, NothingExternal, Tie, Ties, Registered, here, ExitsAt, ReadsOn}
 use Rattle.router_core.specs.Turns.{journal_lines}
 use Rattle.router_core.specs.Works.{IsUnit, Comes}
 use Rattle.router_core.proofs.HeardSteps.{heard_quiet}
@@ -79,7 +79,7 @@ strangers_stay : (m : Moment) (r : Registry Interior) → Stands m → KeepsOthe
 strangers_stay m r stands keeps k other none s = ap is_some (keeps.interests (record { subnet = s; client = k }) other) ∙ stands.own NoStrangers k other none s
 
 -- ---- what stands then: the exits of peers and the RIB's exit became these
-pub stands_forward : (m : Moment) (me : Speaker) (e : Exited) (r : Registry Interior) (x : RibExit) → Stands m → m.declared.speaker ≡ Some me → KeepsAgreed m.registry r x → IsExits e → AllLead e.queue (best_of m) → AllStand (best_of m) e → e.profile ≡ plain
+pub stands_forward : (m : Moment) (me : Speaker) (e : Exited) (r : Registry Interior) (x : RibExit) → Stands m → m.declared.speaker ≡ Some me → KeepsAgreed m.registry r x → IsExits e → AllLead e.queue (best_of m) → AllStand (best_of m) e → e.profile ≡ m.declared.profile
     → ((k : ℕ) → ExitsAt m.declared.speaker m.outgoing k (peer_at k m.declared.peers) (exit_at k e)) → ReadsOn m.declared.speaker m.reader e → StandsOver (read_rows_by e.queue m.reader (best_of m)) x → Stands (with_rib (with_exits m e) r x)
 stands_forward m me e r x stands since agreed sound all stand profile sessions reader external = record { own = own; at = at }
   where
@@ -89,7 +89,7 @@ stands_forward m me e r x stands since agreed sound all stand profile sessions r
     own EachExit = sound
     own QueueLeads = all
     own ExitsRead = stand
-    own PlainExits = profile
+    own SameProfile = profile
     own SameSessions = sessions
     own OneReader = reader
     own ExternalExit = agreed.sound
@@ -128,7 +128,7 @@ module _ (m : Moment) (r : Registry Interior) (x : RibExit) (sent : Option (Chan
       keeps = record {
         leads = subst (λ (es : List (Entry Value)). Leads (router_links m) es (router_links (with_rib m r x))) (sym (entries_of_entries entries)) (forward_leads m local.0 r x entries local.1 t.leads);
         live = refl;
-        stands = stands_forward m local.0 m.exits r x stands local.1 t.agreed (stands.own EachExit) (stands.own QueueLeads) (stands.own ExitsRead) (stands.own PlainExits) (stands.own SameSessions) (stands.own OneReader)
+        stands = stands_forward m local.0 m.exits r x stands local.1 t.agreed (stands.own EachExit) (stands.own QueueLeads) (stands.own ExitsRead) (stands.own SameProfile) (stands.own SameSessions) (stands.own OneReader)
             (t.stands (read_of m) (stands.own ExternalStands));
         heard = heard_quiet m (with_rib m r x) (journal_lines entries) (exit_unheard _ _ entries t.leads) refl;
       };

@@ -1,5 +1,6 @@
 -- The prefixes of an UPDATE, one after the other.
 use Rattle.std.proofs.Common.{◌≡◌, ℕ, ◌+◌, ◌<◌, ◌≤◌, zero, suc, arith, Bool, true, false, cond, List, [], ◌∷◌, ◌++◌, Option, Some, get_or, length, take, refl, sym, ap, subst, ◌∙◌, append_assoc}
+use Rattle.bgp_attr.specs.declared.speaker.Profile.{Profile}
 use Rattle.std.proofs.lemmas.List.{append-nil, take_more}
 use Rattle.addr4.specs.Prefixes.{Network}
 use Rattle.bgp_attr.specs.declared.attrs.Attrs.{Attrs}
@@ -31,7 +32,7 @@ use Rattle.router_core.specs.Bests.{all_at, best_at, best_entries}
 use Rattle.router_core.proofs.BestLemmas.{best_quiet}
 use Rattle.router_core.specs.Printable.{IsHeard}
 use Rattle.router_core.proofs.HeardSteps.{heard_quiet, queue_views, falls_unheard}
-use Rattle.router_core.specs.Moments.{Moment, plain, own_of, best_of, with_chains, with_hops, with_exits, router_links}
+use Rattle.router_core.specs.Moments.{Moment, own_of, best_of, with_chains, with_hops, with_exits, router_links}
 use Rattle.router_core.proofs.HeardRows.{fed_heard, weld_heard, put_heard}
 use Rattle.router_core.proofs.QueueLemmas.{reader_live, exits_fall}
 use Rattle.live_state.specs.Lives.{LiveState, Routes, with_routes, routes_after, live_fed}
@@ -53,7 +54,7 @@ abbrev live_by : Moment → (ℕ → Routes) → LiveState
 live_by m routes = record (live_state m) { routes = routes }
 
 -- a feed of a peer's chain, and what follows it, are one of the router
-fed_one : (k : ℕ) (p : Network) (row : Option Attrs) (sent : Option (Change Route)) (m : Moment) (fallen : Chains) (m' : Moment) (entries rest : List (Entry Value)) → Stands m → IsUpAt k m → ForSome row (MayBeHeard plain) → FeedsInward k p row sent m.chains fallen entries
+fed_one : (k : ℕ) (p : Network) (row : Option Attrs) (sent : Option (Change Route)) (m : Moment) (fallen : Chains) (m' : Moment) (entries rest : List (Entry Value)) → Stands m → IsUpAt k m → ForSome row (MayBeHeard m.declared.profile) → FeedsInward k p row sent m.chains fallen entries
     → SettlesPeer k sent (with_chains m fallen) m' rest → HaveFed k ((p, row) ∷ []) m m' (journal_lines (entries ++ rest))
 fed_one k p row sent m fallen m' entries rest stands up heard f w =
     subst (λ (n : Moment). HaveFed k ((p, row) ∷ []) m n (journal_lines (entries ++ rest))) (sym w.after)
@@ -76,7 +77,7 @@ fed_one k p row sent m fallen m' entries rest stands up heard f w =
             (external_agrees m stands k c m'.registry f.feeds.at w.below.agreed.others)
             (hops_fall m k fallen m'.chains m'.registry m'.hops stands w.below.agreed goes.counted quiet (resolver_there m stands k c f.feeds.at) (same_peers m k c c' m'.chains f.feeds.at put))
             (exits_fall m after w.decided.best p stands
-            (put_heard k c' m.chains m'.chains put (weld_heard (fed c p row) (fed_heard c p row heard (stands.own EachRow k c f.feeds.at))) (stands.own EachRow)) w.queued
+            (put_heard m.declared.profile k c' m.chains m'.chains put (weld_heard m.declared.profile (fed c p row) (fed_heard m.declared.profile c p row heard (stands.own EachRow k c f.feeds.at))) (stands.own EachRow)) w.queued
             (subst (λ (rows : Rows Route). IsSent (best_of m) rows p w.decided.best) (sym (best_quiet (own_of m) fallen m'.chains m'.hops w.welds.quiet)) decides) refl refl refl (λ rows over. over));
       };
     }))
@@ -115,11 +116,11 @@ fed_one k p row sent m fallen m' entries rest stands up heard f w =
         let earlier = weld_keeps k m.chains fallen m'.chains (fed f.feeds.chain p row) w.weld f.feeds.after w.welds (open_session peer.0) (f.before (open_session peer.0) peer.2.earlier) in
         record { words = peer.2.words; earlier = earlier; silent = silent_up peer.0.up (welded (fed f.feeds.chain p row)) is_up }
 
-pub one_fed : (k : ℕ) (p : Network) (row : Option Attrs) (sent : Option (Change Route)) (m v : Moment) (fallen : Chains) (m' : Moment) (before j now : Journaled) → v ≡ m → Stands m → IsUpAt k m → ForSome row (MayBeHeard plain) → Adds (FeedsInward k p row sent v.chains fallen) before j
+pub one_fed : (k : ℕ) (p : Network) (row : Option Attrs) (sent : Option (Change Route)) (m v : Moment) (fallen : Chains) (m' : Moment) (before j now : Journaled) → v ≡ m → Stands m → IsUpAt k m → ForSome row (MayBeHeard m.declared.profile) → Adds (FeedsInward k p row sent v.chains fallen) before j
     → Adds (SettlesPeer k sent (with_chains v fallen) m') j now → Pushes (HaveFed k ((p, row) ∷ []) m m') before now
 one_fed k p row sent m v fallen m' before j now view stands up heard f w =
     subst (λ (n : Moment). Pushes (HaveFed k ((p, row) ∷ []) n m') before now) view
-    (journal_lines (f.0 ++ w.0), adds_both before j now f.0 w.0 f.1 w.1, fed_one k p row sent v fallen m' f.0 w.0 (subst Stands (sym view) stands) (subst (IsUpAt k) (sym view) up) heard f.2 w.2)
+    (journal_lines (f.0 ++ w.0), adds_both before j now f.0 w.0 f.1 w.1, fed_one k p row sent v fallen m' f.0 w.0 (subst Stands (sym view) stands) (subst (IsUpAt k) (sym view) up) (subst (λ (n : Moment). ForSome row (MayBeHeard n.declared.profile)) (sym view) heard) f.2 w.2)
 
 -- the chain that was fed stands there
 pub fed_there : (k : ℕ) (p : Network) (row : Option Attrs) (sent : Option (Change Route)) (a fallen : Chains) (before j : Journaled) → Adds (FeedsInward k p row sent a fallen) before j → IsSome (chain_at k fallen)
@@ -169,6 +170,10 @@ module _ (k : ℕ) where
   pushed_more xs x m between m' before j now f g =
       pushes_join (HaveFed k xs m between) (HaveFed k (x ∷ []) between m') (HaveFed k (xs ++ x ∷ []) m m') (λ a b p q. fed_join xs (x ∷ []) m between m' a b p q) before j now f g
 
+-- and the profile stays
+pub fed_profile : (k : ℕ) (xs : List (Network × Option Attrs)) (m m' : Moment) (before now : Journaled) → Pushes (HaveFed k xs m m') before now → m.declared.profile ≡ m'.declared.profile
+fed_profile k xs m m' before now p = sym (ap (λ (l : LiveState). l.declared.profile) p.2.keeps.live)
+
 -- one change more
 pub take_pair : (xs : List (Network × Option Attrs)) (i : ℕ) (x : Network × Option Attrs) (row : Option Attrs) → i < length xs → x ≡ get_or xs i x → row ≡ x.1
     → take (i + 1) xs ≡ take i xs ++ (x.0, row) ∷ []
@@ -177,7 +182,7 @@ take_pair xs i x row below is same =
     ∙ ap (λ (r : Option Attrs). take i xs ++ (x.0, r) ∷ []) (sym same)
 
 -- and so is each of the prefixes
-pub heard_at : (xs : List (Network × Option Attrs)) (i : ℕ) (x : Network × Option Attrs) (row : Option Attrs) → i < length xs → x ≡ get_or xs i x → row ≡ x.1 → AreHeard xs → ForSome row (MayBeHeard plain)
-heard_at [] i x row below is same heard = absurd (omega (arith, below))
-heard_at (y ∷ xs) zero x row below is same heard = subst (λ (o : Option Attrs). ForSome o (MayBeHeard plain)) (sym (same ∙ ap (λ (z : Network × Option Attrs). z.1) is)) heard.0
-heard_at (y ∷ xs) (suc i) x row below is same heard = heard_at xs i x row (omega (arith, below)) is same heard.1
+pub heard_at : (profile : Profile) (xs : List (Network × Option Attrs)) (i : ℕ) (x : Network × Option Attrs) (row : Option Attrs) → i < length xs → x ≡ get_or xs i x → row ≡ x.1 → AreHeard profile xs → ForSome row (MayBeHeard profile)
+heard_at profile [] i x row below is same heard = absurd (omega (arith, below))
+heard_at profile (y ∷ xs) zero x row below is same heard = subst (λ (o : Option Attrs). ForSome o (MayBeHeard profile)) (sym (same ∙ ap (λ (z : Network × Option Attrs). z.1) is)) heard.0
+heard_at profile (y ∷ xs) (suc i) x row below is same heard = heard_at profile xs i x row (omega (arith, below)) is same heard.1

@@ -31,7 +31,7 @@ use Rattle.rib_exit.specs.Steps.{fib_entries}
 use Rattle.router_core.specs.Bests.{own_entries, best_entries, Queues}
 use Rattle.router_core.specs.Moments.{Moment, Policies}
 use Rattle.router_core.specs.Printable.{IsHeard}
-use Rattle.router_core.specs.Stands.{Stands, PlainExits, SameSessions, ExitsAt}
+use Rattle.router_core.specs.Stands.{Stands, SameProfile, SameSessions, ExitsAt}
 use Rattle.router_core.specs.Turns.{journal_lines, BelowInt}
 use Rattle.router_core.proofs.HopLemmas.{res_leads}
 use Rattle.router_core.proofs.QueueLemmas.{queue_chains}
@@ -41,12 +41,12 @@ abbrev pub AreQuiet : List Line → Type 0
 AreQuiet said = (entries_of said ≡ []) × AreUnheard said
 
 pub heard_quiet : (m m' : Moment) (said : List Line) → AreUnheard said → views_of m'.exits ≡ views_of m.exits → IsHeard m said m'
-heard_quiet m m' said unheard same = subst (λ (v : Views). Hears (neighbours m.declared) (views_of m.exits) said v) (sym same) (nothing_is_heard (neighbours m.declared) (views_of m.exits) said unheard)
+heard_quiet m m' said unheard same = subst (λ (v : Views). Hears m.declared.profile (neighbours m.declared) (views_of m.exits) said v) (sym same) (nothing_is_heard m.declared.profile (neighbours m.declared) (views_of m.exits) said unheard)
 
 pub heard_join : (a b c : Moment) (xs ys : List Line) → b.declared ≡ a.declared → IsHeard a xs b → IsHeard b ys c → IsHeard a (xs ++ ys) c
 heard_join a b c xs ys same x y =
-    hearing_joins (neighbours a.declared) (views_of a.exits) (views_of b.exits) (views_of c.exits) xs ys x
-    (subst (λ (d : Declaration). Hears (neighbours d) (views_of b.exits) ys (views_of c.exits)) same y)
+    hearing_joins a.declared.profile (neighbours a.declared) (views_of a.exits) (views_of b.exits) (views_of c.exits) xs ys x
+    (subst (λ (d : Declaration). Hears d.profile (neighbours d) (views_of b.exits) ys (views_of c.exits)) same y)
 
 pub same_views : (e e' : Exited) → e'.chains ≡ e.chains → views_of e' ≡ views_of e
 same_views e e' same = ap {B = Views} (λ (a : OutChains) (j : ℕ). sent_by (tables.get a j)) same
@@ -60,9 +60,9 @@ exit_words (Some me) policies j (Some p) c is = ap Some (sym is.words)
 exit_words (Some me) policies j None c is = absurd is
 exit_words None policies j p c is = absurd is
 
-pub exits_declared : (m : Moment) → Stands m → AreDeclared (neighbours m.declared) m.exits
+pub exits_declared : (m : Moment) → Stands m → AreDeclared m.declared.profile (neighbours m.declared) m.exits
 exits_declared m stands = record {
-  plain = stands.own PlainExits;
+  profile = stands.own SameProfile;
   words = λ j c at. exit_words m.declared.speaker m.outgoing j (peer_at j m.declared.peers) c (subst (λ (o : Option OutChained). ExitsAt m.declared.speaker m.outgoing j (peer_at j m.declared.peers) o) at (stands.own SameSessions j));
 }
 

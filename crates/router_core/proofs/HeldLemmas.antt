@@ -1,28 +1,21 @@
--- The first task that holds up a prefix: phase by phase, protocol by protocol, and by the numbers of peers.
-use Rattle.std.proofs.Common.{◌≡◌, ℕ, suc, ◌+◌, ◌-◌, ◌<◌, ◌≤◌, ◌||◌, Bool, true, false, List, ◌++◌, length, drop, get_or, Option, Some, None, refl, sym, ap, subst, ◌∙◌, arith}
-use Rattle.std.specs.Prelude.{option_map, slice_get}
+-- The first task that holds up a prefix, phase by phase; and the next hops of peers.
+use Rattle.std.proofs.Common.{◌≡◌, ℕ, zero, suc, ◌+◌, ◌-◌, ◌<◌, ◌≤◌, ◌||◌, Bool, true, false, List, [], ◌∷◌, length, length-set, map, set, take, drop, get_or, Option, Some, None, refl, sym, ap, ◌∙◌, arith}
+use Rattle.std.specs.Prelude.{option_map}
 use Rattle.std.specs.List.{find, flat_map, list_any, range_with_len}
 use Rattle.std.specs.Option.{option_or}
-use Rattle.std.proofs.lemmas.List.{drop_more}
-use Rattle.std.proofs.lemmas.List.Folds.{find-append}
+use Rattle.std.proofs.lemmas.List.{drop_more, take_more_set}
+use Rattle.std.proofs.lemmas.List.Folds.{find-append, list_any-append}
+use Rattle.std.proofs.lemmas.List.FromFn.{map-range_with_len_more}
 use Rattle.addr4.specs.Prefixes.{Network}
 use Rattle.journal_text.specs.declared.link.Task.{Task}
-use Rattle.journal_text.specs.declared.link.Task.TheVariants as tasks
-use Rattle.loss_chain.specs.Lost.{Lost}
 use Rattle.nexthop_resolver.specs.Kept.{route_hop}
-use Rattle.peer_side.specs.Peers.{Chains, filt_at}
-use Rattle.rib_route.specs.declared.rows.Interior.{Interior}
-use Rattle.rib_route.specs.declared.Proto.{Proto}
-use Rattle.rib_route.specs.declared.Proto.TheVariants.{Connected, Static, Ospf, Rip}
-use Rattle.rib_tree.specs.BranchSteps.{branch_tasks}
-use Rattle.rib_tree.specs.Trees.{Treed, branch_of}
-use Rattle.rib_tree.specs.Steps.{tree_lags}
+use Rattle.in_chain.specs.Chains.{Chained}
+use Rattle.peer_side.specs.Peers.{Chains, chain_at, filt_at, filt_by}
 use Rattle.router_core.specs.declared.router.Phase.{Phase}
-use Rattle.router_core.specs.declared.router.Phase.TheVariants.{Rdel}
 use Rattle.router_core.specs.Moments.{Moment}
 use Rattle.router_core.specs.Phases.{all_phases}
 use Rattle.router_core.specs.Turns.{phase_tasks}
-use Rattle.router_core.specs.Holding.{next_hop_at, peer_numbers, is_over, is_over_hop, holds_up_at, held_in, first_held}
+use Rattle.router_core.specs.Holding.{next_hop_at, some_so, holds_up_at, held_in, first_held}
 
 module _ (m : Moment) (p : Network) where
   abbrev held : List Task → Option Task
@@ -51,56 +44,58 @@ module _ (m : Moment) (p : Network) where
       → Some task ≡ first_held m p
   phase_holds phases i x found task same within so is some = sym (of_phase phases i x found (Some task) same within so is some)
 
-  -- ---- protocol by protocol
-  abbrev pub held_of : Proto → Option Task
-  held_of proto = held (branch_tasks (branch_of proto m.tree))
+  -- ---- the next hops of peers
+  or_none : (b : Bool) → b ≡ (b || false)
+  or_none true = refl
+  or_none false = refl
 
-  pub losses_found : (a b c d : Option Task) → a ≡ held_of Connected → b ≡ held_of Static → c ≡ held_of Ospf → d ≡ held_of Rip → option_or a (option_or b (option_or c d)) ≡ held_in Rdel m p
-  losses_found a b c d is_a is_b is_c is_d =
-      ap (λ (o : Option Task). option_or o (option_or b (option_or c d))) is_a
-      ∙ ap (option_or (held_of Connected)) (ap (λ (o : Option Task). option_or o (option_or c d)) is_b
-      ∙ ap (option_or (held_of Static)) (ap (λ (o : Option Task). option_or o d) is_c ∙ ap (option_or (held_of Ospf)) is_d
-      ∙ sym (find-append (λ task. holds_up_at task m p) (branch_tasks m.tree.ospf) (branch_tasks m.tree.rip)))
-      ∙ sym (find-append (λ task. holds_up_at task m p) (branch_tasks m.tree.statics) (branch_tasks m.tree.ospf ++ branch_tasks m.tree.rip)))
-      ∙ sym (find-append (λ task. holds_up_at task m p) (branch_tasks m.tree.connected) (branch_tasks m.tree.statics ++ (branch_tasks m.tree.ospf ++ branch_tasks m.tree.rip)))
+  abbrev pub hops_upto : ℕ → List (Option ℕ)
+  hops_upto n = map (λ k. next_hop_at m k p) (range_with_len 0 n)
 
-  -- the task of a stage by its place, and whether it holds up the prefix
-  abbrev pub loss_of : Treed → Proto → Lost Interior → Task
-  loss_of t proto d = tasks.Rdel (branch_of proto t).proto d.number
+  -- the hops in front are those of the numbers below this one that have any
+  pub record AreUpTo (hops : List ℕ) (count n : ℕ) : Type 0 where
+    pub long : length hops ≡ 65
+    pub few : count ≤ n
+    pub within : n ≤ 65
+    pub front : (f : ℕ → Bool) → list_any f (take count hops) ≡ list_any (some_so f) (hops_upto n)
 
-  pub loss_at : (v : Moment) (proto : Proto) (place : ℕ) (found : Option Task) → v ≡ m → found ≡ option_map (loss_of v.tree proto) (slice_get (branch_of proto v.tree).tables.deletions place)
-      → option_map (loss_of m.tree proto) (slice_get (branch_of proto m.tree).tables.deletions place) ≡ found
-  loss_at v proto place found view is = sym (is ∙ ap (λ (n : Moment). option_map (loss_of n.tree proto) (slice_get (branch_of proto n.tree).tables.deletions place)) view)
+  one_more : (f : ℕ → Bool) (n : ℕ) (o : Option ℕ) → o ≡ next_hop_at m n p → list_any (some_so f) (hops_upto (n + 1)) ≡ (list_any (some_so f) (hops_upto n) || (some_so f o || false))
+  one_more f n o is =
+      ap (list_any (some_so f)) (map-range_with_len_more (λ k. next_hop_at m k p) 0 n n (omega arith)) ∙ list_any-append (some_so f) (hops_upto n) (next_hop_at m n p ∷ [])
+      ∙ ap (λ (x : Option ℕ). list_any (some_so f) (hops_upto n) || (some_so f x || false)) (sym is)
 
-  pub loss_told : (v : Moment) (proto : Proto) (o : Option (Lost Interior)) (task : Task) (lags over : Bool) → v ≡ m → option_map (loss_of m.tree proto) o ≡ Some task → lags ≡ tree_lags v.tree task p → over ≡ is_over_hop task m p
-      → holds_up_at task m p ≡ (lags || over)
-  loss_told v proto None task lags over view at is_lags is_over = absurd (cc)
-  loss_told v proto (Some d) task lags over view at is_lags is_over =
-      let same : loss_of m.tree proto d ≡ task = cc in
-      subst (λ (t : Task). holds_up_at t m p ≡ (tree_lags m.tree t p || is_over_hop t m p)) same refl
-      ∙ ap (λ (n : Moment). tree_lags n.tree task p || is_over_hop task m p) (sym view) ∙ ap (λ (b : Bool). b || is_over_hop task m p) (sym is_lags) ∙ ap (λ (b : Bool). lags || b) (sym is_over)
+  hop_told : (a : Chains) (n : ℕ) (found o : Option ℕ) → a ≡ m.chains → found ≡ option_map route_hop (filt_at a n p) → found ≡ o → o ≡ next_hop_at m n p
+  hop_told a n found o chains is at = sym at ∙ is ∙ ap (λ (x : Chains). option_map route_hop (filt_at x n p)) chains
 
-  -- ---- the numbers of peers
-  abbrev pub over_from : Task → ℕ → Bool
-  over_from task n = list_any (λ k. is_over m.tree task (next_hop_at m k p)) (range_with_len n (65 - n))
+  pub hop_more : (a : Chains) (hops : List ℕ) (count n hop : ℕ) (found : Option ℕ) → a ≡ m.chains → n < 65 → AreUpTo hops count n → found ≡ option_map route_hop (filt_at a n p) → found ≡ Some hop
+      → AreUpTo (set hops count hop) (count + 1) (n + 1)
+  hop_more a hops count n hop found chains less upto is at =
+      let long : length hops ≡ 65 = upto.long in
+      let few : count ≤ n = upto.few in
+      record {
+        long = length-set hops count hop ∙ long;
+        few = omega (arith, few);
+        within = omega (arith, less);
+        front = λ f.
+            ap (list_any f) (take_more_set hops count hop (omega (arith, less, long, few))) ∙ list_any-append f (take count hops) (hop ∷ []) ∙ ap (λ (b : Bool). b || (f hop || false)) (upto.front f)
+            ∙ sym (one_more f n (Some hop) (hop_told a n found (Some hop) chains is at));
+      }
 
-  pub all_numbers : (task : Task) → is_over_hop task m p ≡ over_from task 0
-  unfolding peer_numbers
-  all_numbers task = refl
+  pub hop_none : (a : Chains) (hops : List ℕ) (count n : ℕ) (found : Option ℕ) → a ≡ m.chains → n < 65 → AreUpTo hops count n → found ≡ option_map route_hop (filt_at a n p) → found ≡ None → AreUpTo hops count (n + 1)
+  hop_none a hops count n found chains less upto is at =
+      let few : count ≤ n = upto.few in
+      record { long = upto.long; few = omega (arith, few); within = omega (arith, less); front = λ f. upto.front f ∙ or_none (list_any (some_so f) (hops_upto n)) ∙ sym (one_more f n None (hop_told a n found None chains is at)) }
 
-  pub over_told : (v : Moment) (a : Chains) (task : Task) (n : ℕ) (found hop : Option ℕ) (told : Bool) → v ≡ m → a ≡ m.chains → found ≡ option_map route_hop (filt_at a n p) → found ≡ hop → told ≡ is_over v.tree task hop
-      → is_over m.tree task (next_hop_at m n p) ≡ told
-  over_told v a task n found hop told view chains is at tells =
-      ap (is_over m.tree task) (sym (sym at ∙ is ∙ ap (λ (x : Chains). option_map route_hop (filt_at x n p)) chains)) ∙ ap (λ (x : Moment). is_over x.tree task hop) (sym view) ∙ sym tells
+  -- beyond the greatest number of a peer there is none
+  no_more_hops : (f : ℕ → Bool) (n d : ℕ) → ((k : ℕ) → n ≤ k → k < n + d → chain_at k m.chains ≡ None) → list_any (some_so f) (hops_upto n) ≡ list_any (some_so f) (hops_upto (n + d))
+  no_more_hops f n zero none = ap (λ (x : ℕ). list_any (some_so f) (hops_upto x)) (omega arith)
+  no_more_hops f n (suc d) none =
+      no_more_hops f n d (λ k from upto. none k from (omega (arith, upto))) ∙ or_none (list_any (some_so f) (hops_upto (n + d)))
+      ∙ sym (one_more f (n + d) None (sym (ap (λ (o : Option Chained). option_map route_hop (filt_by o p)) (none (n + d) (omega arith) (omega arith)))))
+      ∙ ap (λ (x : ℕ). list_any (some_so f) (hops_upto x)) (omega arith)
 
-  pub one_number : (task : Task) (n : ℕ) → n < 65 → over_from task n ≡ (is_over m.tree task (next_hop_at m n p) || over_from task (n + 1))
-  one_number task n less = (let left : 65 - n ≡ suc (65 - (n + 1)) = omega (arith, less) in ap (λ (k : ℕ). list_any (λ j. is_over m.tree task (next_hop_at m j p)) (range_with_len n k)) left)
-
-  pub number_passed : (task : Task) (n : ℕ) → n < 65 → is_over_hop task m p ≡ over_from task n → is_over m.tree task (next_hop_at m n p) ≡ false → is_over_hop task m p ≡ over_from task (n + 1)
-  number_passed task n less so none = so ∙ one_number task n less ∙ ap (λ (b : Bool). b || over_from task (n + 1)) none
-
-  pub number_holds : (task : Task) (n : ℕ) → n < 65 → is_over_hop task m p ≡ over_from task n → is_over m.tree task (next_hop_at m n p) ≡ true → true ≡ is_over_hop task m p
-  number_holds task n less so some = sym (so ∙ one_number task n less ∙ ap (λ (b : Bool). b || over_from task (n + 1)) some)
-
-  pub no_number : (task : Task) (n : ℕ) → 65 ≤ n → is_over_hop task m p ≡ over_from task n → false ≡ is_over_hop task m p
-  no_number task n past so = (let left : 65 - n ≡ 0 = omega (arith, past) in sym (so ∙ ap (λ (k : ℕ). list_any (λ j. is_over m.tree task (next_hop_at m j p)) (range_with_len n k)) left))
+  pub all_hops : (hops : List ℕ) (count n : ℕ) → AreUpTo hops count n → ((k : ℕ) → k < 65 → n ≤ k → chain_at k m.chains ≡ None) → (f : ℕ → Bool) → list_any f (take count hops) ≡ list_any (some_so f) (hops_upto 65)
+  all_hops hops count n upto none f =
+      let within : n ≤ 65 = upto.within in
+      let end : n + (65 - n) ≡ 65 = omega (arith, within) in
+      upto.front f ∙ no_more_hops f n (65 - n) (λ k from less. none k (omega (arith, less, end)) from) ∙ ap (λ (x : ℕ). list_any (some_so f) (hops_upto x)) end

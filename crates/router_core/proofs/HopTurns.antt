@@ -37,7 +37,7 @@ use Rattle.router_core.proofs.BestLemmas.{best_of_none}
 use Rattle.router_core.proofs.QueueLemmas.{ExitsStand, reader_live, exits_fall}
 use Rattle.router_core.proofs.SpendLemmas.{Spent, hop_spends}
 use Rattle.router_core.proofs.StaleLemmas.{AllBefore, as_before, turned, put_before, none_goes_stale}
-use Rattle.router_core.specs.Stands.{Stands, Claim, Claims, EachResolver, SameResolvers, AnswersAgree, HopsCounted, NoStrangers, SmallNumbers, EachRow, EachExit, QueueLeads, ExitsRead, PlainExits, OneSender, SameSessions, OneReader, ExternalAgrees, ExternalStands, Tie, Ties, Registered, here}
+use Rattle.router_core.specs.Stands.{Stands, Claim, Claims, EachResolver, SameResolvers, AnswersAgree, HopsCounted, NoStrangers, SmallNumbers, EachRow, EachExit, QueueLeads, ExitsRead, SameProfile, OneSender, SameSessions, OneReader, ExternalAgrees, ExternalStands, Tie, Ties, Registered, here}
 use Rattle.router_core.specs.Turns.{journal_lines, sent_of}
 use Rattle.router_core.specs.Works.{IsUnit, Comes, Decides}
 use Rattle.rib_exit.specs.Exits.{AgreesWith}
@@ -68,7 +68,7 @@ stands_resolved m r h e stands rows agrees hops exits = record { own = own; at =
     own EachExit = exits.each
     own QueueLeads = exits.all
     own ExitsRead = exits.read
-    own PlainExits = exits.plain
+    own SameProfile = exits.profile
     own OneSender = exits.sender
     own SameSessions = exits.sessions
     own OneReader = exits.one

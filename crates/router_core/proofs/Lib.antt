@@ -1,4 +1,6 @@
 mod CoreLemmas
+pub mod BeforeLocal
+pub mod ProfileLemmas
 mod LocalLemmas
 pub mod PeerLemmas
 mod ShownRows

@@ -39,10 +39,10 @@ use Rattle.router_core.proofs.BestLemmas.{best_none}
 use Rattle.journal_text.specs.Values.{interior_rows, route_rows}
 use Rattle.event_text.specs.declared.event.Event.TheVariants as events
 use Rattle.event_text.specs.Declarations.{Declaration, refusal, peer_at, with_speaker}
-use Rattle.router_core.specs.Moments.{Moment, plain, tree_by, forward_by, own_of, best_of, read_by, read_rows_by, read_of, router_links}
+use Rattle.router_core.specs.Moments.{Moment, tree_by, forward_by, own_of, best_of, read_by, read_rows_by, read_of, router_links}
 use Rattle.router_core.specs.Stands.{Stands, Claim, Claims, ExitsAt, ReadsOn, InteriorTree, OneSpeaker, SameResolvers, EachExit, QueueLeads, ExitsRead, OneSender, SameSessions, OneReader, ExternalStands, NothingOwn, NothingExternal}
 use Rattle.router_core.specs.Blocks.{begin_line, first_begins, rib_begins, declared_speaker}
-use Rattle.router_core.proofs.PeerLemmas.{local_first}
+use Rattle.router_core.proofs.BeforeLocal.{local_first, no_chain, no_exit, no_reader, read_before}
 use Rattle.bgp_attr.specs.Speakers.{IsSpeaker}
 use Rattle.peer_out.specs.Changes.{IsSender}
 use Rattle.link_change.specs.InOrder.{rows_before}
@@ -54,7 +54,7 @@ use Rattle.exit_side.specs.Exits.{AllStand, with_queue, chain_at as exit_at, exi
 use Rattle.exit_side.specs.Laws.{IsStranger, StaysWithQueue, StrangersJoin}
 use Rattle.router_core.specs.Turns.{journal_lines}
 use Rattle.router_core.proofs.HeardSteps.{heard_quiet}
-use Rattle.router_core.proofs.QueueLemmas.{none_before, exits_none}
+use Rattle.router_core.proofs.QueueLemmas.{exits_none}
 use Rattle.router_core.proofs.SessionLemmas.{may_send}
 use Rattle.journal_text.proofs.JournalLemmas.{with_lines_append}
 use Rattle.rib_tree.proofs.NewLemmas.{of_new, org_empty, low_empty, dyn_empty, int_empty}
@@ -77,13 +77,9 @@ none_lost proto n = of_new (λ b. option_map interior_rows (rows_above b.tables.
 none_decided : (m : Moment) (own : Rows Route) → Stands m → m.declared.speaker ≡ None → own ≡ no_rows → best_at own m.chains m.hops ≡ no_rows
 none_decided m own stands first none = best_none (all_at own m.chains m.hops) by_branch
   where
-    by_chain : (k : ℕ) (o : Option Chained) → chain_at k m.chains ≡ o → is_some o ≡ true → ⊥
-    by_chain k None at some = let clash : false ≡ true = some in cc
-    by_chain k (Some c) at some = let there = stands.own OneSpeaker k c at in let clash : None ≡ Some c.me = sym first ∙ there in cc
-
     by_resolver : (k : ℕ) (o : Option (Resolving Metric)) → resolver_at k m.hops ≡ o → rows_by o (filt_at m.chains k) ≡ no_rows
     by_resolver k None at = refl
-    by_resolver k (Some s) at = absurd (by_chain k (chain_at k m.chains) refl (sym (stands.own SameResolvers k) ∙ ap is_some at))
+    by_resolver k (Some s) at = absurd (let clash : false ≡ true = sym (ap is_some (no_chain m stands first k)) ∙ sym (stands.own SameResolvers k) ∙ ap is_some at in cc)
 
     by_branch : (k : ℕ) → all_at own m.chains m.hops k ≡ no_rows
     by_branch zero = none
@@ -100,7 +96,7 @@ own_then m words stands first = ap (λ (s : Passed Protos). own_rows (Some words
 begins_external : (link : Link) (rows : Rows Value) → exit_links nothing_yet no_rows link ≡ Some rows → Some no_rows ≡ exit_links nothing_yet no_rows link
 begins_external link rows is = ap (λ (r : Rows Value). Some r) (sym (stands_at_first.rows link rows is)) ∙ sym is
 
-module _ (law : StrangersJoin) (m : Moment) (words : Speaker) (reader : ℕ) (admitted : refusal m.declared (events.Local words) ≡ None) (stands : Stands m) (sender : IsSender plain words) (fresh : tables.get m.exits.queue reader ≡ None) where
+module _ (law : StrangersJoin) (m : Moment) (words : Speaker) (reader : ℕ) (admitted : refusal m.declared (events.Local words) ≡ None) (stands : Stands m) (sender : IsSender m.declared.profile words) (fresh : tables.get m.exits.queue reader ≡ None) where
   abbrev queue : Queued Route
   queue = tables.insert m.exits.queue reader []
 
@@ -130,21 +126,6 @@ module _ (law : StrangersJoin) (m : Moment) (words : Speaker) (reader : ℕ) (ad
   joined : tables.get queue reader ≡ Some []
   joined = get-insert nat_cmp_total m.exits.queue reader [] reader ∙ ap (λ b. cond b (Some []) (tables.get m.exits.queue reader)) (same_key reader)
 
-  no_reader : m.reader ≡ None
-  no_reader = by_reader m.declared.speaker m.reader first (stands.own OneReader)
-    where
-      by_reader : (s : Option Speaker) (o : Option ℕ) → s ≡ None → ReadsOn s o m.exits → o ≡ None
-      by_reader None None is on = refl
-      by_reader None (Some r) is on = absurd on
-      by_reader (Some me) o is on = absurd (cc)
-
-  no_exit : (k : ℕ) → exit_at k m.exits ≡ None
-  no_exit k = none_before m.outgoing k (peer_at k m.declared.peers) (exit_at k m.exits) (subst (λ (s : Option Speaker). ExitsAt s m.outgoing k (peer_at k m.declared.peers) (exit_at k m.exits)) first (stands.own SameSessions k))
-
-  -- what the forwarding side has read: nothing
-  read_before : read_of m ≡ no_rows
-  read_before = ap (λ (o : Option ℕ). read_rows_by m.exits.queue o (best_of m)) no_reader
-
   read_then : read_of then ≡ no_rows
   read_then = ap (λ u. rows_before (unread_or_none u) (best_of then)) joined ∙ decided_then
 
@@ -158,9 +139,9 @@ module _ (law : StrangersJoin) (m : Moment) (words : Speaker) (reader : ℕ) (ad
       own QueueLeads = subst (λ (rows : Rows Route). AllLead queue rows) same_best (join_keeps_leading m.exits.queue (best_of m) reader (stands.own QueueLeads))
       own ExitsRead = subst (λ (rows : Rows Route). AllStand rows (with_queue queue m.exits)) same_best (joins.1.stand (best_of m) (stands.own ExitsRead))
       own OneSender = sender
-      own SameSessions = λ k. subst (λ (o : Option OutChained). ExitsAt (Some words) m.outgoing k (peer_at k m.declared.peers) o) (sym (no_exit k)) (exits_none (Some words) m.outgoing k (peer_at k m.declared.peers))
+      own SameSessions = λ k. subst (λ (o : Option OutChained). ExitsAt (Some words) m.outgoing k (peer_at k m.declared.peers) o) (sym (no_exit m stands first k)) (exits_none (Some words) m.outgoing k (peer_at k m.declared.peers))
       own OneReader = record { live = ap is_some joined; own = joins.0 }
-      own ExternalStands = subst (λ (rows : Rows Route). StandsOver rows m.rib) (read_before ∙ sym read_then) (stands.own ExternalStands)
+      own ExternalStands = subst (λ (rows : Rows Route). StandsOver rows m.rib) (read_before m stands first ∙ sym read_then) (stands.own ExternalStands)
       own NothingOwn = λ e. absurd (cc)
       own NothingExternal = λ e. absurd (cc)
       own other = stands.own other
@@ -234,7 +215,7 @@ module _ (law : StrangersJoin) (m : Moment) (words : Speaker) (reader : ℕ) (ad
                     (
                       ap (λ (s : Option Speaker). best_links s (best_of m) Best) first,
                       (
-                        (ap (λ (o : Option ℕ). read_by m.exits.queue o (best_of m)) no_reader, refl),
+                        (ap (λ (o : Option ℕ). read_by m.exits.queue o (best_of m)) (no_reader m stands first), refl),
                         (no_forward Ebgp, (no_forward Ibgp, (no_forward Ext, (no_forward Fib, tt)))),
                       ),
                     ),
@@ -265,7 +246,7 @@ pub nothing_external : (m n n' : Moment) (words : Speaker) (before now : Journal
 nothing_external m n n' words before now stands admitted is adds =
     ap (λ (x : Moment). x.rib) adds.2.after ∙ ap (λ (x : Moment). x.rib) is ∙ stands.own NothingExternal (local_first m.declared words admitted)
 
-pub local_declared : StrangersJoin → (m n n' : Moment) (words : Speaker) (before j1 j2 now : Journaled) → Stands m → refusal m.declared (events.Local words) ≡ None → IsSpeaker words → n ≡ declared_speaker m words → j1 ≡ with_lines before first_begins
+pub local_declared : StrangersJoin → (m n n' : Moment) (words : Speaker) (before j1 j2 now : Journaled) → Stands m → refusal m.declared (events.Local words) ≡ None → IsSpeaker m.declared.profile.as4 words → n ≡ declared_speaker m words → j1 ≡ with_lines before first_begins
     → Adds (BeginsReading n n') j1 j2 → now ≡ with_entries j2 begin_entries → Pushes (HasStepped m (events.Local words) 0 n') before now
 local_declared law m n n' words before j1 j2 now stands admitted formed is begins adds last = (rib_begins, lines, here)
   where
@@ -277,7 +258,7 @@ local_declared law m n n' words before j1 j2 now stands admitted formed is begin
     reads = subst (λ (x : Moment). BeginsReading x n' adds.0) is adds.2
 
     here : HasStepped m (events.Local words) 0 n' rib_begins
-    here = subst (λ (x : Moment). HasStepped m (events.Local words) 0 x rib_begins) (sym reads.after) (local_stepped law m words reads.reader admitted stands (may_send words formed) reads.fresh)
+    here = subst (λ (x : Moment). HasStepped m (events.Local words) 0 x rib_begins) (sym reads.after) (local_stepped law m words reads.reader admitted stands (may_send m.declared.profile words formed) reads.fresh)
 
 -- ---- one link after the other
 -- the first so many of these links have begun

@@ -70,7 +70,7 @@ ends_one k s m cs entries stands up silent f =
         stands = stands_put m (without_session m.declared k) k c (lost s c) cs m.registry m.hops m.exits stands f.loses.at f.loses.after f.step.sound refl keeps
             (subst (λ (o : Option DeclaredPeer). StandsAt o (Some (lost s c))) (sym (ended_same k m.declared.peers peer.0 peer.1)) here) refl (stands.own ExternalAgrees)
             (hops_quiet m cs stands f.quiet (same_peers m k c (lost s c) cs f.loses.at f.loses.after))
-            (still c (exits_stay m (with_chains m cs) stands (put_heard k (lost s c) m.chains cs f.loses.after (lost_heard s c (stands.own EachRow k c f.loses.at)) (stands.own EachRow))
+            (still c (exits_stay m (with_chains m cs) stands (put_heard m.declared.profile k (lost s c) m.chains cs f.loses.after (lost_heard m.declared.profile s c (stands.own EachRow k c f.loses.at)) (stands.own EachRow))
             (best_quiet (own_of m) m.chains cs m.hops f.quiet) refl refl refl refl (λ rows over. over)));
         heard = heard_quiet m (remade m (without_session m.declared k) cs) (journal_lines entries) (others_are_unheard Inward (peer_links m.chains) (peer_links cs) entries refl f.step.leads) refl;
       };
@@ -84,7 +84,7 @@ ends_one k s m cs entries stands up silent f =
         (λ apart. subst (λ (o : Option DeclaredPeer). ExitsAt m.declared.speaker m.outgoing j o (exit_at j m.exits)) (sym (ended_other k j m.declared.peers apart)) (stands.own SameSessions j))
 
     still : (c : Chained) → ExitsStand (with_chains m cs) → ExitsStand (remade m (without_session m.declared k) cs)
-    still c x = record { rows = x.rows; each = x.each; all = x.all; read = x.read; plain = x.plain; sender = x.sender; sessions = sessions; one = x.one; external = x.external }
+    still c x = record { rows = x.rows; each = x.each; all = x.all; read = x.read; profile = x.profile; sender = x.sender; sessions = sessions; one = x.one; external = x.external }
 
     keeps : KeepsOthers k m.declared (without_session m.declared k)
     keeps = record { speaker = refl; count = ended_length k m.declared.peers; others = λ j e. ended_other k j m.declared.peers e }

@@ -1,8 +1,8 @@
 -- The next task of a phase.
-use Rattle.std.proofs.Common.{◌≡◌, ℕ, Bool, true, false, length, cond, List, [], ◌∷◌, ◌++◌, map, Option, Some, None, is_some, refl, sym, ap, subst, ◌∙◌}
+use Rattle.std.proofs.Common.{◌≡◌, ℕ, ◌<◌, ◌≤◌, ◌||◌, Bool, true, false, length, take, cond, List, [], ◌∷◌, ◌++◌, map, Option, Some, None, is_some, refl, sym, ap, subst, ◌∙◌}
 use Rattle.std.specs.Prelude.{IfNone, option_map}
 use Rattle.hop_side.specs.Resolvers.{Beyonds, has_hop_work, hop_holds_up, left_in}
-use Rattle.std.specs.List.{AllByRecursion, find}
+use Rattle.std.specs.List.{AllByRecursion, find, list_any, range_with_len}
 use Rattle.std.specs.FinMap as tables
 use Rattle.bgp_attr.specs.declared.attrs.Attrs.{Attrs}
 use Rattle.journal_text.specs.declared.link.Task.{Task}
@@ -16,10 +16,11 @@ use Rattle.loss_chain.proofs.ListLemmas.{all_any, all_so, all_made, all_flat}
 use Rattle.loss_chain.proofs.TableLemmas.{all_tables}
 use Rattle.link_region.proofs.RegionLemmas.{by_bool}
 use Rattle.in_chain.specs.Chains.{Chained}
-use Rattle.peer_side.specs.Peers.{chain_tasks, has_peer_work, peer_lags}
+use Rattle.peer_side.specs.Peers.{chain_at, chain_tasks, has_peer_work, peer_lags}
 use Rattle.peer_side.proofs.TaskLemmas.{all_working, first_none}
 use Rattle.rib_tree.specs.Branches.{Branch}
 use Rattle.rib_tree.specs.BranchSteps.{branch_tasks}
+use Rattle.rib_tree.specs.Steps.{tree_holds_up, tree_lags, tree_over}
 use Rattle.rib_tree.specs.Trees.{Treed, branch_of, tree_tasks}
 use Rattle.rib_tree.proofs.RestLemmas.{all_tree}
 use Rattle.router_core.specs.declared.router.Phase.{Phase}
@@ -37,7 +38,8 @@ use Rattle.exit_side.specs.Exits.{has_exit_work, exit_holds_up, left_in as exits
 use Rattle.router_core.specs.Phases.{beyonds, best_beyond, unread_if, counts}
 use Rattle.router_core.proofs.CountLemmas.{over_none}
 use Rattle.router_core.specs.Turns.{phase_of, phase_tasks, next_task, has_work}
-use Rattle.router_core.specs.Holding.{next_hop_at, holds_up_at, held_in}
+use Rattle.router_core.specs.Holding.{next_hop_at, peer_numbers, is_over, holds_up_at, held_in}
+use Rattle.router_core.proofs.HeldLemmas.{AreUpTo, all_hops}
 
 -- ---- each task is of its phase: a line for each phase
 pub all_of_phase : (r : Phase) (m : Moment) → AllByRecursion (λ t. phase_of t ≡ r) (phase_tasks r m)
@@ -185,3 +187,28 @@ next_of_tree r m v first is view stands found = found ∙ ap (λ (n : Moment). f
 pub none_of_tree : (r : Phase) (m v : Moment) (first : Option Task) → r ≡ Rdel → v ≡ m → first ≡ first_task (tree_tasks v.tree) → IfNone first (counts m r ≡ 0)
 none_of_tree r m v None is view found = ap (counts m) is ∙ no_loss m (ap (λ (n : Moment). first_task (tree_tasks n.tree)) (sym view) ∙ sym found)
 none_of_tree r m v (Some task) is view found = tt
+
+-- those that hold up a prefix
+any_made : (f : Option ℕ → Bool) (g : ℕ → Option ℕ) (ks : List ℕ) → list_any f (map g ks) ≡ list_any (λ k. f (g k)) ks
+any_made f g [] = refl
+any_made f g (k ∷ ks) = ap (λ (b : Bool). f (g k) || b) (any_made f g ks)
+
+abbrev IsOfTree : Phase → Type 0
+IsOfTree Rdel = Unit {0}
+IsOfTree other = ⊥
+
+pub held_of_tree : (m v : Moment) (p : Network) (hops : List ℕ) (count n : ℕ) (first : Option Task) → v ≡ m → ((k : ℕ) → k < 65 → n ≤ k → chain_at k m.chains ≡ None) → AreUpTo m p hops count n → first ≡ find (tree_holds_up v.tree p (take count hops)) (tree_tasks v.tree) → first ≡ held_in Rdel m p
+unfolding peer_numbers
+held_of_tree m v p hops count n first view none upto found =
+    found ∙ ap (λ (x : Moment). find (tree_holds_up x.tree p (take count hops)) (tree_tasks x.tree)) view
+    ∙ found_same (tree_holds_up m.tree p (take count hops)) (λ t. holds_up_at t m p) (tree_tasks m.tree)
+    (all_so (λ t. phase_of t ≡ Rdel) (λ t. tree_holds_up m.tree p (take count hops) t ≡ holds_up_at t m p) each (tree_tasks m.tree) (all_of_phase Rdel m))
+  where
+    each : (t : Task) → phase_of t ≡ Rdel → tree_holds_up m.tree p (take count hops) t ≡ holds_up_at t m p
+    each (tasks.Rdel proto loss) of =
+        ap (λ (b : Bool). tree_lags m.tree (tasks.Rdel proto loss) p || b)
+        (all_hops m p hops count n upto none (tree_over m.tree (tasks.Rdel proto loss)) ∙ any_made (is_over m.tree (tasks.Rdel proto loss)) (λ k. next_hop_at m k p) (range_with_len 0 65))
+    each other of = absurd (subst IsOfTree (sym of) tt)
+
+pub held_of_losses : (r : Phase) (m : Moment) (p : Network) (first : Option Task) → r ≡ Rdel → first ≡ held_in Rdel m p → first ≡ held_in r m p
+held_of_losses r m p first is held = held ∙ ap (λ (e : Phase). held_in e m p) (sym is)

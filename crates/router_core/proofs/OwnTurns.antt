@@ -35,7 +35,7 @@ use Rattle.router_core.specs.declared.router.Phase.TheVariants as phases
 use Rattle.router_core.specs.Bests.{own_links, own_entries, all_at, best_links, best_entries, DecidesOn, Queues}
 use Rattle.router_core.specs.Moments.{Moment, with_exits, with_redist, own_of, best_of, parts, router_links}
 use Rattle.router_core.specs.Lives.{live_state}
-use Rattle.router_core.specs.Stands.{Stands, Claim, Claims, EachRow, EachExit, QueueLeads, ExitsRead, PlainExits, OneSender, SameSessions, OneReader, ExternalStands, NothingOwn, Tie, Ties, Registered, here}
+use Rattle.router_core.specs.Stands.{Stands, Claim, Claims, EachRow, EachExit, QueueLeads, ExitsRead, SameProfile, OneSender, SameSessions, OneReader, ExternalStands, NothingOwn, Tie, Ties, Registered, here}
 use Rattle.router_core.specs.Turns.{journal_lines, sent_of}
 use Rattle.router_core.specs.Works.{IsUnit, Comes, Decides, SendsOwn, Redistributes}
 use Rattle.router_core.proofs.BestLemmas.{best_of_none}
@@ -112,7 +112,7 @@ stands_walked m me s e stands since exits = record { own = own; at = at }
     own EachExit = exits.each
     own QueueLeads = exits.all
     own ExitsRead = exits.read
-    own PlainExits = exits.plain
+    own SameProfile = exits.profile
     own OneSender = exits.sender
     own SameSessions = exits.sessions
     own OneReader = exits.one

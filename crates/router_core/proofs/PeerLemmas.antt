@@ -78,7 +78,7 @@ pub new_peer_at : (d : Declaration) (k : ℕ) (words : Speaker) → peer_at k d.
 new_peer_at d k words absent = peer_at_push_here k d.peers (new_peer d k words) absent refl
 
 pub peer_absent : (d : Declaration) (k : ℕ) (words : Speaker) → refusal d (events.Peer k words) ≡ None → peer_at k d.peers ≡ None
-peer_absent d k words e = (addable d.speaker d.peers k words e).1
+peer_absent d k words e = (addable d.profile d.speaker d.peers k words e).1
 
 -- the peer that was just declared is there
 pub not_added : (before after : Declaration) (k : ℕ) (words : Speaker) → peer_at k before.peers ≡ None → after ≡ with_peer before k words → None ≡ peer_at k after.peers → ⊥
@@ -181,7 +181,7 @@ module _ (m : Moment) (me : Speaker) (k : ℕ) (words : Speaker) (is_local : m.d
           (subst (λ (o : Option DeclaredPeer). StandsAt o (Some fresh)) (sym (new_peer_at m.declared k words absent)) (record { words = refl; earlier = tt; silent = refl })))
           (λ e. subst (λ (o : Option DeclaredPeer). StandsAt o (chain_at j m.chains))
           (sym (peer_at_push_other j m.declared.peers (new_peer m.declared k words) (other_by k j (λ same. let t : true ≡ false = sym (same_by j k (sym same)) ∙ e in cc)))) (stands.own EachPeer j)))
-      own EachRow = put_heard k fresh m.chains (put_chain k fresh m.chains) refl (λ p row is. absurd (no_row_at_first p row is)) (stands.own EachRow)
+      own EachRow = put_heard m.declared.profile k fresh m.chains (put_chain k fresh m.chains) refl (λ p row is. absurd (no_row_at_first p row is)) (stands.own EachRow)
       own QueueLeads = subst (λ (rows : Rows Route). AllLead m.exits.queue rows) (sym same_best) (stands.own QueueLeads)
       own ExitsRead = subst (λ (rows : Rows Route). AllStand rows m.exits) (sym same_best) (stands.own ExitsRead)
       own SameSessions = λ j. by_bool (nat_eq j k) (λ b. ExitsAt m.declared.speaker m.outgoing j (peer_at j (with_peer m.declared k words).peers) (exit_at j m.exits))
@@ -223,7 +223,7 @@ module _ (m : Moment) (me : Speaker) (k : ℕ) (words : Speaker) (is_local : m.d
     };
   }
 
-pub peer_declared : (m v : Moment) (me : Speaker) (k : ℕ) (words : Speaker) (after : Declaration) (p : DeclaredPeer) (cs : Chains) (hs : Resolvers) (before j now : Journaled) → v ≡ m → Stands m → refusal m.declared (events.Peer k words) ≡ None → IsWellFormed (events.Peer k words)
+pub peer_declared : (m v : Moment) (me : Speaker) (k : ℕ) (words : Speaker) (after : Declaration) (p : DeclaredPeer) (cs : Chains) (hs : Resolvers) (before j now : Journaled) → v ≡ m → Stands m → refusal m.declared (events.Peer k words) ≡ None → IsWellFormed m.declared.profile.as4 (events.Peer k words)
     → Some me ≡ v.declared.speaker → after ≡ with_peer v.declared k words → Some p ≡ peer_at k after.peers → cs ≡ put_chain k (new_chain me p.words) v.chains → j ≡ with_entries before (begin_entries k)
     → LeadsIn Inward (peer_links v.chains) (begin_entries k) (peer_links cs) → IsPeers cs → BeginsHops p.words.number v.hops hs j now → Pushes (HasStepped m (events.Peer k words) 0 (record v { declared = after; chains = cs; hops = hs })) before now
 peer_declared m v me k words after p cs hs before j now view stands admitted formed local added there put lines leads peers begins =
@@ -231,7 +231,7 @@ peer_declared m v me k words after p cs hs before j now view stands admitted for
       journal_lines (begin_entries k ++ hop_begins k),
       hop.lines ∙ ap (λ (x : Journaled). with_entries x (hop_begins k)) lines ∙ with_entries_append before (begin_entries k) (hop_begins k),
       subst (λ (n : Moment). HasStepped v (events.Peer k words) 0 n (journal_lines (begin_entries k ++ hop_begins k))) (sym is)
-          (peer_stepped v me k words (sym local) (subst Stands (sym view) stands) absent (subst (λ (x : Chains). LeadsIn Inward (peer_links v.chains) (begin_entries k) (peer_links x)) chains leads) (let least = formed.0.least in omega (arith, least), (addable m.declared.speaker m.declared.peers k words admitted).0) (subst IsPeers chains peers)
+          (peer_stepped v me k words (sym local) (subst Stands (sym view) stands) absent (subst (λ (x : Chains). LeadsIn Inward (peer_links v.chains) (begin_entries k) (peer_links x)) chains leads) (let least = formed.0.least in omega (arith, least), (addable m.declared.profile m.declared.speaker m.declared.peers k words admitted).0) (subst IsPeers chains peers)
           (subst (λ (x : Resolvers). BeginsWith k v.hops x) hop.after hop.begins)),
     )
   where
@@ -311,7 +311,7 @@ pub may_begin : (d : Declaration) (k : ℕ) → refusal d (events.Up k) ≡ None
 unfolding refusal
 may_begin d k e = by_speaker d.speaker e
   where
-    by_speaker : (speaker : Option Speaker) → refusal_at speaker d.peers (events.Up k) ≡ None → session_refusal (peer_at k d.peers) ≡ None
+    by_speaker : (speaker : Option Speaker) → refusal_at d.profile speaker d.peers (events.Up k) ≡ None → session_refusal (peer_at k d.peers) ≡ None
     by_speaker None e = absurd (cc)
     by_speaker (Some local) e = e
 
@@ -331,19 +331,11 @@ pub begun_is : (m v : Moment) (k : ℕ) (after : Declaration) → v ≡ m → af
 begun_is m v k after view began = ap (λ (d : Declaration). record v { declared = d }) began ∙ ap (λ (n : Moment). begun n k) view
 
 -- ---- `local`
-pub local_first : (d : Declaration) (words : Speaker) → refusal d (events.Local words) ≡ None → d.speaker ≡ None
-unfolding refusal
-local_first d words e = by_speaker d.speaker e
-  where
-    by_speaker : (s : Option Speaker) → refusal_at s d.peers (events.Local words) ≡ None → s ≡ None
-    by_speaker None e = refl
-    by_speaker (Some me) e = absurd (cc)
-
 pub peer_after : (d : Declaration) (k : ℕ) (words : Speaker) → refusal d (events.Peer k words) ≡ None → None ≡ d.speaker → ⊥
 unfolding refusal
 peer_after d k words e none = by_speaker d.speaker e none
   where
-    by_speaker : (s : Option Speaker) → refusal_at s d.peers (events.Peer k words) ≡ None → None ≡ s → ⊥
+    by_speaker : (s : Option Speaker) → refusal_at d.profile s d.peers (events.Peer k words) ≡ None → None ≡ s → ⊥
     by_speaker None e none = absurd (cc)
     by_speaker (Some me) e none = absurd (cc)
 
@@ -356,7 +348,7 @@ rules_there d k rules e = by_speaker d.speaker e
     by_peer None e = absurd (cc)
     by_peer (Some p) e = (p, refl)
 
-    by_speaker : (s : Option Speaker) → refusal_at s d.peers (events.FilterIn k rules) ≡ None → (p : DeclaredPeer) × (peer_at k d.peers ≡ Some p)
+    by_speaker : (s : Option Speaker) → refusal_at d.profile s d.peers (events.FilterIn k rules) ≡ None → (p : DeclaredPeer) × (peer_at k d.peers ≡ Some p)
     by_speaker None e = absurd (cc)
     by_speaker (Some me) e = by_peer (peer_at k d.peers) e
 
@@ -384,7 +376,7 @@ edited_one m k rules cs stands e =
         heard = heard_quiet m (with_chains m cs) [] tt refl;
         stands = stands_with m k c (refiltered rules c) cs m.registry m.hops m.exits p.0 stands e.edits.at e.edits.after e.sound refl p.1 (record { words = p.2.words; earlier = p.2.earlier; silent = silent_edited p.0.up c rules p.2.silent }) refl (stands.own ExternalAgrees)
             (hops_quiet m cs stands e.quiet (same_peers m k c (refiltered rules c) cs e.edits.at e.edits.after))
-            (exits_stay m (with_chains m cs) stands (put_heard k (refiltered rules c) m.chains cs e.edits.after (stands.own EachRow k c e.edits.at) (stands.own EachRow)) (best_quiet (own_of m) m.chains cs m.hops e.quiet) refl refl refl refl (λ rows over. over));
+            (exits_stay m (with_chains m cs) stands (put_heard m.declared.profile k (refiltered rules c) m.chains cs e.edits.after (stands.own EachRow k c e.edits.at) (stands.own EachRow)) (best_quiet (own_of m) m.chains cs m.hops e.quiet) refl refl refl refl (λ rows over. over));
       };
     }
 

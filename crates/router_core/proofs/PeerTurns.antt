@@ -145,7 +145,7 @@ unit_done task sent m fallen m' entries rest stands t w =
         (external_agrees m stands (peer_of task) t.turn.chain m'.registry t.turn.at w.below.agreed.others)
         (hops_fall m (peer_of task) fallen m'.chains m'.registry m'.hops stands w.below.agreed goes.counted quiet (resolver_there m stands (peer_of task) t.turn.chain t.turn.at) (same_peers m (peer_of task) t.turn.chain (welded t.turn.turned_chain) m'.chains t.turn.at put))
         (exits_fall m (with_exits (with_hops (with_chains m m'.chains) m'.registry m'.hops) m'.exits) w.decided.best t.changes.0 stands
-        (put_heard (peer_of task) (welded t.turn.turned_chain) m.chains m'.chains put (weld_heard t.turn.turned_chain (turned_heard task t.turn.chain t.turn.turned_chain sent entries t.turn.turned (stands.own EachRow (peer_of task) t.turn.chain t.turn.at))) (stands.own EachRow)) w.queued
+        (put_heard m.declared.profile (peer_of task) (welded t.turn.turned_chain) m.chains m'.chains put (weld_heard m.declared.profile t.turn.turned_chain (turned_heard m.declared.profile task t.turn.chain t.turn.turned_chain sent entries t.turn.turned (stands.own EachRow (peer_of task) t.turn.chain t.turn.at))) (stands.own EachRow)) w.queued
         (subst (λ (rows : Rows Route). IsSent (best_of m) rows t.changes.0 w.decided.best) (sym (best_quiet (own_of m) fallen m'.chains m'.hops w.welds.quiet)) decides) refl refl refl (λ rows over. over))
 
     -- of a deletion stage no row comes on `filt.K`

@@ -6,6 +6,7 @@ use Rattle.std.proofs.lemmas.List.Elements.{All-nil}
 use Rattle.addr4.specs.Prefixes.{Network}
 use Rattle.bgp_attr.specs.Hosts.{is_host_prefix}
 use Rattle.bgp_attr.specs.declared.attrs.Attrs.{Attrs}
+use Rattle.bgp_attr.specs.declared.speaker.Profile.{Profile}
 use Rattle.bgp_attr.specs.declared.speaker.Speaker.{Speaker}
 use Rattle.bgp_attr.specs.declared.speaker.Neighbour.{Neighbour}
 use Rattle.bgp_wire.specs.Grammar.{Reads, without}
@@ -17,8 +18,8 @@ use Rattle.bgp_wire.proofs.ReadableLaws.{Every, all_every, every_filter}
 use Rattle.bgp_wire.proofs.ReadableMessages.{read_is_readable}
 use Rattle.event_text.specs.declared.declared.DeclaredPeer.{DeclaredPeer}
 use Rattle.event_text.specs.declared.event.Event.{Event}
-use Rattle.event_text.specs.declared.event.Event.TheVariants.{Nothing, Local, Peer, Up, Down, Bgp, FilterIn, FilterOut, RouteAdd, RouteDel, Lose, Redist, Cover, Settled, Idle, Work, Ask, Show}
-use Rattle.event_text.specs.Declarations.{peer_at}
+use Rattle.event_text.specs.declared.event.Event.TheVariants.{Nothing, As4, Revised, Local, Peer, Up, Down, Bgp, FilterIn, FilterOut, RouteAdd, RouteDel, Lose, Redist, Cover, Settled, Idle, Work, Ask, Show}
+use Rattle.event_text.specs.Declarations.{peer_at, refusal, with_four_octets, with_revised}
 use Rattle.event_text.specs.WellFormed.{IsWellFormed}
 use Rattle.link_change.specs.Rows.{Rows, is_empty_map}
 use Rattle.rib_route.specs.declared.Proto.{Proto}
@@ -77,10 +78,10 @@ use Rattle.rib_split.specs.declared.split.BgpLink.TheVariants as sides
 use Rattle.rib_split.specs.Splitting.{Parted}
 use Rattle.rib_split.specs.Tables.{kept_rows}
 use Rattle.rib_exit.specs.Exits.{ext_rows, fib_over}
-use Rattle.router_core.specs.Moments.{Moment, parts, tree_by, forward_by, own_of, best_of, read_of, read_by, read_links, router_links, rules_to, with_exits}
+use Rattle.router_core.specs.Moments.{Moment, profiled, parts, tree_by, forward_by, own_of, best_of, read_of, read_by, read_links, router_links, rules_to, with_exits}
 use Rattle.router_core.specs.Printable.{IsPrintableMoment}
-use Rattle.live_state.specs.Messages.{plain, Says, changes_of, announced_with, withdrawn_from}
-use Rattle.router_core.specs.Stands.{ExitsAt, Stands, EachChain, SmallNumbers, SameResolvers, SameSessions, InteriorTree, HopsCounted, EachExit, QueueLeads, ExitsRead, PlainExits, OneSender, OneReader, ExternalStands}
+use Rattle.live_state.specs.Messages.{Says, changes_of, announced_with, withdrawn_from}
+use Rattle.router_core.specs.Stands.{ExitsAt, Stands, EachChain, SmallNumbers, SameResolvers, SameSessions, InteriorTree, HopsCounted, EachExit, QueueLeads, ExitsRead, SameProfile, OneSender, OneReader, ExternalStands}
 use Rattle.router_core.specs.Phases.{all_phases}
 use Rattle.router_core.specs.Turns.{has_work, journal_lines, FallsRoute}
 use Rattle.router_core.specs.Blocks.{Just, begin_line, BySpeaker, Begins, Loses, Declares, Refilters, Redirects, DropsRouteIf, LosesProtocol, CoversAddress, TellsSettled, Hears, BeginsIf, EndsIf, HearsIf, answer_lines, Shows, ByPeer, IsBlock}
@@ -96,22 +97,25 @@ use Rattle.exit_laws.proofs.PrintLemmas.{beginning_is_printed, end_is_printed}
 use Rattle.router_core.proofs.SessionLemmas.{silenced}
 use Rattle.router_core.proofs.PrintedForwards.{side_print, ext_print, fib_print}
 use Rattle.router_core.proofs.PrintedReaders.{FitReaders}
+use Rattle.router_core.proofs.BeforeLocal.{no_chain}
+use Rattle.live_state.proofs.AdmittedLemmas.{as4_is_first, revised_is_first}
+use Rattle.router_core.proofs.ProfileLemmas.{profile_after, nothing_printable}
 use Rattle.router_core.proofs.PrintedTurns.{Fit, Goes, IsSaid, with_readers, filt_fit, best_shown, own_prints, best_fit, read_fit, feeds_go, route_goes, turns_go, phases_go, first_goes}
 
 -- what an event leaves beside the declarations, and what it says
-pub record Leaves (peers : ℕ → Option Neighbour) (m' : Moment) (said : List Line) : Type 0 where
-  pub chains : (k : ℕ) (c : Chained) → chain_at k m'.chains ≡ Some c → IsPrintableChain plain c
+pub record Leaves (profile : Profile) (peers : ℕ → Option Neighbour) (m' : Moment) (said : List Line) : Type 0 where
+  pub chains : (k : ℕ) (c : Chained) → chain_at k m'.chains ≡ Some c → IsPrintableChain profile c
   pub interior : (proto : Proto) → AreTablesOf IsInteriorRow (branch_of proto m'.tree).tables
   pub hops : AllHaveMetrics m'.hops
   pub ways : HaveWays m'.rib.forwarding
-  pub exits : ArePrintableExits peers m'.exits
+  pub exits : ArePrintableExits profile peers m'.exits
   pub printed : AllByRecursion (IsPrinted peers) said
 
 -- what reads `best` stands
-readers_fit : (peers : ℕ → Option Neighbour) (m : Moment) → Stands m → ArePrintableExits peers m.exits → FitReaders peers m
+readers_fit : (peers : ℕ → Option Neighbour) (m : Moment) → Stands m → ArePrintableExits m.declared.profile peers m.exits → FitReaders m.declared.profile peers m
 readers_fit peers m stands exits = record {
   sound = stands.own EachExit;
-  profile = stands.own PlainExits;
+  written = stands.own SameProfile;
   exits = exits;
   leads = stands.own QueueLeads;
   reads = stands.own OneReader;
@@ -142,7 +146,7 @@ module _ (m : Moment) (stands : Stands m) (printable : IsPrintableMoment m) wher
   session_named : (k : ℕ) (p : DeclaredPeer) → peer_at k m.declared.peers ≡ Some p → p.up ≡ true → IsNameNumber p.session
   session_named k p at up = let known = known_at k p at in let most = known.session in (known.begun up, omega (arith, most))
 
-  chain_fit : (k : ℕ) (c : Chained) → chain_at k m.chains ≡ Some c → IsFit (neighbours m.declared) plain c × (c.peer.number ≡ k) × (c.incoming.number ≡ k)
+  chain_fit : (k : ℕ) (c : Chained) → chain_at k m.chains ≡ Some c → IsFit (neighbours m.declared) m.declared.profile c × (c.peer.number ≡ k) × (c.incoming.number ≡ k)
   chain_fit k c there =
       let p = peer_of m stands k c there in
       let is = known_at k p.0 p.1 in
@@ -160,7 +164,7 @@ module _ (m : Moment) (stands : Stands m) (printable : IsPrintableMoment m) wher
         own.number,
       )
 
-  pub fit_at : (most : ℕ) → AreNumbered most m.tree → Fit (neighbours m.declared) most m
+  pub fit_at : (most : ℕ) → AreNumbered most m.tree → Fit m.declared.profile (neighbours m.declared) most m
   fit_at most few = record {
     chains = chain_fit;
     interior = λ proto. record { printable = printable.interior proto; rising = ((stands.own InteriorTree).tree.each proto).chain.rising };
@@ -175,9 +179,9 @@ module _ (m : Moment) (stands : Stands m) (printable : IsPrintableMoment m) wher
   }
 
   -- where the exits alone became others
-  exits_leave : (n : Moment) (said : List Line) → n.chains ≡ m.chains → n.tree ≡ m.tree → n.hops ≡ m.hops → n.rib ≡ m.rib → ArePrintableExits (neighbours m.declared) n.exits → Printed said → Leaves (neighbours m.declared) n said
+  exits_leave : (n : Moment) (said : List Line) → n.chains ≡ m.chains → n.tree ≡ m.tree → n.hops ≡ m.hops → n.rib ≡ m.rib → ArePrintableExits m.declared.profile (neighbours m.declared) n.exits → Printed said → Leaves m.declared.profile (neighbours m.declared) n said
   exits_leave n said chains tree hops rib exits printed = record {
-    chains = subst (λ a. (k : ℕ) (c : Chained) → chain_at k a ≡ Some c → IsPrintableChain plain c) (sym chains) printable.chains;
+    chains = subst (λ a. (k : ℕ) (c : Chained) → chain_at k a ≡ Some c → IsPrintableChain m.declared.profile c) (sym chains) printable.chains;
     interior = subst (λ t. (proto : Proto) → AreTablesOf IsInteriorRow (branch_of proto t).tables) (sym tree) printable.interior;
     hops = subst AllHaveMetrics (sym hops) printable.hops;
     ways = subst (λ x. HaveWays x.forwarding) (sym rib) printable.ways;
@@ -185,12 +189,12 @@ module _ (m : Moment) (stands : Stands m) (printable : IsPrintableMoment m) wher
     printed = printed;
   }
 
-  stays : (said : List Line) (m' : Moment) → m' ≡ m → Printed said → Leaves (neighbours m.declared) m' said
-  stays said m' same printed = subst (λ (x : Moment). Leaves (neighbours m.declared) x said) (sym same) (exits_leave m said refl refl refl refl printable.exits printed)
+  stays : (said : List Line) (m' : Moment) → m' ≡ m → Printed said → Leaves m.declared.profile (neighbours m.declared) m' said
+  stays said m' same printed = subst (λ (x : Moment). Leaves m.declared.profile (neighbours m.declared) x said) (sym same) (exits_leave m said refl refl refl refl printable.exits printed)
 
-  just : (these : List Line) (then : Moment) (said : List Line) (turns : ℕ) (m' : Moment) → Just these then said turns m' → Leaves (neighbours m.declared) then these → Leaves (neighbours m.declared) m' said
+  just : (these : List Line) (then : Moment) (said : List Line) (turns : ℕ) (m' : Moment) → Just these then said turns m' → Leaves m.declared.profile (neighbours m.declared) then these → Leaves m.declared.profile (neighbours m.declared) m' said
   just these then said turns m' is leaves =
-      subst (λ (x : Moment). Leaves (neighbours m.declared) x said) (sym is.2) (subst (λ (l : List Line). Leaves (neighbours m.declared) then l) (sym is.0) leaves)
+      subst (λ (x : Moment). Leaves m.declared.profile (neighbours m.declared) x said) (sym is.2) (subst (λ (l : List Line). Leaves m.declared.profile (neighbours m.declared) then l) (sym is.0) leaves)
 
   -- ---- lines without values
   begun : (link : Link) → IsNamed link → IsPrinted (neighbours m.declared) (begin_line link)
@@ -255,7 +259,7 @@ module _ (m : Moment) (stands : Stands m) (printable : IsPrintableMoment m) wher
       by_answer (Some task) works = task_named task works
 
   module _ (few : AreNumbered 4294967294 m.tree) where
-    start : Fit (neighbours m.declared) 4294967294 m
+    start : Fit m.declared.profile (neighbours m.declared) 4294967294 m
     start = fit_at 4294967294 few
 
     -- ---- rows of links
@@ -264,31 +268,31 @@ module _ (m : Moment) (stands : Stands m) (printable : IsPrintableMoment m) wher
       where
         by_chain : (o : Option Chained) → chain_at (owner_of link) m.chains ≡ o → PrintsIfAny (neighbours m.declared) (links_by o link)
         by_chain None at = λ rows p v none is. absurd (cc)
-        by_chain (Some c) at = chain_prints (neighbours m.declared) plain c (chain_fit (owner_of link) c at).0 link
+        by_chain (Some c) at = chain_prints (neighbours m.declared) m.declared.profile c (chain_fit (owner_of link) c at).0 link
 
         by_resolver : (k : ℕ) (o : Option (Resolving Metric)) → resolver_at k m.hops ≡ o → PrintsIfAny (neighbours m.declared) (link_by o (filt_at m.chains k))
         by_resolver k None at = λ rows p v none is. absurd (cc)
         by_resolver k (Some s) at = live_prints (neighbours m.declared) route_value (metric_rows s (filt_at m.chains k))
-            (rows_print (neighbours m.declared) (Some s) (filt_at m.chains k) (λ t is. printable.hops k t (at ∙ is)) (filt_fit (neighbours m.declared) 4294967294 m start k))
+            (rows_print (neighbours m.declared) (Some s) (filt_at m.chains k) (λ t is. printable.hops k t (at ∙ is)) (filt_fit m.declared.profile (neighbours m.declared) 4294967294 m start k))
 
         by_link : (l : Link) → PrintsIfAny (neighbours m.declared) (hop_links m.hops (filt_at m.chains) l)
         by_link (links.Res k) = by_resolver k (resolver_at k m.hops) refl
         by_link other = λ rows p v none is. absurd (cc)
 
-        best_are : AreBestRows (neighbours m.declared) (best_of m)
-        best_are = best_fit (neighbours m.declared) 4294967294 m start
+        best_are : AreBestRows m.declared.profile (neighbours m.declared) (best_of m)
+        best_are = best_fit m.declared.profile (neighbours m.declared) 4294967294 m start
 
-        read_are : AreBestRows (neighbours m.declared) (read_of m)
-        read_are = read_fit (neighbours m.declared) 4294967294 m start
+        read_are : AreBestRows m.declared.profile (neighbours m.declared) (read_of m)
+        read_are = read_fit m.declared.profile (neighbours m.declared) 4294967294 m start
 
         by_best : (s : Option Speaker) (l : Link) → PrintsIfAny (neighbours m.declared) (best_links s (best_of m) l)
         by_best None l = λ rows p v none is. absurd (cc)
-        by_best (Some me) links.Best = live_prints (neighbours m.declared) route_value (best_of m) (best_shown (neighbours m.declared) 4294967294 (best_of m) best_are)
+        by_best (Some me) links.Best = live_prints (neighbours m.declared) route_value (best_of m) (best_shown m.declared.profile (neighbours m.declared) 4294967294 (best_of m) best_are)
         by_best (Some me) other = λ rows p v none is. absurd (cc)
 
         by_own : (s : Option Speaker) (l : Link) → PrintsIfAny (neighbours m.declared) (own_links s (own_of m) l)
         by_own None l = λ rows p v none is. absurd (cc)
-        by_own (Some me) links.Red = live_prints (neighbours m.declared) route_value (own_of m) (own_prints (neighbours m.declared) 4294967294 m start)
+        by_own (Some me) links.Red = live_prints (neighbours m.declared) route_value (own_of m) (own_prints m.declared.profile (neighbours m.declared) 4294967294 m start)
         by_own (Some me) other = λ rows p v none is. absurd (cc)
 
         by_tree : (s : Option Speaker) → PrintsIfAny (neighbours m.declared) (tree_by s m.tree link)
@@ -297,19 +301,19 @@ module _ (m : Moment) (stands : Stands m) (printable : IsPrintableMoment m) wher
 
         -- the external routes, and what packets are forwarded by
         side_rows : (side : BgpLink) → Prints (neighbours m.declared) external_value (kept_rows m.rib.splitter side)
-        side_rows side = subst (λ (rows : Parted). Prints (neighbours m.declared) external_value (rows side)) (sym (stands.own ExternalStands).links) (side_print (neighbours m.declared) side (read_of m) read_are)
+        side_rows side = subst (λ (rows : Parted). Prints (neighbours m.declared) external_value (rows side)) (sym (stands.own ExternalStands).links) (side_print m.declared.profile (neighbours m.declared) side (read_of m) read_are)
 
         by_forward : (s : Option Speaker) (l : Link) → PrintsIfAny (neighbours m.declared) (forward_by s m.rib (int_rows m.tree) l)
         by_forward None l = λ rows p v none is. absurd (cc)
         by_forward (Some me) links.Ebgp = live_prints (neighbours m.declared) external_value (kept_rows m.rib.splitter sides.Ebgp) (side_rows sides.Ebgp)
         by_forward (Some me) links.Ibgp = live_prints (neighbours m.declared) external_value (kept_rows m.rib.splitter sides.Ibgp) (side_rows sides.Ibgp)
-        by_forward (Some me) links.Ext = live_prints (neighbours m.declared) external_value (ext_rows m.rib) (ext_print (neighbours m.declared) m.rib (read_of m) (stands.own ExternalStands) read_are)
+        by_forward (Some me) links.Ext = live_prints (neighbours m.declared) external_value (ext_rows m.rib) (ext_print m.declared.profile (neighbours m.declared) m.rib (read_of m) (stands.own ExternalStands) read_are)
         by_forward (Some me) links.Fib = live_prints (neighbours m.declared) fib_value (fib_over m.rib (int_rows m.tree))
-            (fib_print (neighbours m.declared) m.rib (read_of m) (int_rows m.tree) (stands.own ExternalStands) read_are printable.ways (int_prints (neighbours m.declared) m.tree printable.interior))
+            (fib_print m.declared.profile (neighbours m.declared) m.rib (read_of m) (int_rows m.tree) (stands.own ExternalStands) read_are printable.ways (int_prints (neighbours m.declared) m.tree printable.interior))
         by_forward (Some me) other = λ rows p v none is. absurd (cc)
 
         by_reader : (reader : ℕ) → Prints (neighbours m.declared) route_value (read_rows m.exits.queue reader (best_of m))
-        by_reader reader p row is = let own = rows_read (neighbours m.declared) (unread_by m.exits.queue reader) (best_of m) (printable.exits.unread reader) best_are p row is in (own.prefix, own.printed)
+        by_reader reader p row is = let own = rows_read m.declared.profile (neighbours m.declared) (unread_by m.exits.queue reader) (best_of m) (printable.exits.unread reader) best_are p row is in (own.prefix, own.printed)
 
         by_read : (o : Option ℕ) → PrintsIfAny (neighbours m.declared) (read_by m.exits.queue o (best_of m))
         by_read None = λ rows p v none is. absurd (cc)
@@ -353,18 +357,18 @@ module _ (m : Moment) (stands : Stands m) (printable : IsPrintableMoment m) wher
     shown link named (Some rows) at said is =
         subst Printed (sym is.2) (all_both (IsPrinted (neighbours m.declared)) _ _ (rows_printed (neighbours m.declared) link rows named (λ p v here. links_print link rows p v at here) is.0 is.1.each) (plain_printed (neighbours m.declared) _ refl refl (named, is.3), tt))
 
-    leaves : (said : List Line) (m' : Moment) → Fit (neighbours m.declared) 4294967294 m' → Printed said → Leaves (neighbours m.declared) m' said
+    leaves : (said : List Line) (m' : Moment) → Fit m.declared.profile (neighbours m.declared) 4294967294 m' → Printed said → Leaves m.declared.profile (neighbours m.declared) m' said
     leaves said m' fit printed = record { chains = λ k c there. (fit.chains k c there).0.printable; interior = λ proto. (fit.interior proto).printable; hops = fit.metrics; ways = fit.ways; exits = fit.readers.exits; printed = printed }
 
-    gone : (said : List Line) (m' : Moment) → Goes (neighbours m.declared) 4294967294 m said m' → Leaves (neighbours m.declared) m' said
+    gone : (said : List Line) (m' : Moment) → Goes m.declared.profile (neighbours m.declared) 4294967294 m said m' → Leaves m.declared.profile (neighbours m.declared) m' said
     gone said m' goes = let x = goes start in leaves said m' x.0 x.1
 
     -- ---- losses of sessions
-    lost : (k s : ℕ) (said : List Line) (m' : Moment) → IsNameNumber s → Loses k s m said m' → Leaves (neighbours m.declared) m' said
+    lost : (k s : ℕ) (said : List Line) (m' : Moment) → IsNameNumber s → Loses k s m said m' → Leaves m.declared.profile (neighbours m.declared) m' said
     lost k s said m' session l =
-        let silent = end_is_printed (neighbours m.declared) k m.exits l.silenced l.entries printable.exits l.ends in
+        let silent = end_is_printed m.declared.profile (neighbours m.declared) k m.exits l.silenced l.entries printable.exits l.ends in
         let ended = (silenced k m l.silenced l.entries stands l.ends).stands in
-        let x = first_goes (neighbours m.declared) 4294967294 (overdue_at k m.chains) (with_exits m l.silenced) l.first l.room l.runs (with_readers (neighbours m.declared) 4294967294 m m.redist l.silenced m.registry m.rib start refl start.ways
+        let x = first_goes m.declared.profile (neighbours m.declared) 4294967294 (overdue_at k m.chains) (with_exits m l.silenced) l.first l.room l.runs (with_readers m.declared.profile (neighbours m.declared) 4294967294 m m.redist l.silenced m.registry m.rib start refl start.ways
         (readers_fit (neighbours m.declared) (with_exits m l.silenced) ended silent.exits)) in
         let i = l.loses in
         let c = i.part.loses.chain in
@@ -373,14 +377,14 @@ module _ (m : Moment) (stands : Stands m) (printable : IsPrintableMoment m) wher
           | true ↦ tt
           | false ↦ (begun (links.Peer c.incoming.number s) (own.named, session), tt)
         ]) in
-        let chains = put_each (λ j d. IsPrintableChain plain d) k _ l.room.chains
-        (record { tables = lost_printable (Heard (neighbours m.declared) plain c) s c.incoming.tables session own.printable.tables; in_force = own.printable.in_force; walk = own.printable.walk }) (λ j d there. (x.0.chains j d there).0.printable) in
-        subst (λ (n : Moment). Leaves (neighbours m.declared) n said) (sym l.after) (record {
-          chains = subst (λ (n : Moment). (j : ℕ) (d : Chained) → chain_at j n.chains ≡ Some d → IsPrintableChain plain d) (sym (i.after ∙ ap (λ a. record l.room { chains = a }) i.part.loses.after)) chains;
+        let chains = put_each (λ j d. IsPrintableChain m.declared.profile d) k _ l.room.chains
+        (record { tables = lost_printable (Heard (neighbours m.declared) m.declared.profile c) s c.incoming.tables session own.printable.tables; in_force = own.printable.in_force; walk = own.printable.walk }) (λ j d there. (x.0.chains j d there).0.printable) in
+        subst (λ (n : Moment). Leaves m.declared.profile (neighbours m.declared) n said) (sym l.after) (record {
+          chains = subst (λ (n : Moment). (j : ℕ) (d : Chained) → chain_at j n.chains ≡ Some d → IsPrintableChain m.declared.profile d) (sym (i.after ∙ ap (λ a. record l.room { chains = a }) i.part.loses.after)) chains;
           interior = subst (λ (n : Moment). (proto : Proto) → AreTablesOf IsInteriorRow (branch_of proto n.tree).tables) (sym i.after) (λ proto. (x.0.interior proto).printable);
           hops = subst (λ (n : Moment). AllHaveMetrics n.hops) (sym i.after) x.0.metrics;
           ways = subst (λ (n : Moment). HaveWays n.rib.forwarding) (sym i.after) x.0.ways;
-          exits = subst (λ (n : Moment). ArePrintableExits (neighbours m.declared) n.exits) (sym i.after) x.0.readers.exits;
+          exits = subst (λ (n : Moment). ArePrintableExits m.declared.profile (neighbours m.declared) n.exits) (sym i.after) x.0.readers.exits;
           printed = subst Printed (sym l.lines) (all_both (IsPrinted (neighbours m.declared)) (journal_lines l.entries) (l.first ++ l.last) silent.lines (all_both (IsPrinted (neighbours m.declared)) l.first l.last x.1 begins));
         })
 
@@ -388,27 +392,27 @@ module _ (m : Moment) (stands : Stands m) (printable : IsPrintableMoment m) wher
     network_prefix : (n : Network) → IsNetwork n → IsPrefix n
     network_prefix n is = (is.masked, is.fits)
 
-    changes_said : (w : Neighbour) (octets : List ℕ) (u : Update) → AreOctets octets → Reads plain (not w.internal) octets (messages.Update u) → AllByRecursion (IsSaid (neighbours m.declared) 4294967294 w) (changes_of u)
+    changes_said : (w : Neighbour) (octets : List ℕ) (u : Update) → AreOctets octets → Reads m.declared.profile (not w.internal) octets (messages.Update u) → AllByRecursion (IsSaid m.declared.profile (neighbours m.declared) 4294967294 w) (changes_of u)
     changes_said w octets u are reads =
-        let readable = read_is_readable plain (not w.internal) octets u are reads in
-        all_both (IsSaid (neighbours m.declared) 4294967294 w) (map withdrawn_from (without u.announced u.withdrawn)) _ (withdrawn _ (every_filter IsNetwork _ u.withdrawn (all_every IsNetwork u.withdrawn readable.withdrawn)))
+        let readable = read_is_readable m.declared.profile (not w.internal) octets u are reads in
+        all_both (IsSaid m.declared.profile (neighbours m.declared) 4294967294 w) (map withdrawn_from (without u.announced u.withdrawn)) _ (withdrawn _ (every_filter IsNetwork _ u.withdrawn (all_every IsNetwork u.withdrawn readable.withdrawn)))
         (announced u.attrs refl (filter is_host_prefix u.announced) (every_filter IsNetwork is_host_prefix u.announced (all_every IsNetwork u.announced readable.announced)))
       where
-        withdrawn : (ns : List Network) → Every IsNetwork ns → AllByRecursion (IsSaid (neighbours m.declared) 4294967294 w) (map withdrawn_from ns)
+        withdrawn : (ns : List Network) → Every IsNetwork ns → AllByRecursion (IsSaid m.declared.profile (neighbours m.declared) 4294967294 w) (map withdrawn_from ns)
         withdrawn [] each = tt
         withdrawn (n ∷ ns) each = ((network_prefix n each.0, tt), withdrawn ns each.1)
 
-        attrs_said : (o : Option Attrs) → u.attrs ≡ o → IfSome o (WasHeard plain (not w.internal))
+        attrs_said : (o : Option Attrs) → u.attrs ≡ o → IfSome o (WasHeard m.declared.profile (not w.internal))
         attrs_said None at = tt
         attrs_said (Some a) at = (octets, u, are, reads, at)
 
-        announced : (o : Option Attrs) → u.attrs ≡ o → (ns : List Network) → Every IsNetwork ns → AllByRecursion (IsSaid (neighbours m.declared) 4294967294 w) (map (announced_with o) ns)
+        announced : (o : Option Attrs) → u.attrs ≡ o → (ns : List Network) → Every IsNetwork ns → AllByRecursion (IsSaid m.declared.profile (neighbours m.declared) 4294967294 w) (map (announced_with o) ns)
         announced o at [] each = tt
         announced o at (n ∷ ns) each = ((network_prefix n each.0, attrs_said o at), announced o at ns each.1)
 
-    heard : (k : ℕ) (p : DeclaredPeer) (octets : List ℕ) (message : Message) (said : List Line) (m' : Moment) → peer_at k m.declared.peers ≡ Some p → p.up ≡ true → AreOctets octets → Says p octets message → Hears k p m message said m'
-        → Leaves (neighbours m.declared) m' said
-    heard k p octets (messages.Update u) said m' at up are says hears = gone said m' (feeds_go (neighbours m.declared) 4294967294 k p.words (changes_of u) m said m' (ap words_in at) (changes_said p.words octets u are says) hears)
+    heard : (k : ℕ) (p : DeclaredPeer) (octets : List ℕ) (message : Message) (said : List Line) (m' : Moment) → peer_at k m.declared.peers ≡ Some p → p.up ≡ true → AreOctets octets → Says m.declared.profile p octets message → Hears k p m message said m'
+        → Leaves m.declared.profile (neighbours m.declared) m' said
+    heard k p octets (messages.Update u) said m' at up are says hears = gone said m' (feeds_go m.declared.profile (neighbours m.declared) 4294967294 k p.words (changes_of u) m said m' (ap words_in at) (changes_said p.words octets u are says) hears)
     heard k p octets messages.Keepalive said m' at up are says hears = stays said m' hears.1 (subst Printed (sym hears.0) tt)
     heard k p octets messages.Skip said m' at up are says hears = stays said m' hears.1 (subst Printed (sym hears.0) tt)
     heard k p octets messages.Notification said m' at up are says hears = lost k p.session said m' (session_named k p at up) hears
@@ -418,17 +422,17 @@ module _ (m : Moment) (stands : Stands m) (printable : IsPrintableMoment m) wher
 
     -- ---- interior routes
     fed : (proto : Proto) (p : Network) (row : Option Interior) (said : List Line) (m' : Moment) → IsPrefix p → IfSome row (IsInteriorRow p) → FallsRoute m (fed_tree m.tree proto p row) proto p (way_of_route proto m.tree) said m'
-        → Leaves (neighbours m.declared) m' said
+        → Leaves m.declared.profile (neighbours m.declared) m' said
     fed proto p row said m' prefix new falls =
         let b = branch_of proto m.tree in
         let own = start.interior proto in
-        gone said m' (route_goes (neighbours m.declared) 4294967294 m (fed_tree m.tree proto p row) proto p (way_of_route proto m.tree) said m'
+        gone said m' (route_goes m.declared.profile (neighbours m.declared) 4294967294 m (fed_tree m.tree proto p row) proto p (way_of_route proto m.tree) said m'
         (put_all (λ (x : Branch). AreFit IsInteriorRow x.tables) proto (fed_branch b p row) m.tree (fed_fit IsInteriorRow b.tables p row own new) start.interior)
         (put_all (λ (x : Branch). x.losses ≤ 4294967294) proto (fed_branch b p row) m.tree (few proto) few) prefix (route_way proto m.tree own.rising own.printable.losses) falls)
 
-    protocol_lost : (proto : Proto) (said : List Line) (m' : Moment) → LosesProtocol proto m said m' → Leaves (neighbours m.declared) m' said
+    protocol_lost : (proto : Proto) (said : List Line) (m' : Moment) → LosesProtocol proto m said m' → Leaves m.declared.profile (neighbours m.declared) m' said
     protocol_lost proto said m' l =
-        let x = first_goes (neighbours m.declared) 4294967294 (tree_overdue proto m.tree) m l.first l.room l.runs start in
+        let x = first_goes m.declared.profile (neighbours m.declared) 4294967294 (tree_overdue proto m.tree) m l.first l.room l.runs start in
         let b = branch_of proto l.room.tree in
         let most = x.0.few proto in
         let named : IsNameNumber (b.losses + 1) = (omega arith, omega (arith, most)) in
@@ -436,7 +440,7 @@ module _ (m : Moment) (stands : Stands m) (printable : IsPrintableMoment m) wher
           | true ↦ tt
           | false ↦ (begun (links.Lost b.proto (b.losses + 1)) named, tt)
         ] in
-        subst (λ (n : Moment). Leaves (neighbours m.declared) n said) (sym l.after) (record {
+        subst (λ (n : Moment). Leaves m.declared.profile (neighbours m.declared) n said) (sym l.after) (record {
           chains = λ k c there. (x.0.chains k c there).0.printable;
           interior = put_all (λ (y : Branch). AreTablesOf IsInteriorRow y.tables) proto (lost_branch b) l.room.tree (lost_printable IsInteriorRow (b.losses + 1) b.tables named (x.0.interior proto).printable) (λ other. (x.0.interior other).printable);
           hops = x.0.metrics;
@@ -453,10 +457,10 @@ module _ (m : Moment) (stands : Stands m) (printable : IsPrintableMoment m) wher
         by_found None at is = absurd is
         by_found (Some p) at is = then p at is
 
-    declared : (speaker : Option Speaker) (k : ℕ) (words : Speaker) (said : List Line) (turns : ℕ) (m' : Moment) → IsNameNumber k → Declares m speaker k words said turns m' → Leaves (neighbours m.declared) m' said
+    declared : (speaker : Option Speaker) (k : ℕ) (words : Speaker) (said : List Line) (turns : ℕ) (m' : Moment) → IsNameNumber k → Declares m speaker k words said turns m' → Leaves m.declared.profile (neighbours m.declared) m' said
     declared None k words said turns m' named is = absurd is
     declared (Some me) k words said turns m' named is = just _ _ said turns m' is (record {
-      chains = put_each (λ j c. IsPrintableChain plain c) k _ m.chains (record { tables = none_printable _; in_force = All-nil (IsRule false); walk = tt }) printable.chains;
+      chains = put_each (λ j c. IsPrintableChain m.declared.profile c) k _ m.chains (record { tables = none_printable _; in_force = All-nil (IsRule m.declared.profile.as4); walk = tt }) printable.chains;
       interior = printable.interior;
       hops = metrics_put k (nothing_known k) m.hops _ refl (λ a h at. absurd (let none = get-empty {X = Hop Metric} nat_cmp a in cc)) printable.hops;
       ways = printable.ways;
@@ -464,78 +468,92 @@ module _ (m : Moment) (stands : Stands m) (printable : IsPrintableMoment m) wher
       printed = (begun (links.In k) named, (begun (links.Filt k) named, (begun (links.Res k) named, tt)));
     })
 
-    refiltered : (k : ℕ) (rules : List Rule) (said : List Line) (turns : ℕ) (m' : Moment) → AreRules false rules → Refilters k rules m said turns m' → Leaves (neighbours m.declared) m' said
+    refiltered : (k : ℕ) (rules : List Rule) (said : List Line) (turns : ℕ) (m' : Moment) → AreRules m.declared.profile.as4 rules → Refilters k rules m said turns m' → Leaves m.declared.profile (neighbours m.declared) m' said
     refiltered k rules said turns m' are is =
         let e = is.1.edits in
-        let chains = put_each (λ j c. IsPrintableChain plain c) k _ m.chains (edited_printable plain e.chain rules (printable.chains k e.chain e.at) are) printable.chains in
-        just [] _ said turns m' is.2 (record { chains = subst (λ a. (j : ℕ) (c : Chained) → chain_at j a ≡ Some c → IsPrintableChain plain c) (sym e.after) chains; interior = printable.interior; hops = printable.hops; ways = printable.ways; exits = printable.exits; printed = tt })
+        let chains = put_each (λ j c. IsPrintableChain m.declared.profile c) k _ m.chains (edited_printable m.declared.profile e.chain rules (printable.chains k e.chain e.at) are) printable.chains in
+        just [] _ said turns m' is.2 (record { chains = subst (λ a. (j : ℕ) (c : Chained) → chain_at j a ≡ Some c → IsPrintableChain m.declared.profile c) (sym e.after) chains; interior = printable.interior; hops = printable.hops; ways = printable.ways; exits = printable.exits; printed = tt })
 
     -- ---- the exits
-    redirected : (k : ℕ) (rules : List Rule) (said : List Line) (turns : ℕ) (m' : Moment) → Redirects k rules m said turns m' → Leaves (neighbours m.declared) m' said
-    redirected k rules said turns m' is = just [] _ said turns m' is.2 (exits_leave _ _ refl refl refl refl (edit_is_printed (neighbours m.declared) k rules m.exits is.0 printable.exits is.1) tt)
+    redirected : (k : ℕ) (rules : List Rule) (said : List Line) (turns : ℕ) (m' : Moment) → Redirects k rules m said turns m' → Leaves m.declared.profile (neighbours m.declared) m' said
+    redirected k rules said turns m' is = just [] _ said turns m' is.2 (exits_leave _ _ refl refl refl refl (edit_is_printed m.declared.profile (neighbours m.declared) k rules m.exits is.0 printable.exits is.1) tt)
 
-    begins : (me : Speaker) (k : ℕ) (p : DeclaredPeer) (said : List Line) (m' : Moment) → peer_at k m.declared.peers ≡ Some p → Begins me k p m said m' → Leaves (neighbours m.declared) m' said
+    begins : (me : Speaker) (k : ℕ) (p : DeclaredPeer) (said : List Line) (m' : Moment) → peer_at k m.declared.peers ≡ Some p → Begins me k p m said m' → Leaves m.declared.profile (neighbours m.declared) m' said
     begins me k p said m' at b =
         let known = known_at k p at in
         let most = known.session in
         let named : IsNamed (links.Adv p.words.number (p.session + 1)) = (subst IsNameNumber (sym known.number) (named_by k p at), (omega arith, omega (arith, most))) in
-        let x = beginning_is_printed (neighbours m.declared) me p.words (p.session + 1) (rules_to k m.outgoing) m.exits m'.exits b.entries named printable.exits b.begins in
-        subst (λ (n : Moment). Leaves (neighbours m.declared) n said) (sym b.after) (exits_leave _ _ refl refl refl refl x.exits (subst Printed (sym b.lines) x.lines))
+        let x = beginning_is_printed m.declared.profile (neighbours m.declared) me p.words (p.session + 1) (rules_to k m.outgoing) m.exits m'.exits b.entries named printable.exits b.begins in
+        subst (λ (n : Moment). Leaves m.declared.profile (neighbours m.declared) n said) (sym b.after) (exits_leave _ _ refl refl refl refl x.exits (subst Printed (sym b.lines) x.lines))
 
-    begun_by : (s : Option Speaker) (k : ℕ) (p : DeclaredPeer) (said : List Line) (m' : Moment) → peer_at k m.declared.peers ≡ Some p → BySpeaker (λ me. Begins me k p m said m') s → Leaves (neighbours m.declared) m' said
+    begun_by : (s : Option Speaker) (k : ℕ) (p : DeclaredPeer) (said : List Line) (m' : Moment) → peer_at k m.declared.peers ≡ Some p → BySpeaker (λ me. Begins me k p m said m') s → Leaves m.declared.profile (neighbours m.declared) m' said
     begun_by None k p said m' at is = absurd is
     begun_by (Some me) k p said m' at is = begins me k p said m' at is
 
-    begun_if : (up : Bool) (k : ℕ) (p : DeclaredPeer) (said : List Line) (turns : ℕ) (m' : Moment) → peer_at k m.declared.peers ≡ Some p → BeginsIf up m k p said turns m' → Leaves (neighbours m.declared) m' said
+    begun_if : (up : Bool) (k : ℕ) (p : DeclaredPeer) (said : List Line) (turns : ℕ) (m' : Moment) → peer_at k m.declared.peers ≡ Some p → BeginsIf up m k p said turns m' → Leaves m.declared.profile (neighbours m.declared) m' said
     begun_if true k p said turns m' at is = just _ m said turns m' is (stays _ m refl (ignored, tt))
     begun_if false k p said turns m' at is = begun_by m.declared.speaker k p said m' at is.1
 
-    ended_if : (up : Bool) (k : ℕ) (p : DeclaredPeer) (said : List Line) (turns : ℕ) (m' : Moment) → p.up ≡ up → peer_at k m.declared.peers ≡ Some p → EndsIf up m k p said turns m' → Leaves (neighbours m.declared) m' said
+    ended_if : (up : Bool) (k : ℕ) (p : DeclaredPeer) (said : List Line) (turns : ℕ) (m' : Moment) → p.up ≡ up → peer_at k m.declared.peers ≡ Some p → EndsIf up m k p said turns m' → Leaves m.declared.profile (neighbours m.declared) m' said
     ended_if true k p said turns m' up at is = lost k p.session said m' (session_named k p at up) is.1
     ended_if false k p said turns m' up at is = just _ m said turns m' is (stays _ m refl (ignored, tt))
 
-    heard_if : (up : Bool) (k : ℕ) (p : DeclaredPeer) (octets : List ℕ) (said : List Line) (turns : ℕ) (m' : Moment) → p.up ≡ up → peer_at k m.declared.peers ≡ Some p → AreOctets octets → HearsIf up m k p octets said turns m' → Leaves (neighbours m.declared) m' said
+    heard_if : (up : Bool) (k : ℕ) (p : DeclaredPeer) (octets : List ℕ) (said : List Line) (turns : ℕ) (m' : Moment) → p.up ≡ up → peer_at k m.declared.peers ≡ Some p → AreOctets octets → HearsIf up m k p octets said turns m' → Leaves m.declared.profile (neighbours m.declared) m' said
     heard_if true k p octets said turns m' up at are is = heard k p octets is.1.0 said m' at up are is.1.1 is.1.2
     heard_if false k p octets said turns m' up at are is = just _ m said turns m' is (stays _ m refl (ignored, tt))
 
-    dropped_if : (has : Bool) (proto : Proto) (p : Network) (said : List Line) (turns : ℕ) (m' : Moment) → IsPrefix p → DropsRouteIf has proto p m said turns m' → Leaves (neighbours m.declared) m' said
+    dropped_if : (has : Bool) (proto : Proto) (p : Network) (said : List Line) (turns : ℕ) (m' : Moment) → IsPrefix p → DropsRouteIf has proto p m said turns m' → Leaves m.declared.profile (neighbours m.declared) m' said
     dropped_if false proto p said turns m' prefix is = just _ m said turns m' is (stays _ m refl (ignored, tt))
     dropped_if true proto p said turns m' prefix is = fed proto p None said m' prefix tt is.1
 
-    pub event_printed : (event : Event) (said : List Line) (turns : ℕ) (m' : Moment) → IsWellFormed event → IsBlock m event said turns m' → Leaves (neighbours m.declared) m' said
-    event_printed Nothing said turns m' formed is = just [] m said turns m' is (stays [] m refl tt)
-    event_printed (Local words) said turns m' formed is =
+    -- before `local` nothing stands that could be printed
+    profiled_printed : (profile : Profile) (said : List Line) (turns : ℕ) (m' : Moment) → m.declared.speaker ≡ None → Just [] (profiled m profile) said turns m' → Leaves profile (neighbours m.declared) m' said
+    profiled_printed profile said turns m' first is =
+        subst (λ (x : Moment). Leaves profile (neighbours m.declared) x said) (sym is.2) (subst (λ (l : List Line). Leaves profile (neighbours m.declared) (profiled m profile) l) (sym is.0) (record {
+          chains = λ k c at. absurd (let none = no_chain m stands first k in cc);
+          interior = printable.interior;
+          hops = printable.hops;
+          ways = printable.ways;
+          exits = nothing_printable profile (neighbours m.declared);
+          printed = tt;
+        }))
+
+    pub event_printed : (event : Event) (said : List Line) (turns : ℕ) (m' : Moment) → refusal m.declared event ≡ None → IsWellFormed m.declared.profile.as4 event → IsBlock m event said turns m' → Leaves (profile_after m.declared.profile event) (neighbours m.declared) m' said
+    event_printed As4 said turns m' admitted formed is = profiled_printed (with_four_octets m.declared.profile) said turns m' (as4_is_first m.declared admitted) is
+    event_printed Revised said turns m' admitted formed is = profiled_printed (with_revised m.declared.profile) said turns m' (revised_is_first m.declared admitted) is
+    event_printed Nothing said turns m' admitted formed is = just [] m said turns m' is (stays [] m refl tt)
+    event_printed (Local words) said turns m' admitted formed is =
         let l = is.1 in
         let inherits = plain_printed (neighbours m.declared) (lines.Journal (entries.Inherit links.ReadRib links.Best)) refl refl (tt, tt) in
-        subst (λ (n : Moment). Leaves (neighbours m.declared) n said) (sym l.after) (exits_leave _ _ refl refl refl refl (join_is_printed (neighbours m.declared) l.reader m.exits printable.exits)
+        subst (λ (n : Moment). Leaves m.declared.profile (neighbours m.declared) n said) (sym l.after) (exits_leave _ _ refl refl refl refl (join_is_printed m.declared.profile (neighbours m.declared) l.reader m.exits printable.exits)
         (subst Printed (sym l.lines) (begun (links.Org Connected) tt, (begun (links.Org Static) tt, (begun (links.Org Ospf) tt, (begun (links.Org Rip) tt, (begun links.Low tt, (begun links.Dyn tt, (begun links.Int tt, (begun links.Red tt, (begun links.Best tt, (inherits, (begun links.Ebgp tt, (begun links.Ibgp tt, (begun links.Ext tt, (begun links.Fib tt, tt))))))))))))))))
-    event_printed (Peer k words) said turns m' formed is = declared m.declared.speaker k words said turns m' (formed.0.least, formed.0.fits) is
-    event_printed (Up k) said turns m' formed is = by_peer (λ p. BeginsIf p.up m k p said turns m') k _ (λ p at begins. begun_if p.up k p said turns m' at begins) is
-    event_printed (Down k) said turns m' formed is = by_peer (λ p. EndsIf p.up m k p said turns m') k _ (λ p at ends. ended_if p.up k p said turns m' refl at ends) is
-    event_printed (Bgp k octets) said turns m' formed is = by_peer (λ p. HearsIf p.up m k p octets said turns m') k _ (λ p at hears. heard_if p.up k p octets said turns m' refl at formed.1.bytes hears) is
-    event_printed (FilterIn k rules) said turns m' formed is = refiltered k rules said turns m' formed.1 is
-    event_printed (FilterOut k rules) said turns m' formed is = redirected k rules said turns m' is
-    event_printed (RouteAdd p row) said turns m' formed is =
+    event_printed (Peer k words) said turns m' admitted formed is = declared m.declared.speaker k words said turns m' (formed.0.least, formed.0.fits) is
+    event_printed (Up k) said turns m' admitted formed is = by_peer (λ p. BeginsIf p.up m k p said turns m') k _ (λ p at begins. begun_if p.up k p said turns m' at begins) is
+    event_printed (Down k) said turns m' admitted formed is = by_peer (λ p. EndsIf p.up m k p said turns m') k _ (λ p at ends. ended_if p.up k p said turns m' refl at ends) is
+    event_printed (Bgp k octets) said turns m' admitted formed is = by_peer (λ p. HearsIf p.up m k p octets said turns m') k _ (λ p at hears. heard_if p.up k p octets said turns m' refl at formed.1.bytes hears) is
+    event_printed (FilterIn k rules) said turns m' admitted formed is = refiltered k rules said turns m' formed.1 is
+    event_printed (FilterOut k rules) said turns m' admitted formed is = redirected k rules said turns m' is
+    event_printed (RouteAdd p row) said turns m' admitted formed is =
         let prefix : IsPrefix p = (formed.0.masked, formed.0.fits) in
         let own = formed.1 in
         fed row.proto p (Some row) said m' prefix (record { prefix = prefix; printed = λ all. record { well_told = record { ranges = (own.name, own.metric); told = own.gateway }; short = tt } }) is.1
-    event_printed (RouteDel proto p) said turns m' formed is = dropped_if _ proto p said turns m' (formed.masked, formed.fits) is
-    event_printed (Lose proto) said turns m' formed is = protocol_lost proto said m' is.1
-    event_printed (Redist proto on) said turns m' formed is = just [] _ said turns m' is (record { chains = printable.chains; interior = printable.interior; hops = printable.hops; ways = printable.ways; exits = printable.exits; printed = tt })
-    event_printed (Cover addr) said turns m' formed is = stays said m' is.1 (covered addr said formed is.2)
-    event_printed (Settled p) said turns m' formed is = stays said m' is.1 (settled p said (formed.masked, formed.fits) is.2)
-    event_printed Idle said turns m' formed is =
-        let x = phases_go (neighbours m.declared) 4294967294 all_phases m is.inner turns m' is.runs start in
+    event_printed (RouteDel proto p) said turns m' admitted formed is = dropped_if _ proto p said turns m' (formed.masked, formed.fits) is
+    event_printed (Lose proto) said turns m' admitted formed is = protocol_lost proto said m' is.1
+    event_printed (Redist proto on) said turns m' admitted formed is = just [] _ said turns m' is (record { chains = printable.chains; interior = printable.interior; hops = printable.hops; ways = printable.ways; exits = printable.exits; printed = tt })
+    event_printed (Cover addr) said turns m' admitted formed is = stays said m' is.1 (covered addr said formed is.2)
+    event_printed (Settled p) said turns m' admitted formed is = stays said m' is.1 (settled p said (formed.masked, formed.fits) is.2)
+    event_printed Idle said turns m' admitted formed is =
+        let x = phases_go m.declared.profile (neighbours m.declared) 4294967294 all_phases m is.inner turns m' is.runs start in
         let within = is.within in
         let fits = is.fits in
         leaves said m' x.0 (subst Printed (sym is.lines) (
           plain_printed (neighbours m.declared) _ refl refl fits,
           all_both (IsPrinted (neighbours m.declared)) is.inner (lines.Idle turns ∷ []) x.1 (plain_printed (neighbours m.declared) (lines.Idle turns) refl refl (omega (arith, within, fits)), tt),
         ))
-    event_printed (Work task n) said turns m' formed is =
-        let x = turns_go (neighbours m.declared) 4294967294 turns task m is.inner m' is.taken start in
+    event_printed (Work task n) said turns m' admitted formed is =
+        let x = turns_go m.declared.profile (neighbours m.declared) 4294967294 turns task m is.inner m' is.taken start in
         let most = is.most in
         let low = formed.1 in
         leaves said m' x.0 (subst Printed (sym is.lines) (all_both (IsPrinted (neighbours m.declared)) is.inner (lines.Work turns ∷ []) x.1 (plain_printed (neighbours m.declared) (lines.Work turns) refl refl (omega (arith, most, low)), tt)))
-    event_printed (Ask link p) said turns m' formed is = just _ m said turns m' is (stays _ m refl (asked link p formed.0 (formed.1.masked, formed.1.fits) (router_links m link) refl))
-    event_printed (Show link) said turns m' formed is = stays said m' is.1 (shown link formed (router_links m link) refl said is.2)
+    event_printed (Ask link p) said turns m' admitted formed is = just _ m said turns m' is (stays _ m refl (asked link p formed.0 (formed.1.masked, formed.1.fits) (router_links m link) refl))
+    event_printed (Show link) said turns m' admitted formed is = stays said m' is.1 (shown link formed (router_links m link) refl said is.2)

@@ -4,6 +4,7 @@ use Rattle.std.specs.Option.{option_or}
 use Rattle.addr4.specs.Prefixes.{Network}
 use Rattle.bgp_attr.specs.declared.route.Route.{Route}
 use Rattle.bgp_attr.specs.declared.speaker.Neighbour.{Neighbour}
+use Rattle.bgp_attr.specs.declared.speaker.Profile.{Profile}
 use Rattle.bgp_attr.specs.declared.speaker.Speaker.{Speaker}
 use Rattle.bgp_wire.specs.Lengths.{attributes_length}
 use Rattle.link_change.specs.Rows.{Rows}
@@ -51,7 +52,6 @@ use Rattle.journal_laws.proofs.PrintedWays.{ArePrintedEntries, sent_printed}
 use Rattle.loss_chain.proofs.ListLemmas.{all_both}
 use Rattle.exit_laws.specs.Printable.{AreBestRows}
 use Rattle.router_core.specs.Bests.{own_rows}
-use Rattle.router_core.specs.Moments.{plain}
 use Rattle.router_core.specs.Stands.{MaySend}
 
 -- a message has room for the attributes of this speaker's own routes
@@ -67,9 +67,9 @@ or_none : {A : Type 0} (o : Option A) → option_or o None ≡ o
 or_none None = refl
 or_none (Some x) = refl
 
-module _ (peers : ℕ → Option Neighbour) where
+module _ (profile : Profile) (peers : ℕ → Option Neighbour) where
   -- ---- this speaker's own routes
-  own_printed : peers 0 ≡ None → (me : Speaker) → IsSender plain me → IsPrintable peers (route_value (local_route me))
+  own_printed : peers 0 ≡ None → (me : Speaker) → IsSender profile me → IsPrintable peers (route_value (local_route me))
   own_printed nobody me sender = record {
     well_told = record {
       ranges = record { attrs = record { path = tt; med = tt; local_pref = tt; aggregator = tt; unrecognized = tt }; pref = omega arith; med = tt; prepend = omega arith; igp = omega arith; from = omega arith };
@@ -78,7 +78,7 @@ module _ (peers : ℕ → Option Neighbour) where
     short = (false, own_short me.addr);
   }
 
-  pub own_print : peers 0 ≡ None → (s : Option Speaker) (on : Passed Protos) (int : Rows Interior) → MaySend s → Prints peers interior_value int → Prints peers route_value (own_rows s on int)
+  pub own_print : peers 0 ≡ None → (s : Option Speaker) (on : Passed Protos) (int : Rows Interior) → MaySend profile s → Prints peers interior_value int → Prints peers route_value (own_rows s on int)
   own_print nobody None on int sender prints p row is = absurd (cc)
   own_print nobody (Some me) on int sender prints p row is = by_row (int p) refl is
     where
@@ -88,7 +88,7 @@ module _ (peers : ℕ → Option Neighbour) where
           ((prints p r at).0, subst (λ (x : Route). IsPrintable peers (route_value x)) (sym (only_own_routes me (function_at on p) p (Some r) row is)) (own_printed nobody me sender))
 
   -- ---- external rows
-  pub external_print : (best : Rows Route) → AreBestRows peers best → Prints peers external_value (λ q. external_row (best q))
+  pub external_print : (best : Rows Route) → AreBestRows profile peers best → Prints peers external_value (λ q. external_row (best q))
   external_print best are p row is = by_route (best p) refl is
     where
       by_sender : (r : Route) (from : Option Neighbour) → best p ≡ Some r → external_of from r.attrs.next_hop ≡ Some row → IsPrefix p × IsPrintable peers (external_value row)
@@ -104,7 +104,7 @@ module _ (peers : ℕ → Option Neighbour) where
       by_route (Some r) at is = by_sender r r.from at is
 
   -- those of a link
-  pub side_print : (link : BgpLink) (best : Rows Route) → AreBestRows peers best → Prints peers external_value (split_rows best link)
+  pub side_print : (link : BgpLink) (best : Rows Route) → AreBestRows profile peers best → Prints peers external_value (split_rows best link)
   side_print link best are p row is = by_row (external_row (best p)) refl is
     where
       by_test : (b : Bool) (r : External) → external_row (best p) ≡ Some r → cond b (Some r) None ≡ Some row → IsPrefix p × IsPrintable peers (external_value row)
@@ -142,10 +142,10 @@ module _ (peers : ℕ → Option Neighbour) where
   table_print s int ext ways interior external = merged_print peers fib_value fib_distance (forwarded int) (resolved_rows s ext) (forwarded_print peers int interior) (resolved_print s ext ways external)
 
   -- the rows of `ext` and `fib`, where the RIB's exit has these best routes
-  pub ext_print : (e : RibExit) (best : Rows Route) → StandsOver best e → AreBestRows peers best → Prints peers external_value (ext_rows e)
+  pub ext_print : (e : RibExit) (best : Rows Route) → StandsOver best e → AreBestRows profile peers best → Prints peers external_value (ext_rows e)
   ext_print e best stands are = subst (Prints peers external_value) (sym (ext_is_of_best e best stands)) (external_print best are)
 
-  pub fib_print : (e : RibExit) (best : Rows Route) (int : Rows Interior) → StandsOver best e → AreBestRows peers best → HaveWays e.forwarding → Prints peers interior_value int → Prints peers fib_value (fib_over e int)
+  pub fib_print : (e : RibExit) (best : Rows Route) (int : Rows Interior) → StandsOver best e → AreBestRows profile peers best → HaveWays e.forwarding → Prints peers interior_value int → Prints peers fib_value (fib_over e int)
   fib_print e best int stands are ways interior = table_print e.forwarding int (ext_rows e) ways interior (ext_print e best stands are)
 
   pub fib_printed : (old new : Rows FibRow) (p : Network) (fib : Option (Change FibRow)) → Prints peers fib_value old → Prints peers fib_value new → IsSent old new p fib → ArePrintedEntries peers (fib_entries fib)
@@ -201,7 +201,7 @@ module _ (peers : ℕ → Option Neighbour) where
 
   -- from these best routes to those
   pub external_printed : (p : Network) (int : Rows Interior) (split : Split) (first second : Caused) (was : Registry Interior) (e e' : RibExit) (entries : List (Entry Value)) (best now : Rows Route)
-      → StandsOver best e → AreBestRows peers best → AreBestRows peers now → HaveWays e.forwarding → HaveWays e'.forwarding → Prints peers interior_value int
+      → StandsOver best e → AreBestRows profile peers best → AreBestRows profile peers now → HaveWays e.forwarding → HaveWays e'.forwarding → Prints peers interior_value int
       → FallsOn p int split first second was e e' entries best now → ArePrintedEntries peers (fall_entries split first second)
   external_printed p int split first second was e e' entries best now stands before then ways ways' interior f =
       split_printed split first second (split_rows best) (split_rows now) p (λ link. side_print link best before) (λ link. side_print link now then) f.splits f.causes

@@ -46,6 +46,7 @@ use Rattle.decision.proofs.LawLemmas.{best_is_a_branchs}
 use Rattle.peer_out.proofs.SentLemmas.{read_may_be_heard}
 use Rattle.exit_side.specs.Exits.{Exited, with_queue}
 use Rattle.exit_laws.specs.Printable.{AreBestRows}
+use Rattle.bgp_attr.specs.declared.speaker.Profile.{Profile}
 use Rattle.bgp_attr.specs.declared.speaker.Speaker.{Speaker}
 use Rattle.pass_core.specs.Passed.{Passed}
 use Rattle.redist.specs.declared.protos.Protos.{Protos}
@@ -80,20 +81,19 @@ use Rattle.rib_tree.specs.Steps.{welded_tree, swept_tree, tree_weld_entries}
 use Rattle.router_core.specs.declared.router.Phase.{Phase}
 use Rattle.router_core.specs.Moments.{Moment, own_of, best_of, read_of, read_rows_by, with_chains, with_hops, with_tree, with_exits, with_redist, with_rib}
 use Rattle.router_core.specs.Blocks.{RunsFirst}
-use Rattle.live_state.specs.Messages.{plain}
 use Rattle.router_core.specs.Turns.{journal_lines, Resolves, FallsPeer, FeedsAll, FollowsInt, BelowInt, FallsRoute, IsPeerTurn, IsHopTurn, IsRouteTurn, IsOutTurn, IsReadTurn, IsOwnTurn, IsExternalTurn, IsTurn, Turns, RunsPhase, RunsAll}
 use Rattle.peer_side.proofs.WeldLemmas.{fallen_at, weld_lines, weld_after}
 use Rattle.journal_laws.proofs.PrintedHops.{AllHaveMetrics, rows_print, metrics_fit, ways_fit, answers_kept, answers_mapped, answers_turned, metrics_reached, metrics_put}
 use Rattle.rib_tree.proofs.TreeParts.{put_all}
 
 -- where no protocol has lost its routes more often than so
-module _ (peers : ℕ → Option Neighbour) (most : ℕ) where
+module _ (profile : Profile) (peers : ℕ → Option Neighbour) (most : ℕ) where
   abbrev Is : Entry Value → Type 0
   Is e = IsPrinted peers (lines.Journal e)
 
   -- ---- what stands within a step
   pub record Fit (m : Moment) : Type 0 where
-    pub chains : (k : ℕ) (c : Chained) → chain_at k m.chains ≡ Some c → IsFit peers plain c × (c.peer.number ≡ k) × (c.incoming.number ≡ k)
+    pub chains : (k : ℕ) (c : Chained) → chain_at k m.chains ≡ Some c → IsFit peers profile c × (c.peer.number ≡ k) × (c.incoming.number ≡ k)
     pub interior : (proto : Proto) → AreFit IsInteriorRow (branch_of proto m.tree).tables
     pub few : AreNumbered most m.tree
     pub counted : AllCounted (filt_at m.chains) m.hops
@@ -101,8 +101,8 @@ module _ (peers : ℕ → Option Neighbour) (most : ℕ) where
     pub metrics : AllHaveMetrics m.hops
     pub ways : HaveWays m.rib.forwarding
     pub nobody : peers 0 ≡ None
-    pub sender : MaySend m.declared.speaker
-    pub readers : FitReaders peers m
+    pub sender : MaySend profile m.declared.speaker
+    pub readers : FitReaders profile peers m
 
   -- from one moment to another, this is said
   abbrev pub Goes : Moment → List Line → Moment → Type 0
@@ -127,7 +127,7 @@ module _ (peers : ℕ → Option Neighbour) (most : ℕ) where
     where
       by_chain : (o : Option Chained) → chain_at k m.chains ≡ o → Prints peers route_value (filt_by o)
       by_chain None at = λ p row is. absurd (cc)
-      by_chain (Some c) at = filt_prints peers plain c (fit.chains k c at).0
+      by_chain (Some c) at = filt_prints peers profile c (fit.chains k c at).0
 
   int_fit : (m : Moment) → Fit m → Prints peers interior_value (int_rows m.tree)
   int_fit m fit = int_prints peers m.tree (λ proto. (fit.interior proto).printable)
@@ -156,44 +156,44 @@ module _ (peers : ℕ → Option Neighbour) (most : ℕ) where
   all_print own a h mine metrics above (suc k) = rows_print peers (resolver_at (suc k) h) (filt_at a (suc k)) (λ s at. metrics (suc k) s at) (above (suc k))
 
   -- the rows of a chain were heard of its peer
-  chain_heard : (c : Chained) → IsFit peers plain c → IsHeardChain c
-  chain_heard c own p row is = let heard = (own.printable.tables.rows p row is).1 in read_may_be_heard plain (not c.peer.internal) heard.0 heard.1 row heard.2 heard.3 heard.4
+  chain_heard : (c : Chained) → IsFit peers profile c → IsHeardChain profile c
+  chain_heard c own p row is = let heard = (own.printable.tables.rows p row is).1 in read_may_be_heard profile (not c.peer.internal) heard.0 heard.1 row heard.2 heard.3 heard.4
 
-  rows_heard : (m : Moment) → Fit m → RowsWereHeard m.chains
+  rows_heard : (m : Moment) → Fit m → RowsWereHeard profile m.chains
   rows_heard m fit k c at = chain_heard c (fit.chains k c at).0
 
   -- the best of them, which can be said to peers, and printed
-  best_rows_are : (own : Rows Route) (a : Chains) (h : Resolvers) → Prints peers route_value own → RowsMayBeHeard plain own → RowsWereHeard a → AllHaveMetrics h → ((k : ℕ) → Prints peers route_value (filt_at a k)) → AreBestRows peers (best_at own a h)
+  best_rows_are : (own : Rows Route) (a : Chains) (h : Resolvers) → Prints peers route_value own → RowsMayBeHeard profile own → RowsWereHeard profile a → AllHaveMetrics h → ((k : ℕ) → Prints peers route_value (filt_at a k)) → AreBestRows profile peers (best_at own a h)
   best_rows_are own a h mine said heard metrics above p row is =
       let b = best_is_a_branchs (all_at own a h) p row is in
       let printed = all_print own a h mine metrics above b.0 p row b.2 in
-      record { prefix = printed.0; heard = heard_best own a h said heard p row is; printed = printed.1 }
+      record { prefix = printed.0; heard = heard_best profile own a h said heard p row is; printed = printed.1 }
 
   -- this speaker's own, and the best, of a moment
   pub own_prints : (m : Moment) → Fit m → Prints peers route_value (own_of m)
-  own_prints m fit = own_print peers fit.nobody m.declared.speaker m.redist (int_rows m.tree) fit.sender (int_fit m fit)
+  own_prints m fit = own_print profile peers fit.nobody m.declared.speaker m.redist (int_rows m.tree) fit.sender (int_fit m fit)
 
-  own_heard : (m : Moment) → Fit m → RowsMayBeHeard plain (own_of m)
-  own_heard m fit = heard_own_rows m.declared.speaker m.redist (int_rows m.tree) fit.sender
+  own_heard : (m : Moment) → Fit m → RowsMayBeHeard profile (own_of m)
+  own_heard m fit = heard_own_rows profile m.declared.speaker m.redist (int_rows m.tree) fit.sender
 
-  pub best_fit : (m : Moment) → Fit m → AreBestRows peers (best_of m)
+  pub best_fit : (m : Moment) → Fit m → AreBestRows profile peers (best_of m)
   best_fit m fit = best_rows_are (own_of m) m.chains m.hops (own_prints m fit) (own_heard m fit) (rows_heard m fit) fit.metrics (filt_fit m fit)
 
-  pub read_fit : (m : Moment) → Fit m → AreBestRows peers (read_of m)
-  read_fit m fit = read_rows_are peers m fit.readers (best_fit m fit)
+  pub read_fit : (m : Moment) → Fit m → AreBestRows profile peers (read_of m)
+  read_fit m fit = read_rows_are profile peers m fit.readers (best_fit m fit)
 
-  pub best_shown : (rows : Rows Route) → AreBestRows peers rows → Prints peers route_value rows
+  pub best_shown : (rows : Rows Route) → AreBestRows profile peers rows → Prints peers route_value rows
   best_shown rows are p row is = let own = are p row is in (own.prefix, own.printed)
 
   -- what the decision sends
-  decided_printed : (old new : Rows Route) (p : Network) (best : Option (Change Route)) → AreBestRows peers old → AreBestRows peers new → IsSent old new p best → ArePrintedEntries peers (best_entries best)
+  decided_printed : (old new : Rows Route) (p : Network) (best : Option (Change Route)) → AreBestRows profile peers old → AreBestRows profile peers new → IsSent old new p best → ArePrintedEntries peers (best_entries best)
   decided_printed old new p best before then is = sent_printed peers route_value Best old new p best tt (best_shown old before) (best_shown new then) is
 
   no_peer : (k : ℕ) → IsNameNumber k → k ≢ 0
   no_peer k named is = let some = named.0 in absurd (omega (arith, some, is))
 
   -- a fall in a chain, what follows it, and the weld behind it
-  chain_goes : (k : ℕ) (sent : Option (Change Route)) (P : Chains → List (Entry Value) → Type 0) (m : Moment) (less : Chained) (said : List Line) (m' : Moment) (p : Network) → IsFit peers plain less → less.peer.number ≡ k → less.incoming.number ≡ k → (f : FallsPeer k sent P m said m')
+  chain_goes : (k : ℕ) (sent : Option (Change Route)) (P : Chains → List (Entry Value) → Type 0) (m : Moment) (less : Chained) (said : List Line) (m' : Moment) (p : Network) → IsFit peers profile less → less.peer.number ≡ k → less.incoming.number ≡ k → (f : FallsPeer k sent P m said m')
       → f.fallen ≡ put_chain k less m.chains → Changes k p sent m.chains f.fallen → ArePrintedEntries peers f.entries → Goes m said m'
   chain_goes k sent P m less said m' p own number placed f put changes printed fit = (subst Fit (sym f.after) after, lines_printed said (f.entries ++ (f.resolved ++ (f.best ++ f.weld))) f.lines (all_both Is f.entries _ printed (all_both Is f.resolved _ resolves (all_both Is f.best f.weld decides (subst (ArePrintedEntries peers) (sym lines_are) welds)))))
     where
@@ -206,8 +206,8 @@ module _ (peers : ℕ → Option Neighbour) (most : ℕ) where
       welds : ArePrintedEntries peers (chain_weld_entries less)
       welds = weld_printed peers (owners.Peer less.incoming.number) (λ n named. (own.named, named)) (In less.incoming.number) less.incoming.tables.deletions own.named own.printable.tables.losses
 
-      welded_own : IsFit peers plain (welded less)
-      welded_own = with_fit peers plain less (welded_tables less.incoming.tables) own (welded_fit (Heard peers plain less) less.incoming.tables (tables_fit peers plain less own))
+      welded_own : IsFit peers profile (welded less)
+      welded_own = with_fit peers profile less (welded_tables less.incoming.tables) own (welded_fit (Heard peers profile less) less.incoming.tables (tables_fit peers profile less own))
 
       goes : GoesOn k p f.passed m.hops m'.hops f.resolved (filt_at m.chains) (filt_at f.fallen)
       goes = f.below.goes (filt_at m.chains) (filt_at f.fallen) p fit.counted (record { here = changes.rows; others = changes.others })
@@ -216,14 +216,14 @@ module _ (peers : ℕ → Option Neighbour) (most : ℕ) where
       metrics = resolved_metrics k sent f.passed m.registry m'.registry m.hops m'.hops f.resolved (answered m fit) f.below.resolves fit.metrics
 
       fallen_prints : Prints peers route_value (filt_at f.fallen k)
-      fallen_prints = subst (λ (o : Option Chained). Prints peers route_value (filt_by o)) (sym (fallen_at k m.chains f.fallen less put)) (filt_prints peers plain less own)
+      fallen_prints = subst (λ (o : Option Chained). Prints peers route_value (filt_by o)) (sym (fallen_at k m.chains f.fallen less put)) (filt_prints peers profile less own)
 
       all_fallen_print : (j : ℕ) → Prints peers route_value (filt_at f.fallen j)
       all_fallen_print j = by_bool (nat_eq j k) (λ b. Prints peers route_value (filt_at f.fallen j)) (λ e. subst (λ (n : ℕ). Prints peers route_value (filt_at f.fallen n)) (sym (equal_by j k e)) fallen_prints)
           (λ e. subst (λ (rows : Rows Route). Prints peers route_value rows) (sym (changes.others j e)) (filt_fit m fit j))
 
-      best_then : AreBestRows peers (best_at (own_of m) f.fallen m'.hops)
-      best_then = best_rows_are (own_of m) f.fallen m'.hops (own_prints m fit) (own_heard m fit) (put_heard k less m.chains f.fallen put (chain_heard less own) (rows_heard m fit)) metrics all_fallen_print
+      best_then : AreBestRows profile peers (best_at (own_of m) f.fallen m'.hops)
+      best_then = best_rows_are (own_of m) f.fallen m'.hops (own_prints m fit) (own_heard m fit) (put_heard profile k less m.chains f.fallen put (chain_heard less own) (rows_heard m fit)) metrics all_fallen_print
 
       decided : IsSent (best_of m) (best_at (own_of m) f.fallen m'.hops) p f.decided.best
       decided = f.decided.decides (all_at (own_of m) m.chains m.hops) p (all_comes (own_of m) m.chains f.fallen m.hops m'.hops k p f.passed (no_peer k (subst IsNameNumber placed own.named)) goes.comes)
@@ -241,7 +241,7 @@ module _ (peers : ℕ → Option Neighbour) (most : ℕ) where
 
       after : Fit (with_exits (with_hops (with_chains m m'.chains) m'.registry m'.hops) m'.exits)
       after = record {
-        chains = subst (λ (a : Chains). (j : ℕ) (c : Chained) → chain_at j a ≡ Some c → IsFit peers plain c × (c.peer.number ≡ j) × (c.incoming.number ≡ j)) (sym then) (put_each (λ j c. IsFit peers plain c × (c.peer.number ≡ j) × (c.incoming.number ≡ j)) k (welded less) m.chains (welded_own, number, placed) fit.chains);
+        chains = subst (λ (a : Chains). (j : ℕ) (c : Chained) → chain_at j a ≡ Some c → IsFit peers profile c × (c.peer.number ≡ j) × (c.incoming.number ≡ j)) (sym then) (put_each (λ j c. IsFit peers profile c × (c.peer.number ≡ j) × (c.incoming.number ≡ j)) k (welded less) m.chains (welded_own, number, placed) fit.chains);
         interior = fit.interior;
         few = fit.few;
         counted = subst (λ (u : PeerRows). AllCounted u m'.hops) (λ i j. sym (f.welds.quiet j) i) goes.counted;
@@ -250,13 +250,13 @@ module _ (peers : ℕ → Option Neighbour) (most : ℕ) where
         ways = fit.ways;
         nobody = fit.nobody;
         sender = fit.sender;
-        readers = queued_readers peers m (with_exits (with_hops (with_chains m m'.chains) m'.registry m'.hops) m'.exits) p f.decided.best (best_fit m fit) (subst (AreBestRows peers) (sym same) best_then)
+        readers = queued_readers profile peers m (with_exits (with_hops (with_chains m m'.chains) m'.registry m'.hops) m'.exits) p f.decided.best (best_fit m fit) (subst (AreBestRows profile peers) (sym same) best_then)
             (subst (λ (rows : Rows Route). IsSent (best_of m) rows p f.decided.best) (sym same) decided) f.queued refl refl (λ rows over. over) fit.readers;
       }
 
   -- one prefix that a peer said something of
   abbrev pub IsSaid : Neighbour → Network × Option Attrs → Type 0
-  IsSaid w change = IsPrefix change.0 × IfSome change.1 (WasHeard plain (not w.internal))
+  IsSaid w change = IsPrefix change.0 × IfSome change.1 (WasHeard profile (not w.internal))
 
   feed_goes : (k : ℕ) (w : Neighbour) (p : Network) (row : Option Attrs) (sent : Option (Change Route)) (m : Moment) (said : List Line) (m' : Moment) → peers k ≡ Some w → IsSaid w (p, row) → FallsPeer k sent (FeedsInward k p row sent m.chains) m said m' → Goes m said m'
   feed_goes k w p row sent m said m' there is i fit =
@@ -265,10 +265,10 @@ module _ (peers : ℕ → Option Neighbour) (most : ℕ) where
       let who : w ≡ f.chain.peer = same_some w f.chain.peer (sym there ∙ ap peers (sym own.1) ∙ own.0.known) in
       let new = row_heard f.chain.peer p row (subst (λ (x : Neighbour). IsSaid x (p, row)) who is) in
       let less : Chained = fed f.chain p row in
-      let less_fit : IsFit peers plain less = with_fit peers plain f.chain (fed_tables f.chain.incoming.tables p row) own.0 (fed_fit (Heard peers plain f.chain) f.chain.incoming.tables p row (tables_fit peers plain f.chain own.0) new) in
-      chain_goes k sent (FeedsInward k p row sent m.chains) m less said m' p less_fit own.1 (i.part.fall.sound.own less (fallen_at k m.chains i.fallen less f.after)).number i f.after i.part.changes (chain_fall peers plain f.chain own.0 less p (way_of_feed f.chain.incoming) sent i.entries less_fit is.0 (feed_once peers plain f.chain own.0) f.falls) fit
+      let less_fit : IsFit peers profile less = with_fit peers profile f.chain (fed_tables f.chain.incoming.tables p row) own.0 (fed_fit (Heard peers profile f.chain) f.chain.incoming.tables p row (tables_fit peers profile f.chain own.0) new) in
+      chain_goes k sent (FeedsInward k p row sent m.chains) m less said m' p less_fit own.1 (i.part.fall.sound.own less (fallen_at k m.chains i.fallen less f.after)).number i f.after i.part.changes (chain_fall peers profile f.chain own.0 less p (way_of_feed f.chain.incoming) sent i.entries less_fit is.0 (feed_once peers profile f.chain own.0) f.falls) fit
     where
-      row_heard : (x : Neighbour) (q : Network) (o : Option Attrs) → IsSaid x (q, o) → IfSome o (IsHeardRow plain (not x.internal) q)
+      row_heard : (x : Neighbour) (q : Network) (o : Option Attrs) → IsSaid x (q, o) → IfSome o (IsHeardRow profile (not x.internal) q)
       row_heard x q None is = tt
       row_heard x q (Some a) is = is
 
@@ -286,7 +286,7 @@ module _ (peers : ℕ → Option Neighbour) (most : ℕ) where
       let i = t.1 in
       let f = i.part.turn in
       let own = fit.chains (peer_of task) f.chain f.at in
-      let x = turned_fit peers plain f.chain own.0 task f.turned_chain t.0 i.entries f.turned in
+      let x = turned_fit peers profile f.chain own.0 task f.turned_chain t.0 i.entries f.turned in
       chain_goes (peer_of task) t.0 (TakesInward task t.0 m.chains) m f.turned_chain said m' i.part.changes.0 x.0 (turned_peer task f.chain f.turned_chain t.0 i.entries f.turned ∙ own.1)
       (i.part.fall.sound.own f.turned_chain (fallen_at (peer_of task) m.chains i.fallen f.turned_chain f.after)).number i f.after i.part.changes.1 x.1 fit
 
@@ -314,7 +314,7 @@ module _ (peers : ℕ → Option Neighbour) (most : ℕ) where
           ways = fit.ways;
           nobody = fit.nobody;
           sender = fit.sender;
-          readers = queued_readers peers m (with_exits (with_hops m m'.registry m'.hops) m'.exits) goes.0 t.decided.best (best_fit m fit) then decided t.queued refl refl (λ rows over. over) fit.readers;
+          readers = queued_readers profile peers m (with_exits (with_hops m m'.registry m'.hops) m'.exits) goes.0 t.decided.best (best_fit m fit) then decided t.queued refl refl (λ rows over. over) fit.readers;
         }),
         lines_printed said (t.entries ++ t.best) t.lines (all_both Is t.entries t.best printed decides),
       )
@@ -332,7 +332,7 @@ module _ (peers : ℕ → Option Neighbour) (most : ℕ) where
     ways = fit.ways;
     nobody = fit.nobody;
     sender = fit.sender;
-    readers = queued_readers peers m (with_tree m new) nowhere None (best_fit m fit) (subst (AreBestRows peers) (sym best) (best_fit m fit)) best refl refl refl (λ rows over. over) fit.readers;
+    readers = queued_readers profile peers m (with_tree m new) nowhere None (best_fit m fit) (subst (AreBestRows profile peers) (sym best) (best_fit m fit)) best refl refl refl (λ rows over. over) fit.readers;
   }
     where
       nowhere : Network
@@ -369,10 +369,10 @@ module _ (peers : ℕ → Option Neighbour) (most : ℕ) where
     ways = answers_mapped IsWay (reached_hop f.informed.reached) (λ h own. own) m.rib.forwarding.known m'.rib.forwarding.known f.informed.external.reaches.known fit.ways
 
     own_then : Prints peers route_value (own_of after)
-    own_then = own_print peers fit.nobody m.declared.speaker m.redist (int_rows new) fit.sender int_then
+    own_then = own_print profile peers fit.nobody m.declared.speaker m.redist (int_rows new) fit.sender int_then
 
-    best_then : AreBestRows peers (best_of after)
-    best_then = best_rows_are (own_of after) m.chains m'.hops own_then (heard_own_rows m.declared.speaker m.redist (int_rows new) fit.sender) (rows_heard m fit) metrics (filt_fit m fit)
+    best_then : AreBestRows profile peers (best_of after)
+    best_then = best_rows_are (own_of after) m.chains m'.hops own_then (heard_own_rows profile m.declared.speaker m.redist (int_rows new) fit.sender) (rows_heard m fit) metrics (filt_fit m fit)
 
     external : StandsOver (read_of m) m'.rib
     external = f.informed.external.stays.stands (read_of m) fit.readers.external
@@ -393,15 +393,15 @@ module _ (peers : ℕ → Option Neighbour) (most : ℕ) where
       ways = ways;
       nobody = fit.nobody;
       sender = fit.sender;
-      readers = queued_readers peers m after p f.own.decided.best (best_fit m fit) best_then decided f.own.queued refl refl f.informed.external.stays.stands fit.readers;
+      readers = queued_readers profile peers m after p f.own.decided.best (best_fit m fit) best_then decided f.own.queued refl refl f.informed.external.stays.stands fit.readers;
     }
 
     followed_printed : ArePrintedEntries peers entries
     followed_printed = subst (ArePrintedEntries peers) (sym f.lines) (all_both Is f.own_lines f.fib_lines
         (subst (ArePrintedEntries peers) (sym f.own.lines) (all_both Is (own_entries f.own.own) f.own.best (sent_printed peers route_value Red (own_of m) (own_of after) p f.own.own tt (own_prints m fit) own_then own_sent)
         (subst (ArePrintedEntries peers) (sym f.own.decided.lines) (decided_printed (best_of m) (best_of after) p f.own.decided.best (best_fit m fit) best_then decided))))
-        (subst (ArePrintedEntries peers) (sym f.forwards.lines) (fib_printed peers (fib_over m'.rib (int_rows m.tree)) (fib_over m'.rib (int_rows new)) p f.fib
-        (fib_print peers m'.rib (read_of m) (int_rows m.tree) external (read_fit m fit) ways (int_fit m fit)) (fib_print peers m'.rib (read_of m) (int_rows new) external (read_fit m fit) ways int_then)
+        (subst (ArePrintedEntries peers) (sym f.forwards.lines) (fib_printed profile peers (fib_over m'.rib (int_rows m.tree)) (fib_over m'.rib (int_rows new)) p f.fib
+        (fib_print profile peers m'.rib (read_of m) (int_rows m.tree) external (read_fit m fit) ways (int_fit m fit)) (fib_print profile peers m'.rib (read_of m) (int_rows new) external (read_fit m fit) ways int_then)
         (f.forwards.goes (int_rows m.tree) (int_rows new) p rows).fib)))
 
   -- or of none
@@ -439,7 +439,7 @@ module _ (peers : ℕ → Option Neighbour) (most : ℕ) where
       (put_all (λ (x : Branch). x.losses ≤ most) proto (swept_branch n t.prefix b) m.tree (fit.few proto) fit.few) shown.prefix once t.falls fit
 
   -- where neither the chains and resolvers nor the tree become others
-  pub with_readers : (m : Moment) (own : Passed Protos) (e : Exited) (r : Registry Interior) (x : RibExit) → Fit m → r.rows ≡ m.registry.rows → HaveWays x.forwarding → FitReaders peers (record m { redist = own; exits = e; registry = r; rib = x })
+  pub with_readers : (m : Moment) (own : Passed Protos) (e : Exited) (r : Registry Interior) (x : RibExit) → Fit m → r.rows ≡ m.registry.rows → HaveWays x.forwarding → FitReaders profile peers (record m { redist = own; exits = e; registry = r; rib = x })
       → Fit (record m { redist = own; exits = e; registry = r; rib = x })
   with_readers m own e r x fit rows ways readers = record {
     chains = fit.chains;
@@ -468,13 +468,13 @@ module _ (peers : ℕ → Option Neighbour) (most : ℕ) where
       sent = subst (λ (s : Option Speaker). IsSent (own_rows s m.redist (int_rows m.tree)) (own_rows s m'.redist (int_rows m.tree)) walks.0 t.own) (sym t.local) walks.1
 
       own_then : Prints peers route_value (own_of now)
-      own_then = own_print peers fit.nobody m.declared.speaker m'.redist (int_rows m.tree) fit.sender (int_fit m fit)
+      own_then = own_print profile peers fit.nobody m.declared.speaker m'.redist (int_rows m.tree) fit.sender (int_fit m fit)
 
       own : ArePrintedEntries peers (own_entries t.own)
       own = sent_printed peers route_value Red (own_of m) (own_of now) walks.0 t.own tt (own_prints m fit) own_then sent
 
-      best_then : AreBestRows peers (best_of now)
-      best_then = best_rows_are (own_of now) m.chains m.hops own_then (heard_own_rows m.declared.speaker m'.redist (int_rows m.tree) fit.sender) (rows_heard m fit) fit.metrics (filt_fit m fit)
+      best_then : AreBestRows profile peers (best_of now)
+      best_then = best_rows_are (own_of now) m.chains m.hops own_then (heard_own_rows profile m.declared.speaker m'.redist (int_rows m.tree) fit.sender) (rows_heard m fit) fit.metrics (filt_fit m fit)
 
       same : own_of m' ≡ own_of now
       same = ap own_of t.after
@@ -487,32 +487,32 @@ module _ (peers : ℕ → Option Neighbour) (most : ℕ) where
       decides = subst (ArePrintedEntries peers) (sym t.decided.lines) (decided_printed (best_of m) (best_of now) walks.0 t.decided.best (best_fit m fit) best_then decided)
 
       then : Fit now
-      then = with_readers m m'.redist m'.exits m.registry m.rib fit refl fit.ways (queued_readers peers m now walks.0 t.decided.best (best_fit m fit) best_then decided t.queued refl refl (λ rows over. over) fit.readers)
+      then = with_readers m m'.redist m'.exits m.registry m.rib fit refl fit.ways (queued_readers profile peers m now walks.0 t.decided.best (best_fit m fit) best_then decided t.queued refl refl (λ rows over. over) fit.readers)
 
   -- ---- what reads `best`
   out_turn_goes : (k : ℕ) (m : Moment) (said : List Line) (m' : Moment) → IsOutTurn k m said m' → Goes m said m'
   out_turn_goes k m said m' t fit =
-      let x = out_readers peers m k t.sent m'.exits said fit.readers (best_fit m fit) t.turn in
+      let x = out_readers profile peers m k t.sent m'.exits said fit.readers (best_fit m fit) t.turn in
       (subst Fit (sym t.after) (with_readers m m.redist m'.exits m.registry m.rib fit refl fit.ways x.0), x.1)
 
   read_turn_goes : (m : Moment) (said : List Line) (m' : Moment) → IsReadTurn m said m' → Goes m said m'
   read_turn_goes m said m' t fit = (
     subst Fit (sym t.after) (with_readers m m.redist (with_queue m'.exits.queue m.exits) m'.registry m'.rib fit t.external.agreed.others.rows ways
-        (taken_readers peers m t.reader t.change m'.exits.queue fit.readers (best_fit m fit) t.reads t.takes (with_rib (with_exits m (with_queue m'.exits.queue m.exits)) m'.registry m'.rib) refl refl refl refl goes.stands)),
+        (taken_readers profile peers m t.reader t.change m'.exits.queue fit.readers (best_fit m fit) t.reads t.takes (with_rib (with_exits m (with_queue m'.exits.queue m.exits)) m'.registry m'.rib) refl refl refl refl goes.stands)),
     lines_printed said (sent_entries route_value ReadRib (Some t.change) ++ t.entries) t.lines (all_both Is (sent_entries route_value ReadRib (Some t.change)) t.entries
         (sent_printed peers route_value ReadRib (read_of m) now t.change.prefix (Some t.change) tt (best_shown (read_of m) (read_fit m fit)) (best_shown now are) sent)
         (subst (ArePrintedEntries peers) (sym t.external.lines)
-        (external_printed peers t.change.prefix (int_rows m.tree) t.external.split t.external.first t.external.second m.registry m.rib m'.rib t.entries (read_of m) now fit.readers.external (read_fit m fit) are fit.ways ways (int_fit m fit) goes))),
+        (external_printed profile peers t.change.prefix (int_rows m.tree) t.external.split t.external.first t.external.second m.registry m.rib m'.rib t.entries (read_of m) now fit.readers.external (read_fit m fit) are fit.ways ways (int_fit m fit) goes))),
   )
     where
       now : Rows Route
       now = read_rows_by m'.exits.queue m.reader (best_of m)
 
       sent : IsSent (read_of m) now t.change.prefix (Some t.change)
-      sent = taken_goes peers m t.reader t.change m'.exits.queue fit.readers (best_fit m fit) t.reads t.takes
+      sent = taken_goes profile peers m t.reader t.change m'.exits.queue fit.readers (best_fit m fit) t.reads t.takes
 
-      are : AreBestRows peers now
-      are = taken_are peers m t.reader t.change m'.exits.queue fit.readers (best_fit m fit) t.reads t.takes
+      are : AreBestRows profile peers now
+      are = taken_are profile peers m t.reader t.change m'.exits.queue fit.readers (best_fit m fit) t.reads t.takes
 
       goes : FallsOn t.change.prefix (int_rows m.tree) t.external.split t.external.first t.external.second m.registry m.rib m'.rib t.entries (read_of m) now
       goes = t.external.goes (read_of m) now t.change.prefix fit.readers.external sent
@@ -525,9 +525,9 @@ module _ (peers : ℕ → Option Neighbour) (most : ℕ) where
       let ways : HaveWays m'.rib.forwarding = answers_turned IsWay external_hop over way_of _ _ m.registry m'.registry m.rib.forwarding m'.rib.forwarding t.turn.resolved (answered_ways m fit) t.turn.turned fit.ways in
       let r = fit.readers in
       let then = t.turn.stands (read_of m) r.external in (
-        subst Fit (sym t.after) (with_readers m m.redist m.exits m'.registry m'.rib fit t.turn.agreed.others.rows ways (record { sound = r.sound; profile = r.profile; exits = r.exits; leads = r.leads; reads = r.reads; external = then })),
-        lines_printed said t.entries t.lines (subst (ArePrintedEntries peers) (sym t.turn.lines) (fib_printed peers (fib_over m.rib (int_rows m.tree)) (fib_over m'.rib (int_rows m.tree)) t.turn.fib.0 t.fib
-            (fib_print peers m.rib (read_of m) (int_rows m.tree) r.external (read_fit m fit) fit.ways (int_fit m fit)) (fib_print peers m'.rib (read_of m) (int_rows m.tree) then (read_fit m fit) ways (int_fit m fit)) t.turn.fib.1)),
+        subst Fit (sym t.after) (with_readers m m.redist m.exits m'.registry m'.rib fit t.turn.agreed.others.rows ways (record { sound = r.sound; written = r.written; exits = r.exits; leads = r.leads; reads = r.reads; external = then })),
+        lines_printed said t.entries t.lines (subst (ArePrintedEntries peers) (sym t.turn.lines) (fib_printed profile peers (fib_over m.rib (int_rows m.tree)) (fib_over m'.rib (int_rows m.tree)) t.turn.fib.0 t.fib
+            (fib_print profile peers m.rib (read_of m) (int_rows m.tree) r.external (read_fit m fit) fit.ways (int_fit m fit)) (fib_print profile peers m'.rib (read_of m) (int_rows m.tree) then (read_fit m fit) ways (int_fit m fit)) t.turn.fib.1)),
       )
 
   -- ---- turns, and many of them

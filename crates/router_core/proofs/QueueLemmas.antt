@@ -12,7 +12,7 @@ use Rattle.link_change.specs.Rows.{Rows}
 use Rattle.link_change.specs.Changes.{IsSent}
 use Rattle.link_change.specs.declared.change.Change.{Change}
 use Rattle.event_text.specs.declared.declared.DeclaredPeer.{DeclaredPeer}
-use Rattle.event_text.specs.Declarations.{peer_at}
+use Rattle.event_text.specs.Declarations.{Declaration, peer_at}
 use Rattle.journal_text.specs.declared.link.Link.{Link}
 use Rattle.journal_text.specs.declared.link.Link.TheVariants.{ReadRib}
 use Rattle.journal_text.specs.Values.{route_rows}
@@ -24,8 +24,8 @@ use Rattle.exit_side.specs.Exits.{Exited, OutChains, chain_at as exit_at, exit_l
 use Rattle.rib_tree.specs.Trees.{int_rows}
 use Rattle.rib_exit.specs.Exits.{StandsOver}
 use Rattle.router_core.specs.Bests.{Queues}
-use Rattle.router_core.specs.Moments.{Moment, Policies, own_of, best_of, read_by, read_links, read_rows_by, read_of, plain, rules_to}
-use Rattle.router_core.specs.Stands.{Stands, EachExit, QueueLeads, ExitsRead, PlainExits, OneSender, SameSessions, OneReader, ExternalStands, RowsWereHeard, MaySend, IsExitOf, ExitsAt, ReadsOn}
+use Rattle.router_core.specs.Moments.{Moment, Policies, own_of, best_of, read_by, read_links, read_rows_by, read_of, rules_to}
+use Rattle.router_core.specs.Stands.{Stands, EachExit, QueueLeads, ExitsRead, SameProfile, OneSender, SameSessions, OneReader, ExternalStands, RowsWereHeard, MaySend, IsExitOf, ExitsAt, ReadsOn}
 use Rattle.router_core.proofs.HeardRows.{heard_best, heard_own_rows}
 
 -- ---- who has none
@@ -54,12 +54,12 @@ undeclared_none None policies k (Some c) is = absurd is
 
 -- ---- what is claimed of the exits, and of what is sent
 pub record ExitsStand (m : Moment) : Type 0 where
-  pub rows : RowsWereHeard m.chains
+  pub rows : RowsWereHeard m.declared.profile m.chains
   pub each : IsExits m.exits
   pub all : AllLead m.exits.queue (best_of m)
   pub read : AllStand (best_of m) m.exits
-  pub plain : m.exits.profile ≡ plain
-  pub sender : MaySend m.declared.speaker
+  pub profile : m.exits.profile ≡ m.declared.profile
+  pub sender : MaySend m.declared.profile m.declared.speaker
   pub sessions : (k : ℕ) → ExitsAt m.declared.speaker m.outgoing k (peer_at k m.declared.peers) (exit_at k m.exits)
   pub one : ReadsOn m.declared.speaker m.reader m.exits
   pub external : StandsOver (read_of m) m.rib
@@ -134,9 +134,9 @@ module _ (e e' : Exited) where
   queue_all None old new p q sent all = subst (λ (x : Exited). AllLead x.queue new) (sym q) (subst (λ (rows : Rows Route). AllLead e.queue rows) (sym sent) all)
   queue_all (Some c) old new p q sent all = put_keeps_leading e.queue e'.queue old new p c q.appends sent all
 
-  queue_stand : (best : Option (Change Route)) (old new : Rows Route) (p : Network) → e.profile ≡ plain → RowsMayBeHeard plain new → Queues best e e' → IsSent old new p best → AllStand old e → AllStand new e'
-  queue_stand None old new p is heard q sent all = subst (λ (x : Exited). AllStand new x) (sym q) (subst (λ (rows : Rows Route). AllStand rows e) (sym sent) all)
-  queue_stand (Some c) old new p is heard q sent all = q.stand old new p sent own all
+  queue_stand : (f : Profile) (best : Option (Change Route)) (old new : Rows Route) (p : Network) → e.profile ≡ f → RowsMayBeHeard f new → Queues best e e' → IsSent old new p best → AllStand old e → AllStand new e'
+  queue_stand f None old new p is heard q sent all = subst (λ (x : Exited). AllStand new x) (sym q) (subst (λ (rows : Rows Route). AllStand rows e) (sym sent) all)
+  queue_stand f (Some c) old new p is heard q sent all = q.stand old new p sent own all
     where
       own : ForSome c.after (λ r. MayBeHeard e.profile r.attrs)
       own r at = subst (λ (profile : Profile). MayBeHeard profile r.attrs) (sym is)
@@ -144,14 +144,14 @@ module _ (e e' : Exited) where
 
 -- ---- what stands then
 -- where a change of `best` joined the queue, if one came, and the RIB's exit stands over all rows over which it stood
-pub exits_fall : (m now : Moment) (best : Option (Change Route)) (p : Network) → Stands m → RowsWereHeard now.chains → Queues best m.exits now.exits → IsSent (best_of m) (best_of now) p best
+pub exits_fall : (m now : Moment) (best : Option (Change Route)) (p : Network) → Stands m → RowsWereHeard m.declared.profile now.chains → Queues best m.exits now.exits → IsSent (best_of m) (best_of now) p best
     → now.declared ≡ m.declared → now.outgoing ≡ m.outgoing → now.reader ≡ m.reader → ((rows : Rows Route) → StandsOver rows m.rib → StandsOver rows now.rib) → ExitsStand now
 exits_fall m now best p stands rows q sent declared outgoing reader over = record {
-  rows = rows;
+  rows = rows_then;
   each = queue_sound m.exits now.exits best q (stands.own EachExit);
   all = queue_all m.exits now.exits best (best_of m) (best_of now) p q sent (stands.own QueueLeads);
-  read = queue_stand m.exits now.exits best (best_of m) (best_of now) p (stands.own PlainExits) (heard_best (own_of now) now.chains now.hops (heard_own_rows now.declared.speaker now.redist (int_rows now.tree) sender) rows) q sent (stands.own ExitsRead);
-  plain = queue_profile m.exits now.exits best q ∙ stands.own PlainExits;
+  read = queue_stand m.exits now.exits now.declared.profile best (best_of m) (best_of now) p profile_is (heard_best now.declared.profile (own_of now) now.chains now.hops (heard_own_rows now.declared.profile now.declared.speaker now.redist (int_rows now.tree) sender) rows_then) q sent (stands.own ExitsRead);
+  profile = queue_profile m.exits now.exits best q ∙ profile_is;
   sender = sender;
   sessions = λ k. subst (λ d. ExitsAt d.speaker now.outgoing k (peer_at k d.peers) (exit_at k now.exits)) (sym declared)
       (subst (λ x. ExitsAt m.declared.speaker x k (peer_at k m.declared.peers) (exit_at k now.exits)) (sym outgoing)
@@ -163,11 +163,17 @@ exits_fall m now best p stands rows q sent declared outgoing reader over = recor
       (subst (λ (x : Rows Route). StandsOver x m.rib) (sym (queue_rows m.exits now.exits best m.reader (best_of m) (best_of now) p (reader_live m stands) q sent)) (stands.own ExternalStands)));
 }
   where
-    sender : MaySend now.declared.speaker
-    sender = subst (λ d. MaySend d.speaker) (sym declared) (stands.own OneSender)
+    sender : MaySend now.declared.profile now.declared.speaker
+    sender = subst (λ d. MaySend d.profile d.speaker) (sym declared) (stands.own OneSender)
+
+    profile_is : m.exits.profile ≡ now.declared.profile
+    profile_is = stands.own SameProfile ∙ ap (λ (d : Declaration). d.profile) (sym declared)
+
+    rows_then : RowsWereHeard now.declared.profile now.chains
+    rows_then = subst (λ (d : Declaration). RowsWereHeard d.profile now.chains) (sym declared) rows
 
 -- where nothing of the exits changes, nor `best`
-pub exits_stay : (m now : Moment) → Stands m → RowsWereHeard now.chains → best_of now ≡ best_of m → now.declared ≡ m.declared → now.outgoing ≡ m.outgoing → now.reader ≡ m.reader → now.exits ≡ m.exits
+pub exits_stay : (m now : Moment) → Stands m → RowsWereHeard m.declared.profile now.chains → best_of now ≡ best_of m → now.declared ≡ m.declared → now.outgoing ≡ m.outgoing → now.reader ≡ m.reader → now.exits ≡ m.exits
     → ((rows : Rows Route) → StandsOver rows m.rib → StandsOver rows now.rib) → ExitsStand now
 exits_stay m now stands rows same declared outgoing reader exits over =
     exits_fall m now None (record { address = 0; length = 0 }) stands rows exits same declared outgoing reader over

@@ -45,7 +45,7 @@ use Rattle.router_core.specs.Bests.{own_rows, own_links, own_entries, all_at, be
 use Rattle.router_core.specs.Moments.{with_tree, Moment, tree_by, forward_by, own_of, best_of, parts, router_links}
 use Rattle.router_core.specs.Lives.{live_state}
 use Rattle.router_core.specs.Printable.{IsHeard}
-use Rattle.router_core.specs.Stands.{Stands, Claim, Claims, InteriorTree, EachResolver, SameResolvers, AnswersAgree, HopsCounted, NoStrangers, EachRow, EachExit, QueueLeads, ExitsRead, PlainExits, OneSender, SameSessions, OneReader, ExternalExit, ExternalAgrees, ExternalStands, NothingExternal, Tie, Ties, Registered, here}
+use Rattle.router_core.specs.Stands.{Stands, Claim, Claims, InteriorTree, EachResolver, SameResolvers, AnswersAgree, HopsCounted, NoStrangers, EachRow, EachExit, QueueLeads, ExitsRead, SameProfile, OneSender, SameSessions, OneReader, ExternalExit, ExternalAgrees, ExternalStands, NothingExternal, Tie, Ties, Registered, here}
 use Rattle.router_core.specs.Turns.{journal_lines, FallsRoute, FollowsInt, BelowInt}
 use Rattle.router_core.specs.Works.{Informs, Redistributes, Follows, Settles, HasRouted, Pushes}
 use Rattle.loss_chain.proofs.TableLemmas.{few_filter}
@@ -253,7 +253,7 @@ stands_replanted m me t r h e x stands since tree full few registered hops sound
     own EachExit = exits.each
     own QueueLeads = exits.all
     own ExitsRead = exits.read
-    own PlainExits = exits.plain
+    own SameProfile = exits.profile
     own OneSender = exits.sender
     own SameSessions = exits.sessions
     own OneReader = exits.one

@@ -75,11 +75,11 @@ use Rattle.rib_exit.specs.Exits.{ext_rows, fib_over, exit_links as external_link
 use Rattle.link_region.proofs.RegionLemmas.{by_bool}
 use Rattle.std.proofs.lemmas.Bool.Decides.{nat_tests}
 use Rattle.router_core.specs.Bests.{own_rows, own_links, all_at, best_links}
-use Rattle.router_core.specs.Moments.{Moment, plain, tree_by, forward_by, own_of, best_of, read_by, read_rows_by, read_of, rules_to}
+use Rattle.router_core.specs.Moments.{Moment, tree_by, forward_by, own_of, best_of, read_by, read_rows_by, read_of, rules_to}
 use Rattle.router_core.specs.Phases.{unread_if}
 use Rattle.router_core.specs.Lives.{live_state}
 use Rattle.router_core.specs.Turns.{has_work}
-use Rattle.router_core.specs.Stands.{StandsAt, Stands, AllHaveExits, ExitsAt, IsExitOf, ReadsOn, EachChain, EachPeer, OneSpeaker, InteriorTree, EachResolver, SameResolvers, SmallNumbers, AnswersAgree, HopsCounted, EachExit, ExitsRead, PlainExits, SameSessions, OneReader, ExternalExit, ExternalAgrees, ExternalStands}
+use Rattle.router_core.specs.Stands.{StandsAt, Stands, AllHaveExits, ExitsAt, IsExitOf, ReadsOn, EachChain, EachPeer, OneSpeaker, InteriorTree, EachResolver, SameResolvers, SmallNumbers, AnswersAgree, HopsCounted, EachExit, ExitsRead, SameProfile, SameSessions, OneReader, ExternalExit, ExternalAgrees, ExternalStands}
 use Rattle.router_core.proofs.StandLemmas.{registered_rows}
 use Rattle.router_core.proofs.ForwardLemmas.{own_at, over_is, lesser_is, ebgp_is, ibgp_is, ext_is}
 use Rattle.router_core.specs.Holding.{next_hop_at, peer_numbers, is_over, is_over_hop, holds_up_at}
@@ -477,35 +477,35 @@ module _ (org_exact : OrgWhereNoneIsLost) (hops_exact : hops.ExactUnlessHeldUp) 
     session_exact None d None is each number rows = refl
 
   made_as : (j : ℕ) (c : OutChained) (me : Speaker) (d : DeclaredPeer) → exit_at j m.exits ≡ Some c → IsExitOf me (rules_to j m.outgoing) d c → (p : Network) (row : Option Route)
-      → made_by c (present c.filter) p row ≡ outgoing (as_sent plain me (not d.words.internal)) d.words (Some (rules_to j m.outgoing)) p row
+      → made_by c (present c.filter) p row ≡ outgoing (as_sent m.declared.profile me (not d.words.internal)) d.words (Some (rules_to j m.outgoing)) p row
   made_as j c me d at is p row =
       ap (λ (r : Option (List Rule)). made_by c r p row) is.latest
       ∙ ap (λ (f : Profile). outgoing (as_sent f c.exit.me c.exit.external) c.peer (Some (rules_to j m.outgoing)) p row) ((stands.own EachExit).each j c at).profile
-      ∙ ap (λ (f : Profile). outgoing (as_sent f c.exit.me c.exit.external) c.peer (Some (rules_to j m.outgoing)) p row) (stands.own PlainExits)
-      ∙ ap (λ (b : Bool). outgoing (as_sent plain c.exit.me b) c.peer (Some (rules_to j m.outgoing)) p row) (stands.own ExitsRead j c at).chain.kind
-      ∙ ap (λ (x : Speaker). outgoing (as_sent plain x (not c.peer.internal)) c.peer (Some (rules_to j m.outgoing)) p row) is.speaker
-      ∙ ap (λ (w : Neighbour). outgoing (as_sent plain me (not w.internal)) w (Some (rules_to j m.outgoing)) p row) is.words
+      ∙ ap (λ (f : Profile). outgoing (as_sent f c.exit.me c.exit.external) c.peer (Some (rules_to j m.outgoing)) p row) (stands.own SameProfile)
+      ∙ ap (λ (b : Bool). outgoing (as_sent m.declared.profile c.exit.me b) c.peer (Some (rules_to j m.outgoing)) p row) (stands.own ExitsRead j c at).chain.kind
+      ∙ ap (λ (x : Speaker). outgoing (as_sent m.declared.profile x (not c.peer.internal)) c.peer (Some (rules_to j m.outgoing)) p row) is.speaker
+      ∙ ap (λ (w : Neighbour). outgoing (as_sent m.declared.profile me (not w.internal)) w (Some (rules_to j m.outgoing)) p row) is.words
 
   numbered : (j : ℕ) (c : OutChained) → exit_at j m.exits ≡ Some c → c.peer.number ≡ j
   numbered j c at = ((stands.own EachExit).each j c at).number
 
   sent_is : (j : ℕ) (p : Network) → Rests Best p → holds_up_at (Out j) m p ≡ false → (c : OutChained) (me : Speaker) (d : DeclaredPeer) → exit_at j m.exits ≡ Some c → IsExitOf me (rules_to j m.outgoing) d c
-      → tables.get c.sent p ≡ sent_rows me d.words (rules_to j m.outgoing) picked p
+      → tables.get c.sent p ≡ sent_rows m.declared.profile me d.words (rules_to j m.outgoing) picked p
   sent_is j p best rest c me d at is = (exits_exact m.exits (best_of m) j c p (stands.own ExitsRead) at rest).1 ∙ ap (made_by c (present c.filter) p) (best_is p best) ∙ made_as j c me d at is p (picked p)
 
   outf_is : (j : ℕ) (p : Network) → Rests Best p → holds_up_at (Out j) m p ≡ false → (c : OutChained) (me : Speaker) (d : DeclaredPeer) → exit_at j m.exits ≡ Some c → IsExitOf me (rules_to j m.outgoing) d c
-      → outf_rows c (read_rows m.exits.queue c.reader (best_of m)) p ≡ sent_rows me d.words (rules_to j m.outgoing) picked p
+      → outf_rows c (read_rows m.exits.queue c.reader (best_of m)) p ≡ sent_rows m.declared.profile me d.words (rules_to j m.outgoing) picked p
   outf_is j p best rest c me d at is = sym (ap (λ (rows : Rows Attrs). rows p) (stands.own ExitsRead j c at).exact) ∙ sent_is j p best rest c me d at is
 
   read_link : (o : Option OutChained) (j s : ℕ) (p : Network) → exit_link m.exits.queue (best_of m) o (Read j s) ≡ link_of (Route) route_value j s p (λ c. read_rows m.exits.queue c.reader (best_of m)) (λ me w. picked) o
   read_link None j s p = refl
   read_link (Some c) j s p = refl
 
-  outf_link : (o : Option OutChained) (j s : ℕ) (p : Network) → exit_link m.exits.queue (best_of m) o (Outf j s) ≡ link_of (Attrs) attrs_value j s p (λ c. outf_rows c (read_rows m.exits.queue c.reader (best_of m))) (λ me w. sent_rows me w (rules_to j m.outgoing) picked) o
+  outf_link : (o : Option OutChained) (j s : ℕ) (p : Network) → exit_link m.exits.queue (best_of m) o (Outf j s) ≡ link_of (Attrs) attrs_value j s p (λ c. outf_rows c (read_rows m.exits.queue c.reader (best_of m))) (λ me w. sent_rows m.declared.profile me w (rules_to j m.outgoing) picked) o
   outf_link None j s p = refl
   outf_link (Some c) j s p = refl
 
-  adv_link : (o : Option OutChained) (j s : ℕ) (p : Network) → exit_link m.exits.queue (best_of m) o (Adv j s) ≡ link_of (Attrs) attrs_value j s p (λ c. tables.get c.sent) (λ me w. sent_rows me w (rules_to j m.outgoing) picked) o
+  adv_link : (o : Option OutChained) (j s : ℕ) (p : Network) → exit_link m.exits.queue (best_of m) o (Adv j s) ≡ link_of (Attrs) attrs_value j s p (λ c. tables.get c.sent) (λ me w. sent_rows m.declared.profile me w (rules_to j m.outgoing) picked) o
   adv_link None j s p = refl
   adv_link (Some c) j s p = refl
 
@@ -518,7 +518,7 @@ module _ (org_exact : OrgWhereNoneIsLost) (hops_exact : hops.ExactUnlessHeldUp) 
   outf_exact : (j s : ℕ) (p : Network) → Rests (Outf j s) p → IsExactIn m (Outf j s) p
   outf_exact j s p rest =
       ap (λ o. row_in o p) (outf_link (exit_at j m.exits) j s p)
-      ∙ session_exact (Attrs) attrs_value j s p (λ c. outf_rows c (read_rows m.exits.queue c.reader (best_of m))) (λ me w. sent_rows me w (rules_to j m.outgoing) picked) m.declared.speaker (peer_at j m.declared.peers) (exit_at j m.exits) (stands.own SameSessions j) (all j) (numbered j)
+      ∙ session_exact (Attrs) attrs_value j s p (λ c. outf_rows c (read_rows m.exits.queue c.reader (best_of m))) (λ me w. sent_rows m.declared.profile me w (rules_to j m.outgoing) picked) m.declared.speaker (peer_at j m.declared.peers) (exit_at j m.exits) (stands.own SameSessions j) (all j) (numbered j)
       (λ c me d at local is. outf_is j p (above Best (Read j s) p tt (read j s p rest)) (read j s p rest (Out j) (directly (Read j s) refl)) c me d at is)
     where
       read : (j s : ℕ) (p : Network) → Rests (Outf j s) p → Rests (Read j s) p
@@ -527,7 +527,7 @@ module _ (org_exact : OrgWhereNoneIsLost) (hops_exact : hops.ExactUnlessHeldUp) 
   adv_exact : (j s : ℕ) (p : Network) → Rests (Adv j s) p → IsExactIn m (Adv j s) p
   adv_exact j s p rest =
       ap (λ o. row_in o p) (adv_link (exit_at j m.exits) j s p)
-      ∙ session_exact (Attrs) attrs_value j s p (λ c. tables.get c.sent) (λ me w. sent_rows me w (rules_to j m.outgoing) picked) m.declared.speaker (peer_at j m.declared.peers) (exit_at j m.exits) (stands.own SameSessions j) (all j) (numbered j)
+      ∙ session_exact (Attrs) attrs_value j s p (λ c. tables.get c.sent) (λ me w. sent_rows m.declared.profile me w (rules_to j m.outgoing) picked) m.declared.speaker (peer_at j m.declared.peers) (exit_at j m.exits) (stands.own SameSessions j) (all j) (numbered j)
       (λ c me d at local is. sent_is j p (above Best (Read j s) p tt (read j s p rest)) (read j s p rest (Out j) (directly (Read j s) refl)) c me d at is)
     where
       read : (j s : ℕ) (p : Network) → Rests (Adv j s) p → Rests (Read j s) p

@@ -1,7 +1,7 @@
 -- Sessions that begin and end, the rules of outgoing filters, and what reads `best` from `local` on.
-use Rattle.std.proofs.Common.{◌≡◌, ℕ, ◌+◌, nat_eq, nat_le, ◌/◌, ◌==◌, Bool, true, false, not, ◌&&◌, cond, List, [], ◌∷◌, Option, Some, None, is_some, IsSome, refl, sym, ap, subst, ◌∙◌, arith}
+use Rattle.std.proofs.Common.{◌≡◌, ℕ, ◌+◌, ◌<◌, nat_eq, nat_le, ◌/◌, ◌==◌, Bool, true, false, not, ◌&&◌, cond, List, [], ◌∷◌, Option, Some, None, is_some, IsSome, refl, sym, ap, subst, ◌∙◌, arith}
 use Rattle.std.proofs.lemmas.Bool.Decides.{nat_tests}
-use Rattle.std.specs.Prelude.{option_map}
+use Rattle.std.specs.Prelude.{◌^◌, option_map}
 use Rattle.std.specs.FinMap as tables
 use Rattle.std.specs.FinMap.{get-insert, get-remove}
 use Rattle.fanout_queue.specs.Readers.{unread_or_none}
@@ -13,7 +13,8 @@ use Rattle.std.specs.Cmp.{nat_cmp_total}
 use Rattle.bgp_attr.specs.declared.route.Route.{Route}
 use Rattle.bgp_attr.specs.declared.speaker.Profile.{Profile}
 use Rattle.bgp_attr.specs.declared.speaker.Speaker.{Speaker}
-use Rattle.bgp_attr.specs.Speakers.{IsSpeaker}
+use Rattle.bgp_attr.specs.Speakers.{IsSpeaker, asn_bound}
+use Rattle.bgp_wire.specs.Paths.{width_of}
 use Rattle.link_change.specs.Rows.{Rows}
 use Rattle.policy_rules.specs.declared.rule.Rule.{Rule}
 use Rattle.journal_text.specs.declared.link.Link.{Link}
@@ -45,9 +46,9 @@ use Rattle.link_region.proofs.RegionLemmas.{by_bool}
 use Rattle.loss_chain.proofs.TableLemmas.{equal_by, same_by}
 use Rattle.live_state.specs.Lives.{with_rules, begun_if_down}
 use Rattle.router_core.specs.Bests.{best_links}
-use Rattle.router_core.specs.Moments.{Moment, Policies, plain, with_exits, best_of, read_by, read_rows_by, router_links, rules_to, rules_by}
+use Rattle.router_core.specs.Moments.{Moment, Policies, with_exits, best_of, read_by, read_rows_by, router_links, rules_to, rules_by}
 use Rattle.router_core.specs.Lives.{live_state}
-use Rattle.router_core.specs.Stands.{Stands, Claim, Claims, EachExit, QueueLeads, ExitsRead, PlainExits, OneSender, SameSessions, OneReader, ExternalStands, MaySend, IsExitOf, ExitsAt, ReadsAs, ReadsOn}
+use Rattle.router_core.specs.Stands.{Stands, Claim, Claims, EachExit, QueueLeads, ExitsRead, SameProfile, OneSender, SameSessions, OneReader, ExternalStands, MaySend, IsExitOf, ExitsAt, ReadsAs, ReadsOn}
 use Rattle.router_core.specs.Turns.{journal_lines}
 use Rattle.router_core.specs.Blocks.{begun, ByPeer, BeginsIf, BySpeaker, Begins}
 use Rattle.router_core.specs.Peers.{is_up}
@@ -78,7 +79,7 @@ exit_left : (j k : ℕ) (queue : Queued Route) (e : Exited) → nat_eq k j ≡ f
 exit_left j k queue e apart = get-remove nat_cmp_total e.chains j k ∙ ap (λ b. cond b None (exit_at k e)) (key_apart k j apart)
 
 -- ---- the exits became these
-pub stands_exits : (m : Moment) (e : Exited) → Stands m → IsExits e → AllLead e.queue (best_of m) → AllStand (best_of m) e → e.profile ≡ plain → ((k : ℕ) → ExitsAt m.declared.speaker m.outgoing k (peer_at k m.declared.peers) (exit_at k e)) → ReadsOn m.declared.speaker m.reader e
+pub stands_exits : (m : Moment) (e : Exited) → Stands m → IsExits e → AllLead e.queue (best_of m) → AllStand (best_of m) e → e.profile ≡ m.declared.profile → ((k : ℕ) → ExitsAt m.declared.speaker m.outgoing k (peer_at k m.declared.peers) (exit_at k e)) → ReadsOn m.declared.speaker m.reader e
     → StandsOver (read_rows_by e.queue m.reader (best_of m)) m.rib → Stands (with_exits m e)
 stands_exits m e stands sound all stand profile sessions reader external = record { own = own; at = stands.at }
   where
@@ -86,7 +87,7 @@ stands_exits m e stands sound all stand profile sessions reader external = recor
     own EachExit = sound
     own QueueLeads = all
     own ExitsRead = stand
-    own PlainExits = profile
+    own SameProfile = profile
     own SameSessions = sessions
     own OneReader = reader
     own ExternalStands = external
@@ -154,9 +155,9 @@ silenced k m e entries stands ends = record {
   leads = subst (λ (es : List (Entry Value)). Leads (router_links m) es (router_links (with_exits m e))) (sym (entries_of_entries entries))
       (exits_lead m e entries (λ r is. (kept r is).unread) (ends.leads (best_of m)));
   live = refl;
-  stands = stands_exits m e stands ends.sound (subst (λ (x : Exited). AllLead x.queue (best_of m)) (sym ends.after) (drop_keeps_leading m.exits.queue (best_of m) ends.chain.reader (stands.own QueueLeads))) (ends.stand (best_of m) (stands.own ExitsRead)) (ap (λ (x : Exited). x.profile) ends.after ∙ stands.own PlainExits) sessions
+  stands = stands_exits m e stands ends.sound (subst (λ (x : Exited). AllLead x.queue (best_of m)) (sym ends.after) (drop_keeps_leading m.exits.queue (best_of m) ends.chain.reader (stands.own QueueLeads))) (ends.stand (best_of m) (stands.own ExitsRead)) (ap (λ (x : Exited). x.profile) ends.after ∙ stands.own SameProfile) sessions
       (strangers_read m.declared.speaker m.reader m.exits e kept (stands.own OneReader)) (external_kept m e stands (λ r is. (kept r is).unread));
-  heard = end_is_heard (neighbours m.declared) k m.exits e entries ends;
+  heard = end_is_heard m.declared.profile (neighbours m.declared) k m.exits e entries ends;
 }
   where
     kept : (r : ℕ) → m.reader ≡ Some r → KeepsStranger r m.exits e
@@ -218,10 +219,10 @@ module _ (k : ℕ) (m m' : Moment) (p : DeclaredPeer) (entries : List (Entry Val
     live = refl;
     stands = stands_exits (begun m k) m'.exits stands begins.sound
         (subst (λ (x : Exited). AllLead x.queue (best_of m)) (sym begins.after) (join_keeps_leading m.exits.queue (best_of m) begins.reader (stands.own QueueLeads)))
-        (begins.stand (best_of m) (subst (λ (x : Profile). RowsMayBeHeard x (best_of m)) (sym (stands.own PlainExits)) (heard_of (begun m k) stands)) (stands.own ExitsRead))
-        (ap (λ (x : Exited). x.profile) begins.after ∙ stands.own PlainExits) sessions_then (strangers_read m.declared.speaker m.reader m.exits m'.exits kept_by (stands.own OneReader))
+        (begins.stand (best_of m) (subst (λ (x : Profile). RowsMayBeHeard x (best_of m)) (sym (stands.own SameProfile)) (heard_of (begun m k) stands)) (stands.own ExitsRead))
+        (ap (λ (x : Exited). x.profile) begins.after ∙ stands.own SameProfile) sessions_then (strangers_read m.declared.speaker m.reader m.exits m'.exits kept_by (stands.own OneReader))
         (external_kept (begun m k) m'.exits stands (λ r is. (kept_by r is).unread));
-    heard = beginning_is_heard (neighbours m.declared) b.me p.words (p.session + 1) (rules_to k m.outgoing) m.exits m'.exits entries begins;
+    heard = beginning_is_heard m.declared.profile (neighbours m.declared) b.me p.words (p.session + 1) (rules_to k m.outgoing) m.exits m'.exits entries begins;
   }
 
   session_steps : HasStepped m (events.Up k) 0 m' (journal_lines entries)
@@ -260,21 +261,21 @@ begins_absent k m n stands admitted down is =
     ap (λ (x : Moment). exit_at k x.exits) is
     ∙ no_exit_down m.declared.speaker m.outgoing k p.0 (exit_at k m.exits) (sym (ap is_up p.1) ∙ down) (subst (λ (o : Option DeclaredPeer). ExitsAt m.declared.speaker m.outgoing k o (exit_at k m.exits)) p.1 (stands.own SameSessions k))
 
-sends_as : (s : Option Speaker) → IsSome s → MaySend s → SendsAs s plain
-sends_as None since may = absurd (let clash : false ≡ true = since in cc)
-sends_as (Some me) since may = may
+sends_as : (profile : Profile) (s : Option Speaker) → IsSome s → MaySend profile s → SendsAs s profile
+sends_as profile None since may = absurd (let clash : false ≡ true = since in cc)
+sends_as profile (Some me) since may = may
 
 speaker_up : (d : Declaration) (k : ℕ) → refusal d (events.Up k) ≡ None → IsSome d.speaker
 unfolding refusal
 speaker_up d k e = by_speaker d.speaker e
   where
-    by_speaker : (s : Option Speaker) → refusal_at s d.peers (events.Up k) ≡ None → IsSome s
+    by_speaker : (s : Option Speaker) → refusal_at d.profile s d.peers (events.Up k) ≡ None → IsSome s
     by_speaker None e = absurd (cc)
     by_speaker (Some me) e = refl
 
 pub begins_sender : (k : ℕ) (m n : Moment) → Stands m → refusal m.declared (events.Up k) ≡ None → n ≡ begun m k → SendsAs n.declared.speaker n.exits.profile
 begins_sender k m n stands admitted is = subst (λ (x : Moment). SendsAs x.declared.speaker x.exits.profile) (sym is)
-    (subst (λ (profile : Profile). SendsAs m.declared.speaker profile) (sym (stands.own PlainExits)) (sends_as m.declared.speaker (speaker_up m.declared k admitted) (stands.own OneSender)))
+    (subst (λ (profile : Profile). SendsAs m.declared.speaker profile) (sym (stands.own SameProfile)) (sends_as m.declared.profile m.declared.speaker (speaker_up m.declared k admitted) (stands.own OneSender)))
 
 pub begins_sound : (k : ℕ) (m n : Moment) → Stands m → n ≡ begun m k → IsExits n.exits
 begins_sound k m n stands is = subst (λ (x : Moment). IsExits x.exits) (sym is) (stands.own EachExit)
@@ -337,7 +338,7 @@ module _ (m : Moment) (k : ℕ) (rules : List Rule) (e : Exited) (stands : Stand
       own EachExit = edits.sound
       own QueueLeads = subst (λ (x : Queued Route). AllLead x (best_of m)) (sym (ap (λ (x : Exited). x.queue) edits.after ∙ edited_queue k rules (exit_at k m.exits) m.exits)) (stands.own QueueLeads)
       own ExitsRead = edits.stand (best_of m) (stands.own ExitsRead)
-      own PlainExits = ap (λ (x : Exited). x.profile) edits.after ∙ edited_profile k rules (exit_at k m.exits) m.exits ∙ stands.own PlainExits
+      own SameProfile = ap (λ (x : Exited). x.profile) edits.after ∙ edited_profile k rules (exit_at k m.exits) m.exits ∙ stands.own SameProfile
       own SameSessions = sessions_edited
       own OneReader = strangers_read m.declared.speaker m.reader m.exits e kept_edit (stands.own OneReader)
       own ExternalStands = external_kept m e stands (λ r is. (kept_edit r is).unread)
@@ -374,8 +375,12 @@ outgoing_edited m v k rules copied policies e view stands same set edits =
 
 -- ---- `local`
 -- this speaker's words can be said
-pub may_send : (words : Speaker) → IsSpeaker words → IsSender plain words
-may_send words is = record { asn = let most = is.asn_most in omega (arith, most); addr = record { fits = is.addr_fits; first = no_host (words.addr / 16777216) is.host } }
+pub may_send : (profile : Profile) (words : Speaker) → IsSpeaker profile.as4 words → IsSender profile words
+may_send profile words is = record { asn = by_width profile.as4 is.asn_most; addr = record { fits = is.addr_fits; first = no_host (words.addr / 16777216) is.host } }
   where
+    by_width : (as4 : Bool) → words.asn < asn_bound as4 → words.asn < 256 ^ width_of as4
+    by_width true most = most
+    by_width false most = most
+
     no_host : (n : ℕ) → (nat_le 1 n && nat_le n 223 && not (n == 127)) ≡ true → is_no_host n ≡ false
     no_host n host = grind (arith, nat_tests)

@@ -39,7 +39,7 @@ use Rattle.router_core.specs.declared.router.Phase.TheVariants as phases
 use Rattle.router_core.specs.Lives.{live_state}
 use Rattle.router_core.specs.Moments.{Moment, router_links, best_of}
 use Rattle.router_core.specs.Phases.{all_phases, unread_if}
-use Rattle.router_core.specs.Turns.{has_work, phase_of, phase_tasks, IsSettled}
+use Rattle.router_core.specs.Turns.{has_work, next_task, phase_of, phase_tasks, IsSettled}
 use Rattle.router_core.specs.Stands.{Stands, AllHaveExits, InteriorTree}
 use Rattle.router_core.specs.Holding.{next_hop_at, peer_numbers, is_over, is_over_hop, holds_up_at, held_in, idle_tasks, first_held}
 use Rattle.router_core.specs.Scratch.{row_in, is_spliced, IsExact, Tells}
@@ -70,6 +70,15 @@ only_work of_tree of_peers of_hops of_exits of_external m (tasks.Nh k) p none = 
 only_work of_tree of_peers of_hops of_exits of_external m tasks.ReadRib p none = none_changed (unread_if m.exits.queue m.reader) p none
 only_work of_tree of_peers of_hops of_exits of_external m (tasks.Out k) p none = of_exits m.exits (best_of m) k p none
 only_work of_tree of_peers of_hops of_exits of_external m tasks.Ext p none = of_external m.rib p none
+
+-- nor does one of a phase where none has work
+pub none_held : OnlyWorkHoldsUp → (r : Phase) (m : Moment) (p : Network) → next_task r m ≡ None → held_in r m p ≡ None
+none_held only r m p = each (phase_tasks r m)
+  where
+    each : (ts : List Task) → find (λ t. has_work t m) ts ≡ None → find (λ t. holds_up_at t m p) ts ≡ None
+    each [] none = refl
+    each (t ∷ ts) none = by_bool (has_work t m) (λ b. cond b (Some t) (find (λ x. has_work x m) ts) ≡ None → find (λ x. holds_up_at x m p) (t ∷ ts) ≡ None)
+        (λ _ some. absurd (cc)) (λ idle rest. ap (λ (b : Bool). cond b (Some t) (find (λ x. holds_up_at x m p) ts)) (only m t p idle) ∙ each ts rest) none
 
 -- ---- a task with work is one of its phase
 listed : losses.WorkIsListed → peers.StagesAreListed → peers.WalksAreListed → hops.WorkIsListed → exits.WorkIsListed → (m : Moment) → Stands m → (task : Task) → has_work task m ≡ true → Contains (phase_tasks (phase_of task) m) task

@@ -18,7 +18,7 @@ use Rattle.exit_side.specs.Exits.{Exited}
 use Rattle.router_core.specs.Moments.{Moment, with_chains, with_hops, with_exits}
 use Rattle.live_state.specs.Lives.{LiveState, Routes, with_routes, with_rules}
 use Rattle.router_core.specs.Lives.{live_state}
-use Rattle.rib_tree.specs.Trees.{int_rows}
+use Rattle.rib_tree.specs.Trees.{IsTree, int_rows}
 use Rattle.rib_route.specs.declared.rows.Interior.{Interior}
 use Rattle.register_interest.specs.Registers.{Registry, put_row}
 use Rattle.link_change.specs.Rows.{with_row}
@@ -30,7 +30,7 @@ use Rattle.hop_side.specs.Resolvers.{Resolvers, resolver_at}
 use Rattle.addr4.specs.Prefixes.{Network, prefix_cmp}
 use Rattle.router_core.proofs.HopLemmas.{HopsStand}
 use Rattle.router_core.proofs.QueueLemmas.{ExitsStand}
-use Rattle.router_core.specs.Stands.{PeerStands, StandsAt, TreeStands, Stands, Claim, Claims, EachChain, EachPeer, InteriorTree, OneSpeaker, Registered, SameCount, EachResolver, SameResolvers, AnswersAgree, HopsCounted, NoStrangers, SmallNumbers, EachRow, EachExit, QueueLeads, ExitsRead, PlainExits, OneSender, SameSessions, OneReader, ExternalExit, ExternalAgrees, ExternalStands, NothingOwn, NothingExternal, Tie, Ties, here}
+use Rattle.router_core.specs.Stands.{PeerStands, StandsAt, TreeStands, Stands, Claim, Claims, EachChain, EachPeer, InteriorTree, OneSpeaker, Registered, SameCount, EachResolver, SameResolvers, AnswersAgree, HopsCounted, NoStrangers, SmallNumbers, EachRow, EachExit, QueueLeads, ExitsRead, SameProfile, OneSender, SameSessions, OneReader, ExternalExit, ExternalAgrees, ExternalStands, NothingOwn, NothingExternal, Tie, Ties, here}
 
 -- the moment with this declared, and these chains
 abbrev pub remade : Moment → Declaration → Chains → Moment
@@ -70,6 +70,9 @@ chain_is_there m v view stands k p at = subst (λ (n : Moment). IsSome (chain_at
 
 pub peers_sound : (m v : Moment) → v ≡ m → Stands m → IsPeers v.chains
 peers_sound m v view stands = subst (λ (n : Moment). IsPeers n.chains) (sym view) (stands.own EachChain)
+
+pub tree_sound : (m v : Moment) → v ≡ m → Stands m → IsTree v.tree
+tree_sound m v view stands = subst (λ (n : Moment). IsTree n.tree) (sym view) (stands.own InteriorTree).tree
 
 -- ---- a peer's resolver
 pub resolver_there : (m : Moment) → Stands m → (k : ℕ) (c : Chained) → chain_at k m.chains ≡ Some c → IsSome (resolver_at k m.hops)
@@ -116,7 +119,7 @@ stands_put m now k c c' cs r h e stands at is peers me keeps own_peer rows agree
     own EachExit = exits.each
     own QueueLeads = exits.all
     own ExitsRead = exits.read
-    own PlainExits = exits.plain
+    own SameProfile = exits.profile
     own OneSender = exits.sender
     own SameSessions = exits.sessions
     own OneReader = exits.one

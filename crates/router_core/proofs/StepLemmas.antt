@@ -143,7 +143,7 @@ lost_down k p m m' before now at up g = gives_so (HasLost k p.session m m') (Has
   keeps = h.keeps;
 }) before now g
 
-pub heard_up : (k : ℕ) (p : DeclaredPeer) (m m' : Moment) (octets : List ℕ) (message : Message) (before now : Journaled) → peer_at k m.declared.peers ≡ Some p → p.up ≡ true → Says p octets message
+pub heard_up : (k : ℕ) (p : DeclaredPeer) (m m' : Moment) (octets : List ℕ) (message : Message) (before now : Journaled) → peer_at k m.declared.peers ≡ Some p → p.up ≡ true → Says m.declared.profile p octets message
     → Gives (HasHeard k p m message m') before now → Gives (HasStepped m (Bgp k octets) 0 m') before now
 heard_up k p m m' octets message before now at up says g = gives_so (HasHeard k p m message m') (HasStepped m (Bgp k octets) 0 m') (λ xs h. record {
   block = subst (λ (o : Option DeclaredPeer). ByPeer (λ q. HearsIf q.up m k q octets xs 0 m') o) (sym at)

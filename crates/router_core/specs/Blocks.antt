@@ -19,10 +19,10 @@ use Rattle.journal_text.specs.declared.line.Line.TheVariants as lines
 use Rattle.journal_text.specs.Walk.{Leads}
 use Rattle.journal_text.specs.Texts.{entries_of}
 use Rattle.event_text.specs.declared.event.Event.{Event}
-use Rattle.event_text.specs.declared.event.Event.TheVariants.{Nothing, Local, Peer, Up, Down, Bgp, FilterIn, FilterOut, RouteAdd, RouteDel, Lose, Redist, Cover, Settled, Idle, Work, Ask, Show}
+use Rattle.event_text.specs.declared.event.Event.TheVariants.{Nothing, As4, Revised, Local, Peer, Up, Down, Bgp, FilterIn, FilterOut, RouteAdd, RouteDel, Lose, Redist, Cover, Settled, Idle, Work, Ask, Show}
 use Rattle.event_text.specs.declared.declared.DeclaredPeer.{DeclaredPeer}
 use Rattle.policy_rules.specs.declared.rule.Rule.{Rule}
-use Rattle.event_text.specs.Declarations.{peer_at, words_of, with_speaker, with_peer, with_session, without_session}
+use Rattle.event_text.specs.Declarations.{peer_at, words_of, with_four_octets, with_revised, with_speaker, with_peer, with_session, without_session}
 use Rattle.std.specs.FinMap as tables
 use Rattle.rib_route.specs.declared.Proto.{Proto}
 use Rattle.rib_route.specs.declared.Proto.TheVariants.{Connected, Static, Ospf, Rip}
@@ -42,7 +42,7 @@ use Rattle.pass_core.specs.Passed.{edited, present}
 use Rattle.redist.specs.Protocols.{with_proto}
 use Rattle.rib_exit.specs.Steps.{begin_entries}
 use Rattle.exit_side.specs.Steps.{BeginsExit, EndsExit, EditsExit}
-use Rattle.router_core.specs.Moments.{Moment, with_chains, with_tree, with_exits, with_redist, rules_to, router_links, bound_of}
+use Rattle.router_core.specs.Moments.{Moment, profiled, with_chains, with_tree, with_exits, with_redist, rules_to, router_links, bound_of}
 use Rattle.live_state.specs.Messages.{changes_of, Says}
 use Rattle.live_state.specs.Lives.{LiveAfter}
 use Rattle.router_core.specs.Lives.{live_state}
@@ -196,7 +196,7 @@ EndsIf true m k p said turns m' = (turns ≡ 0) × Loses k p.session m said m'
 
 abbrev pub HearsIf : Bool → Moment → ℕ → DeclaredPeer → List ℕ → List Line → ℕ → Moment → Type 0
 HearsIf false m k p octets said turns m' = Just (lines.Ignored ∷ []) m said turns m'
-HearsIf true m k p octets said turns m' = (turns ≡ 0) × ((message : Message) × Says p octets message × Hears k p m message said m')
+HearsIf true m k p octets said turns m' = (turns ≡ 0) × ((message : Message) × Says m.declared.profile p octets message × Hears k p m message said m')
 
 -- the answer of a lookup
 abbrev pub answer_lines : Link → Network → Option (Rows Value) → List Line
@@ -240,6 +240,8 @@ ByPeer P (Some p) = P p
 
 abbrev pub IsBlock : Moment → Event → List Line → ℕ → Moment → Type 0
 IsBlock m Nothing said turns m' = Just [] m said turns m'
+IsBlock m As4 said turns m' = Just [] (profiled m (with_four_octets m.declared.profile)) said turns m'
+IsBlock m Revised said turns m' = Just [] (profiled m (with_revised m.declared.profile)) said turns m'
 IsBlock m (Local words) said turns m' = (turns ≡ 0) × Localizes words m said m'
 IsBlock m (Peer k words) said turns m' = Declares m m.declared.speaker k words said turns m'
 IsBlock m (Up k) said turns m' = ByPeer (λ p. BeginsIf p.up m k p said turns m') (peer_at k m.declared.peers)

@@ -23,10 +23,14 @@ use Rattle.router_core.specs.Turns.{phase_tasks}
 abbrev pub next_hop_at : Moment → ℕ → Network → Option ℕ
 next_hop_at m k p = option_map route_hop (filt_at m.chains k p)
 
+-- whether a test holds of what there is
+abbrev pub some_so : (ℕ → Bool) → Option ℕ → Bool
+some_so f None = false
+some_so f (Some a) = f a
+
 -- whether the lost table of a task has a row at a prefix that holds the next hop, if there is one
 abbrev pub is_over : Treed → Task → Option ℕ → Bool
-is_over t task None = false
-is_over t task (Some hop) = tree_over t task hop
+is_over t task = some_so (tree_over t task)
 
 -- the numbers below which all peers have theirs
 unfoldable pub peer_numbers : List ℕ

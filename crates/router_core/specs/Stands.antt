@@ -1,6 +1,7 @@
 -- What holds between two steps.
 use Rattle.std.specs.Prelude.{◌≡◌, ◌≢◌, ℕ, ◌+◌, ◌≤◌, length, Bool, true, false, is_some, IsSome, if◌then◌else◌, List, Option, Some, None}
 use Rattle.std.specs.FinMap as tables
+use Rattle.bgp_attr.specs.declared.speaker.Profile.{Profile}
 use Rattle.bgp_attr.specs.declared.speaker.Speaker.{Speaker}
 use Rattle.event_text.specs.declared.declared.DeclaredPeer.{DeclaredPeer}
 use Rattle.event_text.specs.Declarations.{peer_at}
@@ -20,7 +21,7 @@ use Rattle.out_chain.specs.Chains.{OutChained}
 use Rattle.exit_side.specs.Exits.{Exited, IsExits, AllStand, chain_at as exit_at}
 use Rattle.rib_exit.specs.Exits.{nothing_yet, IsExit, AgreesWith, StandsOver}
 use Rattle.redist.specs.Protocols.{no_protos}
-use Rattle.router_core.specs.Moments.{Moment, Cored, Policies, plain, rules_to, best_of, read_of}
+use Rattle.router_core.specs.Moments.{Moment, Cored, Policies, rules_to, best_of, read_of}
 use Rattle.router_core.specs.Printable.{IsPrintableMoment}
 use Rattle.addr4.specs.Prefixes.{Network}
 use Rattle.rib_route.specs.declared.rows.Interior.{Interior}
@@ -61,13 +62,13 @@ ExitsAt s policies k p None = Unit {0}
 ExitsAt s policies k p c = ⊥
 
 -- Each row of a chain, live or lost, has attributes that some neighbour's octets may hold: so what is sent of it can be read.
-abbrev pub RowsWereHeard : Chains → Type 0
-RowsWereHeard a = (k : ℕ) (c : Chained) → chain_at k a ≡ Some c → AllRows (MayBeHeard plain) c.incoming.tables
+abbrev pub RowsWereHeard : Profile → Chains → Type 0
+RowsWereHeard profile a = (k : ℕ) (c : Chained) → chain_at k a ≡ Some c → AllRows (MayBeHeard profile) c.incoming.tables
 
 -- This speaker's words can be said.
-abbrev pub MaySend : Option Speaker → Type 0
-MaySend None = Unit {0}
-MaySend (Some me) = IsSender plain me
+abbrev pub MaySend : Profile → Option Speaker → Type 0
+MaySend profile None = Unit {0}
+MaySend profile (Some me) = IsSender profile me
 
 -- The forwarding side reads from `local` on, by a reader that is no peer's.
 pub record ReadsAs (reader : ℕ) (e : Exited) : Type 0 where
@@ -92,7 +93,7 @@ pub record TreeStands (speaker : Option Speaker) (t : Treed) : Type 0 where
 -- peers, and of the interior routes; of the resolvers alone, that exactly the peers with chains have one, that their next hops that
 -- aren't stale have the register's present answers, that the next hops which the rows of `filt.K` name are counted, and that nobody
 -- else but the RIB's exit, client 0, has an interest; that the peers have numbers from 1 to 64; that each row, live or lost, is one that octets may hold; of the exits
--- alone, that what each reader hasn't taken leads to the rows of `best`, and what each peer was sent, how messages are written and that this speaker's words
+-- alone, that what each reader hasn't taken leads to the rows of `best`, and what each peer was sent, that messages are written by the profile that was declared and that this speaker's words
 -- can be said, whose sessions they are, and who reads for the forwarding side; of the RIB's exit alone, that its next hops that aren't
 -- stale have the register's present answers, and that `ebgp` and `ibgp` are the parts of what the reader has; and that before `local`
 -- nothing is redistributed, and nothing stands in the RIB's exit
@@ -112,7 +113,7 @@ pub data Claim : Type 0 where
   EachExit : Claim
   QueueLeads : Claim
   ExitsRead : Claim
-  PlainExits : Claim
+  SameProfile : Claim
   OneSender : Claim
   SameSessions : Claim
   OneReader : Claim
@@ -134,12 +135,12 @@ Claims m AnswersAgree = AllAgree m.hops m.registry
 Claims m HopsCounted = AllCounted (filt_at m.chains) m.hops
 Claims m NoStrangers = (k : ℕ) → k ≢ 0 → resolver_at k m.hops ≡ None → HasNoInterest k m.registry
 Claims m SmallNumbers = (k : ℕ) → IsSome (chain_at k m.chains) → (1 ≤ k) × (k ≤ 64)
-Claims m EachRow = RowsWereHeard m.chains
+Claims m EachRow = RowsWereHeard m.declared.profile m.chains
 Claims m EachExit = IsExits m.exits
 Claims m QueueLeads = AllLead m.exits.queue (best_of m)
 Claims m ExitsRead = AllStand (best_of m) m.exits
-Claims m PlainExits = m.exits.profile ≡ plain
-Claims m OneSender = MaySend m.declared.speaker
+Claims m SameProfile = m.exits.profile ≡ m.declared.profile
+Claims m OneSender = MaySend m.declared.profile m.declared.speaker
 Claims m SameSessions = (k : ℕ) → ExitsAt m.declared.speaker m.outgoing k (peer_at k m.declared.peers) (exit_at k m.exits)
 Claims m OneReader = ReadsOn m.declared.speaker m.reader m.exits
 Claims m ExternalExit = IsExit m.rib

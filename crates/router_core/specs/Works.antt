@@ -39,7 +39,7 @@ use Rattle.std.specs.Prelude.{[], ◌∷◌}
 use Rattle.exit_side.specs.Exits.{with_queue, chain_at as exit_at}
 use Rattle.exit_side.specs.Steps.{BeginsExit}
 use Rattle.router_core.specs.Bests.{all_at, best_entries, own_entries, DecidesOn, Queues}
-use Rattle.router_core.specs.Moments.{Moment, plain, own_of, most_unread, with_chains, with_hops, with_rib, with_tree, with_exits, rules_to, router_links, bound_of, Gives}
+use Rattle.router_core.specs.Moments.{Moment, own_of, most_unread, with_chains, with_hops, with_rib, with_tree, with_exits, rules_to, router_links, bound_of, Gives}
 use Rattle.journal_text.specs.declared.link.Link.{Link}
 use Rattle.live_state.specs.Lives.{LiveState, LiveAfter, live_fed, heard, ended, interior_lost}
 use Rattle.router_core.specs.Lives.{live_state}
@@ -161,13 +161,13 @@ abbrev pub IsUpAt : ℕ → Moment → Type 0
 IsUpAt k m = (p : DeclaredPeer) × (peer_at k m.declared.peers ≡ Some p) × (p.up ≡ true)
 
 -- the attributes of each announcement are some that a neighbour's octets may hold
-abbrev pub AreHeard : List (Network × Option Attrs) → Type 0
-AreHeard changes = AllByRecursion (λ c. ForSome c.1 (MayBeHeard plain)) changes
+abbrev pub AreHeard : Profile → List (Network × Option Attrs) → Type 0
+AreHeard profile changes = AllByRecursion (λ c. ForSome c.1 (MayBeHeard profile)) changes
 
 -- and so are those of an UPDATE
-abbrev pub IsHeardMessage : Message → Type 0
-IsHeardMessage (messages.Update u) = ForSome u.attrs (MayBeHeard plain)
-IsHeardMessage other = Unit {0}
+abbrev pub IsHeardMessage : Profile → Message → Type 0
+IsHeardMessage profile (messages.Update u) = ForSome u.attrs (MayBeHeard profile)
+IsHeardMessage profile other = Unit {0}
 
 -- The prefixes of an UPDATE from peer k were announced and withdrawn, one after the other.
 pub record HaveFed (k : ℕ) (changes : List (Network × Option Attrs)) (m m' : Moment) (said : List Line) : Type 0 where

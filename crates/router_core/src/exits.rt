@@ -21,7 +21,6 @@ ghost use Rattle.router_core.specs.Works.{Comes, Forwards, HasStepped, JoinsQueu
 
 use crate::best::Lent;
 use crate::network::Network;
-use crate::peers::PLAIN;
 use crate::router::Done;
 use addr4::{Memory, Place, Prefix};
 use bgp_attr::Route;

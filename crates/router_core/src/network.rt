@@ -4,7 +4,6 @@ ghost use Rattle.std.specs.Prelude.{◌≡◌, ◌+◌, ◌*◌, IfOk};
 ghost use Rattle.router_core.specs.Moments.{first_moment, bound_of};
 
 use crate::exits::Policies;
-use crate::peers::PLAIN;
 use addr4::Memory;
 use event_text::Declared;
 use exit_side::Exits;
@@ -39,6 +38,7 @@ impl Model for Network {
     ghost use Rattle.router_core.specs.Moments.{Moment, moment_code};
     ghost use Rattle.event_text.specs.Declarations.{declaration_code};
     ghost use Rattle.event_text.specs.contracts.declared.DeclaredPeer as peer_row;
+    ghost use Rattle.bgp_attr.specs.contracts.speaker.Profile as profile_row;
     ghost use Rattle.bgp_attr.specs.contracts.speaker.Speaker as speaker_row;
     ghost use Rattle.peer_side.specs.contracts.peers.Peers as peers_row;
     ghost use Rattle.hop_side.specs.contracts.hops.NextHops as hops_row;
@@ -56,7 +56,7 @@ impl Model for Network {
 
     ghost Value = { Moment };
 
-    ghost coded = { moment_code (declaration_code speaker_row.the_row.coded peer_row.the_row.coded) (treed_code (branch_code proto_row.the_row.coded interior_row.the_row.coded)) (registry_code interior_row.the_row.coded) peers_row.the_row.coded hops_row.the_row.coded policies_row.the_row.coded exits_row.the_row.coded (coded_option reader_row.the_row.coded) redist_row.the_row.coded rib_row.the_row.coded };
+    ghost coded = { moment_code (declaration_code profile_row.the_row.coded speaker_row.the_row.coded peer_row.the_row.coded) (treed_code (branch_code proto_row.the_row.coded interior_row.the_row.coded)) (registry_code interior_row.the_row.coded) peers_row.the_row.coded hops_row.the_row.coded policies_row.the_row.coded exits_row.the_row.coded (coded_option reader_row.the_row.coded) redist_row.the_row.coded rib_row.the_row.coded };
 
     ghost view = { λ n. record { declared = n.declared; tree = n.tree; registry = n.registry; chains = n.chains; hops = n.hops; outgoing = n.outgoing; exits = n.exits; reader = n.reader; redist = n.redist; rib = n.rib } };
 }
@@ -66,15 +66,17 @@ impl Network {
     pub(crate) fn new(alloc: Global) -> Network
         ensures { result ≡ first_moment }
     {
+        let declared = Declared::new(alloc);
+        let exits = Exits::new(alloc, declared.profile());
         Network {
             alloc,
-            declared: Declared::new(alloc),
+            declared,
             tree: Tree::new(alloc),
             registry: Register::new(alloc),
             chains: Peers::new(alloc),
             hops: NextHops::new(alloc),
             outgoing: Policies::new(alloc),
-            exits: Exits::new(alloc, PLAIN),
+            exits,
             reader: None,
             redist: Redist::new(alloc),
             rib: RibExit::new(alloc),

@@ -6,6 +6,7 @@ ghost use Rattle.event_text.specs.Declarations.{peer_at, refusal};
 ghost use Rattle.peer_side.specs.Peers.{chain_at};
 ghost use Rattle.live_state.specs.Messages.{Says};
 ghost use Rattle.event_text.specs.WellFormed.{IsWellFormed};
+ghost use Rattle.router_core.specs.Moments.{profiled};
 ghost use Rattle.router_core.specs.Stands.{Stands};
 ghost use Rattle.router_core.specs.Blocks.{begin_line, first_begins};
 ghost use Rattle.journal_text.specs.Journals.{with_lines};
@@ -18,6 +19,7 @@ use addr4::Memory;
 use bgp_attr::{Profile, Speaker};
 use bgp_wire::{Message, read_message};
 use event_text::DeclaredPeer;
+use exit_side::Exits;
 use exit_side::laws::a_stranger_reads;
 use in_chain::Chain;
 use journal_text::{Entry, Journal, Line, Link};
@@ -25,13 +27,23 @@ use policy_rules::Rules;
 use rib_route::Proto;
 use std::alloc::Global;
 
-/// AS numbers have two octets, and errors are handled by RFC 4271, section 6.3.
-pub(crate) const PLAIN: Profile = Profile {
-    as4: false,
-    revised: false,
-};
-
 impl Network {
+    /// How messages are read and written.
+    pub(crate) fn profile(&self) -> Profile
+        ensures { result ≡ self.now.declared.profile }
+    {
+        self.declared.profile()
+    }
+
+    /// This holds for the whole file: how AS numbers and errors in attributes are read and written. Nobody reads the queue
+    /// yet, so it begins anew.
+    pub(crate) fn set_profile(&mut self, profile: Profile)
+        ensures { self.new ≡ profiled self.old profile }
+    {
+        self.declared.set_profile(profile);
+        self.exits = Exits::new(self.alloc, profile);
+    }
+
     /// `local` was declared: the links of the interior routes begin.
     pub(crate) fn declare_speaker(
         &mut self,
@@ -40,7 +52,7 @@ impl Network {
     ) -> Result<(), Memory>
         requires admitted { refusal self.old.declared (events.Local words) ≡ None }
         requires stands { Stands self.old }
-        requires formed { IsWellFormed (events.Local words) }
+        requires formed { IsWellFormed self.old.declared.profile.as4 (events.Local words) }
         ensures { OnOk result (Pushes (HasStepped self.old (events.Local words) 0 self.new) journal.old journal.new) }
     {
         a_stranger_reads();
@@ -59,7 +71,7 @@ impl Network {
     ) -> Result<(), Memory>
         requires admitted { refusal self.old.declared (events.Peer number words) ≡ None }
         requires stands { Stands self.old }
-        requires formed { IsWellFormed (events.Peer number words) }
+        requires formed { IsWellFormed self.old.declared.profile.as4 (events.Peer number words) }
         ensures { OnOk result (Pushes (HasStepped self.old (events.Peer number words) 0 self.new) journal.old journal.new) }
     {
         let Some(me) = self.declared.speaker() else {
@@ -144,9 +156,14 @@ fn begin_all(links: &[Link], journal: &mut Journal) -> Result<(), Memory>
 }
 
 /// What octets of a peer say (RFC 4271, section 4), or the fault that they have.
-pub(crate) fn said(alloc: Global, peer: &DeclaredPeer, octets: &[u8]) -> Result<Message, Memory>
-    ensures says { IfOk result (Says peer.now octets.now) }
+pub(crate) fn said(
+    alloc: Global,
+    profile: Profile,
+    peer: &DeclaredPeer,
+    octets: &[u8],
+) -> Result<Message, Memory>
+    ensures says { IfOk result (Says profile peer.now octets.now) }
     ensures fits { IfOk result HasShortNotice }
 {
-    read_message(alloc, PLAIN, octets, !peer.words.internal)
+    read_message(alloc, profile, octets, !peer.words.internal)
 }

@@ -92,11 +92,12 @@ impl Model for Core {
     ghost use Rattle.register_interest.specs.Registers.{registry_code};
     ghost use Rattle.event_text.specs.Declarations.{declaration_code};
     ghost use Rattle.event_text.specs.contracts.declared.DeclaredPeer as peer_row;
+    ghost use Rattle.bgp_attr.specs.contracts.speaker.Profile as profile_row;
     ghost use Rattle.bgp_attr.specs.contracts.speaker.Speaker as speaker_row;
 
     ghost Value = { Cored };
 
-    ghost coded = { cored_code (moment_code (declaration_code speaker_row.the_row.coded peer_row.the_row.coded) (treed_code (branch_code proto_row.the_row.coded interior_row.the_row.coded)) (registry_code interior_row.the_row.coded) peers_row.the_row.coded hops_row.the_row.coded policies_row.the_row.coded exits_row.the_row.coded (coded_option reader_row.the_row.coded) redist_row.the_row.coded rib_row.the_row.coded) };
+    ghost coded = { cored_code (moment_code (declaration_code profile_row.the_row.coded speaker_row.the_row.coded peer_row.the_row.coded) (treed_code (branch_code proto_row.the_row.coded interior_row.the_row.coded)) (registry_code interior_row.the_row.coded) peers_row.the_row.coded hops_row.the_row.coded policies_row.the_row.coded exits_row.the_row.coded (coded_option reader_row.the_row.coded) redist_row.the_row.coded rib_row.the_row.coded) };
 
     ghost view = { λ c. record { moment = c.network; events = c.events; failed = c.failed } };
 
@@ -190,7 +191,7 @@ impl Core {
     /// that the live state alone asks for. After want of memory the core answers nothing else.
     pub fn step(&mut self, event: Event, journal: &mut Journal) -> Result<u128, Memory>
         requires admitted { refusal self.old.moment.declared event ≡ None }
-        requires formed { IsWellFormed event }
+        requires formed { IsWellFormed self.old.moment.declared.profile.as4 event }
         requires few { self.old.events < 4294967295 }
         requires stands { self.old.failed ≡ false → CoreStands self.old }
         ensures acts { IfOk result (λ turns. Gives (Acts self.old.moment event turns self.new.moment) journal.old journal.new) }

@@ -5,7 +5,7 @@ ghost use Rattle.peer_side.specs.Peers.{chain_at, overdue_at};
 ghost use Rattle.std.specs.Option.{ForSome};
 ghost use Rattle.peer_out.specs.Changes.{MayBeHeard};
 ghost use Rattle.exit_side.specs.Exits.{chain_at as exit_at};
-ghost use Rattle.router_core.specs.Moments.{Gives, plain};
+ghost use Rattle.router_core.specs.Moments.{Gives};
 ghost use Rattle.router_core.specs.Stands.{Stands};
 ghost use Rattle.router_core.specs.Works.{Pushes, AreHeard, IsUpAt, IsSession, HaveFed, HasLost, HasRoom, Ends};
 
@@ -25,7 +25,7 @@ impl Network {
     ) -> Result<(), Memory>
         requires stands { Stands self.old }
         requires up { IsUpAt number self.old }
-        requires heard { AreHeard changes.now }
+        requires heard { AreHeard self.old.declared.profile changes.now }
         ensures { OnOk result (Pushes (HaveFed number changes.now self.old self.new) journal.old journal.new) }
     {
         for change in changes {
@@ -44,7 +44,7 @@ impl Network {
     ) -> Result<(), Memory>
         requires stands { Stands self.old }
         requires up { IsUpAt number self.old }
-        requires heard { ForSome row (MayBeHeard plain) }
+        requires heard { ForSome row (MayBeHeard self.old.declared.profile) }
         ensures { OnOk result (Pushes (HaveFed number ((prefix, row) ∷ []) self.old self.new) journal.old journal.new) }
     {
         let sent = self.chains.feed(number, prefix, row, journal)?;

@@ -1,20 +1,18 @@
 //! Whether a prefix is settled: whether no work may keep its rows from what the live state alone asks for (NSDI 2005, sections
-//! 5.1.1 and 5.1.2). Nothing here takes memory, and nothing goes over the rows of a table: each task is asked once, which looks
-//! at the one prefix, and a lost table of interior routes also at the 33 that hold a next hop.
+//! 5.1.1 and 5.1.2). Nothing here takes memory, and nothing goes over the rows of a table: a phase without work is passed over, and
+//! each task of another is asked once, which looks at the one prefix, and a lost table of interior routes also at the 33 that hold
+//! a next hop.
 
-ghost use Rattle.std.specs.Prelude.{◌≡◌, ◌≤◌, IfOk, false, is_some, option_map};
-ghost use Rattle.std.specs.List.{find};
-ghost use Rattle.journal_text.specs.declared.link.Task.TheVariants as tasks;
+ghost use Rattle.std.specs.Prelude.{◌≡◌, ℕ, ◌<◌, ◌≤◌, IfOk, is_some, None};
 ghost use Rattle.event_text.specs.declared.event.Event.TheVariants as events;
-ghost use Rattle.rib_tree.specs.Trees.{branch_of};
-ghost use Rattle.rib_tree.specs.BranchSteps.{branch_tasks};
+ghost use Rattle.peer_side.specs.Peers.{chain_at};
 ghost use Rattle.router_core.specs.declared.router.Phase.TheVariants as phases;
 ghost use Rattle.router_core.specs.Moments.{Gives};
 ghost use Rattle.router_core.specs.Stands.{Stands, AllHaveExits};
-ghost use Rattle.router_core.specs.Holding.{next_hop_at, is_over_hop, holds_up_at, held_in, first_held};
+ghost use Rattle.router_core.specs.Holding.{held_in, first_held};
 ghost use Rattle.router_core.specs.Works.{HasStepped};
 
-use crate::laws::the_first_task_tells;
+use crate::laws::{only_work_holds_up, the_first_task_tells};
 use crate::network::Network;
 use crate::router::Phase;
 use crate::turns::{exit_of, phases, task_of};
@@ -22,7 +20,6 @@ use addr4::{Addr, Memory, Prefix};
 use decision::has;
 use hop_side::Named;
 use journal_text::{Journal, Line, Task};
-use rib_route::Proto;
 
 impl Network {
     /// `settled`: whether a prefix is, or the first task that holds it up.
@@ -51,11 +48,13 @@ impl Network {
         None
     }
 
-    /// The first one of a phase.
+    /// The first one of a phase; none of a phase without work.
     fn held_in(&self, phase: Phase, p: Prefix) -> Option<Task>
         requires { Stands self.now }
         ensures { result ≡ held_in phase self.now p }
     {
+        only_work_holds_up();
+        self.next(phase)?;
         match phase {
             Phase::Rdel => self.loss_held(p),
             Phase::Red => self.own_held(p),
@@ -68,49 +67,30 @@ impl Network {
         }
     }
 
-    /// The first deletion stage of a protocol, by protocol and loss.
+    /// The first deletion stage: one whose table has the prefix, or one that holds the next hop of a peer's row of `filt.K` there.
     fn loss_held(&self, p: Prefix) -> Option<Task>
         requires { Stands self.now }
         ensures { result ≡ held_in phases.Rdel self.now p }
     {
-        if let Some(task) = self.loss_held_of(Proto::Connected, p) {
-            return Some(task);
-        }
-        if let Some(task) = self.loss_held_of(Proto::Static, p) {
-            return Some(task);
-        }
-        if let Some(task) = self.loss_held_of(Proto::Ospf, p) {
-            return Some(task);
-        }
-        self.loss_held_of(Proto::Rip, p)
-    }
-
-    /// The first one of a protocol, the longest standing first. At most 16 stand.
-    fn loss_held_of(&self, proto: Proto, p: Prefix) -> Option<Task>
-        requires { Stands self.now }
-        ensures { result ≡ find (λ task. holds_up_at task self.now p) (branch_tasks (branch_of proto self.now.tree)) }
-    {
-        for place in 0..16 {
-            let task = self.tree.loss_at(proto, place)?;
-            if self.tree.holds_up(task, p) || self.is_over_hop(task, p) {
-                return Some(task);
+        let lent = self.lent();
+        let mut hops = [Addr::new(0); 65];
+        let mut count: usize = 0;
+        for number in 0..self.numbers() {
+            if let Some(hop) = lent.next_hop(number, p) {
+                hops[count] = hop;
+                count += 1;
             }
         }
-        None
+        self.tree.first_loss_at(p, &hops[..count])
     }
 
-    /// Whether a lost table has a prefix that holds the next hop of a peer's row of `filt.K` at a prefix.
-    fn is_over_hop(&self, task: Task, p: Prefix) -> bool
-        ensures { result ≡ is_over_hop task self.now p }
+    /// Below which all peers have their numbers, at most 65.
+    fn numbers(&self) -> u32
+        ensures few { result ≤ 65 }
+        ensures all { (k : ℕ) → k < 65 → result ≤ k → chain_at k self.now.chains ≡ None }
     {
-        for number in 0..65 {
-            if let Some(hop) = self.lent().next_hop(number, p) {
-                if self.tree.held_over(task, hop) {
-                    return true;
-                }
-            }
-        }
-        false
+        let last = self.chains.last();
+        if last < 65 { last + 1 } else { 65 }
     }
 
     /// The walk of redistribution, where it holds up a prefix.

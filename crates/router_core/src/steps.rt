@@ -22,7 +22,7 @@ use crate::peers::said;
 use crate::router::Idle;
 use crate::updates::changes;
 use addr4::{Memory, Prefix};
-use bgp_attr::{Octets, Speaker};
+use bgp_attr::{Octets, Profile, Speaker};
 use bgp_wire::{Message, Notice, write_notification};
 use event_text::{DeclaredPeer, Event};
 use journal_text::{Journal, Line, Link, Task};
@@ -36,12 +36,14 @@ impl Network {
         requires admitted { refusal self.old.declared event ≡ None }
         requires few { AreNumbered 4294967294 self.old.tree }
         requires stands { Stands self.old }
-        requires formed { IsWellFormed event }
+        requires formed { IsWellFormed self.old.declared.profile.as4 event }
         requires exits { AllHaveExits self.old }
         ensures { IfOk result (λ turns. Gives (HasStepped self.old event turns self.new) journal.old journal.new) }
     {
         match event {
             Event::Nothing => self.nothing(journal),
+            Event::As4 => self.four_octets(journal),
+            Event::Revised => self.revised(journal),
             Event::Local(words) => self.local(words, journal),
             Event::Peer(number, words) => self.peer(number, words, journal),
             Event::Up(number) => self.up(number, journal),
@@ -71,10 +73,34 @@ impl Network {
         Ok(0)
     }
 
+    /// AS numbers have four octets, in the whole file and in all messages (RFC 6793).
+    fn four_octets(&mut self, journal: &mut Journal) -> Result<u128, Memory>
+        requires admitted { refusal self.old.declared events.As4 ≡ None }
+        requires stands { Stands self.old }
+        ensures { IfOk result (λ turns. Gives (HasStepped self.old events.As4 turns self.new) journal.old journal.new) }
+    {
+        let revised = self.profile().revised;
+        self.set_profile(Profile { as4: true, revised });
+        journal.flush()?;
+        Ok(0)
+    }
+
+    /// Errors in attributes are handled by the revised table (in the manner of RFC 7606).
+    fn revised(&mut self, journal: &mut Journal) -> Result<u128, Memory>
+        requires admitted { refusal self.old.declared events.Revised ≡ None }
+        requires stands { Stands self.old }
+        ensures { IfOk result (λ turns. Gives (HasStepped self.old events.Revised turns self.new) journal.old journal.new) }
+    {
+        let as4 = self.profile().as4;
+        self.set_profile(Profile { as4, revised: true });
+        journal.flush()?;
+        Ok(0)
+    }
+
     fn local(&mut self, words: Speaker, journal: &mut Journal) -> Result<u128, Memory>
         requires admitted { refusal self.old.declared (events.Local words) ≡ None }
         requires stands { Stands self.old }
-        requires formed { IsWellFormed (events.Local words) }
+        requires formed { IsWellFormed self.old.declared.profile.as4 (events.Local words) }
         ensures { IfOk result (λ turns. Gives (HasStepped self.old (events.Local words) turns self.new) journal.old journal.new) }
     {
         self.declare_speaker(words, journal)?;
@@ -85,7 +111,7 @@ impl Network {
     fn peer(&mut self, number: u32, words: Speaker, journal: &mut Journal) -> Result<u128, Memory>
         requires admitted { refusal self.old.declared (events.Peer number words) ≡ None }
         requires stands { Stands self.old }
-        requires formed { IsWellFormed (events.Peer number words) }
+        requires formed { IsWellFormed self.old.declared.profile.as4 (events.Peer number words) }
         ensures { IfOk result (λ turns. Gives (HasStepped self.old (events.Peer number words) turns self.new) journal.old journal.new) }
     {
         self.declare_peer(number, words, journal)?;
@@ -201,7 +227,7 @@ impl Network {
     ) -> Result<u128, Memory>
         requires admitted { refusal self.old.declared (events.Bgp number octets) ≡ None }
         requires stands { Stands self.old }
-        requires formed { IsWellFormed (events.Bgp number octets) }
+        requires formed { IsWellFormed self.old.declared.profile.as4 (events.Bgp number octets) }
         requires exits { AllHaveExits self.old }
         ensures { IfOk result (λ turns. Gives (HasStepped self.old (events.Bgp number octets) turns self.new) journal.old journal.new) }
     {
@@ -214,7 +240,7 @@ impl Network {
     fn receive(&mut self, number: u32, octets: &[u8], journal: &mut Journal) -> Result<u128, Memory>
         requires admitted { refusal self.old.declared (events.Bgp number octets.now) ≡ None }
         requires stands { Stands self.old }
-        requires formed { IsWellFormed (events.Bgp number octets.now) }
+        requires formed { IsWellFormed self.old.declared.profile.as4 (events.Bgp number octets.now) }
         requires exits { AllHaveExits self.old }
         ensures { IfOk result (λ turns. Gives (HasStepped self.old (events.Bgp number octets.now) turns self.new) journal.old journal.new) }
     {
@@ -224,7 +250,7 @@ impl Network {
         if !peer.up {
             return ignored(journal);
         }
-        let message = said(self.alloc, &peer, octets)?;
+        let message = said(self.alloc, self.declared.profile(), &peer, octets)?;
         self.hear(number, peer, message, journal)?;
         Ok(0)
     }
@@ -241,7 +267,7 @@ impl Network {
         requires there { peer_at number self.old.declared.peers ≡ Some peer }
         requires up { peer.up ≡ true }
         requires short { HasShortNotice message }
-        requires heard { IsHeardMessage message }
+        requires heard { IsHeardMessage self.old.declared.profile message }
         requires exit { IsSome (exit_at number self.old.exits) }
         ensures { OnOk result (Gives (HasHeard number peer self.old message self.new) journal.old journal.new) }
     {

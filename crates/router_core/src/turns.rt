@@ -68,7 +68,7 @@ impl Network {
     }
 
     /// The first task of a phase that has work; None where no turn of the phase is left.
-    fn next(&self, phase: Phase) -> Option<Task>
+    pub(crate) fn next(&self, phase: Phase) -> Option<Task>
         requires { Stands self.now }
         ensures next { result ≡ next_task phase self.now }
         ensures none { IfNone result (counts self.now phase ≡ 0) }

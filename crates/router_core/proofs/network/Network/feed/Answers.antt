@@ -2,8 +2,9 @@ use Rattle.std.proofs.Common.{List, take, subst, sym}
 use Rattle.addr4.specs.Prefixes.{Network}
 use Rattle.bgp_attr.specs.declared.attrs.Attrs.{Attrs}
 use Rattle.std.specs.Prelude.{Option}
-use Rattle.router_core.specs.Works.{Pushes, HaveFed}
-use Rattle.router_core.proofs.FeedLemmas.{pushed_more, take_pair, heard_at}
+use Rattle.bgp_attr.specs.declared.speaker.Profile.{Profile}
+use Rattle.router_core.specs.Works.{Pushes, AreHeard, HaveFed}
+use Rattle.router_core.proofs.FeedLemmas.{fed_profile, pushed_more, take_pair, heard_at}
 use Rattle.router_core.proofs.network.Network.feed.Goals as goal
 
 pub loop-change-preserved : goal.loop-change-preserved
@@ -14,4 +15,6 @@ loop-change-preserved c =
     c.args.journal.now c.loop-change.journal c.feed_one.new.journal c.loop-change.invariant c.in_ok-feed_one.ensures)
 
 pub feed_one-requires-clause-heard : goal.feed_one-requires-clause-heard
-feed_one-requires-clause-heard c = heard_at c.args.changes.now c.loop-change.change-index c.change-item.result c.in_ok-row.row c.loop-change-test.true c.change-item.is c.in_ok-row.ensures c.requires.heard
+feed_one-requires-clause-heard c =
+    heard_at c.loop-change.self.declared.profile c.args.changes.now c.loop-change.change-index c.change-item.result c.in_ok-row.row c.loop-change-test.true c.change-item.is c.in_ok-row.ensures
+    (subst (λ (f : Profile). AreHeard f c.args.changes.now) (fed_profile c.args.number _ c.args.self.now c.loop-change.self c.args.journal.now c.loop-change.journal c.loop-change.invariant) c.requires.heard)

@@ -8,8 +8,8 @@ use Rattle.router_core.proofs.network.Network.hear.Goals as goal
 
 pub feed-requires-clause-heard : goal.feed-requires-clause-heard
 feed-requires-clause-heard c =
-    subst AreHeard (sym c.as_slice.ensures.value)
-    (subst AreHeard (sym c.in_ok-changes-in-Update.ensures) (changes_heard c.in-Update.update (subst IsHeardMessage c.in-Update.is c.requires.heard)))
+    subst (AreHeard c.args.self.now.declared.profile) (sym c.as_slice.ensures.value)
+    (subst (AreHeard c.args.self.now.declared.profile) (sym c.in_ok-changes-in-Update.ensures) (changes_heard c.args.self.now.declared.profile c.in-Update.update (subst (IsHeardMessage c.args.self.now.declared.profile) c.in-Update.is c.requires.heard)))
 
 pub returns-in_ok-feed-in-Update : goal.returns-in_ok-feed-in-Update
 returns-in_ok-feed-in-Update c =

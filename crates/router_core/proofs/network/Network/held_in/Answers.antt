@@ -11,8 +11,12 @@ use Rattle.router_core.specs.declared.router.Phase.TheVariants.{Del, Fin}
 use Rattle.router_core.proofs.StandLemmas.{peers_sound}
 use Rattle.router_core.proofs.HopTurns.{exits_sound}
 use Rattle.router_core.proofs.BestLemmas.{lent_best}
-use Rattle.router_core.proofs.NextLemmas.{held_of_peers, held_of_hops, held_of_exits}
+use Rattle.router_core.proofs.NextLemmas.{held_of_peers, held_of_hops, held_of_exits, held_of_losses}
+use Rattle.router_core.proofs.SettledLemmas.{none_held}
 use Rattle.router_core.proofs.network.Network.held_in.Goals as goal
+
+pub returns-in_err-next : goal.returns-in_err-next
+returns-in_err-next c = c.from_residual.ensures ∙ sym (none_held c.only_work_holds_up.ensures c.args.phase c.args.self.now c.args.p (sym c.next.ensures.next ∙ c.in_err-next.was))
 
 pub first_loss_at-requires : goal.first_loss_at-requires
 first_loss_at-requires c = peers_sound c.args.self.now _ c.self.view_is c.requires
@@ -22,6 +26,9 @@ first_walk_at-requires c = peers_sound c.args.self.now _ c.self.view_is c.requir
 
 pub first_held-requires-in-Out : goal.first_held-requires-in-Out
 first_held-requires-in-Out c = record { sound = exits_sound c.args.self.now _ c.self.view_is c.requires }
+
+pub returns-in-Rdel : goal.returns-in-Rdel
+returns-in-Rdel c = held_of_losses c.args.phase c.args.self.now c.args.p c.loss_held.result c.in-Rdel.is c.loss_held.ensures
 
 pub returns-in-Del : goal.returns-in-Del
 returns-in-Del c = held_of_peers Del c.args.phase c.args.self.now _ c.args.p c.first_loss_at.result tt c.in-Del.is c.self.view_is c.first_loss_at.ensures

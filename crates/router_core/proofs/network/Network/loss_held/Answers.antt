@@ -1,23 +1,30 @@
-use Rattle.std.proofs.Common.{Some, None, refl, sym, ◌∙◌}
-use Rattle.rib_route.specs.declared.Proto.TheVariants.{Static, Ospf, Rip}
-use Rattle.router_core.proofs.HeldLemmas.{held_of, losses_found}
+use Rattle.std.proofs.Common.{refl, arith, ◌≤◌, ◌<◌, ℕ}
+use Rattle.router_core.proofs.StandLemmas.{tree_sound}
+use Rattle.router_core.proofs.HeldLemmas.{hop_more, hop_none}
+use Rattle.router_core.proofs.NextLemmas.{held_of_tree}
 use Rattle.router_core.proofs.network.Network.loss_held.Goals as goal
+use Rattle.router_core.proofs.network.Network.loss_held.Goals.{in-Some, in_default}
 
-pub returns-in-Some : goal.returns-in-Some
-returns-in-Some c =
-    losses_found c.args.self.now c.args.p (Some c.in-Some.task) (held_of c.args.self.now c.args.p Static) (held_of c.args.self.now c.args.p Ospf) (held_of c.args.self.now c.args.p Rip) (sym c.in-Some.is ∙ c.loss_held_of.ensures) refl refl refl
+below : (end n : ℕ) → end ≤ 65 → n < end → n < 65
+below end n few less = omega (arith, few, less)
 
-pub returns-in-Some-loss_held_of : goal.returns-in-Some-loss_held_of
-returns-in-Some-loss_held_of c =
-    losses_found c.args.self.now c.args.p None (Some c.in-Some-loss_held_of.task) (held_of c.args.self.now c.args.p Ospf) (held_of c.args.self.now c.args.p Rip) (sym c.in_default.is ∙ c.loss_held_of.ensures)
-    (sym c.in-Some-loss_held_of.is ∙ c.loss_held_of-2.ensures) refl refl
+from_there : (end n k : ℕ) → end ≤ n → n ≤ k → end ≤ k
+from_there end n k past from = omega (arith, past, from)
 
-pub returns-in-Some-loss_held_of-2 : goal.returns-in-Some-loss_held_of-2
-returns-in-Some-loss_held_of-2 c =
-    losses_found c.args.self.now c.args.p None None (Some c.in-Some-loss_held_of-2.task) (held_of c.args.self.now c.args.p Rip) (sym c.in_default.is ∙ c.loss_held_of.ensures) (sym c.in_default-loss_held_of.is ∙ c.loss_held_of-2.ensures)
-    (sym c.in-Some-loss_held_of-2.is ∙ c.loss_held_of-3.ensures) refl
+pub loop-number-init : goal.loop-number-init
+loop-number-init c = record { long = refl; few = omega arith; within = omega arith; front = λ f. refl }
+
+pub loop-number-preserved : goal.loop-number-preserved
+loop-number-preserved c =
+    elim c.match-next_hop.branch [
+      | in-Some w ↦ rw w.hops-is (rw w.count-is (hop_more c.args.self.now c.args.p _ c.loop-number.hops c.loop-number.count c.loop-number.number w.in-Some.hop c.next_hop.result c.lent-lent.ensures.chains (below c.numbers-number-end.result c.loop-number.number c.numbers-number-end.ensures.few c.loop-number-test.true) c.loop-number.invariant c.next_hop.ensures w.in-Some.is))
+      | in_default w ↦ rw w.hops-is (rw w.count-is (hop_none c.args.self.now c.args.p _ c.loop-number.hops c.loop-number.count c.loop-number.number c.next_hop.result c.lent-lent.ensures.chains (below c.numbers-number-end.result c.loop-number.number c.numbers-number-end.ensures.few c.loop-number-test.true) c.loop-number.invariant c.next_hop.ensures w.in_default.is))
+    ]
+
+pub first_loss_at-requires : goal.first_loss_at-requires
+first_loss_at-requires c = tree_sound c.args.self.now _ c.self.view_is c.requires
 
 pub returns : goal.returns
 returns c =
-    losses_found c.args.self.now c.args.p None None None c.loss_held_of-4.result (sym c.in_default.is ∙ c.loss_held_of.ensures) (sym c.in_default-loss_held_of.is ∙ c.loss_held_of-2.ensures)
-    (sym c.in_default-loss_held_of-2.is ∙ c.loss_held_of-3.ensures) c.loss_held_of-4.ensures
+    held_of_tree c.args.self.now _ c.args.p c.loop-number.hops c.loop-number.count c.loop-number.number c.first_loss_at.result c.self.view_is
+    (λ k less from. c.numbers-number-end.ensures.all k less (from_there c.numbers-number-end.result c.loop-number.number k c.loop-number-test.false from)) c.loop-number.invariant c.first_loss_at.ensures

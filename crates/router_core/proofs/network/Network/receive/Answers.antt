@@ -1,5 +1,7 @@
 use Rattle.router_core.proofs.StepLemmas.{bgp_ignored, heard_up}
-use Rattle.std.proofs.Common.{◌≡◌, ℕ, Bool, not, List, Some, None, subst, sym}
+use Rattle.std.proofs.Common.{◌≡◌, ℕ, Bool, not, List, Some, None, subst, sym, ap, ◌∙◌}
+use Rattle.live_state.specs.Messages.{Says}
+use Rattle.bgp_attr.specs.declared.speaker.Profile.{Profile}
 use Rattle.bgp_wire.specs.Grammar.{Answers}
 use Rattle.bgp_wire.specs.Readable.{AreOctets}
 use Rattle.bgp_wire.specs.declared.message.Message.{Message}
@@ -8,7 +10,6 @@ use Rattle.router_core.specs.Works.{IsHeardMessage}
 use Rattle.router_core.proofs.HeardRows.{message_heard}
 use Rattle.event_text.specs.Declarations.{peer_at}
 use Rattle.router_core.specs.Moments.{Moment}
-use Rattle.live_state.specs.Messages.{plain}
 use Rattle.live_state.proofs.AdmittedLemmas.{bgp_there}
 use Rattle.router_core.proofs.network.Network.receive.Goals as goal
 
@@ -18,18 +19,20 @@ unreachable-requires c =
     (subst (λ (m : Moment). peer_at c.args.number m.declared.peers ≡ None) c.self.view_is (sym c.in_default.ensures))
 
 -- what octets say may be heard
-said_heard : (external : Bool) (octets : List ℕ) (message : Message) → AreOctets octets → Answers plain external octets message → IsHeardMessage message
-said_heard external octets (messages.Update u) are says = message_heard external octets (messages.Update u) are says
-said_heard external octets other are says = tt
+said_heard : (profile : Profile) (external : Bool) (octets : List ℕ) (message : Message) → AreOctets octets → Answers profile external octets message → IsHeardMessage profile message
+said_heard profile external octets (messages.Update u) are says = message_heard profile external octets (messages.Update u) are says
+said_heard profile external octets other are says = tt
 
 pub hear-requires-clause-heard : goal.hear-requires-clause-heard
 hear-requires-clause-heard c =
-    said_heard (not c.in-Some.peer.words.internal) c.args.octets.now c.in_ok-message.message c.requires.formed.1.bytes c.in_ok-message.ensures.says
+    said_heard c.args.self.now.declared.profile (not c.in-Some.peer.words.internal) c.args.octets.now c.in_ok-message.message c.requires.formed.1.bytes
+    (subst (λ (f : Profile). Says f c.in-Some.peer c.args.octets.now c.in_ok-message.message) (c.profile.ensures ∙ ap (λ (m : Moment). m.declared.profile) c.self.view_is) c.in_ok-message.ensures.says)
 
 pub returns : goal.returns
 returns c =
     let there : peer_at c.args.number c.args.self.now.declared.peers ≡ Some c.in-Some.peer = subst (λ (m : Moment). peer_at c.args.number m.declared.peers ≡ Some c.in-Some.peer) c.self.view_is (sym c.in-Some.ensures) in
-    heard_up c.args.number c.in-Some.peer c.args.self.now c.hear.new.self c.args.octets.now c.in_ok-message.message c.args.journal.now c.hear.new.journal there c.if-not-peer.false c.in_ok-message.ensures.says c.in_ok-hear.ensures
+    heard_up c.args.number c.in-Some.peer c.args.self.now c.hear.new.self c.args.octets.now c.in_ok-message.message c.args.journal.now c.hear.new.journal there c.if-not-peer.false
+    (subst (λ (f : Profile). Says f c.in-Some.peer c.args.octets.now c.in_ok-message.message) (c.profile.ensures ∙ ap (λ (m : Moment). m.declared.profile) c.self.view_is) c.in_ok-message.ensures.says) c.in_ok-hear.ensures
 
 pub returns-then-not-peer : goal.returns-then-not-peer
 returns-then-not-peer c =

@@ -10,7 +10,7 @@ returns-clause-stands c =
     let n = c.self.inside.events in
     core_worked c.args.self.now m n c.self.inside.failed c.self.view_is c.if-self.false c.requires.stands c.drain.new.self c.in_ok-turns.ensures.0
     c.in_ok-turns.ensures.2.work.keeps (phase_same c.args.phase m c.in_ok-turns.ensures.0 _ c.drain.new.self c.in_ok-turns.ensures.2.runs)
-    (λ fit. (phase_goes (neighbours m.declared) n c.args.phase m c.in_ok-turns.ensures.0 _ c.drain.new.self c.in_ok-turns.ensures.2.runs fit).0)
+    (λ fit. (phase_goes m.declared.profile (neighbours m.declared) n c.args.phase m c.in_ok-turns.ensures.0 _ c.drain.new.self c.in_ok-turns.ensures.2.runs fit).0)
 
 pub returns-clause-exact : goal.returns-clause-exact
 returns-clause-exact c =
@@ -19,7 +19,7 @@ returns-clause-exact c =
     exact_after c.rows_at_rest_are_exact.ensures c.drain.new.self n
     (core_worked c.args.self.now m n c.self.inside.failed c.self.view_is c.if-self.false c.requires.stands c.drain.new.self c.in_ok-turns.ensures.0
     c.in_ok-turns.ensures.2.work.keeps (phase_same c.args.phase m c.in_ok-turns.ensures.0 _ c.drain.new.self c.in_ok-turns.ensures.2.runs)
-    (λ fit. (phase_goes (neighbours m.declared) n c.args.phase m c.in_ok-turns.ensures.0 _ c.drain.new.self c.in_ok-turns.ensures.2.runs fit).0))
+    (λ fit. (phase_goes m.declared.profile (neighbours m.declared) n c.args.phase m c.in_ok-turns.ensures.0 _ c.drain.new.self c.in_ok-turns.ensures.2.runs fit).0))
 
 pub invariant_of-self-2 : goal.invariant_of-self-2
 invariant_of-self-2 c =
@@ -28,4 +28,4 @@ invariant_of-self-2 c =
     λ _. readers_of c.drain.new.self
     (core_worked c.args.self.now m n c.self.inside.failed c.self.view_is c.if-self.false c.requires.stands c.drain.new.self c.in_ok-turns.ensures.0
     c.in_ok-turns.ensures.2.work.keeps (phase_same c.args.phase m c.in_ok-turns.ensures.0 _ c.drain.new.self c.in_ok-turns.ensures.2.runs)
-    (λ fit. (phase_goes (neighbours m.declared) n c.args.phase m c.in_ok-turns.ensures.0 _ c.drain.new.self c.in_ok-turns.ensures.2.runs fit).0)).stands
+    (λ fit. (phase_goes m.declared.profile (neighbours m.declared) n c.args.phase m c.in_ok-turns.ensures.0 _ c.drain.new.self c.in_ok-turns.ensures.2.runs fit).0)).stands

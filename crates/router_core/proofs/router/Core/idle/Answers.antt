@@ -14,7 +14,7 @@ returns-clause-stands c =
     let n = c.self.inside.events in
     let idles = c.in_ok-idle.ensures.2.idles in
     core_worked c.args.self.now m n c.self.inside.failed c.self.view_is c.if-self.false c.requires.stands c.idle.new.self c.in_ok-idle.ensures.0
-    c.in_ok-idle.ensures.2.keeps (phases_same all_phases m idles.inner _ c.idle.new.self idles.runs) (λ fit. (phases_go (neighbours m.declared) n all_phases m idles.inner _ c.idle.new.self idles.runs fit).0)
+    c.in_ok-idle.ensures.2.keeps (phases_same all_phases m idles.inner _ c.idle.new.self idles.runs) (λ fit. (phases_go m.declared.profile (neighbours m.declared) n all_phases m idles.inner _ c.idle.new.self idles.runs fit).0)
 
 pub returns-clause-exact : goal.returns-clause-exact
 returns-clause-exact c =
@@ -23,7 +23,7 @@ returns-clause-exact c =
     let idles = c.in_ok-idle.ensures.2.idles in
     exact_after c.rows_at_rest_are_exact.ensures c.idle.new.self n
     (core_worked c.args.self.now m n c.self.inside.failed c.self.view_is c.if-self.false c.requires.stands c.idle.new.self c.in_ok-idle.ensures.0
-    c.in_ok-idle.ensures.2.keeps (phases_same all_phases m idles.inner _ c.idle.new.self idles.runs) (λ fit. (phases_go (neighbours m.declared) n all_phases m idles.inner _ c.idle.new.self idles.runs fit).0))
+    c.in_ok-idle.ensures.2.keeps (phases_same all_phases m idles.inner _ c.idle.new.self idles.runs) (λ fit. (phases_go m.declared.profile (neighbours m.declared) n all_phases m idles.inner _ c.idle.new.self idles.runs fit).0))
 
 pub invariant_of-self-2 : goal.invariant_of-self-2
 invariant_of-self-2 c =
@@ -32,4 +32,4 @@ invariant_of-self-2 c =
     let idles = c.in_ok-idle.ensures.2.idles in
     λ _. readers_of c.idle.new.self
     (core_worked c.args.self.now m n c.self.inside.failed c.self.view_is c.if-self.false c.requires.stands c.idle.new.self c.in_ok-idle.ensures.0
-    c.in_ok-idle.ensures.2.keeps (phases_same all_phases m idles.inner _ c.idle.new.self idles.runs) (λ fit. (phases_go (neighbours m.declared) n all_phases m idles.inner _ c.idle.new.self idles.runs fit).0)).stands
+    c.in_ok-idle.ensures.2.keeps (phases_same all_phases m idles.inner _ c.idle.new.self idles.runs) (λ fit. (phases_go m.declared.profile (neighbours m.declared) n all_phases m idles.inner _ c.idle.new.self idles.runs fit).0)).stands

@@ -1,0 +1,12 @@
+use Rattle.std.proofs.Common.{true, refl, ap}
+use Rattle.bgp_attr.specs.declared.speaker.Profile.{Profile}
+use Rattle.event_text.specs.declared.event.Event.TheVariants as events
+use Rattle.event_text.specs.Declarations.{with_four_octets}
+use Rattle.live_state.proofs.AdmittedLemmas.{as4_is_first}
+use Rattle.router_core.proofs.ProfileLemmas.{profile_is_stepped}
+use Rattle.router_core.proofs.network.Network.four_octets.Goals as goal
+
+pub returns : goal.returns
+returns c =
+    profile_is_stepped c.args.self.now c.set_profile.new.self events.As4 _ (with_four_octets c.args.self.now.declared.profile) c.args.journal.now c.flush.new.self c.requires.stands
+    (as4_is_first c.args.self.now.declared c.requires.admitted) c.set_profile.ensures (ap (λ (f : Profile). record { as4 = true; revised = f.revised }) c.profile-revised.ensures) (refl, refl, refl) refl c.in_ok-flush.ensures.ok
