@@ -7,11 +7,11 @@ use Rattle.clap.specs.ValueTests.{is_unsigned_in}
 use Rattle.clap.specs.declared.builder.ArgAction.TheVariants.{Set, SetTrue}
 use Rattle.clap.specs.declared.builder.value_parser.ValueParser.TheVariants.{Unsigned}
 use Rattle.command_line.specs.declared.words.Command.{Command}
-use Rattle.command_line.specs.declared.words.Command.TheVariants.{Run, Gen, Check}
+use Rattle.command_line.specs.declared.words.Command.TheVariants.{Run, Gen, Check, Mrt}
 
--- the flag `--quiet`
-abbrev pub quiet_rule : Rule
-quiet_rule = record (new_rule (codes "quiet")) { long = Some (codes "quiet"); action = Some SetTrue }
+-- a flag, which may be there
+abbrev pub flag_rule : Text → Rule
+flag_rule name = record (new_rule name) { long = Some name; action = Some SetTrue }
 
 -- a number that must be there, and is at most so large
 abbrev pub number_rule : Text → ℕ → Rule
@@ -23,25 +23,29 @@ largest_seed = 18446744073709551615
 abbrev pub most_events : ℕ
 most_events = 60000
 
--- `run`, which has the flag
+-- `run`, which has a flag
 abbrev pub run_app : App
-run_app = with_rule (new_app (codes "run")) quiet_rule
+run_app = with_rule (new_app (codes "run")) (flag_rule (codes "quiet"))
 
 -- `gen SEED COUNT`, which has it, too
 abbrev pub gen_app : App
-gen_app = with_rule (with_rule (with_rule (new_app (codes "gen")) (number_rule (codes "seed") largest_seed)) (number_rule (codes "count") most_events)) quiet_rule
+gen_app = with_rule (with_rule (with_rule (new_app (codes "gen")) (number_rule (codes "seed") largest_seed)) (number_rule (codes "count") most_events)) (flag_rule (codes "quiet"))
+
+-- `mrt`, which has a flag of its own
+abbrev pub mrt_app : App
+mrt_app = with_rule (new_app (codes "mrt")) (flag_rule (codes "as4"))
 
 -- `replay` with its commands, of which `check` has no further word
 abbrev pub replay_app : App
-replay_app = with_subcommand (with_subcommand (with_subcommand (new_app (codes "replay")) run_app.top) gen_app.top) (new_app (codes "check")).top
+replay_app = with_subcommand (with_subcommand (with_subcommand (with_subcommand (new_app (codes "replay")) run_app.top) gen_app.top) (new_app (codes "check")).top) mrt_app.top
 
 abbrev pub is_true : Option Text → Bool
 is_true None = false
 is_true (Some text) = bytes_eq text (codes "true")
 
--- whether the flag stands among the words of a command
-abbrev pub is_quiet : List Row → Bool
-is_quiet rows = is_true (first_of (codes "quiet") rows)
+-- whether a flag stands among the words of a command
+abbrev pub has_flag : Text → List Row → Bool
+has_flag name rows = is_true (first_of name rows)
 
 -- the number that a text is, where it is one that is at most so large
 abbrev pub number_in : ℕ → Text → Option ℕ
@@ -57,15 +61,16 @@ generation (Some seed) (Some count) quiet = Some (Gen seed count quiet)
 generation seed count quiet = None
 
 abbrev pub generated : List Row → Option Command
-generated rows = generation (number_to largest_seed (first_of (codes "seed") rows)) (number_to most_events (first_of (codes "count") rows)) (is_quiet rows)
+generated rows = generation (number_to largest_seed (first_of (codes "seed") rows)) (number_to most_events (first_of (codes "count") rows)) (has_flag (codes "quiet") rows)
 
 -- the command of this name
 abbrev pub named : Option (Text × List Row) → Option Command
 named None = None
 named (Some sub) =
-    if bytes_eq sub.0 (codes "run") then Some (Run (is_quiet sub.1))
+    if bytes_eq sub.0 (codes "run") then Some (Run (has_flag (codes "quiet") sub.1))
     else if bytes_eq sub.0 (codes "gen") then generated sub.1
     else if bytes_eq sub.0 (codes "check") then Some Check
+    else if bytes_eq sub.0 (codes "mrt") then Some (Mrt (has_flag (codes "as4") sub.1))
     else None
 
 -- words that are taken name a command, or none; words with a fault, or that ask for help, are none

@@ -4,7 +4,7 @@ ghost use Rattle.std.specs.Prelude.{◌≡◌, ◌≤◌, codes, false, map, IfO
 ghost use Rattle.std.specs.String.{string_bytes};
 ghost use Rattle.clap.specs.Words.{app_of, first_of, found_of, new_app, rows_of, rule_of, subcommand_rows_of, with_rule, with_subcommand};
 ghost use Rattle.clap.specs.declared.builder.command.Command.TheViews.{out-Command as fields_of};
-ghost use Rattle.command_line.specs.Commands.{replay_app, run_app, gen_app, number_rule, quiet_rule, largest_seed, most_events, generated, is_quiet, named, number_in, number_to, command_of};
+ghost use Rattle.command_line.specs.Commands.{replay_app, run_app, gen_app, mrt_app, number_rule, flag_rule, largest_seed, most_events, generated, has_flag, named, number_in, number_to, command_of};
 
 use addr4::Memory;
 use clap::builder::ValueParser;
@@ -21,6 +21,8 @@ pub enum Command {
     Gen(u64, u32, bool),
     /// `check`
     Check,
+    /// `mrt`, with AS numbers of four octets where `--as4` follows.
+    Mrt(bool),
 }
 
 /// The largest COUNT.
@@ -37,14 +39,12 @@ fn number<'a>(alloc: Global, id: &'a str, most: u64) -> Arg<'a>
         .value_parser(ValueParser::Unsigned(0, most))
 }
 
-/// The flag `--quiet`.
-fn quiet<'a>(alloc: Global) -> Arg<'a>
-    ensures rule { rule_of result ≡ quiet_rule }
+/// A flag, which may be there.
+fn flag<'a>(alloc: Global, name: &'a str) -> Arg<'a>
+    ensures rule { rule_of result ≡ flag_rule name.now }
     ensures local { result.global ≡ false }
 {
-    Arg::new(alloc, "quiet")
-        .long("quiet")
-        .action(ArgAction::SetTrue)
+    Arg::new(alloc, name).long(name).action(ArgAction::SetTrue)
 }
 
 /// `run [--quiet]`
@@ -52,7 +52,7 @@ fn run_command<'a>(alloc: Global) -> Result<clap::Command<'a>, AllocError>
     ensures app { IfOk result (λ command. app_of command ≡ run_app) }
     ensures local { IfOk result (λ command. (fields_of command).has_globals ≡ false) }
 {
-    clap::Command::new(alloc, "run").arg(quiet(alloc))
+    clap::Command::new(alloc, "run").arg(flag(alloc, "quiet"))
 }
 
 /// `gen SEED COUNT`
@@ -71,7 +71,7 @@ fn gen_command<'a>(alloc: Global) -> Result<clap::Command<'a>, AllocError>
     ensures local { IfOk result (λ command. (fields_of command).has_globals ≡ false) }
 {
     let command = numbers_command(alloc)?;
-    command.arg(quiet(alloc))
+    command.arg(flag(alloc, "quiet"))
 }
 
 /// `replay` with `run`.
@@ -96,19 +96,41 @@ fn with_gen<'a>(alloc: Global) -> Result<clap::Command<'a>, AllocError>
     }
 }
 
-/// What the command line may be.
-fn replay_command<'a>(alloc: Global) -> Result<clap::Command<'a>, AllocError>
-    ensures { IfOk result (λ command. app_of command ≡ replay_app) }
+/// `replay` with `run`, `gen` and `check`.
+fn with_check<'a>(alloc: Global) -> Result<clap::Command<'a>, AllocError>
+    ensures { IfOk result (λ command. app_of command ≡ with_subcommand (with_subcommand (with_subcommand (new_app (codes "replay")) run_app.top) gen_app.top) (new_app (codes "check")).top) }
 {
     let command = with_gen(alloc)?;
     command.subcommand(clap::Command::new(alloc, "check"))
 }
 
-/// Whether the flag stands among the words of a command.
-fn is_quiet(matches: &ArgMatches) -> bool
-    ensures { result ≡ is_quiet (rows_of (found_of matches.now)) }
+/// `mrt [--as4]`
+fn mrt_command<'a>(alloc: Global) -> Result<clap::Command<'a>, AllocError>
+    ensures app { IfOk result (λ command. app_of command ≡ mrt_app) }
+    ensures local { IfOk result (λ command. (fields_of command).has_globals ≡ false) }
 {
-    match matches.get_str("quiet") {
+    clap::Command::new(alloc, "mrt").arg(flag(alloc, "as4"))
+}
+
+/// What the command line may be.
+fn replay_command<'a>(alloc: Global) -> Result<clap::Command<'a>, AllocError>
+    ensures { IfOk result (λ command. app_of command ≡ replay_app) }
+{
+    let command = with_check(alloc)?;
+    match mrt_command(alloc) {
+        Ok(mrt) => command.subcommand(mrt),
+        Err(fault) => {
+            drop(command);
+            Err(fault)
+        }
+    }
+}
+
+/// Whether a flag stands among the words of a command.
+fn has_flag(matches: &ArgMatches, name: &str) -> bool
+    ensures { result ≡ has_flag name.now (rows_of (found_of matches.now)) }
+{
+    match matches.get_str(name) {
         Some(text) => text == "true",
         None => false,
     }
@@ -143,7 +165,10 @@ fn generated(matches: &ArgMatches) -> Option<Command>
     let seed = number_of(matches, "seed", u64::MAX);
     let count = number_of(matches, "count", MOST_EVENTS);
     match (seed, count) {
-        (Some(seed), Some(count)) => Some(Command::Gen(seed, count as u32, is_quiet(matches))),
+        (Some(seed), Some(count)) => {
+            let quiet = has_flag(matches, "quiet");
+            Some(Command::Gen(seed, count as u32, quiet))
+        }
         _ => None,
     }
 }
@@ -154,13 +179,16 @@ fn named(matches: &ArgMatches) -> Option<Command>
 {
     let (name, inner) = matches.subcommand()?;
     if name == "run" {
-        return Some(Command::Run(is_quiet(inner)));
+        return Some(Command::Run(has_flag(inner, "quiet")));
     }
     if name == "gen" {
         return generated(inner);
     }
     if name == "check" {
-        Some(Command::Check)
+        return Some(Command::Check);
+    }
+    if name == "mrt" {
+        Some(Command::Mrt(has_flag(inner, "as4")))
     } else {
         None
     }

@@ -3,7 +3,7 @@ use Rattle.std.proofs.Common.{◌≡◌, ℕ, ◌+◌, ◌<◌, ◌≤◌, Bool,
 use Rattle.std.proofs.KnownBytes.{Consumes-trans}
 use Rattle.std.specs.Result.{IsErrAnd}
 use Rattle.std.specs.Io.KnownBytes.{Consumes}
-use Rattle.mrt_reader.specs.Records.{Record, kind_in, subtype_in, length_in}
+use Rattle.mrt_reader.specs.Records.{Record, AreBytes, kind_in, subtype_in, length_in}
 use Rattle.mrt_reader.specs.Fields as told
 use Rattle.mrt_reader.specs.Fields.{Said, said_in}
 use Rattle.mrt_reader.specs.Kept.{said_of}
@@ -35,10 +35,11 @@ pub record HeadRead (a b : Option (List ℕ)) (head : List ℕ) (h : Header) : T
   pub kind : h.kind ≡ kind_in head
   pub subtype : h.subtype ≡ subtype_in head
   pub size : h.length ≡ length_in head
+  pub bytes : AreBytes head
 
-pub head_read : (a b : Option (List ℕ)) (none head octets seen : List ℕ) (h : Header) (all : Bool) → all ≡ true → none ≡ [] → head ≡ none ++ octets → seen ≡ head → h ≡ record { kind = kind_in seen; subtype = subtype_in seen; length = length_in seen } → AreTaken a b 12 (Ok all) octets → HeadRead a b head h
-head_read a b none head octets seen h false is cleared more same fields t = absurd (cc)
-head_read a b none head octets seen h true is cleared more same fields t =
+pub head_read : (a b : Option (List ℕ)) (none head octets seen : List ℕ) (h : Header) (all : Bool) → all ≡ true → none ≡ [] → head ≡ none ++ octets → seen ≡ head → h ≡ record { kind = kind_in seen; subtype = subtype_in seen; length = length_in seen } → AreTaken a b 12 (Ok all) octets → AreBytes octets → HeadRead a b head h
+head_read a b none head octets seen h false is cleared more same fields t bytes = absurd (cc)
+head_read a b none head octets seen h true is cleared more same fields t bytes =
     let whole : octets ≡ head = sym (more ∙ ap (λ xs. xs ++ octets) cleared) in
     record {
       twelve = ap length (sym whole) ∙ t.1;
@@ -46,6 +47,7 @@ head_read a b none head octets seen h true is cleared more same fields t =
       kind = ap (λ f. f.kind) fields ∙ ap kind_in same;
       subtype = ap (λ f. f.subtype) fields ∙ ap subtype_in same;
       size = ap (λ f. f.length) fields ∙ ap length_in same;
+      bytes = subst AreBytes whole bytes;
     }
 
 -- ---- refusals
@@ -95,11 +97,12 @@ passed_on result stop inner is passed =
     sym same
 
 -- a read failed within the body
-pub fails_in_body : (old r : Reading) (left b now : Option (List ℕ)) (new : Reading) (head part : List ℕ) (h : Header) (stop : Stop) → old ≡ r → stop ≡ ReadFault → HeadRead (left_by r left) b head h → AreTaken b (left_by new now) h.length (Err stop) part → ReadsNone old left new now
-fails_in_body old r left b now new head part h Memory same is f t = absurd (cc)
-fails_in_body old r left b now new head part h ReadFault same is f t = record {
+pub fails_in_body : (old r : Reading) (left b now : Option (List ℕ)) (new : Reading) (head part : List ℕ) (h : Header) (stop : Stop) → old ≡ r → stop ≡ ReadFault → HeadRead (left_by r left) b head h → AreTaken b (left_by new now) h.length (Err stop) part → new.unread ≡ [] → ReadsNone old left new now
+fails_in_body old r left b now new head part h Memory same is f t drained = absurd (cc)
+fails_in_body old r left b now new head part h ReadFault same is f t drained = record {
   octets = head ++ part;
   consumed = subst (λ (o : Reading). Consumes (left_by o left) (left_by new now) (head ++ part)) (sym same) (Consumes-trans (left_by r left) b (left_by new now) head part f.consumed t.0);
+  drained = drained;
   none = short_body head part f.twelve (omega (arith, t.1, f.size));
 }
 
@@ -108,15 +111,15 @@ fails_in_body old r left b now new head part h ReadFault same is f t = record {
 said_again : (as4 : Bool) (a b : Option (List ℕ)) (head part : List ℕ) (h : Header) → HeadRead a b head h → said_in as4 h.kind h.subtype part ≡ said_in as4 (kind_in head) (subtype_in head) part
 said_again as4 a b head part h r = λ i. said_in as4 (r.kind i) (r.subtype i) part
 
-pub malformed : (as4 : Bool) (a b c : Option (List ℕ)) (n : ℕ) (head kept part : List ℕ) (h : Header) (all : Bool) (body : Body) → n < 1000000000 → HeadRead a b head h → all ≡ true → AreTaken b c h.length (Ok all) part → said_of kept body ≡ said_in as4 h.kind h.subtype part → body ≡ bodies.Malformed → IsRefusedBy as4 a n M2
-malformed as4 a b c n head kept part h false body few r is t said e = absurd (cc)
-malformed as4 a b c n head kept part h true body few r is t said e =
+pub malformed : (as4 : Bool) (a b c : Option (List ℕ)) (n : ℕ) (head kept part : List ℕ) (h : Header) (all : Bool) (body : Body) → n < 1000000000 → HeadRead a b head h → all ≡ true → AreTaken b c h.length (Ok all) part → said_of kept body ≡ said_in as4 h.kind h.subtype part → body ≡ bodies.Malformed → AreBytes part → IsRefusedBy as4 a n M2
+malformed as4 a b c n head kept part h false body few r is t said e bytes = absurd (cc)
+malformed as4 a b c n head kept part h true body few r is t said e bytes =
     let g = may_go_on a c (head ++ part) (Consumes-trans a b c head part r.consumed t.0) in
     let one : Record = record { head = head; body = part } in
     record {
       rest = (head ++ part) ++ g.0;
       may_be = g.1;
-      refused = (few, (one, g.0, record { head = r.twelve; body = t.1 ∙ r.size }, refl, sym (said_again as4 a b head part h r) ∙ (sym said ∙ ap (said_of kept) e)));
+      refused = (few, (one, g.0, record { head = r.twelve; body = t.1 ∙ r.size; bytes = (r.bytes, bytes) }, refl, sym (said_again as4 a b head part h r) ∙ (sym said ∙ ap (said_of kept) e)));
     }
 
 formed : (kept : List ℕ) (body : Body) → (body ≡ bodies.Malformed → ⊥) → said_of kept body ≡ told.Malformed → ⊥
@@ -124,9 +127,9 @@ formed kept bodies.Unused other e = cc
 formed kept bodies.Malformed other e = other refl
 formed kept (bodies.Session s n) other e = cc
 
-pub reads_one : (old r : Reading) (left b now : Option (List ℕ)) (written : Written) (unread head kept part before text : List ℕ) (h : Header) (all : Bool) (body : Body) → old ≡ r → before ≡ [] → r.number < 1000000000 → HeadRead (left_by r left) b head h → all ≡ true → AreTaken b (left_by (record { as4 = r.as4; number = r.number + 1; written = written; unread = unread }) now) h.length (Ok all) part → said_of kept body ≡ said_in r.as4 h.kind h.subtype part → (body ≡ bodies.Malformed → ⊥) → text ≡ before ++ text_of (lines_said r.as4 r.written (said_of kept body)) → written ≡ after_all r.written (lines_said r.as4 r.written (said_of kept body)) → ReadsOne old left text (record { as4 = r.as4; number = r.number + 1; written = written; unread = unread }) now
-reads_one old r left b now written unread head kept part before text h false body same cleared few f is t said other line behind = absurd (cc)
-reads_one old r left b now written unread head kept part before text h true body same cleared few f is t said other line behind =
+pub reads_one : (old r : Reading) (left b now : Option (List ℕ)) (written : Written) (unread head kept part before text : List ℕ) (h : Header) (all : Bool) (body : Body) → old ≡ r → before ≡ [] → r.number < 1000000000 → HeadRead (left_by r left) b head h → all ≡ true → AreTaken b (left_by (record { as4 = r.as4; number = r.number + 1; written = written; unread = unread }) now) h.length (Ok all) part → said_of kept body ≡ said_in r.as4 h.kind h.subtype part → (body ≡ bodies.Malformed → ⊥) → text ≡ before ++ text_of (lines_said r.as4 r.written (said_of kept body)) → written ≡ after_all r.written (lines_said r.as4 r.written (said_of kept body)) → AreBytes part → ReadsOne old left text (record { as4 = r.as4; number = r.number + 1; written = written; unread = unread }) now
+reads_one old r left b now written unread head kept part before text h false body same cleared few f is t said other line behind bytes = absurd (cc)
+reads_one old r left b now written unread head kept part before text h true body same cleared few f is t said other line behind bytes =
     let new : Reading = record { as4 = r.as4; number = r.number + 1; written = written; unread = unread } in
     let one : Record = record { head = head; body = part } in
     let says : said_of kept body ≡ said_in r.as4 (kind_in head) (subtype_in head) part = said ∙ said_again r.as4 (left_by r left) b head part h f in
@@ -137,7 +140,7 @@ reads_one old r left b now written unread head kept part before text h true body
       more = refl;
       few = omega (arith, few);
       goes_on = λ read earlier was. read_more r.as4 read earlier (head ++ part) text r.number r.written written one
-          (record { whole = record { head = f.twelve; body = t.1 ∙ f.size }; formed = λ e. formed kept body other (says ∙ e) }) few refl
+          (record { whole = record { head = f.twelve; body = t.1 ∙ f.size; bytes = (f.bytes, bytes) }; formed = λ e. formed kept body other (says ∙ e) }) few refl
           (line ∙ ((λ i. cleared i ++ text_of (lines_said r.as4 r.written (says i))))) (behind ∙ ap (λ s. after_all r.written (lines_said r.as4 r.written s)) says) was;
     } in
     subst (λ (o : Reading). ReadsOne o left text new now) (sym same) reads

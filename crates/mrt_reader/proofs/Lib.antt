@@ -4,3 +4,4 @@ pub mod FileLemmas
 pub mod AnswerLemmas
 pub mod OrderLemmas
 pub mod OneText
+pub mod OpeningLemmas

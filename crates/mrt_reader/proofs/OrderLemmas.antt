@@ -1,13 +1,13 @@
 -- The lines that records give stand where they may.
 use Rattle.std.proofs.Common.{◌≡◌, ℕ, ◌+◌, ◌-◌, ◌<◌, ◌≤◌, ◌^◌, Bool, true, false, cond, not, ◌&&◌, ◌||◌, eqb, ltb, leb, List, [], ◌∷◌, ◌++◌, length, drop, Option, Some, None, refl, sym, ap, ◌∙◌, subst, arith, length-append}
-use Rattle.std.specs.Prelude.{⊤, slice_index}
+use Rattle.std.specs.Prelude.{⊤}
 use Rattle.std.proofs.lemmas.Bool.{ltb-true, leb-true, eqb-false}
 use Rattle.std.proofs.lemmas.List.{get_or-set_same, get_or-drop, length-set}
 use Rattle.std.proofs.lemmas.List.Quantifiers.{position-Some}
 use Rattle.std.specs.List.{AllByRecursion}
 use Rattle.byteorder.specs.Numbers.{big_from-lt}
 use Rattle.bgp_attr.specs.Hosts.{is_host}
-use Rattle.mrt_reader.specs.Records.{Record, number_at, kind_in, subtype_in}
+use Rattle.mrt_reader.specs.Records.{Record, AreBytes, number_at, kind_in, subtype_in}
 use Rattle.mrt_reader.specs.Fields as told
 use Rattle.mrt_reader.specs.Fields.{Told, Said, said, said_in, said_of_ipv4, told_in, told_by_state, told_by_message, sides_in, are_speakers, width_of, start_of, interface_at, is_used, is_well_sized, state_subtype}
 use Rattle.mrt_reader.specs.Lines.{Line}
@@ -22,31 +22,31 @@ order_append as4 w (l ∷ xs) ys p q = (p.0, order_append as4 (after w l) xs ys 
 
 -- ---- what is told of a peer
 
--- a message has as many octets as one may
+-- a message has as many octets as one may, which are bytes
 abbrev pub IsTold : Told → Type 0
 IsTold told.Established = ⊤
 IsTold told.Ended = ⊤
-IsTold (told.Message octets) = (0 < length octets) × (length octets ≤ 4096)
+IsTold (told.Message octets) = (0 < length octets) × (length octets ≤ 4096) × AreBytes octets
 IsTold told.NoMessage = ⊤
 
 state_is_told : (b : Bool) → IsTold (cond b told.Established told.Ended)
 state_is_told true = tt
 state_is_told false = tt
 
-message_is_told : (octets : List ℕ) (a b : Bool) → leb 1 (length octets) ≡ a → leb (length octets) 4096 ≡ b → IsTold (cond (a && b) (told.Message octets) told.NoMessage)
-message_is_told octets true true some few = (omega (arith, leb-true _ _ some), leb-true _ _ few)
-message_is_told octets true false some few = tt
-message_is_told octets false b some few = tt
+message_is_told : (octets : List ℕ) → AreBytes octets → (a b : Bool) → leb 1 (length octets) ≡ a → leb (length octets) 4096 ≡ b → IsTold (cond (a && b) (told.Message octets) told.NoMessage)
+message_is_told octets bytes true true some few = (omega (arith, leb-true _ _ some), leb-true _ _ few, bytes)
+message_is_told octets bytes true false some few = tt
+message_is_told octets bytes false b some few = tt
 
-is_told : (as4 : Bool) (kind subtype : ℕ) (body : List ℕ) → IsTold (told_in as4 kind subtype body)
-is_told as4 kind subtype body = by_subtype (eqb subtype (state_subtype as4))
+bytes_behind : (n : ℕ) (octets : List ℕ) → AreBytes octets → AreBytes (drop n octets)
+bytes_behind n octets bytes = λ i. subst (λ (x : ℕ). x < 256) (sym (get_or-drop n octets i 0)) (bytes (n + i))
+
+is_told : (as4 : Bool) (kind subtype : ℕ) (body : List ℕ) → AreBytes body → IsTold (told_in as4 kind subtype body)
+is_told as4 kind subtype body bytes = by_subtype (eqb subtype (state_subtype as4))
   where
-    octets : List ℕ
-    octets = drop (interface_at as4 kind + 12) body
-
     by_subtype : (b : Bool) → IsTold (cond b (told_by_state (number_at 2 (interface_at as4 kind + 14) body)) (told_by_message (drop (interface_at as4 kind + 12) body)))
     by_subtype true = state_is_told (eqb (number_at 2 (interface_at as4 kind + 14) body) 6)
-    by_subtype false = message_is_told (drop (interface_at as4 kind + 12) body) _ _ refl refl
+    by_subtype false = message_is_told (drop (interface_at as4 kind + 12) body) (bytes_behind (interface_at as4 kind + 12) body bytes) _ _ refl refl
 
 begins : (as4 : Bool) (w : Written) (k : ℕ) → IsDeclared w k → (up more : Bool) → (peer_at w (k - 1)).up ≡ up → ltb (peer_at w (k - 1)).sessions 65535 ≡ more → AreInOrder as4 w (cond up [] (cond more (lines.Up k ∷ []) []))
 begins as4 w k d true more is few = tt
@@ -64,15 +64,15 @@ up_behind w k d = ap (λ p. p.up) (get_or-set_same w.peers (k - 1) (begun (peer_
 still_declared : (w : Written) (k : ℕ) → IsDeclared w k → IsDeclared (with_peer w k begun) k
 still_declared w k d = record { least = d.least; most = omega (arith, d.most, length-set w.peers (k - 1) (begun (peer_at w (k - 1)))) }
 
-passes : (as4 : Bool) (w : Written) (k : ℕ) (octets : List ℕ) → IsDeclared w k → 0 < length octets → length octets ≤ 4096 → (up more : Bool) → (peer_at w (k - 1)).up ≡ up → ltb (peer_at w (k - 1)).sessions 65535 ≡ more → AreInOrder as4 w (cond up [] (cond more (lines.Up k ∷ []) []) ++ cond (up || more) (lines.Bgp k octets ∷ []) [])
-passes as4 w k octets d some short true more is few = ((d, is, some, short), tt)
-passes as4 w k octets d some short false true is few = ((d, is, ltb-true _ _ few), ((still_declared w k d, up_behind w k d, some, short), tt))
-passes as4 w k octets d some short false false is few = tt
+passes : (as4 : Bool) (w : Written) (k : ℕ) (octets : List ℕ) → IsDeclared w k → 0 < length octets → length octets ≤ 4096 → AreBytes octets → (up more : Bool) → (peer_at w (k - 1)).up ≡ up → ltb (peer_at w (k - 1)).sessions 65535 ≡ more → AreInOrder as4 w (cond up [] (cond more (lines.Up k ∷ []) []) ++ cond (up || more) (lines.Bgp k octets ∷ []) [])
+passes as4 w k octets d some short bytes true more is few = ((d, is, some, short, bytes), tt)
+passes as4 w k octets d some short bytes false true is few = ((d, is, ltb-true _ _ few), ((still_declared w k d, up_behind w k d, some, short, bytes), tt))
+passes as4 w k octets d some short bytes false false is few = tt
 
 hears : (as4 : Bool) (w : Written) (k : ℕ) (t : Told) → IsDeclared w k → IsTold t → AreInOrder as4 w (hearing k (peer_at w (k - 1)) t)
 hears as4 w k told.Established d is = begins as4 w k d _ _ refl refl
 hears as4 w k told.Ended d is = ends as4 w k d _ refl
-hears as4 w k (told.Message octets) d is = passes as4 w k octets d is.0 is.1 _ _ refl refl
+hears as4 w k (told.Message octets) d is = passes as4 w k octets d is.0 is.1 is.2 _ _ refl refl
 hears as4 w k told.NoMessage d is = tt
 
 hears_at : (as4 : Bool) (w : Written) (i : ℕ) (t : Told) → i < length w.peers → IsTold t → AreInOrder as4 w (hearing (i + 1) (peer_at w i) t)
@@ -137,10 +137,10 @@ other_than_zero n e = by_test (eqb n 0) refl e
     by_test true is f = absurd (cc)
     by_test false is f = let other = eqb-false n 0 is in omega (arith, other)
 
-wide_number : (n i : ℕ) (octets : List ℕ) → ((k : ℕ) → slice_index octets k < 256) → number_at n i octets < 256 ^ n
-wide_number n i octets bytes = big_from-lt 0 n (drop i octets) (λ k. subst (λ (x : ℕ). x < 256) (sym (get_or-drop i octets k 0)) (bytes (i + k)))
+wide_number : (n i : ℕ) (octets : List ℕ) → AreBytes octets → number_at n i octets < 256 ^ n
+wide_number n i octets bytes = big_from-lt 0 n (drop i octets) (bytes_behind i octets bytes)
 
-as_speaker : (as4 : Bool) (i addr : ℕ) (octets : List ℕ) → ((k : ℕ) → slice_index octets k < 256) → not (eqb (number_at (width_of as4) i octets) 0) ≡ true → is_host addr ≡ true → IsSpeaker as4 (number_at (width_of as4) i octets) addr
+as_speaker : (as4 : Bool) (i addr : ℕ) (octets : List ℕ) → AreBytes octets → not (eqb (number_at (width_of as4) i octets) 0) ≡ true → is_host addr ≡ true → IsSpeaker as4 (number_at (width_of as4) i octets) addr
 as_speaker true i addr octets bytes some host = record {
   some = other_than_zero _ some;
   narrow = λ e. absurd (cc);
@@ -159,7 +159,7 @@ IsFit as4 told.Unused = ⊤
 IsFit as4 told.Malformed = ⊤
 IsFit as4 (told.Session s t) = IsSpeaker as4 s.peer_as s.peer × IsSpeaker as4 s.local_as s.local × IsTold t
 
-fit_session : (as4 : Bool) (kind subtype : ℕ) (body : List ℕ) → ((k : ℕ) → slice_index body k < 256) → (b : Bool) → are_speakers (sides_in as4 kind body) ≡ b → IsFit as4 (cond b (told.Session (sides_in as4 kind body) (told_in as4 kind subtype body)) told.Unused)
+fit_session : (as4 : Bool) (kind subtype : ℕ) (body : List ℕ) → AreBytes body → (b : Bool) → are_speakers (sides_in as4 kind body) ≡ b → IsFit as4 (cond b (told.Session (sides_in as4 kind body) (told_in as4 kind subtype body)) told.Unused)
 fit_session as4 kind subtype body bytes false e = tt
 fit_session as4 kind subtype body bytes true e =
     let s = sides_in as4 kind body in
@@ -171,19 +171,19 @@ fit_session as4 kind subtype body bytes true e =
     let local = both_right (not (eqb s.peer_as 0) && not (eqb s.local_as 0) && is_host s.peer) (is_host s.local) e in (
       as_speaker as4 (start_of kind) s.peer body bytes peer_as peer,
       as_speaker as4 (start_of kind + width_of as4) s.local body bytes local_as local,
-      is_told as4 kind subtype body,
+      is_told as4 kind subtype body bytes,
     )
 
 either : (as4 : Bool) (b : Bool) (x y : Said) → IsFit as4 x → IsFit as4 y → IsFit as4 (cond b x y)
 either as4 true x y p q = p
 either as4 false x y p q = q
 
-fit_ipv4 : (as4 : Bool) (kind subtype : ℕ) (body : List ℕ) → ((k : ℕ) → slice_index body k < 256) → IsFit as4 (said_of_ipv4 as4 kind subtype body)
+fit_ipv4 : (as4 : Bool) (kind subtype : ℕ) (body : List ℕ) → AreBytes body → IsFit as4 (said_of_ipv4 as4 kind subtype body)
 unfolding said_of_ipv4
 fit_ipv4 as4 kind subtype body bytes =
     either as4 (not (is_well_sized as4 kind subtype (length body))) told.Malformed _ tt (fit_session as4 kind subtype body bytes (are_speakers (sides_in as4 kind body)) refl)
 
-fit_body : (as4 : Bool) (kind subtype : ℕ) (body : List ℕ) → ((k : ℕ) → slice_index body k < 256) → IsFit as4 (said_in as4 kind subtype body)
+fit_body : (as4 : Bool) (kind subtype : ℕ) (body : List ℕ) → AreBytes body → IsFit as4 (said_in as4 kind subtype body)
 unfolding said_in
 fit_body as4 kind subtype body bytes =
     either as4 (not (is_used as4 kind subtype)) told.Unused _ tt
@@ -201,7 +201,7 @@ stays_begun w (lines.Down k) some e = some e
 stays_begun w (lines.Bgp k octets) some e = some e
 stays_begun w lines.Idle some e = some e
 
-all_stay_begun : (w : Written) (ls : List Line) → (w.local ≡ None → ⊥) → (after_all w ls).local ≡ None → ⊥
+pub all_stay_begun : (w : Written) (ls : List Line) → (w.local ≡ None → ⊥) → (after_all w ls).local ≡ None → ⊥
 all_stay_begun w [] some e = some e
 all_stay_begun w (l ∷ ls) some e = all_stay_begun (after w l) ls (stays_begun w l some) e
 
@@ -209,7 +209,7 @@ after_append : (w : Written) (xs ys : List Line) → after_all w (xs ++ ys) ≡ 
 after_append w [] ys = refl
 after_append w (x ∷ xs) ys = after_append (after w x) xs ys
 
-is_begun_behind : (as4 : Bool) (w : Written) (s : Sides) (t : Told) (local : Option ℕ) → w.local ≡ local → (after_all w (opened_lines (local_by s local) w s t (opening as4 s local))).local ≡ None → ⊥
+pub is_begun_behind : (as4 : Bool) (w : Written) (s : Sides) (t : Told) (local : Option ℕ) → w.local ≡ local → (after_all w (opened_lines (local_by s local) w s t (opening as4 s local))).local ≡ None → ⊥
 is_begun_behind as4 w s t (Some local) e none = all_stay_begun w (foreign_lines local w s t) (λ f. let same : Some local ≡ None = sym e ∙ f in cc) none
 is_begun_behind as4 w s t None e none =
     let w1 = after_all w (opening as4 s None) in

@@ -1,8 +1,9 @@
 -- Octets that are taken piece by piece.
-use Rattle.std.proofs.Common.{◌≡◌, ℕ, ◌+◌, ◌-◌, ◌<◌, ◌≤◌, Bool, true, false, List, [], ◌++◌, length, take, drop, min, Option, Some, None, Result, Ok, Err, refl, sym, ap, ◌∙◌, subst, arith, append_assoc, length-append, length-take}
+use Rattle.std.proofs.Common.{◌≡◌, ℕ, zero, suc, ◌+◌, ◌-◌, ◌<◌, ◌≤◌, Bool, true, false, List, [], ◌∷◌, ◌++◌, length, take, drop, min, Option, Some, None, Result, Ok, Err, refl, sym, ap, ◌∙◌, subst, arith, append_assoc, length-append, length-take}
 use Rattle.std.proofs.lemmas.List.{append-nil, take-append-drop}
 use Rattle.std.proofs.KnownBytes.{Consumes-trans, Consumes-nil}
 use Rattle.std.specs.Io.KnownBytes.{Consumes, Keeps, IsAtEnd, prepend_known}
+use Rattle.mrt_reader.specs.Records.{AreBytes}
 use Rattle.mrt_reader.specs.Sources.{AreTaken, IsReady}
 use Rattle.mrt_reader.specs.declared.answer.Stop.{Stop}
 use Rattle.mrt_reader.specs.declared.answer.Stop.TheVariants.{ReadFault, Memory}
@@ -67,3 +68,19 @@ takes_part a b c count missing part octets xs ys some is least rest t ready =
 -- and appended
 pub append_part : (new out first octets : List ℕ) (part : ℕ) (here xs : List ℕ) → new ≡ out ++ take part here → out ≡ first ++ octets → here ≡ xs → new ≡ first ++ (octets ++ take part xs)
 append_part new out first octets part here xs more was same = more ∙ ((λ i. was i ++ take part (same i)) ∙ append_assoc first octets (take part xs))
+
+-- ---- bytes
+
+pub bytes_append : (xs ys : List ℕ) → AreBytes xs → AreBytes ys → AreBytes (xs ++ ys)
+bytes_append [] ys p q i = q i
+bytes_append (x ∷ xs) ys p q zero = p 0
+bytes_append (x ∷ xs) ys p q (suc i) = bytes_append xs ys (λ j. p (suc j)) q i
+
+pub bytes_take : (n : ℕ) (xs : List ℕ) → AreBytes xs → AreBytes (take n xs)
+bytes_take zero xs p i = omega arith
+bytes_take (suc n) [] p i = omega arith
+bytes_take (suc n) (x ∷ xs) p zero = p 0
+bytes_take (suc n) (x ∷ xs) p (suc i) = bytes_take n xs (λ j. p (suc j)) i
+
+pub no_bytes : AreBytes []
+no_bytes i = omega arith

@@ -11,10 +11,14 @@ use Rattle.mrt_reader.specs.declared.sessions.PeerState.{PeerState}
 
 -- ---- what lines have said
 
+-- of a peer: its address, whether its last line of a session is `up`, and how many lines `up` it has
+abbrev pub WrittenPeer : Type 0
+WrittenPeer = PeerState
+
 -- the local address, and the peers by their numbers from 1
 pub record Written : Type 0 where
   pub local : Option ℕ
-  pub peers : List PeerState
+  pub peers : List WrittenPeer
 
 abbrev pub nothing_written : Written
 nothing_written = record { local = None; peers = [] }

@@ -1,7 +1,7 @@
 -- A file that comes from a source.
-use Rattle.std.specs.Prelude.{◌≡◌, ℕ, ◌+◌, ◌<◌, ◌≤◌, Bool, true, false, List, [], ◌++◌, length, Option, Some, None, Result, Ok, Err, ⊤}
+use Rattle.std.specs.Prelude.{◌≡◌, ℕ, ◌+◌, ◌-◌, ◌<◌, ◌≤◌, nat_lt, nat_le, Bool, true, false, if◌then◌else◌, List, [], ◌++◌, length, take, Option, Some, None, Result, Ok, Err, ⊤}
 use Rattle.std.specs.Io.KnownBytes.{Consumes, IsAtEnd, prepend_known}
-use Rattle.mrt_reader.specs.Records.{HoldNone}
+use Rattle.mrt_reader.specs.Records.{HoldNone, length_in}
 use Rattle.mrt_reader.specs.Lines.{text_of, refused_text}
 use Rattle.mrt_reader.specs.Sessions.{Written, closing}
 use Rattle.mrt_reader.specs.Files.{HasRead, IsRefusal}
@@ -22,6 +22,10 @@ pub record Reading : Type 0 where
 -- the octets that follow the records read, where the source tells its own
 abbrev pub left_by : Reading → Option (List ℕ) → Option (List ℕ)
 left_by r left = prepend_known r.unread left
+
+-- a whole record stands at the front of what was read beyond them, its header of 12 octets and so many more
+abbrev pub holds_record : List ℕ → Bool
+holds_record unread = if nat_lt (length unread) 12 then false else nat_le (length_in (take 12 unread)) (length unread - 12)
 
 -- Octets are there that may be taken, or the input is at its end; nothing is taken yet.
 abbrev pub IsReady : Option (List ℕ) → Option (List ℕ) → List ℕ → Result Bool Stop → Type 0
@@ -54,7 +58,8 @@ pub record ReadsOne (old : Reading) (left : Option (List ℕ)) (text : List ℕ)
 -- No record is left, and this is the text of the last line.
 pub record Ends (old : Reading) (left : Option (List ℕ)) (text : List ℕ) (new : Reading) (now : Option (List ℕ)) : Type 0 where
   pub consumed : Consumes (left_by old left) (left_by new now) []
-  pub over : IsAtEnd now
+  pub over : IsAtEnd (left_by new now)
+  pub read : IsAtEnd now
   pub closed : text ≡ text_of (closing old.written)
 
 -- The file is refused at the next record, and this is the line that says so.
@@ -71,8 +76,9 @@ Gives old left answers.Record text new now = ReadsOne old left text new now
 Gives old left answers.End text new now = Ends old left text new now
 Gives old left (answers.Refused number code) text new now = Refuses old left number code text
 
--- What was read beyond the records holds no whole one.
+-- What was read beyond the records, which is nothing more, holds no whole one.
 pub record ReadsNone (old : Reading) (left : Option (List ℕ)) (new : Reading) (now : Option (List ℕ)) : Type 0 where
   pub octets : List ℕ
   pub consumed : Consumes (left_by old left) (left_by new now) octets
+  pub drained : new.unread ≡ []
   pub none : HoldNone octets

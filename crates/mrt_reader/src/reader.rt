@@ -3,11 +3,12 @@
 ghost use Rattle.std.specs.Prelude.{◌≡◌, ◌≢◌, ◌++◌, ◌+◌, ◌≤◌, [], List, ℕ, true, IfOk, OnOk};
 ghost use Rattle.std.specs.Io.KnownBytes.{prepend_known};
 ghost use Rattle.edge_io.specs.Causes.{Rose};
+ghost use Rattle.mrt_reader.specs.Records.{AreBytes};
 ghost use Rattle.mrt_reader.specs.Lines.{refused_text};
 ghost use Rattle.mrt_reader.specs.Kept.{IsKeptOf};
 ghost use Rattle.mrt_reader.specs.Sessions.{nothing_written};
 ghost use Rattle.mrt_reader.specs.Files.{HasRead};
-ghost use Rattle.mrt_reader.specs.Sources.{AreTaken, Gives, ReadsNone};
+ghost use Rattle.mrt_reader.specs.Sources.{AreTaken, Gives, ReadsNone, holds_record};
 
 use crate::answer::{Code, Next, Stop};
 use crate::fields::{Body, HEADER, Header, read_body, read_header};
@@ -63,6 +64,13 @@ impl Reader {
         }
     }
 
+    /// Whether a whole record was read that wasn't given yet: then the next one is given without a read.
+    pub fn holds_record(&self) -> bool
+        ensures { result ≡ holds_record self.now.unread }
+    {
+        self.unread.holds_record()
+    }
+
     /// Reads the next record, and puts the text of its lines into `out`, in place of what is there; at the end the last line,
     /// and where the file is refused the line that says so. After a refusal or a [`Stop`] nothing more is to be asked.
     pub fn next<S: Source>(&mut self, source: &mut S, out: &mut Vec<u8>) -> Result<Next, Stop>
@@ -107,7 +115,8 @@ fn take_body<S: Source>(
     header: Header,
     body: &mut Vec<u8>,
 ) -> Result<bool, Stop>
-    ensures taken { (octets : List ℕ) × AreTaken (prepend_known unread.old (S.left source.old)) (prepend_known unread.new (S.left source.new)) header.length result octets × (result ≡ Ok true → IsKeptOf as4 header body.new.items octets) }
+    ensures taken { (octets : List ℕ) × AreTaken (prepend_known unread.old (S.left source.old)) (prepend_known unread.new (S.left source.new)) header.length result octets × AreBytes octets × (result ≡ Ok true → IsKeptOf as4 header body.new.items octets) }
+    ensures drained { result ≡ Err Stop.ReadFault → unread.new ≡ [] }
     ensures cause { result ≡ Err Stop.ReadFault → Rose (S.faults source.old) (S.faults source.new) }
     ensures later { S.faults source.old ≤ S.faults source.new }
 {

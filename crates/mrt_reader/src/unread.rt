@@ -1,11 +1,13 @@
 //! Octets that were read of a source and aren't taken yet.
 
-ghost use Rattle.std.specs.Prelude.{◌≡◌, ◌++◌, ◌≤◌, [], List, ℕ, length, drop};
+ghost use Rattle.std.specs.Prelude.{◌≡◌, ◌++◌, ◌<◌, ◌≤◌, [], List, ℕ, length, drop};
 ghost use Rattle.std.specs.Io.KnownBytes.{prepend_known};
 ghost use Rattle.edge_io.specs.Causes.{Rose};
-ghost use Rattle.mrt_reader.specs.Sources.{AreTaken, IsReady};
+ghost use Rattle.mrt_reader.specs.Records.{AreBytes};
+ghost use Rattle.mrt_reader.specs.Sources.{AreTaken, IsReady, holds_record};
 
 use crate::answer::Stop;
+use crate::fields::{HEADER, read_header};
 use edge_io::Source;
 use std::alloc::Global;
 use std::marker::Model;
@@ -30,6 +32,11 @@ impl Model for Unread {
     ghost invariant = { λ u. u.at ≤ length u.block.items };
 }
 
+/// Octets are bytes, as their type says.
+fn known_bytes(octets: &[u8])
+    ensures { AreBytes octets.now }
+{}
+
 impl Unread {
     /// Takes no memory.
     pub(crate) fn new(alloc: Global) -> Unread
@@ -42,9 +49,12 @@ impl Unread {
     }
 
     fn octets(&self) -> &[u8]
-        ensures { result.now ≡ self.now }
+        ensures value { result.now ≡ self.now }
+        ensures bytes { AreBytes result.now }
     {
-        &self.block[self.at..]
+        let octets = &self.block[self.at..];
+        known_bytes(octets);
+        octets
     }
 
     fn pass(&mut self, count: usize)
@@ -54,15 +64,27 @@ impl Unread {
         self.at += count;
     }
 
-    /// Reads the next block, where the last one was taken. Answers whether octets are there; there are none at the end.
-    fn ready<S: Source>(&mut self, source: &mut S) -> Result<bool, Stop>
+    /// Whether a whole record stands there.
+    pub(crate) fn holds_record(&self) -> bool
+        ensures { result ≡ holds_record self.now }
+    {
+        let octets = self.octets();
+        if octets.len() < HEADER {
+            return false;
+        }
+        let header = read_header(&octets[..HEADER]);
+        header.length as usize <= octets.len() - HEADER
+    }
+
+    /// Reads the next block. Answers whether it has octets; there are none at the end.
+    #[inline(never)]
+    fn refill<S: Source>(&mut self, source: &mut S) -> Result<bool, Stop>
+        requires { length self.old ≡ 0 }
         ensures ready { IsReady (prepend_known self.old (S.left source.old)) (prepend_known self.new (S.left source.new)) self.new result }
+        ensures drained { result ≡ Err Stop.ReadFault → self.new ≡ [] }
         ensures cause { result ≡ Err Stop.ReadFault → Rose (S.faults source.old) (S.faults source.new) }
         ensures later { S.faults source.old ≤ S.faults source.new }
     {
-        if self.at < self.block.len() {
-            return Ok(true);
-        }
         let mut buf = [0u8; READ_SIZE];
         self.block.clear();
         self.at = 0;
@@ -73,6 +95,19 @@ impl Unread {
         Ok(count > 0)
     }
 
+    /// Reads the next block, where the last one was taken. Answers whether octets are there; there are none at the end.
+    fn ready<S: Source>(&mut self, source: &mut S) -> Result<bool, Stop>
+        ensures ready { IsReady (prepend_known self.old (S.left source.old)) (prepend_known self.new (S.left source.new)) self.new result }
+        ensures drained { result ≡ Err Stop.ReadFault → self.new ≡ [] }
+        ensures cause { result ≡ Err Stop.ReadFault → Rose (S.faults source.old) (S.faults source.new) }
+        ensures later { S.faults source.old ≤ S.faults source.new }
+    {
+        if self.at < self.block.len() {
+            return Ok(true);
+        }
+        self.refill(source)
+    }
+
     /// Appends so many of the next octets, and answers whether there are so many. Else the input ends behind those that are
     /// appended.
     pub(crate) fn take<S: Source>(
@@ -81,7 +116,8 @@ impl Unread {
         count: usize,
         out: &mut Vec<u8>,
     ) -> Result<bool, Stop>
-        ensures taken { (octets : List ℕ) × (out.new.items ≡ out.old.items ++ octets) × AreTaken (prepend_known self.old (S.left source.old)) (prepend_known self.new (S.left source.new)) count result octets }
+        ensures taken { (octets : List ℕ) × (out.new.items ≡ out.old.items ++ octets) × AreTaken (prepend_known self.old (S.left source.old)) (prepend_known self.new (S.left source.new)) count result octets × AreBytes octets }
+        ensures drained { result ≡ Err Stop.ReadFault → self.new ≡ [] }
         ensures cause { result ≡ Err Stop.ReadFault → Rose (S.faults source.old) (S.faults source.new) }
         ensures later { S.faults source.old ≤ S.faults source.new }
     {
@@ -100,7 +136,8 @@ impl Unread {
 
     /// The same without keeping them.
     pub(crate) fn skip<S: Source>(&mut self, source: &mut S, count: usize) -> Result<bool, Stop>
-        ensures taken { (octets : List ℕ) × AreTaken (prepend_known self.old (S.left source.old)) (prepend_known self.new (S.left source.new)) count result octets }
+        ensures taken { (octets : List ℕ) × AreTaken (prepend_known self.old (S.left source.old)) (prepend_known self.new (S.left source.new)) count result octets × AreBytes octets }
+        ensures drained { result ≡ Err Stop.ReadFault → self.new ≡ [] }
         ensures cause { result ≡ Err Stop.ReadFault → Rose (S.faults source.old) (S.faults source.new) }
         ensures later { S.faults source.old ≤ S.faults source.new }
     {

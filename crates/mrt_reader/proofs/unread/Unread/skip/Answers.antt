@@ -1,5 +1,6 @@
-use Rattle.std.proofs.Common.{◌++◌, ◌∙◌, ap, take, length, min, arith}
-use Rattle.mrt_reader.proofs.TakenLemmas.{takes_part}
+use Rattle.std.proofs.Common.{◌++◌, ◌∙◌, ap, subst, take, length, min, arith}
+use Rattle.mrt_reader.specs.Records.{AreBytes}
+use Rattle.mrt_reader.proofs.TakenLemmas.{bytes_append, bytes_take, takes_part}
 use Rattle.mrt_reader.proofs.unread.Unread.skip.Goals as goal
 
 pub skipping-preserved : goal.skipping-preserved
@@ -9,6 +10,7 @@ skipping-preserved g c =
     let was = c.skipping.invariant in
     record {
       octets = was.octets ++ take part xs;
-      taking = takes_part _ _ (g.S.Source.left c.ready.new.source) c.args.count c.skipping.missing part was.octets xs c.pass.new.self c.in_ok-ready.field-0 c.if-not-branch.false (c.min-part.ensures ∙ ap (λ k. min (length k) c.skipping.missing) c.octets.ensures) c.pass.ensures was.taking c.in_ok-ready.ensures.ready;
+      bytes = bytes_append was.octets (take part xs) was.bytes (bytes_take part xs (subst AreBytes c.octets.ensures.value c.octets.ensures.bytes));
+      taking = takes_part _ _ (g.S.Source.left c.ready.new.source) c.args.count c.skipping.missing part was.octets xs c.pass.new.self c.in_ok-ready.field-0 c.if-not-branch.false (c.min-part.ensures ∙ ap (λ k. min (length k) c.skipping.missing) c.octets.ensures.value) c.pass.ensures was.taking c.in_ok-ready.ensures.ready;
       later = omega (arith, was.later, c.ready.ensures.later);
     }

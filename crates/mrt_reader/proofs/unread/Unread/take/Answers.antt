@@ -1,5 +1,6 @@
-use Rattle.std.proofs.Common.{◌++◌, ◌∙◌, ap, take, length, min, arith}
-use Rattle.mrt_reader.proofs.TakenLemmas.{takes_part, append_part}
+use Rattle.std.proofs.Common.{◌++◌, ◌∙◌, ap, subst, take, length, min, arith}
+use Rattle.mrt_reader.specs.Records.{AreBytes}
+use Rattle.mrt_reader.proofs.TakenLemmas.{bytes_append, bytes_take, takes_part, append_part}
 use Rattle.mrt_reader.proofs.unread.Unread.take.Goals as goal
 
 pub taking-preserved : goal.taking-preserved
@@ -9,7 +10,8 @@ taking-preserved g c =
     let was = c.taking.invariant in
     record {
       octets = was.octets ++ take part xs;
-      appended = append_part _ _ _ was.octets part _ xs c.in_ok-extend_from_slice.ensures.items was.appended c.octets-in-taking.ensures;
-      taking = takes_part _ _ (g.S.Source.left c.ready.new.source) c.args.count c.taking.missing part was.octets xs c.pass.new.self c.in_ok-ready.field-0 c.if-not-branch.false (c.min-part.ensures ∙ ap (λ k. min (length k) c.taking.missing) c.octets.ensures) c.pass.ensures was.taking c.in_ok-ready.ensures.ready;
+      bytes = bytes_append was.octets (take part xs) was.bytes (bytes_take part xs (subst AreBytes c.octets.ensures.value c.octets.ensures.bytes));
+      appended = append_part _ _ _ was.octets part _ xs c.in_ok-extend_from_slice.ensures.items was.appended c.octets-in-taking.ensures.value;
+      taking = takes_part _ _ (g.S.Source.left c.ready.new.source) c.args.count c.taking.missing part was.octets xs c.pass.new.self c.in_ok-ready.field-0 c.if-not-branch.false (c.min-part.ensures ∙ ap (λ k. min (length k) c.taking.missing) c.octets.ensures.value) c.pass.ensures was.taking c.in_ok-ready.ensures.ready;
       later = omega (arith, was.later, c.ready.ensures.later);
     }

@@ -1,0 +1,220 @@
+-- Each line is read as the event that it is.
+use Rattle.std.proofs.Common.{◌≡◌, ℕ, suc, ◌+◌, ◌/◌, ◌%◌, ◌^◌, ◌<◌, ◌≤◌, Bool, true, false, cond, not, ◌&&◌, ◌||◌, nat_le, nat_eq, List, [], ◌∷◌, length, Some, None, Ok, Err, refl, ap, ◌∙◌, arith, codes, length-append}
+use Rattle.std.proofs.lemmas.Bool.Decides.{nat_tests}
+use Rattle.std.proofs.lemmas.Fmt.{length-decimal-le, decimal_nonempty}
+use Rattle.std.specs.Fmt.{decimal}
+use Rattle.std.specs.Result.{result_ok}
+use Rattle.std.specs.List.{AllByRecursion, list_all, join_with_byte}
+use Rattle.hex.specs.Hex.{encode_lower, lower_digits}
+use Rattle.hex.proofs.HexLemmas.{decode_of-encode_lower, length-encode_with}
+use Rattle.addr4.specs.Texts.{addr_of, addr_text, dotted}
+use Rattle.bgp_attr.specs.Hosts.{is_host}
+use Rattle.bgp_attr.specs.Speakers.{asn_bound}
+use Rattle.policy_rules.specs.Words.{◌>>=◌, is_word, words_among, words}
+use Rattle.journal_text.specs.declared.line.Code.TheVariants.{E1}
+use Rattle.journal_check.proofs.InkLemmas.{AreInk, inky, both_true, ink_by, ink_decimal, ink_hex, words_parted, line_passes, printable}
+use Rattle.journal_check.proofs.PrefixBack.{number_back, addr_back, ink_addr}
+use Rattle.event_text.specs.declared.event.Event.TheVariants as events
+use Rattle.event_text.specs.Words.{is_clean, from_one, speaker_of, octets_of}
+use Rattle.event_text.specs.Events.{local_of, peer_of, one_number, bgp_of, profile_event, interior_event, plain_event, named_event, event_of, in_grammar, read_event}
+use Rattle.mrt_reader.specs.Records.{AreBytes}
+use Rattle.mrt_reader.specs.Lines.{Line, line_words}
+use Rattle.mrt_reader.specs.Lines as lines
+use Rattle.mrt_reader.specs.Sessions.{Written}
+use Rattle.mrt_reader.specs.Order.{IsSpeaker, Asks}
+use Rattle.capture_laws.specs.Readings.{line_bytes, event_of_line, speaker}
+
+-- ---- lines of printed words
+
+-- printed bytes, at least one
+record IsShown (word : List ℕ) : Type 0 where
+  ink : AreInk word
+  some : 0 < length word
+
+shown_by : (word : List ℕ) → list_all inky word ≡ true → 0 < length word → IsShown word
+shown_by word e some = record { ink = ink_by word e; some = some }
+
+inks : (ws : List (List ℕ)) → AllByRecursion IsShown ws → AllByRecursion AreInk ws
+inks [] h = tt
+inks (w ∷ ws) h = (h.0.ink, inks ws h.1)
+
+not_empty : (w : List ℕ) → 0 < length w → is_word w ≡ true
+not_empty w some = let other : nat_eq (length w) 0 ≡ false = grind (arith, nat_tests) in ap not other
+
+all_words : (ws : List (List ℕ)) → AllByRecursion IsShown ws → words_among ws ≡ ws
+all_words [] h = refl
+all_words (w ∷ ws) h = ap (λ b. cond b (w ∷ words_among ws) (words_among ws)) (not_empty w h.0.some) ∙ ap (λ rest. w ∷ rest) (all_words ws h.1)
+
+-- the length of further words, each with a space before it
+abbrev further : List (List ℕ) → ℕ
+further [] = 0
+further (w ∷ ws) = 1 + length w + further ws
+
+line_length : (w : List ℕ) (ws : List (List ℕ)) → length (join_with_byte 32 (w ∷ ws)) ≡ length w + further ws
+line_length w [] = omega arith
+line_length w (next ∷ ws) = omega (arith, line_length next ws, length-append w (32 ∷ join_with_byte 32 (next ∷ ws)))
+
+both_yes : (a b : Bool) → a ≡ true → b ≡ true → (a && b) ≡ true
+both_yes a b ha hb = cc
+
+clean : (w : List ℕ) (ws : List (List ℕ)) → AllByRecursion IsShown (w ∷ ws) → length w + further ws ≤ 16384 → is_clean (join_with_byte 32 (w ∷ ws)) ≡ true
+unfolding is_clean
+clean w ws h few =
+    let line = join_with_byte 32 (w ∷ ws) in
+    let long : length line ≡ length w + further ws = line_length w ws in
+    let short : nat_le (length line) 16384 ≡ true = grind (arith, nat_tests) in
+    both_yes (nat_le (length line) 16384) (list_all printable line) short (line_passes w ws (inks (w ∷ ws) h))
+
+-- a line is read as its words are
+line_read : (as4 : Bool) (w : List ℕ) (ws : List (List ℕ)) → AllByRecursion IsShown (w ∷ ws) → length w + further ws ≤ 16384 → read_event as4 (join_with_byte 32 (w ∷ ws)) ≡ in_grammar (event_of as4 (w ∷ ws))
+unfolding read_event words
+line_read as4 w ws h few =
+    let line = join_with_byte 32 (w ∷ ws) in
+    ap (λ b. cond b (in_grammar (event_of as4 (words line))) (Err E1)) (clean w ws h few)
+    ∙ ap (λ l. in_grammar (event_of as4 l)) (ap words_among (words_parted w ws (inks (w ∷ ws) h)) ∙ all_words (w ∷ ws) h)
+
+-- ---- numbers
+
+shown_number : (n : ℕ) → n < 2 ^ 32 → IsShown (decimal n)
+shown_number n small = record { ink = ink_decimal n (omega arith); some = decimal_nonempty n (omega arith) }
+
+number_short : (n : ℕ) → n < 2 ^ 32 → length (decimal n) ≤ 10
+number_short n small = length-decimal-le 10 n (omega arith) (omega arith) (omega arith)
+
+from_one_told : (k : ℕ) → 0 < k → k < 2 ^ 32 → from_one (decimal k) ≡ Some k
+unfolding from_one
+from_one_told k some small =
+    let other : nat_eq k 0 ≡ false = grind (arith, nat_tests) in
+    ap (λ o. o >>= λ n. cond (nat_eq n 0) None (Some n)) (number_back (2 ^ 32) k small (omega arith)) ∙ ap (λ b. cond b None (Some k)) other
+
+-- ---- addresses and speakers
+
+octet_short : (n : ℕ) → n < 256 → length (decimal n) ≤ 3
+octet_short n small = length-decimal-le 3 n (omega arith) (omega arith) (omega arith)
+
+dotted_short : (a b c d : ℕ) → a < 256 → b < 256 → c < 256 → d < 256 → length (dotted (a ∷ b ∷ c ∷ d ∷ [])) ≤ 15
+dotted_short a b c d ha hb hc hd =
+    omega (
+      arith,
+      octet_short a ha,
+      octet_short b hb,
+      octet_short c hc,
+      octet_short d hd,
+      length-append (decimal a) (46 ∷ dotted (b ∷ c ∷ d ∷ [])),
+      length-append (decimal b) (46 ∷ dotted (c ∷ d ∷ [])),
+      length-append (decimal c) (46 ∷ dotted (d ∷ [])),
+    )
+
+addr_short : (a : ℕ) → length (addr_text a) ≤ 15
+unfolding addr_text
+addr_short a = dotted_short (a / 16777216 % 256) (a / 65536 % 256) (a / 256 % 256) (a % 256) (omega arith) (omega arith) (omega arith) (omega arith)
+
+addr_some : (a : ℕ) → 0 < length (addr_text a)
+unfolding addr_text
+addr_some a = omega (arith, length-append (decimal (a / 16777216 % 256)) (46 ∷ dotted (a / 65536 % 256 ∷ a / 256 % 256 ∷ a % 256 ∷ [])))
+
+shown_addr : (a : ℕ) → IsShown (addr_text a)
+shown_addr a = record { ink = ink_addr a; some = addr_some a }
+
+-- a host's first octet is from 1 to 223
+host_range : (addr : ℕ) → is_host addr ≡ true → (1 ≤ addr / 16777216) × (addr / 16777216 ≤ 223)
+host_range addr e =
+    let both = both_true (nat_le 1 (addr / 16777216) && nat_le (addr / 16777216) 223) (not (nat_eq (addr / 16777216) 127)) e in
+    let t = both_true (nat_le 1 (addr / 16777216)) (nat_le (addr / 16777216) 223) both.0 in
+    let low = t.0 in
+    let high = t.1 in
+    (grind (arith, nat_tests), grind (arith, nat_tests))
+
+host_fits : (addr : ℕ) → is_host addr ≡ true → (0 < addr) × (addr < 2 ^ 32)
+host_fits addr e = let range = host_range addr e in let low = range.0 in let high = range.1 in (omega arith, omega arith)
+
+asn_fits : (as4 : Bool) (asn addr : ℕ) → IsSpeaker as4 asn addr → asn < asn_bound as4
+asn_fits true asn addr s = s.wide
+asn_fits false asn addr s = s.narrow refl
+
+speaks : (a i h : Bool) → a ≡ false → i ≡ false → h ≡ true → (a || i || not h) ≡ false
+speaks a i h ha hi hh = cc
+
+speaker_told : (as4 : Bool) (asn addr : ℕ) → IsSpeaker as4 asn addr → speaker_of as4 (decimal asn ∷ addr_text addr ∷ addr_text addr ∷ []) ≡ Some (speaker asn addr)
+unfolding speaker_of
+speaker_told as4 asn addr s =
+    let fits = host_fits addr s.host in
+    let some = s.some in
+    let least = fits.0 in
+    let asn_some : nat_eq asn 0 ≡ false = grind (arith, nat_tests) in
+    let addr_some : nat_eq addr 0 ≡ false = grind (arith, nat_tests) in
+    ap (λ o. o >>= λ a. addr_of (addr_text addr) >>= λ i. addr_of (addr_text addr) >>= λ h. cond (nat_eq a 0 || nat_eq i 0 || not (is_host h)) None (Some (record { asn = a; id = i; addr = h }))) (number_back (asn_bound as4) asn (asn_fits as4 asn addr s) (omega (arith, s.wide)))
+    ∙ (ap (λ o. o >>= λ i. o >>= λ h. cond (nat_eq asn 0 || nat_eq i 0 || not (is_host h)) None (Some (record { asn = asn; id = i; addr = h }))) (addr_back addr fits.1)
+    ∙ ap (λ b. cond b None (Some (speaker asn addr))) (speaks (nat_eq asn 0) (nat_eq addr 0) (is_host addr) asn_some addr_some s.host))
+
+-- ---- octets
+
+octets_are : (octets : List ℕ) → AreBytes octets → AllByRecursion (λ b. b < 2 ^ 8) octets
+octets_are [] bytes = tt
+octets_are (b ∷ octets) bytes = (bytes 0, octets_are octets (λ i. bytes (suc i)))
+
+octets_told : (octets : List ℕ) → AreBytes octets → 0 < length octets → octets_of (encode_lower octets) ≡ Some octets
+unfolding octets_of
+octets_told octets bytes some =
+    let other : nat_eq (length octets) 0 ≡ false = grind (arith, nat_tests) in
+    ap (λ r. result_ok r >>= λ os. cond (nat_eq (length os) 0) None (Some os)) (decode_of-encode_lower octets bytes) ∙ ap (λ b. cond b None (Some octets)) other
+
+shown_octets : (octets : List ℕ) → AreBytes octets → 0 < length octets → IsShown (encode_lower octets)
+shown_octets octets bytes some =
+    let long = length-encode_with lower_digits octets in
+    record { ink = ink_hex octets (octets_are octets bytes); some = omega arith }
+
+-- ---- lines
+
+pub as4_read : (as4 : Bool) → read_event as4 (line_bytes lines.As4) ≡ Ok events.As4
+unfolding line_words event_of named_event plain_event interior_event profile_event
+as4_read as4 = line_read as4 (codes "as4") [] (shown_by (codes "as4") refl (omega arith), tt) (omega arith) ∙ refl
+
+idle_read : (as4 : Bool) → read_event as4 (line_bytes lines.Idle) ≡ Ok events.Idle
+unfolding line_words event_of named_event plain_event
+idle_read as4 = line_read as4 (codes "idle") [] (shown_by (codes "idle") refl (omega arith), tt) (omega arith) ∙ refl
+
+pub local_read : (as4 : Bool) (asn addr : ℕ) → IsSpeaker as4 asn addr → read_event as4 (line_bytes (lines.Local asn addr)) ≡ Ok (events.Local (speaker asn addr))
+unfolding line_words event_of named_event local_of
+local_read as4 asn addr s =
+    line_read as4 (codes "local") (decimal asn ∷ addr_text addr ∷ addr_text addr ∷ [])
+    (shown_by (codes "local") refl (omega arith), (shown_number asn s.wide, (shown_addr addr, (shown_addr addr, tt)))) (omega (arith, number_short asn s.wide, addr_short addr))
+    ∙ ap in_grammar (ap (λ o. o >>= λ x. Some (events.Local x)) (speaker_told as4 asn addr s))
+
+peer_read : (as4 : Bool) (k asn addr : ℕ) → 0 < k → k < 2 ^ 32 → IsSpeaker as4 asn addr → read_event as4 (line_bytes (lines.Peer k asn addr)) ≡ Ok (events.Peer k (speaker asn addr))
+unfolding line_words event_of named_event peer_of
+peer_read as4 k asn addr some small s =
+    line_read as4 (codes "peer") (decimal k ∷ decimal asn ∷ addr_text addr ∷ addr_text addr ∷ [])
+    (shown_by (codes "peer") refl (omega arith), (shown_number k small, (shown_number asn s.wide, (shown_addr addr, (shown_addr addr, tt))))) (omega (arith, number_short k small, number_short asn s.wide, addr_short addr))
+    ∙ ap in_grammar (ap (λ o. o >>= λ n. speaker_of as4 (decimal asn ∷ addr_text addr ∷ addr_text addr ∷ []) >>= λ x. Some (events.Peer n x)) (from_one_told k some small)
+    ∙ ap (λ o. o >>= λ x. Some (events.Peer k x)) (speaker_told as4 asn addr s))
+
+up_read : (as4 : Bool) (k : ℕ) → 0 < k → k < 2 ^ 32 → read_event as4 (line_bytes (lines.Up k)) ≡ Ok (events.Up k)
+unfolding line_words event_of named_event plain_event one_number
+up_read as4 k some small =
+    line_read as4 (codes "up") (decimal k ∷ []) (shown_by (codes "up") refl (omega arith), (shown_number k small, tt)) (omega (arith, number_short k small))
+    ∙ ap in_grammar (ap (λ o. o >>= λ n. Some (events.Up n)) (from_one_told k some small))
+
+down_read : (as4 : Bool) (k : ℕ) → 0 < k → k < 2 ^ 32 → read_event as4 (line_bytes (lines.Down k)) ≡ Ok (events.Down k)
+unfolding line_words event_of named_event plain_event one_number
+down_read as4 k some small =
+    line_read as4 (codes "down") (decimal k ∷ []) (shown_by (codes "down") refl (omega arith), (shown_number k small, tt)) (omega (arith, number_short k small))
+    ∙ ap in_grammar (ap (λ o. o >>= λ n. Some (events.Down n)) (from_one_told k some small))
+
+bgp_read : (as4 : Bool) (k : ℕ) (octets : List ℕ) → 0 < k → k < 2 ^ 32 → 0 < length octets → length octets ≤ 4096 → AreBytes octets → read_event as4 (line_bytes (lines.Bgp k octets)) ≡ Ok (events.Bgp k octets)
+unfolding line_words event_of named_event bgp_of
+bgp_read as4 k octets some small present short bytes =
+    line_read as4 (codes "bgp") (decimal k ∷ encode_lower octets ∷ [])
+    (shown_by (codes "bgp") refl (omega arith), (shown_number k small, (shown_octets octets bytes present, tt))) (omega (arith, number_short k small, length-encode_with lower_digits octets, short))
+    ∙ ap in_grammar (ap (λ o. o >>= λ n. octets_of (encode_lower octets) >>= λ os. Some (events.Bgp n os)) (from_one_told k some small)
+    ∙ ap (λ o. o >>= λ os. Some (events.Bgp k os)) (octets_told octets bytes present))
+
+-- each line that may stand there
+pub reads : (as4 : Bool) (w : Written) (l : Line) → length w.peers ≤ 64 → Asks as4 w l → read_event as4 (line_bytes l) ≡ Ok (event_of_line l)
+reads as4 w lines.As4 few asks = as4_read as4
+reads as4 w (lines.Local asn addr) few asks = local_read as4 asn addr asks.1
+reads as4 w (lines.Peer k asn addr) few asks = peer_read as4 k asn addr (omega (arith, asks.0)) (omega (arith, asks.1)) asks.4
+reads as4 w (lines.Up k) few asks = up_read as4 k asks.0.least (omega (arith, asks.0.most, few))
+reads as4 w (lines.Down k) few asks = down_read as4 k asks.0.least (omega (arith, asks.0.most, few))
+reads as4 w (lines.Bgp k octets) few asks = bgp_read as4 k octets asks.0.least (omega (arith, asks.0.most, few)) asks.2 asks.3 asks.4
+reads as4 w lines.Idle few asks = idle_read as4
