@@ -49,7 +49,11 @@ module _ (before now : Declaration) (keeps : KeepsPeers before now) where
   lines_kept (line ∷ said) printed = (record { short = printed.0.short; told = all_told (values_in line) printed.0.told }, lines_kept said printed.1)
 
 keeps_then : (a b c : Declaration) → KeepsPeers a b → KeepsPeers b c → KeepsPeers a c
-keeps_then a b c p q = record { words = λ k w there. q.words k w (p.words k w there); nobody = q.nobody }
+keeps_then a b c p q = record {
+  words = λ k w there. q.words k w (p.words k w there);
+  profile = λ k w there. q.profile k w (p.words k w there) ∙ p.profile k w there;
+  nobody = q.nobody;
+}
 
 -- ---- all lines of a run
 run_keeps : (first : Declaration) (n : ℕ) (m end : Moment) (lines : List (List ℕ)) (out : List Line) → KeepsPeers first m.declared → Run n m lines out end → KeepsPeers first end.declared
@@ -122,10 +126,12 @@ pub done_lawful : (command : Option Command) (left0 taken0 taken : Option (List 
 done_lawful (Some (commands.Run quiet)) left0 taken0 taken h = took_so left0 taken0 taken _ _ (λ text bytes is. (inl is, output_lawful quiet (lines_of text) bytes is)) h
 done_lawful (Some (commands.Gen seed count quiet)) left0 taken0 taken h = (h.0, h.1, (inl h.2, totalled_lawful quiet (text seed count) h.0 h.2))
 done_lawful (Some commands.Check) left0 taken0 taken h = tt
+done_lawful (Some (commands.Mrt as4)) left0 taken0 taken h = tt
 done_lawful None left0 taken0 taken h = tt
 
 pub refusal_lawful : (command : Option Command) (left0 taken0 taken : Option (List ℕ)) → HasRefused command left0 taken0 taken → HasLawful command left0 taken0 taken
 refusal_lawful (Some (commands.Run quiet)) left0 taken0 taken h = took_so left0 taken0 taken _ _ (λ text bytes is. (inr is, refused_lawful quiet text bytes is)) h
 refusal_lawful (Some (commands.Gen seed count quiet)) left0 taken0 taken h = (h.0, h.1, (inr h.2, refused_lawful quiet (text seed count) h.0 h.2))
 refusal_lawful (Some commands.Check) left0 taken0 taken h = tt
+refusal_lawful (Some (commands.Mrt as4)) left0 taken0 taken h = tt
 refusal_lawful None left0 taken0 taken h = tt

@@ -5,8 +5,11 @@ use Rattle.std.proofs.Math.Seq.{take-append_seam, take-length}
 use Rattle.std.specs.Io.KnownBytes.{Appends, Consumes, IsAtEnd, Keeps}
 use Rattle.replay.proofs.FirstLinks.{none_at_first}
 use Rattle.replay.proofs.HeardLemmas.{nobody_hears, nothing_sent}
+use Rattle.mrt_reader.specs.Sessions.{nothing_written}
+use Rattle.mrt_reader.proofs.FileLemmas.{nothing_read}
+use Rattle.capture_run.specs.Answers.{IsTextOfFirst}
 use Rattle.command_line.specs.declared.words.Command.{Command}
-use Rattle.command_line.specs.declared.words.Command.TheVariants.{Run, Gen, Check}
+use Rattle.command_line.specs.declared.words.Command.TheVariants.{Run, Gen, Check, Mrt}
 use Rattle.event_gen.specs.Lines.{text}
 use Rattle.replay.specs.Answers.{HasFirst}
 use Rattle.replay.specs.declared.status.Status.{Status}
@@ -169,9 +172,17 @@ took_first : Stands first_moment → (quiet : Bool) (left taken : Option (List �
 took_first stands quiet None taken = ([], [], tt, appends_nothing taken, first_output stands quiet [])
 took_first stands quiet (Some text) taken = (text, [], refl, appends_nothing taken, first_output stands quiet text)
 
+no_records : (as4 : Bool) (file : List ℕ) → IsTextOfFirst as4 file []
+no_records as4 file = record { number = 0; written = nothing_written; front = []; rest = file; split = refl; read = nothing_read as4 }
+
+took_none : (as4 : Bool) (left taken : Option (List ℕ)) → Took left taken taken (IsTextOfFirst as4)
+took_none as4 None taken = ([], [], tt, appends_nothing taken, no_records as4 [])
+took_none as4 (Some file) taken = (file, [], refl, appends_nothing taken, no_records as4 file)
+
 -- there was no memory for the words
 pub no_words : Stands first_moment → (command : Option Command) (left taken : Option (List ℕ)) → HasFirst command left taken taken
 no_words stands (Some (Run quiet)) left taken = took_first stands quiet left taken
 no_words stands (Some (Gen seed count quiet)) left taken = ([], appends_nothing taken, first_output stands quiet (text seed count))
 no_words stands (Some Check) left taken = refl
+no_words stands (Some (Mrt as4)) left taken = took_none as4 left taken
 no_words stands None left taken = refl

@@ -92,9 +92,9 @@ same_rows a b e = same_function _ _ (λ p. same_attrs (a p) (b p) (let rows : at
 
 -- what is decided from scratch, where the session is up
 from_there : (m : Moment) (me : Speaker) (j : ℕ) (p : DeclaredPeer) → m.declared.speaker ≡ Some me → peer_at j m.declared.peers ≡ Some p → p.up ≡ true
-    → from_scratch (live_state m) (Adv j p.session) ≡ Some (attrs_rows (sent_rows me p.words (rules_to j m.outgoing) (best_of (live_state m))))
+    → from_scratch (live_state m) (Adv j p.session) ≡ Some (attrs_rows (sent_rows m.declared.profile me p.words (rules_to j m.outgoing) (best_of (live_state m))))
 from_there m me j p local there up =
-    let make = λ (s : Speaker) (w : Neighbour). sent_rows s w (rules_to j m.outgoing) (best_of (live_state m)) in
+    let make = λ (s : Speaker) (w : Neighbour). sent_rows m.declared.profile s w (rules_to j m.outgoing) (best_of (live_state m)) in
     let rows = make me p.words in
     let tests : (p.up && nat_eq p.session p.session) ≡ true = (let same : nat_eq p.session p.session ≡ true = grind (arith, nat_tests) in ap (λ (b : Bool). b && nat_eq p.session p.session) up ∙ same) in
     ap (λ (s : Option Speaker). option_map attrs_rows (in_session s (peer_at j m.declared.peers) p.session make)) local
@@ -103,14 +103,14 @@ from_there m me j p local there up =
 
 pub are_best : (m : Moment) → AreSent m (views_of m.exits) → IsExact m → AreBest (live_state m) (views_of m.exits)
 are_best m sent exact me j p local there up =
-    let rows = sent_rows me p.words (rules_to j m.outgoing) (best_of (live_state m)) in
+    let rows = sent_rows m.declared.profile me p.words (rules_to j m.outgoing) (best_of (live_state m)) in
     let scratch : from_scratch (live_state m) (Adv j p.session) ≡ Some (attrs_rows rows) = from_there m me j p local there up in
     same_rows (tables.get (views_of m.exits j)) rows (sym (sent.up j p there up) ∙ exact (Adv j p.session) ∙ scratch)
 
 -- ---- one line after the other
 pub hears_on : HearingJoins → HearingStays → (old new : Moment) (earlier said : List Line) → KeepsPeers old.declared new.declared
-    → Hears (neighbours old.declared) (views_of old.exits) said (views_of new.exits) → AreHeard earlier old → AreHeard (earlier ++ said) new
+    → Hears old.declared.profile (neighbours old.declared) (views_of old.exits) said (views_of new.exits) → AreHeard earlier old → AreHeard (earlier ++ said) new
 hears_on joins stays old new earlier said keeps heard before =
-    joins (neighbours new.declared) no_views (views_of old.exits) (views_of new.exits) earlier said
+    joins new.declared.profile (neighbours new.declared) no_views (views_of old.exits) (views_of new.exits) earlier said
     (stays old.declared new.declared no_views (views_of old.exits) earlier keeps before)
     (stays old.declared new.declared (views_of old.exits) (views_of new.exits) said keeps heard)

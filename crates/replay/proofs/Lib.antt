@@ -11,6 +11,8 @@ pub mod Counted
 pub mod SkippedTexts
 pub mod Totalled
 pub mod Checked
+pub mod Accepted
 pub mod Seeds
+pub mod Captures
 pub mod TotalLemmas
 pub mod GeneratedLemmas

@@ -1,19 +1,16 @@
 -- No line of a seed is refused.
-use Rattle.std.proofs.Common.{◌≡◌, ℕ, zero, suc, ◌+◌, ◌%◌, ◌<◌, ◌≤◌, ◌&&◌, Bool, true, false, not, cond, nat_eq, List, [], ◌∷◌, ◌++◌, map, length, Option, Some, None, is_some, Result, Ok, Err, refl, sym, ap, subst, ◌∙◌, arith, length-append}
-use Rattle.std.specs.Prelude.{◌/◌, nat_le, nat_lt}
-use Rattle.std.specs.List.{AllByRecursion, flat_map, list_all}
-use Rattle.std.proofs.lemmas.List.{append-nil, length-map}
+use Rattle.std.proofs.Common.{◌≡◌, ℕ, zero, suc, ◌+◌, ◌%◌, ◌<◌, ◌≤◌, ◌&&◌, Bool, true, false, not, cond, nat_eq, List, [], ◌∷◌, ◌++◌, map, length, Option, Some, None, is_some, Result, Ok, refl, sym, ap, subst, ◌∙◌, arith, length-append}
+use Rattle.std.specs.Prelude.{◌/◌, nat_lt}
+use Rattle.std.specs.List.{AllByRecursion, flat_map}
+use Rattle.std.proofs.lemmas.List.{length-map}
 use Rattle.std.proofs.lemmas.Bool.Decides.{nat_tests}
 use Rattle.bgp_attr.specs.declared.speaker.Speaker.{Speaker}
 use Rattle.bgp_attr.specs.declared.speaker.Neighbour.{Neighbour}
-use Rattle.journal_check.proofs.InkLemmas.{both_true, printable}
 use Rattle.journal_text.specs.declared.line.Code.{Code}
-use Rattle.journal_text.specs.declared.line.Code.TheVariants.{E1, E6}
+use Rattle.journal_text.specs.declared.line.Code.TheVariants.{E6}
 use Rattle.event_text.specs.declared.event.Event.{Event}
 use Rattle.event_text.specs.declared.declared.DeclaredPeer.{DeclaredPeer}
-use Rattle.event_text.specs.Words.{is_clean}
-use Rattle.policy_rules.specs.Words.{words}
-use Rattle.event_text.specs.Events.{read_event, in_grammar, event_of}
+use Rattle.event_text.specs.Events.{read_event}
 use Rattle.event_text.specs.Declarations.{Declaration, no_declaration, refusal, refusal_at, refusal_by, session_refusal, undeclared, rules_refusal, peer_at, begun_at, ended_at, with_session, without_session}
 use Rattle.live_state.specs.Declared.{declared_after, declared_up, declared_down, declared_heard}
 use Rattle.live_state.specs.Messages.{ends_session}
@@ -25,67 +22,43 @@ use Rattle.event_gen.specs.declared.drawn.Work.{Work}
 use Rattle.event_gen.specs.declared.drawn.Work.TheVariants as works
 use Rattle.event_gen.specs.declared.drawn.Drawn.{Drawn}
 use Rattle.event_gen.specs.declared.drawn.Drawn.TheVariants as drawn
-use Rattle.check_run.specs.Lines.{IsPart, lines_of, lines_in, ended}
-use Rattle.check_run.proofs.Cuts.{lines_done}
-use Rattle.journal_laws.proofs.LawfulTexts.{part_of, no_return}
-use Rattle.replay.specs.Judging.{judge, judged, placed, verdict_from, refused_or}
+use Rattle.check_run.specs.Lines.{lines_of, ended}
+use Rattle.replay.specs.Judging.{verdict_from, refused_or}
 use Rattle.replay.specs.Answers.{SeedsAreAccepted}
+use Rattle.replay.proofs.Accepted.{AreClean, clean_line, clean_lines, accepts_line}
 use Rattle.command_line.specs.Commands.{most_events}
 
 -- ---- the lines of a text whose lines are read
 
-clean_line : (line : List ℕ) (event : Event) → read_event line ≡ Ok event → is_clean line ≡ true
-unfolding read_event
-clean_line line event h = by (is_clean line) h
-  where
-    by : (b : Bool) → cond b (in_grammar (event_of (words line))) (Err E1) ≡ Ok event → b ≡ true
-    by true e = refl
-    by false e = absurd (cc)
-
-bytes_of : (line : List ℕ) → is_clean line ≡ true → list_all printable line ≡ true
-unfolding is_clean
-bytes_of line e = (both_true (nat_le (length line) 16384) (list_all printable line) e).1
-
-parts_read : (ls : List (List ℕ)) (es : List Event) → AreReadAs ls es → AllByRecursion IsPart ls
-parts_read [] [] h = tt
-parts_read [] (e ∷ es) h = absurd h
-parts_read (l ∷ ls) [] h = absurd h
-parts_read (l ∷ ls) (e ∷ es) h = (part_of l (bytes_of l (clean_line l e h.0)), parts_read ls es h.1)
-
-stripped : (ls : List (List ℕ)) (es : List Event) → AreReadAs ls es → lines_in ls ≡ ls
-stripped [] [] h = refl
-stripped [] (e ∷ es) h = absurd h
-stripped (l ∷ ls) [] h = absurd h
-stripped (l ∷ ls) (e ∷ es) h = (λ i. no_return l (bytes_of l (clean_line l e h.0)) i ∷ stripped ls es h.1 i)
+all_clean : (ls : List (List ℕ)) (es : List Event) → AreReadAs ls es → AreClean ls
+all_clean [] [] h = tt
+all_clean [] (e ∷ es) h = absurd h
+all_clean (l ∷ ls) [] h = absurd h
+all_clean (l ∷ ls) (e ∷ es) h = (clean_line false l e h.0, all_clean ls es h.1)
 
 lines_read : (ls : List (List ℕ)) (es : List Event) → AreReadAs ls es → lines_of (flat_map ended ls) ≡ ls
-lines_read ls es h = ap lines_of (sym (append-nil (flat_map ended ls))) ∙ (lines_done ls [] (parts_read ls es h) ∙ (append-nil (lines_in ls) ∙ stripped ls es h))
+lines_read ls es h = clean_lines ls (all_clean ls es h)
 
 -- ---- lines whose events may stand there
 
--- each event may stand behind those before it
+-- each event may stand behind those before it, and AS numbers have two octets
 abbrev AreAdmitted : Declaration → List Event → Type 0
 AreAdmitted d [] = Unit {0}
-AreAdmitted d (e ∷ es) = (refusal d e ≡ None) × AreAdmitted (declared_after d e) es
-
-accepts_line : (n : ℕ) (d : Declaration) (line : List ℕ) (e : Event) → n < 4294967296 → read_event line ≡ Ok e → refusal d e ≡ None → judge n d line ≡ Ok e
-unfolding judge
-accepts_line n d line e few read free =
-    let early : nat_eq n 4294967296 ≡ false = grind (arith, nat_tests) in
-    ap (judged n d) read ∙ (ap (λ (why : Option Code). placed n why e) free ∙ ap (λ b. cond b (Err E6) (Ok e)) early)
+AreAdmitted d (e ∷ es) = (d.profile.as4 ≡ false) × (refusal d e ≡ None) × AreAdmitted (declared_after d e) es
 
 accepts_lines : (n : ℕ) (d : Declaration) (ls : List (List ℕ)) (es : List Event) → n + length ls ≤ 4294967296 → AreReadAs ls es → AreAdmitted d es → verdict_from n d ls ≡ None
 accepts_lines n d [] es few h free = refl
 accepts_lines n d (l ∷ ls) [] few h free = absurd h
 accepts_lines n d (l ∷ ls) (e ∷ es) few h free =
-    ap (λ (r : Result Event Code). refused_or n r (λ f. verdict_from (n + 1) (declared_after d f) ls)) (accepts_line n d l e (omega (arith, few)) h.0 free.0)
-    ∙ accepts_lines (n + 1) (declared_after d e) ls es (omega (arith, few)) h.1 free.1
+    ap (λ (r : Result Event Code). refused_or n r (λ f. verdict_from (n + 1) (declared_after d f) ls)) (accepts_line n d l e (omega (arith, few)) (subst (λ (as4 : Bool). read_event as4 l ≡ Ok e) (sym free.0) h.0) free.1)
+    ∙ accepts_lines (n + 1) (declared_after d e) ls es (omega (arith, few)) h.1 free.2
 
 -- ---- the events of a seed may
 
 -- four peers are declared, and no session is beyond so many
 record Ready (c : ℕ) (d : Declaration) : Type 0 where
   me : Speaker
+  profile : d.profile.as4 ≡ false
   speaker : d.speaker ≡ Some me
   known : (k : ℕ) → 1 ≤ k → k ≤ 4 → is_some (peer_at k d.peers) ≡ true
   few : AllByRecursion (λ (p : DeclaredPeer). p.session ≤ c) d.peers
@@ -160,11 +133,12 @@ IsOfFour drawn.Idle = Unit {0}
 
 module _ (c : ℕ) (d : Declaration) (r : Ready c d) where
   stays : Ready (suc c) d
-  stays = record { me = r.me; speaker = r.speaker; known = r.known; few = few_more c d.peers r.few }
+  stays = record { me = r.me; profile = r.profile; speaker = r.speaker; known = r.known; few = few_more c d.peers r.few }
 
   begins : (k : ℕ) → Ready (suc c) (with_session d k)
   begins k = record {
     me = r.me;
+    profile = r.profile;
     speaker = r.speaker;
     known = λ j low high. known_map (begun_at k) (begun_words k) j d.peers ∙ r.known j low high;
     few = few_map (begun_at k) c (begun_few k c) d.peers r.few;
@@ -173,6 +147,7 @@ module _ (c : ℕ) (d : Declaration) (r : Ready c d) where
   ends : (k : ℕ) → Ready (suc c) (without_session d k)
   ends k = record {
     me = r.me;
+    profile = r.profile;
     speaker = r.speaker;
     known = λ j low high. known_map (ended_at k) (ended_words k) j d.peers ∙ r.known j low high;
     few = few_map (ended_at k) c (ended_few k c) d.peers r.few;
@@ -192,7 +167,7 @@ module _ (c : ℕ) (d : Declaration) (r : Ready c d) where
 
   after_octets : (k : ℕ) (octets : List ℕ) (o : Option DeclaredPeer) → Ready (suc c) (declared_heard d k octets o)
   after_octets k octets None = stays
-  after_octets k octets (Some p) = either (p.up && ends_session octets) (without_session d k) d (ends k) stays
+  after_octets k octets (Some p) = either (p.up && ends_session d.profile octets) (without_session d k) d (ends k) stays
 
   -- behind each event that is drawn
   after : (e : Drawn) → Ready (suc c) (declared_after d (meant e))
@@ -243,7 +218,7 @@ module _ (c : ℕ) (d : Declaration) (r : Ready c d) where
 
   admits : (e : Drawn) → c < 65535 → IsOfFour e → refusal d (meant e) ≡ None
   unfolding refusal
-  admits e below h = ap (λ (s : Option Speaker). refusal_at s d.peers (meant e)) r.speaker ∙ may e below h
+  admits e below h = ap (λ (s : Option Speaker). refusal_at d.profile s d.peers (meant e)) r.speaker ∙ may e below h
 
 -- ---- the peers that are drawn
 pick : (b : Bool) (x y : Drawn) → IsOfFour x → IsOfFour y → IsOfFour (cond b x y)
@@ -297,10 +272,10 @@ of_four x =
     (pick (nat_lt (draws.kind_of d) 9) withdraw (draws.other_event d) h (other_of_four x))
 
 drawn_admitted : (n x c : ℕ) (d : Declaration) → Ready c d → c + n < 65535 → AreAdmitted d (map meant (draws.events_from n x ++ drawn.Idle ∷ []))
-drawn_admitted zero x c d r few = (admits c d r drawn.Idle (omega (arith, few)) tt, tt)
+drawn_admitted zero x c d r few = (r.profile, admits c d r drawn.Idle (omega (arith, few)) tt, tt)
 drawn_admitted (suc n) x c d r few =
     let e = draws.event_of (next_draws x) in
-    (admits c d r e (omega (arith, few)) (of_four x), drawn_admitted n (behind_draws x) (suc c) (declared_after d (meant e)) (after c d r e) (omega (arith, few)))
+    (r.profile, admits c d r e (omega (arith, few)) (of_four x), drawn_admitted n (behind_draws x) (suc c) (declared_after d (meant e)) (after c d r e) (omega (arith, few)))
 
 -- ---- behind the opening
 abbrev after_all : Declaration → List Event → Declaration
@@ -309,11 +284,11 @@ after_all d (e ∷ es) = after_all (declared_after d e) es
 
 admitted_then : (d : Declaration) (xs ys : List Event) → AreAdmitted d xs → AreAdmitted (after_all d xs) ys → AreAdmitted d (xs ++ ys)
 admitted_then d [] ys f g = g
-admitted_then d (x ∷ xs) ys f g = (f.0, admitted_then (declared_after d x) xs ys f.1 g)
+admitted_then d (x ∷ xs) ys f g = (f.0, f.1, admitted_then (declared_after d x) xs ys f.2 g)
 
 opening_admitted : AreAdmitted no_declaration opening_events
 unfolding refusal
-opening_admitted = (refl, (refl, (refl, (refl, (refl, (refl, (refl, (refl, (refl, (refl, tt))))))))))
+opening_admitted = (refl, refl, (refl, refl, (refl, refl, (refl, refl, (refl, refl, (refl, refl, (refl, refl, (refl, refl, (refl, refl, (refl, refl, tt))))))))))
 
 known_then : (k : ℕ) → 1 ≤ k → k ≤ 4 → is_some (peer_at k (after_all no_declaration opening_events).peers) ≡ true
 known_then zero low high = absurd (omega (arith, low))
@@ -324,7 +299,7 @@ known_then (suc (suc (suc (suc zero)))) low high = refl
 known_then (suc (suc (suc (suc (suc k))))) low high = absurd (omega (arith, high))
 
 opened : Ready 1 (after_all no_declaration opening_events)
-opened = record { me = _; speaker = refl; known = known_then; few = (omega arith, (omega arith, (omega arith, (omega arith, tt)))) }
+opened = record { me = _; profile = refl; speaker = refl; known = known_then; few = (omega arith, (omega arith, (omega arith, (omega arith, tt)))) }
 
 admitted : (seed count : ℕ) → count ≤ most_events → AreAdmitted no_declaration (meanings seed count)
 admitted seed count few =

@@ -17,7 +17,7 @@ use Rattle.router_core.specs.Peers.{is_up}
 
 -- The lines of the whole output, from the first on, lead the peers, which had heard nothing, to what each was sent in its session.
 abbrev pub AreHeard : List Line → Moment → Type 0
-AreHeard out m = Hears (neighbours m.declared) no_views out (views_of m.exits)
+AreHeard out m = Hears m.declared.profile (neighbours m.declared) no_views out (views_of m.exits)
 
 -- What a peer that is up was sent in its session are exactly the rows of its `adv.J.S`, and any other peer was sent nothing.
 pub record AreSent (m : Moment) (views : Views) : Type 0 where
@@ -29,4 +29,4 @@ pub record AreSent (m : Moment) (views : Views) : Type 0 where
 abbrev pub AreBest : LiveState → Views → Type 0
 AreBest l views =
     (me : Speaker) (j : ℕ) (p : DeclaredPeer) → l.declared.speaker ≡ Some me → peer_at j l.declared.peers ≡ Some p → p.up ≡ true
-    → tables.get (views j) ≡ sent_rows me p.words (l.outgoing j) (best_of l)
+    → tables.get (views j) ≡ sent_rows l.declared.profile me p.words (l.outgoing j) (best_of l)

@@ -7,6 +7,7 @@ ghost use Rattle.replay.specs.Commands.{reads_source, usage_line};
 ghost use Rattle.replay.specs.Answers.{HasDone, HasRead, HasRefused, HasBroken, HasSoFar, HasFirst, HasFront, IsByText, IsUnfailing};
 ghost use Rattle.command_line.specs.declared.words.Command.TheVariants as commands;
 
+use crate::captured::convert_capture;
 use crate::generated::run_generated;
 use crate::run::run_events;
 use crate::status::Status;
@@ -24,7 +25,7 @@ fn show_usage<K: Sink>(sink: &mut K) -> Status
 {
     match write_all(
         sink,
-        b"usage: replay run [--quiet] / replay gen SEED COUNT [--quiet] / replay check\n",
+        b"usage: replay run [--quiet] / replay gen SEED COUNT [--quiet] / replay check / replay mrt [--as4]\n",
     ) {
         Ok(()) => Status::Usage,
         Err(_) => Status::WriteFault,
@@ -83,6 +84,7 @@ pub fn obey<S: Source, K: Sink>(
         Some(Command::Run(quiet)) => run_events(alloc, quiet, false, source, sink),
         Some(Command::Gen(seed, count, quiet)) => run_generated(alloc, seed, count, quiet, sink),
         Some(Command::Check) => check_journal(alloc, source, sink),
+        Some(Command::Mrt(as4)) => convert_capture(alloc, as4, source, sink),
         None => show_usage(sink),
     }
 }

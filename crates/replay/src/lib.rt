@@ -2,7 +2,8 @@
 //!
 //! [`replay`] is all that the program does: it reads the words of the command line (by the crate command_line), reads events from a
 //! source, steps them one after another, and writes their output to a sink (`run`); or it does so with the events of a seed, and
-//! writes totals behind them (`gen`); or it judges the journal that the source is (`check`).
+//! writes totals behind them (`gen`); or it judges the journal that the source is (`check`); or it writes the event file that a
+//! capture gives (`mrt`).
 //! The parts are private: `stepping` steps one line in the router of the crate router_core, `stream` takes text that comes in pieces
 //! line by line, `output` writes what a piece gave before the next one is read, and `run` goes on so to the end of a source.
 //!
@@ -13,6 +14,7 @@
 //! stands on its link `adv.J.S`.
 #![tactic(auto)]
 
+mod captured;
 mod commands;
 mod generated;
 mod laws;
@@ -29,11 +31,11 @@ ghost use Rattle.std.specs.Io.KnownBytes.{Appends};
 ghost use Rattle.edge_io.specs.Causes.{Rose};
 ghost use Rattle.command_line.specs.Commands.{command_of};
 ghost use Rattle.replay.specs.Commands.{reads_source, usage_line};
-ghost use Rattle.replay.specs.Answers.{HasDone, HasRead, HasRefused, HasLawful, HasBroken, HasSoFar, HasFirst, HasFront, IsByText, IsUnfailing, SeedsAreAccepted};
+ghost use Rattle.replay.specs.Answers.{HasDone, HasRead, HasRefused, HasLawful, HasBroken, HasSoFar, HasFirst, HasFront, IsByText, IsUnfailing, CapturesAreAccepted, SeedsAreAccepted};
 ghost use Rattle.command_line.specs.declared.words.Command.TheVariants.{Check};
 
 use crate::commands::obey;
-use crate::laws::seeds_are_accepted;
+use crate::laws::{captures_are_accepted, seeds_are_accepted};
 use command_line::read_command;
 use edge_io::{Sink, Source};
 use router_core::first_moment_stands;
@@ -42,10 +44,10 @@ use std::alloc::Global;
 
 /// All that the program does: reads the words, and does what they ask for.
 ///
-/// What the words ask for is told by the definition of the command: `run`, `gen SEED COUNT`, either with `--quiet`, or `check`. All
-/// other words, and those that ask for help, are answered by the usage line. `run` steps all whole lines of what was read and writes
+/// What the words ask for is told by the definition of the command: `run`, `gen SEED COUNT`, either with `--quiet`, `check`, or `mrt`,
+/// with or without `--as4`. All other words, and those that ask for help, are answered by the usage line. `run` steps all whole lines of what was read and writes
 /// their output before the next read; `gen` steps the events of a seed, and then writes totals; `check` reads all that it needs, and
-/// then writes one line. The first failure ends it.
+/// then writes one line; `mrt` writes the lines of all whole records that were read before the next read. The first failure ends it.
 pub fn replay<S: Source, K: Sink>(
     alloc: Global,
     words: &[String],
@@ -53,12 +55,12 @@ pub fn replay<S: Source, K: Sink>(
     sink: &mut K,
 ) -> Status
     // Every line of the text was accepted, all of it was read, and the sink took exactly an allowed output; or every line of the
-    // seed, and the sink took the totals, too; or the text is a lawful journal.
+    // seed, and the sink took the totals, too; or the text is a lawful journal; or the sink took the text of all records of a capture.
     ensures ok { result ≡ Status.Ok → HasDone (command_of (map string_bytes words.now)) (S.left source.old) (K.taken sink.old) (K.taken sink.new) }
     ensures all_read { result ≡ Status.Ok → HasRead (command_of (map string_bytes words.now)) (S.left source.new) }
 
     // A line was refused, and the sink took an allowed output of the lines before it, and then that it was refused; or the
-    // line is none of a journal.
+    // line is none of a journal; or a record of a capture was refused, and the sink took the lines of those before it, and that.
     ensures refused { result ≡ Status.Refused → HasRefused (command_of (map string_bytes words.now)) (S.left source.old) (K.taken sink.old) (K.taken sink.new) }
 
     // What `check` says of what `run` or `gen` wrote is that it is lawful, quiet or not, totals or none, and also where a line was refused.
@@ -75,17 +77,22 @@ pub fn replay<S: Source, K: Sink>(
     // No line of a seed is refused: `gen` ends with status 0, unless a write fails or there is no memory.
     ensures seeds { SeedsAreAccepted }
 
+    // No line of what `mrt` writes with status 0 is refused: all that is said of `run` holds of a run over it.
+    ensures captures { CapturesAreAccepted }
+
     // The words are no command, and the usage line was written.
     ensures usage { result ≡ Status.Usage → Appends (K.taken sink.old) (K.taken sink.new) usage_line }
     ensures command { command_of (map string_bytes words.now) ≢ None → result ≢ Status.Usage }
     ensures no_command { command_of (map string_bytes words.now) ≡ None → (result ≡ Status.Usage) ⊎ (result ≡ Status.WriteFault) ⊎ (result ≡ Status.Memory) }
     ensures unread { reads_source (command_of (map string_bytes words.now)) ≡ false → source.new ≡ source.old }
 
-    // A read failed, and the sink took an allowed output of the lines that had ended in what was read; nothing of a check.
+    // A read failed, and the sink took an allowed output of the lines that had ended in what was read; nothing of a check; the
+    // lines of the whole records of a capture.
     ensures read_fault { result ≡ Status.ReadFault → Rose (S.faults source.old) (S.faults source.new) }
     ensures so_far { result ≡ Status.ReadFault → HasSoFar (command_of (map string_bytes words.now)) (S.left source.old) (S.left source.new) (K.taken sink.old) (K.taken sink.new) }
 
-    // There was no memory, and the sink took an allowed output of some first lines; nothing of a check.
+    // There was no memory, and the sink took an allowed output of some first lines, or the lines of some first records of a
+    // capture; nothing of a check.
     ensures memory { result ≡ Status.Memory → HasFirst (command_of (map string_bytes words.now)) (S.left source.old) (K.taken sink.old) (K.taken sink.new) }
 
     // A write failed, and the sink took a front of what may be written.
@@ -94,6 +101,7 @@ pub fn replay<S: Source, K: Sink>(
 {
     first_moment_stands();
     seeds_are_accepted();
+    captures_are_accepted();
     let Ok(command) = read_command(alloc, words) else {
         return Status::Memory;
     };

@@ -40,9 +40,9 @@ fn judge(
     line: &[u8],
 ) -> Result<Result<Event, Code>, Memory>
     ensures judged { IfOk result (λ answer. answer ≡ judge number core.now.moment.declared line.now) }
-    ensures formed { IfOk result (λ answer. IfOk answer IsWellFormed) }
+    ensures formed { IfOk result (λ answer. IfOk answer (IsWellFormed core.now.moment.declared.profile.as4)) }
 {
-    let event = match parse(alloc, line)? {
+    let event = match parse(alloc, core.declared().profile(), line)? {
         Ok(event) => event,
         Err(code) => return Ok(Err(code)),
     };

@@ -1,0 +1,5 @@
+use Rattle.replay.proofs.Captures.{captures_accepted}
+use Rattle.replay.proofs.laws.captures_are_accepted.Goals as goal
+
+pub returns : goal.returns
+returns c = captures_accepted c.lines_are_accepted.ensures c.lines_are_few.ensures
