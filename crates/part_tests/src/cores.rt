@@ -25,7 +25,7 @@ fn step_line(alloc: Global, core: &mut Core, line: &[u8], journal: &mut Journal)
     requires { CoreStands core.old }
     ensures { OnOk result (CoreStands core.new) }
 {
-    let Ok(event) = parse(alloc, line)? else {
+    let Ok(event) = parse(alloc, core.declared().profile(), line)? else {
         return Err(Fail::from("the line is refused"));
     };
     if admit(&event, core.declared()).is_some() || core.events() > 1000 {

@@ -1,10 +1,23 @@
 //! Lines that are read or refused, and events in a row with the code of each that is refused.
 
 use addr4::Memory;
+use bgp_attr::Profile;
 use event_text::{Declared, Event, admit, parse};
 use journal_text::Code;
 use std::alloc::Global;
 use std::test::Fail;
+
+/// AS numbers of two octets, and errors by RFC 4271.
+const OF_TWO: Profile = Profile {
+    as4: false,
+    revised: false,
+};
+
+/// AS numbers of four octets, and revised errors.
+const OF_FOUR: Profile = Profile {
+    as4: true,
+    revised: true,
+};
 
 /// Lines that are read. Those that are empty or begin with `#` say nothing.
 const READ: &str = "\
@@ -12,6 +25,8 @@ const READ: &str = "\
 \x20\x20\x20\n\
 # up 1\n\
 \x20\x20#up\n\
+as4\n\
+\x20revised \n\
 local 65535 192.0.2.254 223.1.2.3\n\
 peer 3 65001 192.0.2.1 1.0.0.1\n\
 \x20\x20up   7 \n\
@@ -79,10 +94,30 @@ filter in 1 10.1.2.3/16 ge 0 le 32 reject\n\
 filter in 1 path 0 accept path 65535 accept\n\
 filter in 1 origin 2 reject";
 
+/// Lines that are read where AS numbers have four octets, and are no events where they have two.
+const WIDE: &str = "\
+local 65536 192.0.2.254 192.0.2.254\n\
+local 4294967295 192.0.2.254 192.0.2.254\n\
+peer 1 70000 192.0.2.1 192.0.2.1\n\
+peer 1 4294967295 192.0.2.1 192.0.2.1\n\
+filter in 1 path 65536 reject\n\
+filter in 1 path 0 accept path 4294967295 accept\n\
+filter out 1 path 65536 reject";
+
 /// Lines that are no events.
 const UNREAD: &str = "\
+as\n\
+as2\n\
+as4 1\n\
+As4\n\
+revised on\n\
+revise\n\
 local 0 192.0.2.254 192.0.2.254\n\
-local 65536 192.0.2.254 192.0.2.254\n\
+peer 3 0 192.0.2.1 1.0.0.1\n\
+local 4294967296 192.0.2.254 192.0.2.254\n\
+local 065536 192.0.2.254 192.0.2.254\n\
+peer 3 4294967296 192.0.2.1 1.0.0.1\n\
+filter in 1 path 4294967296 accept\n\
 local 65000 0.0.0.0 192.0.2.254\n\
 local 65000 192.0.2.254 127.0.0.1\n\
 local 65000 192.0.2.254 224.0.0.1\n\
@@ -96,7 +131,6 @@ down 1 1\n\
 bgp 1\n\
 bgp 1 fff\n\
 bgp 1 0g\n\
-filter in 1 path 65536 reject\n\
 filter in 0 any accept\n\
 filter out 0 any accept\n\
 filter out 1 any prepend 17 accept\n\
@@ -199,7 +233,6 @@ ask best 10.1.0.0/16/8\n\
 ask best +10.1.0.0/16\n\
 ask best\n\
 route add rip 0.0.0.0/0 direct eth:0 0\n\
-filter in 1 path 65536 accept\n\
 filter in 1 origin 3 reject\n\
 filter in 1 any\n\
 filter in 1 any accept any\n\
@@ -219,17 +252,17 @@ filter in 1 10.0.0.0/33 ge 8 le 32 accept";
 const UNPRINTABLE: &str = "up\t1\n# \u{7f}";
 
 /// The code of a line that is refused.
-fn code_of(alloc: Global, line: &[u8]) -> Result<Option<Code>, Memory> {
-    match parse(alloc, line)? {
+fn code_of(alloc: Global, profile: Profile, line: &[u8]) -> Result<Option<Code>, Memory> {
+    match parse(alloc, profile, line)? {
         Ok(_) => Ok(None),
         Err(code) => Ok(Some(code)),
     }
 }
 
 /// Fails at the first of these lines that gets another code.
-fn have_code(alloc: Global, lines: &str, want: Option<Code>) -> Result<(), Fail> {
+fn have_code(alloc: Global, profile: Profile, lines: &str, want: Option<Code>) -> Result<(), Fail> {
     for line in lines.as_bytes().split(|octet| *octet == b'\n') {
-        if code_of(alloc, line)? != want {
+        if code_of(alloc, profile, line)? != want {
             return Err(Fail::from(Vec::from_slice(alloc, line)?));
         }
     }
@@ -238,9 +271,13 @@ fn have_code(alloc: Global, lines: &str, want: Option<Code>) -> Result<(), Fail>
 
 #[test]
 fn lines_are_read_or_refused(rt: HostRuntime) -> Result<(), Fail> {
-    have_code(rt.alloc(), READ, None)?;
-    have_code(rt.alloc(), UNREAD, Some(Code::E2))?;
-    have_code(rt.alloc(), UNPRINTABLE, Some(Code::E1))
+    for profile in [OF_TWO, OF_FOUR] {
+        have_code(rt.alloc(), profile, READ, None)?;
+        have_code(rt.alloc(), profile, UNREAD, Some(Code::E2))?;
+        have_code(rt.alloc(), profile, UNPRINTABLE, Some(Code::E1))?;
+    }
+    have_code(rt.alloc(), OF_TWO, WIDE, Some(Code::E2))?;
+    have_code(rt.alloc(), OF_FOUR, WIDE, None)
 }
 
 /// Does an event, unless it is refused.
@@ -249,6 +286,14 @@ fn step(event: &Event, declared: &mut Declared) -> Result<Option<Code>, Memory> 
         return Ok(Some(code));
     }
     match event {
+        Event::As4 => declared.set_profile(Profile {
+            as4: true,
+            revised: declared.profile().revised,
+        }),
+        Event::Revised => declared.set_profile(Profile {
+            as4: declared.profile().as4,
+            revised: true,
+        }),
         Event::Local(words) => declared.set_speaker(*words),
         Event::Peer(number, words) => declared.add_peer(*number, *words)?,
         Event::Up(number) => declared.begin_session(*number),
@@ -260,11 +305,22 @@ fn step(event: &Event, declared: &mut Declared) -> Result<Option<Code>, Memory> 
 
 /// Reads an event, and does it unless it is refused.
 fn refused(alloc: Global, line: &str, declared: &mut Declared) -> Result<Option<Code>, Memory> {
-    match parse(alloc, line.as_bytes())? {
+    match parse(alloc, declared.profile(), line.as_bytes())? {
         Ok(event) => step(&event, declared),
         Err(code) => Ok(Some(code)),
     }
 }
+
+/// What may stand in front of the others: of the whole file, once each.
+const FIRST: &str = "\
+E4 up 1\n\
+- revised\n\
+E2 peer 1 70000 192.0.2.1 192.0.2.1\n\
+- as4\n\
+E7 as4\n\
+E7 revised\n\
+E2 revised on\n\
+E4 peer 1 70000 192.0.2.1 192.0.2.1";
 
 /// Events in a row, each behind its code; `-` where it is accepted.
 const EVENTS: &str = "\
@@ -278,6 +334,9 @@ E4 redist static on\n\
 E4 idle\n\
 - # local\n\
 - local 65000 192.0.2.254 192.0.2.254\n\
+E7 as4\n\
+E7 revised\n\
+E2 as4 on\n\
 E3 local 65000 192.0.2.254 192.0.2.253\n\
 E3 peer 1 65000 192.0.2.1 192.0.2.254\n\
 - peer 1 65000 192.0.2.1 192.0.2.1\n\
@@ -318,17 +377,19 @@ E5 ask read.2.1 10.1.0.0/16\n\
 /// The code of a word; none of any other.
 fn code_named(word: &str) -> Option<Code> {
     match word {
+        "E2" => Some(Code::E2),
         "E3" => Some(Code::E3),
         "E4" => Some(Code::E4),
         "E5" => Some(Code::E5),
         "E6" => Some(Code::E6),
+        "E7" => Some(Code::E7),
         _ => None,
     }
 }
 
 /// Fails at the first event that gets another code.
-fn in_order(alloc: Global, declared: &mut Declared) -> Result<(), Fail> {
-    for line in EVENTS.split('\n') {
+fn in_order(alloc: Global, events: &str, declared: &mut Declared) -> Result<(), Fail> {
+    for line in events.split('\n') {
         let (want, event) = line.split_once(' ').ok_or("no event")?;
         is_told(alloc, event, code_named(want), declared)?;
     }
@@ -349,20 +410,32 @@ fn is_told(
 }
 
 /// Answers how many peers are declared in the end.
-fn peers_of_events(alloc: Global, declared: &mut Declared) -> Result<usize, Fail> {
-    in_order(alloc, declared)?;
+fn peers_of_events(
+    alloc: Global,
+    profile: Profile,
+    declared: &mut Declared,
+) -> Result<usize, Fail> {
+    if profile.as4 {
+        in_order(alloc, FIRST, declared)?;
+    }
+    in_order(alloc, EVENTS, declared)?;
+    if declared.profile() != profile {
+        return Err(Fail::from("another profile"));
+    }
     Ok(declared.peers().len())
 }
 
-fn peers_declared(alloc: Global) -> Result<usize, Fail> {
+fn peers_declared(alloc: Global, profile: Profile) -> Result<usize, Fail> {
     let mut declared = Declared::new(alloc);
-    let peers = peers_of_events(alloc, &mut declared);
+    let peers = peers_of_events(alloc, profile, &mut declared);
     drop(declared);
     peers
 }
 
 #[test]
 fn events_are_refused_in_order(rt: HostRuntime) -> Result<(), Fail> {
-    assert!(rt; peers_declared(rt.alloc())? == 2);
+    for profile in [OF_TWO, OF_FOUR] {
+        assert!(rt; peers_declared(rt.alloc(), profile)? == 2);
+    }
     Ok(())
 }

@@ -21,7 +21,7 @@ pub enum Pace {
 #[derive(Drop)]
 struct Paced {
     pace: Pace,
-    /// The whole text, for the ends of its lines.
+    /// The whole input, for the ends of its lines.
     text: Vec<u8>,
     /// How much of it was asked for.
     place: usize,
@@ -63,13 +63,13 @@ impl Source for Paced {
     }
 }
 
-/// A source of a text, whose read with this number fails; number 0 is none.
-fn source_of(alloc: Global, pace: Pace, text: &str, read: u64) -> Result<Paced, AllocError> {
+/// A source of an input, whose read with this number fails; number 0 is none.
+fn source_of(alloc: Global, pace: Pace, input: &[u8], read: u64) -> Result<Paced, AllocError> {
     let reads = vec![in alloc; read]?;
-    let inner = MemorySource::new(Vec::from_slice(alloc, text.as_bytes())?, reads);
+    let inner = MemorySource::new(Vec::from_slice(alloc, input)?, reads);
     Ok(Paced {
         pace,
-        text: Vec::from_slice(alloc, text.as_bytes())?,
+        text: Vec::from_slice(alloc, input)?,
         place: 0,
         reads: 0,
         inner,
@@ -108,27 +108,27 @@ fn answer_of(
     })
 }
 
-/// The answer of a command to a text.
+/// The answer of a command to an input.
 pub fn answer_to(
     alloc: Global,
     command: &str,
     pace: Pace,
-    text: &str,
+    input: &[u8],
 ) -> Result<Answer, AllocError> {
-    answer_failing(alloc, command, pace, text, 0, 0)
+    answer_failing(alloc, command, pace, input, 0, 0)
 }
 
-/// The answer to a text, where the read and the write with these numbers fail; number 0 is none.
+/// The answer to an input, where the read and the write with these numbers fail; number 0 is none.
 pub fn answer_failing(
     alloc: Global,
     command: &str,
     pace: Pace,
-    text: &str,
+    input: &[u8],
     read: u64,
     write: u64,
 ) -> Result<Answer, AllocError> {
     let mut sink = MemorySink::new(Vec::new(alloc), vec![in alloc; write]?);
-    let mut source = source_of(alloc, pace, text, read)?;
+    let mut source = source_of(alloc, pace, input, read)?;
     let words = words_of(alloc, command)?;
     answer_of(alloc, words.as_slice(), &mut source, &mut sink)
 }

@@ -9,8 +9,8 @@ const RUN: &str = "replay run";
 
 /// Whether the output is that of the lines before the read with this number, which fails.
 fn is_told(alloc: Global, events: &str, number: u64, before: &str) -> Result<bool, AllocError> {
-    let answer = answer_failing(alloc, RUN, Pace::Lines, events, number, 0)?;
-    let earlier = answer_to(alloc, RUN, Pace::Whole, before)?;
+    let answer = answer_failing(alloc, RUN, Pace::Lines, events.as_bytes(), number, 0)?;
+    let earlier = answer_to(alloc, RUN, Pace::Whole, before.as_bytes())?;
     Ok(answer.status == Status::ReadFault && answer.output.as_slice() == earlier.output.as_slice())
 }
 
@@ -59,7 +59,7 @@ fn first_lines(alloc: Global, text: &str, count: u64) -> Result<String, AllocErr
 /// Whether the output has what the lines before the last one that was read give: that is written before more is read.
 fn is_prompt(alloc: Global, events: &str, answer: &Answer) -> Result<bool, AllocError> {
     let before = first_lines(alloc, events, answer.reads.saturating_sub(1))?;
-    let earlier = answer_to(alloc, RUN, Pace::Whole, before.as_str())?;
+    let earlier = answer_to(alloc, RUN, Pace::Whole, before.as_bytes())?;
     Ok(
         answer
             .output
@@ -75,7 +75,7 @@ fn told_of_write(
     wanted: &str,
     number: u64,
 ) -> Result<(Status, bool), AllocError> {
-    let answer = answer_failing(alloc, RUN, Pace::Lines, events, 0, number)?;
+    let answer = answer_failing(alloc, RUN, Pace::Lines, events.as_bytes(), 0, number)?;
     let right = match answer.status {
         Status::Ok => fault_in(&answer, wanted, Status::Ok).is_none(),
         Status::WriteFault => {
@@ -121,6 +121,6 @@ fn fault_of_long_line(
     wanted: &str,
 ) -> Result<Option<Fault>, AllocError> {
     let text = "#".repeat(alloc, length)?;
-    let answer = answer_failing(alloc, command, Pace::Whole, text.as_str(), read, 0)?;
+    let answer = answer_failing(alloc, command, Pace::Whole, text.as_bytes(), read, 0)?;
     Ok(fault_in(&answer, wanted, Status::Refused))
 }

@@ -35,14 +35,14 @@ pub fn fault_in(answer: &Answer, wanted: &str, status: Status) -> Option<Fault> 
     }
 }
 
-/// What is wrong with the answer of a command to a text, if anything: the status is the one that the output tells.
+/// What is wrong with the answer of a command to an input, if anything: the status is the one that the output tells.
 pub fn fault_of(
     alloc: Global,
     command: &str,
     pace: Pace,
-    text: &str,
+    input: &[u8],
     wanted: &str,
 ) -> Result<Option<Fault>, AllocError> {
-    let answer = answer_to(alloc, command, pace, text)?;
+    let answer = answer_to(alloc, command, pace, input)?;
     Ok(fault_in(&answer, wanted, status_of(wanted)))
 }

@@ -1,8 +1,9 @@
 //! Runs the program on stories: files in the folder that the first word names, each with the output that it must have.
 //!
 //! `NAME.events` is an event file, for `replay run`; `NAME.journal` is a journal, for `replay check`; `NAME.commands` has whole
-//! command lines, with nothing to read. `NAME.out` is what must be written, and the status is told by its last line. The outputs
-//! come from a program of another hand, never from this one.
+//! command lines, with nothing to read. `NAME.out` is what must be written, and the status is told by its last line. `NAME.mrt` is a
+//! capture, for `replay mrt`, which must give `NAME.events`, or where it is refused `NAME.out`. The outputs come from a program of
+//! another hand, never from this one.
 //! An event file is read in one piece, and again byte by byte; with `--quiet` it must give the same lines without those
 //! of the journal; and its whole output, judged by `check`, must be lawful. Two of them are read line by line, too, while each
 //! read fails once, and each write: so what a line gives is written before more is read. The sessions of a peer, as many as it
@@ -44,20 +45,26 @@ fn fault_of_quiet(alloc: Global, events: &str, wanted: &str) -> Result<Option<Fa
         alloc,
         "replay run --quiet",
         Pace::Whole,
-        events,
+        events.as_bytes(),
         rest.as_str(),
     )
 }
 
 /// What is wrong with the verdict on a journal, if anything.
 fn fault_of_check(alloc: Global, journal: &str, wanted: &str) -> Result<Option<Fault>, AllocError> {
-    fault_of(alloc, "replay check", Pace::Bytes, journal, wanted)
+    fault_of(
+        alloc,
+        "replay check",
+        Pace::Bytes,
+        journal.as_bytes(),
+        wanted,
+    )
 }
 
 /// What is wrong with the answers to an event file, if anything.
 fn fault_of_run(alloc: Global, events: &str, wanted: &str) -> Result<Option<Fault>, AllocError> {
-    let whole = fault_of(alloc, RUN, Pace::Whole, events, wanted)?;
-    let bytes = fault_of(alloc, RUN, Pace::Bytes, events, wanted)?;
+    let whole = fault_of(alloc, RUN, Pace::Whole, events.as_bytes(), wanted)?;
+    let bytes = fault_of(alloc, RUN, Pace::Bytes, events.as_bytes(), wanted)?;
     let quiet = fault_of_quiet(alloc, events, wanted)?;
     let check = fault_of_check(alloc, wanted, "lawful\n")?;
     Ok(whole.or(bytes).or(quiet).or(check))
@@ -93,7 +100,7 @@ fn answer_commands(
     output: &mut String,
 ) -> Result<Option<Fault>, AllocError> {
     for command in commands.lines() {
-        let answer = answer_to(alloc, command, Pace::Whole, "")?;
+        let answer = answer_to(alloc, command, Pace::Whole, b"")?;
         if !push_answer(&answer, output)? {
             return Ok(Some(Fault::Status(answer.status)));
         }
@@ -119,12 +126,12 @@ fn fault_of_commands(
 fn fault_of_sessions(alloc: Global) -> Result<Option<Fault>, AllocError> {
     let events = events_of_sessions(alloc)?;
     let wanted = output_of_sessions(alloc)?;
-    let run = fault_of(alloc, RUN, Pace::Whole, events.as_str(), wanted.as_str())?;
+    let run = fault_of(alloc, RUN, Pace::Whole, events.as_bytes(), wanted.as_str())?;
     let check = fault_of(
         alloc,
         "replay check",
         Pace::Whole,
-        wanted.as_str(),
+        wanted.as_bytes(),
         "lawful\n",
     )?;
     Ok(run.or(check))
@@ -138,6 +145,8 @@ enum Kind {
     Failing,
     Check,
     Commands,
+    /// It has octets, not a text.
+    Capture,
 }
 
 /// Whether a story is one in which each read and each write fails once.
@@ -160,6 +169,9 @@ fn kind_of(file: &str) -> Option<Kind> {
     if file.ends_with(".commands") {
         return Some(Kind::Commands);
     }
+    if file.ends_with(".mrt") {
+        return Some(Kind::Capture);
+    }
     None
 }
 
@@ -175,6 +187,46 @@ fn fault_of_kind(
         Kind::Failing => fault_of_failing(alloc, text, wanted),
         Kind::Commands => fault_of_commands(alloc, text, wanted),
         Kind::Check => fault_of_check(alloc, text, wanted),
+        Kind::Capture => Ok(None),
+    }
+}
+
+/// What is wrong with what a capture gives, if anything: `NAME.events`, the event file that is another story, or where the capture
+/// is refused `NAME.out`.
+fn fault_of_capture(rt: &HostRuntime, folder: &str, file: &str) -> io::Result<Option<Fault>> {
+    let alloc = rt.alloc();
+    let path = format!(in alloc; "{folder}/{file}")?;
+    let capture = fs::read(rt, path.as_str())?;
+    let name = file.split('.').next().unwrap_or("");
+    let events = format!(in alloc; "{folder}/{name}.events")?;
+    let wanted = match fs::read_to_string(rt, events.as_str()) {
+        Ok(text) => text,
+        Err(_) => wanted_of(rt, folder, file)?,
+    };
+    let command = mrt_for(wanted.as_str());
+    let whole = fault_of(
+        alloc,
+        command,
+        Pace::Whole,
+        capture.as_slice(),
+        wanted.as_str(),
+    )?;
+    let bytes = fault_of(
+        alloc,
+        command,
+        Pace::Bytes,
+        capture.as_slice(),
+        wanted.as_str(),
+    )?;
+    Ok(whole.or(bytes))
+}
+
+/// The command that gives an event file: AS numbers have four octets where its first line says so.
+fn mrt_for(events: &str) -> &'static str {
+    if events.starts_with("as4") {
+        "replay mrt --as4"
+    } else {
+        "replay mrt"
     }
 }
 
@@ -198,6 +250,9 @@ fn fault_of_story(
     file: &str,
     kind: Kind,
 ) -> io::Result<Option<Fault>> {
+    if let Kind::Capture = kind {
+        return fault_of_capture(rt, folder, file);
+    }
     let wanted = wanted_of(rt, folder, file)?;
     let text = text_of(rt, folder, file)?;
     let fault = fault_of_kind(rt.alloc(), kind, text.as_str(), wanted.as_str())?;

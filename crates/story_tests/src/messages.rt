@@ -1,9 +1,10 @@
 //! Tries the reading and writing of messages: rows, each with the answer that it wants.
 //!
 //! A row is `FLAGS OCTETS = ANSWER`. Flags: `x` the message comes from an external peer (`i`: an internal one), `4` AS numbers
-//! of four octets, `r` errors handled in the revised manner. The answer says in words what the octets are read as. With `w`
-//! or `W` the answer is octets: those that are sent of what was read (`W`: with AS numbers of four octets), an UPDATE of one
-//! prefix, or the NOTIFICATION that answers a fault. Lines that begin with `#` and empty lines are no rows.
+//! of four octets, `r` errors handled in the revised manner. Where several stand there, parted by commas, the answer is the
+//! same under each. The answer says in words what the octets are read as. With `w` or `W` the answer is octets: those that are
+//! sent of what was read (`W`: with AS numbers of four octets), an UPDATE of one prefix, or the NOTIFICATION that answers a
+//! fault. Lines that begin with `#` and empty lines are no rows.
 //!
 //! Each row that gets another answer is printed, and then how many rows there were and how many were wrong.
 
@@ -74,11 +75,21 @@ fn is_right(alloc: Global, flags: &str, words: &str, wanted: &str) -> anyhow::Re
     answered.ok().context("no memory")
 }
 
+/// The same under each of these flags.
+fn all_are_right(alloc: Global, list: &str, words: &str, wanted: &str) -> anyhow::Result<bool> {
+    for flags in list.split(',') {
+        if !is_right(alloc, flags, words, wanted)? {
+            return Ok(false);
+        }
+    }
+    Ok(true)
+}
+
 /// Whether a row gets the answer that it wants.
 fn row_is_right(alloc: Global, row: &str) -> anyhow::Result<bool> {
     let (input, wanted) = row.split_once(" = ").context("no answer")?;
-    let (flags, words) = input.split_once(' ').context("no octets")?;
-    is_right(alloc, flags, words, wanted)
+    let (list, words) = input.split_once(' ').context("no octets")?;
+    all_are_right(alloc, list, words, wanted)
 }
 
 /// Prints each row of a text that gets another answer; how many rows there are, and how many are wrong.
