@@ -19,7 +19,8 @@ import time
 
 MARKER = b'\xff' * 16
 CLONE_NEWNET = 0x40000000
-IPV4_UNICAST = bytes([2, 6, 1, 4, 0, 1, 0, 1])  # the one capability that is announced (RFC 4760)
+IPV4_UNICAST = bytes([2, 6, 1, 4, 0, 1, 0, 1])  # the one capability that is always announced (RFC 4760)
+AS_TRANS = 23456  # stands for a number of four octets (RFC 6793)
 DAEMON, SENDER, RECEIVER = '192.0.2.254', '192.0.2.1', '192.0.2.2'
 
 BIRD = '''
@@ -60,12 +61,14 @@ def message(kind, body=b''):
 
 
 class Speaker:
-    """A session with the daemon; counts the prefixes that it was sent and that were withdrawn."""
+    """A session with the daemon, with AS numbers of four octets if asked for; counts the prefixes that it was sent and that were
+    withdrawn."""
 
-    def __init__(self, address, asn):
+    def __init__(self, address, asn, wide=False):
         self.announced, self.withdrawn, self.failed = set(), 0, None
         self.socket = self.connect(address)
-        opening = struct.pack('>BHH4sB', 4, asn, 0, socket.inet_aton(address), len(IPV4_UNICAST)) + IPV4_UNICAST
+        said = IPV4_UNICAST + (bytes([2, 6, 65, 4]) + struct.pack('>I', asn) if wide else b'')
+        opening = struct.pack('>BHH4sB', 4, asn if asn < 65536 else AS_TRANS, 0, socket.inet_aton(address), len(said)) + said
         self.socket.sendall(message(1, opening))
         self.buffer = b''
         kind, _ = self.read()

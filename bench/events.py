@@ -3,7 +3,8 @@
 
 Kinds:
   table     peer 1 announces so many different prefixes, about five an UPDATE; then `idle`, and peer 2 is sent them
-  alone     the same, but peer 2 is down: nothing is sent
+  as4       the same with AS numbers of four octets, most of them above 65535, in the file's messages and in what is sent
+  alone     the same as table, but peer 2 is down: nothing is sent
   rejected  the same as table, but a rule rejects every route that peer 2 would be sent
   paced     the same as table, but behind each message all that it causes is read and sent: nobody falls behind
   edit      the same, then a rule for peer 1's incoming filter that changes every route, and `idle`
@@ -35,12 +36,14 @@ LENGTHS = [24] * 60 + [23] * 9 + [22] * 11 + [21] * 5 + [20] * 4 + [19] * 3 + [1
 LOCAL = 'local 65000 192.0.2.254 192.0.2.254'
 PEERS = ['peer 1 65001 192.0.2.1 192.0.2.1', 'peer 2 65002 192.0.2.2 192.0.2.2',
          'route add connected 192.0.2.0/24 direct eth0 1', 'up 1', 'up 2']
-KINDS = ('table', 'alone', 'rejected', 'paced', 'edit', 'rules', 'loss', 'interior', 'lost', 'hops', 'kept', 'moved', 'peers',
+KINDS = ('table', 'as4', 'alone', 'rejected', 'paced', 'edit', 'rules', 'loss', 'interior', 'lost', 'hops', 'kept', 'moved', 'peers',
          'best_lost', 'exits', 'own')
 READ = ['work rd.rib 99', 'work out.1 99', 'work out.2 99']
 # an event that looks at nothing but the register, and the line that it gives: how far the program has come
 LOOK, LOOKED = b'cover 192.0.2.1\n', b'cover 192.0.2.1 192.0.2.0/24 192.0.2.0/24\n'
 NEAR = bytes([192, 0, 2, 1])
+# what is added to AS numbers, so that they don't go into two octets
+WIDE = 1 << 17
 HOPS = [bytes([172, 16, place // 250, 1 + place % 250]) for place in range(1000)]
 
 
@@ -62,23 +65,26 @@ def text(addr):
     return '.'.join(str(octet) for octet in addr)
 
 
-def attributes(rand, transit, hop, via):
+def attributes(rand, transit, hop, via, width):
     path = via + [65001] + [rand.choice(transit) for _ in range(rand.randrange(5))] + [rand.randrange(1, 64000)]
+    if width == 4:
+        path = path[:1] + [WIDE + asn for asn in path[1:]]
     out = bytes([0x40, 1, 1, 0 if rand.random() < .9 else 2])
-    out += bytes([0x40, 2, 2 + 2 * len(path), 2, len(path)]) + b''.join(asn.to_bytes(2, 'big') for asn in path)
+    out += bytes([0x40, 2, 2 + width * len(path), 2, len(path)]) + b''.join(asn.to_bytes(width, 'big') for asn in path)
     out += bytes([0x40, 3, 4]) + hop
     if rand.random() < .1:
         out += bytes([0x80, 4, 4]) + rand.randrange(200).to_bytes(4, 'big')
     if rand.random() < .02:
-        out += bytes([0xc0, 7, 6]) + path[-1].to_bytes(2, 'big') + bytes([10, 0, 0, rand.randrange(1, 255)])
+        out += bytes([0xc0, 7, 4 + width]) + path[-1].to_bytes(width, 'big') + bytes([10, 0, 0, rand.randrange(1, 255)])
     if rand.random() < .33:
         length = 4 * rand.randrange(1, 6)
         out += bytes([0xc0, 99, length]) + bytes(rand.randrange(256) for _ in range(length))
     return out
 
 
-def updates(count, hops=(NEAR,), via=()):
-    """UPDATE messages that announce so many prefixes in all; the next hops take turns; paths begin with these numbers."""
+def updates(count, hops=(NEAR,), via=(), width=2):
+    """UPDATE messages that announce so many prefixes in all; the next hops take turns; paths begin with these numbers, each of so
+    many octets."""
     rand = random.Random(1)
     transit = [rand.randrange(1, 64000) for _ in range(40)]
     left, coming, turns = count, prefixes(count, rand), itertools.cycle(hops)
@@ -87,7 +93,7 @@ def updates(count, hops=(NEAR,), via=()):
         while here < min(left, 60) and rand.random() < .8:
             here += 1
         left -= here
-        said = attributes(rand, transit, next(turns), list(via))
+        said = attributes(rand, transit, next(turns), list(via), width)
         announced = b''
         for _ in range(here):
             bits, length = next(coming)
@@ -129,6 +135,8 @@ def peers(number, count, senders):
 
 def events(kind, count, number=8):
     """The lines of an event file."""
+    if kind == 'as4':
+        yield 'as4'
     yield LOCAL
     if kind in ('interior', 'lost'):
         yield from routes(count)
@@ -142,7 +150,7 @@ def events(kind, count, number=8):
         yield from {'alone': ['down 2'], 'rejected': ['down 2', 'filter out 2 any reject', 'up 2']}.get(kind, [])
         yield from (way(hop, 'eth0', 10) for hop in HOPS if far)
         yield from own(1000) if kind == 'own' else ()
-        for message in updates(count, HOPS if far else [NEAR]):
+        for message in updates(count, HOPS if far else [NEAR], width=4 if kind == 'as4' else 2):
             yield 'bgp 1 ' + message.hex()
             yield from READ if kind == 'paced' else ()
     yield 'idle'

@@ -1,14 +1,39 @@
 #!/usr/bin/env python3
-"""MRT files at random, to compare two programs on: python3 bench/mrt_files.py SEED [--as4] > FILE.
+"""MRT files, to compare two programs on and to measure one.
 
-Records are of types 16 and 17, with AS numbers of two and of four octets, of all states, and messages of all lengths. Between them stand
-records of other types, subtypes and address families, of AS 0 and of addresses that no speaker has. One file in three is cut at a random
-octet, and some records have a length that is wrong, also 0 and 4294967295. `--many COUNT FOLDER` writes the files of the seeds 0 to
-COUNT - 1, those with odd seeds for `--as4`.
+mrt_files.py SEED [--as4] > FILE           a file at random
+mrt_files.py --many COUNT FOLDER           those of the seeds 0 to COUNT - 1, the odd ones for `--as4`
+mrt_files.py --compare COUNT [--program WORDS] --other WORDS
+mrt_files.py --large MIB > FILE            so many MiB, for `--as4`
+mrt_files.py --measure MIB [--runs 3] [--program WORDS]
+
+In the files at random records are of types 16 and 17, with AS numbers of two and of four octets, of all states, and messages of all lengths.
+Between them stand records of other types, subtypes and address families, of AS 0 and of addresses that no speaker has. One file in three is
+cut at a random octet, and some records have a length that is wrong, also 0 and 4294967295.
+
+`--compare` gives two programs (`WORDS mrt [--as4]`) a record that is cut at each octet, and one of each length, of both types, both widths, a
+state change and a message; a file of each odd case; and the files of so many seeds. It says which files give other lines or another status,
+and how many; then the status is 1.
+
+A large file is as a collector writes it: UPDATEs of eight peers, about five prefixes each, some keepalives, and sessions that end and begin.
+`--measure` says what CPU time and memory `mrt --as4` takes for one, beside `bgpdump -m` where it is installed; the status is 1 where it
+takes 8 MiB or more, or more than twice the time.
 """
+import argparse
+import collections
+import gzip
+import itertools
 import os
 import random
+import shutil
+import struct
+import subprocess
 import sys
+import tempfile
+
+import captures
+import events
+import measure
 
 LOCAL = (192, 0, 2, 254)
 LENGTHS = [0, 1, 18, 19, 23, 45, 100, 4095, 4096, 4097, 5000]
@@ -98,14 +123,179 @@ class Capture:
         return octets
 
 
-def main(words):
-    if words[:1] == ['--many']:
-        for seed in range(int(words[1])):
-            with open(os.path.join(words[2], '%d.mrt' % seed), 'wb') as out:
+# ---- files for a case each
+
+def record(kind, subtype, body):
+    head = kind.to_bytes(2, 'big') + subtype.to_bytes(2, 'big') + len(body).to_bytes(4, 'big')
+    return b'\0\0\0\0' + head + body
+
+
+def sides(as4, peer=(192, 0, 2, 1), local=LOCAL, family=1):
+    width = 4 if as4 else 2
+    return (65001).to_bytes(width, 'big') + (65000).to_bytes(width, 'big') + b'\0\0' + family.to_bytes(2, 'big') + bytes(peer) + bytes(local)
+
+
+def states(as4, old, new, kind=16, **where):
+    body = sides(as4, **where) + old.to_bytes(2, 'big') + new.to_bytes(2, 'big')
+    return record(kind, 5 if as4 else 0, (b'\0\0\0\7' if kind == 17 else b'') + body)
+
+
+def message(as4, octets, kind=16, **where):
+    return record(kind, 4 if as4 else 1, (b'\0\0\0\7' if kind == 17 else b'') + sides(as4, **where) + octets)
+
+
+def shorter(whole, length):
+    """The same record with a body of another length, which its header counts."""
+    body = (whole[12:] + b'\x17\x17')[:length]
+    return whole[:8] + length.to_bytes(4, 'big') + body
+
+
+def cuts():
+    """A record behind an established session, cut at each octet, and with each length from 0 to two too many."""
+    for as4, kind, is_state in itertools.product((False, True), (16, 17), (False, True)):
+        before = states(as4, 5, 6, kind)
+        whole = states(as4, 6, 1, kind) if is_state else message(as4, b'\xff\x10\x02', kind)
+        for place in range(len(whole) + 1):
+            yield before + whole[:place], as4
+        for length in range(len(whole) - 12 + 3):
+            yield before + shorter(whole, length) + before, as4
+
+
+def odd(as4):
+    """The other cases, one file each."""
+    up, down, said = states(as4, 5, 6), states(as4, 6, 1), message(as4, b'\x5a' * 19)
+    yield b''
+    yield b'local 65000 192.0.2.254 192.0.2.254\n'
+    yield gzip.compress(up + said, mtime=0)
+    yield up + said + down + up + said
+    # states of no other number than 6, also those that no standard has
+    yield b''.join(states(as4, 1, new) for new in (6, 6, 7, 8, 6, 65535, 0x0106, 6, 0, 5))
+    yield said + down + said + message(as4, b'') + message(as4, b'\1' * 4096) + message(as4, b'\2' * 4097) + message(as4, b'\3' * 70000) + down
+    # 70 peers, and the local address as one
+    many = [(10, 0, 0, n) for n in range(70)]
+    yield b''.join(states(as4, 5, 6, peer=peer) for peer in many) + b''.join(message(as4, b'\4', peer=peer) for peer in many)
+    yield up + message(as4, b'\5', peer=LOCAL) + states(as4, 5, 6, peer=LOCAL) + said
+    # sides the wrong way round, another local side, AS 0, addresses that no speaker has
+    yield states(as4, 4, 5, peer=LOCAL, local=(192, 0, 2, 1)) + up + said
+    yield up + message(as4, b'\6', local=(192, 0, 2, 253)) + message(as4, b'\7', peer=(0, 0, 0, 0)) + message(as4, b'\7', local=(224, 0, 0, 1))
+    yield up + states(as4, 6, 1, local=(0, 0, 0, 0)) + said
+    # other types, subtypes and families between, of any form
+    other = [record(kind, subtype, b'\x2a' * size) for kind in (0, 11, 12, 13, 32, 48, 49) for subtype in (0, 1, 4) for size in (0, 3, 60)]
+    yield up + b''.join(one + said for one in other)
+    yield up + b''.join(record(16, subtype, b'\0' * size) + said for subtype in (2, 3, 6, 7, 8, 9, 10, 11, 255, 256) for size in (0, 40))
+    yield up + b''.join(message(as4, b'', family=family) + states(as4, 5, 1, family=family) for family in (0, 2, 3, 256, 16388)) + said
+    yield b''.join(states(not as4, 5, 6) + message(not as4, b'\x5a' * 19) + said for _ in range(3))
+    # lengths that no record has
+    for length in (0, 1, 2 ** 31 - 1, 2 ** 31, 2 ** 32 - 13, 2 ** 32 - 1):
+        yield up + said[:8] + length.to_bytes(4, 'big') + said[12:]
+        yield up + b'\0\0\0\0\0\x0d\0\0' + length.to_bytes(4, 'big') + said
+
+
+def files(count):
+    """Name, octets and width of each file that two programs are compared on."""
+    for place, (octets, as4) in enumerate(cuts()):
+        yield 'cut %d' % place, octets, as4
+    for as4 in (False, True):
+        for place, octets in enumerate(odd(as4)):
+            yield 'odd %d%s' % (place, ' --as4' * as4), octets, as4
+    for seed in range(count):
+        yield 'seed %d' % seed, Capture(seed, seed % 2 == 1).file(), seed % 2 == 1
+
+
+# ---- two programs
+
+def answer(program, octets, as4):
+    ran = subprocess.run(program + ['mrt'] + ['--as4'] * as4, input=octets, stdout=subprocess.PIPE, check=False)
+    return ran.returncode, ran.stdout
+
+
+def compare(count, program, other):
+    """Says how many files give other lines or another status; the status of this script."""
+    wrong, refused, number = 0, collections.Counter(), 0
+    for number, (name, octets, as4) in enumerate(files(count), 1):
+        ours, theirs = answer(program, octets, as4), answer(other, octets, as4)
+        refused[theirs[1].split()[-1].decode() if theirs[0] == 3 else 'status %d' % theirs[0]] += 1
+        if ours != theirs:
+            wrong += 1
+            print('%s: status %d, %d octets; status %d, %d octets' % (name, ours[0], len(ours[1]), theirs[0], len(theirs[1])))
+    print('%d files (%s), %d differ' % (number, ', '.join('%d %s' % (seen, what) for what, seen in sorted(refused.items())), wrong))
+    return 1 if wrong else 0
+
+
+# ---- a large file
+
+def collected():
+    """Records as a collector writes them, without an end."""
+    messages = [captures.widened(update) for update in events.updates(200000)]
+    rand, clock, up = random.Random(1), 1700000000, set()
+    keepalive = b'\xff' * 16 + b'\0\x13\4'
+    for said in itertools.cycle(messages):
+        n = rand.randrange(8)
+        where = {'peer': (192, 0, 2, n + 1)}
+        clock += rand.random() < .05
+        if n not in up:
+            made = states(True, 5, 6, **where)
+            up.add(n)
+        elif rand.random() < .0001:
+            made = states(True, 6, 1, **where)
+            up.remove(n)
+        else:
+            made = message(True, keepalive if rand.random() < .05 else captures.with_first(said, 65001 + n), **where)
+        yield struct.pack('>I', clock) + made[4:]
+
+
+def large(mib, out):
+    left = mib << 20
+    for made in collected():
+        left -= len(made)
+        if left < 0:
+            return
+        out.write(made)
+
+
+def told(name, seen):
+    print('%-12s %.2f s, %.1f MiB' % (name, seen['seconds'], seen['mib']))
+    return seen
+
+
+def measured(mib, program, runs):
+    """What a large file takes; the status of this script."""
+    with tempfile.NamedTemporaryFile(suffix='.mrt') as file:
+        large(mib, file)
+        file.flush()
+        ours = told('mrt', measure.median(file, program + ['mrt', '--as4'], runs))
+        if not shutil.which('bgpdump'):
+            return 0 if ours['mib'] < 8 else 1
+        theirs = told('bgpdump -m', measure.median(file, ['bgpdump', '-m', file.name], runs))
+        return 0 if ours['mib'] < 8 and ours['seconds'] <= 2 * theirs['seconds'] else 1
+
+
+def main():
+    words = argparse.ArgumentParser(description=__doc__, formatter_class=argparse.RawDescriptionHelpFormatter)
+    words.add_argument('seed', type=int, nargs='?', default=0)
+    words.add_argument('--as4', action='store_true')
+    words.add_argument('--many', nargs=2, metavar=('COUNT', 'FOLDER'))
+    words.add_argument('--large', type=int, metavar='MIB')
+    words.add_argument('--measure', type=int, metavar='MIB')
+    words.add_argument('--runs', type=int, default=3)
+    words.add_argument('--compare', type=int, metavar='COUNT')
+    words.add_argument('--program', default=captures.REPLAY)
+    words.add_argument('--other')
+    asked = words.parse_args()
+    if asked.large:
+        large(asked.large, sys.stdout.buffer)
+    elif asked.measure:
+        return measured(asked.measure, asked.program.split(' '), asked.runs)
+    elif asked.compare is not None:
+        return compare(asked.compare, asked.program.split(' '), asked.other.split(' '))
+    elif asked.many:
+        for seed in range(int(asked.many[0])):
+            with open(os.path.join(asked.many[1], '%d.mrt' % seed), 'wb') as out:
                 out.write(Capture(seed, seed % 2 == 1).file())
-        return
-    sys.stdout.buffer.write(Capture(int(words[0]), '--as4' in words[1:]).file())
+    else:
+        sys.stdout.buffer.write(Capture(asked.seed, asked.as4).file())
+    return 0
 
 
 if __name__ == '__main__':
-    main(sys.argv[1:])
+    sys.exit(main())
