@@ -14,16 +14,17 @@ use Rattle.link_change.proofs.MapLemmas.{no_entries, all_entries, one_of_sum, su
 use Rattle.nexthop_resolver.specs.declared.rows.Metric.{Metric}
 use Rattle.nexthop_resolver.specs.Kept.{route_hop, metric_of, with_metric}
 use Rattle.nexthop_resolver.specs.Resolving.{Resolving}
-use Rattle.nexthop_resolver.proofs.PendLemmas.{others_agree}
+use Rattle.nexthop_resolver.proofs.AgreeLemmas.{others_agree}
 use Rattle.nexthop_resolver.proofs.HeldLemmas as held
-use Rattle.nexthop_resolver.proofs.LeftLemmas.{turns_are_bounded}
+use Rattle.nexthop_resolver.specs.Left.{is_busy}
+use Rattle.nexthop_resolver.proofs.AlikeLemmas.{tells_metrics}
+use Rattle.nexthop_resolver.proofs.LeftLemmas as left
 use Rattle.journal_text.specs.declared.link.Link.{Link}
 use Rattle.journal_text.specs.declared.link.Link.TheVariants.{Res}
 use Rattle.journal_text.specs.declared.value.Value.{Value}
 use Rattle.journal_text.specs.Walk.{Links, Leads}
-use Rattle.hop_side.specs.Resolvers.{resolver_at, PeerRows, link_by, hop_links, is_res, beside, is_busy, busy_by, lags_by, known_of, same_metric, left_of, left_in, walks_of}
+use Rattle.hop_side.specs.Resolvers.{resolver_at, PeerRows, link_by, hop_links, is_res, beside, busy_by, lags_by, known_of, same_metric, left_of, left_in, walks_of}
 use Rattle.hop_side.specs.Laws.{StandsAtFirst, LeadsAnywhere, StrangersAgree, ExactUnlessHeldUp, NoneHeldUpWithoutWork, WorkIsListed, NoneLeftWithoutWork, TurnsAreBounded, LeftFollows}
-use Rattle.hop_side.proofs.BusyLemmas.{tells_metrics, idle_rests, none_idle, fewer_left}
 use Rattle.hop_side.proofs.TaskLemmas.{idle_sum}
 
 -- ---- at first
@@ -81,7 +82,7 @@ exact_unless_held_up a uppers r k s p hops agree counted at none =
 
 none_by : (p : Network) (hop : Option ℕ) (o : Option (Resolving Metric)) → busy_by o ≡ false → lags_by o p hop ≡ false
 none_by p hop None idle = refl
-none_by p hop (Some s) idle = held.none_held_up_at_rest same_metric tells_metrics s p hop (idle_rests s idle)
+none_by p hop (Some s) idle = held.none_held_up_at_rest same_metric tells_metrics s p hop (left.idle_rests same_metric s tells_metrics idle)
 
 pub none_held_up_without_work : NoneHeldUpWithoutWork
 none_held_up_without_work a k p hop idle = none_by p hop (resolver_at k a) idle
@@ -96,7 +97,7 @@ work_is_listed a k works = Contains-from_any (tells_apart nat_cmp-IsAntisymmetri
 -- ---- how many turns are left
 pub none_left_without_work : NoneLeftWithoutWork
 none_left_without_work a beyonds = (
-  λ idle. idle_sum beyonds (tables.entries a) (all_entries nat_cmp_total (λ k s. is_busy s ≡ false) a (λ k s at. sym (ap busy_by at) ∙ idle k)),
+  λ idle. idle_sum beyonds (tables.entries a) (all_entries nat_cmp_total (λ k s. is_busy same_metric s ≡ false) a (λ k s at. sym (ap busy_by at) ∙ idle k)),
   λ zero k. idle_by k zero (resolver_at k a) refl,
 )
   where
@@ -104,10 +105,10 @@ none_left_without_work a beyonds = (
     idle_by k zero None at = refl
     idle_by k zero (Some s) at =
         let part = one_of_sum nat_cmp_total (left_of beyonds) a k s at in
-        none_idle (beyonds s.client) s (omega (arith, part, zero))
+        (left.none_left_without_work same_metric (beyonds s.client) s).1 (omega (arith, part, zero))
 
 pub turns_bounded : TurnsAreBounded
-turns_bounded a beyonds most = sum_within (left_of beyonds) known_of (walks_of beyonds) (tables.values a) (λ s. turns_are_bounded same_metric (beyonds s.client) s (most s.client))
+turns_bounded a beyonds most = sum_within (left_of beyonds) known_of (walks_of beyonds) (tables.values a) (λ s. let b = left.turns_are_bounded same_metric (beyonds s.client) s (most s.client) in let t = b.turns in let k = b.stale in omega (arith, t, k))
 
 pub left_follows : LeftFollows
-left_follows a before now less = sum_by-le-sum_by (left_of now) (left_of before) (tables.values a) (λ s. fewer_left (before s.client) (now s.client) s (less s.client))
+left_follows a before now less = sum_by-le-sum_by (left_of now) (left_of before) (tables.values a) (λ s. left.left_follows same_metric (before s.client) (now s.client) s (less s.client))

@@ -1,5 +1,4 @@
 pub mod PutLemmas
-mod BusyLemmas
 mod StepLemmas
 mod TurnLemmas
 mod ReachLemmas

@@ -11,12 +11,8 @@ use Rattle.std.proofs.lemmas.Option.{same_Some}
 use Rattle.link_change.proofs.MapLemmas.{read_in, map_set}
 use Rattle.nexthop_resolver.specs.declared.rows.Metric.{Metric}
 use Rattle.nexthop_resolver.specs.Resolving.{Resolving}
+pub use Rattle.nexthop_resolver.proofs.MoveLemmas.{by_bool}
 use Rattle.hop_side.specs.Resolvers.{Resolvers, resolver_at, put_resolver}
-
--- by a test, with what it came to
-pub by_bool : (b : Bool) (P : Bool → Type 0) → (b ≡ true → P true) → (b ≡ false → P false) → P b
-by_bool true P yes_so no_so = yes_so refl
-by_bool false P yes_so no_so = no_so refl
 
 pub equal_by : (m n : ℕ) → nat_eq m n ≡ true → m ≡ n
 equal_by m n e = grind (arith, nat_tests)

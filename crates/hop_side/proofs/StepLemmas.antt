@@ -7,7 +7,7 @@ use Rattle.link_change.specs.Changes.{IsSent}
 use Rattle.link_change.specs.declared.change.Change.{Change}
 use Rattle.link_change.proofs.RowLemmas.{same_function}
 use Rattle.rib_route.specs.declared.rows.Interior.{Interior}
-use Rattle.register_interest.specs.Registers.{Registry}
+use Rattle.register_interest.specs.Registers.{Registry, AllStand as MatchesStand}
 use Rattle.nexthop_known.specs.Counts.{AreCounted}
 use Rattle.nexthop_known.proofs.CountLemmas.{nothing_is_counted}
 use Rattle.nexthop_resolver.specs.declared.rows.Metric.{Metric}
@@ -16,7 +16,7 @@ use Rattle.nexthop_resolver.specs.Resolving.{Resolving, AreNamed, nothing_known,
 use Rattle.nexthop_resolver.specs.Registered.{Agrees, KeepsOthers, told_of}
 use Rattle.nexthop_resolver.specs.Takes.{Keeps, TakesIn}
 use Rattle.nexthop_resolver.proofs.RowLemmas.{no_rows_at_first}
-use Rattle.nexthop_resolver.proofs.PendLemmas.{others_agree, nothing_yet}
+use Rattle.nexthop_resolver.proofs.AgreeLemmas.{others_agree, nothing_yet}
 use Rattle.journal_text.specs.declared.link.Link.{Link}
 use Rattle.journal_text.specs.declared.link.Link.TheVariants.{Res}
 use Rattle.journal_text.specs.declared.value.Value.{Value}
@@ -77,25 +77,26 @@ module _ (a : Resolvers) (k : ℕ) (s s' : Resolving Metric) (at : resolver_at k
     sound_on client named = put_each IsHop k s' a (record { client = client ∙ own; named = named }) (λ j t other there. hops j t there)
 
     -- the register as the resolver left it
-    pub agreed_on : (was is : Registry Interior) → s'.client ≡ s.client → AreNamed s'.counts s'.known → AllAgree a was → Agrees metric_of s'.client s'.known is → KeepsOthers s.client was is → KeepsAgreed k was is a new
-    agreed_on was is client named agree here keeps = record {
+    pub agreed_on : (was is : Registry Interior) → s'.client ≡ s.client → AreNamed s'.counts s'.known → AllAgree a was → Agrees metric_of s'.client s'.known is → KeepsOthers s.client was is → MatchesStand is → KeepsAgreed k was is a new
+    agreed_on was is client named agree here keeps stand = record {
       sound = sound_on client named;
       agree = put_each (λ j t. Agrees metric_of t.client t.known is) k s' a here (λ j t other there.
           others_agree metric_of t.client s.client t.known was is (λ e. differ_by j k other (sym (hops j t there).client ∙ e ∙ own)) keeps (agree j t there));
       others = subst (λ (n : ℕ). KeepsOthers n was is) own keeps;
       peers = put_peers k s' s a at;
+      stands = stand;
     }
 
     -- ---- a change from above
     pub took : (change : Change Route) (sent : Option (Change Route)) (was is : Registry Interior) (before now : Journaled) → AllAgree a was → TakesIn route_hop with_metric s s' change sent
-        → Keeps (told_of metric_of was) s s' → AreNamed s'.counts s'.known → Agrees metric_of s'.client s'.known is → KeepsOthers s.client was is → now ≡ with_entries before (res_entries k sent)
+        → Keeps (told_of metric_of was) s s' → AreNamed s'.counts s'.known → Agrees metric_of s'.client s'.known is → KeepsOthers s.client was is → MatchesStand is → now ≡ with_entries before (res_entries k sent)
         → Adds (TakesBelow k change sent was is a new) before now
-    took change sent was is before now agree takes keeps named here others lines = (
+    took change sent was is before now agree takes keeps named here others stand lines = (
       res_entries k sent,
       lines,
       record {
         takes = record { resolver = s; at = at; taken = s'; takes = takes; keeps = keeps; lines = refl; after = refl };
-        agreed = agreed_on was is keeps.client named agree here others;
+        agreed = agreed_on was is keeps.client named agree here others stand;
         goes = λ uppers then p counted comes.
             let t = takes (uppers k) (then k) p (counted k s at) comes.here in
             goes_on uppers then comes.others p sent t.sent_is counted t.counted;

@@ -1,6 +1,6 @@
 -- What contracts see of the side of next hops: the resolver of each peer, by the peer's number. The rows of the links `filt.K` above them
 -- are told over any rows, by the peer's number.
-use Rattle.std.specs.Prelude.{◌≡◌, ℕ, ◌+◌, ◌*◌, ◌==◌, nat_lt, Bool, true, false, ◌||◌, cond, is_some, Option, Some, None}
+use Rattle.std.specs.Prelude.{◌≡◌, ℕ, ◌+◌, ◌*◌, Bool, true, false, cond, Option, Some, None}
 use Rattle.std.specs.List.{sum_by}
 use Rattle.std.specs.Ordering.{nat_cmp}
 use Rattle.std.specs.FinMap as tables
@@ -10,13 +10,13 @@ use Rattle.bgp_attr.specs.declared.route.Route.{Route}
 use Rattle.link_change.specs.Rows.{Rows, no_rows}
 use Rattle.rib_route.specs.declared.rows.Interior.{Interior}
 use Rattle.register_interest.specs.Registers.{Registry}
-use Rattle.nexthop_known.specs.Hops.{stale_count}
 use Rattle.nexthop_known.specs.Counts.{AreCounted}
 use Rattle.nexthop_resolver.specs.declared.rows.Metric.{Metric}
 use Rattle.nexthop_resolver.specs.Kept.{route_hop, metric_of, with_metric}
+pub use Rattle.nexthop_resolver.specs.Kept.{same_metric}
 use Rattle.nexthop_resolver.specs.Resolving.{Resolving, AreNamed, named_by, res_rows}
 use Rattle.nexthop_resolver.specs.Registered.{Agrees}
-use Rattle.nexthop_resolver.specs.Left.{differing_count, hop_lags, turns_left}
+use Rattle.nexthop_resolver.specs.Left.{is_busy, hop_lags, turns_left}
 use Rattle.journal_text.specs.declared.link.Link.{Link}
 use Rattle.journal_text.specs.declared.link.Link.TheVariants.{Res}
 use Rattle.journal_text.specs.declared.value.Value.{Value}
@@ -88,21 +88,10 @@ abbrev pub AllCounted : PeerRows → Resolvers → Type 0
 AllCounted uppers a = (k : ℕ) (s : Resolving Metric) → resolver_at k a ≡ Some s → AreCounted (named_by route_hop (uppers k)) s.counts
 
 -- ---- tasks
-abbrev pub same_igp : Option ℕ → Option ℕ → Bool
-same_igp None None = true
-same_igp (Some m) (Some n) = m == n
-same_igp m n = false
-
-abbrev pub same_metric : Metric → Metric → Bool
-same_metric x y = same_igp x.igp y.igp
-
--- a walk is on, a next hop is stale, or a fresh answer isn't in force
-abbrev pub is_busy : Resolving Metric → Bool
-is_busy s = is_some s.walk || (nat_lt 0 (stale_count s.known) || nat_lt 0 (differing_count same_metric s.known))
-
+-- whether one has work, if there is one
 abbrev pub busy_by : Option (Resolving Metric) → Bool
 busy_by None = false
-busy_by (Some s) = is_busy s
+busy_by (Some s) = is_busy same_metric s
 
 abbrev pub lags_by : Option (Resolving Metric) → Network → Option ℕ → Bool
 lags_by None q hop = false

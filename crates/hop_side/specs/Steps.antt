@@ -1,6 +1,5 @@
 -- What each call makes of the resolvers, and what it keeps.
-use Rattle.std.specs.Prelude.{◌≡◌, ℕ, ◌+◌, ◌≤◌, ◌==◌, ◌&&◌, Bool, false, cond, is_some, MatchBool, List, [], ◌∷◌, Option, Some, None}
-use Rattle.std.specs.List.{list_any}
+use Rattle.std.specs.Prelude.{◌≡◌, ℕ, ◌+◌, ◌≤◌, ◌==◌, false, is_some, List, [], ◌∷◌, Option, Some, None}
 use Rattle.addr4.specs.Prefixes.{Network}
 use Rattle.bgp_attr.specs.declared.route.Route.{Route}
 use Rattle.link_change.specs.Rows.{Rows, Candidates}
@@ -11,15 +10,15 @@ use Rattle.link_change.specs.declared.turn.Turn.TheVariants.{Nothing, Quiet, Sen
 use Rattle.rib_route.specs.declared.rows.Interior.{Interior}
 use Rattle.register_interest.specs.declared.interests.Interest.{Interest}
 use Rattle.register_interest.specs.Interests.{without}
-use Rattle.register_interest.specs.Registers.{Registry, KeepsAnswers}
-use Rattle.nexthop_known.specs.declared.answer.Hop.{Hop}
-use Rattle.nexthop_known.specs.Hops.{IsMapped, is_with}
+use Rattle.register_interest.specs.Registers.{Registry, KeepsAnswers, AllStand as MatchesStand}
 use Rattle.pass_core.specs.Left.{CountsBeyond}
 use Rattle.nexthop_resolver.specs.declared.rows.Metric.{Metric}
 use Rattle.nexthop_resolver.specs.Kept.{route_hop, metric_of, with_metric}
 use Rattle.nexthop_resolver.specs.Resolving.{Resolving}
 use Rattle.nexthop_resolver.specs.Registered.{interest_of, KeepsOthers, told_of}
-use Rattle.nexthop_resolver.specs.Takes.{Keeps, TakesIn, Invalidates}
+use Rattle.nexthop_resolver.specs.Takes.{Keeps, TakesIn}
+use Rattle.nexthop_resolver.specs.Reached.{IsReached, IsReachedBy}
+pub use Rattle.nexthop_resolver.specs.Reached.{reached_hop}
 use Rattle.nexthop_resolver.specs.Turns.{Turned}
 use Rattle.journal_text.specs.declared.link.Link.TheVariants.{Res}
 use Rattle.journal_text.specs.declared.entry.Entry.{Entry}
@@ -79,6 +78,7 @@ pub record KeepsAgreed (k : ℕ) (was is : Registry Interior) (a a' : Resolvers)
   pub agree : AllAgree a' is
   pub others : KeepsOthers k was is
   pub peers : HaveSamePeers a a'
+  pub stands : MatchesStand is
 
 -- And so it goes on for any rows of all `filt.K` which the change leads on, where their next hops were counted.
 pub record TakesBelow (k : ℕ) (change : Change Route) (sent : Option (Change Route)) (was is : Registry Interior) (a a' : Resolvers) (entries : List (Entry Value)) : Type 0 where
@@ -111,28 +111,22 @@ ComesBelow k candidates upper was is a a' before now Quiet = Adds (TurnsBelow k 
 ComesBelow k candidates upper was is a a' before now (Sent change) = Adds (TurnsBelow k candidates upper (Some change) was is a a') before now
 
 -- ---- what interests make that the register gave up
--- one of these is peer k's, in the subnet with which an answer came
-abbrev pub is_listed : List Interest → ℕ → Option Network → Bool
-is_listed out k came = list_any (λ i. i.client == k && is_with i.subnet came) out
+-- of a peer's two resolvers, if it has them
+abbrev pub AtPeer : (Resolving Metric → Resolving Metric → Type 0) → Option (Resolving Metric) → Option (Resolving Metric) → Type 0
+AtPeer Is None None = Unit {0}
+AtPeer Is (Some old) (Some new) = Is old new
+AtPeer Is old new = ⊥
 
--- stale where it is so
-abbrev pub reached_hop : List Interest → ℕ → Hop Metric → Hop Metric
-reached_hop out k h = record { in_force = h.in_force; fresh = h.fresh; came = cond (is_listed out k h.came) None h.came }
-
--- a resolver's answers that came with these interests are stale, and all else is as it was
-pub record IsReached (out : List Interest) (k : ℕ) (old new : Resolving Metric) : Type 0 where
-  pub client : new.client ≡ old.client
-  pub walk : new.walk ≡ old.walk
-  pub counts : new.counts ≡ old.counts
-  pub known : IsMapped (reached_hop out k) old.known new.known
-
+-- the answers that came with these interests are stale, and all else is as it was
 abbrev pub ReachedAt : List Interest → ℕ → Option (Resolving Metric) → Option (Resolving Metric) → Type 0
-ReachedAt out k None None = Unit {0}
-ReachedAt out k (Some old) (Some new) = IsReached out k old new
-ReachedAt out k old new = ⊥
+ReachedAt out k old new = AtPeer (IsReached out k) old new
 
 abbrev pub AllReached : List Interest → Resolvers → Resolvers → Type 0
 AllReached out a a' = (k : ℕ) → ReachedAt out k (resolver_at k a) (resolver_at k a')
+
+-- so it is with one interest
+abbrev pub ReachesOne : Interest → Resolvers → Resolvers → Type 0
+ReachesOne i a a' = (k : ℕ) → AtPeer (IsReachedBy i k) (resolver_at k a) (resolver_at k a')
 
 -- nothing changes below, whatever stands above, and as many next hops are known
 pub record StaysBelow (a a' : Resolvers) : Type 0 where
@@ -141,17 +135,6 @@ pub record StaysBelow (a a' : Resolvers) : Type 0 where
   pub counted : (uppers : PeerRows) → AllCounted uppers a → AllCounted uppers a'
   pub known : known_in a' ≡ known_in a
   pub peers : HaveSamePeers a a'
-
--- of one interest: the answers of its client that came with its subnet are stale, and every other resolver stays
-abbrev pub StepsAt : Interest → ℕ → Option (Resolving Metric) → Option (Resolving Metric) → Type 0
-StepsAt i k None None = Unit {0}
-StepsAt i k (Some old) (Some new) = MatchBool (i.client == k) (Invalidates i.subnet old new) (new ≡ old)
-StepsAt i k old new = ⊥
-
-pub record ReachesOne (i : Interest) (a a' : Resolvers) : Type 0 where
-  pub steps : (k : ℕ) → StepsAt i k (resolver_at k a) (resolver_at k a')
-  pub sound : IsHops a'
-  pub known : known_in a' ≡ known_in a
 
 -- Where the register gave these up with a change of the interior routes, and the resolvers agreed with it before, they do again.
 pub record ReachesBelow (out : List Interest) (a a' : Resolvers) : Type 0 where

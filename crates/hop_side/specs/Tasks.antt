@@ -3,14 +3,14 @@ use Rattle.std.specs.Prelude.{ℕ, if◌then◌else◌, List, [], ◌∷◌, Opt
 use Rattle.addr4.specs.Prefixes.{Network}
 use Rattle.nexthop_resolver.specs.declared.rows.Metric.{Metric}
 use Rattle.nexthop_resolver.specs.Kept.{route_hop}
-use Rattle.nexthop_resolver.specs.Left.{hop_lags}
+use Rattle.nexthop_resolver.specs.Left.{is_busy, hop_lags}
 use Rattle.nexthop_resolver.specs.Resolving.{Resolving}
-use Rattle.hop_side.specs.Resolvers.{PeerRows, same_metric, is_busy}
+use Rattle.hop_side.specs.Resolvers.{PeerRows, same_metric}
 
 -- the number of the first resolver that has work
 abbrev pub first_of : List (ℕ × Resolving Metric) → Option ℕ
 first_of [] = None
-first_of (e ∷ es) = if is_busy e.1 then Some e.0 else first_of es
+first_of (e ∷ es) = if is_busy same_metric e.1 then Some e.0 else first_of es
 
 -- of the first one that holds up a prefix, where these are the rows of the links `filt.K`
 abbrev pub first_lagging : PeerRows → Network → List (ℕ × Resolving Metric) → Option ℕ

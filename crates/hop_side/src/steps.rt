@@ -35,6 +35,7 @@ impl NextHops {
         };
         let sent = resolver.take_in(change, register)?;
         resolver.are_named();
+        register.known();
         journal.push_sent(Link::Res(number), &sent)?;
         Ok(sent)
     }
@@ -52,7 +53,6 @@ impl NextHops {
 
     // The answers that came with one interest are stale.
     fn reach_one(&mut self, interest: Interest)
-        requires sound { IsHops self.old }
         ensures { ReachesOne interest self.old self.new }
     {
         let number = u32::from(interest.client);
@@ -60,7 +60,6 @@ impl NextHops {
             return;
         };
         resolver.invalidate(interest.subnet);
-        resolver.are_named();
     }
 
     /// One turn of the next hops of a peer, over its link `filt.K` (`Resolver::unit`): a walk goes to the next candidate, or
@@ -83,6 +82,7 @@ impl NextHops {
         };
         let turn = resolver.unit(upper, register)?;
         resolver.are_named();
+        register.known();
         match turn {
             Turn::Nothing => Ok(Turn::Nothing),
             Turn::Quiet => Ok(Turn::Quiet),

@@ -8,8 +8,8 @@ ghost use Rattle.std.specs.BTreeMap.{values, IsOrdered};
 ghost use Rattle.link_change.specs.Rows.{Rows};
 ghost use Rattle.bgp_attr.specs.declared.route.Route.{Route};
 ghost use Rattle.nexthop_resolver.specs.Kept.{route_hop};
-ghost use Rattle.nexthop_resolver.specs.Left.{hop_lags};
-ghost use Rattle.hop_side.specs.Resolvers.{PeerRows, resolver_at, rows_by, same_metric, hop_holds_up, is_busy, has_hop_work, known_of, known_in, Beyonds, left_in};
+ghost use Rattle.nexthop_resolver.specs.Left.{is_busy, hop_lags};
+ghost use Rattle.hop_side.specs.Resolvers.{PeerRows, resolver_at, rows_by, same_metric, hop_holds_up, has_hop_work, known_of, known_in, Beyonds, left_in};
 ghost use Rattle.hop_side.specs.Tasks.{first_of, first_lagging};
 
 use crate::hops::NextHops;
@@ -87,7 +87,7 @@ impl NextHops {
 
 /// Whether a resolver has work.
 fn is_busy(resolver: &Resolver<Metric>) -> bool
-    ensures { result ≡ is_busy resolver.now }
+    ensures { result ≡ is_busy same_metric resolver.now }
 {
     resolver.busy()
 }

@@ -1,9 +1,9 @@
 -- How many turns a resolver's task takes.
-use Rattle.std.proofs.Common.{◌≡◌, ◌≢◌, ◌↔◌, ℕ, ◌+◌, ◌*◌, ◌<◌, ◌≤◌, nat_lt, Bool, true, false, not, refl, sym, ap, ◌∙◌, subst, inl, inr, Option, Some, None, is_some, arith}
+use Rattle.std.proofs.Common.{◌≡◌, ◌≢◌, ◌↔◌, ℕ, ◌+◌, ◌<◌, ◌≤◌, nat_lt, Bool, true, false, not, refl, sym, ap, ◌∙◌, subst, inl, inr, Option, Some, None, is_some, MatchBool, arith}
 use Rattle.std.proofs.lemmas.Bool.Decides.{nat_tests}
-use Rattle.std.proofs.lemmas.Bool.{cases_eq}
+use Rattle.std.proofs.lemmas.Bool.{cases_eq, or_parts, or_from, true_from_ne_false}
 use Rattle.std.specs.Option.{option_map}
-use Rattle.std.specs.FinMap.{get, insert, len}
+use Rattle.std.specs.FinMap.{get, insert}
 use Rattle.addr4.specs.Prefixes.{Network}
 use Rattle.link_change.specs.Rows.{Rows, Candidates, IsNextCandidate}
 use Rattle.link_change.specs.declared.change.Change.{Change}
@@ -16,10 +16,13 @@ use Rattle.nexthop_known.specs.Hops.{Hops, is_stale_at, stale_count, settled, re
 use Rattle.nexthop_known.proofs.StaleLemmas.{none_counts, some_counts, one_counts_no_more, same_count, known_count, none_stale}
 use Rattle.nexthop_resolver.specs.Resolving.{Resolving, Answers, in_force_by, fresh_by, walk_to, passes, begun}
 use Rattle.nexthop_resolver.specs.Registered.{answer_of}
-use Rattle.nexthop_resolver.specs.Turns.{KnownAfter, Rests, Turned}
+use Rattle.nexthop_resolver.specs.Turns.{KnownAfter, Rests, HasWork, Turned}
 use Rattle.pass_core.specs.Left.{CountsBeyond}
-use Rattle.nexthop_resolver.specs.Left.{TellsAlike, differs_at, differing_count, walk_turns, is_needed, next_walk, turns_left}
+use Rattle.nexthop_resolver.specs.Left.{TellsAlike, differs_at, differing_count, is_busy, walk_turns, is_needed, next_walk, turns_left}
+use Rattle.nexthop_resolver.specs.Laws.{IsBounded}
+use Rattle.nexthop_resolver.proofs.AskLemmas.{none_of}
 use Rattle.nexthop_resolver.proofs.MoveLemmas.{same_some, clash_some}
+use Rattle.nexthop_resolver.proofs.WorkLemmas.{never_both}
 
 -- ---- tests and counts
 lt_so : (a b : ℕ) → a < b → nat_lt a b ≡ true
@@ -28,8 +31,8 @@ lt_so a b lt = grind (arith, nat_tests, lt)
 lt_not : (a b : ℕ) → b ≤ a → nat_lt a b ≡ false
 lt_not a b le = grind (arith, nat_tests, le)
 
-lt_told : (a b : ℕ) → nat_lt a b ≡ true → a < b
-lt_told a b e = grind (arith, nat_tests, e)
+lt_none : (n : ℕ) → nat_lt 0 n ≡ false → n ≡ 0
+lt_none n e = grind (arith, nat_tests, e)
 
 module _ {A : Type 0} (alike : A → A → Bool) (tells : TellsAlike alike) where
   differs_told : (o : Option (Hop A)) (h : Hop A) → o ≡ Some h → h.fresh ≢ h.in_force → differs_at alike o ≡ true
@@ -180,12 +183,14 @@ module _ {A : Type 0} (alike : A → A → Bool) (beyond : Option Network → �
       subst (λ w. sum_of beyond new.walk (stale_count new.known) (differing_count alike new.known) + 1 ≤ sum_of beyond w (stale_count old.known) (differing_count alike old.known)) (sym was)
       (subst (λ w. sum_of beyond w (stale_count new.known) (differing_count alike new.known) + 1 ≤ sum_of beyond y (stale_count old.known) (differing_count alike old.known)) (sym is) less)
 
-  pub turns_are_bounded : (s : Resolving A) → ((place : Option Network) → beyond place ≤ beyond None) → turns_left alike beyond s ≤ len s.known + 2 * (beyond None + 1)
-  turns_are_bounded s most =
-      let k = known_count is_stale_at s.known in
-      let m = at_most beyond (is_needed (is_some s.walk) (stale_count s.known) (differing_count alike s.known)) in
-      let w = walk_most s.walk in
-      omega (arith, k, m, w)
+  pub turns_are_bounded : (s : Resolving A) → ((place : Option Network) → beyond place ≤ beyond None) → IsBounded A alike beyond s
+  turns_are_bounded s most = record {
+    turns =
+        let m = at_most beyond (is_needed (is_some s.walk) (stale_count s.known) (differing_count alike s.known)) in
+        let w = walk_most s.walk in
+        omega (arith, m, w);
+    stale = known_count is_stale_at s.known;
+  }
     where
       walk_most : (walk : Option (Option Network)) → walk_turns beyond walk ≤ beyond None + 1
       walk_most None = omega arith
@@ -201,6 +206,48 @@ module _ {A : Type 0} (alike : A → A → Bool) (beyond : Option Network → �
       settled_all = counts_settled alike tells s.known (sum_differs beyond s.walk (stale_count s.known) (differing_count alike s.known) z);
     },
   )
+
+  -- and without work
+  pub none_left_without_work : (s : Resolving A) → (is_busy alike s ≡ false) ↔ (turns_left alike beyond s ≡ 0)
+  unfolding sum_of
+  none_left_without_work s = (
+    λ idle.
+        let walk = or_parts (is_some s.walk) _ idle in
+        let rest = or_parts (nat_lt 0 (stale_count s.known)) _ walk.1 in
+        rest_sum beyond s.walk (stale_count s.known) (differing_count alike s.known) (none_of s.walk walk.0) (lt_none _ rest.0) (lt_none _ rest.1),
+    λ z.
+        let stale = sum_stale beyond s.walk (stale_count s.known) (differing_count alike s.known) z in
+        let differs = sum_differs beyond s.walk (stale_count s.known) (differing_count alike s.known) z in
+        or_from (is_some s.walk) _ (ap is_some (sum_off beyond s.walk (stale_count s.known) (differing_count alike s.known) z))
+        (or_from (nat_lt 0 (stale_count s.known)) _ (lt_not 0 _ (omega (arith, stale))) (lt_not 0 _ (omega (arith, differs)))),
+  )
+
+-- ---- whether there is work
+module _ {A : Type 0} (alike : A → A → Bool) where
+  pub rests_idle : (s : Resolving A) → TellsAlike alike → Rests s → is_busy alike s ≡ false
+  rests_idle s tells rests = (none_left_without_work alike (λ _. 0) s).1 ((none_left_at_rest alike (λ _. 0) s tells).0 rests)
+
+  pub idle_rests : (s : Resolving A) → TellsAlike alike → is_busy alike s ≡ false → Rests s
+  idle_rests s tells idle = (none_left_at_rest alike (λ _. 0) s tells).1 ((none_left_without_work alike (λ _. 0) s).0 idle)
+
+  pub busy_is : (b : Bool) (s : Resolving A) → TellsAlike alike → MatchBool b (HasWork s) (Rests s) → b ≡ is_busy alike s
+  busy_is true s tells work = sym (true_from_ne_false (is_busy alike s) (λ idle. never_both s work (idle_rests s tells idle)))
+  busy_is false s tells rests = sym (rests_idle s tells rests)
+
+  -- ---- fewer candidates
+  pub left_follows : (before now : Option Network → ℕ) (s : Resolving A) → ((place : Option Network) → now place ≤ before place) → turns_left alike now s ≤ turns_left alike before s
+  left_follows before now s less =
+      let w = fewer_walk s.walk in
+      let n = fewer_next (is_needed (is_some s.walk) (stale_count s.known) (differing_count alike s.known)) in
+      omega (arith, w, n)
+    where
+      fewer_walk : (walk : Option (Option Network)) → walk_turns now walk ≤ walk_turns before walk
+      fewer_walk None = omega arith
+      fewer_walk (Some place) = let le = less place in omega (arith, le)
+
+      fewer_next : (b : Bool) → next_walk now b ≤ next_walk before b
+      fewer_next true = let le = less None in omega (arith, le)
+      fewer_next false = omega arith
 
 -- ---- the walk, as the turns of functions tell it
 module _ {A : Type 0} where

@@ -2,7 +2,10 @@ pub mod AskLemmas
 pub mod MoveLemmas
 pub mod RowLemmas
 pub mod TurnLemmas
-pub mod PendLemmas
+pub mod AgreeLemmas
+pub mod ReachLemmas
+pub mod FewLemmas
+pub mod AlikeLemmas
 pub mod LeftLemmas
 pub mod WorkLemmas
 pub mod HeldLemmas

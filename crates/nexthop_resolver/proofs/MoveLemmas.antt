@@ -11,10 +11,16 @@ use Rattle.link_change.proofs.MapLemmas.{get_at, get_apart, removed_at, removed_
 use Rattle.nexthop_known.specs.declared.answer.Hop.{Hop}
 use Rattle.nexthop_known.specs.Hops.{Hops, renewed, staled, IsMapped, IsRenewed}
 use Rattle.nexthop_known.specs.Counts.{Counts, counted, one_more, one_less, one_less_of, is_one, once, Recounts}
+use Rattle.nexthop_known.proofs.StaleLemmas.{same_len}
 use Rattle.nexthop_known.proofs.CountLemmas.{one_more_counts, one_less_counts, one_for_another, more_and_less}
 use Rattle.nexthop_resolver.specs.Resolving.{Resolving, AreNamed}
 use Rattle.nexthop_resolver.specs.Takes.{KeepsOnly, KeepsOrLearns, Moves, Keeps}
 use Rattle.nexthop_resolver.proofs.AskLemmas.{none_of}
+
+-- by a test, with what it came to
+pub by_bool : (b : Bool) (P : Bool → Type 0) → (b ≡ true → P true) → (b ≡ false → P false) → P b
+by_bool true P yes_so no_so = yes_so refl
+by_bool false P yes_so no_so = no_so refl
 
 pub same_some : {X : Type 0} (x y : X) → Some x ≡ Some y → x ≡ y
 same_some x y e = cc
@@ -42,6 +48,14 @@ same_hops (Some a) None e = absurd (let clash : false ≡ true = e in cc)
 same_hops (Some a) (Some b) e = ap Some (eqb-true a b e)
 
 module _ {A : Type 0} where
+  -- what is known is changed, and as many are known
+  pub mapped_there : (f : Hop A → Hop A) (o : Option (Hop A)) → is_some (option_map f o) ≡ is_some o
+  mapped_there f None = refl
+  mapped_there f (Some h) = refl
+
+  pub mapped_len : (f : Hop A → Hop A) (old new : Hops A) → IsMapped f old new → map.len new ≡ map.len old
+  mapped_len f old new is = same_len new old (λ q. ap is_some (is q) ∙ mapped_there f (get old q))
+
   abbrev with_parts : ℕ → Counts → Hops A → Option (Option Network) → Resolving A
   with_parts client counts known walk = record { client = client; counts = counts; known = known; walk = walk }
 

@@ -16,7 +16,7 @@ use Rattle.pass_core.specs.Split.{MakesNone}
 use Rattle.pass_core.specs.Turns.{passed}
 use Rattle.pass_core.proofs.TurnLemmas.{passed_is_covered}
 use Rattle.nexthop_known.specs.declared.answer.Hop.{Hop}
-use Rattle.nexthop_known.specs.Hops.{Hops, staled}
+use Rattle.nexthop_known.specs.Hops.{Hops, staled, IsMapped}
 use Rattle.nexthop_known.specs.Counts.{AreCounted, Recounts}
 use Rattle.nexthop_known.proofs.CountLemmas.{counts_follow, named_is_counted}
 use Rattle.nexthop_resolver.specs.Resolving.{Resolving, Answers, AreNamed, nothing_known, in_force_by, fresh_by, walk_to, passes, is_in_force, made_by, goes_on, resolved, res_rows, named_by}
@@ -120,20 +120,21 @@ module _ {A R L : Type 0} (hop : R → ℕ) (made : R → A → Option L) where
       (subst (λ k. TakesOver hop made old new upper (with_row upper change.prefix change.after) k sent) led.0
       (takes_over told_now old new named named_now upper change.prefix change.before change.after led.1.0 counted moves sent told_is))
 
-  -- ---- where answers become stale, and at first
-  same_told : (s : Network) (b : Bool) (o : Option (Hop A)) → told b (option_map (staled s) o) ≡ told b o
-  same_told s b None = refl
-  same_told s true (Some h) = refl
-  same_told s false (Some h) = refl
+  -- ---- where what is known changes, and no answer does
+  module _ (f : Hop A → Hop A) (in_force : (h : Hop A) → (f h).in_force ≡ h.in_force) (fresh : (h : Hop A) → (f h).fresh ≡ h.fresh) where
+    same_told : (b : Bool) (o : Option (Hop A)) → told b (option_map f o) ≡ told b o
+    same_told b None = refl
+    same_told true (Some h) = ap Some (in_force h)
+    same_told false (Some h) = ap Some (fresh h)
 
-  stale_answer : (s : Network) (old new : Resolving A) (q : Network) (a : ℕ) → Invalidates s old new → function_at (passes new) q a ≡ function_at (passes old) q a
-  stale_answer s old new q a is =
-      holds_at new.known new.walk q a ∙ (λ i. told (is_in_force (is.walk i) q) (is.known a i)) ∙ same_told s (is_in_force old.walk q) (get old.known a)
-      ∙ sym (holds_at old.known old.walk q a)
+    pub mapping_keeps_rows : (upper : Rows R) (old new : Resolving A) → new.walk ≡ old.walk → IsMapped f old.known new.known → res_rows hop made new upper ≡ res_rows hop made old upper
+    mapping_keeps_rows upper old new walk known = same_function _ _ (λ q.
+        same_row (function_at (passes new) q) (function_at (passes old) q) (upper q) (λ a _.
+        holds_at new.known new.walk q a ∙ (λ i. told (is_in_force (walk i) q) (known a i)) ∙ same_told (is_in_force old.walk q) (get old.known a)
+        ∙ sym (holds_at old.known old.walk q a)))
 
   pub invalidating_keeps_rows : (upper : Rows R) (s : Network) (old new : Resolving A) → Invalidates s old new → res_rows hop made new upper ≡ res_rows hop made old upper
-  invalidating_keeps_rows upper s old new is = same_function _ _ (λ q.
-      same_row (function_at (passes new) q) (function_at (passes old) q) (upper q) (λ a _. stale_answer s old new q a is))
+  invalidating_keeps_rows upper s old new is = mapping_keeps_rows (staled s) (λ h. refl) (λ h. refl) upper old new is.walk is.known
 
   pub no_rows_at_first : (client : ℕ) → res_rows hop made (nothing_known {A = A} client) no_rows ≡ no_rows
   no_rows_at_first client = refl

@@ -1,7 +1,7 @@
 -- One turn of a resolver's task.
-use Rattle.std.proofs.Common.{◌≡◌, ℕ, true, false, cond, refl, sym, ap, ◌∙◌, subst, inl, inr, Option, Some, None, is_some, Result, Ok, Err, IfOk, OnErr}
+use Rattle.std.proofs.Common.{◌≡◌, ℕ, ◌+◌, Bool, true, false, cond, refl, sym, ap, ◌∙◌, subst, inl, inr, Option, Some, None, is_some, Result, Ok, Err, IfOk, OnErr}
 use Rattle.std.specs.Option.{option_map}
-use Rattle.std.specs.FinMap.{get, insert, nat_cmp-IsAntisymmetric}
+use Rattle.std.specs.FinMap.{get, insert, len-insert, nat_cmp-IsAntisymmetric}
 use Rattle.std.specs.FinMap as map
 use Rattle.std.proofs.lemmas.Bool.{cases_eq}
 use Rattle.std.specs.Cmp.{nat_cmp_total}
@@ -23,19 +23,23 @@ use Rattle.pass_core.proofs.SplitLemmas.{at_itself, beyond_so}
 use Rattle.pass_core.proofs.TurnLemmas as walks
 use Rattle.nexthop_known.specs.declared.answer.Hop.{Hop}
 use Rattle.nexthop_known.specs.Hops.{Hops, settled, renewed, IsMapped, IsLeastStale, IsDiffering, IsRenewed}
-use Rattle.nexthop_known.specs.Counts.{Counts, AreCounted}
+use Rattle.nexthop_known.specs.Counts.{Counts}
 use Rattle.nexthop_known.proofs.AgreeLemmas.{settled_agrees}
-use Rattle.nexthop_known.proofs.CountLemmas.{named_is_counted}
-use Rattle.nexthop_resolver.specs.Resolving.{Resolving, Answers, AreNamed, in_force_by, fresh_by, walk_to, passes, at_place, begun, made_by, goes_on, resolved, res_rows, named_by}
+use Rattle.nexthop_resolver.specs.Resolving.{Resolving, Answers, in_force_by, fresh_by, walk_to, passes, at_place, begun, goes_on, resolved, res_rows}
 use Rattle.nexthop_resolver.specs.Registered.{answer_of, interest_of, Agrees, Renews}
-use Rattle.nexthop_resolver.specs.Turns.{KnownAfter, Rests, Steps, IsStep, Asks, Turned, IsTurn}
-use Rattle.nexthop_resolver.proofs.AskLemmas.{some_of}
+use Rattle.nexthop_resolver.specs.Turns.{KnownAfter, Steps, IsStep, Asks, Turned, IsTurn}
+use Rattle.nexthop_resolver.proofs.MoveLemmas.{mapped_len}
 use Rattle.nexthop_resolver.proofs.RowLemmas.{makes_none}
 
 module _ {A : Type 0} where
   settled_force : (o : Option (Hop A)) → option_map (λ h. h.in_force) (option_map settled o) ≡ option_map (λ h. h.fresh) o
   settled_force None = refl
   settled_force (Some h) = refl
+
+  -- as many are known
+  as_many_after : (walk : Option (Option Network)) (old new : Hops A) → KnownAfter walk old new → map.len new ≡ map.len old
+  as_many_after (Some place) old new is = ap (λ (m : Hops A). map.len m) is
+  as_many_after None old new is = mapped_len settled old new is
 
   -- when the fresh answers come into force they are those in force
   pub settled_answers : (old new : Hops A) → IsMapped settled old new → in_force_by new ≡ fresh_by old
@@ -189,3 +193,21 @@ module _ {A R L : Type 0} (hop : R → ℕ) (made : R → A → Option L) (candi
     turn_leads old new Nothing t = ap (λ s. res_rows hop made s upper) t.1
     turn_leads old new Quiet t = turned_leads old new None t
     turn_leads old new (Sent change) t = turned_leads old new (Some change) t
+
+    -- ---- what a turn keeps
+    pub turned_client : (old new : Resolving A) (sent : Option (Change L)) → Turned hop made candidates upper kept was is old new sent → new.client ≡ old.client
+    turned_client old new sent (inl goes) = goes.steps.client
+    turned_client old new sent (inr (inl asks)) = asks.client
+    turned_client old new sent (inr (inr begins)) = begins.steps.client
+
+    pub turned_counts : (old new : Resolving A) (sent : Option (Change L)) → Turned hop made candidates upper kept was is old new sent → new.counts ≡ old.counts
+    turned_counts old new sent (inl goes) = goes.steps.counts
+    turned_counts old new sent (inr (inl asks)) = asks.counts
+    turned_counts old new sent (inr (inr begins)) = begins.steps.counts
+
+    pub turned_known : (old new : Resolving A) (sent : Option (Change L)) → Turned hop made candidates upper kept was is old new sent → map.len new.known ≡ map.len old.known
+    turned_known old new sent (inl goes) = as_many_after new.walk old.known new.known goes.steps.known
+    turned_known old new sent (inr (inl asks)) =
+        ap (λ (m : Hops A). map.len m) asks.renews.1 ∙ len-insert nat_cmp_total old.known asks.next_hop _
+        ∙ ap (λ (b : Bool). cond b (map.len old.known) (map.len old.known + 1)) (ap is_some asks.least.0.1)
+    turned_known old new sent (inr (inr begins)) = as_many_after new.walk old.known new.known begins.steps.known

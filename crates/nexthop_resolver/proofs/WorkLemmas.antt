@@ -10,6 +10,7 @@ use Rattle.nexthop_known.specs.Hops.{is_stale_at, IsLeastStale, IsSettled, IsSet
 use Rattle.nexthop_resolver.specs.Resolving.{Resolving, is_in_force}
 use Rattle.nexthop_resolver.specs.Turns.{Rests, HasWork}
 use Rattle.nexthop_resolver.specs.Left.{TellsAlike, differs_at, hop_lags}
+use Rattle.nexthop_resolver.proofs.AskLemmas.{none_of}
 
 pub walk_off : (walk : Option Place) (b : Bool) → b ≡ is_some walk → b ≡ false → option_map key_of walk ≡ None
 walk_off None b is e = refl
@@ -39,6 +40,19 @@ module _ {A : Type 0} where
       → MatchBool b (IsDiffering (map.get s.known)) (IsSettled (map.get s.known)) → MatchBool b (HasWork s) (Rests s)
   work_or_rest s true off none differs = inr (inr differs)
   work_or_rest s false off none settled = record { off = off; none_stale = none; settled_all = settled }
+
+  stale_hop : (o : Option (Hop A)) → is_stale_at o ≡ true → (h : Hop A) × (o ≡ Some h) × (h.came ≡ None)
+  stale_hop None e = absurd (let clash : false ≡ true = e in cc)
+  stale_hop (Some h) e = (h, refl, none_of h.came (not_true (is_some h.came) e))
+    where
+      not_true : (b : Bool) → not b ≡ true → b ≡ false
+      not_true true e = absurd (let clash : false ≡ true = e in cc)
+      not_true false e = refl
+
+  pub never_both : (s : Resolving A) → HasWork s → Rests s → ⊥
+  never_both s (inl on) rests = let off = rests.off in cc
+  never_both s (inr (inl stale)) rests = let h = stale_hop (map.get s.known stale.0) stale.1 in rests.none_stale stale.0 h.0 h.1 h.2
+  never_both s (inr (inr differs)) rests = differs.3 (rests.settled_all differs.0 differs.1 differs.2)
 
 -- ---- whether a next hop lags at a prefix
 module _ {A : Type 0} (alike : A → A → Bool) (s : Resolving A) (q : Network) (a : ℕ) where

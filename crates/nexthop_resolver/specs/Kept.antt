@@ -1,5 +1,7 @@
 -- What is kept of the longest interior route that holds a next hop, and what rows go on as by it.
-use Rattle.std.specs.Prelude.{ℕ, Option, Some, None}
+use Rattle.std.specs.Prelude.{ℕ, ◌==◌, ◌&&◌, Bool, Option, Some, None}
+use Rattle.std.specs.Option.{option_eq}
+use Rattle.std.specs.Str.{bytes_eq}
 use Rattle.addr4.specs.Prefixes.{Network}
 use Rattle.bgp_attr.specs.declared.route.Route.{Route}
 use Rattle.rib_route.specs.Distances.{external_proto}
@@ -27,6 +29,10 @@ with_igp r (Some metric) = Some (record r { igp = Some metric })
 abbrev pub with_metric : Route → Metric → Option Route
 with_metric r m = with_igp r m.igp
 
+-- whether two are the same
+abbrev pub same_metric : Metric → Metric → Bool
+same_metric x y = option_eq ◌==◌ x.igp y.igp
+
 -- ---- an external route, as what packets are forwarded by
 abbrev pub external_hop : External → ℕ
 external_hop r = r.next_hop
@@ -47,3 +53,10 @@ over_outlet r (Some o) = Some (record { proto = external_proto r; gateway = Some
 
 abbrev pub over : External → Way → Option FibRow
 over r w = over_outlet r w.outlet
+
+-- whether two are the same
+abbrev pub same_outlet : Outlet → Outlet → Bool
+same_outlet x y = option_eq ◌==◌ x.gateway y.gateway && bytes_eq x.iface y.iface
+
+abbrev pub same_way : Way → Way → Bool
+same_way x y = option_eq same_outlet x.outlet y.outlet

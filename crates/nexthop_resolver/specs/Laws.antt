@@ -1,5 +1,6 @@
 -- Laws of resolvers, for the crates above.
-use Rattle.std.specs.Prelude.{◌≡◌, ◌≢◌, ◌↔◌, ℕ, ◌+◌, ◌*◌, ◌≤◌, Bool, false, List, [], ◌∷◌, Option, Some, None}
+use Rattle.std.specs.Prelude.{◌≡◌, ◌≢◌, ◌↔◌, ℕ, ◌+◌, ◌*◌, ◌≤◌, Bool, false, List, [], ◌∷◌, ◌++◌, length, Option, Some, None, IsSome}
+use Rattle.std.specs.List.{Contains}
 use Rattle.std.specs.Option.{option_map}
 use Rattle.std.specs.FinMap as map
 use Rattle.addr4.specs.Prefixes.{Network}
@@ -11,13 +12,16 @@ use Rattle.rib_route.specs.declared.rows.Interior.{Interior}
 use Rattle.register_interest.specs.declared.interests.Interest.{Interest}
 use Rattle.register_interest.specs.Interests.{without}
 use Rattle.register_interest.specs.Registers.{Registry, KeepsAnswers}
+use Rattle.nexthop_known.specs.Hops.{stale_count}
 use Rattle.nexthop_known.specs.Counts.{AreCounted}
+use Rattle.nexthop_resolver.specs.Kept.{same_metric, same_way}
 use Rattle.nexthop_resolver.specs.Resolving.{Resolving, AreNamed, nothing_known, named_by, goes_on, res_rows}
-use Rattle.nexthop_resolver.specs.Registered.{Agrees, Pends, answer_of, interest_of, KeepsOthers}
+use Rattle.nexthop_resolver.specs.Registered.{Agrees, answer_of, interest_of, KeepsOthers}
 use Rattle.nexthop_resolver.specs.Takes.{Invalidates}
+use Rattle.nexthop_resolver.specs.Reached.{IsReached, IsReachedBy}
 use Rattle.nexthop_resolver.specs.Turns.{Rests, Turned, IsTurn}
 use Rattle.pass_core.specs.Left.{CountsBeyond}
-use Rattle.nexthop_resolver.specs.Left.{TellsAlike, hop_lags, turns_left}
+use Rattle.nexthop_resolver.specs.Left.{TellsAlike, hop_lags, is_busy, turns_left}
 
 module _ (A R L : Type 0) where
   -- What a turn sends leads from the rows below before it to those after it.
@@ -31,6 +35,11 @@ module _ (A R L : Type 0) where
   abbrev pub InvalidatingKeepsRows : Type 0
   InvalidatingKeepsRows =
       (hop : R → ℕ) (made : R → A → Option L) (upper : Rows R) (s : Network) (old new : Resolving A) → Invalidates s old new
+      → res_rows hop made new upper ≡ res_rows hop made old upper
+
+  abbrev pub ReachedKeepsRows : Type 0
+  ReachedKeepsRows =
+      (hop : R → ℕ) (made : R → A → Option L) (upper : Rows R) (out : List Interest) (k : ℕ) (old new : Resolving A) → IsReached out k old new
       → res_rows hop made new upper ≡ res_rows hop made old upper
 
   -- At a prefix that no next hop holds up, the row below is the one that the register's answer makes. (The test tells equal answers.)
@@ -70,34 +79,63 @@ module _ (A : Type 0) where
       (kept : Option (Network × Interior) → A) (client other : ℕ) (s : Resolving A) (was is : Registry Interior) → client ≢ other → KeepsOthers other was is
       → Agrees kept client s.known was → Agrees kept client s.known is
 
-  -- After a change of the interior routes some agreement waits for the interests that were given up,
-  abbrev pub ChangePends : Type 0
-  ChangePends =
-      (kept : Option (Network × Interior) → A) (s : Resolving A) (was is : Registry Interior) (out : List Interest) → Agrees kept s.client s.known was
-      → is.interests ≡ without was.interests out → KeepsAnswers was is → Pends kept s.client s.known is out
+  -- After a change of the interior routes a resolver agrees again once the answers that came with the interests that were given up are
+  -- stale.
+  abbrev pub ReachedAgrees : Type 0
+  ReachedAgrees =
+      (kept : Option (Network × Interior) → A) (k : ℕ) (out : List Interest) (was is : Registry Interior) (old new : Resolving A) → old.client ≡ k
+      → Agrees kept old.client old.known was → is.interests ≡ without was.interests out → KeepsAnswers was is → IsReached out k old new
+      → Agrees kept new.client new.known is
 
-  -- for one less where its subnet is invalidated, or it is another client's,
-  abbrev pub InvalidatedPends : Type 0
-  InvalidatedPends =
-      (kept : Option (Network × Interior) → A) (old new : Resolving A) (r : Registry Interior) (k : Interest) (out : List Interest)
-      → Pends kept old.client old.known r (k ∷ out) → k.client ≡ old.client → Invalidates k.subnet old new → Pends kept new.client new.known r out
+  -- Of no interests nothing becomes stale; and of these and one more, what becomes stale of these and then of that one.
+  abbrev pub ReachedByNone : Type 0
+  ReachedByNone = (k : ℕ) (s : Resolving A) → IsReached [] k s s
 
-  abbrev pub OthersPend : Type 0
-  OthersPend =
-      (kept : Option (Network × Interior) → A) (s : Resolving A) (r : Registry Interior) (k : Interest) (out : List Interest)
-      → Pends kept s.client s.known r (k ∷ out) → k.client ≢ s.client → Pends kept s.client s.known r out
+  abbrev pub ReachedThen : Type 0
+  ReachedThen =
+      (out : List Interest) (i : Interest) (k : ℕ) (old mid new : Resolving A) → IsReached out k old mid → IsReachedBy i k mid new
+      → IsReached (out ++ i ∷ []) k old new
 
-  -- and for none at the end.
-  abbrev pub NonePends : Type 0
-  NonePends = (kept : Option (Network × Interior) → A) (s : Resolving A) (r : Registry Interior) → Pends kept s.client s.known r [] → Agrees kept s.client s.known r
+  -- As many next hops are known, exactly those that rows name.
+  abbrev pub ReachedAreKnown : Type 0
+  ReachedAreKnown =
+      (out : List Interest) (k : ℕ) (old new : Resolving A) → IsReached out k old new
+      → (map.len new.known ≡ map.len old.known) × (AreNamed old.counts old.known → AreNamed new.counts new.known)
 
   -- No turn is left exactly where there is nothing to do.
   abbrev pub NoneLeftAtRest : Type 0
   NoneLeftAtRest =
       (alike : A → A → Bool) (beyond : Option Network → ℕ) (s : Resolving A) → TellsAlike alike → Rests s ↔ (turns_left alike beyond s ≡ 0)
 
-  -- Whatever becomes stale, no more turns are left than one for each next hop, and two walks.
+  -- And so exactly without work.
+  abbrev pub NoneLeftWithoutWork : Type 0
+  NoneLeftWithoutWork =
+      (alike : A → A → Bool) (beyond : Option Network → ℕ) (s : Resolving A) → (is_busy alike s ≡ false) ↔ (turns_left alike beyond s ≡ 0)
+
+  -- No more turns are left than one for each stale next hop, of which there are no more than known ones, and two walks.
+  pub record IsBounded (alike : A → A → Bool) (beyond : Option Network → ℕ) (s : Resolving A) : Type 0 where
+    pub turns : turns_left alike beyond s ≤ 2 * (beyond None + 1) + stale_count s.known
+    pub stale : stale_count s.known ≤ map.len s.known
+
   abbrev pub TurnsAreBounded : Type 0
   TurnsAreBounded =
       (alike : A → A → Bool) (beyond : Option Network → ℕ) (s : Resolving A) → ((place : Option Network) → beyond place ≤ beyond None)
-      → turns_left alike beyond s ≤ map.len s.known + 2 * (beyond None + 1)
+      → IsBounded alike beyond s
+
+  -- Where no more candidates lie beyond any place than before, no more turns are left.
+  abbrev pub LeftFollows : Type 0
+  LeftFollows =
+      (alike : A → A → Bool) (before now : Option Network → ℕ) (s : Resolving A) → ((place : Option Network) → now place ≤ before place)
+      → turns_left alike now s ≤ turns_left alike before s
+
+module _ (A R : Type 0) where
+  -- No more next hops are known than rows name them: than the prefixes of a list that has the prefix of each row above.
+  abbrev pub KnownAreFew : Type 0
+  KnownAreFew =
+      (hop : R → ℕ) (upper : Rows R) (s : Resolving A) (prefixes : List Network) → AreNamed s.counts s.known → AreCounted (named_by hop upper) s.counts
+      → ((q : Network) → IsSome (upper q) → Contains prefixes q) → map.len s.known ≤ length prefixes
+
+-- The tests of answers tell equal ones.
+pub record AnswersAreTold : Type 0 where
+  pub metrics : TellsAlike same_metric
+  pub ways : TellsAlike same_way

@@ -1,6 +1,6 @@
 -- How many turns a resolver's task takes, if nothing else happens. How many candidates lie beyond a place is an argument, and so is the
 -- test for equal answers.
-use Rattle.std.specs.Prelude.{◌≡◌, ◌↔◌, ℕ, ◌+◌, ◌<◌, ◌≤◌, nat_lt, not, ◌||◌, ◌&&◌, Bool, true, false, is_some, Option, Some, None}
+use Rattle.std.specs.Prelude.{◌≡◌, ◌↔◌, ℕ, ◌+◌, nat_lt, not, ◌||◌, ◌&&◌, Bool, true, false, is_some, Option, Some, None}
 use Rattle.std.specs.FinMap as map
 use Rattle.addr4.specs.Prefixes.{Network}
 use Rattle.nexthop_known.specs.declared.answer.Hop.{Hop}
@@ -41,6 +41,10 @@ module _ {A : Type 0} (alike : A → A → Bool) where
   -- how many have fresh answers that aren't in force
   abbrev pub differing_count : Hops A → ℕ
   differing_count hops = count_of differs_at hops
+
+  -- whether there is something to do: a walk is on, a next hop is stale, or a fresh answer isn't in force
+  abbrev pub is_busy : Resolving A → Bool
+  is_busy s = is_some s.walk || (nat_lt 0 (stale_count s.known) || nat_lt 0 (differing_count s.known))
 
   -- the turns of the walk, one for each stale next hop, and those of a walk more where the answers may differ then
   abbrev pub turns_left : (Option Network → ℕ) → Resolving A → ℕ

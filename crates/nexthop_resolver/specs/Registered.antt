@@ -1,6 +1,5 @@
 -- What ties a resolver to the register.
-use Rattle.std.specs.Prelude.{◌≡◌, ◌≢◌, ◌⊎◌, ℕ, Bool, true, List, Option, Some, None}
-use Rattle.std.specs.List.{Contains}
+use Rattle.std.specs.Prelude.{◌≡◌, ◌≢◌, ℕ, Bool, true, Option, Some}
 use Rattle.std.specs.FinMap as map
 use Rattle.addr4.specs.Prefixes.{Network}
 use Rattle.link_change.specs.Rows.{Rows}
@@ -11,7 +10,7 @@ use Rattle.register_interest.specs.declared.interests.Interest.{Interest}
 use Rattle.register_interest.specs.Registers.{Registry}
 use Rattle.nexthop_known.specs.declared.answer.Hop.{Hop}
 use Rattle.nexthop_known.specs.Hops.{Hops, IsRenewed, learnt}
-use Rattle.nexthop_known.specs.Agreement.{Agree, IsPresent, AreWanted, IsInterestIn}
+use Rattle.nexthop_known.specs.Agreement.{Agree, IsInterestIn}
 
 -- the subnets in which a client has an interest
 abbrev pub interest_of : {R : Type 0} → ℕ → Registry R → Network → Bool
@@ -60,12 +59,3 @@ module _ {A : Type 0} (kept : Option (Network × Interior) → A) where
   -- a stale one has it as its fresh answer
   abbrev pub Renews : Registry Interior → Hops A → Hops A → ℕ → Type 0
   Renews r old new a = (s : Network) × IsRenewed old new a s (answer_of r a) × IsLargest (map.get r.rows) a s
-
-  -- ---- after a change of the interior routes
-  -- Each next hop that isn't stale has the present answer, or its interest was given up and is still listed; and each interest that is
-  -- kept is one with which the answer of such a next hop came.
-  pub record Pends (client : ℕ) (known : Hops A) (r : Registry Interior) (out : List Interest) : Type 0 where
-    pub pending : (a : ℕ) (h : Hop A) (s : Network) → map.get known a ≡ Some h → h.came ≡ Some s
-        → IsPresent (answer_of r) (interest_of client r) a h s ⊎ Contains out (record { subnet = s; client = client })
-    pub given_up : (k : Interest) → Contains out k → map.get r.interests k ≡ None
-    pub wanted : AreWanted (interest_of client r) (map.get known)

@@ -12,7 +12,7 @@ use Rattle.link_change.proofs.RowLemmas.{with_row_here}
 use Rattle.rib_route.specs.declared.rows.Interior.{Interior}
 use Rattle.rib_route.specs.declared.rows.External.{External}
 use Rattle.rib_route.specs.declared.rows.FibRow.{FibRow}
-use Rattle.register_interest.specs.Registers.{Registry}
+use Rattle.register_interest.specs.Registers.{Registry, AllStand as MatchesStand}
 use Rattle.nexthop_known.specs.Counts.{AreCounted}
 use Rattle.nexthop_resolver.specs.declared.rows.Way.{Way}
 use Rattle.nexthop_resolver.specs.Kept.{external_hop, way_of}
@@ -219,11 +219,12 @@ module _ (int : Rows Interior) (was is : Registry Interior) (e : RibExit) (s' : 
   e' = record { splitter = s'; forwarding = hops' }
 
   pub agreed : IsExit e → hops'.client ≡ e.forwarding.client → AreNamed hops'.counts hops'.known → Agrees way_of hops'.client hops'.known is → KeepsOthers e.forwarding.client was is
-      → KeepsAgreed was is e'
-  agreed sound client named agree others = record {
+      → MatchesStand is → KeepsAgreed was is e'
+  agreed sound client named agree others stand = record {
     sound = record { client = client ∙ sound.client; named = named };
     agree = agree;
     others = subst (λ (n : ℕ). KeepsOthers n was is) sound.client others;
+    stands = stand;
   }
 
   falls_on : (p : Network) (split : Split) (first second : Caused) (entries : List (Entry Value)) (best now : Rows Route) → Splits (split_rows best) (split_rows now) p split
@@ -292,9 +293,9 @@ module _ (int : Rows Interior) (was is : Registry Interior) (e : RibExit) (s' : 
         )
 
 -- nothing goes on
-pub takes_neither : (int : Rows Interior) (was : Registry Interior) (e : RibExit) (s' : Splitter) (change : Change Route) (before : Journaled) → IsExit e → AgreesWith e was
+pub takes_neither : (int : Rows Interior) (was : Registry Interior) (e : RibExit) (s' : Splitter) (change : Change Route) (before : Journaled) → IsExit e → AgreesWith e was → MatchesStand was
     → SplitsOn e.splitter s' change Neither → Adds (TakesExternal change int None was was e (record { splitter = s'; forwarding = e.forwarding })) before before
-takes_neither int was e s' change before sound agree law = (
+takes_neither int was e s' change before sound agree stand law = (
   [],
   sym (with_entries_none before),
   record {
@@ -303,7 +304,7 @@ takes_neither int was e s' change before sound agree law = (
     second = nothing_caused;
     lines = refl;
     comes = refl;
-    agreed = agreed int was was e s' e.forwarding sound refl sound.named agree (keeps_all e.forwarding.client was);
+    agreed = agreed int was was e s' e.forwarding sound refl sound.named agree (keeps_all e.forwarding.client was) stand;
     goes = λ best now p stands led.
         let l = law best now p led stands.links in
         falls_on int was was e s' e.forwarding p Neither nothing_caused nothing_caused [] best now l.0 stands.links l.1

@@ -15,13 +15,15 @@ use Rattle.nexthop_known.specs.declared.answer.Hop.{Hop}
 use Rattle.nexthop_known.specs.Counts.{AreCounted}
 use Rattle.nexthop_known.proofs.CountLemmas.{nothing_is_counted}
 use Rattle.nexthop_resolver.specs.declared.rows.Way.{Way}
-use Rattle.nexthop_resolver.specs.Kept.{external_hop, over, way_of}
+use Rattle.nexthop_resolver.specs.Kept.{external_hop, over, way_of, same_way}
 use Rattle.nexthop_resolver.specs.Resolving.{nothing_known, named_by}
 use Rattle.nexthop_resolver.specs.Turns.{Rests}
 use Rattle.nexthop_resolver.proofs.HeldLemmas.{none_held_up_at_rest}
-use Rattle.nexthop_resolver.proofs.MoveLemmas.{same_some, clash_some}
+use Rattle.nexthop_resolver.proofs.MoveLemmas.{by_bool, same_some, clash_some}
 use Rattle.nexthop_resolver.proofs.RowLemmas.{no_rows_at_first}
-use Rattle.nexthop_resolver.proofs.PendLemmas.{nothing_yet as none_asked, others_agree}
+use Rattle.nexthop_resolver.proofs.AlikeLemmas.{tells_ways}
+use Rattle.nexthop_resolver.proofs.LeftLemmas.{rests_idle, idle_rests}
+use Rattle.nexthop_resolver.proofs.AgreeLemmas.{nothing_yet as none_asked, others_agree}
 use Rattle.rib_split.specs.declared.split.BgpLink.TheVariants as sides
 use Rattle.rib_split.specs.Splitting.{Parted, external_row, on_link}
 use Rattle.rib_split.specs.Laws.{merged_links}
@@ -34,11 +36,11 @@ use Rattle.journal_text.specs.declared.link.Link.TheVariants.{Ebgp, Ibgp, Ext, F
 use Rattle.journal_text.specs.declared.value.Value.{Value}
 use Rattle.journal_text.specs.Walk.{Links, Leads, fold_links, no_links}
 use Rattle.journal_text.specs.Values.{fib_rows}
-use Rattle.rib_exit.specs.Exits.{nothing_yet, same_way, ext_rows, external_rows, exit_links, is_exit_link, beside}
+use Rattle.rib_exit.specs.Exits.{nothing_yet, ext_rows, external_rows, exit_links, is_exit_link, beside}
 use Rattle.rib_exit.specs.Passing.{external_distance}
 use Rattle.rib_exit.specs.Steps.{LeadsExit, begin_entries}
 use Rattle.rib_exit.specs.Laws.{StandsAtFirst, LeadsAnywhere, ExtIsOfBest, ExactUnlessHeldUp, NoneHeldUpWithoutWork, StrangersAgree, CandidatesAreOfBest}
-use Rattle.rib_exit.proofs.BusyLemmas.{by_bool, tells_ways, idle_rests, rests_idle, none_left_without_work}
+use Rattle.rib_exit.proofs.BusyLemmas.{none_left_without_work}
 
 -- what holds at any rate
 pub on_ok : {X E : Type 0} (r : Result X E) (P : Type 0) → P → OnOk r P
@@ -91,7 +93,7 @@ stands_at_first = record {
   stands = record { links = tables_begin_empty; counted = none_named };
   agree = λ r none. none_asked way_of 0 r none;
   known = len-empty nat_cmp _;
-  left = λ beyond. (none_left_without_work nothing_yet beyond).0 (rests_idle (nothing_known 0) nothing_rests);
+  left = λ beyond. (none_left_without_work nothing_yet beyond).0 (rests_idle same_way (nothing_known 0) tells_ways nothing_rests);
 }
 
 -- ---- links
@@ -123,7 +125,7 @@ pub exact_unless_held_up : tables.ExactUnlessHeldUp → ExactUnlessHeldUp
 exact_unless_held_up exact e best int r p sound stands agree none = exact same_way tells_ways int (ext_rows e) r e.forwarding p agree sound.named stands.counted none
 
 pub none_held_up_without_work : NoneHeldUpWithoutWork
-none_held_up_without_work e p idle = none_held_up_at_rest same_way tells_ways e.forwarding p (option_map external_hop (ext_rows e p)) (idle_rests e.forwarding idle)
+none_held_up_without_work e p idle = none_held_up_at_rest same_way tells_ways e.forwarding p (option_map external_hop (ext_rows e p)) (idle_rests same_way e.forwarding tells_ways idle)
 
 no_side : (row : Option Route) → row ≡ None → is_some (on_link sides.Ebgp (external_row row)) || is_some (on_link sides.Ibgp (external_row row)) ≡ false
 no_side None e = refl

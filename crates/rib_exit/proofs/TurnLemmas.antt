@@ -1,9 +1,7 @@
 -- A turn of the task.
-use Rattle.std.proofs.Common.{◌≡◌, ◌+◌, Bool, cond, Option, Some, None, is_some, refl, sym, ap, subst, ◌∙◌, inl, inr}
-use Rattle.std.specs.Option.{option_map}
+use Rattle.std.proofs.Common.{◌≡◌, Option, Some, None, refl, sym, ap, subst, ◌∙◌}
 use Rattle.std.specs.FinMap as map
-use Rattle.std.specs.FinMap.{FinMap, len-insert}
-use Rattle.std.specs.Cmp.{nat_cmp_total}
+use Rattle.std.specs.FinMap.{FinMap}
 use Rattle.addr4.specs.Prefixes.{Network, prefix_cmp}
 use Rattle.link_change.specs.Rows.{Rows, Candidates, with_rows, together}
 use Rattle.link_change.specs.Changes.{IsSent}
@@ -15,18 +13,16 @@ use Rattle.rib_route.specs.declared.rows.Interior.{Interior}
 use Rattle.rib_route.specs.declared.rows.External.{External}
 use Rattle.rib_route.specs.declared.rows.FibRow.{FibRow}
 use Rattle.rib_merge.specs.Merging.{merged}
-use Rattle.register_interest.specs.Registers.{Registry}
-use Rattle.nexthop_known.specs.declared.answer.Hop.{Hop}
-use Rattle.nexthop_known.specs.Hops.{Hops, settled}
+use Rattle.register_interest.specs.Registers.{Registry, AllStand as MatchesStand}
 use Rattle.nexthop_known.specs.Counts.{Counts, AreCounted}
-use Rattle.nexthop_known.proofs.StaleLemmas.{same_len}
 use Rattle.nexthop_resolver.specs.declared.rows.Way.{Way}
-use Rattle.nexthop_resolver.specs.Kept.{external_hop, over, way_of}
+use Rattle.nexthop_resolver.specs.Kept.{external_hop, over, way_of, same_way}
 use Rattle.nexthop_resolver.specs.Resolving.{Resolving, AreNamed, named_by}
 use Rattle.nexthop_resolver.specs.Registered.{Agrees, KeepsOthers}
-use Rattle.nexthop_resolver.specs.Turns.{KnownAfter, Rests, Turned, IsTurn}
+use Rattle.nexthop_resolver.specs.Turns.{Rests, Turned, IsTurn}
 use Rattle.nexthop_resolver.proofs.TurnLemmas as resolver
-use Rattle.nexthop_resolver.proofs.LeftLemmas.{turns_fall}
+use Rattle.nexthop_resolver.proofs.AlikeLemmas.{tells_ways}
+use Rattle.nexthop_resolver.proofs.LeftLemmas.{turns_fall, rests_idle}
 use Rattle.rib_split.specs.declared.splitter.Splitter.{Splitter}
 use Rattle.rib_split.specs.Tables.{kept_rows}
 use Rattle.rib_split.specs.Laws.{merged_links}
@@ -35,12 +31,11 @@ use Rattle.ext_int.proofs.FibLemmas.{turn_leads}
 use Rattle.journal_text.specs.Journals.{Journaled, with_entries, Adds}
 use Rattle.journal_text.proofs.JournalLemmas.{with_entries_none}
 use Rattle.rib_exit.specs.declared.exit.RibExit.{RibExit}
-use Rattle.rib_exit.specs.Exits.{ext_rows, ext_candidates, IsExit, same_way}
+use Rattle.rib_exit.specs.Exits.{ext_rows, ext_candidates, IsExit}
 use Rattle.rib_exit.specs.Passing.{external_distance}
 use Rattle.rib_exit.specs.Steps.{fib_entries, TakesInterior, TurnsExit, ComesOut}
 use Rattle.rib_exit.proofs.LinkLemmas.{fib_leads}
 use Rattle.rib_exit.proofs.FallLemmas.{agreed}
-use Rattle.rib_exit.proofs.BusyLemmas.{tells_ways, rests_idle}
 
 -- ---- the link `ext` as it is lent
 pub rows_lent : (s : Splitter) (a b : FinMap prefix_cmp External) → a ≡ s.ebgp → b ≡ s.ibgp → merged external_distance (map.get a) (map.get b) ≡ merged_links (kept_rows s)
@@ -78,15 +73,6 @@ takes_interior e change sent before after follows line = (
   },
 )
 
--- ---- how many next hops are known
-settled_there : (o : Option (Hop Way)) → is_some (option_map settled o) ≡ is_some o
-settled_there None = refl
-settled_there (Some h) = refl
-
-as_many_after : (w : Option (Option Network)) (old new : Hops Way) → KnownAfter w old new → map.len new ≡ map.len old
-as_many_after (Some place) old new is = ap map.len is
-as_many_after None old new is = same_len new old (λ q. ap is_some (is q) ∙ settled_there (map.get old q))
-
 module _ (int : Rows Interior) (was is : Registry Interior) (e : RibExit) (hops' : Resolving Way) where
   abbrev e' : RibExit
   e' = record { splitter = e.splitter; forwarding = hops' }
@@ -96,23 +82,6 @@ module _ (int : Rows Interior) (was is : Registry Interior) (e : RibExit) (hops'
 
   abbrev Takes : Turn FibRow → Type 0
   Takes turn = TakesTurn int (ext_candidates e) (ext_rows e) was is e.forwarding hops' turn
-
-  turned_client : (resolved : Option (Change FibRow)) → Turns resolved → hops'.client ≡ e.forwarding.client
-  turned_client resolved (inl goes) = goes.steps.client
-  turned_client resolved (inr (inl asks)) = asks.client
-  turned_client resolved (inr (inr begins)) = begins.steps.client
-
-  turned_counts : (resolved : Option (Change FibRow)) → Turns resolved → hops'.counts ≡ e.forwarding.counts
-  turned_counts resolved (inl goes) = goes.steps.counts
-  turned_counts resolved (inr (inl asks)) = asks.counts
-  turned_counts resolved (inr (inr begins)) = begins.steps.counts
-
-  turned_known : (resolved : Option (Change FibRow)) → Turns resolved → map.len hops'.known ≡ map.len e.forwarding.known
-  turned_known resolved (inl goes) = as_many_after hops'.walk e.forwarding.known hops'.known goes.steps.known
-  turned_known resolved (inr (inl asks)) =
-      ap map.len asks.renews.1 ∙ len-insert nat_cmp_total e.forwarding.known asks.next_hop _
-      ∙ ap (λ (b : Bool). cond b (map.len e.forwarding.known) (map.len e.forwarding.known + 1)) (ap is_some asks.least.0.1)
-  turned_known resolved (inr (inr begins)) = as_many_after hops'.walk e.forwarding.known hops'.known begins.steps.known
 
   -- ---- what came out
   abbrev IsInner : Turn FibRow → Type 0
@@ -145,7 +114,7 @@ module _ (int : Rows Interior) (was is : Registry Interior) (e : RibExit) (hops'
   led_by turn t =
       turn_leads int _ _ t.inner turn (resolver.turn_leads external_hop over (ext_candidates e) (ext_rows e) way_of was is e.forwarding hops' t.inner t.resolves) t.follows
 
-  module _ (sound : IsExit e) (named : AreNamed hops'.counts hops'.known) (here : Agrees way_of hops'.client hops'.known is) (others : KeepsOthers e.forwarding.client was is) (before : Journaled) where
+  module _ (sound : IsExit e) (named : AreNamed hops'.counts hops'.known) (here : Agrees way_of hops'.client hops'.known is) (others : KeepsOthers e.forwarding.client was is) (stand : MatchesStand is) (before : Journaled) where
     taken : (sent : Option (Change FibRow)) (now : Journaled) (turn : Turn FibRow) → Takes turn → turn ≡ taken_turn sent → now ≡ with_entries before (fib_entries sent)
         → Adds (TurnsExit int sent was is e e') before now
     taken sent now turn t came lines =
@@ -160,21 +129,21 @@ module _ (int : Rows Interior) (was is : Registry Interior) (e : RibExit) (hops'
             lines = refl;
             fib = led;
             leads = λ links. fib_leads links (kept_rows e.splitter) e.forwarding hops' int int led.0 sent led.1;
-            agreed = agreed int was is e e.splitter hops' sound (turned_client inner.0 inner.1) named here others;
+            agreed = agreed int was is e e.splitter hops' sound (resolver.turned_client external_hop over (ext_candidates e) (ext_rows e) way_of was is e.forwarding hops' inner.0 inner.1) named here others stand;
             stands = λ best stands. record {
               links = stands.links;
-              counted = subst (λ (n : Counts). AreCounted (named_by external_hop (ext_rows e)) n) (sym (turned_counts inner.0 inner.1)) stands.counted;
+              counted = subst (λ (n : Counts). AreCounted (named_by external_hop (ext_rows e)) n) (sym (resolver.turned_counts external_hop over (ext_candidates e) (ext_rows e) way_of was is e.forwarding hops' inner.0 inner.1)) stands.counted;
             };
             fewer = λ beyond counts.
                 turns_fall external_hop over (ext_candidates e) (ext_rows e) way_of was is same_way beyond tells_ways counts e.forwarding hops' inner.0 inner.1;
-            known = turned_known inner.0 inner.1;
+            known = resolver.turned_known external_hop over (ext_candidates e) (ext_rows e) way_of was is e.forwarding hops' inner.0 inner.1;
           },
         )
 
     pub rests_out : (turn : Turn FibRow) → Takes turn → turn ≡ turns.Nothing → ComesOut int was is e e' before before turns.Nothing
     rests_out turn t none =
         let r = nothing_by t.inner turn t.resolves t.follows none in
-        (rests_idle e.forwarding r.0, ap (λ (s : Resolving Way). record { splitter = e.splitter; forwarding = s }) r.1, r.2, refl)
+        (rests_idle same_way e.forwarding tells_ways r.0, ap (λ (s : Resolving Way). record { splitter = e.splitter; forwarding = s }) r.1, r.2, refl)
 
     pub quiet_out : (turn : Turn FibRow) → Takes turn → turn ≡ turns.Quiet → ComesOut int was is e e' before before turns.Quiet
     quiet_out turn t quiet = taken None before turn t quiet (sym (with_entries_none before))

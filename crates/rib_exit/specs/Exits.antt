@@ -1,8 +1,6 @@
 -- What contracts see of the RIB's exit: the rows of `ebgp` and `ibgp`, and what is known of the next hops that rows of `ext`
 -- name. What stands on `int`, with which `ext` comes together in `fib`, is told over any rows.
-use Rattle.std.specs.Prelude.{◌≡◌, ℕ, ◌==◌, nat_lt, Bool, true, false, ◌||◌, ◌&&◌, cond, is_some, Option, Some, None, option_map}
-use Rattle.std.specs.Option.{option_eq}
-use Rattle.std.specs.Str.{bytes_eq}
+use Rattle.std.specs.Prelude.{◌≡◌, ℕ, ◌+◌, Bool, true, false, cond, Option, Some, None, option_map}
 use Rattle.std.specs.FinMap as map
 use Rattle.addr4.specs.Prefixes.{Network}
 use Rattle.bgp_attr.specs.declared.route.Route.{Route}
@@ -13,12 +11,11 @@ use Rattle.rib_route.specs.declared.rows.FibRow.{FibRow}
 use Rattle.register_interest.specs.Registers.{Registry}
 use Rattle.nexthop_known.specs.Hops.{stale_count}
 use Rattle.nexthop_known.specs.Counts.{AreCounted}
-use Rattle.nexthop_resolver.specs.declared.rows.Outlet.{Outlet}
 use Rattle.nexthop_resolver.specs.declared.rows.Way.{Way}
-use Rattle.nexthop_resolver.specs.Kept.{external_hop, way_of}
+use Rattle.nexthop_resolver.specs.Kept.{external_hop, way_of, same_way}
 use Rattle.nexthop_resolver.specs.Resolving.{Resolving, AreNamed, nothing_known, named_by}
 use Rattle.nexthop_resolver.specs.Registered.{Agrees}
-use Rattle.nexthop_resolver.specs.Left.{differing_count, hop_lags, turns_left}
+use Rattle.nexthop_resolver.specs.Left.{is_busy, hop_lags, turns_left}
 use Rattle.rib_split.specs.declared.split.BgpLink.{BgpLink}
 use Rattle.rib_split.specs.declared.split.BgpLink.TheVariants as sides
 use Rattle.rib_split.specs.Splitting.{Parted, split_rows}
@@ -107,18 +104,9 @@ pub record StandsOver (best : Rows Route) (e : RibExit) : Type 0 where
   pub counted : AreCounted (named_by external_hop (ext_rows e)) e.forwarding.counts
 
 -- ---- the task
-abbrev pub same_outlet : Outlet → Outlet → Bool
-same_outlet a b = option_eq ◌==◌ a.gateway b.gateway && bytes_eq a.iface b.iface
-
-abbrev pub same_way : Way → Way → Bool
-same_way a b = option_eq same_outlet a.outlet b.outlet
-
-abbrev pub is_busy : Resolving Way → Bool
-is_busy s = is_some s.walk || (nat_lt 0 (stale_count s.known) || nat_lt 0 (differing_count same_way s.known))
-
 -- whether the task has work: a walk is on, a next hop is stale, or a fresh answer isn't in force
 abbrev pub has_ext_work : RibExit → Bool
-has_ext_work e = is_busy e.forwarding
+has_ext_work e = is_busy same_way e.forwarding
 
 -- whether it holds up a prefix: the next hop of the row of `ext` there is stale, or its fresh answer isn't in force there
 abbrev pub ext_lags : RibExit → Network → Bool
@@ -131,6 +119,10 @@ known_in e = map.len e.forwarding.known
 
 abbrev pub stale_in : RibExit → ℕ
 stale_in e = stale_count e.forwarding.known
+
+-- how many rows stand on `ebgp` and `ibgp`
+abbrev pub rows_in : RibExit → ℕ
+rows_in e = map.len e.splitter.ebgp + map.len e.splitter.ibgp
 
 -- how many turns the task takes, where these numbers count the candidates of `ext` beyond each place
 abbrev pub left_in : (Option Network → ℕ) → RibExit → ℕ

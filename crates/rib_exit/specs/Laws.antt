@@ -17,7 +17,7 @@ use Rattle.journal_text.specs.declared.entry.Entry.{Entry}
 use Rattle.journal_text.specs.declared.value.Value.{Value}
 use Rattle.journal_text.specs.Walk.{Links, Leads}
 use Rattle.rib_exit.specs.declared.exit.RibExit.{RibExit}
-use Rattle.rib_exit.specs.Exits.{ext_rows, ext_candidates, fib_over, exit_links, is_exit_link, IsExit, AgreesWith, StandsOver, has_ext_work, ext_lags, known_in, stale_in, left_in}
+use Rattle.rib_exit.specs.Exits.{ext_rows, ext_candidates, fib_over, exit_links, is_exit_link, IsExit, AgreesWith, StandsOver, has_ext_work, ext_lags, known_in, stale_in, rows_in, left_in}
 use Rattle.rib_exit.specs.Steps.{LeadsExit}
 
 -- ---- at first
@@ -84,7 +84,14 @@ abbrev pub CandidatesAreOfBest : Type 0
 CandidatesAreOfBest =
     (e : RibExit) (best : Rows Route) (candidates : Candidates) (q : Network) → StandsOver best e → CoversRows candidates best → ext_candidates e q ≡ true → candidates q ≡ true
 
--- ---- how many next hops are known
+-- ---- how many rows and next hops there are
+-- No more rows stand on `ebgp` and `ibgp` together than routes of peers were read: than the prefixes of a list that has the prefix of
+-- each best route that a peer sent. A route of this speaker's own has a row on neither.
+abbrev pub RowsAreFew : Type 0
+RowsAreFew =
+    (e : RibExit) (best : Rows Route) (prefixes : List Network) → StandsOver best e → ((q : Network) → IsSome (external_row (best q)) → Contains prefixes q)
+    → rows_in e ≤ length prefixes
+
 -- No more than the rows that name them: than the prefixes of a list that has the prefix of each row of `ext`.
 abbrev pub KnownAreFew : Type 0
 KnownAreFew =

@@ -1,6 +1,5 @@
 -- What each call makes of the RIB's exit, and what it keeps.
-use Rattle.std.specs.Prelude.{◌≡◌, ◌⊎◌, ℕ, ◌+◌, ◌≤◌, ◌==◌, ◌&&◌, Bool, false, cond, List, [], ◌∷◌, Option, Some, None}
-use Rattle.std.specs.List.{list_any}
+use Rattle.std.specs.Prelude.{◌≡◌, ◌⊎◌, ℕ, ◌+◌, ◌≤◌, false, List, [], ◌∷◌, Option, Some, None}
 use Rattle.std.specs.Option.{option_or}
 use Rattle.addr4.specs.Prefixes.{Network}
 use Rattle.bgp_attr.specs.declared.route.Route.{Route}
@@ -14,15 +13,14 @@ use Rattle.rib_route.specs.declared.rows.External.{External}
 use Rattle.rib_route.specs.declared.rows.FibRow.{FibRow}
 use Rattle.register_interest.specs.declared.interests.Interest.{Interest}
 use Rattle.register_interest.specs.Interests.{without}
-use Rattle.register_interest.specs.Registers.{Registry, KeepsAnswers}
+use Rattle.register_interest.specs.Registers.{Registry, KeepsAnswers, AllStand as MatchesStand}
 use Rattle.nexthop_known.specs.declared.answer.Hop.{Hop}
-use Rattle.nexthop_known.specs.Hops.{IsMapped, is_with}
 use Rattle.pass_core.specs.Left.{CountsBeyond}
 use Rattle.nexthop_resolver.specs.declared.rows.Way.{Way}
 use Rattle.nexthop_resolver.specs.Kept.{external_hop, over, way_of}
-use Rattle.nexthop_resolver.specs.Resolving.{Resolving}
 use Rattle.nexthop_resolver.specs.Registered.{KeepsOthers, told_of}
 use Rattle.nexthop_resolver.specs.Takes.{Keeps, Invalidates}
+use Rattle.nexthop_resolver.specs.Reached.{reached_hop as hop_reached, IsReached}
 use Rattle.nexthop_resolver.specs.Turns.{Turned}
 use Rattle.rib_split.specs.declared.split.Split.{Split}
 use Rattle.rib_split.specs.declared.split.Split.TheVariants.{Neither, One, Moved}
@@ -57,6 +55,7 @@ pub record KeepsAgreed (was is : Registry Interior) (e' : RibExit) : Type 0 wher
   pub sound : IsExit e'
   pub agree : AgreesWith e' is
   pub others : KeepsOthers 0 was is
+  pub stands : MatchesStand is
 
 -- ---- what a change of the best routes makes
 -- What each part of it causes on `ext`: nothing, or the change of the merged rows, as the two links are before the part and after it.
@@ -125,20 +124,9 @@ ComesOut int was is e e' before now Quiet = Adds (TurnsExit int None was is e e'
 ComesOut int was is e e' before now (Sent change) = Adds (TurnsExit int (Some change) was is e e') before now
 
 -- ---- what interests make that the register gave up
--- one of these is the exit's, in the subnet with which an answer came
-abbrev pub is_listed : List Interest → Option Network → Bool
-is_listed out came = list_any (λ i. i.client == 0 && is_with i.subnet came) out
-
--- stale where it is so
+-- an answer of the exit, stale where it came with one of these
 abbrev pub reached_hop : List Interest → Hop Way → Hop Way
-reached_hop out h = record { in_force = h.in_force; fresh = h.fresh; came = cond (is_listed out h.came) None h.came }
-
--- the answers that came with these interests are stale, and all else is as it was
-pub record IsReached (out : List Interest) (old new : Resolving Way) : Type 0 where
-  pub client : new.client ≡ old.client
-  pub walk : new.walk ≡ old.walk
-  pub counts : new.counts ≡ old.counts
-  pub known : IsMapped (reached_hop out) old.known new.known
+reached_hop out = hop_reached out 0
 
 -- no row changes, whatever `int` has, and as many next hops are known
 pub record StaysQuiet (e e' : RibExit) : Type 0 where
@@ -156,7 +144,7 @@ pub record Stales (subnet : Network) (e e' : RibExit) : Type 0 where
 
 -- Where the register gave these up with a change of the interior routes, and the exit agreed with it before, it does again.
 pub record ReachesExit (out : List Interest) (e e' : RibExit) : Type 0 where
-  pub reaches : IsReached out e.forwarding e'.forwarding
+  pub reaches : IsReached out 0 e.forwarding e'.forwarding
   pub sound : IsExit e'
   pub stays : StaysQuiet e e'
   pub agree : (was is : Registry Interior) → AgreesWith e was → is.interests ≡ without was.interests out → KeepsAnswers was is → AgreesWith e' is

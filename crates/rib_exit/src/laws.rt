@@ -2,7 +2,7 @@
 //! law.
 
 ghost use Rattle.rib_exit.specs.Exits.{nothing_yet};
-ghost use Rattle.rib_exit.specs.Laws.{StandsAtFirst, LeadsAnywhere, ExtIsOfBest, ExactUnlessHeldUp, NoneHeldUpWithoutWork, StrangersAgree, NoneLeftWithoutWork, TurnsAreBounded, LeftFollows, CandidatesAreOfBest, KnownAreFew};
+ghost use Rattle.rib_exit.specs.Laws.{StandsAtFirst, LeadsAnywhere, ExtIsOfBest, ExactUnlessHeldUp, NoneHeldUpWithoutWork, StrangersAgree, NoneLeftWithoutWork, TurnsAreBounded, LeftFollows, CandidatesAreOfBest, RowsAreFew, KnownAreFew};
 
 use ext_int::exact_unless_held_up as table_is_exact;
 
@@ -42,6 +42,11 @@ pub fn turns_are_left()
     ensures none { NoneLeftWithoutWork }
     ensures bounded { TurnsAreBounded }
     ensures follow { LeftFollows }
+{}
+
+/// No more rows stand on `ebgp` and `ibgp` than routes of peers were read.
+pub fn rows_are_few()
+    ensures { RowsAreFew }
 {}
 
 /// No more next hops are known than rows stand on `ext`.

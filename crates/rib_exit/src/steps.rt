@@ -34,15 +34,22 @@ impl RibExit {
         ensures memory { OnErr result (KeepsOthers 0 register.old register.new) }
     {
         match self.splitter.take_in(change)? {
-            Split::Neither => Ok(None),
+            Split::Neither => {
+                register.known();
+                Ok(None)
+            }
             Split::One(link, change) => {
                 let other = self.splitter.rows(link.other()).asked(&change.prefix)?;
                 let hops = &mut self.forwarding;
-                pass(hops, link, change, other, int, register, journal)
+                let sent = pass(hops, link, change, other, int, register, journal);
+                register.known();
+                sent
             }
             Split::Moved(link, add, delete) => {
                 let hops = &mut self.forwarding;
-                pass_both(hops, link, add, delete, int, register, journal)
+                let sent = pass_both(hops, link, add, delete, int, register, journal);
+                register.known();
+                sent
             }
         }
     }
@@ -104,6 +111,7 @@ impl RibExit {
         let ext = merged_rows(&self.splitter);
         let turn = self.forwarding.unit(int, &ext, register)?;
         self.forwarding.are_named();
+        register.known();
         match turn {
             Turn::Nothing => Ok(Turn::Nothing),
             Turn::Quiet => Ok(Turn::Quiet),

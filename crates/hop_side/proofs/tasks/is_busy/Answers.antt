@@ -1,5 +1,7 @@
-use Rattle.hop_side.proofs.BusyLemmas.{busy_is}
+use Rattle.nexthop_resolver.specs.Kept.{same_metric}
+use Rattle.nexthop_resolver.proofs.AlikeLemmas.{tells_metrics}
+use Rattle.nexthop_resolver.proofs.LeftLemmas.{busy_is}
 use Rattle.hop_side.proofs.tasks.is_busy.Goals as goal
 
 pub returns : goal.returns
-returns c = busy_is c.busy.result c.args.resolver.now c.busy.ensures
+returns c = busy_is same_metric c.busy.result c.args.resolver.now tells_metrics c.busy.ensures

@@ -1,5 +1,5 @@
-use Rattle.hop_side.specs.Resolvers.{same_metric}
-use Rattle.hop_side.proofs.BusyLemmas.{tells_metrics}
+use Rattle.nexthop_resolver.specs.Kept.{same_metric}
+use Rattle.nexthop_resolver.proofs.AlikeLemmas.{tells_metrics}
 use Rattle.hop_side.proofs.tasks.lags.Goals as goal
 
 pub returns : goal.returns

@@ -12,7 +12,7 @@ returns-in_default c =
     let a = c.args.self.now in
     let k = c.from-number.result in
     let same = ap (λ x. from_entries {R = nat_cmp} x.entries) c.get_mut.follows.holds-at-none ∙ c.self.view_is in
-    subst (ReachesOne c.args.interest a) (sym same) (reaches_none c.args.interest k a c.from-number.ensures (sym (c.in_default.ensures.value ∙ read_at m a k c.self.view_is)) c.requires.sound)
+    subst (ReachesOne c.args.interest a) (sym same) (reaches_none c.args.interest k a c.from-number.ensures (sym (c.in_default.ensures.value ∙ read_at m a k c.self.view_is)))
 
 pub returns : goal.returns
 returns c =
@@ -23,4 +23,4 @@ returns c =
     let s' = c.invalidate.new.self in
     let at = sym (c.in-Some.ensures.value ∙ read_at m a k c.self.view_is) in
     subst (ReachesOne c.args.interest a) (sym (lent_put m (c.get_mut.follows.lender s') a k s s' c.self.view_is c.in-Some.ensures.value (c.get_mut.follows.holds s')))
-    (reaches_some c.args.interest k a s s' c.from-number.ensures at c.requires.sound c.invalidate.ensures c.are_named.ensures)
+    (reaches_some c.args.interest k a s s' c.from-number.ensures at c.invalidate.ensures)

@@ -34,4 +34,4 @@ returns-clause-taken c =
     subst (λ (x : Resolvers). Adds (TakesBelow k c.args.change c.in_ok-sent.sent c.args.register.now c.take_in.new.register a x) c.args.journal.now c.push_sent.new.self)
     (sym (lent_put m (c.get_mut.follows.lender s') a k s s' c.self.view_is c.in-Some.ensures.value (c.get_mut.follows.holds s')))
     (took a k s s' at c.requires.sound c.args.change c.in_ok-sent.sent c.args.register.now c.take_in.new.register c.args.journal.now c.push_sent.new.self c.requires.agree
-    c.in_ok-sent.ensures.taken c.in_ok-sent.ensures.keeps c.are_named.ensures c.take_in.ensures.agrees c.take_in.ensures.others c.in_ok-push_sent.ensures)
+    c.in_ok-sent.ensures.taken c.in_ok-sent.ensures.keeps c.are_named.ensures c.take_in.ensures.agrees c.take_in.ensures.others c.known.ensures c.in_ok-push_sent.ensures)

@@ -50,14 +50,14 @@ returns-clause-taken g c =
       | in-Nothing w ↦
           rw (w.result-is, w.journal-is)
           (subst (λ (x : Resolvers). ComesBelow k candidates upper was is a x before before turns.Nothing) put
-          (rests_below candidates upper was is s s' a k at c.requires.sound turn taken c.requires.agree c.are_named.ensures c.unit.ensures.agrees c.unit.ensures.others before w.in-Nothing.is))
+          (rests_below candidates upper was is s s' a k at c.requires.sound turn taken c.requires.agree c.are_named.ensures c.unit.ensures.agrees c.unit.ensures.others c.known.ensures before w.in-Nothing.is))
       | in-Quiet w ↦
           rw (w.result-is, w.journal-is)
           (subst (λ (x : Resolvers). ComesBelow k candidates upper was is a x before before turns.Quiet) put
-          (quiet_below candidates upper was is s s' a k at c.requires.sound turn taken c.requires.agree c.are_named.ensures c.unit.ensures.agrees c.unit.ensures.others before w.in-Quiet.is))
+          (quiet_below candidates upper was is s s' a k at c.requires.sound turn taken c.requires.agree c.are_named.ensures c.unit.ensures.agrees c.unit.ensures.others c.known.ensures before w.in-Quiet.is))
       | in-Sent+in_ok-push_change-in-Sent w ↦
           rw (w.result-is, w.journal-is)
           (subst (λ (x : Resolvers). ComesBelow k candidates upper was is a x before w.push_change.new.self (turns.Sent w.in-Sent.change)) put
-          (sent_below candidates upper was is s s' a k at c.requires.sound turn taken c.requires.agree c.are_named.ensures c.unit.ensures.agrees c.unit.ensures.others before w.in-Sent.change w.push_change.new.self w.in-Sent.is
+          (sent_below candidates upper was is s s' a k at c.requires.sound turn taken c.requires.agree c.are_named.ensures c.unit.ensures.agrees c.unit.ensures.others c.known.ensures before w.in-Sent.change w.push_change.new.self w.in-Sent.is
           w.in_ok-push_change-in-Sent.ensures))
     ]

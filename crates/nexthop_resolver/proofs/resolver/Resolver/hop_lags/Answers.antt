@@ -1,4 +1,4 @@
-use Rattle.std.proofs.Common.{◌≡◌, Bool, true, false, Some, sym, subst, ap, ◌∙◌}
+use Rattle.std.proofs.Common.{◌≡◌, true, false, Some, subst}
 use Rattle.std.specs.Option.{option_map}
 use Rattle.addr4.specs.Places.{key_of}
 use Rattle.nexthop_resolver.specs.Resolving.{Resolving}

@@ -1,7 +1,12 @@
-use Rattle.std.proofs.Common.{◌+◌, drop}
-use Rattle.rib_exit.proofs.ReachLemmas.{dropped, none_dropped, reaching_own, reaching_other, reaching_last}
+use Rattle.std.proofs.Common.{List, take, ◌++◌, ◌∷◌, [], sym, ap, subst, ◌∙◌}
+use Rattle.std.proofs.lemmas.List.{take_all, take_more}
+use Rattle.register_interest.specs.declared.interests.Interest.{Interest}
+use Rattle.rib_exit.proofs.ReachLemmas.{Reaching, reaching_first, reaching_own, reaching_other, reaches_exit}
 use Rattle.rib_exit.proofs.exit.RibExit.reach.Goals.{then-own, else-own}
 use Rattle.rib_exit.proofs.exit.RibExit.reach.Goals as goal
+
+pub loop-interest-init : goal.loop-interest-init
+loop-interest-init c = reaching_first c.args.self.now c.requires.sound
 
 pub loop-interest-preserved : goal.loop-interest-preserved
 loop-interest-preserved c =
@@ -10,14 +15,17 @@ loop-interest-preserved c =
     let i = c.interest-item.result in
     let a = c.args.self.now in
     let now = c.loop-interest.self in
-    let is = dropped out n i c.interest-item.is c.loop-interest-test.true in
+    let more = sym (take_more out n i c.loop-interest-test.true ∙ ap (λ (x : Interest). take n out ++ x ∷ []) (sym c.interest-item.is)) in
     elim c.if-own.branch [
-      | then-own w ↦ rw w.self-is (reaching_own out (drop (n + 1) out) (drop n out) i a now w.invalidate.new.self is w.if-own.true c.loop-interest.invariant w.invalidate.ensures)
-      | else-own w ↦ rw w.self-is (reaching_other out (drop (n + 1) out) (drop n out) i a now is w.if-own.false c.loop-interest.invariant)
+      | then-own w ↦
+          rw w.self-is
+          (subst (λ (l : List Interest). Reaching l a w.invalidate.new.self) more (reaching_own (take n out) i a now w.invalidate.new.self w.if-own.true c.loop-interest.invariant w.invalidate.ensures))
+      | else-own w ↦ rw w.self-is (subst (λ (l : List Interest). Reaching l a now) more (reaching_other (take n out) i a now w.if-own.false c.loop-interest.invariant))
     ]
 
 pub returns : goal.returns
 returns c =
     let out = c.args.reached.now in
-    let i = c.loop-interest.interest-index in
-    reaching_last out (drop i out) c.args.self.now c.loop-interest.self (none_dropped out i c.loop-interest-test.false) c.loop-interest.invariant
+    let a = c.args.self.now in
+    let now = c.loop-interest.self in
+    reaches_exit out a now c.requires.sound (subst (λ (l : List Interest). Reaching l a now) (take_all c.loop-interest.interest-index out c.loop-interest-test.false) c.loop-interest.invariant)

@@ -11,7 +11,7 @@ returns-in-Nothing-clause-taken g c =
     let turn = c.in_ok-turn.turn in
     let ext = c.merged_rows-ext.result in
     let t = takes_lent int was is e hops' turn ext.ebgp.now ext.ibgp.now c.merged_rows-ext.ensures.ebgp c.merged_rows-ext.ensures.ibgp c.in_ok-turn.ensures.taken in
-    rests_out int was is e hops' c.requires.sound c.are_named.ensures c.unit.ensures.agrees c.unit.ensures.others c.args.journal.now turn t c.in-Nothing.is
+    rests_out int was is e hops' c.requires.sound c.are_named.ensures c.unit.ensures.agrees c.unit.ensures.others c.known.ensures c.args.journal.now turn t c.in-Nothing.is
 
 pub returns-in-Quiet-clause-taken : goal.returns-in-Quiet-clause-taken
 returns-in-Quiet-clause-taken g c =
@@ -23,7 +23,7 @@ returns-in-Quiet-clause-taken g c =
     let turn = c.in_ok-turn.turn in
     let ext = c.merged_rows-ext.result in
     let t = takes_lent int was is e hops' turn ext.ebgp.now ext.ibgp.now c.merged_rows-ext.ensures.ebgp c.merged_rows-ext.ensures.ibgp c.in_ok-turn.ensures.taken in
-    quiet_out int was is e hops' c.requires.sound c.are_named.ensures c.unit.ensures.agrees c.unit.ensures.others c.args.journal.now turn t c.in-Quiet.is
+    quiet_out int was is e hops' c.requires.sound c.are_named.ensures c.unit.ensures.agrees c.unit.ensures.others c.known.ensures c.args.journal.now turn t c.in-Quiet.is
 
 pub returns-in_ok-push_change-in-Sent-clause-taken : goal.returns-in_ok-push_change-in-Sent-clause-taken
 returns-in_ok-push_change-in-Sent-clause-taken g c =
@@ -35,5 +35,5 @@ returns-in_ok-push_change-in-Sent-clause-taken g c =
     let turn = c.in_ok-turn.turn in
     let ext = c.merged_rows-ext.result in
     let t = takes_lent int was is e hops' turn ext.ebgp.now ext.ibgp.now c.merged_rows-ext.ensures.ebgp c.merged_rows-ext.ensures.ibgp c.in_ok-turn.ensures.taken in
-    sent_out int was is e hops' c.requires.sound c.are_named.ensures c.unit.ensures.agrees c.unit.ensures.others c.args.journal.now turn t c.in-Sent.change c.push_change.new.self c.in-Sent.is
+    sent_out int was is e hops' c.requires.sound c.are_named.ensures c.unit.ensures.agrees c.unit.ensures.others c.known.ensures c.args.journal.now turn t c.in-Sent.change c.push_change.new.self c.in-Sent.is
     c.in_ok-push_change-in-Sent.ensures
