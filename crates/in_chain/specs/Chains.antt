@@ -1,24 +1,21 @@
 -- What contracts see of a peer's chain: the stages whose links carry attributes, and below them the incoming filter.
-use Rattle.std.specs.Prelude.{ℕ, ◌+◌, ◌==◌, cond, Bool, false, is_some, length, filter, List, [], ◌∷◌, Option, Some, None, refl}
+use Rattle.std.specs.Prelude.{ℕ, ◌+◌, ◌==◌, cond, Bool, false, is_some, List, Option, Some, None, refl}
 use Rattle.std.specs.Coded.{Coded, code_by, coded×}
-use Rattle.std.specs.FinMap as map
-use Rattle.std.specs.FinMap.{FinMap}
-use Rattle.addr4.specs.Prefixes.{Network, prefix_cmp}
+use Rattle.addr4.specs.Prefixes.{Network}
 use Rattle.bgp_attr.specs.declared.attrs.Attrs.{Attrs}
 use Rattle.bgp_attr.specs.declared.route.Route.{Route}
 use Rattle.bgp_attr.specs.declared.speaker.Speaker.{Speaker}
 use Rattle.bgp_attr.specs.declared.speaker.Neighbour.{Neighbour}
 use Rattle.link_change.specs.Rows.{Rows, Candidates, with_rows}
-use Rattle.loss_chain.specs.Lost.{Lost}
 use Rattle.policy_rules.specs.declared.rule.Rule.{Rule}
-use Rattle.pass_core.specs.Passed.{Passed, Walked, is_beyond}
+use Rattle.pass_core.specs.Passed.{Passed, Walked}
 use Rattle.filter_bank.specs.Filtered.{passed_rows}
 use Rattle.journal_text.specs.declared.link.Link.{Link}
 use Rattle.journal_text.specs.declared.link.Link.TheVariants.{In, Peer, Filt}
 use Rattle.journal_text.specs.declared.value.Value.{Value}
 use Rattle.journal_text.specs.Walk.{Links}
 use Rattle.journal_text.specs.Values.{route_rows}
-use Rattle.loss_chain.specs.Tables.{Tables, IsLossChain, tables_count}
+use Rattle.loss_chain.specs.Tables.{Tables, IsLossChain, tables_count, tables_beyond}
 use Rattle.in_chain.specs.Incomings.{Incoming, in_rows, incoming_links}
 
 -- the live routes and the lost tables; the words of this speaker and of the peer; the rules of the incoming filter
@@ -88,20 +85,9 @@ row_count c = tables_count c.incoming.tables
 
 -- ---- how many turns are left
 
--- how many rows of a table lie beyond a place
-abbrev pub count_beyond : Option Network → FinMap prefix_cmp Attrs → ℕ
-count_beyond place t = length (filter (λ e. is_beyond place e.0) (map.entries t))
-
-abbrev pub lost_beyond : Option Network → List (Lost Attrs) → ℕ
-lost_beyond place [] = 0
-lost_beyond place (d ∷ ds) = count_beyond place d.rows + lost_beyond place ds
-
 -- how many rows of `in.K` lie beyond a place
-abbrev pub left_beyond : Option Network → Tables Attrs → ℕ
-left_beyond place t = count_beyond place t.live + lost_beyond place t.deletions
-
 abbrev pub filt_beyond : Chained → Option Network → ℕ
-filt_beyond c place = left_beyond place c.incoming.tables
+filt_beyond c place = tables_beyond place c.incoming.tables
 
 abbrev pub waiting_turns : ℕ → Option (List Rule) → ℕ
 waiting_turns rows None = 0
@@ -109,7 +95,7 @@ waiting_turns rows (Some rules) = rows + 1
 
 abbrev pub walk_turns : Tables Attrs → Option (Walked (List Rule)) → ℕ
 walk_turns t None = 0
-walk_turns t (Some w) = left_beyond w.place t + 1 + waiting_turns (tables_count t) w.waiting
+walk_turns t (Some w) = tables_beyond w.place t + 1 + waiting_turns (tables_count t) w.waiting
 
 -- how many turns the walk of the filter takes: one for each row of `in.K` beyond its place and one that ends it, and a whole walk
 -- more where rules wait

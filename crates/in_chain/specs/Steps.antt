@@ -20,7 +20,7 @@ use Rattle.loss_chain.specs.Held.{has_row}
 use Rattle.filter_bank.specs.Walks.{Walks}
 use Rattle.journal_text.specs.declared.link.Link.TheVariants.{Filt}
 use Rattle.journal_text.specs.declared.link.Task.{Task}
-use Rattle.journal_text.specs.declared.link.Task.TheVariants.{Del, Fin, Nh, ReadRib, Out, Rdel, Red, Ext}
+use Rattle.journal_text.specs.declared.link.Task.TheVariants.{Del, Fin}
 use Rattle.journal_text.specs.declared.value.Value.{Value}
 use Rattle.journal_text.specs.declared.entry.Entry.{Entry}
 use Rattle.journal_text.specs.Journals.{Journaled, Adds}
@@ -85,12 +85,7 @@ pub record Rewalks (old new : Chained) (sent : Option (Change Route)) (entries :
 abbrev pub has_turn : Chained → Task → Bool
 has_turn c (Del k s) = k == c.incoming.number && is_some (table_of s c.incoming.tables.deletions)
 has_turn c (Fin k) = k == c.incoming.number && is_some c.filter.walk
-has_turn c (Nh k) = false
-has_turn c ReadRib = false
-has_turn c Red = false
-has_turn c Ext = false
-has_turn c (Out k) = false
-has_turn c (Rdel proto n) = false
+has_turn c other = false
 
 -- whether a task of the chain holds up a prefix: the stage's table still has it, or the walk of the filter has yet to come to the row
 -- of `in.K` there
@@ -103,12 +98,7 @@ chain_lags c other p = false
 abbrev pub Turned : Chained → Chained → Task → Option (Change Route) → List (Entry Value) → Type 0
 Turned old new (Del k s) sent entries = (k ≡ old.incoming.number) × Sweeps old new s sent entries
 Turned old new (Fin k) sent entries = (k ≡ old.incoming.number) × Rewalks old new sent entries
-Turned old new (Nh k) sent entries = ⊥
-Turned old new ReadRib sent entries = ⊥
-Turned old new Red sent entries = ⊥
-Turned old new Ext sent entries = ⊥
-Turned old new (Out k) sent entries = ⊥
-Turned old new (Rdel proto n) sent entries = ⊥
+Turned old new other sent entries = ⊥
 
 -- What a turn that came to this made of the chain and of the journal.
 abbrev pub IsTaken : Chained → Chained → Task → Journaled → Journaled → Turn Route → Type 0

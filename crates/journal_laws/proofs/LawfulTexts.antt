@@ -16,7 +16,7 @@ use Rattle.journal_text.specs.declared.entry.Entry.{Entry}
 use Rattle.journal_text.specs.declared.entry.Entry.TheVariants.{Begin, Inherit, Add, Delete, Replace, Asked, Weld, End}
 use Rattle.journal_text.specs.declared.line.Code.{Code}
 use Rattle.journal_text.specs.declared.line.Line.{Line}
-use Rattle.journal_text.specs.declared.line.Line.TheVariants.{Journal, Out, Note, Row, Rows, Cover, Settled, Work, Bound, Idle, Ignored, Absent, Refused}
+use Rattle.journal_text.specs.declared.line.Line.TheVariants.{Journal, Refused}
 use Rattle.journal_check.specs.Readings.{TextEntry, is_clean, read_or_not, reading_from, reading_of}
 use Rattle.journal_check.specs.Judged.{entries_in, joined, each_read, entries_read, IsChecked}
 use Rattle.journal_check.specs.Laws.{IsAnswer, IsEntry, IsLine, said, texts_of}
@@ -51,18 +51,7 @@ printed_read line h = lines_read line (printed line) h (line_ended line)
 
 is_said : (line : Line) → read_or_not None ≡ said line → ⊥
 is_said (Journal entry) e = absurd (cc)
-is_said (Out k octets) e = absurd (cc)
-is_said (Note k octets) e = absurd (cc)
-is_said (Row link p value) e = absurd (cc)
-is_said (Rows link count) e = absurd (cc)
-is_said (Cover addr found subnet) e = absurd (cc)
-is_said (Settled p held) e = absurd (cc)
-is_said (Work turns) e = absurd (cc)
-is_said (Bound turns) e = absurd (cc)
-is_said (Idle turns) e = absurd (cc)
-is_said Ignored e = absurd (cc)
-is_said Absent e = absurd (cc)
-is_said (Refused number code) e = absurd (cc)
+is_said other e = absurd (cc)
 
 clean_of : (text : List ℕ) (line : Line) → reading_of text ≡ said line → is_clean text ≡ true
 unfolding reading_of
@@ -101,18 +90,7 @@ no_return text e = ap (λ b. cond b (take (length text - 1) text) text) (no_cr_a
 -- the entries that are read of the line
 entries_said : (line : Line) → entries_in (said line) ≡ Some (text_entries (entry_list line))
 entries_said (Journal entry) = refl
-entries_said (Out k octets) = refl
-entries_said (Note k octets) = refl
-entries_said (Row link p value) = refl
-entries_said (Rows link count) = refl
-entries_said (Cover addr found subnet) = refl
-entries_said (Settled p held) = refl
-entries_said (Work turns) = refl
-entries_said (Bound turns) = refl
-entries_said (Idle turns) = refl
-entries_said Ignored = refl
-entries_said Absent = refl
-entries_said (Refused number code) = refl
+entries_said other = refl
 
 -- ---- all lines
 
@@ -179,18 +157,7 @@ AreExact peers entries = AllByRecursion (λ e. AllByRecursion (IsWellTold peers)
 
 line_exact : (peers : ℕ → Option Neighbour) (line : Line) → IsLine line → AllByRecursion (IsTold peers) (values_in line) → AreExact peers (entry_list line)
 line_exact peers (Journal entry) h told = (values_exact peers entry h told, tt)
-line_exact peers (Out k octets) h told = tt
-line_exact peers (Note k octets) h told = tt
-line_exact peers (Row link p value) h told = tt
-line_exact peers (Rows link count) h told = tt
-line_exact peers (Cover addr found subnet) h told = tt
-line_exact peers (Settled p held) h told = tt
-line_exact peers (Work turns) h told = tt
-line_exact peers (Bound turns) h told = tt
-line_exact peers (Idle turns) h told = tt
-line_exact peers Ignored h told = tt
-line_exact peers Absent h told = tt
-line_exact peers (Refused number code) h told = tt
+line_exact peers other h told = tt
 
 lines_exact : (peers : ℕ → Option Neighbour) (lines : List Line) → AllByRecursion (IsPrinted peers) lines → AreExact peers (entries_of lines)
 lines_exact peers [] h = tt
@@ -238,18 +205,7 @@ all_if_loud (line ∷ lines) = ap (λ ls. line ∷ ls) (all_if_loud lines)
 none_if_quiet : (lines : List Line) → entries_of (kept true lines) ≡ []
 none_if_quiet [] = refl
 none_if_quiet (Journal entry ∷ lines) = none_if_quiet lines
-none_if_quiet (Out k octets ∷ lines) = none_if_quiet lines
-none_if_quiet (Note k octets ∷ lines) = none_if_quiet lines
-none_if_quiet (Row link p value ∷ lines) = none_if_quiet lines
-none_if_quiet (Rows link count ∷ lines) = none_if_quiet lines
-none_if_quiet (Cover addr found subnet ∷ lines) = none_if_quiet lines
-none_if_quiet (Settled p held ∷ lines) = none_if_quiet lines
-none_if_quiet (Work turns ∷ lines) = none_if_quiet lines
-none_if_quiet (Bound turns ∷ lines) = none_if_quiet lines
-none_if_quiet (Idle turns ∷ lines) = none_if_quiet lines
-none_if_quiet (Ignored ∷ lines) = none_if_quiet lines
-none_if_quiet (Absent ∷ lines) = none_if_quiet lines
-none_if_quiet (Refused number code ∷ lines) = none_if_quiet lines
+none_if_quiet (other ∷ lines) = none_if_quiet lines
 
 lawful_kept : (quiet : Bool) (lines : List Line) → IsLawful no_links (entries_of lines) → IsLawful no_links (entries_of (kept quiet lines))
 lawful_kept false lines lawful = subst (λ ls. IsLawful no_links (entries_of ls)) (sym (all_if_loud lines)) lawful

@@ -10,7 +10,7 @@ use Rattle.bgp_attr.specs.declared.route.Route.{Route}
 use Rattle.bgp_attr.specs.declared.speaker.Neighbour.{Neighbour}
 use Rattle.bgp_attr.specs.declared.speaker.Profile.{Profile}
 use Rattle.rib_route.specs.declared.Proto.{Proto}
-use Rattle.rib_route.specs.declared.Proto.TheVariants.{Connected, Static, Ospf, Rip}
+use Rattle.rib_route.specs.declared.Proto.TheVariants.{Connected}
 use Rattle.link_change.specs.Rows.{Rows, is_empty_map}
 use Rattle.link_change.specs.Changes.{IsSent}
 use Rattle.link_change.specs.declared.change.Change.{Change}
@@ -28,7 +28,7 @@ use Rattle.journal_text.specs.declared.line.Line.TheVariants as lines
 use Rattle.journal_text.specs.declared.link.Link.{Link}
 use Rattle.journal_text.specs.declared.link.Link.TheVariants.{In, Peer, Filt, Org, Lost as LostLink, Low, Dyn, Int}
 use Rattle.journal_text.specs.declared.link.Task.{Task}
-use Rattle.journal_text.specs.declared.link.Task.TheVariants.{Del, Fin, Nh, ReadRib, Out, Rdel, Red, Ext}
+use Rattle.journal_text.specs.declared.link.Task.TheVariants.{Del, Fin}
 use Rattle.journal_text.specs.declared.value.Value.{Value}
 use Rattle.journal_text.proofs.LinkLemmas.{same_link-yes}
 use Rattle.journal_check.specs.Laws.{IsPrefix}
@@ -127,9 +127,7 @@ peer_once k way named is = each_once 0 (way ++ Filt k ∷ []) (way_pushed 1 0 wa
 
 merge_at : (proto : Proto) → (height (merge_below proto) ≡ 1) × IsNamed (merge_below proto)
 merge_at Connected = (refl, tt)
-merge_at Static = (refl, tt)
-merge_at Ospf = (refl, tt)
-merge_at Rip = (refl, tt)
+merge_at other = (refl, tt)
 
 route_once : (proto : Proto) (way : List Link) → IsWay 2 way → AreEachOnce (way ++ (merge_below proto ∷ Int ∷ []))
 route_once proto way is =
@@ -248,9 +246,4 @@ module _ (peers : ℕ → Option Neighbour) where
           by_next : (next : Option Network) (new : Rows Route) → Prints peers route_value new → IsSentAt next (filt_rows c) new sent → ArePrintedEntries (sent_entries route_value (Filt c.incoming.number) sent)
           by_next None new then is = subst (λ (s : Option (Change Route)). ArePrintedEntries (sent_entries route_value (Filt c.incoming.number) s)) (sym is.0) tt
           by_next (Some p) new then is = sent_printed route_value (Filt c.incoming.number) (filt_rows c) new p sent fit.named (filt_prints peers profile c fit) then is
-      turned_fit (Nh k) less sent fall t = absurd t
-      turned_fit ReadRib less sent fall t = absurd t
-      turned_fit Red less sent fall t = absurd t
-      turned_fit Ext less sent fall t = absurd t
-      turned_fit (Out k) less sent fall t = absurd t
-      turned_fit (Rdel proto n) less sent fall t = absurd t
+      turned_fit other less sent fall t = absurd t

@@ -69,11 +69,7 @@ proto_by c = cond (nat_eq c 99) Connected (cond (nat_eq c 115) Static (cond (nat
 
 proto_back : (p : FibProto) → proto_by (first_byte (fib_proto_text p)) ≡ p
 proto_back Connected = refl
-proto_back Static = refl
-proto_back Ospf = refl
-proto_back Rip = refl
-proto_back Ebgp = refl
-proto_back Ibgp = refl
+proto_back other = refl
 
 fib_proto_told : (p q : FibProto) → fib_proto_text p ≡ fib_proto_text q → p ≡ q
 fib_proto_told p q e = sym (proto_back p) ∙ (ap (λ t. proto_by (first_byte t)) e ∙ proto_back q)
@@ -82,26 +78,18 @@ abbrev interior_by : FibProto → Proto
 interior_by Connected = interior.Connected
 interior_by Static = interior.Static
 interior_by Ospf = interior.Ospf
-interior_by Rip = interior.Rip
-interior_by Ebgp = interior.Rip
-interior_by Ibgp = interior.Rip
+interior_by other = interior.Rip
 
 interior_back : (p : Proto) → interior_by (fib_proto p) ≡ p
 interior_back interior.Connected = refl
-interior_back interior.Static = refl
-interior_back interior.Ospf = refl
-interior_back interior.Rip = refl
+interior_back other = refl
 
 proto_told : (p q : Proto) → proto_text p ≡ proto_text q → p ≡ q
 proto_told p q e = sym (interior_back p) ∙ (ap interior_by (fib_proto_told (fib_proto p) (fib_proto q) e) ∙ interior_back q)
 
 abbrev is_internal : FibProto → Bool
-is_internal Connected = false
-is_internal Static = false
-is_internal Ospf = false
-is_internal Rip = false
-is_internal Ebgp = false
 is_internal Ibgp = true
+is_internal other = false
 
 internal_back : (b : Bool) → is_internal (cond b Ibgp Ebgp) ≡ b
 internal_back true = refl

@@ -23,7 +23,7 @@ use Rattle.journal_text.specs.declared.value.Value.TheVariants as values
 use Rattle.journal_text.specs.declared.entry.Entry.{Entry}
 use Rattle.journal_text.specs.declared.entry.Entry.TheVariants.{Begin, Inherit, Add, Delete, Replace, Asked, Weld, End}
 use Rattle.journal_text.specs.declared.line.Code.{Code}
-use Rattle.journal_text.specs.declared.line.Code.TheVariants.{E1, E2, E3, E4, E5, E6, E7}
+use Rattle.journal_text.specs.declared.line.Code.TheVariants.{E1}
 use Rattle.journal_text.specs.declared.line.Line.{Line}
 use Rattle.journal_text.specs.declared.line.Line.TheVariants.{Journal, Out, Note, Row, Rows, Cover, Settled, Work, Bound, Idle, Ignored, Absent, Refused}
 use Rattle.journal_check.specs.Laws.{IsPrefix, IsNumberIfAny, HasRanges, HasRouteRanges, IsValue, IsAnswer, IsMatch, IsNamedIfAny, IsEntry, IsLine}
@@ -159,12 +159,7 @@ short_match (Some p) h = short_prefix p h
 
 short_code : (code : Code) → length (code_text code) ≤ 2
 short_code E1 = omega arith
-short_code E2 = omega arith
-short_code E3 = omega arith
-short_code E4 = omega arith
-short_code E5 = omega arith
-short_code E6 = omega arith
-short_code E7 = omega arith
+short_code other = omega arith
 
 -- the words of whether a prefix is settled
 settled_short : (p : Network) (held : Option Task) → IsPrefix p → IsNamedIfAny held → length (words_line (codes "settled" ∷ prefix_text p ∷ held_words held)) ≤ 65537

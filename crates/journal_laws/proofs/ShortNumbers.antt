@@ -9,7 +9,7 @@ use Rattle.addr4.specs.Prefixes.{Network}
 use Rattle.addr4.specs.Texts.{dotted, addr_text, prefix_text}
 use Rattle.rib_route.specs.declared.Proto.{Proto}
 use Rattle.rib_route.specs.declared.protocol.FibProto.{FibProto}
-use Rattle.rib_route.specs.declared.protocol.FibProto.TheVariants.{Connected, Static, Ospf, Rip, Ebgp, Ibgp}
+use Rattle.rib_route.specs.declared.protocol.FibProto.TheVariants.{Connected}
 use Rattle.rib_route.specs.Distances.{fib_proto}
 use Rattle.rib_route.specs.Ifaces.{is_name_byte, is_iface_name}
 use Rattle.journal_text.specs.Names.{IsNameNumber, IsNamed, IsNamedTask}
@@ -17,7 +17,7 @@ use Rattle.journal_text.specs.Texts.{fib_proto_text, proto_text, dot_number, lin
 use Rattle.journal_text.specs.declared.link.Link.{Link}
 use Rattle.journal_text.specs.declared.link.Task.{Task}
 use Rattle.journal_text.specs.declared.link.Task.TheVariants as tasks
-use Rattle.journal_text.specs.declared.link.Link.TheVariants.{In, Peer, Filt, Res, Org, Lost, Low, Dyn, Int, Red, Best, ReadRib, Ebgp as EbgpLink, Ibgp as IbgpLink, Ext, Fib, Read, Outf, Adv}
+use Rattle.journal_text.specs.declared.link.Link.TheVariants.{In, Peer, Filt, Res, Org, Lost, Read, Outf, Adv}
 use Rattle.journal_check.specs.Laws.{IsPrefix}
 use Rattle.journal_check.proofs.InkLemmas.{both_true}
 
@@ -79,11 +79,7 @@ two_numbers word k s few h = omega (arith, short_number k h.0.1, short_number s 
 
 pub short_fib_proto : (p : FibProto) → length (fib_proto_text p) ≤ 9
 short_fib_proto Connected = omega arith
-short_fib_proto Static = omega arith
-short_fib_proto Ospf = omega arith
-short_fib_proto Rip = omega arith
-short_fib_proto Ebgp = omega arith
-short_fib_proto Ibgp = omega arith
+short_fib_proto other = omega arith
 
 short_org : (p : Proto) → length (codes "org." ++ proto_text p) ≤ 13
 short_org p = omega (arith, short_fib_proto (fib_proto p))
@@ -96,11 +92,9 @@ unfolding task_text
 short_task (tasks.Del k s) h = two_numbers (codes "del") k s (omega arith) h
 short_task (tasks.Fin k) h = omega (arith, one_number (codes "fin") k (omega arith) h)
 short_task (tasks.Nh k) h = omega (arith, one_number (codes "nh") k (omega arith) h)
-short_task tasks.ReadRib h = omega arith
 short_task (tasks.Out j) h = omega (arith, one_number (codes "out") j (omega arith) h)
 short_task (tasks.Rdel proto n) h = omega (arith, short_rdel proto, one_number (codes "rdel." ++ proto_text proto) n (short_rdel proto) h)
-short_task tasks.Red h = omega arith
-short_task tasks.Ext h = omega arith
+short_task other h = omega arith
 
 pub short_link : (link : Link) → IsNamed link → length (link_text link) ≤ 26
 unfolding link_text
@@ -110,19 +104,10 @@ short_link (Filt k) h = omega (arith, one_number (codes "filt") k (omega arith) 
 short_link (Res k) h = omega (arith, one_number (codes "res") k (omega arith) h)
 short_link (Org proto) h = omega (arith, short_org proto)
 short_link (Lost proto n) h = omega (arith, short_org proto, one_number (codes "org." ++ proto_text proto) n (omega (arith, short_org proto)) h)
-short_link Low h = omega arith
-short_link Dyn h = omega arith
-short_link Int h = omega arith
-short_link Red h = omega arith
-short_link Best h = omega arith
-short_link ReadRib h = omega arith
-short_link EbgpLink h = omega arith
-short_link IbgpLink h = omega arith
-short_link Ext h = omega arith
-short_link Fib h = omega arith
 short_link (Read j s) h = two_numbers (codes "read") j s (omega arith) h
 short_link (Outf j s) h = two_numbers (codes "outf") j s (omega arith) h
 short_link (Adv j s) h = two_numbers (codes "adv") j s (omega arith) h
+short_link other h = omega arith
 
 pub short_name : (name : List ℕ) → is_iface_name name ≡ true → length name ≤ 15
 short_name name e =

@@ -9,7 +9,7 @@ use Rattle.bgp_attr.specs.declared.attrs.Origin.TheVariants.{Igp, Egp, Incomplet
 use Rattle.bgp_attr.specs.declared.speaker.Neighbour.{Neighbour}
 use Rattle.bgp_attr.specs.declared.route.Route.{Route}
 use Rattle.rib_route.specs.declared.protocol.FibProto.{FibProto}
-use Rattle.rib_route.specs.declared.protocol.FibProto.TheVariants.{Connected, Static, Ospf, Rip, Ebgp, Ibgp}
+use Rattle.rib_route.specs.declared.protocol.FibProto.TheVariants.{Connected}
 use Rattle.rib_route.specs.Distances.{fib_proto, external_proto}
 use Rattle.journal_text.specs.Texts.{origin_number, attrs_text, sender_number, field_text, known_text, route_text, fib_proto_text, interior_text, external_text, fib_text, with_colons, gateway_text, value_text}
 use Rattle.journal_text.specs.declared.value.Value.{Value}
@@ -110,11 +110,7 @@ route_kind r h =
 -- a protocol and more: neither of its first bytes is a digit
 proto_kind : (p : FibProto) (next : List ℕ) (words : List (List ℕ)) → kind_by (with_colons (fib_proto_text p ∷ next ∷ words)) ≡ length (parts 58 (with_colons (fib_proto_text p ∷ next ∷ words)))
 proto_kind Connected next words = refl
-proto_kind Static next words = refl
-proto_kind Ospf next words = refl
-proto_kind Rip next words = refl
-proto_kind Ebgp next words = refl
-proto_kind Ibgp next words = refl
+proto_kind other next words = refl
 
 kind_told : (peers : ℕ → Option Neighbour) (value : Value) → IsWellTold peers value → kind_by (value_text value) ≡ kind_of value
 unfolding interior_text external_text fib_text
@@ -128,30 +124,15 @@ kind_told peers (values.FibRow r) h = proto_kind r.proto (gateway_text r.gateway
 
 by_kinds : (peers : ℕ → Option Neighbour) (a b : Value) → IsWellTold peers a → IsWellTold peers b → kind_of a ≡ kind_of b → value_text a ≡ value_text b → a ≡ b
 by_kinds peers (values.Attrs a) (values.Attrs b) ha hb same e = ap (λ x. values.Attrs x) (attrs_told a b ha.ranges hb.ranges ha.told hb.told e)
-by_kinds peers (values.Attrs a) (values.Route b) ha hb same e = absurd (omega arith)
-by_kinds peers (values.Attrs a) (values.Interior b) ha hb same e = absurd (omega arith)
-by_kinds peers (values.Attrs a) (values.External b) ha hb same e = absurd (omega arith)
-by_kinds peers (values.Attrs a) (values.FibRow b) ha hb same e = absurd (omega arith)
-by_kinds peers (values.Route a) (values.Attrs b) ha hb same e = absurd (omega arith)
+by_kinds peers (values.Attrs a) other ha hb same e = absurd (omega arith)
 by_kinds peers (values.Route a) (values.Route b) ha hb same e = ap (λ x. values.Route x) (route_told peers a b ha.ranges hb.ranges ha.told.0 hb.told.0 ha.told.1 hb.told.1 e)
-by_kinds peers (values.Route a) (values.Interior b) ha hb same e = absurd (omega arith)
-by_kinds peers (values.Route a) (values.External b) ha hb same e = absurd (omega arith)
-by_kinds peers (values.Route a) (values.FibRow b) ha hb same e = absurd (omega arith)
-by_kinds peers (values.Interior a) (values.Attrs b) ha hb same e = absurd (omega arith)
-by_kinds peers (values.Interior a) (values.Route b) ha hb same e = absurd (omega arith)
+by_kinds peers (values.Route a) other ha hb same e = absurd (omega arith)
 by_kinds peers (values.Interior a) (values.Interior b) ha hb same e = ap (λ x. values.Interior x) (interior_told a b ha.ranges.0 hb.ranges.0 ha.ranges.1 hb.ranges.1 ha.told hb.told e)
-by_kinds peers (values.Interior a) (values.External b) ha hb same e = absurd (omega arith)
-by_kinds peers (values.Interior a) (values.FibRow b) ha hb same e = absurd (omega arith)
-by_kinds peers (values.External a) (values.Attrs b) ha hb same e = absurd (omega arith)
-by_kinds peers (values.External a) (values.Route b) ha hb same e = absurd (omega arith)
-by_kinds peers (values.External a) (values.Interior b) ha hb same e = absurd (omega arith)
+by_kinds peers (values.Interior a) other ha hb same e = absurd (omega arith)
 by_kinds peers (values.External a) (values.External b) ha hb same e = ap (λ x. values.External x) (external_told a b ha.told hb.told e)
-by_kinds peers (values.External a) (values.FibRow b) ha hb same e = absurd (omega arith)
-by_kinds peers (values.FibRow a) (values.Attrs b) ha hb same e = absurd (omega arith)
-by_kinds peers (values.FibRow a) (values.Route b) ha hb same e = absurd (omega arith)
-by_kinds peers (values.FibRow a) (values.Interior b) ha hb same e = absurd (omega arith)
-by_kinds peers (values.FibRow a) (values.External b) ha hb same e = absurd (omega arith)
+by_kinds peers (values.External a) other ha hb same e = absurd (omega arith)
 by_kinds peers (values.FibRow a) (values.FibRow b) ha hb same e = ap (λ x. values.FibRow x) (fib_told a b ha.ranges hb.ranges ha.told hb.told e)
+by_kinds peers (values.FibRow a) other ha hb same e = absurd (omega arith)
 
 pub values_told : ValuesAreTold
 values_told peers a b ha hb e = by_kinds peers a b ha hb (sym (kind_told peers a ha) ∙ (ap kind_by e ∙ kind_told peers b hb)) e

@@ -12,7 +12,7 @@ use Rattle.journal_text.specs.declared.value.Value.TheVariants as values
 use Rattle.journal_text.specs.declared.entry.Entry.{Entry}
 use Rattle.journal_text.specs.declared.entry.Entry.TheVariants.{Begin, Inherit, Add, Delete, Replace, Asked, Weld, End}
 use Rattle.journal_text.specs.declared.line.Line.{Line}
-use Rattle.journal_text.specs.declared.line.Line.TheVariants.{Journal, Out, Note, Row, Rows, Cover, Settled, Work, Bound, Idle, Ignored, Absent, Refused}
+use Rattle.journal_text.specs.declared.line.Line.TheVariants.{Journal, Out, Note, Row}
 use Rattle.journal_check.specs.Laws.{IsValue, IsLine}
 
 -- ---- values that are short
@@ -84,34 +84,14 @@ values_of (End link) = []
 -- the values in a line
 abbrev pub values_in : Line → List Value
 values_in (Journal entry) = values_of entry
-values_in (Out k octets) = []
-values_in (Note k octets) = []
 values_in (Row link p value) = value ∷ []
-values_in (Rows link count) = []
-values_in (Cover addr found subnet) = []
-values_in (Settled p held) = []
-values_in (Work turns) = []
-values_in (Bound turns) = []
-values_in (Idle turns) = []
-values_in Ignored = []
-values_in Absent = []
-values_in (Refused number code) = []
+values_in other = []
 
 -- the octets of the message in a line
 abbrev pub octets_in : Line → List ℕ
-octets_in (Journal entry) = []
 octets_in (Out k octets) = octets
 octets_in (Note k octets) = octets
-octets_in (Row link p value) = []
-octets_in (Rows link count) = []
-octets_in (Cover addr found subnet) = []
-octets_in (Settled p held) = []
-octets_in (Work turns) = []
-octets_in (Bound turns) = []
-octets_in (Idle turns) = []
-octets_in Ignored = []
-octets_in Absent = []
-octets_in (Refused number code) = []
+octets_in other = []
 
 -- its links have numbers from 1, its numbers are in their ranges, and messages have room for what they hold
 pub record IsShortLine (line : Line) : Type 0 where

@@ -8,5 +8,6 @@ pub mod WholeLemmas
 pub mod WorkLemmas
 pub mod CountLemmas
 pub mod TurnLemmas
+pub mod BeyondLemmas
 pub mod TableLemmas
 pub mod HeldLemmas

@@ -9,7 +9,7 @@ use Rattle.journal_text.specs.declared.link.Task.{Task}
 use Rattle.loss_chain.specs.declared.owner.Owner.{Owner}
 use Rattle.loss_chain.specs.Owners.{loss_task}
 use Rattle.std.proofs.lemmas.Bool.Decides.{nat_tests}
-use Rattle.loss_chain.specs.Tables.{Tables, NoneEmpty}
+use Rattle.loss_chain.specs.Tables.{Tables}
 use Rattle.loss_chain.proofs.ListLemmas.{all_appended}
 use Rattle.loss_chain.specs.Steps.{without, swept_one, table_of, oldest_of, overdue_of, lost_tables}
 
@@ -21,9 +21,6 @@ same_by m n e = grind (arith, nat_tests)
 
 pub other_by : (m n : ℕ) → (m ≡ n → ⊥) → nat_eq m n ≡ false
 other_by m n e = grind (arith, nat_tests)
-
-both : {A : Type 0} {x y : A} {xs ys : List A} → x ≡ y → xs ≡ ys → (x ∷ xs) ≡ (y ∷ ys)
-both p q i = p i ∷ q i
 
 pub no_table : {A : Type 0} (o : Option A) → is_some o ≡ false → o ≡ None
 no_table None e = refl
@@ -52,10 +49,6 @@ module _ {R : Type 0} where
   pub none_later : (n : ℕ) (ds : List (Lost R)) → AllByRecursion (λ later. n < later.number) ds → table_of n ds ≡ None
   none_later n [] all = refl
   none_later n (d ∷ ds) all = ap (λ (b : Bool). cond b (Some d.rows) (table_of n ds)) (other_by d.number n (λ same. let lt : n < d.number = all.0 in omega arith)) ∙ none_later n ds all.1
-
-  pub full_stay : (ds : List (Lost R)) → NoneEmpty ds → filter is_full ds ≡ ds
-  full_stay [] full = refl
-  full_stay (d ∷ ds) full = ap (λ (b : Bool). cond (not b) (d ∷ filter is_full ds) (filter is_full ds)) full.0 ∙ both refl (full_stay ds full.1)
 
   pub swept_number : (n : ℕ) (p : Network) (d : Lost R) → (swept_one n p d).number ≡ d.number
   swept_number n p d = elim (nat_eq d.number n) as (λ b. (cond b (without p d) d).number ≡ d.number) [ true ↦ refl | false ↦ refl ]

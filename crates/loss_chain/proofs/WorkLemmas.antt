@@ -26,9 +26,8 @@ use Rattle.journal_text.specs.declared.value.Value.{Value}
 use Rattle.loss_chain.specs.declared.owner.Owner.{Owner}
 use Rattle.loss_chain.specs.Owners.{lost_link}
 use Rattle.loss_chain.specs.Falls.{way_from}
-use Rattle.loss_chain.specs.Steps.{no_tables, lost_tables, loss_entries, welded_tables, weld_entries, without, deletions_after, table_of, swept_tables, swept_one}
+use Rattle.loss_chain.specs.Steps.{no_tables, loss_entries, welded_tables, weld_entries, without, deletions_after, table_of, swept_tables, swept_one}
 use Rattle.loss_chain.specs.Parts.{lowered, IsRisingFrom, IsSound, LeadsOver, FallsOver, SweepsOver, IsTakenOver, filled, filled_once}
-use Rattle.loss_chain.proofs.ListLemmas.{all_appended}
 use Rattle.loss_chain.proofs.RowLemmas.{not_held, same_lost}
 use Rattle.loss_chain.proofs.PartLemmas.{passes_down, passes_quietly, own_falls, begins, welds}
 
@@ -40,9 +39,6 @@ other_number m n e = grind (arith, nat_tests)
 
 module _ {R : Type 0} where
   -- ---- welds
-
-  abbrev IsFull : Lost R → Type 0
-  IsFull d = is_empty_map d.rows ≡ false
 
   none_dropped : (ds : List (Lost R)) → NoneEmpty ds → filter (λ d. not (is_empty_map d.rows)) ds ≡ ds
   none_dropped [] full = refl
@@ -145,14 +141,6 @@ module _ {R : Type 0} where
       elim (is_empty_map d.rows) as (λ b. is_empty_map d.rows ≡ b → NoneEmpty (cond (not b) (d ∷ rest) rest)) [
         | true ↦ λ _. none_welded ds
         | false ↦ λ e. (e, none_welded ds)
-      ] refl
-
-  -- a loss makes none
-  pub none_lost : (number : ℕ) (t : Tables R) → NoneEmpty t.deletions → NoneEmpty (lost_tables number t).deletions
-  none_lost number t full =
-      elim (is_empty_map t.live) as (λ b. is_empty_map t.live ≡ b → NoneEmpty (cond b t.deletions (t.deletions ++ record { number = number; rows = t.live } ∷ []))) [
-        | true ↦ λ _. full
-        | false ↦ λ e. all_appended IsFull IsFull (λ d h. h) t.deletions _ full e
       ] refl
 
   -- ---- a turn of a stage above

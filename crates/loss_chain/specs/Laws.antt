@@ -1,11 +1,13 @@
 -- Laws of chains, for the crates above.
-use Rattle.std.specs.Prelude.{◌≡◌, ◌⊎◌, ℕ, ◌+◌, false, List, Option, Some, None}
+use Rattle.std.specs.Prelude.{◌≡◌, ◌⊎◌, ℕ, ◌+◌, ◌≤◌, true, false, List, length, Option, Some, None}
+use Rattle.std.specs.List.{Contains, count_by}
 use Rattle.std.specs.FinMap as map
 use Rattle.std.specs.FinMap.{FinMap}
 use Rattle.addr4.specs.Prefixes.{Network, prefix_cmp}
-use Rattle.link_change.specs.Rows.{Rows}
+use Rattle.link_change.specs.Rows.{Rows, Candidates, with_rows}
+use Rattle.pass_core.specs.Passed.{is_beyond}
 use Rattle.loss_chain.specs.Lost.{Lost}
-use Rattle.loss_chain.specs.Tables.{Tables, IsLossChain, AreRising, rows_below, lowest_rows, tables_count}
+use Rattle.loss_chain.specs.Tables.{Tables, IsLossChain, AreRising, rows_below, lowest_rows, tables_count, tables_beyond}
 use Rattle.loss_chain.specs.Held.{has_row, has_over}
 use Rattle.loss_chain.specs.Rows.{IsRow}
 use Rattle.loss_chain.specs.Steps.{no_tables, fed_tables, table_of, lost_tables, welded_tables, swept_tables}
@@ -66,3 +68,22 @@ LiveWhereNoneIsLost R =
 -- No table has no prefix that holds an address.
 abbrev pub NoTableHoldsNothing : Type 0 → Type 0
 NoTableHoldsNothing R = (a : ℕ) → has_over {R = R} None a ≡ false
+
+-- ---- rows beyond a place
+-- These prefixes are as many as the rows, beyond each place as many as these numbers, and each candidate is one of them.
+pub record Lists (prefixes : List Network) (rows : ℕ) (beyond : Option Network → ℕ) (candidates : Candidates) : Type 0 where
+  pub all : length prefixes ≡ rows
+  pub counts : (place : Option Network) → count_by (is_beyond place) prefixes ≡ beyond place
+  pub stands : (q : Network) → candidates q ≡ true → Contains prefixes q
+
+-- There are such prefixes of the rows of all tables of a chain, and of the lowest link: so these rows count what a walk over that
+-- link has yet to go to.
+abbrev pub RowsAreListed : Type 0 → Type 0
+RowsAreListed R = (t : Tables R) → (prefixes : List Network) × Lists prefixes (tables_count t) (λ place. tables_beyond place t) (with_rows (lowest_rows t))
+
+-- A turn of a deletion stage leaves no more of them beyond any place, nor does a weld.
+abbrev pub TurnsLeaveNoMore : Type 0 → Type 0
+TurnsLeaveNoMore R = (place : Option Network) (number : ℕ) (p : Network) (t : Tables R) → tables_beyond place (swept_tables number p t) ≤ tables_beyond place t
+
+abbrev pub WeldsLeaveNoMore : Type 0 → Type 0
+WeldsLeaveNoMore R = (place : Option Network) (t : Tables R) → tables_beyond place (welded_tables t) ≤ tables_beyond place t

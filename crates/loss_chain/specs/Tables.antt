@@ -1,12 +1,13 @@
 -- What contracts see of the stages above a link whose source may be lost: the live rows, and below them the tables of losses
 -- whose deletes weren't sent yet (NSDI 2005, section 5.1.2).
 use Rattle.std.specs.Prelude.{◌≡◌, ℕ, ◌+◌, ◌==◌, ◌<◌, cond, false, if◌then◌else◌, List, [], ◌∷◌, ◌⊎◌, Option, Some, None, option_map, refl}
-use Rattle.std.specs.List.{AllByRecursion}
+use Rattle.std.specs.List.{AllByRecursion, count_by}
 use Rattle.std.specs.Coded.{Coded, code_by, coded×, coded_list}
 use Rattle.std.specs.FinMap as map
 use Rattle.std.specs.FinMap.{FinMap}
-use Rattle.addr4.specs.Prefixes.{prefix_cmp, network_code}
+use Rattle.addr4.specs.Prefixes.{Network, prefix_cmp, network_code}
 use Rattle.link_change.specs.Rows.{Rows, is_empty_map}
+use Rattle.pass_core.specs.Passed.{is_beyond}
 use Rattle.loss_chain.specs.Lost.{Lost, lost_code}
 use Rattle.loss_chain.specs.Covering.{covered, AreApart}
 use Rattle.journal_text.specs.declared.link.Link.TheVariants as names
@@ -85,3 +86,15 @@ lost_count (d ∷ ds) = map.len d.rows + lost_count ds
 
 abbrev pub tables_count : {R : Type 0} → Tables R → ℕ
 tables_count t = map.len t.live + lost_count t.deletions
+
+-- how many rows of a table lie beyond a place, where a walk has yet to go
+abbrev pub table_beyond : {R : Type 0} → Option Network → FinMap prefix_cmp R → ℕ
+table_beyond place t = count_by (is_beyond place) (map.keys t)
+
+abbrev pub lost_beyond : {R : Type 0} → Option Network → List (Lost R) → ℕ
+lost_beyond place [] = 0
+lost_beyond place (d ∷ ds) = table_beyond place d.rows + lost_beyond place ds
+
+-- how many rows of all tables do
+abbrev pub tables_beyond : {R : Type 0} → Option Network → Tables R → ℕ
+tables_beyond place t = table_beyond place t.live + lost_beyond place t.deletions

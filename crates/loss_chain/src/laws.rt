@@ -1,6 +1,6 @@
 //! Laws of chains, for the proofs of the crates above. Each is a function that does nothing, whose contract is the law.
 
-ghost use Rattle.loss_chain.specs.Laws.{RowsAreCounted, TurnsTakeRows, WeldsKeepRows, LossesKeepRows, NoRowAtFirst, FeedsBringOneRow, LossesBringNoRow, WeldsBringNoRow, TurnsBringNoRow, LowestRowsAreRows, LiveWhereNoneIsLost, NoTableHoldsNothing};
+ghost use Rattle.loss_chain.specs.Laws.{RowsAreCounted, TurnsTakeRows, WeldsKeepRows, LossesKeepRows, NoRowAtFirst, FeedsBringOneRow, LossesBringNoRow, WeldsBringNoRow, TurnsBringNoRow, LowestRowsAreRows, LiveWhereNoneIsLost, NoTableHoldsNothing, RowsAreListed, TurnsLeaveNoMore, WeldsLeaveNoMore};
 
 /// The count that [`LossChain::rows`](crate::LossChain::rows) gives is the number of rows of the lowest link.
 pub fn rows_are_counted<R>()
@@ -29,4 +29,11 @@ pub fn each_row_is_fed<R>()
 pub fn live_where_none_is_lost<R>()
     ensures live { LiveWhereNoneIsLost R }
     ensures none { NoTableHoldsNothing R }
+{}
+
+/// The rows of a chain, by prefix: how many there are beyond a place, and that background work makes them no more.
+pub fn rows_are_listed<R>()
+    ensures listed { RowsAreListed R }
+    ensures turns { TurnsLeaveNoMore R }
+    ensures welds { WeldsLeaveNoMore R }
 {}

@@ -33,7 +33,9 @@ mod stage;
 
 pub use chain::LossChain;
 pub use deletion::Deletion;
-pub use laws::{each_row_is_fed, live_where_none_is_lost, rows_are_counted, turns_take_rows};
+pub use laws::{
+    each_row_is_fed, live_where_none_is_lost, rows_are_counted, rows_are_listed, turns_take_rows,
+};
 pub use live::Live;
 pub use owner::Owner;
 pub use stage::Stage;

@@ -10,7 +10,7 @@ use Rattle.policy_rules.specs.declared.rule.Rule.{Rule}
 use Rattle.pass_core.specs.Passed.{Passed, Walked, present, latest_of, present_of, stepped, walk_of_waiting, after_walk}
 use Rattle.pass_core.specs.Turns.{walked_on, IsSentAt}
 use Rattle.journal_text.specs.declared.link.Task.{Task}
-use Rattle.journal_text.specs.declared.link.Task.TheVariants.{Del, Fin, Nh, ReadRib, Out, Rdel, Red, Ext}
+use Rattle.journal_text.specs.declared.link.Task.TheVariants.{Del, Fin}
 use Rattle.journal_text.specs.declared.entry.Entry.{Entry}
 use Rattle.journal_text.specs.declared.value.Value.{Value}
 use Rattle.loss_chain.specs.Lost.{Lost}
@@ -29,12 +29,7 @@ use Rattle.peer_side.proofs.PutLemmas.{put_lost, put_left}
 pub turn_leads : (task : Task) (c less : Chained) (sent : Option (Change Route)) (entries : List (Entry Value)) → Turned c less task sent entries → LeadsChain c entries less
 turn_leads (Del k s) c less sent entries t = t.1.fall.leads
 turn_leads (Fin k) c less sent entries t = t.1.leads
-turn_leads (Nh k) c less sent entries t = absurd t
-turn_leads ReadRib c less sent entries t = absurd t
-turn_leads Red c less sent entries t = absurd t
-turn_leads Ext c less sent entries t = absurd t
-turn_leads (Out k) c less sent entries t = absurd t
-turn_leads (Rdel proto n) c less sent entries t = absurd t
+turn_leads other c less sent entries t = absurd t
 
 -- ---- the lost sessions of a chain
 
@@ -102,12 +97,7 @@ turn_left (Fin k) c less sent entries t = subst (Left c) (sym t.1.after) (record
   };
   few = omega arith;
 })
-turn_left (Nh k) c less sent entries t = absurd t
-turn_left ReadRib c less sent entries t = absurd t
-turn_left Red c less sent entries t = absurd t
-turn_left Ext c less sent entries t = absurd t
-turn_left (Out k) c less sent entries t = absurd t
-turn_left (Rdel proto n) c less sent entries t = absurd t
+turn_left other c less sent entries t = absurd t
 
 pub turn_nears : (task : Task) (a : Chains) (k : ℕ) (c less : Chained) (sent : Option (Change Route)) (entries : List (Entry Value)) → chain_at k a ≡ Some c → IsChain c → Turned c less task sent entries → Nears task a (put_chain k less a)
 turn_nears (Del n s) a k c less sent entries at chain t =
@@ -123,12 +113,7 @@ turn_nears (Fin n) a k c less sent entries at chain t =
     let l = put_lost k c less a at in
     let w = put_left k c less a at in
     (omega (arith, l, same), omega (arith, w, fewer))
-turn_nears (Nh n) a k c less sent entries at chain t = absurd t
-turn_nears ReadRib a k c less sent entries at chain t = absurd t
-turn_nears Red a k c less sent entries at chain t = absurd t
-turn_nears Ext a k c less sent entries at chain t = absurd t
-turn_nears (Out n) a k c less sent entries at chain t = absurd t
-turn_nears (Rdel proto n) a k c less sent entries at chain t = absurd t
+turn_nears other a k c less sent entries at chain t = absurd t
 
 -- ---- what comes out on `filt.K`
 walk_sent : (next : Option Network) (old new : Network → Option Route) (sent : Option (Change Route)) → IsSentAt next old new sent → (p : Network) × IsSent old new p sent
@@ -139,9 +124,4 @@ pub turn_sent : (task : Task) (c less : Chained) (sent : Option (Change Route)) 
 turn_sent (Del k s) c less sent entries t = (t.1.prefix, t.1.rows)
 turn_sent (Fin k) c less sent entries t =
     subst (λ (x : Chained). (p : Network) × IsSent (filt_rows c) (filt_rows x) p sent) (sym t.1.after) (walk_sent t.1.walks.next (filt_rows c) (filt_rows (record c { filter = less.filter })) sent t.1.walks.changes)
-turn_sent (Nh k) c less sent entries t = absurd t
-turn_sent ReadRib c less sent entries t = absurd t
-turn_sent Red c less sent entries t = absurd t
-turn_sent Ext c less sent entries t = absurd t
-turn_sent (Out k) c less sent entries t = absurd t
-turn_sent (Rdel proto n) c less sent entries t = absurd t
+turn_sent other c less sent entries t = absurd t

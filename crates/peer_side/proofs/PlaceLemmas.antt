@@ -1,5 +1,5 @@
 -- A list is gone through by place.
-use Rattle.std.proofs.Common.{◌≡◌, ℕ, zero, suc, ◌+◌, ◌≤◌, Bool, true, false, cond, List, [], ◌∷◌, length, map, drop, Option, Some, None, refl, sym, ap, ◌∙◌, arith}
+use Rattle.std.proofs.Common.{◌≡◌, ℕ, zero, suc, ◌+◌, Bool, true, false, cond, List, [], ◌∷◌, map, drop, Some, None, refl, sym, ap, ◌∙◌, arith}
 use Rattle.std.specs.Prelude.{option_map, slice_get}
 use Rattle.std.specs.List.{find}
 
@@ -15,12 +15,6 @@ module _ {A B : Type 0} (f : A → B) (W : B → Bool) where
   behind_all [] (suc n) e = refl
   behind_all (x ∷ xs) zero e = absurd (cc)
   behind_all (x ∷ xs) (suc n) e = behind_all xs n e
-
-  pub behind_length : (xs : List A) (n : ℕ) → length xs ≤ n → find W (map f (drop n xs)) ≡ None
-  behind_length [] zero le = refl
-  behind_length [] (suc n) le = refl
-  behind_length (x ∷ xs) zero le = absurd (omega (arith, le))
-  behind_length (x ∷ xs) (suc n) le = behind_length xs n (omega (arith, le))
 
   pub such : (xs : List A) (n : ℕ) (y : B) → find W (map f (drop n xs)) ≡ find W (map f xs) → option_map f (slice_get xs n) ≡ Some y → W y ≡ true → Some y ≡ find W (map f xs)
   such xs n y so at is = sym (sym so ∙ from_place xs n y at ∙ ap (λ (b : Bool). cond b (Some y) (find W (map f (drop (suc n) xs)))) is)

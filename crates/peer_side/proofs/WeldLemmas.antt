@@ -1,8 +1,8 @@
 -- A fall in a peer's chain, and the weld behind it.
-use Rattle.std.proofs.Common.{◌≡◌, ℕ, ◌<◌, ◌≤◌, List, ◌++◌, Some, sym, ap, subst, ◌∙◌, arith}
+use Rattle.std.proofs.Common.{◌≡◌, ℕ, List, ◌++◌, Some, sym, ap, subst, ◌∙◌, arith}
 use Rattle.std.proofs.lemmas.Option.{same_Some}
 use Rattle.journal_text.specs.declared.link.Task.{Task}
-use Rattle.journal_text.specs.declared.link.Task.TheVariants.{Del, Fin, Nh, ReadRib, Out, Rdel, Red, Ext}
+use Rattle.journal_text.specs.declared.link.Task.TheVariants.{Del, Fin}
 use Rattle.journal_text.specs.declared.entry.Entry.{Entry}
 use Rattle.journal_text.specs.declared.value.Value.{Value}
 use Rattle.journal_text.specs.Journals.{Journaled, with_entries}
@@ -34,12 +34,7 @@ module _ (k : ℕ) (a fallen cs : Chains) (c : Chained) (entries : List (Entry V
 pub nears_weld : (task : Task) (k : ℕ) (a fallen cs : Chains) (entries : List (Entry Value)) → Nears task a fallen → WeldsInward k fallen cs entries → Nears task a cs
 nears_weld (Del n s) k a fallen cs entries near w = let l = near.0 in let m = near.1 in let e = w.lost in let f = w.left in (omega (arith, l, e), omega (arith, m, f))
 nears_weld (Fin n) k a fallen cs entries near w = let l = near.0 in let m = near.1 in let e = w.lost in let f = w.left in (omega (arith, l, e), omega (arith, m, f))
-nears_weld (Nh n) k a fallen cs entries near w = absurd near
-nears_weld ReadRib k a fallen cs entries near w = absurd near
-nears_weld Red k a fallen cs entries near w = absurd near
-nears_weld Ext k a fallen cs entries near w = absurd near
-nears_weld (Out n) k a fallen cs entries near w = absurd near
-nears_weld (Rdel proto n) k a fallen cs entries near w = absurd near
+nears_weld other k a fallen cs entries near w = absurd near
 
 -- ---- what both write
 pub adds_both : (before j now : Journaled) (entries weld : List (Entry Value)) → j ≡ with_entries before entries → now ≡ with_entries j weld → now ≡ with_entries before (entries ++ weld)

@@ -17,7 +17,7 @@ use Rattle.journal_text.specs.Walk.{Links}
 use Rattle.journal_text.specs.declared.link.Link.{Link}
 use Rattle.journal_text.specs.declared.link.Link.TheVariants.{In, Filt}
 use Rattle.journal_text.specs.declared.link.Task.{Task}
-use Rattle.journal_text.specs.declared.link.Task.TheVariants.{Del, Fin, Nh, ReadRib, Out, Rdel, Red, Ext}
+use Rattle.journal_text.specs.declared.link.Task.TheVariants.{Del, Fin, Nh, Out}
 use Rattle.journal_text.specs.declared.entry.Entry.{Entry}
 use Rattle.journal_text.specs.declared.entry.Entry.TheVariants.{Begin}
 use Rattle.journal_text.specs.declared.value.Value.{Value}
@@ -112,11 +112,8 @@ abbrev pub peer_of : Task → ℕ
 peer_of (Del k s) = k
 peer_of (Fin k) = k
 peer_of (Nh k) = k
-peer_of ReadRib = 0
-peer_of Red = 0
-peer_of Ext = 0
 peer_of (Out k) = k
-peer_of (Rdel proto n) = 0
+peer_of other = 0
 
 abbrev pub has_turn_in : Task → Option Chained → Bool
 has_turn_in task None = false

@@ -11,7 +11,7 @@ use Rattle.policy_rules.specs.declared.rule.Rule.{Rule}
 use Rattle.pass_core.specs.Passed.{present}
 use Rattle.journal_text.specs.declared.link.Link.TheVariants.{In}
 use Rattle.journal_text.specs.declared.link.Task.{Task}
-use Rattle.journal_text.specs.declared.link.Task.TheVariants.{Del, Fin, Nh, ReadRib, Out, Rdel, Red, Ext}
+use Rattle.journal_text.specs.declared.link.Task.TheVariants.{Del, Fin}
 use Rattle.journal_text.specs.declared.entry.Entry.{Entry}
 use Rattle.journal_text.specs.declared.value.Value.{Value}
 use Rattle.journal_text.specs.Journals.{Journaled, Adds}
@@ -119,12 +119,7 @@ pub record Leaves (c c' : Chained) : Type 0 where
 abbrev pub Nears : Task → Chains → Chains → Type 0
 Nears (Del k s) a a' = (lost_in a' + 1 ≡ lost_in a) × (left_in a' ≤ left_in a)
 Nears (Fin k) a a' = (lost_in a' ≡ lost_in a) × (left_in a' < left_in a)
-Nears (Nh k) a a' = ⊥
-Nears ReadRib a a' = ⊥
-Nears Red a a' = ⊥
-Nears Ext a a' = ⊥
-Nears (Out k) a a' = ⊥
-Nears (Rdel proto n) a a' = ⊥
+Nears other a a' = ⊥
 
 -- A weld is a quiet step: no row of `filt.K` changes, and no task has more to do.
 pub record WeldsInward (k : ℕ) (a a' : Chains) (entries : List (Entry Value)) : Type 0 where

@@ -21,6 +21,7 @@ use Rattle.journal_text.proofs.JournalLemmas.{entries_of_entries}
 use Rattle.link_region.specs.declared.regions.Region.{Region}
 use Rattle.link_region.specs.declared.regions.Region.TheVariants.{Forward}
 use Rattle.link_region.specs.Regions.{Sides, joined, with_side}
+use Rattle.loss_chain.specs.Tables.{table_beyond}
 use Rattle.loss_chain.proofs.TableLemmas.{no_table}
 use Rattle.rib_tree.specs.Trees.{int_rows}
 use Rattle.rib_exit.specs.declared.exit.RibExit.{RibExit}
@@ -38,7 +39,7 @@ use Rattle.peer_side.specs.Peers.{chain_at}
 use Rattle.event_text.specs.Declarations.{peer_at}
 use Rattle.router_core.specs.declared.router.Done.TheVariants.{Taken}
 use Rattle.router_core.specs.Moments.{Moment, best_of, read_of, read_rows_by, forward_by, parts, router_links, with_exits, with_rib}
-use Rattle.router_core.specs.Phases.{table_beyond, external_beyond}
+use Rattle.router_core.specs.Phases.{external_beyond}
 use Rattle.router_core.specs.Stands.{Stands, Claim, Claims, EachResolver, SameResolvers, AnswersAgree, NoStrangers, SmallNumbers, EachExit, QueueLeads, ExitsRead, SameProfile, SameSessions, OneReader, ExternalExit, ExternalAgrees, ExternalStands, NothingExternal, Tie, Ties, Registered, here, ExitsAt, ReadsOn}
 use Rattle.router_core.specs.Turns.{journal_lines}
 use Rattle.router_core.specs.Works.{IsUnit, Comes}

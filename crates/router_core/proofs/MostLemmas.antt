@@ -11,7 +11,9 @@ use Rattle.addr4.specs.Prefixes.{Network}
 use Rattle.nexthop_resolver.specs.Resolving.{Resolving, Answers, resolved, passes}
 use Rattle.nexthop_resolver.specs.Kept.{route_hop, with_metric}
 use Rattle.nexthop_resolver.specs.declared.rows.Metric.{Metric}
-use Rattle.in_chain.specs.Chains.{Chained, filt_beyond, filt_rows, left_beyond, row_count}
+use Rattle.in_chain.specs.Chains.{Chained, filt_beyond, filt_rows, row_count}
+use Rattle.loss_chain.specs.Tables.{tables_beyond as left_beyond}
+use Rattle.loss_chain.proofs.BeyondLemmas.{table_within}
 use Rattle.in_chain.proofs.TurnLemmas.{candidates_are_counted, filtered_rows_are_few}
 use Rattle.hop_side.specs.Resolvers.{Resolvers, resolver_at, rows_by, known_of, known_in, left_of, walks_of, walks_in, same_metric}
 use Rattle.hop_side.proofs.FewLemmas.{known_are_few}
@@ -52,7 +54,7 @@ use Rattle.event_text.specs.declared.declared.DeclaredPeer.{DeclaredPeer}
 use Rattle.event_text.specs.Declarations.{peer_at}
 use Rattle.out_chain.specs.Chains.{OutChained}
 use Rattle.exit_side.specs.Exits.{chain_at as exit_at}
-use Rattle.router_core.proofs.BeyondLemmas.{table_within, tree_within, tree_keys, tree_length, has_tree_key, few_both, external_counted}
+use Rattle.router_core.proofs.BeyondLemmas.{tree_within, tree_keys, tree_length, has_tree_key, few_both, external_counted}
 use Rattle.router_core.specs.Stands.{Stands, StandsAt, ExitsAt, EachPeer, EachResolver, SameResolvers, HopsCounted, SameSessions, ExternalExit, ExternalStands}
 
 -- ---- next hops, and the rows of their peers

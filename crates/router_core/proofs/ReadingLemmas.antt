@@ -20,10 +20,12 @@ use Rattle.link_change.specs.declared.change.Change.{Change}
 use Rattle.link_change.proofs.MapLemmas.{all_values, one_of_sum, sum_others, sum_none}
 use Rattle.link_region.proofs.RegionLemmas.{by_bool}
 use Rattle.loss_chain.specs.Lost.{Lost}
+use Rattle.loss_chain.specs.Tables.{table_beyond as count_beyond, lost_beyond}
+use Rattle.loss_chain.proofs.BeyondLemmas.{table_further}
 use Rattle.pass_core.specs.Left.{CountsBeyond}
 use Rattle.fanout_queue.specs.Queues.{Queued, AppendsToAll, Takes, IsMostUnread}
 use Rattle.exit_side.specs.Exits.{Exited}
-use Rattle.in_chain.specs.Chains.{Chained, filt_beyond, filt_candidates, count_beyond, lost_beyond, row_count}
+use Rattle.in_chain.specs.Chains.{Chained, filt_beyond, filt_candidates, row_count}
 use Rattle.in_chain.proofs.TurnLemmas.{candidates_are_counted}
 use Rattle.decision.specs.Branches.{best_candidates, candidates_below}
 use Rattle.peer_side.specs.Peers.{Chains, chain_at, rows_in}
@@ -34,7 +36,7 @@ use Rattle.rib_exit.specs.Exits.{known_in as external_known}
 use Rattle.router_core.specs.Moments.{Moment, longest_of, most_unread, bound_of, candidates_of}
 use Rattle.router_core.specs.Phases.{best_beyond, reading}
 use Rattle.router_core.specs.Stands.{Stands, SmallNumbers}
-use Rattle.router_core.proofs.BeyondLemmas.{table_further, tree_most, tree_within, tree_further, tree_fewer}
+use Rattle.router_core.proofs.BeyondLemmas.{tree_most, tree_within, tree_further, tree_fewer}
 
 -- ---- the most that a reader hasn't taken
 longest_bounds : (xs : List (List (Change Route))) → AllByRecursion (λ u. length u ≤ longest_of xs) xs

@@ -12,7 +12,7 @@ use Rattle.bgp_attr.specs.declared.route.Route.{Route}
 use Rattle.link_change.specs.Rows.{Rows, Candidates, IsNextCandidate}
 use Rattle.link_change.specs.declared.change.Change.{Change}
 use Rattle.link_change.proofs.MapLemmas.{sum_replaced, sum_parts}
-use Rattle.loss_chain.specs.Tables.{Tables, tables_count}
+use Rattle.loss_chain.specs.Tables.{Tables, tables_count, tables_beyond as left_beyond}
 use Rattle.policy_rules.specs.declared.rule.Rule.{Rule}
 use Rattle.pass_core.specs.Passed.{Passed, Walked, walk_stepped, walk_of_waiting, after_walk}
 use Rattle.pass_core.specs.Turns.{walked_on, IsSentAt, Walks}
@@ -37,7 +37,7 @@ use Rattle.nexthop_resolver.specs.Turns.{KnownAfter, Steps, Turned as HopTurned}
 use Rattle.register_interest.specs.Registers.{Registry}
 use Rattle.rib_route.specs.declared.rows.Interior.{Interior}
 use Rattle.hop_side.specs.Resolvers.{Resolvers, Beyonds, resolver_at, put_resolver, same_metric, left_of, left_in as hops_left_in}
-use Rattle.in_chain.specs.Chains.{Chained, left_beyond, turns_left, waiting_turns, walk_turns}
+use Rattle.in_chain.specs.Chains.{Chained, turns_left, waiting_turns, walk_turns}
 use Rattle.in_chain.specs.Steps.{welded, Turned}
 use Rattle.peer_side.specs.Peers.{Chains, chain_at, put_chain, lost_in, left_in, rows_in}
 use Rattle.peer_side.specs.Steps.{Nears}

@@ -1,27 +1,23 @@
 -- How many turns are left, phase by phase, and how many an idle takes from a phase on.
-use Rattle.std.specs.Prelude.{ℕ, length, Option, None, Some, is_some, Bool, true, false, ◌+◌, ◌*◌, List, [], ◌∷◌, filter}
+use Rattle.std.specs.Prelude.{ℕ, length, Option, None, Some, is_some, Bool, true, false, ◌+◌, ◌*◌, List, [], ◌∷◌}
 use Rattle.bgp_attr.specs.declared.attrs.Attrs.{Attrs}
 use Rattle.policy_rules.specs.declared.rule.Rule.{Rule}
-use Rattle.pass_core.specs.Passed.{Walked, is_beyond}
+use Rattle.pass_core.specs.Passed.{Walked}
 use Rattle.pass_core.specs.Left.{turns_left as own_left}
 use Rattle.rib_exit.specs.declared.exit.RibExit.{RibExit}
 use Rattle.rib_exit.specs.Exits.{left_in as external_left}
 use Rattle.redist.specs.declared.protos.Protos.{Protos}
-use Rattle.loss_chain.specs.Tables.{Tables, lost_count, tables_count}
+use Rattle.loss_chain.specs.Tables.{Tables, lost_count, tables_count, table_beyond, tables_beyond}
 use Rattle.nexthop_known.specs.Hops.{is_stale_at, stale_count}
 use Rattle.nexthop_resolver.specs.declared.rows.Metric.{Metric}
 use Rattle.nexthop_resolver.specs.Resolving.{Resolving}
 use Rattle.nexthop_resolver.specs.Left.{differing_count, is_needed}
 use Rattle.std.specs.FinMap as tables
-use Rattle.std.specs.FinMap.{FinMap}
-use Rattle.addr4.specs.Prefixes.{Network, prefix_cmp}
+use Rattle.addr4.specs.Prefixes.{Network}
 use Rattle.hop_side.specs.Resolvers.{Resolvers, Beyonds, same_metric, left_in as hops_left_in}
-use Rattle.in_chain.specs.Chains.{Chained, filt_beyond, left_beyond}
+use Rattle.in_chain.specs.Chains.{Chained, filt_beyond}
 use Rattle.peer_side.specs.Peers.{Chains, chain_at, rows_in, lost_in, left_in}
-use Rattle.rib_tree.specs.Branches.{Branch}
 use Rattle.rib_tree.specs.Trees.{Treed, tree_count}
-use Rattle.rib_route.specs.declared.rows.Interior.{Interior}
-use Rattle.loss_chain.specs.Lost.{Lost}
 use Rattle.router_core.specs.declared.router.Phase.{Phase}
 use Rattle.router_core.specs.declared.router.Phase.TheVariants.{Rdel, Red, Del, Fin, Nh, ReadRib, Out, Ext}
 use Rattle.router_core.specs.Moments.{Moment, most_unread}
@@ -55,20 +51,9 @@ abbrev pub unread_if : Queued Route → Option ℕ → List (Change Route)
 unread_if queued None = []
 unread_if queued (Some reader) = unread_by queued reader
 
--- how many rows of a table lie beyond a place
-abbrev pub table_beyond : {V : Type 0} → Option Network → FinMap prefix_cmp V → ℕ
-table_beyond place t = length (filter (λ e. is_beyond place e.0) (tables.entries t))
-
-abbrev pub lost_beyond : Option Network → List (Lost Interior) → ℕ
-lost_beyond place [] = 0
-lost_beyond place (d ∷ ds) = table_beyond place d.rows + lost_beyond place ds
-
-abbrev pub branch_beyond : Option Network → Branch → ℕ
-branch_beyond place b = table_beyond place b.tables.live + lost_beyond place b.tables.deletions
-
 -- how many rows of the four `org.PROTO` lie beyond a place: so many candidates of `int` there are at most
 abbrev pub tree_beyond : Treed → Option Network → ℕ
-tree_beyond t place = branch_beyond place t.connected + (branch_beyond place t.statics + (branch_beyond place t.ospf + branch_beyond place t.rip))
+tree_beyond t place = tables_beyond place t.connected.tables + (tables_beyond place t.statics.tables + (tables_beyond place t.ospf.tables + tables_beyond place t.rip.tables))
 
 -- how many rows of `ebgp` and `ibgp` lie beyond a place: so many candidates of `ext` there are at most
 abbrev pub external_beyond : RibExit → Option Network → ℕ
@@ -112,7 +97,7 @@ waiting_candidates rows (Some rules) = rows
 
 abbrev pub walk_candidates : Tables Attrs → Option (Walked (List Rule)) → ℕ
 walk_candidates t None = 0
-walk_candidates t (Some w) = left_beyond w.place t + waiting_candidates (tables_count t) w.waiting
+walk_candidates t (Some w) = tables_beyond w.place t + waiting_candidates (tables_count t) w.waiting
 
 -- of the walk of a filter, and of the one that waits
 abbrev pub fin_sends_of : Chained → ℕ

@@ -1,4 +1,4 @@
-use Rattle.std.proofs.Common.{sym, ap, subst, List}
+use Rattle.std.proofs.Common.{sym, ap, subst}
 use Rattle.std.specs.Map.{values_of}
 use Rattle.peer_side.specs.Peers.{first_lost}
 use Rattle.peer_side.proofs.HeldLemmas.{AllFew, all_few}

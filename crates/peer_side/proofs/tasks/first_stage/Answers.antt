@@ -1,4 +1,4 @@
-use Rattle.std.proofs.Common.{◌∙◌, ℕ, sym}
+use Rattle.std.proofs.Common.{◌∙◌, sym}
 use Rattle.bgp_attr.specs.declared.attrs.Attrs.{Attrs}
 use Rattle.loss_chain.specs.Lost.{Lost}
 use Rattle.journal_text.specs.declared.link.Task.{Task}
