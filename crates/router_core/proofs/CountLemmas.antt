@@ -31,7 +31,7 @@ use Rattle.exit_side.specs.Exits.{OutChains}
 use Rattle.exit_side.proofs.LawLemmas.{turns_bounded, none_left_without_work as exits_idle}
 use Rattle.router_core.specs.Bests.{Queues}
 use Rattle.router_core.specs.Moments.{Moment, most_unread, candidates_of}
-use Rattle.router_core.specs.Stands.{Stands, InteriorTree, EachChain}
+use Rattle.router_core.specs.Stands.{Stands}
 use Rattle.live_state.specs.Lives.{LiveState}
 use Rattle.router_core.specs.Lives.{live_state}
 use Rattle.router_core.specs.Phases.{all_phases, tree_lost, tree_beyond, counts, beyonds, unread_if, best_beyond, external_beyond, changes_left, own_waiting, own_sends_by, own_sends, sends_from_red, fin_sends}
@@ -160,10 +160,10 @@ no_changes [] none = refl
 no_changes (x ∷ u) none = absurd (omega (arith, none))
 
 pub none_over : TurnsAreLeft → (r : Phase) (m : Moment) → Stands m → counts m r ≡ 0 → IsOver r m
-none_over law Rdel m stands none = λ proto. no_rows_left (branch_of proto m.tree).tables.deletions ((stands.own InteriorTree).full proto) (tree_none m.tree proto none)
+none_over law Rdel m stands none = λ proto. no_rows_left (branch_of proto m.tree).tables.deletions (stands.interior.full proto) (tree_none m.tree proto none)
 none_over law Red m stands none =
     no_table m.redist.walk (by_bool (is_some m.redist.walk) (λ b. b ≡ false) (λ on. absurd (let some = (left_while_on (tree_beyond m.tree) m.redist).0 on in omega (arith, some, none))) (λ _. refl))
-none_over law Del m stands none = λ k c at. no_rows_left c.incoming.tables.deletions (stands.own EachChain k c at).full (let part = one_of_sum nat_cmp_total lost_of m.chains k c at in omega (arith, part, none))
+none_over law Del m stands none = λ k c at. no_rows_left c.incoming.tables.deletions (stands.peers.chains k c at).full (let part = one_of_sum nat_cmp_total lost_of m.chains k c at in omega (arith, part, none))
 none_over law Fin m stands none = λ k c at. no_walk law c (let part = one_of_sum nat_cmp_total turns_left m.chains k c at in omega (arith, part, none))
 none_over law Nh m stands none = (none_left_without_work m.hops (beyonds m.chains)).1 none
 none_over law ReadRib m stands none = no_changes (unread_if m.exits.queue m.reader) none

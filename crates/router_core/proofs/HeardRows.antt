@@ -49,7 +49,7 @@ use Rattle.rib_route.specs.declared.rows.Interior.{Interior}
 use Rattle.rib_tree.specs.Trees.{int_rows}
 use Rattle.router_core.specs.Bests.{own_rows, all_at, best_at}
 use Rattle.router_core.specs.Moments.{Moment, own_of, best_of}
-use Rattle.router_core.specs.Stands.{Stands, EachRow, OneSender, RowsWereHeard, MaySend}
+use Rattle.router_core.specs.Stands.{Stands, RowsWereHeard, MaySend}
 use Rattle.router_core.specs.Works.{AreHeard, IsHeardMessage}
 
 -- ---- the rows of a chain
@@ -128,7 +128,7 @@ heard_own_rows profile None s int sender p r is = absurd (cc)
 heard_own_rows profile (Some me) s int sender p r is = subst (λ (x : Route). MayBeHeard profile x.attrs) (sym (only_own_routes me (function_at s p) p (int p) r is)) (local_heard profile me sender)
 
 pub heard_own : (m : Moment) → Stands m → RowsMayBeHeard m.declared.profile (own_of m)
-heard_own m stands = heard_own_rows m.declared.profile m.declared.speaker m.redist (int_rows m.tree) (stands.own OneSender)
+heard_own m stands = heard_own_rows m.declared.profile m.declared.speaker m.redist (int_rows m.tree) stands.exits.sender
 
 -- ---- the best of all
 heard_all : (profile : Profile) (own : Rows Route) (a : Chains) (h : Resolvers) → RowsMayBeHeard profile own → RowsWereHeard profile a → (k : ℕ) → RowsMayBeHeard profile (all_at own a h k)
@@ -139,7 +139,7 @@ pub heard_best : (profile : Profile) (own : Rows Route) (a : Chains) (h : Resolv
 heard_best profile own a h mine each p r is = let b = best_is_a_branchs (all_at own a h) p r is in heard_all profile own a h mine each b.0 p r b.2
 
 pub heard_of : (m : Moment) → Stands m → RowsMayBeHeard m.declared.profile (best_of m)
-heard_of m stands = heard_best m.declared.profile (own_of m) m.chains m.hops (heard_own m stands) (stands.own EachRow)
+heard_of m stands = heard_best m.declared.profile (own_of m) m.chains m.hops (heard_own m stands) stands.exits.rows
 
 -- ---- what an UPDATE announces
 announced_heard : (profile : Profile) (o : Option Attrs) → ForSome o (MayBeHeard profile) → (ns : List Network) → AreHeard profile (map (announced_with o) ns)

@@ -31,7 +31,7 @@ use Rattle.rib_exit.specs.Steps.{fib_entries}
 use Rattle.router_core.specs.Bests.{own_entries, best_entries, Queues}
 use Rattle.router_core.specs.Moments.{Moment, Policies}
 use Rattle.router_core.specs.Printable.{IsHeard}
-use Rattle.router_core.specs.Stands.{Stands, SameProfile, SameSessions, ExitsAt}
+use Rattle.router_core.specs.Stands.{Stands, ExitsAt}
 use Rattle.router_core.specs.Turns.{journal_lines, BelowInt}
 use Rattle.router_core.proofs.HopLemmas.{res_leads}
 use Rattle.router_core.proofs.QueueLemmas.{queue_chains}
@@ -62,8 +62,8 @@ exit_words None policies j p c is = absurd is
 
 pub exits_declared : (m : Moment) → Stands m → AreDeclared m.declared.profile (neighbours m.declared) m.exits
 exits_declared m stands = record {
-  profile = stands.own SameProfile;
-  words = λ j c at. exit_words m.declared.speaker m.outgoing j (peer_at j m.declared.peers) c (subst (λ (o : Option OutChained). ExitsAt m.declared.speaker m.outgoing j (peer_at j m.declared.peers) o) at (stands.own SameSessions j));
+  profile = stands.exits.profile;
+  words = λ j c at. exit_words m.declared.speaker m.outgoing j (peer_at j m.declared.peers) c (subst (λ (o : Option OutChained). ExitsAt m.declared.speaker m.outgoing j (peer_at j m.declared.peers) o) at (stands.exits.sessions j));
 }
 
 -- ---- of what a stage sends

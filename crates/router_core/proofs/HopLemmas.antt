@@ -30,7 +30,7 @@ use Rattle.hop_side.proofs.LawLemmas.{leads_anywhere}
 use Rattle.peer_side.specs.Peers.{Chains, chain_at, peer_links, filt_at}
 use Rattle.exit_side.specs.Exits.{Exited}
 use Rattle.router_core.specs.Moments.{Moment, own_of, best_of, with_chains, with_hops, with_exits, parts, router_links}
-use Rattle.router_core.specs.Stands.{Stands, EachResolver, SameResolvers, AnswersAgree, HopsCounted, NoStrangers}
+use Rattle.router_core.specs.Stands.{Stands, HopsStand}
 use Rattle.peer_side.specs.Steps.{WeldsInward}
 use Rattle.router_core.specs.Turns.{ResolvesOn, journal_lines}
 use Rattle.router_core.specs.Works.{Decides, SettlesPeer}
@@ -137,30 +137,14 @@ falls_lead m me fallen cs r h e p entries resolved weld best since live falls go
     set i s = each s i
 
 -- ---- what is claimed of the resolvers
-pub record HopsStand (a : Chains) (r : Registry Interior) (h : Resolvers) : Type 0 where
-  pub sound : IsHops h
-  pub same : (k : ℕ) → is_some (resolver_at k h) ≡ is_some (chain_at k a)
-  pub agree : AllAgree h r
-  pub counted : AllCounted (filt_at a) h
-  pub strangers : (k : ℕ) → k ≢ 0 → resolver_at k h ≡ None → HasNoInterest k r
-
-pub hops_of : (m : Moment) → Stands m → HopsStand m.chains m.registry m.hops
-hops_of m stands = record {
-  sound = stands.own EachResolver;
-  same = stands.own SameResolvers;
-  agree = stands.own AnswersAgree;
-  counted = stands.own HopsCounted;
-  strangers = stands.own NoStrangers;
-}
-
 -- where no row of `filt.K` changed
 pub hops_quiet : (m : Moment) (cs : Chains) → Stands m → ((j : ℕ) → filt_at cs j ≡ filt_at m.chains j) → ((j : ℕ) → is_some (chain_at j cs) ≡ is_some (chain_at j m.chains)) → HopsStand cs m.registry m.hops
 hops_quiet m cs stands quiet same = record {
-  sound = stands.own EachResolver;
-  same = λ k. stands.own SameResolvers k ∙ sym (same k);
-  agree = stands.own AnswersAgree;
-  counted = subst (λ (u : PeerRows). AllCounted u m.hops) (λ i j. sym (quiet j) i) (stands.own HopsCounted);
-  strangers = stands.own NoStrangers;
+  sound = stands.hops.sound;
+  same = λ k. stands.hops.same k ∙ sym (same k);
+  agree = stands.hops.agree;
+  counted = subst (λ (u : PeerRows). AllCounted u m.hops) (λ i j. sym (quiet j) i) stands.hops.counted;
+  strangers = stands.hops.strangers;
 }
 
 no_resolver : (o p : Option (Resolving Metric)) → is_some p ≡ is_some o → p ≡ None → o ≡ None
@@ -182,20 +166,20 @@ pub hops_fall : (m : Moment) (k : ℕ) (fallen cs : Chains) (r : Registry Interi
     → ((j : ℕ) → is_some (chain_at j cs) ≡ is_some (chain_at j m.chains)) → HopsStand cs r h
 hops_fall m k fallen cs r h stands agreed counted quiet there same = record {
   sound = agreed.sound;
-  same = λ j. agreed.peers j ∙ stands.own SameResolvers j ∙ sym (same j);
+  same = λ j. agreed.peers j ∙ stands.hops.same j ∙ sym (same j);
   agree = agreed.agree;
   counted = subst (λ (u : PeerRows). AllCounted u h) (sym quiet) counted;
-  strangers = strangers_stay k m.registry r m.hops h agreed.others agreed.peers there (stands.own NoStrangers);
+  strangers = strangers_stay k m.registry r m.hops h agreed.others agreed.peers there stands.hops.strangers;
 }
 
 -- where the register gave interests up
 pub hops_reached : (m : Moment) (reached : List Interest) (r : Registry Interior) (h : Resolvers) → Stands m → r.interests ≡ without m.registry.interests reached → KeepsAnswers m.registry r → ReachesBelow reached m.hops h → HopsStand m.chains r h
 hops_reached m reached r h stands given answers below = record {
   sound = below.sound;
-  same = λ k. below.stays.peers k ∙ stands.own SameResolvers k;
-  agree = below.agree m.registry r (stands.own AnswersAgree) given answers;
-  counted = below.stays.counted (filt_at m.chains) (stands.own HopsCounted);
-  strangers = λ k own none s. kept (record { subnet = s; client = k }) (tables.get r.interests (record { subnet = s; client = k })) refl (stands.own NoStrangers k own (no_resolver (resolver_at k m.hops) (resolver_at k h) (below.stays.peers k) none) s);
+  same = λ k. below.stays.peers k ∙ stands.hops.same k;
+  agree = below.agree m.registry r stands.hops.agree given answers;
+  counted = below.stays.counted (filt_at m.chains) stands.hops.counted;
+  strangers = λ k own none s. kept (record { subnet = s; client = k }) (tables.get r.interests (record { subnet = s; client = k })) refl (stands.hops.strangers k own (no_resolver (resolver_at k m.hops) (resolver_at k h) (below.stays.peers k) none) s);
 }
   where
     kept : (i : Interest) (o : Option (Option Network)) → tables.get r.interests i ≡ o → is_some (tables.get m.registry.interests i) ≡ false → is_some o ≡ false

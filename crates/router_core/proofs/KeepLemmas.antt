@@ -47,6 +47,10 @@ pub gives_so : (P Q : List Line → Type 0) → ((xs : List Line) → P xs → Q
 gives_so P Q to a b p = (p.0, p.1, to p.0 p.2)
 
 -- ---- what is kept
+-- by what a step comes to
+pub keeps_as : (live : LiveState) (m now m' : Moment) (these said : List Line) → m' ≡ now → said ≡ these → Keeps live m now these → Keeps live m m' said
+keeps_as live m now m' these said after lines keeps = subst (λ (n : Moment). Keeps live m n said) (sym after) (subst (λ (l : List Line). Keeps live m now l) (sym lines) keeps)
+
 -- lines without entries
 pub keeps_said : (m : Moment) (said : List Line) → Stands m → AreQuiet said → Keeps (live_state m) m m said
 keeps_said m said stands quiet = record {

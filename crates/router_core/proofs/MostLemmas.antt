@@ -53,7 +53,7 @@ use Rattle.event_text.specs.Declarations.{peer_at}
 use Rattle.out_chain.specs.Chains.{OutChained}
 use Rattle.exit_side.specs.Exits.{chain_at as exit_at}
 use Rattle.router_core.proofs.BeyondLemmas.{table_within, tree_within, tree_keys, tree_length, has_tree_key, few_both, external_counted}
-use Rattle.router_core.specs.Stands.{Stands, StandsAt, ExitsAt, EachPeer, EachResolver, SameResolvers, HopsCounted, SameSessions, ExternalExit, ExternalStands}
+use Rattle.router_core.specs.Stands.{Stands, StandsAt, ExitsAt}
 
 -- ---- next hops, and the rows of their peers
 chain_by : (o : Option Chained) (p : Option (Resolving Metric)) → is_some p ≡ is_some o → IsSome p → (c : Chained) × (o ≡ Some c)
@@ -74,11 +74,11 @@ stale_below a = sum_by-le-sum_by stale_of known_of (tables.values a) (λ s. know
 
 module _ (m : Moment) (stands : Stands m) where
   chain_of : (k : ℕ) (s : Resolving Metric) → resolver_at k m.hops ≡ Some s → (c : Chained) × (chain_at k m.chains ≡ Some c)
-  chain_of k s at = chain_by (chain_at k m.chains) (resolver_at k m.hops) (stands.own SameResolvers k) (ap is_some at)
+  chain_of k s at = chain_by (chain_at k m.chains) (resolver_at k m.hops) (stands.hops.same k) (ap is_some at)
 
   beyond_at : (k : ℕ) (s : Resolving Metric) (c : Chained) → resolver_at k m.hops ≡ Some s → chain_at k m.chains ≡ Some c → beyonds m.chains s.client None ≤ row_count c
   beyond_at k s c at there =
-      let own : beyonds m.chains s.client None ≡ filt_beyond c None = ap (λ (n : ℕ). beyond_by (chain_at n m.chains) None) (stands.own EachResolver k s at).client ∙ ap (λ (o : Option Chained). beyond_by o None) there in
+      let own : beyonds m.chains s.client None ≡ filt_beyond c None = ap (λ (n : ℕ). beyond_by (chain_at n m.chains) None) (stands.hops.sound k s at).client ∙ ap (λ (o : Option Chained). beyond_by o None) there in
       let most = (candidates_are_counted c).1 in
       omega (arith, own, most)
 
@@ -86,7 +86,7 @@ module _ (m : Moment) (stands : Stands m) where
   known_below = sums_within nat_cmp_total nat_cmp-IsAntisymmetric known_of row_count m.hops m.chains (λ k s at.
       let c = chain_of k s at in
       let few = filtered_rows_are_few c.0 in
-      let known = known_are_few m.hops (filt_at m.chains) k s few.0 (stands.own EachResolver) (stands.own HopsCounted) at (λ q some. few.2 q (subst (λ (o : Option Chained). IsSome (filt_by o q)) c.1 some)) in
+      let known = known_are_few m.hops (filt_at m.chains) k s few.0 stands.hops.sound stands.hops.counted at (λ q some. few.2 q (subst (λ (o : Option Chained). IsSome (filt_by o q)) c.1 some)) in
       let rows = few.1 in
       (c.0, c.1, omega (arith, known, rows)))
 
@@ -213,7 +213,7 @@ few_exits m stands =
     by_peer k c (Some me) None None exit there = absurd exit
 
     chain_of : (k : ℕ) (c : OutChained) → exit_at k m.exits ≡ Some c → (x : Chained) × (chain_at k m.chains ≡ Some x)
-    chain_of k c at = by_peer k c m.declared.speaker (peer_at k m.declared.peers) (chain_at k m.chains) (subst (λ (o : Option OutChained). ExitsAt m.declared.speaker m.outgoing k (peer_at k m.declared.peers) o) at (stands.own SameSessions k)) (stands.own EachPeer k)
+    chain_of k c at = by_peer k c m.declared.speaker (peer_at k m.declared.peers) (chain_at k m.chains) (subst (λ (o : Option OutChained). ExitsAt m.declared.speaker m.outgoing k (peer_at k m.declared.peers) o) at (stands.exits.sessions k)) (stands.peers.each k)
 
 -- ---- how many changes of `red` the walk of redistribution may make
 pub own_sends_below : (m : Moment) → own_sends m ≤ 2 * tree_count m.tree
@@ -319,7 +319,7 @@ module _ (m : Moment) (stands : Stands m) (over : unread_if m.exits.queue m.read
   read_key q there = best_there m q (read_there m.exits.queue m.reader (best_of m) q over there)
 
   side_at : (side : BgpLink) (q : Network) → kept_rows m.rib.splitter side q ≡ on_link side (external_row (read_of m q))
-  side_at side q = ap (λ (p : Parted). p side q) (stands.own ExternalStands).links
+  side_at side q = ap (λ (p : Parted). p side q) stands.exits.external.links
 
   side_key : (side : BgpLink) (q : Network) → IsSome (kept_rows m.rib.splitter side q) → Contains (best_keys m) q
   side_key side q there = read_key q (external_there (read_of m q) (side_there side (external_row (read_of m q)) (ap is_some (sym (side_at side q)) ∙ there)))
@@ -337,8 +337,8 @@ module _ (m : Moment) (stands : Stands m) (over : unread_if m.exits.queue m.read
   -- and no more next hops are known
   pub external_known_few : external_known m.rib ≤ rows_in m.chains + tree_count m.tree
   external_known_few =
-      let few = external_are_few m.rib (read_of m) (best_keys m) (stands.own ExternalExit) (stands.own ExternalStands)
-      (λ q there. read_key q (external_there (read_of m q) (ap is_some (sym (ap (λ (rows : Rows External). rows q) (ext_is_of_best m.rib (read_of m) (stands.own ExternalStands)))) ∙ there))) in
+      let few = external_are_few m.rib (read_of m) (best_keys m) stands.external.sound stands.exits.external
+      (λ q there. read_key q (external_there (read_of m q) (ap is_some (sym (ap (λ (rows : Rows External). rows q) (ext_is_of_best m.rib (read_of m) stands.exits.external))) ∙ there))) in
       let keys = keys_few m in
       omega (arith, few, keys)
 

@@ -26,7 +26,7 @@ use Rattle.rib_tree.proofs.RestLemmas.{all_tree}
 use Rattle.router_core.specs.declared.router.Phase.{Phase}
 use Rattle.router_core.specs.declared.router.Phase.TheVariants.{Rdel, Red, Del, Fin, Nh, ReadRib, Out, Ext}
 use Rattle.router_core.specs.Moments.{Moment, best_of}
-use Rattle.router_core.specs.Stands.{Stands, InteriorTree}
+use Rattle.router_core.specs.Stands.{Stands}
 use Rattle.addr4.specs.Prefixes.{Network}
 use Rattle.bgp_attr.specs.declared.route.Route.{Route}
 use Rattle.link_change.specs.declared.change.Change.{Change}
@@ -160,7 +160,7 @@ none_of_external r m task is next = subst (λ (o : Option Task). IfNone o (count
 -- each stage that stands has work
 next_loss : (m : Moment) → Stands m → next_task Rdel m ≡ first_task (tree_tasks m.tree)
 next_loss m stands = all_working (λ t. has_work t m) (tree_tasks m.tree) (all_tree Works m.tree (λ proto. all_made Works (λ (d : Lost Interior). tasks.Rdel (branch_of proto m.tree).proto d.number) (branch_of proto m.tree).tables.deletions
-    (subst (λ (k : Proto). AllByRecursion (λ (d : Lost Interior). is_some (table_of d.number (branch_of k m.tree).tables.deletions) ≡ true) (branch_of proto m.tree).tables.deletions) (sym ((stands.own InteriorTree).tree.placed proto)) (all_tables (branch_of proto m.tree).tables.deletions))))
+    (subst (λ (k : Proto). AllByRecursion (λ (d : Lost Interior). is_some (table_of d.number (branch_of k m.tree).tables.deletions) ≡ true) (branch_of proto m.tree).tables.deletions) (sym (stands.interior.tree.placed proto)) (all_tables (branch_of proto m.tree).tables.deletions))))
   where
     Works : Task → Type 0
     Works t = has_work t m ≡ true

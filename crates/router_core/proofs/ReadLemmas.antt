@@ -21,13 +21,13 @@ use Rattle.rib_tree.specs.Trees.{Treed, int_rows}
 use Rattle.peer_side.specs.Peers.{Chains}
 use Rattle.router_core.specs.Bests.{own_rows, lent_rows}
 use Rattle.router_core.specs.Moments.{Moment, best_of, read_by, read_links}
-use Rattle.router_core.specs.Stands.{Stands, HaveReaders, EachExit}
+use Rattle.router_core.specs.Stands.{Stands, HaveReaders}
 use Rattle.router_core.specs.Lookups.{IsNextPlace}
 use Rattle.router_core.proofs.BestLemmas.{lent_best}
 use Rattle.router_core.proofs.QueueLemmas.{reader_live}
 
 pub have_readers : (m : Moment) → Stands m → HaveReaders m
-have_readers m stands = record { exits = stands.own EachExit; reader = reader_live m stands }
+have_readers m stands = record { exits = stands.exits.each; reader = reader_live m stands }
 
 module _ (m v : Moment) (d : Declaration) (t : Treed) (s : Passed Protos) (a : Chains) (h : Resolvers) (view : v ≡ m) (declared : d ≡ m.declared) (tree : t ≡ m.tree) (redist : s ≡ m.redist) (chains : a ≡ m.chains) (hops : h ≡ m.hops) where
   abbrev lent : Rows Route

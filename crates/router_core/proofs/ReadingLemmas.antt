@@ -33,7 +33,7 @@ use Rattle.rib_tree.specs.Trees.{Treed, int_candidates, tree_count}
 use Rattle.rib_exit.specs.Exits.{known_in as external_known}
 use Rattle.router_core.specs.Moments.{Moment, longest_of, most_unread, bound_of, candidates_of}
 use Rattle.router_core.specs.Phases.{best_beyond, reading}
-use Rattle.router_core.specs.Stands.{Stands, SmallNumbers}
+use Rattle.router_core.specs.Stands.{Stands}
 use Rattle.router_core.proofs.BeyondLemmas.{table_further, tree_most, tree_within, tree_further, tree_fewer}
 
 -- ---- the most that a reader hasn't taken
@@ -246,7 +246,7 @@ module _ (a : Chains) (t : Treed) (small : (k : ℕ) → IsSome (chain_at k a) �
 
 -- of a moment
 pub best_counted : (m : Moment) → Stands m → CountsBeyond (candidates_of m) (best_beyond m.chains m.tree)
-best_counted m stands = best_counted_by m.chains m.tree (stands.own SmallNumbers)
+best_counted m stands = best_counted_by m.chains m.tree stands.peers.numbers
 
 pub beyond_within : (a : Chains) (t : Treed) → best_beyond a t None ≤ rows_in a + tree_count t
 beyond_within a t =

@@ -26,7 +26,7 @@ use Rattle.live_state.proofs.AdmittedLemmas.{speaker_since}
 use Rattle.router_core.specs.Bests.{own_rows, own_links, best_at, best_links}
 use Rattle.router_core.specs.Moments.{Moment, with_redist, own_of, best_of, read_links, read_rows_by, parts, router_links}
 use Rattle.router_core.specs.Lives.{live_state}
-use Rattle.router_core.specs.Stands.{Stands, Claim, Claims, QueueLeads, ExitsRead, ExternalStands, NothingOwn}
+use Rattle.router_core.specs.Stands.{Stands}
 use Rattle.router_core.specs.Works.{HasStepped}
 use Rattle.router_core.proofs.HeardSteps.{heard_quiet}
 use Rattle.router_core.proofs.PeerLemmas.{present_edited}
@@ -57,14 +57,25 @@ module _ (m : Moment) (proto : Proto) (on : Bool) (stands : Stands m) (since : I
   same_best = ap (λ (own : Rows Route). best_at own m.chains m.hops) same_own
 
   then_stands : Stands then
-  then_stands = record { own = own; at = stands.at }
-    where
-      own : (claim : Claim) → Claims then claim
-      own QueueLeads = subst (λ (rows : Rows Route). AllLead m.exits.queue rows) (sym same_best) (stands.own QueueLeads)
-      own ExitsRead = subst (λ (rows : Rows Route). AllStand rows m.exits) (sym same_best) (stands.own ExitsRead)
-      own ExternalStands = subst (λ (rows : Rows Route). StandsOver (read_rows_by m.exits.queue m.reader rows) m.rib) (sym same_best) (stands.own ExternalStands)
-      own NothingOwn = λ none. absurd (let clash : true ≡ false = sym since ∙ ap is_some none in cc)
-      own other = stands.own other
+  then_stands = record {
+    peers = stands.peers;
+    interior = stands.interior;
+    registered = stands.registered;
+    hops = stands.hops;
+    exits = record {
+      rows = stands.exits.rows;
+      each = stands.exits.each;
+      all = subst (λ (rows : Rows Route). AllLead m.exits.queue rows) (sym same_best) stands.exits.all;
+      read = subst (λ (rows : Rows Route). AllStand rows m.exits) (sym same_best) stands.exits.read;
+      profile = stands.exits.profile;
+      sender = stands.exits.sender;
+      sessions = stands.exits.sessions;
+      one = stands.exits.one;
+      external = subst (λ (rows : Rows Route). StandsOver (read_rows_by m.exits.queue m.reader rows) m.rib) (sym same_best) stands.exits.external;
+    };
+    external = stands.external;
+    waits = record { own = λ none. absurd (let clash : true ≡ false = sym since ∙ ap is_some none in cc); external = stands.waits.external };
+  }
 
   same_parts : parts then ≡ parts m
   same_parts i r = each r i

@@ -15,7 +15,7 @@ use Rattle.rib_tree.specs.BranchSteps.{swept_branch, welded_branch}
 use Rattle.rib_tree.specs.Trees.{Treed, branch_of}
 use Rattle.rib_tree.specs.Steps.{tree_overdue}
 use Rattle.router_core.specs.Moments.{Moment, Gives}
-use Rattle.router_core.specs.Stands.{Stands, InteriorTree}
+use Rattle.router_core.specs.Stands.{Stands}
 use Rattle.loss_chain.specs.Lost.{Lost}
 use Rattle.router_core.specs.Turns.{Turns}
 use Rattle.router_core.specs.Blocks.{RunsFirst}
@@ -24,6 +24,7 @@ use Rattle.loss_chain.proofs.TableLemmas.{is_full, Shorter, shorter_none, shorte
 use Rattle.rib_tree.proofs.BranchLemmas.{put_own}
 use Rattle.rib_tree.proofs.TreeParts.{welded_put}
 use Rattle.router_core.proofs.KeepLemmas.{keeps_none, gives_none}
+use Rattle.router_core.proofs.TurnLaws.{turns_work}
 
 abbrev stages : Proto → Moment → List (Lost Interior)
 stages proto m = (branch_of proto m.tree).tables.deletions
@@ -45,13 +46,13 @@ drained_free proto m room task turns said stands over d =
     let b : Branch = branch_of proto m.tree in
     let stage = stage_of (nat_lt (length b.tables.deletions) 16 || is_empty_map b.tables.live) (owners.Origin b.proto) b.tables.deletions task over in
     let n : ℕ = stage.0.number in
-    let is : task ≡ Rdel proto n = stage.3 ∙ ap (λ (k : Proto). Rdel k n) ((stands.own InteriorTree).tree.placed proto) in
+    let is : task ≡ Rdel proto n = stage.3 ∙ ap (λ (k : Proto). Rdel k n) (stands.interior.tree.placed proto) in
     let drained : HasDrained (Rdel proto n) m turns room said = subst (λ (t : Task). HasDrained t m turns room said) is d in
-    let r = turns_shorter turns proto n m said room drained.run.taken in
+    let r = turns_shorter turns proto n m said room drained.taken in
     let there : table_of n b.tables.deletions ≡ Some stage.0.rows = ap (table_of n) stage.2 ∙ ap (λ (x : Bool). cond x (Some stage.0.rows) (table_of n stage.1)) (same_by n n refl) in
     let none : table_of n (branch_of proto room.tree).tables.deletions ≡ None = no_table (table_of n (branch_of proto room.tree).tables.deletions) drained.ended in
     let less = r.gone stage.0.rows there none in
-    let few = (stands.own InteriorTree).few proto in
+    let few = stands.interior.few proto in
     free_of (owners.Origin (branch_of proto room.tree).proto) (branch_of proto room.tree).tables (omega (arith, less, few))
 
 pub protocol_room_drained : (proto : Proto) (m room : Moment) (task : Task) (turns : ℕ) (before now : Journaled) → Stands m → Some task ≡ tree_overdue proto m.tree → Gives (HasDrained task m turns room) before now
@@ -60,8 +61,8 @@ protocol_room_drained proto m room task turns before now stands over g = (
   g.0,
   g.1,
   record {
-    runs = subst (λ (o : Option Task). RunsFirst o m g.0 room) over (turns, (g.2.run.taken, g.2.ended));
-    keeps = g.2.run.work.keeps;
+    runs = subst (λ (o : Option Task). RunsFirst o m g.0 room) over (turns, (g.2.taken, g.2.ended));
+    keeps = (turns_work turns task m g.0 room stands g.2.taken).keeps;
     free = drained_free proto m room task turns g.0 stands (sym over) g.2;
   },
 )

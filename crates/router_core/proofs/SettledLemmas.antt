@@ -40,7 +40,7 @@ use Rattle.router_core.specs.Lives.{live_state}
 use Rattle.router_core.specs.Moments.{Moment, router_links, best_of}
 use Rattle.router_core.specs.Phases.{all_phases, unread_if}
 use Rattle.router_core.specs.Turns.{has_work, next_task, phase_of, phase_tasks, IsSettled}
-use Rattle.router_core.specs.Stands.{Stands, AllHaveExits, InteriorTree}
+use Rattle.router_core.specs.Stands.{Stands, AllHaveExits}
 use Rattle.router_core.specs.Holding.{next_hop_at, peer_numbers, is_over, is_over_hop, holds_up_at, held_in, idle_tasks, first_held}
 use Rattle.router_core.specs.Scratch.{row_in, is_spliced, IsExact, Tells}
 use Rattle.router_core.specs.Laws.{RowsAtRestAreExact, OnlyWorkHoldsUp, FirstHeldTells}
@@ -82,7 +82,7 @@ none_held only r m p = each (phase_tasks r m)
 
 -- ---- a task with work is one of its phase
 listed : losses.WorkIsListed → peers.StagesAreListed → peers.WalksAreListed → hops.WorkIsListed → exits.WorkIsListed → (m : Moment) → Stands m → (task : Task) → has_work task m ≡ true → Contains (phase_tasks (phase_of task) m) task
-listed of_tree of_stages of_walks of_hops of_exits m stands (tasks.Rdel proto n) some = of_tree m.tree (stands.own InteriorTree).tree (tasks.Rdel proto n) some
+listed of_tree of_stages of_walks of_hops of_exits m stands (tasks.Rdel proto n) some = of_tree m.tree stands.interior.tree (tasks.Rdel proto n) some
 listed of_tree of_stages of_walks of_hops of_exits m stands tasks.Red some = (0, omega arith, refl)
 listed of_tree of_stages of_walks of_hops of_exits m stands (tasks.Del k s) some = of_stages m.chains k s some
 listed of_tree of_stages of_walks of_hops of_exits m stands (tasks.Fin k) some = of_walks m.chains k some

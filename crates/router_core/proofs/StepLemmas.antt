@@ -33,7 +33,7 @@ use Rattle.router_core.specs.Laws.{FirstHeldTells}
 use Rattle.router_core.specs.Blocks.{AreMessageOctets, EndsIf, Hears, HearsIf, ByPeer}
 use Rattle.router_core.specs.Works.{Pushes, Keeps, AreTurns, AllHaveDrained, HasLost, HasHeard, HasIdled, HasStepped, HaveFed}
 use Rattle.router_core.proofs.KeepLemmas.{keeps_none, keeps_said, keeps_join, keeps_on, gives_push, push_gives, gives_none, gives_so, gives_pushed, steps_pushed, ignores}
-use Rattle.router_core.proofs.StandLemmas.{registered_rows}
+use Rattle.router_core.proofs.TurnLaws.{turns_work}
 
 -- ---- `idle` and `work`
 pub idled : (m m' : Moment) (bound turns : ℕ) (before j j2 j3 now : Journaled) → Stands m → bound ≡ bound_of m → bound < 2 ^ 128 → j ≡ with_lines before (lines.Bound bound ∷ []) → Gives (AllHaveDrained m turns m') j j2
@@ -68,27 +68,29 @@ idled m m' bound turns before j j2 j3 now stands same small first g last is =
       rows = p.2.rows;
     })
 
-pub worked : (m m' : Moment) (task : Task) (most turns : ℕ) (before j j2 now : Journaled) → Gives (AreTurns task most m turns m') before j → j2 ≡ with_lines j (lines.Work turns ∷ []) → now ≡ flushed j2
+pub worked : (m m' : Moment) (task : Task) (most turns : ℕ) (before j j2 now : Journaled) → Stands m → Gives (AreTurns task most m turns m') before j → j2 ≡ with_lines j (lines.Work turns ∷ []) → now ≡ flushed j2
     → Gives (HasStepped m (Work task most) turns m') before now
-worked m m' task most turns before j j2 now g last is =
+worked m m' task most turns before j j2 now stands g last is =
     gives_push (AreTurns task most m turns m') Counted (HasStepped m (Work task most) turns m') both before j j2 now g (lines.Work turns ∷ [], last, refl) is
   where
     Counted : List Line → Type 0
     Counted said = said ≡ lines.Work turns ∷ []
 
     both : (xs ys : List Line) → AreTurns task most m turns m' xs → Counted ys → HasStepped m (Work task most) turns m' (xs ++ ys)
-    both xs ys p q = subst (λ (l : List Line). HasStepped m (Work task most) turns m' (xs ++ l)) (sym q) (record {
-      block = record { inner = xs; taken = p.run.taken; most = p.most; ended = p.ended; lines = refl };
-      live = live_state m;
-      after = refl;
-      keeps = keeps_on m m' m' xs (lines.Work turns ∷ []) (live_state m) refl p.run.work.keeps (keeps_said m' (lines.Work turns ∷ []) p.run.work.keeps.stands (refl, (refl, tt)));
-    })
+    both xs ys p q =
+        let work = turns_work turns task m xs m' stands p.taken in
+        subst (λ (l : List Line). HasStepped m (Work task most) turns m' (xs ++ l)) (sym q) (record {
+          block = record { inner = xs; taken = p.taken; most = p.most; ended = p.ended; lines = refl };
+          live = live_state m;
+          after = refl;
+          keeps = keeps_on m m' m' xs (lines.Work turns ∷ []) (live_state m) refl work.keeps (keeps_said m' (lines.Work turns ∷ []) work.keeps.stands (refl, (refl, tt)));
+        })
 
 -- ---- `cover`
 pub covered : (m : Moment) (addr : ℕ) (found : Option (Network × Interior)) (subnet : Network) (prefix : Option Network) (before j now : Journaled) → Stands m → IsCover width (tables.get m.registry.rows) addr found subnet
     → prefix ≡ matched found → j ≡ with_lines before (lines.Cover addr prefix subnet ∷ []) → now ≡ flushed j → Gives (HasStepped m (Cover addr) 0 m) before now
 covered m addr found subnet prefix before j now stands cover is pushed flush = steps_pushed m (Cover addr) (lines.Cover addr (matched found) subnet ∷ []) before j now stands
-    (refl, refl, record { found = found; subnet = subnet; cover = subst (λ (rows : Rows Interior). IsCover width rows addr found subnet) (registered_rows m stands) cover; line = refl }) refl (refl, (refl, tt))
+    (refl, refl, record { found = found; subnet = subnet; cover = subst (λ (rows : Rows Interior). IsCover width rows addr found subnet) stands.registered cover; line = refl }) refl (refl, (refl, tt))
     (pushed ∙ ap (λ (p : Option Network). with_lines before (lines.Cover addr p subnet ∷ [])) is) flush
 
 -- ---- `settled`

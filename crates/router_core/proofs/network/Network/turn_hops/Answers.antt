@@ -20,5 +20,5 @@ decide-requires-clause-small c = hop_small c.args.number c.args.self.now _ c.in-
 
 pub returns : goal.returns
 returns c =
-    hop_took c.args.number c.args.self.now _ _ c.decide.new.self c.in-Some.chain.now c.turn.new.register c.turn.new.self c.args.journal.now c.turn.new.journal c.decide.new.journal c.flush.new.self c.in_ok-turn.turn _ c.in_default-turn.not-Nothing c.self.view_is c.requires
+    hop_took c.args.number c.args.self.now _ _ c.decide.new.self c.in-Some.chain.now c.turn.new.register c.turn.new.self c.args.journal.now c.turn.new.journal c.decide.new.journal c.flush.new.self c.in_ok-turn.turn _ c.in_default-turn.not-Nothing c.self.view_is
     (sym (ap option_copied c.in-Some.is) ∙ c.chain.ensures) c.in_ok-turn.ensures.taken c.sent_of.ensures refl c.in_ok-decide.ensures c.in_ok-flush.ensures.ok
