@@ -1,15 +1,9 @@
 -- What stands before `local`: no peer, no chain, no exit, and nobody reads.
-use Rattle.std.proofs.Common.{◌≡◌, ℕ, Option, Some, None, refl, sym, ap, subst, ◌∙◌}
-use Rattle.bgp_attr.specs.declared.speaker.Speaker.{Speaker}
-use Rattle.link_change.specs.Rows.{no_rows}
+use Rattle.router_core.proofs.Common.{sym, subst, ◌∙◌, ap, ◌≡◌, ℕ, refl, Speaker, peer_at, Declaration, refusal_at, DeclaredPeer, Chained, no_rows, chain_at, Moment, best_of, read_rows_by, read_of, Stands, ExitsAt, StandsAt, ReadsOn}
+use Rattle.std.proofs.Common.{Option, Some, None}
 use Rattle.event_text.specs.declared.event.Event.TheVariants as events
-use Rattle.event_text.specs.declared.declared.DeclaredPeer.{DeclaredPeer}
-use Rattle.event_text.specs.Declarations.{Declaration, peer_at, refusal, refusal_at}
-use Rattle.in_chain.specs.Chains.{Chained}
-use Rattle.peer_side.specs.Peers.{chain_at}
+use Rattle.event_text.specs.Declarations.{refusal}
 use Rattle.exit_side.specs.Exits.{chain_at as exit_at}
-use Rattle.router_core.specs.Moments.{Moment, best_of, read_rows_by, read_of}
-use Rattle.router_core.specs.Stands.{Stands, StandsAt, ExitsAt, ReadsOn}
 use Rattle.router_core.proofs.QueueLemmas.{none_before}
 
 pub local_first : (d : Declaration) (words : Speaker) → refusal d (events.Local words) ≡ None → d.speaker ≡ None

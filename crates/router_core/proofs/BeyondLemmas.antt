@@ -1,39 +1,29 @@
 -- How many rows of tables lie beyond a place, whatever rows they are: those of the tree, and those of `ebgp` and `ibgp`; and where they stand.
-use Rattle.std.proofs.Common.{◌≡◌, ℕ, ◌+◌, ◌-◌, ◌<◌, ◌≤◌, ◌⊎◌, inl, inr, Bool, true, false, not, ◌||◌, cond, T, zero, suc, List, [], ◌∷◌, ◌++◌, map, length, length-append, Option, Some, None, is_some, IsSome, refl, sym, ap, subst, ◌∙◌, arith}
+use Rattle.router_core.proofs.Common.{sym, subst, ◌∙◌, ap, ◌≡◌, ℕ, refl, List, true, arith, false, ◌+◌, Bool, ◌++◌, ◌≤◌, cond, ◌<◌, suc, zero, not, ◌||◌, inr, inl, ◌-◌, length-append, ◌⊎◌, FinMap, get-empty, get-entries, Contains, eq_by_cmp, itself, Network, prefix_cmp, is_empty_map, swept_one, CountsBeyond, RibExit, row_of_both, Proto, Connected, Static, Ospf, Rip, Interior, welded_branch, swept_branch, Branch, org_rows, welded_tree, int_rows, Treed, branch_of, tree_count, int_candidates, low_rows, dyn_rows, put_branch, tree_beyond, external_beyond}
+use Rattle.std.proofs.Common.{T, [], ◌∷◌, map, length, Option, Some, None, is_some, IsSome}
 use Rattle.std.specs.Prelude.{filter, ◌==◌}
-use Rattle.std.specs.List.{Contains}
 use Rattle.std.proofs.lemmas.List.{length-map}
 use Rattle.std.proofs.lemmas.List.Elements.{Contains-append_left, Contains-append_right}
 use Rattle.std.specs.FinMap as tables
-use Rattle.std.specs.FinMap.{FinMap, get, remove, contains_key, entries_sorted, from_sorted, is_sorted, find, get-entries, len-entries, get-remove, len-remove, get-empty, len-empty, get-from_sorted, entries-from_sorted, same_map}
+use Rattle.std.specs.FinMap.{get, remove, contains_key, entries_sorted, from_sorted, is_sorted, find, len-entries, get-remove, len-remove, len-empty, get-from_sorted, entries-from_sorted, same_map}
 use Rattle.std.specs.FinMap.Entries.{where_key, is_sorted-where_key, find-where_key}
 use Rattle.std.specs.Cmp.{eq_by_cmp_equiv}
-use Rattle.std.specs.Ordering.{eq_by_cmp, is_lt, is_eq}
+use Rattle.std.specs.Ordering.{is_lt, is_eq}
 use Rattle.std.specs.declared.cmp.Ordering.{Ordering}
 use Rattle.std.specs.declared.cmp.Ordering.TheVariants.{Less, Equal, Greater}
-use Rattle.addr4.specs.Prefixes.{Network, prefix_cmp}
 use Rattle.addr4.specs.Places.{IsBeyond}
-use Rattle.addr4.proofs.PrefixOrder.{prefixes_total, exact_prefixes, one_prefix, itself}
-use Rattle.link_change.specs.Rows.{is_empty_map}
+use Rattle.addr4.proofs.PrefixOrder.{prefixes_total, exact_prefixes, one_prefix}
 use Rattle.link_region.proofs.RegionLemmas.{by_bool}
 use Rattle.pass_core.specs.Passed.{is_beyond}
-use Rattle.pass_core.specs.Left.{CountsBeyond}
 use Rattle.pass_core.proofs.SplitLemmas.{beyond_so}
 use Rattle.loss_chain.specs.Lost.{Lost}
 use Rattle.loss_chain.specs.Covering.{row_over}
-use Rattle.loss_chain.specs.Steps.{swept_one, without}
+use Rattle.loss_chain.specs.Steps.{without}
 use Rattle.loss_chain.specs.Tables.{rows_below, lost_count, tables_count}
-use Rattle.rib_route.specs.declared.Proto.{Proto}
-use Rattle.rib_route.specs.declared.Proto.TheVariants.{Connected, Static, Ospf, Rip}
-use Rattle.rib_route.specs.declared.rows.Interior.{Interior}
-use Rattle.rib_merge.specs.Merging.{row_of_both}
-use Rattle.rib_tree.specs.Branches.{Branch, org_rows}
-use Rattle.rib_tree.specs.Trees.{Treed, branch_of, put_branch, int_rows, low_rows, dyn_rows, int_candidates, tree_count, interior_distance}
-use Rattle.rib_tree.specs.BranchSteps.{swept_branch, welded_branch}
-use Rattle.rib_tree.specs.Steps.{swept_tree, welded_tree}
-use Rattle.rib_exit.specs.declared.exit.RibExit.{RibExit}
+use Rattle.rib_tree.specs.Trees.{interior_distance}
+use Rattle.rib_tree.specs.Steps.{swept_tree}
 use Rattle.rib_exit.specs.Exits.{ext_candidates}
-use Rattle.router_core.specs.Phases.{table_beyond, lost_beyond, branch_beyond, tree_beyond, external_beyond}
+use Rattle.router_core.specs.Phases.{table_beyond, lost_beyond, branch_beyond}
 
 -- ---- lists, by tests of which one asks for more
 module _ {X : Type 0} (few many : X → Bool) (fewer : (x : X) → few x ≡ true → many x ≡ true) where

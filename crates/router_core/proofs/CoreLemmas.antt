@@ -1,70 +1,40 @@
 -- What holds of a core after each of its calls.
-use Rattle.std.proofs.Common.{◌≡◌, ℕ, ◌+◌, ◌<◌, ◌≤◌, Bool, true, false, List, length, Option, Some, None, is_some, refl, sym, ap, subst, ◌∙◌, arith}
-use Rattle.std.specs.FinMap.{get-empty, len-empty}
-use Rattle.std.specs.Ordering.{nat_cmp}
-use Rattle.in_chain.specs.Chains.{Chained}
-use Rattle.peer_side.specs.Peers.{chain_at}
-use Rattle.journal_text.specs.declared.line.Line.{Line}
-use Rattle.journal_text.specs.Journals.{Journaled}
-use Rattle.event_text.specs.declared.event.Event.{Event}
-use Rattle.event_text.specs.Declarations.{Declaration, plain, peer_at, refusal}
-use Rattle.event_text.specs.declared.declared.DeclaredPeer.{DeclaredPeer}
-use Rattle.event_text.specs.WellFormed.{IsWellFormed}
+use Rattle.router_core.proofs.Common.{sym, subst, ◌∙◌, ap, ◌≡◌, ℕ, refl, List, true, arith, false, ◌+◌, Bool, ◌≤◌, ◌<◌, get-empty, nat_cmp, Network, Route, Profile, peer_at, Declaration, IsWellFormed, DeclaredPeer, Event, ArePrintableExits, Chained, neighbours, AreTablesOf, IsInteriorRow, IsPrintableChain, Journaled, Line, Task, Change, declared_after, LiveState, Hop, Resolving, Metric, OutChained, chain_at, Proto, Interior, of_new, branch_of, first_held, FirstHeldTells, RowsAtRestAreExact, live_state, Moment, best_of, Gives, all_phases, ArePrinted, IsPrintableMoment, Tells, Stands, ExitsAt, AllHaveExits, StandsAt, HaveReaders, HasStepped, Keeps, TakesTurn, RunsOut, HaveSameExits, Done, Taken, Phase}
+use Rattle.std.proofs.Common.{length, Option, Some, None, is_some}
+use Rattle.std.specs.FinMap.{len-empty}
+use Rattle.event_text.specs.Declarations.{plain, refusal}
 use Rattle.link_change.proofs.RowLemmas.{empty_rows}
-use Rattle.rib_route.specs.declared.Proto.{Proto}
-use Rattle.rib_route.specs.declared.rows.Interior.{Interior}
-use Rattle.rib_tree.specs.Trees.{branch_of, AreNumbered}
+use Rattle.rib_tree.specs.Trees.{AreNumbered}
 use Rattle.rib_tree.specs.Steps.{new_tree}
 use Rattle.rib_tree.specs.Laws.{ANewTreeStands}
-use Rattle.router_core.specs.Moments.{Moment, Cored, first_moment, best_of, Gives}
-use Rattle.router_core.specs.Laws.{RowsAtRestAreExact, FirstHeldTells}
-use Rattle.router_core.specs.Holding.{first_held}
-use Rattle.router_core.specs.Scratch.{IsExactAtRest, Tells}
-use Rattle.router_core.specs.Stands.{Stands, AllHaveExits, HaveReaders, CoreStands, StandsAt, ExitsAt}
+use Rattle.router_core.specs.Moments.{Cored, first_moment}
+use Rattle.router_core.specs.Scratch.{IsExactAtRest}
+use Rattle.router_core.specs.Stands.{CoreStands}
 use Rattle.register_interest.specs.Interests.{interest_cmp}
-use Rattle.nexthop_resolver.specs.Resolving.{Resolving}
-use Rattle.nexthop_resolver.specs.declared.rows.Metric.{Metric}
 use Rattle.router_core.specs.Blocks.{Acts}
-use Rattle.router_core.specs.Works.{Comes, HasStepped, Keeps, HaveSameExits, TakesTurn, RunsOut, HaveDrained, HasIdled}
-use Rattle.live_state.specs.Declared.{declared_after}
-use Rattle.live_state.specs.Lives.{LiveState}
-use Rattle.router_core.specs.Lives.{live_state}
+use Rattle.router_core.specs.Works.{Comes, HaveDrained, HasIdled}
 use Rattle.live_state.specs.Laws.{DeclarationsFollow}
-use Rattle.journal_laws.specs.Peers.{neighbours, KeepsPeers}
-use Rattle.router_core.specs.Printable.{ArePrinted, IsPrintableMoment}
+use Rattle.journal_laws.specs.Peers.{KeepsPeers}
 use Rattle.router_core.proofs.KeepLemmas.{acts_of}
 use Rattle.router_core.proofs.TurnWalks.{turn_same, phase_same, phases_same}
 use Rattle.router_core.proofs.ExitsUp.{event_exits}
 use Rattle.router_core.proofs.ProfileLemmas.{profile_after, profile_follows, nothing_printable}
 use Rattle.router_core.proofs.SessionLemmas.{reads_as}
 use Rattle.live_state.proofs.SessionLemmas.{losses_follow}
-use Rattle.rib_tree.proofs.NewLemmas.{of_new, int_empty}
+use Rattle.rib_tree.proofs.NewLemmas.{int_empty}
 use Rattle.journal_laws.proofs.DeclaredPeers.{Leaves}
 use Rattle.journal_laws.proofs.PrintedPeers.{event_leaves}
 use Rattle.router_core.proofs.PrintedTurns.{Goes, turn_goes, phase_goes, phases_go}
-use Rattle.router_core.specs.declared.router.Done.{Done}
-use Rattle.router_core.specs.declared.router.Done.TheVariants.{Nothing, Taken}
-use Rattle.journal_text.specs.declared.link.Task.{Task}
+use Rattle.router_core.specs.declared.router.Done.TheVariants.{Nothing}
 use Rattle.router_core.proofs.PrintedBlocks.{event_printed}
 use Rattle.journal_laws.proofs.PrintedRows.{none_printable}
-use Rattle.journal_laws.specs.Standing.{AreTablesOf, IsInteriorRow}
-use Rattle.addr4.specs.Prefixes.{Network}
-use Rattle.bgp_attr.specs.declared.route.Route.{Route}
-use Rattle.out_chain.specs.Chains.{OutChained}
 use Rattle.exit_side.proofs.LawLemmas.{stands_at_first as exits_at_first}
-use Rattle.exit_laws.specs.Printable.{ArePrintableExits}
-use Rattle.bgp_attr.specs.declared.speaker.Profile.{Profile}
-use Rattle.journal_laws.specs.Standing.{IsPrintableChain}
 use Rattle.exit_laws.proofs.PrintLemmas.{printing_stays}
-use Rattle.nexthop_known.specs.declared.answer.Hop.{Hop}
 use Rattle.nexthop_resolver.specs.declared.rows.Way.{Way}
 use Rattle.rib_exit.proofs.LawLemmas.{stands_at_first as external_at_first}
-use Rattle.link_change.specs.declared.change.Change.{Change}
 use Rattle.router_core.proofs.TurnLaws.{turn_works, turn_comes, phase_works}
 use Rattle.router_core.proofs.RunLemmas.{phase_drained}
-use Rattle.router_core.specs.declared.router.Phase.{Phase}
 use Rattle.router_core.specs.declared.router.Idle.{Idle}
-use Rattle.router_core.specs.Phases.{all_phases}
 
 abbrev pub cored : Moment → ℕ → Cored
 cored m n = record { moment = m; events = n; failed = false }

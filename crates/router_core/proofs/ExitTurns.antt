@@ -1,67 +1,29 @@
 -- One turn of what reads `best`: of the forwarding side, and of a peer's exit.
-use Rattle.std.proofs.Common.{◌≡◌, ◌≢◌, ℕ, ◌+◌, ◌≤◌, nat_eq, nat_lt, Bool, true, false, cond, List, [], ◌∷◌, ◌++◌, length, Option, Some, None, is_some, IsSome, IfSome, refl, sym, ap, subst, ◌∙◌, arith, inl, inr}
+use Rattle.router_core.proofs.Common.{sym, subst, ◌∙◌, ap, ◌≡◌, ℕ, refl, List, true, arith, false, ◌+◌, Bool, ◌++◌, ◌≤◌, cond, nat_eq, ◌≢◌, inr, nat_lt, inl, IfSome, nat_tests, nat_cmp_total, get-insert, Attrs, Route, Speaker, best_rows, peer_at, DeclaredPeer, unheard_joins, Exited, AllStand, with_exit, with_queue, Queued, AllLead, Takes, unread_or_none, read_rows, neighbours, entries_of_entries, leads_append, leads_sent, Journaled, flushed, Adds, with_entries, entries_of, route_value, route_rows, Leads, Links, with_link, Entry, Line, Link, Value, IsSent, rows_before, Rows, Change, Turn, way_of, OutChained, is_unread, adds_both, Registry, StandsOver, FallsOn, RibExit, FibRow, Interior, int_rows, lent_rows, live_state, Moment, best_of, router_links, own_of, with_exits, read_rows_by, read_links, candidates_of, most_unread, with_rib, counts, unread_if, best_beyond, Stands, ExitsAt, ReadsOn, journal_lines, Keeps, TakesTurn, IsWork, Taken}
+use Rattle.std.proofs.Common.{[], ◌∷◌, length, Option, Some, None, is_some, IsSome}
 use Rattle.std.specs.Prelude.{MatchBool}
-use Rattle.std.proofs.lemmas.Bool.Decides.{nat_tests}
 use Rattle.std.proofs.lemmas.List.{append-nil}
 use Rattle.std.specs.FinMap as tables
-use Rattle.std.specs.FinMap.{get-insert}
-use Rattle.std.specs.Cmp.{nat_cmp_total}
-use Rattle.bgp_attr.specs.declared.attrs.Attrs.{Attrs}
-use Rattle.bgp_attr.specs.declared.route.Route.{Route}
-use Rattle.bgp_attr.specs.declared.speaker.Speaker.{Speaker}
-use Rattle.link_change.specs.Rows.{Rows}
-use Rattle.link_change.specs.Changes.{IsSent}
-use Rattle.link_change.specs.InOrder.{rows_before}
 use Rattle.link_change.proofs.InOrderLemmas.{before_is_old}
-use Rattle.link_change.specs.declared.change.Change.{Change}
-use Rattle.link_change.specs.declared.turn.Turn.{Turn}
 use Rattle.link_change.specs.declared.turn.Turn.TheVariants as turns
-use Rattle.journal_text.specs.declared.link.Link.{Link}
 use Rattle.journal_text.specs.declared.link.Link.TheVariants as links
 use Rattle.journal_text.specs.declared.link.Task.TheVariants as tasks
-use Rattle.journal_text.specs.declared.entry.Entry.{Entry}
-use Rattle.journal_text.specs.declared.value.Value.{Value}
-use Rattle.journal_text.specs.declared.line.Line.{Line}
-use Rattle.journal_text.specs.Journals.{Journaled, Adds, with_entries, flushed}
-use Rattle.journal_text.specs.Texts.{entries_of}
-use Rattle.journal_text.specs.Values.{route_value, route_rows, valued_change}
-use Rattle.journal_text.specs.Walk.{Links, Leads, with_link}
-use Rattle.journal_text.proofs.JournalLemmas.{entries_of_entries, entries_of_append}
-use Rattle.journal_text.proofs.WalkLemmas.{leads_append, leads_sent}
-use Rattle.journal_laws.specs.Peers.{neighbours}
-use Rattle.event_text.specs.declared.declared.DeclaredPeer.{DeclaredPeer}
-use Rattle.event_text.specs.Declarations.{peer_at}
+use Rattle.journal_text.specs.Values.{valued_change}
+use Rattle.journal_text.proofs.JournalLemmas.{entries_of_append}
 use Rattle.loss_chain.proofs.TableLemmas.{equal_by}
-use Rattle.peer_side.proofs.WeldLemmas.{adds_both}
-use Rattle.rib_route.specs.declared.rows.Interior.{Interior}
-use Rattle.rib_route.specs.declared.rows.FibRow.{FibRow}
-use Rattle.register_interest.specs.Registers.{Registry}
-use Rattle.nexthop_resolver.specs.Kept.{way_of}
-use Rattle.rib_tree.specs.Trees.{int_rows}
-use Rattle.rib_exit.specs.declared.exit.RibExit.{RibExit}
-use Rattle.rib_exit.specs.Exits.{StandsOver}
-use Rattle.rib_exit.specs.Steps.{TakesExternal, FallsOn}
+use Rattle.rib_exit.specs.Steps.{TakesExternal}
 use Rattle.link_region.proofs.RegionLemmas.{by_bool}
-use Rattle.fanout_queue.specs.Queues.{Queued, Takes, AllLead}
-use Rattle.fanout_queue.specs.Readers.{unread_or_none, read_rows}
 use Rattle.fanout_queue.proofs.LeadLemmas.{take_keeps_leading}
-use Rattle.out_chain.specs.Chains.{OutChained, is_unread}
 use Rattle.out_chain.specs.Steps.{sending_entries, said_of, message_lines}
-use Rattle.exit_side.specs.Exits.{Exited, chain_at as exit_at, with_exit, with_queue, AllStand}
+use Rattle.exit_side.specs.Exits.{chain_at as exit_at}
 use Rattle.exit_side.specs.Steps.{TurnsExit, ComesOut}
 use Rattle.exit_side.specs.Laws.{KeepsStranger, StaysWithQueue, StrangersTake}
 use Rattle.exit_side.proofs.StrangerLemmas.{turn_keeps}
-use Rattle.exit_laws.proofs.HearLemmas.{changes_are_unheard, unheard_joins}
+use Rattle.exit_laws.proofs.HearLemmas.{changes_are_unheard}
 use Rattle.exit_laws.proofs.ViewLemmas.{turn_is_heard}
-use Rattle.decision.specs.Branches.{best_rows}
-use Rattle.router_core.specs.declared.router.Done.TheVariants.{Taken}
 use Rattle.router_core.specs.declared.router.Phase.TheVariants as phases
-use Rattle.router_core.specs.Bests.{lent_rows}
-use Rattle.router_core.specs.Moments.{Moment, own_of, best_of, candidates_of, most_unread, read_rows_by, read_links, router_links, with_exits, with_rib}
-use Rattle.router_core.specs.Phases.{counts, unread_if, best_beyond}
-use Rattle.router_core.specs.Stands.{Stands, ExitsAt, ReadsOn}
-use Rattle.router_core.specs.Turns.{journal_lines, IsReadTurn, IsOutTurn}
-use Rattle.router_core.specs.Works.{Forwards, Keeps, IsWork, TakesTurn}
+use Rattle.router_core.specs.Turns.{IsReadTurn, IsOutTurn}
+use Rattle.router_core.specs.Works.{Forwards}
 use Rattle.router_core.proofs.BestLemmas.{lent_is}
 use Rattle.router_core.proofs.QueueLemmas.{reader_live}
 use Rattle.router_core.proofs.HeardSteps.{heard_quiet, exits_declared}
@@ -69,7 +31,6 @@ use Rattle.router_core.proofs.StaleLemmas.{kept_or_learnt, all_as_before, none_a
 use Rattle.router_core.proofs.ReadingLemmas.{best_counted, take_most}
 use Rattle.router_core.proofs.SessionLemmas.{stands_exits, external_kept, strangers_read, reads_as, exits_lead, exit_here, exit_elsewhere, key_same}
 use Rattle.router_core.proofs.ExternalTurns.{forward_leads, exit_unheard, stands_forward}
-use Rattle.router_core.specs.Lives.{live_state}
 use Rattle.router_core.proofs.SpendLemmas.{Spent}
 use Rattle.router_core.proofs.WorkLemmas.{one_turn}
 

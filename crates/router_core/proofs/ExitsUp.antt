@@ -1,40 +1,22 @@
 -- Each peer that is up has an exit, after each event as before it.
-use Rattle.std.proofs.Common.{◌≡◌, ◌≢◌, ℕ, ◌+◌, ◌&&◌, not, Bool, true, false, cond, nat_eq, List, [], ◌∷◌, ◌++◌, map, Option, Some, None, is_some, refl, sym, ap, subst, ◌∙◌, arith}
+use Rattle.router_core.proofs.Common.{sym, subst, ◌∙◌, ap, ◌≡◌, ℕ, refl, List, true, arith, false, ◌+◌, Bool, ◌++◌, cond, nat_eq, not, ◌≢◌, ◌&&◌, nat_tests, Network, Route, Speaker, Message, begun_words, peer_at, Declaration, with_session, without_session, begun_at, DeclaredPeer, Event, Down, Bgp, RouteAdd, RouteDel, Lose, Cover, Settled, Work, As4, Revised, Up, Redist, Exited, with_exit, Queued, Line, as4_is_first, revised_is_first, declared_after, changes_of, OutChained, overdue_at, Rule, Proto, tree_overdue, ByPeer, IsBlock, BeginsIf, EndsIf, HearsIf, Declares, BySpeaker, Begins, DropsRouteIf, Moment, with_exits, rules_to, all_phases, Stands, AllHaveExits, HaveSameExits}
+use Rattle.std.proofs.Common.{[], ◌∷◌, map, Option, Some, None, is_some}
 use Rattle.std.specs.Prelude.{IsSome, option_map}
 use Rattle.std.specs.FinMap as tables
-use Rattle.std.proofs.lemmas.Bool.Decides.{nat_tests}
-use Rattle.bgp_attr.specs.declared.route.Route.{Route}
-use Rattle.bgp_attr.specs.declared.speaker.Speaker.{Speaker}
-use Rattle.bgp_wire.specs.declared.message.Message.{Message}
 use Rattle.bgp_wire.specs.declared.message.Message.TheVariants as messages
-use Rattle.policy_rules.specs.declared.rule.Rule.{Rule}
-use Rattle.fanout_queue.specs.Queues.{Queued}
-use Rattle.journal_text.specs.declared.line.Line.{Line}
 use Rattle.link_region.proofs.RegionLemmas.{by_bool}
-use Rattle.rib_route.specs.declared.Proto.{Proto}
-use Rattle.addr4.specs.Prefixes.{Network}
-use Rattle.event_text.specs.declared.event.Event.{Event}
-use Rattle.event_text.specs.declared.event.Event.TheVariants.{Nothing, As4, Revised, Local, Peer, Up, Down, Bgp, FilterIn, FilterOut, RouteAdd, RouteDel, Lose, Redist, Cover, Settled, Idle, Work, Ask, Show}
-use Rattle.event_text.specs.declared.declared.DeclaredPeer.{DeclaredPeer}
-use Rattle.event_text.specs.Declarations.{Declaration, peer_at, refusal, words_of, with_session, without_session, begun_at, ended_at}
-use Rattle.event_text.proofs.Sessions.{KeepsWords, begun_words, ended_words}
-use Rattle.live_state.specs.Messages.{ends_session, changes_of}
-use Rattle.live_state.specs.Declared.{declared_after, declared_down, declared_heard}
-use Rattle.out_chain.specs.Chains.{OutChained}
+use Rattle.event_text.specs.declared.event.Event.TheVariants.{Nothing, Local, Peer, FilterIn, FilterOut, Idle, Ask, Show}
+use Rattle.event_text.specs.Declarations.{refusal, words_of, ended_at}
+use Rattle.event_text.proofs.Sessions.{KeepsWords, ended_words}
+use Rattle.live_state.specs.Messages.{ends_session}
+use Rattle.live_state.specs.Declared.{declared_down, declared_heard}
 use Rattle.out_chain.specs.Steps.{exit_to, new_out, with_rules}
-use Rattle.exit_side.specs.Exits.{Exited, chain_at as exit_at, with_exit}
+use Rattle.exit_side.specs.Exits.{chain_at as exit_at}
 use Rattle.exit_side.specs.Steps.{edited_by}
 use Rattle.exit_side.proofs.SwapLemmas.{by_number}
 use Rattle.exit_laws.proofs.ViewLemmas.{put_here, put_other, gone_other}
-use Rattle.peer_side.specs.Peers.{overdue_at}
-use Rattle.rib_tree.specs.Steps.{tree_overdue}
-use Rattle.router_core.specs.Moments.{Moment, with_exits, rules_to}
-use Rattle.router_core.specs.Stands.{AllHaveExits, Stands}
 use Rattle.router_core.proofs.BeforeLocal.{no_peer}
-use Rattle.live_state.proofs.AdmittedLemmas.{as4_is_first, revised_is_first}
-use Rattle.router_core.specs.Phases.{all_phases}
-use Rattle.router_core.specs.Blocks.{Declares, BySpeaker, Begins, Loses, ByPeer, BeginsIf, EndsIf, HearsIf, Hears, DropsRouteIf, IsBlock}
-use Rattle.router_core.specs.Works.{HaveSameExits}
+use Rattle.router_core.specs.Blocks.{Loses, Hears}
 use Rattle.router_core.proofs.SessionLemmas.{number_at, silenced}
 use Rattle.router_core.proofs.PeerLemmas.{peer_at_map}
 use Rattle.router_core.proofs.TurnWalks.{turns_same, phases_same, first_same, feeds_same, route_same}

@@ -1,54 +1,24 @@
 -- The RIB's exit in the router: what its entries lead to, what stands then, and one turn of the external routes' next hops.
-use Rattle.std.proofs.Common.{◌≡◌, ◌≢◌, ℕ, ◌+◌, ◌≤◌, Bool, true, false, List, Option, Some, None, is_some, refl, sym, ap, subst, ◌∙◌, arith}
+use Rattle.router_core.proofs.Common.{sym, subst, ◌∙◌, ap, ◌≡◌, ℕ, refl, List, true, arith, false, ◌+◌, Bool, ◌≤◌, ◌≢◌, Network, Speaker, peer_at, others_are_unheard, AreUnheard, Exited, AllStand, IsExits, AllLead, resolver_at, HasNoInterest, entries_of_entries, Journaled, flushed, Leads, Links, Entry, Line, Value, Change, Turn, joined, with_side, Sides, Region, Forward, no_table, way_of, over, external_hop, chain_at, Registry, StandsOver, ext_rows, AgreesWith, RibExit, FibRow, Interior, int_rows, Moment, best_of, router_links, with_exits, read_rows_by, read_of, parts, forward_by, with_rib, external_beyond, Stands, ExitsAt, ReadsOn, journal_lines, TakesTurn, IsWork, Taken}
+use Rattle.std.proofs.Common.{Option, Some, None, is_some}
 use Rattle.std.specs.Prelude.{MatchBool}
 use Rattle.std.specs.FinMap as tables
-use Rattle.addr4.specs.Prefixes.{Network}
-use Rattle.bgp_attr.specs.declared.speaker.Speaker.{Speaker}
-use Rattle.link_change.specs.declared.change.Change.{Change}
-use Rattle.link_change.specs.declared.turn.Turn.{Turn}
 use Rattle.link_change.specs.declared.turn.Turn.TheVariants as turns
-use Rattle.rib_route.specs.declared.rows.Interior.{Interior}
-use Rattle.rib_route.specs.declared.rows.FibRow.{FibRow}
-use Rattle.register_interest.specs.Registers.{Registry}
 use Rattle.nexthop_resolver.specs.Registered.{KeepsOthers}
-use Rattle.nexthop_resolver.specs.Kept.{external_hop, over, way_of}
 use Rattle.journal_text.specs.declared.link.Task.TheVariants as tasks
-use Rattle.journal_text.specs.declared.entry.Entry.{Entry}
-use Rattle.journal_text.specs.declared.value.Value.{Value}
-use Rattle.journal_text.specs.Journals.{Journaled, flushed}
-use Rattle.journal_text.specs.Walk.{Links, Leads}
-use Rattle.journal_text.proofs.JournalLemmas.{entries_of_entries}
-use Rattle.link_region.specs.declared.regions.Region.{Region}
-use Rattle.link_region.specs.declared.regions.Region.TheVariants.{Forward}
-use Rattle.link_region.specs.Regions.{Sides, joined, with_side}
-use Rattle.loss_chain.proofs.TableLemmas.{no_table}
-use Rattle.rib_tree.specs.Trees.{int_rows}
-use Rattle.rib_exit.specs.declared.exit.RibExit.{RibExit}
-use Rattle.rib_exit.specs.Exits.{exit_links as external_links, ext_candidates, ext_rows, IsExit, AgreesWith, StandsOver, left_in}
+use Rattle.rib_exit.specs.Exits.{exit_links as external_links, ext_candidates, IsExit, left_in}
 use Rattle.rib_exit.specs.Steps.{LeadsExit, KeepsAgreed, TurnsExit, ComesOut}
 use Rattle.rib_exit.proofs.LawLemmas.{stands_at_first}
-use Rattle.fanout_queue.specs.Queues.{AllLead}
-use Rattle.exit_side.specs.Exits.{Exited, IsExits, AllStand, chain_at as exit_at}
-use Rattle.exit_laws.specs.Views.{AreUnheard}
-use Rattle.exit_laws.proofs.OtherLemmas.{others_are_unheard}
-use Rattle.hop_side.specs.Resolvers.{resolver_at}
-use Rattle.hop_side.specs.Steps.{HasNoInterest}
+use Rattle.exit_side.specs.Exits.{chain_at as exit_at}
 use Rattle.hop_side.proofs.LawLemmas.{strangers_agree}
-use Rattle.peer_side.specs.Peers.{chain_at}
-use Rattle.event_text.specs.Declarations.{peer_at}
-use Rattle.router_core.specs.declared.router.Done.TheVariants.{Taken}
-use Rattle.router_core.specs.Moments.{Moment, best_of, read_of, read_rows_by, forward_by, parts, router_links, with_exits, with_rib}
-use Rattle.router_core.specs.Phases.{table_beyond, external_beyond}
-use Rattle.router_core.specs.Stands.{Stands, ExitsAt, ReadsOn}
-use Rattle.router_core.specs.Turns.{journal_lines, IsExternalTurn}
+use Rattle.router_core.specs.Phases.{table_beyond}
+use Rattle.router_core.specs.Turns.{IsExternalTurn}
 use Rattle.router_core.proofs.HeardSteps.{heard_quiet}
 use Rattle.router_core.proofs.StaleLemmas.{turned, all_as_before, none_goes_stale}
 use Rattle.router_core.proofs.BeyondLemmas.{external_counted}
 use Rattle.router_core.proofs.RibLinks.{exit_leads}
-use Rattle.router_core.specs.Works.{IsWork, TakesTurn}
 use Rattle.router_core.proofs.SpendLemmas.{Spent}
 use Rattle.router_core.proofs.WorkLemmas.{one_turn}
-use Rattle.journal_text.specs.declared.line.Line.{Line}
 use Rattle.router_core.specs.declared.router.Phase.TheVariants as phases
 
 -- ---- the region of the external routes

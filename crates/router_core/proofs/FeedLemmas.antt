@@ -1,34 +1,14 @@
 -- The prefixes of an UPDATE, one after the other.
-use Rattle.std.proofs.Common.{◌≡◌, ℕ, ◌+◌, ◌<◌, zero, suc, arith, Bool, true, false, cond, List, [], ◌∷◌, ◌++◌, Option, Some, get_or, length, take, refl, sym, ap, subst, ◌∙◌, append_assoc}
-use Rattle.bgp_attr.specs.declared.speaker.Profile.{Profile}
-use Rattle.std.proofs.lemmas.List.{append-nil, take_more}
-use Rattle.addr4.specs.Prefixes.{Network}
-use Rattle.bgp_attr.specs.declared.attrs.Attrs.{Attrs}
-use Rattle.bgp_attr.specs.declared.route.Route.{Route}
-use Rattle.link_change.specs.declared.change.Change.{Change}
-use Rattle.journal_text.specs.declared.entry.Entry.{Entry}
-use Rattle.journal_text.specs.declared.value.Value.{Value}
-use Rattle.journal_text.specs.declared.line.Line.{Line}
-use Rattle.journal_text.specs.Journals.{Journaled, Adds}
-use Rattle.event_text.specs.declared.declared.DeclaredPeer.{DeclaredPeer}
-use Rattle.in_chain.specs.Chains.{Chained}
-use Rattle.in_chain.specs.Steps.{fed, welded}
+use Rattle.router_core.proofs.Common.{sym, subst, ◌∙◌, ap, ◌≡◌, ℕ, refl, List, true, arith, false, ◌+◌, Bool, ◌++◌, cond, ◌<◌, suc, zero, take, get_or, take_more, same_Some, ForSome, Network, Attrs, Route, Profile, peer_at, DeclaredPeer, Chained, welded, fed, Journaled, Adds, Entry, Line, Value, Change, LiveState, same_by, MayBeHeard, adds_both, Chains, put_chain, live_state, Moment, with_chains, Stands, PeerStands, IsSilent, open_session, journal_lines, FallsPeer, FeedsAll, Pushes, Keeps, AreHeard, HaveFed, SettlesPeer, MaySettle}
+use Rattle.std.proofs.Common.{[], ◌∷◌, Option, Some, length, append_assoc}
+use Rattle.std.proofs.lemmas.List.{append-nil}
 use Rattle.loss_chain.specs.Steps.{live_after}
-use Rattle.loss_chain.proofs.TableLemmas.{same_by}
-use Rattle.event_text.specs.Declarations.{peer_at}
-use Rattle.peer_side.specs.Peers.{Chains, put_chain}
 use Rattle.peer_side.specs.Steps.{FeedsInward}
-use Rattle.std.specs.Option.{ForSome}
-use Rattle.std.proofs.lemmas.Option.{same_Some}
-use Rattle.peer_out.specs.Changes.{MayBeHeard}
-use Rattle.router_core.specs.Moments.{Moment, with_chains}
 use Rattle.router_core.proofs.HeardRows.{fed_heard, weld_heard}
-use Rattle.live_state.specs.Lives.{LiveState, Routes, with_routes, routes_after, live_fed}
-use Rattle.router_core.specs.Lives.{live_state}
-use Rattle.router_core.specs.Stands.{IsSilent, PeerStands, Stands, open_session}
-use Rattle.router_core.specs.Turns.{FeedsAll, journal_lines, FallsPeer, Feeds}
-use Rattle.router_core.specs.Works.{Pushes, AreHeard, IsUpAt, Keeps, HaveFed, SettlesPeer, MaySettle}
-use Rattle.peer_side.proofs.WeldLemmas.{weld_keeps, adds_both}
+use Rattle.live_state.specs.Lives.{Routes, with_routes, routes_after, live_fed}
+use Rattle.router_core.specs.Turns.{Feeds}
+use Rattle.router_core.specs.Works.{IsUpAt}
+use Rattle.peer_side.proofs.WeldLemmas.{weld_keeps}
 use Rattle.live_state.proofs.AdmittedLemmas.{routes_twice}
 use Rattle.router_core.proofs.StandLemmas.{peer_of, live_routed, routes_there, may_settle}
 use Rattle.router_core.proofs.KeepLemmas.{keeps_join, pushes_join}

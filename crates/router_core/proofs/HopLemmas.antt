@@ -1,45 +1,20 @@
 -- What follows a change on `filt.K`: what the resolvers' entries lead to, and what is claimed of them then.
-use Rattle.std.proofs.Common.{◌≡◌, ◌≢◌, ℕ, zero, suc, nat_eq, true, false, List, [], ◌++◌, Option, Some, None, is_some, IsSome, refl, sym, ap, subst, ◌∙◌}
+use Rattle.router_core.proofs.Common.{sym, subst, ◌∙◌, ap, ◌≡◌, ℕ, refl, List, true, false, ◌++◌, suc, zero, nat_eq, ◌≢◌, Network, Route, Speaker, best_rows, Exited, resolver_at, Resolvers, PeerRows, hop_links, IsHops, res_at, AllAgree, AllCounted, ComesOn, LeadsRes, HasNoInterest, entries_of_entries, with_entries_append, leads_append, leads_nowhere, Journaled, Adds, with_entries, entries_of, Leads, Links, Entry, Link, Res, Value, IsSent, Rows, Change, joined, with_side, Sides, LeadsIn, Region, Decided, Inward, Resolved, Outward, Resolving, Metric, chain_at, Chains, filt_at, peer_links, Registry, Interior, all_at, best_at, best_links, best_entries, Queues, resolved_at, Moment, best_of, router_links, own_of, with_exits, with_chains, parts, with_hops, Stands, HopsStand, journal_lines, Decides, SettlesPeer}
+use Rattle.std.proofs.Common.{[], Option, Some, None, is_some, IsSome}
 use Rattle.std.specs.FinMap as tables
-use Rattle.addr4.specs.Prefixes.{Network}
-use Rattle.bgp_attr.specs.declared.route.Route.{Route}
-use Rattle.link_change.specs.Rows.{Rows}
-use Rattle.link_change.specs.declared.change.Change.{Change}
-use Rattle.rib_route.specs.declared.rows.Interior.{Interior}
 use Rattle.register_interest.specs.declared.interests.Interest.{Interest}
 use Rattle.register_interest.specs.Interests.{without}
-use Rattle.register_interest.specs.Registers.{Registry, KeepsAnswers}
-use Rattle.nexthop_resolver.specs.Resolving.{Resolving}
+use Rattle.register_interest.specs.Registers.{KeepsAnswers}
 use Rattle.nexthop_resolver.specs.Registered.{KeepsOthers}
-use Rattle.nexthop_resolver.specs.declared.rows.Metric.{Metric}
-use Rattle.journal_text.specs.declared.link.Link.{Link}
-use Rattle.journal_text.specs.declared.link.Link.TheVariants.{Res}
-use Rattle.journal_text.specs.declared.entry.Entry.{Entry}
-use Rattle.journal_text.specs.declared.value.Value.{Value}
-use Rattle.journal_text.specs.Journals.{Journaled, with_entries, Adds}
-use Rattle.journal_text.specs.Texts.{entries_of}
-use Rattle.journal_text.specs.Walk.{Links, Leads}
-use Rattle.journal_text.proofs.JournalLemmas.{entries_of_entries, with_entries_none, with_entries_append}
-use Rattle.journal_text.proofs.WalkLemmas.{leads_append, leads_nowhere}
-use Rattle.link_region.specs.declared.regions.Region.{Region}
-use Rattle.link_region.specs.declared.regions.Region.TheVariants.{Inward, Resolved, Decided, External, Outward}
-use Rattle.link_region.specs.Regions.{Sides, joined, with_side, LeadsIn}
-use Rattle.hop_side.specs.Resolvers.{Resolvers, PeerRows, resolver_at, res_at, hop_links, is_res, beside, IsHops, AllAgree, AllCounted}
-use Rattle.hop_side.specs.Steps.{ComesOn, LeadsRes, KeepsAgreed, HasNoInterest, HaveSamePeers, TakesBelow, ReachesBelow}
+use Rattle.journal_text.proofs.JournalLemmas.{with_entries_none}
+use Rattle.link_region.specs.declared.regions.Region.TheVariants.{External}
+use Rattle.hop_side.specs.Resolvers.{is_res, beside}
+use Rattle.hop_side.specs.Steps.{KeepsAgreed, HaveSamePeers, TakesBelow, ReachesBelow}
 use Rattle.hop_side.proofs.LawLemmas.{leads_anywhere}
-use Rattle.peer_side.specs.Peers.{Chains, chain_at, peer_links, filt_at}
-use Rattle.exit_side.specs.Exits.{Exited}
-use Rattle.router_core.specs.Moments.{Moment, own_of, best_of, with_chains, with_hops, with_exits, parts, router_links}
-use Rattle.router_core.specs.Stands.{Stands, HopsStand}
 use Rattle.peer_side.specs.Steps.{WeldsInward}
-use Rattle.router_core.specs.Turns.{ResolvesOn, journal_lines}
-use Rattle.router_core.specs.Works.{Decides, SettlesPeer}
-use Rattle.router_core.specs.Bests.{all_at, best_at, best_entries, best_links, resolved_at, Queues}
+use Rattle.router_core.specs.Turns.{ResolvesOn}
 use Rattle.router_core.proofs.BestLemmas.{best_leads, best_quiet, comes_none}
 use Rattle.router_core.proofs.QueueLemmas.{queue_external, queue_links}
-use Rattle.decision.specs.Branches.{best_rows}
-use Rattle.bgp_attr.specs.declared.speaker.Speaker.{Speaker}
-use Rattle.link_change.specs.Changes.{IsSent}
 
 -- A change on `res.K` of a peer comes among all branches, since this speaker's own rows stay; no peer's number is 0.
 pub all_comes : (own : Rows Route) (a a' : Chains) (h h' : Resolvers) (k : ℕ) (p : Network) (sent : Option (Change Route)) → k ≢ 0 → ComesOn k p sent (resolved_at a h) (resolved_at a' h') → ComesOn k p sent (all_at own a h) (all_at own a' h')

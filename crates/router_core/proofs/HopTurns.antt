@@ -1,48 +1,24 @@
 -- One turn of the next hops of a peer.
-use Rattle.std.proofs.Common.{◌≡◌, ℕ, ◌≤◌, List, ◌++◌, Option, Some, None, is_some, refl, sym, ap, subst, ◌∙◌, arith}
+use Rattle.router_core.proofs.Common.{sym, subst, ◌∙◌, ap, ◌≡◌, ℕ, refl, List, arith, ◌++◌, ◌≤◌, Network, Route, Exited, IsExits, resolver_at, Resolvers, IsHops, AllAgree, GoesOn, candidates_are_counted, Chained, filt_rows, filt_candidates, Journaled, flushed, Adds, Entry, Line, Value, IsSent, Change, Turn, no_table, route_hop, with_metric, metric_of, CountsBeyond, adds_both, chain_at, filt_at, filt_by, Registry, AgreesWith, Interior, all_at, best_at, best_entries, live_state, Moment, best_of, own_of, with_exits, with_hops, beyonds, Stands, ExitsStand, HopsStand, journal_lines, sent_of, TakesTurn, IsWork, Decides, Taken}
+use Rattle.std.proofs.Common.{Option, Some, None, is_some}
 use Rattle.std.specs.FinMap as tables
-use Rattle.addr4.specs.Prefixes.{Network}
-use Rattle.bgp_attr.specs.declared.route.Route.{Route}
-use Rattle.link_change.specs.declared.change.Change.{Change}
-use Rattle.link_change.specs.declared.turn.Turn.{Turn}
 use Rattle.link_change.specs.declared.turn.Turn.TheVariants as turns
-use Rattle.rib_route.specs.declared.rows.Interior.{Interior}
-use Rattle.register_interest.specs.Registers.{Registry}
-use Rattle.pass_core.specs.Left.{CountsBeyond}
-use Rattle.nexthop_resolver.specs.Kept.{route_hop, metric_of, with_metric}
 use Rattle.journal_text.specs.declared.link.Task.TheVariants.{Nh}
-use Rattle.journal_text.specs.declared.line.Line.{Line}
-use Rattle.journal_text.specs.declared.entry.Entry.{Entry}
-use Rattle.journal_text.specs.declared.value.Value.{Value}
-use Rattle.journal_text.specs.Journals.{Journaled, Adds, flushed}
-use Rattle.loss_chain.proofs.TableLemmas.{no_table}
-use Rattle.in_chain.specs.Chains.{Chained, filt_rows, filt_candidates}
-use Rattle.in_chain.proofs.TurnLemmas.{candidates_are_counted}
-use Rattle.hop_side.specs.Resolvers.{Resolvers, resolver_at, busy_by, AllAgree, IsHops}
-use Rattle.hop_side.specs.Steps.{GoesOn, TurnsBelow, ComesBelow}
-use Rattle.peer_side.specs.Peers.{chain_at, filt_by, filt_at}
-use Rattle.router_core.specs.declared.router.Done.TheVariants.{Nothing, Taken}
+use Rattle.hop_side.specs.Resolvers.{busy_by}
+use Rattle.hop_side.specs.Steps.{TurnsBelow, ComesBelow}
+use Rattle.router_core.specs.declared.router.Done.TheVariants.{Nothing}
 use Rattle.router_core.specs.declared.router.Phase.TheVariants as phases
-use Rattle.peer_side.proofs.WeldLemmas.{adds_both}
-use Rattle.link_change.specs.Changes.{IsSent}
-use Rattle.exit_side.specs.Exits.{Exited, IsExits}
-use Rattle.router_core.specs.Bests.{all_at, best_at, best_entries}
 use Rattle.router_core.proofs.HeardSteps.{heard_quiet, queue_views, hops_unheard}
-use Rattle.router_core.specs.Moments.{Moment, own_of, best_of, with_hops, with_exits}
-use Rattle.router_core.specs.Phases.{beyond_by, beyonds}
+use Rattle.router_core.specs.Phases.{beyond_by}
 use Rattle.router_core.proofs.BestLemmas.{best_of_none}
 use Rattle.router_core.proofs.QueueLemmas.{reader_live, exits_fall}
 use Rattle.router_core.proofs.SpendLemmas.{Spent, hop_spends}
 use Rattle.router_core.proofs.StaleLemmas.{AllBefore, as_before, turned, put_before, none_goes_stale}
-use Rattle.router_core.specs.Stands.{Stands, HopsStand, ExitsStand}
-use Rattle.router_core.specs.Turns.{IsHopTurn, journal_lines, sent_of}
-use Rattle.router_core.specs.Works.{IsWork, TakesTurn, Decides}
+use Rattle.router_core.specs.Turns.{IsHopTurn}
 use Rattle.router_core.proofs.WorkLemmas.{one_turn}
-use Rattle.rib_exit.specs.Exits.{AgreesWith}
 use Rattle.router_core.proofs.HopLemmas.{all_comes, hops_fall, leads_resolved}
 use Rattle.router_core.proofs.StandLemmas.{resolver_there, speaker_there, not_zero, external_agrees}
 use Rattle.router_core.proofs.KeepLemmas.{keeps_as}
-use Rattle.router_core.specs.Lives.{live_state}
 
 -- what the calls ask for
 pub hops_sound : (m v : Moment) → v ≡ m → Stands m → IsHops v.hops

@@ -1,3 +1,4 @@
+pub mod Common
 mod CoreLemmas
 pub mod BeforeLocal
 pub mod ProfileLemmas

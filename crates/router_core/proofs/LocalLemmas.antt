@@ -1,66 +1,33 @@
 -- `local`: the links of the interior routes begin.
-use Rattle.std.proofs.Common.{◌≡◌, ℕ, ◌+◌, ◌<◌, List, [], ◌∷◌, ◌++◌, map, take, length, get_or, Option, Some, None, is_some, true, false, cond, refl, sym, ap, subst, ◌∙◌, arith, zero, suc}
-use Rattle.std.proofs.lemmas.Bool.Decides.{nat_tests}
+use Rattle.router_core.proofs.Common.{sym, subst, ◌∙◌, ap, ◌≡◌, ℕ, refl, List, true, arith, false, ◌+◌, ◌++◌, cond, ◌<◌, suc, zero, take, get_or, nat_tests, take_more, nat_cmp_total, get-insert, nat_cmp, eq_by_cmp, Route, Speaker, peer_at, Declaration, AllStand, with_queue, Queued, AllLead, unread_or_none, resolver_at, rows_by, with_lines_append, Journaled, Adds, with_entries, with_lines, entries_of, route_rows, Leads, Links, Link, Best, Fib, Adv, Read, Outf, Org, Value, rows_before, Rows, no_rows, Resolving, Metric, OutChained, Passed, IsSender, filt_at, Protos, StandsOver, RibExit, Proto, Connected, Static, Ospf, Rip, Interior, of_new, org_rows, int_rows, Treed, branch_of, tree_links, low_rows, dyn_rows, own_rows, all_at, best_at, best_links, own_links, live_state, Moment, best_of, router_links, own_of, read_of, read_by, tree_by, forward_by, Stands, ExitsAt, journal_lines, Pushes, HasStepped}
+use Rattle.std.proofs.Common.{[], ◌∷◌, map, length, Option, Some, None, is_some}
 use Rattle.std.specs.FinMap as tables
-use Rattle.std.specs.FinMap.{get-insert}
-use Rattle.std.specs.Ordering.{nat_cmp, eq_by_cmp}
-use Rattle.std.specs.Cmp.{nat_cmp_total}
-use Rattle.std.proofs.lemmas.List.{map-append, take_more}
-use Rattle.bgp_attr.specs.declared.speaker.Speaker.{Speaker}
-use Rattle.link_change.specs.Rows.{Rows, no_rows}
-use Rattle.rib_route.specs.declared.Proto.{Proto}
-use Rattle.rib_route.specs.declared.Proto.TheVariants.{Connected, Static, Ospf, Rip}
-use Rattle.rib_route.specs.declared.rows.Interior.{Interior}
-use Rattle.rib_tree.specs.Branches.{org_rows}
-use Rattle.rib_tree.specs.Trees.{Treed, branch_of, low_rows, dyn_rows, int_rows, tree_links}
+use Rattle.std.proofs.lemmas.List.{map-append}
 use Rattle.rib_tree.specs.Steps.{new_tree}
-use Rattle.journal_text.specs.declared.link.Link.{Link}
-use Rattle.journal_text.specs.declared.link.Link.TheVariants.{Org, Lost, Low, Dyn, Int, Red, Best, Ebgp, Ibgp, Ext, Fib, ReadRib, Read, Outf, Adv}
+use Rattle.journal_text.specs.declared.link.Link.TheVariants.{Lost, Low, Dyn, Int, Red, Ebgp, Ibgp, Ext, ReadRib}
 use Rattle.journal_text.specs.declared.entry.Entry.TheVariants.{Inherit}
-use Rattle.journal_text.specs.declared.value.Value.{Value}
-use Rattle.journal_text.specs.Texts.{entries_of}
-use Rattle.journal_text.specs.Walk.{Links, Leads, fold_links}
-use Rattle.journal_text.specs.Journals.{Journaled, Adds, with_lines, with_entries}
-use Rattle.bgp_attr.specs.declared.route.Route.{Route}
-use Rattle.nexthop_resolver.specs.Resolving.{Resolving}
-use Rattle.nexthop_resolver.specs.declared.rows.Metric.{Metric}
-use Rattle.hop_side.specs.Resolvers.{resolver_at, rows_by}
-use Rattle.peer_side.specs.Peers.{filt_at}
-use Rattle.pass_core.specs.Passed.{Passed}
-use Rattle.redist.specs.declared.protos.Protos.{Protos}
+use Rattle.journal_text.specs.Walk.{fold_links}
 use Rattle.redist.proofs.LawLemmas.{nothing_at_first}
-use Rattle.rib_exit.specs.declared.exit.RibExit.{RibExit}
-use Rattle.rib_exit.specs.Exits.{nothing_yet, exit_links, StandsOver}
+use Rattle.rib_exit.specs.Exits.{nothing_yet, exit_links}
 use Rattle.rib_exit.specs.Steps.{begin_entries}
 use Rattle.rib_exit.proofs.LawLemmas.{stands_at_first}
-use Rattle.router_core.specs.Bests.{own_rows, own_links, all_at, best_at, best_links}
 use Rattle.router_core.proofs.BestLemmas.{best_none}
-use Rattle.journal_text.specs.Values.{interior_rows, route_rows}
+use Rattle.journal_text.specs.Values.{interior_rows}
 use Rattle.event_text.specs.declared.event.Event.TheVariants as events
-use Rattle.event_text.specs.Declarations.{Declaration, refusal, peer_at, with_speaker}
-use Rattle.router_core.specs.Moments.{Moment, tree_by, forward_by, own_of, best_of, read_by, read_of, router_links}
-use Rattle.router_core.specs.Stands.{Stands, ExitsAt}
+use Rattle.event_text.specs.Declarations.{refusal, with_speaker}
 use Rattle.router_core.specs.Blocks.{begin_line, first_begins, rib_begins, declared_speaker}
 use Rattle.router_core.proofs.BeforeLocal.{local_first, no_chain, no_exit, no_reader, read_before}
 use Rattle.bgp_attr.specs.Speakers.{IsSpeaker}
-use Rattle.peer_out.specs.Changes.{IsSender}
-use Rattle.link_change.specs.InOrder.{rows_before}
-use Rattle.fanout_queue.specs.Queues.{Queued, AllLead}
-use Rattle.fanout_queue.specs.Readers.{unread_or_none}
 use Rattle.fanout_queue.proofs.LeadLemmas.{join_keeps_leading}
-use Rattle.out_chain.specs.Chains.{OutChained}
-use Rattle.exit_side.specs.Exits.{AllStand, with_queue, exit_links as exit_links_of}
+use Rattle.exit_side.specs.Exits.{exit_links as exit_links_of}
 use Rattle.exit_side.specs.Laws.{IsStranger, StaysWithQueue, StrangersJoin}
-use Rattle.router_core.specs.Turns.{journal_lines}
 use Rattle.router_core.proofs.HeardSteps.{heard_quiet}
 use Rattle.router_core.proofs.QueueLemmas.{exits_none}
 use Rattle.router_core.proofs.SessionLemmas.{may_send}
-use Rattle.journal_text.proofs.JournalLemmas.{with_lines_append}
-use Rattle.rib_tree.proofs.NewLemmas.{of_new, org_empty, low_empty, dyn_empty, int_empty}
+use Rattle.rib_tree.proofs.NewLemmas.{org_empty, low_empty, dyn_empty, int_empty}
 use Rattle.loss_chain.specs.Tables.{rows_above}
 use Rattle.std.specs.Prelude.{option_map}
-use Rattle.router_core.specs.Works.{Pushes, HasStepped, BeginsReading}
-use Rattle.router_core.specs.Lives.{live_state}
+use Rattle.router_core.specs.Works.{BeginsReading}
 
 same_key : (k : ℕ) → eq_by_cmp nat_cmp k k ≡ true
 same_key k = grind (arith, nat_tests)

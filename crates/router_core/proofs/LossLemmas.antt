@@ -1,30 +1,16 @@
 -- The loss of a session.
-use Rattle.std.proofs.Common.{◌≡◌, ℕ, ◌+◌, nat_eq, Bool, true, cond, List, ◌++◌, Option, Some, None, is_some, refl, sym, ap, subst, ◌∙◌}
+use Rattle.router_core.proofs.Common.{sym, subst, ◌∙◌, ap, ◌≡◌, ℕ, refl, List, true, ◌+◌, Bool, ◌++◌, cond, nat_eq, same_Some, peer_at, Declaration, without_session, DeclaredPeer, others_are_unheard, Exited, Chained, Journaled, flushed, Adds, Entry, Line, Value, Inward, no_table, OutChained, chain_at, Chains, peer_links, overdue_at, live_state, Moment, own_of, Gives, with_exits, with_chains, Stands, ExitsAt, StandsAt, PeerStands, ExitsStand, open_session, journal_lines, Pushes, Keeps}
+use Rattle.std.proofs.Common.{Option, Some, None, is_some}
 use Rattle.std.specs.FinMap as tables
-use Rattle.std.proofs.lemmas.Option.{same_Some}
-use Rattle.journal_text.specs.declared.line.Line.{Line}
-use Rattle.event_text.specs.Declarations.{peer_at, Declaration, without_session}
-use Rattle.journal_text.specs.declared.entry.Entry.{Entry}
-use Rattle.journal_text.specs.declared.value.Value.{Value}
-use Rattle.journal_text.specs.Journals.{Journaled, Adds, flushed}
-use Rattle.event_text.specs.declared.declared.DeclaredPeer.{DeclaredPeer}
-use Rattle.in_chain.specs.Chains.{Chained}
 use Rattle.in_chain.specs.Steps.{lost}
-use Rattle.peer_side.specs.Peers.{Chains, chain_at, peer_links, overdue_at, overdue_by, AreBefore}
+use Rattle.peer_side.specs.Peers.{overdue_by, AreBefore}
 use Rattle.peer_side.specs.Steps.{MayLose, LosesInward}
-use Rattle.router_core.specs.Moments.{Moment, Gives, own_of, with_chains, with_exits}
-use Rattle.loss_chain.proofs.TableLemmas.{equal_by, no_table}
+use Rattle.loss_chain.proofs.TableLemmas.{equal_by}
 use Rattle.link_region.proofs.RegionLemmas.{by_bool}
-use Rattle.out_chain.specs.Chains.{OutChained}
-use Rattle.exit_side.specs.Exits.{Exited, chain_at as exit_at}
+use Rattle.exit_side.specs.Exits.{chain_at as exit_at}
 use Rattle.exit_side.specs.Steps.{EndsExit}
-use Rattle.exit_laws.proofs.OtherLemmas.{others_are_unheard}
-use Rattle.link_region.specs.declared.regions.Region.TheVariants.{Inward}
 use Rattle.live_state.specs.Lives.{ended}
-use Rattle.router_core.specs.Lives.{live_state}
-use Rattle.router_core.specs.Stands.{PeerStands, StandsAt, Stands, ExitsAt, open_session, ExitsStand}
-use Rattle.router_core.specs.Turns.{journal_lines}
-use Rattle.router_core.specs.Works.{Keeps, Pushes, HasRoom, IsSession, HasLost, Ends}
+use Rattle.router_core.specs.Works.{HasRoom, IsSession, HasLost, Ends}
 use Rattle.live_state.proofs.AdmittedLemmas.{down, ended_same, ended_other, ended_length}
 use Rattle.router_core.proofs.BestLemmas.{best_quiet}
 use Rattle.router_core.proofs.HopLemmas.{hops_quiet}

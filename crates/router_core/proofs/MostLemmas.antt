@@ -1,59 +1,30 @@
 -- How many turns next hops take at most, whatever became stale.
-use Rattle.std.proofs.Common.{◌≡◌, ℕ, ◌+◌, ◌*◌, ◌≤◌, Bool, true, false, List, [], ◌∷◌, ◌++◌, map, length, length-append, cond, not, if◌then◌else◌, zero, suc, Option, Some, None, is_some, IsSome, refl, sym, ap, subst, ◌∙◌, arith}
-use Rattle.std.specs.Ordering.{nat_cmp, eq_by_cmp}
-use Rattle.std.specs.Cmp.{nat_cmp_total}
-use Rattle.std.specs.List.{sum_by, Contains}
+use Rattle.router_core.proofs.Common.{sym, subst, ◌∙◌, ap, ◌≡◌, ℕ, refl, List, true, arith, false, ◌+◌, Bool, ◌++◌, ◌≤◌, cond, suc, zero, not, ◌*◌, length-append, nat_cmp_total, nat_cmp-IsAntisymmetric, get-entries, Contains, sum_by, nat_cmp, eq_by_cmp, Network, Route, Speaker, best_is_a_branchs, peer_at, DeclaredPeer, Queued, resolver_at, Resolvers, rows_by, known_in, candidates_are_counted, Chained, filt_rows, sum_replaced, rows_before, Rows, Change, is_stale_at, stale_count, route_hop, with_metric, Resolving, passes, Metric, OutChained, Passed, Walked, function_at, chain_at, Chains, filt_at, filt_by, put_chain, rows_in, lost_in, Rule, redistributed, Protos, ext_is_of_best, Interior, Parted, on_link, kept_rows, BgpLink, int_rows, tree_count, own_rows, all_at, Moment, best_of, own_of, read_rows_by, read_of, counts, beyonds, unread_if, tree_beyond, external_beyond, fin_sends, most_of, own_sends, own_sends_by, own_waiting, nh_sends, Stands, ExitsAt, StandsAt}
+use Rattle.std.proofs.Common.{[], ◌∷◌, map, length, if◌then◌else◌, Option, Some, None, is_some, IsSome}
 use Rattle.std.proofs.lemmas.List.Elements.{Contains-append_left, Contains-append_right}
 use Rattle.std.specs.FinMap as tables
-use Rattle.std.specs.FinMap.{find, get-entries, nat_cmp-IsAntisymmetric}
+use Rattle.std.specs.FinMap.{find}
 use Rattle.std.proofs.lemmas.List.Sums.{sum_by-cons, sum_by-le-sum_by}
-use Rattle.addr4.specs.Prefixes.{Network}
-use Rattle.nexthop_resolver.specs.Resolving.{Resolving, Answers, resolved, passes}
-use Rattle.nexthop_resolver.specs.Kept.{route_hop, with_metric}
-use Rattle.nexthop_resolver.specs.declared.rows.Metric.{Metric}
-use Rattle.in_chain.specs.Chains.{Chained, filt_beyond, filt_rows, left_beyond, row_count}
-use Rattle.in_chain.proofs.TurnLemmas.{candidates_are_counted, filtered_rows_are_few}
-use Rattle.hop_side.specs.Resolvers.{Resolvers, resolver_at, rows_by, known_of, known_in, left_of, walks_of, walks_in, same_metric}
+use Rattle.nexthop_resolver.specs.Resolving.{Answers, resolved}
+use Rattle.in_chain.specs.Chains.{filt_beyond, left_beyond, row_count}
+use Rattle.in_chain.proofs.TurnLemmas.{filtered_rows_are_few}
+use Rattle.hop_side.specs.Resolvers.{known_of, left_of, walks_of, walks_in, same_metric}
 use Rattle.hop_side.proofs.FewLemmas.{known_are_few}
-use Rattle.peer_side.specs.Peers.{Chains, chain_at, put_chain, filt_at, filt_by, lost_in, rows_in}
 use Rattle.peer_side.proofs.PutLemmas.{put_lost}
 use Rattle.router_core.specs.declared.router.Phase.TheVariants.{Nh, Ext}
-use Rattle.router_core.specs.Moments.{Moment, own_of, best_of, read_of, read_rows_by}
-use Rattle.router_core.specs.Bests.{own_rows, all_at}
-use Rattle.nexthop_known.specs.Hops.{is_stale_at, stale_count}
 use Rattle.nexthop_known.proofs.StaleLemmas.{known_count}
 use Rattle.nexthop_resolver.specs.Left.{is_needed, differing_count, walk_turns, next_walk}
-use Rattle.router_core.specs.Phases.{beyond_by, beyonds, counts, most_of, external_most, external_beyond, tree_beyond, unread_if, stale_of, stale_in, own_sends, own_sends_by, own_waiting, nh_sends, nh_sends_of, place_candidates, next_candidates, fin_sends, fin_sends_of, walk_candidates, waiting_candidates}
-use Rattle.bgp_attr.specs.declared.speaker.Speaker.{Speaker}
-use Rattle.policy_rules.specs.declared.rule.Rule.{Rule}
-use Rattle.pass_core.specs.Passed.{Passed, Walked, function_at}
-use Rattle.redist.specs.declared.protos.Protos.{Protos}
-use Rattle.redist.specs.Local.{redistributed}
-use Rattle.bgp_attr.specs.declared.route.Route.{Route}
-use Rattle.link_change.specs.Rows.{Rows}
-use Rattle.link_change.specs.InOrder.{rows_before}
-use Rattle.link_change.specs.declared.change.Change.{Change}
-use Rattle.link_change.proofs.MapLemmas.{sum_within, sum_replaced, sums_within, values_length}
+use Rattle.router_core.specs.Phases.{beyond_by, external_most, stale_of, stale_in, nh_sends_of, place_candidates, next_candidates, fin_sends_of, walk_candidates, waiting_candidates}
+use Rattle.link_change.proofs.MapLemmas.{sum_within, sums_within, values_length}
 use Rattle.link_region.proofs.RegionLemmas.{by_bool}
-use Rattle.fanout_queue.specs.Queues.{Queued}
-use Rattle.decision.proofs.LawLemmas.{best_is_a_branchs}
-use Rattle.rib_route.specs.declared.rows.Interior.{Interior}
 use Rattle.rib_route.specs.declared.rows.External.{External}
-use Rattle.rib_tree.specs.Trees.{tree_count, int_rows}
-use Rattle.rib_split.specs.declared.split.BgpLink.{BgpLink}
 use Rattle.rib_split.specs.declared.split.BgpLink.TheVariants.{Ebgp, Ibgp}
-use Rattle.rib_split.specs.Splitting.{Parted, external_row, on_link}
-use Rattle.rib_split.specs.Tables.{kept_rows}
+use Rattle.rib_split.specs.Splitting.{external_row}
 use Rattle.rib_exit.specs.Exits.{known_in as external_known}
 use Rattle.rib_exit.proofs.BusyLemmas.{turns_are_bounded as external_bounded}
 use Rattle.rib_exit.proofs.FewLemmas.{known_are_few as external_are_few}
-use Rattle.rib_exit.proofs.LawLemmas.{ext_is_of_best}
-use Rattle.event_text.specs.declared.declared.DeclaredPeer.{DeclaredPeer}
-use Rattle.event_text.specs.Declarations.{peer_at}
-use Rattle.out_chain.specs.Chains.{OutChained}
 use Rattle.exit_side.specs.Exits.{chain_at as exit_at}
 use Rattle.router_core.proofs.BeyondLemmas.{table_within, tree_within, tree_keys, tree_length, has_tree_key, few_both, external_counted}
-use Rattle.router_core.specs.Stands.{Stands, StandsAt, ExitsAt}
 
 -- ---- next hops, and the rows of their peers
 chain_by : (o : Option Chained) (p : Option (Resolving Metric)) → is_some p ≡ is_some o → IsSome p → (c : Chained) × (o ≡ Some c)

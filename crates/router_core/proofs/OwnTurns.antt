@@ -1,42 +1,17 @@
 -- This speaker's own routes: what a change of them makes, and one turn of the walk of redistribution.
-use Rattle.std.proofs.Common.{◌≡◌, List, ◌++◌, Option, Some, None, is_some, Result, refl, sym, ap, subst, ◌∙◌, arith}
+use Rattle.router_core.proofs.Common.{sym, subst, ◌∙◌, ap, ◌≡◌, refl, List, arith, ◌++◌, on_ok_weaker, Network, Route, Speaker, Exited, entries_of_entries, Journaled, flushed, Adds, with_entries, entries_of, Leads, Entry, Line, Value, IsSent, Rows, Change, Turn, joined, with_side, Sides, Region, Decided, Redistributed, Outward, Passed, Walked, present, passed_rows, adds_both, redistributed, has, Protos, Interior, int_rows, int_candidates, own_rows, all_at, best_at, best_links, best_entries, own_links, own_entries, live_state, Moment, best_of, router_links, own_of, with_exits, parts, with_redist, Stands, ExitsStand, journal_lines, sent_of, TakesTurn, IsWork, Decides, Taken}
+use Rattle.std.proofs.Common.{Option, Some, None, is_some, Result}
 use Rattle.std.specs.Result.{OnOk}
-use Rattle.std.proofs.lemmas.Result.{on_ok_weaker}
-use Rattle.addr4.specs.Prefixes.{Network}
-use Rattle.bgp_attr.specs.declared.route.Route.{Route}
-use Rattle.bgp_attr.specs.declared.speaker.Speaker.{Speaker}
-use Rattle.link_change.specs.Rows.{Rows}
-use Rattle.link_change.specs.Changes.{IsSent}
-use Rattle.link_change.specs.declared.change.Change.{Change}
-use Rattle.link_change.specs.declared.turn.Turn.{Turn}
 use Rattle.link_change.specs.declared.turn.Turn.TheVariants as turns
-use Rattle.rib_route.specs.declared.rows.Interior.{Interior}
-use Rattle.pass_core.specs.Passed.{Passed, Walked, present, present_of, latest_of, after_walk, walk_stepped, walk_of_waiting}
-use Rattle.pass_core.specs.Turns.{passed_rows, walked_on, IsPassedOn, IsSentAt, Walks, IsWalked}
-use Rattle.redist.specs.declared.protos.Protos.{Protos}
-use Rattle.redist.specs.Protocols.{has}
-use Rattle.redist.specs.Local.{redistributed}
+use Rattle.pass_core.specs.Passed.{present_of, latest_of, after_walk, walk_stepped, walk_of_waiting}
+use Rattle.pass_core.specs.Turns.{walked_on, IsPassedOn, IsSentAt, Walks, IsWalked}
 use Rattle.journal_text.specs.declared.link.Task.TheVariants as tasks
-use Rattle.journal_text.specs.declared.entry.Entry.{Entry}
-use Rattle.journal_text.specs.declared.value.Value.{Value}
-use Rattle.journal_text.specs.Journals.{Journaled, with_entries, Adds, flushed}
-use Rattle.journal_text.specs.Texts.{entries_of}
-use Rattle.journal_text.specs.Walk.{Leads}
-use Rattle.journal_text.proofs.JournalLemmas.{entries_of_entries}
-use Rattle.link_region.specs.declared.regions.Region.{Region}
-use Rattle.link_region.specs.declared.regions.Region.TheVariants.{Redistributed, Decided, External, Outward}
-use Rattle.link_region.specs.Regions.{Sides, joined, with_side}
-use Rattle.rib_tree.specs.Trees.{int_rows, int_candidates}
-use Rattle.peer_side.proofs.WeldLemmas.{adds_both}
-use Rattle.exit_side.specs.Exits.{Exited}
-use Rattle.router_core.specs.declared.router.Done.TheVariants.{Nothing, Taken}
+use Rattle.link_region.specs.declared.regions.Region.TheVariants.{External}
+use Rattle.router_core.specs.declared.router.Done.TheVariants.{Nothing}
 use Rattle.router_core.specs.declared.router.Phase.TheVariants as phases
-use Rattle.router_core.specs.Bests.{own_links, own_entries, all_at, best_links, best_entries, DecidesOn, own_rows, best_at}
-use Rattle.router_core.specs.Moments.{Moment, with_exits, with_redist, own_of, best_of, parts, router_links}
-use Rattle.router_core.specs.Lives.{live_state}
-use Rattle.router_core.specs.Stands.{Stands, ExitsStand}
-use Rattle.router_core.specs.Turns.{journal_lines, sent_of, IsOwnTurn}
-use Rattle.router_core.specs.Works.{Decides, SendsOwn, Redistributes, IsWork, TakesTurn}
+use Rattle.router_core.specs.Bests.{DecidesOn}
+use Rattle.router_core.specs.Turns.{IsOwnTurn}
+use Rattle.router_core.specs.Works.{SendsOwn, Redistributes}
 use Rattle.router_core.proofs.BestLemmas.{best_of_none}
 use Rattle.router_core.proofs.QueueLemmas.{queue_external, queue_links, reader_live, exits_fall}
 use Rattle.router_core.proofs.HeardSteps.{heard_quiet, own_unheard, queue_views}
@@ -44,7 +19,6 @@ use Rattle.router_core.proofs.RibLinks.{DecidesTo, own_rows_are, own_comes, lead
 use Rattle.router_core.proofs.SpendLemmas.{Spent, own_spends}
 use Rattle.router_core.proofs.StaleLemmas.{none_as_before}
 use Rattle.router_core.proofs.WorkLemmas.{one_turn}
-use Rattle.journal_text.specs.declared.line.Line.{Line}
 use Rattle.router_core.proofs.KeepLemmas.{keeps_as}
 
 -- ---- what redistribution sends

@@ -1,28 +1,8 @@
 -- A fall in the chain of a peer, what follows it, and the weld behind both: where its entries lead to, and what stands then.
-use Rattle.std.proofs.Common.{◌≡◌, ℕ, List, ◌++◌, Option, Some, is_some, refl, sym, ap, subst, ◌∙◌}
-use Rattle.addr4.specs.Prefixes.{Network}
-use Rattle.bgp_attr.specs.declared.route.Route.{Route}
-use Rattle.link_change.specs.Rows.{Rows}
-use Rattle.link_change.specs.Changes.{IsSent}
-use Rattle.link_change.specs.declared.change.Change.{Change}
-use Rattle.journal_text.specs.declared.entry.Entry.{Entry}
-use Rattle.journal_text.specs.declared.value.Value.{Value}
-use Rattle.journal_text.specs.declared.line.Line.{Line}
-use Rattle.event_text.specs.declared.declared.DeclaredPeer.{DeclaredPeer}
-use Rattle.event_text.specs.Declarations.{peer_at}
-use Rattle.in_chain.specs.Chains.{Chained}
-use Rattle.in_chain.specs.Steps.{welded}
-use Rattle.hop_side.specs.Steps.{GoesOn}
-use Rattle.peer_side.specs.Peers.{Chains, chain_at, put_chain, filt_at}
+use Rattle.router_core.proofs.Common.{sym, subst, ◌∙◌, ap, ◌≡◌, ℕ, refl, List, ◌++◌, Network, Route, peer_at, DeclaredPeer, GoesOn, Chained, welded, Entry, Line, Value, IsSent, Rows, Change, LiveState, chain_at, Chains, filt_at, put_chain, all_at, best_at, best_entries, live_state, Moment, best_of, own_of, with_exits, with_chains, with_hops, Stands, PeerStands, journal_lines, FallsPeer, Keeps, SettlesPeer}
+use Rattle.std.proofs.Common.{Option, Some, is_some}
 use Rattle.peer_side.specs.Steps.{FallsInward, Changes}
 use Rattle.peer_side.proofs.WeldLemmas.{weld_after}
-use Rattle.live_state.specs.Lives.{LiveState}
-use Rattle.router_core.specs.Bests.{all_at, best_at, best_entries}
-use Rattle.router_core.specs.Moments.{Moment, own_of, best_of, with_chains, with_hops, with_exits}
-use Rattle.router_core.specs.Lives.{live_state}
-use Rattle.router_core.specs.Stands.{PeerStands, Stands}
-use Rattle.router_core.specs.Turns.{FallsPeer, journal_lines}
-use Rattle.router_core.specs.Works.{Keeps, SettlesPeer}
 use Rattle.router_core.proofs.KeepLemmas.{keeps_as}
 use Rattle.router_core.proofs.HeardSteps.{heard_quiet, queue_views, falls_unheard}
 use Rattle.router_core.proofs.HeardRows.{IsHeardChain, put_heard}

@@ -1,57 +1,32 @@
 -- A peer that is declared, and one whose session begins.
-use Rattle.std.proofs.Common.{◌≡◌, ℕ, ◌+◌, ◌≤◌, Bool, true, false, not, ◌&&◌, cond, List, [], ◌∷◌, ◌++◌, map, length, Option, Some, None, nat_eq, refl, sym, ap, subst, ◌∙◌, suc, arith}
+use Rattle.router_core.proofs.Common.{sym, subst, ◌∙◌, ap, ◌≡◌, ℕ, refl, List, true, arith, false, ◌+◌, Bool, ◌++◌, ◌≤◌, cond, suc, nat_eq, not, ◌&&◌, same_Some, Attrs, Route, Speaker, begun_words, peer_at, Declaration, with_session, begun_at, refusal_at, IsWellFormed, DeclaredPeer, AllStand, AllLead, resolver_at, Resolvers, rows_by, PeerRows, hop_links, IsHops, res_at, AllAgree, AllCounted, put_resolver, LeadsRes, HasNoInterest, Chained, filt_rows, with_entries_append, Journaled, with_entries, Rows, no_rows, LeadsIn, Inward, no_table, same_by, Resolving, Metric, OutChained, Walked, present, put_each, chain_at, Chains, filt_at, filt_by, put_chain, peer_links, routes_of, rules_of, Rule, Registry, StandsOver, Interior, best_at, ByPeer, BeginsIf, Declares, live_state, Moment, best_of, router_links, own_of, read_rows_by, with_chains, Policies, Stands, ExitsAt, StandsAt, PeerStands, IsSilent, journal_lines, Pushes, HasStepped}
+use Rattle.std.proofs.Common.{[], ◌∷◌, map, length, Option, Some, None}
 use Rattle.std.proofs.lemmas.List.{length_push}
 use Rattle.std.specs.Prelude.{option_map, IsSome, is_some}
-use Rattle.std.proofs.lemmas.Option.{same_Some}
-use Rattle.bgp_attr.specs.declared.speaker.Speaker.{Speaker}
 use Rattle.journal_text.specs.declared.line.Line.TheVariants as lines
-use Rattle.journal_text.specs.Journals.{Journaled, with_entries}
 use Rattle.event_text.specs.declared.event.Event.TheVariants as events
-use Rattle.event_text.specs.WellFormed.{IsWellFormed}
-use Rattle.event_text.specs.declared.declared.DeclaredPeer.{DeclaredPeer}
-use Rattle.event_text.specs.Declarations.{Declaration, peer_at, words_of, with_peer, with_session, begun_at, refusal, refusal_at, rules_refusal, session_refusal}
-use Rattle.event_text.proofs.Sessions.{addable, missed, KeepsWords, begun_words}
-use Rattle.policy_rules.specs.declared.rule.Rule.{Rule}
-use Rattle.pass_core.specs.Passed.{Walked, present, edited}
-use Rattle.in_chain.specs.Chains.{Chained, filt_rows}
+use Rattle.event_text.specs.Declarations.{words_of, with_peer, refusal, rules_refusal, session_refusal}
+use Rattle.event_text.proofs.Sessions.{addable, missed, KeepsWords}
+use Rattle.pass_core.specs.Passed.{edited}
 use Rattle.in_chain.specs.Steps.{new_chain, refiltered}
-use Rattle.loss_chain.proofs.TableLemmas.{equal_by, same_by, other_by, no_table}
-use Rattle.link_region.specs.declared.regions.Region.TheVariants.{Inward}
-use Rattle.link_region.specs.Regions.{LeadsIn}
+use Rattle.loss_chain.proofs.TableLemmas.{equal_by, other_by}
 use Rattle.link_region.proofs.RegionLemmas.{by_bool, lead_nothing}
-use Rattle.bgp_attr.specs.declared.attrs.Attrs.{Attrs}
-use Rattle.link_change.specs.Rows.{Rows, no_rows}
 use Rattle.link_change.proofs.RowLemmas.{empty_rows}
 use Rattle.filter_bank.specs.Filtered.{filtered_rows}
-use Rattle.rib_route.specs.declared.rows.Interior.{Interior}
-use Rattle.register_interest.specs.Registers.{Registry}
-use Rattle.bgp_attr.specs.declared.route.Route.{Route}
-use Rattle.nexthop_resolver.specs.Resolving.{Resolving, nothing_known}
-use Rattle.nexthop_resolver.specs.declared.rows.Metric.{Metric}
-use Rattle.journal_text.proofs.JournalLemmas.{with_entries_append}
-use Rattle.hop_side.specs.Resolvers.{Resolvers, PeerRows, resolver_at, put_resolver, res_at, rows_by, hop_links, IsHops, AllAgree, AllCounted}
-use Rattle.hop_side.specs.Steps.{LeadsRes, HasNoInterest, begin_entries as hop_begins}
+use Rattle.nexthop_resolver.specs.Resolving.{nothing_known}
+use Rattle.hop_side.specs.Steps.{begin_entries as hop_begins}
 use Rattle.hop_side.proofs.PutLemmas.{at_put as resolver_put}
-use Rattle.peer_side.specs.Peers.{Chains, chain_at, put_chain, peer_links, filt_by, filt_at, begin_entries, routes_of, rules_of, IsPeers, AreBefore}
+use Rattle.peer_side.specs.Peers.{begin_entries, IsPeers, AreBefore}
 use Rattle.peer_side.specs.Steps.{EditsInward}
-use Rattle.peer_side.proofs.PutLemmas.{at_put, put_here, put_each, put_kept, put_more}
-use Rattle.router_core.specs.Bests.{best_at}
-use Rattle.router_core.specs.Moments.{Moment, Policies, own_of, best_of, read_rows_by, with_chains, router_links}
+use Rattle.peer_side.proofs.PutLemmas.{at_put, put_here, put_kept, put_more}
 use Rattle.live_state.specs.Lives.{with_rules, begun_if_down}
-use Rattle.router_core.specs.Lives.{live_state}
-use Rattle.router_core.specs.Stands.{IsSilent, PeerStands, StandsAt, Stands, ExitsAt}
-use Rattle.router_core.specs.Turns.{journal_lines}
-use Rattle.router_core.specs.Blocks.{ByPeer, BeginsIf, Declares, declared_peer, begun}
+use Rattle.router_core.specs.Blocks.{declared_peer, begun}
 use Rattle.router_core.specs.Peers.{is_up}
-use Rattle.router_core.specs.Works.{HasStepped, Pushes}
 use Rattle.router_core.proofs.BestLemmas.{same_all, best_quiet}
 use Rattle.router_core.proofs.RegionLemmas.{leads_inward}
 use Rattle.router_core.proofs.StandLemmas.{peer_of, chain_there, same_peers, not_zero, stands_with, live_edited}
-use Rattle.fanout_queue.specs.Queues.{AllLead}
 use Rattle.loss_chain.proofs.FeedLemmas.{no_row_at_first}
-use Rattle.out_chain.specs.Chains.{OutChained}
-use Rattle.exit_side.specs.Exits.{AllStand, chain_at as exit_at}
-use Rattle.rib_exit.specs.Exits.{StandsOver}
+use Rattle.exit_side.specs.Exits.{chain_at as exit_at}
 use Rattle.router_core.proofs.HeardRows.{put_heard}
 use Rattle.router_core.proofs.HeardSteps.{heard_quiet}
 use Rattle.router_core.proofs.QueueLemmas.{exits_none, undeclared_none, reader_live, exits_stay}

@@ -1,37 +1,17 @@
 -- One turn of a task of a peer.
-use Rattle.std.proofs.Common.{◌≡◌, ℕ, ◌≤◌, Bool, true, false, List, ◌++◌, Option, Some, None, refl, sym, ap, subst, ◌∙◌, arith}
-use Rattle.addr4.specs.Prefixes.{Network}
-use Rattle.bgp_attr.specs.declared.route.Route.{Route}
-use Rattle.link_change.specs.declared.change.Change.{Change}
-use Rattle.link_change.specs.declared.turn.Turn.{Turn}
+use Rattle.router_core.proofs.Common.{sym, subst, ◌∙◌, ap, ◌≡◌, ℕ, refl, List, true, arith, false, Bool, ◌++◌, ◌≤◌, Network, Route, peer_at, DeclaredPeer, OutChains, Resolvers, known_in, GoesOn, Chained, filt_rows, welded, Journaled, flushed, Adds, Entry, Line, Task, Value, Change, Turn, adds_both, Chains, filt_at, filt_by, put_chain, lost_in, Registry, Interior, all_at, live_state, Moment, own_of, with_chains, Stands, PeerStands, IsSilent, open_session, journal_lines, phase_of, IsTurn, Resolves, FallsPeer, IsPeerTurn, sent_of, Keeps, TakesTurn, IsWork, SettlesPeer, MaySettle, Taken}
+use Rattle.std.proofs.Common.{Option, Some, None}
 use Rattle.link_change.specs.declared.turn.Turn.TheVariants as turns
-use Rattle.journal_text.specs.declared.link.Task.{Task}
 use Rattle.journal_text.specs.declared.link.Task.TheVariants.{Del, Fin}
-use Rattle.journal_text.specs.declared.entry.Entry.{Entry}
-use Rattle.journal_text.specs.declared.value.Value.{Value}
-use Rattle.journal_text.specs.declared.line.Line.{Line}
-use Rattle.journal_text.specs.Journals.{Journaled, Adds, flushed}
-use Rattle.in_chain.specs.Chains.{Chained, filt_rows}
-use Rattle.in_chain.specs.Steps.{welded, Turned}
+use Rattle.in_chain.specs.Steps.{Turned}
 use Rattle.std.specs.Prelude.{IsSome, is_some}
-use Rattle.event_text.specs.declared.declared.DeclaredPeer.{DeclaredPeer}
-use Rattle.event_text.specs.Declarations.{peer_at}
-use Rattle.hop_side.specs.Resolvers.{known_in, Resolvers}
-use Rattle.hop_side.specs.Steps.{GoesOn}
-use Rattle.peer_side.specs.Peers.{Chains, put_chain, filt_by, filt_at, lost_in, peer_of}
+use Rattle.peer_side.specs.Peers.{peer_of}
 use Rattle.peer_side.specs.Steps.{Nears, TakesInward, ComesInward}
-use Rattle.router_core.specs.declared.router.Done.TheVariants.{Taken}
 use Rattle.std.specs.FinMap as tables
-use Rattle.rib_route.specs.declared.rows.Interior.{Interior}
-use Rattle.register_interest.specs.Registers.{Registry}
-use Rattle.exit_side.specs.Exits.{OutChains}
 use Rattle.peer_side.proofs.PutLemmas.{put_size}
-use Rattle.router_core.specs.Bests.{all_at}
-use Rattle.router_core.specs.Moments.{Moment, own_of, with_chains}
-use Rattle.router_core.specs.Stands.{IsSilent, PeerStands, Stands, open_session}
-use Rattle.router_core.specs.Turns.{Resolves, IsOfPeers, IsPeerTurn, IsTurn, phase_of, sent_of, journal_lines, FallsPeer}
-use Rattle.router_core.specs.Works.{KnowsNoMore, NoneGoesStale, SettlesPeer, IsWork, TakesTurn, Keeps, MaySettle}
-use Rattle.peer_side.proofs.WeldLemmas.{fallen_at, weld_keeps, nears_weld, adds_both}
+use Rattle.router_core.specs.Turns.{IsOfPeers}
+use Rattle.router_core.specs.Works.{KnowsNoMore, NoneGoesStale}
+use Rattle.peer_side.proofs.WeldLemmas.{fallen_at, weld_keeps, nears_weld}
 use Rattle.router_core.proofs.BestLemmas.{best_of_none}
 use Rattle.router_core.proofs.HeardRows.{weld_heard, turned_heard}
 use Rattle.router_core.proofs.QueueLemmas.{queue_chains}
@@ -44,7 +24,6 @@ use Rattle.router_core.proofs.StaleLemmas.{as_before, resolved, none_goes_stale,
 use Rattle.router_core.proofs.StandLemmas.{peer_of as peer_at_chain, live_same, may_settle}
 use Rattle.router_core.proofs.WorkLemmas.{one_turn}
 use Rattle.router_core.proofs.PeerFalls.{behind, welded_put, fall_goes, fall_keeps, fall_settled}
-use Rattle.router_core.specs.Lives.{live_state}
 
 silent_as : (up : Bool) (c c' : Chained) → c'.incoming.tables.live ≡ c.incoming.tables.live → IsSilent up c → IsSilent up c'
 silent_as true c c' same silent = tt

@@ -1,109 +1,60 @@
 -- What each event says can be printed, and so can what stands behind it.
-use Rattle.std.proofs.Common.{◌≡◌, ℕ, ◌+◌, ◌<◌, ◌≤◌, ◌^◌, Bool, true, false, cond, not, ◌==◌, ◌&&◌, List, [], ◌∷◌, ◌++◌, map, Option, Some, None, IsSome, IfSome, is_some, nat_eq, refl, sym, ap, subst, ◌∙◌, arith}
+use Rattle.router_core.proofs.Common.{sym, subst, ◌∙◌, ap, ◌≡◌, ℕ, refl, List, true, arith, false, ◌+◌, Bool, ◌++◌, ◌≤◌, cond, ◌<◌, nat_eq, not, ◌&&◌, IfSome, get-empty, AllByRecursion, nat_cmp, Network, is_host_prefix, Attrs, Neighbour, Profile, Speaker, AreOctets, Message, Update, peer_at, Declaration, with_four_octets, with_revised, IsWellFormed, DeclaredPeer, Event, Down, Bgp, RouteAdd, RouteDel, Lose, Cover, Settled, Work, As4, Revised, Up, Redist, ArePrintableExits, AreBestRows, read_rows, unread_by, resolver_at, hop_links, metric_rows, link_by, Chained, IsPrefix, AllHaveMetrics, Prints, IsFit, neighbours, words_in, IsPrinted, AreTablesOf, IsInteriorRow, IsPrintableChain, HaveWays, IsNameNumber, route_value, fib_value, external_value, Line, Link, Task, Value, Rows, is_empty_map, region_of, Region, Decided, Inward, Redistributed, Resolved, Outward, InteriorRoutes, Forward, speaker_since, as4_is_first, revised_is_first, LiveState, changes_of, Says, announced_with, withdrawn_from, all_both, table_of, Hop, Resolving, Metric, OutChained, put_each, chain_at, filt_at, overdue_at, has_turn_in, Rule, width, ext_rows, fib_over, Proto, Connected, Static, Ospf, Rip, Interior, Parted, kept_rows, BgpLink, put_all, Branch, way_of_route, tree_overdue, fed_tree, int_rows, branch_of, best_links, own_links, ByPeer, IsBlock, BeginsIf, EndsIf, HearsIf, Declares, BySpeaker, Begins, DropsRouteIf, answer_lines, Shows, Moment, best_of, router_links, own_of, with_exits, read_of, parts, read_by, tree_by, forward_by, read_links, rules_to, all_phases, ArePrinted, IsPrintableMoment, Stands, ExitsAt, journal_lines, has_work, FallsRoute}
+use Rattle.std.proofs.Common.{◌^◌, ◌==◌, [], ◌∷◌, map, Option, Some, None, IsSome, is_some}
 use Rattle.std.specs.Prelude.{filter, length}
-use Rattle.std.specs.List.{AllByRecursion}
 use Rattle.std.proofs.lemmas.List.Elements.{All-nil}
-use Rattle.addr4.specs.Prefixes.{Network}
-use Rattle.bgp_attr.specs.Hosts.{is_host_prefix}
-use Rattle.bgp_attr.specs.declared.attrs.Attrs.{Attrs}
-use Rattle.bgp_attr.specs.declared.speaker.Profile.{Profile}
-use Rattle.bgp_attr.specs.declared.speaker.Speaker.{Speaker}
-use Rattle.bgp_attr.specs.declared.speaker.Neighbour.{Neighbour}
 use Rattle.bgp_wire.specs.Grammar.{Reads, without}
-use Rattle.bgp_wire.specs.Readable.{AreOctets, IsNetwork}
-use Rattle.bgp_wire.specs.declared.message.Message.{Message}
+use Rattle.bgp_wire.specs.Readable.{IsNetwork}
 use Rattle.bgp_wire.specs.declared.message.Message.TheVariants as messages
-use Rattle.bgp_wire.specs.declared.message.Update.{Update}
 use Rattle.bgp_wire.proofs.ReadableLaws.{Every, all_every, every_filter}
 use Rattle.bgp_wire.proofs.ReadableMessages.{read_is_readable}
-use Rattle.event_text.specs.declared.declared.DeclaredPeer.{DeclaredPeer}
-use Rattle.event_text.specs.declared.event.Event.{Event}
-use Rattle.event_text.specs.declared.event.Event.TheVariants.{Nothing, As4, Revised, Local, Peer, Up, Down, Bgp, FilterIn, FilterOut, RouteAdd, RouteDel, Lose, Redist, Cover, Settled, Idle, Work, Ask, Show}
-use Rattle.event_text.specs.Declarations.{peer_at, refusal, with_four_octets, with_revised, Declaration}
-use Rattle.event_text.specs.WellFormed.{IsWellFormed}
-use Rattle.link_change.specs.Rows.{Rows, is_empty_map}
-use Rattle.rib_route.specs.declared.Proto.{Proto}
-use Rattle.rib_route.specs.declared.Proto.TheVariants.{Connected, Static, Ospf, Rip}
-use Rattle.rib_route.specs.declared.rows.Interior.{Interior}
-use Rattle.prefix_trie.specs.Width.{width}
+use Rattle.event_text.specs.declared.event.Event.TheVariants.{Nothing, Local, Peer, FilterIn, FilterOut, Idle, Ask, Show}
+use Rattle.event_text.specs.Declarations.{refusal}
 use Rattle.register_interest.specs.Covers.{matched, longest, IsLongest}
 use Rattle.register_interest.proofs.CoverLemmas.{longest_is}
-use Rattle.journal_text.specs.Names.{IsNameNumber, IsNamed, IsNamedTask}
+use Rattle.journal_text.specs.Names.{IsNamed, IsNamedTask}
 use Rattle.journal_text.specs.declared.entry.Entry.TheVariants as entries
-use Rattle.journal_text.specs.declared.line.Line.{Line}
 use Rattle.journal_text.specs.declared.line.Line.TheVariants as lines
-use Rattle.journal_text.specs.declared.link.Link.{Link}
-use Rattle.journal_text.specs.declared.link.Task.{Task}
 use Rattle.journal_text.specs.declared.link.Task.TheVariants as tasks
 use Rattle.journal_text.specs.declared.link.Link.TheVariants as links
-use Rattle.journal_text.specs.declared.value.Value.{Value}
-use Rattle.journal_check.specs.Laws.{IsPrefix, IsMatch, IsNamedIfAny}
-use Rattle.journal_laws.specs.Printed.{IsPrinted}
-use Rattle.journal_laws.specs.Standing.{AreTablesOf, IsInteriorRow, WasHeard, IsPrintableChain, HaveWays}
-use Rattle.journal_laws.proofs.PrintedRows.{IsFit, Prints, PrintsIfAny, live_prints, tree_prints, none_printable, fed_fit, lost_printable, edited_printable, chain_prints}
+use Rattle.journal_check.specs.Laws.{IsMatch, IsNamedIfAny}
+use Rattle.journal_laws.specs.Standing.{WasHeard}
+use Rattle.journal_laws.proofs.PrintedRows.{PrintsIfAny, live_prints, tree_prints, none_printable, fed_fit, lost_printable, edited_printable, chain_prints}
 use Rattle.journal_laws.proofs.PrintedWays.{Heard, route_way}
 use Rattle.journal_laws.proofs.PrintedLines.{plain_printed, note_printed, answer_printed, rows_printed}
-use Rattle.journal_laws.specs.Peers.{words_in, neighbours}
-use Rattle.link_region.specs.declared.regions.Region.{Region}
-use Rattle.link_region.specs.declared.regions.Region.TheVariants.{Inward, Resolved, Decided, InteriorRoutes, Redistributed, Forward, External, Outward}
-use Rattle.link_region.specs.Regions.{region_of}
-use Rattle.loss_chain.proofs.ListLemmas.{all_both}
+use Rattle.link_region.specs.declared.regions.Region.TheVariants.{External}
 use Rattle.loss_chain.proofs.TableLemmas.{equal_by}
 use Rattle.loss_chain.specs.Lost.{Lost}
-use Rattle.loss_chain.specs.Steps.{table_of}
 use Rattle.link_region.proofs.RegionLemmas.{by_bool}
-use Rattle.in_chain.specs.Chains.{Chained}
-use Rattle.policy_rules.specs.declared.rule.Rule.{Rule}
 use Rattle.policy_rules.specs.Ranges.{AreRules, IsRule}
-use Rattle.std.specs.FinMap.{get-empty}
-use Rattle.std.specs.Ordering.{nat_cmp}
-use Rattle.journal_text.specs.Values.{route_value, attrs_value, external_value, fib_value}
-use Rattle.nexthop_known.specs.declared.answer.Hop.{Hop}
-use Rattle.nexthop_resolver.specs.declared.rows.Metric.{Metric}
-use Rattle.nexthop_resolver.specs.Resolving.{Resolving, nothing_known}
-use Rattle.router_core.specs.Bests.{best_links, own_links}
-use Rattle.hop_side.specs.Resolvers.{resolver_at, busy_by, link_by, hop_links, metric_rows}
-use Rattle.journal_laws.proofs.PrintedHops.{AllHaveMetrics, rows_print, metrics_put}
-use Rattle.peer_side.specs.Peers.{chain_at, has_turn_in, filt_at, overdue_at, links_by}
+use Rattle.journal_text.specs.Values.{attrs_value}
+use Rattle.nexthop_resolver.specs.Resolving.{nothing_known}
+use Rattle.hop_side.specs.Resolvers.{busy_by}
+use Rattle.journal_laws.proofs.PrintedHops.{rows_print, metrics_put}
+use Rattle.peer_side.specs.Peers.{links_by}
 use Rattle.journal_text.specs.Links.{owner_of}
-use Rattle.peer_side.proofs.PutLemmas.{put_each}
-use Rattle.rib_tree.specs.Branches.{Branch}
 use Rattle.rib_tree.specs.BranchSteps.{lost_branch, fed_branch}
-use Rattle.rib_tree.specs.Falls.{way_of_route}
-use Rattle.rib_tree.specs.Steps.{fed_tree, tree_overdue, tree_loss_entries}
-use Rattle.rib_tree.specs.Trees.{branch_of, int_rows, AreNumbered}
-use Rattle.rib_split.specs.declared.split.BgpLink.{BgpLink}
+use Rattle.rib_tree.specs.Steps.{tree_loss_entries}
+use Rattle.rib_tree.specs.Trees.{AreNumbered}
 use Rattle.rib_split.specs.declared.split.BgpLink.TheVariants as sides
-use Rattle.rib_split.specs.Splitting.{Parted}
-use Rattle.rib_split.specs.Tables.{kept_rows}
-use Rattle.rib_exit.specs.Exits.{ext_rows, fib_over}
-use Rattle.router_core.specs.Moments.{Moment, profiled, parts, tree_by, forward_by, own_of, best_of, read_of, read_by, read_links, router_links, rules_to, with_exits}
-use Rattle.router_core.specs.Printable.{IsPrintableMoment, ArePrinted}
-use Rattle.live_state.specs.Messages.{Says, changes_of, announced_with, withdrawn_from}
-use Rattle.router_core.specs.Stands.{ExitsAt, Stands}
-use Rattle.router_core.specs.Phases.{all_phases}
-use Rattle.router_core.specs.Turns.{has_work, journal_lines, FallsRoute}
-use Rattle.router_core.specs.Blocks.{Just, begin_line, BySpeaker, Begins, Loses, Declares, Refilters, Redirects, DropsRouteIf, LosesProtocol, CoversAddress, TellsSettled, Hears, BeginsIf, EndsIf, HearsIf, answer_lines, Shows, ByPeer, IsBlock}
+use Rattle.router_core.specs.Moments.{profiled}
+use Rattle.router_core.specs.Blocks.{Just, begin_line, Loses, Refilters, Redirects, LosesProtocol, CoversAddress, TellsSettled, Hears}
 use Rattle.router_core.proofs.StandLemmas.{speaker_of}
-use Rattle.rib_tree.proofs.TreeParts.{put_all, few_fed}
+use Rattle.rib_tree.proofs.TreeParts.{few_fed}
 use Rattle.std.specs.FinMap as tables
-use Rattle.fanout_queue.specs.Readers.{unread_by, read_rows}
-use Rattle.out_chain.specs.Chains.{OutChained, outf_rows}
+use Rattle.out_chain.specs.Chains.{outf_rows}
 use Rattle.exit_side.specs.Exits.{chain_at as exit_at, links_by as exit_links_by, busy_by as exit_busy}
-use Rattle.exit_laws.specs.Printable.{AreBestRows, ArePrintableExits}
 use Rattle.exit_laws.proofs.KeptLemmas.{rows_read, edit_is_printed, join_is_printed}
 use Rattle.exit_laws.proofs.PrintLemmas.{beginning_is_printed, end_is_printed}
 use Rattle.router_core.proofs.SessionLemmas.{silenced}
 use Rattle.router_core.proofs.PrintedForwards.{side_print, ext_print, fib_print}
 use Rattle.router_core.proofs.BeforeLocal.{no_chain}
-use Rattle.live_state.proofs.AdmittedLemmas.{as4_is_first, revised_is_first, speaker_since}
 use Rattle.router_core.proofs.ProfileLemmas.{profile_after, nothing_printable}
 use Rattle.router_core.proofs.PrintedTurns.{Goes, IsSaid, feeds_go, route_prints, turns_go, phases_go, first_goes}
 use Rattle.router_core.proofs.PrintedMoments.{IsShown, shown, known_at, named_by, session_named, chain_fit, tree_fit, filt_shown, int_shown, own_shown, best_fit, read_fit, best_shown}
 use Rattle.router_core.proofs.TurnLaws.{first_works}
 use Rattle.router_core.proofs.RouteLemmas.{routed}
 use Rattle.router_core.proofs.HeardRows.{changes_heard, message_heard}
-use Rattle.live_state.specs.Lives.{LiveState}
 
 -- what an event leaves beside the declarations, and what it says
 pub record Leaves (profile : Profile) (peers : ℕ → Option Neighbour) (m' : Moment) (said : List Line) : Type 0 where

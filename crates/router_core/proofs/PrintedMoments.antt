@@ -1,35 +1,15 @@
 -- What stands between two steps can be printed: the rows that each stage has, and what the register answers.
-use Rattle.std.proofs.Common.{◌≡◌, ℕ, zero, suc, true, Option, Some, None, refl, sym, ap, subst, ◌∙◌, arith}
-use Rattle.bgp_attr.specs.declared.route.Route.{Route}
-use Rattle.bgp_attr.specs.declared.speaker.Neighbour.{Neighbour}
-use Rattle.link_change.specs.Rows.{Rows}
-use Rattle.rib_route.specs.declared.Proto.{Proto}
-use Rattle.event_text.specs.declared.declared.DeclaredPeer.{DeclaredPeer}
-use Rattle.event_text.specs.Declarations.{IsDeclaration, peer_at}
-use Rattle.journal_text.specs.Names.{IsNameNumber}
-use Rattle.journal_text.specs.Values.{interior_value, route_value}
-use Rattle.journal_laws.specs.Peers.{words_in, neighbours}
-use Rattle.journal_laws.specs.Standing.{AreTablesOf, IsInteriorRow, IsPrintableChain, IsMetric, IsWay}
+use Rattle.router_core.proofs.Common.{sym, subst, ◌∙◌, ap, ◌≡◌, ℕ, refl, true, arith, suc, zero, Route, Neighbour, Profile, best_is_a_branchs, peer_at, DeclaredPeer, AreBestRows, resolver_at, res_at, Chained, AllHaveMetrics, Prints, IsFit, neighbours, words_in, AreTablesOf, IsInteriorRow, IsPrintableChain, IsWay, IsNameNumber, route_value, interior_value, Rows, metric_of, way_of, answer_of, chain_at, filt_at, filt_by, Proto, int_rows, branch_of, all_at, Moment, best_of, own_of, read_of, IsPrintableMoment, Stands}
+use Rattle.std.proofs.Common.{Option, Some, None}
+use Rattle.event_text.specs.Declarations.{IsDeclaration}
+use Rattle.journal_laws.specs.Standing.{IsMetric}
 use Rattle.journal_laws.proofs.DeclaredPeers.{IsKnown, known_peer, leaves_all}
-use Rattle.journal_laws.proofs.PrintedHops.{AllHaveMetrics, rows_print, metrics_fit, ways_fit}
-use Rattle.journal_laws.proofs.PrintedRows.{AreFit, IsFit, Prints, filt_prints, int_prints}
-use Rattle.in_chain.specs.Chains.{Chained}
-use Rattle.nexthop_resolver.specs.Kept.{metric_of, way_of}
-use Rattle.nexthop_resolver.specs.Registered.{answer_of}
-use Rattle.decision.proofs.LawLemmas.{best_is_a_branchs}
-use Rattle.exit_laws.specs.Printable.{AreBestRows}
-use Rattle.hop_side.specs.Resolvers.{resolver_at, res_at}
-use Rattle.peer_side.specs.Peers.{chain_at, filt_by, filt_at}
-use Rattle.rib_tree.specs.Trees.{branch_of, int_rows}
-use Rattle.router_core.specs.Bests.{all_at}
-use Rattle.router_core.specs.Moments.{Moment, own_of, best_of, read_of}
-use Rattle.router_core.specs.Printable.{IsPrintableMoment}
-use Rattle.router_core.specs.Stands.{Stands}
+use Rattle.journal_laws.proofs.PrintedHops.{rows_print, metrics_fit, ways_fit}
+use Rattle.journal_laws.proofs.PrintedRows.{AreFit, filt_prints, int_prints}
 use Rattle.router_core.proofs.StandLemmas.{peer_of}
 use Rattle.router_core.proofs.HeardRows.{heard_of}
 use Rattle.router_core.proofs.PrintedForwards.{own_print}
 use Rattle.router_core.proofs.PrintedReaders.{read_are}
-use Rattle.bgp_attr.specs.declared.speaker.Profile.{Profile}
 
 -- what `best` is made of
 pub record IsShown (m : Moment) : Type 0 where

@@ -1,21 +1,9 @@
 -- What readers of `best` have can be printed, and stays so where a change of `best` joins the queue, and where the forwarding side takes one.
-use Rattle.std.proofs.Common.{◌≡◌, ◌≢◌, ℕ, Option, Some, None, refl, sym, ap, subst, ◌∙◌}
-use Rattle.bgp_attr.specs.declared.speaker.Profile.{Profile}
-use Rattle.addr4.specs.Prefixes.{Network}
-use Rattle.bgp_attr.specs.declared.route.Route.{Route}
-use Rattle.bgp_attr.specs.declared.speaker.Neighbour.{Neighbour}
-use Rattle.link_change.specs.Rows.{Rows}
-use Rattle.link_change.specs.Changes.{IsSent}
-use Rattle.link_change.specs.declared.change.Change.{Change}
+use Rattle.router_core.proofs.Common.{sym, subst, ◌∙◌, ap, ◌≡◌, ℕ, refl, ◌≢◌, Network, Route, Neighbour, Profile, ArePrintableExits, AreBestRows, Exited, with_queue, Queued, Takes, unread_by, IsPrefix, IsSent, Rows, Change, Queues, read_rows_by}
+use Rattle.std.proofs.Common.{Option, Some, None}
 use Rattle.link_change.proofs.RowLemmas.{with_row_here}
-use Rattle.fanout_queue.specs.Queues.{Queued, Takes}
-use Rattle.fanout_queue.specs.Readers.{unread_by}
-use Rattle.journal_check.specs.Laws.{IsPrefix}
-use Rattle.exit_side.specs.Exits.{Exited, with_queue}
-use Rattle.exit_laws.specs.Printable.{AreBestRows, IsBestChange, ArePrintableExits}
+use Rattle.exit_laws.specs.Printable.{IsBestChange}
 use Rattle.exit_laws.proofs.KeptLemmas.{rows_read, queue_taken, with_unread, put_is_printed}
-use Rattle.router_core.specs.Bests.{Queues}
-use Rattle.router_core.specs.Moments.{read_rows_by}
 
 module _ (profile : Profile) (peers : ℕ → Option Neighbour) where
   -- the rows that the forwarding side has

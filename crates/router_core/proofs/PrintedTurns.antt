@@ -1,76 +1,33 @@
 -- What falls and turns say can be printed, and so can what stands behind them.
-use Rattle.std.proofs.Common.{◌≡◌, ℕ, not, arith, ◌≤◌, List, [], ◌∷◌, ◌++◌, Option, Some, None, IfSome, sym, ap, subst, ◌∙◌, inr}
-use Rattle.std.specs.List.{AllByRecursion}
-use Rattle.addr4.specs.Prefixes.{Network}
-use Rattle.bgp_attr.specs.declared.attrs.Attrs.{Attrs}
-use Rattle.bgp_attr.specs.declared.route.Route.{Route}
-use Rattle.bgp_attr.specs.declared.speaker.Neighbour.{Neighbour}
-use Rattle.rib_route.specs.declared.Proto.{Proto}
-use Rattle.link_change.specs.Rows.{Rows}
-use Rattle.link_change.specs.Changes.{IsSent}
-use Rattle.link_change.specs.declared.change.Change.{Change}
-use Rattle.journal_text.specs.Names.{IsNameNumber}
-use Rattle.journal_text.specs.Values.{interior_value, route_value, sent_entries}
+use Rattle.router_core.proofs.Common.{sym, subst, ◌∙◌, ap, ◌≡◌, ℕ, List, arith, ◌++◌, ◌≤◌, not, inr, IfSome, AllByRecursion, Network, Attrs, Route, Neighbour, Profile, Speaker, peer_at, Declaration, ArePrintableExits, AreBestRows, with_queue, Resolvers, PeerRows, res_at, GoesOn, Chained, welded, fed, IsPrefix, AllHaveMetrics, Prints, IsFit, neighbours, IsPrinted, AreTablesOf, IsInteriorRow, IsPrintableChain, HaveWays, IsWay, IsNameNumber, route_value, interior_value, sent_entries, Entry, Line, Link, Best, Res, Org, Task, Value, IsSent, Rows, Change, LiveState, all_both, swept_one, same_some, route_hop, with_metric, metric_of, way_of, over, external_hop, answer_of, put_each, chain_at, Chains, filt_at, put_chain, Registry, fib_over, FallsOn, Proto, Interior, put_all, welded_branch, swept_branch, Branch, int_rows, Treed, branch_of, put_branch, own_rows, best_entries, own_entries, RunsFirst, Moment, best_of, own_of, with_exits, read_rows_by, with_chains, read_of, with_tree, with_hops, candidates_of, with_redist, with_rib, ArePrinted, IsPrintableMoment, Stands, journal_lines, Turns, IsTurn, BelowInt, FallsRoute, RunsPhase, Resolves, FallsPeer, IsPeerTurn, RunsAll, FeedsAll, AreHeard, Phase}
+use Rattle.std.proofs.Common.{[], ◌∷◌, Option, Some, None}
 use Rattle.journal_text.specs.Walk.{no_links}
-use Rattle.journal_text.specs.declared.entry.Entry.{Entry}
-use Rattle.journal_text.specs.declared.value.Value.{Value}
-use Rattle.journal_text.specs.declared.line.Line.{Line}
 use Rattle.journal_text.specs.declared.line.Line.TheVariants as lines
-use Rattle.journal_text.specs.declared.link.Link.{Link}
-use Rattle.journal_text.specs.declared.link.Link.TheVariants.{In, Org, Res, Red, Best, ReadRib}
-use Rattle.journal_text.specs.declared.link.Task.{Task}
+use Rattle.journal_text.specs.declared.link.Link.TheVariants.{In, Red, ReadRib}
 use Rattle.journal_text.specs.declared.link.Task.TheVariants.{Del, Fin, Nh, Out, Rdel}
 use Rattle.journal_text.specs.declared.link.Task.TheVariants as tasks
-use Rattle.journal_check.specs.Laws.{IsPrefix}
-use Rattle.journal_laws.specs.Printed.{IsPrinted}
-use Rattle.journal_laws.specs.Standing.{AreTablesOf, IsInteriorRow, WasHeard, IsHeardRow, IsMetric, IsWay, HaveWays, IsPrintableChain}
+use Rattle.journal_laws.specs.Standing.{WasHeard, IsHeardRow, IsMetric}
 use Rattle.journal_laws.specs.Laws.{AreEachOnce}
 use Rattle.journal_laws.proofs.PrintedFalls.{falls_printed}
-use Rattle.journal_laws.proofs.PrintedRows.{AreFit, IsFit, Prints, fed_fit, swept_fit, welded_fit, beside_tree_prints}
+use Rattle.journal_laws.proofs.PrintedRows.{AreFit, fed_fit, swept_fit, welded_fit, beside_tree_prints}
 use Rattle.journal_laws.proofs.PrintedWays.{down_of, table_row, sweep_way, ArePrintedEntries, weld_printed, sent_printed, Heard, with_fit, tables_fit, feed_once, chain_fall, turned_fit}
 use Rattle.loss_chain.specs.declared.owner.Owner.TheVariants as owners
-use Rattle.loss_chain.specs.Steps.{fed_tables, welded_tables, swept_one}
-use Rattle.loss_chain.proofs.ListLemmas.{all_both, all_made}
-use Rattle.in_chain.specs.Chains.{Chained}
+use Rattle.loss_chain.specs.Steps.{fed_tables, welded_tables}
+use Rattle.loss_chain.proofs.ListLemmas.{all_made}
 use Rattle.in_chain.specs.Falls.{way_of_feed}
-use Rattle.in_chain.specs.Steps.{fed, welded}
-use Rattle.rib_route.specs.declared.rows.Interior.{Interior}
-use Rattle.register_interest.specs.Registers.{Registry}
-use Rattle.nexthop_resolver.specs.Kept.{route_hop, with_metric, metric_of, external_hop, over, way_of}
-use Rattle.nexthop_resolver.specs.Registered.{answer_of}
 use Rattle.loss_chain.proofs.TableLemmas.{few_map}
-use Rattle.exit_side.specs.Exits.{with_queue}
-use Rattle.exit_laws.specs.Printable.{AreBestRows, ArePrintableExits}
-use Rattle.bgp_attr.specs.declared.speaker.Profile.{Profile}
-use Rattle.bgp_attr.specs.declared.speaker.Speaker.{Speaker}
-use Rattle.rib_exit.specs.Exits.{fib_over}
-use Rattle.rib_exit.specs.Steps.{FallsOn, reached_hop}
-use Rattle.router_core.specs.Bests.{own_rows, own_entries, best_entries}
-use Rattle.hop_side.specs.Resolvers.{Resolvers, PeerRows, res_at}
-use Rattle.hop_side.specs.Steps.{GoesOn}
-use Rattle.peer_side.specs.Peers.{Chains, chain_at, put_chain, filt_at, peer_of}
+use Rattle.rib_exit.specs.Steps.{reached_hop}
+use Rattle.peer_side.specs.Peers.{peer_of}
 use Rattle.peer_side.specs.Steps.{FeedsInward, TakesInward, Changes}
-use Rattle.peer_side.proofs.PutLemmas.{put_each}
-use Rattle.rib_tree.specs.Branches.{Branch}
-use Rattle.rib_tree.specs.BranchSteps.{welded_branch, swept_branch}
 use Rattle.rib_tree.specs.Falls.{way_of_sweep}
-use Rattle.rib_tree.specs.Trees.{Treed, branch_of, beside_tree, int_rows, put_branch}
+use Rattle.rib_tree.specs.Trees.{beside_tree}
 use Rattle.rib_tree.specs.Steps.{tree_weld_entries}
-use Rattle.router_core.specs.declared.router.Phase.{Phase}
-use Rattle.router_core.specs.Moments.{Moment, own_of, best_of, read_of, read_rows_by, with_chains, with_hops, with_tree, with_exits, with_redist, with_rib, candidates_of}
-use Rattle.router_core.specs.Blocks.{RunsFirst}
-use Rattle.router_core.specs.Turns.{journal_lines, Resolves, FallsPeer, FeedsAll, BelowInt, FallsRoute, IsPeerTurn, IsHopTurn, IsRouteTurn, IsOutTurn, IsReadTurn, IsOwnTurn, IsExternalTurn, IsTurn, Turns, RunsPhase, RunsAll, Feeds}
+use Rattle.router_core.specs.Turns.{IsHopTurn, IsRouteTurn, IsOutTurn, IsReadTurn, IsOwnTurn, IsExternalTurn, Feeds}
 use Rattle.peer_side.proofs.WeldLemmas.{weld_lines}
-use Rattle.rib_tree.proofs.TreeParts.{put_all, welded_put as welded_put_tree}
-use Rattle.journal_laws.specs.Peers.{neighbours}
-use Rattle.journal_laws.proofs.PrintedHops.{AllHaveMetrics, answers_kept, answers_mapped, answers_turned, metrics_reached, metrics_put}
-use Rattle.nexthop_resolver.proofs.MoveLemmas.{same_some}
+use Rattle.rib_tree.proofs.TreeParts.{welded_put as welded_put_tree}
+use Rattle.journal_laws.proofs.PrintedHops.{answers_kept, answers_mapped, answers_turned, metrics_reached, metrics_put}
 use Rattle.exit_laws.proofs.PrintLemmas.{turn_is_printed}
-use Rattle.event_text.specs.Declarations.{Declaration, peer_at}
-use Rattle.live_state.specs.Lives.{LiveState}
-use Rattle.router_core.specs.Printable.{ArePrinted, IsPrintableMoment}
-use Rattle.router_core.specs.Stands.{Stands}
-use Rattle.router_core.specs.Works.{AreHeard, IsUpAt}
+use Rattle.router_core.specs.Works.{IsUpAt}
 use Rattle.router_core.proofs.HopTurns.{hop_goes, hop_chosen}
 use Rattle.router_core.proofs.OwnTurns.{own_sent, own_chosen}
 use Rattle.router_core.proofs.ExitTurns.{taken_sent}

@@ -1,37 +1,16 @@
 -- `as4` and `revised`: before `local` messages are read and written by another profile from now on, and nothing else changes.
-use Rattle.std.proofs.Common.{◌≡◌, ◌&&◌, ℕ, Bool, true, false, cond, List, [], Option, Some, None, refl, sym, ap, subst, ◌∙◌}
+use Rattle.router_core.proofs.Common.{sym, subst, ◌∙◌, ap, ◌≡◌, ℕ, refl, List, true, false, Bool, cond, ◌&&◌, get-empty, nat_cmp, Route, Neighbour, Profile, Speaker, peer_at, Declaration, with_session, with_four_octets, with_revised, without_session, DeclaredPeer, Event, Down, Bgp, As4, Revised, Up, ArePrintableExits, unread_or_none, Journaled, flushed, Link, Adv, Read, Outf, Rows, Change, declared_after, OutChained, StandsOver, IsBlock, live_state, Moment, best_of, router_links, Gives, read_rows_by, read_of, read_by, Stands, ExitsAt, ReadsOn, MaySend, HasStepped}
+use Rattle.std.proofs.Common.{[], Option, Some, None}
 use Rattle.std.specs.FinMap as tables
-use Rattle.std.specs.FinMap.{get-empty}
-use Rattle.std.specs.Ordering.{nat_cmp}
-use Rattle.bgp_attr.specs.declared.speaker.Neighbour.{Neighbour}
-use Rattle.bgp_attr.specs.declared.speaker.Profile.{Profile}
-use Rattle.bgp_attr.specs.declared.speaker.Speaker.{Speaker}
-use Rattle.bgp_attr.specs.declared.route.Route.{Route}
-use Rattle.link_change.specs.Rows.{Rows}
-use Rattle.link_change.specs.declared.change.Change.{Change}
-use Rattle.fanout_queue.specs.Readers.{unread_or_none}
-use Rattle.journal_text.specs.declared.link.Link.{Link}
-use Rattle.journal_text.specs.declared.link.Link.TheVariants.{ReadRib, Read, Outf, Adv}
-use Rattle.journal_text.specs.Journals.{Journaled, flushed}
-use Rattle.event_text.specs.declared.event.Event.{Event}
-use Rattle.event_text.specs.declared.event.Event.TheVariants.{As4, Revised, Up, Down, Bgp}
-use Rattle.event_text.specs.declared.declared.DeclaredPeer.{DeclaredPeer}
-use Rattle.event_text.specs.Declarations.{Declaration, peer_at, with_four_octets, with_revised, with_session, without_session}
-use Rattle.out_chain.specs.Chains.{OutChained}
-use Rattle.rib_exit.specs.Exits.{StandsOver}
+use Rattle.journal_text.specs.declared.link.Link.TheVariants.{ReadRib}
 use Rattle.exit_side.specs.Exits.{no_exits, links_by, chain_at as exit_at}
 use Rattle.exit_side.proofs.LawLemmas.{stands_at_first}
-use Rattle.exit_laws.specs.Printable.{ArePrintableExits}
 use Rattle.exit_laws.proofs.KeptLemmas.{empty_is_printed}
 use Rattle.exit_laws.specs.Views.{sent_by, views_of}
 use Rattle.live_state.specs.Messages.{ends_session}
-use Rattle.live_state.specs.Declared.{declared_after, declared_up, declared_down, declared_heard}
+use Rattle.live_state.specs.Declared.{declared_up, declared_down, declared_heard}
 use Rattle.live_state.specs.Lives.{LiveAfter}
-use Rattle.router_core.specs.Moments.{Moment, Gives, profiled, best_of, read_by, read_rows_by, read_of, router_links}
-use Rattle.router_core.specs.Lives.{live_state}
-use Rattle.router_core.specs.Blocks.{IsBlock}
-use Rattle.router_core.specs.Stands.{Stands, ExitsAt, ReadsOn, MaySend}
-use Rattle.router_core.specs.Works.{HasStepped}
+use Rattle.router_core.specs.Moments.{profiled}
 use Rattle.router_core.proofs.BeforeLocal.{no_chain, no_exit, no_reader, read_before}
 use Rattle.router_core.proofs.KeepLemmas.{gives_none}
 use Rattle.router_core.proofs.QueueLemmas.{exits_none}

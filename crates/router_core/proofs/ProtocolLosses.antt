@@ -1,37 +1,15 @@
 -- The loss of a protocol.
-use Rattle.std.proofs.Common.{◌≡◌, ◌+◌, ◌≤◌, List, ◌++◌, length, Some, None, IsSome, refl, sym, ap, subst, ◌∙◌}
-use Rattle.bgp_attr.specs.declared.speaker.Speaker.{Speaker}
-use Rattle.rib_route.specs.declared.Proto.{Proto}
-use Rattle.rib_route.specs.declared.rows.Interior.{Interior}
-use Rattle.link_change.specs.Rows.{Rows}
-use Rattle.journal_text.specs.declared.entry.Entry.{Entry}
-use Rattle.journal_text.specs.declared.value.Value.{Value}
-use Rattle.journal_text.specs.declared.line.Line.{Line}
-use Rattle.journal_text.specs.Journals.{Journaled, with_entries, flushed}
-use Rattle.journal_text.specs.Walk.{Leads}
-use Rattle.journal_text.proofs.JournalLemmas.{entries_of_entries}
-use Rattle.event_text.specs.declared.event.Event.TheVariants.{Lose}
-use Rattle.rib_tree.specs.Branches.{Branch}
+use Rattle.router_core.proofs.Common.{sym, subst, ◌∙◌, ap, ◌≡◌, refl, List, ◌+◌, ◌++◌, ◌≤◌, Speaker, Lose, others_are_unheard, entries_of_entries, Journaled, flushed, with_entries, Leads, Entry, Line, Value, Rows, InteriorRoutes, Proto, Interior, tree_leads, put_all, Branch, LeadsTree, tree_overdue, int_rows, Treed, branch_of, IsTree, tree_links, IsFull, own_rows, best_at, live_state, Moment, router_links, Gives, with_tree, Stands, journal_lines, Pushes, HasStepped}
+use Rattle.std.proofs.Common.{length, Some, None, IsSome}
 use Rattle.rib_tree.specs.BranchSteps.{lost_branch}
 use Rattle.loss_chain.specs.declared.owner.Owner.TheVariants as owners
-use Rattle.rib_tree.specs.Trees.{Treed, branch_of, int_rows, tree_links, IsTree, IsFull}
-use Rattle.rib_tree.specs.Falls.{LeadsTree}
-use Rattle.rib_tree.specs.Steps.{lost_tree, tree_loss_entries, tree_overdue}
-use Rattle.router_core.specs.Bests.{own_rows, best_at}
-use Rattle.router_core.specs.Moments.{Moment, router_links, Gives, with_tree}
+use Rattle.rib_tree.specs.Steps.{lost_tree, tree_loss_entries}
 use Rattle.live_state.specs.Lives.{interior_lost}
-use Rattle.router_core.specs.Lives.{live_state}
-use Rattle.router_core.specs.Stands.{Stands}
-use Rattle.router_core.specs.Turns.{journal_lines}
-use Rattle.router_core.specs.Works.{Pushes, EndsProtocol, HasProtocolRoom, HasStepped}
-use Rattle.exit_laws.proofs.OtherLemmas.{others_are_unheard}
-use Rattle.link_region.specs.declared.regions.Region.TheVariants.{InteriorRoutes}
-use Rattle.rib_tree.proofs.RegionLemmas.{tree_leads}
+use Rattle.router_core.specs.Works.{EndsProtocol, HasProtocolRoom}
 use Rattle.router_core.proofs.HeardSteps.{heard_quiet}
 use Rattle.router_core.proofs.QueueLemmas.{exits_stay}
 use Rattle.router_core.proofs.RibLinks.{leads_above}
 use Rattle.loss_chain.proofs.TableLemmas.{few_lost}
-use Rattle.rib_tree.proofs.TreeParts.{put_all}
 use Rattle.router_core.proofs.RouteLemmas.{stands_replanted, live_lost}
 use Rattle.router_core.proofs.KeepLemmas.{keeps_then, gives_push}
 use Rattle.router_core.proofs.StandLemmas.{speaker_of}

@@ -1,31 +1,12 @@
 -- What a change of `best` makes of what reads it: it joins the queue, and no link of theirs changes.
-use Rattle.std.proofs.Common.{◌≡◌, ℕ, cond, true, false, Option, Some, None, refl, sym, ap, subst, ◌∙◌}
+use Rattle.router_core.proofs.Common.{sym, subst, ◌∙◌, ap, ◌≡◌, ℕ, refl, true, false, cond, ForSome, itself, Network, Route, Profile, Speaker, peer_at, Declaration, DeclaredPeer, Exited, AllStand, OutChains, IsExits, AllLead, route_rows, Link, IsSent, Rows, Change, OutChained, RowsMayBeHeard, MayBeHeard, StandsOver, int_rows, Queues, Moment, best_of, own_of, read_rows_by, read_by, read_links, rules_to, Policies, Stands, ExitsAt, ReadsOn, ExitsStand, MaySend, IsExitOf}
+use Rattle.std.proofs.Common.{Option, Some, None}
 use Rattle.std.specs.Prelude.{IsSome}
-use Rattle.std.specs.Option.{ForSome}
 use Rattle.std.specs.FinMap as tables
-use Rattle.addr4.specs.Prefixes.{Network}
-use Rattle.addr4.proofs.PrefixOrder.{itself}
-use Rattle.bgp_attr.specs.declared.route.Route.{Route}
-use Rattle.bgp_attr.specs.declared.speaker.Speaker.{Speaker}
-use Rattle.bgp_attr.specs.declared.speaker.Profile.{Profile}
-use Rattle.link_change.specs.Rows.{Rows}
-use Rattle.link_change.specs.Changes.{IsSent}
-use Rattle.link_change.specs.declared.change.Change.{Change}
-use Rattle.event_text.specs.declared.declared.DeclaredPeer.{DeclaredPeer}
-use Rattle.event_text.specs.Declarations.{Declaration, peer_at}
-use Rattle.journal_text.specs.declared.link.Link.{Link}
 use Rattle.journal_text.specs.declared.link.Link.TheVariants.{ReadRib}
-use Rattle.journal_text.specs.Values.{route_rows}
-use Rattle.fanout_queue.specs.Queues.{AllLead}
 use Rattle.fanout_queue.proofs.LeadLemmas.{put_keeps_read, put_keeps_readers, put_keeps_leading}
-use Rattle.peer_out.specs.Changes.{MayBeHeard}
-use Rattle.out_chain.specs.Chains.{OutChained, RowsMayBeHeard}
-use Rattle.exit_side.specs.Exits.{Exited, OutChains, chain_at as exit_at, exit_links, IsExits, AllStand}
-use Rattle.rib_tree.specs.Trees.{int_rows}
-use Rattle.rib_exit.specs.Exits.{StandsOver}
-use Rattle.router_core.specs.Bests.{Queues}
-use Rattle.router_core.specs.Moments.{Moment, Policies, own_of, best_of, read_by, read_links, read_rows_by, rules_to}
-use Rattle.router_core.specs.Stands.{Stands, ExitsStand, RowsWereHeard, MaySend, IsExitOf, ExitsAt, ReadsOn}
+use Rattle.exit_side.specs.Exits.{chain_at as exit_at, exit_links}
+use Rattle.router_core.specs.Stands.{RowsWereHeard}
 use Rattle.router_core.proofs.HeardRows.{heard_best, heard_own_rows}
 
 -- ---- who has none

@@ -1,26 +1,16 @@
 -- Room for one more deletion stage.
-use Rattle.std.proofs.Common.{◌≡◌, ℕ, Bool, true, ◌&&◌, ◌||◌, cond, List, [], Option, Some, None, is_some, nat_eq, nat_lt, length, refl, sym, ap, subst, ◌∙◌, arith, zero, suc}
+use Rattle.router_core.proofs.Common.{sym, subst, ◌∙◌, ap, ◌≡◌, ℕ, refl, List, true, arith, Bool, cond, suc, zero, nat_eq, ◌&&◌, ◌||◌, nat_lt, same_Some, Chained, welded, Journaled, flushed, Line, Task, is_empty_map, no_table, same_by, table_of, chain_at, overdue_at, has_turn_in, RunsFirst, Moment, Gives, Stands, Turns, HasDrained}
+use Rattle.std.proofs.Common.{[], Option, Some, None, is_some, length}
 use Rattle.std.specs.Prelude.{IsSome}
-use Rattle.std.proofs.lemmas.Option.{same_Some}
-use Rattle.link_change.specs.Rows.{is_empty_map}
-use Rattle.journal_text.specs.declared.link.Task.{Task}
 use Rattle.journal_text.specs.declared.link.Task.TheVariants.{Del}
-use Rattle.journal_text.specs.declared.line.Line.{Line}
-use Rattle.journal_text.specs.Journals.{Journaled, flushed}
 use Rattle.loss_chain.specs.declared.owner.Owner.TheVariants as owners
-use Rattle.loss_chain.specs.Steps.{table_of}
-use Rattle.loss_chain.proofs.TableLemmas.{Shorter, shorter_none, shorter_more, free_of, stage_of, no_table, same_by}
-use Rattle.in_chain.specs.Chains.{Chained}
+use Rattle.loss_chain.proofs.TableLemmas.{Shorter, shorter_none, shorter_more, free_of, stage_of}
 use Rattle.in_chain.specs.Incomings.{overdue_of}
-use Rattle.in_chain.specs.Steps.{swept, welded, Sweeps}
-use Rattle.peer_side.specs.Peers.{chain_at, has_turn_in, overdue_at, overdue_by}
+use Rattle.in_chain.specs.Steps.{swept, Sweeps}
+use Rattle.peer_side.specs.Peers.{overdue_by}
 use Rattle.peer_side.specs.Steps.{TurnsPeer}
 use Rattle.peer_side.proofs.PutLemmas.{put_here}
-use Rattle.router_core.specs.Moments.{Moment, Gives}
-use Rattle.router_core.specs.Stands.{Stands}
-use Rattle.router_core.specs.Turns.{Turns}
-use Rattle.router_core.specs.Blocks.{RunsFirst}
-use Rattle.router_core.specs.Works.{HasDrained, HasRoom}
+use Rattle.router_core.specs.Works.{HasRoom}
 use Rattle.peer_side.proofs.WeldLemmas.{weld_after}
 use Rattle.router_core.proofs.KeepLemmas.{keeps_none, gives_none}
 use Rattle.router_core.proofs.TurnWalks.{turns_same}

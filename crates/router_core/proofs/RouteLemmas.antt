@@ -1,61 +1,26 @@
 -- A change of an interior route: what follows it, and what stands then.
-use Rattle.std.proofs.Common.{◌≡◌, ◌≤◌, not, List, [], ◌++◌, length, Option, Some, None, IsSome, refl, sym, ap, subst, ◌∙◌, arith}
+use Rattle.router_core.proofs.Common.{sym, subst, ◌∙◌, ap, ◌≡◌, refl, List, arith, ◌++◌, ◌≤◌, not, Network, Route, Speaker, unheard_joins, others_are_unheard, AreUnheard, Exited, Resolvers, PeerRows, entries_of_entries, with_entries_append, leads_append, leads_nowhere, Journaled, Adds, with_entries, entries_of, Leads, Entry, Line, Link, Value, IsSent, Rows, is_empty_map, with_row, Change, joined, with_side, Sides, Region, Decided, Redistributed, Resolved, Outward, InteriorRoutes, Forward, adds_both, filt_at, Registry, StandsOver, AgreesWith, RibExit, Proto, FibRow, Interior, tree_leads, put_all, welded_branch, Branch, LeadsTree, way_of_route, fed_tree, welded_tree, int_rows, Treed, branch_of, IsTree, tree_links, IsFull, put_branch, own_rows, all_at, best_at, best_links, best_entries, Queues, own_links, own_entries, live_state, Moment, best_of, router_links, own_of, with_tree, parts, tree_by, forward_by, Stands, ExitsStand, HopsStand, journal_lines, BelowInt, FallsRoute, Pushes, Keeps}
+use Rattle.std.proofs.Common.{[], length, Option, Some, None, IsSome}
 use Rattle.std.specs.FinMap as tables
-use Rattle.addr4.specs.Prefixes.{Network}
-use Rattle.bgp_attr.specs.declared.route.Route.{Route}
-use Rattle.bgp_attr.specs.declared.speaker.Speaker.{Speaker}
-use Rattle.rib_route.specs.declared.Proto.{Proto}
-use Rattle.rib_route.specs.declared.rows.Interior.{Interior}
-use Rattle.rib_route.specs.declared.rows.FibRow.{FibRow}
-use Rattle.link_change.specs.Rows.{Rows, with_row, is_empty_map}
-use Rattle.link_change.specs.Changes.{IsSent}
-use Rattle.link_change.specs.declared.change.Change.{Change}
-use Rattle.journal_text.specs.declared.link.Link.{Link}
-use Rattle.journal_text.specs.declared.entry.Entry.{Entry}
-use Rattle.journal_text.specs.declared.value.Value.{Value}
-use Rattle.journal_text.specs.declared.line.Line.{Line}
-use Rattle.journal_text.specs.Journals.{Journaled, with_entries, Adds}
-use Rattle.journal_text.specs.Texts.{entries_of}
-use Rattle.journal_text.specs.Walk.{Leads}
-use Rattle.journal_text.proofs.JournalLemmas.{with_entries_append, entries_of_entries}
-use Rattle.journal_text.proofs.WalkLemmas.{leads_append, leads_nowhere}
-use Rattle.register_interest.specs.Registers.{Registry}
-use Rattle.hop_side.specs.Resolvers.{Resolvers, PeerRows}
-use Rattle.rib_exit.specs.declared.exit.RibExit.{RibExit}
-use Rattle.rib_exit.specs.Exits.{exit_links as external_links, IsExit, AgreesWith, StandsOver}
+use Rattle.rib_exit.specs.Exits.{exit_links as external_links, IsExit}
 use Rattle.rib_exit.specs.Steps.{TakesInterior, FollowsOn}
-use Rattle.exit_side.specs.Exits.{Exited}
-use Rattle.exit_laws.proofs.HearLemmas.{unheard_joins}
-use Rattle.exit_laws.proofs.OtherLemmas.{others_are_unheard}
-use Rattle.link_region.specs.declared.regions.Region.{Region}
-use Rattle.link_region.specs.declared.regions.Region.TheVariants.{Resolved, Decided, InteriorRoutes, Redistributed, Forward, External, Outward}
-use Rattle.link_region.specs.Regions.{Sides, joined, with_side}
-use Rattle.rib_tree.specs.Branches.{Branch}
-use Rattle.rib_tree.specs.BranchSteps.{welded_branch, fed_branch}
+use Rattle.link_region.specs.declared.regions.Region.TheVariants.{External}
+use Rattle.rib_tree.specs.BranchSteps.{fed_branch}
 use Rattle.loss_chain.specs.Steps.{live_after}
-use Rattle.rib_tree.specs.Trees.{Treed, branch_of, put_branch, int_rows, tree_links, IsTree, IsFull}
-use Rattle.rib_tree.specs.Falls.{FallsTree, LeadsTree, way_of_route}
-use Rattle.rib_tree.specs.Steps.{welded_tree, fed_tree, tree_weld_entries}
-use Rattle.rib_tree.proofs.RegionLemmas.{tree_leads}
-use Rattle.peer_side.specs.Peers.{filt_at}
+use Rattle.rib_tree.specs.Falls.{FallsTree}
+use Rattle.rib_tree.specs.Steps.{tree_weld_entries}
 use Rattle.live_state.specs.Lives.{with_interior, with_losses, interior_fed}
-use Rattle.router_core.specs.Bests.{own_rows, own_links, own_entries, all_at, best_at, best_links, best_entries, Queues}
-use Rattle.router_core.specs.Moments.{with_tree, Moment, tree_by, forward_by, own_of, best_of, parts, router_links}
-use Rattle.router_core.specs.Lives.{live_state}
 use Rattle.router_core.specs.Printable.{IsHeard}
-use Rattle.router_core.specs.Stands.{Stands, HopsStand, ExitsStand}
-use Rattle.router_core.specs.Turns.{journal_lines, FallsRoute, FollowsInt, BelowInt, WeldsRoute}
-use Rattle.router_core.specs.Works.{Informs, Redistributes, Follows, Settles, Pushes, Keeps}
+use Rattle.router_core.specs.Turns.{FollowsInt, WeldsRoute}
+use Rattle.router_core.specs.Works.{Informs, Redistributes, Follows, Settles}
 use Rattle.loss_chain.proofs.TableLemmas.{few_filter}
-use Rattle.rib_tree.proofs.TreeParts.{welded_put, put_seen, put_all, put_kept, few_fed}
+use Rattle.rib_tree.proofs.TreeParts.{welded_put, put_seen, put_kept, few_fed}
 use Rattle.router_core.proofs.HeardSteps.{heard_quiet, queue_views, below_unheard}
 use Rattle.router_core.proofs.HopLemmas.{hops_reached}
 use Rattle.router_core.proofs.QueueLemmas.{queue_external, queue_links, reader_live, exits_fall}
 use Rattle.router_core.proofs.RegionLemmas.{interior_set}
 use Rattle.router_core.proofs.RibLinks.{DecidesTo, exit_leads, own_rows_are, own_comes, leads_own, leads_down, leads_above}
 use Rattle.router_core.proofs.StandLemmas.{put_is_with, speaker_of}
-use Rattle.peer_side.proofs.WeldLemmas.{adds_both}
-use Rattle.exit_laws.specs.Views.{AreUnheard}
 
 -- ---- the register
 -- it keeps up with `int`

@@ -1,26 +1,12 @@
 -- Room for one more deletion stage of a protocol.
-use Rattle.std.proofs.Common.{◌≡◌, ℕ, Bool, ◌||◌, cond, List, [], map, length, Option, Some, None, nat_lt, refl, sym, ap, subst, ◌∙◌, arith, zero, suc}
+use Rattle.router_core.proofs.Common.{sym, subst, ◌∙◌, ap, ◌≡◌, ℕ, refl, List, arith, Bool, cond, suc, zero, ◌||◌, nat_lt, Journaled, flushed, Line, Task, is_empty_map, no_table, same_by, table_of, swept_one, Proto, Interior, welded_branch, swept_branch, Branch, tree_overdue, Treed, branch_of, RunsFirst, Moment, Gives, Stands, Turns, HasDrained}
+use Rattle.std.proofs.Common.{[], map, length, Option, Some, None}
 use Rattle.std.specs.List.{filter}
-use Rattle.rib_route.specs.declared.Proto.{Proto}
-use Rattle.rib_route.specs.declared.rows.Interior.{Interior}
-use Rattle.link_change.specs.Rows.{is_empty_map}
-use Rattle.journal_text.specs.declared.link.Task.{Task}
 use Rattle.journal_text.specs.declared.link.Task.TheVariants.{Rdel}
-use Rattle.journal_text.specs.declared.line.Line.{Line}
-use Rattle.journal_text.specs.Journals.{Journaled, flushed}
-use Rattle.rib_tree.specs.Branches.{Branch}
 use Rattle.loss_chain.specs.declared.owner.Owner.TheVariants as owners
-use Rattle.loss_chain.specs.Steps.{swept_one, table_of}
-use Rattle.rib_tree.specs.BranchSteps.{swept_branch, welded_branch}
-use Rattle.rib_tree.specs.Trees.{Treed, branch_of}
-use Rattle.rib_tree.specs.Steps.{tree_overdue}
-use Rattle.router_core.specs.Moments.{Moment, Gives}
-use Rattle.router_core.specs.Stands.{Stands}
 use Rattle.loss_chain.specs.Lost.{Lost}
-use Rattle.router_core.specs.Turns.{Turns}
-use Rattle.router_core.specs.Blocks.{RunsFirst}
-use Rattle.router_core.specs.Works.{HasDrained, HasProtocolRoom}
-use Rattle.loss_chain.proofs.TableLemmas.{is_full, Shorter, shorter_none, shorter_more, free_of, stage_of, no_table, same_by}
+use Rattle.router_core.specs.Works.{HasProtocolRoom}
+use Rattle.loss_chain.proofs.TableLemmas.{is_full, Shorter, shorter_none, shorter_more, free_of, stage_of}
 use Rattle.rib_tree.proofs.BranchLemmas.{put_own}
 use Rattle.rib_tree.proofs.TreeParts.{welded_put}
 use Rattle.router_core.proofs.KeepLemmas.{keeps_none, gives_none}

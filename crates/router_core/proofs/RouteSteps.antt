@@ -1,22 +1,12 @@
 -- What each event of the interior routes comes to.
-use Rattle.std.proofs.Common.{◌≡◌, ℕ, Bool, true, false, [], ◌∷◌, Some, None, Result, is_some, refl, sym, subst}
+use Rattle.router_core.proofs.Common.{sym, subst, ◌≡◌, ℕ, refl, true, false, Bool, Network, RouteAdd, RouteDel, Journaled, flushed, with_lines, no_table, Proto, Interior, branch_of, DropsRouteIf, live_state, Moment, Gives, Stands, Pushes, HasStepped}
+use Rattle.std.proofs.Common.{[], ◌∷◌, Some, None, Result, is_some}
 use Rattle.std.specs.Result.{IfOk}
 use Rattle.std.specs.FinMap as tables
-use Rattle.addr4.specs.Prefixes.{Network}
-use Rattle.rib_route.specs.declared.Proto.{Proto}
-use Rattle.rib_route.specs.declared.rows.Interior.{Interior}
 use Rattle.link_change.proofs.RowLemmas.{remove_absent}
 use Rattle.journal_text.specs.declared.line.Line.TheVariants as lines
-use Rattle.journal_text.specs.Journals.{Journaled, with_lines, flushed}
-use Rattle.event_text.specs.declared.event.Event.TheVariants.{RouteAdd, RouteDel}
-use Rattle.loss_chain.proofs.TableLemmas.{no_table}
-use Rattle.rib_tree.specs.Trees.{branch_of}
-use Rattle.router_core.specs.Moments.{Moment, Gives}
 use Rattle.live_state.specs.Lives.{interior_fed}
-use Rattle.router_core.specs.Lives.{live_state}
-use Rattle.router_core.specs.Stands.{Stands}
-use Rattle.router_core.specs.Blocks.{DropsRouteIf}
-use Rattle.router_core.specs.Works.{HasStepped, Pushes, SetsRoute}
+use Rattle.router_core.specs.Works.{SetsRoute}
 use Rattle.live_state.proofs.AdmittedLemmas.{live_as_it_was}
 use Rattle.router_core.proofs.KeepLemmas.{gives_pushed, ignores}
 use Rattle.router_core.proofs.RouteLemmas.{routed}

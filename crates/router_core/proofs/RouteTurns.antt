@@ -1,45 +1,22 @@
 -- One turn of the stage of a protocol's loss.
-use Rattle.std.proofs.Common.{◌≡◌, ℕ, ◌+◌, ◌≤◌, List, length, Option, Some, None, IsSome, is_some, Result, IfOk, refl, sym, ap, subst, ◌∙◌, arith}
-use Rattle.std.proofs.lemmas.Result.{IfOk-weaker}
-use Rattle.std.specs.FinMap.{FinMap}
-use Rattle.addr4.specs.Prefixes.{Network, prefix_cmp}
-use Rattle.bgp_attr.specs.declared.speaker.Speaker.{Speaker}
-use Rattle.rib_route.specs.declared.Proto.{Proto}
-use Rattle.rib_route.specs.declared.rows.Interior.{Interior}
-use Rattle.link_change.specs.declared.change.Change.{Change}
-use Rattle.link_change.specs.declared.turn.Turn.{Turn}
+use Rattle.router_core.proofs.Common.{sym, subst, ◌∙◌, ap, ◌≡◌, ℕ, refl, List, arith, ◌+◌, ◌≤◌, IfOk-weaker, FinMap, Network, prefix_cmp, Speaker, known_in, Journaled, flushed, Adds, with_entries, Entry, Line, Value, Rows, Change, Turn, table_of, swept_one, Proto, Interior, of_new, welded_branch, swept_branch, Branch, welded_tree, int_rows, Treed, branch_of, tree_count, live_state, Moment, with_tree, tree_beyond, Stands, BelowInt, FallsRoute, TakesTurn, IsWork, Done, Taken}
+use Rattle.std.proofs.Common.{length, Option, Some, None, IsSome, is_some, Result, IfOk}
 use Rattle.link_change.specs.declared.turn.Turn.TheVariants.{Quiet, Sent}
 use Rattle.journal_text.specs.declared.link.Task.TheVariants.{Rdel}
-use Rattle.journal_text.specs.declared.entry.Entry.{Entry}
-use Rattle.journal_text.specs.declared.value.Value.{Value}
-use Rattle.journal_text.specs.Journals.{Journaled, Adds, with_entries, flushed}
-use Rattle.rib_tree.specs.Branches.{Branch}
-use Rattle.rib_tree.specs.BranchSteps.{welded_branch, swept_branch}
-use Rattle.loss_chain.specs.Steps.{swept_one, table_of}
-use Rattle.link_change.specs.Rows.{Rows}
-use Rattle.hop_side.specs.Resolvers.{known_in}
 use Rattle.rib_exit.specs.Exits.{known_in as external_known}
-use Rattle.rib_tree.specs.Trees.{Treed, branch_of, tree_count, int_rows}
-use Rattle.router_core.specs.Turns.{BelowInt, FallsRoute, IsRouteTurn}
+use Rattle.router_core.specs.Turns.{IsRouteTurn}
 use Rattle.rib_tree.specs.Falls.{way_of_sweep}
-use Rattle.rib_tree.specs.Steps.{SweepsTree, IsTakenTree, swept_tree, welded_tree}
-use Rattle.router_core.specs.declared.router.Done.{Done}
-use Rattle.router_core.specs.declared.router.Done.TheVariants.{Nothing, Taken}
-use Rattle.router_core.specs.Moments.{Moment, with_tree}
-use Rattle.router_core.specs.Lives.{live_state}
-use Rattle.router_core.specs.Stands.{Stands}
-use Rattle.router_core.specs.Works.{Turned, IsWork, TakesTurn}
+use Rattle.rib_tree.specs.Steps.{SweepsTree, IsTakenTree, swept_tree}
+use Rattle.router_core.specs.declared.router.Done.TheVariants.{Nothing}
+use Rattle.router_core.specs.Works.{Turned}
 use Rattle.loss_chain.proofs.TableLemmas.{few_map}
 use Rattle.router_core.proofs.RouteLemmas.{Routes, routes_on, live_stays, route_fell, fell_best}
 use Rattle.router_core.specs.declared.router.Phase.TheVariants.{Rdel as RdelPhase}
 use Rattle.router_core.proofs.SpendLemmas.{Spent}
-use Rattle.router_core.specs.Phases.{tree_beyond}
 use Rattle.router_core.proofs.BeyondLemmas.{sweep_beyond}
 use Rattle.router_core.proofs.CountLemmas.{tree_spends}
-use Rattle.rib_tree.proofs.NewLemmas.{of_new}
 use Rattle.rib_tree.proofs.CountLemmas.{turn_takes_row, weld_keeps_rows}
 use Rattle.router_core.proofs.WorkLemmas.{one_turn}
-use Rattle.journal_text.specs.declared.line.Line.{Line}
 
 -- ---- what follows a change of `int` asks for no next hop
 below_knows : (sent : Option (Change Interior)) (int : Rows Interior) (m m' : Moment) (entries : List (Entry Value)) → BelowInt sent int m m' entries → (known_in m'.hops ≤ known_in m.hops) × (external_known m'.rib ≤ external_known m.rib)

@@ -1,25 +1,15 @@
 -- Turns one after the other: of a task, of a phase, and of all phases.
-use Rattle.std.proofs.Common.{◌≡◌, ℕ, ◌+◌, ◌<◌, ◌≤◌, true, false, List, [], ◌∷◌, ◌++◌, length, take, drop, get_or, Some, None, refl, sym, ap, subst, ◌∙◌, arith, append_assoc, zero, suc}
-use Rattle.std.proofs.lemmas.List.{append-nil, take_more, drop_more, take_all}
-use Rattle.std.specs.List.{AllByRecursion}
-use Rattle.journal_text.specs.declared.link.Task.{Task}
-use Rattle.journal_text.specs.declared.line.Line.{Line}
-use Rattle.journal_text.specs.Journals.{Journaled, flushed}
+use Rattle.router_core.proofs.Common.{sym, subst, ◌∙◌, ap, ◌≡◌, ℕ, refl, List, true, arith, false, ◌+◌, ◌++◌, ◌≤◌, ◌<◌, suc, zero, take, get_or, take_more, AllByRecursion, known_in, Journaled, flushed, Line, Task, LiveState, rows_in, tree_count, RowsAtRestAreExact, live_state, Moment, Gives, most_unread, bound_of, counts, all_phases, beyonds, fin_sends, most_of, own_sends, nh_sends, earlier, Stands, AllHaveExits, phase_of, Turns, IsTurn, has_work, RunsPhase, Runs, RunsAll, next_task, Keeps, TakesTurn, IsWork, AddsNoRows, HasDrained, RunsOut, Taken, Phase}
+use Rattle.std.proofs.Common.{[], ◌∷◌, length, drop, Some, None, append_assoc}
+use Rattle.std.proofs.lemmas.List.{append-nil, drop_more, take_all}
 use Rattle.loss_chain.proofs.ListLemmas.{all_appended}
 use Rattle.std.specs.FinMap as tables
 use Rattle.in_chain.proofs.TurnLemmas.{turns_are_bounded as bounded_turns, turns_are_left}
-use Rattle.rib_tree.specs.Trees.{tree_count}
-use Rattle.router_core.specs.declared.router.Phase.{Phase}
 use Rattle.router_core.specs.declared.router.Phase.TheVariants.{Rdel, Red, Del, Fin, ReadRib, Out}
-use Rattle.hop_side.specs.Resolvers.{known_in}
 use Rattle.rib_exit.specs.Exits.{known_in as external_known}
-use Rattle.peer_side.specs.Peers.{rows_in}
-use Rattle.router_core.specs.Moments.{Moment, most_unread, bound_of, Gives}
-use Rattle.router_core.specs.Lives.{live_state}
-use Rattle.router_core.specs.Stands.{Stands, AllHaveExits}
-use Rattle.router_core.specs.Phases.{all_phases, beyonds, counts, earlier, left_from, most_of, reading_of, own_sends, sends_from_red, sends_from_del, sends_from_fin, fin_sends, nh_sends}
-use Rattle.router_core.specs.Turns.{IsTurn, Turns, RunsPhase, RunsAll, phase_of, next_task, has_work, IsOver, IsSettled, Runs}
-use Rattle.router_core.specs.Works.{Keeps, AddsNoRows, IsWork, HasDrained, HaveDrained, AllHaveDrained, TakesTurn, RunsOut}
+use Rattle.router_core.specs.Phases.{left_from, reading_of, sends_from_red, sends_from_del, sends_from_fin}
+use Rattle.router_core.specs.Turns.{IsOver, IsSettled}
+use Rattle.router_core.specs.Works.{HaveDrained, AllHaveDrained}
 use Rattle.router_core.proofs.KeepLemmas.{keeps_none, keeps_on, gives_join, gives_none, gives_so}
 use Rattle.router_core.proofs.MostLemmas.{capped, external_capped, sends_below, own_sends_below, fin_sends_below, few_exits}
 use Rattle.router_core.proofs.ReadingLemmas.{reading_less, readers_within, announced_fits}
@@ -28,9 +18,7 @@ use Rattle.router_core.proofs.SpendLemmas.{same_rows}
 use Rattle.router_core.proofs.NextLemmas.{next_works}
 use Rattle.router_core.proofs.SettledLemmas.{settled_is_exact}
 use Rattle.router_core.proofs.TurnWalks.{phases_same, all_have_on}
-use Rattle.router_core.specs.Laws.{RowsAtRestAreExact, OnlyWorkHoldsUp}
-use Rattle.live_state.specs.Lives.{LiveState}
-use Rattle.router_core.specs.declared.router.Done.TheVariants.{Taken}
+use Rattle.router_core.specs.Laws.{OnlyWorkHoldsUp}
 use Rattle.router_core.proofs.WorkLemmas.{rows_then}
 use Rattle.router_core.proofs.TurnLaws.{turn_works, turns_work, runs_work, phase_works}
 

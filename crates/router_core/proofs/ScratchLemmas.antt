@@ -1,89 +1,52 @@
 -- The rows that no work holds up at a prefix are what the live state alone asks for.
-use Rattle.std.proofs.Common.{◌≡◌, ℕ, zero, suc, ◌<◌, ◌==◌, ◌&&◌, not, Bool, true, false, cond, List, [], Option, Some, None, is_some, nat_eq, refl, sym, ap, subst, ◌∙◌, arith, ◌+◌, ◌∷◌}
+use Rattle.router_core.proofs.Common.{sym, subst, ◌∙◌, ap, ◌≡◌, ℕ, refl, List, true, arith, false, ◌+◌, Bool, cond, ◌<◌, suc, zero, nat_eq, not, ◌&&◌, nat_tests, list_any, range_with_len, Network, Attrs, Route, Neighbour, Profile, Speaker, best_is_a_branchs, peer_at, DeclaredPeer, fib_distance, read_rows, unread_by, filtered, resolver_at, rows_by, metric_rows, link_by, Chained, filt_rows, route_value, route_rows, fib_value, interior_value, external_value, Link, Best, Fib, Adv, Res, Read, Outf, Org, Task, Value, Rows, no_table, same_by, table_of, same_some, route_hop, with_metric, metric_of, way_of, over, answer_of, Resolving, passes, goes_on, Metric, OutChained, Passed, function_at, present, chain_at, filt_at, filt_by, has_turn_in, routes_of, rules_of, Rule, redistributed, has, Protos, ext_rows, fib_over, row_of_both, Proto, Connected, Static, Ospf, Rip, Interior, kept_rows, org_rows, int_rows, Treed, branch_of, IsTree, tree_links, low_rows, dyn_rows, own_rows, all_at, best_links, own_links, next_hop_at, holds_up_at, is_over, live_state, Moment, best_of, own_of, read_rows_by, read_of, read_by, tree_by, forward_by, rules_to, unread_if, Stands, ExitsAt, AllHaveExits, StandsAt, ReadsOn, IsExitOf, has_work}
+use Rattle.std.proofs.Common.{◌==◌, [], Option, Some, None, is_some, ◌∷◌}
 use Rattle.std.specs.Prelude.{option_map, IsSome}
 use Rattle.std.specs.FinMap as tables
-use Rattle.addr4.specs.Prefixes.{Network, block}
-use Rattle.bgp_attr.specs.declared.attrs.Attrs.{Attrs}
-use Rattle.bgp_attr.specs.declared.route.Route.{Route}
-use Rattle.bgp_attr.specs.declared.speaker.Speaker.{Speaker}
-use Rattle.bgp_attr.specs.declared.speaker.Neighbour.{Neighbour}
-use Rattle.bgp_attr.specs.declared.speaker.Profile.{Profile}
-use Rattle.link_change.specs.Rows.{Rows}
+use Rattle.addr4.specs.Prefixes.{block}
 use Rattle.link_change.specs.InOrder.{changed_in}
 use Rattle.link_change.proofs.InOrderLemmas.{unchanged_stays}
-use Rattle.loss_chain.specs.Steps.{table_of}
 use Rattle.loss_chain.specs.Tables.{rows_above}
 use Rattle.loss_chain.specs.Held.{has_row, has_within}
 use Rattle.loss_chain.proofs.HeldLemmas.{live_where_none_is_lost}
-use Rattle.loss_chain.proofs.TableLemmas.{same_by, no_table}
-use Rattle.policy_rules.specs.declared.rule.Rule.{Rule}
-use Rattle.pass_core.specs.Passed.{Passed, present, function_at}
 use Rattle.peer_out.specs.Forms.{as_sent}
-use Rattle.filter_bank.specs.Filtered.{filtered}
 use Rattle.filter_bank.specs.Outgoing.{outgoing}
 use Rattle.filter_bank.proofs.LawLemmas.{exact_unless_held_up}
 use Rattle.pass_core.specs.Turns.{row_lags}
 use Rattle.pass_core.proofs.TurnLemmas.{exact_unless_held_up as latest_row}
-use Rattle.journal_text.specs.declared.link.Link.{Link}
-use Rattle.journal_text.specs.declared.link.Link.TheVariants.{In, Peer, Filt, Res, Red, Best, ReadRib, Ebgp, Ibgp, Ext, Fib, Read, Outf, Adv, Org, Lost as LostOf, Low, Dyn, Int}
-use Rattle.journal_text.specs.declared.link.Task.{Task}
+use Rattle.journal_text.specs.declared.link.Link.TheVariants.{In, Peer, Filt, Red, ReadRib, Ebgp, Ibgp, Ext, Lost as LostOf, Low, Dyn, Int}
 use Rattle.journal_text.specs.declared.link.Task.TheVariants.{Del, Fin, Nh, ReadRib as Reading, Out, Rdel, Red as Own, Ext as External}
-use Rattle.journal_text.specs.declared.value.Value.{Value}
-use Rattle.journal_text.specs.Values.{valued, attrs_value, route_value, interior_value, external_value, fib_value, attrs_rows, route_rows, interior_rows}
-use Rattle.event_text.specs.declared.declared.DeclaredPeer.{DeclaredPeer}
-use Rattle.event_text.specs.Declarations.{peer_at}
+use Rattle.journal_text.specs.Values.{valued, attrs_value, attrs_rows, interior_rows}
 use Rattle.in_chain.specs.Incomings.{in_rows}
-use Rattle.in_chain.specs.Chains.{Chained, filt_rows}
-use Rattle.rib_route.specs.declared.Proto.{Proto}
-use Rattle.rib_route.specs.declared.Proto.TheVariants.{Connected, Static, Ospf, Rip}
-use Rattle.rib_route.specs.declared.rows.Interior.{Interior}
 use Rattle.rib_route.specs.declared.rows.External.{External as ExternalRow}
 use Rattle.rib_route.specs.Forwarding.{fib_row}
-use Rattle.rib_merge.specs.Merging.{row_of_both, merged}
-use Rattle.rib_tree.specs.Branches.{org_rows}
-use Rattle.rib_tree.specs.Trees.{branch_of, low_rows, dyn_rows, int_rows, tree_links, IsTree, Treed, interior_distance}
+use Rattle.rib_merge.specs.Merging.{merged}
+use Rattle.rib_tree.specs.Trees.{interior_distance}
 use Rattle.rib_tree.specs.Steps.{tree_lags}
 use Rattle.rib_tree.specs.Laws.{OrgWhereNoneIsLost}
 use Rattle.rib_tree.proofs.RestLemmas.{no_link}
 use Rattle.hop_side.specs.Laws as hops
 use Rattle.exit_side.specs.Laws as exits
 use Rattle.rib_exit.specs.Laws as external
-use Rattle.peer_side.specs.Peers.{chain_at, links_by, filt_by, filt_at, routes_of, rules_of, has_turn_in, lags_in}
+use Rattle.peer_side.specs.Peers.{links_by, lags_in}
 use Rattle.live_state.specs.Lives.{Routes, Interiors}
 use Rattle.live_state.specs.Decided.{live_rows, judged_rows, least_rows, origins, since_local, with_metric_of, resolved_row, resolved_rows, longest_match, rows_if_any, resolved_of, own_row, own_rows as live_own_rows, candidates_of as live_candidates, best_of as live_best, external_row, external_rows, over_interior, reached_row, forwarding_rows, sent_rows, in_session, or_else, longest_within}
 use Rattle.live_state.proofs.LongestLemmas.{match_is}
 use Rattle.live_state.proofs.LeastLemmas.{first_false, second_false, least_two, least_four}
-use Rattle.redist.specs.declared.protos.Protos.{Protos}
-use Rattle.redist.specs.Protocols.{has}
-use Rattle.redist.specs.Local.{redistributed, local_route}
+use Rattle.redist.specs.Local.{local_route}
 use Rattle.register_interest.specs.Covers.{longest}
-use Rattle.nexthop_resolver.specs.declared.rows.Metric.{Metric}
-use Rattle.nexthop_resolver.specs.Kept.{route_hop, metric_of, with_metric, over, way_of}
-use Rattle.nexthop_resolver.specs.Resolving.{Resolving, Answers, passes, made_by as goes_by, goes_on}
-use Rattle.nexthop_resolver.specs.Registered.{answer_of}
-use Rattle.nexthop_resolver.proofs.MoveLemmas.{same_some, clash_some}
-use Rattle.hop_side.specs.Resolvers.{resolver_at, metric_rows, rows_by, link_by}
-use Rattle.decision.proofs.LawLemmas.{best_is_picked, best_is_of_its_prefix, best_is_a_branchs}
-use Rattle.fanout_queue.specs.Readers.{read_rows, unread_by}
-use Rattle.out_chain.specs.Chains.{OutChained, made_by, outf_rows}
+use Rattle.nexthop_resolver.specs.Resolving.{Answers, made_by as goes_by}
+use Rattle.nexthop_resolver.proofs.MoveLemmas.{clash_some}
+use Rattle.decision.proofs.LawLemmas.{best_is_picked, best_is_of_its_prefix}
+use Rattle.out_chain.specs.Chains.{made_by, outf_rows}
 use Rattle.exit_side.specs.Exits.{chain_at as exit_at, links_by as exit_link}
-use Rattle.ext_int.specs.Fibs.{fib_distance}
 use Rattle.ext_int.specs.Laws.{reached}
 use Rattle.rib_split.specs.declared.split.BgpLink.TheVariants as sides
-use Rattle.rib_split.specs.Tables.{kept_rows}
-use Rattle.rib_exit.specs.Exits.{ext_rows, fib_over, exit_links as external_links}
+use Rattle.rib_exit.specs.Exits.{exit_links as external_links}
 use Rattle.link_region.proofs.RegionLemmas.{by_bool}
-use Rattle.std.proofs.lemmas.Bool.Decides.{nat_tests}
-use Rattle.router_core.specs.Bests.{own_rows, own_links, all_at, best_links}
-use Rattle.router_core.specs.Moments.{Moment, tree_by, forward_by, own_of, best_of, read_by, read_rows_by, read_of, rules_to}
-use Rattle.router_core.specs.Phases.{unread_if}
-use Rattle.router_core.specs.Lives.{live_state}
-use Rattle.router_core.specs.Turns.{has_work}
-use Rattle.router_core.specs.Stands.{StandsAt, Stands, AllHaveExits, ExitsAt, IsExitOf, ReadsOn}
 use Rattle.router_core.proofs.ForwardLemmas.{own_at, over_is, lesser_is, ebgp_is, ibgp_is, ext_is}
-use Rattle.router_core.specs.Holding.{next_hop_at, peer_numbers, is_over, is_over_hop, holds_up_at}
+use Rattle.router_core.specs.Holding.{peer_numbers, is_over_hop}
 use Rattle.router_core.specs.Scratch.{Feeds, HoldsUp, directly, through, row_in, IsExactIn, IsAtRestIn}
-use Rattle.std.specs.List.{list_any, range_with_len}
 
 -- ---- the interior routes at a prefix that no lost table has
 -- of numbers below a bound none passes a test that none of the list passes

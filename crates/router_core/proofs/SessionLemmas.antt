@@ -1,63 +1,35 @@
 -- Sessions that begin and end, the rules of outgoing filters, and what reads `best` from `local` on.
-use Rattle.std.proofs.Common.{◌≡◌, ℕ, ◌+◌, ◌<◌, nat_eq, nat_le, ◌/◌, ◌==◌, Bool, true, false, not, ◌&&◌, cond, List, [], ◌∷◌, Option, Some, None, is_some, IsSome, refl, sym, ap, subst, ◌∙◌, arith}
-use Rattle.std.proofs.lemmas.Bool.Decides.{nat_tests}
+use Rattle.router_core.proofs.Common.{sym, subst, ◌∙◌, ap, ◌≡◌, ℕ, refl, List, true, arith, false, ◌+◌, Bool, cond, ◌<◌, nat_eq, not, ◌&&◌, nat_tests, nat_cmp_total, get-insert, nat_cmp, eq_by_cmp, Route, Profile, Speaker, begun_words, peer_at, Declaration, with_session, begun_at, refusal_at, DeclaredPeer, Exited, AllStand, with_exit, IsExits, Queued, AllLead, unread_or_none, neighbours, entries_of_entries, leads_nowhere, Journaled, Adds, entries_of, route_rows, Leads, Links, Entry, Link, Best, Adv, Read, Outf, Value, rows_before, Rows, same_by, OutChained, RowsMayBeHeard, IsSender, Rule, StandsOver, best_links, ByPeer, BeginsIf, BySpeaker, Begins, live_state, Moment, best_of, router_links, with_exits, read_rows_by, read_by, rules_to, Policies, Stands, ExitsAt, ReadsOn, MaySend, IsExitOf, journal_lines, Pushes, HasStepped, Keeps}
+use Rattle.std.proofs.Common.{nat_le, ◌/◌, ◌==◌, [], ◌∷◌, Option, Some, None, is_some, IsSome}
 use Rattle.std.specs.Prelude.{◌^◌, option_map}
 use Rattle.std.specs.FinMap as tables
-use Rattle.std.specs.FinMap.{get-insert, get-remove}
-use Rattle.fanout_queue.specs.Readers.{unread_or_none}
-use Rattle.link_change.specs.InOrder.{rows_before}
+use Rattle.std.specs.FinMap.{get-remove}
 use Rattle.out_chain.specs.Steps.{new_out, exit_to, with_rules as with_rules_out}
 use Rattle.bgp_wire.specs.Attributes.{is_no_host}
-use Rattle.std.specs.Ordering.{nat_cmp, eq_by_cmp}
-use Rattle.std.specs.Cmp.{nat_cmp_total}
-use Rattle.bgp_attr.specs.declared.route.Route.{Route}
-use Rattle.bgp_attr.specs.declared.speaker.Profile.{Profile}
-use Rattle.bgp_attr.specs.declared.speaker.Speaker.{Speaker}
 use Rattle.bgp_attr.specs.Speakers.{IsSpeaker, asn_bound}
 use Rattle.bgp_wire.specs.Paths.{width_of}
-use Rattle.link_change.specs.Rows.{Rows}
-use Rattle.policy_rules.specs.declared.rule.Rule.{Rule}
-use Rattle.journal_text.specs.declared.link.Link.{Link}
-use Rattle.journal_text.specs.declared.link.Link.TheVariants.{Best, ReadRib, Read, Outf, Adv}
-use Rattle.journal_text.specs.declared.entry.Entry.{Entry}
-use Rattle.journal_text.specs.declared.value.Value.{Value}
-use Rattle.journal_text.specs.Journals.{Journaled, Adds}
-use Rattle.journal_text.specs.Texts.{entries_of}
-use Rattle.journal_text.specs.Values.{route_rows}
-use Rattle.journal_text.specs.Walk.{Links, Leads}
-use Rattle.journal_text.proofs.JournalLemmas.{entries_of_entries}
-use Rattle.journal_text.proofs.WalkLemmas.{leads_nowhere}
-use Rattle.journal_laws.specs.Peers.{neighbours}
-use Rattle.event_text.specs.declared.declared.DeclaredPeer.{DeclaredPeer}
+use Rattle.journal_text.specs.declared.link.Link.TheVariants.{ReadRib}
 use Rattle.event_text.specs.declared.event.Event.TheVariants as events
-use Rattle.event_text.specs.Declarations.{Declaration, peer_at, begun_at, with_session, refusal, refusal_at, session_refusal}
-use Rattle.fanout_queue.specs.Queues.{Queued, AllLead}
+use Rattle.event_text.specs.Declarations.{refusal, session_refusal}
 use Rattle.fanout_queue.proofs.LeadLemmas.{join_keeps_leading, drop_keeps_leading}
-use Rattle.peer_out.specs.Changes.{IsSender}
-use Rattle.out_chain.specs.Chains.{OutChained, RowsMayBeHeard}
-use Rattle.exit_side.specs.Exits.{Exited, chain_at as exit_at, with_exit, without_exit, exit_links, IsExits, AllStand}
+use Rattle.exit_side.specs.Exits.{chain_at as exit_at, without_exit, exit_links}
 use Rattle.exit_side.specs.Steps.{is_exit, LeadsExits, BeginsExit, EndsExit, EditsExit, edited_by}
 use Rattle.exit_side.specs.Laws.{AreAmong, KeepsStranger}
-use Rattle.rib_exit.specs.Exits.{StandsOver}
 use Rattle.exit_side.proofs.LawLemmas.{leads_anywhere, leads_anywhere_with_best}
 use Rattle.exit_side.proofs.StrangerLemmas.{begin_keeps, end_keeps, edit_keeps}
 use Rattle.exit_laws.proofs.ViewLemmas.{beginning_is_heard, end_is_heard, edit_keeps_views}
 use Rattle.link_region.proofs.RegionLemmas.{by_bool}
-use Rattle.loss_chain.proofs.TableLemmas.{equal_by, same_by}
+use Rattle.loss_chain.proofs.TableLemmas.{equal_by}
 use Rattle.live_state.specs.Lives.{with_rules, begun_if_down}
-use Rattle.router_core.specs.Bests.{best_links}
-use Rattle.router_core.specs.Moments.{Moment, Policies, with_exits, best_of, read_by, read_rows_by, router_links, rules_to, rules_by}
-use Rattle.router_core.specs.Lives.{live_state}
-use Rattle.router_core.specs.Stands.{Stands, MaySend, IsExitOf, ExitsAt, ReadsAs, ReadsOn}
-use Rattle.router_core.specs.Turns.{journal_lines}
-use Rattle.router_core.specs.Blocks.{begun, ByPeer, BeginsIf, BySpeaker, Begins}
+use Rattle.router_core.specs.Moments.{rules_by}
+use Rattle.router_core.specs.Stands.{ReadsAs}
+use Rattle.router_core.specs.Blocks.{begun}
 use Rattle.router_core.specs.Peers.{is_up}
-use Rattle.router_core.specs.Works.{Keeps, HasStepped, BeginsSession, SendsAs, Pushes}
+use Rattle.router_core.specs.Works.{BeginsSession, SendsAs}
 use Rattle.router_core.proofs.HeardRows.{heard_of}
 use Rattle.router_core.proofs.HeardSteps.{heard_quiet}
 use Rattle.router_core.proofs.QueueLemmas.{exits_none, no_exit_down}
 use Rattle.router_core.proofs.PeerLemmas.{begun_stands, may_begin, peer_at_map, present_edited}
-use Rattle.event_text.proofs.Sessions.{begun_words}
 
 -- ---- a chain at a number, and at another
 pub key_same : (k : ℕ) → eq_by_cmp nat_cmp k k ≡ true

@@ -1,36 +1,21 @@
 -- What stands after a step of one chain, and what is live then.
-use Rattle.std.proofs.Common.{◌≡◌, ◌≢◌, ℕ, ◌≤◌, true, false, cond, List, Option, Some, None, nat_eq, refl, sym, ap, subst, ◌∙◌, length, arith}
+use Rattle.router_core.proofs.Common.{sym, subst, ◌∙◌, ap, ◌≡◌, ℕ, refl, List, true, arith, false, ◌≤◌, cond, nat_eq, ◌≢◌, FinMap, Network, prefix_cmp, Speaker, peer_at, Declaration, DeclaredPeer, Exited, resolver_at, Resolvers, Chained, with_row, LiveState, present, put_each, chain_at, Chains, put_chain, routes_of, rules_of, Rule, Registry, AgreesWith, Interior, Treed, IsTree, live_state, Moment, with_exits, with_chains, with_tree, with_hops, Stands, StandsAt, PeerStands, ExitsStand, HopsStand, MaySettle}
+use Rattle.std.proofs.Common.{Option, Some, None, length}
 use Rattle.std.specs.Prelude.{IsSome, is_some}
 use Rattle.std.specs.FinMap as tables
-use Rattle.std.specs.FinMap.{FinMap}
-use Rattle.bgp_attr.specs.declared.speaker.Speaker.{Speaker}
-use Rattle.event_text.specs.declared.declared.DeclaredPeer.{DeclaredPeer}
-use Rattle.event_text.specs.Declarations.{Declaration, peer_at}
-use Rattle.policy_rules.specs.declared.rule.Rule.{Rule}
-use Rattle.pass_core.specs.Passed.{present}
-use Rattle.in_chain.specs.Chains.{Chained}
 use Rattle.loss_chain.proofs.TableLemmas.{equal_by}
 use Rattle.link_region.proofs.RegionLemmas.{by_bool}
-use Rattle.peer_side.specs.Peers.{Chains, chain_at, put_chain, routes_of, rules_of, IsPeers, IsPeersBut}
-use Rattle.peer_side.proofs.PutLemmas.{at_put, put_kept, put_seen, put_each, put_size}
+use Rattle.peer_side.specs.Peers.{IsPeers, IsPeersBut}
+use Rattle.peer_side.proofs.PutLemmas.{at_put, put_kept, put_seen, put_size}
 use Rattle.live_state.proofs.AdmittedLemmas.{rules_same, routes_same}
-use Rattle.exit_side.specs.Exits.{Exited}
-use Rattle.router_core.specs.Moments.{Moment, with_chains, with_hops, with_exits, with_tree}
-use Rattle.live_state.specs.Lives.{LiveState, Routes, with_routes, with_rules}
-use Rattle.router_core.specs.Lives.{live_state}
-use Rattle.rib_tree.specs.Trees.{IsTree, Treed}
-use Rattle.rib_route.specs.declared.rows.Interior.{Interior}
-use Rattle.register_interest.specs.Registers.{Registry, put_row}
-use Rattle.link_change.specs.Rows.{with_row}
+use Rattle.live_state.specs.Lives.{Routes, with_routes, with_rules}
+use Rattle.register_interest.specs.Registers.{put_row}
 use Rattle.link_change.proofs.RowLemmas.{rows_inserted, rows_removed}
 use Rattle.nexthop_resolver.specs.Registered.{KeepsOthers as OthersKept}
-use Rattle.rib_exit.specs.Exits.{AgreesWith}
 use Rattle.rib_exit.proofs.LawLemmas.{strangers_agree}
-use Rattle.hop_side.specs.Resolvers.{Resolvers, resolver_at}
-use Rattle.addr4.specs.Prefixes.{Network, prefix_cmp}
-use Rattle.router_core.specs.Stands.{PeerStands, StandsAt, TreeStands, Stands, HopsStand, ExitsStand}
+use Rattle.router_core.specs.Stands.{TreeStands}
 use Rattle.peer_side.proofs.WeldLemmas.{fallen_at}
-use Rattle.router_core.specs.Works.{MaySettle, MayFollow}
+use Rattle.router_core.specs.Works.{MayFollow}
 
 -- the moment with this declared, and these chains
 abbrev pub remade : Moment → Declaration → Chains → Moment

@@ -1,37 +1,18 @@
 -- What each event comes to.
-use Rattle.std.proofs.Common.{◌≡◌, ℕ, ◌<◌, ◌^◌, Bool, true, false, cond, List, [], ◌∷◌, ◌++◌, Option, Some, Result, refl, sym, ap, subst, ◌∙◌}
+use Rattle.router_core.proofs.Common.{sym, subst, ◌∙◌, ap, ◌≡◌, ℕ, refl, List, true, false, Bool, ◌++◌, cond, ◌<◌, Network, Attrs, Message, Update, peer_at, DeclaredPeer, Event, Down, Bgp, Cover, Settled, Work, Journaled, flushed, with_lines, Line, Task, Rows, LiveState, changes_of, Says, width, Interior, ByPeer, EndsIf, HearsIf, first_held, FirstHeldTells, live_state, Moment, Gives, bound_of, Tells, Stands, AllHaveExits, Pushes, HasStepped, Keeps, HaveFed}
+use Rattle.std.proofs.Common.{◌^◌, [], ◌∷◌, Option, Some, Result}
 use Rattle.std.specs.Result.{IfOk}
 use Rattle.bgp_wire.specs.declared.notice.Notice.{Notice}
-use Rattle.bgp_attr.specs.declared.attrs.Attrs.{Attrs}
-use Rattle.bgp_wire.specs.declared.message.Update.{Update}
-use Rattle.bgp_wire.specs.declared.message.Message.{Message}
 use Rattle.bgp_wire.specs.declared.message.Message.TheVariants as messages
 use Rattle.bgp_wire.specs.Spelling.{notification_octets}
-use Rattle.journal_text.specs.declared.link.Task.{Task}
-use Rattle.journal_text.specs.declared.line.Line.{Line}
 use Rattle.journal_text.specs.declared.line.Line.TheVariants as lines
-use Rattle.journal_text.specs.Journals.{Journaled, with_lines, flushed}
-use Rattle.event_text.specs.declared.event.Event.TheVariants.{Down, Bgp, Cover, Settled, Idle, Work}
-use Rattle.event_text.specs.declared.event.Event.{Event}
-use Rattle.event_text.specs.declared.declared.DeclaredPeer.{DeclaredPeer}
-use Rattle.event_text.specs.Declarations.{peer_at}
+use Rattle.event_text.specs.declared.event.Event.TheVariants.{Idle}
 use Rattle.std.specs.FinMap as tables
-use Rattle.addr4.specs.Prefixes.{Network}
-use Rattle.link_change.specs.Rows.{Rows}
-use Rattle.rib_route.specs.declared.rows.Interior.{Interior}
-use Rattle.prefix_trie.specs.Width.{width}
 use Rattle.register_interest.specs.Covers.{matched, IsCover}
-use Rattle.router_core.specs.Moments.{Moment, bound_of, Gives}
 use Rattle.router_core.specs.declared.router.Idle.{Idle as Answer}
-use Rattle.live_state.specs.Messages.{Says, changes_of}
-use Rattle.live_state.specs.Lives.{LiveState, heard, ended, ended_if_up, HearsIfUp, HearsFrom}
-use Rattle.router_core.specs.Lives.{live_state}
-use Rattle.router_core.specs.Stands.{Stands, AllHaveExits}
-use Rattle.router_core.specs.Holding.{first_held}
-use Rattle.router_core.specs.Scratch.{Tells}
-use Rattle.router_core.specs.Laws.{FirstHeldTells}
-use Rattle.router_core.specs.Blocks.{AreMessageOctets, EndsIf, Hears, HearsIf, ByPeer}
-use Rattle.router_core.specs.Works.{Pushes, Keeps, AreTurns, AllHaveDrained, HasLost, HasHeard, HasIdled, HasStepped, HaveFed}
+use Rattle.live_state.specs.Lives.{heard, ended, ended_if_up, HearsIfUp, HearsFrom}
+use Rattle.router_core.specs.Blocks.{AreMessageOctets, Hears}
+use Rattle.router_core.specs.Works.{AreTurns, AllHaveDrained, HasLost, HasHeard, HasIdled}
 use Rattle.router_core.proofs.KeepLemmas.{keeps_none, keeps_said, keeps_join, keeps_on, gives_push, push_gives, gives_none, gives_so, gives_pushed, steps_pushed, ignores}
 use Rattle.router_core.proofs.TurnLaws.{turns_work}
 

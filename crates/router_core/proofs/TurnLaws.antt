@@ -1,16 +1,9 @@
 -- What turns do, from the relation alone: one of each task, and so many of a task, or of the tasks of a phase.
-use Rattle.std.proofs.Common.{ℕ, zero, suc, ◌+◌, List, [], ◌++◌, subst, arith}
-use Rattle.journal_text.specs.declared.link.Task.{Task}
+use Rattle.router_core.proofs.Common.{subst, ℕ, List, arith, ◌+◌, ◌++◌, suc, zero, Journaled, Line, Task, RunsFirst, live_state, Moment, Stands, phase_of, Turns, IsTurn, RunsPhase, Runs, Keeps, TakesTurn, IsWork, Done, Taken, Phase}
+use Rattle.std.proofs.Common.{[]}
 use Rattle.journal_text.specs.declared.link.Task.TheVariants as tasks
-use Rattle.journal_text.specs.declared.line.Line.{Line}
-use Rattle.journal_text.specs.Journals.{Journaled}
-use Rattle.router_core.specs.declared.router.Done.{Done}
-use Rattle.router_core.specs.declared.router.Done.TheVariants.{Nothing, Taken}
-use Rattle.router_core.specs.declared.router.Phase.{Phase}
-use Rattle.router_core.specs.Moments.{Moment}
-use Rattle.router_core.specs.Stands.{Stands}
-use Rattle.router_core.specs.Turns.{IsTurn, Turns, Runs, RunsPhase, phase_of}
-use Rattle.router_core.specs.Works.{IsWork, TakesTurn, Comes, Keeps}
+use Rattle.router_core.specs.declared.router.Done.TheVariants.{Nothing}
+use Rattle.router_core.specs.Works.{Comes}
 use Rattle.router_core.proofs.WorkLemmas.{work_as, work_none, work_join}
 use Rattle.router_core.proofs.NextLemmas.{next_works}
 use Rattle.router_core.proofs.PeerTurns.{peer_works}
@@ -19,8 +12,6 @@ use Rattle.router_core.proofs.ExitTurns.{read_works, exit_works}
 use Rattle.router_core.proofs.RouteTurns.{route_works}
 use Rattle.router_core.proofs.OwnTurns.{own_works}
 use Rattle.router_core.proofs.ExternalTurns.{external_works}
-use Rattle.router_core.specs.Lives.{live_state}
-use Rattle.router_core.specs.Blocks.{RunsFirst}
 use Rattle.router_core.proofs.KeepLemmas.{keeps_as, keeps_none}
 use Rattle.std.specs.Prelude.{Option, Some, None}
 

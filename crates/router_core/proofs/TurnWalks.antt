@@ -1,29 +1,11 @@
 -- What each turn keeps, many turns keep: of a task, of a phase, and of all phases. So the same peers have exits.
-use Rattle.std.proofs.Common.{◌≡◌, ℕ, zero, suc, nat_eq, List, [], ◌∷◌, ◌++◌, Option, Some, None, is_some, sym, ap, subst, ◌∙◌}
+use Rattle.router_core.proofs.Common.{sym, subst, ◌∙◌, ap, ◌≡◌, ℕ, List, ◌++◌, suc, zero, nat_eq, Network, Attrs, peer_at, Declaration, Exited, OutChains, with_exit, Entry, Line, Link, Task, Value, Rows, Change, Proto, Interior, int_rows, Treed, RunsFirst, Moment, with_tree, Stands, AllHaveExits, Turns, IsTurn, BelowInt, FallsRoute, RunsPhase, Runs, IsPeerTurn, RunsAll, FeedsAll, HaveSameExits, Phase}
+use Rattle.std.proofs.Common.{[], ◌∷◌, Option, Some, None, is_some}
 use Rattle.std.specs.FinMap as tables
-use Rattle.addr4.specs.Prefixes.{Network}
-use Rattle.bgp_attr.specs.declared.attrs.Attrs.{Attrs}
-use Rattle.journal_text.specs.declared.link.Task.{Task}
 use Rattle.journal_text.specs.declared.link.Task.TheVariants.{Del, Fin, Nh, ReadRib, Out, Rdel, Red, Ext}
-use Rattle.journal_text.specs.declared.line.Line.{Line}
-use Rattle.journal_text.specs.declared.entry.Entry.{Entry}
-use Rattle.journal_text.specs.declared.value.Value.{Value}
-use Rattle.link_change.specs.Rows.{Rows}
-use Rattle.link_change.specs.declared.change.Change.{Change}
-use Rattle.rib_route.specs.declared.rows.Interior.{Interior}
 use Rattle.link_region.proofs.RegionLemmas.{by_bool}
 use Rattle.loss_chain.proofs.TableLemmas.{equal_by}
-use Rattle.event_text.specs.Declarations.{Declaration, peer_at}
-use Rattle.exit_side.specs.Exits.{Exited, OutChains, chain_at as exit_at, with_exit}
-use Rattle.router_core.specs.declared.router.Phase.{Phase}
-use Rattle.router_core.specs.Moments.{Moment, with_tree}
-use Rattle.rib_route.specs.declared.Proto.{Proto}
-use Rattle.rib_tree.specs.Trees.{Treed, int_rows}
-use Rattle.journal_text.specs.declared.link.Link.{Link}
-use Rattle.router_core.specs.Turns.{BelowInt, FallsRoute, IsPeerTurn, IsTurn, Turns, Runs, RunsPhase, RunsAll, FeedsAll}
-use Rattle.router_core.specs.Blocks.{RunsFirst}
-use Rattle.router_core.specs.Stands.{AllHaveExits, Stands}
-use Rattle.router_core.specs.Works.{HaveSameExits}
+use Rattle.exit_side.specs.Exits.{chain_at as exit_at}
 use Rattle.router_core.proofs.QueueLemmas.{queue_chains}
 use Rattle.router_core.proofs.SessionLemmas.{exit_here, exit_elsewhere}
 use Rattle.router_core.proofs.TurnLaws.{turn_works, runs_work, phase_works}

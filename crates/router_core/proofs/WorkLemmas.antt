@@ -1,16 +1,9 @@
 -- Background work: of one turn by its parts, of none, and of work behind work.
-use Rattle.std.proofs.Common.{◌≡◌, ℕ, ◌+◌, ◌≤◌, List, [], ◌∷◌, ◌++◌, refl, sym, subst, arith}
-use Rattle.std.specs.List.{AllByRecursion}
-use Rattle.journal_text.specs.declared.line.Line.{Line}
-use Rattle.hop_side.specs.Resolvers.{known_in}
+use Rattle.router_core.proofs.Common.{sym, subst, ◌≡◌, ℕ, refl, List, arith, ◌+◌, ◌++◌, ◌≤◌, AllByRecursion, known_in, Line, live_state, Moment, counts, earlier, Stands, Keeps, IsWork, AddsNoRows, Phase}
+use Rattle.std.proofs.Common.{[], ◌∷◌}
 use Rattle.rib_exit.specs.Exits.{known_in as external_known}
-use Rattle.router_core.specs.declared.router.Phase.{Phase}
 use Rattle.router_core.specs.declared.router.Phase.TheVariants.{Del, Fin, ReadRib}
-use Rattle.router_core.specs.Moments.{Moment}
-use Rattle.router_core.specs.Lives.{live_state}
-use Rattle.router_core.specs.Stands.{Stands}
-use Rattle.router_core.specs.Phases.{counts, earlier}
-use Rattle.router_core.specs.Works.{Keeps, AddsNoRows, KnowsNoMore, MakesNoneStale, IsWork}
+use Rattle.router_core.specs.Works.{KnowsNoMore, MakesNoneStale}
 use Rattle.router_core.proofs.KeepLemmas.{keeps_none, keeps_on}
 use Rattle.router_core.proofs.SpendLemmas.{Spent, same_rows}
 use Rattle.router_core.proofs.StaleLemmas.{none_as_before, makes_none, stale_then}

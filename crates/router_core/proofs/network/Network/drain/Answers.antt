@@ -1,4 +1,4 @@
-use Rattle.std.proofs.Common.{ℕ, sym, subst}
+use Rattle.router_core.proofs.Common.{sym, subst, ℕ}
 use Rattle.router_core.proofs.RunLemmas.{HaveGivenOf, phase_none, phase_more, phase_stands, phase_less, phase_done}
 use Rattle.router_core.proofs.network.Network.drain.Goals as goal
 

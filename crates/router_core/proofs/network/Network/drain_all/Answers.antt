@@ -1,8 +1,5 @@
-use Rattle.std.proofs.Common.{ℕ, List, get_or, sym, subst, ◌+◌}
-use Rattle.router_core.specs.declared.router.Phase.{Phase}
+use Rattle.router_core.proofs.Common.{sym, subst, ℕ, List, ◌+◌, get_or, Gives, RunsOut, Phase}
 use Rattle.router_core.specs.declared.router.Phase.TheVariants.{Rdel}
-use Rattle.router_core.specs.Moments.{Gives}
-use Rattle.router_core.specs.Works.{RunsOut}
 use Rattle.router_core.proofs.RunLemmas.{Idling, idling_none, idling_more, idling_done}
 use Rattle.router_core.proofs.network.Network.drain_all.Goals as goal
 

@@ -1,6 +1,4 @@
-use Rattle.std.proofs.Common.{ℕ, sym, subst}
-use Rattle.router_core.specs.declared.router.Done.{Done}
-use Rattle.router_core.specs.Works.{TakesTurn}
+use Rattle.router_core.proofs.Common.{sym, subst, ℕ, TakesTurn, Done}
 use Rattle.router_core.proofs.RunLemmas.{HaveGiven, given_none, given_more, given_stands, turn_less}
 use Rattle.router_core.proofs.network.Network.drain_task.Goals as goal
 

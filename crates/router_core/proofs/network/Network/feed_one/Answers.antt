@@ -1,4 +1,4 @@
-use Rattle.std.proofs.lemmas.Result.{on_ok_weaker}
+use Rattle.router_core.proofs.Common.{on_ok_weaker}
 use Rattle.router_core.proofs.StandLemmas.{chain_is_there, peers_sound}
 use Rattle.router_core.proofs.FeedLemmas.{one_fed, fed_settles}
 use Rattle.router_core.proofs.network.Network.feed_one.Goals as goal

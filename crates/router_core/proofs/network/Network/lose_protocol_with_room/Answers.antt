@@ -1,10 +1,7 @@
-use Rattle.router_core.specs.Stands.{Stands}
-use Rattle.rib_tree.specs.Trees.{IsTree, IsFull}
-use Rattle.std.proofs.Common.{◌≡◌, None, IsSome, subst, sym}
-use Rattle.rib_tree.specs.Steps.{tree_overdue}
-use Rattle.router_core.specs.Moments.{Moment, with_tree}
+use Rattle.router_core.proofs.Common.{sym, subst, ◌≡◌, tree_overdue, IsTree, IsFull, Moment, with_tree, Stands, Pushes}
+use Rattle.std.proofs.Common.{None, IsSome}
 use Rattle.router_core.specs.contracts.network.Network.{the_view}
-use Rattle.router_core.specs.Works.{Pushes, EndsProtocol}
+use Rattle.router_core.specs.Works.{EndsProtocol}
 use Rattle.router_core.proofs.ProtocolLosses.{protocol_ended}
 use Rattle.router_core.proofs.network.Network.lose_protocol_with_room.Goals as goal
 

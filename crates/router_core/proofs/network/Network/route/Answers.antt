@@ -1,11 +1,6 @@
-use Rattle.std.proofs.lemmas.Result.{on_ok_weaker}
-use Rattle.rib_tree.specs.Trees.{IsTree, IsFull}
-use Rattle.std.proofs.Common.{◌≡◌, Option, IsSome, subst, sym}
-use Rattle.rib_route.specs.declared.rows.Interior.{Interior}
-use Rattle.rib_tree.specs.Falls.{way_of_route}
-use Rattle.rib_tree.specs.Steps.{fed_tree}
-use Rattle.router_core.specs.Moments.{Moment}
-use Rattle.router_core.specs.Works.{Pushes, SetsRoute}
+use Rattle.router_core.proofs.Common.{sym, subst, ◌≡◌, on_ok_weaker, Interior, way_of_route, fed_tree, IsTree, IsFull, Moment, Pushes}
+use Rattle.std.proofs.Common.{Option, IsSome}
+use Rattle.router_core.specs.Works.{SetsRoute}
 use Rattle.router_core.proofs.StandLemmas.{may_follow}
 use Rattle.router_core.proofs.RouteLemmas.{route_fell}
 use Rattle.router_core.proofs.network.Network.route.Goals as goal

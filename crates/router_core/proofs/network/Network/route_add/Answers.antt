@@ -1,5 +1,4 @@
-use Rattle.live_state.proofs.AdmittedLemmas.{speaker_since}
-use Rattle.event_text.specs.declared.event.Event.TheVariants.{RouteAdd}
+use Rattle.router_core.proofs.Common.{RouteAdd, speaker_since}
 use Rattle.router_core.proofs.RouteSteps.{route_added}
 use Rattle.router_core.proofs.network.Network.route_add.Goals as goal
 

@@ -1,9 +1,6 @@
-use Rattle.std.proofs.Common.{◌≡◌, ◌∙◌, true, false, is_some, sym, ap}
+use Rattle.router_core.proofs.Common.{sym, ◌∙◌, ap, ◌≡◌, true, false, RouteDel, speaker_since, branch_of, Moment}
+use Rattle.std.proofs.Common.{is_some}
 use Rattle.std.specs.FinMap as tables
-use Rattle.rib_tree.specs.Trees.{branch_of}
-use Rattle.router_core.specs.Moments.{Moment}
-use Rattle.live_state.proofs.AdmittedLemmas.{speaker_since}
-use Rattle.event_text.specs.declared.event.Event.TheVariants.{RouteDel}
 use Rattle.router_core.proofs.RouteSteps.{route_dropped, nothing_dropped}
 use Rattle.router_core.proofs.network.Network.route_del.Goals as goal
 

@@ -1,4 +1,4 @@
-use Rattle.std.proofs.Common.{refl}
+use Rattle.router_core.proofs.Common.{refl}
 use Rattle.router_core.proofs.ExternalTurns.{rib_sound, rib_agrees, external_took}
 use Rattle.router_core.proofs.network.Network.turn_external.Goals as goal
 

@@ -1,5 +1,4 @@
-use Rattle.std.proofs.Common.{◌∙◌, refl, sym, ap}
-use Rattle.std.specs.Option.{option_copied}
+use Rattle.router_core.proofs.Common.{sym, ◌∙◌, ap, refl, option_copied}
 use Rattle.router_core.proofs.HopTurns.{hops_sound, hops_agree, exits_sound, hop_took, hop_small, no_hops}
 use Rattle.router_core.proofs.network.Network.turn_hops.Goals as goal
 

@@ -1,4 +1,4 @@
-use Rattle.std.proofs.Common.{refl, sym, ◌∙◌}
+use Rattle.router_core.proofs.Common.{sym, ◌∙◌, refl}
 use Rattle.router_core.proofs.HopTurns.{exits_sound}
 use Rattle.router_core.proofs.OwnTurns.{none_own, own_took}
 use Rattle.router_core.proofs.network.Network.turn_own.Goals as goal

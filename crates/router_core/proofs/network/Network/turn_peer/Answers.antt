@@ -1,6 +1,4 @@
-use Rattle.std.proofs.Common.{ℕ, sym, subst}
-use Rattle.router_core.specs.Moments.{with_chains}
-use Rattle.router_core.specs.Works.{MaySettle}
+use Rattle.router_core.proofs.Common.{sym, subst, ℕ, with_chains, MaySettle}
 use Rattle.router_core.specs.contracts.network.Network.{the_view}
 use Rattle.router_core.proofs.StandLemmas.{peers_sound}
 use Rattle.router_core.proofs.PeerTurns.{peer_took, peer_settles, settled_same}

@@ -1,8 +1,6 @@
-use Rattle.rib_tree.specs.Trees.{IsTree, IsFull}
-use Rattle.std.proofs.Common.{IfOk, sym, subst}
+use Rattle.router_core.proofs.Common.{sym, subst, IsTree, IsFull, Moment, TakesTurn}
+use Rattle.std.proofs.Common.{IfOk}
 use Rattle.journal_text.specs.declared.link.Task.TheVariants as tasks
-use Rattle.router_core.specs.Works.{TakesTurn}
-use Rattle.router_core.specs.Moments.{Moment}
 use Rattle.router_core.specs.contracts.network.Network.{the_view}
 use Rattle.router_core.proofs.StandLemmas.{may_follow}
 use Rattle.router_core.proofs.RouteTurns.{quiet_since, sent_since, route_quiet, route_sent}

@@ -1,6 +1,4 @@
-use Rattle.std.proofs.Common.{subst}
-use Rattle.router_core.specs.declared.router.Done.{Done}
-use Rattle.router_core.specs.Works.{TakesTurn}
+use Rattle.router_core.proofs.Common.{subst, TakesTurn, Done}
 use Rattle.router_core.proofs.RunLemmas.{given_more, given_stands}
 use Rattle.router_core.proofs.network.Network.turns.Goals as goal
 

@@ -1,5 +1,4 @@
-use Rattle.std.proofs.Common.{subst}
-use Rattle.router_core.specs.Moments.{Gives}
+use Rattle.router_core.proofs.Common.{subst, Gives}
 use Rattle.router_core.specs.Works.{AreTurns}
 use Rattle.router_core.proofs.StepLemmas.{worked}
 use Rattle.router_core.proofs.network.Network.work.Goals as goal
