@@ -26,7 +26,6 @@ use Rattle.exit_laws.specs.Laws.{HearingJoins, HearingStays, HeardIsSent}
 use Rattle.router_core.specs.Moments.{Moment, Policies, first_moment, best_of as best_now, router_links, rules_to}
 use Rattle.router_core.specs.Peers.{is_up}
 use Rattle.router_core.specs.Stands.{Stands, ExitsAt, AllHaveExits}
-use Rattle.router_core.specs.Stands.Claim.{EachExit, SameSessions}
 use Rattle.router_core.specs.Lives.{live_state}
 use Rattle.router_core.specs.Scratch.{IsExact}
 use Rattle.replay.specs.Heard.{AreHeard, AreSent, AreBest}
@@ -53,7 +52,7 @@ exit_of (Some me) policies j (Some p) c is = (p, refl, is.up, is.session)
 
 module _ (law : HeardIsSent) (m : Moment) (stands : Stands m) (all : AllHaveExits m) where
   of_exit : (j : ℕ) (c : OutChained) → exit_at j m.exits ≡ Some c → (p : DeclaredPeer) × (peer_at j m.declared.peers ≡ Some p) × (p.up ≡ true) × (c.session ≡ p.session)
-  of_exit j c at = exit_of m.declared.speaker m.outgoing j (peer_at j m.declared.peers) c (subst (ExitsAt m.declared.speaker m.outgoing j (peer_at j m.declared.peers)) at (stands.own SameSessions j))
+  of_exit j c at = exit_of m.declared.speaker m.outgoing j (peer_at j m.declared.peers) c (subst (ExitsAt m.declared.speaker m.outgoing j (peer_at j m.declared.peers)) at (stands.exits.sessions j))
 
   there_is : (o : Option OutChained) → IsSome o → (c : OutChained) × (o ≡ Some c)
   there_is None is = absurd (let clash : false ≡ true = is in cc)
@@ -66,7 +65,7 @@ module _ (law : HeardIsSent) (m : Moment) (stands : Stands m) (all : AllHaveExit
       let same : own.0 ≡ p = (let e : Some own.0 ≡ Some p = sym own.1 ∙ there in cc) in
       let session : chain.0.session ≡ p.session = own.3 ∙ ap (λ (q : DeclaredPeer). q.session) same in
       subst (λ (s : ℕ). router_links m (Adv j s) ≡ Some (attrs_rows (tables.get (views_of m.exits j)))) session
-      (law m.exits (best_now m) j chain.0 (stands.own EachExit) chain.1)
+      (law m.exits (best_now m) j chain.0 stands.exits.each chain.1)
 
   sent_down : (j : ℕ) → is_up (peer_at j m.declared.peers) ≡ false → views_of m.exits j ≡ tables.empty
   sent_down j down = by_chain (exit_at j m.exits) refl

@@ -1,16 +1,9 @@
 -- What stands before `local`: no peer, no chain, no exit, and nobody reads.
-use Rattle.std.proofs.Common.{◌≡◌, ℕ, Option, Some, None, refl, sym, ap, subst, ◌∙◌}
-use Rattle.bgp_attr.specs.declared.speaker.Speaker.{Speaker}
-use Rattle.bgp_attr.specs.declared.route.Route.{Route}
-use Rattle.link_change.specs.Rows.{Rows, no_rows}
+use Rattle.router_core.proofs.Common.{sym, subst, ◌∙◌, ap, ◌≡◌, ℕ, refl, Speaker, peer_at, Declaration, refusal_at, DeclaredPeer, Chained, no_rows, chain_at, Moment, best_of, read_rows_by, read_of, Stands, ExitsAt, StandsAt, ReadsOn}
+use Rattle.std.proofs.Common.{Option, Some, None}
 use Rattle.event_text.specs.declared.event.Event.TheVariants as events
-use Rattle.event_text.specs.declared.declared.DeclaredPeer.{DeclaredPeer}
-use Rattle.event_text.specs.Declarations.{Declaration, peer_at, refusal, refusal_at}
-use Rattle.in_chain.specs.Chains.{Chained}
-use Rattle.peer_side.specs.Peers.{chain_at}
+use Rattle.event_text.specs.Declarations.{refusal}
 use Rattle.exit_side.specs.Exits.{chain_at as exit_at}
-use Rattle.router_core.specs.Moments.{Moment, best_of, read_rows_by, read_of}
-use Rattle.router_core.specs.Stands.{Stands, StandsAt, ExitsAt, ReadsOn, EachPeer, OneSpeaker, SameSessions, OneReader}
 use Rattle.router_core.proofs.QueueLemmas.{none_before}
 
 pub local_first : (d : Declaration) (words : Speaker) → refusal d (events.Local words) ≡ None → d.speaker ≡ None
@@ -28,20 +21,20 @@ module _ (m : Moment) (stands : Stands m) (first : m.declared.speaker ≡ None) 
     where
       by_chain : (o : Option Chained) → chain_at k m.chains ≡ o → chain_at k m.chains ≡ None
       by_chain None at = at
-      by_chain (Some c) at = absurd (let there = stands.own OneSpeaker k c at in let clash : None ≡ Some c.me = sym first ∙ there in cc)
+      by_chain (Some c) at = absurd (let there = stands.peers.speaker k c at in let clash : None ≡ Some c.me = sym first ∙ there in cc)
 
   pub no_peer : (k : ℕ) → peer_at k m.declared.peers ≡ None
-  no_peer k = by_peer (peer_at k m.declared.peers) (subst (StandsAt (peer_at k m.declared.peers)) (no_chain k) (stands.own EachPeer k))
+  no_peer k = by_peer (peer_at k m.declared.peers) (subst (StandsAt (peer_at k m.declared.peers)) (no_chain k) (stands.peers.each k))
     where
       by_peer : (o : Option DeclaredPeer) → StandsAt o None → o ≡ None
       by_peer None is = refl
       by_peer (Some p) is = absurd is
 
   pub no_exit : (k : ℕ) → exit_at k m.exits ≡ None
-  no_exit k = none_before m.outgoing k (peer_at k m.declared.peers) (exit_at k m.exits) (subst (λ (s : Option Speaker). ExitsAt s m.outgoing k (peer_at k m.declared.peers) (exit_at k m.exits)) first (stands.own SameSessions k))
+  no_exit k = none_before m.outgoing k (peer_at k m.declared.peers) (exit_at k m.exits) (subst (λ (s : Option Speaker). ExitsAt s m.outgoing k (peer_at k m.declared.peers) (exit_at k m.exits)) first (stands.exits.sessions k))
 
   pub no_reader : m.reader ≡ None
-  no_reader = by_reader m.declared.speaker m.reader first (stands.own OneReader)
+  no_reader = by_reader m.declared.speaker m.reader first stands.exits.one
     where
       by_reader : (s : Option Speaker) (o : Option ℕ) → s ≡ None → ReadsOn s o m.exits → o ≡ None
       by_reader None None is on = refl

@@ -1,39 +1,13 @@
 -- What follows a change of `res.K`: what is decided, and what its entries lead to.
-use Rattle.std.proofs.Common.{◌≡◌, ℕ, zero, suc, ◌<◌, ◌≤◌, nat_eq, nat_lt, true, cond, List, [], Option, Some, None, refl, sym, ap, subst, ◌∙◌, arith}
-use Rattle.std.proofs.lemmas.Bool.Decides.{nat_tests}
-use Rattle.addr4.specs.Prefixes.{Network}
-use Rattle.bgp_attr.specs.declared.route.Route.{Route}
-use Rattle.bgp_attr.specs.declared.speaker.Speaker.{Speaker}
-use Rattle.link_change.specs.Rows.{Rows, no_rows}
-use Rattle.link_change.specs.Changes.{IsSent}
-use Rattle.link_change.specs.declared.change.Change.{Change}
-use Rattle.journal_text.specs.declared.link.Link.{Link}
-use Rattle.journal_text.specs.declared.link.Link.TheVariants.{Best}
-use Rattle.journal_text.specs.declared.value.Value.{Value}
-use Rattle.journal_text.specs.Values.{route_value, route_rows}
-use Rattle.journal_text.specs.Journals.{Journaled, with_entries, Adds}
-use Rattle.journal_text.specs.Walk.{Links, with_link, Leads}
+use Rattle.router_core.proofs.Common.{sym, subst, ◌∙◌, ap, ◌≡◌, ℕ, refl, List, true, arith, ◌≤◌, cond, ◌<◌, suc, zero, nat_eq, nat_lt, nat_tests, itself, Network, Route, Speaker, best_is_a_branchs, best_rows, Declaration, Exited, resolver_at, Resolvers, rows_by, PeerRows, ComesOn, leads_sent, Journaled, Adds, with_entries, route_value, route_rows, Leads, Links, with_link, Entry, Link, Best, Value, IsSent, Rows, no_rows, Change, joined, with_side, LeadsIn, Decided, same_by, Passed, chain_at, Chains, filt_at, filt_by, Protos, int_rows, Treed, int_candidates, own_rows, all_at, best_at, best_links, best_entries, Queues, lent_rows, resolved_at, Moment, best_of, own_of, with_exits, candidates_of, Decides}
+use Rattle.std.proofs.Common.{[], Option, Some, None}
 use Rattle.journal_text.proofs.JournalLemmas.{with_entries_none}
-use Rattle.journal_text.proofs.WalkLemmas.{leads_sent}
-use Rattle.link_region.specs.declared.regions.Region.TheVariants.{Decided}
-use Rattle.link_region.specs.Regions.{joined, with_side, LeadsIn}
 use Rattle.link_region.proofs.RegionLemmas.{by_bool}
-use Rattle.loss_chain.proofs.TableLemmas.{equal_by, same_by, other_by}
-use Rattle.decision.specs.Branches.{AllRows, best_rows, best_candidates, Decides as DecidesOver}
-use Rattle.decision.proofs.LawLemmas.{best_is_a_branchs, best_is_of_its_prefix}
-use Rattle.hop_side.specs.Resolvers.{Resolvers, PeerRows, resolver_at, rows_by}
-use Rattle.hop_side.specs.Steps.{ComesOn}
-use Rattle.peer_side.specs.Peers.{Chains, chain_at, filt_by, filt_at}
-use Rattle.addr4.proofs.PrefixOrder.{itself}
-use Rattle.event_text.specs.Declarations.{Declaration}
-use Rattle.exit_side.specs.Exits.{Exited}
-use Rattle.pass_core.specs.Passed.{Passed}
-use Rattle.redist.specs.declared.protos.Protos.{Protos}
-use Rattle.rib_tree.specs.Trees.{Treed, int_rows, int_candidates}
-use Rattle.journal_text.specs.declared.entry.Entry.{Entry}
-use Rattle.router_core.specs.Bests.{resolved_at, all_at, best_at, best_links, best_entries, own_rows, lent_rows, lent_candidates, DecidesOn, Queues}
-use Rattle.router_core.specs.Moments.{Moment, own_of, best_of, candidates_of, with_exits}
-use Rattle.router_core.specs.Works.{Decides, JoinsQueue}
+use Rattle.loss_chain.proofs.TableLemmas.{equal_by, other_by}
+use Rattle.decision.specs.Branches.{AllRows, best_candidates, Decides as DecidesOver}
+use Rattle.decision.proofs.LawLemmas.{best_is_of_its_prefix}
+use Rattle.router_core.specs.Bests.{lent_candidates, DecidesOn}
+use Rattle.router_core.specs.Works.{JoinsQueue}
 
 -- ---- the branches that there may be
 same_best : (rows other : AllRows) → ((b : ℕ) → b < 65 → rows b ≡ other b) → best_rows rows ≡ best_rows other

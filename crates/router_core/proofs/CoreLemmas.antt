@@ -1,66 +1,40 @@
 -- What holds of a core after each of its calls.
-use Rattle.std.proofs.Common.{◌≡◌, ℕ, ◌+◌, ◌<◌, ◌≤◌, Bool, true, false, List, length, Option, Some, None, is_some, refl, sym, ap, subst, ◌∙◌, arith}
-use Rattle.std.specs.FinMap.{get-empty, len-empty}
-use Rattle.std.specs.Ordering.{nat_cmp}
-use Rattle.in_chain.specs.Chains.{Chained}
-use Rattle.peer_side.specs.Peers.{chain_at}
-use Rattle.journal_text.specs.declared.line.Line.{Line}
-use Rattle.journal_text.specs.Journals.{Journaled}
-use Rattle.event_text.specs.declared.event.Event.{Event}
-use Rattle.event_text.specs.Declarations.{Declaration, IsDeclaration, plain, peer_at, refusal}
-use Rattle.event_text.specs.declared.declared.DeclaredPeer.{DeclaredPeer}
-use Rattle.event_text.specs.WellFormed.{IsWellFormed}
+use Rattle.router_core.proofs.Common.{sym, subst, ◌∙◌, ap, ◌≡◌, ℕ, refl, List, true, arith, false, ◌+◌, Bool, ◌≤◌, ◌<◌, get-empty, nat_cmp, Network, Route, Profile, peer_at, Declaration, IsWellFormed, DeclaredPeer, Event, ArePrintableExits, Chained, neighbours, AreTablesOf, IsInteriorRow, IsPrintableChain, Journaled, Line, Task, Change, declared_after, LiveState, Hop, Resolving, Metric, OutChained, chain_at, Proto, Interior, of_new, branch_of, first_held, FirstHeldTells, RowsAtRestAreExact, live_state, Moment, best_of, Gives, all_phases, ArePrinted, IsPrintableMoment, Tells, Stands, ExitsAt, AllHaveExits, StandsAt, HaveReaders, HasStepped, Keeps, TakesTurn, RunsOut, HaveSameExits, Done, Taken, Phase}
+use Rattle.std.proofs.Common.{length, Option, Some, None, is_some}
+use Rattle.std.specs.FinMap.{len-empty}
+use Rattle.event_text.specs.Declarations.{plain, refusal}
 use Rattle.link_change.proofs.RowLemmas.{empty_rows}
-use Rattle.rib_route.specs.declared.Proto.{Proto}
-use Rattle.rib_route.specs.declared.rows.Interior.{Interior}
-use Rattle.rib_tree.specs.Trees.{branch_of, AreNumbered}
+use Rattle.rib_tree.specs.Trees.{AreNumbered}
 use Rattle.rib_tree.specs.Steps.{new_tree}
 use Rattle.rib_tree.specs.Laws.{ANewTreeStands}
-use Rattle.router_core.specs.Moments.{Moment, Cored, first_moment, best_of, Gives}
-use Rattle.router_core.specs.Laws.{RowsAtRestAreExact, FirstHeldTells}
-use Rattle.router_core.specs.Holding.{first_held}
-use Rattle.router_core.specs.Scratch.{IsExactAtRest, Tells}
-use Rattle.router_core.specs.Stands.{Stands, AllHaveExits, HaveReaders, CoreStands, Claim, Claims, EachChain, EachPeer, InteriorTree, OneSpeaker, Registered, SameCount, EachResolver, SameResolvers, AnswersAgree, HopsCounted, NoStrangers, SmallNumbers, EachRow, EachExit, QueueLeads, ExitsRead, SameProfile, OneSender, SameSessions, OneReader, ExternalExit, ExternalAgrees, ExternalStands, NothingOwn, NothingExternal, StandsAt, ExitsAt, Tie, Ties, here}
+use Rattle.router_core.specs.Moments.{Cored, first_moment}
+use Rattle.router_core.specs.Scratch.{IsExactAtRest}
+use Rattle.router_core.specs.Stands.{CoreStands}
 use Rattle.register_interest.specs.Interests.{interest_cmp}
-use Rattle.nexthop_resolver.specs.Resolving.{Resolving}
-use Rattle.nexthop_resolver.specs.declared.rows.Metric.{Metric}
 use Rattle.router_core.specs.Blocks.{Acts}
-use Rattle.router_core.specs.Works.{Comes, HasStepped, Keeps, HaveSameExits}
-use Rattle.live_state.specs.Declared.{declared_after}
-use Rattle.live_state.specs.Lives.{LiveState}
-use Rattle.router_core.specs.Lives.{live_state}
+use Rattle.router_core.specs.Works.{Comes, HaveDrained, HasIdled}
 use Rattle.live_state.specs.Laws.{DeclarationsFollow}
-use Rattle.journal_laws.specs.Peers.{neighbours, KeepsPeers}
-use Rattle.router_core.specs.Printable.{ArePrinted, IsPrintableMoment}
+use Rattle.journal_laws.specs.Peers.{KeepsPeers}
 use Rattle.router_core.proofs.KeepLemmas.{acts_of}
-use Rattle.router_core.proofs.TurnWalks.{turn_same}
+use Rattle.router_core.proofs.TurnWalks.{turn_same, phase_same, phases_same}
 use Rattle.router_core.proofs.ExitsUp.{event_exits}
 use Rattle.router_core.proofs.ProfileLemmas.{profile_after, profile_follows, nothing_printable}
 use Rattle.router_core.proofs.SessionLemmas.{reads_as}
 use Rattle.live_state.proofs.SessionLemmas.{losses_follow}
-use Rattle.rib_tree.proofs.NewLemmas.{of_new, int_empty}
+use Rattle.rib_tree.proofs.NewLemmas.{int_empty}
 use Rattle.journal_laws.proofs.DeclaredPeers.{Leaves}
 use Rattle.journal_laws.proofs.PrintedPeers.{event_leaves}
-use Rattle.router_core.proofs.PrintedTurns.{Fit, turn_goes}
-use Rattle.router_core.specs.declared.router.Done.{Done}
-use Rattle.router_core.specs.declared.router.Done.TheVariants.{Nothing, Taken}
-use Rattle.journal_text.specs.declared.link.Task.{Task}
-use Rattle.router_core.proofs.PrintedBlocks.{fit_at, event_printed}
+use Rattle.router_core.proofs.PrintedTurns.{Goes, turn_goes, phase_goes, phases_go}
+use Rattle.router_core.specs.declared.router.Done.TheVariants.{Nothing}
+use Rattle.router_core.proofs.PrintedBlocks.{event_printed}
 use Rattle.journal_laws.proofs.PrintedRows.{none_printable}
-use Rattle.journal_laws.specs.Standing.{AreTablesOf, IsInteriorRow}
-use Rattle.addr4.specs.Prefixes.{Network}
-use Rattle.bgp_attr.specs.declared.route.Route.{Route}
-use Rattle.out_chain.specs.Chains.{OutChained}
 use Rattle.exit_side.proofs.LawLemmas.{stands_at_first as exits_at_first}
-use Rattle.exit_laws.specs.Printable.{ArePrintableExits}
-use Rattle.bgp_attr.specs.declared.speaker.Profile.{Profile}
-use Rattle.journal_laws.specs.Standing.{IsPrintableChain}
 use Rattle.exit_laws.proofs.PrintLemmas.{printing_stays}
-use Rattle.link_change.specs.Rows.{Rows}
-use Rattle.nexthop_known.specs.declared.answer.Hop.{Hop}
 use Rattle.nexthop_resolver.specs.declared.rows.Way.{Way}
 use Rattle.rib_exit.proofs.LawLemmas.{stands_at_first as external_at_first}
-use Rattle.link_change.specs.declared.change.Change.{Change}
+use Rattle.router_core.proofs.TurnLaws.{turn_works, turn_comes, phase_works}
+use Rattle.router_core.proofs.RunLemmas.{phase_drained}
+use Rattle.router_core.specs.declared.router.Idle.{Idle}
 
 abbrev pub cored : Moment → ℕ → Cored
 cored m n = record { moment = m; events = n; failed = false }
@@ -96,19 +70,6 @@ step_prints m m' event turns said follow stands printable few admitted formed h 
       peers = d.peers;
     }
 
--- background work declares nothing
-pub work_prints : (m m' : Moment) (most : ℕ) → Stands m → IsPrintableMoment m → AreNumbered most m.tree → live_state m' ≡ live_state m → (Fit m.declared.profile (neighbours m.declared) most m → Fit m.declared.profile (neighbours m.declared) most m') → IsPrintableMoment m'
-work_prints m m' most stands printable few live fits =
-    let x = fits (fit_at m stands printable most few) in
-    record {
-      declared = subst IsDeclaration (sym (ap (λ (l : LiveState). l.declared) live)) printable.declared;
-      chains = subst (λ (d : Declaration). (k : ℕ) (c : Chained) → chain_at k m'.chains ≡ Some c → IsPrintableChain d.profile c) (sym (ap (λ (l : LiveState). l.declared) live)) (λ k c there. (x.chains k c there).0.printable);
-      interior = λ proto. (x.interior proto).printable;
-      hops = x.metrics;
-      ways = x.ways;
-      exits = subst (λ (d : Declaration). ArePrintableExits d.profile (neighbours d) m'.exits) (sym (ap (λ (l : LiveState). l.declared) live)) x.readers.exits;
-    }
-
 -- each row that no work holds up is the one from scratch
 pub exact_after : RowsAtRestAreExact → (m' : Moment) (k : ℕ) → CoreStands (cored m' k) → IsExactAtRest m'
 exact_after law m' k after = law m' after.stands after.exits
@@ -121,7 +82,7 @@ core_tells c m n failed p answer view stands tells is =
 
 -- what lookups ask for
 pub readers_of : (m : Moment) → Stands m → HaveReaders m
-readers_of m stands = record { exits = stands.own EachExit; reader = λ r is. (reads_as m stands r is).live }
+readers_of m stands = record { exits = stands.exits.each; reader = λ r is. (reads_as m stands r is).live }
 
 -- ---- a core by its parts
 module _ (old : Cored) (m : Moment) (n : ℕ) (failed : Bool) (view : record { moment = m; events = n; failed = failed } ≡ old) (off : failed ≡ false) (stands : old.failed ≡ false → CoreStands old) where
@@ -145,7 +106,7 @@ module _ (old : Cored) (m : Moment) (n : ℕ) (failed : Bool) (view : record { m
     core_stepped = record {
       stands = g.2.keeps.stands;
       printable = prints.now;
-      exits = event_exits m m' stood.exits event g.0 turns stood.stands (subst (λ (c : Cored). refusal c.moment.declared event ≡ None) (sym view) admitted) (ap (λ (l : LiveState). l.declared) g.2.keeps.live ∙ follow (live_state m) event g.2.live g.2.after) g.2.block;
+      exits = event_exits m m' stood.stands stood.exits event g.0 turns (subst (λ (c : Cored). refusal c.moment.declared event ≡ None) (sym view) admitted) (ap (λ (l : LiveState). l.declared) g.2.keeps.live ∙ follow (live_state m) event g.2.live g.2.after) g.2.block;
       numbered = λ proto.
           let was = stood.numbered proto in
           let more = losses_follow (live_state m) event g.2.live g.2.after proto in
@@ -156,22 +117,77 @@ module _ (old : Cored) (m : Moment) (n : ℕ) (failed : Bool) (view : record { m
     pub core_acts : Gives (Acts old.moment event turns m') before now
     core_acts = (g.0, g.1, subst (λ (c : Cored). Acts c.moment event turns m' g.0) view (acts_of m m' event turns g.0 g.2 prints.lines prints.peers))
 
-  pub core_worked : (m' : Moment) (said : List Line) → Keeps (live_state m) m m' said → HaveSameExits m m' → (Fit m.declared.profile (neighbours m.declared) n m → Fit m.declared.profile (neighbours m.declared) n m') → CoreStands (cored m' n)
-  core_worked m' said work same fits = record {
+  pub core_worked : (m' : Moment) (said inner : List Line) → Keeps (live_state m) m m' said → HaveSameExits m m' → Goes m inner m' → CoreStands (cored m' n)
+  core_worked m' said inner work same goes = record {
     stands = work.stands;
-    printable = work_prints m m' n stood.stands stood.printable stood.numbered work.live fits;
+    printable = (goes.prints stood.printable).now;
     exits = λ k p at up. same k ∙ stood.exits k p (ap (λ (l : LiveState). peer_at k l.declared.peers) (sym work.live) ∙ at) up;
     numbered = worked_numbered m m' said n work stood.numbered;
   }
 
-  pub core_turned : (task : Task) (m' : Moment) (before now : Journaled) (done : Done) → Comes task m m' before now done → CoreStands (cored m' n)
-  core_turned task m' before now Nothing comes = subst (λ (x : Moment). CoreStands (cored x n)) (sym comes.1) (record { stands = stood.stands; printable = stood.printable; exits = stood.exits; numbered = stood.numbered })
-  core_turned task m' before now Taken g = core_worked m' g.0 g.2.work.keeps (turn_same task m g.0 m' g.2.turn) (λ fit. (turn_goes m.declared.profile (neighbours m.declared) n task m g.0 m' g.2.turn fit).0)
+  -- a turn of a task
+  module _ (task : Task) (m' : Moment) (before now : Journaled) where
+    pub core_comes : (done : Done) → TakesTurn task m m' before now done → Comes task old.moment m' before now done
+    core_comes done t = subst (λ (c : Cored). Comes task c.moment m' before now done) view (turn_comes task m m' before now done stood.stands t)
+
+    pub core_turned : (done : Done) → TakesTurn task m m' before now done → CoreStands (cored m' n)
+    core_turned Nothing t = subst (λ (x : Moment). CoreStands (cored x n)) (sym t.1) (record { stands = stood.stands; printable = stood.printable; exits = stood.exits; numbered = stood.numbered })
+    core_turned Taken t = core_worked m' t.0 t.0 (turn_works task m t.0 m' stood.stands t.2).keeps (turn_same task m t.0 m' stood.stands t.2) (turn_goes task m t.0 m' stood.stands t.2)
+
+  -- a phase of an idle
+  module _ (phase : Phase) (turns : ℕ) (m' : Moment) (before now : Journaled) (g : Gives (RunsOut phase m turns m') before now) where
+    pub core_drained : Gives (HaveDrained phase old.moment turns m') before now
+    core_drained = subst (λ (c : Cored). Gives (HaveDrained phase c.moment turns m') before now) view (g.0, g.1, phase_drained phase m m' turns g.0 stood.stands g.2)
+
+    pub core_phase : CoreStands (cored m' n)
+    core_phase = core_worked m' g.0 g.0 (phase_works phase m g.0 turns m' stood.stands g.2.runs).keeps (phase_same phase m g.0 turns m' stood.stands g.2.runs) (phase_goes phase m g.0 turns m' stood.stands g.2.runs)
+
+  -- an idle
+  pub core_idled : (idle : Idle) (m' : Moment) (before now : Journaled) → Gives (HasIdled m idle m') before now → CoreStands (cored m' n)
+  core_idled idle m' before now g =
+      let i = g.2.idles in
+      core_worked m' g.0 i.inner g.2.keeps (phases_same all_phases m i.inner idle.turns m' stood.stands i.runs) (phases_go all_phases m i.inner idle.turns m' stood.stands i.runs)
 
 -- ---- the first moment
+first_moment_stands : ANewTreeStands → Stands first_moment
+first_moment_stands law = record {
+  peers = record {
+    chains = λ k c at. absurd (let none = get-empty {X = Chained} nat_cmp k in cc);
+    each = λ k. subst (StandsAt None) (sym (get-empty {X = Chained} nat_cmp k)) tt;
+    speaker = λ k c at. absurd (let none = get-empty {X = Chained} nat_cmp k in cc);
+    count = len-empty nat_cmp Chained;
+    numbers = λ k some. absurd (let none = get-empty {X = Chained} nat_cmp k in let clash : true ≡ false = sym some ∙ ap is_some none in cc);
+  };
+  interior = record { tree = law.0; full = law.1; few = of_new (λ b. length b.tables.deletions ≤ 16) (λ k. omega arith); waiting = λ e. refl };
+  registered = empty_rows {V = Interior} ∙ sym int_empty;
+  hops = record {
+    sound = λ k s at. absurd (let none = get-empty {X = Resolving Metric} nat_cmp k in cc);
+    same = λ k. ap is_some (get-empty {X = Resolving Metric} nat_cmp k) ∙ sym (ap is_some (get-empty {X = Chained} nat_cmp k));
+    agree = λ k s at. absurd (let none = get-empty {X = Resolving Metric} nat_cmp k in cc);
+    counted = λ k s at. absurd (let none = get-empty {X = Resolving Metric} nat_cmp k in cc);
+    strangers = λ k peer none s. ap is_some (get-empty {X = Option Network} interest_cmp (record { subnet = s; client = k }));
+  };
+  exits = record {
+    rows = λ k c at. absurd (let none = get-empty {X = Chained} nat_cmp k in cc);
+    each = (exits_at_first plain).sound;
+    all = λ reader unread at. absurd (let none = get-empty {X = List (Change Route)} nat_cmp reader in cc);
+    read = (exits_at_first plain).stand (best_of first_moment);
+    profile = refl;
+    sender = tt;
+    sessions = λ k. subst (λ (o : Option OutChained). ExitsAt None first_moment.outgoing k None o) (sym (get-empty {X = OutChained} nat_cmp k)) tt;
+    one = tt;
+    external = external_at_first.stands;
+  };
+  external = record {
+    sound = external_at_first.sound;
+    agree = external_at_first.agree first_moment.registry (λ s. ap is_some (get-empty {X = Option Network} interest_cmp (record { subnet = s; client = 0 })));
+  };
+  waits = record { own = λ before. refl; external = λ before. refl };
+}
+
 pub first_stands : ANewTreeStands → CoreStands (cored first_moment 0)
 first_stands law = record {
-  stands = record { own = own; at = at };
+  stands = first_moment_stands law;
   printable = record {
     declared = refl;
     chains = λ k c at. absurd (let none = get-empty {X = Chained} nat_cmp k in cc);
@@ -186,32 +202,3 @@ first_stands law = record {
   where
     new_printable : (proto : Proto) → AreTablesOf IsInteriorRow (branch_of proto new_tree).tables
     new_printable = of_new (λ b. AreTablesOf IsInteriorRow b.tables) (λ k. none_printable IsInteriorRow)
-
-    own : (claim : Claim) → Claims first_moment claim
-    own EachChain = λ k c at. absurd (let none = get-empty {X = Chained} nat_cmp k in cc)
-    own EachPeer = λ k. subst (StandsAt None) (sym (get-empty {X = Chained} nat_cmp k)) tt
-    own OneSpeaker = λ k c at. absurd (let none = get-empty {X = Chained} nat_cmp k in cc)
-    own SameCount = len-empty nat_cmp Chained
-    own EachResolver = λ k s at. absurd (let none = get-empty {X = Resolving Metric} nat_cmp k in cc)
-    own SameResolvers = λ k. ap is_some (get-empty {X = Resolving Metric} nat_cmp k) ∙ sym (ap is_some (get-empty {X = Chained} nat_cmp k))
-    own AnswersAgree = λ k s at. absurd (let none = get-empty {X = Resolving Metric} nat_cmp k in cc)
-    own HopsCounted = λ k s at. absurd (let none = get-empty {X = Resolving Metric} nat_cmp k in cc)
-    own SmallNumbers = λ k some. absurd (let none = get-empty {X = Chained} nat_cmp k in let clash : true ≡ false = sym some ∙ ap is_some none in cc)
-    own NoStrangers = λ k peer none s. ap is_some (get-empty {X = Option Network} interest_cmp (record { subnet = s; client = k }))
-    own EachRow = λ k c at. absurd (let none = get-empty {X = Chained} nat_cmp k in cc)
-    own EachExit = (exits_at_first plain).sound
-    own QueueLeads = λ reader unread at. absurd (let none = get-empty {X = List (Change Route)} nat_cmp reader in cc)
-    own ExitsRead = (exits_at_first plain).stand (best_of first_moment)
-    own SameProfile = refl
-    own OneSender = tt
-    own SameSessions = λ k. subst (λ (o : Option OutChained). ExitsAt None first_moment.outgoing k None o) (sym (get-empty {X = OutChained} nat_cmp k)) tt
-    own OneReader = tt
-    own ExternalExit = external_at_first.sound
-    own ExternalAgrees = external_at_first.agree first_moment.registry (λ s. ap is_some (get-empty {X = Option Network} interest_cmp (record { subnet = s; client = 0 })))
-    own ExternalStands = external_at_first.stands
-    own NothingOwn = λ before. refl
-    own NothingExternal = λ before. refl
-    own InteriorTree = record { tree = law.0; full = law.1; few = of_new (λ b. length b.tables.deletions ≤ 16) (λ k. omega arith); waiting = λ e. refl }
-
-    at : (p : Network) (tie : Tie) → Ties (here first_moment p) tie
-    at p Registered = ap (λ (rows : Rows Interior). rows p) (empty_rows {V = Interior} ∙ sym int_empty)

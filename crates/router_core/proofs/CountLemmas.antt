@@ -1,40 +1,22 @@
 -- How many turns are left, by the table of phases: what a turn makes of it, and what is over.
-use Rattle.std.proofs.Common.{◌≡◌, ℕ, ◌+◌, ◌*◌, ◌≤◌, false, List, [], ◌∷◌, length, Option, None, Some, is_some, refl, ap, arith}
-use Rattle.std.specs.List.{AllByRecursion}
+use Rattle.router_core.proofs.Common.{ap, ◌≡◌, ℕ, refl, List, arith, false, ◌+◌, ◌≤◌, ◌*◌, nat_cmp_total, AllByRecursion, Network, Route, OutChains, unread_or_none, Chained, Change, LiveState, no_table, Passed, Walked, Chains, rows_in, lost_in, Protos, Proto, Connected, Static, Ospf, Rip, Treed, branch_of, tree_count, int_candidates, Queues, live_state, Moment, candidates_of, most_unread, counts, all_phases, beyonds, unread_if, tree_beyond, external_beyond, fin_sends, best_beyond, own_sends, own_sends_by, own_waiting, Stands, Phase}
+use Rattle.std.proofs.Common.{[], ◌∷◌, length, Option, None, Some, is_some}
 use Rattle.std.specs.FinMap as tables
-use Rattle.std.specs.Cmp.{nat_cmp_total}
-use Rattle.rib_route.specs.declared.Proto.{Proto}
-use Rattle.rib_route.specs.declared.Proto.TheVariants.{Connected, Static, Ospf, Rip}
-use Rattle.loss_chain.proofs.TableLemmas.{no_table}
 use Rattle.loss_chain.specs.Tables.{lost_count}
-use Rattle.in_chain.specs.Chains.{Chained, turns_left, walk_turns}
+use Rattle.in_chain.specs.Chains.{turns_left, walk_turns}
 use Rattle.in_chain.specs.Laws.{TurnsAreBounded, TurnsAreLeft}
 use Rattle.link_region.proofs.RegionLemmas.{by_bool}
-use Rattle.peer_side.specs.Peers.{lost_of, lost_in, left_in, Chains, rows_in}
+use Rattle.peer_side.specs.Peers.{lost_of, left_in}
 use Rattle.peer_side.proofs.CountLemmas.{left_below, lost_below}
-use Rattle.rib_tree.specs.Trees.{Treed, branch_of, tree_count, int_candidates}
 use Rattle.rib_exit.proofs.BusyLemmas.{none_left_without_work as external_idle, turns_are_bounded as external_bounded}
-use Rattle.addr4.specs.Prefixes.{Network}
-use Rattle.pass_core.specs.Passed.{Passed, Walked}
 use Rattle.pass_core.specs.Left.{turns_left as own_left, walk_turns as own_turns_of}
 use Rattle.pass_core.proofs.LeftLemmas.{left_is_bounded, left_while_on, left_follows}
-use Rattle.redist.specs.declared.protos.Protos.{Protos}
 use Rattle.rib_tree.proofs.RestLemmas.{no_rows_left}
-use Rattle.router_core.specs.declared.router.Phase.{Phase}
 use Rattle.router_core.specs.declared.router.Phase.TheVariants.{Rdel, Red, Del, Fin, Nh, ReadRib, Out, Ext}
 use Rattle.std.proofs.Math.Nat.{mul-le-mul_left}
-use Rattle.bgp_attr.specs.declared.route.Route.{Route}
-use Rattle.link_change.specs.declared.change.Change.{Change}
 use Rattle.link_change.proofs.MapLemmas.{sum_none, one_of_sum, all_values}
-use Rattle.fanout_queue.specs.Readers.{unread_or_none}
-use Rattle.exit_side.specs.Exits.{OutChains}
 use Rattle.exit_side.proofs.LawLemmas.{turns_bounded, none_left_without_work as exits_idle}
-use Rattle.router_core.specs.Bests.{Queues}
-use Rattle.router_core.specs.Moments.{Moment, most_unread, candidates_of}
-use Rattle.router_core.specs.Stands.{Stands, InteriorTree, EachChain}
-use Rattle.live_state.specs.Lives.{LiveState}
-use Rattle.router_core.specs.Lives.{live_state}
-use Rattle.router_core.specs.Phases.{all_phases, tree_lost, tree_beyond, counts, beyonds, unread_if, best_beyond, external_beyond, changes_left, own_waiting, own_sends_by, own_sends, sends_from_red, fin_sends}
+use Rattle.router_core.specs.Phases.{tree_lost, changes_left, sends_from_red}
 use Rattle.router_core.specs.Turns.{phase_bound, rise_bound, IsOver}
 use Rattle.router_core.proofs.BeyondLemmas.{tree_counted, tree_within, external_counted}
 use Rattle.router_core.proofs.QueueLemmas.{queue_chains}
@@ -160,10 +142,10 @@ no_changes [] none = refl
 no_changes (x ∷ u) none = absurd (omega (arith, none))
 
 pub none_over : TurnsAreLeft → (r : Phase) (m : Moment) → Stands m → counts m r ≡ 0 → IsOver r m
-none_over law Rdel m stands none = λ proto. no_rows_left (branch_of proto m.tree).tables.deletions ((stands.own InteriorTree).full proto) (tree_none m.tree proto none)
+none_over law Rdel m stands none = λ proto. no_rows_left (branch_of proto m.tree).tables.deletions (stands.interior.full proto) (tree_none m.tree proto none)
 none_over law Red m stands none =
     no_table m.redist.walk (by_bool (is_some m.redist.walk) (λ b. b ≡ false) (λ on. absurd (let some = (left_while_on (tree_beyond m.tree) m.redist).0 on in omega (arith, some, none))) (λ _. refl))
-none_over law Del m stands none = λ k c at. no_rows_left c.incoming.tables.deletions (stands.own EachChain k c at).full (let part = one_of_sum nat_cmp_total lost_of m.chains k c at in omega (arith, part, none))
+none_over law Del m stands none = λ k c at. no_rows_left c.incoming.tables.deletions (stands.peers.chains k c at).full (let part = one_of_sum nat_cmp_total lost_of m.chains k c at in omega (arith, part, none))
 none_over law Fin m stands none = λ k c at. no_walk law c (let part = one_of_sum nat_cmp_total turns_left m.chains k c at in omega (arith, part, none))
 none_over law Nh m stands none = (none_left_without_work m.hops (beyonds m.chains)).1 none
 none_over law ReadRib m stands none = no_changes (unread_if m.exits.queue m.reader) none

@@ -1,67 +1,29 @@
 -- One turn of what reads `best`: of the forwarding side, and of a peer's exit.
-use Rattle.std.proofs.Common.{◌≡◌, ◌≢◌, ℕ, ◌+◌, ◌≤◌, nat_eq, nat_lt, Bool, true, false, cond, List, [], ◌∷◌, ◌++◌, length, Option, Some, None, is_some, IsSome, IfSome, refl, sym, ap, subst, ◌∙◌, arith, inl, inr}
+use Rattle.router_core.proofs.Common.{sym, subst, ◌∙◌, ap, ◌≡◌, ℕ, refl, List, true, arith, false, ◌+◌, Bool, ◌++◌, ◌≤◌, cond, nat_eq, ◌≢◌, inr, nat_lt, inl, IfSome, nat_tests, nat_cmp_total, get-insert, Attrs, Route, Speaker, best_rows, peer_at, DeclaredPeer, unheard_joins, Exited, AllStand, with_exit, with_queue, Queued, AllLead, Takes, unread_or_none, read_rows, neighbours, entries_of_entries, leads_append, leads_sent, Journaled, flushed, Adds, with_entries, entries_of, route_value, route_rows, Leads, Links, with_link, Entry, Line, Link, Value, IsSent, rows_before, Rows, Change, Turn, way_of, OutChained, is_unread, adds_both, Registry, StandsOver, FallsOn, RibExit, FibRow, Interior, int_rows, lent_rows, live_state, Moment, best_of, router_links, own_of, with_exits, read_rows_by, read_links, candidates_of, most_unread, with_rib, counts, unread_if, best_beyond, Stands, ExitsAt, ReadsOn, journal_lines, Keeps, TakesTurn, IsWork, Taken}
+use Rattle.std.proofs.Common.{[], ◌∷◌, length, Option, Some, None, is_some, IsSome}
 use Rattle.std.specs.Prelude.{MatchBool}
-use Rattle.std.proofs.lemmas.Bool.Decides.{nat_tests}
 use Rattle.std.proofs.lemmas.List.{append-nil}
 use Rattle.std.specs.FinMap as tables
-use Rattle.std.specs.FinMap.{get-insert}
-use Rattle.std.specs.Cmp.{nat_cmp_total}
-use Rattle.bgp_attr.specs.declared.attrs.Attrs.{Attrs}
-use Rattle.bgp_attr.specs.declared.route.Route.{Route}
-use Rattle.bgp_attr.specs.declared.speaker.Speaker.{Speaker}
-use Rattle.link_change.specs.Rows.{Rows}
-use Rattle.link_change.specs.Changes.{IsSent}
-use Rattle.link_change.specs.InOrder.{rows_before, ChangesLead}
 use Rattle.link_change.proofs.InOrderLemmas.{before_is_old}
-use Rattle.link_change.specs.declared.change.Change.{Change}
-use Rattle.link_change.specs.declared.turn.Turn.{Turn}
 use Rattle.link_change.specs.declared.turn.Turn.TheVariants as turns
-use Rattle.journal_text.specs.declared.link.Link.{Link}
 use Rattle.journal_text.specs.declared.link.Link.TheVariants as links
 use Rattle.journal_text.specs.declared.link.Task.TheVariants as tasks
-use Rattle.journal_text.specs.declared.entry.Entry.{Entry}
-use Rattle.journal_text.specs.declared.value.Value.{Value}
-use Rattle.journal_text.specs.declared.line.Line.{Line}
-use Rattle.journal_text.specs.Journals.{Journaled, Adds, with_entries, flushed}
-use Rattle.journal_text.specs.Texts.{entries_of}
-use Rattle.journal_text.specs.Values.{route_value, route_rows, valued_change}
-use Rattle.journal_text.specs.Walk.{Links, Leads, with_link}
-use Rattle.journal_text.proofs.JournalLemmas.{entries_of_entries, entries_of_append}
-use Rattle.journal_text.proofs.WalkLemmas.{leads_append, leads_sent}
-use Rattle.journal_laws.specs.Peers.{neighbours}
-use Rattle.event_text.specs.declared.declared.DeclaredPeer.{DeclaredPeer}
-use Rattle.event_text.specs.Declarations.{peer_at}
+use Rattle.journal_text.specs.Values.{valued_change}
+use Rattle.journal_text.proofs.JournalLemmas.{entries_of_append}
 use Rattle.loss_chain.proofs.TableLemmas.{equal_by}
-use Rattle.peer_side.proofs.WeldLemmas.{adds_both}
-use Rattle.rib_route.specs.declared.rows.Interior.{Interior}
-use Rattle.rib_route.specs.declared.rows.FibRow.{FibRow}
-use Rattle.register_interest.specs.Registers.{Registry}
-use Rattle.nexthop_resolver.specs.Kept.{way_of}
-use Rattle.rib_tree.specs.Trees.{int_rows}
-use Rattle.rib_exit.specs.declared.exit.RibExit.{RibExit}
-use Rattle.rib_exit.specs.Exits.{StandsOver}
-use Rattle.rib_exit.specs.Steps.{TakesExternal, FallsOn}
+use Rattle.rib_exit.specs.Steps.{TakesExternal}
 use Rattle.link_region.proofs.RegionLemmas.{by_bool}
-use Rattle.fanout_queue.specs.Queues.{Queued, Takes, AllLead}
-use Rattle.fanout_queue.specs.Readers.{unread_or_none, read_rows}
-use Rattle.fanout_queue.proofs.LeadLemmas.{take_keeps_leading, each_reader_leads}
-use Rattle.out_chain.specs.Chains.{OutChained, is_unread}
+use Rattle.fanout_queue.proofs.LeadLemmas.{take_keeps_leading}
 use Rattle.out_chain.specs.Steps.{sending_entries, said_of, message_lines}
-use Rattle.exit_side.specs.Exits.{Exited, chain_at as exit_at, with_exit, with_queue, AllStand}
+use Rattle.exit_side.specs.Exits.{chain_at as exit_at}
 use Rattle.exit_side.specs.Steps.{TurnsExit, ComesOut}
 use Rattle.exit_side.specs.Laws.{KeepsStranger, StaysWithQueue, StrangersTake}
 use Rattle.exit_side.proofs.StrangerLemmas.{turn_keeps}
-use Rattle.exit_laws.proofs.HearLemmas.{changes_are_unheard, unheard_joins}
+use Rattle.exit_laws.proofs.HearLemmas.{changes_are_unheard}
 use Rattle.exit_laws.proofs.ViewLemmas.{turn_is_heard}
-use Rattle.decision.specs.Branches.{best_rows}
-use Rattle.router_core.specs.declared.router.Done.TheVariants.{Nothing, Taken}
 use Rattle.router_core.specs.declared.router.Phase.TheVariants as phases
-use Rattle.router_core.specs.Bests.{lent_rows}
-use Rattle.router_core.specs.Moments.{Moment, own_of, best_of, candidates_of, most_unread, read_rows_by, read_links, router_links, with_exits, with_rib}
-use Rattle.router_core.specs.Phases.{counts, unread_if, best_beyond}
-use Rattle.router_core.specs.Stands.{Stands, EachExit, QueueLeads, ExitsRead, SameProfile, SameSessions, OneReader, ExternalStands, ExitsAt, ReadsAs, ReadsOn}
-use Rattle.router_core.specs.Turns.{journal_lines}
-use Rattle.router_core.specs.Works.{IsUnit, Comes, Forwards}
+use Rattle.router_core.specs.Turns.{IsReadTurn, IsOutTurn}
+use Rattle.router_core.specs.Works.{Forwards}
 use Rattle.router_core.proofs.BestLemmas.{lent_is}
 use Rattle.router_core.proofs.QueueLemmas.{reader_live}
 use Rattle.router_core.proofs.HeardSteps.{heard_quiet, exits_declared}
@@ -69,6 +31,8 @@ use Rattle.router_core.proofs.StaleLemmas.{kept_or_learnt, all_as_before, none_a
 use Rattle.router_core.proofs.ReadingLemmas.{best_counted, take_most}
 use Rattle.router_core.proofs.SessionLemmas.{stands_exits, external_kept, strangers_read, reads_as, exits_lead, exit_here, exit_elsewhere, key_same}
 use Rattle.router_core.proofs.ExternalTurns.{forward_leads, exit_unheard, stands_forward}
+use Rattle.router_core.proofs.SpendLemmas.{Spent}
+use Rattle.router_core.proofs.WorkLemmas.{one_turn}
 
 -- ---- whether the forwarding side has something to read
 pub reader_is : (m v : Moment) → v ≡ m → Stands m → (r : ℕ) → v.reader ≡ Some r → IsSome (tables.get v.exits.queue r)
@@ -93,15 +57,18 @@ reads_since (Some me) o e r is on = (me, refl)
 reads_since None None e r is on = absurd (cc)
 reads_since None (Some q) e r is on = absurd on
 
-module _ (law : StrangersTake) (m : Moment) (r : ℕ) (change : Change Route) (queue : Queued Route) (stands : Stands m) (reads : m.reader ≡ Some r) (takes : Takes m.exits.queue queue r (Some change)) where
+-- a change that a reader takes leads from the rows that it had to those that it has
+pub taken_sent : (queued left : Queued Route) (r : ℕ) (change : Change Route) (best : Rows Route) → AllLead queued best → Takes queued left r (Some change) → IsSent (read_rows queued r best) (read_rows left r best) change.prefix (Some change)
+taken_sent queued left r change best all takes =
+    let lead = all r (change ∷ takes.0) takes.1 in
+    let is : tables.get left r ≡ Some takes.0 = ap (λ (x : Queued Route). tables.get x r) takes.2 ∙ get-insert nat_cmp_total queued r takes.0 r ∙ ap (λ b. cond b (Some takes.0) (tables.get queued r)) (key_same r) in
+    subst (λ (rows : Rows Route). IsSent rows (read_rows left r best) change.prefix (Some change)) (ap (λ u. rows_before (unread_or_none u) best) (sym takes.1))
+    (subst (λ (rows : Rows Route). IsSent (rows_before (change ∷ takes.0) best) rows change.prefix (Some change)) (ap (λ u. rows_before (unread_or_none u) best) (sym is))
+    (refl, lead.0, before_is_old _ best takes.0 lead.1))
+
+module _ (m : Moment) (r : ℕ) (change : Change Route) (queue : Queued Route) (stands : Stands m) (reads : m.reader ≡ Some r) (takes : Takes m.exits.queue queue r (Some change)) (stays : StaysWithQueue m.exits queue) where
   abbrev taken : Exited
   taken = with_queue queue m.exits
-
-  own : ReadsAs r m.exits
-  own = reads_as m stands r reads
-
-  stays : StaysWithQueue m.exits queue
-  stays = law m.exits queue r (Some change) (stands.own EachExit) own.own takes
 
   was : tables.get m.exits.queue r ≡ Some (change ∷ takes.0)
   was = takes.1
@@ -110,16 +77,10 @@ module _ (law : StrangersTake) (m : Moment) (r : ℕ) (change : Change Route) (q
   is = ap (λ (x : Queued Route). tables.get x r) takes.2 ∙ get-insert nat_cmp_total m.exits.queue r takes.0 r ∙ ap (λ b. cond b (Some takes.0) (tables.get m.exits.queue r)) (key_same r)
 
   all : AllLead queue (best_of m)
-  all = take_keeps_leading m.exits.queue queue (best_of m) r (Some change) takes (stands.own QueueLeads)
-
-  -- the change leads from the rows that it had to those that it has
-  lead : ChangesLead (rows_before (change ∷ takes.0) (best_of m)) (change ∷ takes.0) (best_of m)
-  lead = subst (λ (u : List (Change Route)). ChangesLead (rows_before u (best_of m)) u (best_of m)) (ap unread_or_none was) (each_reader_leads m.exits.queue (best_of m) r (stands.own QueueLeads))
+  all = take_keeps_leading m.exits.queue queue (best_of m) r (Some change) takes stands.exits.all
 
   sent : IsSent (read_rows m.exits.queue r (best_of m)) (read_rows queue r (best_of m)) change.prefix (Some change)
-  sent = subst (λ (rows : Rows Route). IsSent rows (read_rows queue r (best_of m)) change.prefix (Some change)) (ap (λ u. rows_before (unread_or_none u) (best_of m)) (sym was))
-      (subst (λ (rows : Rows Route). IsSent (rows_before (change ∷ takes.0) (best_of m)) rows change.prefix (Some change)) (ap (λ u. rows_before (unread_or_none u) (best_of m)) (sym is))
-      (refl, lead.0, before_is_old _ (best_of m) takes.0 lead.1))
+  sent = taken_sent m.exits.queue queue r change (best_of m) stands.exits.all takes
 
   read_leads : Leads (router_links m) (valued_change route_value links.ReadRib change) (router_links (with_exits m taken))
   read_leads = subst (λ (l : Links Value). Leads (router_links m) (valued_change route_value links.ReadRib change) l) (λ i link. each link i)
@@ -134,7 +95,7 @@ module _ (law : StrangersTake) (m : Moment) (r : ℕ) (change : Change Route) (q
       each other = refl
 
   reads_then : ReadsOn m.declared.speaker m.reader taken
-  reads_then = by_speaker m.declared.speaker m.reader reads (stands.own OneReader)
+  reads_then = by_speaker m.declared.speaker m.reader reads stands.exits.one
     where
       by_speaker : (s : Option Speaker) (o : Option ℕ) → o ≡ Some r → ReadsOn s o m.exits → ReadsOn s o taken
       by_speaker (Some me) (Some q) same on = let e : q ≡ r = cc in record { live = subst (λ (n : ℕ). IsSome (tables.get queue n)) (sym e) (ap is_some is); own = on.own }
@@ -157,13 +118,13 @@ module _ (law : StrangersTake) (m : Moment) (r : ℕ) (change : Change Route) (q
     lines = valued_change route_value links.ReadRib change ++ entries
 
     stood : StandsOver (read_rows m.exits.queue r (best_of m)) m.rib
-    stood = subst (λ (rows : Rows Route). StandsOver rows m.rib) (ap (λ (o : Option ℕ). read_rows_by m.exits.queue o (best_of m)) reads) (stands.own ExternalStands)
+    stood = subst (λ (rows : Rows Route). StandsOver rows m.rib) (ap (λ (o : Option ℕ). read_rows_by m.exits.queue o (best_of m)) reads) stands.exits.external
 
     falls : FallsOn change.prefix (int_rows m.tree) t.split t.first t.second m.registry m.rib x entries (read_rows m.exits.queue r (best_of m)) (read_rows queue r (best_of m))
     falls = t.goes (read_rows m.exits.queue r (best_of m)) (read_rows queue r (best_of m)) change.prefix stood sent
 
     local : (me : Speaker) × (m.declared.speaker ≡ Some me)
-    local = reads_since m.declared.speaker m.reader m.exits r reads (stands.own OneReader)
+    local = reads_since m.declared.speaker m.reader m.exits r reads stands.exits.one
 
     leads : Leads (router_links m) lines (router_links now)
     leads = leads_append (router_links m) (router_links (with_exits m taken)) (router_links now) (valued_change route_value links.ReadRib change) entries read_leads
@@ -172,25 +133,28 @@ module _ (law : StrangersTake) (m : Moment) (r : ℕ) (change : Change Route) (q
     external : StandsOver (read_rows_by queue m.reader (best_of m)) x
     external = subst (λ (rows : Rows Route). StandsOver rows x) (ap (λ (o : Option ℕ). read_rows_by queue o (best_of m)) (sym reads)) falls.stands
 
-    pub read_done : IsUnit tasks.ReadRib m now (journal_lines lines)
-    read_done = record {
-      turn = record { reader = r; reads = reads; change = change; takes = takes; fib = fib; entries = entries; external = t; lines = refl; after = refl };
-      work = record {
-        keeps = record {
-          leads = subst (λ (es : List (Entry Value)). Leads (router_links m) es (router_links now)) (sym (entries_of_entries lines)) leads;
-          live = refl;
-          stands = stands_forward m local.0 taken registry x stands local.1 t.agreed stays.sound all (stays.stand (best_of m) (stands.own ExitsRead)) (stands.own SameProfile) (stands.own SameSessions) reads_then external;
-          heard = heard_quiet m now (journal_lines lines) (unheard_joins (valued_change route_value links.ReadRib change) entries (changes_are_unheard links.ReadRib change.prefix _ _) (exit_unheard _ _ entries falls.leads)) refl;
-        };
-        falls = fewer;
-        left = let a = fewer in let b : counts now phases.Out ≡ counts m phases.Out = stays.left (best_beyond m.chains m.tree) in omega (arith, a, b);
-        earlier = (omega arith, (omega arith, (omega arith, (omega arith, (omega arith, tt)))));
-        rows = record { peers = omega arith; protocols = omega arith };
-        known = omega arith;
-        stale = none_goes_stale m now (all_as_before m.hops m.hops refl) (kept_or_learnt way_of m.registry m.rib.forwarding.known x.forwarding.known falls.keeps.hops);
-        unread = let most = take_most m.exits.queue queue r (Some change) takes in omega (arith, most);
-      };
+    keeps_read : Keeps (live_state m) m now (journal_lines lines)
+    keeps_read = record {
+      leads = subst (λ (es : List (Entry Value)). Leads (router_links m) es (router_links now)) (sym (entries_of_entries lines)) leads;
+      live = refl;
+      stands = stands_forward m local.0 taken registry x stands local.1 t.agreed stays.sound all (stays.stand (best_of m) stands.exits.read) stands.exits.profile stands.exits.sessions reads_then external;
+      heard = heard_quiet m now (journal_lines lines) (unheard_joins (valued_change route_value links.ReadRib change) entries (changes_are_unheard links.ReadRib change.prefix _ _) (exit_unheard _ _ entries falls.leads)) refl;
     }
+
+    spent_read : Spent phases.ReadRib m now
+    spent_read =
+        let a = fewer in
+        let b : counts now phases.Out ≡ counts m phases.Out = stays.left (best_beyond m.chains m.tree) in
+        let most = take_most m.exits.queue queue r (Some change) takes in
+        (omega (arith, a), omega (arith, a, b), (omega arith, (omega arith, (omega arith, (omega arith, (omega arith, tt))))), record { peers = omega arith; protocols = omega arith }, omega (arith, most))
+
+    pub read_does : IsWork phases.ReadRib 1 m now (journal_lines lines)
+    read_does = one_turn phases.ReadRib m now now (journal_lines lines) refl keeps_read spent_read (omega arith)
+        (none_goes_stale m now (all_as_before m.hops m.hops refl) (kept_or_learnt way_of m.registry m.rib.forwarding.known x.forwarding.known falls.keeps.hops))
+
+pub read_works : (m : Moment) (said : List Line) (m' : Moment) → Stands m → IsReadTurn m said m' → IsWork phases.ReadRib 1 m m' said
+read_works m said m' stands t = subst (λ (n : Moment). IsWork phases.ReadRib 1 m n said) (sym t.after) (subst (λ (l : List Line). IsWork phases.ReadRib 1 m (with_rib (with_exits m (with_queue m'.exits.queue m.exits)) m'.registry m'.rib) l) (sym t.lines)
+    (read_does m t.reader t.change m'.exits.queue stands t.reads t.takes t.stays m'.registry m'.rib t.fib t.entries t.external))
 
 -- a change that was read goes down
 pub forwarded : (change : Change Route) (m v : Moment) (registry : Registry Interior) (x : RibExit) (fib : Option (Change FibRow)) (before j now : Journaled) → v ≡ m → j ≡ with_entries before (valued_change route_value links.ReadRib change)
@@ -202,27 +166,21 @@ forwarded change m v registry x fib before j now view pushed adds = subst (λ (n
 )
 
 pub reader_took : StrangersTake → (m v m1 m' : Moment) (r : ℕ) (change : Change Route) (e : Exited) (before l now : Journaled) → v ≡ m → Stands m → v.reader ≡ Some r → Takes v.exits.queue e.queue r (Some change)
-    → e ≡ with_queue e.queue v.exits → m1 ≡ with_exits v e → Adds (Forwards change m1 m') before l → now ≡ flushed l → Comes tasks.ReadRib m m' before now Taken
+    → e ≡ with_queue e.queue v.exits → m1 ≡ with_exits v e → Adds (Forwards change m1 m') before l → now ≡ flushed l → TakesTurn tasks.ReadRib m m' before now Taken
 reader_took law m v m1 m' r change e before l now view stands reads takes after is adds flush =
+    let s = subst Stands (sym view) stands in
     let f = subst (λ (n : Moment). Forwards change n m' adds.0) (is ∙ ap (with_exits v) after) adds.2 in
-    subst (λ (n : Moment). Comes tasks.ReadRib n m' before now Taken) view (
+    let stays = law v.exits e.queue r (Some change) s.exits.each (reads_as v s r reads).own takes in
+    subst (λ (n : Moment). TakesTurn tasks.ReadRib n m' before now Taken) view (
       journal_lines adds.0,
       flush ∙ ap flushed adds.1,
-      subst (λ (n : Moment). IsUnit tasks.ReadRib v n (journal_lines adds.0)) (sym f.after)
-          (subst (λ (entries : List (Entry Value)). IsUnit tasks.ReadRib v (with_rib (with_exits v (with_queue e.queue v.exits)) m'.registry m'.rib) (journal_lines entries)) (sym f.lines)
-          (read_done law v r change e.queue (subst Stands (sym view) stands) reads takes m'.registry m'.rib f.fib f.below f.external)),
+      subst (λ (n : Moment). IsReadTurn v (journal_lines adds.0) n) (sym f.after)
+          (record { reader = r; reads = reads; change = change; takes = takes; stays = stays; fib = f.fib; entries = f.below; external = f.external; lines = ap journal_lines f.lines; after = refl }),
     )
 
 -- its reader is numbered as before
 pub reader_same : (v : Moment) (e : Exited) (o : Option ℕ) → o ≡ v.reader → record v { exits = e; reader = o } ≡ with_exits v e
 reader_same v e o same = ap (λ (q : Option ℕ). record v { exits = e; reader = q }) same
-
-pub nothing_unread : (m v m' : Moment) (r : ℕ) (e : Exited) (before : Journaled) → v ≡ m → v.reader ≡ Some r → Takes v.exits.queue e.queue r None → e ≡ with_queue e.queue v.exits → m' ≡ with_exits v e → Comes tasks.ReadRib m m' before before Nothing
-nothing_unread m v m' r e before view reads takes after is = (
-  ap (λ (x : Moment). is_unread (unread_if x.exits.queue x.reader)) (sym view) ∙ ap (λ (o : Option ℕ). is_unread (unread_if v.exits.queue o)) reads ∙ ap (λ u. is_unread (unread_or_none u)) takes.0,
-  is ∙ ap (with_exits v) (after ∙ ap (λ (q : Queued Route). with_queue q v.exits) takes.1) ∙ view,
-  refl,
-)
 
 -- ---- a turn of a peer's exit
 no_message : (c : OutChained) (sent : Option (Change Attrs)) → entries_of (message_lines c sent) ≡ []
@@ -236,13 +194,13 @@ said_entries c entries sent =
 
 module _ (m : Moment) (k : ℕ) (sent : Option (Change Attrs)) (e : Exited) (said : List Line) (stands : Stands m) (t : TurnsExit k (candidates_of m) (best_of m) sent m.exits e said) where
   kept : (r : ℕ) → m.reader ≡ Some r → KeepsStranger r m.exits e
-  kept r is = turn_keeps r k (candidates_of m) (best_of m) sent m.exits e said (stands.own EachExit) (reads_as m stands r is).own t
+  kept r is = turn_keeps r k (candidates_of m) (best_of m) sent m.exits e said stands.exits.each (reads_as m stands r is).own t
 
   -- the change that it takes, or none
   all_lead : AllLead e.queue (best_of m)
   all_lead = elim t.turns.by as (λ _. AllLead e.queue (best_of m)) [
-    | inl first ↦ take_keeps_leading m.exits.queue e.queue (best_of m) t.chain.reader (Some first.change) first.takes (stands.own QueueLeads)
-    | inr walks ↦ take_keeps_leading m.exits.queue e.queue (best_of m) t.chain.reader None walks.takes (stands.own QueueLeads)
+    | inl first ↦ take_keeps_leading m.exits.queue e.queue (best_of m) t.chain.reader (Some first.change) first.takes stands.exits.all
+    | inr walks ↦ take_keeps_leading m.exits.queue e.queue (best_of m) t.chain.reader None walks.takes stands.exits.all
   ]
 
   same_session : (s : Option Speaker) (p : Option DeclaredPeer) → ExitsAt s m.outgoing k p (Some t.chain) → ExitsAt s m.outgoing k p (Some t.taken)
@@ -255,8 +213,8 @@ module _ (m : Moment) (k : ℕ) (sent : Option (Change Attrs)) (e : Exited) (sai
       (by_bool (nat_eq j k) (λ b. ExitsAt m.declared.speaker m.outgoing j (peer_at j m.declared.peers) (exit_at j (with_exit k t.taken e.queue m.exits)))
       (λ same. subst (λ (n : ℕ). ExitsAt m.declared.speaker m.outgoing n (peer_at n m.declared.peers) (exit_at n (with_exit k t.taken e.queue m.exits))) (sym (equal_by j k same))
       (subst (λ (o : Option OutChained). ExitsAt m.declared.speaker m.outgoing k (peer_at k m.declared.peers) o) (sym (exit_here k t.taken e.queue m.exits))
-      (same_session m.declared.speaker (peer_at k m.declared.peers) (subst (λ (o : Option OutChained). ExitsAt m.declared.speaker m.outgoing k (peer_at k m.declared.peers) o) t.at (stands.own SameSessions k)))))
-      (λ apart. subst (λ (o : Option OutChained). ExitsAt m.declared.speaker m.outgoing j (peer_at j m.declared.peers) o) (sym (exit_elsewhere k j t.taken e.queue m.exits apart)) (stands.own SameSessions j)))
+      (same_session m.declared.speaker (peer_at k m.declared.peers) (subst (λ (o : Option OutChained). ExitsAt m.declared.speaker m.outgoing k (peer_at k m.declared.peers) o) t.at (stands.exits.sessions k)))))
+      (λ apart. subst (λ (o : Option OutChained). ExitsAt m.declared.speaker m.outgoing j (peer_at j m.declared.peers) o) (sym (exit_elsewhere k j t.taken e.queue m.exits apart)) (stands.exits.sessions j)))
 
   fewer_left : counts (with_exits m e) phases.Out + 1 ≤ counts m phases.Out
   fewer_left = t.fewer (best_beyond m.chains m.tree) (best_counted m stands)
@@ -271,40 +229,41 @@ module _ (m : Moment) (k : ℕ) (sent : Option (Change Attrs)) (e : Exited) (sai
     | inr walks ↦ take_most m.exits.queue e.queue t.chain.reader None walks.takes
   ]
 
-  pub exit_done : IsUnit (tasks.Out k) m (with_exits m e) said
-  exit_done = record {
-    turn = record { sent = sent; turn = t; after = refl };
-    work = record {
-      keeps = record {
-        leads = subst (λ (es : List (Entry Value)). Leads (router_links m) es (router_links (with_exits m e))) (sym (ap entries_of t.turns.goes.lines ∙ said_entries t.chain t.turns.entries sent))
-            (exits_lead m e (t.turns.entries ++ sending_entries t.chain sent) (λ r is. (kept r is).unread) t.leads);
-        live = refl;
-        stands = stands_exits m e stands t.sound all_lead t.stand (ap (λ (x : Exited). x.profile) t.after ∙ stands.own SameProfile) sessions (strangers_read m.declared.speaker m.reader m.exits e kept (stands.own OneReader))
-            (external_kept m e stands (λ r is. (kept r is).unread));
-        heard = turn_is_heard m.declared.profile (neighbours m.declared) k (candidates_of m) (best_of m) sent m.exits e said (exits_declared m stands) t;
-      };
-      falls = fewer_left;
-      left = let a = fewer_left in omega (arith, a);
-      earlier = (omega arith, (omega arith, (omega arith, (omega arith, (omega arith, (let same = read_same m.reader (λ r is. (kept r is).unread) in omega (arith, same), tt))))));
-      rows = record { peers = omega arith; protocols = omega arith };
-      known = (omega arith, omega arith);
-      stale = none_as_before m (with_exits m e) refl refl;
-      unread = let most = read_less in omega (arith, most);
-    };
+  keeps : Keeps (live_state m) m (with_exits m e) said
+  keeps = record {
+    leads = subst (λ (es : List (Entry Value)). Leads (router_links m) es (router_links (with_exits m e))) (sym (ap entries_of t.turns.goes.lines ∙ said_entries t.chain t.turns.entries sent))
+        (exits_lead m e (t.turns.entries ++ sending_entries t.chain sent) (λ r is. (kept r is).unread) t.leads);
+    live = refl;
+    stands = stands_exits m e stands t.sound all_lead t.stand (ap (λ (x : Exited). x.profile) t.after ∙ stands.exits.profile) sessions (strangers_read m.declared.speaker m.reader m.exits e kept stands.exits.one)
+        (external_kept m e stands (λ r is. (kept r is).unread));
+    heard = turn_is_heard m.declared.profile (neighbours m.declared) k (candidates_of m) (best_of m) sent m.exits e said (exits_declared m stands) t;
   }
 
+  spent : Spent phases.Out m (with_exits m e)
+  spent =
+      let fewer = fewer_left in
+      let same = read_same m.reader (λ r is. (kept r is).unread) in
+      let most = read_less in
+      (omega (arith, fewer), omega (arith, fewer), (omega arith, (omega arith, (omega arith, (omega arith, (omega arith, (omega (arith, same), tt)))))), record { peers = omega arith; protocols = omega arith }, omega (arith, most))
+
+  exit_does : IsWork phases.Out 1 m (with_exits m e) said
+  exit_does = one_turn phases.Out m (with_exits m e) (with_exits m e) said refl keeps spent (omega arith, omega arith) (none_as_before m (with_exits m e) refl refl)
+
+pub exit_works : (k : ℕ) (m : Moment) (said : List Line) (m' : Moment) → Stands m → IsOutTurn k m said m' → IsWork phases.Out 1 m m' said
+exit_works k m said m' stands t = subst (λ (n : Moment). IsWork phases.Out 1 m n said) (sym t.after) (exit_does m k t.sent m'.exits said stands t.turn)
+
 -- by what it came to, over the rows that are lent
-pub exit_took : (m v : Moment) (k : ℕ) (e : Exited) (before j now : Journaled) (turn : Turn Attrs) (rested : Bool) → MatchBool rested (turn ≡ turns.Nothing) (turn ≢ turns.Nothing) → rested ≡ false → v ≡ m → Stands m
-    → ComesOut k (candidates_of v) (best_rows (lent_rows (own_of v) v.chains v.hops)) v.exits e before j turn → now ≡ flushed j → Comes (tasks.Out k) m (with_exits v e) before now Taken
-exit_took m v k e before j now turn rested told some view stands comes is =
-    subst (λ (n : Moment). Comes (tasks.Out k) n (with_exits v e) before now Taken) view
+pub exit_took : (m v : Moment) (k : ℕ) (e : Exited) (before j now : Journaled) (turn : Turn Attrs) (rested : Bool) → MatchBool rested (turn ≡ turns.Nothing) (turn ≢ turns.Nothing) → rested ≡ false → v ≡ m
+    → ComesOut k (candidates_of v) (best_rows (lent_rows (own_of v) v.chains v.hops)) v.exits e before j turn → now ≡ flushed j → TakesTurn (tasks.Out k) m (with_exits v e) before now Taken
+exit_took m v k e before j now turn rested told some view comes is =
+    subst (λ (n : Moment). TakesTurn (tasks.Out k) n (with_exits v e) before now Taken) view
     (by_turn turn (subst (λ (b : Bool). MatchBool b (turn ≡ turns.Nothing) (turn ≢ turns.Nothing)) some told) (subst (λ (rows : Rows Route). ComesOut k (candidates_of v) rows v.exits e before j turn) (lent_is (own_of v) v.chains v.hops) comes))
   where
-    by_turn : (t : Turn Attrs) → t ≢ turns.Nothing → ComesOut k (candidates_of v) (best_of v) v.exits e before j t → Comes (tasks.Out k) v (with_exits v e) before now Taken
+    by_turn : (t : Turn Attrs) → t ≢ turns.Nothing → ComesOut k (candidates_of v) (best_of v) v.exits e before j t → TakesTurn (tasks.Out k) v (with_exits v e) before now Taken
     by_turn turns.Nothing other c = absurd (other refl)
-    by_turn turns.Quiet other c = (c.0, is ∙ ap flushed c.1, exit_done v k None e c.0 (subst Stands (sym view) stands) c.2)
-    by_turn (turns.Sent change) other c = (c.0, is ∙ ap flushed c.1, exit_done v k (Some change) e c.0 (subst Stands (sym view) stands) c.2)
+    by_turn turns.Quiet other c = (c.0, is ∙ ap flushed c.1, record { sent = None; turn = c.2; after = refl })
+    by_turn (turns.Sent change) other c = (c.0, is ∙ ap flushed c.1, record { sent = Some change; turn = c.2; after = refl })
 
 -- what the turn asks for
 pub exits_stand : (m v : Moment) → v ≡ m → Stands m → AllStand (best_rows (lent_rows (own_of v) v.chains v.hops)) v.exits
-exits_stand m v view stands = subst (λ (rows : Rows Route). AllStand rows v.exits) (sym (lent_is (own_of v) v.chains v.hops)) ((subst Stands (sym view) stands).own ExitsRead)
+exits_stand m v view stands = subst (λ (rows : Rows Route). AllStand rows v.exits) (sym (lent_is (own_of v) v.chains v.hops)) ((subst Stands (sym view) stands).exits.read)

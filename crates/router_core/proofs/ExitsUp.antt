@@ -1,41 +1,23 @@
 -- Each peer that is up has an exit, after each event as before it.
-use Rattle.std.proofs.Common.{◌≡◌, ◌≢◌, ℕ, ◌+◌, ◌&&◌, not, Bool, true, false, cond, nat_eq, List, [], ◌∷◌, ◌++◌, map, Option, Some, None, is_some, refl, sym, ap, subst, ◌∙◌, arith}
+use Rattle.router_core.proofs.Common.{sym, subst, ◌∙◌, ap, ◌≡◌, ℕ, refl, List, true, arith, false, ◌+◌, Bool, ◌++◌, cond, nat_eq, not, ◌≢◌, ◌&&◌, nat_tests, Network, Route, Speaker, Message, begun_words, peer_at, Declaration, with_session, without_session, begun_at, DeclaredPeer, Event, Down, Bgp, RouteAdd, RouteDel, Lose, Cover, Settled, Work, As4, Revised, Up, Redist, Exited, with_exit, Queued, Line, as4_is_first, revised_is_first, declared_after, changes_of, OutChained, overdue_at, Rule, Proto, tree_overdue, ByPeer, IsBlock, BeginsIf, EndsIf, HearsIf, Declares, BySpeaker, Begins, DropsRouteIf, Moment, with_exits, rules_to, all_phases, Stands, AllHaveExits, HaveSameExits}
+use Rattle.std.proofs.Common.{[], ◌∷◌, map, Option, Some, None, is_some}
 use Rattle.std.specs.Prelude.{IsSome, option_map}
 use Rattle.std.specs.FinMap as tables
-use Rattle.std.proofs.lemmas.Bool.Decides.{nat_tests}
-use Rattle.bgp_attr.specs.declared.route.Route.{Route}
-use Rattle.bgp_attr.specs.declared.speaker.Speaker.{Speaker}
-use Rattle.bgp_wire.specs.declared.message.Message.{Message}
 use Rattle.bgp_wire.specs.declared.message.Message.TheVariants as messages
-use Rattle.policy_rules.specs.declared.rule.Rule.{Rule}
-use Rattle.fanout_queue.specs.Queues.{Queued}
-use Rattle.journal_text.specs.declared.line.Line.{Line}
 use Rattle.link_region.proofs.RegionLemmas.{by_bool}
-use Rattle.rib_route.specs.declared.Proto.{Proto}
-use Rattle.addr4.specs.Prefixes.{Network}
-use Rattle.event_text.specs.declared.event.Event.{Event}
-use Rattle.event_text.specs.declared.event.Event.TheVariants.{Nothing, As4, Revised, Local, Peer, Up, Down, Bgp, FilterIn, FilterOut, RouteAdd, RouteDel, Lose, Redist, Cover, Settled, Idle, Work, Ask, Show}
-use Rattle.event_text.specs.declared.declared.DeclaredPeer.{DeclaredPeer}
-use Rattle.event_text.specs.Declarations.{Declaration, peer_at, refusal, words_of, with_session, without_session, begun_at, ended_at}
-use Rattle.event_text.proofs.Sessions.{KeepsWords, begun_words, ended_words}
-use Rattle.live_state.specs.Messages.{ends_session, changes_of}
-use Rattle.live_state.specs.Declared.{declared_after, declared_down, declared_heard}
-use Rattle.out_chain.specs.Chains.{OutChained}
+use Rattle.event_text.specs.declared.event.Event.TheVariants.{Nothing, Local, Peer, FilterIn, FilterOut, Idle, Ask, Show}
+use Rattle.event_text.specs.Declarations.{refusal, words_of, ended_at}
+use Rattle.event_text.proofs.Sessions.{KeepsWords, ended_words}
+use Rattle.live_state.specs.Messages.{ends_session}
+use Rattle.live_state.specs.Declared.{declared_down, declared_heard}
 use Rattle.out_chain.specs.Steps.{exit_to, new_out, with_rules}
-use Rattle.exit_side.specs.Exits.{Exited, chain_at as exit_at, with_exit}
+use Rattle.exit_side.specs.Exits.{chain_at as exit_at}
 use Rattle.exit_side.specs.Steps.{edited_by}
 use Rattle.exit_side.proofs.SwapLemmas.{by_number}
 use Rattle.exit_laws.proofs.ViewLemmas.{put_here, put_other, gone_other}
-use Rattle.peer_side.specs.Peers.{overdue_at}
-use Rattle.rib_tree.specs.Steps.{tree_overdue}
-use Rattle.router_core.specs.Moments.{Moment, with_exits, rules_to}
-use Rattle.router_core.specs.Stands.{AllHaveExits, Stands}
 use Rattle.router_core.proofs.BeforeLocal.{no_peer}
-use Rattle.live_state.proofs.AdmittedLemmas.{as4_is_first, revised_is_first}
-use Rattle.router_core.specs.Phases.{all_phases}
-use Rattle.router_core.specs.Blocks.{Declares, BySpeaker, Begins, Loses, ByPeer, BeginsIf, EndsIf, HearsIf, Hears, DropsRouteIf, IsBlock}
-use Rattle.router_core.specs.Works.{HaveSameExits}
-use Rattle.router_core.proofs.SessionLemmas.{number_at}
+use Rattle.router_core.specs.Blocks.{Loses, Hears}
+use Rattle.router_core.proofs.SessionLemmas.{number_at, silenced}
 use Rattle.router_core.proofs.PeerLemmas.{peer_at_map}
 use Rattle.router_core.proofs.TurnWalks.{turns_same, phases_same, first_same, feeds_same, route_same}
 
@@ -109,12 +91,12 @@ module _ (m m' : Moment) (all : AllHaveExits m) where
   by_same ups same j p at up = let was = ups j (p, at, up) in same j ∙ all j was.0 was.1 was.2
 
   -- a session was lost
-  lost : (k s : ℕ) (said : List Line) → ((j : ℕ) → IsUpIn j m'.declared → IsUpIn j m.declared) → Loses k s m said m' → AllHaveExits m'
-  lost k s said ups l j p at up = by_number j k (λ _. IsSome (exit_at j m'.exits))
+  lost : (k s : ℕ) (said : List Line) → Stands m → ((j : ℕ) → IsUpIn j m'.declared → IsUpIn j m.declared) → Loses k s m said m' → AllHaveExits m'
+  lost k s said stands ups l j p at up = by_number j k (λ _. IsSome (exit_at j m'.exits))
       (λ is. absurd (down_ended l.between.declared k (subst (λ (n : ℕ). IsUpIn n (without_session l.between.declared k)) is (p, ap (λ (x : Moment). peer_at j x.declared.peers) (sym l.after) ∙ at, up))))
       (λ differ.
       let was = ups j (p, at, up) in
-      ap (λ (x : Moment). is_some (exit_at j x.exits)) l.after ∙ ap (λ (x : Moment). is_some (exit_at j x.exits)) l.loses.after ∙ first_same (overdue_at k m.chains) (with_exits m l.silenced) l.first l.room l.runs j
+      ap (λ (x : Moment). is_some (exit_at j x.exits)) l.after ∙ ap (λ (x : Moment). is_some (exit_at j x.exits)) l.loses.after ∙ first_same (overdue_at k m.chains) (with_exits m l.silenced) l.first l.room (silenced k m l.silenced l.entries stands l.ends).stands l.runs j
       ∙ ap (λ (e : Exited). is_some (exit_at j e)) l.ends.after ∙ ap is_some (gone_other k j (tables.remove m.exits.queue l.ends.chain.reader) m.exits differ) ∙ all j was.0 was.1 was.2)
 
   -- one begins
@@ -146,7 +128,7 @@ only_heard : (d : Declaration) (k : ℕ) (octets : List ℕ) (o : Option Declare
 only_heard d k octets None j is = is
 only_heard d k octets (Some p) j is = only_if (p.up && ends_session d.profile octets) d k j is
 
-module _ (m m' : Moment) (all : AllHaveExits m) where
+module _ (m m' : Moment) (stands : Stands m) (all : AllHaveExits m) where
   by_peer : (P : DeclaredPeer → Type 0) (k : ℕ) (A : Type 0) → ((p : DeclaredPeer) → peer_at k m.declared.peers ≡ Some p → P p → A) → ByPeer P (peer_at k m.declared.peers) → A
   by_peer P k A then is = by_found (peer_at k m.declared.peers) refl is
     where
@@ -173,15 +155,15 @@ module _ (m m' : Moment) (all : AllHaveExits m) where
   begun_if false k p said turns at is = begun_by m.declared.speaker k p said at is.1
 
   ended_if : (up : Bool) (k : ℕ) (p : DeclaredPeer) (said : List Line) (turns : ℕ) → OnlyUp m.declared m'.declared → EndsIf up m k p said turns m' → AllHaveExits m'
-  ended_if true k p said turns ups is = lost m m' all k p.session said ups is.1
+  ended_if true k p said turns ups is = lost m m' all k p.session said stands ups is.1
   ended_if false k p said turns ups is = stays is.2
 
   heard : (k : ℕ) (p : DeclaredPeer) (message : Message) (said : List Line) → OnlyUp m.declared m'.declared → Hears k p m message said m' → AllHaveExits m'
   heard k p (messages.Update u) said ups is = by_same m m' all ups (feeds_same k (changes_of u) m said m' is)
   heard k p messages.Keepalive said ups is = stays is.1
   heard k p messages.Skip said ups is = stays is.1
-  heard k p messages.Notification said ups is = lost m m' all k p.session said ups is
-  heard k p (messages.Notify n) said ups is = lost m m' all k p.session is.0 ups is.2
+  heard k p messages.Notification said ups is = lost m m' all k p.session said stands ups is
+  heard k p (messages.Notify n) said ups is = lost m m' all k p.session is.0 stands ups is.2
 
   heard_if : (up : Bool) (k : ℕ) (p : DeclaredPeer) (octets : List ℕ) (said : List Line) (turns : ℕ) → OnlyUp m.declared m'.declared → HearsIf up m k p octets said turns m' → AllHaveExits m'
   heard_if true k p octets said turns ups is = heard k p is.1.0 said ups is.1.2
@@ -195,28 +177,28 @@ module _ (m m' : Moment) (all : AllHaveExits m) where
   unpeered : ((k : ℕ) → peer_at k m.declared.peers ≡ None) → m'.declared.peers ≡ m.declared.peers → AllHaveExits m'
   unpeered none same j p at up = absurd (let clash : None ≡ Some p = sym (none j) ∙ ap (peer_at j) (sym same) ∙ at in cc)
 
-  pub event_exits : (event : Event) (said : List Line) (turns : ℕ) → Stands m → refusal m.declared event ≡ None → m'.declared ≡ declared_after m.declared event → IsBlock m event said turns m' → AllHaveExits m'
-  event_exits Nothing said turns stands admitted declared is = stays is.2
-  event_exits As4 said turns stands admitted declared is = unpeered (no_peer m stands (as4_is_first m.declared admitted)) (ap (λ (x : Moment). x.declared.peers) is.2)
-  event_exits Revised said turns stands admitted declared is = unpeered (no_peer m stands (revised_is_first m.declared admitted)) (ap (λ (x : Moment). x.declared.peers) is.2)
-  event_exits (Local words) said turns stands admitted declared is = by_same m m' all (λ j up. subst (IsUpIn j) declared up) (λ k. ap (λ (x : Moment). is_some (exit_at k x.exits)) is.1.after)
-  event_exits (Peer k words) said turns stands admitted declared is = declares m.declared.speaker k words said turns is
-  event_exits (Up k) said turns stands admitted declared is = by_peer (λ p. BeginsIf p.up m k p said turns m') k _ (λ p at begins. begun_if p.up k p said turns at begins) is
-  event_exits (Down k) said turns stands admitted declared is =
+  pub event_exits : (event : Event) (said : List Line) (turns : ℕ) → refusal m.declared event ≡ None → m'.declared ≡ declared_after m.declared event → IsBlock m event said turns m' → AllHaveExits m'
+  event_exits Nothing said turns admitted declared is = stays is.2
+  event_exits As4 said turns admitted declared is = unpeered (no_peer m stands (as4_is_first m.declared admitted)) (ap (λ (x : Moment). x.declared.peers) is.2)
+  event_exits Revised said turns admitted declared is = unpeered (no_peer m stands (revised_is_first m.declared admitted)) (ap (λ (x : Moment). x.declared.peers) is.2)
+  event_exits (Local words) said turns admitted declared is = by_same m m' all (λ j up. subst (IsUpIn j) declared up) (λ k. ap (λ (x : Moment). is_some (exit_at k x.exits)) is.1.after)
+  event_exits (Peer k words) said turns admitted declared is = declares m.declared.speaker k words said turns is
+  event_exits (Up k) said turns admitted declared is = by_peer (λ p. BeginsIf p.up m k p said turns m') k _ (λ p at begins. begun_if p.up k p said turns at begins) is
+  event_exits (Down k) said turns admitted declared is =
       by_peer (λ p. EndsIf p.up m k p said turns m') k _ (λ p at ends. ended_if p.up k p said turns (λ j up. only_down m.declared k (peer_at k m.declared.peers) j (subst (IsUpIn j) declared up)) ends) is
-  event_exits (Bgp k octets) said turns stands admitted declared is =
+  event_exits (Bgp k octets) said turns admitted declared is =
       by_peer (λ p. HearsIf p.up m k p octets said turns m') k _ (λ p at hears. heard_if p.up k p octets said turns (λ j up. only_heard m.declared k octets (peer_at k m.declared.peers) j (subst (IsUpIn j) declared up)) hears) is
-  event_exits (FilterIn k rules) said turns stands admitted declared is = by_same m m' all (λ j up. subst (IsUpIn j) declared up) (exits_same m m' (ap (λ (x : Moment). x.exits) is.2.2))
-  event_exits (FilterOut k rules) said turns stands admitted declared is = by_same m m' all (λ j up. subst (IsUpIn j) declared up)
+  event_exits (FilterIn k rules) said turns admitted declared is = by_same m m' all (λ j up. subst (IsUpIn j) declared up) (exits_same m m' (ap (λ (x : Moment). x.exits) is.2.2))
+  event_exits (FilterOut k rules) said turns admitted declared is = by_same m m' all (λ j up. subst (IsUpIn j) declared up)
       (λ i. ap (λ (x : Moment). is_some (exit_at i x.exits)) is.2.2 ∙ ap (λ (e : Exited). is_some (exit_at i e)) is.1.after ∙ same_edited k rules (exit_at k m.exits) m.exits refl i)
-  event_exits (RouteAdd p row) said turns stands admitted declared is = by_same m m' all (λ j up. subst (IsUpIn j) declared up) (route_same m _ row.proto p _ said m' is.1)
-  event_exits (RouteDel proto p) said turns stands admitted declared is = dropped_if _ proto p said turns (λ j up. subst (IsUpIn j) declared up) is
-  event_exits (Lose proto) said turns stands admitted declared is = by_same m m' all (λ j up. subst (IsUpIn j) declared up)
-      (λ k. ap (λ (x : Moment). is_some (exit_at k x.exits)) is.1.after ∙ first_same (tree_overdue proto m.tree) m is.1.first is.1.room is.1.runs k)
-  event_exits (Redist proto on) said turns stands admitted declared is = by_same m m' all (λ j up. subst (IsUpIn j) declared up) (exits_same m m' (ap (λ (x : Moment). x.exits) is.2))
-  event_exits (Cover addr) said turns stands admitted declared is = stays is.1
-  event_exits (Settled p) said turns stands admitted declared is = stays is.1
-  event_exits Idle said turns stands admitted declared is = by_same m m' all (λ j up. subst (IsUpIn j) declared up) (phases_same all_phases m is.inner turns m' is.runs)
-  event_exits (Work task n) said turns stands admitted declared is = by_same m m' all (λ j up. subst (IsUpIn j) declared up) (turns_same turns task m is.inner m' is.taken)
-  event_exits (Ask link p) said turns stands admitted declared is = stays is.2
-  event_exits (Show link) said turns stands admitted declared is = stays is.1
+  event_exits (RouteAdd p row) said turns admitted declared is = by_same m m' all (λ j up. subst (IsUpIn j) declared up) (route_same m _ row.proto p _ said m' is.1)
+  event_exits (RouteDel proto p) said turns admitted declared is = dropped_if _ proto p said turns (λ j up. subst (IsUpIn j) declared up) is
+  event_exits (Lose proto) said turns admitted declared is = by_same m m' all (λ j up. subst (IsUpIn j) declared up)
+      (λ k. ap (λ (x : Moment). is_some (exit_at k x.exits)) is.1.after ∙ first_same (tree_overdue proto m.tree) m is.1.first is.1.room stands is.1.runs k)
+  event_exits (Redist proto on) said turns admitted declared is = by_same m m' all (λ j up. subst (IsUpIn j) declared up) (exits_same m m' (ap (λ (x : Moment). x.exits) is.2))
+  event_exits (Cover addr) said turns admitted declared is = stays is.1
+  event_exits (Settled p) said turns admitted declared is = stays is.1
+  event_exits Idle said turns admitted declared is = by_same m m' all (λ j up. subst (IsUpIn j) declared up) (phases_same all_phases m is.inner turns m' stands is.runs)
+  event_exits (Work task n) said turns admitted declared is = by_same m m' all (λ j up. subst (IsUpIn j) declared up) (turns_same turns task m is.inner m' stands is.taken)
+  event_exits (Ask link p) said turns admitted declared is = stays is.2
+  event_exits (Show link) said turns admitted declared is = stays is.1

@@ -1,52 +1,25 @@
 -- The RIB's exit in the router: what its entries lead to, what stands then, and one turn of the external routes' next hops.
-use Rattle.std.proofs.Common.{◌≡◌, ◌≢◌, ℕ, ◌+◌, ◌≤◌, Bool, true, false, List, Option, Some, None, is_some, refl, sym, ap, subst, ◌∙◌, arith}
+use Rattle.router_core.proofs.Common.{sym, subst, ◌∙◌, ap, ◌≡◌, ℕ, refl, List, true, arith, false, ◌+◌, Bool, ◌≤◌, ◌≢◌, Network, Speaker, peer_at, others_are_unheard, AreUnheard, Exited, AllStand, IsExits, AllLead, resolver_at, HasNoInterest, entries_of_entries, Journaled, flushed, Leads, Links, Entry, Line, Value, Change, Turn, joined, with_side, Sides, Region, Forward, no_table, way_of, over, external_hop, chain_at, Registry, StandsOver, ext_rows, AgreesWith, RibExit, FibRow, Interior, int_rows, Moment, best_of, router_links, with_exits, read_rows_by, read_of, parts, forward_by, with_rib, external_beyond, Stands, ExitsAt, ReadsOn, journal_lines, TakesTurn, IsWork, Taken}
+use Rattle.std.proofs.Common.{Option, Some, None, is_some}
 use Rattle.std.specs.Prelude.{MatchBool}
 use Rattle.std.specs.FinMap as tables
-use Rattle.addr4.specs.Prefixes.{Network}
-use Rattle.bgp_attr.specs.declared.speaker.Speaker.{Speaker}
-use Rattle.link_change.specs.declared.change.Change.{Change}
-use Rattle.link_change.specs.declared.turn.Turn.{Turn}
 use Rattle.link_change.specs.declared.turn.Turn.TheVariants as turns
-use Rattle.rib_route.specs.declared.rows.Interior.{Interior}
-use Rattle.rib_route.specs.declared.rows.FibRow.{FibRow}
-use Rattle.register_interest.specs.Registers.{Registry}
 use Rattle.nexthop_resolver.specs.Registered.{KeepsOthers}
-use Rattle.nexthop_resolver.specs.Kept.{external_hop, over, way_of}
 use Rattle.journal_text.specs.declared.link.Task.TheVariants as tasks
-use Rattle.journal_text.specs.declared.entry.Entry.{Entry}
-use Rattle.journal_text.specs.declared.value.Value.{Value}
-use Rattle.journal_text.specs.Journals.{Journaled, flushed}
-use Rattle.journal_text.specs.Walk.{Links, Leads}
-use Rattle.journal_text.proofs.JournalLemmas.{entries_of_entries}
-use Rattle.link_region.specs.declared.regions.Region.{Region}
-use Rattle.link_region.specs.declared.regions.Region.TheVariants.{Forward}
-use Rattle.link_region.specs.Regions.{Sides, joined, with_side}
-use Rattle.loss_chain.specs.Tables.{table_beyond}
-use Rattle.loss_chain.proofs.TableLemmas.{no_table}
-use Rattle.rib_tree.specs.Trees.{int_rows}
-use Rattle.rib_exit.specs.declared.exit.RibExit.{RibExit}
-use Rattle.rib_exit.specs.Exits.{exit_links as external_links, ext_candidates, ext_rows, IsExit, AgreesWith, StandsOver, left_in}
+use Rattle.rib_exit.specs.Exits.{exit_links as external_links, ext_candidates, IsExit, left_in}
 use Rattle.rib_exit.specs.Steps.{LeadsExit, KeepsAgreed, TurnsExit, ComesOut}
 use Rattle.rib_exit.proofs.LawLemmas.{stands_at_first}
-use Rattle.fanout_queue.specs.Queues.{AllLead}
-use Rattle.exit_side.specs.Exits.{Exited, IsExits, AllStand, chain_at as exit_at}
-use Rattle.exit_laws.specs.Views.{AreUnheard}
-use Rattle.exit_laws.proofs.OtherLemmas.{others_are_unheard}
-use Rattle.hop_side.specs.Resolvers.{resolver_at}
-use Rattle.hop_side.specs.Steps.{HasNoInterest}
+use Rattle.exit_side.specs.Exits.{chain_at as exit_at}
 use Rattle.hop_side.proofs.LawLemmas.{strangers_agree}
-use Rattle.peer_side.specs.Peers.{chain_at}
-use Rattle.event_text.specs.Declarations.{peer_at}
-use Rattle.router_core.specs.declared.router.Done.TheVariants.{Taken}
-use Rattle.router_core.specs.Moments.{Moment, best_of, read_of, read_rows_by, forward_by, parts, router_links, with_exits, with_rib}
-use Rattle.router_core.specs.Phases.{external_beyond}
-use Rattle.router_core.specs.Stands.{Stands, Claim, Claims, EachResolver, SameResolvers, AnswersAgree, NoStrangers, SmallNumbers, EachExit, QueueLeads, ExitsRead, SameProfile, SameSessions, OneReader, ExternalExit, ExternalAgrees, ExternalStands, NothingExternal, Tie, Ties, Registered, here, ExitsAt, ReadsOn}
-use Rattle.router_core.specs.Turns.{journal_lines}
-use Rattle.router_core.specs.Works.{IsUnit, Comes}
+use Rattle.loss_chain.specs.Tables.{table_beyond}
+use Rattle.router_core.specs.Turns.{IsExternalTurn}
 use Rattle.router_core.proofs.HeardSteps.{heard_quiet}
 use Rattle.router_core.proofs.StaleLemmas.{turned, all_as_before, none_goes_stale}
 use Rattle.router_core.proofs.BeyondLemmas.{external_counted}
 use Rattle.router_core.proofs.RibLinks.{exit_leads}
+use Rattle.router_core.proofs.SpendLemmas.{Spent}
+use Rattle.router_core.proofs.WorkLemmas.{one_turn}
+use Rattle.router_core.specs.declared.router.Phase.TheVariants as phases
 
 -- ---- the region of the external routes
 -- peers hear nothing of it
@@ -70,37 +43,46 @@ forward_leads m me r x entries since leads =
 -- ---- the register's clients, where the exit asked
 -- no peer has its number
 none_at_zero : (m : Moment) → Stands m → resolver_at 0 m.hops ≡ None
-none_at_zero m stands = no_table (resolver_at 0 m.hops) (stands.own SameResolvers 0 ∙ by_chain (is_some (chain_at 0 m.chains)) refl)
+none_at_zero m stands = no_table (resolver_at 0 m.hops) (stands.hops.same 0 ∙ by_chain (is_some (chain_at 0 m.chains)) refl)
   where
     by_chain : (b : Bool) → is_some (chain_at 0 m.chains) ≡ b → is_some (chain_at 0 m.chains) ≡ false
-    by_chain true is = absurd (let small : 1 ≤ 0 = (stands.own SmallNumbers 0 is).0 in omega (arith, small))
+    by_chain true is = absurd (let small : 1 ≤ 0 = (stands.peers.numbers 0 is).0 in omega (arith, small))
     by_chain false is = is
 
 strangers_stay : (m : Moment) (r : Registry Interior) → Stands m → KeepsOthers 0 m.registry r → (k : ℕ) → k ≢ 0 → resolver_at k m.hops ≡ None → HasNoInterest k r
-strangers_stay m r stands keeps k other none s = ap is_some (keeps.interests (record { subnet = s; client = k }) other) ∙ stands.own NoStrangers k other none s
+strangers_stay m r stands keeps k other none s = ap is_some (keeps.interests (record { subnet = s; client = k }) other) ∙ stands.hops.strangers k other none s
 
 -- ---- what stands then: the exits of peers and the RIB's exit became these
 pub stands_forward : (m : Moment) (me : Speaker) (e : Exited) (r : Registry Interior) (x : RibExit) → Stands m → m.declared.speaker ≡ Some me → KeepsAgreed m.registry r x → IsExits e → AllLead e.queue (best_of m) → AllStand (best_of m) e → e.profile ≡ m.declared.profile
     → ((k : ℕ) → ExitsAt m.declared.speaker m.outgoing k (peer_at k m.declared.peers) (exit_at k e)) → ReadsOn m.declared.speaker m.reader e → StandsOver (read_rows_by e.queue m.reader (best_of m)) x → Stands (with_rib (with_exits m e) r x)
-stands_forward m me e r x stands since agreed sound all stand profile sessions reader external = record { own = own; at = at }
-  where
-    own : (claim : Claim) → Claims (with_rib (with_exits m e) r x) claim
-    own AnswersAgree = strangers_agree m.hops 0 m.registry r (stands.own EachResolver) (none_at_zero m stands) agreed.others (stands.own AnswersAgree)
-    own NoStrangers = strangers_stay m r stands agreed.others
-    own EachExit = sound
-    own QueueLeads = all
-    own ExitsRead = stand
-    own SameProfile = profile
-    own SameSessions = sessions
-    own OneReader = reader
-    own ExternalExit = agreed.sound
-    own ExternalAgrees = agreed.agree
-    own ExternalStands = external
-    own NothingExternal = λ none. absurd (let clash : None ≡ Some me = sym none ∙ since in cc)
-    own other = stands.own other
-
-    at : (p : Network) (tie : Tie) → Ties (here (with_rib (with_exits m e) r x) p) tie
-    at p Registered = ap (λ t. tables.get t p) agreed.others.rows ∙ stands.at p Registered
+stands_forward m me e r x stands since agreed sound all stand profile sessions reader external = record {
+  peers = stands.peers;
+  interior = stands.interior;
+  registered = ap tables.get agreed.others.rows ∙ stands.registered;
+  hops = record {
+    sound = stands.hops.sound;
+    same = stands.hops.same;
+    agree = strangers_agree m.hops 0 m.registry r stands.hops.sound (none_at_zero m stands) agreed.others stands.hops.agree;
+    counted = stands.hops.counted;
+    strangers = strangers_stay m r stands agreed.others;
+  };
+  exits = record {
+    rows = stands.exits.rows;
+    each = sound;
+    all = all;
+    read = stand;
+    profile = profile;
+    sender = stands.exits.sender;
+    sessions = sessions;
+    one = reader;
+    external = external;
+  };
+  external = record {
+    sound = agreed.sound;
+    agree = agreed.agree;
+  };
+  waits = record { own = stands.waits.own; external = λ none. absurd (let clash : None ≡ Some me = sym none ∙ since in cc) };
+}
 
 -- ---- a turn of the next hops
 module _ (m : Moment) (r : Registry Interior) (x : RibExit) (sent : Option (Change FibRow)) (entries : List (Entry Value)) (stands : Stands m) (t : TurnsExit (int_rows m.tree) sent m.registry r m.rib x entries) where
@@ -118,46 +100,41 @@ module _ (m : Moment) (r : Registry Interior) (x : RibExit) (sent : Option (Chan
       by_speaker : (s : Option Speaker) → m.declared.speaker ≡ s → (me : Speaker) × (m.declared.speaker ≡ Some me)
       by_speaker (Some me) since = (me, since)
       by_speaker None first =
-          let none : left_in (external_beyond m.rib) m.rib ≡ 0 = ap (left_in (external_beyond m.rib)) (stands.own NothingExternal first) ∙ stands_at_first.left (external_beyond m.rib) in
+          let none : left_in (external_beyond m.rib) m.rib ≡ 0 = ap (left_in (external_beyond m.rib)) (stands.waits.external first) ∙ stands_at_first.left (external_beyond m.rib) in
           let some = fewer in
           absurd (omega (arith, none, some))
 
-  pub external_done : IsUnit tasks.Ext m (with_rib m r x) (journal_lines entries)
-  external_done = record {
-    turn = record { fib = sent; entries = entries; turn = t; lines = refl; after = refl };
-    work = record {
-      keeps = record {
-        leads = subst (λ (es : List (Entry Value)). Leads (router_links m) es (router_links (with_rib m r x))) (sym (entries_of_entries entries)) (forward_leads m local.0 r x entries local.1 t.leads);
-        live = refl;
-        stands = stands_forward m local.0 m.exits r x stands local.1 t.agreed (stands.own EachExit) (stands.own QueueLeads) (stands.own ExitsRead) (stands.own SameProfile) (stands.own SameSessions) (stands.own OneReader)
-            (t.stands (read_of m) (stands.own ExternalStands));
-        heard = heard_quiet m (with_rib m r x) (journal_lines entries) (exit_unheard _ _ entries t.leads) refl;
-      };
-      falls = fewer;
-      left = fewer;
-      earlier = (omega arith, (omega arith, (omega arith, (omega arith, (omega arith, (omega arith, (omega arith, tt)))))));
-      rows = record { peers = omega arith; protocols = omega arith };
-      known = (omega arith, let same = t.known in omega (arith, same));
-      stale = none_goes_stale m (with_rib m r x) (all_as_before m.hops m.hops refl)
-          (turned external_hop over (ext_candidates m.rib) (ext_rows m.rib) way_of m.registry r m.rib.forwarding x.forwarding t.resolved t.turned);
-      unread = omega arith;
-    };
-  }
+  external_does : IsWork phases.Ext 1 m (with_rib m r x) (journal_lines entries)
+  external_does = one_turn phases.Ext m (with_rib m r x) (with_rib m r x) (journal_lines entries) refl (record {
+    leads = subst (λ (es : List (Entry Value)). Leads (router_links m) es (router_links (with_rib m r x))) (sym (entries_of_entries entries)) (forward_leads m local.0 r x entries local.1 t.leads);
+    live = refl;
+    stands = stands_forward m local.0 m.exits r x stands local.1 t.agreed stands.exits.each stands.exits.all stands.exits.read stands.exits.profile stands.exits.sessions stands.exits.one (t.stands (read_of m) stands.exits.external);
+    heard = heard_quiet m (with_rib m r x) (journal_lines entries) (exit_unheard _ _ entries t.leads) refl;
+  }) spent (omega arith, let same = t.known in omega (arith, same)) (none_goes_stale m (with_rib m r x) (all_as_before m.hops m.hops refl)
+      (turned external_hop over (ext_candidates m.rib) (ext_rows m.rib) way_of m.registry r m.rib.forwarding x.forwarding t.resolved t.turned))
+    where
+      spent : Spent phases.Ext m (with_rib m r x)
+      spent =
+          let less = fewer in
+          (omega (arith, less), omega (arith, less), (omega arith, (omega arith, (omega arith, (omega arith, (omega arith, (omega arith, (omega arith, tt))))))), record { peers = omega arith; protocols = omega arith }, omega arith)
+
+pub external_works : (m : Moment) (said : List Line) (m' : Moment) → Stands m → IsExternalTurn m said m' → IsWork phases.Ext 1 m m' said
+external_works m said m' stands t = subst (λ (n : Moment). IsWork phases.Ext 1 m n said) (sym t.after) (subst (λ (l : List Line). IsWork phases.Ext 1 m (with_rib m m'.registry m'.rib) l) (sym t.lines) (external_does m m'.registry m'.rib t.fib t.entries stands t.turn))
 
 -- by what it came to
-pub external_took : (m v m' : Moment) (r : Registry Interior) (x : RibExit) (before j now : Journaled) (turn : Turn FibRow) (rested : Bool) → MatchBool rested (turn ≡ turns.Nothing) (turn ≢ turns.Nothing) → rested ≡ false → v ≡ m → Stands m
-    → ComesOut (int_rows v.tree) v.registry r v.rib x before j turn → m' ≡ with_rib v r x → now ≡ flushed j → Comes tasks.Ext m m' before now Taken
-external_took m v m' r x before j now turn rested is some view stands comes after flush =
-    subst (λ (n : Moment). Comes tasks.Ext n m' before now Taken) view (subst (λ (n : Moment). Comes tasks.Ext v n before now Taken) (sym after) (by_turn turn (subst (λ (b : Bool). MatchBool b (turn ≡ turns.Nothing) (turn ≢ turns.Nothing)) some is) comes))
+pub external_took : (m v m' : Moment) (r : Registry Interior) (x : RibExit) (before j now : Journaled) (turn : Turn FibRow) (rested : Bool) → MatchBool rested (turn ≡ turns.Nothing) (turn ≢ turns.Nothing) → rested ≡ false → v ≡ m
+    → ComesOut (int_rows v.tree) v.registry r v.rib x before j turn → m' ≡ with_rib v r x → now ≡ flushed j → TakesTurn tasks.Ext m m' before now Taken
+external_took m v m' r x before j now turn rested is some view comes after flush =
+    subst (λ (n : Moment). TakesTurn tasks.Ext n m' before now Taken) view (subst (λ (n : Moment). TakesTurn tasks.Ext v n before now Taken) (sym after) (by_turn turn (subst (λ (b : Bool). MatchBool b (turn ≡ turns.Nothing) (turn ≢ turns.Nothing)) some is) comes))
   where
-    by_turn : (t : Turn FibRow) → t ≢ turns.Nothing → ComesOut (int_rows v.tree) v.registry r v.rib x before j t → Comes tasks.Ext v (with_rib v r x) before now Taken
+    by_turn : (t : Turn FibRow) → t ≢ turns.Nothing → ComesOut (int_rows v.tree) v.registry r v.rib x before j t → TakesTurn tasks.Ext v (with_rib v r x) before now Taken
     by_turn turns.Nothing other c = absurd (other refl)
-    by_turn turns.Quiet other c = (journal_lines c.0, flush ∙ ap flushed c.1, external_done v r x None c.0 (subst Stands (sym view) stands) c.2)
-    by_turn (turns.Sent change) other c = (journal_lines c.0, flush ∙ ap flushed c.1, external_done v r x (Some change) c.0 (subst Stands (sym view) stands) c.2)
+    by_turn turns.Quiet other c = (journal_lines c.0, flush ∙ ap flushed c.1, record { fib = None; entries = c.0; turn = c.2; lines = refl; after = refl })
+    by_turn (turns.Sent change) other c = (journal_lines c.0, flush ∙ ap flushed c.1, record { fib = Some change; entries = c.0; turn = c.2; lines = refl; after = refl })
 
 -- what the calls ask for
 pub rib_sound : (m v : Moment) → v ≡ m → Stands m → IsExit v.rib
-rib_sound m v view stands = (subst Stands (sym view) stands).own ExternalExit
+rib_sound m v view stands = (subst Stands (sym view) stands).external.sound
 
 pub rib_agrees : (m v : Moment) → v ≡ m → Stands m → AgreesWith v.rib v.registry
-rib_agrees m v view stands = (subst Stands (sym view) stands).own ExternalAgrees
+rib_agrees m v view stands = (subst Stands (sym view) stands).external.agree

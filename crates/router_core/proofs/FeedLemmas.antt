@@ -1,50 +1,18 @@
 -- The prefixes of an UPDATE, one after the other.
-use Rattle.std.proofs.Common.{◌≡◌, ℕ, ◌+◌, ◌<◌, ◌≤◌, zero, suc, arith, Bool, true, false, cond, List, [], ◌∷◌, ◌++◌, Option, Some, get_or, length, take, refl, sym, ap, subst, ◌∙◌, append_assoc}
-use Rattle.bgp_attr.specs.declared.speaker.Profile.{Profile}
-use Rattle.std.proofs.lemmas.List.{append-nil, take_more}
-use Rattle.addr4.specs.Prefixes.{Network}
-use Rattle.bgp_attr.specs.declared.attrs.Attrs.{Attrs}
-use Rattle.bgp_attr.specs.declared.route.Route.{Route}
-use Rattle.link_change.specs.Rows.{Rows}
-use Rattle.link_change.specs.declared.change.Change.{Change}
-use Rattle.journal_text.specs.declared.entry.Entry.{Entry}
-use Rattle.journal_text.specs.declared.value.Value.{Value}
-use Rattle.journal_text.specs.declared.line.Line.{Line}
-use Rattle.journal_text.specs.Journals.{Journaled, Adds}
-use Rattle.event_text.specs.declared.declared.DeclaredPeer.{DeclaredPeer}
-use Rattle.in_chain.specs.Chains.{Chained}
-use Rattle.in_chain.specs.Steps.{fed, welded}
+use Rattle.router_core.proofs.Common.{sym, subst, ◌∙◌, ap, ◌≡◌, ℕ, refl, List, true, arith, false, ◌+◌, Bool, ◌++◌, cond, ◌<◌, suc, zero, take, get_or, take_more, same_Some, ForSome, Network, Attrs, Route, Profile, peer_at, DeclaredPeer, Chained, welded, fed, Journaled, Adds, Entry, Line, Value, Change, LiveState, same_by, MayBeHeard, adds_both, Chains, put_chain, live_state, Moment, with_chains, Stands, PeerStands, IsSilent, open_session, journal_lines, FallsPeer, FeedsAll, Pushes, Keeps, AreHeard, HaveFed, SettlesPeer, MaySettle}
+use Rattle.std.proofs.Common.{[], ◌∷◌, Option, Some, length, append_assoc}
+use Rattle.std.proofs.lemmas.List.{append-nil}
 use Rattle.loss_chain.specs.Steps.{live_after}
-use Rattle.loss_chain.proofs.TableLemmas.{same_by}
-use Rattle.std.specs.Prelude.{IsSome, is_some}
-use Rattle.event_text.specs.Declarations.{peer_at}
-use Rattle.hop_side.specs.Resolvers.{resolver_at}
-use Rattle.hop_side.specs.Steps.{GoesOn}
-use Rattle.peer_side.specs.Peers.{Chains, chain_at, put_chain, filt_at}
 use Rattle.peer_side.specs.Steps.{FeedsInward}
-use Rattle.journal_text.specs.Texts.{entries_of}
-use Rattle.journal_text.specs.Walk.{Leads}
-use Rattle.std.specs.Option.{ForSome}
-use Rattle.std.proofs.lemmas.Option.{same_Some}
-use Rattle.link_change.specs.Changes.{IsSent}
-use Rattle.peer_out.specs.Changes.{MayBeHeard}
-use Rattle.router_core.specs.Bests.{all_at, best_at, best_entries}
-use Rattle.router_core.proofs.BestLemmas.{best_quiet}
-use Rattle.router_core.specs.Printable.{IsHeard}
-use Rattle.router_core.proofs.HeardSteps.{heard_quiet, queue_views, falls_unheard}
-use Rattle.router_core.specs.Moments.{Moment, own_of, best_of, with_chains, with_hops, with_exits, router_links}
-use Rattle.router_core.proofs.HeardRows.{fed_heard, weld_heard, put_heard}
-use Rattle.router_core.proofs.QueueLemmas.{reader_live, exits_fall}
-use Rattle.live_state.specs.Lives.{LiveState, Routes, with_routes, routes_after, live_fed}
-use Rattle.router_core.specs.Lives.{live_state}
-use Rattle.router_core.specs.Stands.{IsSilent, PeerStands, Stands, HopsCounted, SmallNumbers, EachRow, open_session}
-use Rattle.router_core.specs.Turns.{FeedsAll, journal_lines}
-use Rattle.router_core.specs.Works.{Pushes, AreHeard, IsUpAt, Keeps, HaveFed, SettlesPeer}
-use Rattle.peer_side.proofs.WeldLemmas.{fallen_at, weld_after, weld_keeps, adds_both}
-use Rattle.router_core.proofs.HopLemmas.{all_comes, falls_lead, hops_fall}
+use Rattle.router_core.proofs.HeardRows.{fed_heard, weld_heard}
+use Rattle.live_state.specs.Lives.{Routes, with_routes, routes_after, live_fed}
+use Rattle.router_core.specs.Turns.{Feeds}
+use Rattle.router_core.specs.Works.{IsUpAt}
+use Rattle.peer_side.proofs.WeldLemmas.{weld_keeps}
 use Rattle.live_state.proofs.AdmittedLemmas.{routes_twice}
-use Rattle.router_core.proofs.StandLemmas.{peer_of, resolver_there, speaker_there, same_peers, not_zero, external_agrees, stands_with, live_routed, routes_there}
+use Rattle.router_core.proofs.StandLemmas.{peer_of, live_routed, routes_there, may_settle}
 use Rattle.router_core.proofs.KeepLemmas.{keeps_join, pushes_join}
+use Rattle.router_core.proofs.PeerFalls.{welded_put, fall_keeps, fall_settled}
 
 silent_up : (up : Bool) (c : Chained) → up ≡ true → IsSilent up c
 silent_up true c is = tt
@@ -53,68 +21,39 @@ silent_up false c is = absurd (cc)
 abbrev live_by : Moment → (ℕ → Routes) → LiveState
 live_by m routes = record (live_state m) { routes = routes }
 
--- a feed of a peer's chain, and what follows it, are one of the router
+-- ---- one prefix
+pub feed_keeps : (k : ℕ) (p : Network) (row : Option Attrs) (m : Moment) (said : List Line) (m' : Moment) → Stands m → IsUpAt k m → ForSome row (MayBeHeard m.declared.profile) → Feeds k (p, row) m said m' → Keeps (live_fed (live_state m) k ((p, row) ∷ [])) m m' said
+feed_keeps k p row m said m' stands up heard t =
+    fall_keeps k t.0 (FeedsInward k p row t.0 m.chains) m said m' stands f c less f.part.feeds.at f.part.feeds.after p f.part.changes (live_fed (live_state m) k ((p, row) ∷ [])) peer.0 f.part.fall refl
+    (live_routed m m.declared k c (welded less) m'.chains f.part.feeds.at put refl ∙ ap (λ (r : Routes). live_by m (with_routes (live_state m).routes k (live_after r p row))) (sym (routes_there m k c f.part.feeds.at))) peer.1 here
+    (weld_heard m.declared.profile less (fed_heard m.declared.profile c p row heard (stands.exits.rows k c f.part.feeds.at)))
+  where
+    f : FallsPeer k t.0 (FeedsInward k p row t.0 m.chains) m said m'
+    f = t.1
+
+    c : Chained
+    c = f.part.feeds.chain
+
+    less : Chained
+    less = fed c p row
+
+    put : m'.chains ≡ put_chain k (welded less) m.chains
+    put = welded_put k t.0 (FeedsInward k p row t.0 m.chains) m said m' stands f c less f.part.feeds.at f.part.feeds.after p f.part.changes
+
+    peer : (q : DeclaredPeer) × (peer_at k m.declared.peers ≡ Some q) × PeerStands q c
+    peer = peer_of m stands k c f.part.feeds.at
+
+    here : PeerStands peer.0 (welded less)
+    here =
+        let is_up : peer.0.up ≡ true = ap (λ (q : DeclaredPeer). q.up) (same_Some peer.0 up.0 (sym peer.1 ∙ up.1)) ∙ up.2 in
+        let earlier = weld_keeps k m.chains f.fallen m'.chains less f.weld f.part.feeds.after f.welds (open_session peer.0) (f.part.before (open_session peer.0) peer.2.earlier) in
+        record { words = peer.2.words; earlier = earlier; silent = silent_up peer.0.up (welded less) is_up }
+
 fed_one : (k : ℕ) (p : Network) (row : Option Attrs) (sent : Option (Change Route)) (m : Moment) (fallen : Chains) (m' : Moment) (entries rest : List (Entry Value)) → Stands m → IsUpAt k m → ForSome row (MayBeHeard m.declared.profile) → FeedsInward k p row sent m.chains fallen entries
     → SettlesPeer k sent (with_chains m fallen) m' rest → HaveFed k ((p, row) ∷ []) m m' (journal_lines (entries ++ rest))
 fed_one k p row sent m fallen m' entries rest stands up heard f w =
-    subst (λ (n : Moment). HaveFed k ((p, row) ∷ []) m n (journal_lines (entries ++ rest))) (sym w.after)
-    (subst (λ (es : List (Entry Value)). HaveFed k ((p, row) ∷ []) m after (journal_lines (entries ++ es))) (sym w.lines) (record {
-      feeds = (
-        journal_lines said,
-        [],
-        after,
-        (sent, record { fallen = fallen; entries = entries; part = f; resolved = w.resolved; passed = w.passed; below = w.below; best = w.best; decided = w.decided; weld = w.weld; welds = w.welds; queued = w.queued; lines = refl; after = refl }),
-        (refl, refl),
-        sym (append-nil (journal_lines said)),
-      );
-      keeps = record {
-        leads = subst (λ (es : List (Entry Value)). Leads (router_links m) (entries_of (journal_lines (entries ++ (w.resolved ++ (es ++ w.weld))))) (router_links after)) (sym w.decided.lines)
-            (falls_lead m c.me fallen m'.chains m'.registry m'.hops m'.exits p entries w.resolved w.weld w.decided.best (speaker_there m stands k c f.feeds.at) (reader_live m stands) f.fall.leads goes.leads decides w.welds.step.leads quiet w.queued);
-        live = live_routed m m.declared k c c' m'.chains f.feeds.at put refl ∙ ap (λ (r : Routes). live_by m (with_routes (live_state m).routes k (live_after r p row))) (sym (routes_there m k c f.feeds.at));
-        heard = subst (λ (es : List (Entry Value)). IsHeard m (journal_lines (entries ++ (w.resolved ++ (es ++ w.weld)))) after) (sym w.decided.lines)
-            (heard_quiet m after (journal_lines (entries ++ (w.resolved ++ (best_entries w.decided.best ++ w.weld)))) (falls_unheard _ _ _ _ _ _ entries w.resolved w.weld w.decided.best f.fall.leads goes.leads w.welds.step.leads) (queue_views w.decided.best m.exits m'.exits w.queued));
-        stands = stands_with m k c c' m'.chains m'.registry m'.hops m'.exits peer.0 stands f.feeds.at put w.welds.step.sound refl peer.1 here w.below.agreed.others.rows
-            (external_agrees m stands k c m'.registry f.feeds.at w.below.agreed.others)
-            (hops_fall m k fallen m'.chains m'.registry m'.hops stands w.below.agreed goes.counted quiet (resolver_there m stands k c f.feeds.at) (same_peers m k c c' m'.chains f.feeds.at put))
-            (exits_fall m after w.decided.best p stands
-            (put_heard m.declared.profile k c' m.chains m'.chains put (weld_heard m.declared.profile (fed c p row) (fed_heard m.declared.profile c p row heard (stands.own EachRow k c f.feeds.at))) (stands.own EachRow)) w.queued
-            (subst (λ (rows : Rows Route). IsSent (best_of m) rows p w.decided.best) (sym (best_quiet (own_of m) fallen m'.chains m'.hops w.welds.quiet)) decides) refl refl refl (λ rows over. over));
-      };
-    }))
-  where
-    c : Chained
-    c = f.feeds.chain
-
-    c' : Chained
-    c' = welded (fed f.feeds.chain p row)
-
-    said : List (Entry Value)
-    said = entries ++ (w.resolved ++ (w.best ++ w.weld))
-
-    after : Moment
-    after = with_exits (with_hops (with_chains m m'.chains) m'.registry m'.hops) m'.exits
-
-    put : m'.chains ≡ put_chain k (welded (fed f.feeds.chain p row)) m.chains
-    put = weld_after k m.chains fallen m'.chains (fed f.feeds.chain p row) w.weld f.feeds.after w.welds.welds
-
-    quiet : filt_at m'.chains ≡ filt_at fallen
-    quiet i j = w.welds.quiet j i
-
-    goes : GoesOn k p w.passed m.hops m'.hops w.resolved (filt_at m.chains) (filt_at fallen)
-    goes = w.below.goes (filt_at m.chains) (filt_at fallen) p (stands.own HopsCounted) (record { here = f.changes.rows; others = f.changes.others })
-
-    decides : IsSent (best_of m) (best_at (own_of m) fallen m'.hops) p w.decided.best
-    decides = w.decided.decides (all_at (own_of m) m.chains m.hops) p
-        (all_comes (own_of m) m.chains fallen m.hops m'.hops k p w.passed (not_zero k (stands.own SmallNumbers k (ap is_some f.feeds.at)).0) goes.comes)
-
-    peer : (q : DeclaredPeer) × (peer_at k m.declared.peers ≡ Some q) × PeerStands q f.feeds.chain
-    peer = peer_of m stands k f.feeds.chain f.feeds.at
-
-    here : PeerStands peer.0 (welded (fed f.feeds.chain p row))
-    here =
-        let is_up : peer.0.up ≡ true = ap (λ (q : DeclaredPeer). q.up) (same_Some peer.0 up.0 (sym peer.1 ∙ up.1)) ∙ up.2 in
-        let earlier = weld_keeps k m.chains fallen m'.chains (fed f.feeds.chain p row) w.weld f.feeds.after w.welds (open_session peer.0) (f.before (open_session peer.0) peer.2.earlier) in
-        record { words = peer.2.words; earlier = earlier; silent = silent_up peer.0.up (welded (fed f.feeds.chain p row)) is_up }
+    let t : Feeds k (p, row) m (journal_lines (entries ++ rest)) m' = (sent, fall_settled k sent (FeedsInward k p row sent m.chains) m fallen m' entries rest f w) in
+    record { feeds = (journal_lines (entries ++ rest), [], m', t, (refl, refl), sym (append-nil (journal_lines (entries ++ rest)))); keeps = feed_keeps k p row m (journal_lines (entries ++ rest)) m' stands up heard t }
 
 pub one_fed : (k : ℕ) (p : Network) (row : Option Attrs) (sent : Option (Change Route)) (m v : Moment) (fallen : Chains) (m' : Moment) (before j now : Journaled) → v ≡ m → Stands m → IsUpAt k m → ForSome row (MayBeHeard m.declared.profile) → Adds (FeedsInward k p row sent v.chains fallen) before j
     → Adds (SettlesPeer k sent (with_chains v fallen) m') j now → Pushes (HaveFed k ((p, row) ∷ []) m m') before now
@@ -122,17 +61,9 @@ one_fed k p row sent m v fallen m' before j now view stands up heard f w =
     subst (λ (n : Moment). Pushes (HaveFed k ((p, row) ∷ []) n m') before now) view
     (journal_lines (f.0 ++ w.0), adds_both before j now f.0 w.0 f.1 w.1, fed_one k p row sent v fallen m' f.0 w.0 (subst Stands (sym view) stands) (subst (IsUpAt k) (sym view) up) (subst (λ (n : Moment). ForSome row (MayBeHeard n.declared.profile)) (sym view) heard) f.2 w.2)
 
--- the chain that was fed stands there
-pub fed_there : (k : ℕ) (p : Network) (row : Option Attrs) (sent : Option (Change Route)) (a fallen : Chains) (before j : Journaled) → Adds (FeedsInward k p row sent a fallen) before j → IsSome (chain_at k fallen)
-fed_there k p row sent a fallen before j f = ap is_some (fallen_at k a fallen (fed f.2.feeds.chain p row) f.2.feeds.after)
-
--- and it has a resolver
-pub fed_resolves : (k : ℕ) (p : Network) (row : Option Attrs) (sent : Option (Change Route)) (m v : Moment) (fallen : Chains) (before j : Journaled) → v ≡ m → Stands m → Adds (FeedsInward k p row sent v.chains fallen) before j → IsSome (resolver_at k v.hops)
-fed_resolves k p row sent m v fallen before j view stands f = resolver_there v (subst Stands (sym view) stands) k f.2.feeds.chain f.2.feeds.at
-
--- and a number up to 64
-pub fed_small : (k : ℕ) (p : Network) (row : Option Attrs) (sent : Option (Change Route)) (m v : Moment) (fallen : Chains) (before j : Journaled) → v ≡ m → Stands m → Adds (FeedsInward k p row sent v.chains fallen) before j → k ≤ 64
-fed_small k p row sent m v fallen before j view stands f = ((subst Stands (sym view) stands).own SmallNumbers k (ap is_some f.2.feeds.at)).1
+-- what follows it asks for
+pub fed_settles : (k : ℕ) (p : Network) (row : Option Attrs) (sent : Option (Change Route)) (m v : Moment) (fallen : Chains) (before j : Journaled) → v ≡ m → Stands m → Adds (FeedsInward k p row sent v.chains fallen) before j → MaySettle k (with_chains v fallen)
+fed_settles k p row sent m v fallen before j view stands f = may_settle k m v fallen f.2.feeds.chain (fed f.2.feeds.chain p row) view stands f.2.feeds.at f.2.feeds.after f.2.fall.sound
 
 -- ---- one after the other
 module _ (k : ℕ) where

@@ -1,27 +1,12 @@
 -- This speaker's own routes, and the links of the forwarding side, are those that are decided from scratch.
-use Rattle.std.proofs.Common.{◌≡◌, ℕ, true, not, Option, Some, None, refl, ap, ◌∙◌}
+use Rattle.router_core.proofs.Common.{◌∙◌, ap, ◌≡◌, ℕ, refl, true, not, Network, Route, Neighbour, Speaker, fib_distance, Rows, way_of, over, redistributed, has, Protos, ext_is_of_best, StandsOver, ext_rows, RibExit, row_of_both, FibRow, Interior, on_link, kept_rows}
+use Rattle.std.proofs.Common.{Option, Some, None}
 use Rattle.std.specs.Prelude.{option_map}
-use Rattle.addr4.specs.Prefixes.{Network}
-use Rattle.bgp_attr.specs.declared.route.Route.{Route}
-use Rattle.bgp_attr.specs.declared.speaker.Speaker.{Speaker}
-use Rattle.bgp_attr.specs.declared.speaker.Neighbour.{Neighbour}
-use Rattle.link_change.specs.Rows.{Rows}
-use Rattle.rib_route.specs.declared.rows.Interior.{Interior}
 use Rattle.rib_route.specs.declared.rows.External.{External}
-use Rattle.rib_route.specs.declared.rows.FibRow.{FibRow}
 use Rattle.rib_route.specs.Distances.{external_proto}
-use Rattle.rib_merge.specs.Merging.{row_of_both}
-use Rattle.redist.specs.declared.protos.Protos.{Protos}
-use Rattle.redist.specs.Protocols.{has}
-use Rattle.redist.specs.Local.{redistributed}
-use Rattle.nexthop_resolver.specs.Kept.{first_router as way_router, over, way_of}
+use Rattle.nexthop_resolver.specs.Kept.{first_router as way_router}
 use Rattle.rib_split.specs.declared.split.BgpLink.TheVariants as sides
-use Rattle.rib_split.specs.Splitting.{external_of, external_row as split_row, on_link}
-use Rattle.rib_split.specs.Tables.{kept_rows}
-use Rattle.ext_int.specs.Fibs.{fib_distance}
-use Rattle.rib_exit.specs.declared.exit.RibExit.{RibExit}
-use Rattle.rib_exit.specs.Exits.{ext_rows, StandsOver}
-use Rattle.rib_exit.proofs.LawLemmas.{ext_is_of_best}
+use Rattle.rib_split.specs.Splitting.{external_of, external_row as split_row}
 use Rattle.live_state.specs.Decided.{own_row, sent_by, external_row, external_rows, first_router, over_interior, lesser_of}
 
 -- ---- this speaker's own routes

@@ -1,56 +1,26 @@
 -- Rows whose attributes may be heard: those of the chains, this speaker's own, and so those of `best`.
-use Rattle.std.proofs.Common.{◌≡◌, ℕ, zero, suc, Bool, true, false, List, Option, Some, None, refl, sym, subst, inl, inr}
+use Rattle.router_core.proofs.Common.{sym, subst, ◌≡◌, ℕ, refl, List, true, false, Bool, suc, zero, inr, inl, ForSome, Network, is_host_prefix, Attrs, Route, Profile, Speaker, AreOctets, Message, Update, best_is_a_branchs, filtered, resolver_at, Resolvers, rows_by, Chained, filt_rows, welded, fed, Entry, Task, Value, Rows, Change, changes_of, announced_with, withdrawn_from, all_both, route_hop, with_metric, Resolving, in_force_by, fresh_by, walk_to, goes_on, Metric, RowsMayBeHeard, Passed, function_at, IsSender, MayBeHeard, put_each, chain_at, Chains, filt_at, filt_by, put_chain, Protos, Interior, int_rows, own_rows, all_at, best_at, Moment, best_of, own_of, Stands, MaySend, AreHeard, IsHeardMessage}
+use Rattle.std.proofs.Common.{Option, Some, None}
 use Rattle.std.proofs.lemmas.List.Elements.{All-nil}
-use Rattle.std.specs.Option.{ForSome}
 use Rattle.std.specs.Prelude.{filter, map, [], ◌∷◌}
-use Rattle.addr4.specs.Prefixes.{Network}
-use Rattle.bgp_attr.specs.Hosts.{is_host_prefix}
-use Rattle.bgp_attr.specs.declared.attrs.Attrs.{Attrs}
-use Rattle.bgp_attr.specs.declared.route.Route.{Route}
-use Rattle.bgp_attr.specs.declared.speaker.Profile.{Profile}
-use Rattle.bgp_attr.specs.declared.speaker.Speaker.{Speaker}
 use Rattle.bgp_wire.specs.Grammar.{Reads, without}
 use Rattle.bgp_wire.specs.Attributes.{is_old_form}
-use Rattle.bgp_wire.specs.Readable.{AreOctets, IsReadableSegment}
+use Rattle.bgp_wire.specs.Readable.{IsReadableSegment}
 use Rattle.bgp_wire.specs.Routes.{is_unrecognized}
-use Rattle.bgp_wire.specs.declared.message.Message.{Message}
 use Rattle.bgp_wire.specs.declared.message.Message.TheVariants as messages
-use Rattle.bgp_wire.specs.declared.message.Update.{Update}
-use Rattle.link_change.specs.Rows.{Rows}
-use Rattle.link_change.specs.declared.change.Change.{Change}
 use Rattle.loss_chain.specs.Rows.{AllRows}
 use Rattle.loss_chain.proofs.FeedLemmas.{feeds_bring_one_row, losses_bring_no_row, welds_bring_no_row, turns_bring_no_row, lowest_rows_are_rows}
-use Rattle.loss_chain.proofs.ListLemmas.{all_both}
-use Rattle.pass_core.specs.Passed.{Passed, function_at, function_of}
-use Rattle.filter_bank.specs.Filtered.{filtered}
+use Rattle.pass_core.specs.Passed.{function_of}
 use Rattle.filter_bank.proofs.LawLemmas.{filtered_keeps_attrs}
-use Rattle.nexthop_resolver.specs.declared.rows.Metric.{Metric}
-use Rattle.nexthop_resolver.specs.Kept.{route_hop, with_igp, with_metric}
-use Rattle.nexthop_resolver.specs.Resolving.{Resolving, Answers, in_force_by, fresh_by, walk_to, goes_on, made_by}
-use Rattle.journal_text.specs.declared.link.Task.{Task}
+use Rattle.nexthop_resolver.specs.Kept.{with_igp}
+use Rattle.nexthop_resolver.specs.Resolving.{Answers, made_by}
 use Rattle.journal_text.specs.declared.link.Task.TheVariants.{Del, Fin}
-use Rattle.journal_text.specs.declared.entry.Entry.{Entry}
-use Rattle.journal_text.specs.declared.value.Value.{Value}
-use Rattle.in_chain.specs.Chains.{Chained, filt_rows}
 use Rattle.in_chain.specs.Incomings.{in_rows}
-use Rattle.in_chain.specs.Steps.{fed, lost, welded, swept, Turned}
-use Rattle.peer_out.specs.Changes.{MayBeHeard, IsSender}
+use Rattle.in_chain.specs.Steps.{lost, swept, Turned}
 use Rattle.peer_out.proofs.SentLemmas.{read_may_be_heard}
-use Rattle.out_chain.specs.Chains.{RowsMayBeHeard}
-use Rattle.decision.proofs.LawLemmas.{best_is_a_branchs}
-use Rattle.hop_side.specs.Resolvers.{Resolvers, resolver_at, rows_by}
-use Rattle.peer_side.specs.Peers.{Chains, chain_at, put_chain, filt_by, filt_at}
-use Rattle.peer_side.proofs.PutLemmas.{put_each}
-use Rattle.live_state.specs.Messages.{changes_of, announced_with, withdrawn_from}
-use Rattle.redist.specs.declared.protos.Protos.{Protos}
 use Rattle.redist.specs.Local.{local_attrs}
 use Rattle.redist.proofs.LawLemmas.{only_own_routes}
-use Rattle.rib_route.specs.declared.rows.Interior.{Interior}
-use Rattle.rib_tree.specs.Trees.{int_rows}
-use Rattle.router_core.specs.Bests.{own_rows, all_at, best_at}
-use Rattle.router_core.specs.Moments.{Moment, own_of, best_of}
-use Rattle.router_core.specs.Stands.{Stands, EachRow, OneSender, RowsWereHeard, MaySend}
-use Rattle.router_core.specs.Works.{AreHeard, IsHeardMessage}
+use Rattle.router_core.specs.Stands.{RowsWereHeard}
 
 -- ---- the rows of a chain
 abbrev pub IsHeardChain : Profile → Chained → Type 0
@@ -128,7 +98,7 @@ heard_own_rows profile None s int sender p r is = absurd (cc)
 heard_own_rows profile (Some me) s int sender p r is = subst (λ (x : Route). MayBeHeard profile x.attrs) (sym (only_own_routes me (function_at s p) p (int p) r is)) (local_heard profile me sender)
 
 pub heard_own : (m : Moment) → Stands m → RowsMayBeHeard m.declared.profile (own_of m)
-heard_own m stands = heard_own_rows m.declared.profile m.declared.speaker m.redist (int_rows m.tree) (stands.own OneSender)
+heard_own m stands = heard_own_rows m.declared.profile m.declared.speaker m.redist (int_rows m.tree) stands.exits.sender
 
 -- ---- the best of all
 heard_all : (profile : Profile) (own : Rows Route) (a : Chains) (h : Resolvers) → RowsMayBeHeard profile own → RowsWereHeard profile a → (k : ℕ) → RowsMayBeHeard profile (all_at own a h k)
@@ -139,7 +109,7 @@ pub heard_best : (profile : Profile) (own : Rows Route) (a : Chains) (h : Resolv
 heard_best profile own a h mine each p r is = let b = best_is_a_branchs (all_at own a h) p r is in heard_all profile own a h mine each b.0 p r b.2
 
 pub heard_of : (m : Moment) → Stands m → RowsMayBeHeard m.declared.profile (best_of m)
-heard_of m stands = heard_best m.declared.profile (own_of m) m.chains m.hops (heard_own m stands) (stands.own EachRow)
+heard_of m stands = heard_best m.declared.profile (own_of m) m.chains m.hops (heard_own m stands) stands.exits.rows
 
 -- ---- what an UPDATE announces
 announced_heard : (profile : Profile) (o : Option Attrs) → ForSome o (MayBeHeard profile) → (ns : List Network) → AreHeard profile (map (announced_with o) ns)

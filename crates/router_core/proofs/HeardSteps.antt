@@ -1,38 +1,13 @@
 -- What peers hear of a step: of the lines of all other parts nothing.
-use Rattle.std.proofs.Common.{◌≡◌, ℕ, List, [], ◌++◌, Option, Some, None, option_map, refl, sym, ap, subst, ◌∙◌}
+use Rattle.router_core.proofs.Common.{sym, subst, ◌∙◌, ap, ◌≡◌, ℕ, refl, List, ◌++◌, Route, Speaker, peer_at, Declaration, DeclaredPeer, unheard_joins, others_are_unheard, AreUnheard, Exited, OutChains, LeadsRes, neighbours, words_in, entries_of, fib_value, sent_entries, Links, Entry, Line, Link, Best, Fib, Value, Rows, Change, LeadsIn, Inward, Resolved, OutChained, FibRow, Interior, best_entries, Queues, own_entries, Moment, Policies, Stands, ExitsAt, journal_lines, BelowInt}
+use Rattle.std.proofs.Common.{[], Option, Some, None, option_map}
 use Rattle.std.specs.FinMap as tables
-use Rattle.bgp_attr.specs.declared.route.Route.{Route}
-use Rattle.bgp_attr.specs.declared.speaker.Speaker.{Speaker}
-use Rattle.link_change.specs.declared.change.Change.{Change}
-use Rattle.event_text.specs.declared.declared.DeclaredPeer.{DeclaredPeer}
-use Rattle.event_text.specs.Declarations.{Declaration, peer_at}
-use Rattle.journal_text.specs.declared.link.Link.{Link}
-use Rattle.journal_text.specs.declared.link.Link.TheVariants.{Red, Best, Fib}
-use Rattle.journal_text.specs.declared.value.Value.{Value}
-use Rattle.journal_text.specs.declared.entry.Entry.{Entry}
-use Rattle.journal_text.specs.declared.line.Line.{Line}
-use Rattle.journal_text.specs.Texts.{entries_of}
-use Rattle.journal_text.specs.Values.{fib_value, sent_entries}
-use Rattle.journal_text.specs.Walk.{Links}
-use Rattle.journal_laws.specs.Peers.{words_in, neighbours}
-use Rattle.link_region.specs.declared.regions.Region.TheVariants.{Inward, Resolved}
-use Rattle.link_region.specs.Regions.{LeadsIn}
-use Rattle.out_chain.specs.Chains.{OutChained}
-use Rattle.exit_side.specs.Exits.{Exited, OutChains}
-use Rattle.exit_laws.specs.Views.{views_of, sent_by, AreDeclared, AreUnheard}
-use Rattle.exit_laws.proofs.HearLemmas.{hearing_joins, nothing_is_heard, changes_are_unheard, unheard_joins}
-use Rattle.exit_laws.proofs.OtherLemmas.{others_are_unheard}
+use Rattle.journal_text.specs.declared.link.Link.TheVariants.{Red}
+use Rattle.exit_laws.specs.Views.{views_of, sent_by, AreDeclared}
+use Rattle.exit_laws.proofs.HearLemmas.{hearing_joins, nothing_is_heard, changes_are_unheard}
 use Rattle.live_state.specs.Heard.{Hears, Views}
-use Rattle.hop_side.specs.Steps.{LeadsRes}
-use Rattle.link_change.specs.Rows.{Rows}
-use Rattle.rib_route.specs.declared.rows.Interior.{Interior}
-use Rattle.rib_route.specs.declared.rows.FibRow.{FibRow}
 use Rattle.rib_exit.specs.Steps.{fib_entries}
-use Rattle.router_core.specs.Bests.{own_entries, best_entries, Queues}
-use Rattle.router_core.specs.Moments.{Moment, Policies}
 use Rattle.router_core.specs.Printable.{IsHeard}
-use Rattle.router_core.specs.Stands.{Stands, SameProfile, SameSessions, ExitsAt}
-use Rattle.router_core.specs.Turns.{journal_lines, BelowInt}
 use Rattle.router_core.proofs.HopLemmas.{res_leads}
 use Rattle.router_core.proofs.QueueLemmas.{queue_chains}
 
@@ -62,8 +37,8 @@ exit_words None policies j p c is = absurd is
 
 pub exits_declared : (m : Moment) → Stands m → AreDeclared m.declared.profile (neighbours m.declared) m.exits
 exits_declared m stands = record {
-  profile = stands.own SameProfile;
-  words = λ j c at. exit_words m.declared.speaker m.outgoing j (peer_at j m.declared.peers) c (subst (λ (o : Option OutChained). ExitsAt m.declared.speaker m.outgoing j (peer_at j m.declared.peers) o) at (stands.own SameSessions j));
+  profile = stands.exits.profile;
+  words = λ j c at. exit_words m.declared.speaker m.outgoing j (peer_at j m.declared.peers) c (subst (λ (o : Option OutChained). ExitsAt m.declared.speaker m.outgoing j (peer_at j m.declared.peers) o) at (stands.exits.sessions j));
 }
 
 -- ---- of what a stage sends

@@ -1,21 +1,12 @@
 -- The first task that holds up a prefix, phase by phase; and the next hops of peers.
-use Rattle.std.proofs.Common.{◌≡◌, ℕ, zero, suc, ◌+◌, ◌-◌, ◌<◌, ◌≤◌, ◌||◌, Bool, true, false, List, [], ◌∷◌, length, length-set, map, set, take, drop, get_or, Option, Some, None, refl, sym, ap, ◌∙◌, arith}
+use Rattle.router_core.proofs.Common.{sym, ◌∙◌, ap, ◌≡◌, ℕ, refl, List, true, arith, false, ◌+◌, Bool, ◌≤◌, ◌<◌, suc, zero, take, ◌||◌, get_or, ◌-◌, list_any, range_with_len, option_or, Network, Chained, Task, route_hop, chain_at, Chains, filt_at, filt_by, first_held, next_hop_at, holds_up_at, held_in, Moment, all_phases, phase_tasks, Phase}
+use Rattle.std.proofs.Common.{[], ◌∷◌, length, length-set, map, set, drop, Option, Some, None}
 use Rattle.std.specs.Prelude.{option_map}
-use Rattle.std.specs.List.{find, flat_map, list_any, range_with_len}
-use Rattle.std.specs.Option.{option_or}
+use Rattle.std.specs.List.{find, flat_map}
 use Rattle.std.proofs.lemmas.List.{drop_more, take_more_set}
 use Rattle.std.proofs.lemmas.List.Folds.{find-append, list_any-append}
 use Rattle.std.proofs.lemmas.List.FromFn.{map-range_with_len_more}
-use Rattle.addr4.specs.Prefixes.{Network}
-use Rattle.journal_text.specs.declared.link.Task.{Task}
-use Rattle.nexthop_resolver.specs.Kept.{route_hop}
-use Rattle.in_chain.specs.Chains.{Chained}
-use Rattle.peer_side.specs.Peers.{Chains, chain_at, filt_at, filt_by}
-use Rattle.router_core.specs.declared.router.Phase.{Phase}
-use Rattle.router_core.specs.Moments.{Moment}
-use Rattle.router_core.specs.Phases.{all_phases}
-use Rattle.router_core.specs.Turns.{phase_tasks}
-use Rattle.router_core.specs.Holding.{next_hop_at, some_so, holds_up_at, held_in, first_held}
+use Rattle.router_core.specs.Holding.{some_so}
 
 module _ (m : Moment) (p : Network) where
   abbrev held : List Task → Option Task

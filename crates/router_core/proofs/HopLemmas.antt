@@ -1,45 +1,20 @@
 -- What follows a change on `filt.K`: what the resolvers' entries lead to, and what is claimed of them then.
-use Rattle.std.proofs.Common.{◌≡◌, ◌≢◌, ℕ, zero, suc, nat_eq, true, false, List, [], ◌++◌, Option, Some, None, is_some, IsSome, refl, sym, ap, subst, ◌∙◌}
+use Rattle.router_core.proofs.Common.{sym, subst, ◌∙◌, ap, ◌≡◌, ℕ, refl, List, true, false, ◌++◌, suc, zero, nat_eq, ◌≢◌, Network, Route, Speaker, best_rows, Exited, resolver_at, Resolvers, PeerRows, hop_links, IsHops, res_at, AllAgree, AllCounted, ComesOn, LeadsRes, HasNoInterest, entries_of_entries, with_entries_append, leads_append, leads_nowhere, Journaled, Adds, with_entries, entries_of, Leads, Links, Entry, Link, Res, Value, IsSent, Rows, Change, joined, with_side, Sides, LeadsIn, Region, Decided, Inward, Resolved, Outward, Resolving, Metric, chain_at, Chains, filt_at, peer_links, Registry, Interior, all_at, best_at, best_links, best_entries, Queues, resolved_at, Moment, best_of, router_links, own_of, with_exits, with_chains, parts, with_hops, Stands, HopsStand, journal_lines, Decides, SettlesPeer}
+use Rattle.std.proofs.Common.{[], Option, Some, None, is_some, IsSome}
 use Rattle.std.specs.FinMap as tables
-use Rattle.addr4.specs.Prefixes.{Network}
-use Rattle.bgp_attr.specs.declared.route.Route.{Route}
-use Rattle.link_change.specs.Rows.{Rows}
-use Rattle.link_change.specs.declared.change.Change.{Change}
-use Rattle.rib_route.specs.declared.rows.Interior.{Interior}
 use Rattle.register_interest.specs.declared.interests.Interest.{Interest}
 use Rattle.register_interest.specs.Interests.{without}
-use Rattle.register_interest.specs.Registers.{Registry, KeepsAnswers}
-use Rattle.nexthop_resolver.specs.Resolving.{Resolving}
+use Rattle.register_interest.specs.Registers.{KeepsAnswers}
 use Rattle.nexthop_resolver.specs.Registered.{KeepsOthers}
-use Rattle.nexthop_resolver.specs.declared.rows.Metric.{Metric}
-use Rattle.journal_text.specs.declared.link.Link.{Link}
-use Rattle.journal_text.specs.declared.link.Link.TheVariants.{Res}
-use Rattle.journal_text.specs.declared.entry.Entry.{Entry}
-use Rattle.journal_text.specs.declared.value.Value.{Value}
-use Rattle.journal_text.specs.Journals.{Journaled, with_entries, Adds}
-use Rattle.journal_text.specs.Texts.{entries_of}
-use Rattle.journal_text.specs.Walk.{Links, Leads}
-use Rattle.journal_text.proofs.JournalLemmas.{entries_of_entries, with_entries_none, with_entries_append}
-use Rattle.journal_text.proofs.WalkLemmas.{leads_append, leads_nowhere}
-use Rattle.link_region.specs.declared.regions.Region.{Region}
-use Rattle.link_region.specs.declared.regions.Region.TheVariants.{Inward, Resolved, Decided, External, Outward}
-use Rattle.link_region.specs.Regions.{Sides, joined, with_side, LeadsIn}
-use Rattle.hop_side.specs.Resolvers.{Resolvers, PeerRows, resolver_at, res_at, hop_links, is_res, beside, IsHops, AllAgree, AllCounted}
-use Rattle.hop_side.specs.Steps.{ComesOn, LeadsRes, KeepsAgreed, HasNoInterest, HaveSamePeers, TakesBelow, ReachesBelow}
+use Rattle.journal_text.proofs.JournalLemmas.{with_entries_none}
+use Rattle.link_region.specs.declared.regions.Region.TheVariants.{External}
+use Rattle.hop_side.specs.Resolvers.{is_res, beside}
+use Rattle.hop_side.specs.Steps.{KeepsAgreed, HaveSamePeers, TakesBelow, ReachesBelow}
 use Rattle.hop_side.proofs.LawLemmas.{leads_anywhere}
-use Rattle.peer_side.specs.Peers.{Chains, chain_at, peer_links, filt_at}
-use Rattle.exit_side.specs.Exits.{Exited}
-use Rattle.router_core.specs.Moments.{Moment, own_of, best_of, with_chains, with_hops, with_exits, parts, router_links}
-use Rattle.router_core.specs.Stands.{Stands, EachResolver, SameResolvers, AnswersAgree, HopsCounted, NoStrangers}
 use Rattle.peer_side.specs.Steps.{WeldsInward}
-use Rattle.router_core.specs.Turns.{ResolvesOn, journal_lines}
-use Rattle.router_core.specs.Works.{Decides, SettlesPeer}
-use Rattle.router_core.specs.Bests.{all_at, best_at, best_entries, best_links, resolved_at, Queues}
+use Rattle.router_core.specs.Turns.{ResolvesOn}
 use Rattle.router_core.proofs.BestLemmas.{best_leads, best_quiet, comes_none}
 use Rattle.router_core.proofs.QueueLemmas.{queue_external, queue_links}
-use Rattle.decision.specs.Branches.{best_rows}
-use Rattle.bgp_attr.specs.declared.speaker.Speaker.{Speaker}
-use Rattle.link_change.specs.Changes.{IsSent}
 
 -- A change on `res.K` of a peer comes among all branches, since this speaker's own rows stay; no peer's number is 0.
 pub all_comes : (own : Rows Route) (a a' : Chains) (h h' : Resolvers) (k : ℕ) (p : Network) (sent : Option (Change Route)) → k ≢ 0 → ComesOn k p sent (resolved_at a h) (resolved_at a' h') → ComesOn k p sent (all_at own a h) (all_at own a' h')
@@ -137,30 +112,14 @@ falls_lead m me fallen cs r h e p entries resolved weld best since live falls go
     set i s = each s i
 
 -- ---- what is claimed of the resolvers
-pub record HopsStand (a : Chains) (r : Registry Interior) (h : Resolvers) : Type 0 where
-  pub sound : IsHops h
-  pub same : (k : ℕ) → is_some (resolver_at k h) ≡ is_some (chain_at k a)
-  pub agree : AllAgree h r
-  pub counted : AllCounted (filt_at a) h
-  pub strangers : (k : ℕ) → k ≢ 0 → resolver_at k h ≡ None → HasNoInterest k r
-
-pub hops_of : (m : Moment) → Stands m → HopsStand m.chains m.registry m.hops
-hops_of m stands = record {
-  sound = stands.own EachResolver;
-  same = stands.own SameResolvers;
-  agree = stands.own AnswersAgree;
-  counted = stands.own HopsCounted;
-  strangers = stands.own NoStrangers;
-}
-
 -- where no row of `filt.K` changed
 pub hops_quiet : (m : Moment) (cs : Chains) → Stands m → ((j : ℕ) → filt_at cs j ≡ filt_at m.chains j) → ((j : ℕ) → is_some (chain_at j cs) ≡ is_some (chain_at j m.chains)) → HopsStand cs m.registry m.hops
 hops_quiet m cs stands quiet same = record {
-  sound = stands.own EachResolver;
-  same = λ k. stands.own SameResolvers k ∙ sym (same k);
-  agree = stands.own AnswersAgree;
-  counted = subst (λ (u : PeerRows). AllCounted u m.hops) (λ i j. sym (quiet j) i) (stands.own HopsCounted);
-  strangers = stands.own NoStrangers;
+  sound = stands.hops.sound;
+  same = λ k. stands.hops.same k ∙ sym (same k);
+  agree = stands.hops.agree;
+  counted = subst (λ (u : PeerRows). AllCounted u m.hops) (λ i j. sym (quiet j) i) stands.hops.counted;
+  strangers = stands.hops.strangers;
 }
 
 no_resolver : (o p : Option (Resolving Metric)) → is_some p ≡ is_some o → p ≡ None → o ≡ None
@@ -182,20 +141,20 @@ pub hops_fall : (m : Moment) (k : ℕ) (fallen cs : Chains) (r : Registry Interi
     → ((j : ℕ) → is_some (chain_at j cs) ≡ is_some (chain_at j m.chains)) → HopsStand cs r h
 hops_fall m k fallen cs r h stands agreed counted quiet there same = record {
   sound = agreed.sound;
-  same = λ j. agreed.peers j ∙ stands.own SameResolvers j ∙ sym (same j);
+  same = λ j. agreed.peers j ∙ stands.hops.same j ∙ sym (same j);
   agree = agreed.agree;
   counted = subst (λ (u : PeerRows). AllCounted u h) (sym quiet) counted;
-  strangers = strangers_stay k m.registry r m.hops h agreed.others agreed.peers there (stands.own NoStrangers);
+  strangers = strangers_stay k m.registry r m.hops h agreed.others agreed.peers there stands.hops.strangers;
 }
 
 -- where the register gave interests up
 pub hops_reached : (m : Moment) (reached : List Interest) (r : Registry Interior) (h : Resolvers) → Stands m → r.interests ≡ without m.registry.interests reached → KeepsAnswers m.registry r → ReachesBelow reached m.hops h → HopsStand m.chains r h
 hops_reached m reached r h stands given answers below = record {
   sound = below.sound;
-  same = λ k. below.stays.peers k ∙ stands.own SameResolvers k;
-  agree = below.agree m.registry r (stands.own AnswersAgree) given answers;
-  counted = below.stays.counted (filt_at m.chains) (stands.own HopsCounted);
-  strangers = λ k own none s. kept (record { subnet = s; client = k }) (tables.get r.interests (record { subnet = s; client = k })) refl (stands.own NoStrangers k own (no_resolver (resolver_at k m.hops) (resolver_at k h) (below.stays.peers k) none) s);
+  same = λ k. below.stays.peers k ∙ stands.hops.same k;
+  agree = below.agree m.registry r stands.hops.agree given answers;
+  counted = below.stays.counted (filt_at m.chains) stands.hops.counted;
+  strangers = λ k own none s. kept (record { subnet = s; client = k }) (tables.get r.interests (record { subnet = s; client = k })) refl (stands.hops.strangers k own (no_resolver (resolver_at k m.hops) (resolver_at k h) (below.stays.peers k) none) s);
 }
   where
     kept : (i : Interest) (o : Option (Option Network)) → tables.get r.interests i ≡ o → is_some (tables.get m.registry.interests i) ≡ false → is_some o ≡ false

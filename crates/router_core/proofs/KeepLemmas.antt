@@ -1,26 +1,13 @@
 -- Steps one after the other, and the journal that they leave.
-use Rattle.std.proofs.Common.{◌≡◌, ℕ, List, [], ◌∷◌, ◌++◌, Result, refl, sym, ap, subst, ◌∙◌}
+use Rattle.router_core.proofs.Common.{sym, subst, ◌∙◌, ap, ◌≡◌, ℕ, refl, List, ◌++◌, IfOk-weaker, Event, with_lines_append, leads_append, leads_nowhere, Journaled, flushed, with_lines, entries_of, Leads, Entry, Line, Value, LiveState, IsBlock, live_state, Moment, router_links, Gives, ArePrinted, Stands, Pushes, HasStepped, Keeps}
+use Rattle.std.proofs.Common.{[], ◌∷◌, Result}
 use Rattle.std.specs.Result.{IfOk}
-use Rattle.std.proofs.lemmas.Result.{IfOk-weaker}
-use Rattle.journal_text.specs.declared.entry.Entry.{Entry}
-use Rattle.journal_text.specs.declared.value.Value.{Value}
-use Rattle.journal_text.specs.declared.line.Line.{Line}
 use Rattle.journal_text.specs.declared.line.Line.TheVariants as lines
-use Rattle.journal_text.specs.Journals.{Journaled, with_lines, flushed}
-use Rattle.journal_text.specs.Texts.{entries_of}
-use Rattle.journal_text.specs.Walk.{Leads}
-use Rattle.journal_text.proofs.JournalLemmas.{entries_of_append, with_lines_append}
-use Rattle.journal_text.proofs.WalkLemmas.{leads_append, leads_nowhere}
-use Rattle.event_text.specs.declared.event.Event.{Event}
-use Rattle.router_core.specs.Moments.{Moment, router_links, Gives}
-use Rattle.live_state.specs.Lives.{LiveState, LiveAfter}
-use Rattle.router_core.specs.Lives.{live_state}
-use Rattle.router_core.specs.Stands.{Stands}
+use Rattle.journal_text.proofs.JournalLemmas.{entries_of_append}
+use Rattle.live_state.specs.Lives.{LiveAfter}
 use Rattle.journal_laws.specs.Peers.{KeepsPeers}
-use Rattle.router_core.specs.Printable.{ArePrinted}
 use Rattle.journal_laws.proofs.ShownRows.{flushed_join, flushed_none}
-use Rattle.router_core.specs.Blocks.{IsBlock, Acts}
-use Rattle.router_core.specs.Works.{Pushes, Keeps, HasStepped}
+use Rattle.router_core.specs.Blocks.{Acts}
 use Rattle.router_core.proofs.HeardSteps.{AreQuiet, heard_quiet, heard_join}
 
 -- what is said first, and then
@@ -47,6 +34,10 @@ pub gives_so : (P Q : List Line → Type 0) → ((xs : List Line) → P xs → Q
 gives_so P Q to a b p = (p.0, p.1, to p.0 p.2)
 
 -- ---- what is kept
+-- by what a step comes to
+pub keeps_as : (live : LiveState) (m now m' : Moment) (these said : List Line) → m' ≡ now → said ≡ these → Keeps live m now these → Keeps live m m' said
+keeps_as live m now m' these said after lines keeps = subst (λ (n : Moment). Keeps live m n said) (sym after) (subst (λ (l : List Line). Keeps live m now l) (sym lines) keeps)
+
 -- lines without entries
 pub keeps_said : (m : Moment) (said : List Line) → Stands m → AreQuiet said → Keeps (live_state m) m m said
 keeps_said m said stands quiet = record {

@@ -1,43 +1,24 @@
 -- A row that leaves a deletion stage leaves the link below without one: so no more next hops are known than before.
-use Rattle.std.proofs.Common.{◌≡◌, ℕ, suc, zero, ◌+◌, ◌≤◌, ◌<◌, nat_eq, Bool, true, false, cond, List, [], ◌∷◌, map, length, Option, Some, None, IsSome, is_some, refl, sym, ap, subst, ◌∙◌, arith}
-use Rattle.std.specs.List.{Contains}
+use Rattle.router_core.proofs.Common.{sym, subst, ◌∙◌, ap, ◌≡◌, ℕ, refl, List, true, arith, false, ◌+◌, Bool, ◌≤◌, cond, ◌<◌, suc, zero, nat_eq, nat_tests, nat_cmp_total, FinMap, get-entries, Contains, nat_cmp, eq_by_cmp, Network, prefix_cmp, Attrs, Route, filtered, resolver_at, Resolvers, known_in, PeerRows, IsHops, AllCounted, Chained, filt_rows, Entry, Value, sum_replaced, IsSent, Rows, with_row, Change, table_of, swept_one, route_hop, Resolving, Metric, function_at, Registry, Interior, Resolves}
+use Rattle.std.proofs.Common.{[], ◌∷◌, map, length, Option, Some, None, IsSome, is_some}
 use Rattle.std.specs.Option.{option_map}
-use Rattle.std.specs.Ordering.{nat_cmp, eq_by_cmp}
-use Rattle.std.specs.Cmp.{nat_cmp_total}
 use Rattle.std.specs.FinMap as tables
-use Rattle.std.specs.FinMap.{FinMap, find, entries, len, contains_key, len-entries, get-entries}
-use Rattle.std.proofs.lemmas.Bool.Decides.{nat_tests}
-use Rattle.addr4.specs.Prefixes.{Network, prefix_cmp}
-use Rattle.bgp_attr.specs.declared.attrs.Attrs.{Attrs}
-use Rattle.bgp_attr.specs.declared.route.Route.{Route}
-use Rattle.link_change.specs.Rows.{Rows, with_row}
-use Rattle.link_change.specs.Changes.{IsSent}
-use Rattle.link_change.specs.declared.change.Change.{Change}
+use Rattle.std.specs.FinMap.{find, entries, len, contains_key, len-entries}
 use Rattle.link_change.proofs.RowLemmas.{with_row_here, rows_removed}
-use Rattle.link_change.proofs.MapLemmas.{sum_replaced}
 use Rattle.link_region.proofs.RegionLemmas.{by_bool}
 use Rattle.loss_chain.specs.Lost.{Lost}
 use Rattle.loss_chain.specs.Covering.{row_over}
 use Rattle.loss_chain.specs.Tables.{rows_below, AreAllApart, AreRising}
-use Rattle.loss_chain.specs.Steps.{without, swept_one, table_of}
+use Rattle.loss_chain.specs.Steps.{without}
 use Rattle.loss_chain.proofs.WholeLemmas.{rising_all}
 use Rattle.loss_chain.proofs.WorkLemmas.{swept_above}
-use Rattle.filter_bank.specs.Filtered.{filtered}
-use Rattle.pass_core.specs.Passed.{function_at}
-use Rattle.journal_text.specs.declared.entry.Entry.{Entry}
-use Rattle.journal_text.specs.declared.value.Value.{Value}
-use Rattle.rib_route.specs.declared.rows.Interior.{Interior}
-use Rattle.register_interest.specs.Registers.{Registry}
 use Rattle.nexthop_known.proofs.CountLemmas.{counted_is_named, named_is_counted}
-use Rattle.nexthop_resolver.specs.Kept.{route_hop}
-use Rattle.nexthop_resolver.specs.declared.rows.Metric.{Metric}
-use Rattle.nexthop_resolver.specs.Resolving.{Resolving, named_by}
-use Rattle.hop_side.specs.Resolvers.{Resolvers, PeerRows, resolver_at, IsHops, AllCounted, known_of, known_in}
+use Rattle.nexthop_resolver.specs.Resolving.{named_by}
+use Rattle.hop_side.specs.Resolvers.{known_of}
 use Rattle.hop_side.proofs.FewLemmas.{few}
 use Rattle.hop_side.proofs.PutLemmas.{put_here}
-use Rattle.in_chain.specs.Chains.{Chained, IsChain, filt_rows}
+use Rattle.in_chain.specs.Chains.{IsChain}
 use Rattle.in_chain.specs.Steps.{Sweeps}
-use Rattle.router_core.specs.Turns.{Resolves}
 
 -- ---- a map has no more keys than one that has them all
 abbrev place_of : ℕ → Network

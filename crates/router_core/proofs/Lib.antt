@@ -1,3 +1,4 @@
+pub mod Common
 mod CoreLemmas
 pub mod BeforeLocal
 pub mod ProfileLemmas
@@ -12,6 +13,7 @@ pub mod SettledLemmas
 pub mod HeldLemmas
 pub mod KnownLemmas
 pub mod StaleLemmas
+pub mod PeerFalls
 pub mod PeerTurns
 pub mod KeepLemmas
 pub mod HeardRows
@@ -26,6 +28,8 @@ pub mod SessionLemmas
 pub mod TurnWalks
 pub mod CountLemmas
 pub mod NextLemmas
+pub mod WorkLemmas
+pub mod TurnLaws
 pub mod RunLemmas
 pub mod FeedLemmas
 pub mod RoomLemmas
@@ -40,6 +44,7 @@ pub mod RouteRoom
 pub mod RouteSteps
 pub mod PrintedForwards
 pub mod PrintedReaders
+pub mod PrintedMoments
 pub mod PrintedTurns
 pub mod PrintedBlocks
 pub mod BestLemmas

@@ -1,67 +1,33 @@
 -- `local`: the links of the interior routes begin.
-use Rattle.std.proofs.Common.{◌≡◌, ℕ, ◌+◌, ◌<◌, List, [], ◌∷◌, ◌++◌, map, take, length, get_or, Option, Some, None, is_some, true, false, cond, refl, sym, ap, subst, ◌∙◌, arith, zero, suc}
-use Rattle.std.proofs.lemmas.Bool.Decides.{nat_tests}
+use Rattle.router_core.proofs.Common.{sym, subst, ◌∙◌, ap, ◌≡◌, ℕ, refl, List, true, arith, false, ◌+◌, ◌++◌, cond, ◌<◌, suc, zero, take, get_or, nat_tests, take_more, nat_cmp_total, get-insert, nat_cmp, eq_by_cmp, Route, Speaker, peer_at, Declaration, AllStand, with_queue, Queued, AllLead, unread_or_none, resolver_at, rows_by, with_lines_append, Journaled, Adds, with_entries, with_lines, entries_of, route_rows, Leads, Links, Link, Best, Fib, Adv, Read, Outf, Org, Value, rows_before, Rows, no_rows, Resolving, Metric, OutChained, Passed, IsSender, filt_at, Protos, StandsOver, RibExit, Proto, Connected, Static, Ospf, Rip, Interior, of_new, org_rows, int_rows, Treed, branch_of, tree_links, low_rows, dyn_rows, own_rows, all_at, best_at, best_links, own_links, live_state, Moment, best_of, router_links, own_of, read_of, read_by, tree_by, forward_by, Stands, ExitsAt, journal_lines, Pushes, HasStepped}
+use Rattle.std.proofs.Common.{[], ◌∷◌, map, length, Option, Some, None, is_some}
 use Rattle.std.specs.FinMap as tables
-use Rattle.std.specs.FinMap.{get-insert}
-use Rattle.std.specs.Ordering.{nat_cmp, eq_by_cmp}
-use Rattle.std.specs.Cmp.{nat_cmp_total}
-use Rattle.std.proofs.lemmas.List.{map-append, take_more}
-use Rattle.bgp_attr.specs.declared.speaker.Speaker.{Speaker}
-use Rattle.link_change.specs.Rows.{Rows, no_rows}
-use Rattle.rib_route.specs.declared.Proto.{Proto}
-use Rattle.rib_route.specs.declared.Proto.TheVariants.{Connected, Static, Ospf, Rip}
-use Rattle.rib_route.specs.declared.rows.Interior.{Interior}
-use Rattle.rib_tree.specs.Branches.{org_rows}
-use Rattle.rib_tree.specs.Trees.{Treed, branch_of, low_rows, dyn_rows, int_rows, tree_links}
+use Rattle.std.proofs.lemmas.List.{map-append}
 use Rattle.rib_tree.specs.Steps.{new_tree}
-use Rattle.journal_text.specs.declared.link.Link.{Link}
-use Rattle.journal_text.specs.declared.link.Link.TheVariants.{Org, Lost, Low, Dyn, Int, Red, Best, Ebgp, Ibgp, Ext, Fib, ReadRib, Read, Outf, Adv}
+use Rattle.journal_text.specs.declared.link.Link.TheVariants.{Lost, Low, Dyn, Int, Red, Ebgp, Ibgp, Ext, ReadRib}
 use Rattle.journal_text.specs.declared.entry.Entry.TheVariants.{Inherit}
-use Rattle.journal_text.specs.declared.value.Value.{Value}
-use Rattle.journal_text.specs.Texts.{entries_of}
-use Rattle.journal_text.specs.Walk.{Links, Leads, fold_links}
-use Rattle.journal_text.specs.Journals.{Journaled, Adds, with_lines, with_entries}
-use Rattle.bgp_attr.specs.declared.route.Route.{Route}
-use Rattle.nexthop_resolver.specs.Resolving.{Resolving}
-use Rattle.nexthop_resolver.specs.declared.rows.Metric.{Metric}
-use Rattle.in_chain.specs.Chains.{Chained}
-use Rattle.hop_side.specs.Resolvers.{resolver_at, rows_by}
-use Rattle.peer_side.specs.Peers.{chain_at, filt_at}
-use Rattle.pass_core.specs.Passed.{Passed}
-use Rattle.redist.specs.declared.protos.Protos.{Protos}
+use Rattle.journal_text.specs.Walk.{fold_links}
 use Rattle.redist.proofs.LawLemmas.{nothing_at_first}
-use Rattle.rib_exit.specs.declared.exit.RibExit.{RibExit}
-use Rattle.rib_exit.specs.Exits.{nothing_yet, exit_links, StandsOver}
+use Rattle.rib_exit.specs.Exits.{nothing_yet, exit_links}
 use Rattle.rib_exit.specs.Steps.{begin_entries}
 use Rattle.rib_exit.proofs.LawLemmas.{stands_at_first}
-use Rattle.router_core.specs.Bests.{own_rows, own_links, all_at, best_at, best_links}
 use Rattle.router_core.proofs.BestLemmas.{best_none}
-use Rattle.journal_text.specs.Values.{interior_rows, route_rows}
+use Rattle.journal_text.specs.Values.{interior_rows}
 use Rattle.event_text.specs.declared.event.Event.TheVariants as events
-use Rattle.event_text.specs.Declarations.{Declaration, refusal, peer_at, with_speaker}
-use Rattle.router_core.specs.Moments.{Moment, tree_by, forward_by, own_of, best_of, read_by, read_rows_by, read_of, router_links}
-use Rattle.router_core.specs.Stands.{Stands, Claim, Claims, ExitsAt, ReadsOn, InteriorTree, OneSpeaker, SameResolvers, EachExit, QueueLeads, ExitsRead, OneSender, SameSessions, OneReader, ExternalStands, NothingOwn, NothingExternal}
+use Rattle.event_text.specs.Declarations.{refusal, with_speaker}
 use Rattle.router_core.specs.Blocks.{begin_line, first_begins, rib_begins, declared_speaker}
 use Rattle.router_core.proofs.BeforeLocal.{local_first, no_chain, no_exit, no_reader, read_before}
 use Rattle.bgp_attr.specs.Speakers.{IsSpeaker}
-use Rattle.peer_out.specs.Changes.{IsSender}
-use Rattle.link_change.specs.InOrder.{rows_before}
-use Rattle.fanout_queue.specs.Queues.{Queued, AllLead}
-use Rattle.fanout_queue.specs.Readers.{unread_or_none}
 use Rattle.fanout_queue.proofs.LeadLemmas.{join_keeps_leading}
-use Rattle.out_chain.specs.Chains.{OutChained}
-use Rattle.exit_side.specs.Exits.{AllStand, with_queue, chain_at as exit_at, exit_links as exit_links_of}
+use Rattle.exit_side.specs.Exits.{exit_links as exit_links_of}
 use Rattle.exit_side.specs.Laws.{IsStranger, StaysWithQueue, StrangersJoin}
-use Rattle.router_core.specs.Turns.{journal_lines}
 use Rattle.router_core.proofs.HeardSteps.{heard_quiet}
 use Rattle.router_core.proofs.QueueLemmas.{exits_none}
 use Rattle.router_core.proofs.SessionLemmas.{may_send}
-use Rattle.journal_text.proofs.JournalLemmas.{with_lines_append}
-use Rattle.rib_tree.proofs.NewLemmas.{of_new, org_empty, low_empty, dyn_empty, int_empty}
+use Rattle.rib_tree.proofs.NewLemmas.{org_empty, low_empty, dyn_empty, int_empty}
 use Rattle.loss_chain.specs.Tables.{rows_above}
 use Rattle.std.specs.Prelude.{option_map}
-use Rattle.router_core.specs.Works.{Pushes, HasStepped, BeginsReading}
-use Rattle.router_core.specs.Lives.{live_state}
+use Rattle.router_core.specs.Works.{BeginsReading}
 
 same_key : (k : ℕ) → eq_by_cmp nat_cmp k k ≡ true
 same_key k = grind (arith, nat_tests)
@@ -79,7 +45,7 @@ none_decided m own stands first none = best_none (all_at own m.chains m.hops) by
   where
     by_resolver : (k : ℕ) (o : Option (Resolving Metric)) → resolver_at k m.hops ≡ o → rows_by o (filt_at m.chains k) ≡ no_rows
     by_resolver k None at = refl
-    by_resolver k (Some s) at = absurd (let clash : false ≡ true = sym (ap is_some (no_chain m stands first k)) ∙ sym (stands.own SameResolvers k) ∙ ap is_some at in cc)
+    by_resolver k (Some s) at = absurd (let clash : false ≡ true = sym (ap is_some (no_chain m stands first k)) ∙ sym (stands.hops.same k) ∙ ap is_some at in cc)
 
     by_branch : (k : ℕ) → all_at own m.chains m.hops k ≡ no_rows
     by_branch zero = none
@@ -90,7 +56,7 @@ own_before : (m : Moment) → m.declared.speaker ≡ None → own_of m ≡ no_ro
 own_before m first = ap (λ (s : Option Speaker). own_rows s m.redist (int_rows m.tree)) first
 
 own_then : (m : Moment) (words : Speaker) → Stands m → m.declared.speaker ≡ None → own_rows (Some words) m.redist (int_rows m.tree) ≡ no_rows
-own_then m words stands first = ap (λ (s : Passed Protos). own_rows (Some words) s (int_rows m.tree)) (stands.own NothingOwn first) ∙ nothing_at_first words (int_rows m.tree)
+own_then m words stands first = ap (λ (s : Passed Protos). own_rows (Some words) s (int_rows m.tree)) (stands.waits.own first) ∙ nothing_at_first words (int_rows m.tree)
 
 -- a link of external routes without rows
 begins_external : (link : Link) (rows : Rows Value) → exit_links nothing_yet no_rows link ≡ Some rows → Some no_rows ≡ exit_links nothing_yet no_rows link
@@ -107,7 +73,7 @@ module _ (law : StrangersJoin) (m : Moment) (words : Speaker) (reader : ℕ) (ad
   first = local_first m.declared words admitted
 
   empty : m.tree ≡ new_tree
-  empty = (stands.own InteriorTree).waiting first
+  empty = stands.interior.waiting first
 
   -- no row is the best, before it and then
   decided : best_of m ≡ no_rows
@@ -121,7 +87,7 @@ module _ (law : StrangersJoin) (m : Moment) (words : Speaker) (reader : ℕ) (ad
 
   -- nobody reads before
   joins : IsStranger reader m.exits × StaysWithQueue m.exits queue
-  joins = law m.exits reader (stands.own EachExit) fresh
+  joins = law m.exits reader stands.exits.each fresh
 
   joined : tables.get queue reader ≡ Some []
   joined = get-insert nat_cmp_total m.exits.queue reader [] reader ∙ ap (λ b. cond b (Some []) (tables.get m.exits.queue reader)) (same_key reader)
@@ -130,21 +96,28 @@ module _ (law : StrangersJoin) (m : Moment) (words : Speaker) (reader : ℕ) (ad
   read_then = ap (λ u. rows_before (unread_or_none u) (best_of then)) joined ∙ decided_then
 
   then_stands : Stands then
-  then_stands = record { own = own; at = stands.at }
-    where
-      own : (claim : Claim) → Claims then claim
-      own OneSpeaker = λ k c at. absurd (let one : m.declared.speaker ≡ Some c.me = stands.own OneSpeaker k c at in let none = first in cc)
-      own InteriorTree = let t = stands.own InteriorTree in record { tree = t.tree; full = t.full; few = t.few; waiting = λ e. absurd (cc) }
-      own EachExit = joins.1.sound
-      own QueueLeads = subst (λ (rows : Rows Route). AllLead queue rows) same_best (join_keeps_leading m.exits.queue (best_of m) reader (stands.own QueueLeads))
-      own ExitsRead = subst (λ (rows : Rows Route). AllStand rows (with_queue queue m.exits)) same_best (joins.1.stand (best_of m) (stands.own ExitsRead))
-      own OneSender = sender
-      own SameSessions = λ k. subst (λ (o : Option OutChained). ExitsAt (Some words) m.outgoing k (peer_at k m.declared.peers) o) (sym (no_exit m stands first k)) (exits_none (Some words) m.outgoing k (peer_at k m.declared.peers))
-      own OneReader = record { live = ap is_some joined; own = joins.0 }
-      own ExternalStands = subst (λ (rows : Rows Route). StandsOver rows m.rib) (read_before m stands first ∙ sym read_then) (stands.own ExternalStands)
-      own NothingOwn = λ e. absurd (cc)
-      own NothingExternal = λ e. absurd (cc)
-      own other = stands.own other
+  then_stands = record {
+    peers = record { chains = stands.peers.chains; each = stands.peers.each; speaker = λ k c at. absurd (let one : m.declared.speaker ≡ Some c.me = stands.peers.speaker k c at in let none = first in cc); count = stands.peers.count; numbers = stands.peers.numbers };
+    interior = let t = stands.interior in record { tree = t.tree; full = t.full; few = t.few; waiting = λ e. absurd (cc) };
+    registered = stands.registered;
+    hops = stands.hops;
+    exits = record {
+      rows = stands.exits.rows;
+      each = joins.1.sound;
+      all = subst (λ (rows : Rows Route). AllLead queue rows) same_best (join_keeps_leading m.exits.queue (best_of m) reader stands.exits.all);
+      read = subst (λ (rows : Rows Route). AllStand rows (with_queue queue m.exits)) same_best (joins.1.stand (best_of m) stands.exits.read);
+      profile = stands.exits.profile;
+      sender = sender;
+      sessions = λ k. subst (λ (o : Option OutChained). ExitsAt (Some words) m.outgoing k (peer_at k m.declared.peers) o) (sym (no_exit m stands first k)) (exits_none (Some words) m.outgoing k (peer_at k m.declared.peers));
+      one = record { live = ap is_some joined; own = joins.0 };
+      external = subst (λ (rows : Rows Route). StandsOver rows m.rib) (read_before m stands first ∙ sym read_then) stands.exits.external;
+    };
+    external = stands.external;
+    waits = record {
+      own = λ e. absurd (cc);
+      external = λ e. absurd (cc);
+    };
+  }
 
   none : (link : Link) → tree_by m.declared.speaker m.tree link ≡ None
   none link = ap (λ (s : Option Speaker). tree_by s m.tree link) first
@@ -162,7 +135,7 @@ module _ (law : StrangersJoin) (m : Moment) (words : Speaker) (reader : ℕ) (ad
   begin_org Rip = in_tree (Org Rip) (Some no_rows) (begins (org_rows (branch_of Rip new_tree)) (org_empty Rip))
 
   in_forward : (link : Link) (own : Option (Rows Value)) → own ≡ exit_links nothing_yet no_rows link → own ≡ exit_links m.rib (int_rows m.tree) link
-  in_forward link own is = is ∙ ap (λ (rows : Rows Interior). exit_links nothing_yet rows link) (sym (ap int_rows empty ∙ int_empty)) ∙ ap (λ (x : RibExit). exit_links x (int_rows m.tree) link) (sym (stands.own NothingExternal first))
+  in_forward link own is = is ∙ ap (λ (rows : Rows Interior). exit_links nothing_yet rows link) (sym (ap int_rows empty ∙ int_empty)) ∙ ap (λ (x : RibExit). exit_links x (int_rows m.tree) link) (sym (stands.waits.external first))
 
   own_begins : ◌≡◌ {A = Option (Rows Value)} (Some no_rows) (Some (route_rows (own_of then)))
   own_begins = ap (λ (rows : Rows Route). Some (route_rows rows)) (sym (own_then m words stands first))
@@ -244,7 +217,7 @@ speaker_is m v words after view said = ap (λ (d : Declaration). record v { decl
 -- the RIB's exit, as its links begin
 pub nothing_external : (m n n' : Moment) (words : Speaker) (before now : Journaled) → Stands m → refusal m.declared (events.Local words) ≡ None → n ≡ declared_speaker m words → Adds (BeginsReading n n') before now → n'.rib ≡ nothing_yet
 nothing_external m n n' words before now stands admitted is adds =
-    ap (λ (x : Moment). x.rib) adds.2.after ∙ ap (λ (x : Moment). x.rib) is ∙ stands.own NothingExternal (local_first m.declared words admitted)
+    ap (λ (x : Moment). x.rib) adds.2.after ∙ ap (λ (x : Moment). x.rib) is ∙ stands.waits.external (local_first m.declared words admitted)
 
 pub local_declared : StrangersJoin → (m n n' : Moment) (words : Speaker) (before j1 j2 now : Journaled) → Stands m → refusal m.declared (events.Local words) ≡ None → IsSpeaker m.declared.profile.as4 words → n ≡ declared_speaker m words → j1 ≡ with_lines before first_begins
     → Adds (BeginsReading n n') j1 j2 → now ≡ with_entries j2 begin_entries → Pushes (HasStepped m (events.Local words) 0 n') before now

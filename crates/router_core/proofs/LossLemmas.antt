@@ -1,30 +1,16 @@
 -- The loss of a session.
-use Rattle.std.proofs.Common.{◌≡◌, ℕ, ◌+◌, nat_eq, Bool, true, cond, List, ◌++◌, Option, Some, None, is_some, refl, sym, ap, subst, ◌∙◌}
+use Rattle.router_core.proofs.Common.{sym, subst, ◌∙◌, ap, ◌≡◌, ℕ, refl, List, true, ◌+◌, Bool, ◌++◌, cond, nat_eq, same_Some, peer_at, Declaration, without_session, DeclaredPeer, others_are_unheard, Exited, Chained, Journaled, flushed, Adds, Entry, Line, Value, Inward, no_table, OutChained, chain_at, Chains, peer_links, overdue_at, live_state, Moment, own_of, Gives, with_exits, with_chains, Stands, ExitsAt, StandsAt, PeerStands, ExitsStand, open_session, journal_lines, Pushes, Keeps}
+use Rattle.std.proofs.Common.{Option, Some, None, is_some}
 use Rattle.std.specs.FinMap as tables
-use Rattle.std.proofs.lemmas.Option.{same_Some}
-use Rattle.journal_text.specs.declared.line.Line.{Line}
-use Rattle.event_text.specs.Declarations.{peer_at, Declaration, without_session}
-use Rattle.journal_text.specs.declared.entry.Entry.{Entry}
-use Rattle.journal_text.specs.declared.value.Value.{Value}
-use Rattle.journal_text.specs.Journals.{Journaled, Adds, flushed}
-use Rattle.event_text.specs.declared.declared.DeclaredPeer.{DeclaredPeer}
-use Rattle.in_chain.specs.Chains.{Chained}
 use Rattle.in_chain.specs.Steps.{lost}
-use Rattle.peer_side.specs.Peers.{Chains, chain_at, peer_links, overdue_at, overdue_by, AreBefore}
+use Rattle.peer_side.specs.Peers.{overdue_by, AreBefore}
 use Rattle.peer_side.specs.Steps.{MayLose, LosesInward}
-use Rattle.router_core.specs.Moments.{Moment, Gives, own_of, with_chains, with_exits}
-use Rattle.loss_chain.proofs.TableLemmas.{equal_by, no_table}
+use Rattle.loss_chain.proofs.TableLemmas.{equal_by}
 use Rattle.link_region.proofs.RegionLemmas.{by_bool}
-use Rattle.out_chain.specs.Chains.{OutChained}
-use Rattle.exit_side.specs.Exits.{Exited, chain_at as exit_at}
+use Rattle.exit_side.specs.Exits.{chain_at as exit_at}
 use Rattle.exit_side.specs.Steps.{EndsExit}
-use Rattle.exit_laws.proofs.OtherLemmas.{others_are_unheard}
-use Rattle.link_region.specs.declared.regions.Region.TheVariants.{Inward}
 use Rattle.live_state.specs.Lives.{ended}
-use Rattle.router_core.specs.Lives.{live_state}
-use Rattle.router_core.specs.Stands.{PeerStands, StandsAt, Stands, ExitsAt, EachRow, SameSessions, ExternalAgrees, open_session}
-use Rattle.router_core.specs.Turns.{journal_lines}
-use Rattle.router_core.specs.Works.{Keeps, Pushes, HasRoom, IsSession, HasLost, Ends}
+use Rattle.router_core.specs.Works.{HasRoom, IsSession, HasLost, Ends}
 use Rattle.live_state.proofs.AdmittedLemmas.{down, ended_same, ended_other, ended_length}
 use Rattle.router_core.proofs.BestLemmas.{best_quiet}
 use Rattle.router_core.proofs.HopLemmas.{hops_quiet}
@@ -33,7 +19,7 @@ use Rattle.router_core.proofs.StandLemmas.{remade, peer_of, same_peers, chain_th
 use Rattle.router_core.proofs.KeepLemmas.{keeps_then, gives_push, push_gives}
 use Rattle.router_core.proofs.HeardRows.{put_heard, lost_heard}
 use Rattle.router_core.proofs.HeardSteps.{heard_quiet}
-use Rattle.router_core.proofs.QueueLemmas.{ExitsStand, exits_none, exits_stay}
+use Rattle.router_core.proofs.QueueLemmas.{exits_none, exits_stay}
 use Rattle.router_core.proofs.SessionLemmas.{silenced, exit_gone}
 
 -- ---- what stands after the loss
@@ -68,9 +54,9 @@ ends_one k s m cs entries stands up silent f =
         leads = leads_inward m cs entries f.quiet f.step.leads;
         live = live_routed m (without_session m.declared k) k c (lost s c) cs f.loses.at f.loses.after refl;
         stands = stands_put m (without_session m.declared k) k c (lost s c) cs m.registry m.hops m.exits stands f.loses.at f.loses.after f.step.sound refl keeps
-            (subst (λ (o : Option DeclaredPeer). StandsAt o (Some (lost s c))) (sym (ended_same k m.declared.peers peer.0 peer.1)) here) refl (stands.own ExternalAgrees)
+            (subst (λ (o : Option DeclaredPeer). StandsAt o (Some (lost s c))) (sym (ended_same k m.declared.peers peer.0 peer.1)) here) refl stands.external.agree
             (hops_quiet m cs stands f.quiet (same_peers m k c (lost s c) cs f.loses.at f.loses.after))
-            (still c (exits_stay m (with_chains m cs) stands (put_heard m.declared.profile k (lost s c) m.chains cs f.loses.after (lost_heard m.declared.profile s c (stands.own EachRow k c f.loses.at)) (stands.own EachRow))
+            (still c (exits_stay m (with_chains m cs) stands (put_heard m.declared.profile k (lost s c) m.chains cs f.loses.after (lost_heard m.declared.profile s c (stands.exits.rows k c f.loses.at)) stands.exits.rows)
             (best_quiet (own_of m) m.chains cs m.hops f.quiet) refl refl refl refl (λ rows over. over)));
         heard = heard_quiet m (remade m (without_session m.declared k) cs) (journal_lines entries) (others_are_unheard Inward (peer_links m.chains) (peer_links cs) entries refl f.step.leads) refl;
       };
@@ -81,7 +67,7 @@ ends_one k s m cs entries stands up silent f =
     sessions j = by_bool (nat_eq j k) (λ b. ExitsAt m.declared.speaker m.outgoing j (peer_at j (without_session m.declared k).peers) (exit_at j m.exits))
         (λ same. subst (λ (n : ℕ). ExitsAt m.declared.speaker m.outgoing n (peer_at n (without_session m.declared k).peers) (exit_at n m.exits)) (sym (equal_by j k same))
         (subst (λ (o : Option OutChained). ExitsAt m.declared.speaker m.outgoing k (peer_at k (without_session m.declared k).peers) o) (sym silent) (exits_none m.declared.speaker m.outgoing k (peer_at k (without_session m.declared k).peers))))
-        (λ apart. subst (λ (o : Option DeclaredPeer). ExitsAt m.declared.speaker m.outgoing j o (exit_at j m.exits)) (sym (ended_other k j m.declared.peers apart)) (stands.own SameSessions j))
+        (λ apart. subst (λ (o : Option DeclaredPeer). ExitsAt m.declared.speaker m.outgoing j o (exit_at j m.exits)) (sym (ended_other k j m.declared.peers apart)) (stands.exits.sessions j))
 
     still : (c : Chained) → ExitsStand (with_chains m cs) → ExitsStand (remade m (without_session m.declared k) cs)
     still c x = record { rows = x.rows; each = x.each; all = x.all; read = x.read; profile = x.profile; sender = x.sender; sessions = sessions; one = x.one; external = x.external }

@@ -1,61 +1,32 @@
 -- How many turns next hops take at most, whatever became stale.
-use Rattle.std.proofs.Common.{◌≡◌, ℕ, ◌+◌, ◌*◌, ◌≤◌, Bool, true, false, List, [], ◌∷◌, ◌++◌, map, length, length-append, cond, not, if◌then◌else◌, zero, suc, Option, Some, None, is_some, IsSome, refl, sym, ap, subst, ◌∙◌, arith}
-use Rattle.std.specs.Ordering.{nat_cmp, eq_by_cmp}
-use Rattle.std.specs.Cmp.{nat_cmp_total}
-use Rattle.std.specs.List.{sum_by, Contains}
+use Rattle.router_core.proofs.Common.{sym, subst, ◌∙◌, ap, ◌≡◌, ℕ, refl, List, true, arith, false, ◌+◌, Bool, ◌++◌, ◌≤◌, cond, suc, zero, not, ◌*◌, length-append, nat_cmp_total, nat_cmp-IsAntisymmetric, get-entries, Contains, sum_by, nat_cmp, eq_by_cmp, Network, Route, Speaker, best_is_a_branchs, peer_at, DeclaredPeer, Queued, resolver_at, Resolvers, rows_by, known_in, candidates_are_counted, Chained, filt_rows, sum_replaced, rows_before, Rows, Change, is_stale_at, stale_count, route_hop, with_metric, Resolving, passes, Metric, OutChained, Passed, Walked, function_at, chain_at, Chains, filt_at, filt_by, put_chain, rows_in, lost_in, Rule, redistributed, Protos, ext_is_of_best, Interior, Parted, on_link, kept_rows, BgpLink, int_rows, tree_count, own_rows, all_at, Moment, best_of, own_of, read_rows_by, read_of, counts, beyonds, unread_if, tree_beyond, external_beyond, fin_sends, most_of, own_sends, own_sends_by, own_waiting, nh_sends, Stands, ExitsAt, StandsAt}
+use Rattle.std.proofs.Common.{[], ◌∷◌, map, length, if◌then◌else◌, Option, Some, None, is_some, IsSome}
 use Rattle.std.proofs.lemmas.List.Elements.{Contains-append_left, Contains-append_right}
 use Rattle.std.specs.FinMap as tables
-use Rattle.std.specs.FinMap.{find, get-entries, nat_cmp-IsAntisymmetric}
+use Rattle.std.specs.FinMap.{find}
 use Rattle.std.proofs.lemmas.List.Sums.{sum_by-cons, sum_by-le-sum_by}
-use Rattle.addr4.specs.Prefixes.{Network}
-use Rattle.nexthop_resolver.specs.Resolving.{Resolving, Answers, resolved, passes}
-use Rattle.nexthop_resolver.specs.Kept.{route_hop, with_metric}
-use Rattle.nexthop_resolver.specs.declared.rows.Metric.{Metric}
-use Rattle.in_chain.specs.Chains.{Chained, filt_beyond, filt_rows, row_count}
+use Rattle.nexthop_resolver.specs.Resolving.{Answers, resolved}
+use Rattle.in_chain.specs.Chains.{filt_beyond, row_count}
 use Rattle.loss_chain.specs.Tables.{tables_beyond as left_beyond}
 use Rattle.loss_chain.proofs.BeyondLemmas.{table_within}
-use Rattle.in_chain.proofs.TurnLemmas.{candidates_are_counted, filtered_rows_are_few}
-use Rattle.hop_side.specs.Resolvers.{Resolvers, resolver_at, rows_by, known_of, known_in, left_of, walks_of, walks_in, same_metric}
+use Rattle.in_chain.proofs.TurnLemmas.{filtered_rows_are_few}
+use Rattle.hop_side.specs.Resolvers.{known_of, left_of, walks_of, walks_in, same_metric}
 use Rattle.hop_side.proofs.FewLemmas.{known_are_few}
-use Rattle.peer_side.specs.Peers.{Chains, chain_at, put_chain, filt_at, filt_by, lost_in, rows_in}
 use Rattle.peer_side.proofs.PutLemmas.{put_lost}
 use Rattle.router_core.specs.declared.router.Phase.TheVariants.{Nh, Ext}
-use Rattle.router_core.specs.Moments.{Moment, own_of, best_of, read_of, read_rows_by}
-use Rattle.router_core.specs.Bests.{own_rows, all_at}
-use Rattle.nexthop_known.specs.Hops.{is_stale_at, stale_count}
 use Rattle.nexthop_known.proofs.StaleLemmas.{known_count}
 use Rattle.nexthop_resolver.specs.Left.{is_needed, differing_count, walk_turns, next_walk}
-use Rattle.router_core.specs.Phases.{beyond_by, beyonds, counts, most_of, external_most, external_beyond, tree_beyond, unread_if, stale_of, stale_in, own_sends, own_sends_by, own_waiting, nh_sends, nh_sends_of, place_candidates, next_candidates, fin_sends, fin_sends_of, walk_candidates, waiting_candidates}
-use Rattle.bgp_attr.specs.declared.speaker.Speaker.{Speaker}
-use Rattle.policy_rules.specs.declared.rule.Rule.{Rule}
-use Rattle.pass_core.specs.Passed.{Passed, Walked, function_at}
-use Rattle.redist.specs.declared.protos.Protos.{Protos}
-use Rattle.redist.specs.Local.{redistributed}
-use Rattle.bgp_attr.specs.declared.route.Route.{Route}
-use Rattle.link_change.specs.Rows.{Rows}
-use Rattle.link_change.specs.InOrder.{rows_before}
-use Rattle.link_change.specs.declared.change.Change.{Change}
-use Rattle.link_change.proofs.MapLemmas.{sum_within, sum_replaced, sums_within, values_length}
+use Rattle.router_core.specs.Phases.{beyond_by, external_most, stale_of, stale_in, nh_sends_of, place_candidates, next_candidates, fin_sends_of, walk_candidates, waiting_candidates}
+use Rattle.link_change.proofs.MapLemmas.{sum_within, sums_within, values_length}
 use Rattle.link_region.proofs.RegionLemmas.{by_bool}
-use Rattle.fanout_queue.specs.Queues.{Queued}
-use Rattle.decision.proofs.LawLemmas.{best_is_a_branchs}
-use Rattle.rib_route.specs.declared.rows.Interior.{Interior}
 use Rattle.rib_route.specs.declared.rows.External.{External}
-use Rattle.rib_tree.specs.Trees.{tree_count, int_rows}
-use Rattle.rib_split.specs.declared.split.BgpLink.{BgpLink}
 use Rattle.rib_split.specs.declared.split.BgpLink.TheVariants.{Ebgp, Ibgp}
-use Rattle.rib_split.specs.Splitting.{Parted, external_row, on_link}
-use Rattle.rib_split.specs.Tables.{kept_rows}
+use Rattle.rib_split.specs.Splitting.{external_row}
 use Rattle.rib_exit.specs.Exits.{known_in as external_known}
 use Rattle.rib_exit.proofs.BusyLemmas.{turns_are_bounded as external_bounded}
 use Rattle.rib_exit.proofs.FewLemmas.{known_are_few as external_are_few}
-use Rattle.rib_exit.proofs.LawLemmas.{ext_is_of_best}
-use Rattle.event_text.specs.declared.declared.DeclaredPeer.{DeclaredPeer}
-use Rattle.event_text.specs.Declarations.{peer_at}
-use Rattle.out_chain.specs.Chains.{OutChained}
 use Rattle.exit_side.specs.Exits.{chain_at as exit_at}
 use Rattle.router_core.proofs.BeyondLemmas.{tree_within, tree_keys, tree_length, has_tree_key, few_both, external_counted}
-use Rattle.router_core.specs.Stands.{Stands, StandsAt, ExitsAt, EachPeer, EachResolver, SameResolvers, HopsCounted, SameSessions, ExternalExit, ExternalStands}
 
 -- ---- next hops, and the rows of their peers
 chain_by : (o : Option Chained) (p : Option (Resolving Metric)) → is_some p ≡ is_some o → IsSome p → (c : Chained) × (o ≡ Some c)
@@ -76,11 +47,11 @@ stale_below a = sum_by-le-sum_by stale_of known_of (tables.values a) (λ s. know
 
 module _ (m : Moment) (stands : Stands m) where
   chain_of : (k : ℕ) (s : Resolving Metric) → resolver_at k m.hops ≡ Some s → (c : Chained) × (chain_at k m.chains ≡ Some c)
-  chain_of k s at = chain_by (chain_at k m.chains) (resolver_at k m.hops) (stands.own SameResolvers k) (ap is_some at)
+  chain_of k s at = chain_by (chain_at k m.chains) (resolver_at k m.hops) (stands.hops.same k) (ap is_some at)
 
   beyond_at : (k : ℕ) (s : Resolving Metric) (c : Chained) → resolver_at k m.hops ≡ Some s → chain_at k m.chains ≡ Some c → beyonds m.chains s.client None ≤ row_count c
   beyond_at k s c at there =
-      let own : beyonds m.chains s.client None ≡ filt_beyond c None = ap (λ (n : ℕ). beyond_by (chain_at n m.chains) None) (stands.own EachResolver k s at).client ∙ ap (λ (o : Option Chained). beyond_by o None) there in
+      let own : beyonds m.chains s.client None ≡ filt_beyond c None = ap (λ (n : ℕ). beyond_by (chain_at n m.chains) None) (stands.hops.sound k s at).client ∙ ap (λ (o : Option Chained). beyond_by o None) there in
       let most = (candidates_are_counted c).1 in
       omega (arith, own, most)
 
@@ -88,7 +59,7 @@ module _ (m : Moment) (stands : Stands m) where
   known_below = sums_within nat_cmp_total nat_cmp-IsAntisymmetric known_of row_count m.hops m.chains (λ k s at.
       let c = chain_of k s at in
       let few = filtered_rows_are_few c.0 in
-      let known = known_are_few m.hops (filt_at m.chains) k s few.0 (stands.own EachResolver) (stands.own HopsCounted) at (λ q some. few.2 q (subst (λ (o : Option Chained). IsSome (filt_by o q)) c.1 some)) in
+      let known = known_are_few m.hops (filt_at m.chains) k s few.0 stands.hops.sound stands.hops.counted at (λ q some. few.2 q (subst (λ (o : Option Chained). IsSome (filt_by o q)) c.1 some)) in
       let rows = few.1 in
       (c.0, c.1, omega (arith, known, rows)))
 
@@ -215,7 +186,7 @@ few_exits m stands =
     by_peer k c (Some me) None None exit there = absurd exit
 
     chain_of : (k : ℕ) (c : OutChained) → exit_at k m.exits ≡ Some c → (x : Chained) × (chain_at k m.chains ≡ Some x)
-    chain_of k c at = by_peer k c m.declared.speaker (peer_at k m.declared.peers) (chain_at k m.chains) (subst (λ (o : Option OutChained). ExitsAt m.declared.speaker m.outgoing k (peer_at k m.declared.peers) o) at (stands.own SameSessions k)) (stands.own EachPeer k)
+    chain_of k c at = by_peer k c m.declared.speaker (peer_at k m.declared.peers) (chain_at k m.chains) (subst (λ (o : Option OutChained). ExitsAt m.declared.speaker m.outgoing k (peer_at k m.declared.peers) o) at (stands.exits.sessions k)) (stands.peers.each k)
 
 -- ---- how many changes of `red` the walk of redistribution may make
 pub own_sends_below : (m : Moment) → own_sends m ≤ 2 * tree_count m.tree
@@ -321,7 +292,7 @@ module _ (m : Moment) (stands : Stands m) (over : unread_if m.exits.queue m.read
   read_key q there = best_there m q (read_there m.exits.queue m.reader (best_of m) q over there)
 
   side_at : (side : BgpLink) (q : Network) → kept_rows m.rib.splitter side q ≡ on_link side (external_row (read_of m q))
-  side_at side q = ap (λ (p : Parted). p side q) (stands.own ExternalStands).links
+  side_at side q = ap (λ (p : Parted). p side q) stands.exits.external.links
 
   side_key : (side : BgpLink) (q : Network) → IsSome (kept_rows m.rib.splitter side q) → Contains (best_keys m) q
   side_key side q there = read_key q (external_there (read_of m q) (side_there side (external_row (read_of m q)) (ap is_some (sym (side_at side q)) ∙ there)))
@@ -339,8 +310,8 @@ module _ (m : Moment) (stands : Stands m) (over : unread_if m.exits.queue m.read
   -- and no more next hops are known
   pub external_known_few : external_known m.rib ≤ rows_in m.chains + tree_count m.tree
   external_known_few =
-      let few = external_are_few m.rib (read_of m) (best_keys m) (stands.own ExternalExit) (stands.own ExternalStands)
-      (λ q there. read_key q (external_there (read_of m q) (ap is_some (sym (ap (λ (rows : Rows External). rows q) (ext_is_of_best m.rib (read_of m) (stands.own ExternalStands)))) ∙ there))) in
+      let few = external_are_few m.rib (read_of m) (best_keys m) stands.external.sound stands.exits.external
+      (λ q there. read_key q (external_there (read_of m q) (ap is_some (sym (ap (λ (rows : Rows External). rows q) (ext_is_of_best m.rib (read_of m) stands.exits.external))) ∙ there))) in
       let keys = keys_few m in
       omega (arith, few, keys)
 

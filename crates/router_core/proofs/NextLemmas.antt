@@ -1,44 +1,27 @@
 -- The next task of a phase.
-use Rattle.std.proofs.Common.{◌≡◌, ℕ, ◌<◌, ◌≤◌, ◌||◌, Bool, true, false, length, take, cond, List, [], ◌∷◌, ◌++◌, map, Option, Some, None, is_some, refl, sym, ap, subst, ◌∙◌}
+use Rattle.router_core.proofs.Common.{sym, subst, ◌∙◌, ap, ◌≡◌, ℕ, refl, List, true, false, Bool, ◌++◌, ◌≤◌, cond, ◌<◌, take, ◌||◌, AllByRecursion, list_any, range_with_len, Network, Attrs, Route, Chained, Task, Change, table_of, is_unread, Walked, chain_at, Protos, Proto, Connected, Static, Ospf, Rip, Interior, Branch, Treed, branch_of, next_hop_at, holds_up_at, is_over, held_in, Moment, best_of, counts, beyonds, unread_if, best_beyond, Stands, phase_of, has_work, next_task, phase_tasks, Phase}
+use Rattle.std.proofs.Common.{length, [], ◌∷◌, map, Option, Some, None, is_some}
 use Rattle.std.specs.Prelude.{IfNone, option_map}
 use Rattle.hop_side.specs.Resolvers.{Beyonds, has_hop_work, hop_holds_up, left_in}
-use Rattle.std.specs.List.{AllByRecursion, find, list_any, range_with_len}
+use Rattle.std.specs.List.{find}
 use Rattle.std.specs.FinMap as tables
-use Rattle.bgp_attr.specs.declared.attrs.Attrs.{Attrs}
-use Rattle.journal_text.specs.declared.link.Task.{Task}
 use Rattle.journal_text.specs.declared.link.Task.TheVariants as tasks
-use Rattle.rib_route.specs.declared.Proto.{Proto}
-use Rattle.rib_route.specs.declared.Proto.TheVariants.{Connected, Static, Ospf, Rip}
-use Rattle.rib_route.specs.declared.rows.Interior.{Interior}
 use Rattle.loss_chain.specs.Lost.{Lost}
-use Rattle.loss_chain.specs.Steps.{first_task, table_of}
+use Rattle.loss_chain.specs.Steps.{first_task}
 use Rattle.loss_chain.proofs.ListLemmas.{all_any, all_so, all_made, all_flat}
 use Rattle.loss_chain.proofs.TableLemmas.{all_tables}
 use Rattle.link_region.proofs.RegionLemmas.{by_bool}
-use Rattle.in_chain.specs.Chains.{Chained}
-use Rattle.peer_side.specs.Peers.{chain_at, chain_tasks, has_peer_work, peer_lags}
+use Rattle.peer_side.specs.Peers.{chain_tasks, has_peer_work, peer_lags}
 use Rattle.peer_side.proofs.TaskLemmas.{all_working, first_none}
-use Rattle.rib_tree.specs.Branches.{Branch}
 use Rattle.rib_tree.specs.BranchSteps.{branch_tasks}
 use Rattle.rib_tree.specs.Steps.{tree_holds_up, tree_lags, tree_over}
-use Rattle.rib_tree.specs.Trees.{Treed, branch_of, tree_tasks}
+use Rattle.rib_tree.specs.Trees.{tree_tasks}
 use Rattle.rib_tree.proofs.RestLemmas.{all_tree}
-use Rattle.router_core.specs.declared.router.Phase.{Phase}
 use Rattle.router_core.specs.declared.router.Phase.TheVariants.{Rdel, Red, Del, Fin, Nh, ReadRib, Out, Ext}
-use Rattle.router_core.specs.Moments.{Moment, best_of}
-use Rattle.router_core.specs.Stands.{Stands, InteriorTree}
-use Rattle.addr4.specs.Prefixes.{Network}
-use Rattle.bgp_attr.specs.declared.route.Route.{Route}
-use Rattle.link_change.specs.declared.change.Change.{Change}
-use Rattle.out_chain.specs.Chains.{is_unread}
-use Rattle.pass_core.specs.Passed.{Walked}
-use Rattle.redist.specs.declared.protos.Protos.{Protos}
 use Rattle.rib_exit.specs.Exits.{has_ext_work}
 use Rattle.exit_side.specs.Exits.{has_exit_work, exit_holds_up, left_in as exits_left_in}
-use Rattle.router_core.specs.Phases.{beyonds, best_beyond, unread_if, counts}
 use Rattle.router_core.proofs.CountLemmas.{over_none}
-use Rattle.router_core.specs.Turns.{phase_of, phase_tasks, next_task, has_work}
-use Rattle.router_core.specs.Holding.{next_hop_at, peer_numbers, is_over, holds_up_at, held_in}
+use Rattle.router_core.specs.Holding.{peer_numbers}
 use Rattle.router_core.proofs.HeldLemmas.{AreUpTo, all_hops}
 
 -- ---- each task is of its phase: a line for each phase
@@ -160,7 +143,7 @@ none_of_external r m task is next = subst (λ (o : Option Task). IfNone o (count
 -- each stage that stands has work
 next_loss : (m : Moment) → Stands m → next_task Rdel m ≡ first_task (tree_tasks m.tree)
 next_loss m stands = all_working (λ t. has_work t m) (tree_tasks m.tree) (all_tree Works m.tree (λ proto. all_made Works (λ (d : Lost Interior). tasks.Rdel (branch_of proto m.tree).proto d.number) (branch_of proto m.tree).tables.deletions
-    (subst (λ (k : Proto). AllByRecursion (λ (d : Lost Interior). is_some (table_of d.number (branch_of k m.tree).tables.deletions) ≡ true) (branch_of proto m.tree).tables.deletions) (sym ((stands.own InteriorTree).tree.placed proto)) (all_tables (branch_of proto m.tree).tables.deletions))))
+    (subst (λ (k : Proto). AllByRecursion (λ (d : Lost Interior). is_some (table_of d.number (branch_of k m.tree).tables.deletions) ≡ true) (branch_of proto m.tree).tables.deletions) (sym (stands.interior.tree.placed proto)) (all_tables (branch_of proto m.tree).tables.deletions))))
   where
     Works : Task → Type 0
     Works t = has_work t m ≡ true

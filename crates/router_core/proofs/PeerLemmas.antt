@@ -1,57 +1,32 @@
 -- A peer that is declared, and one whose session begins.
-use Rattle.std.proofs.Common.{◌≡◌, ℕ, ◌+◌, ◌≤◌, Bool, true, false, not, ◌&&◌, cond, List, [], ◌∷◌, ◌++◌, map, length, Option, Some, None, nat_eq, refl, sym, ap, subst, ◌∙◌, suc, arith}
+use Rattle.router_core.proofs.Common.{sym, subst, ◌∙◌, ap, ◌≡◌, ℕ, refl, List, true, arith, false, ◌+◌, Bool, ◌++◌, ◌≤◌, cond, suc, nat_eq, not, ◌&&◌, same_Some, Attrs, Route, Speaker, begun_words, peer_at, Declaration, with_session, begun_at, refusal_at, IsWellFormed, DeclaredPeer, AllStand, AllLead, resolver_at, Resolvers, rows_by, PeerRows, hop_links, IsHops, res_at, AllAgree, AllCounted, put_resolver, LeadsRes, HasNoInterest, Chained, filt_rows, with_entries_append, Journaled, with_entries, Rows, no_rows, LeadsIn, Inward, no_table, same_by, Resolving, Metric, OutChained, Walked, present, put_each, chain_at, Chains, filt_at, filt_by, put_chain, peer_links, routes_of, rules_of, Rule, Registry, StandsOver, Interior, best_at, ByPeer, BeginsIf, Declares, live_state, Moment, best_of, router_links, own_of, read_rows_by, with_chains, Policies, Stands, ExitsAt, StandsAt, PeerStands, IsSilent, journal_lines, Pushes, HasStepped}
+use Rattle.std.proofs.Common.{[], ◌∷◌, map, length, Option, Some, None}
 use Rattle.std.proofs.lemmas.List.{length_push}
 use Rattle.std.specs.Prelude.{option_map, IsSome, is_some}
-use Rattle.std.proofs.lemmas.Option.{same_Some}
-use Rattle.bgp_attr.specs.declared.speaker.Speaker.{Speaker}
 use Rattle.journal_text.specs.declared.line.Line.TheVariants as lines
-use Rattle.journal_text.specs.Journals.{Journaled, with_entries}
 use Rattle.event_text.specs.declared.event.Event.TheVariants as events
-use Rattle.event_text.specs.WellFormed.{IsWellFormed}
-use Rattle.event_text.specs.declared.declared.DeclaredPeer.{DeclaredPeer}
-use Rattle.event_text.specs.Declarations.{Declaration, peer_at, words_of, with_peer, with_session, begun_at, refusal, refusal_at, rules_refusal, session_refusal}
-use Rattle.event_text.proofs.Sessions.{addable, missed, KeepsWords, begun_words}
-use Rattle.policy_rules.specs.declared.rule.Rule.{Rule}
-use Rattle.pass_core.specs.Passed.{Walked, present, edited}
-use Rattle.in_chain.specs.Chains.{Chained, filt_rows}
+use Rattle.event_text.specs.Declarations.{words_of, with_peer, refusal, rules_refusal, session_refusal}
+use Rattle.event_text.proofs.Sessions.{addable, missed, KeepsWords}
+use Rattle.pass_core.specs.Passed.{edited}
 use Rattle.in_chain.specs.Steps.{new_chain, refiltered}
-use Rattle.loss_chain.proofs.TableLemmas.{equal_by, same_by, other_by, no_table}
-use Rattle.link_region.specs.declared.regions.Region.TheVariants.{Inward}
-use Rattle.link_region.specs.Regions.{LeadsIn}
+use Rattle.loss_chain.proofs.TableLemmas.{equal_by, other_by}
 use Rattle.link_region.proofs.RegionLemmas.{by_bool, lead_nothing}
-use Rattle.bgp_attr.specs.declared.attrs.Attrs.{Attrs}
-use Rattle.link_change.specs.Rows.{Rows, no_rows}
 use Rattle.link_change.proofs.RowLemmas.{empty_rows}
 use Rattle.filter_bank.specs.Filtered.{filtered_rows}
-use Rattle.rib_route.specs.declared.rows.Interior.{Interior}
-use Rattle.register_interest.specs.Registers.{Registry}
-use Rattle.bgp_attr.specs.declared.route.Route.{Route}
-use Rattle.nexthop_resolver.specs.Resolving.{Resolving, nothing_known}
-use Rattle.nexthop_resolver.specs.declared.rows.Metric.{Metric}
-use Rattle.journal_text.proofs.JournalLemmas.{with_entries_append}
-use Rattle.hop_side.specs.Resolvers.{Resolvers, PeerRows, resolver_at, put_resolver, res_at, rows_by, hop_links, IsHops, AllAgree, AllCounted}
-use Rattle.hop_side.specs.Steps.{LeadsRes, HasNoInterest, begin_entries as hop_begins}
+use Rattle.nexthop_resolver.specs.Resolving.{nothing_known}
+use Rattle.hop_side.specs.Steps.{begin_entries as hop_begins}
 use Rattle.hop_side.proofs.PutLemmas.{at_put as resolver_put}
-use Rattle.peer_side.specs.Peers.{Chains, chain_at, put_chain, peer_links, filt_by, filt_at, begin_entries, routes_of, rules_of, IsPeers, AreBefore}
+use Rattle.peer_side.specs.Peers.{begin_entries, IsPeers, AreBefore}
 use Rattle.peer_side.specs.Steps.{EditsInward}
-use Rattle.peer_side.proofs.PutLemmas.{at_put, put_here, put_each, put_kept, put_more}
-use Rattle.router_core.specs.Bests.{best_at}
-use Rattle.router_core.specs.Moments.{Moment, Policies, own_of, best_of, read_rows_by, with_chains, router_links}
+use Rattle.peer_side.proofs.PutLemmas.{at_put, put_here, put_kept, put_more}
 use Rattle.live_state.specs.Lives.{with_rules, begun_if_down}
-use Rattle.router_core.specs.Lives.{live_state}
-use Rattle.router_core.specs.Stands.{IsSilent, PeerStands, StandsAt, Stands, Claim, Claims, EachChain, EachPeer, OneSpeaker, SameCount, EachResolver, SameResolvers, AnswersAgree, HopsCounted, NoStrangers, SmallNumbers, EachRow, QueueLeads, ExitsRead, SameSessions, ExternalAgrees, ExternalStands, ExitsAt}
-use Rattle.router_core.specs.Turns.{journal_lines}
-use Rattle.router_core.specs.Blocks.{ByPeer, BeginsIf, Declares, declared_peer, begun}
+use Rattle.router_core.specs.Blocks.{declared_peer, begun}
 use Rattle.router_core.specs.Peers.{is_up}
-use Rattle.router_core.specs.Works.{HasStepped, Pushes}
 use Rattle.router_core.proofs.BestLemmas.{same_all, best_quiet}
 use Rattle.router_core.proofs.RegionLemmas.{leads_inward}
 use Rattle.router_core.proofs.StandLemmas.{peer_of, chain_there, same_peers, not_zero, stands_with, live_edited}
-use Rattle.fanout_queue.specs.Queues.{AllLead}
 use Rattle.loss_chain.proofs.FeedLemmas.{no_row_at_first}
-use Rattle.out_chain.specs.Chains.{OutChained}
-use Rattle.exit_side.specs.Exits.{AllStand, chain_at as exit_at}
-use Rattle.rib_exit.specs.Exits.{StandsOver}
+use Rattle.exit_side.specs.Exits.{chain_at as exit_at}
 use Rattle.router_core.proofs.HeardRows.{put_heard}
 use Rattle.router_core.proofs.HeardSteps.{heard_quiet}
 use Rattle.router_core.proofs.QueueLemmas.{exits_none, undeclared_none, reader_live, exits_stay}
@@ -94,7 +69,7 @@ no_chain (Some p) c stands none = absurd (cc)
 -- no chain stands before it is declared
 pub chain_absent : (m v : Moment) (k : ℕ) (words : Speaker) → v ≡ m → Stands m → refusal m.declared (events.Peer k words) ≡ None → chain_at k v.chains ≡ None
 chain_absent m v k words view stands admitted =
-    ap (λ (n : Moment). chain_at k n.chains) view ∙ no_chain (peer_at k m.declared.peers) (chain_at k m.chains) (stands.own EachPeer k) (peer_absent m.declared k words admitted)
+    ap (λ (n : Moment). chain_at k n.chains) view ∙ no_chain (peer_at k m.declared.peers) (chain_at k m.chains) (stands.peers.each k) (peer_absent m.declared k words admitted)
 
 -- its words, as they were read again
 declared_is : (before after : Declaration) (k : ℕ) (words : Speaker) (p : DeclaredPeer) → peer_at k before.peers ≡ None → after ≡ with_peer before k words → Some p ≡ peer_at k after.peers → p ≡ new_peer before k words
@@ -112,7 +87,7 @@ pub resolver_absent : (m v : Moment) (after : Declaration) (k : ℕ) (words : Sp
     → resolver_at p.words.number v.hops ≡ None
 resolver_absent m v after k words p view stands admitted added there =
     ap (λ (n : ℕ). resolver_at n v.hops) (new_number m v after k words p view admitted added there)
-    ∙ no_table (resolver_at k v.hops) ((subst Stands (sym view) stands).own SameResolvers k ∙ ap is_some (chain_absent m v k words view stands admitted))
+    ∙ no_table (resolver_at k v.hops) ((subst Stands (sym view) stands).hops.same k ∙ ap is_some (chain_absent m v k words view stands admitted))
 
 -- what a resolver that begins keeps
 pub record BeginsWith (k : ℕ) (a a' : Resolvers) : Type 0 where
@@ -131,7 +106,7 @@ module _ (m : Moment) (me : Speaker) (k : ℕ) (words : Speaker) (is_local : m.d
   fresh = new_chain me (words_of m.declared.speaker k words)
 
   no_chain_yet : chain_at k m.chains ≡ None
-  no_chain_yet = no_chain (peer_at k m.declared.peers) (chain_at k m.chains) (stands.own EachPeer k) absent
+  no_chain_yet = no_chain (peer_at k m.declared.peers) (chain_at k m.chains) (stands.peers.each k) absent
 
   -- no row stands on its `filt.K`
   no_filtered : filt_rows fresh ≡ no_rows
@@ -144,7 +119,7 @@ module _ (m : Moment) (me : Speaker) (k : ℕ) (words : Speaker) (is_local : m.d
   quiet = put_kept filt_by k fresh m.chains (no_filtered ∙ ap filt_by (sym no_chain_yet))
 
   no_resolver_yet : resolver_at k m.hops ≡ None
-  no_resolver_yet = no_table (resolver_at k m.hops) (stands.own SameResolvers k ∙ ap is_some no_chain_yet)
+  no_resolver_yet = no_table (resolver_at k m.hops) (stands.hops.same k ∙ ap is_some no_chain_yet)
 
   abbrev hops_then : Resolvers
   hops_then = put_resolver k (nothing_known k) m.hops
@@ -163,45 +138,57 @@ module _ (m : Moment) (me : Speaker) (k : ℕ) (words : Speaker) (is_local : m.d
   same_best = same_decided ∙ best_quiet (own_of m) m.chains (put_chain k fresh m.chains) m.hops quiet
 
   declared_stands : (1 ≤ k) × (k ≤ 64) → IsPeers (put_chain k fresh m.chains) → BeginsWith k m.hops hops_then → Stands (declared_peer m me k words)
-  declared_stands small peers begins = record { own = own; at = stands.at }
-    where
-      both_put : (j : ℕ) → is_some (resolver_at j hops_then) ≡ is_some (chain_at j (put_chain k fresh m.chains))
-      both_put j = ap is_some (resolver_put k (nothing_known k) m.hops j) ∙ by_bool (nat_eq j k) (λ b. is_some (cond b (Some (nothing_known {A = Metric} k)) (resolver_at j m.hops)) ≡ is_some (cond b (Some fresh) (chain_at j m.chains)))
-          (λ _. refl) (λ _. stands.own SameResolvers j) ∙ sym (ap is_some (at_put k fresh m.chains j))
-
-      none_then : (j : ℕ) → resolver_at j hops_then ≡ None → resolver_at j m.hops ≡ None
-      none_then j none = by_bool (nat_eq j k) (λ b. cond b (Some (nothing_known {A = Metric} k)) (resolver_at j m.hops) ≡ None → resolver_at j m.hops ≡ None)
-          (λ _ some. absurd (cc)) (λ _ same. same) (sym (resolver_put k (nothing_known k) m.hops j) ∙ none)
-
-      own : (claim : Claim) → Claims (declared_peer m me k words) claim
-      own EachChain = peers
-      own EachPeer = λ j. subst (λ (o : Option Chained). StandsAt (peer_at j (with_peer m.declared k words).peers) o) (sym (at_put k fresh m.chains j))
+  declared_stands small peers begins = record {
+    peers = record {
+      chains = peers;
+      each = λ j. subst (λ (o : Option Chained). StandsAt (peer_at j (with_peer m.declared k words).peers) o) (sym (at_put k fresh m.chains j))
           (by_bool (nat_eq j k) (λ b. StandsAt (peer_at j (with_peer m.declared k words).peers) (cond b (Some fresh) (chain_at j m.chains)))
           (λ e. subst (λ (n : ℕ). StandsAt (peer_at n (with_peer m.declared k words).peers) (Some fresh)) (sym (equal_by j k e))
           (subst (λ (o : Option DeclaredPeer). StandsAt o (Some fresh)) (sym (new_peer_at m.declared k words absent)) (record { words = refl; earlier = tt; silent = refl })))
           (λ e. subst (λ (o : Option DeclaredPeer). StandsAt o (chain_at j m.chains))
-          (sym (peer_at_push_other j m.declared.peers (new_peer m.declared k words) (other_by k j (λ same. let t : true ≡ false = sym (same_by j k (sym same)) ∙ e in cc)))) (stands.own EachPeer j)))
-      own EachRow = put_heard m.declared.profile k fresh m.chains (put_chain k fresh m.chains) refl (λ p row is. absurd (no_row_at_first p row is)) (stands.own EachRow)
-      own QueueLeads = subst (λ (rows : Rows Route). AllLead m.exits.queue rows) (sym same_best) (stands.own QueueLeads)
-      own ExitsRead = subst (λ (rows : Rows Route). AllStand rows m.exits) (sym same_best) (stands.own ExitsRead)
-      own SameSessions = λ j. by_bool (nat_eq j k) (λ b. ExitsAt m.declared.speaker m.outgoing j (peer_at j (with_peer m.declared k words).peers) (exit_at j m.exits))
+          (sym (peer_at_push_other j m.declared.peers (new_peer m.declared k words) (other_by k j (λ same. let t : true ≡ false = sym (same_by j k (sym same)) ∙ e in cc)))) (stands.peers.each j)));
+      speaker = put_each (λ j c. m.declared.speaker ≡ Some c.me) k fresh m.chains is_local stands.peers.speaker;
+      count = put_more k fresh m.chains no_chain_yet ∙ ap (λ (n : ℕ). n + 1) stands.peers.count ∙ sym (length_push m.declared.peers (new_peer m.declared k words));
+      numbers = λ j some. by_bool (nat_eq j k) (λ b. is_some (cond b (Some fresh) (chain_at j m.chains)) ≡ true → (1 ≤ j) × (j ≤ 64)) (λ e _. subst (λ (n : ℕ). (1 ≤ n) × (n ≤ 64)) (sym (equal_by j k e)) small) (λ _ there. stands.peers.numbers j there)
+          (sym (ap is_some (at_put k fresh m.chains j)) ∙ some);
+    };
+    interior = stands.interior;
+    registered = stands.registered;
+    hops = record {
+      sound = begins.sound;
+      same = both_put;
+      agree = begins.agree m.registry (stands.hops.strangers k (not_zero k small.0) no_resolver_yet) stands.hops.agree;
+      counted = begins.counted (filt_at (put_chain k fresh m.chains)) no_upper (subst (λ (u : PeerRows). AllCounted u m.hops) (λ i j. sym (quiet j) i) stands.hops.counted);
+      strangers = λ j positive none. stands.hops.strangers j positive (none_then j none);
+    };
+    exits = record {
+      rows = put_heard m.declared.profile k fresh m.chains (put_chain k fresh m.chains) refl (λ p row is. absurd (no_row_at_first p row is)) stands.exits.rows;
+      each = stands.exits.each;
+      all = subst (λ (rows : Rows Route). AllLead m.exits.queue rows) (sym same_best) stands.exits.all;
+      read = subst (λ (rows : Rows Route). AllStand rows m.exits) (sym same_best) stands.exits.read;
+      profile = stands.exits.profile;
+      sender = stands.exits.sender;
+      sessions = λ j. by_bool (nat_eq j k) (λ b. ExitsAt m.declared.speaker m.outgoing j (peer_at j (with_peer m.declared k words).peers) (exit_at j m.exits))
           (λ e. subst (λ (n : ℕ). ExitsAt m.declared.speaker m.outgoing n (peer_at n (with_peer m.declared k words).peers) (exit_at n m.exits)) (sym (equal_by j k e))
           (subst (λ (o : Option OutChained). ExitsAt m.declared.speaker m.outgoing k (peer_at k (with_peer m.declared k words).peers) o)
-          (sym (undeclared_none m.declared.speaker m.outgoing k (exit_at k m.exits) (subst (λ (o : Option DeclaredPeer). ExitsAt m.declared.speaker m.outgoing k o (exit_at k m.exits)) absent (stands.own SameSessions k))))
+          (sym (undeclared_none m.declared.speaker m.outgoing k (exit_at k m.exits) (subst (λ (o : Option DeclaredPeer). ExitsAt m.declared.speaker m.outgoing k o (exit_at k m.exits)) absent (stands.exits.sessions k))))
           (exits_none m.declared.speaker m.outgoing k (peer_at k (with_peer m.declared k words).peers))))
           (λ e. subst (λ (o : Option DeclaredPeer). ExitsAt m.declared.speaker m.outgoing j o (exit_at j m.exits))
-          (sym (peer_at_push_other j m.declared.peers (new_peer m.declared k words) (other_by k j (λ same. let t : true ≡ false = sym (same_by j k (sym same)) ∙ e in cc)))) (stands.own SameSessions j))
-      own EachResolver = begins.sound
-      own SameResolvers = both_put
-      own AnswersAgree = begins.agree m.registry (stands.own NoStrangers k (not_zero k small.0) no_resolver_yet) (stands.own AnswersAgree)
-      own HopsCounted = begins.counted (filt_at (put_chain k fresh m.chains)) no_upper (subst (λ (u : PeerRows). AllCounted u m.hops) (λ i j. sym (quiet j) i) (stands.own HopsCounted))
-      own SmallNumbers = λ j some. by_bool (nat_eq j k) (λ b. is_some (cond b (Some fresh) (chain_at j m.chains)) ≡ true → (1 ≤ j) × (j ≤ 64)) (λ e _. subst (λ (n : ℕ). (1 ≤ n) × (n ≤ 64)) (sym (equal_by j k e)) small) (λ _ there. stands.own SmallNumbers j there)
-          (sym (ap is_some (at_put k fresh m.chains j)) ∙ some)
-      own NoStrangers = λ j positive none. stands.own NoStrangers j positive (none_then j none)
-      own OneSpeaker = put_each (λ j c. m.declared.speaker ≡ Some c.me) k fresh m.chains is_local (stands.own OneSpeaker)
-      own ExternalStands = subst (λ (rows : Rows Route). StandsOver (read_rows_by m.exits.queue m.reader rows) m.rib) (sym same_best) (stands.own ExternalStands)
-      own SameCount = put_more k fresh m.chains no_chain_yet ∙ ap (λ (n : ℕ). n + 1) (stands.own SameCount) ∙ sym (length_push m.declared.peers (new_peer m.declared k words))
-      own other = stands.own other
+          (sym (peer_at_push_other j m.declared.peers (new_peer m.declared k words) (other_by k j (λ same. let t : true ≡ false = sym (same_by j k (sym same)) ∙ e in cc)))) (stands.exits.sessions j));
+      one = stands.exits.one;
+      external = subst (λ (rows : Rows Route). StandsOver (read_rows_by m.exits.queue m.reader rows) m.rib) (sym same_best) stands.exits.external;
+    };
+    external = stands.external;
+    waits = stands.waits;
+  }
+    where
+      both_put : (j : ℕ) → is_some (resolver_at j hops_then) ≡ is_some (chain_at j (put_chain k fresh m.chains))
+      both_put j = ap is_some (resolver_put k (nothing_known k) m.hops j) ∙ by_bool (nat_eq j k) (λ b. is_some (cond b (Some (nothing_known {A = Metric} k)) (resolver_at j m.hops)) ≡ is_some (cond b (Some fresh) (chain_at j m.chains)))
+          (λ _. refl) (λ _. stands.hops.same j) ∙ sym (ap is_some (at_put k fresh m.chains j))
+
+      none_then : (j : ℕ) → resolver_at j hops_then ≡ None → resolver_at j m.hops ≡ None
+      none_then j none = by_bool (nat_eq j k) (λ b. cond b (Some (nothing_known {A = Metric} k)) (resolver_at j m.hops) ≡ None → resolver_at j m.hops ≡ None)
+          (λ _ some. absurd (cc)) (λ _ same. same) (sym (resolver_put k (nothing_known k) m.hops j) ∙ none)
 
   -- live routes and rules stay
   stays : {A : Type 0} (f : Option Chained → A) → f (Some fresh) ≡ f None → (j : ℕ) → f (chain_at j (put_chain k fresh m.chains)) ≡ f (chain_at j m.chains)
@@ -299,13 +286,21 @@ begun_exit k (Some me) policies j None (Some c) is = absurd is
 begun_exit k None policies j p (Some c) is = absurd is
 
 pub begun_stands : (m : Moment) (k : ℕ) → Stands m → Stands (begun m k)
-begun_stands m k stands = record { own = own; at = stands.at }
-  where
-    own : (claim : Claim) → Claims (begun m k) claim
-    own EachPeer = λ j. subst (λ (o : Option DeclaredPeer). StandsAt o (chain_at j m.chains)) (sym (peer_at_map (begun_at k) (begun_words k) j m.declared.peers)) (begun_one k (peer_at j m.declared.peers) (chain_at j m.chains) (stands.own EachPeer j))
-    own SameCount = stands.own SameCount ∙ sym (begun_length k m.declared.peers)
-    own SameSessions = λ j. subst (λ (o : Option DeclaredPeer). ExitsAt m.declared.speaker m.outgoing j o (exit_at j m.exits)) (sym (peer_at_map (begun_at k) (begun_words k) j m.declared.peers)) (begun_exit k m.declared.speaker m.outgoing j (peer_at j m.declared.peers) (exit_at j m.exits) (stands.own SameSessions j))
-    own other = stands.own other
+begun_stands m k stands = record {
+  peers = record {
+    chains = stands.peers.chains;
+    each = λ j. subst (λ (o : Option DeclaredPeer). StandsAt o (chain_at j m.chains)) (sym (peer_at_map (begun_at k) (begun_words k) j m.declared.peers)) (begun_one k (peer_at j m.declared.peers) (chain_at j m.chains) (stands.peers.each j));
+    speaker = stands.peers.speaker;
+    count = stands.peers.count ∙ sym (begun_length k m.declared.peers);
+    numbers = stands.peers.numbers;
+  };
+  interior = stands.interior;
+  registered = stands.registered;
+  hops = stands.hops;
+  exits = record { rows = stands.exits.rows; each = stands.exits.each; all = stands.exits.all; read = stands.exits.read; profile = stands.exits.profile; sender = stands.exits.sender; sessions = λ j. subst (λ (o : Option DeclaredPeer). ExitsAt m.declared.speaker m.outgoing j o (exit_at j m.exits)) (sym (peer_at_map (begun_at k) (begun_words k) j m.declared.peers)) (begun_exit k m.declared.speaker m.outgoing j (peer_at j m.declared.peers) (exit_at j m.exits) (stands.exits.sessions j)); one = stands.exits.one; external = stands.exits.external };
+  external = stands.external;
+  waits = stands.waits;
+}
 
 pub may_begin : (d : Declaration) (k : ℕ) → refusal d (events.Up k) ≡ None → session_refusal (peer_at k d.peers) ≡ None
 unfolding refusal
@@ -374,9 +369,9 @@ edited_one m k rules cs stands e =
         live = live_edited m k c (refiltered rules c) cs e.edits.at e.edits.after refl
             ∙ ap (λ (r : List Rule). record (live_state m) { rules = with_rules (live_state m).rules k r }) (present_edited c.filter.in_force c.filter.walk rules);
         heard = heard_quiet m (with_chains m cs) [] tt refl;
-        stands = stands_with m k c (refiltered rules c) cs m.registry m.hops m.exits p.0 stands e.edits.at e.edits.after e.sound refl p.1 (record { words = p.2.words; earlier = p.2.earlier; silent = silent_edited p.0.up c rules p.2.silent }) refl (stands.own ExternalAgrees)
+        stands = stands_with m k c (refiltered rules c) cs m.registry m.hops m.exits p.0 stands e.edits.at e.edits.after e.sound refl p.1 (record { words = p.2.words; earlier = p.2.earlier; silent = silent_edited p.0.up c rules p.2.silent }) refl stands.external.agree
             (hops_quiet m cs stands e.quiet (same_peers m k c (refiltered rules c) cs e.edits.at e.edits.after))
-            (exits_stay m (with_chains m cs) stands (put_heard m.declared.profile k (refiltered rules c) m.chains cs e.edits.after (stands.own EachRow k c e.edits.at) (stands.own EachRow)) (best_quiet (own_of m) m.chains cs m.hops e.quiet) refl refl refl refl (λ rows over. over));
+            (exits_stay m (with_chains m cs) stands (put_heard m.declared.profile k (refiltered rules c) m.chains cs e.edits.after (stands.exits.rows k c e.edits.at) stands.exits.rows) (best_quiet (own_of m) m.chains cs m.hops e.quiet) refl refl refl refl (λ rows over. over));
       };
     }
 

@@ -1,14 +1,12 @@
 -- The rules of outgoing filters, against the `BTreeMap` that holds them.
-use Rattle.std.proofs.Common.{◌≡◌, ℕ, List, Option, Some, sym, ap, ◌∙◌}
+use Rattle.router_core.proofs.Common.{sym, ◌∙◌, ap, ◌≡◌, ℕ, List, nat_cmp_total, nat_cmp-IsAntisymmetric, nat_cmp, Rule, rules_to, Policies}
+use Rattle.std.proofs.Common.{Option, Some}
 use Rattle.std.specs.FinMap as tables
-use Rattle.std.specs.FinMap.{from_entries, nat_cmp-IsAntisymmetric}
+use Rattle.std.specs.FinMap.{from_entries}
 use Rattle.std.specs.BTreeMap as tree
 use Rattle.std.specs.BTreeMap.{BTreeMap}
-use Rattle.std.specs.Ordering.{nat_cmp}
-use Rattle.std.specs.Cmp.{nat_cmp_total}
 use Rattle.link_change.proofs.MapLemmas.{map_set, read_in}
-use Rattle.policy_rules.specs.declared.rule.Rule.{Rule}
-use Rattle.router_core.specs.Moments.{Policies, rules_by, rules_to}
+use Rattle.router_core.specs.Moments.{rules_by}
 
 pub policies_set : (m n : BTreeMap ℕ (List Rule)) (now : Policies) (k : ℕ) (rules : List Rule) → from_entries m.entries ≡ now → tree.Updates nat_cmp m n k (Some rules) → from_entries {R = nat_cmp} n.entries ≡ tables.insert now k rules
 policies_set m n now k rules view updates = map_set nat_cmp_total nat_cmp-IsAntisymmetric m n now k rules view updates.0

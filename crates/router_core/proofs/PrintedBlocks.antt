@@ -1,106 +1,60 @@
 -- What each event says can be printed, and so can what stands behind it.
-use Rattle.std.proofs.Common.{◌≡◌, ℕ, ◌+◌, ◌<◌, ◌≤◌, ◌^◌, Bool, true, false, cond, not, ◌==◌, ◌&&◌, List, [], ◌∷◌, ◌++◌, map, Option, Some, None, IsSome, IfSome, is_some, nat_eq, refl, sym, ap, subst, ◌∙◌, arith}
-use Rattle.std.specs.Prelude.{filter}
-use Rattle.std.specs.List.{AllByRecursion}
+use Rattle.router_core.proofs.Common.{sym, subst, ◌∙◌, ap, ◌≡◌, ℕ, refl, List, true, arith, false, ◌+◌, Bool, ◌++◌, ◌≤◌, cond, ◌<◌, nat_eq, not, ◌&&◌, IfSome, get-empty, AllByRecursion, nat_cmp, Network, is_host_prefix, Attrs, Neighbour, Profile, Speaker, AreOctets, Message, Update, peer_at, Declaration, with_four_octets, with_revised, IsWellFormed, DeclaredPeer, Event, Down, Bgp, RouteAdd, RouteDel, Lose, Cover, Settled, Work, As4, Revised, Up, Redist, ArePrintableExits, AreBestRows, read_rows, unread_by, resolver_at, hop_links, metric_rows, link_by, Chained, IsPrefix, AllHaveMetrics, Prints, IsFit, neighbours, words_in, IsPrinted, AreTablesOf, IsInteriorRow, IsPrintableChain, HaveWays, IsNameNumber, route_value, fib_value, external_value, Line, Link, Task, Value, Rows, is_empty_map, region_of, Region, Decided, Inward, Redistributed, Resolved, Outward, InteriorRoutes, Forward, speaker_since, as4_is_first, revised_is_first, LiveState, changes_of, Says, announced_with, withdrawn_from, all_both, table_of, Hop, Resolving, Metric, OutChained, put_each, chain_at, filt_at, overdue_at, has_turn_in, Rule, width, ext_rows, fib_over, Proto, Connected, Static, Ospf, Rip, Interior, Parted, kept_rows, BgpLink, put_all, Branch, way_of_route, tree_overdue, fed_tree, int_rows, branch_of, best_links, own_links, ByPeer, IsBlock, BeginsIf, EndsIf, HearsIf, Declares, BySpeaker, Begins, DropsRouteIf, answer_lines, Shows, Moment, best_of, router_links, own_of, with_exits, read_of, parts, read_by, tree_by, forward_by, read_links, rules_to, all_phases, ArePrinted, IsPrintableMoment, Stands, ExitsAt, journal_lines, has_work, FallsRoute}
+use Rattle.std.proofs.Common.{◌^◌, ◌==◌, [], ◌∷◌, map, Option, Some, None, IsSome, is_some}
+use Rattle.std.specs.Prelude.{filter, length}
 use Rattle.std.proofs.lemmas.List.Elements.{All-nil}
-use Rattle.addr4.specs.Prefixes.{Network}
-use Rattle.bgp_attr.specs.Hosts.{is_host_prefix}
-use Rattle.bgp_attr.specs.declared.attrs.Attrs.{Attrs}
-use Rattle.bgp_attr.specs.declared.speaker.Profile.{Profile}
-use Rattle.bgp_attr.specs.declared.speaker.Speaker.{Speaker}
-use Rattle.bgp_attr.specs.declared.speaker.Neighbour.{Neighbour}
 use Rattle.bgp_wire.specs.Grammar.{Reads, without}
-use Rattle.bgp_wire.specs.Readable.{AreOctets, IsNetwork}
-use Rattle.bgp_wire.specs.declared.message.Message.{Message}
+use Rattle.bgp_wire.specs.Readable.{IsNetwork}
 use Rattle.bgp_wire.specs.declared.message.Message.TheVariants as messages
-use Rattle.bgp_wire.specs.declared.message.Update.{Update}
 use Rattle.bgp_wire.proofs.ReadableLaws.{Every, all_every, every_filter}
 use Rattle.bgp_wire.proofs.ReadableMessages.{read_is_readable}
-use Rattle.event_text.specs.declared.declared.DeclaredPeer.{DeclaredPeer}
-use Rattle.event_text.specs.declared.event.Event.{Event}
-use Rattle.event_text.specs.declared.event.Event.TheVariants.{Nothing, As4, Revised, Local, Peer, Up, Down, Bgp, FilterIn, FilterOut, RouteAdd, RouteDel, Lose, Redist, Cover, Settled, Idle, Work, Ask, Show}
-use Rattle.event_text.specs.Declarations.{peer_at, refusal, with_four_octets, with_revised}
-use Rattle.event_text.specs.WellFormed.{IsWellFormed}
-use Rattle.link_change.specs.Rows.{Rows, is_empty_map}
-use Rattle.rib_route.specs.declared.Proto.{Proto}
-use Rattle.rib_route.specs.declared.Proto.TheVariants.{Connected, Static, Ospf, Rip}
-use Rattle.rib_route.specs.declared.rows.Interior.{Interior}
-use Rattle.prefix_trie.specs.Width.{width}
+use Rattle.event_text.specs.declared.event.Event.TheVariants.{Nothing, Local, Peer, FilterIn, FilterOut, Idle, Ask, Show}
+use Rattle.event_text.specs.Declarations.{refusal}
 use Rattle.register_interest.specs.Covers.{matched, longest, IsLongest}
 use Rattle.register_interest.proofs.CoverLemmas.{longest_is}
-use Rattle.journal_text.specs.Names.{IsNameNumber, IsNamed, IsNamedTask}
+use Rattle.journal_text.specs.Names.{IsNamed, IsNamedTask}
 use Rattle.journal_text.specs.declared.entry.Entry.TheVariants as entries
-use Rattle.journal_text.specs.declared.line.Line.{Line}
 use Rattle.journal_text.specs.declared.line.Line.TheVariants as lines
-use Rattle.journal_text.specs.declared.link.Link.{Link}
-use Rattle.journal_text.specs.declared.link.Task.{Task}
 use Rattle.journal_text.specs.declared.link.Task.TheVariants as tasks
 use Rattle.journal_text.specs.declared.link.Link.TheVariants as links
-use Rattle.journal_text.specs.declared.value.Value.{Value}
-use Rattle.journal_check.specs.Laws.{IsPrefix, IsMatch, IsNamedIfAny}
-use Rattle.journal_laws.specs.Printed.{IsPrinted}
-use Rattle.journal_laws.specs.Standing.{AreTablesOf, IsInteriorRow, WasHeard, IsPrintableChain, HaveWays}
-use Rattle.journal_laws.proofs.PrintedRows.{AreFit, IsFit, Prints, PrintsIfAny, live_prints, int_prints, tree_prints, none_printable, fed_fit, lost_printable, edited_printable, chain_prints}
+use Rattle.journal_check.specs.Laws.{IsMatch, IsNamedIfAny}
+use Rattle.journal_laws.specs.Standing.{WasHeard}
+use Rattle.journal_laws.proofs.PrintedRows.{PrintsIfAny, live_prints, tree_prints, none_printable, fed_fit, lost_printable, edited_printable, chain_prints}
 use Rattle.journal_laws.proofs.PrintedWays.{Heard, route_way}
 use Rattle.journal_laws.proofs.PrintedLines.{plain_printed, note_printed, answer_printed, rows_printed}
-use Rattle.journal_laws.proofs.DeclaredPeers.{IsKnown, known_peer, leaves_all}
-use Rattle.journal_laws.specs.Peers.{words_in, neighbours}
-use Rattle.link_region.specs.declared.regions.Region.{Region}
-use Rattle.link_region.specs.declared.regions.Region.TheVariants.{Inward, Resolved, Decided, InteriorRoutes, Redistributed, Forward, External, Outward}
-use Rattle.link_region.specs.Regions.{region_of}
-use Rattle.loss_chain.proofs.ListLemmas.{all_both}
+use Rattle.link_region.specs.declared.regions.Region.TheVariants.{External}
 use Rattle.loss_chain.proofs.TableLemmas.{equal_by}
 use Rattle.loss_chain.specs.Lost.{Lost}
-use Rattle.loss_chain.specs.Steps.{table_of}
 use Rattle.link_region.proofs.RegionLemmas.{by_bool}
-use Rattle.in_chain.specs.Chains.{Chained}
-use Rattle.policy_rules.specs.declared.rule.Rule.{Rule}
 use Rattle.policy_rules.specs.Ranges.{AreRules, IsRule}
-use Rattle.std.specs.FinMap.{get-empty}
-use Rattle.std.specs.Ordering.{nat_cmp}
-use Rattle.journal_text.specs.Values.{route_value, attrs_value, external_value, fib_value}
-use Rattle.nexthop_known.specs.declared.answer.Hop.{Hop}
-use Rattle.nexthop_resolver.specs.declared.rows.Metric.{Metric}
-use Rattle.nexthop_resolver.specs.Resolving.{Resolving, nothing_known}
-use Rattle.router_core.specs.Bests.{best_links, own_links}
-use Rattle.hop_side.specs.Resolvers.{resolver_at, busy_by, link_by, hop_links, metric_rows}
-use Rattle.journal_laws.proofs.PrintedHops.{AllHaveMetrics, rows_print, metrics_put}
-use Rattle.peer_side.specs.Peers.{chain_at, has_turn_in, filt_at, overdue_at, links_by}
+use Rattle.journal_text.specs.Values.{attrs_value}
+use Rattle.nexthop_resolver.specs.Resolving.{nothing_known}
+use Rattle.hop_side.specs.Resolvers.{busy_by}
+use Rattle.journal_laws.proofs.PrintedHops.{rows_print, metrics_put}
+use Rattle.peer_side.specs.Peers.{links_by}
 use Rattle.journal_text.specs.Links.{owner_of}
-use Rattle.peer_side.proofs.PutLemmas.{put_each}
-use Rattle.rib_tree.specs.Branches.{Branch}
 use Rattle.rib_tree.specs.BranchSteps.{lost_branch, fed_branch}
-use Rattle.rib_tree.specs.Falls.{way_of_route}
-use Rattle.rib_tree.specs.Steps.{fed_tree, tree_overdue, tree_loss_entries}
-use Rattle.rib_tree.specs.Trees.{branch_of, int_rows, AreNumbered}
-use Rattle.rib_split.specs.declared.split.BgpLink.{BgpLink}
+use Rattle.rib_tree.specs.Steps.{tree_loss_entries}
+use Rattle.rib_tree.specs.Trees.{AreNumbered}
 use Rattle.rib_split.specs.declared.split.BgpLink.TheVariants as sides
-use Rattle.rib_split.specs.Splitting.{Parted}
-use Rattle.rib_split.specs.Tables.{kept_rows}
-use Rattle.rib_exit.specs.Exits.{ext_rows, fib_over}
-use Rattle.router_core.specs.Moments.{Moment, profiled, parts, tree_by, forward_by, own_of, best_of, read_of, read_by, read_links, router_links, rules_to, with_exits}
-use Rattle.router_core.specs.Printable.{IsPrintableMoment}
-use Rattle.live_state.specs.Messages.{Says, changes_of, announced_with, withdrawn_from}
-use Rattle.router_core.specs.Stands.{ExitsAt, Stands, EachChain, SmallNumbers, SameResolvers, SameSessions, InteriorTree, HopsCounted, EachExit, QueueLeads, ExitsRead, SameProfile, OneSender, OneReader, ExternalStands}
-use Rattle.router_core.specs.Phases.{all_phases}
-use Rattle.router_core.specs.Turns.{has_work, journal_lines, FallsRoute}
-use Rattle.router_core.specs.Blocks.{Just, begin_line, BySpeaker, Begins, Loses, Declares, Refilters, Redirects, DropsRouteIf, LosesProtocol, CoversAddress, TellsSettled, Hears, BeginsIf, EndsIf, HearsIf, answer_lines, Shows, ByPeer, IsBlock}
-use Rattle.router_core.proofs.StandLemmas.{peer_of, registered_rows}
-use Rattle.rib_tree.proofs.TreeParts.{put_all}
+use Rattle.router_core.specs.Moments.{profiled}
+use Rattle.router_core.specs.Blocks.{Just, begin_line, Loses, Refilters, Redirects, LosesProtocol, CoversAddress, TellsSettled, Hears}
+use Rattle.router_core.proofs.StandLemmas.{speaker_of}
+use Rattle.rib_tree.proofs.TreeParts.{few_fed}
 use Rattle.std.specs.FinMap as tables
-use Rattle.fanout_queue.specs.Readers.{unread_by, read_rows}
-use Rattle.out_chain.specs.Chains.{OutChained, outf_rows}
+use Rattle.out_chain.specs.Chains.{outf_rows}
 use Rattle.exit_side.specs.Exits.{chain_at as exit_at, links_by as exit_links_by, busy_by as exit_busy}
-use Rattle.exit_laws.specs.Printable.{AreBestRows, ArePrintableExits}
 use Rattle.exit_laws.proofs.KeptLemmas.{rows_read, edit_is_printed, join_is_printed}
 use Rattle.exit_laws.proofs.PrintLemmas.{beginning_is_printed, end_is_printed}
 use Rattle.router_core.proofs.SessionLemmas.{silenced}
 use Rattle.router_core.proofs.PrintedForwards.{side_print, ext_print, fib_print}
-use Rattle.router_core.proofs.PrintedReaders.{FitReaders}
 use Rattle.router_core.proofs.BeforeLocal.{no_chain}
-use Rattle.live_state.proofs.AdmittedLemmas.{as4_is_first, revised_is_first}
 use Rattle.router_core.proofs.ProfileLemmas.{profile_after, nothing_printable}
-use Rattle.router_core.proofs.PrintedTurns.{Fit, Goes, IsSaid, with_readers, filt_fit, best_shown, own_prints, best_fit, read_fit, feeds_go, route_goes, turns_go, phases_go, first_goes}
+use Rattle.router_core.proofs.PrintedTurns.{Goes, IsSaid, feeds_go, route_prints, turns_go, phases_go, first_goes}
+use Rattle.router_core.proofs.PrintedMoments.{IsShown, shown, known_at, named_by, session_named, chain_fit, tree_fit, filt_shown, int_shown, own_shown, best_fit, read_fit, best_shown}
+use Rattle.router_core.proofs.TurnLaws.{first_works}
+use Rattle.router_core.proofs.RouteLemmas.{routed}
+use Rattle.router_core.proofs.HeardRows.{changes_heard, message_heard}
 
 -- what an event leaves beside the declarations, and what it says
 pub record Leaves (profile : Profile) (peers : ℕ → Option Neighbour) (m' : Moment) (said : List Line) : Type 0 where
@@ -110,17 +64,6 @@ pub record Leaves (profile : Profile) (peers : ℕ → Option Neighbour) (m' : M
   pub ways : HaveWays m'.rib.forwarding
   pub exits : ArePrintableExits profile peers m'.exits
   pub printed : AllByRecursion (IsPrinted peers) said
-
--- what reads `best` stands
-readers_fit : (peers : ℕ → Option Neighbour) (m : Moment) → Stands m → ArePrintableExits m.declared.profile peers m.exits → FitReaders m.declared.profile peers m
-readers_fit peers m stands exits = record {
-  sound = stands.own EachExit;
-  written = stands.own SameProfile;
-  exits = exits;
-  leads = stands.own QueueLeads;
-  reads = stands.own OneReader;
-  external = stands.own ExternalStands;
-}
 
 second_true : (a b : Bool) → (a && b) ≡ true → b ≡ true
 second_true true b e = e
@@ -136,47 +79,9 @@ module _ (m : Moment) (stands : Stands m) (printable : IsPrintableMoment m) wher
   abbrev Printed : List Line → Type 0
   Printed said = AllByRecursion (IsPrinted (neighbours m.declared)) said
 
-  -- ---- what stands at the beginning
-  known_at : (k : ℕ) (p : DeclaredPeer) → peer_at k m.declared.peers ≡ Some p → IsKnown k p
-  known_at k p at = known_peer m.declared k p printable.declared at
-
-  named_by : (k : ℕ) (p : DeclaredPeer) → peer_at k m.declared.peers ≡ Some p → IsNameNumber k
-  named_by k p at = let known = known_at k p at in let most = known.most in (known.least, omega (arith, most))
-
-  session_named : (k : ℕ) (p : DeclaredPeer) → peer_at k m.declared.peers ≡ Some p → p.up ≡ true → IsNameNumber p.session
-  session_named k p at up = let known = known_at k p at in let most = known.session in (known.begun up, omega (arith, most))
-
-  chain_fit : (k : ℕ) (c : Chained) → chain_at k m.chains ≡ Some c → IsFit (neighbours m.declared) m.declared.profile c × (c.peer.number ≡ k) × (c.incoming.number ≡ k)
-  chain_fit k c there =
-      let p = peer_of m stands k c there in
-      let is = known_at k p.0 p.1 in
-      let number : c.peer.number ≡ k = ap (λ (w : Neighbour). w.number) p.2.words ∙ is.number in
-      let own = stands.own EachChain k c there in
-      let most = is.most in (
-        record {
-          known = ap (neighbours m.declared) number ∙ ap words_in p.1 ∙ ap Some (sym p.2.words);
-          small = omega (arith, number, most);
-          named = subst IsNameNumber (sym own.number) (named_by k p.0 p.1);
-          printable = printable.chains k c there;
-          rising = own.chain.rising;
-        },
-        number,
-        own.number,
-      )
-
-  pub fit_at : (most : ℕ) → AreNumbered most m.tree → Fit m.declared.profile (neighbours m.declared) most m
-  fit_at most few = record {
-    chains = chain_fit;
-    interior = λ proto. record { printable = printable.interior proto; rising = ((stands.own InteriorTree).tree.each proto).chain.rising };
-    few = few;
-    counted = stands.own HopsCounted;
-    registered = registered_rows m stands;
-    metrics = printable.hops;
-    ways = printable.ways;
-    nobody = (leaves_all m.declared printable.declared).peers.nobody;
-    sender = stands.own OneSender;
-    readers = readers_fit (neighbours m.declared) m stands printable.exits;
-  }
+  -- what stands at the beginning
+  abbrev start : IsShown m
+  start = shown m printable
 
   -- where the exits alone became others
   exits_leave : (n : Moment) (said : List Line) → n.chains ≡ m.chains → n.tree ≡ m.tree → n.hops ≡ m.hops → n.rib ≡ m.rib → ArePrintableExits m.declared.profile (neighbours m.declared) n.exits → Printed said → Leaves m.declared.profile (neighbours m.declared) n said
@@ -221,7 +126,7 @@ module _ (m : Moment) (stands : Stands m) (printable : IsPrintableMoment m) wher
 
   -- ---- names of tasks that have work
   has_chain : (k : ℕ) → IsSome (chain_at k m.chains) → IsNameNumber k
-  has_chain k some = let small = stands.own SmallNumbers k some in let most = small.1 in (small.0, omega (arith, most))
+  has_chain k some = let small = stands.peers.numbers k some in let most = small.1 in (small.0, omega (arith, most))
 
   task_named : (task : Task) → has_work task m ≡ true → IsNamedTask task
   task_named (tasks.Rdel proto n) works = stage_there IsNameNumber n (branch_of proto m.tree).tables.deletions works (printable.interior proto).losses
@@ -240,13 +145,13 @@ module _ (m : Moment) (stands : Stands m) (printable : IsPrintableMoment m) wher
     where
       of_hops : (o : Option (Resolving Metric)) → resolver_at k m.hops ≡ o → busy_by o ≡ true → IsNameNumber k
       of_hops None at e = absurd (let clash : false ≡ true = e in cc)
-      of_hops (Some s) at e = has_chain k (sym (stands.own SameResolvers k) ∙ ap is_some at)
+      of_hops (Some s) at e = has_chain k (sym (stands.hops.same k) ∙ ap is_some at)
   task_named tasks.ReadRib works = tt
-  task_named (tasks.Out k) works = of_exit m.declared.speaker (peer_at k m.declared.peers) (exit_at k m.exits) refl refl (stands.own SameSessions k) works
+  task_named (tasks.Out k) works = of_exit m.declared.speaker (peer_at k m.declared.peers) (exit_at k m.exits) refl refl (stands.exits.sessions k) works
     where
       of_exit : (s : Option Speaker) (p : Option DeclaredPeer) (o : Option OutChained) → peer_at k m.declared.peers ≡ p → exit_at k m.exits ≡ o → ExitsAt s m.outgoing k p o → exit_busy m.exits.queue o ≡ true → IsNameNumber k
       of_exit s p None there at is e = absurd (let clash : false ≡ true = e in cc)
-      of_exit (Some me) (Some p) (Some c) there at is e = named_by k p there
+      of_exit (Some me) (Some p) (Some c) there at is e = named_by m stands start k p there
       of_exit (Some me) None (Some c) there at is e = absurd is
       of_exit None p (Some c) there at is e = absurd is
   task_named tasks.Ext works = tt
@@ -259,40 +164,37 @@ module _ (m : Moment) (stands : Stands m) (printable : IsPrintableMoment m) wher
       by_answer (Some task) works = task_named task works
 
   module _ (few : AreNumbered 4294967294 m.tree) where
-    start : Fit m.declared.profile (neighbours m.declared) 4294967294 m
-    start = fit_at 4294967294 few
-
     -- ---- rows of links
     links_print : (link : Link) → PrintsIfAny (neighbours m.declared) (router_links m link)
     links_print link = by_region (region_of link)
       where
         by_chain : (o : Option Chained) → chain_at (owner_of link) m.chains ≡ o → PrintsIfAny (neighbours m.declared) (links_by o link)
         by_chain None at = λ rows p v none is. absurd (cc)
-        by_chain (Some c) at = chain_prints (neighbours m.declared) m.declared.profile c (chain_fit (owner_of link) c at).0 link
+        by_chain (Some c) at = chain_prints (neighbours m.declared) m.declared.profile c (chain_fit m stands start (owner_of link) c at).0 link
 
         by_resolver : (k : ℕ) (o : Option (Resolving Metric)) → resolver_at k m.hops ≡ o → PrintsIfAny (neighbours m.declared) (link_by o (filt_at m.chains k))
         by_resolver k None at = λ rows p v none is. absurd (cc)
         by_resolver k (Some s) at = live_prints (neighbours m.declared) route_value (metric_rows s (filt_at m.chains k))
-            (rows_print (neighbours m.declared) (Some s) (filt_at m.chains k) (λ t is. printable.hops k t (at ∙ is)) (filt_fit m.declared.profile (neighbours m.declared) 4294967294 m start k))
+            (rows_print (neighbours m.declared) (Some s) (filt_at m.chains k) (λ t is. printable.hops k t (at ∙ is)) (filt_shown m stands start k))
 
         by_link : (l : Link) → PrintsIfAny (neighbours m.declared) (hop_links m.hops (filt_at m.chains) l)
         by_link (links.Res k) = by_resolver k (resolver_at k m.hops) refl
         by_link other = λ rows p v none is. absurd (cc)
 
         best_are : AreBestRows m.declared.profile (neighbours m.declared) (best_of m)
-        best_are = best_fit m.declared.profile (neighbours m.declared) 4294967294 m start
+        best_are = best_fit m stands start
 
         read_are : AreBestRows m.declared.profile (neighbours m.declared) (read_of m)
-        read_are = read_fit m.declared.profile (neighbours m.declared) 4294967294 m start
+        read_are = read_fit m stands printable
 
         by_best : (s : Option Speaker) (l : Link) → PrintsIfAny (neighbours m.declared) (best_links s (best_of m) l)
         by_best None l = λ rows p v none is. absurd (cc)
-        by_best (Some me) links.Best = live_prints (neighbours m.declared) route_value (best_of m) (best_shown m.declared.profile (neighbours m.declared) 4294967294 (best_of m) best_are)
+        by_best (Some me) links.Best = live_prints (neighbours m.declared) route_value (best_of m) (best_shown (neighbours m.declared) m.declared.profile (best_of m) best_are)
         by_best (Some me) other = λ rows p v none is. absurd (cc)
 
         by_own : (s : Option Speaker) (l : Link) → PrintsIfAny (neighbours m.declared) (own_links s (own_of m) l)
         by_own None l = λ rows p v none is. absurd (cc)
-        by_own (Some me) links.Red = live_prints (neighbours m.declared) route_value (own_of m) (own_prints m.declared.profile (neighbours m.declared) 4294967294 m start)
+        by_own (Some me) links.Red = live_prints (neighbours m.declared) route_value (own_of m) (own_shown m stands start)
         by_own (Some me) other = λ rows p v none is. absurd (cc)
 
         by_tree : (s : Option Speaker) → PrintsIfAny (neighbours m.declared) (tree_by s m.tree link)
@@ -301,15 +203,15 @@ module _ (m : Moment) (stands : Stands m) (printable : IsPrintableMoment m) wher
 
         -- the external routes, and what packets are forwarded by
         side_rows : (side : BgpLink) → Prints (neighbours m.declared) external_value (kept_rows m.rib.splitter side)
-        side_rows side = subst (λ (rows : Parted). Prints (neighbours m.declared) external_value (rows side)) (sym (stands.own ExternalStands).links) (side_print m.declared.profile (neighbours m.declared) side (read_of m) read_are)
+        side_rows side = subst (λ (rows : Parted). Prints (neighbours m.declared) external_value (rows side)) (sym stands.exits.external.links) (side_print m.declared.profile (neighbours m.declared) side (read_of m) read_are)
 
         by_forward : (s : Option Speaker) (l : Link) → PrintsIfAny (neighbours m.declared) (forward_by s m.rib (int_rows m.tree) l)
         by_forward None l = λ rows p v none is. absurd (cc)
         by_forward (Some me) links.Ebgp = live_prints (neighbours m.declared) external_value (kept_rows m.rib.splitter sides.Ebgp) (side_rows sides.Ebgp)
         by_forward (Some me) links.Ibgp = live_prints (neighbours m.declared) external_value (kept_rows m.rib.splitter sides.Ibgp) (side_rows sides.Ibgp)
-        by_forward (Some me) links.Ext = live_prints (neighbours m.declared) external_value (ext_rows m.rib) (ext_print m.declared.profile (neighbours m.declared) m.rib (read_of m) (stands.own ExternalStands) read_are)
+        by_forward (Some me) links.Ext = live_prints (neighbours m.declared) external_value (ext_rows m.rib) (ext_print m.declared.profile (neighbours m.declared) m.rib (read_of m) stands.exits.external read_are)
         by_forward (Some me) links.Fib = live_prints (neighbours m.declared) fib_value (fib_over m.rib (int_rows m.tree))
-            (fib_print m.declared.profile (neighbours m.declared) m.rib (read_of m) (int_rows m.tree) (stands.own ExternalStands) read_are printable.ways (int_prints (neighbours m.declared) m.tree printable.interior))
+            (fib_print m.declared.profile (neighbours m.declared) m.rib (read_of m) (int_rows m.tree) stands.exits.external read_are printable.ways (int_shown m stands start))
         by_forward (Some me) other = λ rows p v none is. absurd (cc)
 
         by_reader : (reader : ℕ) → Prints (neighbours m.declared) route_value (read_rows m.exits.queue reader (best_of m))
@@ -334,7 +236,7 @@ module _ (m : Moment) (stands : Stands m) (printable : IsPrintableMoment m) wher
         by_exit l None at = λ rows p v none is. absurd (cc)
         by_exit (links.Read k t) (Some c) at = if_live (k == c.peer.number && t == c.session) _ (live_prints (neighbours m.declared) route_value (read_rows m.exits.queue c.reader (best_of m)) (by_reader c.reader))
         by_exit (links.Outf k t) (Some c) at = if_live (k == c.peer.number && t == c.session) _ (live_prints (neighbours m.declared) attrs_value (outf_rows c (read_rows m.exits.queue c.reader (best_of m)))
-            (subst (λ (rows : Rows Attrs). Prints (neighbours m.declared) attrs_value rows) (stands.own ExitsRead k c at).exact (sent_prints k c at)))
+            (subst (λ (rows : Rows Attrs). Prints (neighbours m.declared) attrs_value rows) (stands.exits.read k c at).exact (sent_prints k c at)))
         by_exit (links.Adv k t) (Some c) at = if_live (k == c.peer.number && t == c.session) _ (live_prints (neighbours m.declared) attrs_value (tables.get c.sent) (sent_prints k c at))
         by_exit other (Some c) at = λ rows p v none is. absurd (cc)
 
@@ -352,53 +254,57 @@ module _ (m : Moment) (stands : Stands m) (printable : IsPrintableMoment m) wher
     asked link p named prefix None at = (absent, tt)
     asked link p named prefix (Some rows) at = (answer_printed (neighbours m.declared) link rows named (λ q v is. links_print link rows q v at is) p prefix, tt)
 
-    shown : (link : Link) → IsNamed link → (of : Option (Rows Value)) → router_links m link ≡ of → (said : List Line) → Shows link of said → Printed said
-    shown link named None at said is = subst Printed (sym is) (absent, tt)
-    shown link named (Some rows) at said is =
+    listed : (link : Link) → IsNamed link → (of : Option (Rows Value)) → router_links m link ≡ of → (said : List Line) → Shows link of said → Printed said
+    listed link named None at said is = subst Printed (sym is) (absent, tt)
+    listed link named (Some rows) at said is =
         subst Printed (sym is.2) (all_both (IsPrinted (neighbours m.declared)) _ _ (rows_printed (neighbours m.declared) link rows named (λ p v here. links_print link rows p v at here) is.0 is.1.each) (plain_printed (neighbours m.declared) _ refl refl (named, is.3), tt))
 
-    leaves : (said : List Line) (m' : Moment) → Fit m.declared.profile (neighbours m.declared) 4294967294 m' → Printed said → Leaves m.declared.profile (neighbours m.declared) m' said
-    leaves said m' fit printed = record { chains = λ k c there. (fit.chains k c there).0.printable; interior = λ proto. (fit.interior proto).printable; hops = fit.metrics; ways = fit.ways; exits = fit.readers.exits; printed = printed }
+    -- ---- where nothing is declared
+    leaves : (said : List Line) (m' : Moment) (inner : List Line) → Goes m inner m' → (ArePrinted m.declared inner → Printed said) → Leaves m.declared.profile (neighbours m.declared) m' said
+    leaves said m' inner goes printed =
+        let x = goes.prints printable in
+        subst (λ (d : Declaration). Leaves d.profile (neighbours d) m' said) goes.same (record { chains = x.now.chains; interior = x.now.interior; hops = x.now.hops; ways = x.now.ways; exits = x.now.exits; printed = subst (λ (d : Declaration). ArePrinted d said) (sym goes.same) (printed x.lines) })
 
-    gone : (said : List Line) (m' : Moment) → Goes m.declared.profile (neighbours m.declared) 4294967294 m said m' → Leaves m.declared.profile (neighbours m.declared) m' said
-    gone said m' goes = let x = goes start in leaves said m' x.0 x.1
+    gone : (said : List Line) (m' : Moment) → Goes m said m' → Leaves m.declared.profile (neighbours m.declared) m' said
+    gone said m' goes = leaves said m' said goes (λ printed. printed)
 
     -- ---- losses of sessions
     lost : (k s : ℕ) (said : List Line) (m' : Moment) → IsNameNumber s → Loses k s m said m' → Leaves m.declared.profile (neighbours m.declared) m' said
     lost k s said m' session l =
         let silent = end_is_printed m.declared.profile (neighbours m.declared) k m.exits l.silenced l.entries printable.exits l.ends in
         let ended = (silenced k m l.silenced l.entries stands l.ends).stands in
-        let x = first_goes m.declared.profile (neighbours m.declared) 4294967294 (overdue_at k m.chains) (with_exits m l.silenced) l.first l.room l.runs (with_readers m.declared.profile (neighbours m.declared) 4294967294 m m.redist l.silenced m.registry m.rib start refl start.ways
-        (readers_fit (neighbours m.declared) (with_exits m l.silenced) ended silent.exits)) in
+        let goes = first_goes (overdue_at k m.chains) (with_exits m l.silenced) l.first l.room ended l.runs in
+        let x = goes.prints (record { declared = printable.declared; chains = printable.chains; interior = printable.interior; hops = printable.hops; ways = printable.ways; exits = silent.exits }) in
+        let room = (first_works (overdue_at k m.chains) (with_exits m l.silenced) l.first l.room ended l.runs).stands in
         let i = l.loses in
         let c = i.part.loses.chain in
-        let own = (x.0.chains k c i.part.loses.at).0 in
+        let own : IsFit (neighbours m.declared) m.declared.profile c = subst (λ (d : Declaration). IsFit (neighbours d) d.profile c) goes.same (chain_fit l.room room (shown l.room x.now) k c i.part.loses.at).0 in
         let begins : Printed l.last = subst Printed (sym (i.lines ∙ ap journal_lines i.part.loses.lines)) (elim (is_empty_map c.incoming.tables.live) as (λ (b : Bool). Printed (journal_lines (cond b [] (entries.Begin (links.Peer c.incoming.number s) ∷ [])))) [
           | true ↦ tt
           | false ↦ (begun (links.Peer c.incoming.number s) (own.named, session), tt)
         ]) in
         let chains = put_each (λ j d. IsPrintableChain m.declared.profile d) k _ l.room.chains
-        (record { tables = lost_printable (Heard (neighbours m.declared) m.declared.profile c) s c.incoming.tables session own.printable.tables; in_force = own.printable.in_force; walk = own.printable.walk }) (λ j d there. (x.0.chains j d there).0.printable) in
+        (record { tables = lost_printable (Heard (neighbours m.declared) m.declared.profile c) s c.incoming.tables session own.printable.tables; in_force = own.printable.in_force; walk = own.printable.walk }) (subst (λ (d : Declaration). (j : ℕ) (e : Chained) → chain_at j l.room.chains ≡ Some e → IsPrintableChain d.profile e) goes.same x.now.chains) in
         subst (λ (n : Moment). Leaves m.declared.profile (neighbours m.declared) n said) (sym l.after) (record {
           chains = subst (λ (n : Moment). (j : ℕ) (d : Chained) → chain_at j n.chains ≡ Some d → IsPrintableChain m.declared.profile d) (sym (i.after ∙ ap (λ a. record l.room { chains = a }) i.part.loses.after)) chains;
-          interior = subst (λ (n : Moment). (proto : Proto) → AreTablesOf IsInteriorRow (branch_of proto n.tree).tables) (sym i.after) (λ proto. (x.0.interior proto).printable);
-          hops = subst (λ (n : Moment). AllHaveMetrics n.hops) (sym i.after) x.0.metrics;
-          ways = subst (λ (n : Moment). HaveWays n.rib.forwarding) (sym i.after) x.0.ways;
-          exits = subst (λ (n : Moment). ArePrintableExits m.declared.profile (neighbours m.declared) n.exits) (sym i.after) x.0.readers.exits;
-          printed = subst Printed (sym l.lines) (all_both (IsPrinted (neighbours m.declared)) (journal_lines l.entries) (l.first ++ l.last) silent.lines (all_both (IsPrinted (neighbours m.declared)) l.first l.last x.1 begins));
+          interior = subst (λ (n : Moment). (proto : Proto) → AreTablesOf IsInteriorRow (branch_of proto n.tree).tables) (sym i.after) x.now.interior;
+          hops = subst (λ (n : Moment). AllHaveMetrics n.hops) (sym i.after) x.now.hops;
+          ways = subst (λ (n : Moment). HaveWays n.rib.forwarding) (sym i.after) x.now.ways;
+          exits = subst (λ (n : Moment). ArePrintableExits m.declared.profile (neighbours m.declared) n.exits) (sym i.after) (subst (λ (d : Declaration). ArePrintableExits d.profile (neighbours d) l.room.exits) goes.same x.now.exits);
+          printed = subst Printed (sym l.lines) (all_both (IsPrinted (neighbours m.declared)) (journal_lines l.entries) (l.first ++ l.last) silent.lines (all_both (IsPrinted (neighbours m.declared)) l.first l.last x.lines begins));
         })
 
     -- ---- messages
     network_prefix : (n : Network) → IsNetwork n → IsPrefix n
     network_prefix n is = (is.masked, is.fits)
 
-    changes_said : (w : Neighbour) (octets : List ℕ) (u : Update) → AreOctets octets → Reads m.declared.profile (not w.internal) octets (messages.Update u) → AllByRecursion (IsSaid m.declared.profile (neighbours m.declared) 4294967294 w) (changes_of u)
+    changes_said : (w : Neighbour) (octets : List ℕ) (u : Update) → AreOctets octets → Reads m.declared.profile (not w.internal) octets (messages.Update u) → AllByRecursion (IsSaid m.declared.profile w) (changes_of u)
     changes_said w octets u are reads =
         let readable = read_is_readable m.declared.profile (not w.internal) octets u are reads in
-        all_both (IsSaid m.declared.profile (neighbours m.declared) 4294967294 w) (map withdrawn_from (without u.announced u.withdrawn)) _ (withdrawn _ (every_filter IsNetwork _ u.withdrawn (all_every IsNetwork u.withdrawn readable.withdrawn)))
+        all_both (IsSaid m.declared.profile w) (map withdrawn_from (without u.announced u.withdrawn)) _ (withdrawn _ (every_filter IsNetwork _ u.withdrawn (all_every IsNetwork u.withdrawn readable.withdrawn)))
         (announced u.attrs refl (filter is_host_prefix u.announced) (every_filter IsNetwork is_host_prefix u.announced (all_every IsNetwork u.announced readable.announced)))
       where
-        withdrawn : (ns : List Network) → Every IsNetwork ns → AllByRecursion (IsSaid m.declared.profile (neighbours m.declared) 4294967294 w) (map withdrawn_from ns)
+        withdrawn : (ns : List Network) → Every IsNetwork ns → AllByRecursion (IsSaid m.declared.profile w) (map withdrawn_from ns)
         withdrawn [] each = tt
         withdrawn (n ∷ ns) each = ((network_prefix n each.0, tt), withdrawn ns each.1)
 
@@ -406,47 +312,54 @@ module _ (m : Moment) (stands : Stands m) (printable : IsPrintableMoment m) wher
         attrs_said None at = tt
         attrs_said (Some a) at = (octets, u, are, reads, at)
 
-        announced : (o : Option Attrs) → u.attrs ≡ o → (ns : List Network) → Every IsNetwork ns → AllByRecursion (IsSaid m.declared.profile (neighbours m.declared) 4294967294 w) (map (announced_with o) ns)
+        announced : (o : Option Attrs) → u.attrs ≡ o → (ns : List Network) → Every IsNetwork ns → AllByRecursion (IsSaid m.declared.profile w) (map (announced_with o) ns)
         announced o at [] each = tt
         announced o at (n ∷ ns) each = ((network_prefix n each.0, attrs_said o at), announced o at ns each.1)
 
     heard : (k : ℕ) (p : DeclaredPeer) (octets : List ℕ) (message : Message) (said : List Line) (m' : Moment) → peer_at k m.declared.peers ≡ Some p → p.up ≡ true → AreOctets octets → Says m.declared.profile p octets message → Hears k p m message said m'
         → Leaves m.declared.profile (neighbours m.declared) m' said
-    heard k p octets (messages.Update u) said m' at up are says hears = gone said m' (feeds_go m.declared.profile (neighbours m.declared) 4294967294 k p.words (changes_of u) m said m' (ap words_in at) (changes_said p.words octets u are says) hears)
+    heard k p octets (messages.Update u) said m' at up are says hears = gone said m' (feeds_go k p.words (changes_of u) m said m' stands (p, at, up) (changes_heard m.declared.profile u (message_heard m.declared.profile (not p.words.internal) octets (messages.Update u) are says)) (ap words_in at) (changes_said p.words octets u are says) hears)
     heard k p octets messages.Keepalive said m' at up are says hears = stays said m' hears.1 (subst Printed (sym hears.0) tt)
     heard k p octets messages.Skip said m' at up are says hears = stays said m' hears.1 (subst Printed (sym hears.0) tt)
-    heard k p octets messages.Notification said m' at up are says hears = lost k p.session said m' (session_named k p at up) hears
+    heard k p octets messages.Notification said m' at up are says hears = lost k p.session said m' (session_named m stands start k p at up) hears
     heard k p octets (messages.Notify n) said m' at up are says hears =
-        let l = lost k p.session hears.0 m' (session_named k p at up) hears.2 in
-        record { chains = l.chains; interior = l.interior; hops = l.hops; ways = l.ways; exits = l.exits; printed = subst Printed (sym hears.1) (note_printed (neighbours m.declared) k _ (named_by k p at) hears.3.each hears.3.few, l.printed) }
+        let l = lost k p.session hears.0 m' (session_named m stands start k p at up) hears.2 in
+        record { chains = l.chains; interior = l.interior; hops = l.hops; ways = l.ways; exits = l.exits; printed = subst Printed (sym hears.1) (note_printed (neighbours m.declared) k _ (named_by m stands start k p at) hears.3.each hears.3.few, l.printed) }
 
     -- ---- interior routes
-    fed : (proto : Proto) (p : Network) (row : Option Interior) (said : List Line) (m' : Moment) → IsPrefix p → IfSome row (IsInteriorRow p) → FallsRoute m (fed_tree m.tree proto p row) proto p (way_of_route proto m.tree) said m'
+    fed : (proto : Proto) (p : Network) (row : Option Interior) (said : List Line) (m' : Moment) → IsSome m.declared.speaker → IsPrefix p → IfSome row (IsInteriorRow p) → FallsRoute m (fed_tree m.tree proto p row) proto p (way_of_route proto m.tree) said m'
         → Leaves m.declared.profile (neighbours m.declared) m' said
-    fed proto p row said m' prefix new falls =
+    fed proto p row said m' since prefix new falls =
         let b = branch_of proto m.tree in
-        let own = start.interior proto in
-        gone said m' (route_goes m.declared.profile (neighbours m.declared) 4294967294 m (fed_tree m.tree proto p row) proto p (way_of_route proto m.tree) said m'
-        (put_all (λ (x : Branch). AreFit IsInteriorRow x.tables) proto (fed_branch b p row) m.tree (fed_fit IsInteriorRow b.tables p row own new) start.interior)
-        (put_all (λ (x : Branch). x.losses ≤ 4294967294) proto (fed_branch b p row) m.tree (few proto) few) prefix (route_way proto m.tree own.rising own.printable.losses) falls)
+        let own = tree_fit m stands start proto in
+        let goes = routed m proto p row said m' stands since falls in
+        let few_then : length (fed_branch b p row).tables.deletions ≤ 16 = (let same = few_fed b p row in let was = stands.interior.few proto in omega (arith, same, was)) in
+        let me = speaker_of m.declared.speaker since in
+        gone said m' (record {
+          same = ap (λ (l : LiveState). l.declared) goes.live;
+          prints = λ _. route_prints proto (fed_branch b p row) p (way_of_route proto m.tree) m said m' me.0 stands me.1 few_then goes.stands printable (fed_fit IsInteriorRow b.tables p row own new) falls prefix (route_way proto m.tree own.rising own.printable.losses);
+        })
 
     protocol_lost : (proto : Proto) (said : List Line) (m' : Moment) → LosesProtocol proto m said m' → Leaves m.declared.profile (neighbours m.declared) m' said
     protocol_lost proto said m' l =
-        let x = first_goes m.declared.profile (neighbours m.declared) 4294967294 (tree_overdue proto m.tree) m l.first l.room l.runs start in
+        let goes = first_goes (tree_overdue proto m.tree) m l.first l.room stands l.runs in
+        let x = goes.prints printable in
+        let room = first_works (tree_overdue proto m.tree) m l.first l.room stands l.runs in
         let b = branch_of proto l.room.tree in
-        let most = x.0.few proto in
-        let named : IsNameNumber (b.losses + 1) = (omega arith, omega (arith, most)) in
+        let was = few proto in
+        let same : b.losses ≡ (branch_of proto m.tree).losses = ap (λ (s : LiveState). s.losses proto) room.live in
+        let named : IsNameNumber (b.losses + 1) = (omega arith, omega (arith, was, same)) in
         let begins : Printed (journal_lines (tree_loss_entries proto l.room.tree)) = elim (is_empty_map b.tables.live) as (λ (e : Bool). Printed (journal_lines (cond e [] (entries.Begin (links.Lost b.proto (b.losses + 1)) ∷ [])))) [
           | true ↦ tt
           | false ↦ (begun (links.Lost b.proto (b.losses + 1)) named, tt)
         ] in
         subst (λ (n : Moment). Leaves m.declared.profile (neighbours m.declared) n said) (sym l.after) (record {
-          chains = λ k c there. (x.0.chains k c there).0.printable;
-          interior = put_all (λ (y : Branch). AreTablesOf IsInteriorRow y.tables) proto (lost_branch b) l.room.tree (lost_printable IsInteriorRow (b.losses + 1) b.tables named (x.0.interior proto).printable) (λ other. (x.0.interior other).printable);
-          hops = x.0.metrics;
-          ways = x.0.ways;
-          exits = x.0.readers.exits;
-          printed = subst Printed (sym l.lines) (all_both (IsPrinted (neighbours m.declared)) l.first _ x.1 begins);
+          chains = subst (λ (d : Declaration). (k : ℕ) (c : Chained) → chain_at k l.room.chains ≡ Some c → IsPrintableChain d.profile c) goes.same x.now.chains;
+          interior = put_all (λ (y : Branch). AreTablesOf IsInteriorRow y.tables) proto (lost_branch b) l.room.tree (lost_printable IsInteriorRow (b.losses + 1) b.tables named (x.now.interior proto)) x.now.interior;
+          hops = x.now.hops;
+          ways = x.now.ways;
+          exits = subst (λ (d : Declaration). ArePrintableExits d.profile (neighbours d) l.room.exits) goes.same x.now.exits;
+          printed = subst Printed (sym l.lines) (all_both (IsPrinted (neighbours m.declared)) l.first _ x.lines begins);
         })
 
     -- ---- each event
@@ -480,9 +393,9 @@ module _ (m : Moment) (stands : Stands m) (printable : IsPrintableMoment m) wher
 
     begins : (me : Speaker) (k : ℕ) (p : DeclaredPeer) (said : List Line) (m' : Moment) → peer_at k m.declared.peers ≡ Some p → Begins me k p m said m' → Leaves m.declared.profile (neighbours m.declared) m' said
     begins me k p said m' at b =
-        let known = known_at k p at in
+        let known = known_at m stands start k p at in
         let most = known.session in
-        let named : IsNamed (links.Adv p.words.number (p.session + 1)) = (subst IsNameNumber (sym known.number) (named_by k p at), (omega arith, omega (arith, most))) in
+        let named : IsNamed (links.Adv p.words.number (p.session + 1)) = (subst IsNameNumber (sym known.number) (named_by m stands start k p at), (omega arith, omega (arith, most))) in
         let x = beginning_is_printed m.declared.profile (neighbours m.declared) me p.words (p.session + 1) (rules_to k m.outgoing) m.exits m'.exits b.entries named printable.exits b.begins in
         subst (λ (n : Moment). Leaves m.declared.profile (neighbours m.declared) n said) (sym b.after) (exits_leave _ _ refl refl refl refl x.exits (subst Printed (sym b.lines) x.lines))
 
@@ -495,16 +408,16 @@ module _ (m : Moment) (stands : Stands m) (printable : IsPrintableMoment m) wher
     begun_if false k p said turns m' at is = begun_by m.declared.speaker k p said m' at is.1
 
     ended_if : (up : Bool) (k : ℕ) (p : DeclaredPeer) (said : List Line) (turns : ℕ) (m' : Moment) → p.up ≡ up → peer_at k m.declared.peers ≡ Some p → EndsIf up m k p said turns m' → Leaves m.declared.profile (neighbours m.declared) m' said
-    ended_if true k p said turns m' up at is = lost k p.session said m' (session_named k p at up) is.1
+    ended_if true k p said turns m' up at is = lost k p.session said m' (session_named m stands start k p at up) is.1
     ended_if false k p said turns m' up at is = just _ m said turns m' is (stays _ m refl (ignored, tt))
 
     heard_if : (up : Bool) (k : ℕ) (p : DeclaredPeer) (octets : List ℕ) (said : List Line) (turns : ℕ) (m' : Moment) → p.up ≡ up → peer_at k m.declared.peers ≡ Some p → AreOctets octets → HearsIf up m k p octets said turns m' → Leaves m.declared.profile (neighbours m.declared) m' said
     heard_if true k p octets said turns m' up at are is = heard k p octets is.1.0 said m' at up are is.1.1 is.1.2
     heard_if false k p octets said turns m' up at are is = just _ m said turns m' is (stays _ m refl (ignored, tt))
 
-    dropped_if : (has : Bool) (proto : Proto) (p : Network) (said : List Line) (turns : ℕ) (m' : Moment) → IsPrefix p → DropsRouteIf has proto p m said turns m' → Leaves m.declared.profile (neighbours m.declared) m' said
-    dropped_if false proto p said turns m' prefix is = just _ m said turns m' is (stays _ m refl (ignored, tt))
-    dropped_if true proto p said turns m' prefix is = fed proto p None said m' prefix tt is.1
+    dropped_if : (has : Bool) (proto : Proto) (p : Network) (said : List Line) (turns : ℕ) (m' : Moment) → IsSome m.declared.speaker → IsPrefix p → DropsRouteIf has proto p m said turns m' → Leaves m.declared.profile (neighbours m.declared) m' said
+    dropped_if false proto p said turns m' since prefix is = just _ m said turns m' is (stays _ m refl (ignored, tt))
+    dropped_if true proto p said turns m' since prefix is = fed proto p None said m' since prefix tt is.1
 
     -- before `local` nothing stands that could be printed
     profiled_printed : (profile : Profile) (said : List Line) (turns : ℕ) (m' : Moment) → m.declared.speaker ≡ None → Just [] (profiled m profile) said turns m' → Leaves profile (neighbours m.declared) m' said
@@ -536,24 +449,22 @@ module _ (m : Moment) (stands : Stands m) (printable : IsPrintableMoment m) wher
     event_printed (RouteAdd p row) said turns m' admitted formed is =
         let prefix : IsPrefix p = (formed.0.masked, formed.0.fits) in
         let own = formed.1 in
-        fed row.proto p (Some row) said m' prefix (record { prefix = prefix; printed = λ all. record { well_told = record { ranges = (own.name, own.metric); told = own.gateway }; short = tt } }) is.1
-    event_printed (RouteDel proto p) said turns m' admitted formed is = dropped_if _ proto p said turns m' (formed.masked, formed.fits) is
+        fed row.proto p (Some row) said m' (speaker_since m.declared (RouteAdd p row) (λ e. cc) admitted) prefix (record { prefix = prefix; printed = λ all. record { well_told = record { ranges = (own.name, own.metric); told = own.gateway }; short = tt } }) is.1
+    event_printed (RouteDel proto p) said turns m' admitted formed is = dropped_if _ proto p said turns m' (speaker_since m.declared (RouteDel proto p) (λ e. cc) admitted) (formed.masked, formed.fits) is
     event_printed (Lose proto) said turns m' admitted formed is = protocol_lost proto said m' is.1
     event_printed (Redist proto on) said turns m' admitted formed is = just [] _ said turns m' is (record { chains = printable.chains; interior = printable.interior; hops = printable.hops; ways = printable.ways; exits = printable.exits; printed = tt })
     event_printed (Cover addr) said turns m' admitted formed is = stays said m' is.1 (covered addr said formed is.2)
     event_printed (Settled p) said turns m' admitted formed is = stays said m' is.1 (settled p said (formed.masked, formed.fits) is.2)
     event_printed Idle said turns m' admitted formed is =
-        let x = phases_go m.declared.profile (neighbours m.declared) 4294967294 all_phases m is.inner turns m' is.runs start in
         let within = is.within in
         let fits = is.fits in
-        leaves said m' x.0 (subst Printed (sym is.lines) (
+        leaves said m' is.inner (phases_go all_phases m is.inner turns m' stands is.runs) (λ inner. subst Printed (sym is.lines) (
           plain_printed (neighbours m.declared) _ refl refl fits,
-          all_both (IsPrinted (neighbours m.declared)) is.inner (lines.Idle turns ∷ []) x.1 (plain_printed (neighbours m.declared) (lines.Idle turns) refl refl (omega (arith, within, fits)), tt),
+          all_both (IsPrinted (neighbours m.declared)) is.inner (lines.Idle turns ∷ []) inner (plain_printed (neighbours m.declared) (lines.Idle turns) refl refl (omega (arith, within, fits)), tt),
         ))
     event_printed (Work task n) said turns m' admitted formed is =
-        let x = turns_go m.declared.profile (neighbours m.declared) 4294967294 turns task m is.inner m' is.taken start in
         let most = is.most in
         let low = formed.1 in
-        leaves said m' x.0 (subst Printed (sym is.lines) (all_both (IsPrinted (neighbours m.declared)) is.inner (lines.Work turns ∷ []) x.1 (plain_printed (neighbours m.declared) (lines.Work turns) refl refl (omega (arith, most, low)), tt)))
+        leaves said m' is.inner (turns_go turns task m is.inner m' stands is.taken) (λ inner. subst Printed (sym is.lines) (all_both (IsPrinted (neighbours m.declared)) is.inner (lines.Work turns ∷ []) inner (plain_printed (neighbours m.declared) (lines.Work turns) refl refl (omega (arith, most, low)), tt)))
     event_printed (Ask link p) said turns m' admitted formed is = just _ m said turns m' is (stays _ m refl (asked link p formed.0 (formed.1.masked, formed.1.fits) (router_links m link) refl))
-    event_printed (Show link) said turns m' admitted formed is = stays said m' is.1 (shown link formed (router_links m link) refl said is.2)
+    event_printed (Show link) said turns m' admitted formed is = stays said m' is.1 (listed link formed (router_links m link) refl said is.2)

@@ -1,58 +1,35 @@
 -- This speaker's own routes, the external rows, and what packets are forwarded by can be printed, and so can what goes on to `fib`.
-use Rattle.std.proofs.Common.{◌≡◌, ◌⊎◌, inl, inr, ℕ, ◌<◌, ◌≤◌, ◌^◌, Bool, true, false, cond, List, Option, Some, None, refl, sym, subst, ◌∙◌, arith}
-use Rattle.std.specs.Option.{option_or}
-use Rattle.addr4.specs.Prefixes.{Network}
-use Rattle.bgp_attr.specs.declared.route.Route.{Route}
-use Rattle.bgp_attr.specs.declared.speaker.Neighbour.{Neighbour}
-use Rattle.bgp_attr.specs.declared.speaker.Profile.{Profile}
-use Rattle.bgp_attr.specs.declared.speaker.Speaker.{Speaker}
+use Rattle.router_core.proofs.Common.{sym, subst, ◌∙◌, ◌≡◌, ℕ, refl, List, true, arith, false, Bool, ◌≤◌, cond, ◌<◌, inr, inl, ◌⊎◌, option_or, Network, Route, Neighbour, Profile, Speaker, AreBestRows, fib_distance, IsPrefix, Prints, IsPrinted, HaveWays, IsWay, route_value, fib_value, interior_value, sent_entries, external_value, Entry, Fib, Value, IsSent, Rows, Change, all_both, over, external_hop, Resolving, in_force_by, fresh_by, walk_to, goes_on, Passed, function_at, IsSender, redistributed, Protos, Registry, ext_is_of_best, StandsOver, ext_rows, fib_over, FallsOn, RibExit, FibRow, Interior, Parted, on_link, BgpLink, own_rows, MaySend}
+use Rattle.std.proofs.Common.{◌^◌, Option, Some, None}
 use Rattle.bgp_wire.specs.Lengths.{attributes_length}
-use Rattle.link_change.specs.Rows.{Rows}
-use Rattle.link_change.specs.Changes.{IsSent}
-use Rattle.link_change.specs.declared.change.Change.{Change}
 use Rattle.rib_route.specs.Distances.{external_proto}
-use Rattle.rib_route.specs.declared.rows.Interior.{Interior}
 use Rattle.rib_route.specs.declared.rows.External.{External}
-use Rattle.rib_route.specs.declared.rows.FibRow.{FibRow}
 use Rattle.rib_merge.specs.Forwards.{forwarded}
-use Rattle.pass_core.specs.Passed.{Passed, function_at, function_of}
-use Rattle.register_interest.specs.Registers.{Registry}
-use Rattle.redist.specs.declared.protos.Protos.{Protos}
-use Rattle.redist.specs.Local.{local_attrs, local_route, redistributed}
+use Rattle.pass_core.specs.Passed.{function_of}
+use Rattle.redist.specs.Local.{local_attrs, local_route}
 use Rattle.redist.proofs.LawLemmas.{only_own_routes}
-use Rattle.peer_out.specs.Changes.{IsSender}
 use Rattle.nexthop_resolver.specs.declared.rows.Outlet.{Outlet}
 use Rattle.nexthop_resolver.specs.declared.rows.Way.{Way}
-use Rattle.nexthop_resolver.specs.Kept.{external_hop, first_router, over, over_outlet}
-use Rattle.nexthop_resolver.specs.Resolving.{Resolving, Answers, in_force_by, fresh_by, walk_to, goes_on, made_by}
-use Rattle.rib_split.specs.declared.split.BgpLink.{BgpLink}
+use Rattle.nexthop_resolver.specs.Kept.{first_router, over_outlet}
+use Rattle.nexthop_resolver.specs.Resolving.{Answers, made_by}
 use Rattle.rib_split.specs.declared.split.BgpLink.TheVariants as sides
 use Rattle.rib_split.specs.declared.split.Split.{Split}
 use Rattle.rib_split.specs.declared.split.Split.TheVariants.{Neither, One, Moved}
-use Rattle.rib_split.specs.Splitting.{Parted, external_of, external_row, is_of, on_link, other, split_rows, first_on, Splits}
+use Rattle.rib_split.specs.Splitting.{external_of, external_row, is_of, other, split_rows, first_on, Splits}
 use Rattle.rib_split.specs.Laws.{merged_links}
-use Rattle.ext_int.specs.Fibs.{fib_distance, resolved_rows, fib_table}
-use Rattle.rib_exit.specs.declared.exit.RibExit.{RibExit}
-use Rattle.rib_exit.specs.Exits.{journal_link, ext_rows, fib_over, StandsOver}
+use Rattle.ext_int.specs.Fibs.{resolved_rows, fib_table}
+use Rattle.rib_exit.specs.Exits.{journal_link}
 use Rattle.rib_exit.specs.Passing.{Caused, caused_entries, part_entries, fall_entries, external_distance}
-use Rattle.rib_exit.specs.Steps.{fib_entries, CausesOn, FallsOn}
-use Rattle.rib_exit.proofs.LawLemmas.{ext_is_of_best}
+use Rattle.rib_exit.specs.Steps.{fib_entries, CausesOn}
 use Rattle.journal_text.specs.Names.{IsNamed}
-use Rattle.journal_text.specs.Values.{route_value, interior_value, external_value, fib_value, valued_change, sent_entries}
-use Rattle.journal_text.specs.declared.link.Link.TheVariants.{Ext, Fib}
-use Rattle.journal_text.specs.declared.entry.Entry.{Entry}
+use Rattle.journal_text.specs.Values.{valued_change}
+use Rattle.journal_text.specs.declared.link.Link.TheVariants.{Ext}
 use Rattle.journal_text.specs.declared.line.Line.TheVariants as lines
-use Rattle.journal_text.specs.declared.value.Value.{Value}
-use Rattle.journal_check.specs.Laws.{IsPrefix}
-use Rattle.journal_laws.specs.Printed.{IsPrintable, IsPrinted, IsAddressIfAny}
-use Rattle.journal_laws.specs.Standing.{IsWay, IsOutletIfAny, HaveWays}
+use Rattle.journal_laws.specs.Printed.{IsPrintable, IsAddressIfAny}
+use Rattle.journal_laws.specs.Standing.{IsOutletIfAny}
 use Rattle.journal_laws.proofs.PrintedHops.{answers_fit}
-use Rattle.journal_laws.proofs.PrintedRows.{Prints, merged_print, forwarded_print}
+use Rattle.journal_laws.proofs.PrintedRows.{merged_print, forwarded_print}
 use Rattle.journal_laws.proofs.PrintedWays.{ArePrintedEntries, sent_printed}
-use Rattle.loss_chain.proofs.ListLemmas.{all_both}
-use Rattle.exit_laws.specs.Printable.{AreBestRows}
-use Rattle.router_core.specs.Bests.{own_rows}
-use Rattle.router_core.specs.Stands.{MaySend}
 
 -- a message has room for the attributes of this speaker's own routes
 own_short : (addr : ℕ) → attributes_length false (local_attrs addr) ≤ 4096

@@ -1,39 +1,16 @@
 -- `as4` and `revised`: before `local` messages are read and written by another profile from now on, and nothing else changes.
-use Rattle.std.proofs.Common.{◌≡◌, ◌&&◌, ℕ, Bool, true, false, cond, List, [], Option, Some, None, refl, sym, ap, subst, ◌∙◌}
+use Rattle.router_core.proofs.Common.{sym, subst, ◌∙◌, ap, ◌≡◌, ℕ, refl, List, true, false, Bool, cond, ◌&&◌, get-empty, nat_cmp, Route, Neighbour, Profile, Speaker, peer_at, Declaration, with_session, with_four_octets, with_revised, without_session, DeclaredPeer, Event, Down, Bgp, As4, Revised, Up, ArePrintableExits, unread_or_none, Journaled, flushed, Link, Adv, Read, Outf, Rows, Change, declared_after, OutChained, StandsOver, IsBlock, live_state, Moment, best_of, router_links, Gives, read_rows_by, read_of, read_by, Stands, ExitsAt, ReadsOn, MaySend, HasStepped}
+use Rattle.std.proofs.Common.{[], Option, Some, None}
 use Rattle.std.specs.FinMap as tables
-use Rattle.std.specs.FinMap.{get-empty}
-use Rattle.std.specs.Ordering.{nat_cmp}
-use Rattle.bgp_attr.specs.declared.speaker.Neighbour.{Neighbour}
-use Rattle.bgp_attr.specs.declared.speaker.Profile.{Profile}
-use Rattle.bgp_attr.specs.declared.speaker.Speaker.{Speaker}
-use Rattle.bgp_attr.specs.declared.route.Route.{Route}
-use Rattle.link_change.specs.Rows.{Rows}
-use Rattle.link_change.specs.declared.change.Change.{Change}
-use Rattle.fanout_queue.specs.Readers.{unread_or_none}
-use Rattle.journal_text.specs.declared.link.Link.{Link}
-use Rattle.journal_text.specs.declared.link.Link.TheVariants.{ReadRib, Read, Outf, Adv}
-use Rattle.journal_text.specs.Journals.{Journaled, flushed}
-use Rattle.event_text.specs.declared.event.Event.{Event}
-use Rattle.event_text.specs.declared.event.Event.TheVariants.{As4, Revised, Up, Down, Bgp}
-use Rattle.event_text.specs.declared.declared.DeclaredPeer.{DeclaredPeer}
-use Rattle.event_text.specs.Declarations.{Declaration, peer_at, with_four_octets, with_revised, with_session, without_session}
-use Rattle.in_chain.specs.Chains.{Chained}
-use Rattle.peer_side.specs.Peers.{chain_at}
-use Rattle.out_chain.specs.Chains.{OutChained}
-use Rattle.rib_exit.specs.Exits.{StandsOver}
+use Rattle.journal_text.specs.declared.link.Link.TheVariants.{ReadRib}
 use Rattle.exit_side.specs.Exits.{no_exits, links_by, chain_at as exit_at}
 use Rattle.exit_side.proofs.LawLemmas.{stands_at_first}
-use Rattle.exit_laws.specs.Printable.{ArePrintableExits}
 use Rattle.exit_laws.proofs.KeptLemmas.{empty_is_printed}
 use Rattle.exit_laws.specs.Views.{sent_by, views_of}
 use Rattle.live_state.specs.Messages.{ends_session}
-use Rattle.live_state.specs.Declared.{declared_after, declared_up, declared_down, declared_heard}
+use Rattle.live_state.specs.Declared.{declared_up, declared_down, declared_heard}
 use Rattle.live_state.specs.Lives.{LiveAfter}
-use Rattle.router_core.specs.Moments.{Moment, Gives, profiled, best_of, read_by, read_rows_by, read_of, router_links}
-use Rattle.router_core.specs.Lives.{live_state}
-use Rattle.router_core.specs.Blocks.{IsBlock}
-use Rattle.router_core.specs.Stands.{Stands, Claim, Claims, ExitsAt, ReadsOn, MaySend, EachRow, EachExit, QueueLeads, ExitsRead, SameProfile, OneSender, SameSessions, OneReader, ExternalStands}
-use Rattle.router_core.specs.Works.{HasStepped}
+use Rattle.router_core.specs.Moments.{profiled}
 use Rattle.router_core.proofs.BeforeLocal.{no_chain, no_exit, no_reader, read_before}
 use Rattle.router_core.proofs.KeepLemmas.{gives_none}
 use Rattle.router_core.proofs.QueueLemmas.{exits_none}
@@ -79,20 +56,26 @@ module _ (m : Moment) (profile : Profile) (stands : Stands m) (first : m.declare
   read_then = ap (λ (o : Option ℕ). read_rows_by tables.empty o (best_of m)) (no_reader m stands first) ∙ sym (read_before m stands first)
 
   then_stands : Stands then
-  then_stands = record { own = own; at = stands.at }
-    where
-      own : (claim : Claim) → Claims then claim
-      own EachRow = λ k c at. absurd (let none = no_chain m stands first k in cc)
-      own EachExit = (stands_at_first profile).sound
-      own QueueLeads = λ reader unread at. absurd (let none = get-empty {X = List (Change Route)} nat_cmp reader in cc)
-      own ExitsRead = (stands_at_first profile).stand (best_of then)
-      own SameProfile = refl
-      own OneSender = subst (MaySend profile) (sym first) tt
-      own SameSessions = λ k. subst (λ (o : Option OutChained). ExitsAt m.declared.speaker m.outgoing k (peer_at k m.declared.peers) o) (sym (get-empty {X = OutChained} nat_cmp k))
-          (exits_none m.declared.speaker m.outgoing k (peer_at k m.declared.peers))
-      own OneReader = subst (λ (s : Option Speaker). ReadsOn s m.reader (no_exits profile)) (sym first) (subst (λ (o : Option ℕ). ReadsOn None o (no_exits profile)) (sym (no_reader m stands first)) tt)
-      own ExternalStands = subst (λ (rows : Rows Route). StandsOver rows m.rib) (sym read_then) (stands.own ExternalStands)
-      own other = stands.own other
+  then_stands = record {
+    peers = stands.peers;
+    interior = stands.interior;
+    registered = stands.registered;
+    hops = stands.hops;
+    exits = record {
+      rows = λ k c at. absurd (let none = no_chain m stands first k in cc);
+      each = (stands_at_first profile).sound;
+      all = λ reader unread at. absurd (let none = get-empty {X = List (Change Route)} nat_cmp reader in cc);
+      read = (stands_at_first profile).stand (best_of then);
+      profile = refl;
+      sender = subst (MaySend profile) (sym first) tt;
+      sessions = λ k. subst (λ (o : Option OutChained). ExitsAt m.declared.speaker m.outgoing k (peer_at k m.declared.peers) o) (sym (get-empty {X = OutChained} nat_cmp k))
+          (exits_none m.declared.speaker m.outgoing k (peer_at k m.declared.peers));
+      one = subst (λ (s : Option Speaker). ReadsOn s m.reader (no_exits profile)) (sym first) (subst (λ (o : Option ℕ). ReadsOn None o (no_exits profile)) (sym (no_reader m stands first)) tt);
+      external = subst (λ (rows : Rows Route). StandsOver rows m.rib) (sym read_then) stands.exits.external;
+    };
+    external = stands.external;
+    waits = stands.waits;
+  }
 
   -- no link of an exit is live, and `read.rib` isn't
   of_exit : (j : ℕ) (link : Link) → links_by m.exits.queue (best_of m) (exit_at j m.exits) link ≡ links_by tables.empty (best_of then) (exit_at j (no_exits profile)) link

@@ -1,41 +1,18 @@
 -- The loss of a protocol.
-use Rattle.std.proofs.Common.{◌≡◌, ◌+◌, ◌≤◌, List, ◌++◌, length, Some, None, IsSome, refl, sym, ap, subst, ◌∙◌}
-use Rattle.bgp_attr.specs.declared.speaker.Speaker.{Speaker}
-use Rattle.rib_route.specs.declared.Proto.{Proto}
-use Rattle.rib_route.specs.declared.rows.Interior.{Interior}
-use Rattle.link_change.specs.Rows.{Rows}
-use Rattle.journal_text.specs.declared.entry.Entry.{Entry}
-use Rattle.journal_text.specs.declared.value.Value.{Value}
-use Rattle.journal_text.specs.declared.line.Line.{Line}
-use Rattle.journal_text.specs.Journals.{Journaled, with_entries, flushed}
-use Rattle.journal_text.specs.Walk.{Leads}
-use Rattle.journal_text.proofs.JournalLemmas.{entries_of_entries}
-use Rattle.event_text.specs.declared.event.Event.TheVariants.{Lose}
-use Rattle.rib_tree.specs.Branches.{Branch}
+use Rattle.router_core.proofs.Common.{sym, subst, ◌∙◌, ap, ◌≡◌, refl, List, ◌+◌, ◌++◌, ◌≤◌, Speaker, Lose, others_are_unheard, entries_of_entries, Journaled, flushed, with_entries, Leads, Entry, Line, Value, Rows, InteriorRoutes, Proto, Interior, tree_leads, put_all, Branch, LeadsTree, tree_overdue, int_rows, Treed, branch_of, IsTree, tree_links, IsFull, own_rows, best_at, live_state, Moment, router_links, Gives, with_tree, Stands, journal_lines, Pushes, HasStepped}
+use Rattle.std.proofs.Common.{length, Some, None, IsSome}
 use Rattle.rib_tree.specs.BranchSteps.{lost_branch}
 use Rattle.loss_chain.specs.declared.owner.Owner.TheVariants as owners
-use Rattle.rib_tree.specs.Trees.{Treed, branch_of, int_rows, tree_links, IsTree, IsFull}
-use Rattle.rib_tree.specs.Falls.{LeadsTree}
-use Rattle.rib_tree.specs.Steps.{lost_tree, tree_loss_entries, tree_overdue}
-use Rattle.router_core.specs.Bests.{own_rows, best_at}
-use Rattle.router_core.specs.Moments.{Moment, router_links, Gives, with_tree}
+use Rattle.rib_tree.specs.Steps.{lost_tree, tree_loss_entries}
 use Rattle.live_state.specs.Lives.{interior_lost}
-use Rattle.router_core.specs.Lives.{live_state}
-use Rattle.router_core.specs.Stands.{Stands, InteriorTree, EachRow, ExternalExit, ExternalAgrees}
-use Rattle.router_core.specs.Turns.{journal_lines}
-use Rattle.router_core.specs.Works.{Pushes, EndsProtocol, HasProtocolRoom, HasStepped}
-use Rattle.exit_laws.proofs.OtherLemmas.{others_are_unheard}
-use Rattle.link_region.specs.declared.regions.Region.TheVariants.{InteriorRoutes}
-use Rattle.rib_tree.proofs.RegionLemmas.{tree_leads}
+use Rattle.router_core.specs.Works.{EndsProtocol, HasProtocolRoom}
 use Rattle.router_core.proofs.HeardSteps.{heard_quiet}
-use Rattle.router_core.proofs.HopLemmas.{hops_of}
 use Rattle.router_core.proofs.QueueLemmas.{exits_stay}
 use Rattle.router_core.proofs.RibLinks.{leads_above}
 use Rattle.loss_chain.proofs.TableLemmas.{few_lost}
-use Rattle.rib_tree.proofs.TreeParts.{put_all}
 use Rattle.router_core.proofs.RouteLemmas.{stands_replanted, live_lost}
 use Rattle.router_core.proofs.KeepLemmas.{keeps_then, gives_push}
-use Rattle.router_core.proofs.StandLemmas.{registered_rows, speaker_of}
+use Rattle.router_core.proofs.StandLemmas.{speaker_of}
 
 -- the loss alone
 pub protocol_ended : (proto : Proto) (m : Moment) (t : Treed) (before now : Journaled) → Stands m → tree_overdue proto m.tree ≡ None → IsSome m.declared.speaker → t ≡ lost_tree proto m.tree
@@ -50,8 +27,8 @@ protocol_ended proto m t before now stands free since is lines leads int tree fu
     keeps = record {
       leads = subst (λ (es : List (Entry Value)). Leads (router_links m) es (router_links (with_tree m t))) (sym (entries_of_entries entries)) (leads_above m me.0 me.1 t entries leads int);
       live = ap (λ (x : Treed). live_state (with_tree m x)) is ∙ live_lost m proto (lost_branch b);
-      stands = stands_replanted m me.0 t m.registry m.hops m.exits m.rib stands me.1 tree full few (registered_rows m stands ∙ sym int) (hops_of m stands) (stands.own ExternalExit) (stands.own ExternalAgrees)
-          (exits_stay m (with_tree m t) stands (stands.own EachRow) (ap (λ (rows : Rows Interior). best_at (own_rows m.declared.speaker m.redist rows) m.chains m.hops) int) refl refl refl refl (λ rows over. over));
+      stands = stands_replanted m me.0 t m.registry m.hops m.exits m.rib stands me.1 tree full few (stands.registered ∙ sym int) stands.hops stands.external.sound stands.external.agree
+          (exits_stay m (with_tree m t) stands stands.exits.rows (ap (λ (rows : Rows Interior). best_at (own_rows m.declared.speaker m.redist rows) m.chains m.hops) int) refl refl refl refl (λ rows over. over));
       heard = heard_quiet m (with_tree m t) (journal_lines entries) (others_are_unheard InteriorRoutes (tree_links m.tree) (tree_links t) entries refl (tree_leads m.tree t entries leads)) refl;
     };
   },
@@ -68,7 +45,7 @@ protocol_ended proto m t before now stands free since is lines leads int tree fu
 
     few : (other : Proto) → length (branch_of other t).tables.deletions ≤ 16
     few = subst (λ (x : Treed). (other : Proto) → length (branch_of other x).tables.deletions ≤ 16) (sym is)
-        (put_all (λ (x : Branch). length x.tables.deletions ≤ 16) proto (lost_branch b) m.tree (few_lost (owners.Origin b.proto) (b.losses + 1) b.tables ((stands.own InteriorTree).few proto) free) (stands.own InteriorTree).few)
+        (put_all (λ (x : Branch). length x.tables.deletions ≤ 16) proto (lost_branch b) m.tree (few_lost (owners.Origin b.proto) (b.losses + 1) b.tables (stands.interior.few proto) free) stands.interior.few)
 
 -- both, as the event's step
 pub protocol_lost : (proto : Proto) (m room m' : Moment) (before j j' now : Journaled) → Gives (HasProtocolRoom proto m room) before j → Pushes (EndsProtocol proto room m') j j' → now ≡ flushed j'

@@ -1,31 +1,12 @@
 -- What a change of `best` makes of what reads it: it joins the queue, and no link of theirs changes.
-use Rattle.std.proofs.Common.{◌≡◌, ◌≢◌, ℕ, cond, true, false, Option, Some, None, refl, sym, ap, subst, ◌∙◌}
+use Rattle.router_core.proofs.Common.{sym, subst, ◌∙◌, ap, ◌≡◌, ℕ, refl, true, false, cond, ForSome, itself, Network, Route, Profile, Speaker, peer_at, Declaration, DeclaredPeer, Exited, AllStand, OutChains, IsExits, AllLead, route_rows, Link, IsSent, Rows, Change, OutChained, RowsMayBeHeard, MayBeHeard, StandsOver, int_rows, Queues, Moment, best_of, own_of, read_rows_by, read_by, read_links, rules_to, Policies, Stands, ExitsAt, ReadsOn, ExitsStand, MaySend, IsExitOf}
+use Rattle.std.proofs.Common.{Option, Some, None}
 use Rattle.std.specs.Prelude.{IsSome}
-use Rattle.std.specs.Option.{ForSome}
 use Rattle.std.specs.FinMap as tables
-use Rattle.addr4.specs.Prefixes.{Network}
-use Rattle.addr4.proofs.PrefixOrder.{itself}
-use Rattle.bgp_attr.specs.declared.route.Route.{Route}
-use Rattle.bgp_attr.specs.declared.speaker.Speaker.{Speaker}
-use Rattle.bgp_attr.specs.declared.speaker.Profile.{Profile}
-use Rattle.link_change.specs.Rows.{Rows}
-use Rattle.link_change.specs.Changes.{IsSent}
-use Rattle.link_change.specs.declared.change.Change.{Change}
-use Rattle.event_text.specs.declared.declared.DeclaredPeer.{DeclaredPeer}
-use Rattle.event_text.specs.Declarations.{Declaration, peer_at}
-use Rattle.journal_text.specs.declared.link.Link.{Link}
 use Rattle.journal_text.specs.declared.link.Link.TheVariants.{ReadRib}
-use Rattle.journal_text.specs.Values.{route_rows}
-use Rattle.fanout_queue.specs.Queues.{AllLead}
 use Rattle.fanout_queue.proofs.LeadLemmas.{put_keeps_read, put_keeps_readers, put_keeps_leading}
-use Rattle.peer_out.specs.Changes.{MayBeHeard}
-use Rattle.out_chain.specs.Chains.{OutChained, RowsMayBeHeard}
-use Rattle.exit_side.specs.Exits.{Exited, OutChains, chain_at as exit_at, exit_links, IsExits, AllStand}
-use Rattle.rib_tree.specs.Trees.{int_rows}
-use Rattle.rib_exit.specs.Exits.{StandsOver}
-use Rattle.router_core.specs.Bests.{Queues}
-use Rattle.router_core.specs.Moments.{Moment, Policies, own_of, best_of, read_by, read_links, read_rows_by, read_of, rules_to}
-use Rattle.router_core.specs.Stands.{Stands, EachExit, QueueLeads, ExitsRead, SameProfile, OneSender, SameSessions, OneReader, ExternalStands, RowsWereHeard, MaySend, IsExitOf, ExitsAt, ReadsOn}
+use Rattle.exit_side.specs.Exits.{chain_at as exit_at, exit_links}
+use Rattle.router_core.specs.Stands.{RowsWereHeard}
 use Rattle.router_core.proofs.HeardRows.{heard_best, heard_own_rows}
 
 -- ---- who has none
@@ -52,18 +33,6 @@ undeclared_none s policies k None is = refl
 undeclared_none (Some me) policies k (Some c) is = absurd is
 undeclared_none None policies k (Some c) is = absurd is
 
--- ---- what is claimed of the exits, and of what is sent
-pub record ExitsStand (m : Moment) : Type 0 where
-  pub rows : RowsWereHeard m.declared.profile m.chains
-  pub each : IsExits m.exits
-  pub all : AllLead m.exits.queue (best_of m)
-  pub read : AllStand (best_of m) m.exits
-  pub profile : m.exits.profile ≡ m.declared.profile
-  pub sender : MaySend m.declared.profile m.declared.speaker
-  pub sessions : (k : ℕ) → ExitsAt m.declared.speaker m.outgoing k (peer_at k m.declared.peers) (exit_at k m.exits)
-  pub one : ReadsOn m.declared.speaker m.reader m.exits
-  pub external : StandsOver (read_of m) m.rib
-
 -- the reader of the forwarding side is one of the queue's
 pub reads_live : (s : Option Speaker) (reader : Option ℕ) (e : Exited) → ReadsOn s reader e → (r : ℕ) → reader ≡ Some r → IsSome (tables.get e.queue r)
 reads_live (Some me) (Some q) e on r is = let same : q ≡ r = cc in subst (λ (n : ℕ). IsSome (tables.get e.queue n)) same on.live
@@ -72,14 +41,7 @@ reads_live None (Some q) e on r is = absurd on
 reads_live None None e on r is = absurd (cc)
 
 pub reader_live : (m : Moment) → Stands m → (r : ℕ) → m.reader ≡ Some r → IsSome (tables.get m.exits.queue r)
-reader_live m stands = reads_live m.declared.speaker m.reader m.exits (stands.own OneReader)
-
--- and no peer's
-pub reads_apart : (s : Option Speaker) (reader : Option ℕ) (e : Exited) → ReadsOn s reader e → (r : ℕ) → reader ≡ Some r → (j : ℕ) (c : OutChained) → exit_at j e ≡ Some c → c.reader ≢ r
-reads_apart (Some me) (Some q) e on r is j c at = let same : q ≡ r = cc in subst (λ (n : ℕ). c.reader ≢ n) same (on.own j c at)
-reads_apart (Some me) None e on r is j c at = absurd on
-reads_apart None (Some q) e on r is j c at = absurd on
-reads_apart None None e on r is j c at = absurd (cc)
+reader_live m stands = reads_live m.declared.speaker m.reader m.exits stands.exits.one
 
 -- where each reader stays live, and each chain keeps its reader
 pub reads_on : (s : Option Speaker) (reader : Option ℕ) (e e' : Exited) → e'.chains ≡ e.chains → ((r : ℕ) → IsSome (tables.get e.queue r) → IsSome (tables.get e'.queue r)) → ReadsOn s reader e → ReadsOn s reader e'
@@ -148,26 +110,26 @@ pub exits_fall : (m now : Moment) (best : Option (Change Route)) (p : Network) �
     → now.declared ≡ m.declared → now.outgoing ≡ m.outgoing → now.reader ≡ m.reader → ((rows : Rows Route) → StandsOver rows m.rib → StandsOver rows now.rib) → ExitsStand now
 exits_fall m now best p stands rows q sent declared outgoing reader over = record {
   rows = rows_then;
-  each = queue_sound m.exits now.exits best q (stands.own EachExit);
-  all = queue_all m.exits now.exits best (best_of m) (best_of now) p q sent (stands.own QueueLeads);
-  read = queue_stand m.exits now.exits now.declared.profile best (best_of m) (best_of now) p profile_is (heard_best now.declared.profile (own_of now) now.chains now.hops (heard_own_rows now.declared.profile now.declared.speaker now.redist (int_rows now.tree) sender) rows_then) q sent (stands.own ExitsRead);
+  each = queue_sound m.exits now.exits best q stands.exits.each;
+  all = queue_all m.exits now.exits best (best_of m) (best_of now) p q sent stands.exits.all;
+  read = queue_stand m.exits now.exits now.declared.profile best (best_of m) (best_of now) p profile_is (heard_best now.declared.profile (own_of now) now.chains now.hops (heard_own_rows now.declared.profile now.declared.speaker now.redist (int_rows now.tree) sender) rows_then) q sent stands.exits.read;
   profile = queue_profile m.exits now.exits best q ∙ profile_is;
   sender = sender;
   sessions = λ k. subst (λ d. ExitsAt d.speaker now.outgoing k (peer_at k d.peers) (exit_at k now.exits)) (sym declared)
       (subst (λ x. ExitsAt m.declared.speaker x k (peer_at k m.declared.peers) (exit_at k now.exits)) (sym outgoing)
-      (subst (λ o. ExitsAt m.declared.speaker m.outgoing k (peer_at k m.declared.peers) o) (sym (ap (λ (a : OutChains). tables.get a k) (queue_chains m.exits now.exits best q))) (stands.own SameSessions k)));
+      (subst (λ o. ExitsAt m.declared.speaker m.outgoing k (peer_at k m.declared.peers) o) (sym (ap (λ (a : OutChains). tables.get a k) (queue_chains m.exits now.exits best q))) (stands.exits.sessions k)));
   one = subst (λ d. ReadsOn d.speaker now.reader now.exits) (sym declared) (subst (λ x. ReadsOn m.declared.speaker x now.exits) (sym reader)
-      (reads_on m.declared.speaker m.reader m.exits now.exits (queue_chains m.exits now.exits best q) (queue_live m.exits now.exits best q) (stands.own OneReader)));
+      (reads_on m.declared.speaker m.reader m.exits now.exits (queue_chains m.exits now.exits best q) (queue_live m.exits now.exits best q) stands.exits.one));
   external = subst (λ (r : Option ℕ). StandsOver (read_rows_by now.exits.queue r (best_of now)) now.rib) (sym reader)
       (over (read_rows_by now.exits.queue m.reader (best_of now))
-      (subst (λ (x : Rows Route). StandsOver x m.rib) (sym (queue_rows m.exits now.exits best m.reader (best_of m) (best_of now) p (reader_live m stands) q sent)) (stands.own ExternalStands)));
+      (subst (λ (x : Rows Route). StandsOver x m.rib) (sym (queue_rows m.exits now.exits best m.reader (best_of m) (best_of now) p (reader_live m stands) q sent)) stands.exits.external));
 }
   where
     sender : MaySend now.declared.profile now.declared.speaker
-    sender = subst (λ d. MaySend d.profile d.speaker) (sym declared) (stands.own OneSender)
+    sender = subst (λ d. MaySend d.profile d.speaker) (sym declared) stands.exits.sender
 
     profile_is : m.exits.profile ≡ now.declared.profile
-    profile_is = stands.own SameProfile ∙ ap (λ (d : Declaration). d.profile) (sym declared)
+    profile_is = stands.exits.profile ∙ ap (λ (d : Declaration). d.profile) (sym declared)
 
     rows_then : RowsWereHeard now.declared.profile now.chains
     rows_then = subst (λ (d : Declaration). RowsWereHeard d.profile now.chains) (sym declared) rows

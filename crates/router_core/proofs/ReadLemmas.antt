@@ -1,33 +1,15 @@
 -- Lookups in what reads `best`.
-use Rattle.std.proofs.Common.{◌≡◌, ℕ, Option, Some, sym, ap, ◌∙◌}
+use Rattle.router_core.proofs.Common.{sym, ◌∙◌, ap, ◌≡◌, ℕ, same_Some, Network, Route, best_rows, Declaration, read_rows, Resolvers, route_value, route_rows, Links, HasRow, Link, Value, Rows, Candidates, IsNextCandidate, CoversRows, Passed, Chains, Protos, int_rows, Treed, own_rows, lent_rows, Moment, best_of, read_by, read_links, Stands, HaveReaders}
+use Rattle.std.proofs.Common.{Option, Some}
 use Rattle.std.specs.Prelude.{option_map}
-use Rattle.std.proofs.lemmas.Option.{same_Some}
-use Rattle.addr4.specs.Prefixes.{Network}
-use Rattle.bgp_attr.specs.declared.route.Route.{Route}
-use Rattle.link_change.specs.Rows.{Rows, Candidates, IsNextCandidate, CoversRows}
-use Rattle.journal_text.specs.declared.link.Link.{Link}
 use Rattle.journal_text.specs.declared.link.Link.TheVariants.{ReadRib}
-use Rattle.journal_text.specs.declared.value.Value.{Value}
-use Rattle.journal_text.specs.Values.{route_value, route_rows}
-use Rattle.journal_text.specs.Walk.{Links, HasRow}
-use Rattle.fanout_queue.specs.Readers.{read_rows}
-use Rattle.decision.specs.Branches.{best_rows}
 use Rattle.exit_side.specs.Exits.{exit_links}
-use Rattle.hop_side.specs.Resolvers.{Resolvers}
-use Rattle.event_text.specs.Declarations.{Declaration}
-use Rattle.pass_core.specs.Passed.{Passed}
-use Rattle.redist.specs.declared.protos.Protos.{Protos}
-use Rattle.rib_tree.specs.Trees.{Treed, int_rows}
-use Rattle.peer_side.specs.Peers.{Chains}
-use Rattle.router_core.specs.Bests.{own_rows, lent_rows}
-use Rattle.router_core.specs.Moments.{Moment, best_of, read_by, read_links}
-use Rattle.router_core.specs.Stands.{Stands, HaveReaders, EachExit}
 use Rattle.router_core.specs.Lookups.{IsNextPlace}
 use Rattle.router_core.proofs.BestLemmas.{lent_best}
 use Rattle.router_core.proofs.QueueLemmas.{reader_live}
 
 pub have_readers : (m : Moment) → Stands m → HaveReaders m
-have_readers m stands = record { exits = stands.own EachExit; reader = reader_live m stands }
+have_readers m stands = record { exits = stands.exits.each; reader = reader_live m stands }
 
 module _ (m v : Moment) (d : Declaration) (t : Treed) (s : Passed Protos) (a : Chains) (h : Resolvers) (view : v ≡ m) (declared : d ≡ m.declared) (tree : t ≡ m.tree) (redist : s ≡ m.redist) (chains : a ≡ m.chains) (hops : h ≡ m.hops) where
   abbrev lent : Rows Route

@@ -1,41 +1,25 @@
 -- How many turns readers of `best` take: the most that one hasn't taken, and how many candidates of `best` lie beyond a place.
-use Rattle.std.proofs.Common.{◌≡◌, ◌≢◌, ℕ, zero, suc, ◌+◌, ◌-◌, ◌*◌, ◌<◌, ◌≤◌, nat_lt, nat_eq, Bool, true, false, ◌||◌, cond, List, [], ◌∷◌, length, Option, Some, None, is_some, refl, sym, ap, ◌∙◌, arith}
+use Rattle.router_core.proofs.Common.{sym, ◌∙◌, ap, ◌≡◌, ℕ, refl, List, true, arith, false, ◌+◌, Bool, ◌≤◌, cond, ◌<◌, suc, zero, nat_eq, ◌≢◌, ◌||◌, nat_lt, ◌-◌, ◌*◌, nat_tests, nat_cmp_total, FinMap, nat_cmp-IsAntisymmetric, get-insert, AllByRecursion, list_any, range_with_len, sum_by, nat_cmp, eq_by_cmp, Network, Attrs, Route, Exited, Queued, Takes, known_in, candidates_are_counted, Chained, filt_candidates, Candidates, IsNextCandidate, Change, CountsBeyond, chain_at, Chains, rows_in, Treed, tree_count, int_candidates, Queues, Moment, candidates_of, most_unread, bound_of, best_beyond, Stands}
+use Rattle.std.proofs.Common.{[], ◌∷◌, length, Option, Some, None, is_some}
 use Rattle.std.specs.Prelude.{IsSome}
-use Rattle.std.specs.List.{AllByRecursion, sum_by, list_any, range_with_len}
 use Rattle.std.specs.Option.{option_map}
 use Rattle.std.specs.FinMap as tables
-use Rattle.std.specs.FinMap.{FinMap, get-insert, nat_cmp-IsAntisymmetric}
-use Rattle.std.specs.Ordering.{nat_cmp, eq_by_cmp}
-use Rattle.std.specs.Cmp.{nat_cmp_total}
 use Rattle.std.proofs.lemmas.List.Sums.{sum_by-le-sum_by}
-use Rattle.std.proofs.lemmas.Bool.Decides.{nat_tests}
 use Rattle.std.proofs.Math.Nat.{mul-le-mul, mul-le-mul_left}
-use Rattle.addr4.specs.Prefixes.{Network}
 use Rattle.addr4.specs.Places.{IsBeyond}
-use Rattle.bgp_attr.specs.declared.attrs.Attrs.{Attrs}
-use Rattle.bgp_attr.specs.declared.route.Route.{Route}
-use Rattle.link_change.specs.Rows.{Candidates, IsNextCandidate}
 use Rattle.link_change.specs.InOrder.{with_last}
-use Rattle.link_change.specs.declared.change.Change.{Change}
 use Rattle.link_change.proofs.MapLemmas.{all_values, one_of_sum, sum_others, sum_none}
 use Rattle.link_region.proofs.RegionLemmas.{by_bool}
 use Rattle.loss_chain.specs.Lost.{Lost}
+use Rattle.fanout_queue.specs.Queues.{AppendsToAll, IsMostUnread}
+use Rattle.in_chain.specs.Chains.{filt_beyond, row_count}
 use Rattle.loss_chain.specs.Tables.{table_beyond as count_beyond, lost_beyond}
 use Rattle.loss_chain.proofs.BeyondLemmas.{table_further}
-use Rattle.pass_core.specs.Left.{CountsBeyond}
-use Rattle.fanout_queue.specs.Queues.{Queued, AppendsToAll, Takes, IsMostUnread}
-use Rattle.exit_side.specs.Exits.{Exited}
-use Rattle.in_chain.specs.Chains.{Chained, filt_beyond, filt_candidates, row_count}
-use Rattle.in_chain.proofs.TurnLemmas.{candidates_are_counted}
 use Rattle.decision.specs.Branches.{best_candidates, candidates_below}
-use Rattle.peer_side.specs.Peers.{Chains, chain_at, rows_in}
-use Rattle.router_core.specs.Bests.{candidates_by, lent_chain, lent_candidates, Queues}
-use Rattle.hop_side.specs.Resolvers.{known_in}
-use Rattle.rib_tree.specs.Trees.{Treed, int_candidates, tree_count}
+use Rattle.router_core.specs.Bests.{candidates_by, lent_chain, lent_candidates}
 use Rattle.rib_exit.specs.Exits.{known_in as external_known}
-use Rattle.router_core.specs.Moments.{Moment, longest_of, most_unread, bound_of, candidates_of}
-use Rattle.router_core.specs.Phases.{best_beyond, reading}
-use Rattle.router_core.specs.Stands.{Stands, SmallNumbers}
+use Rattle.router_core.specs.Moments.{longest_of}
+use Rattle.router_core.specs.Phases.{reading}
 use Rattle.router_core.proofs.BeyondLemmas.{tree_most, tree_within, tree_further, tree_fewer}
 
 -- ---- the most that a reader hasn't taken
@@ -248,7 +232,7 @@ module _ (a : Chains) (t : Treed) (small : (k : ℕ) → IsSome (chain_at k a) �
 
 -- of a moment
 pub best_counted : (m : Moment) → Stands m → CountsBeyond (candidates_of m) (best_beyond m.chains m.tree)
-best_counted m stands = best_counted_by m.chains m.tree (stands.own SmallNumbers)
+best_counted m stands = best_counted_by m.chains m.tree stands.peers.numbers
 
 pub beyond_within : (a : Chains) (t : Treed) → best_beyond a t None ≤ rows_in a + tree_count t
 beyond_within a t =

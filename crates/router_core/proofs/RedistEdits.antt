@@ -1,33 +1,13 @@
 -- A protocol that is redistributed from now on, or isn't: that changes no row yet.
-use Rattle.std.proofs.Common.{◌≡◌, Bool, cond, [], Option, Some, None, IsSome, is_some, true, false, refl, sym, ap, subst, ◌∙◌}
-use Rattle.bgp_attr.specs.declared.route.Route.{Route}
-use Rattle.bgp_attr.specs.declared.speaker.Speaker.{Speaker}
-use Rattle.link_change.specs.Rows.{Rows}
-use Rattle.rib_route.specs.declared.Proto.{Proto}
-use Rattle.rib_route.specs.declared.Proto.TheVariants.{Connected, Static, Ospf, Rip}
-use Rattle.rib_route.specs.declared.rows.Interior.{Interior}
-use Rattle.rib_tree.specs.Trees.{int_rows}
-use Rattle.pass_core.specs.Passed.{Passed, present, edited}
+use Rattle.router_core.proofs.Common.{sym, subst, ◌∙◌, ap, ◌≡◌, refl, true, false, Bool, cond, Route, Speaker, Redist, AllStand, AllLead, leads_nowhere, Rows, joined, Region, Decided, Redistributed, Outward, speaker_since, Passed, present, redistributed, has, Protos, StandsOver, Proto, Connected, Static, Ospf, Rip, Interior, int_rows, own_rows, best_at, best_links, own_links, live_state, Moment, best_of, router_links, own_of, read_rows_by, parts, read_links, with_redist, Stands, HasStepped}
+use Rattle.std.proofs.Common.{[], Option, Some, None, IsSome, is_some}
+use Rattle.pass_core.specs.Passed.{edited}
 use Rattle.pass_core.proofs.TurnLemmas.{an_edit_keeps_the_rows}
-use Rattle.redist.specs.declared.protos.Protos.{Protos}
-use Rattle.redist.specs.Protocols.{has, with_proto}
-use Rattle.redist.specs.Local.{redistributed}
-use Rattle.journal_text.proofs.WalkLemmas.{leads_nowhere}
-use Rattle.event_text.specs.declared.event.Event.TheVariants.{Redist}
+use Rattle.redist.specs.Protocols.{with_proto}
 use Rattle.event_text.specs.Declarations.{refusal}
-use Rattle.fanout_queue.specs.Queues.{AllLead}
-use Rattle.exit_side.specs.Exits.{AllStand, exit_links}
-use Rattle.rib_exit.specs.Exits.{StandsOver}
-use Rattle.link_region.specs.declared.regions.Region.{Region}
-use Rattle.link_region.specs.declared.regions.Region.TheVariants.{Decided, Redistributed, External, Outward}
-use Rattle.link_region.specs.Regions.{joined}
+use Rattle.exit_side.specs.Exits.{exit_links}
+use Rattle.link_region.specs.declared.regions.Region.TheVariants.{External}
 use Rattle.live_state.specs.Lives.{with_redistributed, same_protocol}
-use Rattle.live_state.proofs.AdmittedLemmas.{speaker_since}
-use Rattle.router_core.specs.Bests.{own_rows, own_links, best_at, best_links}
-use Rattle.router_core.specs.Moments.{Moment, with_redist, own_of, best_of, read_links, read_rows_by, parts, router_links}
-use Rattle.router_core.specs.Lives.{live_state}
-use Rattle.router_core.specs.Stands.{Stands, Claim, Claims, QueueLeads, ExitsRead, ExternalStands, NothingOwn}
-use Rattle.router_core.specs.Works.{HasStepped}
 use Rattle.router_core.proofs.HeardSteps.{heard_quiet}
 use Rattle.router_core.proofs.PeerLemmas.{present_edited}
 
@@ -57,14 +37,25 @@ module _ (m : Moment) (proto : Proto) (on : Bool) (stands : Stands m) (since : I
   same_best = ap (λ (own : Rows Route). best_at own m.chains m.hops) same_own
 
   then_stands : Stands then
-  then_stands = record { own = own; at = stands.at }
-    where
-      own : (claim : Claim) → Claims then claim
-      own QueueLeads = subst (λ (rows : Rows Route). AllLead m.exits.queue rows) (sym same_best) (stands.own QueueLeads)
-      own ExitsRead = subst (λ (rows : Rows Route). AllStand rows m.exits) (sym same_best) (stands.own ExitsRead)
-      own ExternalStands = subst (λ (rows : Rows Route). StandsOver (read_rows_by m.exits.queue m.reader rows) m.rib) (sym same_best) (stands.own ExternalStands)
-      own NothingOwn = λ none. absurd (let clash : true ≡ false = sym since ∙ ap is_some none in cc)
-      own other = stands.own other
+  then_stands = record {
+    peers = stands.peers;
+    interior = stands.interior;
+    registered = stands.registered;
+    hops = stands.hops;
+    exits = record {
+      rows = stands.exits.rows;
+      each = stands.exits.each;
+      all = subst (λ (rows : Rows Route). AllLead m.exits.queue rows) (sym same_best) stands.exits.all;
+      read = subst (λ (rows : Rows Route). AllStand rows m.exits) (sym same_best) stands.exits.read;
+      profile = stands.exits.profile;
+      sender = stands.exits.sender;
+      sessions = stands.exits.sessions;
+      one = stands.exits.one;
+      external = subst (λ (rows : Rows Route). StandsOver (read_rows_by m.exits.queue m.reader rows) m.rib) (sym same_best) stands.exits.external;
+    };
+    external = stands.external;
+    waits = record { own = λ none. absurd (let clash : true ≡ false = sym since ∙ ap is_some none in cc); external = stands.waits.external };
+  }
 
   same_parts : parts then ≡ parts m
   same_parts i r = each r i

@@ -1,24 +1,8 @@
 -- What one region's part does, whatever the others have.
-use Rattle.std.proofs.Common.{◌≡◌, ℕ, List, refl, sym, ap, subst}
-use Rattle.journal_text.specs.declared.link.Link.{Link}
-use Rattle.journal_text.specs.declared.value.Value.{Value}
-use Rattle.journal_text.specs.declared.entry.Entry.{Entry}
-use Rattle.journal_text.specs.Walk.{Leads}
-use Rattle.journal_text.specs.Texts.{entries_of}
-use Rattle.journal_text.proofs.JournalLemmas.{entries_of_entries}
-use Rattle.bgp_attr.specs.declared.route.Route.{Route}
-use Rattle.link_change.specs.Rows.{Rows}
-use Rattle.hop_side.specs.Resolvers.{hop_links}
-use Rattle.peer_side.specs.Peers.{Chains, peer_links, filt_at}
-use Rattle.rib_tree.specs.Trees.{Treed, int_rows}
-use Rattle.link_region.specs.declared.regions.Region.{Region}
-use Rattle.link_region.specs.declared.regions.Region.TheVariants.{Inward, Resolved, Decided, InteriorRoutes, Redistributed, Forward, External, Outward}
-use Rattle.link_region.specs.Regions.{Sides, region_of, joined, with_side, LeadsIn}
+use Rattle.router_core.proofs.Common.{sym, subst, ap, ◌≡◌, ℕ, refl, List, Route, hop_links, entries_of_entries, entries_of, Leads, Entry, Link, Value, Rows, joined, with_side, Sides, LeadsIn, region_of, Region, Decided, Inward, Redistributed, Resolved, Outward, InteriorRoutes, Forward, Chains, filt_at, peer_links, int_rows, Treed, own_rows, best_at, best_links, own_links, Moment, best_of, router_links, own_of, with_chains, with_tree, parts, tree_by, forward_by, read_links, journal_lines}
+use Rattle.link_region.specs.declared.regions.Region.TheVariants.{External}
 use Rattle.exit_side.specs.Exits.{exit_links}
-use Rattle.router_core.specs.Bests.{own_rows, own_links, best_at, best_links}
-use Rattle.router_core.specs.Moments.{Moment, with_chains, with_tree, tree_by, forward_by, own_of, best_of, read_links, parts, router_links}
 use Rattle.router_core.proofs.BestLemmas.{best_quiet}
-use Rattle.router_core.specs.Turns.{journal_lines}
 
 -- a link, by its region
 pub in_region : (m : Moment) (link : Link) (r : Region) → region_of link ≡ r → router_links m link ≡ parts m r link

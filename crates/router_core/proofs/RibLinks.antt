@@ -1,39 +1,12 @@
 -- From the links of the tree, of `red` with the decision over it, and of the external routes, to those of the router.
-use Rattle.std.proofs.Common.{◌≡◌, ℕ, zero, suc, ◌==◌, true, false, List, ◌++◌, Option, Some, refl, sym, ap, subst, ◌∙◌}
-use Rattle.addr4.specs.Prefixes.{Network}
-use Rattle.bgp_attr.specs.declared.route.Route.{Route}
-use Rattle.bgp_attr.specs.declared.speaker.Speaker.{Speaker}
-use Rattle.link_change.specs.Rows.{Rows}
-use Rattle.link_change.specs.Changes.{IsSent}
-use Rattle.link_change.specs.declared.change.Change.{Change}
-use Rattle.journal_text.specs.declared.link.Link.{Link}
-use Rattle.journal_text.specs.declared.link.Link.TheVariants.{Red, Ebgp, Ibgp, Ext, Fib}
-use Rattle.journal_text.specs.declared.entry.Entry.{Entry}
-use Rattle.journal_text.specs.declared.value.Value.{Value}
-use Rattle.journal_text.specs.Values.{route_value, route_rows}
-use Rattle.journal_text.specs.Walk.{Links, with_link, Leads}
-use Rattle.journal_text.proofs.WalkLemmas.{leads_sent, leads_append}
-use Rattle.rib_route.specs.declared.rows.Interior.{Interior}
-use Rattle.pass_core.specs.Passed.{Passed}
-use Rattle.pass_core.specs.Turns.{passed_rows}
-use Rattle.redist.specs.declared.protos.Protos.{Protos}
-use Rattle.redist.specs.Local.{redistributed}
-use Rattle.decision.specs.Branches.{best_rows}
-use Rattle.hop_side.specs.Resolvers.{Resolvers, PeerRows}
-use Rattle.hop_side.specs.Steps.{ComesOn}
-use Rattle.peer_side.specs.Peers.{Chains}
+use Rattle.router_core.proofs.Common.{sym, subst, ◌∙◌, ap, ◌≡◌, ℕ, refl, List, true, false, ◌++◌, suc, zero, Network, Route, Speaker, best_rows, Resolvers, PeerRows, ComesOn, leads_append, leads_sent, route_value, route_rows, Leads, Links, with_link, Entry, Link, Fib, Value, IsSent, Rows, Change, joined, with_side, Sides, LeadsIn, Decided, Redistributed, InteriorRoutes, Forward, Passed, passed_rows, Chains, redistributed, Protos, Interior, tree_leads, LeadsTree, int_rows, Treed, tree_links, own_rows, all_at, best_links, best_entries, own_links, own_entries, resolved_at, Moment, router_links, with_tree, parts, tree_by}
+use Rattle.std.proofs.Common.{◌==◌, Option, Some}
+use Rattle.journal_text.specs.declared.link.Link.TheVariants.{Red, Ebgp, Ibgp, Ext}
 use Rattle.rib_exit.specs.Exits.{is_exit_link}
 use Rattle.rib_exit.specs.Steps.{LeadsExit}
 use Rattle.rib_exit.proofs.LawLemmas.{leads_anywhere}
-use Rattle.rib_tree.specs.Trees.{Treed, int_rows, tree_links}
-use Rattle.rib_tree.specs.Falls.{LeadsTree}
-use Rattle.link_region.specs.declared.regions.Region.TheVariants.{InteriorRoutes, Redistributed, Decided, Forward}
-use Rattle.link_region.specs.Regions.{Sides, joined, with_side, LeadsIn}
-use Rattle.rib_tree.proofs.RegionLemmas.{tree_leads}
 use Rattle.router_core.proofs.BestLemmas.{best_leads}
 use Rattle.router_core.proofs.RegionLemmas.{interior_set}
-use Rattle.router_core.specs.Bests.{own_rows, own_links, own_entries, resolved_at, all_at, best_links, best_entries}
-use Rattle.router_core.specs.Moments.{with_tree, Moment, tree_by, router_links, parts}
 
 -- ---- the region of the external routes
 pub exit_leads : (old new : Links Value) (entries : List (Entry Value)) → LeadsExit old entries new → LeadsIn Forward old entries new

@@ -1,29 +1,20 @@
 -- Room for one more deletion stage.
-use Rattle.std.proofs.Common.{◌≡◌, ℕ, Bool, true, ◌&&◌, ◌||◌, cond, List, [], Option, Some, None, is_some, nat_eq, nat_lt, length, refl, sym, ap, subst, ◌∙◌, arith, zero, suc}
+use Rattle.router_core.proofs.Common.{sym, subst, ◌∙◌, ap, ◌≡◌, ℕ, refl, List, true, arith, Bool, cond, suc, zero, nat_eq, ◌&&◌, ◌||◌, nat_lt, same_Some, Chained, welded, Journaled, flushed, Line, Task, is_empty_map, no_table, same_by, table_of, chain_at, overdue_at, has_turn_in, RunsFirst, Moment, Gives, Stands, Turns, HasDrained}
+use Rattle.std.proofs.Common.{[], Option, Some, None, is_some, length}
 use Rattle.std.specs.Prelude.{IsSome}
-use Rattle.std.proofs.lemmas.Option.{same_Some}
-use Rattle.link_change.specs.Rows.{is_empty_map}
-use Rattle.journal_text.specs.declared.link.Task.{Task}
 use Rattle.journal_text.specs.declared.link.Task.TheVariants.{Del}
-use Rattle.journal_text.specs.declared.line.Line.{Line}
-use Rattle.journal_text.specs.Journals.{Journaled, flushed}
 use Rattle.loss_chain.specs.declared.owner.Owner.TheVariants as owners
-use Rattle.loss_chain.specs.Steps.{table_of}
-use Rattle.loss_chain.proofs.TableLemmas.{Shorter, shorter_none, shorter_more, free_of, stage_of, no_table, same_by}
-use Rattle.in_chain.specs.Chains.{Chained}
+use Rattle.loss_chain.proofs.TableLemmas.{Shorter, shorter_none, shorter_more, free_of, stage_of}
 use Rattle.in_chain.specs.Incomings.{overdue_of}
-use Rattle.in_chain.specs.Steps.{swept, welded, Sweeps}
-use Rattle.peer_side.specs.Peers.{chain_at, has_turn_in, overdue_at, overdue_by}
+use Rattle.in_chain.specs.Steps.{swept, Sweeps}
+use Rattle.peer_side.specs.Peers.{overdue_by}
 use Rattle.peer_side.specs.Steps.{TurnsPeer}
 use Rattle.peer_side.proofs.PutLemmas.{put_here}
-use Rattle.router_core.specs.Moments.{Moment, Gives}
-use Rattle.router_core.specs.Stands.{Stands, EachChain}
-use Rattle.router_core.specs.Turns.{Turns}
-use Rattle.router_core.specs.Blocks.{RunsFirst}
-use Rattle.router_core.specs.Works.{HasDrained, HasRoom}
+use Rattle.router_core.specs.Works.{HasRoom}
 use Rattle.peer_side.proofs.WeldLemmas.{weld_after}
 use Rattle.router_core.proofs.KeepLemmas.{keeps_none, gives_none}
 use Rattle.router_core.proofs.TurnWalks.{turns_same}
+use Rattle.router_core.proofs.TurnLaws.{turns_work}
 
 -- the chain after turns of a stage, which may have gone
 turns_shorter : (n k s : ℕ) (m : Moment) (c : Chained) (said : List Line) (m' : Moment) → chain_at k m.chains ≡ Some c → Turns n (Del k s) m said m'
@@ -50,15 +41,15 @@ turns_shorter (suc n) k s m c said m' at t =
 drained_free : (k : ℕ) (m room : Moment) (c : Chained) (task : Task) (n : ℕ) (said : List Line) → Stands m → chain_at k m.chains ≡ Some c → overdue_of c.incoming ≡ Some task → HasDrained task m n room said → overdue_at k room.chains ≡ None
 drained_free k m room c task n said stands at over d =
     let stage = stage_of (nat_lt (length c.incoming.tables.deletions) 16 || is_empty_map c.incoming.tables.live) (owners.Peer c.incoming.number) c.incoming.tables.deletions task over in
-    let is : task ≡ Del k stage.0.number = stage.3 ∙ ap (λ (j : ℕ). Del j stage.0.number) (stands.own EachChain k c at).number in
+    let is : task ≡ Del k stage.0.number = stage.3 ∙ ap (λ (j : ℕ). Del j stage.0.number) (stands.peers.chains k c at).number in
     let drained : HasDrained (Del k stage.0.number) m n room said = subst (λ (t : Task). HasDrained t m n room said) is d in
-    let r = turns_shorter n k stage.0.number m c said room at drained.run.taken in
+    let r = turns_shorter n k stage.0.number m c said room at drained.taken in
     let there : table_of stage.0.number c.incoming.tables.deletions ≡ Some stage.0.rows = ap (table_of stage.0.number) stage.2 ∙ ap (λ (b : Bool). cond b (Some stage.0.rows) (table_of stage.0.number stage.1)) (same_by stage.0.number stage.0.number refl) in
-    let own : nat_eq k r.0.incoming.number ≡ true = same_by k r.0.incoming.number (sym (drained.run.work.keeps.stands.own EachChain k r.0 r.1).number) in
+    let own : nat_eq k r.0.incoming.number ≡ true = same_by k r.0.incoming.number (sym ((turns_work n (Del k stage.0.number) m said room stands drained.taken).keeps.stands.peers.chains k r.0 r.1).number) in
     let none : table_of stage.0.number r.0.incoming.tables.deletions ≡ None = no_table (table_of stage.0.number r.0.incoming.tables.deletions)
     (sym (ap (λ (b : Bool). b && is_some (table_of stage.0.number r.0.incoming.tables.deletions)) own) ∙ sym (ap (has_turn_in (Del k stage.0.number)) r.1) ∙ drained.ended) in
     let less = r.2.gone stage.0.rows there none in
-    let few = (stands.own EachChain k c at).few in
+    let few = (stands.peers.chains k c at).few in
     ap overdue_by r.1 ∙ free_of (owners.Peer r.0.incoming.number) r.0.incoming.tables (omega (arith, less, few))
 
 -- a peer whose stage is overdue has a chain
@@ -72,10 +63,10 @@ room_drained k m v room task n before now view stands over g = (
   g.1,
   record {
     there = ap is_some c.1;
-    runs = subst (λ (o : Option Task). RunsFirst o m g.0 room) is (n, (g.2.run.taken, g.2.ended));
-    keeps = g.2.run.work.keeps;
+    runs = subst (λ (o : Option Task). RunsFirst o m g.0 room) is (n, (g.2.taken, g.2.ended));
+    keeps = (turns_work n task m g.0 room stands g.2.taken).keeps;
     free = drained_free k m room c.0 task n g.0 stands c.1 c.2 g.2;
-    same = turns_same n task m g.0 room g.2.run.taken;
+    same = turns_same n task m g.0 room stands g.2.taken;
   },
 )
   where

@@ -1,61 +1,26 @@
 -- A change of an interior route: what follows it, and what stands then.
-use Rattle.std.proofs.Common.{◌≡◌, ◌≤◌, not, List, [], ◌++◌, length, Option, Some, None, IsSome, refl, sym, ap, subst, ◌∙◌, arith}
+use Rattle.router_core.proofs.Common.{sym, subst, ◌∙◌, ap, ◌≡◌, refl, List, arith, ◌++◌, ◌≤◌, not, Network, Route, Speaker, unheard_joins, others_are_unheard, AreUnheard, Exited, Resolvers, PeerRows, entries_of_entries, with_entries_append, leads_append, leads_nowhere, Journaled, Adds, with_entries, entries_of, Leads, Entry, Line, Link, Value, IsSent, Rows, is_empty_map, with_row, Change, joined, with_side, Sides, Region, Decided, Redistributed, Resolved, Outward, InteriorRoutes, Forward, adds_both, filt_at, Registry, StandsOver, AgreesWith, RibExit, Proto, FibRow, Interior, tree_leads, put_all, welded_branch, Branch, LeadsTree, way_of_route, fed_tree, welded_tree, int_rows, Treed, branch_of, IsTree, tree_links, IsFull, put_branch, own_rows, all_at, best_at, best_links, best_entries, Queues, own_links, own_entries, live_state, Moment, best_of, router_links, own_of, with_tree, parts, tree_by, forward_by, Stands, ExitsStand, HopsStand, journal_lines, BelowInt, FallsRoute, Pushes, Keeps}
+use Rattle.std.proofs.Common.{[], length, Option, Some, None, IsSome}
 use Rattle.std.specs.FinMap as tables
-use Rattle.addr4.specs.Prefixes.{Network}
-use Rattle.bgp_attr.specs.declared.route.Route.{Route}
-use Rattle.bgp_attr.specs.declared.speaker.Speaker.{Speaker}
-use Rattle.rib_route.specs.declared.Proto.{Proto}
-use Rattle.rib_route.specs.declared.rows.Interior.{Interior}
-use Rattle.rib_route.specs.declared.rows.FibRow.{FibRow}
-use Rattle.link_change.specs.Rows.{Rows, with_row, is_empty_map}
-use Rattle.link_change.specs.Changes.{IsSent}
-use Rattle.link_change.specs.declared.change.Change.{Change}
-use Rattle.journal_text.specs.declared.link.Link.{Link}
-use Rattle.journal_text.specs.declared.entry.Entry.{Entry}
-use Rattle.journal_text.specs.declared.value.Value.{Value}
-use Rattle.journal_text.specs.declared.line.Line.{Line}
-use Rattle.journal_text.specs.Journals.{Journaled, with_entries, Adds}
-use Rattle.journal_text.specs.Texts.{entries_of}
-use Rattle.journal_text.specs.Walk.{Leads}
-use Rattle.journal_text.proofs.JournalLemmas.{with_entries_append, entries_of_entries}
-use Rattle.journal_text.proofs.WalkLemmas.{leads_append, leads_nowhere}
-use Rattle.register_interest.specs.Registers.{Registry}
-use Rattle.pass_core.specs.Turns.{passed_rows}
-use Rattle.redist.specs.Local.{redistributed}
-use Rattle.hop_side.specs.Resolvers.{Resolvers, PeerRows}
-use Rattle.rib_exit.specs.declared.exit.RibExit.{RibExit}
-use Rattle.rib_exit.specs.Exits.{exit_links as external_links, IsExit, AgreesWith, StandsOver}
+use Rattle.rib_exit.specs.Exits.{exit_links as external_links, IsExit}
 use Rattle.rib_exit.specs.Steps.{TakesInterior, FollowsOn}
-use Rattle.exit_side.specs.Exits.{Exited}
-use Rattle.exit_laws.proofs.HearLemmas.{unheard_joins}
-use Rattle.exit_laws.proofs.OtherLemmas.{others_are_unheard}
-use Rattle.link_region.specs.declared.regions.Region.{Region}
-use Rattle.link_region.specs.declared.regions.Region.TheVariants.{Resolved, Decided, InteriorRoutes, Redistributed, Forward, External, Outward}
-use Rattle.link_region.specs.Regions.{Sides, joined, with_side}
-use Rattle.rib_tree.specs.Branches.{Branch}
-use Rattle.rib_tree.specs.BranchSteps.{welded_branch, fed_branch}
+use Rattle.link_region.specs.declared.regions.Region.TheVariants.{External}
+use Rattle.rib_tree.specs.BranchSteps.{fed_branch}
 use Rattle.loss_chain.specs.Steps.{live_after}
-use Rattle.rib_tree.specs.Trees.{Treed, branch_of, put_branch, int_rows, tree_links, IsTree, IsFull}
-use Rattle.rib_tree.specs.Falls.{FallsTree, LeadsTree, way_of_route}
-use Rattle.rib_tree.specs.Steps.{welded_tree, fed_tree, tree_weld_entries}
-use Rattle.rib_tree.proofs.RegionLemmas.{tree_leads}
-use Rattle.peer_side.specs.Peers.{filt_at}
+use Rattle.rib_tree.specs.Falls.{FallsTree}
+use Rattle.rib_tree.specs.Steps.{tree_weld_entries}
 use Rattle.live_state.specs.Lives.{with_interior, with_losses, interior_fed}
-use Rattle.router_core.specs.Bests.{own_rows, own_links, own_entries, all_at, best_at, best_links, best_entries, Queues}
-use Rattle.router_core.specs.Moments.{with_tree, Moment, tree_by, forward_by, own_of, best_of, parts, router_links}
-use Rattle.router_core.specs.Lives.{live_state}
 use Rattle.router_core.specs.Printable.{IsHeard}
-use Rattle.router_core.specs.Stands.{Stands, Claim, Claims, InteriorTree, EachResolver, SameResolvers, AnswersAgree, HopsCounted, NoStrangers, EachRow, EachExit, QueueLeads, ExitsRead, SameProfile, OneSender, SameSessions, OneReader, ExternalExit, ExternalAgrees, ExternalStands, NothingExternal, Tie, Ties, Registered, here}
-use Rattle.router_core.specs.Turns.{journal_lines, FallsRoute, FollowsInt, BelowInt}
-use Rattle.router_core.specs.Works.{Informs, Redistributes, Follows, Settles, HasRouted, Pushes}
+use Rattle.router_core.specs.Turns.{FollowsInt, WeldsRoute}
+use Rattle.router_core.specs.Works.{Informs, Redistributes, Follows, Settles}
 use Rattle.loss_chain.proofs.TableLemmas.{few_filter}
-use Rattle.rib_tree.proofs.TreeParts.{welded_put, put_seen, put_all, put_kept, few_fed}
+use Rattle.rib_tree.proofs.TreeParts.{welded_put, put_seen, put_kept, few_fed}
 use Rattle.router_core.proofs.HeardSteps.{heard_quiet, queue_views, below_unheard}
-use Rattle.router_core.proofs.HopLemmas.{HopsStand, hops_of, hops_reached}
-use Rattle.router_core.proofs.QueueLemmas.{ExitsStand, queue_external, queue_links, reader_live, exits_fall}
+use Rattle.router_core.proofs.HopLemmas.{hops_reached}
+use Rattle.router_core.proofs.QueueLemmas.{queue_external, queue_links, reader_live, exits_fall}
 use Rattle.router_core.proofs.RegionLemmas.{interior_set}
 use Rattle.router_core.proofs.RibLinks.{DecidesTo, exit_leads, own_rows_are, own_comes, leads_own, leads_down, leads_above}
-use Rattle.router_core.proofs.StandLemmas.{put_is_with, registered_rows, speaker_of}
+use Rattle.router_core.proofs.StandLemmas.{put_is_with, speaker_of}
 
 -- ---- the register
 -- it keeps up with `int`
@@ -110,10 +75,12 @@ settled proto sent m m1 v t before j now view under is lines leads int tree full
     below_int = follows.2;
     after = ap (with_tree v) welds;
     lines = refl;
-    leads = subst (λ (x : Treed). LeadsTree x (tree_weld_entries proto x) (welded_tree proto x)) same (subst (λ (x : Treed). LeadsTree v.tree (tree_weld_entries proto v.tree) x) is leads);
-    int = subst (λ (x : Treed). int_rows (welded_tree proto x) ≡ int_rows x) same (sym (ap int_rows is) ∙ int);
-    tree = subst IsTree welds tree;
-    full = subst IsFull welds full;
+    welds = subst (WeldsRoute proto) same (record {
+      leads = subst (LeadsTree v.tree (tree_weld_entries proto v.tree)) is leads;
+      int = sym (ap int_rows is) ∙ int;
+      tree = subst IsTree is tree;
+      full = subst IsFull is full;
+    });
   },
 )
   where
@@ -126,6 +93,11 @@ settled proto sent m m1 v t before j now view under is lines leads int tree full
     welds : t ≡ welded_tree proto m.tree
     welds = is ∙ ap (welded_tree proto) same
 
+-- the change of `best` that comes of it
+abbrev pub below_best : (sent : Option (Change Interior)) (int : Rows Interior) (m m1 : Moment) (entries : List (Entry Value)) → BelowInt sent int m m1 entries → Option (Change Route)
+below_best None int m m1 entries below = None
+below_best (Some change) int m m1 entries below = below.0.own.decided.best
+
 -- ---- what follows leads on, and what is claimed of it
 -- the tree became this, and with it all that is below
 abbrev pub replanted : Moment → Treed → Registry Interior → Resolvers → Exited → RibExit → Moment
@@ -135,9 +107,8 @@ replanted m t r h e x = record m { tree = t; registry = r; hops = h; exits = e; 
 abbrev grown : Moment → Treed → Sides
 grown m t = with_side (parts m) InteriorRoutes (tree_by m.declared.speaker t)
 
-pub record CarriesOn (m : Moment) (t : Treed) (p : Network) (r : Registry Interior) (h : Resolvers) (e : Exited) (x : RibExit) (entries : List (Entry Value)) : Type 0 where
+pub record CarriesOn (m : Moment) (t : Treed) (p : Network) (best : Option (Change Route)) (r : Registry Interior) (h : Resolvers) (e : Exited) (x : RibExit) (entries : List (Entry Value)) : Type 0 where
   pub leads : Leads (joined (grown m t)) entries (router_links (replanted m t r h e x))
-  pub best : Option (Change Route)
   pub queued : Queues best m.exits e
   pub chosen : IsSent (best_of m) (best_of (replanted m t r h e x)) p best
   pub hops : HopsStand m.chains r h
@@ -145,28 +116,32 @@ pub record CarriesOn (m : Moment) (t : Treed) (p : Network) (r : Registry Interi
   pub agree : AgreesWith x r
   pub over : (rows : Rows Route) → StandsOver rows m.rib → StandsOver rows x
 
-carries_none : (m : Moment) (t : Treed) (p : Network) → Stands m → int_rows t ≡ int_rows m.tree → CarriesOn m t p m.registry m.hops m.exits m.rib []
+carries_none : (m : Moment) (t : Treed) (p : Network) → Stands m → int_rows t ≡ int_rows m.tree → CarriesOn m t p None m.registry m.hops m.exits m.rib []
 carries_none m t p stands same = record {
   leads = leads_nowhere (joined (grown m t)) (router_links (with_tree m t)) (ap joined (interior_set m t same));
-  best = None;
   queued = refl;
   chosen = ap (λ (int : Rows Interior). best_at (own_rows m.declared.speaker m.redist int) m.chains m.hops) same;
-  hops = hops_of m stands;
-  sound = stands.own ExternalExit;
-  agree = stands.own ExternalAgrees;
+  hops = stands.hops;
+  sound = stands.external.sound;
+  agree = stands.external.agree;
   over = λ rows over. over;
 }
 
-carries_change : (m : Moment) (t : Treed) (p : Network) (change : Change Interior) (m1 : Moment) (entries : List (Entry Value)) → Stands m → IsSent (int_rows m.tree) (int_rows t) p (Some change) → FollowsInt change (int_rows t) (with_tree m t) m1 entries
-    → CarriesOn m t p m1.registry m1.hops m1.exits m1.rib entries
+-- this speaker's own rows move with `int`
+pub own_passes : (m : Moment) (t : Treed) (p : Network) (change : Change Interior) (m1 : Moment) (entries : List (Entry Value)) → IsSent (int_rows m.tree) (int_rows t) p (Some change) → (f : FollowsInt change (int_rows t) (with_tree m t) m1 entries)
+    → IsSent (own_of m) (own_rows m.declared.speaker m.redist (int_rows t)) p f.own.own
+own_passes m t p change m1 entries sent f =
+    subst (λ (s : Option Speaker). IsSent (own_rows s m.redist (int_rows m.tree)) (own_rows s m.redist (int_rows t)) p f.own.own) (sym f.local) (f.own.passed (int_rows m.tree) (int_rows t) p sent)
+
+carries_change : (m : Moment) (t : Treed) (p : Network) (change : Change Interior) (m1 : Moment) (entries : List (Entry Value)) → Stands m → IsSent (int_rows m.tree) (int_rows t) p (Some change) → (f : FollowsInt change (int_rows t) (with_tree m t) m1 entries)
+    → CarriesOn m t p f.own.decided.best m1.registry m1.hops m1.exits m1.rib entries
 carries_change m t p change m1 entries stands sent f = record {
   leads = leads;
-  best = best;
   queued = f.own.queued;
   chosen = chosen;
   hops = hops_reached m f.informed.reached m1.registry m1.hops stands f.informed.registers.interests f.informed.registers.answers f.informed.resolvers;
   sound = f.informed.external.sound;
-  agree = f.informed.external.agree m.registry m1.registry (stands.own ExternalAgrees) f.informed.registers.interests f.informed.registers.answers;
+  agree = f.informed.external.agree m.registry m1.registry stands.external.agree f.informed.registers.interests f.informed.registers.answers;
   over = f.informed.external.stays.stands;
 }
   where
@@ -183,9 +158,7 @@ carries_change m t p change m1 entries stands sent f = record {
     decides = subst (λ (rows : Rows Route). DecidesTo 0 f.own.own best (all_at rows m.chains m1.hops)) (sym (own_rows_are s f.me m.redist (int_rows t) f.local)) f.own.decided.decides
 
     own : IsSent (own_of m) (own_of now) p f.own.own
-    own = subst (λ (rows : Rows Route). IsSent rows (own_of now) p f.own.own) (sym (own_rows_are s f.me m.redist (int_rows m.tree) f.local))
-        (subst (λ (rows : Rows Route). IsSent (passed_rows (redistributed f.me) m.redist (int_rows m.tree)) rows p f.own.own) (sym (own_rows_are s f.me m.redist (int_rows t) f.local))
-        (f.own.passed (int_rows m.tree) (int_rows t) p sent))
+    own = own_passes m t p change m1 entries sent f
 
     chosen : IsSent (best_of m) (best_of now) p best
     chosen = decides (all_at (own_of m) m.chains m.hops) p (own_comes f.own.own (own_of m) (own_of now) m.chains m.hops m1.hops p own (λ j. ap (λ (u : PeerRows). u j) (f.informed.resolvers.stays.rows (filt_at m.chains))))
@@ -228,43 +201,31 @@ carries_change m t p change m1 entries stands sent f = record {
         (leads_append (joined (grown m t)) (joined chose) (joined forwarded) (own_entries f.own.own ++ best_entries best) f.fib_lines first then))
 
 -- whether a change came out or not
-pub record Carried (m : Moment) (t : Treed) (p : Network) (m1 : Moment) (entries : List (Entry Value)) : Type 0 where
-  pub on : CarriesOn m t p m1.registry m1.hops m1.exits m1.rib entries
+pub record Carried (m : Moment) (t : Treed) (p : Network) (best : Option (Change Route)) (m1 : Moment) (entries : List (Entry Value)) : Type 0 where
+  pub on : CarriesOn m t p best m1.registry m1.hops m1.exits m1.rib entries
   pub is : m1 ≡ replanted m t m1.registry m1.hops m1.exits m1.rib
 
-carried : (m : Moment) (t : Treed) (p : Network) (sent : Option (Change Interior)) (m1 : Moment) (entries : List (Entry Value)) → Stands m → IsSent (int_rows m.tree) (int_rows t) p sent → BelowInt sent (int_rows t) (with_tree m t) m1 entries → Carried m t p m1 entries
+carried : (m : Moment) (t : Treed) (p : Network) (sent : Option (Change Interior)) (m1 : Moment) (entries : List (Entry Value)) → Stands m → IsSent (int_rows m.tree) (int_rows t) p sent → (below : BelowInt sent (int_rows t) (with_tree m t) m1 entries)
+    → Carried m t p (below_best sent (int_rows t) (with_tree m t) m1 entries below) m1 entries
 carried m t p None m1 entries stands same below =
-    subst (λ (n : Moment). Carried m t p n entries) (sym below.0) (subst (λ (es : List (Entry Value)). Carried m t p (with_tree m t) es) (sym below.1) (record { on = carries_none m t p stands same; is = refl }))
+    subst (λ (n : Moment). Carried m t p None n entries) (sym below.0) (subst (λ (es : List (Entry Value)). Carried m t p None (with_tree m t) es) (sym below.1) (record { on = carries_none m t p stands same; is = refl }))
 carried m t p (Some change) m1 entries stands sent below = record { on = carries_change m t p change m1 entries stands sent below.0; is = below.1 }
 
 -- ---- what stands where the tree became another
 pub stands_replanted : (m : Moment) (me : Speaker) (t : Treed) (r : Registry Interior) (h : Resolvers) (e : Exited) (x : RibExit) → Stands m → m.declared.speaker ≡ Some me → IsTree t → IsFull t → ((proto : Proto) → length (branch_of proto t).tables.deletions ≤ 16)
     → tables.get r.rows ≡ int_rows t → HopsStand m.chains r h → IsExit x → AgreesWith x r → ExitsStand (replanted m t r h e x) → Stands (replanted m t r h e x)
-stands_replanted m me t r h e x stands since tree full few registered hops sound agree exits = record { own = own; at = at }
-  where
-    own : (claim : Claim) → Claims (replanted m t r h e x) claim
-    own InteriorTree = record { tree = tree; full = full; few = few; waiting = λ none. absurd (let contra : Some me ≡ None = sym since ∙ none in cc) }
-    own EachResolver = hops.sound
-    own SameResolvers = hops.same
-    own AnswersAgree = hops.agree
-    own HopsCounted = hops.counted
-    own NoStrangers = hops.strangers
-    own EachRow = exits.rows
-    own EachExit = exits.each
-    own QueueLeads = exits.all
-    own ExitsRead = exits.read
-    own SameProfile = exits.profile
-    own OneSender = exits.sender
-    own SameSessions = exits.sessions
-    own OneReader = exits.one
-    own ExternalExit = sound
-    own ExternalAgrees = agree
-    own ExternalStands = exits.external
-    own NothingExternal = λ none. absurd (let contra : Some me ≡ None = sym since ∙ none in cc)
-    own other = stands.own other
-
-    at : (p : Network) (tie : Tie) → Ties (here (replanted m t r h e x) p) tie
-    at p Registered = ap (λ (rows : Rows Interior). rows p) registered
+stands_replanted m me t r h e x stands since tree full few registered hops sound agree exits = record {
+  peers = stands.peers;
+  interior = record { tree = tree; full = full; few = few; waiting = λ none. absurd (let contra : Some me ≡ None = sym since ∙ none in cc) };
+  registered = registered;
+  hops = hops;
+  exits = exits;
+  external = record {
+    sound = sound;
+    agree = agree;
+  };
+  waits = record { own = stands.waits.own; external = λ none. absurd (let contra : Some me ≡ None = sym since ∙ none in cc) };
+}
 
 -- the live state, where the part of a protocol became another: one that lost nothing more, one whose routes stay too, and one that
 -- was lost
@@ -287,47 +248,56 @@ live_lost m proto b i = record (live_state m) {
 }
 
 -- ---- a change, what follows it, and the weld
--- What was made of the branch of a protocol, and what stands after all of it.
-pub record Routes (m : Moment) (proto : Proto) (b : Branch) (p : Network) (way : List Link) (m' : Moment) (said : List Line) : Type 0 where
-  pub falls : FallsRoute m (put_branch proto b m.tree) proto p way said m'
-  pub followed : Moment
+-- as the calls make it, one after the other
+pub route_fell : (m : Moment) (new : Treed) (proto : Proto) (p : Network) (way : List Link) (sent : Option (Change Interior)) (t : Treed) (m' : Moment) (before j now : Journaled) → t ≡ new → IsSent (int_rows m.tree) (int_rows t) p sent
+    → Adds (FallsTree m.tree t p way sent) before j → Adds (Settles proto sent (with_tree m t) m') j now → Pushes (λ said. FallsRoute m new proto p way said m') before now
+route_fell m new proto p way sent t m' before j now at rows adds settled = (
+  journal_lines (adds.0 ++ settled.0),
+  adds_both before j now adds.0 settled.0 adds.1 settled.1,
+  subst (λ (x : Treed). FallsRoute m x proto p way (journal_lines (adds.0 ++ settled.0)) m') at (record {
+    sent = sent;
+    entries = adds.0;
+    falls = adds.2;
+    rows = rows;
+    followed = settled.2.followed;
+    below = settled.2.below;
+    below_int = settled.2.below_int;
+    lines = ap (λ (es : List (Entry Value)). journal_lines (adds.0 ++ es)) settled.2.lines;
+    welds = settled.2.welds;
+    after = settled.2.after;
+  }),
+)
+
+-- What stands after a change of the branch of a protocol, and what was said.
+pub record Routes (m : Moment) (proto : Proto) (b : Branch) (p : Network) (followed : Moment) (best : Option (Change Route)) (m' : Moment) (said : List Line) : Type 0 where
   pub is : m' ≡ replanted m (put_branch proto (welded_branch b) m.tree) followed.registry followed.hops followed.exits followed.rib
-  pub best : Option (Change Route)
   pub queued : Queues best m.exits m'.exits
+  pub chosen : IsSent (best_of m) (best_of m') p best
   pub leads : Leads (router_links m) (entries_of said) (router_links m')
   pub stands : Stands m'
   pub heard : IsHeard m said m'
 
-pub routes_on : (m : Moment) (me : Speaker) (proto : Proto) (b : Branch) (p : Network) (way : List Link) (sent : Option (Change Interior)) (t : Treed) (m' : Moment) (before j now : Journaled) → Stands m → m.declared.speaker ≡ Some me
-    → t ≡ put_branch proto b m.tree → length b.tables.deletions ≤ 16 → IsSent (int_rows m.tree) (int_rows t) p sent → Adds (FallsTree m.tree t p way sent) before j → Adds (Settles proto sent (with_tree m t) m') j now
-    → Pushes (Routes m proto b p way m') before now
-routes_on m me proto b p way sent t m' before j now stands since at few rows adds settled = (
-  journal_lines all,
-  settled.1 ∙ ap (λ (x : Journaled). with_entries x settled.0) adds.1 ∙ with_entries_append before entries settled.0 ∙ ap (λ (es : List (Entry Value)). with_entries before (entries ++ es)) settles.lines,
-  record {
-    falls = subst (λ (x : Treed). FallsRoute m x proto p way (journal_lines all) m') at falls;
-    followed = f;
-    is = is ∙ ap (λ (x : Treed). replanted m x f.registry f.hops f.exits f.rib) branch;
-    best = on.best;
-    queued = queued;
-    leads = subst (λ (es : List (Entry Value)). Leads (router_links m) es (router_links m')) (sym (entries_of_entries all)) leads;
-    stands = subst Stands (sym is) stands_then;
-    heard = heard_quiet m m' (journal_lines all)
-        (unheard_joins entries (below ++ weld) (others_are_unheard InteriorRoutes (tree_links m.tree) (tree_links t) entries refl (tree_leads m.tree t entries adds.2.leads))
-        (unheard_joins below weld (below_unheard sent (int_rows t) (with_tree m t) f below settles.below_int)
-        (others_are_unheard InteriorRoutes (tree_links t) (tree_links welded) weld refl (tree_leads t welded weld settles.leads))))
-        (queue_views on.best m.exits m'.exits queued);
-  },
-)
+-- the change of `best` that came of it
+abbrev pub fell_best : (m : Moment) (new : Treed) (proto : Proto) (p : Network) (way : List Link) (said : List Line) (m' : Moment) → FallsRoute m new proto p way said m' → Option (Change Route)
+fell_best m new proto p way said m' f = below_best f.sent (int_rows new) (with_tree m new) f.followed f.below f.below_int
+
+pub routes_on : (m : Moment) (me : Speaker) (proto : Proto) (b : Branch) (p : Network) (way : List Link) (said : List Line) (m' : Moment) → Stands m → m.declared.speaker ≡ Some me → length b.tables.deletions ≤ 16
+    → (f : FallsRoute m (put_branch proto b m.tree) proto p way said m') → Routes m proto b p f.followed (fell_best m (put_branch proto b m.tree) proto p way said m' f) m' said
+routes_on m me proto b p way said m' stands since few f = record {
+  is = is ∙ ap (λ (y : Treed). replanted m y x.registry x.hops x.exits x.rib) branch;
+  queued = queued;
+  chosen = subst (λ (y : Moment). IsSent (best_of m) (best_of y) p best) (sym is) chosen;
+  leads = subst (λ (es : List (Entry Value)). Leads (router_links m) es (router_links m')) (sym (ap entries_of f.lines ∙ entries_of_entries all)) leads;
+  stands = subst Stands (sym is) stands_then;
+  heard = heard_quiet m m' said
+      (subst AreUnheard (sym f.lines) (unheard_joins f.entries (f.below ++ weld) (others_are_unheard InteriorRoutes (tree_links m.tree) (tree_links t) f.entries refl (tree_leads m.tree t f.entries f.falls.leads))
+      (unheard_joins f.below weld (below_unheard f.sent (int_rows t) (with_tree m t) x f.below f.below_int)
+      (others_are_unheard InteriorRoutes (tree_links t) (tree_links welded) weld refl (tree_leads t welded weld f.welds.leads)))))
+      (queue_views best m.exits m'.exits queued);
+}
   where
-    settles : Settles proto sent (with_tree m t) m' settled.0
-    settles = settled.2
-
-    entries : List (Entry Value)
-    entries = adds.0
-
-    below : List (Entry Value)
-    below = settles.below
+    t : Treed
+    t = put_branch proto b m.tree
 
     welded : Treed
     welded = welded_tree proto t
@@ -336,86 +306,59 @@ routes_on m me proto b p way sent t m' before j now stands since at few rows add
     weld = tree_weld_entries proto t
 
     all : List (Entry Value)
-    all = entries ++ (below ++ weld)
+    all = f.entries ++ (f.below ++ weld)
 
     -- what followed, before the weld
-    f : Moment
-    f = settles.followed
+    x : Moment
+    x = f.followed
 
-    c : Carried m t p f below
-    c = carried m t p sent f below stands rows settles.below_int
+    best : Option (Change Route)
+    best = below_best f.sent (int_rows t) (with_tree m t) x f.below f.below_int
 
-    on : CarriesOn m t p f.registry f.hops f.exits f.rib below
+    c : Carried m t p best x f.below
+    c = carried m t p f.sent x f.below stands f.rows f.below_int
+
+    on : CarriesOn m t p best x.registry x.hops x.exits x.rib f.below
     on = c.on
 
     then : Moment
-    then = replanted m welded f.registry f.hops f.exits f.rib
+    then = replanted m welded x.registry x.hops x.exits x.rib
 
     is : m' ≡ then
-    is = settles.after ∙ ap (λ (x : Moment). with_tree x welded) c.is
+    is = f.after ∙ ap (λ (y : Moment). with_tree y welded) c.is
 
     branch : welded ≡ put_branch proto (welded_branch b) m.tree
-    branch = ap (welded_tree proto) at ∙ welded_put proto b m.tree
+    branch = welded_put proto b m.tree
 
-    queued : Queues on.best m.exits m'.exits
-    queued = subst (λ (x : Moment). Queues on.best m.exits x.exits) (sym is) on.queued
-
-    falls : FallsRoute m t proto p way (journal_lines all) m'
-    falls = record {
-      sent = sent;
-      entries = entries;
-      falls = adds.2;
-      rows = rows;
-      followed = f;
-      below = below;
-      below_int = settles.below_int;
-      lines = refl;
-      int = settles.int;
-      after = settles.after;
-    }
+    queued : Queues best m.exits m'.exits
+    queued = subst (λ (y : Moment). Queues best m.exits y.exits) (sym is) on.queued
 
     leads : Leads (router_links m) all (router_links m')
     leads =
-        subst (λ (x : Moment). Leads (router_links m) all (router_links x)) (sym is)
-        (leads_append (router_links m) (joined (grown m t)) (router_links then) entries (below ++ weld) (leads_down m me since t entries adds.2.leads)
-        (leads_append (joined (grown m t)) (router_links (replanted m t f.registry f.hops f.exits f.rib)) (router_links then) below weld on.leads
-        (leads_above (replanted m t f.registry f.hops f.exits f.rib) me since welded weld settles.leads settles.int)))
+        subst (λ (y : Moment). Leads (router_links m) all (router_links y)) (sym is)
+        (leads_append (router_links m) (joined (grown m t)) (router_links then) f.entries (f.below ++ weld) (leads_down m me since t f.entries f.falls.leads)
+        (leads_append (joined (grown m t)) (router_links (replanted m t x.registry x.hops x.exits x.rib)) (router_links then) f.below weld on.leads
+        (leads_above (replanted m t x.registry x.hops x.exits x.rib) me since welded weld f.welds.leads f.welds.int)))
 
     few_then : (other : Proto) → length (branch_of other welded).tables.deletions ≤ 16
-    few_then = subst (λ (x : Treed). (other : Proto) → length (branch_of other x).tables.deletions ≤ 16) (sym branch)
-        (put_all (λ (x : Branch). length x.tables.deletions ≤ 16) proto (welded_branch b) m.tree (let less = few_filter (λ d. not (is_empty_map d.rows)) b.tables.deletions in omega (arith, few, less)) (stands.own InteriorTree).few)
+    few_then = subst (λ (y : Treed). (other : Proto) → length (branch_of other y).tables.deletions ≤ 16) (sym branch)
+        (put_all (λ (y : Branch). length y.tables.deletions ≤ 16) proto (welded_branch b) m.tree (let less = few_filter (λ d. not (is_empty_map d.rows)) b.tables.deletions in omega (arith, few, less)) stands.interior.few)
 
-    registered : tables.get f.registry.rows ≡ int_rows welded
-    registered = keeps_up sent (int_rows m.tree) (int_rows t) (with_tree m t) f below p settles.below_int (registered_rows m stands) rows ∙ sym settles.int
+    registered : tables.get x.registry.rows ≡ int_rows welded
+    registered = keeps_up f.sent (int_rows m.tree) (int_rows t) (with_tree m t) x f.below p f.below_int stands.registered f.rows ∙ sym f.welds.int
 
-    chosen : IsSent (best_of m) (best_of then) p on.best
-    chosen = subst (λ (int : Rows Interior). IsSent (best_of m) (best_at (own_rows m.declared.speaker m.redist int) m.chains f.hops) p on.best) (sym settles.int) on.chosen
+    chosen : IsSent (best_of m) (best_of then) p best
+    chosen = subst (λ (int : Rows Interior). IsSent (best_of m) (best_at (own_rows m.declared.speaker m.redist int) m.chains x.hops) p best) (sym f.welds.int) on.chosen
 
     stands_then : Stands then
-    stands_then = stands_replanted m me welded f.registry f.hops f.exits f.rib stands since settles.tree settles.full few_then registered on.hops on.sound on.agree
-        (exits_fall m then on.best p stands (stands.own EachRow) on.queued chosen refl refl refl on.over)
+    stands_then = stands_replanted m me welded x.registry x.hops x.exits x.rib stands since f.welds.tree f.welds.full few_then registered on.hops on.sound on.agree
+        (exits_fall m then best p stands stands.exits.rows on.queued chosen refl refl refl on.over)
 
 -- ---- a route that is set, or goes
-pub routed : (m : Moment) (proto : Proto) (p : Network) (new : Option Interior) (sent : Option (Change Interior)) (t : Treed) (m' : Moment) (before j now : Journaled) → Stands m → IsSome m.declared.speaker
-    → t ≡ fed_tree m.tree proto p new → IsSent (int_rows m.tree) (int_rows t) p sent → Adds (FallsTree m.tree t p (way_of_route proto m.tree) sent) before j → Adds (Settles proto sent (with_tree m t) m') j now
-    → Pushes (HasRouted m (fed_tree m.tree proto p new) proto p (way_of_route proto m.tree) (interior_fed (live_state m) proto (live_after (branch_of proto m.tree).tables.live p new)) m') before now
-routed m proto p new sent t m' before j now stands since at rows adds settles = (
-  r.0,
-  r.1,
-  record {
-    falls = r.2.falls;
-    keeps = record { leads = r.2.leads; live = ap live_state r.2.is ∙ live_replanted m proto (welded_branch b) refl; stands = r.2.stands; heard = r.2.heard };
-  },
-)
-  where
-    b : Branch
-    b = fed_branch (branch_of proto m.tree) p new
-
-    few : length b.tables.deletions ≤ 16
-    few = let same = few_fed (branch_of proto m.tree) p new in let was = (stands.own InteriorTree).few proto in omega (arith, same, was)
-
-    me : (me : Speaker) × (m.declared.speaker ≡ Some me)
-    me = speaker_of m.declared.speaker since
-
-    r : Pushes (Routes m proto b p (way_of_route proto m.tree) m') before now
-    r = routes_on m me.0 proto b p (way_of_route proto m.tree) sent t m' before j now stands me.1 at few rows adds settles
+pub routed : (m : Moment) (proto : Proto) (p : Network) (new : Option Interior) (said : List Line) (m' : Moment) → Stands m → IsSome m.declared.speaker → FallsRoute m (fed_tree m.tree proto p new) proto p (way_of_route proto m.tree) said m'
+    → Keeps (interior_fed (live_state m) proto (live_after (branch_of proto m.tree).tables.live p new)) m m' said
+routed m proto p new said m' stands since f =
+    let few : length (fed_branch (branch_of proto m.tree) p new).tables.deletions ≤ 16 = (let same = few_fed (branch_of proto m.tree) p new in let was = stands.interior.few proto in omega (arith, same, was)) in
+    let me = speaker_of m.declared.speaker since in
+    let r = routes_on m me.0 proto (fed_branch (branch_of proto m.tree) p new) p (way_of_route proto m.tree) said m' stands me.1 few f in
+    record { leads = r.leads; live = ap live_state r.is ∙ live_replanted m proto (welded_branch (fed_branch (branch_of proto m.tree) p new)) refl; stands = r.stands; heard = r.heard }

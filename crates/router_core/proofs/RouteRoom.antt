@@ -1,29 +1,16 @@
 -- Room for one more deletion stage of a protocol.
-use Rattle.std.proofs.Common.{◌≡◌, ℕ, Bool, ◌||◌, cond, List, [], map, length, Option, Some, None, nat_lt, refl, sym, ap, subst, ◌∙◌, arith, zero, suc}
+use Rattle.router_core.proofs.Common.{sym, subst, ◌∙◌, ap, ◌≡◌, ℕ, refl, List, arith, Bool, cond, suc, zero, ◌||◌, nat_lt, Journaled, flushed, Line, Task, is_empty_map, no_table, same_by, table_of, swept_one, Proto, Interior, welded_branch, swept_branch, Branch, tree_overdue, Treed, branch_of, RunsFirst, Moment, Gives, Stands, Turns, HasDrained}
+use Rattle.std.proofs.Common.{[], map, length, Option, Some, None}
 use Rattle.std.specs.List.{filter}
-use Rattle.rib_route.specs.declared.Proto.{Proto}
-use Rattle.rib_route.specs.declared.rows.Interior.{Interior}
-use Rattle.link_change.specs.Rows.{is_empty_map}
-use Rattle.journal_text.specs.declared.link.Task.{Task}
 use Rattle.journal_text.specs.declared.link.Task.TheVariants.{Rdel}
-use Rattle.journal_text.specs.declared.line.Line.{Line}
-use Rattle.journal_text.specs.Journals.{Journaled, flushed}
-use Rattle.rib_tree.specs.Branches.{Branch}
 use Rattle.loss_chain.specs.declared.owner.Owner.TheVariants as owners
-use Rattle.loss_chain.specs.Steps.{swept_one, table_of}
-use Rattle.rib_tree.specs.BranchSteps.{swept_branch, welded_branch}
-use Rattle.rib_tree.specs.Trees.{Treed, branch_of}
-use Rattle.rib_tree.specs.Steps.{tree_overdue}
-use Rattle.router_core.specs.Moments.{Moment, Gives}
-use Rattle.router_core.specs.Stands.{Stands, InteriorTree}
 use Rattle.loss_chain.specs.Lost.{Lost}
-use Rattle.router_core.specs.Turns.{Turns}
-use Rattle.router_core.specs.Blocks.{RunsFirst}
-use Rattle.router_core.specs.Works.{HasDrained, HasProtocolRoom}
-use Rattle.loss_chain.proofs.TableLemmas.{is_full, Shorter, shorter_none, shorter_more, free_of, stage_of, no_table, same_by}
+use Rattle.router_core.specs.Works.{HasProtocolRoom}
+use Rattle.loss_chain.proofs.TableLemmas.{is_full, Shorter, shorter_none, shorter_more, free_of, stage_of}
 use Rattle.rib_tree.proofs.BranchLemmas.{put_own}
 use Rattle.rib_tree.proofs.TreeParts.{welded_put}
 use Rattle.router_core.proofs.KeepLemmas.{keeps_none, gives_none}
+use Rattle.router_core.proofs.TurnLaws.{turns_work}
 
 abbrev stages : Proto → Moment → List (Lost Interior)
 stages proto m = (branch_of proto m.tree).tables.deletions
@@ -45,13 +32,13 @@ drained_free proto m room task turns said stands over d =
     let b : Branch = branch_of proto m.tree in
     let stage = stage_of (nat_lt (length b.tables.deletions) 16 || is_empty_map b.tables.live) (owners.Origin b.proto) b.tables.deletions task over in
     let n : ℕ = stage.0.number in
-    let is : task ≡ Rdel proto n = stage.3 ∙ ap (λ (k : Proto). Rdel k n) ((stands.own InteriorTree).tree.placed proto) in
+    let is : task ≡ Rdel proto n = stage.3 ∙ ap (λ (k : Proto). Rdel k n) (stands.interior.tree.placed proto) in
     let drained : HasDrained (Rdel proto n) m turns room said = subst (λ (t : Task). HasDrained t m turns room said) is d in
-    let r = turns_shorter turns proto n m said room drained.run.taken in
+    let r = turns_shorter turns proto n m said room drained.taken in
     let there : table_of n b.tables.deletions ≡ Some stage.0.rows = ap (table_of n) stage.2 ∙ ap (λ (x : Bool). cond x (Some stage.0.rows) (table_of n stage.1)) (same_by n n refl) in
     let none : table_of n (branch_of proto room.tree).tables.deletions ≡ None = no_table (table_of n (branch_of proto room.tree).tables.deletions) drained.ended in
     let less = r.gone stage.0.rows there none in
-    let few = (stands.own InteriorTree).few proto in
+    let few = stands.interior.few proto in
     free_of (owners.Origin (branch_of proto room.tree).proto) (branch_of proto room.tree).tables (omega (arith, less, few))
 
 pub protocol_room_drained : (proto : Proto) (m room : Moment) (task : Task) (turns : ℕ) (before now : Journaled) → Stands m → Some task ≡ tree_overdue proto m.tree → Gives (HasDrained task m turns room) before now
@@ -60,8 +47,8 @@ protocol_room_drained proto m room task turns before now stands over g = (
   g.0,
   g.1,
   record {
-    runs = subst (λ (o : Option Task). RunsFirst o m g.0 room) over (turns, (g.2.run.taken, g.2.ended));
-    keeps = g.2.run.work.keeps;
+    runs = subst (λ (o : Option Task). RunsFirst o m g.0 room) over (turns, (g.2.taken, g.2.ended));
+    keeps = (turns_work turns task m g.0 room stands g.2.taken).keeps;
     free = drained_free proto m room task turns g.0 stands (sym over) g.2;
   },
 )

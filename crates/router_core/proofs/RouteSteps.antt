@@ -1,45 +1,35 @@
 -- What each event of the interior routes comes to.
-use Rattle.std.proofs.Common.{◌≡◌, ℕ, Bool, true, false, [], ◌∷◌, Some, None, Result, is_some, refl, sym, subst}
+use Rattle.router_core.proofs.Common.{sym, subst, ◌≡◌, ℕ, refl, true, false, Bool, Network, RouteAdd, RouteDel, Journaled, flushed, with_lines, no_table, Proto, Interior, branch_of, DropsRouteIf, live_state, Moment, Gives, Stands, Pushes, HasStepped}
+use Rattle.std.proofs.Common.{[], ◌∷◌, Some, None, Result, is_some}
 use Rattle.std.specs.Result.{IfOk}
 use Rattle.std.specs.FinMap as tables
-use Rattle.addr4.specs.Prefixes.{Network}
-use Rattle.rib_route.specs.declared.Proto.{Proto}
-use Rattle.rib_route.specs.declared.rows.Interior.{Interior}
 use Rattle.link_change.proofs.RowLemmas.{remove_absent}
 use Rattle.journal_text.specs.declared.line.Line.TheVariants as lines
-use Rattle.journal_text.specs.Journals.{Journaled, with_lines, flushed}
-use Rattle.event_text.specs.declared.event.Event.TheVariants.{RouteAdd, RouteDel}
-use Rattle.loss_chain.specs.Steps.{live_after}
-use Rattle.loss_chain.proofs.TableLemmas.{no_table}
-use Rattle.rib_tree.specs.Trees.{branch_of}
-use Rattle.rib_tree.specs.Falls.{way_of_route}
-use Rattle.rib_tree.specs.Steps.{fed_tree}
-use Rattle.router_core.specs.Moments.{Moment, Gives}
 use Rattle.live_state.specs.Lives.{interior_fed}
-use Rattle.router_core.specs.Lives.{live_state}
-use Rattle.router_core.specs.Stands.{Stands}
-use Rattle.router_core.specs.Blocks.{DropsRouteIf}
-use Rattle.router_core.specs.Works.{HasRouted, HasStepped, Pushes}
+use Rattle.router_core.specs.Works.{SetsRoute}
 use Rattle.live_state.proofs.AdmittedLemmas.{live_as_it_was}
 use Rattle.router_core.proofs.KeepLemmas.{gives_pushed, ignores}
+use Rattle.router_core.proofs.RouteLemmas.{routed}
+use Rattle.std.specs.Prelude.{IsSome}
 
 -- ---- `route add` and `route del`
-pub route_added : (p : Network) (row : Interior) (m m' : Moment) (before j now : Journaled)
-    → Pushes (HasRouted m (fed_tree m.tree row.proto p (Some row)) row.proto p (way_of_route row.proto m.tree) (interior_fed (live_state m) row.proto (live_after (branch_of row.proto m.tree).tables.live p (Some row))) m') before j
+pub route_added : (p : Network) (row : Interior) (m m' : Moment) (before j now : Journaled) → Stands m → IsSome m.declared.speaker → Pushes (λ said. SetsRoute m row.proto p (Some row) said m') before j
     → now ≡ flushed j → Gives (HasStepped m (RouteAdd p row) 0 m') before now
-route_added p row m m' before j now u is = gives_pushed (HasRouted m (fed_tree m.tree row.proto p (Some row)) row.proto p (way_of_route row.proto m.tree) (interior_fed (live_state m) row.proto (live_after (branch_of row.proto m.tree).tables.live p (Some row))) m')
-    (HasStepped m (RouteAdd p row) 0 m') (λ xs h. record { block = (refl, h.falls); live = interior_fed (live_state m) row.proto (tables.insert (branch_of row.proto m.tree).tables.live p row); after = refl; keeps = h.keeps }) before j now u is
+route_added p row m m' before j now stands since u is = gives_pushed (λ said. SetsRoute m row.proto p (Some row) said m') (HasStepped m (RouteAdd p row) 0 m') (λ xs f. record {
+  block = (refl, f);
+  live = interior_fed (live_state m) row.proto (tables.insert (branch_of row.proto m.tree).tables.live p row);
+  after = refl;
+  keeps = routed m row.proto p (Some row) xs m' stands since f;
+}) before j now u is
 
-pub route_dropped : (proto : Proto) (p : Network) (m m' : Moment) (before j now : Journaled) → is_some (tables.get (branch_of proto m.tree).tables.live p) ≡ true
-    → Pushes (HasRouted m (fed_tree m.tree proto p None) proto p (way_of_route proto m.tree) (interior_fed (live_state m) proto (live_after (branch_of proto m.tree).tables.live p None)) m') before j
+pub route_dropped : (proto : Proto) (p : Network) (m m' : Moment) (before j now : Journaled) → Stands m → IsSome m.declared.speaker → is_some (tables.get (branch_of proto m.tree).tables.live p) ≡ true → Pushes (λ said. SetsRoute m proto p None said m') before j
     → now ≡ flushed j → Gives (HasStepped m (RouteDel proto p) 0 m') before now
-route_dropped proto p m m' before j now has u is = gives_pushed (HasRouted m (fed_tree m.tree proto p None) proto p (way_of_route proto m.tree) (interior_fed (live_state m) proto (live_after (branch_of proto m.tree).tables.live p None)) m')
-    (HasStepped m (RouteDel proto p) 0 m') (λ xs h. record {
-      block = subst (λ (b : Bool). DropsRouteIf b proto p m xs 0 m') (sym has) (refl, h.falls);
-      live = interior_fed (live_state m) proto (tables.remove (branch_of proto m.tree).tables.live p);
-      after = refl;
-      keeps = h.keeps;
-    }) before j now u is
+route_dropped proto p m m' before j now stands since has u is = gives_pushed (λ said. SetsRoute m proto p None said m') (HasStepped m (RouteDel proto p) 0 m') (λ xs f. record {
+  block = subst (λ (b : Bool). DropsRouteIf b proto p m xs 0 m') (sym has) (refl, f);
+  live = interior_fed (live_state m) proto (tables.remove (branch_of proto m.tree).tables.live p);
+  after = refl;
+  keeps = routed m proto p None xs m' stands since f;
+}) before j now u is
 
 pub nothing_dropped : {X : Type 0} (result : Result ℕ X) (proto : Proto) (p : Network) (m : Moment) (before now : Journaled) → Stands m → is_some (tables.get (branch_of proto m.tree).tables.live p) ≡ false
     → IfOk result (λ turns. (turns ≡ 0) × (now ≡ flushed (with_lines before (lines.Ignored ∷ [])))) → IfOk result (λ turns. Gives (HasStepped m (RouteDel proto p) turns m) before now)

@@ -1,43 +1,22 @@
 -- One turn of the stage of a protocol's loss.
-use Rattle.std.proofs.Common.{◌≡◌, ℕ, ◌+◌, ◌≤◌, List, length, Option, Some, None, IsSome, is_some, Result, IfOk, refl, sym, ap, subst, ◌∙◌, arith}
-use Rattle.std.proofs.lemmas.Result.{IfOk-weaker}
-use Rattle.std.specs.FinMap.{FinMap}
-use Rattle.addr4.specs.Prefixes.{Network, prefix_cmp}
-use Rattle.bgp_attr.specs.declared.speaker.Speaker.{Speaker}
-use Rattle.rib_route.specs.declared.Proto.{Proto}
-use Rattle.rib_route.specs.declared.rows.Interior.{Interior}
-use Rattle.link_change.specs.declared.change.Change.{Change}
-use Rattle.link_change.specs.declared.turn.Turn.{Turn}
+use Rattle.router_core.proofs.Common.{sym, subst, ◌∙◌, ap, ◌≡◌, ℕ, refl, List, arith, ◌+◌, ◌≤◌, IfOk-weaker, FinMap, Network, prefix_cmp, Speaker, known_in, Journaled, flushed, Adds, with_entries, Entry, Line, Value, Rows, Change, Turn, table_of, swept_one, Proto, Interior, of_new, welded_branch, swept_branch, Branch, welded_tree, int_rows, Treed, branch_of, tree_count, live_state, Moment, with_tree, tree_beyond, Stands, BelowInt, FallsRoute, TakesTurn, IsWork, Done, Taken}
+use Rattle.std.proofs.Common.{length, Option, Some, None, IsSome, is_some, Result, IfOk}
 use Rattle.link_change.specs.declared.turn.Turn.TheVariants.{Quiet, Sent}
 use Rattle.journal_text.specs.declared.link.Task.TheVariants.{Rdel}
-use Rattle.journal_text.specs.declared.entry.Entry.{Entry}
-use Rattle.journal_text.specs.declared.value.Value.{Value}
-use Rattle.journal_text.specs.Journals.{Journaled, Adds, with_entries, flushed}
-use Rattle.rib_tree.specs.Branches.{Branch}
-use Rattle.rib_tree.specs.BranchSteps.{welded_branch, swept_branch}
-use Rattle.loss_chain.specs.Steps.{swept_one, table_of}
-use Rattle.link_change.specs.Rows.{Rows}
-use Rattle.hop_side.specs.Resolvers.{known_in}
 use Rattle.rib_exit.specs.Exits.{known_in as external_known}
-use Rattle.rib_tree.specs.Trees.{Treed, branch_of, tree_count, int_rows}
-use Rattle.router_core.specs.Turns.{BelowInt}
+use Rattle.router_core.specs.Turns.{IsRouteTurn}
 use Rattle.rib_tree.specs.Falls.{way_of_sweep}
-use Rattle.rib_tree.specs.Laws.{TurnsTakeRows, WeldsKeepRows}
-use Rattle.rib_tree.specs.Steps.{SweepsTree, IsTakenTree, swept_tree, welded_tree}
-use Rattle.router_core.specs.declared.router.Done.{Done}
-use Rattle.router_core.specs.declared.router.Done.TheVariants.{Nothing, Taken}
-use Rattle.router_core.specs.Moments.{Moment, with_tree}
-use Rattle.router_core.specs.Lives.{live_state}
-use Rattle.router_core.specs.Stands.{Stands, InteriorTree}
-use Rattle.router_core.specs.Works.{Settles, Turned, IsUnit, Comes, Pushes}
+use Rattle.rib_tree.specs.Steps.{SweepsTree, IsTakenTree, swept_tree}
+use Rattle.router_core.specs.declared.router.Done.TheVariants.{Nothing}
+use Rattle.router_core.specs.Works.{Turned}
 use Rattle.loss_chain.proofs.TableLemmas.{few_map}
-use Rattle.router_core.proofs.RouteLemmas.{Routes, routes_on, live_stays}
+use Rattle.router_core.proofs.RouteLemmas.{Routes, routes_on, live_stays, route_fell, fell_best}
 use Rattle.router_core.specs.declared.router.Phase.TheVariants.{Rdel as RdelPhase}
 use Rattle.router_core.proofs.SpendLemmas.{Spent}
-use Rattle.router_core.specs.Phases.{tree_beyond}
 use Rattle.router_core.proofs.BeyondLemmas.{sweep_beyond}
 use Rattle.router_core.proofs.CountLemmas.{tree_spends}
-use Rattle.rib_tree.proofs.NewLemmas.{of_new}
+use Rattle.rib_tree.proofs.CountLemmas.{turn_takes_row, weld_keeps_rows}
+use Rattle.router_core.proofs.WorkLemmas.{one_turn}
 
 -- ---- what follows a change of `int` asks for no next hop
 below_knows : (sent : Option (Change Interior)) (int : Rows Interior) (m m' : Moment) (entries : List (Entry Value)) → BelowInt sent int m m' entries → (known_in m'.hops ≤ known_in m.hops) × (external_known m'.rib ≤ external_known m.rib)
@@ -50,7 +29,7 @@ since_local m proto n table stands there = by_speaker m.declared.speaker refl
   where
     by_speaker : (s : Option Speaker) → m.declared.speaker ≡ s → (me : Speaker) × (m.declared.speaker ≡ Some me)
     by_speaker None at =
-        let none : table_of n (branch_of proto m.tree).tables.deletions ≡ None = ap (λ (t : Treed). table_of n (branch_of proto t).tables.deletions) ((stands.own InteriorTree).waiting at) ∙ of_new (λ b. table_of n b.tables.deletions ≡ None) (λ k. refl) proto in
+        let none : table_of n (branch_of proto m.tree).tables.deletions ≡ None = ap (λ (t : Treed). table_of n (branch_of proto t).tables.deletions) (stands.interior.waiting at) ∙ of_new (λ b. table_of n b.tables.deletions ≡ None) (λ k. refl) proto in
         absurd (let contra : Some table ≡ None = sym there ∙ none in cc)
     by_speaker (Some me) at = (me, at)
 
@@ -66,85 +45,69 @@ sent_since m v proto n turn change t before j view stands is taken =
     let adds : Adds (SweepsTree v.tree t proto n (Some change)) before j = subst (IsTakenTree v.tree t (Rdel proto n) before j) is taken in
     ap is_some (since_local v proto n adds.2.table (subst Stands (sym view) stands) adds.2.stands).1
 
--- ---- the turn
-pub route_unit : TurnsTakeRows → WeldsKeepRows → (m : Moment) (proto : Proto) (n : ℕ) (sent : Option (Change Interior)) (t : Treed) (m' : Moment) (before j j' : Journaled) → Stands m → Adds (SweepsTree m.tree t proto n sent) before j
-    → Adds (Settles proto sent (with_tree m t) m') j j' → Pushes (IsUnit (Rdel proto n) m m') before j'
-route_unit take keep m proto n sent t m' before j j' stands adds settles = (
-  r.0,
-  r.1,
-  record {
-    turn = record { prefix = sweeps.prefix; row = sweeps.row; table = sweeps.table; stands = sweeps.stands; least = sweeps.least; falls = r.2.falls };
-    work = record {
-      keeps = record { leads = r.2.leads; live = lives; stands = r.2.stands; heard = r.2.heard };
-      falls = spent.0;
-      left = spent.1;
-      earlier = spent.2;
-      rows = spent.3;
-      known = known;
-      stale = tt;
-      unread = spent.4;
-    };
-  },
-)
+-- ---- what a turn does
+pub route_works : (proto : Proto) (n : ℕ) (m : Moment) (said : List Line) (m' : Moment) → Stands m → IsRouteTurn proto n m said m' → IsWork RdelPhase 1 m m' said
+route_works proto n m said m' stands t = one_turn RdelPhase m m' m' said refl (record { leads = r.leads; live = lives; stands = r.stands; heard = r.heard }) spent known tt
   where
-    entries : List (Entry Value)
-    entries = adds.0
-
-    sweeps : SweepsTree m.tree t proto n sent entries
-    sweeps = adds.2
-
     p : Network
-    p = sweeps.prefix
+    p = t.prefix
+
+    f : FallsRoute m (swept_tree proto n p m.tree) proto p (way_of_sweep proto n m.tree) said m'
+    f = t.falls
 
     me : (me : Speaker) × (m.declared.speaker ≡ Some me)
-    me = since_local m proto n sweeps.table stands sweeps.stands
+    me = since_local m proto n t.table stands t.stands
 
     b : Branch
     b = swept_branch n p (branch_of proto m.tree)
 
     few : length b.tables.deletions ≤ 16
-    few = let same = few_map (swept_one n p) (branch_of proto m.tree).tables.deletions in let was = (stands.own InteriorTree).few proto in omega (arith, same, was)
+    few = let same = few_map (swept_one n p) (branch_of proto m.tree).tables.deletions in let was = stands.interior.few proto in omega (arith, same, was)
 
-    r : Pushes (Routes m proto b p (way_of_sweep proto n m.tree) m') before j'
-    r = routes_on m me.0 proto b p (way_of_sweep proto n m.tree) sent t m' before j j' stands me.1 sweeps.after few sweeps.rows (entries, adds.1, sweeps.fall) settles
+    r : Routes m proto b p f.followed (fell_best m (swept_tree proto n p m.tree) proto p (way_of_sweep proto n m.tree) said m' f) m' said
+    r = routes_on m me.0 proto b p (way_of_sweep proto n m.tree) said m' stands me.1 few f
 
     lives : live_state m' ≡ live_state m
-    lives = ap live_state r.2.is ∙ live_stays m proto (welded_branch b) refl refl
+    lives = ap live_state r.is ∙ live_stays m proto (welded_branch b) refl refl
+
+    welded : m'.tree ≡ welded_tree proto (swept_tree proto n p m.tree)
+    welded = ap (λ (x : Moment). x.tree) f.after
 
     fewer : tree_count m'.tree + 1 ≡ tree_count m.tree
     fewer =
-        let one = take m.tree proto n p sweeps.table sweeps.row (stands.own InteriorTree).tree sweeps.stands sweeps.least.0 in
-        let same : tree_count m'.tree ≡ tree_count (swept_tree proto n p m.tree) =
-        ap (λ (x : Moment). tree_count x.tree) settles.2.after ∙ keep t proto ∙ ap tree_count sweeps.after in
+        let one = turn_takes_row m.tree proto n p t.table t.row stands.interior.tree t.stands t.least.0 in
+        let same : tree_count m'.tree ≡ tree_count (swept_tree proto n p m.tree) = ap tree_count welded ∙ weld_keeps_rows (swept_tree proto n p m.tree) proto in
         omega (arith, one, same)
 
     less : (place : Option Network) → tree_beyond m'.tree place ≤ tree_beyond m.tree place
-    less place = subst (λ (x : Treed). tree_beyond x place ≤ tree_beyond m.tree place) (sym (ap (λ (x : Moment). x.tree) settles.2.after ∙ ap (welded_tree proto) sweeps.after)) (sweep_beyond place proto n p m.tree)
+    less place = subst (λ (x : Treed). tree_beyond x place ≤ tree_beyond m.tree place) (sym welded) (sweep_beyond place proto n p m.tree)
 
     -- what follows asks for no next hop
     known : (known_in m'.hops ≤ known_in m.hops) × (external_known m'.rib ≤ external_known m.rib)
-    known = subst (λ (x : Moment). (known_in x.hops ≤ known_in m.hops) × (external_known x.rib ≤ external_known m.rib)) (sym settles.2.after)
-        (below_knows sent (int_rows t) (with_tree m t) settles.2.followed settles.2.below settles.2.below_int)
+    known = subst (λ (x : Moment). (known_in x.hops ≤ known_in m.hops) × (external_known x.rib ≤ external_known m.rib)) (sym f.after)
+        (below_knows f.sent (int_rows (swept_tree proto n p m.tree)) (with_tree m (swept_tree proto n p m.tree)) f.followed f.below f.below_int)
 
     spent : Spent RdelPhase m m'
-    spent = tree_spends m m' r.2.best (ap (λ (x : Moment). x.chains) r.2.is) (ap (λ (x : Moment). x.redist) r.2.is) r.2.queued lives fewer less
+    spent = tree_spends m m' (fell_best m (swept_tree proto n p m.tree) proto p (way_of_sweep proto n m.tree) said m' f) (ap (λ (x : Moment). x.chains) r.is) (ap (λ (x : Moment). x.redist) r.is) r.queued lives fewer less
 
-pub route_comes : TurnsTakeRows → WeldsKeepRows → (m : Moment) (proto : Proto) (n : ℕ) (sent : Option (Change Interior)) (t : Treed) (m' : Moment) (before j now : Journaled) (done : Done) → Stands m → Adds (SweepsTree m.tree t proto n sent) before j
-    → Turned proto sent (with_tree m t) m' j now done → Comes (Rdel proto n) m m' before now done
-route_comes take keep m proto n sent t m' before j now Nothing stands adds turned = absurd turned
-route_comes take keep m proto n sent t m' before j now Taken stands adds turned =
-    let u = route_unit take keep m proto n sent t m' before j (with_entries j turned.0) stands adds (turned.0, refl, turned.1) in
-    (u.0, turned.2 ∙ ap flushed u.1, u.2)
+-- ---- what the calls make of it
+route_comes : (m : Moment) (proto : Proto) (n : ℕ) (sent : Option (Change Interior)) (t : Treed) (m' : Moment) (before j now : Journaled) (done : Done) → Adds (SweepsTree m.tree t proto n sent) before j
+    → Turned proto sent (with_tree m t) m' j now done → TakesTurn (Rdel proto n) m m' before now done
+route_comes m proto n sent t m' before j now Nothing adds turned = absurd turned
+route_comes m proto n sent t m' before j now Taken adds turned =
+    let s = adds.2 in
+    let fell = route_fell m (swept_tree proto n s.prefix m.tree) proto s.prefix (way_of_sweep proto n m.tree) sent t m' before j (with_entries j turned.0) s.after s.rows (adds.0, adds.1, s.fall) (turned.0, refl, turned.1) in
+    (fell.0, turned.2 ∙ ap flushed fell.1, record { prefix = s.prefix; row = s.row; table = s.table; stands = s.stands; least = s.least; falls = fell.2 })
 
 -- by what came out on `int`
-pub route_quiet : {E : Type 0} → TurnsTakeRows → WeldsKeepRows → (m : Moment) (proto : Proto) (n : ℕ) (turn : Turn Interior) (t : Treed) (m' : Moment) (before j now : Journaled) (result : Result Done E) → Stands m → turn ≡ Quiet
-    → IsTakenTree m.tree t (Rdel proto n) before j turn → IfOk result (Turned proto None (with_tree m t) m' j now) → IfOk result (Comes (Rdel proto n) m m' before now)
-route_quiet take keep m proto n turn t m' before j now result stands is taken turned =
+pub route_quiet : {E : Type 0} → (m : Moment) (proto : Proto) (n : ℕ) (turn : Turn Interior) (t : Treed) (m' : Moment) (before j now : Journaled) (result : Result Done E) → turn ≡ Quiet
+    → IsTakenTree m.tree t (Rdel proto n) before j turn → IfOk result (Turned proto None (with_tree m t) m' j now) → IfOk result (TakesTurn (Rdel proto n) m m' before now)
+route_quiet m proto n turn t m' before j now result is taken turned =
     let adds : Adds (SweepsTree m.tree t proto n None) before j = subst (IsTakenTree m.tree t (Rdel proto n) before j) is taken in
-    IfOk-weaker result (Turned proto None (with_tree m t) m' j now) (Comes (Rdel proto n) m m' before now) (λ done. route_comes take keep m proto n None t m' before j now done stands adds) turned
+    IfOk-weaker result (Turned proto None (with_tree m t) m' j now) (TakesTurn (Rdel proto n) m m' before now) (λ done. route_comes m proto n None t m' before j now done adds) turned
 
-pub route_sent : {E : Type 0} → TurnsTakeRows → WeldsKeepRows → (m : Moment) (proto : Proto) (n : ℕ) (turn : Turn Interior) (change : Change Interior) (t : Treed) (m' : Moment) (before j now : Journaled) (result : Result Done E) → Stands m → turn ≡ Sent change
-    → IsTakenTree m.tree t (Rdel proto n) before j turn → IfOk result (Turned proto (Some change) (with_tree m t) m' j now) → IfOk result (Comes (Rdel proto n) m m' before now)
-route_sent take keep m proto n turn change t m' before j now result stands is taken turned =
+pub route_sent : {E : Type 0} → (m : Moment) (proto : Proto) (n : ℕ) (turn : Turn Interior) (change : Change Interior) (t : Treed) (m' : Moment) (before j now : Journaled) (result : Result Done E) → turn ≡ Sent change
+    → IsTakenTree m.tree t (Rdel proto n) before j turn → IfOk result (Turned proto (Some change) (with_tree m t) m' j now) → IfOk result (TakesTurn (Rdel proto n) m m' before now)
+route_sent m proto n turn change t m' before j now result is taken turned =
     let adds : Adds (SweepsTree m.tree t proto n (Some change)) before j = subst (IsTakenTree m.tree t (Rdel proto n) before j) is taken in
-    IfOk-weaker result (Turned proto (Some change) (with_tree m t) m' j now) (Comes (Rdel proto n) m m' before now) (λ done. route_comes take keep m proto n (Some change) t m' before j now done stands adds) turned
+    IfOk-weaker result (Turned proto (Some change) (with_tree m t) m' j now) (TakesTurn (Rdel proto n) m m' before now) (λ done. route_comes m proto n (Some change) t m' before j now done adds) turned

@@ -1,83 +1,26 @@
 -- Turns one after the other: of a task, of a phase, and of all phases.
-use Rattle.std.proofs.Common.{◌≡◌, ℕ, ◌+◌, ◌<◌, ◌≤◌, true, false, List, [], ◌∷◌, ◌++◌, length, take, drop, get_or, Some, None, refl, sym, ap, subst, ◌∙◌, arith, append_assoc, zero, suc}
-use Rattle.std.proofs.lemmas.List.{append-nil, take_more, drop_more, take_all}
-use Rattle.std.specs.List.{AllByRecursion}
-use Rattle.journal_text.specs.declared.link.Task.{Task}
-use Rattle.journal_text.specs.declared.line.Line.{Line}
-use Rattle.journal_text.specs.Journals.{Journaled, flushed}
+use Rattle.router_core.proofs.Common.{sym, subst, ◌∙◌, ap, ◌≡◌, ℕ, refl, List, true, arith, false, ◌+◌, ◌++◌, ◌≤◌, ◌<◌, suc, zero, take, get_or, take_more, AllByRecursion, known_in, Journaled, flushed, Line, Task, LiveState, rows_in, tree_count, RowsAtRestAreExact, live_state, Moment, Gives, most_unread, bound_of, counts, all_phases, beyonds, fin_sends, most_of, own_sends, nh_sends, earlier, Stands, AllHaveExits, phase_of, Turns, IsTurn, has_work, RunsPhase, Runs, RunsAll, next_task, Keeps, TakesTurn, IsWork, AddsNoRows, HasDrained, RunsOut, Taken, Phase}
+use Rattle.std.proofs.Common.{[], ◌∷◌, length, drop, Some, None, append_assoc}
+use Rattle.std.proofs.lemmas.List.{append-nil, drop_more, take_all}
 use Rattle.loss_chain.proofs.ListLemmas.{all_appended}
 use Rattle.std.specs.FinMap as tables
-use Rattle.in_chain.specs.Laws.{TurnsAreBounded, TurnsAreLeft}
-use Rattle.in_chain.proofs.TurnLemmas.{turns_are_bounded as bounded_turns}
-use Rattle.rib_tree.specs.Trees.{tree_count}
-use Rattle.router_core.specs.declared.router.Phase.{Phase}
+use Rattle.in_chain.proofs.TurnLemmas.{turns_are_bounded as bounded_turns, turns_are_left}
 use Rattle.router_core.specs.declared.router.Phase.TheVariants.{Rdel, Red, Del, Fin, ReadRib, Out}
-use Rattle.hop_side.specs.Resolvers.{known_in}
 use Rattle.rib_exit.specs.Exits.{known_in as external_known}
-use Rattle.peer_side.specs.Peers.{rows_in}
-use Rattle.router_core.specs.Moments.{Moment, most_unread, bound_of, Gives}
-use Rattle.router_core.specs.Lives.{live_state}
-use Rattle.router_core.specs.Stands.{Stands, AllHaveExits, SameCount}
-use Rattle.router_core.specs.Phases.{all_phases, beyonds, counts, earlier, left_from, most_of, reading_of, own_sends, sends_from_red, sends_from_del, sends_from_fin, fin_sends, nh_sends}
-use Rattle.router_core.specs.Turns.{IsTurn, Turns, RunsPhase, RunsAll, phase_of, next_task, has_work, IsOver, IsSettled}
-use Rattle.router_core.specs.Works.{Keeps, AddsNoRows, KnowsNoMore, IsWork, IsUnit, HaveRun, HasDrained, HaveRunOf, HaveDrained, AllHaveDrained}
+use Rattle.router_core.specs.Phases.{left_from, reading_of, sends_from_red, sends_from_del, sends_from_fin}
+use Rattle.router_core.specs.Turns.{IsOver, IsSettled}
+use Rattle.router_core.specs.Works.{HaveDrained, AllHaveDrained}
 use Rattle.router_core.proofs.KeepLemmas.{keeps_none, keeps_on, gives_join, gives_none, gives_so}
 use Rattle.router_core.proofs.MostLemmas.{capped, external_capped, sends_below, own_sends_below, fin_sends_below, few_exits}
 use Rattle.router_core.proofs.ReadingLemmas.{reading_less, readers_within, announced_fits}
 use Rattle.router_core.proofs.CountLemmas.{each_phase, counts_below, changes_below, over_none, none_over}
 use Rattle.router_core.proofs.SpendLemmas.{same_rows}
-use Rattle.router_core.proofs.StaleLemmas.{none_as_before, makes_none, stale_then}
 use Rattle.router_core.proofs.NextLemmas.{next_works}
 use Rattle.router_core.proofs.SettledLemmas.{settled_is_exact}
 use Rattle.router_core.proofs.TurnWalks.{phases_same, all_have_on}
-use Rattle.router_core.specs.Laws.{RowsAtRestAreExact, OnlyWorkHoldsUp}
-use Rattle.live_state.specs.Lives.{LiveState}
-
--- ---- work
-none_more : (m : Moment) (es : List Phase) → AllByRecursion (λ e. counts m e ≤ counts m e) es
-none_more m [] = tt
-none_more m (e ∷ es) = (omega arith, none_more m es)
-
-work_none : (r : Phase) (m : Moment) → Stands m → IsWork r 0 m m []
-work_none r m stands = record { keeps = keeps_none m stands; falls = omega arith; left = omega arith; earlier = none_more m (earlier r); rows = same_rows m m refl refl; known = none_known r; stale = makes_none r m m (none_as_before m m refl refl); unread = omega arith }
-  where
-    none_known : (e : Phase) → KnowsNoMore e m m
-    none_known Del = (omega arith, omega arith)
-    none_known Fin = omega arith
-    none_known ReadRib = omega arith
-    none_known other = (omega arith, omega arith)
-
-no_more_then : (a b c : Moment) (es : List Phase) → AllByRecursion (λ e. counts b e ≤ counts a e) es → AllByRecursion (λ e. counts c e ≤ counts b e) es → AllByRecursion (λ e. counts c e ≤ counts a e) es
-no_more_then a b c [] x y = tt
-no_more_then a b c (e ∷ es) x y = (let p = x.0 in let q = y.0 in omega (arith, p, q), no_more_then a b c es x.1 y.1)
-
-rows_then : (a b c : Moment) → AddsNoRows a b → AddsNoRows b c → AddsNoRows a c
-rows_then a b c x y = record {
-  peers = let p = x.peers in let q = y.peers in omega (arith, p, q);
-  protocols = let p = x.protocols in let q = y.protocols in omega (arith, p, q);
-}
-
-both_less : (a b c : Moment) → (known_in b.hops ≤ known_in a.hops) × (external_known b.rib ≤ external_known a.rib) → (known_in c.hops ≤ known_in b.hops) × (external_known c.rib ≤ external_known b.rib)
-    → (known_in c.hops ≤ known_in a.hops) × (external_known c.rib ≤ external_known a.rib)
-both_less a b c x y = (let p = x.0 in let q = y.0 in omega (arith, p, q), let p = x.1 in let q = y.1 in omega (arith, p, q))
-
-known_then : (r : Phase) (a b c : Moment) → KnowsNoMore r a b → KnowsNoMore r b c → KnowsNoMore r a c
-known_then Del a b c x y = both_less a b c x y
-known_then Fin a b c x y = omega (arith, x, y)
-known_then ReadRib a b c x y = omega (arith, x, y)
-known_then other a b c x y = both_less a b c x y
-
-work_join : (r : Phase) (n k : ℕ) (a b c : Moment) (xs ys : List Line) → IsWork r n a b xs → IsWork r k b c ys → IsWork r (n + k) a c (xs ++ ys)
-work_join r n k a b c xs ys x y = record {
-  keeps = keeps_on a b c xs ys (live_state a) refl x.keeps y.keeps;
-  falls = let p = x.falls in let q = y.falls in omega (arith, p, q);
-  left = let p = x.left in let q = y.left in omega (arith, p, q);
-  earlier = no_more_then a b c (earlier r) x.earlier y.earlier;
-  rows = rows_then a b c x.rows y.rows;
-  known = known_then r a b c x.known y.known;
-  stale = stale_then r a b c x.stale y.stale;
-  unread = let p = x.unread in let q = y.unread in omega (arith, p, q);
-}
+use Rattle.router_core.specs.Laws.{OnlyWorkHoldsUp}
+use Rattle.router_core.proofs.WorkLemmas.{rows_then}
+use Rattle.router_core.proofs.TurnLaws.{turn_works, turns_work, runs_work, phase_works}
 
 -- ---- turns of a task
 turns_more : (n : ℕ) (task : Task) (m between m' : Moment) (xs ys : List Line) → Turns n task m xs between → IsTurn task between ys m' → Turns (suc n) task m (xs ++ ys) m'
@@ -86,49 +29,43 @@ turns_more zero task m between m' xs ys none turn =
 turns_more (suc n) task m between m' xs ys t turn =
     (t.0, t.1 ++ ys, t.2, t.3, turns_more n task t.2 between m' t.1 ys t.4 turn, ap (λ (l : List Line). l ++ ys) t.5 ∙ append_assoc t.0 t.1 ys)
 
-pub run_none : (task : Task) (m : Moment) → Stands m → HaveRun task m 0 m []
-run_none task m stands = record { taken = (refl, refl); work = work_none (phase_of task) m stands }
-
-run_more : (task : Task) (n : ℕ) (m between m' : Moment) (xs ys : List Line) → HaveRun task m n between xs → IsUnit task between m' ys → HaveRun task m (n + 1) m' (xs ++ ys)
-run_more task n m between m' xs ys r u =
-    let one : suc n ≡ n + 1 = omega arith in
-    record {
-      taken = subst (λ (k : ℕ). Turns k task m (xs ++ ys) m') one (turns_more n task m between m' xs ys r.taken u.turn);
-      work = work_join (phase_of task) n 1 m between m' xs ys r.work u.work;
-    }
-
 abbrev pub HaveGiven : Task → ℕ → Moment → Moment → Journaled → Journaled → Type 0
-HaveGiven task n m m' before now = Gives (HaveRun task m n m') before now
+HaveGiven task n m m' before now = Gives (λ said. Turns n task m said m') before now
 
-pub given_none : (task : Task) (m : Moment) (before j : Journaled) → Stands m → j ≡ flushed before → HaveGiven task 0 m m before j
-given_none task m before j stands is = gives_none (HaveRun task m 0 m) before j (run_none task m stands) is
+pub given_none : (task : Task) (m : Moment) (before j : Journaled) → j ≡ flushed before → HaveGiven task 0 m m before j
+given_none task m before j is = gives_none (λ said. Turns 0 task m said m) before j (refl, refl) is
 
-pub given_more : (task : Task) (n : ℕ) (m between m' : Moment) (before j now : Journaled) → HaveGiven task n m between before j → Gives (IsUnit task between m') j now
-    → HaveGiven task (n + 1) m m' before now
-given_more task n m between m' before j now g u = gives_join (HaveRun task m n between) (IsUnit task between m') (HaveRun task m (n + 1) m') (λ xs ys p q. run_more task n m between m' xs ys p q) before j now g u
+pub given_more : (task : Task) (n : ℕ) (m between m' : Moment) (before j now : Journaled) → HaveGiven task n m between before j → TakesTurn task between m' j now Taken → HaveGiven task (n + 1) m m' before now
+given_more task n m between m' before j now g u = let one : suc n ≡ n + 1 = omega arith in gives_join (λ said. Turns n task m said between) (λ said. IsTurn task between said m') (λ said. Turns (n + 1) task m said m')
+    (λ xs ys p q. subst (λ (k : ℕ). Turns k task m (xs ++ ys) m') one (turns_more n task m between m' xs ys p q)) before j now g u
+
+-- where a turn may be taken
+pub given_stands : (task : Task) (n : ℕ) (m m' : Moment) (before now : Journaled) → Stands m → HaveGiven task n m m' before now → Stands m'
+given_stands task n m m' before now stands g = (turns_work n task m g.0 m' stands g.2).keeps.stands
 
 -- a turn brings the end nearer
-pub unit_less : (task : Task) (m m' : Moment) (before now : Journaled) → Gives (IsUnit task m m') before now → counts m' (phase_of task) < counts m (phase_of task)
-unit_less task m m' before now g = let falls = g.2.work.falls in omega (arith, falls)
+pub turn_less : (task : Task) (m m' : Moment) (before now : Journaled) → Stands m → TakesTurn task m m' before now Taken → counts m' (phase_of task) < counts m (phase_of task)
+turn_less task m m' before now stands g = let falls = (turn_works task m g.0 m' stands g.2).falls in omega (arith, falls)
 
 -- ---- tasks of a phase
 abbrev pub HaveGivenOf : Phase → ℕ → Moment → Moment → Journaled → Journaled → Type 0
-HaveGivenOf r turns m now before j = Gives (HaveRunOf r m turns now) before j
+HaveGivenOf r turns m now before j = Gives (λ said. (count : ℕ) × Runs r count m said turns now) before j
 
-pub phase_none : (r : Phase) (m : Moment) (before j : Journaled) → Stands m → j ≡ flushed before → HaveGivenOf r 0 m m before j
-phase_none r m before j stands is = gives_none (HaveRunOf r m 0 m) before j (record { count = 0; runs = (refl, refl, refl); work = work_none r m stands }) is
+pub phase_none : (r : Phase) (m : Moment) (before j : Journaled) → j ≡ flushed before → HaveGivenOf r 0 m m before j
+phase_none r m before j is = gives_none (λ said. (count : ℕ) × Runs r count m said 0 m) before j (0, (refl, refl, refl)) is
 
 pub phase_more : (r : Phase) (task : Task) (turns n : ℕ) (m at now : Moment) (before j j' : Journaled) → HaveGivenOf r turns m at before j → Some task ≡ next_task r at → Gives (HasDrained task at n now) j j'
     → HaveGivenOf r (turns + n) m now before j'
-phase_more r task turns n m at now before j j' g next d = gives_join (HaveRunOf r m turns at) (HasDrained task at n now) (HaveRunOf r m (turns + n) now) (λ xs ys p q. record {
-  count = suc p.count;
-  runs = (xs, ys, turns, n, at, p.runs, (task, sym next, (q.run.taken, q.ended)), refl, refl);
-  work = work_join r turns n m at now xs ys p.work (subst (λ (e : Phase). IsWork e n at now ys) (next_works r at task (sym next)).1 q.run.work);
-}) before j j' g d
+phase_more r task turns n m at now before j j' g next d = gives_join (λ said. (count : ℕ) × Runs r count m said turns at) (HasDrained task at n now) (λ said. (count : ℕ) × Runs r count m said (turns + n) now)
+    (λ xs ys p q. (suc p.0, (xs, ys, turns, n, at, p.1, (task, sym next, (q.taken, q.ended)), refl, refl))) before j j' g d
+
+-- where a task may run
+pub phase_stands : (r : Phase) (turns : ℕ) (m now : Moment) (before j : Journaled) → Stands m → HaveGivenOf r turns m now before j → Stands now
+phase_stands r turns m now before j stands g = (runs_work r g.2.0 m g.0 turns now stands g.2.1).keeps.stands
 
 -- a task with work takes a turn at least
-pub phase_less : (r : Phase) (task : Task) (n : ℕ) (at now : Moment) (j j' : Journaled) → Some task ≡ next_task r at → Gives (HasDrained task at n now) j j' → counts now r < counts at r
-phase_less r task n at now j j' next d = by_turns n (subst (λ (e : Phase). IsWork e n at now d.0) works.1 d.2.run.work) d.2.run.taken
+pub phase_less : (r : Phase) (task : Task) (n : ℕ) (at now : Moment) (j j' : Journaled) → Stands at → Some task ≡ next_task r at → Gives (HasDrained task at n now) j j' → counts now r < counts at r
+phase_less r task n at now j j' stands next d = by_turns n (subst (λ (e : Phase). IsWork e n at now d.0) works.1 (turns_work n task at d.0 now stands d.2.taken)) d.2.taken
   where
     works : (has_work task at ≡ true) × (phase_of task ≡ r)
     works = next_works r at task (sym next)
@@ -137,14 +74,20 @@ phase_less r task n at now j j' next d = by_turns n (subst (λ (e : Phase). IsWo
     by_turns zero work taken = absurd (let same : has_work task at ≡ false = sym (ap (has_work task) taken.1) ∙ d.2.ended in let on = works.0 in cc)
     by_turns (suc n) work taken = let falls = work.falls in omega (arith, falls)
 
-pub phase_done : TurnsAreBounded → TurnsAreLeft → (r : Phase) (m now : Moment) (turns : ℕ) (before j : Journaled) → Stands m → HaveGivenOf r turns m now before j → None ≡ next_task r now → counts now r ≡ 0 → Gives (HaveDrained r m turns now) before j
-phase_done law left r m now turns before j stands g none gone = gives_so (HaveRunOf r m turns now) (HaveDrained r m turns now) (λ xs p. record {
-  runs = record { count = p.count; runs = p.runs; none = sym none };
-  work = p.work;
-  most = let falls = p.work.falls in let below = counts_below law m r stands in omega (arith, falls, below);
-  rises = let unread = p.work.unread in let below = changes_below m r stands in omega (arith, unread, below);
-  over = none_over left r now p.work.keeps.stands gone;
-}) before j g
+pub phase_done : (r : Phase) (m now : Moment) (turns : ℕ) (before j : Journaled) → HaveGivenOf r turns m now before j → None ≡ next_task r now → counts now r ≡ 0 → Gives (RunsOut r m turns now) before j
+phase_done r m now turns before j g none gone = gives_so (λ said. (count : ℕ) × Runs r count m said turns now) (RunsOut r m turns now) (λ xs p. record { runs = record { count = p.0; runs = p.1; none = sym none }; none = gone }) before j g
+
+-- what all of it comes to
+pub phase_drained : (r : Phase) (m now : Moment) (turns : ℕ) (said : List Line) → Stands m → RunsOut r m turns now said → HaveDrained r m turns now said
+phase_drained r m now turns said stands out =
+    let work = phase_works r m said turns now stands out.runs in
+    record {
+      runs = out.runs;
+      work = work;
+      most = let falls = work.falls in let below = counts_below bounded_turns m r stands in omega (arith, falls, below);
+      rises = let unread = work.unread in let below = changes_below m r stands in omega (arith, unread, below);
+      over = none_over turns_are_left r now work.keeps.stands out.none;
+    }
 
 -- ---- all phases, whatever the table is
 -- how many turns the phases that are left take at most
@@ -233,7 +176,7 @@ bounds_fit m stands =
     let b = counts_below bounded_turns m Red stands in
     let c = counts_below bounded_turns m Del stands in
     let d = counts_below bounded_turns m Fin stands in
-    let count = stands.own SameCount in
+    let count = stands.peers.count in
     let own = own_sends_below m in
     let walks = fin_sends_below m.chains in
     let few = few_exits m stands in
@@ -243,9 +186,9 @@ bounds_fit m stands =
 pub idling_none : (m : Moment) (before j : Journaled) → Stands m → j ≡ flushed before → Gives (Idling 0 0 m m) before j
 idling_none m before j stands is = gives_none (Idling 0 0 m m) before j (record { runs = (refl, refl, refl); keeps = keeps_none m stands; rows = same_rows m m refl refl; within = omega arith; over = tt }) is
 
-pub idling_more : (i turns n : ℕ) (x : Phase) (m at now : Moment) (before j j' : Journaled) → i < length all_phases → Gives (Idling i turns m at) before j → Gives (HaveDrained (get_or all_phases i x) at n now) j j'
+pub idling_more : (i turns n : ℕ) (x : Phase) (m at now : Moment) (before j j' : Journaled) → i < length all_phases → Gives (Idling i turns m at) before j → Gives (RunsOut (get_or all_phases i x) at n now) j j'
     → Gives (Idling (i + 1) (turns + n) m now) before j'
-idling_more i turns n z m at now before j j' within g d = gives_join (Idling i turns m at) (HaveDrained r at n now) (Idling (i + 1) (turns + n) m now) both before j j' g d
+idling_more i turns n z m at now before j j' within g d = gives_join (Idling i turns m at) (RunsOut r at n now) (Idling (i + 1) (turns + n) m now) (λ xs ys x out. both xs ys x (phase_drained r at now n ys x.keeps.stands out)) before j j' g d
   where
     r : Phase
     r = get_or all_phases i z
@@ -267,11 +210,11 @@ idling_more i turns n z m at now before j j' within g d = gives_join (Idling i t
               (all_appended (λ e. counts now e ≡ 0) (λ e. counts now e ≡ 0) (λ e none. none) (take i all_phases) r (over_more at now (take i all_phases) less x.over) (over_none r now y.over));
         }
 
-pub idling_done : TurnsAreBounded → TurnsAreLeft → RowsAtRestAreExact → OnlyWorkHoldsUp → (i turns : ℕ) (m now : Moment) (before j : Journaled) → Stands m → AllHaveExits m → length all_phases ≤ i → Gives (Idling i turns m now) before j → Gives (AllHaveDrained m turns now) before j
-idling_done bounded left exact only i turns m now before j stands exits past g = gives_so (Idling i turns m now) (AllHaveDrained m turns now) (λ xs x.
+pub idling_done : RowsAtRestAreExact → OnlyWorkHoldsUp → (i turns : ℕ) (m now : Moment) (before j : Journaled) → Stands m → AllHaveExits m → length all_phases ≤ i → Gives (Idling i turns m now) before j → Gives (AllHaveDrained m turns now) before j
+idling_done exact only i turns m now before j stands exits past g = gives_so (Idling i turns m now) (AllHaveDrained m turns now) (λ xs x.
     let all : take i all_phases ≡ all_phases = take_all i all_phases past in
     let over = subst (λ (l : List Phase). AllByRecursion (λ e. counts now e ≡ 0) l) all x.over in
-    let settled : IsSettled now = λ r. none_over left r now x.keeps.stands (each_phase (λ e. counts now e ≡ 0) over r) in
+    let settled : IsSettled now = λ r. none_over turns_are_left r now x.keeps.stands (each_phase (λ e. counts now e ≡ 0) over r) in
     let within = x.within in
     let fits = bounds_fit m stands in
     record {
@@ -280,5 +223,5 @@ idling_done bounded left exact only i turns m now before j stands exits past g =
       most = omega (arith, within, fits);
       rows = x.rows;
       settled = settled;
-      exact = settled_is_exact exact only now x.keeps.stands (all_have_on m now (ap (λ (l : LiveState). l.declared) x.keeps.live) (phases_same all_phases m xs turns now (subst (λ (l : List Phase). RunsAll l m xs turns now) all x.runs)) exits) settled;
+      exact = settled_is_exact exact only now x.keeps.stands (all_have_on m now (ap (λ (l : LiveState). l.declared) x.keeps.live) (phases_same all_phases m xs turns now stands (subst (λ (l : List Phase). RunsAll l m xs turns now) all x.runs)) exits) settled;
     }) before j g

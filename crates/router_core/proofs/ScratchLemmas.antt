@@ -1,90 +1,52 @@
 -- The rows that no work holds up at a prefix are what the live state alone asks for.
-use Rattle.std.proofs.Common.{◌≡◌, ℕ, zero, suc, ◌<◌, ◌==◌, ◌&&◌, not, Bool, true, false, cond, List, [], Option, Some, None, is_some, nat_eq, refl, sym, ap, subst, ◌∙◌, arith, ◌+◌, ◌∷◌}
+use Rattle.router_core.proofs.Common.{sym, subst, ◌∙◌, ap, ◌≡◌, ℕ, refl, List, true, arith, false, ◌+◌, Bool, cond, ◌<◌, suc, zero, nat_eq, not, ◌&&◌, nat_tests, list_any, range_with_len, Network, Attrs, Route, Neighbour, Profile, Speaker, best_is_a_branchs, peer_at, DeclaredPeer, fib_distance, read_rows, unread_by, filtered, resolver_at, rows_by, metric_rows, link_by, Chained, filt_rows, route_value, route_rows, fib_value, interior_value, external_value, Link, Best, Fib, Adv, Res, Read, Outf, Org, Task, Value, Rows, no_table, same_by, table_of, same_some, route_hop, with_metric, metric_of, way_of, over, answer_of, Resolving, passes, goes_on, Metric, OutChained, Passed, function_at, present, chain_at, filt_at, filt_by, has_turn_in, routes_of, rules_of, Rule, redistributed, has, Protos, ext_rows, fib_over, row_of_both, Proto, Connected, Static, Ospf, Rip, Interior, kept_rows, org_rows, int_rows, Treed, branch_of, IsTree, tree_links, low_rows, dyn_rows, own_rows, all_at, best_links, own_links, next_hop_at, holds_up_at, is_over, live_state, Moment, best_of, own_of, read_rows_by, read_of, read_by, tree_by, forward_by, rules_to, unread_if, Stands, ExitsAt, AllHaveExits, StandsAt, ReadsOn, IsExitOf, has_work}
+use Rattle.std.proofs.Common.{◌==◌, [], Option, Some, None, is_some, ◌∷◌}
 use Rattle.std.specs.Prelude.{option_map, IsSome}
 use Rattle.std.specs.FinMap as tables
-use Rattle.addr4.specs.Prefixes.{Network, block}
-use Rattle.bgp_attr.specs.declared.attrs.Attrs.{Attrs}
-use Rattle.bgp_attr.specs.declared.route.Route.{Route}
-use Rattle.bgp_attr.specs.declared.speaker.Speaker.{Speaker}
-use Rattle.bgp_attr.specs.declared.speaker.Neighbour.{Neighbour}
-use Rattle.bgp_attr.specs.declared.speaker.Profile.{Profile}
-use Rattle.link_change.specs.Rows.{Rows}
+use Rattle.addr4.specs.Prefixes.{block}
 use Rattle.link_change.specs.InOrder.{changed_in}
 use Rattle.link_change.proofs.InOrderLemmas.{unchanged_stays}
-use Rattle.loss_chain.specs.Steps.{table_of}
 use Rattle.loss_chain.specs.Tables.{rows_above}
 use Rattle.loss_chain.specs.Held.{has_row, has_within}
 use Rattle.loss_chain.proofs.HeldLemmas.{live_where_none_is_lost}
-use Rattle.loss_chain.proofs.TableLemmas.{same_by, no_table}
-use Rattle.policy_rules.specs.declared.rule.Rule.{Rule}
-use Rattle.pass_core.specs.Passed.{Passed, present, function_at}
 use Rattle.peer_out.specs.Forms.{as_sent}
-use Rattle.filter_bank.specs.Filtered.{filtered}
 use Rattle.filter_bank.specs.Outgoing.{outgoing}
 use Rattle.filter_bank.proofs.LawLemmas.{exact_unless_held_up}
 use Rattle.pass_core.specs.Turns.{row_lags}
 use Rattle.pass_core.proofs.TurnLemmas.{exact_unless_held_up as latest_row}
-use Rattle.journal_text.specs.declared.link.Link.{Link}
-use Rattle.journal_text.specs.declared.link.Link.TheVariants.{In, Peer, Filt, Res, Red, Best, ReadRib, Ebgp, Ibgp, Ext, Fib, Read, Outf, Adv, Org, Lost as LostOf, Low, Dyn, Int}
-use Rattle.journal_text.specs.declared.link.Task.{Task}
+use Rattle.journal_text.specs.declared.link.Link.TheVariants.{In, Peer, Filt, Red, ReadRib, Ebgp, Ibgp, Ext, Lost as LostOf, Low, Dyn, Int}
 use Rattle.journal_text.specs.declared.link.Task.TheVariants.{Del, Fin, Nh, ReadRib as Reading, Out, Rdel, Red as Own, Ext as External}
-use Rattle.journal_text.specs.declared.value.Value.{Value}
-use Rattle.journal_text.specs.Values.{valued, attrs_value, route_value, interior_value, external_value, fib_value, attrs_rows, route_rows, interior_rows}
-use Rattle.event_text.specs.declared.declared.DeclaredPeer.{DeclaredPeer}
-use Rattle.event_text.specs.Declarations.{peer_at}
+use Rattle.journal_text.specs.Values.{valued, attrs_value, attrs_rows, interior_rows}
 use Rattle.in_chain.specs.Incomings.{in_rows}
-use Rattle.in_chain.specs.Chains.{Chained, filt_rows}
-use Rattle.rib_route.specs.declared.Proto.{Proto}
-use Rattle.rib_route.specs.declared.Proto.TheVariants.{Connected, Static, Ospf, Rip}
-use Rattle.rib_route.specs.declared.rows.Interior.{Interior}
 use Rattle.rib_route.specs.declared.rows.External.{External as ExternalRow}
 use Rattle.rib_route.specs.Forwarding.{fib_row}
-use Rattle.rib_merge.specs.Merging.{row_of_both, merged}
-use Rattle.rib_tree.specs.Branches.{org_rows}
-use Rattle.rib_tree.specs.Trees.{branch_of, low_rows, dyn_rows, int_rows, tree_links, IsTree, Treed, interior_distance}
+use Rattle.rib_merge.specs.Merging.{merged}
+use Rattle.rib_tree.specs.Trees.{interior_distance}
 use Rattle.rib_tree.specs.Steps.{tree_lags}
 use Rattle.rib_tree.specs.Laws.{OrgWhereNoneIsLost}
 use Rattle.rib_tree.proofs.RestLemmas.{no_link}
 use Rattle.hop_side.specs.Laws as hops
 use Rattle.exit_side.specs.Laws as exits
 use Rattle.rib_exit.specs.Laws as external
-use Rattle.peer_side.specs.Peers.{chain_at, links_by, filt_by, filt_at, routes_of, rules_of, has_turn_in, lags_in}
+use Rattle.peer_side.specs.Peers.{links_by, lags_in}
 use Rattle.live_state.specs.Lives.{Routes, Interiors}
 use Rattle.live_state.specs.Decided.{live_rows, judged_rows, least_rows, origins, since_local, with_metric_of, resolved_row, resolved_rows, longest_match, rows_if_any, resolved_of, own_row, own_rows as live_own_rows, candidates_of as live_candidates, best_of as live_best, external_row, external_rows, over_interior, reached_row, forwarding_rows, sent_rows, in_session, or_else, longest_within}
 use Rattle.live_state.proofs.LongestLemmas.{match_is}
 use Rattle.live_state.proofs.LeastLemmas.{first_false, second_false, least_two, least_four}
-use Rattle.redist.specs.declared.protos.Protos.{Protos}
-use Rattle.redist.specs.Protocols.{has}
-use Rattle.redist.specs.Local.{redistributed, local_route}
+use Rattle.redist.specs.Local.{local_route}
 use Rattle.register_interest.specs.Covers.{longest}
-use Rattle.nexthop_resolver.specs.declared.rows.Metric.{Metric}
-use Rattle.nexthop_resolver.specs.Kept.{route_hop, metric_of, with_metric, over, way_of}
-use Rattle.nexthop_resolver.specs.Resolving.{Resolving, Answers, passes, made_by as goes_by, goes_on}
-use Rattle.nexthop_resolver.specs.Registered.{answer_of}
-use Rattle.nexthop_resolver.proofs.MoveLemmas.{same_some, clash_some}
-use Rattle.hop_side.specs.Resolvers.{resolver_at, metric_rows, rows_by, link_by}
-use Rattle.decision.proofs.LawLemmas.{best_is_picked, best_is_of_its_prefix, best_is_a_branchs}
-use Rattle.fanout_queue.specs.Readers.{read_rows, unread_by}
-use Rattle.out_chain.specs.Chains.{OutChained, made_by, outf_rows}
+use Rattle.nexthop_resolver.specs.Resolving.{Answers, made_by as goes_by}
+use Rattle.nexthop_resolver.proofs.MoveLemmas.{clash_some}
+use Rattle.decision.proofs.LawLemmas.{best_is_picked, best_is_of_its_prefix}
+use Rattle.out_chain.specs.Chains.{made_by, outf_rows}
 use Rattle.exit_side.specs.Exits.{chain_at as exit_at, links_by as exit_link}
-use Rattle.ext_int.specs.Fibs.{fib_distance}
 use Rattle.ext_int.specs.Laws.{reached}
 use Rattle.rib_split.specs.declared.split.BgpLink.TheVariants as sides
-use Rattle.rib_split.specs.Tables.{kept_rows}
-use Rattle.rib_exit.specs.Exits.{ext_rows, fib_over, exit_links as external_links}
+use Rattle.rib_exit.specs.Exits.{exit_links as external_links}
 use Rattle.link_region.proofs.RegionLemmas.{by_bool}
-use Rattle.std.proofs.lemmas.Bool.Decides.{nat_tests}
-use Rattle.router_core.specs.Bests.{own_rows, own_links, all_at, best_links}
-use Rattle.router_core.specs.Moments.{Moment, tree_by, forward_by, own_of, best_of, read_by, read_rows_by, read_of, rules_to}
-use Rattle.router_core.specs.Phases.{unread_if}
-use Rattle.router_core.specs.Lives.{live_state}
-use Rattle.router_core.specs.Turns.{has_work}
-use Rattle.router_core.specs.Stands.{StandsAt, Stands, AllHaveExits, ExitsAt, IsExitOf, ReadsOn, EachChain, EachPeer, OneSpeaker, InteriorTree, EachResolver, SameResolvers, SmallNumbers, AnswersAgree, HopsCounted, EachExit, ExitsRead, SameProfile, SameSessions, OneReader, ExternalExit, ExternalAgrees, ExternalStands}
-use Rattle.router_core.proofs.StandLemmas.{registered_rows}
 use Rattle.router_core.proofs.ForwardLemmas.{own_at, over_is, lesser_is, ebgp_is, ibgp_is, ext_is}
-use Rattle.router_core.specs.Holding.{next_hop_at, peer_numbers, is_over, is_over_hop, holds_up_at}
+use Rattle.router_core.specs.Holding.{peer_numbers, is_over_hop}
 use Rattle.router_core.specs.Scratch.{Feeds, HoldsUp, directly, through, row_in, IsExactIn, IsAtRestIn}
-use Rattle.std.specs.List.{list_any, range_with_len}
 
 -- ---- the interior routes at a prefix that no lost table has
 -- of numbers below a bound none passes a test that none of the list passes
@@ -198,7 +160,7 @@ sent_hop (Some r) x is = (r, refl, by_from r.from is)
 
 module _ (org_exact : OrgWhereNoneIsLost) (hops_exact : hops.ExactUnlessHeldUp) (exits_exact : exits.ExactUnlessHeldUp) (external_exact : external.ExactUnlessHeldUp) (m : Moment) (stands : Stands m) (all : AllHaveExits m) where
   tree : IsTree m.tree
-  tree = (stands.own InteriorTree).tree
+  tree = stands.interior.tree
 
   -- no task holds up the link at the prefix
   abbrev Rests : Link → Network → Type 0
@@ -246,13 +208,13 @@ module _ (org_exact : OrgWhereNoneIsLost) (hops_exact : hops.ExactUnlessHeldUp) 
 
   -- ---- peers
   here : (k : ℕ) (c : Chained) → chain_at k m.chains ≡ Some c → nat_eq k c.incoming.number ≡ true
-  here k c at = same_by k c.incoming.number (sym (stands.own EachChain k c at).number)
+  here k c at = same_by k c.incoming.number (sym (stands.peers.chains k c at).number)
 
   stage_lacks : (k s : ℕ) (c : Chained) (p : Network) → chain_at k m.chains ≡ Some c → holds_up_at (Del k s) m p ≡ false → has_row (table_of s c.incoming.tables.deletions) p ≡ false
   stage_lacks k s c p at none = sym (ap (λ (b : Bool). b && has_row (table_of s c.incoming.tables.deletions) p) (here k c at)) ∙ sym (ap (λ (o : Option Chained). lags_in (Del k s) o p) at) ∙ none
 
   in_is : (k : ℕ) (c : Chained) (p : Network) → chain_at k m.chains ≡ Some c → ((s : ℕ) → holds_up_at (Del k s) m p ≡ false) → in_rows c.incoming p ≡ tables.get c.incoming.tables.live p
-  in_is k c p at none = live_where_none_is_lost c.incoming.tables.live c.incoming.tables.deletions p (stands.own EachChain k c at).chain.rising (λ s. stage_lacks k s c p at (none s))
+  in_is k c p at none = live_where_none_is_lost c.incoming.tables.live c.incoming.tables.deletions p (stands.peers.chains k c at).chain.rising (λ s. stage_lacks k s c p at (none s))
 
   in_exact : (k : ℕ) (p : Network) → Rests (In k) p → (d : Option DeclaredPeer) (c : Option Chained) → chain_at k m.chains ≡ c → StandsAt d c → row_in (links_by c (In k)) p ≡ row_in (option_map attrs_rows (live_rows d (routes_of c))) p
   in_exact k p rest None None at there = refl
@@ -280,7 +242,7 @@ module _ (org_exact : OrgWhereNoneIsLost) (hops_exact : hops.ExactUnlessHeldUp) 
   judged_is k c d p at there rest =
       ap (λ (o : Option Route). Some o) (filt_is k c p at rest)
       ∙ ap (λ (w : Neighbour). Some (filtered c.me w (present c.filter) p (tables.get c.incoming.tables.live p))) there.words
-      ∙ ap (λ (s : Option Speaker). row_in (judged_rows s (Some d) (present c.filter) c.incoming.tables.live) p) (sym (stands.own OneSpeaker k c at))
+      ∙ ap (λ (s : Option Speaker). row_in (judged_rows s (Some d) (present c.filter) c.incoming.tables.live) p) (sym (stands.peers.speaker k c at))
 
   filt_exact : (k : ℕ) (p : Network) → Rests (Filt k) p → (d : Option DeclaredPeer) (c : Option Chained) → chain_at k m.chains ≡ c → StandsAt d c
       → row_in (links_by c (Filt k)) p ≡ row_in (option_map route_rows (judged_rows m.declared.speaker d (rules_of c) (routes_of c))) p
@@ -295,26 +257,26 @@ module _ (org_exact : OrgWhereNoneIsLost) (hops_exact : hops.ExactUnlessHeldUp) 
   hop_row : (p : Network) (k : ℕ) → Rests Int p → k < 65 → (o : Option Route) → filt_at m.chains k p ≡ o → goes_on route_hop with_metric (λ (a : ℕ). Some (answer_of metric_of m.registry a)) o ≡ resolved_row scratch_int o
   hop_row p k none less None at = refl
   hop_row p k none less (Some r) at =
-      ap (λ (rows : Rows Interior). with_metric r (metric_of (longest 32 rows (route_hop r)))) (registered_rows m stands)
+      ap (λ (rows : Rows Interior). with_metric r (metric_of (longest 32 rows (route_hop r)))) stands.registered
       ∙ by_match r (longest 32 (int_rows m.tree) (route_hop r))
       ∙ ap (with_metric_of r) (match_is (int_rows m.tree) (route_hop r) ∙ match_rests p k (route_hop r) none less (ap (option_map route_hop) at))
 
   res_rests : (p : Network) (k : ℕ) → Rests (Res k) p → k < 65 → (s : Resolving Metric) → resolver_at k m.hops ≡ Some s → metric_rows s (filt_at m.chains k) p ≡ resolved_row scratch_int (filt_at m.chains k p)
   res_rests p k rest less s at =
-      hops_exact m.hops (filt_at m.chains) m.registry k s p (stands.own EachResolver) (stands.own AnswersAgree) (stands.own HopsCounted) at (rest (Nh k) (directly (Res k) refl))
+      hops_exact m.hops (filt_at m.chains) m.registry k s p stands.hops.sound stands.hops.agree stands.hops.counted at (rest (Nh k) (directly (Res k) refl))
       ∙ hop_row p k (above Int (Res k) p tt rest) less (filt_at m.chains k p) refl
 
   res_is : (k : ℕ) (p : Network) → Rests (Res k) p → (d : Option DeclaredPeer) (c : Option Chained) → chain_at k m.chains ≡ c → StandsAt d c
       → row_in (opt_rows (resolver_at k m.hops) (filt_at m.chains k)) p ≡ row_in (option_map (resolved_rows scratch_int) (judged_rows m.declared.speaker d (rules_of c) (routes_of c))) p
   res_is k p rest None None at there =
-      ap (λ (o : Option (Resolving Metric)). row_in (opt_rows o (filt_at m.chains k)) p) (no_table (resolver_at k m.hops) (stands.own SameResolvers k ∙ ap is_some at))
+      ap (λ (o : Option (Resolving Metric)). row_in (opt_rows o (filt_at m.chains k)) p) (no_table (resolver_at k m.hops) (stands.hops.same k ∙ ap is_some at))
       ∙ sym (ap (λ (o : Option (Rows Route)). row_in (option_map (resolved_rows scratch_int) o) p) (unjudged m.declared.speaker [] tables.empty))
   res_is k p rest None (Some c) at there = absurd there
   res_is k p rest (Some d) None at there = absurd there
-  res_is k p rest (Some d) (Some c) at there = by_resolver (resolver_at k m.hops) refl (stands.own SameResolvers k ∙ ap is_some at)
+  res_is k p rest (Some d) (Some c) at there = by_resolver (resolver_at k m.hops) refl (stands.hops.same k ∙ ap is_some at)
     where
       small : k < 65
-      small = let most = (stands.own SmallNumbers k (ap is_some at)).1 in omega (arith, most)
+      small = let most = (stands.peers.numbers k (ap is_some at)).1 in omega (arith, most)
 
       resolved : (o : Option (Rows Route)) (row : Option Route) → Some row ≡ row_in o p → Some (resolved_row scratch_int row) ≡ row_in (option_map (resolved_rows scratch_int) o) p
       resolved None row is = absurd (clash_some row ⊥ (sym is))
@@ -329,7 +291,7 @@ module _ (org_exact : OrgWhereNoneIsLost) (hops_exact : hops.ExactUnlessHeldUp) 
           ∙ resolved (judged_rows m.declared.speaker (Some d) (present c.filter) c.incoming.tables.live) (filt_rows c p) (judged_is k c d p at there (above (Filt k) (Res k) p refl rest))
 
   res_at_rest : (k : ℕ) (p : Network) → Rests (Res k) p → row_in (opt_rows (resolver_at k m.hops) (filt_at m.chains k)) p ≡ row_in (resolved_of (live_state m) k) p
-  res_at_rest k p rest = res_is k p rest (peer_at k m.declared.peers) (chain_at k m.chains) refl (stands.own EachPeer k)
+  res_at_rest k p rest = res_is k p rest (peer_at k m.declared.peers) (chain_at k m.chains) refl (stands.peers.each k)
 
   -- ---- the decision
   -- the row of `red`, or none where it isn't live
@@ -373,7 +335,7 @@ module _ (org_exact : OrgWhereNoneIsLost) (hops_exact : hops.ExactUnlessHeldUp) 
   reader_exact p rest None None is on = refl
 
   read_now : (p : Network) → Rests ReadRib p → (me : Speaker) → m.declared.speaker ≡ Some me → read_of m p ≡ best_of m p
-  read_now p rest me local = by_reader m.reader refl (subst (λ (s : Option Speaker). ReadsOn s m.reader m.exits) local (stands.own OneReader))
+  read_now p rest me local = by_reader m.reader refl (subst (λ (s : Option Speaker). ReadsOn s m.reader m.exits) local stands.exits.one)
     where
       by_reader : (o : Option ℕ) → m.reader ≡ o → ReadsOn (Some me) o m.exits → read_rows_by m.exits.queue o (best_of m) p ≡ best_of m p
       by_reader None is on = absurd on
@@ -392,15 +354,15 @@ module _ (org_exact : OrgWhereNoneIsLost) (hops_exact : hops.ExactUnlessHeldUp) 
   ebgp_exact : (p : Network) → Rests Ebgp p → IsExactIn m Ebgp p
   ebgp_exact p rest =
       forwards external_value (kept_rows m.rib.splitter sides.Ebgp) (external_rows (λ w. not w.internal) picked) Ebgp p refl
-      (λ me local. ap (λ (rows : Rows ExternalRow). rows p) (ebgp_is m.rib (read_of m) (stands.own ExternalStands)) ∙ ap (external_row (λ w. not w.internal)) (read_is p (above ReadRib Ebgp p tt rest) me local)) m.declared.speaker refl
+      (λ me local. ap (λ (rows : Rows ExternalRow). rows p) (ebgp_is m.rib (read_of m) stands.exits.external) ∙ ap (external_row (λ w. not w.internal)) (read_is p (above ReadRib Ebgp p tt rest) me local)) m.declared.speaker refl
 
   ibgp_exact : (p : Network) → Rests Ibgp p → IsExactIn m Ibgp p
   ibgp_exact p rest =
       forwards external_value (kept_rows m.rib.splitter sides.Ibgp) (external_rows (λ w. w.internal) picked) Ibgp p refl
-      (λ me local. ap (λ (rows : Rows ExternalRow). rows p) (ibgp_is m.rib (read_of m) (stands.own ExternalStands)) ∙ ap (external_row (λ w. w.internal)) (read_is p (above ReadRib Ibgp p tt rest) me local)) m.declared.speaker refl
+      (λ me local. ap (λ (rows : Rows ExternalRow). rows p) (ibgp_is m.rib (read_of m) stands.exits.external) ∙ ap (external_row (λ w. w.internal)) (read_is p (above ReadRib Ibgp p tt rest) me local)) m.declared.speaker refl
 
   ext_row_is : (p : Network) → ext_rows m.rib p ≡ external_row (λ w. true) (read_of m p)
-  ext_row_is p = ap (λ (rows : Rows ExternalRow). rows p) (ext_is m.rib (read_of m) (stands.own ExternalStands))
+  ext_row_is p = ap (λ (rows : Rows ExternalRow). rows p) (ext_is m.rib (read_of m) stands.exits.external)
 
   ext_exact : (p : Network) → Rests Ext p → IsExactIn m Ext p
   ext_exact p rest =
@@ -425,7 +387,7 @@ module _ (org_exact : OrgWhereNoneIsLost) (hops_exact : hops.ExactUnlessHeldUp) 
   reached_is p rest None at = refl
   reached_is p rest (Some x) at =
       let from = best_hop p x at in
-      ap (λ (rows : Rows Interior). over x (way_of (longest 32 rows x.next_hop))) (registered_rows m stands)
+      ap (λ (rows : Rows Interior). over x (way_of (longest 32 rows x.next_hop))) stands.registered
       ∙ over_is x (longest 32 (int_rows m.tree) x.next_hop)
       ∙ ap (over_interior x) (match_is (int_rows m.tree) x.next_hop ∙ match_rests p from.0 x.next_hop rest from.1 from.2)
 
@@ -441,7 +403,7 @@ module _ (org_exact : OrgWhereNoneIsLost) (hops_exact : hops.ExactUnlessHeldUp) 
       same : (me : Speaker) → m.declared.speaker ≡ Some me → fib_over m.rib (int_rows m.tree) p ≡ forwarding_rows scratch_int (external_rows (λ w. true) picked) p
       same me local =
           let row : ext_rows m.rib p ≡ external_row (λ w. true) (best_of m p) = ext_row_is p ∙ ap (external_row (λ w. true)) (read_now p reads me local) in
-          external_exact m.rib (read_of m) (int_rows m.tree) m.registry p (stands.own ExternalExit) (stands.own ExternalStands) (stands.own ExternalAgrees) (rest External (directly Fib tt))
+          external_exact m.rib (read_of m) (int_rows m.tree) m.registry p stands.external.sound stands.exits.external stands.external.agree (rest External (directly Fib tt))
           ∙ ap (row_of_both fib_distance (option_map fib_row (int_rows m.tree p))) (ap (reached (longest 32 (tables.get m.registry.rows))) row ∙ reached_is p interior (external_row (λ w. true) (best_of m p)) refl)
           ∙ ap (λ (o : Option Route). row_of_both fib_distance (option_map fib_row (int_rows m.tree p)) (reached_row scratch_int (external_row (λ w. true) o))) (best_is p (above Best ReadRib p tt reads))
           ∙ ap (λ (o : Option Interior). row_of_both fib_distance (option_map fib_row o) (reached_row scratch_int (external_row (λ w. true) (picked p)))) (int_is p interior)
@@ -480,22 +442,22 @@ module _ (org_exact : OrgWhereNoneIsLost) (hops_exact : hops.ExactUnlessHeldUp) 
       → made_by c (present c.filter) p row ≡ outgoing (as_sent m.declared.profile me (not d.words.internal)) d.words (Some (rules_to j m.outgoing)) p row
   made_as j c me d at is p row =
       ap (λ (r : Option (List Rule)). made_by c r p row) is.latest
-      ∙ ap (λ (f : Profile). outgoing (as_sent f c.exit.me c.exit.external) c.peer (Some (rules_to j m.outgoing)) p row) ((stands.own EachExit).each j c at).profile
-      ∙ ap (λ (f : Profile). outgoing (as_sent f c.exit.me c.exit.external) c.peer (Some (rules_to j m.outgoing)) p row) (stands.own SameProfile)
-      ∙ ap (λ (b : Bool). outgoing (as_sent m.declared.profile c.exit.me b) c.peer (Some (rules_to j m.outgoing)) p row) (stands.own ExitsRead j c at).chain.kind
+      ∙ ap (λ (f : Profile). outgoing (as_sent f c.exit.me c.exit.external) c.peer (Some (rules_to j m.outgoing)) p row) (stands.exits.each.each j c at).profile
+      ∙ ap (λ (f : Profile). outgoing (as_sent f c.exit.me c.exit.external) c.peer (Some (rules_to j m.outgoing)) p row) stands.exits.profile
+      ∙ ap (λ (b : Bool). outgoing (as_sent m.declared.profile c.exit.me b) c.peer (Some (rules_to j m.outgoing)) p row) (stands.exits.read j c at).chain.kind
       ∙ ap (λ (x : Speaker). outgoing (as_sent m.declared.profile x (not c.peer.internal)) c.peer (Some (rules_to j m.outgoing)) p row) is.speaker
       ∙ ap (λ (w : Neighbour). outgoing (as_sent m.declared.profile me (not w.internal)) w (Some (rules_to j m.outgoing)) p row) is.words
 
   numbered : (j : ℕ) (c : OutChained) → exit_at j m.exits ≡ Some c → c.peer.number ≡ j
-  numbered j c at = ((stands.own EachExit).each j c at).number
+  numbered j c at = (stands.exits.each.each j c at).number
 
   sent_is : (j : ℕ) (p : Network) → Rests Best p → holds_up_at (Out j) m p ≡ false → (c : OutChained) (me : Speaker) (d : DeclaredPeer) → exit_at j m.exits ≡ Some c → IsExitOf me (rules_to j m.outgoing) d c
       → tables.get c.sent p ≡ sent_rows m.declared.profile me d.words (rules_to j m.outgoing) picked p
-  sent_is j p best rest c me d at is = (exits_exact m.exits (best_of m) j c p (stands.own ExitsRead) at rest).1 ∙ ap (made_by c (present c.filter) p) (best_is p best) ∙ made_as j c me d at is p (picked p)
+  sent_is j p best rest c me d at is = (exits_exact m.exits (best_of m) j c p stands.exits.read at rest).1 ∙ ap (made_by c (present c.filter) p) (best_is p best) ∙ made_as j c me d at is p (picked p)
 
   outf_is : (j : ℕ) (p : Network) → Rests Best p → holds_up_at (Out j) m p ≡ false → (c : OutChained) (me : Speaker) (d : DeclaredPeer) → exit_at j m.exits ≡ Some c → IsExitOf me (rules_to j m.outgoing) d c
       → outf_rows c (read_rows m.exits.queue c.reader (best_of m)) p ≡ sent_rows m.declared.profile me d.words (rules_to j m.outgoing) picked p
-  outf_is j p best rest c me d at is = sym (ap (λ (rows : Rows Attrs). rows p) (stands.own ExitsRead j c at).exact) ∙ sent_is j p best rest c me d at is
+  outf_is j p best rest c me d at is = sym (ap (λ (rows : Rows Attrs). rows p) (stands.exits.read j c at).exact) ∙ sent_is j p best rest c me d at is
 
   read_link : (o : Option OutChained) (j s : ℕ) (p : Network) → exit_link m.exits.queue (best_of m) o (Read j s) ≡ link_of (Route) route_value j s p (λ c. read_rows m.exits.queue c.reader (best_of m)) (λ me w. picked) o
   read_link None j s p = refl
@@ -512,13 +474,13 @@ module _ (org_exact : OrgWhereNoneIsLost) (hops_exact : hops.ExactUnlessHeldUp) 
   read_exact : (j s : ℕ) (p : Network) → Rests (Read j s) p → IsExactIn m (Read j s) p
   read_exact j s p rest =
       ap (λ o. row_in o p) (read_link (exit_at j m.exits) j s p)
-      ∙ session_exact (Route) route_value j s p (λ c. read_rows m.exits.queue c.reader (best_of m)) (λ me w. picked) m.declared.speaker (peer_at j m.declared.peers) (exit_at j m.exits) (stands.own SameSessions j) (all j) (numbered j)
-      (λ c me d at local is. (exits_exact m.exits (best_of m) j c p (stands.own ExitsRead) at (rest (Out j) (directly (Read j s) refl))).0 ∙ best_is p (above Best (Read j s) p tt rest))
+      ∙ session_exact (Route) route_value j s p (λ c. read_rows m.exits.queue c.reader (best_of m)) (λ me w. picked) m.declared.speaker (peer_at j m.declared.peers) (exit_at j m.exits) (stands.exits.sessions j) (all j) (numbered j)
+      (λ c me d at local is. (exits_exact m.exits (best_of m) j c p stands.exits.read at (rest (Out j) (directly (Read j s) refl))).0 ∙ best_is p (above Best (Read j s) p tt rest))
 
   outf_exact : (j s : ℕ) (p : Network) → Rests (Outf j s) p → IsExactIn m (Outf j s) p
   outf_exact j s p rest =
       ap (λ o. row_in o p) (outf_link (exit_at j m.exits) j s p)
-      ∙ session_exact (Attrs) attrs_value j s p (λ c. outf_rows c (read_rows m.exits.queue c.reader (best_of m))) (λ me w. sent_rows m.declared.profile me w (rules_to j m.outgoing) picked) m.declared.speaker (peer_at j m.declared.peers) (exit_at j m.exits) (stands.own SameSessions j) (all j) (numbered j)
+      ∙ session_exact (Attrs) attrs_value j s p (λ c. outf_rows c (read_rows m.exits.queue c.reader (best_of m))) (λ me w. sent_rows m.declared.profile me w (rules_to j m.outgoing) picked) m.declared.speaker (peer_at j m.declared.peers) (exit_at j m.exits) (stands.exits.sessions j) (all j) (numbered j)
       (λ c me d at local is. outf_is j p (above Best (Read j s) p tt (read j s p rest)) (read j s p rest (Out j) (directly (Read j s) refl)) c me d at is)
     where
       read : (j s : ℕ) (p : Network) → Rests (Outf j s) p → Rests (Read j s) p
@@ -527,7 +489,7 @@ module _ (org_exact : OrgWhereNoneIsLost) (hops_exact : hops.ExactUnlessHeldUp) 
   adv_exact : (j s : ℕ) (p : Network) → Rests (Adv j s) p → IsExactIn m (Adv j s) p
   adv_exact j s p rest =
       ap (λ o. row_in o p) (adv_link (exit_at j m.exits) j s p)
-      ∙ session_exact (Attrs) attrs_value j s p (λ c. tables.get c.sent) (λ me w. sent_rows m.declared.profile me w (rules_to j m.outgoing) picked) m.declared.speaker (peer_at j m.declared.peers) (exit_at j m.exits) (stands.own SameSessions j) (all j) (numbered j)
+      ∙ session_exact (Attrs) attrs_value j s p (λ c. tables.get c.sent) (λ me w. sent_rows m.declared.profile me w (rules_to j m.outgoing) picked) m.declared.speaker (peer_at j m.declared.peers) (exit_at j m.exits) (stands.exits.sessions j) (all j) (numbered j)
       (λ c me d at local is. sent_is j p (above Best (Read j s) p tt (read j s p rest)) (read j s p rest (Out j) (directly (Read j s) refl)) c me d at is)
     where
       read : (j s : ℕ) (p : Network) → Rests (Adv j s) p → Rests (Read j s) p
@@ -535,14 +497,14 @@ module _ (org_exact : OrgWhereNoneIsLost) (hops_exact : hops.ExactUnlessHeldUp) 
 
   -- ---- each link
   pub at_rest_is_exact : (link : Link) (p : Network) → IsAtRestIn m link p → IsExactIn m link p
-  at_rest_is_exact (In k) p rest = in_exact k p rest (peer_at k m.declared.peers) (chain_at k m.chains) refl (stands.own EachPeer k)
+  at_rest_is_exact (In k) p rest = in_exact k p rest (peer_at k m.declared.peers) (chain_at k m.chains) refl (stands.peers.each k)
   at_rest_is_exact (Peer k s) p rest = peer_exact k s p (rest (Del k s) (directly (Peer k s) (refl, refl))) (chain_at k m.chains) refl
-  at_rest_is_exact (Filt k) p rest = filt_exact k p rest (peer_at k m.declared.peers) (chain_at k m.chains) refl (stands.own EachPeer k)
+  at_rest_is_exact (Filt k) p rest = filt_exact k p rest (peer_at k m.declared.peers) (chain_at k m.chains) refl (stands.peers.each k)
   at_rest_is_exact (Res k) p rest =
       ap (λ o. row_in o p) (opt_link (resolver_at k m.hops) (filt_at m.chains k)) ∙ row_value route_value (opt_rows (resolver_at k m.hops) (filt_at m.chains k)) (resolved_of (live_state m) k) p (res_at_rest k p rest)
   at_rest_is_exact Red p rest = red_exact p rest m.declared.speaker
   at_rest_is_exact Best p rest = best_exact p rest m.declared.speaker
-  at_rest_is_exact ReadRib p rest = reader_exact p rest m.declared.speaker m.reader refl (stands.own OneReader)
+  at_rest_is_exact ReadRib p rest = reader_exact p rest m.declared.speaker m.reader refl stands.exits.one
   at_rest_is_exact Ebgp p rest = ebgp_exact p rest
   at_rest_is_exact Ibgp p rest = ibgp_exact p rest
   at_rest_is_exact Ext p rest = ext_exact p rest

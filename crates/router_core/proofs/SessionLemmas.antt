@@ -1,63 +1,35 @@
 -- Sessions that begin and end, the rules of outgoing filters, and what reads `best` from `local` on.
-use Rattle.std.proofs.Common.{◌≡◌, ℕ, ◌+◌, ◌<◌, nat_eq, nat_le, ◌/◌, ◌==◌, Bool, true, false, not, ◌&&◌, cond, List, [], ◌∷◌, Option, Some, None, is_some, IsSome, refl, sym, ap, subst, ◌∙◌, arith}
-use Rattle.std.proofs.lemmas.Bool.Decides.{nat_tests}
+use Rattle.router_core.proofs.Common.{sym, subst, ◌∙◌, ap, ◌≡◌, ℕ, refl, List, true, arith, false, ◌+◌, Bool, cond, ◌<◌, nat_eq, not, ◌&&◌, nat_tests, nat_cmp_total, get-insert, nat_cmp, eq_by_cmp, Route, Profile, Speaker, begun_words, peer_at, Declaration, with_session, begun_at, refusal_at, DeclaredPeer, Exited, AllStand, with_exit, IsExits, Queued, AllLead, unread_or_none, neighbours, entries_of_entries, leads_nowhere, Journaled, Adds, entries_of, route_rows, Leads, Links, Entry, Link, Best, Adv, Read, Outf, Value, rows_before, Rows, same_by, OutChained, RowsMayBeHeard, IsSender, Rule, StandsOver, best_links, ByPeer, BeginsIf, BySpeaker, Begins, live_state, Moment, best_of, router_links, with_exits, read_rows_by, read_by, rules_to, Policies, Stands, ExitsAt, ReadsOn, MaySend, IsExitOf, journal_lines, Pushes, HasStepped, Keeps}
+use Rattle.std.proofs.Common.{nat_le, ◌/◌, ◌==◌, [], ◌∷◌, Option, Some, None, is_some, IsSome}
 use Rattle.std.specs.Prelude.{◌^◌, option_map}
 use Rattle.std.specs.FinMap as tables
-use Rattle.std.specs.FinMap.{get-insert, get-remove}
-use Rattle.fanout_queue.specs.Readers.{unread_or_none}
-use Rattle.link_change.specs.InOrder.{rows_before}
+use Rattle.std.specs.FinMap.{get-remove}
 use Rattle.out_chain.specs.Steps.{new_out, exit_to, with_rules as with_rules_out}
 use Rattle.bgp_wire.specs.Attributes.{is_no_host}
-use Rattle.std.specs.Ordering.{nat_cmp, eq_by_cmp}
-use Rattle.std.specs.Cmp.{nat_cmp_total}
-use Rattle.bgp_attr.specs.declared.route.Route.{Route}
-use Rattle.bgp_attr.specs.declared.speaker.Profile.{Profile}
-use Rattle.bgp_attr.specs.declared.speaker.Speaker.{Speaker}
 use Rattle.bgp_attr.specs.Speakers.{IsSpeaker, asn_bound}
 use Rattle.bgp_wire.specs.Paths.{width_of}
-use Rattle.link_change.specs.Rows.{Rows}
-use Rattle.policy_rules.specs.declared.rule.Rule.{Rule}
-use Rattle.journal_text.specs.declared.link.Link.{Link}
-use Rattle.journal_text.specs.declared.link.Link.TheVariants.{Best, ReadRib, Read, Outf, Adv}
-use Rattle.journal_text.specs.declared.entry.Entry.{Entry}
-use Rattle.journal_text.specs.declared.value.Value.{Value}
-use Rattle.journal_text.specs.Journals.{Journaled, Adds}
-use Rattle.journal_text.specs.Texts.{entries_of}
-use Rattle.journal_text.specs.Values.{route_rows}
-use Rattle.journal_text.specs.Walk.{Links, Leads}
-use Rattle.journal_text.proofs.JournalLemmas.{entries_of_entries}
-use Rattle.journal_text.proofs.WalkLemmas.{leads_nowhere}
-use Rattle.journal_laws.specs.Peers.{neighbours}
-use Rattle.event_text.specs.declared.declared.DeclaredPeer.{DeclaredPeer}
+use Rattle.journal_text.specs.declared.link.Link.TheVariants.{ReadRib}
 use Rattle.event_text.specs.declared.event.Event.TheVariants as events
-use Rattle.event_text.specs.Declarations.{Declaration, peer_at, begun_at, with_session, refusal, refusal_at, session_refusal}
-use Rattle.fanout_queue.specs.Queues.{Queued, AllLead}
+use Rattle.event_text.specs.Declarations.{refusal, session_refusal}
 use Rattle.fanout_queue.proofs.LeadLemmas.{join_keeps_leading, drop_keeps_leading}
-use Rattle.peer_out.specs.Changes.{IsSender}
-use Rattle.out_chain.specs.Chains.{OutChained, RowsMayBeHeard}
-use Rattle.exit_side.specs.Exits.{Exited, chain_at as exit_at, with_exit, without_exit, exit_links, IsExits, AllStand}
+use Rattle.exit_side.specs.Exits.{chain_at as exit_at, without_exit, exit_links}
 use Rattle.exit_side.specs.Steps.{is_exit, LeadsExits, BeginsExit, EndsExit, EditsExit, edited_by}
 use Rattle.exit_side.specs.Laws.{AreAmong, KeepsStranger}
-use Rattle.rib_exit.specs.Exits.{StandsOver}
 use Rattle.exit_side.proofs.LawLemmas.{leads_anywhere, leads_anywhere_with_best}
 use Rattle.exit_side.proofs.StrangerLemmas.{begin_keeps, end_keeps, edit_keeps}
 use Rattle.exit_laws.proofs.ViewLemmas.{beginning_is_heard, end_is_heard, edit_keeps_views}
 use Rattle.link_region.proofs.RegionLemmas.{by_bool}
-use Rattle.loss_chain.proofs.TableLemmas.{equal_by, same_by}
+use Rattle.loss_chain.proofs.TableLemmas.{equal_by}
 use Rattle.live_state.specs.Lives.{with_rules, begun_if_down}
-use Rattle.router_core.specs.Bests.{best_links}
-use Rattle.router_core.specs.Moments.{Moment, Policies, with_exits, best_of, read_by, read_rows_by, router_links, rules_to, rules_by}
-use Rattle.router_core.specs.Lives.{live_state}
-use Rattle.router_core.specs.Stands.{Stands, Claim, Claims, EachExit, QueueLeads, ExitsRead, SameProfile, OneSender, SameSessions, OneReader, ExternalStands, MaySend, IsExitOf, ExitsAt, ReadsAs, ReadsOn}
-use Rattle.router_core.specs.Turns.{journal_lines}
-use Rattle.router_core.specs.Blocks.{begun, ByPeer, BeginsIf, BySpeaker, Begins}
+use Rattle.router_core.specs.Moments.{rules_by}
+use Rattle.router_core.specs.Stands.{ReadsAs}
+use Rattle.router_core.specs.Blocks.{begun}
 use Rattle.router_core.specs.Peers.{is_up}
-use Rattle.router_core.specs.Works.{Keeps, HasStepped, BeginsSession, SendsAs, Pushes}
+use Rattle.router_core.specs.Works.{BeginsSession, SendsAs}
 use Rattle.router_core.proofs.HeardRows.{heard_of}
 use Rattle.router_core.proofs.HeardSteps.{heard_quiet}
 use Rattle.router_core.proofs.QueueLemmas.{exits_none, no_exit_down}
 use Rattle.router_core.proofs.PeerLemmas.{begun_stands, may_begin, peer_at_map, present_edited}
-use Rattle.event_text.proofs.Sessions.{begun_words}
 
 -- ---- a chain at a number, and at another
 pub key_same : (k : ℕ) → eq_by_cmp nat_cmp k k ≡ true
@@ -81,17 +53,25 @@ exit_left j k queue e apart = get-remove nat_cmp_total e.chains j k ∙ ap (λ b
 -- ---- the exits became these
 pub stands_exits : (m : Moment) (e : Exited) → Stands m → IsExits e → AllLead e.queue (best_of m) → AllStand (best_of m) e → e.profile ≡ m.declared.profile → ((k : ℕ) → ExitsAt m.declared.speaker m.outgoing k (peer_at k m.declared.peers) (exit_at k e)) → ReadsOn m.declared.speaker m.reader e
     → StandsOver (read_rows_by e.queue m.reader (best_of m)) m.rib → Stands (with_exits m e)
-stands_exits m e stands sound all stand profile sessions reader external = record { own = own; at = stands.at }
-  where
-    own : (claim : Claim) → Claims (with_exits m e) claim
-    own EachExit = sound
-    own QueueLeads = all
-    own ExitsRead = stand
-    own SameProfile = profile
-    own SameSessions = sessions
-    own OneReader = reader
-    own ExternalStands = external
-    own other = stands.own other
+stands_exits m e stands sound all stand profile sessions reader external = record {
+  peers = stands.peers;
+  interior = stands.interior;
+  registered = stands.registered;
+  hops = stands.hops;
+  exits = record {
+    rows = stands.exits.rows;
+    each = sound;
+    all = all;
+    read = stand;
+    profile = profile;
+    sender = stands.exits.sender;
+    sessions = sessions;
+    one = reader;
+    external = external;
+  };
+  external = stands.external;
+  waits = stands.waits;
+}
 
 -- the forwarding side reads on
 pub strangers_read : (s : Option Speaker) (reader : Option ℕ) (e e' : Exited) → ((r : ℕ) → reader ≡ Some r → KeepsStranger r e e') → ReadsOn s reader e → ReadsOn s reader e'
@@ -107,7 +87,7 @@ stranger_is None (Some q) e on r is = absurd on
 stranger_is None None e on r is = absurd (cc)
 
 pub reads_as : (m : Moment) → Stands m → (r : ℕ) → m.reader ≡ Some r → ReadsAs r m.exits
-reads_as m stands = stranger_is m.declared.speaker m.reader m.exits (stands.own OneReader)
+reads_as m stands = stranger_is m.declared.speaker m.reader m.exits stands.exits.one
 
 same_read : (a b : Queued Route) (reader : Option ℕ) (best : Rows Route) → ((r : ℕ) → reader ≡ Some r → tables.get b r ≡ tables.get a r) → read_by b reader best ≡ read_by a reader best
 same_read a b None best same = refl
@@ -119,7 +99,7 @@ same_rows a b None best same = refl
 same_rows a b (Some r) best same = ap (λ u. rows_before (unread_or_none u) best) (same r refl)
 
 pub external_kept : (m : Moment) (e : Exited) → Stands m → ((r : ℕ) → m.reader ≡ Some r → tables.get e.queue r ≡ tables.get m.exits.queue r) → StandsOver (read_rows_by e.queue m.reader (best_of m)) m.rib
-external_kept m e stands unread = subst (λ (rows : Rows Route). StandsOver rows m.rib) (sym (same_rows m.exits.queue e.queue m.reader (best_of m) unread)) (stands.own ExternalStands)
+external_kept m e stands unread = subst (λ (rows : Rows Route). StandsOver rows m.rib) (sym (same_rows m.exits.queue e.queue m.reader (best_of m) unread)) stands.exits.external
 
 -- ---- their links among all
 among : (m : Moment) (e : Exited) → ((r : ℕ) → m.reader ≡ Some r → tables.get e.queue r ≡ tables.get m.exits.queue r) → AreAmong (exit_links m.exits (best_of m)) (exit_links e (best_of m)) (router_links m) (router_links (with_exits m e))
@@ -155,19 +135,19 @@ silenced k m e entries stands ends = record {
   leads = subst (λ (es : List (Entry Value)). Leads (router_links m) es (router_links (with_exits m e))) (sym (entries_of_entries entries))
       (exits_lead m e entries (λ r is. (kept r is).unread) (ends.leads (best_of m)));
   live = refl;
-  stands = stands_exits m e stands ends.sound (subst (λ (x : Exited). AllLead x.queue (best_of m)) (sym ends.after) (drop_keeps_leading m.exits.queue (best_of m) ends.chain.reader (stands.own QueueLeads))) (ends.stand (best_of m) (stands.own ExitsRead)) (ap (λ (x : Exited). x.profile) ends.after ∙ stands.own SameProfile) sessions
-      (strangers_read m.declared.speaker m.reader m.exits e kept (stands.own OneReader)) (external_kept m e stands (λ r is. (kept r is).unread));
+  stands = stands_exits m e stands ends.sound (subst (λ (x : Exited). AllLead x.queue (best_of m)) (sym ends.after) (drop_keeps_leading m.exits.queue (best_of m) ends.chain.reader stands.exits.all)) (ends.stand (best_of m) stands.exits.read) (ap (λ (x : Exited). x.profile) ends.after ∙ stands.exits.profile) sessions
+      (strangers_read m.declared.speaker m.reader m.exits e kept stands.exits.one) (external_kept m e stands (λ r is. (kept r is).unread));
   heard = end_is_heard m.declared.profile (neighbours m.declared) k m.exits e entries ends;
 }
   where
     kept : (r : ℕ) → m.reader ≡ Some r → KeepsStranger r m.exits e
-    kept r is = end_keeps r k m.exits e entries (stands.own EachExit) (reads_as m stands r is).own ends
+    kept r is = end_keeps r k m.exits e entries stands.exits.each (reads_as m stands r is).own ends
 
     sessions : (j : ℕ) → ExitsAt m.declared.speaker m.outgoing j (peer_at j m.declared.peers) (exit_at j e)
     sessions j = subst (λ (o : Option OutChained). ExitsAt m.declared.speaker m.outgoing j (peer_at j m.declared.peers) o) (sym (ap (exit_at j) ends.after))
         (by_bool (nat_eq j k) (λ b. ExitsAt m.declared.speaker m.outgoing j (peer_at j m.declared.peers) (exit_at j (without_exit k (tables.remove m.exits.queue ends.chain.reader) m.exits)))
         (λ same. subst (λ (o : Option OutChained). ExitsAt m.declared.speaker m.outgoing j (peer_at j m.declared.peers) o) (sym (subst (λ (n : ℕ). exit_at n (without_exit k (tables.remove m.exits.queue ends.chain.reader) m.exits) ≡ None) (sym (equal_by j k same)) (exit_gone k (tables.remove m.exits.queue ends.chain.reader) m.exits))) (exits_none m.declared.speaker m.outgoing j (peer_at j m.declared.peers)))
-        (λ apart. subst (λ (o : Option OutChained). ExitsAt m.declared.speaker m.outgoing j (peer_at j m.declared.peers) o) (sym (exit_left k j (tables.remove m.exits.queue ends.chain.reader) m.exits apart)) (stands.own SameSessions j)))
+        (λ apart. subst (λ (o : Option OutChained). ExitsAt m.declared.speaker m.outgoing j (peer_at j m.declared.peers) o) (sym (exit_left k j (tables.remove m.exits.queue ends.chain.reader) m.exits apart)) (stands.exits.sessions j)))
 
 -- ---- a session begins
 pub number_at : (k : ℕ) (ps : List DeclaredPeer) (p : DeclaredPeer) → peer_at k ps ≡ Some p → p.words.number ≡ k
@@ -194,7 +174,7 @@ module _ (k : ℕ) (m m' : Moment) (p : DeclaredPeer) (entries : List (Entry Val
   begins = subst (λ (q : DeclaredPeer). BeginsExit b.me q.words q.session (rules_to k m.outgoing) m.exits m'.exits entries) peer_is b.begins
 
   kept_by : (r : ℕ) → m.reader ≡ Some r → KeepsStranger r m.exits m'.exits
-  kept_by r is = let reads = reads_as (begun m k) stands r is in begin_keeps r b.me p.words (p.session + 1) (rules_to k m.outgoing) m.exits m'.exits entries (stands.own EachExit) reads.own reads.live begins
+  kept_by r is = let reads = reads_as (begun m k) stands r is in begin_keeps r b.me p.words (p.session + 1) (rules_to k m.outgoing) m.exits m'.exits entries stands.exits.each reads.own reads.live begins
 
   sessions_then : (j : ℕ) → ExitsAt m.declared.speaker m.outgoing j (peer_at j (with_session m.declared k).peers) (exit_at j m'.exits)
   sessions_then j = subst (λ (o : Option OutChained). ExitsAt m.declared.speaker m.outgoing j (peer_at j (with_session m.declared k).peers) o) (sym (ap (exit_at j) begins.after ∙ ap (λ (n : ℕ). exit_at j (with_exit n new (tables.insert m.exits.queue begins.reader []) m.exits)) number))
@@ -203,7 +183,7 @@ module _ (k : ℕ) (m m' : Moment) (p : DeclaredPeer) (entries : List (Entry Val
       (subst (λ (o : Option OutChained). ExitsAt m.declared.speaker m.outgoing k (peer_at k (with_session m.declared k).peers) o) (sym (exit_here k new (tables.insert m.exits.queue begins.reader []) m.exits))
       (subst (λ (o : Option DeclaredPeer). ExitsAt m.declared.speaker m.outgoing k o (Some new)) (sym (b.at ∙ ap Some peer_is))
       (subst (λ (s : Option Speaker). ExitsAt s m.outgoing k (Some (record { words = p.words; session = p.session + 1; up = true })) (Some new)) (sym b.local) (record { up = refl; session = refl; words = refl; speaker = refl; latest = refl })))))
-      (λ apart. subst (λ (o : Option OutChained). ExitsAt m.declared.speaker m.outgoing j (peer_at j (with_session m.declared k).peers) o) (sym (exit_elsewhere k j new (tables.insert m.exits.queue begins.reader []) m.exits apart)) (stands.own SameSessions j)))
+      (λ apart. subst (λ (o : Option OutChained). ExitsAt m.declared.speaker m.outgoing j (peer_at j (with_session m.declared k).peers) o) (sym (exit_elsewhere k j new (tables.insert m.exits.queue begins.reader []) m.exits apart)) (stands.exits.sessions j)))
     where
       new : OutChained
       new = new_out (exit_to m.exits.profile b.me p.words) p.words (p.session + 1) begins.reader (rules_to k m.outgoing)
@@ -218,9 +198,9 @@ module _ (k : ℕ) (m m' : Moment) (p : DeclaredPeer) (entries : List (Entry Val
     leads = begun_leads;
     live = refl;
     stands = stands_exits (begun m k) m'.exits stands begins.sound
-        (subst (λ (x : Exited). AllLead x.queue (best_of m)) (sym begins.after) (join_keeps_leading m.exits.queue (best_of m) begins.reader (stands.own QueueLeads)))
-        (begins.stand (best_of m) (subst (λ (x : Profile). RowsMayBeHeard x (best_of m)) (sym (stands.own SameProfile)) (heard_of (begun m k) stands)) (stands.own ExitsRead))
-        (ap (λ (x : Exited). x.profile) begins.after ∙ stands.own SameProfile) sessions_then (strangers_read m.declared.speaker m.reader m.exits m'.exits kept_by (stands.own OneReader))
+        (subst (λ (x : Exited). AllLead x.queue (best_of m)) (sym begins.after) (join_keeps_leading m.exits.queue (best_of m) begins.reader stands.exits.all))
+        (begins.stand (best_of m) (subst (λ (x : Profile). RowsMayBeHeard x (best_of m)) (sym stands.exits.profile) (heard_of (begun m k) stands)) stands.exits.read)
+        (ap (λ (x : Exited). x.profile) begins.after ∙ stands.exits.profile) sessions_then (strangers_read m.declared.speaker m.reader m.exits m'.exits kept_by stands.exits.one)
         (external_kept (begun m k) m'.exits stands (λ r is. (kept_by r is).unread));
     heard = beginning_is_heard m.declared.profile (neighbours m.declared) b.me p.words (p.session + 1) (rules_to k m.outgoing) m.exits m'.exits entries begins;
   }
@@ -259,7 +239,7 @@ pub begins_absent : (k : ℕ) (m n : Moment) → Stands m → refusal m.declared
 begins_absent k m n stands admitted down is =
     let p = there_of m.declared k admitted in
     ap (λ (x : Moment). exit_at k x.exits) is
-    ∙ no_exit_down m.declared.speaker m.outgoing k p.0 (exit_at k m.exits) (sym (ap is_up p.1) ∙ down) (subst (λ (o : Option DeclaredPeer). ExitsAt m.declared.speaker m.outgoing k o (exit_at k m.exits)) p.1 (stands.own SameSessions k))
+    ∙ no_exit_down m.declared.speaker m.outgoing k p.0 (exit_at k m.exits) (sym (ap is_up p.1) ∙ down) (subst (λ (o : Option DeclaredPeer). ExitsAt m.declared.speaker m.outgoing k o (exit_at k m.exits)) p.1 (stands.exits.sessions k))
 
 sends_as : (profile : Profile) (s : Option Speaker) → IsSome s → MaySend profile s → SendsAs s profile
 sends_as profile None since may = absurd (let clash : false ≡ true = since in cc)
@@ -275,10 +255,10 @@ speaker_up d k e = by_speaker d.speaker e
 
 pub begins_sender : (k : ℕ) (m n : Moment) → Stands m → refusal m.declared (events.Up k) ≡ None → n ≡ begun m k → SendsAs n.declared.speaker n.exits.profile
 begins_sender k m n stands admitted is = subst (λ (x : Moment). SendsAs x.declared.speaker x.exits.profile) (sym is)
-    (subst (λ (profile : Profile). SendsAs m.declared.speaker profile) (sym (stands.own SameProfile)) (sends_as m.declared.profile m.declared.speaker (speaker_up m.declared k admitted) (stands.own OneSender)))
+    (subst (λ (profile : Profile). SendsAs m.declared.speaker profile) (sym stands.exits.profile) (sends_as m.declared.profile m.declared.speaker (speaker_up m.declared k admitted) stands.exits.sender))
 
 pub begins_sound : (k : ℕ) (m n : Moment) → Stands m → n ≡ begun m k → IsExits n.exits
-begins_sound k m n stands is = subst (λ (x : Moment). IsExits x.exits) (sym is) (stands.own EachExit)
+begins_sound k m n stands is = subst (λ (x : Moment). IsExits x.exits) (sym is) stands.exits.each
 
 -- ---- rules of an outgoing filter
 rules_same : (policies : Policies) (k : ℕ) (rules : List Rule) → rules_to k (tables.insert policies k rules) ≡ rules
@@ -308,7 +288,7 @@ module _ (m : Moment) (k : ℕ) (rules : List Rule) (e : Exited) (stands : Stand
   redirected = record m { outgoing = tables.insert m.outgoing k rules; exits = e }
 
   kept_edit : (r : ℕ) → m.reader ≡ Some r → KeepsStranger r m.exits e
-  kept_edit r is = edit_keeps r k rules m.exits e (stands.own EachExit) (reads_as m stands r is).own edits
+  kept_edit r is = edit_keeps r k rules m.exits e stands.exits.each (reads_as m stands r is).own edits
 
   here_at : (s : Option Speaker) (p : Option DeclaredPeer) (o : Option OutChained) → exit_at k m.exits ≡ o → ExitsAt s m.outgoing k p o → ExitsAt s (tables.insert m.outgoing k rules) k p (exit_at k (edited_by k rules o m.exits))
   here_at s p None at is = subst (λ (x : Option OutChained). ExitsAt s (tables.insert m.outgoing k rules) k p x) (sym at) (exits_none s (tables.insert m.outgoing k rules) k p)
@@ -327,22 +307,30 @@ module _ (m : Moment) (k : ℕ) (rules : List Rule) (e : Exited) (stands : Stand
   sessions_edited j = subst (λ (o : Option OutChained). ExitsAt m.declared.speaker (tables.insert m.outgoing k rules) j (peer_at j m.declared.peers) o) (sym (ap (exit_at j) edits.after))
       (by_bool (nat_eq j k) (λ t. ExitsAt m.declared.speaker (tables.insert m.outgoing k rules) j (peer_at j m.declared.peers) (exit_at j (edited_by k rules (exit_at k m.exits) m.exits)))
       (λ same. subst (λ (n : ℕ). ExitsAt m.declared.speaker (tables.insert m.outgoing k rules) n (peer_at n m.declared.peers) (exit_at n (edited_by k rules (exit_at k m.exits) m.exits))) (sym (equal_by j k same))
-      (here_at m.declared.speaker (peer_at k m.declared.peers) (exit_at k m.exits) refl (stands.own SameSessions k)))
+      (here_at m.declared.speaker (peer_at k m.declared.peers) (exit_at k m.exits) refl (stands.exits.sessions k)))
       (λ apart. subst (λ (o : Option OutChained). ExitsAt m.declared.speaker (tables.insert m.outgoing k rules) j (peer_at j m.declared.peers) o) (sym (edited_elsewhere k j rules (exit_at k m.exits) m.exits apart))
-      (other_at j m.declared.speaker (peer_at j m.declared.peers) (exit_at j m.exits) apart (stands.own SameSessions j))))
+      (other_at j m.declared.speaker (peer_at j m.declared.peers) (exit_at j m.exits) apart (stands.exits.sessions j))))
 
   redirected_stands : Stands redirected
-  redirected_stands = record { own = own; at = stands.at }
-    where
-      own : (claim : Claim) → Claims redirected claim
-      own EachExit = edits.sound
-      own QueueLeads = subst (λ (x : Queued Route). AllLead x (best_of m)) (sym (ap (λ (x : Exited). x.queue) edits.after ∙ edited_queue k rules (exit_at k m.exits) m.exits)) (stands.own QueueLeads)
-      own ExitsRead = edits.stand (best_of m) (stands.own ExitsRead)
-      own SameProfile = ap (λ (x : Exited). x.profile) edits.after ∙ edited_profile k rules (exit_at k m.exits) m.exits ∙ stands.own SameProfile
-      own SameSessions = sessions_edited
-      own OneReader = strangers_read m.declared.speaker m.reader m.exits e kept_edit (stands.own OneReader)
-      own ExternalStands = external_kept m e stands (λ r is. (kept_edit r is).unread)
-      own other = stands.own other
+  redirected_stands = record {
+    peers = stands.peers;
+    interior = stands.interior;
+    registered = stands.registered;
+    hops = stands.hops;
+    exits = record {
+      rows = stands.exits.rows;
+      each = edits.sound;
+      all = subst (λ (x : Queued Route). AllLead x (best_of m)) (sym (ap (λ (x : Exited). x.queue) edits.after ∙ edited_queue k rules (exit_at k m.exits) m.exits)) stands.exits.all;
+      read = edits.stand (best_of m) stands.exits.read;
+      profile = ap (λ (x : Exited). x.profile) edits.after ∙ edited_profile k rules (exit_at k m.exits) m.exits ∙ stands.exits.profile;
+      sender = stands.exits.sender;
+      sessions = sessions_edited;
+      one = strangers_read m.declared.speaker m.reader m.exits e kept_edit stands.exits.one;
+      external = external_kept m e stands (λ r is. (kept_edit r is).unread);
+    };
+    external = stands.external;
+    waits = stands.waits;
+  }
 
   same_links : router_links redirected ≡ router_links m
   same_links i link = each link i

@@ -1,49 +1,29 @@
 -- Where no task holds up a prefix, and where none has work.
-use Rattle.std.proofs.Common.{◌≡◌, ℕ, ◌==◌, ◌&&◌, ◌||◌, Bool, true, false, cond, List, [], ◌∷◌, Option, Some, None, is_some, refl, sym, ap, ◌∙◌, arith}
-use Rattle.std.specs.List.{All, AllByRecursion, Contains, find, flat_map, list_any}
-use Rattle.std.specs.Option.{option_or}
+use Rattle.router_core.proofs.Common.{sym, ◌∙◌, ap, ◌≡◌, ℕ, refl, List, true, arith, false, Bool, cond, ◌&&◌, ◌||◌, AllByRecursion, list_any, Contains, option_or, Network, Attrs, Route, Chained, Best, Fib, Adv, Task, Rows, Change, table_of, same_some, is_unread, Walked, chain_at, has_turn_in, Rule, Interior, int_rows, first_held, next_hop_at, holds_up_at, is_over, held_in, FirstHeldTells, RowsAtRestAreExact, live_state, Moment, best_of, router_links, all_phases, unread_if, Tells, Stands, AllHaveExits, phase_of, has_work, next_task, phase_tasks, Phase}
+use Rattle.std.proofs.Common.{◌==◌, [], ◌∷◌, Option, Some, None, is_some}
+use Rattle.std.specs.List.{All, find, flat_map}
 use Rattle.std.specs.FinMap as tables
 use Rattle.std.proofs.lemmas.List.Folds.{find-append}
 use Rattle.std.proofs.lemmas.List.Elements.{All-contains, All-from_recursion}
-use Rattle.addr4.specs.Prefixes.{Network}
-use Rattle.bgp_attr.specs.declared.attrs.Attrs.{Attrs}
-use Rattle.bgp_attr.specs.declared.route.Route.{Route}
-use Rattle.link_change.specs.Rows.{Rows}
 use Rattle.link_change.specs.InOrder.{changed_in}
-use Rattle.link_change.specs.declared.change.Change.{Change}
 use Rattle.link_change.proofs.RowLemmas.{same_function}
-use Rattle.policy_rules.specs.declared.rule.Rule.{Rule}
-use Rattle.pass_core.specs.Passed.{Walked}
 use Rattle.pass_core.proofs.TurnLemmas.{none_lags_without_a_walk}
 use Rattle.loss_chain.proofs.ListLemmas.{made_is_listed}
 use Rattle.loss_chain.specs.Lost.{Lost}
-use Rattle.loss_chain.specs.Steps.{table_of}
 use Rattle.link_region.proofs.RegionLemmas.{by_bool}
-use Rattle.nexthop_resolver.proofs.MoveLemmas.{same_some, clash_some}
-use Rattle.journal_text.specs.declared.link.Link.TheVariants.{Best, Fib, Adv}
-use Rattle.journal_text.specs.declared.link.Task.{Task}
+use Rattle.nexthop_resolver.proofs.MoveLemmas.{clash_some}
 use Rattle.journal_text.specs.declared.link.Task.TheVariants as tasks
 use Rattle.live_state.specs.Decided.{from_scratch}
-use Rattle.rib_route.specs.declared.rows.Interior.{Interior}
-use Rattle.in_chain.specs.Chains.{Chained}
-use Rattle.peer_side.specs.Peers.{chain_at, has_turn_in}
 use Rattle.peer_side.specs.Laws as peers
 use Rattle.hop_side.specs.Laws as hops
 use Rattle.exit_side.specs.Laws as exits
 use Rattle.rib_exit.specs.Laws as external
-use Rattle.rib_tree.specs.Trees.{int_rows}
 use Rattle.rib_tree.specs.Laws as losses
-use Rattle.out_chain.specs.Chains.{is_unread}
-use Rattle.router_core.specs.declared.router.Phase.{Phase}
 use Rattle.router_core.specs.declared.router.Phase.TheVariants as phases
-use Rattle.router_core.specs.Lives.{live_state}
-use Rattle.router_core.specs.Moments.{Moment, router_links, best_of}
-use Rattle.router_core.specs.Phases.{all_phases, unread_if}
-use Rattle.router_core.specs.Turns.{has_work, next_task, phase_of, phase_tasks, IsSettled}
-use Rattle.router_core.specs.Stands.{Stands, AllHaveExits, InteriorTree}
-use Rattle.router_core.specs.Holding.{next_hop_at, peer_numbers, is_over, is_over_hop, holds_up_at, held_in, idle_tasks, first_held}
-use Rattle.router_core.specs.Scratch.{row_in, is_spliced, IsExact, Tells}
-use Rattle.router_core.specs.Laws.{RowsAtRestAreExact, OnlyWorkHoldsUp, FirstHeldTells}
+use Rattle.router_core.specs.Turns.{IsSettled}
+use Rattle.router_core.specs.Holding.{peer_numbers, is_over_hop, idle_tasks}
+use Rattle.router_core.specs.Scratch.{row_in, is_spliced, IsExact}
+use Rattle.router_core.specs.Laws.{OnlyWorkHoldsUp}
 use Rattle.router_core.proofs.CountLemmas.{each_phase}
 
 -- ---- a task without work holds up nothing
@@ -82,7 +62,7 @@ none_held only r m p = each (phase_tasks r m)
 
 -- ---- a task with work is one of its phase
 listed : losses.WorkIsListed → peers.StagesAreListed → peers.WalksAreListed → hops.WorkIsListed → exits.WorkIsListed → (m : Moment) → Stands m → (task : Task) → has_work task m ≡ true → Contains (phase_tasks (phase_of task) m) task
-listed of_tree of_stages of_walks of_hops of_exits m stands (tasks.Rdel proto n) some = of_tree m.tree (stands.own InteriorTree).tree (tasks.Rdel proto n) some
+listed of_tree of_stages of_walks of_hops of_exits m stands (tasks.Rdel proto n) some = of_tree m.tree stands.interior.tree (tasks.Rdel proto n) some
 listed of_tree of_stages of_walks of_hops of_exits m stands tasks.Red some = (0, omega arith, refl)
 listed of_tree of_stages of_walks of_hops of_exits m stands (tasks.Del k s) some = of_stages m.chains k s some
 listed of_tree of_stages of_walks of_hops of_exits m stands (tasks.Fin k) some = of_walks m.chains k some

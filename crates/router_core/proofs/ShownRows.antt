@@ -1,50 +1,18 @@
 -- The rows of a link, one after the other.
-use Rattle.std.proofs.Common.{◌≡◌, ℕ, false, ◌+◌, ◌^◌, ◌<◌, List, [], ◌∷◌, ◌++◌, map, length, Option, Some, None, refl, sym, ap, subst, ◌∙◌, append-nil, length-append, arith}
-use Rattle.std.proofs.lemmas.Result.{IfOk-weaker}
+use Rattle.router_core.proofs.Common.{sym, subst, ◌∙◌, ap, ◌≡◌, ℕ, refl, List, arith, false, ◌+◌, ◌++◌, ◌<◌, length-append, same_Some, IfOk-weaker, Network, Route, Speaker, AreUnheard, resolver_at, rows_by, hop_links, metric_rows, link_by, Chained, filt_rows, filt_candidates, with_lines_append, Journaled, with_lines, entries_of, route_value, route_rows, Links, HasRow, Line, Link, Best, Res, Value, Rows, Candidates, IsNextCandidate, no_rows, CoversRows, region_of, Decided, Inward, Redistributed, Resolved, InteriorRoutes, Forward, no_table, Resolving, Metric, Passed, passed_rows, chain_at, filt_at, filt_by, peer_links, redistributed, Protos, RibExit, Interior, int_rows, Treed, tree_links, own_rows, best_links, own_links, answer_lines, Shows, live_state, Moment, best_of, router_links, own_of, tree_by, forward_by, Stands, Pushes, HasStepped}
+use Rattle.std.proofs.Common.{◌^◌, [], ◌∷◌, map, length, Option, Some, None, append-nil}
 use Rattle.std.specs.Prelude.{IsSome, is_some, option_map, Result, IfOk}
-use Rattle.bgp_attr.specs.declared.route.Route.{Route}
-use Rattle.nexthop_resolver.specs.declared.rows.Metric.{Metric}
-use Rattle.nexthop_resolver.specs.Resolving.{Resolving}
-use Rattle.in_chain.specs.Chains.{Chained, filt_rows, filt_candidates}
-use Rattle.journal_text.specs.declared.link.Link.TheVariants.{Res, Best, Red}
-use Rattle.journal_text.specs.Values.{route_value, route_rows}
+use Rattle.journal_text.specs.declared.link.Link.TheVariants.{Red}
 use Rattle.std.proofs.lemmas.List.{map-append}
-use Rattle.std.proofs.lemmas.Option.{same_Some}
-use Rattle.addr4.specs.Prefixes.{Network}
-use Rattle.loss_chain.proofs.TableLemmas.{no_table}
-use Rattle.link_change.specs.Rows.{Rows, Candidates, IsNextCandidate, CoversRows, with_rows, no_rows}
-use Rattle.journal_text.specs.declared.value.Value.{Value}
-use Rattle.journal_text.specs.declared.link.Link.{Link}
-use Rattle.journal_text.specs.declared.line.Line.{Line}
+use Rattle.link_change.specs.Rows.{with_rows}
 use Rattle.journal_text.specs.declared.line.Line.TheVariants as lines
-use Rattle.journal_text.specs.Walk.{Links, HasRow}
-use Rattle.journal_text.specs.Texts.{entries_of}
 use Rattle.event_text.specs.declared.event.Event.TheVariants as events
-use Rattle.router_core.specs.Moments.{Moment, own_of, best_of, router_links, tree_by, forward_by}
-use Rattle.journal_text.specs.Journals.{Journaled, with_lines}
-use Rattle.journal_text.proofs.JournalLemmas.{with_lines_append}
 use Rattle.journal_laws.proofs.ShownRows.{IsShown, none_shown, one_shown, none_more, none_left, with_none}
-use Rattle.router_core.specs.Bests.{own_rows, own_links, best_links}
-use Rattle.router_core.specs.Blocks.{AreRows, answer_lines, Shows}
+use Rattle.router_core.specs.Blocks.{AreRows}
 use Rattle.router_core.specs.Lookups.{listed_at, row_lines, Counts, ShowsRow, IsCountOf, IsNextPlace}
-use Rattle.bgp_attr.specs.declared.speaker.Speaker.{Speaker}
-use Rattle.rib_route.specs.declared.rows.Interior.{Interior}
-use Rattle.pass_core.specs.Passed.{Passed}
-use Rattle.pass_core.specs.Turns.{passed_rows}
-use Rattle.redist.specs.declared.protos.Protos.{Protos}
-use Rattle.redist.specs.Local.{redistributed}
-use Rattle.rib_exit.specs.declared.exit.RibExit.{RibExit}
 use Rattle.rib_exit.specs.Exits.{exit_links as external_links}
-use Rattle.rib_tree.specs.Trees.{Treed, int_rows, tree_links}
-use Rattle.link_region.specs.declared.regions.Region.TheVariants.{Inward, Resolved, Decided, InteriorRoutes, Redistributed, Forward}
-use Rattle.link_region.specs.Regions.{region_of}
-use Rattle.hop_side.specs.Resolvers.{resolver_at, link_by, hop_links, metric_rows, rows_by}
-use Rattle.peer_side.specs.Peers.{chain_at, peer_links, peer_candidates, filt_by, filt_at}
+use Rattle.peer_side.specs.Peers.{peer_candidates}
 use Rattle.router_core.proofs.RegionLemmas.{in_region}
-use Rattle.router_core.specs.Works.{Pushes, HasStepped}
-use Rattle.router_core.specs.Stands.{Stands}
-use Rattle.router_core.specs.Lives.{live_state}
-use Rattle.exit_laws.specs.Views.{AreUnheard}
 use Rattle.router_core.proofs.HeardSteps.{heard_quiet}
 use Rattle.router_core.proofs.KeepLemmas.{steps_said}
 

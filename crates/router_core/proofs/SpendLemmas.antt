@@ -1,54 +1,29 @@
 -- What a turn spends, of its phase and of an idle from that phase on: where a change of `best` may come, one candidate fewer is left.
-use Rattle.std.proofs.Common.{◌≡◌, ◌≢◌, ℕ, ◌+◌, ◌<◌, ◌≤◌, ◌⊎◌, Bool, true, false, not, nat_lt, List, Option, Some, None, is_some, refl, sym, ap, subst, ◌∙◌, inl, inr, arith}
-use Rattle.std.specs.List.{AllByRecursion, sum_by}
+use Rattle.router_core.proofs.Common.{sym, subst, ◌∙◌, ap, ◌≡◌, ℕ, refl, List, true, arith, false, ◌+◌, Bool, ◌≤◌, ◌<◌, not, ◌≢◌, inr, nat_lt, inl, ◌⊎◌, nat_tests, nat_cmp_total, AllByRecursion, sum_by, Network, Attrs, Route, Speaker, Exited, OutChains, resolver_at, Resolvers, put_resolver, Chained, welded, Entry, Task, Value, sum_replaced, Rows, Candidates, IsNextCandidate, Change, is_stale_at, stale_count, Hop, route_hop, with_metric, metric_of, Resolving, passes, in_force_by, fresh_by, walk_to, Metric, Passed, Walked, chain_at, Chains, put_chain, rows_in, lost_in, Rule, redistributed, Protos, Registry, Interior, int_rows, Treed, tree_count, int_candidates, Queues, Moment, with_exits, with_hops, most_unread, with_redist, counts, beyonds, tree_beyond, fin_sends, most_of, own_sends_by, own_waiting, nh_sends, earlier, phase_of, AddsNoRows, Phase}
+use Rattle.std.proofs.Common.{Option, Some, None, is_some}
 use Rattle.std.specs.Option.{option_map}
-use Rattle.std.proofs.lemmas.Bool.Decides.{nat_tests}
 use Rattle.link_region.proofs.RegionLemmas.{by_bool}
 use Rattle.std.specs.FinMap as tables
-use Rattle.std.specs.Cmp.{nat_cmp_total}
-use Rattle.addr4.specs.Prefixes.{Network}
-use Rattle.bgp_attr.specs.declared.attrs.Attrs.{Attrs}
-use Rattle.bgp_attr.specs.declared.route.Route.{Route}
-use Rattle.link_change.specs.Rows.{Rows, Candidates, IsNextCandidate}
-use Rattle.link_change.specs.declared.change.Change.{Change}
-use Rattle.link_change.proofs.MapLemmas.{sum_replaced, sum_parts}
-use Rattle.loss_chain.specs.Tables.{Tables, tables_count, tables_beyond as left_beyond}
-use Rattle.policy_rules.specs.declared.rule.Rule.{Rule}
-use Rattle.pass_core.specs.Passed.{Passed, Walked, walk_stepped, walk_of_waiting, after_walk}
+use Rattle.link_change.proofs.MapLemmas.{sum_parts}
+use Rattle.loss_chain.specs.Tables.{Tables, tables_count}
+use Rattle.pass_core.specs.Passed.{walk_stepped, walk_of_waiting, after_walk}
 use Rattle.pass_core.specs.Turns.{walked_on, IsSentAt, Walks}
 use Rattle.pass_core.specs.Left.{turns_left as own_left}
 use Rattle.pass_core.proofs.LeftLemmas.{walk_is_spent}
-use Rattle.redist.specs.declared.protos.Protos.{Protos}
-use Rattle.redist.specs.Local.{redistributed}
-use Rattle.bgp_attr.specs.declared.speaker.Speaker.{Speaker}
-use Rattle.rib_tree.specs.Trees.{Treed, tree_count, int_rows, int_candidates}
-use Rattle.journal_text.specs.declared.link.Task.{Task}
 use Rattle.journal_text.specs.declared.link.Task.TheVariants.{Del, Fin}
-use Rattle.journal_text.specs.declared.entry.Entry.{Entry}
-use Rattle.journal_text.specs.declared.value.Value.{Value}
-use Rattle.nexthop_known.specs.Hops.{Hops, is_stale_at, stale_count, settled, IsMapped, IsLeastStale}
-use Rattle.nexthop_known.specs.declared.answer.Hop.{Hop}
+use Rattle.nexthop_known.specs.Hops.{Hops, settled, IsMapped, IsLeastStale}
 use Rattle.nexthop_known.proofs.StaleLemmas.{same_count, some_counts, none_stale}
-use Rattle.nexthop_resolver.specs.declared.rows.Metric.{Metric}
-use Rattle.nexthop_resolver.specs.Kept.{route_hop, metric_of, with_metric}
-use Rattle.nexthop_resolver.specs.Resolving.{Resolving, Answers, walk_to, fresh_by, in_force_by, passes, begun}
+use Rattle.nexthop_resolver.specs.Resolving.{Answers, begun}
 use Rattle.nexthop_resolver.specs.Left.{is_needed, differing_count, walk_turns as hop_walk_turns, next_walk}
 use Rattle.nexthop_resolver.specs.Turns.{KnownAfter, Steps, Turned as HopTurned}
-use Rattle.register_interest.specs.Registers.{Registry}
-use Rattle.rib_route.specs.declared.rows.Interior.{Interior}
-use Rattle.hop_side.specs.Resolvers.{Resolvers, Beyonds, resolver_at, put_resolver, same_metric, left_of, left_in as hops_left_in}
-use Rattle.in_chain.specs.Chains.{Chained, turns_left, waiting_turns, walk_turns}
-use Rattle.in_chain.specs.Steps.{welded, Turned}
-use Rattle.peer_side.specs.Peers.{Chains, chain_at, put_chain, lost_in, left_in, rows_in}
+use Rattle.hop_side.specs.Resolvers.{Beyonds, same_metric, left_of, left_in as hops_left_in}
+use Rattle.in_chain.specs.Chains.{turns_left, waiting_turns, walk_turns}
+use Rattle.loss_chain.specs.Tables.{tables_beyond as left_beyond}
+use Rattle.in_chain.specs.Steps.{Turned}
+use Rattle.peer_side.specs.Peers.{left_in}
 use Rattle.peer_side.specs.Steps.{Nears}
-use Rattle.exit_side.specs.Exits.{Exited, OutChains}
-use Rattle.router_core.specs.declared.router.Phase.{Phase}
 use Rattle.router_core.specs.declared.router.Phase.TheVariants as phases
-use Rattle.router_core.specs.Bests.{Queues}
-use Rattle.router_core.specs.Moments.{Moment, with_hops, with_exits, with_redist, most_unread}
-use Rattle.router_core.specs.Phases.{beyonds, counts, most_of, tree_lost, tree_beyond, earlier, left_from, changes_left, own_waiting, own_sends_by, sends_from_fin, sends_from_del, fin_sends, fin_sends_of, walk_candidates, waiting_candidates, nh_sends, nh_sends_of, place_candidates, next_candidates}
-use Rattle.router_core.specs.Turns.{phase_of}
-use Rattle.router_core.specs.Works.{AddsNoRows}
+use Rattle.router_core.specs.Phases.{tree_lost, left_from, changes_left, sends_from_fin, sends_from_del, fin_sends_of, walk_candidates, waiting_candidates, nh_sends_of, place_candidates, next_candidates}
 use Rattle.router_core.proofs.QueueLemmas.{queue_chains}
 use Rattle.router_core.proofs.BeyondLemmas.{tree_counted}
 use Rattle.router_core.proofs.ReadingLemmas.{sent_count, queue_most, reading_less}

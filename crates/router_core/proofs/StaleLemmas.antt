@@ -1,35 +1,18 @@
 -- Next hops become stale with a change of `int` alone: neither with a change from above, nor in their own turns.
-use Rattle.std.proofs.Common.{◌≡◌, ℕ, ◌+◌, ◌≤◌, nat_eq, not, Bool, true, false, cond, List, Option, Some, None, is_some, refl, sym, ap, subst, ◌∙◌, inl, inr, arith}
+use Rattle.router_core.proofs.Common.{sym, subst, ◌∙◌, ap, ◌≡◌, ℕ, refl, List, true, arith, false, ◌+◌, Bool, ◌≤◌, cond, nat_eq, not, inr, inl, nat_cmp_total, nat_cmp-IsAntisymmetric, Network, Route, resolver_at, Resolvers, put_resolver, Entry, Value, sum_replaced, Rows, Candidates, Change, is_stale_at, stale_count, Hop, metric_of, Resolving, Metric, Registry, RibExit, Interior, Moment, Resolves, Phase}
+use Rattle.std.proofs.Common.{Option, Some, None, is_some}
 use Rattle.std.specs.Option.{option_map}
-use Rattle.std.specs.Cmp.{nat_cmp_total}
 use Rattle.std.specs.FinMap as tables
-use Rattle.std.specs.FinMap.{retain_keys, get-retain_keys, nat_cmp-IsAntisymmetric}
+use Rattle.std.specs.FinMap.{retain_keys, get-retain_keys}
 use Rattle.std.proofs.lemmas.Bool.{cases_eq}
-use Rattle.addr4.specs.Prefixes.{Network}
-use Rattle.link_change.specs.Rows.{Rows, Candidates}
-use Rattle.link_change.specs.declared.change.Change.{Change}
-use Rattle.link_change.proofs.MapLemmas.{sum_replaced, get_at, get_apart}
-use Rattle.bgp_attr.specs.declared.route.Route.{Route}
-use Rattle.rib_route.specs.declared.rows.Interior.{Interior}
-use Rattle.register_interest.specs.Registers.{Registry}
-use Rattle.nexthop_known.specs.declared.answer.Hop.{Hop}
-use Rattle.nexthop_known.specs.Hops.{Hops, is_stale_at, stale_count, settled}
-use Rattle.nexthop_resolver.specs.declared.rows.Metric.{Metric}
-use Rattle.nexthop_resolver.specs.Kept.{metric_of}
+use Rattle.link_change.proofs.MapLemmas.{get_at, get_apart}
+use Rattle.nexthop_known.specs.Hops.{Hops, settled}
 use Rattle.nexthop_resolver.specs.Registered.{Renews, told_of}
-use Rattle.nexthop_resolver.specs.Resolving.{Resolving}
 use Rattle.nexthop_resolver.specs.Takes.{KeepsOrLearns}
 use Rattle.nexthop_resolver.specs.Turns.{KnownAfter, Turned}
-use Rattle.hop_side.specs.Resolvers.{Resolvers, resolver_at, put_resolver}
-use Rattle.rib_exit.specs.declared.exit.RibExit.{RibExit}
 use Rattle.hop_side.proofs.PutLemmas.{by_bool, equal_by, put_here, put_other}
-use Rattle.journal_text.specs.declared.entry.Entry.{Entry}
-use Rattle.journal_text.specs.declared.value.Value.{Value}
-use Rattle.router_core.specs.declared.router.Phase.{Phase}
 use Rattle.router_core.specs.declared.router.Phase.TheVariants as phases
-use Rattle.router_core.specs.Moments.{Moment}
 use Rattle.router_core.specs.Phases.{is_stale_by, stale_in, stale_of}
-use Rattle.router_core.specs.Turns.{Resolves}
 use Rattle.router_core.specs.Works.{NoneGoesStale, MakesNoneStale}
 use Rattle.router_core.proofs.KnownLemmas.{fewer_keys}
 

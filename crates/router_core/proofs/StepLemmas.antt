@@ -1,39 +1,20 @@
 -- What each event comes to.
-use Rattle.std.proofs.Common.{◌≡◌, ℕ, ◌<◌, ◌^◌, Bool, true, false, cond, List, [], ◌∷◌, ◌++◌, Option, Some, Result, refl, sym, ap, subst, ◌∙◌}
+use Rattle.router_core.proofs.Common.{sym, subst, ◌∙◌, ap, ◌≡◌, ℕ, refl, List, true, false, Bool, ◌++◌, cond, ◌<◌, Network, Attrs, Message, Update, peer_at, DeclaredPeer, Event, Down, Bgp, Cover, Settled, Work, Journaled, flushed, with_lines, Line, Task, Rows, LiveState, changes_of, Says, width, Interior, ByPeer, EndsIf, HearsIf, first_held, FirstHeldTells, live_state, Moment, Gives, bound_of, Tells, Stands, AllHaveExits, Pushes, HasStepped, Keeps, HaveFed}
+use Rattle.std.proofs.Common.{◌^◌, [], ◌∷◌, Option, Some, Result}
 use Rattle.std.specs.Result.{IfOk}
 use Rattle.bgp_wire.specs.declared.notice.Notice.{Notice}
-use Rattle.bgp_attr.specs.declared.attrs.Attrs.{Attrs}
-use Rattle.bgp_wire.specs.declared.message.Update.{Update}
-use Rattle.bgp_wire.specs.declared.message.Message.{Message}
 use Rattle.bgp_wire.specs.declared.message.Message.TheVariants as messages
 use Rattle.bgp_wire.specs.Spelling.{notification_octets}
-use Rattle.journal_text.specs.declared.link.Task.{Task}
-use Rattle.journal_text.specs.declared.line.Line.{Line}
 use Rattle.journal_text.specs.declared.line.Line.TheVariants as lines
-use Rattle.journal_text.specs.Journals.{Journaled, with_lines, flushed}
-use Rattle.event_text.specs.declared.event.Event.TheVariants.{Down, Bgp, Cover, Settled, Idle, Work}
-use Rattle.event_text.specs.declared.event.Event.{Event}
-use Rattle.event_text.specs.declared.declared.DeclaredPeer.{DeclaredPeer}
-use Rattle.event_text.specs.Declarations.{peer_at}
+use Rattle.event_text.specs.declared.event.Event.TheVariants.{Idle}
 use Rattle.std.specs.FinMap as tables
-use Rattle.addr4.specs.Prefixes.{Network}
-use Rattle.link_change.specs.Rows.{Rows}
-use Rattle.rib_route.specs.declared.rows.Interior.{Interior}
-use Rattle.prefix_trie.specs.Width.{width}
 use Rattle.register_interest.specs.Covers.{matched, IsCover}
-use Rattle.router_core.specs.Moments.{Moment, bound_of, Gives}
 use Rattle.router_core.specs.declared.router.Idle.{Idle as Answer}
-use Rattle.live_state.specs.Messages.{Says, changes_of}
-use Rattle.live_state.specs.Lives.{LiveState, heard, ended, ended_if_up, HearsIfUp, HearsFrom}
-use Rattle.router_core.specs.Lives.{live_state}
-use Rattle.router_core.specs.Stands.{Stands, AllHaveExits}
-use Rattle.router_core.specs.Holding.{first_held}
-use Rattle.router_core.specs.Scratch.{Tells}
-use Rattle.router_core.specs.Laws.{FirstHeldTells}
-use Rattle.router_core.specs.Blocks.{AreMessageOctets, EndsIf, Hears, HearsIf, ByPeer}
-use Rattle.router_core.specs.Works.{Pushes, Keeps, AreTurns, AllHaveDrained, HasLost, HasHeard, HasIdled, HasStepped, HaveFed}
+use Rattle.live_state.specs.Lives.{heard, ended, ended_if_up, HearsIfUp, HearsFrom}
+use Rattle.router_core.specs.Blocks.{AreMessageOctets, Hears}
+use Rattle.router_core.specs.Works.{AreTurns, AllHaveDrained, HasLost, HasHeard, HasIdled}
 use Rattle.router_core.proofs.KeepLemmas.{keeps_none, keeps_said, keeps_join, keeps_on, gives_push, push_gives, gives_none, gives_so, gives_pushed, steps_pushed, ignores}
-use Rattle.router_core.proofs.StandLemmas.{registered_rows}
+use Rattle.router_core.proofs.TurnLaws.{turns_work}
 
 -- ---- `idle` and `work`
 pub idled : (m m' : Moment) (bound turns : ℕ) (before j j2 j3 now : Journaled) → Stands m → bound ≡ bound_of m → bound < 2 ^ 128 → j ≡ with_lines before (lines.Bound bound ∷ []) → Gives (AllHaveDrained m turns m') j j2
@@ -68,27 +49,29 @@ idled m m' bound turns before j j2 j3 now stands same small first g last is =
       rows = p.2.rows;
     })
 
-pub worked : (m m' : Moment) (task : Task) (most turns : ℕ) (before j j2 now : Journaled) → Gives (AreTurns task most m turns m') before j → j2 ≡ with_lines j (lines.Work turns ∷ []) → now ≡ flushed j2
+pub worked : (m m' : Moment) (task : Task) (most turns : ℕ) (before j j2 now : Journaled) → Stands m → Gives (AreTurns task most m turns m') before j → j2 ≡ with_lines j (lines.Work turns ∷ []) → now ≡ flushed j2
     → Gives (HasStepped m (Work task most) turns m') before now
-worked m m' task most turns before j j2 now g last is =
+worked m m' task most turns before j j2 now stands g last is =
     gives_push (AreTurns task most m turns m') Counted (HasStepped m (Work task most) turns m') both before j j2 now g (lines.Work turns ∷ [], last, refl) is
   where
     Counted : List Line → Type 0
     Counted said = said ≡ lines.Work turns ∷ []
 
     both : (xs ys : List Line) → AreTurns task most m turns m' xs → Counted ys → HasStepped m (Work task most) turns m' (xs ++ ys)
-    both xs ys p q = subst (λ (l : List Line). HasStepped m (Work task most) turns m' (xs ++ l)) (sym q) (record {
-      block = record { inner = xs; taken = p.run.taken; most = p.most; ended = p.ended; lines = refl };
-      live = live_state m;
-      after = refl;
-      keeps = keeps_on m m' m' xs (lines.Work turns ∷ []) (live_state m) refl p.run.work.keeps (keeps_said m' (lines.Work turns ∷ []) p.run.work.keeps.stands (refl, (refl, tt)));
-    })
+    both xs ys p q =
+        let work = turns_work turns task m xs m' stands p.taken in
+        subst (λ (l : List Line). HasStepped m (Work task most) turns m' (xs ++ l)) (sym q) (record {
+          block = record { inner = xs; taken = p.taken; most = p.most; ended = p.ended; lines = refl };
+          live = live_state m;
+          after = refl;
+          keeps = keeps_on m m' m' xs (lines.Work turns ∷ []) (live_state m) refl work.keeps (keeps_said m' (lines.Work turns ∷ []) work.keeps.stands (refl, (refl, tt)));
+        })
 
 -- ---- `cover`
 pub covered : (m : Moment) (addr : ℕ) (found : Option (Network × Interior)) (subnet : Network) (prefix : Option Network) (before j now : Journaled) → Stands m → IsCover width (tables.get m.registry.rows) addr found subnet
     → prefix ≡ matched found → j ≡ with_lines before (lines.Cover addr prefix subnet ∷ []) → now ≡ flushed j → Gives (HasStepped m (Cover addr) 0 m) before now
 covered m addr found subnet prefix before j now stands cover is pushed flush = steps_pushed m (Cover addr) (lines.Cover addr (matched found) subnet ∷ []) before j now stands
-    (refl, refl, record { found = found; subnet = subnet; cover = subst (λ (rows : Rows Interior). IsCover width rows addr found subnet) (registered_rows m stands) cover; line = refl }) refl (refl, (refl, tt))
+    (refl, refl, record { found = found; subnet = subnet; cover = subst (λ (rows : Rows Interior). IsCover width rows addr found subnet) stands.registered cover; line = refl }) refl (refl, (refl, tt))
     (pushed ∙ ap (λ (p : Option Network). with_lines before (lines.Cover addr p subnet ∷ [])) is) flush
 
 -- ---- `settled`

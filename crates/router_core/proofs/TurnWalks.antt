@@ -1,53 +1,38 @@
 -- What each turn keeps, many turns keep: of a task, of a phase, and of all phases. So the same peers have exits.
-use Rattle.std.proofs.Common.{◌≡◌, ℕ, zero, suc, nat_eq, List, [], ◌∷◌, ◌++◌, Option, Some, None, is_some, sym, ap, subst, ◌∙◌}
+use Rattle.router_core.proofs.Common.{sym, subst, ◌∙◌, ap, ◌≡◌, ℕ, List, ◌++◌, suc, zero, nat_eq, Network, Attrs, peer_at, Declaration, Exited, OutChains, with_exit, Entry, Line, Link, Task, Value, Rows, Change, Proto, Interior, int_rows, Treed, RunsFirst, Moment, with_tree, Stands, AllHaveExits, Turns, IsTurn, BelowInt, FallsRoute, RunsPhase, Runs, IsPeerTurn, RunsAll, FeedsAll, HaveSameExits, Phase}
+use Rattle.std.proofs.Common.{[], ◌∷◌, Option, Some, None, is_some}
 use Rattle.std.specs.FinMap as tables
-use Rattle.addr4.specs.Prefixes.{Network}
-use Rattle.bgp_attr.specs.declared.attrs.Attrs.{Attrs}
-use Rattle.journal_text.specs.declared.link.Task.{Task}
 use Rattle.journal_text.specs.declared.link.Task.TheVariants.{Del, Fin, Nh, ReadRib, Out, Rdel, Red, Ext}
-use Rattle.journal_text.specs.declared.line.Line.{Line}
-use Rattle.journal_text.specs.declared.entry.Entry.{Entry}
-use Rattle.journal_text.specs.declared.value.Value.{Value}
-use Rattle.link_change.specs.Rows.{Rows}
-use Rattle.link_change.specs.declared.change.Change.{Change}
-use Rattle.rib_route.specs.declared.rows.Interior.{Interior}
 use Rattle.link_region.proofs.RegionLemmas.{by_bool}
 use Rattle.loss_chain.proofs.TableLemmas.{equal_by}
-use Rattle.event_text.specs.Declarations.{Declaration, peer_at}
-use Rattle.exit_side.specs.Exits.{Exited, OutChains, chain_at as exit_at, with_exit}
-use Rattle.router_core.specs.declared.router.Phase.{Phase}
-use Rattle.router_core.specs.Moments.{Moment, with_tree}
-use Rattle.rib_route.specs.declared.Proto.{Proto}
-use Rattle.rib_tree.specs.Trees.{Treed, int_rows}
-use Rattle.journal_text.specs.declared.link.Link.{Link}
-use Rattle.router_core.specs.Turns.{BelowInt, FallsRoute, IsPeerTurn, IsTurn, Turns, Runs, RunsPhase, RunsAll, FeedsAll}
-use Rattle.router_core.specs.Blocks.{RunsFirst}
-use Rattle.router_core.specs.Stands.{AllHaveExits}
-use Rattle.router_core.specs.Works.{HaveSameExits}
+use Rattle.exit_side.specs.Exits.{chain_at as exit_at}
 use Rattle.router_core.proofs.QueueLemmas.{queue_chains}
 use Rattle.router_core.proofs.SessionLemmas.{exit_here, exit_elsewhere}
+use Rattle.router_core.proofs.TurnLaws.{turn_works, runs_work, phase_works}
 
 -- ---- of any relation between moments
 module _ (G : Moment → List Line → Moment → Type 0) (nowhere : (m m' : Moment) (said : List Line) → said ≡ [] → m' ≡ m → G m said m') (then : (a b c : Moment) (xs ys said : List Line) → G a xs b → G b ys c → said ≡ xs ++ ys → G a said c)
-    (turn : (task : Task) (m : Moment) (said : List Line) (m' : Moment) → IsTurn task m said m' → G m said m') where
-  pub turns_along : (n : ℕ) (task : Task) (m : Moment) (said : List Line) (m' : Moment) → Turns n task m said m' → G m said m'
-  turns_along zero task m said m' t = nowhere m m' said t.0 t.1
-  turns_along (suc n) task m said m' t = then m t.2 m' t.0 t.1 said (turn task m t.0 t.2 t.3) (turns_along n task t.2 t.1 m' t.4) t.5
+    (turn : (task : Task) (m : Moment) (said : List Line) (m' : Moment) → Stands m → IsTurn task m said m' → G m said m') where
+  pub turns_along : (n : ℕ) (task : Task) (m : Moment) (said : List Line) (m' : Moment) → Stands m → Turns n task m said m' → G m said m'
+  turns_along zero task m said m' stands t = nowhere m m' said t.0 t.1
+  turns_along (suc n) task m said m' stands t = then m t.2 m' t.0 t.1 said (turn task m t.0 t.2 stands t.3) (turns_along n task t.2 t.1 m' (turn_works task m t.0 t.2 stands t.3).keeps.stands t.4) t.5
 
-  runs_along : (phase : Phase) (n : ℕ) (m : Moment) (said : List Line) (turns : ℕ) (m' : Moment) → Runs phase n m said turns m' → G m said m'
-  runs_along phase zero m said turns m' r = nowhere m m' said r.0 r.2
-  runs_along phase (suc n) m said turns m' r = then m r.4 m' r.0 r.1 said (runs_along phase n m r.0 r.2 r.4 r.5) (turns_along r.3 r.6.0 r.4 r.1 m' r.6.2.0) r.7
+  runs_along : (phase : Phase) (n : ℕ) (m : Moment) (said : List Line) (turns : ℕ) (m' : Moment) → Stands m → Runs phase n m said turns m' → G m said m'
+  runs_along phase zero m said turns m' stands r = nowhere m m' said r.0 r.2
+  runs_along phase (suc n) m said turns m' stands r =
+      then m r.4 m' r.0 r.1 said (runs_along phase n m r.0 r.2 r.4 stands r.5) (turns_along r.3 r.6.0 r.4 r.1 m' (runs_work phase n m r.0 r.2 r.4 stands r.5).keeps.stands r.6.2.0) r.7
 
-  pub phase_along : (phase : Phase) (m : Moment) (said : List Line) (turns : ℕ) (m' : Moment) → RunsPhase phase m said turns m' → G m said m'
-  phase_along phase m said turns m' r = runs_along phase r.count m said turns m' r.runs
+  pub phase_along : (phase : Phase) (m : Moment) (said : List Line) (turns : ℕ) (m' : Moment) → Stands m → RunsPhase phase m said turns m' → G m said m'
+  phase_along phase m said turns m' stands r = runs_along phase r.count m said turns m' stands r.runs
 
-  pub phases_along : (phases : List Phase) (m : Moment) (said : List Line) (turns : ℕ) (m' : Moment) → RunsAll phases m said turns m' → G m said m'
-  phases_along [] m said turns m' r = nowhere m m' said r.0 r.2
-  phases_along (phase ∷ later) m said turns m' r = then m r.4 m' r.0 r.1 said (phase_along phase m r.0 r.2 r.4 r.5) (phases_along later r.4 r.1 r.3 m' r.6) r.7
+  pub phases_along : (phases : List Phase) (m : Moment) (said : List Line) (turns : ℕ) (m' : Moment) → Stands m → RunsAll phases m said turns m' → G m said m'
+  phases_along [] m said turns m' stands r = nowhere m m' said r.0 r.2
+  phases_along (phase ∷ later) m said turns m' stands r =
+      then m r.4 m' r.0 r.1 said (phase_along phase m r.0 r.2 r.4 stands r.5) (phases_along later r.4 r.1 r.3 m' (phase_works phase m r.0 r.2 r.4 stands r.5).keeps.stands r.6) r.7
 
-  pub first_along : (task : Option Task) (m : Moment) (said : List Line) (m' : Moment) → RunsFirst task m said m' → G m said m'
-  first_along None m said m' r = nowhere m m' said r.0 r.1
-  first_along (Some task) m said m' r = turns_along r.0 task m said m' r.1.0
+  pub first_along : (task : Option Task) (m : Moment) (said : List Line) (m' : Moment) → Stands m → RunsFirst task m said m' → G m said m'
+  first_along None m said m' stands r = nowhere m m' said r.0 r.1
+  first_along (Some task) m said m' stands r = turns_along r.0 task m said m' stands r.1.0
 
 -- ---- the same peers have exits
 chains_same : (m m' : Moment) → m'.exits.chains ≡ m.exits.chains → HaveSameExits m m'
@@ -73,28 +58,28 @@ below_same (Some change) int m m' entries b = queue_chains m.exits m'.exits b.0.
 pub route_same : (m : Moment) (new : Treed) (proto : Proto) (p : Network) (way : List Link) (said : List Line) (m' : Moment) → FallsRoute m new proto p way said m' → HaveSameExits m m'
 route_same m new proto p way said m' f = chains_same m m' (ap (λ (x : Moment). x.exits.chains) f.after ∙ below_same f.sent (int_rows new) (with_tree m new) f.followed f.below f.below_int)
 
-pub turn_same : (task : Task) (m : Moment) (said : List Line) (m' : Moment) → IsTurn task m said m' → SameAlong m said m'
-turn_same (Del k s) m said m' t = peer_same (Del k s) m said m' t
-turn_same (Fin k) m said m' t = peer_same (Fin k) m said m' t
-turn_same (Nh k) m said m' t = chains_same m m' (queue_chains m.exits m'.exits t.decided.best t.queued)
-turn_same ReadRib m said m' t = chains_same m m' (ap (λ (x : Moment). x.exits.chains) t.after)
-turn_same (Out k) m said m' t = λ j. ap (λ (e : Exited). is_some (exit_at j e)) t.turn.after ∙ by_bool (nat_eq j k) (λ b. is_some (exit_at j (with_exit k t.turn.taken m'.exits.queue m.exits)) ≡ is_some (exit_at j m.exits))
+pub turn_same : (task : Task) (m : Moment) (said : List Line) (m' : Moment) → Stands m → IsTurn task m said m' → SameAlong m said m'
+turn_same (Del k s) m said m' stands t = peer_same (Del k s) m said m' t
+turn_same (Fin k) m said m' stands t = peer_same (Fin k) m said m' t
+turn_same (Nh k) m said m' stands t = chains_same m m' (queue_chains m.exits m'.exits t.decided.best t.queued)
+turn_same ReadRib m said m' stands t = chains_same m m' (ap (λ (x : Moment). x.exits.chains) t.after)
+turn_same (Out k) m said m' stands t = λ j. ap (λ (e : Exited). is_some (exit_at j e)) t.turn.after ∙ by_bool (nat_eq j k) (λ b. is_some (exit_at j (with_exit k t.turn.taken m'.exits.queue m.exits)) ≡ is_some (exit_at j m.exits))
     (λ same. subst (λ (n : ℕ). is_some (exit_at n (with_exit k t.turn.taken m'.exits.queue m.exits)) ≡ is_some (exit_at n m.exits)) (sym (equal_by j k same)) (ap is_some (exit_here k t.turn.taken m'.exits.queue m.exits) ∙ sym (ap is_some t.turn.at)))
     (λ apart. ap is_some (exit_elsewhere k j t.turn.taken m'.exits.queue m.exits apart))
-turn_same (Rdel proto n) m said m' t = route_same m _ proto t.prefix _ said m' t.falls
-turn_same Red m said m' t = chains_same m m' (queue_chains m.exits m'.exits t.decided.best t.queued)
-turn_same Ext m said m' t = chains_same m m' (ap (λ (x : Moment). x.exits.chains) t.after)
+turn_same (Rdel proto n) m said m' stands t = route_same m _ proto t.prefix _ said m' t.falls
+turn_same Red m said m' stands t = chains_same m m' (queue_chains m.exits m'.exits t.decided.best t.queued)
+turn_same Ext m said m' stands t = chains_same m m' (ap (λ (x : Moment). x.exits.chains) t.after)
 
-pub turns_same : (n : ℕ) (task : Task) (m : Moment) (said : List Line) (m' : Moment) → Turns n task m said m' → HaveSameExits m m'
+pub turns_same : (n : ℕ) (task : Task) (m : Moment) (said : List Line) (m' : Moment) → Stands m → Turns n task m said m' → HaveSameExits m m'
 turns_same = turns_along SameAlong same_nowhere same_then turn_same
 
-pub phase_same : (phase : Phase) (m : Moment) (said : List Line) (turns : ℕ) (m' : Moment) → RunsPhase phase m said turns m' → HaveSameExits m m'
+pub phase_same : (phase : Phase) (m : Moment) (said : List Line) (turns : ℕ) (m' : Moment) → Stands m → RunsPhase phase m said turns m' → HaveSameExits m m'
 phase_same = phase_along SameAlong same_nowhere same_then turn_same
 
-pub phases_same : (phases : List Phase) (m : Moment) (said : List Line) (turns : ℕ) (m' : Moment) → RunsAll phases m said turns m' → HaveSameExits m m'
+pub phases_same : (phases : List Phase) (m : Moment) (said : List Line) (turns : ℕ) (m' : Moment) → Stands m → RunsAll phases m said turns m' → HaveSameExits m m'
 phases_same = phases_along SameAlong same_nowhere same_then turn_same
 
-pub first_same : (task : Option Task) (m : Moment) (said : List Line) (m' : Moment) → RunsFirst task m said m' → HaveSameExits m m'
+pub first_same : (task : Option Task) (m : Moment) (said : List Line) (m' : Moment) → Stands m → RunsFirst task m said m' → HaveSameExits m m'
 first_same = first_along SameAlong same_nowhere same_then turn_same
 
 pub all_have_on : (m m' : Moment) → m'.declared ≡ m.declared → HaveSameExits m m' → AllHaveExits m → AllHaveExits m'

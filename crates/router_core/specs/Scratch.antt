@@ -1,6 +1,6 @@
 -- Which rows of a moment are what the live state alone asks for (`from_scratch` of `live_state`): all, where no task has work, and at any
 -- moment, at each prefix, those of each link that no work holds up there.
-use Rattle.std.specs.Prelude.{◌≡◌, ℕ, Bool, true, false, if◌then◌else◌, Option, Some, None, option_map, IfNone, IfSome}
+use Rattle.std.specs.Prelude.{◌≡◌, ℕ, Bool, true, false, if◌then◌else◌, Option, option_map, IfNone, IfSome}
 use Rattle.addr4.specs.Prefixes.{Network}
 use Rattle.link_change.specs.Rows.{Rows}
 use Rattle.rib_route.specs.declared.Proto.TheVariants.{Connected, Static, Ospf, Rip}

@@ -6,24 +6,26 @@ use Rattle.bgp_attr.specs.declared.speaker.Speaker.{Speaker}
 use Rattle.event_text.specs.declared.declared.DeclaredPeer.{DeclaredPeer}
 use Rattle.event_text.specs.Declarations.{peer_at}
 use Rattle.in_chain.specs.Chains.{Chained}
-use Rattle.hop_side.specs.Resolvers.{resolver_at, IsHops, AllAgree, AllCounted}
+use Rattle.hop_side.specs.Resolvers.{Resolvers, resolver_at, IsHops, AllAgree, AllCounted}
 use Rattle.hop_side.specs.Steps.{HasNoInterest}
 use Rattle.peer_side.specs.Peers.{Chains, chain_at, filt_at, IsPeers, AreBefore}
 use Rattle.rib_route.specs.declared.Proto.{Proto}
 use Rattle.rib_tree.specs.Trees.{Treed, branch_of, int_rows, IsTree, IsFull, AreNumbered}
 use Rattle.rib_tree.specs.Steps.{new_tree}
-use Rattle.pass_core.specs.Passed.{present}
+use Rattle.pass_core.specs.Passed.{Passed, present}
 use Rattle.policy_rules.specs.declared.rule.Rule.{Rule}
 use Rattle.loss_chain.specs.Rows.{AllRows}
 use Rattle.fanout_queue.specs.Queues.{AllLead}
 use Rattle.peer_out.specs.Changes.{MayBeHeard, IsSender}
 use Rattle.out_chain.specs.Chains.{OutChained}
 use Rattle.exit_side.specs.Exits.{Exited, IsExits, AllStand, chain_at as exit_at}
+use Rattle.rib_exit.specs.declared.exit.RibExit.{RibExit}
 use Rattle.rib_exit.specs.Exits.{nothing_yet, IsExit, AgreesWith, StandsOver}
+use Rattle.redist.specs.declared.protos.Protos.{Protos}
 use Rattle.redist.specs.Protocols.{no_protos}
+use Rattle.register_interest.specs.Registers.{Registry}
 use Rattle.router_core.specs.Moments.{Moment, Cored, Policies, rules_to, best_of, read_of}
 use Rattle.router_core.specs.Printable.{IsPrintableMoment}
-use Rattle.addr4.specs.Prefixes.{Network}
 use Rattle.rib_route.specs.declared.rows.Interior.{Interior}
 
 -- the first session that no loss of the peer can name yet: the present one where the peer is up, else the next
@@ -87,88 +89,58 @@ pub record TreeStands (speaker : Option Speaker) (t : Treed) : Type 0 where
   pub few : (proto : Proto) → length (branch_of proto t).tables.deletions ≤ 16
   pub waiting : speaker ≡ None → t ≡ new_tree
 
--- ---- the tables: a line for each claim, and for each tie between two parts
+-- ---- what is claimed, a record for each part
+-- The peers and their chains: exactly the declared peers have one each, as many as they are, by this speaker's words, and their numbers
+-- are from 1 to 64.
+pub record PeersStand (local : Option Speaker) (peers : List DeclaredPeer) (a : Chains) : Type 0 where
+  pub chains : IsPeers a
+  pub each : (k : ℕ) → StandsAt (peer_at k peers) (chain_at k a)
+  pub speaker : (k : ℕ) (c : Chained) → chain_at k a ≡ Some c → local ≡ Some c.me
+  pub count : tables.len a ≡ length peers
+  pub numbers : (k : ℕ) → IsSome (chain_at k a) → (1 ≤ k) × (k ≤ 64)
 
--- what is claimed: of the chains alone, of each peer and its chain, that the chains have the words of this speaker and are as many as
--- peers, and of the interior routes; of the resolvers alone, that exactly the peers with chains have one, that their next hops that
--- aren't stale have the register's present answers, that the next hops which the rows of `filt.K` name are counted, and that nobody
--- else but the RIB's exit, client 0, has an interest; that the peers have numbers from 1 to 64; that each row, live or lost, is one that octets may hold; of the exits
--- alone, that what each reader hasn't taken leads to the rows of `best`, and what each peer was sent, that messages are written by the profile that was declared and that this speaker's words
--- can be said, whose sessions they are, and who reads for the forwarding side; of the RIB's exit alone, that its next hops that aren't
--- stale have the register's present answers, and that `ebgp` and `ibgp` are the parts of what the reader has; and that before `local`
--- nothing is redistributed, and nothing stands in the RIB's exit
-pub data Claim : Type 0 where
-  EachChain : Claim
-  EachPeer : Claim
-  OneSpeaker : Claim
-  SameCount : Claim
-  InteriorTree : Claim
-  EachResolver : Claim
-  SameResolvers : Claim
-  AnswersAgree : Claim
-  HopsCounted : Claim
-  NoStrangers : Claim
-  SmallNumbers : Claim
-  EachRow : Claim
-  EachExit : Claim
-  QueueLeads : Claim
-  ExitsRead : Claim
-  SameProfile : Claim
-  OneSender : Claim
-  SameSessions : Claim
-  OneReader : Claim
-  ExternalExit : Claim
-  ExternalAgrees : Claim
-  ExternalStands : Claim
-  NothingOwn : Claim
-  NothingExternal : Claim
+-- The resolvers: exactly the peers with chains have one, their next hops that aren't stale have the register's present answers, the next
+-- hops which the rows of `filt.K` name are counted, and nobody else but the RIB's exit, client 0, has an interest.
+pub record HopsStand (a : Chains) (r : Registry Interior) (h : Resolvers) : Type 0 where
+  pub sound : IsHops h
+  pub same : (k : ℕ) → is_some (resolver_at k h) ≡ is_some (chain_at k a)
+  pub agree : AllAgree h r
+  pub counted : AllCounted (filt_at a) h
+  pub strangers : (k : ℕ) → k ≢ 0 → resolver_at k h ≡ None → HasNoInterest k r
 
-abbrev pub Claims : Moment → Claim → Type 0
-Claims m EachChain = IsPeers m.chains
-Claims m EachPeer = (k : ℕ) → StandsAt (peer_at k m.declared.peers) (chain_at k m.chains)
-Claims m OneSpeaker = (k : ℕ) (c : Chained) → chain_at k m.chains ≡ Some c → m.declared.speaker ≡ Some c.me
-Claims m SameCount = tables.len m.chains ≡ length m.declared.peers
-Claims m InteriorTree = TreeStands m.declared.speaker m.tree
-Claims m EachResolver = IsHops m.hops
-Claims m SameResolvers = (k : ℕ) → is_some (resolver_at k m.hops) ≡ is_some (chain_at k m.chains)
-Claims m AnswersAgree = AllAgree m.hops m.registry
-Claims m HopsCounted = AllCounted (filt_at m.chains) m.hops
-Claims m NoStrangers = (k : ℕ) → k ≢ 0 → resolver_at k m.hops ≡ None → HasNoInterest k m.registry
-Claims m SmallNumbers = (k : ℕ) → IsSome (chain_at k m.chains) → (1 ≤ k) × (k ≤ 64)
-Claims m EachRow = RowsWereHeard m.declared.profile m.chains
-Claims m EachExit = IsExits m.exits
-Claims m QueueLeads = AllLead m.exits.queue (best_of m)
-Claims m ExitsRead = AllStand (best_of m) m.exits
-Claims m SameProfile = m.exits.profile ≡ m.declared.profile
-Claims m OneSender = MaySend m.declared.profile m.declared.speaker
-Claims m SameSessions = (k : ℕ) → ExitsAt m.declared.speaker m.outgoing k (peer_at k m.declared.peers) (exit_at k m.exits)
-Claims m OneReader = ReadsOn m.declared.speaker m.reader m.exits
-Claims m ExternalExit = IsExit m.rib
-Claims m ExternalAgrees = AgreesWith m.rib m.registry
-Claims m ExternalStands = StandsOver (read_of m) m.rib
-Claims m NothingOwn = m.declared.speaker ≡ None → m.redist ≡ record { in_force = no_protos; walk = None }
-Claims m NothingExternal = m.declared.speaker ≡ None → m.rib ≡ nothing_yet
+-- The exits, and what is sent: each row of a chain, live or lost, is one that octets may hold; what each reader hasn't taken leads to the
+-- rows of `best`, and so does what each peer was sent; messages are written by the profile that was declared, and this speaker's words can
+-- be said; whose sessions they are; who reads for the forwarding side; and `ebgp` and `ibgp` are the parts of what that reader has.
+pub record ExitsStand (m : Moment) : Type 0 where
+  pub rows : RowsWereHeard m.declared.profile m.chains
+  pub each : IsExits m.exits
+  pub all : AllLead m.exits.queue (best_of m)
+  pub read : AllStand (best_of m) m.exits
+  pub profile : m.exits.profile ≡ m.declared.profile
+  pub sender : MaySend m.declared.profile m.declared.speaker
+  pub sessions : (k : ℕ) → ExitsAt m.declared.speaker m.outgoing k (peer_at k m.declared.peers) (exit_at k m.exits)
+  pub one : ReadsOn m.declared.speaker m.reader m.exits
+  pub external : StandsOver (read_of m) m.rib
 
--- all that the ties read at one prefix: the row of the register, and that of `int`
-pub record Here : Type 0 where
-  pub registered : Option Interior
-  pub int : Option Interior
+-- The RIB's exit: its next hops that aren't stale have the register's present answers.
+pub record RibStands (x : RibExit) (r : Registry Interior) : Type 0 where
+  pub sound : IsExit x
+  pub agree : AgreesWith x r
 
-abbrev pub here : Moment → Network → Here
-here m p = record { registered = tables.get m.registry.rows p; int = int_rows m.tree p }
+-- Before `local` nothing is redistributed, and nothing stands in the RIB's exit.
+pub record WaitsForLocal (speaker : Option Speaker) (s : Passed Protos) (x : RibExit) : Type 0 where
+  pub own : speaker ≡ None → s ≡ record { in_force = no_protos; walk = None }
+  pub external : speaker ≡ None → x ≡ nothing_yet
 
-pub data Tie : Type 0 where
-  Registered : Tie
-
-abbrev pub Ties : Here → Tie → Type 0
-Ties h Registered = h.registered ≡ h.int
-
--- ---- the same for any table
-
--- each claim, and the ties at each prefix
+-- All that holds between two steps; the register has the rows of `int`.
 pub record Stands (m : Moment) : Type 0 where
-  pub own : (claim : Claim) → Claims m claim
-  pub at : (p : Network) → (tie : Tie) → Ties (here m p) tie
+  pub peers : PeersStand m.declared.speaker m.declared.peers m.chains
+  pub interior : TreeStands m.declared.speaker m.tree
+  pub registered : tables.get m.registry.rows ≡ int_rows m.tree
+  pub hops : HopsStand m.chains m.registry m.hops
+  pub exits : ExitsStand m
+  pub external : RibStands m.rib m.registry
+  pub waits : WaitsForLocal m.declared.speaker m.redist m.rib
 
 -- Each peer that is up has an exit. Within a loss this doesn't hold: the exit ends first, before the oldest stage runs to its end.
 abbrev pub AllHaveExits : Moment → Type 0

@@ -31,9 +31,9 @@ use Rattle.rib_route.specs.declared.rows.Interior.{Interior}
 use Rattle.rib_route.specs.declared.rows.FibRow.{FibRow}
 use Rattle.journal_text.specs.declared.link.Link.{Link}
 use Rattle.loss_chain.specs.Steps.{table_of}
-use Rattle.rib_tree.specs.Trees.{Treed, branch_of, int_rows, int_candidates, tree_count, tree_tasks}
+use Rattle.rib_tree.specs.Trees.{Treed, branch_of, int_rows, int_candidates, tree_count, tree_tasks, IsTree, IsFull}
 use Rattle.rib_tree.specs.Steps.{welded_tree, swept_tree, tree_weld_entries, has_tree_turn}
-use Rattle.rib_tree.specs.Falls.{FallsTree, way_of_sweep}
+use Rattle.rib_tree.specs.Falls.{FallsTree, way_of_sweep, LeadsTree}
 use Rattle.prefix_trie.specs.Width.{width}
 use Rattle.register_interest.specs.declared.interests.Interest.{Interest}
 use Rattle.register_interest.specs.Interests.{AreReached, without}
@@ -55,6 +55,7 @@ use Rattle.journal_text.specs.Values.{route_value, sent_entries}
 use Rattle.router_core.specs.Bests.{all_at, own_entries, DecidesOn, Queues}
 use Rattle.router_core.specs.Phases.{unread_if, external_beyond, stale_in}
 use Rattle.router_core.specs.Moments.{Moment, own_of, best_of, candidates_of, most_unread, with_chains, with_hops, with_tree, with_exits, with_redist, with_rib}
+use Rattle.exit_side.specs.Laws.{StaysWithQueue}
 
 abbrev pub journal_lines : List (Entry Value) → List Line
 journal_lines entries = map (λ e. lines.Journal e) entries
@@ -153,6 +154,14 @@ BelowInt None int m m' entries = (m' ≡ m) × (entries ≡ [])
 BelowInt (Some change) int m m' entries =
     FollowsInt change int m m' entries × (m' ≡ record m { registry = m'.registry; hops = m'.hops; exits = m'.exits; rib = m'.rib })
 
+-- The weld of the stage of a protocol that a change emptied, if any, is a quiet step: no row of `int` changes, and the next step finds the
+-- tree as each asks for it.
+pub record WeldsRoute (proto : Proto) (t : Treed) : Type 0 where
+  pub leads : LeadsTree t (tree_weld_entries proto t) (welded_tree proto t)
+  pub int : int_rows (welded_tree proto t) ≡ int_rows t
+  pub tree : IsTree (welded_tree proto t)
+  pub full : IsFull (welded_tree proto t)
+
 -- A change of an interior route at a prefix made this of the tree: its messages go down to `int`, then all follows that is below, and
 -- behind that stands the weld of the stage that it emptied, if any.
 pub record FallsRoute (m : Moment) (new : Treed) (proto : Proto) (p : Network) (way : List Link) (said : List Line) (m' : Moment) : Type 0 where
@@ -164,7 +173,7 @@ pub record FallsRoute (m : Moment) (new : Treed) (proto : Proto) (p : Network) (
   pub below : List (Entry Value)
   pub below_int : BelowInt sent (int_rows new) (with_tree m new) followed below
   pub lines : said ≡ journal_lines (entries ++ (below ++ tree_weld_entries proto new))
-  pub int : int_rows (welded_tree proto new) ≡ int_rows new
+  pub welds : WeldsRoute proto new
   pub after : m' ≡ with_tree followed (welded_tree proto new)
 
 -- the change that a turn sent, if it sent one
@@ -211,12 +220,14 @@ pub record IsOutTurn (k : ℕ) (m : Moment) (said : List Line) (m' : Moment) : T
   pub turn : TurnsExit k (candidates_of m) (best_of m) sent m.exits m'.exits said
   pub after : m' ≡ with_exits m m'.exits
 
--- One turn of the forwarding side: the first change that it hasn't read comes on `read.rib`, and goes down through the RIB's exit.
+-- One turn of the forwarding side: the first change that it hasn't read comes on `read.rib`, and goes down through the RIB's exit; the
+-- exits of peers stay as they were.
 pub record IsReadTurn (m : Moment) (said : List Line) (m' : Moment) : Type 0 where
   pub reader : ℕ
   pub reads : m.reader ≡ Some reader
   pub change : Change Route
   pub takes : Takes m.exits.queue m'.exits.queue reader (Some change)
+  pub stays : StaysWithQueue m.exits m'.exits.queue
   pub fib : Option (Change FibRow)
   pub entries : List (Entry Value)
   pub external : TakesExternal change (int_rows m.tree) fib m.registry m'.registry m.rib m'.rib entries

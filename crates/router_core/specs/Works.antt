@@ -11,10 +11,10 @@ use Rattle.journal_text.specs.Texts.{entries_of}
 use Rattle.journal_text.specs.Journals.{Journaled, with_lines, with_entries, flushed}
 use Rattle.event_text.specs.declared.declared.DeclaredPeer.{DeclaredPeer}
 use Rattle.event_text.specs.Declarations.{peer_at}
-use Rattle.peer_side.specs.Peers.{chain_at, overdue_at, rows_in}
+use Rattle.peer_side.specs.Peers.{chain_at, overdue_at, rows_in, IsPeersBut}
 use Rattle.nexthop_known.specs.Hops.{is_stale_at}
-use Rattle.hop_side.specs.Resolvers.{resolver_at, known_in}
-use Rattle.rib_exit.specs.Exits.{known_in as external_known, stale_in as external_stale}
+use Rattle.hop_side.specs.Resolvers.{resolver_at, known_in, IsHops, AllAgree}
+use Rattle.rib_exit.specs.Exits.{known_in as external_known, stale_in as external_stale, IsExit}
 use Rattle.peer_side.specs.Steps.{LosesInward, WeldsInward}
 use Rattle.bgp_attr.specs.declared.route.Route.{Route}
 use Rattle.journal_text.specs.declared.entry.Entry.{Entry}
@@ -26,9 +26,8 @@ use Rattle.router_core.specs.declared.router.Done.{Done}
 use Rattle.router_core.specs.declared.router.Done.TheVariants.{Nothing, Taken}
 use Rattle.rib_route.specs.declared.Proto.{Proto}
 use Rattle.rib_route.specs.declared.rows.Interior.{Interior}
-use Rattle.rib_tree.specs.Trees.{Treed, int_rows, tree_count, IsTree, IsFull}
-use Rattle.rib_tree.specs.Falls.{LeadsTree}
-use Rattle.rib_tree.specs.Steps.{lost_tree, welded_tree, tree_overdue, tree_loss_entries, tree_weld_entries}
+use Rattle.rib_tree.specs.Trees.{int_rows, tree_count}
+use Rattle.rib_tree.specs.Steps.{lost_tree, welded_tree, tree_overdue, tree_loss_entries, tree_weld_entries, fed_tree}
 use Rattle.std.specs.FinMap as tables
 use Rattle.bgp_attr.specs.declared.speaker.Speaker.{Speaker}
 use Rattle.bgp_attr.specs.declared.speaker.Profile.{Profile}
@@ -36,11 +35,10 @@ use Rattle.peer_out.specs.Changes.{IsSender, MayBeHeard}
 use Rattle.journal_text.specs.declared.link.Link.TheVariants.{Best, ReadRib}
 use Rattle.journal_text.specs.declared.entry.Entry.TheVariants.{Inherit}
 use Rattle.std.specs.Prelude.{[], ◌∷◌}
-use Rattle.exit_side.specs.Exits.{with_queue, chain_at as exit_at}
+use Rattle.exit_side.specs.Exits.{with_queue, chain_at as exit_at, IsExits}
 use Rattle.exit_side.specs.Steps.{BeginsExit}
 use Rattle.router_core.specs.Bests.{all_at, best_entries, own_entries, DecidesOn, Queues}
 use Rattle.router_core.specs.Moments.{Moment, own_of, most_unread, with_chains, with_hops, with_rib, with_tree, with_exits, rules_to, router_links, bound_of, Gives}
-use Rattle.journal_text.specs.declared.link.Link.{Link}
 use Rattle.live_state.specs.Lives.{LiveState, LiveAfter, live_fed, heard, ended, interior_lost}
 use Rattle.router_core.specs.Lives.{live_state}
 use Rattle.router_core.specs.Stands.{Stands}
@@ -48,7 +46,7 @@ use Rattle.router_core.specs.Printable.{IsHeard}
 use Rattle.router_core.specs.Scratch.{IsExact}
 use Rattle.router_core.specs.declared.router.Phase.{Phase}
 use Rattle.router_core.specs.declared.router.Phase.TheVariants as phases
-use Rattle.router_core.specs.Turns.{ResolvesOn, Invalidates, FollowsOwn, BelowInt, journal_lines, InPeers, FeedsAll, FallsRoute, phase_of, IsTurn, Turns, Runs, RunsPhase, RunsAll, has_work, phase_bound, rise_bound, IsOver, IsSettled}
+use Rattle.router_core.specs.Turns.{ResolvesOn, Invalidates, FollowsOwn, BelowInt, journal_lines, InPeers, FeedsAll, FallsRoute, phase_of, IsTurn, Turns, RunsPhase, RunsAll, has_work, phase_bound, rise_bound, IsOver, IsSettled, WeldsRoute}
 use Rattle.router_core.specs.Phases.{all_phases, counts, changes_left, earlier, left_from, is_stale_by, stale_in}
 use Rattle.router_core.specs.Blocks.{RunsFirst, Loses, Hears, Idles, IsBlock, ended as ended_moment}
 use Rattle.router_core.specs.declared.router.Idle.{Idle}
@@ -56,6 +54,7 @@ use Rattle.event_text.specs.declared.event.Event.{Event}
 use Rattle.std.specs.Option.{ForSome}
 use Rattle.bgp_wire.specs.declared.message.Message.{Message}
 use Rattle.bgp_wire.specs.declared.message.Message.TheVariants as messages
+use Rattle.rib_tree.specs.Falls.{way_of_route}
 
 -- these lines were pushed, and this is said of them
 abbrev pub Pushes : (List Line → Type 0) → Journaled → Journaled → Type 0
@@ -112,32 +111,31 @@ pub record IsUnit (task : Task) (m m' : Moment) (said : List Line) : Type 0 wher
   pub turn : IsTurn task m said m'
   pub work : IsWork (phase_of task) 1 m m' said
 
+-- what the code tells of a turn of a task: the relation, and where there is no work, that nothing changes
+abbrev pub TakesTurn : Task → Moment → Moment → Journaled → Journaled → Done → Type 0
+TakesTurn task m m' before now Nothing = (has_work task m ≡ false) × (m' ≡ m) × (now ≡ before)
+TakesTurn task m m' before now Taken = Gives (λ said. IsTurn task m said m') before now
+
 -- what a turn of a task came to; where there is no work, nothing changes
 abbrev pub Comes : Task → Moment → Moment → Journaled → Journaled → Done → Type 0
 Comes task m m' before now Nothing = (has_work task m ≡ false) × (m' ≡ m) × (now ≡ before)
 Comes task m m' before now Taken = Gives (IsUnit task m m') before now
 
--- so many turns of a task
-pub record HaveRun (task : Task) (m : Moment) (turns : ℕ) (m' : Moment) (said : List Line) : Type 0 where
-  pub taken : Turns turns task m said m'
-  pub work : IsWork (phase_of task) turns m m' said
-
 -- at most n turns of a task, and fewer only where it then has no work
 pub record AreTurns (task : Task) (n : ℕ) (m : Moment) (turns : ℕ) (m' : Moment) (said : List Line) : Type 0 where
-  pub run : HaveRun task m turns m' said
+  pub taken : Turns turns task m said m'
   pub most : turns ≤ n
   pub ended : (turns ≡ n) ⊎ (has_work task m' ≡ false)
 
 -- a task has run to its end
 pub record HasDrained (task : Task) (m : Moment) (turns : ℕ) (m' : Moment) (said : List Line) : Type 0 where
-  pub run : HaveRun task m turns m' said
+  pub taken : Turns turns task m said m'
   pub ended : has_work task m' ≡ false
 
--- tasks of a phase have run, each to its end
-pub record HaveRunOf (phase : Phase) (m : Moment) (turns : ℕ) (m' : Moment) (said : List Line) : Type 0 where
-  pub count : ℕ
-  pub runs : Runs phase count m said turns m'
-  pub work : IsWork phase turns m m' said
+-- a phase has run to its end, and no turn of it is left
+pub record RunsOut (phase : Phase) (m : Moment) (turns : ℕ) (m' : Moment) (said : List Line) : Type 0 where
+  pub runs : RunsPhase phase m said turns m'
+  pub none : counts m' phase ≡ 0
 
 -- A phase of an idle has run to its end.
 pub record HaveDrained (phase : Phase) (m : Moment) (turns : ℕ) (m' : Moment) (said : List Line) : Type 0 where
@@ -223,6 +221,16 @@ pub record HasHeard (k : ℕ) (p : DeclaredPeer) (m : Moment) (message : Message
 
 -- ---- next hops
 
+-- What a fall in the chain of peer k leaves, may go on: at most the chain has an empty stage, and all that is below stands.
+pub record MaySettle (k : ℕ) (m : Moment) : Type 0 where
+  pub chains : IsPeersBut k m.chains
+  pub there : IsSome (chain_at k m.chains)
+  pub hops : IsHops m.hops
+  pub resolver : IsSome (resolver_at k m.hops)
+  pub agree : AllAgree m.hops m.registry
+  pub small : k ≤ 64
+  pub exits : IsExits m.exits
+
 -- What follows a change on `filt.K`, what follows that on `res.K`, and behind them the stage of the peer that was emptied goes, if there is one.
 pub record SettlesPeer (k : ℕ) (sent : Option (Change Route)) (m m' : Moment) (entries : List (Entry Value)) : Type 0 where
   pub resolved : List (Entry Value)
@@ -250,10 +258,9 @@ pub record Decides (k : ℕ) (sent : Option (Change Route)) (m m' : Moment) (ent
 
 -- ---- interior routes
 
--- A change of an interior route made this of the tree.
-pub record HasRouted (m : Moment) (new : Treed) (proto : Proto) (p : Network) (way : List Link) (live : LiveState) (m' : Moment) (said : List Line) : Type 0 where
-  pub falls : FallsRoute m new proto p way said m'
-  pub keeps : Keeps live m m' said
+-- A protocol's route at a prefix is this one from now on, or gone.
+abbrev pub SetsRoute : Moment → Proto → Network → Option Interior → List Line → Moment → Type 0
+SetsRoute m proto p new said m' = FallsRoute m (fed_tree m.tree proto p new) proto p (way_of_route proto m.tree) said m'
 
 -- there is room for a loss of the protocol
 pub record HasProtocolRoom (proto : Proto) (m room : Moment) (said : List Line) : Type 0 where
@@ -285,6 +292,13 @@ pub record Redistributes (change : Change Interior) (m m' : Moment) (entries : L
   pub own : FollowsOwn me change m.redist m.chains m.hops (int_rows m.tree) m.exits m'.exits entries
   pub after : m' ≡ with_exits m m'.exits
 
+-- A change of `int` may go on: what is below stands, and `local` was declared.
+pub record MayFollow (m : Moment) : Type 0 where
+  pub hops : IsHops m.hops
+  pub rib : IsExit m.rib
+  pub exits : IsExits m.exits
+  pub since : IsSome m.declared.speaker
+
 -- What follows a change that came out on `int`, if one did.
 abbrev pub Follows : Option (Change Interior) → Moment → Moment → List (Entry Value) → Type 0
 Follows sent m m' entries = BelowInt sent (int_rows m.tree) m m' entries
@@ -296,10 +310,7 @@ pub record Settles (proto : Proto) (sent : Option (Change Interior)) (m m' : Mom
   pub below_int : BelowInt sent (int_rows m.tree) m followed below
   pub after : m' ≡ with_tree followed (welded_tree proto m.tree)
   pub lines : entries ≡ below ++ tree_weld_entries proto m.tree
-  pub leads : LeadsTree m.tree (tree_weld_entries proto m.tree) (welded_tree proto m.tree)
-  pub int : int_rows (welded_tree proto m.tree) ≡ int_rows m.tree
-  pub tree : IsTree (welded_tree proto m.tree)
-  pub full : IsFull (welded_tree proto m.tree)
+  pub welds : WeldsRoute proto m.tree
 
 -- the same, and the text of its lines
 abbrev pub Turned : Proto → Option (Change Interior) → Moment → Moment → Journaled → Journaled → Done → Type 0

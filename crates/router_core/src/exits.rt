@@ -17,7 +17,7 @@ ghost use Rattle.router_core.specs.Moments.{best_of, read_links, rules_to};
 ghost use Rattle.router_core.specs.Stands.{Stands, HaveReaders};
 ghost use Rattle.router_core.specs.Lookups.{IsNextPlace};
 ghost use Rattle.router_core.specs.Turns.{has_work, next_task};
-ghost use Rattle.router_core.specs.Works.{Comes, Forwards, HasStepped, JoinsQueue, BeginsReading, BeginsSession, SendsAs};
+ghost use Rattle.router_core.specs.Works.{TakesTurn, Forwards, HasStepped, JoinsQueue, BeginsReading, BeginsSession, SendsAs};
 
 use crate::best::Lent;
 use crate::network::Network;
@@ -153,7 +153,7 @@ impl Network {
     /// One turn of a peer's exit, and the text of its lines.
     pub(crate) fn turn_exit(&mut self, number: u32, journal: &mut Journal) -> Result<Done, Memory>
         requires { Stands self.old }
-        ensures { IfOk result (Comes (tasks.Out number) self.old self.new journal.old journal.new) }
+        ensures { IfOk result (TakesTurn (tasks.Out number) self.old self.new journal.old journal.new) }
     {
         let lent = Lent {
             declared: &self.declared,
@@ -178,7 +178,7 @@ impl Network {
     /// exit to `fib`.
     pub(crate) fn turn_reader(&mut self, journal: &mut Journal) -> Result<Done, Memory>
         requires { Stands self.old }
-        ensures { IfOk result (Comes tasks.ReadRib self.old self.new journal.old journal.new) }
+        ensures { IfOk result (TakesTurn tasks.ReadRib self.old self.new journal.old journal.new) }
     {
         let Some(reader) = &mut self.reader else {
             return Ok(Done::Nothing);
@@ -214,7 +214,7 @@ impl Network {
     /// One turn of the next hops of external routes.
     pub(crate) fn turn_external(&mut self, journal: &mut Journal) -> Result<Done, Memory>
         requires { Stands self.old }
-        ensures { IfOk result (Comes tasks.Ext self.old self.new journal.old journal.new) }
+        ensures { IfOk result (TakesTurn tasks.Ext self.old self.new journal.old journal.new) }
     {
         let turn = self.rib.turn(&self.tree, &mut self.registry, journal)?;
         if rested(turn) {

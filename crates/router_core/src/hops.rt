@@ -1,15 +1,13 @@
 //! What follows a change in a peer's chain: its resolver takes the change in. And turns of chains and resolvers.
 
-ghost use Rattle.std.specs.Prelude.{◌≡◌, ◌≤◌, IfOk, OnOk, IsSome};
+ghost use Rattle.std.specs.Prelude.{◌≡◌, IfOk, OnOk, IsSome};
 ghost use Rattle.journal_text.specs.declared.link.Task.TheVariants as tasks;
 ghost use Rattle.journal_text.specs.Journals.{Adds};
 ghost use Rattle.hop_side.specs.Resolvers.{resolver_at, IsHops, AllAgree};
-ghost use Rattle.exit_side.specs.Exits.{IsExits};
-ghost use Rattle.peer_side.specs.Peers.{chain_at, IsPeersBut};
 ghost use Rattle.router_core.specs.Moments.{with_hops};
 ghost use Rattle.router_core.specs.Stands.{Stands};
 ghost use Rattle.router_core.specs.Turns.{IsOfPeers, ResolvesOn, sent_of};
-ghost use Rattle.router_core.specs.Works.{Comes, SettlesPeer};
+ghost use Rattle.router_core.specs.Works.{TakesTurn, MaySettle, SettlesPeer};
 
 use crate::network::Network;
 use crate::router::Done;
@@ -28,13 +26,7 @@ impl Network {
         sent: Option<Change<Route>>,
         journal: &mut Journal,
     ) -> Result<(), Memory>
-        requires chains { IsPeersBut number self.old.chains }
-        requires there { IsSome (chain_at number self.old.chains) }
-        requires hops { IsHops self.old.hops }
-        requires resolver { IsSome (resolver_at number self.old.hops) }
-        requires agree { AllAgree self.old.hops self.old.registry }
-        requires small { number ≤ 64 }
-        requires exits { IsExits self.old.exits }
+        requires { MaySettle number self.old }
         ensures { OnOk result (Adds (SettlesPeer number sent self.old self.new) journal.old journal.new) }
     {
         let passed = self.resolve(number, sent, journal)?;
@@ -66,7 +58,7 @@ impl Network {
     pub(crate) fn turn_peer(&mut self, task: Task, journal: &mut Journal) -> Result<Done, Memory>
         requires stands { Stands self.old }
         requires peers { IsOfPeers task }
-        ensures { IfOk result (Comes task self.old self.new journal.old journal.new) }
+        ensures { IfOk result (TakesTurn task self.old self.new journal.old journal.new) }
     {
         let turn = self.chains.turn(task, journal)?;
         if let Turn::Nothing = turn {
@@ -80,7 +72,7 @@ impl Network {
     /// One turn of the next hops of a peer, and the text of its lines.
     pub(crate) fn turn_hops(&mut self, number: u32, journal: &mut Journal) -> Result<Done, Memory>
         requires { Stands self.old }
-        ensures { IfOk result (Comes (tasks.Nh number) self.old self.new journal.old journal.new) }
+        ensures { IfOk result (TakesTurn (tasks.Nh number) self.old self.new journal.old journal.new) }
     {
         let Some(chain) = self.chains.chain(number) else {
             return Ok(Done::Nothing);

@@ -9,7 +9,7 @@ ghost use Rattle.exit_side.specs.Exits.{IsExits};
 ghost use Rattle.router_core.specs.declared.router.Phase.TheVariants as phases;
 ghost use Rattle.router_core.specs.Stands.{Stands};
 ghost use Rattle.router_core.specs.Turns.{next_task};
-ghost use Rattle.router_core.specs.Works.{Comes, HasStepped, Redistributes, SendsOwn};
+ghost use Rattle.router_core.specs.Works.{TakesTurn, HasStepped, Redistributes, SendsOwn};
 
 use crate::hops::sent_of;
 use crate::network::Network;
@@ -59,7 +59,7 @@ impl Network {
     /// One turn of the walk of redistribution, and the text of its lines.
     pub(crate) fn turn_own(&mut self, journal: &mut Journal) -> Result<Done, Memory>
         requires { Stands self.old }
-        ensures { IfOk result (Comes tasks.Red self.old self.new journal.old journal.new) }
+        ensures { IfOk result (TakesTurn tasks.Red self.old self.new journal.old journal.new) }
     {
         let Some(me) = self.declared.speaker() else {
             return Ok(Done::Nothing);

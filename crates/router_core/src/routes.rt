@@ -10,7 +10,6 @@ ghost use Rattle.rib_tree.specs.Trees.{branch_of, AreNumbered, IsTree, IsFullBut
 ghost use Rattle.rib_tree.specs.Steps.{fed_tree, tree_overdue};
 ghost use Rattle.rib_tree.specs.Falls.{way_of_route};
 ghost use Rattle.hop_side.specs.Resolvers.{IsHops};
-ghost use Rattle.exit_side.specs.Exits.{IsExits};
 ghost use Rattle.rib_exit.specs.Exits.{IsExit};
 ghost use Rattle.journal_text.specs.Journals.{Adds};
 ghost use Rattle.router_core.specs.Moments.{Gives};
@@ -19,7 +18,7 @@ ghost use Rattle.live_state.specs.Lives.{interior_fed};
 ghost use Rattle.router_core.specs.Lives.{live_state};
 ghost use Rattle.router_core.specs.Stands.{Stands};
 ghost use Rattle.router_core.specs.Turns.{Registers};
-ghost use Rattle.router_core.specs.Works.{Comes, Informs, Follows, Settles, Turned, HasRouted, HasProtocolRoom, EndsProtocol, HasStepped, Pushes};
+ghost use Rattle.router_core.specs.Works.{TakesTurn, Informs, MayFollow, Follows, Settles, Turned, SetsRoute, HasProtocolRoom, EndsProtocol, HasStepped, Pushes};
 
 use crate::network::Network;
 use crate::router::Done;
@@ -29,7 +28,6 @@ use journal_text::{Journal, Line, Task};
 use link_change::{Change, Turn};
 use register_interest::{Interest, Register};
 use rib_route::{Interior, Proto};
-use rib_tree::{turns_take_rows, welds_keep_rows};
 use std::alloc::Global;
 
 impl Network {
@@ -134,7 +132,7 @@ impl Network {
         requires stands { Stands self.old }
         requires own { IfSome new (λ row. row.proto ≡ proto) }
         requires since { IsSome self.old.declared.speaker }
-        ensures { OnOk result (Pushes (HasRouted self.old (fed_tree self.old.tree proto p new) proto p (way_of_route proto self.old.tree) (interior_fed (live_state self.old) proto (live_after (branch_of proto self.old.tree).tables.live p new)) self.new) journal.old journal.new) }
+        ensures { OnOk result (Pushes (λ said. SetsRoute self.old proto p new said self.new) journal.old journal.new) }
     {
         // By cases: the prover asks for a route in sight where one is passed on.
         match new {
@@ -158,10 +156,7 @@ impl Network {
     ) -> Result<(), Memory>
         requires tree { IsTree self.old.tree }
         requires full { IsFullBut proto self.old.tree }
-        requires hops { IsHops self.old.hops }
-        requires rib { IsExit self.old.rib }
-        requires exits { IsExits self.old.exits }
-        requires since { IsSome self.old.declared.speaker }
+        requires follow { MayFollow self.old }
         ensures { OnOk result (Adds (Settles proto sent self.old self.new) journal.old journal.new) }
     {
         self.follow(sent, journal)?;
@@ -176,10 +171,7 @@ impl Network {
         sent: Option<Change<Interior>>,
         journal: &mut Journal,
     ) -> Result<(), Memory>
-        requires hops { IsHops self.old.hops }
-        requires rib { IsExit self.old.rib }
-        requires exits { IsExits self.old.exits }
-        requires since { IsSome self.old.declared.speaker }
+        requires { MayFollow self.old }
         ensures { OnOk result (Adds (Follows sent self.old self.new) journal.old journal.new) }
     {
         match sent {
@@ -190,10 +182,7 @@ impl Network {
 
     /// What follows a change that came out on `int`, in its order.
     fn pass_on(&mut self, change: &Change<Interior>, journal: &mut Journal) -> Result<(), Memory>
-        requires hops { IsHops self.old.hops }
-        requires rib { IsExit self.old.rib }
-        requires exits { IsExits self.old.exits }
-        requires since { IsSome self.old.declared.speaker }
+        requires { MayFollow self.old }
         ensures { OnOk result (Adds (Follows (Some change.now) self.old self.new) journal.old journal.new) }
     {
         self.inform(change)?;
@@ -225,10 +214,8 @@ impl Network {
         journal: &mut Journal,
     ) -> Result<Done, Memory>
         requires { Stands self.old }
-        ensures { IfOk result (Comes (tasks.Rdel proto loss) self.old self.new journal.old journal.new) }
+        ensures { IfOk result (TakesTurn (tasks.Rdel proto loss) self.old self.new journal.old journal.new) }
     {
-        turns_take_rows();
-        welds_keep_rows();
         match self.tree.unit(Task::Rdel(proto, loss), journal)? {
             Turn::Nothing => Ok(Done::Nothing),
             Turn::Quiet => self.turned(proto, None, journal),
@@ -245,10 +232,7 @@ impl Network {
     ) -> Result<Done, Memory>
         requires tree { IsTree self.old.tree }
         requires full { IsFullBut proto self.old.tree }
-        requires hops { IsHops self.old.hops }
-        requires rib { IsExit self.old.rib }
-        requires exits { IsExits self.old.exits }
-        requires since { IsSome self.old.declared.speaker }
+        requires follow { MayFollow self.old }
         ensures { IfOk result (Turned proto sent self.old self.new journal.old journal.new) }
     {
         self.settle(proto, sent, journal)?;

@@ -6,20 +6,19 @@ ghost use Rattle.router_core.specs.Moments.{Gives};
 ghost use Rattle.router_core.specs.Stands.{Stands, AllHaveExits};
 ghost use Rattle.router_core.specs.Phases.{all_phases, counts};
 ghost use Rattle.router_core.specs.Turns.{next_task};
-ghost use Rattle.router_core.specs.Works.{Comes, AreTurns, HasDrained, HaveDrained, AllHaveDrained};
+ghost use Rattle.router_core.specs.Works.{TakesTurn, AreTurns, HasDrained, RunsOut, AllHaveDrained};
 
 use crate::laws::{only_work_holds_up, rows_at_rest_are_exact};
 use crate::network::{Network, plus};
 use crate::router::{Done, Phase};
 use addr4::Memory;
-use in_chain::turns_are_bounded;
 use journal_text::{Journal, Task};
 
 impl Network {
     /// One turn of a task, and the text of its lines.
     pub(crate) fn turn(&mut self, task: Task, journal: &mut Journal) -> Result<Done, Memory>
         requires { Stands self.old }
-        ensures { IfOk result (Comes task self.old self.new journal.old journal.new) }
+        ensures { IfOk result (TakesTurn task self.old self.new journal.old journal.new) }
     {
         match task {
             Task::Rdel(proto, loss) => self.turn_route(proto, loss, journal),
@@ -88,9 +87,8 @@ impl Network {
     /// A phase: the first of its tasks that has work runs to its end, until none has.
     pub(crate) fn drain(&mut self, phase: Phase, journal: &mut Journal) -> Result<u128, Memory>
         requires { Stands self.old }
-        ensures { IfOk result (λ turns. Gives (HaveDrained phase self.old turns self.new) journal.old journal.new) }
+        ensures { IfOk result (λ turns. Gives (RunsOut phase self.old turns self.new) journal.old journal.new) }
     {
-        turns_are_bounded();
         journal.flush()?;
         let mut turns = 0;
         while let Some(task) = self.next(phase) {
@@ -105,7 +103,6 @@ impl Network {
         requires exits { AllHaveExits self.old }
         ensures { IfOk result (λ turns. Gives (AllHaveDrained self.old turns self.new) journal.old journal.new) }
     {
-        turns_are_bounded();
         rows_at_rest_are_exact();
         only_work_holds_up();
         journal.flush()?;

@@ -1,5 +1,5 @@
-use Rattle.std.proofs.Common.{◌≡◌, ◌<◌, ◌≤◌, ◌^◌, ◌∷◌, ◌∙◌, List, ℕ, length, arith, subst, sym, ap}
-use Rattle.std.specs.List.{AllByRecursion}
+use Rattle.router_core.proofs.Common.{sym, subst, ◌∙◌, ap, ◌≡◌, ℕ, List, arith, ◌≤◌, ◌<◌, AllByRecursion}
+use Rattle.std.proofs.Common.{◌^◌, ◌∷◌, length}
 use Rattle.bgp_wire.proofs.SpelledLengths.{length-framed}
 use Rattle.router_core.proofs.steps.spelled.Goals as goal
 

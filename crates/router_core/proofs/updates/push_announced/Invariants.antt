@@ -1,7 +1,6 @@
-use Rattle.std.proofs.Common.{◌≡◌, ◌++◌, map, take}
+use Rattle.router_core.proofs.Common.{◌≡◌, ◌++◌, take, is_host_prefix, announced_with}
+use Rattle.std.proofs.Common.{map}
 use Rattle.std.specs.Prelude.{filter}
-use Rattle.bgp_attr.specs.Hosts.{is_host_prefix}
-use Rattle.live_state.specs.Messages.{announced_with}
 use Rattle.router_core.proofs.updates.push_announced.Given as goal
 
 abbrev pub invariant-loop-prefix : goal.invariant-loop-prefix

@@ -1,4 +1,5 @@
-use Rattle.std.proofs.Common.{◌∙◌, true, false, sym, ap, append-nil}
+use Rattle.router_core.proofs.Common.{sym, ◌∙◌, ap, true, false}
+use Rattle.std.proofs.Common.{append-nil}
 use Rattle.live_state.proofs.UpdateLemmas.{set_has, one_more}
 use Rattle.router_core.proofs.updates.push_withdrawn.Goals as goal
 use Rattle.router_core.proofs.updates.push_withdrawn.Goals.{then-not-contains+in_ok-push, else-not-contains}

@@ -1,6 +1,6 @@
-use Rattle.std.proofs.Common.{◌≡◌, ◌++◌, map, take}
+use Rattle.router_core.proofs.Common.{◌≡◌, ◌++◌, take, withdrawn_from}
+use Rattle.std.proofs.Common.{map}
 use Rattle.bgp_wire.specs.Grammar.{without}
-use Rattle.live_state.specs.Messages.{withdrawn_from}
 use Rattle.router_core.proofs.updates.push_withdrawn.Given as goal
 
 abbrev pub invariant-loop-prefix : goal.invariant-loop-prefix

@@ -1,5 +1,5 @@
-use Rattle.std.proofs.Common.{◌∙◌, Some, None}
-use Rattle.std.proofs.lemmas.Result.{IfOk-weaker}
+use Rattle.router_core.proofs.Common.{◌∙◌, IfOk-weaker}
+use Rattle.std.proofs.Common.{Some, None}
 use Rattle.router_core.proofs.PolicyLemmas.{policies_get}
 use Rattle.router_core.proofs.exits.Policies.rules.Goals as goal
 

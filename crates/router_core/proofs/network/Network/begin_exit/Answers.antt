@@ -1,6 +1,5 @@
-use Rattle.std.proofs.Common.{ℕ, sym, ap, ◌∙◌}
+use Rattle.router_core.proofs.Common.{sym, ◌∙◌, ap, ℕ, Moment}
 use Rattle.exit_side.specs.Exits.{chain_at as exit_at}
-use Rattle.router_core.specs.Moments.{Moment}
 use Rattle.router_core.proofs.SessionLemmas.{number_at}
 use Rattle.router_core.proofs.network.Network.begin_exit.Goals as goal
 

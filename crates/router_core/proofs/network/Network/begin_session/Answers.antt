@@ -1,5 +1,5 @@
-use Rattle.std.proofs.Common.{◌∙◌, [], sym, ◌∷◌}
-use Rattle.std.proofs.lemmas.Result.{on_ok_weaker}
+use Rattle.router_core.proofs.Common.{sym, ◌∙◌, on_ok_weaker}
+use Rattle.std.proofs.Common.{[], ◌∷◌}
 use Rattle.journal_text.specs.declared.line.Line.TheVariants as lines
 use Rattle.router_core.proofs.PeerLemmas.{begun_is, ignored_stepped}
 use Rattle.router_core.proofs.SessionLemmas.{session_begun, begins_there, begins_absent, begins_sender, begins_sound}

@@ -1,7 +1,5 @@
-use Rattle.std.proofs.Common.{◌≡◌, subst}
+use Rattle.router_core.proofs.Common.{subst, ◌≡◌, Route, Rows}
 use Rattle.std.specs.Prelude.{IfOk}
-use Rattle.bgp_attr.specs.declared.route.Route.{Route}
-use Rattle.link_change.specs.Rows.{Rows}
 use Rattle.router_core.proofs.BestLemmas.{lent_best}
 use Rattle.router_core.proofs.network.Network.best.Goals as goal
 

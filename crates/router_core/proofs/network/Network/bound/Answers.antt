@@ -1,6 +1,5 @@
-use Rattle.std.proofs.Common.{ℕ, List, length, ◌+◌, ap, ◌∙◌}
-use Rattle.std.proofs.lemmas.Result.{IfOk-weaker}
-use Rattle.event_text.specs.declared.declared.DeclaredPeer.{DeclaredPeer}
+use Rattle.router_core.proofs.Common.{◌∙◌, ap, ℕ, List, ◌+◌, IfOk-weaker, DeclaredPeer}
+use Rattle.std.proofs.Common.{length}
 use Rattle.router_core.proofs.ReadingLemmas.{bound_is}
 use Rattle.router_core.proofs.network.Network.bound.Goals as goal
 

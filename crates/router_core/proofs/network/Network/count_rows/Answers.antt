@@ -1,6 +1,4 @@
-use Rattle.std.proofs.Common.{arith}
-use Rattle.addr4.specs.Places.{key_of}
-use Rattle.router_core.specs.Moments.{router_links}
+use Rattle.router_core.proofs.Common.{arith, key_of, router_links}
 use Rattle.router_core.proofs.ShownRows.{none_counted, one_counted, all_counted}
 use Rattle.journal_laws.proofs.ShownRows.{place_rises}
 use Rattle.router_core.proofs.network.Network.count_rows.Goals as goal

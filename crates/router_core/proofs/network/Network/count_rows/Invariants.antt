@@ -1,6 +1,6 @@
-use Rattle.std.proofs.Common.{◌≤◌, ◌-◌, ◌+◌, ◌^◌}
-use Rattle.addr4.specs.Places.{key_of, beyond}
-use Rattle.router_core.specs.Moments.{router_links}
+use Rattle.router_core.proofs.Common.{◌+◌, ◌≤◌, ◌-◌, key_of, router_links}
+use Rattle.std.proofs.Common.{◌^◌}
+use Rattle.addr4.specs.Places.{beyond}
 use Rattle.journal_laws.proofs.ShownRows.{IsPlaced}
 use Rattle.router_core.proofs.ShownRows.{IsCounted}
 use Rattle.router_core.proofs.network.Network.count_rows.Given as goal

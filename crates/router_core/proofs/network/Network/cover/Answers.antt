@@ -1,9 +1,7 @@
-use Rattle.std.proofs.Common.{subst}
+use Rattle.router_core.proofs.Common.{subst, width, Moment}
 use Rattle.std.specs.FinMap as tables
-use Rattle.prefix_trie.specs.Width.{width}
 use Rattle.register_interest.specs.Covers.{IsCover}
 use Rattle.register_interest.specs.Matches.{lent_match}
-use Rattle.router_core.specs.Moments.{Moment}
 use Rattle.router_core.proofs.StepLemmas.{covered}
 use Rattle.router_core.proofs.network.Network.cover.Goals as goal
 

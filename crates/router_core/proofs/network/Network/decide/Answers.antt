@@ -1,4 +1,4 @@
-use Rattle.std.proofs.lemmas.Result.{on_ok_weaker}
+use Rattle.router_core.proofs.Common.{on_ok_weaker}
 use Rattle.router_core.proofs.BestLemmas.{decides_none, decides_some}
 use Rattle.router_core.proofs.network.Network.decide.Goals as goal
 

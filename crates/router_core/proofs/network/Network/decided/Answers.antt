@@ -1,4 +1,5 @@
-use Rattle.std.proofs.Common.{Some, None, sym, ◌∙◌}
+use Rattle.router_core.proofs.Common.{sym, ◌∙◌}
+use Rattle.std.proofs.Common.{Some, None}
 use Rattle.router_core.proofs.ShownRows.{has_best}
 use Rattle.router_core.proofs.network.Network.decided.Goals as goal
 

@@ -1,6 +1,4 @@
-use Rattle.std.proofs.Common.{sym, ap, ◌∙◌}
-use Rattle.event_text.specs.Declarations.{peer_at}
-use Rattle.router_core.specs.Moments.{Moment}
+use Rattle.router_core.proofs.Common.{sym, ◌∙◌, ap, peer_at, Moment}
 use Rattle.router_core.proofs.StandLemmas.{peers_sound}
 use Rattle.router_core.proofs.HopTurns.{hops_sound}
 use Rattle.router_core.proofs.PeerLemmas.{resolver_absent, peer_absent, peer_after, not_added, chain_absent, new_number, peer_declared}

@@ -1,6 +1,4 @@
-use Rattle.std.proofs.Common.{ap, ◌∙◌}
-use Rattle.std.proofs.lemmas.Result.{on_ok_weaker}
-use Rattle.router_core.specs.Moments.{Moment}
+use Rattle.router_core.proofs.Common.{◌∙◌, ap, on_ok_weaker, Moment}
 use Rattle.router_core.proofs.LocalLemmas.{local_declared, nothing_external, speaker_is}
 use Rattle.router_core.proofs.network.Network.declare_speaker.Goals as goal
 

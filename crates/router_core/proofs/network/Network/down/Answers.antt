@@ -1,8 +1,7 @@
+use Rattle.router_core.proofs.Common.{sym, subst, ◌≡◌, peer_at, Moment}
 use Rattle.std.proofs.lemmas.Bool.{not-false, not-true}
 use Rattle.live_state.proofs.AdmittedLemmas.{down_there}
-use Rattle.std.proofs.Common.{◌≡◌, Some, None, subst, sym}
-use Rattle.event_text.specs.Declarations.{peer_at}
-use Rattle.router_core.specs.Moments.{Moment}
+use Rattle.std.proofs.Common.{Some, None}
 use Rattle.router_core.proofs.StepLemmas.{down_ignored, lost_down}
 use Rattle.router_core.proofs.network.Network.down.Goals as goal
 

@@ -1,13 +1,14 @@
-use Rattle.std.proofs.Common.{ℕ, sym, subst}
-use Rattle.router_core.proofs.RunLemmas.{HaveGivenOf, phase_none, phase_more, phase_less, phase_done}
+use Rattle.router_core.proofs.Common.{sym, subst, ℕ}
+use Rattle.router_core.proofs.RunLemmas.{HaveGivenOf, phase_none, phase_more, phase_stands, phase_less, phase_done}
 use Rattle.router_core.proofs.network.Network.drain.Goals as goal
 
 pub loop-task-init : goal.loop-task-init
-loop-task-init c = phase_none c.args.phase c.args.self.now c.args.journal.now c.flush.new.self c.requires c.in_ok-flush.ensures.ok
+loop-task-init c = phase_none c.args.phase c.args.self.now c.args.journal.now c.flush.new.self c.in_ok-flush.ensures.ok
 
 pub loop-task-smaller : goal.loop-task-smaller
 loop-task-smaller c =
-    phase_less c.args.phase c.in-Some.task c.in_ok-drain_task.field-0 c.loop-task.self c.drain_task.new.self c.loop-task.journal c.drain_task.new.journal c.in-Some.ensures.next c.in_ok-drain_task.ensures
+    phase_less c.args.phase c.in-Some.task c.in_ok-drain_task.field-0 c.loop-task.self c.drain_task.new.self c.loop-task.journal c.drain_task.new.journal
+    (phase_stands c.args.phase c.loop-task.turns c.args.self.now c.loop-task.self c.args.journal.now c.loop-task.journal c.requires c.loop-task.invariant) c.in-Some.ensures.next c.in_ok-drain_task.ensures
 
 pub loop-task-preserved : goal.loop-task-preserved
 loop-task-preserved c =
@@ -15,6 +16,11 @@ loop-task-preserved c =
     (phase_more c.args.phase c.in-Some.task c.loop-task.turns c.in_ok-drain_task.field-0 c.args.self.now c.loop-task.self c.drain_task.new.self c.args.journal.now c.loop-task.journal c.drain_task.new.journal
     c.loop-task.invariant c.in-Some.ensures.next c.in_ok-drain_task.ensures)
 
+pub next-requires : goal.next-requires
+next-requires c = phase_stands c.args.phase c.loop-task.turns c.args.self.now c.loop-task.self c.args.journal.now c.loop-task.journal c.requires c.loop-task.invariant
+
+pub drain_task-requires : goal.drain_task-requires
+drain_task-requires c = phase_stands c.args.phase c.loop-task.turns c.args.self.now c.loop-task.self c.args.journal.now c.loop-task.journal c.requires c.loop-task.invariant
+
 pub returns : goal.returns
-returns c =
-    phase_done c.turns_are_bounded.ensures.bounded c.turns_are_bounded.ensures.left c.args.phase c.args.self.now c.loop-task.self c.loop-task.turns c.args.journal.now c.loop-task.journal c.requires c.loop-task.invariant c.in_default.ensures.next c.in_default.ensures.none
+returns c = phase_done c.args.phase c.args.self.now c.loop-task.self c.loop-task.turns c.args.journal.now c.loop-task.journal c.loop-task.invariant c.in_default.ensures.next c.in_default.ensures.none

@@ -1,4 +1,4 @@
-use Rattle.router_core.specs.Phases.{counts}
+use Rattle.router_core.proofs.Common.{counts}
 use Rattle.router_core.proofs.RunLemmas.{HaveGivenOf}
 use Rattle.router_core.proofs.network.Network.drain.Given as goal
 

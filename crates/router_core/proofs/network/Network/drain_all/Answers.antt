@@ -1,8 +1,5 @@
-use Rattle.std.proofs.Common.{ℕ, List, get_or, sym, subst, ◌+◌}
-use Rattle.router_core.specs.declared.router.Phase.{Phase}
+use Rattle.router_core.proofs.Common.{sym, subst, ℕ, List, ◌+◌, get_or, Gives, RunsOut, Phase}
 use Rattle.router_core.specs.declared.router.Phase.TheVariants.{Rdel}
-use Rattle.router_core.specs.Moments.{Gives}
-use Rattle.router_core.specs.Works.{HaveDrained}
 use Rattle.router_core.proofs.RunLemmas.{Idling, idling_none, idling_more, idling_done}
 use Rattle.router_core.proofs.network.Network.drain_all.Goals as goal
 
@@ -13,9 +10,9 @@ pub loop-i-preserved : goal.loop-i-preserved
 loop-i-preserved c =
     subst (λ (n : ℕ). Gives (Idling (c.loop-i.i + 1) n c.args.self.now c.drain.new.self) c.args.journal.now c.drain.new.journal) (sym c.in_ok-turns.ensures)
     (idling_more c.loop-i.i c.loop-i.turns c.in_ok-drain.field-0 Rdel c.args.self.now c.loop-i.self c.drain.new.self c.args.journal.now c.loop-i.journal c.drain.new.journal c.loop-i-test.true
-    c.loop-i.invariant (subst (λ (rs : List Phase). Gives (HaveDrained (get_or rs c.loop-i.i Rdel) c.loop-i.self c.in_ok-drain.field-0 c.drain.new.self) c.loop-i.journal c.drain.new.journal) c.phases-phases.ensures c.in_ok-drain.ensures))
+    c.loop-i.invariant (subst (λ (rs : List Phase). Gives (RunsOut (get_or rs c.loop-i.i Rdel) c.loop-i.self c.in_ok-drain.field-0 c.drain.new.self) c.loop-i.journal c.drain.new.journal) c.phases-phases.ensures c.in_ok-drain.ensures))
 
 pub returns : goal.returns
 returns c =
-    idling_done c.turns_are_bounded.ensures.bounded c.turns_are_bounded.ensures.left c.rows_at_rest_are_exact.ensures c.only_work_holds_up.ensures c.loop-i.i c.loop-i.turns c.args.self.now c.loop-i.self c.args.journal.now c.loop-i.journal c.requires.stands c.requires.exits
+    idling_done c.rows_at_rest_are_exact.ensures c.only_work_holds_up.ensures c.loop-i.i c.loop-i.turns c.args.self.now c.loop-i.self c.args.journal.now c.loop-i.journal c.requires.stands c.requires.exits
     c.loop-i-test.false c.loop-i.invariant

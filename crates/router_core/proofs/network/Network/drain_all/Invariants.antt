@@ -1,4 +1,4 @@
-use Rattle.router_core.specs.Moments.{Gives}
+use Rattle.router_core.proofs.Common.{Gives}
 use Rattle.router_core.proofs.RunLemmas.{Idling}
 use Rattle.router_core.proofs.network.Network.drain_all.Given as goal
 

@@ -1,18 +1,20 @@
-use Rattle.std.proofs.Common.{ℕ, sym, subst}
-use Rattle.router_core.specs.declared.router.Done.{Done}
-use Rattle.router_core.specs.Works.{Comes}
-use Rattle.router_core.proofs.RunLemmas.{HaveGiven, given_none, given_more, unit_less}
+use Rattle.router_core.proofs.Common.{sym, subst, ℕ, TakesTurn, Done}
+use Rattle.router_core.proofs.RunLemmas.{HaveGiven, given_none, given_more, given_stands, turn_less}
 use Rattle.router_core.proofs.network.Network.drain_task.Goals as goal
 
 pub rest-init : goal.rest-init
-rest-init c = given_none c.args.task c.args.self.now c.args.journal.now c.flush.new.self c.requires c.in_ok-flush.ensures.ok
+rest-init c = given_none c.args.task c.args.self.now c.args.journal.now c.flush.new.self c.in_ok-flush.ensures.ok
 
 pub rest-preserved : goal.rest-preserved
 rest-preserved c =
     subst (λ (n : ℕ). HaveGiven c.args.task n c.args.self.now c.turn.new.self c.args.journal.now c.turn.new.journal) (sym c.in_ok-turns-in-Taken.ensures)
     (given_more c.args.task c.rest.turns c.args.self.now c.rest.self c.turn.new.self c.args.journal.now c.rest.journal c.turn.new.journal c.rest.invariant
-    (subst (λ (d : Done). Comes c.args.task c.rest.self c.turn.new.self c.rest.journal c.turn.new.journal d) c.in-Taken.is c.in_ok-turn.ensures))
+    (subst (λ (d : Done). TakesTurn c.args.task c.rest.self c.turn.new.self c.rest.journal c.turn.new.journal d) c.in-Taken.is c.in_ok-turn.ensures))
 
 pub rest-smaller : goal.rest-smaller
 rest-smaller c =
-    unit_less c.args.task c.rest.self c.turn.new.self c.rest.journal c.turn.new.journal (subst (λ (d : Done). Comes c.args.task c.rest.self c.turn.new.self c.rest.journal c.turn.new.journal d) c.in-Taken.is c.in_ok-turn.ensures)
+    turn_less c.args.task c.rest.self c.turn.new.self c.rest.journal c.turn.new.journal
+    (given_stands c.args.task c.rest.turns c.args.self.now c.rest.self c.args.journal.now c.rest.journal c.requires c.rest.invariant) (subst (λ (d : Done). TakesTurn c.args.task c.rest.self c.turn.new.self c.rest.journal c.turn.new.journal d) c.in-Taken.is c.in_ok-turn.ensures)
+
+pub turn-requires : goal.turn-requires
+turn-requires c = given_stands c.args.task c.rest.turns c.args.self.now c.rest.self c.args.journal.now c.rest.journal c.requires c.rest.invariant

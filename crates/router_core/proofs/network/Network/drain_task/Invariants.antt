@@ -1,5 +1,4 @@
-use Rattle.router_core.specs.Phases.{counts}
-use Rattle.router_core.specs.Turns.{phase_of}
+use Rattle.router_core.proofs.Common.{counts, phase_of}
 use Rattle.router_core.proofs.RunLemmas.{HaveGiven}
 use Rattle.router_core.proofs.network.Network.drain_task.Given as goal
 

@@ -1,9 +1,5 @@
-use Rattle.std.proofs.Common.{List, take, subst, sym}
-use Rattle.addr4.specs.Prefixes.{Network}
-use Rattle.bgp_attr.specs.declared.attrs.Attrs.{Attrs}
+use Rattle.router_core.proofs.Common.{sym, subst, List, take, Network, Attrs, Profile, Pushes, AreHeard, HaveFed}
 use Rattle.std.specs.Prelude.{Option}
-use Rattle.bgp_attr.specs.declared.speaker.Profile.{Profile}
-use Rattle.router_core.specs.Works.{Pushes, AreHeard, HaveFed}
 use Rattle.router_core.proofs.FeedLemmas.{fed_profile, pushed_more, take_pair, heard_at}
 use Rattle.router_core.proofs.network.Network.feed.Goals as goal
 

@@ -1,5 +1,4 @@
-use Rattle.std.proofs.Common.{take}
-use Rattle.router_core.specs.Works.{Pushes, HaveFed}
+use Rattle.router_core.proofs.Common.{take, Pushes, HaveFed}
 use Rattle.router_core.proofs.network.Network.feed.Given as goal
 
 abbrev pub invariant-loop-change : goal.invariant-loop-change

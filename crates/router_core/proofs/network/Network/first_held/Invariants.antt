@@ -1,5 +1,4 @@
-use Rattle.std.proofs.Common.{◌≡◌}
-use Rattle.router_core.specs.Holding.{first_held}
+use Rattle.router_core.proofs.Common.{◌≡◌, first_held}
 use Rattle.router_core.proofs.HeldLemmas.{from_phase}
 use Rattle.router_core.proofs.network.Network.first_held.Given as goal
 

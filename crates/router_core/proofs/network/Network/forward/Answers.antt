@@ -1,4 +1,5 @@
-use Rattle.std.proofs.Common.{◌≡◌, Result, Err, OnOk, sym, subst}
+use Rattle.router_core.proofs.Common.{sym, subst, ◌≡◌}
+use Rattle.std.proofs.Common.{Result, Err, OnOk}
 use Rattle.rib_exit.proofs.LawLemmas.{on_ok}
 use Rattle.router_core.proofs.ExitTurns.{forwarded}
 use Rattle.router_core.proofs.network.Network.forward.Goals as goal

@@ -1,7 +1,5 @@
-use Rattle.std.proofs.Common.{refl, sym, subst, ◌∙◌}
-use Rattle.std.proofs.lemmas.Result.{on_ok_weaker}
+use Rattle.router_core.proofs.Common.{sym, subst, ◌∙◌, refl, on_ok_weaker, AreHeard, IsHeardMessage}
 use Rattle.bgp_wire.specs.declared.message.Message.TheVariants as messages
-use Rattle.router_core.specs.Works.{AreHeard, IsHeardMessage}
 use Rattle.router_core.proofs.HeardRows.{changes_heard}
 use Rattle.router_core.proofs.StepLemmas.{nothing_heard, update_heard, end_heard, fault_heard}
 use Rattle.router_core.proofs.network.Network.hear.Goals as goal

@@ -1,12 +1,8 @@
-use Rattle.std.proofs.Common.{ap, sym, ◌∙◌, is_some, option_map}
+use Rattle.router_core.proofs.Common.{sym, ◌∙◌, ap, Route, Rows, route_hop, Chains, filt_at, Moment, best_of}
+use Rattle.std.proofs.Common.{is_some, option_map}
 use Rattle.std.specs.List.{find}
 use Rattle.std.specs.FinMap as tables
-use Rattle.bgp_attr.specs.declared.route.Route.{Route}
-use Rattle.link_change.specs.Rows.{Rows}
-use Rattle.nexthop_resolver.specs.Kept.{route_hop}
 use Rattle.hop_side.specs.Resolvers.{hop_holds_up}
-use Rattle.peer_side.specs.Peers.{Chains, filt_at}
-use Rattle.router_core.specs.Moments.{Moment, best_of}
 use Rattle.router_core.specs.declared.router.Phase.TheVariants.{Del, Fin}
 use Rattle.router_core.proofs.StandLemmas.{peers_sound}
 use Rattle.router_core.proofs.HopTurns.{exits_sound}

@@ -1,6 +1,4 @@
-use Rattle.std.proofs.Common.{sym, subst}
-use Rattle.hop_side.specs.Resolvers.{IsHops}
-use Rattle.router_core.specs.Moments.{Moment}
+use Rattle.router_core.proofs.Common.{sym, subst, IsHops, Moment}
 use Rattle.router_core.proofs.network.Network.inform.Goals as goal
 
 pub reach-requires : goal.reach-requires

@@ -1,8 +1,5 @@
-use Rattle.std.proofs.Common.{refl}
+use Rattle.router_core.proofs.Common.{refl, Shows, router_links, HasStepped}
 use Rattle.event_text.specs.declared.event.Event.TheVariants as events
-use Rattle.router_core.specs.Moments.{router_links}
-use Rattle.router_core.specs.Blocks.{Shows}
-use Rattle.router_core.specs.Works.{HasStepped}
 use Rattle.router_core.proofs.KeepLemmas.{gives_pushed}
 use Rattle.router_core.proofs.ShownRows.{show_stepped}
 use Rattle.router_core.proofs.ReadLemmas.{have_readers}

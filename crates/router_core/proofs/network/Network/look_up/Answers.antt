@@ -1,7 +1,4 @@
-use Rattle.std.proofs.Common.{ap, ◌∙◌, refl}
-use Rattle.journal_text.specs.Journals.{flushed}
-use Rattle.router_core.specs.Moments.{router_links}
-use Rattle.router_core.specs.Blocks.{answer_lines}
+use Rattle.router_core.proofs.Common.{◌∙◌, ap, refl, flushed, answer_lines, router_links}
 use Rattle.router_core.proofs.ShownRows.{ask_stepped}
 use Rattle.router_core.proofs.ReadLemmas.{have_readers}
 use Rattle.router_core.proofs.network.Network.look_up.Goals as goal

@@ -1,7 +1,5 @@
-use Rattle.std.proofs.Common.{IsSome, sym, ap, subst}
-use Rattle.live_state.specs.Lives.{LiveState}
-use Rattle.live_state.proofs.AdmittedLemmas.{speaker_since}
-use Rattle.event_text.specs.declared.event.Event.TheVariants.{Lose}
+use Rattle.router_core.proofs.Common.{sym, subst, ap, Lose, speaker_since, LiveState}
+use Rattle.std.proofs.Common.{IsSome}
 use Rattle.router_core.proofs.ProtocolLosses.{protocol_lost}
 use Rattle.router_core.proofs.network.Network.lose_protocol.Goals as goal
 use Rattle.router_core.proofs.CoreLemmas.{worked_numbered}

@@ -1,18 +1,15 @@
-use Rattle.router_core.specs.Stands.{InteriorTree, Stands}
-use Rattle.rib_tree.specs.Trees.{IsTree, IsFull}
-use Rattle.std.proofs.Common.{◌≡◌, None, IsSome, subst, sym}
-use Rattle.rib_tree.specs.Steps.{tree_overdue}
-use Rattle.router_core.specs.Moments.{Moment, with_tree}
+use Rattle.router_core.proofs.Common.{sym, subst, ◌≡◌, tree_overdue, IsTree, IsFull, Moment, with_tree, Stands, Pushes}
+use Rattle.std.proofs.Common.{None, IsSome}
 use Rattle.router_core.specs.contracts.network.Network.{the_view}
-use Rattle.router_core.specs.Works.{Pushes, EndsProtocol}
+use Rattle.router_core.specs.Works.{EndsProtocol}
 use Rattle.router_core.proofs.ProtocolLosses.{protocol_ended}
 use Rattle.router_core.proofs.network.Network.lose_protocol_with_room.Goals as goal
 
 pub lose-requires-clause-tree : goal.lose-requires-clause-tree
-lose-requires-clause-tree c = subst (λ (m : Moment). IsTree m.tree) (sym c.self.view_is) (c.requires.stands.own InteriorTree).tree
+lose-requires-clause-tree c = subst (λ (m : Moment). IsTree m.tree) (sym c.self.view_is) c.requires.stands.interior.tree
 
 pub lose-requires-clause-full : goal.lose-requires-clause-full
-lose-requires-clause-full c = subst (λ (m : Moment). IsFull m.tree) (sym c.self.view_is) (c.requires.stands.own InteriorTree).full
+lose-requires-clause-full c = subst (λ (m : Moment). IsFull m.tree) (sym c.self.view_is) c.requires.stands.interior.full
 
 pub returns : goal.returns
 returns c =

@@ -1,4 +1,4 @@
-use Rattle.std.proofs.Common.{refl, arith, ◌≤◌, ◌<◌, ℕ}
+use Rattle.router_core.proofs.Common.{ℕ, refl, arith, ◌≤◌, ◌<◌}
 use Rattle.router_core.proofs.StandLemmas.{tree_sound}
 use Rattle.router_core.proofs.HeldLemmas.{hop_more, hop_none}
 use Rattle.router_core.proofs.NextLemmas.{held_of_tree}

@@ -1,7 +1,4 @@
-use Rattle.std.proofs.Common.{◌∙◌, ap}
-use Rattle.std.proofs.lemmas.Result.{on_ok_weaker}
-use Rattle.rib_tree.specs.Steps.{tree_overdue}
-use Rattle.router_core.specs.Moments.{Moment}
+use Rattle.router_core.proofs.Common.{◌∙◌, ap, on_ok_weaker, tree_overdue, Moment}
 use Rattle.router_core.proofs.RouteRoom.{protocol_room_drained, protocol_room_there}
 use Rattle.router_core.proofs.network.Network.make_protocol_room.Goals as goal
 

@@ -1,10 +1,8 @@
-use Rattle.std.proofs.Common.{List, ℕ, None, ◌≡◌, sym, subst}
+use Rattle.router_core.proofs.Common.{sym, subst, ◌≡◌, ℕ, List, IsWellFormed, Gives, HasStepped}
+use Rattle.std.proofs.Common.{None}
 use Rattle.std.specs.Result.{IfOk}
 use Rattle.event_text.specs.declared.event.Event.TheVariants as events
 use Rattle.event_text.specs.Declarations.{refusal}
-use Rattle.event_text.specs.WellFormed.{IsWellFormed}
-use Rattle.router_core.specs.Moments.{Gives}
-use Rattle.router_core.specs.Works.{HasStepped}
 use Rattle.router_core.proofs.network.Network.message.Goals as goal
 
 pub receive-turns-requires-clause-admitted : goal.receive-turns-requires-clause-admitted

@@ -1,11 +1,4 @@
-use Rattle.std.proofs.Common.{subst}
-use Rattle.addr4.specs.Places.{key_of}
-use Rattle.bgp_attr.specs.declared.route.Route.{Route}
-use Rattle.link_change.specs.Rows.{Rows, Candidates, IsNextCandidate, CoversRows}
-use Rattle.decision.specs.Branches.{best_rows}
-use Rattle.rib_tree.specs.Trees.{int_rows}
-use Rattle.router_core.specs.Bests.{own_rows, lent_rows}
-use Rattle.router_core.specs.Moments.{candidates_of}
+use Rattle.router_core.proofs.Common.{subst, key_of, Route, best_rows, Rows, Candidates, IsNextCandidate, CoversRows, int_rows, own_rows, lent_rows, candidates_of}
 use Rattle.router_core.proofs.BestLemmas.{lent_best, lent_at}
 use Rattle.router_core.proofs.network.Network.next_best.Goals as goal
 

@@ -1,6 +1,4 @@
-use Rattle.std.proofs.Common.{◌∙◌, sym, ap}
-use Rattle.std.specs.Option.{option_copied}
-use Rattle.addr4.specs.Places.{key_of}
+use Rattle.router_core.proofs.Common.{sym, ◌∙◌, ap, option_copied, key_of}
 use Rattle.router_core.proofs.ShownRows.{none_resolved, next_resolved}
 use Rattle.router_core.proofs.network.Network.next_resolved.Goals as goal
 

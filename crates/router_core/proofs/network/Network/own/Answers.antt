@@ -1,6 +1,5 @@
-use Rattle.std.proofs.Common.{Some, None, sym, ap, ◌∙◌}
-use Rattle.bgp_attr.specs.declared.route.Route.{Route}
-use Rattle.link_change.specs.Rows.{Rows}
+use Rattle.router_core.proofs.Common.{sym, ◌∙◌, ap, Route, Rows}
+use Rattle.std.proofs.Common.{Some, None}
 use Rattle.router_core.proofs.BestLemmas.{own_is}
 use Rattle.router_core.proofs.ShownRows.{has_own}
 use Rattle.router_core.proofs.network.Network.own.Goals as goal

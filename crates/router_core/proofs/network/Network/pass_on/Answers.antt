@@ -1,6 +1,6 @@
-use Rattle.std.proofs.Common.{OnOk, Some, sym, subst}
+use Rattle.router_core.proofs.Common.{sym, subst, Adds}
+use Rattle.std.proofs.Common.{OnOk, Some}
 use Rattle.router_core.specs.Works.{Follows}
-use Rattle.journal_text.specs.Journals.{Adds}
 use Rattle.rib_exit.proofs.LawLemmas.{on_ok}
 use Rattle.router_core.proofs.RouteLemmas.{followed}
 use Rattle.router_core.proofs.network.Network.pass_on.Goals as goal

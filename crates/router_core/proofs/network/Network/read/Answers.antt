@@ -1,4 +1,5 @@
-use Rattle.std.proofs.Common.{Some, None, sym, ◌∙◌}
+use Rattle.router_core.proofs.Common.{sym, ◌∙◌}
+use Rattle.std.proofs.Common.{Some, None}
 use Rattle.router_core.specs.contracts.network.Network.{the_view}
 use Rattle.router_core.proofs.ReadLemmas.{read_has}
 use Rattle.router_core.proofs.network.Network.read.Goals as goal

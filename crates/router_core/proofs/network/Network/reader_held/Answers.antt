@@ -1,5 +1,4 @@
-use Rattle.std.proofs.Common.{sym, ap, ◌∙◌}
-use Rattle.std.specs.Option.{option_copied}
+use Rattle.router_core.proofs.Common.{sym, ◌∙◌, ap, option_copied}
 use Rattle.router_core.proofs.ExitTurns.{reader_is}
 use Rattle.router_core.proofs.network.Network.reader_held.Goals as goal
 

@@ -1,4 +1,4 @@
-use Rattle.std.proofs.Common.{◌∙◌, sym}
+use Rattle.router_core.proofs.Common.{sym, ◌∙◌}
 use Rattle.router_core.proofs.OwnTurns.{own_followed}
 use Rattle.router_core.proofs.network.Network.redistribute.Goals as goal
 

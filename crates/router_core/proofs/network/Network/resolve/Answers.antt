@@ -1,7 +1,4 @@
-use Rattle.std.proofs.Common.{sym, subst}
-use Rattle.std.proofs.lemmas.Result.{IfOk-weaker}
-use Rattle.hop_side.specs.Resolvers.{AllAgree}
-use Rattle.router_core.specs.Moments.{Moment}
+use Rattle.router_core.proofs.Common.{sym, subst, IfOk-weaker, AllAgree, Moment}
 use Rattle.router_core.proofs.HopLemmas.{resolved_out, resolved_in}
 use Rattle.router_core.proofs.network.Network.resolve.Goals as goal
 

@@ -1,8 +1,5 @@
-use Rattle.std.proofs.Common.{true, refl, ap}
-use Rattle.bgp_attr.specs.declared.speaker.Profile.{Profile}
+use Rattle.router_core.proofs.Common.{ap, refl, true, Profile, with_revised, revised_is_first}
 use Rattle.event_text.specs.declared.event.Event.TheVariants as events
-use Rattle.event_text.specs.Declarations.{with_revised}
-use Rattle.live_state.proofs.AdmittedLemmas.{revised_is_first}
 use Rattle.router_core.proofs.ProfileLemmas.{profile_is_stepped}
 use Rattle.router_core.proofs.network.Network.revised.Goals as goal
 

@@ -1,5 +1,4 @@
-use Rattle.live_state.proofs.AdmittedLemmas.{speaker_since}
-use Rattle.event_text.specs.declared.event.Event.TheVariants.{RouteAdd}
+use Rattle.router_core.proofs.Common.{RouteAdd, speaker_since}
 use Rattle.router_core.proofs.RouteSteps.{route_added}
 use Rattle.router_core.proofs.network.Network.route_add.Goals as goal
 
@@ -7,4 +6,4 @@ pub route-requires-clause-since : goal.route-requires-clause-since
 route-requires-clause-since c = speaker_since c.args.self.now.declared (RouteAdd c.args.p c.args.row) (λ e. cc) c.requires.admitted
 
 pub returns : goal.returns
-returns c = route_added c.args.p c.args.row c.args.self.now c.route.new.self c.args.journal.now c.route.new.journal c.flush.new.self c.in_ok-route.ensures c.in_ok-flush.ensures.ok
+returns c = route_added c.args.p c.args.row c.args.self.now c.route.new.self c.args.journal.now c.route.new.journal c.flush.new.self c.requires.stands (speaker_since c.args.self.now.declared (RouteAdd c.args.p c.args.row) (λ e. cc) c.requires.admitted) c.in_ok-route.ensures c.in_ok-flush.ensures.ok

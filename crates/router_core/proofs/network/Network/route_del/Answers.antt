@@ -1,9 +1,6 @@
-use Rattle.std.proofs.Common.{◌≡◌, ◌∙◌, true, false, is_some, sym, ap}
+use Rattle.router_core.proofs.Common.{sym, ◌∙◌, ap, ◌≡◌, true, false, RouteDel, speaker_since, branch_of, Moment}
+use Rattle.std.proofs.Common.{is_some}
 use Rattle.std.specs.FinMap as tables
-use Rattle.rib_tree.specs.Trees.{branch_of}
-use Rattle.router_core.specs.Moments.{Moment}
-use Rattle.live_state.proofs.AdmittedLemmas.{speaker_since}
-use Rattle.event_text.specs.declared.event.Event.TheVariants.{RouteDel}
 use Rattle.router_core.proofs.RouteSteps.{route_dropped, nothing_dropped}
 use Rattle.router_core.proofs.network.Network.route_del.Goals as goal
 
@@ -22,4 +19,4 @@ returns c =
     let is : c.has.result ≡ is_some (tables.get (branch_of c.args.proto c.args.self.now.tree).tables.live c.args.p) =
     c.has.ensures ∙ ap (λ (m : Moment). is_some (tables.get (branch_of c.args.proto m.tree).tables.live c.args.p)) c.self.view_is in
     let some : c.has.result ≡ true = cc in
-    route_dropped c.args.proto c.args.p c.args.self.now c.route.new.self c.args.journal.now c.route.new.journal c.flush.new.self (sym is ∙ some) c.in_ok-route.ensures c.in_ok-flush.ensures.ok
+    route_dropped c.args.proto c.args.p c.args.self.now c.route.new.self c.args.journal.now c.route.new.journal c.flush.new.self c.requires.stands (speaker_since c.args.self.now.declared (RouteDel c.args.proto c.args.p) (λ e. cc) c.requires.admitted) (sym is ∙ some) c.in_ok-route.ensures c.in_ok-flush.ensures.ok

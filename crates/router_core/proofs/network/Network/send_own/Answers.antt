@@ -1,4 +1,4 @@
-use Rattle.std.proofs.lemmas.Result.{on_ok_weaker}
+use Rattle.router_core.proofs.Common.{on_ok_weaker}
 use Rattle.router_core.proofs.OwnTurns.{sends_own}
 use Rattle.router_core.proofs.network.Network.send_own.Goals as goal
 

@@ -1,6 +1,5 @@
-use Rattle.std.proofs.Common.{subst, IfOk}
-use Rattle.journal_text.specs.declared.value.Value.{Value}
-use Rattle.journal_text.specs.Walk.{Links, HasRow}
+use Rattle.router_core.proofs.Common.{subst, Links, HasRow, Value}
+use Rattle.std.proofs.Common.{IfOk}
 use Rattle.router_core.specs.contracts.network.Network.{the_view}
 use Rattle.router_core.proofs.ReadLemmas.{sent_links}
 use Rattle.router_core.proofs.network.Network.sent.Goals as goal

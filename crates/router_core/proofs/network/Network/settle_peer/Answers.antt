@@ -1,4 +1,4 @@
-use Rattle.std.proofs.lemmas.Result.{on_ok_weaker}
+use Rattle.router_core.proofs.Common.{on_ok_weaker}
 use Rattle.router_core.proofs.HopLemmas.{settled_peer}
 use Rattle.router_core.proofs.network.Network.settle_peer.Goals as goal
 

@@ -1,6 +1,4 @@
-use Rattle.std.proofs.Common.{sym, ◌∙◌}
-use Rattle.std.proofs.lemmas.Result.{on_ok_weaker}
-use Rattle.router_core.specs.Moments.{router_links}
+use Rattle.router_core.proofs.Common.{sym, ◌∙◌, on_ok_weaker, router_links}
 use Rattle.router_core.proofs.ShownRows.{not_shown}
 use Rattle.router_core.proofs.network.Network.show.Goals as goal
 

@@ -1,7 +1,4 @@
-use Rattle.std.proofs.Common.{arith}
-use Rattle.std.proofs.lemmas.Result.{on_ok_weaker}
-use Rattle.addr4.specs.Places.{key_of}
-use Rattle.router_core.specs.Moments.{router_links}
+use Rattle.router_core.proofs.Common.{arith, on_ok_weaker, key_of, router_links}
 use Rattle.router_core.proofs.ShownRows.{none_given, one_given, rows_end}
 use Rattle.journal_laws.proofs.ShownRows.{place_rises}
 use Rattle.router_core.proofs.network.Network.show_rows.Goals as goal

@@ -10,4 +10,4 @@ turn-requires-clause-stand c = exits_stand c.args.self.now _ c.self.view_is c.re
 
 pub returns : goal.returns
 returns c =
-    exit_took c.args.self.now _ c.args.number c.turn.new.self c.args.journal.now c.turn.new.journal c.flush.new.self c.in_ok-turn.turn c.rested.result c.rested.ensures c.if-rested.false c.self.view_is c.requires c.in_ok-turn.ensures c.in_ok-flush.ensures.ok
+    exit_took c.args.self.now _ c.args.number c.turn.new.self c.args.journal.now c.turn.new.journal c.flush.new.self c.in_ok-turn.turn c.rested.result c.rested.ensures c.if-rested.false c.self.view_is c.in_ok-turn.ensures c.in_ok-flush.ensures.ok

@@ -1,4 +1,4 @@
-use Rattle.std.proofs.Common.{refl}
+use Rattle.router_core.proofs.Common.{refl}
 use Rattle.router_core.proofs.ExternalTurns.{rib_sound, rib_agrees, external_took}
 use Rattle.router_core.proofs.network.Network.turn_external.Goals as goal
 
@@ -10,5 +10,5 @@ turn-requires-clause-agree c = rib_agrees c.args.self.now _ c.self.view_is c.req
 
 pub returns : goal.returns
 returns c =
-    external_took c.args.self.now _ _ c.turn.new.register c.turn.new.self c.args.journal.now c.turn.new.journal c.flush.new.self c.in_ok-turn.turn c.rested.result c.rested.ensures c.if-rested.false c.self.view_is c.requires c.in_ok-turn.ensures.taken refl
+    external_took c.args.self.now _ _ c.turn.new.register c.turn.new.self c.args.journal.now c.turn.new.journal c.flush.new.self c.in_ok-turn.turn c.rested.result c.rested.ensures c.if-rested.false c.self.view_is c.in_ok-turn.ensures.taken refl
     c.in_ok-flush.ensures.ok

@@ -1,5 +1,4 @@
-use Rattle.std.proofs.Common.{◌∙◌, refl, sym, ap}
-use Rattle.std.specs.Option.{option_copied}
+use Rattle.router_core.proofs.Common.{sym, ◌∙◌, ap, refl, option_copied}
 use Rattle.router_core.proofs.HopTurns.{hops_sound, hops_agree, exits_sound, hop_took, hop_small, no_hops}
 use Rattle.router_core.proofs.network.Network.turn_hops.Goals as goal
 
@@ -20,5 +19,5 @@ decide-requires-clause-small c = hop_small c.args.number c.args.self.now _ c.in-
 
 pub returns : goal.returns
 returns c =
-    hop_took c.args.number c.args.self.now _ _ c.decide.new.self c.in-Some.chain.now c.turn.new.register c.turn.new.self c.args.journal.now c.turn.new.journal c.decide.new.journal c.flush.new.self c.in_ok-turn.turn _ c.in_default-turn.not-Nothing c.self.view_is c.requires
+    hop_took c.args.number c.args.self.now _ _ c.decide.new.self c.in-Some.chain.now c.turn.new.register c.turn.new.self c.args.journal.now c.turn.new.journal c.decide.new.journal c.flush.new.self c.in_ok-turn.turn _ c.in_default-turn.not-Nothing c.self.view_is
     (sym (ap option_copied c.in-Some.is) ∙ c.chain.ensures) c.in_ok-turn.ensures.taken c.sent_of.ensures refl c.in_ok-decide.ensures c.in_ok-flush.ensures.ok

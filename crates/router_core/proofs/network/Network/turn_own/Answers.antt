@@ -1,4 +1,4 @@
-use Rattle.std.proofs.Common.{refl, sym, ◌∙◌}
+use Rattle.router_core.proofs.Common.{sym, ◌∙◌, refl}
 use Rattle.router_core.proofs.HopTurns.{exits_sound}
 use Rattle.router_core.proofs.OwnTurns.{none_own, own_took}
 use Rattle.router_core.proofs.network.Network.turn_own.Goals as goal
@@ -11,5 +11,5 @@ send_own-requires c = exits_sound c.args.self.now _ c.self.view_is c.requires
 
 pub returns : goal.returns
 returns c =
-    own_took c.in-Some.me c.args.self.now _ _ c.send_own.new.self c.unit.new.self c.args.journal.now c.send_own.new.journal c.flush.new.self c.in_ok-turn.turn _ c.in_default-turn.not-Nothing c.self.view_is c.requires
+    own_took c.in-Some.me c.args.self.now _ _ c.send_own.new.self c.unit.new.self c.args.journal.now c.send_own.new.journal c.flush.new.self c.in_ok-turn.turn _ c.in_default-turn.not-Nothing c.self.view_is
     (sym c.speaker.ensures ∙ c.in-Some.is) c.in_ok-turn.ensures.taken c.sent_of.ensures refl c.in_ok-send_own.ensures c.in_ok-flush.ensures.ok

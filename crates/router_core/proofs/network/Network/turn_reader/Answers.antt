@@ -1,7 +1,5 @@
-use Rattle.std.proofs.Common.{Option, Some, sym, ap, subst, ◌∙◌}
-use Rattle.link_change.specs.declared.change.Change.{Change}
-use Rattle.bgp_attr.specs.declared.route.Route.{Route}
-use Rattle.fanout_queue.specs.Queues.{Takes}
+use Rattle.router_core.proofs.Common.{sym, subst, ◌∙◌, ap, Route, Takes, Change}
+use Rattle.std.proofs.Common.{Option, Some}
 use Rattle.router_core.specs.contracts.network.Network.{the_view}
 use Rattle.router_core.proofs.ExitTurns.{reader_is, reader_took, reader_same}
 use Rattle.router_core.proofs.ExternalTurns.{rib_sound, rib_agrees}

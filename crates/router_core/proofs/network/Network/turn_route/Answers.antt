@@ -1,57 +1,35 @@
-use Rattle.router_core.specs.Stands.{InteriorTree, Stands}
-use Rattle.rib_tree.specs.Trees.{IsTree, IsFull}
-use Rattle.std.proofs.Common.{IfOk, sym, subst}
+use Rattle.router_core.proofs.Common.{sym, subst, IsTree, IsFull, Moment, TakesTurn}
+use Rattle.std.proofs.Common.{IfOk}
 use Rattle.journal_text.specs.declared.link.Task.TheVariants as tasks
-use Rattle.router_core.specs.Works.{Comes}
-use Rattle.router_core.specs.Moments.{Moment}
 use Rattle.router_core.specs.contracts.network.Network.{the_view}
-use Rattle.router_core.proofs.HopTurns.{hops_sound, exits_sound}
-use Rattle.router_core.proofs.ExternalTurns.{rib_sound}
+use Rattle.router_core.proofs.StandLemmas.{may_follow}
 use Rattle.router_core.proofs.RouteTurns.{quiet_since, sent_since, route_quiet, route_sent}
 use Rattle.router_core.proofs.network.Network.turn_route.Goals as goal
 
 pub unit-requires-clause-tree : goal.unit-requires-clause-tree
-unit-requires-clause-tree c = subst (λ (m : Moment). IsTree m.tree) (sym c.self.view_is) (c.requires.own InteriorTree).tree
+unit-requires-clause-tree c = subst (λ (m : Moment). IsTree m.tree) (sym c.self.view_is) c.requires.interior.tree
 
 pub unit-requires-clause-full : goal.unit-requires-clause-full
-unit-requires-clause-full c = subst (λ (m : Moment). IsFull m.tree) (sym c.self.view_is) (c.requires.own InteriorTree).full
+unit-requires-clause-full c = subst (λ (m : Moment). IsFull m.tree) (sym c.self.view_is) c.requires.interior.full
 
-pub turned-requires-clause-hops : goal.turned-requires-clause-hops
-turned-requires-clause-hops c = hops_sound c.args.self.now _ c.self.view_is c.requires
+pub turned-requires-clause-follow : goal.turned-requires-clause-follow
+turned-requires-clause-follow c = may_follow c.args.self.now _ c.unit.new.self c.self.view_is c.requires
+    (quiet_since c.args.self.now _ c.args.proto c.args.loss c.in_ok-unit.field-0 c.unit.new.self c.args.journal.now c.unit.new.journal c.self.view_is c.requires c.in-Quiet.is c.in_ok-unit.ensures.taken)
 
-pub turned-requires-clause-rib : goal.turned-requires-clause-rib
-turned-requires-clause-rib c = rib_sound c.args.self.now _ c.self.view_is c.requires
-
-pub turned-requires-clause-exits : goal.turned-requires-clause-exits
-turned-requires-clause-exits c = exits_sound c.args.self.now _ c.self.view_is c.requires
-
-pub turned-requires-clause-since : goal.turned-requires-clause-since
-turned-requires-clause-since c =
-    quiet_since c.args.self.now _ c.args.proto c.args.loss c.in_ok-unit.field-0 c.unit.new.self c.args.journal.now c.unit.new.journal c.self.view_is c.requires c.in-Quiet.is c.in_ok-unit.ensures.taken
-
-pub turned-requires-in-Sent-clause-hops : goal.turned-requires-in-Sent-clause-hops
-turned-requires-in-Sent-clause-hops c = hops_sound c.args.self.now _ c.self.view_is c.requires
-
-pub turned-requires-in-Sent-clause-rib : goal.turned-requires-in-Sent-clause-rib
-turned-requires-in-Sent-clause-rib c = rib_sound c.args.self.now _ c.self.view_is c.requires
-
-pub turned-requires-in-Sent-clause-exits : goal.turned-requires-in-Sent-clause-exits
-turned-requires-in-Sent-clause-exits c = exits_sound c.args.self.now _ c.self.view_is c.requires
-
-pub turned-requires-in-Sent-clause-since : goal.turned-requires-in-Sent-clause-since
-turned-requires-in-Sent-clause-since c =
-    sent_since c.args.self.now _ c.args.proto c.args.loss c.in_ok-unit.field-0 c.in-Sent.change c.unit.new.self c.args.journal.now c.unit.new.journal c.self.view_is c.requires c.in-Sent.is c.in_ok-unit.ensures.taken
+pub turned-requires-in-Sent-clause-follow : goal.turned-requires-in-Sent-clause-follow
+turned-requires-in-Sent-clause-follow c = may_follow c.args.self.now _ c.unit.new.self c.self.view_is c.requires
+    (sent_since c.args.self.now _ c.args.proto c.args.loss c.in_ok-unit.field-0 c.in-Sent.change c.unit.new.self c.args.journal.now c.unit.new.journal c.self.view_is c.requires c.in-Sent.is c.in_ok-unit.ensures.taken)
 
 pub returns-in-Quiet : goal.returns-in-Quiet
 returns-in-Quiet c =
     let old : Moment = the_view c.self.inside in
-    subst (λ (m : Moment). IfOk c.turned.result (Comes (tasks.Rdel c.args.proto c.args.loss) m c.turned.new.self c.args.journal.now c.turned.new.journal)) c.self.view_is
-    (route_quiet c.turns_take_rows.ensures c.welds_keep_rows.ensures old c.args.proto c.args.loss c.in_ok-unit.field-0 c.unit.new.self c.turned.new.self c.args.journal.now c.unit.new.journal c.turned.new.journal c.turned.result
-    (subst Stands (sym c.self.view_is) c.requires) c.in-Quiet.is c.in_ok-unit.ensures.taken c.turned.ensures)
+    subst (λ (m : Moment). IfOk c.turned.result (TakesTurn (tasks.Rdel c.args.proto c.args.loss) m c.turned.new.self c.args.journal.now c.turned.new.journal)) c.self.view_is
+    (route_quiet old c.args.proto c.args.loss c.in_ok-unit.field-0 c.unit.new.self c.turned.new.self c.args.journal.now c.unit.new.journal c.turned.new.journal c.turned.result
+    c.in-Quiet.is c.in_ok-unit.ensures.taken c.turned.ensures)
 
 pub returns-in-Sent : goal.returns-in-Sent
 returns-in-Sent c =
     let old : Moment = the_view c.self.inside in
-    subst (λ (m : Moment). IfOk c.turned-in-Sent.result (Comes (tasks.Rdel c.args.proto c.args.loss) m c.turned-in-Sent.new.self c.args.journal.now c.turned-in-Sent.new.journal)) c.self.view_is
-    (route_sent c.turns_take_rows.ensures c.welds_keep_rows.ensures old c.args.proto c.args.loss c.in_ok-unit.field-0 c.in-Sent.change c.unit.new.self c.turned-in-Sent.new.self c.args.journal.now c.unit.new.journal
-    c.turned-in-Sent.new.journal c.turned-in-Sent.result (subst Stands (sym c.self.view_is) c.requires) c.in-Sent.is c.in_ok-unit.ensures.taken c.turned-in-Sent.ensures)
+    subst (λ (m : Moment). IfOk c.turned-in-Sent.result (TakesTurn (tasks.Rdel c.args.proto c.args.loss) m c.turned-in-Sent.new.self c.args.journal.now c.turned-in-Sent.new.journal)) c.self.view_is
+    (route_sent old c.args.proto c.args.loss c.in_ok-unit.field-0 c.in-Sent.change c.unit.new.self c.turned-in-Sent.new.self c.args.journal.now c.unit.new.journal
+    c.turned-in-Sent.new.journal c.turned-in-Sent.result c.in-Sent.is c.in_ok-unit.ensures.taken c.turned-in-Sent.ensures)

@@ -1,10 +1,11 @@
-use Rattle.std.proofs.Common.{subst}
-use Rattle.router_core.specs.declared.router.Done.{Done}
-use Rattle.router_core.specs.Works.{Comes}
-use Rattle.router_core.proofs.RunLemmas.{given_more}
+use Rattle.router_core.proofs.Common.{subst, TakesTurn, Done}
+use Rattle.router_core.proofs.RunLemmas.{given_more, given_stands}
 use Rattle.router_core.proofs.network.Network.turns.Goals as goal
 
 pub loop-taken-preserved : goal.loop-taken-preserved
 loop-taken-preserved c =
     given_more c.args.task c.loop-taken.taken c.args.self.now c.loop-taken.self c.turn.new.self c.args.journal.now c.loop-taken.journal c.turn.new.journal c.loop-taken.invariant
-    (subst (λ (d : Done). Comes c.args.task c.loop-taken.self c.turn.new.self c.loop-taken.journal c.turn.new.journal d) c.in-Taken.is c.in_ok-turn.ensures)
+    (subst (λ (d : Done). TakesTurn c.args.task c.loop-taken.self c.turn.new.self c.loop-taken.journal c.turn.new.journal d) c.in-Taken.is c.in_ok-turn.ensures)
+
+pub turn-requires : goal.turn-requires
+turn-requires c = given_stands c.args.task c.loop-taken.taken c.args.self.now c.loop-taken.self c.args.journal.now c.loop-taken.journal c.requires c.loop-taken.invariant

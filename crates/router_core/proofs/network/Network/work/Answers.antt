@@ -1,11 +1,10 @@
-use Rattle.std.proofs.Common.{subst}
-use Rattle.router_core.specs.Moments.{Gives}
+use Rattle.router_core.proofs.Common.{subst, Gives}
 use Rattle.router_core.specs.Works.{AreTurns}
 use Rattle.router_core.proofs.StepLemmas.{worked}
 use Rattle.router_core.proofs.network.Network.work.Goals as goal
 
 pub returns : goal.returns
 returns c =
-    worked c.args.self.now c.turns.new.self c.args.task c.args.most c.in_ok-turns.turns c.args.journal.now c.turns.new.journal c.push_line.new.self c.flush.new.self
+    worked c.args.self.now c.turns.new.self c.args.task c.args.most c.in_ok-turns.turns c.args.journal.now c.turns.new.journal c.push_line.new.self c.flush.new.self c.requires
     (subst (λ n. Gives (AreTurns c.args.task n c.args.self.now c.in_ok-turns.turns c.turns.new.self) c.args.journal.now c.turns.new.journal) c.from.ensures c.in_ok-turns.ensures)
     c.in_ok-push_line.ensures c.in_ok-flush.ensures.ok

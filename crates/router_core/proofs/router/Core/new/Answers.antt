@@ -1,6 +1,6 @@
-use Rattle.std.proofs.Common.{subst, sym}
-use Rattle.router_core.specs.Moments.{Moment, first_moment}
-use Rattle.router_core.specs.Stands.{CoreStands, HaveReaders}
+use Rattle.router_core.proofs.Common.{sym, subst, Moment, HaveReaders}
+use Rattle.router_core.specs.Moments.{first_moment}
+use Rattle.router_core.specs.Stands.{CoreStands}
 use Rattle.router_core.proofs.CoreLemmas.{cored, first_stands, readers_of}
 use Rattle.router_core.proofs.router.Core.new.Goals as goal
 

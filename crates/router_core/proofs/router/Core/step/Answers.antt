@@ -1,4 +1,4 @@
-use Rattle.std.proofs.Common.{◌+◌, ◌<◌, subst, sym}
+use Rattle.router_core.proofs.Common.{sym, subst, ◌+◌, ◌<◌}
 use Rattle.router_core.specs.Moments.{Cored}
 use Rattle.router_core.proofs.CoreLemmas.{few_losses, moment_stands, moment_exits, core_acts, core_stepped, exact_after, readers_of}
 use Rattle.router_core.proofs.router.Core.step.Goals as goal

@@ -1,4 +1,4 @@
-use Rattle.router_core.proofs.CoreLemmas.{core_turned, exact_after, readers_of}
+use Rattle.router_core.proofs.CoreLemmas.{core_comes, core_turned, exact_after, readers_of}
 use Rattle.router_core.proofs.router.Core.unit.Goals as goal
 
 pub returns-clause-stands : goal.returns-clause-stands
@@ -17,3 +17,6 @@ invariant_of-self-2 c =
     λ _. readers_of c.turn.new.self
     (core_turned c.args.self.now c.self.inside.network c.self.inside.events c.self.inside.failed c.self.view_is c.if-self.false c.requires.stands c.args.task c.turn.new.self
     c.args.journal.now c.turn.new.journal c.in_ok-done.done c.in_ok-done.ensures).stands
+
+pub returns-clause-comes : goal.returns-clause-comes
+returns-clause-comes c = core_comes c.args.self.now c.self.inside.network c.self.inside.events c.self.inside.failed c.self.view_is c.if-self.false c.requires.stands c.args.task c.turn.new.self c.args.journal.now c.turn.new.journal c.in_ok-done.done c.in_ok-done.ensures
