@@ -18,6 +18,8 @@ Kinds:
   peers     so many peers announce the same prefixes, peer 1 by the shorter path; then `idle`
   best_lost the same, then peer 1's session is lost, and `idle`: another route becomes the best at every prefix
   exits     so many peers are up, peer 1 announces the prefixes, and `idle` sends them to all others
+  asked     peer 1 announces half so many prefixes, and nobody reads them; then in turn it announces another one and what peer 2's
+            reader has there is asked, a twentieth so many times: at 200,000 a change and `ask` 10,000 times, over 100,000 unread ones
   own       the same as table, and 1,000 static routes are redistributed: they go to peer 2, too, and stand in the forwarding table
 
 But for `hops` and what begins as it, the one next hop is in a connected network.
@@ -37,7 +39,7 @@ LOCAL = 'local 65000 192.0.2.254 192.0.2.254'
 PEERS = ['peer 1 65001 192.0.2.1 192.0.2.1', 'peer 2 65002 192.0.2.2 192.0.2.2',
          'route add connected 192.0.2.0/24 direct eth0 1', 'up 1', 'up 2']
 KINDS = ('table', 'as4', 'alone', 'rejected', 'paced', 'edit', 'rules', 'loss', 'interior', 'lost', 'hops', 'kept', 'moved', 'peers',
-         'best_lost', 'exits', 'own')
+         'best_lost', 'exits', 'own', 'asked')
 READ = ['work rd.rib 99', 'work out.1 99', 'work out.2 99']
 # an event that looks at nothing but the register, and the line that it gives: how far the program has come
 LOOK, LOOKED = b'cover 192.0.2.1\n', b'cover 192.0.2.1 192.0.2.0/24 192.0.2.0/24\n'
@@ -82,6 +84,12 @@ def attributes(rand, transit, hop, via, width):
     return out
 
 
+def update(said, announced):
+    """An UPDATE message of these attributes and these prefixes."""
+    body = b'\0\0' + len(said).to_bytes(2, 'big') + said + announced
+    return MARKER + (19 + len(body)).to_bytes(2, 'big') + b'\2' + body
+
+
 def updates(count, hops=(NEAR,), via=(), width=2):
     """UPDATE messages that announce so many prefixes in all; the next hops take turns; paths begin with these numbers, each of so
     many octets."""
@@ -98,8 +106,17 @@ def updates(count, hops=(NEAR,), via=(), width=2):
         for _ in range(here):
             bits, length = next(coming)
             announced += bytes([length]) + bits.to_bytes(4, 'big')[:(length + 7) // 8]
-        body = b'\0\0' + len(said).to_bytes(2, 'big') + said + announced
-        yield MARKER + (19 + len(body)).to_bytes(2, 'big') + b'\2' + body
+        yield update(said, announced)
+
+
+def asked(count):
+    """The events that leave half so many changes unread, and a twentieth so many times change a prefix and ask for it."""
+    yield from ('bgp 1 ' + message.hex() for message in updates(count // 2))
+    said = attributes(random.Random(1), [64000], NEAR, [], 2)
+    for place in range(count // 20):
+        network = bytes([10, place // 250, place % 250])
+        yield 'bgp 1 ' + update(said, bytes([24]) + network).hex()
+        yield 'ask read.2.1 %s.0/24' % text(network)
 
 
 def routes(count):
@@ -144,6 +161,10 @@ def events(kind, count, number=8):
         yield from peers(number, count, number)
     elif kind == 'exits':
         yield from peers(number, count, 1)
+    elif kind == 'asked':
+        yield from PEERS
+        yield from asked(count)
+        return
     else:
         far = kind in ('hops', 'kept', 'moved')
         yield from PEERS

@@ -23,6 +23,14 @@ impl Exits {
         self.queue.put(change)
     }
 
+    /// The queue is prepared for lookups of what its readers have (`Queue::prepare`). For want of
+    /// memory they answer the same, and take longer.
+    pub fn prepare(&mut self) -> Result<(), Memory>
+        ensures { self.new ≡ self.old }
+    {
+        self.queue.prepare()
+    }
+
     /// One turn of the task `out.J` (`OutChain::unit`): where the reader has something to take, its
     /// first change goes down; else the walk of the filter goes to the next candidate of `best`, or
     /// ends. Nothing exactly where there is no work; Quiet where no change comes out on `adv.J.S`.

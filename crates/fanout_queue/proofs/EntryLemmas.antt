@@ -1,5 +1,5 @@
 -- Entries with numbers, and how many readers stand at each.
-use Rattle.std.proofs.Common.{◌≡◌, ◌≢◌, ℕ, ◌+◌, ◌-◌, ◌<◌, ◌≤◌, ◌^◌, nat_eq, arith, Bool, true, false, cond, List, [], ◌∷◌, ◌++◌, length, get_or, set, drop, map, Option, Some, None, refl, sym, ap, ◌∙◌, subst}
+use Rattle.std.proofs.Common.{◌≡◌, ◌≢◌, ℕ, ◌+◌, ◌-◌, ◌<◌, ◌≤◌, ◌^◌, nat_eq, nat_lt, max, arith, Bool, true, false, cond, List, [], ◌∷◌, ◌++◌, length, get_or, set, drop, map, Option, Some, None, refl, sym, ap, ◌∙◌, subst}
 use Rattle.std.proofs.lemmas.List.{map-append, length-map, length-append, map-set, set-append_left, get_or-set_same, get_or-set_other, get_or_append_left, get_or-map, drop_more}
 use Rattle.std.proofs.Math.ListN as list
 use Rattle.std.proofs.Math.Seq.{set-append_seam, get_or-append_seam, map-set_same}
@@ -9,10 +9,10 @@ use Rattle.std.specs.BTreeSet.{BTreeSet, contains}
 use Rattle.addr4.specs.Prefixes.{Network, prefix_cmp}
 use Rattle.link_change.specs.declared.change.Change.{Change}
 use Rattle.fanout_queue.specs.declared.entries.Entry.{Entry}
-use Rattle.fanout_queue.specs.Index.{Key, key_cmp, IsFirstKey, IsFirstStop, is_reached, stops, IsIndexed}
+use Rattle.fanout_queue.specs.Index.{Key, key_cmp, IsFirstNumber, IsFirstStop, is_reached, lesser, stops, IsIndexed}
 use Rattle.fanout_queue.specs.Entries.{Numbered, stands_at, changes_of, readers_of, numbered_of, IsKept, readers_at, unread_at, IsPlace, Enters, Leaves, first_before, IsNextBeside}
 use Rattle.fanout_queue.proofs.Cases.{by_bool}
-use Rattle.fanout_queue.proofs.IndexLemmas.{put_indexed, back_indexed, cut_indexed, number_fits, no_key, other_key, key_within, key_here, none_beside, none_stops, other_stops, change_stops}
+use Rattle.fanout_queue.proofs.IndexLemmas.{put_indexed, cut_indexed, more_indexed, none_indexed, key_below, number_within, number_here, none_numbered, none_beside, lesser_beside, none_stops, other_stops, change_stops}
 
 pub stands_here : (n place : ℕ) → n ≡ place → stands_at n (Some place) ≡ 1
 stands_here n place is = by_bool (nat_eq n place) (λ v. ◌≡◌ {A = ℕ} (cond v 1 0) 1) (λ _. refl) (λ e. absurd (grind (arith, nat_tests)))
@@ -30,9 +30,10 @@ IsWith old new p number there = (q : Key) → contains key_cmp new q ≡ cond (i
 
 module _ {R : Type 0} where
   -- ---- the count of one place is set
-  pub kept_stays : (first : ℕ) (kept kept' : List (Entry R)) (index : BTreeSet Key) → changes_of kept' ≡ changes_of kept → IsKept first kept index → IsKept first kept' index
-  kept_stays first kept kept' index same is = record {
-    indexed = subst (λ (cs : List (Change R)). IsIndexed first cs index) (sym same) is.indexed;
+  pub kept_stays : (first : ℕ) (kept kept' : List (Entry R)) (index : BTreeSet Key) (indexed : ℕ) → changes_of kept' ≡ changes_of kept → IsKept first kept index indexed → IsKept first kept' index indexed
+  kept_stays first kept kept' index indexed same is = record {
+    keys = subst (λ (cs : List (Change R)). IsIndexed first cs index indexed) (sym same) is.keys;
+    until = subst (λ (cs : List (Change R)). indexed ≤ first + length cs) (sym same) is.until;
     fits = subst (λ (cs : List (Change R)). first + length cs < 2 ^ 64) (sym same) is.fits;
   }
 
@@ -157,36 +158,49 @@ module _ {R : Type 0} where
   pub end_is : (first : ℕ) (kept : List (Entry R)) (at_end number : ℕ) (m : Numbered R) → numbered_of first kept at_end ≡ m → number ≡ m.first + length m.changes → number ≡ first + length (changes_of kept)
   end_is first kept at_end number m view is = is ∙ sym (ap (λ (v : Numbered R). v.first + length v.changes) view)
 
-  pub put_kept : (first : ℕ) (kept kept' : List (Entry R)) (c : Change R) (readers : ℕ) (index index' : BTreeSet Key) (number : ℕ) → number ≡ first + length (changes_of kept) → first + length (changes_of kept) + 1 < 2 ^ 64
-      → kept' ≡ kept ++ record { change = c; readers = readers } ∷ [] → IsKept first kept index → IsWith index index' c.prefix number true → IsKept first kept' index'
-  put_kept first kept kept' c readers index index' number is fits more sound put =
+  pub put_kept : (first : ℕ) (kept kept' : List (Entry R)) (c : Change R) (readers : ℕ) (index : BTreeSet Key) (indexed : ℕ) → first + length (changes_of kept) + 1 < 2 ^ 64
+      → kept' ≡ kept ++ record { change = c; readers = readers } ∷ [] → IsKept first kept index indexed → IsKept first kept' index indexed
+  put_kept first kept kept' c readers index indexed fits more sound =
       let changes : changes_of kept' ≡ changes_of kept ++ c ∷ [] = ap (changes_of) more ∙ map-append (λ (x : Entry R). x.change) kept (record { change = c; readers = readers } ∷ []) in
       let n = length-append (changes_of kept) (c ∷ []) in
+      let until = sound.until in
       record {
-        indexed = subst (λ (cs : List (Change R)). IsIndexed first cs index') (sym changes)
-            (put_indexed first (changes_of kept) c index index' sound.indexed (subst (λ k. IsWith index index' c.prefix k true) is put));
+        keys = subst (λ (cs : List (Change R)). IsIndexed first cs index indexed) (sym changes) (put_indexed first (changes_of kept) c index indexed until sound.keys);
+        until = subst (λ (cs : List (Change R)). indexed ≤ first + length cs) (sym changes) (omega arith);
         fits = subst (λ (cs : List (Change R)). first + length cs < 2 ^ 64) (sym changes) (omega arith);
       }
 
-  pub back_kept : (first : ℕ) (kept kept' : List (Entry R)) (c : Change R) (index index' last : BTreeSet Key) (number : ℕ) → number ≡ first + length (changes_of kept)
-      → kept' ≡ kept → IsKept first kept index → IsWith index index' c.prefix number true → IsWith index' last c.prefix number false → IsKept first kept' last
-  back_kept first kept kept' c index index' last number is same sound put cut =
-      subst (λ (l : List (Entry R)). IsKept first l last) (sym same) (record {
-        indexed = back_indexed first (changes_of kept) c index index' last sound.indexed (subst (λ k. IsWith index index' c.prefix k true) is put) (subst (λ k. IsWith index' last c.prefix k false) is cut);
-        fits = sound.fits;
-      })
-
-  pub cut_kept : (first : ℕ) (kept kept' rest : List (Entry R)) (e : Entry R) (index index' : BTreeSet Key) → kept ≡ e ∷ rest → kept' ≡ rest → IsKept first kept index → IsWith index index' e.change.prefix first false
-      → IsKept (first + 1) kept' index'
-  cut_kept first kept kept' rest e index index' is same sound cut =
-      let was : IsKept first (e ∷ rest) index = subst (λ (l : List (Entry R)). IsKept first l index) is sound in
-      subst (λ (l : List (Entry R)). IsKept (first + 1) l index') (sym same) (record {
-        indexed = cut_indexed first e.change (changes_of rest) index index' was.indexed cut;
+  pub cut_kept : (first : ℕ) (kept kept' rest : List (Entry R)) (e : Entry R) (index : BTreeSet Key) (indexed : ℕ) → kept ≡ e ∷ rest → kept' ≡ rest → IsKept first kept index indexed → IsKept (first + 1) kept' index indexed
+  cut_kept first kept kept' rest e index indexed is same sound =
+      let was : IsKept first (e ∷ rest) index indexed = subst (λ (l : List (Entry R)). IsKept first l index indexed) is sound in
+      subst (λ (l : List (Entry R)). IsKept (first + 1) l index indexed) (sym same) (record {
+        keys = cut_indexed first e.change (changes_of rest) index indexed was.keys;
+        until = let until : indexed ≤ first + length (changes_of (e ∷ rest)) = was.until in omega arith;
         fits = let fits : first + length (changes_of (e ∷ rest)) < 2 ^ 64 = was.fits in omega arith;
       })
 
+  -- ---- the index is changed
+  pub emptied : (first : ℕ) (kept : List (Entry R)) (index index' : BTreeSet Key) (indexed indexed' : ℕ) → indexed' ≤ first → index'.keys ≡ [] → IsKept first kept index indexed → IsKept first kept index' indexed'
+  emptied first kept index index' indexed indexed' past none sound = record {
+    keys = none_indexed first (changes_of kept) index' indexed' past none;
+    until = omega arith;
+    fits = sound.fits;
+  }
+
+  pub more_kept : (first : ℕ) (kept : List (Entry R)) (index index' : BTreeSet Key) (indexed number : ℕ) (e : Entry R) → first ≤ number → indexed ≤ number → ((n : ℕ) → first ≤ n → n < number → n < indexed) → number - first < length kept
+      → e ≡ get_or kept (number - first) e → IsKept first kept index indexed → IsWith index index' e.change.prefix number true → IsKept first kept index' (number + 1)
+  more_kept first kept index index' indexed number e low past had inside at sound put =
+      let n = length-map kept (λ (x : Entry R). x.change) in
+      let same : get_or (changes_of kept) (number - first) e.change ≡ e.change = list.get_or-map (λ (x : Entry R). x.change) kept (number - first) e ∙ sym (ap (λ (x : Entry R). x.change) at) in
+      record {
+        keys = more_indexed first (changes_of kept) e.change index index' number indexed low past had (omega arith) sound.keys
+            (subst (λ (x : Change R). IsWith index index' x.prefix number true) (sym same) put);
+        until = omega arith;
+        fits = sound.fits;
+      }
+
   -- ---- what is found in the index
-  module _ (first : ℕ) (kept : List (Entry R)) (at_end : ℕ) (index : BTreeSet Key) (m : Numbered R) (view : numbered_of first kept at_end ≡ m) (sound : IsKept first kept index) (place : ℕ) (is : IsPlace m place) where
+  module _ (first : ℕ) (kept : List (Entry R)) (at_end : ℕ) (index : BTreeSet Key) (indexed : ℕ) (m : Numbered R) (view : numbered_of first kept at_end ≡ m) (sound : IsKept first kept index indexed) (place : ℕ) (is : IsPlace m place) where
     abbrev low : first ≤ place
     low = place_from first kept at_end m view place is
 
@@ -194,39 +208,78 @@ module _ {R : Type 0} where
     unread_is = ap (λ (v : Numbered R). unread_at v place) view
 
     pub numbers_fit : (p : Network) (n : ℕ) → contains key_cmp index (p, n) ≡ true → n < 2 ^ 64
-    numbers_fit p n has = let below = number_fits (changes_of kept) first p n (sym (sound.indexed p n) ∙ has) in let fits = sound.fits in omega arith
+    numbers_fit p n has = let fits = sound.fits in by_bool (nat_lt n first) (λ _. n < 2 ^ 64)
+        (λ e. let before : n < first = grind (arith, nat_tests) in omega arith)
+        (λ e. let from : first ≤ n = grind (arith, nat_tests) in
+        let below = key_below first (changes_of kept) index indexed sound.keys p place low n from has in
+        let until = sound.until in omega arith)
 
-    pub none_found : (p : Network) → IsFirstKey index (p, place) None → None ≡ first_before p (unread_at m place)
-    none_found p key = sym (ap (first_before p) (sym unread_is) ∙ no_key first (changes_of kept) index p place sound.indexed low key)
-
-    pub other_found : (p q : Network) (s : ℕ) → IsFirstKey index (p, place) (Some (q, s)) → eq_by_cmp prefix_cmp p q ≡ false → None ≡ first_before p (unread_at m place)
-    other_found p q s key apart = sym (ap (first_before p) (sym unread_is) ∙ other_key first (changes_of kept) index p place sound.indexed low q s key apart)
-
-    pub within_kept : (p : Network) (s : ℕ) → IsFirstKey index (p, place) (Some (p, s)) → s - first < length kept
-    within_kept p s key =
+    pub within_kept : (p : Network) (s : ℕ) → IsFirstNumber index p place (Some s) → s - first < length kept
+    within_kept p s number =
         let n = length-map kept (λ (x : Entry R). x.change) in
-        let inside = key_within first (changes_of kept) index p place sound.indexed low s key in omega arith
+        let inside = number_within first (changes_of kept) index indexed sound.keys p place low s number in omega arith
 
-    pub change_found : (p : Network) (s : ℕ) (e : Entry R) → e ≡ get_or kept (s - first) e → IsFirstKey index (p, place) (Some (p, s)) → Some e.change.before ≡ first_before p (unread_at m place)
-    change_found p s e at key =
+    pub change_found : (p : Network) (s : ℕ) (e : Entry R) → e ≡ get_or kept (s - first) e → IsFirstNumber index p place (Some s) → Some e.change.before ≡ first_before p (unread_at m place)
+    change_found p s e at number =
         ap (λ (x : Change R). Some x.before) (ap (λ (x : Entry R). x.change) at ∙ sym (list.get_or-map (λ (x : Entry R). x.change) kept (s - first) e))
-        ∙ sym (ap (first_before p) (sym unread_is) ∙ key_here first (changes_of kept) index p place sound.indexed low s e.change key)
+        ∙ sym (ap (first_before p) (sym unread_is) ∙ number_here first (changes_of kept) index indexed sound.keys p place low s number e.change)
 
-    module _ (after other : Option Network) where
-      beside_is : (result : Option Network) → IsNextBeside (drop (place - first) (changes_of kept)) after other result → IsNextBeside (unread_at m place) after other result
-      beside_is result next = subst (λ (cs : List (Change R)). IsNextBeside cs after other result) unread_is next
+    -- the rest begins at the place or at the first number that the index doesn't have
+    module _ (begin : ℕ) (later : begin ≡ max place indexed) where
+      abbrev rest : ℕ
+      rest = begin - first
 
-      pub end_beside : place ≡ m.first + length m.changes → IsNextBeside (unread_at m place) after other other
-      end_beside at = none_beside m.changes (place - m.first) after other (omega arith)
+      le : place - first ≤ rest
+      le = omega arith
 
-      pub none_beside_stops : IsFirstStop index (stops place other) after None → IsNextBeside (unread_at m place) after other other
-      none_beside_stops stop = beside_is other (none_stops first (changes_of kept) index place after other sound.indexed low stop)
+      inside : (n : ℕ) → place ≤ n → n < first + rest → n < indexed
+      inside n from to = let least = low in omega arith
 
-      pub other_beside : (key : Key) → IsFirstStop index (stops place other) after (Some key) → is_reached other key.0 ≡ true → IsNextBeside (unread_at m place) after other other
-      other_beside key stop reached = beside_is other (other_stops first (changes_of kept) index place after other sound.indexed low key stop reached)
+      pub rest_within : rest ≤ length kept
+      rest_within = let until = sound.until in let to = place_to first kept at_end m view place is in let n = length-map kept (λ (x : Entry R). x.change) in omega arith
 
-      pub change_beside : (key : Key) → IsFirstStop index (stops place other) after (Some key) → is_reached other key.0 ≡ false → IsNextBeside (unread_at m place) after other (Some key.0)
-      change_beside key stop not_reached = beside_is (Some key.0) (change_stops first (changes_of kept) index place after other sound.indexed low key stop not_reached)
+      pub rest_found : (p : Network) (found : Option (Option R)) → IsFirstNumber index p place None → found ≡ first_before p (drop rest (changes_of kept)) → found ≡ first_before p (unread_at m place)
+      rest_found p found number is = is ∙ sym (ap (first_before p) (sym unread_is) ∙ none_numbered first (changes_of kept) index indexed sound.keys p place low rest le inside number)
+
+      module _ (after other least : Option Network) (gone : IsNextBeside (drop rest (changes_of kept)) after other least) where
+        beside_is : (result : Option Network) → IsNextBeside (drop (place - first) (changes_of kept)) after other result → IsNextBeside (unread_at m place) after other result
+        beside_is result next = subst (λ (cs : List (Change R)). IsNextBeside cs after other result) unread_is next
+
+        -- where the index has nothing from the place on
+        pub rest_beside : indexed ≤ place → IsNextBeside (unread_at m place) after other least
+        rest_beside past = beside_is least (subst (λ k. IsNextBeside (drop k (changes_of kept)) after other least) (let e : rest ≡ place - first = omega arith in e) gone)
+
+        pub none_beside_stops : IsFirstStop index (stops place least) after None → IsNextBeside (unread_at m place) after other least
+        none_beside_stops stop = beside_is least (none_stops first (changes_of kept) index indexed sound.keys place rest low le inside after other least gone stop)
+
+        pub other_beside : (key : Key) → IsFirstStop index (stops place least) after (Some key) → is_reached least key.0 ≡ true → IsNextBeside (unread_at m place) after other least
+        other_beside key stop reached = beside_is least (other_stops first (changes_of kept) index indexed sound.keys place rest low le inside after other least gone key stop reached)
+
+        pub change_beside : (key : Key) → IsFirstStop index (stops place least) after (Some key) → is_reached least key.0 ≡ false → IsNextBeside (unread_at m place) after other (Some key.0)
+        change_beside key stop not_reached = beside_is (Some key.0) (change_stops first (changes_of kept) index indexed sound.keys place rest low le inside after other least gone key stop not_reached)
+
+  -- ---- the entries are gone through
+  module _ (kept : List (Entry R)) (at : ℕ) (e : Entry R) (within : at < length kept) (here : e ≡ get_or kept at e) where
+    changes_from : drop at (changes_of kept) ≡ e.change ∷ drop (at + 1) (changes_of kept)
+    changes_from =
+        let n = length-map kept (λ (x : Entry R). x.change) in
+        drop_more (changes_of kept) at e.change (omega arith)
+        ∙ ap (λ (x : Change R). x ∷ drop (at + 1) (changes_of kept)) (list.get_or-map (λ (x : Entry R). x.change) kept at e ∙ sym (ap (λ (x : Entry R). x.change) here))
+
+    pub entry_passed : (p : Network) → eq_by_cmp prefix_cmp e.change.prefix p ≡ false → first_before p (drop at (changes_of kept)) ≡ first_before p (drop (at + 1) (changes_of kept))
+    entry_passed p apart = ap (first_before p) changes_from ∙ ap (λ b. cond b (Some e.change.before) (first_before p (drop (at + 1) (changes_of kept)))) apart
+
+    pub entry_found : (p : Network) → eq_by_cmp prefix_cmp e.change.prefix p ≡ true → Some e.change.before ≡ first_before p (drop at (changes_of kept))
+    entry_found p same = sym (ap (first_before p) changes_from ∙ ap (λ b. cond b (Some e.change.before) (first_before p (drop (at + 1) (changes_of kept)))) same)
+
+    pub entry_beside : (next : ℕ) (after other least result : Option Network) → next ≡ at + 1 → IsNextBeside (drop next (changes_of kept)) after other least → result ≡ lesser after e.change.prefix least → IsNextBeside (drop at (changes_of kept)) after other result
+    entry_beside next after other least result behind is same =
+        subst (IsNextBeside (drop at (changes_of kept)) after other) (sym same)
+        (subst (λ (cs : List (Change R)). IsNextBeside cs after other (lesser after e.change.prefix least)) (sym changes_from)
+        (lesser_beside e.change (drop (at + 1) (changes_of kept)) after other least (subst (λ k. IsNextBeside (drop k (changes_of kept)) after other least) behind is)))
+
+  pub none_gone : (kept : List (Entry R)) (at : ℕ) (after other : Option Network) → at ≡ length kept → IsNextBeside (drop at (changes_of kept)) after other other
+  none_gone kept at after other end = let n = length-map kept (λ (x : Entry R). x.change) in none_beside (changes_of kept) at after other (omega arith)
 
   -- the change at a place is the first from there on
   pub copied_first : (first : ℕ) (kept : List (Entry R)) (at_end : ℕ) (m : Numbered R) (place : ℕ) (e : Entry R) (c : Change R) → numbered_of first kept at_end ≡ m → m.first ≤ place → place < m.first + length m.changes

@@ -39,8 +39,9 @@ module _ {R : Type 0} where
   abbrev pub numbered_of : ℕ → List (Entry R) → ℕ → Numbered R
   numbered_of first kept at_end = record { first = first; changes = changes_of kept; readers = readers_of kept at_end }
 
-  pub record IsKept (first : ℕ) (kept : List (Entry R)) (index : BTreeSet Key) : Type 0 where
-    pub indexed : IsIndexed first (changes_of kept) index
+  pub record IsKept (first : ℕ) (kept : List (Entry R)) (index : BTreeSet Key) (indexed : ℕ) : Type 0 where
+    pub keys : IsIndexed first (changes_of kept) index indexed
+    pub until : indexed ≤ first + length (changes_of kept)
     pub fits : first + length (changes_of kept) < 2 ^ 64
 
   -- ---- of what is seen

@@ -1,7 +1,7 @@
 -- What the index of a queue's entries keeps.
-use Rattle.std.specs.Prelude.{◌≡◌, ℕ, suc, nat_eq, nat_le, Bool, true, false, cond, ◌&&◌, ◌||◌, List, [], ◌∷◌, Option, Some, None}
+use Rattle.std.specs.Prelude.{◌≡◌, ℕ, suc, ◌≤◌, ◌<◌, nat_eq, nat_le, Bool, true, false, not, cond, ◌&&◌, ◌||◌, List, [], ◌∷◌, Option, Some, None}
 use Rattle.std.specs.declared.cmp.Ordering.{Ordering}
-use Rattle.std.specs.Ordering.{nat_cmp, eq_by_cmp, is_gt, ordering_then}
+use Rattle.std.specs.Ordering.{nat_cmp, eq_by_cmp, is_gt, is_lt, ordering_then}
 use Rattle.std.specs.declared.ops.Bound.{Bound}
 use Rattle.std.specs.declared.ops.Bound.TheVariants.{Excluded, Unbounded}
 use Rattle.std.specs.BTreeMap.Range.{IsLeBy, IsLtBy}
@@ -25,10 +25,26 @@ IsFirstKey index from (Some key) =
     IsLeBy key_cmp from key × (contains key_cmp index key ≡ true)
     × ((q : Key) → IsLeBy key_cmp from q → IsLtBy key_cmp q key → contains key_cmp index q ≡ false)
 
+-- the answer is the least number from this one on of a key at the prefix
+abbrev pub IsFirstNumber : BTreeSet Key → Network → ℕ → Option ℕ → Type 0
+IsFirstNumber index p from None = (n : ℕ) → from ≤ n → contains key_cmp index (p, n) ≡ false
+IsFirstNumber index p from (Some number) =
+    (from ≤ number) × (contains key_cmp index (p, number) ≡ true)
+    × ((n : ℕ) → from ≤ n → n < number → contains key_cmp index (p, n) ≡ false)
+
+-- whether the prefix lies beyond the place
+abbrev pub is_beyond : Option Network → Network → Bool
+is_beyond None q = true
+is_beyond (Some p) q = is_lt (prefix_cmp p q)
+
 -- whether the prefix isn't before the other one
 abbrev pub is_reached : Option Network → Network → Bool
 is_reached None p = false
 is_reached (Some other) p = cond (is_gt (prefix_cmp other p)) false true
+
+-- the prefix, where it lies beyond the place and before the other one, or else the other one
+abbrev pub lesser : Option Network → Network → Option Network → Option Network
+lesser after p other = cond (is_beyond after p && not (is_reached other p)) (Some p) other
 
 -- whether the entry has this number or a later one, or its prefix isn't before the other one
 abbrev pub stops : ℕ → Option Network → Key → Bool
@@ -56,6 +72,7 @@ module _ {R : Type 0} where
   is_entry base [] p number = false
   is_entry base (c ∷ cs) p number = (nat_eq number base && eq_by_cmp prefix_cmp c.prefix p) || is_entry (suc base) cs p number
 
-  -- the keys are those of the entries
-  abbrev pub IsIndexed : ℕ → List (Change R) → BTreeSet Key → Type 0
-  IsIndexed base entries index = (p : Network) (number : ℕ) → contains key_cmp index (p, number) ≡ is_entry base entries p number
+  -- the keys from the number base on are those of the entries below another number
+  pub record IsIndexed (base : ℕ) (entries : List (Change R)) (index : BTreeSet Key) (indexed : ℕ) : Type 0 where
+    pub below : (p : Network) (n : ℕ) → base ≤ n → n < indexed → contains key_cmp index (p, n) ≡ is_entry base entries p n
+    pub above : (p : Network) (n : ℕ) → base ≤ n → indexed ≤ n → contains key_cmp index (p, n) ≡ false

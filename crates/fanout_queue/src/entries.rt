@@ -3,6 +3,7 @@
 ghost use Rattle.std.specs.Prelude.{◌≡◌, ◌≤◌, ◌<◌, ◌+◌, ◌-◌, ◌^◌, [], ◌∷◌, ◌++◌, length, drop, slice_index_or, option_map, IfOk, OnOk, OnErr, IfSome, IsNone, Some, ◌↔◌, IsTrue};
 ghost use Rattle.std.specs.Option.{option_copied};
 ghost use Rattle.addr4.specs.Places.{key_of};
+ghost use Rattle.fanout_queue.specs.Entries.{changes_of, first_before, IsNextBeside};
 
 use crate::index;
 use addr4::{Memory, Place, Prefix, Row};
@@ -15,19 +16,21 @@ use std::marker::Model;
 /// place is the number of the change that it takes next.
 #[derive(Drop)]
 pub(crate) struct Entries<R> {
-    kept: VecDeque<Entry<R>>,
-    // The prefixes and numbers of the changes that are kept.
-    index: BTreeSet<(Prefix, u64)>,
+    pub(crate) kept: VecDeque<Entry<R>>,
+    // The prefixes and numbers of the changes that lookups were prepared for, and of some that are kept no more.
+    pub(crate) index: BTreeSet<(Prefix, u64)>,
+    // The number of the first that is kept and that the index doesn't have, or one of those that are kept no more.
+    pub(crate) indexed: u64,
     // The number of the first that is kept.
-    first: u64,
+    pub(crate) first: u64,
     // How many readers have taken all.
     at_end: usize,
 }
 
 // A change, and how many readers take it next.
 #[derive(Drop)]
-struct Entry<R> {
-    change: Change<R>,
+pub(crate) struct Entry<R> {
+    pub(crate) change: Change<R>,
     readers: usize,
 }
 
@@ -43,7 +46,7 @@ impl<R> Model for Entries<R> {
 
     ghost view = { λ s. numbered_of s.first s.kept.items s.at_end };
 
-    ghost invariant = { λ s. IsKept s.first s.kept.items s.index };
+    ghost invariant = { λ s. IsKept s.first s.kept.items s.index s.indexed };
 }
 
 // Gives back memory that isn't used, if it is much.
@@ -68,7 +71,7 @@ fn push<T: Drop>(kept: &mut VecDeque<T>, entry: T) -> Result<(), Memory>
 }
 
 impl<R: Row> Entries<R> {
-    ghost use Rattle.fanout_queue.specs.Entries.{IsPlace, readers_at, first_readers, unread_at, Puts, Enters, Leaves, CutsFirst, Trims, TakesOut, Passes, first_before, IsNextBeside};
+    ghost use Rattle.fanout_queue.specs.Entries.{IsPlace, readers_at, first_readers, unread_at, Puts, Enters, Leaves, CutsFirst, Trims, TakesOut, Passes};
 
     /// No changes and no readers. Takes no memory.
     pub(crate) fn new(alloc: Global) -> Entries<R>
@@ -77,6 +80,7 @@ impl<R: Row> Entries<R> {
         Entries {
             kept: VecDeque::new(alloc),
             index: BTreeSet::new(alloc),
+            indexed: 0,
             first: 0,
             at_end: 0,
         }
@@ -111,20 +115,13 @@ impl<R: Row> Entries<R> {
         ensures ok { OnOk result (Puts self.old self.new change) }
         ensures memory { OnErr result (self.new ≡ self.old) }
     {
-        let number = self.end();
-        let prefix = change.prefix;
-        index::put_key(&mut self.index, prefix, number)?;
-        let readers = self.at_end;
-        match push(&mut self.kept, Entry { change, readers }) {
-            Ok(()) => {
-                self.at_end = 0;
-                Ok(())
-            }
-            Err(Memory) => {
-                index::cut_key(&mut self.index, prefix, number);
-                Err(Memory)
-            }
+        if self.end() == u64::MAX {
+            return Err(Memory);
         }
+        let readers = self.at_end;
+        push(&mut self.kept, Entry { change, readers })?;
+        self.at_end = 0;
+        Ok(())
     }
 
     /// One reader more stands at a place.
@@ -161,9 +158,9 @@ impl<R: Row> Entries<R> {
         match self.kept.pop_front() {
             None => None,
             Some(Entry { change, readers: _ }) => {
-                index::cut_key(&mut self.index, change.prefix, self.first);
                 self.first += 1;
                 give_back(&mut self.kept);
+                self.trim_index();
                 Some(change)
             }
         }
@@ -225,48 +222,5 @@ impl<R: Row> Entries<R> {
         let change = self.take_out(place)?;
         self.enter(place + 1);
         Ok(change)
-    }
-
-    /// The first change at a prefix, from a place on.
-    pub(crate) fn first_at(&self, place: u64, prefix: Prefix) -> Option<&Change<R>>
-        requires { IsPlace self.now place }
-        ensures { option_map (λ change. change.before) (option_copied result) ≡ first_before prefix (unread_at self.now place) }
-    {
-        match index::first_from(&self.index, prefix, place) {
-            None => None,
-            Some(key) => {
-                if key.0 == prefix {
-                    Some(&self.kept[(key.1 - self.first) as usize].change)
-                } else {
-                    None
-                }
-            }
-        }
-    }
-
-    /// The least prefix beyond a place that others have, or that has a change from a reader's place on. This is the least that
-    /// others have.
-    pub(crate) fn next_beside(
-        &self,
-        place: u64,
-        after: &Place,
-        other: Option<Prefix>,
-    ) -> Option<Prefix>
-        requires { IsPlace self.now place }
-        ensures { IsNextBeside (unread_at self.now place) (key_of after.now) other result }
-    {
-        if place == self.end() {
-            return other;
-        }
-        match index::first_stop(&self.index, place, after, &other) {
-            None => other,
-            Some(key) => {
-                if index::is_reached(&other, key.0) {
-                    other
-                } else {
-                    Some(key.0)
-                }
-            }
-        }
     }
 }

@@ -1,52 +1,50 @@
-//! The entries of a queue by prefix and then number.
+//! Keys of a queue's entries: by prefix and then number.
 
-ghost use Rattle.std.specs.Prelude.{◌≡◌, ◌<◌, ◌+◌, ◌^◌, ℕ, OnOk, OnErr, true, false};
+ghost use Rattle.std.specs.Prelude.{◌≡◌, ◌<◌, ◌^◌, ℕ, OnOk, OnErr, true};
 ghost use Rattle.std.specs.List.{find};
 ghost use Rattle.std.specs.BTreeSet.{Updates, contains, IsOrdered};
 ghost use Rattle.addr4.specs.Places.{key_of};
 ghost use Rattle.addr4.specs.Prefixes.{Network};
-ghost use Rattle.fanout_queue.specs.Index.{key_cmp, IsFirstKey, IsFirstStop, is_reached, stops, behind, keys_from};
+ghost use Rattle.fanout_queue.specs.Index.{key_cmp, IsFirstKey, IsFirstNumber, IsFirstStop, is_beyond, is_reached, lesser, stops, behind, keys_from};
 
 use addr4::{Memory, Place, Prefix};
 use std::collections::BTreeSet;
 use std::ops::Bound;
 
-/// Puts the key of an entry. For want of memory, and where the number has none after it, nothing changes.
+/// Puts the key of an entry. For want of memory nothing changes.
 pub(crate) fn put_key(
     index: &mut BTreeSet<(Prefix, u64)>,
     prefix: Prefix,
     number: u64,
 ) -> Result<(), Memory>
     ensures ok { OnOk result (Updates key_cmp index.old index.new (prefix, number) true) }
-    ensures room { OnOk result (number + 1 < 2 ^ 64) }
     ensures memory { OnErr result (index.new.keys ≡ index.old.keys) }
 {
-    if number == u64::MAX {
-        return Err(Memory);
-    }
     index.insert((prefix, number))?;
     Ok(())
 }
 
-/// Takes out the key of an entry.
-pub(crate) fn cut_key(index: &mut BTreeSet<(Prefix, u64)>, prefix: Prefix, number: u64)
-    ensures { Updates key_cmp index.old index.new (prefix, number) false }
-{
-    let key = (prefix, number);
-    index.remove(&key);
-}
-
-/// The first key at or beyond this one.
-pub(crate) fn first_from(
-    index: &BTreeSet<(Prefix, u64)>,
-    prefix: Prefix,
-    number: u64,
-) -> Option<(Prefix, u64)>
+// The first key at or beyond this one.
+fn first_from(index: &BTreeSet<(Prefix, u64)>, prefix: Prefix, number: u64) -> Option<(Prefix, u64)>
     ensures { IsFirstKey index.now (prefix, number) result }
 {
     match index.range((prefix, number)..).next() {
         None => None,
         Some(key) => Some((key.0, key.1)),
+    }
+}
+
+/// The least number from this one on that the index has at a prefix.
+pub(crate) fn first_number(
+    index: &BTreeSet<(Prefix, u64)>,
+    prefix: Prefix,
+    from: u64,
+) -> Option<u64>
+    ensures { IsFirstNumber index.now prefix from result }
+{
+    match first_from(index, prefix, from) {
+        None => None,
+        Some(key) => { if key.0 == prefix { Some(key.1) } else { None } }
     }
 }
 
@@ -57,6 +55,27 @@ pub(crate) fn is_reached(other: &Option<Prefix>, prefix: Prefix) -> bool
     match other {
         None => false,
         Some(other) => *other <= prefix,
+    }
+}
+
+/// The lesser of another prefix and of this one, if this lies beyond a place.
+pub(crate) fn lesser(after: &Place, prefix: Prefix, other: Option<Prefix>) -> Option<Prefix>
+    ensures { result ≡ lesser (key_of after.now) prefix other }
+{
+    if is_beyond(after, prefix) && !is_reached(&other, prefix) {
+        Some(prefix)
+    } else {
+        other
+    }
+}
+
+// Whether a prefix lies beyond a place.
+fn is_beyond(after: &Place, prefix: Prefix) -> bool
+    ensures { result ≡ is_beyond (key_of after.now) prefix }
+{
+    match after {
+        Place::Before => true,
+        Place::At(place) => *place < prefix,
     }
 }
 

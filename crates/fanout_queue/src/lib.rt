@@ -10,14 +10,16 @@
 //! [`readers_keep_leading`]: where every reader's changes lead from its rows to the best ones, they still do when a change of
 //! the best rows is put, when one is taken, and when readers join and leave.
 //!
-//! To put and to take cost the same however much is kept, but for one step in the index of entries by prefix. It lets a
-//! lookup find the first change at a prefix, and a walk the next prefix that has one, without a scan of the list. The
-//! outgoing chains of the peers and the forwarding side are the readers.
+//! To put and to take cost the same however much is kept. An index of the changes by prefix lets a lookup find the first one
+//! at a prefix, and a walk the next prefix that has one. It is made where somebody asks: [`Queue::prepare`] puts the changes
+//! into it that came since, and it goes as a whole when the last of them is taken. A lookup goes through what the index
+//! doesn't have. The outgoing chains of the peers and the forwarding side are the readers.
 #![tactic(auto)]
 
 mod entries;
 mod index;
 mod laws;
+mod lookups;
 mod places;
 mod queue;
 mod reader;

@@ -104,6 +104,14 @@ impl<R: Row> Queue<R> {
         Ok(Some(change))
     }
 
+    /// Puts the changes that came since the last call into the index, so that lookups needn't go through them. For want of
+    /// memory it has only some of them: lookups answer the same, and take longer.
+    pub fn prepare(&mut self) -> Result<(), Memory>
+        ensures { self.new ≡ self.old }
+    {
+        self.entries.prepare()
+    }
+
     /// How many changes the reader hasn't taken.
     pub fn waiting(&self, reader: &Reader) -> u128
         requires { IsSome (map.get self.now reader.now) }

@@ -1,7 +1,7 @@
 //! Whether a prefix is settled: whether no work may keep its rows from what the live state alone asks for (NSDI 2005, sections
-//! 5.1.1 and 5.1.2). Nothing here takes memory, and nothing goes over the rows of a table: a phase without work is passed over, and
-//! each task of another is asked once, which looks at the one prefix, and a lost table of interior routes also at the 33 that hold
-//! a next hop.
+//! 5.1.1 and 5.1.2). Nothing here takes memory but what prepares the queue of changes for the questions of an event, and nothing
+//! goes over the rows of a table: a phase without work is passed over, and each task of another is asked once, which looks at the
+//! one prefix, and a lost table of interior routes also at the 33 that hold a next hop.
 
 ghost use Rattle.std.specs.Prelude.{◌≡◌, ℕ, ◌<◌, ◌≤◌, IfOk, is_some, None};
 ghost use Rattle.event_text.specs.declared.event.Event.TheVariants as events;
@@ -29,6 +29,7 @@ impl Network {
         ensures { IfOk result (λ turns. Gives (HasStepped self.old (events.Settled p) turns self.new) journal.old journal.new) }
     {
         the_first_task_tells();
+        self.exits.prepare()?;
         journal.push_line(Line::Settled(p, self.first_held(p)))?;
         journal.flush()?;
         Ok(0)

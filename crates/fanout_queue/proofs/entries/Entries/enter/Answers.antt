@@ -4,7 +4,7 @@ use Rattle.fanout_queue.proofs.entries.Entries.enter.Goals as goal
 
 pub invariant_of-self-in-Some : goal.invariant_of-self-in-Some
 invariant_of-self-in-Some g c =
-    kept_stays c.self.inside.first c.self.inside.kept.items _ c.self.inside.index
+    kept_stays c.self.inside.first c.self.inside.kept.items _ c.self.inside.index c.self.inside.indexed
     (same_changes c.self.inside.kept.items (c.args.place - c.self.inside.first) (c.in-Some.entry.now.readers + 1) c.in-Some.entry.now c.in-Some.ensures.value)
     c.self.invariant
 
