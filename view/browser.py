@@ -46,6 +46,8 @@ class Browser:
         target = next(told for told in self.call('Target.getTargets')['targetInfos'] if told['type'] == 'page')
         self.session = self.call('Target.attachToTarget', targetId=target['targetId'], flatten=True)['sessionId']
         self.call('Page.enable')
+        self.call('Page.addScriptToEvaluateOnNewDocument', source='var failures = []; addEventListener("error", event => '
+                  'failures.push(event.message)); addEventListener("unhandledrejection", event => failures.push(String(event.reason)))')
         self.call('Emulation.setDeviceMetricsOverride', width=self.width, height=self.height, deviceScaleFactor=1, mobile=False)
         self.call('Emulation.setEmulatedMedia',
                   features=[{'name': 'prefers-color-scheme', 'value': 'dark' if self.dark else 'light'}])
@@ -121,6 +123,11 @@ class Browser:
         data = {'items': [], 'files': [os.path.abspath(path)], 'dragOperationsMask': 1}
         for kind in ('dragEnter', 'dragOver', 'drop'):
             self.call('Input.dispatchDragEvent', type=kind, x=self.width // 2, y=self.height // 2, data=data)
+
+    @staticmethod
+    def now():
+        """Seconds of the clock."""
+        return time.monotonic()
 
     def press(self, key, text=''):
         """Presses a key and lets it go."""

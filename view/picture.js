@@ -28,21 +28,46 @@ function drawBox(parent, x, y, width, height, text, told) {
   return box;
 }
 
+/** The tip of a path of horizontal and vertical parts. */
+function tipOf(path) {
+  let [x, y, toX, toY] = [0, 0, 0, 0];
+  for (const [, letter, first, second] of path.matchAll(/([MHV])([0-9.]+)(?:,([0-9.]+))?/g)) {
+    if (letter === 'M') [x, y] = [Number(first), Number(second)];
+    if (letter === 'H') [toX, toY, x] = [Math.sign(first - x), 0, Number(first)];
+    if (letter === 'V') [toX, toY, y] = [0, Math.sign(first - y), Number(first)];
+  }
+  const side = sign => `${x - 7 * toX - sign * 3.5 * toY},${y - 7 * toY + sign * 3.5 * toX}`;
+  return toX || toY ? `M${x},${y}L${side(1)}L${side(-1)}Z` : '';
+}
+
+/** A wire that is no link: a bus, or a way on which the rows of a link are lent. */
+function drawWay(parent, path) {
+  draw(parent, 'path', {class: 'wire', d: path});
+  draw(parent, 'path', {class: 'tip', d: tipOf(path)});
+}
+
 /** A link of the picture: its wire, its name, and how many rows it has. */
 class Wire {
   constructor(parent, path, x, y, {term, side} = {}) {
     Object.assign(this, {x, y});
     this.drawn = draw(parent, 'g', {class: 'link', role: 'button', tabindex: 0});
     this.title = draw(this.drawn, 'title');
-    this.path = draw(this.drawn, 'path', {class: 'wire', d: path});
+    this.path = draw(this.drawn, 'path', {class: 'wire'});
+    this.tip = draw(this.drawn, 'path', {class: 'tip'});
+    this.run(path);
     draw(this.drawn, 'rect', {class: 'touch', x: x - 36, y: y - 22, width: 72, height: 34});
     this.pill = draw(this.drawn, 'rect', {class: 'pill', y: y - 8, height: 16, rx: 8});
     this.rows = draw(this.drawn, 'text', {class: 'rows', x, y: y + 4});
-    const [nameX, nameY] = side ? [x + 26, y + 4] : [x, y - 11];
+    const [nameX, nameY] = side ? [x - 20, y + 2] : [x, y - 11];
     this.label = draw(this.drawn, 'text', {class: side ? 'name side' : 'name', x: nameX, y: nameY});
-    if (term) draw(this.drawn, 'text', {class: side ? 'term side' : 'term', x: nameX, y: side ? y + 16 : y + 19}, term);
+    if (term) this.term = draw(this.drawn, 'text', {class: side ? 'term side' : 'term', x: nameX, y: side ? y + 14 : y + 19}, term);
     this.link = null;
     this.count = undefined;
+  }
+
+  run(path) {
+    this.path.setAttribute('d', path);
+    this.tip.setAttribute('d', tipOf(path));
   }
 
   /** Whose link this wire is from now on; null where none is live. */
@@ -113,8 +138,8 @@ class Chain {
     const stages = (going ? live.concat(going) : live.slice()).sort((a, b) => number(b) - number(a));
     this.zone.replaceChildren();
     const room = this.at - 44 - this.x;
-    const step = room / Math.max(2, stages.length);
-    const width = step >= 100 ? 44 : Math.min(20, step / 2);
+    const step = Math.min(114, room / stages.length);
+    const width = step >= 100 ? 44 : Math.min(22, step / 2);
     this.wires = stages.map((link, place) => {
       const left = this.x + place * step;
       const middle = left + (step - width) / 2;
@@ -122,14 +147,14 @@ class Chain {
       wire.be(link);
       wire.drawn.classList.toggle('small', step < 100);
       wire.drawn.classList.toggle('bare', step < 48);
-      const box = drawBox(this.zone, left + step - width, this.y, width, 24, step >= 100 ? `lost ${number(link)}` : '',
+      const box = drawBox(this.zone, left + step - width, this.y, width, 24, step >= 100 ? `lost ${number(link)}` : step >= 44 ? `${number(link)}` : '',
         `deletion stage ${number(link)}`);
       box.classList.add('stage');
       box.classList.toggle('going', link === going);
       box.classList.toggle('coming', link === coming);
       return wire;
     });
-    this.bottom.path.setAttribute('d', `M${this.x + stages.length * step},${this.y}H${this.end}`);
+    this.bottom.run(`M${this.x + stages.length * step},${this.y}H${this.end}`);
     this.picture.changed = true;
   }
 }
@@ -187,13 +212,13 @@ class Picture {
   }
 
   drawLanes() {
-    const bottom = this.peers.length * this.height;
+    const bottom = this.peers.length * this.height + 6;
     this.lanes.replaceChildren();
-    this.lanes.setAttribute('viewBox', `0 0 ${WIDTH} ${Math.max(bottom, 1)}`);
+    this.lanes.setAttribute('viewBox', `0 0 ${WIDTH} ${bottom}`);
     const middle = this.height / 2 + 3;
-    if (bottom) {
-      draw(this.lanes, 'path', {class: 'wire bus', d: `M${DECIDED},${middle}V${bottom}`});
-      draw(this.lanes, 'path', {class: 'wire bus', d: `M${QUEUED},${bottom}V${middle}`});
+    if (this.peers.length) {
+      draw(this.lanes, 'path', {class: 'wire', d: `M${DECIDED},${middle}V${bottom}`});
+      draw(this.lanes, 'path', {class: 'wire', d: `M${QUEUED},${bottom}V${middle}`});
     }
     this.plain = [];
     this.peers.forEach((peer, place) => this.drawLane(peer, place * this.height + middle));
@@ -225,49 +250,67 @@ class Picture {
     });
     drawBox(lane, 980, y, 60, 26, 'filter', 'the outgoing filter');
     const sent = drawBox(lane, 1120, y, 42, 26, 'sent', 'what was sent, and the octets of each UPDATE');
-    this.sessions.push({peer, told, group: new Group(this.family('read', peer)), wires: {read, outf, adv}, sent});
+    this.sessions.push({peer, told, group: new Group(['read', 'outf', 'adv'].flatMap(family => this.family(family, peer))), wires: {read, outf, adv}, sent});
   }
 
   drawCore() {
     const core = this.core;
     core.replaceChildren();
-    core.setAttribute('viewBox', `0 0 ${WIDTH} 212`);
+    core.setAttribute('viewBox', `0 0 ${WIDTH} 214`);
     const wire = (name, path, x, y, side) => this.wire(core, name, path, x, y, {term: TERMS[name], side});
-    draw(core, 'path', {class: 'wire bus', d: `M${DECIDED},0V24`});
-    draw(core, 'path', {class: 'wire bus', d: `M${QUEUED},24V0`});
-    draw(core, 'path', {class: 'wire', d: 'M540,104V190H1110V142'});
-    drawBox(core, 560, 160, 66, 24, 'register', 'longest matches of interior routes, and who asked for them');
-    draw(core, 'path', {class: 'wire', d: 'M540,160H560'});
-    PROTOCOLS.forEach((protocol, place) => {
-      const y = 32 + place * 48;
-      const name = `org.${protocol}`;
-      drawBox(core, 8, y, 74, 26, protocol, `the live routes of ${protocol}`);
-      const stages = this.journal.links.filter(link => link.family === 'org' && link.protocol === protocol && link.numbers.length);
-      const bottom = this.journal.links[this.journal.linkOf.get(name)] || null;
-      this.chains.push(new Chain(this, core, this.journal, stages, bottom, {x: 82, y, end: 330, at: 282}));
-    });
-    for (const [x, from, to] of [[330, 32, 80], [330, 128, 176], [428, 56, 152]]) {
-      const merge = drawBox(core, x, (from + to) / 2, 10, to - from + 24, '', 'merge: the row of least distance');
-      merge.classList.add('merge');
-    }
-    wire('low', 'M340,56H428', 384, 56);
-    wire('dyn', 'M340,152H428', 384, 152);
-    wire('int', 'M438,104H558', 492, 104);
+    drawWay(core, `M${DECIDED},0V24`);
+    draw(core, 'path', {class: 'wire', d: `M${QUEUED},24V0`});
+    this.drawTree(core, wire);
     drawBox(core, 558, 104, 62, 34, 'redistri-\nbution', 'interior routes as this speaker’s own');
     wire('red', `M620,104H${DECIDED}V56`, 660, 104);
     drawBox(core, 658, 40, 84, 32, 'decision', 'RFC 4271, section 9.1, over all peers');
     wire('best', 'M742,40H846', 794, 40);
     drawBox(core, 846, 40, 78, 32, 'queue', 'changes of the best routes, which each reader reads at its pace');
-    wire('read.rib', `M${QUEUED},56V100`, QUEUED, 78, true);
-    const splitter = drawBox(core, 852, 128, 66, 58, 'splitter', 'routes of external peers, of internal peers');
-    splitter.classList.add('tall');
-    wire('ebgp', 'M918,112H1000', 959, 112);
-    wire('ibgp', 'M918,148H1000', 959, 148);
-    drawBox(core, 1000, 128, 10, 64, '', 'merge').classList.add('merge');
-    wire('ext', 'M1010,128H1080', 1044, 128);
-    drawBox(core, 1080, 128, 62, 28, 'ExtInt', 'external routes, by the interior routes to their next hops');
-    wire('fib', 'M1142,128H1236', 1189, 128);
+    this.forwarding = wire('read.rib', `M${QUEUED},56V92`, QUEUED, 74, true);
+    drawBox(core, 852, 128, 66, 72, 'splitter', 'routes of external peers, of internal peers');
+    wire('ebgp', 'M918,106H1000', 957, 106);
+    wire('ibgp', 'M918,152H1000', 957, 152);
+    drawBox(core, 1000, 129, 10, 70, '', 'merge').classList.add('merge');
+    wire('ext', 'M1010,129H1094', 1050, 129);
+    drawBox(core, 1094, 129, 56, 28, 'ExtInt', 'external routes, by the interior routes to their next hops');
+    wire('fib', 'M1150,129H1236', 1191, 129);
+    this.drawLegend(core);
+  }
+
+  /** The tree of the interior routes, and what `int` goes to. */
+  drawTree(core, wire) {
+    drawWay(core, 'M540,104V192H1122V143');
+    drawBox(core, 560, 160, 66, 24, 'register', 'longest matches of interior routes, and who asked for them');
+    drawWay(core, 'M540,160H560');
+    PROTOCOLS.forEach((protocol, place) => {
+      const y = 32 + place * 48;
+      drawBox(core, 8, y, 74, 26, protocol, `the live routes of ${protocol}`);
+      const stages = this.family('org').filter(link => link.protocol === protocol && link.numbers.length);
+      const bottom = this.journal.links[this.journal.linkOf.get(`org.${protocol}`)] || null;
+      this.chains.push(new Chain(this, core, this.journal, stages, bottom, {x: 82, y, end: 318, at: 270}));
+    });
+    for (const [x, from, to] of [[318, 32, 80], [318, 128, 176], [428, 56, 152]]) {
+      drawBox(core, x, (from + to) / 2, 10, to - from + 24, '', 'merge: the row of least distance').classList.add('merge');
+    }
+    wire('low', 'M328,56H428', 378, 56);
+    wire('dyn', 'M328,152H428', 378, 152);
+    wire('int', 'M438,104H558', 492, 104);
     draw(core, 'circle', {class: 'joint', cx: 540, cy: 104, r: 3});
+  }
+
+  drawLegend(core) {
+    const legend = draw(core, 'g', {class: 'legend'});
+    [['this line', 'now'], ['before it in the fall', 'passed'], ['behind it', 'next']].forEach(([text, name], place) => {
+      const x = 946 + [0, 76, 206][place];
+      const sample = draw(legend, 'g', {class: `link ${name} replace`});
+      draw(sample, 'path', {class: 'wire', d: `M${x},20h18`});
+      draw(legend, 'text', {x: x + 23, y: 23.5}, text);
+    });
+    ['add', 'replace', 'delete'].forEach((name, place) => {
+      const x = 946 + [0, 76, 146][place];
+      draw(legend, 'rect', {class: name, x, y: 34, width: 10, height: 10, rx: 2});
+      draw(legend, 'text', {x: x + 15, y: 42.5}, name);
+    });
   }
 
   /** Shows how things stand behind a line; `chosen` is the name of the chosen link, `rank` that of a prefix or -1. */
@@ -276,6 +319,8 @@ class Picture {
     this.changed = false;
     for (const chain of this.chains) chain.show(journal, line);
     for (const session of this.sessions) this.showSession(session, line);
+    const unread = this.forwarding.link ? this.unread(this.forwarding.link, line) : 0;
+    this.forwarding.term.textContent = unread ? `for forwarding · ${unread} unread` : 'read for forwarding';
     this.wires.clear();
     for (const wire of this.allWires()) {
       wire.tell(wire.link ? journal.countAt(wire.link, line) : -1);
@@ -293,14 +338,26 @@ class Picture {
 
   showSession(session, line) {
     const {live} = session.group.at(this.journal, line);
-    const number = live.length ? live[live.length - 1].numbers[1] : 0;
+    const number = Math.max(0, ...live.map(link => link.numbers[1]));
+    const reader = live.find(link => link.family === 'read');
+    const unread = reader ? this.unread(reader, line) : 0;
+    const text = number ? `session ${number}` + (unread ? ` · ${unread} unread` : '') : 'no session';
+    if (text !== session.told.textContent) session.told.textContent = text;
     if (number === session.number) return;
     session.number = number;
-    session.told.textContent = number ? `session ${number}` : 'no session';
     for (const family in session.wires) {
       const link = this.journal.linkOf.get(`${family}.${session.peer}.${number}`);
       session.wires[family].be(link === undefined ? null : this.journal.links[link]);
     }
+  }
+
+  /** How many changes of the best routes a reader hasn't read behind a line. */
+  unread(reader, line) {
+    const best = this.journal.links[this.journal.linkOf.get('best')];
+    const life = this.journal.lifeAt(reader, line);
+    if (!best || life === -1) return 0;
+    const since = link => atMost(link.changes, line) - atMost(link.changes, reader.begins[life]);
+    return Math.max(0, since(best) - since(reader));
   }
 
   /** Marks the link of the line, and those of its fall that were passed and that are to come. */

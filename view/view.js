@@ -24,6 +24,9 @@ class View {
     this.picture = new Picture(at('#heads'), at('#lanes svg'), at('#core'), name => this.choose(name));
     this.lines = new VirtualList(at('#lines .list'), 20, () => this.makeLine(), (row, place) => this.fillLine(row, place));
     this.rows = new VirtualList(at('#rows .list'), 20, () => this.makeRow(), (row, place) => this.fillRow(row, place));
+    this.heads = document.createElement('div');
+    this.heads.className = 'columns';
+    at('#rows .list').prepend(this.heads);
     this.listen();
   }
 
@@ -58,7 +61,7 @@ class View {
     at('#strip').setAttribute('aria-valuemax', journal.last);
     if (journal.broken) {
       const {line, rule, text} = journal.broken;
-      this.complain(`Line ${line.toLocaleString('en')} breaks rule ${rule} of docs/OUTPUT.md: ${shortened(text)}. ` +
+      this.complain(`Line ${line.toLocaleString('en')} breaks rule ${rule} (docs/OUTPUT.md): ${shortened(text)}, but ${RULES[rule]}. ` +
         'The lines before it are shown.');
     }
     Object.assign(this, {line: 0, matches: null, rank: -1});
@@ -136,7 +139,7 @@ class View {
     at('#says b').textContent = told;
     at('#says span').textContent = rest;
     if (document.activeElement !== at('#line')) at('#line').value = line;
-    at('#strip i').style.left = `${line / journal.last * 100}%`;
+    at('#strip i').style.left = `${line / (journal.last || 1) * 100}%`;
     at('#strip').setAttribute('aria-valuenow', line);
     const place = this.matches ? atMost(this.matches, line) - 1 : line - 1;
     this.lines.reveal(Math.max(0, place));
@@ -195,9 +198,12 @@ class View {
     const heads = columnHeads(this.table.link.family);
     this.keys = this.printed ? ['value'] : heads.map(([key]) => key);
     const names = this.printed ? ['value'] : heads.map(([, head]) => head);
-    at('#rows').style.setProperty('--columns', this.keys.map(key => WIDTHS[key]).join(' '));
-    at('#rows .columns').replaceChildren();
-    for (const name of ['prefix', ...names]) part('', at('#rows .columns')).textContent = name;
+    const widths = this.keys.map(key => (WIDE.includes(key) ? `minmax(${WIDTHS[key]}ch, 1fr)` : `${WIDTHS[key]}ch`));
+    const least = this.keys.reduce((sum, key) => sum + WIDTHS[key] + 1.5, 18);
+    at('#rows').style.setProperty('--columns', widths.join(' '));
+    at('#rows').style.setProperty('--least', `calc(${least}ch + 24px)`);
+    this.heads.replaceChildren();
+    for (const name of ['prefix', ...names]) part('', this.heads).textContent = name;
     for (const row of this.rows.drawn) row.remove();
     this.rows.drawn = [];
     at('#form').textContent = this.printed ? 'as columns' : 'as printed';
@@ -408,8 +414,15 @@ class View {
   }
 }
 
-/** How wide the columns of a table are. */
-const WIDTHS = {value: '1fr', hop: '15ch', path: 'minmax(16ch, 1fr)', origin: '11ch', pref: '11ch', med: '8ch', from: '10ch',
-  metric: '8ch', via: '12ch', other: 'minmax(8ch, 1fr)'};
+/** What is so where a rule is broken. */
+const RULES = {
+  1: 'that isn’t what the link has there, or it isn’t live',
+  2: 'that isn’t what the link has there, or it isn’t live',
+  3: 'the link is live already, or one isn’t live, or their rows differ',
+};
+
+/** How wide the columns of a table are at least, in characters, and which take more. */
+const WIDTHS = {value: 40, hop: 15, path: 18, origin: 10, pref: 6, med: 5, from: 9, metric: 6, via: 12, other: 10};
+const WIDE = ['value', 'path', 'other'];
 
 const view = new View();

@@ -84,13 +84,12 @@ function columnsOf(family, value) {
 
 /** The columns of a link's table: key and head. */
 function columnHeads(family) {
-  const route = [['hop', 'next hop'], ['path', 'AS path'], ['origin', 'origin'], ['pref', 'local pref'], ['med', 'MED']];
-  const other = [['other', 'other']];
-  if (WITH_ATTRIBUTES.includes(family)) return [...route, ...other];
+  const route = [['hop', 'next hop'], ['path', 'AS path'], ['pref', 'pref'], ['med', 'MED'], ['origin', 'origin'],
+    ['other', 'other']];
+  if (WITH_ATTRIBUTES.includes(family)) return route;
   if (WITH_ROUTES.includes(family)) {
     const metric = family === 'filt' ? [] : [['metric', 'metric']];
-    return [['from', 'from'], ['hop', 'next hop'], ...metric, ['path', 'AS path'], ['origin', 'origin'],
-      ['pref', 'preference'], ['med', 'MED'], ...other];
+    return [['from', 'from'], ...route.slice(0, 2), ...metric, ...route.slice(2)];
   }
   if (family === 'fib') return [['from', 'protocol'], ['hop', 'gateway'], ['via', 'interface']];
   if (['ebgp', 'ibgp', 'ext'].includes(family)) return [['from', 'kind'], ['hop', 'next hop']];
