@@ -124,6 +124,23 @@ class Browser:
         for kind in ('dragEnter', 'dragOver', 'drop'):
             self.call('Input.dispatchDragEvent', type=kind, x=self.width // 2, y=self.height // 2, data=data)
 
+    def seconds(self):
+        """Seconds of CPU that the browser and its processes have taken; 0 where the system doesn't tell."""
+        below, found = {}, 0
+        for name in filter(str.isdigit, os.listdir('/proc') if os.path.isdir('/proc') else []):
+            try:
+                with open('/proc/%s/stat' % name, encoding='latin-1') as file:
+                    words = file.read().rsplit(')', 1)[1].split()
+            except OSError:
+                continue
+            below.setdefault(int(words[1]), []).append((int(name), int(words[11]) + int(words[12])))
+        left = [self.process.pid]
+        while left:
+            for process, ticks in below.get(left.pop(), []):
+                found += ticks
+                left.append(process)
+        return found / os.sysconf('SC_CLK_TCK')
+
     @staticmethod
     def now():
         """Seconds of the clock."""

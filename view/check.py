@@ -25,7 +25,7 @@ sys.path.insert(0, HERE)
 import browser  # noqa: E402
 import large  # noqa: E402
 
-STORIES = ('two_peers', 'loss', 'comes_in_the_middle', 'from_one_link_to_the_other', 'joined_stages')
+STORIES = ('two_peers', 'loss', 'lost_under_redistribution', 'from_one_link_to_the_other', 'sixteen_losses')
 
 # What the page shows, read from its elements.
 COUNTS = '''Object.fromEntries(Array.from(document.querySelectorAll('#picture [data-link]:not(.dead)'),
@@ -241,36 +241,44 @@ def check_no_journals(page, folder):
     compared['files that are no journal'] += 1
 
 
+class Timings:
+    """What takes how long on the page, by the clock and by the CPU time of the browser."""
+
+    def __init__(self, page):
+        self.page, self.told = page, []
+
+    def steps(self, what, moves, count):
+        """Some moves, one by one: lines to jump to, or units and directions of steps."""
+        before = self.page.seconds()
+        found = self.page.ask(STEPS % moves)
+        spent = (self.page.seconds() - before) / count * 1000
+        self.told.append('%s %.1f ms (worst %.1f; CPU %.1f)' % (what, statistics.median(found), max(found), spent))
+
+
 def check_large(page, name, path):
     """A large journal: some lines by the walk, and timings."""
     lines = lines_of(path)
-    expect('%s opens' % name, '', open_file(page, path, drop=False))
-    seconds = page.ask('view.seconds')
+    page.open(os.path.join(HERE, 'index.html'))
+    before = page.seconds()
+    page.choose(path)
+    page.wait(OPENED % os.path.basename(path))
+    expect('%s opens' % name, '', page.ask(COMPLAINT))
+    timings = Timings(page)
+    timings.told.append('loaded in %.2f s (CPU %.2f)' % (page.ask('view.seconds'), page.seconds() - before))
     walk = Walk(lines)
     for number in sorted(random.sample(range(1, len(lines) + 1), 12)) + [len(lines) // 3]:
         check_any_line(page, name, walk, number, most=2)
-    middle = len(lines) // 2
-    page.ask('view.choose("best")')
-
-    def spent(moves):
-        found = page.ask(STEPS % moves)
-        return '%.1f (worst %.1f)' % (statistics.median(found), max(found))
-
-    page.ask('view.go(%d)' % middle)
-    told = {'lines': len(lines), 'MiB': round(os.path.getsize(path) / 2 ** 20, 1), 'seconds to load': round(seconds, 2)}
-    told['ms a step on'] = spent('Array(300).fill(["line", 1])')
-    told['ms a step back'] = spent('Array(300).fill(["line", -1])')
-    told['ms a fall on'] = spent('Array(300).fill(["fall", 1])')
-    told['ms an event back'] = spent('Array(300).fill(["event", -1])')
-    told['ms a jump'] = spent([random.randint(1, len(lines)) for _ in range(100)])
+    page.ask('view.choose("best"); view.go(%d)' % (len(lines) // 2))
+    for what, unit, direction in (('a line on', 'line', 1), ('a line back', 'line', -1), ('a fall on', 'fall', 1),
+                                  ('an event back', 'event', -1)):
+        timings.steps(what, 'Array(200).fill(["%s", %d])' % (unit, direction), 200)
+    timings.steps('a jump', [random.randint(1, len(lines)) for _ in range(100)], 100)
     begun = page.ask('performance.now()')
     page.ask('view.setFilter("adv.2")')
-    told['ms to filter'] = round(page.ask('performance.now()') - begun, 1)
+    timings.told.append('a filter %.0f ms' % (page.ask('performance.now()') - begun))
     page.ask('view.setFilter("")')
-    frames, rate = page.ask(FRAMES)
-    told['frames, lines a second in play'] = '%d, %d' % (frames, rate)
-    told['MiB of script memory'] = round(page.ask('performance.memory.usedJSHeapSize') / 2 ** 20)
-    print('%s: %s' % (name, '; '.join('%s %s' % (key, told[key]) for key in told)))
+    timings.told.append('in play %d frames and %d lines a second' % tuple(page.ask(FRAMES)))
+    print('%s, %d lines, %.1f MiB: %s' % (name, len(lines), os.path.getsize(path) / 2 ** 20, '; '.join(timings.told)))
     expect('%s: errors of the page' % name, [], page.ask('failures'))
 
 

@@ -121,7 +121,7 @@ class Journal {
   static async read(file, told = () => {}) {
     if (file.size > MOST_BYTES) {
       throw new Refusal(`${file.name} has ${Math.ceil(file.size / MEBIBYTE).toLocaleString('en')} MiB; this page takes at most ` +
-        `${MOST_BYTES / MEBIBYTE} MiB (about 700,000 lines). The first lines of a journal are a journal too: ` +
+        `${MOST_BYTES / MEBIBYTE} MiB, about a million lines. The first lines of a journal are a journal too: ` +
         'head -n 500000 JOURNAL > FRONT');
     }
     if (file.size === 0) throw new Refusal(`${file.name} is empty.`);

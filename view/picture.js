@@ -80,6 +80,12 @@ class Wire {
     else delete this.drawn.dataset.link;
   }
 
+  have(name, is) {
+    if (this[name] === is) return;
+    this[name] = is;
+    this.drawn.classList.toggle(name, is);
+  }
+
   tell(count) {
     if (count === this.count) return;
     this.count = count;
@@ -256,7 +262,7 @@ class Picture {
   drawCore() {
     const core = this.core;
     core.replaceChildren();
-    core.setAttribute('viewBox', `0 0 ${WIDTH} 214`);
+    core.setAttribute('viewBox', `0 0 ${WIDTH} 206`);
     const wire = (name, path, x, y, side) => this.wire(core, name, path, x, y, {term: TERMS[name], side});
     drawWay(core, `M${DECIDED},0V24`);
     draw(core, 'path', {class: 'wire', d: `M${QUEUED},24V0`});
@@ -320,13 +326,13 @@ class Picture {
     for (const chain of this.chains) chain.show(journal, line);
     for (const session of this.sessions) this.showSession(session, line);
     const unread = this.forwarding.link ? this.unread(this.forwarding.link, line) : 0;
-    this.forwarding.term.textContent = unread ? `for forwarding · ${unread} unread` : 'read for forwarding';
+    putText(this.forwarding.term, unread ? `for forwarding · ${unread} unread` : 'read for forwarding');
     this.wires.clear();
     for (const wire of this.allWires()) {
       wire.tell(wire.link ? journal.countAt(wire.link, line) : -1);
       if (wire.link) this.wires.set(wire.link.name, wire);
-      wire.drawn.classList.toggle('chosen', wire.link !== null && wire.link.name === chosen);
-      wire.drawn.classList.toggle('has', rank !== -1 && wire.link !== null && journal.valueAt(wire.link, rank, line) !== -1);
+      wire.have('chosen', wire.link !== null && wire.link.name === chosen);
+      wire.have('has', rank !== -1 && wire.link !== null && journal.valueAt(wire.link, rank, line) !== -1);
     }
     this.mark(line);
   }
@@ -342,7 +348,7 @@ class Picture {
     const reader = live.find(link => link.family === 'read');
     const unread = reader ? this.unread(reader, line) : 0;
     const text = number ? `session ${number}` + (unread ? ` · ${unread} unread` : '') : 'no session';
-    if (text !== session.told.textContent) session.told.textContent = text;
+    putText(session.told, text);
     if (number === session.number) return;
     session.number = number;
     for (const family in session.wires) {
@@ -365,6 +371,7 @@ class Picture {
     const {journal} = this;
     for (const drawn of this.marked) drawn.classList.remove('now', 'passed', 'next', ...Object.values(MARKS));
     this.marked = [];
+    this.now = null;            // the wire of the line
     const put = (drawn, ...names) => { if (drawn) { drawn.classList.add(...names); this.marked.push(drawn); } };
     for (const token of this.tokens) token.classList.remove('seen');
     if (line === 0) return;
@@ -378,10 +385,12 @@ class Picture {
     if (kind === OUT || kind === NOTE) {
       const session = this.sessions.find(found => found.peer === Number(journal.text(line).split(' ')[1]));
       if (session) put(session.sent, 'now');
+      if (session) this.now = session.wires.adv;
       return;
     }
     const wire = journal.link[line] === -1 ? null : this.wires.get(journal.links[journal.link[line]].name);
     if (!wire) return;
+    this.now = wire;
     put(wire.drawn, 'now', MARKS[kind]);
     this.moveToken(wire, kind, journal.prefixes[journal.prefix[line]]);
   }

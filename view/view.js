@@ -21,6 +21,7 @@ class View {
     this.matches = null;        // the lines of the filter, or null where there is none
     this.rank = -1;             // the filter's prefix
     this.playing = null;
+    this.stripWidth = 0;
     this.picture = new Picture(at('#heads'), at('#lanes svg'), at('#core'), name => this.choose(name));
     this.lines = new VirtualList(at('#lines .list'), 20, () => this.makeLine(), (row, place) => this.fillLine(row, place));
     this.rows = new VirtualList(at('#rows .list'), 20, () => this.makeRow(), (row, place) => this.fillRow(row, place));
@@ -134,34 +135,35 @@ class View {
   render() {
     const {journal, line} = this;
     this.picture.show(line, this.chosen, this.rank);
-    this.keepInView();
     const [told, rest] = lineInWords(journal, line);
-    at('#says b').textContent = told;
-    at('#says span').textContent = rest;
+    putText(at('#says b'), told);
+    putText(at('#says span'), rest);
     if (document.activeElement !== at('#line')) at('#line').value = line;
-    at('#strip i').style.left = `${line / (journal.last || 1) * 100}%`;
+    at('#strip i').style.transform = `translateX(${line / (journal.last || 1) * this.stripWidth}px)`;
     at('#strip').setAttribute('aria-valuenow', line);
     const place = this.matches ? atMost(this.matches, line) - 1 : line - 1;
     this.lines.reveal(Math.max(0, place));
     this.lines.render();
     this.renderRows();
+    this.lines.settle();
+    this.keepInView();
   }
 
   /** Scrolls the lanes to the link of the present line. */
   keepInView() {
-    const box = at('#lanes');
-    if (box.scrollHeight <= box.clientHeight) return;
-    const drawn = this.picture.marked.find(marked => marked.classList.contains('now'));
-    if (!drawn || !box.contains(drawn)) return;
-    const [lane, seen] = [drawn.getBoundingClientRect(), box.getBoundingClientRect()];
-    if (lane.top < seen.top) box.scrollTop -= seen.top - lane.top + 20;
-    if (lane.bottom > seen.bottom - 16) box.scrollTop += lane.bottom - seen.bottom + 36;
+    const {box, now} = {box: at('#lanes'), now: this.picture.now};
+    if (!now || !box.contains(now.drawn) || this.lanes.height <= this.lanes.seen) return;
+    const scale = this.lanes.width / WIDTH;
+    const [upper, lower] = [(now.y - 24) * scale, (now.y + 30) * scale];
+    if (upper < box.scrollTop) box.scrollTop = upper - 10;
+    else if (lower > box.scrollTop + this.lanes.seen) box.scrollTop = lower - this.lanes.seen + 10;
   }
 
   makeLine() {
     const row = document.createElement('div');
     for (const name of ['number', 'kind', 'link', 'prefix', 'rest']) part(name, row);
-    row.addEventListener('click', () => this.go(Number(row.dataset.line)));
+    row.addEventListener('click', () => this.go(row.line));
+    row.addEventListener('pointerenter', () => { row.title = this.journal.text(row.line); });
     return row;
   }
 
@@ -173,23 +175,22 @@ class View {
     const words = text.split(' ');
     const isChange = kind <= ASK;
     const [number, first, link, prefix, rest] = row.children;
-    number.textContent = line;
-    first.textContent = words[0];
-    link.textContent = words[1] || '';
-    prefix.textContent = isChange ? words[2] : '';
-    rest.textContent = words.slice(isChange ? 3 : 2).join(kind === REPLACE ? ' → ' : ' ');
-    row.title = text;
-    row.dataset.line = line;
-    row.className = `line ${MARKS[kind] || 'other'}` + (line === this.line ? ' present' : '') +
+    putText(number, String(line));
+    putText(first, words[0]);
+    putText(link, words[1] || '');
+    putText(prefix, isChange ? words[2] : '');
+    putText(rest, words.slice(isChange ? 3 : 2).join(kind === REPLACE ? ' → ' : ' '));
+    row.line = line;
+    putClass(row, `line ${MARKS[kind] || 'other'}` + (line === this.line ? ' present' : '') +
       (line > this.line ? ' later' : '') + (journal.event[line] === line ? ' event' : '') +
-      (journal.fall[line] === journal.fall[this.line] ? ' same' : '');
+      (journal.fall[line] === journal.fall[this.line] ? ' same' : ''));
   }
 
   choose(name) {
     if (!this.journal || !this.journal.linkOf.has(name)) return;
     this.chosen = name;
     this.table = new Table(this.journal, this.journal.links[this.journal.linkOf.get(name)]);
-    at('#rows .list').scrollTop = 0;
+    this.rows.scrolled = 0;
     this.drawColumns();
     this.render();
   }
@@ -199,13 +200,12 @@ class View {
     this.keys = this.printed ? ['value'] : heads.map(([key]) => key);
     const names = this.printed ? ['value'] : heads.map(([, head]) => head);
     const widths = this.keys.map(key => (WIDE.includes(key) ? `minmax(${WIDTHS[key]}ch, 1fr)` : `${WIDTHS[key]}ch`));
-    const least = this.keys.reduce((sum, key) => sum + WIDTHS[key] + 1.5, 18);
+    const least = this.keys.reduce((sum, key) => sum + WIDTHS[key] + 1.5, 17);
     at('#rows').style.setProperty('--columns', widths.join(' '));
     at('#rows').style.setProperty('--least', `calc(${least}ch + 24px)`);
     this.heads.replaceChildren();
     for (const name of ['prefix', ...names]) part('', this.heads).textContent = name;
-    for (const row of this.rows.drawn) row.remove();
-    this.rows.drawn = [];
+    this.rows.clear();
     at('#form').textContent = this.printed ? 'as columns' : 'as printed';
   }
 
@@ -213,14 +213,15 @@ class View {
     const {table, line} = this;
     table.moveTo(line);
     const count = this.journal.countAt(table.link, line);
-    at('#rows b').textContent = table.link.name;
-    at('#rows .title span').textContent = `${linkInWords(table.link)} · ` +
-      (count === -1 ? 'not live' : count === 1 ? '1 row' : `${count.toLocaleString('en')} rows`);
+    putText(at('#rows b'), table.link.name);
+    putText(at('#rows .title span'), `${linkInWords(table.link)} · ` +
+      (count === -1 ? 'not live' : count === 1 ? '1 row' : `${count.toLocaleString('en')} rows`));
     this.rows.setLength(table.ranks.length);
     const isHere = this.journal.links[this.journal.link[line]] === table.link && this.journal.kind[line] <= ASK;
     this.changed = isHere ? this.journal.rank[this.journal.prefix[line]] : -1;
     if (this.changed !== -1) this.rows.reveal(Math.max(0, atMost(table.ranks, this.changed) - 1));
     this.rows.render();
+    this.rows.settle();
   }
 
   makeRow() {
@@ -233,12 +234,14 @@ class View {
     const {table, journal} = this;
     const value = journal.values[table.values[place]];
     const rank = table.ranks[place];
-    row.children[0].textContent = journal.prefixes[journal.byRank[rank]];
-    const told = this.printed ? null : columnsOf(table.link.family, value);
-    this.keys.forEach((key, column) => { row.children[column + 1].textContent = told ? told[key] || '' : column ? '' : value; });
-    row.title = value;
-    row.className = 'row' + (rank === this.changed ? ` changed ${MARKS[journal.kind[this.line]]}` : '') +
-      (rank === this.rank ? ' found' : '');
+    putText(row.children[0], journal.prefixes[journal.byRank[rank]]);
+    if (row.value !== value) {
+      const told = this.printed ? null : columnsOf(table.link.family, value);
+      this.keys.forEach((key, column) => putText(row.children[column + 1], told ? told[key] || '' : column ? '' : value));
+      row.value = row.title = value;
+    }
+    putClass(row, 'row' + (place % 2 ? ' odd' : '') + (rank === this.changed ? ` changed ${MARKS[journal.kind[this.line]]}` : '') +
+      (rank === this.rank ? ' found' : ''));
   }
 
   // The filter.
@@ -254,7 +257,8 @@ class View {
       for (let line = 1; line <= journal.last; line++) if (tests.every(test => test(line))) found.push(line);
       this.matches = found;
     }
-    at('#found').textContent = this.matches ? `${this.matches.length.toLocaleString('en')} lines` : '';
+    at('#found').textContent = this.matches ? `${this.matches.length.toLocaleString('en')} lines` +
+      (this.rank === -1 ? '' : '; filled: links with a row there') : '';
     this.lines.setLength(this.matches ? this.matches.length : journal.last);
     this.drawStrip();
     this.render();
@@ -287,6 +291,7 @@ class View {
   drawStrip() {
     const canvas = at('#strip canvas');
     const {width, height} = at('#strip').getBoundingClientRect();
+    this.stripWidth = width;
     if (!width || !this.journal) return;
     const scale = window.devicePixelRatio || 1;
     Object.assign(canvas, {width: width * scale, height: height * scale});
@@ -396,6 +401,7 @@ class View {
       this.go(Number.isInteger(number) ? number : this.line);
     });
     at('#filter').addEventListener('input', event => { if (this.journal) this.setFilter(event.target.value); });
+    for (const select of [at('#unit'), at('#speed')]) select.addEventListener('change', () => select.blur());
     at('#strip').addEventListener('pointerdown', event => {
       if (!this.journal) return;
       at('#strip').setPointerCapture(event.pointerId);
@@ -409,7 +415,17 @@ class View {
       this.drawColumns();
       this.renderRows();
     });
-    new ResizeObserver(() => this.drawStrip()).observe(at('#strip'));
+    new ResizeObserver(() => {
+      this.drawStrip();
+      if (this.journal) this.render();
+    }).observe(at('#strip'));
+    const measure = () => {
+      const box = at('#lanes');
+      this.lanes = {width: box.clientWidth, seen: box.clientHeight, height: box.scrollHeight};
+    };
+    const observer = new ResizeObserver(measure);
+    for (const element of [at('#lanes'), at('#lanes svg')]) observer.observe(element);
+    measure();
     window.matchMedia('(prefers-color-scheme: dark)').addEventListener('change', () => this.drawStrip());
   }
 }
@@ -422,7 +438,7 @@ const RULES = {
 };
 
 /** How wide the columns of a table are at least, in characters, and which take more. */
-const WIDTHS = {value: 40, hop: 15, path: 18, origin: 10, pref: 6, med: 5, from: 9, metric: 6, via: 12, other: 10};
+const WIDTHS = {value: 40, hop: 15, path: 12, origin: 10, pref: 5, med: 5, from: 9, metric: 6, via: 12, other: 10};
 const WIDE = ['value', 'path', 'other'];
 
 const view = new View();
