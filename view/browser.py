@@ -43,11 +43,12 @@ class Browser:
         os.close(ours[0])
         os.close(theirs[1])
         self.out, self.read, self.rest, self.count, self.session = ours[1], theirs[0], b'', 0, None
+        self.at = None                      # the file that is open as the page
+        self.failures = []                  # what the page threw and didn't catch
         target = next(told for told in self.call('Target.getTargets')['targetInfos'] if told['type'] == 'page')
         self.session = self.call('Target.attachToTarget', targetId=target['targetId'], flatten=True)['sessionId']
         self.call('Page.enable')
-        self.call('Page.addScriptToEvaluateOnNewDocument', source='var failures = []; addEventListener("error", event => '
-                  'failures.push(event.message)); addEventListener("unhandledrejection", event => failures.push(String(event.reason)))')
+        self.call('Runtime.enable')
         self.call('Emulation.setDeviceMetricsOverride', width=self.width, height=self.height, deviceScaleFactor=1, mobile=False)
         self.call('Emulation.setEmulatedMedia',
                   features=[{'name': 'prefers-color-scheme', 'value': 'dark' if self.dark else 'light'}])
@@ -87,6 +88,9 @@ class Browser:
         until = time.monotonic() + seconds
         while True:
             answer = self.message(until)
+            if answer.get('method') == 'Runtime.exceptionThrown':
+                told = answer['params']['exceptionDetails']
+                self.failures.append(told.get('exception', {}).get('description', told['text']))
             if answer.get('id') == self.count:
                 if 'error' in answer:
                     raise Failure('%s: %s' % (method, answer['error']['message']))
@@ -94,6 +98,7 @@ class Browser:
 
     def open(self, path):
         """Opens a file of the disk as the page."""
+        self.at = path
         self.call('Page.navigate', url='file://' + os.path.abspath(path))
         self.wait('document.readyState === "complete" && typeof view === "object"')
 

@@ -43,7 +43,6 @@ ROWS = '''(async () => { const list = document.querySelector('#rows .list'); con
     if (list.scrollTop + list.clientHeight >= list.scrollHeight - 1) return Array.from(found);
   } })()'''
 COMPLAINT = '''(box => box.hidden ? '' : box.textContent)(document.querySelector('#complaint'))'''
-OPENED = 'view.journal !== null && view.journal.name === %r || !document.querySelector("#complaint").hidden'
 STEPS = '''(() => { const spent = []; for (const told of %s) { const begun = performance.now();
   if (typeof told === 'number') view.go(told); else view.step(...told);
   document.body.getBoundingClientRect(); spent.push(performance.now() - begun); } return spent; })()'''
@@ -110,10 +109,13 @@ def example(name):
 
 
 def open_file(page, path, drop=True):
-    """Opens a file in a fresh page; the complaint, or nothing."""
-    page.open(os.path.join(HERE, 'index.html'))
+    """Opens a file, in the page as it is; the complaint, or nothing."""
+    page.failures.clear()
+    if page.at is None:
+        page.open(os.path.join(HERE, 'index.html'))
+    before = page.ask('view.opened')
     (page.drop if drop else page.choose)(path)
-    page.wait(OPENED % os.path.basename(path))
+    page.wait('view.opened > %d' % before)
     return page.ask(COMPLAINT)
 
 
@@ -184,7 +186,7 @@ def check_stories(page, only):
         name = os.path.basename(path)[:-len('.events')]
         path = example(name + '.out')
         lines = lines_of(path)
-        if only and only != name or not any(line.startswith('b ') for line in lines):
+        if only not in (None, name) or not any(line.startswith('b ') for line in lines):
             continue
         if not any(line.startswith(('rows ', '? ')) for line in lines) and name not in STORIES:
             continue
@@ -193,7 +195,7 @@ def check_stories(page, only):
         if name in STORIES:
             check_each_line(page, name, lines)
         compared['journals of stories'] += 1
-        expect('%s: errors of the page' % name, [], page.ask('failures'))
+        expect('%s: errors of the page' % name, [], page.failures)
 
 
 def check_verdicts(page):
@@ -211,7 +213,7 @@ def check_verdicts(page):
         else:
             expect(name, '%s is empty.' % name, said)
         compared['verdicts of check'] += 1
-        expect('%s: errors of the page' % name, [], page.ask('failures'))
+        expect('%s: errors of the page' % name, [], page.failures)
 
 
 def check_no_journals(page, folder):
@@ -261,7 +263,7 @@ def check_large(page, name, path):
     page.open(os.path.join(HERE, 'index.html'))
     before = page.seconds()
     page.choose(path)
-    page.wait(OPENED % os.path.basename(path))
+    page.wait('view.opened > 0')
     expect('%s opens' % name, '', page.ask(COMPLAINT))
     timings = Timings(page)
     timings.told.append('loaded in %.2f s (CPU %.2f)' % (page.ask('view.seconds'), page.seconds() - before))
@@ -279,7 +281,22 @@ def check_large(page, name, path):
     page.ask('view.setFilter("")')
     timings.told.append('in play %d frames and %d lines a second' % tuple(page.ask(FRAMES)))
     print('%s, %d lines, %.1f MiB: %s' % (name, len(lines), os.path.getsize(path) / 2 ** 20, '; '.join(timings.told)))
-    expect('%s: errors of the page' % name, [], page.ask('failures'))
+    expect('%s: errors of the page' % name, [], page.failures)
+
+
+def check_large_ones(page, folder, program):
+    """A large journal by large.py, and one by the program where it is built."""
+    path = os.path.join(folder, 'table')
+    with open(path, 'w', encoding='ascii') as file:
+        large.write(file, 100000)
+    check_large(page, 'by large.py', path)
+    if not os.path.exists(program):
+        print('%s is not there: no journal of `replay gen` was opened' % os.path.relpath(program))
+        return
+    path = os.path.join(folder, 'gen')
+    with open(path, 'wb') as file:
+        subprocess.run([program, 'gen', '7', '9000'], stdout=file, check=True)
+    check_large(page, 'by replay gen 7 9000', path)
 
 
 def check_layout(program):
@@ -297,7 +314,7 @@ def main():
     parser = argparse.ArgumentParser(description=__doc__.split('\n')[0])
     parser.add_argument('--program', default=os.path.join(TOP, 'crates/replay_main/out/replay_main'),
                         help='the built program, for a large journal of its own (gen); without it that one is left out')
-    parser.add_argument('--only', help='this story alone')
+    parser.add_argument('--only', help='a story alone, or verdicts, refusals, layout, large')
     parser.add_argument('--pictures', action='store_true', help='write the pictures of docs/pictures/ and check nothing')
     words = parser.parse_args()
     program = browser.find()
@@ -310,22 +327,13 @@ def main():
         return
     random.seed(1)
     with tempfile.TemporaryDirectory() as folder, browser.Browser(program) as page:
-        check_stories(page, words.only)
-        if not words.only:
-            check_verdicts(page)
-            check_no_journals(page, folder)
-            check_layout(program)
-            path = os.path.join(folder, 'table')
-            with open(path, 'w', encoding='ascii') as file:
-                large.write(file, 100000)
-            check_large(page, 'made by large.py', path)
-            if os.path.exists(words.program):
-                path = os.path.join(folder, 'gen')
-                with open(path, 'wb') as file:
-                    subprocess.run([words.program, 'gen', '7', '9000'], stdout=file, check=True)
-                check_large(page, 'replay gen 7 9000', path)
-            else:
-                print('%s is not there: no journal of `replay gen` was opened' % os.path.relpath(words.program))
+        parts = {'verdicts': lambda: check_verdicts(page), 'refusals': lambda: check_no_journals(page, folder),
+                 'layout': lambda: check_layout(program), 'large': lambda: check_large_ones(page, folder, words.program)}
+        if words.only not in parts:
+            check_stories(page, words.only)
+        for name in parts:
+            if words.only in (None, name):
+                parts[name]()
     print('compared: ' + ', '.join('%s %d' % (key, compared[key]) for key in compared))
     print('%d differences' % len(faults))
     sys.exit(1 if faults else 0)

@@ -72,7 +72,7 @@ class VirtualList {
     const first = Math.max(0, Math.floor(top / this.rowHeight) - 1);
     const most = Math.ceil(this.seen / this.rowHeight) + 3;
     const last = Math.min(this.length, first + most);
-    while (this.drawn.length < most) {
+    while (this.drawn.length < Math.min(most, this.length)) {
       const row = this.make();
       row.style.height = `${this.rowHeight}px`;
       this.drawn.push(row);

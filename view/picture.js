@@ -4,6 +4,7 @@
 
 const SVG = 'http://www.w3.org/2000/svg';
 const WIDTH = 1240;
+const MOST_PEERS = 256;
 const DECIDED = 700;            // where the links res.K come together, and where those of the readers part
 const QUEUED = 885;
 const PROTOCOLS = ['connected', 'static', 'ospf', 'rip'];
@@ -190,7 +191,7 @@ class Picture {
     for (const link of journal.links) {
       if (['in', 'filt', 'res', 'peer', 'read', 'outf', 'adv'].includes(link.family)) peers.add(link.numbers[0]);
     }
-    this.peers = Array.from(peers).sort((a, b) => a - b);
+    this.peers = Array.from(peers).sort((a, b) => a - b).slice(0, MOST_PEERS);
     this.height = this.peers.length > 8 ? 42 : 48;
     this.drawHeads();
     this.drawLanes();

@@ -22,6 +22,7 @@ class View {
     this.rank = -1;             // the filter's prefix
     this.playing = null;
     this.stripWidth = 0;
+    this.opened = 0;            // how many files were opened, or refused
     this.picture = new Picture(at('#heads'), at('#lanes svg'), at('#core'), name => this.choose(name));
     this.lines = new VirtualList(at('#lines .list'), 20, () => this.makeLine(), (row, place) => this.fillLine(row, place));
     this.rows = new VirtualList(at('#rows .list'), 20, () => this.makeRow(), (row, place) => this.fillRow(row, place));
@@ -46,6 +47,7 @@ class View {
       this.complain(failure instanceof Refusal ? failure.message : `${file.name} can’t be read: ${failure.message}.`);
     }
     at('#progress').textContent = '';
+    this.opened += 1;
   }
 
   complain(text) {
