@@ -69,6 +69,7 @@ class View {
     }
     Object.assign(this, {line: 0, matches: null, rank: -1});
     this.picture.open(journal);
+    this.lines.setLength(journal.last);
     at('#filter').value = '';
     this.choose(journal.linkOf.has('best') ? 'best' : journal.links[0].name);
     this.setFilter('');
