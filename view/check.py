@@ -25,7 +25,7 @@ sys.path.insert(0, HERE)
 import browser  # noqa: E402
 import large  # noqa: E402
 
-STORIES = ('two_peers', 'loss', 'lost_under_redistribution', 'from_one_link_to_the_other', 'sixteen_losses')
+STORIES = ('two_peers', 'loss', 'comes_in_the_middle', 'lost_under_redistribution', 'sixteen_losses')
 
 # What the page shows, read from its elements.
 COUNTS = '''Object.fromEntries(Array.from(document.querySelectorAll('#picture [data-link]:not(.dead)'),
@@ -42,6 +42,10 @@ ROWS = '''(async () => { const list = document.querySelector('#rows .list'); con
     }
     if (list.scrollTop + list.clientHeight >= list.scrollHeight - 1) return Array.from(found);
   } })()'''
+FILLED = '''(() => { const box = document.querySelector('#filter'); box.value = '%s';
+  box.dispatchEvent(new Event('input'));
+  const found = Array.from(document.querySelectorAll('#picture .has'), drawn => drawn.dataset.link).sort();
+  box.value = ''; box.dispatchEvent(new Event('input')); return found; })()'''
 COMPLAINT = '''(box => box.hidden ? '' : box.textContent)(document.querySelector('#complaint'))'''
 STEPS = '''(() => { const spent = []; for (const told of %s) { const begun = performance.now();
   if (typeof told === 'number') view.go(told); else view.step(...told);
@@ -166,6 +170,26 @@ def check_each_line(page, name, lines):
     page.ask(LINE % 1)
     for _ in range(6):
         check_any_line(page, name, walk, random.randint(1, len(lines)))
+    if len(lines) < 300:
+        for link in ('best', 'fib', 'adv.2.1'):
+            check_kept_table(page, name, walk, link)
+
+
+def check_kept_table(page, name, walk, link):
+    """The rows of a link that stays the chosen one: forward by key and back."""
+    lines = len(walk.lines)
+    begin = next((number for number, text in enumerate(walk.lines, 1) if text.split(' ')[1:2] == [link]), None)
+    if begin is None:
+        return
+    page.ask(LINE % begin)
+    shown_rows(page, link)
+    for key, numbers in (('ArrowRight', range(begin + 1, lines + 1)), ('ArrowLeft', range(lines - 1, begin - 1, -1))):
+        for number in numbers:
+            page.press(key)
+            if key == 'ArrowRight' or number % 5 == 0:
+                walk.go(number)
+                expect('%s:%d %s, kept' % (name, number, link), walk.rows(link) if link in walk.links else [], page.ask(ROWS))
+                compared['tables of the walk'] += 1
 
 
 def check_any_line(page, name, walk, number, most=40):
@@ -178,6 +202,11 @@ def check_any_line(page, name, walk, number, most=40):
     for link in random.sample(links, min(len(links), most)):
         expect('%s:%d %s' % (name, number, link), walk.rows(link), shown_rows(page, link))
         compared['tables of the walk'] += 1
+    prefixes = sorted({prefix for rows in walk.links.values() for prefix in rows})
+    for prefix in random.sample(prefixes, min(len(prefixes), 3)):
+        filled = sorted(link for link, rows in walk.links.items() if prefix in rows)
+        expect('%s:%d filled at %s' % (name, number, prefix), filled, page.ask(FILLED % prefix))
+        compared['links with a row at a prefix'] += 1
 
 
 def check_stories(page, only):
