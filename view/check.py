@@ -37,7 +37,8 @@ CHOOSE = '''(() => { const drawn = document.querySelector('#picture [data-link="
 ROWS = '''(async () => { const list = document.querySelector('#rows .list'); const found = new Map();
   for (list.scrollTop = 0; ; list.scrollTop += list.clientHeight / 2) {
     list.dispatchEvent(new Event('scroll'));
-    for (const row of list.querySelectorAll('.row:not([hidden])')) {
+    const rows = Array.from(list.querySelectorAll('.row:not([hidden])'), row => [row.getBoundingClientRect().top, row]);
+    for (const [, row] of rows.sort((one, other) => one[0] - other[0])) {
       found.set(row.children[0].textContent, row.children[1].textContent);
     }
     if (list.scrollTop + list.clientHeight >= list.scrollHeight - 1) return Array.from(found);
@@ -61,9 +62,14 @@ faults = []
 
 def expect(what, wanted, found):
     """Counts a comparison, and tells a difference."""
-    if wanted != found:
-        faults.append(what)
-        print('%s:\n  wanted %s\n  found  %s' % (what, str(wanted)[:600], str(found)[:600]))
+    if wanted == found:
+        return
+    faults.append(what)
+    if isinstance(wanted, list) and isinstance(found, list):
+        wanted, found = ([row for row in one if row not in other] or '%d in order' % len(one)
+                         for one, other in ((wanted, found), (found, wanted)))
+    if len(faults) <= 20:
+        print('%s:\n  wanted %s\n  found  %s' % (what, str(wanted)[:300], str(found)[:300]))
 
 
 class Walk:
