@@ -31,7 +31,7 @@ STORIES = ('two_peers', 'loss', 'comes_in_the_middle', 'lost_under_redistributio
 COUNTS = '''Object.fromEntries(Array.from(document.querySelectorAll('#picture [data-link]:not(.dead)'),
   drawn => [drawn.dataset.link, Number(drawn.querySelector('.rows').textContent)]))'''
 LINE = '''(() => { const box = document.querySelector('#line'); box.value = %d; box.dispatchEvent(new Event('change'));
-  return Number(document.querySelector('.line.present .number').textContent); })()'''
+  return Number(document.querySelector('.line.present:not([hidden]) .number').textContent); })()'''
 CHOOSE = '''(() => { const drawn = document.querySelector('#picture [data-link="%s"]:not(.dead)');
   if (drawn) drawn.dispatchEvent(new MouseEvent('click', {bubbles: true})); return drawn !== null; })()'''
 ROWS = '''(async () => { const list = document.querySelector('#rows .list'); const found = new Map();
