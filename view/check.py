@@ -1,0 +1,378 @@
+#!/usr/bin/env python3
+"""Checks the page view/index.html in a headless Chromium: view/check.py [--program PATH] [--only NAME] [--pictures]
+
+Journals of examples/ are dropped on the page, and what it shows is read from its elements: how many rows each link of the
+picture has, behind each line, and the rows of a link, at each line of a `show` or an `ask`. It is compared with what the
+program printed there, and with a walk over the journal's lines by this script. Also: files that are no journal or break a
+rule, with the line that `replay check` names; a file that is too large; and journals of 100,000 lines, with timings.
+
+Status 0 where all is as expected, 1 where something differs, 2 where Chromium isn't installed.
+"""
+import argparse
+import collections
+import glob
+import os
+import random
+import statistics
+import subprocess
+import sys
+import tempfile
+
+sys.dont_write_bytecode = True
+HERE = os.path.dirname(os.path.abspath(__file__))
+TOP = os.path.join(HERE, '..')
+sys.path.insert(0, HERE)
+import browser  # noqa: E402
+import large  # noqa: E402
+
+STORIES = ('two_peers', 'loss', 'comes_in_the_middle', 'lost_under_redistribution', 'sixteen_losses')
+
+# What the page shows, read from its elements.
+COUNTS = '''Object.fromEntries(Array.from(document.querySelectorAll('#picture [data-link]:not(.dead)'),
+  drawn => [drawn.dataset.link, Number(drawn.querySelector('.rows').textContent)]))'''
+LINE = '''(() => { const box = document.querySelector('#line'); box.value = %d; box.dispatchEvent(new Event('change'));
+  return Number(document.querySelector('.line.present:not([hidden]) .number').textContent); })()'''
+CHOOSE = '''(() => { const drawn = document.querySelector('#picture [data-link="%s"]:not(.dead)');
+  if (drawn) drawn.dispatchEvent(new MouseEvent('click', {bubbles: true})); return drawn !== null; })()'''
+ROWS = '''(async () => { const list = document.querySelector('#rows .list'); const found = new Map();
+  for (list.scrollTop = 0; ; list.scrollTop += list.clientHeight / 2) {
+    list.dispatchEvent(new Event('scroll'));
+    const rows = Array.from(list.querySelectorAll('.row:not([hidden])'), row => [row.getBoundingClientRect().top, row]);
+    for (const [, row] of rows.sort((one, other) => one[0] - other[0])) {
+      found.set(row.children[0].textContent, row.children[1].textContent);
+    }
+    if (list.scrollTop + list.clientHeight >= list.scrollHeight - 1) return Array.from(found);
+  } })()'''
+FILLED = '''(() => { const box = document.querySelector('#filter'); box.value = '%s';
+  box.dispatchEvent(new Event('input'));
+  const found = Array.from(document.querySelectorAll('#picture .has'), drawn => drawn.dataset.link).sort();
+  box.value = ''; box.dispatchEvent(new Event('input')); return found; })()'''
+COMPLAINT = '''(box => box.hidden ? '' : box.textContent)(document.querySelector('#complaint'))'''
+STEPS = '''(() => { const spent = []; for (const told of %s) { const begun = performance.now();
+  if (typeof told === 'number') view.go(told); else view.step(...told);
+  document.body.getBoundingClientRect(); spent.push(performance.now() - begun); } return spent; })()'''
+FRAMES = '''(async () => { view.go(1); document.querySelector('#speed').value = 4096; view.play(); let frames = 0;
+  const begun = performance.now();
+  while (performance.now() - begun < 2000) { await new Promise(requestAnimationFrame); frames++; }
+  view.stop(); return [frames / 2, (view.line - 1) / 2]; })()'''
+
+compared = collections.Counter()
+faults = []
+
+
+def expect(what, wanted, found):
+    """Counts a comparison, and tells a difference."""
+    if wanted == found:
+        return
+    faults.append(what)
+    if isinstance(wanted, list) and isinstance(found, list):
+        wanted, found = ([row for row in one if row not in other] or '%d in order' % len(one)
+                         for one, other in ((wanted, found), (found, wanted)))
+    if len(faults) <= 20:
+        print('%s:\n  wanted %s\n  found  %s' % (what, str(wanted)[:300], str(found)[:300]))
+
+
+class Walk:
+    """The rows of each live link, line by line, by the journal's own words."""
+
+    def __init__(self, lines):
+        self.lines, self.line, self.links = lines, 0, {}
+
+    def go(self, line):
+        """Goes on to a line, the first of which is 1."""
+        if line < self.line:
+            self.line, self.links = 0, {}
+        for text in self.lines[self.line:line]:
+            word, *words = text.split(' ')
+            if word == 'b':
+                self.links[words[0]] = {}
+            elif word == 'i':
+                self.links[words[0]] = dict(self.links[words[1]])
+            elif word in ('e', 'w'):
+                del self.links[words[0]]
+            elif word in ('+', '='):
+                self.links[words[0]][words[1]] = words[-1]
+            elif word == '-':
+                del self.links[words[0]][words[1]]
+        self.line = line
+
+    def counts(self):
+        """How many rows each link has."""
+        return {name: len(rows) for name, rows in self.links.items()}
+
+    def rows(self, name):
+        """The rows of a link by address, then length."""
+        def order(row):
+            address, length = row[0].split('/')
+            return [int(part) for part in address.split('.')], int(length)
+        return [list(row) for row in sorted(self.links[name].items(), key=order)]
+
+
+def lines_of(path):
+    with open(path, encoding='latin-1', newline='') as file:
+        text = file.read()
+    return [line.rstrip('\r') for line in text.removesuffix('\n').split('\n')]
+
+
+def example(name):
+    return os.path.join(TOP, 'examples', name)
+
+
+def open_file(page, path, drop=True):
+    """Opens a file, in the page as it is; the complaint, or nothing."""
+    page.failures.clear()
+    if page.at is None:
+        page.open(os.path.join(HERE, 'index.html'))
+    before = page.ask('view.opened')
+    (page.drop if drop else page.choose)(path)
+    page.wait('view.opened > %d' % before)
+    return page.ask(COMPLAINT)
+
+
+def shown_rows(page, name):
+    """The rows that the page shows of a link, as printed; None where the picture hasn't the link."""
+    if not page.ask(CHOOSE % name):
+        return None
+    if page.ask("document.querySelector('#form').textContent") == 'as printed':
+        page.ask("document.querySelector('#form').click()")
+    return page.ask(ROWS)
+
+
+def check_answers(page, name, lines):
+    """What `show` and `ask` printed, beside what the page shows at those lines."""
+    told = []
+    for number, line in enumerate(lines, 1):
+        words = line.split(' ')
+        if words[0] == 'row':
+            told.append(words[2:4])
+        elif words[0] == 'rows':
+            expect('%s:%d line' % (name, number), number, page.ask(LINE % number))
+            expect('%s:%d %s' % (name, number, line), told, shown_rows(page, words[1]))
+            compared['tables of show'] += 1
+            compared['rows of them'] += len(told)
+            told = []
+        elif words[0] == '?':
+            page.ask(LINE % number)
+            rows = dict(map(tuple, shown_rows(page, words[1]) or []))
+            expect('%s:%d %s' % (name, number, line), words[3], rows.get(words[2], '-'))
+            compared['answers of ask'] += 1
+
+
+def check_each_line(page, name, lines):
+    """How many rows each link has, behind each line: forward by key, then back, then at random."""
+    walk = Walk(lines)
+    page.ask(LINE % 1)
+    for number in range(1, len(lines) + 1):
+        walk.go(number)
+        expect('%s:%d rows of all links' % (name, number), walk.counts(), page.ask(COUNTS))
+        compared['lines, all counts'] += 1
+        page.press('ArrowRight')
+    for number in range(len(lines) - 1, 0, -1):
+        page.press('ArrowLeft')
+        if number % 7 == 0:
+            walk.go(number)
+            expect('%s:%d rows of all links, backward' % (name, number), walk.counts(), page.ask(COUNTS))
+            compared['lines, all counts'] += 1
+    page.ask(LINE % 1)
+    for _ in range(6):
+        check_any_line(page, name, walk, random.randint(1, len(lines)))
+    if len(lines) < 300:
+        for link in ('best', 'fib', 'adv.2.1'):
+            check_kept_table(page, name, walk, link)
+
+
+def check_kept_table(page, name, walk, link):
+    """The rows of a link that stays the chosen one: forward by key and back."""
+    lines = len(walk.lines)
+    begin = next((number for number, text in enumerate(walk.lines, 1) if text.split(' ')[1:2] == [link]), None)
+    if begin is None:
+        return
+    page.ask(LINE % begin)
+    shown_rows(page, link)
+    for key, numbers in (('ArrowRight', range(begin + 1, lines + 1)), ('ArrowLeft', range(lines - 1, begin - 1, -1))):
+        for number in numbers:
+            page.press(key)
+            if key == 'ArrowRight' or number % 5 == 0:
+                walk.go(number)
+                expect('%s:%d %s, kept' % (name, number, link), walk.rows(link) if link in walk.links else [], page.ask(ROWS))
+                compared['tables of the walk'] += 1
+
+
+def check_any_line(page, name, walk, number, most=40):
+    """All counts behind a line, and the rows of links that are live there."""
+    walk.go(number)
+    page.ask(LINE % number)
+    expect('%s:%d rows of all links' % (name, number), walk.counts(), page.ask(COUNTS))
+    compared['lines, all counts'] += 1
+    links = sorted(walk.links)
+    for link in random.sample(links, min(len(links), most)):
+        expect('%s:%d %s' % (name, number, link), walk.rows(link), shown_rows(page, link))
+        compared['tables of the walk'] += 1
+    prefixes = sorted({prefix for rows in walk.links.values() for prefix in rows})
+    for prefix in random.sample(prefixes, min(len(prefixes), 3)):
+        filled = sorted(link for link, rows in walk.links.items() if prefix in rows)
+        expect('%s:%d filled at %s' % (name, number, prefix), filled, page.ask(FILLED % prefix))
+        compared['links with a row at a prefix'] += 1
+
+
+def check_stories(page, only):
+    """The journals of examples/ that have a `show` or an `ask`."""
+    for path in sorted(glob.glob(example('*.events'))):
+        name = os.path.basename(path)[:-len('.events')]
+        path = example(name + '.out')
+        lines = lines_of(path)
+        if only not in (None, name) or not any(line.startswith('b ') for line in lines):
+            continue
+        if not any(line.startswith(('rows ', '? ')) for line in lines) and name not in STORIES:
+            continue
+        expect('%s opens' % name, '', open_file(page, path))
+        check_answers(page, name, lines)
+        if name in STORIES:
+            check_each_line(page, name, lines)
+        compared['journals of stories'] += 1
+        expect('%s: errors of the page' % name, [], page.failures)
+
+
+def check_verdicts(page):
+    """The journals of examples/ that `replay check` judges: the page names the same line and rule."""
+    for path in sorted(glob.glob(example('*.journal'))):
+        name = os.path.basename(path)
+        verdict = lines_of(path[:-len('.journal')] + '.out')[0].split(' ')
+        said = open_file(page, path)
+        if verdict[0] == 'lawful':
+            expect(name, '', said)
+        elif verdict[0] == 'broken':
+            expect(name, 'Line %s breaks rule %s' % tuple(verdict[1:]), said[:len('Line  breaks rule ') + len(''.join(verdict[1:]))])
+        elif os.path.getsize(path):
+            expect(name, '%s is no journal: line %s ' % (name, verdict[1]), said[:len(name) + 22 + len(verdict[1])])
+        else:
+            expect(name, '%s is empty.' % name, said)
+        compared['verdicts of check'] += 1
+        expect('%s: errors of the page' % name, [], page.failures)
+
+
+def check_no_journals(page, folder):
+    """Files that aren't journals, and one that is too large."""
+    binary = os.path.join(folder, 'binary')
+    with open(binary, 'wb') as file:
+        file.write(random.Random(7).randbytes(20000000).replace(b'\n', b'x'))
+    huge = os.path.join(folder, 'huge')
+    with open(huge, 'wb') as file:
+        file.truncate(1 << 30)
+    cases = [(os.path.join(TOP, 'README.md'), 'README.md is no journal: line 1 begins with no word of a journal (“# replay”).'),
+             (example('loss.events'), 'loss.events is no journal: line 1 begins with no word of a journal ('),
+             (binary, 'binary is no journal: line 1 has '),
+             (huge, 'huge has 1,024 MiB; this page takes at most 64 MiB')]
+    for path, wanted in cases:
+        for drop in (True, False):
+            begun = page.now()
+            said = open_file(page, path, drop)
+            expect(path, wanted, said[:len(wanted)])
+            if page.now() - begun > 5:
+                expect('seconds to say so of %s' % path, 'at most 5', page.now() - begun)
+            compared['files that are no journal'] += 1
+    quiet = os.path.join(folder, 'quiet')
+    with open(quiet, 'w', encoding='ascii') as file:
+        file.write('idle 3\nrows best 0\n')
+    expect('quiet', 'quiet has no line of a journal', open_file(page, quiet)[:30])
+    compared['files that are no journal'] += 1
+
+
+class Timings:
+    """What takes how long on the page, by the clock and by the CPU time of the browser."""
+
+    def __init__(self, page):
+        self.page, self.told = page, []
+
+    def steps(self, what, moves, count):
+        """Some moves, one by one: lines to jump to, or units and directions of steps."""
+        before = self.page.seconds()
+        found = self.page.ask(STEPS % moves)
+        spent = (self.page.seconds() - before) / count * 1000
+        self.told.append('%s %.1f ms (worst %.1f; CPU %.1f)' % (what, statistics.median(found), max(found), spent))
+
+
+def check_large(page, name, path):
+    """A large journal: some lines by the walk, and timings."""
+    lines = lines_of(path)
+    page.open(os.path.join(HERE, 'index.html'))
+    before = page.seconds()
+    page.choose(path)
+    page.wait('view.opened > 0')
+    expect('%s opens' % name, '', page.ask(COMPLAINT))
+    timings = Timings(page)
+    timings.told.append('loaded in %.2f s (CPU %.2f)' % (page.ask('view.seconds'), page.seconds() - before))
+    walk = Walk(lines)
+    for number in sorted(random.sample(range(1, len(lines) + 1), 12)) + [len(lines) // 3]:
+        check_any_line(page, name, walk, number, most=2)
+    page.ask('view.choose("best"); view.go(%d)' % (len(lines) // 2))
+    for what, unit, direction in (('a line on', 'line', 1), ('a line back', 'line', -1), ('a fall on', 'fall', 1),
+                                  ('an event back', 'event', -1)):
+        timings.steps(what, 'Array(200).fill(["%s", %d])' % (unit, direction), 200)
+    timings.steps('a jump', [random.randint(1, len(lines)) for _ in range(100)], 100)
+    begun = page.ask('performance.now()')
+    page.ask('view.setFilter("adv.2")')
+    timings.told.append('a filter %.0f ms' % (page.ask('performance.now()') - begun))
+    page.ask('view.setFilter("")')
+    timings.told.append('in play %d frames and %d lines a second' % tuple(page.ask(FRAMES)))
+    print('%s, %d lines, %.1f MiB: %s' % (name, len(lines), os.path.getsize(path) / 2 ** 20, '; '.join(timings.told)))
+    expect('%s: errors of the page' % name, [], page.failures)
+
+
+def check_large_ones(page, folder, program):
+    """A large journal by large.py, and one by the program where it is built."""
+    path = os.path.join(folder, 'table')
+    with open(path, 'w', encoding='ascii') as file:
+        large.write(file, 100000)
+    check_large(page, 'by large.py', path)
+    if not os.path.exists(program):
+        print('%s is not there: no journal of `replay gen` was opened' % os.path.relpath(program))
+        return
+    path = os.path.join(folder, 'gen')
+    with open(path, 'wb') as file:
+        subprocess.run([program, 'gen', '7', '9000'], stdout=file, check=True)
+    check_large(page, 'by replay gen 7 9000', path)
+
+
+def check_layout(program):
+    """Nothing is wider than the window."""
+    for width, height in ((1280, 800), (1920, 1080), (2560, 1440)):
+        with browser.Browser(program, width, height) as page:
+            expect('opens', '', open_file(page, example('loss.out')))
+            page.ask('view.go(49)')
+            expect('width at %d' % width, width, page.ask('document.documentElement.scrollWidth'))
+            expect('height at %d' % width, height, page.ask('document.documentElement.scrollHeight'))
+            compared['windows'] += 1
+
+
+def main():
+    parser = argparse.ArgumentParser(description=__doc__.split('\n')[0])
+    parser.add_argument('--program', default=os.path.join(TOP, 'crates/replay_main/out/replay_main'),
+                        help='the built program, for a large journal of its own (gen); without it that one is left out')
+    parser.add_argument('--only', help='a story alone, or verdicts, refusals, layout, large')
+    parser.add_argument('--pictures', action='store_true', help='write the pictures of docs/pictures/ and check nothing')
+    words = parser.parse_args()
+    program = browser.find()
+    if program is None:
+        print('Chromium is not installed (Debian: apt-get install chromium), so nothing was checked.')
+        sys.exit(2)
+    if words.pictures:
+        import pictures
+        pictures.write(program)
+        return
+    random.seed(1)
+    with tempfile.TemporaryDirectory() as folder, browser.Browser(program) as page:
+        parts = {'verdicts': lambda: check_verdicts(page), 'refusals': lambda: check_no_journals(page, folder),
+                 'layout': lambda: check_layout(program), 'large': lambda: check_large_ones(page, folder, words.program)}
+        if words.only not in parts:
+            check_stories(page, words.only)
+        for name in parts:
+            if words.only in (None, name):
+                parts[name]()
+    print('compared: ' + ', '.join('%s %d' % (key, compared[key]) for key in compared))
+    print('%d differences' % len(faults))
+    sys.exit(1 if faults else 0)
+
+
+if __name__ == '__main__':
+    main()
