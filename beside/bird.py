@@ -6,6 +6,7 @@ from router import Best, Failed, Router, bounds, flat, origin
 
 ORIGINS = ('ORIGIN_IGP', 'ORIGIN_EGP', 'ORIGIN_INCOMPLETE')
 SETS = {'pref': 'bgp_local_pref = %d;', 'med': 'bgp_med = %d;', 'nomed': 'unset(bgp_med);', 'prepend': 'prepends = %d;'}
+SHOWN = 400  # `birdc` cuts longer paths
 
 # `prepends` counts how often more than once the own AS goes in front of the path, without a longer path in the decision
 HEAD = '''router id %(identifier)s;
@@ -66,7 +67,7 @@ class Bird(Router):
                        'prepends': '  if defined(prepends) then {\n%s  }\n' % prepends}
         for protocol, table in wanted.interior.items():
             routes = ''.join('  route %s via %s { igp_metric = %d; };\n' % (
-                prefix, '%s dev "%s" onlink' % (way.gateway, way.interface) if way.gateway else '"%s"' % way.interface, way.metric)
+                prefix, "%s%%'%s' onlink" % (way.gateway, way.interface) if way.gateway else '"%s"' % way.interface, way.metric)
                 for prefix, way in sorted(table.items()))
             said += INTERIOR % (protocol, 250 - DISTANCES[protocol], routes)
         return said + ''.join(self.of_peer(peer) for peer in wanted.peers.values())
@@ -113,5 +114,5 @@ class Bird(Router):
     def told(route):
         if not route['peer']:
             return Best(0, None, None, None, None, None)
-        return Best(route['peer'], int(route['local_pref']), int(route.get('med', 0)), flat(route['as_path']), origin(route['origin']),
-                    route['next_hop'])
+        path = flat(route['as_path']) if len(route['as_path']) < SHOWN else None
+        return Best(route['peer'], int(route['local_pref']), int(route.get('med', 0)), path, origin(route['origin']), route['next_hop'])

@@ -38,6 +38,8 @@ from routers import ROUTERS
 CONNECTED_WITHIN, OPENED_WITHIN = 40, 15  # seconds
 QUIET, LONG_QUIET, AT_MOST = .5, 3.0, 30.0  # seconds without an UPDATE, where all is equal, and where it isn't; and in all
 
+SHOWN = 200  # characters of a value in a report
+
 Difference = collections.namedtuple('Difference', 'kind peer prefix ours theirs')
 Counts = collections.Counter
 
@@ -241,10 +243,12 @@ def notes_apart(peer, ours, theirs, counts):
 
 
 def told(value):
+    if value is None:
+        return '-'
     if isinstance(value, program.Best):
-        return 'peer %d' % value.peer + ''.join(
+        value = 'peer %d' % value.peer + ''.join(
             ', %s %s' % (name, part) for name, part in zip(value._fields[1:], value[1:]) if part not in (None, ''))
-    return '-' if value is None else value
+    return value if len(value) <= SHOWN else value[:SHOWN] + '..'
 
 
 def report(name, place, step, found, counts, explain):
