@@ -15,7 +15,8 @@ ipv4 table interior;
 protocol device { }
 function prepended() {
 %(prepends)s}
-protocol pipe own { table master4; peer table interior; export none; import where %(own)s; }
+protocol static own { ipv4 { preference 254; };
+%(own)s}
 '''
 INTERIOR = '''protocol static from_%s { ipv4 { table interior; preference %d; };
 %s}
@@ -62,7 +63,7 @@ class Bird(Router):
     def config(self):
         wanted = self.wanted
         prepends = ''.join('  if prepends >= %d then bgp_path.prepend(%d);\n' % (number, wanted.asn) for number in range(1, 17))
-        own = ' || '.join('proto = "from_%s"' % protocol for protocol in sorted(wanted.redistributed)) or 'false'
+        own = ''.join('  route %s blackhole;\n' % prefix for prefix in wanted.own())
         said = HEAD % {'identifier': wanted.identifier, 'own': own,
                        'prepends': '  if defined(prepends) then {\n%s  }\n' % prepends}
         for protocol, table in wanted.interior.items():

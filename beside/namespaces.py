@@ -40,6 +40,19 @@ def enter(name):
             raise OSError(ctypes.get_errno(), 'setns')
 
 
+def seconds(pids):
+    """CPU seconds of processes up to now."""
+    found = 0
+    for pid in pids:
+        try:
+            for task in os.listdir('/proc/%d/task' % pid):
+                with open('/proc/%d/task/%s/schedstat' % (pid, task), encoding='ascii') as file:
+                    found += int(file.read().split()[0]) / 1e9
+        except OSError:
+            continue
+    return found
+
+
 class Started:
     """A program that was started in a namespace, and the processes that belong to it. What it says goes to a file. It gets SIGKILL when
     this process ends, however that ends."""
@@ -67,18 +80,15 @@ class Started:
 
     def used(self):
         """CPU seconds and peak MiB up to now."""
-        seconds = memory = 0
-        for pid in self.processes():
+        pids, memory = self.processes(), 0
+        for pid in pids:
             try:
-                for task in os.listdir('/proc/%d/task' % pid):
-                    with open('/proc/%d/task/%s/schedstat' % (pid, task), encoding='ascii') as file:
-                        seconds += int(file.read().split()[0]) / 1e9
                 with open('/proc/%d/status' % pid, encoding='ascii', errors='replace') as file:
                     peak = [line.split()[1] for line in file if line.startswith('VmHWM')]
             except OSError:
                 continue
             memory += int(peak[0]) / 1024 if peak else 0
-        return seconds, memory
+        return seconds(pids), memory
 
     def stop(self):
         for pid in sorted(self.processes(), reverse=True):

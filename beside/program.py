@@ -10,9 +10,9 @@ LIMIT = 300  # seconds
 # a question that changes nothing (docs/LANGUAGE.md) stands behind each event: its answer ends the event's lines of the output
 MARK = 'settled 255.255.255.255/32'
 
-# `sent` has a table for each peer that is up, `best` the rows of that link, `unresolved` the prefixes of routes without a way,
-# `notes` the NOTIFICATIONs since the `idle` before: peer and octets
-Moment = collections.namedtuple('Moment', 'sent best unresolved notes')
+# `sent` has a table for each peer that is up, `best` the rows of that link, `candidates` those of all `res.K`, `unresolved` the prefixes of
+# routes that no interior route resolves, `notes` the NOTIFICATIONs since the `idle` before: peer and octets
+Moment = collections.namedtuple('Moment', 'sent best candidates unresolved notes')
 Step = collections.namedtuple('Step', 'number words ignored moment')  # `moment` behind an `idle` alone
 Best = collections.namedtuple('Best', 'peer preference med path origin hop')
 
@@ -22,17 +22,22 @@ class Refused(Exception):
 
 
 def marked(text):
-    """The file with the question behind each event, and the number of each event's line."""
-    lines, numbers, begun = [], [], False
+    """The file with the question behind each event; each event with its line's number and whether it has the question behind it; and
+    the number that each line of the new file has in the file."""
+    lines, events, numbers, begun = [], [], [], False
     for number, line in enumerate(text.split('\n'), 1):
         words = line.rstrip('\r').split()
-        lines.append('' if ' '.join(words) == MARK else line)
-        if words and not words[0].startswith('#') and lines[-1]:
+        if ' '.join(words) == MARK:
+            line, words = '', []
+        lines.append(line)
+        numbers.append(number)
+        if words and not words[0].startswith('#'):
             begun = begun or words[0] == 'local'
+            events.append((number, words, begun))
             if begun:
-                lines[-1] = line.rstrip('\r') + '\n' + MARK
-            numbers.append((number, words, begun))
-    return '\n'.join(lines), numbers
+                lines.append(MARK)
+                numbers.append(number)
+    return '\n'.join(lines), events, numbers
 
 
 def output(program, text):
@@ -50,12 +55,12 @@ def steps(program, path):
     """What each event of a file does."""
     with open(path, encoding='latin-1', newline='\n') as file:
         text = file.read()
+    text, events, numbers = marked(text)
     lines, status = output(program, text)
     if status:
-        raise Refused(lines[-1] if lines and lines[-1].startswith('refused') else 'the program ended with status %d' % status)
-    text, numbers = marked(text)
-    lines, told, tables, notes = iter(output(program, text)[0]), [], {}, []
-    for number, words, is_marked in numbers:
+        raise Refused(refusal(lines, numbers) or 'the program ended with status %d' % status)
+    lines, told, tables, notes = iter(lines), [], {}, []
+    for number, words, is_marked in events:
         block = until_the_mark(lines) if is_marked else []
         for line in block:
             said = line.split(' ')
@@ -68,6 +73,15 @@ def steps(program, path):
             moment, notes = at(tables, notes), []
         told.append(Step(number, words, 'ignored' in block, moment))
     return told
+
+
+def refusal(lines, numbers):
+    """The line `refused`, with the number that the line has in the file."""
+    words = lines[-1].split(' ') if lines else []
+    if words[:1] != ['refused']:
+        return None
+    place = int(words[1])
+    return 'refused %d %s' % (numbers[place - 1] if place <= len(numbers) else place, words[2])
 
 
 def until_the_mark(lines):
@@ -95,7 +109,12 @@ def change(tables, words):
 
 def at(tables, notes):
     sent = {int(link.split('.')[1]): dict(rows) for link, rows in tables.items() if link.startswith('adv.')}
-    return Moment(sent, dict(tables['best']), unresolved(tables), notes)
+    candidates = collections.defaultdict(list)
+    for link, rows in tables.items():
+        if link.startswith('res.'):
+            for prefix, value in rows.items():
+                candidates[prefix].append(value)
+    return Moment(sent, dict(tables['best']), candidates, unresolved(tables), notes)
 
 
 def unresolved(tables):

@@ -30,7 +30,7 @@ class Router:
     programs = ()  # what has to be there for it to run
 
     def __init__(self, folder, namespace, wanted):
-        self.folder, self.namespace, self.wanted, self.started = folder, namespace, wanted, []
+        self.folder, self.namespace, self.wanted, self.started, self.pids = folder, namespace, wanted, [], set()
 
     @classmethod
     def installed(cls):
@@ -61,8 +61,8 @@ class Router:
         raise NotImplementedError
 
     def used(self):
-        """CPU seconds up to now."""
-        return sum(one.used()[0] for one in self.started)
+        """CPU seconds up to now, of the processes that were there when the daemon had started."""
+        return namespaces.seconds(self.pids)
 
     def stop(self):
         for one in reversed(self.started):
@@ -96,6 +96,7 @@ class Router:
         if not namespaces.until(lambda: all(one.process.poll() is None for one in self.started) and ready(), LIMIT, .1):
             with open(self.path('said'), encoding='ascii', errors='replace') as file:
                 raise Failed('%s does not start: %s' % (self.name, file.read().strip()[-300:] or 'no answer within %d s' % LIMIT))
+        self.pids = set().union(*(one.processes() for one in self.started))
 
     def numbers(self):
         """The number of each peer, by its address."""

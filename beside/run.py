@@ -19,6 +19,7 @@ Needs root, Linux' network namespaces (`ip`), and Debian's `bird2`, `frr` or `op
 import argparse
 import collections
 import copy
+import ipaddress
 import os
 import signal
 import sys
@@ -38,7 +39,7 @@ from routers import ROUTERS
 CONNECTED_WITHIN, OPENED_WITHIN = 40, 15  # seconds
 QUIET, LONG_QUIET, AT_MOST = .5, 3.0, 30.0  # seconds without an UPDATE, where all is equal, and where it isn't; and in all
 
-SHOWN = 200  # characters of a value in a report
+SHOWN = 120  # characters of a value in a report
 
 Difference = collections.namedtuple('Difference', 'kind peer prefix ours theirs')
 Counts = collections.Counter
@@ -67,6 +68,8 @@ class Heard(session.Connection):
                     self.notes.append(wire.message(kind, body).hex())
         except (OSError, EOFError):
             pass
+        except ValueError as error:
+            self.notes.append('malformed: %s' % error)  # what the router sent can't be read: a difference at the next `idle`
         self.is_up = False
         self.last = time.monotonic()
 
@@ -181,16 +184,19 @@ class Run:
             last = used
 
     def settle(self, moment):
-        """Until nothing has come for a while; the differences that are left."""
+        """Until nothing has come for a while, a longer one where something differs; the differences that are left."""
         begun = time.monotonic()
-        self.rest()
-        while True:
-            now = time.monotonic()
-            quiet = now - max([heard.last for heard in self.sessions.values()] + [begun])
+        for quiet in (QUIET, LONG_QUIET):
+            self.rest()
+            since = time.monotonic()
+            namespaces.until(lambda: self.is_quiet(since, quiet), AT_MOST)
             found, counts = self.differences(moment)
-            if quiet > (LONG_QUIET if found else QUIET) or now - begun > AT_MOST:
-                return found, counts
-            time.sleep(.1)
+            if not found or time.monotonic() - begun > AT_MOST:
+                break
+        return found, counts
+
+    def is_quiet(self, since, seconds):
+        return time.monotonic() - max([heard.last for heard in self.sessions.values()] + [since]) > seconds
 
     def differences(self, moment):
         """What differs, and how much was compared."""
@@ -230,7 +236,7 @@ def same(ours, theirs):
 
 
 def rows_apart(kind, peer, ours, theirs, counts):
-    keys = sorted(set(ours) | set(theirs))
+    keys = sorted(set(ours) | set(theirs), key=ipaddress.ip_network)
     counts[kind] += len(keys)
     return [Difference(kind, peer, key, ours.get(key), theirs.get(key)) for key in keys if not same(ours.get(key), theirs.get(key))]
 
@@ -285,7 +291,7 @@ def beside(asked, steps):
                 if step.moment:
                     place += 1
                     found, counts = run.settle(step.moment)
-                    explain = explained.Explainer(asked.daemon, run.wanted, step, steps, found)
+                    explain = explained.Explainer(asked.daemon, run.wanted, steps[:steps.index(step) + 1], step.moment, found)
                     unexplained += report(asked.daemon, place, step, found, counts, explain)
                     total, differ = total + counts, differ + len(found)
                     run.end_of_moment()

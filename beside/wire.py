@@ -37,13 +37,21 @@ def told(kind, body):
     return name
 
 
+def part(octets, at, length):
+    """So many octets from a place on."""
+    if at + length > len(octets):
+        raise ValueError('a field runs beyond its end')
+    return octets[at:at + length]
+
+
 def split(octets):
     """The prefixes of a field, each with its length in front."""
     at = 0
     while at < len(octets):
-        end = at + 1 + (octets[at] + 7) // 8
-        yield octets[at:end]
-        at = end
+        if octets[at] > 32:
+            raise ValueError('a prefix of length %d' % octets[at])
+        yield part(octets, at, 1 + (octets[at] + 7) // 8)
+        at += 1 + (octets[at] + 7) // 8
 
 
 def address(octets):
@@ -60,20 +68,20 @@ def attributes(octets):
     """Each attribute by its type: the three flags that mean something, and the value."""
     found, at = {}, 0
     while at < len(octets):
-        flags, kind = octets[at], octets[at + 1]
+        flags, kind = part(octets, at, 2)
         wide = 2 if flags & 0x10 else 1
-        length = int.from_bytes(octets[at + 2:at + 2 + wide], 'big')
-        found[kind] = (flags & 0xe0, octets[at + 2 + wide:at + 2 + wide + length])
+        length = int.from_bytes(part(octets, at + 2, wide), 'big')
+        found[kind] = (flags & 0xe0, part(octets, at + 2 + wide, length))
         at += 2 + wide + length
     return found
 
 
 def update(body):
-    """The parts of an UPDATE (section 4.3)."""
-    behind = 2 + struct.unpack('>H', body[:2])[0]
-    end = behind + 2 + struct.unpack('>H', body[behind:behind + 2])[0]
-    return Update([prefix(gone) for gone in split(body[2:behind])], attributes(body[behind + 2:end]),
-                  [prefix(came) for came in split(body[end:])])
+    """The parts of an UPDATE (section 4.3). ValueError where its lengths don't fit."""
+    gone = part(body, 2, int.from_bytes(part(body, 0, 2), 'big'))
+    behind = 2 + len(gone)
+    said = part(body, behind + 2, int.from_bytes(part(body, behind, 2), 'big'))
+    return Update([prefix(one) for one in split(gone)], attributes(said), [prefix(one) for one in split(body[behind + 2 + len(said):])])
 
 
 def take(held, body):
@@ -89,8 +97,8 @@ def path(octets, width=2):
     """The text of an AS_PATH: sequences in (), sets in {}."""
     said, at = '', 0
     while at < len(octets):
-        kind, count = octets[at], octets[at + 1]
-        numbers = struct.unpack('>%d%s' % (count, 'H' if width == 2 else 'I'), octets[at + 2:at + 2 + width * count])
+        kind, count = part(octets, at, 2)
+        numbers = struct.unpack('>%d%s' % (count, 'H' if width == 2 else 'I'), part(octets, at + 2, width * count))
         said += ('(%s)' if kind == 2 else '{%s}') % '.'.join(str(number) for number in numbers)
         at += 2 + width * count
     return said
