@@ -51,12 +51,23 @@ def output(program, text):
     return ran.stdout.decode('ascii', 'replace').split('\n')[:-1], ran.returncode
 
 
-def steps(program, path):
-    """What each event of a file does."""
+def read(path):
+    """The marked file, its events, and the numbers of its lines."""
     with open(path, encoding='latin-1', newline='\n') as file:
-        text = file.read()
-    text, events, numbers = marked(text)
-    lines, status = output(program, text)
+        return marked(file.read())
+
+
+def printed(path):
+    """The same as `output` of what was printed before; the status is known by a line `refused` alone."""
+    with open(path, encoding='ascii') as file:
+        lines = file.read().split('\n')[:-1]
+    return lines, 3 if lines and lines[-1].startswith('refused') else 0
+
+
+def steps(program, path, before=None):
+    """What each event of a file does. With `before` the program isn't run: that file has what it printed of the marked one."""
+    text, events, numbers = read(path)
+    lines, status = printed(before) if before else output(program, text)
     if status:
         raise Refused(refusal(lines, numbers) or 'the program ended with status %d' % status)
     lines, told, tables, notes = iter(lines), [], {}, []

@@ -220,6 +220,9 @@ class Run:
             heard.notes.clear()
 
     def stop(self):
+        """Takes everything away again, whatever signals come."""
+        for sign in (signal.SIGINT, signal.SIGTERM):
+            signal.signal(sign, signal.SIG_IGN)
         for heard in self.sessions.values():
             heard.close()
         if self.router:
@@ -306,19 +309,21 @@ def main():
     words.add_argument('events', metavar='EVENTS')
     words.add_argument('--daemon', choices=sorted(ROUTERS), required=True)
     words.add_argument('--program', default=program.BUILT, help='the words of another program than the built one')
+    words.add_argument('--printed', metavar='FILE', help='what the program printed of the file that it is given (all.py --try)')
     asked = words.parse_args()
-    signal.signal(signal.SIGTERM, lambda *_: sys.exit(143))
+    for sign in (signal.SIGINT, signal.SIGTERM):
+        signal.signal(sign, signal.default_int_handler)
     try:
         if not ROUTERS[asked.daemon].installed():
             raise OSError("%s isn't installed (Debian's package %s)" % (asked.daemon, ROUTERS[asked.daemon].package))
-        steps = program.steps(asked.program.split(' '), asked.events)
         if os.geteuid():
             raise OSError('network namespaces need root')
+        steps = program.steps(asked.program.split(' '), asked.events, asked.printed)
         return beside(asked, steps)
     except KeyboardInterrupt:
         return 130
     except (OSError, EOFError, program.Refused, session.Refused, router.Failed) as error:
-        print('%s: %s' % (asked.events, error), file=sys.stderr)
+        print('%s: %s' % (asked.events, getattr(error, 'strerror', None) or error), file=sys.stderr)
         return 2
 
 

@@ -200,7 +200,8 @@ def main():
     words.add_argument('--hold', type=int, default=9)
     words.add_argument('--program', default=program.BUILT)
     asked = words.parse_args()
-    signal.signal(signal.SIGTERM, signal.default_int_handler)
+    for sign in (signal.SIGINT, signal.SIGTERM):
+        signal.signal(sign, signal.default_int_handler)
     if os.geteuid() or not shutil.which('bird'):
         print('demo.py: %s' % ('network namespaces need root' if os.geteuid() else "bird isn't installed (Debian's package bird2)"), file=sys.stderr)
         return 2
@@ -214,6 +215,8 @@ def main():
             print('demo.py: %s' % error, file=sys.stderr)
             return 2
         finally:
+            for sign in (signal.SIGINT, signal.SIGTERM):
+                signal.signal(sign, signal.SIG_IGN)
             for one in reversed(running):
                 one.stop()
             for name in names:

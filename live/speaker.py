@@ -129,7 +129,7 @@ class Speaker:
         self.begun, self.asked = time.monotonic(), asked
         self.wanted = eventfile.Wanted()
         self.sessions, self.current, self.counts = {}, {}, {}
-        self.selector = selectors.DefaultSelector()
+        self.selector = selectors.PollSelector()
         self.woken, self.waker = socket.socketpair()
         self.waker.setblocking(False)
         self.selector.register(self.woken, selectors.EVENT_READ, 'program')
@@ -214,13 +214,14 @@ class Speaker:
         del self.sessions[session.peer.number]
 
     def read(self, session):
-        lines = []
+        lines, ended = [], None
         try:
             for octets in session.messages():
                 if session.state == ESTABLISHED:
                     lines.append('bgp %d %s' % (session.peer.number, octets.hex()))
-                    if octets[18] == wire.NOTIFICATION:
-                        self.say('peer %d said %s' % (session.peer.number, wire.told(octets[18], octets[19:])))
+                    if octets[18] == wire.NOTIFICATION and len(octets) > 20:
+                        ended = 'they said ' + wire.told(octets[18], octets[19:])
+                        break
                 else:
                     lines += self.opening(session, octets[18], octets[19:])
         except (OSError, EOFError):
@@ -229,6 +230,8 @@ class Speaker:
             return
         if lines:
             self.program.write(lines + ['idle'])
+        if ended:
+            self.end(session, ended, False)  # the program has read it, too
 
     def opening(self, session, kind, body):
         """A message before the session is up; the lines that it makes for the program."""
@@ -332,7 +335,8 @@ def main():
     words.add_argument('--port', type=int, default=179)
     words.add_argument('--program', default=program.BUILT, help='the words of another program than the built one')
     asked = words.parse_args()
-    signal.signal(signal.SIGTERM, signal.default_int_handler)
+    for sign in (signal.SIGINT, signal.SIGTERM):
+        signal.signal(sign, signal.default_int_handler)
     speaker = None
     try:
         speaker = Speaker(setup(asked.setup), asked)
