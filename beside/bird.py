@@ -104,7 +104,7 @@ class Bird(Router):
             if begun:
                 prefix, kind, protocol = begun.groups()
                 route = {'peer': numbers.get(protocol, 0)}
-                if kind == 'unicast':
+                if kind != 'unreachable':
                     found[prefix] = route
             said = re.match(r'\tBGP\.(\w+): ?(.*)', line)
             if said:
@@ -116,4 +116,5 @@ class Bird(Router):
         if not route['peer']:
             return Best(0, None, None, None, None, None)
         path = flat(route['as_path']) if len(route['as_path']) < SHOWN else None
-        return Best(route['peer'], int(route['local_pref']), int(route.get('med', 0)), path, origin(route['origin']), route['next_hop'])
+        preference = int(route['local_pref']) if 'local_pref' in route else None  # it isn't shown where one came from an external peer
+        return Best(route['peer'], preference, int(route.get('med', 0)), path, origin(route['origin']), route['next_hop'])

@@ -76,12 +76,19 @@ def attributes(octets):
     return found
 
 
-def update(body):
-    """The parts of an UPDATE (section 4.3). ValueError where its lengths don't fit."""
+def fields(body):
+    """The octets of an UPDATE's withdrawn prefixes, attributes and announced prefixes (section 4.3). ValueError where its lengths don't
+    fit."""
     gone = part(body, 2, int.from_bytes(part(body, 0, 2), 'big'))
     behind = 2 + len(gone)
     said = part(body, behind + 2, int.from_bytes(part(body, behind, 2), 'big'))
-    return Update([prefix(one) for one in split(gone)], attributes(said), [prefix(one) for one in split(body[behind + 2 + len(said):])])
+    return gone, said, body[behind + 2 + len(said):]
+
+
+def update(body):
+    """The parts of an UPDATE."""
+    gone, said, came = fields(body)
+    return Update([prefix(one) for one in split(gone)], attributes(said), [prefix(one) for one in split(came)])
 
 
 def take(held, body):
@@ -98,6 +105,8 @@ def path(octets, width=2):
     said, at = '', 0
     while at < len(octets):
         kind, count = part(octets, at, 2)
+        if kind not in (1, 2):
+            raise ValueError('a segment of type %d' % kind)
         numbers = struct.unpack('>%d%s' % (count, 'H' if width == 2 else 'I'), part(octets, at + 2, width * count))
         said += ('(%s)' if kind == 2 else '{%s}') % '.'.join(str(number) for number in numbers)
         at += 2 + width * count
