@@ -2,7 +2,7 @@
 """Whether a real speaker and the program tell a table alike: alike.py [--routes 20000]. No test: it needs root and Debian's `bird2`.
 
 BIRD gets the table of `events.py` from one peer, decides, and sends it to another, whose octets are kept. Then three sets of
-routes are read out of octets, by a decoder of this script's own, and compared:
+routes are read out of octets, by a decoder that knows nothing of the program (beside/wire.py), and compared:
 
   in    BIRD's UPDATEs are given to the program, as those of a peer: the rows of its `in.1` are the routes in BIRD's octets
   out   the program gets the same table as BIRD did: what it sends peer 2, in octets, are the same prefixes with the same
@@ -15,18 +15,17 @@ Left to itself BIRD passes on the next hop of a third party on a shared subnet, 
 import argparse
 import os
 import subprocess
-import struct
 import sys
 import tempfile
 import threading
 
 import daemons
 import events
+import wire
 
 TOP = os.path.join(os.path.dirname(os.path.abspath(__file__)), '..')
 REPLAY = os.path.join(TOP, 'crates', 'replay_main', 'out', 'replay_main')
 RECEIVER = ['local 65002 192.0.2.2 192.0.2.2', 'peer 1 65000 192.0.2.254 192.0.2.254', 'up 1']
-MED = 4
 
 
 class Keeper(daemons.Speaker):
@@ -41,67 +40,12 @@ class Keeper(daemons.Speaker):
         super().count(body)
 
 
-def address(octets):
-    return '.'.join(str(octet) for octet in octets)
-
-
-def prefix(octets):
-    full = octets[1:] + bytes(4 - len(octets[1:]))
-    return '%s/%d' % (address(full), octets[0])
-
-
-def attributes(octets):
-    """Each attribute by its type: flags and value."""
-    found, at = {}, 0
-    while at < len(octets):
-        flags, kind = octets[at], octets[at + 1]
-        wide = 2 if flags & 0x10 else 1
-        length = int.from_bytes(octets[at + 2:at + 2 + wide], 'big')
-        found[kind] = (flags & 0xe0, octets[at + 2 + wide:at + 2 + wide + length])
-        at += 2 + wide + length
-    return found
-
-
 def routes(bodies):
     """The set that these UPDATEs lead to: attributes by prefix."""
     held = {}
     for body in bodies:
-        length = struct.unpack('>H', body[:2])[0]
-        for gone in daemons.split(body[2:2 + length]):
-            held.pop(prefix(gone), None)
-        behind = 2 + length
-        length = struct.unpack('>H', body[behind:behind + 2])[0]
-        said = attributes(body[behind + 2:behind + 2 + length])
-        for came in daemons.split(body[behind + 2 + length:]):
-            held[prefix(came)] = said
+        wire.take(held, body)
     return held
-
-
-def path(octets):
-    """The text of an AS_PATH: sequences in (), sets in {}."""
-    said, at = '', 0
-    while at < len(octets):
-        kind, count = octets[at], octets[at + 1]
-        numbers = struct.unpack('>%dH' % count, octets[at + 2:at + 2 + 2 * count])
-        said += ('(%s)' if kind == 2 else '{%s}') % '.'.join(str(number) for number in numbers)
-        at += 2 + 2 * count
-    return said
-
-
-def text(said):
-    """The value of a row with these attributes."""
-    words = ['o%d' % said[1][1][0], 'p' + path(said[2][1]), 'n' + address(said[3][1])]
-    if MED in said:
-        words.append('m%d' % int.from_bytes(said[MED][1], 'big'))
-    if 5 in said:
-        words.append('l%d' % int.from_bytes(said[5][1], 'big'))
-    if 6 in said:
-        words.append('a')
-    if 7 in said:
-        words.append('g%d/%s%s' % (int.from_bytes(said[7][1][:2], 'big'), address(said[7][1][2:]), '!' if said[7][0] & 0x20 else ''))
-    for kind in sorted(set(said) - {1, 2, 3, MED, 5, 6, 7}):
-        words.append('x%d:%s' % (kind, said[kind][1].hex()))
-    return ','.join(words)
 
 
 def of_the_program(lines, link):
@@ -147,7 +91,7 @@ def differ(name, ours, theirs):
 
 
 def without_med(said):
-    return {kind: value for kind, value in said.items() if kind != MED}
+    return {kind: value for kind, value in said.items() if kind != wire.MED}
 
 
 def compare(count):
@@ -156,15 +100,15 @@ def compare(count):
     # 192.0.2.0/24 is the daemon's own
     heard = routes(theirs)
     rows, _ = of_the_program(RECEIVER + ['bgp 1 ' + daemons.message(2, body).hex() for body in theirs], 'in.1')
-    wrong = differ('in', rows, {key: text(said) for key, said in heard.items()})
+    wrong = differ('in', rows, {key: wire.text(said) for key, said in heard.items()})
     rows, ours = of_the_program([events.LOCAL] + events.PEERS + ['bgp 1 ' + sent.hex() for sent in messages], 'adv.2.1')
     sent = routes(ours)
-    wrong += differ('rows', rows, {key: text(said) for key, said in sent.items()})
+    wrong += differ('rows', rows, {key: wire.text(said) for key, said in sent.items()})
     own = set(heard) - set(sent)
     print('     of BIRD alone: %s' % (', '.join(sorted(own)[:5]) or 'none'))
-    wrong += differ('out', {key: text(without_med(said)) for key, said in sent.items()},
-                    {key: text(without_med(said)) for key, said in heard.items() if key not in own})
-    print('     with a MED: %d of ours, %d of BIRD' % (sum(MED in said for said in sent.values()), sum(MED in said for said in heard.values())))
+    wrong += differ('out', {key: wire.text(without_med(said)) for key, said in sent.items()},
+                    {key: wire.text(without_med(said)) for key, said in heard.items() if key not in own})
+    print('     with a MED: %d of ours, %d of BIRD' % (sum(wire.MED in said for said in sent.values()), sum(wire.MED in said for said in heard.values())))
     return wrong
 
 

@@ -6,21 +6,23 @@ start until the receiver has every prefix (and then from the sender's loss until
 sum of their peak resident sets. Needs root and `ip netns`. A daemon decides, runs a filter that accepts all, and packs prefixes
 of equal attributes into one UPDATE.
 """
-import ctypes
 import os
 import shutil
-import signal
 import socket
 import struct
 import subprocess
+import sys
 import tempfile
 import threading
 import time
 
-MARKER = b'\xff' * 16
-CLONE_NEWNET = 0x40000000
-IPV4_UNICAST = bytes([2, 6, 1, 4, 0, 1, 0, 1])  # the one capability that is always announced (RFC 4760)
-AS_TRANS = 23456  # stands for a number of four octets (RFC 6793)
+sys.path.insert(0, os.path.join(os.path.dirname(os.path.abspath(__file__)), '..', 'beside'))
+import namespaces as spaces
+import session
+import wire
+from namespaces import enter
+from wire import message, split
+
 DAEMON, SENDER, RECEIVER = '192.0.2.254', '192.0.2.1', '192.0.2.2'
 
 BIRD = '''
@@ -56,59 +58,23 @@ router bgp 65000
 '''
 
 
-def message(kind, body=b''):
-    return MARKER + struct.pack('>HB', 19 + len(body), kind) + body
-
-
-class Speaker:
+class Speaker(session.Connection):
     """A session with the daemon, with AS numbers of four octets if asked for; counts the prefixes that it was sent and that were
     withdrawn."""
 
     def __init__(self, address, asn, wide=False):
         self.announced, self.withdrawn, self.failed = set(), 0, None
-        self.socket = self.connect(address)
-        said = IPV4_UNICAST + (bytes([2, 6, 65, 4]) + struct.pack('>I', asn) if wide else b'')
-        opening = struct.pack('>BHH4sB', 4, asn if asn < 65536 else AS_TRANS, 0, socket.inet_aton(address), len(said)) + said
-        self.socket.sendall(message(1, opening))
-        self.buffer = b''
-        kind, _ = self.read()
-        assert kind == 1, 'no OPEN'
-        self.socket.sendall(message(4))
-        while kind != 4:
-            kind, _ = self.read()
-
-    @staticmethod
-    def connect(address):
-        for _ in range(100):
-            made = socket.socket()
-            made.bind((address, 0))
-            try:
-                made.connect((DAEMON, 179))
-                return made
-            except OSError:
-                made.close()
-                time.sleep(.2)
-        raise TimeoutError('no connection from ' + address)
-
-    def read(self):
-        while len(self.buffer) < 19 or len(self.buffer) < struct.unpack('>H', self.buffer[16:18])[0]:
-            more = self.socket.recv(1 << 18)
-            if not more:
-                raise EOFError('the daemon closed the session')
-            self.buffer += more
-        size = struct.unpack('>H', self.buffer[16:18])[0]
-        kind, body = self.buffer[18], self.buffer[19:size]
-        self.buffer = self.buffer[size:]
-        return kind, body
+        super().__init__(session.connect(address, (DAEMON, 179), 20))
+        self.open(wire.opening(asn, address, 0, wide), 60)
 
     def listen(self):
         """Reads until the daemon closes the session."""
         try:
             while True:
                 kind, body = self.read()
-                if kind == 2:
+                if kind == wire.UPDATE:
                     self.count(body)
-                elif kind == 3:
+                elif kind == wire.NOTIFICATION:
                     self.failed = body.hex()
         except (OSError, EOFError):
             pass
@@ -123,15 +89,7 @@ class Speaker:
         self.announced.update(split(body[behind + 2 + length:]))
 
 
-def split(octets):
-    at = 0
-    while at < len(octets):
-        end = at + 1 + (octets[at] + 7) // 8
-        yield octets[at:end]
-        at = end
-
-
-class Daemon:
+class Daemon(spaces.Started):
     """A daemon in its own network namespace, and the processes that belong to it."""
 
     def __init__(self, name, folder, start, config):
@@ -141,47 +99,7 @@ class Daemon:
             file.write(config)
         os.chmod(folder, 0o755)
         os.chmod(path, 0o600)
-        self.process = subprocess.Popen(
-            ['ip', 'netns', 'exec', 'bench-daemon'] + start(folder, path),
-            stdin=subprocess.DEVNULL, stdout=subprocess.DEVNULL, stderr=subprocess.DEVNULL, start_new_session=True)
-
-    def processes(self):
-        """The daemon's process and all that it started."""
-        parents = {}
-        for pid in filter(str.isdigit, os.listdir('/proc')):
-            try:
-                with open('/proc/%s/stat' % pid, encoding='ascii', errors='replace') as file:
-                    parents[int(pid)] = int(file.read().rpartition(')')[2].split()[1])
-            except OSError:
-                pass
-        found, fresh = set(), {self.process.pid}
-        while fresh:
-            found |= fresh
-            fresh = {pid for pid, parent in parents.items() if parent in fresh}
-        return found
-
-    def used(self):
-        """CPU seconds and peak MiB up to now."""
-        seconds = memory = 0
-        for pid in self.processes():
-            try:
-                for task in os.listdir('/proc/%d/task' % pid):
-                    with open('/proc/%d/task/%s/schedstat' % (pid, task), encoding='ascii') as file:
-                        seconds += int(file.read().split()[0]) / 1e9
-                with open('/proc/%d/status' % pid, encoding='ascii', errors='replace') as file:
-                    peak = [line.split()[1] for line in file if line.startswith('VmHWM')]
-            except OSError:
-                continue
-            memory += int(peak[0]) / 1024 if peak else 0
-        return seconds, memory
-
-    def stop(self):
-        for pid in sorted(self.processes(), reverse=True):
-            try:
-                os.kill(pid, signal.SIGKILL)
-            except OSError:
-                pass
-        self.process.wait()
+        super().__init__('bench-daemon', start(folder, path))
 
 
 def commands():
@@ -205,24 +123,16 @@ def version(package):
 def namespaces():
     """Makes two namespaces with one link between them: the daemon's, and that of the speakers."""
     os.makedirs('/run/openbgpd', exist_ok=True)  # OpenBGPD's own place, which its service makes
-    for words in ('netns add bench-daemon', 'netns add bench-peers',
-                  'link add bench0 netns bench-daemon type veth peer name bench1 netns bench-peers',
-                  '-n bench-daemon addr add 192.0.2.254/24 dev bench0', '-n bench-daemon link set bench0 up',
-                  '-n bench-daemon link set lo up', '-n bench-peers link set bench1 up', '-n bench-peers link set lo up',
-                  '-n bench-peers addr add 192.0.2.1/24 dev bench1', '-n bench-peers addr add 192.0.2.2/24 dev bench1'):
-        subprocess.run(['ip'] + words.split(), check=True)
+    spaces.make('bench-daemon')
+    spaces.make('bench-peers')
+    spaces.link('bench-daemon', 'bench0', 'bench-peers', 'bench1')
+    for name, address, interface in (('daemon', DAEMON, 'bench0'), ('peers', SENDER, 'bench1'), ('peers', RECEIVER, 'bench1')):
+        spaces.ip('-n bench-%s addr add %s/24 dev %s' % (name, address, interface))
 
 
 def no_namespaces():
     for name in ('bench-daemon', 'bench-peers'):
-        subprocess.run(['ip', 'netns', 'del', name], stderr=subprocess.DEVNULL, check=False)
-
-
-def enter(name):
-    """This process goes into a namespace."""
-    with open('/run/netns/' + name, encoding='ascii') as file:
-        if ctypes.CDLL(None, use_errno=True).setns(file.fileno(), CLONE_NEWNET):
-            raise OSError(ctypes.get_errno(), 'setns')
+        spaces.delete(name)
 
 
 def wait(done, daemon, seconds=120):

@@ -1,0 +1,97 @@
+"""OpenBGPD beside `replay` (Debian's `openbgpd`). On Linux it sees no routes of the kernel: each next hop is taken to be reachable."""
+import os
+
+from eventfile import masked
+from router import Best, Failed, Router, bounds, flat, origin, parsed
+
+HEAD = '''AS %(asn)d
+router-id %(identifier)s
+listen on %(address)s
+socket "%(socket)s"
+fib-update no
+holdtime 180
+rde med compare strict
+rde route-age ignore
+'''
+PEER = '''neighbor %(address)s {
+  remote-as %(asn)d
+  passive
+  enforce neighbor-as no
+}
+'''
+
+
+def condition(words):
+    if words[0] == 'any':
+        return ''
+    if words[0] == 'path':
+        return ' AS %s' % words[1]
+    network, least, most = bounds(words)
+    return ' prefix %s prefixlen %d - %d' % (masked(network), least, most)
+
+
+def rule_lines(way, address, rules):
+    """The lines of a peer's filter; the first rule that decides is `quick`."""
+    for rule in rules:
+        if rule.condition[0] not in ('any', 'path', 'origin') and not bounds(rule.condition):
+            continue
+        sets = ' '.join({'pref': 'localpref %d', 'med': 'med %d', 'prepend': 'prepend-self %d'}[word] % number
+                        for word, number in rule.actions if number or word != 'prepend')
+        verb = {'accept': 'allow quick', 'reject': 'deny quick', 'next': 'match'}[rule.verdict]
+        if rule.verdict == 'next' and not sets:
+            continue
+        said = ' set { %s }' % sets if sets and rule.verdict != 'reject' else ''
+        yield '%s %s %s%s%s\n' % (verb, way, address, condition(rule.condition), said)
+
+
+class OpenBgpd(Router):
+    name, package, programs = 'openbgpd', 'openbgpd', ('bgpd', 'bgpctl')
+
+    @classmethod
+    def lacks(cls, events):
+        for words in events:
+            if words[:2] == ['filter', 'in'] and 'prepend' in words:
+                return 'an incoming `prepend-self` makes the path of the decision longer'
+            if words[0] == 'filter' and ('nomed' in words or 'origin' in words):
+                return 'its filters have neither `nomed` nor a condition on ORIGIN'
+        return None
+
+    def config(self):
+        wanted = self.wanted
+        said = HEAD % {'asn': wanted.asn, 'identifier': wanted.identifier, 'address': wanted.address, 'socket': self.path('ctl')}
+        said += ''.join(PEER % peer._asdict() for peer in wanted.peers.values())
+        said += ''.join('network %s set origin incomplete\n' % prefix for prefix in wanted.own())
+        said += 'allow from any\nallow to any\n'
+        for peer in wanted.peers.values():
+            if not wanted.is_internal(peer):
+                said += 'match to %s set nexthop self\n' % peer.address
+            for way, word in (('in', 'from'), ('out', 'to')):
+                said += ''.join(rule_lines(word, peer.address, wanted.filters[way].get(peer.number, [])))
+        return said
+
+    def control(self, words, may_fail=False):
+        return self.command(['bgpctl', '-s', self.path('ctl')] + words.split(), may_fail)
+
+    def start(self):
+        os.makedirs('/run/openbgpd', exist_ok=True)  # its own place, which its service makes
+        self.run(['bgpd', '-d', '-f', self.write('conf', self.config())])
+        self.wait(lambda: 'Neighbor' in self.control('show', True))
+
+    def apply(self, before, wanted):
+        self.wanted = wanted
+        self.write('conf', self.config())
+        said = self.control('reload')
+        if 'processed' not in said:
+            raise Failed('bgpctl reload: ' + said.strip())
+
+    def revive(self, peer):
+        self.control('neighbor %s up' % peer.address, True)
+
+    def best(self):
+        numbers = self.numbers()
+        found = {}
+        for one in parsed(self.control('-j show rib best')).get('rib', []):
+            number = numbers.get(one['neighbor']['remote_addr'], 0)
+            found[one['prefix']] = Best(number, one['localpref'], one['metric'], flat(one['aspath']), origin(one['origin']),
+                                        one.get('exit_nexthop')) if number else Best(0, None, None, None, None, None)
+        return found

@@ -1,0 +1,134 @@
+"""What a router beside `replay` has to be able to do: a class for each daemon, under this one.
+
+To plug another daemon in, make a class with these methods, and name it in `routers.py` (docs/BESIDE.md):
+
+  installed  whether the daemon is there
+  lacks      why an event file isn't for it, or None
+  start      makes its configuration and starts it
+  apply      brings a change of filters, interior routes or redistribution into force
+  revive     whatever it needs so that a peer whose session ended can come back at once
+  best       its best routes
+"""
+import json
+import os
+import re
+import shutil
+import subprocess
+
+import namespaces
+from program import Best
+
+LIMIT = 20  # seconds that one command to a daemon may take
+
+
+class Failed(Exception):
+    """The daemon didn't start, or didn't take what it was told."""
+
+
+class Router:
+    name = package = None
+    programs = ()  # what has to be there for it to run
+
+    def __init__(self, folder, namespace, wanted):
+        self.folder, self.namespace, self.wanted, self.started, self.pids = folder, namespace, wanted, [], set()
+
+    @classmethod
+    def installed(cls):
+        return all(shutil.which(program) or os.path.exists(program) for program in cls.programs)
+
+    @classmethod
+    def version(cls):
+        said = subprocess.run(['dpkg-query', '-W', '-f', '${Version}', cls.package], stdout=subprocess.PIPE, stderr=subprocess.DEVNULL, check=False)
+        return said.stdout.decode() or 'unknown'
+
+    @classmethod
+    def lacks(cls, events):
+        """Why these events, lists of words, aren't for this daemon; None where they are."""
+        return None
+
+    def start(self):
+        raise NotImplementedError
+
+    def apply(self, before, wanted):
+        """What is wanted has changed."""
+        raise NotImplementedError
+
+    def revive(self, peer):
+        """A peer whose session ended is about to come back."""
+
+    def best(self):
+        """The best route of each prefix, as `Best`; what isn't told is None, and the peer of an own route is 0."""
+        raise NotImplementedError
+
+    def used(self):
+        """CPU seconds up to now, of the processes that were there when the daemon had started."""
+        return namespaces.seconds(self.pids)
+
+    def stop(self):
+        for one in reversed(self.started):
+            one.stop()
+
+    # what the classes share
+
+    def path(self, name):
+        return os.path.join(self.folder, name)
+
+    def write(self, name, content):
+        with open(self.path(name), 'w', encoding='ascii') as file:
+            file.write(content)
+        os.chmod(self.path(name), 0o600)
+        return self.path(name)
+
+    def run(self, words):
+        self.started.append(namespaces.Started(self.namespace, words, self.path('said')))
+
+    def command(self, words, may_fail=False):
+        """What a command to the daemon prints."""
+        ran = subprocess.run(['ip', 'netns', 'exec', self.namespace] + words, stdin=subprocess.DEVNULL, stdout=subprocess.PIPE,
+                             stderr=subprocess.STDOUT, timeout=LIMIT, check=False)
+        said = ran.stdout.decode(errors='replace')
+        if ran.returncode and not may_fail:
+            raise Failed('%s: %s' % (' '.join(words), said.strip()[-300:]))
+        return said
+
+    def wait(self, ready):
+        """Until the daemon answers."""
+        if not namespaces.until(lambda: all(one.process.poll() is None for one in self.started) and ready(), LIMIT, .1):
+            with open(self.path('said'), encoding='ascii', errors='replace') as file:
+                raise Failed('%s does not start: %s' % (self.name, file.read().strip()[-300:] or 'no answer within %d s' % LIMIT))
+        self.pids = set().union(*(one.processes() for one in self.started))
+
+    def numbers(self):
+        """The number of each peer, by its address."""
+        return {peer.address: number for number, peer in self.wanted.peers.items()}
+
+
+def flat(path):
+    """A path, as docs/OUTPUT.md or a daemon tells it, as words; a set is one word, with its numbers in order."""
+    words = []
+    for one, other in re.findall(r'\{([^}]*)\}|([0-9]+)', path):
+        words.append('{%s}' % ','.join(sorted(re.findall('[0-9]+', one), key=int)) if one else other)
+    return ' '.join(words)
+
+
+def origin(word):
+    return {'igp': 0, 'egp': 1, 'i': 0, 'e': 1}.get(word.lower(), 2)
+
+
+def bounds(condition):
+    """Network, least and greatest length of a rule's condition on the prefix; None where none can be."""
+    network, _, least, _, most = condition
+    least, most = max(int(least), int(network.partition('/')[2])), int(most)
+    return (network, least, most) if least <= most else None
+
+
+def changed(before, now):
+    """What differs between two tables: keys that went, and those that came or changed."""
+    return sorted(set(before) - set(now)), sorted(key for key in now if before.get(key) != now[key])
+
+
+def parsed(text):
+    return json.loads(text)
+
+
+__all__ = ['Best', 'Failed', 'Router', 'bounds', 'changed', 'flat', 'origin', 'parsed']
