@@ -55,9 +55,8 @@ class Sources:
 
     def __init__(self):
         self.words, self.functions, self.types, self.code, self.proofs, self.lemmas = set(), {}, {}, {}, [], None
-        for path in sorted(glob.glob(os.path.join(TOP, 'crates', '*', '*'))):
-            self.words.add(os.path.basename(path).split('.')[0])
-        for path in glob.glob(os.path.join(TOP, 'crates', '*', '*', '**', '*.*'), recursive=True):
+        rooms = ('src', 'specs', 'proofs', 'must-fail', 'data')
+        for path in [it for room in rooms for it in glob.glob(os.path.join(TOP, 'crates', '*', room, '**', '*.*'), recursive=True)]:
             crate, room = os.path.relpath(path, TOP).split('/')[1:3]
             self.words.update((crate, os.path.basename(path).split('.')[0]))
             if room == 'proofs' and path.endswith('.antt'):
@@ -80,8 +79,10 @@ class Sources:
     def has_lemma(self, name):
         """Whether a proof has this word: few words that documents name stand in proofs alone, so these aren't parted into words."""
         if self.lemmas is None:
-            self.lemmas = ' '.join(read(os.path.relpath(path, TOP)) for path in self.proofs)
-        return re.search(r'\b%s\b' % name, self.lemmas) is not None
+            self.lemmas = ' ' + ' '.join(read(os.path.relpath(path, TOP)) for path in self.proofs)
+        # (a pattern that begins with letters is looked for fast)
+        return any(not (self.lemmas[it.start() - 1].isalnum() or self.lemmas[it.start() - 1] == '_')
+                   for it in re.finditer(name + r'\b', self.lemmas))
 
     def has(self, name):
         """Whether there is such a word, or function of a crate or a type."""
