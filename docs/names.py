@@ -10,7 +10,7 @@ Outside of fences, in README.md, CONTRIBUTING.md, docs/*.md and bench/README.md:
 - `crate::function` is a function of that crate, `Type::function` one of a crate that declares the type, `Type::Variant` a word there
 - another word in backticks that has a `_`, or capitals and small letters, stands somewhere in the sources
 - `docs/PAGE.md, "Title"` names a heading of that page
-- in a table with a column Story, each word in backticks there is a story, that is, a file of examples/
+- words in backticks behind `story` or `stories` are stories, that is, files of examples/
 """
 import glob
 import os
@@ -20,8 +20,9 @@ import sys
 TOP = os.path.join(os.path.dirname(os.path.abspath(__file__)), '..')
 PATH = re.compile(r'(?<![\w/.])((?:crates|docs|bench|examples|wrong-bodies)/[\w*./-]*[\w*/])')
 PART = re.compile(r'(?<![\w/.-])(?:(\w+)/)?(specs|src|proofs)/(\w+)(\.antt|\.rt)?(?![\w/])')
-OF_FILE = re.compile(r'(\w+)/specs/(\w+)\.antt \((`\w+`(?:, `\w+`)*)\)')
-IN_FILE = re.compile(r'\((`\w+`(?:, `\w+`)*), (?:crates/)?(\w+)/specs/(\w+)\.antt\)')
+OF_FILE = re.compile(r'(\w+)/specs/(\w+)(?:\.antt)? \((`\w+`(?:,\s+`\w+`)*)\)')
+IN_FILE = re.compile(r'\((`\w+`(?:,\s+`\w+`)*),\s+(?:crates/)?(\w+)/specs/(\w+)\.antt\)')
+STORY = re.compile(r'\bstor(?:y|ies)\s+((?:`\w+`(?:,\s+)?)+)')
 SECTION = re.compile(r'docs/(\w+)\.md,\s+"([^"]+)"')
 WORD = re.compile(r'`([A-Za-z]\w*(?:::[A-Za-z]\w*)*)(?:\(\))?`')
 MIXED = re.compile(r'.*_|[A-Z].*[a-z]')
@@ -127,18 +128,10 @@ def missing_sections(flat):
             yield found.start(), '%s has no section "%s"' % (path, title)
 
 
-def missing_stories(text):
-    """Pairs of line number and complaint, of columns headed Story."""
-    column = None
-    for number, line in enumerate(text.split('\n'), 1):
-        cells = [it.strip() for it in line.strip().strip('|').split('|')] if line.startswith('|') else []
-        if 'Story' in cells:
-            column = cells.index('Story')
-        elif not cells:
-            column = None
-        elif column is not None and column < len(cells):
-            yield from ((number, 'there is no story %s' % it) for it in re.findall(r'`([^`]+)`', cells[column])
-                        if not exists('examples', it + '.out'))
+def missing_stories(flat):
+    for found in STORY.finditer(flat):
+        yield from ((found.start(), 'there is no story %s' % it) for it in re.findall(r'\w+', found[1])
+                    if not exists('examples', it + '.out'))
 
 
 def faults():
@@ -147,15 +140,13 @@ def faults():
     for page in pages():
         text = unfenced(read(page))
         flat = text.replace('\n', ' ')
-        found = list(missing_files(flat)) + list(missing_sections(flat))
+        found = list(missing_files(flat)) + list(missing_sections(flat)) + list(missing_stories(flat))
         for word in WORD.finditer(text):
             if MIXED.match(word[1]) or '::' in word[1]:
                 if not sources.has(word[1]):
                     found.append((word.start(), 'nothing in the sources has the name %s' % word[1]))
         for at, complaint in found:
             yield page, text.count('\n', 0, at) + 1, complaint
-        for number, complaint in missing_stories(text):
-            yield page, number, complaint
 
 
 if __name__ == '__main__':
