@@ -103,7 +103,7 @@ def missing_files(flat):
     """Pairs of place and complaint: paths, and words that don't stand in the file beside them."""
     for found in PATH.finditer(flat):
         path = found[1].rstrip('.')
-        if not re.search(r'NAME|/out/|\*', path) and not exists(path):
+        if not re.search(r'NAME|/out(/|$)|\*', path) and not exists(path):
             yield found.start(), 'there is no %s' % path
     for found in PART.finditer(flat):
         crate, room, name, ending = found.groups()
