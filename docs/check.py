@@ -1,17 +1,31 @@
 #!/usr/bin/env python3
-"""Compares the examples in README.md and docs/ with the files that they show: docs/check.py
+"""Compares the documents with the repository: docs/check.py. It is the first part of the gate (.ci/run).
 
-A fence ```text examples/NAME.EXT shows lines of that file in their order; a line `..` stands for any number of lines that
-are left out. Each file of examples/ is a story, which the gate runs (crates/story_tests). So no output stands in a document
-that the program didn't print.
+The examples in README.md, CONTRIBUTING.md, CHANGELOG.md and docs/: a fence ```text examples/NAME.EXT shows lines of that file
+in their order; a line `..` stands for any number of lines that are left out. Each file of examples/ is a story, which the gate
+runs (crates/story_tests). So no output stands in a document that the program didn't print.
 
-Also refused: lines of output in a block that names no file, lines of more than 100 columns, and what is said to be true on
-the day of writing alone, which the next change makes false. Each complaint is printed; the status is 1 where there is one.
+Also refused there: lines of output in a block that names no file, lines of more than 100 columns, and what is said to be true
+on the day of writing alone, which the next change makes false.
+
+And by the scripts beside it, each of which says its rule at its head:
+- crate_table.py: the tables of crates, the longest chain, and numbers that documents state
+- names.py: each file, crate, function, heading and story that a document names exists
+- believe.py: the list of definitions that the clauses of `replay` reach, in docs/PROOFS.md
+- examples.py: docs/EXAMPLES.md
+
+Each complaint is printed; the status is 1 where there is one.
 """
 import glob
 import os
 import re
 import sys
+
+sys.dont_write_bytecode = True
+import believe
+import crate_table
+import examples
+import names
 
 TOP = os.path.join(os.path.dirname(os.path.abspath(__file__)), '..')
 WIDTH = 100
@@ -62,12 +76,22 @@ def faults(path):
             yield number, 'output of no file'
 
 
-def main():
-    found = 0
-    for path in [os.path.join(TOP, 'README.md')] + sorted(glob.glob(os.path.join(TOP, 'docs', '*.md'))):
+def complaints():
+    """All that is wrong, a line each."""
+    at_the_top = [os.path.join(TOP, name) for name in ('README.md', 'CONTRIBUTING.md', 'CHANGELOG.md')]
+    for path in at_the_top + sorted(glob.glob(os.path.join(TOP, 'docs', '*.md'))):
         for number, fault in faults(path):
-            print('%s:%d: %s' % (os.path.relpath(path, TOP), number, fault))
-            found += 1
+            yield '%s:%d: %s' % (os.path.relpath(path, TOP), number, fault)
+    yield from ('%s: %s' % it for it in crate_table.faults())
+    yield from ('%s:%d: %s' % it for it in names.faults())
+    yield from ('docs/PROOFS.md:%d: %s' % it for it in believe.faults())
+    yield from examples.faults()
+
+
+def main():
+    found = list(complaints())
+    for complaint in found:
+        print(complaint)
     sys.exit(1 if found else 0)
 
 

@@ -1,0 +1,218 @@
+#!/usr/bin/env python3
+"""Writes docs/EXAMPLES.md, the index of examples/ by topic: docs/examples.py [--write]
+
+What a story shows is said by the first sentence of the comment that its event file begins with; where there is none (a
+capture, a journal, a file whose first line has to be another), by TOLD below. Each story stands in one topic. Without
+--write it prints what is wrong: a story in no topic or in two, a name that is no story, a story of which nothing is told,
+and whether docs/EXAMPLES.md is what it would write. docs/check.py asks for the same.
+"""
+import glob
+import os
+import re
+import sys
+import textwrap
+
+TOP = os.path.join(os.path.dirname(os.path.abspath(__file__)), '..')
+STORIES = 'crates/story_tests/data/stories'
+PAGE = 'docs/EXAMPLES.md'
+WIDTH = 100
+TOPICS = [
+    ('To begin with', 'Small, one thing each.',
+     'first two_peers never_sent filter interior loss settled to_the_forwarding_table four_octets captured_by_bird'),
+    ('Sessions that come and go', 'docs/LANGUAGE.md, "Sessions and losses".',
+     'return equal_routes flap_storm later_loss_first half_a_walk fall_in_a_walk lost_links sixteen_losses '
+     'seventeenth_loss two_readers comes_in_the_middle'),
+    ('Import policy: the incoming filter', 'docs/LANGUAGE.md, "Rules of a filter".',
+     'rules_judge_routes edited_walk loss_in_walk own_routes rules_64 filters_and_next_hops'),
+    ('Next hops', 'docs/LANGUAGE.md, "Next hops".',
+     'unresolved new_metric host_routes longer_match each_its_own one_for_all asked_in_walk learned_in_walk stale_in_walk '
+     'moved_twice back_between_turns there_and_back forgotten stale_and_forgotten last_row shared_interest '
+     'next_hops_of_the_lost'),
+    ('The decision', 'docs/BGP.md, "The decision".',
+     'each_step med_within_an_as six_orders neighbour_as best_is_lost best_hop_is_lost best_in_walks best_without_routes '
+     'quiet_below sixty_four_peers'),
+    ('What peers are sent', 'docs/BGP.md, "What is sent".',
+     'quiet_exits slow_and_fast rules_edited_in_the_middle rules_of_a_down_peer same_rules_again too_long_to_send '
+     'one_octet_too_long'),
+    ('Interior routes', 'docs/LANGUAGE.md.',
+     'merged protocol_losses seventeenth_protocol_loss longest_matches'),
+    ('Routes of this speaker\'s own', 'docs/LANGUAGE.md, "Redistribution".',
+     'own_route_wins own_routes_go_out own_route_to_two_peers own_next_hops redistribution_is_edited '
+     'lost_under_redistribution'),
+    ('The forwarding table', 'docs/LANGUAGE.md, "The forwarding table".',
+     'by_distance over_the_gateway another_way_out from_one_link_to_the_other forgotten_by_both '
+     'unread_on_the_forwarding_side external_names'),
+    ('Is it settled?', 'docs/LANGUAGE.md, "Settled prefixes".',
+     'settled_by_phase settled_in_a_walk settled_in_walks_of_all_kinds settled_after_losses settled_over_next_hops '
+     'settled_when_all_have_read settled_at_any_prefix settled_with_sixty_four_walks'),
+    ('AS numbers of four octets', 'RFC 6793; docs/BGP.md, "AS numbers of four octets".',
+     'four_octets_in_a_file_of_two alike_in_two_octets sent_in_four_octets path_of_an_internal_peer dropped_attributes '
+     'attributes_17_and_18 as_23456 as_23456_of_four as_65536 as_4294967295 largest_in_four_octets'),
+    ('Messages and their faults', 'RFC 4271, section 6; docs/BGP.md, "Faults".',
+     'faults_in_messages faults_in_messages_of_four cut_message cut_after_each_octet cut_with_its_length largest_message '
+     'masked_prefixes nothing_is_said atomic_aggregate_of_an_octet local_pref_from_outside_is_judged'),
+    ('Revised errors', 'In the manner of RFC 7606; docs/BGP.md, "Revised errors".',
+     'withdrawn_for_a_fault withdrawn_from_all withdrawn_beside_lost_routes both_fields_withdrawn attributes_run_out '
+     'attributes_twice aggregators_discarded missing_attributes local_pref_from_outside a_later_fault_ends_the_session '
+     'four_octets_revised faults_in_messages_revised faults_in_messages_of_four_revised cut_after_each_octet_revised '
+     'cut_with_its_length_revised'),
+    ('Captures', 'MRT files, RFC 6396; docs/CAPTURES.md.',
+     'captured_by_frr captured_by_openbgpd captured_session captured_with_as4 captured_with_microseconds captured_beside '
+     'captured_among_others captured_peers captured_nothing captured_in_part captured_header_in_part captured_too_long '
+     'captured_too_short captured_and_packed'),
+    ('Lines and refusals', 'docs/LANGUAGE.md, "Refusals".',
+     'lines no_lines longest_lines line_too_long_at_the_end unprintable_byte unprintable_byte_in_a_comment no_event '
+     'undeclared peer_not_declared_out local_twice local_65536 local_4294967296 local_4294967296_of_two as_0 as_0_of_four '
+     'path_65536 peer_70000 peer_65 peer_65_of_a_used_address rules_65 rules_65_out rules_65_of_no_peer '
+     'redist_before_local settled_before_local settled_no_prefix settled_two_prefixes settled_33_bits only_the_two_lines '
+     'as4_twice as4_after_local as4_then_no_local as4_with_a_word revised_twice revised_after_local revised_with_a_word'),
+    ('Journals that `check` judges', 'docs/OUTPUT.md.',
+     'skipped_lines joined_stages both_line_ends added_twice answer_without_a_row wrong_answer begun_twice unequal_weld '
+     'dropped_line no_journal no_journal_first empty_line two_spaces host_bits no_value return_at_the_end '
+     'longest_journal_line journal_line_too_long'),
+    ('Command lines', 'docs/LANGUAGE.md.', 'generated words'),
+]
+TOLD = {
+    'added_twice': 'A row is added where one stands: rule 1.',
+    'answer_without_a_row': 'A lookup finds a row that nobody added: rule 2.',
+    'as4_twice': 'The line may stand once.',
+    'begun_twice': 'A link begins that is live: rule 3.',
+    'both_line_ends': 'LF, CR LF, and no end after the last line.',
+    'captured_among_others': 'One peer\'s session among records of other types and families, which are skipped.',
+    'captured_and_packed': 'A capture that is still packed is none.',
+    'captured_beside': 'Records of no use: AS 0, addresses that no speaker has, other families and messages too long.',
+    'captured_by_bird': 'What BIRD wrote: two peers, one of them lost by a closed connection and by a NOTIFICATION.',
+    'captured_by_frr': 'What FRR wrote (`dump bgp all`), of sessions that end and come back.',
+    'captured_by_openbgpd': 'What OpenBGPD wrote (`dump updates in`), with microseconds and no change of state.',
+    'captured_header_in_part': 'The input ends within a record\'s header.',
+    'captured_in_part': 'The input ends within a record\'s body.',
+    'captured_nothing': 'An empty capture gives an empty event file.',
+    'captured_peers': 'Sixty-four peers are told, and no 65th.',
+    'captured_session': 'Two peers in records of two octets, one of them lost and back.',
+    'captured_too_long': 'A change of state has octets left.',
+    'captured_too_short': 'A record\'s fields run beyond its length.',
+    'captured_with_as4': 'Records with AS numbers of four octets.',
+    'captured_with_microseconds': 'Records with microseconds (type 17).',
+    'dropped_line': 'A journal of the program of which one line was dropped: rule 1.',
+    'empty_line': 'A line without words is none of a journal.',
+    'generated': 'Events of a seed, and totals.',
+    'host_bits': 'A prefix with bits beyond its length is none of a journal.',
+    'joined_stages': 'A stage is taken out where the links above and below it have the same rows.',
+    'journal_line_too_long': 'A line of more than 65,536 bytes.',
+    'line_too_long_at_the_end': 'A comment longer than a line may be, without an end.',
+    'local_4294967296': 'A number that no four octets hold.',
+    'no_event': 'A number with a zero in front is no word of an event.',
+    'seventeenth_loss': 'Sixteen lost tables of a peer stand; one loss more ends the oldest, with all that it sends.',
+    'seventeenth_protocol_loss': 'Sixteen lost tables of a protocol stand; one loss more ends the oldest.',
+    'longest_journal_line': 'A line of 65,536 bytes.',
+    'no_journal': 'No line of a journal at all.',
+    'no_journal_first': 'The first line is none of a journal; what comes after it isn\'t looked at.',
+    'no_lines': 'An empty event file prints nothing.',
+    'no_value': 'An added row needs a value.',
+    'peer_70000': 'An AS number of four octets, and no `as4`.',
+    'redist_before_local': 'An event stands before `local`.',
+    'return_at_the_end': 'A CR with no LF after it.',
+    'revised_after_local': 'How errors are handled is said before `local`.',
+    'settled_before_local': 'A question stands before `local`.',
+    'skipped_lines': 'Lines that are none of the journal\'s own are skipped, whatever follows the first word.',
+    'two_spaces': 'Words are parted by one space.',
+    'unequal_weld': 'A stage is taken out that still has a row: rule 3.',
+    'unprintable_byte': 'A tab is no byte of an event file.',
+    'unprintable_byte_in_a_comment': 'Nor in a comment are bytes beyond those that can be printed.',
+    'words': 'Words that are commands, and words that are none.',
+    'wrong_answer': 'A lookup finds no row where one stands: rule 2.',
+}
+HEAD = """# Examples
+
+Each is a *story* of `examples/` (a link to %s):
+
+- `NAME.events` is an event file, for `run`, and `NAME.out` exactly what that prints
+- `NAME.mrt` is a capture, for `mrt`, which prints `NAME.events`, or `NAME.out` where it is refused
+- `NAME.journal` is a journal, for `check`, and `NAME.out` the verdict
+- `NAME.commands` has command lines, with nothing to read
+
+The gate runs all of them (crates/story_tests): each event file at once and byte by byte, with the
+journal and with `--quiet`, and gives its journal to `check`. The outputs come from a program of
+another hand. With the built program (README.md, "Run it"):
+
+```sh
+crates/replay_main/out/replay_main run < examples/two_peers.events
+crates/replay_main/out/replay_main run --quiet < examples/never_sent.events
+```
+
+This page is written by docs/examples.py: %d stories, by topic.
+"""
+
+
+def stories():
+    """The names of all stories."""
+    found = glob.glob(os.path.join(TOP, STORIES, '*.out'))
+    return sorted(os.path.basename(path)[:-len('.out')] for path in found)
+
+
+def comment(name):
+    """The first sentence of the comment that an event file begins with; an empty text where there is none."""
+    path = os.path.join(TOP, STORIES, name + '.events')
+    if not os.path.isfile(path):
+        return ''
+    said = []
+    with open(path, encoding='utf-8', errors='replace', newline='') as file:
+        for line in file:
+            if not line.startswith('# '):
+                break
+            said.append(line[2:].strip())
+    whole = ' '.join(said)
+    first = re.match(r'.*?[.](?= [A-Z]|$)', whole)
+    return first[0] if first else whole
+
+
+def kinds(name):
+    """The endings of a story's files, but for its output."""
+    found = glob.glob(os.path.join(TOP, STORIES, name + '.*'))
+    return sorted(path.rsplit('.', 1)[1] for path in found if not path.endswith('.out'))
+
+
+def listed(name):
+    ending = kinds(name)
+    more = '' if ending == ['events'] else ' (%s)' % ', '.join('`.%s`' % it for it in ending)
+    said = TOLD.get(name) or comment(name)
+    return textwrap.wrap('- `%s`%s: %s' % (name, more, said), WIDTH, subsequent_indent='  ', break_on_hyphens=False)
+
+
+def page():
+    """The lines of the page."""
+    lines = (HEAD % (STORIES, len(stories()))).split('\n')
+    for title, about, names in TOPICS:
+        lines += ['## ' + title, '', about, '']
+        for name in names.split():
+            lines += listed(name)
+        lines.append('')
+    return lines
+
+
+def faults():
+    """What is wrong with the topics and the page: complaints."""
+    have, named = stories(), [name for _, _, names in TOPICS for name in names.split()]
+    for name in sorted(set(have) | set(named) | set(TOLD)):
+        if name not in have:
+            yield 'docs/examples.py: %s is no story' % name
+        elif named.count(name) != 1:
+            yield 'docs/examples.py: the story %s stands in %d topics' % (name, named.count(name))
+        elif not (TOLD.get(name) or comment(name)):
+            yield 'docs/examples.py: nothing is told of the story %s' % name
+    with open(os.path.join(TOP, PAGE), encoding='utf-8') as file:
+        if file.read().split('\n') != page():
+            yield '%s: not what docs/examples.py writes: docs/examples.py --write mends it' % PAGE
+
+
+def main(words):
+    if words == ['--write']:
+        with open(os.path.join(TOP, PAGE), 'w', encoding='utf-8') as file:
+            file.write('\n'.join(page()))
+    found = list(faults())
+    print('\n'.join(found), end='\n' if found else '')
+    return 1 if found else 0
+
+
+if __name__ == '__main__':
+    sys.exit(main(sys.argv[1:]))
