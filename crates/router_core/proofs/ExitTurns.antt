@@ -20,7 +20,7 @@ use Rattle.exit_side.specs.Steps.{TurnsExit, ComesOut}
 use Rattle.exit_side.specs.Laws.{KeepsStranger, StaysWithQueue, StrangersTake}
 use Rattle.exit_side.proofs.StrangerLemmas.{turn_keeps}
 use Rattle.exit_laws.proofs.HearLemmas.{changes_are_unheard}
-use Rattle.exit_laws.proofs.ViewLemmas.{turn_is_heard}
+use Rattle.exit_laws.proofs.ViewLemmas.{turn_is_heard, put_here}
 use Rattle.router_core.specs.declared.router.Phase.TheVariants as phases
 use Rattle.router_core.specs.Turns.{IsReadTurn, IsOutTurn}
 use Rattle.router_core.specs.Works.{Forwards}
@@ -29,10 +29,11 @@ use Rattle.router_core.proofs.QueueLemmas.{reader_live}
 use Rattle.router_core.proofs.HeardSteps.{heard_quiet, exits_declared}
 use Rattle.router_core.proofs.StaleLemmas.{kept_or_learnt, all_as_before, none_as_before, none_goes_stale}
 use Rattle.router_core.proofs.ReadingLemmas.{best_counted, take_most}
-use Rattle.router_core.proofs.SessionLemmas.{stands_exits, external_kept, strangers_read, reads_as, exits_lead, exit_here, exit_elsewhere, key_same}
+use Rattle.router_core.proofs.SessionLemmas.{stands_exits, external_kept, strangers_read, reads_as, exits_lead, exit_elsewhere}
 use Rattle.router_core.proofs.ExternalTurns.{forward_leads, exit_unheard, stands_forward}
 use Rattle.router_core.proofs.SpendLemmas.{Spent}
 use Rattle.router_core.proofs.WorkLemmas.{one_turn}
+use Rattle.fanout_queue.proofs.Cases.{same_number}
 
 -- ---- whether the forwarding side has something to read
 pub reader_is : (m v : Moment) → v ≡ m → Stands m → (r : ℕ) → v.reader ≡ Some r → IsSome (tables.get v.exits.queue r)
@@ -61,7 +62,7 @@ reads_since None (Some q) e r is on = absurd on
 pub taken_sent : (queued left : Queued Route) (r : ℕ) (change : Change Route) (best : Rows Route) → AllLead queued best → Takes queued left r (Some change) → IsSent (read_rows queued r best) (read_rows left r best) change.prefix (Some change)
 taken_sent queued left r change best all takes =
     let lead = all r (change ∷ takes.0) takes.1 in
-    let is : tables.get left r ≡ Some takes.0 = ap (λ (x : Queued Route). tables.get x r) takes.2 ∙ get-insert nat_cmp_total queued r takes.0 r ∙ ap (λ b. cond b (Some takes.0) (tables.get queued r)) (key_same r) in
+    let is : tables.get left r ≡ Some takes.0 = ap (λ (x : Queued Route). tables.get x r) takes.2 ∙ get-insert nat_cmp_total queued r takes.0 r ∙ ap (λ b. cond b (Some takes.0) (tables.get queued r)) (same_number r) in
     subst (λ (rows : Rows Route). IsSent rows (read_rows left r best) change.prefix (Some change)) (ap (λ u. rows_before (unread_or_none u) best) (sym takes.1))
     (subst (λ (rows : Rows Route). IsSent (rows_before (change ∷ takes.0) best) rows change.prefix (Some change)) (ap (λ u. rows_before (unread_or_none u) best) (sym is))
     (refl, lead.0, before_is_old _ best takes.0 lead.1))
@@ -74,7 +75,7 @@ module _ (m : Moment) (r : ℕ) (change : Change Route) (queue : Queued Route) (
   was = takes.1
 
   is : tables.get queue r ≡ Some takes.0
-  is = ap (λ (x : Queued Route). tables.get x r) takes.2 ∙ get-insert nat_cmp_total m.exits.queue r takes.0 r ∙ ap (λ b. cond b (Some takes.0) (tables.get m.exits.queue r)) (key_same r)
+  is = ap (λ (x : Queued Route). tables.get x r) takes.2 ∙ get-insert nat_cmp_total m.exits.queue r takes.0 r ∙ ap (λ b. cond b (Some takes.0) (tables.get m.exits.queue r)) (same_number r)
 
   all : AllLead queue (best_of m)
   all = take_keeps_leading m.exits.queue queue (best_of m) r (Some change) takes stands.exits.all
@@ -212,7 +213,7 @@ module _ (m : Moment) (k : ℕ) (sent : Option (Change Attrs)) (e : Exited) (sai
   sessions j = subst (λ (o : Option OutChained). ExitsAt m.declared.speaker m.outgoing j (peer_at j m.declared.peers) o) (sym (ap (exit_at j) t.after))
       (by_bool (nat_eq j k) (λ b. ExitsAt m.declared.speaker m.outgoing j (peer_at j m.declared.peers) (exit_at j (with_exit k t.taken e.queue m.exits)))
       (λ same. subst (λ (n : ℕ). ExitsAt m.declared.speaker m.outgoing n (peer_at n m.declared.peers) (exit_at n (with_exit k t.taken e.queue m.exits))) (sym (equal_by j k same))
-      (subst (λ (o : Option OutChained). ExitsAt m.declared.speaker m.outgoing k (peer_at k m.declared.peers) o) (sym (exit_here k t.taken e.queue m.exits))
+      (subst (λ (o : Option OutChained). ExitsAt m.declared.speaker m.outgoing k (peer_at k m.declared.peers) o) (sym (put_here k t.taken e.queue m.exits))
       (same_session m.declared.speaker (peer_at k m.declared.peers) (subst (λ (o : Option OutChained). ExitsAt m.declared.speaker m.outgoing k (peer_at k m.declared.peers) o) t.at (stands.exits.sessions k)))))
       (λ apart. subst (λ (o : Option OutChained). ExitsAt m.declared.speaker m.outgoing j (peer_at j m.declared.peers) o) (sym (exit_elsewhere k j t.taken e.queue m.exits apart)) (stands.exits.sessions j)))
 

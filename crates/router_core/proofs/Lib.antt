@@ -8,6 +8,7 @@ mod ShownRows
 pub mod RegionLemmas
 pub mod StandLemmas
 pub mod ForwardLemmas
+pub mod ScratchRows
 pub mod ScratchLemmas
 pub mod SettledLemmas
 pub mod HeldLemmas
@@ -46,6 +47,7 @@ pub mod PrintedForwards
 pub mod PrintedReaders
 pub mod PrintedMoments
 pub mod PrintedTurns
+pub mod PrintedLinks
 pub mod PrintedBlocks
 pub mod BestLemmas
 pub mod HopLemmas

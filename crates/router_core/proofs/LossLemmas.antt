@@ -20,7 +20,8 @@ use Rattle.router_core.proofs.KeepLemmas.{keeps_then, gives_push, push_gives}
 use Rattle.router_core.proofs.HeardRows.{put_heard, lost_heard}
 use Rattle.router_core.proofs.HeardSteps.{heard_quiet}
 use Rattle.router_core.proofs.QueueLemmas.{exits_none, exits_stay}
-use Rattle.router_core.proofs.SessionLemmas.{silenced, exit_gone}
+use Rattle.router_core.proofs.SessionLemmas.{silenced}
+use Rattle.exit_laws.proofs.ViewLemmas.{gone_here}
 
 -- ---- what stands after the loss
 -- of a peer that is up the lost sessions are earlier than the present one
@@ -88,7 +89,7 @@ pub silenced_stands : (k : ℕ) (m v : Moment) (e : Exited) (entries : List (Ent
 silenced_stands k m v e entries view stands ends = (silenced k v e entries (subst Stands (sym view) stands) ends).stands
 
 pub room_silent : (k : ℕ) (m room : Moment) (e : Exited) (entries : List (Entry Value)) (before now : Journaled) → EndsExit k m.exits e entries → Gives (HasRoom k (with_exits m e) room) before now → exit_at k room.exits ≡ None
-room_silent k m room e entries before now ends r = no_table (exit_at k room.exits) (r.2.same k ∙ ap is_some (ap (exit_at k) ends.after ∙ exit_gone k (tables.remove m.exits.queue ends.chain.reader) m.exits))
+room_silent k m room e entries before now ends r = no_table (exit_at k room.exits) (r.2.same k ∙ ap is_some (ap (exit_at k) ends.after ∙ gone_here k (tables.remove m.exits.queue ends.chain.reader) m.exits))
 
 pub lost_all : (k s : ℕ) (m v room m' : Moment) (e : Exited) (before first j j' now : Journaled) → v ≡ m → Stands m → Adds (EndsExit k v.exits e) before first → Gives (HasRoom k (with_exits v e) room) first j → Pushes (Ends k s room m') j j' → now ≡ flushed j'
     → Gives (HasLost k s m m') before now

@@ -17,7 +17,7 @@ use Rattle.exit_side.specs.Steps.{is_exit, LeadsExits, BeginsExit, EndsExit, Edi
 use Rattle.exit_side.specs.Laws.{AreAmong, KeepsStranger}
 use Rattle.exit_side.proofs.LawLemmas.{leads_anywhere, leads_anywhere_with_best}
 use Rattle.exit_side.proofs.StrangerLemmas.{begin_keeps, end_keeps, edit_keeps}
-use Rattle.exit_laws.proofs.ViewLemmas.{beginning_is_heard, end_is_heard, edit_keeps_views}
+use Rattle.exit_laws.proofs.ViewLemmas.{beginning_is_heard, end_is_heard, edit_keeps_views, put_here, gone_here}
 use Rattle.link_region.proofs.RegionLemmas.{by_bool}
 use Rattle.loss_chain.proofs.TableLemmas.{equal_by}
 use Rattle.live_state.specs.Lives.{with_rules, begun_if_down}
@@ -30,22 +30,14 @@ use Rattle.router_core.proofs.HeardRows.{heard_of}
 use Rattle.router_core.proofs.HeardSteps.{heard_quiet}
 use Rattle.router_core.proofs.QueueLemmas.{exits_none, no_exit_down}
 use Rattle.router_core.proofs.PeerLemmas.{begun_stands, may_begin, peer_at_map, present_edited}
+use Rattle.fanout_queue.proofs.Cases.{same_number}
 
 -- ---- a chain at a number, and at another
-pub key_same : (k : ℕ) → eq_by_cmp nat_cmp k k ≡ true
-key_same k = grind (arith, nat_tests)
-
-pub exit_here : (j : ℕ) (c : OutChained) (queue : Queued Route) (e : Exited) → exit_at j (with_exit j c queue e) ≡ Some c
-exit_here j c queue e = get-insert nat_cmp_total e.chains j c j ∙ ap (λ b. cond b (Some c) (exit_at j e)) (key_same j)
-
 key_apart : (k j : ℕ) → nat_eq k j ≡ false → eq_by_cmp nat_cmp k j ≡ false
 key_apart k j apart = grind (arith, nat_tests)
 
 pub exit_elsewhere : (j k : ℕ) (c : OutChained) (queue : Queued Route) (e : Exited) → nat_eq k j ≡ false → exit_at k (with_exit j c queue e) ≡ exit_at k e
 exit_elsewhere j k c queue e apart = get-insert nat_cmp_total e.chains j c k ∙ ap (λ b. cond b (Some c) (exit_at k e)) (key_apart k j apart)
-
-pub exit_gone : (j : ℕ) (queue : Queued Route) (e : Exited) → exit_at j (without_exit j queue e) ≡ None
-exit_gone j queue e = get-remove nat_cmp_total e.chains j j ∙ ap (λ b. cond b None (exit_at j e)) (key_same j)
 
 exit_left : (j k : ℕ) (queue : Queued Route) (e : Exited) → nat_eq k j ≡ false → exit_at k (without_exit j queue e) ≡ exit_at k e
 exit_left j k queue e apart = get-remove nat_cmp_total e.chains j k ∙ ap (λ b. cond b None (exit_at k e)) (key_apart k j apart)
@@ -146,7 +138,7 @@ silenced k m e entries stands ends = record {
     sessions : (j : ℕ) → ExitsAt m.declared.speaker m.outgoing j (peer_at j m.declared.peers) (exit_at j e)
     sessions j = subst (λ (o : Option OutChained). ExitsAt m.declared.speaker m.outgoing j (peer_at j m.declared.peers) o) (sym (ap (exit_at j) ends.after))
         (by_bool (nat_eq j k) (λ b. ExitsAt m.declared.speaker m.outgoing j (peer_at j m.declared.peers) (exit_at j (without_exit k (tables.remove m.exits.queue ends.chain.reader) m.exits)))
-        (λ same. subst (λ (o : Option OutChained). ExitsAt m.declared.speaker m.outgoing j (peer_at j m.declared.peers) o) (sym (subst (λ (n : ℕ). exit_at n (without_exit k (tables.remove m.exits.queue ends.chain.reader) m.exits) ≡ None) (sym (equal_by j k same)) (exit_gone k (tables.remove m.exits.queue ends.chain.reader) m.exits))) (exits_none m.declared.speaker m.outgoing j (peer_at j m.declared.peers)))
+        (λ same. subst (λ (o : Option OutChained). ExitsAt m.declared.speaker m.outgoing j (peer_at j m.declared.peers) o) (sym (subst (λ (n : ℕ). exit_at n (without_exit k (tables.remove m.exits.queue ends.chain.reader) m.exits) ≡ None) (sym (equal_by j k same)) (gone_here k (tables.remove m.exits.queue ends.chain.reader) m.exits))) (exits_none m.declared.speaker m.outgoing j (peer_at j m.declared.peers)))
         (λ apart. subst (λ (o : Option OutChained). ExitsAt m.declared.speaker m.outgoing j (peer_at j m.declared.peers) o) (sym (exit_left k j (tables.remove m.exits.queue ends.chain.reader) m.exits apart)) (stands.exits.sessions j)))
 
 -- ---- a session begins
@@ -180,7 +172,7 @@ module _ (k : ℕ) (m m' : Moment) (p : DeclaredPeer) (entries : List (Entry Val
   sessions_then j = subst (λ (o : Option OutChained). ExitsAt m.declared.speaker m.outgoing j (peer_at j (with_session m.declared k).peers) o) (sym (ap (exit_at j) begins.after ∙ ap (λ (n : ℕ). exit_at j (with_exit n new (tables.insert m.exits.queue begins.reader []) m.exits)) number))
       (by_bool (nat_eq j k) (λ t. ExitsAt m.declared.speaker m.outgoing j (peer_at j (with_session m.declared k).peers) (exit_at j (with_exit k new (tables.insert m.exits.queue begins.reader []) m.exits)))
       (λ same. subst (λ (n : ℕ). ExitsAt m.declared.speaker m.outgoing n (peer_at n (with_session m.declared k).peers) (exit_at n (with_exit k new (tables.insert m.exits.queue begins.reader []) m.exits))) (sym (equal_by j k same))
-      (subst (λ (o : Option OutChained). ExitsAt m.declared.speaker m.outgoing k (peer_at k (with_session m.declared k).peers) o) (sym (exit_here k new (tables.insert m.exits.queue begins.reader []) m.exits))
+      (subst (λ (o : Option OutChained). ExitsAt m.declared.speaker m.outgoing k (peer_at k (with_session m.declared k).peers) o) (sym (put_here k new (tables.insert m.exits.queue begins.reader []) m.exits))
       (subst (λ (o : Option DeclaredPeer). ExitsAt m.declared.speaker m.outgoing k o (Some new)) (sym (b.at ∙ ap Some peer_is))
       (subst (λ (s : Option Speaker). ExitsAt s m.outgoing k (Some (record { words = p.words; session = p.session + 1; up = true })) (Some new)) (sym b.local) (record { up = refl; session = refl; words = refl; speaker = refl; latest = refl })))))
       (λ apart. subst (λ (o : Option OutChained). ExitsAt m.declared.speaker m.outgoing j (peer_at j (with_session m.declared k).peers) o) (sym (exit_elsewhere k j new (tables.insert m.exits.queue begins.reader []) m.exits apart)) (stands.exits.sessions j)))
@@ -262,7 +254,7 @@ begins_sound k m n stands is = subst (λ (x : Moment). IsExits x.exits) (sym is)
 
 -- ---- rules of an outgoing filter
 rules_same : (policies : Policies) (k : ℕ) (rules : List Rule) → rules_to k (tables.insert policies k rules) ≡ rules
-rules_same policies k rules = ap rules_by (get-insert nat_cmp_total policies k rules k ∙ ap (λ b. cond b (Some rules) (tables.get policies k)) (key_same k))
+rules_same policies k rules = ap rules_by (get-insert nat_cmp_total policies k rules k ∙ ap (λ b. cond b (Some rules) (tables.get policies k)) (same_number k))
 
 rules_other : (policies : Policies) (k j : ℕ) (rules : List Rule) → nat_eq j k ≡ false → rules_to j (tables.insert policies k rules) ≡ rules_to j policies
 rules_other policies k j rules apart = ap rules_by (get-insert nat_cmp_total policies k rules j ∙ ap (λ b. cond b (Some rules) (tables.get policies j)) (key_apart j k apart))
@@ -292,7 +284,7 @@ module _ (m : Moment) (k : ℕ) (rules : List Rule) (e : Exited) (stands : Stand
 
   here_at : (s : Option Speaker) (p : Option DeclaredPeer) (o : Option OutChained) → exit_at k m.exits ≡ o → ExitsAt s m.outgoing k p o → ExitsAt s (tables.insert m.outgoing k rules) k p (exit_at k (edited_by k rules o m.exits))
   here_at s p None at is = subst (λ (x : Option OutChained). ExitsAt s (tables.insert m.outgoing k rules) k p x) (sym at) (exits_none s (tables.insert m.outgoing k rules) k p)
-  here_at (Some me) (Some p) (Some c) at is = subst (λ (x : Option OutChained). ExitsAt (Some me) (tables.insert m.outgoing k rules) k (Some p) x) (sym (exit_here k (with_rules_out rules c) m.exits.queue m.exits))
+  here_at (Some me) (Some p) (Some c) at is = subst (λ (x : Option OutChained). ExitsAt (Some me) (tables.insert m.outgoing k rules) k (Some p) x) (sym (put_here k (with_rules_out rules c) m.exits.queue m.exits))
       (record { up = is.up; session = is.session; words = is.words; speaker = is.speaker; latest = present_edited c.filter.in_force c.filter.walk (Some rules) ∙ ap Some (sym (rules_same m.outgoing k rules)) })
   here_at (Some me) None (Some c) at is = absurd is
   here_at None p (Some c) at is = absurd is

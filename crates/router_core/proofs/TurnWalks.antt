@@ -7,8 +7,9 @@ use Rattle.link_region.proofs.RegionLemmas.{by_bool}
 use Rattle.loss_chain.proofs.TableLemmas.{equal_by}
 use Rattle.exit_side.specs.Exits.{chain_at as exit_at}
 use Rattle.router_core.proofs.QueueLemmas.{queue_chains}
-use Rattle.router_core.proofs.SessionLemmas.{exit_here, exit_elsewhere}
+use Rattle.router_core.proofs.SessionLemmas.{exit_elsewhere}
 use Rattle.router_core.proofs.TurnLaws.{turn_works, runs_work, phase_works}
+use Rattle.exit_laws.proofs.ViewLemmas.{put_here}
 
 -- ---- of any relation between moments
 module _ (G : Moment → List Line → Moment → Type 0) (nowhere : (m m' : Moment) (said : List Line) → said ≡ [] → m' ≡ m → G m said m') (then : (a b c : Moment) (xs ys said : List Line) → G a xs b → G b ys c → said ≡ xs ++ ys → G a said c)
@@ -64,7 +65,7 @@ turn_same (Fin k) m said m' stands t = peer_same (Fin k) m said m' t
 turn_same (Nh k) m said m' stands t = chains_same m m' (queue_chains m.exits m'.exits t.decided.best t.queued)
 turn_same ReadRib m said m' stands t = chains_same m m' (ap (λ (x : Moment). x.exits.chains) t.after)
 turn_same (Out k) m said m' stands t = λ j. ap (λ (e : Exited). is_some (exit_at j e)) t.turn.after ∙ by_bool (nat_eq j k) (λ b. is_some (exit_at j (with_exit k t.turn.taken m'.exits.queue m.exits)) ≡ is_some (exit_at j m.exits))
-    (λ same. subst (λ (n : ℕ). is_some (exit_at n (with_exit k t.turn.taken m'.exits.queue m.exits)) ≡ is_some (exit_at n m.exits)) (sym (equal_by j k same)) (ap is_some (exit_here k t.turn.taken m'.exits.queue m.exits) ∙ sym (ap is_some t.turn.at)))
+    (λ same. subst (λ (n : ℕ). is_some (exit_at n (with_exit k t.turn.taken m'.exits.queue m.exits)) ≡ is_some (exit_at n m.exits)) (sym (equal_by j k same)) (ap is_some (put_here k t.turn.taken m'.exits.queue m.exits) ∙ sym (ap is_some t.turn.at)))
     (λ apart. ap is_some (exit_elsewhere k j t.turn.taken m'.exits.queue m.exits apart))
 turn_same (Rdel proto n) m said m' stands t = route_same m _ proto t.prefix _ said m' t.falls
 turn_same Red m said m' stands t = chains_same m m' (queue_chains m.exits m'.exits t.decided.best t.queued)
