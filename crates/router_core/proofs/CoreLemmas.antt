@@ -166,6 +166,7 @@ first_moment_stands law = record {
     agree = λ k s at. absurd (let none = get-empty {X = Resolving Metric} nat_cmp k in cc);
     counted = λ k s at. absurd (let none = get-empty {X = Resolving Metric} nat_cmp k in cc);
     strangers = λ k peer none s. ap is_some (get-empty {X = Option Network} interest_cmp (record { subnet = s; client = k }));
+    matches = λ i found at. absurd (let none = get-empty {X = Option Network} interest_cmp i in cc);
   };
   exits = record {
     rows = λ k c at. absurd (let none = get-empty {X = Chained} nat_cmp k in cc);

@@ -65,6 +65,7 @@ stands_forward m me e r x stands since agreed sound all stand profile sessions r
     agree = strangers_agree m.hops 0 m.registry r stands.hops.sound (none_at_zero m stands) agreed.others stands.hops.agree;
     counted = stands.hops.counted;
     strangers = strangers_stay m r stands agreed.others;
+    matches = agreed.stands;
   };
   exits = record {
     rows = stands.exits.rows;

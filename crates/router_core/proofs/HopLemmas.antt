@@ -3,6 +3,7 @@ use Rattle.router_core.proofs.Common.{sym, subst, ◌∙◌, ap, ◌≡◌, ℕ,
 use Rattle.std.proofs.Common.{[], Option, Some, None, is_some, IsSome}
 use Rattle.std.specs.FinMap as tables
 use Rattle.register_interest.specs.declared.interests.Interest.{Interest}
+use Rattle.register_interest.specs.Covers.{matched}
 use Rattle.register_interest.specs.Interests.{without}
 use Rattle.register_interest.specs.Registers.{KeepsAnswers}
 use Rattle.nexthop_resolver.specs.Registered.{KeepsOthers}
@@ -120,6 +121,7 @@ hops_quiet m cs stands quiet same = record {
   agree = stands.hops.agree;
   counted = subst (λ (u : PeerRows). AllCounted u m.hops) (λ i j. sym (quiet j) i) stands.hops.counted;
   strangers = stands.hops.strangers;
+  matches = stands.hops.matches;
 }
 
 no_resolver : (o p : Option (Resolving Metric)) → is_some p ≡ is_some o → p ≡ None → o ≡ None
@@ -145,6 +147,7 @@ hops_fall m k fallen cs r h stands agreed counted quiet there same = record {
   agree = agreed.agree;
   counted = subst (λ (u : PeerRows). AllCounted u h) (sym quiet) counted;
   strangers = strangers_stay k m.registry r m.hops h agreed.others agreed.peers there stands.hops.strangers;
+  matches = agreed.stands;
 }
 
 -- where the register gave interests up
@@ -155,6 +158,10 @@ hops_reached m reached r h stands given answers below = record {
   agree = below.agree m.registry r stands.hops.agree given answers;
   counted = below.stays.counted (filt_at m.chains) stands.hops.counted;
   strangers = λ k own none s. kept (record { subnet = s; client = k }) (tables.get r.interests (record { subnet = s; client = k })) refl (stands.hops.strangers k own (no_resolver (resolver_at k m.hops) (resolver_at k h) (below.stays.peers k) none) s);
+  matches = λ i found at.
+    let same = answers i found at in
+    let was = stands.hops.matches i found same.0 in
+    (was.0, λ a holds. ap matched (same.1 a holds) ∙ was.1 a holds);
 }
   where
     kept : (i : Interest) (o : Option (Option Network)) → tables.get r.interests i ≡ o → is_some (tables.get m.registry.interests i) ≡ false → is_some o ≡ false

@@ -160,6 +160,7 @@ module _ (m : Moment) (me : Speaker) (k : ℕ) (words : Speaker) (is_local : m.d
       agree = begins.agree m.registry (stands.hops.strangers k (not_zero k small.0) no_resolver_yet) stands.hops.agree;
       counted = begins.counted (filt_at (put_chain k fresh m.chains)) no_upper (subst (λ (u : PeerRows). AllCounted u m.hops) (λ i j. sym (quiet j) i) stands.hops.counted);
       strangers = λ j positive none. stands.hops.strangers j positive (none_then j none);
+      matches = stands.hops.matches;
     };
     exits = record {
       rows = put_heard m.declared.profile k fresh m.chains (put_chain k fresh m.chains) refl (λ p row is. absurd (no_row_at_first p row is)) stands.exits.rows;

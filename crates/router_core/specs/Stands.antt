@@ -23,7 +23,7 @@ use Rattle.rib_exit.specs.declared.exit.RibExit.{RibExit}
 use Rattle.rib_exit.specs.Exits.{nothing_yet, IsExit, AgreesWith, StandsOver}
 use Rattle.redist.specs.declared.protos.Protos.{Protos}
 use Rattle.redist.specs.Protocols.{no_protos}
-use Rattle.register_interest.specs.Registers.{Registry}
+use Rattle.register_interest.specs.Registers.{Registry, AllStand as MatchesStand}
 use Rattle.router_core.specs.Moments.{Moment, Cored, Policies, rules_to, best_of, read_of}
 use Rattle.router_core.specs.Printable.{IsPrintableMoment}
 use Rattle.rib_route.specs.declared.rows.Interior.{Interior}
@@ -100,13 +100,15 @@ pub record PeersStand (local : Option Speaker) (peers : List DeclaredPeer) (a : 
   pub numbers : (k : ℕ) → IsSome (chain_at k a) → (1 ≤ k) × (k ≤ 64)
 
 -- The resolvers: exactly the peers with chains have one, their next hops that aren't stale have the register's present answers, the next
--- hops which the rows of `filt.K` name are counted, and nobody else but the RIB's exit, client 0, has an interest.
+-- hops which the rows of `filt.K` name are counted, and nobody else but the RIB's exit, client 0, has an interest. What the register has
+-- recorded with an interest is the match that each address of its subnet has: so a change of `int` reaches exactly those that it concerns.
 pub record HopsStand (a : Chains) (r : Registry Interior) (h : Resolvers) : Type 0 where
   pub sound : IsHops h
   pub same : (k : ℕ) → is_some (resolver_at k h) ≡ is_some (chain_at k a)
   pub agree : AllAgree h r
   pub counted : AllCounted (filt_at a) h
   pub strangers : (k : ℕ) → k ≢ 0 → resolver_at k h ≡ None → HasNoInterest k r
+  pub matches : MatchesStand r
 
 -- The exits, and what is sent: each row of a chain, live or lost, is one that octets may hold; what each reader hasn't taken leads to the
 -- rows of `best`, and so does what each peer was sent; messages are written by the profile that was declared, and this speaker's words can
