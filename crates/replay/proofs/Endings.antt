@@ -3,6 +3,7 @@ use Rattle.std.proofs.Common.{◌≡◌, ◌≢◌, ◌⊎◌, ⊎_elim, IfSome,
 use Rattle.std.proofs.lemmas.List.{append-nil}
 use Rattle.std.proofs.Math.Seq.{take-append_seam, take-length}
 use Rattle.std.specs.Io.KnownBytes.{Appends, Consumes, IsAtEnd, Keeps}
+use Rattle.replay.proofs.LiveLines.{lives_through}
 use Rattle.replay.proofs.FirstLinks.{none_at_first}
 use Rattle.replay.proofs.HeardLemmas.{nobody_hears, nothing_sent}
 use Rattle.mrt_reader.specs.Sessions.{nothing_written}
@@ -44,7 +45,7 @@ stepped_front quiet read number m turns pending output s more =
     let front : take (length (lines_in s.done)) (lines_of (read ++ more)) ≡ lines_in s.done = ap (take (length (lines_in s.done))) (lines_behind read s.done pending more s.cut) ∙ take-append_seam (lines_in s.done) (lines_of (pending ++ more)) in
     record {
       count = length (lines_in s.done);
-      output = subst (λ (ls : List (List ℕ)). IsOutput quiet ls output) (sym front) (record { out = s.out; end = m; run = s.run; lawful = s.lawful; heard = s.heard; sent = s.sent; stands = s.stands; text = s.written });
+      output = subst (λ (ls : List (List ℕ)). IsOutput quiet ls output) (sym front) (record { out = s.out; end = m; run = s.run; lawful = s.lawful; live = lives_through (lines_in s.done) s.out m s.run; heard = s.heard; sent = s.sent; stands = s.stands; text = s.written });
     }
 
 -- no memory for a piece that was read
@@ -64,7 +65,7 @@ took_ended quiet left0 left now taken0 taken number m turns pending short p same
   record {
     lines = lines_in p.stepped.done;
     ended = record { done = p.stepped.done; pending = pending; cut = p.stepped.cut; short = short; same = refl };
-    output = record { out = p.stepped.out; end = m; run = p.stepped.run; lawful = p.stepped.lawful; heard = p.stepped.heard; sent = p.stepped.sent; stands = p.stepped.stands; text = p.stepped.written };
+    output = record { out = p.stepped.out; end = m; run = p.stepped.run; lawful = p.stepped.lawful; live = lives_through (lines_in p.stepped.done) p.stepped.out m p.stepped.run; heard = p.stepped.heard; sent = p.stepped.sent; stands = p.stepped.stands; text = p.stepped.written };
   },
 )
 

@@ -1,6 +1,7 @@
 pub mod Lines
 pub mod FirstLinks
 pub mod Runs
+pub mod LiveLines
 pub mod Steps
 pub mod Pieces
 pub mod GoingOn

@@ -24,6 +24,7 @@ use Rattle.replay.specs.Stream.{HasStepped, IsRefusedAt, StepsLine, RefusesLine}
 use Rattle.check_run.proofs.Cuts.{goes_into}
 use Rattle.check_run.proofs.Pieces.{cut_nothing, cut_part_more, cut_line_more, lines_behind, lines_then, pending_is_last, all_ended}
 use Rattle.replay.proofs.Lines.{too_long}
+use Rattle.replay.proofs.LiveLines.{lives_through}
 use Rattle.replay.proofs.Runs.{run_more, run_in_more, verdict_behind}
 
 -- nothing was read
@@ -102,7 +103,7 @@ refused_next quiet text read taken n m turns pending before now line more code s
       code = code;
       refused = ap (verdict_from 1 no_declaration) lines ∙ verdict_behind 1 n first_moment m (lines_in s.done) s.out line more code (omega (arith, s.count, length-map s.done strip_carriage_return)) s.run refused;
       earlier = taken ++ before;
-      output = subst (λ (ls : List (List ℕ)). IsOutput quiet ls (taken ++ before)) (sym front) (record { out = s.out; end = m; run = s.run; lawful = s.lawful; heard = s.heard; sent = s.sent; stands = s.stands; text = s.written });
+      output = subst (λ (ls : List (List ℕ)). IsOutput quiet ls (taken ++ before)) (sym front) (record { out = s.out; end = m; run = s.run; lawful = s.lawful; live = lives_through (lines_in s.done) s.out m s.run; heard = s.heard; sent = s.sent; stands = s.stands; text = s.written });
       written = ap (λ t. taken ++ t) written ∙ sym (append_assoc taken before (line_text (Refused n code)));
     }
 
@@ -123,20 +124,23 @@ refused_long quiet read taken n m turns pending before now part other long was e
 
 -- the input ends with a whole line
 pub ends_clean : (quiet : Bool) (read : List ℕ) (n : ℕ) (m : Moment) (turns : ℕ) (pending output : List ℕ) → length pending ≡ 0 → HasStepped quiet read n m turns pending output → IsOutputTo quiet (lines_of read) output m turns
-ends_clean quiet read n m turns pending output none s = record {
-  output = record { out = s.out; end = m; run = subst (λ (ls : List (List ℕ)). Run 1 first_moment ls s.out m) (sym (all_ended read s.done pending none s.cut)) s.run; lawful = s.lawful; heard = s.heard; sent = s.sent; stands = s.stands; text = s.written };
+ends_clean quiet read n m turns pending output none s =
+    let run : Run 1 first_moment (lines_of read) s.out m = subst (λ (ls : List (List ℕ)). Run 1 first_moment ls s.out m) (sym (all_ended read s.done pending none s.cut)) s.run in record {
+  output = record { out = s.out; end = m; run = run; lawful = s.lawful; live = lives_through (lines_of read) s.out m run; heard = s.heard; sent = s.sent; stands = s.stands; text = s.written };
   at = refl;
   taken = subst (λ (ls : List (List ℕ)). RunIn 1 first_moment ls s.out m turns) (sym (all_ended read s.done pending none s.cut)) s.taken;
 }
 
 -- the last line has no LF, and is accepted
 pub ends_line : (quiet : Bool) (read taken : List ℕ) (n : ℕ) (m new : Moment) (turns more : ℕ) (pending before now : List ℕ) → 0 < length pending → HasStepped quiet read n m turns pending (taken ++ before) → StepsLine quiet n m pending before now new more → IsOutputTo quiet (lines_of read) (taken ++ now) new (turns + more)
-ends_line quiet read taken n m new turns more pending before now some s l = record {
+ends_line quiet read taken n m new turns more pending before now some s l =
+    let run : Run 1 first_moment (lines_of read) (s.out ++ l.said) new = subst (λ (ls : List (List ℕ)). Run 1 first_moment ls (s.out ++ l.said) new) (sym (pending_is_last read s.done pending some s.cut)) (run_line quiet n m new more s.done s.out pending before now s.count s.run l) in record {
   output = record {
     out = s.out ++ l.said;
     end = new;
-    run = subst (λ (ls : List (List ℕ)). Run 1 first_moment ls (s.out ++ l.said) new) (sym (pending_is_last read s.done pending some s.cut)) (run_line quiet n m new more s.done s.out pending before now s.count s.run l);
+    run = run;
     lawful = lawful_more s.out l.said m new (l.leads (entries_of s.out) s.lawful);
+    live = lives_through (lines_of read) (s.out ++ l.said) new run;
     heard = l.hears s.out s.heard;
     sent = l.step.sent;
     stands = l.stands;

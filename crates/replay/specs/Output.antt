@@ -10,6 +10,7 @@ use Rattle.event_text.specs.declared.event.Event.TheVariants.{Idle}
 use Rattle.router_core.specs.Moments.{Moment, first_moment, router_links}
 use Rattle.router_core.specs.Stands.{Stands}
 use Rattle.live_state.specs.Declared.{declared_after}
+use Rattle.live_state.specs.Lives.{LiveState, LiveAfter, first_live}
 use Rattle.router_core.specs.Scratch.{IsExact, IsExactAtRest}
 use Rattle.router_core.specs.Blocks.{Acts}
 use Rattle.exit_laws.specs.Views.{views_of}
@@ -45,14 +46,22 @@ RunIn n m (line ∷ lines) out end turns =
     (said rest : List Line) × (next : Moment) × (more : ℕ) × (step : Step n m line said next) × (out ≡ said ++ rest) × (turns ≡ step.turns + more)
     × RunIn (n + 1) next lines rest end more
 
+-- What the events of lines from number n on, each of which is accepted, make of what is live, one after the other. No work is named
+-- here, and no moment: the lines alone say it.
+abbrev pub LiveThrough : ℕ → LiveState → List (List ℕ) → LiveState → Type 0
+LiveThrough n live [] end = end ≡ live
+LiveThrough n live (line ∷ lines) end =
+    (event : Event) × (next : LiveState) × (judge n live.declared line ≡ Ok event) × LiveAfter live event next × LiveThrough (n + 1) next lines end
+
 -- An allowed output for lines that are all accepted. Its whole journal obeys the rules, from no link at all to the links at
--- the end. What each peer hears in it, by the octets that it is sent, are at the end the rows of its `adv.J.S`. Where the output is
--- quiet, the journal's lines aren't printed.
+-- the end. What is live then is what the events of the lines make of nothing, whatever work was done. What each peer hears in it, by the
+-- octets that it is sent, are at the end the rows of its `adv.J.S`. Where the output is quiet, the journal's lines aren't printed.
 pub record IsOutput (quiet : Bool) (lines : List (List ℕ)) (bytes : List ℕ) : Type 0 where
   pub out : List Line
   pub end : Moment
   pub run : Run 1 first_moment lines out end
   pub lawful : Leads no_links (entries_of out) (router_links end)
+  pub live : LiveThrough 1 first_live lines (live_state end)
   pub heard : AreHeard out end
   pub sent : AreSent end (views_of end.exits)
   pub stands : Stands end
