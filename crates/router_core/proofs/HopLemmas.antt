@@ -5,7 +5,7 @@ use Rattle.std.specs.FinMap as tables
 use Rattle.register_interest.specs.declared.interests.Interest.{Interest}
 use Rattle.register_interest.specs.Covers.{matched}
 use Rattle.register_interest.specs.Interests.{without}
-use Rattle.register_interest.specs.Registers.{KeepsAnswers}
+use Rattle.register_interest.specs.Registers.{KeepsAnswers, AllStand as MatchesStand}
 use Rattle.nexthop_resolver.specs.Registered.{KeepsOthers}
 use Rattle.journal_text.proofs.JournalLemmas.{with_entries_none}
 use Rattle.link_region.specs.declared.regions.Region.TheVariants.{External}
@@ -169,14 +169,14 @@ hops_reached m reached r h stands given answers below = record {
     kept i (Some m0) is none = absurd (let was : is_some (tables.get m.registry.interests i) ≡ true = ap is_some (answers i m0 is).0 in let clash : true ≡ false = sym was ∙ none in cc)
 
 -- ---- what follows a change on `filt.K`, whether one came out or not
-pub resolved_none : (k : ℕ) (r : Registry Interior) (h : Resolvers) (j : Journaled) → IsHops h → AllAgree h r → Adds (ResolvesOn k None None r r h h) j j
-resolved_none k r h j sound agree = (
+pub resolved_none : (k : ℕ) (r : Registry Interior) (h : Resolvers) (j : Journaled) → IsHops h → AllAgree h r → MatchesStand r → Adds (ResolvesOn k None None r r h h) j j
+resolved_none k r h j sound agree matches = (
   [],
   sym (with_entries_none j),
   record {
     lines = refl;
     resolves = (refl, refl, refl);
-    agreed = record { sound = sound; agree = agree; others = record { rows = refl; interests = λ i other. refl }; peers = λ j. refl };
+    agreed = record { sound = sound; agree = agree; others = record { rows = refl; interests = λ i other. refl }; peers = λ j. refl; stands = matches };
     goes = λ uppers now p counted comes.
         let same : now ≡ uppers = comes_none k p uppers now comes in
         record {
@@ -201,8 +201,8 @@ resolved_some k change sent r r' h h' before now adds = (
 )
 
 -- by whether one came out
-pub resolved_out : (k : ℕ) (sent : Option (Change Route)) (r : Registry Interior) (h : Resolvers) (j : Journaled) → sent ≡ None → IsHops h → AllAgree h r → Adds (ResolvesOn k sent None r r h h) j j
-resolved_out k sent r h j is sound agree = subst (λ (s : Option (Change Route)). Adds (ResolvesOn k s None r r h h) j j) (sym is) (resolved_none k r h j sound agree)
+pub resolved_out : (k : ℕ) (sent : Option (Change Route)) (r : Registry Interior) (h : Resolvers) (j : Journaled) → sent ≡ None → IsHops h → AllAgree h r → MatchesStand r → Adds (ResolvesOn k sent None r r h h) j j
+resolved_out k sent r h j is sound agree matches = subst (λ (s : Option (Change Route)). Adds (ResolvesOn k s None r r h h) j j) (sym is) (resolved_none k r h j sound agree matches)
 
 pub resolved_in : (k : ℕ) (sent : Option (Change Route)) (change : Change Route) (below : Option (Change Route)) (m v : Moment) (r : Registry Interior) (h : Resolvers) (before now : Journaled) → v ≡ m → sent ≡ Some change
     → Adds (TakesBelow k change below v.registry r v.hops h) before now → Adds (ResolvesOn k sent below m.registry r m.hops h) before now

@@ -47,6 +47,7 @@ impl Network {
         ensures resolves { IfOk result (λ passed. Adds (ResolvesOn number sent passed self.old.registry self.new.registry self.old.hops self.new.hops) journal.old journal.new) }
         ensures after { OnOk result (self.new ≡ with_hops self.old self.new.registry self.new.hops) }
     {
+        self.registry.known();
         let Some(change) = sent else {
             return Ok(None);
         };

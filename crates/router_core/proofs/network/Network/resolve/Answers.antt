@@ -1,9 +1,11 @@
 use Rattle.router_core.proofs.Common.{sym, subst, IfOk-weaker, AllAgree, Moment}
+use Rattle.register_interest.specs.Registers.{AllStand as MatchesStand}
 use Rattle.router_core.proofs.HopLemmas.{resolved_out, resolved_in}
 use Rattle.router_core.proofs.network.Network.resolve.Goals as goal
 
 pub returns-in_default-clause-resolves : goal.returns-in_default-clause-resolves
 returns-in_default-clause-resolves c = resolved_out c.args.number c.args.sent c.args.self.now.registry c.args.self.now.hops c.args.journal.now c.in_default.is c.requires.hops c.requires.agree
+    (subst (λ (m : Moment). MatchesStand m.registry) c.self.view_is c.known.ensures)
 
 pub take_in-requires-clause-agree : goal.take_in-requires-clause-agree
 take_in-requires-clause-agree c = subst (λ (m : Moment). AllAgree m.hops m.registry) (sym c.self.view_is) c.requires.agree
