@@ -11,6 +11,7 @@ Status 0 where all is as expected, 1 where something differs, 2 where Chromium i
 import argparse
 import collections
 import glob
+import json
 import os
 import random
 import statistics
@@ -27,26 +28,51 @@ import large  # noqa: E402
 
 STORIES = ('two_peers', 'loss', 'comes_in_the_middle', 'lost_under_redistribution', 'sixteen_losses')
 
-# What the page shows, read from its elements.
-COUNTS = '''Object.fromEntries(Array.from(document.querySelectorAll('#picture [data-link]:not(.dead)'),
-  drawn => [drawn.dataset.link, Number(drawn.querySelector('.rows').textContent)]))'''
-LINE = '''(() => { const box = document.querySelector('#line'); box.value = %d; box.dispatchEvent(new Event('change'));
-  return Number(document.querySelector('.line.present:not([hidden]) .number').textContent); })()'''
-CHOOSE = '''(() => { const drawn = document.querySelector('#picture [data-link="%s"]:not(.dead)');
-  if (drawn) drawn.dispatchEvent(new MouseEvent('click', {bubbles: true})); return drawn !== null; })()'''
-ROWS = '''(async () => { const list = document.querySelector('#rows .list'); const found = new Map();
-  for (list.scrollTop = 0; ; list.scrollTop += list.clientHeight / 2) {
-    list.dispatchEvent(new Event('scroll'));
-    const rows = Array.from(list.querySelectorAll('.row:not([hidden])'), row => [row.getBoundingClientRect().top, row]);
-    for (const [, row] of rows.sort((one, other) => one[0] - other[0])) {
-      found.set(row.children[0].textContent, row.children[1].textContent);
+# What the page shows, read from its elements; put into the page, so that many questions cost one call.
+PROBE = '''var probe = {
+  counts: () => Object.fromEntries(Array.from(document.querySelectorAll('#picture [data-link]:not(.dead)'),
+    drawn => [drawn.dataset.link, Number(drawn.querySelector('.rows').textContent)])),
+  line: number => {
+    const box = document.querySelector('#line');
+    box.value = number;
+    box.dispatchEvent(new Event('change'));
+    return Number(document.querySelector('.line.present:not([hidden]) .number').textContent);
+  },
+  key: key => { document.body.dispatchEvent(new KeyboardEvent('keydown', {key, bubbles: true})); },
+  rows: async () => {
+    const list = document.querySelector('#rows .list');
+    const found = new Map();
+    for (list.scrollTop = 0; ; list.scrollTop += list.clientHeight / 2) {
+      list.dispatchEvent(new Event('scroll'));
+      const rows = Array.from(list.querySelectorAll('.row:not([hidden])'), row => [row.getBoundingClientRect().top, row]);
+      for (const [, row] of rows.sort((one, other) => one[0] - other[0])) {
+        found.set(row.children[0].textContent, row.children[1].textContent);
+      }
+      if (list.scrollTop + list.clientHeight >= list.scrollHeight - 1) return Array.from(found);
     }
-    if (list.scrollTop + list.clientHeight >= list.scrollHeight - 1) return Array.from(found);
-  } })()'''
-FILLED = '''(() => { const box = document.querySelector('#filter'); box.value = '%s';
-  box.dispatchEvent(new Event('input'));
-  const found = Array.from(document.querySelectorAll('#picture .has'), drawn => drawn.dataset.link).sort();
-  box.value = ''; box.dispatchEvent(new Event('input')); return found; })()'''
+  },
+  table: async link => {
+    const drawn = document.querySelector(`#picture [data-link="${link}"]:not(.dead)`);
+    if (!drawn) return null;
+    drawn.dispatchEvent(new MouseEvent('click', {bubbles: true}));
+    const form = document.querySelector('#form');
+    if (form.textContent === 'as printed') form.click();
+    return probe.rows();
+  },
+  filled: prefix => {
+    const box = document.querySelector('#filter');
+    const filter = text => { box.value = text; box.dispatchEvent(new Event('input')); };
+    filter(prefix);
+    const found = Array.from(document.querySelectorAll('#picture .has'), drawn => drawn.dataset.link).sort();
+    filter('');
+    return found;
+  },
+  all: async questions => {
+    const answers = [];
+    for (const [name, ...words] of questions) answers.push(await probe[name](...words));
+    return answers;
+  },
+};'''
 COMPLAINT = '''(box => box.hidden ? '' : box.textContent)(document.querySelector('#complaint'))'''
 STEPS = '''(() => { const spent = []; for (const told of %s) { const begun = performance.now();
   if (typeof told === 'number') view.go(told); else view.step(...told);
@@ -118,62 +144,65 @@ def example(name):
     return os.path.join(TOP, 'examples', name)
 
 
+def open_page(page):
+    page.open(os.path.join(HERE, 'index.html'))
+    page.ask(PROBE)
+
+
+def asked(page, *questions):
+    """The answers of the page to questions of PROBE, in their order."""
+    return page.ask('probe.all(%s)' % json.dumps(questions))
+
+
 def open_file(page, path, drop=True):
     """Opens a file, in the page as it is; the complaint, or nothing."""
     page.failures.clear()
     if page.at is None:
-        page.open(os.path.join(HERE, 'index.html'))
+        open_page(page)
     before = page.ask('view.opened')
     (page.drop if drop else page.choose)(path)
     page.wait('view.opened > %d' % before)
     return page.ask(COMPLAINT)
 
 
-def shown_rows(page, name):
-    """The rows that the page shows of a link, as printed; None where the picture hasn't the link."""
-    if not page.ask(CHOOSE % name):
-        return None
-    if page.ask("document.querySelector('#form').textContent") == 'as printed':
-        page.ask("document.querySelector('#form').click()")
-    return page.ask(ROWS)
-
-
 def check_answers(page, name, lines):
     """What `show` and `ask` printed, beside what the page shows at those lines."""
-    told = []
+    told, wanted, questions = [], [], []
     for number, line in enumerate(lines, 1):
         words = line.split(' ')
         if words[0] == 'row':
             told.append(words[2:4])
-        elif words[0] == 'rows':
-            expect('%s:%d line' % (name, number), number, page.ask(LINE % number))
-            expect('%s:%d %s' % (name, number, line), told, shown_rows(page, words[1]))
+        elif words[0] in ('rows', '?'):
+            questions += [['line', number], ['table', words[1]]]
+            wanted.append((number, line, words, told))
+            told = []
+    answers = asked(page, *questions)
+    for place, (number, line, words, told) in enumerate(wanted):
+        expect('%s:%d line' % (name, number), number, answers[2 * place])
+        rows = answers[2 * place + 1]
+        if words[0] == 'rows':
+            expect('%s:%d %s' % (name, number, line), told, rows)
             compared['tables of show'] += 1
             compared['rows of them'] += len(told)
-            told = []
-        elif words[0] == '?':
-            page.ask(LINE % number)
-            rows = dict(map(tuple, shown_rows(page, words[1]) or []))
-            expect('%s:%d %s' % (name, number, line), words[3], rows.get(words[2], '-'))
+        else:
+            expect('%s:%d %s' % (name, number, line), words[3], dict(map(tuple, rows or [])).get(words[2], '-'))
             compared['answers of ask'] += 1
 
 
 def check_each_line(page, name, lines):
-    """How many rows each link has, behind each line: forward by key, then back, then at random."""
+    """How many rows each link has, behind each line: forward by key, then back; and some lines at random."""
     walk = Walk(lines)
-    page.ask(LINE % 1)
-    for number in range(1, len(lines) + 1):
-        walk.go(number)
-        expect('%s:%d rows of all links' % (name, number), walk.counts(), page.ask(COUNTS))
-        compared['lines, all counts'] += 1
-        page.press('ArrowRight')
-    for number in range(len(lines) - 1, 0, -1):
-        page.press('ArrowLeft')
-        if number % 7 == 0:
+    for key, numbers in (('ArrowRight', range(2, len(lines) + 1)), ('ArrowLeft', range(len(lines) - 1, 0, -1))):
+        page.ask('probe.line(%d)' % (numbers[0] - (1 if key == 'ArrowRight' else -1)))
+        answers = asked(page, *(question for _ in numbers for question in (['key', key], ['counts'])))[1::2]
+        for number, found in sorted(zip(numbers, answers)):
             walk.go(number)
-            expect('%s:%d rows of all links, backward' % (name, number), walk.counts(), page.ask(COUNTS))
+            expect('%s:%d rows of all links, %s' % (name, number, key), walk.counts(), found)
             compared['lines, all counts'] += 1
-    page.ask(LINE % 1)
+    page.ask('probe.line(1)')
+    for key in ('ArrowRight', 'ArrowDown', 'PageDown', 'ArrowLeft', 'Home', 'End'):
+        page.press(key)
+    expect('%s: the line that keys come to' % name, len(lines), page.ask('view.line'))
     for _ in range(6):
         check_any_line(page, name, walk, random.randint(1, len(lines)))
     if len(lines) < 300:
@@ -183,35 +212,35 @@ def check_each_line(page, name, lines):
 
 def check_kept_table(page, name, walk, link):
     """The rows of a link that stays the chosen one: forward by key and back."""
-    lines = len(walk.lines)
     begin = next((number for number, text in enumerate(walk.lines, 1) if text.split(' ')[1:2] == [link]), None)
     if begin is None:
         return
-    page.ask(LINE % begin)
-    shown_rows(page, link)
-    for key, numbers in (('ArrowRight', range(begin + 1, lines + 1)), ('ArrowLeft', range(lines - 1, begin - 1, -1))):
-        for number in numbers:
-            page.press(key)
-            if key == 'ArrowRight' or number % 5 == 0:
-                walk.go(number)
-                expect('%s:%d %s, kept' % (name, number, link), walk.rows(link) if link in walk.links else [], page.ask(ROWS))
-                compared['tables of the walk'] += 1
+    asked(page, ['line', begin], ['table', link])
+    for key, numbers in (('ArrowRight', range(begin + 1, len(walk.lines) + 1)),
+                         ('ArrowLeft', range(len(walk.lines) - 1, begin - 1, -1))):
+        answers = asked(page, *(question for _ in numbers for question in (['key', key], ['rows'])))[1::2]
+        for number, found in sorted(zip(numbers, answers)):
+            walk.go(number)
+            expect('%s:%d %s, kept' % (name, number, link), walk.rows(link) if link in walk.links else [], found)
+            compared['tables of the walk'] += 1
 
 
 def check_any_line(page, name, walk, number, most=40):
-    """All counts behind a line, and the rows of links that are live there."""
+    """All counts behind a line, the rows of links that are live there, and the links that have a row at a prefix."""
     walk.go(number)
-    page.ask(LINE % number)
-    expect('%s:%d rows of all links' % (name, number), walk.counts(), page.ask(COUNTS))
-    compared['lines, all counts'] += 1
-    links = sorted(walk.links)
-    for link in random.sample(links, min(len(links), most)):
-        expect('%s:%d %s' % (name, number, link), walk.rows(link), shown_rows(page, link))
-        compared['tables of the walk'] += 1
+    links = random.sample(sorted(walk.links), min(len(walk.links), most))
     prefixes = sorted({prefix for rows in walk.links.values() for prefix in rows})
-    for prefix in random.sample(prefixes, min(len(prefixes), 3)):
+    prefixes = random.sample(prefixes, min(len(prefixes), 3))
+    counts, *answers = asked(page, ['line', number], ['counts'], *(['table', link] for link in links),
+                             *(['filled', prefix] for prefix in prefixes))[1:]
+    expect('%s:%d rows of all links' % (name, number), walk.counts(), counts)
+    compared['lines, all counts'] += 1
+    for link, found in zip(links, answers):
+        expect('%s:%d %s' % (name, number, link), walk.rows(link), found)
+        compared['tables of the walk'] += 1
+    for prefix, found in zip(prefixes, answers[len(links):]):
         filled = sorted(link for link, rows in walk.links.items() if prefix in rows)
-        expect('%s:%d filled at %s' % (name, number, prefix), filled, page.ask(FILLED % prefix))
+        expect('%s:%d filled at %s' % (name, number, prefix), filled, found)
         compared['links with a row at a prefix'] += 1
 
 
@@ -295,7 +324,7 @@ class Timings:
 def check_large(page, name, path):
     """A large journal: some lines by the walk, and timings."""
     lines = lines_of(path)
-    page.open(os.path.join(HERE, 'index.html'))
+    open_page(page)
     before = page.seconds()
     page.choose(path)
     page.wait('view.opened > 0')
