@@ -35,8 +35,21 @@ TAKEN = ('as4', 'revised', 'local', 'peer', 'filter', 'route', 'redist')
 ASKED = ('show', 'ask', 'settled')
 OPEN_SENT, OPEN_CONFIRM, ESTABLISHED, ENDED = 'OpenSent', 'OpenConfirm', 'Established', 'ended'
 OPENED_WITHIN = 10  # seconds
+FOUR_OCTETS = 65  # a capability (RFC 6793)
 READ = 1 << 16
 CEASE, HOLD_TIMER = (6, 2), (4, 0)  # codes and subcodes of NOTIFICATIONs
+
+
+def capabilities(parameters):
+    """The codes of the capabilities among an OPEN's parameters (RFC 5492)."""
+    found, at = set(), 0
+    while at + 2 <= len(parameters):
+        kind, value = parameters[at], parameters[at + 2:at + 2 + parameters[at + 1]]
+        at += 2 + len(value)
+        while kind == 2 and len(value) >= 2:
+            found.add(value[0])
+            value = value[2 + value[1]:]
+    return found
 
 
 class Refused(Exception):
@@ -265,7 +278,9 @@ class Speaker:
             return 2, 2
         if hold in (1, 2):
             return 2, 6
-        return (2, 3) if body[5:9] == bytes(4) else None
+        if body[5:9] == bytes(4):
+            return 2, 3
+        return (2, 7) if self.wanted.wide and FOUR_OCTETS not in capabilities(body[10:]) else None
 
     def timers(self):
         now = time.monotonic()
