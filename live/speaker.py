@@ -60,7 +60,10 @@ class Program:
     """One `replay run`. A thread puts the lines that it prints into a queue, so that neither side waits for the other."""
 
     def __init__(self, words, wake):
-        self.process = subprocess.Popen(words + ['run', '--quiet'], stdin=subprocess.PIPE, stdout=subprocess.PIPE, start_new_session=True)
+        try:
+            self.process = subprocess.Popen(words + ['run', '--quiet'], stdin=subprocess.PIPE, stdout=subprocess.PIPE, start_new_session=True)
+        except OSError as error:
+            raise Refused('%s: %s (README.md says how the program is built)' % (words[0], error.strerror)) from error
         self.lines, self.wake = queue.SimpleQueue(), wake
         threading.Thread(target=self.listen, daemon=True).start()
 
@@ -360,7 +363,7 @@ def main():
     except KeyboardInterrupt:
         return 0
     except (OSError, UnicodeDecodeError, Refused) as error:
-        print('speaker.py: %s' % error, file=sys.stderr)
+        print('speaker.py: %s' % (getattr(error, 'strerror', None) or error), file=sys.stderr)
         return 2
     finally:
         if speaker:
