@@ -2,7 +2,8 @@
 import re
 
 from eventfile import DISTANCES, masked
-from router import Best, Failed, Router, bounds, flat, origin
+from program import Best
+from router import Failed, Router, bounds, flat, origin
 
 ORIGINS = ('ORIGIN_IGP', 'ORIGIN_EGP', 'ORIGIN_INCOMPLETE')
 SETS = {'pref': 'bgp_local_pref = %d;', 'med': 'bgp_med = %d;', 'nomed': 'unset(bgp_med);', 'prepend': 'prepends = %d;'}

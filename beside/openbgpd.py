@@ -1,8 +1,10 @@
 """OpenBGPD beside `replay` (Debian's `openbgpd`). On Linux it sees no routes of the kernel: each next hop is taken to be reachable."""
+import json
 import os
 
 from eventfile import masked
-from router import Best, Failed, Router, bounds, flat, origin, parsed
+from program import Best
+from router import Failed, Router, bounds, flat, origin
 
 HEAD = '''AS %(asn)d
 router-id %(identifier)s
@@ -90,7 +92,7 @@ class OpenBgpd(Router):
     def best(self):
         numbers = self.numbers()
         found = {}
-        for one in parsed(self.control('-j show rib best')).get('rib', []):
+        for one in json.loads(self.control('-j show rib best')).get('rib', []):
             number = numbers.get(one['neighbor']['remote_addr'], 0)
             found[one['prefix']] = Best(number, one['localpref'], one['metric'], flat(one['aspath']), origin(one['origin']),
                                         one.get('exit_nexthop')) if number else Best(0, None, None, None, None, None)

@@ -9,14 +9,12 @@ To plug another daemon in, make a class with these methods, and name it in `rout
   revive     whatever it needs so that a peer whose session ended can come back at once
   best       its best routes
 """
-import json
 import os
 import re
 import shutil
 import subprocess
 
 import namespaces
-from program import Best
 
 LIMIT = 20  # seconds that one command to a daemon may take
 
@@ -38,7 +36,8 @@ class Router:
 
     @classmethod
     def version(cls):
-        said = subprocess.run(['dpkg-query', '-W', '-f', '${Version}', cls.package], stdout=subprocess.PIPE, stderr=subprocess.DEVNULL, check=False)
+        said = subprocess.run(['dpkg-query', '-W', '-f', '${Version}', cls.package],
+                              stdout=subprocess.PIPE, stderr=subprocess.DEVNULL, check=False)
         return said.stdout.decode() or 'unknown'
 
     @classmethod
@@ -126,9 +125,3 @@ def changed(before, now):
     """What differs between two tables: keys that went, and those that came or changed."""
     return sorted(set(before) - set(now)), sorted(key for key in now if before.get(key) != now[key])
 
-
-def parsed(text):
-    return json.loads(text)
-
-
-__all__ = ['Best', 'Failed', 'Router', 'bounds', 'changed', 'flat', 'origin', 'parsed']

@@ -17,14 +17,11 @@ Each difference is printed with the words of docs/BGP.md that explain it (explai
 Needs root, Linux' network namespaces (`ip`), and Debian's `bird2`, `frr` or `openbgpd`.
 """
 import argparse
-import collections
 import copy
-import ipaddress
 import os
 import signal
 import sys
 import tempfile
-import threading
 import time
 
 import eventfile
@@ -33,49 +30,13 @@ import namespaces
 import program
 import router
 import session
-import wire
+from compare import Counts, Difference, notes_apart, rows_apart
+from heard import Heard
 from routers import ROUTERS
 
-CONNECTED_WITHIN, OPENED_WITHIN = 40, 15  # seconds
+CONNECTED_WITHIN = 40  # seconds
 QUIET, LONG_QUIET, AT_MOST = .5, 3.0, 30.0  # seconds without an UPDATE, where all is equal, and where it isn't; and in all
-
 SHOWN = 120  # characters of a value in a report
-
-Difference = collections.namedtuple('Difference', 'kind peer prefix ours theirs')
-Counts = collections.Counter
-
-
-class Heard(session.Connection):
-    """A peer's side of a session: what it holds of what the router sent it."""
-
-    def __init__(self, made, width):
-        super().__init__(made)
-        self.width, self.held, self.notes, self.is_up, self.last = width, {}, [], False, time.monotonic()
-
-    def begin(self, peer, hold=0):
-        self.open(wire.opening(peer.asn, peer.identifier, hold, self.width == 4), OPENED_WITHIN)
-        self.is_up = True
-        threading.Thread(target=self.listen, daemon=True).start()
-
-    def listen(self):
-        try:
-            while True:
-                kind, body = self.read()
-                self.last = time.monotonic()
-                if kind == wire.UPDATE:
-                    wire.take(self.held, body)
-                elif kind == wire.NOTIFICATION:
-                    self.notes.append(wire.message(kind, body).hex())
-        except (OSError, EOFError):
-            pass
-        except ValueError as error:
-            self.notes.append('malformed: %s' % error)  # what the router sent can't be read: a difference at the next `idle`
-        self.is_up = False
-        self.last = time.monotonic()
-
-    def rows(self):
-        """What it holds, as rows; nothing once the session has ended."""
-        return {prefix: wire.text(said, self.width) for prefix, said in list(self.held.items())} if self.is_up else {}
 
 
 class Run:
@@ -229,26 +190,6 @@ class Run:
             self.router.stop()
         for name in self.names:
             namespaces.delete(name)
-
-
-def same(ours, theirs):
-    """Whether two rows are alike; what a daemon doesn't tell is None, and no difference."""
-    if ours is None or theirs is None or isinstance(ours, str):
-        return ours == theirs
-    return all(one == other for one, other in zip(ours, theirs) if one is not None and other is not None)
-
-
-def rows_apart(kind, peer, ours, theirs, counts):
-    keys = sorted(set(ours) | set(theirs), key=ipaddress.ip_network)
-    counts[kind] += len(keys)
-    return [Difference(kind, peer, key, ours.get(key), theirs.get(key)) for key in keys if not same(ours.get(key), theirs.get(key))]
-
-
-def notes_apart(peer, ours, theirs, counts):
-    counts['notifications'] += max(len(ours), len(theirs))
-    size = max(len(ours), len(theirs))
-    pairs = zip(ours + [None] * (size - len(ours)), theirs + [None] * (size - len(theirs)))
-    return [Difference('notification', peer, None, *pair) for pair in pairs if pair[0] != pair[1]]
 
 
 def told(value):

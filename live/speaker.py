@@ -35,8 +35,21 @@ TAKEN = ('as4', 'revised', 'local', 'peer', 'filter', 'route', 'redist')
 ASKED = ('show', 'ask', 'settled')
 OPEN_SENT, OPEN_CONFIRM, ESTABLISHED, ENDED = 'OpenSent', 'OpenConfirm', 'Established', 'ended'
 OPENED_WITHIN = 10  # seconds
+FOUR_OCTETS = 65  # a capability (RFC 6793)
 READ = 1 << 16
 CEASE, HOLD_TIMER = (6, 2), (4, 0)  # codes and subcodes of NOTIFICATIONs
+
+
+def capabilities(parameters):
+    """The codes of the capabilities among an OPEN's parameters (RFC 5492)."""
+    found, at = set(), 0
+    while at + 2 <= len(parameters):
+        kind, value = parameters[at], parameters[at + 2:at + 2 + parameters[at + 1]]
+        at += 2 + len(value)
+        while kind == 2 and len(value) >= 2:
+            found.add(value[0])
+            value = value[2 + value[1]:]
+    return found
 
 
 class Refused(Exception):
@@ -47,7 +60,10 @@ class Program:
     """One `replay run`. A thread puts the lines that it prints into a queue, so that neither side waits for the other."""
 
     def __init__(self, words, wake):
-        self.process = subprocess.Popen(words + ['run', '--quiet'], stdin=subprocess.PIPE, stdout=subprocess.PIPE, start_new_session=True)
+        try:
+            self.process = subprocess.Popen(words + ['run', '--quiet'], stdin=subprocess.PIPE, stdout=subprocess.PIPE, start_new_session=True)
+        except OSError as error:
+            raise Refused('%s: %s (README.md says how the program is built)' % (words[0], error.strerror)) from error
         self.lines, self.wake = queue.SimpleQueue(), wake
         threading.Thread(target=self.listen, daemon=True).start()
 
@@ -265,7 +281,9 @@ class Speaker:
             return 2, 2
         if hold in (1, 2):
             return 2, 6
-        return (2, 3) if body[5:9] == bytes(4) else None
+        if body[5:9] == bytes(4):
+            return 2, 3
+        return (2, 7) if self.wanted.wide and FOUR_OCTETS not in capabilities(body[10:]) else None
 
     def timers(self):
         now = time.monotonic()
@@ -345,7 +363,7 @@ def main():
     except KeyboardInterrupt:
         return 0
     except (OSError, UnicodeDecodeError, Refused) as error:
-        print('speaker.py: %s' % error, file=sys.stderr)
+        print('speaker.py: %s' % (getattr(error, 'strerror', None) or error), file=sys.stderr)
         return 2
     finally:
         if speaker:
