@@ -126,29 +126,29 @@ refused_long quiet read taken n m turns pending before now part other long was e
 pub ends_clean : (quiet : Bool) (read : List ℕ) (n : ℕ) (m : Moment) (turns : ℕ) (pending output : List ℕ) → length pending ≡ 0 → HasStepped quiet read n m turns pending output → IsOutputTo quiet (lines_of read) output m turns
 ends_clean quiet read n m turns pending output none s =
     let run : Run 1 first_moment (lines_of read) s.out m = subst (λ (ls : List (List ℕ)). Run 1 first_moment ls s.out m) (sym (all_ended read s.done pending none s.cut)) s.run in record {
-  output = record { out = s.out; end = m; run = run; lawful = s.lawful; live = lives_through (lines_of read) s.out m run; heard = s.heard; sent = s.sent; stands = s.stands; text = s.written };
-  at = refl;
-  taken = subst (λ (ls : List (List ℕ)). RunIn 1 first_moment ls s.out m turns) (sym (all_ended read s.done pending none s.cut)) s.taken;
-}
+      output = record { out = s.out; end = m; run = run; lawful = s.lawful; live = lives_through (lines_of read) s.out m run; heard = s.heard; sent = s.sent; stands = s.stands; text = s.written };
+      at = refl;
+      taken = subst (λ (ls : List (List ℕ)). RunIn 1 first_moment ls s.out m turns) (sym (all_ended read s.done pending none s.cut)) s.taken;
+    }
 
 -- the last line has no LF, and is accepted
 pub ends_line : (quiet : Bool) (read taken : List ℕ) (n : ℕ) (m new : Moment) (turns more : ℕ) (pending before now : List ℕ) → 0 < length pending → HasStepped quiet read n m turns pending (taken ++ before) → StepsLine quiet n m pending before now new more → IsOutputTo quiet (lines_of read) (taken ++ now) new (turns + more)
 ends_line quiet read taken n m new turns more pending before now some s l =
     let run : Run 1 first_moment (lines_of read) (s.out ++ l.said) new = subst (λ (ls : List (List ℕ)). Run 1 first_moment ls (s.out ++ l.said) new) (sym (pending_is_last read s.done pending some s.cut)) (run_line quiet n m new more s.done s.out pending before now s.count s.run l) in record {
-  output = record {
-    out = s.out ++ l.said;
-    end = new;
-    run = run;
-    lawful = lawful_more s.out l.said m new (l.leads (entries_of s.out) s.lawful);
-    live = lives_through (lines_of read) (s.out ++ l.said) new run;
-    heard = l.hears s.out s.heard;
-    sent = l.step.sent;
-    stands = l.stands;
-    text = written_more quiet s.out l.said taken before now s.written l.written;
-  };
-  at = refl;
-  taken = subst (λ (ls : List (List ℕ)). RunIn 1 first_moment ls (s.out ++ l.said) new (turns + more)) (sym (pending_is_last read s.done pending some s.cut)) (run_line_in quiet n m new turns more s.done s.out pending before now s.count s.taken l);
-}
+      output = record {
+        out = s.out ++ l.said;
+        end = new;
+        run = run;
+        lawful = lawful_more s.out l.said m new (l.leads (entries_of s.out) s.lawful);
+        live = lives_through (lines_of read) (s.out ++ l.said) new run;
+        heard = l.hears s.out s.heard;
+        sent = l.step.sent;
+        stands = l.stands;
+        text = written_more quiet s.out l.said taken before now s.written l.written;
+      };
+      at = refl;
+      taken = subst (λ (ls : List (List ℕ)). RunIn 1 first_moment ls (s.out ++ l.said) new (turns + more)) (sym (pending_is_last read s.done pending some s.cut)) (run_line_in quiet n m new turns more s.done s.out pending before now s.count s.taken l);
+    }
 
 -- the last line has no LF, and is refused
 pub ends_refused : (quiet : Bool) (read taken : List ℕ) (n : ℕ) (m : Moment) (turns : ℕ) (pending before now : List ℕ) → 0 < length pending → HasStepped quiet read n m turns pending (taken ++ before) → RefusesLine n m pending before now → IsRefusedOutput quiet read (taken ++ now)

@@ -159,9 +159,9 @@ hops_reached m reached r h stands given answers below = record {
   counted = below.stays.counted (filt_at m.chains) stands.hops.counted;
   strangers = λ k own none s. kept (record { subnet = s; client = k }) (tables.get r.interests (record { subnet = s; client = k })) refl (stands.hops.strangers k own (no_resolver (resolver_at k m.hops) (resolver_at k h) (below.stays.peers k) none) s);
   matches = λ i found at.
-    let same = answers i found at in
-    let was = stands.hops.matches i found same.0 in
-    (was.0, λ a holds. ap matched (same.1 a holds) ∙ was.1 a holds);
+      let same = answers i found at in
+      let was = stands.hops.matches i found same.0 in
+      (was.0, λ a holds. ap matched (same.1 a holds) ∙ was.1 a holds);
 }
   where
     kept : (i : Interest) (o : Option (Option Network)) → tables.get r.interests i ≡ o → is_some (tables.get m.registry.interests i) ≡ false → is_some o ≡ false
