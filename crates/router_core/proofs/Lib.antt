@@ -57,3 +57,4 @@ pub mod PolicyLemmas
 pub mod ReadLemmas
 pub mod ExitsUp
 pub mod RedistEdits
+pub mod FirstLives

@@ -26,6 +26,7 @@ use Rattle.rib_exit.specs.Exits.{known_in as external_known}
 use Rattle.rib_exit.proofs.BusyLemmas.{turns_are_bounded as external_bounded}
 use Rattle.rib_exit.proofs.FewLemmas.{known_are_few as external_are_few}
 use Rattle.exit_side.specs.Exits.{chain_at as exit_at}
+use Rattle.redist.specs.Local.{is_on, local_route}
 use Rattle.router_core.proofs.BeyondLemmas.{tree_within, tree_keys, tree_length, has_tree_key, few_both, external_counted}
 
 -- ---- next hops, and the rows of their peers
@@ -225,8 +226,11 @@ has_entry_key k c q (e ∷ es) at there =
     (λ _ here. let same : c ≡ e.1 = cc in Contains-append_left (chain_keys e.1) (entry_keys es) q ((filtered_rows_are_few e.1).2 q (subst (λ (d : Chained). IsSome (filt_rows d q)) same there)))
     (λ _ rest. Contains-append_right (chain_keys e.1) (entry_keys es) q (has_entry_key k c q es rest there)) at
 
+abbrev peer_keys : Moment → List Network
+peer_keys m = entry_keys (tables.entries m.chains)
+
 abbrev best_keys : Moment → List Network
-best_keys m = entry_keys (tables.entries m.chains) ++ tree_keys m.tree
+best_keys m = peer_keys m ++ tree_keys m.tree
 
 keys_few : (m : Moment) → length (best_keys m) ≤ rows_in m.chains + tree_count m.tree
 keys_few m =
@@ -252,16 +256,16 @@ resolved_there : (o : Option (Resolving Metric)) (upper : Rows Route) (q : Netwo
 resolved_there None upper q r is = absurd (cc)
 resolved_there (Some s) upper q r is = metric_there (function_at (passes s) q) q (upper q) r is
 
-filt_there : (m : Moment) (k : ℕ) (q : Network) → IsSome (filt_at m.chains k q) → Contains (best_keys m) q
+filt_there : (m : Moment) (k : ℕ) (q : Network) → IsSome (filt_at m.chains k q) → Contains (peer_keys m) q
 filt_there m k q there = by_chain (chain_at k m.chains) refl there
   where
-    by_chain : (o : Option Chained) → chain_at k m.chains ≡ o → IsSome (filt_by o q) → Contains (best_keys m) q
+    by_chain : (o : Option Chained) → chain_at k m.chains ≡ o → IsSome (filt_by o q) → Contains (peer_keys m) q
     by_chain None at some = absurd (let clash : false ≡ true = some in cc)
-    by_chain (Some c) at some = Contains-append_left (entry_keys (tables.entries m.chains)) (tree_keys m.tree) q (has_entry_key k c q (tables.entries m.chains) (sym (get-entries m.chains k) ∙ at) some)
+    by_chain (Some c) at some = has_entry_key k c q (tables.entries m.chains) (sym (get-entries m.chains k) ∙ at) some
 
 branch_there : (m : Moment) (b : ℕ) (q : Network) (r : Route) → all_at (own_of m) m.chains m.hops b q ≡ Some r → Contains (best_keys m) q
-branch_there m zero q r is = Contains-append_right (entry_keys (tables.entries m.chains)) (tree_keys m.tree) q (has_tree_key m.tree q (own_there m.declared.speaker m.redist (int_rows m.tree) q r is))
-branch_there m (suc k) q r is = filt_there m (suc k) q (resolved_there (resolver_at (suc k) m.hops) (filt_at m.chains (suc k)) q r is)
+branch_there m zero q r is = Contains-append_right (peer_keys m) (tree_keys m.tree) q (has_tree_key m.tree q (own_there m.declared.speaker m.redist (int_rows m.tree) q r is))
+branch_there m (suc k) q r is = Contains-append_left (peer_keys m) (tree_keys m.tree) q (filt_there m (suc k) q (resolved_there (resolver_at (suc k) m.hops) (filt_at m.chains (suc k)) q r is))
 
 best_there : (m : Moment) (q : Network) → IsSome (best_of m q) → Contains (best_keys m) q
 best_there m q there = by_row (best_of m q) refl there
@@ -270,7 +274,32 @@ best_there m q there = by_row (best_of m q) refl there
     by_row None is some = absurd (let clash : false ≡ true = some in cc)
     by_row (Some r) is some = let b = best_is_a_branchs (all_at (own_of m) m.chains m.hops) q r is in branch_there m b.0 q r b.2
 
+-- ---- the external rows, of which this speaker's own routes have none
+own_external : (me : Speaker) (on : Protos) (q : Network) (o : Option Interior) (r : Route) → redistributed me on q o ≡ Some r → IsSome (external_row (Some r)) → ⊥
+own_external me on q o r is there = by_bool (is_on on o) (λ b. (if b then Some (local_route me) else None) ≡ Some r → ⊥)
+    (λ _ same. let none : is_some (external_row (Some r)) ≡ false = ap (λ (x : Option Route). is_some (external_row x)) (sym same) in absurd (let clash : true ≡ false = sym there ∙ none in cc))
+    (λ _ none. absurd (cc)) is
+
+none_is_own : (s : Option Speaker) (redist : Passed Protos) (int : Rows Interior) (q : Network) (r : Route) → own_rows s redist int q ≡ Some r → IsSome (external_row (Some r)) → ⊥
+none_is_own None redist int q r is there = absurd (cc)
+none_is_own (Some me) redist int q r is there = own_external me (function_at redist q) q (int q) r is there
+
+branch_peer : (m : Moment) (b : ℕ) (q : Network) (r : Route) → all_at (own_of m) m.chains m.hops b q ≡ Some r → IsSome (external_row (Some r)) → Contains (peer_keys m) q
+branch_peer m zero q r is there = absurd (none_is_own m.declared.speaker m.redist (int_rows m.tree) q r is there)
+branch_peer m (suc k) q r is there = filt_there m (suc k) q (resolved_there (resolver_at (suc k) m.hops) (filt_at m.chains (suc k)) q r is)
+
+best_peer : (m : Moment) (q : Network) → IsSome (external_row (best_of m q)) → Contains (peer_keys m) q
+best_peer m q there = by_row (best_of m q) refl there
+  where
+    by_row : (o : Option Route) → best_of m q ≡ o → IsSome (external_row o) → Contains (peer_keys m) q
+    by_row None is some = absurd (let clash : false ≡ true = some in cc)
+    by_row (Some r) is some = let b = best_is_a_branchs (all_at (own_of m) m.chains m.hops) q r is in branch_peer m b.0 q r b.2 some
+
 -- ---- the external routes, where the forwarding side has read all of `best`
+read_external : (queue : Queued Route) (reader : Option ℕ) (best : Rows Route) (q : Network) → unread_if queue reader ≡ [] → IsSome (external_row (read_rows_by queue reader best q)) → IsSome (external_row (best q))
+read_external queue None best q over there = absurd (let clash : false ≡ true = there in cc)
+read_external queue (Some r) best q over there = subst (λ (u : List (Change Route)). IsSome (external_row (rows_before u best q))) over there
+
 read_there : (queue : Queued Route) (reader : Option ℕ) (best : Rows Route) (q : Network) → unread_if queue reader ≡ [] → IsSome (read_rows_by queue reader best q) → IsSome (best q)
 read_there queue None best q over there = absurd (let clash : false ≡ true = there in cc)
 read_there queue (Some r) best q over there = subst (λ (u : List (Change Route)). IsSome (rows_before u best q)) over there
@@ -294,17 +323,17 @@ module _ (m : Moment) (stands : Stands m) (over : unread_if m.exits.queue m.read
   side_at : (side : BgpLink) (q : Network) → kept_rows m.rib.splitter side q ≡ on_link side (external_row (read_of m q))
   side_at side q = ap (λ (p : Parted). p side q) stands.exits.external.links
 
-  side_key : (side : BgpLink) (q : Network) → IsSome (kept_rows m.rib.splitter side q) → Contains (best_keys m) q
-  side_key side q there = read_key q (external_there (read_of m q) (side_there side (external_row (read_of m q)) (ap is_some (sym (side_at side q)) ∙ there)))
+  side_key : (side : BgpLink) (q : Network) → IsSome (kept_rows m.rib.splitter side q) → Contains (peer_keys m) q
+  side_key side q there = best_peer m q (read_external m.exits.queue m.reader (best_of m) q over (side_there side (external_row (read_of m q)) (ap is_some (sym (side_at side q)) ∙ there)))
 
-  -- no more rows stand on `ebgp` and `ibgp` than there are prefixes of `best`,
-  external_few : external_beyond m.rib None ≤ rows_in m.chains + tree_count m.tree
+  -- no more rows stand on `ebgp` and `ibgp` than peers have,
+  pub external_few : external_beyond m.rib None ≤ rows_in m.chains
   external_few =
-      let few = few_both (best_keys m) m.rib.splitter.ebgp m.rib.splitter.ibgp
+      let few = few_both (peer_keys m) m.rib.splitter.ebgp m.rib.splitter.ibgp
       (λ q a b. one_side (external_row (read_of m q)) (ap is_some (sym (side_at Ebgp q)) ∙ a) (ap is_some (sym (side_at Ibgp q)) ∙ b)) (side_key Ebgp) (side_key Ibgp) in
       let ebgp = table_within None m.rib.splitter.ebgp in
       let ibgp = table_within None m.rib.splitter.ibgp in
-      let keys = keys_few m in
+      let keys = entries_length (tables.entries m.chains) in
       omega (arith, few, ebgp, ibgp, keys)
 
   -- and no more next hops are known

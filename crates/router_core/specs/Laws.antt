@@ -1,5 +1,5 @@
 -- Laws of moments, for the crates above.
-use Rattle.std.specs.Prelude.{◌≡◌, ◌+◌, ◌≤◌, false, []}
+use Rattle.std.specs.Prelude.{◌≡◌, ◌+◌, ◌≤◌, false, [], None}
 use Rattle.addr4.specs.Prefixes.{Network}
 use Rattle.journal_text.specs.declared.link.Task.{Task}
 use Rattle.peer_side.specs.Peers.{rows_in}
@@ -7,7 +7,7 @@ use Rattle.hop_side.specs.Resolvers.{known_in}
 use Rattle.rib_tree.specs.Trees.{tree_count}
 use Rattle.rib_exit.specs.Exits.{known_in as external_known}
 use Rattle.router_core.specs.Moments.{Moment, first_moment}
-use Rattle.router_core.specs.Phases.{unread_if}
+use Rattle.router_core.specs.Phases.{unread_if, external_beyond}
 use Rattle.router_core.specs.Stands.{Stands, AllHaveExits}
 use Rattle.router_core.specs.Turns.{has_work}
 use Rattle.router_core.specs.Holding.{holds_up_at, first_held}
@@ -35,6 +35,11 @@ FirstHeldTells = (m : Moment) → Stands m → AllHaveExits m → (p : Network) 
 pub record NextHopsAreFew (m : Moment) : Type 0 where
   pub peers : known_in m.hops ≤ rows_in m.chains
   pub external : unread_if m.exits.queue m.reader ≡ [] → external_known m.rib ≤ rows_in m.chains + tree_count m.tree
+
+-- Where the forwarding side has read all, no more rows stand on `ebgp` and `ibgp` than peers have, live or lost: each is of the best route
+-- there, which a peer sent. So they bound the turns of external next hops, of which each row takes two at most.
+abbrev pub ExternalRowsAreFew : Type 0
+ExternalRowsAreFew = (m : Moment) → Stands m → unread_if m.exits.queue m.reader ≡ [] → external_beyond m.rib None ≤ rows_in m.chains
 
 abbrev pub KnownNextHopsAreFew : Type 0
 KnownNextHopsAreFew = (m : Moment) → Stands m → NextHopsAreFew m

@@ -1,6 +1,6 @@
 //! Laws of moments, for the proofs of the crates above. Each is a function that does nothing, whose contract is the law.
 
-ghost use Rattle.router_core.specs.Laws.{FirstStands, RowsAtRestAreExact, OnlyWorkHoldsUp, FirstHeldTells, KnownNextHopsAreFew};
+ghost use Rattle.router_core.specs.Laws.{FirstStands, RowsAtRestAreExact, OnlyWorkHoldsUp, FirstHeldTells, KnownNextHopsAreFew, ExternalRowsAreFew};
 
 use exit_side::laws::exact_unless_held_up as exits_are_exact;
 use hop_side::laws::exact_unless_held_up as hops_are_exact;
@@ -52,4 +52,9 @@ pub fn the_first_task_tells()
 /// At any moment no more next hops are known than there are rows which name them.
 pub fn known_next_hops_are_few()
     ensures { KnownNextHopsAreFew }
+{}
+
+/// Where the forwarding side has read all, no more rows stand on `ebgp` and `ibgp` than peers have.
+pub fn external_rows_are_few()
+    ensures { ExternalRowsAreFew }
 {}

@@ -36,7 +36,7 @@ mod turns;
 mod updates;
 
 pub use laws::{
-    first_moment_stands, known_next_hops_are_few, only_work_holds_up, rows_at_rest_are_exact,
-    the_first_task_tells,
+    external_rows_are_few, first_moment_stands, known_next_hops_are_few, only_work_holds_up,
+    rows_at_rest_are_exact, the_first_task_tells,
 };
 pub use router::{Core, Done, Idle, Phase};
