@@ -162,6 +162,7 @@ first_output stands quiet text = record {
     end = first_moment;
     run = (refl, refl);
     lawful = record { lawful = tt; ends = none_at_first };
+    live = lives_through [] [] first_moment (refl, refl);
     heard = nobody_hears;
     sent = nothing_sent;
     stands = stands;
