@@ -132,6 +132,13 @@ impl Network {
         self.outgoing.set(number, rules)
     }
 
+    /// The queue of changes is prepared for the questions of an event (`Exits::prepare`), which changes nothing that contracts see.
+    pub(crate) fn prepare(&mut self) -> Result<(), Memory>
+        ensures { self.new ≡ self.old }
+    {
+        self.exits.prepare()
+    }
+
     /// What follows a change of `best`, if one came: its entry is pushed, and it joins the queue.
     pub(crate) fn queue(
         &mut self,

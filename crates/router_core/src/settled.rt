@@ -29,7 +29,7 @@ impl Network {
         ensures { IfOk result (λ turns. Gives (HasStepped self.old (events.Settled p) turns self.new) journal.old journal.new) }
     {
         the_first_task_tells();
-        self.exits.prepare()?;
+        self.prepare()?;
         journal.push_line(Line::Settled(p, self.first_held(p)))?;
         journal.flush()?;
         Ok(0)

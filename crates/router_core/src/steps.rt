@@ -178,7 +178,7 @@ impl Network {
         requires { Stands self.old }
         ensures { IfOk result (λ turns. Gives (HasStepped self.old (events.Ask link p) turns self.new) journal.old journal.new) }
     {
-        self.exits.prepare()?;
+        self.prepare()?;
         self.ask(link, p, journal)?;
         journal.flush()?;
         Ok(0)
@@ -188,7 +188,7 @@ impl Network {
         requires { Stands self.old }
         ensures { IfOk result (λ turns. Gives (HasStepped self.old (events.Show link) turns self.new) journal.old journal.new) }
     {
-        self.exits.prepare()?;
+        self.prepare()?;
         self.show(link, journal)?;
         journal.flush()?;
         Ok(0)

@@ -1,16 +1,20 @@
-use Rattle.router_core.proofs.Common.{refl, Shows, router_links, HasStepped}
+use Rattle.router_core.proofs.Common.{sym, subst, refl, Shows, router_links, HasStepped, Moment, Stands}
 use Rattle.event_text.specs.declared.event.Event.TheVariants as events
+use Rattle.router_core.specs.Moments.{Gives}
+use Rattle.router_core.specs.Stands.{HaveReaders}
 use Rattle.router_core.proofs.KeepLemmas.{gives_pushed}
 use Rattle.router_core.proofs.ShownRows.{show_stepped}
 use Rattle.router_core.proofs.ReadLemmas.{have_readers}
 use Rattle.router_core.proofs.network.Network.list.Goals as goal
 
 pub show-requires : goal.show-requires
-show-requires c = have_readers c.args.self.now c.requires
+show-requires c = subst HaveReaders (sym c.prepare.ensures) (have_readers c.args.self.now c.requires)
 
 pub returns : goal.returns
 returns c =
-    let m = c.args.self.now in
+    let m = c.prepare.new.self in
     let link = c.args.link in
-    gives_pushed (Shows link (router_links m link)) (HasStepped m (events.Show link) 0 m) (λ said shows. show_stepped m link (router_links m link) said c.requires refl shows)
-    c.args.journal.now c.show.new.journal c.flush.new.self c.in_ok-show.ensures c.in_ok-flush.ensures.ok
+    subst (λ (n : Moment). Gives (HasStepped n (events.Show link) 0 m) c.args.journal.now c.flush.new.self) c.prepare.ensures
+    (gives_pushed (Shows link (router_links m link)) (HasStepped m (events.Show link) 0 m)
+    (λ said shows. show_stepped m link (router_links m link) said (subst Stands (sym c.prepare.ensures) c.requires) refl shows)
+    c.args.journal.now c.show.new.journal c.flush.new.self c.in_ok-show.ensures c.in_ok-flush.ensures.ok)

@@ -1,12 +1,17 @@
-use Rattle.router_core.proofs.Common.{◌∙◌, ap, refl, flushed, answer_lines, router_links}
+use Rattle.router_core.proofs.Common.{◌∙◌, ap, sym, subst, refl, flushed, answer_lines, router_links, HasStepped, Moment, Stands}
+use Rattle.event_text.specs.declared.event.Event.TheVariants as events
+use Rattle.router_core.specs.Moments.{Gives}
+use Rattle.router_core.specs.Stands.{HaveReaders}
 use Rattle.router_core.proofs.ShownRows.{ask_stepped}
 use Rattle.router_core.proofs.ReadLemmas.{have_readers}
 use Rattle.router_core.proofs.network.Network.look_up.Goals as goal
 
 pub ask-requires : goal.ask-requires
-ask-requires c = have_readers c.args.self.now c.requires
+ask-requires c = subst HaveReaders (sym c.prepare.ensures) (have_readers c.args.self.now c.requires)
 
 pub returns : goal.returns
 returns c =
-    let of = router_links c.args.self.now c.args.link in
-    (answer_lines c.args.link c.args.p of, c.in_ok-flush.ensures.ok ∙ ap flushed c.in_ok-ask.ensures, ask_stepped c.args.self.now c.args.link c.args.p of c.requires refl)
+    let m = c.prepare.new.self in
+    let of = router_links m c.args.link in
+    subst (λ (n : Moment). Gives (HasStepped n (events.Ask c.args.link c.args.p) 0 m) c.args.journal.now c.flush.new.self) c.prepare.ensures
+    (answer_lines c.args.link c.args.p of, c.in_ok-flush.ensures.ok ∙ ap flushed c.in_ok-ask.ensures, ask_stepped m c.args.link c.args.p of (subst Stands (sym c.prepare.ensures) c.requires) refl)

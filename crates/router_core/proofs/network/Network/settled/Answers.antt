@@ -1,7 +1,13 @@
+use Rattle.router_core.proofs.Common.{sym, subst, HasStepped, Moment, Stands}
+use Rattle.event_text.specs.declared.event.Event.TheVariants as events
+use Rattle.router_core.specs.Moments.{Gives}
+use Rattle.router_core.specs.Stands.{AllHaveExits}
 use Rattle.router_core.proofs.StepLemmas.{settled}
 use Rattle.router_core.proofs.network.Network.settled.Goals as goal
 
 pub returns : goal.returns
 returns c =
-    settled c.args.self.now c.args.p c.first_held.result c.args.journal.now c.push_line.new.self c.flush.new.self c.requires.stands c.requires.exits c.the_first_task_tells.ensures
-    c.first_held.ensures c.in_ok-push_line.ensures c.in_ok-flush.ensures.ok
+    let m = c.prepare.new.self in
+    subst (λ (n : Moment). Gives (HasStepped n (events.Settled c.args.p) 0 m) c.args.journal.now c.flush.new.self) c.prepare.ensures
+    (settled m c.args.p c.first_held.result c.args.journal.now c.push_line.new.self c.flush.new.self (subst Stands (sym c.prepare.ensures) c.requires.stands) (subst AllHaveExits (sym c.prepare.ensures) c.requires.exits)
+    c.the_first_task_tells.ensures c.first_held.ensures c.in_ok-push_line.ensures c.in_ok-flush.ensures.ok)

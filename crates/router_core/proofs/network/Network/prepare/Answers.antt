@@ -1,0 +1,7 @@
+use Rattle.router_core.proofs.Common.{ap, ◌∙◌, Exited}
+use Rattle.router_core.specs.contracts.network.Network.{the_view}
+use Rattle.router_core.specs.Moments.{with_exits}
+use Rattle.router_core.proofs.network.Network.prepare.Goals as goal
+
+pub returns : goal.returns
+returns c = ap (λ (e : Exited). with_exits (the_view c.self.inside) e) c.prepare.ensures ∙ c.self.view_is
