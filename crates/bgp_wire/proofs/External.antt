@@ -10,7 +10,7 @@ use Rattle.bgp_wire.specs.declared.notice.Notice.{Notice}
 use Rattle.bgp_wire.specs.Faults.{notice, err_of, ◌>>=◌}
 use Rattle.bgp_wire.specs.Prefixes.{prefixes_at}
 use Rattle.bgp_wire.specs.Attributes.{Attribute, Kept, rule_of, has_wrong_flags, has_wrong_size, milder, value_fault, judge_value, judge_recognized, judge_by, judgement, with_verdict, attribute_at, attributes_step, attributes_within, attributes_at}
-use Rattle.bgp_wire.specs.Updates.{header_at, Fields, fields_at, missing, lack, lacks, Reading, reading_at, update, keepalive, notification, opening, content_for, content_at, fault}
+use Rattle.bgp_wire.specs.Updates.{header_at, Fields, fields_at, missing, lack, lacks, Reading, reading_at, Content, update, keepalive, notification, opening, refresh, refresh_at, content_for, content_at, fault}
 
 -- two answers with one fault, or both with none
 abbrev pub Alike : {A B : Type 0} → Result A Notice → Result B Notice → Type 0
@@ -126,13 +126,17 @@ update_same p bytes e = by_fields (fields_at bytes)
     by_fields (Ok fields) = ap (whole p fields) (attributes_same (length fields.attributes) p [] fields.attributes e)
 
 for_alike : (p : Profile) (bytes : List ℕ) (kind : ℕ) → Alike (reading_at p true bytes) (reading_at p false bytes) → Alike (content_for p true bytes kind) (content_for p false bytes kind)
-for_alike p bytes kind h = by_tests (eqb kind 1) (eqb kind 3) (eqb kind 4)
+for_alike p bytes kind h = by_tests (eqb kind 1) (eqb kind 3) (eqb kind 4) (eqb kind 5)
   where
-    by_tests : (a b c : Bool) → Alike (cond a (Ok opening) (cond b (Ok notification) (cond c (Ok keepalive) (reading_at p true bytes >>= λ r. Ok (update r))))) (cond a (Ok opening) (cond b (Ok notification) (cond c (Ok keepalive) (reading_at p false bytes >>= λ r. Ok (update r)))))
-    by_tests true b c = refl
-    by_tests false true c = refl
-    by_tests false false true = refl
-    by_tests false false false = alike_bind (reading_at p true bytes) (reading_at p false bytes) (λ r. Ok (update r)) (λ r. Ok (update r)) h (λ x y. refl)
+    chosen : (a b c d : Bool) → Result Reading Notice → Result Content Notice
+    chosen a b c d read = cond a (Ok opening) (cond b (Ok notification) (cond c (Ok keepalive) (cond d (Ok (refresh (refresh_at bytes))) (read >>= λ r. Ok (update r)))))
+
+    by_tests : (a b c d : Bool) → Alike (chosen a b c d (reading_at p true bytes)) (chosen a b c d (reading_at p false bytes))
+    by_tests true b c d = refl
+    by_tests false true c d = refl
+    by_tests false false true d = refl
+    by_tests false false false true = refl
+    by_tests false false false false = alike_bind (reading_at p true bytes) (reading_at p false bytes) (λ r. Ok (update r)) (λ r. Ok (update r)) h (λ x y. refl)
 
 updates_alike : (p : Profile) (bytes : List ℕ) (b : Bool) → p.revised ≡ b → Alike (reading_at p true bytes) (reading_at p false bytes)
 updates_alike p bytes true e = update_alike p bytes e

@@ -7,11 +7,12 @@ use Rattle.std.proofs.lemmas.Bool.{ltb-false, le-ltb, eqb-true, eqb-false, eq-eq
 use Rattle.addr4.specs.Prefixes.{Network}
 use Rattle.bgp_attr.specs.declared.speaker.Profile.{Profile}
 use Rattle.bgp_wire.specs.declared.notice.Notice.{Notice}
+use Rattle.bgp_wire.specs.declared.message.RouteRefresh.{RouteRefresh}
 use Rattle.bgp_wire.specs.Faults.{notice, ◌>>=◌}
 use Rattle.bgp_wire.specs.Prefixes.{prefixes_at}
 use Rattle.bgp_wire.specs.Attributes.{Kept, kept_by, attributes_at}
-use Rattle.bgp_wire.specs.Updates.{number_at, is_marked, length_field, has_wrong_length, header_at, Fields, fields_at, lacks, Reading, reading_at, Content, update, keepalive, notification, opening, content_for, content_at}
-use Rattle.bgp_wire.specs.Grammar.{IsFrame, IsReading, Holds}
+use Rattle.bgp_wire.specs.Updates.{number_at, is_marked, length_field, has_wrong_length, header_at, Fields, fields_at, lacks, Reading, reading_at, Content, update, keepalive, notification, opening, refresh, refresh_at, content_for, content_at}
+use Rattle.bgp_wire.specs.Grammar.{IsFrame, IsReading, IsRefresh, Holds}
 use Rattle.bgp_wire.proofs.TestLemmas.{or_false_left, or_false_right, not_false, and_left, and_right, nonzero, not_zero}
 use Rattle.bgp_wire.proofs.ResultLemmas.{bind_ok, same_ok, guard_ok}
 use Rattle.bgp_wire.proofs.PrefixLaws.{prefixes_take, prefixes_again}
@@ -28,20 +29,20 @@ pub record IsHeader (bytes : List ℕ) (kind : ℕ) : Type 0 where
   pub is : kind ≡ get_or bytes 18 0
   pub enough : has_wrong_length kind (length bytes) ≡ false
   pub some : 0 < kind
-  pub few : kind < 5
+  pub few : kind < 6
 
 pub header_takes : (bytes : List ℕ) (kind : ℕ) → header_at bytes ≡ Ok kind → IsHeader bytes kind
 unfolding header_at
 header_takes bytes kind e =
     let at = get_or bytes 18 0 in
     let r5 : Result ℕ Notice = cond (has_wrong_length at (length bytes)) (Err (notice 1 2 (length_field bytes))) (Ok at) in
-    let r4 : Result ℕ Notice = cond (eqb at 0 || ltb 4 at) (Err (notice 1 3 (take 1 (drop 18 bytes)))) r5 in
+    let r4 : Result ℕ Notice = cond (eqb at 0 || ltb 5 at) (Err (notice 1 3 (take 1 (drop 18 bytes)))) r5 in
     let r3 : Result ℕ Notice = cond (ltb (number_at bytes 16) 19 || ltb 4096 (number_at bytes 16) || not (eqb (number_at bytes 16) (length bytes))) (Err (notice 1 2 (length_field bytes))) r4 in
     let r2 : Result ℕ Notice = cond (not (is_marked bytes)) (Err (notice 1 1 [])) r3 in
     let a = guard_ok (ltb (length bytes) 19) (notice 1 2 []) r2 kind e in
     let b = guard_ok (not (is_marked bytes)) (notice 1 1 []) r3 kind a.1 in
     let c = guard_ok (ltb (number_at bytes 16) 19 || ltb 4096 (number_at bytes 16) || not (eqb (number_at bytes 16) (length bytes))) (notice 1 2 (length_field bytes)) r4 kind b.1 in
-    let d = guard_ok (eqb at 0 || ltb 4 at) (notice 1 3 (take 1 (drop 18 bytes))) r5 kind c.1 in
+    let d = guard_ok (eqb at 0 || ltb 5 at) (notice 1 3 (take 1 (drop 18 bytes))) r5 kind c.1 in
     let f = guard_ok (has_wrong_length at (length bytes)) (notice 1 2 (length_field bytes)) (Ok at) kind d.1 in
     let is : at ≡ kind = same_ok at kind f.1 in
     let long : 19 ≤ length bytes = ltb-false _ _ a.0 in
@@ -60,7 +61,7 @@ header_takes bytes kind e =
       is = sym is;
       enough = ap (λ k. has_wrong_length k (length bytes)) (sym is) ∙ f.0;
       some = subst (λ k. 0 < k) is (nonzero at (or_false_left _ _ d.0));
-      few = subst (λ k. k < 5) is (omega (arith, ltb-false _ _ (or_false_right (eqb at 0) _ d.0)));
+      few = subst (λ k. k < 6) is (omega (arith, ltb-false _ _ (or_false_right (eqb at 0) _ d.0)));
     }
 
 -- a frame's parts
@@ -70,7 +71,7 @@ frame_kind bytes kind body f = ap (λ (b : List ℕ). get_or b 18 0) f.parts
 frame_len : (bytes : List ℕ) (kind : ℕ) (body : List ℕ) → IsFrame bytes kind body → length bytes ≡ 19 + length body
 frame_len bytes kind body f = omega (arith, ap length f.parts)
 
-pub header_again : (bytes : List ℕ) (kind : ℕ) (body : List ℕ) → IsFrame bytes kind body → 0 < kind → kind < 5 → has_wrong_length kind (length bytes) ≡ false → header_at bytes ≡ Ok kind
+pub header_again : (bytes : List ℕ) (kind : ℕ) (body : List ℕ) → IsFrame bytes kind body → 0 < kind → kind < 6 → has_wrong_length kind (length bytes) ≡ false → header_at bytes ≡ Ok kind
 unfolding header_at
 header_again bytes kind body f some few enough =
     let at = frame_kind bytes kind body f in
@@ -82,7 +83,7 @@ header_again bytes kind body f some few enough =
     let t3b : ltb 4096 (number_at bytes 16) ≡ false = le-ltb _ _ (omega (arith, f.top)) in
     let t3c : eqb (number_at bytes 16) (length bytes) ≡ true = eq-eqb _ _ number in
     let t4a : eqb kind 0 ≡ false = not_zero kind some in
-    let t4b : ltb 4 kind ≡ false = le-ltb _ _ (omega arith) in
+    let t4b : ltb 5 kind ≡ false = le-ltb _ _ (omega arith) in
     rw (t1, t2, t3a, t3b, t3c, at, t4a, t4b, enough) refl
 
 abbrev ok_reading : Reading → Result Reading Notice
@@ -211,6 +212,22 @@ reading_again p external bytes r is =
     rw (fields, prefixes_again is.withdrawn r.withdrawn is.withdraws, attributes_again p external [] is.attributes is.steps is.runs is.are, prefixes_again is.announced r.announced is.announces, complete)
     (λ i. Ok (record { withdrawn = r.withdrawn; announced = r.announced; kept = sym is.kept i; withdraw = sym is.withdraw i }))
 
+-- ---- a ROUTE-REFRESH
+refresh_takes : (bytes : List ℕ) → IsFrame bytes 5 (drop 19 bytes) → length bytes ≡ 23 → IsRefresh bytes (refresh_at bytes)
+refresh_takes bytes frame exact =
+    let nothing : drop 23 bytes ≡ [] = nil_from_length (drop 23 bytes) (omega (arith, length-drop 23 bytes)) in
+    let last : drop 22 bytes ≡ get_or bytes 22 0 ∷ [] = drop_more bytes 22 0 (omega arith) ∙ ap (λ (t : List ℕ). get_or bytes 22 0 ∷ t) nothing in
+    let two : drop 21 bytes ≡ get_or bytes 21 0 ∷ get_or bytes 22 0 ∷ [] = drop_more bytes 21 0 (omega arith) ∙ ap (λ (t : List ℕ). get_or bytes 21 0 ∷ t) last in
+    let three : drop 20 bytes ≡ get_or bytes 20 0 ∷ get_or bytes 21 0 ∷ get_or bytes 22 0 ∷ [] = drop_more bytes 20 0 (omega arith) ∙ ap (λ (t : List ℕ). get_or bytes 20 0 ∷ t) two in
+    let four : drop 19 bytes ≡ get_or bytes 19 0 ∷ get_or bytes 20 0 ∷ get_or bytes 21 0 ∷ get_or bytes 22 0 ∷ [] = drop_more bytes 19 0 (omega arith) ∙ ap (λ (t : List ℕ). get_or bytes 19 0 ∷ t) three in
+    record { high = get_or bytes 19 0; low = get_or bytes 20 0; reserved = get_or bytes 21 0; frame = subst (IsFrame bytes 5) four frame; afi = refl }
+
+refresh_again : (bytes : List ℕ) (r : RouteRefresh) → IsRefresh bytes r → refresh_at bytes ≡ r
+refresh_again bytes r is =
+    let afi : number_at bytes 19 ≡ r.afi = ap (λ (b : List ℕ). number_at b 19) is.frame.parts ∙ is.afi in
+    let safi : get_or bytes 22 0 ≡ r.safi = ap (λ (b : List ℕ). get_or b 22 0) is.frame.parts in
+    λ i. record { afi = afi i; safi = safi i }
+
 -- ---- messages
 header_frame : (bytes : List ℕ) (kind : ℕ) (h : IsHeader bytes kind) → IsFrame bytes kind (drop 19 bytes)
 header_frame bytes kind h = subst (IsFrame bytes kind) (sym (ap (drop 19) h.frame.parts)) h.frame
@@ -221,8 +238,8 @@ same_kind b n m e t = eqb-true n m (e ∙ t)
 short_of : (kind k len : ℕ) → kind ≡ k → has_wrong_length kind len ≡ false → has_wrong_length k len ≡ false
 short_of kind k len e s = subst (λ n. has_wrong_length n len ≡ false) e s
 
-pub only_two : (kind : ℕ) → 0 < kind → kind < 5 → eqb kind 1 ≡ false → eqb kind 3 ≡ false → eqb kind 4 ≡ false → kind ≡ 2
-only_two kind some few a b c = omega (arith, eqb-false _ _ a, eqb-false _ _ b, eqb-false _ _ c)
+pub only_two : (kind : ℕ) → 0 < kind → kind < 6 → eqb kind 1 ≡ false → eqb kind 3 ≡ false → eqb kind 4 ≡ false → eqb kind 5 ≡ false → kind ≡ 2
+only_two kind some few a b c d = omega (arith, eqb-false _ _ a, eqb-false _ _ b, eqb-false _ _ c, eqb-false _ _ d)
 
 pub content_takes : (p : Profile) (external : Bool) (bytes : List ℕ) (c : Content) → content_at p external bytes ≡ Ok c → Holds p external bytes c
 unfolding content_at
@@ -232,27 +249,34 @@ content_takes p external bytes c e =
     let h = header_takes bytes kind a.1 in
     let frame = header_frame bytes kind h in
     let size : length bytes ≡ 19 + length (drop 19 bytes) = frame_len bytes kind (drop 19 bytes) frame in
-    elim (eqb kind 1) as (λ b. eqb kind 1 ≡ b → cond b (Ok opening) (cond (eqb kind 3) (Ok notification) (cond (eqb kind 4) (Ok keepalive) (reading_at p external bytes >>= λ r. Ok (update r)))) ≡ Ok c → Holds p external bytes c) [
+    let others : Result Content Notice = cond (eqb kind 5) (Ok (refresh (refresh_at bytes))) (reading_at p external bytes >>= λ r. Ok (update r)) in
+    elim (eqb kind 1) as (λ b. eqb kind 1 ≡ b → cond b (Ok opening) (cond (eqb kind 3) (Ok notification) (cond (eqb kind 4) (Ok keepalive) others)) ≡ Ok c → Holds p external bytes c) [
       | true ↦ λ is e.
           let one : kind ≡ 1 = eqb-true _ _ is in
           let long : 29 ≤ length bytes = ltb-false _ _ (short_of kind 1 (length bytes) one h.enough) in
           subst (Holds p external bytes) (same_ok opening c e) (drop 19 bytes, subst (λ k. IsFrame bytes k (drop 19 bytes)) one frame, omega arith)
-      | false ↦ λ not_one. elim (eqb kind 3) as (λ b. eqb kind 3 ≡ b → cond b (Ok notification) (cond (eqb kind 4) (Ok keepalive) (reading_at p external bytes >>= λ r. Ok (update r))) ≡ Ok c → Holds p external bytes c) [
+      | false ↦ λ not_one. elim (eqb kind 3) as (λ b. eqb kind 3 ≡ b → cond b (Ok notification) (cond (eqb kind 4) (Ok keepalive) others) ≡ Ok c → Holds p external bytes c) [
         | true ↦ λ is e.
             let three : kind ≡ 3 = eqb-true _ _ is in
             let long : 21 ≤ length bytes = ltb-false _ _ (short_of kind 3 (length bytes) three h.enough) in
             subst (Holds p external bytes) (same_ok notification c e) (drop 19 bytes, subst (λ k. IsFrame bytes k (drop 19 bytes)) three frame, omega arith)
-        | false ↦ λ not_three. elim (eqb kind 4) as (λ b. eqb kind 4 ≡ b → cond b (Ok keepalive) (reading_at p external bytes >>= λ r. Ok (update r)) ≡ Ok c → Holds p external bytes c) [
+        | false ↦ λ not_three. elim (eqb kind 4) as (λ b. eqb kind 4 ≡ b → cond b (Ok keepalive) others ≡ Ok c → Holds p external bytes c) [
           | true ↦ λ is e.
               let four : kind ≡ 4 = eqb-true _ _ is in
               let exact : length bytes ≡ 19 = eqb-true _ _ (not_false _ (short_of kind 4 (length bytes) four h.enough)) in
               let nothing : drop 19 bytes ≡ [] = nil_from_length (drop 19 bytes) (omega arith) in
               subst (Holds p external bytes) (same_ok keepalive c e) (subst (IsFrame bytes 4) nothing (subst (λ k. IsFrame bytes k (drop 19 bytes)) four frame))
-          | false ↦ λ not_four e.
-              let two = only_two kind h.some h.few not_one not_three not_four in
-              let long : 23 ≤ length bytes = ltb-false _ _ (short_of kind 2 (length bytes) two h.enough) in
-              let u = bind_ok (reading_at p external bytes) (λ r. Ok (update r)) c e in
-              subst (Holds p external bytes) (same_ok (update u.0) c u.2) (reading_takes p external bytes u.0 (subst (λ k. IsFrame bytes k (drop 19 bytes)) two frame) long u.1)
+          | false ↦ λ not_four. elim (eqb kind 5) as (λ b. eqb kind 5 ≡ b → cond b (Ok (refresh (refresh_at bytes))) (reading_at p external bytes >>= λ r. Ok (update r)) ≡ Ok c → Holds p external bytes c) [
+            | true ↦ λ is e.
+                let five : kind ≡ 5 = eqb-true _ _ is in
+                let exact : length bytes ≡ 23 = eqb-true _ _ (not_false _ (short_of kind 5 (length bytes) five h.enough)) in
+                subst (Holds p external bytes) (same_ok (refresh (refresh_at bytes)) c e) (refresh_takes bytes (subst (λ k. IsFrame bytes k (drop 19 bytes)) five frame) exact)
+            | false ↦ λ not_five e.
+                let two = only_two kind h.some h.few not_one not_three not_four not_five in
+                let long : 23 ≤ length bytes = ltb-false _ _ (short_of kind 2 (length bytes) two h.enough) in
+                let u = bind_ok (reading_at p external bytes) (λ r. Ok (update r)) c e in
+                subst (Holds p external bytes) (same_ok (update u.0) c u.2) (reading_takes p external bytes u.0 (subst (λ k. IsFrame bytes k (drop 19 bytes)) two frame) long u.1)
+          ] refl
         ] refl
       ] refl
     ] refl a.2
@@ -271,6 +295,11 @@ content_again p external bytes keepalive is =
     let size : length bytes ≡ 19 = omega (arith, frame_len bytes 4 [] is) in
     let enough : has_wrong_length 4 (length bytes) ≡ false = ap not (eq-eqb _ _ size) in
     ap (λ r. r >>= λ kind. content_for p external bytes kind) (header_again bytes 4 [] is (omega arith) (omega arith) enough)
+content_again p external bytes (refresh r) is =
+    let size : length bytes ≡ 23 = omega (arith, frame_len bytes 5 _ is.frame) in
+    let enough : has_wrong_length 5 (length bytes) ≡ false = ap not (eq-eqb _ _ size) in
+    ap (λ r. r >>= λ kind. content_for p external bytes kind) (header_again bytes 5 _ is.frame (omega arith) (omega arith) enough)
+    ∙ ap (λ (r : RouteRefresh). Ok (refresh r)) (refresh_again bytes r is)
 content_again p external bytes (update r) is =
     let size = frame_len bytes 2 _ is.frame in
     let more : 4 ≤ length (is.first_high ∷ is.first_low ∷ (is.withdrawn ++ (is.second_high ∷ is.second_low ∷ (is.attributes ++ is.announced)))) = omega (arith, length-append is.withdrawn (is.second_high ∷ is.second_low ∷ (is.attributes ++ is.announced))) in

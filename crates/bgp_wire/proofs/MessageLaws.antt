@@ -5,13 +5,14 @@ use Rattle.bgp_attr.specs.declared.attrs.Attrs.{Attrs}
 use Rattle.bgp_attr.specs.declared.speaker.Profile.{Profile}
 use Rattle.bgp_wire.specs.declared.notice.Notice.{Notice}
 use Rattle.bgp_wire.specs.declared.message.Update.{Update}
+use Rattle.bgp_wire.specs.declared.message.RouteRefresh.{RouteRefresh}
 use Rattle.bgp_wire.specs.declared.message.Message.{Message}
 use Rattle.bgp_wire.specs.declared.message.Message.TheVariants as messages
 use Rattle.bgp_wire.specs.Faults.{notice, err_of, ◌>>=◌}
 use Rattle.bgp_wire.specs.Attributes.{Attribute, kept_by}
 use Rattle.bgp_wire.specs.Routes.{AreAttrs}
-use Rattle.bgp_wire.specs.Updates.{Reading, Content, update, keepalive, notification, opening, has_kind, missing, lack, lacks, header_at, reading_at, content_for, content_at, fault}
-use Rattle.bgp_wire.specs.Grammar.{IsReading, Holds, without, AreAttrsFor, IsUpdateBy, IsMessageBy, GivesUpdate, GivesMessage, Reads, Answers, OneAnswer}
+use Rattle.bgp_wire.specs.Updates.{Reading, Content, update, keepalive, notification, opening, refresh, refresh_at, has_kind, missing, lack, lacks, header_at, reading_at, content_for, content_at, fault}
+use Rattle.bgp_wire.specs.Grammar.{IsReading, IsRefresh, Holds, without, AreAttrsFor, IsUpdateBy, IsMessageBy, GivesUpdate, GivesMessage, Reads, Answers, OneAnswer}
 use Rattle.bgp_wire.proofs.TestLemmas.{or_false_right}
 use Rattle.bgp_wire.proofs.ResultLemmas.{same_ok, not_both}
 use Rattle.bgp_wire.proofs.RouteLaws.{HasAll, attrs_made, one_attrs}
@@ -72,6 +73,7 @@ by_content p external bytes (messages.Update u) reads = (update reads.0, reads.1
 by_content p external bytes messages.Keepalive reads = (keepalive, reads, tt)
 by_content p external bytes messages.Notification reads = (notification, reads, tt)
 by_content p external bytes messages.Skip reads = (opening, reads, tt)
+by_content p external bytes (messages.Refresh r) reads = (refresh r, reads, refl)
 by_content p external bytes (messages.Notify n) reads = absurd reads
 
 pub from_content : (p : Profile) (external : Bool) (bytes : List ℕ) (c : Content) (m : Message) → Holds p external bytes c → IsMessageBy p external c m → Reads p external bytes m
@@ -79,63 +81,40 @@ from_content p external bytes (update r) (messages.Update u) holds is = (r, hold
 from_content p external bytes keepalive messages.Keepalive holds is = holds
 from_content p external bytes notification messages.Notification holds is = holds
 from_content p external bytes opening messages.Skip holds is = holds
-from_content p external bytes (update r) messages.Keepalive holds is = absurd is
-from_content p external bytes (update r) messages.Notification holds is = absurd is
-from_content p external bytes (update r) messages.Skip holds is = absurd is
-from_content p external bytes (update r) (messages.Notify n) holds is = absurd is
-from_content p external bytes keepalive (messages.Update u) holds is = absurd is
-from_content p external bytes keepalive messages.Notification holds is = absurd is
-from_content p external bytes keepalive messages.Skip holds is = absurd is
-from_content p external bytes keepalive (messages.Notify n) holds is = absurd is
-from_content p external bytes notification (messages.Update u) holds is = absurd is
-from_content p external bytes notification messages.Keepalive holds is = absurd is
-from_content p external bytes notification messages.Skip holds is = absurd is
-from_content p external bytes notification (messages.Notify n) holds is = absurd is
-from_content p external bytes opening (messages.Update u) holds is = absurd is
-from_content p external bytes opening messages.Keepalive holds is = absurd is
-from_content p external bytes opening messages.Notification holds is = absurd is
-from_content p external bytes opening (messages.Notify n) holds is = absurd is
+from_content p external bytes (refresh r) (messages.Refresh asked) holds is = subst (IsRefresh bytes) (sym is) holds
+from_content p external bytes c other holds is = absurd is
 
 message_made : (p : Profile) (external : Bool) (bytes : List ℕ) (c : Content) → Holds p external bytes c → (m : Message) × IsMessageBy p external c m
 message_made p external bytes (update r) holds = let u = update_made p external bytes r holds in (messages.Update u.0, u.1)
 message_made p external bytes keepalive holds = (messages.Keepalive, tt)
 message_made p external bytes notification holds = (messages.Notification, tt)
 message_made p external bytes opening holds = (messages.Skip, tt)
+message_made p external bytes (refresh r) holds = (messages.Refresh r, refl)
 
 pub one_message_by : (p : Profile) (external : Bool) (c : Content) (m n : Message) → IsMessageBy p external c m → IsMessageBy p external c n → m ≡ n
 one_message_by p external (update r) (messages.Update u) (messages.Update v) f g = ap (λ u. messages.Update u) (one_update p.as4 external r r.withdraw u v f g)
-one_message_by p external (update r) (messages.Update u) messages.Keepalive f g = absurd g
-one_message_by p external (update r) (messages.Update u) messages.Notification f g = absurd g
-one_message_by p external (update r) (messages.Update u) messages.Skip f g = absurd g
-one_message_by p external (update r) (messages.Update u) (messages.Notify n) f g = absurd g
-one_message_by p external (update r) messages.Keepalive n f g = absurd f
-one_message_by p external (update r) messages.Notification n f g = absurd f
-one_message_by p external (update r) messages.Skip n f g = absurd f
-one_message_by p external (update r) (messages.Notify m) n f g = absurd f
+one_message_by p external (update r) (messages.Update u) other f g = absurd g
+one_message_by p external (update r) other n f g = absurd f
 one_message_by p external keepalive m n f g = keepalive_is m f ∙ sym (keepalive_is n g)
   where
     keepalive_is : (m : Message) → IsMessageBy p external keepalive m → m ≡ messages.Keepalive
     keepalive_is messages.Keepalive h = refl
-    keepalive_is (messages.Update u) h = absurd h
-    keepalive_is messages.Notification h = absurd h
-    keepalive_is messages.Skip h = absurd h
-    keepalive_is (messages.Notify n) h = absurd h
+    keepalive_is other h = absurd h
 one_message_by p external notification m n f g = notification_is m f ∙ sym (notification_is n g)
   where
     notification_is : (m : Message) → IsMessageBy p external notification m → m ≡ messages.Notification
     notification_is messages.Notification h = refl
-    notification_is (messages.Update u) h = absurd h
-    notification_is messages.Keepalive h = absurd h
-    notification_is messages.Skip h = absurd h
-    notification_is (messages.Notify n) h = absurd h
+    notification_is other h = absurd h
 one_message_by p external opening m n f g = opening_is m f ∙ sym (opening_is n g)
   where
     opening_is : (m : Message) → IsMessageBy p external opening m → m ≡ messages.Skip
     opening_is messages.Skip h = refl
-    opening_is (messages.Update u) h = absurd h
-    opening_is messages.Keepalive h = absurd h
-    opening_is messages.Notification h = absurd h
-    opening_is (messages.Notify n) h = absurd h
+    opening_is other h = absurd h
+one_message_by p external (refresh r) m n f g = refresh_is m f ∙ sym (refresh_is n g)
+  where
+    refresh_is : (m : Message) → IsMessageBy p external (refresh r) m → m ≡ messages.Refresh r
+    refresh_is (messages.Refresh asked) h = ap (λ (asked : RouteRefresh). messages.Refresh asked) h
+    refresh_is other h = absurd h
 
 -- octets are one message at most
 pub one_message : (p : Profile) (external : Bool) (bytes : List ℕ) (m n : Message) → Reads p external bytes m → Reads p external bytes n → m ≡ n
@@ -180,6 +159,7 @@ answers_from p external bytes (messages.Update u) reads = reads
 answers_from p external bytes messages.Keepalive reads = reads
 answers_from p external bytes messages.Notification reads = reads
 answers_from p external bytes messages.Skip reads = reads
+answers_from p external bytes (messages.Refresh r) reads = reads
 answers_from p external bytes (messages.Notify n) reads = absurd reads
 
 pub answers_message : (p : Profile) (external : Bool) (bytes : List ℕ) (m : Message) → GivesMessage p external (Ok m) (content_at p external bytes) → Answers p external bytes m
@@ -196,6 +176,7 @@ only_message p external bytes m given other answers = by_other other answers
     by_other messages.Keepalive answers = one_message p external bytes m messages.Keepalive reads answers
     by_other messages.Notification answers = one_message p external bytes m messages.Notification reads answers
     by_other messages.Skip answers = one_message p external bytes m messages.Skip reads answers
+    by_other (messages.Refresh r) answers = one_message p external bytes m (messages.Refresh r) reads answers
     by_other (messages.Notify n) answers = absurd (no_fault_is given.0 n (sym (ap err_of given.1) ∙ one_fault p external bytes ∙ answers))
 
 pub answers_fault : (p : Profile) (external : Bool) (bytes : List ℕ) (n : Notice) → content_at p external bytes ≡ Err n → fault p bytes ≡ Some n
@@ -207,11 +188,18 @@ only_fault p external bytes n e (messages.Update u) answers = absurd (no_message
 only_fault p external bytes n e messages.Keepalive answers = absurd (no_message p external bytes n messages.Keepalive (answers_fault p external bytes n e) answers)
 only_fault p external bytes n e messages.Notification answers = absurd (no_message p external bytes n messages.Notification (answers_fault p external bytes n e) answers)
 only_fault p external bytes n e messages.Skip answers = absurd (no_message p external bytes n messages.Skip (answers_fault p external bytes n e) answers)
+only_fault p external bytes n e (messages.Refresh r) answers = absurd (no_message p external bytes n (messages.Refresh r) (answers_fault p external bytes n e) answers)
 
 -- an UPDATE is a message
-pub update_content : (p : Profile) (external : Bool) (bytes : List ℕ) (kind : ℕ) (u : Update) → header_at bytes ≡ Ok kind → eqb kind 1 ≡ false → eqb kind 3 ≡ false → eqb kind 4 ≡ false
+pub update_content : (p : Profile) (external : Bool) (bytes : List ℕ) (kind : ℕ) (u : Update) → header_at bytes ≡ Ok kind → eqb kind 1 ≡ false → eqb kind 3 ≡ false → eqb kind 4 ≡ false → eqb kind 5 ≡ false
     → GivesUpdate p external (Ok u) (reading_at p external bytes) → GivesMessage p external (Ok (messages.Update u)) (content_at p external bytes)
 unfolding content_at
-update_content p external bytes kind u header not_1 not_3 not_4 given =
+update_content p external bytes kind u header not_1 not_3 not_4 not_5 given =
     let r = given.0 in
-    (update r, ap (λ h. h >>= λ kind. content_for p external bytes kind) header ∙ (λ i. cond (not_1 i) (Ok opening) (cond (not_3 i) (Ok notification) (cond (not_4 i) (Ok keepalive) (given.1 i >>= λ r. Ok (update r))))), given.2)
+    (update r, ap (λ h. h >>= λ kind. content_for p external bytes kind) header ∙ (λ i. cond (not_1 i) (Ok opening) (cond (not_3 i) (Ok notification) (cond (not_4 i) (Ok keepalive) (cond (not_5 i) (Ok (refresh (refresh_at bytes))) (given.1 i >>= λ r. Ok (update r)))))), given.2)
+
+-- and so is a ROUTE-REFRESH
+pub refresh_content : (p : Profile) (external : Bool) (bytes : List ℕ) (kind : ℕ) (r : RouteRefresh) → header_at bytes ≡ Ok kind → kind ≡ 5 → r ≡ refresh_at bytes → GivesMessage p external (Ok (messages.Refresh r)) (content_at p external bytes)
+unfolding content_at
+refresh_content p external bytes kind r header five is =
+    (refresh (refresh_at bytes), ap (λ h. h >>= λ kind. content_for p external bytes kind) header ∙ ap (λ (k : ℕ). content_for p external bytes k) five, is)

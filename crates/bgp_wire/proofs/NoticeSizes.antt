@@ -193,8 +193,8 @@ reading_low p external bytes top =
 
 content_low : (p : Profile) (external : Bool) (bytes : List ℕ) (kind : ℕ) → length bytes ≤ 4096 → IsLow 4073 (content_for p external bytes kind)
 content_low p external bytes kind top =
-    low_cond 4073 (nat_eq kind 1) _ _ low_ok (low_cond 4073 (nat_eq kind 3) _ _ low_ok (low_cond 4073 (nat_eq kind 4) _ _ low_ok
-    (low_bind 4073 (reading_at p external bytes) (λ r. Ok (update r)) (reading_low p external bytes top) (λ _ _. low_ok))))
+    low_cond 4073 (nat_eq kind 1) _ _ low_ok (low_cond 4073 (nat_eq kind 3) _ _ low_ok (low_cond 4073 (nat_eq kind 4) _ _ low_ok (low_cond 4073 (nat_eq kind 5) _ _ low_ok
+    (low_bind 4073 (reading_at p external bytes) (λ r. Ok (update r)) (reading_low p external bytes top) (λ _ _. low_ok)))))
 
 -- a header without a fault is that of a message of at most 4,096 octets
 abbrev OnKind : ℕ → Result ℕ Notice → Type 0
@@ -234,7 +234,7 @@ sized false false true n size le is e = grind (arith, nat_tests)
 abbrev as_tested : List ℕ → Result ℕ Notice
 as_tested bytes =
     tested (nat_lt (length bytes) 19) (not (is_marked bytes)) (nat_lt (number_at bytes 16) 19 || nat_lt 4096 (number_at bytes 16) || not (nat_eq (number_at bytes 16) (length bytes)))
-    (nat_eq (get_or bytes 18 0) 0 || nat_lt 4 (get_or bytes 18 0)) (has_wrong_length (get_or bytes 18 0) (length bytes)) (length_field bytes) (take 1 (drop 18 bytes)) (get_or bytes 18 0)
+    (nat_eq (get_or bytes 18 0) 0 || nat_lt 5 (get_or bytes 18 0)) (has_wrong_length (get_or bytes 18 0) (length bytes)) (length_field bytes) (take 1 (drop 18 bytes)) (get_or bytes 18 0)
 
 header_is : (bytes : List ℕ) → header_at bytes ≡ as_tested bytes
 unfolding header_at
@@ -244,14 +244,14 @@ header_topped : (bytes : List ℕ) → IsTopped (length bytes) (header_at bytes)
 header_topped bytes =
     subst (IsTopped (length bytes)) (sym (header_is bytes))
     (tests_topped (length bytes) (nat_lt (length bytes) 19) (not (is_marked bytes)) (nat_lt (number_at bytes 16) 19 || nat_lt 4096 (number_at bytes 16) || not (nat_eq (number_at bytes 16) (length bytes)))
-    (nat_eq (get_or bytes 18 0) 0 || nat_lt 4 (get_or bytes 18 0)) (has_wrong_length (get_or bytes 18 0) (length bytes)) (length_field bytes) (take 1 (drop 18 bytes)) (get_or bytes 18 0)
+    (nat_eq (get_or bytes 18 0) 0 || nat_lt 5 (get_or bytes 18 0)) (has_wrong_length (get_or bytes 18 0) (length bytes)) (length_field bytes) (take 1 (drop 18 bytes)) (get_or bytes 18 0)
     (λ e. sized (nat_lt (number_at bytes 16) 19) (nat_lt 4096 (number_at bytes 16)) (nat_eq (number_at bytes 16) (length bytes)) (number_at bytes 16) (length bytes) refl refl e))
 
 header_low : (k : ℕ) (bytes : List ℕ) → 2 ≤ k → IsLow k (header_at bytes)
 header_low k bytes two =
     subst (IsLow k) (sym (header_is bytes))
     (tests_low k (nat_lt (length bytes) 19) (not (is_marked bytes)) (nat_lt (number_at bytes 16) 19 || nat_lt 4096 (number_at bytes 16) || not (nat_eq (number_at bytes 16) (length bytes)))
-    (nat_eq (get_or bytes 18 0) 0 || nat_lt 4 (get_or bytes 18 0)) (has_wrong_length (get_or bytes 18 0) (length bytes)) (length_field bytes) (take 1 (drop 18 bytes)) (get_or bytes 18 0)
+    (nat_eq (get_or bytes 18 0) 0 || nat_lt 5 (get_or bytes 18 0)) (has_wrong_length (get_or bytes 18 0) (length bytes)) (length_field bytes) (take 1 (drop 18 bytes)) (get_or bytes 18 0)
     (omega (arith, length-take 2 (drop 16 bytes))) (omega (arith, length-take 1 (drop 18 bytes))))
 
 fault_low : (p : Profile) (bytes : List ℕ) → LowFault 4073 (fault p bytes)
@@ -268,4 +268,5 @@ message_fits p external bytes (messages.Notify n) answers = notice_fits p bytes 
 message_fits p external bytes (messages.Update u) answers = tt
 message_fits p external bytes messages.Keepalive answers = tt
 message_fits p external bytes messages.Skip answers = tt
+message_fits p external bytes (messages.Refresh r) answers = tt
 message_fits p external bytes messages.Notification answers = tt

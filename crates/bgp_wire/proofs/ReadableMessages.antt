@@ -86,4 +86,5 @@ answer_is_readable p external bytes (messages.Update u) octets answers = read_is
 answer_is_readable p external bytes messages.Keepalive octets answers = tt
 answer_is_readable p external bytes messages.Notification octets answers = tt
 answer_is_readable p external bytes messages.Skip octets answers = tt
+answer_is_readable p external bytes (messages.Refresh r) octets answers = tt
 answer_is_readable p external bytes (messages.Notify n) octets answers = tt

@@ -1,5 +1,5 @@
--- What messages are, by cases on their octets (RFC 4271, section 4).
-use Rattle.std.specs.Prelude.{◌≡◌, ◌⊎◌, ℕ, ◌+◌, ◌*◌, ◌≤◌, ◌||◌, List, [], ◌∷◌, ◌++◌, length, replicate, filter, Option, Some, None, Result, Ok, Err, Bool, true, false, not}
+-- What messages are, by cases on their octets (RFC 4271, section 4; RFC 2918, section 3).
+use Rattle.std.specs.Prelude.{◌≡◌, ◌⊎◌, ℕ, ◌+◌, ◌*◌, ◌≤◌, ◌==◌, ◌&&◌, ◌||◌, List, [], ◌∷◌, ◌++◌, length, replicate, filter, Option, Some, None, Result, Ok, Err, Bool, true, false, not}
 use Rattle.std.specs.List.{list_any}
 use Rattle.addr4.specs.Prefixes.{Network, same_prefix}
 use Rattle.bgp_attr.specs.declared.attrs.Attrs.{Attrs}
@@ -7,6 +7,7 @@ use Rattle.bgp_attr.specs.declared.speaker.Profile.{Profile}
 use Rattle.bgp_wire.specs.declared.notice.Notice.{Notice}
 use Rattle.bgp_wire.specs.declared.notice.Refusal.{Refusal}
 use Rattle.bgp_wire.specs.declared.message.Update.{Update}
+use Rattle.bgp_wire.specs.declared.message.RouteRefresh.{RouteRefresh}
 use Rattle.bgp_wire.specs.declared.message.Message.{Message}
 use Rattle.bgp_wire.specs.declared.message.Message.TheVariants as messages
 use Rattle.bgp_wire.specs.declared.attributes.Verdict.{Verdict}
@@ -14,7 +15,7 @@ use Rattle.bgp_wire.specs.Faults.{Fails}
 use Rattle.bgp_wire.specs.Prefixes.{ArePrefixes}
 use Rattle.bgp_wire.specs.Attributes.{Attribute, AreAttributes, kept_by}
 use Rattle.bgp_wire.specs.Routes.{AreAttrs}
-use Rattle.bgp_wire.specs.Updates.{Reading, Content, update, keepalive, notification, opening, lacks, fault}
+use Rattle.bgp_wire.specs.Updates.{Reading, Content, update, keepalive, notification, opening, refresh, lacks, fault}
 
 -- a marker of ones, the length of the whole, a type, and a body
 pub record IsFrame (bytes : List ℕ) (kind : ℕ) (body : List ℕ) : Type 0 where
@@ -46,12 +47,26 @@ pub record IsReading (p : Profile) (external : Bool) (bytes : List ℕ) (r : Rea
   pub complete : lacks p r.announced r.kept ≡ Ok lacking
   pub withdraw : r.withdraw ≡ ((kept_by steps runs).1 || lacking)
 
+-- the four octets of a ROUTE-REFRESH: the address family, a reserved octet, which may be any, and the subsequent address family
+-- (RFC 2918, section 3)
+pub record IsRefresh (bytes : List ℕ) (r : RouteRefresh) : Type 0 where
+  pub high : ℕ
+  pub low : ℕ
+  pub reserved : ℕ
+  pub frame : IsFrame bytes 5 (high ∷ low ∷ reserved ∷ r.safi ∷ [])
+  pub afi : high * 256 + low ≡ r.afi
+
+-- whether it asks for the routes that are spoken here, those of IPv4 unicast; one that asks for others is ignored (RFC 2918, section 4)
+abbrev pub is_served : RouteRefresh → Bool
+is_served r = r.afi == 1 && r.safi == 1
+
 -- what the octets hold, by cases on the whole
 abbrev pub Holds : Profile → Bool → List ℕ → Content → Type 0
 Holds p external bytes (update r) = IsReading p external bytes r
 Holds p external bytes keepalive = IsFrame bytes 4 []
 Holds p external bytes notification = (body : List ℕ) × IsFrame bytes 3 body × (2 ≤ length body)
 Holds p external bytes opening = (body : List ℕ) × IsFrame bytes 1 body × (10 ≤ length body)
+Holds p external bytes (refresh r) = IsRefresh bytes r
 
 -- the prefixes that aren't among the others
 abbrev pub without : List Network → List Network → List Network
@@ -89,6 +104,7 @@ IsMessageBy p external (update r) (messages.Update u) = IsUpdateBy p.as4 externa
 IsMessageBy p external keepalive messages.Keepalive = Unit {0}
 IsMessageBy p external notification messages.Notification = Unit {0}
 IsMessageBy p external opening messages.Skip = Unit {0}
+IsMessageBy p external (refresh r) (messages.Refresh asked) = asked ≡ r
 IsMessageBy p external content message = ⊥
 
 -- a message was read, or its first fault
@@ -102,6 +118,7 @@ Reads p external bytes (messages.Update u) = (r : Reading) × IsReading p extern
 Reads p external bytes messages.Keepalive = Holds p external bytes keepalive
 Reads p external bytes messages.Notification = Holds p external bytes notification
 Reads p external bytes messages.Skip = Holds p external bytes opening
+Reads p external bytes (messages.Refresh r) = IsRefresh bytes r
 Reads p external bytes (messages.Notify n) = ⊥
 
 -- what is answered to octets: the message that they are, or their first fault

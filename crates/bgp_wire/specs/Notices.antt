@@ -14,3 +14,4 @@ HasShortNotice (messages.Update u) = Unit {0}
 HasShortNotice messages.Keepalive = Unit {0}
 HasShortNotice messages.Notification = Unit {0}
 HasShortNotice messages.Skip = Unit {0}
+HasShortNotice (messages.Refresh r) = Unit {0}

@@ -57,6 +57,7 @@ IsReadableMessage p external (messages.Update u) = IsReadableUpdate p external u
 IsReadableMessage p external messages.Keepalive = Unit {0}
 IsReadableMessage p external messages.Notification = Unit {0}
 IsReadableMessage p external messages.Skip = Unit {0}
+IsReadableMessage p external (messages.Refresh r) = Unit {0}
 IsReadableMessage p external (messages.Notify n) = Unit {0}
 
 -- octets, as numbers

@@ -1,9 +1,10 @@
--- Whole messages, with the first fault (RFC 4271, sections 4.1, 4.3, 6.1 and 6.3).
+-- Whole messages, with the first fault (RFC 4271, sections 4.1, 4.3, 6.1 and 6.3; RFC 2918, section 3).
 use Rattle.std.specs.Prelude.{ℕ, ◌+◌, ◌*◌, List, [], ◌∷◌, length, take, drop, slice_index, Option, Some, None, Result, Ok, Err, Bool, true, false, nat_lt, ◌==◌, ◌||◌, not, if◌then◌else◌}
 use Rattle.std.specs.List.{list_any, list_all}
 use Rattle.addr4.specs.Prefixes.{Network}
 use Rattle.bgp_attr.specs.declared.speaker.Profile.{Profile}
 use Rattle.bgp_wire.specs.declared.header.UpdateFields.{UpdateFields}
+use Rattle.bgp_wire.specs.declared.message.RouteRefresh.{RouteRefresh}
 use Rattle.bgp_wire.specs.declared.notice.Notice.{Notice}
 use Rattle.bgp_wire.specs.Faults.{notice, err_of, ◌>>=◌}
 use Rattle.bgp_wire.specs.Prefixes.{prefixes_at}
@@ -19,13 +20,14 @@ is_marked bytes = list_all (λ b. b == 255) (take 16 bytes)
 abbrev pub length_field : List ℕ → List ℕ
 length_field bytes = take 2 (drop 16 bytes)
 
--- whether a message of a type has fewer octets than it must, or of a KEEPALIVE any more
+-- whether a message of a type has fewer octets than it must, or of a KEEPALIVE or a ROUTE-REFRESH any more
 abbrev pub has_wrong_length : ℕ → ℕ → Bool
 has_wrong_length kind size =
     if kind == 1 then nat_lt size 29
     else if kind == 2 then nat_lt size 23
     else if kind == 3 then nat_lt size 21
-    else not (size == 19)
+    else if kind == 4 then not (size == 19)
+    else not (size == 23)
 
 -- the type of a message
 unfoldable pub header_at : List ℕ → Result ℕ Notice
@@ -33,7 +35,7 @@ header_at bytes =
     if nat_lt (length bytes) 19 then Err (notice 1 2 [])
     else if not (is_marked bytes) then Err (notice 1 1 [])
     else if nat_lt (number_at bytes 16) 19 || nat_lt 4096 (number_at bytes 16) || not (number_at bytes 16 == length bytes) then Err (notice 1 2 (length_field bytes))
-    else if slice_index bytes 18 == 0 || nat_lt 4 (slice_index bytes 18) then Err (notice 1 3 (take 1 (drop 18 bytes)))
+    else if slice_index bytes 18 == 0 || nat_lt 5 (slice_index bytes 18) then Err (notice 1 3 (take 1 (drop 18 bytes)))
     else if has_wrong_length (slice_index bytes 18) (length bytes) then Err (notice 1 2 (length_field bytes))
     else Ok (slice_index bytes 18)
 
@@ -91,18 +93,24 @@ reading_at p external bytes = do
   lacking ← lacks p announced kept.0
   Ok (record { withdrawn = withdrawn; announced = announced; kept = kept.0; withdraw = kept.1 || lacking })
 
+-- what a ROUTE-REFRESH asks for: the family behind the header, and behind it and the reserved octet that of its routes
+abbrev pub refresh_at : List ℕ → RouteRefresh
+refresh_at bytes = record { afi = number_at bytes 19; safi = slice_index bytes 22 }
+
 -- what a message holds
 pub data Content : Type 0 where
   update : Reading → Content
   keepalive : Content
   notification : Content
   opening : Content
+  refresh : RouteRefresh → Content
 
 abbrev pub content_for : Profile → Bool → List ℕ → ℕ → Result Content Notice
 content_for p external bytes kind =
     if kind == 1 then Ok opening
     else if kind == 3 then Ok notification
     else if kind == 4 then Ok keepalive
+    else if kind == 5 then Ok (refresh (refresh_at bytes))
     else reading_at p external bytes >>= λ r. Ok (update r)
 
 -- what octets hold, or their first fault

@@ -16,6 +16,9 @@ pub(crate) const NOTIFICATION: u8 = 3;
 
 pub(crate) const KEEPALIVE: u8 = 4;
 
+/// RFC 2918, section 3.
+pub(crate) const ROUTE_REFRESH: u8 = 5;
+
 /// The longest message, in octets.
 pub(crate) const LONGEST: usize = 4096;
 
@@ -27,10 +30,11 @@ fn is_marked(bytes: &[u8]) -> bool
     bytes[..16].iter().all(|octet| *octet == 255)
 }
 
-/// Whether a message of a type has fewer octets than it must, or of a KEEPALIVE any more.
+/// Whether a message of a type has fewer octets than it must, or of a KEEPALIVE or a ROUTE-REFRESH any more.
 fn has_wrong_length(kind: u8, size: usize) -> bool
     ensures value { result ≡ has_wrong_length kind size }
     ensures update { result ≡ false → kind ≡ 2 → 23 ≤ size }
+    ensures refresh { result ≡ false → kind ≡ 5 → 23 ≤ size }
 {
     if kind == OPEN {
         size < 29
@@ -38,17 +42,20 @@ fn has_wrong_length(kind: u8, size: usize) -> bool
         size < 23
     } else if kind == NOTIFICATION {
         size < 21
-    } else {
+    } else if kind == KEEPALIVE {
         size != 19
+    } else {
+        size != 23
     }
 }
 
-/// The type of a message whose header has no fault (RFC 4271, section 6.1).
+/// The type of a message whose header has no fault (RFC 4271, section 6.1; RFC 2918, section 3).
 #[tactic(auto, unfolding(crate::specs::Updates::header_at))]
 pub(crate) fn read_header(alloc: Global, bytes: &[u8]) -> Result<u8, Refusal>
     ensures gives { Gives (λ kind. kind) result (header_at bytes.now) }
-    ensures kinds { IfOk result (λ kind. (0 < kind) × (kind < 5)) }
+    ensures kinds { IfOk result (λ kind. (0 < kind) × (kind < 6)) }
     ensures update { IfOk result (λ kind. kind ≡ 2 → 23 ≤ length bytes.now) }
+    ensures refresh { IfOk result (λ kind. kind ≡ 5 → 23 ≤ length bytes.now) }
 {
     if bytes.len() < 19 {
         return Err(refused(alloc, FaultKind::BadMessageLength, &[]));
@@ -61,7 +68,7 @@ pub(crate) fn read_header(alloc: Global, bytes: &[u8]) -> Result<u8, Refusal>
         return Err(refused(alloc, FaultKind::BadMessageLength, &bytes[16..18]));
     }
     let kind = bytes[18];
-    if kind < OPEN || kind > KEEPALIVE {
+    if kind < OPEN || kind > ROUTE_REFRESH {
         return Err(refused(alloc, FaultKind::BadMessageType, &bytes[18..19]));
     }
     if has_wrong_length(kind, bytes.len()) {

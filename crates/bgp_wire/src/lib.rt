@@ -1,9 +1,9 @@
 //! BGP messages as octets (RFC 4271; AS numbers of four octets by RFC 6793).
 //!
-//! [`read_message`] answers what octets are: an UPDATE, a KEEPALIVE, a NOTIFICATION, an OPEN (skipped), or the NOTIFICATION
-//! that answers their first fault. What octets are is said in `specs/`: the grammar by cases on the whole octets
-//! (`Reads`, over frames, fields, prefixes, segments and attributes), and the first fault in the order in which octets are
-//! judged (`fault`). [`one_of_message_and_fault`] says that each list of octets has exactly one of both.
+//! [`read_message`] answers what octets are: an UPDATE, a KEEPALIVE, a NOTIFICATION, an OPEN (skipped), a ROUTE-REFRESH
+//! (RFC 2918), or the NOTIFICATION that answers their first fault. What octets are is said in `specs/`: the grammar by cases
+//! on the whole octets (`Reads`, over frames, fields, prefixes, segments and attributes), and the first fault in the order
+//! in which octets are judged (`fault`). [`one_of_message_and_fault`] says that each list of octets has exactly one of both.
 //!
 //! An [`Update`] has its prefixes as the octets have them, in order and masked. A prefix may be withdrawn and announced in one
 //! UPDATE, and class D and E prefixes are announced like others: what that does to the routes is the reader's matter.
@@ -30,7 +30,7 @@ mod reading;
 mod writing;
 
 pub use laws::{notices_fit, one_fault_for_both, one_of_message_and_fault};
-pub use message::{Message, Prefixes, Update};
+pub use message::{Message, Prefixes, RouteRefresh, Update};
 pub use notice::Notice;
 pub use reading::read_message;
 pub use writing::{

@@ -47,6 +47,27 @@ pub struct Update {
     pub attrs: Option<Attrs>,
 }
 
+/// What a ROUTE-REFRESH asks to be sent again (RFC 2918, section 3). Its reserved octet is ignored.
+#[derive(Clone, Copy)]
+pub struct RouteRefresh {
+    /// The address family: 1 is IPv4 (RFC 4760, section 8).
+    pub afi: u16,
+    /// The subsequent address family: 1 is unicast.
+    pub safi: u8,
+}
+
+impl RouteRefresh {
+    ghost use Rattle.bgp_wire.specs.Grammar.{is_served};
+
+    /// Whether it asks for the routes that are spoken here: IPv4 unicast. One that asks for others is ignored (RFC 2918,
+    /// section 4).
+    pub fn is_served(&self) -> bool
+        ensures { result ≡ is_served self.now }
+    {
+        self.afi == 1 && self.safi == 1
+    }
+}
+
 /// A message that was read.
 #[derive(Drop)]
 pub enum Message {
@@ -56,6 +77,8 @@ pub enum Message {
     Notification,
     /// An OPEN, which does nothing.
     Skip,
+    /// A ROUTE-REFRESH, of whatever family (RFC 2918).
+    Refresh(RouteRefresh),
     /// The octets have a fault, and this is the NOTIFICATION to be sent.
     Notify(Notice),
 }

@@ -8,12 +8,20 @@ ghost use Rattle.bgp_wire.specs.Updates.{number_at};
 use byteorder::{BigEndian, ByteOrder};
 
 /// The number that the two octets from a place are.
+pub(crate) fn two_octets(bytes: &[u8], i: usize) -> u16
+    requires { i + 1 < length bytes.now }
+    ensures { result ≡ number_at bytes.now i }
+{
+    BigEndian::read_u16(&bytes[i..])
+}
+
+/// The same, as a length.
 pub(crate) fn number_at(bytes: &[u8], i: usize) -> usize
     requires { i + 1 < length bytes.now }
     ensures value { result ≡ number_at bytes.now i }
     ensures small { result < 2 ^ 16 }
 {
-    usize::from(BigEndian::read_u16(&bytes[i..]))
+    usize::from(two_octets(bytes, i))
 }
 
 /// How many octets an AS number has.

@@ -7,16 +7,17 @@ ghost use Rattle.addr4.specs.Prefixes.{Network, prefix_cmp, same_prefix};
 ghost use Rattle.bgp_wire.specs.declared.message.Message.{Message as Answer};
 ghost use Rattle.bgp_wire.specs.Faults.{Gives};
 ghost use Rattle.bgp_wire.specs.Found.{missing_from, lacks_from, attrs_from, attrs_for, update_of};
-ghost use Rattle.bgp_wire.specs.Updates.{reading_at, content_at};
+ghost use Rattle.bgp_wire.specs.Updates.{reading_at, refresh_at, content_at};
 ghost use Rattle.bgp_wire.specs.Grammar.{without, GivesUpdate, GivesMessage, Answers};
 ghost use Rattle.bgp_wire.specs.Notices.{HasShortNotice};
 ghost use Rattle.bgp_wire.specs.Readable.{IsReadableMessage};
 
 use crate::attributes::{AS_PATH, NEXT_HOP, ORIGIN};
 use crate::found::{Found, read_attributes};
-use crate::header::{KEEPALIVE, NOTIFICATION, OPEN, read_fields, read_header};
-use crate::message::{Message, Prefixes, Update};
+use crate::header::{KEEPALIVE, NOTIFICATION, OPEN, ROUTE_REFRESH, read_fields, read_header};
+use crate::message::{Message, Prefixes, RouteRefresh, Update};
 use crate::notice::{FaultKind, Refusal, refused};
+use crate::numbers::two_octets;
 use crate::prefixes::read_prefixes;
 use addr4::{Memory, Prefix};
 use bgp_attr::{Attrs, Profile};
@@ -195,6 +196,17 @@ fn read_update(
     Ok(update)
 }
 
+/// A ROUTE-REFRESH (RFC 2918, section 3).
+fn read_refresh(bytes: &[u8]) -> RouteRefresh
+    requires { 23 ≤ length bytes.now }
+    ensures { result ≡ refresh_at bytes.now }
+{
+    RouteRefresh {
+        afi: two_octets(bytes, 19),
+        safi: bytes[22],
+    }
+}
+
 #[tactic(auto, unfolding(crate::specs::Updates::content_at))]
 fn read_content(
     alloc: Global,
@@ -214,12 +226,15 @@ fn read_content(
     if kind == KEEPALIVE {
         return Ok(Message::Keepalive);
     }
+    if kind == ROUTE_REFRESH {
+        return Ok(Message::Refresh(read_refresh(bytes)));
+    }
     let update = read_update(alloc, profile, external, bytes)?;
     Ok(Message::Update(update))
 }
 
-/// Reads a message (RFC 4271, sections 4 and 6). `external` says whether the peer is one of another AS, whose LOCAL_PREF
-/// doesn't count. Octets with a fault are answered by [`Message::Notify`].
+/// Reads a message (RFC 4271, sections 4 and 6; RFC 2918, section 3). `external` says whether the peer is one of another
+/// AS, whose LOCAL_PREF doesn't count. Octets with a fault are answered by [`Message::Notify`].
 pub fn read_message(
     alloc: Global,
     profile: Profile,

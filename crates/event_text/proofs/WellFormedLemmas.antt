@@ -117,7 +117,8 @@ unfolding peer_task
 peer_task_ok w k h =
     either (bytes_eq w (codes "fin")) (Some (tasks.Fin k)) _ IsTask h
     (either (bytes_eq w (codes "nh")) (Some (tasks.Nh k)) _ IsTask h
-    (either (bytes_eq w (codes "out")) (Some (tasks.Out k)) None IsTask h tt))
+    (either (bytes_eq w (codes "out")) (Some (tasks.Out k)) _ IsTask h
+    (either (bytes_eq w (codes "ref")) (Some (tasks.Ref k)) None IsTask h tt)))
 
 number_task_ok : (w : List ℕ) (k : Option ℕ) → IfSome k IsNumber → IfSome (option_and_then (peer_task w) k) IsTask
 number_task_ok w None h = tt

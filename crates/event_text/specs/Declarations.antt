@@ -8,7 +8,7 @@ use Rattle.bgp_attr.specs.Speakers.{IsSpeaker, IsNeighbourOf}
 use Rattle.journal_text.specs.declared.link.Link.{Link}
 use Rattle.journal_text.specs.declared.link.Link.TheVariants as links
 use Rattle.journal_text.specs.declared.link.Task.{Task}
-use Rattle.journal_text.specs.declared.link.Task.TheVariants.{Del, Fin, Nh, ReadRib, Out, Rdel, Red, Ext}
+use Rattle.journal_text.specs.declared.link.Task.TheVariants.{Del, Fin, Nh, ReadRib, Out, Rdel, Red, Ext, Ref}
 use Rattle.journal_text.specs.declared.line.Code.{Code}
 use Rattle.journal_text.specs.declared.line.Code.TheVariants.{E3, E4, E5, E6, E7}
 use Rattle.event_text.specs.declared.event.Event.{Event}
@@ -83,6 +83,7 @@ task_refusal ReadRib peers = None
 task_refusal Red peers = None
 task_refusal Ext peers = None
 task_refusal (Out k) peers = undeclared (peer_at k peers)
+task_refusal (Ref k) peers = undeclared (peer_at k peers)
 task_refusal (Rdel proto n) peers = None
 
 -- a link of a peer needs it declared; the others don't

@@ -7,7 +7,7 @@ use Rattle.rib_route.specs.Ifaces.{is_iface_name}
 use Rattle.rib_route.specs.declared.rows.Interior.{Interior}
 use Rattle.journal_text.specs.Names.{IsNamed}
 use Rattle.journal_text.specs.declared.link.Task.{Task}
-use Rattle.journal_text.specs.declared.link.Task.TheVariants.{Del, Fin, Nh, ReadRib, Out, Rdel, Red, Ext}
+use Rattle.journal_text.specs.declared.link.Task.TheVariants.{Del, Fin, Nh, ReadRib, Out, Rdel, Red, Ext, Ref}
 use Rattle.policy_rules.specs.Ranges.{AreRules}
 use Rattle.event_text.specs.declared.event.Event.{Event}
 use Rattle.event_text.specs.declared.event.Event.TheVariants as events
@@ -46,6 +46,7 @@ IsTask ReadRib = Unit {0}
 IsTask Red = Unit {0}
 IsTask Ext = Unit {0}
 IsTask (Out k) = IsNumber k
+IsTask (Ref k) = IsNumber k
 IsTask (Rdel proto n) = IsNumber n
 
 -- its numbers, words, octets, prefix, link and task are what the grammar says, for AS numbers of four octets or of two

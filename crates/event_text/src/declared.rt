@@ -270,9 +270,8 @@ fn task_refusal(task: Task, peers: &[DeclaredPeer]) -> Option<Code>
     ensures { result ≡ task_refusal task peers.now }
 {
     match task {
-        Task::Del(peer, _) | Task::Fin(peer) | Task::Nh(peer) | Task::Out(peer) => {
-            undeclared(peer_of(peers, peer))
-        }
+        Task::Del(peer, _) | Task::Fin(peer) | Task::Nh(peer) | Task::Out(peer) | Task::Ref(peer) =>
+            undeclared(peer_of(peers, peer)),
         Task::ReadRib | Task::Rdel(_, _) | Task::Red | Task::Ext => None,
     }
 }

@@ -207,8 +207,13 @@ impl Chain {
                 }
                 self.walk(journal)
             }
-            Task::Nh(_) | Task::ReadRib | Task::Out(_) | Task::Rdel(_, _) | Task::Red | Task::Ext =>
-                Ok(Turn::Nothing),
+            Task::Nh(_)
+            | Task::ReadRib
+            | Task::Out(_)
+            | Task::Rdel(_, _)
+            | Task::Red
+            | Task::Ext
+            | Task::Ref(_) => Ok(Turn::Nothing),
         }
     }
 
@@ -305,8 +310,13 @@ impl Chain {
         match task {
             Task::Del(number, session) => number == self.number && self.stage_has(session, p),
             Task::Fin(number) => number == self.number && self.filter_lags(p),
-            Task::Nh(_) | Task::ReadRib | Task::Out(_) | Task::Rdel(_, _) | Task::Red | Task::Ext =>
-                { false }
+            Task::Nh(_)
+            | Task::ReadRib
+            | Task::Out(_)
+            | Task::Rdel(_, _)
+            | Task::Red
+            | Task::Ext
+            | Task::Ref(_) => false,
         }
     }
 

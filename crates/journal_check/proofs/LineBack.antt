@@ -112,6 +112,7 @@ task_ink (tasks.Out j) h = one_number (codes "out") j (ink_by (codes "out") refl
 task_ink (tasks.Rdel proto n) h = one_loss (codes "rdel.") proto n (ink_by (codes "rdel.") refl) h
 task_ink tasks.Red h = ink_by (codes "red") refl
 task_ink tasks.Ext h = ink_by (codes "ext") refl
+task_ink (tasks.Ref j) h = one_number (codes "ref") j (ink_by (codes "ref") refl) h
 
 bracket_ink : (kind : SegmentKind) (text : List ℕ) → AreInk text → AreInk (bracketed kind text)
 bracket_ink Sequence text h = both (40 ∷ text) (41 ∷ []) (ink 40 refl text h) (ink_by (41 ∷ []) refl)

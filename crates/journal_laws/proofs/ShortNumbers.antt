@@ -93,6 +93,7 @@ short_task (tasks.Del k s) h = two_numbers (codes "del") k s (omega arith) h
 short_task (tasks.Fin k) h = omega (arith, one_number (codes "fin") k (omega arith) h)
 short_task (tasks.Nh k) h = omega (arith, one_number (codes "nh") k (omega arith) h)
 short_task (tasks.Out j) h = omega (arith, one_number (codes "out") j (omega arith) h)
+short_task (tasks.Ref j) h = omega (arith, one_number (codes "ref") j (omega arith) h)
 short_task (tasks.Rdel proto n) h = omega (arith, short_rdel proto, one_number (codes "rdel." ++ proto_text proto) n (short_rdel proto) h)
 short_task other h = omega arith
 

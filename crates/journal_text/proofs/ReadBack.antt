@@ -141,3 +141,4 @@ task_back (tasks.Rdel Ospf n) h = ap (λ ps. task_from_parts (codes "rdel" ∷ c
 task_back (tasks.Rdel Rip n) h = ap (λ ps. task_from_parts (codes "rdel" ∷ codes "rip" ∷ ps)) (decimal_alone n h) ∙ lost_back (λ p m. Some (tasks.Rdel p m)) Rip n (tasks.Rdel Rip n) h refl refl
 task_back tasks.Red h = refl
 task_back tasks.Ext h = refl
+task_back (tasks.Ref j) h = ap (λ ps. task_from_parts (codes "ref" ∷ ps)) (decimal_alone j h) ∙ one_back (peer_task (codes "ref")) j (tasks.Ref j) h refl

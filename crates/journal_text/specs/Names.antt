@@ -8,7 +8,7 @@ use Rattle.rib_route.specs.declared.Proto.TheVariants.{Connected, Static, Ospf, 
 use Rattle.journal_text.specs.declared.link.Link.{Link}
 use Rattle.journal_text.specs.declared.link.Link.TheVariants.{In, Peer, Filt, Res, Org, Lost, Low, Dyn, Int, Red, Best, ReadRib, Ebgp, Ibgp, Ext, Fib, Read, Outf, Adv}
 use Rattle.journal_text.specs.declared.link.Task.{Task}
-use Rattle.journal_text.specs.declared.link.Task.TheVariants.{Del, Fin, Nh, ReadRib as RibReads, Out, Rdel, Red as RedWalks, Ext as ExtWalks}
+use Rattle.journal_text.specs.declared.link.Task.TheVariants.{Del, Fin, Nh, ReadRib as RibReads, Out, Rdel, Red as RedWalks, Ext as ExtWalks, Ref}
 
 -- the number, if it is not 0
 abbrev pub from_one : ℕ → Option ℕ
@@ -99,12 +99,13 @@ plain_task w =
     else if bytes_eq w (codes "ext") then Some ExtWalks
     else None
 
--- `fin`, `nh`, `out` of a peer
+-- `fin`, `nh`, `out`, `ref` of a peer
 unfoldable pub peer_task : List ℕ → ℕ → Option Task
 peer_task w k =
     if bytes_eq w (codes "fin") then Some (Fin k)
     else if bytes_eq w (codes "nh") then Some (Nh k)
     else if bytes_eq w (codes "out") then Some (Out k)
+    else if bytes_eq w (codes "ref") then Some (Ref k)
     else None
 
 -- two words: `rd.rib`, or a word and a peer's number
@@ -166,3 +167,4 @@ IsNamedTask (Out j) = IsNameNumber j
 IsNamedTask (Rdel proto n) = IsNameNumber n
 IsNamedTask RedWalks = Unit {0}
 IsNamedTask ExtWalks = Unit {0}
+IsNamedTask (Ref j) = IsNameNumber j

@@ -171,6 +171,7 @@ task_text (tasks.Out j) = codes "out" ++ dot_number j
 task_text (tasks.Rdel proto n) = codes "rdel." ++ proto_text proto ++ dot_number n
 task_text tasks.Red = codes "red"
 task_text tasks.Ext = codes "ext"
+task_text (tasks.Ref j) = codes "ref" ++ dot_number j
 
 -- words with one space between them, and LF
 abbrev pub words_line : List (List ℕ) → List ℕ

@@ -87,6 +87,8 @@ pub enum Task {
     Red,
     /// `ext`: the walk of the forwarding side's next hops.
     Ext,
+    /// `ref.J`: the walk of a route refresh (RFC 2918), which sends a peer again what was advertised to it.
+    Ref(u32),
 }
 
 impl Task {

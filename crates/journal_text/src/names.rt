@@ -112,5 +112,6 @@ pub(crate) fn push_task(out: &mut Vec<u8>, task: Task) -> Result<(), Memory>
         Task::Rdel(proto, loss) => push_lost(out, b"rdel.", proto, loss),
         Task::Red => push_text(out, b"red"),
         Task::Ext => push_text(out, b"ext"),
+        Task::Ref(peer) => push_numbered(out, b"ref", peer),
     }
 }

@@ -161,7 +161,7 @@ pub(crate) fn read_link(text: &[u8]) -> Option<Link>
     link_of_three(word, part, last)
 }
 
-/// `fin.K`, `nh.K`, `out.J`.
+/// `fin.K`, `nh.K`, `out.J`, `ref.J`.
 #[tactic(auto, unfolding(crate::specs::Names::peer_task))]
 fn peer_task(word: &[u8], peer: u32) -> Option<Task>
     ensures { result ≡ peer_task word.now peer }
@@ -172,6 +172,8 @@ fn peer_task(word: &[u8], peer: u32) -> Option<Task>
         Some(Task::Nh(peer))
     } else if word == b"out".as_slice() {
         Some(Task::Out(peer))
+    } else if word == b"ref".as_slice() {
+        Some(Task::Ref(peer))
     } else {
         None
     }

@@ -38,6 +38,7 @@ pub ends : EachAnswers → SessionsEnd
 ends one profile p octets (messages.Update u) says = of_type profile (not p.words.internal) octets 2 _ (messages.Update u) one says says.1.frame
 ends one profile p octets messages.Keepalive says = of_type profile (not p.words.internal) octets 4 _ messages.Keepalive one says says
 ends one profile p octets messages.Skip says = of_type profile (not p.words.internal) octets 1 _ messages.Skip one says says.1
+ends one profile p octets (messages.Refresh r) says = of_type profile (not p.words.internal) octets 5 _ (messages.Refresh r) one says says.frame
 ends one profile p octets messages.Notification says = of_type profile (not p.words.internal) octets 3 _ messages.Notification one says says.1
 ends one profile p octets (messages.Notify n) says = sym (ap (λ f. is_some f || get_or octets 18 0 == 3) says)
 
@@ -62,6 +63,7 @@ heard_leaves : (l : LiveState) (k : ℕ) (m : Message) → (heard l k m).declare
 heard_leaves l k (messages.Update u) = refl
 heard_leaves l k messages.Keepalive = refl
 heard_leaves l k messages.Skip = refl
+heard_leaves l k (messages.Refresh r) = refl
 heard_leaves l k messages.Notification = refl
 heard_leaves l k (messages.Notify n) = refl
 
@@ -105,6 +107,7 @@ heard_losses : (l : LiveState) (k : ℕ) (m : Message) → (heard l k m).losses 
 heard_losses l k (messages.Update u) = refl
 heard_losses l k messages.Keepalive = refl
 heard_losses l k messages.Skip = refl
+heard_losses l k (messages.Refresh r) = refl
 heard_losses l k messages.Notification = refl
 heard_losses l k (messages.Notify n) = refl
 

@@ -4,3 +4,4 @@ pub mod Lives
 pub mod Decided
 pub mod Laws
 pub mod Heard
+pub mod Refreshes

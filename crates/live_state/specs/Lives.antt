@@ -65,11 +65,12 @@ ended l k = record l { declared = without_session l.declared k; routes = with_ro
 abbrev pub live_fed : LiveState → ℕ → List (Network × Option Attrs) → LiveState
 live_fed l k changes = record l { routes = with_routes l.routes k (routes_after (l.routes k) changes) }
 
--- a message came from a peer that is up
+-- a message came from a peer that is up. A ROUTE-REFRESH changes no route (RFC 2918)
 abbrev pub heard : LiveState → ℕ → Message → LiveState
 heard l k (messages.Update u) = live_fed l k (changes_of u)
 heard l k messages.Keepalive = l
 heard l k messages.Skip = l
+heard l k (messages.Refresh r) = l
 heard l k messages.Notification = ended l k
 heard l k (messages.Notify n) = ended l k
 

@@ -36,6 +36,7 @@ abbrev pub is_ending : Message → Bool
 is_ending (messages.Update u) = false
 is_ending messages.Keepalive = false
 is_ending messages.Skip = false
+is_ending (messages.Refresh r) = false
 is_ending messages.Notification = true
 is_ending (messages.Notify n) = true
 

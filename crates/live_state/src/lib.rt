@@ -7,7 +7,9 @@
 //! 2. [`Declared`](specs/Declared.antt): what each event makes of the declarations and the sessions;
 //! 3. [`Lives`](specs/Lives.antt): what the events alone make of the live routes, the filters' rules, the interior routes and the
 //!    protocols that are redistributed, whatever work was done between them;
-//! 4. [`Decided`](specs/Decided.antt): the rows of each link, decided from scratch over what is live.
+//! 4. [`Decided`](specs/Decided.antt): the rows of each link, decided from scratch over what is live;
+//! 5. [`Heard`](specs/Heard.antt): what each peer has heard, by reading the octets of the lines that it is sent; and
+//!    [`Refreshes`](specs/Refreshes.antt): how it asks for all of that again, and what announces a route to it.
 //!
 //! The router has these rows after an idle, and on each link that no work holds up at any moment (`router_core`). The functions
 //! are laws about the definitions alone: they do nothing, and have a law as their contract, which crates above call for.

@@ -17,7 +17,7 @@ use Rattle.journal_text.specs.Walk.{Links}
 use Rattle.journal_text.specs.declared.link.Link.{Link}
 use Rattle.journal_text.specs.declared.link.Link.TheVariants.{In, Filt}
 use Rattle.journal_text.specs.declared.link.Task.{Task}
-use Rattle.journal_text.specs.declared.link.Task.TheVariants.{Del, Fin, Nh, Out}
+use Rattle.journal_text.specs.declared.link.Task.TheVariants.{Del, Fin, Nh, Out, Ref}
 use Rattle.journal_text.specs.declared.entry.Entry.{Entry}
 use Rattle.journal_text.specs.declared.entry.Entry.TheVariants.{Begin}
 use Rattle.journal_text.specs.declared.value.Value.{Value}
@@ -113,6 +113,7 @@ peer_of (Del k s) = k
 peer_of (Fin k) = k
 peer_of (Nh k) = k
 peer_of (Out k) = k
+peer_of (Ref k) = k
 peer_of other = 0
 
 abbrev pub has_turn_in : Task → Option Chained → Bool

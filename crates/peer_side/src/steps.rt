@@ -80,7 +80,7 @@ pub fn peer_of(task: Task) -> u32
 {
     match task {
         Task::Del(number, _) => number,
-        Task::Fin(number) | Task::Nh(number) | Task::Out(number) => number,
+        Task::Fin(number) | Task::Nh(number) | Task::Out(number) | Task::Ref(number) => number,
         Task::ReadRib | Task::Rdel(_, _) | Task::Red | Task::Ext => 0,
     }
 }

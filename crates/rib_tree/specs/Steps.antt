@@ -13,7 +13,7 @@ use Rattle.link_change.specs.declared.turn.Turn.TheVariants.{Nothing, Quiet, Sen
 use Rattle.loss_chain.specs.Covering.{IsLeastRow}
 use Rattle.journal_text.specs.declared.link.Link.TheVariants.{Org}
 use Rattle.journal_text.specs.declared.link.Task.{Task}
-use Rattle.journal_text.specs.declared.link.Task.TheVariants.{Del, Fin, Nh, ReadRib, Out, Rdel, Red, Ext}
+use Rattle.journal_text.specs.declared.link.Task.TheVariants.{Del, Fin, Nh, ReadRib, Out, Rdel, Red, Ext, Ref}
 use Rattle.journal_text.specs.declared.value.Value.{Value}
 use Rattle.journal_text.specs.declared.entry.Entry.{Entry}
 use Rattle.journal_text.specs.Journals.{Journaled, Adds}
@@ -75,6 +75,7 @@ has_tree_turn t ReadRib = false
 has_tree_turn t Red = false
 has_tree_turn t Ext = false
 has_tree_turn t (Out k) = false
+has_tree_turn t (Ref k) = false
 
 -- whether the lost table of a task still has a prefix, and one that holds an address
 abbrev pub tree_lags : Treed → Task → Network → Bool
@@ -100,6 +101,7 @@ TurnedTree old new ReadRib sent entries = ⊥
 TurnedTree old new Red sent entries = ⊥
 TurnedTree old new Ext sent entries = ⊥
 TurnedTree old new (Out k) sent entries = ⊥
+TurnedTree old new (Ref k) sent entries = ⊥
 
 -- What a turn that came to this made of the tree and of the journal.
 abbrev pub IsTakenTree : Treed → Treed → Task → Journaled → Journaled → Turn Interior → Type 0
@@ -117,3 +119,4 @@ IsFullAfter ReadRib t = IsFull t
 IsFullAfter Red t = IsFull t
 IsFullAfter Ext t = IsFull t
 IsFullAfter (Out k) t = IsFull t
+IsFullAfter (Ref k) t = IsFull t

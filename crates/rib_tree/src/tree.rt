@@ -170,7 +170,8 @@ impl Tree {
             | Task::ReadRib
             | Task::Out(..)
             | Task::Red
-            | Task::Ext => Ok(Turn::Nothing),
+            | Task::Ext
+            | Task::Ref(..) => Ok(Turn::Nothing),
         }
     }
 
