@@ -37,7 +37,7 @@ module _ (f g : OutChained → ℕ) where
       omega (arith, a, b, rest, here, times)
 
   -- a chain in the place of another, where each other one counts as before
-  sum_swapped : (j : ℕ) (a : OutChains) (c d : OutChained) → tables.get a j ≡ Some d → ((k : ℕ) (x : OutChained) → tables.get a k ≡ Some x → k ≢ j → g x ≡ f x + 0)
+  pub sum_swapped : (j : ℕ) (a : OutChains) (c d : OutChained) → tables.get a j ≡ Some d → ((k : ℕ) (x : OutChained) → tables.get a k ≡ Some x → k ≢ j → g x ≡ f x + 0)
       → sum_by g (tables.values (tables.insert a j c)) + f d ≡ sum_by f (tables.values a) + g c
   sum_swapped j a c d at same =
       let put = sum_replaced nat_cmp_total g a j c d at in

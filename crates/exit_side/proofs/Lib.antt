@@ -7,4 +7,5 @@ pub mod PutLemmas
 pub mod StrangerLemmas
 pub mod TaskLemmas
 pub mod LookupLemmas
+pub mod RefreshLemmas
 pub mod LawLemmas

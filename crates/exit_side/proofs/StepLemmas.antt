@@ -4,7 +4,7 @@ use Rattle.std.specs.Prelude.{IsSome}
 use Rattle.std.proofs.Common.{Result, Ok, Err, IfOk, OnOk}
 use Rattle.std.specs.Option.{ForSome}
 use Rattle.std.specs.FinMap as tables
-use Rattle.std.specs.FinMap.{same_map, nat_cmp-IsAntisymmetric, get-insert}
+use Rattle.std.specs.FinMap.{get-insert}
 use Rattle.std.specs.Cmp.{nat_cmp_total}
 use Rattle.std.proofs.lemmas.Option.{same_Some}
 use Rattle.addr4.specs.Prefixes.{Network}
@@ -20,7 +20,6 @@ use Rattle.policy_rules.specs.declared.rule.Rule.{Rule}
 use Rattle.fanout_queue.specs.Queues.{Queued}
 use Rattle.fanout_queue.specs.Readers.{unread_or_none, read_rows, KeepsOtherReaders}
 use Rattle.fanout_queue.proofs.Cases.{same_number}
-use Rattle.fanout_queue.proofs.Cases as cases
 use Rattle.link_change.specs.InOrder.{rows_before}
 use Rattle.journal_text.specs.declared.line.Line.{Line}
 use Rattle.journal_text.specs.declared.value.Value.{Value}
@@ -30,11 +29,11 @@ use Rattle.journal_text.specs.Journals.{Journaled, with_entries, Adds}
 use Rattle.out_chain.specs.Chains.{OutChained, out_links, RowsMayBeHeard, OutStands, has_out_work}
 use Rattle.out_chain.specs.Steps.{exit_to, new_out, start_entries, stop_entries, LeadsOut, LeadsFromBest, with_rules, sending_entries, ReadsFirst, WalksNext, TurnsOut, AddsLines, IsOutTurn}
 use Rattle.out_chain.specs.Laws.{OthersKeepStanding}
-use Rattle.exit_side.specs.Exits.{Exited, OutChains, chain_at, with_exit, without_exit, links_by, IsExit, IsExits, AllStand, busy_by, has_exit_work}
+use Rattle.exit_side.specs.Exits.{Exited, chain_at, with_exit, without_exit, links_by, IsExit, IsExits, AllStand, busy_by, has_exit_work}
 use Rattle.pass_core.specs.Passed.{Passed, Walked, present, present_of, latest_of, walk_stepped, walk_of_waiting, after_walk}
 use Rattle.pass_core.specs.Turns.{walked_on}
 use Rattle.exit_side.specs.Steps.{BeginsExit, EndsExit, edited_by, EditsExit, KeepsSession, TurnsExit, ComesOut}
-use Rattle.exit_side.proofs.SwapLemmas.{by_number, Swaps, swaps_in, swaps_out, others_apart, swap_stands, links_stay, swap_sound}
+use Rattle.exit_side.proofs.SwapLemmas.{by_number, Swaps, swaps_in, swaps_out, others_apart, swap_stands, links_stay, swap_sound, put_back}
 use Rattle.exit_side.proofs.LinkLemmas.{leads_exits, leads_with_best, links_same}
 use Rattle.exit_side.proofs.CountLemmas.{turn_fewer}
 
@@ -247,9 +246,7 @@ module _ (law : OthersKeepStanding) (e : Exited) (j : ℕ) (chain taken : OutCha
   -- to put the chain that is there changes nothing
   put_same : taken ≡ chain → queue ≡ e.queue → turned ≡ e
   put_same chain_is queue_is =
-      ap (λ (c : OutChained). with_exit j c queue e) chain_is ∙ ap (λ (q : Queued Route). with_exit j chain q e) queue_is
-      ∙ ap (λ (m : OutChains). record { profile = e.profile; queue = e.queue; chains = m }) (same_map nat_cmp_total nat_cmp-IsAntisymmetric (tables.insert e.chains j chain) e.chains (λ k.
-      get-insert nat_cmp_total e.chains j chain k ∙ cases.by_number k j (λ b. cond b (Some chain) (chain_at k e) ≡ chain_at k e) (λ is. sym at ∙ ap (λ (n : ℕ). chain_at n e) (sym is)) (λ _. refl)))
+      ap (λ (c : OutChained). with_exit j c queue e) chain_is ∙ ap (λ (q : Queued Route). with_exit j chain q e) queue_is ∙ put_back e j chain at
 
   rests : tables.get e.queue chain.reader ≡ Some [] → chain.filter.walk ≡ None → has_exit_work e j ≡ false
   rests none off =

@@ -4,7 +4,7 @@ use Rattle.std.proofs.lemmas.Bool.Decides.{nat_tests}
 use Rattle.std.specs.Prelude.{IsSome}
 use Rattle.std.specs.Option.{ForSome}
 use Rattle.std.specs.FinMap as tables
-use Rattle.std.specs.FinMap.{get-insert, get-remove}
+use Rattle.std.specs.FinMap.{get-insert, get-remove, same_map, nat_cmp-IsAntisymmetric}
 use Rattle.std.specs.Cmp.{nat_cmp_total}
 use Rattle.bgp_attr.specs.declared.route.Route.{Route}
 use Rattle.link_change.specs.Rows.{Rows}
@@ -13,9 +13,10 @@ use Rattle.link_change.specs.InOrder.{rows_before}
 use Rattle.fanout_queue.specs.Queues.{Queued}
 use Rattle.fanout_queue.specs.Readers.{unread_or_none, KeepsOtherReaders}
 use Rattle.fanout_queue.proofs.Cases.{by_bool, same_number, other_number}
+use Rattle.fanout_queue.proofs.Cases as cases
 use Rattle.out_chain.specs.Chains.{OutChained, out_links, OutStands}
 use Rattle.out_chain.specs.Laws.{OthersKeepStanding}
-use Rattle.exit_side.specs.Exits.{Exited, chain_at, with_exit, without_exit, links_by, IsExit, IsExits, AllStand}
+use Rattle.exit_side.specs.Exits.{Exited, OutChains, chain_at, with_exit, without_exit, links_by, IsExit, IsExits, AllStand}
 
 equal_by : (m n : ℕ) → nat_eq m n ≡ true → m ≡ n
 equal_by m n e = grind (arith, nat_tests)
@@ -54,6 +55,12 @@ swaps_out j reader queue e keeps apart = record {
   queue = keeps;
   apart = apart;
 }
+
+-- to put the chain that is there changes nothing
+pub put_back : (e : Exited) (j : ℕ) (c : OutChained) → chain_at j e ≡ Some c → with_exit j c e.queue e ≡ e
+put_back e j c at =
+    ap (λ (m : OutChains). record { profile = e.profile; queue = e.queue; chains = m }) (same_map nat_cmp_total nat_cmp-IsAntisymmetric (tables.insert e.chains j c) e.chains (λ k.
+    get-insert nat_cmp_total e.chains j c k ∙ cases.by_number k j (λ b. cond b (Some c) (chain_at k e) ≡ chain_at k e) (λ is. sym at ∙ ap (λ (n : ℕ). chain_at n e) (sym is)) (λ _. refl)))
 
 -- readers of other peers aren't the one of this peer
 pub others_apart : (e : Exited) (j : ℕ) (c : OutChained) → IsExits e → chain_at j e ≡ Some c → (k : ℕ) (d : OutChained) → k ≢ j → chain_at k e ≡ Some d → d.reader ≢ c.reader

@@ -16,7 +16,7 @@ use Rattle.journal_text.specs.declared.link.Link.{Link}
 use Rattle.journal_text.specs.declared.value.Value.{Value}
 use Rattle.journal_text.specs.Links.{owner_of}
 use Rattle.journal_text.specs.Walk.{Links}
-use Rattle.out_chain.specs.Chains.{OutChained, out_links, out_candidates, OutStands, has_out_work, out_lags, out_turns_left}
+use Rattle.out_chain.specs.Chains.{OutChained, out_links, out_candidates, IsOutChain, OutStands, has_out_work, out_lags, out_turns_left, refreshed, refresh_left, has_refresh_work}
 
 abbrev pub OutChains : Type 0
 OutChains = FinMap nat_cmp OutChained
@@ -87,6 +87,10 @@ pub record IsExits (e : Exited) : Type 0 where
 abbrev pub AllStand : Rows Route → Exited → Type 0
 AllStand best e = (j : ℕ) (c : OutChained) → chain_at j e ≡ Some c → OutStands c e.queue best
 
+-- what holds of each chain whatever the rows of `best` are: it is part of what ties it to these
+abbrev pub AreOutChains : Exited → Type 0
+AreOutChains e = (j : ℕ) (c : OutChained) → chain_at j e ≡ Some c → IsOutChain c
+
 -- ---- tasks
 abbrev pub busy_by : Queued Route → Option OutChained → Bool
 busy_by queued None = false
@@ -112,3 +116,24 @@ left_of beyond queued c = out_turns_left beyond c (unread_by queued c.reader)
 -- how many turns the tasks of all exits take
 abbrev pub left_in : (Option Network → ℕ) → Exited → ℕ
 left_in beyond e = sum_by (left_of beyond e.queue) (tables.values e.chains)
+
+-- ---- the walks of refreshes
+abbrev pub refreshing : Option OutChained → Bool
+refreshing None = false
+refreshing (Some c) = has_refresh_work c
+
+-- whether the walk of a refresh of a peer is on
+abbrev pub has_refresh : Exited → ℕ → Bool
+has_refresh e j = refreshing (chain_at j e)
+
+-- how many turns the walks of all refreshes take
+abbrev pub refreshes_left : Exited → ℕ
+refreshes_left e = sum_by refresh_left (tables.values e.chains)
+
+abbrev pub refreshed_by : ℕ → Option OutChained → Exited → Exited
+refreshed_by j None e = e
+refreshed_by j (Some c) e = with_exit j (refreshed c) e.queue e
+
+-- the peer asks for all rows again: a walk begins, where the peer is up and some were sent
+abbrev pub refreshed_exits : ℕ → Exited → Exited
+refreshed_exits j e = refreshed_by j (chain_at j e) e

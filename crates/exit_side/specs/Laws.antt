@@ -7,7 +7,7 @@ use Rattle.bgp_attr.specs.declared.attrs.Attrs.{Attrs}
 use Rattle.bgp_attr.specs.declared.route.Route.{Route}
 use Rattle.bgp_attr.specs.declared.speaker.Speaker.{Speaker}
 use Rattle.bgp_attr.specs.declared.speaker.Neighbour.{Neighbour}
-use Rattle.link_change.specs.Rows.{Rows, Candidates}
+use Rattle.link_change.specs.Rows.{Rows, Candidates, CoversRows}
 use Rattle.link_change.specs.declared.change.Change.{Change}
 use Rattle.policy_rules.specs.declared.rule.Rule.{Rule}
 use Rattle.pass_core.specs.Passed.{present}
@@ -22,8 +22,8 @@ use Rattle.journal_text.specs.declared.value.Value.{Value}
 use Rattle.journal_text.specs.Walk.{Links, Leads}
 use Rattle.journal_text.specs.Values.{route_rows}
 use Rattle.out_chain.specs.Chains.{OutChained, made_by}
-use Rattle.exit_side.specs.Exits.{Exited, chain_at, with_queue, exit_links, IsExits, AllStand, has_exit_work, exit_holds_up, left_in}
-use Rattle.exit_side.specs.Steps.{is_exit, LeadsExits, LeadsWithBest, BeginsExit, EndsExit, EditsExit, PutsExit, TurnsExit}
+use Rattle.exit_side.specs.Exits.{Exited, chain_at, with_queue, exit_links, exit_candidates, IsExits, AllStand, AreOutChains, has_exit_work, exit_holds_up, left_in, has_refresh, refreshes_left, refreshed_exits}
+use Rattle.exit_side.specs.Steps.{is_exit, LeadsExits, LeadsWithBest, BeginsExit, EndsExit, EditsExit, PutsExit, TurnsExit, ResendsExit}
 
 -- ---- at first
 -- Where no peer is up, no link is live, and all that is claimed holds.
@@ -133,3 +133,45 @@ TurnKeepsStrangers =
 
 abbrev pub PutKeepsStrangers : Type 0
 PutKeepsStrangers = (reader : ℕ) (change : Change Route) (e e' : Exited) → IsStranger reader e → PutsExit change e e' → IsStranger reader e'
+
+-- ---- the walks of refreshes
+-- A refresh of peer j, and a turn of its walk, change no link and no turn of any other task: all is the same but for that walk.
+pub record AreSameButRefresh (j : ℕ) (e e' : Exited) : Type 0 where
+  pub profile : e'.profile ≡ e.profile
+  pub queue : e'.queue ≡ e.queue
+  pub others : (k : ℕ) → k ≢ j → chain_at k e' ≡ chain_at k e
+  pub sound : IsExits e'
+  pub stand : (best : Rows Route) → AllStand best e → AllStand best e'
+  pub links : (best : Rows Route) → exit_links e' best ≡ exit_links e best
+  pub candidates : (best : Candidates) → exit_candidates e' best ≡ exit_candidates e best
+  pub left : (beyond : Option Network → ℕ) → left_in beyond e' ≡ left_in beyond e
+  pub work : (k : ℕ) → has_exit_work e' k ≡ has_exit_work e k
+  pub held : (best : Rows Route) (k : ℕ) (p : Network) → exit_holds_up e' best k p ≡ exit_holds_up e best k p
+  pub strangers : (reader : ℕ) → IsStranger reader e → IsStranger reader e'
+
+abbrev pub RefreshKeeps : Type 0
+RefreshKeeps = (j : ℕ) (e : Exited) → IsExits e → AreSameButRefresh j e (refreshed_exits j e)
+
+abbrev pub ResendKeeps : Type 0
+ResendKeeps = (j : ℕ) (e e' : Exited) (said : List Line) → IsExits e → ResendsExit j e e' said → AreSameButRefresh j e e'
+
+-- What ties the exits to the rows of `best` tells of each chain what the walks need.
+abbrev pub StandingAreChains : Type 0
+StandingAreChains = (e : Exited) (best : Rows Route) → AllStand best e → AreOutChains e
+
+-- A walk that is on is a peer's that has an exit.
+abbrev pub RefreshIsListed : Type 0
+RefreshIsListed = (e : Exited) (j : ℕ) → has_refresh e j ≡ true → Contains (tables.keys e.chains) j
+
+-- No turn is left exactly where no walk is on, and each turn leaves fewer.
+abbrev pub NoneLeftWithoutRefresh : Type 0
+NoneLeftWithoutRefresh = (e : Exited) → AreOutChains e → ((j : ℕ) → has_refresh e j ≡ false) ↔ (refreshes_left e ≡ 0)
+
+abbrev pub ResendLeavesFewer : Type 0
+ResendLeavesFewer = (j : ℕ) (e e' : Exited) (said : List Line) → ResendsExit j e e' said → refreshes_left e' + 1 ≤ refreshes_left e
+
+-- Where no exit has work, the rows that were sent stand at candidates of `best`: so that for each peer no more turns are left than these are.
+abbrev pub RefreshesAreBounded : Type 0
+RefreshesAreBounded =
+    (candidates : Candidates) (beyond : Option Network → ℕ) (e : Exited) (best : Rows Route) → CountsBeyond candidates beyond → CoversRows candidates best
+    → AllStand best e → ((j : ℕ) → has_exit_work e j ≡ false) → refreshes_left e ≤ tables.len e.chains * beyond None

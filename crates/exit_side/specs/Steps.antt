@@ -27,8 +27,8 @@ use Rattle.journal_text.specs.Walk.{Links, Leads}
 use Rattle.journal_text.specs.Journals.{Journaled}
 use Rattle.journal_text.specs.Values.{route_rows}
 use Rattle.out_chain.specs.Chains.{OutChained, RowsMayBeHeard}
-use Rattle.out_chain.specs.Steps.{exit_to, new_out, start_entries, stop_entries, with_rules, sending_entries, TurnsOut, AddsLines}
-use Rattle.exit_side.specs.Exits.{Exited, chain_at, with_queue, with_exit, without_exit, exit_links, IsExits, AllStand, has_exit_work, left_in}
+use Rattle.out_chain.specs.Steps.{exit_to, new_out, start_entries, stop_entries, with_rules, sending_entries, TurnsOut, AddsLines, Resends}
+use Rattle.exit_side.specs.Exits.{Exited, chain_at, with_queue, with_exit, without_exit, exit_links, IsExits, AllStand, has_exit_work, left_in, has_refresh}
 
 -- ---- what a step leads to
 -- whether the link is a `read.J.S`, `outf.J.S` or `adv.J.S`
@@ -124,3 +124,17 @@ abbrev pub ComesOut : ℕ → Candidates → Rows Route → Exited → Exited �
 ComesOut j candidates best e e' before now Nothing = (has_exit_work e j ≡ false) × (e' ≡ e) × (now ≡ before)
 ComesOut j candidates best e e' before now Quiet = AddsLines (TurnsExit j candidates best None e e') before now
 ComesOut j candidates best e e' before now (Sent change) = AddsLines (TurnsExit j candidates best (Some change) e e') before now
+
+-- ---- the walk of a refresh
+-- The walk of peer j takes a turn: a row is announced once more. Every other chain stays, and so does what each reader hasn't taken.
+pub record ResendsExit (j : ℕ) (e e' : Exited) (said : List Line) : Type 0 where
+  pub chain : OutChained
+  pub there : chain_at j e ≡ Some chain
+  pub taken : OutChained
+  pub resends : Resends chain taken said
+  pub after : e' ≡ with_exit j taken e.queue e
+
+-- what such a turn came to: nothing exactly where no walk is on
+abbrev pub ComesAgain : ℕ → Exited → Exited → Journaled → Journaled → Bool → Type 0
+ComesAgain j e e' before now false = (has_refresh e j ≡ false) × (e' ≡ e) × (now ≡ before)
+ComesAgain j e e' before now true = AddsLines (ResendsExit j e e') before now

@@ -7,7 +7,7 @@ use Rattle.addr4.specs.Prefixes.{Network}
 use Rattle.bgp_attr.specs.declared.route.Route.{Route}
 use Rattle.fanout_queue.specs.Queues.{Queued}
 use Rattle.fanout_queue.specs.Readers.{unread_by}
-use Rattle.out_chain.specs.Chains.{OutChained, has_out_work, out_lags}
+use Rattle.out_chain.specs.Chains.{OutChained, has_out_work, out_lags, has_refresh_work}
 
 -- the number of the first chain that has work
 abbrev pub first_of : Queued Route → List (ℕ × OutChained) → Option ℕ
@@ -18,6 +18,11 @@ first_of queued (e ∷ es) = if has_out_work e.1 (unread_by queued e.1.reader) t
 abbrev pub first_lagging : Queued Route → Bool → Network → List (ℕ × OutChained) → Option ℕ
 first_lagging queued has_best p [] = None
 first_lagging queued has_best p (e ∷ es) = if out_lags e.1 (unread_by queued e.1.reader) p has_best then Some e.0 else first_lagging queued has_best p es
+
+-- of the first one on which the walk of a refresh is on
+abbrev pub first_refreshing : List (ℕ × OutChained) → Option ℕ
+first_refreshing [] = None
+first_refreshing (e ∷ es) = if has_refresh_work e.1 then Some e.0 else first_refreshing es
 
 -- each chain's reader is one of the queue's
 abbrev pub HaveReaders : Queued Route → BTreeMap ℕ OutChained → Type 0

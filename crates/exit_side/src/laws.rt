@@ -3,7 +3,7 @@
 
 ghost use Rattle.bgp_attr.specs.declared.speaker.Profile.{Profile};
 ghost use Rattle.exit_side.specs.Exits.{no_exits};
-ghost use Rattle.exit_side.specs.Laws.{StandsAtFirst, LeadsAnywhere, LeadsAnywhereWithBest, ExactUnlessHeldUp, NoneHeldUpWithoutWork, WorkIsListed, NoneLeftWithoutWork, TurnsAreBounded, LeftFollows, StrangersReadOn, StrangersJoin, StrangersTake, BeginKeepsStrangers, EndKeepsStrangers, EditKeepsStrangers, TurnKeepsStrangers, PutKeepsStrangers};
+ghost use Rattle.exit_side.specs.Laws.{StandsAtFirst, LeadsAnywhere, LeadsAnywhereWithBest, ExactUnlessHeldUp, NoneHeldUpWithoutWork, WorkIsListed, NoneLeftWithoutWork, TurnsAreBounded, LeftFollows, StrangersReadOn, StrangersJoin, StrangersTake, BeginKeepsStrangers, EndKeepsStrangers, EditKeepsStrangers, TurnKeepsStrangers, PutKeepsStrangers, RefreshKeeps, ResendKeeps, StandingAreChains, RefreshIsListed, NoneLeftWithoutRefresh, ResendLeavesFewer, RefreshesAreBounded};
 
 use out_chain::{a_session_stands, unless_held_up_all_is_sent};
 
@@ -61,4 +61,21 @@ pub fn strangers_are_left()
     ensures edit { EditKeepsStrangers }
     ensures turn { TurnKeepsStrangers }
     ensures put { PutKeepsStrangers }
+{}
+
+/// A refresh, and the turns of its walk, change no link, no other peer's chain and nothing that a
+/// reader hasn't taken.
+pub fn a_refresh_changes_nothing_else()
+    ensures begins { RefreshKeeps }
+    ensures resends { ResendKeeps }
+{}
+
+/// How many turns of the walks of refreshes are left: none exactly where none is on, fewer after
+/// each, and where no exit has work never more for a peer than candidates of `best`.
+pub fn refreshes_are_left()
+    ensures chains { StandingAreChains }
+    ensures listed { RefreshIsListed }
+    ensures none { NoneLeftWithoutRefresh }
+    ensures fewer { ResendLeavesFewer }
+    ensures bounded { RefreshesAreBounded }
 {}

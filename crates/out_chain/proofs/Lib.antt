@@ -1,4 +1,6 @@
 mod SessionLinks
+mod BeyondLemmas
+pub mod RefreshLemmas
 mod SaidLemmas
 mod LookupLemmas
 mod TurnLemmas

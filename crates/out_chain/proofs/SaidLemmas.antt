@@ -6,7 +6,7 @@ use Rattle.bgp_attr.specs.declared.attrs.Attrs.{Attrs}
 use Rattle.bgp_attr.specs.declared.route.Route.{Route}
 use Rattle.bgp_attr.specs.declared.speaker.Neighbour.{Neighbour}
 use Rattle.link_change.specs.Rows.{Rows, Candidates, with_row, no_rows}
-use Rattle.link_change.specs.Changes.{ComputesOn}
+use Rattle.link_change.specs.Changes.{ComputesOn, IsSent}
 use Rattle.link_change.specs.declared.change.Change.{Change}
 use Rattle.link_change.proofs.RowLemmas.{with_row_here}
 use Rattle.policy_rules.specs.declared.rule.Rule.{Rule}
@@ -91,3 +91,16 @@ walked_sayable c f candidates upper sent sender heard walks =
     let is = walked_at c f upper walks.next sent walks.changes in
     subst (λ o. ForSome o (IsSentOf c.exit.profile c.exit.external p)) (sym is)
     (sayable c.exit c.peer (function_at f p) p (upper p) sender (heard p))
+
+-- ---- of the rows below, where a change leads on those above
+pub row_sayable_after : (c : OutChained) (below : Rows Attrs) (upper now : Rows Route) (change : Change Route) (sent : Change Attrs) → IsSender c.exit.profile c.exit.me → ForSome change.after (λ r. MayBeHeard c.exit.profile r.attrs)
+    → IsSent upper now change.prefix (Some change) → IsSent below (passed_rows (made_by c) c.filter now) change.prefix (Some sent) → ForSome sent.after (IsSentOf c.exit.profile c.exit.external sent.prefix)
+row_sayable_after c below upper now change sent sender heard reads filters =
+    let p = change.prefix in
+    let at : sent.prefix ≡ p = filters.0 in
+    let row : now p ≡ change.after = ap (λ (r : Rows Route). r p) reads.2 ∙ with_row_here upper p change.after in
+    let set : with_row below sent.prefix sent.after p ≡ sent.after = ap (λ q. with_row below q sent.after p) at ∙ with_row_here below p sent.after in
+    let after : sent.after ≡ made_by c (function_at c.filter p) p (now p) = sym set ∙ sym (ap (λ (r : Rows Attrs). r p) filters.2) in
+    let said = sayable c.exit c.peer (function_at c.filter p) p (now p) sender (subst (λ o. ForSome o (λ (r : Route). MayBeHeard c.exit.profile r.attrs)) (sym row) heard) in
+    subst (λ q. ForSome sent.after (IsSentOf c.exit.profile c.exit.external q)) (sym at)
+    (subst (λ o. ForSome o (IsSentOf c.exit.profile c.exit.external p)) (sym after) said)

@@ -47,6 +47,8 @@ use Rattle.journal_text.proofs.JournalLemmas.{as_lines, with_lines_append, as_li
 use Rattle.out_chain.specs.Chains.{OutChained, form_of, made_by, outf_rows, session_links, out_links, beside_out, HasSent, RowsMayBeHeard, ChangesMayBeHeard, OutStands}
 use Rattle.out_chain.specs.Steps.{exit_to, new_out, start_entries, stop_entries, LeadsOut, LeadsFromBest, with_rules, sent_after, with_sent, with_filter, read_entries, sending_entries, message_lines, said_of, IsTold, GoesOut, PassesOut, WalksOut, IsWalkedOut, ReadsFirst, WalksNext, TurnsOut, AddsLines, IsOutTurn}
 use Rattle.out_chain.proofs.SessionLinks.{goes_down, begins, ends}
+use Rattle.out_chain.proofs.SaidLemmas.{row_sayable_after, walked_sayable}
+use Rattle.out_chain.proofs.RefreshLemmas.{MayBeSent, after_sayable, after_with_rows, nothing_sent, no_walk_yet}
 
 -- ---- what a change, or none, does to rows, whatever its prefix is called
 
@@ -256,10 +258,15 @@ module _ (old : OutChained) (queued left : Queued Route) (candidates : Candidate
       subst Lead (sym (is_rest queued left old.reader change takes)) (take_leads best change takes.0 (subst Lead (was_first queued left old.reader change takes) leads))
 
   -- with the exit, the peer and the reader as they were
-  stands_by : (filter : Passed (Option (List Rule))) (sent : FinMap prefix_cmp Attrs) (result : Option (Change Route)) → Takes queued left old.reader result
-      → HasSent (record old { filter = filter; sent = sent }) (read_rows left old.reader best) → OutStands old queued best → OutStands (record old { filter = filter; sent = sent }) left best
-  stands_by filter sent result takes exact was = record {
-    chain = record { kind = was.chain.kind; sender = was.chain.sender };
+  stands_by : (filter : Passed (Option (List Rule))) (sent : Option (Change Attrs)) (result : Option (Change Route)) → Takes queued left old.reader result → ForSome sent (MayBeSent old)
+      → HasSent (with_sent (with_filter old filter) sent) (read_rows left old.reader best) → OutStands old queued best → OutStands (with_sent (with_filter old filter) sent) left best
+  stands_by filter sent result takes may exact was = record {
+    chain = record {
+      kind = was.chain.kind;
+      sender = was.chain.sender;
+      sayable = after_sayable old old.sent sent was.chain.sayable may;
+      refresh = after_with_rows old.sent old.refresh sent was.chain.refresh;
+    };
     live = take_keeps_readers queued left old.reader result takes old.reader was.live;
     leads = left_leads result takes was.leads;
     exact = exact;
@@ -267,18 +274,30 @@ module _ (old : OutChained) (queued left : Queued Route) (candidates : Candidate
     unread = left_heard old.exit.profile result takes was.unread;
   }
 
-  stands_on : (new : OutChained) (filter : Passed (Option (List Rule))) (sent : FinMap prefix_cmp Attrs) (result : Option (Change Route)) → new ≡ record old { filter = filter; sent = sent } → Takes queued left old.reader result
-      → HasSent new (read_rows left old.reader best) → OutStands old queued best → OutStands new left best
-  stands_on new filter sent result after takes exact was =
+  stands_on : (new : OutChained) (filter : Passed (Option (List Rule))) (sent : Option (Change Attrs)) (result : Option (Change Route)) → new ≡ with_sent (with_filter old filter) sent → Takes queued left old.reader result
+      → ForSome sent (MayBeSent old) → HasSent new (read_rows left old.reader best) → OutStands old queued best → OutStands new left best
+  stands_on new filter sent result after takes may exact was =
       subst (λ (n : OutChained). OutStands n left best) (sym after)
-      (stands_by filter sent result takes (subst (λ (n : OutChained). HasSent n (read_rows left old.reader best)) after exact) was)
+      (stands_by filter sent result takes may (subst (λ (n : OutChained). HasSent n (read_rows left old.reader best)) after exact) was)
+
+  -- what goes out may be said
+  read_may : (new : OutChained) (entries : List (Entry Value)) (sent : Option (Change Attrs)) → ReadsFirst old new queued left best entries sent → OutStands old queued best → ForSome sent (MayBeSent old)
+  read_may new entries sent r was change is =
+      let filters = subst (IsSent (outf_rows old (read_rows queued old.reader best)) (outf_rows old (read_rows left old.reader best)) r.change.prefix) is r.filters in
+      let reads = reads_on queued left old.reader best r.change r.takes was.leads in
+      let heard = (subst (ChangesMayBeHeard old.exit.profile) (was_first queued left old.reader r.change r.takes) was.unread).0 in
+      row_sayable_after old (outf_rows old (read_rows queued old.reader best)) (read_rows queued old.reader best) (read_rows left old.reader best) r.change change was.chain.sender heard reads filters
+
+  walk_may : (new : OutChained) (entries : List (Entry Value)) (sent : Option (Change Attrs)) → WalksNext old new queued left candidates best entries sent → OutStands old queued best → ForSome sent (MayBeSent old)
+  walk_may new entries sent w was change is =
+      walked_sayable old new.filter candidates best change was.chain.sender was.heard (subst (Walks (made_by old) candidates best old.filter new.filter) is w.walks)
 
   turned_stands : (new : OutChained) (sent : Option (Change Attrs)) (said : List Line) → TurnsOut old new queued left candidates best sent said → OutStands old queued best → OutStands new left best
   turned_stands new sent said t was = by t.by
     where
       by : ReadsFirst old new queued left best t.entries sent ⊎ WalksNext old new queued left candidates best t.entries sent → OutStands new left best
-      by (inl r) = stands_on new old.filter (sent_after old.sent sent) (Some r.change) r.after r.takes t.goes.exact was
-      by (inr w) = stands_on new new.filter (sent_after old.sent sent) None w.after w.takes t.goes.exact was
+      by (inl r) = stands_on new old.filter sent (Some r.change) r.after r.takes (read_may new t.entries sent r was) t.goes.exact was
+      by (inr w) = stands_on new new.filter sent None w.after w.takes (walk_may new t.entries sent w was) t.goes.exact was
 
   pub turn_stands : (new : OutChained) (before now : Journaled) (turn : Turn Attrs) → IsOutTurn old new queued left candidates best before now turn → OutStands old queued best → OutStands new left best
   turn_stands new before now Nothing is was =
@@ -309,7 +328,7 @@ starts_standing profile me peer session reader rules queued best sender heard =
     let none : unread_by (tables.insert queued reader []) reader ≡ [] = ap unread_or_none (joined_unread queued reader) in
     let Lead : List (Change Route) → Type 0 = λ u. ChangesLead (rows_before u best) u best in
     record {
-      chain = record { kind = refl; sender = sender };
+      chain = record { kind = refl; sender = sender; sayable = nothing_sent (new_out (exit_to profile me peer) peer session reader rules) refl; refresh = no_walk_yet tables.empty };
       live = subst (λ (o : Option (List (Change Route))). IsSome o) (sym (joined_unread queued reader)) refl;
       leads = subst Lead (sym none) refl;
       exact = nothing_at_start (exit_to profile me peer) peer session reader rules (read_rows (tables.insert queued reader []) reader best);
@@ -340,7 +359,7 @@ edit_keeps_links c rules read =
 
 pub edit_stands : (c : OutChained) (rules : List Rule) (queued : Queued Route) (best : Rows Route) → OutStands c queued best → OutStands (with_rules rules c) queued best
 edit_stands c rules queued best was = record {
-  chain = record { kind = was.chain.kind; sender = was.chain.sender };
+  chain = record { kind = was.chain.kind; sender = was.chain.sender; sayable = was.chain.sayable; refresh = was.chain.refresh };
   live = was.live;
   leads = was.leads;
   exact = was.exact ∙ sym (same_rows c rules (read_rows queued c.reader best));
@@ -350,18 +369,18 @@ edit_stands c rules queued best was = record {
 
 -- the same as the code makes it
 pub starts_leading_as : (exit : Exit) (filter : Passed (Option (List Rule))) (sent : FinMap prefix_cmp Attrs) (peer : Neighbour) (session reader : ℕ) (rules : List Rule) → filter ≡ first_walk rules → sent ≡ tables.empty
-    → (best : Rows Route) → LeadsFromBest peer.number best no_links (start_entries peer.number session) (out_links (record { exit = exit; peer = peer; session = session; reader = reader; filter = filter; sent = sent }) best)
+    → (best : Rows Route) → LeadsFromBest peer.number best no_links (start_entries peer.number session) (out_links (record { exit = exit; peer = peer; session = session; reader = reader; filter = filter; sent = sent; refresh = None }) best)
 starts_leading_as exit filter sent peer session reader rules filter_is sent_is best =
     let P : Passed (Option (List Rule)) → FinMap prefix_cmp Attrs → Type 0 = λ f s.
-    LeadsFromBest peer.number best no_links (start_entries peer.number session) (out_links (record { exit = exit; peer = peer; session = session; reader = reader; filter = f; sent = s }) best) in
+    LeadsFromBest peer.number best no_links (start_entries peer.number session) (out_links (record { exit = exit; peer = peer; session = session; reader = reader; filter = f; sent = s; refresh = None }) best) in
     subst (λ f. P f sent) (sym filter_is) (subst (P (first_walk rules)) (sym sent_is) (starts_leading exit peer session reader rules best))
 
 pub starts_standing_as : (profile : Profile) (me : Speaker) (exit : Exit) (filter : Passed (Option (List Rule))) (sent : FinMap prefix_cmp Attrs) (peer : Neighbour) (session reader : ℕ) (rules : List Rule) (queued joined : Queued Route)
     → exit ≡ exit_to profile me peer → filter ≡ first_walk rules → sent ≡ tables.empty → joined ≡ tables.insert queued reader [] → IsSender profile me
-    → (best : Rows Route) → RowsMayBeHeard profile best → OutStands (record { exit = exit; peer = peer; session = session; reader = reader; filter = filter; sent = sent }) joined best
+    → (best : Rows Route) → RowsMayBeHeard profile best → OutStands (record { exit = exit; peer = peer; session = session; reader = reader; filter = filter; sent = sent; refresh = None }) joined best
 starts_standing_as profile me exit filter sent peer session reader rules queued joined exit_is filter_is sent_is joined_is sender best heard =
     let P : Exit → Passed (Option (List Rule)) → FinMap prefix_cmp Attrs → Queued Route → Type 0 = λ e f s q.
-    OutStands (record { exit = e; peer = peer; session = session; reader = reader; filter = f; sent = s }) q best in
+    OutStands (record { exit = e; peer = peer; session = session; reader = reader; filter = f; sent = s; refresh = None }) q best in
     subst (λ e. P e filter sent joined) (sym exit_is)
     (subst (λ f. P (exit_to profile me peer) f sent joined) (sym filter_is)
     (subst (λ s. P (exit_to profile me peer) (first_walk rules) s joined) (sym sent_is)

@@ -1,9 +1,9 @@
 -- What contracts see of the outgoing chain of a session. What its reader hasn't taken is the queue's: so the rows of its links are
 -- told over those that the reader has.
-use Rattle.std.specs.Prelude.{◌≡◌, ℕ, ◌+◌, ◌==◌, ◌&&◌, ◌||◌, not, cond, Bool, true, false, is_some, length, List, [], ◌∷◌, Option, Some, None, IsSome, refl}
+use Rattle.std.specs.Prelude.{◌≡◌, ℕ, ◌+◌, ◌<◌, ◌==◌, ◌&&◌, ◌||◌, not, cond, Bool, true, false, is_some, length, List, [], ◌∷◌, Option, Some, None, IsSome, refl}
 use Rattle.std.specs.Option.{ForSome}
-use Rattle.std.specs.List.{AllByRecursion}
-use Rattle.std.specs.Coded.{Coded, code_by, coded×, coded_ℕ, coded_bool}
+use Rattle.std.specs.List.{AllByRecursion, count_by}
+use Rattle.std.specs.Coded.{Coded, code_by, coded×, coded_ℕ, coded_bool, coded_option}
 use Rattle.std.specs.FinMap as map
 use Rattle.std.specs.FinMap.{FinMap}
 use Rattle.addr4.specs.Prefixes.{Network, prefix_cmp, network_code}
@@ -16,13 +16,13 @@ use Rattle.link_change.specs.Rows.{Rows, Candidates, with_rows}
 use Rattle.link_change.specs.InOrder.{changed_in}
 use Rattle.link_change.specs.declared.change.Change.{Change}
 use Rattle.policy_rules.specs.declared.rule.Rule.{Rule}
-use Rattle.pass_core.specs.Passed.{Passed, holds_up}
+use Rattle.pass_core.specs.Passed.{Passed, holds_up, is_beyond}
 use Rattle.pass_core.specs.Turns.{passed_rows}
 use Rattle.pass_core.specs.Left.{turns_left as walk_turns_left}
 use Rattle.filter_bank.specs.Outgoing.{Form, outgoing}
 use Rattle.peer_out.specs.Forms.{as_sent}
 use Rattle.peer_out.specs.Remembered.{Exit}
-use Rattle.peer_out.specs.Changes.{MayBeHeard, IsSender}
+use Rattle.peer_out.specs.Changes.{MayBeHeard, IsSender, IsSentOf}
 use Rattle.fanout_queue.specs.Queues.{Queued}
 use Rattle.fanout_queue.specs.Readers.{unread_by, read_rows, ReaderLeads}
 use Rattle.journal_text.specs.declared.link.Link.{Link}
@@ -32,7 +32,7 @@ use Rattle.journal_text.specs.Walk.{Links}
 use Rattle.journal_text.specs.Values.{route_rows, attrs_rows}
 
 -- who sends, and to which kind of peer; the peer's words; the session; the reader's number in the queue; the rules of the outgoing
--- filter; the rows that were sent
+-- filter; the rows that were sent; and where the walk of a refresh stands, if one is on: the peer asked for all rows again (RFC 2918)
 pub record OutChained : Type 0 where
   pub exit : Exit
   pub peer : Neighbour
@@ -40,6 +40,7 @@ pub record OutChained : Type 0 where
   pub reader : ℕ
   pub filter : Passed (Option (List Rule))
   pub sent : FinMap prefix_cmp Attrs
+  pub refresh : Option (Option Network)
 
 -- ---- how it is stored
 abbrev pub exit_code : Coded Profile → Coded Speaker → Coded Exit
@@ -49,10 +50,10 @@ exit_code p s =
 
 abbrev pub out_chained_code : Coded Exit → Coded Neighbour → Coded (Passed (Option (List Rule))) → Coded Attrs → Coded OutChained
 out_chained_code e n f a =
-    code_by ((Exit × Neighbour) × ((ℕ × ℕ) × (Passed (Option (List Rule)) × FinMap prefix_cmp Attrs)))
-    (coded× (coded× e n) (coded× (coded× coded_ℕ coded_ℕ) (coded× f (map.code network_code a))))
-    (λ c. ((c.exit, c.peer), ((c.session, c.reader), (c.filter, c.sent))))
-    (λ x. record { exit = x.0.0; peer = x.0.1; session = x.1.0.0; reader = x.1.0.1; filter = x.1.1.0; sent = x.1.1.1 }) (λ _. refl)
+    code_by ((Exit × Neighbour) × ((ℕ × ℕ) × (Passed (Option (List Rule)) × (FinMap prefix_cmp Attrs × Option (Option Network)))))
+    (coded× (coded× e n) (coded× (coded× coded_ℕ coded_ℕ) (coded× f (coded× (map.code network_code a) (coded_option (coded_option network_code))))))
+    (λ c. ((c.exit, c.peer), ((c.session, c.reader), (c.filter, (c.sent, c.refresh)))))
+    (λ x. record { exit = x.0.0; peer = x.0.1; session = x.1.0.0; reader = x.1.0.1; filter = x.1.1.0; sent = x.1.1.1.0; refresh = x.1.1.1.1 }) (λ _. refl)
 
 -- ---- rows
 
@@ -99,12 +100,46 @@ out_candidates c read (Outf k t) q = read q
 out_candidates c read (Adv k t) q = with_rows (map.get c.sent) q
 out_candidates c read other q = false
 
+-- ---- the walk of a refresh
+
+-- how many rows lie beyond a place
+abbrev pub beyond_in : FinMap prefix_cmp Attrs → Option Network → ℕ
+beyond_in rows place = count_by (is_beyond place) (map.keys rows)
+
+-- a walk at a place is on where a row lies beyond it, and over where none does
+abbrev pub walk_on : FinMap prefix_cmp Attrs → Option Network → Option (Option Network)
+walk_on rows place = cond (beyond_in rows place == 0) None (Some place)
+
+-- whether the walk that was on goes on, over these rows
+abbrev pub still_on : FinMap prefix_cmp Attrs → Option (Option Network) → Option (Option Network)
+still_on rows None = None
+still_on rows (Some place) = walk_on rows place
+
+-- a walk begins before all prefixes, whether or not one was on
+abbrev pub refreshed : OutChained → OutChained
+refreshed c = record c { refresh = walk_on c.sent None }
+
+abbrev pub left_on : FinMap prefix_cmp Attrs → Option (Option Network) → ℕ
+left_on rows None = 0
+left_on rows (Some place) = beyond_in rows place
+
+-- how many turns the walk takes: one for each row beyond its place
+abbrev pub refresh_left : OutChained → ℕ
+refresh_left c = left_on c.sent c.refresh
+
+-- whether a walk is on
+abbrev pub has_refresh_work : OutChained → Bool
+has_refresh_work c = is_some c.refresh
+
 -- ---- what is kept true
 
--- The peer is external exactly where it isn't internal, and this speaker's words can be said.
+-- The peer is external exactly where it isn't internal, and this speaker's words can be said; each row that was sent is what is sent of
+-- some route that may be heard; and where the walk of a refresh is on, a row lies beyond its place.
 pub record IsOutChain (c : OutChained) : Type 0 where
   pub kind : c.exit.external ≡ not c.peer.internal
   pub sender : IsSender c.exit.profile c.exit.me
+  pub sayable : (p : Network) → ForSome (map.get c.sent p) (IsSentOf c.exit.profile c.exit.external p)
+  pub refresh : ForSome c.refresh (λ place. 0 < beyond_in c.sent place)
 
 -- What was sent is what the filter makes of the rows that the reader has.
 abbrev pub HasSent : OutChained → Rows Route → Type 0

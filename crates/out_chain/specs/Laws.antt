@@ -1,10 +1,13 @@
 -- Laws of outgoing chains, for the crates above.
-use Rattle.std.specs.Prelude.{◌≡◌, ◌≢◌, Bool, false, is_some, ℕ, ◌+◌, ◌*◌, ◌≤◌, length, List, [], Option, Some, None}
+use Rattle.std.specs.Prelude.{◌≡◌, ◌≢◌, ◌↔◌, Bool, false, is_some, ℕ, ◌+◌, ◌*◌, ◌≤◌, length, List, [], Option, Some, None}
 use Rattle.std.specs.Option.{ForSome}
 use Rattle.std.specs.FinMap as map
-use Rattle.addr4.specs.Prefixes.{Network}
+use Rattle.std.specs.FinMap.{FinMap}
+use Rattle.addr4.specs.Prefixes.{Network, prefix_cmp}
+use Rattle.addr4.specs.Places.{IsBeyond}
+use Rattle.bgp_attr.specs.declared.attrs.Attrs.{Attrs}
 use Rattle.bgp_attr.specs.declared.route.Route.{Route}
-use Rattle.link_change.specs.Rows.{Rows, Candidates}
+use Rattle.link_change.specs.Rows.{Rows, Candidates, CoversRows}
 use Rattle.link_change.specs.Changes.{IsSent}
 use Rattle.link_change.specs.declared.change.Change.{Change}
 use Rattle.pass_core.specs.Passed.{present}
@@ -12,7 +15,9 @@ use Rattle.pass_core.specs.Left.{CountsBeyond}
 use Rattle.peer_out.specs.Changes.{MayBeHeard}
 use Rattle.fanout_queue.specs.Queues.{Queued, AppendsToAll}
 use Rattle.fanout_queue.specs.Readers.{unread_by, read_rows, KeepsOtherReaders}
-use Rattle.out_chain.specs.Chains.{OutChained, made_by, HasSent, OutStands, has_out_work, out_lags, out_turns_left}
+use Rattle.journal_text.specs.declared.line.Line.{Line}
+use Rattle.out_chain.specs.Chains.{OutChained, made_by, out_links, IsOutChain, HasSent, OutStands, has_out_work, out_lags, out_turns_left, walk_on, refreshed, refresh_left, has_refresh_work}
+use Rattle.out_chain.specs.Steps.{Resends}
 
 -- At a prefix that nothing holds up the reader has the best row, and the peer was sent exactly what the latest rules make of it.
 abbrev pub ExactUnlessHeldUp : Type 0
@@ -56,3 +61,30 @@ abbrev pub OutTurnsAreBounded : Type 0
 OutTurnsAreBounded =
     (candidates : Candidates) (beyond : Option Network → ℕ) (c : OutChained) (unread : List (Change Route)) → CountsBeyond candidates beyond
     → out_turns_left beyond c unread ≤ length unread + 2 * (beyond None + 1)
+
+-- ---- the walk of a refresh
+-- A refresh and its turns change no row, no rule and nothing that the reader hasn't taken: the chain is the same but for the walk,
+pub record IsSameButRefresh (old new : OutChained) : Type 0 where
+  pub is : new ≡ record old { refresh = new.refresh }
+  pub links : (read : Rows Route) → out_links new read ≡ out_links old read
+  pub stands : (queued : Queued Route) (best : Rows Route) → OutStands old queued best → OutStands new queued best
+
+abbrev pub RefreshKeeps : Type 0
+RefreshKeeps = (c : OutChained) → IsSameButRefresh c (refreshed c)
+
+abbrev pub ResendKeeps : Type 0
+ResendKeeps = (old new : OutChained) (said : List Line) → Resends old new said → IsSameButRefresh old new
+
+-- No turn of it is left exactly where none is on.
+abbrev pub NoneLeftWithoutRefresh : Type 0
+NoneLeftWithoutRefresh = (c : OutChained) → IsOutChain c → (has_refresh_work c ≡ false) ↔ (refresh_left c ≡ 0)
+
+-- A walk that is over has no row beyond its place.
+abbrev pub OverWithoutRowsBeyond : Type 0
+OverWithoutRowsBeyond = (rows : FinMap prefix_cmp Attrs) (place : Option Network) (q : Network) → walk_on rows place ≡ None → IsBeyond place q → map.get rows q ≡ None
+
+-- Where the reader has taken all, what was sent stands at candidates of the best rows, so that no more turns are left than these are.
+abbrev pub RefreshIsBounded : Type 0
+RefreshIsBounded =
+    (candidates : Candidates) (beyond : Option Network → ℕ) (c : OutChained) (queued : Queued Route) (best : Rows Route) → CountsBeyond candidates beyond → CoversRows candidates best
+    → OutStands c queued best → has_out_work c (unread_by queued c.reader) ≡ false → refresh_left c ≤ beyond None

@@ -1,5 +1,5 @@
 -- What each call makes of a chain, and the lines that it writes.
-use Rattle.std.specs.Prelude.{◌≡◌, ℕ, ◌<◌, not, ◌⊎◌, List, [], ◌∷◌, ◌++◌, map, Option, Some, None}
+use Rattle.std.specs.Prelude.{◌≡◌, ℕ, ◌<◌, Bool, true, false, not, ◌⊎◌, List, [], ◌∷◌, ◌++◌, map, Option, Some, None}
 use Rattle.std.specs.Option.{ForSome}
 use Rattle.std.specs.FinMap as tables
 use Rattle.std.specs.FinMap.{FinMap}
@@ -9,7 +9,7 @@ use Rattle.bgp_attr.specs.declared.route.Route.{Route}
 use Rattle.bgp_attr.specs.declared.speaker.Profile.{Profile}
 use Rattle.bgp_attr.specs.declared.speaker.Speaker.{Speaker}
 use Rattle.bgp_attr.specs.declared.speaker.Neighbour.{Neighbour}
-use Rattle.link_change.specs.Rows.{Rows, Candidates}
+use Rattle.link_change.specs.Rows.{Rows, Candidates, with_rows as rows_of, IsNextCandidate}
 use Rattle.link_change.specs.Changes.{IsSent}
 use Rattle.link_change.specs.declared.change.Change.{Change}
 use Rattle.link_change.specs.declared.turn.Turn.{Turn}
@@ -33,7 +33,7 @@ use Rattle.journal_text.specs.declared.entry.Entry.TheVariants.{Inherit, Begin, 
 use Rattle.journal_text.specs.Walk.{Links, Leads}
 use Rattle.journal_text.specs.Journals.{Journaled, with_lines}
 use Rattle.journal_text.specs.Values.{route_rows, attrs_value, route_value, valued_change, sent_entries}
-use Rattle.out_chain.specs.Chains.{OutChained, made_by, outf_rows, out_links, beside_out, HasSent, out_turns_left}
+use Rattle.out_chain.specs.Chains.{OutChained, made_by, outf_rows, out_links, beside_out, HasSent, out_turns_left, walk_on, still_on, refresh_left}
 
 -- ---- a session begins and ends
 
@@ -50,6 +50,7 @@ new_out exit peer session reader rules = record {
   reader = reader;
   filter = first_walk rules;
   sent = tables.empty;
+  refresh = None;
 }
 
 abbrev pub start_entries : ℕ → ℕ → List (Entry Value)
@@ -79,9 +80,14 @@ abbrev pub sent_after : FinMap prefix_cmp Attrs → Option (Change Attrs) → Fi
 sent_after rows None = rows
 sent_after rows (Some change) = kept_after rows change.prefix change.after
 
+-- where the walk of a refresh then stands: it is over where no row lies beyond its place any more
+abbrev pub refresh_after : FinMap prefix_cmp Attrs → Option (Option Network) → Option (Change Attrs) → Option (Option Network)
+refresh_after rows refresh None = refresh
+refresh_after rows refresh (Some change) = still_on (kept_after rows change.prefix change.after) refresh
+
 -- the chain after such a change
 abbrev pub with_sent : OutChained → Option (Change Attrs) → OutChained
-with_sent c sent = record c { sent = sent_after c.sent sent }
+with_sent c sent = record c { sent = sent_after c.sent sent; refresh = refresh_after c.sent c.refresh sent }
 
 -- the chain with another state of its filter
 abbrev pub with_filter : OutChained → Passed (Option (List Rule)) → OutChained
@@ -167,3 +173,28 @@ abbrev pub IsOutTurn : OutChained → OutChained → Queued Route → Queued Rou
 IsOutTurn old new queued left candidates best before now Nothing = Takes queued left old.reader None × (old.filter.walk ≡ None) × (new ≡ old) × (now ≡ before)
 IsOutTurn old new queued left candidates best before now Quiet = AddsLines (TurnsOut old new queued left candidates best None) before now
 IsOutTurn old new queued left candidates best before now (Sent change) = AddsLines (TurnsOut old new queued left candidates best (Some change)) before now
+
+-- ---- the walk of a refresh
+
+-- the change that brings a row where none stood: its message announces the prefix with these attributes
+abbrev pub announcing : Network → Attrs → Change Attrs
+announcing p attrs = record { prefix = p; before = None; after = Some attrs }
+
+-- A turn of the walk: the least row beyond the place of what was sent is announced once more, by the octets that announced it, and the
+-- place moves there; no row changes on any link. The walk is over where no row lies beyond the new place.
+pub record Resends (old new : OutChained) (said : List Line) : Type 0 where
+  pub place : Option Network
+  pub on : old.refresh ≡ Some place
+  pub prefix : Network
+  pub attrs : Attrs
+  pub next : IsNextCandidate (rows_of (tables.get old.sent)) place (Some prefix)
+  pub row : tables.get old.sent prefix ≡ Some attrs
+  pub after : new ≡ record old { refresh = walk_on old.sent (Some prefix) }
+  pub line : said ≡ message_lines old (Some (announcing prefix attrs))
+  pub told : IsTold old.exit (announcing prefix attrs)
+  pub fewer : refresh_left new < refresh_left old
+
+-- what a turn of the walk came to: nothing exactly where none is on
+abbrev pub IsResent : OutChained → OutChained → Journaled → Journaled → Bool → Type 0
+IsResent old new before now false = (old.refresh ≡ None) × (new ≡ old) × (now ≡ before)
+IsResent old new before now true = AddsLines (Resends old new) before now

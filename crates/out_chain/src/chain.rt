@@ -17,6 +17,7 @@ ghost use Rattle.journal_text.specs.Values.{route_value, attrs_value, valued_cha
 ghost use Rattle.out_chain.specs.Chains.{out_links, out_candidates, IsOutChain, RowsMayBeHeard, OutStands, has_out_work, out_lags};
 ghost use Rattle.out_chain.specs.Steps.{exit_to, new_out, start_entries, stop_entries, LeadsOut, LeadsFromBest, with_rules, with_sent, said_of, message_lines, IsTold, PassesOut, IsWalkedOut, IsOutTurn};
 
+use crate::refresh::still_on;
 use crate::to_peer::ToPeer;
 use addr4::{Memory, Place, Prefix};
 use bgp_attr::{Neighbour, Octets, Profile, Route, SharedAttrs, Speaker};
@@ -31,19 +32,23 @@ use std::alloc::Global;
 use std::marker::Model;
 
 /// The outgoing chain of a session. Contracts see who sends to whom, the session, the reader's number in the queue, the rules of the
-/// outgoing filter, and what was sent.
+/// outgoing filter, what was sent, and the place of the walk of a refresh.
 #[derive(Drop)]
 pub struct OutChain {
-    peer: Neighbour,
+    pub(crate) peer: Neighbour,
     session: u32,
     reader: Reader,
     filter: OutFilter,
-    sent: Cache<SharedAttrs>,
-    to_peer: ToPeer,
+    pub(crate) sent: Cache<SharedAttrs>,
+    pub(crate) to_peer: ToPeer,
+    /// The place of the walk of a refresh, if one is on.
+    pub(crate) refresh: Option<Place>,
 }
 
 impl Model for OutChain {
+    ghost use Rattle.std.specs.Prelude.{option_map};
     ghost use Rattle.std.specs.Coded.{coded_list, coded_option};
+    ghost use Rattle.addr4.specs.Places.{key_of};
     ghost use Rattle.out_chain.specs.Chains.{OutChained, out_chained_code, exit_code};
     ghost use Rattle.pass_core.specs.Passed.{passed_code};
     ghost use Rattle.bgp_attr.specs.contracts.attrs.Attrs as attrs_row;
@@ -56,7 +61,7 @@ impl Model for OutChain {
 
     ghost coded = { out_chained_code (exit_code profile_row.the_row.coded speaker_row.the_row.coded) neighbour_row.the_row.coded (passed_code (coded_option (coded_list rule_row.the_row.coded))) attrs_row.the_row.coded };
 
-    ghost view = { λ c. record { exit = c.to_peer.out; peer = c.peer; session = c.session; reader = c.reader; filter = c.filter; sent = c.sent } };
+    ghost view = { λ c. record { exit = c.to_peer.out; peer = c.peer; session = c.session; reader = c.reader; filter = c.filter; sent = c.sent; refresh = option_map key_of c.refresh } };
 }
 
 impl OutChain {
@@ -96,6 +101,7 @@ impl OutChain {
             filter: OutFilter::new(rules),
             sent: Cache::new(alloc),
             to_peer: ToPeer { out },
+            refresh: None,
         })
     }
 
@@ -187,7 +193,8 @@ impl OutChain {
         }
     }
 
-    // A change of what the filter makes is kept, and said to the peer.
+    // A change of what the filter makes is kept, and said to the peer. The walk of a refresh ends where no row lies beyond its place
+    // any more.
     fn send(
         &mut self,
         change: Change<SharedAttrs>,
@@ -202,6 +209,7 @@ impl OutChain {
         let number = u32::from(self.peer.number);
         journal.push_change(Link::Outf(number, self.session), &change)?;
         let sent = self.sent.take_in(change)?;
+        self.refresh = still_on(&self.sent, self.refresh);
         match self.say(&sent, journal) {
             Ok(()) => Ok(sent),
             Err(fault) => {

@@ -1,6 +1,6 @@
 //! Laws of outgoing chains, for the proofs of the crates above. Each is a function that does nothing, whose contract is the law.
 
-ghost use Rattle.out_chain.specs.Laws.{ExactUnlessHeldUp, NoneHeldUpWithoutWork, BestRowTells, PutKeepsStanding, OthersKeepStanding, NoTurnsWithoutWork, OutTurnsAreBounded};
+ghost use Rattle.out_chain.specs.Laws.{ExactUnlessHeldUp, NoneHeldUpWithoutWork, BestRowTells, PutKeepsStanding, OthersKeepStanding, NoTurnsWithoutWork, OutTurnsAreBounded, RefreshKeeps, ResendKeeps, NoneLeftWithoutRefresh, OverWithoutRowsBeyond, RefreshIsBounded};
 
 /// At a prefix that nothing holds up the peer was sent what the latest rules make of the best row. Without work nothing does.
 pub fn unless_held_up_all_is_sent()
@@ -23,4 +23,18 @@ pub fn a_session_stands()
 pub fn out_turns_are_left()
     ensures none { NoTurnsWithoutWork }
     ensures bounded { OutTurnsAreBounded }
+{}
+
+/// A refresh, and the turns of its walk, change no row of the session and no rule, and it goes on to stand.
+pub fn a_refresh_changes_nothing()
+    ensures begins { RefreshKeeps }
+    ensures resends { ResendKeeps }
+{}
+
+/// How many turns of the walk of a refresh are left: none exactly where none is on, and no more than rows; where it is over, no row
+/// lies beyond its place.
+pub fn refresh_turns_are_left()
+    ensures none { NoneLeftWithoutRefresh }
+    ensures over { OverWithoutRowsBeyond }
+    ensures bounded { RefreshIsBounded }
 {}

@@ -9,6 +9,10 @@
 //! first change that the reader hasn't taken, and passes it down, by the rules that hold at its prefix. Where the reader has taken
 //! all, a turn takes the walk to the next candidate. So a slow peer falls behind, and the others don't wait for it.
 //!
+//! A peer may ask for all rows again ([`OutChain::refresh`], RFC 2918): then turns of another task walk over what was sent
+//! ([`OutChain::resend`]). Each announces the least row beyond the walk's place once more, by the octets that announced it, and
+//! changes no link; the walk is over as soon as no row lies beyond its place ([`a_refresh_changes_nothing`]).
+//!
 //! What is proved of every call: whatever other links there are, its entries lead by the journal's two consistency rules from the
 //! maps of the session's old links to those of its new ones; what was sent is exactly what the filter makes of the rows that the
 //! reader has; one message follows each change of it, and the peer reads its octets as that change and as nothing else; every
@@ -22,9 +26,11 @@
 
 mod chain;
 mod laws;
+mod refresh;
 mod to_peer;
 
 pub use chain::OutChain;
 pub use laws::{
-    a_session_stands, out_turns_are_left, the_best_row_tells, unless_held_up_all_is_sent,
+    a_refresh_changes_nothing, a_session_stands, out_turns_are_left, refresh_turns_are_left,
+    the_best_row_tells, unless_held_up_all_is_sent,
 };

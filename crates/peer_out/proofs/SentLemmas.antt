@@ -13,8 +13,8 @@ use Rattle.bgp_wire.specs.declared.message.Update.{Update}
 use Rattle.bgp_wire.specs.declared.message.Message.TheVariants as messages
 use Rattle.bgp_wire.specs.Grammar.{Reads}
 use Rattle.bgp_wire.specs.Lengths.{announcement_length}
-use Rattle.bgp_wire.specs.Readable.{IsReadable, IsHost, IsNetwork, AreOctets}
-use Rattle.bgp_wire.specs.Spelling.{FitsAttrs}
+use Rattle.bgp_wire.specs.Readable.{IsReadable, IsHost, IsNetwork, AreOctets, announcement}
+use Rattle.bgp_wire.specs.Spelling.{FitsAttrs, update_octets}
 use Rattle.bgp_wire.proofs.MessageLaws.{one_message}
 use Rattle.bgp_wire.proofs.ReadableMessages.{read_is_readable}
 use Rattle.wire_laws.proofs.Prepended.{prepended_is_readable, readable_fits}
@@ -89,11 +89,16 @@ said profile external change octets network can is =
 pub no_longer : (profile : Profile) (external : Bool) (octets : List ℕ) (u : Update) → IsReadAs profile external octets u → length octets ≤ 4096
 no_longer profile external octets u is = is.reads.1.frame.top
 
--- the row after a change can be read, by its numbers
-pub after_can : (profile : Profile) (external : Bool) (p : Network) (after : Option Attrs) (a : Attrs) → after ≡ Some a → HasNumbers a → ForSome after (IsSentOf profile external p) → ForSome after (CanBeRead profile external p)
-after_can profile external p after a at numbers sent b is =
-    let same : a ≡ b = cc in
-    sent_is_readable profile external p b (sent b is) (subst HasNumbers same numbers)
+-- attributes that are sent can be read, by their numbers, as the code knows them
+pub can_be_read : (profile : Profile) (external : Bool) (p : Network) (a b : Attrs) → b ≡ a → HasNumbers b → IsSentOf profile external p a → CanBeRead profile external p b
+can_be_read profile external p a b is numbers sent = sent_is_readable profile external p b (subst (IsSentOf profile external p) (sym is) sent) numbers
+
+-- their octets are read as the announcement
+pub announcement_said : (profile : Profile) (external : Bool) (p : Network) (a b : Attrs) (octets : List ℕ) → b ≡ a → IsNetwork p → CanBeRead profile external p b → octets ≡ update_octets profile.as4 (announcement p b)
+    → IsReadAs profile external octets (announcement p a)
+announcement_said profile external p a b octets is network can written =
+    subst (λ (x : Attrs). IsReadAs profile external octets (announcement p x)) is
+    (said profile external (record { prefix = p; before = None; after = Some b }) octets network (λ x e. let same : b ≡ x = cc in subst (CanBeRead profile external p) same can) written)
 
 -- without one there is nothing to be read
 pub none_can : (profile : Profile) (external : Bool) (p : Network) (after : Option Attrs) → after ≡ None → ForSome after (CanBeRead profile external p)

@@ -38,6 +38,28 @@ fn announce(
     Ok(octets.unwrap())
 }
 
+/// The octets of the UPDATE that announces one prefix with attributes that a peer is sent ([`crate::as_sent`]): those of every
+/// change after which the prefix has them. The attributes are lent. Memory only for want of memory.
+pub fn announcement(
+    alloc: Global,
+    profile: Profile,
+    prefix: Prefix,
+    sent: &SharedAttrs,
+    external: bool,
+) -> Result<Vec<u8>, Memory>
+    requires { IsSentOf profile external prefix sent.now }
+    ensures octets { IfOk result (λ octets. octets.items ≡ update_octets profile.as4 (announcement prefix sent.now)) }
+    ensures short { IfOk result (λ octets. length octets.items ≤ 4096) }
+    // The peer reads the announcement, and nothing else.
+    ensures reads { IfOk result (λ octets. IsReadAs profile external octets.items (announcement prefix sent.now)) }
+{
+    prefix.known();
+    let attrs = sent.attrs();
+    known(attrs.med);
+    known(attrs.local_pref);
+    announce(alloc, profile, prefix, attrs)
+}
+
 /// The octets of the UPDATE that says a change of what a peer was sent (RFC 4271, section 4.3): one prefix is announced with the
 /// attributes after the change, or withdrawn. The attributes are those that [`crate::as_sent`] answers for that prefix and this
 /// peer, of some route that may be heard. Memory only for want of memory.
@@ -57,11 +79,6 @@ pub fn message(
     change.prefix.known();
     match &change.after {
         None => write_withdrawal(alloc, change.prefix),
-        Some(sent) => {
-            let attrs = sent.attrs();
-            known(attrs.med);
-            known(attrs.local_pref);
-            announce(alloc, profile, change.prefix, attrs)
-        }
+        Some(sent) => announcement(alloc, profile, change.prefix, sent, external),
     }
 }

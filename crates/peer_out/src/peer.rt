@@ -3,10 +3,12 @@
 ghost use Rattle.std.specs.Prelude.{◌≡◌, ◌≤◌, IfOk, length};
 ghost use Rattle.std.specs.Option.{ForSome};
 ghost use Rattle.peer_out.specs.Forms.{as_sent};
+ghost use Rattle.bgp_wire.specs.Readable.{announcement};
+ghost use Rattle.bgp_wire.specs.Spelling.{update_octets};
 ghost use Rattle.peer_out.specs.Changes.{IsSentOf, IsReadAs, saying, message_octets};
 
 use crate::form::Formed;
-use crate::octets::message;
+use crate::octets::{announcement, message};
 use addr4::{Memory, Prefix};
 use bgp_attr::{Profile, Route, SharedAttrs, Speaker};
 use link_change::Change;
@@ -85,5 +87,15 @@ impl PeerOut {
         ensures reads { IfOk result (λ octets. IsReadAs self.now.profile self.now.external octets.items (saying change.now.prefix change.now.after)) }
     {
         message(self.alloc, self.profile, change, self.external)
+    }
+
+    /// The octets that announce a prefix to the peer with attributes that are lent ([`crate::announcement`]).
+    pub fn announcement(&self, prefix: Prefix, sent: &SharedAttrs) -> Result<Vec<u8>, Memory>
+        requires { IsSentOf self.now.profile self.now.external prefix sent.now }
+        ensures octets { IfOk result (λ octets. octets.items ≡ update_octets self.now.profile.as4 (announcement prefix sent.now)) }
+        ensures short { IfOk result (λ octets. length octets.items ≤ 4096) }
+        ensures reads { IfOk result (λ octets. IsReadAs self.now.profile self.now.external octets.items (announcement prefix sent.now)) }
+    {
+        announcement(self.alloc, self.profile, prefix, sent, self.external)
     }
 }

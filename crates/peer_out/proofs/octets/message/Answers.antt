@@ -1,35 +1,23 @@
-use Rattle.std.proofs.Common.{◌≡◌, ap, sym, ◌∙◌, Some}
+use Rattle.std.proofs.Common.{ℕ, List, Option, ap, sym, subst, ◌∙◌}
 use Rattle.std.proofs.lemmas.Result.{IfOk-weaker}
+use Rattle.bgp_attr.specs.declared.attrs.Attrs.{Attrs}
 use Rattle.bgp_wire.specs.Readable.{IsNetwork}
 use Rattle.bgp_wire.specs.Spelling.{update_octets}
-use Rattle.peer_out.specs.Changes.{saying, HasNumbers}
-use Rattle.peer_out.proofs.SentLemmas.{said, no_longer, after_can, none_can, sent_fits}
+use Rattle.peer_out.specs.Changes.{saying, IsReadAs}
+use Rattle.peer_out.proofs.SentLemmas.{said, no_longer, none_can}
 use Rattle.peer_out.proofs.octets.message.Goals as goal
 
-pub announce-requires-clause-fits : goal.announce-requires-clause-fits
-announce-requires-clause-fits c =
-    let at : c.args.change.now.after ≡ Some c.attrs-attrs.result.now = c.in-Some.is ∙ ap Some (sym c.attrs-attrs.ensures) in
-    let numbers : HasNumbers c.attrs-attrs.result.now = record { med = c.known-in-Some.ensures; local_pref = c.known-in-Some-2.ensures } in
-    let can = after_can c.args.profile c.args.external c.args.change.now.prefix c.args.change.now.after c.attrs-attrs.result.now at numbers c.requires in
-    sent_fits c.args.profile c.args.external c.args.change.now.prefix c.attrs-attrs.result.now (can c.attrs-attrs.result.now at)
+pub announcement-requires : goal.announcement-requires
+announcement-requires c = c.requires c.in-Some.sent c.in-Some.is
 
-pub announce-requires-clause-short : goal.announce-requires-clause-short
-announce-requires-clause-short c =
-    let at : c.args.change.now.after ≡ Some c.attrs-attrs.result.now = c.in-Some.is ∙ ap Some (sym c.attrs-attrs.ensures) in
-    let numbers : HasNumbers c.attrs-attrs.result.now = record { med = c.known-in-Some.ensures; local_pref = c.known-in-Some-2.ensures } in
-    let can = after_can c.args.profile c.args.external c.args.change.now.prefix c.args.change.now.after c.attrs-attrs.result.now at numbers c.requires in
-    (can c.attrs-attrs.result.now at).short
+pub returns-in-Some-clause-octets : goal.returns-in-Some-clause-octets
+returns-in-Some-clause-octets c =
+    IfOk-weaker c.announcement.result _ _ (λ octets is. is ∙ sym (ap (λ o. update_octets c.args.profile.as4 (saying c.args.change.now.prefix o)) c.in-Some.is)) c.announcement.ensures.octets
 
 pub returns-in-Some-clause-reads : goal.returns-in-Some-clause-reads
 returns-in-Some-clause-reads c =
-    let change = c.args.change.now in
-    let at : change.after ≡ Some c.attrs-attrs.result.now = c.in-Some.is ∙ ap Some (sym c.attrs-attrs.ensures) in
-    let numbers : HasNumbers c.attrs-attrs.result.now = record { med = c.known-in-Some.ensures; local_pref = c.known-in-Some-2.ensures } in
-    let can = after_can c.args.profile c.args.external change.prefix change.after c.attrs-attrs.result.now at numbers c.requires in
-    let network : IsNetwork change.prefix = record { masked = c.known.ensures.masked; fits = c.known.ensures.fits } in
-    IfOk-weaker c.announce.result _ _
-    (λ octets is. said c.args.profile c.args.external change octets.items network can (is ∙ sym (ap (λ o. update_octets c.args.profile.as4 (saying change.prefix o)) at)))
-    c.announce.ensures.octets
+    let P : Option Attrs → List ℕ → Type 0 = λ o octets. IsReadAs c.args.profile c.args.external octets (saying c.args.change.now.prefix o) in
+    IfOk-weaker c.announcement.result _ _ (λ octets reads. subst (λ o. P o octets.items) (sym c.in-Some.is) reads) c.announcement.ensures.reads
 
 pub returns-in-None-clause-octets : goal.returns-in-None-clause-octets
 returns-in-None-clause-octets c =
