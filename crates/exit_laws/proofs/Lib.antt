@@ -4,3 +4,5 @@ pub mod OtherLemmas
 pub mod ViewLemmas
 pub mod KeptLemmas
 pub mod PrintLemmas
+pub mod ServedLemmas
+pub mod ResendLemmas

@@ -65,16 +65,16 @@ use Rattle.exit_laws.proofs.ViewLemmas.{put_here, numbered, turned_sent}
 use Rattle.exit_laws.proofs.KeptLemmas.{rows_read, taken_change, queue_taken, each_put, sent_there, sent_kept, begun_exits, ended_exits, with_unread}
 
 -- ---- what is sent of a row is the form of a route with its attributes
-record IsFormOfOne (exit : Exit) (row : Route) (a : Attrs) : Type 0 where
-  route : Route
-  is : a ≡ sent_form exit.me exit.external route
-  attrs : route.attrs ≡ row.attrs
+pub record IsFormOfOne (exit : Exit) (row : Route) (a : Attrs) : Type 0 where
+  pub route : Route
+  pub is : a ≡ sent_form exit.me exit.external route
+  pub attrs : route.attrs ≡ row.attrs
 
 first_keeps : (peer : Neighbour) (row : Route) → (first_out peer row).attrs ≡ row.attrs
 first_keeps peer row = elim peer.internal as (λ (b : Bool). (cond b row (record row { med = None })).attrs ≡ row.attrs) [ true ↦ refl | false ↦ refl ]
 
 module _ (exit : Exit) (p : Network) (row : Route) (a : Attrs) where
-  of_fitting : (r : Route) (fits : Bool) → r.attrs ≡ row.attrs → cond fits (Some (sent_form exit.me exit.external r)) None ≡ Some a → IsFormOfOne exit row a
+  pub of_fitting : (r : Route) (fits : Bool) → r.attrs ≡ row.attrs → cond fits (Some (sent_form exit.me exit.external r)) None ≡ Some a → IsFormOfOne exit row a
   of_fitting r true keeps e = record { route = r; is = let same : Some (sent_form exit.me exit.external r) ≡ Some a = e in cc; attrs = keeps }
   of_fitting r false keeps e = absurd (let clash : ◌≡◌ {A = Option Attrs} None (Some a) = e in cc)
 
@@ -102,7 +102,7 @@ few_of as4 (s ∷ path) each = (each.0.few, few_of as4 path each.1)
 few_numbers : (as4 : Bool) (path : List Segment) → All (IsReadableSegment as4) path → AllByRecursion HasFewNumbers path
 few_numbers as4 path each = few_of as4 path (all_every (IsReadableSegment as4) path each)
 
-sent_few : (as4 external : Bool) (n asn : ℕ) (path : List Segment) → asn < 256 ^ width_of as4 → All (IsReadableSegment as4) path → AllByRecursion HasFewNumbers (cond external (times_in_front n asn path) path)
+pub sent_few : (as4 external : Bool) (n asn : ℕ) (path : List Segment) → asn < 256 ^ width_of as4 → All (IsReadableSegment as4) path → AllByRecursion HasFewNumbers (cond external (times_in_front n asn path) path)
 sent_few as4 true n asn path fits each = few_numbers as4 (times_in_front n asn path) (prepended_is_readable as4 n asn path fits each)
 sent_few as4 false n asn path fits each = few_numbers as4 path each
 
@@ -113,7 +113,7 @@ can_be_spelled profile peers exit p row a fits best form =
     subst CanBeSpelled (sym form.is) (record { path = few; unrecognized = subst (λ x. AllByRecursion (λ (u : Unrecognized). (u.kind < 2 ^ 8) × AreSmall u.value) x.unrecognized) (sym form.attrs) best.printed.well_told.ranges.attrs.unrecognized })
 
 -- the octets of a change
-octets_small : (as4 : Bool) (p : Network) (after : Option Attrs) → IsPrefix p → ForSome after CanBeSpelled → AreSmall (update_octets as4 (saying p after))
+pub octets_small : (as4 : Bool) (p : Network) (after : Option Attrs) → IsPrefix p → ForSome after CanBeSpelled → AreSmall (update_octets as4 (saying p after))
 octets_small as4 p None prefix can = withdrawal_small as4 p prefix.0.0
 octets_small as4 p (Some a) prefix can = announcement_small as4 p a prefix.0.0 (can a refl)
 
@@ -138,11 +138,11 @@ module _ (peers : ℕ → Option Neighbour) where
       (route_if profile change.prefix change.before is.before) (route_if profile change.prefix change.after is.after)
 
   -- what is known of a change that is sent
-  record IsSayable (change : Change Attrs) : Type 0 where
-    prefix : IsPrefix change.prefix
-    before : ForSome change.before (IsPrintableSent peers change.prefix)
-    after : ForSome change.after (IsPrintableSent peers change.prefix)
-    octets : (as4 : Bool) → AreSmall (update_octets as4 (saying change.prefix change.after))
+  pub record IsSayable (change : Change Attrs) : Type 0 where
+    pub prefix : IsPrefix change.prefix
+    pub before : ForSome change.before (IsPrintableSent peers change.prefix)
+    pub after : ForSome change.after (IsPrintableSent peers change.prefix)
+    pub octets : (as4 : Bool) → AreSmall (update_octets as4 (saying change.prefix change.after))
 
   sent_printed : (link : Link) (sent : Option (Change Attrs)) → IsNamed link → ((change : Change Attrs) → sent ≡ Some change → IsSayable change)
       → AllByRecursion (λ e. IsPrinted peers (Journal e)) (sent_entries attrs_value link sent)
@@ -152,7 +152,7 @@ module _ (peers : ℕ → Option Neighbour) where
       changes_printed peers link change.prefix (option_map attrs_value change.before) (option_map attrs_value change.after) named is.prefix
       (attrs_if change.prefix change.before is.before) (attrs_if change.prefix change.after is.after)
 
-  message_printed : (c : OutChained) (sent : Option (Change Attrs)) → c.peer.number < 2 ^ 32 → ForSome sent (IsTold c.exit) → ((change : Change Attrs) → sent ≡ Some change → IsSayable change)
+  pub message_printed : (c : OutChained) (sent : Option (Change Attrs)) → c.peer.number < 2 ^ 32 → ForSome sent (IsTold c.exit) → ((change : Change Attrs) → sent ≡ Some change → IsSayable change)
       → ArePrinted peers (message_lines c sent)
   message_printed c None small told each = tt
   message_printed c (Some change) small told each =

@@ -57,7 +57,7 @@ pub gone_other : (j k : ℕ) (queue : Queued Route) (e : Exited) → k ≢ j →
 gone_other j k queue e differ = get-remove nat_cmp_total e.chains j k ∙ ap (λ b. cond b None (chain_at k e)) (other_number k j differ)
 
 -- ---- and their views
-views_put : (j : ℕ) (c : OutChained) (queue : Queued Route) (e : Exited) → views_of (with_exit j c queue e) ≡ with_routes (views_of e) j c.sent
+pub views_put : (j : ℕ) (c : OutChained) (queue : Queued Route) (e : Exited) → views_of (with_exit j c queue e) ≡ with_routes (views_of e) j c.sent
 views_put j c queue e = same_function _ _ (λ k.
     by_number k j (λ b. views_of (with_exit j c queue e) k ≡ cond b c.sent (views_of e k))
     (λ is. ap (views_of (with_exit j c queue e)) is ∙ ap sent_by (put_here j c queue e)) (λ differ. ap sent_by (put_other j k c queue e differ)))
@@ -68,7 +68,7 @@ views_gone j queue e = same_function _ _ (λ k.
     (λ is. ap (views_of (without_exit j queue e)) is ∙ ap sent_by (gone_here j queue e)) (λ differ. ap sent_by (gone_other j k queue e differ)))
 
 -- to give a peer the routes that it has changes nothing
-routes_same : (v : Views) (j : ℕ) (routes : Routes) → v j ≡ routes → with_routes v j routes ≡ v
+pub routes_same : (v : Views) (j : ℕ) (routes : Routes) → v j ≡ routes → with_routes v j routes ≡ v
 routes_same v j routes is = same_function _ _ (λ k. by_number k j (λ b. cond b routes (v k) ≡ v k) (λ at. sym is ∙ ap v (sym at)) (λ _. refl))
 
 -- ---- what was heard is `adv`
@@ -162,7 +162,7 @@ sending_unheard c sent =
 
 -- what the message of a change says to peer j
 module _ (profile : Profile) (peers : ℕ → Option Neighbour) (j : ℕ) (old : OutChained) (v : Views) (number : old.peer.number ≡ j) (known : peers j ≡ Some old.peer) (same : old.exit.profile ≡ profile) (kind : old.exit.external ≡ not old.peer.internal) (is : v j ≡ old.sent) where
-  hears_message : (sent : Option (Change Attrs)) (routes : Routes) → routes ≡ sent_after old.sent sent
+  pub hears_message : (sent : Option (Change Attrs)) (routes : Routes) → routes ≡ sent_after old.sent sent
       → ((change : Change Attrs) → sent ≡ Some change → IsTold old.exit change) → ((change : Change Attrs) → sent ≡ Some change → (a : Attrs) → change.after ≡ Some a → is_host_prefix change.prefix ≡ true)
       → Hears profile peers v (message_lines old sent) (with_routes v j routes)
   hears_message None routes after told hosts = routes_same v j routes (is ∙ sym after)

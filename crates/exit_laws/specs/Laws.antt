@@ -28,8 +28,8 @@ use Rattle.link_region.specs.declared.regions.Region.{Region}
 use Rattle.link_region.specs.declared.regions.Region.TheVariants.{Outward}
 use Rattle.link_region.specs.Regions.{region_number, LeadsIn}
 use Rattle.out_chain.specs.Chains.{OutChained}
-use Rattle.exit_side.specs.Exits.{Exited, chain_at, with_queue, exit_links, IsExits}
-use Rattle.exit_side.specs.Steps.{BeginsExit, EndsExit, EditsExit, PutsExit, TurnsExit}
+use Rattle.exit_side.specs.Exits.{Exited, chain_at, with_queue, exit_links, IsExits, AllStand, refreshed_exits}
+use Rattle.exit_side.specs.Steps.{BeginsExit, EndsExit, EditsExit, PutsExit, TurnsExit, ResendsExit}
 use Rattle.live_state.specs.Lives.{with_routes}
 use Rattle.live_state.specs.Heard.{Views, Hears}
 use Rattle.exit_laws.specs.Views.{views_of, AreDeclared, AreUnheard, entry_lines}
@@ -106,6 +106,19 @@ EditKeepsViews = (j : ℕ) (rules : List Rule) (e e' : Exited) → EditsExit j r
 abbrev pub PutKeepsViews : Type 0
 PutKeepsViews = (change : Change Route) (e e' : Exited) → PutsExit change e e' → views_of e' ≡ views_of e
 
+-- So do a refresh, and the turns of its walk:
+abbrev pub RefreshKeepsViews : Type 0
+RefreshKeepsViews = (j : ℕ) (e : Exited) → views_of (refreshed_exits j e) ≡ views_of e
+
+abbrev pub ResendKeepsViews : Type 0
+ResendKeepsViews = (j : ℕ) (e e' : Exited) (said : List Line) → ResendsExit j e e' said → views_of e' ≡ views_of e
+
+-- what such a turn announces the peer has already, by the octets.
+abbrev pub ResendIsHeard : Type 0
+ResendIsHeard =
+    (profile : Profile) (peers : ℕ → Option Neighbour) (j : ℕ) (best : Rows Route) (e e' : Exited) (said : List Line) → AreDeclared profile peers e → IsExits e → AllStand best e
+    → ResendsExit j e e' said → Hears profile peers (views_of e) said (views_of e')
+
 -- ---- what is printed
 abbrev pub ArePrinted : (ℕ → Option Neighbour) → List Line → Type 0
 ArePrinted peers said = AllByRecursion (IsPrinted peers) said
@@ -138,6 +151,16 @@ abbrev pub EditIsPrinted : Type 0
 EditIsPrinted =
     (profile : Profile) (peers : ℕ → Option Neighbour) (j : ℕ) (rules : List Rule) (e e' : Exited) → ArePrintableExits profile peers e → EditsExit j rules e e'
     → ArePrintableExits profile peers e'
+
+-- with a refresh, and a turn of its walk,
+abbrev pub RefreshIsPrinted : Type 0
+RefreshIsPrinted =
+    (profile : Profile) (peers : ℕ → Option Neighbour) (j : ℕ) (e : Exited) → ArePrintableExits profile peers e → ArePrintableExits profile peers (refreshed_exits j e)
+
+abbrev pub ResendIsPrinted : Type 0
+ResendIsPrinted =
+    (profile : Profile) (peers : ℕ → Option Neighbour) (j : ℕ) (best : Rows Route) (e e' : Exited) (said : List Line) → IsExits e → AllStand best e
+    → ArePrintableExits profile peers e → ResendsExit j e e' said → PrintsOn profile peers e' said
 
 -- with a change of such rows that joins the queue,
 abbrev pub PutIsPrinted : Type 0

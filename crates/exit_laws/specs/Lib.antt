@@ -1,3 +1,4 @@
 pub mod Views
 pub mod Printable
 pub mod Laws
+pub mod Served

@@ -7,12 +7,14 @@
 //! router has only to put its steps together.
 //!
 //! `specs/Printable` has what stands in the exits and can be printed, and each step keeps it, and says lines that can be printed
-//! ([`steps_are_printed`]).
+//! ([`steps_are_printed`]). `specs/Served` has what a peer is told since it asked for all routes again (RFC 2918), which each step
+//! keeps ([`refreshes_are_served`]).
 //!
 //! For the proofs of the crates above. Each law is a function that does nothing, whose contract is the law.
 #![tactic(auto)]
 
-ghost use Rattle.exit_laws.specs.Laws.{HearingJoins, HearingIsOne, HearingStays, NothingIsHeard, OthersAreUnheard, ChangesAreUnheard, HeardIsSent, BeginningIsHeard, EndIsHeard, TurnIsHeard, TurnIsHeardFrom, EditKeepsViews, PutKeepsViews, BeginningIsPrinted, EndIsPrinted, TurnIsPrinted, EditIsPrinted, PutIsPrinted, JoinIsPrinted, TakeIsPrinted, PrintingStays, EmptyIsPrinted};
+ghost use Rattle.exit_laws.specs.Laws.{HearingJoins, HearingIsOne, HearingStays, NothingIsHeard, OthersAreUnheard, ChangesAreUnheard, HeardIsSent, BeginningIsHeard, EndIsHeard, TurnIsHeard, TurnIsHeardFrom, EditKeepsViews, PutKeepsViews, RefreshKeepsViews, ResendKeepsViews, ResendIsHeard, BeginningIsPrinted, EndIsPrinted, TurnIsPrinted, EditIsPrinted, RefreshIsPrinted, ResendIsPrinted, PutIsPrinted, JoinIsPrinted, TakeIsPrinted, PrintingStays, EmptyIsPrinted};
+ghost use Rattle.exit_laws.specs.Served.{ServingBegins, ServingEnds, TurnServes, ResendServes, RefreshServes, EditServes, OthersServe, EndServes, BeginServes};
 
 use bgp_wire::one_of_message_and_fault;
 
@@ -35,7 +37,8 @@ pub fn others_are_unheard()
 {}
 
 /// What a peer has heard are the rows of its `adv.J.S`: where its session begins nothing, where it ends nothing is left, and a
-/// turn of its exit tells it each change of them, in a message that it reads as that change and as nothing else.
+/// turn of its exit tells it each change of them, in a message that it reads as that change and as nothing else. A refresh, and
+/// the announcements of its walk, tell it nothing that it hasn't heard.
 pub fn steps_are_heard()
     ensures sent { HeardIsSent }
     ensures begin { BeginningIsHeard }
@@ -44,6 +47,9 @@ pub fn steps_are_heard()
     ensures turn_from { TurnIsHeardFrom }
     ensures edit { EditKeepsViews }
     ensures put { PutKeepsViews }
+    ensures refresh { RefreshKeepsViews }
+    ensures resend_keeps { ResendKeepsViews }
+    ensures resend { ResendIsHeard }
 {}
 
 /// The lines of each step of the exits can be printed and read back, and so can what stands in them then, where the rows of
@@ -53,9 +59,25 @@ pub fn steps_are_printed()
     ensures end { EndIsPrinted }
     ensures turn { TurnIsPrinted }
     ensures edit { EditIsPrinted }
+    ensures refresh { RefreshIsPrinted }
+    ensures resend { ResendIsPrinted }
     ensures put { PutIsPrinted }
     ensures join { JoinIsPrinted }
     ensures take { TakeIsPrinted }
     ensures stays { PrintingStays }
     ensures empty { EmptyIsPrinted }
+{}
+
+/// A peer that asks for all routes again (RFC 2918) is told each row that it was sent, since then: at any moment each is
+/// announced in the lines since, or the walk of the refresh has yet to come to it, and so all are where no walk is on.
+pub fn refreshes_are_served()
+    ensures begins { ServingBegins }
+    ensures ends { ServingEnds }
+    ensures turn { TurnServes }
+    ensures resend { ResendServes }
+    ensures refresh { RefreshServes }
+    ensures edit { EditServes }
+    ensures others { OthersServe }
+    ensures end { EndServes }
+    ensures begin { BeginServes }
 {}

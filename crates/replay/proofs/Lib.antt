@@ -8,6 +8,7 @@ pub mod GoingOn
 pub mod Endings
 mod SettledLinks
 pub mod HeardLemmas
+pub mod RefreshLemmas
 pub mod Counted
 pub mod SkippedTexts
 pub mod Totalled

@@ -1,6 +1,7 @@
-//! Laws of event files that the program makes: functions that do nothing, whose contracts are the laws.
+//! Laws of event files that the program makes, and of its outputs: functions that do nothing, whose contracts are the laws.
 
 ghost use Rattle.replay.specs.Answers.{CapturesAreAccepted, SeedsAreAccepted};
+ghost use Rattle.replay.specs.Refreshes.{RefreshesAreServed, RefreshesEnd};
 
 use capture_laws::lines_are_accepted;
 use event_gen::lines_are_read;
@@ -20,3 +21,10 @@ pub fn captures_are_accepted()
     lines_are_accepted();
     lines_are_few();
 }
+
+/// A peer that asks for all routes again (RFC 2918) is told them: as soon as the task `ref.J` has no work, as after an idle, each
+/// route that the peer has was announced to it since.
+pub fn refreshes_are_served()
+    ensures served { RefreshesAreServed }
+    ensures idle { RefreshesEnd }
+{}

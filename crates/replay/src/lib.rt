@@ -11,7 +11,8 @@
 //! read: the journal in it obeys the rules of consistency on every link, the live state is what the events alone make of
 //! it, and after each `idle`, within the number of turns that it announced, no work is left and each link is what is decided
 //! from scratch over the live state. What each peer hears in it, by reading the octets that it is sent, is at every moment what
-//! stands on its link `adv.J.S`.
+//! stands on its link `adv.J.S`; and a peer that asks for all of that again is told all of it once more, at the latest by the next
+//! `idle`.
 #![tactic(auto)]
 
 mod captured;
@@ -32,10 +33,11 @@ ghost use Rattle.edge_io.specs.Causes.{Rose};
 ghost use Rattle.command_line.specs.Commands.{command_of};
 ghost use Rattle.replay.specs.Commands.{reads_source, usage_line};
 ghost use Rattle.replay.specs.Answers.{HasDone, HasRead, HasRefused, HasLawful, HasBroken, HasSoFar, HasFirst, HasFront, IsByText, IsUnfailing, CapturesAreAccepted, SeedsAreAccepted};
+ghost use Rattle.replay.specs.Refreshes.{RefreshesAreServed, RefreshesEnd};
 ghost use Rattle.command_line.specs.declared.words.Command.TheVariants.{Check};
 
 use crate::commands::obey;
-use crate::laws::{captures_are_accepted, seeds_are_accepted};
+use crate::laws::{captures_are_accepted, refreshes_are_served, seeds_are_accepted};
 use command_line::read_command;
 use edge_io::{Sink, Source};
 use router_core::first_moment_stands;
@@ -80,6 +82,11 @@ pub fn replay<S: Source, K: Sink>(
     // No line of what `mrt` writes with status 0 is refused: all that is said of `run` holds of a run over it.
     ensures captures { CapturesAreAccepted }
 
+    // In each allowed output a peer that asks for all routes again (RFC 2918) is told them: as soon as its task `ref.J` has no work,
+    // each route that it has was announced to it since; and after an idle that task has none.
+    ensures refreshes { RefreshesAreServed }
+    ensures refreshes_end { RefreshesEnd }
+
     // The words are no command, and the usage line was written.
     ensures usage { result ≡ Status.Usage → Appends (K.taken sink.old) (K.taken sink.new) usage_line }
     ensures command { command_of (map string_bytes words.now) ≢ None → result ≢ Status.Usage }
@@ -102,6 +109,7 @@ pub fn replay<S: Source, K: Sink>(
     first_moment_stands();
     seeds_are_accepted();
     captures_are_accepted();
+    refreshes_are_served();
     let Ok(command) = read_command(alloc, words) else {
         return Status::Memory;
     };

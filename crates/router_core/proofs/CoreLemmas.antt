@@ -32,7 +32,9 @@ use Rattle.exit_side.proofs.LawLemmas.{stands_at_first as exits_at_first}
 use Rattle.exit_laws.proofs.PrintLemmas.{printing_stays}
 use Rattle.nexthop_resolver.specs.declared.rows.Way.{Way}
 use Rattle.rib_exit.proofs.LawLemmas.{stands_at_first as external_at_first}
-use Rattle.router_core.proofs.TurnLaws.{turn_works, turn_comes, phase_works}
+use Rattle.router_core.proofs.TurnLaws.{turn_works, phase_works}
+use Rattle.router_core.proofs.ServedTurns.{turn_comes}
+use Rattle.router_core.proofs.ServedBlocks.{event_serves, event_serves_now}
 use Rattle.router_core.proofs.RunLemmas.{phase_drained}
 use Rattle.router_core.specs.declared.router.Idle.{Idle}
 
@@ -102,11 +104,14 @@ module _ (old : Cored) (m : Moment) (n : ℕ) (failed : Bool) (view : record { m
     prints : Prints m m' g.0
     prints = step_prints m m' event turns g.0 follow stood.stands stood.printable (few_losses (subst (λ (c : Cored). c.events < 4294967295) (sym view) few)) (subst (λ (c : Cored). refusal c.moment.declared event ≡ None) (sym view) admitted) (subst (λ (c : Cored). IsWellFormed c.moment.declared.profile.as4 event) (sym view) formed) g.2
 
+    declared : m'.declared ≡ declared_after m.declared event
+    declared = ap (λ (l : LiveState). l.declared) g.2.keeps.live ∙ follow (live_state m) event g.2.live g.2.after
+
     pub core_stepped : CoreStands (cored m' (n + 1))
     core_stepped = record {
       stands = g.2.keeps.stands;
       printable = prints.now;
-      exits = event_exits m m' stood.stands stood.exits event g.0 turns (subst (λ (c : Cored). refusal c.moment.declared event ≡ None) (sym view) admitted) (ap (λ (l : LiveState). l.declared) g.2.keeps.live ∙ follow (live_state m) event g.2.live g.2.after) g.2.block;
+      exits = event_exits m m' stood.stands stood.exits event g.0 turns (subst (λ (c : Cored). refusal c.moment.declared event ≡ None) (sym view) admitted) declared g.2.block;
       numbered = λ proto.
           let was = stood.numbered proto in
           let more = losses_follow (live_state m) event g.2.live g.2.after proto in
@@ -115,7 +120,7 @@ module _ (old : Cored) (m : Moment) (n : ℕ) (failed : Bool) (view : record { m
     }
 
     pub core_acts : Gives (Acts old.moment event turns m') before now
-    core_acts = (g.0, g.1, subst (λ (c : Cored). Acts c.moment event turns m' g.0) view (acts_of m m' event turns g.0 g.2 prints.lines prints.peers))
+    core_acts = (g.0, g.1, subst (λ (c : Cored). Acts c.moment event turns m' g.0) view (acts_of m m' event turns g.0 g.2 prints.lines prints.peers (event_serves m m' event g.0 turns stood.stands declared g.2.block) (event_serves_now m m' event g.0 turns g.2.block)))
 
   pub core_worked : (m' : Moment) (said inner : List Line) → Keeps (live_state m) m m' said → HaveSameExits m m' → Goes m inner m' → CoreStands (cored m' n)
   core_worked m' said inner work same goes = record {

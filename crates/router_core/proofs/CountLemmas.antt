@@ -1,5 +1,5 @@
 -- How many turns are left, by the table of phases: what a turn makes of it, and what is over.
-use Rattle.router_core.proofs.Common.{ap, ◌≡◌, ℕ, refl, List, arith, false, ◌+◌, ◌≤◌, ◌*◌, nat_cmp_total, AllByRecursion, Network, Route, OutChains, unread_or_none, Chained, Change, LiveState, no_table, Passed, Walked, Chains, rows_in, lost_in, Protos, Proto, Connected, Static, Ospf, Rip, Treed, branch_of, tree_count, int_candidates, Queues, live_state, Moment, candidates_of, most_unread, counts, all_phases, beyonds, unread_if, tree_beyond, external_beyond, fin_sends, best_beyond, own_sends, own_sends_by, own_waiting, Stands, Phase}
+use Rattle.router_core.proofs.Common.{sym, ◌∙◌, ap, ◌≡◌, ℕ, refl, List, arith, false, ◌+◌, ◌≤◌, ◌*◌, nat_cmp_total, AllByRecursion, Network, Route, Exited, OutChains, OutChained, unread_or_none, Chained, Change, LiveState, no_table, Passed, Walked, Chains, rows_in, lost_in, Protos, Proto, Connected, Static, Ospf, Rip, Treed, branch_of, tree_count, int_candidates, Queues, live_state, Moment, best_of, candidates_of, most_unread, counts, all_phases, beyonds, unread_if, tree_beyond, external_beyond, fin_sends, best_beyond, own_sends, own_sends_by, own_waiting, Stands, Phase}
 use Rattle.std.proofs.Common.{[], ◌∷◌, length, Option, None, Some, is_some}
 use Rattle.std.specs.FinMap as tables
 use Rattle.loss_chain.specs.Tables.{lost_count}
@@ -12,17 +12,20 @@ use Rattle.rib_exit.proofs.BusyLemmas.{none_left_without_work as external_idle, 
 use Rattle.pass_core.specs.Left.{turns_left as own_left, walk_turns as own_turns_of}
 use Rattle.pass_core.proofs.LeftLemmas.{left_is_bounded, left_while_on, left_follows}
 use Rattle.rib_tree.proofs.RestLemmas.{no_rows_left}
-use Rattle.router_core.specs.declared.router.Phase.TheVariants.{Rdel, Red, Del, Fin, Nh, ReadRib, Out, Ext}
+use Rattle.router_core.specs.declared.router.Phase.TheVariants.{Rdel, Red, Del, Fin, Nh, ReadRib, Out, Ext, Ref}
 use Rattle.std.proofs.Math.Nat.{mul-le-mul_left}
 use Rattle.link_change.proofs.MapLemmas.{sum_none, one_of_sum, all_values}
+use Rattle.exit_side.specs.Exits.{has_refresh, refreshes_left, refreshing}
 use Rattle.exit_side.proofs.LawLemmas.{turns_bounded, none_left_without_work as exits_idle}
+use Rattle.exit_side.proofs.RefreshLemmas.{none_left_without_refresh as refreshes_idle, standing_are_chains}
+use Rattle.out_chain.specs.Chains.{refresh_left, left_on}
 use Rattle.router_core.specs.Phases.{tree_lost, changes_left, sends_from_red}
 use Rattle.router_core.specs.Turns.{phase_bound, rise_bound, IsOver}
 use Rattle.router_core.proofs.BeyondLemmas.{tree_counted, tree_within, external_counted}
 use Rattle.router_core.proofs.QueueLemmas.{queue_chains}
-use Rattle.router_core.proofs.ReadingLemmas.{unread_most, most_unread_is, best_counted, beyond_within, queue_most, reading_less}
+use Rattle.router_core.proofs.ReadingLemmas.{unread_most, most_unread_is, best_counted, beyond_within, queue_most, reading_less, refreshes_less}
 use Rattle.router_core.proofs.SpendLemmas.{Spent, few_sent}
-use Rattle.router_core.proofs.MostLemmas.{left_below as hops_below, walks_below, sends_below, own_sends_below, fin_sends_below}
+use Rattle.router_core.proofs.MostLemmas.{left_below as hops_below, walks_below, sends_below, own_sends_below, fin_sends_below, refreshes_below}
 use Rattle.hop_side.proofs.LawLemmas.{none_left_without_work}
 
 -- what holds of each phase in the list of an idle holds of any
@@ -35,6 +38,7 @@ each_phase P all Nh = all.1.1.1.1.0
 each_phase P all ReadRib = all.1.1.1.1.1.0
 each_phase P all Out = all.1.1.1.1.1.1.0
 each_phase P all Ext = all.1.1.1.1.1.1.1.0
+each_phase P all Ref = all.1.1.1.1.1.1.1.1.0
 
 -- ---- what a turn spends of the stage of a protocol's loss
 -- the walk of redistribution has no more candidates
@@ -81,7 +85,8 @@ module _ (m m' : Moment) (best : Option (Change Route)) (chains : m'.chains ≡ 
       let one = few_sent best in
       let read = reading_less (tables.len m.exits.chains) (tables.len m'.exits.chains) (most_unread m.exits) (most_unread m'.exits) (rows_in m.chains + tree_count m.tree) (rows_in m'.chains + tree_count m'.tree)
       (counts m Rdel + sends_from_red m) (counts m' Rdel + sends_from_red m') (omega (arith, exits)) (omega (arith, rows, fewer)) (omega (arith, most, one, lost, sends, del, filters, rows)) in
-      (lost, omega (arith, lost, turns, del, fin, rows, size, fewer, read), tt, record { peers = omega (arith, rows); protocols = omega (arith, fewer) }, omega (arith, most, one, lost))
+      let again = refreshes_less m m' (omega (arith, exits)) (omega (arith, rows, fewer)) in
+      (lost, omega (arith, lost, turns, del, fin, rows, size, fewer, read, again), tt, record { peers = omega (arith, rows); protocols = omega (arith, fewer) }, omega (arith, most, one, lost))
 
 -- ---- how many turns a phase takes at most
 pub counts_below : TurnsAreBounded → (m : Moment) (r : Phase) → Stands m → counts m r ≤ phase_bound r m
@@ -108,6 +113,7 @@ counts_below law m Out stands =
     within : best_beyond m.chains m.tree None ≤ rows_in m.chains + tree_count m.tree → most_unread m.exits + 2 * (best_beyond m.chains m.tree None + 1) ≤ most_unread m.exits + 2 * (rows_in m.chains + tree_count m.tree + 1)
     within b = omega (arith, b)
 counts_below law m Ext stands = let turns = (external_bounded m.rib (external_beyond m.rib) (external_counted m.rib).most).turns in omega (arith, turns)
+counts_below law m Ref stands = refreshes_below m.exits
 
 -- ---- how many changes of `best` a phase makes at most
 pub changes_below : (m : Moment) (r : Phase) → Stands m → changes_left r m ≤ rise_bound r m
@@ -119,6 +125,13 @@ changes_below m Nh stands = sends_below m stands
 changes_below m other stands = omega arith
 
 -- ---- a phase is over exactly where no turn of it is left
+-- where no walk of a refresh is on, none of its turns is left, whatever else holds of the chain
+none_left : (e : Exited) → ((k : ℕ) → has_refresh e k ≡ false) → refreshes_left e ≡ 0
+none_left e over = sum_none refresh_left (tables.values e.chains) (all_values nat_cmp_total (λ (c : OutChained). refresh_left c ≡ 0) e.chains (λ k c at. off c (sym (ap refreshing at) ∙ over k)))
+  where
+    off : (c : OutChained) → is_some c.refresh ≡ false → refresh_left c ≡ 0
+    off c none = ap (left_on c.sent) (no_table c.refresh none)
+
 pub over_none : (r : Phase) (m : Moment) → IsOver r m → counts m r ≡ 0
 over_none Rdel m over =
     let gone : (proto : Proto) → lost_count (branch_of proto m.tree).tables.deletions ≡ 0 = λ proto. ap lost_count (over proto) in
@@ -130,6 +143,7 @@ over_none Nh m over = (none_left_without_work m.hops (beyonds m.chains)).0 over
 over_none ReadRib m over = ap (λ (u : List (Change Route)). length u) over
 over_none Out m over = (exits_idle m.exits (best_beyond m.chains m.tree)).0 over
 over_none Ext m over = (external_idle m.rib (external_beyond m.rib)).0 over
+over_none Ref m over = none_left m.exits over
 
 no_walk : TurnsAreLeft → (c : Chained) → turns_left c ≡ 0 → c.filter.walk ≡ None
 no_walk law c none = no_table c.filter.walk (by_bool (is_some c.filter.walk) (λ b. b ≡ false) (λ on. absurd (let some = (law c).0 on in omega (arith, some, none))) (λ _. refl))
@@ -151,3 +165,4 @@ none_over law Nh m stands none = (none_left_without_work m.hops (beyonds m.chain
 none_over law ReadRib m stands none = no_changes (unread_if m.exits.queue m.reader) none
 none_over law Out m stands none = (exits_idle m.exits (best_beyond m.chains m.tree)).1 none
 none_over law Ext m stands none = (external_idle m.rib (external_beyond m.rib)).1 none
+none_over law Ref m stands none = (refreshes_idle m.exits (standing_are_chains m.exits (best_of m) stands.exits.read)).1 none

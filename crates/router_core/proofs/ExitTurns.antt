@@ -4,6 +4,7 @@ use Rattle.std.proofs.Common.{[], ◌∷◌, length, Option, Some, None, is_some
 use Rattle.std.specs.Prelude.{MatchBool}
 use Rattle.std.proofs.lemmas.List.{append-nil}
 use Rattle.std.specs.FinMap as tables
+use Rattle.std.specs.FinMap.{len-insert}
 use Rattle.link_change.proofs.InOrderLemmas.{before_is_old}
 use Rattle.link_change.specs.declared.turn.Turn.TheVariants as turns
 use Rattle.journal_text.specs.declared.link.Link.TheVariants as links
@@ -28,7 +29,7 @@ use Rattle.router_core.proofs.BestLemmas.{lent_is}
 use Rattle.router_core.proofs.QueueLemmas.{reader_live}
 use Rattle.router_core.proofs.HeardSteps.{heard_quiet, exits_declared}
 use Rattle.router_core.proofs.StaleLemmas.{kept_or_learnt, all_as_before, none_as_before, none_goes_stale}
-use Rattle.router_core.proofs.ReadingLemmas.{best_counted, take_most}
+use Rattle.router_core.proofs.ReadingLemmas.{best_counted, take_most, refreshes_less}
 use Rattle.router_core.proofs.SessionLemmas.{stands_exits, external_kept, strangers_read, reads_as, exits_lead, exit_elsewhere}
 use Rattle.router_core.proofs.ExternalTurns.{forward_leads, exit_unheard, stands_forward}
 use Rattle.router_core.proofs.SpendLemmas.{Spent}
@@ -240,12 +241,16 @@ module _ (m : Moment) (k : ℕ) (sent : Option (Change Attrs)) (e : Exited) (sai
     heard = turn_is_heard m.declared.profile (neighbours m.declared) k (candidates_of m) (best_of m) sent m.exits e said (exits_declared m stands) t;
   }
 
+  as_many : tables.len e.chains ≡ tables.len m.exits.chains
+  as_many = ap (λ (x : Exited). tables.len x.chains) t.after ∙ len-insert nat_cmp_total m.exits.chains k t.taken ∙ ap (λ (o : Option OutChained). cond (is_some o) (tables.len m.exits.chains) (tables.len m.exits.chains + 1)) t.at
+
   spent : Spent phases.Out m (with_exits m e)
   spent =
       let fewer = fewer_left in
       let same = read_same m.reader (λ r is. (kept r is).unread) in
       let most = read_less in
-      (omega (arith, fewer), omega (arith, fewer), (omega arith, (omega arith, (omega arith, (omega arith, (omega arith, (omega (arith, same), tt)))))), record { peers = omega arith; protocols = omega arith }, omega (arith, most))
+      let again = refreshes_less m (with_exits m e) (omega (arith, as_many)) (omega arith) in
+      (omega (arith, fewer), omega (arith, fewer, again), (omega arith, (omega arith, (omega arith, (omega arith, (omega arith, (omega (arith, same), tt)))))), record { peers = omega arith; protocols = omega arith }, omega (arith, most))
 
   exit_does : IsWork phases.Out 1 m (with_exits m e) said
   exit_does = one_turn phases.Out m (with_exits m e) (with_exits m e) said refl keeps spent (omega arith, omega arith) (none_as_before m (with_exits m e) refl refl)

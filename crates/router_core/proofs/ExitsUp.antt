@@ -11,7 +11,9 @@ use Rattle.event_text.proofs.Sessions.{KeepsWords, ended_words}
 use Rattle.live_state.specs.Messages.{ends_session}
 use Rattle.live_state.specs.Declared.{declared_down, declared_heard}
 use Rattle.out_chain.specs.Steps.{exit_to, new_out, with_rules}
-use Rattle.exit_side.specs.Exits.{chain_at as exit_at}
+use Rattle.bgp_wire.specs.Grammar.{is_served}
+use Rattle.out_chain.specs.Chains.{refreshed as walk_begun}
+use Rattle.exit_side.specs.Exits.{chain_at as exit_at, refreshed_by, refreshed_exits}
 use Rattle.exit_side.specs.Steps.{edited_by}
 use Rattle.exit_side.proofs.SwapLemmas.{by_number}
 use Rattle.exit_laws.proofs.ViewLemmas.{put_here, put_other, gone_other}
@@ -19,7 +21,7 @@ use Rattle.router_core.proofs.BeforeLocal.{no_peer}
 use Rattle.router_core.specs.Blocks.{Loses, Hears}
 use Rattle.router_core.proofs.SessionLemmas.{number_at, silenced}
 use Rattle.router_core.proofs.PeerLemmas.{peer_at_map}
-use Rattle.router_core.proofs.TurnWalks.{turns_same, phases_same, first_same, feeds_same, route_same}
+use Rattle.router_core.proofs.TurnWalks.{same_put, turns_same, phases_same, first_same, feeds_same, route_same}
 
 -- ---- who is up
 abbrev IsUpIn : ℕ → Declaration → Type 0
@@ -74,13 +76,17 @@ pushed_up j (p ∷ ps) new q down at up = by_bool (nat_eq p.words.number j) (λ 
     (λ _ here. here) (λ _ later. pushed_up j ps new q down later up) at
 
 -- ---- exits
-same_put : (j : ℕ) (c : OutChained) (queue : Queued Route) (e : Exited) → is_some (exit_at j e) ≡ true → (i : ℕ) → is_some (exit_at i (with_exit j c queue e)) ≡ is_some (exit_at i e)
-same_put j c queue e there i = by_number i j (λ _. is_some (exit_at i (with_exit j c queue e)) ≡ is_some (exit_at i e))
-    (λ is. subst (λ (n : ℕ). is_some (exit_at n (with_exit j c queue e)) ≡ is_some (exit_at n e)) (sym is) (ap is_some (put_here j c queue e) ∙ sym there)) (λ differ. ap is_some (put_other j i c queue e differ))
-
 same_edited : (k : ℕ) (rules : List Rule) (o : Option OutChained) (e : Exited) → exit_at k e ≡ o → (i : ℕ) → is_some (exit_at i (edited_by k rules o e)) ≡ is_some (exit_at i e)
 same_edited k rules None e at i = refl
 same_edited k rules (Some c) e at i = same_put k (with_rules rules c) e.queue e (ap is_some at) i
+
+same_refreshed : (k : ℕ) (o : Option OutChained) (e : Exited) → exit_at k e ≡ o → (i : ℕ) → is_some (exit_at i (refreshed_by k o e)) ≡ is_some (exit_at i e)
+same_refreshed k None e at i = refl
+same_refreshed k (Some c) e at i = same_put k (walk_begun c) e.queue e (ap is_some at) i
+
+refreshed_exit : (k : ℕ) (m : Moment) (served : Bool) → HaveSameExits m (cond served (with_exits m (refreshed_exits k m.exits)) m)
+refreshed_exit k m true i = same_refreshed k (exit_at k m.exits) m.exits refl i
+refreshed_exit k m false i = refl
 
 exits_same : (m m' : Moment) → m'.exits ≡ m.exits → HaveSameExits m m'
 exits_same m m' is k = ap (λ (e : Exited). is_some (exit_at k e)) is
@@ -162,6 +168,7 @@ module _ (m m' : Moment) (stands : Stands m) (all : AllHaveExits m) where
   heard k p (messages.Update u) said ups is = by_same m m' all ups (feeds_same k (changes_of u) m said m' is)
   heard k p messages.Keepalive said ups is = stays is.1
   heard k p messages.Skip said ups is = stays is.1
+  heard k p (messages.Refresh r) said ups is = by_same m m' all ups (λ j. ap (λ (x : Moment). is_some (exit_at j x.exits)) is.1 ∙ refreshed_exit k m (is_served r) j)
   heard k p messages.Notification said ups is = lost m m' all k p.session said stands ups is
   heard k p (messages.Notify n) said ups is = lost m m' all k p.session is.0 stands ups is.2
 

@@ -8,6 +8,7 @@ use Rattle.live_state.specs.Lives.{LiveAfter}
 use Rattle.journal_laws.specs.Peers.{KeepsPeers}
 use Rattle.journal_laws.proofs.ShownRows.{flushed_join, flushed_none}
 use Rattle.router_core.specs.Blocks.{Acts}
+use Rattle.router_core.specs.Refreshes.{ServesOn, ServesNow}
 use Rattle.router_core.proofs.HeardSteps.{AreQuiet, heard_quiet, heard_join}
 
 -- what is said first, and then
@@ -69,8 +70,9 @@ module _ (a b c : Moment) (xs ys : List Line) where
   keeps_then f p q = subst (λ (x : LiveState). Keeps (f x) a c (xs ++ ys)) p.live (keeps_join (live_state a) (f (live_state b)) refl p q)
 
 -- ---- events
-pub acts_of : (m m' : Moment) (event : Event) (turns : ℕ) (said : List Line) → HasStepped m event turns m' said → ArePrinted m.declared said → KeepsPeers m.declared m'.declared → Acts m event turns m' said
-acts_of m m' event turns said h printed peers = record {
+pub acts_of : (m m' : Moment) (event : Event) (turns : ℕ) (said : List Line) → HasStepped m event turns m' said → ArePrinted m.declared said → KeepsPeers m.declared m'.declared → ServesOn m said m' → ServesNow m event m'
+    → Acts m event turns m' said
+acts_of m m' event turns said h printed peers serves asked = record {
   block = h.block;
   leads = h.keeps.leads;
   live = subst (LiveAfter (live_state m) event) (sym h.keeps.live) h.after;
@@ -78,6 +80,8 @@ acts_of m m' event turns said h printed peers = record {
   printed = printed;
   peers = peers;
   heard = h.keeps.heard;
+  serves = serves;
+  asked = asked;
 }
 
 -- an event that leaves the router as it is

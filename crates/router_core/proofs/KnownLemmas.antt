@@ -101,7 +101,7 @@ module _ {R : Type 0} (live : FinMap prefix_cmp R) (n : ℕ) (p : Network) (tabl
               cc
 
 -- so nothing stands there on `filt.K`, and every row that does stood before
-not_filtered : (c : Chained) (p : Network) (o : Option Attrs) → o ≡ None → filtered c.me c.peer (function_at c.filter p) p o ≡ None
+pub not_filtered : (c : Chained) (p : Network) (o : Option Attrs) → o ≡ None → filtered c.me c.peer (function_at c.filter p) p o ≡ None
 not_filtered c p None none = refl
 not_filtered c p (Some attrs) none = absurd (cc)
 

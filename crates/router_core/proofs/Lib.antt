@@ -25,6 +25,7 @@ pub mod ReadingLemmas
 pub mod SpendLemmas
 pub mod ExternalTurns
 pub mod ExitTurns
+pub mod RefreshTurns
 pub mod SessionLemmas
 pub mod TurnWalks
 pub mod CountLemmas
@@ -58,3 +59,6 @@ pub mod ReadLemmas
 pub mod ExitsUp
 pub mod RedistEdits
 pub mod FirstLives
+pub mod ServedTurns
+pub mod BegunSessions
+pub mod ServedBlocks

@@ -1,5 +1,5 @@
 -- How many turns next hops take at most, whatever became stale.
-use Rattle.router_core.proofs.Common.{sym, subst, ◌∙◌, ap, ◌≡◌, ℕ, refl, List, true, arith, false, ◌+◌, Bool, ◌++◌, ◌≤◌, cond, suc, zero, not, ◌*◌, length-append, nat_cmp_total, nat_cmp-IsAntisymmetric, get-entries, Contains, sum_by, nat_cmp, eq_by_cmp, Network, Route, Speaker, best_is_a_branchs, peer_at, DeclaredPeer, Queued, resolver_at, Resolvers, rows_by, known_in, candidates_are_counted, Chained, filt_rows, sum_replaced, rows_before, Rows, Change, is_stale_at, stale_count, route_hop, with_metric, Resolving, passes, Metric, OutChained, Passed, Walked, function_at, chain_at, Chains, filt_at, filt_by, put_chain, rows_in, lost_in, Rule, redistributed, Protos, ext_is_of_best, Interior, Parted, on_link, kept_rows, BgpLink, int_rows, tree_count, own_rows, all_at, Moment, best_of, own_of, read_rows_by, read_of, counts, beyonds, unread_if, tree_beyond, external_beyond, fin_sends, most_of, own_sends, own_sends_by, own_waiting, nh_sends, Stands, ExitsAt, StandsAt}
+use Rattle.router_core.proofs.Common.{sym, subst, ◌∙◌, ap, ◌≡◌, ℕ, refl, List, true, arith, false, ◌+◌, Bool, ◌++◌, ◌≤◌, cond, suc, zero, not, ◌*◌, length-append, nat_cmp_total, nat_cmp-IsAntisymmetric, get-entries, Contains, sum_by, nat_cmp, eq_by_cmp, Network, Route, Speaker, best_is_a_branchs, peer_at, DeclaredPeer, Queued, resolver_at, Resolvers, rows_by, known_in, Exited, candidates_are_counted, Chained, filt_rows, sum_replaced, rows_before, Rows, CoversRows, Change, is_stale_at, stale_count, route_hop, with_metric, Resolving, passes, Metric, OutChained, Passed, Walked, function_at, chain_at, Chains, filt_at, filt_by, put_chain, rows_in, lost_in, Rule, redistributed, Protos, ext_is_of_best, Interior, Parted, on_link, kept_rows, BgpLink, int_rows, int_candidates, tree_count, no_table, own_rows, all_at, Moment, best_of, own_of, candidates_of, read_rows_by, read_of, counts, beyonds, unread_if, tree_beyond, external_beyond, fin_sends, best_beyond, most_of, own_sends, own_sends_by, own_waiting, nh_sends, Stands, ExitsAt, StandsAt}
 use Rattle.std.proofs.Common.{[], ◌∷◌, map, length, if◌then◌else◌, Option, Some, None, is_some, IsSome}
 use Rattle.std.proofs.lemmas.List.Elements.{Contains-append_left, Contains-append_right}
 use Rattle.std.specs.FinMap as tables
@@ -13,10 +13,10 @@ use Rattle.in_chain.proofs.TurnLemmas.{filtered_rows_are_few}
 use Rattle.hop_side.specs.Resolvers.{known_of, left_of, walks_of, walks_in, same_metric}
 use Rattle.hop_side.proofs.FewLemmas.{known_are_few}
 use Rattle.peer_side.proofs.PutLemmas.{put_lost}
-use Rattle.router_core.specs.declared.router.Phase.TheVariants.{Nh, Ext}
+use Rattle.router_core.specs.declared.router.Phase.TheVariants.{Nh, Out, Ext, Ref}
 use Rattle.nexthop_known.proofs.StaleLemmas.{known_count}
 use Rattle.nexthop_resolver.specs.Left.{is_needed, differing_count, walk_turns, next_walk}
-use Rattle.router_core.specs.Phases.{beyond_by, external_most, stale_of, stale_in, nh_sends_of, place_candidates, next_candidates, fin_sends_of, walk_candidates, waiting_candidates}
+use Rattle.router_core.specs.Phases.{beyond_by, external_most, refresh_most, sent_in, stale_of, stale_in, nh_sends_of, place_candidates, next_candidates, fin_sends_of, walk_candidates, waiting_candidates}
 use Rattle.link_change.proofs.MapLemmas.{sum_within, sums_within, values_length}
 use Rattle.link_region.proofs.RegionLemmas.{by_bool}
 use Rattle.rib_route.specs.declared.rows.External.{External}
@@ -25,8 +25,17 @@ use Rattle.rib_split.specs.Splitting.{external_row}
 use Rattle.rib_exit.specs.Exits.{known_in as external_known}
 use Rattle.rib_exit.proofs.BusyLemmas.{turns_are_bounded as external_bounded}
 use Rattle.rib_exit.proofs.FewLemmas.{known_are_few as external_are_few}
-use Rattle.exit_side.specs.Exits.{chain_at as exit_at}
+use Rattle.exit_side.specs.Exits.{chain_at as exit_at, refreshes_left}
+use Rattle.exit_side.proofs.RefreshLemmas.{refreshes_bounded}
+use Rattle.out_chain.specs.Chains.{refresh_left, left_on}
+use Rattle.decision.specs.Branches.{best_candidates}
+use Rattle.in_chain.specs.Incomings.{in_rows}
 use Rattle.redist.specs.Local.{is_on, local_route}
+use Rattle.std.proofs.Math.Nat.{mul-le-mul_left}
+use Rattle.router_core.specs.Bests.{lent_candidates}
+use Rattle.router_core.specs.Turns.{IsOver}
+use Rattle.router_core.proofs.KnownLemmas.{not_filtered}
+use Rattle.router_core.proofs.ReadingLemmas.{none_at, other_none, best_counted, beyond_within}
 use Rattle.router_core.proofs.BeyondLemmas.{tree_within, tree_keys, tree_length, has_tree_key, few_both, external_counted}
 
 -- ---- next hops, and the rows of their peers
@@ -352,3 +361,45 @@ module _ (m : Moment) (stands : Stands m) (over : unread_if m.exits.queue m.read
       let rows = external_few in
       let known = external_known_few in
       omega (arith, turns, stale, rows, known)
+
+-- ---- what each peer was sent, where its exit has sent all
+-- a row of `best` stands at a candidate
+module _ (m : Moment) (stands : Stands m) where
+  no_branch : (q : Network) (b : ℕ) (r : Route) → candidates_of m q ≡ false → all_at (own_of m) m.chains m.hops b q ≡ Some r → ⊥
+  unfolding best_candidates
+  no_branch q zero r none is =
+      let row = own_there m.declared.speaker m.redist (int_rows m.tree) q r is in
+      let here = none_at (λ b. lent_candidates (int_candidates m.tree) m.chains b q) 0 65 none 0 (omega arith) (omega arith) in
+      let clash : true ≡ false = sym row ∙ here in cc
+  no_branch q (suc k) r none is = by_chain (chain_at (suc k) m.chains) refl (resolved_there (resolver_at (suc k) m.hops) (filt_at m.chains (suc k)) q r is)
+    where
+      by_chain : (o : Option Chained) → chain_at (suc k) m.chains ≡ o → IsSome (filt_by o q) → ⊥
+      by_chain None at some = let clash : false ≡ true = some in cc
+      by_chain (Some c) at some =
+          let gone = other_none m.chains m.tree stands.peers.numbers (suc k) c q at none in
+          let empty : filt_rows c q ≡ None = not_filtered c q (in_rows c.incoming q) (no_table (in_rows c.incoming q) gone) in
+          let clash : false ≡ true = sym (ap is_some empty) ∙ some in cc
+
+  best_covered : CoversRows (candidates_of m) (best_of m)
+  best_covered q none = by_row (best_of m q) refl
+    where
+      by_row : (o : Option Route) → best_of m q ≡ o → best_of m q ≡ None
+      by_row None is = is
+      by_row (Some r) is = let b = best_is_a_branchs (all_at (own_of m) m.chains m.hops) q r is in absurd (no_branch q b.0 r none b.2)
+
+  pub refreshes_capped : IsOver Out m → counts m Ref ≤ refresh_most m
+  refreshes_capped over =
+      let few = refreshes_bounded (candidates_of m) (best_beyond m.chains m.tree) m.exits (best_of m) (best_counted m stands) best_covered stands.exits.read over in
+      let all = mul-le-mul_left (tables.len m.exits.chains) (beyond_within m.chains m.tree) in
+      omega (arith, few, all)
+
+-- the walk of a refresh has no more turns left than rows were sent
+refresh_below : (c : OutChained) → refresh_left c ≤ tables.len c.sent
+refresh_below c = by_walk c.refresh
+  where
+    by_walk : (walk : Option (Option Network)) → left_on c.sent walk ≤ tables.len c.sent
+    by_walk None = omega arith
+    by_walk (Some place) = table_within place c.sent
+
+pub refreshes_below : (e : Exited) → refreshes_left e ≤ sent_in e
+refreshes_below e = sum_by-le-sum_by refresh_left (λ (c : OutChained). tables.len c.sent) (tables.values e.chains) refresh_below

@@ -17,9 +17,9 @@ use Rattle.rib_tree.specs.BranchSteps.{branch_tasks}
 use Rattle.rib_tree.specs.Steps.{tree_holds_up, tree_lags, tree_over}
 use Rattle.rib_tree.specs.Trees.{tree_tasks}
 use Rattle.rib_tree.proofs.RestLemmas.{all_tree}
-use Rattle.router_core.specs.declared.router.Phase.TheVariants.{Rdel, Red, Del, Fin, Nh, ReadRib, Out, Ext}
+use Rattle.router_core.specs.declared.router.Phase.TheVariants.{Rdel, Red, Del, Fin, Nh, ReadRib, Out, Ext, Ref}
 use Rattle.rib_exit.specs.Exits.{has_ext_work}
-use Rattle.exit_side.specs.Exits.{has_exit_work, exit_holds_up, left_in as exits_left_in}
+use Rattle.exit_side.specs.Exits.{has_exit_work, exit_holds_up, left_in as exits_left_in, has_refresh, refreshes_left}
 use Rattle.router_core.proofs.CountLemmas.{over_none}
 use Rattle.router_core.specs.Holding.{peer_numbers}
 use Rattle.router_core.proofs.HeldLemmas.{AreUpTo, all_hops}
@@ -35,6 +35,7 @@ all_of_phase Nh m = all_made (λ t. phase_of t ≡ Nh) (λ (k : ℕ). tasks.Nh k
 all_of_phase ReadRib m = (refl, tt)
 all_of_phase Out m = all_made (λ t. phase_of t ≡ Out) (λ (k : ℕ). tasks.Out k) (tables.keys m.exits.chains) (all_any _ (λ k. refl) (tables.keys m.exits.chains))
 all_of_phase Ext m = (refl, tt)
+all_of_phase Ref m = all_made (λ t. phase_of t ≡ Ref) (λ (k : ℕ). tasks.Ref k) (tables.keys m.exits.chains) (all_any _ (λ k. refl) (tables.keys m.exits.chains))
 
 -- ---- the first that has work
 at_work : (m : Moment) (P : Task → Type 0) (ts : List Task) (task : Task) → AllByRecursion P ts → find (λ t. has_work t m) ts ≡ Some task → (has_work task m ≡ true) × P task
@@ -113,6 +114,23 @@ pub none_of_exits : (r : Phase) (m v : Moment) (first : Option ℕ) (task : Opti
 none_of_exits r m v None task is view none made =
     subst (λ (o : Option Task). IfNone o (counts m r ≡ 0)) (sym made) (ap (counts m) is ∙ ap (λ (n : Moment). counts n Out) (sym view) ∙ none (best_beyond v.chains v.tree))
 none_of_exits r m v (Some k) task is view none made = subst (λ (o : Option Task). IfNone o (counts m r ≡ 0)) (sym made) tt
+
+-- ---- refreshes, which hold up nothing
+pub next_of_refreshes : (r : Phase) (m v : Moment) (first : Option ℕ) (task : Option Task) → r ≡ Ref → v ≡ m → first ≡ find (has_refresh v.exits) (tables.keys v.exits.chains) → task ≡ option_map (λ k. tasks.Ref k) first → task ≡ next_task r m
+next_of_refreshes r m v first task is view found made =
+    made ∙ ap (option_map (λ k. tasks.Ref k)) found ∙ found_by (λ k. tasks.Ref k) (has_refresh v.exits) (λ t. has_work t v) (tables.keys v.exits.chains) (λ k. refl) ∙ ap (next_task Ref) view ∙ ap (λ (e : Phase). next_task e m) (sym is)
+
+pub none_of_refreshes : (r : Phase) (m v : Moment) (first : Option ℕ) (task : Option Task) → r ≡ Ref → v ≡ m → IfNone first (refreshes_left v.exits ≡ 0) → task ≡ option_map (λ k. tasks.Ref k) first → IfNone task (counts m r ≡ 0)
+none_of_refreshes r m v None task is view none made =
+    subst (λ (o : Option Task). IfNone o (counts m r ≡ 0)) (sym made) (ap (counts m) is ∙ ap (λ (n : Moment). counts n Ref) (sym view) ∙ none)
+none_of_refreshes r m v (Some k) task is view none made = subst (λ (o : Option Task). IfNone o (counts m r ≡ 0)) (sym made) tt
+
+pub held_of_refreshes : (r : Phase) (m : Moment) (p : Network) → r ≡ Ref → None ≡ held_in r m p
+held_of_refreshes r m p is = none (tables.keys m.exits.chains) ∙ ap (λ (e : Phase). held_in e m p) (sym is)
+  where
+    none : (ks : List ℕ) → None ≡ find (λ t. holds_up_at t m p) (map (λ k. tasks.Ref k) ks)
+    none [] = refl
+    none (k ∷ ks) = none ks
 
 pub none_of_reader : (r : Phase) (m : Moment) (task : Option Task) → r ≡ ReadRib → task ≡ next_task ReadRib m → IfNone task (counts m r ≡ 0)
 none_of_reader r m task is next = subst (λ (o : Option Task). IfNone o (counts m r ≡ 0)) (sym next) (by_unread (unread_if m.exits.queue m.reader) refl)

@@ -3,7 +3,7 @@ use Rattle.router_core.proofs.Common.{sym, subst, ◌∙◌, ap, ◌≡◌, ℕ,
 use Rattle.std.proofs.Common.{◌^◌, ◌==◌, [], ◌∷◌, map, Option, Some, None, IsSome, is_some}
 use Rattle.std.specs.Prelude.{filter, length}
 use Rattle.std.proofs.lemmas.List.Elements.{All-nil}
-use Rattle.bgp_wire.specs.Grammar.{Reads, without}
+use Rattle.bgp_wire.specs.Grammar.{Reads, without, is_served}
 use Rattle.bgp_wire.specs.Readable.{IsNetwork}
 use Rattle.bgp_wire.specs.declared.message.Message.TheVariants as messages
 use Rattle.bgp_wire.proofs.ReadableLaws.{Every, all_every, every_filter}
@@ -36,8 +36,9 @@ use Rattle.router_core.specs.Moments.{profiled}
 use Rattle.router_core.specs.Blocks.{Just, begin_line, Loses, Refilters, Redirects, LosesProtocol, CoversAddress, TellsSettled, Hears}
 use Rattle.router_core.proofs.StandLemmas.{speaker_of}
 use Rattle.rib_tree.proofs.TreeParts.{few_fed}
-use Rattle.exit_side.specs.Exits.{chain_at as exit_at, busy_by as exit_busy}
+use Rattle.exit_side.specs.Exits.{chain_at as exit_at, busy_by as exit_busy, refreshing, refreshed_exits}
 use Rattle.exit_laws.proofs.KeptLemmas.{edit_is_printed, join_is_printed}
+use Rattle.exit_laws.proofs.ResendLemmas.{refresh_is_printed}
 use Rattle.exit_laws.proofs.PrintLemmas.{beginning_is_printed, end_is_printed}
 use Rattle.router_core.proofs.SessionLemmas.{silenced}
 use Rattle.router_core.proofs.BeforeLocal.{no_chain}
@@ -148,6 +149,13 @@ module _ (m : Moment) (stands : Stands m) (printable : IsPrintableMoment m) wher
       of_exit (Some me) None (Some c) there at is e = absurd is
       of_exit None p (Some c) there at is e = absurd is
   task_named tasks.Ext works = tt
+  task_named (tasks.Ref k) works = of_exit m.declared.speaker (peer_at k m.declared.peers) (exit_at k m.exits) refl (stands.exits.sessions k) works
+    where
+      of_exit : (s : Option Speaker) (p : Option DeclaredPeer) (o : Option OutChained) → peer_at k m.declared.peers ≡ p → ExitsAt s m.outgoing k p o → refreshing o ≡ true → IsNameNumber k
+      of_exit s p None there is e = absurd (let clash : false ≡ true = e in cc)
+      of_exit (Some me) (Some p) (Some c) there is e = named_by m stands start k p there
+      of_exit (Some me) None (Some c) there is e = absurd is
+      of_exit None p (Some c) there is e = absurd is
 
   settled : (p : Network) (said : List Line) → IsPrefix p → TellsSettled p m said → Printed said
   settled p said prefix tells = subst Printed (sym tells.line) (plain_printed (neighbours m.declared) _ refl refl (prefix, by_answer tells.answer tells.tells.works), tt)
@@ -228,6 +236,11 @@ module _ (m : Moment) (stands : Stands m) (printable : IsPrintableMoment m) wher
     heard k p octets (messages.Update u) said m' at up are says hears = gone said m' (feeds_go k p.words (changes_of u) m said m' stands (p, at, up) (changes_heard m.declared.profile u (message_heard m.declared.profile (not p.words.internal) octets (messages.Update u) are says)) (ap words_in at) (changes_said p.words octets u are says) hears)
     heard k p octets messages.Keepalive said m' at up are says hears = stays said m' hears.1 (subst Printed (sym hears.0) tt)
     heard k p octets messages.Skip said m' at up are says hears = stays said m' hears.1 (subst Printed (sym hears.0) tt)
+    heard k p octets (messages.Refresh r) said m' at up are says hears = subst (λ (x : Moment). Leaves m.declared.profile (neighbours m.declared) x said) (sym hears.1) (by_served (is_served r))
+      where
+        by_served : (b : Bool) → Leaves m.declared.profile (neighbours m.declared) (cond b (with_exits m (refreshed_exits k m.exits)) m) said
+        by_served true = exits_leave (with_exits m (refreshed_exits k m.exits)) said refl refl refl refl (refresh_is_printed m.declared.profile (neighbours m.declared) k m.exits printable.exits) (subst Printed (sym hears.0) tt)
+        by_served false = stays said m refl (subst Printed (sym hears.0) tt)
     heard k p octets messages.Notification said m' at up are says hears = lost k p.session said m' (session_named m stands start k p at up) hears
     heard k p octets (messages.Notify n) said m' at up are says hears =
         let l = lost k p.session hears.0 m' (session_named m stands start k p at up) hears.2 in

@@ -22,11 +22,12 @@ use Rattle.peer_side.specs.Steps.{FeedsInward, TakesInward, Changes}
 use Rattle.rib_tree.specs.Falls.{way_of_sweep}
 use Rattle.rib_tree.specs.Trees.{beside_tree}
 use Rattle.rib_tree.specs.Steps.{tree_weld_entries}
-use Rattle.router_core.specs.Turns.{IsHopTurn, IsRouteTurn, IsOutTurn, IsReadTurn, IsOwnTurn, IsExternalTurn, Feeds}
+use Rattle.router_core.specs.Turns.{IsHopTurn, IsRouteTurn, IsOutTurn, IsRefreshTurn, IsReadTurn, IsOwnTurn, IsExternalTurn, Feeds}
 use Rattle.peer_side.proofs.WeldLemmas.{weld_lines}
 use Rattle.rib_tree.proofs.TreeParts.{welded_put as welded_put_tree}
 use Rattle.journal_laws.proofs.PrintedHops.{answers_kept, answers_mapped, answers_turned, metrics_reached, metrics_put}
 use Rattle.exit_laws.proofs.PrintLemmas.{turn_is_printed}
+use Rattle.exit_laws.proofs.ResendLemmas.{resend_is_printed}
 use Rattle.router_core.specs.Works.{IsUpAt}
 use Rattle.router_core.proofs.HopTurns.{hop_goes, hop_chosen}
 use Rattle.router_core.proofs.OwnTurns.{own_sent, own_chosen}
@@ -220,6 +221,11 @@ out_prints k m said m' stands t printable =
     let x = turn_is_printed m.declared.profile (neighbours m.declared) k (candidates_of m) (best_of m) t.sent m.exits m'.exits said stands.exits.profile (best_fit m stands (shown m printable)) printable.exits t.turn in
     record { now = subst IsPrintableMoment (sym t.after) (record { declared = printable.declared; chains = printable.chains; interior = printable.interior; hops = printable.hops; ways = printable.ways; exits = x.exits }); lines = x.lines }
 
+refresh_prints : (k : ℕ) (m : Moment) (said : List Line) (m' : Moment) → Stands m → IsRefreshTurn k m said m' → IsPrintableMoment m → StaysPrintable m said m'
+refresh_prints k m said m' stands t printable =
+    let x = resend_is_printed m.declared.profile (neighbours m.declared) k (best_of m) m.exits m'.exits said stands.exits.each stands.exits.read printable.exits t.turn in
+    record { now = subst IsPrintableMoment (sym t.after) (record { declared = printable.declared; chains = printable.chains; interior = printable.interior; hops = printable.hops; ways = printable.ways; exits = x.exits }); lines = x.lines }
+
 read_prints : (m : Moment) (said : List Line) (m' : Moment) → Stands m → Stands m' → IsReadTurn m said m' → IsPrintableMoment m → StaysPrintable m said m'
 read_prints m said m' stands stands' t printable = record {
   now = subst IsPrintableMoment (sym t.after) after;
@@ -411,6 +417,7 @@ turn_prints (Out k) m said m' stands stands' t = out_prints k m said m' stands t
 turn_prints (Rdel proto n) m said m' stands stands' t = route_turn_prints proto n m said m' stands stands' t
 turn_prints tasks.Red m said m' stands stands' t = own_prints m said m' stands stands' t
 turn_prints tasks.Ext m said m' stands stands' t = external_prints m said m' stands t
+turn_prints (tasks.Ref k) m said m' stands stands' t = refresh_prints k m said m' stands t
 
 pub turn_goes : (task : Task) (m : Moment) (said : List Line) (m' : Moment) → Stands m → IsTurn task m said m' → Goes m said m'
 turn_goes task m said m' stands t =

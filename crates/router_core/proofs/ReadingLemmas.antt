@@ -19,7 +19,7 @@ use Rattle.decision.specs.Branches.{best_candidates, candidates_below}
 use Rattle.router_core.specs.Bests.{candidates_by, lent_chain, lent_candidates}
 use Rattle.rib_exit.specs.Exits.{known_in as external_known}
 use Rattle.router_core.specs.Moments.{longest_of}
-use Rattle.router_core.specs.Phases.{reading}
+use Rattle.router_core.specs.Phases.{reading, refresh_most}
 use Rattle.router_core.proofs.BeyondLemmas.{tree_most, tree_within, tree_further, tree_fewer}
 
 -- ---- the most that a reader hasn't taken
@@ -123,6 +123,10 @@ reading_less exits exits' unread unread' rows rows' sends sends' fewer less spen
     let b = mul-le-mul fewer wide in
     omega (arith, a, b)
 
+-- those of refreshes
+pub refreshes_less : (m m' : Moment) → tables.len m'.exits.chains ≤ tables.len m.exits.chains → rows_in m'.chains + tree_count m'.tree ≤ rows_in m.chains + tree_count m.tree → refresh_most m' ≤ refresh_most m
+refreshes_less m m' exits rows = mul-le-mul exits rows
+
 -- the turns of both readers' phases are within it
 pub readers_within : (exits unread rows sends reader out : ℕ) → reader ≤ unread → out ≤ exits * (unread + 2 * (rows + 1)) → reader + out ≤ reading exits unread rows sends
 readers_within exits unread rows sends reader out few less =
@@ -133,14 +137,15 @@ readers_within exits unread rows sends reader out few less =
 -- the bound that is announced
 pub announced_fits : (losses own stages walks hops changes sends exits unread rows routes peers known : ℕ) → losses ≤ routes → own ≤ 2 * (routes + 1) → stages ≤ rows → walks ≤ 2 * (rows + peers) → hops ≤ 3 * rows + 2 * peers
     → changes ≤ 2 * routes → sends ≤ 2 * rows → exits ≤ peers
-    → losses + (own + stages + walks + hops + reading exits unread (rows + routes) (losses + (changes + (stages + (sends + 2 * rows)))) + (3 * (rows + routes) + 2)) ≤ (peers + 2) * (unread + 9 * (rows + routes) + 2 * known + 6)
+    → losses + (own + stages + walks + hops + reading exits unread (rows + routes) (losses + (changes + (stages + (sends + 2 * rows)))) + (3 * (rows + routes) + 2) + exits * (rows + routes)) ≤ (peers + 2) * (unread + 9 * (rows + routes) + 2 * known + 6)
 announced_fits losses own stages walks hops changes sends exits unread rows routes peers known a b c d e f g few =
     let read = reading_less peers exits unread unread (rows + routes) (rows + routes) (6 * rows + 3 * routes) (losses + (changes + (stages + (sends + 2 * rows)))) few (omega arith) (omega (arith, a, c, f, g)) in
     let parts : reading peers unread (rows + routes) (6 * rows + 3 * routes) ≡ unread + 6 * rows + 3 * routes + peers * (unread + 8 * rows + 5 * routes + 2) = grind arith in
-    let more : peers * (unread + 8 * rows + 5 * routes + 6) ≤ peers * (unread + 9 * (rows + routes) + 2 * known + 6) = mul-le-mul_left peers (omega arith) in
-    let split : peers * (unread + 8 * rows + 5 * routes + 6) ≡ peers * (unread + 8 * rows + 5 * routes + 2) + 4 * peers = grind arith in
+    let again : exits * (rows + routes) ≤ peers * (rows + routes) = mul-le-mul few (omega arith) in
+    let more : peers * (unread + 9 * rows + 6 * routes + 6) ≤ peers * (unread + 9 * (rows + routes) + 2 * known + 6) = mul-le-mul_left peers (omega arith) in
+    let split : peers * (unread + 9 * rows + 6 * routes + 6) ≡ peers * (unread + 8 * rows + 5 * routes + 2) + peers * (rows + routes) + 4 * peers = grind arith in
     let all : (peers + 2) * (unread + 9 * (rows + routes) + 2 * known + 6) ≡ peers * (unread + 9 * (rows + routes) + 2 * known + 6) + 2 * (unread + 9 * (rows + routes) + 2 * known + 6) = grind arith in
-    omega (arith, a, b, c, d, e, read, parts, more, split, all)
+    omega (arith, a, b, c, d, e, read, parts, again, more, split, all)
 
 -- ---- the candidates of `best` beyond a place
 lost_further : (place : Option Network) (p : Network) (ds : List (Lost Attrs)) → IsBeyond place p → lost_beyond (Some p) ds ≤ lost_beyond place ds
@@ -170,7 +175,7 @@ any_at : (test : ℕ → Bool) (a n : ℕ) → list_any test (range_with_len a n
 any_at test a zero is = absurd (cc)
 any_at test a (suc n) is = by_bool (test a) (λ t. (t || list_any test (range_with_len (a + 1) n)) ≡ true → (b : ℕ) × (test b ≡ true)) (λ e _. (a, e)) (λ _ rest. any_at test (a + 1) n rest) is
 
-none_at : (test : ℕ → Bool) (a n : ℕ) → list_any test (range_with_len a n) ≡ false → (b : ℕ) → a ≤ b → b < a + n → test b ≡ false
+pub none_at : (test : ℕ → Bool) (a n : ℕ) → list_any test (range_with_len a n) ≡ false → (b : ℕ) → a ≤ b → b < a + n → test b ≡ false
 none_at test a zero is b from to = absurd (omega (arith, from, to))
 none_at test a (suc n) is b from to =
     by_bool (test a) (λ t. (t || list_any test (range_with_len (a + 1) n)) ≡ false → test a ≡ t → test b ≡ false) (λ _ clash _. absurd (cc))
@@ -200,7 +205,7 @@ module _ (a : Chains) (t : Treed) (small : (k : ℕ) → IsSome (chain_at k a) �
   candidate_of P zero p chain own is = own is
   candidate_of P (suc k) p chain own is = let c = chain_of (suc k) p is in chain c.0 c.1 c.2
 
-  other_none : (k : ℕ) (c : Chained) (q : Network) → chain_at k a ≡ Some c → candidates_below 65 (lent_candidates (int_candidates t) a) q ≡ false → filt_candidates c q ≡ false
+  pub other_none : (k : ℕ) (c : Chained) (q : Network) → chain_at k a ≡ Some c → candidates_below 65 (lent_candidates (int_candidates t) a) q ≡ false → filt_candidates c q ≡ false
   other_none k c q at none =
       let low = small k (ap is_some at) in
       let from = low.0 in

@@ -11,13 +11,14 @@ use Rattle.router_core.specs.Phases.{left_from, reading_of, sends_from_red, send
 use Rattle.router_core.specs.Turns.{IsOver, IsSettled}
 use Rattle.router_core.specs.Works.{HaveDrained, AllHaveDrained}
 use Rattle.router_core.proofs.KeepLemmas.{keeps_none, keeps_on, gives_join, gives_none, gives_so}
-use Rattle.router_core.proofs.MostLemmas.{capped, external_capped, sends_below, own_sends_below, fin_sends_below, few_exits}
+use Rattle.router_core.proofs.MostLemmas.{capped, external_capped, refreshes_capped, sends_below, own_sends_below, fin_sends_below, few_exits}
 use Rattle.router_core.proofs.ReadingLemmas.{reading_less, readers_within, announced_fits}
 use Rattle.router_core.proofs.CountLemmas.{each_phase, counts_below, changes_below, over_none, none_over}
 use Rattle.router_core.proofs.SpendLemmas.{same_rows}
 use Rattle.router_core.proofs.NextLemmas.{next_works}
 use Rattle.router_core.proofs.SettledLemmas.{settled_is_exact}
 use Rattle.router_core.proofs.TurnWalks.{phases_same, all_have_on}
+use Rattle.router_core.proofs.ServedTurns.{phase_serves}
 use Rattle.router_core.specs.Laws.{OnlyWorkHoldsUp}
 use Rattle.router_core.proofs.WorkLemmas.{rows_then}
 use Rattle.router_core.proofs.TurnLaws.{turn_works, turns_work, runs_work, phase_works}
@@ -87,6 +88,7 @@ phase_drained r m now turns said stands out =
       most = let falls = work.falls in let below = counts_below bounded_turns m r stands in omega (arith, falls, below);
       rises = let unread = work.unread in let below = changes_below m r stands in omega (arith, unread, below);
       over = none_over turns_are_left r now work.keeps.stands out.none;
+      serves = phase_serves r m said turns now stands out.runs;
     }
 
 -- ---- all phases, whatever the table is
@@ -137,7 +139,8 @@ earlier_are (suc (suc (suc (suc zero)))) x within = refl
 earlier_are (suc (suc (suc (suc (suc zero))))) x within = refl
 earlier_are (suc (suc (suc (suc (suc (suc zero)))))) x within = refl
 earlier_are (suc (suc (suc (suc (suc (suc (suc zero))))))) x within = refl
-earlier_are (suc (suc (suc (suc (suc (suc (suc (suc i)))))))) x within = absurd (omega (arith, within))
+earlier_are (suc (suc (suc (suc (suc (suc (suc (suc zero)))))))) x within = refl
+earlier_are (suc (suc (suc (suc (suc (suc (suc (suc (suc i))))))))) x within = absurd (omega (arith, within))
 
 -- how many turns readers take is no more with fewer changes to come
 read_less : (m : Moment) (sends sends' : ℕ) → sends' ≤ sends → reading_of m sends' ≤ reading_of m sends
@@ -160,9 +163,10 @@ next_less (suc (suc (suc (suc zero)))) x m within stands over =
     let all = readers_within (tables.len m.exits.chains) (most_unread m.exits) (rows_in m.chains + tree_count m.tree) (nh_sends (beyonds m.chains) m.hops) (counts m ReadRib) (counts m Out) reader exits in
     omega (arith, all)
 next_less (suc (suc (suc (suc (suc zero))))) x m within stands over = let external = external_capped m stands over in omega (arith, external)
-next_less (suc (suc (suc (suc (suc (suc zero)))))) x m within stands over = omega arith
+next_less (suc (suc (suc (suc (suc (suc zero)))))) x m within stands over = let refreshes = refreshes_capped m stands over in omega (arith, refreshes)
 next_less (suc (suc (suc (suc (suc (suc (suc zero))))))) x m within stands over = omega arith
-next_less (suc (suc (suc (suc (suc (suc (suc (suc i)))))))) x m within stands over = absurd (omega (arith, within))
+next_less (suc (suc (suc (suc (suc (suc (suc (suc zero)))))))) x m within stands over = omega arith
+next_less (suc (suc (suc (suc (suc (suc (suc (suc (suc i))))))))) x m within stands over = absurd (omega (arith, within))
 
 -- all of these are still over
 over_more : (m m' : Moment) (es : List Phase) → AllByRecursion (λ e. counts m' e ≤ counts m e) es → AllByRecursion (λ e. counts m e ≡ 0) es → AllByRecursion (λ e. counts m' e ≡ 0) es

@@ -17,6 +17,7 @@ use Rattle.live_state.specs.Decided.{from_scratch}
 use Rattle.peer_side.specs.Laws as peers
 use Rattle.hop_side.specs.Laws as hops
 use Rattle.exit_side.specs.Laws as exits
+use Rattle.exit_side.proofs.RefreshLemmas.{refresh_is_listed}
 use Rattle.rib_exit.specs.Laws as external
 use Rattle.rib_tree.specs.Laws as losses
 use Rattle.router_core.specs.declared.router.Phase.TheVariants as phases
@@ -50,6 +51,7 @@ only_work of_tree of_peers of_hops of_exits of_external m (tasks.Nh k) p none = 
 only_work of_tree of_peers of_hops of_exits of_external m tasks.ReadRib p none = none_changed (unread_if m.exits.queue m.reader) p none
 only_work of_tree of_peers of_hops of_exits of_external m (tasks.Out k) p none = of_exits m.exits (best_of m) k p none
 only_work of_tree of_peers of_hops of_exits of_external m tasks.Ext p none = of_external m.rib p none
+only_work of_tree of_peers of_hops of_exits of_external m (tasks.Ref k) p none = refl
 
 -- nor does one of a phase where none has work
 pub none_held : OnlyWorkHoldsUp → (r : Phase) (m : Moment) (p : Network) → next_task r m ≡ None → held_in r m p ≡ None
@@ -70,6 +72,7 @@ listed of_tree of_stages of_walks of_hops of_exits m stands (tasks.Nh k) some = 
 listed of_tree of_stages of_walks of_hops of_exits m stands tasks.ReadRib some = (0, omega arith, refl)
 listed of_tree of_stages of_walks of_hops of_exits m stands (tasks.Out k) some = made_is_listed (λ k. tasks.Out k) (tables.keys m.exits.chains) k (of_exits m.exits k some)
 listed of_tree of_stages of_walks of_hops of_exits m stands tasks.Ext some = (0, omega arith, refl)
+listed of_tree of_stages of_walks of_hops of_exits m stands (tasks.Ref k) some = made_is_listed (λ k. tasks.Ref k) (tables.keys m.exits.chains) k (refresh_is_listed m.exits k some)
 
 -- ---- the first one that is found
 found_so : (f : Task → Bool) (ts : List Task) (t : Task) → find f ts ≡ Some t → f t ≡ true
@@ -143,6 +146,7 @@ no_work m settled tasks.ReadRib = ap is_unread (settled phases.ReadRib)
 no_work m settled (tasks.Out k) = settled phases.Out k
 no_work m settled tasks.Red = ap is_some (settled phases.Red)
 no_work m settled tasks.Ext = settled phases.Ext
+no_work m settled (tasks.Ref k) = settled phases.Ref k
 
 -- two links with the same row at each prefix are the same
 rows_everywhere : {V : Type 0} (a b : Option (Rows V)) → ((p : Network) → row_in a p ≡ row_in b p) → a ≡ b

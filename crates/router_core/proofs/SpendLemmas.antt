@@ -26,7 +26,7 @@ use Rattle.router_core.specs.declared.router.Phase.TheVariants as phases
 use Rattle.router_core.specs.Phases.{tree_lost, left_from, changes_left, sends_from_fin, sends_from_del, fin_sends_of, walk_candidates, waiting_candidates, nh_sends_of, place_candidates, next_candidates}
 use Rattle.router_core.proofs.QueueLemmas.{queue_chains}
 use Rattle.router_core.proofs.BeyondLemmas.{tree_counted}
-use Rattle.router_core.proofs.ReadingLemmas.{sent_count, queue_most, reading_less}
+use Rattle.router_core.proofs.ReadingLemmas.{sent_count, queue_most, reading_less, refreshes_less}
 
 -- ---- walks of filters: candidates, and ends
 abbrev pub waiting_ends : Option (List Rule) → ℕ
@@ -174,8 +174,9 @@ peer_spends (Del n s) m m' tree redist near sends =
     let routes = same_routes m m' tree in
     let read = reading_less (tables.len m.exits.chains) (tables.len m'.exits.chains) (most_unread m.exits) (most_unread m'.exits) (rows_in m.chains + tree_count m.tree) (rows_in m'.chains + tree_count m'.tree)
     (sends_from_del m) (sends_from_del m') (omega (arith, exits)) (omega (arith, rows, routes)) (omega (arith, fewer, rows)) in
+    let again = refreshes_less m m' (omega (arith, exits)) (omega (arith, rows, routes)) in
     let once = sends.once in
-    (omega (arith, a), omega (arith, a, b, most, rows, routes, read), (same_lost m m' tree, (same_own m m' tree redist, tt)), peer_rows m m' tree sends, omega (arith, once, a))
+    (omega (arith, a), omega (arith, a, b, most, rows, routes, read, again), (same_lost m m' tree, (same_own m m' tree redist, tt)), peer_rows m m' tree sends, omega (arith, once, a))
 peer_spends (Fin n) m m' tree redist near sends =
     let a = near.0 in
     let b = near.1 in
@@ -186,7 +187,8 @@ peer_spends (Fin n) m m' tree redist near sends =
     let routes = same_routes m m' tree in
     let read = reading_less (tables.len m.exits.chains) (tables.len m'.exits.chains) (most_unread m.exits) (most_unread m'.exits) (rows_in m.chains + tree_count m.tree) (rows_in m'.chains + tree_count m'.tree)
     (sends_from_fin m) (sends_from_fin m') (omega (arith, exits)) (omega (arith, rows, routes)) (omega (arith, fewer, rows, a)) in
-    (omega (arith, b), omega (arith, b, most, rows, routes, read), (same_lost m m' tree, (same_own m m' tree redist, (omega (arith, a), tt))), peer_rows m m' tree sends, omega (arith, fewer, a))
+    let again = refreshes_less m m' (omega (arith, exits)) (omega (arith, rows, routes)) in
+    (omega (arith, b), omega (arith, b, most, rows, routes, read, again), (same_lost m m' tree, (same_own m m' tree redist, (omega (arith, a), tt))), peer_rows m m' tree sends, omega (arith, fewer, a))
 peer_spends other m m' tree redist near sends = absurd near
 
 -- ---- the walk of redistribution: each turn goes to a candidate, or ends and sends nothing
@@ -218,7 +220,8 @@ own_spends me m s own best e walks quiet queued =
     let exits : tables.len e.chains ≡ tables.len m.exits.chains = ap (λ (a : OutChains). tables.len a) (queue_chains m.exits e best queued) in
     let read = reading_less (tables.len m.exits.chains) (tables.len e.chains) (most_unread m.exits) (most_unread e) (rows_in m.chains + tree_count m.tree) (rows_in m.chains + tree_count m.tree)
     (own_sends_by m.tree m.redist.walk + sends_from_del m) (own_sends_by m.tree s.walk + sends_from_del m) (omega (arith, exits)) (omega arith) (omega (arith, sends, most)) in
-    (omega (arith, fewer), omega (arith, fewer, read), (omega arith, tt), record { peers = omega arith; protocols = omega arith }, omega (arith, sends, most))
+    let again = refreshes_less m (with_exits (with_redist m s) e) (omega (arith, exits)) (omega arith) in
+    (omega (arith, fewer), omega (arith, fewer, read, again), (omega arith, tt), record { peers = omega arith; protocols = omega arith }, omega (arith, sends, most))
 
 -- ---- walks of next hops: candidates, stale ones, and ends
 abbrev pub need_ends : Bool → ℕ
@@ -359,8 +362,9 @@ pub hop_spends : (m : Moment) (k : ℕ) (candidates : Candidates) (upper : Rows 
     → Spent phases.Nh m (with_exits (with_hops m r h) e)
 hop_spends m k candidates upper r h e resolver taken sent best at turned after quiet queued fewer =
     let read = reading_less (tables.len m.exits.chains) (tables.len e.chains) (most_unread m.exits) (most_unread e) (rows_in m.chains + tree_count m.tree) (rows_in m.chains + tree_count m.tree) (nh_sends (beyonds m.chains) m.hops) (nh_sends (beyonds m.chains) h) exits (omega arith) spent in
+    let again = refreshes_less m (with_exits (with_hops m r h) e) exits (omega arith) in
     let sends = spent in
-    (fewer, omega (arith, fewer, read), (omega arith, (omega arith, (omega arith, (omega arith, tt)))), record { peers = omega arith; protocols = omega arith }, sends)
+    (fewer, omega (arith, fewer, read, again), (omega arith, (omega arith, (omega arith, (omega arith, tt)))), record { peers = omega arith; protocols = omega arith }, sends)
   where
     exits : tables.len e.chains ≤ tables.len m.exits.chains
     exits = let same : tables.len e.chains ≡ tables.len m.exits.chains = ap (λ (a : OutChains). tables.len a) (queue_chains m.exits e best queued) in omega (arith, same)

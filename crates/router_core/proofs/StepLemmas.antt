@@ -1,5 +1,5 @@
 -- What each event comes to.
-use Rattle.router_core.proofs.Common.{sym, subst, ◌∙◌, ap, ◌≡◌, ℕ, refl, List, true, false, Bool, ◌++◌, cond, ◌<◌, Network, Attrs, Message, Update, peer_at, DeclaredPeer, Event, Down, Bgp, Cover, Settled, Work, Journaled, flushed, with_lines, Line, Task, Rows, LiveState, changes_of, Says, width, Interior, ByPeer, EndsIf, HearsIf, first_held, FirstHeldTells, live_state, Moment, Gives, bound_of, Tells, Stands, AllHaveExits, Pushes, HasStepped, Keeps, HaveFed}
+use Rattle.router_core.proofs.Common.{sym, subst, ◌∙◌, ap, ◌≡◌, ℕ, refl, List, true, false, Bool, ◌++◌, cond, ◌<◌, Network, Attrs, Message, Update, peer_at, DeclaredPeer, Event, Down, Bgp, Cover, Settled, Work, Journaled, flushed, with_lines, Line, Task, Rows, LiveState, changes_of, Says, width, Interior, ByPeer, EndsIf, HearsIf, first_held, FirstHeldTells, live_state, Moment, Gives, bound_of, all_phases, Tells, Stands, AllHaveExits, Pushes, HasStepped, Keeps, HaveFed}
 use Rattle.std.proofs.Common.{◌^◌, [], ◌∷◌, Option, Some, Result}
 use Rattle.std.specs.Result.{IfOk}
 use Rattle.bgp_wire.specs.declared.notice.Notice.{Notice}
@@ -11,10 +11,13 @@ use Rattle.std.specs.FinMap as tables
 use Rattle.register_interest.specs.Covers.{matched, IsCover}
 use Rattle.router_core.specs.declared.router.Idle.{Idle as Answer}
 use Rattle.live_state.specs.Lives.{heard, ended, ended_if_up, HearsIfUp, HearsFrom}
-use Rattle.router_core.specs.Blocks.{AreMessageOctets, Hears}
+use Rattle.bgp_wire.specs.declared.message.RouteRefresh.{RouteRefresh}
+use Rattle.router_core.specs.Blocks.{AreMessageOctets, Hears, refreshed}
 use Rattle.router_core.specs.Works.{AreTurns, AllHaveDrained, HasLost, HasHeard, HasIdled}
 use Rattle.router_core.proofs.KeepLemmas.{keeps_none, keeps_said, keeps_join, keeps_on, gives_push, push_gives, gives_none, gives_so, gives_pushed, steps_pushed, ignores}
 use Rattle.router_core.proofs.TurnLaws.{turns_work}
+use Rattle.router_core.proofs.RefreshTurns.{refreshed_keeps}
+use Rattle.router_core.proofs.ServedTurns.{idle_serves}
 
 -- ---- `idle` and `work`
 pub idled : (m m' : Moment) (bound turns : ℕ) (before j j2 j3 now : Journaled) → Stands m → bound ≡ bound_of m → bound < 2 ^ 128 → j ≡ with_lines before (lines.Bound bound ∷ []) → Gives (AllHaveDrained m turns m') j j2
@@ -47,6 +50,7 @@ idled m m' bound turns before j j2 j3 now stands same small first g last is =
       keeps = keeps_on m m m' (lines.Bound bound ∷ []) (p.0 ++ lines.Idle turns ∷ []) (live_state m) refl (keeps_said m (lines.Bound bound ∷ []) stands (refl, (refl, tt)))
           (keeps_on m m' m' p.0 (lines.Idle turns ∷ []) (live_state m) refl p.2.keeps (keeps_said m' (lines.Idle turns ∷ []) p.2.keeps.stands (refl, (refl, tt))));
       rows = p.2.rows;
+      serves = idle_serves m m' (lines.Bound bound) (lines.Idle turns) p.0 all_phases turns stands p.2.runs;
     })
 
 pub worked : (m m' : Moment) (task : Task) (most turns : ℕ) (before j j2 now : Journaled) → Stands m → Gives (AreTurns task most m turns m') before j → j2 ≡ with_lines j (lines.Work turns ∷ []) → now ≡ flushed j2
@@ -86,6 +90,11 @@ pub nothing_heard : (k : ℕ) (p : DeclaredPeer) (m : Moment) (message quiet : M
     → heard (live_state m) k quiet ≡ live_state m → now ≡ flushed before → Gives (HasHeard k p m message m) before now
 nothing_heard k p m message quiet before now stands same hears live is = subst (λ (x : Message). Gives (HasHeard k p m x m) before now) (sym same)
     (gives_none (HasHeard k p m quiet m) before now (record { hears = hears; keeps = subst (λ (l : LiveState). Keeps l m m []) (sym live) (keeps_none m stands) }) is)
+
+-- one that asks for all routes again
+pub refresh_heard : (k : ℕ) (p : DeclaredPeer) (m m' : Moment) (message : Message) (r : RouteRefresh) (before now : Journaled) → Stands m → message ≡ messages.Refresh r → m' ≡ refreshed k r m → now ≡ flushed before → Gives (HasHeard k p m message m') before now
+refresh_heard k p m m' message r before now stands same is flush = subst (λ (x : Message). Gives (HasHeard k p m x m') before now) (sym same)
+    (gives_none (HasHeard k p m (messages.Refresh r) m') before now (record { hears = (refl, is); keeps = subst (λ (n : Moment). Keeps (live_state m) m n []) (sym is) (refreshed_keeps k m stands r) }) flush)
 
 -- the prefixes of an UPDATE were announced and withdrawn
 pub update_heard : (k : ℕ) (p : DeclaredPeer) (m m' : Moment) (message : Message) (update : Update) (changes : List (Network × Option Attrs)) (before j now : Journaled) → message ≡ messages.Update update → changes ≡ changes_of update

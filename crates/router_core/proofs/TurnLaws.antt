@@ -1,9 +1,7 @@
 -- What turns do, from the relation alone: one of each task, and so many of a task, or of the tasks of a phase.
-use Rattle.router_core.proofs.Common.{subst, ℕ, List, arith, ◌+◌, ◌++◌, suc, zero, Journaled, Line, Task, RunsFirst, live_state, Moment, Stands, phase_of, Turns, IsTurn, RunsPhase, Runs, Keeps, TakesTurn, IsWork, Done, Taken, Phase}
+use Rattle.router_core.proofs.Common.{subst, ℕ, List, arith, ◌+◌, ◌++◌, suc, zero, Line, Task, RunsFirst, live_state, Moment, Stands, phase_of, Turns, IsTurn, RunsPhase, Runs, Keeps, IsWork, Phase}
 use Rattle.std.proofs.Common.{[]}
 use Rattle.journal_text.specs.declared.link.Task.TheVariants as tasks
-use Rattle.router_core.specs.declared.router.Done.TheVariants.{Nothing}
-use Rattle.router_core.specs.Works.{Comes}
 use Rattle.router_core.proofs.WorkLemmas.{work_as, work_none, work_join}
 use Rattle.router_core.proofs.NextLemmas.{next_works}
 use Rattle.router_core.proofs.PeerTurns.{peer_works}
@@ -12,6 +10,7 @@ use Rattle.router_core.proofs.ExitTurns.{read_works, exit_works}
 use Rattle.router_core.proofs.RouteTurns.{route_works}
 use Rattle.router_core.proofs.OwnTurns.{own_works}
 use Rattle.router_core.proofs.ExternalTurns.{external_works}
+use Rattle.router_core.proofs.RefreshTurns.{refresh_works}
 use Rattle.router_core.proofs.KeepLemmas.{keeps_as, keeps_none}
 use Rattle.std.specs.Prelude.{Option, Some, None}
 
@@ -25,11 +24,7 @@ turn_works (tasks.Out k) m said m' stands t = exit_works k m said m' stands t
 turn_works (tasks.Rdel proto n) m said m' stands t = route_works proto n m said m' stands t
 turn_works tasks.Red m said m' stands t = own_works m said m' stands t
 turn_works tasks.Ext m said m' stands t = external_works m said m' stands t
-
--- what a turn came to
-pub turn_comes : (task : Task) (m m' : Moment) (before now : Journaled) (done : Done) → Stands m → TakesTurn task m m' before now done → Comes task m m' before now done
-turn_comes task m m' before now Nothing stands t = t
-turn_comes task m m' before now Taken stands t = (t.0, t.1, record { turn = t.2; work = turn_works task m t.0 m' stands t.2 })
+turn_works (tasks.Ref k) m said m' stands t = refresh_works k m said m' stands t
 
 -- ---- many turns
 pub turns_work : (n : ℕ) (task : Task) (m : Moment) (said : List Line) (m' : Moment) → Stands m → Turns n task m said m' → IsWork (phase_of task) n m m' said

@@ -1,15 +1,13 @@
 -- What each turn keeps, many turns keep: of a task, of a phase, and of all phases. So the same peers have exits.
-use Rattle.router_core.proofs.Common.{sym, subst, ◌∙◌, ap, ◌≡◌, ℕ, List, ◌++◌, suc, zero, nat_eq, Network, Attrs, peer_at, Declaration, Exited, OutChains, with_exit, Entry, Line, Link, Task, Value, Rows, Change, Proto, Interior, int_rows, Treed, RunsFirst, Moment, with_tree, Stands, AllHaveExits, Turns, IsTurn, BelowInt, FallsRoute, RunsPhase, Runs, IsPeerTurn, RunsAll, FeedsAll, HaveSameExits, Phase}
+use Rattle.router_core.proofs.Common.{sym, subst, ◌∙◌, ap, ◌≡◌, ℕ, List, ◌++◌, suc, zero, true, Network, Attrs, Route, Queued, OutChained, peer_at, Declaration, Exited, OutChains, with_exit, Entry, Line, Link, Task, Value, Rows, Change, Proto, Interior, int_rows, Treed, RunsFirst, Moment, with_tree, Stands, AllHaveExits, Turns, IsTurn, BelowInt, FallsRoute, RunsPhase, Runs, IsPeerTurn, RunsAll, FeedsAll, HaveSameExits, Phase}
 use Rattle.std.proofs.Common.{[], ◌∷◌, Option, Some, None, is_some}
 use Rattle.std.specs.FinMap as tables
-use Rattle.journal_text.specs.declared.link.Task.TheVariants.{Del, Fin, Nh, ReadRib, Out, Rdel, Red, Ext}
-use Rattle.link_region.proofs.RegionLemmas.{by_bool}
-use Rattle.loss_chain.proofs.TableLemmas.{equal_by}
+use Rattle.journal_text.specs.declared.link.Task.TheVariants.{Del, Fin, Nh, ReadRib, Out, Rdel, Red, Ext, Ref}
 use Rattle.exit_side.specs.Exits.{chain_at as exit_at}
 use Rattle.router_core.proofs.QueueLemmas.{queue_chains}
-use Rattle.router_core.proofs.SessionLemmas.{exit_elsewhere}
 use Rattle.router_core.proofs.TurnLaws.{turn_works, runs_work, phase_works}
-use Rattle.exit_laws.proofs.ViewLemmas.{put_here}
+use Rattle.exit_laws.proofs.ViewLemmas.{put_here, put_other}
+use Rattle.exit_side.proofs.SwapLemmas.{by_number}
 
 -- ---- of any relation between moments
 module _ (G : Moment → List Line → Moment → Type 0) (nowhere : (m m' : Moment) (said : List Line) → said ≡ [] → m' ≡ m → G m said m') (then : (a b c : Moment) (xs ys said : List Line) → G a xs b → G b ys c → said ≡ xs ++ ys → G a said c)
@@ -59,17 +57,21 @@ below_same (Some change) int m m' entries b = queue_chains m.exits m'.exits b.0.
 pub route_same : (m : Moment) (new : Treed) (proto : Proto) (p : Network) (way : List Link) (said : List Line) (m' : Moment) → FallsRoute m new proto p way said m' → HaveSameExits m m'
 route_same m new proto p way said m' f = chains_same m m' (ap (λ (x : Moment). x.exits.chains) f.after ∙ below_same f.sent (int_rows new) (with_tree m new) f.followed f.below f.below_int)
 
+-- where the chain of one that has an exit became another
+pub same_put : (j : ℕ) (c : OutChained) (queue : Queued Route) (e : Exited) → is_some (exit_at j e) ≡ true → (i : ℕ) → is_some (exit_at i (with_exit j c queue e)) ≡ is_some (exit_at i e)
+same_put j c queue e there i = by_number i j (λ _. is_some (exit_at i (with_exit j c queue e)) ≡ is_some (exit_at i e))
+    (λ is. subst (λ (n : ℕ). is_some (exit_at n (with_exit j c queue e)) ≡ is_some (exit_at n e)) (sym is) (ap is_some (put_here j c queue e) ∙ sym there)) (λ differ. ap is_some (put_other j i c queue e differ))
+
 pub turn_same : (task : Task) (m : Moment) (said : List Line) (m' : Moment) → Stands m → IsTurn task m said m' → SameAlong m said m'
 turn_same (Del k s) m said m' stands t = peer_same (Del k s) m said m' t
 turn_same (Fin k) m said m' stands t = peer_same (Fin k) m said m' t
 turn_same (Nh k) m said m' stands t = chains_same m m' (queue_chains m.exits m'.exits t.decided.best t.queued)
 turn_same ReadRib m said m' stands t = chains_same m m' (ap (λ (x : Moment). x.exits.chains) t.after)
-turn_same (Out k) m said m' stands t = λ j. ap (λ (e : Exited). is_some (exit_at j e)) t.turn.after ∙ by_bool (nat_eq j k) (λ b. is_some (exit_at j (with_exit k t.turn.taken m'.exits.queue m.exits)) ≡ is_some (exit_at j m.exits))
-    (λ same. subst (λ (n : ℕ). is_some (exit_at n (with_exit k t.turn.taken m'.exits.queue m.exits)) ≡ is_some (exit_at n m.exits)) (sym (equal_by j k same)) (ap is_some (put_here k t.turn.taken m'.exits.queue m.exits) ∙ sym (ap is_some t.turn.at)))
-    (λ apart. ap is_some (exit_elsewhere k j t.turn.taken m'.exits.queue m.exits apart))
+turn_same (Out k) m said m' stands t = λ j. ap (λ (e : Exited). is_some (exit_at j e)) t.turn.after ∙ same_put k t.turn.taken m'.exits.queue m.exits (ap is_some t.turn.at) j
 turn_same (Rdel proto n) m said m' stands t = route_same m _ proto t.prefix _ said m' t.falls
 turn_same Red m said m' stands t = chains_same m m' (queue_chains m.exits m'.exits t.decided.best t.queued)
 turn_same Ext m said m' stands t = chains_same m m' (ap (λ (x : Moment). x.exits.chains) t.after)
+turn_same (Ref k) m said m' stands t = λ j. ap (λ (e : Exited). is_some (exit_at j e)) t.turn.after ∙ same_put k t.turn.taken m.exits.queue m.exits (ap is_some t.turn.there) j
 
 pub turns_same : (n : ℕ) (task : Task) (m : Moment) (said : List Line) (m' : Moment) → Stands m → Turns n task m said m' → HaveSameExits m m'
 turns_same = turns_along SameAlong same_nowhere same_then turn_same

@@ -1,11 +1,13 @@
 -- What each event does, and the lines that it gives (NSDI 2005, sections 5.1 and 5.2; of messages RFC 4271, sections 3.1 and 6).
-use Rattle.std.specs.Prelude.{◌≡◌, ℕ, ◌+◌, ◌≤◌, ◌<◌, ◌^◌, ◌⊎◌, Bool, true, false, List, [], ◌∷◌, ◌++◌, map, length, Contains, Option, Some, None, IsSome, is_some}
+use Rattle.std.specs.Prelude.{◌≡◌, ℕ, ◌+◌, ◌≤◌, ◌<◌, ◌^◌, ◌⊎◌, Bool, true, false, List, [], ◌∷◌, ◌++◌, map, length, Contains, cond, Option, Some, None, IsSome, is_some}
 use Rattle.std.specs.List.{AllByRecursion}
 use Rattle.std.specs.List.Sorted.{IsStrictlySortedBy}
 use Rattle.addr4.specs.Prefixes.{Network, prefix_cmp}
 use Rattle.bgp_attr.specs.declared.speaker.Speaker.{Speaker}
 use Rattle.link_change.specs.Rows.{Rows}
 use Rattle.bgp_wire.specs.declared.message.Message.{Message}
+use Rattle.bgp_wire.specs.declared.message.RouteRefresh.{RouteRefresh}
+use Rattle.bgp_wire.specs.Grammar.{is_served}
 use Rattle.bgp_wire.specs.declared.message.Message.TheVariants as messages
 use Rattle.bgp_wire.specs.Spelling.{notification_octets}
 use Rattle.journal_text.specs.declared.link.Link.{Link}
@@ -37,7 +39,7 @@ use Rattle.hop_side.specs.Resolvers.{put_resolver}
 use Rattle.nexthop_resolver.specs.Resolving.{nothing_known}
 use Rattle.peer_side.specs.Peers.{Chains, chain_at, put_chain, overdue_at}
 use Rattle.peer_side.specs.Steps.{EditsInward, LosesInward}
-use Rattle.exit_side.specs.Exits.{Exited, with_queue}
+use Rattle.exit_side.specs.Exits.{Exited, with_queue, refreshed_exits}
 use Rattle.pass_core.specs.Passed.{edited, present}
 use Rattle.redist.specs.Protocols.{with_proto}
 use Rattle.rib_exit.specs.Steps.{begin_entries}
@@ -49,6 +51,7 @@ use Rattle.router_core.specs.Lives.{live_state}
 use Rattle.router_core.specs.Stands.{Stands}
 use Rattle.journal_laws.specs.Peers.{KeepsPeers}
 use Rattle.router_core.specs.Printable.{ArePrinted, IsHeard}
+use Rattle.router_core.specs.Refreshes.{ServesOn, ServesNow}
 use Rattle.router_core.specs.Phases.{all_phases}
 use Rattle.router_core.specs.Scratch.{IsExact, Tells}
 use Rattle.router_core.specs.Turns.{journal_lines, InPeers, FeedsAll, FallsRoute, Turns, Drains, RunsAll, IsSettled, has_work}
@@ -173,12 +176,18 @@ pub record AreMessageOctets (octets : List ℕ) : Type 0 where
 abbrev pub Notifies : ℕ → ℕ → List ℕ → Moment → List Line → Moment → Type 0
 Notifies k s octets m said m' = (rest : List Line) × (said ≡ lines.Note k octets ∷ rest) × Loses k s m rest m' × AreMessageOctets octets
 
+-- A refresh that is served asks for all that the peer was sent, once more: the walk over these rows begins before all prefixes, also
+-- where one is on (RFC 2918, sections 3 and 4). Any other does nothing.
+abbrev pub refreshed : ℕ → RouteRefresh → Moment → Moment
+refreshed k r m = cond (is_served r) (with_exits m (refreshed_exits k m.exits)) m
+
 -- a message came from a peer that is up
 abbrev pub Hears : ℕ → DeclaredPeer → Moment → Message → List Line → Moment → Type 0
 Hears k p m (messages.Update u) said m' = FeedsAll k (changes_of u) m said m'
 Hears k p m messages.Keepalive said m' = (said ≡ []) × (m' ≡ m)
 Hears k p m messages.Skip said m' = (said ≡ []) × (m' ≡ m)
 Hears k p m messages.Notification said m' = Loses k p.session m said m'
+Hears k p m (messages.Refresh r) said m' = (said ≡ []) × (m' ≡ refreshed k r m)
 Hears k p m (messages.Notify n) said m' = Notifies k p.session (notification_octets n.code n.subcode n.octets) m said m'
 
 -- by whether the peer is up
@@ -263,7 +272,7 @@ IsBlock m (Show link) said turns m' = (turns ≡ 0) × (m' ≡ m) × Shows link 
 -- An event was stepped: its lines are as its block says, its entries obey the rules of the journal and lead from the links
 -- before it to those after it, the live state is what the events alone make of it, and what holds between two steps holds. Each
 -- line can be printed and read back, the peers are known by their numbers then as before, and what they reach by reading the octets of
--- what they are sent is what stands on their links `adv.J.S`.
+-- what they are sent is what stands on their links `adv.J.S`. Who asked for all routes again is told them in the lines since.
 pub record Acts (m : Moment) (event : Event) (turns : ℕ) (m' : Moment) (said : List Line) : Type 0 where
   pub block : IsBlock m event said turns m'
   pub leads : Leads (router_links m) (entries_of said) (router_links m')
@@ -272,3 +281,5 @@ pub record Acts (m : Moment) (event : Event) (turns : ℕ) (m' : Moment) (said :
   pub printed : ArePrinted m.declared said
   pub peers : KeepsPeers m.declared m'.declared
   pub heard : IsHeard m said m'
+  pub serves : ServesOn m said m'
+  pub asked : ServesNow m event m'

@@ -44,7 +44,8 @@ is_over_hop task m p = list_any (λ k. is_over m.tree task (next_hop_at m k p)) 
 -- of a peer's row there, by whose metric the peer's route may be resolved; those of a lost session, where theirs has it; the walk of a
 -- filter or of redistribution, where there is a row above and another function may hold there than the latest one; the next hops of a
 -- peer, or of external routes, where that of the row there is stale, or its fresh answer isn't in force there; who reads `best`, where a
--- change there isn't taken, a peer's exit also where the walk of its filter has yet to come to the row that it has read.
+-- change there isn't taken, a peer's exit also where the walk of its filter has yet to come to the row that it has read. A refresh says rows again that were sent
+-- already: it holds up nothing.
 abbrev pub holds_up_at : Task → Moment → Network → Bool
 holds_up_at (tasks.Rdel proto n) m p = tree_lags m.tree (tasks.Rdel proto n) p || is_over_hop (tasks.Rdel proto n) m p
 holds_up_at tasks.Red m p = row_lags m.redist p (int_rows m.tree p)
@@ -54,6 +55,7 @@ holds_up_at (tasks.Nh k) m p = hop_holds_up m.hops k p (next_hop_at m k p)
 holds_up_at tasks.ReadRib m p = changed_in (unread_if m.exits.queue m.reader) p
 holds_up_at (tasks.Out k) m p = exit_holds_up m.exits (best_of m) k p
 holds_up_at tasks.Ext m p = ext_lags m.rib p
+holds_up_at (tasks.Ref k) m p = false
 
 -- the first task of a phase that holds up a prefix
 abbrev pub held_in : Phase → Moment → Network → Option Task

@@ -7,6 +7,7 @@ pub mod Stands
 pub mod Scratch
 pub mod Turns
 pub mod Holding
+pub mod Refreshes
 pub mod Blocks
 pub mod Laws
 pub mod Lookups

@@ -19,14 +19,14 @@ use Rattle.in_chain.specs.Chains.{Chained, filt_beyond}
 use Rattle.peer_side.specs.Peers.{Chains, chain_at, rows_in, lost_in, left_in}
 use Rattle.rib_tree.specs.Trees.{Treed, tree_count}
 use Rattle.router_core.specs.declared.router.Phase.{Phase}
-use Rattle.router_core.specs.declared.router.Phase.TheVariants.{Rdel, Red, Del, Fin, Nh, ReadRib, Out, Ext}
+use Rattle.router_core.specs.declared.router.Phase.TheVariants.{Rdel, Red, Del, Fin, Nh, ReadRib, Out, Ext, Ref}
 use Rattle.router_core.specs.Moments.{Moment, most_unread}
 use Rattle.std.specs.List.{sum_by}
 use Rattle.bgp_attr.specs.declared.route.Route.{Route}
 use Rattle.link_change.specs.declared.change.Change.{Change}
 use Rattle.fanout_queue.specs.Queues.{Queued}
 use Rattle.fanout_queue.specs.Readers.{unread_by}
-use Rattle.exit_side.specs.Exits.{left_in as exits_left_in}
+use Rattle.exit_side.specs.Exits.{Exited, left_in as exits_left_in, refreshes_left}
 
 -- how many rows the stages of the protocols' losses have
 abbrev pub tree_lost : Treed → ℕ
@@ -40,11 +40,15 @@ beyond_by (Some c) place = filt_beyond c place
 abbrev pub beyonds : Chains → Beyonds
 beyonds a k = beyond_by (chain_at k a)
 
+-- how many rows the peers that are up were sent
+abbrev pub sent_in : Exited → ℕ
+sent_in e = sum_by (λ c. tables.len c.sent) (tables.values e.chains)
+
 -- ---- the table: a line for each phase
 
 -- the phases of an idle, in their order
 abbrev pub all_phases : List Phase
-all_phases = Rdel ∷ Red ∷ Del ∷ Fin ∷ Nh ∷ ReadRib ∷ Out ∷ Ext ∷ []
+all_phases = Rdel ∷ Red ∷ Del ∷ Fin ∷ Nh ∷ ReadRib ∷ Out ∷ Ext ∷ Ref ∷ []
 
 -- how many changes of `best` the forwarding side hasn't read
 abbrev pub unread_if : Queued Route → Option ℕ → List (Change Route)
@@ -73,6 +77,7 @@ counts m Nh = hops_left_in (beyonds m.chains) m.hops
 counts m ReadRib = length (unread_if m.exits.queue m.reader)
 counts m Out = exits_left_in (best_beyond m.chains m.tree) m.exits
 counts m Ext = external_left (external_beyond m.rib) m.rib
+counts m Ref = refreshes_left m.exits
 
 -- how many next hops of a peer are stale, and how many those of all peers are, each peer's its own
 abbrev pub stale_of : Resolving Metric → ℕ
@@ -148,6 +153,10 @@ own_sends m = own_sends_by m.tree m.redist.walk
 abbrev pub external_most : Moment → ℕ
 external_most m = 3 * (rows_in m.chains + tree_count m.tree) + 2
 
+-- how many turns the tasks of refreshes take at most behind all exits: what each peer was sent then are rows of `best`
+abbrev pub refresh_most : Moment → ℕ
+refresh_most m = tables.len m.exits.chains * (rows_in m.chains + tree_count m.tree)
+
 -- how many changes of `best` the phases from each on may make
 abbrev pub sends_from_fin : Moment → ℕ
 sends_from_fin m = fin_sends m.chains + 2 * rows_in m.chains
@@ -168,17 +177,19 @@ changes_left Nh m = nh_sends (beyonds m.chains) m.hops
 changes_left ReadRib m = 0
 changes_left Out m = 0
 changes_left Ext m = 0
+changes_left Ref m = 0
 
 -- how many turns an idle takes at most from a phase on
 abbrev pub left_from : Phase → Moment → ℕ
-left_from Rdel m = counts m Rdel + (counts m Red + counts m Del + counts m Fin + most_of m + reading_of m (counts m Rdel + sends_from_red m) + external_most m)
-left_from Red m = counts m Red + counts m Del + counts m Fin + most_of m + reading_of m (sends_from_red m) + external_most m
-left_from Del m = counts m Del + counts m Fin + most_of m + reading_of m (sends_from_del m) + external_most m
-left_from Fin m = counts m Fin + most_of m + reading_of m (sends_from_fin m) + external_most m
-left_from Nh m = counts m Nh + reading_of m (nh_sends (beyonds m.chains) m.hops) + external_most m
-left_from ReadRib m = counts m ReadRib + counts m Out + external_most m
-left_from Out m = counts m Out + counts m Ext
-left_from Ext m = counts m Ext
+left_from Rdel m = counts m Rdel + (counts m Red + counts m Del + counts m Fin + most_of m + reading_of m (counts m Rdel + sends_from_red m) + external_most m + refresh_most m)
+left_from Red m = counts m Red + counts m Del + counts m Fin + most_of m + reading_of m (sends_from_red m) + external_most m + refresh_most m
+left_from Del m = counts m Del + counts m Fin + most_of m + reading_of m (sends_from_del m) + external_most m + refresh_most m
+left_from Fin m = counts m Fin + most_of m + reading_of m (sends_from_fin m) + external_most m + refresh_most m
+left_from Nh m = counts m Nh + reading_of m (nh_sends (beyonds m.chains) m.hops) + external_most m + refresh_most m
+left_from ReadRib m = counts m ReadRib + counts m Out + external_most m + refresh_most m
+left_from Out m = counts m Out + counts m Ext + refresh_most m
+left_from Ext m = counts m Ext + counts m Ref
+left_from Ref m = counts m Ref
 
 -- the phases before this one, to which its turns add nothing
 abbrev pub earlier : Phase → List Phase
@@ -190,3 +201,4 @@ earlier Nh = Rdel ∷ Red ∷ Del ∷ Fin ∷ []
 earlier ReadRib = Rdel ∷ Red ∷ Del ∷ Fin ∷ Nh ∷ []
 earlier Out = Rdel ∷ Red ∷ Del ∷ Fin ∷ Nh ∷ ReadRib ∷ []
 earlier Ext = Rdel ∷ Red ∷ Del ∷ Fin ∷ Nh ∷ ReadRib ∷ Out ∷ []
+earlier Ref = Rdel ∷ Red ∷ Del ∷ Fin ∷ Nh ∷ ReadRib ∷ Out ∷ Ext ∷ []

@@ -49,11 +49,11 @@ use Rattle.rib_exit.specs.Exits.{has_ext_work, stale_in as external_stale}
 use Rattle.rib_exit.specs.Steps.{TakesExternal, TakesInterior, ReachesExit, TurnsExit as TurnsExternal}
 use Rattle.fanout_queue.specs.Queues.{Takes}
 use Rattle.out_chain.specs.Chains.{is_unread}
-use Rattle.exit_side.specs.Exits.{Exited, with_queue, has_exit_work}
-use Rattle.exit_side.specs.Steps.{TurnsExit}
+use Rattle.exit_side.specs.Exits.{Exited, with_queue, has_exit_work, has_refresh}
+use Rattle.exit_side.specs.Steps.{TurnsExit, ResendsExit}
 use Rattle.journal_text.specs.Values.{route_value, sent_entries}
 use Rattle.router_core.specs.Bests.{all_at, own_entries, DecidesOn, Queues}
-use Rattle.router_core.specs.Phases.{unread_if, external_beyond, stale_in}
+use Rattle.router_core.specs.Phases.{unread_if, external_beyond, stale_in, sent_in}
 use Rattle.router_core.specs.Moments.{Moment, own_of, best_of, candidates_of, most_unread, with_chains, with_hops, with_tree, with_exits, with_redist, with_rib}
 use Rattle.exit_side.specs.Laws.{StaysWithQueue}
 
@@ -220,6 +220,11 @@ pub record IsOutTurn (k : ℕ) (m : Moment) (said : List Line) (m' : Moment) : T
   pub turn : TurnsExit k (candidates_of m) (best_of m) sent m.exits m'.exits said
   pub after : m' ≡ with_exits m m'.exits
 
+-- One turn of the refresh of peer k: the next of the rows that it was sent is said to it again, and nothing else changes (RFC 2918, section 4).
+pub record IsRefreshTurn (k : ℕ) (m : Moment) (said : List Line) (m' : Moment) : Type 0 where
+  pub turn : ResendsExit k m.exits m'.exits said
+  pub after : m' ≡ with_exits m m'.exits
+
 -- One turn of the forwarding side: the first change that it hasn't read comes on `read.rib`, and goes down through the RIB's exit; the
 -- exits of peers stay as they were.
 pub record IsReadTurn (m : Moment) (said : List Line) (m' : Moment) : Type 0 where
@@ -264,6 +269,7 @@ IsTurn (tasks.Out k) m said m' = IsOutTurn k m said m'
 IsTurn (tasks.Rdel proto n) m said m' = IsRouteTurn proto n m said m'
 IsTurn tasks.Red m said m' = IsOwnTurn m said m'
 IsTurn tasks.Ext m said m' = IsExternalTurn m said m'
+IsTurn (tasks.Ref k) m said m' = IsRefreshTurn k m said m'
 
 -- whether a task has work
 abbrev pub has_work : Task → Moment → Bool
@@ -275,6 +281,7 @@ has_work (tasks.Out k) m = has_exit_work m.exits k
 has_work (tasks.Rdel proto n) m = has_tree_turn m.tree (tasks.Rdel proto n)
 has_work tasks.Red m = is_some m.redist.walk
 has_work tasks.Ext m = has_ext_work m.rib
+has_work (tasks.Ref k) m = has_refresh m.exits k
 
 -- so many turns of a task
 abbrev pub Turns : ℕ → Task → Moment → List Line → Moment → Type 0
@@ -297,6 +304,7 @@ phase_of (tasks.Nh k) = phases.Nh
 phase_of tasks.ReadRib = phases.ReadRib
 phase_of (tasks.Out k) = phases.Out
 phase_of tasks.Ext = phases.Ext
+phase_of (tasks.Ref k) = phases.Ref
 
 -- the tasks of a phase of an idle, in their order
 abbrev pub phase_tasks : Phase → Moment → List Task
@@ -308,6 +316,7 @@ phase_tasks phases.Nh m = map (λ k. tasks.Nh k) (tables.keys m.hops)
 phase_tasks phases.ReadRib m = tasks.ReadRib ∷ []
 phase_tasks phases.Out m = map (λ k. tasks.Out k) (tables.keys m.exits.chains)
 phase_tasks phases.Ext m = tasks.Ext ∷ []
+phase_tasks phases.Ref m = map (λ k. tasks.Ref k) (tables.keys m.exits.chains)
 
 -- how many turns a phase takes at most
 abbrev pub phase_bound : Phase → Moment → ℕ
@@ -319,6 +328,7 @@ phase_bound phases.Nh m = stale_in m.hops + 2 * (rows_in m.chains + tables.len m
 phase_bound phases.ReadRib m = most_unread m.exits
 phase_bound phases.Out m = tables.len m.exits.chains * (most_unread m.exits + 2 * (rows_in m.chains + tree_count m.tree + 1))
 phase_bound phases.Ext m = external_stale m.rib + 2 * (external_beyond m.rib None + 1)
+phase_bound phases.Ref m = sent_in m.exits
 
 -- by how much the most changes that a reader hasn't taken rise in a phase at most
 abbrev pub rise_bound : Phase → Moment → ℕ
@@ -330,6 +340,7 @@ rise_bound phases.Nh m = 2 * rows_in m.chains
 rise_bound phases.ReadRib m = 0
 rise_bound phases.Out m = 0
 rise_bound phases.Ext m = 0
+rise_bound phases.Ref m = 0
 
 -- no stage of the phase stands, no walk of it is on, and no next hop has work
 abbrev pub IsOver : Phase → Moment → Type 0
@@ -341,6 +352,7 @@ IsOver phases.Nh m = (k : ℕ) → has_hop_work m.hops k ≡ false
 IsOver phases.ReadRib m = unread_if m.exits.queue m.reader ≡ []
 IsOver phases.Out m = (k : ℕ) → has_exit_work m.exits k ≡ false
 IsOver phases.Ext m = has_ext_work m.rib ≡ false
+IsOver phases.Ref m = (k : ℕ) → has_refresh m.exits k ≡ false
 
 -- ---- the same for any table
 

@@ -43,6 +43,7 @@ use Rattle.live_state.specs.Lives.{LiveState, LiveAfter, live_fed, heard, ended,
 use Rattle.router_core.specs.Lives.{live_state}
 use Rattle.router_core.specs.Stands.{Stands}
 use Rattle.router_core.specs.Printable.{IsHeard}
+use Rattle.router_core.specs.Refreshes.{ServesOn}
 use Rattle.router_core.specs.Scratch.{IsExact}
 use Rattle.router_core.specs.declared.router.Phase.{Phase}
 use Rattle.router_core.specs.declared.router.Phase.TheVariants as phases
@@ -106,10 +107,11 @@ pub record IsWork (phase : Phase) (turns : ℕ) (m m' : Moment) (said : List Lin
   pub stale : MakesNoneStale phase m m'
   pub unread : most_unread m'.exits + changes_left phase m' ≤ most_unread m.exits + changes_left phase m
 
--- one turn of a task
+-- One turn of a task. Who asked for all routes again is told them in its lines, too.
 pub record IsUnit (task : Task) (m m' : Moment) (said : List Line) : Type 0 where
   pub turn : IsTurn task m said m'
   pub work : IsWork (phase_of task) 1 m m' said
+  pub serves : ServesOn m said m'
 
 -- what the code tells of a turn of a task: the relation, and where there is no work, that nothing changes
 abbrev pub TakesTurn : Task → Moment → Moment → Journaled → Journaled → Done → Type 0
@@ -144,6 +146,7 @@ pub record HaveDrained (phase : Phase) (m : Moment) (turns : ℕ) (m' : Moment) 
   pub most : turns ≤ phase_bound phase m
   pub rises : most_unread m'.exits ≤ most_unread m.exits + rise_bound phase m
   pub over : IsOver phase m'
+  pub serves : ServesOn m said m'
 
 -- every task has run to its end
 pub record AllHaveDrained (m : Moment) (turns : ℕ) (m' : Moment) (said : List Line) : Type 0 where
@@ -206,6 +209,7 @@ pub record HasIdled (m : Moment) (idle : Idle) (m' : Moment) (said : List Line) 
   pub bound : idle.bound ≡ bound_of m
   pub keeps : Keeps (live_state m) m m' said
   pub rows : AddsNoRows m m'
+  pub serves : ServesOn m said m'
 
 -- an event was stepped, and what stands then
 pub record HasStepped (m : Moment) (event : Event) (turns : ℕ) (m' : Moment) (said : List Line) : Type 0 where

@@ -17,6 +17,7 @@ ghost use Rattle.router_core.specs.Moments.{best_of, read_links, rules_to};
 ghost use Rattle.router_core.specs.Stands.{Stands, HaveReaders};
 ghost use Rattle.router_core.specs.Lookups.{IsNextPlace};
 ghost use Rattle.router_core.specs.Turns.{has_work, next_task};
+ghost use Rattle.router_core.specs.Blocks.{refreshed};
 ghost use Rattle.router_core.specs.Works.{TakesTurn, Forwards, HasStepped, JoinsQueue, BeginsReading, BeginsSession, SendsAs};
 
 use crate::best::Lent;
@@ -24,6 +25,7 @@ use crate::network::Network;
 use crate::router::Done;
 use addr4::{Memory, Place, Prefix};
 use bgp_attr::Route;
+use bgp_wire::RouteRefresh;
 use decision::Best;
 use exit_side::Exits;
 use exit_side::laws::a_stranger_reads;
@@ -132,6 +134,15 @@ impl Network {
         self.outgoing.set(number, rules)
     }
 
+    /// A refresh from a peer that is up: where it is served, the walk over what the peer was sent begins anew. Takes no memory.
+    pub(crate) fn refresh(&mut self, number: u32, refresh: RouteRefresh)
+        ensures { self.new ≡ refreshed number refresh self.old }
+    {
+        if refresh.is_served() {
+            self.exits.refresh(number);
+        }
+    }
+
     /// The queue of changes is prepared for the questions of an event (`Exits::prepare`), which changes nothing that contracts see.
     pub(crate) fn prepare(&mut self) -> Result<(), Memory>
         ensures { self.new ≡ self.old }
@@ -175,6 +186,23 @@ impl Network {
         };
         let turn = self.exits.turn(number, &best, journal)?;
         if rested(turn) {
+            return Ok(Done::Nothing);
+        }
+        journal.flush()?;
+        Ok(Done::Taken)
+    }
+
+    /// One turn of a peer's refresh, and the text of its line: the next row that the peer was sent is said to it again. No link changes.
+    pub(crate) fn turn_refresh(
+        &mut self,
+        number: u32,
+        journal: &mut Journal,
+    ) -> Result<Done, Memory>
+        requires { Stands self.old }
+        ensures { IfOk result (TakesTurn (tasks.Ref number) self.old self.new journal.old journal.new) }
+    {
+        let again = self.exits.resend(number, journal)?;
+        if !again {
             return Ok(Done::Nothing);
         }
         journal.flush()?;

@@ -64,6 +64,8 @@ pub enum Phase {
     Out,
     /// The next hops of external routes: those that are asked for again, and the walks of fresh answers.
     Ext,
+    /// The refreshes that peers asked for: what each was sent is said to it again (RFC 2918).
+    Ref,
 }
 
 #[derive(Drop)]
@@ -240,7 +242,7 @@ impl Core {
 
     /// A phase of an idle: each of its tasks runs to its end. Answers how many turns that took: of deletion stages at most
     /// as many as there are rows, of the walks at most two for each row and two for each peer, and of next hops one more for
-    /// each that is stale as the phase begins. No row is added, and no next hop becomes stale but in [`Phase::Rdel`]; what the
+    /// each that is stale as the phase begins; of refreshes as many as rows were sent. No row is added, and no next hop becomes stale but in [`Phase::Rdel`]; what the
     /// slowest reader hasn't taken grows by at most one change for each row in a phase of deletion stages, two in one of walks,
     /// and none where readers read.
     pub fn drain(&mut self, phase: Phase, journal: &mut Journal) -> Result<u128, Memory>

@@ -65,6 +65,7 @@ impl Network {
             Phase::ReadRib => self.reader_held(p),
             Phase::Out => exit_of(self.exits.first_held(has(&self.lent(), &p), p)),
             Phase::Ext => self.external_held(p),
+            Phase::Ref => None,
         }
     }
 

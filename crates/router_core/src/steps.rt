@@ -281,6 +281,10 @@ impl Network {
             }
             Message::Keepalive => journal.flush(),
             Message::Skip => journal.flush(),
+            Message::Refresh(refresh) => {
+                self.refresh(number, refresh);
+                journal.flush()
+            }
             Message::Notification => self.lose(number, peer.session, journal),
             Message::Notify(notice) => {
                 let octets = spelled(self.alloc, notice)?;

@@ -27,6 +27,7 @@ impl Network {
             Task::Ext => self.turn_external(journal),
             Task::ReadRib => self.turn_reader(journal),
             Task::Out(number) => self.turn_exit(number, journal),
+            Task::Ref(number) => self.turn_refresh(number, journal),
             Task::Del(_, _) | Task::Fin(_) => self.turn_peer(task, journal),
         }
     }
@@ -81,6 +82,7 @@ impl Network {
             Phase::ReadRib => self.next_reader(),
             Phase::Out => exit_of(self.exits.first_busy()),
             Phase::Ext => self.next_external(),
+            Phase::Ref => refresh_of(self.exits.first_refresh()),
         }
     }
 
@@ -116,7 +118,7 @@ impl Network {
 }
 
 /// The phases of an idle, in their order.
-pub(crate) fn phases() -> [Phase; 8]
+pub(crate) fn phases() -> [Phase; 9]
     ensures { result ≡ all_phases }
 {
     [
@@ -128,6 +130,7 @@ pub(crate) fn phases() -> [Phase; 8]
         Phase::ReadRib,
         Phase::Out,
         Phase::Ext,
+        Phase::Ref,
     ]
 }
 
@@ -137,6 +140,16 @@ pub(crate) fn exit_of(number: Option<u32>) -> Option<Task>
 {
     match number {
         Some(number) => Some(Task::Out(number)),
+        None => None,
+    }
+}
+
+/// The task of a peer's refresh.
+pub(crate) fn refresh_of(number: Option<u32>) -> Option<Task>
+    ensures { result ≡ option_map (λ k. tasks.Ref k) number }
+{
+    match number {
+        Some(number) => Some(Task::Ref(number)),
         None => None,
     }
 }

@@ -1,3 +1,4 @@
+use Rattle.exit_laws.proofs.ResendLemmas as again
 use Rattle.exit_laws.proofs.ViewLemmas as views
 use Rattle.exit_laws.proofs.steps_are_heard.Goals as goal
 
@@ -21,3 +22,12 @@ returns-clause-edit c = views.edit_keeps_views
 
 pub returns-clause-put : goal.returns-clause-put
 returns-clause-put c = views.put_keeps_views
+
+pub returns-clause-refresh : goal.returns-clause-refresh
+returns-clause-refresh c = again.refresh_keeps_views
+
+pub returns-clause-resend_keeps : goal.returns-clause-resend_keeps
+returns-clause-resend_keeps c = again.resend_keeps_views
+
+pub returns-clause-resend : goal.returns-clause-resend
+returns-clause-resend c = again.resend_is_heard

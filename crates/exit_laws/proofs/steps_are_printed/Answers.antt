@@ -1,5 +1,6 @@
 use Rattle.exit_laws.proofs.KeptLemmas as kept
 use Rattle.exit_laws.proofs.PrintLemmas as prints
+use Rattle.exit_laws.proofs.ResendLemmas as again
 use Rattle.exit_laws.proofs.steps_are_printed.Goals as goal
 
 pub returns-clause-begin : goal.returns-clause-begin
@@ -28,3 +29,9 @@ returns-clause-stays c = prints.printing_stays
 
 pub returns-clause-empty : goal.returns-clause-empty
 returns-clause-empty c = kept.empty_is_printed
+
+pub returns-clause-refresh : goal.returns-clause-refresh
+returns-clause-refresh c = again.refresh_is_printed
+
+pub returns-clause-resend : goal.returns-clause-resend
+returns-clause-resend c = again.resend_is_printed

@@ -1,7 +1,7 @@
 use Rattle.router_core.proofs.Common.{sym, subst, ◌∙◌, refl, on_ok_weaker, AreHeard, IsHeardMessage}
 use Rattle.bgp_wire.specs.declared.message.Message.TheVariants as messages
 use Rattle.router_core.proofs.HeardRows.{changes_heard}
-use Rattle.router_core.proofs.StepLemmas.{nothing_heard, update_heard, end_heard, fault_heard}
+use Rattle.router_core.proofs.StepLemmas.{nothing_heard, refresh_heard, update_heard, end_heard, fault_heard}
 use Rattle.router_core.proofs.network.Network.hear.Goals as goal
 
 pub feed-requires-clause-heard : goal.feed-requires-clause-heard
@@ -27,6 +27,12 @@ returns-in-Skip c =
     on_ok_weaker c.flush-in-Skip.result (λ flushed.
     nothing_heard c.args.number c.args.peer c.args.self.now c.args.message messages.Skip c.args.journal.now c.flush-in-Skip.new.self c.requires.stands c.in-Skip.is (refl, refl) refl flushed)
     c.flush-in-Skip.ensures.ok
+
+pub returns-in-Refresh : goal.returns-in-Refresh
+returns-in-Refresh c =
+    on_ok_weaker c.flush-in-Refresh.result (λ flushed.
+    refresh_heard c.args.number c.args.peer c.args.self.now c.refresh.new.self c.args.message c.in-Refresh.refresh c.args.journal.now c.flush-in-Refresh.new.self c.requires.stands c.in-Refresh.is c.refresh.ensures flushed)
+    c.flush-in-Refresh.ensures.ok
 
 pub returns-in-Notification : goal.returns-in-Notification
 returns-in-Notification c =

@@ -7,7 +7,7 @@ use Rattle.router_core.specs.declared.router.Phase.TheVariants.{Del, Fin}
 use Rattle.router_core.proofs.StandLemmas.{peers_sound}
 use Rattle.router_core.proofs.HopTurns.{exits_sound}
 use Rattle.router_core.proofs.BestLemmas.{lent_best}
-use Rattle.router_core.proofs.NextLemmas.{held_of_peers, held_of_hops, held_of_exits, held_of_losses}
+use Rattle.router_core.proofs.NextLemmas.{held_of_peers, held_of_hops, held_of_exits, held_of_losses, held_of_refreshes}
 use Rattle.router_core.proofs.SettledLemmas.{none_held}
 use Rattle.router_core.proofs.network.Network.held_in.Goals as goal
 
@@ -37,6 +37,9 @@ returns-in-Nh c =
     let chains = c.lent.ensures.chains ∙ sym (ap (λ (n : Moment). n.chains) c.self.view_is) in
     held_of_hops c.args.phase c.args.self.now _ c.args.p c.first_held.result c.task_of.result c.in-Nh.is c.self.view_is
     (c.first_held.ensures ∙ ap (λ (a : Chains). find (λ k. hop_holds_up c.self.inside.hops k c.args.p (option_map route_hop (filt_at a k c.args.p))) (tables.keys c.self.inside.hops)) chains) c.task_of.ensures
+
+pub returns-in-Ref : goal.returns-in-Ref
+returns-in-Ref c = held_of_refreshes c.args.phase c.args.self.now c.args.p c.in-Ref.is
 
 pub returns-in-Out : goal.returns-in-Out
 returns-in-Out c =

@@ -1,7 +1,7 @@
 use Rattle.router_core.specs.declared.router.Phase.TheVariants.{Red, Del, Fin, ReadRib, Ext}
 use Rattle.router_core.proofs.StandLemmas.{peers_sound}
 use Rattle.router_core.proofs.HopTurns.{exits_sound}
-use Rattle.router_core.proofs.NextLemmas.{next_of_hops, none_of_hops, next_of_exits, none_of_exits, next_of_one, none_of_reader, none_of_own, none_of_external, next_of_peers, next_of_tree, none_of_tree}
+use Rattle.router_core.proofs.NextLemmas.{next_of_hops, none_of_hops, next_of_exits, none_of_exits, next_of_refreshes, none_of_refreshes, next_of_one, none_of_reader, none_of_own, none_of_external, next_of_peers, next_of_tree, none_of_tree}
 use Rattle.router_core.proofs.network.Network.next.Goals as goal
 
 pub first_loss-requires : goal.first_loss-requires
@@ -42,6 +42,12 @@ returns-in-Out-clause-next c = next_of_exits c.args.phase c.args.self.now _ c.fi
 
 pub returns-in-Out-clause-none : goal.returns-in-Out-clause-none
 returns-in-Out-clause-none c = none_of_exits c.args.phase c.args.self.now _ c.first_busy-in-Out.result c.exit_of.result c.in-Out.is c.self.view_is c.first_busy-in-Out.ensures.none c.exit_of.ensures
+
+pub returns-in-Ref-clause-next : goal.returns-in-Ref-clause-next
+returns-in-Ref-clause-next c = next_of_refreshes c.args.phase c.args.self.now _ c.first_refresh.result c.refresh_of.result c.in-Ref.is c.self.view_is c.first_refresh.ensures.first c.refresh_of.ensures
+
+pub returns-in-Ref-clause-none : goal.returns-in-Ref-clause-none
+returns-in-Ref-clause-none c = none_of_refreshes c.args.phase c.args.self.now _ c.first_refresh.result c.refresh_of.result c.in-Ref.is c.self.view_is c.first_refresh.ensures.none c.refresh_of.ensures
 
 pub returns-in-Red-clause-next : goal.returns-in-Red-clause-next
 returns-in-Red-clause-next c = next_of_one Red c.args.phase c.args.self.now c.next_own.result c.in-Red.is c.next_own.ensures

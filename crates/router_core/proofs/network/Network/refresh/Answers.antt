@@ -1,0 +1,10 @@
+use Rattle.router_core.proofs.Common.{sym, ◌∙◌}
+use Rattle.router_core.specs.contracts.network.Network.{the_view}
+use Rattle.router_core.proofs.RefreshTurns.{refresh_is, unserved_is}
+use Rattle.router_core.proofs.network.Network.refresh.Goals as goal
+
+pub returns-then-is_served : goal.returns-then-is_served
+returns-then-is_served c = refresh_is c.args.self.now (the_view c.self.inside) c.args.number c.args.refresh c.refresh.new.self c.self.view_is c.refresh.ensures (sym c.is_served.ensures ∙ c.if-is_served.true)
+
+pub returns-else-is_served : goal.returns-else-is_served
+returns-else-is_served c = unserved_is c.args.self.now c.args.number c.args.refresh (sym c.is_served.ensures ∙ c.if-is_served.false)
