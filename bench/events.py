@@ -10,6 +10,7 @@ Kinds:
   edit      the same, then a rule for peer 1's incoming filter that changes every route, and `idle`
   loss      the same as table, then peer 1's session is lost, and `idle` deletes every route, also from peer 2
   rules     the same as table, then a rule for peer 2's outgoing filter that changes every route, and `idle`
+  refresh   the same as table, then peer 2 asks for all routes again (RFC 2918), and `idle` sends them
   interior  `route add` of so many different prefixes, half of them static and half of ospf; then `idle`
   lost      the same, then ospf is lost, and `idle` deletes its routes
   hops      the same as table over 1,000 next hops, each with an ospf route of its own
@@ -38,12 +39,14 @@ LENGTHS = [24] * 60 + [23] * 9 + [22] * 11 + [21] * 5 + [20] * 4 + [19] * 3 + [1
 LOCAL = 'local 65000 192.0.2.254 192.0.2.254'
 PEERS = ['peer 1 65001 192.0.2.1 192.0.2.1', 'peer 2 65002 192.0.2.2 192.0.2.2',
          'route add connected 192.0.2.0/24 direct eth0 1', 'up 1', 'up 2']
-KINDS = ('table', 'as4', 'alone', 'rejected', 'paced', 'edit', 'rules', 'loss', 'interior', 'lost', 'hops', 'kept', 'moved', 'peers',
-         'best_lost', 'exits', 'own', 'asked')
+KINDS = ('table', 'as4', 'alone', 'rejected', 'paced', 'edit', 'rules', 'refresh', 'loss', 'interior', 'lost', 'hops', 'kept', 'moved',
+         'peers', 'best_lost', 'exits', 'own', 'asked')
 READ = ['work rd.rib 99', 'work out.1 99', 'work out.2 99']
 # an event that looks at nothing but the register, and the line that it gives: how far the program has come
 LOOK, LOOKED = b'cover 192.0.2.1\n', b'cover 192.0.2.1 192.0.2.0/24 192.0.2.0/24\n'
 NEAR = bytes([192, 0, 2, 1])
+# what asks for all routes again: a ROUTE-REFRESH of IPv4 unicast
+REFRESH = MARKER + bytes([0, 23, 5, 0, 1, 0, 1])
 # what is added to AS numbers, so that they don't go into two octets
 WIDE = 1 << 17
 HOPS = [bytes([172, 16, place // 250, 1 + place % 250]) for place in range(1000)]
@@ -176,6 +179,7 @@ def events(kind, count, number=8):
             yield from READ if kind == 'paced' else ()
     yield 'idle'
     yield from {'edit': ['filter in 1 any pref 200 accept', 'idle'], 'rules': ['filter out 2 any med 7 accept', 'idle'],
+                'refresh': ['bgp 2 ' + REFRESH.hex(), 'idle'],
                 'loss': ['down 1', 'idle'], 'best_lost': ['down 1', 'idle'],
                 'lost': ['lost ospf', 'idle'], 'kept': [way(HOPS[7], 'eth1', 10), 'idle'],
                 'moved': [way(HOPS[7], 'eth0', 11), 'idle']}.get(kind, [])

@@ -2,7 +2,7 @@
 import collections
 import ipaddress
 
-# kind is `adv`, `best`, `session` or `notification`; ours is what the program says, theirs what the daemon does
+# kind is `adv`, `again`, `best`, `session` or `notification`; ours is what the program says, theirs what the daemon does
 Difference = collections.namedtuple('Difference', 'kind peer prefix ours theirs')
 Counts = collections.Counter
 

@@ -14,9 +14,11 @@ class Heard(session.Connection):
     def __init__(self, made, width):
         super().__init__(made)
         self.width, self.held, self.notes, self.is_up, self.last = width, {}, [], False, time.monotonic()
+        self.again = None  # what it was sent since it asked for all again, if it did
 
-    def begin(self, peer, hold=0):
-        self.open(wire.opening(peer.asn, peer.identifier, hold, self.width == 4), OPENED_WITHIN)
+    def begin(self, peer, hold=0, refreshes=False):
+        families = wire.IPV4_UNICAST + (wire.REFRESH if refreshes else b'')
+        self.open(wire.opening(peer.asn, peer.identifier, hold, self.width == 4, families), OPENED_WITHIN)
         self.is_up = True
         threading.Thread(target=self.listen, daemon=True).start()
 
@@ -27,6 +29,8 @@ class Heard(session.Connection):
                 self.last = time.monotonic()
                 if kind == wire.UPDATE:
                     wire.take(self.held, body)
+                    if self.again is not None:
+                        wire.take(self.again, body)
                 elif kind == wire.NOTIFICATION:
                     self.notes.append(wire.message(kind, body).hex())
         except (OSError, EOFError):
@@ -38,4 +42,7 @@ class Heard(session.Connection):
 
     def rows(self):
         """What it holds, as rows; nothing once the session has ended."""
-        return {prefix: wire.text(said, self.width) for prefix, said in list(self.held.items())} if self.is_up else {}
+        return self.texts(self.held)
+
+    def texts(self, held):
+        return {prefix: wire.text(said, self.width) for prefix, said in list(held.items())} if self.is_up else {}

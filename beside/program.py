@@ -4,6 +4,8 @@ import os
 import re
 import subprocess
 
+import wire
+
 TOP = os.path.dirname(os.path.dirname(os.path.abspath(__file__)))
 BUILT = os.path.join(TOP, 'crates', 'replay_main', 'out', 'replay_main')
 LIMIT = 300  # seconds
@@ -11,8 +13,9 @@ LIMIT = 300  # seconds
 MARK = 'settled 255.255.255.255/32'
 
 # `sent` has a table for each peer that is up, `best` the rows of that link, `candidates` those of all `res.K`, `unresolved` the prefixes of
-# routes that no interior route resolves, `notes` the NOTIFICATIONs since the `idle` before: peer and octets
-Moment = collections.namedtuple('Moment', 'sent best candidates unresolved notes')
+# routes that no interior route resolves, `notes` the NOTIFICATIONs since the `idle` before: peer and octets; `again`, for each peer that
+# asked for all again since then and is up, what it was sent since it did
+Moment = collections.namedtuple('Moment', 'sent best candidates unresolved notes again')
 Step = collections.namedtuple('Step', 'number words ignored moment')  # `moment` behind an `idle` alone
 Best = collections.namedtuple('Best', 'peer preference med path origin hop')
 
@@ -70,18 +73,22 @@ def steps(program, path, before=None):
     lines, status = printed(before) if before else output(program, text)
     if status:
         raise Refused(refusal(lines, numbers) or 'the program ended with status %d' % status)
-    lines, told, tables, notes = iter(lines), [], {}, []
+    lines, told, tables, notes, again = iter(lines), [], {}, [], {}
     for number, words, is_marked in events:
         block = until_the_mark(lines) if is_marked else []
+        if words[0] == 'bgp' and 'ignored' not in block and wire.asks_again(bytes.fromhex(words[2])):
+            again[int(words[1])] = {}
         for line in block:
             said = line.split(' ')
             if said[0] == 'note':
                 notes.append((int(said[1]), said[2]))
+            elif said[0] == 'out' and int(said[1]) in again:
+                wire.take(again[int(said[1])], bytes.fromhex(said[2])[19:])
             elif said[0] in ('b', 'i', 'e', '+', '=', '-'):
                 change(tables, said)
         moment = None
         if words[0] == 'idle':
-            moment, notes = at(tables, notes), []
+            moment, notes, again = at(tables, notes, again, 4 if ['as4'] in (event[1] for event in events) else 2), [], {}
         told.append(Step(number, words, 'ignored' in block, moment))
     return told
 
@@ -118,14 +125,15 @@ def change(tables, words):
         tables[words[1]][words[2]] = words[-1]
 
 
-def at(tables, notes):
+def at(tables, notes, again, width):
     sent = {int(link.split('.')[1]): dict(rows) for link, rows in tables.items() if link.startswith('adv.')}
     candidates = collections.defaultdict(list)
     for link, rows in tables.items():
         if link.startswith('res.'):
             for prefix, value in rows.items():
                 candidates[prefix].append(value)
-    return Moment(sent, dict(tables['best']), candidates, unresolved(tables), notes)
+    said = {peer: {prefix: wire.text(one, width) for prefix, one in rows.items()} for peer, rows in again.items() if peer in sent}
+    return Moment(sent, dict(tables['best']), candidates, unresolved(tables), notes, said)
 
 
 def unresolved(tables):

@@ -8,6 +8,7 @@ and compares
 
   sessions       of each peer: whether its session is up
   adv            what each peer holds of what it was sent, read out of octets (wire.py), with `adv.J.S` of `replay run` on the file
+  again          of each peer that asked for all routes again since the last `idle`, and is up: what it was sent since it did
   best           the daemon's best routes, as it shows them, with `best`: the peer, preference, MED, path, ORIGIN and next hop
   notifications  that a peer was sent since the last `idle`, with the lines `note`
 
@@ -30,6 +31,7 @@ import namespaces
 import program
 import router
 import session
+import wire
 from compare import Counts, Difference, notes_apart, rows_apart
 from heard import Heard
 from routers import ROUTERS
@@ -49,6 +51,8 @@ class Run:
         for step in steps:
             if step.words[0] in ('as4', 'revised', 'local', 'peer'):
                 self.wanted.take(step.words)
+        # the capability is said where some peer asks for all routes again: a daemon needs it, and else may ask itself
+        self.refreshes = any(step.words[0] == 'bgp' and step.words[2][36:38] == '05' for step in steps)
         self.router_class, self.folder, self.router = router_class, folder, None
 
     def place(self):
@@ -107,7 +111,7 @@ class Run:
             made = session.connect(peer.address, (self.wanted.address, 179), CONNECTED_WITHIN)
             heard = self.sessions[number] = Heard(made, 4 if self.wanted.wide else 2)
             try:
-                heard.begin(peer)
+                heard.begin(peer, refreshes=self.refreshes)
                 return
             except session.Refused:
                 heard.close()
@@ -128,6 +132,9 @@ class Run:
         if self.sender not in (None, number):
             self.rest()
         self.sender = number
+        if wire.asks_again(bytes.fromhex(octets)):
+            self.rest()
+            heard.again = {}
         try:
             heard.socket.sendall(bytes.fromhex(octets))
         except OSError:
@@ -169,6 +176,8 @@ class Run:
                 found.append(Difference('session', number, None, 'up' if number in moment.sent else 'down', 'up' if is_up else 'down'))
             elif is_up:
                 found += rows_apart('adv', number, moment.sent[number], heard.rows(), counts)
+                if number in moment.again:
+                    found += rows_apart('again', number, moment.again[number], heard.texts(heard.again or {}), counts)
             said = [octets for peer, octets in moment.notes if peer == number]
             found += notes_apart(number, said, heard.notes if heard else [], counts)
         ours = {prefix: program.best_of_the_row(value) for prefix, value in moment.best.items()}
@@ -179,6 +188,7 @@ class Run:
     def end_of_moment(self):
         for heard in self.sessions.values():
             heard.notes.clear()
+            heard.again = None
 
     def stop(self):
         """Takes everything away again, whatever signals come."""
@@ -210,7 +220,7 @@ def report(name, place, step, found, counts, explain):
     for one in found:
         key = explain(one)
         unexplained += key is None
-        where = {'adv': 'adv.%d %s', 'best': 'best%.0s %s', 'session': 'session %d%.0s', 'notification': 'notification %d%.0s'}[one.kind]
+        where = {'adv': 'adv.%d %s', 'again': 'again.%d %s', 'best': 'best%.0s %s', 'session': 'session %d%.0s', 'notification': 'notification %d%.0s'}[one.kind]
         print('  %s: replay %s; %s %s; %s' % (where % (one.peer, one.prefix or ''), told(one.ours), name, told(one.theirs),
                                               'unexplained' if key is None else key))
     return unexplained

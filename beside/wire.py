@@ -8,11 +8,12 @@ import socket
 import struct
 
 MARKER = b'\xff' * 16
-OPEN, UPDATE, NOTIFICATION, KEEPALIVE = 1, 2, 3, 4
+OPEN, UPDATE, NOTIFICATION, KEEPALIVE, ROUTE_REFRESH = 1, 2, 3, 4, 5
 AS_TRANS = 23456  # stands for a number of four octets (RFC 6793)
 IPV4_UNICAST = bytes([2, 6, 1, 4, 0, 1, 0, 1])  # a capability (RFC 4760)
+REFRESH = bytes([2, 2, 2, 0])  # and that of RFC 2918
 ORIGIN, AS_PATH, NEXT_HOP, MED, LOCAL_PREF, ATOMIC_AGGREGATE, AGGREGATOR = range(1, 8)
-NAMES = {OPEN: 'OPEN', UPDATE: 'UPDATE', NOTIFICATION: 'NOTIFICATION', KEEPALIVE: 'KEEPALIVE', 5: 'ROUTE-REFRESH'}
+NAMES = {OPEN: 'OPEN', UPDATE: 'UPDATE', NOTIFICATION: 'NOTIFICATION', KEEPALIVE: 'KEEPALIVE', ROUTE_REFRESH: 'ROUTE-REFRESH'}
 
 Update = collections.namedtuple('Update', 'withdrawn attributes announced')
 
@@ -25,6 +26,11 @@ def opening(asn, identifier, hold=0, wide=False, families=IPV4_UNICAST):
     """An OPEN (section 4.2), with the capability of AS numbers of four octets if `wide`."""
     said = families + (bytes([2, 6, 65, 4]) + struct.pack('>I', asn) if wide else b'')
     return message(OPEN, struct.pack('>BHH4sB', 4, asn if asn < 65536 else AS_TRANS, hold, socket.inet_aton(identifier), len(said)) + said)
+
+
+def asks_again(octets):
+    """Whether a message asks for all routes of IPv4 unicast again (RFC 2918, section 3)."""
+    return len(octets) == 23 and octets[18] == ROUTE_REFRESH and octets[19:21] + octets[22:] == bytes([0, 1, 1])
 
 
 def told(kind, body):

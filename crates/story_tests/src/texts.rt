@@ -2,7 +2,7 @@
 
 use addr4::{Memory, Prefix, push_addr, push_number, push_prefix};
 use bgp_attr::{Aggregator, Attrs, Origin, Segment, SegmentKind, Unrecognized};
-use bgp_wire::{Message, Notice, Update};
+use bgp_wire::{Message, Notice, RouteRefresh, Update};
 
 fn push_text(out: &mut Vec<u8>, text: &str) -> Result<(), Memory> {
     out.extend_from_slice(text.as_bytes())?;
@@ -128,6 +128,14 @@ fn push_notice(out: &mut Vec<u8>, notice: &Notice) -> Result<(), Memory> {
     push_hex(out, notice.octets.as_slice())
 }
 
+/// `refresh AFI SAFI`, in hexadecimal digits.
+fn push_refresh(out: &mut Vec<u8>, asked: RouteRefresh) -> Result<(), Memory> {
+    push_text(out, "refresh ")?;
+    push_hex(out, &asked.afi.to_be_bytes())?;
+    push_text(out, " ")?;
+    push_hex(out, &[asked.safi])
+}
+
 /// What a message says, in words.
 pub(crate) fn push_message(out: &mut Vec<u8>, message: &Message) -> Result<(), Memory> {
     match message {
@@ -135,6 +143,7 @@ pub(crate) fn push_message(out: &mut Vec<u8>, message: &Message) -> Result<(), M
         Message::Keepalive => push_text(out, "keepalive"),
         Message::Notification => push_text(out, "notification"),
         Message::Skip => push_text(out, "skip"),
+        Message::Refresh(asked) => push_refresh(out, *asked),
         Message::Notify(notice) => push_notice(out, notice),
     }
 }
