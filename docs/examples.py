@@ -34,6 +34,9 @@ TOPICS = [
     ('What peers are sent', 'docs/BGP.md, "What is sent".',
      'quiet_exits slow_and_fast rules_edited_in_the_middle rules_of_a_down_peer same_rules_again too_long_to_send '
      'one_octet_too_long'),
+    ('Routes that are sent again', 'RFC 2918; docs/BGP.md, "Route refresh".',
+     'refreshed refresh_between_turns refresh_during_losses refresh_under_new_rules sixty_four_refreshes '
+     'refresh_of_a_wrong_length'),
     ('Interior routes', 'docs/LANGUAGE.md.',
      'merged protocol_losses seventeenth_protocol_loss longest_matches'),
     ('Routes of this speaker\'s own', 'docs/LANGUAGE.md, "Redistribution".',
@@ -64,6 +67,7 @@ TOPICS = [
      'lines no_lines longest_lines line_too_long_at_the_end unprintable_byte unprintable_byte_in_a_comment no_event '
      'undeclared peer_not_declared_out local_twice local_65536 local_4294967296 local_4294967296_of_two as_0 as_0_of_four '
      'path_65536 peer_70000 peer_65 peer_65_of_a_used_address rules_65 rules_65_out rules_65_of_no_peer '
+     'refresh_of_no_peer refresh_without_a_number '
      'redist_before_local settled_before_local settled_no_prefix settled_two_prefixes settled_33_bits only_the_two_lines '
      'as4_twice as4_after_local as4_then_no_local as4_with_a_word revised_twice revised_after_local revised_with_a_word'),
     ('Journals that `check` judges', 'docs/OUTPUT.md.',
