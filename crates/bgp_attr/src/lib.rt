@@ -24,7 +24,7 @@ mod unrecognized;
 pub use attrs::{Aggregator, Attrs, Origin, SharedAttrs};
 pub use hosts::{is_host, is_host_prefix};
 pub use octets::Octets;
-pub use path::{AsPath, Numbers, Segment, SegmentKind};
+pub use path::{AsPath, Numbers, Segment, SegmentKind, SegmentView, Segments};
 pub use route::Route;
 pub use speaker::{Neighbour, Profile, Speaker};
 pub use unrecognized::{Unrecognized, UnrecognizedAttrs};
