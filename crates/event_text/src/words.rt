@@ -21,10 +21,16 @@ pub fn is_clean(line: &[u8]) -> bool
     line.len() <= 16384 && all_printable(line)
 }
 
+// It looks at every byte, so that many are looked at at once.
+#[tactic(auto, using(std::proofs::lemmas::List::Folds::list_all_more))]
 fn all_printable(line: &[u8]) -> bool
     ensures { result ≡ list_all (λ b. nat_le 32 b && nat_le b 126) line.now }
 {
-    line.iter().all(|byte| 32 <= *byte && *byte <= 126)
+    let mut all = true;
+    for byte in line {
+        all &= 32 <= *byte && *byte <= 126;
+    }
+    all
 }
 
 /// Whether there is no word.
