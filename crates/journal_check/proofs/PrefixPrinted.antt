@@ -36,7 +36,7 @@ all_digits (c ∷ cs) all =
 numeral_text : (text : List ℕ) → is_numeral text ≡ true → digits_value 10 text < 2 ^ 64 → decimal (digits_value 10 text) ≡ text
 numeral_text text is small =
     let digits = digits_of_numeral text is in
-    let first : (nat_eq (length text) 1 || not (nat_eq (get_or text 0 0) 48)) ≡ true = and_right _ _ (and_left _ _ is) in
+    let first : (nat_eq (length text) 1 || not (nat_eq (get_or text 0 0) 48)) ≡ true = and_right (not (nat_eq (length text) 0)) (nat_eq (length text) 1 || not (nat_eq (get_or text 0 0) 48)) (and_left _ _ is) in
     decimal-digits_value (numerals_by_value (AllDigits 10) tells_digits) text (all_digits text digits.0) digits.1 (λ (zero_first : get_or text 0 0 ≡ 48). grind (arith, nat_tests, first, zero_first)) small
 
 -- the number that a text spells, and the text that the number has
