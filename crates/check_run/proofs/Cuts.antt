@@ -1,13 +1,11 @@
 -- Texts cut into lines.
-use Rattle.std.proofs.Common.{◌≡◌, ℕ, suc, ◌+◌, ◌-◌, ◌<◌, ◌≤◌, Bool, true, false, cond, List, [], ◌∷◌, ◌++◌, length, take, get_or, nat_eq, Option, Some, None, refl, sym, ap, ◌∙◌, arith, subst, append_assoc, length-append, length-take}
-use Rattle.std.proofs.lemmas.List.{append-nil}
-use Rattle.std.proofs.lemmas.List.Elements.{All-cons}
-use Rattle.std.proofs.lemmas.List.Splits.{slice_split_at, slice_split_none, slice_split-cons_no, length-slice_split, join_with_byte-slice_split}
+use Rattle.std.proofs.Common.{◌≡◌, ℕ, suc, ◌+◌, ◌-◌, ◌<◌, ◌≤◌, Bool, true, false, cond, List, [], ◌∷◌, ◌++◌, length, take, get_or, nat_eq, refl, ap, ◌∙◌, arith, append_assoc, length-append, length-take}
+use Rattle.std.proofs.lemmas.List.Splits.{slice_split_at, slice_split_none, slice_split-cons_no, length-slice_split}
 use Rattle.std.proofs.lemmas.Bool.Decides.{nat_tests}
-use Rattle.std.specs.List.{AllByRecursion, flat_map, onto_first, join_with_byte}
+use Rattle.std.specs.List.{AllByRecursion, flat_map, onto_first}
 use Rattle.std.specs.Str.Lines.{lines_of_parts, strip_carriage_return}
-use Rattle.addr4.specs.Texts.{parts, parts_after}
-use Rattle.check_run.specs.Lines.{IsPart, ended, lines_of, lines_in, after_part}
+use Rattle.addr4.specs.Texts.{parts}
+use Rattle.check_run.specs.Lines.{IsPart, ended, lines_of, lines_in}
 
 parts_some : (text : List ℕ) → 0 < length (parts 10 text)
 parts_some text = omega (arith, length-slice_split (λ b. nat_eq b 10) text)
@@ -82,22 +80,3 @@ goes_into line more some part = by_parts (parts 10 more) refl (parts_some more)
 
 pub no_bytes : IsPart []
 no_bytes = λ k d below. absurd (omega arith)
-
-joined : (x : List ℕ) (ps : List (List ℕ)) → 0 < length ps → join_with_byte 10 (x ∷ ps) ≡ x ++ 10 ∷ join_with_byte 10 ps
-joined x [] some = absurd (omega arith)
-joined x (p ∷ ps) some = refl
-
--- a text is its first part, and what follows the LF behind it
-pub cut_whole : (text first : List ℕ) (rest : Option (List ℕ)) → parts 10 text ≡ first ∷ parts_after 10 rest → text ≡ first ++ after_part rest
-cut_whole text first None e = sym (join_with_byte-slice_split 10 text) ∙ (ap (join_with_byte 10) e ∙ sym (append-nil first))
-cut_whole text first (Some r) e = sym (join_with_byte-slice_split 10 text) ∙ (ap (join_with_byte 10) e ∙ (joined first (parts 10 r) (parts_some r) ∙ ap (λ t. first ++ 10 ∷ t) (join_with_byte-slice_split 10 r)))
-
--- no LF stands in a first part
-pub cut_part : (text first : List ℕ) (ps : List (List ℕ)) → parts 10 text ≡ first ∷ ps → IsPart first
-cut_part [] first ps e = let none : [] ≡ first = cc in subst IsPart none no_bytes
-cut_part (b ∷ bs) first ps e = by_byte (nat_eq b 10) refl (parts 10 bs) refl (λ q qs same. cut_part bs q qs same) e
-  where
-    by_byte : (ends : Bool) → nat_eq b 10 ≡ ends → (others : List (List ℕ)) → parts 10 bs ≡ others → ((q : List ℕ) (qs : List (List ℕ)) → parts 10 bs ≡ q ∷ qs → IsPart q) → cond ends ([] ∷ others) (onto_first b others) ≡ first ∷ ps → IsPart first
-    by_byte true is others same ih e = let none : [] ≡ first = cc in subst IsPart none no_bytes
-    by_byte false is [] same ih e = absurd (omega (arith, parts_some bs, ap length same))
-    by_byte false is (q ∷ qs) same ih e = let here : b ∷ q ≡ first = cc in subst IsPart here (All-cons (λ c. nat_eq c 10 ≡ false) b q is (ih q qs same))

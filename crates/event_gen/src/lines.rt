@@ -116,14 +116,31 @@ fn push_numbered(out: &mut Vec<u8>, text: &[u8], number: u8) -> Result<(), Memor
     push_number(out, u64::from(number))
 }
 
+/// The hex digits of octets, written where they stay.
+fn push_hex(out: &mut Vec<u8>, octets: &[u8]) -> Result<(), Memory>
+    ensures { OnOk result (out.new.items ≡ out.old.items ++ encode_lower octets.now) }
+{
+    let start = out.len();
+    let Some(room) = octets.len().checked_mul(2) else {
+        return Err(Memory);
+    };
+    let Some(end) = start.checked_add(room) else {
+        return Err(Memory);
+    };
+    out.resize(end, 0)?;
+    match hex::encode_to_slice(octets, &mut out[start..]) {
+        Ok(()) => Ok(()),
+        Err(_) => unreachable!(),
+    }
+}
+
 /// `bgp K HEX`
-fn push_message(alloc: Global, out: &mut Vec<u8>, peer: u8, octets: &[u8]) -> Result<(), Memory>
+fn push_message(out: &mut Vec<u8>, peer: u8, octets: &[u8]) -> Result<(), Memory>
     ensures { OnOk result (out.new.items ≡ out.old.items ++ join_with_byte 32 (codes "bgp" ∷ decimal peer ∷ encode_lower octets.now ∷ [])) }
 {
     push_numbered(out, b"bgp ", peer)?;
     out.push(b' ')?;
-    let digits = hex::encode(alloc, octets)?;
-    push_text(out, digits.as_bytes())
+    push_hex(out, octets)
 }
 
 /// `filter in K any pref N accept`
@@ -187,11 +204,11 @@ pub(crate) fn push_event(alloc: Global, out: &mut Vec<u8>, event: Drawn) -> Resu
     match event {
         Drawn::Announce(peer, x, origin, med) => {
             let octets = announce_octets(alloc, peer, x, origin, med)?;
-            push_message(alloc, out, peer, octets.as_slice())
+            push_message(out, peer, octets.as_slice())
         }
         Drawn::Withdraw(peer, x) => {
             let octets = withdraw_octets(alloc, x)?;
-            push_message(alloc, out, peer, octets.as_slice())
+            push_message(out, peer, octets.as_slice())
         }
         Drawn::Down(peer) => push_numbered(out, b"down ", peer),
         Drawn::Up(peer) => push_numbered(out, b"up ", peer),

@@ -1,5 +1,6 @@
 pub mod Lookups
 pub mod Sessions
 pub mod WordLemmas
+mod OctetLemmas
 pub mod WellFormedLemmas
 pub mod DeclarationLemmas

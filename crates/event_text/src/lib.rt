@@ -6,6 +6,7 @@
 #![tactic(auto)]
 
 mod declared;
+mod digits;
 mod event;
 mod grammar;
 mod words;

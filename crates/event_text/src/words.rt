@@ -6,9 +6,9 @@ ghost use Rattle.journal_text.specs.Names.{proto_of};
 ghost use Rattle.policy_rules.specs.Words.{words};
 ghost use Rattle.event_text.specs.Words.{is_clean, from_one, speaker_of, octets_of, way_out, way_over, interior_of, switch_of};
 
+use crate::digits::{are_digits, decode};
 use addr4::{Addr, Memory, read_addr, read_number, read_number_below};
 use bgp_attr::{Octets, Profile, Speaker, is_host};
-use hex::FromHexError;
 use policy_rules::first_word;
 use rib_route::{Iface, Interior, Proto};
 use std::alloc::Global;
@@ -21,10 +21,16 @@ pub fn is_clean(line: &[u8]) -> bool
     line.len() <= 16384 && all_printable(line)
 }
 
+// It looks at every byte, so that many are looked at at once.
+#[tactic(auto, using(std::proofs::lemmas::List::Folds::list_all_more))]
 fn all_printable(line: &[u8]) -> bool
     ensures { result ≡ list_all (λ b. nat_le 32 b && nat_le b 126) line.now }
 {
-    line.iter().all(|byte| 32 <= *byte && *byte <= 126)
+    let mut all = true;
+    for byte in line {
+        all &= 32 <= *byte && *byte <= 126;
+    }
+    all
 }
 
 /// Whether there is no word.
@@ -64,20 +70,19 @@ pub fn speaker(profile: Profile, text: &[u8]) -> Option<Speaker>
 }
 
 /// The octets that hex digits spell, at least one.
-#[tactic(auto, unfolding(crate::specs::Words::octets_of))]
+#[tactic(auto, using(crate::proofs::OctetLemmas::octets_empty, crate::proofs::OctetLemmas::octets_odd, crate::proofs::OctetLemmas::octets_other))]
 pub fn octets(alloc: Global, digits: &[u8]) -> Result<Option<Octets>, Memory>
     ensures { IfOk result (λ octets. octets ≡ octets_of digits.now) }
 {
-    match hex::decode(alloc, digits) {
-        Ok(octets) => {
-            if octets.is_empty() {
-                return Ok(None);
-            }
-            Ok(Some(Octets::from_vec(octets)))
-        }
-        Err(FromHexError::OutOfMemory) => Err(Memory),
-        Err(_) => Ok(None),
+    if digits.is_empty() {
+        return Ok(None);
     }
+    if digits.len() % 2 != 0 || !are_digits(digits) {
+        return Ok(None);
+    }
+    let mut octets = vec![in alloc; 0u8; digits.len() / 2]?;
+    decode(digits, octets.as_mut_slice());
+    Ok(Some(Octets::from_vec(octets)))
 }
 
 /// The protocol of a word.

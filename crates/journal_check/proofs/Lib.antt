@@ -6,5 +6,6 @@ pub mod WordLemmas
 pub mod JudgeLemmas
 pub mod InkLemmas
 pub mod PrefixBack
+mod PrefixPrinted
 pub mod LineBack
 pub mod OneAnswer

@@ -105,13 +105,13 @@ pub ink_addr : (a : ℕ) → AreInk (addr_text a)
 unfolding addr_text
 ink_addr a = ink_dotted (to_be_bytes w32 a) (octets_are a)
 
-slashless : (a : ℕ) → AllByRecursion (λ c. nat_eq c 47 ≡ false) (addr_text a)
+pub slashless : (a : ℕ) → AllByRecursion (λ c. nat_eq c 47 ≡ false) (addr_text a)
 unfolding addr_text
 slashless a = dotted_are (λ c. nat_eq c 47 ≡ false) not_slash refl (to_be_bytes w32 a) (octets_are a)
 
 -- ---- prefixes
 
-slashless_length : (n : ℕ) → n ≤ 32 → AllByRecursion (λ c. nat_eq c 47 ≡ false) (decimal n)
+pub slashless_length : (n : ℕ) → n ≤ 32 → AllByRecursion (λ c. nat_eq c 47 ≡ false) (decimal n)
 slashless_length n small = decimal_are (λ c. nat_eq c 47 ≡ false) not_slash n (omega arith)
 
 pub ink_prefix : (p : Network) → IsPrefix p → AreInk (prefix_text p)

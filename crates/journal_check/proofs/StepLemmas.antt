@@ -13,6 +13,7 @@ use Rattle.link_change.proofs.RowLemmas.{same_function, empty_rows}
 use Rattle.journal_text.specs.Links.{same_link, kind_of, owner_of, number_of}
 use Rattle.journal_text.specs.Walk.{Links, no_links, with_link, with_row_on}
 use Rattle.journal_text.specs.declared.link.Link.{Link}
+use Rattle.journal_text.proofs.LinkLemmas.{same_link-yes}
 use Rattle.journal_check.specs.Maps.{key_of, key_cmp, LinkMap, RowMap, links_of}
 use Rattle.journal_check.proofs.KeyLemmas.{keys_total}
 
@@ -49,14 +50,6 @@ links_taken m link = same_function _ _ (λ (q : Link).
 pub links_begin : links_of map.empty ≡ no_links
 links_begin = same_function _ _ (λ (q : Link). ap (option_map map.get) (get-empty key_cmp (key_of q)))
 
-twice : {A : Type 0} (b : Bool) (x y z : A) → cond b x (cond b y z) ≡ cond b x z
-twice true x y z = refl
-twice false x y z = refl
-
--- what was set before is gone
-with_link_twice : {V : Type 0} (links : Links V) (link : Link) (x y : Option (Rows V)) → with_link (with_link links link x) link y ≡ with_link links link y
-with_link_twice links link x y = same_function _ _ (λ (q : Link). twice (same_link q link) y x (links q))
-
 -- the link begins without rows
 pub begun : (m n : LinkMap) (link : Link) (rows : RowMap) → rows ≡ map.empty → n ≡ map.insert m (key_of link) rows → links_of n ≡ with_link (links_of m) link (Some no_rows)
 begun m n link rows none is = ap links_of is ∙ (links_put m link rows ∙ ap (λ (r : Rows (List ℕ)). with_link (links_of m) link (Some r)) (ap map.get none ∙ empty_rows))
@@ -69,15 +62,23 @@ inherited m n link from rows copy has same is =
 pub inherited_none : (m n : LinkMap) (link from : Link) → map.get m (key_of from) ≡ None → n ≡ map.remove m (key_of link) → links_of n ≡ with_link (links_of m) link (links_of m from)
 inherited_none m n link from none is = ap links_of is ∙ (links_taken m link ∙ ap (with_link (links_of m) link) (sym (ap (option_map map.get) none)))
 
--- the rows are taken out, one is set, and they are put back
-pub row_set : (m taken n : LinkMap) (link : Link) (rows now : RowMap) (p : Network) (row : Option (List ℕ)) → taken ≡ map.remove m (key_of link) → Some rows ≡ map.get m (key_of link) → map.get now ≡ with_row (map.get rows) p row → n ≡ map.insert taken (key_of link) now
+-- a row of a link that is live is set, or taken out
+pub row_set : (m n : LinkMap) (link : Link) (rows now : RowMap) (p : Network) (row : Option (List ℕ)) → Some rows ≡ map.get m (key_of link) → map.get now ≡ with_row (map.get rows) p row → n ≡ map.insert m (key_of link) now
     → links_of n ≡ with_row_on (links_of m) link p row
-row_set m taken n link rows now p row out has set back =
-    ap links_of back ∙ (links_put taken link now ∙ (ap (λ (l : Links (List ℕ)). with_link l link (Some (map.get now))) (ap links_of out ∙ links_taken m link)
-    ∙ (with_link_twice (links_of m) link None (Some (map.get now))
-    ∙ ap (with_link (links_of m) link) (ap (λ (r : Rows (List ℕ)). Some r) set ∙ ap (λ (f : Option (Rows (List ℕ))). option_map (λ rs. with_row rs p row) f) (ap (option_map map.get) has)))))
+row_set m n link rows now p row has set put =
+    ap links_of put ∙ (links_put m link now
+    ∙ ap (with_link (links_of m) link) (ap (λ (r : Rows (List ℕ)). Some r) set ∙ ap (λ (f : Option (Rows (List ℕ))). option_map (λ rs. with_row rs p row) f) (ap (option_map map.get) has)))
 
--- there are no rows
-pub row_unset : (m n : LinkMap) (link : Link) (p : Network) (row : Option (List ℕ)) → n ≡ map.remove m (key_of link) → map.get m (key_of link) ≡ None → links_of n ≡ with_row_on (links_of m) link p row
-row_unset m n link p row out none =
-    ap links_of out ∙ (links_taken m link ∙ ap (with_link (links_of m) link) (sym (ap (λ (f : Option (Rows (List ℕ))). option_map (λ rs. with_row rs p row) f) (ap (option_map map.get) none))))
+not_live : (links : Links (List ℕ)) (link q : Link) → links link ≡ None → links q ≡ with_link links link None q
+not_live links link q none = by_same (same_link q link) refl
+  where
+    by_same : (same : Bool) → same_link q link ≡ same → links q ≡ cond same None (links q)
+    by_same true is = ap links (same_link-yes q link is) ∙ none
+    by_same false is = refl
+
+-- a link that isn't live has no row
+pub row_unset : (m n : LinkMap) (link : Link) (p : Network) (row : Option (List ℕ)) → n ≡ m → map.get m (key_of link) ≡ None → links_of n ≡ with_row_on (links_of m) link p row
+row_unset m n link p row same none =
+    let gone : links_of m link ≡ None = ap (option_map map.get) none in
+    ap links_of same ∙ (same_function _ _ (λ (q : Link). not_live (links_of m) link q gone)
+    ∙ ap (with_link (links_of m) link) (sym (ap (λ (f : Option (Rows (List ℕ))). option_map (λ rs. with_row rs p row) f) gone)))

@@ -5,7 +5,7 @@ ghost use Rattle.std.specs.Option.{option_copied};
 ghost use Rattle.std.specs.FinMap as map;
 ghost use Rattle.journal_check.specs.Maps.{key_of, links_of};
 ghost use Rattle.link_change.specs.Rows.{no_rows};
-ghost use Rattle.journal_text.specs.Walk.{HasRow, HaveSameRows, with_link};
+ghost use Rattle.journal_text.specs.Walk.{HasRow, HaveSameRows, with_link, with_row_on};
 ghost use Rattle.journal_text.specs.Links.{proto_number};
 
 use crate::rows::TextRows;
@@ -169,5 +169,26 @@ impl LiveLinks {
         ensures taken { self.new ≡ map.remove self.old (key_of link) }
     {
         self.maps.remove(&key_of(link))
+    }
+
+    /// Sets a row of a link, if it is live.
+    pub(crate) fn set_row(&mut self, link: Link, p: Prefix, text: Text) -> Result<(), Memory>
+        ensures { OnOk result (links_of self.new ≡ with_row_on (links_of self.old) link p (Some text)) }
+    {
+        let Some(rows) = self.maps.get_mut(&key_of(link)) else {
+            return Ok(());
+        };
+        rows.put(p, text)?;
+        Ok(())
+    }
+
+    /// Takes a row of a link out, if it is live.
+    pub(crate) fn drop_row(&mut self, link: Link, p: Prefix)
+        ensures { links_of self.new ≡ with_row_on (links_of self.old) link p None }
+    {
+        let Some(rows) = self.maps.get_mut(&key_of(link)) else {
+            return;
+        };
+        rows.take(p);
     }
 }

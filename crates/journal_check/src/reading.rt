@@ -1,14 +1,15 @@
 //! Reading a line of a journal.
 
-ghost use Rattle.std.specs.Prelude.{◌≡◌, ◌&&◌, nat_le, IfOk, option_map};
+ghost use Rattle.std.specs.Prelude.{◌≡◌, ◌∷◌, ◌&&◌, nat_le, IfOk, option_map};
 ghost use Rattle.std.specs.List.{list_all};
-ghost use Rattle.addr4.specs.Texts.{parts};
+ghost use Rattle.addr4.specs.Texts.{parts, parts_after};
 ghost use Rattle.journal_text.specs.declared.entry.Entry.TheVariants as entries;
-ghost use Rattle.journal_check.specs.Readings.{answer_of, as_printed, entry_from, entry_of_five, entry_of_four, entry_of_three, entry_of_two, entry_on_both, entry_on_row, entry_on_two, is_clean, is_skipped, printed_prefix, reading_of, value_of};
+ghost use Rattle.journal_check.specs.Readings.{answer_of, entry_from, entry_of_five, entry_of_four, entry_of_three, entry_of_two, entry_on_both, entry_on_row, entry_on_two, is_clean, is_skipped, printed_prefix, reading_of, value_of};
 
 use crate::text::Text;
-use addr4::{Memory, Prefix, first_part, push_prefix, read_prefix};
+use addr4::{Memory, Prefix, first_part, read_addr, read_number_below};
 use journal_text::{Entry, Link};
+use memchr::memchr;
 use std::alloc::Global;
 
 /// What a line of a journal says.
@@ -29,10 +30,16 @@ fn is_clean(line: &[u8]) -> bool
     line.len() <= 65536 && all_printable(line)
 }
 
+// It looks at every byte, so that many are looked at at once.
+#[tactic(auto, using(std::proofs::lemmas::List::Folds::list_all_more))]
 fn all_printable(line: &[u8]) -> bool
     ensures { result ≡ list_all (λ b. nat_le 32 b && nat_le b 126) line.now }
 {
-    line.iter().all(|byte| 32 <= *byte && *byte <= 126)
+    let mut all = true;
+    for byte in line {
+        all &= 32 <= *byte && *byte <= 126;
+    }
+    all
 }
 
 // Whether a line with this first word is no entry.
@@ -55,28 +62,24 @@ fn is_skipped(word: &[u8]) -> bool
         || word == b"total".as_slice()
 }
 
-// The prefix, if this is how it is printed.
-#[tactic(auto, unfolding(crate::specs::Readings::as_printed))]
-fn as_printed(alloc: Global, word: &[u8], p: Prefix) -> Result<Option<Prefix>, Memory>
-    ensures { IfOk result (λ r. r ≡ as_printed word.now p) }
+// The prefix of a word that is exactly as it is printed. Numbers that are read have no leading zeros, so that is where the
+// address has no bits beyond the length.
+#[tactic(auto, using(addr4::proofs::PartLemmas::no_third_part), unfolding(crate::specs::Readings::printed_prefix, addr4::specs::Texts::prefix_of))]
+fn printed_prefix(word: &[u8]) -> Option<Prefix>
+    ensures { result ≡ printed_prefix word.now }
 {
-    let mut text = Vec::new(alloc);
-    push_prefix(&mut text, p)?;
-    if word == text.as_slice() {
-        Ok(Some(p))
-    } else {
-        Ok(None)
+    let (addr, rest) = first_part(word, b'/');
+    let (length, more) = first_part(rest?, b'/');
+    if let Some(_more) = more {
+        return None;
     }
-}
-
-// The prefix of a word that is exactly as it is printed.
-#[tactic(auto, unfolding(crate::specs::Readings::printed_prefix))]
-fn printed_prefix(alloc: Global, word: &[u8]) -> Result<Option<Prefix>, Memory>
-    ensures { IfOk result (λ r. r ≡ printed_prefix word.now) }
-{
-    match read_prefix(word) {
-        Err(_) => Ok(None),
-        Ok(p) => as_printed(alloc, word, p),
+    let addr = read_addr(addr).ok()?;
+    let length = read_number_below(length, 33)?;
+    let prefix = Prefix::new(addr, length as u8)?;
+    if prefix.address() == addr {
+        Some(prefix)
+    } else {
+        None
     }
 }
 
@@ -159,7 +162,7 @@ fn entry_of_four(
     let Some(link) = Link::read(link) else {
         return Ok(None);
     };
-    match printed_prefix(alloc, prefix)? {
+    match printed_prefix(prefix) {
         None => Ok(None),
         Some(p) => entry_on_row(alloc, command, link, p, value),
     }
@@ -250,7 +253,7 @@ fn entry_of_five(
     let Some(link) = Link::read(link) else {
         return Ok(None);
     };
-    match printed_prefix(alloc, prefix)? {
+    match printed_prefix(prefix) {
         None => Ok(None),
         Some(p) => entry_on_both(alloc, link, p, old, new),
     }
@@ -275,6 +278,16 @@ fn entry_on_both(
     }
 }
 
+// The part before the first space, and what follows it, as `first_part`, but found by blocks of bytes: for parts that are long.
+fn long_part(text: &[u8]) -> (&[u8], Option<&[u8]>)
+    ensures { parts 32 text.now ≡ result.0.now ∷ parts_after 32 (option_map (λ r. r.now) result.1) }
+{
+    match memchr(b' ', text) {
+        Some(at) => (&text[..at], Some(&text[at + 1..])),
+        None => (text, None),
+    }
+}
+
 // The entry of the words of a line.
 #[tactic(auto, using(crate::proofs::WordLemmas::no_sixth_word), unfolding(crate::specs::Readings::entry_from))]
 fn entry(alloc: Global, line: &[u8]) -> Result<Option<Entry<Text>>, Memory>
@@ -292,11 +305,11 @@ fn entry(alloc: Global, line: &[u8]) -> Result<Option<Entry<Text>>, Memory>
     let Some(rest) = rest else {
         return Ok(entry_of_three(command, link, prefix));
     };
-    let (old, rest) = first_part(rest, b' ');
+    let (old, rest) = long_part(rest);
     let Some(rest) = rest else {
         return entry_of_four(alloc, command, link, prefix, old);
     };
-    let (new, more) = first_part(rest, b' ');
+    let (new, more) = long_part(rest);
     if let Some(_more) = more {
         return Ok(None);
     }

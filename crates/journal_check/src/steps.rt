@@ -1,7 +1,7 @@
 //! What an entry demands of the live links, and what it makes of them.
 
-ghost use Rattle.std.specs.Prelude.{◌≡◌, ◌↔◌, ◌≢◌, List, ℕ, IsTrue, Some, None, OnOk};
-ghost use Rattle.journal_text.specs.Walk.{Demands, HaveSameRows, after, with_link, with_row_on};
+ghost use Rattle.std.specs.Prelude.{◌≡◌, ◌↔◌, ◌≢◌, List, ℕ, IsTrue, None, OnOk};
+ghost use Rattle.journal_text.specs.Walk.{Demands, HaveSameRows, after, with_link};
 ghost use Rattle.journal_check.specs.Maps.{links_of};
 
 use crate::links::LiveLinks;
@@ -43,7 +43,10 @@ impl LiveLinks {
             Entry::Begin(link) => self.begin(link),
             Entry::Inherit(link, from) => self.inherit(link, from),
             Entry::Add(link, p, new) => self.set_row(link, p, new),
-            Entry::Delete(link, p, _old) => self.drop_row(link, p),
+            Entry::Delete(link, p, _old) => {
+                self.drop_row(link, p);
+                Ok(())
+            }
             Entry::Replace(link, p, _old, new) => self.set_row(link, p, new),
             Entry::Asked(_link, _p, _row) => Ok(()),
             Entry::Weld(upper, _lower) => {
@@ -73,30 +76,6 @@ impl LiveLinks {
             return Ok(());
         };
         let rows = rows.copy()?;
-        self.put(link, rows)?;
-        Ok(())
-    }
-
-    // Sets a row of a link, if it is live.
-    fn set_row(&mut self, link: Link, p: Prefix, text: Text) -> Result<(), Memory>
-        ensures { OnOk result (links_of self.new ≡ with_row_on (links_of self.old) link p (Some text)) }
-    {
-        let Some(mut rows) = self.take(link) else {
-            return Ok(());
-        };
-        rows.put(p, text)?;
-        self.put(link, rows)?;
-        Ok(())
-    }
-
-    // Takes a row of a link out, if it is live.
-    fn drop_row(&mut self, link: Link, p: Prefix) -> Result<(), Memory>
-        ensures { OnOk result (links_of self.new ≡ with_row_on (links_of self.old) link p None) }
-    {
-        let Some(mut rows) = self.take(link) else {
-            return Ok(());
-        };
-        rows.take(p);
         self.put(link, rows)?;
         Ok(())
     }

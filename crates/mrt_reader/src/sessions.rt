@@ -31,7 +31,6 @@ pub(crate) struct PeerState {
 /// What the lines so far have said.
 #[derive(Drop)]
 pub(crate) struct Written {
-    alloc: Global,
     local: Option<Addr>,
     /// The peers, of which the first is number 1.
     peers: Vec<PeerState>,
@@ -62,7 +61,6 @@ impl Written {
         ensures { result ≡ nothing_written }
     {
         Written {
-            alloc,
             local: None,
             peers: Vec::new(alloc),
         }
@@ -159,8 +157,9 @@ impl Written {
         ensures lines { OnOk result (out.new.items ≡ out.old.items ++ text_of (hearing (place + 1) (peer_at self.old place) (Message octets.now))) }
         ensures behind { OnOk result (self.new ≡ after_all self.old (hearing (place + 1) (peer_at self.old place) (Message octets.now))) }
     {
+        let _count = self.peers.len();
         match self.begin(place, out)? {
-            Some(number) => push_message(self.alloc, out, number, octets),
+            Some(number) => push_message(out, number, octets),
             None => Ok(()),
         }
     }
