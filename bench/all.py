@@ -174,7 +174,9 @@ def ratio(one, other):
 
 def cells(one):
     """Seconds and memory of who was measured, as they are printed."""
-    return ['%.2f, %.2f' % (one['least'], one['seconds']), '%.0f' % one['mib']] if one else ['', '']
+    if not one:
+        return ['', '']
+    return [', '.join(('%.2f' if one[key] >= 1 else '%.3f') % one[key] for key in ('least', 'seconds')), '%.0f' % one['mib']]
 
 
 def lines_of(rows, name, size, before):

@@ -165,7 +165,7 @@ class Played:
     def take_idle(self):
         """Waits until what the last event has to bring about is seen; where nothing is to be seen, longer than BIRD pauses."""
         self.taken()
-        daemons.wait(self.done or (lambda: True), self.daemon, quiet=.2 if self.done else PAUSE)
+        daemons.wait(self.done or (lambda: True), self.daemon, 600, .2 if self.done else PAUSE)
         self.before, self.done = self.observer.told if self.observer else 0, None
 
     def take_refresh(self, number, octets):
