@@ -1,19 +1,13 @@
-"""Real BGP daemons, where they are installed: CPU seconds and peak memory for one peer's table that goes to another peer.
+"""Real BGP daemons, where they are installed: how they are started, fed and looked at.
 
 A daemon runs in a network namespace of its own, with one interface and no routes of the kernel; beside it two speakers of this
-script: AS 65001 sends the table, AS 65002 receives it. CPU is user and system time of all the daemon's processes, from its
-start until the receiver has every prefix (and then from the sender's loss until it has every withdrawal); memory is the
-sum of their peak resident sets. Needs root and `ip netns`. A daemon decides, runs a filter that accepts all, and packs prefixes
-of equal attributes into one UPDATE.
+script: AS 65001 sends a table, AS 65002 receives it (played.py makes more of them, and measures). Needs root and `ip netns`.
 """
 import os
 import shutil
-import socket
 import struct
 import subprocess
 import sys
-import tempfile
-import threading
 import time
 
 sys.path.insert(0, os.path.join(os.path.dirname(os.path.abspath(__file__)), '..', 'beside'))
@@ -59,13 +53,13 @@ router bgp 65000
 
 
 class Speaker(session.Connection):
-    """A session with the daemon, with AS numbers of four octets if asked for; counts the prefixes that it was sent and that were
-    withdrawn."""
+    """A session with the daemon, with AS numbers of four octets and the capability of RFC 2918 if asked for; counts the prefixes
+    that it was sent and that were withdrawn."""
 
-    def __init__(self, address, asn, wide=False):
-        self.announced, self.withdrawn, self.failed = set(), 0, None
+    def __init__(self, address, asn, wide=False, refreshes=False):
+        self.announced, self.told, self.withdrawn, self.failed = set(), 0, 0, None
         super().__init__(session.connect(address, (DAEMON, 179), 20))
-        self.open(wire.opening(asn, address, 0, wide), 60)
+        self.open(wire.opening(asn, address, 0, wide, wire.IPV4_UNICAST + (wire.REFRESH if refreshes else b'')), 60)
 
     def listen(self):
         """Reads until the daemon closes the session."""
@@ -86,7 +80,9 @@ class Speaker(session.Connection):
             self.withdrawn += 1
         behind = 2 + length
         length = struct.unpack('>H', body[behind:behind + 2])[0]
-        self.announced.update(split(body[behind + 2 + length:]))
+        came = list(split(body[behind + 2 + length:]))
+        self.announced.update(came)
+        self.told += len(came)
 
 
 class Daemon(spaces.Started):
@@ -135,34 +131,14 @@ def no_namespaces():
         spaces.delete(name)
 
 
-def wait(done, daemon, seconds=120):
-    """Waits until that holds and the daemon takes hardly any CPU."""
-    last = 0
+def wait(done, daemon, seconds=120, quiet=.2):
+    """Waits until that holds and the daemon has taken hardly any CPU for so long."""
+    last, since = 0, 0
     for _ in range(seconds * 5):
         time.sleep(.2)
         used = daemon.used()[0]
-        if done() and used - last < .002:
+        since = since + .2 if done() and used - last < .002 else 0
+        if since >= quiet:
             return
         last = used
     raise TimeoutError('the daemon is not done')
-
-
-def measure(name, start, config, messages, count):
-    """CPU seconds and peak MiB of a table, and CPU seconds of its loss. Runs in the speakers' namespace."""
-    with tempfile.TemporaryDirectory(prefix='bench-') as folder:
-        daemon = Daemon(name, folder, start, config)
-        try:
-            receiver = Speaker(RECEIVER, 65002)
-            threading.Thread(target=receiver.listen, daemon=True).start()
-            sender = Speaker(SENDER, 65001)
-            threading.Thread(target=sender.listen, daemon=True).start()
-            for sent in messages:
-                sender.socket.sendall(sent)
-            wait(lambda: len(receiver.announced) >= count, daemon)
-            seconds, memory = daemon.used()
-            rest = len(receiver.announced) - count
-            sender.socket.shutdown(socket.SHUT_RDWR)
-            wait(lambda: len(receiver.announced) <= rest, daemon)
-            return {'seconds': seconds, 'mib': memory, 'loss': daemon.used()[0] - seconds}
-        finally:
-            daemon.stop()

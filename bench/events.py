@@ -18,6 +18,7 @@ Kinds:
   moved     the same as hops, then the route to one next hop has another metric, and `idle`: a walk over every route
   peers     so many peers announce the same prefixes, peer 1 by the shorter path; then `idle`
   best_lost the same, then peer 1's session is lost, and `idle`: another route becomes the best at every prefix
+  senders   so many peers announce the same prefixes as in `peers`, and a rule keeps all from each of them; one more is sent all
   exits     so many peers are up, peer 1 announces the prefixes, and `idle` sends them to all others
   asked     peer 1 announces half so many prefixes, and nobody reads them; then in turn it announces another one and what peer 2's
             reader has there is asked, a twentieth so many times: at 200,000 a change and `ask` 10,000 times, over 100,000 unread ones
@@ -40,7 +41,7 @@ LOCAL = 'local 65000 192.0.2.254 192.0.2.254'
 PEERS = ['peer 1 65001 192.0.2.1 192.0.2.1', 'peer 2 65002 192.0.2.2 192.0.2.2',
          'route add connected 192.0.2.0/24 direct eth0 1', 'up 1', 'up 2']
 KINDS = ('table', 'as4', 'alone', 'rejected', 'paced', 'edit', 'rules', 'refresh', 'loss', 'interior', 'lost', 'hops', 'kept', 'moved',
-         'peers', 'best_lost', 'exits', 'own', 'asked')
+         'peers', 'best_lost', 'senders', 'exits', 'own', 'asked')
 READ = ['work rd.rib 99', 'work out.1 99', 'work out.2 99']
 # an event that looks at nothing but the register, and the line that it gives: how far the program has come
 LOOK, LOOKED = b'cover 192.0.2.1\n', b'cover 192.0.2.1 192.0.2.0/24 192.0.2.0/24\n'
@@ -142,11 +143,13 @@ def own(count):
     yield from ('route add static 10.%d.%d.0/24 via 192.0.2.9 eth0 1' % (place // 250, place % 250) for place in range(count))
 
 
-def peers(number, count, senders):
-    """The events of so many peers, of which some announce the same prefixes."""
+def peers(number, count, senders, is_told=True):
+    """The events of so many peers, of which some announce the same prefixes; those are sent what the others announce, or nothing."""
     yield 'route add connected 192.0.2.0/24 direct eth0 1'
     for k in range(1, number + 1):
         yield 'peer %d %d 192.0.2.%d 192.0.2.%d' % (k, 65000 + k, k, k)
+        if k <= senders and not is_told:
+            yield 'filter out %d any reject' % k
         yield 'up %d' % k
     for k in range(1, senders + 1):
         via = [] if k == 1 else [65000 + k]
@@ -162,6 +165,8 @@ def events(kind, count, number=8):
         yield from routes(count)
     elif kind in ('peers', 'best_lost'):
         yield from peers(number, count, number)
+    elif kind == 'senders':
+        yield from peers(number + 1, count, number, False)
     elif kind == 'exits':
         yield from peers(number, count, 1)
     elif kind == 'asked':

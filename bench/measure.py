@@ -26,12 +26,23 @@ def once(file, command, output=os.devnull):
     return float(said[0]), float(said[1]), int(said[2])
 
 
+def checked(file, command):
+    """Seconds and peak resident MiB of one run, which has to end with status 0."""
+    seconds, mib, status = once(file, command)
+    if status:
+        raise RuntimeError('%s: status %d' % (' '.join(command), status))
+    return {'seconds': seconds, 'mib': mib}
+
+
+def middle(seen):
+    """Of some runs the least and the median of the seconds, and the most memory."""
+    seconds = [one['seconds'] for one in seen]
+    return {'least': min(seconds), 'seconds': statistics.median(seconds), 'mib': max(one['mib'] for one in seen)}
+
+
 def median(file, command, runs):
-    """The median of the seconds and the most memory of some runs, each of which has to end with status 0."""
-    seen = [once(file, command) for _ in range(runs)]
-    if any(status for _, _, status in seen):
-        raise RuntimeError('%s: status %d' % (' '.join(command), max(status for _, _, status in seen)))
-    return {'seconds': statistics.median(seconds for seconds, _, _ in seen), 'mib': max(mib for _, mib, _ in seen)}
+    """The same of so many runs of a command."""
+    return middle([checked(file, command) for _ in range(runs)])
 
 
 def seconds_of(pid):

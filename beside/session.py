@@ -35,7 +35,7 @@ class Connection:
     """Whole messages over a connection."""
 
     def __init__(self, made):
-        self.socket, self.buffer = made, b''
+        self.socket, self.buffer, self.at = made, b'', 0  # octets that came, and where the next message begins among them
         self.dialogue = []  # what both sides said until the session was up
 
     def send(self, octets):
@@ -44,15 +44,20 @@ class Connection:
 
     def read(self):
         """The next message: type and body."""
-        while len(self.buffer) < 19 or len(self.buffer) < struct.unpack('>H', self.buffer[16:18])[0]:
+        while len(self.buffer) - self.at < self.size():
             more = self.socket.recv(1 << 18)
             if not more:
                 raise EOFError('the other side closed the session')
-            self.buffer += more
-        size = struct.unpack('>H', self.buffer[16:18])[0]
-        kind, body = self.buffer[18], self.buffer[19:size]
-        self.buffer = self.buffer[size:]
+            self.buffer, self.at = self.buffer[self.at:] + more, 0
+        begin, self.at = self.at, self.at + self.size()
+        kind, body = self.buffer[begin + 18], self.buffer[begin + 19:self.at]
         return kind, body
+
+    def size(self):
+        """How many octets the next message has; those of a header, where no whole one has come yet."""
+        if len(self.buffer) - self.at < 19:
+            return 19
+        return max(19, struct.unpack_from('>H', self.buffer, self.at + 16)[0])
 
     def all_taken(self):
         """Whether the other side has acknowledged all that was sent; also where the connection is closed."""
