@@ -228,10 +228,6 @@ pub only_same : {X : Type 0} → (xs : List X) (ms : List Bool) (i j : ℕ) (onl
     → OnlyFront xs ms i only → OnlyFront xs ms j only
 only_same xs ms i j only e h = only_same_case xs (marked (take i xs) ms) (marked (take j xs) ms) only e h
 
-pub only_all : {X : Type 0} → (xs : List X) (ms : List Bool) (i : ℕ) (place : ℕ) → take i xs ≡ xs → OnlyFront xs ms i (Some place)
-    → IsPlaceOfOnly xs (marked xs ms) place
-only_all xs ms i place all h = (h.0, ap (λ l. map Some (marked l ms)) (sym all) ∙ h.1)
-
 pub only_none : {X : Type 0} → (xs : List X) (ms : List Bool) (i : ℕ) (only : Option ℕ) (found : Bool) → found ≡ is_some only → found ≡ false
     → OnlyFront xs ms i only → marked (take i xs) ms ≡ []
 only_none xs ms i None found is isnt h = h

@@ -44,10 +44,6 @@ and_false : (a b : Bool) → b ≡ false → (a && b) ≡ false
 and_false true b h = h
 and_false false b h = refl
 
-not_false : (a : Bool) → not a ≡ true → a ≡ false
-not_false true h = sym h
-not_false false h = refl
-
 false_by_weaker : (a b : Bool) → (a ≡ true → b ≡ true) → b ≡ false → a ≡ false
 false_by_weaker true b h f = sym (h refl) ∙ f
 false_by_weaker false b h f = refl

@@ -1,5 +1,5 @@
 -- Cases: of a test, of two numbers, of two prefixes.
-use Rattle.std.proofs.Common.{◌≡◌, ◌≢◌, ℕ, Bool, true, false, Option, Some, None, IfSome, IsSome, refl, sym, ap, ◌∙◌, subst}
+use Rattle.std.proofs.Common.{◌≡◌, ◌≢◌, ℕ, Bool, true, false, Option, Some, IfSome, refl, sym, ap, ◌∙◌, subst}
 use Rattle.std.specs.Ordering.{nat_cmp, eq_by_cmp, is_eq}
 use Rattle.std.specs.declared.cmp.Ordering.{Ordering}
 use Rattle.std.specs.declared.cmp.Ordering.TheVariants.{Less, Equal, Greater}
@@ -47,7 +47,3 @@ either_way q p = by_prefix q p (λ b. b ≡ eq_by_cmp prefix_cmp p q)
 module _ {A : Type 0} where
   pub if_some : (o : Option A) (P : A → Type 0) (x : A) → o ≡ Some x → P x → IfSome o P
   if_some o P x is h = subst (λ (v : Option A). IfSome v P) (sym is) h
-
-  pub none_live : (o : Option A) → o ≡ None → IsSome o → ⊥
-  none_live None is live = cc
-  none_live (Some x) is live = cc

@@ -12,7 +12,7 @@ use Rattle.fanout_queue.specs.declared.entries.Entry.{Entry}
 use Rattle.fanout_queue.specs.Index.{Key, key_cmp, IsFirstNumber, IsFirstStop, is_reached, lesser, stops, IsIndexed}
 use Rattle.fanout_queue.specs.Entries.{Numbered, stands_at, changes_of, readers_of, numbered_of, IsKept, readers_at, unread_at, IsPlace, Enters, Leaves, first_before, IsNextBeside}
 use Rattle.fanout_queue.proofs.Cases.{by_bool}
-use Rattle.fanout_queue.proofs.IndexLemmas.{put_indexed, cut_indexed, more_indexed, none_indexed, key_below, number_within, number_here, none_numbered, none_beside, lesser_beside, none_stops, other_stops, change_stops}
+use Rattle.fanout_queue.proofs.IndexLemmas.{put_indexed, cut_indexed, more_indexed, key_below, number_here, none_numbered, none_beside, lesser_beside, none_stops, other_stops, change_stops}
 
 pub stands_here : (n place : ℕ) → n ≡ place → stands_at n (Some place) ≡ 1
 stands_here n place is = by_bool (nat_eq n place) (λ v. ◌≡◌ {A = ℕ} (cond v 1 0) 1) (λ _. refl) (λ e. absurd (grind (arith, nat_tests)))
@@ -147,13 +147,6 @@ module _ {R : Type 0} where
         (subst (λ (v : Numbered R). 0 < readers_at v place) (sym view) some)
         (last_set kept at_end (place - first) (at_end - 1) is ∙ ap (λ c. set (readers_of kept at_end) (place - first) (c - 1)) (sym (count_last is))))
 
-    -- there are as many readers as are counted
-    pub counted_entry : (e : Entry R) → place - first < length kept → e ≡ get_or kept (place - first) e → readers_at m place ≡ e.readers
-    counted_entry e within at = ap (λ (v : Numbered R). readers_at v place) (sym view) ∙ count_here e within at
-
-    pub counted_end : place - first ≡ length kept → readers_at m place ≡ at_end
-    counted_end is = ap (λ (v : Numbered R). readers_at v place) (sym view) ∙ count_last is
-
   -- ---- entries come and go
   pub end_is : (first : ℕ) (kept : List (Entry R)) (at_end number : ℕ) (m : Numbered R) → numbered_of first kept at_end ≡ m → number ≡ m.first + length m.changes → number ≡ first + length (changes_of kept)
   end_is first kept at_end number m view is = is ∙ sym (ap (λ (v : Numbered R). v.first + length v.changes) view)
@@ -178,14 +171,6 @@ module _ {R : Type 0} where
         until = let until : indexed ≤ first + length (changes_of (e ∷ rest)) = was.until in omega arith;
         fits = let fits : first + length (changes_of (e ∷ rest)) < 2 ^ 64 = was.fits in omega arith;
       })
-
-  -- ---- the index is changed
-  pub emptied : (first : ℕ) (kept : List (Entry R)) (index index' : BTreeSet Key) (indexed indexed' : ℕ) → indexed' ≤ first → index'.keys ≡ [] → IsKept first kept index indexed → IsKept first kept index' indexed'
-  emptied first kept index index' indexed indexed' past none sound = record {
-    keys = none_indexed first (changes_of kept) index' indexed' past none;
-    until = omega arith;
-    fits = sound.fits;
-  }
 
   pub more_kept : (first : ℕ) (kept : List (Entry R)) (index index' : BTreeSet Key) (indexed number : ℕ) (e : Entry R) → first ≤ number → indexed ≤ number → ((n : ℕ) → first ≤ n → n < number → n < indexed) → number - first < length kept
       → e ≡ get_or kept (number - first) e → IsKept first kept index indexed → IsWith index index' e.change.prefix number true → IsKept first kept index' (number + 1)
@@ -213,11 +198,6 @@ module _ {R : Type 0} where
         (λ e. let from : first ≤ n = grind (arith, nat_tests) in
         let below = key_below first (changes_of kept) index indexed sound.keys p place low n from has in
         let until = sound.until in omega arith)
-
-    pub within_kept : (p : Network) (s : ℕ) → IsFirstNumber index p place (Some s) → s - first < length kept
-    within_kept p s number =
-        let n = length-map kept (λ (x : Entry R). x.change) in
-        let inside = number_within first (changes_of kept) index indexed sound.keys p place low s number in omega arith
 
     pub change_found : (p : Network) (s : ℕ) (e : Entry R) → e ≡ get_or kept (s - first) e → IsFirstNumber index p place (Some s) → Some e.change.before ≡ first_before p (unread_at m place)
     change_found p s e at number =

@@ -6,8 +6,6 @@ use Rattle.std.specs.declared.cmp.Ordering.TheVariants.{Less, Equal, Greater}
 use Rattle.std.specs.Cmp.{ranked, nat_cmp_is, nat_eq_equiv}
 use Rattle.std.specs.BTreeMap.Range.{IsLeBy, IsLtBy}
 use Rattle.std.specs.BTreeSet.{BTreeSet, contains}
-use Rattle.std.specs.BTreeMap.{is_at as is_at_key}
-use Rattle.std.specs.List.{list_any}
 use Rattle.std.proofs.lemmas.Bool.Decides.{nat_tests}
 use Rattle.std.proofs.Math.Seq.{drop-nil}
 use Rattle.std.proofs.Math.ListN.{drop_of_length-le}
@@ -219,13 +217,6 @@ module _ {R : Type 0} where
       first_some cs (suc base) k place p number d (omega arith) low (sym (at_rest c cs base p number more) ∙ has) (λ n from below. sym (at_rest c cs base p n (omega arith)) ∙ none n from below)
       ∙ ap (λ (x : Change R). Some x.before) (further c cs base number d more)
 
-  within : (es : List (Change R)) (base : ℕ) (p : Network) (number : ℕ) → base ≤ number → is_entry base es p number ≡ true → number - base < length es
-  within [] base p number low has = absurd (let e : false ≡ true = has in cc)
-  within (c ∷ cs) base p number low has = by_bool (nat_eq number base) (λ _. number - base < length (c ∷ cs))
-      (λ e. let same : number ≡ base = grind (arith, nat_tests) in omega arith)
-      (λ e. let more : base < number = grind (arith, nat_tests) in
-      let rest = within cs (suc base) p number (omega arith) (sym (at_rest c cs base p number more) ∙ has) in omega arith)
-
   -- the entry of a number
   entry_at : (es : List (Change R)) (base number : ℕ) (p : Network) (d : Change R) → base ≤ number → number - base < length es → is_entry base es p number ≡ is_at (get_or es (number - base) d) p
   entry_at [] base number p d low inside = absurd (omega arith)
@@ -250,9 +241,6 @@ module _ {R : Type 0} where
     module _ (s : ℕ) (first : IsFirstNumber index p place (Some s)) where
       here : is_entry base es p s ≡ true
       here = let from = first.0 in sym (keys.below p s (omega arith) (key_below s (omega arith) first.1)) ∙ first.1
-
-      pub number_within : s - base < length es
-      number_within = let from = first.0 in within es base p s (omega arith) here
 
       pub number_here : (d : Change R) → first_before p (drop (place - base) es) ≡ Some (get_or es (s - base) d).before
       number_here d =
@@ -306,13 +294,6 @@ module _ {R : Type 0} where
           told put p n ∙ not_here (is_at entry p) (contains key_cmp old (p, n)) n number (λ same. omega arith) ∙ keys.below p n from (had n from before));
       above = λ p n from more. told put p n ∙ not_here (is_at entry p) (contains key_cmp old (p, n)) n number (λ same. omega arith) ∙ keys.above p n from (omega arith);
     }
-
-  -- one without keys has none of the entries
-  pub none_indexed : (base : ℕ) (es : List (Change R)) (index : BTreeSet Key) (indexed : ℕ) → indexed ≤ base → index.keys ≡ [] → IsIndexed base es index indexed
-  none_indexed base es index indexed past none = record {
-    below = λ p n low less. absurd (omega arith);
-    above = λ p n low more. ap (list_any (is_at_key (key_cmp (p, n)))) none;
-  }
 
   -- ---- whether the prefix has a change from a place on
   pub first_of_rows : (new : Rows R) (cs : List (Change R)) (p : Network) → rows_before cs new p ≡ or_else (first_before p cs) (new p)

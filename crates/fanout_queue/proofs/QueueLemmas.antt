@@ -7,7 +7,7 @@ use Rattle.std.specs.Ordering.{nat_cmp, eq_by_cmp}
 use Rattle.std.specs.Cmp.{nat_cmp_total}
 use Rattle.std.specs.FinMap as map
 use Rattle.std.specs.FinMap.{nat_cmp-IsAntisymmetric, get-empty, get-insert, get-remove, same_map}
-use Rattle.std.proofs.lemmas.List.{drop-append-le, length-drop, length-append, get_or_past, get_or-drop}
+use Rattle.std.proofs.lemmas.List.{drop-append-le, length-drop, get_or_past, get_or-drop}
 use Rattle.std.proofs.lemmas.List.Sums.{sum_by-le, sum_by-cons, get_or-le-sum_by}
 use Rattle.std.proofs.lemmas.Bool.Decides.{nat_tests}
 use Rattle.std.proofs.lemmas.Result.{IfOk-weaker}
@@ -66,12 +66,6 @@ at_most_one n (Some p) = by_place n p (stands_at n (Some p) ≤ 1)
 
 few_stand : (n : ℕ) (places : List (Option ℕ)) → standing n places ≤ length places * 1
 few_stand n places = sum_by-le (stands_at n) 1 places (λ k d _. at_most_one n (get_or places k d))
-
-zero_more : (xs : List ℕ) (k : ℕ) → get_or (xs ++ 0 ∷ []) k 0 ≡ get_or xs k 0
-zero_more [] zero = refl
-zero_more [] (suc k) = refl
-zero_more (x ∷ xs) zero = refl
-zero_more (x ∷ xs) (suc k) = zero_more xs k
 
 pub at_place : (slice places : List (Option ℕ)) (number place : ℕ) → slice ≡ places → get_or slice number None ≡ Some place → get_or places number None ≡ Some place
 at_place slice places number place same at = ap (λ (l : List (Option ℕ)). get_or l number None) (sym same) ∙ at
@@ -180,23 +174,6 @@ module _ {R : Type 0} where
         unread_of new places q ∙ one_more (get_or places q None) (sound.placed q)
         ∙ ap (option_map (with_last c)) (sym (unread_of old places q) ∙ ap (λ (x : Queued R). map.get x q) view)
 
-    still_placed : (place : Option ℕ) → IsPlaced old place → IsPlaced new place
-    still_placed None placed = tt
-    still_placed (Some n) placed =
-        let first = puts.first in let from = placed.from in let to = placed.to in
-        let more : length new.changes ≡ length old.changes + 1 = ap length puts.changes ∙ length-append old.changes (c ∷ []) in
-        record { from = omega arith; to = omega arith }
-
-    pub put_sound : first_readers old ≢ 0 → IsQueue new places
-    put_sound read = record {
-      placed = λ k. still_placed (get_or places k None) (sound.placed k);
-      counted = λ n low.
-          let first = puts.first in
-          ap (λ (l : List ℕ). get_or l (n - new.first) 0) puts.readers ∙ zero_more old.readers (n - new.first)
-          ∙ ap (λ k. get_or old.readers k 0) (let e : n - new.first ≡ n - old.first = omega arith in e) ∙ sound.counted n (omega arith);
-      needed = λ none. absurd (read (sym (zero_more old.readers 0) ∙ ap (λ (l : List ℕ). get_or l 0 0) (sym puts.readers) ∙ none));
-    }
-
   -- ---- places and counts change together
   module _ (old new : Numbered R) (was places : List (Option ℕ)) (number : ℕ) where
     -- the reader of this number has this from now on, and every other one what it had
@@ -255,28 +232,6 @@ module _ {R : Type 0} where
     joined m view = moved_on old new was places number m number [] view refl
         (ap (option_map (unread_at new)) sets.changed ∙ same_place (Some end) ∙ ap Some (drop_of_length-le old.changes (omega arith)))
         (λ q apart. ap (option_map (unread_at new)) (sets.others q apart) ∙ same_place (get_or was q None))
-
-    joined_placed : (o : Option ℕ) → IsPlaced old o → IsPlaced new o
-    joined_placed None placed = tt
-    joined_placed (Some n) placed =
-        let first = enters.first in let from = placed.from in let to = placed.to in let len : length new.changes ≡ length old.changes = ap length enters.changes in
-        record { from = omega arith; to = omega arith }
-
-    pub joined_sound : IsQueue new places
-    joined_sound = record {
-      placed = λ k. by_place k number (IsPlaced new (get_or places k None))
-          (λ here. subst (IsPlaced new) (sym (ap (λ j. get_or places j None) here ∙ sets.changed)) (joined_placed (Some end) (record { from = omega arith; to = omega arith })))
-          (λ apart. subst (IsPlaced new) (sym (sets.others k apart)) (joined_placed (get_or was k None) (sound.placed k)));
-      counted = λ n low.
-          let first = enters.first in
-          let came = enters.readers n (omega arith) in let counts = sets.counts n in let stood = sound.counted n (omega arith) in
-          let nobody_there : stands_at n (get_or was number None) ≡ 0 = ap (stands_at n) free in omega arith;
-      needed = λ none.
-          let first = enters.first in
-          let came = enters.readers old.first (omega arith) in
-          let old_first = first_is old old.first refl in let new_first = first_is new old.first (omega arith) in
-          enters.changes ∙ sound.needed (omega arith);
-    }
 
   -- ---- a reader leaves
   module _ (old mid new : Numbered R) (was places : List (Option ℕ)) (number place : ℕ) (at : get_or was number None ≡ Some place) (sets : SetsPlace was places number None) (leaves : Leaves old mid place) (trims : Trims mid new) (sound : IsQueue old was) where
@@ -374,11 +329,6 @@ module _ {R : Type 0} where
   -- ---- what calls ask of a place
   pub stands_there : (entries : Numbered R) (places : List (Option ℕ)) (number place : ℕ) → IsQueue entries places → get_or places number None ≡ Some place → IsPlace entries place
   stands_there entries places number place sound at = subst (IsPlaced entries) at (sound.placed number)
-
-  pub counted_there : (entries : Numbered R) (places : List (Option ℕ)) (number place : ℕ) → IsQueue entries places → get_or places number None ≡ Some place → 0 < readers_at entries place
-  counted_there entries places number place sound at =
-      let placed : IsPlace entries place = stands_there entries places number place sound at in
-      let stood = sound.counted place placed.from in let one = one_there places number place at in omega arith
 
   pub few_there : (entries : Numbered R) (places : List (Option ℕ)) (n : ℕ) → IsQueue entries places → entries.first ≤ n → length places < 2 ^ 63 → readers_at entries n + 1 < 2 ^ 64
   few_there entries places n sound low few = let stood = sound.counted n low in let some = few_stand n places in omega arith

@@ -1,12 +1,11 @@
 -- Rows with one row set, the rows of a table, and where a walk goes.
-use Rattle.std.proofs.Common.{ℕ, nat_eq, IsTrue, ◌↔◌, arith, ◌≡◌, Bool, true, false, cond, ◌||◌, Option, Some, None, is_some, refl, sym, ap, ◌∙◌}
+use Rattle.std.proofs.Common.{ℕ, nat_eq, IsTrue, ◌↔◌, arith, ◌≡◌, Bool, true, false, cond, ◌||◌, Option, Some, None, refl, sym, ap, ◌∙◌}
 use Rattle.std.proofs.lemmas.Bool.Decides.{nat_tests}
 use Rattle.std.specs.FinMap as map
 use Rattle.std.specs.FinMap.{FinMap, same_map, empty_of_len, len-empty, get-insert, get-remove, get-empty}
 use Rattle.addr4.specs.Prefixes.{Network, prefix_cmp}
-use Rattle.addr4.specs.Places.{IsNextRow}
 use Rattle.addr4.proofs.PrefixOrder.{prefixes_total, exact_prefixes, by_prefix, itself}
-use Rattle.link_change.specs.Rows.{Rows, no_rows, with_row, IsNextCandidate, CoversRows, with_rows}
+use Rattle.link_change.specs.Rows.{Rows, no_rows, with_row}
 
 -- functions that answer alike are one
 pub same_function : {A B : Type 0} (f g : A → B) → ((x : A) → f x ≡ g x) → f ≡ g
@@ -34,10 +33,6 @@ module _ {V : Type 0} where
   pub remove_absent : (m : FinMap prefix_cmp V) (p : Network) → map.get m p ≡ None → map.remove m p ≡ m
   remove_absent m p none = same_map prefixes_total exact_prefixes _ _ (λ q. ap (λ (r : Rows V). r q) (rows_removed m p ∙ with_row_same (map.get m) p None none))
 
-  -- to put the row that is there changes nothing
-  pub insert_present : (m : FinMap prefix_cmp V) (p : Network) (v : V) → map.get m p ≡ Some v → map.insert m p v ≡ m
-  insert_present m p v at = same_map prefixes_total exact_prefixes _ _ (λ q. ap (λ (r : Rows V). r q) (rows_inserted m p v ∙ with_row_same (map.get m) p (Some v) at))
-
   -- a table whose rows count to none is the empty one
   pub counted_empty : (m : FinMap prefix_cmp V) (count : ℕ) → count ≡ map.len m → IsTrue (nat_eq count 0) ↔ (m ≡ map.empty)
   counted_empty m count counts = (
@@ -48,18 +43,6 @@ module _ {V : Type 0} where
   -- a table with no row anywhere is the empty one
   pub empty_of_rows : (m : FinMap prefix_cmp V) → ((q : Network) → map.get m q ≡ None) → m ≡ map.empty
   empty_of_rows m none = same_map prefixes_total exact_prefixes _ _ (λ q. none q ∙ sym (get-empty prefix_cmp q))
-
-  -- the next row is the next candidate, where the candidates are the rows
-  pub next_row_is_candidate : (rows : Rows V) (after result : Option Network) → IsNextRow rows after result → IsNextCandidate (with_rows rows) after result
-  next_row_is_candidate rows after None h = λ q beyond. ap is_some (h q beyond)
-  next_row_is_candidate rows after (Some p) h = (h.0, h.1, λ q beyond below. ap is_some (h.2 q beyond below))
-
-  none_there : (row : Option V) → is_some row ≡ false → row ≡ None
-  none_there None h = refl
-  none_there (Some v) h = absurd (let e : true ≡ false = h in cc)
-
-  pub rows_covered : (rows : Rows V) → CoversRows (with_rows rows) rows
-  rows_covered rows q none = none_there (rows q) none
 
 pub not_first : (a b : Bool) → a || b ≡ false → a ≡ false
 not_first true b h = h

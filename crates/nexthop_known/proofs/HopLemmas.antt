@@ -1,5 +1,5 @@
 -- Whether an answer came with a subnet.
-use Rattle.std.proofs.Common.{◌≡◌, true, false, ◌&&◌, refl, sym, ap, ◌∙◌, Option, Some, None}
+use Rattle.std.proofs.Common.{◌≡◌, true, ◌&&◌, refl, sym, ap, ◌∙◌, Option, Some, None}
 use Rattle.std.specs.Ordering.{nat_cmp, ordering_then, is_eq}
 use Rattle.std.specs.declared.cmp.Ordering.{Ordering}
 use Rattle.std.specs.declared.cmp.Ordering.TheVariants.{Less, Equal, Greater}
@@ -28,6 +28,3 @@ with_told s (Some t) e = ap Some (same_told t s e)
 
 pub with_itself : (s : Network) → is_with s (Some s) ≡ true
 with_itself s = same_self s
-
-pub without_told : (s : Network) (came : Option Network) → is_with s came ≡ false → came ≡ Some s → ⊥
-without_told s came e is = let clash : true ≡ false = sym (with_itself s) ∙ sym (ap (is_with s) is) ∙ e in cc

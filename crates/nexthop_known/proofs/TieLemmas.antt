@@ -1,12 +1,12 @@
 -- What the sets of next hops say, after each change.
-use Rattle.std.proofs.Common.{◌≡◌, ◌↔◌, ◌⊎◌, ℕ, List, [], ◌∷◌, Bool, true, false, not, ◌&&◌, cond, refl, sym, ap, ◌∙◌, subst, inl, inr, Option, Some, None, is_some, arith}
+use Rattle.std.proofs.Common.{◌≡◌, ◌⊎◌, ℕ, List, [], ◌∷◌, Bool, true, false, not, ◌&&◌, cond, refl, sym, ap, ◌∙◌, subst, inl, inr, Option, Some, None, is_some, arith}
 use Rattle.std.specs.Option.{option_map, IfSome}
 use Rattle.std.specs.List.{slice_get, list_any}
 use Rattle.std.specs.declared.ops.Bound.TheVariants.{Included, Unbounded}
 use Rattle.std.specs.Ordering.{nat_cmp, ordering_then, is_gt}
 use Rattle.std.specs.declared.cmp.Ordering.{Ordering}
 use Rattle.std.specs.declared.cmp.Ordering.TheVariants.{Less, Equal, Greater}
-use Rattle.std.specs.Cmp.{IsTotalOrder, Equal-is, nat_cmp_total}
+use Rattle.std.specs.Cmp.{Equal-is}
 use Rattle.std.specs.BTreeMap.{BTreeMap, is_at}
 use Rattle.std.specs.BTreeMap as tree
 use Rattle.std.specs.Map.{lookup}
@@ -14,22 +14,18 @@ use Rattle.std.specs.BTreeMap.Range.{IsLeBy}
 use Rattle.std.specs.BTreeSet.{BTreeSet, IsKeyRangeOf, IsKeyInRange}
 use Rattle.std.specs.BTreeSet as set
 use Rattle.std.specs.FinMap as map
-use Rattle.std.proofs.lemmas.Cmp.{on_total, then_total}
 use Rattle.std.proofs.lemmas.Map.Lookups.{exact_unsigned}
 use Rattle.std.proofs.lemmas.Bool.Decides.{nat_tests}
 use Rattle.addr4.specs.Prefixes.{Network, prefix_cmp, same_prefix}
-use Rattle.addr4.proofs.PrefixOrder.{prefixes_total, exact_prefixes, itself, comes_after}
+use Rattle.addr4.proofs.PrefixOrder.{exact_prefixes, itself, comes_after}
 use Rattle.nexthop_known.proofs.MarkLemmas.{noted, cleared, nothing_marked}
 use Rattle.nexthop_known.proofs.HopLemmas.{both_equal, same_is, same_told, same_self, with_told}
 use Rattle.nexthop_known.specs.declared.answer.Hop.{Hop}
 use Rattle.nexthop_known.specs.declared.index.Holding.{Holding}
-use Rattle.nexthop_known.specs.Hops.{is_with, staled, settled, came_at, is_stale_at, IsSettledAt}
+use Rattle.nexthop_known.specs.Hops.{is_with, staled, came_at, is_stale_at, IsSettledAt}
 use Rattle.nexthop_known.specs.Ties.{holding_cmp, is_own, other_than, let_go, Marks, host, is_host, AreTied, AreTold, Puts, IsHeldByNone, Maps, PartlyMaps}
 
 -- ---- orders
-
-pub holdings_total : IsTotalOrder holding_cmp
-holdings_total = then_total (on_total (λ (p : Holding). p.subnet) prefixes_total) (on_total (λ (p : Holding). p.hop) nat_cmp_total)
 
 pub one_address : (a q : ℕ) → is_at (nat_cmp a) q ≡ true → q ≡ a
 one_address a q e = sym (exact_unsigned a q ((Equal-is (nat_cmp a q)).0 e))
@@ -91,10 +87,6 @@ owns b q (Some t) = same_prefix t q && b
 own_is : (a : ℕ) (came : Option Network) (k : Holding) → is_own a came k ≡ owns (is_at (nat_cmp a) k.hop) k.subnet came
 own_is a None k = refl
 own_is a (Some s) k = own_parts s a k
-
-and_true : (b : Bool) → (b && true) ≡ b
-and_true true = refl
-and_true false = refl
 
 and_false : (b : Bool) → (b && false) ≡ false
 and_false true = refl
@@ -197,13 +189,6 @@ module _ {A : Type 0} where
     where
       got : (q : ℕ) → tree.get nat_cmp hops' q ≡ tree.get nat_cmp hops q
       got q = ap (λ (es : List (ℕ × Hop A)). lookup (is_at (nat_cmp q)) es) same
-
-  -- where only room was made
-  pub roomy_tied : (hops : BTreeMap ℕ (Hop A)) (stale stale' : Marks) (held held' : BTreeSet Holding) → AreTied hops stale held → stale' ≡ stale → held'.keys ≡ held.keys → AreTied hops stale' held'
-  roomy_tied hops stale stale' held held' tied kept same = record {
-    stale_is = λ p. ap (λ (m : Marks). map.contains_key m p) kept ∙ tied.stale_is p;
-    held_is = λ k. ap (λ (ks : List Holding). list_any (is_at (holding_cmp k)) ks) same ∙ tied.held_is k;
-  }
 
   pub none_tied : (hops : BTreeMap ℕ (Hop A)) (stale : Marks) (held : BTreeSet Holding) → hops.entries ≡ [] → stale ≡ map.empty → held.keys ≡ [] → AreTied hops stale held
   none_tied hops stale held no_hop no_stale no_held = record {
@@ -321,44 +306,3 @@ module _ {A : Type 0} where
   ]
 
   -- ---- one put in force
-
-  settled_at : (o : Option (Hop A)) → IsSettledAt (option_map settled o)
-  settled_at None = tt
-  settled_at (Some h) = refl
-
-  settled_twice : (o : Option (Hop A)) → option_map settled (option_map settled o) ≡ option_map settled o
-  settled_twice None = refl
-  settled_twice (Some h) = refl
-
-  told_one : (b was : Bool) (o at : Option (Hop A)) → ((was ≡ false) ↔ IsSettledAt at) → (cond b false was ≡ false) ↔ IsSettledAt (cond b (option_map settled o) at)
-  told_one true was o at is = (λ _. settled_at o, λ _. refl)
-  told_one false was o at is = is
-
-  pub settled_told : (hops hops' : BTreeMap ℕ (Hop A)) (differing differing' : BTreeSet ℕ) (a : ℕ) → AreTold hops differing
-      → Puts hops hops' a (option_map settled (tree.get nat_cmp hops a))
-      → ((q : ℕ) → set.contains nat_cmp differing' q ≡ cond (is_at (nat_cmp a) q) false (set.contains nat_cmp differing q))
-      → AreTold hops' differing'
-  settled_told hops hops' differing differing' a told puts takes = λ q.
-      let is = told_one (is_at (nat_cmp a) q) (set.contains nat_cmp differing q) (tree.get nat_cmp hops a) (tree.get nat_cmp hops q) (told q) in
-      (λ f. subst (λ x. IsSettledAt x) (sym (puts q)) (is.0 (sym (takes q) ∙ f)), λ s. takes q ∙ is.1 (subst (λ x. IsSettledAt x) (puts q) s))
-
-  settled_one : (b : Bool) (first old o new : Option (Hop A)) → (b ≡ true → old ≡ o) → new ≡ cond b (option_map settled o) old → ((old ≡ first) ⊎ (old ≡ option_map settled first)) → (new ≡ first) ⊎ (new ≡ option_map settled first)
-  settled_one true first old o new same is (inl x) = inr (is ∙ ap (option_map settled) (sym (same refl) ∙ x))
-  settled_one true first old o new same is (inr x) = inr (is ∙ ap (option_map settled) (sym (same refl) ∙ x) ∙ settled_twice first)
-  settled_one false first old o new same is (inl x) = inl (is ∙ x)
-  settled_one false first old o new same is (inr x) = inr (is ∙ x)
-
-  pub settled_more : (first hops hops' : BTreeMap ℕ (Hop A)) (a : ℕ) → Puts hops hops' a (option_map settled (tree.get nat_cmp hops a)) → PartlyMaps settled first hops → PartlyMaps settled first hops'
-  settled_more first hops hops' a puts partly = λ q.
-      settled_one (is_at (nat_cmp a) q) (tree.get nat_cmp first q) (tree.get nat_cmp hops q) (tree.get nat_cmp hops a) (tree.get nat_cmp hops' q)
-      (λ t. ap (λ x. tree.get nat_cmp hops x) (one_address a q t)) (puts q) (partly q)
-
-  settles_none : (o : Option (Hop A)) → IsSettledAt o → o ≡ option_map settled o
-  settles_none None e = refl
-  settles_none (Some h) e = ap (λ x. Some (record { in_force = x; fresh = h.fresh; came = h.came })) (sym e)
-
-  pub all_settled : (first hops : BTreeMap ℕ (Hop A)) (differing : BTreeSet ℕ) → AreTold hops differing → ((q : ℕ) → set.contains nat_cmp differing q ≡ false) → PartlyMaps settled first hops → Maps settled first hops
-  all_settled first hops differing told none partly = λ q. elim (partly q) [
-    | inl e ↦ e ∙ settles_none (tree.get nat_cmp first q) (subst (λ x. IsSettledAt x) e ((told q).0 (none q)))
-    | inr e ↦ e
-  ]

@@ -27,17 +27,9 @@ none_of (Some x) e = absurd (let clash : true ≡ false = e in cc)
 
 -- ---- the register
 module _ {R : Type 0} where
-  pub same_registry : (a b : Registry R) → a.rows ≡ b.rows → a.interests ≡ b.interests → a ≡ b
-  same_registry a b rows ints = λ i. record { rows = rows i; interests = ints i }
 
   pub keeps_all : (client : ℕ) (r : Registry R) → KeepsOthers client r r
   keeps_all client r = record { rows = refl; interests = λ k ne. refl }
-
-  pub keeps_same : (client : ℕ) (was is : Registry R) → is ≡ was → KeepsOthers client was is
-  keeps_same client was is e = subst (λ (r : Registry R). KeepsOthers client was r) (sym e) (keeps_all client was)
-
-  pub keeps_twice : (client : ℕ) (a b c : Registry R) → KeepsOthers client a b → KeepsOthers client b c → KeepsOthers client a c
-  keeps_twice client a b c one other = record { rows = other.rows ∙ one.rows; interests = λ k ne. other.interests k ne ∙ one.interests k ne }
 
   module _ (client : ℕ) (was is : Registry R) (s : Network) where
     abbrev own : Network → Interest
@@ -82,9 +74,6 @@ module _ {A : Type 0} (kept : Option (Network × Interior) → A) where
 
   pub same_told : (was is : Registry Interior) → is.rows ≡ was.rows → told_of kept is ≡ told_of kept was
   same_told was is rows = λ i. IsToldBy kept (get (rows i))
-
-  pub same_agrees : (client : ℕ) (known : Hops A) (was is : Registry Interior) → is ≡ was → Agrees kept client known was → Agrees kept client known is
-  same_agrees client known was is e agree = subst (λ (r : Registry Interior). Agrees kept client known r) (sym e) agree
 
   by_rows : (client : ℕ) (known : Hops A) (was is : Registry Interior) → is.rows ≡ was.rows → Agree (answer_of kept was) (interest_of client is) (get known) → Agrees kept client known is
   by_rows client known was is rows agree = subst (λ (f : ℕ → A). Agree f (interest_of client is) (get known)) (sym (same_answers was is rows)) agree

@@ -9,7 +9,7 @@ use Rattle.std.specs.Cmp.{nat_cmp_total}
 use Rattle.addr4.specs.Prefixes.{Network}
 use Rattle.link_change.proofs.MapLemmas.{get_at, get_apart, removed_at, removed_apart}
 use Rattle.nexthop_known.specs.declared.answer.Hop.{Hop}
-use Rattle.nexthop_known.specs.Hops.{Hops, renewed, staled, IsMapped, IsRenewed}
+use Rattle.nexthop_known.specs.Hops.{Hops, renewed, IsMapped, IsRenewed}
 use Rattle.nexthop_known.specs.Counts.{Counts, counted, one_more, one_less, one_less_of, is_one, once, Recounts}
 use Rattle.nexthop_known.proofs.StaleLemmas.{same_len}
 use Rattle.nexthop_known.proofs.CountLemmas.{one_more_counts, one_less_counts, one_for_another, more_and_less}
@@ -204,10 +204,3 @@ module _ {A : Type 0} where
         ∙ sym (sym (named b) ∙ ap (λ k. is_some (get known k)) at ∙ has)
     | inr ne ↦ ap is_some (ap (λ (m : Hops A). get m b) is ∙ get_apart nat_cmp_total nat_cmp-IsAntisymmetric known a (renewed s x (get known a)) b ne) ∙ named b
   ]
-
-  mapped_some : (s : Network) (o : Option (Hop A)) → is_some (option_map (staled s) o) ≡ is_some o
-  mapped_some s None = refl
-  mapped_some s (Some h) = refl
-
-  pub stale_named : (s : Network) (counts : Counts) (old new : Hops A) → IsMapped (staled s) old new → AreNamed counts old → AreNamed counts new
-  stale_named s counts old new mapped named = λ a. ap is_some (mapped a) ∙ mapped_some s (get old a) ∙ named a

@@ -5,7 +5,7 @@ use Rattle.std.specs.FinMap.{get}
 use Rattle.std.specs.FinMap as map
 use Rattle.addr4.specs.Prefixes.{Network}
 use Rattle.addr4.proofs.PrefixOrder.{by_prefix}
-use Rattle.link_change.specs.Rows.{Rows, no_rows, with_row, Candidates, CoversRows}
+use Rattle.link_change.specs.Rows.{Rows, no_rows, with_row}
 use Rattle.link_change.specs.Changes.{IsChangeOf}
 use Rattle.link_change.specs.declared.change.Change.{Change}
 use Rattle.link_change.proofs.RowLemmas.{same_function}
@@ -14,7 +14,6 @@ use Rattle.link_change.proofs.InOrderLemmas.{with_row_elsewhere}
 use Rattle.pass_core.specs.Passed.{is_beyond, function_of, function_at}
 use Rattle.pass_core.specs.Split.{MakesNone}
 use Rattle.pass_core.specs.Turns.{passed}
-use Rattle.pass_core.proofs.TurnLemmas.{passed_is_covered}
 use Rattle.nexthop_known.specs.declared.answer.Hop.{Hop}
 use Rattle.nexthop_known.specs.Hops.{Hops, staled, IsMapped}
 use Rattle.nexthop_known.specs.Counts.{AreCounted, Recounts}
@@ -39,15 +38,6 @@ module _ {A : Type 0} where
   holds_at known None q a = refl
   holds_at known (Some place) q a = both_of (is_beyond place q) (in_force_by known) (fresh_by known) a
 
-  -- where the answers in force hold, and where the fresh ones do
-  pub in_force_there : (known : Hops A) (walk : Option (Option Network)) (q : Network) → is_in_force walk q ≡ true
-      → in_force_by known ≡ function_of (in_force_by known) (walk_to (fresh_by known) walk) q
-  in_force_there known walk q e = same_function _ _ (λ a. sym (holds_at known walk q a ∙ ap (λ b. told b (get known a)) e))
-
-  pub fresh_there : (known : Hops A) (walk : Option (Option Network)) (q : Network) → is_in_force walk q ≡ false
-      → fresh_by known ≡ function_of (in_force_by known) (walk_to (fresh_by known) walk) q
-  fresh_there known walk q e = same_function _ _ (λ a. sym (holds_at known walk q a ∙ ap (λ b. told b (get known a)) e))
-
   -- the same next hop has the same answer
   pub same_answer : (old new : Resolving A) (q : Network) (a : ℕ) → new.walk ≡ old.walk → get new.known a ≡ get old.known a
       → function_at (passes new) q a ≡ function_at (passes old) q a
@@ -69,9 +59,6 @@ module _ {A : Type 0} where
 module _ {A R L : Type 0} (hop : R → ℕ) (made : R → A → Option L) where
   pub makes_none : (f : Answers A) → MakesNone (resolved hop made f)
   makes_none f q = refl
-
-  pub covered : (s : Resolving A) (candidates : Candidates) (upper : Rows R) → CoversRows candidates upper → CoversRows candidates (res_rows hop made s upper)
-  covered s candidates upper covers = passed_is_covered (resolved hop made) (passes s) candidates upper makes_none covers
 
   -- a row goes on as before where the answer about its next hop is the same
   same_row : (f g : Answers A) (row : Option R) → ((a : ℕ) → option_map hop row ≡ Some a → f a ≡ g a) → goes_on hop made f row ≡ goes_on hop made g row

@@ -109,19 +109,7 @@ module _ {A R L : Type 0} (hop : R → ℕ) (made : R → A → Option L) (candi
   step_taken old new None s = s
   step_taken old new (Some change) s = s
 
-  -- the walk that is on is at its place
-  pub at_own : (s : Resolving A) (place : Option Network) → s.walk ≡ Some place → at_place s place ≡ s
-  at_own s place on = λ i. record { client = s.client; counts = s.counts; known = s.known; walk = sym on i }
-
   module _ (kept : Option (Network × Interior) → A) (was is : Registry Interior) where
-    -- ---- the three cases
-    pub goes_turn : (old new : Resolving A) (place : Option Network) (turn : Turn L) → old.walk ≡ Some place → IsStep hop made candidates upper (at_place old place) new turn
-        → is ≡ was → IsTurn hop made candidates upper kept was is old new turn
-    goes_turn old new place Nothing on step silent = absurd step
-    goes_turn old new place Quiet on step silent =
-        inl (record { steps = subst (λ s. Steps hop made candidates upper s new None) (at_own old place on) step; nothing_asked = silent })
-    goes_turn old new place (Sent change) on step silent =
-        inl (record { steps = subst (λ s. Steps hop made candidates upper s new (Some change)) (at_own old place on) step; nothing_asked = silent })
 
     pub asks_turn : (client : ℕ) (counts : Counts) (known known' : Hops A) (walk : Option (Option Network)) (a : ℕ) → walk ≡ None → IsLeastStale (get known) (Some a)
         → Renews kept was known known' a
@@ -136,11 +124,6 @@ module _ {A R L : Type 0} (hop : R → ℕ) (made : R → A → Option L) (candi
         inr (inr (record { off = off; none_stale = none; differs = differs; steps = step; nothing_asked = silent }))
     begins_turn old new (Sent change) off none differs step silent =
         inr (inr (record { off = off; none_stale = none; differs = differs; steps = step; nothing_asked = silent }))
-
-    pub goes_ok : {E : Type 0} (old new : Resolving A) (place : Option Network) (result : Result (Turn L) E) → old.walk ≡ Some place
-        → IfOk result (IsStep hop made candidates upper (at_place old place) new) → is ≡ was → IfOk result (IsTurn hop made candidates upper kept was is old new)
-    goes_ok old new place (Ok turn) on step silent = goes_turn old new place turn on step silent
-    goes_ok old new place (Err e) on step silent = tt
 
     pub begins_ok : {E : Type 0} (old new : Resolving A) (result : Result (Turn L) E) → old.walk ≡ None → IsLeastStale (get old.known) None → IsDiffering (get old.known)
         → IfOk result (IsStep hop made candidates upper (at_place old None) new) → is ≡ was → IfOk result (IsTurn hop made candidates upper kept was is old new)

@@ -3,7 +3,7 @@ use Rattle.std.proofs.Common.{◌≡◌, ◌≢◌, ◌⊎◌, ℕ, ◌+◌, ◌
 use Rattle.std.proofs.lemmas.Bool.{cases_eq, cases_lt, cases_order}
 use Rattle.addr4.specs.Prefixes.{Network}
 use Rattle.addr4.proofs.HalfLemmas.{one_network}
-use Rattle.nibble_trie.specs.Keys.{IsNextOf, IsChained, IsLastBelow, IsHeadOf, IsLeafOf}
+use Rattle.nibble_trie.specs.Keys.{IsNextOf, IsChained, IsLastBelow, IsHeadOf}
 use Rattle.nibble_trie.specs.Index.{with_head}
 use Rattle.nibble_trie.proofs.Digits.{some_same, head_here, head_apart}
 
@@ -25,10 +25,6 @@ one_next keys longer a from (Some x) None c f g = absurd (omega (arith, g x f.0 
 one_next keys longer a from (Some x) (Some y) c f g =
     let e : f.0 ≡ g.0 = one_network f.0 g.0 (f.2 ∙ sym g.2) (omega (arith, f.4 y g.0 g.1 g.2 g.3, g.4 x f.0 f.1 f.2 f.3)) in
     ap Some (c.single x y g.0 (f.1 ∙ ap Some e) g.1)
-
--- from a greater length on, where what is next has it
-pub later_none : (keys : ℕ → Option Network) (a from length : ℕ) → from ≤ length → IsNextOf keys a from None → IsNextOf keys a length None
-later_none keys a from length le next = λ k p found same. omega (arith, next k p found same)
 
 pub later_some : (keys : ℕ → Option Network) (a from length key : ℕ) (q : Network) → from ≤ length → keys key ≡ Some q → length ≤ q.length → IsNextOf keys a from (Some key) → IsNextOf keys a length (Some key)
 later_some keys a from length key q le found long next =
@@ -304,17 +300,3 @@ chained_kept keys keys' longer longer' same links c = record {
   linked = λ k q found. subst (λ l. IsNextOf keys' q.address (q.length + 1) l) (sym (links k)) (next_same keys keys' q.address (q.length + 1) (longer k) same (c.linked k q (sym (same k) ∙ found)));
   single = λ k l q a b. c.single k l q (sym (same k) ∙ a) (sym (same l) ∙ b);
 }
-
--- ---- what a search finds
-pub leaf_none : (keys : ℕ → Option Network) (p : Network) → IsNextOf keys p.address p.length None → IsLeafOf keys p None
-leaf_none keys p next = λ k found. absurd (omega (arith, next k p found refl))
-
-pub leaf_other : (keys : ℕ → Option Network) (p : Network) (key : ℕ) (q : Network) → IsNextOf keys p.address p.length (Some key) → keys key ≡ Some q → q.length ≢ p.length → IsLeafOf keys p None
-leaf_other keys p key q next found differ = λ k there.
-    let e : next.0 ≡ q = one_found keys key next.0 q next.1 found in
-    absurd (differ (let l = ap (λ x. x.length) e in omega (arith, next.3, next.4 k p there refl (omega arith))))
-
-pub leaf_some : (keys : ℕ → Option Network) (p : Network) (key : ℕ) (q : Network) → IsNextOf keys p.address p.length (Some key) → keys key ≡ Some q → q.length ≡ p.length → IsLeafOf keys p (Some key)
-leaf_some keys p key q next found same =
-    let e : next.0 ≡ q = one_found keys key next.0 q next.1 found in
-    found ∙ ap Some (one_network q p (ap (λ x. x.address) (sym e) ∙ next.2) same)

@@ -1,5 +1,5 @@
 -- Addresses by their digits, and places.
-use Rattle.std.proofs.Common.{◌≡◌, ◌≢◌, ◌⊎◌, ℕ, ◌+◌, ◌*◌, ◌/◌, ◌%◌, ◌^◌, ◌<◌, ◌≤◌, Option, Some, None, true, cond, nat_eq, refl, sym, ap, ◌∙◌, inl, inr, arith, shr-shr, shr_lt, div-one, div-le_self}
+use Rattle.std.proofs.Common.{◌≡◌, ◌≢◌, ◌⊎◌, ℕ, ◌+◌, ◌*◌, ◌/◌, ◌%◌, ◌^◌, ◌<◌, ◌≤◌, Option, Some, None, true, cond, nat_eq, refl, sym, ap, ◌∙◌, inl, inr, arith, shr-shr, shr_lt, div-le_self}
 use Rattle.std.proofs.lemmas.Bool.{cases_eq, cases_lt, ne_eqb}
 use Rattle.std.proofs.lemmas.Bool.Decides.{nat_tests}
 use Rattle.std.proofs.Math.Pow.{shr_mono}
@@ -19,9 +19,6 @@ digits_before level block digit a small e = omega (arith, high_step level a)
 
 pub high_all : (a : ℕ) → a < 2 ^ 32 → high 8 a ≡ 0
 high_all a fits = let lt : a / 2 ^ 32 < 1 = shr_lt {n = a} 0 32 fits in omega arith
-
-pub high_none : (a : ℕ) → high 0 a ≡ a
-high_none a = div-one a
 
 pub zero_high : (level : ℕ) → high level 0 ≡ 0
 zero_high level = omega (arith, div-le_self 0 (2 ^ (4 * level)))

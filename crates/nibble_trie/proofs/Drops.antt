@@ -1,10 +1,10 @@
 -- An index after a branch went whose links led to nothing.
-use Rattle.std.proofs.Common.{◌≡◌, ◌≢◌, ℕ, ◌+◌, ◌%◌, ◌<◌, Option, Some, None, refl, sym, ap, subst, ◌∙◌, inl, inr, arith}
+use Rattle.std.proofs.Common.{◌≡◌, ◌≢◌, ℕ, ◌%◌, ◌<◌, Option, Some, None, refl, sym, ap, subst, ◌∙◌, inl, inr, arith}
 use Rattle.std.proofs.lemmas.Nat.{mod_below}
 use Rattle.nibble_trie.specs.declared.link.Target.{Target}
 use Rattle.nibble_trie.specs.declared.link.Target.TheVariants.{Nothing, Inner}
 use Rattle.nibble_trie.specs.Links.{IsCell}
-use Rattle.nibble_trie.specs.Index.{Layout, level_of, high, IsPlace, Lies, Fits, Holds}
+use Rattle.nibble_trie.specs.Index.{Layout, high, IsPlace, Lies, Fits, Holds}
 use Rattle.nibble_trie.proofs.Digits.{same_place, digit_is}
 use Rattle.nibble_trie.proofs.Cells.{place_kept, fits_kept}
 
@@ -72,11 +72,3 @@ module _ (live live' : ℕ → Type 0) (links links' : Option (ℕ × ℕ) → T
     apart = apart_after;
     single = λ x y b px py ex ey. h.single x y b (before x px) (before y py) (was_inner x b px ex) (was_inner y b py ey);
   }
-
-  -- the place is none of the branch's
-  pub place_stays : IsPlace live' at
-  place_stays = stays at place fits_at.1
-    where
-      stays : (x : Option (ℕ × ℕ)) → IsPlace live x → level_of layout x ≡ layout.level c + 1 → IsPlace live' x
-      stays None p e = tt
-      stays (Some x) p e = (d.kept x.0 p.0 (λ same. absurd (let l : layout.level x.0 ≡ layout.level c = ap layout.level same in omega arith)), p.1)

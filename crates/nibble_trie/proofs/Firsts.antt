@@ -3,7 +3,7 @@ use Rattle.std.proofs.Common.{◌≡◌, ℕ, ◌+◌, ◌-◌, ◌*◌, ◌%◌
 use Rattle.std.proofs.lemmas.Bool.{cases_eq}
 use Rattle.nibble_trie.specs.declared.index.Spot.{Spot}
 use Rattle.nibble_trie.specs.declared.link.Target.{Target}
-use Rattle.nibble_trie.specs.declared.link.Target.TheVariants.{Nothing, Leaf, Inner}
+use Rattle.nibble_trie.specs.declared.link.Target.TheVariants.{Leaf, Inner}
 use Rattle.nibble_trie.specs.Index.{Layout, high, Lies, Fits}
 use Rattle.nibble_trie.specs.Next.{IsFirst, FromAt, FromIn, IsStart}
 use Rattle.nibble_trie.proofs.Digits.{digit_is, digits_before, high_mono, high_less, zero_high}
@@ -13,15 +13,8 @@ pub first_same : (P Q : ℕ → Type 0) (heads : ℕ → Option ℕ) (result : O
 first_same P Q heads None up down first = λ a q. first a (down a q)
 first_same P Q heads (Some key) up down first = (first.0, up first.0 first.1, first.2, λ b q lt. first.3 b (down b q) lt)
 
--- ---- at a place
-pub first_nothing : (live : ℕ → Type 0) (heads : ℕ → Option ℕ) (layout : Layout) (spot : Spot) (from : ℕ) → Fits live heads layout spot.at Nothing → IsFirst (FromAt layout spot from) heads None
-first_nothing live heads layout spot from f = λ a p. f a p.0
-
 pub first_leaf : (live : ℕ → Type 0) (heads : ℕ → Option ℕ) (layout : Layout) (spot : Spot) (from key : ℕ) (f : Fits live heads layout spot.at (Leaf key)) → from ≤ f.0 → IsFirst (FromAt layout spot from) heads (Some key)
 first_leaf live heads layout spot from key f le = (f.0, (f.1, le), f.2, λ b p lt. f.3 b p.0 (λ e. absurd (omega arith)))
-
-pub first_no_leaf : (live : ℕ → Type 0) (heads : ℕ → Option ℕ) (layout : Layout) (spot : Spot) (from key : ℕ) (f : Fits live heads layout spot.at (Leaf key)) → f.0 < from → IsFirst (FromAt layout spot from) heads None
-first_no_leaf live heads layout spot from key f lt = λ a p. f.3 a p.0 (λ e. absurd (omega (arith, p.1)))
 
 -- ---- under a branch: the addresses of its place are those of its digits
 pub first_inner : (live : ℕ → Type 0) (heads : ℕ → Option ℕ) (layout : Layout) (spot : Spot) (branch from level : ℕ) (result : Option ℕ) → Fits live heads layout spot.at (Inner branch) → layout.level branch ≡ level → IsStart layout spot.at from → IsFirst (FromIn layout branch (high level from % 16) from) heads result → IsFirst (FromAt layout spot from) heads result

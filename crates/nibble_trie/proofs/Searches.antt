@@ -1,5 +1,5 @@
 -- What the descents to a key and to the next one find.
-use Rattle.std.proofs.Common.{◌≡◌, ◌≢◌, ℕ, ◌+◌, ◌-◌, ◌%◌, ◌<◌, ◌≤◌, true, false, Option, Some, None, IsSome, is_some, option_map, option_and_then, refl, sym, ap, subst, ◌∙◌, inl, inr, arith}
+use Rattle.std.proofs.Common.{◌≡◌, ℕ, ◌+◌, ◌-◌, ◌%◌, ◌<◌, ◌≤◌, true, false, Option, Some, None, IsSome, is_some, option_map, option_and_then, refl, sym, ap, subst, ◌∙◌, inl, inr, arith}
 use Rattle.std.proofs.lemmas.Nat.{mod_below}
 use Rattle.std.proofs.lemmas.Bool.{cases_lt}
 use Rattle.slab.specs.Slab.{Slab, get, ContainsKey}
@@ -14,7 +14,7 @@ use Rattle.nibble_trie.specs.declared.index.Index.{Index}
 use Rattle.nibble_trie.specs.declared.index.Spot.{Spot}
 use Rattle.nibble_trie.specs.Links.{leads, leaf_of}
 use Rattle.nibble_trie.specs.Keys.{prefix_in, longer_in, IsNextOf, IsSmall, IsChained, HasNext, IsFirstBehind, IsNextLeaf, IsLeafOf, IsHeadOf, rest_of, rest_behind}
-use Rattle.nibble_trie.specs.Index.{Layout, high, IsLaid, Stands, is_live, Lies, IsPlace, link_at}
+use Rattle.nibble_trie.specs.Index.{Layout, high, IsLaid, Stands, is_live, Lies}
 use Rattle.nibble_trie.specs.Next.{IsFirst, FromAt, FromIn, IsStart, CanStart, CanStartIn}
 use Rattle.nibble_trie.proofs.Digits.{high_all}
 use Rattle.nibble_trie.proofs.Chains.{one_found, later_some}
@@ -33,10 +33,6 @@ module _ {V : Type 0} where
 
   pub has_found : (leaves : Slab (Node V)) (k : ℕ) (p : Network) → prefix_in leaves k ≡ Some p → ContainsKey leaves k
   has_found leaves k p found = has_leaf leaves k (subst IsSome (sym found) refl)
-
--- ---- chains
-pub next_found : (keys : ℕ → Option Network) (a from : ℕ) (link : Option ℕ) (key : ℕ) → link ≡ Some key → IsNextOf keys a from link → IsSome (keys key)
-next_found keys a from link key e next = let n : IsNextOf keys a from (Some key) = subst (λ l. IsNextOf keys a from l) e next in subst IsSome (sym n.1) refl
 
 -- the link behind a shorter leaf
 pub behind_next : (keys : ℕ → Option Network) (longer : ℕ → Option ℕ) (key length : ℕ) (p : Network) (link : Option ℕ) → IsChained keys longer → keys key ≡ Some p → longer key ≡ link → p.length < length → HasNext keys link length
@@ -72,19 +68,6 @@ can_start_in keys index spot branch from s is =
       short = omega (arith, s.stands.short, inner_level index s.heads s.layout spot branch s.holds s.stands is);
       start = start_in index s.heads s.layout spot branch from (spot.level - 1) s.holds s.stands is level s.start;
     }
-
--- the place of a digit
-abbrev pub digit_spot : Index → ℕ → ℕ → ℕ → Spot
-digit_spot index branch digit level = record { at = Some (branch, digit); level = level; target = link_at index (Some (branch, digit)) }
-
-pub digit_stands : (index : Index) (layout : Layout) (branch digit level : ℕ) → IsPlace (is_live index) (Some (branch, digit)) → layout.level branch ≡ level → level < 8 → Stands index layout (digit_spot index branch digit level)
-digit_stands index layout branch digit level place is short = record { place = place; level = is; leads = refl; short = omega arith }
-
-pub can_start : (keys : ℕ → Option Network) (index : Index) (branch digit level from : ℕ) → CanStartIn keys index branch digit level from → CanStart keys index (digit_spot index branch digit level) from
-can_start keys index branch digit level from s = record { heads = s.heads; layout = s.layout; holds = s.holds; names = s.names; stands = digit_stands index s.layout branch digit level s.place s.level_is s.short; start = s.start }
-
-pub can_start_next : (keys : ℕ → Option Network) (index : Index) (branch digit level from : ℕ) → CanStartIn keys index branch digit level from → digit ≢ 15 → CanStartIn keys index branch (digit + 1) level 0
-can_start_next keys index branch digit level from s more = record { heads = s.heads; layout = s.layout; holds = s.holds; names = s.names; place = (s.place.0, omega (arith, s.place.1)); level_is = s.level_is; short = s.short; start = inl refl }
 
 -- what was found at a digit
 pub found_in_digit : (heads : ℕ → Option ℕ) (layout : Layout) (branch digit level from : ℕ) (target : Target) (r : Option ℕ) → digit < 16 → is_some r ≡ true → IsFirst (FromAt layout (record { at = Some (branch, digit); level = level; target = target }) from) heads r → IsFirst (FromIn layout branch digit from) heads r

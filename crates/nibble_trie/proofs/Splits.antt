@@ -175,6 +175,3 @@ module _ (live live' : ℕ → Type 0) (links links' : Option (ℕ × ℕ) → T
   -- the address that is to come has its place under the branch
   pub split_lies : (a : ℕ) → Lies layout at a → Lies new (Some (c, high level a % 16)) a
   split_lies a l = inner_lies (high level a % 16) a (digit_is level (block_of layout at) a (ap (λ n. high n a) (sym deep) ∙ l))
-
-  pub split_level : level_of new (Some (c, 0)) ≡ level
-  split_level = level_new

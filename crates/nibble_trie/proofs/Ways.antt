@@ -1,17 +1,15 @@
 -- The way of an address from the root down.
-use Rattle.std.proofs.Common.{◌≡◌, ◌≢◌, ℕ, ◌+◌, ◌-◌, ◌%◌, ◌^◌, ◌<◌, true, [], get_or, Option, Some, None, IsSome, is_some, refl, sym, ap, subst, ◌∙◌, inl, inr, arith}
+use Rattle.std.proofs.Common.{◌≡◌, ◌≢◌, ℕ, ◌+◌, ◌-◌, ◌%◌, ◌^◌, ◌<◌, true, [], get_or, Option, Some, None, is_some, refl, sym, ap, subst, ◌∙◌, arith}
 use Rattle.std.proofs.lemmas.Nat.{mod_below}
-use Rattle.std.proofs.lemmas.Bool.{cases_eq}
 use Rattle.addr4.specs.Prefixes.{Network}
 use Rattle.slab.specs.Slab.{Slab, ContainsKey}
-use Rattle.nibble_trie.specs.declared.link.Target.{Target}
 use Rattle.nibble_trie.specs.declared.link.Target.TheVariants.{Nothing, Leaf, Inner}
 use Rattle.nibble_trie.specs.declared.branch.Branch.{Branch}
 use Rattle.nibble_trie.specs.declared.index.Index.{Index}
 use Rattle.nibble_trie.specs.declared.index.Spot.{Spot}
 use Rattle.nibble_trie.specs.Links.{leads, IsCell, target_at}
-use Rattle.nibble_trie.specs.Index.{Layout, level_of, block_of, high, IsPlace, is_live, link_at, target_in, Lies, Fits, IsLaid, Names, OnWay, Stands, IsAbove, IsAlone}
-use Rattle.nibble_trie.proofs.Digits.{high_all, high_none, some_same}
+use Rattle.nibble_trie.specs.Index.{Layout, high, IsPlace, is_live, link_at, target_in, Lies, Fits, IsLaid, Names, OnWay, Stands, IsAbove, IsAlone}
+use Rattle.nibble_trie.proofs.Digits.{high_all, some_same}
 use Rattle.nibble_trie.proofs.Cells.{alone_of}
 use Rattle.nibble_trie.proofs.Drops.{under}
 
@@ -48,13 +46,6 @@ below_way index heads layout a spot branch h is way =
 pub top_way : (index : Index) (layout : Layout) (a : ℕ) → a < 2 ^ 32 → OnWay index layout a (record { at = None; level = 8; target = leads index.root })
 top_way index layout a fits = record { stands = record { place = tt; level = refl; leads = refl; short = omega arith }; lies = high_all a fits }
 
-pub no_inner : (t : Target) (b : ℕ) → IsCell t → t ≡ Inner b → ⊥
-no_inner t b cell e = subst IsCell e cell
-
--- ---- the first leaf of an address
-pub head_nothing : (index : Index) (heads : ℕ → Option ℕ) (layout : Layout) (a : ℕ) (spot : Spot) → IsLaid index heads layout → OnWay index layout a spot → spot.target ≡ Nothing → heads a ≡ None
-head_nothing index heads layout a spot h way is = (subst (λ t. Fits (is_live index) heads layout spot.at t) is (fits_spot index heads layout spot h way.stands)) a way.lies
-
 pub leaf_fits : (index : Index) (heads : ℕ → Option ℕ) (layout : Layout) (spot : Spot) (key : ℕ) → IsLaid index heads layout → Stands index layout spot → spot.target ≡ Leaf key → Fits (is_live index) heads layout spot.at (Leaf key)
 leaf_fits index heads layout spot key h s is = subst (λ t. Fits (is_live index) heads layout spot.at t) is (fits_spot index heads layout spot h s)
 
@@ -71,35 +62,12 @@ head_leaf keys index heads layout a spot key p h names way is found same =
     let e : p.address ≡ f.0 = named keys heads f.0 key p names f.2 found in
     ap heads (sym same ∙ e) ∙ f.2
 
-pub head_other : (keys : ℕ → Option Network) (index : Index) (heads : ℕ → Option ℕ) (layout : Layout) (a : ℕ) (spot : Spot) (key : ℕ) (p : Network) → IsLaid index heads layout → Names keys heads → OnWay index layout a spot → spot.target ≡ Leaf key → keys key ≡ Some p → p.address ≢ a → heads a ≡ None
-head_other keys index heads layout a spot key p h names way is found differ =
-    let f = leaf_fits index heads layout spot key h way.stands is in
-    f.3 a way.lies (λ e. differ (named keys heads f.0 key p names f.2 found ∙ sym e))
-
--- its leaf is there
-pub leaf_found : (keys : ℕ → Option Network) (index : Index) (heads : ℕ → Option ℕ) (layout : Layout) (spot : Spot) (key : ℕ) → IsLaid index heads layout → Names keys heads → Stands index layout spot → spot.target ≡ Leaf key → IsSome (keys key)
-leaf_found keys index heads layout spot key h names s is =
-    let f = leaf_fits index heads layout spot key h s is in
-    let n = names f.0 key f.2 in
-    subst IsSome (sym n.1) refl
-
 -- ---- where no other address of the place has a leaf
 pub alone_nothing : (index : Index) (heads : ℕ → Option ℕ) (layout : Layout) (a : ℕ) (spot : Spot) → IsLaid index heads layout → Stands index layout spot → spot.target ≡ Nothing → IsAlone heads layout spot.at a
 alone_nothing index heads layout a spot h s is = λ b lies n. (subst (λ t. Fits (is_live index) heads layout spot.at t) is (fits_spot index heads layout spot h s)) b lies
 
 pub alone_head : (index : Index) (heads : ℕ → Option ℕ) (layout : Layout) (a : ℕ) (spot : Spot) (key : ℕ) → IsLaid index heads layout → OnWay index layout a spot → IsCell spot.target → heads a ≡ Some key → IsAlone heads layout spot.at a
 alone_head index heads layout a spot key h way cell has = alone_of (is_live index) heads layout spot.at spot.target a key cell (fits_spot index heads layout spot h way.stands) way.lies has
-
--- two addresses of a place part in one of the digits behind
-pub deep : (index : Index) (layout : Layout) (a b : ℕ) (spot : Spot) → OnWay index layout a spot → Lies layout spot.at b → b ≢ a → 0 < spot.level
-deep index layout a b spot way lies differ = elim (cases_eq spot.level 0) [
-  | inl e ↦
-      let zero : level_of layout spot.at ≡ 0 = way.stands.level ∙ e in
-      let one : a ≡ block_of layout spot.at = sym (high_none a) ∙ ap (λ n. high n a) (sym zero) ∙ way.lies in
-      let two : b ≡ block_of layout spot.at = sym (high_none b) ∙ ap (λ n. high n b) (sym zero) ∙ lies in
-      absurd (differ (two ∙ sym one))
-  | inr n ↦ omega arith
-]
 
 -- a link changes nothing about which branches there are, nor a capacity
 pub target_some : (found : Option Branch) (branch : Branch) (digit : ℕ) → found ≡ Some branch → target_in found digit ≡ target_at branch digit

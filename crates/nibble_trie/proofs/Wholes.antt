@@ -218,9 +218,6 @@ module _ {V : Type 0} where
       } in
       subst (λ (l : Slab (Node V)). IsWhole l (record { root = root; branches = branches' })) (sym e) (subst (λ (b : Slab Branch). IsWhole (record old { capacity = new.capacity }) (record { root = root; branches = b })) (sym f) sized)
 
-  pub rows_sized : (old new : Slab (Node V)) → new ≡ record old { capacity = new.capacity } → rows_of new ≡ rows_of old
-  rows_sized old new e = ap rows_of e
-
   -- an empty trie
   pub whole_empty : (leaves : Slab (Node V)) (index : Index) → leaves.slots ≡ [] → Indexes index (λ _. None) → IsWhole leaves index
   whole_empty leaves index empty indexes =

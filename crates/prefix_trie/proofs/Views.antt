@@ -134,12 +134,6 @@ module _ {V : Type 0} where
       let values : b.1 ≡ v = let e = sym b.2.has ∙ ap (λ (m : Node V). m.value) same ∙ has in cc in
       subst (λ (m : Node V). map.get (rows_of t) m.prefix ≡ Some v) same (get-rows t b.0.prefix ∙ b.2.stands ∙ ap Some values)
 
-  pub next_has_value : (width : ℕ) (nodes : Slab (Node V)) (link : Option ℕ) (from : ℕ) (key : ℕ) (n : Node V) (t : Tree V) → IsTrie width nodes link everything t → get nodes key ≡ Some n → n.value ≡ None → Next width nodes link from (Some key) → ⊥
-  next_has_value width nodes link from key n t trie found none next =
-      let b = next everything t trie in
-      let same : b.0 ≡ n = let e = sym b.2.found ∙ found in cc in
-      let clash = sym b.2.has ∙ ap (λ (m : Node V). m.value) same ∙ none in absurd (cc)
-
   pub next_none : (width : ℕ) (nodes : Slab (Node V)) (link : Option ℕ) (from : ℕ) (t : Tree V) → IsTrie width nodes link everything t → Next width nodes link from None → IsFirstFrom (rows_of t) from None
   next_none width nodes link from t trie next = λ q h. let w = key_value (rows_of t) q h in next everything t trie q w.0 (sym (get-rows t q) ∙ w.1)
 
@@ -154,12 +148,6 @@ module _ {V : Type 0} where
         b.3,
         λ q h holds. let w = key_value (rows_of t) q h in b.4 q w.0 (sym (get-rows t q) ∙ w.1) holds,
       )
-
-  pub longest_has_value : (width : ℕ) (nodes : Slab (Node V)) (link : Option ℕ) (a : ℕ) (key : ℕ) (n : Node V) (t : Tree V) → IsTrie width nodes link everything t → get nodes key ≡ Some n → n.value ≡ None → Longest width nodes link a (Some key) → ⊥
-  longest_has_value width nodes link a key n t trie found none longest =
-      let b = longest everything t trie in
-      let same : b.0 ≡ n = let e = sym b.2.found ∙ found in cc in
-      let clash = sym b.2.has ∙ ap (λ (m : Node V). m.value) same ∙ none in absurd (cc)
 
   pub longest_none : (width : ℕ) (nodes : Slab (Node V)) (link : Option ℕ) (a : ℕ) (t : Tree V) → IsTrie width nodes link everything t → Longest width nodes link a None → IsLongestFor width (rows_of t) a None
   longest_none width nodes link a t trie longest = λ q h. let w = key_value (rows_of t) q h in longest everything t trie q w.0 (sym (get-rows t q) ∙ w.1)

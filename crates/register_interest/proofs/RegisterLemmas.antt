@@ -8,7 +8,7 @@ use Rattle.link_change.proofs.MapLemmas.{by_key}
 use Rattle.prefix_trie.specs.Width.{width}
 use Rattle.register_interest.specs.Covers.{longest, matched, IsCover, IsHit, Stands}
 use Rattle.register_interest.specs.declared.interests.Interest.{Interest}
-use Rattle.register_interest.specs.Interests.{Interests, interest_cmp, IsProper, AreProper, AreReached, without}
+use Rattle.register_interest.specs.Interests.{Interests, interest_cmp, IsProper, AreReached, without}
 use Rattle.register_interest.specs.Registers.{AllStand, KeepsAnswers, put_row}
 use Rattle.register_interest.proofs.CoverLemmas.{cover_stands, not_hit, still_stands}
 use Rattle.register_interest.proofs.InterestLemmas.{interests_total, exact_interests, without_listed}
@@ -34,9 +34,6 @@ module _ {R : Type 0} where
 
   pub none_stand : (rows : FinMap prefix_cmp R) → AllStand (record { rows = rows; interests = empty })
   none_stand rows = λ k f is. absurd (let clash : None ≡ Some f = sym (get-empty interest_cmp k) ∙ is in cc)
-
-  pub are_proper : (rows : FinMap prefix_cmp R) (m : Interests) → AllStand (record { rows = rows; interests = m }) → AreProper width m
-  are_proper rows m all = λ k f e. (all k f e).0
 
   pub removed_stands : (rows : FinMap prefix_cmp R) (m : Interests) (k : Interest) → AllStand (record { rows = rows; interests = m }) → AllStand (record { rows = rows; interests = remove m k })
   removed_stands rows m k all = λ q f e. all q f (removed_some m k q f e)

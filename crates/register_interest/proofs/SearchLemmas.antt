@@ -193,9 +193,6 @@ halved_first w rows a m low high found low_is high_is =
       free = subst (λ (x : ℕ). IsFree w rows (matched r) (block w a x)) (sym high_is) (free_whole w rows a (matched r) refl (beneath_more (matched r) low w b le));
     })
 
-pub halved_down : {V : Type 0} (w : ℕ) (rows : Rows V) (a : ℕ) (m : Option Network) (low middle high : ℕ) → IsHalved w rows a m low high → low ≤ middle → middle ≤ high → IsFree w rows m (block w a middle) → IsHalved w rows a m low middle
-halved_down w rows a m low middle high is le top free = let h = is.within in record { ordered = le; within = omega arith; beneath = is.beneath; none = is.none; free = free }
-
 pub halved_up : {V : Type 0} (w : ℕ) (rows : Rows V) (a : ℕ) (m : Option Network) (low middle high : ℕ) → m ≡ matched (longest w rows a) → IsHalved w rows a m low high → low ≤ middle → middle < high → (IsFree w rows m (block w a middle) → ⊥) → IsHalved w rows a m (middle + 1) high
 halved_up w rows a m low middle high found is le lt out =
     let h = is.within in

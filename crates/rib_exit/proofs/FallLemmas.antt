@@ -107,11 +107,6 @@ falls_one p int was hops hops' link change row sent entries d rows now is at cou
       counted = over.counted;
     }
 
--- ---- a route moves
-first_link : (link : BgpLink) (old new : Parted) → first_on link old new link ≡ new link
-first_link sides.Ebgp old new = refl
-first_link sides.Ibgp old new = refl
-
 back_to : (link : BgpLink) → other (other link) ≡ link
 back_to sides.Ebgp = refl
 back_to sides.Ibgp = refl

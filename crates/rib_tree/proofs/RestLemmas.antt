@@ -1,13 +1,12 @@
 -- Where no stage of a loss has work, links have the live rows.
-use Rattle.std.proofs.Common.{◌≡◌, ℕ, ◌==◌, Bool, true, false, cond, List, [], ◌∷◌, ◌++◌, map, Option, Some, None, is_some, refl, sym, ap, ◌∙◌, arith}
+use Rattle.std.proofs.Common.{◌≡◌, ℕ, ◌==◌, Bool, true, false, cond, List, [], ◌∷◌, ◌++◌, map, Option, Some, None, is_some, refl, arith}
 use Rattle.std.proofs.lemmas.Bool.Decides.{nat_tests}
-use Rattle.std.specs.Prelude.{Contains}
 use Rattle.std.specs.List.{AllByRecursion}
 use Rattle.std.specs.Option.{option_or}
 use Rattle.std.specs.FinMap as tables
 use Rattle.std.specs.FinMap.{FinMap}
 use Rattle.addr4.specs.Prefixes.{prefix_cmp}
-use Rattle.link_change.specs.Rows.{Rows, is_empty_map}
+use Rattle.link_change.specs.Rows.{is_empty_map}
 use Rattle.journal_text.specs.declared.link.Task.{Task}
 use Rattle.journal_text.specs.declared.link.Task.TheVariants as tasks
 use Rattle.loss_chain.specs.Lost.{Lost}
@@ -15,14 +14,11 @@ use Rattle.loss_chain.specs.declared.owner.Owner.TheVariants.{Origin}
 use Rattle.loss_chain.specs.Steps.{table_of, oldest_of, first_task}
 use Rattle.loss_chain.specs.Tables.{rows_below, rows_above, NoneEmpty, lost_count}
 use Rattle.loss_chain.proofs.ListLemmas.{all_both}
-use Rattle.loss_chain.proofs.TableLemmas.{table_here}
 use Rattle.rib_route.specs.declared.Proto.{Proto}
 use Rattle.rib_route.specs.declared.Proto.TheVariants.{Connected, Static, Ospf, Rip}
 use Rattle.rib_route.specs.declared.rows.Interior.{Interior}
-use Rattle.rib_merge.specs.Merging.{merged}
-use Rattle.rib_tree.specs.Branches.{org_rows}
 use Rattle.rib_tree.specs.BranchSteps.{branch_tasks}
-use Rattle.rib_tree.specs.Trees.{Treed, branch_of, interior_distance, tree_tasks}
+use Rattle.rib_tree.specs.Trees.{Treed, branch_of, tree_tasks}
 
 -- of all tasks of the tree, branch by branch
 pub all_tree : (P : Task → Type 0) (t : Treed) → ((proto : Proto) → AllByRecursion P (branch_tasks (branch_of proto t))) → AllByRecursion P (tree_tasks t)
@@ -46,12 +42,6 @@ first_of_branches t a b c d ab abc all at bt ct dt two three four =
     let first = first_of_four t.connected.proto t.statics.proto t.ospf.proto t.rip.proto t.connected.tables.deletions t.statics.tables.deletions t.ospf.tables.deletions t.rip.tables.deletions in
     cc
 
--- ---- stages without work
--- where no stage has a turn, none stands
-pub no_stages : {R : Type 0} (ds : List (Lost R)) → ((n : ℕ) → is_some (table_of n ds) ≡ false) → ds ≡ []
-no_stages [] none = refl
-no_stages (d ∷ ds) none = absurd (let clash : true ≡ false = sym (ap is_some (table_here d.number d ds refl)) ∙ none d.number in cc)
-
 -- nor where none has a row
 pub no_rows_left : {R : Type 0} (ds : List (Lost R)) → NoneEmpty ds → lost_count ds ≡ 0 → ds ≡ []
 no_rows_left [] full none = refl
@@ -72,28 +62,7 @@ no_link live n (d ∷ ds) none = by_test (d.number == n) none (λ e. no_link liv
 
 -- ---- the links of these protocols
 module _ (t : Treed) where
-  abbrev org_of : Proto → Rows Interior
-  org_of proto = org_rows (branch_of proto t)
-
-  abbrev live_of : Proto → Rows Interior
-  live_of proto = tables.get (branch_of proto t).tables.live
-
-  abbrev both : Rows Interior → Rows Interior → Rows Interior
-  both = merged interior_distance
 
   -- no stage of a protocol has work, and of none of these protocols
   abbrev pub Rests : Proto → Type 0
   Rests proto = (n : ℕ) → is_some (table_of n (branch_of proto t).tables.deletions) ≡ false
-
-  abbrev pub Rest : List Proto → Type 0
-  Rest protocols = (proto : Proto) → Contains protocols proto → Rests proto
-
-  pub org_rests : (proto : Proto) → Rests proto → org_of proto ≡ live_of proto
-  org_rests proto none = ap (rows_below (branch_of proto t).tables.live) (no_stages (branch_of proto t).tables.deletions none)
-
-  pub two_rest : (a b : Proto) → Rest (a ∷ b ∷ []) → both (org_of a) (org_of b) ≡ both (live_of a) (live_of b)
-  two_rest a b rest i = both (org_rests a (rest a (0, omega arith, refl)) i) (org_rests b (rest b (1, omega arith, refl)) i)
-
-  pub four_rest : (a b c d : Proto) → Rest (a ∷ b ∷ c ∷ d ∷ []) → both (both (org_of a) (org_of b)) (both (org_of c) (org_of d)) ≡ both (both (live_of a) (live_of b)) (both (live_of c) (live_of d))
-  four_rest a b c d rest i = both (both (org_rests a (rest a (0, omega arith, refl)) i) (org_rests b (rest b (1, omega arith, refl)) i))
-      (both (org_rests c (rest c (2, omega arith, refl)) i) (org_rests d (rest d (3, omega arith, refl)) i))

@@ -159,9 +159,6 @@ module _ {V : Type 0} where
       by_case None e is = absurd (cc)
       by_case (Some s) e is = ap is_some e
 
-  some_value : (o : Option V) (v : V) → o ≡ Some v → is_some o ≡ true
-  some_value o v e = ap is_some e
-
   -- a row is put where iterators stay
   pub sound_put : (m n : FinMap prefix_cmp (Slot V)) (places : List (Option Place)) (count : ℕ) (p : Network) (v : V) (before : Option V) → IsSound m places count
       → n ≡ map.insert m p (record { value = Some v; readers = readers_of (map.get m p) }) → before ≡ live_value (map.get m p) → IsSound n places (cond (is_some before) count (count + 1))

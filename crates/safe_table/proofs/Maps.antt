@@ -1,5 +1,5 @@
 -- Maps of prefixes.
-use Rattle.std.proofs.Common.{◌≡◌, Bool, true, false, cond, Option, Some, None, IsSome, is_some, refl, sym, ap, subst, ◌∙◌}
+use Rattle.std.proofs.Common.{◌≡◌, Bool, true, false, cond, Option, Some, None, IsSome, is_some, refl, sym, ap, ◌∙◌}
 use Rattle.std.specs.Ordering.{eq_by_cmp}
 use Rattle.std.specs.FinMap.{FinMap, get, insert, remove, get-insert, get-remove, same_map}
 use Rattle.addr4.specs.Prefixes.{Network, prefix_cmp}
@@ -46,9 +46,6 @@ module _ {X : Type 0} where
     | true ↦ λ e. get-remove prefixes_total m p q ∙ ap (λ b. cond b None (get m q)) e ∙ sym (ap (get m) (one_prefix q p e) ∙ none)
     | false ↦ λ e. get-remove prefixes_total m p q ∙ ap (λ b. cond b None (get m q)) e
   ] refl)
-
-  pub has_from : (m : FinMap prefix_cmp X) (p : Network) (x : X) → get m p ≡ Some x → IsSome (get m p)
-  has_from m p x e = subst IsSome (sym e) refl
 
   pub value_of_has : (o : Option X) → IsSome o → (x : X) × (o ≡ Some x)
   value_of_has None is = absurd (cc)

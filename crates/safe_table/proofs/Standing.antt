@@ -1,12 +1,12 @@
 -- Where iterators stand.
-use Rattle.std.proofs.Common.{◌≡◌, ◌≢◌, ℕ, zero, suc, ◌+◌, ◌<◌, ◌≤◌, true, false, cond, List, [], ◌∷◌, get_or, length, Option, Some, None, is_some, IsSome, set, count_by, refl, sym, ap, subst, ◌∙◌, inl, inr, add-zero, zero-add, arith}
+use Rattle.std.proofs.Common.{◌≡◌, ◌≢◌, ℕ, zero, suc, ◌+◌, ◌<◌, ◌≤◌, true, false, cond, List, [], ◌∷◌, get_or, length, Option, Some, None, is_some, IsSome, count_by, refl, sym, ap, subst, ◌∙◌, inl, inr, add-zero, zero-add, arith}
 use Rattle.std.specs.Ordering.{nat_cmp, eq_by_cmp}
 use Rattle.std.specs.Cmp.{nat_cmp_total}
 use Rattle.std.specs.FinMap as map
-use Rattle.std.specs.FinMap.{FinMap, find, get-from_entries, get-insert, get-remove, same_map, nat_cmp-IsAntisymmetric}
+use Rattle.std.specs.FinMap.{find, get-from_entries, get-insert, get-remove, same_map, nat_cmp-IsAntisymmetric}
 use Rattle.std.proofs.lemmas.Bool.{cases_eq}
 use Rattle.std.proofs.lemmas.List.Sums.{sum_by-cons, sum_by-set}
-use Rattle.slab.proofs.SlabLemmas.{Updates-set, ContainsKey-within}
+use Rattle.slab.proofs.SlabLemmas.{ContainsKey-within}
 use Rattle.slab.specs.Slab.{Slab, get, slab_len, with_value, Updates, entries_from}
 use Rattle.addr4.specs.Prefixes.{Network, prefix_cmp}
 use Rattle.addr4.specs.declared.place.Place.{Place}
@@ -147,10 +147,6 @@ iterators_remove old new id updates = same_map nat_cmp_total nat_cmp-IsAntisymme
 pub kept_place : (xs : List (Option Place)) (id : ℕ) → IsSome (map.get (iterators_of xs) id) → IsSome (get_or xs id None)
 kept_place xs id h = subst IsSome (get-iterators xs id) h
 
--- one place is set
-pub set_updates : (old new : Slab Place) (id : ℕ) (x : Place) → IsSome (get_or old.slots id None) → new.slots ≡ set old.slots id (Some x) → Updates old new id (Some x)
-set_updates old new id x is e = Updates-set old new id (Some x) (ContainsKey-within old id is) e
-
 -- an iterator that goes on is one as before
 pub count_kept : (places : Slab Place) (id : ℕ) (x y : Place) → get places id ≡ Some x → slab_len (with_value places id y) ≡ slab_len places
 count_kept places id x y at =
@@ -166,9 +162,6 @@ moved_by old new id x slot q at updates =
     let a : stand q (get_or old.slots id None) ≡ stand q (Some x) = ap (stand q) at in
     let b : stand q (get_or new.slots id None) ≡ stand q slot = ap (stand q) updates.changed in
     omega arith
-
-pub live_after : (m : FinMap nat_cmp Place) (id : ℕ) (x : Place) → IsSome (map.get (map.insert m id x) id)
-live_after m id x = ap is_some (get-insert nat_cmp_total m id x id ∙ ap (λ b. cond b (Some x) (map.get m id)) (same_key id))
 
 pub live_set : (old new : Slab Place) (id : ℕ) (x : Place) → Updates old new id (Some x) → IsSome (map.get (iterators_of new.slots) id)
 live_set old new id x updates = ap is_some (get-iterators new.slots id ∙ updates.changed)

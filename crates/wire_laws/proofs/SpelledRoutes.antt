@@ -54,16 +54,6 @@ no_recognized p first kind (u ∷ us) good known =
     by_place true later = ap (λ b. cond b (Some (spelled 224 u.kind u.value)) (kept_of kind (unrecognized_attributes first us))) apart ∙ later
     by_place false later = later
 
-beq_same : (b : Bool) → beq b b ≡ true
-beq_same true = refl
-beq_same false = refl
-
-beq_other : (a b c : Bool) → beq a b ≡ true → beq a c ≡ false → beq b c ≡ false
-beq_other true true c e f = f
-beq_other true false c e f = absurd (cc)
-beq_other false true c e f = absurd (cc)
-beq_other false false c e f = f
-
 -- a type stands on one side of ORIGIN
 other_side : (first : Bool) (kind : ℕ) (us : List Unrecognized) → beq (eqb kind 0) first ≡ false → kept_of kind (unrecognized_attributes first us) ≡ None
 other_side first kind [] side = refl
