@@ -20,11 +20,12 @@ mod path;
 mod route;
 mod speaker;
 mod unrecognized;
+mod words;
 
 pub use attrs::{Aggregator, Attrs, Origin, SharedAttrs};
 pub use hosts::{is_host, is_host_prefix};
 pub use octets::Octets;
-pub use path::{AsPath, Numbers, Segment, SegmentKind, SegmentView, Segments};
+pub use path::{AsPath, Numbers, PathBuilder, Segment, SegmentKind, Segments};
 pub use route::Route;
 pub use speaker::{Neighbour, Profile, Speaker};
 pub use unrecognized::{Unrecognized, UnrecognizedAttrs};
