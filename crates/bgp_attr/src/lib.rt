@@ -8,7 +8,8 @@
 //! equal exactly where everything in them is.
 //!
 //! An [`AsPath`] answers what the decision and the filters ask of it (its hops, its first AS, whether it has an AS), and
-//! gives the path that is sent to an external peer. Attributes and routes are rows of tables and links ([`addr4::Row`]):
+//! gives the path that is sent to an external peer. It is one block of words, read segment by segment ([`Segments`]) and built
+//! number by number ([`PathBuilder`]). Attributes and routes are rows of tables and links ([`addr4::Row`]):
 //! they are copied, a route by sharing its attributes, and compared as a whole. `bgp_wire` reads and writes the
 //! attributes of messages, the stages above pass routes on.
 #![tactic(auto)]

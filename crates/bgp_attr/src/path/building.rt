@@ -11,7 +11,7 @@ use std::alloc::Global;
 use std::marker::Model;
 
 /// A path that is built segment by segment, and each segment number by number. Contracts see the segments so far, and how
-/// many numbers the last one still lacks.
+/// many numbers the last one still lacks. After a want of memory it is of no more use.
 #[derive(Drop)]
 pub struct PathBuilder {
     words: Vec<u32>,
